@@ -1,0 +1,20 @@
+use Rattle.std.proofs.Common.{◌≡◌, ◌∙◌, ◌<◌, arith, ap, length, sym}
+use Rattle.mbe_tt.specs.Building.{levels_of, put, written}
+use Rattle.mbe_tt.specs.Shown.{entries_of}
+use Rattle.mbe_tt.proofs.Seen.{length-shown, shown_take}
+use Rattle.mbe_tt.proofs.Built.{point_fits, length-put, after_restore}
+use Rattle.mbe_tt.proofs.builder.TopSubtreeBuilder.restore.Goals as goal
+
+pub overflow_add-point : goal.overflow_add-point
+overflow_add-point g c =
+    let b : levels_of (entries_of c.self.inside.entries.items) ≡ put c.requires.1 c.requires.0 = c.self.view_is ∙ c.requires.2 in
+    let some : 0 < length c.requires.0 = omega (arith, c.self.invariant.some, c.self.invariant.depth, ap length b, length-put c.requires.0 c.requires.1) in
+    omega (arith, length-shown c.self.inside.entries.items, point_fits c.requires.0 c.requires.1 (entries_of c.self.inside.entries.items) some (c.self.invariant.spelled ∙ ap written b), c.requires.3)
+
+pub invariant_of-self : goal.invariant_of-self
+invariant_of-self g c =
+    (after_restore c.requires.0 c.requires.1 _ _ _ _ _ _ _ (c.self.view_is ∙ c.requires.2) c.self.invariant c.requires.3 (shown_take _ _ _ c.truncate.ensures.items) (sym c.truncate.ensures.capacity)).building
+
+pub returns : goal.returns
+returns g c = λ kept f e p.
+    (after_restore kept f _ _ _ _ _ _ _ (c.self.view_is ∙ e) c.self.invariant p (shown_take _ _ _ c.truncate.ensures.items) (sym c.truncate.ensures.capacity)).levels

@@ -1,0 +1,17 @@
+use Rattle.std.proofs.Common.{arith, ap, length}
+use Rattle.mbe_tt.specs.Building.{levels_of, flat_written}
+use Rattle.mbe_tt.specs.Shown.{entries_of}
+use Rattle.mbe_tt.proofs.Seen.{length-shown}
+use Rattle.mbe_tt.proofs.Built.{length-written}
+use Rattle.mbe_tt.proofs.builder.TopSubtreeBuilder.restore_point.Goals as goal
+
+pub returns : goal.returns
+returns g c =
+    omega (
+      arith,
+      c.len.ensures,
+      length-shown c.self.inside.entries.items,
+      ap length c.self.invariant.spelled,
+      ap flat_written c.self.view_is,
+      length-written (levels_of (entries_of c.self.inside.entries.items)) (omega (arith, c.self.invariant.some, c.self.invariant.depth)),
+    )

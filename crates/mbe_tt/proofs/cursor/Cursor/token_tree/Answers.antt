@@ -1,0 +1,17 @@
+use Rattle.std.proofs.Common.{◌∙◌, ap, ℕ}
+use Rattle.mbe_tt.specs.Tree.{Forest, first}
+use Rattle.mbe_tt.specs.Entries.{forest_of}
+use Rattle.mbe_tt.specs.Place.{rests}
+use Rattle.mbe_tt.specs.Shown.{entries_of}
+use Rattle.mbe_tt.proofs.Seen.{shown_drop}
+use Rattle.mbe_tt.proofs.Placed.{left_is}
+use Rattle.mbe_tt.proofs.cursor.Cursor.token_tree.Goals as goal
+
+pub first_tree-requires : goal.first_tree-requires
+first_tree-requires g c =
+    (rests (forest_of (entries_of c.self.inside.entries.now)) c.self.inside.place, (shown_drop c.self.inside.place c.split_at.result.1.now c.self.inside.entries.now c.split_at.ensures.back) ∙ left_is _ _ _ c.self.invariant.spelled)
+
+pub returns : goal.returns
+returns g c =
+    c.first_tree.ensures (rests (forest_of (entries_of c.self.inside.entries.now)) c.self.inside.place) ((shown_drop c.self.inside.place c.split_at.result.1.now c.self.inside.entries.now c.split_at.ensures.back) ∙ left_is _ _ _ c.self.invariant.spelled)
+    ∙ ap (λ (v : Forest × ℕ). first (rests v.0 v.1).0) c.self.view_is

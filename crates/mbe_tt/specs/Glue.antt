@@ -1,0 +1,48 @@
+-- Puncts that are taken together, as one operator of the Rust Reference. How they are looked for is the project's own.
+use Rattle.std.specs.Prelude.{ℕ, zero, suc, Bool, if◌then◌else◌, List, [], ◌∷◌, map, take, codes, Option, option_map}
+use Rattle.std.specs.List.{list_any}
+use Rattle.std.specs.Str.{bytes_eq}
+use Rattle.mbe_tt.specs.Leaf.{punct}
+use Rattle.mbe_tt.specs.declared.tt.Spacing as spacing
+use Rattle.mbe_tt.specs.declared.tt.Punct.{Punct}
+use Rattle.mbe_tt.specs.Tree.{Forest, leaf, front_punct}
+
+-- the operators of three chars, and of two
+abbrev pub operators : List (List ℕ)
+operators =
+    codes "..." ∷ codes "..=" ∷ codes "<<=" ∷ codes ">>="
+    ∷ codes "-=" ∷ codes "!=" ∷ codes "*=" ∷ codes "/=" ∷ codes "&=" ∷ codes "%=" ∷ codes "^=" ∷ codes "+="
+    ∷ codes "<=" ∷ codes "==" ∷ codes ">=" ∷ codes "|="
+    ∷ codes "->" ∷ codes "=>" ∷ codes ">>" ∷ codes "<-" ∷ codes "::" ∷ codes ".." ∷ codes "&&" ∷ codes "<<" ∷ codes "||"
+    ∷ []
+
+abbrev pub is_operator : List ℕ → Bool
+is_operator chars = list_any (bytes_eq chars) operators
+
+abbrev pub chars_of : List Punct → List ℕ
+chars_of puncts = map (λ p. p.char) puncts
+
+abbrev pub if_joint : spacing.Spacing → List Punct → List Punct
+if_joint spacing.TheVariants.Alone more = []
+if_joint spacing.TheVariants.Joint more = more
+
+-- the puncts at the front, at most n, each but the last joint
+abbrev pub joined : ℕ → Forest → List Punct
+joined zero f = []
+joined (suc n) (leaf (punct p) rest) = p ∷ if_joint p.spacing (joined n rest)
+joined (suc n) _ = []
+
+-- an operator of three goes before one of two; a single punct where neither stands
+abbrev pub longest_operator : List Punct → List Punct
+longest_operator puncts =
+    if is_operator (chars_of puncts) then puncts
+    else if is_operator (chars_of (take 2 puncts)) then take 2 puncts
+    else take 1 puncts
+
+-- the puncts at the front that are taken together; none where the first tree is no punct
+abbrev pub glue : Forest → List Punct
+glue f = longest_operator (joined 3 f)
+
+-- the same, where the first tree is a punct
+abbrev pub glued : Forest → Option (List Punct)
+glued f = option_map (λ _. glue f) (front_punct f)

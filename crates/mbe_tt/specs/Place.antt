@@ -1,0 +1,51 @@
+-- Places: numbers of flat tokens passed.
+use Rattle.std.specs.Prelude.{◌≡◌, ℕ, zero, suc, ◌≤◌, ◌+◌, List, [], ◌∷◌, ◌++◌, length}
+use Rattle.std.specs.Coded.{Coded, coded×, coded_ℕ}
+use Rattle.mbe_tt.specs.Tree.{Forest, none, leaf, group}
+use Rattle.mbe_tt.specs.Entries.{spell, forest_of, forest_code}
+use Rattle.mbe_tt.specs.Entry.{Entry}
+use Rattle.mbe_tt.specs.Entry.{Leaf, Open, Close}
+
+-- what is left from a place on: the rest of the innermost group, and the rests of the groups around it
+abbrev pub Rests : Type 0
+Rests = Forest × List Forest
+
+-- after one flat token: a leaf, an opening or a closing; at the very end nothing changes
+abbrev pub step : Forest → List Forest → Rests
+step none [] = (none, [])
+step none (rest ∷ around) = (rest, around)
+step (leaf l rest) around = (rest, around)
+step (group d inside rest) around = (inside, rest ∷ around)
+
+abbrev pub walk : ℕ → Rests → Rests
+walk zero r = r
+walk (suc n) r = walk n (step r.0 r.1)
+
+-- the trees from a place to the end of the innermost group, and the number of groups around the place
+abbrev pub rests : Forest → ℕ → Rests
+rests f n = walk n (f, [])
+
+abbrev pub closings : List Forest → List Entry
+closings [] = []
+closings (rest ∷ around) = Close ∷ (spell rest ++ closings around)
+
+abbrev pub spell_rests : Rests → List Entry
+spell_rests r = spell r.0 ++ closings r.1
+
+-- how a flat token changes the number of groups around
+abbrev pub DepthAfter : Entry → ℕ → ℕ → Type 0
+DepthAfter (Leaf l) n m = m ≡ n
+DepthAfter (Open s k) n m = m ≡ n + 1
+DepthAfter Close n m = n ≡ m + 1
+
+-- the trees and a place among them
+abbrev pub Placed : Type 0
+Placed = Forest × ℕ
+
+abbrev pub placed_code : Coded Placed
+placed_code = coded× forest_code coded_ℕ
+
+pub record IsPlaced (entries : List Entry) (place depth : ℕ) : Type 0 where
+  pub spelled : entries ≡ spell (forest_of entries)
+  pub within : place ≤ length entries
+  pub depth_is : depth ≡ length (rests (forest_of entries) place).1

@@ -1,0 +1,24 @@
+-- The trees of a view.
+use Rattle.mbe_tt.specs.Tree.{Forest}
+use Rattle.std.specs.Prelude.{Bool}
+use Rattle.std.specs.Cmp.{IsEquivalence}
+use Rattle.std.proofs.lemmas.Cmp.{on_equiv}
+use Rattle.mbe_tt.specs.Same.{same, same_equiv}
+use Rattle.mbe_tt.specs.Entries.{forest_of, forest_code}
+use Rattle.mbe_tt.specs.Shown.{entries_of}
+use Rattle.mbe_tt.specs.declared.view.TokenTreesView.{TokenTreesView}
+use Rattle.mbe_tt.specs.declared.view.SubtreeView.{SubtreeView}
+use Rattle.mbe_tt.specs.declared.tt.Delimiter.{Delimiter}
+
+-- the trees that stand side by side in it
+abbrev pub trees : {A : Type 0} → TokenTreesView A → Forest
+trees v = forest_of (entries_of v.entries.now)
+
+abbrev pub group_of : {A : Type 0} → SubtreeView A → Delimiter × Forest
+group_of v = (v.subtree.now.delimiter, trees v.inside)
+
+abbrev pub view_eq : {A : Type 0} → TokenTreesView A → TokenTreesView A → Bool
+view_eq v w = same forest_code (trees v) (trees w)
+
+pub view_eq_laws : {A : Type 0} → IsEquivalence (view_eq {A = A})
+view_eq_laws = on_equiv trees (same_equiv forest_code)

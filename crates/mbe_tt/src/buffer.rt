@@ -1,0 +1,107 @@
+// A flat buffer that holds one group.
+ghost use Rattle.std.specs.Prelude.{◌≡◌, IfOk};
+ghost use Rattle.mbe_tt.specs.Tree.{none};
+ghost use Rattle.mbe_tt.specs.Top.{top_code};
+ghost use Rattle.mbe_tt.specs.Same.{same, same_equiv};
+ghost use Rattle.std.specs.Cmp.{partial_equiv_from_equiv};
+
+use crate::builder::TopSubtreeBuilder;
+use crate::entry::{Entry, same_entries};
+use crate::iter::TtIter;
+use crate::span::DelimSpan;
+use crate::tt::{Delimiter, DelimiterKind, Subtree};
+use crate::view::TokenTreesView;
+use std::alloc::{AllocError, Allocator, Global};
+use std::marker::Model;
+
+// A clause sees the delimiter and the trees inside.
+#[derive(Drop)]
+pub struct TopSubtree<A: Allocator = Global> {
+    pub(crate) entries: Vec<Entry<A>, A>,
+}
+
+impl<A: Allocator> Model for TopSubtree<A> {
+    ghost use Rattle.std.specs.Prelude.{◌≡◌};
+    ghost use Rattle.mbe_tt.specs.Entries.{forest_of, spell};
+    ghost use Rattle.mbe_tt.specs.Shown.{entries_of};
+    ghost use Rattle.mbe_tt.specs.Top.{Top, top_of, top_group, top_code};
+
+    ghost Value = { Top };
+
+    ghost coded = { top_code };
+
+    ghost view = { λ a. top_of (forest_of (entries_of a.entries.items)) };
+
+    ghost invariant = { λ a. entries_of a.entries.items ≡ spell (top_group (top_of (forest_of (entries_of a.entries.items)))) };
+}
+
+impl<A: Allocator> TopSubtree<A> {
+    ghost use Rattle.mbe_tt.specs.View.{trees};
+    ghost use Rattle.mbe_tt.specs.Top.{top_group};
+    ghost use Rattle.mbe_tt.specs.declared.tt.DelimiterKind.TheVariants.{Invisible};
+
+    // An empty invisible group.
+    pub fn empty(alloc: A, span: DelimSpan) -> Result<TopSubtree<A>, AllocError>
+        ensures { IfOk result (λ t. t ≡ (record { opening = span.opening; close = span.close; kind = Invisible }, none)) }
+    {
+        let delimiter = Delimiter {
+            opening: span.opening,
+            close: span.close,
+            kind: DelimiterKind::Invisible,
+        };
+        Ok(TopSubtreeBuilder::new(alloc, delimiter)?.build())
+    }
+
+    // The one tree that is the whole group.
+    pub fn view(&self) -> TokenTreesView<'_, A>
+        ensures { trees result ≡ top_group self.now }
+    {
+        TokenTreesView {
+            entries: self.entries.as_slice(),
+        }
+    }
+
+    pub fn top_subtree(&self) -> &Subtree
+        ensures { result.now.delimiter ≡ self.now.0 }
+    {
+        let Entry::Open(subtree, _) = &self.entries[0] else {
+            unreachable!()
+        };
+        subtree
+    }
+
+    // The trees inside.
+    pub fn iter(&self) -> TtIter<'_, A>
+        ensures { result ≡ self.now.1 }
+    {
+        let mut iter = self.view().iter();
+        let Ok((_subtree, inside)) = iter.expect_subtree() else {
+            unreachable!()
+        };
+        inside
+    }
+}
+
+impl<A: Allocator + Copy> TopSubtree<A> {
+    // An equal copy.
+    pub fn try_clone(&self) -> Result<TopSubtree<A>, AllocError>
+        ensures { IfOk result (λ t. t ≡ self.now) }
+    {
+        let entries = self.entries.clone()?;
+        Ok(TopSubtree { entries })
+    }
+}
+
+impl<A: Allocator> PartialEq for TopSubtree<A> {
+    ghost eq = { same top_code };
+
+    ghost laws = { partial_equiv_from_equiv (same_equiv top_code) };
+
+    fn eq(&self, other: &TopSubtree<A>) -> bool {
+        same_entries(&self.entries, &other.entries)
+    }
+}
+
+impl<A: Allocator> Eq for TopSubtree<A> {
+    ghost laws = { same_equiv top_code };
+}

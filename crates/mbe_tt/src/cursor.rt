@@ -1,0 +1,131 @@
+// A walk over the flat tokens of a view.
+ghost use Rattle.std.specs.Prelude.{◌≡◌, ◌↔◌, ℕ, ◌+◌, min, [], IsTrue, length, option_map, ◌<◌, ◌^◌};
+ghost use Rattle.mbe_tt.specs.Tree.{Forest, append, first, flat_len};
+ghost use Rattle.mbe_tt.specs.Element.{element_tree};
+ghost use Rattle.mbe_tt.specs.Shown.{entries_of, entry_of};
+ghost use Rattle.mbe_tt.specs.Place.{Rests, rests, spell_rests, DepthAfter};
+
+use crate::entry::Entry;
+use crate::iter::{TtElement, TtIter};
+use crate::view::TokenTreesView;
+use std::alloc::{Allocator, Global};
+use std::marker::Model;
+
+// A clause sees the view's trees, and how many of their flat tokens are passed.
+#[derive(Drop)]
+#[derive_where(Clone)]
+pub struct Cursor<'a, A: Allocator = Global> {
+    entries: &'a [Entry<A>],
+    place: usize,
+    // How many groups stand around the place.
+    depth: usize,
+}
+
+impl<'a, A: Allocator> Model for Cursor<'a, A> {
+    ghost use Rattle.mbe_tt.specs.Entries.{forest_of};
+    ghost use Rattle.mbe_tt.specs.Shown.{entries_of};
+    ghost use Rattle.mbe_tt.specs.Place.{Placed, placed_code, IsPlaced};
+
+    ghost Value = { Placed };
+
+    ghost coded = { placed_code };
+
+    ghost view = { λ a. (forest_of (entries_of a.entries.now), a.place) };
+
+    ghost invariant = { λ a. IsPlaced (entries_of a.entries.now) a.place a.depth };
+}
+
+impl<'a, A: Allocator> TokenTreesView<'a, A> {
+    ghost use Rattle.mbe_tt.specs.View.{trees};
+
+    // Before the first tree.
+    pub fn cursor(&self) -> Cursor<'a, A>
+        ensures { result ≡ (trees self.now, 0) }
+    {
+        Cursor {
+            entries: self.entries,
+            place: 0,
+            depth: 0,
+        }
+    }
+}
+
+impl<'a, A: Allocator> Cursor<'a, A> {
+    ghost use Rattle.mbe_tt.specs.View.{trees};
+
+    // It stands in no group of the view.
+    pub fn is_root(&self) -> bool
+        ensures { IsTrue result ↔ ((rests self.now.0 self.now.1).1 ≡ []) }
+    {
+        self.depth == 0
+    }
+
+    // Passes a leaf, an opening or a closing. At the end of the view it does nothing.
+    pub fn bump_or_end(&mut self)
+        ensures { self.new ≡ (self.old.0, min (self.old.1 + 1) (flat_len self.old.0)) }
+    {
+        let (_passed, left) = self.entries.split_at(self.place);
+        if let Some((entry, _rest)) = left.split_first() {
+            self.depth = depth_after(entry, self.depth);
+            self.place += 1;
+        }
+    }
+
+    // The next tree of the innermost group.
+    pub fn token_tree(&self) -> Option<TtElement<'a, A>>
+        ensures { option_map element_tree result ≡ first (rests self.now.0 self.now.1).0 }
+    {
+        let (_passed, left) = self.entries.split_at(self.place);
+        first_tree(left)
+    }
+
+    // The trees passed since the view's beginning.
+    pub fn crossed(&self) -> TokenTreesView<'a, A>
+        requires { (rests self.now.0 self.now.1).1 ≡ [] }
+        ensures all { append (trees result) (rests self.now.0 self.now.1).0 ≡ self.now.0 }
+        ensures len { flat_len (trees result) ≡ self.now.1 }
+    {
+        let (passed, _left) = self.entries.split_at(self.place);
+        TokenTreesView { entries: passed }
+    }
+}
+
+impl<'a, A: Allocator> TtIter<'a, A> {
+    // Goes to the cursor's place, among the trees that are left.
+    pub fn flat_advance_to(&mut self, cursor: &Cursor<'a, A>)
+        requires same { cursor.now.0 ≡ self.old }
+        requires root { (rests cursor.now.0 cursor.now.1).1 ≡ [] }
+        ensures { self.new ≡ (rests self.old cursor.now.1).0 }
+    {
+        let (_passed, left) = cursor.entries.split_at(cursor.place);
+        self.entries = left;
+    }
+}
+
+// The tree that begins a rest of a view.
+fn first_tree<'a, A: Allocator>(left: &'a [Entry<A>]) -> Option<TtElement<'a, A>>
+    requires { (r : Rests) × (entries_of left.now ≡ spell_rests r) }
+    ensures { (r : Rests) → entries_of left.now ≡ spell_rests r → option_map element_tree result ≡ first r.0 }
+{
+    let (entry, rest) = left.split_first()?;
+    match entry {
+        Entry::Leaf(leaf) => Some(TtElement::Leaf(leaf)),
+        Entry::Open(subtree, len) => {
+            let (content, _closing) = rest.split_at(*len);
+            Some(TtElement::Subtree(subtree, TtIter { entries: content }))
+        }
+        Entry::Close => None,
+    }
+}
+
+// The number of groups around the place behind an entry, from the number before it.
+fn depth_after<A: Allocator>(entry: &Entry<A>, depth: usize) -> usize
+    requires { (after : ℕ) × DepthAfter (entry_of entry.now) depth after × (after < 2 ^ 64) }
+    ensures { DepthAfter (entry_of entry.now) depth result }
+{
+    match entry {
+        Entry::Leaf(_) => depth,
+        Entry::Open(_, _) => depth + 1,
+        Entry::Close => depth - 1,
+    }
+}

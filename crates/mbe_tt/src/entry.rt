@@ -1,0 +1,62 @@
+// An entry of a flat buffer.
+ghost use Rattle.std.specs.Prelude.{◌≡◌, ◌↔◌, IsTrue};
+ghost use Rattle.mbe_tt.specs.Shown.{entry_of, entries_of};
+ghost use Rattle.std.specs.Cmp.{partial_equiv_from_equiv};
+
+use crate::tt::{Leaf, Subtree, same_leaf};
+use std::alloc::{AllocError, Allocator, Global};
+
+// A group is its opening, its content and its closing. The opening knows how many entries its content has.
+#[derive(Drop)]
+pub enum Entry<A: Allocator = Global> {
+    Leaf(Leaf<A>),
+    Open(Subtree, usize),
+    Close,
+}
+
+impl<A: Allocator> Clone for Entry<A> {
+    ghost is_clone = { λ x y. y ≡ x };
+
+    fn clone(&self) -> Result<Entry<A>, AllocError> {
+        Ok(match self {
+            Entry::Leaf(leaf) => Entry::Leaf(leaf.clone()?),
+            Entry::Open(subtree, len) => Entry::Open(*subtree, *len),
+            Entry::Close => Entry::Close,
+        })
+    }
+}
+
+impl<A: Allocator> PartialEq for Entry<A> {
+    ghost use Rattle.mbe_tt.specs.Shown.{entry_eq, entry_eq_laws};
+
+    ghost eq = { entry_eq };
+
+    ghost laws = { partial_equiv_from_equiv entry_eq_laws };
+
+    fn eq(&self, other: &Entry<A>) -> bool {
+        same_entry(self, other)
+    }
+}
+
+impl<A: Allocator> Eq for Entry<A> {
+    ghost use Rattle.mbe_tt.specs.Shown.{entry_eq_laws};
+
+    ghost laws = { entry_eq_laws };
+}
+
+fn same_entry<A: Allocator>(one: &Entry<A>, two: &Entry<A>) -> bool
+    ensures { IsTrue result ↔ (entry_of one.now ≡ entry_of two.now) }
+{
+    match (one, two) {
+        (Entry::Leaf(one), Entry::Leaf(two)) => same_leaf(one, two),
+        (Entry::Open(one, n), Entry::Open(two, m)) => one == two && n == m,
+        (Entry::Close, Entry::Close) => true,
+        _ => false,
+    }
+}
+
+pub(crate) fn same_entries<A: Allocator>(one: &[Entry<A>], two: &[Entry<A>]) -> bool
+    ensures { IsTrue result ↔ (entries_of one.now ≡ entries_of two.now) }
+{
+    one == two
+}

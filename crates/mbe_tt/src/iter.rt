@@ -1,0 +1,355 @@
+// An iterator over trees that stand side by side.
+ghost use Rattle.std.specs.Prelude.{◌≡◌, ◌↔◌, IsTrue, option_map, length, [], ◌∷◌, IsOk, is_ok, if◌then◌else◌, Some, None, ⊤};
+ghost use Rattle.std.specs.Result.{result_ok};
+ghost use Rattle.mbe_tt.specs.Tree.{Forest, none, group, tree, append, first, rest_of, front_char, front_punct, front_ident, front_group, front_leaf, front_literal, literal_leaf, any_ident, first_span, skip};
+ghost use Rattle.mbe_tt.specs.Entries.{forest_of, Spelled};
+ghost use Rattle.mbe_tt.specs.Glue.{glue, glued, is_operator};
+ghost use Rattle.mbe_tt.specs.Entry.{Open};
+ghost use Rattle.mbe_tt.specs.Shown.{entries_of, ident_of, leaf_of};
+ghost use Rattle.std.specs.List.{Contains};
+ghost use Rattle.mbe_tt.specs.declared.tt.Punct.{Punct as SpecPunct};
+
+use crate::entry::Entry;
+use crate::span::Span;
+use crate::tt::{Ident, Leaf, Punct, Spacing, Subtree};
+use crate::view::TokenTreesView;
+use arrayvec::ArrayVec;
+use std::alloc::{AllocError, Allocator, Global};
+use std::marker::Model;
+
+// A clause sees the trees that are left.
+#[derive(Drop)]
+pub struct TtIter<'a, A: Allocator = Global> {
+    pub(crate) entries: &'a [Entry<A>],
+}
+
+impl<'a, A: Allocator> Model for TtIter<'a, A> {
+    ghost use Rattle.std.specs.Prelude.{◌≡◌};
+    ghost use Rattle.mbe_tt.specs.Tree.{Forest};
+    ghost use Rattle.mbe_tt.specs.Entries.{forest_of, spell, forest_code};
+    ghost use Rattle.mbe_tt.specs.Shown.{entries_of};
+
+    ghost Value = { Forest };
+
+    ghost coded = { forest_code };
+
+    ghost view = { λ a. forest_of (entries_of a.entries.now) };
+
+    ghost invariant = { λ a. entries_of a.entries.now ≡ spell (forest_of (entries_of a.entries.now)) };
+}
+
+// A place of an iterator, told by the trees that were left.
+#[derive_where(Clone, Copy)]
+pub struct TtIterSavepoint<'a, A: Allocator = Global> {
+    left: TokenTreesView<'a, A>,
+}
+
+#[derive(Drop)]
+#[derive_where(Clone)]
+pub enum TtElement<'a, A: Allocator = Global> {
+    Leaf(&'a Leaf<A>),
+    Subtree(&'a Subtree, TtIter<'a, A>),
+}
+
+// The trees inside a group, and those after it. `rest` is what stands behind the group's opening.
+pub(crate) fn content_and_rest<'a, A: Allocator>(
+    subtree: &Subtree,
+    len: usize,
+    rest: &'a [Entry<A>],
+) -> (TtIter<'a, A>, TtIter<'a, A>)
+    requires { Spelled (Open subtree.now len ∷ entries_of rest.now) }
+    ensures { forest_of (Open subtree.now len ∷ entries_of rest.now) ≡ group subtree.now.delimiter result.0 result.1 }
+{
+    let (inside, after) = rest.split_at(len);
+    let (_close, rest) = after.split_at(1);
+    (TtIter { entries: inside }, TtIter { entries: rest })
+}
+
+impl<'a, A: Allocator> TtIter<'a, A> {
+    ghost use Rattle.mbe_tt.specs.View.{trees};
+    ghost use Rattle.mbe_tt.specs.Element.{element_tree};
+    ghost use Rattle.mbe_tt.specs.Savepoint.{saved};
+
+    pub fn is_empty(&self) -> bool
+        ensures { IsTrue result ↔ (self.now ≡ none) }
+    {
+        self.entries.is_empty()
+    }
+
+    // The trees that are left.
+    pub fn remaining(&self) -> TokenTreesView<'a, A>
+        ensures { trees result ≡ self.now }
+    {
+        TokenTreesView {
+            entries: self.entries,
+        }
+    }
+
+    // Passes the next tree.
+    pub fn next(&mut self) -> Option<TtElement<'a, A>>
+        ensures value { option_map element_tree result ≡ first self.old }
+        ensures rest { self.new ≡ rest_of self.old }
+    {
+        let (first, rest) = self.entries.split_first()?;
+        match first {
+            Entry::Leaf(leaf) => {
+                self.entries = rest;
+                Some(TtElement::Leaf(leaf))
+            }
+            Entry::Open(subtree, len) => {
+                let (inside, rest) = content_and_rest(subtree, *len, rest);
+                *self = rest;
+                Some(TtElement::Subtree(subtree, inside))
+            }
+            Entry::Close => None,
+        }
+    }
+
+    // The next tree, which is not passed.
+    pub fn peek(&self) -> Option<TtElement<'a, A>>
+        ensures { option_map element_tree result ≡ first self.now }
+    {
+        let mut ahead = self.remaining().iter();
+        ahead.next()
+    }
+
+    pub fn savepoint(&self) -> TtIterSavepoint<'a, A>
+        ensures { saved result ≡ self.now }
+    {
+        TtIterSavepoint {
+            left: self.remaining(),
+        }
+    }
+
+    // The trees passed since the savepoint.
+    pub fn from_savepoint(&self, savepoint: TtIterSavepoint<'a, A>) -> TokenTreesView<'a, A>
+        requires { (passed : Forest) × (saved savepoint ≡ append passed self.now) }
+        ensures { (passed : Forest) → saved savepoint.entry ≡ append passed self.now → trees result ≡ passed }
+    {
+        let before = savepoint.left.entries;
+        let (passed, _left) = before.split_at(before.len() - self.entries.len());
+        TokenTreesView { entries: passed }
+    }
+
+    // Passes the next tree.
+    pub fn next_as_view(&mut self) -> Option<TokenTreesView<'a, A>>
+        ensures value { option_map trees result ≡ option_map (λ t. tree t none) (first self.old) }
+        ensures rest { self.new ≡ rest_of self.old }
+    {
+        let savepoint = self.savepoint();
+        let _tree = self.next()?;
+        Some(self.from_savepoint(savepoint))
+    }
+
+    pub fn expect_char(&mut self, char: char) -> Result<(), ()>
+        ensures value { IsOk result ↔ (front_char self.old ≡ Some char) }
+        ensures rest { self.new ≡ (if is_ok result then rest_of self.old else self.old) }
+    {
+        if let Some(TtElement::Leaf(Leaf::Punct(punct))) = self.peek()
+            && punct.char == char
+        {
+            let _passed = self.next();
+            return Ok(());
+        }
+        Err(())
+    }
+
+    pub fn expect_single_punct(&mut self) -> Result<&'a Punct, ()>
+        ensures value { option_map (λ p. p.now) (result_ok result) ≡ front_punct self.old }
+        ensures rest { self.new ≡ (if is_ok result then rest_of self.old else self.old) }
+    {
+        if let Some(TtElement::Leaf(Leaf::Punct(punct))) = self.peek() {
+            let _passed = self.next();
+            return Ok(punct);
+        }
+        Err(())
+    }
+
+    pub fn expect_subtree(&mut self) -> Result<(&'a Subtree, TtIter<'a, A>), ()>
+        ensures value { option_map (λ g. (g.0.now.delimiter, g.1)) (result_ok result) ≡ front_group self.old }
+        ensures rest { self.new ≡ (if is_ok result then rest_of self.old else self.old) }
+    {
+        if let Some(TtElement::Subtree(subtree, inside)) = self.peek() {
+            let _passed = self.next();
+            return Ok((subtree, inside));
+        }
+        Err(())
+    }
+
+    // An identifier other than `_`.
+    pub fn expect_ident(&mut self) -> Result<&'a Ident<A>, ()>
+        ensures value { option_map (λ i. ident_of i.now) (result_ok result) ≡ front_ident self.old }
+        ensures rest { self.new ≡ (if is_ok result then rest_of self.old else self.old) }
+    {
+        if let Some(TtElement::Leaf(Leaf::Ident(ident))) = self.peek()
+            && ident.sym.as_str() != "_"
+        {
+            let _passed = self.next();
+            return Ok(ident);
+        }
+        Err(())
+    }
+
+    // A punct of one of these chars.
+    pub fn expect_any_char(&mut self, chars: &[char]) -> Result<(), ()>
+        ensures value { IsOk result ↔ ((p : SpecPunct) × (front_punct self.old ≡ Some p) × Contains chars.now p.char) }
+        ensures rest { self.new ≡ (if is_ok result then rest_of self.old else self.old) }
+    {
+        if let Some(TtElement::Leaf(Leaf::Punct(punct))) = self.peek()
+            && chars.contains(&punct.char)
+        {
+            let _passed = self.next();
+            return Ok(());
+        }
+        Err(())
+    }
+
+    pub fn expect_dollar(&mut self) -> Result<(), ()>
+        ensures value { IsOk result ↔ (front_char self.old ≡ Some 36) }
+        ensures rest { self.new ≡ (if is_ok result then rest_of self.old else self.old) }
+    {
+        self.expect_char('$')
+    }
+
+    pub fn expect_comma(&mut self) -> Result<(), ()>
+        ensures value { IsOk result ↔ (front_char self.old ≡ Some 44) }
+        ensures rest { self.new ≡ (if is_ok result then rest_of self.old else self.old) }
+    {
+        self.expect_char(',')
+    }
+
+    pub fn expect_leaf(&mut self) -> Result<&'a Leaf<A>, ()>
+        ensures value { option_map (λ l. leaf_of l.now) (result_ok result) ≡ front_leaf self.old }
+        ensures rest { self.new ≡ (if is_ok result then rest_of self.old else self.old) }
+    {
+        if let Some(TtElement::Leaf(leaf)) = self.peek() {
+            let _passed = self.next();
+            return Ok(leaf);
+        }
+        Err(())
+    }
+
+    pub fn expect_ident_or_underscore(&mut self) -> Result<&'a Ident<A>, ()>
+        ensures value { option_map (λ i. ident_of i.now) (result_ok result) ≡ any_ident self.old }
+        ensures rest { self.new ≡ (if is_ok result then rest_of self.old else self.old) }
+    {
+        if let Some(TtElement::Leaf(Leaf::Ident(ident))) = self.peek() {
+            let _passed = self.next();
+            return Ok(ident);
+        }
+        Err(())
+    }
+
+    // A literal, or the identifier `true` or `false`.
+    pub fn expect_literal(&mut self) -> Result<&'a Leaf<A>, ()>
+        ensures value { option_map (λ l. leaf_of l.now) (result_ok result) ≡ front_literal self.old }
+        ensures rest { self.new ≡ (if is_ok result then rest_of self.old else self.old) }
+    {
+        if let Some(TtElement::Leaf(leaf)) = self.peek()
+            && is_literal(leaf)
+        {
+            let _passed = self.next();
+            return Ok(leaf);
+        }
+        Err(())
+    }
+
+    // Where the next tree begins.
+    pub fn next_span(&self) -> Option<Span>
+        ensures { result ≡ option_map first_span (first self.now) }
+    {
+        Some(self.peek()?.first_span())
+    }
+
+    // The puncts in front that stand together.
+    pub fn expect_glued_punct(&mut self) -> Result<ArrayVec<Punct, 3>, ()>
+        ensures value { option_map (λ ps. ps.items) (result_ok result) ≡ glued self.old }
+        ensures rest { self.new ≡ skip (length (glue self.old)) self.old }
+    {
+        let first = *self.expect_single_punct()?;
+        let mut glued = ArrayVec::new();
+        glued.push(first);
+        if first.spacing == Spacing::Alone {
+            return Ok(glued);
+        }
+        let mut ahead = self.remaining().iter();
+        let Ok(second) = ahead.expect_single_punct() else {
+            return Ok(glued);
+        };
+        let mut beyond = ahead.remaining().iter();
+        if second.spacing == Spacing::Joint
+            && let Ok(third) = beyond.expect_single_punct()
+            && is_three(first.char, second.char, third.char)
+        {
+            glued.push(*second);
+            glued.push(*third);
+            *self = beyond;
+            return Ok(glued);
+        }
+        if is_two(first.char, second.char) {
+            glued.push(*second);
+            *self = ahead;
+        }
+        Ok(glued)
+    }
+}
+
+impl<'a, A: Allocator> TtElement<'a, A> {
+    ghost use Rattle.mbe_tt.specs.Element.{element_tree};
+
+    // A leaf's span, or where a group opens.
+    pub fn first_span(&self) -> Span
+        ensures { result ≡ first_span (element_tree self.now) }
+    {
+        match self {
+            TtElement::Leaf(leaf) => leaf.span(),
+            TtElement::Subtree(subtree, _) => subtree.delimiter.opening,
+        }
+    }
+}
+
+fn is_literal<A: Allocator>(leaf: &Leaf<A>) -> bool
+    ensures { literal_leaf (leaf_of leaf.now) ≡ (if result then Some (leaf_of leaf.now) else None) }
+{
+    match leaf {
+        Leaf::Literal(_) => true,
+        Leaf::Punct(_) => false,
+        Leaf::Ident(ident) => ident.sym.as_str() == "true" || ident.sym.as_str() == "false",
+    }
+}
+
+fn is_three(a: char, b: char, c: char) -> bool
+    ensures { result ≡ is_operator (a ∷ b ∷ c ∷ []) }
+{
+    matches!(
+        (a, b, c),
+        ('.', '.', '.') | ('.', '.', '=') | ('<', '<', '=') | ('>', '>', '=')
+    )
+}
+
+fn is_two(a: char, b: char) -> bool
+    ensures { result ≡ is_operator (a ∷ b ∷ []) }
+{
+    match b {
+        '=' => matches!(
+            a,
+            '-' | '!' | '*' | '/' | '&' | '%' | '^' | '+' | '<' | '=' | '>' | '|'
+        ),
+        '>' => matches!(a, '-' | '=' | '>'),
+        '-' | '<' => a == '<',
+        ':' | '.' | '&' | '|' => a == b,
+        _ => false,
+    }
+}
+
+impl<'a, A: Allocator> Clone for TtIter<'a, A> {
+    ghost is_clone = { λ x y. y ≡ x };
+
+    ghost is_infallible = { λ _. ⊤ };
+
+    fn clone(&self) -> Result<TtIter<'a, A>, AllocError> {
+        Ok(TtIter {
+            entries: self.entries,
+        })
+    }
+}

@@ -1,0 +1,240 @@
+// Leaves, and the delimiters of groups.
+ghost use Rattle.std.specs.Prelude.{◌≡◌, ◌↔◌, IsTrue};
+ghost use Rattle.mbe_tt.specs.Shown.{ident_of, literal_of, leaf_of};
+ghost use Rattle.std.specs.Cmp.{partial_equiv_from_equiv};
+
+use crate::span::{DelimSpan, Span};
+use crate::symbol::Symbol;
+use std::alloc::{AllocError, Allocator, Global};
+
+#[derive(Clone, Copy, Debug, Default, Drop, PartialEq, Eq)]
+pub enum Spacing {
+    #[default]
+    Alone,
+    Joint,
+}
+
+#[derive(Clone, Copy, Debug, Default, Drop, PartialEq, Eq)]
+pub struct Punct {
+    pub char: char,
+    pub spacing: Spacing,
+    pub span: Span,
+}
+
+#[derive(Clone, Copy, Debug, Drop, PartialEq, Eq)]
+pub enum IdentIsRaw {
+    No,
+    Yes,
+}
+
+#[derive(Drop)]
+pub struct Ident<A: Allocator = Global> {
+    pub sym: Symbol<A>,
+    pub is_raw: IdentIsRaw,
+    pub span: Span,
+}
+
+#[derive(Clone, Copy, Debug, Drop, PartialEq, Eq)]
+pub enum LitKind {
+    Byte,
+    Char,
+    Integer,
+    Float,
+    Str,
+    StrRaw(u8),
+    ByteStr,
+    ByteStrRaw(u8),
+    CStr,
+    CStrRaw(u8),
+    Err,
+}
+
+#[derive(Drop)]
+pub struct Literal<A: Allocator = Global> {
+    pub text_and_suffix: Symbol<A>,
+    pub suffix_len: u8,
+    pub kind: LitKind,
+    pub span: Span,
+}
+
+#[derive(Drop)]
+pub enum Leaf<A: Allocator = Global> {
+    Literal(Literal<A>),
+    Punct(Punct),
+    Ident(Ident<A>),
+}
+
+#[derive(Clone, Copy, Debug, Drop, PartialEq, Eq)]
+pub enum DelimiterKind {
+    Parenthesis,
+    Brace,
+    Bracket,
+    Invisible,
+}
+
+#[derive(Clone, Copy, Debug, Drop, PartialEq, Eq)]
+pub struct Delimiter {
+    pub opening: Span,
+    pub close: Span,
+    pub kind: DelimiterKind,
+}
+
+#[derive(Clone, Copy, Debug, Drop, PartialEq, Eq)]
+pub struct Subtree {
+    pub delimiter: Delimiter,
+}
+
+impl Delimiter {
+    ghost use Rattle.mbe_tt.specs.declared.tt.DelimiterKind.TheVariants.{Invisible};
+
+    // An invisible delimiter with this span on both sides.
+    pub fn invisible_spanned(span: Span) -> Delimiter
+        ensures { result ≡ record { opening = span; close = span; kind = Invisible } }
+    {
+        Delimiter {
+            opening: span,
+            close: span,
+            kind: DelimiterKind::Invisible,
+        }
+    }
+
+    pub fn delim_span(&self) -> DelimSpan
+        ensures { result ≡ record { opening = self.now.opening; close = self.now.close } }
+    {
+        DelimSpan {
+            opening: self.opening,
+            close: self.close,
+        }
+    }
+}
+
+impl<A: Allocator> Leaf<A> {
+    ghost use Rattle.mbe_tt.specs.Leaf.{span_of};
+
+    pub fn span(&self) -> Span
+        ensures { result ≡ span_of (leaf_of self.now) }
+    {
+        match self {
+            Leaf::Literal(literal) => literal.span,
+            Leaf::Punct(punct) => punct.span,
+            Leaf::Ident(ident) => ident.span,
+        }
+    }
+}
+
+impl<A: Allocator> Clone for Ident<A> {
+    ghost is_clone = { λ x y. y ≡ x };
+
+    fn clone(&self) -> Result<Ident<A>, AllocError> {
+        Ok(Ident {
+            sym: self.sym.clone()?,
+            is_raw: self.is_raw,
+            span: self.span,
+        })
+    }
+}
+
+impl<A: Allocator> Clone for Literal<A> {
+    ghost is_clone = { λ x y. y ≡ x };
+
+    fn clone(&self) -> Result<Literal<A>, AllocError> {
+        Ok(Literal {
+            text_and_suffix: self.text_and_suffix.clone()?,
+            suffix_len: self.suffix_len,
+            kind: self.kind,
+            span: self.span,
+        })
+    }
+}
+
+impl<A: Allocator> Clone for Leaf<A> {
+    ghost is_clone = { λ x y. y ≡ x };
+
+    fn clone(&self) -> Result<Leaf<A>, AllocError> {
+        Ok(match self {
+            Leaf::Literal(literal) => Leaf::Literal(literal.clone()?),
+            Leaf::Punct(punct) => Leaf::Punct(*punct),
+            Leaf::Ident(ident) => Leaf::Ident(ident.clone()?),
+        })
+    }
+}
+
+impl<A: Allocator> PartialEq for Ident<A> {
+    ghost use Rattle.mbe_tt.specs.Shown.{ident_eq, ident_eq_laws};
+
+    ghost eq = { ident_eq };
+
+    ghost laws = { partial_equiv_from_equiv ident_eq_laws };
+
+    fn eq(&self, other: &Ident<A>) -> bool {
+        same_ident(self, other)
+    }
+}
+
+impl<A: Allocator> Eq for Ident<A> {
+    ghost use Rattle.mbe_tt.specs.Shown.{ident_eq_laws};
+
+    ghost laws = { ident_eq_laws };
+}
+
+impl<A: Allocator> PartialEq for Literal<A> {
+    ghost use Rattle.mbe_tt.specs.Shown.{literal_eq, literal_eq_laws};
+
+    ghost eq = { literal_eq };
+
+    ghost laws = { partial_equiv_from_equiv literal_eq_laws };
+
+    fn eq(&self, other: &Literal<A>) -> bool {
+        same_literal(self, other)
+    }
+}
+
+impl<A: Allocator> Eq for Literal<A> {
+    ghost use Rattle.mbe_tt.specs.Shown.{literal_eq_laws};
+
+    ghost laws = { literal_eq_laws };
+}
+
+impl<A: Allocator> PartialEq for Leaf<A> {
+    ghost use Rattle.mbe_tt.specs.Shown.{leaf_eq, leaf_eq_laws};
+
+    ghost eq = { leaf_eq };
+
+    ghost laws = { partial_equiv_from_equiv leaf_eq_laws };
+
+    fn eq(&self, other: &Leaf<A>) -> bool {
+        same_leaf(self, other)
+    }
+}
+
+impl<A: Allocator> Eq for Leaf<A> {
+    ghost use Rattle.mbe_tt.specs.Shown.{leaf_eq_laws};
+
+    ghost laws = { leaf_eq_laws };
+}
+
+fn same_ident<A: Allocator>(one: &Ident<A>, two: &Ident<A>) -> bool
+    ensures { IsTrue result ↔ (ident_of one.now ≡ ident_of two.now) }
+{
+    one.sym == two.sym && one.is_raw == two.is_raw && one.span == two.span
+}
+
+fn same_literal<A: Allocator>(one: &Literal<A>, two: &Literal<A>) -> bool
+    ensures { IsTrue result ↔ (literal_of one.now ≡ literal_of two.now) }
+{
+    one.text_and_suffix == two.text_and_suffix
+        && one.suffix_len == two.suffix_len
+        && one.kind == two.kind
+        && one.span == two.span
+}
+
+pub(crate) fn same_leaf<A: Allocator>(one: &Leaf<A>, two: &Leaf<A>) -> bool
+    ensures { IsTrue result ↔ (leaf_of one.now ≡ leaf_of two.now) }
+{
+    match (one, two) {
+        (Leaf::Literal(one), Leaf::Literal(two)) => same_literal(one, two),
+        (Leaf::Punct(one), Leaf::Punct(two)) => one == two,
+        (Leaf::Ident(one), Leaf::Ident(two)) => same_ident(one, two),
+        _ => false,
+    }
+}
