@@ -3,8 +3,13 @@ ghost use Rattle.std.specs.Prelude.{◌≡◌, ◌↔◌, IsTrue};
 ghost use Rattle.mbe_tt.specs.Shown.{ident_of, literal_of, leaf_of};
 ghost use Rattle.std.specs.Cmp.{partial_equiv_from_equiv};
 
+pub use crate::buffer::TopSubtree;
+pub use crate::builder::TopSubtreeBuilder;
+pub use crate::cursor::Cursor;
+pub use crate::iter::{TtElement, TtIter, TtIterSavepoint};
 use crate::span::{DelimSpan, Span};
 use crate::symbol::Symbol;
+pub use crate::view::{SubtreeView, TokenTreesView};
 use std::alloc::{AllocError, Allocator, Global};
 
 #[derive(Clone, Copy, Debug, Default, Drop, PartialEq, Eq)]
