@@ -13,7 +13,7 @@ use std::marker::Model;
 
 // A clause sees the view's trees, and how many of their flat tokens are passed.
 #[derive(Drop)]
-#[derive_where(Clone)]
+#[derive_where(Clone, Debug)]
 pub struct Cursor<'a, A: Allocator = Global> {
     entries: &'a [Entry<A>],
     place: usize,

@@ -19,6 +19,7 @@ use std::marker::Model;
 
 // A clause sees the trees that are left.
 #[derive(Drop)]
+#[derive_where(Debug)]
 pub struct TtIter<'a, A: Allocator = Global> {
     pub(crate) entries: &'a [Entry<A>],
 }
@@ -39,13 +40,13 @@ impl<'a, A: Allocator> Model for TtIter<'a, A> {
 }
 
 // A place of an iterator, told by the trees that were left.
-#[derive_where(Clone, Copy)]
+#[derive_where(Clone, Copy, Debug)]
 pub struct TtIterSavepoint<'a, A: Allocator = Global> {
     left: TokenTreesView<'a, A>,
 }
 
 #[derive(Drop)]
-#[derive_where(Clone)]
+#[derive_where(Clone, Debug)]
 pub enum TtElement<'a, A: Allocator = Global> {
     Leaf(&'a Leaf<A>),
     Subtree(&'a Subtree, TtIter<'a, A>),

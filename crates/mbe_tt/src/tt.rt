@@ -33,6 +33,7 @@ pub enum IdentIsRaw {
 }
 
 #[derive(Drop)]
+#[derive_where(Debug)]
 pub struct Ident<A: Allocator = Global> {
     pub sym: Symbol<A>,
     pub is_raw: IdentIsRaw,
@@ -55,6 +56,7 @@ pub enum LitKind {
 }
 
 #[derive(Drop)]
+#[derive_where(Debug)]
 pub struct Literal<A: Allocator = Global> {
     pub text_and_suffix: Symbol<A>,
     pub suffix_len: u8,
@@ -63,6 +65,7 @@ pub struct Literal<A: Allocator = Global> {
 }
 
 #[derive(Drop)]
+#[derive_where(Debug)]
 pub enum Leaf<A: Allocator = Global> {
     Literal(Literal<A>),
     Punct(Punct),
