@@ -1,0 +1,189 @@
+// Errors of definitions and of expansions.
+use mbe_tt::span::Span;
+use std::alloc::{AllocError, AllocFailed, Allocator, Global};
+use std::fmt;
+use std::rc::Rc;
+
+/// Why a definition, or the part of it behind the rules that were kept, wasn't read (as in rust-analyzer).
+#[derive(Drop)]
+#[derive_where(Debug, PartialEq, Eq)]
+pub enum ParseError<A: Allocator = Global> {
+    UnexpectedToken(String<A>),
+    Expected(String<A>),
+    /// The suffix of a repetition isn't one.
+    InvalidRepeat,
+    /// A repetition without separator whose body can read nothing.
+    RepetitionEmptyTokenTree,
+}
+
+/// Why an expansion isn't the one that the definition says, and where (as in rust-analyzer).
+#[derive(Drop)]
+#[derive_where(Clone, Debug, PartialEq, Eq, Hash)]
+pub struct ExpandError<A: Allocator = Global> {
+    pub inner: Rc<(Span, ExpandErrorKind<A>), A>,
+}
+
+#[derive(Drop)]
+#[derive_where(Debug, PartialEq, Eq, Hash)]
+pub enum ExpandErrorKind<A: Allocator = Global> {
+    BindingError(String<A>),
+    UnresolvedBinding(String<A>),
+    LeftoverTokens,
+    LimitExceeded,
+    NoMatchingRule,
+    UnexpectedToken,
+}
+
+/// Faults of `${count(..)}` (as in rust-analyzer). No call makes one.
+#[derive(Clone, Copy, Debug, Drop, PartialEq, Eq, Hash)]
+pub enum CountError {
+    OutOfBounds,
+    Misplaced,
+}
+
+/// The first fault of a definition, before memory is asked for its text.
+#[derive(Clone, Copy, Debug, PartialEq, Eq)]
+pub(crate) enum Fault {
+    ExpectedSubtree,
+    ExpectedEquals,
+    ExpectedGreater,
+    ExpectedSemicolon,
+    ExpectedIdent,
+    ExpectedRepetition,
+    ExpressionInPattern,
+    DollarInPattern,
+    MissingSpecifier,
+    NotCarried,
+}
+
+/// Why reading stopped.
+#[derive(Clone, Copy, Debug, PartialEq, Eq)]
+pub(crate) enum ReadError {
+    Memory,
+    Fault(Fault),
+}
+
+impl From<AllocError> for ReadError {
+    ghost use Rattle.std.specs.Prelude.{◌≡◌};
+    ghost use Rattle.mbe.specs.declared.error.ReadError.TheVariants.{Memory};
+
+    ghost from_gives = { λ _ e. e ≡ Memory };
+
+    fn from(_error: AllocError) -> ReadError {
+        ReadError::Memory
+    }
+}
+
+impl<T: Drop> From<AllocFailed<T>> for ReadError {
+    ghost use Rattle.std.specs.Prelude.{◌≡◌};
+    ghost use Rattle.mbe.specs.declared.error.ReadError.TheVariants.{Memory};
+
+    ghost from_gives = { λ _ e. e ≡ Memory };
+
+    fn from(_error: AllocFailed<T>) -> ReadError {
+        ReadError::Memory
+    }
+}
+
+impl<A: Allocator + Copy> ParseError<A> {
+    /// An equal copy.
+    pub fn try_clone(&self, alloc: A) -> Result<ParseError<A>, AllocError> {
+        Ok(match self {
+            ParseError::UnexpectedToken(text) => {
+                ParseError::UnexpectedToken(String::from_str(alloc, text.as_str())?)
+            }
+            ParseError::Expected(text) => {
+                ParseError::Expected(String::from_str(alloc, text.as_str())?)
+            }
+            ParseError::InvalidRepeat => ParseError::InvalidRepeat,
+            ParseError::RepetitionEmptyTokenTree => ParseError::RepetitionEmptyTokenTree,
+        })
+    }
+
+    fn expected(alloc: A, text: &str) -> Result<ParseError<A>, AllocError> {
+        Ok(ParseError::Expected(String::from_str(alloc, text)?))
+    }
+
+    fn unexpected(alloc: A, text: &str) -> Result<ParseError<A>, AllocError> {
+        Ok(ParseError::UnexpectedToken(String::from_str(alloc, text)?))
+    }
+
+    pub(crate) fn of_fault(alloc: A, fault: Fault) -> Result<ParseError<A>, AllocError> {
+        match fault {
+            Fault::ExpectedSubtree => ParseError::expected(alloc, "expected subtree"),
+            Fault::ExpectedEquals => ParseError::expected(alloc, "expected `=`"),
+            Fault::ExpectedGreater => ParseError::expected(alloc, "expected `>`"),
+            Fault::ExpectedSemicolon => ParseError::expected(alloc, "expected `;`"),
+            Fault::ExpectedIdent => ParseError::expected(alloc, "expected ident"),
+            Fault::ExpectedRepetition => {
+                ParseError::expected(alloc, "expected `$()` repetition or `${}` expression")
+            }
+            Fault::ExpressionInPattern => ParseError::unexpected(
+                alloc,
+                "`${}` metavariable expressions are not allowed in matchers",
+            ),
+            Fault::DollarInPattern => {
+                ParseError::unexpected(alloc, "`$$` is not allowed on the pattern side")
+            }
+            Fault::MissingSpecifier => ParseError::unexpected(alloc, "missing fragment specifier"),
+            Fault::NotCarried => ParseError::unexpected(alloc, "not carried yet"),
+        }
+    }
+}
+
+impl<A: Allocator> fmt::Display for ParseError<A> {
+    fn fmt<W: fmt::Write>(&self, f: &mut fmt::Formatter<W>) -> fmt::Result {
+        match self {
+            ParseError::UnexpectedToken(text) => f.write_str(text.as_str()),
+            ParseError::Expected(text) => f.write_str(text.as_str()),
+            ParseError::InvalidRepeat => f.write_str("invalid repeat"),
+            ParseError::RepetitionEmptyTokenTree => {
+                f.write_str("empty token tree in repetition")
+            }
+        }
+    }
+}
+
+impl<A: Allocator> ExpandError<A> {
+    pub(crate) fn new(
+        alloc: A,
+        span: Span,
+        kind: ExpandErrorKind<A>,
+    ) -> Result<ExpandError<A>, AllocError> {
+        Ok(ExpandError {
+            inner: Rc::new(alloc, (span, kind))?,
+        })
+    }
+}
+
+impl<A: Allocator> fmt::Display for ExpandErrorKind<A> {
+    fn fmt<W: fmt::Write>(&self, f: &mut fmt::Formatter<W>) -> fmt::Result {
+        match self {
+            ExpandErrorKind::BindingError(text) => f.write_str(text.as_str()),
+            ExpandErrorKind::UnresolvedBinding(name) => {
+                f.write_str("could not find binding ")?;
+                f.write_str(name.as_str())
+            }
+            ExpandErrorKind::LeftoverTokens => f.write_str("leftover tokens"),
+            ExpandErrorKind::LimitExceeded => f.write_str("Expand exceed limit"),
+            ExpandErrorKind::NoMatchingRule => f.write_str("no rule matches input tokens"),
+            ExpandErrorKind::UnexpectedToken => f.write_str("unexpected token in input"),
+        }
+    }
+}
+
+impl<A: Allocator> fmt::Display for ExpandError<A> {
+    fn fmt<W: fmt::Write>(&self, f: &mut fmt::Formatter<W>) -> fmt::Result {
+        let kind = &self.inner.1;
+        write!(f, "{kind}")
+    }
+}
+
+impl fmt::Display for CountError {
+    fn fmt<W: fmt::Write>(&self, f: &mut fmt::Formatter<W>) -> fmt::Result {
+        match self {
+            CountError::OutOfBounds => f.write_str("${count} out of bounds"),
+            CountError::Misplaced => f.write_str("${count} misplaced"),
+        }
+    }
+}

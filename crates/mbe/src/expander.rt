@@ -1,0 +1,62 @@
+// The choice of the rule.
+ghost use Rattle.mbe.specs.Marking.{MayMark};
+
+pub(crate) mod matcher;
+pub(crate) mod transcriber;
+
+use crate::error::{ExpandError, ExpandErrorKind};
+use crate::macro_call_style::MacroCallStyle;
+use crate::macros::Rule;
+use crate::value_result::{ExpandResult, MatchedArmIndex, ValueResult};
+use mbe_tt::buffer::TopSubtree;
+use mbe_tt::span::{DelimSpan, Span};
+use std::alloc::{AllocError, Allocator};
+
+// The substitution of the first rule of the style that fits and doesn't fault.
+pub(crate) fn expand_rules<A: Allocator + Copy, M: Fn(Span) -> Span + Copy>(
+    alloc: A,
+    rules: &[Rule<A>],
+    input: &TopSubtree<A>,
+    marker: M,
+    call_style: MacroCallStyle,
+    call_site: Span,
+) -> Result<ExpandResult<(TopSubtree<A>, MatchedArmIndex), A>, AllocError>
+    requires { MayMark (M.pre marker) }
+{
+    for (idx, rule) in rules.iter().enumerate() {
+        if let Some(tree) = apply(alloc, rule, input, marker, call_style, call_site)? {
+            return Ok(ValueResult {
+                value: (tree, u32::try_from(idx).ok()),
+                err: None,
+            });
+        }
+    }
+    let error = ExpandError::new(alloc, call_site, ExpandErrorKind::NoMatchingRule)?;
+    let empty = TopSubtree::empty(alloc, DelimSpan::from_single(call_site))?;
+    Ok(ValueResult {
+        value: (empty, None),
+        err: Some(error),
+    })
+}
+
+// The substitution of the rule, where it is of the style and fits.
+fn apply<A: Allocator + Copy, M: Fn(Span) -> Span + Copy>(
+    alloc: A,
+    rule: &Rule<A>,
+    input: &TopSubtree<A>,
+    marker: M,
+    call_style: MacroCallStyle,
+    call_site: Span,
+) -> Result<Option<TopSubtree<A>>, AllocError>
+    requires { MayMark (M.pre marker) }
+{
+    if rule.style != call_style {
+        return Ok(None);
+    }
+    match matcher::match_(alloc, &rule.lhs, input.iter())? {
+        Some(bindings) => Ok(Some(transcriber::transcribe(
+            alloc, &rule.rhs, &bindings, marker, call_site,
+        )?)),
+        None => Ok(None),
+    }
+}

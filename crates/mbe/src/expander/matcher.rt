@@ -1,0 +1,159 @@
+// Matches an argument against a pattern.
+use crate::parser::{MetaTemplate, MetaVarKind, Op};
+use mbe_tt::iter::TtIter;
+use mbe_tt::symbol::Symbol;
+use mbe_tt::tt::{Ident, Leaf, Literal, Punct};
+use mbe_tt::view::TokenTreesView;
+use std::alloc::{AllocError, Allocator, Global};
+use std::collections::HashMap;
+use std::hash::{BuildHasherDefault, FoldHasher};
+
+/// What a match binds: the trees that each variable took.
+#[derive(Drop)]
+pub(crate) struct Bindings<'a, A: Allocator = Global> {
+    inner: HashMap<Symbol<A>, TokenTreesView<'a, A>, BuildHasherDefault<FoldHasher>, A>,
+}
+
+impl<'a, A: Allocator + Copy> Bindings<'a, A> {
+    fn new(alloc: A) -> Bindings<'a, A> {
+        Bindings {
+            inner: HashMap::new(alloc),
+        }
+    }
+
+    fn insert(
+        &mut self,
+        name: &Symbol<A>,
+        fragment: TokenTreesView<'a, A>,
+    ) -> Result<(), AllocError> {
+        let _replaced = self.inner.insert(name.clone()?, fragment)?;
+        Ok(())
+    }
+}
+
+impl<'a, A: Allocator> Bindings<'a, A> {
+    pub(crate) fn get(&self, name: &Symbol<A>) -> Option<TokenTreesView<'a, A>> {
+        self.inner.get(name).copied()
+    }
+}
+
+// What the pattern binds, where it reads the whole argument.
+pub(crate) fn match_<'a, A: Allocator + Copy>(
+    alloc: A,
+    pattern: &MetaTemplate<A>,
+    src: TtIter<'a, A>,
+) -> Result<Option<Bindings<'a, A>>, AllocError> {
+    let mut bindings = Bindings::new(alloc);
+    if match_ops(&pattern.0, src, &mut bindings)? {
+        Ok(Some(bindings))
+    } else {
+        Ok(None)
+    }
+}
+
+// Whether the ops read all the trees.
+#[cycle(matching)]
+fn match_ops<'a, A: Allocator + Copy>(
+    ops: &[Op<A>],
+    src: TtIter<'a, A>,
+    bindings: &mut Bindings<'a, A>,
+) -> Result<bool, AllocError> {
+    let mut src = src;
+    for op in ops {
+        if !match_op(op, &mut src, bindings)? {
+            return Ok(false);
+        }
+    }
+    Ok(src.is_empty())
+}
+
+// Whether the op reads what stands in front.
+#[cycle(matching)]
+fn match_op<'a, A: Allocator + Copy>(
+    op: &Op<A>,
+    src: &mut TtIter<'a, A>,
+    bindings: &mut Bindings<'a, A>,
+) -> Result<bool, AllocError> {
+    match op {
+        Op::Literal(literal) => Ok(eat_literal(literal, src)),
+        Op::Ident(ident) => Ok(eat_ident(ident, src)),
+        Op::Punct(puncts) => Ok(eat_puncts(puncts.as_slice(), src)),
+        Op::Subtree { tokens, delimiter } => match src.expect_subtree() {
+            Ok((subtree, inside)) if subtree.delimiter.kind == delimiter.kind => {
+                match_ops(&tokens.0, inside, bindings)
+            }
+            _ => Ok(false),
+        },
+        Op::Var { name, kind, .. } => match eat_fragment(*kind, src) {
+            Some(fragment) => {
+                bindings.insert(name, fragment)?;
+                Ok(true)
+            }
+            None => Ok(false),
+        },
+    }
+}
+
+// A literal of the same text and suffix, whatever its kind.
+fn eat_literal<A: Allocator>(literal: &Literal<A>, src: &mut TtIter<'_, A>) -> bool {
+    match src.expect_leaf() {
+        Ok(Leaf::Literal(found)) => found.text_and_suffix == literal.text_and_suffix,
+        _ => false,
+    }
+}
+
+// An identifier of the same text, raw or not.
+fn eat_ident<A: Allocator>(ident: &Ident<A>, src: &mut TtIter<'_, A>) -> bool {
+    match src.expect_ident_or_underscore() {
+        Ok(found) => found.sym == ident.sym,
+        Err(()) => false,
+    }
+}
+
+// Puncts that stand together and have just these chars.
+fn eat_puncts<A: Allocator>(puncts: &[Punct], src: &mut TtIter<'_, A>) -> bool {
+    match src.expect_glued_punct() {
+        Ok(found) => same_chars(found.as_slice(), puncts),
+        Err(()) => false,
+    }
+}
+
+fn same_chars(one: &[Punct], two: &[Punct]) -> bool {
+    one.len() == two.len() && one.iter().zip(two).all(|(a, b)| a.char == b.char)
+}
+
+// What a variable of the kind takes in front. An unknown kind takes nothing.
+fn eat_fragment<'a, A: Allocator>(
+    kind: Option<MetaVarKind>,
+    src: &mut TtIter<'a, A>,
+) -> Option<TokenTreesView<'a, A>> {
+    match kind {
+        Some(MetaVarKind::Ident) => eat_any_ident(src),
+        Some(MetaVarKind::Tt) => eat_tree(src),
+        _ => None,
+    }
+}
+
+// An identifier other than `_`.
+fn eat_any_ident<'a, A: Allocator>(src: &mut TtIter<'a, A>) -> Option<TokenTreesView<'a, A>> {
+    let savepoint = src.savepoint();
+    match src.expect_ident() {
+        Ok(_) => Some(src.from_savepoint(savepoint)),
+        Err(()) => None,
+    }
+}
+
+// A lifetime where `'` comes first, and else puncts that stand together, or one tree.
+fn eat_tree<'a, A: Allocator>(src: &mut TtIter<'a, A>) -> Option<TokenTreesView<'a, A>> {
+    let savepoint = src.savepoint();
+    if src.expect_char('\'').is_ok() {
+        return match src.expect_ident_or_underscore() {
+            Ok(_) => Some(src.from_savepoint(savepoint)),
+            Err(()) => None,
+        };
+    }
+    match src.expect_glued_punct() {
+        Ok(_) => Some(src.from_savepoint(savepoint)),
+        Err(()) => src.next_as_view(),
+    }
+}

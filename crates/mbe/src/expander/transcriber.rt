@@ -1,0 +1,155 @@
+// Writes a template with its variables replaced.
+ghost use Rattle.std.specs.Prelude.{◌≡◌, length, OnOk};
+ghost use Rattle.mbe.specs.Marking.{MayMark};
+
+use crate::expander::matcher::Bindings;
+use crate::parser::{MetaTemplate, Op};
+use mbe_tt::buffer::TopSubtree;
+use mbe_tt::builder::TopSubtreeBuilder;
+use mbe_tt::span::Span;
+use mbe_tt::symbol::Symbol;
+use mbe_tt::tt::{Delimiter, Ident, IdentIsRaw, Leaf, Literal, Punct, Spacing};
+use std::alloc::{AllocError, Allocator};
+
+// The template's substitution, in an invisible group with the call site as both spans.
+pub(crate) fn transcribe<A: Allocator + Copy, M: Fn(Span) -> Span + Copy>(
+    alloc: A,
+    template: &MetaTemplate<A>,
+    bindings: &Bindings<'_, A>,
+    marker: M,
+    call_site: Span,
+) -> Result<TopSubtree<A>, AllocError>
+    requires { MayMark (M.pre marker) }
+{
+    let mut builder = TopSubtreeBuilder::new(alloc, Delimiter::invisible_spanned(call_site))?;
+    expand_ops(&template.0, bindings, &mut builder, marker)?;
+    Ok(builder.build())
+}
+
+// The marker's answer.
+fn mark<M: Fn(Span) -> Span + Copy>(span: Span, marker: M) -> Span
+    requires { MayMark (M.pre marker) }
+    ensures { M.post marker span result }
+{
+    marker(span)
+}
+
+// Writes the ops one after the other.
+#[cycle(writing)]
+fn expand_ops<A: Allocator + Copy, M: Fn(Span) -> Span + Copy>(
+    ops: &[Op<A>],
+    bindings: &Bindings<'_, A>,
+    builder: &mut TopSubtreeBuilder<A>,
+    marker: M,
+) -> Result<(), AllocError>
+    requires { MayMark (M.pre marker) }
+    ensures open_groups { OnOk result (length builder.new ≡ length builder.old) }
+{
+    for op in ops {
+        expand_op(op, bindings, builder, marker)?;
+    }
+    Ok(())
+}
+
+#[cycle(writing)]
+fn expand_op<A: Allocator + Copy, M: Fn(Span) -> Span + Copy>(
+    op: &Op<A>,
+    bindings: &Bindings<'_, A>,
+    builder: &mut TopSubtreeBuilder<A>,
+    marker: M,
+) -> Result<(), AllocError>
+    requires { MayMark (M.pre marker) }
+    ensures open_groups { OnOk result (length builder.new ≡ length builder.old) }
+{
+    match op {
+        Op::Literal(literal) => builder.push(Leaf::Literal(marked_literal(literal, marker)?)),
+        Op::Ident(ident) => builder.push(Leaf::Ident(marked_ident(ident, marker)?)),
+        Op::Punct(puncts) => write_puncts(puncts.as_slice(), builder, marker),
+        Op::Subtree { tokens, delimiter } => {
+            builder.open(delimiter.kind, mark(delimiter.opening, marker))?;
+            expand_ops(&tokens.0, bindings, builder, marker)?;
+            builder.close(mark(delimiter.close, marker));
+            Ok(())
+        }
+        Op::Var { name, id, .. } => write_var(name, *id, bindings, builder),
+    }
+}
+
+fn marked_literal<A: Allocator, M: Fn(Span) -> Span + Copy>(
+    literal: &Literal<A>,
+    marker: M,
+) -> Result<Literal<A>, AllocError>
+    requires { MayMark (M.pre marker) }
+{
+    Ok(Literal {
+        text_and_suffix: literal.text_and_suffix.clone()?,
+        suffix_len: literal.suffix_len,
+        kind: literal.kind,
+        span: mark(literal.span, marker),
+    })
+}
+
+fn marked_ident<A: Allocator, M: Fn(Span) -> Span + Copy>(
+    ident: &Ident<A>,
+    marker: M,
+) -> Result<Ident<A>, AllocError>
+    requires { MayMark (M.pre marker) }
+{
+    Ok(Ident {
+        sym: ident.sym.clone()?,
+        is_raw: ident.is_raw,
+        span: mark(ident.span, marker),
+    })
+}
+
+fn write_puncts<A: Allocator, M: Fn(Span) -> Span + Copy>(
+    puncts: &[Punct],
+    builder: &mut TopSubtreeBuilder<A>,
+    marker: M,
+) -> Result<(), AllocError>
+    requires { MayMark (M.pre marker) }
+    ensures open_groups { OnOk result (length builder.new ≡ length builder.old) }
+{
+    for punct in puncts {
+        builder.push(Leaf::Punct(Punct {
+            char: punct.char,
+            spacing: punct.spacing,
+            span: mark(punct.span, marker),
+        }))?;
+    }
+    Ok(())
+}
+
+// What the variable took, or `$` and its name where it is bound to nothing.
+fn write_var<A: Allocator + Copy>(
+    name: &Symbol<A>,
+    id: Span,
+    bindings: &Bindings<'_, A>,
+    builder: &mut TopSubtreeBuilder<A>,
+) -> Result<(), AllocError>
+    ensures open_groups { OnOk result (length builder.new ≡ length builder.old) }
+{
+    match bindings.get(name) {
+        Some(fragment) => builder.extend_with_tt_alone(fragment.strip_invisible()),
+        None => write_unbound(name, id, builder),
+    }
+}
+
+fn write_unbound<A: Allocator>(
+    name: &Symbol<A>,
+    id: Span,
+    builder: &mut TopSubtreeBuilder<A>,
+) -> Result<(), AllocError>
+    ensures open_groups { OnOk result (length builder.new ≡ length builder.old) }
+{
+    builder.push(Leaf::Punct(Punct {
+        char: '$',
+        spacing: Spacing::Alone,
+        span: id,
+    }))?;
+    builder.push(Leaf::Ident(Ident {
+        sym: name.clone()?,
+        is_raw: IdentIsRaw::No,
+        span: id,
+    }))
+}
