@@ -36,3 +36,4 @@ pub mod Examples
 pub mod LogExamples
 pub mod Marking
 pub mod Views
+pub mod Reader

@@ -1,7 +1,15 @@
 // Reads patterns and templates into ops.
-ghost use Rattle.std.specs.Prelude.{◌≡◌, ◌<◌, ◌≤◌, Some, OnOk};
-ghost use Rattle.mbe_tt.specs.Tree.{flat_len, first};
+ghost use Rattle.std.specs.Prelude.{◌≡◌, ◌<◌, ◌≤◌, Some, None, Err, IfOk, IfErr, IfSome, OnOk};
+ghost use Rattle.mbe_tt.specs.Tree.{Forest, flat_len, first, is_truth, leaf as leaf_before};
 ghost use Rattle.mbe_tt.specs.Element.{element_tree};
+ghost use Rattle.mbe_tt.specs.Shown.{ident_of, literal_of, leaf_of};
+ghost use Rattle.mbe_tt.specs.declared.span.Span.{Span as SpecSpan};
+ghost use Rattle.mbe_tt.specs.declared.tt.Punct.{Punct as SpecPunct};
+ghost use Rattle.mbe.specs.Op.{Name, variable as variable_op};
+ghost use Rattle.mbe.specs.Template as grammar;
+ghost use Rattle.mbe.specs.Template.{Template, TemplateFault};
+ghost use Rattle.mbe.specs.Reader.{mode_of, fault_of, Stops, IsUndated, AtHead, ReadsOp};
+ghost use Rattle.mbe.specs.Views.{op_of, template_of};
 
 use crate::error::{Fault, ReadError};
 use arrayvec::ArrayVec;
@@ -83,7 +91,10 @@ impl<A: Allocator + Copy> MetaTemplate<A> {
         edition: E,
         src: TtIter<'_, A>,
         mode: Mode,
-    ) -> Result<MetaTemplate<A>, ReadError> {
+    ) -> Result<MetaTemplate<A>, ReadError>
+        ensures ops { IfOk result (λ t. Template (E.post edition) (mode_of mode) src.entry (template_of t)) }
+        ensures fault { IfErr result (λ e. Stops e (λ f. TemplateFault (E.post edition) (mode_of mode) f src.entry)) }
+    {
         let mut src = src;
         let mut ops = Vec::new(alloc);
         'trees: while let Some(peeked) = src.peek() {
@@ -104,6 +115,8 @@ fn next_op<A: Allocator + Copy, E: Copy + Fn(SyntaxContext) -> Edition>(
     mode: Mode,
 ) -> Result<Op<A>, ReadError>
     requires { first src.old ≡ Some (element_tree peeked) }
+    ensures op { IfOk result (λ o. ReadsOp (E.post edition) (mode_of mode) src.old (op_of o) src.new) }
+    ensures fault { IfErr result (λ e. Stops e (λ f. TemplateFault (E.post edition) (mode_of mode) f src.old)) }
     ensures shorter { OnOk result (flat_len src.new < flat_len src.old) }
 {
     match peeked {
@@ -143,6 +156,8 @@ fn behind_dollar<A: Allocator + Copy>(
     src: &mut TtIter<'_, A>,
     mode: Mode,
 ) -> Result<Op<A>, ReadError>
+    ensures op { IfOk result (λ o. AtHead (grammar.behind_dollar (mode_of mode) dollar src.old) (op_of o) src.new) }
+    ensures fault { IfErr result (λ e. Stops e (λ f. grammar.behind_dollar (mode_of mode) dollar src.old ≡ Err f)) }
     ensures no_longer { flat_len src.new ≤ flat_len src.old }
 {
     match src.next() {
@@ -161,7 +176,9 @@ fn one_punct(punct: Punct) -> ArrayVec<Punct, 3> {
 }
 
 // What is wrong with a group behind a `$`.
-fn group_fault(kind: DelimiterKind, mode: Mode) -> Fault {
+fn group_fault(kind: DelimiterKind, mode: Mode) -> Fault
+    ensures { IfSome (fault_of result) (λ f. (inside rest : Forest) → grammar.group_behind_dollar (mode_of mode) kind inside rest ≡ Err f) }
+{
     match kind {
         DelimiterKind::Parenthesis => Fault::NotCarried,
         DelimiterKind::Brace => match mode {
@@ -178,6 +195,10 @@ fn leaf_behind_dollar<A: Allocator + Copy>(
     src: &mut TtIter<'_, A>,
     mode: Mode,
 ) -> Result<Op<A>, ReadError>
+    ensures op { IfOk result (λ o. (dollar : SpecPunct)
+        → AtHead (grammar.behind_dollar (mode_of mode) dollar (leaf_before (leaf_of leaf.now) src.old)) (op_of o) src.new) }
+    ensures fault { IfErr result (λ e. Stops e (λ f. (dollar : SpecPunct)
+        → grammar.behind_dollar (mode_of mode) dollar (leaf_before (leaf_of leaf.now) src.old) ≡ Err f)) }
     ensures no_longer { flat_len src.new ≤ flat_len src.old }
 {
     match leaf {
@@ -220,6 +241,8 @@ fn variable<A: Allocator>(
     src: &mut TtIter<'_, A>,
     mode: Mode,
 ) -> Result<Op<A>, ReadError>
+    ensures op { IfOk result (λ o. AtHead (grammar.variable_at (mode_of mode) name.now id src.old) (op_of o) src.new) }
+    ensures fault { IfErr result (λ e. Stops e (λ f. grammar.variable_at (mode_of mode) name.now id src.old ≡ Err f)) }
     ensures no_longer { flat_len src.new ≤ flat_len src.old }
 {
     let kind = eat_fragment_kind(src, mode)?;
@@ -230,36 +253,48 @@ fn variable<A: Allocator>(
     })
 }
 
-// In a pattern, `:` and the specifier; an unknown one is no kind. In a template a variable is its name alone.
+// In a pattern, `:` and the specifier. In a template a variable is its name alone.
 fn eat_fragment_kind<A: Allocator>(
     src: &mut TtIter<'_, A>,
     mode: Mode,
-) -> Result<Option<MetaVarKind>, ReadError>
+) -> Result<Option<MetaVarKind>, Fault>
+    ensures kind { IfOk result (λ kind. (name : Name) (span : SpecSpan)
+        → AtHead (grammar.variable_at (mode_of mode) name span src.old) (variable_op name kind span) src.new) }
+    ensures fault { IfErr result (λ e. IfSome (fault_of e) (λ f. (name : Name) (span : SpecSpan)
+        → grammar.variable_at (mode_of mode) name span src.old ≡ Err f)) }
     ensures no_longer { flat_len src.new ≤ flat_len src.old }
 {
     match mode {
         Mode::Template => Ok(None),
         Mode::Pattern => {
             let Ok(()) = src.expect_char(':') else {
-                return Err(ReadError::Fault(Fault::MissingSpecifier));
+                return Err(Fault::MissingSpecifier);
             };
             let Ok(specifier) = src.expect_ident() else {
-                return Err(ReadError::Fault(Fault::MissingSpecifier));
+                return Err(Fault::MissingSpecifier);
             };
-            match specifier.sym.as_str() {
-                "ident" => Ok(Some(MetaVarKind::Ident)),
-                "tt" => Ok(Some(MetaVarKind::Tt)),
-                "path" | "ty" | "pat" | "pat_param" | "stmt" | "block" | "meta" | "item"
-                | "vis" | "expr" | "expr_2021" | "lifetime" | "literal" => {
-                    Err(ReadError::Fault(Fault::NotCarried))
-                }
-                _ => Ok(None),
-            }
+            fragment_kind(specifier)
         }
     }
 }
 
-fn is_boolean_literal<A: Allocator>(literal: &Literal<A>) -> bool {
+// The kind that a specifier names; an unknown one is no kind.
+fn fragment_kind<A: Allocator>(specifier: &Ident<A>) -> Result<Option<MetaVarKind>, Fault>
+    ensures kind { IfOk result (IsUndated (ident_of specifier.now)) }
+    ensures fault { IfErr result (λ e. fault_of e ≡ None) }
+{
+    match specifier.sym.as_str() {
+        "ident" => Ok(Some(MetaVarKind::Ident)),
+        "tt" => Ok(Some(MetaVarKind::Tt)),
+        "path" | "ty" | "pat" | "pat_param" | "stmt" | "block" | "meta" | "item" | "vis"
+        | "expr" | "expr_2021" | "lifetime" | "literal" => Err(Fault::NotCarried),
+        _ => Ok(None),
+    }
+}
+
+fn is_boolean_literal<A: Allocator>(literal: &Literal<A>) -> bool
+    ensures { result ≡ is_truth (literal_of literal.now).text_and_suffix }
+{
     let text = literal.text_and_suffix.as_str();
     text == "true" || text == "false"
 }
