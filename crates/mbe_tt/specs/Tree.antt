@@ -258,6 +258,11 @@ trees_of none = []
 trees_of (leaf l rest) = leaf l none ∷ trees_of rest
 trees_of (group d inside rest) = group d inside none ∷ trees_of rest
 
+abbrev pub each_tree : Forest → List Tree
+each_tree none = []
+each_tree (leaf l rest) = Leaf_tree l ∷ each_tree rest
+each_tree (group d inside rest) = Group_tree d inside ∷ each_tree rest
+
 abbrev pub all_of : List Forest → Forest
 all_of [] = none
 all_of (f ∷ fs) = append f (all_of fs)
