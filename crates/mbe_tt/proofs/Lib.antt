@@ -7,3 +7,4 @@ mod Grown
 mod Unwrapped
 pub mod CutLemmas
 pub mod PlaceLemmas
+mod GlueLemmas

@@ -16,6 +16,7 @@ use std::marker::Model;
 
 // A clause sees the delimiter and the trees inside.
 #[derive(Drop)]
+#[derive_where(Debug)]
 pub struct TopSubtree<A: Allocator = Global> {
     pub(crate) entries: Vec<Entry<A>, A>,
 }

@@ -23,6 +23,7 @@ use std::marker::Model;
 
 // A clause sees the groups that are open, innermost first, each with its trees so far.
 #[derive(Drop)]
+#[derive_where(Debug)]
 pub struct TopSubtreeBuilder<A: Allocator = Global> {
     entries: Vec<Entry<A>, A>,
     // Where the innermost open group begins. Until it is closed, its opening has the place of the opening around it.

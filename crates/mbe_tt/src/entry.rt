@@ -8,7 +8,8 @@ use std::alloc::{AllocError, Allocator, Global};
 
 // A group is its opening, its content and its closing. The opening knows how many entries its content has.
 #[derive(Drop)]
-pub enum Entry<A: Allocator = Global> {
+#[derive_where(Debug)]
+pub(crate) enum Entry<A: Allocator = Global> {
     Leaf(Leaf<A>),
     Open(Subtree, usize),
     Close,

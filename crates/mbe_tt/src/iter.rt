@@ -1,12 +1,13 @@
 // An iterator over trees that stand side by side.
-ghost use Rattle.std.specs.Prelude.{◌≡◌, ◌↔◌, IsTrue, option_map, length, [], ◌∷◌, IsOk, is_ok, if◌then◌else◌, Some, None, ⊤};
+ghost use Rattle.std.specs.Prelude.{◌≡◌, ◌↔◌, IsTrue, option_map, length, [], ◌∷◌, IsOk, is_ok, is_some, OnSome, if◌then◌else◌, Some, None, ⊤};
 ghost use Rattle.std.specs.Result.{result_ok};
 ghost use Rattle.mbe_tt.specs.Tree.{Forest, none, group, tree, append, first, rest_of, front_char, front_punct, front_ident, front_group, front_leaf, front_literal, literal_leaf, any_ident, first_span, skip};
 ghost use Rattle.mbe_tt.specs.Entries.{forest_of, Spelled};
-ghost use Rattle.mbe_tt.specs.Glue.{glue, glued, is_operator};
+ghost use Rattle.mbe_tt.specs.Glue.{glue, glued, is_operator, joined_punct, third_punct};
 ghost use Rattle.mbe_tt.specs.Entry.{Open};
 ghost use Rattle.mbe_tt.specs.Shown.{entries_of, ident_of, leaf_of};
 ghost use Rattle.std.specs.List.{Contains};
+ghost use Rattle.std.specs.Iterator.{YieldsFirstBy, item_count, MakesProgress};
 ghost use Rattle.mbe_tt.specs.declared.tt.Punct.{Punct as SpecPunct};
 
 use crate::entry::Entry;
@@ -19,6 +20,7 @@ use std::marker::Model;
 
 // A clause sees the trees that are left.
 #[derive(Drop)]
+#[derive_where(Debug)]
 pub struct TtIter<'a, A: Allocator = Global> {
     pub(crate) entries: &'a [Entry<A>],
 }
@@ -39,13 +41,13 @@ impl<'a, A: Allocator> Model for TtIter<'a, A> {
 }
 
 // A place of an iterator, told by the trees that were left.
-#[derive_where(Clone, Copy)]
+#[derive_where(Clone, Copy, Debug)]
 pub struct TtIterSavepoint<'a, A: Allocator = Global> {
     left: TokenTreesView<'a, A>,
 }
 
 #[derive(Drop)]
-#[derive_where(Clone)]
+#[derive_where(Clone, Debug)]
 pub enum TtElement<'a, A: Allocator = Global> {
     Leaf(&'a Leaf<A>),
     Subtree(&'a Subtree, TtIter<'a, A>),
@@ -82,26 +84,6 @@ impl<'a, A: Allocator> TtIter<'a, A> {
     {
         TokenTreesView {
             entries: self.entries,
-        }
-    }
-
-    // Passes the next tree.
-    pub fn next(&mut self) -> Option<TtElement<'a, A>>
-        ensures value { option_map element_tree result ≡ first self.old }
-        ensures rest { self.new ≡ rest_of self.old }
-    {
-        let (first, rest) = self.entries.split_first()?;
-        match first {
-            Entry::Leaf(leaf) => {
-                self.entries = rest;
-                Some(TtElement::Leaf(leaf))
-            }
-            Entry::Open(subtree, len) => {
-                let (inside, rest) = content_and_rest(subtree, *len, rest);
-                *self = rest;
-                Some(TtElement::Subtree(subtree, inside))
-            }
-            Entry::Close => None,
         }
     }
 
@@ -269,28 +251,79 @@ impl<'a, A: Allocator> TtIter<'a, A> {
         let first = *self.expect_single_punct()?;
         let mut glued = ArrayVec::new();
         glued.push(first);
-        if first.spacing == Spacing::Alone {
-            return Ok(glued);
-        }
         let mut ahead = self.remaining().iter();
-        let Ok(second) = ahead.expect_single_punct() else {
+        let Some(second) = ahead.next_joined(first) else {
             return Ok(glued);
         };
         let mut beyond = ahead.remaining().iter();
-        if second.spacing == Spacing::Joint
-            && let Ok(third) = beyond.expect_single_punct()
-            && is_three(first.char, second.char, third.char)
-        {
-            glued.push(*second);
-            glued.push(*third);
+        if let Some(third) = beyond.next_third(first, second) {
+            glued.push(second);
+            glued.push(third);
             *self = beyond;
             return Ok(glued);
         }
         if is_two(first.char, second.char) {
-            glued.push(*second);
+            glued.push(second);
             *self = ahead;
         }
         Ok(glued)
+    }
+
+    // The punct that is joined to the one before it, passed.
+    fn next_joined(&mut self, before: Punct) -> Option<Punct>
+        ensures value { result ≡ joined_punct before.spacing self.old }
+        ensures rest { self.new ≡ (if is_some result then rest_of self.old else self.old) }
+    {
+        if before.spacing == Spacing::Alone {
+            return None;
+        }
+        self.expect_single_punct().ok().copied()
+    }
+
+    // The punct that makes an operator of three with the two before it, passed.
+    fn next_third(&mut self, first: Punct, second: Punct) -> Option<Punct>
+        ensures value { result ≡ third_punct first second self.old }
+        ensures rest { OnSome result (self.new ≡ rest_of self.old) }
+    {
+        let third = self.next_joined(second)?;
+        if is_three(first.char, second.char, third.char) {
+            Some(third)
+        } else {
+            None
+        }
+    }
+}
+
+impl<'a, A: Allocator> Iterator for TtIter<'a, A> {
+    ghost use Rattle.mbe_tt.specs.Tree.{each_tree};
+    ghost use Rattle.mbe_tt.specs.Element.{element_tree};
+
+    type Item = TtElement<'a, A>;
+
+    ghost next_gives = { YieldsFirstBy element_tree each_tree };
+
+    ghost remaining = { item_count each_tree };
+
+    /// Passes the next tree.
+    fn next(&mut self) -> Option<TtElement<'a, A>>
+        ensures value { option_map element_tree result ≡ first self.old }
+        ensures rest { self.new ≡ rest_of self.old }
+        ensures steps { YieldsFirstBy element_tree each_tree self.old result self.new }
+        ensures goes { MakesProgress (λ _. ⊤) (item_count each_tree) self.old result self.new }
+    {
+        let (first, rest) = self.entries.split_first()?;
+        match first {
+            Entry::Leaf(leaf) => {
+                self.entries = rest;
+                Some(TtElement::Leaf(leaf))
+            }
+            Entry::Open(subtree, len) => {
+                let (inside, rest) = content_and_rest(subtree, *len, rest);
+                *self = rest;
+                Some(TtElement::Subtree(subtree, inside))
+            }
+            Entry::Close => None,
+        }
     }
 }
 

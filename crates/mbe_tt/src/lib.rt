@@ -4,12 +4,12 @@
 pub mod buffer;
 pub mod builder;
 pub mod cursor;
-pub mod entry;
+mod entry;
 pub mod grammar;
 pub mod iter;
 pub mod laws;
 pub mod span;
 pub mod symbol;
-pub mod text;
+mod text;
 pub mod tt;
 pub mod view;

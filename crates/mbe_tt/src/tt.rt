@@ -3,8 +3,13 @@ ghost use Rattle.std.specs.Prelude.{◌≡◌, ◌↔◌, IsTrue};
 ghost use Rattle.mbe_tt.specs.Shown.{ident_of, literal_of, leaf_of};
 ghost use Rattle.std.specs.Cmp.{partial_equiv_from_equiv};
 
+pub use crate::buffer::TopSubtree;
+pub use crate::builder::TopSubtreeBuilder;
+pub use crate::cursor::Cursor;
+pub use crate::iter::{TtElement, TtIter, TtIterSavepoint};
 use crate::span::{DelimSpan, Span};
 use crate::symbol::Symbol;
+pub use crate::view::{SubtreeView, TokenTreesView};
 use std::alloc::{AllocError, Allocator, Global};
 
 #[derive(Clone, Copy, Debug, Default, Drop, PartialEq, Eq)]
@@ -28,6 +33,7 @@ pub enum IdentIsRaw {
 }
 
 #[derive(Drop)]
+#[derive_where(Debug)]
 pub struct Ident<A: Allocator = Global> {
     pub sym: Symbol<A>,
     pub is_raw: IdentIsRaw,
@@ -50,6 +56,7 @@ pub enum LitKind {
 }
 
 #[derive(Drop)]
+#[derive_where(Debug)]
 pub struct Literal<A: Allocator = Global> {
     pub text_and_suffix: Symbol<A>,
     pub suffix_len: u8,
@@ -58,6 +65,7 @@ pub struct Literal<A: Allocator = Global> {
 }
 
 #[derive(Drop)]
+#[derive_where(Debug)]
 pub enum Leaf<A: Allocator = Global> {
     Literal(Literal<A>),
     Punct(Punct),

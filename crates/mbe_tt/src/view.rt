@@ -11,6 +11,7 @@ use crate::tt::{DelimiterKind, Subtree};
 use std::alloc::{AllocError, Allocator, Global};
 
 // `trees` says which.
+#[derive_where(Debug)]
 pub struct TokenTreesView<'a, A: Allocator = Global> {
     pub(crate) entries: &'a [Entry<A>],
     ghost spelled: { Spelled (entries_of entries.now) } by { Spelled-prop (entries_of entries.now) },
@@ -89,7 +90,7 @@ impl<'a, A: Allocator> TokenTreesView<'a, A> {
 }
 
 // One group.
-#[derive_where(Clone, Copy)]
+#[derive_where(Clone, Copy, Debug)]
 pub struct SubtreeView<'a, A: Allocator = Global> {
     subtree: &'a Subtree,
     inside: TokenTreesView<'a, A>,
