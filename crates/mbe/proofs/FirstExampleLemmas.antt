@@ -21,9 +21,8 @@ use Rattle.mbe.specs.Op.{Op, Ops, no_ops, op}
 use Rattle.mbe_tt.specs.Grammar.{Grammar, IsLawful}
 use Rattle.mbe.specs.Template.{pattern, template, Template, nothing, token, variable, grouped, undated}
 use Rattle.mbe.specs.Definition.{ended, separated}
-use Rattle.mbe.specs.Laws.{is_2024}
 use Rattle.mbe.specs.FirstExamples.{pair_reads, pair_writes, PairExample, pair_rule, pair_argument, pair_items, CastExample, OptionalExample, twice_pattern, twice_argument, QuoteExample, RoundsExample, bx_pattern, bx_argument, TemplateExamples, DefinitionExamples, VerdictExamples, group_pattern, list_pattern, x_variable, token_of, comma, in_parentheses, a_then, comma_then, bx_items}
-use Rattle.mbe.specs.Sample.{delimiter_of, at, word}
+use Rattle.mbe.specs.Sample.{is_2024, delimiter_of, at, word}
 use Rattle.mbe.specs.declared.parser.RepeatKind.TheVariants.{ZeroOrOne, ZeroOrMore, OneOrMore}
 use Rattle.mbe_tt.specs.declared.tt.DelimiterKind.TheVariants.{Brace}
 use Rattle.mbe.specs.Expansion.{Applies, this_one}

@@ -7,6 +7,7 @@ ghost use Rattle.mbe_tt.specs.Glue.{glue, glued, is_operator, joined_punct, thir
 ghost use Rattle.mbe_tt.specs.Entry.{Open};
 ghost use Rattle.mbe_tt.specs.Shown.{entries_of, ident_of, leaf_of};
 ghost use Rattle.std.specs.List.{Contains};
+ghost use Rattle.std.specs.Iterator.{YieldsFirstBy, item_count, MakesProgress};
 ghost use Rattle.mbe_tt.specs.declared.tt.Punct.{Punct as SpecPunct};
 
 use crate::entry::Entry;
@@ -83,26 +84,6 @@ impl<'a, A: Allocator> TtIter<'a, A> {
     {
         TokenTreesView {
             entries: self.entries,
-        }
-    }
-
-    // Passes the next tree.
-    pub fn next(&mut self) -> Option<TtElement<'a, A>>
-        ensures value { option_map element_tree result ≡ first self.old }
-        ensures rest { self.new ≡ rest_of self.old }
-    {
-        let (first, rest) = self.entries.split_first()?;
-        match first {
-            Entry::Leaf(leaf) => {
-                self.entries = rest;
-                Some(TtElement::Leaf(leaf))
-            }
-            Entry::Open(subtree, len) => {
-                let (inside, rest) = content_and_rest(subtree, *len, rest);
-                *self = rest;
-                Some(TtElement::Subtree(subtree, inside))
-            }
-            Entry::Close => None,
         }
     }
 
@@ -309,6 +290,39 @@ impl<'a, A: Allocator> TtIter<'a, A> {
             Some(third)
         } else {
             None
+        }
+    }
+}
+
+impl<'a, A: Allocator> Iterator for TtIter<'a, A> {
+    ghost use Rattle.mbe_tt.specs.Tree.{each_tree};
+    ghost use Rattle.mbe_tt.specs.Element.{element_tree};
+
+    type Item = TtElement<'a, A>;
+
+    ghost next_gives = { YieldsFirstBy element_tree each_tree };
+
+    ghost remaining = { item_count each_tree };
+
+    /// Passes the next tree.
+    fn next(&mut self) -> Option<TtElement<'a, A>>
+        ensures value { option_map element_tree result ≡ first self.old }
+        ensures rest { self.new ≡ rest_of self.old }
+        ensures steps { YieldsFirstBy element_tree each_tree self.old result self.new }
+        ensures goes { MakesProgress (λ _. ⊤) (item_count each_tree) self.old result self.new }
+    {
+        let (first, rest) = self.entries.split_first()?;
+        match first {
+            Entry::Leaf(leaf) => {
+                self.entries = rest;
+                Some(TtElement::Leaf(leaf))
+            }
+            Entry::Open(subtree, len) => {
+                let (inside, rest) = content_and_rest(subtree, *len, rest);
+                *self = rest;
+                Some(TtElement::Subtree(subtree, inside))
+            }
+            Entry::Close => None,
         }
     }
 }
