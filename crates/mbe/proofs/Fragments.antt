@@ -6,7 +6,7 @@ use Rattle.std.proofs.lemmas.Bool.{eq-eqb, ne_eqb}
 use Rattle.mbe_tt.specs.Leaf.{Ident, literal, punct, ident, is_underscore}
 use Rattle.mbe_tt.specs.Tree.{Forest, none, leaf, group, append, flat_len, rest_of, skip, front_ident, front_group, front_char, Cut, cut_trees}
 use Rattle.mbe_tt.proofs.CutLemmas.{cut_trees-append}
-use Rattle.mbe_tt.specs.Tree.{first, tree, any_ident}
+use Rattle.mbe_tt.specs.Tree.{first, tree, Tree, Leaf_tree, Group_tree, any_ident}
 use Rattle.mbe_tt.specs.View.{trees}
 use Rattle.mbe_tt.specs.Glue.{glue, glued}
 use Rattle.mbe_tt.specs.declared.tt.Punct.{Punct}
@@ -112,3 +112,19 @@ no_puncts (leaf (literal k) rest) left g l = l
 no_puncts (leaf (punct p) rest) left g l = absurd (none-some _ g)
 no_puncts (leaf (ident i) rest) left g l = l
 no_puncts (group d inside rest) left g l = l
+
+-- ---- the first tree
+
+pub first_none : (f : Forest) → None ≡ first f → f ≡ none
+first_none none e = refl
+first_none (leaf l rest) e = absurd (none-some _ e)
+first_none (group d inside rest) e = absurd (none-some _ e)
+
+tree_is : (s t : Tree) (rest : Forest) → Some t ≡ Some s → tree s rest ≡ tree t rest
+tree_is s t rest e = ap (λ (x : Tree). tree x rest) (sym (same_Some t s e))
+
+-- the first tree, and those behind it
+pub first_tree : (f left : Forest) (t : Tree) → Some t ≡ first f → left ≡ rest_of f → f ≡ tree t left
+first_tree none left t e l = absurd (none-some t (sym e))
+first_tree (leaf k rest) left t e l = tree_is (Leaf_tree k) t rest e ∙ ap (tree t) (sym l)
+first_tree (group d inside rest) left t e l = tree_is (Group_tree d inside) t rest e ∙ ap (tree t) (sym l)
