@@ -119,7 +119,7 @@ rest_at-walk (group d inside rest) around (suc n) h =
     elim (within_at n (flat_len inside)) [
       | inl le ↦ rest_at-walk inside (rest ∷ around) n le ∙ sym (rest_at-in_group d inside rest n le)
       | inr e ↦ ap (λ (r : Rests). r.0) (past_group inside rest around n (n - flat_len inside - 1) e)
-        ∙ (rest_at-walk rest around (n - flat_len inside - 1) (omega arith) ∙ sym (rest_at-behind_group d inside rest n (omega arith)))
+          ∙ (rest_at-walk rest around (n - flat_len inside - 1) (omega arith) ∙ sym (rest_at-behind_group d inside rest n (omega arith)))
     ]
 
 -- as many groups are left around a place as the definition counts
