@@ -9,7 +9,7 @@ use crate::reports::Report;
 use crate::settings::Options;
 use crate::started;
 use mbe_tt::span::Edition;
-use mbe_tt::tt::{Leaf, TtElement};
+use mbe_tt::tt::{Leaf, TopSubtree, TtElement};
 use refusing::Refusing;
 use std::alloc::Global;
 use std::io;
@@ -239,6 +239,12 @@ fn words_name_files_and_an_edition(rt: HostRuntime) -> Result<(), Fail> {
     Ok(())
 }
 
+// The trees of a text that isn't long.
+fn trees(rt: &impl Abort, alloc: Global, text: &str) -> Result<TopSubtree, LexError> {
+    assert!(rt; text.len() < 1_000_000);
+    lex(alloc, text, 0)
+}
+
 #[test]
 fn texts_that_are_not_lexed(rt: HostRuntime) -> Result<(), Fail> {
     for (text, want) in [
@@ -269,7 +275,7 @@ fn texts_that_are_not_lexed(rt: HostRuntime) -> Result<(), Fail> {
         ("b'a'", 0),
         ("1u8\"a\"", 1),
     ] {
-        match lex(rt.alloc(), text, 0) {
+        match trees(&rt, rt.alloc(), text) {
             Err(LexError::Fault(offset)) => assert_eq!(rt; offset, want, "{text}"),
             _ => return Err(Fail::from("lexed")),
         }
@@ -279,8 +285,7 @@ fn texts_that_are_not_lexed(rt: HostRuntime) -> Result<(), Fail> {
 
 // What a text is lexed to, as it is printed.
 fn lexed(rt: &impl Abort, alloc: Global, text: &str) -> Result<String, Fail> {
-    assert!(rt; text.len() < 1_000_000);
-    let Ok(tree) = lex(alloc, text, 0) else {
+    let Ok(tree) = trees(rt, alloc, text) else {
         return Err(Fail::from("not lexed"));
     };
     let mut out = Vec::new(alloc);
@@ -369,8 +374,7 @@ fn assert_suffix(
     text: &str,
     suffix: &str,
 ) -> Result<(), Fail> {
-    assert!(rt; source.len() < 1_000_000);
-    let Ok(tree) = lex(alloc, source, 0) else {
+    let Ok(tree) = trees(rt, alloc, source) else {
         return Err(Fail::from("not lexed"));
     };
     let Some(TtElement::Leaf(Leaf::Literal(literal))) = tree.iter().peek() else {
@@ -409,8 +413,7 @@ fn suffix_of_at_most_255_bytes(rt: HostRuntime) -> Result<(), Fail> {
     let source = format!(in rt.alloc(); "1{longest}")?;
     assert_suffix(&rt, rt.alloc(), source.as_str(), "1", longest.as_str())?;
     let source = format!(in rt.alloc(); "( 1{longest}b )")?;
-    assert!(rt; source.len() < 1_000_000);
-    assert!(rt; lex(rt.alloc(), source.as_str(), 0).is_err_and(|e| e == LexError::Fault(3)));
+    assert!(rt; trees(&rt, rt.alloc(), source.as_str()).is_err_and(|e| e == LexError::Fault(3)));
     Ok(())
 }
 
