@@ -1,0 +1,604 @@
+// What no clause says: printed text, whole runs, and what is done where memory or a write fails.
+ghost use Rattle.std.specs.Prelude.{◌<◌};
+
+use crate::arguments::options;
+use crate::lexer::{LexError, lex};
+use crate::printing::print_tree;
+use crate::program::{Outcome, run};
+use crate::reports::Report;
+use crate::settings::Options;
+use crate::started;
+use mbe_tt::span::Edition;
+use mbe_tt::tt::{Leaf, TopSubtree, TtElement};
+use refusing::Refusing;
+use std::alloc::Global;
+use std::io;
+use std::io::Write;
+use std::process::Abort;
+use std::test::Fail;
+
+const PAIR: (&str, &str) = ("($x:ident = $t:tt;) => { pair ($t) $x }", "a = 1;");
+
+const PAIR_OUTPUT: &str = "arm 0
+SUBTREE $$ 1@0..6 1@0..6
+  IDENT   pair 0@25..29
+  SUBTREE () 0@30..31 0@33..34
+    LITERAL Integer 1 1@4..5
+  IDENT   a 1@0..1
+";
+
+const STRUCT: (&str, &str) = (
+    "\n( struct $ident:ident ) => {\n    struct $ident {\n        map: ::std::collections::HashSet<()>,\n    }\n};\n",
+    "\nstruct MyTraitMap2\n",
+);
+
+const STRUCT_OUTPUT: &str = "arm 0
+SUBTREE $$ 1@0..20 1@0..20
+  IDENT   struct 0@34..40
+  IDENT   MyTraitMap2 1@8..19
+  SUBTREE {} 0@48..49 0@100..101
+    IDENT   map 0@58..61
+    PUNCH   : [alone] 0@61..62
+    PUNCH   : [joint] 0@63..64
+    PUNCH   : [alone] 0@64..65
+    IDENT   std 0@65..68
+    PUNCH   : [joint] 0@68..69
+    PUNCH   : [alone] 0@69..70
+    IDENT   collections 0@70..81
+    PUNCH   : [joint] 0@81..82
+    PUNCH   : [alone] 0@82..83
+    IDENT   HashSet 0@83..90
+    PUNCH   < [alone] 0@90..91
+    SUBTREE () 0@91..92 0@92..93
+    PUNCH   > [joint] 0@93..94
+    PUNCH   , [alone] 0@94..95
+";
+
+// What a run writes, and its status.
+fn ran(rt: &impl Abort, alloc: Global, def: &str, arg: &str) -> Result<(String, u8), Fail> {
+    assert!(rt; def.len() < 1_000_000 && arg.len() < 1_000_000);
+    let mut out = Vec::new(alloc);
+    let outcome = run(alloc, def, arg, Edition::Edition2024, &mut out);
+    Ok((String::from_utf8(out)?, outcome.status()))
+}
+
+fn assert_expands(
+    rt: &impl Abort,
+    alloc: Global,
+    texts: (&str, &str),
+    want: &str,
+) -> Result<(), Fail> {
+    let (def, arg) = texts;
+    let (output, status) = ran(rt, alloc, def, arg)?;
+    assert_eq!(rt; output.as_str(), want, "{def} on {arg}");
+    assert_eq!(rt; status, 0, "{def} on {arg}");
+    Ok(())
+}
+
+#[test]
+fn first_run(rt: HostRuntime) -> Result<(), Fail> {
+    assert_expands(&rt, rt.alloc(), PAIR, PAIR_OUTPUT)
+}
+
+#[test]
+fn struct_with_a_map(rt: HostRuntime) -> Result<(), Fail> {
+    assert_expands(&rt, rt.alloc(), STRUCT, STRUCT_OUTPUT)
+}
+
+#[test]
+fn open_groups_end_with_the_text(rt: HostRuntime) -> Result<(), Fail> {
+    let want = "arm 0\nSUBTREE $$ 1@0..0 1@0..0\n  SUBTREE {} 0@9..10 0@11..12\n";
+    assert_expands(&rt, rt.alloc(), ("\n() => { { }\n", ""), want)
+}
+
+#[test]
+fn leaves_fit_by_their_texts(rt: HostRuntime) -> Result<(), Fail> {
+    let string = "arm 0\nSUBTREE $$ 1@0..3 1@0..3\n";
+    assert_expands(&rt, rt.alloc(), ("(1) => {}", "\"1\""), string)?;
+    let raw = "arm 0\nSUBTREE $$ 1@0..5 1@0..5\n";
+    assert_expands(&rt, rt.alloc(), ("(foo) => {}", "r#foo"), raw)
+}
+
+#[test]
+fn unbound_names_are_written_back(rt: HostRuntime) -> Result<(), Fail> {
+    let want = "arm 0\nSUBTREE $$ 1@0..0 1@0..0\n  PUNCH   $ [alone] 0@8..9\n  IDENT   y 0@8..9\n";
+    assert_expands(&rt, rt.alloc(), ("() => {$y}", ""), want)
+}
+
+#[test]
+fn last_binding_wins(rt: HostRuntime) -> Result<(), Fail> {
+    let want = "arm 0\nSUBTREE $$ 1@0..3 1@0..3\n  IDENT   b 1@2..3\n";
+    assert_expands(
+        &rt,
+        rt.alloc(),
+        ("($x:ident $x:ident) => {$x}", "a b"),
+        want,
+    )
+}
+
+#[test]
+fn last_punct_of_a_fragment_is_alone(rt: HostRuntime) -> Result<(), Fail> {
+    let want = "arm 0
+SUBTREE $$ 1@0..2 1@0..2
+  PUNCH   ; [alone] 1@0..1
+  PUNCH   + [alone] 1@1..2
+";
+    assert_expands(&rt, rt.alloc(), ("($a:tt $b:tt) => {$a $b}", ";+"), want)
+}
+
+#[test]
+fn variable_of_unknown_kind_never_fits(rt: HostRuntime) -> Result<(), Fail> {
+    let want = "arm 1\nSUBTREE $$ 1@0..1 1@0..1\n";
+    assert_expands(&rt, rt.alloc(), ("($x:foo) => {}; (a) => {}", "a"), want)
+}
+
+#[test]
+fn no_rule_fits(rt: HostRuntime) -> Result<(), Fail> {
+    let (output, status) = ran(&rt, rt.alloc(), "(a) => {b}", "c")?;
+    assert_eq!(rt;
+        output.as_str(),
+        "error: no rule matches input tokens at 1@0..1\narm none\nSUBTREE $$ 1@0..1 1@0..1\n"
+    );
+    assert_eq!(rt; status, 1);
+    Ok(())
+}
+
+const NAMES: Options<'static> = Options {
+    def: "the.def",
+    arg: "the.arg",
+    edition: Edition::Edition2024,
+};
+
+// Whether the line on standard error is that.
+fn assert_says(
+    rt: &impl Abort,
+    alloc: Global,
+    report: Option<Report<'_, Global>>,
+    want: &str,
+) -> Result<(), Fail> {
+    let Some(report) = report else {
+        assert_eq!(rt; want, "");
+        return Ok(());
+    };
+    let line = format!(in alloc; "{report}")?;
+    assert_eq!(rt; line.as_str(), want);
+    Ok(())
+}
+
+#[test]
+fn failures_have_a_status_and_a_line(rt: HostRuntime) -> Result<(), Fail> {
+    for (def, arg, status, line) in [
+        ("() => {}", "", 0, ""),
+        ("(a) => {}", "", 1, ""),
+        ("() => {} x", "", 2, "definition refused: expected `;`"),
+        (
+            "($x:ident) =>",
+            "",
+            2,
+            "definition refused: expected subtree",
+        ),
+        ("() => {} x", "'", 4, "cannot lex the.arg at 0"),
+        ("(a ` b) => {}", "'", 4, "cannot lex the.def at 3"),
+        ("", "é \"", 4, "cannot lex the.arg at 3"),
+    ] {
+        let mut out = Vec::new(rt.alloc());
+        let outcome = run(rt.alloc(), def, arg, Edition::Edition2024, &mut out);
+        assert_eq!(rt; outcome.status(), status, "{def} on {arg}");
+        assert_eq!(rt; out.is_empty(), status > 1, "{def} on {arg}");
+        assert_says(&rt, rt.alloc(), outcome.report(&NAMES), line)?;
+    }
+    Ok(())
+}
+
+#[test]
+fn other_failures_have_a_line(rt: HostRuntime) -> Result<(), Fail> {
+    let usage = "usage: mbex [--lint] DEF-FILE ARG-FILE [EDITION]";
+    assert_says(&rt, rt.alloc(), Some(Report::Usage), usage)?;
+    assert_eq!(rt; Report::<Global>::Usage.status(), 3);
+    assert_says(
+        &rt,
+        rt.alloc(),
+        Some(Report::CannotRead("a.b")),
+        "cannot read a.b",
+    )?;
+    assert_eq!(rt; Report::<Global>::CannotRead("a.b").status(), 3);
+    let unwritten = Outcome::<Global>::CannotWrite;
+    assert_eq!(rt; unwritten.status(), 3);
+    assert_says(&rt, rt.alloc(), unwritten.report(&NAMES), "cannot write")?;
+    let wanting = Outcome::<Global>::OutOfMemory;
+    assert_eq!(rt; wanting.status(), 5);
+    assert_says(&rt, rt.alloc(), wanting.report(&NAMES), "out of memory")
+}
+
+#[test]
+fn words_name_files_and_an_edition(rt: HostRuntime) -> Result<(), Fail> {
+    for (text, want) in [
+        ("", None),
+        ("d", None),
+        ("d a", Some(Edition::Edition2024)),
+        ("d a 2015", Some(Edition::Edition2015)),
+        ("d a 2018", Some(Edition::Edition2018)),
+        ("d a 2021", Some(Edition::Edition2021)),
+        ("d a 2024", Some(Edition::Edition2024)),
+        ("d a 2022", None),
+        ("d a 2018 x", None),
+        ("--lint d a", None),
+        ("--lint a", None),
+    ] {
+        let mut words = Vec::new(rt.alloc());
+        for word in text.split_whitespace() {
+            words.push(String::from_str(rt.alloc(), word)?)?;
+        }
+        let want = want.map(|edition| Options {
+            def: "d",
+            arg: "a",
+            edition,
+        });
+        assert!(rt; options(words.as_slice()) == want, "{text}");
+    }
+    Ok(())
+}
+
+// The trees of a text that isn't long.
+fn trees(rt: &impl Abort, alloc: Global, text: &str) -> Result<TopSubtree, LexError> {
+    assert!(rt; text.len() < 1_000_000);
+    lex(alloc, text, 0)
+}
+
+#[test]
+fn texts_that_are_not_lexed(rt: HostRuntime) -> Result<(), Fail> {
+    for (text, want) in [
+        ("\"abc", 0),
+        ("a \"b\\\"", 2),
+        ("a /* /* */", 2),
+        ("/*/", 0),
+        (")", 0),
+        ("(]", 1),
+        ("{ ( }", 4),
+        ("a `", 2),
+        ("é }", 3),
+        ("a\u{a0}b", 1),
+        ("'a'", 0),
+        ("a 'b", 2),
+        ("1.0", 0),
+        ("x 1.", 2),
+        ("x 1.0.0", 2),
+        ("1e5", 0),
+        ("(2E+3)", 1),
+        ("1_e-3f32", 0),
+        ("a\"b\"", 0),
+        ("x r#a\"b\"", 2),
+        ("1 r\"a\"", 2),
+        ("r#\"a\"#", 0),
+        ("x br##\"a\"##", 2),
+        ("cr#\"", 0),
+        ("b'a'", 0),
+        ("1u8\"a\"", 1),
+    ] {
+        match trees(&rt, rt.alloc(), text) {
+            Err(LexError::Fault(offset)) => assert_eq!(rt; offset, want, "{text}"),
+            _ => return Err(Fail::from("lexed")),
+        }
+    }
+    Ok(())
+}
+
+// What a text is lexed to, as it is printed.
+fn lexed(rt: &impl Abort, alloc: Global, text: &str) -> Result<String, Fail> {
+    let Ok(tree) = trees(rt, alloc, text) else {
+        return Err(Fail::from("not lexed"));
+    };
+    let mut out = Vec::new(alloc);
+    print_tree(&tree, &mut out)?;
+    Ok(String::from_utf8(out)?)
+}
+
+#[test]
+fn tokens_of_each_kind(rt: HostRuntime) -> Result<(), Fail> {
+    for (text, want) in [
+        (
+            "1..2",
+            "SUBTREE $$ 0@0..4 0@0..4
+  LITERAL Integer 1 0@0..1
+  PUNCH   . [joint] 0@1..2
+  PUNCH   . [alone] 0@2..3
+  LITERAL Integer 2 0@3..4
+",
+        ),
+        (
+            "0xFFu8 0b12 1.f \"a\"b2",
+            "SUBTREE $$ 0@0..21 0@0..21
+  LITERAL Integer 0xFFu8 0@0..6
+  LITERAL Integer 0b12 0@7..11
+  LITERAL Integer 1 0@12..13
+  PUNCH   . [alone] 0@13..14
+  IDENT   f 0@14..15
+  LITERAL Str ab2 0@16..21
+",
+        ),
+        (
+            "+/**/+//a\n-- =",
+            "SUBTREE $$ 0@0..14 0@0..14
+  PUNCH   + [alone] 0@0..1
+  PUNCH   + [alone] 0@5..6
+  PUNCH   - [joint] 0@10..11
+  PUNCH   - [alone] 0@11..12
+  PUNCH   = [alone] 0@13..14
+",
+        ),
+        (
+            "r#é r#1 _a1",
+            "SUBTREE $$ 0@0..12 0@0..12
+  IDENT   r#é 0@0..4
+  IDENT   r 0@5..6
+  PUNCH   # [alone] 0@6..7
+  LITERAL Integer 1 0@7..8
+  IDENT   _a1 0@9..12
+",
+        ),
+        (
+            "\"a\\\"\\\\\" [ ( {",
+            "SUBTREE $$ 0@0..13 0@0..13
+  LITERAL Str a\\\"\\\\ 0@0..7
+  SUBTREE [] 0@8..9 0@13..13
+    SUBTREE () 0@10..11 0@13..13
+      SUBTREE {} 0@12..13 0@13..13
+",
+        ),
+    ] {
+        let output = lexed(&rt, rt.alloc(), text)?;
+        assert_eq!(rt; output.as_str(), want, "{text}");
+    }
+    Ok(())
+}
+
+#[test]
+fn each_punct_is_one(rt: HostRuntime) -> Result<(), Fail> {
+    let text = "=<>!&|~@.,;:#$?+-*/%^";
+    let mut want = String::from_str(rt.alloc(), "SUBTREE $$ 0@0..21 0@0..21\n")?;
+    for (start, char) in text.chars().enumerate() {
+        let spacing = if char == '^' { "alone" } else { "joint" };
+        let end = start.saturating_add(1);
+        write!(want, "  PUNCH   {char} [{spacing}] 0@{start}..{end}\n")?;
+    }
+    let output = lexed(&rt, rt.alloc(), text)?;
+    assert_eq!(rt; output.as_str(), want.as_str());
+    Ok(())
+}
+
+// The text and the suffix of the literal that a text begins with.
+fn assert_suffix(
+    rt: &impl Abort,
+    alloc: Global,
+    source: &str,
+    text: &str,
+    suffix: &str,
+) -> Result<(), Fail> {
+    let Ok(tree) = trees(rt, alloc, source) else {
+        return Err(Fail::from("not lexed"));
+    };
+    let Some(TtElement::Leaf(Leaf::Literal(literal))) = tree.iter().peek() else {
+        return Err(Fail::from("no literal"));
+    };
+    let (front, back) = literal.text_and_suffix();
+    assert_eq!(rt; front, text, "{source}");
+    assert_eq!(rt; back, suffix, "{source}");
+    Ok(())
+}
+
+#[test]
+fn suffixes_of_literals(rt: HostRuntime) -> Result<(), Fail> {
+    for (source, text, suffix) in [
+        ("12", "12", ""),
+        ("0xfu8", "0xf", "u8"),
+        ("0x", "0x", ""),
+        ("0xg", "0x", "g"),
+        ("0o78i", "0o78", "i"),
+        ("0b1e3", "0b1", "e3"),
+        ("1_é", "1_", "é"),
+        ("1e", "1", "e"),
+        ("1e+x", "1", "e"),
+        ("1E_5", "1", "E_5"),
+        ("\"a\"_b c", "a", "_b"),
+        ("\"a\" b", "a", ""),
+    ] {
+        assert_suffix(&rt, rt.alloc(), source, text, suffix)?;
+    }
+    Ok(())
+}
+
+#[test]
+fn suffix_of_at_most_255_bytes(rt: HostRuntime) -> Result<(), Fail> {
+    let longest = "a".repeat(rt.alloc(), 255)?;
+    let source = format!(in rt.alloc(); "1{longest}")?;
+    assert_suffix(&rt, rt.alloc(), source.as_str(), "1", longest.as_str())?;
+    let source = format!(in rt.alloc(); "( 1{longest}b )")?;
+    assert!(rt; trees(&rt, rt.alloc(), source.as_str()).is_err_and(|e| e == LexError::Fault(3)));
+    Ok(())
+}
+
+#[test]
+fn files_that_cannot_be_read(rt: HostRuntime) -> Result<(), Fail> {
+    // The running program's own file isn't UTF-8.
+    for (def, arg, status) in [
+        ("/no/such/file", "/dev/null", 3),
+        ("/dev/null", "/no/such/file", 3),
+        ("/proc/self/exe", "/dev/null", 3),
+        ("/dev/null", "/dev/null", 1),
+        ("--lint", "/dev/null", 3),
+    ] {
+        let mut words = Vec::new(rt.alloc());
+        words.push(String::from_str(rt.alloc(), def)?)?;
+        words.push(String::from_str(rt.alloc(), arg)?)?;
+        assert_eq!(rt; started(&rt, words.as_slice()), status, "{def} {arg}");
+    }
+    Ok(())
+}
+
+#[test]
+fn a_refused_request_is_want_of_memory(rt: HostRuntime) -> Result<(), Fail> {
+    let (def, arg) = PAIR;
+    for number in 1..10_000u64 {
+        let alloc = Refusing::new(rt.alloc(), number);
+        let mut out = Vec::new(rt.alloc());
+        let outcome = run(&alloc, def, arg, Edition::Edition2024, &mut out);
+        if !alloc.has_refused() {
+            assert_eq!(rt; outcome.status(), 0);
+            assert!(rt; out.as_slice() == PAIR_OUTPUT.as_bytes());
+            assert!(rt; number > 20, "only {number} requests");
+            return Ok(());
+        }
+        assert_eq!(rt; outcome.status(), 5, "at {number}");
+        assert!(rt; out.is_empty(), "at {number}");
+    }
+    Err(Fail::from("it goes on"))
+}
+
+/// Fails at one write, counted from 1.
+#[derive(Drop)]
+struct Failing {
+    written: Vec<u8>,
+    left: u64,
+}
+
+impl Failing {
+    fn turn(&mut self) -> io::Result<()> {
+        self.left = self.left.saturating_sub(1);
+        if self.left == 0 {
+            return Err(io::Error::from(io::ErrorKind::BrokenPipe));
+        }
+        Ok(())
+    }
+}
+
+impl Write for Failing {
+    fn write(&mut self, buf: &[u8]) -> io::Result<usize> {
+        self.turn()?;
+        self.written.extend_from_slice(buf)?;
+        Ok(buf.len())
+    }
+
+    fn flush(&mut self) -> io::Result<()> {
+        self.turn()
+    }
+}
+
+#[test]
+fn a_failed_write_is_told(rt: HostRuntime) -> Result<(), Fail> {
+    let (def, arg) = PAIR;
+    for number in 1..10_000u64 {
+        let mut out = Failing {
+            written: Vec::new(rt.alloc()),
+            left: number,
+        };
+        let outcome = run(rt.alloc(), def, arg, Edition::Edition2024, &mut out);
+        let written = out.written.as_slice();
+        if out.left > 0 {
+            assert_eq!(rt; outcome.status(), 0);
+            assert!(rt; written == PAIR_OUTPUT.as_bytes());
+            assert!(rt; number > 20, "only {number} writes");
+            return Ok(());
+        }
+        assert_eq!(rt; outcome.status(), 3, "at {number}");
+        assert!(rt; PAIR_OUTPUT.as_bytes().starts_with(written), "at {number}");
+    }
+    Err(Fail::from("it goes on"))
+}
+
+// Whether a run of any texts ends as runs do.
+fn assert_ends(rt: &impl Abort, alloc: Global, def: &str, arg: &str) -> Result<(), Fail> {
+    assert!(rt; def.len() < 1_000_000 && arg.len() < 1_000_000);
+    let mut out = Vec::new(alloc);
+    let outcome = run(alloc, def, arg, Edition::Edition2024, &mut out);
+    let written = out.as_slice();
+    match outcome {
+        Outcome::Expanded => assert!(rt; written.starts_with(b"arm "), "{def:?} on {arg:?}"),
+        Outcome::Faulted => assert!(rt; written.starts_with(b"error: "), "{def:?} on {arg:?}"),
+        Outcome::Refused(_) => assert!(rt; written.is_empty(), "{def:?} on {arg:?}"),
+        Outcome::CannotLex { file, offset } => {
+            let text = if file == 0 { def } else { arg };
+            assert!(rt;
+                text.is_char_boundary(offset as usize),
+                "{def:?} on {arg:?}"
+            );
+            assert!(rt; written.is_empty(), "{def:?} on {arg:?}");
+        }
+        Outcome::CannotWrite | Outcome::OutOfMemory => {
+            assert!(rt; false, "{def:?} on {arg:?}");
+        }
+    }
+    Ok(())
+}
+
+#[test]
+fn every_front_of_a_text_ends(rt: HostRuntime) -> Result<(), Fail> {
+    for (def, arg) in [
+        PAIR,
+        STRUCT,
+        ("(é \"a\\\"b\"s) => {r#c /* d */}", "é \"a\\\"b\"s"),
+    ] {
+        for end in 0..=def.len() {
+            if let Some(front) = def.get(..end) {
+                assert_ends(&rt, rt.alloc(), front, arg)?;
+            }
+        }
+        for end in 0..=arg.len() {
+            if let Some(front) = arg.get(..end) {
+                assert_ends(&rt, rt.alloc(), def, front)?;
+            }
+        }
+    }
+    Ok(())
+}
+
+const PIECES: [&str; 32] = [
+    "(", ")", "[", "]", "{", "}", "$", "$x:ident", "$t:tt", "$x", "$t", ":", "=>", ";", ",", "x",
+    "r#x", "crate", "_", "1", "1.0", "0x", "\"", "'", "\\", "//", "/*", "*/", "\n", " ", "é",
+    "\u{0}",
+];
+
+/// Numbers that look random, from a seed.
+#[derive(Drop)]
+struct Numbers(u64);
+
+impl Numbers {
+    fn below(&mut self, bound: u64) -> u64
+        requires { 0 < bound }
+        ensures { result < bound }
+    {
+        self.0 = self
+            .0
+            .wrapping_mul(6_364_136_223_846_793_005)
+            .wrapping_add(1_442_695_040_888_963_407);
+        (self.0 >> 33) % bound
+    }
+
+    // Up to eleven pieces or characters.
+    fn text(&mut self, alloc: Global, is_of_pieces: bool) -> Result<String, Fail> {
+        let mut text = String::new(alloc);
+        for _ in 0..self.below(12) {
+            if is_of_pieces {
+                text.push_str(PIECES[self.below(32) as usize])?;
+            } else if let Some(char) = char::from_u32(self.below(0x11_0000) as u32) {
+                text.push(char)?;
+            }
+        }
+        Ok(text)
+    }
+}
+
+#[test]
+fn random_texts_end(rt: HostRuntime) -> Result<(), Fail> {
+    let mut numbers = Numbers(1);
+    for number in 0..3_000u64 {
+        let is_of_pieces = number % 4 != 0;
+        let def = numbers.text(rt.alloc(), is_of_pieces)?;
+        let arg = numbers.text(rt.alloc(), is_of_pieces)?;
+        assert_ends(&rt, rt.alloc(), def.as_str(), arg.as_str())?;
+        let template = numbers.text(rt.alloc(), is_of_pieces)?;
+        let rule = format!(in rt.alloc(); "({def}) => {{{template}}}")?;
+        assert_ends(&rt, rt.alloc(), rule.as_str(), arg.as_str())?;
+        assert_ends(&rt, rt.alloc(), rule.as_str(), def.as_str())?;
+    }
+    Ok(())
+}

@@ -1,0 +1,51 @@
+#!/bin/sh
+# Runs the built program for each exit status that files and words can give, and compares the status and the line on
+# standard error. Build it first, then run this from the top of the repository:
+#
+#     (cd crates/mbex && rt run -- data/first.def data/first.arg)
+#     sh tools/check-statuses.sh
+set -u
+program=$PWD/crates/mbex/out/mbex
+folder=$(mktemp -d)
+trap 'rm -r "$folder"' EXIT
+cd "$folder" || exit 1
+failed=0
+
+# check STATUS LINE WORD..: the program with these words ends with that status and says that line.
+check() {
+    status=$1
+    line=$2
+    shift 2
+    said=$("$program" "$@" 2>&1 >out)
+    got=$?
+    if [ "$got" != "$status" ] || [ "$said" != "$line" ]; then
+        echo "mbex $*: status $got, wanted $status; says '$said', wanted '$line'"
+        failed=1
+    fi
+}
+
+usage='usage: mbex [--lint] DEF-FILE ARG-FILE [EDITION]'
+printf '($x:ident) => {$x}' >good.def
+printf 'a' >good.arg
+printf '1' >other.arg
+printf '() => {} x' >refused.def
+printf 'a "b' >open.arg
+printf 'a\377' >latin.arg
+
+check 0 '' good.def good.arg
+check 0 '' good.def good.arg 2015
+check 1 '' good.def other.arg
+check 2 'definition refused: expected `;`' refused.def good.arg
+check 3 "$usage"
+check 3 "$usage" good.def
+check 3 "$usage" good.def good.arg 2022
+check 3 "$usage" good.def good.arg 2024 more
+check 3 "$usage" --lint good.def good.arg
+check 3 "$usage" --lint good.arg
+check 3 'cannot read missing' missing good.arg
+check 3 'cannot read missing' good.def missing
+check 3 'cannot read latin.arg' good.def latin.arg
+check 3 'cannot read latin.arg' latin.arg open.arg
+check 4 'cannot lex open.arg at 2' good.def open.arg
+check 4 'cannot lex open.arg at 2' refused.def open.arg
+exit $failed
