@@ -1,7 +1,7 @@
 -- What the grammar of definitions says of definitions with a fault.
-use Rattle.std.specs.Prelude.{None, Some, [], refl}
+use Rattle.std.specs.Prelude.{None, [], refl}
 use Rattle.mbe_tt.specs.Tree.{none}
-use Rattle.mbe.specs.Template.{nothing, token, variable, here}
+use Rattle.mbe.specs.Template.{nothing, token, here}
 use Rattle.mbe.specs.Definition.{ended, no_rule, faulty_rule, unseparated, separated, in_pattern, in_template, faulty}
 use Rattle.mbe.specs.FurtherExamples.{FaultExamples}
 

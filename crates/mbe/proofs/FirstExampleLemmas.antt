@@ -1,18 +1,17 @@
 -- What the definitions say of small definitions and arguments.
 use Rattle.std.specs.Prelude.{nat_le, not, ◌&&◌, ◌==◌, if◌then◌else◌, codes, ◌≡◌, ◌≢◌, ◌⊎◌, Bool, true, false, [], ◌∷◌, Option, Some, None, refl}
-use Rattle.std.proofs.Common.{arith, ap, sym, ◌∙◌, subst}
+use Rattle.std.proofs.Common.{arith, ap, sym, ◌∙◌}
 use Rattle.std.specs.Fmt.{digits}
 use Rattle.std.proofs.Math.Bool.{false≢true}
-use Rattle.mbe_tt.specs.Tree.{Forest, none, group, cut_flat, flat_len}
+use Rattle.mbe_tt.specs.Tree.{none, group, cut_flat, flat_len}
 use Rattle.mbe.specs.Op as ops
 use Rattle.mbe.specs.declared.parser.MetaVarKind.TheVariants.{Vis}
-use Rattle.mbe.specs.Item.{Fragment, Item, matched, bound, grouped, skipped, rounds, Items, no_items, item, no_rounds}
+use Rattle.mbe.specs.Item.{Fragment, Item, matched, grouped, skipped, rounds, Items, no_items, item, no_rounds}
 use Rattle.mbe.specs.Input.{fragment_of}
 use Rattle.mbe.specs.Reading.{within, Beginning, dot}
 use Rattle.mbe.specs.Steps.{tree}
 use Rattle.mbe.specs.Ambiguity.{IsReading, IsAmbiguousAt, Fits}
-use Rattle.mbe.specs.Verdict.{Verdict, IsVerdict, one_reading, many_readings, ambiguous}
-use Rattle.mbe.specs.Nullable.{Checked}
+use Rattle.mbe.specs.Verdict.{IsVerdict, one_reading, many_readings, ambiguous}
 use Rattle.mbe.specs.Run.{run, verdict}
 use Rattle.mbe.proofs.PlainLemmas as plain
 use Rattle.mbe.proofs.WordLemmas.{words_never_ambiguous}

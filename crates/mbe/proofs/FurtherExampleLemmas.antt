@@ -1,12 +1,10 @@
 -- More expansions, whole: signs, invisible groups, names that stand twice, and the closest of two rules that fault.
-use Rattle.std.specs.Prelude.{◌≡◌, ◌⊎◌, ◌-◌, ◌^◌, ℕ, zero, suc, min, List, [], ◌∷◌, codes, Some, None, refl}
+use Rattle.std.specs.Prelude.{◌≡◌, ◌⊎◌, ◌-◌, ◌^◌, ℕ, zero, suc, min, List, [], ◌∷◌, codes, None, refl}
 use Rattle.std.proofs.Common.{arith, ap, sym, ◌∙◌, subst}
-use Rattle.std.proofs.Math.Bool.{false≢true}
 use Rattle.std.proofs.lemmas.Option.{none-some, same_Some}
 use Rattle.mbe_tt.specs.Tree.{Forest, none}
 use Rattle.mbe_tt.specs.Grammar.{Grammar, IsLawful}
 use Rattle.mbe.specs.declared.macro_call_style.MacroCallStyle.TheVariants.{FnLike}
-use Rattle.mbe.specs.Op.{Ops}
 use Rattle.mbe.specs.Template.{nothing, token, variable, repeated, undated}
 use Rattle.mbe.specs.Definition.{Rule, ended, separated}
 use Rattle.mbe.specs.Item as items
@@ -23,7 +21,6 @@ use Rattle.mbe.specs.Sample.{taken, text_at, number_at, alone_at}
 use Rattle.mbe.specs.FurtherExamples.{SignExample, one_rule, two_rule, three_rule, any_literal_rule, signed_argument, spaced_argument, PlusExample, plus_rule, star_argument, InvisibleExample, tree_rule, ident_rule, hidden_rule, hidden_a, NamesExample, one_then_list, list_then_one, two_lists, a_at, MostBindingsExample, one_binding, two_bindings, pq_argument}
 use Rattle.mbe.proofs.RuleLemmas.{by_run, fits_once, applies_once, applies_by_run}
 use Rattle.mbe.proofs.RunLemmas.{one_verdict}
-use Rattle.mbe.proofs.PlainLemmas.{one_reading}
 
 -- ---- a literal and its sign
 

@@ -1,6 +1,6 @@
 -- More expansions, and definitions with a fault.
-use Rattle.std.specs.Prelude.{◌≡◌, ℕ, ◌+◌, List, [], ◌∷◌, codes, length, Option, Some, None}
-use Rattle.mbe_tt.specs.declared.tt.DelimiterKind.TheVariants.{Parenthesis, Brace, Bracket, Invisible}
+use Rattle.std.specs.Prelude.{ℕ, ◌+◌, List, [], ◌∷◌, codes, length, Some, None}
+use Rattle.mbe_tt.specs.declared.tt.DelimiterKind.TheVariants.{Bracket, Invisible}
 use Rattle.mbe_tt.specs.declared.tt.LitKind.{LitKind}
 use Rattle.mbe_tt.specs.declared.tt.LitKind.TheVariants.{Integer, Float, Str}
 use Rattle.mbe_tt.specs.declared.tt.Spacing.TheVariants.{Alone, Joint}
