@@ -1,6 +1,6 @@
 -- A beginning of a reading ends in the argument.
 use Rattle.std.specs.Prelude.{◌≡◌, ◌≤◌, ◌<◌, ◌+◌, ℕ, zero, suc, true, Option, Some, None, List, [], ◌∷◌, refl}
-use Rattle.std.proofs.Common.{arith, subst, sym}
+use Rattle.std.proofs.Common.{arith}
 use Rattle.mbe.specs.declared.parser.MetaVarKind.{MetaVarKind}
 use Rattle.mbe.specs.declared.parser.RepeatKind.{RepeatKind}
 use Rattle.mbe_tt.specs.declared.tt.DelimiterKind.{DelimiterKind}

@@ -1,5 +1,5 @@
 -- How trees are read as a pattern or a template, and their first fault (as rust-analyzer reads them).
-use Rattle.std.specs.Prelude.{◌≡◌, ℕ, not, ◌&&◌, ◌||◌, ◌==◌, nat_le, if◌then◌else◌, List, [], ◌∷◌, length, codes, Option, Some, None, option_map, option_and_then, Result, Ok, Err, IsTrue, IsFalse}
+use Rattle.std.specs.Prelude.{◌≡◌, ℕ, not, ◌&&◌, ◌==◌, nat_le, if◌then◌else◌, List, [], ◌∷◌, length, codes, Option, Some, None, option_map, option_and_then, Result, Ok, Err, IsTrue, IsFalse}
 use Rattle.mbe_tt.specs.Leaf.{is_text, is_underscore}
 use Rattle.mbe_tt.specs.Editions.{at_least_2021, at_least_2024}
 use Rattle.mbe_tt.specs.declared.span.Span.{Span}
