@@ -52,6 +52,12 @@ abbrev pub applies_once : (g : Grammar) (style : MacroCallStyle) (argument : For
     Applies g style argument r
 applies_once g style argument r is s h d f = record { styled = s; items = is; fits = fits_once g r.reads argument is h d; faultless = f }
 
+-- the same, where a run says that there is one reading
+abbrev pub applies_by_run : (g : Grammar) (style : MacroCallStyle) (argument : Forest) (r : Rule) (is : Items) → IsLawful g → Checked r.reads → r.style ≡ style →
+    verdict g r.reads argument ≡ verdicts.one_reading → IsReading g r.reads argument is → IsFalse (faults (environment_of is) [] r.writes) →
+    Applies g style argument r
+applies_by_run g style argument r is w c s e d f = record { styled = s; items = is; fits = fits_by_run g r.reads argument is w c e d; faultless = f }
+
 -- a rule whose only reading faults doesn't apply
 pub faulty_once : (g : Grammar) (style : MacroCallStyle) (argument : Forest) (r : Rule) (is : Items) → IsTrue (has_no_repetition r.reads) →
     IsReading g r.reads argument is → (IsFalse (faults (environment_of is) [] r.writes) → ⊥) → Applies g style argument r → ⊥

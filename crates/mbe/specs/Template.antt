@@ -1,5 +1,5 @@
 -- How trees are read as a pattern or a template, and their first fault (as rust-analyzer reads them).
-use Rattle.std.specs.Prelude.{◌≡◌, ℕ, not, ◌&&◌, ◌||◌, ◌==◌, nat_le, if◌then◌else◌, List, [], ◌∷◌, length, codes, Option, Some, None, option_map, option_and_then, Result, Ok, Err, IsTrue, IsFalse}
+use Rattle.std.specs.Prelude.{◌≡◌, ℕ, not, ◌&&◌, ◌==◌, nat_le, if◌then◌else◌, List, [], ◌∷◌, length, codes, Option, Some, None, option_map, option_and_then, Result, Ok, Err, IsTrue, IsFalse}
 use Rattle.mbe_tt.specs.Leaf.{is_text, is_underscore}
 use Rattle.mbe_tt.specs.Editions.{at_least_2021, at_least_2024}
 use Rattle.mbe_tt.specs.declared.span.Span.{Span}
@@ -16,7 +16,7 @@ use Rattle.mbe_tt.specs.declared.tt.Punct.{Punct}
 use Rattle.mbe_tt.specs.declared.tt.Delimiter.{Delimiter}
 use Rattle.mbe_tt.specs.declared.tt.DelimiterKind.{DelimiterKind}
 use Rattle.mbe_tt.specs.declared.tt.DelimiterKind.TheVariants as delimiters
-use Rattle.mbe_tt.specs.Tree.{Forest, none, leaf, group, cut_trees}
+use Rattle.mbe_tt.specs.Tree.{Forest, none, leaf, group, cut_trees, is_truth}
 use Rattle.mbe_tt.specs.Glue.{glue}
 use Rattle.mbe.specs.Op as ops
 use Rattle.mbe.specs.Op.{Name, Separator, ident_separator, literal_separator, punct_separator, lifetime_separator, Element, ident_element, literal_element, variable_element, Expression, Op, Ops, no_ops, op}
@@ -196,7 +196,7 @@ behind_dollar mode p (group d inside rest) = group_behind_dollar mode d.kind ins
 behind_dollar mode p (leaf (ident i) rest) =
     if is_text i.sym (codes "crate") then Ok (one (dollar_crate i) rest) else variable_at mode i.sym i.span rest
 behind_dollar mode p (leaf (literal l) rest) =
-    if is_text l.text_and_suffix (codes "true") || is_text l.text_and_suffix (codes "false")
+    if is_truth l.text_and_suffix
     then variable_at mode l.text_and_suffix l.span rest else Err (expected (codes "expected ident"))
 behind_dollar mode p (leaf (punct q) rest) =
     if q.char == 36 then second_dollar mode q rest else Err (expected (codes "expected ident"))

@@ -1,12 +1,16 @@
--- What the code's patterns, templates, rules and errors are, whatever memory holds them.
-use Rattle.std.specs.Prelude.{ℕ, List, [], ◌∷◌, map, codes, Option, Some, None, option_map}
-use Rattle.std.specs.String.{string_bytes}
+-- What the code's patterns, templates and rules are, whatever memory holds them.
+use Rattle.std.specs.Prelude.{◌≡◌, List, [], ◌∷◌, map, Option, Some, None}
 use Rattle.mbe_tt.specs.Shown.{literal_of, ident_of}
+use Rattle.mbe_tt.specs.View.{trees}
+use Rattle.mbe_tt.specs.Tree.{Forest, Cut}
+use Rattle.mbe_tt.specs.declared.view.TokenTreesView.{TokenTreesView}
 use Rattle.mbe.specs.declared.parser.Op as code
 use Rattle.mbe.specs.declared.parser.Op.{fold-Op}
 use Rattle.mbe.specs.declared.parser.Op.TheOpen.{Op-F}
-use Rattle.mbe.specs.declared.parser.MetaTemplate.{MetaTemplate}
+use Rattle.mbe.specs.declared.parser.MetaTemplate.{MetaTemplate, out-MetaTemplate}
+use Rattle.mbe.specs.declared.macros.Rule as written
 use Rattle.mbe.specs.Op.{Op, Ops, no_ops, op, token, group, variable, literal, ident, puncts}
+use Rattle.mbe.specs.Definition.{Rule}
 
 abbrev pub all_of : List Op → Ops
 all_of [] = no_ops
@@ -25,3 +29,19 @@ op_of {A} = fold-Op A Op Ops op_step (λ t. all_of t.0.items)
 
 abbrev pub ops_of : {A : Type 0} → List (code.Op A) → Ops
 ops_of os = all_of (map op_of os)
+
+abbrev pub template_of : {A : Type 0} → MetaTemplate A → Ops
+template_of {A} t = ops_of (out-MetaTemplate A t).0.items
+
+abbrev pub rule_of : {A : Type 0} → written.Rule A → Rule
+rule_of r = record { style = r.style; reads = template_of r.lhs; writes = template_of r.rhs }
+
+abbrev pub rules_seen : {A : Type 0} → List (written.Rule A) → List Rule
+rules_seen rs = map rule_of rs
+
+-- what an iterator gave and left: the front and the back of the cut, or nothing where there is no cut
+abbrev pub IsTaken : {A : Type 0} → Option (TokenTreesView A) → Option Cut → Forest → Type 0
+IsTaken None None left = Unit {0}
+IsTaken (Some taken) (Some c) left = (trees taken ≡ c.front) × (left ≡ c.back)
+IsTaken None (Some c) left = ⊥
+IsTaken (Some taken) None left = ⊥

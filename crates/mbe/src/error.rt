@@ -74,6 +74,17 @@ impl From<AllocError> for ReadError {
     }
 }
 
+impl From<Fault> for ReadError {
+    ghost use Rattle.std.specs.Prelude.{◌≡◌};
+    ghost use Rattle.mbe.specs.declared.error.ReadError.TheVariants as variants;
+
+    ghost from_gives = { λ fault e. e ≡ variants.Fault fault };
+
+    fn from(fault: Fault) -> ReadError {
+        ReadError::Fault(fault)
+    }
+}
+
 impl<T: Drop> From<AllocFailed<T>> for ReadError {
     ghost use Rattle.std.specs.Prelude.{◌≡◌};
     ghost use Rattle.mbe.specs.declared.error.ReadError.TheVariants.{Memory};

@@ -8,3 +8,4 @@ mod Unwrapped
 pub mod CutLemmas
 pub mod PlaceLemmas
 mod GlueLemmas
+pub mod OpenGroups

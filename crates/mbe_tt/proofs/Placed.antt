@@ -1,6 +1,6 @@
 -- Walking over flat tokens.
 use Rattle.std.proofs.Common.{◌≡◌, ℕ, zero, suc, ◌+◌, ◌-◌, ◌≤◌, min, List, [], ◌∷◌, ◌++◌, length, take, drop, refl, ap, sym, ◌∙◌, arith, length-append, append_assoc, append-nil, add-one, Some, None, ◌⊎◌, inl, inr}
-use Rattle.mbe_tt.specs.Tree.{Forest, none, leaf, group, append, flat_len, first, Leaf_tree, Group_tree}
+use Rattle.mbe_tt.specs.Tree.{Forest, none, leaf, group, append, flat_len, first, rest_at, depth_at, Leaf_tree, Group_tree}
 use Rattle.mbe_tt.specs.Leaf.{Leaf as TheLeaf}
 use Rattle.mbe_tt.specs.declared.tt.Subtree.{Subtree}
 use Rattle.mbe_tt.specs.Entries.{spell}
@@ -8,6 +8,7 @@ use Rattle.mbe_tt.specs.Place.{Rests, step, walk, rests, closings, spell_rests, 
 use Rattle.mbe_tt.specs.Entry.{Entry}
 use Rattle.mbe_tt.specs.Entry.{Leaf, Open, Close}
 use Rattle.std.proofs.lemmas.Bool.{cases_lt}
+use Rattle.mbe_tt.proofs.PlaceLemmas.{rest_at-zero, rest_at-in_group, rest_at-behind_group, depth_at-in_group, depth_at-behind_group}
 use Rattle.mbe_tt.proofs.Spelled.{length-spell, spell-append, take_front}
 
 spell_rests-step : (f : Forest) (around : List Forest) → drop 1 (spell_rests (f, around)) ≡ spell_rests (step f around)
@@ -106,12 +107,56 @@ past_group inside rest around n m e =
     ap (λ (k : ℕ). walk k (inside, rest ∷ around)) e
     ∙ (walk_split (flat_len inside) (suc m) (inside, rest ∷ around) ∙ ap (walk (suc m)) (walk_all inside (rest ∷ around)))
 
+within_at : (n m : ℕ) → (n ≤ m) ⊎ (n ≡ m + suc (n - m - 1))
+within_at n m = elim (cases_lt m n) [ inl lt ↦ inr (omega arith) | inr le ↦ inl le ]
+
+-- what is left from a place on, as the definition of a place has it
+pub rest_at-walk : (f : Forest) (around : List Forest) (n : ℕ) → n ≤ flat_len f → (walk n (f, around)).0 ≡ rest_at f n
+rest_at-walk f around zero h = sym (rest_at-zero f)
+rest_at-walk none around (suc n) h = absurd (omega arith)
+rest_at-walk (leaf l rest) around (suc n) h = rest_at-walk rest around n (omega arith)
+rest_at-walk (group d inside rest) around (suc n) h =
+    elim (within_at n (flat_len inside)) [
+      | inl le ↦ rest_at-walk inside (rest ∷ around) n le ∙ sym (rest_at-in_group d inside rest n le)
+      | inr e ↦ ap (λ (r : Rests). r.0) (past_group inside rest around n (n - flat_len inside - 1) e)
+          ∙ (rest_at-walk rest around (n - flat_len inside - 1) (omega arith) ∙ sym (rest_at-behind_group d inside rest n (omega arith)))
+    ]
+
+-- as many groups are left around a place as the definition counts
+pub depth_at-walk : (f : Forest) (around : List Forest) (n : ℕ) → n ≤ flat_len f → length (walk n (f, around)).1 ≡ depth_at f n + length around
+depth_at-walk none around zero h = omega arith
+depth_at-walk (leaf l rest) around zero h = omega arith
+depth_at-walk (group d inside rest) around zero h = omega arith
+depth_at-walk none around (suc n) h = absurd (omega arith)
+depth_at-walk (leaf l rest) around (suc n) h = depth_at-walk rest around n (omega arith)
+depth_at-walk (group d inside rest) around (suc n) h =
+    elim (within_at n (flat_len inside)) [
+      | inl le ↦ (let e = depth_at-walk inside (rest ∷ around) n le in
+          let k = depth_at-in_group d inside rest n le in
+          omega (arith, e, k))
+      | inr past ↦ (let m : ℕ = n - flat_len inside - 1 in
+          let e = depth_at-walk rest around m (omega arith) in
+          let k = depth_at-behind_group d inside rest n (omega arith) in
+          let w = ap (λ (r : Rests). length r.1) (past_group inside rest around n m past) in
+          omega (arith, e, k, w))
+    ]
+
+pub rest_at-rests : (f : Forest) (n : ℕ) → n ≤ flat_len f → (rests f n).0 ≡ rest_at f n
+rest_at-rests f n h = rest_at-walk f [] n h
+
+pub depth_at-rests : (f : Forest) (n : ℕ) → n ≤ flat_len f → length (rests f n).1 ≡ depth_at f n
+depth_at-rests f n h = let e = depth_at-walk f [] n h in omega (arith, e)
+
+no_length : {A : Type 0} (xs : List A) → length xs ≡ 0 → xs ≡ []
+no_length [] e = refl
+no_length (x ∷ xs) e = absurd (omega arith)
+
+pub root-rests : (f : Forest) (n : ℕ) → n ≤ flat_len f → depth_at f n ≡ 0 → (rests f n).1 ≡ []
+root-rests f n h e = no_length (rests f n).1 (depth_at-rests f n h ∙ e)
+
 pub record Within (around : List Forest) (r : Rests) : Type 0 where
   pub more : List Forest
   pub is : r.1 ≡ more ++ around
-
-within_at : (n m : ℕ) → (n ≤ m) ⊎ (n ≡ m + suc (n - m - 1))
-within_at n m = elim (cases_lt m n) [ inl lt ↦ inr (omega arith) | inr le ↦ inl le ]
 
 walk_within : (f : Forest) (around : List Forest) (n : ℕ) → n ≤ flat_len f → Within around (walk n (f, around))
 walk_within f around zero h = record { more = []; is = refl }

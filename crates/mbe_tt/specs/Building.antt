@@ -36,6 +36,10 @@ flat_written [] = 0
 flat_written (g ∷ []) = flat_len g.1
 flat_written (g ∷ (h ∷ outer)) = flat_written (h ∷ outer) + 1 + flat_len g.1
 
+-- what was written at a time when it had that many flat tokens, and the groups that are open now were open
+abbrev pub IsEarlier : Levels → ℕ → Levels → Type 0
+IsEarlier now point kept = (since : Forest) × (now ≡ put since kept) × (flat_written kept ≡ point)
+
 -- The entries. An open group's opening has the place of the opening of the group around it.
 abbrev mutual
   pub written : Levels → List Entry

@@ -1,7 +1,7 @@
 -- Places: numbers of flat tokens passed.
 use Rattle.std.specs.Prelude.{◌≡◌, ℕ, zero, suc, ◌≤◌, ◌+◌, List, [], ◌∷◌, ◌++◌, length}
 use Rattle.std.specs.Coded.{Coded, coded×, coded_ℕ}
-use Rattle.mbe_tt.specs.Tree.{Forest, none, leaf, group}
+use Rattle.mbe_tt.specs.Tree.{Forest, none, leaf, group, rest_at, depth_at}
 use Rattle.mbe_tt.specs.Entries.{spell, forest_of, forest_code}
 use Rattle.mbe_tt.specs.Entry.{Entry}
 use Rattle.mbe_tt.specs.Entry.{Leaf, Open, Close}
@@ -38,14 +38,28 @@ DepthAfter (Leaf l) n m = m ≡ n
 DepthAfter (Open s k) n m = m ≡ n + 1
 DepthAfter Close n m = n ≡ m + 1
 
--- the trees and a place among them
+-- what a cursor shows: the trees of its view, and a place among them
 abbrev pub Placed : Type 0
 Placed = Forest × ℕ
 
 abbrev pub placed_code : Coded Placed
 placed_code = coded× forest_code coded_ℕ
 
+abbrev pub viewed : Placed → Forest
+viewed c = c.0
+
+abbrev pub place_of : Placed → ℕ
+place_of c = c.1
+
+-- the trees from its place to the end of the innermost group
+abbrev pub left_at : Placed → Forest
+left_at c = rest_at c.0 c.1
+
+-- its place is in no group of the view
+abbrev pub IsAtRoot : Placed → Type 0
+IsAtRoot c = depth_at c.0 c.1 ≡ 0
+
 pub record IsPlaced (entries : List Entry) (place depth : ℕ) : Type 0 where
   pub spelled : entries ≡ spell (forest_of entries)
   pub within : place ≤ length entries
-  pub depth_is : depth ≡ length (rests (forest_of entries) place).1
+  pub depth_is : depth ≡ depth_at (forest_of entries) place

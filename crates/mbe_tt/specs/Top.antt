@@ -19,6 +19,12 @@ top_of none = (record { opening = no_span; close = no_span; kind = Invisible }, 
 top_of (leaf l rest) = (record { opening = no_span; close = no_span; kind = Invisible }, none)
 top_of (group k inside rest) = (k, inside)
 
+abbrev pub delimiter_of : Top → Delimiter
+delimiter_of t = t.0
+
+abbrev pub inside : Top → Forest
+inside t = t.1
+
 abbrev pub top_group : Top → Forest
 top_group t = group t.0 t.1 none
 

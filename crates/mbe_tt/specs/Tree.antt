@@ -210,6 +210,15 @@ rest_at (group d inside rest) zero = group d inside rest
 rest_at (group d inside rest) (suc p) =
     if nat_le p (flat_len inside) then rest_at inside p else rest_at rest (p - flat_len inside - 1)
 
+-- the number of groups around a place
+abbrev pub depth_at : Forest → ℕ → ℕ
+depth_at none p = 0
+depth_at (leaf l rest) zero = 0
+depth_at (leaf l rest) (suc p) = depth_at rest p
+depth_at (group d inside rest) zero = 0
+depth_at (group d inside rest) (suc p) =
+    if nat_le p (flat_len inside) then 1 + depth_at inside p else depth_at rest (p - flat_len inside - 1)
+
 -- trees at the front of a forest, and those behind them
 pub record Cut : Type 0 where
   pub front : Forest
@@ -257,6 +266,11 @@ abbrev pub trees_of : Forest → List Forest
 trees_of none = []
 trees_of (leaf l rest) = leaf l none ∷ trees_of rest
 trees_of (group d inside rest) = group d inside none ∷ trees_of rest
+
+abbrev pub each_tree : Forest → List Tree
+each_tree none = []
+each_tree (leaf l rest) = Leaf_tree l ∷ each_tree rest
+each_tree (group d inside rest) = Group_tree d inside ∷ each_tree rest
 
 abbrev pub all_of : List Forest → Forest
 all_of [] = none

@@ -8,13 +8,14 @@ use Rattle.mbe_tt.specs.Entries.{forest_of, forest_code}
 use Rattle.mbe_tt.specs.Shown.{entries_of}
 use Rattle.mbe_tt.specs.declared.view.TokenTreesView.{TokenTreesView}
 use Rattle.mbe_tt.specs.declared.view.SubtreeView.{SubtreeView}
-use Rattle.mbe_tt.specs.declared.tt.Delimiter.{Delimiter}
+use Rattle.mbe_tt.specs.Top.{Top, top_code}
 
 -- the trees that stand side by side in it
 abbrev pub trees : {A : Type 0} → TokenTreesView A → Forest
 trees v = forest_of (entries_of v.entries.now)
 
-abbrev pub group_of : {A : Type 0} → SubtreeView A → Delimiter × Forest
+-- the group of a view of one group
+abbrev pub group_of : {A : Type 0} → SubtreeView A → Top
 group_of v = (v.subtree.now.delimiter, trees v.inside)
 
 abbrev pub view_eq : {A : Type 0} → TokenTreesView A → TokenTreesView A → Bool
@@ -22,3 +23,9 @@ view_eq v w = same forest_code (trees v) (trees w)
 
 pub view_eq_laws : {A : Type 0} → IsEquivalence (view_eq {A = A})
 view_eq_laws = on_equiv trees (same_equiv forest_code)
+
+abbrev pub subtree_view_eq : {A : Type 0} → SubtreeView A → SubtreeView A → Bool
+subtree_view_eq v w = same top_code (group_of v) (group_of w)
+
+pub subtree_view_eq_laws : {A : Type 0} → IsEquivalence (subtree_view_eq {A = A})
+subtree_view_eq_laws = on_equiv group_of (same_equiv top_code)

@@ -1,4 +1,4 @@
-// A flat buffer that holds one group.
+// A flat buffer that holds one group. The names follow rust-analyzer's `tt`; what the calls answer is the project's own.
 ghost use Rattle.std.specs.Prelude.{◌≡◌, IfOk};
 ghost use Rattle.mbe_tt.specs.Tree.{none};
 ghost use Rattle.mbe_tt.specs.Top.{top_code};
@@ -14,7 +14,8 @@ use crate::view::TokenTreesView;
 use std::alloc::{AllocError, Allocator, Global};
 use std::marker::Model;
 
-// A clause sees the delimiter and the trees inside.
+/// One group with its content. Clauses see its delimiter and the trees inside. Two are equal where their trees are, spans
+/// and spacing included.
 #[derive(Drop)]
 #[derive_where(Debug)]
 pub struct TopSubtree<A: Allocator = Global> {
@@ -38,10 +39,10 @@ impl<A: Allocator> Model for TopSubtree<A> {
 
 impl<A: Allocator> TopSubtree<A> {
     ghost use Rattle.mbe_tt.specs.View.{trees};
-    ghost use Rattle.mbe_tt.specs.Top.{top_group};
+    ghost use Rattle.mbe_tt.specs.Top.{top_group, delimiter_of, inside};
     ghost use Rattle.mbe_tt.specs.declared.tt.DelimiterKind.TheVariants.{Invisible};
 
-    // An empty invisible group.
+    /// An empty invisible group with those spans. `AllocError` for want of memory.
     pub fn empty(alloc: A, span: DelimSpan) -> Result<TopSubtree<A>, AllocError>
         ensures { IfOk result (λ t. t ≡ (record { opening = span.opening; close = span.close; kind = Invisible }, none)) }
     {
@@ -53,7 +54,7 @@ impl<A: Allocator> TopSubtree<A> {
         Ok(TopSubtreeBuilder::new(alloc, delimiter)?.build())
     }
 
-    // The one tree that is the whole group.
+    /// The one tree that is the whole group.
     pub fn view(&self) -> TokenTreesView<'_, A>
         ensures { trees result ≡ top_group self.now }
     {
@@ -62,8 +63,9 @@ impl<A: Allocator> TopSubtree<A> {
         }
     }
 
+    /// The group without its content.
     pub fn top_subtree(&self) -> &Subtree
-        ensures { result.now.delimiter ≡ self.now.0 }
+        ensures { result.now.delimiter ≡ delimiter_of self.now }
     {
         let Entry::Open(subtree, _) = &self.entries[0] else {
             unreachable!()
@@ -71,9 +73,9 @@ impl<A: Allocator> TopSubtree<A> {
         subtree
     }
 
-    // The trees inside.
+    /// An iterator over the trees inside.
     pub fn iter(&self) -> TtIter<'_, A>
-        ensures { result ≡ self.now.1 }
+        ensures { result ≡ inside self.now }
     {
         let mut iter = self.view().iter();
         let Ok((_subtree, inside)) = iter.expect_subtree() else {
@@ -84,7 +86,7 @@ impl<A: Allocator> TopSubtree<A> {
 }
 
 impl<A: Allocator + Copy> TopSubtree<A> {
-    // An equal copy.
+    /// An equal copy, in memory of the same allocator. `AllocError` for want of memory.
     pub fn try_clone(&self) -> Result<TopSubtree<A>, AllocError>
         ensures { IfOk result (λ t. t ≡ self.now) }
     {

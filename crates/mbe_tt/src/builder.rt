@@ -1,4 +1,4 @@
-// Writing a buffer, group by group.
+// Writing a buffer, group by group. The names follow rust-analyzer's `tt`; what the calls answer is the project's own.
 ghost use Rattle.std.specs.Prelude.{◌≡◌, ℕ, ◌+◌, ◌<◌, ◌≤◌, List, [], ◌∷◌, ◌++◌, length, slice_set, vec_capacity, IfOk, OnOk, OnErr};
 ghost use Rattle.mbe_tt.specs.OpensAt.{OpensAt};
 ghost use Rattle.mbe_tt.specs.Entry.{Entry as FlatEntry, Open, Close};
@@ -21,7 +21,9 @@ use crate::view::TokenTreesView;
 use std::alloc::{AllocError, Allocator, Global};
 use std::marker::Model;
 
-// A clause sees the groups that are open, innermost first, each with its trees so far.
+/// A buffer that is being written. Clauses see the groups that are open, innermost first, each with its trees so far.
+/// After an `AllocError` it holds what it held before the call. What a call that writes needs, the builder takes from the
+/// allocator that `new` was given.
 #[derive(Drop)]
 #[derive_where(Debug)]
 pub struct TopSubtreeBuilder<A: Allocator = Global> {
@@ -47,9 +49,10 @@ impl<A: Allocator> Model for TopSubtreeBuilder<A> {
 }
 
 impl<A: Allocator> TopSubtreeBuilder<A> {
-    ghost use Rattle.mbe_tt.specs.Building.{Levels, put, closed, flat_written, unwrap_last};
+    ghost use Rattle.mbe_tt.specs.Building.{Levels, put, closed, flat_written, unwrap_last, IsEarlier};
     ghost use Rattle.mbe_tt.specs.View.{trees};
 
+    /// A builder with one open group, the whole. `AllocError` for want of memory.
     pub fn new(alloc: A, delimiter: Delimiter) -> Result<TopSubtreeBuilder<A>, AllocError>
         ensures { IfOk result (λ b. b ≡ (delimiter, none) ∷ []) }
     {
@@ -62,6 +65,7 @@ impl<A: Allocator> TopSubtreeBuilder<A> {
         })
     }
 
+    /// Writes a leaf at the end of the innermost open group. `AllocError` for want of memory.
     pub fn push(&mut self, leaf: Leaf<A>) -> Result<(), AllocError>
         ensures ok { OnOk result (self.new ≡ put (one_leaf (leaf_of leaf)) self.old) }
         ensures err { OnErr result (self.new ≡ self.old) }
@@ -71,7 +75,8 @@ impl<A: Allocator> TopSubtreeBuilder<A> {
         Ok(())
     }
 
-    // Opens a group at the end of the innermost one. Its closing span is the opening one until it is closed.
+    /// Opens a group at the end of the innermost one, and takes the room for its closing. Until it is closed, its closing span
+    /// is the opening one. `AllocError` for want of memory.
     pub fn open(&mut self, kind: DelimiterKind, span: Span) -> Result<(), AllocError>
         ensures ok { OnOk result (self.new ≡ (record { opening = span; close = span; kind = kind }, none) ∷ self.old) }
         ensures err { OnErr result (self.new ≡ self.old) }
@@ -90,7 +95,7 @@ impl<A: Allocator> TopSubtreeBuilder<A> {
         Ok(())
     }
 
-    // Closes the innermost group, in the room that `open` took.
+    /// Closes the innermost open group with that span. It asks for an open group other than the whole, and takes no memory.
     pub fn close(&mut self, span: Span)
         requires { 1 < length self.old }
         ensures { self.new ≡ closed span self.old }
@@ -102,7 +107,7 @@ impl<A: Allocator> TopSubtreeBuilder<A> {
         self.depth -= 1;
     }
 
-    // Writes copies of the view's trees.
+    /// Writes copies of the view's trees at the end of the innermost open group. `AllocError` for want of memory.
     pub fn extend_with_tt(&mut self, view: TokenTreesView<'_, A>) -> Result<(), AllocError>
         ensures ok { OnOk result (self.new ≡ put (trees view.entry) self.old) }
         ensures err { OnErr result (self.new ≡ self.old) }
@@ -113,7 +118,7 @@ impl<A: Allocator> TopSubtreeBuilder<A> {
         Ok(())
     }
 
-    // The same, with the last of these trees Alone, where it is a punct.
+    /// The same, with the last of these trees `Alone` where it is a punct. Puncts inside groups keep their spacing.
     pub fn extend_with_tt_alone(&mut self, view: TokenTreesView<'_, A>) -> Result<(), AllocError>
         ensures ok { OnOk result (self.new ≡ put (alone (trees view.entry)) self.old) }
         ensures err { OnErr result (self.new ≡ self.old) }
@@ -138,7 +143,8 @@ impl<A: Allocator> TopSubtreeBuilder<A> {
         Ok(())
     }
 
-    // The content of the innermost group's last tree takes its place, where that is an invisible group.
+    /// Puts the content of the innermost open group's last tree in that tree's place, where it is an invisible group; else it
+    /// does nothing. It takes no memory.
     pub fn remove_last_subtree_if_invisible(&mut self)
         ensures { self.new ≡ unwrap_last self.old }
     {
@@ -148,7 +154,8 @@ impl<A: Allocator> TopSubtreeBuilder<A> {
         }
     }
 
-    // Writes the leaves one after another.
+    /// Writes the leaves one after another at the end of the innermost open group. It asks that the leaves end. `AllocError`
+    /// for want of memory: then none of them is written.
     pub fn extend<I: IntoIterator<Item = Leaf<A>>>(&mut self, leaves: I) -> Result<(), AllocError>
         requires { (s : I.IntoIter) → I.into_iter_gives leaves s → I.IntoIter.can_next s × IsFinite (I.IntoIter.remaining s) }
         ensures ok { OnOk result ((s : I.IntoIter) × (xs : List (Leaf A)) × I.into_iter_gives leaves s × Drains I.IntoIter.next_gives s xs
@@ -165,21 +172,23 @@ impl<A: Allocator> TopSubtreeBuilder<A> {
         Ok(())
     }
 
-    // The number of flat tokens written so far, without the opening of the whole.
+    /// The number of flat tokens written so far, without the opening of the whole.
     pub fn restore_point(&self) -> usize
         ensures { result ≡ flat_written self.now }
     {
         self.entries.len() - 1
     }
 
-    // Keeps the first flat tokens, as many as `point` says.
+    /// Keeps the first flat tokens, as many as `point` says. It asks that there are so many, and that the groups open behind
+    /// the last of them are those that are open now. It takes no memory.
     pub fn restore(&mut self, point: usize)
-        requires { (kept : Levels) × (f : Forest) × (self.old ≡ put f kept) × (flat_written kept ≡ point) }
-        ensures { (kept : Levels) (f : Forest) → self.old ≡ put f kept → flat_written kept ≡ point → self.new ≡ kept }
+        requires { (kept : Levels) × IsEarlier self.old point kept }
+        ensures { (kept : Levels) (since : Forest) → self.old ≡ put since kept → flat_written kept ≡ point → self.new ≡ kept }
     {
         self.entries.truncate(point + 1);
     }
 
+    /// The buffer, with the whole closed. It asks that no other group is open, and takes no memory.
     pub fn build(self) -> TopSubtree<A>
         requires { length self ≡ 1 }
         ensures { self ≡ result ∷ [] }

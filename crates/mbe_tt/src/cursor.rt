@@ -1,9 +1,10 @@
-// A walk over the flat tokens of a view.
+// A walk over the flat tokens of a view. The names follow rust-analyzer's `tt`; what the calls answer is the project's
+// own.
 ghost use Rattle.std.specs.Prelude.{◌≡◌, ◌↔◌, ℕ, ◌+◌, min, [], IsTrue, length, option_map, ◌<◌, ◌^◌};
-ghost use Rattle.mbe_tt.specs.Tree.{Forest, append, first, flat_len};
+ghost use Rattle.mbe_tt.specs.Tree.{Forest, append, first, flat_len, rest_at};
 ghost use Rattle.mbe_tt.specs.Element.{element_tree};
 ghost use Rattle.mbe_tt.specs.Shown.{entries_of, entry_of};
-ghost use Rattle.mbe_tt.specs.Place.{Rests, rests, spell_rests, DepthAfter};
+ghost use Rattle.mbe_tt.specs.Place.{Rests, spell_rests, DepthAfter, viewed, place_of, left_at, IsAtRoot};
 
 use crate::entry::Entry;
 use crate::iter::{TtElement, TtIter};
@@ -11,7 +12,8 @@ use crate::view::TokenTreesView;
 use std::alloc::{Allocator, Global};
 use std::marker::Model;
 
-// A clause sees the view's trees, and how many of their flat tokens are passed.
+/// A place among the flat tokens of a view: leaves, openings and closings, each of which counts one. Clauses see the
+/// view's trees, and how many of its flat tokens are passed.
 #[derive(Drop)]
 #[derive_where(Clone, Debug)]
 pub struct Cursor<'a, A: Allocator = Global> {
@@ -38,7 +40,7 @@ impl<'a, A: Allocator> Model for Cursor<'a, A> {
 impl<'a, A: Allocator> TokenTreesView<'a, A> {
     ghost use Rattle.mbe_tt.specs.View.{trees};
 
-    // Before the first tree.
+    /// A cursor before the first tree.
     pub fn cursor(&self) -> Cursor<'a, A>
         ensures { result ≡ (trees self.now, 0) }
     {
@@ -53,16 +55,16 @@ impl<'a, A: Allocator> TokenTreesView<'a, A> {
 impl<'a, A: Allocator> Cursor<'a, A> {
     ghost use Rattle.mbe_tt.specs.View.{trees};
 
-    // It stands in no group of the view.
+    /// Whether it stands in no group of the view.
     pub fn is_root(&self) -> bool
-        ensures { IsTrue result ↔ ((rests self.now.0 self.now.1).1 ≡ []) }
+        ensures { IsTrue result ↔ IsAtRoot self.now }
     {
         self.depth == 0
     }
 
-    // Passes a leaf, an opening or a closing. At the end of the view it does nothing.
+    /// Passes one flat token: a leaf, an opening (going in) or a closing (going out). At the view's end it does nothing.
     pub fn bump_or_end(&mut self)
-        ensures { self.new ≡ (self.old.0, min (self.old.1 + 1) (flat_len self.old.0)) }
+        ensures { self.new ≡ (viewed self.old, min (place_of self.old + 1) (flat_len (viewed self.old))) }
     {
         let (_passed, left) = self.entries.split_at(self.place);
         if let Some((entry, _rest)) = left.split_first() {
@@ -71,19 +73,19 @@ impl<'a, A: Allocator> Cursor<'a, A> {
         }
     }
 
-    // The next tree of the innermost group.
+    /// The next tree at this place; `None` at the end of a group, and at the view's end.
     pub fn token_tree(&self) -> Option<TtElement<'a, A>>
-        ensures { option_map element_tree result ≡ first (rests self.now.0 self.now.1).0 }
+        ensures { option_map element_tree result ≡ first (left_at self.now) }
     {
         let (_passed, left) = self.entries.split_at(self.place);
         first_tree(left)
     }
 
-    // The trees passed since the view's beginning.
+    /// The trees passed since the view's beginning. It asks that the cursor stands in no group of the view.
     pub fn crossed(&self) -> TokenTreesView<'a, A>
-        requires { (rests self.now.0 self.now.1).1 ≡ [] }
-        ensures all { append (trees result) (rests self.now.0 self.now.1).0 ≡ self.now.0 }
-        ensures len { flat_len (trees result) ≡ self.now.1 }
+        requires { IsAtRoot self.now }
+        ensures all { append (trees result) (left_at self.now) ≡ viewed self.now }
+        ensures len { flat_len (trees result) ≡ place_of self.now }
     {
         let (passed, _left) = self.entries.split_at(self.place);
         TokenTreesView { entries: passed }
@@ -91,11 +93,11 @@ impl<'a, A: Allocator> Cursor<'a, A> {
 }
 
 impl<'a, A: Allocator> TtIter<'a, A> {
-    // Goes to the cursor's place, among the trees that are left.
+    /// Goes to the cursor's place. It asks that the cursor is over this iterator's `remaining()`, and in no group of it.
     pub fn flat_advance_to(&mut self, cursor: &Cursor<'a, A>)
-        requires same { cursor.now.0 ≡ self.old }
-        requires root { (rests cursor.now.0 cursor.now.1).1 ≡ [] }
-        ensures { self.new ≡ (rests self.old cursor.now.1).0 }
+        requires same { viewed cursor.now ≡ self.old }
+        requires root { IsAtRoot cursor.now }
+        ensures { self.new ≡ rest_at self.old (place_of cursor.now) }
     {
         let (_passed, left) = cursor.entries.split_at(cursor.place);
         self.entries = left;

@@ -1,4 +1,4 @@
-// An entry of a flat buffer.
+// An entry of a flat buffer, which spells one flat token.
 ghost use Rattle.std.specs.Prelude.{◌≡◌, ◌↔◌, IsTrue};
 ghost use Rattle.mbe_tt.specs.Shown.{entry_of, entries_of};
 ghost use Rattle.std.specs.Cmp.{partial_equiv_from_equiv};

@@ -1,4 +1,5 @@
-// What a grammar of fragments is asked for, and what it promises.
+// What a grammar of fragments is asked for, and what it promises. rust-analyzer calls its own parser; that any grammar may
+// be handed in, and its laws, are the project's own.
 ghost use Rattle.std.specs.Prelude.{◌≡◌, IfOk};
 
 use crate::view::TokenTreesView;

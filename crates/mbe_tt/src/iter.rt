@@ -1,4 +1,5 @@
-// An iterator over trees that stand side by side.
+// An iterator over trees that stand side by side. The names follow rust-analyzer's `tt`; what the calls answer is the
+// project's own.
 ghost use Rattle.std.specs.Prelude.{◌≡◌, ◌↔◌, IsTrue, option_map, length, [], ◌∷◌, IsOk, is_ok, is_some, OnSome, if◌then◌else◌, Some, None, ⊤};
 ghost use Rattle.std.specs.Result.{result_ok};
 ghost use Rattle.mbe_tt.specs.Tree.{Forest, none, group, tree, append, first, rest_of, front_char, front_punct, front_ident, front_group, front_leaf, front_literal, literal_leaf, any_ident, first_span, skip};
@@ -7,6 +8,7 @@ ghost use Rattle.mbe_tt.specs.Glue.{glue, glued, is_operator, joined_punct, thir
 ghost use Rattle.mbe_tt.specs.Entry.{Open};
 ghost use Rattle.mbe_tt.specs.Shown.{entries_of, ident_of, leaf_of};
 ghost use Rattle.std.specs.List.{Contains};
+ghost use Rattle.std.specs.Iterator.{YieldsFirstBy, item_count, MakesProgress};
 ghost use Rattle.mbe_tt.specs.declared.tt.Punct.{Punct as SpecPunct};
 
 use crate::entry::Entry;
@@ -17,7 +19,10 @@ use arrayvec::ArrayVec;
 use std::alloc::{AllocError, Allocator, Global};
 use std::marker::Model;
 
-// A clause sees the trees that are left.
+/// An iterator over the trees of one group's content, borrowed from its buffer. Clauses see the trees that are left.
+///
+/// Each `expect_` call looks at the next tree, passes it where it is of the sort that is asked for, and else answers
+/// `Err(())` and leaves the iterator where it was. A clone stands at the same place and takes no memory.
 #[derive(Drop)]
 #[derive_where(Debug)]
 pub struct TtIter<'a, A: Allocator = Global> {
@@ -39,12 +44,13 @@ impl<'a, A: Allocator> Model for TtIter<'a, A> {
     ghost invariant = { λ a. entries_of a.entries.now ≡ spell (forest_of (entries_of a.entries.now)) };
 }
 
-// A place of an iterator, told by the trees that were left.
+/// A mark of an iterator's place. Clauses see the trees that were left there, by `saved`.
 #[derive_where(Clone, Copy, Debug)]
 pub struct TtIterSavepoint<'a, A: Allocator = Global> {
     left: TokenTreesView<'a, A>,
 }
 
+/// One tree: a leaf, or a group and an iterator over its content. Clauses see the tree by `element_tree`.
 #[derive(Drop)]
 #[derive_where(Clone, Debug)]
 pub enum TtElement<'a, A: Allocator = Global> {
@@ -71,13 +77,14 @@ impl<'a, A: Allocator> TtIter<'a, A> {
     ghost use Rattle.mbe_tt.specs.Element.{element_tree};
     ghost use Rattle.mbe_tt.specs.Savepoint.{saved};
 
+    /// Whether no tree is left.
     pub fn is_empty(&self) -> bool
         ensures { IsTrue result ↔ (self.now ≡ none) }
     {
         self.entries.is_empty()
     }
 
-    // The trees that are left.
+    /// The trees that are left.
     pub fn remaining(&self) -> TokenTreesView<'a, A>
         ensures { trees result ≡ self.now }
     {
@@ -86,27 +93,7 @@ impl<'a, A: Allocator> TtIter<'a, A> {
         }
     }
 
-    // Passes the next tree.
-    pub fn next(&mut self) -> Option<TtElement<'a, A>>
-        ensures value { option_map element_tree result ≡ first self.old }
-        ensures rest { self.new ≡ rest_of self.old }
-    {
-        let (first, rest) = self.entries.split_first()?;
-        match first {
-            Entry::Leaf(leaf) => {
-                self.entries = rest;
-                Some(TtElement::Leaf(leaf))
-            }
-            Entry::Open(subtree, len) => {
-                let (inside, rest) = content_and_rest(subtree, *len, rest);
-                *self = rest;
-                Some(TtElement::Subtree(subtree, inside))
-            }
-            Entry::Close => None,
-        }
-    }
-
-    // The next tree, which is not passed.
+    /// The next tree, which isn't passed; `None` at the end.
     pub fn peek(&self) -> Option<TtElement<'a, A>>
         ensures { option_map element_tree result ≡ first self.now }
     {
@@ -114,6 +101,7 @@ impl<'a, A: Allocator> TtIter<'a, A> {
         ahead.next()
     }
 
+    /// A mark of this place, for `from_savepoint`.
     pub fn savepoint(&self) -> TtIterSavepoint<'a, A>
         ensures { saved result ≡ self.now }
     {
@@ -122,7 +110,7 @@ impl<'a, A: Allocator> TtIter<'a, A> {
         }
     }
 
-    // The trees passed since the savepoint.
+    /// The trees passed since the savepoint. It asks that the trees left at the savepoint end with those that are left now.
     pub fn from_savepoint(&self, savepoint: TtIterSavepoint<'a, A>) -> TokenTreesView<'a, A>
         requires { (passed : Forest) × (saved savepoint ≡ append passed self.now) }
         ensures { (passed : Forest) → saved savepoint.entry ≡ append passed self.now → trees result ≡ passed }
@@ -132,7 +120,7 @@ impl<'a, A: Allocator> TtIter<'a, A> {
         TokenTreesView { entries: passed }
     }
 
-    // Passes the next tree.
+    /// The next tree as a view of one tree, passed; `None` at the end.
     pub fn next_as_view(&mut self) -> Option<TokenTreesView<'a, A>>
         ensures value { option_map trees result ≡ option_map (λ t. tree t none) (first self.old) }
         ensures rest { self.new ≡ rest_of self.old }
@@ -142,6 +130,7 @@ impl<'a, A: Allocator> TtIter<'a, A> {
         Some(self.from_savepoint(savepoint))
     }
 
+    /// Passes a punct of that char, whatever its spacing.
     pub fn expect_char(&mut self, char: char) -> Result<(), ()>
         ensures value { IsOk result ↔ (front_char self.old ≡ Some char) }
         ensures rest { self.new ≡ (if is_ok result then rest_of self.old else self.old) }
@@ -155,6 +144,7 @@ impl<'a, A: Allocator> TtIter<'a, A> {
         Err(())
     }
 
+    /// Passes one punct.
     pub fn expect_single_punct(&mut self) -> Result<&'a Punct, ()>
         ensures value { option_map (λ p. p.now) (result_ok result) ≡ front_punct self.old }
         ensures rest { self.new ≡ (if is_ok result then rest_of self.old else self.old) }
@@ -166,6 +156,7 @@ impl<'a, A: Allocator> TtIter<'a, A> {
         Err(())
     }
 
+    /// Passes a group, and answers it with an iterator over its content.
     pub fn expect_subtree(&mut self) -> Result<(&'a Subtree, TtIter<'a, A>), ()>
         ensures value { option_map (λ g. (g.0.now.delimiter, g.1)) (result_ok result) ≡ front_group self.old }
         ensures rest { self.new ≡ (if is_ok result then rest_of self.old else self.old) }
@@ -177,7 +168,7 @@ impl<'a, A: Allocator> TtIter<'a, A> {
         Err(())
     }
 
-    // An identifier other than `_`.
+    /// Passes an identifier other than `_`, raw or not.
     pub fn expect_ident(&mut self) -> Result<&'a Ident<A>, ()>
         ensures value { option_map (λ i. ident_of i.now) (result_ok result) ≡ front_ident self.old }
         ensures rest { self.new ≡ (if is_ok result then rest_of self.old else self.old) }
@@ -191,7 +182,7 @@ impl<'a, A: Allocator> TtIter<'a, A> {
         Err(())
     }
 
-    // A punct of one of these chars.
+    /// Passes a punct of one of those chars, whatever its spacing.
     pub fn expect_any_char(&mut self, chars: &[char]) -> Result<(), ()>
         ensures value { IsOk result ↔ ((p : SpecPunct) × (front_punct self.old ≡ Some p) × Contains chars.now p.char) }
         ensures rest { self.new ≡ (if is_ok result then rest_of self.old else self.old) }
@@ -205,6 +196,7 @@ impl<'a, A: Allocator> TtIter<'a, A> {
         Err(())
     }
 
+    /// Passes a punct `$`.
     pub fn expect_dollar(&mut self) -> Result<(), ()>
         ensures value { IsOk result ↔ (front_char self.old ≡ Some 36) }
         ensures rest { self.new ≡ (if is_ok result then rest_of self.old else self.old) }
@@ -212,6 +204,7 @@ impl<'a, A: Allocator> TtIter<'a, A> {
         self.expect_char('$')
     }
 
+    /// Passes a punct `,`.
     pub fn expect_comma(&mut self) -> Result<(), ()>
         ensures value { IsOk result ↔ (front_char self.old ≡ Some 44) }
         ensures rest { self.new ≡ (if is_ok result then rest_of self.old else self.old) }
@@ -219,6 +212,7 @@ impl<'a, A: Allocator> TtIter<'a, A> {
         self.expect_char(',')
     }
 
+    /// Passes a leaf.
     pub fn expect_leaf(&mut self) -> Result<&'a Leaf<A>, ()>
         ensures value { option_map (λ l. leaf_of l.now) (result_ok result) ≡ front_leaf self.old }
         ensures rest { self.new ≡ (if is_ok result then rest_of self.old else self.old) }
@@ -230,6 +224,7 @@ impl<'a, A: Allocator> TtIter<'a, A> {
         Err(())
     }
 
+    /// Passes an identifier, also `_`, raw or not.
     pub fn expect_ident_or_underscore(&mut self) -> Result<&'a Ident<A>, ()>
         ensures value { option_map (λ i. ident_of i.now) (result_ok result) ≡ any_ident self.old }
         ensures rest { self.new ≡ (if is_ok result then rest_of self.old else self.old) }
@@ -241,7 +236,7 @@ impl<'a, A: Allocator> TtIter<'a, A> {
         Err(())
     }
 
-    // A literal, or the identifier `true` or `false`.
+    /// Passes a literal, or the identifier `true` or `false`, raw or not.
     pub fn expect_literal(&mut self) -> Result<&'a Leaf<A>, ()>
         ensures value { option_map (λ l. leaf_of l.now) (result_ok result) ≡ front_literal self.old }
         ensures rest { self.new ≡ (if is_ok result then rest_of self.old else self.old) }
@@ -255,14 +250,16 @@ impl<'a, A: Allocator> TtIter<'a, A> {
         Err(())
     }
 
-    // Where the next tree begins.
+    /// Where the next tree begins: a leaf's span, or where a group opens. `None` at the end.
     pub fn next_span(&self) -> Option<Span>
         ensures { result ≡ option_map first_span (first self.now) }
     {
         Some(self.peek()?.first_span())
     }
 
-    // The puncts in front that stand together.
+    /// Passes the one to three puncts in front that make the longest operator, or one punct where none is made. All but the
+    /// last have to be joint, and a third is looked at only behind two that are. Which chars make an operator stands in
+    /// `operators`.
     pub fn expect_glued_punct(&mut self) -> Result<ArrayVec<Punct, 3>, ()>
         ensures value { option_map (λ ps. ps.items) (result_ok result) ≡ glued self.old }
         ensures rest { self.new ≡ skip (length (glue self.old)) self.old }
@@ -313,10 +310,43 @@ impl<'a, A: Allocator> TtIter<'a, A> {
     }
 }
 
+impl<'a, A: Allocator> Iterator for TtIter<'a, A> {
+    ghost use Rattle.mbe_tt.specs.Tree.{each_tree};
+    ghost use Rattle.mbe_tt.specs.Element.{element_tree};
+
+    type Item = TtElement<'a, A>;
+
+    ghost next_gives = { YieldsFirstBy element_tree each_tree };
+
+    ghost remaining = { item_count each_tree };
+
+    /// The next tree, which is passed; `None` at the end. So each tree comes once, in order, and the iterator ends.
+    fn next(&mut self) -> Option<TtElement<'a, A>>
+        ensures value { option_map element_tree result ≡ first self.old }
+        ensures rest { self.new ≡ rest_of self.old }
+        ensures steps { YieldsFirstBy element_tree each_tree self.old result self.new }
+        ensures goes { MakesProgress (λ _. ⊤) (item_count each_tree) self.old result self.new }
+    {
+        let (first, rest) = self.entries.split_first()?;
+        match first {
+            Entry::Leaf(leaf) => {
+                self.entries = rest;
+                Some(TtElement::Leaf(leaf))
+            }
+            Entry::Open(subtree, len) => {
+                let (inside, rest) = content_and_rest(subtree, *len, rest);
+                *self = rest;
+                Some(TtElement::Subtree(subtree, inside))
+            }
+            Entry::Close => None,
+        }
+    }
+}
+
 impl<'a, A: Allocator> TtElement<'a, A> {
     ghost use Rattle.mbe_tt.specs.Element.{element_tree};
 
-    // A leaf's span, or where a group opens.
+    /// Where the tree begins: a leaf's span, or where a group opens.
     pub fn first_span(&self) -> Span
         ensures { result ≡ first_span (element_tree self.now) }
     {

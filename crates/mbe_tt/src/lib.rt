@@ -1,4 +1,4 @@
-// Token trees: spans, symbols, a flat buffer with its iterator, views and builder.
+// Token trees: spans, symbols, a flat buffer with its iterator, views and builder, and the trait of fragment grammars.
 #![tactic(auto)]
 
 pub mod buffer;

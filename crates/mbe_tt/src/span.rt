@@ -1,9 +1,12 @@
-// Places in a source text, and editions of the language.
+// Places in a source text, and editions of the language. All of this is the project's own; the names follow rust-analyzer.
 ghost use Rattle.std.specs.Prelude.{◌≡◌};
 
+/// The number of a hygiene context. What it means is the caller's.
 #[derive(Clone, Copy, Debug, Default, Drop, PartialEq, Eq, Hash)]
 pub struct SyntaxContext(pub u32);
 
+/// Where a token stands. `file` and `ast` name a text and an item in it, and are the caller's; `start` and `end` are
+/// byte offsets in that text, where this crate asks for no order; `ctx` is the hygiene context.
 #[derive(Clone, Copy, Debug, Default, Drop, PartialEq, Eq, Hash)]
 pub struct Span {
     pub file: u32,
@@ -13,6 +16,7 @@ pub struct Span {
     pub ctx: SyntaxContext,
 }
 
+/// Where a group opens and where it closes.
 #[derive(Clone, Copy, Debug, Default, Drop, PartialEq, Eq, Hash)]
 pub struct DelimSpan {
     pub opening: Span,
@@ -20,6 +24,7 @@ pub struct DelimSpan {
 }
 
 impl DelimSpan {
+    /// That span for both sides.
     pub fn from_single(span: Span) -> DelimSpan
         ensures { result ≡ record { opening = span; close = span } }
     {
@@ -30,6 +35,7 @@ impl DelimSpan {
     }
 }
 
+/// An edition of Rust.
 #[derive(Clone, Copy, Debug, Drop, PartialEq, Eq, Hash)]
 pub enum Edition {
     Edition2015,
@@ -41,6 +47,7 @@ pub enum Edition {
 impl Edition {
     ghost use Rattle.mbe_tt.specs.Editions as spec;
 
+    /// Whether it is the edition of 2021 or a later one.
     pub fn at_least_2021(self) -> bool
         ensures { result ≡ spec.at_least_2021 self }
     {
@@ -50,6 +57,7 @@ impl Edition {
         }
     }
 
+    /// Whether it is the edition of 2024 or a later one.
     pub fn at_least_2024(self) -> bool
         ensures { result ≡ spec.at_least_2024 self }
     {

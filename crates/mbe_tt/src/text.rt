@@ -1,4 +1,4 @@
-// How identifiers and literals are written.
+// How identifiers and literals are written. The rules are the project's own.
 ghost use Rattle.std.specs.Prelude.{◌≡◌, Some, replicate};
 ghost use Rattle.std.specs.Fmt.{DisplaysOnOk};
 ghost use Rattle.mbe_tt.specs.Literals.{ident_text, literal_text, literal_suffix, literal_output, hash_text};
@@ -10,7 +10,8 @@ use std::alloc::Allocator;
 use std::fmt;
 
 impl<A: Allocator> Literal<A> {
-    // The text without its suffix, and the suffix.
+    /// The text without its suffix, and the suffix. Where `suffix_len` bytes from the end no char begins, or where the text
+    /// is shorter, the suffix is empty.
     pub fn text_and_suffix(&self) -> (&str, &str)
         ensures text { result.0.now ≡ literal_text (literal_of self.now) }
         ensures suffix { result.1.now ≡ literal_suffix (literal_of self.now) }
@@ -24,6 +25,7 @@ impl<A: Allocator> Literal<A> {
         (all, "")
     }
 
+    /// The text without its suffix.
     pub fn text(&self) -> &str
         ensures { result.now ≡ literal_text (literal_of self.now) }
     {
@@ -31,6 +33,7 @@ impl<A: Allocator> Literal<A> {
     }
 }
 
+/// `r#` where it is raw, then the symbol.
 impl<A: Allocator> fmt::Display for Ident<A> {
     ghost output = { λ i. Some (ident_text (ident_of i)) };
 
@@ -45,6 +48,8 @@ impl<A: Allocator> fmt::Display for Ident<A> {
     }
 }
 
+/// The prefix of its kind (`b`, `c`, `r`) with its `#`, the text in the quotes of its kind, the `#` again, and the suffix.
+/// `Integer`, `Float` and `Err` have no quotes.
 impl<A: Allocator> fmt::Display for Literal<A> {
     ghost output = { λ l. Some (literal_output (literal_of l)) };
 

@@ -1,4 +1,5 @@
-// Leaves, and the delimiters of groups.
+// Token trees: leaves, and the delimiters of groups. The types of trees, iterators, views and builders are re-exported
+// here. The names follow rust-analyzer's `tt`; what the calls answer is the project's own.
 ghost use Rattle.std.specs.Prelude.{◌≡◌, ◌↔◌, IsTrue};
 ghost use Rattle.mbe_tt.specs.Shown.{ident_of, literal_of, leaf_of};
 ghost use Rattle.std.specs.Cmp.{partial_equiv_from_equiv};
@@ -12,6 +13,7 @@ use crate::symbol::Symbol;
 pub use crate::view::{SubtreeView, TokenTreesView};
 use std::alloc::{AllocError, Allocator, Global};
 
+/// Whether a punct stands alone, or is joined to the next tree where that is a punct.
 #[derive(Clone, Copy, Debug, Default, Drop, PartialEq, Eq)]
 pub enum Spacing {
     #[default]
@@ -19,6 +21,7 @@ pub enum Spacing {
     Joint,
 }
 
+/// One punctuation char. Its default is the char of number 0, alone, with a span of zeros, which `ArrayVec::new` asks for.
 #[derive(Clone, Copy, Debug, Default, Drop, PartialEq, Eq)]
 pub struct Punct {
     pub char: char,
@@ -26,12 +29,14 @@ pub struct Punct {
     pub span: Span,
 }
 
+/// Whether an identifier is written with `r#`.
 #[derive(Clone, Copy, Debug, Drop, PartialEq, Eq)]
 pub enum IdentIsRaw {
     No,
     Yes,
 }
 
+/// An identifier, also `_` or a keyword. `sym` is its text without `r#`.
 #[derive(Drop)]
 #[derive_where(Debug)]
 pub struct Ident<A: Allocator = Global> {
@@ -40,6 +45,7 @@ pub struct Ident<A: Allocator = Global> {
     pub span: Span,
 }
 
+/// What sort of literal it is. The numbers are those of the `#` of a raw string.
 #[derive(Clone, Copy, Debug, Drop, PartialEq, Eq)]
 pub enum LitKind {
     Byte,
@@ -55,6 +61,7 @@ pub enum LitKind {
     Err,
 }
 
+/// A literal. `text_and_suffix` is what stands between its quotes, and its suffix; `suffix_len` is the suffix's length in bytes.
 #[derive(Drop)]
 #[derive_where(Debug)]
 pub struct Literal<A: Allocator = Global> {
@@ -64,6 +71,7 @@ pub struct Literal<A: Allocator = Global> {
     pub span: Span,
 }
 
+/// A tree that is no group.
 #[derive(Drop)]
 #[derive_where(Debug)]
 pub enum Leaf<A: Allocator = Global> {
@@ -72,6 +80,7 @@ pub enum Leaf<A: Allocator = Global> {
     Ident(Ident<A>),
 }
 
+/// What stands around a group. `Invisible` groups are written without delimiters.
 #[derive(Clone, Copy, Debug, Drop, PartialEq, Eq)]
 pub enum DelimiterKind {
     Parenthesis,
@@ -80,6 +89,7 @@ pub enum DelimiterKind {
     Invisible,
 }
 
+/// The delimiter of a group, and where it opens and closes.
 #[derive(Clone, Copy, Debug, Drop, PartialEq, Eq)]
 pub struct Delimiter {
     pub opening: Span,
@@ -87,6 +97,7 @@ pub struct Delimiter {
     pub kind: DelimiterKind,
 }
 
+/// A group without its content.
 #[derive(Clone, Copy, Debug, Drop, PartialEq, Eq)]
 pub struct Subtree {
     pub delimiter: Delimiter,
@@ -95,7 +106,7 @@ pub struct Subtree {
 impl Delimiter {
     ghost use Rattle.mbe_tt.specs.declared.tt.DelimiterKind.TheVariants.{Invisible};
 
-    // An invisible delimiter with this span on both sides.
+    /// An invisible delimiter with that span on both sides.
     pub fn invisible_spanned(span: Span) -> Delimiter
         ensures { result ≡ record { opening = span; close = span; kind = Invisible } }
     {
@@ -106,6 +117,7 @@ impl Delimiter {
         }
     }
 
+    /// Where the group opens and closes.
     pub fn delim_span(&self) -> DelimSpan
         ensures { result ≡ record { opening = self.now.opening; close = self.now.close } }
     {
@@ -119,6 +131,7 @@ impl Delimiter {
 impl<A: Allocator> Leaf<A> {
     ghost use Rattle.mbe_tt.specs.Leaf.{span_of};
 
+    /// Where the leaf stands.
     pub fn span(&self) -> Span
         ensures { result ≡ span_of (leaf_of self.now) }
     {
@@ -130,6 +143,7 @@ impl<A: Allocator> Leaf<A> {
     }
 }
 
+/// The clone is equal. It shares the symbol's text and takes no memory; it is refused only where the symbol's is.
 impl<A: Allocator> Clone for Ident<A> {
     ghost is_clone = { λ x y. y ≡ x };
 
@@ -142,6 +156,7 @@ impl<A: Allocator> Clone for Ident<A> {
     }
 }
 
+/// The clone is equal. It shares the symbol's text and takes no memory; it is refused only where the symbol's is.
 impl<A: Allocator> Clone for Literal<A> {
     ghost is_clone = { λ x y. y ≡ x };
 
@@ -155,6 +170,7 @@ impl<A: Allocator> Clone for Literal<A> {
     }
 }
 
+/// The clone is equal. It shares the symbol's text and takes no memory; it is refused only where the symbol's is.
 impl<A: Allocator> Clone for Leaf<A> {
     ghost is_clone = { λ x y. y ≡ x };
 

@@ -1,16 +1,19 @@
-// Trees that stand side by side in a buffer.
+// Trees that stand side by side in a buffer. The names follow rust-analyzer's `tt`; what the calls answer is the
+// project's own.
 ghost use Rattle.std.specs.Prelude.{◌≡◌, option_map, ⊤};
 ghost use Rattle.mbe_tt.specs.Entries.{Spelled, Spelled-prop};
+ghost use Rattle.std.specs.Prelude.{IsTrue, ◌↔◌};
 ghost use Rattle.mbe_tt.specs.Shown.{entries_of};
 ghost use Rattle.std.specs.Cmp.{partial_equiv_from_equiv};
 ghost use Rattle.mbe_tt.specs.Tree.{tree_count, flat_len, strip_invisible, one_group};
 
 use crate::entry::{Entry, same_entries};
 use crate::iter::{TtElement, TtIter};
-use crate::tt::{DelimiterKind, Subtree};
+use crate::tt::{Delimiter, DelimiterKind, Subtree};
 use std::alloc::{AllocError, Allocator, Global};
 
-// `trees` says which.
+/// Trees that stand side by side in a buffer, borrowed from it. Clauses see them by `trees`. Views are equal where their
+/// trees are, spans and spacing included.
 #[derive_where(Debug)]
 pub struct TokenTreesView<'a, A: Allocator = Global> {
     pub(crate) entries: &'a [Entry<A>],
@@ -32,6 +35,7 @@ impl<'a, A: Allocator> Clone for TokenTreesView<'a, A> {
 impl<'a, A: Allocator> TokenTreesView<'a, A> {
     ghost use Rattle.mbe_tt.specs.View.{trees, group_of};
 
+    /// An iterator over the trees.
     pub fn iter(&self) -> TtIter<'a, A>
         ensures { result ≡ trees self.now }
     {
@@ -40,12 +44,14 @@ impl<'a, A: Allocator> TokenTreesView<'a, A> {
         }
     }
 
+    /// The number of flat tokens: leaves, openings and closings.
     pub fn flat_len(&self) -> usize
         ensures { result ≡ flat_len (trees self.now) }
     {
         self.entries.len()
     }
 
+    /// The number of trees.
     pub fn len(&self) -> usize
         ensures { result ≡ tree_count (trees self.now) }
     {
@@ -58,7 +64,7 @@ impl<'a, A: Allocator> TokenTreesView<'a, A> {
         n
     }
 
-    // The content, where this is exactly one invisible group, and else the view itself.
+    /// The content, where this is exactly one invisible group; else the view itself. Only one level is opened.
     pub fn strip_invisible(self) -> TokenTreesView<'a, A>
         ensures { trees result ≡ strip_invisible (trees self.entry) }
     {
@@ -72,7 +78,7 @@ impl<'a, A: Allocator> TokenTreesView<'a, A> {
         self
     }
 
-    // The group, where this is exactly one.
+    /// The group, where this is exactly one group; else `None`.
     pub fn try_into_subtree(self) -> Option<SubtreeView<'a, A>>
         ensures { option_map group_of result ≡ one_group (trees self.entry) }
     {
@@ -89,7 +95,7 @@ impl<'a, A: Allocator> TokenTreesView<'a, A> {
     }
 }
 
-// One group.
+/// One group of a buffer, borrowed from it. Clauses see its delimiter and its content by `group_of`.
 #[derive_where(Clone, Copy, Debug)]
 pub struct SubtreeView<'a, A: Allocator = Global> {
     subtree: &'a Subtree,
@@ -98,15 +104,18 @@ pub struct SubtreeView<'a, A: Allocator = Global> {
 
 impl<'a, A: Allocator> SubtreeView<'a, A> {
     ghost use Rattle.mbe_tt.specs.View.{group_of};
+    ghost use Rattle.mbe_tt.specs.Top.{delimiter_of, inside};
 
+    /// The group without its content.
     pub fn top_subtree(&self) -> &'a Subtree
-        ensures { result.now.delimiter ≡ (group_of self.now).0 }
+        ensures { result.now.delimiter ≡ delimiter_of (group_of self.now) }
     {
         self.subtree
     }
 
+    /// An iterator over the trees inside.
     pub fn iter(&self) -> TtIter<'a, A>
-        ensures { result ≡ (group_of self.now).1 }
+        ensures { result ≡ inside (group_of self.now) }
     {
         self.inside.iter()
     }
@@ -128,4 +137,40 @@ impl<'a, A: Allocator> Eq for TokenTreesView<'a, A> {
     ghost use Rattle.mbe_tt.specs.View.{view_eq_laws};
 
     ghost laws = { view_eq_laws };
+}
+
+impl<'a, A: Allocator> PartialEq for SubtreeView<'a, A> {
+    ghost use Rattle.mbe_tt.specs.View.{subtree_view_eq, subtree_view_eq_laws};
+
+    ghost eq = { subtree_view_eq };
+
+    ghost laws = { partial_equiv_from_equiv subtree_view_eq_laws };
+
+    fn eq(&self, other: &SubtreeView<'a, A>) -> bool {
+        self.is_same(other)
+    }
+}
+
+impl<'a, A: Allocator> Eq for SubtreeView<'a, A> {
+    ghost use Rattle.mbe_tt.specs.View.{subtree_view_eq_laws};
+
+    ghost laws = { subtree_view_eq_laws };
+}
+
+impl<'a, A: Allocator> SubtreeView<'a, A> {
+    ghost use Rattle.mbe_tt.specs.View.{group_of};
+
+    // Whether the delimiters and the contents are the same.
+    fn is_same(&self, other: &SubtreeView<'a, A>) -> bool
+        ensures { IsTrue result ↔ (group_of self.now ≡ group_of other.now) }
+    {
+        same_delimiter(&self.subtree.delimiter, &other.subtree.delimiter)
+            && self.inside == other.inside
+    }
+}
+
+fn same_delimiter(one: &Delimiter, two: &Delimiter) -> bool
+    ensures { IsTrue result ↔ (one.now ≡ two.now) }
+{
+    one == two
 }

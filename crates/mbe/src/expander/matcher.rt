@@ -1,4 +1,7 @@
 // Matches an argument against a pattern.
+ghost use Rattle.mbe.specs.Takes.{ident_front, tree_front};
+ghost use Rattle.mbe.specs.Views.{IsTaken};
+
 use crate::parser::{MetaTemplate, MetaVarKind, Op};
 use mbe_tt::iter::TtIter;
 use mbe_tt::symbol::Symbol;
@@ -135,7 +138,9 @@ fn eat_fragment<'a, A: Allocator>(
 }
 
 // An identifier other than `_`.
-fn eat_any_ident<'a, A: Allocator>(src: &mut TtIter<'a, A>) -> Option<TokenTreesView<'a, A>> {
+fn eat_any_ident<'a, A: Allocator>(src: &mut TtIter<'a, A>) -> Option<TokenTreesView<'a, A>>
+    ensures { IsTaken result (ident_front src.old) src.new }
+{
     let savepoint = src.savepoint();
     match src.expect_ident() {
         Ok(_) => Some(src.from_savepoint(savepoint)),
@@ -144,7 +149,9 @@ fn eat_any_ident<'a, A: Allocator>(src: &mut TtIter<'a, A>) -> Option<TokenTrees
 }
 
 // A lifetime where `'` comes first, and else puncts that stand together, or one tree.
-fn eat_tree<'a, A: Allocator>(src: &mut TtIter<'a, A>) -> Option<TokenTreesView<'a, A>> {
+fn eat_tree<'a, A: Allocator>(src: &mut TtIter<'a, A>) -> Option<TokenTreesView<'a, A>>
+    ensures { IsTaken result (tree_front src.old) src.new }
+{
     let savepoint = src.savepoint();
     if src.expect_char('\'').is_ok() {
         return match src.expect_ident_or_underscore() {

@@ -1,10 +1,11 @@
-use Rattle.std.proofs.Common.{◌∙◌, ap, ℕ}
-use Rattle.mbe_tt.specs.Tree.{Forest, first}
+use Rattle.std.proofs.Common.{◌∙◌, ◌≤◌, ap, ℕ, arith, length}
+use Rattle.mbe_tt.specs.Tree.{Forest, first, flat_len, rest_at}
 use Rattle.mbe_tt.specs.Entries.{forest_of}
 use Rattle.mbe_tt.specs.Place.{rests}
 use Rattle.mbe_tt.specs.Shown.{entries_of}
 use Rattle.mbe_tt.proofs.Seen.{shown_drop}
-use Rattle.mbe_tt.proofs.Placed.{left_is}
+use Rattle.mbe_tt.proofs.Placed.{left_is, rest_at-rests}
+use Rattle.mbe_tt.proofs.Spelled.{length-spell}
 use Rattle.mbe_tt.proofs.cursor.Cursor.token_tree.Goals as goal
 
 pub first_tree-requires : goal.first_tree-requires
@@ -13,5 +14,7 @@ first_tree-requires g c =
 
 pub returns : goal.returns
 returns g c =
+    let f : Forest = forest_of (entries_of c.self.inside.entries.now) in
+    let within : c.self.inside.place ≤ flat_len f = omega (arith, c.self.invariant.within, ap length c.self.invariant.spelled, length-spell f) in
     c.first_tree.ensures (rests (forest_of (entries_of c.self.inside.entries.now)) c.self.inside.place) ((shown_drop c.self.inside.place c.split_at.result.1.now c.self.inside.entries.now c.split_at.ensures.back) ∙ left_is _ _ _ c.self.invariant.spelled)
-    ∙ ap (λ (v : Forest × ℕ). first (rests v.0 v.1).0) c.self.view_is
+    ∙ (ap first (rest_at-rests f c.self.inside.place within) ∙ ap (λ (v : Forest × ℕ). first (rest_at v.0 v.1)) c.self.view_is)

@@ -1,0 +1,103 @@
+use Rattle.std.proofs.Common.{◌≡◌, ◌≤◌, ◌∙◌, sym, ap, subst, arith, Some, rules}
+use Rattle.std.proofs.lemmas.Result.{err_from_is_err_and}
+use Rattle.mbe_tt.specs.Leaf as leaves
+use Rattle.mbe_tt.specs.Tree.{Forest, none, leaf, group, Leaf_tree, Group_tree, first, cut_trees}
+use Rattle.mbe_tt.specs.Shown.{literal_of, ident_of}
+use Rattle.mbe.specs.Op.{Ops, no_ops}
+use Rattle.mbe.specs.Template.{Mode, head, Template, TemplateFault, nothing}
+use Rattle.mbe.specs.Reader.{Stops, mode_of}
+use Rattle.mbe.specs.Views.{template_of}
+use Rattle.mbe.proofs.Fragments.{first_tree, first_none, back-skip}
+use Rattle.mbe.proofs.OpViews.{view-template, view-subtree, view-literal, view-ident, view-punct}
+use Rattle.mbe.proofs.ReaderLemmas as lemmas
+use Rattle.mbe.proofs.parser.+template.Goals as goal
+
+pub MetaTemplate::parse-returns-in_err-op-clause-fault : goal.MetaTemplate::parse-returns-in_err-op-clause-fault
+MetaTemplate::parse-returns-in_err-op-clause-fault g t c =
+    let p = err_from_is_err_and c.from_residual.result c.from_residual.ensures.1 in
+    rw (p.1, p.2) (lemmas.later_fault _ c.in_err-op.field-0.0 (mode_of c.args.mode) c.args.src c.trees.src c.trees.invariant.fault c.in_err-op.ensures.fault)
+
+pub MetaTemplate::parse-trees-preserved : goal.MetaTemplate::parse-trees-preserved
+MetaTemplate::parse-trees-preserved g t c =
+    let l = c.trees in
+    let o = c.in_ok-op.op in
+    let reads = c.in_ok-op.ensures.op in
+    record {
+      more = λ os h. rw c.in_ok-push.ensures.items (rw (← lemmas.with_front-push l.ops.items o os) (l.invariant.more _ (reads.more os h)));
+      fault = λ x h. l.invariant.fault x (reads.fault x h);
+      smaller = omega (arith, c.in_ok-op.ensures.shorter);
+    }
+
+pub MetaTemplate::parse-returns-clause-ops : goal.MetaTemplate::parse-returns-clause-ops
+MetaTemplate::parse-returns-clause-ops g t c =
+    let empty : c.trees.src ≡ none = search rules in
+    let whole = c.trees.invariant.more no_ops (nothing c.trees.src (ap (head (mode_of c.args.mode)) empty)) in
+    rw (view-template, ← lemmas.with_front-all c.trees.ops.items) whole
+
+pub next_op-returns-in_err-tokens-in-Subtree-clause-fault : goal.next_op-returns-in_err-tokens-in-Subtree-clause-fault
+next_op-returns-in_err-tokens-in-Subtree-clause-fault g t c =
+    let p = err_from_is_err_and c.from_residual-in_err-tokens-in-Subtree.result c.from_residual-in_err-tokens-in-Subtree.ensures.1 in
+    let front : Some (Group_tree c.in-Subtree.subtree.now.delimiter c.in-Subtree.inside) ≡ first c.args.src.now = search rules in
+    let at = first_tree c.args.src.now c.next-passed-in-Subtree.new.self _ front c.next-passed-in-Subtree.ensures.rest in
+    rw (p.1, p.2) (lemmas.group_fault _ c.in_err-tokens-in-Subtree.field-0.0 (mode_of c.args.mode) c.args.src.now c.in-Subtree.inside
+    c.next-passed-in-Subtree.new.self c.in-Subtree.subtree.now.delimiter at c.in_err-tokens-in-Subtree.ensures.fault)
+
+pub next_op-returns-in-Leaf-Punct-clause-op : goal.next_op-returns-in-Leaf-Punct-clause-op
+next_op-returns-in-Leaf-Punct-clause-op g t c =
+    let front : Some (Leaf_tree (leaves.punct c.in-Leaf-Punct.dollar)) ≡ first c.args.src.now = search rules in
+    let at = first_tree c.args.src.now c.next-dollar.new.self _ front c.next-dollar.ensures.rest in
+    lemmas.head_op _ c.behind_dollar.result (mode_of c.args.mode) c.args.src.now c.behind_dollar.new.src _
+    (lemmas.dollar_head (mode_of c.args.mode) c.args.src.now c.next-dollar.new.self c.in-Leaf-Punct.dollar at c.if-dollar-eq36.true) c.behind_dollar.ensures.op
+
+pub next_op-returns-in-Leaf-Punct-clause-fault : goal.next_op-returns-in-Leaf-Punct-clause-fault
+next_op-returns-in-Leaf-Punct-clause-fault g t c =
+    let front : Some (Leaf_tree (leaves.punct c.in-Leaf-Punct.dollar)) ≡ first c.args.src.now = search rules in
+    let at = first_tree c.args.src.now c.next-dollar.new.self _ front c.next-dollar.ensures.rest in
+    lemmas.head_fault _ c.behind_dollar.result (mode_of c.args.mode) c.args.src.now _
+    (lemmas.dollar_head (mode_of c.args.mode) c.args.src.now c.next-dollar.new.self c.in-Leaf-Punct.dollar at c.if-dollar-eq36.true) c.behind_dollar.ensures.fault
+
+pub next_op-returns-in-Leaf-Punct-clause-shorter : goal.next_op-returns-in-Leaf-Punct-clause-shorter
+next_op-returns-in-Leaf-Punct-clause-shorter g t c =
+    let front : Some (Leaf_tree (leaves.punct c.in-Leaf-Punct.dollar)) ≡ first c.args.src.now = search rules in
+    let at = first_tree c.args.src.now c.next-dollar.new.self _ front c.next-dollar.ensures.rest in
+    lemmas.on_ok c.behind_dollar.result _
+    (lemmas.leaf_longer c.args.src.now c.next-dollar.new.self (leaves.punct c.in-Leaf-Punct.dollar) _ at c.behind_dollar.ensures.no_longer)
+
+pub next_op-returns-in-Ok-clause-op : goal.next_op-returns-in-Ok-clause-op
+next_op-returns-in-Ok-clause-op g t c =
+    let f = c.args.src.now in
+    let p = c.in-Leaf-Punct-2.field-0-0 in
+    let front : Some (Leaf_tree (leaves.punct p)) ≡ first f = search rules in
+    let at = first_tree f _ _ front (sym (lemmas.behind f)) in
+    let no_dollar : p.char ≡ 36 → ⊥ = search rules in
+    lemmas.puncts_op _ g.row.A.Denot (mode_of c.args.mode) f c.expect_glued_punct.new.self p c.in-Ok.puncts
+    (lemmas.puncts_head (mode_of c.args.mode) f _ p at no_dollar) c.in-Ok.ensures.value c.in-Ok.ensures.rest
+
+pub next_op-returns-in-Ok-clause-shorter : goal.next_op-returns-in-Ok-clause-shorter
+next_op-returns-in-Ok-clause-shorter g t c =
+    let f = c.args.src.now in
+    let p = c.in-Leaf-Punct-2.field-0-0 in
+    let front : Some (Leaf_tree (leaves.punct p)) ≡ first f = search rules in
+    let at = first_tree f _ _ front (sym (lemmas.behind f)) in
+    lemmas.puncts_longer f _ c.expect_glued_punct.new.self p at c.in-Ok.ensures.rest
+
+pub next_op-returns-in_ok-clone-in-Leaf-Literal-clause-op : goal.next_op-returns-in_ok-clone-in-Leaf-Literal-clause-op
+next_op-returns-in_ok-clone-in-Leaf-Literal-clause-op g t c =
+    let l = c.in_ok-clone-in-Leaf-Literal.field-0 in
+    let front : Some (Leaf_tree (leaves.literal (literal_of l))) ≡ first c.args.src.now = search rules in
+    let at = first_tree c.args.src.now c.next-passed.new.self _ front c.next-passed.ensures.rest in
+    rw view-literal (lemmas.leaf_reads _ (mode_of c.args.mode) c.args.src.now c.next-passed.new.self _ (ap (head (mode_of c.args.mode)) at))
+
+pub next_op-returns-in_ok-clone-in-Leaf-Ident-clause-op : goal.next_op-returns-in_ok-clone-in-Leaf-Ident-clause-op
+next_op-returns-in_ok-clone-in-Leaf-Ident-clause-op g t c =
+    let i = c.in_ok-clone-in-Leaf-Ident.field-0 in
+    let front : Some (Leaf_tree (leaves.ident (ident_of i))) ≡ first c.args.src.now = search rules in
+    let at = first_tree c.args.src.now c.next-passed-in-Leaf-Ident.new.self _ front c.next-passed-in-Leaf-Ident.ensures.rest in
+    rw view-ident (lemmas.leaf_reads _ (mode_of c.args.mode) c.args.src.now c.next-passed-in-Leaf-Ident.new.self _ (ap (head (mode_of c.args.mode)) at))
+
+pub next_op-returns-in_ok-tokens-in-Subtree-clause-op : goal.next_op-returns-in_ok-tokens-in-Subtree-clause-op
+next_op-returns-in_ok-tokens-in-Subtree-clause-op g t c =
+    let front : Some (Group_tree c.in-Subtree.subtree.now.delimiter c.in-Subtree.inside) ≡ first c.args.src.now = search rules in
+    let at = first_tree c.args.src.now c.next-passed-in-Subtree.new.self _ front c.next-passed-in-Subtree.ensures.rest in
+    rw view-subtree (lemmas.reads_group _ (mode_of c.args.mode) c.args.src.now c.in-Subtree.inside c.next-passed-in-Subtree.new.self
+    c.in-Subtree.subtree.now.delimiter _ (ap (head (mode_of c.args.mode)) at) c.in_ok-tokens-in-Subtree.ensures.ops)

@@ -1,0 +1,57 @@
+-- What the reader of patterns and templates answers, told by their grammar.
+use Rattle.std.specs.Prelude.{◌≡◌, codes, Option, Some, None, IfSome, Result, Ok, Err, IsFalse}
+use Rattle.mbe_tt.specs.Leaf.{Ident, is_text}
+use Rattle.mbe_tt.specs.Tree.{Forest}
+use Rattle.mbe_tt.specs.declared.span.SyntaxContext.{SyntaxContext}
+use Rattle.mbe_tt.specs.declared.span.Edition.{Edition}
+use Rattle.mbe.specs.declared.parser.MetaVarKind.{MetaVarKind}
+use Rattle.mbe.specs.declared.parser.Mode as code
+use Rattle.mbe.specs.declared.error.Fault as told
+use Rattle.mbe.specs.declared.error.ReadError as read
+use Rattle.mbe.specs.Op.{Op, Ops, op, variable}
+use Rattle.mbe.specs.Template.{Mode, pattern, template, Fault, unexpected_token, expected, Head, ended, one, typed, opens_group, opens_repetition, kind_named, kind_names, Template, TemplateFault}
+
+abbrev pub mode_of : code.Mode → Mode
+mode_of code.TheVariants.Pattern = pattern
+mode_of code.TheVariants.Template = template
+
+-- the fault that is told; none of what isn't carried yet
+abbrev pub fault_of : told.Fault → Option Fault
+fault_of told.TheVariants.ExpectedSubtree = Some (expected (codes "expected subtree"))
+fault_of told.TheVariants.ExpectedEquals = Some (expected (codes "expected `=`"))
+fault_of told.TheVariants.ExpectedGreater = Some (expected (codes "expected `>`"))
+fault_of told.TheVariants.ExpectedSemicolon = Some (expected (codes "expected `;`"))
+fault_of told.TheVariants.ExpectedIdent = Some (expected (codes "expected ident"))
+fault_of told.TheVariants.ExpectedRepetition = Some (expected (codes "expected `$()` repetition or `${}` expression"))
+fault_of told.TheVariants.ExpressionInPattern = Some (unexpected_token (codes "`${}` metavariable expressions are not allowed in matchers"))
+fault_of told.TheVariants.DollarInPattern = Some (unexpected_token (codes "`$$` is not allowed on the pattern side"))
+fault_of told.TheVariants.MissingSpecifier = Some (unexpected_token (codes "missing fragment specifier"))
+fault_of told.TheVariants.NotCarried = None
+
+-- why reading stopped: want of memory, what isn't carried yet, or a fault of which P holds
+abbrev pub Stops : read.ReadError → (Fault → Type 0) → Type 0
+Stops read.TheVariants.Memory P = Unit {0}
+Stops (read.TheVariants.Fault f) P = IfSome (fault_of f) P
+
+-- the specifier means this kind in each edition
+pub record IsUndated (specifier : Ident) (kind : Option MetaVarKind) : Type 0 where
+  pub no_pat : IsFalse (is_text specifier.sym (codes "pat"))
+  pub no_expr : IsFalse (is_text specifier.sym (codes "expr"))
+  pub named : kind ≡ kind_named kind_names specifier.sym
+
+-- an op stands at the front, and these are the trees behind it
+abbrev pub AtHead : Result Head Fault → Op → Forest → Type 0
+AtHead (Ok (one o rest)) p left = (o ≡ p) × (rest ≡ left)
+AtHead (Ok (typed name span specifier rest)) p left =
+    (kind : Option MetaVarKind) × IsUndated specifier kind × (variable name kind span ≡ p) × (rest ≡ left)
+AtHead (Ok ended) p left = ⊥
+AtHead (Ok (opens_group d inside rest)) p left = ⊥
+AtHead (Ok (opens_repetition separator repeat inside rest)) p left = ⊥
+AtHead (Err f) p left = ⊥
+
+module _ (Answers : SyntaxContext → Edition → Type 0) where
+  -- Before the trees that are left the op was read: what is read there stands behind the op, and the first fault there is
+  -- the first of all.
+  pub record ReadsOp (mode : Mode) (before : Forest) (o : Op) (left : Forest) : Type 0 where
+    pub more : (os : Ops) → Template Answers mode left os → Template Answers mode before (op o os)
+    pub fault : (f : Fault) → TemplateFault Answers mode f left → TemplateFault Answers mode f before
