@@ -1,5 +1,5 @@
 -- How a run ends.
-use Rattle.std.specs.Prelude.{ℕ, ⊤, ◌≡◌, List, Option}
+use Rattle.std.specs.Prelude.{ℕ, ⊤, ◌≡◌, ◌≤◌, List, Option}
 use Rattle.mbex.specs.declared.program.Outcome.{Outcome}
 use Rattle.mbex.specs.declared.program.Outcome.TheVariants.{Expanded, Faulted, Refused, CannotLex, CannotWrite, OutOfMemory}
 use Rattle.mbex.specs.declared.reports.Report.{Report}
@@ -22,6 +22,15 @@ IsSilent (Refused error) before after = after ≡ before
 IsSilent CannotWrite before after = ⊤
 IsSilent (CannotLex file offset) before after = after ≡ before
 IsSilent OutOfMemory before after = after ≡ before
+
+-- a text that isn't lexed is at fault in that file, which is so long, or at its end
+abbrev pub FaultsIn : {A : Type 0} → ℕ → ℕ → Outcome A → Type 0
+FaultsIn file len Expanded = ⊤
+FaultsIn file len Faulted = ⊤
+FaultsIn file len (Refused error) = ⊤
+FaultsIn file len CannotWrite = ⊤
+FaultsIn file len (CannotLex f offset) = (f ≡ file) × (offset ≤ len)
+FaultsIn file len OutOfMemory = ⊤
 
 -- the exit status of a program that says this
 abbrev pub report_status : {A : Type 0} → Report A → ℕ

@@ -1,5 +1,6 @@
 // The token trees of a text.
-ghost use Rattle.std.specs.Prelude.{◌≡◌, ◌<◌, ◌+◌, ◌^◌, length};
+ghost use Rattle.std.specs.Prelude.{◌≡◌, ◌<◌, ◌+◌, ◌^◌, length, IfErr};
+ghost use Rattle.mbex.specs.Scanning.{FaultsWithin};
 
 use crate::scanner::{Fault, Lexeme, Scanner, Token, file_span};
 use mbe_tt::span::Span;
@@ -18,12 +19,20 @@ pub enum LexError {
 }
 
 impl From<Fault> for LexError {
+    ghost use Rattle.mbex.specs.declared.lexer.LexError.TheVariants as errors;
+
+    ghost from_gives = { λ fault error. error ≡ errors.Fault fault.offset };
+
     fn from(fault: Fault) -> LexError {
         LexError::Fault(fault.offset)
     }
 }
 
 impl From<AllocError> for LexError {
+    ghost use Rattle.mbex.specs.declared.lexer.LexError.TheVariants as errors;
+
+    ghost from_gives = { λ _ error. error ≡ errors.OutOfMemory };
+
     fn from(_error: AllocError) -> LexError {
         LexError::OutOfMemory
     }
@@ -46,7 +55,10 @@ impl<A: Allocator + Copy> Trees<A> {
         })
     }
 
-    fn add(&mut self, alloc: A, token: Token<'_>) -> Result<(), LexError> {
+    // Adds the token. A closing that doesn't fit the innermost group is a fault.
+    fn add(&mut self, alloc: A, token: Token<'_>) -> Result<(), LexError>
+        ensures { IfErr result (FaultsWithin token.entry.span.start) }
+    {
         let span = token.span;
         match token.lexeme {
             Lexeme::Open(kind) => self.open(kind, span)?,
@@ -85,7 +97,9 @@ impl<A: Allocator + Copy> Trees<A> {
     }
 
     // Closes the innermost group, if it is of that kind.
-    fn close(&mut self, kind: DelimiterKind, span: Span) -> Result<(), Fault> {
+    fn close(&mut self, kind: DelimiterKind, span: Span) -> Result<(), Fault>
+        ensures { IfErr result (λ fault. fault.offset ≡ span.start) }
+    {
         if self.kinds.last() != Some(&kind) {
             return Err(Fault { offset: span.start });
         }
@@ -125,6 +139,7 @@ fn joined<A: Allocator + Copy>(
 /// at the end are closed there.
 pub fn lex<A: Allocator + Copy>(alloc: A, text: &str, file: u32) -> Result<TopSubtree<A>, LexError>
     requires { length text.now < 2 ^ 32 }
+    ensures { IfErr result (FaultsWithin (length text.now)) }
 {
     let len = text.len() as u32;
     let mut scanner = Scanner::new(text, file);

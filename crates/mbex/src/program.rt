@@ -1,10 +1,11 @@
 // A run, from both texts to what is written.
-ghost use Rattle.std.specs.Prelude.{◌≡◌, ◌<◌, ◌^◌, length, IfErr};
-ghost use Rattle.mbex.specs.Outcomes.{IsSilent, status_of};
+ghost use Rattle.std.specs.Prelude.{◌≡◌, ◌<◌, ◌^◌, ◌⊎◌, length, IfErr};
+ghost use Rattle.mbex.specs.Outcomes.{FaultsIn, IsSilent, status_of};
 
 use crate::lexer::{LexError, lex};
 use crate::printing::print_expansion;
 use crate::sample_grammar::SampleGrammar;
+use crate::scanner::file_span;
 use mbe::{DeclarativeMacro, ExpandResult, MacroCallStyle, MatchedArmIndex, ParseError};
 use mbe_tt::span::Edition;
 use mbe_tt::tt::TopSubtree;
@@ -54,6 +55,7 @@ impl<A: Allocator> From<AllocError> for Outcome<A> {
 
 fn lexed<A: Allocator + Copy>(alloc: A, text: &str, file: u32) -> Result<TopSubtree<A>, Outcome<A>>
     requires { length text.now < 2 ^ 32 }
+    ensures { IfErr result (FaultsIn file (length text.now)) }
 {
     match lex(alloc, text, file) {
         Ok(tree) => Ok(tree),
@@ -73,6 +75,7 @@ fn expansion<A: Allocator + Copy>(
 ) -> Result<Expansion<A>, Outcome<A>>
     requires def { length def.now < 2 ^ 32 }
     requires arg { length arg.now < 2 ^ 32 }
+    ensures { IfErr result (λ outcome. FaultsIn 0 (length def.now) outcome ⊎ FaultsIn 1 (length arg.now) outcome) }
 {
     let definition = lexed(alloc, def, 0)?;
     let argument = lexed(alloc, arg, 1)?;
@@ -80,7 +83,7 @@ fn expansion<A: Allocator + Copy>(
     if let Some(error) = rules.err() {
         return Err(Outcome::Refused(error.try_clone(alloc)?));
     }
-    let call_site = argument.top_subtree().delimiter.opening;
+    let call_site = file_span(1, 0, arg.len() as u32);
     let expansion = rules.expand(
         alloc,
         &SampleGrammar,
@@ -104,7 +107,8 @@ pub fn run<A: Allocator + Copy, W: Write>(
 ) -> Outcome<A>
     requires def { length def.now < 2 ^ 32 }
     requires arg { length arg.now < 2 ^ 32 }
-    ensures { IsSilent result (W.contents out.old) (W.contents out.new) }
+    ensures silent { IsSilent result (W.contents out.old) (W.contents out.new) }
+    ensures within { FaultsIn 0 (length def.now) result ⊎ FaultsIn 1 (length arg.now) result }
 {
     let expansion = match expansion(alloc, def, arg, edition) {
         Ok(expansion) => expansion,

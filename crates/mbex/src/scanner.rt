@@ -1,5 +1,5 @@
 // The tokens of a text, one after another.
-ghost use Rattle.std.specs.Prelude.{◌≡◌, ◌↔◌, ◌<◌, ◌≤◌, ◌^◌, length, IsSome, IfOk};
+ghost use Rattle.std.specs.Prelude.{◌≡◌, ◌↔◌, ◌<◌, ◌≤◌, ◌^◌, length, IsSome, IfSome, IfOk, IfErr};
 
 use mbe_tt::span::{Span, SyntaxContext};
 use mbe_tt::tt::{DelimiterKind, IdentIsRaw, LitKind, Spacing};
@@ -39,7 +39,10 @@ pub struct Token<'t> {
 }
 
 /// A span of bytes of a file. Nothing is in an item or comes from an expansion.
-pub fn file_span(file: u32, start: u32, end: u32) -> Span {
+pub fn file_span(file: u32, start: u32, end: u32) -> Span
+    ensures place { (result.file ≡ file) × (result.start ≡ start) × (result.end ≡ end) }
+    ensures plain { (result.ast ≡ 0) × (result.ctx.0 ≡ 0) }
+{
     Span {
         file,
         ast: 0,
@@ -88,10 +91,13 @@ fn begins_literal(name: &str, rest: &str) -> bool {
 }
 
 impl<'t> Scanner<'t> {
+    ghost use Rattle.mbex.specs.Scanning.{GoesOn, Advances};
+
     /// Before the first byte of a file's text.
     pub fn new(text: &'t str, file: u32) -> Scanner<'t>
         requires { length text.now < 2 ^ 32 }
-        ensures { result.rest.now ≡ text.now }
+        ensures rest { result.rest.now ≡ text.now }
+        ensures total { result.total ≡ length text.now }
     {
         Scanner {
             file,
@@ -101,7 +107,9 @@ impl<'t> Scanner<'t> {
     }
 
     /// The number of bytes passed.
-    pub fn offset(&self) -> u32 {
+    pub fn offset(&self) -> u32
+        ensures { result ≤ self.now.total }
+    {
         self.total - self.rest.len() as u32
     }
 
@@ -114,8 +122,8 @@ impl<'t> Scanner<'t> {
     // Passes one character.
     fn bump(&mut self) -> Option<char>
         ensures some { IsSome result ↔ 0 < length self.old.rest.now }
-        ensures shorter { 0 < length self.old.rest.now → length self.new.rest.now < length self.old.rest.now }
-        ensures no_longer { length self.new.rest.now ≤ length self.old.rest.now }
+        ensures on { GoesOn self.old self.new }
+        ensures past { Advances self.old self.new }
     {
         let mut chars = self.rest.chars();
         let char = chars.next();
@@ -126,7 +134,7 @@ impl<'t> Scanner<'t> {
     // Passes the characters up to one that isn't such.
     fn pass<F: Fn(char) -> bool + Copy>(&mut self, is_such: F)
         requires { F.IsAlwaysCallable is_such }
-        ensures { length self.new.rest.now ≤ length self.old.rest.now }
+        ensures { GoesOn self.old self.new }
     {
         let text = self.rest;
         let end = text.find(|c| !is_such(c)).unwrap_or(text.len());
@@ -143,7 +151,8 @@ impl<'t> Scanner<'t> {
 
     // Passes white space and comments.
     fn trivia(&mut self) -> Result<(), Fault>
-        ensures { length self.new.rest.now ≤ length self.old.rest.now }
+        ensures on { GoesOn self.old self.new }
+        ensures within { IfErr result (λ fault. fault.offset ≤ self.old.total) }
     {
         'parts: loop {
             if self.rest.starts_with("//") {
@@ -160,8 +169,8 @@ impl<'t> Scanner<'t> {
 
     // Passes what is left of a line.
     fn line_comment(&mut self)
-        ensures shorter { 0 < length self.old.rest.now → length self.new.rest.now < length self.old.rest.now }
-        ensures no_longer { length self.new.rest.now ≤ length self.old.rest.now }
+        ensures on { GoesOn self.old self.new }
+        ensures past { Advances self.old self.new }
     {
         self.bump();
         self.pass(|c| c != '\n');
@@ -169,8 +178,9 @@ impl<'t> Scanner<'t> {
 
     // Passes a block comment, with those inside it.
     fn block_comment(&mut self) -> Result<(), Fault>
-        ensures shorter { 0 < length self.old.rest.now → length self.new.rest.now < length self.old.rest.now }
-        ensures no_longer { length self.new.rest.now ≤ length self.old.rest.now }
+        ensures on { GoesOn self.old self.new }
+        ensures past { Advances self.old self.new }
+        ensures within { IfErr result (λ fault. fault.offset ≤ self.old.total) }
     {
         let start = self.offset();
         let mut depth = 0u32;
@@ -195,8 +205,8 @@ impl<'t> Scanner<'t> {
 
     // Passes an identifier without a `r#`, whose first character stands here.
     fn word(&mut self) -> &'t str
-        ensures shorter { 0 < length self.old.rest.now → length self.new.rest.now < length self.old.rest.now }
-        ensures no_longer { length self.new.rest.now ≤ length self.old.rest.now }
+        ensures on { GoesOn self.old self.new }
+        ensures past { Advances self.old self.new }
     {
         let text = self.rest;
         self.bump();
@@ -214,7 +224,9 @@ impl<'t> Scanner<'t> {
     // Passes a raw identifier with its `r#`.
     fn raw_identifier(&mut self) -> Result<Lexeme<'t>, Fault>
         requires { 0 < length self.old.rest.now }
-        ensures { length self.new.rest.now < length self.old.rest.now }
+        ensures on { GoesOn self.old self.new }
+        ensures past { Advances self.old self.new }
+        ensures within { IfErr result (λ fault. fault.offset ≤ self.old.total) }
     {
         let start = self.offset();
         self.bump();
@@ -232,7 +244,9 @@ impl<'t> Scanner<'t> {
     // Passes an identifier that isn't raw.
     fn identifier(&mut self) -> Result<Lexeme<'t>, Fault>
         requires { 0 < length self.old.rest.now }
-        ensures { length self.new.rest.now < length self.old.rest.now }
+        ensures on { GoesOn self.old self.new }
+        ensures past { Advances self.old self.new }
+        ensures within { IfErr result (λ fault. fault.offset ≤ self.old.total) }
     {
         let start = self.offset();
         let name = self.word();
@@ -248,7 +262,8 @@ impl<'t> Scanner<'t> {
     // Passes the identifier that is the suffix of a literal, where one stands here, and gives it with its length. One
     // that would begin a prefixed string is a fault, as it is elsewhere.
     fn suffix(&mut self) -> Result<(&'t str, u8), Fault>
-        ensures { length self.new.rest.now ≤ length self.old.rest.now }
+        ensures on { GoesOn self.old self.new }
+        ensures within { IfErr result (λ fault. fault.offset ≤ self.old.total) }
     {
         let start = self.offset();
         if !self.rest.starts_with(starts_identifier) {
@@ -263,7 +278,8 @@ impl<'t> Scanner<'t> {
 
     // A literal of this text, with the suffix that stands here.
     fn literal(&mut self, text: &'t str, kind: LitKind) -> Result<Lexeme<'t>, Fault>
-        ensures { length self.new.rest.now ≤ length self.old.rest.now }
+        ensures on { GoesOn self.old self.new }
+        ensures within { IfErr result (λ fault. fault.offset ≤ self.old.total) }
     {
         let (suffix, suffix_len) = self.suffix()?;
         Ok(Lexeme::Literal {
@@ -276,7 +292,7 @@ impl<'t> Scanner<'t> {
 
     // Passes the text up to the next `end` and that too, where a `\` takes the next character with it.
     fn quoted(&mut self, end: char) -> Option<&'t str>
-        ensures { length self.new.rest.now ≤ length self.old.rest.now }
+        ensures { GoesOn self.old self.new }
     {
         let text = self.rest;
         'chars: loop {
@@ -294,7 +310,9 @@ impl<'t> Scanner<'t> {
     // Passes a string with its suffix.
     fn string(&mut self) -> Result<Lexeme<'t>, Fault>
         requires { 0 < length self.old.rest.now }
-        ensures { length self.new.rest.now < length self.old.rest.now }
+        ensures on { GoesOn self.old self.new }
+        ensures past { Advances self.old self.new }
+        ensures within { IfErr result (λ fault. fault.offset ≤ self.old.total) }
     {
         let start = self.offset();
         self.bump();
@@ -306,7 +324,7 @@ impl<'t> Scanner<'t> {
 
     // Passes a `.` and the digits behind it, where that is no range and no field.
     fn fraction(&mut self) -> bool
-        ensures { length self.new.rest.now ≤ length self.old.rest.now }
+        ensures { GoesOn self.old self.new }
     {
         let Some(rest) = self.rest.strip_prefix('.') else {
             return false;
@@ -320,7 +338,7 @@ impl<'t> Scanner<'t> {
 
     // Passes an exponent that has a digit.
     fn exponent(&mut self) -> bool
-        ensures { length self.new.rest.now ≤ length self.old.rest.now }
+        ensures { GoesOn self.old self.new }
     {
         let Some(rest) = self.rest.strip_prefix(|c| c == 'e' || c == 'E') else {
             return false;
@@ -335,7 +353,8 @@ impl<'t> Scanner<'t> {
 
     // Passes a number without its suffix.
     fn digits(&mut self) -> LitKind
-        ensures shorter { 0 < length self.old.rest.now → length self.new.rest.now < length self.old.rest.now }
+        ensures on { GoesOn self.old self.new }
+        ensures past { Advances self.old self.new }
     {
         let first = self.bump();
         match (first, self.peek()) {
@@ -363,7 +382,9 @@ impl<'t> Scanner<'t> {
     // Passes a number with its suffix. Floats aren't lexed yet.
     fn number(&mut self) -> Result<Lexeme<'t>, Fault>
         requires { 0 < length self.old.rest.now }
-        ensures { length self.new.rest.now < length self.old.rest.now }
+        ensures on { GoesOn self.old self.new }
+        ensures past { Advances self.old self.new }
+        ensures within { IfErr result (λ fault. fault.offset ≤ self.old.total) }
     {
         let start = self.offset();
         let text = self.rest;
@@ -389,7 +410,9 @@ impl<'t> Scanner<'t> {
     // yet.
     fn sign(&mut self) -> Result<Lexeme<'t>, Fault>
         requires { 0 < length self.old.rest.now }
-        ensures { length self.new.rest.now < length self.old.rest.now }
+        ensures on { GoesOn self.old self.new }
+        ensures past { Advances self.old self.new }
+        ensures within { IfErr result (λ fault. fault.offset ≤ self.old.total) }
     {
         let start = self.offset();
         match self.bump() {
@@ -409,8 +432,10 @@ impl<'t> Scanner<'t> {
 
     /// Passes white space, comments and the next token, and gives that. `None` at the end of the text.
     pub fn token(&mut self) -> Result<Option<Token<'t>>, Fault>
-        ensures shorter { IfOk result (λ o. IsSome o → length self.new.rest.now < length self.old.rest.now) }
-        ensures no_longer { length self.new.rest.now ≤ length self.old.rest.now }
+        ensures on { GoesOn self.old self.new }
+        ensures past { IfOk result (λ token. IsSome token → length self.new.rest.now < length self.old.rest.now) }
+        ensures start { IfOk result (λ token. IfSome token (λ t. t.span.start ≤ self.old.total)) }
+        ensures within { IfErr result (λ fault. fault.offset ≤ self.old.total) }
     {
         self.trivia()?;
         let start = self.offset();
