@@ -1,8 +1,10 @@
 // Macro definitions.
-ghost use Rattle.std.specs.Prelude.{◌≡◌, ◌<◌, OnOk};
+ghost use Rattle.std.specs.Prelude.{◌≡◌, ◌<◌, length, option_map, OnOk};
 ghost use Rattle.mbe_tt.specs.Tree.{flat_len};
 ghost use Rattle.mbe.specs.Definition.{outline_at};
 ghost use Rattle.mbe.specs.Reader.{IsOutlined, is_styled};
+ghost use Rattle.mbe.specs.ErrorViews.{parse_error_of};
+ghost use Rattle.mbe.specs.MacroViews.{macro_of};
 ghost use Rattle.mbe.specs.Marking.{MayMark, MayAsk};
 
 use crate::error::{Fault, ParseError, ReadError};
@@ -70,13 +72,17 @@ impl<A: Allocator + Copy> DeclarativeMacro<A> {
 }
 
 impl<A: Allocator> DeclarativeMacro<A> {
-    /// The first fault of the definition.
-    pub fn err(&self) -> Option<&ParseError<A>> {
+    /// The fault that the definition tells, if there is one: the first in reading order.
+    pub fn err(&self) -> Option<&ParseError<A>>
+        ensures { option_map (λ e. parse_error_of e.now) result ≡ (macro_of self.now).err }
+    {
         self.err.as_ref()
     }
 
-    /// The number of rules that were kept.
-    pub fn num_rules(&self) -> usize {
+    /// The number of rules that were kept: those before the first fault.
+    pub fn num_rules(&self) -> usize
+        ensures { result ≡ length (macro_of self.now).rules }
+    {
         self.rules.len()
     }
 }
