@@ -68,6 +68,20 @@ pub(crate) enum ReadError {
     Fault(Fault),
 }
 
+impl ReadError {
+    ghost use Rattle.mbe.specs.declared.error.ReadError.TheVariants as variants;
+
+    // The fault, or want of memory.
+    pub(crate) fn fault(self) -> Result<Fault, AllocError>
+        ensures { IfOk result (λ fault. self ≡ variants.Fault fault) }
+    {
+        match self {
+            ReadError::Memory => Err(AllocError),
+            ReadError::Fault(fault) => Ok(fault),
+        }
+    }
+}
+
 impl From<AllocError> for ReadError {
     ghost use Rattle.std.specs.Prelude.{◌≡◌};
     ghost use Rattle.mbe.specs.declared.error.ReadError.TheVariants.{Memory};
