@@ -1,6 +1,6 @@
 -- What one rule of a definition says of all its rules.
-use Rattle.std.specs.Prelude.{◌≡◌, ◌≢◌, ◌==◌, ◌||◌, ℕ, Bool, true, false, if◌then◌else◌, List, [], ◌∷◌, ◌++◌, map, Option, Some, None, IfSome, Result, Ok, Err, refl}
-use Rattle.std.proofs.Common.{ap, sym, ◌∙◌, subst, append-nil}
+use Rattle.std.specs.Prelude.{◌≡◌, ◌≢◌, ◌==◌, ◌||◌, ℕ, Bool, true, false, if◌then◌else◌, List, [], ◌∷◌, ◌++◌, map, Option, Some, None, IfSome, unwrap_or, ◌⊎◌, Result, Ok, Err, refl}
+use Rattle.std.proofs.Common.{ap, sym, ◌∙◌, subst, append-nil, inl, inr}
 use Rattle.std.proofs.lemmas.Option.{none-some, same_Some}
 use Rattle.std.proofs.lemmas.Bool.{eq-eqb, ne_eqb}
 use Rattle.mbe_tt.specs.Leaf.{literal, punct, ident}
@@ -16,6 +16,9 @@ use Rattle.mbe.specs.Template.{Fault, pattern, template, Template, TemplateFault
 use Rattle.mbe.specs.Definition.{Outline, Rule, outline_at, AreParts, PartsFault, in_pattern, in_template, Rules, ended, no_rule, faulty_rule, unseparated, separated, behind_separator}
 use Rattle.mbe.specs.Reader.{IsOutlined, ReadsRule, RuleFault, in_outline, in_parts, AreRules, Stops, fault_of, semicolon, expected_semicolon}
 use Rattle.mbe.specs.Views.{rule_of, rules_seen}
+use Rattle.mbe.specs.ErrorViews.{told_of, not_carried}
+use Rattle.mbe.specs.Macro.{Macro}
+use Rattle.mbe.specs.MacroViews.{IsReadAs}
 use Rattle.mbe.proofs.ReaderLemmas.{Stops-weaker, IfSome-weaker}
 
 module _ (Answers : SyntaxContext → Edition → Type 0) where
@@ -139,3 +142,18 @@ pub rules-push-more : {A : Type 0} (before : List (code.Rule A)) (r : code.Rule 
     → rules_seen (before ++ r ∷ []) ++ rs ≡ rules_seen before ++ (rule_of r ∷ rs)
 rules-push-more [] r rs = refl
 rules-push-more (b ∷ before) r rs = ap (λ (xs : List Rule). rule_of b ∷ xs) (rules-push-more before r rs)
+
+-- what a macro tells of its definition
+module _ (Answers : SyntaxContext → Edition → Type 0) where
+  some_told : (o : Option Fault) (f : Forest) (rs : List Rule) → IfSome o (λ y. Rules Answers semicolon expected_semicolon f rs (Some y))
+      → (unwrap_or o not_carried ≡ not_carried) ⊎ Rules Answers semicolon expected_semicolon f rs (Some (unwrap_or o not_carried))
+  some_told None f rs h = inl refl
+  some_told (Some y) f rs h = inr h
+
+  pub read_told : (x : told.Fault) (f : Forest) (m : Macro) → AreRules Answers f m.rules (Some x) → m.err ≡ Some (told_of x) → IsReadAs Answers f m
+  read_told x f m h e = rw e (told_either (some_told (fault_of x) f m.rules h))
+    where
+      told_either : (told_of x ≡ not_carried) ⊎ Rules Answers semicolon expected_semicolon f m.rules (Some (told_of x))
+          → (let r : Option Fault = Some (told_of x) in r ≡ Some not_carried) ⊎ Rules Answers semicolon expected_semicolon f m.rules (Some (told_of x))
+      told_either (inl k) = inl (ap Some k)
+      told_either (inr k) = inr k

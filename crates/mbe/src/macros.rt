@@ -5,7 +5,7 @@ ghost use Rattle.mbe.specs.Definition.{outline_at};
 ghost use Rattle.mbe.specs.Reader.{IsOutlined, ReadsRule, RuleFault, AreRules, Stops, is_styled};
 ghost use Rattle.mbe.specs.Views.{rule_of, rules_seen};
 ghost use Rattle.mbe.specs.ErrorViews.{parse_error_of};
-ghost use Rattle.mbe.specs.MacroViews.{macro_of};
+ghost use Rattle.mbe.specs.MacroViews.{macro_of, IsReadAs};
 ghost use Rattle.mbe.specs.Marking.{MayMark, MayAsk};
 
 use crate::error::{Fault, ParseError, ReadError};
@@ -43,13 +43,16 @@ impl<A: Allocator + Copy> DeclarativeMacro<A> {
         ctx_edition: E,
     ) -> Result<DeclarativeMacro<A>, AllocError>
         requires { MayAsk (E.pre ctx_edition) }
+        ensures { IfOk result (λ m. IsReadAs (E.post ctx_edition) tt.now.1 (macro_of m)) }
     {
         let (rules, fault) = parse_rules(alloc, ctx_edition, tt.iter())?;
-        let err = match fault {
-            Some(fault) => Some(ParseError::of_fault(alloc, fault)?),
-            None => None,
-        };
-        Ok(DeclarativeMacro { rules, err })
+        match fault {
+            None => Ok(DeclarativeMacro { rules, err: None }),
+            Some(fault) => {
+                let err = Some(ParseError::of_fault(alloc, fault)?);
+                Ok(DeclarativeMacro { rules, err })
+            }
+        }
     }
 
     /// Expands a call.
