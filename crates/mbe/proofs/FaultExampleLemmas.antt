@@ -1,9 +1,9 @@
 -- What the grammar of definitions says of definitions with a fault.
 use Rattle.std.specs.Prelude.{None, [], refl}
 use Rattle.mbe_tt.specs.Tree.{none}
-use Rattle.mbe.specs.Template.{nothing, token, here}
+use Rattle.mbe.specs.Template.{nothing, token, repeated, here}
 use Rattle.mbe.specs.Definition.{ended, no_rule, faulty_rule, unseparated, separated, in_pattern, in_template, faulty}
-use Rattle.mbe.specs.FurtherExamples.{FaultExamples}
+use Rattle.mbe.specs.FurtherExamples.{FaultExamples, SpecifierExamples}
 
 pub fault_examples : FaultExamples
 fault_examples = record {
@@ -15,6 +15,7 @@ fault_examples = record {
   number = (_, faulty_rule _ _ _ refl (in_pattern (here _ refl)), refl);
   no_suffix = (_, faulty_rule _ _ _ refl (in_pattern (here _ refl)), refl);
   suffix_first = (_, faulty_rule _ _ _ refl (in_pattern (here _ refl)), refl);
+  four_puncts = (_, faulty_rule _ _ _ refl (in_pattern (here _ refl)), refl);
   two_words = (_, faulty_rule _ _ _ refl (in_pattern (here _ refl)), refl);
   no_style = (_, no_rule _ _ (λ e. cc) refl, refl);
   no_equals = (_, no_rule _ _ (λ e. cc) refl, refl);
@@ -28,6 +29,12 @@ fault_examples = record {
     separated _ _ _ _ _ _ refl (record { style = refl; reads = nothing _ refl; writes = nothing _ refl }) refl (faulty_rule _ _ _ refl (in_pattern (here _ refl))),
     refl,
   );
+  over_stray = (
+    _,
+    unseparated _ _ _ refl
+        (record { style = refl; reads = repeated _ _ _ _ _ _ _ refl (nothing _ refl) (nothing _ refl); writes = nothing _ refl }) refl,
+    refl,
+  );
   body = (
     _,
     separated _ _ _ _ _ _ refl (record { style = refl; reads = nothing _ refl; writes = nothing _ refl }) refl
@@ -35,4 +42,19 @@ fault_examples = record {
     refl,
   );
   arguments = faulty _ (in_pattern (here _ refl));
+}
+
+pub specifier_examples : SpecifierExamples
+specifier_examples = record {
+  old_pat = refl;
+  pat = refl;
+  old_expr = refl;
+  expr = refl;
+  pat_param = refl;
+  expr_2021 = refl;
+  meta = refl;
+  unknown = refl;
+  asked_pat = λ g. refl;
+  asked_pat_param = λ g. refl;
+  asked_meta = λ g. refl;
 }

@@ -243,6 +243,7 @@ template_examples = record {
   counts = λ g. (_, (_, _, refl, (_, _, refl, refl, refl), refl), refl);
   indexes = λ g. (_, (_, _, (_, _, (_, _, refl, (_, _, refl, refl, refl), refl), (_, _, refl, (_, _, refl, refl, refl), refl), refl), refl, refl), refl);
   far_index = λ g. (_, (_, _, (_, _, (_, _, refl, (_, _, refl, refl, refl), refl), (_, _, refl, (_, _, refl, refl, refl), refl), refl), refl, refl), refl);
+  first_only = λ g. (_, (_, _, (_, _, refl, refl, refl), refl, refl), refl);
   below_limit = refl;
   limit = refl;
   listed = refl;

@@ -1,10 +1,10 @@
 -- What an iterator has passed, and what a variable takes by what stands in front.
-use Rattle.std.specs.Prelude.{◌≡◌, ◌≤◌, ◌<◌, ◌+◌, ℕ, zero, suc, Bool, true, false, if◌then◌else◌, length, List, Option, Some, None, option_map, refl, ◌==◌}
+use Rattle.std.specs.Prelude.{◌≡◌, ◌≤◌, ℕ, zero, suc, Bool, true, false, if◌then◌else◌, length, List, Option, Some, None, option_map, refl, ◌==◌}
 use Rattle.std.proofs.Common.{ap, sym, ◌∙◌, arith}
 use Rattle.std.proofs.lemmas.Option.{none-some, same_Some}
 use Rattle.std.proofs.lemmas.Bool.{eq-eqb, ne_eqb}
 use Rattle.mbe_tt.specs.Leaf.{Ident, literal, punct, ident, is_underscore}
-use Rattle.mbe_tt.specs.Tree.{Forest, none, leaf, group, append, flat_len, rest_of, skip, front_ident, front_group, front_char, Cut, cut_trees}
+use Rattle.mbe_tt.specs.Tree.{Forest, none, leaf, group, append, flat_len, rest_of, skip, front_ident, front_char, Cut, cut_trees}
 use Rattle.mbe_tt.proofs.CutLemmas.{cut_trees-append}
 use Rattle.mbe_tt.specs.Tree.{first, tree, Tree, Leaf_tree, Group_tree, any_ident}
 use Rattle.mbe_tt.specs.View.{trees}

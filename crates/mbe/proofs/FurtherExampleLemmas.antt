@@ -1,8 +1,8 @@
 -- More expansions, whole: signs, invisible groups, names that stand twice, and the closest of two rules that fault.
-use Rattle.std.specs.Prelude.{◌≡◌, ◌⊎◌, ◌-◌, ◌^◌, ℕ, zero, suc, min, List, [], ◌∷◌, codes, None, refl}
+use Rattle.std.specs.Prelude.{◌≡◌, ◌⊎◌, ◌-◌, ◌^◌, ◌<◌, ◌≤◌, ℕ, zero, suc, min, List, [], ◌∷◌, codes, None, refl}
 use Rattle.std.proofs.Common.{arith, ap, sym, ◌∙◌, subst}
 use Rattle.std.proofs.lemmas.Option.{none-some, same_Some}
-use Rattle.mbe_tt.specs.Tree.{Forest, none}
+use Rattle.mbe_tt.specs.Tree.{Forest, none, group}
 use Rattle.mbe_tt.specs.Grammar.{Grammar, IsLawful}
 use Rattle.mbe.specs.declared.macro_call_style.MacroCallStyle.TheVariants.{FnLike}
 use Rattle.mbe.specs.Template.{nothing, token, variable, repeated, undated}
@@ -17,8 +17,10 @@ use Rattle.mbe.specs.Verdict as verdicts
 use Rattle.mbe.specs.Verdict.{Verdict, IsVerdict, unmatched}
 use Rattle.mbe.specs.Run.{run, verdict}
 use Rattle.mbe.specs.Steps.{tree}
-use Rattle.mbe.specs.Sample.{taken, text_at, number_at, alone_at}
-use Rattle.mbe.specs.FurtherExamples.{SignExample, one_rule, two_rule, three_rule, any_literal_rule, signed_argument, spaced_argument, PlusExample, plus_rule, star_argument, InvisibleExample, tree_rule, ident_rule, hidden_rule, hidden_a, NamesExample, one_then_list, list_then_one, two_lists, a_at, MostBindingsExample, one_binding, two_bindings, pq_argument}
+use Rattle.mbe.specs.Sample.{taken, text_at, number_at, alone_at, delimiter_of, at}
+use Rattle.std.specs.Fmt.{digits}
+use Rattle.mbe_tt.specs.declared.tt.DelimiterKind.TheVariants.{Parenthesis}
+use Rattle.mbe.specs.FurtherExamples.{SignExample, one_rule, two_rule, three_rule, any_literal_rule, signed_argument, spaced_argument, PlusExample, plus_rule, star_argument, InvisibleExample, tree_rule, ident_rule, hidden_rule, hidden_a, NamesExample, one_then_list, list_then_one, two_lists, a_at, MostBindingsExample, one_binding, two_bindings, pq_argument, beside_rule, EarliestExample, earlier_rule, later_rule, p_argument, MarkedExample}
 use Rattle.mbe.proofs.RuleLemmas.{by_run, fits_once, applies_once, applies_by_run}
 use Rattle.mbe.proofs.RunLemmas.{one_verdict}
 
@@ -210,13 +212,95 @@ names_example = record {
     this_one _ _ _,
     (_, (_, _, (_, _, (_, _, (_, _, refl, refl, refl), (_, _, refl, refl, refl), refl), (_, _, refl, refl, refl), refl), refl, refl), refl),
   );
+  beside = λ g. (
+    beside_rule,
+    applies_once g FnLike (a_at 0 (group (delimiter_of Parenthesis (at 1 2 3) (at 1 4 5)) (text_at 1 3 (codes "b") none) none)) beside_rule
+        (item (item no_items (word_item 0 (codes "a"))) (grouped (item no_items (taken (codes "y") items.stripped (text_at 1 3 (codes "b") none))))) refl refl
+        ((_, (_, refl, (refl, refl)), (refl, (_, refl, (refl, refl)), refl)), refl) refl,
+    this_one _ _ _,
+    (_, (_, _, refl, (_, _, refl, refl, refl), refl), refl),
+  );
   skipped = λ g w. (two_lists, skipped_applies g w, this_one _ _ _, (_, (_, _, refl, refl, refl), refl));
 }
 
--- ---- of two rules that fault, the one that binds more
+-- ---- of two rules that fit and fault
 
-abbrev both_rules : List Rule
-both_rules = one_binding ∷ two_bindings ∷ []
+abbrev number_of : Items → ℕ
+number_of is = min (binding_total (environment_of is)) (2 ^ 64 - 1)
+
+abbrev bound_by : ℕ → ℕ → ℕ → ℕ
+bound_by a b zero = a
+bound_by a b (suc n) = b
+
+module _ (g : Grammar) (argument : Forest) (r q : Rule) (is js : Items) (r_fits : Fits g r.reads argument is) (q_fits : Fits g q.reads argument js)
+    (r_styled : r.style ≡ FnLike) (q_styled : q.style ≡ FnLike) where
+  abbrev all_left : ℕ
+  all_left = unmatched argument verdicts.one_reading
+
+  r_verdict : IsVerdict g r.reads argument verdicts.one_reading
+  r_verdict = (r_fits.0, (is, r_fits.1))
+
+  q_verdict : IsVerdict g q.reads argument verdicts.one_reading
+  q_verdict = (q_fits.0, (js, q_fits.1))
+
+  left_at : (m : ℕ) (s : Rule) → IsStyledAt (r ∷ q ∷ []) FnLike m s → (v : Verdict) × IsVerdict g s.reads argument v × (all_left ≡ unmatched argument v)
+  left_at zero s p = (verdicts.one_reading, subst (λ x. IsVerdict g x.reads argument verdicts.one_reading) (same_Some r s p.0) r_verdict, refl)
+  left_at (suc zero) s p = (verdicts.one_reading, subst (λ x. IsVerdict g x.reads argument verdicts.one_reading) (same_Some q s p.0) q_verdict, refl)
+  left_at (suc (suc m)) s p = absurd (none-some s p.0)
+
+  bound_number : (m : ℕ) (s : Rule) (ks : Items) → IsStyledAt (r ∷ q ∷ []) FnLike m s → Fits g s.reads argument ks → bound_by (number_of is) (number_of js) m ≡ number_of ks
+  bound_number zero s ks p f = ap number_of ((subst (λ x. Fits g x.reads argument ks) (sym (same_Some r s p.0)) f).1.1 is r_fits.1.0)
+  bound_number (suc zero) s ks p f = ap number_of ((subst (λ x. Fits g x.reads argument ks) (sym (same_Some q s p.0)) f).1.1 js q_fits.1.0)
+  bound_number (suc (suc m)) s ks p f = absurd (none-some s p.0)
+
+  first_closest : number_of js ≤ number_of is → IsClosest g FnLike argument (r ∷ q ∷ []) 0
+  first_closest h =
+      record { left = λ m. all_left; bound = bound_by (number_of is) (number_of js); rule = r; styled = (refl, r_styled); unmatched_trees = left_at; bindings = bound_number; first = goes_before }
+    where
+      either : (a b : ℕ) → b ≤ a → (b < a) ⊎ (b ≡ a)
+      either a b l = grind (arith, l)
+
+      goes_before : (m : ℕ) (s : Rule) → IsStyledAt (r ∷ q ∷ []) FnLike m s → GoesBefore (λ x. all_left) (bound_by (number_of is) (number_of js)) 0 m
+      goes_before zero s p = ◌⊎◌.inr (refl, ◌⊎◌.inr (refl, omega arith))
+      goes_before (suc m) s p = elim (either (number_of is) (number_of js) h) [ ◌⊎◌.inl l ↦ ◌⊎◌.inr (refl, ◌⊎◌.inl l) | ◌⊎◌.inr e ↦ ◌⊎◌.inr (refl, ◌⊎◌.inr (e, omega arith)) ]
+
+  second_closest : number_of is < number_of js → IsClosest g FnLike argument (r ∷ q ∷ []) 1
+  second_closest h =
+      record { left = λ m. all_left; bound = bound_by (number_of is) (number_of js); rule = q; styled = (refl, q_styled); unmatched_trees = left_at; bindings = bound_number; first = goes_before }
+    where
+      goes_before : (m : ℕ) (s : Rule) → IsStyledAt (r ∷ q ∷ []) FnLike m s → GoesBefore (λ x. all_left) (bound_by (number_of is) (number_of js)) 1 m
+      goes_before zero s p = ◌⊎◌.inr (refl, ◌⊎◌.inl h)
+      goes_before (suc m) s p = ◌⊎◌.inr (refl, ◌⊎◌.inr (refl, omega arith))
+
+  module _ (n : ℕ) (c : IsClosest g FnLike argument (r ∷ q ∷ []) n) where
+    same_left : c.left 0 ≡ c.left 1
+    same_left =
+        let a = c.unmatched_trees 0 r (refl, r_styled) in
+        let b = c.unmatched_trees 1 q (refl, q_styled) in
+        (a.2 ∙ ap (unmatched argument) (one_verdict g r.reads argument a.0 verdicts.one_reading a.1 r_verdict))
+        ∙ sym (b.2 ∙ ap (unmatched argument) (one_verdict g q.reads argument b.0 verdicts.one_reading b.1 q_verdict))
+
+    r_bound : c.bound 0 ≡ number_of is
+    r_bound = c.bindings 0 r is (refl, r_styled) r_fits
+
+    q_bound : c.bound 1 ≡ number_of js
+    q_bound = c.bindings 1 q js (refl, q_styled) q_fits
+
+  first_not : number_of is < number_of js → IsClosest g FnLike argument (r ∷ q ∷ []) 0 → ⊥
+  first_not h c = go (c.first 1 q (refl, q_styled)) (same_left 0 c) (r_bound 0 c) (q_bound 0 c)
+    where
+      go : GoesBefore c.left c.bound 0 1 → c.left 0 ≡ c.left 1 → c.bound 0 ≡ number_of is → c.bound 1 ≡ number_of js → ⊥
+      go (◌⊎◌.inl l) e x y = omega (arith, l, e)
+      go (◌⊎◌.inr (d, ◌⊎◌.inl l)) e x y = omega (arith, l, x, y, h)
+      go (◌⊎◌.inr (d, ◌⊎◌.inr l)) e x y = let z = l.0 in omega (arith, z, x, y, h)
+
+  second_not : number_of js ≤ number_of is → IsClosest g FnLike argument (r ∷ q ∷ []) 1 → ⊥
+  second_not h c = go (c.first 0 r (refl, r_styled)) (same_left 1 c) (r_bound 1 c) (q_bound 1 c)
+    where
+      go : GoesBefore c.left c.bound 1 0 → c.left 0 ≡ c.left 1 → c.bound 0 ≡ number_of is → c.bound 1 ≡ number_of js → ⊥
+      go (◌⊎◌.inl l) e x y = omega (arith, l, e)
+      go (◌⊎◌.inr (d, ◌⊎◌.inl l)) e x y = omega (arith, l, x, y, h)
+      go (◌⊎◌.inr (d, ◌⊎◌.inr l)) e x y = let z = l.1 in omega (arith, z)
 
 abbrev first_items : Items
 first_items = item (item no_items (matched 1)) (taken (codes "x") items.stripped (text_at 1 2 (codes "q") none))
@@ -230,67 +314,34 @@ first_fits g = fits_once g one_binding.reads pq_argument first_items refl ((_, (
 second_fits : (g : Grammar) → Fits g two_bindings.reads pq_argument second_items
 second_fits g = fits_once g two_bindings.reads pq_argument second_items refl ((_, (_, refl, (refl, refl)), (refl, refl)), refl)
 
-abbrev bound_by : ℕ → ℕ
-bound_by zero = 1
-bound_by (suc n) = 2
-
-abbrev number_of : Items → ℕ
-number_of is = min (binding_total (environment_of is)) (2 ^ 64 - 1)
-
-second_closest : (g : Grammar) → IsClosest g FnLike pq_argument both_rules 1
-second_closest g = record {
-  left = λ m. 0;
-  bound = bound_by;
-  rule = two_bindings;
-  styled = (refl, refl);
-  unmatched_trees = left_at;
-  bindings = bound_at;
-  first = first_at;
-}
-  where
-    left_at : (m : ℕ) (r : Rule) → IsStyledAt both_rules FnLike m r → (v : Verdict) × IsVerdict g r.reads pq_argument v × (0 ≡ unmatched pq_argument v)
-    left_at zero r p =
-        (verdicts.one_reading, subst (λ x. IsVerdict g x.reads pq_argument verdicts.one_reading) (same_Some one_binding r p.0) ((first_fits g).0, (first_items, (first_fits g).1)), refl)
-    left_at (suc zero) r p =
-        (verdicts.one_reading, subst (λ x. IsVerdict g x.reads pq_argument verdicts.one_reading) (same_Some two_bindings r p.0) ((second_fits g).0, (second_items, (second_fits g).1)), refl)
-    left_at (suc (suc m)) r p = absurd (none-some r p.0)
-
-    bound_at : (m : ℕ) (r : Rule) (is : Items) → IsStyledAt both_rules FnLike m r → Fits g r.reads pq_argument is → bound_by m ≡ number_of is
-    bound_at zero r is p f = ap number_of ((subst (λ x. Fits g x.reads pq_argument is) (sym (same_Some one_binding r p.0)) f).1.1 first_items (first_fits g).1.0)
-    bound_at (suc zero) r is p f = ap number_of ((subst (λ x. Fits g x.reads pq_argument is) (sym (same_Some two_bindings r p.0)) f).1.1 second_items (second_fits g).1.0)
-    bound_at (suc (suc m)) r is p f = absurd (none-some r p.0)
-
-    first_at : (m : ℕ) (r : Rule) → IsStyledAt both_rules FnLike m r → GoesBefore (λ x. 0) bound_by 1 m
-    first_at zero r p = ◌⊎◌.inr (refl, ◌⊎◌.inl (omega arith))
-    first_at (suc m) r p = ◌⊎◌.inr (refl, ◌⊎◌.inr (refl, omega arith))
-
-first_not : (g : Grammar) → IsClosest g FnLike pq_argument both_rules 0 → ⊥
-first_not g c = go (c.first 1 two_bindings (refl, refl))
-  where
-    a : (v : Verdict) × IsVerdict g one_binding.reads pq_argument v × (c.left 0 ≡ unmatched pq_argument v)
-    a = c.unmatched_trees 0 one_binding (refl, refl)
-
-    left_one : c.left 0 ≡ 0
-    left_one = a.2 ∙ ap (unmatched pq_argument)
-        (one_verdict g one_binding.reads pq_argument a.0 verdicts.one_reading a.1 ((first_fits g).0, (first_items, (first_fits g).1)))
-
-    b : (v : Verdict) × IsVerdict g two_bindings.reads pq_argument v × (c.left 1 ≡ unmatched pq_argument v)
-    b = c.unmatched_trees 1 two_bindings (refl, refl)
-
-    left_two : c.left 1 ≡ 0
-    left_two = b.2 ∙ ap (unmatched pq_argument)
-        (one_verdict g two_bindings.reads pq_argument b.0 verdicts.one_reading b.1 ((second_fits g).0, (second_items, (second_fits g).1)))
-
-    bound_one : c.bound 0 ≡ 1
-    bound_one = c.bindings 0 one_binding first_items (refl, refl) (first_fits g)
-
-    bound_two : c.bound 1 ≡ 2
-    bound_two = c.bindings 1 two_bindings second_items (refl, refl) (second_fits g)
-
-    go : GoesBefore c.left c.bound 0 1 → ⊥
-    go (◌⊎◌.inl h) = let x = left_one in let y = left_two in omega (arith, h, x, y)
-    go (◌⊎◌.inr (e, ◌⊎◌.inl h)) = let x = bound_one in let y = bound_two in omega (arith, h, x, y)
-    go (◌⊎◌.inr (e, ◌⊎◌.inr h)) = let x = bound_one in let y = bound_two in let z = h.0 in omega (arith, z, x, y)
-
 pub most_bindings_example : MostBindingsExample
-most_bindings_example = record { closest = second_closest; only = first_not }
+most_bindings_example = record {
+  closest = λ g. second_closest g pq_argument one_binding two_bindings first_items second_items (first_fits g) (second_fits g) refl refl (omega arith);
+  only = λ g. first_not g pq_argument one_binding two_bindings first_items second_items (first_fits g) (second_fits g) refl refl (omega arith);
+}
+
+abbrev p_items : List ℕ → Items
+p_items name = item no_items (taken name items.stripped p_argument)
+
+earlier_fits : (g : Grammar) → Fits g earlier_rule.reads p_argument (p_items (codes "x"))
+earlier_fits g = fits_once g earlier_rule.reads p_argument (p_items (codes "x")) refl ((_, refl, (refl, refl)), refl)
+
+later_fits : (g : Grammar) → Fits g later_rule.reads p_argument (p_items (codes "y"))
+later_fits g = fits_once g later_rule.reads p_argument (p_items (codes "y")) refl ((_, refl, (refl, refl)), refl)
+
+pub earliest_example : EarliestExample
+earliest_example = record {
+  closest = λ g. first_closest g p_argument earlier_rule later_rule (p_items (codes "x")) (p_items (codes "y")) (earlier_fits g) (later_fits g) refl refl (omega arith);
+  only = λ g. second_not g p_argument earlier_rule later_rule (p_items (codes "x")) (p_items (codes "y")) (earlier_fits g) (later_fits g) refl refl (omega arith);
+}
+
+-- ---- a marker that sets a context
+
+pub marked_example : MarkedExample
+unfolding digits
+marked_example = record {
+  tokens = λ g. (_, (_, _, (_, refl, refl), (_, _, (_, _, _, refl, refl, (_, _, refl, refl, refl), refl), refl, refl), refl), refl);
+  separator = λ g. (_, (_, _, (_, _, (_, _, refl, (_, _, refl, refl, refl), refl), (_, _, refl, (_, _, refl, refl, refl), refl), refl), refl, refl), refl);
+  unbound = λ g. (_, (_, _, refl, refl, refl), refl);
+  parentheses = (_, refl, refl);
+}

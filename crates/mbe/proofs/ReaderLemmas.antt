@@ -16,7 +16,7 @@ use Rattle.mbe_tt.specs.declared.tt.Delimiter.{Delimiter}
 use Rattle.mbe.specs.declared.parser.MetaVarKind.{MetaVarKind}
 use Rattle.mbe.specs.Op as ops
 use Rattle.mbe.specs.Op.{Name, Op, Ops, op, no_ops}
-use Rattle.mbe.specs.Template.{Mode, Fault, Head, ended, one, typed, opens_group, opens_repetition, head, behind_dollar, puncts_at, kind_named, kind_names, missing_specifier, specifier_at, variable_at, Specifies, undated, Template, nothing, token, variable, grouped, TemplateFault, here as at_front, in_group, behind_token, behind_variable, behind_group}
+use Rattle.mbe.specs.Template.{Mode, Fault, Head, ended, one, typed, opens_group, opens_repetition, head, behind_dollar, puncts_at, kind_named, kind_names, missing_specifier, specifier_at, variable_at, Specifies, undated, Template, token, variable, grouped, TemplateFault, here as at_front, in_group, behind_token, behind_variable, behind_group}
 use Rattle.mbe.specs.Reader.{AtHead, IsUndated, ReadsOp, Stops, mode_of, fault_of}
 use Rattle.mbe.specs.declared.error.ReadError as why
 use Rattle.mbe.specs.declared.parser.Mode as mode

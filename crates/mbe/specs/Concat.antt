@@ -17,16 +17,19 @@ text_of_tree (leaf (ident i) none) = Some i.sym
 text_of_tree (leaf (literal l) none) = Some (literal_text l)
 text_of_tree _ = None
 
+-- expressions and paths have none
 abbrev pub text_in_style : Style → Forest → Option (List ℕ)
 text_in_style as_expression f = None
 text_in_style as_path f = None
 text_in_style _ f = text_of_tree f
 
+-- the text of a variable's value
 abbrev pub text_of_value : Value → Option (List ℕ)
 text_of_value (fragment x) = text_in_style x.style x.trees
 text_of_value (missing kind) = text_of_tree (default_trees kind no_span)
 text_of_value _ = None
 
+-- the text of one element
 abbrev pub text_of_element : Environment → Path → Element → Option (List ℕ)
 text_of_element env path (ident_element i) = Some i.sym
 text_of_element env path (literal_element l) = Some (literal_text l)
@@ -38,6 +41,7 @@ joined_text env path [] = Some []
 joined_text env path (e ∷ es) =
     option_and_then (λ text. option_map (λ more. text ++ more) (joined_text env path es)) (text_of_element env path e)
 
+-- an identifier begins with `_` or XID_Start and goes on with XID_Continue
 abbrev pub are_identifier_chars : List ℕ → Bool
 are_identifier_chars [] = false
 are_identifier_chars (c ∷ cs) = (is_xid_start c || (c == 95)) && list_all is_xid_continue cs
@@ -46,5 +50,6 @@ are_identifier_chars (c ∷ cs) = (is_xid_start c || (c == 95)) && list_all is_x
 abbrev pub if_identifier : List ℕ → Option (List ℕ)
 if_identifier text = if are_identifier_chars (chars text) then Some text else None
 
+-- the identifier that is joined, if it is one
 abbrev pub concat_text : Environment → Path → List Element → Option (List ℕ)
 concat_text env path elements = option_and_then if_identifier (joined_text env path elements)

@@ -1,22 +1,31 @@
 -- More expansions, and definitions with a fault.
-use Rattle.std.specs.Prelude.{ℕ, ◌+◌, List, [], ◌∷◌, codes, length, Some, None}
-use Rattle.mbe_tt.specs.declared.tt.DelimiterKind.TheVariants.{Bracket, Invisible}
+use Rattle.std.specs.Prelude.{◌≡◌, ℕ, ◌+◌, List, [], ◌∷◌, codes, length, Some, None}
+use Rattle.mbe_tt.specs.declared.tt.DelimiterKind.TheVariants.{Parenthesis, Bracket, Invisible}
 use Rattle.mbe_tt.specs.declared.tt.LitKind.{LitKind}
 use Rattle.mbe_tt.specs.declared.tt.LitKind.TheVariants.{Integer, Float, Str}
 use Rattle.mbe_tt.specs.declared.tt.Spacing.TheVariants.{Alone, Joint}
-use Rattle.mbe_tt.specs.Leaf.{Literal, literal}
+use Rattle.mbe_tt.specs.Leaf.{Literal, literal, ident}
 use Rattle.mbe_tt.specs.Tree.{Forest, none, leaf, group}
-use Rattle.mbe_tt.specs.Grammar.{Grammar, IsLawful}
+use Rattle.mbe_tt.specs.Grammar.{Grammar, IsLawful, good_front}
+use Rattle.mbe_tt.specs.declared.span.Span.{Span}
+use Rattle.mbe_tt.specs.declared.span.Edition.TheVariants.{Edition2018, Edition2021, Edition2024}
+use Rattle.mbe_tt.specs.declared.grammar.PrefixEntryPoint.TheVariants as entries
+use Rattle.mbe.specs.declared.parser.ExprKind.TheVariants as exprs
 use Rattle.mbe.specs.declared.macro_call_style.MacroCallStyle.TheVariants.{FnLike}
 use Rattle.mbe.specs.declared.parser.MetaVarKind.TheVariants as kinds
 use Rattle.mbe.specs.declared.parser.RepeatKind.TheVariants.{ZeroOrMore, OneOrMore}
 use Rattle.mbe.specs.Op as ops
 use Rattle.mbe.specs.Op.{Op, Ops, no_ops, op, punct_separator}
-use Rattle.mbe.specs.Template.{Fault, expected, unexpected_token, invalid_repeat}
+use Rattle.mbe.specs.Template.{Fault, expected, unexpected_token, invalid_repeat, empty_repetition, pat_kind, expr_kind, kind_names, kind_named}
 use Rattle.mbe.specs.Definition.{Rule, IsMacroRules, IsMacroBody, IsMacroOfArguments}
+use Rattle.mbe.specs.Takes.{takes}
+use Rattle.mbe.specs.Item.{stripped, as_expression}
 use Rattle.mbe.specs.Verdict.{IsVerdict, stuck}
+use Rattle.mbe.specs.Environment.{fragment, list, value, no_values, Environment}
+use Rattle.mbe.specs.Written.{IsWrittenAs}
+use Rattle.mbe.specs.Substitution.{IsSubstitution}
 use Rattle.mbe.specs.Recovery.{IsClosest}
-use Rattle.mbe.specs.Sample.{is_2024, at, punct_of, integer_of, delimiter_of, text_at, number_at, alone_at, joint_at, arrow_at, parens, braces, typed_at, named_at, reads_at, writes_at, ident_at, fn_like, Defines, ExpandsBy}
+use Rattle.mbe.specs.Sample.{is_2024, at, ident_of, punct_of, integer_of, delimiter_of, text_at, number_at, alone_at, joint_at, arrow_at, parens, braces, typed_at, named_at, reads_at, writes_at, ident_at, fn_like, Defines, ExpandsBy}
 
 -- ---- `(-1) => {-1}; (- 2) => {- 2}; (- 3.0) => {- 3.0}; (@$lit:literal) => {$lit}`, a rule a line behind a first line break
 
@@ -143,6 +152,11 @@ list_then_one = fn_like (op (ops.repetition (word_items 4) None ZeroOrMore) (op 
 abbrev pub two_lists : Rule
 two_lists = fn_like (op (comma_list 4) (op semicolon (op (comma_list 20) no_ops))) (op (ops.repetition (op (writes_at 39 (codes "x")) no_ops) None ZeroOrMore) no_ops)
 
+abbrev pub beside_rule : Rule
+beside_rule =
+    fn_like (op (reads_at 2 (codes "x") kinds.Ident) (op (ops.group (parens 10 19) (op (reads_at 12 (codes "y") kinds.Ident) no_ops)) no_ops))
+    (op (writes_at 26 (codes "x")) (op (writes_at 29 (codes "y")) no_ops))
+
 abbrev pub a_at : ℕ → Forest → Forest
 a_at start rest = text_at 1 start (codes "a") rest
 
@@ -157,6 +171,9 @@ pub record NamesExample : Type 0 where
   pub appended : (g : Grammar) → IsLawful g →
       ExpandsBy g (two_lists ∷ []) (a_at 0 (alone_at 1 2 59 (text_at 1 4 (codes "b") (alone_at 1 5 44 (text_at 1 7 (codes "c") none))))) 8 0
       (a_at 0 (text_at 1 4 (codes "b") (text_at 1 7 (codes "c") none)))
+  -- `($x:ident ($y:ident)) => {$x $y}` on `a (b)`: a group's items bind beside those before it
+  pub beside : (g : Grammar) → ExpandsBy g (beside_rule ∷ [])
+      (a_at 0 (group (delimiter_of Parenthesis (at 1 2 3) (at 1 4 5)) (text_at 1 3 (codes "b") none) none)) 5 0 (a_at 0 (text_at 1 3 (codes "b") none))
   -- on `; b`: rounds leave the empty value of a skipped repetition
   pub skipped : (g : Grammar) → IsLawful g → ExpandsBy g (two_lists ∷ []) (alone_at 1 0 59 (text_at 1 2 (codes "b") none)) 3 0 none
 
@@ -177,6 +194,67 @@ pq_argument = text_at 1 0 (codes "p") (text_at 1 2 (codes "q") none)
 pub record MostBindingsExample : Type 0 where
   pub closest : (g : Grammar) → IsClosest g FnLike pq_argument (one_binding ∷ two_bindings ∷ []) 1
   pub only : (g : Grammar) → IsClosest g FnLike pq_argument (one_binding ∷ two_bindings ∷ []) 0 → ⊥
+
+-- ---- `($x:tt) => {$($x)*}; ($y:tt) => {$($y)*}` on `p`: both fit and fault, and bind as much
+
+abbrev pub earlier_rule : Rule
+earlier_rule = fn_like (op (reads_at 2 (codes "x") kinds.Tt) no_ops) (rounds_of_x 15)
+
+abbrev pub later_rule : Rule
+later_rule = fn_like (op (reads_at 24 (codes "y") kinds.Tt) no_ops) (op (ops.repetition (op (writes_at 37 (codes "y")) no_ops) None ZeroOrMore) no_ops)
+
+abbrev pub p_argument : Forest
+p_argument = text_at 1 0 (codes "p") none
+
+pub record EarliestExample : Type 0 where
+  pub closest : (g : Grammar) → IsClosest g FnLike p_argument (earlier_rule ∷ later_rule ∷ []) 0
+  pub only : (g : Grammar) → IsClosest g FnLike p_argument (earlier_rule ∷ later_rule ∷ []) 1 → ⊥
+
+-- ---- a marker that sets a context
+
+abbrev pub in_context : ℕ → Span → Span
+in_context n span = record span { ctx = record { 0 = n } }
+
+abbrev pub sets_context : ℕ → Span → Span → Type 0
+sets_context n s t = t ≡ in_context n s
+
+abbrev pub two_values : Environment
+two_values = (codes "x", list (value (fragment (record { trees = text_at 1 0 (codes "a") none; style = stripped })) (value (fragment (record { trees = text_at 1 2 (codes "b") none; style = stripped })) no_values))) ∷ []
+
+abbrev pub result_at : ℕ → Forest → Forest
+result_at end inside = group (delimiter_of Invisible (at 1 0 end) (at 1 0 end)) inside none
+
+pub record MarkedExample : Type 0 where
+  -- `pair ($x)` with one value: a token and a group are marked, what stood in the argument isn't, nor is the whole
+  pub tokens : (g : Grammar) → IsSubstitution g (sets_context 7) (at 1 0 3) ((codes "x", fragment (record { trees = text_at 1 0 (codes "a") none; style = stripped })) ∷ [])
+      (op (ident_at 25 (codes "pair")) (op (ops.group (parens 30 33) (op (writes_at 32 (codes "x")) no_ops)) no_ops))
+      (result_at 3 (leaf (ident (ident_of (codes "pair") (in_context 7 (at 0 25 29))))
+      (group (delimiter_of Parenthesis (in_context 7 (at 0 30 31)) (in_context 7 (at 0 33 34))) (text_at 1 0 (codes "a") none) none)))
+  -- `$(${index()} $x);*`: integers and separators aren't marked
+  pub separator : (g : Grammar) → IsSubstitution g (sets_context 7) (at 1 0 3) two_values
+      (op (ops.repetition (op (ops.expression (ops.index 0)) (op (writes_at 23 (codes "x")) no_ops)) (Some (punct_separator (punct_of 59 Joint (at 0 25 26) ∷ []))) ZeroOrMore) no_ops)
+      (result_at 3 (leaf (literal (integer_of (codes "0") (at 1 0 3))) (text_at 1 0 (codes "a") (joint_at 0 25 59 (leaf (literal (integer_of (codes "1") (at 1 0 3))) (text_at 1 2 (codes "b") none))))))
+  -- `$y`, which is unbound, isn't marked
+  pub unbound : (g : Grammar) → IsSubstitution g (sets_context 7) (at 1 0 0) [] (op (writes_at 8 (codes "y")) no_ops) (result_at 0 (alone_at 0 8 36 (text_at 0 8 (codes "y") none)))
+  -- the parentheses of an expression are marked, by the variable's span
+  pub parentheses : IsWrittenAs (sets_context 7) (at 1 0 5) as_expression (at 0 15 16) (a_at 0 (text_at 1 2 (codes "b") none))
+      (group (delimiter_of Parenthesis (in_context 7 (at 0 15 16)) (in_context 7 (at 0 15 16))) (a_at 0 (text_at 1 2 (codes "b") none)) none)
+
+-- ---- specifiers
+
+pub record SpecifierExamples : Type 0 where
+  pub old_pat : pat_kind Edition2018 ≡ kinds.PatParam
+  pub pat : pat_kind Edition2021 ≡ kinds.Pat
+  pub old_expr : expr_kind Edition2021 ≡ kinds.Expr exprs.Expr2021
+  pub expr : expr_kind Edition2024 ≡ kinds.Expr exprs.Expr
+  pub pat_param : kind_named kind_names (codes "pat_param") ≡ Some kinds.PatParam
+  pub expr_2021 : kind_named kind_names (codes "expr_2021") ≡ Some (kinds.Expr exprs.Expr2021)
+  pub meta : kind_named kind_names (codes "meta") ≡ Some kinds.Meta
+  pub unknown : kind_named kind_names (codes "foo") ≡ None
+  -- what the grammar is asked for
+  pub asked_pat : (g : Grammar) → takes g (Some kinds.Pat) none ≡ good_front g entries.PatTop none
+  pub asked_pat_param : (g : Grammar) → takes g (Some kinds.PatParam) none ≡ good_front g entries.Pat none
+  pub asked_meta : (g : Grammar) → takes g (Some kinds.Meta) none ≡ good_front g entries.MetaItem none
 
 -- ---- definitions with a fault
 
@@ -214,9 +292,11 @@ pub record FaultExamples : Type 0 where
   pub bracket : Refuses (with_pattern (dollar_at 1 (group (delimiter_of Bracket (at 0 2 3) (at 0 4 5)) (text_at 0 3 (codes "a") none) none)))
       (expected (codes "expected `$()` repetition or `${}` expression"))
   pub number : Refuses (with_pattern (dollar_at 1 (number_at 0 2 (codes "1") none))) (expected (codes "expected ident"))
-  -- `$(a)`; `$($x)`, whose suffix is read before its body; `$(a)b c*`
+  -- `$(a)`; `$($x)`, whose suffix is read before its body; `$(a);;;;*`; `$(a)b c*`
   pub no_suffix : Refuses (with_pattern (dollar_at 1 (group (parens 2 4) (text_at 0 3 (codes "a") none) none))) invalid_repeat
   pub suffix_first : Refuses (with_pattern (dollar_at 1 (group (parens 2 5) (named_at 3 (codes "x") none) none))) invalid_repeat
+  pub four_puncts : Refuses (with_pattern (dollar_at 1 (group (parens 2 4) (text_at 0 3 (codes "a") none)
+      (joint_at 0 5 59 (joint_at 0 6 59 (joint_at 0 7 59 (joint_at 0 8 59 (alone_at 0 9 42 none)))))))) invalid_repeat
   pub two_words : Refuses (with_pattern (dollar_at 1 (group (parens 2 4) (text_at 0 3 (codes "a") none) (text_at 0 5 (codes "b") (text_at 0 7 (codes "c") (alone_at 0 8 42 none)))))) invalid_repeat
   -- `attr => {}`, `() {}`, `() = {}`
   pub no_style : Refuses (text_at 0 0 (codes "attr") (arrow_at 5 (group (braces 8 9) none none))) (expected (codes "expected `()`"))
@@ -231,6 +311,9 @@ pub record FaultExamples : Type 0 where
   -- `() => {}; ($x) => {}` keeps the first rule
   pub later : IsMacroRules is_2024 (group (parens 0 1) none (arrow_at 3 (group (braces 6 7) none (alone_at 0 8 59 (with_pattern (named_at 1 (codes "x") none))))))
       (empty_rule ∷ []) (Some (unexpected_token (codes "missing fragment specifier")))
+  -- `($()*) => {} x`: the refused repetition goes over the stray token
+  pub over_stray : IsMacroRules is_2024 (group (parens 0 9) (dollar_at 1 (group (parens 2 3) none (alone_at 0 4 42 none))) (arrow_at 11 (group (braces 14 15) none (text_at 0 17 (codes "x") none))))
+      (fn_like (op (ops.repetition no_ops None ZeroOrMore) no_ops) no_ops ∷ []) (Some empty_repetition)
   -- the body `() => {}, () => {} x` of a `macro`
   pub body : IsMacroBody is_2024 (group (parens 0 1) none (arrow_at 3 (group (braces 6 7) none (alone_at 0 8 44
       (group (parens 10 11) none (arrow_at 13 (group (braces 16 17) none (text_at 0 19 (codes "x") none)))))))) (empty_rule ∷ empty_rule ∷ [])

@@ -1,14 +1,16 @@
 -- What the reader of patterns and templates answers, told by their grammar.
-use Rattle.std.specs.Prelude.{◌≡◌, codes, Option, Some, None, IfSome, Result, Ok, Err, IsFalse}
-use Rattle.mbe_tt.specs.Leaf.{Ident, is_text}
-use Rattle.mbe_tt.specs.Tree.{Forest}
+use Rattle.std.specs.Prelude.{◌≡◌, ◌||◌, Bool, false, codes, Option, Some, None, IfSome, Result, Ok, Err, IsFalse}
+use Rattle.mbe_tt.specs.Leaf.{Ident, ident, is_text}
+use Rattle.mbe_tt.specs.Tree.{Forest, leaf}
 use Rattle.mbe_tt.specs.declared.span.SyntaxContext.{SyntaxContext}
 use Rattle.mbe_tt.specs.declared.span.Edition.{Edition}
 use Rattle.mbe.specs.declared.parser.MetaVarKind.{MetaVarKind}
 use Rattle.mbe.specs.declared.parser.Mode as code
 use Rattle.mbe.specs.declared.error.Fault as told
 use Rattle.mbe.specs.declared.error.ReadError as read
+use Rattle.mbe.specs.declared.macro_call_style.MacroCallStyle.TheVariants.{FnLike}
 use Rattle.mbe.specs.Op.{Op, Ops, op, variable}
+use Rattle.mbe.specs.Definition.{Outline}
 use Rattle.mbe.specs.Template.{Mode, pattern, template, Fault, unexpected_token, expected, Head, ended, one, typed, opens_group, opens_repetition, kind_named, kind_names, Template, TemplateFault}
 
 abbrev pub mode_of : code.Mode → Mode
@@ -55,3 +57,17 @@ module _ (Answers : SyntaxContext → Edition → Type 0) where
   pub record ReadsOp (mode : Mode) (before : Forest) (o : Op) (left : Forest) : Type 0 where
     pub more : (os : Ops) → Template Answers mode left os → Template Answers mode before (op o os)
     pub fault : (f : Fault) → TemplateFault Answers mode f left → TemplateFault Answers mode f before
+
+-- ---- rules
+
+-- a rule that begins with `unsafe`, `attr` or `derive`
+abbrev pub is_styled : Forest → Bool
+is_styled (leaf (ident i) rest) = is_text i.sym (codes "unsafe") || is_text i.sym (codes "attr") || is_text i.sym (codes "derive")
+is_styled _ = false
+
+-- the trees of the pattern and of the template of one rule, and those behind it; or the fault
+abbrev pub IsOutlined : Result (Forest × Forest) told.Fault → Result Outline Fault → Forest → Type 0
+IsOutlined (Ok parts) (Ok o) left = (o.style ≡ FnLike) × (o.reads ≡ parts.0) × (o.writes ≡ parts.1) × (o.back ≡ left)
+IsOutlined (Ok parts) (Err x) left = ⊥
+IsOutlined (Err f) (Ok o) left = fault_of f ≡ None
+IsOutlined (Err f) (Err x) left = IfSome (fault_of f) (λ y. y ≡ x)

@@ -22,10 +22,12 @@ use Rattle.mbe.specs.Op as ops
 use Rattle.mbe.specs.Op.{Name, Separator, ident_separator, literal_separator, punct_separator, lifetime_separator, Element, ident_element, literal_element, variable_element, Expression, Op, Ops, no_ops, op}
 use Rattle.mbe_tt.specs.Literals.{is_plain, decimal_value, literal_text}
 
+-- the two sides of a rule, which read some trees differently
 pub data Mode : Type 0 where
   pattern : Mode
   template : Mode
 
+-- what a definition's error says (rust-analyzer's `ParseError`)
 pub data Fault : Type 0 where
   unexpected_token : List ℕ → Fault
   expected : List ℕ → Fault
@@ -40,6 +42,7 @@ pub record Suffix : Type 0 where
   pub repeat : RepeatKind
   pub back : Forest
 
+-- `*`, `+` or `?`
 abbrev pub repeat_of : ℕ → Option RepeatKind
 repeat_of c =
     if c == 42 then Some repeats.ZeroOrMore
@@ -47,13 +50,16 @@ repeat_of c =
     else if c == 63 then Some repeats.ZeroOrOne
     else None
 
+-- one leaf more at the front of the suffix
 abbrev pub leaf_in_suffix : Leaf → Suffix → Suffix
 leaf_in_suffix l s = record s { leaves = l ∷ s.leaves }
 
+-- `*`, `+` and `?` end the suffix, any other punct is part of the separator
 abbrev pub punct_in_suffix : Punct → Option RepeatKind → Forest → Option Suffix → Option Suffix
 punct_in_suffix p (Some repeat) back more = Some (record { leaves = []; repeat = repeat; back = back })
 punct_in_suffix p None back more = option_map (leaf_in_suffix (punct p)) more
 
+-- nothing where a group or the end comes before `*`, `+` or `?`
 abbrev pub suffix_of : Forest → Option Suffix
 suffix_of none = None
 suffix_of (group d inside rest) = None
@@ -61,11 +67,13 @@ suffix_of (leaf (literal l) rest) = option_map (leaf_in_suffix (literal l)) (suf
 suffix_of (leaf (ident i) rest) = option_map (leaf_in_suffix (ident i)) (suffix_of rest)
 suffix_of (leaf (punct p) rest) = punct_in_suffix p (repeat_of p.char) rest (suffix_of rest)
 
+-- the leaves, where all are puncts
 abbrev pub all_puncts : List Leaf → Option (List Punct)
 all_puncts [] = Some []
 all_puncts (punct p ∷ ls) = option_map (λ ps. p ∷ ps) (all_puncts ls)
 all_puncts _ = None
 
+-- no more than three puncts separate
 abbrev pub up_to_three : List Punct → Option Separator
 up_to_three ps = if nat_le (length ps) 3 then Some (punct_separator ps) else None
 
@@ -79,6 +87,7 @@ separator_of ls = option_map Some (option_and_then up_to_three (all_puncts ls))
 
 -- ---- metavariable expressions
 
+-- nothing may follow
 abbrev pub if_end : {A : Type 0} → Forest → A → Option A
 if_end none x = Some x
 if_end (leaf l rest) x = None
@@ -95,11 +104,13 @@ depth_of none = Some 0
 depth_of (leaf (literal l) none) = if is_plain l then decimal_value (literal_text l) else None
 depth_of _ = None
 
+-- `, d`, or nothing
 abbrev pub depth_behind_comma : Forest → Option ℕ
 depth_behind_comma none = Some 0
 depth_behind_comma (leaf (punct p) rest) = if p.char == 44 then depth_of rest else None
 depth_behind_comma _ = None
 
+-- one element more at the front
 abbrev pub element_before : Element → Option (List Element) → Option (List Element)
 element_before e more = option_map (λ es. e ∷ es) more
 
@@ -118,9 +129,11 @@ abbrev mutual
   elements_behind_comma (leaf (punct p) rest) = if p.char == 44 then elements_of rest else None
   elements_behind_comma _ = None
 
+-- `concat` wants at least two elements
 abbrev pub if_two : Span → List Element → Option Expression
 if_two span elements = if nat_le 2 (length elements) then Some (ops.concat elements span) else None
 
+-- `ignore($x)`, `count($x, d)`, `index(d)`, `len(d)` and `concat(e, ..)`
 abbrev pub arguments_of : Ident → Forest → Option Expression
 arguments_of word inside =
     if is_text word.sym (codes "ignore") then
@@ -153,43 +166,53 @@ pub data Head : Type 0 where
   opens_group : Delimiter → Forest → Forest → Head
   opens_repetition : Option Separator → RepeatKind → Forest → Forest → Head
 
+-- what is told of a variable in a pattern without `:` and an identifier
 abbrev pub missing_specifier : Result Head Fault
 missing_specifier = Err (unexpected_token (codes "missing fragment specifier"))
 
+-- `:` and an identifier other than `_`
 abbrev pub specifier_at : Name → Span → Forest → Result Head Fault
 specifier_at name span (leaf (punct p) (leaf (ident i) rest)) =
     if p.char == 58 && not (is_underscore i.sym) then Ok (typed name span i rest) else missing_specifier
 specifier_at name span _ = missing_specifier
 
+-- in a pattern a variable has a specifier, in a template it is its name alone
 abbrev pub variable_at : Mode → Name → Span → Forest → Result Head Fault
 variable_at pattern name span rest = specifier_at name span rest
 variable_at template name span rest = Ok (one (ops.variable name None span) rest)
 
+-- `$$` writes the second `$`, and stands in templates alone
 abbrev pub second_dollar : Mode → Punct → Forest → Result Head Fault
 second_dollar pattern p rest = Err (unexpected_token (codes "`$$` is not allowed on the pattern side"))
 second_dollar template p rest = Ok (one (ops.token (ops.puncts (p ∷ []))) rest)
 
+-- a repetition, where what stands before `*`, `+` or `?` is a separator
 abbrev pub repetition_with : RepeatKind → Forest → Forest → Option (Option Separator) → Result Head Fault
 repetition_with repeat inside back (Some separator) = Ok (opens_repetition separator repeat inside back)
 repetition_with repeat inside back None = Err invalid_repeat
 
+-- `$(..)` and its suffix
 abbrev pub repetition_at : Forest → Option Suffix → Result Head Fault
 repetition_at inside (Some s) = repetition_with s.repeat inside s.back (separator_of s.leaves)
 repetition_at inside None = Err invalid_repeat
 
+-- `${..}` stands in templates alone
 abbrev pub expression_at : Mode → Forest → Option Expression → Result Head Fault
 expression_at pattern rest e = Err (unexpected_token (codes "`${}` metavariable expressions are not allowed in matchers"))
 expression_at template rest (Some e) = Ok (one (ops.expression e) rest)
 expression_at template rest None = Err (unexpected_token (codes "invalid metavariable expression"))
 
+-- a repetition, a metavariable expression, or a fault
 abbrev pub group_behind_dollar : Mode → DelimiterKind → Forest → Forest → Result Head Fault
 group_behind_dollar mode delimiters.Parenthesis inside rest = repetition_at inside (suffix_of rest)
 group_behind_dollar mode delimiters.Brace inside rest = expression_at mode rest (expression_of inside)
 group_behind_dollar mode _ inside rest = Err (expected (codes "expected `$()` repetition or `${}` expression"))
 
+-- `$crate`, with the span of `crate`
 abbrev pub dollar_crate : Ident → Op
 dollar_crate i = ops.token (ops.ident (record i { sym = codes "$crate"; is_raw = raw.No }))
 
+-- what `$` and the tree behind it are; a `$` at the end is a punct
 abbrev pub behind_dollar : Mode → Punct → Forest → Result Head Fault
 behind_dollar mode p none = Ok (one (ops.token (ops.puncts (p ∷ []))) none)
 behind_dollar mode p (group d inside rest) = group_behind_dollar mode d.kind inside rest
@@ -201,9 +224,11 @@ behind_dollar mode p (leaf (literal l) rest) =
 behind_dollar mode p (leaf (punct q) rest) =
     if q.char == 36 then second_dollar mode q rest else Err (expected (codes "expected ident"))
 
+-- the puncts that are taken together
 abbrev pub puncts_at : Forest → Head
 puncts_at f = one (ops.token (ops.puncts (glue f))) ((cut_trees (length (glue f)) f).back)
 
+-- the front of any trees
 abbrev pub head : Mode → Forest → Result Head Fault
 head mode none = Ok ended
 head mode (group d inside rest) = Ok (opens_group d inside rest)
@@ -217,6 +242,7 @@ head mode (leaf (punct p) rest) = if p.char == 36 then behind_dollar mode p rest
 abbrev pub pat_kind : Edition → MetaVarKind
 pat_kind e = if at_least_2021 e then kinds.Pat else kinds.PatParam
 
+-- as for `pat`
 abbrev pub expr_kind : Edition → MetaVarKind
 expr_kind e = kinds.Expr (if at_least_2024 e then exprs.Expr else exprs.Expr2021)
 
@@ -228,6 +254,7 @@ kind_names =
     ∷ (codes "expr_2021", kinds.Expr exprs.Expr2021) ∷ (codes "ident", kinds.Ident) ∷ (codes "tt", kinds.Tt)
     ∷ (codes "lifetime", kinds.Lifetime) ∷ (codes "literal", kinds.Literal) ∷ []
 
+-- the kind of a specifier; none of an unknown one
 abbrev pub kind_named : List (List ℕ × MetaVarKind) → List ℕ → Option MetaVarKind
 kind_named [] name = None
 kind_named (row ∷ rows) name = if is_text row.0 name then Some row.1 else kind_named rows name

@@ -1,6 +1,8 @@
 // Macro definitions.
-ghost use Rattle.std.specs.Prelude.{◌≤◌, ◌<◌, OnOk};
+ghost use Rattle.std.specs.Prelude.{◌≡◌, ◌<◌, OnOk};
 ghost use Rattle.mbe_tt.specs.Tree.{flat_len};
+ghost use Rattle.mbe.specs.Definition.{outline_at};
+ghost use Rattle.mbe.specs.Reader.{IsOutlined, is_styled};
 ghost use Rattle.mbe.specs.Marking.{MayMark, MayAsk};
 
 use crate::error::{Fault, ParseError, ReadError};
@@ -121,29 +123,31 @@ impl<A: Allocator + Copy> Rule<A> {
 // The trees of a rule's pattern and of its template.
 fn rule_groups<'a, A: Allocator>(
     src: &mut TtIter<'a, A>,
-) -> Result<(TtIter<'a, A>, TtIter<'a, A>), ReadError>
-    ensures shorter { OnOk result (flat_len src.new < flat_len src.old) }
+) -> Result<(TtIter<'a, A>, TtIter<'a, A>), Fault>
+    ensures rule { IsOutlined result (outline_at src.old) src.new }
 {
     if has_style(src) {
-        return Err(ReadError::Fault(Fault::NotCarried));
+        return Err(Fault::NotCarried);
     }
     let Ok((_subtree, pattern)) = src.expect_subtree() else {
-        return Err(ReadError::Fault(Fault::ExpectedSubtree));
+        return Err(Fault::ExpectedSubtree);
     };
     let Ok(()) = src.expect_char('=') else {
-        return Err(ReadError::Fault(Fault::ExpectedEquals));
+        return Err(Fault::ExpectedEquals);
     };
     let Ok(()) = src.expect_char('>') else {
-        return Err(ReadError::Fault(Fault::ExpectedGreater));
+        return Err(Fault::ExpectedGreater);
     };
     let Ok((_subtree, template)) = src.expect_subtree() else {
-        return Err(ReadError::Fault(Fault::ExpectedSubtree));
+        return Err(Fault::ExpectedSubtree);
     };
     Ok((pattern, template))
 }
 
 // Whether the rule begins with `unsafe`, `attr` or `derive`.
-fn has_style<A: Allocator>(src: &TtIter<'_, A>) -> bool {
+fn has_style<A: Allocator>(src: &TtIter<'_, A>) -> bool
+    ensures { result ≡ is_styled src.now }
+{
     match src.peek() {
         Some(TtElement::Leaf(Leaf::Ident(ident))) => {
             matches!(ident.sym.as_str(), "unsafe" | "attr" | "derive")

@@ -2,6 +2,6 @@
 #![tactic(auto)]
 
 #[cfg(test)]
-mod trees;
-#[cfg(test)]
 mod first_run;
+#[cfg(test)]
+mod trees;

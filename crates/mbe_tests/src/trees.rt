@@ -1,11 +1,10 @@
 // Builds the trees of the tests: a text of the simplest tokens, each with its place as its span.
-use mbe_tt::span::{Span, SyntaxContext};
 use mbe_tt::buffer::TopSubtree;
 use mbe_tt::builder::TopSubtreeBuilder;
+use mbe_tt::span::{Span, SyntaxContext};
 use mbe_tt::symbol::Symbol;
 use mbe_tt::tt::{
     Delimiter, DelimiterKind, Ident, IdentIsRaw, Leaf, LitKind, Literal, Punct, Spacing,
-
 };
 use std::alloc::{AllocError, Allocator};
 
@@ -38,12 +37,40 @@ fn leaf<A: Allocator + Copy>(
     token: Token,
 ) -> Result<Option<Leaf<A>>, AllocError> {
     Ok(match token {
-        Token::Word(name, start, end) => Some(ident(alloc, name, IdentIsRaw::No, at(file, start, end))?),
-        Token::Raw(name, start, end) => Some(ident(alloc, name, IdentIsRaw::Yes, at(file, start, end))?),
-        Token::Number(text, start, end) => Some(literal(alloc, text, LitKind::Integer, at(file, start, end))?),
-        Token::Text(text, start, end) => Some(literal(alloc, text, LitKind::Str, at(file, start, end))?),
-        Token::Alone(char, start) => Some(punct(char, Spacing::Alone, at(file, start, start.saturating_add(1)))),
-        Token::Joint(char, start) => Some(punct(char, Spacing::Joint, at(file, start, start.saturating_add(1)))),
+        Token::Word(name, start, end) => Some(ident(
+            alloc,
+            name,
+            IdentIsRaw::No,
+            at(file, start, end),
+        )?),
+        Token::Raw(name, start, end) => Some(ident(
+            alloc,
+            name,
+            IdentIsRaw::Yes,
+            at(file, start, end),
+        )?),
+        Token::Number(text, start, end) => Some(literal(
+            alloc,
+            text,
+            LitKind::Integer,
+            at(file, start, end),
+        )?),
+        Token::Text(text, start, end) => Some(literal(
+            alloc,
+            text,
+            LitKind::Str,
+            at(file, start, end),
+        )?),
+        Token::Alone(char, start) => Some(punct(
+            char,
+            Spacing::Alone,
+            at(file, start, start.saturating_add(1)),
+        )),
+        Token::Joint(char, start) => Some(punct(
+            char,
+            Spacing::Joint,
+            at(file, start, start.saturating_add(1)),
+        )),
         Token::Open(_, _) | Token::Close(_) => None,
     })
 }

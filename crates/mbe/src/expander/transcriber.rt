@@ -1,5 +1,5 @@
 // Writes a template with its variables replaced.
-ghost use Rattle.std.specs.Prelude.{◌≡◌, length, OnOk};
+ghost use Rattle.std.specs.Prelude.{◌≡◌, ◌<◌, length, OnOk};
 ghost use Rattle.mbe.specs.Marking.{MayMark};
 
 use crate::expander::matcher::Bindings;
@@ -42,7 +42,8 @@ fn expand_ops<A: Allocator + Copy, M: Fn(Span) -> Span + Copy>(
     builder: &mut TopSubtreeBuilder<A>,
     marker: M,
 ) -> Result<(), AllocError>
-    requires { MayMark (M.pre marker) }
+    requires marks { MayMark (M.pre marker) }
+    requires some_group { 0 < length builder.old }
     ensures open_groups { OnOk result (length builder.new ≡ length builder.old) }
 {
     for op in ops {
@@ -58,7 +59,8 @@ fn expand_op<A: Allocator + Copy, M: Fn(Span) -> Span + Copy>(
     builder: &mut TopSubtreeBuilder<A>,
     marker: M,
 ) -> Result<(), AllocError>
-    requires { MayMark (M.pre marker) }
+    requires marks { MayMark (M.pre marker) }
+    requires some_group { 0 < length builder.old }
     ensures open_groups { OnOk result (length builder.new ≡ length builder.old) }
 {
     match op {

@@ -1,14 +1,13 @@
-use Rattle.std.proofs.Common.{◌≡◌, ◌≤◌, ◌∙◌, sym, ap, subst, arith, Some, rules}
+use Rattle.std.proofs.Common.{◌≡◌, sym, ap, arith, Some, rules}
 use Rattle.std.proofs.lemmas.Result.{err_from_is_err_and}
 use Rattle.mbe_tt.specs.Leaf as leaves
-use Rattle.mbe_tt.specs.Tree.{Forest, none, leaf, group, Leaf_tree, Group_tree, first, cut_trees}
+use Rattle.mbe_tt.specs.Tree.{none, Leaf_tree, Group_tree, first}
 use Rattle.mbe_tt.specs.Shown.{literal_of, ident_of}
-use Rattle.mbe.specs.Op.{Ops, no_ops}
-use Rattle.mbe.specs.Template.{Mode, head, Template, TemplateFault, nothing}
-use Rattle.mbe.specs.Reader.{Stops, mode_of}
-use Rattle.mbe.specs.Views.{template_of}
-use Rattle.mbe.proofs.Fragments.{first_tree, first_none, back-skip}
-use Rattle.mbe.proofs.OpViews.{view-template, view-subtree, view-literal, view-ident, view-punct}
+use Rattle.mbe.specs.Op.{no_ops}
+use Rattle.mbe.specs.Template.{head, nothing}
+use Rattle.mbe.specs.Reader.{mode_of}
+use Rattle.mbe.proofs.Fragments.{first_tree}
+use Rattle.mbe.proofs.OpViews.{view-template, view-subtree, view-literal, view-ident}
 use Rattle.mbe.proofs.ReaderLemmas as lemmas
 use Rattle.mbe.proofs.parser.+template.Goals as goal
 

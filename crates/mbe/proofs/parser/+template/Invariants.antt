@@ -1,4 +1,4 @@
-use Rattle.std.proofs.Common.{◌≡◌, ◌≤◌, ◌+◌, ◌*◌, List, [], ◌∷◌}
+use Rattle.std.proofs.Common.{◌≤◌, ◌+◌, ◌*◌}
 use Rattle.mbe_tt.specs.Tree.{flat_len}
 use Rattle.mbe.specs.Op.{Ops}
 use Rattle.mbe.specs.Template.{Fault, Template, TemplateFault}
@@ -15,9 +15,9 @@ decreases-next_op g l = 2 * flat_len l.src.now
 abbrev pub invariant-MetaTemplate::parse-trees : goal.invariant-MetaTemplate::parse-trees
 invariant-MetaTemplate::parse-trees g l = record {
   more : (os : Ops) → Template (λ ctx e. g.E.Fn.post l.edition (ctx, tt) e) (mode_of l.mode) l.src os
-  → Template (λ ctx e. g.E.Fn.post l.edition (ctx, tt) e) (mode_of l.mode) l.fn.src (with_front l.ops.items os);
+      → Template (λ ctx e. g.E.Fn.post l.edition (ctx, tt) e) (mode_of l.mode) l.fn.src (with_front l.ops.items os);
   fault : (f : Fault) → TemplateFault (λ ctx e. g.E.Fn.post l.edition (ctx, tt) e) (mode_of l.mode) f l.src
-  → TemplateFault (λ ctx e. g.E.Fn.post l.edition (ctx, tt) e) (mode_of l.mode) f l.fn.src;
+      → TemplateFault (λ ctx e. g.E.Fn.post l.edition (ctx, tt) e) (mode_of l.mode) f l.fn.src;
   smaller : flat_len l.src ≤ flat_len l.fn.src;
 }
 

@@ -1,4 +1,4 @@
-use Rattle.std.proofs.Common.{◌≡◌, sym, ap, ◌∙◌, Some, rules}
+use Rattle.std.proofs.Common.{◌≡◌, ap, ◌∙◌, Some, rules}
 use Rattle.mbe_tt.specs.Tree.{front_char, front_ident, rest_of}
 use Rattle.mbe.proofs.ReaderLemmas.{kind_in_front}
 use Rattle.mbe.proofs.parser.eat_fragment_kind.Goals as goal
