@@ -48,4 +48,15 @@ check 3 'cannot read latin.arg' good.def latin.arg
 check 3 'cannot read latin.arg' latin.arg open.arg
 check 4 'cannot lex open.arg at 2' good.def open.arg
 check 4 'cannot lex open.arg at 2' refused.def open.arg
+
+# A device that takes nothing.
+if [ -e /dev/full ]; then
+    said=$("$program" good.def good.arg 2>&1 >/dev/full)
+    got=$?
+    if [ "$got" != 3 ] || [ "$said" != 'cannot write' ]; then
+        echo "a full device: status $got, says '$said'"
+        failed=1
+    fi
+fi
+[ $failed = 0 ] && echo "all statuses are as they should be"
 exit $failed

@@ -1,0 +1,29 @@
+#!/bin/sh
+# Builds and runs the benchmark, in a repository of its own beside copies of the libraries, so that the gate neither
+# proves nor runs it. From the top of the repository:
+#
+#     sh tools/bench/run.sh [FOLDER]
+#
+# FOLDER, by default a new one, keeps what was proved for the next time.
+set -eu
+top=$(cd "$(dirname "$0")/../.." && pwd)
+folder=${1:-$(mktemp -d)}
+mkdir -p "$folder/crates"
+cat >"$folder/crates.txt" <<'END'
+mbe_tt: arrayvec
+mbe: mbe_tt arrayvec unicode_ident
+mbe_bench: mbe mbe_tt
+END
+for crate in crates/mbe_tt crates/mbe tools/bench/mbe_bench; do
+    to=$folder/crates/$(basename "$crate")
+    mkdir -p "$to"
+    rm -rf "$to/src" "$to/specs" "$to/proofs"
+    for part in src specs proofs out; do
+        # What an earlier run proved here stays.
+        if [ -e "$top/$crate/$part" ] && [ ! -e "$to/$part" ]; then
+            cp -a "$top/$crate/$part" "$to/"
+        fi
+    done
+done
+cd "$folder/crates/mbe_bench"
+exec rt "${MBE_BENCH:-run}"
