@@ -1,8 +1,8 @@
 -- What a log binds by the commands of a reading is what the reading binds: each round binds the same names, so no list
 -- is filled up with empty lists.
-use Rattle.std.specs.Prelude.{◌≡◌, ◌⊎◌, ◌≤◌, ◌+◌, ℕ, zero, suc, Bool, true, false, if◌then◌else◌, List, [], ◌∷◌, ◌++◌, Option, Some, None, refl}
+use Rattle.std.specs.Prelude.{◌≡◌, ◌⊎◌, ◌≤◌, ℕ, zero, suc, Bool, true, false, if◌then◌else◌, List, [], ◌∷◌, ◌++◌, Option, Some, None, refl}
 use Rattle.std.proofs.Common.{arith, ap, sym, subst, ◌∙◌, inl, inr}
-use Rattle.std.proofs.lemmas.Option.{none-some, same_Some}
+use Rattle.std.proofs.lemmas.Option.{none-some}
 use Rattle.std.specs.Str.{bytes_eq}
 use Rattle.std.proofs.lemmas.Slice.Eq.{bytes_eq-Decides}
 use Rattle.mbe.specs.declared.parser.RepeatKind.{RepeatKind}
@@ -13,7 +13,7 @@ use Rattle.mbe.specs.Reading.{Reads, ReadsFirst, ReadsRounds}
 use Rattle.mbe.specs.Lists.{In}
 use Rattle.mbe.specs.Environment.{Value, fragment, list, empty, missing, Values, no_values, value, Environment, value_of, set_value, add_value, grown, add_round, skip_names, bind_item, bind, bind_rounds}
 use Rattle.mbe.specs.Rounds.{value_count}
-use Rattle.mbe.specs.Account.{Command, Commands, no_commands, command, CommandRounds, command_round, filled, grown_in, add_round_in, round_count, run, run_rounds, skip_commands, write, write_item, rounds_of_items}
+use Rattle.mbe.specs.Account.{Command, Commands, no_commands, command, filled, grown_in, add_round_in, round_count, run, run_rounds, skip_commands, write, write_item, rounds_of_items}
 use Rattle.mbe.specs.Laws.{CommandsBindAlike}
 
 -- ---- look-ups

@@ -2,7 +2,7 @@
 use Rattle.std.specs.Prelude.{◌≡◌, ◌≢◌, ◌-◌, ◌^◌, ℕ, min, nat_le, Bool, true, false, [], ◌∷◌, None, refl, not, ◌&&◌, ◌==◌, if◌then◌else◌, codes, Option, Some}
 use Rattle.std.proofs.Common.{arith, ap, sym, ◌∙◌}
 use Rattle.std.proofs.Math.Bool.{false≢true}
-use Rattle.mbe_tt.specs.Tree.{Forest, none, flat_len, cut_flat}
+use Rattle.mbe_tt.specs.Tree.{Forest, none, flat_len, Cut, cut_flat}
 use Rattle.mbe_tt.specs.Grammar.{Grammar, IsLawful}
 use Rattle.mbe_tt.specs.declared.grammar.Front.{Front}
 use Rattle.mbe.specs.Error.{ExpandError, binding_error}
@@ -14,7 +14,7 @@ use Rattle.mbe.specs.Environment.{environment_of, binding_total}
 use Rattle.mbe.specs.Expansion.{Applies, FirstThatApplies, this_one, a_later_one}
 use Rattle.mbe.specs.Sample.{taken, at, text_at, joint_at, alone_at}
 use Rattle.mbe.specs.Examples.{EndlessExample, endless_rule, simple_rule, one_a, StyledExample, attr_rule, plain_rule, PathExample, path_rule, path_argument, TextExample, literal_rule, raw_rule, UnboundExample, unbound_rule, RefusedExample, TwiceExample, twice_rule, PunctsExample, puncts_rule, DoubleExample, double_rule, sum_argument, LetExample, FrontExample, front_argument, NoRuleExample, let_rule, let_argument}
-use Rattle.mbe.proofs.RuleLemmas.{answer_fragment, by_run, fits_once, applies_once, faulty_once, closest_alone}
+use Rattle.mbe.proofs.RuleLemmas.{answer_cut, answer_fragment, by_run, fits_once, applies_once, faulty_once, closest_alone}
 use Rattle.mbe.specs.Item as items
 use Rattle.mbe.specs.Item.{Fragment, Item, matched, bound, skipped, rounds, Items, no_items, item, no_rounds, round, items_width}
 use Rattle.mbe.specs.Ambiguity.{IsReading}
@@ -265,8 +265,14 @@ pub front_example : FrontExample
 front_example = record {
   taken = λ g e. ap (λ a. cut_flat a.count front_argument) e;
   told = λ g around e. ap told_of e;
+  refused = λ g e. ap taken_of e;
+  faulty = λ g e. ap taken_of e;
+  good = λ g e. ap taken_of e ∙ sym (ap (λ a. Some (cut_flat a.count front_argument)) e);
 }
   where
+    taken_of : Front → Option Cut
+    taken_of = answer_cut front_argument
+
     told_of : Front → Option ExpandError
     told_of a =
         if not a.fault && (flat_len (cut_flat a.count front_argument).front == a.count) then None

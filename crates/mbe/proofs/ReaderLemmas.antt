@@ -139,7 +139,7 @@ kind_in_front (Ok kind) m f left s p q n l u = λ name span. rw p (specifier_in_
 
 -- ---- answers and faults, carried from the trees behind the front to all trees
 
-IfSome-weaker : {X : Type 0} (o : Option X) (P Q : X → Type 0) → ((x : X) → P x → Q x) → IfSome o P → IfSome o Q
+pub IfSome-weaker : {X : Type 0} (o : Option X) (P Q : X → Type 0) → ((x : X) → P x → Q x) → IfSome o P → IfSome o Q
 IfSome-weaker None P Q h p = tt
 IfSome-weaker (Some x) P Q h p = h x p
 

@@ -1,5 +1,5 @@
 -- Where the spans of an expansion come from.
-use Rattle.std.specs.Prelude.{◌≡◌, ◌⊎◌, ◌==◌, ℕ, zero, suc, Bool, true, false, if◌then◌else◌, nat_le, ◌-◌, List, [], ◌∷◌, ◌++◌, Option, Some, None, option_and_then, refl}
+use Rattle.std.specs.Prelude.{◌≡◌, ◌⊎◌, ◌==◌, ℕ, zero, suc, Bool, true, false, if◌then◌else◌, nat_le, ◌-◌, List, [], ◌∷◌, ◌++◌, Option, Some, None, option_and_then, refl, map}
 use Rattle.std.proofs.Common.{subst, sym, ap, ◌∙◌, inl, inr}
 use Rattle.std.proofs.lemmas.Option.{none-some}
 use Rattle.mbe_tt.specs.declared.span.Span.{Span}
@@ -22,7 +22,7 @@ use Rattle.mbe.specs.Rounds.{Path, Extent, finite, endless, kept_rounds, follow,
 use Rattle.mbe.specs.Concat.{concat_text}
 use Rattle.mbe.specs.Written.{needs_parentheses, path_trees, double_colon, IsParenthesized, IsWrittenAs}
 use Rattle.mbe.specs.Substitution.{separator_trees, AreRounds, AreKeptRounds, AreMarkedPuncts, IsMarked, IsVariable, IsConcat, IsExpression, Writes, Substitutes}
-use Rattle.mbe.specs.Laws.{IsSpanIn, WrittenInPlace, unbound_span, kept_spans_of_op, kept_spans, SpansHaveSources}
+use Rattle.mbe.specs.Laws.{IsSpanIn, WrittenInPlace, unbound_span, kept_spans_of_op, kept_spans, spans_of_token, spans_of_expression, marked_spans_of_op, marked_spans, SpansHaveSources}
 use Rattle.mbe.proofs.FrontLemmas.{takes_cut}
 use Rattle.mbe.proofs.InputLemmas.{fragment_from}
 use Rattle.mbe.proofs.SourceLemmas as sources
@@ -189,46 +189,47 @@ written_in_place Marks g call_site pattern argument is path name kind span x out
 -- ---- what a template writes
 
 module _ (g : Grammar) (Marks : Span → Span → Type 0) (call_site : Span) (env : Environment) (Q : Span → Type 0)
-    (marks : (s t : Span) → Marks s t → Q t) (site : Q call_site) (has : sources.EnvironmentHas (λ x. Each Q x.trees) env) where
-  puncts_each : (ps : List Punct) (out : Forest) → AreMarkedPuncts g Marks call_site env ps out → Each Q out
-  puncts_each [] out e = subst (Each Q) (sym e) tt
-  puncts_each (p ∷ ps) out (marked, rest, m, more, e) = subst (Each Q) (sym e) (marks p.span marked m, puncts_each ps rest more)
+    (T : Span → Type 0) (marks : (s t : Span) → T s → Marks s t → Q t) (site : Q call_site) (has : sources.EnvironmentHas (λ x. Each Q x.trees) env) where
+  puncts_each : (ps : List Punct) (out : Forest) → ((s : Span) → IsSpanIn s (map (λ p. p.span) ps) → T s) → AreMarkedPuncts g Marks call_site env ps out → Each Q out
+  puncts_each [] out own e = subst (Each Q) (sym e) tt
+  puncts_each (p ∷ ps) out own (marked, rest, m, more, e) =
+      subst (Each Q) (sym e) (marks p.span marked (own p.span (inl refl)) m, puncts_each ps rest (λ s k. own s (inr k)) more)
 
-  token_each : (t : Token) (out : Forest) → IsMarked g Marks call_site env t out → Each Q out
-  token_each (ops.literal l) out (marked, m, e) = subst (Each Q) (sym e) (marks l.span marked m, tt)
-  token_each (ops.ident i) out (marked, m, e) = subst (Each Q) (sym e) (marks i.span marked m, tt)
-  token_each (ops.puncts ps) out w = puncts_each ps out w
+  token_each : (t : Token) (out : Forest) → ((s : Span) → IsSpanIn s (spans_of_token t) → T s) → IsMarked g Marks call_site env t out → Each Q out
+  token_each (ops.literal l) out own (marked, m, e) = subst (Each Q) (sym e) (marks l.span marked (own l.span (inl refl)) m, tt)
+  token_each (ops.ident i) out own (marked, m, e) = subst (Each Q) (sym e) (marks i.span marked (own i.span (inl refl)) m, tt)
+  token_each (ops.puncts ps) out own w = puncts_each ps out own w
 
-  parenthesized_each : (b : Bool) (span : Span) (f out : Forest) → Each Q f → IsParenthesized Marks b span f out → Each Q out
-  parenthesized_each false span f out h e = subst (Each Q) (sym e) h
-  parenthesized_each true span f out h (marked, m, e) = let q : Q marked = marks span marked m in subst (Each Q) (sym e) (q, h, q, tt)
+  parenthesized_each : (b : Bool) (span : Span) (f out : Forest) → T span → Each Q f → IsParenthesized Marks b span f out → Each Q out
+  parenthesized_each false span f out own h e = subst (Each Q) (sym e) h
+  parenthesized_each true span f out own h (marked, m, e) = let q : Q marked = marks span marked own m in subst (Each Q) (sym e) (q, h, q, tt)
 
-  written_each : (style : Style) (span : Span) (f out : Forest) → Each Q f → IsWrittenAs Marks call_site style span f out → Each Q out
-  written_each plain span f out h e = subst (Each Q) (sym e) (each_alone Q f h)
-  written_each stripped span f out h e = subst (Each Q) (sym e) (each_alone Q (strip_invisible f) (each_strip Q f h))
-  written_each as_path span f out h e = subst (Each Q) (sym e) (each_path Q call_site site f h)
-  written_each as_expression span f out h w =
-      parenthesized_each (needs_parentheses (strip_invisible f)) span (alone (strip_invisible f)) out (each_alone Q (strip_invisible f) (each_strip Q f h)) w
+  written_each : (style : Style) (span : Span) (f out : Forest) → T span → Each Q f → IsWrittenAs Marks call_site style span f out → Each Q out
+  written_each plain span f out own h e = subst (Each Q) (sym e) (each_alone Q f h)
+  written_each stripped span f out own h e = subst (Each Q) (sym e) (each_alone Q (strip_invisible f) (each_strip Q f h))
+  written_each as_path span f out own h e = subst (Each Q) (sym e) (each_path Q call_site site f h)
+  written_each as_expression span f out own h w =
+      parenthesized_each (needs_parentheses (strip_invisible f)) span (alone (strip_invisible f)) out own (each_alone Q (strip_invisible f) (each_strip Q f h)) w
 
-  variable_each : (name : Name) (span : Span) (v w : Option Value) (out : Forest) → ((s : Span) → IsSpanIn s (unbound_span v span) → Q s) →
+  variable_each : (name : Name) (span : Span) (v w : Option Value) (out : Forest) → T span → ((s : Span) → IsSpanIn s (unbound_span v span) → Q s) →
       ((u : Value) → w ≡ Some u → sources.ValueHas (λ x. Each Q x.trees) u) → IsVariable g Marks call_site env name span v w out → Each Q out
-  variable_each name span None w out kept h e = let q : Q span = kept span (inl refl) in subst (Each Q) (sym e) (q, (q, tt))
-  variable_each name span (Some v) None out kept h e = absurd e
-  variable_each name span (Some v) (Some (fragment x)) out kept h e = written_each x.style span x.trees out (h (fragment x) refl) e
-  variable_each name span (Some v) (Some (missing kind)) out kept h (marked, m, e) = subst (Each Q) (sym e) (each_default Q kind marked (marks span marked m))
-  variable_each name span (Some v) (Some (list vs)) out kept h e = absurd e
-  variable_each name span (Some v) (Some empty) out kept h e = absurd e
+  variable_each name span None w out own kept h e = let q : Q span = kept span (inl refl) in subst (Each Q) (sym e) (q, (q, tt))
+  variable_each name span (Some v) None out own kept h e = absurd e
+  variable_each name span (Some v) (Some (fragment x)) out own kept h e = written_each x.style span x.trees out own (h (fragment x) refl) e
+  variable_each name span (Some v) (Some (missing kind)) out own kept h (marked, m, e) = subst (Each Q) (sym e) (each_default Q kind marked (marks span marked own m))
+  variable_each name span (Some v) (Some (list vs)) out own kept h e = absurd e
+  variable_each name span (Some v) (Some empty) out own kept h e = absurd e
 
-  concat_each : (span : Span) (text : Option (List ℕ)) (out : Forest) → IsConcat g Marks call_site env span text out → Each Q out
-  concat_each span None out e = absurd e
-  concat_each span (Some text) out (marked, m, e) = subst (Each Q) (sym e) (marks span marked m, tt)
+  concat_each : (span : Span) (text : Option (List ℕ)) (out : Forest) → T span → IsConcat g Marks call_site env span text out → Each Q out
+  concat_each span None out own e = absurd e
+  concat_each span (Some text) out own (marked, m, e) = subst (Each Q) (sym e) (marks span marked own m, tt)
 
-  expression_each : (path : Path) (x : Expression) (out : Forest) → IsExpression g Marks call_site env path x out → Each Q out
-  expression_each path (ignore name span) out e = subst (Each Q) (sym e) tt
-  expression_each path (count name depth) out e = subst (Each Q) (sym e) (site, tt)
-  expression_each path (index depth) out e = subst (Each Q) (sym e) (site, tt)
-  expression_each path (len depth) out e = subst (Each Q) (sym e) (site, tt)
-  expression_each path (concat elements span) out w = concat_each span (concat_text env path elements) out w
+  expression_each : (path : Path) (x : Expression) (out : Forest) → ((s : Span) → IsSpanIn s (spans_of_expression x) → T s) → IsExpression g Marks call_site env path x out → Each Q out
+  expression_each path (ignore name span) out own e = subst (Each Q) (sym e) tt
+  expression_each path (count name depth) out own e = subst (Each Q) (sym e) (site, tt)
+  expression_each path (index depth) out own e = subst (Each Q) (sym e) (site, tt)
+  expression_each path (len depth) out own e = subst (Each Q) (sym e) (site, tt)
+  expression_each path (concat elements span) out own w = concat_each span (concat_text env path elements) out (own span (inl refl)) w
 
   rounds_each : (separator : Forest) (round : ℕ → Forest → Type 0) (n : ℕ) (out : Forest) → Each Q separator → ((i : ℕ) (o : Forest) → round i o → Each Q o) →
       AreRounds separator round n out → Each Q out
@@ -243,27 +244,27 @@ module _ (g : Grammar) (Marks : Span → Span → Type 0) (call_site : Span) (en
   kept_each separator round (finite n) out k f r = rounds_each separator (λ i. round i n) n out k (f n) r
 
   mutual
-    writes_each : (o : Op) (path : Path) (out : Forest) → ((s : Span) → IsSpanIn s (kept_spans_of_op env o) → Q s) → Writes g Marks call_site env path o out → Each Q out
-    writes_each (ops.token t) path out kept w = token_each t out w
-    writes_each (ops.group d body) path out kept (opening, close, inside, m, n, b, e) =
-        subst (Each Q) (sym e) (marks d.opening opening m, substitutes_each body path inside kept b, marks d.close close n, tt)
-    writes_each (ops.variable name kind span) path out kept w =
-        variable_each name span (value_of env name) (followed env path name) out kept (λ u e. sources.followed_has (λ x. Each Q x.trees) env path name u has e) w
-    writes_each (ops.repetition body separator repeat) path out kept w =
+    writes_each : (o : Op) (path : Path) (out : Forest) → ((s : Span) → IsSpanIn s (marked_spans_of_op o) → T s) → ((s : Span) → IsSpanIn s (kept_spans_of_op env o) → Q s) → Writes g Marks call_site env path o out → Each Q out
+    writes_each (ops.token t) path out own kept w = token_each t out own w
+    writes_each (ops.group d body) path out own kept (opening, close, inside, m, n, b, e) =
+        subst (Each Q) (sym e) (marks d.opening opening (own d.opening (inl refl)) m, substitutes_each body path inside (λ s k. own s (inr (inr k))) kept b, marks d.close close (own d.close (inr (inl refl))) n, tt)
+    writes_each (ops.variable name kind span) path out own kept w =
+        variable_each name span (value_of env name) (followed env path name) out (own span (inl refl)) kept (λ u e. sources.followed_has (λ x. Each Q x.trees) env path name u has e) w
+    writes_each (ops.repetition body separator repeat) path out own kept w =
         kept_each (separator_trees separator) (λ i n. Substitutes g Marks call_site env (level i n path) body) (kept_rounds repeat env path body) out
         (each_of Q (separator_trees separator) (λ s k. kept s (in_left s (spans_of (separator_trees separator)) (kept_spans env body) k)))
-        (λ n i o r. substitutes_each body (level i n path) o (λ s k. kept s (in_right s (spans_of (separator_trees separator)) (kept_spans env body) k)) r) w
-    writes_each (ops.expression x) path out kept w = expression_each path x out w
+        (λ n i o r. substitutes_each body (level i n path) o own (λ s k. kept s (in_right s (spans_of (separator_trees separator)) (kept_spans env body) k)) r) w
+    writes_each (ops.expression x) path out own kept w = expression_each path x out own w
 
-    substitutes_each : (os : Ops) (path : Path) (out : Forest) → ((s : Span) → IsSpanIn s (kept_spans env os) → Q s) → Substitutes g Marks call_site env path os out → Each Q out
-    substitutes_each no_ops path out kept e = subst (Each Q) (sym e) tt
-    substitutes_each (op o os) path out kept (first, rest, w, b, e) =
+    substitutes_each : (os : Ops) (path : Path) (out : Forest) → ((s : Span) → IsSpanIn s (marked_spans os) → T s) → ((s : Span) → IsSpanIn s (kept_spans env os) → Q s) → Substitutes g Marks call_site env path os out → Each Q out
+    substitutes_each no_ops path out own kept e = subst (Each Q) (sym e) tt
+    substitutes_each (op o os) path out own kept (first, rest, w, b, e) =
         subst (Each Q) (sym e) (each_append Q first rest
-        (writes_each o path first (λ s k. kept s (in_left s (kept_spans_of_op env o) (kept_spans env os) k)) w)
-        (substitutes_each os path rest (λ s k. kept s (in_right s (kept_spans_of_op env o) (kept_spans env os) k)) b))
+        (writes_each o path first (λ s k. own s (in_left s (marked_spans_of_op o) (marked_spans os) k)) (λ s k. kept s (in_left s (kept_spans_of_op env o) (kept_spans env os) k)) w)
+        (substitutes_each os path rest (λ s k. own s (in_right s (marked_spans_of_op o) (marked_spans os) k)) (λ s k. kept s (in_right s (kept_spans_of_op env o) (kept_spans env os) k)) b))
 
-abbrev Source : (Span → Span → Type 0) → Span → List Span → List Span → Span → Type 0
-Source Marks call_site kept spans s = ((t : Span) × Marks t s) ⊎ ((s ≡ call_site) ⊎ (IsSpanIn s kept ⊎ IsSpanIn s spans))
+abbrev Source : (Span → Span → Type 0) → Span → List Span → List Span → List Span → Span → Type 0
+Source Marks call_site marked kept spans s = ((t : Span) × IsSpanIn t marked × Marks t s) ⊎ ((s ≡ call_site) ⊎ (IsSpanIn s kept ⊎ IsSpanIn s spans))
 
 pub spans_have_sources : (Marks : Span → Span → Type 0) → SpansHaveSources Marks
 unfolding InPlace
@@ -274,7 +275,7 @@ spans_have_sources Marks g style argument call_site rs n out (r, a, first, (insi
     env = environment_of a.items
 
     Q : Span → Type 0
-    Q = Source Marks call_site (kept_spans env r.writes) (spans_of argument)
+    Q = Source Marks call_site (marked_spans r.writes) (kept_spans env r.writes) (spans_of argument)
 
     site : Q call_site
     site = inr (inl refl)
@@ -289,4 +290,4 @@ spans_have_sources Marks g style argument call_site rs n out (r, a, first, (insi
     has = sources.reading_has (λ x. Each Q x.trees) (input_of g argument) taken a.items r.reads (a.fits).1.0.0
 
     inner : Each Q inside
-    inner = substitutes_each g Marks call_site env Q (λ s t m. inl (s, m)) site has r.writes [] inside (λ s h. inr (inr (inl h))) b
+    inner = substitutes_each g Marks call_site env Q (λ s. IsSpanIn s (marked_spans r.writes)) (λ s t o m. inl (s, o, m)) site has r.writes [] inside (λ s h. h) (λ s h. inr (inr (inl h))) b

@@ -1,5 +1,5 @@
 -- What the reader of patterns and templates answers, told by their grammar.
-use Rattle.std.specs.Prelude.{◌≡◌, ◌||◌, Bool, false, codes, Option, Some, None, IfSome, Result, Ok, Err, IsFalse}
+use Rattle.std.specs.Prelude.{◌≡◌, ◌||◌, ℕ, Bool, false, List, [], ◌∷◌, codes, Option, Some, None, IfSome, Result, Ok, Err, IsFalse}
 use Rattle.mbe_tt.specs.Leaf.{Ident, ident, is_text}
 use Rattle.mbe_tt.specs.Tree.{Forest, leaf}
 use Rattle.mbe_tt.specs.declared.span.SyntaxContext.{SyntaxContext}
@@ -10,7 +10,7 @@ use Rattle.mbe.specs.declared.error.Fault as told
 use Rattle.mbe.specs.declared.error.ReadError as read
 use Rattle.mbe.specs.declared.macro_call_style.MacroCallStyle.TheVariants.{FnLike}
 use Rattle.mbe.specs.Op.{Op, Ops, op, variable}
-use Rattle.mbe.specs.Definition.{Outline}
+use Rattle.mbe.specs.Definition.{Outline, Rule, outline_at, AreParts, PartsFault, Rules}
 use Rattle.mbe.specs.Template.{Mode, pattern, template, Fault, unexpected_token, expected, Head, ended, one, typed, opens_group, opens_repetition, kind_named, kind_names, Template, TemplateFault}
 
 abbrev pub mode_of : code.Mode → Mode
@@ -71,3 +71,28 @@ IsOutlined (Ok parts) (Ok o) left = (o.style ≡ FnLike) × (o.reads ≡ parts.0
 IsOutlined (Ok parts) (Err x) left = ⊥
 IsOutlined (Err f) (Ok o) left = fault_of f ≡ None
 IsOutlined (Err f) (Err x) left = IfSome (fault_of f) (λ y. y ≡ x)
+
+-- what separates the rules of `macro_rules!`, and what is told where it is missing
+abbrev pub semicolon : List ℕ
+semicolon = 59 ∷ []
+
+abbrev pub expected_semicolon : Fault
+expected_semicolon = expected (codes "expected `;`")
+
+module _ (Answers : SyntaxContext → Edition → Type 0) where
+  -- a rule stands in front, and these are the trees behind it
+  pub record ReadsRule (before : Forest) (r : Rule) (left : Forest) : Type 0 where
+    pub outline : Outline
+    pub at : outline_at before ≡ Ok outline
+    pub parts : AreParts Answers outline r
+    pub behind : outline.back ≡ left
+
+  -- the first fault of the rule in front
+  pub data RuleFault (fault : Fault) (f : Forest) : Type 0 where
+    in_outline : outline_at f ≡ Err fault → RuleFault fault f
+    in_parts : (o : Outline) → outline_at f ≡ Ok o → PartsFault Answers o fault → RuleFault fault f
+
+  -- the rules up to the first fault, and that fault; nothing is said of what isn't carried yet
+  abbrev pub AreRules : Forest → List Rule → Option told.Fault → Type 0
+  AreRules f rs None = Rules Answers semicolon expected_semicolon f rs None
+  AreRules f rs (Some x) = IfSome (fault_of x) (λ y. Rules Answers semicolon expected_semicolon f rs (Some y))

@@ -11,6 +11,9 @@ use Rattle.mbe.specs.declared.parser.MetaTemplate.{MetaTemplate, out-MetaTemplat
 use Rattle.mbe.specs.declared.macros.Rule as written
 use Rattle.mbe.specs.Op.{Op, Ops, no_ops, op, token, group, variable, literal, ident, puncts}
 use Rattle.mbe.specs.Definition.{Rule}
+use Rattle.mbe.specs.declared.expander.matcher.Bindings as found
+use Rattle.mbe.specs.Item.{stripped}
+use Rattle.mbe.specs.Environment.{Environment, fragment}
 
 abbrev pub all_of : List Op → Ops
 all_of [] = no_ops
@@ -45,3 +48,7 @@ IsTaken None None left = Unit {0}
 IsTaken (Some taken) (Some c) left = (trees taken ≡ c.front) × (left ≡ c.back)
 IsTaken None (Some c) left = ⊥
 IsTaken (Some taken) None left = ⊥
+
+-- what was bound, as an environment: each variable took trees, which are written without an invisible group around them
+abbrev pub bound_by : {A : Type 0} → found.Bindings A → Environment
+bound_by b = map (λ e. (e.0, fragment (record { trees = trees e.1; style = stripped }))) b.inner.entries

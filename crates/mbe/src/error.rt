@@ -1,4 +1,9 @@
 // Errors of definitions and of expansions.
+ghost use Rattle.std.specs.Prelude.{◌≡◌, Some, IfOk};
+ghost use Rattle.mbe.specs.Template.{expected as expected_fault, unexpected_token as unexpected_fault};
+ghost use Rattle.mbe.specs.Error.{text_of_fault, text_of_kind};
+ghost use Rattle.mbe.specs.ErrorViews.{parse_error_of, told_of, kind_of, error_of, count_error_text};
+
 use mbe_tt::span::Span;
 use std::alloc::{AllocError, AllocFailed, Allocator, Global};
 use std::fmt;
@@ -63,6 +68,20 @@ pub(crate) enum ReadError {
     Fault(Fault),
 }
 
+impl ReadError {
+    ghost use Rattle.mbe.specs.declared.error.ReadError.TheVariants as variants;
+
+    // The fault, or want of memory.
+    pub(crate) fn fault(self) -> Result<Fault, AllocError>
+        ensures { IfOk result (λ fault. self ≡ variants.Fault fault) }
+    {
+        match self {
+            ReadError::Memory => Err(AllocError),
+            ReadError::Fault(fault) => Ok(fault),
+        }
+    }
+}
+
 impl From<AllocError> for ReadError {
     ghost use Rattle.std.specs.Prelude.{◌≡◌};
     ghost use Rattle.mbe.specs.declared.error.ReadError.TheVariants.{Memory};
@@ -97,8 +116,10 @@ impl<T: Drop> From<AllocFailed<T>> for ReadError {
 }
 
 impl<A: Allocator + Copy> ParseError<A> {
-    /// An equal copy.
-    pub fn try_clone(&self, alloc: A) -> Result<ParseError<A>, AllocError> {
+    /// An equal copy, or want of memory.
+    pub fn try_clone(&self, alloc: A) -> Result<ParseError<A>, AllocError>
+        ensures { IfOk result (λ copy. parse_error_of copy ≡ parse_error_of self.now) }
+    {
         Ok(match self {
             ParseError::UnexpectedToken(text) => {
                 ParseError::UnexpectedToken(String::from_str(alloc, text.as_str())?)
@@ -111,15 +132,21 @@ impl<A: Allocator + Copy> ParseError<A> {
         })
     }
 
-    fn expected(alloc: A, text: &str) -> Result<ParseError<A>, AllocError> {
+    fn expected(alloc: A, text: &str) -> Result<ParseError<A>, AllocError>
+        ensures { IfOk result (λ e. parse_error_of e ≡ expected_fault text.now) }
+    {
         Ok(ParseError::Expected(String::from_str(alloc, text)?))
     }
 
-    fn unexpected(alloc: A, text: &str) -> Result<ParseError<A>, AllocError> {
+    fn unexpected(alloc: A, text: &str) -> Result<ParseError<A>, AllocError>
+        ensures { IfOk result (λ e. parse_error_of e ≡ unexpected_fault text.now) }
+    {
         Ok(ParseError::UnexpectedToken(String::from_str(alloc, text)?))
     }
 
-    pub(crate) fn of_fault(alloc: A, fault: Fault) -> Result<ParseError<A>, AllocError> {
+    pub(crate) fn of_fault(alloc: A, fault: Fault) -> Result<ParseError<A>, AllocError>
+        ensures { IfOk result (λ e. parse_error_of e ≡ told_of fault) }
+    {
         match fault {
             Fault::ExpectedSubtree => ParseError::expected(alloc, "expected subtree"),
             Fault::ExpectedEquals => ParseError::expected(alloc, "expected `=`"),
@@ -143,6 +170,8 @@ impl<A: Allocator + Copy> ParseError<A> {
 }
 
 impl<A: Allocator> fmt::Display for ParseError<A> {
+    ghost output = { λ e. Some (text_of_fault (parse_error_of e)) };
+
     fn fmt<W: fmt::Write>(&self, f: &mut fmt::Formatter<W>) -> fmt::Result {
         match self {
             ParseError::UnexpectedToken(text) => f.write_str(text.as_str()),
@@ -160,7 +189,9 @@ impl<A: Allocator> ExpandError<A> {
         alloc: A,
         span: Span,
         kind: ExpandErrorKind<A>,
-    ) -> Result<ExpandError<A>, AllocError> {
+    ) -> Result<ExpandError<A>, AllocError>
+        ensures { IfOk result (λ e. error_of e ≡ record { span = span; kind = kind_of kind }) }
+    {
         Ok(ExpandError {
             inner: Rc::new(alloc, (span, kind))?,
         })
@@ -168,6 +199,8 @@ impl<A: Allocator> ExpandError<A> {
 }
 
 impl<A: Allocator> fmt::Display for ExpandErrorKind<A> {
+    ghost output = { λ kind. Some (text_of_kind (kind_of kind)) };
+
     fn fmt<W: fmt::Write>(&self, f: &mut fmt::Formatter<W>) -> fmt::Result {
         match self {
             ExpandErrorKind::BindingError(text) => f.write_str(text.as_str()),
@@ -184,13 +217,17 @@ impl<A: Allocator> fmt::Display for ExpandErrorKind<A> {
 }
 
 impl<A: Allocator> fmt::Display for ExpandError<A> {
+    ghost output = { λ e. Some (text_of_kind (error_of e).kind) };
+
     fn fmt<W: fmt::Write>(&self, f: &mut fmt::Formatter<W>) -> fmt::Result {
-        let kind = &self.inner.1;
-        write!(f, "{kind}")
+        let kind: &ExpandErrorKind<A> = &self.inner.1;
+        fmt::Display::fmt(kind, f)
     }
 }
 
 impl fmt::Display for CountError {
+    ghost output = { λ e. Some (count_error_text e) };
+
     fn fmt<W: fmt::Write>(&self, f: &mut fmt::Formatter<W>) -> fmt::Result {
         match self {
             CountError::OutOfBounds => f.write_str("${count} out of bounds"),

@@ -1,8 +1,11 @@
 // Macro definitions.
-ghost use Rattle.std.specs.Prelude.{◌≡◌, ◌<◌, OnOk};
+ghost use Rattle.std.specs.Prelude.{◌≡◌, ◌<◌, length, option_map, IfOk, IfErr, OnOk};
 ghost use Rattle.mbe_tt.specs.Tree.{flat_len};
 ghost use Rattle.mbe.specs.Definition.{outline_at};
-ghost use Rattle.mbe.specs.Reader.{IsOutlined, is_styled};
+ghost use Rattle.mbe.specs.Reader.{IsOutlined, ReadsRule, RuleFault, AreRules, Stops, is_styled};
+ghost use Rattle.mbe.specs.Views.{rule_of, rules_seen};
+ghost use Rattle.mbe.specs.ErrorViews.{parse_error_of};
+ghost use Rattle.mbe.specs.MacroViews.{macro_of, IsReadAs};
 ghost use Rattle.mbe.specs.Marking.{MayMark, MayAsk};
 
 use crate::error::{Fault, ParseError, ReadError};
@@ -40,15 +43,15 @@ impl<A: Allocator + Copy> DeclarativeMacro<A> {
         ctx_edition: E,
     ) -> Result<DeclarativeMacro<A>, AllocError>
         requires { MayAsk (E.pre ctx_edition) }
+        ensures { IfOk result (λ m. IsReadAs (E.post ctx_edition) tt.now.1 (macro_of m)) }
     {
-        let mut rules = Vec::new(alloc);
-        match parse_rules(alloc, ctx_edition, tt.iter(), &mut rules) {
-            Ok(()) => Ok(DeclarativeMacro { rules, err: None }),
-            Err(ReadError::Memory) => Err(AllocError),
-            Err(ReadError::Fault(fault)) => Ok(DeclarativeMacro {
-                rules,
-                err: Some(ParseError::of_fault(alloc, fault)?),
-            }),
+        let (rules, fault) = parse_rules(alloc, ctx_edition, tt.iter())?;
+        match fault {
+            None => Ok(DeclarativeMacro { rules, err: None }),
+            Some(fault) => {
+                let err = Some(ParseError::of_fault(alloc, fault)?);
+                Ok(DeclarativeMacro { rules, err })
+            }
         }
     }
 
@@ -70,35 +73,47 @@ impl<A: Allocator + Copy> DeclarativeMacro<A> {
 }
 
 impl<A: Allocator> DeclarativeMacro<A> {
-    /// The first fault of the definition.
-    pub fn err(&self) -> Option<&ParseError<A>> {
+    /// The fault that the definition tells, if there is one: the first in reading order.
+    pub fn err(&self) -> Option<&ParseError<A>>
+        ensures { option_map (λ e. parse_error_of e.now) result ≡ (macro_of self.now).err }
+    {
         self.err.as_ref()
     }
 
-    /// The number of rules that were kept.
-    pub fn num_rules(&self) -> usize {
+    /// The number of rules that were kept: those before the first fault.
+    pub fn num_rules(&self) -> usize
+        ensures { result ≡ length (macro_of self.now).rules }
+    {
         self.rules.len()
     }
 }
 
-// Reads rules until the end or the first fault, behind those that were read.
+// The rules up to the first fault, and that fault.
 fn parse_rules<A: Allocator + Copy, E: Copy + Fn(SyntaxContext) -> Edition>(
     alloc: A,
     ctx_edition: E,
     src: TtIter<'_, A>,
-    rules: &mut Vec<Rule<A>, A>,
-) -> Result<(), ReadError> {
+) -> Result<(Vec<Rule<A>, A>, Option<Fault>), AllocError>
+    ensures { IfOk result (λ r. AreRules (E.post ctx_edition) src.entry (rules_seen r.0.items) r.1) }
+{
     let mut src = src;
+    let mut rules = Vec::new(alloc);
     'rules: while !src.is_empty() {
-        rules.push(Rule::parse(alloc, ctx_edition, &mut src)?)?;
+        match Rule::parse(alloc, ctx_edition, &mut src) {
+            Ok(rule) => rules.push(rule)?,
+            Err(error) => {
+                let fault = error.fault()?;
+                return Ok((rules, Some(fault)));
+            }
+        }
         let Ok(()) = src.expect_char(';') else {
             if src.is_empty() {
-                return Ok(());
+                return Ok((rules, None));
             }
-            return Err(ReadError::Fault(Fault::ExpectedSemicolon));
+            return Ok((rules, Some(Fault::ExpectedSemicolon)));
         };
     }
-    Ok(())
+    Ok((rules, None))
 }
 
 impl<A: Allocator + Copy> Rule<A> {
@@ -107,6 +122,8 @@ impl<A: Allocator + Copy> Rule<A> {
         ctx_edition: E,
         src: &mut TtIter<'_, A>,
     ) -> Result<Rule<A>, ReadError>
+        ensures rule { IfOk result (λ r. ReadsRule (E.post ctx_edition) src.old (rule_of r) src.new) }
+        ensures fault { IfErr result (λ e. Stops e (λ f. RuleFault (E.post ctx_edition) f src.old)) }
         ensures shorter { OnOk result (flat_len src.new < flat_len src.old) }
     {
         let (pattern, template) = rule_groups(src)?;

@@ -9,6 +9,7 @@ use Rattle.mbe_tt.specs.declared.tt.Delimiter.{Delimiter}
 use Rattle.mbe_tt.specs.Entry.{Entry}
 use Rattle.mbe_tt.specs.Entry.{Open}
 
+-- the open groups, innermost first, each with its delimiter and its trees so far
 abbrev pub Levels : Type 0
 Levels = List (Delimiter × Forest)
 
@@ -22,6 +23,7 @@ abbrev pub unwrap_last : Levels → Levels
 unwrap_last [] = []
 unwrap_last (g ∷ outer) = (g.0, unwrapped g.1) ∷ outer
 
+-- a group at the end of the innermost of these
 abbrev pub close_into : Delimiter → Forest → Span → Levels → Levels
 close_into d inside span outer = put (group (record d { close = span }) inside none) outer
 
@@ -55,6 +57,7 @@ abbrev pub onto : {A : Type 0} → List A → List A → List A
 onto [] ys = ys
 onto (x ∷ xs) ys = onto xs (x ∷ ys)
 
+-- the open groups that entries say
 abbrev pub levels_of : List Entry → Levels
 levels_of es = onto (read es).unclosed []
 
@@ -86,6 +89,7 @@ levels_of-written b =
     ∙ (ap (λ (u : Levels). onto u []) (read-written b [] (record { around = refl; level = refl }))
     ∙ (onto-onto b [] [] ∙ append-nil b))
 
+-- the code of what a builder shows
 abbrev pub levels_code : Coded Levels
 levels_code = code_by (List Entry) entries_code written levels_of levels_of-written
 

@@ -22,16 +22,19 @@ pub record Reading : Type 0 where
   pub around : List Forest
   pub unclosed : List (Delimiter × Forest)
 
+-- an opening before what was read: a group, where its end was read, and else an unclosed one
 abbrev pub open_at : Subtree → Forest → List Forest → List (Delimiter × Forest) → Reading
 open_at s inside [] u = record { level = none; around = []; unclosed = (s.delimiter, inside) ∷ u }
 open_at s inside (rest ∷ more) u = record { level = group s.delimiter inside rest; around = more; unclosed = u }
 
+-- what the entries say
 abbrev pub read : List Entry → Reading
 read [] = record { level = none; around = []; unclosed = [] }
 read (Leaf l ∷ es) = record (read es) { level = leaf l (read es).level }
 read (Open s n ∷ es) = open_at s (read es).level (read es).around (read es).unclosed
 read (Close ∷ es) = record { level = none; around = (read es).level ∷ (read es).around; unclosed = (read es).unclosed }
 
+-- the trees up to the end of the innermost group
 abbrev pub forest_of : List Entry → Forest
 forest_of es = (read es).level
 
@@ -60,6 +63,7 @@ pub forest_of-spell : (f : Forest) → forest_of (spell f) ≡ f
 forest_of-spell f =
     ap forest_of (sym (append-nil (spell f))) ∙ (ap (λ (r : Reading). r.level) (read-spell f []) ∙ append-none f)
 
+-- codes of entries and of forests
 abbrev pub entries_code : Coded (List Entry)
 entries_code = coded_list entry_code
 

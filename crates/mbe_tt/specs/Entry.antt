@@ -9,14 +9,17 @@ use Rattle.mbe_tt.specs.declared.tt.Subtree.{Subtree}
 use Rattle.mbe_tt.specs.contracts.tt.Subtree as t
 use Rattle.std.specs.Coded.{coded_option}
 
+-- a leaf, an opening with the length of its content, or a closing
 pub data Entry : Type 0 where
   Leaf : TheLeaf → Entry
   Open : Subtree → ℕ → Entry
   Close : Entry
 
+-- the parts by which entries are compared
 abbrev pub EntryRow : Type 0
 EntryRow = Option (TheLeaf ⊎ (Subtree × ℕ))
 
+-- an entry as its parts, and back
 abbrev pub entry_row : Entry → EntryRow
 entry_row (Leaf l) = Some (inl l)
 entry_row (Open s n) = Some (inr (s, n))
@@ -32,6 +35,7 @@ row_entry-entry_row (Leaf l) = refl
 row_entry-entry_row (Open s n) = refl
 row_entry-entry_row Close = refl
 
+-- the code by which entries are compared
 abbrev pub entry_code : Coded Entry
 entry_code = code_by EntryRow (coded_option (coded⊎ leaf_code (coded× t.the_row.coded coded_ℕ))) entry_row row_entry row_entry-entry_row
 

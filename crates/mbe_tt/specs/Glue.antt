@@ -16,12 +16,15 @@ operators =
     ∷ codes "->" ∷ codes "=>" ∷ codes ">>" ∷ codes "<-" ∷ codes "::" ∷ codes ".." ∷ codes "&&" ∷ codes "<<" ∷ codes "||"
     ∷ []
 
+-- whether the chars make one of these
 abbrev pub is_operator : List ℕ → Bool
 is_operator chars = list_any (bytes_eq chars) operators
 
+-- the chars of puncts
 abbrev pub chars_of : List Punct → List ℕ
 chars_of puncts = map (λ p. p.char) puncts
 
+-- what follows a punct, where that is joint
 abbrev pub if_joint : spacing.Spacing → List Punct → List Punct
 if_joint spacing.TheVariants.Alone more = []
 if_joint spacing.TheVariants.Joint more = more

@@ -25,6 +25,7 @@ pub record Ident : Type 0 where
   pub is_raw : IdentIsRaw
   pub span : Span
 
+-- a literal, a punct or an identifier
 pub data Leaf : Type 0 where
   literal : Literal → Leaf
   punct : Punct → Leaf
@@ -34,9 +35,11 @@ pub data Leaf : Type 0 where
 abbrev pub is_text : List ℕ → List ℕ → Bool
 is_text a b = bytes_eq a b
 
+-- the text `_`
 abbrev pub is_underscore : List ℕ → Bool
 is_underscore s = is_text s (codes "_")
 
+-- where a leaf stands
 abbrev pub span_of : Leaf → Span
 span_of (literal l) = l.span
 span_of (punct p) = p.span

@@ -9,10 +9,12 @@ use Rattle.mbe_tt.specs.declared.tt.LitKind.TheVariants.{Byte, Char, Integer, Fl
 use Rattle.mbe_tt.specs.declared.tt.IdentIsRaw.{IdentIsRaw}
 use Rattle.mbe_tt.specs.declared.tt.IdentIsRaw.TheVariants.{No, Yes}
 
+-- what stands before a raw identifier
 abbrev pub raw_prefix : IdentIsRaw → List ℕ
 raw_prefix No = []
 raw_prefix Yes = codes "r#"
 
+-- how an identifier is written
 abbrev pub ident_text : Ident → List ℕ
 ident_text i = raw_prefix i.is_raw ++ i.sym
 
@@ -24,9 +26,11 @@ is_cut text n = if nat_lt n (length text) then nat_lt (slice_index text n) 128 |
 abbrev pub text_len : List ℕ → ℕ → ℕ
 text_len text suffix = if nat_lt (length text) suffix then length text else if is_cut text (length text - suffix) then length text - suffix else length text
 
+-- the text without its suffix
 abbrev pub literal_text : Literal → List ℕ
 literal_text l = take (text_len l.text_and_suffix l.suffix_len) l.text_and_suffix
 
+-- the suffix
 abbrev pub literal_suffix : Literal → List ℕ
 literal_suffix l = drop (text_len l.text_and_suffix l.suffix_len) l.text_and_suffix
 
@@ -44,6 +48,7 @@ prefix CStr = codes "c"
 prefix (CStrRaw n) = codes "cr"
 prefix Err = []
 
+-- how many `#` stand round the quotes
 abbrev pub hashes : LitKind → ℕ
 hashes Byte = 0
 hashes Char = 0
@@ -57,6 +62,7 @@ hashes CStr = 0
 hashes (CStrRaw n) = n
 hashes Err = 0
 
+-- the quote
 abbrev pub quote : LitKind → List ℕ
 quote Byte = codes "'"
 quote Char = codes "'"
@@ -70,15 +76,19 @@ quote CStr = codes "\""
 quote (CStrRaw n) = codes "\""
 quote Err = []
 
+-- so many `#`
 abbrev pub hash_text : ℕ → List ℕ
 hash_text n = replicate n 35
 
+-- what stands before the text
 abbrev pub opening : LitKind → List ℕ
 opening k = prefix k ++ (hash_text (hashes k) ++ quote k)
 
+-- what stands behind the text, before the suffix
 abbrev pub closing : LitKind → List ℕ
 closing k = quote k ++ hash_text (hashes k)
 
+-- how a literal is written
 abbrev pub literal_output : Literal → List ℕ
 literal_output l = opening l.kind ++ (literal_text l ++ (closing l.kind ++ literal_suffix l))
 

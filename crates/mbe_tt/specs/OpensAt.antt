@@ -4,6 +4,7 @@ use Rattle.mbe_tt.specs.declared.tt.Subtree.{Subtree}
 use Rattle.mbe_tt.specs.Entry.{Entry}
 use Rattle.mbe_tt.specs.Entry.{Open}
 
+-- the opening of that group, with that number, stands at that place
 pub record OpensAt (entries : List Entry) (place : ℕ) (s : Subtree) (n : ℕ) : Type 0 where
   pub before : List Entry
   pub after : List Entry

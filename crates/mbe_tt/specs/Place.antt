@@ -17,6 +17,7 @@ step none (rest ∷ around) = (rest, around)
 step (leaf l rest) around = (rest, around)
 step (group d inside rest) around = (inside, rest ∷ around)
 
+-- after so many flat tokens
 abbrev pub walk : ℕ → Rests → Rests
 walk zero r = r
 walk (suc n) r = walk n (step r.0 r.1)
@@ -25,10 +26,12 @@ walk (suc n) r = walk n (step r.0 r.1)
 abbrev pub rests : Forest → ℕ → Rests
 rests f n = walk n (f, [])
 
+-- the entries of the groups around, from the end of the innermost one
 abbrev pub closings : List Forest → List Entry
 closings [] = []
 closings (rest ∷ around) = Close ∷ (spell rest ++ closings around)
 
+-- the entries from a place on
 abbrev pub spell_rests : Rests → List Entry
 spell_rests r = spell r.0 ++ closings r.1
 
@@ -42,12 +45,15 @@ DepthAfter Close n m = n ≡ m + 1
 abbrev pub Placed : Type 0
 Placed = Forest × ℕ
 
+-- the code of what a cursor shows
 abbrev pub placed_code : Coded Placed
 placed_code = coded× forest_code coded_ℕ
 
+-- the trees of its view
 abbrev pub viewed : Placed → Forest
 viewed c = c.0
 
+-- the number of flat tokens passed
 abbrev pub place_of : Placed → ℕ
 place_of c = c.1
 
@@ -59,6 +65,7 @@ left_at c = rest_at c.0 c.1
 abbrev pub IsAtRoot : Placed → Type 0
 IsAtRoot c = depth_at c.0 c.1 ≡ 0
 
+-- what holds of the fields of a cursor
 pub record IsPlaced (entries : List Entry) (place depth : ℕ) : Type 0 where
   pub spelled : entries ≡ spell (forest_of entries)
   pub within : place ≤ length entries

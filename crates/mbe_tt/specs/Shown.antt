@@ -13,6 +13,7 @@ use Rattle.mbe_tt.specs.declared.tt.Leaf.TheVariants as l
 use Rattle.mbe_tt.specs.declared.entry.Entry.{Entry}
 use Rattle.mbe_tt.specs.declared.entry.Entry.TheVariants as e
 
+-- a literal, an identifier or a leaf without the memory of its text
 abbrev pub literal_of : {A : Type 0} → Literal A → spec.Literal
 literal_of x = record { text_and_suffix = x.text_and_suffix; suffix_len = x.suffix_len; kind = x.kind; span = x.span }
 
@@ -28,6 +29,7 @@ leaf_of (l.Ident x) = spec.ident (ident_of x)
 abbrev pub leaves_of : {A : Type 0} → List (Leaf A) → Forest
 leaves_of ls = leaves (map leaf_of ls)
 
+-- an entry, and entries, without their memory
 abbrev pub entry_of : {A : Type 0} → Entry A → flat.Entry
 entry_of (e.Leaf x) = flat.Leaf (leaf_of x)
 entry_of (e.Open s n) = flat.Open s n
@@ -36,24 +38,28 @@ entry_of e.Close = flat.Close
 abbrev pub entries_of : {A : Type 0} → List (Entry A) → List flat.Entry
 entries_of es = map entry_of es
 
+-- equality of identifiers
 abbrev pub ident_eq : {A : Type 0} → Ident A → Ident A → Bool
 ident_eq x y = same spec.ident_code (ident_of x) (ident_of y)
 
 pub ident_eq_laws : {A : Type 0} → IsEquivalence (ident_eq {A = A})
 ident_eq_laws = on_equiv ident_of (same_equiv spec.ident_code)
 
+-- equality of literals
 abbrev pub literal_eq : {A : Type 0} → Literal A → Literal A → Bool
 literal_eq x y = same spec.literal_code (literal_of x) (literal_of y)
 
 pub literal_eq_laws : {A : Type 0} → IsEquivalence (literal_eq {A = A})
 literal_eq_laws = on_equiv literal_of (same_equiv spec.literal_code)
 
+-- equality of leaves
 abbrev pub leaf_eq : {A : Type 0} → Leaf A → Leaf A → Bool
 leaf_eq x y = same spec.leaf_code (leaf_of x) (leaf_of y)
 
 pub leaf_eq_laws : {A : Type 0} → IsEquivalence (leaf_eq {A = A})
 leaf_eq_laws = on_equiv leaf_of (same_equiv spec.leaf_code)
 
+-- equality of entries
 abbrev pub entry_eq : {A : Type 0} → Entry A → Entry A → Bool
 entry_eq x y = same flat.entry_code (entry_of x) (entry_of y)
 

@@ -15,15 +15,18 @@ pub data Forest : Type 0 where
   leaf : Leaf → Forest → Forest
   group : Delimiter → Forest → Forest → Forest
 
+-- a leaf, or a group
 pub data Tree : Type 0 where
   Leaf_tree : Leaf → Tree
   Group_tree : Delimiter → Forest → Tree
 
+-- a leaf, an opening or a closing
 pub data FlatToken : Type 0 where
   token : Leaf → FlatToken
   opening : Delimiter → FlatToken
   closing : Delimiter → FlatToken
 
+-- that tree before others
 abbrev pub tree : Tree → Forest → Forest
 tree (Leaf_tree l) rest = leaf l rest
 tree (Group_tree d inside) rest = group d inside rest
@@ -46,6 +49,7 @@ flat_len none = 0
 flat_len (leaf l rest) = 1 + flat_len rest
 flat_len (group d inside rest) = 2 + flat_len inside + flat_len rest
 
+-- the flat tokens, in order
 abbrev pub flat : Forest → List FlatToken
 flat none = []
 flat (leaf l rest) = token l ∷ flat rest
@@ -75,6 +79,7 @@ strip_group d Parenthesis inside = group d inside none
 strip_group d Brace inside = group d inside none
 strip_group d Bracket inside = group d inside none
 
+-- the content, where there is exactly one tree and that is an invisible group; one level only
 abbrev pub strip_invisible : Forest → Forest
 strip_invisible none = none
 strip_invisible (leaf l rest) = leaf l rest
@@ -88,30 +93,37 @@ leaf_punct (punct p) = Some p
 leaf_punct (literal l) = None
 leaf_punct (ident i) = None
 
+-- the identifier that a leaf is
 abbrev pub leaf_ident : Leaf → Option Ident
 leaf_ident (punct p) = None
 leaf_ident (literal l) = None
 leaf_ident (ident i) = Some i
 
+-- the first tree, where it is a punct
 abbrev pub front_punct : Forest → Option Punct
 front_punct none = None
 front_punct (leaf l rest) = leaf_punct l
 front_punct (group d inside rest) = None
 
+-- the char of the first tree, where that is a punct
 abbrev pub front_char : Forest → Option ℕ
 front_char f = option_map (λ p. p.char) (front_punct f)
 
+-- the first tree, where it is an identifier
 abbrev pub any_ident : Forest → Option Ident
 any_ident none = None
 any_ident (leaf l rest) = leaf_ident l
 any_ident (group d inside rest) = None
 
+-- an identifier other than `_`
 abbrev pub not_underscore : Ident → Option Ident
 not_underscore i = if is_underscore i.sym then None else Some i
 
+-- the first tree, where it is an identifier other than `_`
 abbrev pub front_ident : Forest → Option Ident
 front_ident f = option_and_then not_underscore (any_ident f)
 
+-- the first tree, where it is a group
 abbrev pub front_group : Forest → Option (Delimiter × Forest)
 front_group none = None
 front_group (leaf l rest) = None
@@ -125,9 +137,11 @@ one_group (group d inside none) = Some (d, inside)
 one_group (group d inside (leaf l rest)) = None
 one_group (group d inside (group e more rest)) = None
 
+-- the forest of one leaf
 abbrev pub one_leaf : Leaf → Forest
 one_leaf l = leaf l none
 
+-- the first tree, where it is a leaf
 abbrev pub front_leaf : Forest → Option Leaf
 front_leaf none = None
 front_leaf (leaf l rest) = Some l
@@ -137,11 +151,13 @@ front_leaf (group d inside rest) = None
 abbrev pub is_truth : List ℕ → Bool
 is_truth text = is_text text (codes "true") || is_text text (codes "false")
 
+-- a literal, or the identifier `true` or `false`
 abbrev pub literal_leaf : Leaf → Option Leaf
 literal_leaf (literal l) = Some (literal l)
 literal_leaf (punct p) = None
 literal_leaf (ident i) = if is_truth i.sym then Some (ident i) else None
 
+-- the first tree, where it is one of these
 abbrev pub front_literal : Forest → Option Leaf
 front_literal f = option_and_then literal_leaf (front_leaf f)
 
@@ -150,6 +166,7 @@ abbrev pub first_span : Tree → Span
 first_span (Leaf_tree l) = span_of l
 first_span (Group_tree d inside) = d.opening
 
+-- a punct alone, and any other leaf as it is
 abbrev pub alone_leaf : Leaf → Leaf
 alone_leaf (literal l) = literal l
 alone_leaf (punct p) = punct (record p { spacing = Alone })
@@ -165,6 +182,7 @@ change_last g (group d inside none) = g (Group_tree d inside)
 change_last g (group d inside (leaf l rest)) = group d inside (change_last g (leaf l rest))
 change_last g (group d inside (group e more rest)) = group d inside (change_last g (group e more rest))
 
+-- a punct alone, and any other tree as it is
 abbrev pub alone_tree : Tree → Forest
 alone_tree (Leaf_tree l) = leaf (alone_leaf l) none
 alone_tree (Group_tree d inside) = group d inside none
@@ -173,6 +191,7 @@ alone_tree (Group_tree d inside) = group d inside none
 abbrev pub alone : Forest → Forest
 alone = change_last alone_tree
 
+-- the content of an invisible group, and any other tree as it is
 abbrev pub strip_tree : Tree → Forest
 strip_tree (Leaf_tree l) = leaf l none
 strip_tree (Group_tree d inside) = strip_group d d.kind inside
@@ -181,6 +200,7 @@ strip_tree (Group_tree d inside) = strip_group d d.kind inside
 abbrev pub unwrapped : Forest → Forest
 unwrapped = change_last strip_tree
 
+-- leaves side by side
 abbrev pub leaves : List Leaf → Forest
 leaves [] = none
 leaves (l ∷ ls) = leaf l (leaves ls)
@@ -192,6 +212,7 @@ if_invisible Parenthesis = None
 if_invisible Brace = None
 if_invisible Bracket = None
 
+-- the number of flat tokens before the last tree, where that is an invisible group
 abbrev pub last_invisible : Forest → Option ℕ
 last_invisible none = None
 last_invisible (leaf l rest) = option_map (λ n. 1 + n) (last_invisible rest)
@@ -224,6 +245,7 @@ pub record Cut : Type 0 where
   pub front : Forest
   pub back : Forest
 
+-- a cut into these two
 abbrev pub cut : Forest → Forest → Cut
 cut front back = record { front = front; back = back }
 
@@ -254,6 +276,7 @@ cut_flat zero (group d inside rest) = cut none (group d inside rest)
 cut_flat (suc n) (leaf l rest) = leaf_before l (cut_flat n rest)
 cut_flat (suc n) (group d inside rest) = group_before d inside (cut_flat (n - flat_len inside - 1) rest)
 
+-- whether two kinds of delimiters are one
 abbrev pub is_same_kind : DelimiterKind → DelimiterKind → Bool
 is_same_kind Parenthesis Parenthesis = true
 is_same_kind Brace Brace = true
@@ -267,11 +290,13 @@ trees_of none = []
 trees_of (leaf l rest) = leaf l none ∷ trees_of rest
 trees_of (group d inside rest) = group d inside none ∷ trees_of rest
 
+-- the trees, one by one, as an iterator gives them
 abbrev pub each_tree : Forest → List Tree
 each_tree none = []
 each_tree (leaf l rest) = Leaf_tree l ∷ each_tree rest
 each_tree (group d inside rest) = Group_tree d inside ∷ each_tree rest
 
+-- forests side by side
 abbrev pub all_of : List Forest → Forest
 all_of [] = none
 all_of (f ∷ fs) = append f (all_of fs)

@@ -18,12 +18,14 @@ trees v = forest_of (entries_of v.entries.now)
 abbrev pub group_of : {A : Type 0} → SubtreeView A → Top
 group_of v = (v.subtree.now.delimiter, trees v.inside)
 
+-- views are the same where their trees are
 abbrev pub view_eq : {A : Type 0} → TokenTreesView A → TokenTreesView A → Bool
 view_eq v w = same forest_code (trees v) (trees w)
 
 pub view_eq_laws : {A : Type 0} → IsEquivalence (view_eq {A = A})
 view_eq_laws = on_equiv trees (same_equiv forest_code)
 
+-- views of one group are the same where their groups are
 abbrev pub subtree_view_eq : {A : Type 0} → SubtreeView A → SubtreeView A → Bool
 subtree_view_eq v w = same top_code (group_of v) (group_of w)
 

@@ -8,7 +8,7 @@ ghost use Rattle.mbe_tt.specs.Glue.{glue, glued, is_operator, joined_punct, thir
 ghost use Rattle.mbe_tt.specs.Entry.{Open};
 ghost use Rattle.mbe_tt.specs.Shown.{entries_of, ident_of, leaf_of};
 ghost use Rattle.std.specs.List.{Contains};
-ghost use Rattle.std.specs.Iterator.{YieldsFirstBy, item_count, MakesProgress};
+ghost use Rattle.std.specs.Iterator.{YieldsFirstBy, item_count};
 ghost use Rattle.mbe_tt.specs.declared.tt.Punct.{Punct as SpecPunct};
 
 use crate::entry::Entry;
@@ -90,6 +90,26 @@ impl<'a, A: Allocator> TtIter<'a, A> {
     {
         TokenTreesView {
             entries: self.entries,
+        }
+    }
+
+    /// The next tree, which is passed; `None` at the end.
+    pub fn next(&mut self) -> Option<TtElement<'a, A>>
+        ensures value { option_map element_tree result ≡ first self.old }
+        ensures rest { self.new ≡ rest_of self.old }
+    {
+        let (first, rest) = self.entries.split_first()?;
+        match first {
+            Entry::Leaf(leaf) => {
+                self.entries = rest;
+                Some(TtElement::Leaf(leaf))
+            }
+            Entry::Open(subtree, len) => {
+                let (inside, rest) = content_and_rest(subtree, *len, rest);
+                *self = rest;
+                Some(TtElement::Subtree(subtree, inside))
+            }
+            Entry::Close => None,
         }
     }
 
@@ -310,6 +330,7 @@ impl<'a, A: Allocator> TtIter<'a, A> {
     }
 }
 
+/// Each tree comes once, in order, and the iterator ends.
 impl<'a, A: Allocator> Iterator for TtIter<'a, A> {
     ghost use Rattle.mbe_tt.specs.Tree.{each_tree};
     ghost use Rattle.mbe_tt.specs.Element.{element_tree};
@@ -320,26 +341,8 @@ impl<'a, A: Allocator> Iterator for TtIter<'a, A> {
 
     ghost remaining = { item_count each_tree };
 
-    /// The next tree, which is passed; `None` at the end. So each tree comes once, in order, and the iterator ends.
-    fn next(&mut self) -> Option<TtElement<'a, A>>
-        ensures value { option_map element_tree result ≡ first self.old }
-        ensures rest { self.new ≡ rest_of self.old }
-        ensures steps { YieldsFirstBy element_tree each_tree self.old result self.new }
-        ensures goes { MakesProgress (λ _. ⊤) (item_count each_tree) self.old result self.new }
-    {
-        let (first, rest) = self.entries.split_first()?;
-        match first {
-            Entry::Leaf(leaf) => {
-                self.entries = rest;
-                Some(TtElement::Leaf(leaf))
-            }
-            Entry::Open(subtree, len) => {
-                let (inside, rest) = content_and_rest(subtree, *len, rest);
-                *self = rest;
-                Some(TtElement::Subtree(subtree, inside))
-            }
-            Entry::Close => None,
-        }
+    fn next(&mut self) -> Option<TtElement<'a, A>> {
+        TtIter::next(self)
     }
 }
 
