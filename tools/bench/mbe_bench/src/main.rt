@@ -13,8 +13,8 @@ use crate::words::trees;
 use mbe::{DeclarativeMacro, MacroCallStyle};
 use mbe_tt::tt::TopSubtree;
 use std::alloc::{AllocError, Global};
-use std::io;
 use std::time::{Duration, Instant};
+use std::{fmt, io};
 
 fn main(rt: HostRuntime) -> io::Result<()> {
     let alloc = rt.alloc();
@@ -62,6 +62,28 @@ fn expand(alloc: Global, rules: &DeclarativeMacro, arg: &TopSubtree) -> Result<b
     Ok(expansion.err.is_none())
 }
 
+// A part of a time, in tenths of a nanosecond.
+#[derive(Clone, Copy)]
+struct Share {
+    tenths: u64,
+}
+
+impl Share {
+    fn new(time: u64, parts: u64) -> Share {
+        Share {
+            tenths: time.saturating_mul(10) / parts.max(1),
+        }
+    }
+}
+
+impl fmt::Display for Share {
+    fn fmt<W: fmt::Write>(&self, f: &mut fmt::Formatter<W>) -> fmt::Result {
+        let whole = self.tenths / 10;
+        let tenth = self.tenths % 10;
+        write!(f, "{whole}.{tenth}")
+    }
+}
+
 // Writes a line with the times of a case, for each turn and for each token.
 fn time(rt: &HostRuntime, case: &Case) -> io::Result<()> {
     let alloc = rt.alloc();
@@ -79,10 +101,10 @@ fn time(rt: &HostRuntime, case: &Case) -> io::Result<()> {
         Ok(())
     })?;
     let name = case.name.as_str();
-    let read_tokens = case.def_tokens.max(1);
-    let expanded_tokens = case.arg_tokens.max(1);
-    let read_each = reading / read_tokens;
-    let expanded_each = expanding / expanded_tokens;
+    let read_tokens = case.def_tokens;
+    let expanded_tokens = case.arg_tokens;
+    let read_each = Share::new(reading, read_tokens);
+    let expanded_each = Share::new(expanding, expanded_tokens);
     println!(rt;
         "{name}: expands {expands}; read {reading} ns, {read_each} ns for each of {read_tokens} tokens; expanded {expanding} ns, {expanded_each} ns for each of {expanded_tokens} tokens"
     )
