@@ -1,0 +1,57 @@
+-- The first of the rules that applies, found by trying one after the other.
+use Rattle.std.specs.Prelude.{◌≡◌, ◌<◌, ◌≤◌, ◌+◌, ◌^◌, ℕ, zero, suc, List, [], ◌∷◌, length, take, slice_get, slice_index_or, map, Contains, Some, Result, Ok, Err, refl}
+use Rattle.std.proofs.Common.{ap, sym, subst, arith, add-one}
+use Rattle.std.proofs.Math.Seq.{take-nil}
+use Rattle.std.proofs.lemmas.Bool.{lt-ltb, le-ltb}
+use Rattle.std.specs.Result.{OkIff, result_ok}
+use Rattle.mbe.specs.Macro.{arm_of}
+use Rattle.std.proofs.lemmas.Option.{none-some, same_Some}
+use Rattle.mbe_tt.specs.Tree.{Forest}
+use Rattle.mbe_tt.specs.Grammar.{Grammar}
+use Rattle.mbe.specs.declared.macro_call_style.MacroCallStyle.{MacroCallStyle}
+use Rattle.mbe.specs.Definition.{Rule}
+use Rattle.mbe.specs.Expansion.{Applies, FirstThatApplies, this_one, a_later_one}
+use Rattle.mbe.specs.Answer.{NoneApplies}
+
+module _ (g : Grammar) (style : MacroCallStyle) (argument : Forest) where
+  pub first_at : (rs : List Rule) (n : ℕ) (r : Rule) (a : Applies g style argument r) → NoneApplies g style argument (take n rs) → slice_get rs n ≡ Some r
+      → FirstThatApplies g style argument rs n r a
+  first_at [] n r a before e = absurd (none-some r e)
+  first_at (x ∷ rs) zero r a before e =
+      subst (λ (y : Rule). FirstThatApplies g style argument (y ∷ rs) 0 r a) (sym (same_Some x r e)) (this_one r rs a)
+  first_at (x ∷ rs) (suc n) r a before e = a_later_one x r rs n (suc n) a before.0 (first_at rs n r a before.1 e) refl
+
+  none_at : (rs : List Rule) (r : Rule) → NoneApplies g style argument rs → (k : ℕ) → k < length rs → slice_index_or rs k r ≡ r → Applies g style argument r → ⊥
+  none_at [] r n k l e a = absurd (omega (arith, l))
+  none_at (x ∷ rs) r n zero l e a = n.0 (subst (Applies g style argument) (sym e) a)
+  none_at (x ∷ rs) r n (suc k) l e a = none_at rs r n.1 k (omega arith) e a
+
+  pub none_contained : (rs : List Rule) (r : Rule) → NoneApplies g style argument rs → Contains rs r → Applies g style argument r → ⊥
+  none_contained rs r n c a = none_at rs r n c.0 c.1 c.2 a
+
+  more_at : (rs : List Rule) (n : ℕ) (r : Rule) → NoneApplies g style argument (take n rs) → slice_get rs n ≡ Some r → (Applies g style argument r → ⊥)
+      → NoneApplies g style argument (take (suc n) rs)
+  more_at [] n r before e h = tt
+  more_at (x ∷ rs) zero r before e h = (λ a. h (subst (Applies g style argument) (same_Some x r e) a), tt)
+  more_at (x ∷ rs) (suc n) r before e h = (before.0, more_at rs n r before.1 e h)
+
+  -- one rule more that doesn't apply
+  pub none_more : (rs : List Rule) (n : ℕ) (r : Rule) → NoneApplies g style argument (take n rs) → slice_get rs n ≡ Some r → (Applies g style argument r → ⊥)
+      → NoneApplies g style argument (take (n + 1) rs)
+  none_more rs n r before e h = rw add-one (more_at rs n r before e h)
+
+-- a member seen by a function
+pub seen_at : {X Y : Type 0} (f : X → Y) (xs : List X) (i : ℕ) (x : X) → i < length xs → x ≡ slice_index_or xs i x → slice_get (map f xs) i ≡ Some (f x)
+seen_at f [] i x l e = absurd (omega (arith, l))
+seen_at f (y ∷ ys) zero x l e = ap (λ z. Some (f z)) (sym e)
+seen_at f (y ∷ ys) (suc i) x l e = seen_at f ys i x (omega arith) e
+
+pub all_seen : {X Y : Type 0} (f : X → Y) (xs : List X) (n : ℕ) → length xs ≤ n → take n (map f xs) ≡ map f xs
+all_seen f [] n h = take-nil n
+all_seen f (x ∷ xs) zero h = absurd (omega (arith, h))
+all_seen f (x ∷ xs) (suc n) h = ap (λ (ys : List _). f x ∷ ys) (all_seen f xs n (omega arith))
+
+-- a place, where it fits 32 bits
+pub arm_at : {E : Type 0} (r : Result ℕ E) (n : ℕ) → OkIff r (n < 2 ^ 32) n → result_ok r ≡ arm_of n
+arm_at (Ok x) n h = rw (lt-ltb n (2 ^ 32) h.0) (ap Some h.1)
+arm_at (Err e) n h = let k : 2 ^ 32 ≤ n = omega (arith, h) in rw (le-ltb n (2 ^ 32) k) refl

@@ -1,0 +1,40 @@
+use Rattle.std.proofs.Common.{◌≡◌, ◌∙◌, sym, ap, subst, map, Some, None, refl, rules}
+use Rattle.std.proofs.lemmas.Option.{none-some, same_Some}
+use Rattle.mbe_tt.specs.Tree.{none, group}
+use Rattle.mbe_tt.specs.Top.{top_group}
+use Rattle.mbe_tt.specs.declared.span.DelimSpan.{DelimSpan}
+use Rattle.mbe_tt.specs.declared.tt.DelimiterKind.TheVariants.{Invisible}
+use Rattle.mbe.specs.Views.{rule_of, rules_seen}
+use Rattle.mbe.specs.Expansion.{Applies}
+use Rattle.mbe.specs.Answer.{NoneApplies}
+use Rattle.mbe.proofs.ChoiceLemmas.{first_at, none_contained, none_more, seen_at, all_seen, arm_at}
+use Rattle.mbe.proofs.expander.expand_rules.Goals as goal
+
+pub returns-in-Some : goal.returns-in-Some
+returns-in-Some g c = λ h.
+    let tried = rw c.in-Some.is at (c.in_ok-tree.ensures h) in
+    let here = seen_at rule_of c.args.rules.now c.loop-idx.idx c.index-rules-idx.result c.loop-idx-test.true c.index-rules-idx.is in
+    let first = first_at h c.args.call_style c.args.input.now.1 (rules_seen c.args.rules.now) c.loop-idx.idx (rule_of c.index-rules-idx.result) tried.0 (c.loop-idx.invariant h) here in
+    record {
+      sound = λ _. (c.loop-idx.idx, (rule_of c.index-rules-idx.result, tried.0, first, tried.1), c.ok.ensures.value ∙ arm_at c.try_from.result c.loop-idx.idx c.try_from.ensures);
+      complete = λ r k a. refl;
+      failed = λ e x. absurd (none-some e x);
+    }
+
+pub loop-idx-preserved : goal.loop-idx-preserved
+loop-idx-preserved g c = λ h.
+    let tried = rw c.in_default.is at (c.in_ok-tree.ensures h) in
+    let here = seen_at rule_of c.args.rules.now c.loop-idx.idx c.index-rules-idx.result c.loop-idx-test.true c.index-rules-idx.is in
+    none_more h c.args.call_style c.args.input.now.1 (rules_seen c.args.rules.now) c.loop-idx.idx (rule_of c.index-rules-idx.result) (c.loop-idx.invariant h) here tried
+
+pub returns : goal.returns
+returns g c = λ h.
+    let nobody : NoneApplies h c.args.call_style c.args.input.now.1 (rules_seen c.args.rules.now) =
+    subst (NoneApplies h c.args.call_style c.args.input.now.1) (all_seen rule_of c.args.rules.now c.loop-idx.idx c.loop-idx-test.false) (c.loop-idx.invariant h) in
+    record {
+      sound = λ n. absurd (cc);
+      complete = λ r k a. absurd (none_contained h c.args.call_style c.args.input.now.1 (rules_seen c.args.rules.now) r nobody k a);
+      failed = λ e x. (ap top_group c.in_ok-empty.ensures
+      ∙ ap (λ (d : DelimSpan). group (record { opening = d.opening; close = d.close; kind = Invisible }) none none) c.from_single.ensures,
+      refl, sym (same_Some _ _ x) ∙ c.in_ok-error.ensures);
+    }
