@@ -1,6 +1,10 @@
 // Matches an argument against a pattern.
+ghost use Rattle.std.specs.Prelude.{◌≡◌, option_map};
+ghost use Rattle.mbe_tt.specs.View.{trees};
+ghost use Rattle.mbe.specs.Environment.{fragment, value_of};
+ghost use Rattle.mbe.specs.Item.{stripped};
 ghost use Rattle.mbe.specs.Takes.{ident_front, tree_front};
-ghost use Rattle.mbe.specs.Views.{IsTaken};
+ghost use Rattle.mbe.specs.Views.{IsTaken, bound_by};
 
 use crate::parser::{MetaTemplate, MetaVarKind, Op};
 use mbe_tt::iter::TtIter;
@@ -35,7 +39,10 @@ impl<'a, A: Allocator + Copy> Bindings<'a, A> {
 }
 
 impl<'a, A: Allocator> Bindings<'a, A> {
-    pub(crate) fn get(&self, name: &Symbol<A>) -> Option<TokenTreesView<'a, A>> {
+    // What the variable took, if it is bound.
+    pub(crate) fn get(&self, name: &Symbol<A>) -> Option<TokenTreesView<'a, A>>
+        ensures { option_map (λ v. fragment (record { trees = trees v; style = stripped })) result ≡ value_of (bound_by self.now) name.now }
+    {
         self.inner.get(name).copied()
     }
 }
