@@ -1,5 +1,5 @@
 -- The first of the rules that applies, found by trying one after the other.
-use Rattle.std.specs.Prelude.{◌≡◌, ◌<◌, ◌≤◌, ◌+◌, ◌^◌, ℕ, zero, suc, List, [], ◌∷◌, length, take, slice_get, slice_index_or, map, Contains, Some, Result, Ok, Err, refl}
+use Rattle.std.specs.Prelude.{◌≡◌, ◌<◌, ◌≤◌, ◌+◌, ◌^◌, ℕ, zero, suc, List, [], ◌∷◌, ◌++◌, length, take, slice_get, slice_index_or, map, Contains, Some, Result, Ok, Err, refl}
 use Rattle.std.proofs.Common.{ap, sym, subst, arith, add-one}
 use Rattle.std.proofs.Math.Seq.{take-nil}
 use Rattle.std.proofs.lemmas.Bool.{lt-ltb, le-ltb}
@@ -11,7 +11,7 @@ use Rattle.mbe_tt.specs.Grammar.{Grammar}
 use Rattle.mbe.specs.declared.macro_call_style.MacroCallStyle.{MacroCallStyle}
 use Rattle.mbe.specs.Definition.{Rule}
 use Rattle.mbe.specs.Expansion.{Applies, FirstThatApplies, this_one, a_later_one}
-use Rattle.mbe.specs.Answer.{NoneApplies}
+use Rattle.mbe.specs.Answer.{NoneApplies, AreCarried, IsCarried}
 
 module _ (g : Grammar) (style : MacroCallStyle) (argument : Forest) where
   pub first_at : (rs : List Rule) (n : ℕ) (r : Rule) (a : Applies g style argument r) → NoneApplies g style argument (take n rs) → slice_get rs n ≡ Some r
@@ -55,3 +55,14 @@ all_seen f (x ∷ xs) (suc n) h = ap (λ (ys : List _). f x ∷ ys) (all_seen f 
 pub arm_at : {E : Type 0} (r : Result ℕ E) (n : ℕ) → OkIff r (n < 2 ^ 32) n → result_ok r ≡ arm_of n
 arm_at (Ok x) n h = rw (lt-ltb n (2 ^ 32) h.0) (ap Some h.1)
 arm_at (Err e) n h = let k : 2 ^ 32 ≤ n = omega (arith, h) in rw (le-ltb n (2 ^ 32) k) refl
+
+-- ---- rules that are carried
+
+pub carried-push : (rs : List Rule) (r : Rule) → AreCarried rs → IsCarried r → AreCarried (rs ++ r ∷ [])
+carried-push [] r h k = (k, tt)
+carried-push (x ∷ rs) r h k = (h.0, carried-push rs r h.1 k)
+
+pub carried_at : (rs : List Rule) (n : ℕ) (r : Rule) → AreCarried rs → slice_get rs n ≡ Some r → IsCarried r
+carried_at [] n r h e = absurd (none-some r e)
+carried_at (x ∷ rs) zero r h e = subst IsCarried (same_Some x r e) h.0
+carried_at (x ∷ rs) (suc n) r h e = carried_at rs n r h.1 e

@@ -1,5 +1,5 @@
 -- What an expansion answers where no rule recovers.
-use Rattle.std.specs.Prelude.{◌≡◌, ℕ, List, [], ◌∷◌, Contains, Option, Some, None, IsNone}
+use Rattle.std.specs.Prelude.{◌≡◌, ℕ, List, [], ◌∷◌, Contains, Option, Some, None, IsNone, IsTrue}
 use Rattle.mbe_tt.specs.declared.span.Span.{Span}
 use Rattle.mbe_tt.specs.declared.tt.DelimiterKind.TheVariants.{Invisible}
 use Rattle.mbe_tt.specs.Tree.{Forest, none, group}
@@ -11,6 +11,7 @@ use Rattle.mbe.specs.Environment.{environment_of}
 use Rattle.mbe.specs.Error.{ExpandError, no_matching_rule}
 use Rattle.mbe.specs.Expansion.{Applies, IsExpansion}
 use Rattle.mbe.specs.Macro.{arm_of}
+use Rattle.mbe.specs.Matching.{is_plain}
 use Rattle.mbe.specs.Substitution.{IsSubstitution}
 
 -- An answer without an error is the expansion by the first rule that applies, and where some rule applies there is no
@@ -22,6 +23,14 @@ pub record Answers (g : Grammar) (Marks : Span → Span → Type 0) (rules : Lis
   pub failed : (e : ExpandError) → err ≡ Some e →
       (out ≡ group (record { opening = call_site; close = call_site; kind = Invisible }) none none)
       × (index ≡ None) × (e ≡ record { span = call_site; kind = no_matching_rule })
+
+-- The pattern is carried: no repetition stands in it, and no variable asks the grammar.
+abbrev pub IsCarried : Rule → Type 0
+IsCarried r = IsTrue (is_plain r.reads)
+
+abbrev pub AreCarried : List Rule → Type 0
+AreCarried [] = Unit {0}
+AreCarried (r ∷ rs) = IsCarried r × AreCarried rs
 
 module _ (g : Grammar) (style : MacroCallStyle) (argument : Forest) where
   -- no rule of these applies

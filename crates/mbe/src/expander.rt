@@ -2,7 +2,7 @@
 ghost use Rattle.std.specs.Prelude.{IfOk};
 ghost use Rattle.mbe_tt.specs.Top.{top_group};
 ghost use Rattle.mbe_tt.specs.Grammar.{Grammar};
-ghost use Rattle.mbe.specs.Answer.{Answers, IsTried};
+ghost use Rattle.mbe.specs.Answer.{Answers, AreCarried, IsCarried, IsTried};
 ghost use Rattle.mbe.specs.ErrorViews.{errors_of};
 ghost use Rattle.mbe.specs.Views.{rule_of, rules_seen};
 ghost use Rattle.mbe.specs.Marking.{MayMark};
@@ -28,7 +28,7 @@ pub(crate) fn expand_rules<A: Allocator + Copy, M: Fn(Span) -> Span + Copy>(
     call_site: Span,
 ) -> Result<ExpandResult<(TopSubtree<A>, MatchedArmIndex), A>, AllocError>
     requires { MayMark (M.pre marker) }
-    ensures { IfOk result (λ r. (g : Grammar) → Answers g (M.post marker) (rules_seen rules.now) call_style input.now.1 call_site
+    ensures { AreCarried (rules_seen rules.now) → IfOk result (λ r. (g : Grammar) → Answers g (M.post marker) (rules_seen rules.now) call_style input.now.1 call_site
         (top_group r.value.0) r.value.1 (errors_of r.err)) }
 {
     for (idx, rule) in rules.iter().enumerate() {
@@ -57,7 +57,7 @@ fn apply<A: Allocator + Copy, M: Fn(Span) -> Span + Copy>(
     call_site: Span,
 ) -> Result<Option<TopSubtree<A>>, AllocError>
     requires { MayMark (M.pre marker) }
-    ensures { IfOk result (λ tried. (g : Grammar) → IsTried g call_style input.now.1 (M.post marker) call_site (rule_of rule.now) tried) }
+    ensures { IsCarried (rule_of rule.now) → IfOk result (λ tried. (g : Grammar) → IsTried g call_style input.now.1 (M.post marker) call_site (rule_of rule.now) tried) }
 {
     if rule.style != call_style {
         return Ok(None);

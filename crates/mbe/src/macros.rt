@@ -4,7 +4,9 @@ ghost use Rattle.mbe_tt.specs.Tree.{flat_len};
 ghost use Rattle.mbe.specs.Definition.{outline_at};
 ghost use Rattle.mbe.specs.Reader.{IsOutlined, ReadsRule, RuleFault, AreRules, Stops, is_styled};
 ghost use Rattle.mbe.specs.Views.{rule_of, rules_seen};
-ghost use Rattle.mbe.specs.ErrorViews.{parse_error_of};
+ghost use Rattle.mbe.specs.ErrorViews.{parse_error_of, errors_of};
+ghost use Rattle.mbe.specs.Answer.{Answers, AreCarried, IsCarried};
+ghost use Rattle.mbe_tt.specs.Top.{top_group};
 ghost use Rattle.mbe.specs.MacroViews.{macro_of, IsReadAs};
 ghost use Rattle.mbe.specs.Marking.{MayMark, MayAsk};
 
@@ -54,7 +56,8 @@ impl<A: Allocator + Copy> DeclarativeMacro<A> {
         ctx_edition: E,
     ) -> Result<DeclarativeMacro<A>, AllocError>
         requires { MayAsk (E.pre ctx_edition) }
-        ensures { IfOk result (λ m. IsReadAs (E.post ctx_edition) tt.now.1 (macro_of m)) }
+        ensures rules { IfOk result (λ m. IsReadAs (E.post ctx_edition) tt.now.1 (macro_of m)) }
+        ensures carried { IfOk result (λ m. AreCarried (macro_of m).rules) }
     {
         let (rules, fault) = parse_rules(alloc, ctx_edition, tt.iter())?;
         match fault {
@@ -89,6 +92,8 @@ impl<A: Allocator + Copy> DeclarativeMacro<A> {
         call_site: Span,
     ) -> Result<ExpandResult<(TopSubtree<A>, MatchedArmIndex), A>, AllocError>
         requires { MayMark (M.pre marker) }
+        ensures { AreCarried (macro_of self.now).rules → IfOk result (λ r. Answers (G.grammar grammar.now) (M.post marker) (macro_of self.now).rules
+            call_style tt.now.1 call_site (top_group r.value.0) r.value.1 (errors_of r.err)) }
     {
         let _ = grammar;
         expand_rules(alloc, &self.rules, tt, marker, call_style, call_site)
@@ -117,7 +122,8 @@ fn parse_rules<A: Allocator + Copy, E: Copy + Fn(SyntaxContext) -> Edition>(
     ctx_edition: E,
     src: TtIter<'_, A>,
 ) -> Result<(Vec<Rule<A>, A>, Option<Fault>), AllocError>
-    ensures { IfOk result (λ r. AreRules (E.post ctx_edition) src.entry (rules_seen r.0.items) r.1) }
+    ensures rules { IfOk result (λ r. AreRules (E.post ctx_edition) src.entry (rules_seen r.0.items) r.1) }
+    ensures carried { IfOk result (λ r. AreCarried (rules_seen r.0.items)) }
 {
     let mut src = src;
     let mut rules = Vec::new(alloc);
@@ -147,6 +153,7 @@ impl<A: Allocator + Copy> Rule<A> {
     ) -> Result<Rule<A>, ReadError>
         ensures rule { IfOk result (λ r. ReadsRule (E.post ctx_edition) src.old (rule_of r) src.new) }
         ensures fault { IfErr result (λ e. Stops e (λ f. RuleFault (E.post ctx_edition) f src.old)) }
+        ensures carried { IfOk result (λ r. IsCarried (rule_of r)) }
         ensures shorter { OnOk result (flat_len src.new < flat_len src.old) }
     {
         let (pattern, template) = rule_groups(src)?;

@@ -7,14 +7,15 @@ use Rattle.mbe_tt.specs.declared.tt.DelimiterKind.TheVariants.{Invisible}
 use Rattle.mbe.specs.Views.{rule_of, rules_seen}
 use Rattle.mbe.specs.Expansion.{Applies}
 use Rattle.mbe.specs.Answer.{NoneApplies}
-use Rattle.mbe.proofs.ChoiceLemmas.{first_at, none_contained, none_more, seen_at, all_seen, arm_at}
+use Rattle.mbe.proofs.ChoiceLemmas.{first_at, none_contained, none_more, seen_at, all_seen, arm_at, carried_at}
 use Rattle.mbe.proofs.expander.expand_rules.Goals as goal
 
 pub returns-in-Some : goal.returns-in-Some
-returns-in-Some g c = λ h.
-    let tried = rw c.in-Some.is at (c.in_ok-tree.ensures h) in
+returns-in-Some g c = λ carried h.
     let here = seen_at rule_of c.args.rules.now c.loop-idx.idx c.index-rules-idx.result c.loop-idx-test.true c.index-rules-idx.is in
-    let first = first_at h c.args.call_style c.args.input.now.1 (rules_seen c.args.rules.now) c.loop-idx.idx (rule_of c.index-rules-idx.result) tried.0 (c.loop-idx.invariant h) here in
+    let this = carried_at (rules_seen c.args.rules.now) c.loop-idx.idx (rule_of c.index-rules-idx.result) carried here in
+    let tried = rw c.in-Some.is at (c.in_ok-tree.ensures this h) in
+    let first = first_at h c.args.call_style c.args.input.now.1 (rules_seen c.args.rules.now) c.loop-idx.idx (rule_of c.index-rules-idx.result) tried.0 (c.loop-idx.invariant carried h) here in
     record {
       sound = λ _. (c.loop-idx.idx, (rule_of c.index-rules-idx.result, tried.0, first, tried.1), c.ok.ensures.value ∙ arm_at c.try_from.result c.loop-idx.idx c.try_from.ensures);
       complete = λ r k a. refl;
@@ -22,15 +23,16 @@ returns-in-Some g c = λ h.
     }
 
 pub loop-idx-preserved : goal.loop-idx-preserved
-loop-idx-preserved g c = λ h.
-    let tried = rw c.in_default.is at (c.in_ok-tree.ensures h) in
+loop-idx-preserved g c = λ carried h.
     let here = seen_at rule_of c.args.rules.now c.loop-idx.idx c.index-rules-idx.result c.loop-idx-test.true c.index-rules-idx.is in
-    none_more h c.args.call_style c.args.input.now.1 (rules_seen c.args.rules.now) c.loop-idx.idx (rule_of c.index-rules-idx.result) (c.loop-idx.invariant h) here tried
+    let this = carried_at (rules_seen c.args.rules.now) c.loop-idx.idx (rule_of c.index-rules-idx.result) carried here in
+    let tried = rw c.in_default.is at (c.in_ok-tree.ensures this h) in
+    none_more h c.args.call_style c.args.input.now.1 (rules_seen c.args.rules.now) c.loop-idx.idx (rule_of c.index-rules-idx.result) (c.loop-idx.invariant carried h) here tried
 
 pub returns : goal.returns
-returns g c = λ h.
+returns g c = λ carried h.
     let nobody : NoneApplies h c.args.call_style c.args.input.now.1 (rules_seen c.args.rules.now) =
-    subst (NoneApplies h c.args.call_style c.args.input.now.1) (all_seen rule_of c.args.rules.now c.loop-idx.idx c.loop-idx-test.false) (c.loop-idx.invariant h) in
+    subst (NoneApplies h c.args.call_style c.args.input.now.1) (all_seen rule_of c.args.rules.now c.loop-idx.idx c.loop-idx-test.false) (c.loop-idx.invariant carried h) in
     record {
       sound = λ n. absurd (cc);
       complete = λ r k a. absurd (none_contained h c.args.call_style c.args.input.now.1 (rules_seen c.args.rules.now) r nobody k a);
