@@ -1,12 +1,12 @@
 // Writes a template with its variables replaced.
-ghost use Rattle.std.specs.Prelude.{◌≡◌, ◌<◌, length, IfOk, OnOk};
+ghost use Rattle.std.specs.Prelude.{◌≡◌, ◌<◌, false, [], length, IfOk, OnOk};
 ghost use Rattle.mbe_tt.specs.Building.{put};
 ghost use Rattle.mbe_tt.specs.Grammar.{Grammar};
 ghost use Rattle.mbe_tt.specs.Shown.{literal_of, ident_of};
 ghost use Rattle.mbe_tt.specs.Top.{top_group};
 ghost use Rattle.mbe.specs.Environment.{value_of};
 ghost use Rattle.mbe.specs.Marking.{MayMark};
-ghost use Rattle.mbe.specs.Substitution.{IsSubstitution, unbound_variable};
+ghost use Rattle.mbe.specs.Substitution.{IsSubstitution, faults, unbound_variable};
 ghost use Rattle.mbe.specs.Views.{op_of, ops_of, template_of, bound_by};
 ghost use Rattle.mbe.specs.Writing.{Appends, AreMarked, IsMarkedLiteral, IsMarkedIdent, IsWritten, AreWritten, stripped_variable};
 
@@ -19,7 +19,8 @@ use mbe_tt::symbol::Symbol;
 use mbe_tt::tt::{Delimiter, Ident, IdentIsRaw, Leaf, Literal, Punct, Spacing};
 use std::alloc::{AllocError, Allocator};
 
-// The template's substitution, in an invisible group with the call site as both spans.
+// The template's substitution, in an invisible group with the call site as both spans. A template of tokens, groups and
+// variables never faults, as each name is bound to one fragment or to nothing.
 pub(crate) fn transcribe<A: Allocator + Copy, M: Fn(Span) -> Span + Copy>(
     alloc: A,
     template: &MetaTemplate<A>,
@@ -28,7 +29,8 @@ pub(crate) fn transcribe<A: Allocator + Copy, M: Fn(Span) -> Span + Copy>(
     call_site: Span,
 ) -> Result<TopSubtree<A>, AllocError>
     requires { MayMark (M.pre marker) }
-    ensures { IfOk result (λ t. (g : Grammar) → IsSubstitution g (M.post marker) call_site (bound_by bindings.now) (template_of template.now) (top_group t)) }
+    ensures faultless { faults (bound_by bindings.now) [] (template_of template.now) ≡ false }
+    ensures substitution { IfOk result (λ t. (g : Grammar) → IsSubstitution g (M.post marker) call_site (bound_by bindings.now) (template_of template.now) (top_group t)) }
 {
     let mut builder = TopSubtreeBuilder::new(alloc, Delimiter::invisible_spanned(call_site))?;
     expand_ops(&template.0, bindings, &mut builder, marker)?;
