@@ -1,0 +1,118 @@
+-- What ops without a repetition read from the front of trees, where no grammar is asked, and what a match by them binds.
+use Rattle.std.specs.Prelude.{◌≡◌, Bool, true, false, ◌&&◌, if◌then◌else◌, Option, Some, None}
+use Rattle.mbe.specs.declared.parser.MetaVarKind.{MetaVarKind}
+use Rattle.mbe.specs.declared.parser.MetaVarKind.TheVariants as kinds
+use Rattle.mbe_tt.specs.declared.tt.DelimiterKind.{DelimiterKind}
+use Rattle.mbe_tt.specs.Tree.{Forest, none, leaf, group, flat_len, Cut, is_same_kind}
+use Rattle.mbe.specs.Op as ops
+use Rattle.mbe.specs.Op.{Name, Op, Ops, no_ops, op}
+use Rattle.mbe.specs.Item.{Item, matched, bound, grouped, Items, no_items, item, stripped}
+use Rattle.mbe.specs.Takes.{ident_front, tree_front}
+use Rattle.mbe.specs.Fit.{token_front}
+use Rattle.mbe.specs.Environment.{Environment, value_of, bind, bind_item}
+
+-- what the kinds take that ask no grammar: an identifier, or a tree
+abbrev pub takes_plainly : Option MetaVarKind → Forest → Option Cut
+takes_plainly (Some kinds.Ident) f = ident_front f
+takes_plainly (Some kinds.Tt) f = tree_front f
+takes_plainly _ f = None
+
+-- these are all that the kind takes; an unknown kind takes nothing
+abbrev pub is_plain_kind : Option MetaVarKind → Bool
+is_plain_kind None = true
+is_plain_kind (Some kinds.Ident) = true
+is_plain_kind (Some kinds.Tt) = true
+is_plain_kind _ = false
+
+-- no repetition stands in the ops, and no variable asks the grammar
+abbrev mutual
+  pub is_plain_op : Op → Bool
+  is_plain_op (ops.token t) = true
+  is_plain_op (ops.group d body) = is_plain body
+  is_plain_op (ops.variable name kind span) = is_plain_kind kind
+  is_plain_op (ops.repetition body separator repeat) = false
+  is_plain_op (ops.expression e) = true
+
+  pub is_plain : Ops → Bool
+  is_plain no_ops = true
+  is_plain (op o os) = is_plain_op o && is_plain os
+
+-- ---- what is read from the front, and the trees behind it
+
+-- a token of the pattern
+abbrev pub matched_front : Option Cut → Option (Item × Forest)
+matched_front None = None
+matched_front (Some c) = Some (matched (flat_len c.front), c.back)
+
+-- a fragment of the variable
+abbrev pub bound_front : Name → Option Cut → Option (Item × Forest)
+bound_front name None = None
+bound_front name (Some c) = Some (bound name (record { trees = c.front; style = stripped }), c.back)
+
+-- the items, where nothing is left
+abbrev pub whole : Option (Items × Forest) → Option Items
+whole None = None
+whole (Some (is, none)) = Some is
+whole (Some (is, leaf l rest)) = None
+whole (Some (is, group d inside rest)) = None
+
+-- a group whose content was read
+abbrev pub grouped_front : Option Items → Forest → Option (Item × Forest)
+grouped_front None rest = None
+grouped_front (Some is) rest = Some (grouped is, rest)
+
+-- a group of the kind, by what its content reads
+abbrev pub group_front : DelimiterKind → (Forest → Option Items) → Forest → Option (Item × Forest)
+group_front kind read none = None
+group_front kind read (leaf l rest) = None
+group_front kind read (group d inside rest) = if is_same_kind kind d.kind then grouped_front (read inside) rest else None
+
+-- one more item, and then more
+abbrev pub then_read : (Items → Forest → Option (Items × Forest)) → Items → Option (Item × Forest) → Option (Items × Forest)
+then_read more is None = None
+then_read more is (Some r) = more (item is r.0) r.1
+
+abbrev mutual
+  -- what the op reads
+  pub read_front : Op → Forest → Option (Item × Forest)
+  read_front (ops.token t) f = matched_front (token_front t f)
+  read_front (ops.group d body) f = group_front d.kind (λ inside. whole (read_on body no_items inside)) f
+  read_front (ops.variable name kind span) f = bound_front name (takes_plainly kind f)
+  read_front (ops.repetition body separator repeat) f = None
+  read_front (ops.expression e) f = None
+
+  -- what the ops read, behind the items that were read before
+  pub read_on : Ops → Items → Forest → Option (Items × Forest)
+  read_on no_ops is f = Some (is, f)
+  read_on (op o os) is f = then_read (λ js rest. read_on os js rest) is (read_front o f)
+
+-- what the ops read, where they read all the trees
+abbrev pub read_all : Ops → Forest → Option Items
+read_all os f = whole (read_on os no_items f)
+
+-- ---- what a call says of it
+
+-- the front is there, or not; if it is, this is left behind it
+abbrev pub HasPassed : Bool → Option Cut → Forest → Type 0
+HasPassed true (Some c) left = left ≡ c.back
+HasPassed true None left = ⊥
+HasPassed false None left = Unit {0}
+HasPassed false (Some c) left = ⊥
+
+-- each name has the same value
+abbrev pub BindsAlike : Environment → Environment → Type 0
+BindsAlike env other = (name : Name) → value_of env name ≡ value_of other name
+
+-- something is read, or not; if it is, this is left behind it, and what it binds is bound besides what was before
+abbrev pub HasRead : Bool → Option (Item × Forest) → Forest → Environment → Environment → Type 0
+HasRead true (Some r) left before after = (left ≡ r.1) × BindsAlike after (bind_item r.0 before)
+HasRead true None left before after = ⊥
+HasRead false None left before after = Unit {0}
+HasRead false (Some r) left before after = ⊥
+
+-- the same of all that ops read
+abbrev pub HasReadAll : Bool → Option Items → Environment → Environment → Type 0
+HasReadAll true (Some is) before after = BindsAlike after (bind is before)
+HasReadAll true None before after = ⊥
+HasReadAll false None before after = Unit {0}
+HasReadAll false (Some is) before after = ⊥
