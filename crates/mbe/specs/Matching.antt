@@ -1,15 +1,19 @@
 -- What ops without a repetition read from the front of trees, where no grammar is asked, and what a match by them binds.
-use Rattle.std.specs.Prelude.{◌≡◌, Bool, true, false, ◌&&◌, if◌then◌else◌, Option, Some, None}
+use Rattle.std.specs.Prelude.{◌≡◌, Bool, true, false, ◌&&◌, IsTrue, if◌then◌else◌, Option, Some, None}
 use Rattle.mbe.specs.declared.parser.MetaVarKind.{MetaVarKind}
 use Rattle.mbe.specs.declared.parser.MetaVarKind.TheVariants as kinds
 use Rattle.mbe_tt.specs.declared.tt.DelimiterKind.{DelimiterKind}
 use Rattle.mbe_tt.specs.Tree.{Forest, none, leaf, group, flat_len, Cut, is_same_kind}
+use Rattle.mbe_tt.specs.Grammar.{Grammar}
 use Rattle.mbe.specs.Op as ops
 use Rattle.mbe.specs.Op.{Name, Op, Ops, no_ops, op}
 use Rattle.mbe.specs.Item.{Item, matched, bound, grouped, Items, no_items, item, stripped}
 use Rattle.mbe.specs.Takes.{ident_front, tree_front}
 use Rattle.mbe.specs.Fit.{token_front}
-use Rattle.mbe.specs.Environment.{Environment, value_of, bind, bind_item}
+use Rattle.mbe.specs.Environment.{Environment, value_of, bind, bind_item, environment_of}
+use Rattle.mbe.specs.Ambiguity.{IsReading, Fits}
+use Rattle.mbe.specs.declared.expander.matcher.Bindings as found
+use Rattle.mbe.specs.Views.{bound_by}
 
 -- what the kinds take that ask no grammar: an identifier, or a tree
 abbrev pub takes_plainly : Option MetaVarKind → Forest → Option Cut
@@ -116,3 +120,9 @@ HasReadAll true (Some is) before after = BindsAlike after (bind is before)
 HasReadAll true None before after = ⊥
 HasReadAll false None before after = Unit {0}
 HasReadAll false (Some is) before after = ⊥
+
+-- What a match answers: bindings, where the pattern fits by one reading, whatever the grammar, and they bind what that reading
+-- does; or none. Then a pattern without a repetition, whose variables ask no grammar, has no reading.
+abbrev pub IsMatch : {A : Type 0} → Ops → Forest → Option (found.Bindings A) → Type 0
+IsMatch pattern argument None = (g : Grammar) (is : Items) → IsTrue (is_plain pattern) → IsReading g pattern argument is → ⊥
+IsMatch pattern argument (Some b) = (is : Items) × ((g : Grammar) → Fits g pattern argument is) × BindsAlike (bound_by b) (environment_of is)

@@ -7,7 +7,7 @@ ghost use Rattle.mbe_tt.specs.View.{trees};
 ghost use Rattle.mbe.specs.Environment.{set_value, fragment as fragment_value};
 ghost use Rattle.mbe.specs.Fit.{ident_text_front, literal_text_front, puncts_front};
 ghost use Rattle.mbe.specs.Item.{stripped};
-ghost use Rattle.mbe.specs.Matching.{takes_plainly, read_front, read_all, HasPassed, BindsAlike, HasRead, HasReadAll};
+ghost use Rattle.mbe.specs.Matching.{takes_plainly, read_front, read_all, HasPassed, BindsAlike, HasRead, HasReadAll, IsMatch};
 ghost use Rattle.mbe.specs.Takes.{ident_front, tree_front};
 ghost use Rattle.mbe.specs.Views.{IsTaken, bound_by, op_of, ops_of, template_of};
 
@@ -60,7 +60,9 @@ pub(crate) fn match_<'a, A: Allocator + Copy>(
     alloc: A,
     pattern: &MetaTemplate<A>,
     src: TtIter<'a, A>,
-) -> Result<Option<Bindings<'a, A>>, AllocError> {
+) -> Result<Option<Bindings<'a, A>>, AllocError>
+    ensures { IfOk result (IsMatch (template_of pattern.now) src.entry) }
+{
     let mut bindings = Bindings::new(alloc);
     if match_ops(&pattern.0, src, &mut bindings)? {
         Ok(Some(bindings))
