@@ -120,3 +120,9 @@ HasReadAll true (Some is) before after = BindsAlike after (bind is before)
 HasReadAll true None before after = ⊥
 HasReadAll false None before after = Unit {0}
 HasReadAll false (Some is) before after = ⊥
+
+-- What a match answers: bindings, where the pattern fits by one reading, whatever the grammar, and they bind what that reading
+-- does; or none. Then a pattern without a repetition, whose variables ask no grammar, has no reading.
+abbrev pub IsMatch : {A : Type 0} → Ops → Forest → Option (found.Bindings A) → Type 0
+IsMatch pattern argument None = (g : Grammar) (is : Items) → IsTrue (is_plain pattern) → IsReading g pattern argument is → ⊥
+IsMatch pattern argument (Some b) = (is : Items) × ((g : Grammar) → Fits g pattern argument is) × BindsAlike (bound_by b) (environment_of is)
