@@ -1,5 +1,5 @@
 -- What one rule of a definition says of all its rules.
-use Rattle.std.specs.Prelude.{◌≡◌, ◌≢◌, ◌==◌, ◌||◌, ℕ, Bool, true, false, if◌then◌else◌, List, [], ◌∷◌, ◌++◌, map, Option, Some, None, IfSome, unwrap_or, ◌⊎◌, Result, Ok, Err, refl}
+use Rattle.std.specs.Prelude.{◌≡◌, ◌≢◌, List, [], ◌∷◌, ◌++◌, Option, Some, None, IfSome, unwrap_or, ◌⊎◌, Result, Ok, Err, refl}
 use Rattle.std.proofs.Common.{ap, sym, ◌∙◌, subst, append-nil, inl, inr}
 use Rattle.std.proofs.lemmas.Option.{none-some, same_Some}
 use Rattle.std.proofs.lemmas.Bool.{eq-eqb, ne_eqb}
@@ -13,7 +13,7 @@ use Rattle.mbe.specs.declared.error.ReadError as why
 use Rattle.mbe.specs.declared.macros.Rule as code
 use Rattle.mbe.specs.Op.{Ops}
 use Rattle.mbe.specs.Template.{Fault, pattern, template, Template, TemplateFault}
-use Rattle.mbe.specs.Definition.{Outline, Rule, outline_at, AreParts, PartsFault, in_pattern, in_template, Rules, ended, no_rule, faulty_rule, unseparated, separated, behind_separator}
+use Rattle.mbe.specs.Definition.{Outline, Rule, outline_at, in_pattern, in_template, Rules, ended, no_rule, faulty_rule, unseparated, separated, behind_separator}
 use Rattle.mbe.specs.Reader.{IsOutlined, ReadsRule, RuleFault, in_outline, in_parts, AreRules, Stops, fault_of, semicolon, expected_semicolon}
 use Rattle.mbe.specs.Views.{rule_of, rules_seen}
 use Rattle.mbe.specs.ErrorViews.{told_of, not_carried}

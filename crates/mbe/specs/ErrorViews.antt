@@ -1,5 +1,5 @@
 -- What the code's errors say, whatever memory holds their texts.
-use Rattle.std.specs.Prelude.{List, ℕ, codes, Option, Some, None, option_map, unwrap_or}
+use Rattle.std.specs.Prelude.{List, ℕ, codes, Option, option_map, unwrap_or}
 use Rattle.std.specs.String.{string_bytes}
 use Rattle.mbe.specs.declared.error.ParseError as parse
 use Rattle.mbe.specs.declared.error.ExpandError as expand

@@ -1,5 +1,5 @@
 -- What a macro that was read is: its rules, and the fault that it tells.
-use Rattle.std.specs.Prelude.{◌≡◌, ◌⊎◌, Option, Some, option_map}
+use Rattle.std.specs.Prelude.{◌≡◌, ◌⊎◌, Some, option_map}
 use Rattle.mbe_tt.specs.Tree.{Forest}
 use Rattle.mbe_tt.specs.declared.span.SyntaxContext.{SyntaxContext}
 use Rattle.mbe_tt.specs.declared.span.Edition.{Edition}

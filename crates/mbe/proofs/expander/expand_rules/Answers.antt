@@ -1,11 +1,10 @@
-use Rattle.std.proofs.Common.{◌≡◌, ◌∙◌, sym, ap, subst, map, Some, None, refl, rules}
+use Rattle.std.proofs.Common.{◌∙◌, sym, ap, subst, refl}
 use Rattle.std.proofs.lemmas.Option.{none-some, same_Some}
 use Rattle.mbe_tt.specs.Tree.{none, group}
 use Rattle.mbe_tt.specs.Top.{top_group}
 use Rattle.mbe_tt.specs.declared.span.DelimSpan.{DelimSpan}
 use Rattle.mbe_tt.specs.declared.tt.DelimiterKind.TheVariants.{Invisible}
 use Rattle.mbe.specs.Views.{rule_of, rules_seen}
-use Rattle.mbe.specs.Expansion.{Applies}
 use Rattle.mbe.specs.Answer.{NoneApplies}
 use Rattle.mbe.proofs.ChoiceLemmas.{first_at, none_contained, none_more, seen_at, all_seen, arm_at, carried_at}
 use Rattle.mbe.proofs.expander.expand_rules.Goals as goal

@@ -1,7 +1,5 @@
-use Rattle.std.proofs.Common.{◌≡◌, ◌∙◌, sym, subst, Some, refl, rules}
+use Rattle.std.proofs.Common.{◌≡◌, ◌∙◌, sym, Some, refl, rules}
 use Rattle.mbe_tt.specs.Tree.{none, front_char}
-use Rattle.mbe.specs.Template.{Fault}
-use Rattle.mbe.specs.Reader.{Stops, RuleFault, fault_of}
 use Rattle.mbe.specs.Views.{rule_of, rules_seen}
 use Rattle.mbe.proofs.ChoiceLemmas.{carried-push}
 use Rattle.mbe.proofs.RuleReading.{at_fault, at_end, one_more, last_rule, stray_rule, rules-push, rules-push-more}

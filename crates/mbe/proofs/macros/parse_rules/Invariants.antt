@@ -1,4 +1,4 @@
-use Rattle.std.proofs.Common.{◌≡◌, List, Option, map, ◌++◌}
+use Rattle.std.proofs.Common.{List, Option, ◌++◌}
 use Rattle.mbe_tt.specs.Tree.{flat_len}
 use Rattle.mbe.specs.Template.{Fault}
 use Rattle.mbe.specs.Definition.{Rule, Rules}

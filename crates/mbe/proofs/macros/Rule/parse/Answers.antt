@@ -1,4 +1,3 @@
-use Rattle.std.proofs.Common.{rules}
 use Rattle.std.proofs.lemmas.Result.{err_from_is_err_and}
 use Rattle.mbe.proofs.OutlineLemmas.{outlined_shorter}
 use Rattle.mbe.proofs.RuleReading.{reads_rule, outline_fault, pattern_fault, template_fault}
