@@ -1,11 +1,13 @@
 // Whole expansions: the first run, and a struct with a map.
 use crate::grammar::NoGrammar;
 use crate::runs::{assert_answer, assert_expands, assert_no_rule, expanded, parsed, whole};
-use crate::tokens::{alone, close, joint, number, open, word};
+use crate::tokens::{Token, alone, at, close, joint, number, open, word};
 use crate::trees::lexed;
 use mbe::MacroCallStyle;
 use mbe_tt::span::{Span, SyntaxContext};
-use mbe_tt::tt::DelimiterKind::{Brace, Parenthesis};
+use mbe_tt::tt::DelimiterKind::{Brace, Bracket, Parenthesis};
+use std::alloc::Global;
+use std::process::Abort;
 use std::test::Fail;
 
 pub const PAIR: (&str, &str) = ("($x:ident = $t:tt;) => { pair ($t) $x }", "a = 1;");
@@ -22,13 +24,18 @@ fn pair_of_an_assignment(rt: HostRuntime) -> Result<(), Fail> {
     assert_expands(&rt, rt.alloc(), PAIR, (0, &want))
 }
 
-#[test]
-fn marker_changes_what_the_template_writes_itself(rt: HostRuntime) -> Result<(), Fail> {
-    let definition = lexed(rt.alloc(), 0, PAIR.0)?;
-    let argument = lexed(rt.alloc(), 1, PAIR.1)?;
+// The answer where the marker sets the context 7 in each span.
+fn assert_expands_marked(
+    rt: &impl Abort,
+    alloc: Global,
+    (definition, argument): (&str, &str),
+    want: &[Token<'_>],
+) -> Result<(), Fail> {
+    let definition = lexed(alloc, 0, definition)?;
+    let argument = lexed(alloc, 1, argument)?;
     let call_site = whole(&argument);
-    let answer = parsed(rt.alloc(), &definition)?.expand(
-        rt.alloc(),
+    let answer = parsed(alloc, &definition)?.expand(
+        alloc,
         &NoGrammar,
         &argument,
         |span| Span {
@@ -38,6 +45,12 @@ fn marker_changes_what_the_template_writes_itself(rt: HostRuntime) -> Result<(),
         MacroCallStyle::FnLike,
         call_site,
     )?;
+    assert_answer(rt, alloc, &answer, call_site, (0, want))?;
+    Ok(())
+}
+
+#[test]
+fn pair_of_an_assignment_is_marked(rt: HostRuntime) -> Result<(), Fail> {
     let want = [
         word("pair", 0, 25).in_context(7),
         open(Parenthesis, 0, 30).in_context(7),
@@ -45,8 +58,24 @@ fn marker_changes_what_the_template_writes_itself(rt: HostRuntime) -> Result<(),
         close(0, 33).in_context(7),
         word("a", 1, 0),
     ];
-    assert_answer(&rt, rt.alloc(), &answer, call_site, (0, &want))?;
-    Ok(())
+    assert_expands_marked(&rt, rt.alloc(), PAIR, &want)
+}
+
+#[test]
+fn what_a_template_writes_itself_is_marked(rt: HostRuntime) -> Result<(), Fail> {
+    let texts = ("() => {1 + [a] $crate $$ $y}", "");
+    let want = [
+        number("1", 0, 7).in_context(7),
+        alone('+', 0, 9).in_context(7),
+        open(Bracket, 0, 11).in_context(7),
+        word("a", 0, 12).in_context(7),
+        close(0, 13).in_context(7),
+        word("$crate", 0, 16).with_span(at(0, 16, 21)).in_context(7),
+        alone('$', 0, 23).in_context(7),
+        alone('$', 0, 26),
+        word("y", 0, 26),
+    ];
+    assert_expands_marked(&rt, rt.alloc(), texts, &want)
 }
 
 #[test]

@@ -32,13 +32,13 @@ fn empty_group_is_written(rt: HostRuntime) -> Result<(), Fail> {
 fn unbound_names_are_written_back(rt: HostRuntime) -> Result<(), Fail> {
     let want = [alone('$', 0, 8), word("y", 0, 8)];
     assert_expands(&rt, rt.alloc(), ("() => {$y}", ""), (0, &want))?;
-    let quoted = rule_writing(rt.alloc(), &[joint('$', 0, 7), raw("y", 0, 8)])?;
+    let of_raw = rule_writing(rt.alloc(), &[joint('$', 0, 7), raw("y", 0, 8)])?;
     let nothing = lexed(rt.alloc(), 1, "")?;
-    let plain = [
+    let unraw = [
         alone('$', 0, 8).with_span(at(0, 8, 11)),
         word("y", 0, 8).with_span(at(0, 8, 11)),
     ];
-    assert_trees_expand(&rt, rt.alloc(), &quoted, &nothing, (0, &plain))
+    assert_trees_expand(&rt, rt.alloc(), &of_raw, &nothing, (0, &unraw))
 }
 
 #[test]
@@ -52,7 +52,7 @@ fn last_binding_of_a_name_is_written(rt: HostRuntime) -> Result<(), Fail> {
 
 #[test]
 fn names_are_bound_by_their_texts(rt: HostRuntime) -> Result<(), Fail> {
-    let template = built(
+    let definition = built(
         rt.alloc(),
         at(0, 0, 30),
         &[
@@ -72,7 +72,7 @@ fn names_are_bound_by_their_texts(rt: HostRuntime) -> Result<(), Fail> {
     )?;
     let argument = lexed(rt.alloc(), 1, "a")?;
     let want = [word("a", 1, 0)];
-    assert_trees_expand(&rt, rt.alloc(), &template, &argument, (0, &want))
+    assert_trees_expand(&rt, rt.alloc(), &definition, &argument, (0, &want))
 }
 
 #[test]
@@ -80,9 +80,9 @@ fn dollar_crate_is_one_identifier(rt: HostRuntime) -> Result<(), Fail> {
     let nothing = lexed(rt.alloc(), 1, "")?;
     let whole = [word("$crate", 0, 8).with_span(at(0, 8, 13))];
     assert_expands(&rt, rt.alloc(), ("() => {$crate}", ""), (0, &whole))?;
-    let quoted = rule_writing(rt.alloc(), &[alone('$', 0, 7), raw("crate", 0, 8)])?;
-    let plain = [word("$crate", 0, 8).with_span(at(0, 8, 15))];
-    assert_trees_expand(&rt, rt.alloc(), &quoted, &nothing, (0, &plain))?;
+    let of_raw = rule_writing(rt.alloc(), &[alone('$', 0, 7), raw("crate", 0, 8)])?;
+    let unraw = [word("$crate", 0, 8).with_span(at(0, 8, 15))];
+    assert_trees_expand(&rt, rt.alloc(), &of_raw, &nothing, (0, &unraw))?;
     let reads = lexed(rt.alloc(), 0, "($crate) => {A}")?;
     let argument = built(rt.alloc(), at(1, 0, 6), &[word("$crate", 1, 0)])?;
     let want = [word("A", 0, 13)];
