@@ -35,7 +35,10 @@ returns g c = λ carried h.
     record {
       sound = λ n. absurd (cc);
       complete = λ r k a. absurd (none_contained h c.args.call_style c.args.input.now.1 (rules_seen c.args.rules.now) r nobody k a);
-      failed = λ e x. (ap top_group c.in_ok-empty.ensures
-      ∙ ap (λ (d : DelimSpan). group (record { opening = d.opening; close = d.close; kind = Invisible }) none none) c.from_single.ensures,
-      refl, sym (same_Some _ _ x) ∙ c.in_ok-error.ensures);
+      failed = λ e x. (
+        ap top_group c.in_ok-empty.ensures
+            ∙ ap (λ (d : DelimSpan). group (record { opening = d.opening; close = d.close; kind = Invisible }) none none) c.from_single.ensures,
+        refl,
+        sym (same_Some _ _ x) ∙ c.in_ok-error.ensures,
+      );
     }
