@@ -13,7 +13,9 @@ use std::rc::Rc;
 #[derive(Drop)]
 #[derive_where(Debug, PartialEq, Eq)]
 pub enum ParseError<A: Allocator = Global> {
+    /// What stands there can't stand there; the text says what it is.
     UnexpectedToken(String<A>),
+    /// Something else should stand there; the text says what.
     Expected(String<A>),
     /// The suffix of a repetition isn't one.
     InvalidRepeat,
@@ -21,21 +23,29 @@ pub enum ParseError<A: Allocator = Global> {
     RepetitionEmptyTokenTree,
 }
 
-/// Why an expansion isn't the one that the definition says, and where (as in rust-analyzer).
+/// Why an expansion isn't the one that the definition says, and where (as in rust-analyzer). A clone shares it.
 #[derive(Drop)]
 #[derive_where(Clone, Debug, PartialEq, Eq, Hash)]
 pub struct ExpandError<A: Allocator = Global> {
+    /// Where, and what.
     pub inner: Rc<(Span, ExpandErrorKind<A>), A>,
 }
 
+/// What went wrong in an expansion (as in rust-analyzer).
 #[derive(Drop)]
 #[derive_where(Debug, PartialEq, Eq, Hash)]
 pub enum ExpandErrorKind<A: Allocator = Global> {
+    /// A variable is bound to what can't be written there; the text says to what.
     BindingError(String<A>),
+    /// A variable of a metavariable expression is bound to nothing; the text is its name.
     UnresolvedBinding(String<A>),
+    /// The argument goes on where the pattern can't.
     LeftoverTokens,
+    /// A repetition has no end, or 65536 rounds or more; or a number doesn't fit 64 bits.
     LimitExceeded,
+    /// No rule fits.
     NoMatchingRule,
+    /// A token of the argument isn't that of the pattern.
     UnexpectedToken,
 }
 

@@ -20,7 +20,9 @@ use mbe_tt::span::{Edition, Span, SyntaxContext};
 use mbe_tt::tt::Leaf;
 use std::alloc::{AllocError, Allocator, Global};
 
-/// A macro definition that was read: its rules, up to the first fault, and that fault.
+/// A macro definition that was read: its rules, up to the first fault, and that fault (as in rust-analyzer).
+///
+/// In contracts it is seen by `macro_of`, as a list of rules and a fault or none.
 #[derive(Drop)]
 pub struct DeclarativeMacro<A: Allocator = Global> {
     rules: Vec<Rule<A>, A>,
@@ -36,7 +38,16 @@ pub(crate) struct Rule<A: Allocator = Global> {
 }
 
 impl<A: Allocator + Copy> DeclarativeMacro<A> {
-    /// Reads the rules of a `macro_rules!` definition, which `;` separates.
+    /// Reads the rules of a `macro_rules!` definition, which `;` separates; a last one may be missing.
+    ///
+    /// `tt` holds the rules alone, without the name and the braces around them. `ctx_edition` answers the edition of a
+    /// context; it will decide what `pat` and `expr` mean, by the context of the specifier's own span.
+    ///
+    /// The answer keeps the rules before the first fault, and tells that fault by `err`. What isn't carried yet is told as
+    /// `ParseError::UnexpectedToken("not carried yet")` where reading meets it. The only failure is want of memory.
+    ///
+    /// The grammar is that of the Rust Reference ("Macros By Example") as rust-analyzer reads it; that a stray token behind
+    /// a rule is always told is this project's choice.
     pub fn parse_macro_rules<E: Copy + Fn(SyntaxContext) -> Edition>(
         alloc: A,
         tt: &TopSubtree<A>,
@@ -55,7 +66,19 @@ impl<A: Allocator + Copy> DeclarativeMacro<A> {
         }
     }
 
-    /// Expands a call.
+    /// Expands a call by the first rule that is of the call's style and fits the whole argument.
+    ///
+    /// `tt` is the argument: the trees inside its group are matched. `grammar` is to say what a fragment is; no kind of
+    /// variable that is carried yet asks it. `marker` answers the span that a token of the template is written with, once
+    /// for each; the fragments that variables took keep their spans. `call_site` is the span of the group around the
+    /// expansion.
+    ///
+    /// The answer is the expansion as a token tree, with the place of its rule among all rules of the definition, where it
+    /// fits 32 bits. Where no rule answers it is an empty tree, no place, and `NoMatchingRule` at the call site. The only
+    /// failure is want of memory; the macro and the argument are as they were in each case.
+    ///
+    /// The order of trying is rust-analyzer's: a rule that fits but whose substitution faults doesn't stop the search, as
+    /// it does in the Rust Reference.
     pub fn expand<G: FragmentGrammar, M: Fn(Span) -> Span + Copy>(
         &self,
         alloc: A,

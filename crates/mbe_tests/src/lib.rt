@@ -2,6 +2,22 @@
 #![tactic(auto)]
 
 #[cfg(test)]
+mod definitions;
+#[cfg(test)]
+mod errors;
+#[cfg(test)]
 mod first_run;
+#[cfg(test)]
+mod grammar;
+#[cfg(test)]
+mod matching;
+#[cfg(test)]
+mod memory;
+#[cfg(test)]
+mod runs;
+#[cfg(test)]
+mod templates;
+#[cfg(test)]
+mod tokens;
 #[cfg(test)]
 mod trees;

@@ -1,5 +1,5 @@
 -- How many groups a builder has open after a call, for callers that close what they opened.
-use Rattle.std.proofs.Common.{◌≡◌, ◌∙◌, ◌+◌, ◌<◌, List, [], ◌∷◌, length, ap, refl, arith}
+use Rattle.std.proofs.Common.{◌≡◌, ◌∙◌, ◌+◌, ◌<◌, [], ◌∷◌, length, ap, refl, arith}
 use Rattle.mbe_tt.specs.Tree.{Forest}
 use Rattle.mbe_tt.specs.Building.{Levels, put, closed, unwrap_last}
 use Rattle.mbe_tt.specs.declared.span.Span.{Span}

@@ -135,8 +135,11 @@ fn joined<A: Allocator + Copy>(
     Symbol::intern(alloc, whole.as_str())
 }
 
-/// The token trees of a file's text, inside an invisible group whose both spans are the whole text. Groups that are open
-/// at the end are closed there.
+/// The token trees of a file's text, inside an invisible group whose both spans are the whole text. Spans count bytes.
+/// Groups that are open at the end are closed there. A closing without its group is a fault, and so is what isn't a token.
+///
+/// The tokens are the project's own choice, near to Rust's: doc comments are comments, and prefixed strings, raw strings
+/// and byte literals are faults.
 pub fn lex<A: Allocator + Copy>(alloc: A, text: &str, file: u32) -> Result<TopSubtree<A>, LexError>
     requires { length text.now < 2 ^ 32 }
     ensures { IfErr result (FaultsWithin (length text.now)) }

@@ -259,8 +259,9 @@ impl<'t> Scanner<'t> {
         })
     }
 
-    // Passes the identifier that is the suffix of a literal, where one stands here, and gives it with its length. One
-    // that would begin a prefixed string is a fault, as it is elsewhere.
+    // Passes the identifier that is the suffix of a literal, where one stands here, and gives it with its length in
+    // bytes, which is at most 255. One that would begin a prefixed string is a fault, as it is elsewhere. A suffix is
+    // never raw.
     fn suffix(&mut self) -> Result<(&'t str, u8), Fault>
         ensures on { GoesOn self.old self.new }
         ensures within { IfErr result (λ fault. fault.offset ≤ self.old.total) }

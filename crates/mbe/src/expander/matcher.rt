@@ -1,10 +1,10 @@
 // Matches an argument against a pattern.
-ghost use Rattle.std.specs.Prelude.{◌≡◌, [], IfOk, OnOk, OnErr};
+ghost use Rattle.std.specs.Prelude.{◌≡◌, [], option_map, IfOk, OnOk, OnErr};
 ghost use Rattle.std.specs.Str.{bytes_eq};
 ghost use Rattle.mbe_tt.specs.Glue.{chars_of};
 ghost use Rattle.mbe_tt.specs.Shown.{ident_of, literal_of};
 ghost use Rattle.mbe_tt.specs.View.{trees};
-ghost use Rattle.mbe.specs.Environment.{set_value, fragment as fragment_value};
+ghost use Rattle.mbe.specs.Environment.{fragment as fragment_value, set_value, value_of};
 ghost use Rattle.mbe.specs.Fit.{ident_text_front, literal_text_front, puncts_front};
 ghost use Rattle.mbe.specs.Item.{stripped};
 ghost use Rattle.mbe.specs.Matching.{takes_plainly, read_front, read_all, HasPassed, BindsAlike, HasRead, HasReadAll, IsMatch};
@@ -50,7 +50,10 @@ impl<'a, A: Allocator + Copy> Bindings<'a, A> {
 }
 
 impl<'a, A: Allocator> Bindings<'a, A> {
-    pub(crate) fn get(&self, name: &Symbol<A>) -> Option<TokenTreesView<'a, A>> {
+    // What the variable took, if it is bound.
+    pub(crate) fn get(&self, name: &Symbol<A>) -> Option<TokenTreesView<'a, A>>
+        ensures { option_map (λ v. fragment_value (record { trees = trees v; style = stripped })) result ≡ value_of (bound_by self.now) name.now }
+    {
         self.inner.get(name).copied()
     }
 }

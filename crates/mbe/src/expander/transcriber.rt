@@ -1,6 +1,14 @@
 // Writes a template with its variables replaced.
-ghost use Rattle.std.specs.Prelude.{◌≡◌, ◌<◌, length, OnOk};
+ghost use Rattle.std.specs.Prelude.{◌≡◌, ◌<◌, false, [], length, IfOk, OnOk};
+ghost use Rattle.mbe_tt.specs.Building.{put};
+ghost use Rattle.mbe_tt.specs.Grammar.{Grammar};
+ghost use Rattle.mbe_tt.specs.Shown.{literal_of, ident_of};
+ghost use Rattle.mbe_tt.specs.Top.{top_group};
+ghost use Rattle.mbe.specs.Environment.{value_of};
 ghost use Rattle.mbe.specs.Marking.{MayMark};
+ghost use Rattle.mbe.specs.Substitution.{IsSubstitution, faults, unbound_variable};
+ghost use Rattle.mbe.specs.Views.{op_of, ops_of, template_of, bound_by};
+ghost use Rattle.mbe.specs.Writing.{Appends, AreMarked, IsMarkedLiteral, IsMarkedIdent, IsWritten, AreWritten, stripped_variable};
 
 use crate::expander::matcher::Bindings;
 use crate::parser::{MetaTemplate, Op};
@@ -11,7 +19,8 @@ use mbe_tt::symbol::Symbol;
 use mbe_tt::tt::{Delimiter, Ident, IdentIsRaw, Leaf, Literal, Punct, Spacing};
 use std::alloc::{AllocError, Allocator};
 
-// The template's substitution, in an invisible group with the call site as both spans.
+// The template's substitution, in an invisible group with the call site as both spans. A template of tokens, groups and
+// variables never faults, as each name is bound to one fragment or to nothing.
 pub(crate) fn transcribe<A: Allocator + Copy, M: Fn(Span) -> Span + Copy>(
     alloc: A,
     template: &MetaTemplate<A>,
@@ -20,6 +29,8 @@ pub(crate) fn transcribe<A: Allocator + Copy, M: Fn(Span) -> Span + Copy>(
     call_site: Span,
 ) -> Result<TopSubtree<A>, AllocError>
     requires { MayMark (M.pre marker) }
+    ensures faultless { faults (bound_by bindings.now) [] (template_of template.now) ≡ false }
+    ensures substitution { IfOk result (λ t. (g : Grammar) → IsSubstitution g (M.post marker) call_site (bound_by bindings.now) (template_of template.now) (top_group t)) }
 {
     let mut builder = TopSubtreeBuilder::new(alloc, Delimiter::invisible_spanned(call_site))?;
     expand_ops(&template.0, bindings, &mut builder, marker)?;
@@ -45,6 +56,7 @@ fn expand_ops<A: Allocator + Copy, M: Fn(Span) -> Span + Copy>(
     requires marks { MayMark (M.pre marker) }
     requires some_group { 0 < length builder.old }
     ensures open_groups { OnOk result (length builder.new ≡ length builder.old) }
+    ensures written { OnOk result (Appends (AreWritten (M.post marker) (bound_by bindings.now) (ops_of ops.now)) builder.old builder.new) }
 {
     for op in ops {
         expand_op(op, bindings, builder, marker)?;
@@ -62,6 +74,7 @@ fn expand_op<A: Allocator + Copy, M: Fn(Span) -> Span + Copy>(
     requires marks { MayMark (M.pre marker) }
     requires some_group { 0 < length builder.old }
     ensures open_groups { OnOk result (length builder.new ≡ length builder.old) }
+    ensures written { OnOk result (Appends (IsWritten (M.post marker) (bound_by bindings.now) (op_of op.now)) builder.old builder.new) }
 {
     match op {
         Op::Literal(literal) => builder.push(Leaf::Literal(marked_literal(literal, marker)?)),
@@ -82,6 +95,7 @@ fn marked_literal<A: Allocator, M: Fn(Span) -> Span + Copy>(
     marker: M,
 ) -> Result<Literal<A>, AllocError>
     requires { MayMark (M.pre marker) }
+    ensures { IfOk result (λ l. IsMarkedLiteral (M.post marker) (literal_of literal.now) (literal_of l)) }
 {
     Ok(Literal {
         text_and_suffix: literal.text_and_suffix.clone()?,
@@ -96,6 +110,7 @@ fn marked_ident<A: Allocator, M: Fn(Span) -> Span + Copy>(
     marker: M,
 ) -> Result<Ident<A>, AllocError>
     requires { MayMark (M.pre marker) }
+    ensures { IfOk result (λ i. IsMarkedIdent (M.post marker) (ident_of ident.now) (ident_of i)) }
 {
     Ok(Ident {
         sym: ident.sym.clone()?,
@@ -111,6 +126,7 @@ fn write_puncts<A: Allocator, M: Fn(Span) -> Span + Copy>(
 ) -> Result<(), AllocError>
     requires { MayMark (M.pre marker) }
     ensures open_groups { OnOk result (length builder.new ≡ length builder.old) }
+    ensures written { OnOk result (Appends (AreMarked (M.post marker) puncts.now) builder.old builder.new) }
 {
     for punct in puncts {
         builder.push(Leaf::Punct(Punct {
@@ -130,6 +146,7 @@ fn write_var<A: Allocator + Copy>(
     builder: &mut TopSubtreeBuilder<A>,
 ) -> Result<(), AllocError>
     ensures open_groups { OnOk result (length builder.new ≡ length builder.old) }
+    ensures written { OnOk result (builder.new ≡ put (stripped_variable name.now id (value_of (bound_by bindings.now) name.now)) builder.old) }
 {
     match bindings.get(name) {
         Some(fragment) => builder.extend_with_tt_alone(fragment.strip_invisible()),
@@ -143,6 +160,7 @@ fn write_unbound<A: Allocator>(
     builder: &mut TopSubtreeBuilder<A>,
 ) -> Result<(), AllocError>
     ensures open_groups { OnOk result (length builder.new ≡ length builder.old) }
+    ensures written { OnOk result (builder.new ≡ put (unbound_variable name.now id) builder.old) }
 {
     builder.push(Leaf::Punct(Punct {
         char: '$',

@@ -1,0 +1,198 @@
+-- What is written op by op is what all ops write, and a bound variable is found by its name.
+use Rattle.std.specs.Prelude.{◌≡◌, ◌<◌, ◌≤◌, ◌+◌, ℕ, Bool, true, false, if◌then◌else◌, List, [], ◌∷◌, length, map, Option, Some, None, option_map, option_and_then, Result, Ok, Err, OnOk, refl}
+use Rattle.std.proofs.Common.{ap, sym, ◌∙◌, subst, get_or, drop}
+use Rattle.std.proofs.lemmas.List.{drop_more, drop_all}
+use Rattle.std.specs.Str.{bytes_eq}
+use Rattle.std.specs.Map.{lookup}
+use Rattle.std.specs.Cmp.Lexicographic.{nat_list_eq_equiv}
+use Rattle.mbe_tt.specs.declared.span.Span.{Span}
+use Rattle.mbe_tt.specs.declared.tt.Punct.{Punct}
+use Rattle.mbe_tt.specs.declared.tt.Delimiter.{Delimiter}
+use Rattle.mbe_tt.specs.declared.tt.DelimiterKind.TheVariants.{Invisible}
+use Rattle.mbe_tt.specs.declared.tt.Spacing.TheVariants.{Alone}
+use Rattle.mbe_tt.specs.declared.tt.IdentIsRaw.TheVariants as raw
+use Rattle.mbe_tt.specs.declared.view.TokenTreesView.{TokenTreesView}
+use Rattle.mbe_tt.specs.Leaf.{Literal, Ident, literal, ident, punct}
+use Rattle.mbe_tt.specs.Grammar.{Grammar}
+use Rattle.mbe_tt.specs.Tree as tree
+use Rattle.mbe_tt.specs.Tree.{Forest, none, leaf, append, one_leaf}
+use Rattle.mbe_tt.specs.Entries.{append-none}
+use Rattle.mbe_tt.specs.View.{trees}
+use Rattle.mbe_tt.specs.Top.{Top, top_group}
+use Rattle.mbe_tt.specs.Building.{Levels, put, closed}
+use Rattle.mbe_tt.proofs.PlaceLemmas.{append-assoc}
+use Rattle.mbe.specs.declared.parser.MetaVarKind.{MetaVarKind}
+use Rattle.mbe.specs.declared.parser.Op as code
+use Rattle.mbe.specs.Op as ops
+use Rattle.mbe.specs.Op.{Name, Op, Ops, op, no_ops}
+use Rattle.mbe.specs.Item.{stripped}
+use Rattle.mbe.specs.Environment.{Environment, Value, fragment, list, empty, missing, value_of}
+use Rattle.mbe.specs.Rounds.{follow}
+use Rattle.mbe.specs.Written.{IsWrittenAs}
+use Rattle.mbe.specs.Substitution.{IsVariable, IsSubstitution, unbound_variable}
+use Rattle.mbe.specs.Views.{op_of, ops_of}
+use Rattle.mbe.specs.Writing.{Appends, IsMarkedLiteral, IsMarkedIdent, AreMarked, IsWritten, AreWritten, stripped_variable}
+
+-- ---- a builder's trees
+
+pub put-none : (b : Levels) → b ≡ put none b
+put-none [] = refl
+put-none (g ∷ outer) = ap (λ (f : Forest). let x : Delimiter × Forest = (g.0, f) in x ∷ outer) (sym (append-none g.1))
+
+pub put-put : (f h : Forest) (b : Levels) → put h (put f b) ≡ put (append f h) b
+put-put f h [] = refl
+put-put f h (g ∷ outer) = ap (λ (k : Forest). let x : Delimiter × Forest = (g.0, k) in x ∷ outer) (sym (append-assoc g.1 f h))
+
+pub put_both : (f h : Forest) (old mid new : Levels) → mid ≡ put f old → new ≡ put h mid → new ≡ put (append f h) old
+put_both f h old mid new a b = b ∙ (ap (put h) a ∙ put-put f h old)
+
+-- ---- what a name is bound to
+
+abbrev value_seen : {A : Type 0} → TokenTreesView A → Value
+value_seen v = fragment (record { trees = trees v; style = stripped })
+
+abbrev pub values_seen : {A : Type 0} → List (Name × TokenTreesView A) → Environment
+values_seen es = map (λ e. (e.0, value_seen e.1)) es
+
+seen_if : {A : Type 0} (b c : Bool) (v : TokenTreesView A) (r : Option (TokenTreesView A)) (w : Option Value) → b ≡ c → option_map value_seen r ≡ w
+    → option_map value_seen (if b then Some v else r) ≡ (if c then Some (value_seen v) else w)
+seen_if true c v r w e h = rw (← e) refl
+seen_if false c v r w e h = rw (← e) h
+
+pub found_by_name : {A : Type 0} (es : List (Name × TokenTreesView A)) (name : Name) → option_map value_seen (lookup (bytes_eq name) es) ≡ value_of (values_seen es) name
+found_by_name [] name = refl
+found_by_name (e ∷ es) name = seen_if (bytes_eq name e.0) (bytes_eq e.0 name) e.1 _ _ (nat_list_eq_equiv.symm name e.0) (found_by_name es name)
+
+-- ---- variables
+
+pub unbound_written : {T E : Type 0} (r : Result T E) (name sym : Name) (span : Span) (old mid new : Levels) → sym ≡ name
+    → mid ≡ put (one_leaf (punct (record { char = 36; spacing = Alone; span = span }))) old
+    → OnOk r (new ≡ put (one_leaf (ident (record { sym = sym; is_raw = raw.No; span = span }))) mid) → OnOk r (new ≡ put (unbound_variable name span) old)
+unbound_written (Err e) name sym span old mid new same first h = tt
+unbound_written (Ok x) name sym span old mid new same first h =
+    put_both (one_leaf (punct (record { char = 36; spacing = Alone; span = span }))) (one_leaf (ident (record { sym = sym; is_raw = raw.No; span = span }))) old mid new first h
+    ∙ ap (λ n. put (unbound_variable n span) old) same
+
+-- nothing, or a fragment that is written without an invisible group around it
+abbrev pub IsStripped : Option Value → Type 0
+IsStripped None = Unit {0}
+IsStripped (Some (fragment x)) = x.style ≡ stripped
+IsStripped (Some (list vs)) = ⊥
+IsStripped (Some empty) = ⊥
+IsStripped (Some (missing kind)) = ⊥
+
+stripped_if : (b : Bool) (v w : Option Value) → IsStripped v → IsStripped w → IsStripped (if b then v else w)
+stripped_if true v w h k = h
+stripped_if false v w h k = k
+
+pub each_stripped : {A : Type 0} (es : List (Name × TokenTreesView A)) (name : Name) → IsStripped (value_of (values_seen es) name)
+each_stripped [] name = tt
+each_stripped (e ∷ es) name = stripped_if (bytes_eq e.0 name) (Some (value_seen e.1)) _ refl (each_stripped es name)
+
+module _ (Marks : Span → Span → Type 0) where
+  variable_is : (g : Grammar) (site : Span) (env : Environment) (name : Name) (span : Span) (v : Option Value) → IsStripped v
+      → IsVariable g Marks site env name span v (option_and_then (follow []) v) (stripped_variable name span v)
+  variable_is g site env name span None h = refl
+  variable_is g site env name span (Some (fragment x)) h =
+      subst (λ s. IsWrittenAs Marks site s span x.trees (tree.alone (tree.strip_invisible x.trees))) (sym h) refl
+  variable_is g site env name span (Some (list vs)) h = absurd h
+  variable_is g site env name span (Some empty) h = absurd h
+  variable_is g site env name span (Some (missing kind)) h = absurd h
+
+  -- ---- puncts
+
+  pub writes_no_punct : (old : Levels) → Appends (AreMarked Marks []) old old
+  unfolding Appends AreMarked
+  writes_no_punct old = (none, (λ g site env. refl), put-none old)
+
+  pub writes_punct : (ps : List Punct) (i : ℕ) (d : Punct) (marked : Span) (old mid new : Levels) → i < length ps → Marks (get_or ps i d).span marked
+      → mid ≡ put (one_leaf (punct (record (get_or ps i d) { span = marked }))) old → Appends (AreMarked Marks (drop (i + 1) ps)) mid new → Appends (AreMarked Marks (drop i ps)) old new
+  unfolding Appends AreMarked
+  writes_punct ps i d marked old mid new h m e w =
+      rw (drop_more ps i d h)
+      (leaf (punct (record (get_or ps i d) { span = marked })) w.0, (λ g site env. (marked, w.0, m, w.1 g site env, refl)), put_both _ w.0 old mid new e w.2)
+
+  pub writes_last_punct : (ps : List Punct) (i : ℕ) (old : Levels) → length ps ≤ i → Appends (AreMarked Marks (drop i ps)) old old
+  writes_last_punct ps i old h = rw (drop_all i ps h) (writes_no_punct old)
+
+  module _ (env : Environment) where
+    -- ---- one op
+
+    writes_literal : (l m : Literal) (old new : Levels) → IsMarkedLiteral Marks l m → new ≡ put (one_leaf (literal m)) old
+        → Appends (IsWritten Marks env (ops.token (ops.literal l))) old new
+    unfolding Appends IsWritten
+    writes_literal l m old new h e = (one_leaf (literal m), (λ g site. (m.span, h.0, ap (λ x. one_leaf (literal x)) h.1)), e)
+
+    writes_ident : (i m : Ident) (old new : Levels) → IsMarkedIdent Marks i m → new ≡ put (one_leaf (ident m)) old
+        → Appends (IsWritten Marks env (ops.token (ops.ident i))) old new
+    unfolding Appends IsWritten
+    writes_ident i m old new h e = (one_leaf (ident m), (λ g site. (m.span, h.0, ap (λ x. one_leaf (ident x)) h.1)), e)
+
+    writes_puncts : (ps : List Punct) (old new : Levels) → Appends (AreMarked Marks ps) old new → Appends (IsWritten Marks env (ops.token (ops.puncts ps))) old new
+    unfolding Appends AreMarked IsWritten
+    writes_puncts ps old new w = (w.0, (λ g site. w.1 g site env), w.2)
+
+    pub literal_written : {T E : Type 0} (r : Result T E) (l m : Literal) (old new : Levels) → IsMarkedLiteral Marks l m → OnOk r (new ≡ put (one_leaf (literal m)) old)
+        → OnOk r (Appends (IsWritten Marks env (ops.token (ops.literal l))) old new)
+    literal_written (Err e) l m old new h w = tt
+    literal_written (Ok x) l m old new h w = writes_literal l m old new h w
+
+    pub ident_written : {T E : Type 0} (r : Result T E) (i m : Ident) (old new : Levels) → IsMarkedIdent Marks i m → OnOk r (new ≡ put (one_leaf (ident m)) old)
+        → OnOk r (Appends (IsWritten Marks env (ops.token (ops.ident i))) old new)
+    ident_written (Err e) i m old new h w = tt
+    ident_written (Ok x) i m old new h w = writes_ident i m old new h w
+
+    pub puncts_written : {T E : Type 0} (r : Result T E) (ps qs : List Punct) (old new : Levels) → qs ≡ ps → OnOk r (Appends (AreMarked Marks qs) old new)
+        → OnOk r (Appends (IsWritten Marks env (ops.token (ops.puncts ps))) old new)
+    puncts_written (Err e) ps qs old new same w = tt
+    puncts_written (Ok x) ps qs old new same w = writes_puncts ps old new (subst (λ us. Appends (AreMarked Marks us) old new) same w)
+
+    writes_variable : (name : Name) (kind : Option MetaVarKind) (span : Span) (old new : Levels) → IsStripped (value_of env name)
+        → new ≡ put (stripped_variable name span (value_of env name)) old → Appends (IsWritten Marks env (ops.variable name kind span)) old new
+    unfolding Appends IsWritten
+    writes_variable name kind span old new h e =
+        (stripped_variable name span (value_of env name), (λ g site. variable_is g site env name span (value_of env name) h), e)
+
+    pub variable_written : {T E : Type 0} (r : Result T E) (name : Name) (kind : Option MetaVarKind) (span : Span) (old new : Levels) → IsStripped (value_of env name)
+        → OnOk r (new ≡ put (stripped_variable name span (value_of env name)) old) → OnOk r (Appends (IsWritten Marks env (ops.variable name kind span)) old new)
+    variable_written (Err e) name kind span old new h w = tt
+    variable_written (Ok x) name kind span old new h w = writes_variable name kind span old new h w
+
+    pub writes_group : (d : Delimiter) (s u : Span) (body : Ops) (old opened mid new : Levels) → Marks d.opening s → Marks d.close u
+        → opened ≡ (record { opening = s; close = s; kind = d.kind }, none) ∷ old → Appends (AreWritten Marks env body) opened mid → new ≡ closed u mid
+        → Appends (IsWritten Marks env (ops.group d body)) old new
+    unfolding Appends IsWritten AreWritten
+    writes_group d s u body old opened mid new p q o w e = (
+      tree.group (record { opening = s; close = u; kind = d.kind }) w.0 none,
+      (λ g site. (s, u, w.0, p, q, w.1 g site, refl)),
+      e ∙ ap (closed u) (w.2 ∙ ap (put w.0) o),
+    )
+
+    -- ---- ops one after the other
+
+    pub writes_none : (old : Levels) → Appends (AreWritten Marks env no_ops) old old
+    unfolding Appends AreWritten
+    writes_none old = (none, (λ g site. refl), put-none old)
+
+    pub writes_more : (o : Op) (os : Ops) (old mid new : Levels) → Appends (IsWritten Marks env o) old mid → Appends (AreWritten Marks env os) mid new
+        → Appends (AreWritten Marks env (op o os)) old new
+    unfolding Appends IsWritten AreWritten
+    writes_more o os old mid new v w = (append v.0 w.0, (λ g site. (v.0, w.0, v.1 g site, w.1 g site, refl)), put_both v.0 w.0 old mid new v.2 w.2)
+
+    pub writes_next : {A : Type 0} (xs : List (code.Op A)) (i : ℕ) (d : code.Op A) (old mid new : Levels) → i < length xs
+        → Appends (IsWritten Marks env (op_of (get_or xs i d))) old mid → Appends (AreWritten Marks env (ops_of (drop (i + 1) xs))) mid new
+        → Appends (AreWritten Marks env (ops_of (drop i xs))) old new
+    writes_next xs i d old mid new h v w = rw (drop_more xs i d h) (writes_more (op_of (get_or xs i d)) (ops_of (drop (i + 1) xs)) old mid new v w)
+
+    pub writes_end : {A : Type 0} (xs : List (code.Op A)) (i : ℕ) (old : Levels) → length xs ≤ i → Appends (AreWritten Marks env (ops_of (drop i xs))) old old
+    writes_end xs i old h = rw (drop_all i xs h) (writes_none old)
+
+    -- the whole, in its one group
+    pub writes_whole : (os : Ops) (site : Span) (start end : Levels) (t : Top) → start ≡ (record { opening = site; close = site; kind = Invisible }, none) ∷ []
+        → Appends (AreWritten Marks env os) start end → end ≡ t ∷ [] → (g : Grammar) → IsSubstitution g Marks site env os (top_group t)
+    unfolding Appends AreWritten
+    writes_whole os site start end t s w e g =
+        let d : Delimiter = record { opening = site; close = site; kind = Invisible } in
+        let all : t ∷ [] ≡ (d, w.0) ∷ [] = sym e ∙ (w.2 ∙ ap (put w.0) s) in
+        let same : t ≡ (d, w.0) = cc in
+        (w.0, w.1 g site, ap top_group same)

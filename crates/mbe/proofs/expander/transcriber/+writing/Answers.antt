@@ -1,0 +1,43 @@
+use Rattle.std.proofs.Common.{◌∙◌}
+use Rattle.mbe_tt.specs.Shown.{literal_of, ident_of}
+use Rattle.mbe.proofs.OpViews.{view-var, view-subtree, view-literal, view-punct, view-ident}
+use Rattle.mbe.proofs.WritingLemmas as lemmas
+use Rattle.mbe.proofs.expander.transcriber.+writing.Goals as goal
+
+pub expand_op-returns-in_ok-marked_literal-in-Literal-clause-written : goal.expand_op-returns-in_ok-marked_literal-in-Literal-clause-written
+expand_op-returns-in_ok-marked_literal-in-Literal-clause-written g t c =
+    rw (c.in-Literal.is, view-literal) (lemmas.literal_written _ _ c.push.result (literal_of c.in-Literal.literal) (literal_of c.in_ok-marked_literal-in-Literal.field-0)
+    c.args.builder.now c.push.new.self c.in_ok-marked_literal-in-Literal.ensures c.push.ensures.ok)
+
+pub expand_op-returns-in_ok-marked_ident-in-Ident-clause-written : goal.expand_op-returns-in_ok-marked_ident-in-Ident-clause-written
+expand_op-returns-in_ok-marked_ident-in-Ident-clause-written g t c =
+    rw (c.in-Ident.is, view-ident) (lemmas.ident_written _ _ c.push-in-Ident.result (ident_of c.in-Ident.ident) (ident_of c.in_ok-marked_ident-in-Ident.field-0)
+    c.args.builder.now c.push-in-Ident.new.self c.in_ok-marked_ident-in-Ident.ensures c.push-in-Ident.ensures.ok)
+
+pub expand_op-returns-in-Punct-clause-written : goal.expand_op-returns-in-Punct-clause-written
+expand_op-returns-in-Punct-clause-written g t c =
+    rw (c.in-Punct.is, view-punct) (lemmas.puncts_written _ _ c.write_puncts.result c.in-Punct.puncts.items c.as_slice.result.now c.args.builder.now c.write_puncts.new.builder
+    c.as_slice.ensures.value c.write_puncts.ensures.written)
+
+pub expand_op-returns-in_ok-expand_ops-in-Subtree-clause-written : goal.expand_op-returns-in_ok-expand_ops-in-Subtree-clause-written
+expand_op-returns-in_ok-expand_ops-in-Subtree-clause-written g t c =
+    rw (c.in-Subtree.is, view-subtree) (lemmas.writes_group _ _ c.in-Subtree.delimiter c.mark.result c.mark-in-Subtree.result _ c.args.builder.now c.open.new.self
+    c.expand_ops.new.builder c.close.new.self c.mark.ensures c.mark-in-Subtree.ensures c.in_ok-open-in-Subtree.ensures.ok
+    (rw (← c.deref.ensures.value) c.in_ok-expand_ops-in-Subtree.ensures.written) c.close.ensures)
+
+pub expand_op-returns-in-Var-clause-written : goal.expand_op-returns-in-Var-clause-written
+expand_op-returns-in-Var-clause-written g t c =
+    rw (c.in-Var.is, view-var) (lemmas.variable_written _ _ c.write_var.result c.in-Var.name c.in-Var.kind c.in-Var.id c.args.builder.now c.write_var.new.builder
+    (lemmas.each_stripped c.args.bindings.now.inner.entries c.in-Var.name) c.write_var.ensures.written)
+
+pub expand_ops-loop-op-preserved : goal.expand_ops-loop-op-preserved
+expand_ops-loop-op-preserved g t c = record {
+  open_groups = c.in_ok-expand_op.ensures.open_groups ∙ c.loop-op.invariant.open_groups;
+  written = λ last w. c.loop-op.invariant.written last
+      (lemmas.writes_next _ _ c.args.ops.now c.loop-op.op-index c.op-item.result c.loop-op.builder c.expand_op.new.builder last c.loop-op-test.true
+      (rw (← c.op-item.is) c.in_ok-expand_op.ensures.written) w);
+}
+
+pub expand_ops-returns-clause-written : goal.expand_ops-returns-clause-written
+expand_ops-returns-clause-written g t c =
+    c.loop-op.invariant.written c.loop-op.builder (lemmas.writes_end _ _ c.args.ops.now c.loop-op.op-index c.loop-op.builder c.loop-op-test.false)

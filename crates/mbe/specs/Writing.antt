@@ -1,0 +1,42 @@
+-- What the transcriber writes behind the trees that are there.
+use Rattle.std.specs.Prelude.{◌≡◌, List, [], Option, Some}
+use Rattle.mbe_tt.specs.declared.span.Span.{Span}
+use Rattle.mbe_tt.specs.declared.tt.Punct.{Punct}
+use Rattle.mbe_tt.specs.Leaf.{Literal, Ident}
+use Rattle.mbe_tt.specs.Grammar.{Grammar}
+use Rattle.mbe_tt.specs.Tree.{Forest, alone, strip_invisible}
+use Rattle.mbe_tt.specs.Building.{Levels, put}
+use Rattle.mbe.specs.Op.{Name, Op, Ops}
+use Rattle.mbe.specs.Environment.{Environment, Value, fragment}
+use Rattle.mbe.specs.Substitution.{AreMarkedPuncts, Writes, Substitutes, unbound_variable}
+
+-- such trees come at the end of the innermost open group
+unfoldable pub Appends : (Forest → Type 0) → Levels → Levels → Type 0
+Appends P old new = (made : Forest) × P made × (new ≡ put made old)
+
+-- what a name's value writes where it is written without an invisible group around it; an unbound name is written as it stands
+abbrev pub stripped_variable : Name → Span → Option Value → Forest
+stripped_variable name span (Some (fragment x)) = alone (strip_invisible x.trees)
+stripped_variable name span _ = unbound_variable name span
+
+-- `Marks s t`: the marker may answer t for s
+module _ (Marks : Span → Span → Type 0) where
+  -- the same literal, with an answer of the marker on its span
+  abbrev pub IsMarkedLiteral : Literal → Literal → Type 0
+  IsMarkedLiteral l m = Marks l.span m.span × (m ≡ record l { span = m.span })
+
+  -- the same identifier, with an answer of the marker on its span
+  abbrev pub IsMarkedIdent : Ident → Ident → Type 0
+  IsMarkedIdent i m = Marks i.span m.span × (m ≡ record i { span = m.span })
+
+  -- the puncts, each with an answer of the marker on its span
+  unfoldable pub AreMarked : List Punct → Forest → Type 0
+  AreMarked ps out = (g : Grammar) (call_site : Span) (env : Environment) → AreMarkedPuncts g Marks call_site env ps out
+
+  -- the op writes these trees outside all repetitions, whatever the grammar and the call site are
+  unfoldable pub IsWritten : Environment → Op → Forest → Type 0
+  IsWritten env o out = (g : Grammar) (call_site : Span) → Writes g Marks call_site env [] o out
+
+  -- the ops write these trees so, one after the other
+  unfoldable pub AreWritten : Environment → Ops → Forest → Type 0
+  AreWritten env os out = (g : Grammar) (call_site : Span) → Substitutes g Marks call_site env [] os out

@@ -1,0 +1,206 @@
+// Faults of definitions: how many rules are kept, and the error.
+use crate::runs::parsed;
+use crate::trees::lexed;
+use mbe::{DeclarativeMacro, ParseError};
+use std::alloc::{AllocError, Global};
+use std::process::Abort;
+use std::test::Fail;
+
+/// The error of a definition.
+#[derive(Clone, Copy)]
+enum Told {
+    Nothing,
+    Expected(&'static str),
+    Unexpected(&'static str),
+}
+
+impl Told {
+    fn error(self, alloc: Global) -> Result<Option<ParseError>, AllocError> {
+        Ok(match self {
+            Told::Nothing => None,
+            Told::Expected(text) => Some(ParseError::Expected(String::from_str(alloc, text)?)),
+            Told::Unexpected(text) => {
+                Some(ParseError::UnexpectedToken(String::from_str(alloc, text)?))
+            }
+        })
+    }
+}
+
+const NOT_CARRIED: Told = Told::Unexpected("not carried yet");
+
+fn assert_told(
+    rt: &impl Abort,
+    alloc: Global,
+    definition: &str,
+    want: (usize, Told),
+) -> Result<(), Fail> {
+    let tree = lexed(alloc, 0, definition)?;
+    let rules: DeclarativeMacro = parsed(alloc, &tree)?;
+    let (count, told) = want;
+    assert_eq!(rt; rules.num_rules(), count, "{definition}");
+    assert!(rt; rules.err() == told.error(alloc)?.as_ref(), "{definition}");
+    Ok(())
+}
+
+#[test]
+fn rules_have_their_parts(rt: HostRuntime) -> Result<(), Fail> {
+    for (definition, count, told) in [
+        ("", 0, Told::Nothing),
+        ("() => {}", 1, Told::Nothing),
+        ("() => {};", 1, Told::Nothing),
+        ("[] => (); {} => []", 2, Told::Nothing),
+        ("() = > {}", 1, Told::Nothing),
+        ("() => {} x", 1, Told::Expected("expected `;`")),
+        ("() => {} () => {}", 1, Told::Expected("expected `;`")),
+        ("() => {}, () => {}", 1, Told::Expected("expected `;`")),
+        ("() => {};; () => {}", 1, Told::Expected("expected subtree")),
+        ("x", 0, Told::Expected("expected subtree")),
+        (";", 0, Told::Expected("expected subtree")),
+        ("($x:ident) =>", 0, Told::Expected("expected subtree")),
+        ("() => x", 0, Told::Expected("expected subtree")),
+        ("()", 0, Told::Expected("expected `=`")),
+        ("() {}", 0, Told::Expected("expected `=`")),
+        ("() > {}", 0, Told::Expected("expected `=`")),
+        ("() =", 0, Told::Expected("expected `>`")),
+        ("() = {}", 0, Told::Expected("expected `>`")),
+        ("() == {}", 0, Told::Expected("expected `>`")),
+    ] {
+        assert_told(&rt, rt.alloc(), definition, (count, told))?;
+    }
+    Ok(())
+}
+
+#[test]
+fn variables_of_a_pattern_have_a_specifier(rt: HostRuntime) -> Result<(), Fail> {
+    let missing = Told::Unexpected("missing fragment specifier");
+    for (definition, count, told) in [
+        ("($x) => {}", 0, missing),
+        ("($x:) => {}", 0, missing),
+        ("($x:_) => {}", 0, missing),
+        ("($x:1) => {}", 0, missing),
+        ("($x ident) => {}", 0, missing),
+        ("($x::ident) => {}", 0, missing),
+        ("([a {$x}]) => {}", 0, missing),
+        ("() => {}; ($x) => {}", 1, missing),
+        ("() => {}; ($x) => {}; () => {}", 1, missing),
+        ("($x:ident $y:tt $z:foo) => {}", 1, Told::Nothing),
+        ("($_:ident) => {}", 1, Told::Nothing),
+    ] {
+        assert_told(&rt, rt.alloc(), definition, (count, told))?;
+    }
+    Ok(())
+}
+
+#[test]
+fn what_stands_behind_a_dollar(rt: HostRuntime) -> Result<(), Fail> {
+    let ident = Told::Expected("expected ident");
+    let repetition = Told::Expected("expected `$()` repetition or `${}` expression");
+    let dollars = Told::Unexpected("`$$` is not allowed on the pattern side");
+    let expression = Told::Unexpected("`${}` metavariable expressions are not allowed in matchers");
+    for (definition, told) in [
+        ("($1) => {}", ident),
+        ("($+) => {}", ident),
+        ("() => {$1}", ident),
+        ("() => {[$+]}", ident),
+        ("($[a]) => {}", repetition),
+        ("() => {$[a]}", repetition),
+        ("($$) => {}", dollars),
+        ("([$$]) => {}", dollars),
+        ("(${len()}) => {}", expression),
+        ("(a {${}}) => {}", expression),
+        ("($$ $1) => {$[a]}", dollars),
+        ("($1 $$) => {$[a]}", ident),
+        ("($x:ident) => {$[a] $1}", repetition),
+    ] {
+        assert_told(&rt, rt.alloc(), definition, (0, told))?;
+    }
+    for definition in ["($) => {}", "() => {$}", "() => {$$}", "($crate) => {}"] {
+        assert_told(&rt, rt.alloc(), definition, (1, Told::Nothing))?;
+    }
+    Ok(())
+}
+
+#[test]
+fn groups_of_a_rule_are_taken_before_they_are_read(rt: HostRuntime) -> Result<(), Fail> {
+    for (definition, told) in [
+        ("($x)", Told::Expected("expected `=`")),
+        ("($x:path) =", Told::Expected("expected `>`")),
+        ("($(a)*) =>", Told::Expected("expected subtree")),
+        ("($$) => x", Told::Expected("expected subtree")),
+    ] {
+        assert_told(&rt, rt.alloc(), definition, (0, told))?;
+    }
+    Ok(())
+}
+
+#[test]
+fn fronts_of_a_definition(rt: HostRuntime) -> Result<(), Fail> {
+    let definition = "($x:ident) => {$x}";
+    assert_eq!(rt; definition.len(), 18);
+    for end in 0..=definition.len() {
+        let want = match end {
+            0 => (0, Told::Nothing),
+            1..=11 => (0, Told::Expected("expected `=`")),
+            12 => (0, Told::Expected("expected `>`")),
+            13 | 14 => (0, Told::Expected("expected subtree")),
+            _ => (1, Told::Nothing),
+        };
+        let front = definition.get(..end).ok_or("a front")?;
+        assert_told(&rt, rt.alloc(), front, want)?;
+    }
+    Ok(())
+}
+
+#[test]
+fn what_is_not_carried_yet(rt: HostRuntime) -> Result<(), Fail> {
+    for definition in [
+        "() => {}; ($(a)*) => {}",
+        "() => {}; ($(a)) => {}",
+        "() => {}; ([a $($x:ident),+]) => {}",
+        "() => {}; () => {$(a)*}",
+        "() => {}; () => {{$(a)*}}",
+        "() => {}; () => {${len()}}",
+        "() => {}; () => {${}}",
+        "() => {}; unsafe () => {}",
+        "() => {}; attr() () => {}",
+        "() => {}; derive() () => {}",
+        "() => {}; unsafe attr() () => {}",
+        "() => {}; attr => {}",
+        "() => {}; ($(a)* $x) => {}; () => {}",
+    ] {
+        assert_told(&rt, rt.alloc(), definition, (1, NOT_CARRIED))?;
+    }
+    assert_told(
+        &rt,
+        rt.alloc(),
+        "($x $(a)*) => {}",
+        (0, Told::Unexpected("missing fragment specifier")),
+    )
+}
+
+#[test]
+fn specifiers_that_are_not_carried_yet(rt: HostRuntime) -> Result<(), Fail> {
+    for specifier in [
+        "path",
+        "ty",
+        "pat",
+        "pat_param",
+        "stmt",
+        "block",
+        "meta",
+        "item",
+        "vis",
+        "expr",
+        "expr_2021",
+        "lifetime",
+        "literal",
+    ] {
+        let definition = format!(in rt.alloc(); "() => {{}}; ($x:{specifier}) => {{}}")?;
+        assert_told(&rt, rt.alloc(), definition.as_str(), (1, NOT_CARRIED))?;
+    }
+    for specifier in ["Path", "tys", "expr2021", "expr_2024", "ident_", "tts"] {
+        let definition = format!(in rt.alloc(); "() => {{}}; ($x:{specifier}) => {{}}")?;
+        assert_told(&rt, rt.alloc(), definition.as_str(), (2, Told::Nothing))?;
+    }
+    Ok(())
+}

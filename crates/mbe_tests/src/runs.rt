@@ -1,0 +1,124 @@
+// Parses and expands, and compares the answers whole.
+use crate::grammar::NoGrammar;
+use crate::tokens::Token;
+use crate::trees::{built, lexed};
+use mbe::{
+    DeclarativeMacro, ExpandError, ExpandErrorKind, ExpandResult, MacroCallStyle, MatchedArmIndex,
+};
+use mbe_tt::span::{DelimSpan, Edition, Span};
+use mbe_tt::tt::TopSubtree;
+use std::alloc::{AllocError, Allocator, Global};
+use std::process::Abort;
+use std::rc::Rc;
+use std::test::Fail;
+
+pub type Expansion<A> = ExpandResult<(TopSubtree<A>, MatchedArmIndex), A>;
+
+/// The macro of a definition that is read in edition 2024.
+pub fn parsed<A: Allocator + Copy>(
+    alloc: A,
+    definition: &TopSubtree<A>,
+) -> Result<DeclarativeMacro<A>, AllocError> {
+    DeclarativeMacro::parse_macro_rules(alloc, definition, |_context| Edition::Edition2024)
+}
+
+/// The span of the whole argument, which is the call site of each expansion here.
+pub fn whole<A: Allocator>(argument: &TopSubtree<A>) -> Span {
+    argument.top_subtree().delimiter.opening
+}
+
+/// The expansion of a call in a style, with all spans as they are.
+pub fn expanded<A: Allocator + Copy>(
+    alloc: A,
+    rules: &DeclarativeMacro<A>,
+    argument: &TopSubtree<A>,
+    style: MacroCallStyle,
+) -> Result<Expansion<A>, AllocError> {
+    let call_site = whole(argument);
+    rules.expand(alloc, &NoGrammar, argument, |span| span, style, call_site)
+}
+
+/// The expansion has no error, and is these tokens by the rule of that index.
+pub fn assert_answer<A: Allocator + Copy>(
+    rt: &impl Abort,
+    alloc: A,
+    answer: &Expansion<A>,
+    call_site: Span,
+    (arm, want): (u32, &[Token<'_>]),
+) -> Result<(), AllocError> {
+    let (tree, index) = &answer.value;
+    assert!(rt; answer.err.is_none());
+    assert_eq!(rt; *index, Some(arm));
+    assert_eq!(rt; *tree, built(alloc, call_site, want)?);
+    Ok(())
+}
+
+/// The definition, all of which is read, makes that answer of the argument.
+pub fn assert_trees_expand(
+    rt: &impl Abort,
+    alloc: Global,
+    definition: &TopSubtree,
+    argument: &TopSubtree,
+    want: (u32, &[Token<'_>]),
+) -> Result<(), Fail> {
+    let rules = parsed(alloc, definition)?;
+    assert!(rt; rules.err().is_none());
+    let answer = expanded(alloc, &rules, argument, MacroCallStyle::FnLike)?;
+    assert_answer(rt, alloc, &answer, whole(argument), want)?;
+    Ok(())
+}
+
+/// The definition makes these tokens of the argument by the rule of that index. The definition is file 0, the argument
+/// file 1.
+pub fn assert_expands(
+    rt: &impl Abort,
+    alloc: Global,
+    (definition, argument): (&str, &str),
+    want: (u32, &[Token<'_>]),
+) -> Result<(), Fail> {
+    let definition = lexed(alloc, 0, definition)?;
+    let argument = lexed(alloc, 1, argument)?;
+    assert_trees_expand(rt, alloc, &definition, &argument, want)
+}
+
+/// The expansion is that of a call that no rule answers.
+pub fn assert_no_rule(
+    rt: &impl Abort,
+    alloc: Global,
+    answer: &Expansion<Global>,
+    call_site: Span,
+) -> Result<(), Fail> {
+    let (tree, index) = &answer.value;
+    let error = ExpandError {
+        inner: Rc::new(alloc, (call_site, ExpandErrorKind::NoMatchingRule))?,
+    };
+    assert!(rt; answer.err == Some(error));
+    assert_eq!(rt; *index, None);
+    let empty = TopSubtree::empty(alloc, DelimSpan::from_single(call_site))?;
+    assert_eq!(rt; *tree, empty);
+    Ok(())
+}
+
+/// The definition, all of which is read, has no rule for the argument.
+pub fn assert_trees_refused(
+    rt: &impl Abort,
+    alloc: Global,
+    definition: &TopSubtree,
+    argument: &TopSubtree,
+) -> Result<(), Fail> {
+    let rules = parsed(alloc, definition)?;
+    assert!(rt; rules.err().is_none());
+    let answer = expanded(alloc, &rules, argument, MacroCallStyle::FnLike)?;
+    assert_no_rule(rt, alloc, &answer, whole(argument))
+}
+
+/// The definition, all of which is read, has no rule for the argument.
+pub fn assert_refused(
+    rt: &impl Abort,
+    alloc: Global,
+    (definition, argument): (&str, &str),
+) -> Result<(), Fail> {
+    let definition = lexed(alloc, 0, definition)?;
+    let argument = lexed(alloc, 1, argument)?;
+    assert_trees_refused(rt, alloc, &definition, &argument)
+}

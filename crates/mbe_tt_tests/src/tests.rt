@@ -1,0 +1,9 @@
+mod buffers;
+mod builders;
+mod cursors;
+mod glue;
+mod grammars;
+mod iterators;
+mod memory;
+mod texts;
+mod views;

@@ -1,0 +1,95 @@
+use super::views::sample;
+use crate::writing::{delimiter, ident, write_parts};
+use mbe_tt::tt::{DelimiterKind, Leaf, TopSubtreeBuilder};
+use refusing::Refusing;
+use std::alloc::{AllocError, Allocator};
+use std::test::Fail;
+
+// Four parts have 1, 3, 6 and 6 flat tokens.
+const PARTS: usize = 28;
+
+// The request of each number is refused in turn. What the builder holds then is what one without a refusal holds after as
+// many parts.
+#[test]
+fn a_builder_keeps_what_it_held(rt: HostRuntime) -> Result<(), Fail> {
+    for number in 1..1000u64 {
+        let alloc = Refusing::new(rt.alloc(), number);
+        let Ok(source) = sample(&alloc) else {
+            assert!(rt; alloc.has_refused(), "at {number}");
+            continue;
+        };
+        let view = source.iter().remaining();
+        let Ok(mut builder) = TopSubtreeBuilder::new(&alloc, delimiter(DelimiterKind::Invisible))
+        else {
+            assert!(rt; alloc.has_refused(), "at {number}");
+            continue;
+        };
+        let count = write_parts(&mut builder, &alloc, view, PARTS);
+        let built = builder.build();
+        if !alloc.has_refused() {
+            assert_eq!(rt; count, PARTS);
+            assert_eq!(rt; built.view().flat_len(), 114);
+            // Every identifier and literal, and each of the two buffers, is a request at least.
+            assert!(rt; number > 19, "only {number} requests");
+            return Ok(());
+        }
+        assert!(rt; count < PARTS, "at {number}");
+        // The allocator refuses nothing more.
+        let mut other = TopSubtreeBuilder::new(&alloc, delimiter(DelimiterKind::Invisible))?;
+        let again = write_parts(&mut other, &alloc, view, count);
+        assert_eq!(rt; again, count, "at {number}");
+        assert!(rt; built == other.build(), "at {number}");
+    }
+    Err(Fail::from("it goes on"))
+}
+
+#[test]
+fn a_copy_is_equal_or_refused(rt: HostRuntime) -> Result<(), Fail> {
+    for number in 1..100u64 {
+        let alloc = Refusing::new(rt.alloc(), number);
+        let Ok(tree) = sample(&alloc) else {
+            continue;
+        };
+        let Ok(copy) = tree.try_clone() else {
+            assert!(rt; alloc.has_refused(), "at {number}");
+            continue;
+        };
+        assert!(rt; copy == tree);
+        assert!(rt; !alloc.has_refused());
+        return Ok(());
+    }
+    Err(Fail::from("it goes on"))
+}
+
+// Twenty leaves.
+fn leaves<A: Allocator + Copy>(alloc: A) -> Result<Vec<Leaf<A>, A>, AllocError> {
+    let mut leaves = Vec::new(alloc);
+    for _leaf in 0..20 {
+        leaves.push(ident(alloc, "leaf")?)?;
+    }
+    Ok(leaves)
+}
+
+#[test]
+fn leaves_are_written_all_or_none(rt: HostRuntime) -> Result<(), Fail> {
+    for number in 1..100u64 {
+        let alloc = Refusing::new(rt.alloc(), number);
+        let Ok(leaves) = leaves(&alloc) else {
+            continue;
+        };
+        let Ok(mut builder) = TopSubtreeBuilder::new(&alloc, delimiter(DelimiterKind::Brace)) else {
+            continue;
+        };
+        let written = builder.extend(leaves);
+        let tree = builder.build();
+        if written.is_ok() {
+            assert_eq!(rt; tree.iter().remaining().len(), 20);
+            return Ok(());
+        }
+        assert!(rt;
+            alloc.has_refused() && tree.iter().is_empty(),
+            "at {number}"
+        );
+    }
+    Err(Fail::from("it goes on"))
+}
