@@ -1,7 +1,6 @@
 -- What names lead to in environments that differ in order alone, and in what a match binds.
 use Rattle.std.proofs.Common.{◌≡◌, Bool, true, false, List, [], ◌∷◌, map, Option, Some, None, if◌then◌else◌, option_map, refl, sym, ap, subst, ◌∙◌}
 use Rattle.std.specs.Str.{bytes_eq}
-use Rattle.std.specs.Cmp.Lexicographic.{nat_list_eq_equiv}
 use Rattle.std.specs.Map.{lookup}
 use Rattle.std.proofs.lemmas.Slice.Eq.{bytes_eq-Decides}
 use Rattle.mbe_tt.specs.View.{trees}
@@ -10,6 +9,7 @@ use Rattle.mbe.specs.Op.{Name}
 use Rattle.mbe.specs.Item.{Item, matched, bound, grouped, skipped, rounds, Items, no_items, item, Rounds, no_rounds, round, stripped}
 use Rattle.mbe.specs.Environment.{Environment, Value, fragment, list, empty, missing, value_of, set_value, grown, add_round, skip_names, bind_item, bind, bind_rounds}
 use Rattle.mbe.specs.Matching.{BindsAlike}
+use Rattle.mbe.proofs.WritingLemmas.{found_by_name}
 
 -- ---- one name set
 
@@ -97,22 +97,11 @@ module _ {A : Type 0} where
   looked true v w = refl
   looked false v w = refl
 
-  pub value_of-entries : (es : List (Name × TokenTreesView A)) (q : Name) →
-      value_of (map (λ e. (e.0, taken_value e.1)) es) q ≡ option_map taken_value (lookup (bytes_eq q) es)
-  value_of-entries [] q = refl
-  value_of-entries (e ∷ es) q =
-      ap (λ (w : Option Value). if bytes_eq e.0 q then Some (taken_value e.1) else w) (value_of-entries es q)
-      ∙ (looked (bytes_eq e.0 q) e.1 (lookup (bytes_eq q) es)
-      ∙ ap (λ (b : Bool). option_map taken_value (if b then Some e.1 else lookup (bytes_eq q) es)) (turned e.0 q))
-    where
-      turned : (a b : Name) → bytes_eq a b ≡ bytes_eq b a
-      turned a b = nat_list_eq_equiv.symm a b
-
   -- one entry put in
   pub entries_updated : (es fs : List (Name × TokenTreesView A)) (name : Name) (v : TokenTreesView A) →
       ((q : Name) → lookup (bytes_eq q) fs ≡ (if bytes_eq name q then Some v else lookup (bytes_eq q) es)) →
       BindsAlike (map (λ e. (e.0, taken_value e.1)) fs) (set_value (map (λ e. (e.0, taken_value e.1)) es) name (taken_value v))
   entries_updated es fs name v h = λ q.
-      value_of-entries fs q ∙ (ap (option_map taken_value) (h q) ∙ (sym (looked (bytes_eq name q) v (lookup (bytes_eq q) es))
-      ∙ (ap (λ (w : Option Value). if bytes_eq name q then Some (taken_value v) else w) (sym (value_of-entries es q))
+      sym (found_by_name fs q) ∙ (ap (option_map taken_value) (h q) ∙ (sym (looked (bytes_eq name q) v (lookup (bytes_eq q) es))
+      ∙ (ap (λ (w : Option Value). if bytes_eq name q then Some (taken_value v) else w) (found_by_name es q)
       ∙ sym (value_of-set_value (map (λ e. (e.0, taken_value e.1)) es) name q (taken_value v)))))
