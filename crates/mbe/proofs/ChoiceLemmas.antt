@@ -58,10 +58,6 @@ arm_at (Err e) n h = let k : 2 ^ 32 ≤ n = omega (arith, h) in rw (le-ltb n (2 
 
 -- ---- rules that are carried
 
-pub carried-push : (rs : List Rule) (r : Rule) → AreCarried rs → IsCarried r → AreCarried (rs ++ r ∷ [])
-carried-push [] r h k = (k, tt)
-carried-push (x ∷ rs) r h k = (h.0, carried-push rs r h.1 k)
-
 pub carried_at : (rs : List Rule) (n : ℕ) (r : Rule) → AreCarried rs → slice_get rs n ≡ Some r → IsCarried r
 carried_at [] n r h e = absurd (none-some r e)
 carried_at (x ∷ rs) zero r h e = subst IsCarried (same_Some x r e) h.0

@@ -1,5 +1,6 @@
 -- Each op of the code, as the op that it is.
-use Rattle.std.proofs.Common.{◌≡◌, ℕ, List, Option, Vec, rules}
+use Rattle.std.proofs.Common.{◌≡◌, ℕ, List, map, Option, Vec, rules}
+use Rattle.std.specs.Prelude.{option_map}
 use Rattle.arrayvec.specs.ArrayVec.{ArrayVec}
 use Rattle.mbe_tt.specs.declared.span.Span.{Span}
 use Rattle.mbe_tt.specs.declared.tt.Punct.{Punct as APunct}
@@ -9,12 +10,34 @@ use Rattle.mbe_tt.specs.declared.tt.Literal.{Literal as ALiteral}
 use Rattle.mbe_tt.specs.Shown.{literal_of, ident_of}
 use Rattle.mbe.specs.declared.parser.MetaVarKind.{MetaVarKind}
 use Rattle.mbe.specs.declared.parser.MetaTemplate.{MetaTemplate, roll-MetaTemplate}
-use Rattle.mbe.specs.declared.parser.Op.{Op, Var, Subtree, Literal, Punct, Ident, the_lemmas}
-use Rattle.mbe.specs.Op.{token, group, variable, literal, ident, puncts}
-use Rattle.mbe.specs.Views.{op_of, ops_of, template_of}
+use Rattle.mbe.specs.declared.parser.RepeatKind.{RepeatKind}
+use Rattle.mbe.specs.declared.parser.Separator.{Separator}
+use Rattle.mbe.specs.declared.parser.ConcatMetaVarExprElem.{ConcatMetaVarExprElem}
+use Rattle.mbe.specs.declared.parser.Op.{Op, Var, Ignore, Index, Len, Count, Concat, Repeat, Subtree, Literal, Punct, Ident, the_lemmas}
+use Rattle.mbe.specs.Op as ops
+use Rattle.mbe.specs.Op.{token, group, variable, repetition, expression, literal, ident, puncts}
+use Rattle.mbe.specs.Views.{op_of, ops_of, template_of, separator_seen, element_seen}
 
 pub view-var : (A : Type 0) (name : List ℕ) (kind : Option MetaVarKind) (id : Span) → op_of {A = A} (Var name kind id) ≡ variable name kind id
 view-var A name kind id = search (rules, the_lemmas)
+
+pub view-ignore : (A : Type 0) (name : List ℕ) (id : Span) → op_of {A = A} (Ignore name id) ≡ expression (ops.ignore name id)
+view-ignore A name id = search (rules, the_lemmas)
+
+pub view-index : (A : Type 0) (depth : ℕ) → op_of {A = A} (Index depth) ≡ expression (ops.index depth)
+view-index A depth = search (rules, the_lemmas)
+
+pub view-len : (A : Type 0) (depth : ℕ) → op_of {A = A} (Len depth) ≡ expression (ops.len depth)
+view-len A depth = search (rules, the_lemmas)
+
+pub view-count : (A : Type 0) (name : List ℕ) (depth : ℕ) → op_of {A = A} (Count name depth) ≡ expression (ops.count name depth)
+view-count A name depth = search (rules, the_lemmas)
+
+pub view-concat : {A : Type 0} (es : Vec (ConcatMetaVarExprElem A) A) (span : Span) → op_of (Concat es span) ≡ expression (ops.concat (map element_seen es.items) span)
+view-concat es span = search (rules, the_lemmas)
+
+pub view-repeat : {A : Type 0} (t : MetaTemplate A) (kind : RepeatKind) (s : Option (Separator A)) → op_of (Repeat t kind s) ≡ repetition (template_of t) (option_map separator_seen s) kind
+view-repeat t kind s = search (rules, the_lemmas)
 
 pub view-subtree : {A : Type 0} (t : MetaTemplate A) (d : Delimiter) → op_of (Subtree t d) ≡ group d (template_of t)
 view-subtree t d = search (rules, the_lemmas)
@@ -31,4 +54,6 @@ view-ident i = search (rules, the_lemmas)
 pub view-template : {A : Type 0} (v : Vec (Op A) A) → template_of (roll-MetaTemplate A (record { 0 = v })) ≡ ops_of v.items
 view-template v = search (rules, the_lemmas)
 
-pub ruleset views = (view-var, view-subtree, view-literal, view-punct, view-ident)
+pub ruleset views = (
+    view-var, view-ignore, view-index, view-len, view-count, view-concat, view-repeat, view-subtree, view-literal, view-punct, view-ident
+)

@@ -21,7 +21,6 @@ use Rattle.mbe.specs.Reader.{AtHead, IsUndated, ReadsOp, Stops, mode_of, fault_o
 use Rattle.mbe.specs.declared.error.ReadError as why
 use Rattle.mbe.specs.declared.parser.Mode as mode
 use Rattle.mbe.specs.Views.{op_of, ops_of}
-use Rattle.mbe.specs.Matching.{is_plain, is_plain_op}
 use Rattle.mbe_tt.proofs.CutLemmas.{both_left, both_right}
 use Rattle.mbe.specs.declared.parser.Op as code
 use Rattle.mbe.proofs.Fragments.{rest_no_longer, back-skip}
@@ -256,13 +255,3 @@ module _ (Answers : SyntaxContext → Edition → Type 0) where
   puncts_op A m f left p ps e g l =
       reads_head Answers m f left _ (Ok (puncts_at f)) e
       (ap (λ (xs : List Punct). ops.token (ops.puncts xs)) (glued_is f ps.items g) ∙ sym (view-punct A ps), back-skip (length (glue f)) f ∙ sym l)
-
--- one op more that is carried
-pub plain-push : {A : Type 0} (before : List (code.Op A)) (o : code.Op A) → IsTrue (is_plain (ops_of before)) → IsTrue (is_plain_op (op_of o))
-    → IsTrue (is_plain (ops_of (before ++ o ∷ [])))
-plain-push [] o h k = rw k refl
-plain-push (p ∷ before) o h k = both_true (is_plain_op (op_of p)) _ (both_left (is_plain_op (op_of p)) _ h)
-    (plain-push before o (both_right (is_plain_op (op_of p)) (is_plain (ops_of before)) h) k)
-  where
-    both_true : (a b : Bool) → a ≡ true → b ≡ true → (a && b) ≡ true
-    both_true a b e f = rw (e, f) refl

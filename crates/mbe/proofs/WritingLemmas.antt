@@ -1,5 +1,5 @@
 -- What is written op by op is what all ops write, and a bound variable is found by its name.
-use Rattle.std.specs.Prelude.{◌≡◌, ◌<◌, ◌≤◌, ◌+◌, ℕ, Bool, true, false, if◌then◌else◌, List, [], ◌∷◌, length, map, Option, Some, None, option_map, option_and_then, Result, Ok, Err, OnOk, refl}
+use Rattle.std.specs.Prelude.{◌≡◌, ◌<◌, ◌≤◌, ◌+◌, ℕ, IsTrue, Bool, true, false, if◌then◌else◌, List, [], ◌∷◌, length, map, Option, Some, None, option_map, option_and_then, Result, Ok, Err, OnOk, refl}
 use Rattle.std.proofs.Common.{ap, sym, ◌∙◌, subst, get_or, drop}
 use Rattle.std.proofs.lemmas.List.{drop_more, drop_all}
 use Rattle.std.specs.Str.{bytes_eq}
@@ -21,6 +21,7 @@ use Rattle.mbe_tt.specs.View.{trees}
 use Rattle.mbe_tt.specs.Top.{Top, top_group}
 use Rattle.mbe_tt.specs.Building.{Levels, put, closed}
 use Rattle.mbe_tt.proofs.PlaceLemmas.{append-assoc}
+use Rattle.mbe_tt.proofs.CutLemmas.{both_left, both_right}
 use Rattle.mbe.specs.declared.parser.MetaVarKind.{MetaVarKind}
 use Rattle.mbe.specs.declared.parser.Op as code
 use Rattle.mbe.specs.Op as ops
@@ -31,7 +32,7 @@ use Rattle.mbe.specs.Rounds.{follow}
 use Rattle.mbe.specs.Written.{IsWrittenAs}
 use Rattle.mbe.specs.Substitution.{IsVariable, IsSubstitution, unbound_variable}
 use Rattle.mbe.specs.Views.{op_of, ops_of}
-use Rattle.mbe.specs.Writing.{Appends, IsMarkedLiteral, IsMarkedIdent, AreMarked, IsWritten, AreWritten, stripped_variable}
+use Rattle.mbe.specs.Writing.{Appends, IsMarkedLiteral, IsMarkedIdent, AreMarked, IsWritten, AreWritten, stripped_variable, writes_plainly, writes_plainly_op}
 
 -- ---- a builder's trees
 
@@ -196,3 +197,16 @@ module _ (Marks : Span → Span → Type 0) where
         let all : t ∷ [] ≡ (d, w.0) ∷ [] = sym e ∙ (w.2 ∙ ap (put w.0) s) in
         let same : t ≡ (d, w.0) = cc in
         (w.0, w.1 g site, ap top_group same)
+
+-- ---- ops without a repetition and a metavariable expression
+
+pub plain_first : {A : Type 0} (xs : List (code.Op A)) (i : ℕ) (x : code.Op A) → x ≡ get_or xs i x → i < length xs → IsTrue (writes_plainly (ops_of (drop i xs)))
+    → IsTrue (writes_plainly_op (op_of x))
+plain_first xs i x e h p =
+    let all = subst (λ ys. IsTrue (writes_plainly (ops_of ys))) (drop_more xs i x h) p in
+    subst (λ y. IsTrue (writes_plainly_op (op_of y))) (sym e) (both_left _ (writes_plainly (ops_of (drop (i + 1) xs))) all)
+
+pub plain_rest : {A : Type 0} (xs : List (code.Op A)) (i : ℕ) (d : code.Op A) → i < length xs → IsTrue (writes_plainly (ops_of (drop i xs)))
+    → IsTrue (writes_plainly (ops_of (drop (i + 1) xs)))
+plain_rest xs i d h p =
+    both_right (writes_plainly_op (op_of (get_or xs i d))) _ (subst (λ ys. IsTrue (writes_plainly (ops_of ys))) (drop_more xs i d h) p)

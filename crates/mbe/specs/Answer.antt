@@ -13,6 +13,7 @@ use Rattle.mbe.specs.Expansion.{Applies, IsExpansion}
 use Rattle.mbe.specs.Macro.{arm_of}
 use Rattle.mbe.specs.Matching.{is_plain}
 use Rattle.mbe.specs.Substitution.{IsSubstitution}
+use Rattle.mbe.specs.Writing.{writes_plainly}
 
 -- An answer without an error is the expansion by the first rule that applies, and where some rule applies there is no
 -- error. With an error the tree is empty, no rule is named, and the error is told at the call site.
@@ -24,9 +25,11 @@ pub record Answers (g : Grammar) (Marks : Span → Span → Type 0) (rules : Lis
       (out ≡ group (record { opening = call_site; close = call_site; kind = Invisible }) none none)
       × (index ≡ None) × (e ≡ record { span = call_site; kind = no_matching_rule })
 
--- The pattern is carried: no repetition stands in it, and no variable asks the grammar.
-abbrev pub IsCarried : Rule → Type 0
-IsCarried r = IsTrue (is_plain r.reads)
+-- The rule is carried: no repetition stands in its pattern or its template, no variable asks the grammar, and no
+-- metavariable expression is written.
+pub record IsCarried (r : Rule) : Type 0 where
+  pub reads : IsTrue (is_plain r.reads)
+  pub writes : IsTrue (writes_plainly r.writes)
 
 abbrev pub AreCarried : List Rule → Type 0
 AreCarried [] = Unit {0}

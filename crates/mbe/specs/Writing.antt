@@ -1,18 +1,32 @@
 -- What the transcriber writes behind the trees that are there.
-use Rattle.std.specs.Prelude.{◌≡◌, List, [], Option, Some}
+use Rattle.std.specs.Prelude.{◌≡◌, ◌&&◌, Bool, true, false, List, [], Option, Some}
 use Rattle.mbe_tt.specs.declared.span.Span.{Span}
 use Rattle.mbe_tt.specs.declared.tt.Punct.{Punct}
 use Rattle.mbe_tt.specs.Leaf.{Literal, Ident}
 use Rattle.mbe_tt.specs.Grammar.{Grammar}
 use Rattle.mbe_tt.specs.Tree.{Forest, alone, strip_invisible}
 use Rattle.mbe_tt.specs.Building.{Levels, put}
-use Rattle.mbe.specs.Op.{Name, Op, Ops}
+use Rattle.mbe.specs.Op as ops
+use Rattle.mbe.specs.Op.{Name, Op, Ops, no_ops, op}
 use Rattle.mbe.specs.Environment.{Environment, Value, fragment}
 use Rattle.mbe.specs.Substitution.{AreMarkedPuncts, Writes, Substitutes, unbound_variable}
 
 -- such trees come at the end of the innermost open group
 unfoldable pub Appends : (Forest → Type 0) → Levels → Levels → Type 0
 Appends P old new = (made : Forest) × P made × (new ≡ put made old)
+
+-- no repetition and no metavariable expression stands in the ops
+abbrev mutual
+  pub writes_plainly_op : Op → Bool
+  writes_plainly_op (ops.token t) = true
+  writes_plainly_op (ops.group d body) = writes_plainly body
+  writes_plainly_op (ops.variable name kind span) = true
+  writes_plainly_op (ops.repetition body separator repeat) = false
+  writes_plainly_op (ops.expression e) = false
+
+  pub writes_plainly : Ops → Bool
+  writes_plainly no_ops = true
+  writes_plainly (op o os) = writes_plainly_op o && writes_plainly os
 
 -- what a name's value writes where it is written without an invisible group around it; an unbound name is written as it stands
 abbrev pub stripped_variable : Name → Span → Option Value → Forest

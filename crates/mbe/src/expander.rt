@@ -47,7 +47,7 @@ pub(crate) fn expand_rules<A: Allocator + Copy, M: Fn(Span) -> Span + Copy>(
     })
 }
 
-// The substitution of the rule, where it is of the style and fits.
+// The substitution of the rule, where it is of the style and fits. A rule that isn't carried is passed over.
 fn apply<A: Allocator + Copy, M: Fn(Span) -> Span + Copy>(
     alloc: A,
     rule: &Rule<A>,
@@ -63,9 +63,9 @@ fn apply<A: Allocator + Copy, M: Fn(Span) -> Span + Copy>(
         return Ok(None);
     }
     match matcher::match_(alloc, &rule.lhs, input.iter())? {
-        Some(bindings) => Ok(Some(transcriber::transcribe(
-            alloc, &rule.rhs, &bindings, marker, call_site,
-        )?)),
-        None => Ok(None),
+        Some(bindings) if transcriber::writes_plainly(&rule.rhs.0) => Ok(Some(
+            transcriber::transcribe(alloc, &rule.rhs, &bindings, marker, call_site)?,
+        )),
+        _ => Ok(None),
     }
 }

@@ -5,7 +5,7 @@ ghost use Rattle.mbe.specs.Definition.{outline_at};
 ghost use Rattle.mbe.specs.Reader.{IsOutlined, ReadsRule, RuleFault, AreRules, Stops, is_styled};
 ghost use Rattle.mbe.specs.Views.{rule_of, rules_seen};
 ghost use Rattle.mbe.specs.ErrorViews.{parse_error_of, errors_of};
-ghost use Rattle.mbe.specs.Answer.{Answers, AreCarried, IsCarried};
+ghost use Rattle.mbe.specs.Answer.{Answers, AreCarried};
 ghost use Rattle.mbe_tt.specs.Top.{top_group};
 ghost use Rattle.mbe.specs.MacroViews.{macro_of, IsReadAs};
 ghost use Rattle.mbe.specs.Marking.{MayMark, MayAsk};
@@ -57,7 +57,6 @@ impl<A: Allocator + Copy> DeclarativeMacro<A> {
     ) -> Result<DeclarativeMacro<A>, AllocError>
         requires { MayAsk (E.pre ctx_edition) }
         ensures rules { IfOk result (λ m. IsReadAs (E.post ctx_edition) tt.now.1 (macro_of m)) }
-        ensures carried { IfOk result (λ m. AreCarried (macro_of m).rules) }
     {
         let (rules, fault) = parse_rules(alloc, ctx_edition, tt.iter())?;
         match fault {
@@ -123,7 +122,6 @@ fn parse_rules<A: Allocator + Copy, E: Copy + Fn(SyntaxContext) -> Edition>(
     src: TtIter<'_, A>,
 ) -> Result<(Vec<Rule<A>, A>, Option<Fault>), AllocError>
     ensures rules { IfOk result (λ r. AreRules (E.post ctx_edition) src.entry (rules_seen r.0.items) r.1) }
-    ensures carried { IfOk result (λ r. AreCarried (rules_seen r.0.items)) }
 {
     let mut src = src;
     let mut rules = Vec::new(alloc);
@@ -153,7 +151,6 @@ impl<A: Allocator + Copy> Rule<A> {
     ) -> Result<Rule<A>, ReadError>
         ensures rule { IfOk result (λ r. ReadsRule (E.post ctx_edition) src.old (rule_of r) src.new) }
         ensures fault { IfErr result (λ e. Stops e (λ f. RuleFault (E.post ctx_edition) f src.old)) }
-        ensures carried { IfOk result (λ r. IsCarried (rule_of r)) }
         ensures shorter { OnOk result (flat_len src.new < flat_len src.old) }
     {
         let (pattern, template) = rule_groups(src)?;

@@ -119,6 +119,13 @@ fn match_op<'a, A: Allocator + Copy>(
             }
             None => Ok(false),
         },
+        // Repetitions aren't carried yet; no metavariable expression stands in a pattern.
+        Op::Repeat { .. }
+        | Op::Ignore { .. }
+        | Op::Index { .. }
+        | Op::Len { .. }
+        | Op::Count { .. }
+        | Op::Concat { .. } => Ok(false),
     }
 }
 

@@ -1,5 +1,5 @@
 // Writes a template with its variables replaced.
-ghost use Rattle.std.specs.Prelude.{◌≡◌, ◌<◌, false, [], length, IfOk, OnOk};
+ghost use Rattle.std.specs.Prelude.{◌≡◌, ◌<◌, false, [], length, IfOk, OnOk, IsTrue};
 ghost use Rattle.mbe_tt.specs.Building.{put};
 ghost use Rattle.mbe_tt.specs.Grammar.{Grammar};
 ghost use Rattle.mbe_tt.specs.Shown.{literal_of, ident_of};
@@ -8,6 +8,7 @@ ghost use Rattle.mbe.specs.Environment.{value_of};
 ghost use Rattle.mbe.specs.Marking.{MayMark};
 ghost use Rattle.mbe.specs.Substitution.{IsSubstitution, faults, unbound_variable};
 ghost use Rattle.mbe.specs.Views.{op_of, ops_of, template_of, bound_by};
+ghost use Rattle.mbe.specs.Writing as spec;
 ghost use Rattle.mbe.specs.Writing.{Appends, AreMarked, IsMarkedLiteral, IsMarkedIdent, IsWritten, AreWritten, stripped_variable};
 
 use crate::expander::matcher::Bindings;
@@ -19,6 +20,36 @@ use mbe_tt::symbol::Symbol;
 use mbe_tt::tt::{Delimiter, Ident, IdentIsRaw, Leaf, Literal, Punct, Spacing};
 use std::alloc::{AllocError, Allocator};
 
+// Whether the ops write tokens, groups and variables alone. No more is carried yet.
+#[cycle(plain)]
+pub(crate) fn writes_plainly<A: Allocator>(ops: &[Op<A>]) -> bool
+    ensures { result ≡ spec.writes_plainly (ops_of ops.now) }
+{
+    for op in ops {
+        if !op_writes_plainly(op) {
+            return false;
+        }
+    }
+    true
+}
+
+#[cycle(plain)]
+#[tactic(auto, using(crate::proofs::OpViews::views))]
+fn op_writes_plainly<A: Allocator>(op: &Op<A>) -> bool
+    ensures { result ≡ spec.writes_plainly_op (op_of op.now) }
+{
+    match op {
+        Op::Literal(_) | Op::Ident(_) | Op::Punct(_) | Op::Var { .. } => true,
+        Op::Subtree { tokens, .. } => writes_plainly(&tokens.0),
+        Op::Repeat { .. }
+        | Op::Ignore { .. }
+        | Op::Index { .. }
+        | Op::Len { .. }
+        | Op::Count { .. }
+        | Op::Concat { .. } => false,
+    }
+}
+
 // The template's substitution, in an invisible group with the call site as both spans. A template of tokens, groups and
 // variables never faults, as each name is bound to one fragment or to nothing.
 pub(crate) fn transcribe<A: Allocator + Copy, M: Fn(Span) -> Span + Copy>(
@@ -28,7 +59,8 @@ pub(crate) fn transcribe<A: Allocator + Copy, M: Fn(Span) -> Span + Copy>(
     marker: M,
     call_site: Span,
 ) -> Result<TopSubtree<A>, AllocError>
-    requires { MayMark (M.pre marker) }
+    requires marks { MayMark (M.pre marker) }
+    requires plain { IsTrue (spec.writes_plainly (template_of template.now)) }
     ensures faultless { faults (bound_by bindings.now) [] (template_of template.now) ≡ false }
     ensures substitution { IfOk result (λ t. (g : Grammar) → IsSubstitution g (M.post marker) call_site (bound_by bindings.now) (template_of template.now) (top_group t)) }
 {
@@ -47,6 +79,7 @@ fn mark<M: Fn(Span) -> Span + Copy>(span: Span, marker: M) -> Span
 
 // Writes the ops one after the other.
 #[cycle(writing)]
+#[tactic(auto, using(crate::proofs::WritingLemmas::plain_first))]
 fn expand_ops<A: Allocator + Copy, M: Fn(Span) -> Span + Copy>(
     ops: &[Op<A>],
     bindings: &Bindings<'_, A>,
@@ -55,6 +88,7 @@ fn expand_ops<A: Allocator + Copy, M: Fn(Span) -> Span + Copy>(
 ) -> Result<(), AllocError>
     requires marks { MayMark (M.pre marker) }
     requires some_group { 0 < length builder.old }
+    requires plain { IsTrue (spec.writes_plainly (ops_of ops.now)) }
     ensures open_groups { OnOk result (length builder.new ≡ length builder.old) }
     ensures written { OnOk result (Appends (AreWritten (M.post marker) (bound_by bindings.now) (ops_of ops.now)) builder.old builder.new) }
 {
@@ -65,6 +99,7 @@ fn expand_ops<A: Allocator + Copy, M: Fn(Span) -> Span + Copy>(
 }
 
 #[cycle(writing)]
+#[tactic(auto, using(crate::proofs::OpViews::views))]
 fn expand_op<A: Allocator + Copy, M: Fn(Span) -> Span + Copy>(
     op: &Op<A>,
     bindings: &Bindings<'_, A>,
@@ -73,6 +108,7 @@ fn expand_op<A: Allocator + Copy, M: Fn(Span) -> Span + Copy>(
 ) -> Result<(), AllocError>
     requires marks { MayMark (M.pre marker) }
     requires some_group { 0 < length builder.old }
+    requires plain { IsTrue (spec.writes_plainly_op (op_of op.now)) }
     ensures open_groups { OnOk result (length builder.new ≡ length builder.old) }
     ensures written { OnOk result (Appends (IsWritten (M.post marker) (bound_by bindings.now) (op_of op.now)) builder.old builder.new) }
 {
@@ -87,6 +123,12 @@ fn expand_op<A: Allocator + Copy, M: Fn(Span) -> Span + Copy>(
             Ok(())
         }
         Op::Var { name, id, .. } => write_var(name, *id, bindings, builder),
+        Op::Repeat { .. }
+        | Op::Ignore { .. }
+        | Op::Index { .. }
+        | Op::Len { .. }
+        | Op::Count { .. }
+        | Op::Concat { .. } => unreachable!(),
     }
 }
 

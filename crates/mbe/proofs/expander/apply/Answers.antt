@@ -21,4 +21,4 @@ returns-in_ok-transcribe-in-Some g c = λ carried h.
 pub returns-in-None : goal.returns-in-None
 returns-in-None g c = λ carried h a.
     let no = rw c.in-None.is at c.in_ok-bindings.ensures in
-    no h a.items carried (subst (λ f. IsReading h (template_of c.args.rule.now.lhs) f a.items) (sym c.iter.ensures) a.fits.1.0)
+    no h a.items carried.reads (subst (λ f. IsReading h (template_of c.args.rule.now.lhs) f a.items) (sym c.iter.ensures) a.fits.1.0)

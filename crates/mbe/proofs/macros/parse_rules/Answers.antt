@@ -1,7 +1,6 @@
 use Rattle.std.proofs.Common.{◌≡◌, ◌∙◌, sym, Some, refl, rules}
 use Rattle.mbe_tt.specs.Tree.{none, front_char}
 use Rattle.mbe.specs.Views.{rule_of, rules_seen}
-use Rattle.mbe.proofs.ChoiceLemmas.{carried-push}
 use Rattle.mbe.proofs.RuleReading.{at_fault, at_end, one_more, last_rule, stray_rule, rules-push, rules-push-more}
 use Rattle.mbe.proofs.macros.parse_rules.Goals as goal
 
@@ -17,7 +16,6 @@ rules-preserved g c = record {
   more = λ rs x h. rw (c.in_ok-push-in-Ok.ensures.items, rules-push-more)
       (one_more _ (rules_seen c.rules.rules.items) (rule_of c.in-Ok.rule) c.args.src c.rules.src c.parse.new.src c.expect_char.new.self
       c.rules.invariant.more c.in-Ok.ensures.rule (c.in-Ok-expect_char.ensures.value.0 refl) c.in-Ok-expect_char.ensures.rest rs x h);
-  carried = rw (c.in_ok-push-in-Ok.ensures.items, rules-push) (carried-push (rules_seen c.rules.rules.items) (rule_of c.in-Ok.rule) c.rules.invariant.carried c.in-Ok.ensures.carried);
 }
 
 pub returns-then-is_empty-clause-rules : goal.returns-then-is_empty-clause-rules
@@ -39,11 +37,3 @@ pub returns-clause-rules : goal.returns-clause-rules
 returns-clause-rules g c =
     let empty : c.rules.src ≡ none = search rules in
     at_end _ (rules_seen c.rules.rules.items) c.args.src c.rules.src c.rules.invariant.more empty
-
-pub returns-then-is_empty-clause-carried : goal.returns-then-is_empty-clause-carried
-returns-then-is_empty-clause-carried g c =
-    rw (c.in_ok-push-in-Ok.ensures.items, rules-push) (carried-push (rules_seen c.rules.rules.items) (rule_of c.in-Ok.rule) c.rules.invariant.carried c.in-Ok.ensures.carried)
-
-pub returns-in_default-clause-carried : goal.returns-in_default-clause-carried
-returns-in_default-clause-carried g c =
-    rw (c.in_ok-push-in-Ok.ensures.items, rules-push) (carried-push (rules_seen c.rules.rules.items) (rule_of c.in-Ok.rule) c.rules.invariant.carried c.in-Ok.ensures.carried)

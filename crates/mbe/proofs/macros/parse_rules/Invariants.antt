@@ -4,7 +4,6 @@ use Rattle.mbe.specs.Template.{Fault}
 use Rattle.mbe.specs.Definition.{Rule, Rules}
 use Rattle.mbe.specs.Reader.{semicolon, expected_semicolon}
 use Rattle.mbe.specs.Views.{rules_seen}
-use Rattle.mbe.specs.Answer.{AreCarried}
 use Rattle.mbe.proofs.macros.parse_rules.Given as goal
 
 abbrev pub invariant-rules : goal.invariant-rules
@@ -12,7 +11,6 @@ invariant-rules g l = record {
   more : (rs : List Rule) (fault : Option Fault)
       → Rules (λ ctx e. g.E.Fn.post l.ctx_edition (ctx, tt) e) semicolon expected_semicolon l.src rs fault
       → Rules (λ ctx e. g.E.Fn.post l.ctx_edition (ctx, tt) e) semicolon expected_semicolon l.fn.src (rules_seen l.rules.items ++ rs) fault;
-  carried : AreCarried (rules_seen l.rules.items);
 }
 
 abbrev pub decreases-rules : goal.decreases-rules

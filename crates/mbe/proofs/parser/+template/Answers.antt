@@ -24,7 +24,6 @@ MetaTemplate::parse-trees-preserved g t c =
     record {
       more = λ os h. rw c.in_ok-push.ensures.items (rw (← lemmas.with_front-push l.ops.items o os) (l.invariant.more _ (reads.more os h)));
       fault = λ x h. l.invariant.fault x (reads.fault x h);
-      carried = rw c.in_ok-push.ensures.items (lemmas.plain-push l.ops.items o l.invariant.carried c.in_ok-op.ensures.carried);
       smaller = omega (arith, c.in_ok-op.ensures.shorter);
     }
 
@@ -101,6 +100,3 @@ next_op-returns-in_ok-tokens-in-Subtree-clause-op g t c =
     let at = first_tree c.args.src.now c.next-passed-in-Subtree.new.self _ front c.next-passed-in-Subtree.ensures.rest in
     rw view-subtree (lemmas.reads_group _ (mode_of c.args.mode) c.args.src.now c.in-Subtree.inside c.next-passed-in-Subtree.new.self
     c.in-Subtree.subtree.now.delimiter _ (ap (head (mode_of c.args.mode)) at) c.in_ok-tokens-in-Subtree.ensures.ops)
-
-pub MetaTemplate::parse-returns-clause-carried : goal.MetaTemplate::parse-returns-clause-carried
-MetaTemplate::parse-returns-clause-carried g t c = rw view-template c.trees.invariant.carried

@@ -1,10 +1,8 @@
-use Rattle.std.proofs.Common.{◌≤◌, ◌+◌, ◌*◌, IsTrue}
+use Rattle.std.proofs.Common.{◌≤◌, ◌+◌, ◌*◌}
 use Rattle.mbe_tt.specs.Tree.{flat_len}
 use Rattle.mbe.specs.Op.{Ops}
 use Rattle.mbe.specs.Template.{Fault, Template, TemplateFault}
 use Rattle.mbe.specs.Reader.{mode_of}
-use Rattle.mbe.specs.Views.{ops_of}
-use Rattle.mbe.specs.Matching.{is_plain}
 use Rattle.mbe.proofs.ReaderLemmas.{with_front}
 use Rattle.mbe.proofs.parser.+template.Given as goal
 
@@ -20,7 +18,6 @@ invariant-MetaTemplate::parse-trees g l = record {
       → Template (λ ctx e. g.E.Fn.post l.edition (ctx, tt) e) (mode_of l.mode) l.fn.src (with_front l.ops.items os);
   fault : (f : Fault) → TemplateFault (λ ctx e. g.E.Fn.post l.edition (ctx, tt) e) (mode_of l.mode) f l.src
       → TemplateFault (λ ctx e. g.E.Fn.post l.edition (ctx, tt) e) (mode_of l.mode) f l.fn.src;
-  carried : IsTrue (is_plain (ops_of l.ops.items));
   smaller : flat_len l.src ≤ flat_len l.fn.src;
 }
 

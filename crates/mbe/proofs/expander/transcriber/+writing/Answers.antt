@@ -33,6 +33,7 @@ expand_op-returns-in-Var-clause-written g t c =
 pub expand_ops-loop-op-preserved : goal.expand_ops-loop-op-preserved
 expand_ops-loop-op-preserved g t c = record {
   open_groups = c.in_ok-expand_op.ensures.open_groups ∙ c.loop-op.invariant.open_groups;
+  plain = lemmas.plain_rest c.args.ops.now c.loop-op.op-index c.op-item.result c.loop-op-test.true c.loop-op.invariant.plain;
   written = λ last w. c.loop-op.invariant.written last
       (lemmas.writes_next _ _ c.args.ops.now c.loop-op.op-index c.op-item.result c.loop-op.builder c.expand_op.new.builder last c.loop-op-test.true
       (rw (← c.op-item.is) c.in_ok-expand_op.ensures.written) w);

@@ -1,12 +1,13 @@
-use Rattle.std.proofs.Common.{◌≡◌, length, drop}
+use Rattle.std.proofs.Common.{◌≡◌, length, drop, IsTrue}
 use Rattle.mbe_tt.specs.Building.{Levels}
 use Rattle.mbe.specs.Views.{ops_of, bound_by}
-use Rattle.mbe.specs.Writing.{Appends, AreWritten}
+use Rattle.mbe.specs.Writing.{Appends, AreWritten, writes_plainly}
 use Rattle.mbe.proofs.expander.transcriber.+writing.Given as goal
 
 abbrev pub invariant-expand_ops-loop-op : goal.invariant-expand_ops-loop-op
 invariant-expand_ops-loop-op g l = record {
   open_groups : length l.builder ≡ length l.initial.builder;
+  plain : IsTrue (writes_plainly (ops_of (drop l.op-index l.ops)));
   written : (last : Levels) → Appends (AreWritten (λ s t. g.M.Fn.post l.marker (s, tt) t) (bound_by l.bindings) (ops_of (drop l.op-index l.ops))) l.builder last
       → Appends (AreWritten (λ s t. g.M.Fn.post l.marker (s, tt) t) (bound_by l.bindings) (ops_of l.ops)) l.initial.builder last;
 }

@@ -13,10 +13,10 @@ returns-clause-substitution g c =
     (rw (← c.deref.ensures.value) c.in_ok-expand_ops.ensures.written) c.build.ensures
 
 pub returns-in_err-builder-clause-faultless : goal.returns-in_err-builder-clause-faultless
-returns-in_err-builder-clause-faultless g c = never_faults c.args.bindings.now c.args.template.now
+returns-in_err-builder-clause-faultless g c = never_faults c.args.bindings.now (template_of c.args.template.now) c.requires.plain
 
 pub returns-in_err-expand_ops-clause-faultless : goal.returns-in_err-expand_ops-clause-faultless
-returns-in_err-expand_ops-clause-faultless g c = never_faults c.args.bindings.now c.args.template.now
+returns-in_err-expand_ops-clause-faultless g c = never_faults c.args.bindings.now (template_of c.args.template.now) c.requires.plain
 
 pub returns-clause-faultless : goal.returns-clause-faultless
-returns-clause-faultless g c = never_faults c.args.bindings.now c.args.template.now
+returns-clause-faultless g c = never_faults c.args.bindings.now (template_of c.args.template.now) c.requires.plain
