@@ -400,8 +400,7 @@ impl<'a, A: Allocator> Clone for TtIter<'a, A> {
     ghost is_infallible = { λ _. ⊤ };
 
     fn clone(&self) -> Result<TtIter<'a, A>, AllocError> {
-        Ok(TtIter {
-            entries: self.entries,
-        })
+        let entries = self.entries;
+        Ok(TtIter { entries })
     }
 }
