@@ -308,8 +308,8 @@ impl<'t> Scanner<'t> {
         }
     }
 
-    // Passes a string with its suffix.
-    fn string(&mut self) -> Result<Lexeme<'t>, Fault>
+    // Passes a string, or a char, between two of that quote, with its suffix.
+    fn string(&mut self, quote: char, kind: LitKind) -> Result<Lexeme<'t>, Fault>
         requires { 0 < length self.old.rest.now }
         ensures on { GoesOn self.old self.new }
         ensures past { Advances self.old self.new }
@@ -317,10 +317,54 @@ impl<'t> Scanner<'t> {
     {
         let start = self.offset();
         self.bump();
-        let Some(text) = self.quoted('"') else {
+        let Some(text) = self.quoted(quote) else {
             return Err(Fault { offset: start });
         };
-        self.literal(text, LitKind::Str)
+        self.literal(text, kind)
+    }
+
+    // Whether the `'` that stands here begins a char: behind it stands a `\`, or a character and another `'`. That
+    // character is no `'` and no line feed.
+    fn is_at_char(&self) -> bool {
+        let mut chars = self.rest.chars();
+        let _quote = chars.next();
+        match chars.next() {
+            Some('\\') => true,
+            Some('\'' | '\n') | None => false,
+            Some(_) => chars.next() == Some('\''),
+        }
+    }
+
+    // Passes the `'` of a lifetime, whose identifier is the next token.
+    fn lifetime(&mut self) -> Result<Lexeme<'t>, Fault>
+        requires { 0 < length self.old.rest.now }
+        ensures on { GoesOn self.old self.new }
+        ensures past { Advances self.old self.new }
+        ensures within { IfErr result (λ fault. fault.offset ≤ self.old.total) }
+    {
+        let start = self.offset();
+        self.bump();
+        if !self.rest.starts_with(starts_identifier) {
+            return Err(Fault { offset: start });
+        }
+        Ok(Lexeme::Punct {
+            char: '\'',
+            spacing: Spacing::Joint,
+        })
+    }
+
+    // Passes what begins with the `'` that stands here: a char with its suffix, or the first token of a lifetime.
+    fn quote(&mut self) -> Result<Lexeme<'t>, Fault>
+        requires { 0 < length self.old.rest.now }
+        ensures on { GoesOn self.old self.new }
+        ensures past { Advances self.old self.new }
+        ensures within { IfErr result (λ fault. fault.offset ≤ self.old.total) }
+    {
+        if self.is_at_char() {
+            self.string('\'', LitKind::Char)
+        } else {
+            self.lifetime()
+        }
     }
 
     // Passes a `.` and the digits behind it, where that is no range and no field.
@@ -380,19 +424,15 @@ impl<'t> Scanner<'t> {
         }
     }
 
-    // Passes a number with its suffix. Floats aren't lexed yet.
+    // Passes a number with its suffix.
     fn number(&mut self) -> Result<Lexeme<'t>, Fault>
         requires { 0 < length self.old.rest.now }
         ensures on { GoesOn self.old self.new }
         ensures past { Advances self.old self.new }
         ensures within { IfErr result (λ fault. fault.offset ≤ self.old.total) }
     {
-        let start = self.offset();
         let text = self.rest;
         let kind = self.digits();
-        if kind == LitKind::Float {
-            return Err(Fault { offset: start });
-        }
         let digits = self.since(text);
         self.literal(digits, kind)
     }
@@ -407,8 +447,7 @@ impl<'t> Scanner<'t> {
         }
     }
 
-    // Passes a punct, or one side of a group. Another character is a fault, a `'` too: chars and lifetimes aren't lexed
-    // yet.
+    // Passes a punct, or one side of a group. Another character is a fault.
     fn sign(&mut self) -> Result<Lexeme<'t>, Fault>
         requires { 0 < length self.old.rest.now }
         ensures on { GoesOn self.old self.new }
@@ -450,7 +489,9 @@ impl<'t> Scanner<'t> {
         } else if char.is_ascii_digit() {
             self.number()?
         } else if char == '"' {
-            self.string()?
+            self.string('"', LitKind::Str)?
+        } else if char == '\'' {
+            self.quote()?
         } else {
             self.sign()?
         };

@@ -1,15 +1,14 @@
 // What no clause says: printed text, whole runs, and what is done where memory or a write fails.
 ghost use Rattle.std.specs.Prelude.{◌<◌};
 
+mod lexing;
+
 use crate::arguments::options;
-use crate::lexer::{LexError, lex};
-use crate::printing::print_tree;
 use crate::program::{Outcome, run};
 use crate::reports::Report;
 use crate::settings::Options;
 use crate::started;
 use mbe_tt::span::Edition;
-use mbe_tt::tt::{Leaf, TopSubtree, TtElement};
 use refusing::Refusing;
 use std::alloc::Global;
 use std::io;
@@ -236,184 +235,6 @@ fn words_name_files_and_an_edition(rt: HostRuntime) -> Result<(), Fail> {
         });
         assert!(rt; options(words.as_slice()) == want, "{text}");
     }
-    Ok(())
-}
-
-// The trees of a text that isn't long.
-fn trees(rt: &impl Abort, alloc: Global, text: &str) -> Result<TopSubtree, LexError> {
-    assert!(rt; text.len() < 1_000_000);
-    lex(alloc, text, 0)
-}
-
-#[test]
-fn texts_that_are_not_lexed(rt: HostRuntime) -> Result<(), Fail> {
-    for (text, want) in [
-        ("\"abc", 0),
-        ("a \"b\\\"", 2),
-        ("a /* /* */", 2),
-        ("/*/", 0),
-        (")", 0),
-        ("(]", 1),
-        ("{ ( }", 4),
-        ("a `", 2),
-        ("é }", 3),
-        ("a\u{a0}b", 1),
-        ("'a'", 0),
-        ("a 'b", 2),
-        ("1.0", 0),
-        ("x 1.", 2),
-        ("x 1.0.0", 2),
-        ("1e5", 0),
-        ("(2E+3)", 1),
-        ("1_e-3f32", 0),
-        ("a\"b\"", 0),
-        ("x r#a\"b\"", 2),
-        ("1 r\"a\"", 2),
-        ("r#\"a\"#", 0),
-        ("x br##\"a\"##", 2),
-        ("cr#\"", 0),
-        ("b'a'", 0),
-        ("1u8\"a\"", 1),
-    ] {
-        match trees(&rt, rt.alloc(), text) {
-            Err(LexError::Fault(offset)) => assert_eq!(rt; offset, want, "{text}"),
-            _ => return Err(Fail::from("lexed")),
-        }
-    }
-    Ok(())
-}
-
-// What a text is lexed to, as it is printed.
-fn lexed(rt: &impl Abort, alloc: Global, text: &str) -> Result<String, Fail> {
-    let Ok(tree) = trees(rt, alloc, text) else {
-        return Err(Fail::from("not lexed"));
-    };
-    let mut out = Vec::new(alloc);
-    print_tree(&tree, &mut out)?;
-    Ok(String::from_utf8(out)?)
-}
-
-#[test]
-fn tokens_of_each_kind(rt: HostRuntime) -> Result<(), Fail> {
-    for (text, want) in [
-        (
-            "1..2",
-            "SUBTREE $$ 0@0..4 0@0..4
-  LITERAL Integer 1 0@0..1
-  PUNCH   . [joint] 0@1..2
-  PUNCH   . [alone] 0@2..3
-  LITERAL Integer 2 0@3..4
-",
-        ),
-        (
-            "0xFFu8 0b12 1.f \"a\"b2",
-            "SUBTREE $$ 0@0..21 0@0..21
-  LITERAL Integer 0xFFu8 0@0..6
-  LITERAL Integer 0b12 0@7..11
-  LITERAL Integer 1 0@12..13
-  PUNCH   . [alone] 0@13..14
-  IDENT   f 0@14..15
-  LITERAL Str ab2 0@16..21
-",
-        ),
-        (
-            "+/**/+//a\n-- =",
-            "SUBTREE $$ 0@0..14 0@0..14
-  PUNCH   + [alone] 0@0..1
-  PUNCH   + [alone] 0@5..6
-  PUNCH   - [joint] 0@10..11
-  PUNCH   - [alone] 0@11..12
-  PUNCH   = [alone] 0@13..14
-",
-        ),
-        (
-            "r#é r#1 _a1",
-            "SUBTREE $$ 0@0..12 0@0..12
-  IDENT   r#é 0@0..4
-  IDENT   r 0@5..6
-  PUNCH   # [alone] 0@6..7
-  LITERAL Integer 1 0@7..8
-  IDENT   _a1 0@9..12
-",
-        ),
-        (
-            "\"a\\\"\\\\\" [ ( {",
-            "SUBTREE $$ 0@0..13 0@0..13
-  LITERAL Str a\\\"\\\\ 0@0..7
-  SUBTREE [] 0@8..9 0@13..13
-    SUBTREE () 0@10..11 0@13..13
-      SUBTREE {} 0@12..13 0@13..13
-",
-        ),
-    ] {
-        let output = lexed(&rt, rt.alloc(), text)?;
-        assert_eq!(rt; output.as_str(), want, "{text}");
-    }
-    Ok(())
-}
-
-#[test]
-fn each_punct_is_one(rt: HostRuntime) -> Result<(), Fail> {
-    let text = "=<>!&|~@.,;:#$?+-*/%^";
-    let mut want = String::from_str(rt.alloc(), "SUBTREE $$ 0@0..21 0@0..21\n")?;
-    for (start, char) in text.chars().enumerate() {
-        let spacing = if char == '^' { "alone" } else { "joint" };
-        let end = start.saturating_add(1);
-        write!(want, "  PUNCH   {char} [{spacing}] 0@{start}..{end}\n")?;
-    }
-    let output = lexed(&rt, rt.alloc(), text)?;
-    assert_eq!(rt; output.as_str(), want.as_str());
-    Ok(())
-}
-
-// The text and the suffix of the literal that a text begins with.
-fn assert_suffix(
-    rt: &impl Abort,
-    alloc: Global,
-    source: &str,
-    text: &str,
-    suffix: &str,
-) -> Result<(), Fail> {
-    let Ok(tree) = trees(rt, alloc, source) else {
-        return Err(Fail::from("not lexed"));
-    };
-    let Some(TtElement::Leaf(Leaf::Literal(literal))) = tree.iter().peek() else {
-        return Err(Fail::from("no literal"));
-    };
-    let (front, back) = literal.text_and_suffix();
-    assert_eq!(rt; front, text, "{source}");
-    assert_eq!(rt; back, suffix, "{source}");
-    Ok(())
-}
-
-#[test]
-fn suffixes_of_literals(rt: HostRuntime) -> Result<(), Fail> {
-    for (source, text, suffix) in [
-        ("12", "12", ""),
-        ("0xfu8", "0xf", "u8"),
-        ("0x", "0x", ""),
-        ("0xg", "0x", "g"),
-        ("0o78i", "0o78", "i"),
-        ("0b1e3", "0b1", "e3"),
-        ("1_é", "1_", "é"),
-        ("1e", "1", "e"),
-        ("1e+x", "1", "e"),
-        ("1E_5", "1", "E_5"),
-        ("\"a\"_b c", "a", "_b"),
-        ("\"a\" b", "a", ""),
-    ] {
-        assert_suffix(&rt, rt.alloc(), source, text, suffix)?;
-    }
-    Ok(())
-}
-
-#[test]
-fn suffix_of_at_most_255_bytes(rt: HostRuntime) -> Result<(), Fail> {
-    let longest = "a".repeat(rt.alloc(), 255)?;
-    let source = format!(in rt.alloc(); "1{longest}")?;
-    assert_suffix(&rt, rt.alloc(), source.as_str(), "1", longest.as_str())?;
-    let source = format!(in rt.alloc(); "( 1{longest}b )")?;
-    assert!(rt; trees(&rt, rt.alloc(), source.as_str()).is_err_and(|e| e == LexError::Fault(3)));
     Ok(())
 }
 
