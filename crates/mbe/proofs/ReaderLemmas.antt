@@ -93,7 +93,7 @@ module _ (Answers : SyntaxContext → Edition → Type 0) (mode : Mode) where
 
 -- ---- what stands behind a variable's name
 
-some_if : (b : Bool) (i s : Ident) → (if b then None else Some i) ≡ Some s → (b ≡ false) × (i ≡ s)
+pub some_if : (b : Bool) (i s : Ident) → (if b then None else Some i) ≡ Some s → (b ≡ false) × (i ≡ s)
 some_if true i s e = absurd (none-some s e)
 some_if false i s e = (refl, same_Some i s e)
 

@@ -28,12 +28,18 @@ fault_of told.TheVariants.ExpectedRepetition = Some (expected (codes "expected `
 fault_of told.TheVariants.ExpressionInPattern = Some (unexpected_token (codes "`${}` metavariable expressions are not allowed in matchers"))
 fault_of told.TheVariants.DollarInPattern = Some (unexpected_token (codes "`$$` is not allowed on the pattern side"))
 fault_of told.TheVariants.MissingSpecifier = Some (unexpected_token (codes "missing fragment specifier"))
+fault_of told.TheVariants.InvalidExpression = Some (unexpected_token (codes "invalid metavariable expression"))
 fault_of told.TheVariants.NotCarried = None
 
 -- why reading stopped: want of memory, what isn't carried yet, or a fault of which P holds
 abbrev pub Stops : read.ReadError → (Fault → Type 0) → Type 0
 Stops read.TheVariants.Memory P = Unit {0}
 Stops (read.TheVariants.Fault f) P = IfSome (fault_of f) P
+
+-- why no metavariable expression was read: want of memory, or there is none
+abbrev pub NotExpression : {T : Type 0} → read.ReadError → Option T → Type 0
+NotExpression read.TheVariants.Memory e = Unit {0}
+NotExpression (read.TheVariants.Fault f) e = (f ≡ told.TheVariants.InvalidExpression) × (e ≡ None)
 
 -- the specifier means this kind in each edition
 pub record IsUndated (specifier : Ident) (kind : Option MetaVarKind) : Type 0 where

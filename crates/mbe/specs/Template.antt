@@ -133,16 +133,26 @@ abbrev mutual
 abbrev pub if_two : Span → List Element → Option Expression
 if_two span elements = if nat_le 2 (length elements) then Some (ops.concat elements span) else None
 
+-- the arguments of `ignore`: `$x`
+abbrev pub ignore_of : Forest → Option Expression
+ignore_of f = option_and_then (λ x. if_end x.1 (ops.ignore (x.0).sym (x.0).span)) (dollar_name f)
+
+-- the arguments of `count`: `$x` or `$x, d`
+abbrev pub count_of : Forest → Option Expression
+count_of f = option_and_then (λ x. option_map (ops.count (x.0).sym) (depth_behind_comma x.1)) (dollar_name f)
+
+-- the arguments of `concat`, which stands at that span
+abbrev pub concat_of : Span → Forest → Option Expression
+concat_of span f = option_and_then (if_two span) (elements_of f)
+
 -- `ignore($x)`, `count($x, d)`, `index(d)`, `len(d)` and `concat(e, ..)`
 abbrev pub arguments_of : Ident → Forest → Option Expression
 arguments_of word inside =
-    if is_text word.sym (codes "ignore") then
-    option_and_then (λ x. if_end x.1 (ops.ignore (x.0).sym (x.0).span)) (dollar_name inside)
-    else if is_text word.sym (codes "count") then
-    option_and_then (λ x. option_map (ops.count (x.0).sym) (depth_behind_comma x.1)) (dollar_name inside)
+    if is_text word.sym (codes "ignore") then ignore_of inside
+    else if is_text word.sym (codes "count") then count_of inside
     else if is_text word.sym (codes "index") then option_map ops.index (depth_of inside)
     else if is_text word.sym (codes "len") then option_map ops.len (depth_of inside)
-    else if is_text word.sym (codes "concat") then option_and_then (if_two word.span) (elements_of inside)
+    else if is_text word.sym (codes "concat") then concat_of word.span inside
     else None
 
 -- what stands between the braces of `${..}`; what follows the arguments isn't looked at

@@ -68,6 +68,7 @@ pub(crate) enum Fault {
     ExpressionInPattern,
     DollarInPattern,
     MissingSpecifier,
+    InvalidExpression,
     NotCarried,
 }
 
@@ -174,6 +175,9 @@ impl<A: Allocator + Copy> ParseError<A> {
                 ParseError::unexpected(alloc, "`$$` is not allowed on the pattern side")
             }
             Fault::MissingSpecifier => ParseError::unexpected(alloc, "missing fragment specifier"),
+            Fault::InvalidExpression => {
+                ParseError::unexpected(alloc, "invalid metavariable expression")
+            }
             Fault::NotCarried => ParseError::unexpected(alloc, "not carried yet"),
         }
     }
