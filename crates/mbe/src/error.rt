@@ -68,6 +68,7 @@ pub(crate) enum Fault {
     ExpressionInPattern,
     DollarInPattern,
     MissingSpecifier,
+    InvalidRepeat,
     NotCarried,
 }
 
@@ -174,6 +175,7 @@ impl<A: Allocator + Copy> ParseError<A> {
                 ParseError::unexpected(alloc, "`$$` is not allowed on the pattern side")
             }
             Fault::MissingSpecifier => ParseError::unexpected(alloc, "missing fragment specifier"),
+            Fault::InvalidRepeat => Ok(ParseError::InvalidRepeat),
             Fault::NotCarried => ParseError::unexpected(alloc, "not carried yet"),
         }
     }
