@@ -1,11 +1,11 @@
 -- What one op of a pattern or a template says of all its trees, and which specifiers are unknown.
-use Rattle.std.specs.Prelude.{◌≡◌, ◌≤◌, ◌<◌, ◌+◌, ℕ, zero, suc, Bool, true, false, if◌then◌else◌, List, [], ◌∷◌, ◌++◌, length, take, codes, Option, Some, None, Result, Ok, Err, IfOk, IfErr, IfSome, OnOk, refl, ◌&&◌, ◌==◌, not}
+use Rattle.std.specs.Prelude.{◌≡◌, ◌≤◌, ◌<◌, ◌+◌, ℕ, zero, suc, Bool, true, false, if◌then◌else◌, List, [], ◌∷◌, ◌++◌, length, take, codes, Option, Some, None, Result, Ok, Err, IfOk, IfErr, IfSome, OnOk, IsTrue, IsFalse, refl, ◌&&◌, ◌==◌, not}
 use Rattle.std.proofs.Common.{ap, sym, ◌∙◌, subst, arith}
 use Rattle.std.proofs.lemmas.Option.{none-some, same_Some}
 use Rattle.std.proofs.lemmas.Bool.{eq-eqb, ne_eqb}
 use Rattle.std.specs.Str.{bytes_eq}
 use Rattle.std.proofs.lemmas.Slice.Eq.{bytes_eq-Decides}
-use Rattle.mbe_tt.specs.Leaf.{Leaf, Ident, literal, punct, ident, is_underscore}
+use Rattle.mbe_tt.specs.Leaf.{Leaf, Ident, literal, punct, ident, is_text, is_underscore}
 use Rattle.mbe_tt.specs.Tree.{Forest, none, leaf, group, rest_of, front_char, front_ident, skip, flat_len}
 use Rattle.mbe_tt.specs.Glue.{glue, glued, joined, if_joint, is_operator, chars_of}
 use Rattle.mbe_tt.specs.declared.span.SyntaxContext.{SyntaxContext}
@@ -13,13 +13,14 @@ use Rattle.mbe_tt.specs.declared.span.Edition.{Edition}
 use Rattle.mbe_tt.specs.declared.tt.Punct.{Punct}
 use Rattle.mbe_tt.specs.declared.span.Span.{Span}
 use Rattle.mbe_tt.specs.declared.tt.Delimiter.{Delimiter}
+use Rattle.mbe_tt.specs.declared.tt.DelimiterKind.{DelimiterKind}
 use Rattle.mbe.specs.declared.parser.MetaVarKind.{MetaVarKind}
 use Rattle.mbe.specs.Op as ops
-use Rattle.mbe.specs.Op.{Name, Op, Ops, op, no_ops}
-use Rattle.mbe.specs.Template.{Mode, Fault, Head, ended, one, typed, opens_group, opens_repetition, head, behind_dollar, puncts_at, kind_named, kind_names, missing_specifier, specifier_at, variable_at, Specifies, undated, Template, token, variable, grouped, TemplateFault, here as at_front, in_group, behind_token, behind_variable, behind_group}
-use Rattle.mbe.specs.Reader.{AtHead, IsUndated, ReadsOp, Stops, mode_of, fault_of}
+use Rattle.mbe.specs.Op.{Name, Op, Ops, op, no_ops, Separator}
+use Rattle.mbe.specs.declared.parser.RepeatKind.{RepeatKind}
+use Rattle.mbe.specs.Template.{Mode, pattern, Fault, Head, ended, one, typed, opens_group, opens_repetition, head, behind_dollar, group_behind_dollar, puncts_at, kind_named, kind_names, missing_specifier, specifier_at, variable_at, pat_kind, expr_kind, Specifies, dated_pat, dated_expr, undated, Template, token, variable, grouped, repeated, TemplateFault, here as at_front, in_group, in_repetition, behind_token, behind_variable, behind_group, behind_repetition}
+use Rattle.mbe.specs.Reader.{AtHead, FaultAtHead, ReadsOp, Stops, fault_of}
 use Rattle.mbe.specs.declared.error.ReadError as why
-use Rattle.mbe.specs.declared.parser.Mode as mode
 use Rattle.mbe.specs.Views.{op_of, ops_of}
 use Rattle.mbe.specs.declared.parser.Op as code
 use Rattle.mbe.proofs.Fragments.{rest_no_longer, back-skip}
@@ -44,13 +45,31 @@ pub kind_named-none : (rows : List (List ℕ × MetaVarKind)) (name : List ℕ) 
 kind_named-none [] name n = refl
 kind_named-none (row ∷ rows) name n = rw (different row.0 name n.0) (kind_named-none rows name n.1)
 
-pub unknown : (specifier : Ident) → (specifier.sym ≡ codes "pat" → ⊥) → (specifier.sym ≡ codes "expr" → ⊥) → IsNoneOf kind_names specifier.sym
-    → IsUndated specifier None
-unknown specifier p x n = record {
-  no_pat = different specifier.sym (codes "pat") (λ e. p (sym e));
-  no_expr = different specifier.sym (codes "expr") (λ e. x (sym e));
-  named = kind_named-none kind_names specifier.sym n;
-}
+module _ (Answers : SyntaxContext → Edition → Type 0) where
+  pub unknown : (specifier : Ident) → (specifier.sym ≡ codes "pat" → ⊥) → (specifier.sym ≡ codes "expr" → ⊥) → IsNoneOf kind_names specifier.sym
+      → Specifies Answers specifier None
+  unknown specifier p x n =
+      subst (Specifies Answers specifier) (sym (kind_named-none kind_names specifier.sym n))
+      (undated (different specifier.sym (codes "pat") (λ e. p (sym e))) (different specifier.sym (codes "expr") (λ e. x (sym e))))
+
+  -- a name that means its kind in each edition
+  pub known : (specifier : Ident) (name : List ℕ) (kind : Option MetaVarKind) → specifier.sym ≡ name → IsFalse (is_text name (codes "pat"))
+      → IsFalse (is_text name (codes "expr")) → kind_named kind_names name ≡ kind → Specifies Answers specifier kind
+  known specifier name kind e p x k =
+      subst (Specifies Answers specifier) (ap (kind_named kind_names) e ∙ k)
+      (undated (ap (λ t. is_text t (codes "pat")) e ∙ p) (ap (λ t. is_text t (codes "expr")) e ∙ x))
+
+  same_text : (a b : List ℕ) → a ≡ b → IsTrue (is_text a b)
+  same_text a b e = (bytes_eq-Decides a b).1 e
+
+  -- `pat` and `expr`, in the edition of the specifier's span
+  pub pat_dated : (specifier : Ident) (kind : MetaVarKind) → specifier.sym ≡ codes "pat"
+      → ((e : Edition) × Answers specifier.span.ctx e × (kind ≡ pat_kind e)) → Specifies Answers specifier (Some kind)
+  pat_dated s kind t a = subst (λ k. Specifies Answers s (Some k)) (sym a.2) (dated_pat a.0 (same_text s.sym (codes "pat") t) a.1)
+
+  pub expr_dated : (specifier : Ident) (kind : MetaVarKind) → specifier.sym ≡ codes "expr"
+      → ((e : Edition) × Answers specifier.span.ctx e × (kind ≡ expr_kind e)) → Specifies Answers specifier (Some kind)
+  expr_dated s kind t a = subst (λ k. Specifies Answers s (Some k)) (sym a.2) (dated_expr a.0 (same_text s.sym (codes "expr") t) a.1)
 
 -- ---- heads
 
@@ -64,26 +83,13 @@ module _ (Answers : SyntaxContext → Edition → Type 0) (mode : Mode) where
         fault = λ x t. behind_token f left p h t;
       }
 
-  reads_typed : (f rest left : Forest) (name : Name) (span : Span) (s : Ident) (kind : Option MetaVarKind) (p : Op)
-      → head mode f ≡ Ok (typed name span s rest) → IsUndated s kind → ops.variable name kind span ≡ p → rest ≡ left → ReadsOp Answers mode f p left
-  reads_typed f rest left name span s kind p e u same behind =
-      let h : head mode f ≡ Ok (typed name span s left) = e ∙ ap (λ (x : Forest). let r : Result Head Fault = Ok (typed name span s x) in r) behind in
-      let specifies : Specifies Answers s kind = subst (Specifies Answers s) (sym u.named) (undated u.no_pat u.no_expr) in
-      record {
-        more = λ os t. subst (λ (q : Op). Template Answers mode f (op q os)) same (variable f left name span s kind os h specifies t);
-        fault = λ x t. behind_variable f left name span s h t;
-      }
+  reads_typed : (f left : Forest) (name : Name) (span : Span) (s : Ident) (kind : Option MetaVarKind)
+      → head mode f ≡ Ok (typed name span s left) → Specifies Answers s kind → ReadsOp Answers mode f (ops.variable name kind span) left
+  reads_typed f left name span s kind e specifies = record {
+    more = λ os t. variable f left name span s kind os e specifies t;
+    fault = λ x t. behind_variable f left name span s e t;
+  }
 
-  -- what stands at the front is read first
-  pub reads_head : (f left : Forest) (p : Op) (h : Result Head Fault) → head mode f ≡ h → AtHead h p left → ReadsOp Answers mode f p left
-  reads_head f left p (Ok (one o rest)) e at = reads_one f rest left o p e at.0 at.1
-  reads_head f left p (Ok (typed name span s rest)) e at = reads_typed f rest left name span s at.0 p e at.1 at.2 at.3
-  reads_head f left p (Ok ended) e at = absurd at
-  reads_head f left p (Ok (opens_group d inside rest)) e at = absurd at
-  reads_head f left p (Ok (opens_repetition s repeat inside rest)) e at = absurd at
-  reads_head f left p (Err x) e at = absurd at
-
-  -- a group is read with its content
   pub reads_group : (f inside left : Forest) (d : Delimiter) (body : Ops) → head mode f ≡ Ok (opens_group d inside left)
       → Template Answers mode inside body → ReadsOp Answers mode f (ops.group d body) left
   reads_group f inside left d body e b = record {
@@ -91,31 +97,67 @@ module _ (Answers : SyntaxContext → Edition → Type 0) (mode : Mode) where
     fault = λ x t. behind_group f inside left d body e b t;
   }
 
+  reads_repetition : (f inside left : Forest) (s : Option Separator) (repeat : RepeatKind) (body : Ops)
+      → head mode f ≡ Ok (opens_repetition s repeat inside left) → Template Answers mode inside body → ReadsOp Answers mode f (ops.repetition body s repeat) left
+  reads_repetition f inside left s repeat body e b = record {
+    more = λ os t. repeated f inside left s repeat body os e b t;
+    fault = λ x t. behind_repetition f inside left s repeat body e b t;
+  }
+
+  seen_as : (f left : Forest) (o p : Op) → o ≡ p → ReadsOp Answers mode f o left → ReadsOp Answers mode f p left
+  seen_as f left o p same r = subst (λ (q : Op). ReadsOp Answers mode f q left) same r
+
+  -- what stands at the front is read first
+  pub reads_head : (f left : Forest) (p : Op) (h : Result Head Fault) → head mode f ≡ h → AtHead Answers mode h p left → ReadsOp Answers mode f p left
+  reads_head f left p (Ok (one o rest)) e at = reads_one f rest left o p e at.0 at.1
+  reads_head f left p (Ok (typed name span s rest)) e at =
+      seen_as f left _ p at.2 (reads_typed f left name span s at.0 (e ∙ ap (λ (x : Forest). let r : Result Head Fault = Ok (typed name span s x) in r) at.3) at.1)
+  reads_head f left p (Ok (opens_group d inside rest)) e at =
+      seen_as f left _ p at.2 (reads_group f inside left d at.0 (e ∙ ap (λ (x : Forest). let r : Result Head Fault = Ok (opens_group d inside x) in r) at.3) at.1)
+  reads_head f left p (Ok (opens_repetition s repeat inside rest)) e at =
+      seen_as f left _ p at.2 (reads_repetition f inside left s repeat at.0 (e ∙ ap (λ (x : Forest). let r : Result Head Fault = Ok (opens_repetition s repeat inside x) in r) at.3) at.1)
+  reads_head f left p (Ok ended) e at = absurd at
+  reads_head f left p (Err x) e at = absurd at
+
+  -- the fault of what stands at the front is the first of all
+  pub fault_head : (f : Forest) (x : Fault) (h : Result Head Fault) → head mode f ≡ h → FaultAtHead Answers mode h x → TemplateFault Answers mode x f
+  fault_head f x (Err y) e at = at_front f (e ∙ ap (λ (z : Fault). let r : Result Head Fault = Err z in r) at)
+  fault_head f x (Ok (opens_group d inside rest)) e at = in_group f inside rest d e at
+  fault_head f x (Ok (opens_repetition s repeat inside rest)) e at = in_repetition f inside rest s repeat e at
+  fault_head f x (Ok (one o rest)) e at = absurd at
+  fault_head f x (Ok (typed name span s rest)) e at = absurd at
+  fault_head f x (Ok ended) e at = absurd at
+
+  -- a fault at the front is that of the whole
+  pub err_head : (x : Fault) (h : Result Head Fault) → h ≡ Err x → FaultAtHead Answers mode h x
+  err_head x h e = subst (λ (r : Result Head Fault). FaultAtHead Answers mode r x) (sym e) refl
+
 -- ---- what stands behind a variable's name
 
 pub some_if : (b : Bool) (i s : Ident) → (if b then None else Some i) ≡ Some s → (b ≡ false) × (i ≡ s)
 some_if true i s e = absurd (none-some s e)
 some_if false i s e = (refl, same_Some i s e)
 
-typed_if : (b c : Bool) (name : Name) (span : Span) (s : Ident) (kind : Option MetaVarKind) (rest left : Forest) → b ≡ true → c ≡ false
-    → IsUndated s kind → left ≡ rest → AtHead (if b && not c then Ok (typed name span s rest) else missing_specifier) (ops.variable name kind span) left
-typed_if b c name span s kind rest left e n u l = rw (e, n) (kind, u, refl, sym l)
+module _ (Answers : SyntaxContext → Edition → Type 0) (mode : Mode) where
+  typed_if : (b c : Bool) (name : Name) (span : Span) (s : Ident) (kind : Option MetaVarKind) (rest left : Forest) → b ≡ true → c ≡ false
+      → Specifies Answers s kind → left ≡ rest → AtHead Answers mode (if b && not c then Ok (typed name span s rest) else missing_specifier) (ops.variable name kind span) left
+  typed_if b c name span s kind rest left e n u l = rw (e, n) (kind, u, refl, sym l)
 
--- `:` and a specifier
-pub specifier_in_front : (f left : Forest) (s : Ident) (kind : Option MetaVarKind) → front_char f ≡ Some 58 → Some s ≡ front_ident (rest_of f)
-    → left ≡ rest_of (rest_of f) → IsUndated s kind → (name : Name) (span : Span) → AtHead (specifier_at name span f) (ops.variable name kind span) left
-specifier_in_front none left s kind q e l u name span = absurd (none-some 58 q)
-specifier_in_front (leaf (literal k) rest) left s kind q e l u name span = absurd (none-some 58 q)
-specifier_in_front (leaf (ident i) rest) left s kind q e l u name span = absurd (none-some 58 q)
-specifier_in_front (group d inside rest) left s kind q e l u name span = absurd (none-some 58 q)
-specifier_in_front (leaf (punct p) none) left s kind q e l u name span = absurd (none-some s (sym e))
-specifier_in_front (leaf (punct p) (leaf (literal k) rest)) left s kind q e l u name span = absurd (none-some s (sym e))
-specifier_in_front (leaf (punct p) (leaf (punct o) rest)) left s kind q e l u name span = absurd (none-some s (sym e))
-specifier_in_front (leaf (punct p) (group d inside rest)) left s kind q e l u name span = absurd (none-some s (sym e))
-specifier_in_front (leaf (punct p) (leaf (ident i) rest)) left s kind q e l u name span =
-    let named = some_if (is_underscore i.sym) i s (sym e) in
-    subst (λ (j : Ident). AtHead (if (p.char == 58) && not (is_underscore i.sym) then Ok (typed name span j rest) else missing_specifier) (ops.variable name kind span) left)
-    (sym named.1) (typed_if (p.char == 58) (is_underscore i.sym) name span s kind rest left (eq-eqb p.char 58 (same_Some p.char 58 q)) named.0 u l)
+  -- `:` and a specifier
+  pub specifier_in_front : (f left : Forest) (s : Ident) (kind : Option MetaVarKind) → front_char f ≡ Some 58 → Some s ≡ front_ident (rest_of f)
+      → left ≡ rest_of (rest_of f) → Specifies Answers s kind → (name : Name) (span : Span) → AtHead Answers mode (specifier_at name span f) (ops.variable name kind span) left
+  specifier_in_front none left s kind q e l u name span = absurd (none-some 58 q)
+  specifier_in_front (leaf (literal k) rest) left s kind q e l u name span = absurd (none-some 58 q)
+  specifier_in_front (leaf (ident i) rest) left s kind q e l u name span = absurd (none-some 58 q)
+  specifier_in_front (group d inside rest) left s kind q e l u name span = absurd (none-some 58 q)
+  specifier_in_front (leaf (punct p) none) left s kind q e l u name span = absurd (none-some s (sym e))
+  specifier_in_front (leaf (punct p) (leaf (literal k) rest)) left s kind q e l u name span = absurd (none-some s (sym e))
+  specifier_in_front (leaf (punct p) (leaf (punct o) rest)) left s kind q e l u name span = absurd (none-some s (sym e))
+  specifier_in_front (leaf (punct p) (group d inside rest)) left s kind q e l u name span = absurd (none-some s (sym e))
+  specifier_in_front (leaf (punct p) (leaf (ident i) rest)) left s kind q e l u name span =
+      let named = some_if (is_underscore i.sym) i s (sym e) in
+      subst (λ (j : Ident). AtHead Answers mode (if (p.char == 58) && not (is_underscore i.sym) then Ok (typed name span j rest) else missing_specifier) (ops.variable name kind span) left)
+      (sym named.1) (typed_if (p.char == 58) (is_underscore i.sym) name span s kind rest left (eq-eqb p.char 58 (same_Some p.char 58 q)) named.0 u l)
 
 -- ---- ops that were read before
 
@@ -131,12 +173,6 @@ pub with_front-all : {A : Type 0} (before : List (code.Op A)) → with_front bef
 with_front-all [] = refl
 with_front-all (p ∷ before) = ap (op (op_of p)) (with_front-all before)
 
-pub kind_in_front : {E : Type 0} (r : Result (Option MetaVarKind) E) (m : mode.Mode) (f left : Forest) (s : Ident) → m ≡ mode.TheVariants.Pattern
-    → front_char f ≡ Some 58 → Some s ≡ front_ident (rest_of f) → left ≡ rest_of (rest_of f) → IfOk r (IsUndated s)
-    → IfOk r (λ kind. (name : Name) (span : Span) → AtHead (variable_at (mode_of m) name span f) (ops.variable name kind span) left)
-kind_in_front (Err e) m f left s p q n l u = tt
-kind_in_front (Ok kind) m f left s p q n l u = λ name span. rw p (specifier_in_front f left s kind q n l u name span)
-
 -- ---- answers and faults, carried from the trees behind the front to all trees
 
 pub IfSome-weaker : {X : Type 0} (o : Option X) (P Q : X → Type 0) → ((x : X) → P x → Q x) → IfSome o P → IfSome o Q
@@ -151,17 +187,23 @@ pub stopped : {T : Type 0} (r : Result T why.ReadError) (P Q : Fault → Type 0)
 stopped (Ok x) P Q h p = tt
 stopped (Err e) P Q h p = Stops-weaker e P Q h p
 
--- a leaf behind a `$`
-pub leaf_op : {A E : Type 0} (r : Result (code.Op A) E) (m : Mode) (p : Punct) (f left new : Forest) (l : Leaf) → f ≡ leaf l left
-    → IfOk r (λ o. (d : Punct) → AtHead (behind_dollar m d (leaf l left)) (op_of o) new) → IfOk r (λ o. AtHead (behind_dollar m p f) (op_of o) new)
-leaf_op (Err e) m p f left new l here h = tt
-leaf_op (Ok o) m p f left new l here h = subst (λ (g : Forest). AtHead (behind_dollar m p g) (op_of o) new) (sym here) (h p)
+module _ (Answers : SyntaxContext → Edition → Type 0) (m : Mode) where
+  -- a leaf behind a `$`
+  pub leaf_op : {A E : Type 0} (r : Result (code.Op A) E) (p : Punct) (f left new : Forest) (l : Leaf) → f ≡ leaf l left
+      → IfOk r (λ o. (d : Punct) → AtHead Answers m (behind_dollar m d (leaf l left)) (op_of o) new) → IfOk r (λ o. AtHead Answers m (behind_dollar m p f) (op_of o) new)
+  leaf_op (Err e) p f left new l here h = tt
+  leaf_op (Ok o) p f left new l here h = subst (λ (g : Forest). AtHead Answers m (behind_dollar m p g) (op_of o) new) (sym here) (h p)
 
-pub leaf_fault : {T : Type 0} (r : Result T why.ReadError) (m : Mode) (p : Punct) (f left : Forest) (l : Leaf) → f ≡ leaf l left
-    → IfErr r (λ e. Stops e (λ x. (d : Punct) → behind_dollar m d (leaf l left) ≡ Err x)) → IfErr r (λ e. Stops e (λ x. behind_dollar m p f ≡ Err x))
-leaf_fault r m p f left l here h =
-    stopped r (λ x. (d : Punct) → behind_dollar m d (leaf l left) ≡ Err x) (λ x. behind_dollar m p f ≡ Err x)
-    (λ x k. ap (behind_dollar m p) here ∙ k p) h
+  pub leaf_fault : {T : Type 0} (r : Result T why.ReadError) (p : Punct) (f left : Forest) (l : Leaf) → f ≡ leaf l left
+      → IfErr r (λ e. Stops e (λ x. (d : Punct) → behind_dollar m d (leaf l left) ≡ Err x)) → IfErr r (λ e. Stops e (FaultAtHead Answers m (behind_dollar m p f)))
+  leaf_fault r p f left l here h =
+      stopped r (λ x. (d : Punct) → behind_dollar m d (leaf l left) ≡ Err x) (FaultAtHead Answers m (behind_dollar m p f))
+      (λ x k. err_head Answers m x (behind_dollar m p f) (ap (behind_dollar m p) here ∙ k p)) h
+
+-- a group behind a `$`
+pub group_behind : (m : Mode) (p : Punct) (f inside left : Forest) (d : Delimiter) (kind : DelimiterKind) → f ≡ group d inside left → d.kind ≡ kind
+    → behind_dollar m p f ≡ group_behind_dollar m kind inside left
+group_behind m p f inside left d kind here e = ap (behind_dollar m p) here ∙ ap (λ (k : DelimiterKind). group_behind_dollar m k inside left) e
 
 -- ---- the front of all trees
 
@@ -180,13 +222,13 @@ puncts_head m f left p here n =
 
 module _ (Answers : SyntaxContext → Edition → Type 0) where
   pub head_op : {A E : Type 0} (r : Result (code.Op A) E) (m : Mode) (f new : Forest) (h : Result Head Fault) → head m f ≡ h
-      → IfOk r (λ o. AtHead h (op_of o) new) → IfOk r (λ o. ReadsOp Answers m f (op_of o) new)
+      → IfOk r (λ o. AtHead Answers m h (op_of o) new) → IfOk r (λ o. ReadsOp Answers m f (op_of o) new)
   head_op (Err e) m f new h here at = tt
   head_op (Ok o) m f new h here at = reads_head Answers m f new (op_of o) h here at
 
   pub head_fault : {T : Type 0} (r : Result T why.ReadError) (m : Mode) (f : Forest) (h : Result Head Fault) → head m f ≡ h
-      → IfErr r (λ e. Stops e (λ x. h ≡ Err x)) → IfErr r (λ e. Stops e (λ x. TemplateFault Answers m x f))
-  head_fault r m f h at_head at = stopped r (λ x. h ≡ Err x) (λ x. TemplateFault Answers m x f) (λ x k. at_front f (at_head ∙ k)) at
+      → IfErr r (λ e. Stops e (FaultAtHead Answers m h)) → IfErr r (λ e. Stops e (λ x. TemplateFault Answers m x f))
+  head_fault r m f h here at = stopped r (FaultAtHead Answers m h) (λ x. TemplateFault Answers m x f) (λ x k. fault_head Answers m f x h here k) at
 
   pub group_fault : (e : why.ReadError) (m : Mode) (f inside left : Forest) (d : Delimiter) → f ≡ group d inside left
       → Stops e (λ x. TemplateFault Answers m x inside) → Stops e (λ x. TemplateFault Answers m x f)

@@ -1,6 +1,6 @@
 -- What the reader of patterns and templates answers, told by their grammar.
-use Rattle.std.specs.Prelude.{◌≡◌, ◌||◌, ℕ, Bool, false, List, [], ◌∷◌, codes, Option, Some, None, IfSome, Result, Ok, Err, IsFalse}
-use Rattle.mbe_tt.specs.Leaf.{Ident, ident, is_text}
+use Rattle.std.specs.Prelude.{◌≡◌, ◌||◌, ℕ, Bool, false, List, [], ◌∷◌, ◌++◌, codes, Option, Some, None, IfSome, Result, Ok, Err}
+use Rattle.mbe_tt.specs.Leaf.{Leaf, ident, is_text}
 use Rattle.mbe_tt.specs.Tree.{Forest, leaf}
 use Rattle.mbe_tt.specs.declared.span.SyntaxContext.{SyntaxContext}
 use Rattle.mbe_tt.specs.declared.span.Edition.{Edition}
@@ -9,9 +9,9 @@ use Rattle.mbe.specs.declared.parser.Mode as code
 use Rattle.mbe.specs.declared.error.Fault as told
 use Rattle.mbe.specs.declared.error.ReadError as read
 use Rattle.mbe.specs.declared.macro_call_style.MacroCallStyle.TheVariants.{FnLike}
-use Rattle.mbe.specs.Op.{Op, Ops, op, variable}
+use Rattle.mbe.specs.Op.{Op, Ops, op, variable, group, repetition, Separator}
 use Rattle.mbe.specs.Definition.{Outline, Rule, outline_at, AreParts, PartsFault, Rules}
-use Rattle.mbe.specs.Template.{Mode, pattern, template, Fault, unexpected_token, expected, Head, ended, one, typed, opens_group, opens_repetition, kind_named, kind_names, Template, TemplateFault}
+use Rattle.mbe.specs.Template.{Mode, pattern, template, Fault, unexpected_token, expected, invalid_repeat, separator_of, Head, ended, one, typed, opens_group, opens_repetition, Specifies, Template, TemplateFault}
 
 abbrev pub mode_of : code.Mode → Mode
 mode_of code.TheVariants.Pattern = pattern
@@ -29,6 +29,7 @@ fault_of told.TheVariants.ExpressionInPattern = Some (unexpected_token (codes "`
 fault_of told.TheVariants.DollarInPattern = Some (unexpected_token (codes "`$$` is not allowed on the pattern side"))
 fault_of told.TheVariants.MissingSpecifier = Some (unexpected_token (codes "missing fragment specifier"))
 fault_of told.TheVariants.InvalidExpression = Some (unexpected_token (codes "invalid metavariable expression"))
+fault_of told.TheVariants.InvalidRepeat = Some invalid_repeat
 fault_of told.TheVariants.NotCarried = None
 
 -- why reading stopped: want of memory, what isn't carried yet, or a fault of which P holds
@@ -41,23 +42,40 @@ abbrev pub NotExpression : {T : Type 0} → read.ReadError → Option T → Type
 NotExpression read.TheVariants.Memory e = Unit {0}
 NotExpression (read.TheVariants.Fault f) e = (f ≡ told.TheVariants.InvalidExpression) × (e ≡ None)
 
--- the specifier means this kind in each edition
-pub record IsUndated (specifier : Ident) (kind : Option MetaVarKind) : Type 0 where
-  pub no_pat : IsFalse (is_text specifier.sym (codes "pat"))
-  pub no_expr : IsFalse (is_text specifier.sym (codes "expr"))
-  pub named : kind ≡ kind_named kind_names specifier.sym
+-- ---- the suffix of a repetition, leaf by leaf
 
--- an op stands at the front, and these are the trees behind it
-abbrev pub AtHead : Result Head Fault → Op → Forest → Type 0
-AtHead (Ok (one o rest)) p left = (o ≡ p) × (rest ≡ left)
-AtHead (Ok (typed name span specifier rest)) p left =
-    (kind : Option MetaVarKind) × IsUndated specifier kind × (variable name kind span ≡ p) × (rest ≡ left)
-AtHead (Ok ended) p left = ⊥
-AtHead (Ok (opens_group d inside rest)) p left = ⊥
-AtHead (Ok (opens_repetition separator repeat inside rest)) p left = ⊥
-AtHead (Err f) p left = ⊥
+-- whichever leaves are the old separator, or none, with this leaf behind them they are the new one
+abbrev pub IsExtended : Option Separator → Leaf → Separator → Type 0
+IsExtended old l new = (before : List Leaf) → separator_of before ≡ Some old → separator_of (before ++ l ∷ []) ≡ Some (Some new)
+
+-- whichever leaves are the separator, or none, with this leaf behind them no separator begins
+abbrev pub NeverExtended : Option Separator → Leaf → Type 0
+NeverExtended old l = (before behind : List Leaf) → separator_of before ≡ Some old → separator_of (before ++ l ∷ behind) ≡ None
+
+-- ---- ops
 
 module _ (Answers : SyntaxContext → Edition → Type 0) where
+  -- this op stands at the front, with what is inside it, and these are the trees behind it
+  abbrev pub AtHead : Mode → Result Head Fault → Op → Forest → Type 0
+  AtHead mode (Ok (one o rest)) p left = (o ≡ p) × (rest ≡ left)
+  AtHead mode (Ok (typed name span specifier rest)) p left =
+      (kind : Option MetaVarKind) × Specifies Answers specifier kind × (variable name kind span ≡ p) × (rest ≡ left)
+  AtHead mode (Ok (opens_group d inside rest)) p left =
+      (body : Ops) × Template Answers mode inside body × (group d body ≡ p) × (rest ≡ left)
+  AtHead mode (Ok (opens_repetition separator repeat inside rest)) p left =
+      (body : Ops) × Template Answers mode inside body × (repetition body separator repeat ≡ p) × (rest ≡ left)
+  AtHead mode (Ok ended) p left = ⊥
+  AtHead mode (Err f) p left = ⊥
+
+  -- this is the fault of the front, or the first fault inside it
+  abbrev pub FaultAtHead : Mode → Result Head Fault → Fault → Type 0
+  FaultAtHead mode (Err e) f = e ≡ f
+  FaultAtHead mode (Ok (opens_group d inside rest)) f = TemplateFault Answers mode f inside
+  FaultAtHead mode (Ok (opens_repetition separator repeat inside rest)) f = TemplateFault Answers mode f inside
+  FaultAtHead mode (Ok (one o rest)) f = ⊥
+  FaultAtHead mode (Ok (typed name span specifier rest)) f = ⊥
+  FaultAtHead mode (Ok ended) f = ⊥
+
   -- Before the trees that are left the op was read: what is read there stands behind the op, and the first fault there is
   -- the first of all.
   pub record ReadsOp (mode : Mode) (before : Forest) (o : Op) (left : Forest) : Type 0 where

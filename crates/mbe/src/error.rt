@@ -69,6 +69,7 @@ pub(crate) enum Fault {
     DollarInPattern,
     MissingSpecifier,
     InvalidExpression,
+    InvalidRepeat,
     NotCarried,
 }
 
@@ -178,6 +179,7 @@ impl<A: Allocator + Copy> ParseError<A> {
             Fault::InvalidExpression => {
                 ParseError::unexpected(alloc, "invalid metavariable expression")
             }
+            Fault::InvalidRepeat => Ok(ParseError::InvalidRepeat),
             Fault::NotCarried => ParseError::unexpected(alloc, "not carried yet"),
         }
     }

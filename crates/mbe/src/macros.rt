@@ -43,7 +43,7 @@ impl<A: Allocator + Copy> DeclarativeMacro<A> {
     /// Reads the rules of a `macro_rules!` definition, which `;` separates; a last one may be missing.
     ///
     /// `tt` holds the rules alone, without the name and the braces around them. `ctx_edition` answers the edition of a
-    /// context; it will decide what `pat` and `expr` mean, by the context of the specifier's own span.
+    /// context; it decides what `pat` and `expr` mean, by the context of the specifier's own span.
     ///
     /// The answer keeps the rules before the first fault, and tells that fault by `err`. What isn't carried yet is told as
     /// `ParseError::UnexpectedToken("not carried yet")` where reading meets it. The only failure is want of memory.
@@ -121,6 +121,7 @@ fn parse_rules<A: Allocator + Copy, E: Copy + Fn(SyntaxContext) -> Edition>(
     ctx_edition: E,
     src: TtIter<'_, A>,
 ) -> Result<(Vec<Rule<A>, A>, Option<Fault>), AllocError>
+    requires { MayAsk (E.pre ctx_edition) }
     ensures { IfOk result (λ r. AreRules (E.post ctx_edition) src.entry (rules_seen r.0.items) r.1) }
 {
     let mut src = src;
@@ -149,6 +150,7 @@ impl<A: Allocator + Copy> Rule<A> {
         ctx_edition: E,
         src: &mut TtIter<'_, A>,
     ) -> Result<Rule<A>, ReadError>
+        requires { MayAsk (E.pre ctx_edition) }
         ensures rule { IfOk result (λ r. ReadsRule (E.post ctx_edition) src.old (rule_of r) src.new) }
         ensures fault { IfErr result (λ e. Stops e (λ f. RuleFault (E.post ctx_edition) f src.old)) }
         ensures shorter { OnOk result (flat_len src.new < flat_len src.old) }

@@ -1,13 +1,14 @@
-use Rattle.std.proofs.Common.{◌≡◌, sym, ap, arith, Some, rules}
+use Rattle.std.proofs.Common.{◌≡◌, sym, ap, arith, refl, Some, rules}
 use Rattle.std.proofs.lemmas.Result.{err_from_is_err_and}
 use Rattle.mbe_tt.specs.Leaf as leaves
 use Rattle.mbe_tt.specs.Tree.{none, Leaf_tree, Group_tree, first}
-use Rattle.mbe_tt.specs.Shown.{literal_of, ident_of}
+use Rattle.mbe_tt.specs.Shown.{literal_of, ident_of, leaf_of}
 use Rattle.mbe.specs.Op.{no_ops}
 use Rattle.mbe.specs.Template.{head, nothing}
 use Rattle.mbe.specs.Reader.{mode_of}
+use Rattle.mbe.specs.Views.{template_of}
 use Rattle.mbe.proofs.Fragments.{first_tree}
-use Rattle.mbe.proofs.OpViews.{view-template, view-subtree, view-literal, view-ident}
+use Rattle.mbe.proofs.OpViews.{view-template, view-subtree, view-literal, view-ident, view-repeat}
 use Rattle.mbe.proofs.ReaderLemmas as lemmas
 use Rattle.mbe.proofs.parser.+template.Goals as goal
 
@@ -55,13 +56,6 @@ next_op-returns-in-Leaf-Punct-clause-fault g t c =
     lemmas.head_fault _ c.behind_dollar.result (mode_of c.args.mode) c.args.src.now _
     (lemmas.dollar_head (mode_of c.args.mode) c.args.src.now c.next-dollar.new.self c.in-Leaf-Punct.dollar at c.if-dollar-eq36.true) c.behind_dollar.ensures.fault
 
-pub next_op-returns-in-Leaf-Punct-clause-shorter : goal.next_op-returns-in-Leaf-Punct-clause-shorter
-next_op-returns-in-Leaf-Punct-clause-shorter g t c =
-    let front : Some (Leaf_tree (leaves.punct c.in-Leaf-Punct.dollar)) ≡ first c.args.src.now = search rules in
-    let at = first_tree c.args.src.now c.next-dollar.new.self _ front c.next-dollar.ensures.rest in
-    lemmas.on_ok c.behind_dollar.result _
-    (lemmas.leaf_longer c.args.src.now c.next-dollar.new.self (leaves.punct c.in-Leaf-Punct.dollar) _ at c.behind_dollar.ensures.no_longer)
-
 pub next_op-returns-in-Ok-clause-op : goal.next_op-returns-in-Ok-clause-op
 next_op-returns-in-Ok-clause-op g t c =
     let f = c.args.src.now in
@@ -100,3 +94,21 @@ next_op-returns-in_ok-tokens-in-Subtree-clause-op g t c =
     let at = first_tree c.args.src.now c.next-passed-in-Subtree.new.self _ front c.next-passed-in-Subtree.ensures.rest in
     rw view-subtree (lemmas.reads_group _ (mode_of c.args.mode) c.args.src.now c.in-Subtree.inside c.next-passed-in-Subtree.new.self
     c.in-Subtree.subtree.now.delimiter _ (ap (head (mode_of c.args.mode)) at) c.in_ok-tokens-in-Subtree.ensures.ops)
+
+pub behind_dollar-returns-in-Leaf-clause-op : goal.behind_dollar-returns-in-Leaf-clause-op
+behind_dollar-returns-in-Leaf-clause-op g t c =
+    let front : Some (Leaf_tree (leaf_of c.in-Leaf.leaf.now)) ≡ first c.args.src.now = search rules in
+    let at = first_tree c.args.src.now c.next.new.self _ front c.next.ensures.rest in
+    lemmas.leaf_op _ (mode_of c.args.mode) c.leaf_behind_dollar.result c.args.dollar c.args.src.now c.next.new.self _ (leaf_of c.in-Leaf.leaf.now) at
+    c.leaf_behind_dollar.ensures.op
+
+pub behind_dollar-returns-in-Leaf-clause-fault : goal.behind_dollar-returns-in-Leaf-clause-fault
+behind_dollar-returns-in-Leaf-clause-fault g t c =
+    let front : Some (Leaf_tree (leaf_of c.in-Leaf.leaf.now)) ≡ first c.args.src.now = search rules in
+    let at = first_tree c.args.src.now c.next.new.self _ front c.next.ensures.rest in
+    lemmas.leaf_fault _ (mode_of c.args.mode) c.leaf_behind_dollar.result c.args.dollar c.args.src.now c.next.new.self (leaf_of c.in-Leaf.leaf.now) at
+    c.leaf_behind_dollar.ensures.fault
+
+pub repetition-returns-clause-op : goal.repetition-returns-clause-op
+repetition-returns-clause-op g t c =
+    rw (c.in_ok-separator.ensures.suffix c.args.body) (template_of c.in_ok-tokens.tokens, c.in_ok-tokens.ensures.ops, sym (view-repeat _ _ _), refl)

@@ -23,3 +23,9 @@ invariant-MetaTemplate::parse-trees g l = record {
 
 abbrev pub decreases-MetaTemplate::parse-trees : goal.decreases-MetaTemplate::parse-trees
 decreases-MetaTemplate::parse-trees g l = flat_len l.src
+
+abbrev pub decreases-behind_dollar : goal.decreases-behind_dollar
+decreases-behind_dollar g l = 2 * flat_len l.src.now
+
+abbrev pub decreases-repetition : goal.decreases-repetition
+decreases-repetition g l = 2 * flat_len l.body + 2
