@@ -22,7 +22,6 @@ use Rattle.mbe.specs.Template.{Mode, pattern, Fault, Head, ended, one, typed, op
 use Rattle.mbe.specs.Reader.{AtHead, FaultAtHead, ReadsOp, Stops, fault_of}
 use Rattle.mbe.specs.declared.error.ReadError as why
 use Rattle.mbe.specs.Views.{op_of, ops_of}
-use Rattle.mbe_tt.proofs.CutLemmas.{both_left, both_right}
 use Rattle.mbe.specs.declared.parser.Op as code
 use Rattle.mbe.proofs.Fragments.{rest_no_longer, back-skip}
 use Rattle.mbe.proofs.OpViews.{view-punct}
