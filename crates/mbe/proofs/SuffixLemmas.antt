@@ -1,15 +1,13 @@
--- How a repetition's suffix is read, leaf by leaf: the leaves so far are the separator so far.
-use Rattle.std.specs.Prelude.{◌≡◌, ◌<◌, ◌==◌, Bool, true, false, if◌then◌else◌, List, [], ◌∷◌, ◌++◌, length, map, Option, Some, None, option_map, option_and_then, Result, Ok, Err, nat_le, refl}
-use Rattle.std.proofs.Common.{ap, sym, ◌∙◌, subst, arith, append_assoc}
+-- Which leaves are a separator, and which they are with one leaf more; how a suffix is read so far.
+use Rattle.std.specs.Prelude.{◌≡◌, ◌<◌, ◌==◌, Bool, true, false, if◌then◌else◌, List, [], ◌∷◌, ◌++◌, length, map, Option, Some, None, option_map, option_and_then, nat_le, refl}
+use Rattle.std.proofs.Common.{ap, sym, ◌∙◌, arith}
 use Rattle.std.proofs.lemmas.Option.{none-some, same_Some}
 use Rattle.std.proofs.lemmas.Bool.{ne_eqb, lt-leb}
-use Rattle.std.proofs.lemmas.List.{append-nil}
 use Rattle.mbe_tt.specs.Leaf.{Leaf, Ident, Literal, literal, punct, ident}
-use Rattle.mbe_tt.specs.Tree.{Forest, none, leaf, group}
+use Rattle.mbe_tt.specs.Tree.{Forest}
 use Rattle.mbe_tt.specs.declared.tt.Punct.{Punct}
-use Rattle.mbe.specs.declared.parser.RepeatKind.{RepeatKind}
 use Rattle.mbe.specs.Op.{Separator, ident_separator, literal_separator, punct_separator, lifetime_separator}
-use Rattle.mbe.specs.Template.{Fault, invalid_repeat, Head, opens_repetition, Suffix, suffix_of, leaf_in_suffix, separator_of, all_puncts, up_to_three, repetition_with, repetition_at}
+use Rattle.mbe.specs.Template.{Suffix, suffix_of, separator_of, all_puncts, up_to_three}
 use Rattle.mbe.specs.Reader.{IsExtended, NeverExtended}
 
 -- ---- the leaves of a separator
@@ -20,9 +18,6 @@ leaves_of (Some (ident_separator i)) = ident i ∷ []
 leaves_of (Some (literal_separator l)) = literal l ∷ []
 leaves_of (Some (punct_separator ps)) = map punct ps
 leaves_of (Some (lifetime_separator p i)) = punct p ∷ ident i ∷ []
-
-separator_is : (s t : Option Separator) → Some s ≡ Some t → s ≡ t
-separator_is s t e = same_Some s t e
 
 as_leaves : (before : List Leaf) (s t : Option Separator) → before ≡ leaves_of s → Some s ≡ Some t → before ≡ leaves_of t
 as_leaves before s t l e = l ∙ ap leaves_of (same_Some s t e)
@@ -142,4 +137,3 @@ pub record SoFar (f : Forest) (s : Option Separator) (left : Forest) : Type 0 wh
   pub before : List Leaf
   pub separator : separator_of before ≡ Some s
   pub suffix : suffix_of f ≡ option_map (in_front before) (suffix_of left)
-
