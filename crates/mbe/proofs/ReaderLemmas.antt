@@ -1,24 +1,23 @@
--- What one op of a pattern or a template says of all its trees, and which specifiers are unknown.
-use Rattle.std.specs.Prelude.{◌≡◌, ◌≤◌, ◌<◌, ◌+◌, ℕ, zero, suc, Bool, true, false, if◌then◌else◌, List, [], ◌∷◌, ◌++◌, length, take, codes, Option, Some, None, Result, Ok, Err, IfOk, IfErr, IfSome, OnOk, IsTrue, IsFalse, refl, ◌&&◌, ◌==◌, not}
+-- What one op of a pattern or a template says of all its trees, and what specifiers mean.
+use Rattle.std.specs.Prelude.{◌≡◌, ◌≤◌, ◌<◌, ℕ, zero, suc, Bool, true, false, if◌then◌else◌, List, [], ◌∷◌, ◌++◌, length, take, codes, Option, Some, None, Result, Ok, Err, IfOk, IfErr, IfSome, IsTrue, IsFalse, refl, ◌==◌}
 use Rattle.std.proofs.Common.{ap, sym, ◌∙◌, subst, arith}
 use Rattle.std.proofs.lemmas.Option.{none-some, same_Some}
 use Rattle.std.proofs.lemmas.Bool.{eq-eqb, ne_eqb}
 use Rattle.std.specs.Str.{bytes_eq}
 use Rattle.std.proofs.lemmas.Slice.Eq.{bytes_eq-Decides}
-use Rattle.mbe_tt.specs.Leaf.{Leaf, Ident, literal, punct, ident, is_text, is_underscore}
-use Rattle.mbe_tt.specs.Tree.{Forest, none, leaf, group, rest_of, front_char, front_ident, skip, flat_len}
+use Rattle.mbe_tt.specs.Leaf.{Leaf, Ident, literal, punct, ident, is_text}
+use Rattle.mbe_tt.specs.Tree.{Forest, none, leaf, group, rest_of, skip, flat_len}
 use Rattle.mbe_tt.specs.Glue.{glue, glued, joined, if_joint, is_operator, chars_of}
 use Rattle.mbe_tt.specs.declared.span.SyntaxContext.{SyntaxContext}
 use Rattle.mbe_tt.specs.declared.span.Edition.{Edition}
 use Rattle.mbe_tt.specs.declared.tt.Punct.{Punct}
 use Rattle.mbe_tt.specs.declared.span.Span.{Span}
 use Rattle.mbe_tt.specs.declared.tt.Delimiter.{Delimiter}
-use Rattle.mbe_tt.specs.declared.tt.DelimiterKind.{DelimiterKind}
 use Rattle.mbe.specs.declared.parser.MetaVarKind.{MetaVarKind}
 use Rattle.mbe.specs.Op as ops
 use Rattle.mbe.specs.Op.{Name, Op, Ops, op, no_ops, Separator}
 use Rattle.mbe.specs.declared.parser.RepeatKind.{RepeatKind}
-use Rattle.mbe.specs.Template.{Mode, pattern, Fault, Head, ended, one, typed, opens_group, opens_repetition, head, behind_dollar, group_behind_dollar, puncts_at, kind_named, kind_names, missing_specifier, specifier_at, variable_at, pat_kind, expr_kind, Specifies, dated_pat, dated_expr, undated, Template, token, variable, grouped, repeated, TemplateFault, here as at_front, in_group, in_repetition, behind_token, behind_variable, behind_group, behind_repetition}
+use Rattle.mbe.specs.Template.{Mode, Fault, Head, ended, one, typed, opens_group, opens_repetition, head, behind_dollar, puncts_at, kind_named, kind_names, pat_kind, expr_kind, Specifies, dated_pat, dated_expr, undated, Template, token, variable, grouped, repeated, TemplateFault, here as at_front, in_group, in_repetition, behind_token, behind_variable, behind_group, behind_repetition}
 use Rattle.mbe.specs.Reader.{AtHead, FaultAtHead, ReadsOp, Stops, fault_of}
 use Rattle.mbe.specs.declared.error.ReadError as why
 use Rattle.mbe.specs.Views.{op_of, ops_of}
@@ -132,32 +131,11 @@ module _ (Answers : SyntaxContext → Edition → Type 0) (mode : Mode) where
   pub err_head : (x : Fault) (h : Result Head Fault) → h ≡ Err x → FaultAtHead Answers mode h x
   err_head x h e = subst (λ (r : Result Head Fault). FaultAtHead Answers mode r x) (sym e) refl
 
--- ---- what stands behind a variable's name
+-- ---- an identifier other than `_`
 
 pub some_if : (b : Bool) (i s : Ident) → (if b then None else Some i) ≡ Some s → (b ≡ false) × (i ≡ s)
 some_if true i s e = absurd (none-some s e)
 some_if false i s e = (refl, same_Some i s e)
-
-module _ (Answers : SyntaxContext → Edition → Type 0) (mode : Mode) where
-  typed_if : (b c : Bool) (name : Name) (span : Span) (s : Ident) (kind : Option MetaVarKind) (rest left : Forest) → b ≡ true → c ≡ false
-      → Specifies Answers s kind → left ≡ rest → AtHead Answers mode (if b && not c then Ok (typed name span s rest) else missing_specifier) (ops.variable name kind span) left
-  typed_if b c name span s kind rest left e n u l = rw (e, n) (kind, u, refl, sym l)
-
-  -- `:` and a specifier
-  pub specifier_in_front : (f left : Forest) (s : Ident) (kind : Option MetaVarKind) → front_char f ≡ Some 58 → Some s ≡ front_ident (rest_of f)
-      → left ≡ rest_of (rest_of f) → Specifies Answers s kind → (name : Name) (span : Span) → AtHead Answers mode (specifier_at name span f) (ops.variable name kind span) left
-  specifier_in_front none left s kind q e l u name span = absurd (none-some 58 q)
-  specifier_in_front (leaf (literal k) rest) left s kind q e l u name span = absurd (none-some 58 q)
-  specifier_in_front (leaf (ident i) rest) left s kind q e l u name span = absurd (none-some 58 q)
-  specifier_in_front (group d inside rest) left s kind q e l u name span = absurd (none-some 58 q)
-  specifier_in_front (leaf (punct p) none) left s kind q e l u name span = absurd (none-some s (sym e))
-  specifier_in_front (leaf (punct p) (leaf (literal k) rest)) left s kind q e l u name span = absurd (none-some s (sym e))
-  specifier_in_front (leaf (punct p) (leaf (punct o) rest)) left s kind q e l u name span = absurd (none-some s (sym e))
-  specifier_in_front (leaf (punct p) (group d inside rest)) left s kind q e l u name span = absurd (none-some s (sym e))
-  specifier_in_front (leaf (punct p) (leaf (ident i) rest)) left s kind q e l u name span =
-      let named = some_if (is_underscore i.sym) i s (sym e) in
-      subst (λ (j : Ident). AtHead Answers mode (if (p.char == 58) && not (is_underscore i.sym) then Ok (typed name span j rest) else missing_specifier) (ops.variable name kind span) left)
-      (sym named.1) (typed_if (p.char == 58) (is_underscore i.sym) name span s kind rest left (eq-eqb p.char 58 (same_Some p.char 58 q)) named.0 u l)
 
 -- ---- ops that were read before
 
@@ -200,11 +178,6 @@ module _ (Answers : SyntaxContext → Edition → Type 0) (m : Mode) where
       stopped r (λ x. (d : Punct) → behind_dollar m d (leaf l left) ≡ Err x) (FaultAtHead Answers m (behind_dollar m p f))
       (λ x k. err_head Answers m x (behind_dollar m p f) (ap (behind_dollar m p) here ∙ k p)) h
 
--- a group behind a `$`
-pub group_behind : (m : Mode) (p : Punct) (f inside left : Forest) (d : Delimiter) (kind : DelimiterKind) → f ≡ group d inside left → d.kind ≡ kind
-    → behind_dollar m p f ≡ group_behind_dollar m kind inside left
-group_behind m p f inside left d kind here e = ap (behind_dollar m p) here ∙ ap (λ (k : DelimiterKind). group_behind_dollar m k inside left) e
-
 -- ---- the front of all trees
 
 pub dollar_head : (m : Mode) (f left : Forest) (p : Punct) → f ≡ leaf (punct p) left → p.char ≡ 36 → head m f ≡ behind_dollar m p left
@@ -242,9 +215,6 @@ module _ (Answers : SyntaxContext → Edition → Type 0) where
 
 -- ---- lengths
 
-pub leaf_longer : (f left : Forest) (l : Leaf) (n : ℕ) → f ≡ leaf l left → n ≤ flat_len left → n < flat_len f
-leaf_longer f left l n here h = let e : flat_len f ≡ 1 + flat_len left = ap flat_len here in omega arith
-
 skip_shorter : (n : ℕ) (f : Forest) → flat_len (skip n f) ≤ flat_len f
 skip_shorter zero f = omega arith
 skip_shorter (suc n) f = let a = skip_shorter n (rest_of f) in let b = rest_no_longer f in omega arith
@@ -277,10 +247,6 @@ glued_is (leaf (literal l) rest) ps e = absurd (none-some ps (sym e))
 glued_is (leaf (punct p) rest) ps e = sym (same_Some _ _ e)
 glued_is (leaf (ident i) rest) ps e = absurd (none-some ps (sym e))
 glued_is (group d inside rest) ps e = absurd (none-some ps (sym e))
-
-pub on_ok : {T E : Type 0} (r : Result T E) (P : Type 0) → P → OnOk r P
-on_ok (Ok x) P p = p
-on_ok (Err e) P p = tt
 
 pub behind : (f : Forest) → rest_of f ≡ rest_of f
 behind f = refl

@@ -1,15 +1,13 @@
--- How a repetition's suffix is read, leaf by leaf: the leaves so far are the separator so far.
-use Rattle.std.specs.Prelude.{◌≡◌, ◌<◌, ◌==◌, Bool, true, false, if◌then◌else◌, List, [], ◌∷◌, ◌++◌, length, map, Option, Some, None, option_map, option_and_then, Result, Ok, Err, nat_le, refl}
-use Rattle.std.proofs.Common.{ap, sym, ◌∙◌, subst, arith, append_assoc}
+-- Which leaves are a separator, and which they are with one leaf more; how a suffix is read so far.
+use Rattle.std.specs.Prelude.{◌≡◌, ◌<◌, ◌==◌, Bool, true, false, if◌then◌else◌, List, [], ◌∷◌, ◌++◌, length, map, Option, Some, None, option_map, option_and_then, nat_le, refl}
+use Rattle.std.proofs.Common.{ap, sym, ◌∙◌, arith}
 use Rattle.std.proofs.lemmas.Option.{none-some, same_Some}
 use Rattle.std.proofs.lemmas.Bool.{ne_eqb, lt-leb}
-use Rattle.std.proofs.lemmas.List.{append-nil}
 use Rattle.mbe_tt.specs.Leaf.{Leaf, Ident, Literal, literal, punct, ident}
-use Rattle.mbe_tt.specs.Tree.{Forest, none, leaf, group}
+use Rattle.mbe_tt.specs.Tree.{Forest}
 use Rattle.mbe_tt.specs.declared.tt.Punct.{Punct}
-use Rattle.mbe.specs.declared.parser.RepeatKind.{RepeatKind}
 use Rattle.mbe.specs.Op.{Separator, ident_separator, literal_separator, punct_separator, lifetime_separator}
-use Rattle.mbe.specs.Template.{Fault, invalid_repeat, Head, opens_repetition, Suffix, suffix_of, leaf_in_suffix, separator_of, all_puncts, up_to_three, repetition_with, repetition_at}
+use Rattle.mbe.specs.Template.{Suffix, suffix_of, separator_of, all_puncts, up_to_three}
 use Rattle.mbe.specs.Reader.{IsExtended, NeverExtended}
 
 -- ---- the leaves of a separator
@@ -20,9 +18,6 @@ leaves_of (Some (ident_separator i)) = ident i ∷ []
 leaves_of (Some (literal_separator l)) = literal l ∷ []
 leaves_of (Some (punct_separator ps)) = map punct ps
 leaves_of (Some (lifetime_separator p i)) = punct p ∷ ident i ∷ []
-
-separator_is : (s t : Option Separator) → Some s ≡ Some t → s ≡ t
-separator_is s t e = same_Some s t e
 
 as_leaves : (before : List Leaf) (s t : Option Separator) → before ≡ leaves_of s → Some s ≡ Some t → before ≡ leaves_of t
 as_leaves before s t l e = l ∙ ap leaves_of (same_Some s t e)
@@ -142,48 +137,3 @@ pub record SoFar (f : Forest) (s : Option Separator) (left : Forest) : Type 0 wh
   pub before : List Leaf
   pub separator : separator_of before ≡ Some s
   pub suffix : suffix_of f ≡ option_map (in_front before) (suffix_of left)
-
-pub none_so_far : (f : Forest) → SoFar f None f
-none_so_far f = record {
-  before = [];
-  separator = refl;
-  suffix = whole (suffix_of f);
-}
-  where
-    whole : (o : Option Suffix) → o ≡ option_map (in_front []) o
-    whole None = refl
-    whole (Some s) = refl
-
-behind_leaf : (ls : List Leaf) (l : Leaf) (o : Option Suffix) → option_map (in_front ls) (option_map (leaf_in_suffix l) o) ≡ option_map (in_front (ls ++ l ∷ [])) o
-behind_leaf ls l None = refl
-behind_leaf ls l (Some s) = ap (λ xs. Some (record s { leaves = xs })) (sym (append_assoc ls (l ∷ []) s.leaves))
-
-pub one_leaf_more : (f left rest : Forest) (old : Option Separator) (l : Leaf) (new : Separator) → SoFar f old left → left ≡ leaf l rest
-    → suffix_of (leaf l rest) ≡ option_map (leaf_in_suffix l) (suffix_of rest) → IsExtended old l new → SoFar f (Some new) rest
-one_leaf_more f left rest old l new so at goes x = record {
-  before = so.before ++ l ∷ [];
-  separator = x so.before so.separator;
-  suffix = so.suffix ∙ (ap (λ g. option_map (in_front so.before) (suffix_of g)) at ∙ (ap (option_map (in_front so.before)) goes ∙ behind_leaf so.before l (suffix_of rest)));
-}
-
--- behind the separator stands what ends the suffix
-pub suffix_ends : (f left rest body : Forest) (s : Option Separator) (l : Leaf) (kind : RepeatKind) → SoFar f s left → left ≡ leaf l rest
-    → suffix_of (leaf l rest) ≡ Some (record { leaves = []; repeat = kind; back = rest }) → repetition_at body (suffix_of f) ≡ Ok (opens_repetition s kind body rest)
-suffix_ends f left rest body s l kind so at ends =
-    let whole : suffix_of f ≡ Some (record { leaves = so.before ++ []; repeat = kind; back = rest }) =
-    so.suffix ∙ (ap (λ g. option_map (in_front so.before) (suffix_of g)) at ∙ ap (option_map (in_front so.before)) ends) in
-    ap (repetition_at body) whole ∙ ap (repetition_with kind body rest) (ap separator_of (append-nil so.before) ∙ so.separator)
-
--- no leaf of the suffix ends it
-pub suffix_missing : (f left body : Forest) (s : Option Separator) → SoFar f s left → suffix_of left ≡ None → repetition_at body (suffix_of f) ≡ Err invalid_repeat
-suffix_missing f left body s so e = ap (repetition_at body) (so.suffix ∙ ap (option_map (in_front so.before)) e)
-
--- the separator can't go on with a leaf
-pub separator_wrong : (f left rest body : Forest) (s : Option Separator) (l : Leaf) → SoFar f s left → left ≡ leaf l rest
-    → suffix_of (leaf l rest) ≡ option_map (leaf_in_suffix l) (suffix_of rest) → NeverExtended s l → repetition_at body (suffix_of f) ≡ Err invalid_repeat
-separator_wrong f left rest body s l so at goes n =
-    ap (repetition_at body) (so.suffix ∙ (ap (λ g. option_map (in_front so.before) (suffix_of g)) at ∙ ap (option_map (in_front so.before)) goes)) ∙ go (suffix_of rest)
-  where
-    go : (o : Option Suffix) → repetition_at body (option_map (in_front so.before) (option_map (leaf_in_suffix l) o)) ≡ Err invalid_repeat
-    go None = refl
-    go (Some t) = ap (repetition_with t.repeat body t.back) (n so.before t.leaves so.separator)

@@ -13,8 +13,8 @@ returns-in-Err g c =
 
 pub rules-preserved : goal.rules-preserved
 rules-preserved g c = λ rs x h. rw (c.in_ok-push-in-Ok.ensures.items, rules-push-more)
-      (one_more _ (rules_seen c.rules.rules.items) (rule_of c.in-Ok.rule) c.args.src c.rules.src c.parse.new.src c.expect_char.new.self
-      c.rules.invariant c.in-Ok.ensures.rule (c.in-Ok-expect_char.ensures.value.0 refl) c.in-Ok-expect_char.ensures.rest rs x h)
+    (one_more _ (rules_seen c.rules.rules.items) (rule_of c.in-Ok.rule) c.args.src c.rules.src c.parse.new.src c.expect_char.new.self
+    c.rules.invariant c.in-Ok.ensures.rule (c.in-Ok-expect_char.ensures.value.0 refl) c.in-Ok-expect_char.ensures.rest rs x h)
 
 pub returns-then-is_empty : goal.returns-then-is_empty
 returns-then-is_empty g c =

@@ -1,4 +1,4 @@
-use Rattle.std.proofs.Common.{◌≡◌, refl}
+use Rattle.std.proofs.Common.{refl}
 use Rattle.mbe.specs.Views.{separator_seen}
 use Rattle.mbe_tt.specs.Shown.{literal_of}
 use Rattle.mbe.proofs.SuffixLemmas.{literal_alone}

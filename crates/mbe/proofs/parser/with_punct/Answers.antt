@@ -1,5 +1,5 @@
-use Rattle.std.proofs.Common.{◌≡◌, refl, rules, arith, ap, sym, ◌∙◌, length}
-use Rattle.std.specs.Prelude.{[], ◌∷◌, ◌<◌}
+use Rattle.std.proofs.Common.{◌≡◌, refl, rules, arith, length}
+use Rattle.std.specs.Prelude.{◌<◌}
 use Rattle.std.proofs.lemmas.Bool.Decides.{nat_tests}
 use Rattle.mbe.proofs.SuffixLemmas.{first_punct, puncts_more, four_puncts}
 use Rattle.mbe.proofs.parser.with_punct.Goals as goal
