@@ -13,16 +13,16 @@ use Rattle.mbe.specs.Environment.{Environment, Value, fragment, list, empty, mis
 use Rattle.mbe.specs.Rounds.{follow}
 use Rattle.mbe.specs.Substitution.{is_simple, op_faults, faults}
 use Rattle.mbe.specs.Views.{op_of, ops_of, all_of, template_of, bound_by}
-use Rattle.mbe.proofs.WritingLemmas.{IsStripped, each_stripped}
+use Rattle.mbe.proofs.WritingLemmas.{IsOneFragment, each_one}
 
-one_fragment : (v : Option Value) → IsStripped v → (if is_none v then false else not (is_simple (option_and_then (follow []) v))) ≡ false
+one_fragment : (v : Option Value) → IsOneFragment v → (if is_none v then false else not (is_simple (option_and_then (follow []) v))) ≡ false
 one_fragment None h = refl
 one_fragment (Some (fragment x)) h = refl
 one_fragment (Some (list vs)) h = absurd h
 one_fragment (Some empty) h = absurd h
 one_fragment (Some (missing kind)) h = absurd h
 
-module _ (A : Type 0) (env : Environment) (known : (name : Name) → IsStripped (value_of env name)) where
+module _ (A : Type 0) (env : Environment) (known : (name : Name) → IsOneFragment (value_of env name)) where
   abbrev Faultless : code.Op A → Type 0
   Faultless o = op_faults env [] (op_of o) ≡ false
 
@@ -62,4 +62,4 @@ module _ (A : Type 0) (env : Environment) (known : (name : Name) → IsStripped 
   ops_faultless (o ∷ os) = rw (op_faultless o, ops_faultless os) refl
 
 pub never_faults : {A : Type 0} (b : Bindings A) (t : MetaTemplate A) → faults (bound_by b) [] (template_of t) ≡ false
-never_faults {A} b t = ops_faultless A (bound_by b) (each_stripped b.inner.entries) _
+never_faults {A} b t = ops_faultless A (bound_by b) (each_one b.inner.entries) _

@@ -1,7 +1,13 @@
 use Rattle.std.proofs.lemmas.Result.{err_from_is_err_and}
+use Rattle.mbe.specs.declared.macro_call_style.MacroCallStyle.TheVariants.{FnLike}
+use Rattle.mbe.specs.Views.{template_of}
 use Rattle.mbe.proofs.OutlineLemmas.{outlined_shorter}
 use Rattle.mbe.proofs.RuleReading.{reads_rule, outline_fault, pattern_fault, template_fault}
+use Rattle.mbe.proofs.Unwritten.{plain_carried}
 use Rattle.mbe.proofs.macros.Rule.parse.Goals as goal
+
+pub returns-clause-carried : goal.returns-clause-carried
+returns-clause-carried g c = plain_carried (record { style = FnLike; reads = template_of c.in_ok-lhs.lhs; writes = template_of c.in_ok-rhs.rhs }) c.in_ok-lhs.ensures.carried
 
 pub returns-clause-shorter : goal.returns-clause-shorter
 returns-clause-shorter g c = outlined_shorter _ c.args.src.now _ c.in_ok-pattern.ensures.rule
