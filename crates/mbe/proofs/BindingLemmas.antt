@@ -1,15 +1,14 @@
 -- What names lead to in environments that differ in order alone, and in what a match binds.
-use Rattle.std.proofs.Common.{◌≡◌, Bool, true, false, List, [], ◌∷◌, map, Option, Some, None, if◌then◌else◌, option_map, refl, sym, ap, subst, ◌∙◌}
+use Rattle.std.proofs.Common.{◌≡◌, Bool, true, false, List, [], ◌∷◌, Option, Some, None, if◌then◌else◌, option_map, refl, sym, ap, subst, ◌∙◌}
 use Rattle.std.specs.Str.{bytes_eq}
 use Rattle.std.specs.Map.{lookup}
 use Rattle.std.proofs.lemmas.Slice.Eq.{bytes_eq-Decides}
-use Rattle.mbe_tt.specs.View.{trees}
-use Rattle.mbe_tt.specs.declared.view.TokenTreesView.{TokenTreesView}
+use Rattle.mbe.specs.declared.expander.Fragment.{Fragment}
 use Rattle.mbe.specs.Op.{Name}
-use Rattle.mbe.specs.Item.{Item, matched, bound, grouped, skipped, rounds, Items, no_items, item, Rounds, no_rounds, round, stripped}
+use Rattle.mbe.specs.Item.{Item, matched, bound, grouped, skipped, rounds, Items, no_items, item, Rounds, no_rounds, round}
 use Rattle.mbe.specs.Environment.{Environment, Value, fragment, list, empty, missing, value_of, set_value, grown, add_round, skip_names, bind_item, bind, bind_rounds}
 use Rattle.mbe.specs.Matching.{BindsAlike}
-use Rattle.mbe.proofs.WritingLemmas.{found_by_name}
+use Rattle.mbe.proofs.WritingLemmas.{taken_value, values_taken, found_by_name}
 
 -- ---- one name set
 
@@ -88,20 +87,16 @@ mutual
 -- ---- what the map of a match holds
 
 module _ {A : Type 0} where
-  -- a view, as the value that it is
-  abbrev pub taken_value : TokenTreesView A → Value
-  taken_value v = fragment (record { trees = trees v; style = stripped })
-
-  looked : (b : Bool) (v : TokenTreesView A) (w : Option (TokenTreesView A)) →
-      (if b then Some (taken_value v) else option_map taken_value w) ≡ option_map taken_value (if b then Some v else w)
-  looked true v w = refl
-  looked false v w = refl
+  looked : (b : Bool) (x : Fragment A) (w : Option (Fragment A)) →
+      (if b then Some (taken_value x) else option_map taken_value w) ≡ option_map taken_value (if b then Some x else w)
+  looked true x w = refl
+  looked false x w = refl
 
   -- one entry put in
-  pub entries_updated : (es fs : List (Name × TokenTreesView A)) (name : Name) (v : TokenTreesView A) →
-      ((q : Name) → lookup (bytes_eq q) fs ≡ (if bytes_eq name q then Some v else lookup (bytes_eq q) es)) →
-      BindsAlike (map (λ e. (e.0, taken_value e.1)) fs) (set_value (map (λ e. (e.0, taken_value e.1)) es) name (taken_value v))
-  entries_updated es fs name v h = λ q.
-      sym (found_by_name fs q) ∙ (ap (option_map taken_value) (h q) ∙ (sym (looked (bytes_eq name q) v (lookup (bytes_eq q) es))
-      ∙ (ap (λ (w : Option Value). if bytes_eq name q then Some (taken_value v) else w) (found_by_name es q)
-      ∙ sym (value_of-set_value (map (λ e. (e.0, taken_value e.1)) es) name q (taken_value v)))))
+  pub entries_updated : (es fs : List (Name × Fragment A)) (name : Name) (x : Fragment A) →
+      ((q : Name) → lookup (bytes_eq q) fs ≡ (if bytes_eq name q then Some x else lookup (bytes_eq q) es)) →
+      BindsAlike (values_taken fs) (set_value (values_taken es) name (taken_value x))
+  entries_updated es fs name x h = λ q.
+      sym (found_by_name fs q) ∙ (ap (option_map taken_value) (h q) ∙ (sym (looked (bytes_eq name q) x (lookup (bytes_eq q) es))
+      ∙ (ap (λ (w : Option Value). if bytes_eq name q then Some (taken_value x) else w) (found_by_name es q)
+      ∙ sym (value_of-set_value (values_taken es) name q (taken_value x)))))

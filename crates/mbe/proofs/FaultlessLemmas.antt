@@ -8,16 +8,16 @@ use Rattle.mbe.specs.Rounds.{follow}
 use Rattle.mbe.specs.Substitution.{is_simple, op_faults, faults}
 use Rattle.mbe.specs.Views.{bound_by}
 use Rattle.mbe.specs.Writing.{writes_plainly_op, writes_plainly}
-use Rattle.mbe.proofs.WritingLemmas.{IsStripped, each_stripped}
+use Rattle.mbe.proofs.WritingLemmas.{IsOneFragment, each_one}
 
-one_fragment : (v : Option Value) → IsStripped v → (if is_none v then false else not (is_simple (option_and_then (follow []) v))) ≡ false
+one_fragment : (v : Option Value) → IsOneFragment v → (if is_none v then false else not (is_simple (option_and_then (follow []) v))) ≡ false
 one_fragment None h = refl
 one_fragment (Some (fragment x)) h = refl
 one_fragment (Some (list vs)) h = absurd h
 one_fragment (Some empty) h = absurd h
 one_fragment (Some (missing kind)) h = absurd h
 
-module _ (env : Environment) (known : (name : Name) → IsStripped (value_of env name)) where
+module _ (env : Environment) (known : (name : Name) → IsOneFragment (value_of env name)) where
   mutual
     op_faultless : (o : Op) → IsTrue (writes_plainly_op o) → op_faults env [] o ≡ false
     op_faultless (token t) h = refl
@@ -33,4 +33,4 @@ module _ (env : Environment) (known : (name : Name) → IsStripped (value_of env
 
 -- a template of tokens, groups and variables doesn't fault under what a match binds
 pub never_faults : {A : Type 0} (b : Bindings A) (os : Ops) → IsTrue (writes_plainly os) → faults (bound_by b) [] os ≡ false
-never_faults b = ops_faultless (bound_by b) (each_stripped b.inner.entries)
+never_faults b = ops_faultless (bound_by b) (each_one b.inner.entries)

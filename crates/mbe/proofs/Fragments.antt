@@ -1,17 +1,17 @@
 -- What an iterator has passed, and what a variable takes by what stands in front.
-use Rattle.std.specs.Prelude.{◌≡◌, ◌≤◌, ℕ, zero, suc, Bool, true, false, if◌then◌else◌, length, List, Option, Some, None, option_map, refl, ◌==◌}
+use Rattle.std.specs.Prelude.{◌≡◌, ◌≤◌, ℕ, zero, suc, Bool, true, false, if◌then◌else◌, length, List, Option, Some, None, option_map, Result, Ok, Err, IsOk, is_ok, ◌↔◌, refl, ◌==◌}
 use Rattle.std.proofs.Common.{ap, sym, ◌∙◌, arith}
 use Rattle.std.proofs.lemmas.Option.{none-some, same_Some}
 use Rattle.std.proofs.lemmas.Bool.{eq-eqb, ne_eqb}
-use Rattle.mbe_tt.specs.Leaf.{Ident, literal, punct, ident, is_underscore}
-use Rattle.mbe_tt.specs.Tree.{Forest, none, leaf, group, append, flat_len, rest_of, skip, front_ident, front_char, Cut, cut_trees}
+use Rattle.mbe_tt.specs.Leaf.{Leaf, Ident, literal, punct, ident, is_underscore}
+use Rattle.mbe_tt.specs.Tree.{Forest, none, leaf, group, append, flat_len, rest_of, skip, front_ident, front_char, front_literal, is_truth, Cut, cut_trees}
 use Rattle.mbe_tt.proofs.CutLemmas.{cut_trees-append}
 use Rattle.mbe_tt.specs.Tree.{first, tree, Tree, Leaf_tree, Group_tree, any_ident}
 use Rattle.mbe_tt.specs.View.{trees}
 use Rattle.mbe_tt.specs.Glue.{glue, glued}
 use Rattle.mbe_tt.specs.declared.tt.Punct.{Punct}
 use Rattle.mbe_tt.specs.declared.view.TokenTreesView.{TokenTreesView}
-use Rattle.mbe.specs.Takes.{ident_front, lifetime_front, tree_front}
+use Rattle.mbe.specs.Takes.{ident_front, lifetime_front, unsigned_front, with_leaf, literal_front, tree_front}
 use Rattle.mbe.specs.Views.{IsTaken}
 
 skip-none : (n : ℕ) → skip n none ≡ none
@@ -51,6 +51,10 @@ if_none : {X Y : Type 0} (b : Bool) (x y : X) (z : Y) → (if b then None else S
 if_none true x y z e = absurd (none-some y e)
 if_none false x y z e = refl
 
+if_some : {X Y : Type 0} (b : Bool) (x y : X) (z : Y) → (if b then Some x else None) ≡ Some y → (if b then Some z else None) ≡ Some z
+if_some true x y z e = refl
+if_some false x y z e = absurd (none-some y e)
+
 pub ident_in_front : (f : Forest) (i : Ident) → front_ident f ≡ Some i → ident_front f ≡ Some (cut_trees 1 f)
 ident_in_front none i e = absurd (none-some i e)
 ident_in_front (leaf (literal l) rest) i e = absurd (none-some i e)
@@ -72,12 +76,57 @@ lifetime_behind p (leaf (punct o) rest) i q e = absurd (none-some i e)
 lifetime_behind p (leaf (ident j) rest) i q e = rw q refl
 lifetime_behind p (group d inside rest) i q e = absurd (none-some i e)
 
-pub lifetime_in_front : (f : Forest) (i : Ident) → front_char f ≡ Some 39 → any_ident (rest_of f) ≡ Some i → tree_front f ≡ Some (cut_trees 2 f)
+pub lifetime_in_front : (f : Forest) (i : Ident) → front_char f ≡ Some 39 → any_ident (rest_of f) ≡ Some i → lifetime_front f ≡ Some (cut_trees 2 f)
 lifetime_in_front none i q e = absurd (none-some 39 q)
 lifetime_in_front (leaf (literal l) rest) i q e = absurd (none-some 39 q)
-lifetime_in_front (leaf (punct p) rest) i q e = rw (is_quote p q) (lifetime_behind p rest i (is_quote p q) e)
+lifetime_in_front (leaf (punct p) rest) i q e = lifetime_behind p rest i (is_quote p q) e
 lifetime_in_front (leaf (ident j) rest) i q e = absurd (none-some 39 q)
 lifetime_in_front (group d inside rest) i q e = absurd (none-some 39 q)
+
+-- behind a quote stands a lifetime or nothing
+pub quoted : (f : Forest) → front_char f ≡ Some 39 → tree_front f ≡ lifetime_front f
+quoted none q = absurd (none-some 39 q)
+quoted (leaf (literal l) rest) q = absurd (none-some 39 q)
+quoted (leaf (punct p) rest) q = rw (is_quote p q) refl
+quoted (leaf (ident j) rest) q = absurd (none-some 39 q)
+quoted (group d inside rest) q = absurd (none-some 39 q)
+
+-- ---- literals, behind a sign or not
+
+unsigned_in_front : (f : Forest) (l : Leaf) → front_literal f ≡ Some l → unsigned_front f ≡ Some (cut_trees 1 f)
+unsigned_in_front none l e = absurd (none-some l e)
+unsigned_in_front (leaf (literal k) rest) l e = refl
+unsigned_in_front (leaf (punct p) rest) l e = absurd (none-some l e)
+unsigned_in_front (leaf (ident i) rest) l e = if_some (is_truth i.sym) (ident i) l (cut_trees 1 (leaf (ident i) rest)) e
+unsigned_in_front (group d inside rest) l e = absurd (none-some l e)
+
+signed_in_front : (f : Forest) (l : Leaf) → front_char f ≡ Some 45 → front_literal (rest_of f) ≡ Some l → literal_front f ≡ Some (cut_trees 2 f)
+signed_in_front none l q e = absurd (none-some 45 q)
+signed_in_front (leaf (literal k) rest) l q e = absurd (none-some 45 q)
+signed_in_front (leaf (punct p) rest) l q e = rw (eq-eqb p.char 45 (same_Some p.char 45 q)) (ap (with_leaf (leaf (punct p) rest)) (unsigned_in_front rest l e))
+signed_in_front (leaf (ident i) rest) l q e = absurd (none-some 45 q)
+signed_in_front (group d inside rest) l q e = absurd (none-some 45 q)
+
+bare_in_front : (f : Forest) (l : Leaf) → front_literal f ≡ Some l → literal_front f ≡ Some (cut_trees 1 f)
+bare_in_front none l e = absurd (none-some l e)
+bare_in_front (leaf (literal k) rest) l e = refl
+bare_in_front (leaf (punct p) rest) l e = absurd (none-some l e)
+bare_in_front (leaf (ident i) rest) l e = unsigned_in_front (leaf (ident i) rest) l e
+bare_in_front (group d inside rest) l e = absurd (none-some l e)
+
+-- the trees of a literal, behind a sign that was passed or not
+abbrev pub literal_trees : Bool → ℕ
+literal_trees true = 2
+literal_trees false = 1
+
+pub literal_in_front : {T E : Type 0} (r : Result T E) (f mid : Forest) (l : Leaf) → (IsOk r ↔ (front_char f ≡ Some 45))
+    → mid ≡ (if is_ok r then rest_of f else f) → front_literal mid ≡ Some l → literal_front f ≡ Some (cut_trees (literal_trees (is_ok r)) f)
+literal_in_front (Ok x) f mid l h m e = signed_in_front f l (h.0 refl) (ap front_literal (sym m) ∙ e)
+literal_in_front (Err x) f mid l h m e = bare_in_front f l (ap front_literal (sym m) ∙ e)
+
+pub behind_literal : (b : Bool) (f mid left : Forest) → mid ≡ (if b then rest_of f else f) → left ≡ rest_of mid → left ≡ skip (literal_trees b) f
+behind_literal true f mid left m l = l ∙ ap rest_of m
+behind_literal false f mid left m l = l ∙ ap rest_of m
 
 pub puncts_in_front : (f : Forest) (ps : List Punct) → (front_char f ≡ Some 39 → ⊥) → Some ps ≡ glued f → tree_front f ≡ Some (cut_trees (length (glue f)) f)
 puncts_in_front none ps n e = absurd (none-some ps (sym e))

@@ -12,16 +12,13 @@ use Rattle.mbe_tt.specs.declared.tt.Delimiter.{Delimiter}
 use Rattle.mbe_tt.specs.declared.tt.DelimiterKind.{DelimiterKind}
 use Rattle.mbe_tt.specs.declared.tt.DelimiterKind.TheVariants.{Parenthesis, Brace, Bracket, Invisible}
 use Rattle.std.specs.Prelude.{Result, Ok, Err, IfOk}
-use Rattle.mbe_tt.specs.declared.view.TokenTreesView.{TokenTreesView}
-use Rattle.mbe_tt.specs.declared.span.Span.{Span}
-use Rattle.mbe.specs.declared.parser.MetaVarKind.{MetaVarKind}
 use Rattle.mbe.specs.Op as ops
 use Rattle.mbe.specs.Op.{Name, Token, Op, Ops, no_ops, op}
-use Rattle.mbe.specs.Item.{Item, Items, item, stripped}
+use Rattle.mbe.specs.Item.{Item, Items, item}
 use Rattle.mbe.specs.Fit.{token_front, literal_text_front, ident_text_front, puncts_front}
-use Rattle.mbe.specs.Environment.{Environment, fragment, bind, set_value}
-use Rattle.mbe.specs.Views.{IsTaken}
-use Rattle.mbe.specs.Matching.{takes_plainly, matched_front, bound_front, whole, grouped_front, then_read, read_front, read_on, read_all, HasPassed, BindsAlike, HasRead, HasReadAll}
+use Rattle.mbe.specs.Environment.{Environment, bind}
+use Rattle.mbe_tt.specs.Grammar.{Grammar}
+use Rattle.mbe.specs.Matching.{matched_front, whole, grouped_front, then_read, read_front, read_on, read_all, HasPassed, BindsAlike, HasRead, HasReadAll}
 use Rattle.mbe_tt.proofs.CutLemmas.{no_true}
 use Rattle.mbe.specs.declared.parser.Op.{the_lemmas}
 use Rattle.mbe.specs.declared.parser.Op as code
@@ -30,7 +27,7 @@ use Rattle.mbe.specs.declared.parser.Op.TheViews.{Subtree}
 use Rattle.mbe.specs.Views.{op_of, ops_of}
 use Rattle.mbe.proofs.Fragments.{left_behind}
 use Rattle.mbe.proofs.ReaderLemmas.{glued_is, puncts_longer}
-use Rattle.mbe.proofs.BindingLemmas.{taken_value, alike_item}
+use Rattle.mbe.proofs.BindingLemmas.{alike_item}
 
 -- ---- tokens
 
@@ -90,99 +87,6 @@ puncts_passed f left ps (c ∷ cs) r g l e =
     go true q s h = subst (λ (x : Bool). HasPassed x (Some (cut_trees (length (c ∷ cs)) f)) left) (sym s) (h refl)
     go false q s h = subst (λ (x : Bool). HasPassed x None left) (sym s) tt
 
--- ---- one op
-
-pub token_read : (r : Bool) (t : Token) (f left : Forest) (env : Environment) → HasPassed r (token_front t f) left → HasRead r (read_front (ops.token t) f) left env env
-token_read r t f left env h = go r (token_front t f) h
-  where
-    go : (r : Bool) (c : Option Cut) → HasPassed r c left → HasRead r (matched_front c) left env env
-    go true (Some c) h = (h, λ q. refl)
-    go true None h = h
-    go false (Some c) h = h
-    go false None h = h
-
-pub variable_read : {A : Type 0} (v : TokenTreesView A) (name : Name) (kind : Option MetaVarKind) (span : Span) (f left : Forest) (before after : Environment) →
-    IsTaken (Some v) (takes_plainly kind f) left → BindsAlike after (set_value before name (taken_value v)) →
-    HasRead true (read_front (ops.variable name kind span) f) left before after
-variable_read {A} v name kind span f left before after h a = go (takes_plainly kind f) h
-  where
-    go : (c : Option Cut) → IsTaken (Some v) c left → HasRead true (bound_front name c) left before after
-    go (Some c) h = (h.1, subst (λ (t : Forest). BindsAlike after (set_value before name (fragment (record { trees = t; style = stripped })))) h.0 a)
-    go None h = h
-
--- a group at the front, whose content was read or not
-pub group_read : (r : Bool) (d e : Delimiter) (body : Ops) (f inside left : Forest) (before after : Environment) → Some (e, inside) ≡ front_group f →
-    left ≡ rest_of f → is_same_kind d.kind e.kind ≡ true → HasReadAll r (read_all body inside) before after →
-    HasRead r (read_front (ops.group d body) f) left before after
-group_read r d e body none inside left before after g l k h = absurd (none-some (e, inside) (sym g))
-group_read r d e body (leaf x rest) inside left before after g l k h = absurd (none-some (e, inside) (sym g))
-group_read r d e body (group d' inside' rest) inside left before after g l k h =
-    let same : (e, inside) ≡ (d', inside') = same_Some (e, inside) (d', inside') g in
-    let kind : is_same_kind d.kind d'.kind ≡ true = subst (λ (x : Delimiter). is_same_kind d.kind x.kind ≡ true) (ap (λ (x : Delimiter × Forest). x.0) same) k in
-    let read : HasReadAll r (read_all body inside') before after = subst (λ (x : Forest). HasReadAll r (read_all body x) before after) (ap (λ (x : Delimiter × Forest). x.1) same) h in
-    subst (λ (b : Bool). HasRead r (if b then grouped_front (read_all body inside') rest else None) left before after) (sym kind)
-    (go r (read_all body inside') read)
-  where
-    go : (r : Bool) (o : Option Items) → HasReadAll r o before after → HasRead r (grouped_front o rest) left before after
-    go true (Some is) h = (l, h)
-    go true None h = h
-    go false (Some is) h = h
-    go false None h = h
-
--- a group of another kind
-pub other_group : (d e : Delimiter) (body : Ops) (f inside left : Forest) (before after : Environment) → Some (e, inside) ≡ front_group f →
-    is_same_kind d.kind e.kind ≡ false → HasRead false (read_front (ops.group d body) f) left before after
-other_group d e body none inside left before after g k = absurd (none-some (e, inside) (sym g))
-other_group d e body (leaf x rest) inside left before after g k = absurd (none-some (e, inside) (sym g))
-other_group d e body (group d' inside' rest) inside left before after g k =
-    let same : (e, inside) ≡ (d', inside') = same_Some (e, inside) (d', inside') g in
-    let kind : is_same_kind d.kind d'.kind ≡ false = subst (λ (x : Delimiter). is_same_kind d.kind x.kind ≡ false) (ap (λ (x : Delimiter × Forest). x.0) same) k in
-    subst (λ (b : Bool). HasRead false (if b then grouped_front (read_all body inside') rest else None) left before after) (sym kind) tt
-
--- no group
-pub no_group : (d : Delimiter) (body : Ops) (f left : Forest) (before after : Environment) → None ≡ front_group f →
-    HasRead false (read_front (ops.group d body) f) left before after
-no_group d body none left before after g = tt
-no_group d body (leaf x rest) left before after g = tt
-no_group d body (group e inside rest) left before after g = absurd (none-some (e, inside) g)
-
--- ---- ops, one after the other
-
--- the first of the ops was read, and the others go on behind it
-pub next_read : (o : Op) (os : Ops) (is : Items) (f left : Forest) (before after env : Environment) → HasRead true (read_front o f) left before after →
-    BindsAlike before (bind is env) → (x : Item) × (read_on (op o os) is f ≡ read_on os (item is x) left) × BindsAlike after (bind (item is x) env)
-next_read o os is f left before after env h a = go (read_front o f) h
-  where
-    go : (r : Option (Item × Forest)) → HasRead true r left before after →
-        (x : Item) × (then_read (λ js rest. read_on os js rest) is r ≡ read_on os (item is x) left) × BindsAlike after (bind (item is x) env)
-    go (Some r) h = (r.0, ap (read_on os (item is r.0)) (sym h.0), λ q. h.1 q ∙ alike_item r.0 before (bind is env) a q)
-    go None h = absurd h
-
--- the first of the ops wasn't read
-pub stopped_read : (o : Op) (os : Ops) (is : Items) (f left : Forest) (before after : Environment) → HasRead false (read_front o f) left before after →
-    read_on (op o os) is f ≡ None
-stopped_read o os is f left before after h = go (read_front o f) h
-  where
-    go : (r : Option (Item × Forest)) → HasRead false r left before after → then_read (λ js rest. read_on os js rest) is r ≡ None
-    go (Some r) h = absurd h
-    go None h = refl
-
-pub not_all : (r : Option (Items × Forest)) (before after : Environment) → r ≡ None → HasReadAll false (whole r) before after
-not_all r before after e = subst (λ (x : Option (Items × Forest)). HasReadAll false (whole x) before after) (sym e) tt
-
--- no op is left
-pub all_read : (r : Bool) (is : Items) (f : Forest) (q : Option (Items × Forest)) (before after : Environment) → (IsTrue r ↔ (f ≡ none)) → q ≡ Some (is, f) →
-    BindsAlike after (bind is before) → HasReadAll r (whole q) before after
-all_read r is f q before after e s a = subst (λ (x : Option (Items × Forest)). HasReadAll r (whole x) before after) (sym s) (go r f e)
-  where
-    go : (r : Bool) (f : Forest) → (IsTrue r ↔ (f ≡ none)) → HasReadAll r (whole (Some (is, f))) before after
-    go true none e = a
-    go true (leaf l rest) e = let h : leaf l rest ≡ none = e.0 refl in absurd cc
-    go true (group d inside rest) e = let h : group d inside rest ≡ none = e.0 refl in absurd cc
-    go false none e = no_true (e.1 refl)
-    go false (leaf l rest) e = tt
-    go false (group d inside rest) e = tt
-
 pub same_kind : (j k : DelimiterKind) → k ≡ j → is_same_kind j k ≡ true
 same_kind j k e = subst (λ x. is_same_kind j x ≡ true) (sym e) (go j)
   where
@@ -192,11 +96,97 @@ same_kind j k e = subst (λ x. is_same_kind j x ≡ true) (sym e) (go j)
     go Bracket = refl
     go Invisible = refl
 
-pub group_ok : {E : Type 0} (r : Result Bool E) (d e : Delimiter) (body : Ops) (f inside left : Forest) (before after : Environment) → Some (e, inside) ≡ front_group f →
-    left ≡ rest_of f → is_same_kind d.kind e.kind ≡ true → IfOk r (λ b. HasReadAll b (read_all body inside) before after) →
-    IfOk r (λ b. HasRead b (read_front (ops.group d body) f) left before after)
-group_ok (Ok b) d e body f inside left before after g l k h = group_read b d e body f inside left before after g l k h
-group_ok (Err x) d e body f inside left before after g l k h = tt
+-- what ops read, by this grammar
+module _ (g : Grammar) where
+  -- ---- one op
+
+  pub token_read : (r : Bool) (t : Token) (f left : Forest) (env : Environment) → HasPassed r (token_front t f) left → HasRead r (read_front g (ops.token t) f) left env env
+  token_read r t f left env h = go r (token_front t f) h
+    where
+      go : (r : Bool) (c : Option Cut) → HasPassed r c left → HasRead r (matched_front c) left env env
+      go true (Some c) h = (h, λ q. refl)
+      go true None h = h
+      go false (Some c) h = h
+      go false None h = h
+
+  -- a group at the front, whose content was read or not
+  pub group_read : (r : Bool) (d e : Delimiter) (body : Ops) (f inside left : Forest) (before after : Environment) → Some (e, inside) ≡ front_group f →
+      left ≡ rest_of f → is_same_kind d.kind e.kind ≡ true → HasReadAll r (read_all g body inside) before after →
+      HasRead r (read_front g (ops.group d body) f) left before after
+  group_read r d e body none inside left before after u l k h = absurd (none-some (e, inside) (sym u))
+  group_read r d e body (leaf x rest) inside left before after u l k h = absurd (none-some (e, inside) (sym u))
+  group_read r d e body (group d' inside' rest) inside left before after u l k h =
+      let same : (e, inside) ≡ (d', inside') = same_Some (e, inside) (d', inside') u in
+      let kind : is_same_kind d.kind d'.kind ≡ true = subst (λ (x : Delimiter). is_same_kind d.kind x.kind ≡ true) (ap (λ (x : Delimiter × Forest). x.0) same) k in
+      let read : HasReadAll r (read_all g body inside') before after = subst (λ (x : Forest). HasReadAll r (read_all g body x) before after) (ap (λ (x : Delimiter × Forest). x.1) same) h in
+      subst (λ (b : Bool). HasRead r (if b then grouped_front (read_all g body inside') rest else None) left before after) (sym kind)
+      (go r (read_all g body inside') read)
+    where
+      go : (r : Bool) (o : Option Items) → HasReadAll r o before after → HasRead r (grouped_front o rest) left before after
+      go true (Some is) h = (l, h)
+      go true None h = h
+      go false (Some is) h = h
+      go false None h = h
+
+  -- a group of another kind
+  pub other_group : (d e : Delimiter) (body : Ops) (f inside left : Forest) (before after : Environment) → Some (e, inside) ≡ front_group f →
+      is_same_kind d.kind e.kind ≡ false → HasRead false (read_front g (ops.group d body) f) left before after
+  other_group d e body none inside left before after u k = absurd (none-some (e, inside) (sym u))
+  other_group d e body (leaf x rest) inside left before after u k = absurd (none-some (e, inside) (sym u))
+  other_group d e body (group d' inside' rest) inside left before after u k =
+      let same : (e, inside) ≡ (d', inside') = same_Some (e, inside) (d', inside') u in
+      let kind : is_same_kind d.kind d'.kind ≡ false = subst (λ (x : Delimiter). is_same_kind d.kind x.kind ≡ false) (ap (λ (x : Delimiter × Forest). x.0) same) k in
+      subst (λ (b : Bool). HasRead false (if b then grouped_front (read_all g body inside') rest else None) left before after) (sym kind) tt
+
+  -- no group
+  pub no_group : (d : Delimiter) (body : Ops) (f left : Forest) (before after : Environment) → None ≡ front_group f →
+      HasRead false (read_front g (ops.group d body) f) left before after
+  no_group d body none left before after u = tt
+  no_group d body (leaf x rest) left before after u = tt
+  no_group d body (group e inside rest) left before after u = absurd (none-some (e, inside) u)
+
+  -- ---- ops, one after the other
+
+  -- the first of the ops was read, and the others go on behind it
+  pub next_read : (o : Op) (os : Ops) (is : Items) (f left : Forest) (before after env : Environment) → HasRead true (read_front g o f) left before after →
+      BindsAlike before (bind is env) → (x : Item) × (read_on g (op o os) is f ≡ read_on g os (item is x) left) × BindsAlike after (bind (item is x) env)
+  next_read o os is f left before after env h a = go (read_front g o f) h
+    where
+      go : (r : Option (Item × Forest)) → HasRead true r left before after →
+          (x : Item) × (then_read (λ js rest. read_on g os js rest) is r ≡ read_on g os (item is x) left) × BindsAlike after (bind (item is x) env)
+      go (Some r) h = (r.0, ap (read_on g os (item is r.0)) (sym h.0), λ q. h.1 q ∙ alike_item r.0 before (bind is env) a q)
+      go None h = absurd h
+
+  -- the first of the ops wasn't read
+  pub stopped_read : (o : Op) (os : Ops) (is : Items) (f left : Forest) (before after : Environment) → HasRead false (read_front g o f) left before after →
+      read_on g (op o os) is f ≡ None
+  stopped_read o os is f left before after h = go (read_front g o f) h
+    where
+      go : (r : Option (Item × Forest)) → HasRead false r left before after → then_read (λ js rest. read_on g os js rest) is r ≡ None
+      go (Some r) h = absurd h
+      go None h = refl
+
+  pub not_all : (r : Option (Items × Forest)) (before after : Environment) → r ≡ None → HasReadAll false (whole r) before after
+  not_all r before after e = subst (λ (x : Option (Items × Forest)). HasReadAll false (whole x) before after) (sym e) tt
+
+  -- no op is left
+  pub all_read : (r : Bool) (is : Items) (f : Forest) (q : Option (Items × Forest)) (before after : Environment) → (IsTrue r ↔ (f ≡ none)) → q ≡ Some (is, f) →
+      BindsAlike after (bind is before) → HasReadAll r (whole q) before after
+  all_read r is f q before after e s a = subst (λ (x : Option (Items × Forest)). HasReadAll r (whole x) before after) (sym s) (go r f e)
+    where
+      go : (r : Bool) (f : Forest) → (IsTrue r ↔ (f ≡ none)) → HasReadAll r (whole (Some (is, f))) before after
+      go true none e = a
+      go true (leaf l rest) e = let h : leaf l rest ≡ none = e.0 refl in absurd cc
+      go true (group d inside rest) e = let h : group d inside rest ≡ none = e.0 refl in absurd cc
+      go false none e = no_true (e.1 refl)
+      go false (leaf l rest) e = tt
+      go false (group d inside rest) e = tt
+
+  pub group_ok : {E : Type 0} (r : Result Bool E) (d e : Delimiter) (body : Ops) (f inside left : Forest) (before after : Environment) → Some (e, inside) ≡ front_group f →
+      left ≡ rest_of f → is_same_kind d.kind e.kind ≡ true → IfOk r (λ b. HasReadAll b (read_all g body inside) before after) →
+      IfOk r (λ b. HasRead b (read_front g (ops.group d body) f) left before after)
+  group_ok (Ok b) d e body f inside left before after u l k h = group_read b d e body f inside left before after u l k h
+  group_ok (Err x) d e body f inside left before after u l k h = tt
 
 -- a group of the code, whose ops are in sight
 pub view-open : {A : Type 0} (t : MetaTemplate-F A (code.Op A) (Unit {0})) (d : Delimiter) → op_of {A = A} (Subtree t d) ≡ ops.group d (ops_of t.0.items)

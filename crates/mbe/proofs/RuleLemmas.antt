@@ -6,12 +6,11 @@ use Rattle.mbe_tt.specs.Tree.{Forest, flat_len, Cut, cut_flat}
 use Rattle.mbe_tt.specs.Grammar.{Grammar, IsLawful}
 use Rattle.mbe_tt.specs.declared.grammar.Front.{Front}
 use Rattle.mbe.specs.declared.macro_call_style.MacroCallStyle.{MacroCallStyle}
-use Rattle.mbe.specs.Op.{Ops}
+use Rattle.mbe.specs.Op.{Ops, has_no_repetition}
 use Rattle.mbe.specs.Definition.{Rule}
 use Rattle.mbe.specs.Verdict.{Verdict, IsVerdict, unmatched}
 use Rattle.mbe.specs.Environment.{environment_of, binding_total}
 use Rattle.mbe.specs.Substitution.{faults}
-use Rattle.mbe.specs.Laws.{has_no_repetition}
 use Rattle.mbe.specs.Expansion.{Applies}
 use Rattle.mbe.specs.Recovery.{IsClosest, IsStyledAt, GoesBefore}
 use Rattle.mbe.specs.declared.parser.MetaVarKind.{MetaVarKind}

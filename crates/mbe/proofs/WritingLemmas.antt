@@ -11,13 +11,11 @@ use Rattle.mbe_tt.specs.declared.tt.Delimiter.{Delimiter}
 use Rattle.mbe_tt.specs.declared.tt.DelimiterKind.TheVariants.{Invisible}
 use Rattle.mbe_tt.specs.declared.tt.Spacing.TheVariants.{Alone}
 use Rattle.mbe_tt.specs.declared.tt.IdentIsRaw.TheVariants as raw
-use Rattle.mbe_tt.specs.declared.view.TokenTreesView.{TokenTreesView}
 use Rattle.mbe_tt.specs.Leaf.{Literal, Ident, literal, ident, punct}
 use Rattle.mbe_tt.specs.Grammar.{Grammar}
 use Rattle.mbe_tt.specs.Tree as tree
 use Rattle.mbe_tt.specs.Tree.{Forest, none, leaf, append, one_leaf}
 use Rattle.mbe_tt.specs.Entries.{append-none}
-use Rattle.mbe_tt.specs.View.{trees}
 use Rattle.mbe_tt.specs.Top.{Top, top_group}
 use Rattle.mbe_tt.specs.Building.{Levels, put, closed}
 use Rattle.mbe_tt.proofs.PlaceLemmas.{append-assoc}
@@ -26,13 +24,14 @@ use Rattle.mbe.specs.declared.parser.MetaVarKind.{MetaVarKind}
 use Rattle.mbe.specs.declared.parser.Op as code
 use Rattle.mbe.specs.Op as ops
 use Rattle.mbe.specs.Op.{Name, Op, Ops, op, no_ops}
-use Rattle.mbe.specs.Item.{stripped}
+use Rattle.mbe.specs.declared.expander.Fragment as took
+use Rattle.mbe.specs.Item.{Style, plain, stripped, as_expression, as_path}
 use Rattle.mbe.specs.Environment.{Environment, Value, fragment, list, empty, missing, value_of}
 use Rattle.mbe.specs.Rounds.{follow}
 use Rattle.mbe.specs.Written.{IsWrittenAs}
 use Rattle.mbe.specs.Substitution.{IsVariable, IsSubstitution, unbound_variable}
-use Rattle.mbe.specs.Views.{op_of, ops_of}
-use Rattle.mbe.specs.Writing.{Appends, IsMarkedLiteral, IsMarkedIdent, AreMarked, IsWritten, AreWritten, stripped_variable, writes_plainly, writes_plainly_op}
+use Rattle.mbe.specs.Views.{op_of, ops_of, fragment_seen}
+use Rattle.mbe.specs.Writing.{Appends, IsMarkedLiteral, IsMarkedIdent, AreMarked, IsWritten, AreWritten, plain_fragment, plain_variable, is_unwritten, is_unwritten_value, writes_plainly, writes_plainly_op}
 
 -- ---- a builder's trees
 
@@ -49,20 +48,21 @@ put_both f h old mid new a b = b ∙ (ap (put h) a ∙ put-put f h old)
 
 -- ---- what a name is bound to
 
-abbrev value_seen : {A : Type 0} → TokenTreesView A → Value
-value_seen v = fragment (record { trees = trees v; style = stripped })
+-- what a variable took, as the value that it is
+abbrev pub taken_value : {A : Type 0} → took.Fragment A → Value
+taken_value x = fragment (fragment_seen x)
 
-abbrev pub values_seen : {A : Type 0} → List (Name × TokenTreesView A) → Environment
-values_seen es = map (λ e. (e.0, value_seen e.1)) es
+abbrev pub values_taken : {A : Type 0} → List (Name × took.Fragment A) → Environment
+values_taken es = map (λ e. (e.0, taken_value e.1)) es
 
-seen_if : {A : Type 0} (b c : Bool) (v : TokenTreesView A) (r : Option (TokenTreesView A)) (w : Option Value) → b ≡ c → option_map value_seen r ≡ w
-    → option_map value_seen (if b then Some v else r) ≡ (if c then Some (value_seen v) else w)
-seen_if true c v r w e h = rw (← e) refl
-seen_if false c v r w e h = rw (← e) h
+taken_if : {A : Type 0} (b c : Bool) (x : took.Fragment A) (r : Option (took.Fragment A)) (w : Option Value) → b ≡ c → option_map taken_value r ≡ w
+    → option_map taken_value (if b then Some x else r) ≡ (if c then Some (taken_value x) else w)
+taken_if true c x r w e h = rw (← e) refl
+taken_if false c x r w e h = rw (← e) h
 
-pub found_by_name : {A : Type 0} (es : List (Name × TokenTreesView A)) (name : Name) → option_map value_seen (lookup (bytes_eq name) es) ≡ value_of (values_seen es) name
+pub found_by_name : {A : Type 0} (es : List (Name × took.Fragment A)) (name : Name) → option_map taken_value (lookup (bytes_eq name) es) ≡ value_of (values_taken es) name
 found_by_name [] name = refl
-found_by_name (e ∷ es) name = seen_if (bytes_eq name e.0) (bytes_eq e.0 name) e.1 _ _ (nat_list_eq_equiv.symm name e.0) (found_by_name es name)
+found_by_name (e ∷ es) name = taken_if (bytes_eq name e.0) (bytes_eq e.0 name) e.1 _ _ (nat_list_eq_equiv.symm name e.0) (found_by_name es name)
 
 -- ---- variables
 
@@ -74,31 +74,36 @@ unbound_written (Ok x) name sym span old mid new same first h =
     put_both (one_leaf (punct (record { char = 36; spacing = Alone; span = span }))) (one_leaf (ident (record { sym = sym; is_raw = raw.No; span = span }))) old mid new first h
     ∙ ap (λ n. put (unbound_variable n span) old) same
 
--- nothing, or a fragment that is written without an invisible group around it
-abbrev pub IsStripped : Option Value → Type 0
-IsStripped None = Unit {0}
-IsStripped (Some (fragment x)) = x.style ≡ stripped
-IsStripped (Some (list vs)) = ⊥
-IsStripped (Some empty) = ⊥
-IsStripped (Some (missing kind)) = ⊥
+-- nothing, or a fragment
+abbrev pub IsOneFragment : Option Value → Type 0
+IsOneFragment None = Unit {0}
+IsOneFragment (Some (fragment x)) = Unit {0}
+IsOneFragment (Some (list vs)) = ⊥
+IsOneFragment (Some empty) = ⊥
+IsOneFragment (Some (missing kind)) = ⊥
 
-stripped_if : (b : Bool) (v w : Option Value) → IsStripped v → IsStripped w → IsStripped (if b then v else w)
-stripped_if true v w h k = h
-stripped_if false v w h k = k
+one_if : (b : Bool) (v w : Option Value) → IsOneFragment v → IsOneFragment w → IsOneFragment (if b then v else w)
+one_if true v w h k = h
+one_if false v w h k = k
 
-pub each_stripped : {A : Type 0} (es : List (Name × TokenTreesView A)) (name : Name) → IsStripped (value_of (values_seen es) name)
-each_stripped [] name = tt
-each_stripped (e ∷ es) name = stripped_if (bytes_eq e.0 name) (Some (value_seen e.1)) _ refl (each_stripped es name)
+pub each_one : {A : Type 0} (es : List (Name × took.Fragment A)) (name : Name) → IsOneFragment (value_of (values_taken es) name)
+each_one [] name = tt
+each_one (e ∷ es) name = one_if (bytes_eq e.0 name) (Some (taken_value e.1)) _ tt (each_one es name)
 
 module _ (Marks : Span → Span → Type 0) where
-  variable_is : (g : Grammar) (site : Span) (env : Environment) (name : Name) (span : Span) (v : Option Value) → IsStripped v
-      → IsVariable g Marks site env name span v (option_and_then (follow []) v) (stripped_variable name span v)
-  variable_is g site env name span None h = refl
-  variable_is g site env name span (Some (fragment x)) h =
-      subst (λ s. IsWrittenAs Marks site s span x.trees (tree.alone (tree.strip_invisible x.trees))) (sym h) refl
-  variable_is g site env name span (Some (list vs)) h = absurd h
-  variable_is g site env name span (Some empty) h = absurd h
-  variable_is g site env name span (Some (missing kind)) h = absurd h
+  fragment_is : (site span : Span) (style : Style) (f : Forest) → is_unwritten style ≡ false → IsWrittenAs Marks site style span f (plain_fragment style f)
+  fragment_is site span plain f h = refl
+  fragment_is site span stripped f h = refl
+  fragment_is site span as_expression f h = absurd cc
+  fragment_is site span as_path f h = absurd cc
+
+  variable_is : (g : Grammar) (site : Span) (env : Environment) (name : Name) (span : Span) (v : Option Value) → IsOneFragment v → is_unwritten_value v ≡ false
+      → IsVariable g Marks site env name span v (option_and_then (follow []) v) (plain_variable name span v)
+  variable_is g site env name span None h k = refl
+  variable_is g site env name span (Some (fragment x)) h k = fragment_is site span x.style x.trees k
+  variable_is g site env name span (Some (list vs)) h k = absurd h
+  variable_is g site env name span (Some empty) h k = absurd h
+  variable_is g site env name span (Some (missing kind)) h k = absurd h
 
   -- ---- puncts
 
@@ -119,45 +124,34 @@ module _ (Marks : Span → Span → Type 0) where
   module _ (env : Environment) where
     -- ---- one op
 
-    writes_literal : (l m : Literal) (old new : Levels) → IsMarkedLiteral Marks l m → new ≡ put (one_leaf (literal m)) old
+    pub writes_literal : (l m : Literal) (old new : Levels) → IsMarkedLiteral Marks l m → new ≡ put (one_leaf (literal m)) old
         → Appends (IsWritten Marks env (ops.token (ops.literal l))) old new
     unfolding Appends IsWritten
     writes_literal l m old new h e = (one_leaf (literal m), (λ g site. (m.span, h.0, ap (λ x. one_leaf (literal x)) h.1)), e)
 
-    writes_ident : (i m : Ident) (old new : Levels) → IsMarkedIdent Marks i m → new ≡ put (one_leaf (ident m)) old
+    pub writes_ident : (i m : Ident) (old new : Levels) → IsMarkedIdent Marks i m → new ≡ put (one_leaf (ident m)) old
         → Appends (IsWritten Marks env (ops.token (ops.ident i))) old new
     unfolding Appends IsWritten
     writes_ident i m old new h e = (one_leaf (ident m), (λ g site. (m.span, h.0, ap (λ x. one_leaf (ident x)) h.1)), e)
 
-    writes_puncts : (ps : List Punct) (old new : Levels) → Appends (AreMarked Marks ps) old new → Appends (IsWritten Marks env (ops.token (ops.puncts ps))) old new
+    pub writes_puncts : (ps qs : List Punct) (old new : Levels) → qs ≡ ps → Appends (AreMarked Marks qs) old new → Appends (IsWritten Marks env (ops.token (ops.puncts ps))) old new
     unfolding Appends AreMarked IsWritten
-    writes_puncts ps old new w = (w.0, (λ g site. w.1 g site env), w.2)
+    writes_puncts ps qs old new same w =
+        let v = subst (λ us. Appends (AreMarked Marks us) old new) same w in
+        (v.0, (λ g site. v.1 g site env), v.2)
 
-    pub literal_written : {T E : Type 0} (r : Result T E) (l m : Literal) (old new : Levels) → IsMarkedLiteral Marks l m → OnOk r (new ≡ put (one_leaf (literal m)) old)
-        → OnOk r (Appends (IsWritten Marks env (ops.token (ops.literal l))) old new)
-    literal_written (Err e) l m old new h w = tt
-    literal_written (Ok x) l m old new h w = writes_literal l m old new h w
-
-    pub ident_written : {T E : Type 0} (r : Result T E) (i m : Ident) (old new : Levels) → IsMarkedIdent Marks i m → OnOk r (new ≡ put (one_leaf (ident m)) old)
-        → OnOk r (Appends (IsWritten Marks env (ops.token (ops.ident i))) old new)
-    ident_written (Err e) i m old new h w = tt
-    ident_written (Ok x) i m old new h w = writes_ident i m old new h w
-
-    pub puncts_written : {T E : Type 0} (r : Result T E) (ps qs : List Punct) (old new : Levels) → qs ≡ ps → OnOk r (Appends (AreMarked Marks qs) old new)
-        → OnOk r (Appends (IsWritten Marks env (ops.token (ops.puncts ps))) old new)
-    puncts_written (Err e) ps qs old new same w = tt
-    puncts_written (Ok x) ps qs old new same w = writes_puncts ps old new (subst (λ us. Appends (AreMarked Marks us) old new) same w)
-
-    writes_variable : (name : Name) (kind : Option MetaVarKind) (span : Span) (old new : Levels) → IsStripped (value_of env name)
-        → new ≡ put (stripped_variable name span (value_of env name)) old → Appends (IsWritten Marks env (ops.variable name kind span)) old new
+    writes_variable : (name : Name) (kind : Option MetaVarKind) (span : Span) (old new : Levels) → IsOneFragment (value_of env name)
+        → is_unwritten_value (value_of env name) ≡ false → new ≡ put (plain_variable name span (value_of env name)) old
+        → Appends (IsWritten Marks env (ops.variable name kind span)) old new
     unfolding Appends IsWritten
-    writes_variable name kind span old new h e =
-        (stripped_variable name span (value_of env name), (λ g site. variable_is g site env name span (value_of env name) h), e)
+    writes_variable name kind span old new h k e =
+        (plain_variable name span (value_of env name), (λ g site. variable_is g site env name span (value_of env name) h k), e)
 
-    pub variable_written : {T E : Type 0} (r : Result T E) (name : Name) (kind : Option MetaVarKind) (span : Span) (old new : Levels) → IsStripped (value_of env name)
-        → OnOk r (new ≡ put (stripped_variable name span (value_of env name)) old) → OnOk r (Appends (IsWritten Marks env (ops.variable name kind span)) old new)
-    variable_written (Err e) name kind span old new h w = tt
-    variable_written (Ok x) name kind span old new h w = writes_variable name kind span old new h w
+    pub variable_written : {T E : Type 0} (r : Result T E) (name : Name) (kind : Option MetaVarKind) (span : Span) (old new : Levels) → IsOneFragment (value_of env name)
+        → OnOk r (is_unwritten_value (value_of env name) ≡ false) → OnOk r (new ≡ put (plain_variable name span (value_of env name)) old)
+        → OnOk r (Appends (IsWritten Marks env (ops.variable name kind span)) old new)
+    variable_written (Err e) name kind span old new h k w = tt
+    variable_written (Ok x) name kind span old new h k w = writes_variable name kind span old new h k w
 
     pub writes_group : (d : Delimiter) (s u : Span) (body : Ops) (old opened mid new : Levels) → Marks d.opening s → Marks d.close u
         → opened ≡ (record { opening = s; close = s; kind = d.kind }, none) ∷ old → Appends (AreWritten Marks env body) opened mid → new ≡ closed u mid

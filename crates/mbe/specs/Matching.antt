@@ -1,45 +1,19 @@
--- What ops without a repetition read from the front of trees, where no grammar is asked, and what a match by them binds.
-use Rattle.std.specs.Prelude.{◌≡◌, Bool, true, false, ◌&&◌, IsTrue, if◌then◌else◌, Option, Some, None}
+-- What ops without a repetition read from the front of trees, and what a match by them binds.
+use Rattle.std.specs.Prelude.{◌≡◌, Bool, true, false, IsTrue, if◌then◌else◌, Option, Some, None}
 use Rattle.mbe.specs.declared.parser.MetaVarKind.{MetaVarKind}
 use Rattle.mbe.specs.declared.parser.MetaVarKind.TheVariants as kinds
 use Rattle.mbe_tt.specs.declared.tt.DelimiterKind.{DelimiterKind}
 use Rattle.mbe_tt.specs.Tree.{Forest, none, leaf, group, flat_len, Cut, is_same_kind}
 use Rattle.mbe_tt.specs.Grammar.{Grammar}
 use Rattle.mbe.specs.Op as ops
-use Rattle.mbe.specs.Op.{Name, Op, Ops, no_ops, op}
-use Rattle.mbe.specs.Item.{Item, matched, bound, grouped, Items, no_items, item, stripped}
-use Rattle.mbe.specs.Takes.{ident_front, tree_front}
+use Rattle.mbe.specs.Op.{Name, Op, Ops, no_ops, op, has_no_repetition}
+use Rattle.mbe.specs.Item.{Item, matched, bound, grouped, Items, no_items, item, style_of}
+use Rattle.mbe.specs.Takes.{takes}
 use Rattle.mbe.specs.Fit.{token_front}
 use Rattle.mbe.specs.Environment.{Environment, value_of, bind, bind_item, environment_of}
 use Rattle.mbe.specs.Ambiguity.{IsReading, Fits}
 use Rattle.mbe.specs.declared.expander.matcher.Bindings as found
 use Rattle.mbe.specs.Views.{bound_by}
-
--- what the kinds take that ask no grammar: an identifier, or a tree
-abbrev pub takes_plainly : Option MetaVarKind → Forest → Option Cut
-takes_plainly (Some kinds.Ident) f = ident_front f
-takes_plainly (Some kinds.Tt) f = tree_front f
-takes_plainly _ f = None
-
--- these are all that the kind takes; an unknown kind takes nothing
-abbrev pub is_plain_kind : Option MetaVarKind → Bool
-is_plain_kind None = true
-is_plain_kind (Some kinds.Ident) = true
-is_plain_kind (Some kinds.Tt) = true
-is_plain_kind _ = false
-
--- no repetition stands in the ops, and no variable asks the grammar
-abbrev mutual
-  pub is_plain_op : Op → Bool
-  is_plain_op (ops.token t) = true
-  is_plain_op (ops.group d body) = is_plain body
-  is_plain_op (ops.variable name kind span) = is_plain_kind kind
-  is_plain_op (ops.repetition body separator repeat) = false
-  is_plain_op (ops.expression e) = true
-
-  pub is_plain : Ops → Bool
-  is_plain no_ops = true
-  is_plain (op o os) = is_plain_op o && is_plain os
 
 -- ---- what is read from the front, and the trees behind it
 
@@ -49,9 +23,9 @@ matched_front None = None
 matched_front (Some c) = Some (matched (flat_len c.front), c.back)
 
 -- a fragment of the variable
-abbrev pub bound_front : Name → Option Cut → Option (Item × Forest)
-bound_front name None = None
-bound_front name (Some c) = Some (bound name (record { trees = c.front; style = stripped }), c.back)
+abbrev pub bound_front : Name → Option MetaVarKind → Option Cut → Option (Item × Forest)
+bound_front name kind None = None
+bound_front name kind (Some c) = Some (bound name (record { trees = c.front; style = style_of kind }), c.back)
 
 -- the items, where nothing is left
 abbrev pub whole : Option (Items × Forest) → Option Items
@@ -76,23 +50,24 @@ abbrev pub then_read : (Items → Forest → Option (Items × Forest)) → Items
 then_read more is None = None
 then_read more is (Some r) = more (item is r.0) r.1
 
-abbrev mutual
-  -- what the op reads
-  pub read_front : Op → Forest → Option (Item × Forest)
-  read_front (ops.token t) f = matched_front (token_front t f)
-  read_front (ops.group d body) f = group_front d.kind (λ inside. whole (read_on body no_items inside)) f
-  read_front (ops.variable name kind span) f = bound_front name (takes_plainly kind f)
-  read_front (ops.repetition body separator repeat) f = None
-  read_front (ops.expression e) f = None
+module _ (g : Grammar) where
+  abbrev mutual
+    -- what the op reads
+    pub read_front : Op → Forest → Option (Item × Forest)
+    read_front (ops.token t) f = matched_front (token_front t f)
+    read_front (ops.group d body) f = group_front d.kind (λ inside. whole (read_on body no_items inside)) f
+    read_front (ops.variable name kind span) f = bound_front name kind (takes g kind f)
+    read_front (ops.repetition body separator repeat) f = None
+    read_front (ops.expression e) f = None
 
-  -- what the ops read, behind the items that were read before
-  pub read_on : Ops → Items → Forest → Option (Items × Forest)
-  read_on no_ops is f = Some (is, f)
-  read_on (op o os) is f = then_read (λ js rest. read_on os js rest) is (read_front o f)
+    -- what the ops read, behind the items that were read before
+    pub read_on : Ops → Items → Forest → Option (Items × Forest)
+    read_on no_ops is f = Some (is, f)
+    read_on (op o os) is f = then_read (λ js rest. read_on os js rest) is (read_front o f)
 
--- what the ops read, where they read all the trees
-abbrev pub read_all : Ops → Forest → Option Items
-read_all os f = whole (read_on os no_items f)
+  -- what the ops read, where they read all the trees
+  abbrev pub read_all : Ops → Forest → Option Items
+  read_all os f = whole (read_on os no_items f)
 
 -- ---- what a call says of it
 
@@ -121,8 +96,8 @@ HasReadAll true None before after = ⊥
 HasReadAll false None before after = Unit {0}
 HasReadAll false (Some is) before after = ⊥
 
--- What a match answers: bindings, where the pattern fits by one reading, whatever the grammar, and they bind what that reading
--- does; or none. Then a pattern without a repetition, whose variables ask no grammar, has no reading.
-abbrev pub IsMatch : {A : Type 0} → Ops → Forest → Option (found.Bindings A) → Type 0
-IsMatch pattern argument None = (g : Grammar) (is : Items) → IsTrue (is_plain pattern) → IsReading g pattern argument is → ⊥
-IsMatch pattern argument (Some b) = (is : Items) × ((g : Grammar) → Fits g pattern argument is) × BindsAlike (bound_by b) (environment_of is)
+-- What a match answers: bindings, where the pattern fits by one reading, and they bind what that reading does; or none. Then
+-- a pattern without a repetition has no reading.
+abbrev pub IsMatch : {A : Type 0} → Grammar → Ops → Forest → Option (found.Bindings A) → Type 0
+IsMatch g pattern argument None = (is : Items) → IsTrue (has_no_repetition pattern) → IsReading g pattern argument is → ⊥
+IsMatch g pattern argument (Some b) = (is : Items) × Fits g pattern argument is × BindsAlike (bound_by b) (environment_of is)

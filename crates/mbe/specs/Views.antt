@@ -15,7 +15,10 @@ use Rattle.mbe.specs.Op as ops
 use Rattle.mbe.specs.Op.{Op, Ops, no_ops, op, token, group, variable, repetition, expression, literal, ident, puncts, Separator, Element}
 use Rattle.mbe.specs.Definition.{Rule}
 use Rattle.mbe.specs.declared.expander.matcher.Bindings as found
-use Rattle.mbe.specs.Item.{stripped}
+use Rattle.mbe.specs.declared.expander.Fragment as took
+use Rattle.mbe.specs.declared.expander.TokensOrigin.{TokensOrigin}
+use Rattle.mbe.specs.declared.expander.TokensOrigin.TheVariants.{Raw, Ast}
+use Rattle.mbe.specs.Item.{Fragment, Style, plain, stripped, as_expression, as_path}
 use Rattle.mbe.specs.Environment.{Environment, fragment}
 
 abbrev pub all_of : List Op → Ops
@@ -69,6 +72,17 @@ IsTaken (Some taken) (Some c) left = (trees taken ≡ c.front) × (left ≡ c.ba
 IsTaken None (Some c) left = ⊥
 IsTaken (Some taken) None left = ⊥
 
--- what was bound, as an environment: each variable took trees, which are written without an invisible group around them
+-- the style of a fragment of tokens: one that the grammar was asked for keeps an invisible group around it
+abbrev pub origin_style : TokensOrigin → Style
+origin_style Raw = stripped
+origin_style Ast = plain
+
+-- what a variable took
+abbrev pub fragment_seen : {A : Type 0} → took.Fragment A → Fragment
+fragment_seen (took.TheVariants.Tokens tree origin) = record { trees = trees tree; style = origin_style origin }
+fragment_seen (took.TheVariants.Expr tree) = record { trees = trees tree; style = as_expression }
+fragment_seen (took.TheVariants.Path tree) = record { trees = trees tree; style = as_path }
+
+-- what was bound, as an environment
 abbrev pub bound_by : {A : Type 0} → found.Bindings A → Environment
-bound_by b = map (λ e. (e.0, fragment (record { trees = trees e.1; style = stripped }))) b.inner.entries
+bound_by b = map (λ e. (e.0, fragment (fragment_seen e.1))) b.inner.entries

@@ -1,5 +1,6 @@
 -- What the transcriber writes behind the trees that are there.
 use Rattle.std.specs.Prelude.{◌≡◌, ◌&&◌, Bool, true, false, List, [], Option, Some}
+use Rattle.std.specs.List.{list_any}
 use Rattle.mbe_tt.specs.declared.span.Span.{Span}
 use Rattle.mbe_tt.specs.declared.tt.Punct.{Punct}
 use Rattle.mbe_tt.specs.Leaf.{Literal, Ident}
@@ -7,8 +8,9 @@ use Rattle.mbe_tt.specs.Grammar.{Grammar}
 use Rattle.mbe_tt.specs.Tree.{Forest, alone, strip_invisible}
 use Rattle.mbe_tt.specs.Building.{Levels, put}
 use Rattle.mbe.specs.Op as ops
-use Rattle.mbe.specs.Op.{Name, Op, Ops, no_ops, op}
-use Rattle.mbe.specs.Environment.{Environment, Value, fragment}
+use Rattle.mbe.specs.Op.{Name, Op, Ops, no_ops, op, Use, used_name}
+use Rattle.mbe.specs.Item.{Style, plain, stripped, as_expression, as_path}
+use Rattle.mbe.specs.Environment.{Environment, Value, fragment, value_of}
 use Rattle.mbe.specs.Substitution.{AreMarkedPuncts, Writes, Substitutes, unbound_variable}
 
 -- such trees come at the end of the innermost open group
@@ -28,10 +30,31 @@ abbrev mutual
   writes_plainly no_ops = true
   writes_plainly (op o os) = writes_plainly_op o && writes_plainly os
 
--- what a name's value writes where it is written without an invisible group around it; an unbound name is written as it stands
-abbrev pub stripped_variable : Name → Span → Option Value → Forest
-stripped_variable name span (Some (fragment x)) = alone (strip_invisible x.trees)
-stripped_variable name span _ = unbound_variable name span
+-- a fragment that is written as it is, or without an invisible group around it
+abbrev pub plain_fragment : Style → Forest → Forest
+plain_fragment stripped f = alone (strip_invisible f)
+plain_fragment _ f = alone f
+
+-- what a name's value writes where it is written so; an unbound name is written as it stands
+abbrev pub plain_variable : Name → Span → Option Value → Forest
+plain_variable name span (Some (fragment x)) = plain_fragment x.style x.trees
+plain_variable name span _ = unbound_variable name span
+
+-- an expression or a path, which isn't written yet
+abbrev pub is_unwritten : Style → Bool
+is_unwritten plain = false
+is_unwritten stripped = false
+is_unwritten as_expression = true
+is_unwritten as_path = true
+
+-- a name's value has such a style
+abbrev pub is_unwritten_value : Option Value → Bool
+is_unwritten_value (Some (fragment x)) = is_unwritten x.style
+is_unwritten_value _ = false
+
+-- one of the names has such a value
+abbrev pub some_unwritten : Environment → List Use → Bool
+some_unwritten env us = list_any (λ u. is_unwritten_value (value_of env (used_name u))) us
 
 -- `Marks s t`: the marker may answer t for s
 module _ (Marks : Span → Span → Type 0) where

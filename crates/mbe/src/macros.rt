@@ -70,9 +70,9 @@ impl<A: Allocator + Copy> DeclarativeMacro<A> {
 
     /// Expands a call by the first rule that is of the call's style and fits the whole argument.
     ///
-    /// `tt` is the argument: the trees inside its group are matched. `grammar` is to say what a fragment is; no kind of
-    /// variable that is carried yet asks it. `marker` answers the span that a token of the template is written with, once
-    /// for each; the fragments that variables took keep their spans. `call_site` is the span of the group around the
+    /// `tt` is the argument: the trees inside its group are matched. `grammar` says what the fragments of most kinds are.
+    /// `marker` answers the span that a token of the template is written with, once for each; the fragments that variables
+    /// took keep their spans. `call_site` is the span of the group around the
     /// expansion.
     ///
     /// The answer is the expansion as a token tree, with the place of its rule among all rules of the definition, where it
@@ -94,8 +94,15 @@ impl<A: Allocator + Copy> DeclarativeMacro<A> {
         ensures { AreCarried (macro_of self.now).rules → IfOk result (λ r. Answers (G.grammar grammar.now) (M.post marker) (macro_of self.now).rules
             call_style tt.now.1 call_site (top_group r.value.0) r.value.1 (errors_of r.err)) }
     {
-        let _ = grammar;
-        expand_rules(alloc, &self.rules, tt, marker, call_style, call_site)
+        expand_rules(
+            alloc,
+            grammar,
+            &self.rules,
+            tt,
+            marker,
+            call_style,
+            call_site,
+        )
     }
 }
 

@@ -3,28 +3,30 @@ ghost use Rattle.std.specs.Prelude.{◌≡◌, [], IfOk, OnOk, OnErr, option_map
 ghost use Rattle.std.specs.Str.{bytes_eq};
 ghost use Rattle.mbe_tt.specs.Glue.{chars_of};
 ghost use Rattle.mbe_tt.specs.Shown.{ident_of, literal_of};
-ghost use Rattle.mbe_tt.specs.View.{trees};
+ghost use Rattle.mbe_tt.specs.Grammar.{good_front};
 ghost use Rattle.mbe.specs.Environment.{set_value, value_of, fragment as fragment_value};
 ghost use Rattle.mbe.specs.Fit.{ident_text_front, literal_text_front, puncts_front};
-ghost use Rattle.mbe.specs.Item.{stripped};
 ghost use Rattle.mbe.specs.Op.{group};
-ghost use Rattle.mbe.specs.Matching.{takes_plainly, read_front, read_all, HasPassed, BindsAlike, HasRead, HasReadAll, IsMatch};
-ghost use Rattle.mbe.specs.Takes.{ident_front, tree_front};
-ghost use Rattle.mbe.specs.Views.{IsTaken, bound_by, op_of, ops_of, template_of};
+ghost use Rattle.mbe.specs.Matching.{read_front, read_all, HasPassed, BindsAlike, HasRead, HasReadAll, IsMatch};
+ghost use Rattle.mbe.specs.Takes.{takes, ident_front, lifetime_front, literal_front, tree_front, begins_refused, is_refused_word};
+ghost use Rattle.mbe.specs.Views.{IsTaken, bound_by, fragment_seen, op_of, ops_of, template_of};
 
-use crate::parser::{MetaTemplate, MetaVarKind, Op};
-use mbe_tt::iter::TtIter;
+use crate::expander::Fragment;
+use crate::fragment::eat_front;
+use crate::parser::{ExprKind, MetaTemplate, MetaVarKind, Op};
+use mbe_tt::grammar::{FragmentGrammar, PrefixEntryPoint};
+use mbe_tt::iter::{TtElement, TtIter};
 use mbe_tt::symbol::Symbol;
-use mbe_tt::tt::{Delimiter, Ident, Leaf, Literal, Punct};
+use mbe_tt::tt::{Delimiter, Ident, IdentIsRaw, Leaf, Literal, Punct};
 use mbe_tt::view::TokenTreesView;
 use std::alloc::{AllocError, Allocator, Global};
 use std::collections::HashMap;
 use std::hash::{BuildHasherDefault, FoldHasher};
 
-/// What a match binds: the trees that each variable took.
+/// What a match binds: the fragment that each variable took.
 #[derive(Drop)]
 pub(crate) struct Bindings<'a, A: Allocator = Global> {
-    inner: HashMap<Symbol<A>, TokenTreesView<'a, A>, BuildHasherDefault<FoldHasher>, A>,
+    inner: HashMap<Symbol<A>, Fragment<'a, A>, BuildHasherDefault<FoldHasher>, A>,
 }
 
 impl<'a, A: Allocator + Copy> Bindings<'a, A> {
@@ -36,13 +38,8 @@ impl<'a, A: Allocator + Copy> Bindings<'a, A> {
         }
     }
 
-    fn insert(
-        &mut self,
-        name: &Symbol<A>,
-        fragment: TokenTreesView<'a, A>,
-    ) -> Result<(), AllocError>
-        ensures ok { OnOk result (BindsAlike (bound_by self.new)
-            (set_value (bound_by self.old) name.now (fragment_value (record { trees = trees fragment.entry; style = stripped })))) }
+    fn insert(&mut self, name: &Symbol<A>, fragment: Fragment<'a, A>) -> Result<(), AllocError>
+        ensures ok { OnOk result (BindsAlike (bound_by self.new) (set_value (bound_by self.old) name.now (fragment_value (fragment_seen fragment.entry)))) }
         ensures err { OnErr result (bound_by self.new ≡ bound_by self.old) }
     {
         let _replaced = self.inner.insert(name.clone()?, fragment)?;
@@ -52,23 +49,24 @@ impl<'a, A: Allocator + Copy> Bindings<'a, A> {
 
 impl<'a, A: Allocator> Bindings<'a, A> {
     // What the variable took, if it is bound.
-    pub(crate) fn get(&self, name: &Symbol<A>) -> Option<TokenTreesView<'a, A>>
-        ensures { option_map (λ v. fragment_value (record { trees = trees v; style = stripped })) result ≡ value_of (bound_by self.now) name.now }
+    pub(crate) fn get(&self, name: &Symbol<A>) -> Option<Fragment<'a, A>>
+        ensures { option_map (λ x. fragment_value (fragment_seen x)) result ≡ value_of (bound_by self.now) name.now }
     {
         self.inner.get(name).copied()
     }
 }
 
 // What the pattern binds, where it reads the whole argument.
-pub(crate) fn match_<'a, A: Allocator + Copy>(
+pub(crate) fn match_<'a, A: Allocator + Copy, G: FragmentGrammar>(
     alloc: A,
+    grammar: &G,
     pattern: &MetaTemplate<A>,
     src: TtIter<'a, A>,
 ) -> Result<Option<Bindings<'a, A>>, AllocError>
-    ensures { IfOk result (IsMatch (template_of pattern.now) src.entry) }
+    ensures { IfOk result (IsMatch (G.grammar grammar.now) (template_of pattern.now) src.entry) }
 {
     let mut bindings = Bindings::new(alloc);
-    if match_ops(&pattern.0, src, &mut bindings)? {
+    if match_ops(grammar, &pattern.0, src, &mut bindings)? {
         Ok(Some(bindings))
     } else {
         Ok(None)
@@ -77,16 +75,17 @@ pub(crate) fn match_<'a, A: Allocator + Copy>(
 
 // Whether the ops read all the trees.
 #[cycle(matching)]
-fn match_ops<'a, A: Allocator + Copy>(
+fn match_ops<'a, A: Allocator + Copy, G: FragmentGrammar>(
+    grammar: &G,
     ops: &[Op<A>],
     src: TtIter<'a, A>,
     bindings: &mut Bindings<'a, A>,
 ) -> Result<bool, AllocError>
-    ensures { IfOk result (λ r. HasReadAll r (read_all (ops_of ops.now) src.entry) (bound_by bindings.old) (bound_by bindings.new)) }
+    ensures { IfOk result (λ r. HasReadAll r (read_all (G.grammar grammar.now) (ops_of ops.now) src.entry) (bound_by bindings.old) (bound_by bindings.new)) }
 {
     let mut src = src;
     for op in ops {
-        if !match_op(op, &mut src, bindings)? {
+        if !match_op(grammar, op, &mut src, bindings)? {
             return Ok(false);
         }
     }
@@ -96,21 +95,24 @@ fn match_ops<'a, A: Allocator + Copy>(
 // Whether the op reads what stands in front.
 #[cycle(matching)]
 #[tactic(auto, using(crate::proofs::OpViews::views))]
-fn match_op<'a, A: Allocator + Copy>(
+fn match_op<'a, A: Allocator + Copy, G: FragmentGrammar>(
+    grammar: &G,
     op: &Op<A>,
     src: &mut TtIter<'a, A>,
     bindings: &mut Bindings<'a, A>,
 ) -> Result<bool, AllocError>
-    ensures { IfOk result (λ r. HasRead r (read_front (op_of op.now) src.old) src.new (bound_by bindings.old) (bound_by bindings.new)) }
+    ensures { IfOk result (λ r. HasRead r (read_front (G.grammar grammar.now) (op_of op.now) src.old) src.new (bound_by bindings.old) (bound_by bindings.new)) }
 {
     match op {
         Op::Literal(literal) => Ok(eat_literal(literal, src)),
         Op::Ident(ident) => Ok(eat_ident(ident, src)),
         Op::Punct(puncts) => Ok(eat_puncts(puncts.as_slice(), src)),
-        Op::Subtree { tokens, delimiter } => match_group(tokens, *delimiter, src, bindings),
-        Op::Var { name, kind, .. } => match eat_fragment(*kind, src) {
-            Some(fragment) => {
-                bindings.insert(name, fragment)?;
+        Op::Subtree { tokens, delimiter } => {
+            match_group(grammar, tokens, *delimiter, src, bindings)
+        }
+        Op::Var { name, kind, .. } => match eat_fragment(grammar, *kind, src)? {
+            Some(tree) => {
+                bindings.insert(name, Fragment::of_kind(*kind, tree))?;
                 Ok(true)
             }
             None => Ok(false),
@@ -127,17 +129,18 @@ fn match_op<'a, A: Allocator + Copy>(
 
 // Whether a group of the delimiter's kind stands in front, and the ops read its content.
 #[cycle(matching)]
-fn match_group<'a, A: Allocator + Copy>(
+fn match_group<'a, A: Allocator + Copy, G: FragmentGrammar>(
+    grammar: &G,
     tokens: &MetaTemplate<A>,
     delimiter: Delimiter,
     src: &mut TtIter<'a, A>,
     bindings: &mut Bindings<'a, A>,
 ) -> Result<bool, AllocError>
-    ensures { IfOk result (λ r. HasRead r (read_front (group delimiter (template_of tokens.now)) src.old) src.new (bound_by bindings.old) (bound_by bindings.new)) }
+    ensures { IfOk result (λ r. HasRead r (read_front (G.grammar grammar.now) (group delimiter (template_of tokens.now)) src.old) src.new (bound_by bindings.old) (bound_by bindings.new)) }
 {
     match src.expect_subtree() {
         Ok((subtree, inside)) if subtree.delimiter.kind == delimiter.kind => {
-            match_ops(&tokens.0, inside, bindings)
+            match_ops(grammar, &tokens.0, inside, bindings)
         }
         _ => Ok(false),
     }
@@ -184,16 +187,69 @@ fn same_chars(one: &[Punct], two: &[Punct]) -> bool
 }
 
 // What a variable of the kind takes in front. An unknown kind takes nothing.
-fn eat_fragment<'a, A: Allocator>(
+fn eat_fragment<'a, A: Allocator, G: FragmentGrammar>(
+    grammar: &G,
     kind: Option<MetaVarKind>,
     src: &mut TtIter<'a, A>,
-) -> Option<TokenTreesView<'a, A>>
-    ensures { IsTaken result (takes_plainly kind src.old) src.new }
+) -> Result<Option<TokenTreesView<'a, A>>, AllocError>
+    ensures { IfOk result (λ taken. IsTaken taken (takes (G.grammar grammar.now) kind src.old) src.new) }
 {
+    let Some(kind) = kind else {
+        return Ok(None);
+    };
     match kind {
-        Some(MetaVarKind::Ident) => eat_any_ident(src),
-        Some(MetaVarKind::Tt) => eat_tree(src),
-        _ => None,
+        MetaVarKind::Ident => Ok(eat_any_ident(src)),
+        MetaVarKind::Tt => Ok(eat_tree(src)),
+        MetaVarKind::Lifetime => Ok(eat_lifetime(src)),
+        MetaVarKind::Literal => Ok(eat_signed_literal(src)),
+        MetaVarKind::Expr(expr) if begins_refused(expr, src) => Ok(None),
+        MetaVarKind::Expr(_) => eat_good_front(grammar, PrefixEntryPoint::Expr, src),
+        MetaVarKind::Path => eat_good_front(grammar, PrefixEntryPoint::Path, src),
+        MetaVarKind::Ty => eat_good_front(grammar, PrefixEntryPoint::Ty, src),
+        MetaVarKind::Pat => eat_good_front(grammar, PrefixEntryPoint::PatTop, src),
+        MetaVarKind::PatParam => eat_good_front(grammar, PrefixEntryPoint::Pat, src),
+        MetaVarKind::Stmt => eat_good_front(grammar, PrefixEntryPoint::Stmt, src),
+        MetaVarKind::Block => eat_good_front(grammar, PrefixEntryPoint::Block, src),
+        MetaVarKind::Meta => eat_good_front(grammar, PrefixEntryPoint::MetaItem, src),
+        MetaVarKind::Item => eat_good_front(grammar, PrefixEntryPoint::Item, src),
+        MetaVarKind::Vis => eat_good_front(grammar, PrefixEntryPoint::Vis, src),
+    }
+}
+
+// What the grammar takes, where it doesn't fault and its count ends between two trees.
+fn eat_good_front<'a, A: Allocator, G: FragmentGrammar>(
+    grammar: &G,
+    entry_point: PrefixEntryPoint,
+    src: &mut TtIter<'a, A>,
+) -> Result<Option<TokenTreesView<'a, A>>, AllocError>
+    ensures { IfOk result (λ taken. IsTaken taken (good_front (G.grammar grammar.now) entry_point src.old) src.new) }
+{
+    let counted = eat_front(grammar, entry_point, src)?;
+    if counted.is_good {
+        Ok(Some(counted.whole))
+    } else {
+        Ok(None)
+    }
+}
+
+// Whether the first tree is a word that no expression of the kind begins with.
+fn begins_refused<A: Allocator>(kind: ExprKind, src: &TtIter<'_, A>) -> bool
+    ensures { result ≡ begins_refused kind src.now }
+{
+    match src.peek() {
+        Some(TtElement::Leaf(Leaf::Ident(ident))) => is_refused_word(kind, ident),
+        _ => false,
+    }
+}
+
+// `let`, raw or not. The older expressions don't begin with `_` or `const` either, unless they are raw.
+fn is_refused_word<A: Allocator>(kind: ExprKind, ident: &Ident<A>) -> bool
+    ensures { result ≡ is_refused_word kind ident.now.is_raw ident.now.sym }
+{
+    match (kind, ident.sym.as_str()) {
+        (_, "let") => true,
+        (ExprKind::Expr2021, "_" | "const") => ident.is_raw == IdentIsRaw::No,
+        _ => false,
     }
 }
 
@@ -208,17 +264,39 @@ fn eat_any_ident<'a, A: Allocator>(src: &mut TtIter<'a, A>) -> Option<TokenTrees
     }
 }
 
+// `'`, and an identifier or `_`.
+fn eat_lifetime<'a, A: Allocator>(src: &mut TtIter<'a, A>) -> Option<TokenTreesView<'a, A>>
+    ensures { IsTaken result (lifetime_front src.old) src.new }
+{
+    let savepoint = src.savepoint();
+    src.expect_char('\'').ok()?;
+    match src.expect_ident_or_underscore() {
+        Ok(_) => Some(src.from_savepoint(savepoint)),
+        Err(()) => None,
+    }
+}
+
+// A literal, `true` or `false`, with a `-` in front or without.
+fn eat_signed_literal<'a, A: Allocator>(src: &mut TtIter<'a, A>) -> Option<TokenTreesView<'a, A>>
+    ensures { IsTaken result (literal_front src.old) src.new }
+{
+    let savepoint = src.savepoint();
+    let _sign = src.expect_char('-');
+    match src.expect_literal() {
+        Ok(_) => Some(src.from_savepoint(savepoint)),
+        Err(()) => None,
+    }
+}
+
 // A lifetime where `'` comes first, and else puncts that stand together, or one tree.
 fn eat_tree<'a, A: Allocator>(src: &mut TtIter<'a, A>) -> Option<TokenTreesView<'a, A>>
     ensures { IsTaken result (tree_front src.old) src.new }
 {
-    let savepoint = src.savepoint();
-    if src.expect_char('\'').is_ok() {
-        return match src.expect_ident_or_underscore() {
-            Ok(_) => Some(src.from_savepoint(savepoint)),
-            Err(()) => None,
-        };
+    let mut ahead = src.remaining().iter();
+    if ahead.expect_char('\'').is_ok() {
+        return eat_lifetime(src);
     }
+    let savepoint = src.savepoint();
     match src.expect_glued_punct() {
         Ok(_) => Some(src.from_savepoint(savepoint)),
         Err(()) => src.next_as_view(),

@@ -1,23 +1,29 @@
 // Writes a template with its variables replaced.
-ghost use Rattle.std.specs.Prelude.{◌≡◌, ◌<◌, false, [], length, IfOk, OnOk, IsTrue};
+ghost use Rattle.std.specs.Prelude.{◌≡◌, ◌<◌, false, [], length, IfOk, IfErr, OnOk, IsTrue};
 ghost use Rattle.mbe_tt.specs.Building.{put};
 ghost use Rattle.mbe_tt.specs.Grammar.{Grammar};
 ghost use Rattle.mbe_tt.specs.Shown.{literal_of, ident_of};
 ghost use Rattle.mbe_tt.specs.Top.{top_group};
+ghost use Rattle.mbe_tt.specs.Tree.{alone};
+ghost use Rattle.mbe_tt.specs.View.{trees};
 ghost use Rattle.mbe.specs.Environment.{value_of};
 ghost use Rattle.mbe.specs.Marking.{MayMark};
+ghost use Rattle.mbe.specs.Op.{uses_of, uses_of_op};
 ghost use Rattle.mbe.specs.Substitution.{IsSubstitution, faults, unbound_variable};
-ghost use Rattle.mbe.specs.Views.{op_of, ops_of, template_of, bound_by};
+ghost use Rattle.mbe.specs.Views.{op_of, ops_of, template_of, origin_style, bound_by};
 ghost use Rattle.mbe.specs.Writing as spec;
-ghost use Rattle.mbe.specs.Writing.{Appends, AreMarked, IsMarkedLiteral, IsMarkedIdent, IsWritten, AreWritten, stripped_variable};
+ghost use Rattle.mbe.specs.Writing.{Appends, AreMarked, IsMarkedLiteral, IsMarkedIdent, IsWritten, AreWritten, plain_fragment, plain_variable, is_unwritten_value, some_unwritten};
+ghost use Rattle.mbe.specs.declared.expander.transcriber.WriteError.TheVariants.{NotCarried};
 
 use crate::expander::matcher::Bindings;
+use crate::expander::{Fragment, TokensOrigin};
 use crate::parser::{MetaTemplate, Op};
 use mbe_tt::buffer::TopSubtree;
 use mbe_tt::builder::TopSubtreeBuilder;
 use mbe_tt::span::Span;
 use mbe_tt::symbol::Symbol;
 use mbe_tt::tt::{Delimiter, Ident, IdentIsRaw, Leaf, Literal, Punct, Spacing};
+use mbe_tt::view::TokenTreesView;
 use std::alloc::{AllocError, Allocator};
 
 // Whether the ops write tokens, groups and variables alone. No more is carried yet.
@@ -50,6 +56,25 @@ fn op_writes_plainly<A: Allocator>(op: &Op<A>) -> bool
     }
 }
 
+/// Why a template wasn't written.
+#[derive(Clone, Copy, Debug)]
+pub(crate) enum WriteError {
+    Memory,
+    /// It names an expression or a path.
+    NotCarried,
+}
+
+impl From<AllocError> for WriteError {
+    ghost use Rattle.std.specs.Prelude.{◌≡◌};
+    ghost use Rattle.mbe.specs.declared.expander.transcriber.WriteError.TheVariants.{Memory};
+
+    ghost from_gives = { λ _ e. e ≡ Memory };
+
+    fn from(_error: AllocError) -> WriteError {
+        WriteError::Memory
+    }
+}
+
 // The template's substitution, in an invisible group with the call site as both spans. A template of tokens, groups and
 // variables never faults, as each name is bound to one fragment or to nothing.
 pub(crate) fn transcribe<A: Allocator + Copy, M: Fn(Span) -> Span + Copy>(
@@ -58,10 +83,11 @@ pub(crate) fn transcribe<A: Allocator + Copy, M: Fn(Span) -> Span + Copy>(
     bindings: &Bindings<'_, A>,
     marker: M,
     call_site: Span,
-) -> Result<TopSubtree<A>, AllocError>
+) -> Result<TopSubtree<A>, WriteError>
     requires marks { MayMark (M.pre marker) }
     requires plain { IsTrue (spec.writes_plainly (template_of template.now)) }
     ensures faultless { faults (bound_by bindings.now) [] (template_of template.now) ≡ false }
+    ensures not_carried { IfErr result (λ e. e ≡ NotCarried → IsTrue (some_unwritten (bound_by bindings.now) (uses_of (template_of template.now)))) }
     ensures substitution { IfOk result (λ t. (g : Grammar) → IsSubstitution g (M.post marker) call_site (bound_by bindings.now) (template_of template.now) (top_group t)) }
 {
     let mut builder = TopSubtreeBuilder::new(alloc, Delimiter::invisible_spanned(call_site))?;
@@ -85,12 +111,13 @@ fn expand_ops<A: Allocator + Copy, M: Fn(Span) -> Span + Copy>(
     bindings: &Bindings<'_, A>,
     builder: &mut TopSubtreeBuilder<A>,
     marker: M,
-) -> Result<(), AllocError>
+) -> Result<(), WriteError>
     requires marks { MayMark (M.pre marker) }
     requires some_group { 0 < length builder.old }
     requires plain { IsTrue (spec.writes_plainly (ops_of ops.now)) }
     ensures open_groups { OnOk result (length builder.new ≡ length builder.old) }
     ensures written { OnOk result (Appends (AreWritten (M.post marker) (bound_by bindings.now) (ops_of ops.now)) builder.old builder.new) }
+    ensures not_carried { IfErr result (λ e. e ≡ NotCarried → IsTrue (some_unwritten (bound_by bindings.now) (uses_of (ops_of ops.now)))) }
 {
     for op in ops {
         expand_op(op, bindings, builder, marker)?;
@@ -105,17 +132,18 @@ fn expand_op<A: Allocator + Copy, M: Fn(Span) -> Span + Copy>(
     bindings: &Bindings<'_, A>,
     builder: &mut TopSubtreeBuilder<A>,
     marker: M,
-) -> Result<(), AllocError>
+) -> Result<(), WriteError>
     requires marks { MayMark (M.pre marker) }
     requires some_group { 0 < length builder.old }
     requires plain { IsTrue (spec.writes_plainly_op (op_of op.now)) }
     ensures open_groups { OnOk result (length builder.new ≡ length builder.old) }
     ensures written { OnOk result (Appends (IsWritten (M.post marker) (bound_by bindings.now) (op_of op.now)) builder.old builder.new) }
+    ensures not_carried { IfErr result (λ e. e ≡ NotCarried → IsTrue (some_unwritten (bound_by bindings.now) (uses_of_op (op_of op.now)))) }
 {
     match op {
-        Op::Literal(literal) => builder.push(Leaf::Literal(marked_literal(literal, marker)?)),
-        Op::Ident(ident) => builder.push(Leaf::Ident(marked_ident(ident, marker)?)),
-        Op::Punct(puncts) => write_puncts(puncts.as_slice(), builder, marker),
+        Op::Literal(literal) => Ok(builder.push(Leaf::Literal(marked_literal(literal, marker)?))?),
+        Op::Ident(ident) => Ok(builder.push(Leaf::Ident(marked_ident(ident, marker)?))?),
+        Op::Punct(puncts) => Ok(write_puncts(puncts.as_slice(), builder, marker)?),
         Op::Subtree { tokens, delimiter } => {
             builder.open(delimiter.kind, mark(delimiter.opening, marker))?;
             expand_ops(&tokens.0, bindings, builder, marker)?;
@@ -186,13 +214,31 @@ fn write_var<A: Allocator + Copy>(
     id: Span,
     bindings: &Bindings<'_, A>,
     builder: &mut TopSubtreeBuilder<A>,
-) -> Result<(), AllocError>
+) -> Result<(), WriteError>
     ensures open_groups { OnOk result (length builder.new ≡ length builder.old) }
-    ensures written { OnOk result (builder.new ≡ put (stripped_variable name.now id (value_of (bound_by bindings.now) name.now)) builder.old) }
+    ensures written { OnOk result (builder.new ≡ put (plain_variable name.now id (value_of (bound_by bindings.now) name.now)) builder.old) }
+    ensures carried { OnOk result (is_unwritten_value (value_of (bound_by bindings.now) name.now) ≡ false) }
+    ensures not_carried { IfErr result (λ e. e ≡ NotCarried → IsTrue (is_unwritten_value (value_of (bound_by bindings.now) name.now))) }
 {
     match bindings.get(name) {
-        Some(fragment) => builder.extend_with_tt_alone(fragment.strip_invisible()),
-        None => write_unbound(name, id, builder),
+        Some(Fragment::Tokens { tree, origin }) => {
+            Ok(builder.extend_with_tt_alone(written_tokens(tree, origin))?)
+        }
+        Some(Fragment::Expr(_) | Fragment::Path(_)) => Err(WriteError::NotCarried),
+        None => Ok(write_unbound(name, id, builder)?),
+    }
+}
+
+// The trees as they are written, but for a last punct's spacing.
+fn written_tokens<'a, A: Allocator>(
+    tree: TokenTreesView<'a, A>,
+    origin: TokensOrigin,
+) -> TokenTreesView<'a, A>
+    ensures { alone (trees result) ≡ plain_fragment (origin_style origin) (trees tree.entry) }
+{
+    match origin {
+        TokensOrigin::Raw => tree.strip_invisible(),
+        TokensOrigin::Ast => tree,
     }
 }
 

@@ -1,8 +1,7 @@
 use Rattle.std.proofs.Common.{take}
-use Rattle.mbe_tt.specs.Grammar.{Grammar}
 use Rattle.mbe.specs.Answer.{NoneApplies, AreCarried}
 use Rattle.mbe.specs.Views.{rules_seen}
 use Rattle.mbe.proofs.expander.expand_rules.Given as goal
 
 abbrev pub invariant-loop-idx : goal.invariant-loop-idx
-invariant-loop-idx g l = AreCarried (rules_seen l.rules) → (h : Grammar) → NoneApplies h l.call_style l.input.1 (take l.idx (rules_seen l.rules))
+invariant-loop-idx g l = AreCarried (rules_seen l.rules) → NoneApplies (g.G.FragmentGrammar.grammar l.grammar) l.call_style l.input.1 (take l.idx (rules_seen l.rules))

@@ -8,16 +8,16 @@ pub returns-then-branch : goal.returns-then-branch
 returns-then-branch g c =
     let o = template_of c.args.pattern.now in
     let same : ops_of c.deref.result.now ≡ o = ap ops_of c.deref.ensures.value in
-    let read : HasReadAll true (read_all (ops_of c.deref.result.now) c.args.src) (bound_by c.new-bindings.result) (bound_by c.match_ops.new.bindings) =
+    let read : HasReadAll true (read_all (g.G.FragmentGrammar.grammar c.args.grammar.now) (ops_of c.deref.result.now) c.args.src) (bound_by c.new-bindings.result) (bound_by c.match_ops.new.bindings) =
     rw c.if-branch.true at c.in_ok-match_ops.ensures in
-    let h : HasReadAll true (read_all o c.args.src) (bound_by c.new-bindings.result) (bound_by c.match_ops.new.bindings) = rw same at read in
-    match_found c.match_ops.new.bindings o c.args.src _ c.new-bindings.ensures h
+    let h : HasReadAll true (read_all (g.G.FragmentGrammar.grammar c.args.grammar.now) o c.args.src) (bound_by c.new-bindings.result) (bound_by c.match_ops.new.bindings) = rw same at read in
+    match_found (g.G.FragmentGrammar.grammar c.args.grammar.now) c.match_ops.new.bindings o c.args.src _ c.new-bindings.ensures h
 
 pub returns : goal.returns
 returns g c =
     let o = template_of c.args.pattern.now in
     let same : ops_of c.deref.result.now ≡ o = ap ops_of c.deref.ensures.value in
-    let read : HasReadAll false (read_all (ops_of c.deref.result.now) c.args.src) (bound_by c.new-bindings.result) (bound_by c.match_ops.new.bindings) =
+    let read : HasReadAll false (read_all (g.G.FragmentGrammar.grammar c.args.grammar.now) (ops_of c.deref.result.now) c.args.src) (bound_by c.new-bindings.result) (bound_by c.match_ops.new.bindings) =
     rw c.if-branch.false at c.in_ok-match_ops.ensures in
-    let h : HasReadAll false (read_all o c.args.src) (bound_by c.new-bindings.result) (bound_by c.match_ops.new.bindings) = rw same at read in
-    match_refused g.row.A.Denot o c.args.src _ _ h
+    let h : HasReadAll false (read_all (g.G.FragmentGrammar.grammar c.args.grammar.now) o c.args.src) (bound_by c.new-bindings.result) (bound_by c.match_ops.new.bindings) = rw same at read in
+    match_refused g.row.A.Denot (g.G.FragmentGrammar.grammar c.args.grammar.now) o c.args.src _ _ h

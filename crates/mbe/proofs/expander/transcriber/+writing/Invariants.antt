@@ -1,7 +1,8 @@
-use Rattle.std.proofs.Common.{◌≡◌, length, drop, IsTrue}
+use Rattle.std.proofs.Common.{◌≡◌, IsTrue, length, drop}
 use Rattle.mbe_tt.specs.Building.{Levels}
 use Rattle.mbe.specs.Views.{ops_of, bound_by}
-use Rattle.mbe.specs.Writing.{Appends, AreWritten, writes_plainly}
+use Rattle.mbe.specs.Op.{uses_of}
+use Rattle.mbe.specs.Writing.{Appends, AreWritten, some_unwritten, writes_plainly}
 use Rattle.mbe.proofs.expander.transcriber.+writing.Given as goal
 
 abbrev pub invariant-expand_ops-loop-op : goal.invariant-expand_ops-loop-op
@@ -10,4 +11,5 @@ invariant-expand_ops-loop-op g l = record {
   plain : IsTrue (writes_plainly (ops_of (drop l.op-index l.ops)));
   written : (last : Levels) → Appends (AreWritten (λ s t. g.M.Fn.post l.marker (s, tt) t) (bound_by l.bindings) (ops_of (drop l.op-index l.ops))) l.builder last
       → Appends (AreWritten (λ s t. g.M.Fn.post l.marker (s, tt) t) (bound_by l.bindings) (ops_of l.ops)) l.initial.builder last;
+  unwritten : IsTrue (some_unwritten (bound_by l.bindings) (uses_of (ops_of (drop l.op-index l.ops)))) → IsTrue (some_unwritten (bound_by l.bindings) (uses_of (ops_of l.ops)));
 }
