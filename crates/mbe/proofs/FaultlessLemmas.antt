@@ -33,4 +33,4 @@ module _ (env : Environment) (known : (name : Name) → IsStripped (value_of env
 
 -- a template of tokens, groups and variables doesn't fault under what a match binds
 pub never_faults : {A : Type 0} (b : Bindings A) (os : Ops) → IsTrue (writes_plainly os) → faults (bound_by b) [] os ≡ false
-never_faults b os = ops_faultless (bound_by b) (each_stripped b.inner.entries)
+never_faults b = ops_faultless (bound_by b) (each_stripped b.inner.entries)

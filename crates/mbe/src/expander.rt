@@ -62,10 +62,12 @@ fn apply<A: Allocator + Copy, M: Fn(Span) -> Span + Copy>(
     if rule.style != call_style {
         return Ok(None);
     }
-    match matcher::match_(alloc, &rule.lhs, input.iter())? {
-        Some(bindings) if transcriber::writes_plainly(&rule.rhs.0) => Ok(Some(
-            transcriber::transcribe(alloc, &rule.rhs, &bindings, marker, call_site)?,
-        )),
-        _ => Ok(None),
+    let Some(bindings) = matcher::match_(alloc, &rule.lhs, input.iter())? else {
+        return Ok(None);
+    };
+    if !transcriber::writes_plainly(&rule.rhs.0) {
+        return Ok(None);
     }
+    let tree = transcriber::transcribe(alloc, &rule.rhs, &bindings, marker, call_site)?;
+    Ok(Some(tree))
 }

@@ -56,7 +56,7 @@ impl<A: Allocator + Copy> DeclarativeMacro<A> {
         ctx_edition: E,
     ) -> Result<DeclarativeMacro<A>, AllocError>
         requires { MayAsk (E.pre ctx_edition) }
-        ensures rules { IfOk result (λ m. IsReadAs (E.post ctx_edition) tt.now.1 (macro_of m)) }
+        ensures { IfOk result (λ m. IsReadAs (E.post ctx_edition) tt.now.1 (macro_of m)) }
     {
         let (rules, fault) = parse_rules(alloc, ctx_edition, tt.iter())?;
         match fault {
@@ -121,7 +121,7 @@ fn parse_rules<A: Allocator + Copy, E: Copy + Fn(SyntaxContext) -> Edition>(
     ctx_edition: E,
     src: TtIter<'_, A>,
 ) -> Result<(Vec<Rule<A>, A>, Option<Fault>), AllocError>
-    ensures rules { IfOk result (λ r. AreRules (E.post ctx_edition) src.entry (rules_seen r.0.items) r.1) }
+    ensures { IfOk result (λ r. AreRules (E.post ctx_edition) src.entry (rules_seen r.0.items) r.1) }
 {
     let mut src = src;
     let mut rules = Vec::new(alloc);

@@ -7,6 +7,7 @@ ghost use Rattle.mbe_tt.specs.View.{trees};
 ghost use Rattle.mbe.specs.Environment.{set_value, value_of, fragment as fragment_value};
 ghost use Rattle.mbe.specs.Fit.{ident_text_front, literal_text_front, puncts_front};
 ghost use Rattle.mbe.specs.Item.{stripped};
+ghost use Rattle.mbe.specs.Op.{group};
 ghost use Rattle.mbe.specs.Matching.{takes_plainly, read_front, read_all, HasPassed, BindsAlike, HasRead, HasReadAll, IsMatch};
 ghost use Rattle.mbe.specs.Takes.{ident_front, tree_front};
 ghost use Rattle.mbe.specs.Views.{IsTaken, bound_by, op_of, ops_of, template_of};
@@ -14,7 +15,7 @@ ghost use Rattle.mbe.specs.Views.{IsTaken, bound_by, op_of, ops_of, template_of}
 use crate::parser::{MetaTemplate, MetaVarKind, Op};
 use mbe_tt::iter::TtIter;
 use mbe_tt::symbol::Symbol;
-use mbe_tt::tt::{Ident, Leaf, Literal, Punct};
+use mbe_tt::tt::{Delimiter, Ident, Leaf, Literal, Punct};
 use mbe_tt::view::TokenTreesView;
 use std::alloc::{AllocError, Allocator, Global};
 use std::collections::HashMap;
@@ -106,12 +107,7 @@ fn match_op<'a, A: Allocator + Copy>(
         Op::Literal(literal) => Ok(eat_literal(literal, src)),
         Op::Ident(ident) => Ok(eat_ident(ident, src)),
         Op::Punct(puncts) => Ok(eat_puncts(puncts.as_slice(), src)),
-        Op::Subtree { tokens, delimiter } => match src.expect_subtree() {
-            Ok((subtree, inside)) if subtree.delimiter.kind == delimiter.kind => {
-                match_ops(&tokens.0, inside, bindings)
-            }
-            _ => Ok(false),
-        },
+        Op::Subtree { tokens, delimiter } => match_group(tokens, *delimiter, src, bindings),
         Op::Var { name, kind, .. } => match eat_fragment(*kind, src) {
             Some(fragment) => {
                 bindings.insert(name, fragment)?;
@@ -126,6 +122,24 @@ fn match_op<'a, A: Allocator + Copy>(
         | Op::Len { .. }
         | Op::Count { .. }
         | Op::Concat { .. } => Ok(false),
+    }
+}
+
+// Whether a group of the delimiter's kind stands in front, and the ops read its content.
+#[cycle(matching)]
+fn match_group<'a, A: Allocator + Copy>(
+    tokens: &MetaTemplate<A>,
+    delimiter: Delimiter,
+    src: &mut TtIter<'a, A>,
+    bindings: &mut Bindings<'a, A>,
+) -> Result<bool, AllocError>
+    ensures { IfOk result (λ r. HasRead r (read_front (group delimiter (template_of tokens.now)) src.old) src.new (bound_by bindings.old) (bound_by bindings.new)) }
+{
+    match src.expect_subtree() {
+        Ok((subtree, inside)) if subtree.delimiter.kind == delimiter.kind => {
+            match_ops(&tokens.0, inside, bindings)
+        }
+        _ => Ok(false),
     }
 }
 

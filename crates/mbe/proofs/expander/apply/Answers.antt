@@ -1,16 +1,20 @@
-use Rattle.std.proofs.Common.{◌∙◌, sym, subst, [], IsFalse, rules}
+use Rattle.std.proofs.Common.{◌∙◌, sym, ap, subst, [], IsTrue, IsFalse, rules}
+use Rattle.std.proofs.lemmas.Bool.{false≢true}
+use denote.Enum.Bare.{differs_false}
+use Rattle.mbe.specs.contracts.macro_call_style.MacroCallStyle.{the_type}
 use Rattle.mbe.specs.Ambiguity.{Fits, IsReading}
 use Rattle.mbe.specs.Environment.{environment_of}
-use Rattle.mbe.specs.Views.{template_of, bound_by}
+use Rattle.mbe.specs.Views.{template_of, ops_of, bound_by}
+use Rattle.mbe.specs.Writing.{writes_plainly}
 use Rattle.mbe.proofs.AgreeLemmas.{faults-same, IsSubstitution-same}
 use Rattle.mbe.proofs.expander.apply.Goals as goal
 
-pub returns-in_ok-transcribe-in-Some : goal.returns-in_ok-transcribe-in-Some
-returns-in_ok-transcribe-in-Some g c = λ carried h.
+pub returns : goal.returns
+returns g c = λ carried h.
     let m = rw c.in-Some.is at c.in_ok-bindings.ensures in
-    let done = c.in_ok-transcribe-in-Some.ensures in (
+    let done = c.in_ok-tree.ensures in (
       record {
-        styled = search rules;
+        styled = differs_false the_type (search rules) _ _ (sym c.ne.ensures ∙ c.if-ne.false);
         items = m.0;
         fits = subst (λ f. Fits h (template_of c.args.rule.now.lhs) f m.0) c.iter.ensures (m.1 h);
         faultless = subst IsFalse (sym (sym (faults-same (bound_by c.in-Some.bindings) (environment_of m.0) m.2 [] (template_of c.args.rule.now.rhs)) ∙ done.faultless)) cc;
@@ -18,7 +22,12 @@ returns-in_ok-transcribe-in-Some g c = λ carried h.
       IsSubstitution-same (bound_by c.in-Some.bindings) (environment_of m.0) m.2 h _ c.args.call_site (template_of c.args.rule.now.rhs) _ (done.substitution h),
     )
 
-pub returns-in-None : goal.returns-in-None
-returns-in-None g c = λ carried h a.
-    let no = rw c.in-None.is at c.in_ok-bindings.ensures in
+pub returns-in_default : goal.returns-in_default
+returns-in_default g c = λ carried h a.
+    let no = rw c.in_default.is at c.in_ok-bindings.ensures in
     no h a.items carried.reads (subst (λ f. IsReading h (template_of c.args.rule.now.lhs) f a.items) (sym c.iter.ensures) a.fits.1.0)
+
+pub returns-then-not-writes_plainly : goal.returns-then-not-writes_plainly
+returns-then-not-writes_plainly g c = λ carried h a.
+    let plain : IsTrue (writes_plainly (template_of c.args.rule.now.rhs)) = carried.writes in
+    false≢true (sym c.if-not-writes_plainly.true ∙ (c.writes_plainly.ensures ∙ (ap (λ os. writes_plainly (ops_of os)) c.deref.ensures.value ∙ plain)))

@@ -1,13 +1,15 @@
 use Rattle.std.proofs.Common.{◌≡◌, ◌+◌, ◌∷◌, drop, true, false, refl, ap, sym, ◌∙◌, rules, arith}
 use Rattle.std.proofs.lemmas.List.{drop_more, drop_all}
+use denote.Enum.Bare.{same_true}
+use Rattle.mbe_tt.specs.contracts.tt.DelimiterKind.{the_type}
 use Rattle.mbe_tt.specs.Glue.{chars_of}
-use Rattle.mbe.specs.Op.{group, token, puncts}
+use Rattle.mbe.specs.Op.{token, puncts}
 use Rattle.mbe.specs.Item.{no_items, item}
 use Rattle.mbe.specs.Fit.{puncts_front}
 use Rattle.mbe.specs.Matching.{read_front, read_on, HasPassed, HasRead}
 use Rattle.mbe.specs.Views.{op_of, ops_of, bound_by}
-use Rattle.mbe.proofs.OpViews.{view-punct}
-use Rattle.mbe.proofs.PlainMatching.{view-open, token_read, group_ok, same_kind, next_read, stopped_read, not_all, all_read}
+use Rattle.mbe.proofs.OpViews.{view-punct, view-subtree}
+use Rattle.mbe.proofs.PlainMatching.{token_read, group_ok, same_kind, next_read, stopped_read, not_all, all_read}
 use Rattle.mbe.proofs.expander.matcher.+matching.Goals as goal
 
 pub match_ops-loop-op-init : goal.match_ops-loop-op-init
@@ -52,11 +54,13 @@ match_op-returns-in-Punct g t c =
     rw c.as_slice.ensures.value at c.eat_puncts.ensures in
     rw seen (token_read c.eat_puncts.result (puncts c.in-Punct.puncts.items) c.args.src.now c.eat_puncts.new.src _ passed)
 
-pub match_op-returns-in-Ok : goal.match_op-returns-in-Ok
-match_op-returns-in-Ok g t c =
-    let d = c.in-Subtree.delimiter in
+pub match_op-returns-in-Subtree : goal.match_op-returns-in-Subtree
+match_op-returns-in-Subtree g t c = rw (c.in-Subtree.is, view-subtree) c.match_group.ensures
+
+pub match_group-returns-in-Ok : goal.match_group-returns-in-Ok
+match_group-returns-in-Ok g t c =
+    let d = c.args.delimiter in
     let e = c.in-Ok.subtree.now.delimiter in
-    let seen : op_of c.args.op.now ≡ group d (ops_of c.deref.result.now) = ap op_of c.in-Subtree.is ∙ (view-open c.in-Subtree.tokens d ∙ ap (λ os. group d (ops_of os)) (sym c.deref.ensures.value)) in
-    let kind : e.kind ≡ d.kind = search rules in
-    rw seen (group_ok c.match_ops.result d e (ops_of c.deref.result.now) c.args.src.now c.in-Ok.inside c.expect_subtree.new.self _ _
+    let kind : e.kind ≡ d.kind = same_true the_type (search rules) _ _ (sym c.eq.ensures ∙ c.if-eq.true) in
+    rw (← c.deref.ensures.value) (group_ok c.match_ops.result d e (ops_of c.deref.result.now) c.args.src.now c.in-Ok.inside c.expect_subtree.new.self _ _
     c.in-Ok.ensures.value c.in-Ok.ensures.rest (same_kind d.kind e.kind kind) c.match_ops.ensures)
