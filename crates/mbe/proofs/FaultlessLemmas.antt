@@ -1,5 +1,5 @@
 -- A template of tokens, groups and variables never faults where each name is bound to one fragment or to nothing.
-use Rattle.std.specs.Prelude.{◌≡◌, IsTrue, Option, Some, None, [], true, false, not, is_none, if◌then◌else◌, option_and_then, refl}
+use Rattle.std.specs.Prelude.{◌≡◌, IsTrue, Option, Some, None, [], false, not, is_none, if◌then◌else◌, option_and_then, refl}
 use Rattle.mbe_tt.proofs.CutLemmas.{no_true, both_left, both_right}
 use Rattle.mbe.specs.declared.expander.matcher.Bindings.{Bindings}
 use Rattle.mbe.specs.Op.{Name, Op, Ops, token, group, variable, repetition, expression, no_ops, op}

@@ -1,5 +1,5 @@
 -- What one op of a pattern or a template says of all its trees, and which specifiers are unknown.
-use Rattle.std.specs.Prelude.{◌≡◌, ◌≤◌, ◌<◌, ◌+◌, ℕ, zero, suc, Bool, true, false, if◌then◌else◌, List, [], ◌∷◌, ◌++◌, length, take, codes, Option, Some, None, Result, Ok, Err, IfOk, IfErr, IfSome, OnOk, IsTrue, refl, ◌&&◌, ◌==◌, not}
+use Rattle.std.specs.Prelude.{◌≡◌, ◌≤◌, ◌<◌, ◌+◌, ℕ, zero, suc, Bool, true, false, if◌then◌else◌, List, [], ◌∷◌, ◌++◌, length, take, codes, Option, Some, None, Result, Ok, Err, IfOk, IfErr, IfSome, OnOk, refl, ◌&&◌, ◌==◌, not}
 use Rattle.std.proofs.Common.{ap, sym, ◌∙◌, subst, arith}
 use Rattle.std.proofs.lemmas.Option.{none-some, same_Some}
 use Rattle.std.proofs.lemmas.Bool.{eq-eqb, ne_eqb}
@@ -21,7 +21,6 @@ use Rattle.mbe.specs.Reader.{AtHead, IsUndated, ReadsOp, Stops, mode_of, fault_o
 use Rattle.mbe.specs.declared.error.ReadError as why
 use Rattle.mbe.specs.declared.parser.Mode as mode
 use Rattle.mbe.specs.Views.{op_of, ops_of}
-use Rattle.mbe_tt.proofs.CutLemmas.{both_left, both_right}
 use Rattle.mbe.specs.declared.parser.Op as code
 use Rattle.mbe.proofs.Fragments.{rest_no_longer, back-skip}
 use Rattle.mbe.proofs.OpViews.{view-punct}

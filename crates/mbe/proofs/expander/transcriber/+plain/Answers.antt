@@ -1,6 +1,4 @@
-use Rattle.std.proofs.Common.{◌≡◌, ◌+◌, ◌∷◌, drop, ap, sym, ◌∙◌, refl, arith}
-use Rattle.std.proofs.lemmas.List.{drop_more, drop_all}
-use Rattle.mbe.specs.Op.{group}
+use Rattle.std.proofs.Common.{ap, sym, ◌∙◌}
 use Rattle.mbe.specs.Views.{op_of, ops_of}
 use Rattle.mbe.specs.Writing.{writes_plainly, writes_plainly_op}
 use Rattle.mbe.proofs.PlainMatching.{view-open}
