@@ -55,5 +55,15 @@ pub view-template : {A : Type 0} (v : Vec (Op A) A) → template_of (roll-MetaTe
 view-template v = search (rules, the_lemmas)
 
 pub ruleset views = (
-    view-var, view-ignore, view-index, view-len, view-count, view-concat, view-repeat, view-subtree, view-literal, view-punct, view-ident
+  view-var,
+  view-ignore,
+  view-index,
+  view-len,
+  view-count,
+  view-concat,
+  view-repeat,
+  view-subtree,
+  view-literal,
+  view-punct,
+  view-ident,
 )
