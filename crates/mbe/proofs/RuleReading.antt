@@ -1,137 +1,205 @@
 -- What one rule of a definition says of all its rules.
-use Rattle.std.specs.Prelude.{◌≡◌, ◌≢◌, List, [], ◌∷◌, ◌++◌, Option, Some, None, IfSome, unwrap_or, ◌⊎◌, Result, Ok, Err, refl}
+use Rattle.std.specs.Prelude.{◌≡◌, ◌≢◌, ◌==◌, ℕ, Bool, true, false, List, [], ◌∷◌, ◌++◌, Option, Some, None, IfSome, unwrap_or, option_map, if◌then◌else◌, ◌⊎◌, Result, Ok, Err, IfOk, IfErr, OnOk, ◌<◌, refl}
 use Rattle.std.proofs.Common.{ap, sym, ◌∙◌, subst, append-nil, inl, inr}
+use Rattle.std.specs.List.{Contains, list_any}
 use Rattle.std.proofs.lemmas.Option.{none-some, same_Some}
-use Rattle.std.proofs.lemmas.Bool.{eq-eqb, ne_eqb}
+use Rattle.std.proofs.lemmas.Bool.{eqb-true}
+use Rattle.std.proofs.lemmas.Cmp.{nat_eq_equiv}
+use Rattle.std.proofs.lemmas.Map.Views.{list_any-from_Contains, Contains-from_any}
 use Rattle.mbe_tt.specs.Leaf.{literal, punct, ident}
-use Rattle.mbe_tt.specs.Tree.{Forest, none, leaf, group, rest_of, front_char}
+use Rattle.mbe_tt.specs.Tree.{Forest, none, leaf, group, rest_of, front_punct, flat_len}
+use Rattle.mbe_tt.specs.declared.tt.Punct.{Punct}
 use Rattle.mbe_tt.specs.declared.span.SyntaxContext.{SyntaxContext}
 use Rattle.mbe_tt.specs.declared.span.Edition.{Edition}
+use Rattle.mbe.specs.declared.macro_call_style.MacroCallStyle.{MacroCallStyle}
 use Rattle.mbe.specs.declared.macro_call_style.MacroCallStyle.TheVariants.{FnLike}
 use Rattle.mbe.specs.declared.error.Fault as told
 use Rattle.mbe.specs.declared.error.ReadError as why
 use Rattle.mbe.specs.declared.macros.Rule as code
 use Rattle.mbe.specs.Op.{Ops}
 use Rattle.mbe.specs.Template.{Fault, pattern, template, Template, TemplateFault}
-use Rattle.mbe.specs.Definition.{Outline, Rule, outline_at, in_pattern, in_template, Rules, ended, no_rule, faulty_rule, unseparated, separated, behind_separator}
-use Rattle.mbe.specs.Reader.{IsOutlined, ReadsRule, RuleFault, in_outline, in_parts, AreRules, Stops, fault_of, semicolon, expected_semicolon}
+use Rattle.mbe.specs.Definition.{Outline, Rule, outline_at, pattern_at, AreParts, PartsFault, in_pattern, in_template, Rules, ended, no_rule, faulty_rule, unseparated, separated, behind_separator, with_refusal, IsMacroOfArguments, one_rule, faulty}
+use Rattle.mbe.specs.Reader.{IsStyled, IsOutlined, ReadsRule, RuleFault, in_outline, in_parts, AreRules, IsOneRule, one_outline, Stops, fault_of}
 use Rattle.mbe.specs.Views.{rule_of, rules_seen}
 use Rattle.mbe.specs.ErrorViews.{told_of, not_carried}
 use Rattle.mbe.specs.Macro.{Macro}
-use Rattle.mbe.specs.MacroViews.{IsReadAs}
-use Rattle.mbe.proofs.ReaderLemmas.{Stops-weaker, IfSome-weaker}
+use Rattle.mbe.specs.MacroViews.{IsCutShort, IsReadAs, IsReadAsMacro}
+use Rattle.mbe.proofs.OutlineLemmas.{outline_back}
+use Rattle.mbe.proofs.ReaderLemmas.{Stops-weaker, IfSome-weaker, on_ok}
+
+-- ---- the outline of one rule
+
+-- the trees of a rule
+abbrev outlined : MacroCallStyle → Forest × Forest → Forest → Outline
+outlined style parts left = record { style = style; reads = parts.0; writes = parts.1; back = left }
+
+pub outlined-ok : (style : MacroCallStyle) (parts : Forest × Forest) (r : Result Outline Fault) (left : Forest) → IsOutlined style (Ok parts) r left
+    → r ≡ Ok (outlined style parts left)
+outlined-ok style parts (Err x) left h = absurd h
+outlined-ok style parts (Ok o) left h =
+    ap (λ (x : Outline). let r : Result Outline Fault = Ok x in r) (λ i. record { style = h.0 i; reads = h.1 i; writes = h.2 i; back = h.3 i })
+
+pub outlined-err : (style : MacroCallStyle) (x : told.Fault) (r : Result Outline Fault) (left : Forest) → IsOutlined style (Err x) r left
+    → (y : Fault) × (fault_of x ≡ Some y) × (r ≡ Err y)
+outlined-err style x (Ok o) left h = absurd h
+outlined-err style x (Err y) left h = (y, h, refl)
+
+-- the fault that is told
+told_as : (x : told.Fault) (P : Fault → Type 0) (y : Fault) → fault_of x ≡ Some y → P y → IfSome (fault_of x) P
+told_as x P y e p = subst (λ o. IfSome o P) (sym e) p
 
 module _ (Answers : SyntaxContext → Edition → Type 0) where
   -- ---- one rule
 
-  rule_at : (parts : Forest × Forest) (f left : Forest) (reads writes : Ops) (r : Result Outline Fault) → outline_at f ≡ r → IsOutlined (Ok parts) r left
-      → Template Answers pattern parts.0 reads → Template Answers template parts.1 writes
-      → ReadsRule Answers f (record { style = FnLike; reads = reads; writes = writes }) left
-  rule_at parts f left reads writes (Err x) e h t u = absurd h
-  rule_at parts f left reads writes (Ok o) e h t u = record {
-    outline = o;
-    at = e;
-    parts = record {
-      style = sym h.0;
-      reads = subst (λ (x : Forest). Template Answers pattern x reads) (sym h.1) t;
-      writes = subst (λ (x : Forest). Template Answers template x writes) (sym h.2) u;
-    };
-    behind = h.3;
+  pub reads_rule : (style : MacroCallStyle) (parts : Forest × Forest) (f mid left : Forest) (r : Rule) → outline_at f ≡ pattern_at style mid
+      → IsOutlined style (Ok parts) (pattern_at style mid) left → AreParts Answers (outlined style parts left) r → ReadsRule Answers f r left
+  reads_rule style parts f mid left r e h p = record {
+    outline = outlined style parts left;
+    at = e ∙ outlined-ok style parts (pattern_at style mid) left h;
+    parts = p;
+    behind = refl;
   }
 
-  pub reads_rule : (parts : Forest × Forest) (f left : Forest) (reads writes : Ops) → IsOutlined (Ok parts) (outline_at f) left
-      → Template Answers pattern parts.0 reads → Template Answers template parts.1 writes
-      → ReadsRule Answers f (record { style = FnLike; reads = reads; writes = writes }) left
-  reads_rule parts f left reads writes h t u = rule_at parts f left reads writes (outline_at f) refl h t u
+  -- a fault before the pattern
+  pub style_fault : (x : told.Fault) (f left : Forest) → IsStyled (Err x) (outline_at f) left → IfSome (fault_of x) (λ y. RuleFault Answers y f)
+  style_fault x f left (y, e, at) = told_as x (λ y. RuleFault Answers y f) y e (in_outline at)
 
-  fault_at : (x : told.Fault) (f left : Forest) (r : Result Outline Fault) → outline_at f ≡ r → IsOutlined (Err x) r left
-      → IfSome (fault_of x) (λ y. RuleFault Answers y f)
-  fault_at x f left (Ok o) e h = subst (λ (y : Option Fault). IfSome y (λ z. RuleFault Answers z f)) (sym h) tt
-  fault_at x f left (Err z) e h =
-      IfSome-weaker (fault_of x) (λ y. y ≡ z) (λ y. RuleFault Answers y f) (λ y k. in_outline (e ∙ ap Err (sym k))) h
+  pub outline_fault : (style : MacroCallStyle) (x : told.Fault) (f mid left : Forest) → outline_at f ≡ pattern_at style mid
+      → IsOutlined style (Err x) (pattern_at style mid) left → IfSome (fault_of x) (λ y. RuleFault Answers y f)
+  outline_fault style x f mid left at h =
+      let y = outlined-err style x (pattern_at style mid) left h in
+      told_as x (λ y. RuleFault Answers y f) y.0 y.1 (in_outline (at ∙ y.2))
 
-  pub outline_fault : (x : told.Fault) (f left : Forest) → IsOutlined (Err x) (outline_at f) left → IfSome (fault_of x) (λ y. RuleFault Answers y f)
-  outline_fault x f left h = fault_at x f left (outline_at f) refl h
+  -- a fault of the pattern or the template
+  pub parts_fault : (style : MacroCallStyle) (e : why.ReadError) (parts : Forest × Forest) (f mid left : Forest) → outline_at f ≡ pattern_at style mid
+      → IsOutlined style (Ok parts) (pattern_at style mid) left → Stops e (λ x. (back : Forest) → PartsFault Answers (outlined style parts back) x)
+      → Stops e (λ x. RuleFault Answers x f)
+  parts_fault style e parts f mid left at h k =
+      Stops-weaker e (λ x. (back : Forest) → PartsFault Answers (outlined style parts back) x) (λ x. RuleFault Answers x f)
+      (λ x w. in_parts (outlined style parts left) (at ∙ outlined-ok style parts (pattern_at style mid) left h) (w left)) k
 
-  pattern_at : (e : why.ReadError) (parts : Forest × Forest) (f left : Forest) (r : Result Outline Fault) → outline_at f ≡ r → IsOutlined (Ok parts) r left
-      → Stops e (λ x. TemplateFault Answers pattern x parts.0) → Stops e (λ x. RuleFault Answers x f)
-  pattern_at e parts f left (Err x) at h k = absurd h
-  pattern_at e parts f left (Ok o) at h k =
-      Stops-weaker e (λ x. TemplateFault Answers pattern x parts.0) (λ x. RuleFault Answers x f)
-      (λ x w. in_parts o at (in_pattern (subst (λ (g : Forest). TemplateFault Answers pattern x g) (sym h.1) w))) k
+  -- the rule that a call gives, or its fault
+  pub rule_read : {A E : Type 0} (r : Result (code.Rule A) E) (style : MacroCallStyle) (parts : Forest × Forest) (f mid left : Forest)
+      → outline_at f ≡ pattern_at style mid → IsOutlined style (Ok parts) (pattern_at style mid) left
+      → IfOk r (λ x. (back : Forest) → AreParts Answers (outlined style parts back) (rule_of x)) → IfOk r (λ x. ReadsRule Answers f (rule_of x) left)
+  rule_read (Err e) style parts f mid left at h p = tt
+  rule_read (Ok x) style parts f mid left at h p = reads_rule style parts f mid left (rule_of x) at h (p left)
 
-  pub pattern_fault : (e : why.ReadError) (parts : Forest × Forest) (f left : Forest) → IsOutlined (Ok parts) (outline_at f) left
-      → Stops e (λ x. TemplateFault Answers pattern x parts.0) → Stops e (λ x. RuleFault Answers x f)
-  pattern_fault e parts f left h k = pattern_at e parts f left (outline_at f) refl h k
+  pub rule_faulty : {T : Type 0} (r : Result T why.ReadError) (style : MacroCallStyle) (parts : Forest × Forest) (f mid left : Forest)
+      → outline_at f ≡ pattern_at style mid → IsOutlined style (Ok parts) (pattern_at style mid) left
+      → IfErr r (λ e. Stops e (λ x. (back : Forest) → PartsFault Answers (outlined style parts back) x)) → IfErr r (λ e. Stops e (λ x. RuleFault Answers x f))
+  rule_faulty (Ok x) style parts f mid left at h p = tt
+  rule_faulty (Err e) style parts f mid left at h p = parts_fault style e parts f mid left at h p
 
-  template_at : (e : why.ReadError) (parts : Forest × Forest) (f left : Forest) (reads : Ops) (r : Result Outline Fault) → outline_at f ≡ r → IsOutlined (Ok parts) r left
-      → Template Answers pattern parts.0 reads → Stops e (λ x. TemplateFault Answers template x parts.1) → Stops e (λ x. RuleFault Answers x f)
-  template_at e parts f left reads (Err x) at h t k = absurd h
-  template_at e parts f left reads (Ok o) at h t k =
-      Stops-weaker e (λ x. TemplateFault Answers template x parts.1) (λ x. RuleFault Answers x f)
-      (λ x w. in_parts o at (in_template reads (subst (λ (g : Forest). Template Answers pattern g reads) (sym h.1) t)
-      (subst (λ (g : Forest). TemplateFault Answers template x g) (sym h.2) w))) k
+  pub pattern_stops : (e : why.ReadError) (style : MacroCallStyle) (parts : Forest × Forest)
+      → Stops e (λ x. TemplateFault Answers pattern x parts.0) → Stops e (λ x. (back : Forest) → PartsFault Answers (outlined style parts back) x)
+  pattern_stops e style parts k =
+      Stops-weaker e (λ x. TemplateFault Answers pattern x parts.0) (λ x. (back : Forest) → PartsFault Answers (outlined style parts back) x)
+      (λ x w back. in_pattern w) k
 
-  pub template_fault : (e : why.ReadError) (parts : Forest × Forest) (f left : Forest) (reads : Ops) → IsOutlined (Ok parts) (outline_at f) left
-      → Template Answers pattern parts.0 reads → Stops e (λ x. TemplateFault Answers template x parts.1) → Stops e (λ x. RuleFault Answers x f)
-  template_fault e parts f left reads h t k = template_at e parts f left reads (outline_at f) refl h t k
+  pub template_stops : (e : why.ReadError) (style : MacroCallStyle) (parts : Forest × Forest) (reads : Ops) → Template Answers pattern parts.0 reads
+      → Stops e (λ x. TemplateFault Answers template x parts.1) → Stops e (λ x. (back : Forest) → PartsFault Answers (outlined style parts back) x)
+  template_stops e style parts reads t k =
+      Stops-weaker e (λ x. TemplateFault Answers template x parts.1) (λ x. (back : Forest) → PartsFault Answers (outlined style parts back) x)
+      (λ x w back. in_template reads t w) k
 
-  -- ---- all rules
+pub rule_shorter : {T E : Type 0} (r : Result T E) (style : MacroCallStyle) (parts : Forest × Forest) (f mid left : Forest)
+    → outline_at f ≡ pattern_at style mid → IsOutlined style (Ok parts) (pattern_at style mid) left → OnOk r (flat_len left < flat_len f)
+rule_shorter r style parts f mid left at h =
+    on_ok r (flat_len left < flat_len f) (outline_back f (outlined style parts left) (at ∙ outlined-ok style parts (pattern_at style mid) left h))
 
+-- the fault of a `macro` with arguments
+pub one_fault : (Answers : SyntaxContext → Edition → Type 0) (x : told.Fault) (arguments body : Forest) (rs : List Rule) → rs ≡ []
+    → Stops (why.TheVariants.Fault x) (λ y. (back : Forest) → PartsFault Answers (outlined FnLike (arguments, body) back) y)
+    → IsOneRule Answers arguments body rs (Some x)
+one_fault Answers x arguments body rs e h =
+    IfSome-weaker (fault_of x) (λ y. (back : Forest) → PartsFault Answers (outlined FnLike (arguments, body) back) y)
+    (λ y. (rs ≡ []) × PartsFault Answers (one_outline arguments body) y) (λ y k. (e, k none)) h
+
+-- ---- what separates two rules
+
+module _ (separators : List ℕ) where
+  -- one of the chars is in front
+  abbrev pub IsSeparated : Forest → Type 0
+  IsSeparated f = (p : Punct) × (front_punct f ≡ Some p) × Contains separators p.char
+
+  behind_if : (b : Bool) (rest : Forest) → b ≡ true → (if b then Some rest else None) ≡ Some rest
+  behind_if b rest e = ap (λ (c : Bool). if c then Some rest else None) e
+
+  nothing_if : (b : Bool) (rest : Forest) → (b ≡ true → ⊥) → (if b then Some rest else None) ≡ None
+  nothing_if true rest n = absurd (n refl)
+  nothing_if false rest n = refl
+
+  pub behind-some : (f : Forest) → IsSeparated f → behind_separator separators f ≡ Some (rest_of f)
+  behind-some none (p, e, k) = absurd (none-some p e)
+  behind-some (leaf (literal l) rest) (p, e, k) = absurd (none-some p e)
+  behind-some (leaf (ident i) rest) (p, e, k) = absurd (none-some p e)
+  behind-some (group d inside rest) (p, e, k) = absurd (none-some p e)
+  behind-some (leaf (punct q) rest) (p, e, k) =
+      behind_if (list_any (λ c. q.char == c) separators) rest
+      (list_any-from_Contains nat_eq_equiv q.char separators (subst (λ (x : Punct). Contains separators x.char) (sym (same_Some q p e)) k))
+
+  pub behind-none : (f : Forest) → f ≢ none → (IsSeparated f → ⊥) → behind_separator separators f ≡ None
+  behind-none none n k = absurd (n refl)
+  behind-none (leaf (literal l) rest) n k = refl
+  behind-none (leaf (ident i) rest) n k = refl
+  behind-none (group d inside rest) n k = refl
+  behind-none (leaf (punct q) rest) n k =
+      nothing_if (list_any (λ c. q.char == c) separators) rest (λ h. k (q, refl, Contains-from_any eqb-true q.char separators h))
+
+-- ---- all rules
+
+module _ (Answers : SyntaxContext → Edition → Type 0) (separators : List ℕ) (missing : Fault) where
   -- the rules that are behind those that were read
   abbrev pub Continues : List Rule → Forest → Forest → Type 0
-  Continues before whole left = (rs : List Rule) (x : Option Fault) → Rules Answers semicolon expected_semicolon left rs x
-      → Rules Answers semicolon expected_semicolon whole (before ++ rs) x
+  Continues before whole left = (rs : List Rule) (x : Option Fault) → Rules Answers separators missing left rs x
+      → Rules Answers separators missing whole (before ++ rs) x
 
-  fault_first : (y : Fault) (f : Forest) → f ≢ none → RuleFault Answers y f → Rules Answers semicolon expected_semicolon f [] (Some y)
+  fault_first : (y : Fault) (f : Forest) → f ≢ none → RuleFault Answers y f → Rules Answers separators missing f [] (Some y)
   fault_first y f n (in_outline e) = no_rule f y n e
   fault_first y f n (in_parts o e p) = faulty_rule f o y e p
 
   pub at_fault : (x : told.Fault) (before : List Rule) (whole left : Forest) → Continues before whole left → left ≢ none
-      → IfSome (fault_of x) (λ y. RuleFault Answers y left) → AreRules Answers whole before (Some x)
+      → IfSome (fault_of x) (λ y. RuleFault Answers y left) → AreRules Answers separators missing whole before (Some x)
   at_fault x before whole left c n h =
-      IfSome-weaker (fault_of x) (λ y. RuleFault Answers y left) (λ y. Rules Answers semicolon expected_semicolon whole before (Some y))
-      (λ y k. subst (λ (rs : List Rule). Rules Answers semicolon expected_semicolon whole rs (Some y)) (append-nil before) (c [] (Some y) (fault_first y left n k))) h
+      IfSome-weaker (fault_of x) (λ y. RuleFault Answers y left) (λ y. Rules Answers separators missing whole before (Some y))
+      (λ y k. subst (λ (rs : List Rule). Rules Answers separators missing whole rs (Some y)) (append-nil before) (c [] (Some y) (fault_first y left n k))) h
 
-  pub at_end : (before : List Rule) (whole left : Forest) → Continues before whole left → left ≡ none → AreRules Answers whole before None
+  pub at_end : (before : List Rule) (whole left : Forest) → Continues before whole left → left ≡ none → AreRules Answers separators missing whole before None
   at_end before whole left c e =
-      subst (λ (rs : List Rule). Rules Answers semicolon expected_semicolon whole rs None) (append-nil before)
-      (c [] None (subst (λ (g : Forest). Rules Answers semicolon expected_semicolon g [] None) (sym e) ended))
-
-  behind-semicolon : (f : Forest) → front_char f ≡ Some 59 → behind_separator semicolon f ≡ Some (rest_of f)
-  behind-semicolon none e = absurd (none-some 59 e)
-  behind-semicolon (leaf (literal l) rest) e = absurd (none-some 59 e)
-  behind-semicolon (leaf (ident i) rest) e = absurd (none-some 59 e)
-  behind-semicolon (group d inside rest) e = absurd (none-some 59 e)
-  behind-semicolon (leaf (punct p) rest) e = rw (eq-eqb p.char 59 (same_Some p.char 59 e)) refl
-
-  behind-nothing : (f : Forest) → f ≢ none → (front_char f ≡ Some 59 → ⊥) → behind_separator semicolon f ≡ None
-  behind-nothing none n e = absurd (n refl)
-  behind-nothing (leaf (literal l) rest) n e = refl
-  behind-nothing (leaf (ident i) rest) n e = refl
-  behind-nothing (group d inside rest) n e = refl
-  behind-nothing (leaf (punct p) rest) n e = rw (ne_eqb p.char 59 (λ h. e (ap Some h))) refl
+      subst (λ (rs : List Rule). Rules Answers separators missing whole rs None) (append-nil before)
+      (c [] None (subst (λ (g : Forest). Rules Answers separators missing g [] None) (sym e) ended))
 
   -- one rule more, with a separator behind it
   pub one_more : (before : List Rule) (r : Rule) (whole left behind rest : Forest) → Continues before whole left → ReadsRule Answers left r behind
-      → front_char behind ≡ Some 59 → rest ≡ rest_of behind → (rs : List Rule) (x : Option Fault) → Rules Answers semicolon expected_semicolon rest rs x
-      → Rules Answers semicolon expected_semicolon whole (before ++ (r ∷ rs)) x
+      → IsSeparated separators behind → rest ≡ rest_of behind → (rs : List Rule) (x : Option Fault) → Rules Answers separators missing rest rs x
+      → Rules Answers separators missing whole (before ++ (r ∷ rs)) x
   one_more before r whole left behind rest c reads e at rs x h =
       c (r ∷ rs) x (separated left rest reads.outline r rs x reads.at reads.parts
-      (ap (behind_separator semicolon) reads.behind ∙ (behind-semicolon behind e ∙ ap Some (sym at))) h)
+      (ap (behind_separator separators) reads.behind ∙ (behind-some separators behind e ∙ ap Some (sym at))) h)
 
   -- the last rule, with nothing behind it
   pub last_rule : (before : List Rule) (r : Rule) (whole left behind : Forest) → Continues before whole left → ReadsRule Answers left r behind
-      → behind ≡ none → AreRules Answers whole (before ++ r ∷ []) None
+      → behind ≡ none → AreRules Answers separators missing whole (before ++ r ∷ []) None
   last_rule before r whole left behind c reads e =
-      c (r ∷ []) None (separated left none reads.outline r [] None reads.at reads.parts (ap (behind_separator semicolon) (reads.behind ∙ e)) ended)
+      c (r ∷ []) None (separated left none reads.outline r [] None reads.at reads.parts (ap (behind_separator separators) (reads.behind ∙ e)) ended)
 
   -- a rule with no separator behind it
   pub stray_rule : (before : List Rule) (r : Rule) (whole left behind : Forest) → Continues before whole left → ReadsRule Answers left r behind
-      → behind ≢ none → (front_char behind ≡ Some 59 → ⊥) → AreRules Answers whole (before ++ r ∷ []) (Some told.TheVariants.ExpectedSemicolon)
+      → behind ≢ none → (IsSeparated separators behind → ⊥) → Rules Answers separators missing whole (before ++ r ∷ []) (Some missing)
   stray_rule before r whole left behind c reads n e =
-      c (r ∷ []) (Some expected_semicolon) (unseparated left reads.outline r reads.at reads.parts
-      (ap (behind_separator semicolon) reads.behind ∙ behind-nothing behind n e))
+      c (r ∷ []) (Some missing) (unseparated left reads.outline r reads.at reads.parts
+      (ap (behind_separator separators) reads.behind ∙ behind-none separators behind n e))
+
+-- the same, by the fault that is told
+pub told_missing : (Answers : SyntaxContext → Edition → Type 0) (separators : List ℕ) (x : told.Fault) (f : Forest) (rs : List Rule)
+    → Rules Answers separators (told_of x) f rs (Some (told_of x)) → AreRules Answers separators (told_of x) f rs (Some x)
+told_missing Answers separators x f rs h = by_fault (fault_of x) h
+  where
+    by_fault : (o : Option Fault) → Rules Answers separators (unwrap_or o not_carried) f rs (Some (unwrap_or o not_carried))
+        → IfSome o (λ y. Rules Answers separators (unwrap_or o not_carried) f rs (Some y))
+    by_fault None k = tt
+    by_fault (Some y) k = k
 
 -- rules that were written one behind the other
 pub rules-push : {A : Type 0} (before : List (code.Rule A)) (r : code.Rule A) → rules_seen (before ++ r ∷ []) ≡ rules_seen before ++ rule_of r ∷ []
@@ -143,17 +211,66 @@ pub rules-push-more : {A : Type 0} (before : List (code.Rule A)) (r : code.Rule 
 rules-push-more [] r rs = refl
 rules-push-more (b ∷ before) r rs = ap (λ (xs : List Rule). rule_of b ∷ xs) (rules-push-more before r rs)
 
--- what a macro tells of its definition
-module _ (Answers : SyntaxContext → Edition → Type 0) where
-  some_told : (o : Option Fault) (f : Forest) (rs : List Rule) → IfSome o (λ y. Rules Answers semicolon expected_semicolon f rs (Some y))
-      → (unwrap_or o not_carried ≡ not_carried) ⊎ Rules Answers semicolon expected_semicolon f rs (Some (unwrap_or o not_carried))
-  some_told None f rs h = inl refl
-  some_told (Some y) f rs h = inr h
+-- ---- what a macro tells of its definition
 
-  pub read_told : (x : told.Fault) (f : Forest) (m : Macro) → AreRules Answers f m.rules (Some x) → m.err ≡ Some (told_of x) → IsReadAs Answers f m
-  read_told x f m h e = rw e (told_either (some_told (fault_of x) f m.rules h))
+-- the fault that goes with the rules, or what isn't carried yet
+told_either : (P : Option Fault → Type 0) (o : Option Fault) → IfSome o (λ y. P (Some y))
+    → (let r : Option Fault = Some (unwrap_or o not_carried) in r ≡ Some not_carried) ⊎ P (Some (unwrap_or o not_carried))
+told_either P None h = inl refl
+told_either P (Some y) h = inr h
+
+-- the macro of these rules and this first fault
+abbrev pub macro_with : List Rule → Option told.Fault → Macro
+macro_with rs x = record { rules = rs; err = with_refusal rs (option_map told_of x) }
+
+module _ (Answers : SyntaxContext → Edition → Type 0) where
+  told_rules : (separators : List ℕ) (missing : Fault) (f : Forest) (rs : List Rule) (x : Option told.Fault) → AreRules Answers separators missing f rs x
+      → (option_map told_of x ≡ Some not_carried) ⊎ Rules Answers separators missing f rs (option_map told_of x)
+  told_rules separators missing f rs None h = inr h
+  told_rules separators missing f rs (Some x) h = told_either (λ y. Rules Answers separators missing f rs y) (fault_of x) h
+
+  -- a macro of rules that these chars separate
+  told_macro : (separators : List ℕ) (missing : Fault) (f : Forest) (rs : List Rule) (x : Option told.Fault) → AreRules Answers separators missing f rs x
+      → IsCutShort (macro_with rs x)
+      ⊎ ((first : Option Fault) × Rules Answers separators missing f rs first × (with_refusal rs (option_map told_of x) ≡ with_refusal rs first))
+  told_macro separators missing f rs x h = by_either (told_rules separators missing f rs x h)
     where
-      told_either : (told_of x ≡ not_carried) ⊎ Rules Answers semicolon expected_semicolon f m.rules (Some (told_of x))
-          → (let r : Option Fault = Some (told_of x) in r ≡ Some not_carried) ⊎ Rules Answers semicolon expected_semicolon f m.rules (Some (told_of x))
-      told_either (inl k) = inl (ap Some k)
-      told_either (inr k) = inr k
+      by_either : (option_map told_of x ≡ Some not_carried) ⊎ Rules Answers separators missing f rs (option_map told_of x)
+          → IsCutShort (macro_with rs x)
+          ⊎ ((first : Option Fault) × Rules Answers separators missing f rs first × (with_refusal rs (option_map told_of x) ≡ with_refusal rs first))
+      by_either (inl k) = inl (ap (with_refusal rs) k)
+      by_either (inr r) = inr (option_map told_of x, r, refl)
+
+  pub read_as : (f trees : Forest) (rs : List Rule) (x : Option told.Fault) (m : Macro) → f ≡ trees
+      → AreRules Answers (59 ∷ []) (told_of told.TheVariants.ExpectedSemicolon) f rs x → m ≡ macro_with rs x → IsReadAs Answers trees m
+  read_as f trees rs x m same h e =
+      subst (λ (g : Forest). IsReadAs Answers g m) same
+      (subst (IsReadAs Answers f) (sym e) (told_macro (59 ∷ []) (told_of told.TheVariants.ExpectedSemicolon) f rs x h))
+
+  pub read_as_body : (f trees : Forest) (rs : List Rule) (x : Option told.Fault) (m : Macro) → f ≡ trees
+      → AreRules Answers (59 ∷ 44 ∷ []) (told_of told.TheVariants.ExpectedSeparator) f rs x → m ≡ macro_with rs x → IsReadAsMacro Answers None trees m
+  read_as_body f trees rs x m same h e =
+      subst (λ (g : Forest). IsReadAsMacro Answers None g m) same
+      (subst (IsReadAsMacro Answers None f) (sym e) (told_macro (59 ∷ 44 ∷ []) (told_of told.TheVariants.ExpectedSeparator) f rs x h))
+
+  told_one : (arguments body : Forest) (rs : List Rule) (x : Option told.Fault) → IsOneRule Answers arguments body rs x
+      → IsReadAsMacro Answers (Some arguments) body (macro_with rs x)
+  told_one arguments body rs None (r, e, p) =
+      inr (subst (λ (qs : List Rule). IsMacroOfArguments Answers arguments body qs (with_refusal qs None)) (sym e) (one_rule r p))
+  told_one arguments body rs (Some x) h = by_either (told_either Faulty (fault_of x) h)
+    where
+      Faulty : Option Fault → Type 0
+      Faulty None = ⊥
+      Faulty (Some y) = (rs ≡ []) × PartsFault Answers (one_outline arguments body) y
+
+      by_either : (let r : Option Fault = Some (told_of x) in r ≡ Some not_carried) ⊎ Faulty (Some (told_of x))
+          → IsReadAsMacro Answers (Some arguments) body (macro_with rs (Some x))
+      by_either (inl k) = inl (ap (with_refusal rs) k)
+      by_either (inr p) =
+          inr (subst (λ (qs : List Rule). IsMacroOfArguments Answers arguments body qs (with_refusal qs (Some (told_of x)))) (sym p.0) (faulty (told_of x) p.1))
+
+  pub read_as_one : (f h arguments body : Forest) (rs : List Rule) (x : Option told.Fault) (m : Macro) → f ≡ arguments → h ≡ body
+      → IsOneRule Answers f h rs x → m ≡ macro_with rs x → IsReadAsMacro Answers (Some arguments) body m
+  read_as_one f h arguments body rs x m same_arguments same_body k e =
+      subst (λ (g : Forest). IsReadAsMacro Answers (Some g) body m) same_arguments
+      (subst (λ (g : Forest). IsReadAsMacro Answers (Some f) g m) same_body (subst (IsReadAsMacro Answers (Some f) h) (sym e) (told_one f h rs x k)))

@@ -1,16 +1,17 @@
 -- What the reader of patterns and templates answers, told by their grammar.
 use Rattle.std.specs.Prelude.{◌≡◌, ◌||◌, ℕ, Bool, false, List, [], ◌∷◌, ◌++◌, codes, Option, Some, None, IfSome, Result, Ok, Err}
 use Rattle.mbe_tt.specs.Leaf.{Leaf, ident, is_text}
-use Rattle.mbe_tt.specs.Tree.{Forest, leaf}
+use Rattle.mbe_tt.specs.Tree.{Forest, none, leaf}
 use Rattle.mbe_tt.specs.declared.span.SyntaxContext.{SyntaxContext}
 use Rattle.mbe_tt.specs.declared.span.Edition.{Edition}
 use Rattle.mbe.specs.declared.parser.MetaVarKind.{MetaVarKind}
 use Rattle.mbe.specs.declared.parser.Mode as code
 use Rattle.mbe.specs.declared.error.Fault as told
 use Rattle.mbe.specs.declared.error.ReadError as read
+use Rattle.mbe.specs.declared.macro_call_style.MacroCallStyle.{MacroCallStyle}
 use Rattle.mbe.specs.declared.macro_call_style.MacroCallStyle.TheVariants.{FnLike}
 use Rattle.mbe.specs.Op.{Op, Ops, op, variable, group, repetition, Separator}
-use Rattle.mbe.specs.Definition.{Outline, Rule, outline_at, AreParts, PartsFault, Rules}
+use Rattle.mbe.specs.Definition.{Outline, Rule, pattern_at, outline_at, AreParts, PartsFault, Rules}
 use Rattle.mbe.specs.Template.{Mode, pattern, template, Fault, unexpected_token, expected, invalid_repeat, separator_of, Head, ended, one, typed, opens_group, opens_repetition, Specifies, Template, TemplateFault}
 
 abbrev pub mode_of : code.Mode → Mode
@@ -22,7 +23,9 @@ abbrev pub fault_of : told.Fault → Option Fault
 fault_of told.TheVariants.ExpectedSubtree = Some (expected (codes "expected subtree"))
 fault_of told.TheVariants.ExpectedEquals = Some (expected (codes "expected `=`"))
 fault_of told.TheVariants.ExpectedGreater = Some (expected (codes "expected `>`"))
+fault_of told.TheVariants.ExpectedParentheses = Some (expected (codes "expected `()`"))
 fault_of told.TheVariants.ExpectedSemicolon = Some (expected (codes "expected `;`"))
+fault_of told.TheVariants.ExpectedSeparator = Some (expected (codes "expected `;` or `,` to delimit rules"))
 fault_of told.TheVariants.ExpectedIdent = Some (expected (codes "expected ident"))
 fault_of told.TheVariants.ExpectedRepetition = Some (expected (codes "expected `$()` repetition or `${}` expression"))
 fault_of told.TheVariants.ExpressionInPattern = Some (unexpected_token (codes "`${}` metavariable expressions are not allowed in matchers"))
@@ -84,24 +87,26 @@ module _ (Answers : SyntaxContext → Edition → Type 0) where
 
 -- ---- rules
 
--- a rule that begins with `unsafe`, `attr` or `derive`
-abbrev pub is_styled : Forest → Bool
-is_styled (leaf (ident i) rest) = is_text i.sym (codes "unsafe") || is_text i.sym (codes "attr") || is_text i.sym (codes "derive")
-is_styled _ = false
+-- the identifier of that text is in front
+abbrev pub is_word : List ℕ → Forest → Bool
+is_word word (leaf (ident i) rest) = is_text i.sym word
+is_word word _ = false
 
--- the trees of the pattern and of the template of one rule, and those behind it; or the fault
-abbrev pub IsOutlined : Result (Forest × Forest) told.Fault → Result Outline Fault → Forest → Type 0
-IsOutlined (Ok parts) (Ok o) left = (o.style ≡ FnLike) × (o.reads ≡ parts.0) × (o.writes ≡ parts.1) × (o.back ≡ left)
-IsOutlined (Ok parts) (Err x) left = ⊥
-IsOutlined (Err f) (Ok o) left = fault_of f ≡ None
-IsOutlined (Err f) (Err x) left = IfSome (fault_of f) (λ y. y ≡ x)
+-- the style of the rule in front, before the trees that are left; or the fault
+abbrev pub IsStyled : Result MacroCallStyle told.Fault → Result Outline Fault → Forest → Type 0
+IsStyled (Ok style) r left = r ≡ pattern_at style left
+IsStyled (Err f) r left = (x : Fault) × (fault_of f ≡ Some x) × (r ≡ Err x)
 
--- what separates the rules of `macro_rules!`, and what is told where it is missing
-abbrev pub semicolon : List ℕ
-semicolon = 59 ∷ []
+-- the trees of the pattern and of the template of one rule of the style, and those behind it; or the fault
+abbrev pub IsOutlined : MacroCallStyle → Result (Forest × Forest) told.Fault → Result Outline Fault → Forest → Type 0
+IsOutlined style (Ok parts) (Ok o) left = (o.style ≡ style) × (o.reads ≡ parts.0) × (o.writes ≡ parts.1) × (o.back ≡ left)
+IsOutlined style (Ok parts) (Err x) left = ⊥
+IsOutlined style (Err f) (Ok o) left = ⊥
+IsOutlined style (Err f) (Err x) left = fault_of f ≡ Some x
 
-abbrev pub expected_semicolon : Fault
-expected_semicolon = expected (codes "expected `;`")
+-- the trees of the one rule of a `macro` with arguments
+abbrev pub one_outline : Forest → Forest → Outline
+one_outline arguments body = record { style = FnLike; reads = arguments; writes = body; back = none }
 
 module _ (Answers : SyntaxContext → Edition → Type 0) where
   -- a rule stands in front, and these are the trees behind it
@@ -117,6 +122,11 @@ module _ (Answers : SyntaxContext → Edition → Type 0) where
     in_parts : (o : Outline) → outline_at f ≡ Ok o → PartsFault Answers o fault → RuleFault fault f
 
   -- the rules up to the first fault, and that fault; nothing is said of what isn't carried yet
-  abbrev pub AreRules : Forest → List Rule → Option told.Fault → Type 0
-  AreRules f rs None = Rules Answers semicolon expected_semicolon f rs None
-  AreRules f rs (Some x) = IfSome (fault_of x) (λ y. Rules Answers semicolon expected_semicolon f rs (Some y))
+  abbrev pub AreRules : List ℕ → Fault → Forest → List Rule → Option told.Fault → Type 0
+  AreRules separators missing f rs None = Rules Answers separators missing f rs None
+  AreRules separators missing f rs (Some x) = IfSome (fault_of x) (λ y. Rules Answers separators missing f rs (Some y))
+
+  -- the one rule of these arguments and this body, or its first fault; nothing is said of what isn't carried yet
+  abbrev pub IsOneRule : Forest → Forest → List Rule → Option told.Fault → Type 0
+  IsOneRule arguments body rs None = (r : Rule) × (rs ≡ r ∷ []) × AreParts Answers (one_outline arguments body) r
+  IsOneRule arguments body rs (Some x) = IfSome (fault_of x) (λ y. (rs ≡ []) × PartsFault Answers (one_outline arguments body) y)

@@ -62,7 +62,9 @@ pub(crate) enum Fault {
     ExpectedSubtree,
     ExpectedEquals,
     ExpectedGreater,
+    ExpectedParentheses,
     ExpectedSemicolon,
+    ExpectedSeparator,
     ExpectedIdent,
     ExpectedRepetition,
     ExpressionInPattern,
@@ -163,7 +165,11 @@ impl<A: Allocator + Copy> ParseError<A> {
             Fault::ExpectedSubtree => ParseError::expected(alloc, "expected subtree"),
             Fault::ExpectedEquals => ParseError::expected(alloc, "expected `=`"),
             Fault::ExpectedGreater => ParseError::expected(alloc, "expected `>`"),
+            Fault::ExpectedParentheses => ParseError::expected(alloc, "expected `()`"),
             Fault::ExpectedSemicolon => ParseError::expected(alloc, "expected `;`"),
+            Fault::ExpectedSeparator => {
+                ParseError::expected(alloc, "expected `;` or `,` to delimit rules")
+            }
             Fault::ExpectedIdent => ParseError::expected(alloc, "expected ident"),
             Fault::ExpectedRepetition => {
                 ParseError::expected(alloc, "expected `$()` repetition or `${}` expression")

@@ -1,29 +1,29 @@
+use Rattle.std.proofs.Common.{ap, ◌∙◌}
 use Rattle.std.proofs.lemmas.Result.{err_from_is_err_and}
-use Rattle.mbe.proofs.OutlineLemmas.{outlined_shorter}
-use Rattle.mbe.proofs.RuleReading.{reads_rule, outline_fault, pattern_fault, template_fault}
+use Rattle.mbe.proofs.RuleReading.{style_fault, outline_fault, rule_read, rule_faulty, rule_shorter}
 use Rattle.mbe.proofs.macros.Rule.parse.Goals as goal
 
-pub returns-clause-shorter : goal.returns-clause-shorter
-returns-clause-shorter g c = outlined_shorter _ c.args.src.now _ c.in_ok-pattern.ensures.rule
-
-pub returns-clause-rule : goal.returns-clause-rule
-returns-clause-rule g c =
-    reads_rule _ (c.in_ok-pattern.pattern, c.in_ok-pattern.template) c.args.src.now c.rule_groups.new.src _ _ c.in_ok-pattern.ensures.rule
-    c.in_ok-lhs.ensures.ops c.in_ok-rhs.ensures.ops
+pub returns-in_err-style-clause-fault : goal.returns-in_err-style-clause-fault
+returns-in_err-style-clause-fault g c =
+    let p = err_from_is_err_and c.from_residual.result c.from_residual.ensures.1 in
+    rw (p.1, p.2) (style_fault _ _ c.args.src.now c.parse_rule_style.new.src c.in_err-style.ensures)
 
 pub returns-in_err-pattern-clause-fault : goal.returns-in_err-pattern-clause-fault
 returns-in_err-pattern-clause-fault g c =
-    let p = err_from_is_err_and c.from_residual.result c.from_residual.ensures.1 in
-    rw (p.1, p.2) (outline_fault _ _ c.args.src.now c.rule_groups.new.src c.in_err-pattern.ensures.rule)
+    let p = err_from_is_err_and c.from_residual-in_err-pattern.result c.from_residual-in_err-pattern.ensures.1 in
+    rw (p.1, p.2) (outline_fault _ c.in_ok-style.style _ c.args.src.now c.parse_rule_style.new.src c.rule_groups.new.src c.in_ok-style.ensures (c.in_err-pattern.ensures c.in_ok-style.style))
 
-pub returns-in_err-lhs-clause-fault : goal.returns-in_err-lhs-clause-fault
-returns-in_err-lhs-clause-fault g c =
-    let p = err_from_is_err_and c.from_residual-in_err-lhs.result c.from_residual-in_err-lhs.ensures.1 in
-    rw (p.1, p.2) (pattern_fault _ _ (c.in_ok-pattern.pattern, c.in_ok-pattern.template) c.args.src.now c.rule_groups.new.src c.in_ok-pattern.ensures.rule
-    c.in_err-lhs.ensures.fault)
+pub returns-clause-rule : goal.returns-clause-rule
+returns-clause-rule g c =
+    rule_read _ c.of_parts.result c.in_ok-style.style (c.in_ok-pattern.pattern, c.in_ok-pattern.template) c.args.src.now c.parse_rule_style.new.src c.rule_groups.new.src
+    c.in_ok-style.ensures (c.in_ok-pattern.ensures c.in_ok-style.style) c.of_parts.ensures.rule
 
-pub returns-in_err-rhs-clause-fault : goal.returns-in_err-rhs-clause-fault
-returns-in_err-rhs-clause-fault g c =
-    let p = err_from_is_err_and c.from_residual-in_err-rhs.result c.from_residual-in_err-rhs.ensures.1 in
-    rw (p.1, p.2) (template_fault _ _ (c.in_ok-pattern.pattern, c.in_ok-pattern.template) c.args.src.now c.rule_groups.new.src _ c.in_ok-pattern.ensures.rule
-    c.in_ok-lhs.ensures.ops c.in_err-rhs.ensures.fault)
+pub returns-clause-fault : goal.returns-clause-fault
+returns-clause-fault g c =
+    rule_faulty _ c.of_parts.result c.in_ok-style.style (c.in_ok-pattern.pattern, c.in_ok-pattern.template) c.args.src.now c.parse_rule_style.new.src c.rule_groups.new.src
+    c.in_ok-style.ensures (c.in_ok-pattern.ensures c.in_ok-style.style) c.of_parts.ensures.fault
+
+pub returns-clause-shorter : goal.returns-clause-shorter
+returns-clause-shorter g c =
+    rule_shorter c.of_parts.result c.in_ok-style.style (c.in_ok-pattern.pattern, c.in_ok-pattern.template) c.args.src.now c.parse_rule_style.new.src c.rule_groups.new.src
+    c.in_ok-style.ensures (c.in_ok-pattern.ensures c.in_ok-style.style)

@@ -1,0 +1,11 @@
+use Rattle.std.proofs.Common.{ap, sym, ◌∙◌}
+use Rattle.std.specs.List.{list_any}
+use Rattle.std.proofs.lemmas.Bool.{false≢true}
+use Rattle.mbe.specs.Views.{rules_seen}
+use Rattle.mbe.proofs.RefusalLemmas.{refused_reads}
+use Rattle.mbe.proofs.macros.DeclarativeMacro.of_rules.Goals as goal
+
+pub invariant_of-result-2 : goal.invariant_of-result-2
+invariant_of-result-2 g c =
+    let same = c.refuses_some.ensures ∙ ap (λ rs. list_any refused_reads (rules_seen rs)) c.deref.ensures.value in
+    record { tells_refusal = λ refused. absurd (false≢true (sym c.if-refuses_some.false ∙ (same ∙ refused))) }
