@@ -1,5 +1,5 @@
 -- What one op of a pattern or a template says of all its trees, and what specifiers mean.
-use Rattle.std.specs.Prelude.{◌≡◌, ◌≤◌, ◌<◌, ℕ, zero, suc, Bool, true, false, if◌then◌else◌, List, [], ◌∷◌, ◌++◌, length, take, codes, Option, Some, None, Result, Ok, Err, IfOk, IfErr, IfSome, IsTrue, IsFalse, refl, ◌==◌}
+use Rattle.std.specs.Prelude.{◌≡◌, ◌≤◌, ◌<◌, ℕ, zero, suc, Bool, true, false, if◌then◌else◌, List, [], ◌∷◌, ◌++◌, length, take, codes, Option, Some, None, Result, Ok, Err, IfOk, IfErr, OnOk, IsTrue, IsFalse, refl, ◌==◌}
 use Rattle.std.proofs.Common.{ap, sym, ◌∙◌, subst, arith}
 use Rattle.std.proofs.lemmas.Option.{none-some, same_Some}
 use Rattle.std.proofs.lemmas.Bool.{eq-eqb, ne_eqb}
@@ -153,13 +153,9 @@ with_front-all (p ∷ before) = ap (op (op_of p)) (with_front-all before)
 
 -- ---- answers and faults, carried from the trees behind the front to all trees
 
-pub IfSome-weaker : {X : Type 0} (o : Option X) (P Q : X → Type 0) → ((x : X) → P x → Q x) → IfSome o P → IfSome o Q
-IfSome-weaker None P Q h p = tt
-IfSome-weaker (Some x) P Q h p = h x p
-
 pub Stops-weaker : (e : why.ReadError) (P Q : Fault → Type 0) → ((x : Fault) → P x → Q x) → Stops e P → Stops e Q
 Stops-weaker why.TheVariants.Memory P Q h p = tt
-Stops-weaker (why.TheVariants.Fault f) P Q h p = IfSome-weaker (fault_of f) P Q h p
+Stops-weaker (why.TheVariants.Fault f) P Q h p = h (fault_of f) p
 
 pub stopped : {T : Type 0} (r : Result T why.ReadError) (P Q : Fault → Type 0) → ((x : Fault) → P x → Q x) → IfErr r (λ e. Stops e P) → IfErr r (λ e. Stops e Q)
 stopped (Ok x) P Q h p = tt
@@ -212,6 +208,10 @@ module _ (Answers : SyntaxContext → Edition → Type 0) where
   pub later_fault : (e : why.ReadError) (m : Mode) (f left : Forest) → ((x : Fault) → TemplateFault Answers m x left → TemplateFault Answers m x f)
       → Stops e (λ x. TemplateFault Answers m x left) → Stops e (λ x. TemplateFault Answers m x f)
   later_fault e m f left k h = Stops-weaker e (λ x. TemplateFault Answers m x left) (λ x. TemplateFault Answers m x f) k h
+
+pub on_ok : {T E : Type 0} (r : Result T E) (P : Type 0) → P → OnOk r P
+on_ok (Ok x) P p = p
+on_ok (Err e) P p = tt
 
 -- ---- lengths
 

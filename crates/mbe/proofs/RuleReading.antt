@@ -21,11 +21,10 @@ use Rattle.mbe.specs.Template.{Fault, pattern, template, Template, TemplateFault
 use Rattle.mbe.specs.Definition.{Outline, Rule, outline_at, pattern_at, AreParts, PartsFault, in_pattern, in_template, Rules, ended, no_rule, faulty_rule, unseparated, separated, behind_separator, with_refusal, IsMacroOfArguments, one_rule, faulty}
 use Rattle.mbe.specs.Reader.{IsStyled, IsOutlined, ReadsRule, RuleFault, in_outline, in_parts, AreRules, IsOneRule, one_outline, Stops, fault_of}
 use Rattle.mbe.specs.Views.{rule_of, rules_seen}
-use Rattle.mbe.specs.ErrorViews.{told_of, not_carried}
 use Rattle.mbe.specs.Macro.{Macro}
-use Rattle.mbe.specs.MacroViews.{IsCutShort, IsReadAs, IsReadAsMacro}
+use Rattle.mbe.specs.MacroViews.{IsReadAs, IsReadAsMacro}
 use Rattle.mbe.proofs.OutlineLemmas.{outline_back}
-use Rattle.mbe.proofs.ReaderLemmas.{Stops-weaker, IfSome-weaker, on_ok}
+use Rattle.mbe.proofs.ReaderLemmas.{Stops-weaker, on_ok}
 
 -- ---- the outline of one rule
 
@@ -39,14 +38,9 @@ outlined-ok style parts (Err x) left h = absurd h
 outlined-ok style parts (Ok o) left h =
     ap (λ (x : Outline). let r : Result Outline Fault = Ok x in r) (λ i. record { style = h.0 i; reads = h.1 i; writes = h.2 i; back = h.3 i })
 
-pub outlined-err : (style : MacroCallStyle) (x : told.Fault) (r : Result Outline Fault) (left : Forest) → IsOutlined style (Err x) r left
-    → (y : Fault) × (fault_of x ≡ Some y) × (r ≡ Err y)
+pub outlined-err : (style : MacroCallStyle) (x : told.Fault) (r : Result Outline Fault) (left : Forest) → IsOutlined style (Err x) r left → r ≡ Err (fault_of x)
 outlined-err style x (Ok o) left h = absurd h
-outlined-err style x (Err y) left h = (y, h, refl)
-
--- the fault that is told
-told_as : (x : told.Fault) (P : Fault → Type 0) (y : Fault) → fault_of x ≡ Some y → P y → IfSome (fault_of x) P
-told_as x P y e p = subst (λ o. IfSome o P) (sym e) p
+outlined-err style x (Err y) left h = ap (λ (z : Fault). let r : Result Outline Fault = Err z in r) (sym h)
 
 module _ (Answers : SyntaxContext → Edition → Type 0) where
   -- ---- one rule
@@ -61,14 +55,12 @@ module _ (Answers : SyntaxContext → Edition → Type 0) where
   }
 
   -- a fault before the pattern
-  pub style_fault : (x : told.Fault) (f left : Forest) → IsStyled (Err x) (outline_at f) left → IfSome (fault_of x) (λ y. RuleFault Answers y f)
-  style_fault x f left (y, e, at) = told_as x (λ y. RuleFault Answers y f) y e (in_outline at)
+  pub style_fault : (x : told.Fault) (f left : Forest) → IsStyled (Err x) (outline_at f) left → RuleFault Answers (fault_of x) f
+  style_fault x f left at = in_outline at
 
   pub outline_fault : (style : MacroCallStyle) (x : told.Fault) (f mid left : Forest) → outline_at f ≡ pattern_at style mid
-      → IsOutlined style (Err x) (pattern_at style mid) left → IfSome (fault_of x) (λ y. RuleFault Answers y f)
-  outline_fault style x f mid left at h =
-      let y = outlined-err style x (pattern_at style mid) left h in
-      told_as x (λ y. RuleFault Answers y f) y.0 y.1 (in_outline (at ∙ y.2))
+      → IsOutlined style (Err x) (pattern_at style mid) left → RuleFault Answers (fault_of x) f
+  outline_fault style x f mid left at h = in_outline (at ∙ outlined-err style x (pattern_at style mid) left h)
 
   -- a fault of the pattern or the template
   pub parts_fault : (style : MacroCallStyle) (e : why.ReadError) (parts : Forest × Forest) (f mid left : Forest) → outline_at f ≡ pattern_at style mid
@@ -112,9 +104,7 @@ rule_shorter r style parts f mid left at h =
 pub one_fault : (Answers : SyntaxContext → Edition → Type 0) (x : told.Fault) (arguments body : Forest) (rs : List Rule) → rs ≡ []
     → Stops (why.TheVariants.Fault x) (λ y. (back : Forest) → PartsFault Answers (outlined FnLike (arguments, body) back) y)
     → IsOneRule Answers arguments body rs (Some x)
-one_fault Answers x arguments body rs e h =
-    IfSome-weaker (fault_of x) (λ y. (back : Forest) → PartsFault Answers (outlined FnLike (arguments, body) back) y)
-    (λ y. (rs ≡ []) × PartsFault Answers (one_outline arguments body) y) (λ y k. (e, k none)) h
+one_fault Answers x arguments body rs e h = (e, h none)
 
 -- ---- what separates two rules
 
@@ -160,10 +150,10 @@ module _ (Answers : SyntaxContext → Edition → Type 0) (separators : List ℕ
   fault_first y f n (in_parts o e p) = faulty_rule f o y e p
 
   pub at_fault : (x : told.Fault) (before : List Rule) (whole left : Forest) → Continues before whole left → left ≢ none
-      → IfSome (fault_of x) (λ y. RuleFault Answers y left) → AreRules Answers separators missing whole before (Some x)
+      → RuleFault Answers (fault_of x) left → AreRules Answers separators missing whole before (Some x)
   at_fault x before whole left c n h =
-      IfSome-weaker (fault_of x) (λ y. RuleFault Answers y left) (λ y. Rules Answers separators missing whole before (Some y))
-      (λ y k. subst (λ (rs : List Rule). Rules Answers separators missing whole rs (Some y)) (append-nil before) (c [] (Some y) (fault_first y left n k))) h
+      subst (λ (rs : List Rule). Rules Answers separators missing whole rs (Some (fault_of x))) (append-nil before)
+      (c [] (Some (fault_of x)) (fault_first (fault_of x) left n h))
 
   pub at_end : (before : List Rule) (whole left : Forest) → Continues before whole left → left ≡ none → AreRules Answers separators missing whole before None
   at_end before whole left c e =
@@ -191,16 +181,6 @@ module _ (Answers : SyntaxContext → Edition → Type 0) (separators : List ℕ
       c (r ∷ []) (Some missing) (unseparated left reads.outline r reads.at reads.parts
       (ap (behind_separator separators) reads.behind ∙ behind-none separators behind n e))
 
--- the same, by the fault that is told
-pub told_missing : (Answers : SyntaxContext → Edition → Type 0) (separators : List ℕ) (x : told.Fault) (f : Forest) (rs : List Rule)
-    → Rules Answers separators (told_of x) f rs (Some (told_of x)) → AreRules Answers separators (told_of x) f rs (Some x)
-told_missing Answers separators x f rs h = by_fault (fault_of x) h
-  where
-    by_fault : (o : Option Fault) → Rules Answers separators (unwrap_or o not_carried) f rs (Some (unwrap_or o not_carried))
-        → IfSome o (λ y. Rules Answers separators (unwrap_or o not_carried) f rs (Some y))
-    by_fault None k = tt
-    by_fault (Some y) k = k
-
 -- rules that were written one behind the other
 pub rules-push : {A : Type 0} (before : List (code.Rule A)) (r : code.Rule A) → rules_seen (before ++ r ∷ []) ≡ rules_seen before ++ rule_of r ∷ []
 rules-push [] r = refl
@@ -213,61 +193,29 @@ rules-push-more (b ∷ before) r rs = ap (λ (xs : List Rule). rule_of b ∷ xs)
 
 -- ---- what a macro tells of its definition
 
--- the fault that goes with the rules, or what isn't carried yet
-told_either : (P : Option Fault → Type 0) (o : Option Fault) → IfSome o (λ y. P (Some y))
-    → (let r : Option Fault = Some (unwrap_or o not_carried) in r ≡ Some not_carried) ⊎ P (Some (unwrap_or o not_carried))
-told_either P None h = inl refl
-told_either P (Some y) h = inr h
-
 -- the macro of these rules and this first fault
 abbrev pub macro_with : List Rule → Option told.Fault → Macro
-macro_with rs x = record { rules = rs; err = with_refusal rs (option_map told_of x) }
+macro_with rs x = record { rules = rs; err = with_refusal rs (option_map fault_of x) }
 
 module _ (Answers : SyntaxContext → Edition → Type 0) where
-  told_rules : (separators : List ℕ) (missing : Fault) (f : Forest) (rs : List Rule) (x : Option told.Fault) → AreRules Answers separators missing f rs x
-      → (option_map told_of x ≡ Some not_carried) ⊎ Rules Answers separators missing f rs (option_map told_of x)
-  told_rules separators missing f rs None h = inr h
-  told_rules separators missing f rs (Some x) h = told_either (λ y. Rules Answers separators missing f rs y) (fault_of x) h
-
-  -- a macro of rules that these chars separate
-  told_macro : (separators : List ℕ) (missing : Fault) (f : Forest) (rs : List Rule) (x : Option told.Fault) → AreRules Answers separators missing f rs x
-      → IsCutShort (macro_with rs x)
-      ⊎ ((first : Option Fault) × Rules Answers separators missing f rs first × (with_refusal rs (option_map told_of x) ≡ with_refusal rs first))
-  told_macro separators missing f rs x h = by_either (told_rules separators missing f rs x h)
-    where
-      by_either : (option_map told_of x ≡ Some not_carried) ⊎ Rules Answers separators missing f rs (option_map told_of x)
-          → IsCutShort (macro_with rs x)
-          ⊎ ((first : Option Fault) × Rules Answers separators missing f rs first × (with_refusal rs (option_map told_of x) ≡ with_refusal rs first))
-      by_either (inl k) = inl (ap (with_refusal rs) k)
-      by_either (inr r) = inr (option_map told_of x, r, refl)
-
   pub read_as : (f trees : Forest) (rs : List Rule) (x : Option told.Fault) (m : Macro) → f ≡ trees
-      → AreRules Answers (59 ∷ []) (told_of told.TheVariants.ExpectedSemicolon) f rs x → m ≡ macro_with rs x → IsReadAs Answers trees m
+      → AreRules Answers (59 ∷ []) (fault_of told.TheVariants.ExpectedSemicolon) f rs x → m ≡ macro_with rs x → IsReadAs Answers trees m
   read_as f trees rs x m same h e =
       subst (λ (g : Forest). IsReadAs Answers g m) same
-      (subst (IsReadAs Answers f) (sym e) (told_macro (59 ∷ []) (told_of told.TheVariants.ExpectedSemicolon) f rs x h))
+      (subst (IsReadAs Answers f) (sym e) (option_map fault_of x, h, refl))
 
   pub read_as_body : (f trees : Forest) (rs : List Rule) (x : Option told.Fault) (m : Macro) → f ≡ trees
-      → AreRules Answers (59 ∷ 44 ∷ []) (told_of told.TheVariants.ExpectedSeparator) f rs x → m ≡ macro_with rs x → IsReadAsMacro Answers None trees m
+      → AreRules Answers (59 ∷ 44 ∷ []) (fault_of told.TheVariants.ExpectedSeparator) f rs x → m ≡ macro_with rs x → IsReadAsMacro Answers None trees m
   read_as_body f trees rs x m same h e =
       subst (λ (g : Forest). IsReadAsMacro Answers None g m) same
-      (subst (IsReadAsMacro Answers None f) (sym e) (told_macro (59 ∷ 44 ∷ []) (told_of told.TheVariants.ExpectedSeparator) f rs x h))
+      (subst (IsReadAsMacro Answers None f) (sym e) (option_map fault_of x, h, refl))
 
   told_one : (arguments body : Forest) (rs : List Rule) (x : Option told.Fault) → IsOneRule Answers arguments body rs x
       → IsReadAsMacro Answers (Some arguments) body (macro_with rs x)
   told_one arguments body rs None (r, e, p) =
-      inr (subst (λ (qs : List Rule). IsMacroOfArguments Answers arguments body qs (with_refusal qs None)) (sym e) (one_rule r p))
-  told_one arguments body rs (Some x) h = by_either (told_either Faulty (fault_of x) h)
-    where
-      Faulty : Option Fault → Type 0
-      Faulty None = ⊥
-      Faulty (Some y) = (rs ≡ []) × PartsFault Answers (one_outline arguments body) y
-
-      by_either : (let r : Option Fault = Some (told_of x) in r ≡ Some not_carried) ⊎ Faulty (Some (told_of x))
-          → IsReadAsMacro Answers (Some arguments) body (macro_with rs (Some x))
-      by_either (inl k) = inl (ap (with_refusal rs) k)
-      by_either (inr p) =
-          inr (subst (λ (qs : List Rule). IsMacroOfArguments Answers arguments body qs (with_refusal qs (Some (told_of x)))) (sym p.0) (faulty (told_of x) p.1))
+      subst (λ (qs : List Rule). IsMacroOfArguments Answers arguments body qs (with_refusal qs None)) (sym e) (one_rule r p)
+  told_one arguments body rs (Some x) (e, p) =
+      subst (λ (qs : List Rule). IsMacroOfArguments Answers arguments body qs (with_refusal qs (Some (fault_of x)))) (sym e) (faulty (fault_of x) p)
 
   pub read_as_one : (f h arguments body : Forest) (rs : List Rule) (x : Option told.Fault) (m : Macro) → f ≡ arguments → h ≡ body
       → IsOneRule Answers f h rs x → m ≡ macro_with rs x → IsReadAsMacro Answers (Some arguments) body m

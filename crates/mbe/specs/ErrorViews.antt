@@ -1,27 +1,18 @@
 -- What the code's errors say, whatever memory holds their texts.
-use Rattle.std.specs.Prelude.{List, ℕ, codes, Option, option_map, unwrap_or}
+use Rattle.std.specs.Prelude.{List, ℕ, codes, Option, option_map}
 use Rattle.std.specs.String.{string_bytes}
 use Rattle.mbe.specs.declared.error.ParseError as parse
 use Rattle.mbe.specs.declared.error.ExpandError as expand
 use Rattle.mbe.specs.declared.error.ExpandErrorKind as kinds
 use Rattle.mbe.specs.declared.error.CountError as counts
-use Rattle.mbe.specs.declared.error.Fault as told
 use Rattle.mbe.specs.Template.{Fault, unexpected_token, expected, invalid_repeat, empty_repetition}
 use Rattle.mbe.specs.Error.{ExpandErrorKind, binding_error, unresolved_binding, leftover_tokens, limit_exceeded, no_matching_rule, unexpected_token as unexpected_input, ExpandError}
-use Rattle.mbe.specs.Reader.{fault_of}
 
 abbrev pub parse_error_of : {A : Type 0} → parse.ParseError A → Fault
 parse_error_of (parse.TheVariants.UnexpectedToken text) = unexpected_token (string_bytes text)
 parse_error_of (parse.TheVariants.Expected text) = expected (string_bytes text)
 parse_error_of parse.TheVariants.InvalidRepeat = invalid_repeat
 parse_error_of parse.TheVariants.RepetitionEmptyTokenTree = empty_repetition
-
--- what is told until a definition's whole language is carried
-abbrev pub not_carried : Fault
-not_carried = unexpected_token (codes "not carried yet")
-
-abbrev pub told_of : told.Fault → Fault
-told_of f = unwrap_or (fault_of f) not_carried
 
 abbrev pub kind_of : {A : Type 0} → kinds.ExpandErrorKind A → ExpandErrorKind
 kind_of (kinds.TheVariants.BindingError text) = binding_error (string_bytes text)

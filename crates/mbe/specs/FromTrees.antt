@@ -1,6 +1,6 @@
 -- The expansion theorem from three trees: the definition's, the argument's and the result's. Between them stand the clauses
 -- of the calls that read the definition and expand the argument, and nothing else.
-use Rattle.std.specs.Prelude.{◌≡◌, ◌≢◌, ◌↔◌, ℕ, List, Contains, Option, Some, IsNone}
+use Rattle.std.specs.Prelude.{◌≡◌, ◌↔◌, ℕ, List, Contains, Option, Some, IsNone}
 use Rattle.mbe_tt.specs.declared.span.Span.{Span}
 use Rattle.mbe_tt.specs.declared.span.SyntaxContext.{SyntaxContext}
 use Rattle.mbe_tt.specs.declared.span.Edition.{Edition}
@@ -14,7 +14,6 @@ use Rattle.mbe.specs.Expansion.{Applies, IsExpansion}
 use Rattle.mbe.specs.Macro.{Macro, IsChecked, arm_of}
 use Rattle.mbe.specs.Answer.{AreCarried}
 use Rattle.mbe.specs.Answer as answer
-use Rattle.mbe.specs.ErrorViews.{not_carried}
 use Rattle.mbe.specs.MacroViews.{IsReadAs}
 use Rattle.mbe.specs.Laws.{HasOneEdition}
 
@@ -34,6 +33,6 @@ module _ (Asked : SyntaxContext → Edition → Type 0) (Marks : Span → Span �
   -- So answers each call of `expand` on a macro that `parse_macro_rules` gave, where all rules are carried.
   abbrev pub ExpandsFromTrees : Type 0
   ExpandsFromTrees = (g : Grammar) (definition argument : Forest) (m : Macro) (style : MacroCallStyle) (call_site : Span) (out : Forest) (index : Option ℕ)
-      (err : Option ExpandError) → IsReadAs Asked definition m → IsChecked m → m.err ≢ Some not_carried → AreCarried m.rules →
+      (err : Option ExpandError) → IsReadAs Asked definition m → IsChecked m → AreCarried m.rules →
       (AreCarried m.rules → answer.Answers g Marks m.rules style argument call_site out index err) →
       IsAnswerTo g definition argument style call_site out index err

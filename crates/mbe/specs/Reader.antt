@@ -1,5 +1,5 @@
 -- What the reader of patterns and templates answers, told by their grammar.
-use Rattle.std.specs.Prelude.{◌≡◌, ◌||◌, ℕ, Bool, false, List, [], ◌∷◌, ◌++◌, codes, Option, Some, None, IfSome, Result, Ok, Err}
+use Rattle.std.specs.Prelude.{◌≡◌, ◌||◌, ℕ, Bool, false, List, [], ◌∷◌, ◌++◌, codes, Option, Some, None, option_map, Result, Ok, Err}
 use Rattle.mbe_tt.specs.Leaf.{Leaf, ident, is_text}
 use Rattle.mbe_tt.specs.Tree.{Forest, none, leaf}
 use Rattle.mbe_tt.specs.declared.span.SyntaxContext.{SyntaxContext}
@@ -18,27 +18,26 @@ abbrev pub mode_of : code.Mode → Mode
 mode_of code.TheVariants.Pattern = pattern
 mode_of code.TheVariants.Template = template
 
--- the fault that is told; none of what isn't carried yet
-abbrev pub fault_of : told.Fault → Option Fault
-fault_of told.TheVariants.ExpectedSubtree = Some (expected (codes "expected subtree"))
-fault_of told.TheVariants.ExpectedEquals = Some (expected (codes "expected `=`"))
-fault_of told.TheVariants.ExpectedGreater = Some (expected (codes "expected `>`"))
-fault_of told.TheVariants.ExpectedParentheses = Some (expected (codes "expected `()`"))
-fault_of told.TheVariants.ExpectedSemicolon = Some (expected (codes "expected `;`"))
-fault_of told.TheVariants.ExpectedSeparator = Some (expected (codes "expected `;` or `,` to delimit rules"))
-fault_of told.TheVariants.ExpectedIdent = Some (expected (codes "expected ident"))
-fault_of told.TheVariants.ExpectedRepetition = Some (expected (codes "expected `$()` repetition or `${}` expression"))
-fault_of told.TheVariants.ExpressionInPattern = Some (unexpected_token (codes "`${}` metavariable expressions are not allowed in matchers"))
-fault_of told.TheVariants.DollarInPattern = Some (unexpected_token (codes "`$$` is not allowed on the pattern side"))
-fault_of told.TheVariants.MissingSpecifier = Some (unexpected_token (codes "missing fragment specifier"))
-fault_of told.TheVariants.InvalidExpression = Some (unexpected_token (codes "invalid metavariable expression"))
-fault_of told.TheVariants.InvalidRepeat = Some invalid_repeat
-fault_of told.TheVariants.NotCarried = None
+-- what is told of a fault
+abbrev pub fault_of : told.Fault → Fault
+fault_of told.TheVariants.ExpectedSubtree = expected (codes "expected subtree")
+fault_of told.TheVariants.ExpectedEquals = expected (codes "expected `=`")
+fault_of told.TheVariants.ExpectedGreater = expected (codes "expected `>`")
+fault_of told.TheVariants.ExpectedParentheses = expected (codes "expected `()`")
+fault_of told.TheVariants.ExpectedSemicolon = expected (codes "expected `;`")
+fault_of told.TheVariants.ExpectedSeparator = expected (codes "expected `;` or `,` to delimit rules")
+fault_of told.TheVariants.ExpectedIdent = expected (codes "expected ident")
+fault_of told.TheVariants.ExpectedRepetition = expected (codes "expected `$()` repetition or `${}` expression")
+fault_of told.TheVariants.ExpressionInPattern = unexpected_token (codes "`${}` metavariable expressions are not allowed in matchers")
+fault_of told.TheVariants.DollarInPattern = unexpected_token (codes "`$$` is not allowed on the pattern side")
+fault_of told.TheVariants.MissingSpecifier = unexpected_token (codes "missing fragment specifier")
+fault_of told.TheVariants.InvalidExpression = unexpected_token (codes "invalid metavariable expression")
+fault_of told.TheVariants.InvalidRepeat = invalid_repeat
 
--- why reading stopped: want of memory, what isn't carried yet, or a fault of which P holds
+-- why reading stopped: want of memory, or a fault of which P holds
 abbrev pub Stops : read.ReadError → (Fault → Type 0) → Type 0
 Stops read.TheVariants.Memory P = Unit {0}
-Stops (read.TheVariants.Fault f) P = IfSome (fault_of f) P
+Stops (read.TheVariants.Fault f) P = P (fault_of f)
 
 -- why no metavariable expression was read: want of memory, or there is none
 abbrev pub NotExpression : {T : Type 0} → read.ReadError → Option T → Type 0
@@ -95,14 +94,14 @@ is_word word _ = false
 -- the style of the rule in front, before the trees that are left; or the fault
 abbrev pub IsStyled : Result MacroCallStyle told.Fault → Result Outline Fault → Forest → Type 0
 IsStyled (Ok style) r left = r ≡ pattern_at style left
-IsStyled (Err f) r left = (x : Fault) × (fault_of f ≡ Some x) × (r ≡ Err x)
+IsStyled (Err f) r left = r ≡ Err (fault_of f)
 
 -- the trees of the pattern and of the template of one rule of the style, and those behind it; or the fault
 abbrev pub IsOutlined : MacroCallStyle → Result (Forest × Forest) told.Fault → Result Outline Fault → Forest → Type 0
 IsOutlined style (Ok parts) (Ok o) left = (o.style ≡ style) × (o.reads ≡ parts.0) × (o.writes ≡ parts.1) × (o.back ≡ left)
 IsOutlined style (Ok parts) (Err x) left = ⊥
 IsOutlined style (Err f) (Ok o) left = ⊥
-IsOutlined style (Err f) (Err x) left = fault_of f ≡ Some x
+IsOutlined style (Err f) (Err x) left = fault_of f ≡ x
 
 -- the trees of the one rule of a `macro` with arguments
 abbrev pub one_outline : Forest → Forest → Outline
@@ -121,12 +120,11 @@ module _ (Answers : SyntaxContext → Edition → Type 0) where
     in_outline : outline_at f ≡ Err fault → RuleFault fault f
     in_parts : (o : Outline) → outline_at f ≡ Ok o → PartsFault Answers o fault → RuleFault fault f
 
-  -- the rules up to the first fault, and that fault; nothing is said of what isn't carried yet
+  -- the rules up to the first fault, and that fault
   abbrev pub AreRules : List ℕ → Fault → Forest → List Rule → Option told.Fault → Type 0
-  AreRules separators missing f rs None = Rules Answers separators missing f rs None
-  AreRules separators missing f rs (Some x) = IfSome (fault_of x) (λ y. Rules Answers separators missing f rs (Some y))
+  AreRules separators missing f rs x = Rules Answers separators missing f rs (option_map fault_of x)
 
-  -- the one rule of these arguments and this body, or its first fault; nothing is said of what isn't carried yet
+  -- the one rule of these arguments and this body, or its first fault
   abbrev pub IsOneRule : Forest → Forest → List Rule → Option told.Fault → Type 0
   IsOneRule arguments body rs None = (r : Rule) × (rs ≡ r ∷ []) × AreParts Answers (one_outline arguments body) r
-  IsOneRule arguments body rs (Some x) = IfSome (fault_of x) (λ y. (rs ≡ []) × PartsFault Answers (one_outline arguments body) y)
+  IsOneRule arguments body rs (Some x) = (rs ≡ []) × PartsFault Answers (one_outline arguments body) (fault_of x)

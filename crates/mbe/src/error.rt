@@ -2,7 +2,8 @@
 ghost use Rattle.std.specs.Prelude.{◌≡◌, Some, IfOk};
 ghost use Rattle.mbe.specs.Template.{expected as expected_fault, unexpected_token as unexpected_fault};
 ghost use Rattle.mbe.specs.Error.{text_of_fault, text_of_kind};
-ghost use Rattle.mbe.specs.ErrorViews.{parse_error_of, told_of, kind_of, error_of, count_error_text};
+ghost use Rattle.mbe.specs.Reader.{fault_of};
+ghost use Rattle.mbe.specs.ErrorViews.{parse_error_of, kind_of, error_of, count_error_text};
 
 use mbe_tt::span::Span;
 use std::alloc::{AllocError, AllocFailed, Allocator, Global};
@@ -72,7 +73,6 @@ pub(crate) enum Fault {
     MissingSpecifier,
     InvalidExpression,
     InvalidRepeat,
-    NotCarried,
 }
 
 /// Why reading stopped.
@@ -159,7 +159,7 @@ impl<A: Allocator + Copy> ParseError<A> {
     }
 
     pub(crate) fn of_fault(alloc: A, fault: Fault) -> Result<ParseError<A>, AllocError>
-        ensures { IfOk result (λ e. parse_error_of e ≡ told_of fault) }
+        ensures { IfOk result (λ e. parse_error_of e ≡ fault_of fault) }
     {
         match fault {
             Fault::ExpectedSubtree => ParseError::expected(alloc, "expected subtree"),
@@ -186,7 +186,6 @@ impl<A: Allocator + Copy> ParseError<A> {
                 ParseError::unexpected(alloc, "invalid metavariable expression")
             }
             Fault::InvalidRepeat => Ok(ParseError::InvalidRepeat),
-            Fault::NotCarried => ParseError::unexpected(alloc, "not carried yet"),
         }
     }
 }

@@ -2,9 +2,9 @@
 ghost use Rattle.std.specs.Prelude.{◌≡◌, ◌<◌, [], length, option_map, Some, IfOk, IfErr, OnOk, if◌then◌else◌};
 ghost use Rattle.mbe_tt.specs.Tree.{Forest, flat_len, rest_of};
 ghost use Rattle.mbe.specs.Definition.{outline_at, pattern_at, with_refusal, AreParts, PartsFault};
-ghost use Rattle.mbe.specs.Reader.{is_word, IsStyled, IsOutlined, ReadsRule, RuleFault, AreRules, IsOneRule, Stops};
+ghost use Rattle.mbe.specs.Reader.{fault_of, is_word, IsStyled, IsOutlined, ReadsRule, RuleFault, AreRules, IsOneRule, Stops};
 ghost use Rattle.mbe.specs.Views.{rule_of, rules_seen};
-ghost use Rattle.mbe.specs.ErrorViews.{parse_error_of, errors_of, told_of};
+ghost use Rattle.mbe.specs.ErrorViews.{parse_error_of, errors_of};
 ghost use Rattle.mbe.specs.Answer.{Answers, AreCarried};
 ghost use Rattle.mbe.specs.Macro.{style_bits, TellsRefusal, IsChecked};
 ghost use Rattle.mbe.specs.Styles.{bits_of};
@@ -67,8 +67,8 @@ impl<A: Allocator + Copy> DeclarativeMacro<A> {
     /// A rule is an optional `unsafe`, an optional `attr` or `derive` with a group behind it, the pattern's group, `=>`, and
     /// the template's group. The answer keeps the rules before the first fault, and tells that fault by `err`. Where a
     /// pattern that was kept has a repetition without separator whose body can read nothing, `err` is
-    /// `RepetitionEmptyTokenTree` in place of any other. What isn't carried yet is told as
-    /// `ParseError::UnexpectedToken("not carried yet")` where reading meets it. The only failure is want of memory.
+    /// `RepetitionEmptyTokenTree` in place of any other. The only failure is
+    /// want of memory.
     ///
     /// The grammar is that of the Rust Reference ("Macros By Example") as rust-analyzer reads it; that a stray token behind
     /// a rule is always told, and that every repetition without separator that can read nothing is refused, is this
@@ -130,7 +130,7 @@ impl<A: Allocator + Copy> DeclarativeMacro<A> {
         rules: Vec<Rule<A>, A>,
         fault: Option<Fault>,
     ) -> Result<DeclarativeMacro<A>, AllocError>
-        ensures { IfOk result (λ m. macro_of m ≡ record { rules = rules_seen rules.items; err = with_refusal (rules_seen rules.items) (option_map told_of fault) }) }
+        ensures { IfOk result (λ m. macro_of m ≡ record { rules = rules_seen rules.items; err = with_refusal (rules_seen rules.items) (option_map fault_of fault) }) }
     {
         if refuses_some(&rules) {
             return Ok(DeclarativeMacro {
@@ -227,7 +227,7 @@ fn parse_rules<A: Allocator + Copy, E: Copy + Fn(SyntaxContext) -> Edition>(
     missing: Fault,
 ) -> Result<(Vec<Rule<A>, A>, Option<Fault>), AllocError>
     requires { MayAsk (E.pre ctx_edition) }
-    ensures { IfOk result (λ r. AreRules (E.post ctx_edition) separators.now (told_of missing) src.entry (rules_seen r.0.items) r.1) }
+    ensures { IfOk result (λ r. AreRules (E.post ctx_edition) separators.now (fault_of missing) src.entry (rules_seen r.0.items) r.1) }
 {
     let mut src = src;
     let mut rules = Vec::new(alloc);
@@ -256,6 +256,7 @@ fn parse_one_rule<A: Allocator + Copy, E: Copy + Fn(SyntaxContext) -> Edition>(
     args: TtIter<'_, A>,
     body: TtIter<'_, A>,
 ) -> Result<(Vec<Rule<A>, A>, Option<Fault>), AllocError>
+    requires { MayAsk (E.pre ctx_edition) }
     ensures { IfOk result (λ r. IsOneRule (E.post ctx_edition) args.entry body.entry (rules_seen r.0.items) r.1) }
 {
     let mut rules = Vec::new(alloc);
@@ -293,6 +294,7 @@ impl<A: Allocator + Copy> Rule<A> {
         pattern: TtIter<'_, A>,
         template: TtIter<'_, A>,
     ) -> Result<Rule<A>, ReadError>
+        requires { MayAsk (E.pre ctx_edition) }
         ensures rule { IfOk result (λ r. (back : Forest)
             → AreParts (E.post ctx_edition) (record { style = style; reads = pattern.entry; writes = template.entry; back = back }) (rule_of r)) }
         ensures fault { IfErr result (λ e. Stops e (λ f. (back : Forest)

@@ -21,12 +21,9 @@ returns-in_default g c =
           after_derive c.eat_word.result w.eat_word-else-eat_word.result c.eat_word-unsafe.new.src c.eat_word.new.src w.eat_word-else-eat_word.new.src
           c.eat_word.ensures.value c.eat_word.ensures.rest w.if-eat_word.false w.eat_word-else-eat_word.ensures.value
           w.eat_word-else-eat_word.ensures.rest w.if-eat_word-2.true ∙ sym (λ i. styled_at (w.style-is i) (w.src-is i))
-    ] in (
-      _,
-      refl,
-      after_unsafe c.eat_word-unsafe.result c.args.src.now c.eat_word-unsafe.new.src c.eat_word-unsafe.ensures.value c.eat_word-unsafe.ensures.rest
-          ∙ (styled ∙ no_group c.if-eat_word.style c.if-eat_word.src (sym c.in_default.ensures.value)),
-    )
+    ] in
+    after_unsafe c.eat_word-unsafe.result c.args.src.now c.eat_word-unsafe.new.src c.eat_word-unsafe.ensures.value c.eat_word-unsafe.ensures.rest
+    ∙ (styled ∙ no_group c.if-eat_word.style c.if-eat_word.src (sym c.in_default.ensures.value))
 
 pub returns : goal.returns
 returns g c =
