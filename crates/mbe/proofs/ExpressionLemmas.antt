@@ -1,5 +1,5 @@
 -- What stands in front, as a part of a metavariable expression; and std reads the depths that the definition says.
-use Rattle.std.specs.Prelude.{◌≡◌, ◌≤◌, ◌<◌, ◌-◌, ◌^◌, ◌&&◌, ◌==◌, ℕ, Bool, true, false, if◌then◌else◌, nat_lt, List, length, drop, codes, Option, Some, None, Result, Ok, Err, refl}
+use Rattle.std.specs.Prelude.{◌≡◌, ◌≤◌, ◌-◌, ◌^◌, ◌==◌, ℕ, Bool, true, false, if◌then◌else◌, nat_lt, List, length, Some, None, Result, Ok, Err, refl}
 use Rattle.std.proofs.Common.{ap, sym, ◌∙◌, arith, length-drop}
 use Rattle.std.proofs.lemmas.Option.{none-some, same_Some}
 use Rattle.std.proofs.lemmas.Bool.{eq-eqb, eqb-true, false≢true}
@@ -8,14 +8,13 @@ use Rattle.std.proofs.lemmas.Str.Parse.{IsNumeralModel, numerals_by_value, tells
 use Rattle.std.specs.Bool.{Decides}
 use Rattle.std.specs.Result.{OkIff, result_ok}
 use Rattle.std.specs.Str.{all_ascii_digits}
-use Rattle.std.specs.Str.Parse.{AllDigits, IsNumeral, ParsesUnsigned, digits_value, without_leading_plus}
+use Rattle.std.specs.Str.Parse.{AllDigits, ParsesUnsigned, digits_value, without_leading_plus}
 use Rattle.mbe_tt.specs.Leaf.{Ident, Literal, literal, punct, ident, is_underscore}
 use Rattle.mbe_tt.specs.Literals.{is_cut, text_len, is_plain, literal_text, literal_suffix, decimal_value}
 use Rattle.mbe_tt.specs.Tree.{Forest, none, leaf, group, rest_of, front_char, front_ident, front_group, any_ident}
 use Rattle.mbe_tt.specs.declared.tt.Delimiter.{Delimiter}
-use Rattle.mbe_tt.specs.declared.tt.DelimiterKind.{DelimiterKind}
 use Rattle.mbe_tt.specs.declared.tt.DelimiterKind.TheVariants.{Parenthesis}
-use Rattle.mbe.specs.Op.{Element, Expression, ident_element, literal_element, variable_element}
+use Rattle.mbe.specs.Op.{ident_element, literal_element, variable_element}
 use Rattle.mbe.proofs.ReaderLemmas.{some_if}
 use Rattle.mbe.specs.Template.{expression_of, arguments_of, elements_of, elements_behind_comma, element_before}
 

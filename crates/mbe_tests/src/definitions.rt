@@ -2,13 +2,14 @@
 use crate::runs::parsed;
 use crate::trees::lexed;
 use mbe::{DeclarativeMacro, ParseError};
+use mbe_tt::tt::TopSubtree;
 use std::alloc::{AllocError, Global};
 use std::process::Abort;
 use std::test::Fail;
 
 /// The error of a definition.
 #[derive(Clone, Copy)]
-enum Told {
+pub enum Told {
     Nothing,
     Expected(&'static str),
     Unexpected(&'static str),
@@ -28,14 +29,25 @@ impl Told {
 
 const NOT_CARRIED: Told = Told::Unexpected("not carried yet");
 
-fn assert_told(
+/// So many rules of the definition are kept, and that is its error.
+pub fn assert_told(
     rt: &impl Abort,
     alloc: Global,
     definition: &str,
     want: (usize, Told),
 ) -> Result<(), Fail> {
     let tree = lexed(alloc, 0, definition)?;
-    let rules: DeclarativeMacro = parsed(alloc, &tree)?;
+    assert_tree_told(rt, alloc, (&tree, definition), want)
+}
+
+/// As `assert_told`, of trees and a text that names them.
+pub fn assert_tree_told(
+    rt: &impl Abort,
+    alloc: Global,
+    (tree, definition): (&TopSubtree, &str),
+    want: (usize, Told),
+) -> Result<(), Fail> {
+    let rules: DeclarativeMacro = parsed(alloc, tree)?;
     let (count, told) = want;
     assert_eq!(rt; rules.num_rules(), count, "{definition}");
     assert!(rt; rules.err() == told.error(alloc)?.as_ref(), "{definition}");
@@ -159,8 +171,6 @@ fn what_is_not_carried_yet(rt: HostRuntime) -> Result<(), Fail> {
         "() => {}; ([a $($x:ident),+]) => {}",
         "() => {}; () => {$(a)*}",
         "() => {}; () => {{$(a)*}}",
-        "() => {}; () => {${len()}}",
-        "() => {}; () => {${}}",
         "() => {}; unsafe () => {}",
         "() => {}; attr() () => {}",
         "() => {}; derive() () => {}",

@@ -6,6 +6,8 @@ mod definitions;
 #[cfg(test)]
 mod errors;
 #[cfg(test)]
+mod expressions;
+#[cfg(test)]
 mod first_run;
 #[cfg(test)]
 mod grammar;

@@ -9,12 +9,13 @@ pub struct Token<'a> {
     pub span: Span,
 }
 
-/// What a token is. Literals have no suffix.
+/// What a token is. Literals have no suffix, but for `Suffixed`, an integer with a suffix of so many bytes.
 #[derive(Clone, Copy)]
 pub enum Lexeme<'a> {
     Word(&'a str),
     Raw(&'a str),
     Number(&'a str),
+    Suffixed(&'a str, u8),
     Text(&'a str),
     Punct(char, Spacing),
     Open(DelimiterKind),
@@ -72,6 +73,11 @@ pub fn raw(text: &str, file: u32, start: u32) -> Token<'_> {
 
 pub fn number(text: &str, file: u32, start: u32) -> Token<'_> {
     placed(Lexeme::Number(text), file, start, text.len())
+}
+
+/// An integer whose last bytes, as many as that, are its suffix.
+pub fn suffixed(text: &str, suffix_len: u8, file: u32, start: u32) -> Token<'_> {
+    placed(Lexeme::Suffixed(text, suffix_len), file, start, text.len())
 }
 
 /// A string, whose span includes its quotes.

@@ -77,8 +77,9 @@ fn leaf<A: Allocator + Copy>(
     Ok(match lexeme {
         Lexeme::Word(text) => Some(ident(alloc, text, IdentIsRaw::No, span)?),
         Lexeme::Raw(text) => Some(ident(alloc, text, IdentIsRaw::Yes, span)?),
-        Lexeme::Number(text) => Some(literal(alloc, text, LitKind::Integer, span)?),
-        Lexeme::Text(text) => Some(literal(alloc, text, LitKind::Str, span)?),
+        Lexeme::Number(text) => Some(literal(alloc, (text, 0), LitKind::Integer, span)?),
+        Lexeme::Suffixed(text, len) => Some(literal(alloc, (text, len), LitKind::Integer, span)?),
+        Lexeme::Text(text) => Some(literal(alloc, (text, 0), LitKind::Str, span)?),
         Lexeme::Punct(char, spacing) => Some(Leaf::Punct(Punct {
             char,
             spacing,
@@ -103,13 +104,13 @@ fn ident<A: Allocator + Copy>(
 
 fn literal<A: Allocator + Copy>(
     alloc: A,
-    text: &str,
+    (text, suffix_len): (&str, u8),
     kind: LitKind,
     span: Span,
 ) -> Result<Leaf<A>, AllocError> {
     Ok(Leaf::Literal(Literal {
         text_and_suffix: Symbol::intern(alloc, text)?,
-        suffix_len: 0,
+        suffix_len,
         kind,
         span,
     }))

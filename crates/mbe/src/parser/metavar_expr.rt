@@ -18,8 +18,8 @@ use std::alloc::Allocator;
 /// Reads what stands between the braces of `${..}`: `ignore($x)`, `index(d)`, `len(d)`, `count($x)`, `count($x, d)` or
 /// `concat(e, e, ..)`. What follows the arguments isn't looked at.
 ///
-/// `Err` is `Fault::InvalidExpression` where the trees are none of these, or want of memory. The forms are those of the unstable
-/// features `macro_metavar_expr` and `macro_metavar_expr_concat`, as rust-analyzer reads them.
+/// `Err` is `Fault::InvalidExpression` where the trees are none of these, or want of memory. The forms are those of the
+/// unstable features `macro_metavar_expr` and `macro_metavar_expr_concat`, as rust-analyzer reads them.
 pub(crate) fn parse_metavar_expr<A: Allocator + Copy>(
     alloc: A,
     src: TtIter<'_, A>,
