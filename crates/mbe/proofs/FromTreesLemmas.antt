@@ -1,6 +1,5 @@
 -- From the clauses of the public calls to the expansion theorem from three trees.
-use Rattle.std.specs.Prelude.{◌≡◌, ◌≢◌, ◌↔◌, ◌⊎◌, ℕ, Bool, true, false, if◌then◌else◌, List, [], ◌∷◌, Contains, Option, Some, None, IsNone, refl}
-use Rattle.std.proofs.Common.{ap, sym, ◌∙◌, inl, inr}
+use Rattle.std.specs.Prelude.{ℕ, List, [], ◌∷◌, Contains}
 use Rattle.std.proofs.lemmas.List.Elements.{Contains-push, Contains-append_left, Contains-append_right}
 use Rattle.mbe_tt.specs.declared.span.Span.{Span}
 use Rattle.mbe_tt.specs.declared.span.SyntaxContext.{SyntaxContext}
@@ -8,10 +7,9 @@ use Rattle.mbe_tt.specs.declared.span.Edition.{Edition}
 use Rattle.mbe_tt.specs.Tree.{Forest}
 use Rattle.mbe_tt.specs.Grammar.{Grammar}
 use Rattle.mbe.specs.declared.macro_call_style.MacroCallStyle.{MacroCallStyle}
-use Rattle.mbe.specs.Definition.{Rule, IsMacroRules}
+use Rattle.mbe.specs.Definition.{Rule}
 use Rattle.mbe.specs.Expansion.{Applies, FirstThatApplies, this_one, a_later_one}
-use Rattle.mbe.specs.Answer as answer
-use Rattle.mbe.specs.FromTrees.{IsAnswerTo, ExpandsFromTrees}
+use Rattle.mbe.specs.FromTrees.{ExpandsFromTrees}
 use Rattle.mbe.proofs.TemplateLemmas.{one_definition}
 
 -- the first rule that applies is one of the rules

@@ -1,6 +1,6 @@
 -- What one rule of a definition says of all its rules.
-use Rattle.std.specs.Prelude.{◌≡◌, ◌≢◌, ◌==◌, ℕ, Bool, true, false, List, [], ◌∷◌, ◌++◌, Option, Some, None, IfSome, unwrap_or, option_map, if◌then◌else◌, ◌⊎◌, Result, Ok, Err, IfOk, IfErr, OnOk, ◌<◌, refl}
-use Rattle.std.proofs.Common.{ap, sym, ◌∙◌, subst, append-nil, inl, inr}
+use Rattle.std.specs.Prelude.{◌≡◌, ◌≢◌, ◌==◌, ℕ, Bool, true, false, List, [], ◌∷◌, ◌++◌, Option, Some, None, option_map, if◌then◌else◌, Result, Ok, Err, IfOk, IfErr, OnOk, ◌<◌, refl}
+use Rattle.std.proofs.Common.{ap, sym, ◌∙◌, subst, append-nil}
 use Rattle.std.specs.List.{Contains, list_any}
 use Rattle.std.proofs.lemmas.Option.{none-some, same_Some}
 use Rattle.std.proofs.lemmas.Bool.{eqb-true}
@@ -19,7 +19,7 @@ use Rattle.mbe.specs.declared.macros.Rule as code
 use Rattle.mbe.specs.Op.{Ops}
 use Rattle.mbe.specs.Template.{Fault, pattern, template, Template, TemplateFault}
 use Rattle.mbe.specs.Definition.{Outline, Rule, outline_at, pattern_at, AreParts, PartsFault, in_pattern, in_template, Rules, ended, no_rule, faulty_rule, unseparated, separated, behind_separator, with_refusal, IsMacroOfArguments, one_rule, faulty}
-use Rattle.mbe.specs.Reader.{IsStyled, IsOutlined, ReadsRule, RuleFault, in_outline, in_parts, AreRules, IsOneRule, one_outline, Stops, fault_of}
+use Rattle.mbe.specs.Reader.{IsStyled, IsOutlined, ReadsRule, RuleFault, in_outline, in_parts, AreRules, IsOneRule, Stops, fault_of}
 use Rattle.mbe.specs.Views.{rule_of, rules_seen}
 use Rattle.mbe.specs.Macro.{Macro}
 use Rattle.mbe.specs.MacroViews.{IsReadAs, IsReadAsMacro}

@@ -9,9 +9,8 @@ use Rattle.std.proofs.lemmas.List.Folds.{list_any-append}
 use Rattle.mbe_tt.specs.Tree.{Forest, Cut}
 use Rattle.mbe_tt.specs.Grammar.{Grammar}
 use Rattle.mbe_tt.specs.declared.span.Span.{Span}
-use Rattle.mbe_tt.proofs.CutLemmas.{no_true, both_left, both_right}
+use Rattle.mbe_tt.proofs.CutLemmas.{no_true}
 use Rattle.mbe.specs.declared.parser.MetaVarKind.{MetaVarKind}
-use Rattle.mbe.specs.declared.parser.MetaVarKind.TheVariants as kinds
 use Rattle.mbe.specs.declared.parser.Op as code
 use Rattle.mbe.specs.Op as ops
 use Rattle.mbe.specs.Op.{Name, Op, Ops, no_ops, op, op_has_no_repetition, has_no_repetition, Use, used_name, uses_of, uses_of_op}

@@ -1,6 +1,6 @@
 -- The expansion theorem from three trees: the definition's, the argument's and the result's. Between them stand the clauses
 -- of the calls that read the definition and expand the argument, and nothing else.
-use Rattle.std.specs.Prelude.{◌≡◌, ◌↔◌, ℕ, List, Contains, Option, Some, IsNone}
+use Rattle.std.specs.Prelude.{◌≡◌, ◌↔◌, ℕ, List, Contains, Option, IsNone}
 use Rattle.mbe_tt.specs.declared.span.Span.{Span}
 use Rattle.mbe_tt.specs.declared.span.SyntaxContext.{SyntaxContext}
 use Rattle.mbe_tt.specs.declared.span.Edition.{Edition}

@@ -1,7 +1,6 @@
 -- What ops without a repetition read from the front of trees, and what a match by them binds.
 use Rattle.std.specs.Prelude.{◌≡◌, Bool, true, false, IsTrue, if◌then◌else◌, Option, Some, None}
 use Rattle.mbe.specs.declared.parser.MetaVarKind.{MetaVarKind}
-use Rattle.mbe.specs.declared.parser.MetaVarKind.TheVariants as kinds
 use Rattle.mbe_tt.specs.declared.tt.DelimiterKind.{DelimiterKind}
 use Rattle.mbe_tt.specs.Tree.{Forest, none, leaf, group, flat_len, Cut, is_same_kind}
 use Rattle.mbe_tt.specs.Grammar.{Grammar}

@@ -1,5 +1,5 @@
 -- What the reader of patterns and templates answers, told by their grammar.
-use Rattle.std.specs.Prelude.{◌≡◌, ◌||◌, ℕ, Bool, false, List, [], ◌∷◌, ◌++◌, codes, Option, Some, None, option_map, Result, Ok, Err}
+use Rattle.std.specs.Prelude.{◌≡◌, ℕ, Bool, false, List, [], ◌∷◌, ◌++◌, codes, Option, Some, None, option_map, Result, Ok, Err}
 use Rattle.mbe_tt.specs.Leaf.{Leaf, ident, is_text}
 use Rattle.mbe_tt.specs.Tree.{Forest, none, leaf}
 use Rattle.mbe_tt.specs.declared.span.SyntaxContext.{SyntaxContext}

@@ -1,4 +1,4 @@
-use Rattle.std.proofs.Common.{◌≡◌, ap, sym, ◌∙◌, refl}
+use Rattle.std.proofs.Common.{◌≡◌, ap, sym, ◌∙◌}
 use Rattle.mbe.specs.Definition.{style_at, styled_at, pattern_at}
 use Rattle.mbe.proofs.OutlineLemmas.{after_unsafe, after_attr, after_derive, after_nothing, behind_group, no_group}
 use Rattle.mbe.proofs.macros.parse_rule_style.Goals as goal

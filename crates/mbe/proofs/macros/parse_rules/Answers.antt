@@ -1,4 +1,4 @@
-use Rattle.std.proofs.Common.{◌≡◌, ◌∙◌, sym, Some, refl, rules}
+use Rattle.std.proofs.Common.{◌≡◌, ◌∙◌, sym, refl, rules}
 use Rattle.mbe_tt.specs.Tree.{none}
 use Rattle.mbe.specs.Reader.{fault_of}
 use Rattle.mbe.specs.Views.{rule_of, rules_seen}

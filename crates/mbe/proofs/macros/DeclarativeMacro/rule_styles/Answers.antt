@@ -1,8 +1,7 @@
-use Rattle.std.proofs.Common.{◌≡◌, ◌+◌, ◌<◌, ◌++◌, ◌∷◌, [], ℕ, List, refl, length, get_or, ap, sym, subst, ◌∙◌, take, arith, rules}
+use Rattle.std.proofs.Common.{◌≡◌, ◌+◌, ◌<◌, ◌++◌, ◌∷◌, [], ℕ, List, refl, length, get_or, ap, sym, subst, ◌∙◌, take, rules}
 use Rattle.std.specs.Int.RustNames.{bit_or}
 use Rattle.std.proofs.lemmas.List.{take_more, take_all}
 use Rattle.mbe.specs.declared.macros.Rule as code
-use Rattle.mbe.specs.Macro.{style_bits}
 use Rattle.mbe.specs.Styles.{bits_of, bit_of}
 use Rattle.mbe.specs.Views.{rule_of, rules_seen}
 use Rattle.mbe.proofs.RuleReading.{rules-push}

@@ -1,4 +1,3 @@
-use Rattle.std.proofs.Common.{ap, ◌∙◌}
 use Rattle.std.proofs.lemmas.Result.{err_from_is_err_and}
 use Rattle.mbe.proofs.RuleReading.{style_fault, outline_fault, rule_read, rule_faulty, rule_shorter}
 use Rattle.mbe.proofs.macros.Rule.parse.Goals as goal
