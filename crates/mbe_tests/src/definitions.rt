@@ -27,8 +27,6 @@ impl Told {
     }
 }
 
-const NOT_CARRIED: Told = Told::Unexpected("not carried yet");
-
 /// So many rules of the definition are kept, and that is its error.
 pub fn assert_told(
     rt: &impl Abort,
@@ -163,54 +161,21 @@ fn fronts_of_a_definition(rt: HostRuntime) -> Result<(), Fail> {
     Ok(())
 }
 
+// A fault of the pattern comes before one of the template, and reading stops at the first of all.
 #[test]
-fn what_is_not_carried_yet(rt: HostRuntime) -> Result<(), Fail> {
-    for definition in [
-        "() => {}; ($(a)*) => {}",
-        "() => {}; ($(a)) => {}",
-        "() => {}; ([a $($x:ident),+]) => {}",
-        "() => {}; () => {$(a)*}",
-        "() => {}; () => {{$(a)*}}",
-        "() => {}; unsafe () => {}",
-        "() => {}; attr() () => {}",
-        "() => {}; derive() () => {}",
-        "() => {}; unsafe attr() () => {}",
-        "() => {}; attr => {}",
-        "() => {}; ($(a)* $x) => {}; () => {}",
+fn the_first_fault_is_told(rt: HostRuntime) -> Result<(), Fail> {
+    let missing = Told::Unexpected("missing fragment specifier");
+    let subtree = Told::Expected("expected subtree");
+    for (definition, count, told) in [
+        ("($x) x", 0, Told::Expected("expected `=`")),
+        ("($x) => {}", 0, missing),
+        ("($x) => {$1}", 0, missing),
+        ("(a $x $$) => {}", 0, missing),
+        ("() => {}; ($x) => {}; x", 1, missing),
+        ("() => {};;", 1, subtree),
+        ("() => {};; ($x) => {}", 1, subtree),
     ] {
-        assert_told(&rt, rt.alloc(), definition, (1, NOT_CARRIED))?;
-    }
-    assert_told(
-        &rt,
-        rt.alloc(),
-        "($x $(a)*) => {}",
-        (0, Told::Unexpected("missing fragment specifier")),
-    )
-}
-
-#[test]
-fn specifiers_that_are_not_carried_yet(rt: HostRuntime) -> Result<(), Fail> {
-    for specifier in [
-        "path",
-        "ty",
-        "pat",
-        "pat_param",
-        "stmt",
-        "block",
-        "meta",
-        "item",
-        "vis",
-        "expr",
-        "expr_2021",
-        "lifetime",
-        "literal",
-    ] {
-        let definition = format!(in rt.alloc(); "() => {{}}; ($x:{specifier}) => {{}}")?;
-        assert_told(&rt, rt.alloc(), definition.as_str(), (1, NOT_CARRIED))?;
-    }
-    for specifier in ["Path", "tys", "expr2021", "expr_2024", "ident_", "tts"] {
-        let definition = format!(in rt.alloc(); "() => {{}}; ($x:{specifier}) => {{}}")?;
-        assert_told(&rt, rt.alloc(), definition.as_str(), (2, Told::Nothing))?;
+        assert_told(&rt, rt.alloc(), definition, (count, told))?;
     }
     Ok(())
 }

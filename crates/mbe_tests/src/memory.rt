@@ -6,7 +6,7 @@ use crate::trees::lexed;
 use mbe::MacroCallStyle;
 use mbe_tt::tt::DelimiterKind::Parenthesis;
 use refusing::Refusing;
-use std::alloc::{AllocError, Allocator};
+use std::alloc::{AllocError, Allocator, Global};
 use std::process::Abort;
 use std::test::Fail;
 
@@ -37,25 +37,77 @@ fn expands_twice<A: Allocator + Copy>(rt: &impl Abort, alloc: A) -> Result<bool,
     Ok(false)
 }
 
+// A rule with every form of pattern and of template.
+const EVERY_FORM: &str = "unsafe attr(x) ($a:ident $b:literal [c] 1 + $($d:expr),* $($e:ty)'f + $($g:tt)1? $(h)=>* \
+    $(i)* $crate) => {$a $j [c] 1 + $($d $e);* $($g)? ${ignore($a)} ${index()} ${len(1)} ${count($d)} ${count($e, 1)} \
+    ${concat(a, $a, 1)} $$ $crate $}";
+
+// Whether memory was wanting for the first reading. The definition is read once more in either case, and stays as it was.
+fn reads_twice<A: Allocator + Copy>(rt: &impl Abort, alloc: A) -> Result<bool, AllocError> {
+    let definition = lexed(alloc, 0, EVERY_FORM)?;
+    let copy = definition.try_clone()?;
+    let first = parsed(alloc, &definition);
+    let again = parsed(alloc, &definition)?;
+    assert!(rt; again.err().is_none());
+    assert_eq!(rt; again.num_rules(), 1);
+    assert!(rt; definition == copy);
+    Ok(first.is_err())
+}
+
+/// What is done while each request for memory is refused in turn.
+#[derive(Clone, Copy)]
+enum Work {
+    Reading,
+    Expanding,
+}
+
+impl Work {
+    fn is_wanting<A: Allocator + Copy>(
+        self,
+        rt: &impl Abort,
+        alloc: A,
+    ) -> Result<bool, AllocError> {
+        match self {
+            Work::Reading => reads_twice(rt, alloc),
+            Work::Expanding => expands_twice(rt, alloc),
+        }
+    }
+}
+
 // Each request is refused once, from the building of the trees to that of the trees to compare with. The requests behind
-// the refused one are granted, so that only the first expansion's want of memory lets the run go on.
-#[test]
-fn each_request_refused(rt: HostRuntime) -> Result<(), Fail> {
+// the refused one are granted, so that only the first turn's want of memory lets the run go on.
+fn assert_each_refused(
+    rt: &impl Abort,
+    alloc: Global,
+    work: Work,
+    at_least: u64,
+) -> Result<(), Fail> {
     let mut wanting = 0u64;
     for request in 1..10_000u64 {
-        let alloc = Refusing::new(rt.alloc(), request);
-        match expands_twice(&rt, &alloc) {
+        let alloc = Refusing::new(alloc, request);
+        match work.is_wanting(rt, &alloc) {
             Ok(true) => {
                 assert!(rt; alloc.has_refused(), "at {request}");
                 wanting = wanting.saturating_add(1);
             }
             Ok(false) => {
                 assert!(rt; !alloc.has_refused(), "at {request}");
-                assert!(rt; wanting > 2, "only {wanting} requests of an expansion");
+                assert!(rt; wanting >= at_least, "only {wanting} requests");
                 return Ok(());
             }
             Err(AllocError) => assert!(rt; alloc.has_refused(), "at {request}"),
         }
     }
     Err(Fail::from("it goes on"))
+}
+
+#[test]
+fn each_request_of_an_expansion_refused(rt: HostRuntime) -> Result<(), Fail> {
+    assert_each_refused(&rt, rt.alloc(), Work::Expanding, 3)
+}
+
+// Each list of ops and of elements is a request, and so is that of the rules.
+#[test]
+fn each_request_of_reading_refused(rt: HostRuntime) -> Result<(), Fail> {
+    assert_each_refused(&rt, rt.alloc(), Work::Reading, 12)
 }
