@@ -111,13 +111,12 @@ impl<A: Allocator + Copy> DeclarativeMacro<A> {
                 DeclarativeMacro::of_rules(alloc, rules, fault)
             }
             None => {
-                let missing = Fault::ExpectedSeparator;
                 let (rules, fault) = parse_rules(
                     alloc,
                     ctx_edition,
                     body.iter(),
                     &[';', ','],
-                    missing,
+                    Fault::ExpectedSeparator,
                 )?;
                 DeclarativeMacro::of_rules(alloc, rules, fault)
             }

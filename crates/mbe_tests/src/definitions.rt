@@ -13,6 +13,8 @@ pub enum Told {
     Nothing,
     Expected(&'static str),
     Unexpected(&'static str),
+    EmptyRepetition,
+    InvalidRepeat,
 }
 
 impl Told {
@@ -23,11 +25,26 @@ impl Told {
             Told::Unexpected(text) => {
                 Some(ParseError::UnexpectedToken(String::from_str(alloc, text)?))
             }
+            Told::EmptyRepetition => Some(ParseError::RepetitionEmptyTokenTree),
+            Told::InvalidRepeat => Some(ParseError::InvalidRepeat),
         })
     }
 }
 
-/// So many rules of the definition are kept, and that is its error.
+/// The macro has so many rules, and tells that error.
+pub fn assert_read(
+    rt: &impl Abort,
+    alloc: Global,
+    rules: &DeclarativeMacro,
+    definition: &str,
+    (count, told): (usize, Told),
+) -> Result<(), Fail> {
+    assert_eq!(rt; rules.num_rules(), count, "{definition}");
+    assert!(rt; rules.err() == told.error(alloc)?.as_ref(), "{definition}");
+    Ok(())
+}
+
+/// So many rules of a `macro_rules!` definition are kept, and it tells that error.
 pub fn assert_told(
     rt: &impl Abort,
     alloc: Global,
@@ -46,10 +63,7 @@ pub fn assert_tree_told(
     want: (usize, Told),
 ) -> Result<(), Fail> {
     let rules: DeclarativeMacro = parsed(alloc, tree)?;
-    let (count, told) = want;
-    assert_eq!(rt; rules.num_rules(), count, "{definition}");
-    assert!(rt; rules.err() == told.error(alloc)?.as_ref(), "{definition}");
-    Ok(())
+    assert_read(rt, alloc, &rules, definition, want)
 }
 
 #[test]
@@ -63,6 +77,7 @@ fn rules_have_their_parts(rt: HostRuntime) -> Result<(), Fail> {
         ("() => {} x", 1, Told::Expected("expected `;`")),
         ("() => {} () => {}", 1, Told::Expected("expected `;`")),
         ("() => {}, () => {}", 1, Told::Expected("expected `;`")),
+        ("() => {};;", 1, Told::Expected("expected subtree")),
         ("() => {};; () => {}", 1, Told::Expected("expected subtree")),
         ("x", 0, Told::Expected("expected subtree")),
         (";", 0, Told::Expected("expected subtree")),

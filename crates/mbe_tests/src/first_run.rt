@@ -1,6 +1,8 @@
 // Whole expansions: the first run, and a struct with a map.
 use crate::grammar::NoGrammar;
-use crate::runs::{assert_answer, assert_expands, assert_no_rule, expanded, parsed, whole};
+use crate::runs::{
+    assert_answer, assert_checked, assert_expands, assert_no_rule, expanded, parsed, whole,
+};
 use crate::tokens::{Token, alone, at, close, joint, number, open, word};
 use crate::trees::lexed;
 use mbe::MacroCallStyle;
@@ -34,7 +36,9 @@ fn assert_expands_marked(
     let definition = lexed(alloc, 0, definition)?;
     let argument = lexed(alloc, 1, argument)?;
     let call_site = whole(&argument);
-    let answer = parsed(alloc, &definition)?.expand(
+    let rules = parsed(alloc, &definition)?;
+    assert_checked(rt, &rules);
+    let answer = rules.expand(
         alloc,
         &NoGrammar,
         &argument,
@@ -125,6 +129,7 @@ fn rules_are_for_calls_like_functions(rt: HostRuntime) -> Result<(), Fail> {
     let definition = lexed(rt.alloc(), 0, "($t:tt) => {$t}")?;
     let argument = lexed(rt.alloc(), 1, "a")?;
     let rules = parsed(rt.alloc(), &definition)?;
+    assert_checked(&rt, &rules);
     for style in [MacroCallStyle::Attr, MacroCallStyle::Derive] {
         let answer = expanded(rt.alloc(), &rules, &argument, style)?;
         assert_no_rule(&rt, rt.alloc(), &answer, whole(&argument))?;
@@ -138,6 +143,7 @@ fn rules_before_a_fault_expand(rt: HostRuntime) -> Result<(), Fail> {
     let argument = lexed(rt.alloc(), 1, "a")?;
     let rules = parsed(rt.alloc(), &definition)?;
     assert!(rt; rules.err().is_some());
+    assert_checked(&rt, &rules);
     let answer = expanded(rt.alloc(), &rules, &argument, MacroCallStyle::FnLike)?;
     assert_answer(
         &rt,
@@ -154,6 +160,7 @@ fn definition_without_rules(rt: HostRuntime) -> Result<(), Fail> {
     let definition = lexed(rt.alloc(), 0, "")?;
     let argument = lexed(rt.alloc(), 1, "")?;
     let rules = parsed(rt.alloc(), &definition)?;
+    assert_checked(&rt, &rules);
     let answer = expanded(rt.alloc(), &rules, &argument, MacroCallStyle::FnLike)?;
     assert_no_rule(&rt, rt.alloc(), &answer, whole(&argument))
 }

@@ -12,11 +12,15 @@ mod first_run;
 #[cfg(test)]
 mod grammar;
 #[cfg(test)]
+mod macro2;
+#[cfg(test)]
 mod matching;
 #[cfg(test)]
 mod memory;
 #[cfg(test)]
 mod runs;
+#[cfg(test)]
+mod styles;
 #[cfg(test)]
 mod templates;
 #[cfg(test)]

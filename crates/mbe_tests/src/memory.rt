@@ -1,6 +1,6 @@
 // What is answered where a request for memory is refused.
 use crate::first_run::PAIR;
-use crate::runs::{assert_answer, expanded, parsed, whole};
+use crate::runs::{assert_answer, assert_checked, expanded, parsed, whole};
 use crate::tokens::{Token, close, number, open, word};
 use crate::trees::lexed;
 use mbe::MacroCallStyle;
@@ -26,6 +26,7 @@ fn expands_twice<A: Allocator + Copy>(rt: &impl Abort, alloc: A) -> Result<bool,
     let definition = lexed(alloc, 0, PAIR.0)?;
     let argument = lexed(alloc, 1, PAIR.1)?;
     let rules = parsed(alloc, &definition)?;
+    assert_checked(rt, &rules);
     let call_site = whole(&argument);
     let first = expanded(alloc, &rules, &argument, MacroCallStyle::FnLike);
     let again = expanded(alloc, &rules, &argument, MacroCallStyle::FnLike)?;

@@ -1,9 +1,13 @@
 // Parses and expands, and compares the answers whole.
+ghost use Rattle.mbe.specs.Macro.{IsChecked};
+ghost use Rattle.mbe.specs.MacroViews.{macro_of};
+
 use crate::grammar::NoGrammar;
 use crate::tokens::Token;
 use crate::trees::{built, lexed};
 use mbe::{
     DeclarativeMacro, ExpandError, ExpandErrorKind, ExpandResult, MacroCallStyle, MatchedArmIndex,
+    ParseError,
 };
 use mbe_tt::span::{DelimSpan, Edition, Span};
 use mbe_tt::tt::TopSubtree;
@@ -27,13 +31,23 @@ pub fn whole<A: Allocator>(argument: &TopSubtree<A>) -> Span {
     argument.top_subtree().delimiter.opening
 }
 
+/// No pattern was refused, as `expand` asks.
+pub fn assert_checked<A: Allocator>(rt: &impl Abort, rules: &DeclarativeMacro<A>)
+    ensures { IsChecked (macro_of rules.now) }
+{
+    let refused = matches!(rules.err(), Some(ParseError::RepetitionEmptyTokenTree));
+    assert!(rt; !refused);
+}
+
 /// The expansion of a call in a style, with all spans as they are.
 pub fn expanded<A: Allocator + Copy>(
     alloc: A,
     rules: &DeclarativeMacro<A>,
     argument: &TopSubtree<A>,
     style: MacroCallStyle,
-) -> Result<Expansion<A>, AllocError> {
+) -> Result<Expansion<A>, AllocError>
+    requires { IsChecked (macro_of rules.now) }
+{
     let call_site = whole(argument);
     rules.expand(alloc, &NoGrammar, argument, |span| span, style, call_site)
 }
@@ -63,6 +77,7 @@ pub fn assert_trees_expand(
 ) -> Result<(), Fail> {
     let rules = parsed(alloc, definition)?;
     assert!(rt; rules.err().is_none());
+    assert_checked(rt, &rules);
     let answer = expanded(alloc, &rules, argument, MacroCallStyle::FnLike)?;
     assert_answer(rt, alloc, &answer, whole(argument), want)?;
     Ok(())
@@ -108,6 +123,7 @@ pub fn assert_trees_refused(
 ) -> Result<(), Fail> {
     let rules = parsed(alloc, definition)?;
     assert!(rt; rules.err().is_none());
+    assert_checked(rt, &rules);
     let answer = expanded(alloc, &rules, argument, MacroCallStyle::FnLike)?;
     assert_no_rule(rt, alloc, &answer, whole(argument))
 }
