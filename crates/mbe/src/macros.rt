@@ -150,15 +150,15 @@ impl<A: Allocator + Copy> DeclarativeMacro<A> {
     ///
     /// `tt` is the argument: the trees inside its group are matched. `grammar` says what the fragments of most kinds are.
     /// `marker` answers the span that a token of the template is written with, once for each; the fragments that variables
-    /// took keep their spans. `call_site` is the span of the group around the
-    /// expansion.
+    /// took keep their spans. `call_site` is the span of the group around the expansion.
     ///
     /// The answer is the expansion as a token tree, with the place of its rule among all rules of the definition, where it
     /// fits 32 bits. Where no rule answers it is an empty tree, no place, and `NoMatchingRule` at the call site. The only
-    /// failure is want of memory; the macro and the argument are as they were in each case.
+    /// failure is want of memory, here or in the grammar; the macro and the argument are as they were in each case.
     ///
     /// The order of trying is rust-analyzer's: a rule that fits but whose substitution faults doesn't stop the search, as
-    /// it does in the Rust Reference.
+    /// it does in the Rust Reference. A rule whose template names a variable of kind `expr` or `path` is passed over, since
+    /// these aren't written yet.
     pub fn expand<G: FragmentGrammar, M: Fn(Span) -> Span + Copy>(
         &self,
         alloc: A,

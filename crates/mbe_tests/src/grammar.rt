@@ -1,6 +1,7 @@
-// The grammar that the tests hand in.
+// The grammars that the tests hand in.
 ghost use Rattle.std.specs.Prelude.{◌≡◌};
 ghost use borrow.Author.Rules.{rules};
+ghost use Rattle.mbe_tests.specs.Counting.{may_be_empty, number_of};
 
 use mbe_tt::grammar::{FragmentGrammar, Front, PrefixEntryPoint};
 use mbe_tt::tt::TokenTreesView;
@@ -31,4 +32,121 @@ impl FragmentGrammar for NoGrammar {
     }
 
     ghost lawful = { λ _. Prim.search rules };
+}
+
+/// A grammar that always wants for memory.
+#[derive(Clone, Copy)]
+pub struct NoMemory;
+
+impl FragmentGrammar for NoMemory {
+    ghost use Rattle.std.specs.Prelude.{true, false};
+
+    ghost grammar = { λ _. record { parse = λ entry tokens. record { count = 0; fault = true }; is_keyword = λ text. false } };
+
+    fn parse<A: Allocator>(
+        &self,
+        _entry: PrefixEntryPoint,
+        _tokens: TokenTreesView<'_, A>,
+    ) -> Result<Front, AllocError> {
+        Err(AllocError)
+    }
+
+    fn is_keyword(&self, _text: &str) -> bool {
+        false
+    }
+
+    ghost lawful = { λ _. Prim.search rules };
+}
+
+/// A grammar that takes so many flat tokens of everything, or all where there are fewer. It faults where it takes none, but
+/// for `Vis`, and everywhere if it is told to.
+#[derive(Clone, Copy)]
+pub struct Counting {
+    pub count: usize,
+    pub fault: bool,
+}
+
+#[tactic(auto, using(mbe_tt::proofs::CutLemmas::flat_length))]
+impl FragmentGrammar for Counting {
+    ghost use Rattle.mbe_tests.specs.Counting.{counting, counting_lawful};
+
+    ghost grammar = { λ g. counting g.count g.fault };
+
+    ghost lawful = { λ g. counting_lawful g.count g.fault };
+
+    fn parse<A: Allocator>(
+        &self,
+        entry: PrefixEntryPoint,
+        tokens: TokenTreesView<'_, A>,
+    ) -> Result<Front, AllocError> {
+        let count = self.count.min(tokens.flat_len());
+        Ok(Front {
+            count,
+            fault: self.fault || (count == 0 && !may_be_empty(entry)),
+        })
+    }
+
+    fn is_keyword(&self, _text: &str) -> bool {
+        false
+    }
+}
+
+fn may_be_empty(entry: PrefixEntryPoint) -> bool
+    ensures { result ≡ may_be_empty entry }
+{
+    matches!(entry, PrefixEntryPoint::Vis)
+}
+
+/// A grammar that takes another number of flat tokens for each entry point, and faults where there are fewer.
+#[derive(Clone, Copy)]
+pub struct Numbered;
+
+#[tactic(auto, using(mbe_tt::proofs::CutLemmas::flat_length))]
+impl FragmentGrammar for Numbered {
+    ghost use Rattle.mbe_tests.specs.Counting.{numbered, numbered_lawful};
+
+    ghost grammar = { λ _. numbered };
+
+    ghost lawful = { λ _. numbered_lawful };
+
+    fn parse<A: Allocator>(
+        &self,
+        entry: PrefixEntryPoint,
+        tokens: TokenTreesView<'_, A>,
+    ) -> Result<Front, AllocError> {
+        let number = number_of(entry);
+        Ok(if tokens.flat_len() < number {
+            Front {
+                count: 0,
+                fault: true,
+            }
+        } else {
+            Front {
+                count: number,
+                fault: false,
+            }
+        })
+    }
+
+    fn is_keyword(&self, _text: &str) -> bool {
+        false
+    }
+}
+
+/// How many flat tokens `Numbered` takes.
+pub fn number_of(entry: PrefixEntryPoint) -> usize
+    ensures { result ≡ number_of entry }
+{
+    match entry {
+        PrefixEntryPoint::Path => 1,
+        PrefixEntryPoint::Expr => 2,
+        PrefixEntryPoint::Ty => 3,
+        PrefixEntryPoint::PatTop => 4,
+        PrefixEntryPoint::Pat => 5,
+        PrefixEntryPoint::Stmt => 6,
+        PrefixEntryPoint::Block => 7,
+        PrefixEntryPoint::MetaItem => 8,
+        PrefixEntryPoint::Item => 9,
+        PrefixEntryPoint::Vis => 10,
+    }
 }

@@ -10,6 +10,10 @@ mod expressions;
 #[cfg(test)]
 mod first_run;
 #[cfg(test)]
+mod fragments;
+#[cfg(test)]
+mod fronts;
+#[cfg(test)]
 mod grammar;
 #[cfg(test)]
 mod macro2;
@@ -17,6 +21,10 @@ mod macro2;
 mod matching;
 #[cfg(test)]
 mod memory;
+#[cfg(test)]
+mod refusals;
+#[cfg(test)]
+mod repetitions;
 #[cfg(test)]
 mod runs;
 #[cfg(test)]

@@ -1,6 +1,6 @@
 // Which arguments a pattern fits, and what its variables take.
 use crate::runs::{assert_expands, assert_refused, assert_trees_expand, assert_trees_refused};
-use crate::tokens::{Token, alone, at, close, joint, open, raw, string, word};
+use crate::tokens::{Token, alone, at, close, float, joint, open, raw, string, word};
 use crate::trees::{built, lexed};
 use mbe_tt::tt::DelimiterKind::{Bracket, Invisible, Parenthesis};
 use mbe_tt::tt::TopSubtree;
@@ -34,6 +34,19 @@ fn leaves_fit_by_their_texts(rt: HostRuntime) -> Result<(), Fail> {
         assert_refused(&rt, rt.alloc(), texts)?;
     }
     assert_expands(&rt, rt.alloc(), ("(_) => {}", "_"), (0, &[]))
+}
+
+#[test]
+fn a_sign_and_a_float_are_two_tokens(rt: HostRuntime) -> Result<(), Fail> {
+    let rules = "(- 3.0) => {- 3.0}";
+    let want = [alone('-', 0, 12), float("3.0", 0, 14)];
+    for argument in ["-3.0", "- 3.0"] {
+        assert_expands(&rt, rt.alloc(), (rules, argument), (0, &want))?;
+    }
+    for argument in ["-3", "- 3 . 0", "-3.00", "3.0", "--3.0"] {
+        assert_refused(&rt, rt.alloc(), (rules, argument))?;
+    }
+    Ok(())
 }
 
 #[test]

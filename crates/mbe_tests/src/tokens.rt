@@ -16,6 +16,7 @@ pub enum Lexeme<'a> {
     Raw(&'a str),
     Number(&'a str),
     Suffixed(&'a str, u8),
+    Float(&'a str),
     Text(&'a str),
     Punct(char, Spacing),
     Open(DelimiterKind),
@@ -78,6 +79,10 @@ pub fn number(text: &str, file: u32, start: u32) -> Token<'_> {
 /// An integer whose last bytes, as many as that, are its suffix.
 pub fn suffixed(text: &str, suffix_len: u8, file: u32, start: u32) -> Token<'_> {
     placed(Lexeme::Suffixed(text, suffix_len), file, start, text.len())
+}
+
+pub fn float(text: &str, file: u32, start: u32) -> Token<'_> {
+    placed(Lexeme::Float(text), file, start, text.len())
 }
 
 /// A string, whose span includes its quotes.

@@ -1,7 +1,7 @@
 // Builds the trees of the tests, of tokens or of a text.
 ghost use Rattle.std.specs.Prelude.{◌≡◌, ◌+◌, length};
 
-use crate::tokens::{Lexeme, Token, alone, at, close, joint, number, offset, open, word};
+use crate::tokens::{Lexeme, Token, alone, at, close, float, joint, number, offset, open, word};
 use mbe_tt::span::Span;
 use mbe_tt::symbol::Symbol;
 use mbe_tt::tt::{
@@ -79,6 +79,7 @@ fn leaf<A: Allocator + Copy>(
         Lexeme::Raw(text) => Some(ident(alloc, text, IdentIsRaw::Yes, span)?),
         Lexeme::Number(text) => Some(literal(alloc, (text, 0), LitKind::Integer, span)?),
         Lexeme::Suffixed(text, len) => Some(literal(alloc, (text, len), LitKind::Integer, span)?),
+        Lexeme::Float(text) => Some(literal(alloc, (text, 0), LitKind::Float, span)?),
         Lexeme::Text(text) => Some(literal(alloc, (text, 0), LitKind::Str, span)?),
         Lexeme::Punct(char, spacing) => Some(Leaf::Punct(Punct {
             char,
@@ -129,7 +130,7 @@ pub fn built<A: Allocator + Copy>(
     Ok(trees.finish(whole))
 }
 
-/// The tokens of a text of words, integers, puncts, lifetimes and groups, in an invisible group with the span of the text.
+/// The tokens of a text of words, numbers, puncts, lifetimes and groups, in an invisible group with the span of the text.
 pub fn lexed<A: Allocator + Copy>(
     alloc: A,
     file: u32,
@@ -139,7 +140,7 @@ pub fn lexed<A: Allocator + Copy>(
     let mut trees = Trees::new(alloc, at(file, 0, end))?;
     let mut start = 0usize;
     for (place, char) in text.char_indices() {
-        if is_of_word(char) {
+        if is_of_word(char) || is_point(text, place) {
             continue;
         }
         if let Some(token) = word_token(text, start, place, file) {
@@ -160,14 +161,25 @@ fn is_of_word(char: char) -> bool {
     char.is_ascii_alphanumeric() || char == '_'
 }
 
+// Whether a point stands there between two digits.
+fn is_point(text: &str, place: usize) -> bool {
+    let before = text.get(..place).and_then(|front| front.chars().last());
+    let mut behind = text.get(place..).unwrap_or("").chars();
+    before.is_some_and(|char| char.is_ascii_digit())
+        && behind.next() == Some('.')
+        && behind.next().is_some_and(|char| char.is_ascii_digit())
+}
+
 fn is_punct(char: char) -> bool {
     "=<>!&|~@.,;:#$?+-*/%^".chars().any(|punct| punct == char)
 }
 
-// The word or the integer between two places, if there is one.
+// The word or the number between two places, if there is one.
 fn word_token(text: &str, start: usize, end: usize, file: u32) -> Option<Token<'_>> {
     let found = text.get(start..end)?;
-    if found.chars().next()?.is_ascii_digit() {
+    if found.contains('.') {
+        Some(float(found, file, offset(start)))
+    } else if found.chars().next()?.is_ascii_digit() {
         Some(number(found, file, offset(start)))
     } else {
         Some(word(found, file, offset(start)))

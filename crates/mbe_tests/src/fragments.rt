@@ -1,0 +1,376 @@
+// Which fragments a variable takes by a grammar that is handed in, and how they are written.
+use crate::grammar::{Counting, NoMemory, Numbered, number_of};
+use crate::runs::{assert_answer, assert_checked, assert_no_rule, parsed, whole};
+use crate::tokens::{Token, alone, at, close, float, joint, number, open, raw, string, word};
+use crate::trees::{built, lexed};
+use mbe::{DeclarativeMacro, MacroCallStyle};
+use mbe_tt::grammar::{FragmentGrammar, PrefixEntryPoint};
+use mbe_tt::span::Edition;
+use mbe_tt::tt::DelimiterKind::{Bracket, Invisible};
+use mbe_tt::tt::TopSubtree;
+use std::alloc::Global;
+use std::process::Abort;
+use std::test::Fail;
+
+// A grammar that takes so many flat tokens of everything.
+fn taking(count: usize) -> Counting {
+    Counting {
+        count,
+        fault: false,
+    }
+}
+
+// The macro, read in edition 2024, makes these tokens by the rule of that index; or no rule answers.
+fn assert_makes<G: FragmentGrammar>(
+    rt: &impl Abort,
+    alloc: Global,
+    grammar: &G,
+    (rules, argument): (&DeclarativeMacro, &TopSubtree),
+    want: Option<(u32, &[Token<'_>])>,
+) -> Result<(), Fail> {
+    assert!(rt; rules.err().is_none());
+    assert_checked(rt, rules);
+    let call_site = whole(argument);
+    let answer = rules.expand(
+        alloc,
+        grammar,
+        argument,
+        |span| span,
+        MacroCallStyle::FnLike,
+        call_site,
+    )?;
+    match want {
+        Some(want) => assert_answer(rt, alloc, &answer, call_site, want)?,
+        None => assert_no_rule(rt, alloc, &answer, call_site)?,
+    }
+    Ok(())
+}
+
+// The same of two texts: the definition is file 0, the argument file 1.
+fn assert_texts<G: FragmentGrammar>(
+    rt: &impl Abort,
+    alloc: Global,
+    grammar: &G,
+    (definition, argument): (&str, &str),
+    want: Option<(u32, &[Token<'_>])>,
+) -> Result<(), Fail> {
+    let rules = parsed(alloc, &lexed(alloc, 0, definition)?)?;
+    let argument = lexed(alloc, 1, argument)?;
+    assert_makes(rt, alloc, grammar, (&rules, &argument), want)
+}
+
+#[test]
+fn minus_belongs_to_a_literal(rt: HostRuntime) -> Result<(), Fail> {
+    let definition =
+        "\n(-1) => {-1};\n(- 2) => {- 2};\n(- 3.0) => {- 3.0};\n(@$lit:literal) => {$lit}\n";
+    let one = [alone('-', 0, 10), number("1", 0, 11)];
+    let two = [alone('-', 0, 25), number("2", 0, 27)];
+    let three = [alone('-', 0, 43), float("3.0", 0, 45)];
+    for (argument, arm, want) in [
+        ("-1", 0, one),
+        ("- 1", 0, one),
+        ("-2", 1, two),
+        ("- 2", 1, two),
+        ("-3.0", 2, three),
+        ("- 3.0", 2, three),
+        ("@-1", 3, [alone('-', 1, 1), number("1", 1, 2)]),
+        ("@-1.0", 3, [alone('-', 1, 1), float("1.0", 1, 2)]),
+    ] {
+        let texts = (definition, argument);
+        assert_texts(&rt, rt.alloc(), &taking(0), texts, Some((arm, &want)))?;
+    }
+    for (argument, want) in [("@1", [number("1", 1, 1)]), ("@1.0", [float("1.0", 1, 1)])] {
+        let texts = (definition, argument);
+        assert_texts(&rt, rt.alloc(), &taking(0), texts, Some((3, &want)))?;
+    }
+    Ok(())
+}
+
+#[test]
+fn literal_takes_true_and_false(rt: HostRuntime) -> Result<(), Fail> {
+    let rules = "($l:literal) => {$l}";
+    let truth = [word("true", 1, 0)];
+    assert_texts(
+        &rt,
+        rt.alloc(),
+        &taking(0),
+        (rules, "true"),
+        Some((0, &truth)),
+    )?;
+    let signed = [alone('-', 1, 0), word("false", 1, 2)];
+    assert_texts(
+        &rt,
+        rt.alloc(),
+        &taking(0),
+        (rules, "- false"),
+        Some((0, &signed)),
+    )?;
+    for argument in ["", "-", "a", "-a", "- truth", "--1", "+1", "(1)", "1 1"] {
+        assert_texts(&rt, rt.alloc(), &taking(9), (rules, argument), None)?;
+    }
+    let rules = parsed(rt.alloc(), &lexed(rt.alloc(), 0, rules)?)?;
+    let text = [string("a b", 1, 0)];
+    let argument = built(rt.alloc(), at(1, 0, 5), &text)?;
+    assert_makes(
+        &rt,
+        rt.alloc(),
+        &taking(0),
+        (&rules, &argument),
+        Some((0, &text)),
+    )
+}
+
+#[test]
+fn lifetime_takes_a_quote_and_a_name(rt: HostRuntime) -> Result<(), Fail> {
+    let rules = "($l:lifetime) => {$l}";
+    for (argument, name) in [("'a", "a"), ("'_", "_"), ("'static", "static")] {
+        let want = [joint('\'', 1, 0), word(name, 1, 1)];
+        let texts = (rules, argument);
+        assert_texts(&rt, rt.alloc(), &taking(0), texts, Some((0, &want)))?;
+    }
+    for argument in ["", "'", "a", "'1", "'(a)", "''a", "'a b", "('a)"] {
+        assert_texts(&rt, rt.alloc(), &taking(9), (rules, argument), None)?;
+    }
+    Ok(())
+}
+
+// Each specifier fits just as many words as `Numbered` counts for its entry point.
+fn assert_asks(
+    rt: &impl Abort,
+    alloc: Global,
+    rules: &DeclarativeMacro,
+    entry: PrefixEntryPoint,
+) -> Result<(), Fail> {
+    let number = number_of(entry);
+    for count in 1..12usize {
+        let argument = lexed(alloc, 1, "a ".repeat(alloc, count)?.as_str())?;
+        let want: Option<(u32, &[Token<'_>])> = if count == number {
+            Some((0, &[]))
+        } else {
+            None
+        };
+        assert_makes(rt, alloc, &Numbered, (rules, &argument), want)?;
+    }
+    Ok(())
+}
+
+#[test]
+fn each_specifier_asks_its_entry_point(rt: HostRuntime) -> Result<(), Fail> {
+    for (specifier, entry) in [
+        ("path", PrefixEntryPoint::Path),
+        ("expr", PrefixEntryPoint::Expr),
+        ("expr_2021", PrefixEntryPoint::Expr),
+        ("ty", PrefixEntryPoint::Ty),
+        ("pat", PrefixEntryPoint::PatTop),
+        ("pat_param", PrefixEntryPoint::Pat),
+        ("stmt", PrefixEntryPoint::Stmt),
+        ("block", PrefixEntryPoint::Block),
+        ("meta", PrefixEntryPoint::MetaItem),
+        ("item", PrefixEntryPoint::Item),
+        ("vis", PrefixEntryPoint::Vis),
+    ] {
+        let text = format!(in rt.alloc(); "($x:{specifier}) => {{}}")?;
+        let rules = parsed(rt.alloc(), &lexed(rt.alloc(), 0, text.as_str())?)?;
+        assert_asks(&rt, rt.alloc(), &rules, entry)?;
+    }
+    Ok(())
+}
+
+#[test]
+fn pat_is_the_older_one_before_2021(rt: HostRuntime) -> Result<(), Fail> {
+    let definition = lexed(rt.alloc(), 0, "($x:pat) => {}")?;
+    for (edition, entry) in [
+        (Edition::Edition2015, PrefixEntryPoint::Pat),
+        (Edition::Edition2018, PrefixEntryPoint::Pat),
+        (Edition::Edition2021, PrefixEntryPoint::PatTop),
+        (Edition::Edition2024, PrefixEntryPoint::PatTop),
+    ] {
+        let rules = DeclarativeMacro::parse_macro_rules(rt.alloc(), &definition, |_| edition)?;
+        assert_asks(&rt, rt.alloc(), &rules, entry)?;
+    }
+    Ok(())
+}
+
+// Whether one token of an argument is an expression of the specifier, read in an edition.
+fn assert_begins(
+    rt: &impl Abort,
+    alloc: Global,
+    (specifier, edition): (&str, Edition),
+    (token, fits): (Token<'_>, bool),
+) -> Result<(), Fail> {
+    let text = format!(in alloc; "($e:{specifier}) => {{}}")?;
+    let definition = lexed(alloc, 0, text.as_str())?;
+    let rules = DeclarativeMacro::parse_macro_rules(alloc, &definition, |_| edition)?;
+    let argument = built(alloc, at(1, 0, 9), &[token])?;
+    let want: Option<(u32, &[Token<'_>])> = if fits { Some((0, &[])) } else { None };
+    assert_makes(rt, alloc, &taking(1), (&rules, &argument), want)
+}
+
+#[test]
+fn expressions_begin_with_no_let(rt: HostRuntime) -> Result<(), Fail> {
+    for (token, newer, older) in [
+        (word("a", 1, 0), true, true),
+        (number("1", 1, 0), true, true),
+        (word("let", 1, 0), false, false),
+        (raw("let", 1, 0), false, false),
+        (word("lets", 1, 0), true, true),
+        (word("_", 1, 0), true, false),
+        (word("const", 1, 0), true, false),
+        (raw("const", 1, 0), true, true),
+        (word("constant", 1, 0), true, true),
+    ] {
+        for (specifier, edition, fits) in [
+            ("expr", Edition::Edition2024, newer),
+            ("expr", Edition::Edition2021, older),
+            ("expr_2021", Edition::Edition2024, older),
+            ("ty", Edition::Edition2024, true),
+        ] {
+            assert_begins(&rt, rt.alloc(), (specifier, edition), (token, fits))?;
+        }
+    }
+    Ok(())
+}
+
+#[test]
+fn vis_may_take_nothing(rt: HostRuntime) -> Result<(), Fail> {
+    let empty = [open(Bracket, 0, 13), close(0, 16)];
+    let alone_vis = ("($v:vis) => {[$v]}", "");
+    let shown = [open(Bracket, 0, 13), close(0, 16)];
+    assert_texts(&rt, rt.alloc(), &taking(0), alone_vis, Some((0, &shown)))?;
+    assert_texts(&rt, rt.alloc(), &taking(5), alone_vis, Some((0, &empty)))?;
+    let rules = "($v:vis $x:ident) => {$v; $x}";
+    let private = [alone(';', 0, 24), word("a", 1, 0)];
+    assert_texts(
+        &rt,
+        rt.alloc(),
+        &taking(0),
+        (rules, "a"),
+        Some((0, &private)),
+    )?;
+    let public = [word("pub", 1, 0), alone(';', 0, 24), word("a", 1, 4)];
+    assert_texts(
+        &rt,
+        rt.alloc(),
+        &taking(1),
+        (rules, "pub a"),
+        Some((0, &public)),
+    )?;
+    for argument in ["", "a", "pub a b"] {
+        assert_texts(&rt, rt.alloc(), &taking(1), (rules, argument), None)?;
+    }
+    assert_texts(&rt, rt.alloc(), &taking(0), ("($t:ty) => {}", ""), None)
+}
+
+#[test]
+fn fronts_that_end_in_a_group_do_not_fit(rt: HostRuntime) -> Result<(), Fail> {
+    let texts = ("($t:ty) => {}", "(a b)");
+    for count in [1, 2, 3] {
+        assert_texts(&rt, rt.alloc(), &taking(count), texts, None)?;
+    }
+    assert_texts(&rt, rt.alloc(), &taking(4), texts, Some((0, &[])))?;
+    let faulty = Counting {
+        count: 4,
+        fault: true,
+    };
+    assert_texts(&rt, rt.alloc(), &faulty, texts, None)
+}
+
+#[test]
+fn the_first_rule_whose_fragment_fits_is_taken(rt: HostRuntime) -> Result<(), Fail> {
+    let rules = "($t:ty) => {A}; ($t:ty $x:ident) => {B $t}; ($x:tt) => {C}";
+    let texts = (rules, "a b c");
+    assert_texts(&rt, rt.alloc(), &taking(1), texts, None)?;
+    let two = [word("B", 0, 37), word("a", 1, 0), word("b", 1, 2)];
+    assert_texts(&rt, rt.alloc(), &taking(2), texts, Some((1, &two)))?;
+    let three = [word("A", 0, 12)];
+    assert_texts(&rt, rt.alloc(), &taking(3), texts, Some((0, &three)))
+}
+
+#[test]
+fn fragments_of_the_grammar_are_written_as_they_are(rt: HostRuntime) -> Result<(), Fail> {
+    let slice = [
+        alone('&', 1, 0),
+        joint('\'', 1, 1),
+        word("a", 1, 2),
+        open(Bracket, 1, 4),
+        word("u8", 1, 5),
+        close(1, 7),
+    ];
+    let texts = ("($t:ty) => {$t}", "&'a [u8]");
+    assert_texts(&rt, rt.alloc(), &taking(6), texts, Some((0, &slice)))?;
+    let last = [word("a", 1, 0), alone('+', 1, 1)];
+    let texts = ("($t:ty ;) => {$t}", "a+;");
+    assert_texts(&rt, rt.alloc(), &taking(2), texts, Some((0, &last)))
+}
+
+#[test]
+fn only_what_the_grammar_took_keeps_an_invisible_group(rt: HostRuntime) -> Result<(), Fail> {
+    let tokens = [open(Invisible, 1, 0), word("a", 1, 1), close(1, 2)];
+    let argument = built(rt.alloc(), at(1, 0, 3), &tokens)?;
+    for (specifier, stripped) in [
+        ("ty", false),
+        ("pat", false),
+        ("pat_param", false),
+        ("stmt", false),
+        ("block", false),
+        ("meta", false),
+        ("item", false),
+        ("vis", false),
+        ("tt", true),
+    ] {
+        let text = format!(in rt.alloc(); "($x:{specifier}) => {{$x}}")?;
+        let rules = parsed(rt.alloc(), &lexed(rt.alloc(), 0, text.as_str())?)?;
+        let want = if stripped { &tokens[1..2] } else { &tokens[..] };
+        let of = (&rules, &argument);
+        assert_makes(&rt, rt.alloc(), &taking(3), of, Some((0, want)))?;
+    }
+    Ok(())
+}
+
+// Until expressions and paths are written.
+#[test]
+fn rules_that_write_an_expression_or_a_path_are_passed_over(rt: HostRuntime) -> Result<(), Fail> {
+    for rules in [
+        "($e:expr) => {$e}; ($t:tt) => {A}",
+        "($p:path) => {$p}; ($t:tt) => {A}",
+        "($e:expr)=>{[$e]}; ($t:tt) => {A}",
+    ] {
+        let want = [word("A", 0, 31)];
+        assert_texts(&rt, rt.alloc(), &taking(1), (rules, "1"), Some((1, &want)))?;
+    }
+    let unnamed = "($e:expr) => {B}; ($t:tt) => {A}";
+    let want = [word("B", 0, 14)];
+    assert_texts(
+        &rt,
+        rt.alloc(),
+        &taking(1),
+        (unnamed, "1"),
+        Some((0, &want)),
+    )
+}
+
+#[test]
+fn an_expansion_wants_the_memory_of_its_grammar(rt: HostRuntime) -> Result<(), Fail> {
+    let definition = lexed(rt.alloc(), 0, "($x:ident) => {}; ($t:ty) => {}")?;
+    let rules = parsed(rt.alloc(), &definition)?;
+    assert_makes(
+        &rt,
+        rt.alloc(),
+        &NoMemory,
+        (&rules, &lexed(rt.alloc(), 1, "a")?),
+        Some((0, &[])),
+    )?;
+    assert_checked(&rt, &rules);
+    let argument = lexed(rt.alloc(), 1, "1")?;
+    let call_site = whole(&argument);
+    let answer = rules.expand(
+        rt.alloc(),
+        &NoMemory,
+        &argument,
+        |span| span,
+        MacroCallStyle::FnLike,
+        call_site,
+    );
+    assert!(rt; answer.is_err());
+    Ok(())
+}
