@@ -1,13 +1,9 @@
 // Metavariable expressions, `${..}`: which are read, and which are faults.
 use crate::definitions::{Told, assert_told, assert_tree_told};
-use crate::runs::parsed;
 use crate::tokens::{Token, alone, at, close, joint, number, open, raw, string, suffixed, word};
-use crate::trees::{built, lexed};
+use crate::trees::built;
 use mbe_tt::tt::DelimiterKind;
 use mbe_tt::tt::DelimiterKind::{Brace, Invisible, Parenthesis};
-use refusing::Refusing;
-use std::alloc::{AllocError, Allocator, Global};
-use std::process::Abort;
 use std::test::Fail;
 
 const INVALID: Told = Told::Unexpected("invalid metavariable expression");
@@ -225,33 +221,4 @@ fn expressions_of_a_pattern(rt: HostRuntime) -> Result<(), Fail> {
         assert_told(&rt, rt.alloc(), definition, (0, in_matcher))?;
     }
     Ok(())
-}
-
-// How many rules the definition has, which tells no error.
-fn rules_of<A: Allocator + Copy>(
-    rt: &impl Abort,
-    alloc: A,
-    definition: &str,
-) -> Result<usize, AllocError> {
-    let tree = lexed(alloc, 0, definition)?;
-    let rules = parsed(alloc, &tree)?;
-    assert!(rt; rules.err().is_none());
-    Ok(rules.num_rules())
-}
-
-#[test]
-fn each_request_of_reading_refused(rt: HostRuntime) -> Result<(), Fail> {
-    let definition = "() => {${concat(a, $b, 1)} ${ignore($x)} ${count($x, 1)}}";
-    for request in 1..10_000u64 {
-        let alloc = Refusing::new(rt.alloc(), request);
-        match rules_of(&rt, &alloc, definition) {
-            Ok(count) => {
-                assert_eq!(rt; count, 1);
-                assert!(rt; !alloc.has_refused(), "at {request}");
-                return Ok(());
-            }
-            Err(AllocError) => assert!(rt; alloc.has_refused(), "at {request}"),
-        }
-    }
-    Err(Fail::from("it goes on"))
 }

@@ -41,7 +41,7 @@ fn expands_twice<A: Allocator + Copy>(rt: &impl Abort, alloc: A) -> Result<bool,
 // A rule with every form of pattern and of template.
 const EVERY_FORM: &str =
     "unsafe attr(x) ($a:ident $b:literal [c] 1 + $($d:expr),* $($e:ty)'f + $($g:tt)1? $(h)=>* \
-    $(i)* $crate) => {$a $j [c] 1 + $($d $e);* $($g)? ${ignore($a)} ${index()} ${len(1)} ${count($d)} ${count($e, 1)} \
+    $(i)* $(k)and* $crate) => {$a $j [c] 1 + $($d $e);* $($g)? ${ignore($a)} ${index()} ${len(1)} ${count($d)} ${count($e, 1)} \
     ${concat(a, $a, 1)} $$ $crate $}";
 
 // Whether memory was wanting for the first reading. The definition is read once more in either case, and stays as it was.

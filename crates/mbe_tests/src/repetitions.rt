@@ -1,10 +1,5 @@
 // Repetitions of definitions: what separates their rounds, how often they go round, and their faults.
 use crate::definitions::{Told, assert_told};
-use crate::runs::parsed;
-use crate::trees::lexed;
-use refusing::Refusing;
-use std::alloc::{AllocError, Allocator};
-use std::process::Abort;
 use std::test::Fail;
 
 #[test]
@@ -101,41 +96,4 @@ fn first_fault_around_a_repetition(rt: HostRuntime) -> Result<(), Fail> {
         assert_told(&rt, rt.alloc(), definition, (0, told))?;
     }
     Ok(())
-}
-
-// Whether memory was wanting for the reading of repetitions with a separator of each sort.
-fn reads<A: Allocator + Copy>(rt: &impl Abort, alloc: A) -> Result<bool, AllocError> {
-    let tree = lexed(
-        alloc,
-        0,
-        "($($x:ident)b* $(a)1* $(a)'b+ $(a);;?) => {$($x),*}",
-    )?;
-    let Ok(rules) = parsed(alloc, &tree) else {
-        return Ok(true);
-    };
-    assert!(rt; rules.err().is_none());
-    assert_eq!(rt; rules.num_rules(), 1);
-    Ok(false)
-}
-
-#[test]
-fn each_request_of_reading_refused(rt: HostRuntime) -> Result<(), Fail> {
-    let mut wanting = 0u64;
-    for request in 1..10_000u64 {
-        let alloc = Refusing::new(rt.alloc(), request);
-        match reads(&rt, &alloc) {
-            Ok(true) => {
-                assert!(rt; alloc.has_refused(), "at {request}");
-                wanting = wanting.saturating_add(1);
-            }
-            Ok(false) => {
-                assert!(rt; !alloc.has_refused(), "at {request}");
-                // One for each of the five bodies at least.
-                assert!(rt; wanting >= 5, "only {wanting} requests of the reading");
-                return Ok(());
-            }
-            Err(AllocError) => assert!(rt; alloc.has_refused(), "at {request}"),
-        }
-    }
-    Err(Fail::from("it goes on"))
 }
