@@ -278,12 +278,23 @@ fn fronts_that_end_in_a_group_do_not_fit(rt: HostRuntime) -> Result<(), Fail> {
 #[test]
 fn the_first_rule_whose_fragment_fits_is_taken(rt: HostRuntime) -> Result<(), Fail> {
     let rules = "($t:ty) => {A}; ($t:ty $x:ident) => {B $t}; ($x:tt) => {C}";
-    let texts = (rules, "a b c");
-    assert_texts(&rt, rt.alloc(), &taking(1), texts, None)?;
+    assert_texts(&rt, rt.alloc(), &taking(1), (rules, "a b c"), None)?;
     let two = [word("B", 0, 37), word("a", 1, 0), word("b", 1, 2)];
-    assert_texts(&rt, rt.alloc(), &taking(2), texts, Some((1, &two)))?;
+    assert_texts(
+        &rt,
+        rt.alloc(),
+        &taking(2),
+        (rules, "a b c"),
+        Some((1, &two)),
+    )?;
     let three = [word("A", 0, 12)];
-    assert_texts(&rt, rt.alloc(), &taking(3), texts, Some((0, &three)))
+    assert_texts(
+        &rt,
+        rt.alloc(),
+        &taking(3),
+        (rules, "a b c"),
+        Some((0, &three)),
+    )
 }
 
 #[test]
@@ -320,7 +331,8 @@ fn only_what_the_grammar_took_keeps_an_invisible_group(rt: HostRuntime) -> Resul
     ] {
         let text = format!(in rt.alloc(); "($x:{specifier}) => {{$x}}")?;
         let rules = parsed(rt.alloc(), &lexed(rt.alloc(), 0, text.as_str())?)?;
-        let want = if stripped { &tokens[1..2] } else { &tokens[..] };
+        let (start, end) = if stripped { (1usize, 2usize) } else { (0, 3) };
+        let want = tokens.get(start..end).ok_or("tokens")?;
         let of = (&rules, &argument);
         assert_makes(&rt, rt.alloc(), &taking(3), of, Some((0, want)))?;
     }
