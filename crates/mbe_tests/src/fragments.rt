@@ -275,26 +275,21 @@ fn fronts_that_end_in_a_group_do_not_fit(rt: HostRuntime) -> Result<(), Fail> {
     assert_texts(&rt, rt.alloc(), &faulty, texts, None)
 }
 
+const BY_FRAGMENTS: &str = "($t:ty) => {A}; ($t:ty $x:ident) => {B $t}; ($x:tt) => {C}";
+
 #[test]
 fn the_first_rule_whose_fragment_fits_is_taken(rt: HostRuntime) -> Result<(), Fail> {
-    let rules = "($t:ty) => {A}; ($t:ty $x:ident) => {B $t}; ($x:tt) => {C}";
-    assert_texts(&rt, rt.alloc(), &taking(1), (rules, "a b c"), None)?;
-    let two = [word("B", 0, 37), word("a", 1, 0), word("b", 1, 2)];
-    assert_texts(
-        &rt,
-        rt.alloc(),
-        &taking(2),
-        (rules, "a b c"),
-        Some((1, &two)),
-    )?;
+    let texts = (BY_FRAGMENTS, "a b c");
     let three = [word("A", 0, 12)];
-    assert_texts(
-        &rt,
-        rt.alloc(),
-        &taking(3),
-        (rules, "a b c"),
-        Some((0, &three)),
-    )
+    assert_texts(&rt, rt.alloc(), &taking(3), texts, Some((0, &three)))
+}
+
+#[test]
+fn a_rule_whose_fragment_is_too_short_is_passed_over(rt: HostRuntime) -> Result<(), Fail> {
+    let texts = (BY_FRAGMENTS, "a b c");
+    let two = [word("B", 0, 37), word("a", 1, 0), word("b", 1, 2)];
+    assert_texts(&rt, rt.alloc(), &taking(2), texts, Some((1, &two)))?;
+    assert_texts(&rt, rt.alloc(), &taking(1), texts, None)
 }
 
 #[test]
