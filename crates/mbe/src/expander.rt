@@ -8,6 +8,7 @@ ghost use Rattle.mbe.specs.Item.{style_of};
 ghost use Rattle.mbe.specs.Views.{fragment_seen, rule_of, rules_seen};
 ghost use Rattle.mbe.specs.Marking.{MayMark};
 
+pub(crate) mod delimited;
 pub(crate) mod matcher;
 pub(crate) mod transcriber;
 

@@ -1,6 +1,5 @@
 // Matches an argument against a pattern.
 ghost use Rattle.std.specs.Prelude.{◌≡◌, [], IfOk, OnOk, OnErr, option_map};
-ghost use Rattle.std.specs.Str.{bytes_eq};
 ghost use Rattle.mbe_tt.specs.Glue.{chars_of};
 ghost use Rattle.mbe_tt.specs.Shown.{ident_of, literal_of};
 ghost use Rattle.mbe_tt.specs.Grammar.{good_front};
@@ -13,7 +12,7 @@ ghost use Rattle.mbe.specs.Views.{IsTaken, bound_by, fragment_seen, op_of, ops_o
 
 use crate::expander::Fragment;
 use crate::fragment::eat_front;
-use crate::parser::{ExprKind, MetaTemplate, MetaVarKind, Op};
+use crate::parser::{ExprKind, MetaTemplate, MetaVarKind, Op, same_chars};
 use mbe_tt::grammar::{FragmentGrammar, PrefixEntryPoint};
 use mbe_tt::iter::{TtElement, TtIter};
 use mbe_tt::symbol::Symbol;
@@ -173,16 +172,6 @@ fn eat_puncts<A: Allocator>(puncts: &[Punct], src: &mut TtIter<'_, A>) -> bool
     match src.expect_glued_punct() {
         Ok(found) => same_chars(found.as_slice(), puncts),
         Err(()) => false,
-    }
-}
-
-fn same_chars(one: &[Punct], two: &[Punct]) -> bool
-    ensures { result ≡ bytes_eq (chars_of one.now) (chars_of two.now) }
-{
-    match (one.split_first(), two.split_first()) {
-        (Some((a, one)), Some((b, two))) => a.char == b.char && same_chars(one, two),
-        (None, None) => true,
-        _ => false,
     }
 }
 
