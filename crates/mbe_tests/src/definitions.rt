@@ -2,6 +2,7 @@
 use crate::runs::parsed;
 use crate::trees::lexed;
 use mbe::{DeclarativeMacro, ParseError};
+use mbe_tt::span::Edition;
 use mbe_tt::tt::TopSubtree;
 use std::alloc::{AllocError, Global};
 use std::process::Abort;
@@ -191,6 +192,50 @@ fn the_first_fault_is_told(rt: HostRuntime) -> Result<(), Fail> {
         ("() => {};; ($x) => {}", 1, subtree),
     ] {
         assert_told(&rt, rt.alloc(), definition, (count, told))?;
+    }
+    Ok(())
+}
+
+#[test]
+fn specifiers_have_no_fault_in_any_edition(rt: HostRuntime) -> Result<(), Fail> {
+    for edition in [
+        Edition::Edition2015,
+        Edition::Edition2018,
+        Edition::Edition2021,
+        Edition::Edition2024,
+    ] {
+        for specifier in [
+            "path",
+            "ty",
+            "pat",
+            "pat_param",
+            "stmt",
+            "block",
+            "meta",
+            "item",
+            "vis",
+            "expr",
+            "expr_2021",
+            "ident",
+            "tt",
+            "lifetime",
+            "literal",
+        ] {
+            let definition = format!(in rt.alloc(); "($x:{specifier} {specifier}) => {{$x}}")?;
+            let tree = lexed(rt.alloc(), 0, definition.as_str())?;
+            let rules = DeclarativeMacro::parse_macro_rules(rt.alloc(), &tree, |_context| edition)?;
+            assert_eq!(rt; rules.num_rules(), 1, "{specifier}");
+            assert!(rt; rules.err().is_none(), "{specifier}");
+        }
+    }
+    Ok(())
+}
+
+#[test]
+fn unknown_specifiers_have_no_fault(rt: HostRuntime) -> Result<(), Fail> {
+    for specifier in ["Path", "tys", "expr2021", "expr_2024", "ident_", "tts"] {
+        let definition = format!(in rt.alloc(); "() => {{}}; ($x:{specifier}) => {{}}")?;
+        assert_told(&rt, rt.alloc(), definition.as_str(), (2, Told::Nothing))?;
     }
     Ok(())
 }
