@@ -1,3 +1,10 @@
+pub mod FlatTrees
+pub mod Lawful
 pub mod Options
 pub mod Outcomes
+pub mod Rule
+pub mod RuleLaws
+pub mod SampleGrammar
 pub mod Scanning
+pub mod SingleTrees
+pub mod Steps

@@ -1,34 +1,146 @@
 // The grammar that the program hands in.
 ghost use Rattle.std.specs.Prelude.{◌≡◌};
-ghost use borrow.Author.Rules.{rules};
+ghost use Rattle.mbe_tt.specs.View.{trees};
+ghost use Rattle.mbex.specs.SampleGrammar.{takes, part_of, answer};
+ghost use Rattle.mbex.specs.Steps.{seen};
 
+// The step of the first part that stands.
+macro_rules! first_of {
+    ($step:expr) => { $step };
+    ($step:expr, $($more:expr),+) => {
+        match $step {
+            Err(crate::sample_grammar::step::Miss::Absent) => first_of!($($more),+),
+            taken => taken,
+        }
+    };
+}
+
+mod expressions;
+mod items;
+mod patterns;
+mod step;
+mod tokens;
+mod types;
+
+use crate::sample_grammar::expressions::expr;
+use crate::sample_grammar::items::{block, item, meta, stmt, vis};
+use crate::sample_grammar::patterns::{pat, pat_top};
+use crate::sample_grammar::step::Step;
+use crate::sample_grammar::types::{PathStyle, path, ty};
 use mbe_tt::grammar::{FragmentGrammar, Front, PrefixEntryPoint};
 use mbe_tt::tt::TokenTreesView;
 use std::alloc::{AllocError, Allocator};
 
-/// A grammar that faults on everything and calls nothing a keyword.
+/// A part of Rust's grammar.
 #[derive(Clone, Copy, Debug, PartialEq, Eq)]
 pub struct SampleGrammar;
 
-impl FragmentGrammar for SampleGrammar {
-    ghost use Rattle.std.specs.Prelude.{true, false};
+// What is left behind a fragment.
+fn behind<'t, A: Allocator>(entry: PrefixEntryPoint, tokens: TokenTreesView<'t, A>) -> Step<'t, A>
+    ensures { seen result ≡ takes (part_of entry) (trees tokens.entry) }
+{
+    match entry {
+        PrefixEntryPoint::Path => path(tokens, PathStyle::Plain),
+        PrefixEntryPoint::Expr => expr(tokens),
+        PrefixEntryPoint::Ty => ty(tokens),
+        PrefixEntryPoint::PatTop => pat_top(tokens),
+        PrefixEntryPoint::Pat => pat(tokens),
+        PrefixEntryPoint::Stmt => stmt(tokens),
+        PrefixEntryPoint::Block => block(tokens),
+        PrefixEntryPoint::MetaItem => meta(tokens),
+        PrefixEntryPoint::Item => item(tokens),
+        PrefixEntryPoint::Vis => vis(tokens),
+    }
+}
 
-    ghost grammar = { λ _. record { parse = λ entry tokens. record { count = 0; fault = true }; is_keyword = λ text. false } };
+// How much a fragment is. A fault takes nothing.
+#[tactic(auto, using(crate::proofs::Parts::takes_no_longer))]
+fn front<A: Allocator>(entry: PrefixEntryPoint, tokens: TokenTreesView<'_, A>) -> Front
+    ensures { result ≡ answer entry (trees tokens.entry) }
+{
+    match behind(entry, tokens) {
+        Ok(rest) => Front {
+            count: tokens.flat_len() - rest.flat_len(),
+            fault: false,
+        },
+        Err(_miss) => Front {
+            count: 0,
+            fault: true,
+        },
+    }
+}
+
+impl FragmentGrammar for SampleGrammar {
+    ghost use Rattle.mbex.specs.SampleGrammar.{sample};
+    ghost use Rattle.mbex.specs.Lawful.{sample_lawful};
+
+    ghost grammar = { λ _. sample };
 
     fn parse<A: Allocator>(
         &self,
-        _entry: PrefixEntryPoint,
-        _tokens: TokenTreesView<'_, A>,
+        entry: PrefixEntryPoint,
+        tokens: TokenTreesView<'_, A>,
     ) -> Result<Front, AllocError> {
-        Ok(Front {
-            count: 0,
-            fault: true,
-        })
+        Ok(front(entry, tokens))
     }
 
-    fn is_keyword(&self, _text: &str) -> bool {
-        false
+    fn is_keyword(&self, text: &str) -> bool {
+        matches!(
+            text,
+            "abstract"
+                | "as"
+                | "async"
+                | "await"
+                | "become"
+                | "box"
+                | "break"
+                | "const"
+                | "continue"
+                | "crate"
+                | "do"
+                | "dyn"
+                | "else"
+                | "enum"
+                | "extern"
+                | "false"
+                | "final"
+                | "fn"
+                | "for"
+                | "gen"
+                | "if"
+                | "impl"
+                | "in"
+                | "let"
+                | "loop"
+                | "macro"
+                | "match"
+                | "mod"
+                | "move"
+                | "mut"
+                | "override"
+                | "priv"
+                | "pub"
+                | "ref"
+                | "return"
+                | "self"
+                | "Self"
+                | "static"
+                | "struct"
+                | "super"
+                | "trait"
+                | "true"
+                | "try"
+                | "type"
+                | "typeof"
+                | "unsafe"
+                | "unsized"
+                | "use"
+                | "virtual"
+                | "where"
+                | "while"
+                | "yield"
+        )
     }
 
-    ghost lawful = { λ _. Prim.search rules };
+    ghost lawful = { λ _. sample_lawful };
 }

@@ -1,13 +1,17 @@
 // What no clause says: printed text, whole runs, and what is done where memory or a write fails.
 ghost use Rattle.std.specs.Prelude.{◌<◌};
 
+mod fragments;
 mod lexing;
 
 use crate::arguments::options;
 use crate::program::{Outcome, run};
 use crate::reports::Report;
+use crate::sample_grammar::SampleGrammar;
 use crate::settings::Options;
 use crate::started;
+use crate::tests::lexing::trees;
+use mbe_tt::grammar::{FragmentGrammar, PrefixEntryPoint};
 use mbe_tt::span::Edition;
 use refusing::Refusing;
 use std::alloc::Global;
@@ -372,10 +376,103 @@ fn every_front_of_a_text_ends(rt: HostRuntime) -> Result<(), Fail> {
     Ok(())
 }
 
-const PIECES: [&str; 32] = [
-    "(", ")", "[", "]", "{", "}", "$", "$x:ident", "$t:tt", "$x", "$t", ":", "=>", ";", ",", "x",
-    "r#x", "crate", "_", "1", "1.0", "0x", "\"", "'", "\\", "//", "/*", "*/", "\n", " ", "é",
+const PIECES: [&str; 96] = [
+    "(",
+    ")",
+    "[",
+    "]",
+    "{",
+    "}",
+    "$",
+    "$x:ident",
+    "$t:tt",
+    "$x",
+    "$t",
+    ":",
+    "=>",
+    ";",
+    ",",
+    "x",
+    "r#x",
+    "crate ",
+    "_",
+    "1",
+    "1.0",
+    "0x",
+    "\"",
+    "'",
+    "\\",
+    "//",
+    "/*",
+    "*/",
+    "\n",
+    " ",
+    "é",
     "\u{0}",
+    "$e:expr",
+    "$t:ty",
+    "$p:pat",
+    "$p:path",
+    "$s:stmt",
+    "$b:block",
+    "$m:meta",
+    "$i:item",
+    "$v:vis",
+    "$l:lifetime",
+    "$l:literal",
+    "$(",
+    "),*",
+    ")?",
+    "let ",
+    "mut ",
+    "ref ",
+    "pub ",
+    "self ",
+    "in ",
+    "const ",
+    "unsafe ",
+    "break ",
+    "return ",
+    "true ",
+    "use ",
+    "static ",
+    "fn ",
+    "struct ",
+    "impl ",
+    "'a ",
+    "'b'",
+    "'\\n'",
+    "1.5",
+    "1e5",
+    "2u8",
+    "\"s\"",
+    "&",
+    "*",
+    "<",
+    ">",
+    "::",
+    "->",
+    "!",
+    "?",
+    ".",
+    "..",
+    "=",
+    "==",
+    "+",
+    "-",
+    "|",
+    "&&",
+    "<<=",
+    "{ }",
+    "( )",
+    "[ ]",
+    "(x, y)",
+    "{ x }",
+    "::<x>",
+    "x::y",
+    "x.y()",
+    "x + 1",
+    ": u8",
 ];
 
 /// Numbers that look random, from a seed.
@@ -399,7 +496,7 @@ impl Numbers {
         let mut text = String::new(alloc);
         for _ in 0..self.below(12) {
             if is_of_pieces {
-                text.push_str(PIECES[self.below(32) as usize])?;
+                text.push_str(PIECES[self.below(96) as usize])?;
             } else if let Some(char) = char::from_u32(self.below(0x11_0000) as u32) {
                 text.push(char)?;
             }
@@ -408,10 +505,38 @@ impl Numbers {
     }
 }
 
+const ENTRIES: [PrefixEntryPoint; 10] = [
+    PrefixEntryPoint::Path,
+    PrefixEntryPoint::Expr,
+    PrefixEntryPoint::Ty,
+    PrefixEntryPoint::PatTop,
+    PrefixEntryPoint::Pat,
+    PrefixEntryPoint::Stmt,
+    PrefixEntryPoint::Block,
+    PrefixEntryPoint::MetaItem,
+    PrefixEntryPoint::Item,
+    PrefixEntryPoint::Vis,
+];
+
+// Whether the grammar answers for the front of any text.
+fn assert_parses(rt: &impl Abort, alloc: Global, text: &str) -> Result<(), Fail> {
+    let Ok(tree) = trees(rt, alloc, text) else {
+        return Ok(());
+    };
+    let view = tree.iter().remaining();
+    for entry in ENTRIES {
+        let front = SampleGrammar.parse(entry, view)?;
+        assert!(rt; front.count <= view.flat_len(), "{text}");
+        assert!(rt; !front.fault || front.count == 0, "{text}");
+    }
+    Ok(())
+}
+
+// Two texts and the rule that is made of two, in each turn.
 #[test]
 fn random_texts_end(rt: HostRuntime) -> Result<(), Fail> {
     let mut numbers = Numbers(1);
-    for number in 0..3_000u64 {
+    for number in 0..7_000u64 {
         let is_of_pieces = number % 4 != 0;
         let def = numbers.text(rt.alloc(), is_of_pieces)?;
         let arg = numbers.text(rt.alloc(), is_of_pieces)?;
@@ -420,6 +545,7 @@ fn random_texts_end(rt: HostRuntime) -> Result<(), Fail> {
         let rule = format!(in rt.alloc(); "({def}) => {{{template}}}")?;
         assert_ends(&rt, rt.alloc(), rule.as_str(), arg.as_str())?;
         assert_ends(&rt, rt.alloc(), rule.as_str(), def.as_str())?;
+        assert_parses(&rt, rt.alloc(), arg.as_str())?;
     }
     Ok(())
 }

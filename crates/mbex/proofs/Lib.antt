@@ -1,0 +1,4 @@
+pub mod FlatTreeLemmas
+pub mod Parts
+pub mod Rules
+pub mod WordLemmas
