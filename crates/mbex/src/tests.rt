@@ -1,6 +1,7 @@
 // What no clause says: printed text, whole runs, and what is done where memory or a write fails.
 ghost use Rattle.std.specs.Prelude.{◌<◌};
 
+mod expansions;
 mod fragments;
 mod lexing;
 
