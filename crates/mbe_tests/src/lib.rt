@@ -6,6 +6,8 @@ mod definitions;
 #[cfg(test)]
 mod errors;
 #[cfg(test)]
+mod example;
+#[cfg(test)]
 mod expressions;
 #[cfg(test)]
 mod first_run;
