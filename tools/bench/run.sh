@@ -11,7 +11,7 @@ folder=${1:-$(mktemp -d)}
 mkdir -p "$folder/crates"
 cat >"$folder/crates.txt" <<'END'
 mbe_tt: arrayvec
-mbe: mbe_tt arrayvec unicode_ident
+mbe: mbe_tt arrayvec bitflags unicode_ident
 mbe_bench: mbe mbe_tt
 END
 for crate in crates/mbe_tt crates/mbe tools/bench/mbe_bench; do
