@@ -90,6 +90,7 @@ fn rules_have_their_parts(rt: HostRuntime) -> Result<(), Fail> {
         ("() =", 0, Told::Expected("expected `>`")),
         ("() = {}", 0, Told::Expected("expected `>`")),
         ("() == {}", 0, Told::Expected("expected `>`")),
+        ("($(a) => {}", 0, Told::Expected("expected `=`")),
     ] {
         assert_told(&rt, rt.alloc(), definition, (count, told))?;
     }
