@@ -5,5 +5,6 @@ mod glue;
 mod grammars;
 mod iterators;
 mod memory;
+mod parts;
 mod texts;
 mod views;

@@ -1,10 +1,8 @@
-ghost use Rattle.std.specs.Prelude.{◌<◌};
-
+use super::parts::{Part, tree};
 use super::views::sample;
-use crate::writing::{delimiter, ident, punct, span};
+use crate::writing::span;
 use mbe_tt::span::DelimSpan;
-use mbe_tt::tt::{DelimiterKind, Spacing, TopSubtree, TopSubtreeBuilder};
-use std::alloc::{AllocError, Global};
+use mbe_tt::tt::{DelimiterKind, Spacing, TopSubtree};
 use std::test::Fail;
 
 #[test]
@@ -14,43 +12,48 @@ fn an_empty_tree_is_an_invisible_group(rt: HostRuntime) -> Result<(), Fail> {
         close: span(2),
     };
     let tree = TopSubtree::empty(rt.alloc(), spans)?;
-    assert_eq!(rt; tree.view().flat_len(), 2);
+    assert!(rt; tree.view().flat_len() == 2);
     assert!(rt; tree.iter().is_empty());
-    assert_eq!(rt; tree.top_subtree().delimiter.kind, DelimiterKind::Invisible);
+    assert!(rt; tree.top_subtree().delimiter.kind == DelimiterKind::Invisible);
     assert!(rt; tree.top_subtree().delimiter.delim_span() == spans);
     Ok(())
 }
 
-// One punct between braces.
-fn with_punct(alloc: Global, char: char, spacing: Spacing) -> Result<TopSubtree, AllocError> {
-    let mut builder = TopSubtreeBuilder::new(alloc, delimiter(DelimiterKind::Brace))?;
-    builder.push(punct(char, spacing))?;
-    Ok(builder.build())
-}
-
-// A group of one leaf that closes there.
-fn with_group(alloc: Global, close: u32, text: &str) -> Result<TopSubtree, AllocError>
-    requires { close < 1000 }
-{
-    let mut builder = TopSubtreeBuilder::new(alloc, delimiter(DelimiterKind::Brace))?;
-    builder.open(DelimiterKind::Bracket, span(1))?;
-    builder.push(ident(alloc, text)?)?;
-    builder.close(span(close));
-    Ok(builder.build())
-}
+// Each differs from the others in one part.
+static TREES: [&[Part]; 6] = [
+    &[Part::Punct('+', Spacing::Alone)],
+    &[Part::Punct('+', Spacing::Joint)],
+    &[Part::Punct('-', Spacing::Alone)],
+    &[
+        Part::Open(DelimiterKind::Bracket),
+        Part::Ident("a"),
+        Part::Close(2),
+    ],
+    &[
+        Part::Open(DelimiterKind::Bracket),
+        Part::Ident("a"),
+        Part::Close(3),
+    ],
+    &[
+        Part::Open(DelimiterKind::Bracket),
+        Part::Ident("b"),
+        Part::Close(2),
+    ],
+];
 
 #[test]
 fn trees_are_equal_where_all_their_parts_are(rt: HostRuntime) -> Result<(), Fail> {
-    let alloc = rt.alloc();
-    let plus = with_punct(alloc, '+', Spacing::Alone)?;
-    assert!(rt; plus == with_punct(alloc, '+', Spacing::Alone)?);
-    assert!(rt; plus != with_punct(alloc, '+', Spacing::Joint)?);
-    assert!(rt; plus != with_punct(alloc, '-', Spacing::Alone)?);
-    let group = with_group(alloc, 2, "a")?;
-    assert!(rt; group == with_group(alloc, 2, "a")?);
-    assert!(rt; group != with_group(alloc, 3, "a")?);
-    assert!(rt; group != with_group(alloc, 2, "b")?);
-    assert!(rt; group.view() != plus.view());
+    for (one, parts) in TREES.iter().enumerate() {
+        for (two, others) in TREES.iter().enumerate() {
+            let left = tree(rt.alloc(), parts)?;
+            let right = tree(rt.alloc(), others)?;
+            assert!(rt; (left == right) == (one == two), "{one} and {two}");
+            assert!(rt;
+                (left.view() == right.view()) == (one == two),
+                "{one} and {two}"
+            );
+        }
+    }
     Ok(())
 }
 

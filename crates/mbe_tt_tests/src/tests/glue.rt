@@ -1,15 +1,12 @@
+use super::parts::{Part, tree};
 use crate::writing::{delimiter, ident, punct};
 use mbe_tt::tt::{DelimiterKind, Spacing, TopSubtree, TopSubtreeBuilder};
-use std::alloc::{AllocError, Allocator};
+use std::alloc::{AllocError, Global};
 use std::test::Fail;
 
 // The chars, which are ASCII, as puncts, all but the last joint, and an identifier behind them.
 #[tactic(auto, using(mbe_tt::proofs::OpenGroups::put_length))]
-fn puncts<A: Allocator + Copy>(
-    alloc: A,
-    chars: &str,
-    last: Spacing,
-) -> Result<TopSubtree<A>, AllocError> {
+fn puncts(alloc: Global, chars: &str, last: Spacing) -> Result<TopSubtree, AllocError> {
     let mut builder = TopSubtreeBuilder::new(alloc, delimiter(DelimiterKind::Invisible))?;
     let bytes = chars.as_bytes();
     for (place, byte) in bytes.iter().enumerate() {
@@ -24,84 +21,86 @@ fn puncts<A: Allocator + Copy>(
     Ok(builder.build())
 }
 
+// How many puncts are taken together, where they have those chars and just they are passed.
+fn glued(tree: &TopSubtree, chars: &str) -> Option<usize> {
+    let mut iter = tree.iter();
+    let all = iter.remaining().len();
+    let glued = iter.expect_glued_punct().ok()?;
+    for (punct, char) in glued.iter().zip(chars.chars()) {
+        if punct.char != char {
+            return None;
+        }
+    }
+    if iter.remaining().len().saturating_add(glued.len()) == all {
+        Some(glued.len())
+    } else {
+        None
+    }
+}
+
 // Every operator of two and three chars; then fronts of which fewer are taken.
+static OPERATORS: [(&str, usize); 36] = [
+    ("...", 3),
+    ("..=", 3),
+    ("<<=", 3),
+    (">>=", 3),
+    ("-=", 2),
+    ("!=", 2),
+    ("*=", 2),
+    ("/=", 2),
+    ("&=", 2),
+    ("%=", 2),
+    ("^=", 2),
+    ("+=", 2),
+    ("<=", 2),
+    ("==", 2),
+    (">=", 2),
+    ("|=", 2),
+    ("->", 2),
+    ("=>", 2),
+    (">>", 2),
+    ("<-", 2),
+    ("::", 2),
+    ("..", 2),
+    ("&&", 2),
+    ("<<", 2),
+    ("||", 2),
+    ("..+", 2),
+    ("===", 2),
+    ("<<<", 2),
+    ("&&=", 2),
+    ("....", 3),
+    (";;", 1),
+    (";+", 1),
+    ("-<", 1),
+    ("+.=", 1),
+    ("'a", 1),
+    ("$", 1),
+];
+
 #[test]
 fn operators_are_taken_together(rt: HostRuntime) -> Result<(), Fail> {
-    for (chars, taken) in [
-        ("...", 3),
-        ("..=", 3),
-        ("<<=", 3),
-        (">>=", 3),
-        ("-=", 2),
-        ("!=", 2),
-        ("*=", 2),
-        ("/=", 2),
-        ("&=", 2),
-        ("%=", 2),
-        ("^=", 2),
-        ("+=", 2),
-        ("<=", 2),
-        ("==", 2),
-        (">=", 2),
-        ("|=", 2),
-        ("->", 2),
-        ("=>", 2),
-        (">>", 2),
-        ("<-", 2),
-        ("::", 2),
-        ("..", 2),
-        ("&&", 2),
-        ("<<", 2),
-        ("||", 2),
-        ("..+", 2),
-        ("===", 2),
-        ("<<<", 2),
-        ("&&=", 2),
-        ("....", 3),
-        (";;", 1),
-        (";+", 1),
-        ("-<", 1),
-        ("+.=", 1),
-        ("'a", 1),
-        ("$", 1),
-    ] {
+    for (chars, taken) in &OPERATORS {
         let tree = puncts(rt.alloc(), chars, Spacing::Alone)?;
-        let mut iter = tree.iter();
-        let all = iter.remaining().len();
-        let Ok(glued) = iter.expect_glued_punct() else {
-            return Err(Fail::from("refused"));
-        };
-        assert_eq!(rt; glued.len(), taken, "{chars}");
-        assert_eq!(rt;
-            iter.remaining().len().saturating_add(taken),
-            all,
-            "{chars}"
-        );
-        for (punct, char) in glued.iter().zip(chars.chars()) {
-            assert_eq!(rt; punct.char, char, "{chars}");
-        }
+        assert!(rt; glued(&tree, chars) == Some(*taken), "{chars}");
     }
     Ok(())
 }
 
 #[test]
 fn lone_puncts_stay_apart(rt: HostRuntime) -> Result<(), Fail> {
-    let alloc = rt.alloc();
     for (first, second, taken) in [
         (Spacing::Alone, Spacing::Joint, 1),
         (Spacing::Joint, Spacing::Alone, 2),
         (Spacing::Joint, Spacing::Joint, 3),
     ] {
-        let mut builder = TopSubtreeBuilder::new(alloc, delimiter(DelimiterKind::Invisible))?;
-        builder.push(punct('.', first))?;
-        builder.push(punct('.', second))?;
-        builder.push(punct('=', Spacing::Joint))?;
-        let tree = builder.build();
-        let mut iter = tree.iter();
-        assert_eq!(rt;
-            iter.expect_glued_punct().map(|glued| glued.len()),
-            Ok(taken)
-        );
+        let parts = [
+            Part::Punct('.', first),
+            Part::Punct('.', second),
+            Part::Punct('=', Spacing::Joint),
+        ];
+        let tree = tree(rt.alloc(), &parts)?;
+        assert!(rt; glued(&tree, "..=") == Some(taken));
     }
     Ok(())
 }
@@ -112,11 +111,8 @@ fn a_front_that_is_no_punct_is_refused(rt: HostRuntime) -> Result<(), Fail> {
     let mut iter = tree.iter();
     assert!(rt; iter.expect_glued_punct().is_err());
     assert!(rt; iter.expect_single_punct().is_err());
-    assert_eq!(rt; iter.remaining().len(), 1);
+    assert!(rt; iter.remaining().len() == 1);
     let joint = puncts(rt.alloc(), ".", Spacing::Joint)?;
-    assert_eq!(rt;
-        joint.iter().expect_glued_punct().map(|glued| glued.len()),
-        Ok(1)
-    );
+    assert!(rt; glued(&joint, ".") == Some(1));
     Ok(())
 }

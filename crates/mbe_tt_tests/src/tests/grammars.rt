@@ -14,10 +14,10 @@ fn asked<G: FragmentGrammar>(grammar: &G, tokens: TokenTreesView<'_>) -> Result<
 fn a_grammar_is_handed_in(rt: HostRuntime) -> Result<(), Fail> {
     let tree = sample(rt.alloc())?;
     let front = asked(&Pairs, tree.iter().remaining())?;
-    assert_eq!(rt; (front.count, front.fault), (2, false));
+    assert!(rt; front.count == 2 && !front.fault);
     let nothing = TopSubtree::empty(rt.alloc(), DelimSpan::default())?;
     let front = asked(&Pairs, nothing.iter().remaining())?;
-    assert_eq!(rt; (front.count, front.fault), (0, true));
+    assert!(rt; front.count == 0 && front.fault);
     assert!(rt; Pairs.is_keyword("fn") && !Pairs.is_keyword("f"));
     Ok(())
 }

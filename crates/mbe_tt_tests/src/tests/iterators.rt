@@ -1,16 +1,187 @@
+use super::parts::{Part, tree};
 use super::views::sample;
-use crate::writing::{delimiter, ident, pass_by_savepoint, punct, span};
-use mbe_tt::tt::{DelimiterKind, Leaf, Spacing, TopSubtree, TopSubtreeBuilder, TtElement, TtIter};
-use std::alloc::{AllocError, Allocator};
+use crate::writing::{pass_by_savepoint, span};
+use mbe_tt::tt::{DelimiterKind, Leaf, Spacing, TopSubtree, TtElement, TtIter};
 use std::test::Fail;
 
-// The text of an identifier or a literal, or nothing.
-fn text<'a>(element: &'a TtElement<'_>) -> &'a str {
+// The text of an identifier or a literal; the char of a punct, and the brackets of a group, where the tests ask for them.
+pub fn text<'a>(element: &TtElement<'a>) -> &'a str {
     match element {
-        TtElement::Leaf(Leaf::Ident(ident)) => ident.sym.as_str(),
-        TtElement::Leaf(Leaf::Literal(literal)) => literal.text(),
-        _ => "",
+        TtElement::Leaf(leaf) => leaf_text(leaf),
+        TtElement::Subtree(group, _) => brackets(group.delimiter.kind),
     }
+}
+
+fn leaf_text<'a>(leaf: &'a Leaf) -> &'a str {
+    match leaf {
+        Leaf::Ident(ident) => ident.sym.as_str(),
+        Leaf::Literal(literal) => literal.text(),
+        Leaf::Punct(punct) => char_text(punct.char),
+    }
+}
+
+fn char_text(char: char) -> &'static str {
+    match char {
+        '+' => "+",
+        ',' => ",",
+        '$' => "$",
+        _ => "another punct",
+    }
+}
+
+fn brackets(kind: DelimiterKind) -> &'static str {
+    match kind {
+        DelimiterKind::Parenthesis => "()",
+        _ => "another group",
+    }
+}
+
+// A call of an iterator's.
+#[derive(Clone, Copy, Drop)]
+enum Asked {
+    Peek,
+    Next,
+    NextAsView,
+    Char(char),
+    AnyChar(char, char),
+    Dollar,
+    Comma,
+    Punct,
+    Group,
+    Leaf,
+    Ident,
+    IdentOrUnderscore,
+    Literal,
+}
+
+// The text of what the call answers, `done` where that is nothing, and `None` where it refuses.
+fn answer<'a>(iter: &mut TtIter<'a>, asked: Asked) -> Option<&'a str> {
+    match asked {
+        Asked::Peek => Some(text(&iter.peek()?)),
+        Asked::Next => Some(text(&iter.next()?)),
+        Asked::NextAsView => Some(text(&iter.next_as_view()?.iter().next()?)),
+        Asked::Char(char) => done(iter.expect_char(char)),
+        Asked::AnyChar(one, two) => done(iter.expect_any_char(&[one, two])),
+        Asked::Dollar => done(iter.expect_dollar()),
+        Asked::Comma => done(iter.expect_comma()),
+        Asked::Punct => Some(char_text(iter.expect_single_punct().ok()?.char)),
+        Asked::Group => Some(brackets(iter.expect_subtree().ok()?.0.delimiter.kind)),
+        Asked::Leaf => Some(leaf_text(iter.expect_leaf().ok()?)),
+        Asked::Ident => Some(iter.expect_ident().ok()?.sym.as_str()),
+        Asked::IdentOrUnderscore => Some(iter.expect_ident_or_underscore().ok()?.sym.as_str()),
+        Asked::Literal => Some(leaf_text(iter.expect_literal().ok()?)),
+    }
+}
+
+fn done(answer: Result<(), ()>) -> Option<&'static str> {
+    if answer.is_ok() { Some("done") } else { None }
+}
+
+// A call, what it answers, and how many trees are left then.
+type Row = (Asked, Option<&'static str>, usize);
+
+// The first of those calls, one after the other over the trees inside, that doesn't do as its row says.
+fn first_wrong(tree: &TopSubtree, rows: &[Row]) -> Option<usize> {
+    let mut iter = tree.iter();
+    for (place, (asked, want, left)) in rows.iter().enumerate() {
+        if answer(&mut iter, *asked) != *want
+            || iter.remaining().len() != *left
+            || iter.is_empty() != (*left == 0)
+        {
+            return Some(place);
+        }
+    }
+    None
+}
+
+static LEAVES: [Part; 7] = [
+    Part::Ident("a"),
+    Part::Ident("_"),
+    Part::Punct('+', Spacing::Joint),
+    Part::Punct(',', Spacing::Alone),
+    Part::Punct('$', Spacing::Alone),
+    Part::Ident("true"),
+    Part::Ident("false"),
+];
+
+static LEAVES_ROWS: [Row; 20] = [
+    (Asked::Literal, None, 7),
+    (Asked::Group, None, 7),
+    (Asked::Char('a'), None, 7),
+    (Asked::Punct, None, 7),
+    (Asked::Ident, Some("a"), 6),
+    (Asked::Ident, None, 6),
+    (Asked::IdentOrUnderscore, Some("_"), 5),
+    (Asked::IdentOrUnderscore, None, 5),
+    (Asked::Ident, None, 5),
+    (Asked::Char('-'), None, 5),
+    (Asked::Comma, None, 5),
+    (Asked::AnyChar('-', ','), None, 5),
+    (Asked::Dollar, None, 5),
+    (Asked::AnyChar('-', '+'), Some("done"), 4),
+    (Asked::Comma, Some("done"), 3),
+    (Asked::Dollar, Some("done"), 2),
+    (Asked::Literal, Some("true"), 1),
+    (Asked::Literal, Some("false"), 0),
+    (Asked::Literal, None, 0),
+    (Asked::Leaf, None, 0),
+];
+
+// Again from the beginning.
+static PUNCTS_ROWS: [Row; 4] = [
+    (Asked::Leaf, Some("a"), 6),
+    (Asked::Leaf, Some("_"), 5),
+    (Asked::Char('+'), Some("done"), 4),
+    (Asked::Punct, Some(","), 3),
+];
+
+#[test]
+fn leaves_are_expected(rt: HostRuntime) -> Result<(), Fail> {
+    let leaves = tree(rt.alloc(), &LEAVES)?;
+    assert_eq!(rt; first_wrong(&leaves, &LEAVES_ROWS), None);
+    assert_eq!(rt; first_wrong(&leaves, &PUNCTS_ROWS), None);
+    Ok(())
+}
+
+// Over `a (+ b) "s"`.
+static SAMPLE_ROWS: [Row; 8] = [
+    (Asked::Peek, Some("a"), 3),
+    (Asked::Group, None, 3),
+    (Asked::NextAsView, Some("a"), 2),
+    (Asked::Leaf, None, 2),
+    (Asked::Literal, None, 2),
+    (Asked::Group, Some("()"), 1),
+    (Asked::Literal, Some("s"), 0),
+    (Asked::Literal, None, 0),
+];
+
+static NEXT_ROWS: [Row; 6] = [
+    (Asked::Next, Some("a"), 2),
+    (Asked::Next, Some("()"), 1),
+    (Asked::Next, Some("s"), 0),
+    (Asked::Peek, None, 0),
+    (Asked::Next, None, 0),
+    (Asked::NextAsView, None, 0),
+];
+
+#[test]
+fn groups_and_literals_are_expected(rt: HostRuntime) -> Result<(), Fail> {
+    let sample = sample(rt.alloc())?;
+    assert_eq!(rt; first_wrong(&sample, &SAMPLE_ROWS), None);
+    assert_eq!(rt; first_wrong(&sample, &NEXT_ROWS), None);
+    Ok(())
+}
+
+#[test]
+fn a_group_comes_with_its_content(rt: HostRuntime) -> Result<(), Fail> {
+    let tree = sample(rt.alloc())?;
+    let mut iter = tree.iter();
+    assert!(rt; iter.expect_leaf().is_ok());
+    let Ok((_subtree, inside)) = iter.expect_subtree() else {
+        return Err(Fail::from("no group"));
+    };
+    assert!(rt; inside.remaining().len() == 2);
+    Ok(())
 }
 
 #[test]
@@ -18,22 +189,9 @@ fn each_tree_comes_once_and_in_order(rt: HostRuntime) -> Result<(), Fail> {
     let tree = sample(rt.alloc())?;
     let mut texts = Vec::new(rt.alloc());
     for element in tree.iter() {
-        let groups = matches!(element, TtElement::Subtree(_, _));
-        texts.push((groups, text(&element).len()))?;
+        texts.push(text(&element))?;
     }
-    assert_eq!(rt;
-        texts.as_slice(),
-        [(false, 1), (true, 0), (false, 1)].as_slice()
-    );
-    let mut iter = tree.iter();
-    let Some(first) = iter.peek() else {
-        return Err(Fail::from("no tree"));
-    };
-    assert_eq!(rt; text(&first), "a");
-    assert_eq!(rt; iter.remaining().len(), 3);
-    assert!(rt; iter.next().is_some() && iter.next().is_some() && iter.next().is_some());
-    assert!(rt; iter.is_empty() && iter.peek().is_none() && iter.next().is_none());
-    assert!(rt; iter.next_span().is_none() && iter.next_as_view().is_none());
+    assert!(rt; texts.as_slice() == ["a", "()", "s"].as_slice());
     Ok(())
 }
 
@@ -45,12 +203,12 @@ fn a_savepoint_marks_what_is_passed(rt: HostRuntime) -> Result<(), Fail> {
     let Some(first) = iter.next_as_view() else {
         return Err(Fail::from("no tree"));
     };
-    assert_eq!(rt; first.flat_len(), 1);
+    assert!(rt; first.flat_len() == 1);
     let Some(group) = pass_by_savepoint(&mut iter) else {
         return Err(Fail::from("no second tree"));
     };
-    assert_eq!(rt; group.flat_len(), 4);
-    assert_eq!(rt; copy.remaining().flat_len(), 6);
+    assert!(rt; group.flat_len() == 4);
+    assert!(rt; copy.remaining().flat_len() == 6);
     Ok(())
 }
 
@@ -60,95 +218,12 @@ fn spans_begin_trees(rt: HostRuntime) -> Result<(), Fail> {
     let mut iter = tree.iter();
     // An identifier stands at 3, the group opens at 1, a literal stands at 5.
     for start in [3, 1, 5] {
-        assert_eq!(rt; iter.next_span(), Some(span(start)));
+        assert!(rt; iter.next_span() == Some(span(start)));
         let Some(element) = iter.next() else {
             return Err(Fail::from("no tree"));
         };
-        assert_eq!(rt; element.first_span(), span(start));
+        assert!(rt; element.first_span() == span(start));
     }
-    Ok(())
-}
-
-// `a _ r + true "s"`, where the first is asked for by every call.
-fn leaves<A: Allocator + Copy>(alloc: A) -> Result<TopSubtree<A>, AllocError> {
-    let mut builder = TopSubtreeBuilder::new(alloc, delimiter(DelimiterKind::Brace))?;
-    builder.push(ident(alloc, "a")?)?;
-    builder.push(ident(alloc, "_")?)?;
-    builder.push(punct('+', Spacing::Joint))?;
-    builder.push(punct(',', Spacing::Alone))?;
-    builder.push(punct('$', Spacing::Alone))?;
-    builder.push(ident(alloc, "true")?)?;
-    builder.push(ident(alloc, "false")?)?;
-    Ok(builder.build())
-}
-
-#[test]
-fn identifiers_are_expected(rt: HostRuntime) -> Result<(), Fail> {
-    let tree = leaves(rt.alloc())?;
-    let mut iter = tree.iter();
-    assert!(rt; iter.expect_literal().is_err() && iter.expect_subtree().is_err());
-    assert!(rt; iter.expect_char('a').is_err() && iter.expect_single_punct().is_err());
-    assert_eq!(rt; iter.remaining().len(), 7);
-    assert!(rt;
-        iter.expect_ident()
-            .is_ok_and(|ident| ident.sym.as_str() == "a")
-    );
-    assert_eq!(rt; iter.remaining().len(), 6);
-    assert!(rt; iter.expect_ident().is_err());
-    assert_eq!(rt; iter.remaining().len(), 6);
-    assert!(rt;
-        iter.expect_ident_or_underscore()
-            .is_ok_and(|ident| ident.sym.as_str() == "_")
-    );
-    assert!(rt; iter.expect_ident_or_underscore().is_err() && iter.expect_ident().is_err());
-    assert_eq!(rt; iter.remaining().len(), 5);
-    Ok(())
-}
-
-#[test]
-fn puncts_are_expected(rt: HostRuntime) -> Result<(), Fail> {
-    let tree = leaves(rt.alloc())?;
-    let mut iter = tree.iter();
-    assert!(rt; iter.expect_leaf().is_ok() && iter.expect_leaf().is_ok());
-    assert!(rt; iter.expect_char('-').is_err() && iter.expect_comma().is_err());
-    assert!(rt; iter.expect_any_char(&['-', ',']).is_err() && iter.expect_dollar().is_err());
-    assert_eq!(rt; iter.remaining().len(), 5);
-    assert_eq!(rt; iter.expect_any_char(&['-', '+']), Ok(()));
-    assert_eq!(rt; iter.expect_comma(), Ok(()));
-    assert_eq!(rt; iter.expect_dollar(), Ok(()));
-    assert_eq!(rt; iter.remaining().len(), 2);
-    let mut again = tree.iter();
-    assert!(rt; again.expect_leaf().is_ok() && again.expect_leaf().is_ok());
-    assert_eq!(rt; again.expect_char('+'), Ok(()));
-    assert_eq!(rt;
-        again.expect_single_punct().map(|punct| punct.char),
-        Ok(',')
-    );
-    Ok(())
-}
-
-// Passes so many trees.
-fn passed<'a>(mut iter: TtIter<'a>, count: usize) -> TtIter<'a> {
-    for _ in 0..count {
-        let _tree = iter.next();
-    }
-    iter
-}
-
-#[test]
-fn literals_and_groups_are_expected(rt: HostRuntime) -> Result<(), Fail> {
-    let tree = leaves(rt.alloc())?;
-    let mut iter = passed(tree.iter(), 5);
-    assert!(rt; iter.expect_literal().is_ok() && iter.expect_literal().is_ok());
-    assert!(rt; iter.expect_literal().is_err() && iter.expect_leaf().is_err());
-    let other = sample(rt.alloc())?;
-    let mut iter = passed(other.iter(), 1);
-    assert!(rt; iter.expect_leaf().is_err() && iter.expect_literal().is_err());
-    let Ok((subtree, inside)) = iter.expect_subtree() else {
-        return Err(Fail::from("no group"));
-    };
-    assert_eq!(rt; subtree.delimiter.kind, DelimiterKind::Parenthesis);
-    assert_eq!(rt; inside.remaining().len(), 2);
-    assert!(rt; iter.expect_literal().is_ok() && iter.is_empty());
+    assert!(rt; iter.next_span().is_none());
     Ok(())
 }

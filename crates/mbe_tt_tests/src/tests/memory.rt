@@ -1,12 +1,23 @@
 use super::views::sample;
 use crate::writing::{delimiter, ident, write_parts};
-use mbe_tt::tt::{DelimiterKind, Leaf, TopSubtreeBuilder};
+use mbe_tt::tt::{DelimiterKind, Leaf, TokenTreesView, TopSubtree, TopSubtreeBuilder};
 use refusing::Refusing;
 use std::alloc::{AllocError, Allocator};
 use std::test::Fail;
 
 // Four parts have 1, 3, 6 and 6 flat tokens.
 const PARTS: usize = 28;
+
+// What a builder holds after as many parts as memory allows, up to so many, and how many they are.
+fn held<A: Allocator + Copy>(
+    alloc: A,
+    view: TokenTreesView<'_, A>,
+    limit: usize,
+) -> Result<(TopSubtree<A>, usize), AllocError> {
+    let mut builder = TopSubtreeBuilder::new(alloc, delimiter(DelimiterKind::Invisible))?;
+    let count = write_parts(&mut builder, alloc, view, limit);
+    Ok((builder.build(), count))
+}
 
 // The request of each number is refused in turn. What the builder holds then is what one without a refusal holds after as
 // many parts.
@@ -19,26 +30,22 @@ fn a_builder_keeps_what_it_held(rt: HostRuntime) -> Result<(), Fail> {
             continue;
         };
         let view = source.iter().remaining();
-        let Ok(mut builder) = TopSubtreeBuilder::new(&alloc, delimiter(DelimiterKind::Invisible))
-        else {
+        let Ok((built, count)) = held(&alloc, view, PARTS) else {
             assert!(rt; alloc.has_refused(), "at {number}");
             continue;
         };
-        let count = write_parts(&mut builder, &alloc, view, PARTS);
-        let built = builder.build();
         if !alloc.has_refused() {
-            assert_eq!(rt; count, PARTS);
-            assert_eq!(rt; built.view().flat_len(), 114);
+            assert!(rt; count == PARTS);
+            assert!(rt; built.view().flat_len() == 114);
             // Every identifier and literal, and each of the two buffers, is a request at least.
             assert!(rt; number > 19, "only {number} requests");
             return Ok(());
         }
         assert!(rt; count < PARTS, "at {number}");
         // The allocator refuses nothing more.
-        let mut other = TopSubtreeBuilder::new(&alloc, delimiter(DelimiterKind::Invisible))?;
-        let again = write_parts(&mut other, &alloc, view, count);
-        assert_eq!(rt; again, count, "at {number}");
-        assert!(rt; built == other.build(), "at {number}");
+        let (other, again) = held(&alloc, view, count)?;
+        assert!(rt; again == count, "at {number}");
+        assert!(rt; built == other, "at {number}");
     }
     Err(Fail::from("it goes on"))
 }
@@ -83,7 +90,7 @@ fn leaves_are_written_all_or_none(rt: HostRuntime) -> Result<(), Fail> {
         let written = builder.extend(leaves);
         let tree = builder.build();
         if written.is_ok() {
-            assert_eq!(rt; tree.iter().remaining().len(), 20);
+            assert!(rt; tree.iter().remaining().len() == 20);
             return Ok(());
         }
         assert!(rt;

@@ -1,18 +1,21 @@
-use crate::writing::{delimiter, ident, literal, punct, span};
+use super::parts::{Part, tree};
+use crate::writing::{delimiter, span};
 use mbe_tt::tt::{DelimiterKind, Spacing, TopSubtree, TopSubtreeBuilder};
 use std::alloc::{AllocError, Allocator};
 use std::test::Fail;
 
+static SAMPLE: [Part; 6] = [
+    Part::Ident("a"),
+    Part::Open(DelimiterKind::Parenthesis),
+    Part::Punct('+', Spacing::Joint),
+    Part::Ident("b"),
+    Part::Close(2),
+    Part::Text("s"),
+];
+
 // `a (+ b) "s"`, inside braces.
 pub fn sample<A: Allocator + Copy>(alloc: A) -> Result<TopSubtree<A>, AllocError> {
-    let mut builder = TopSubtreeBuilder::new(alloc, delimiter(DelimiterKind::Brace))?;
-    builder.push(ident(alloc, "a")?)?;
-    builder.open(DelimiterKind::Parenthesis, span(1))?;
-    builder.push(punct('+', Spacing::Joint))?;
-    builder.push(ident(alloc, "b")?)?;
-    builder.close(span(2));
-    builder.push(literal(alloc, "s")?)?;
-    Ok(builder.build())
+    tree(alloc, &SAMPLE)
 }
 
 // A group of each kind, round the trees of the sample.
@@ -32,15 +35,12 @@ fn wrapped<A: Allocator + Copy>(
 #[test]
 fn flat_tokens_are_leaves_openings_and_closings(rt: HostRuntime) -> Result<(), Fail> {
     let tree = sample(rt.alloc())?;
-    assert_eq!(rt; tree.view().len(), 1);
-    assert_eq!(rt; tree.view().flat_len(), 8);
+    assert!(rt; tree.view().len() == 1);
+    assert!(rt; tree.view().flat_len() == 8);
     let inside = tree.iter().remaining();
-    assert_eq!(rt; inside.len(), 3);
-    assert_eq!(rt; inside.flat_len(), 6);
-    assert_eq!(rt;
-        tree.top_subtree().delimiter,
-        delimiter(DelimiterKind::Brace)
-    );
+    assert!(rt; inside.len() == 3);
+    assert!(rt; inside.flat_len() == 6);
+    assert!(rt; tree.top_subtree().delimiter == delimiter(DelimiterKind::Brace));
     Ok(())
 }
 
@@ -73,8 +73,8 @@ fn a_view_of_one_group_is_a_group(rt: HostRuntime) -> Result<(), Fail> {
     let Some(group) = tree.view().try_into_subtree() else {
         return Err(Fail::from("no group"));
     };
-    assert_eq!(rt; group.top_subtree().delimiter.kind, DelimiterKind::Brace);
-    assert_eq!(rt; group.iter().remaining().len(), 3);
+    assert!(rt; group.top_subtree().delimiter.kind == DelimiterKind::Brace);
+    assert!(rt; group.iter().remaining().len() == 3);
     assert!(rt; Some(group) == tree.view().try_into_subtree());
     let mut iter = tree.iter();
     let Some(leaf) = iter.next_as_view() else {

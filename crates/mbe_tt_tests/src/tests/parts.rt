@@ -1,0 +1,56 @@
+// Trees written from lists of flat tokens, which a table can hold.
+ghost use Rattle.std.specs.Prelude.{◌≡◌, ◌<◌, length, OnOk};
+
+use crate::writing::{delimiter, ident, literal, punct, span};
+use mbe_tt::tt::{DelimiterKind, Spacing, TopSubtree, TopSubtreeBuilder};
+use std::alloc::{AllocError, Allocator};
+
+/// A flat token. Groups open at 1, and close at a place of their own.
+#[derive(Clone, Copy, Drop)]
+pub enum Part {
+    Ident(&'static str),
+    Text(&'static str),
+    Punct(char, Spacing),
+    Open(DelimiterKind),
+    Close(u8),
+}
+
+/// Writes the parts. A closing without an opening is left out, and what is open at the end is closed at 2.
+#[tactic(auto, using(mbe_tt::proofs::OpenGroups::put_length, mbe_tt::proofs::OpenGroups::closed_length))]
+pub fn write<A: Allocator + Copy>(
+    builder: &mut TopSubtreeBuilder<A>,
+    alloc: A,
+    parts: &[Part],
+) -> Result<(), AllocError>
+    requires { 0 < length builder.old }
+    ensures { OnOk result (length builder.new ≡ length builder.old) }
+{
+    let mut open = 0usize;
+    for part in parts {
+        match *part {
+            Part::Ident(text) => builder.push(ident(alloc, text)?)?,
+            Part::Text(text) => builder.push(literal(alloc, text)?)?,
+            Part::Punct(char, spacing) => builder.push(punct(char, spacing))?,
+            Part::Open(kind) => {
+                builder.open(kind, span(1))?;
+                open += 1;
+            }
+            Part::Close(at) if open > 0 => {
+                builder.close(span(u32::from(at)));
+                open -= 1;
+            }
+            Part::Close(_) => {}
+        }
+    }
+    for _left in 0..open {
+        builder.close(span(2));
+    }
+    Ok(())
+}
+
+/// The parts, inside braces.
+pub fn tree<A: Allocator + Copy>(alloc: A, parts: &[Part]) -> Result<TopSubtree<A>, AllocError> {
+    let mut builder = TopSubtreeBuilder::new(alloc, delimiter(DelimiterKind::Brace))?;
+    write(&mut builder, alloc, parts)?;
+    Ok(builder.build())
+}
