@@ -67,8 +67,7 @@ impl<A: Allocator + Copy> DeclarativeMacro<A> {
     /// A rule is an optional `unsafe`, an optional `attr` or `derive` with a group behind it, the pattern's group, `=>`, and
     /// the template's group. The answer keeps the rules before the first fault, and tells that fault by `err`. Where a
     /// pattern that was kept has a repetition without separator whose body can read nothing, `err` is
-    /// `RepetitionEmptyTokenTree` in place of any other. The only failure is
-    /// want of memory.
+    /// `RepetitionEmptyTokenTree` in place of any other. The only failure is want of memory.
     ///
     /// The grammar is that of the Rust Reference ("Macros By Example") as rust-analyzer reads it; that a stray token behind
     /// a rule is always told, and that every repetition without separator that can read nothing is refused, is this
@@ -157,8 +156,8 @@ impl<A: Allocator + Copy> DeclarativeMacro<A> {
     /// failure is want of memory, here or in the grammar; the macro and the argument are as they were in each case.
     ///
     /// The order of trying is rust-analyzer's: a rule that fits but whose substitution faults doesn't stop the search, as
-    /// it does in the Rust Reference. A rule whose template names a variable of kind `expr` or `path` is passed over, since
-    /// these aren't written yet.
+    /// it does in the Rust Reference. A rule with a repetition or a metavariable expression, or whose template names a
+    /// variable of kind `expr` or `path`, is passed over as one that doesn't fit, since these aren't expanded yet.
     pub fn expand<G: FragmentGrammar, M: Fn(Span) -> Span + Copy>(
         &self,
         alloc: A,
