@@ -9,10 +9,10 @@ use Rattle.std.proofs.lemmas.Bool.Decides.{nat_tests}
 use Rattle.bitflags.specs.Sets.{known_bits}
 use Rattle.bitflags.proofs.OnLiterals.{bitflags_on_literals}
 use Rattle.std.proofs.lemmas.List.Folds.{list_any-append}
-use Rattle.mbe.specs.declared.macro_call_style.MacroCallStyle.{MacroCallStyle}
-use Rattle.mbe.specs.declared.macro_call_style.MacroCallStyle.TheVariants.{FnLike, Attr, Derive}
-use Rattle.mbe.specs.Definition.{Rule}
-use Rattle.mbe.specs.Macro.{is_fn_like, is_attr, is_derive, style_bits as bits_of_rules}
+use Rattle.mbe_semantics.specs.declared.macro_call_style.MacroCallStyle.{MacroCallStyle}
+use Rattle.mbe_semantics.specs.declared.macro_call_style.MacroCallStyle.TheVariants.{FnLike, Attr, Derive}
+use Rattle.mbe_semantics.specs.Definition.{Rule}
+use Rattle.mbe_semantics.specs.Macro.{is_fn_like, is_attr, is_derive, style_bits as bits_of_rules}
 use Rattle.mbe.specs.Styles.{bit_of, style_table, StyleBits}
 
 known_is_7 : known_bits style_table ≡ 7

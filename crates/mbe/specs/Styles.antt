@@ -2,8 +2,8 @@
 use Rattle.std.specs.Prelude.{◌≡◌, ◌≢◌, ◌<◌, ◌≤◌, ◌-◌, ◌%◌, ◌^◌, ◌==◌, ℕ, List, [], ◌∷◌, codes}
 use Rattle.std.specs.Int.RustNames.{bit_and, bit_or}
 use Rattle.bitflags.specs.Sets.{known_bits}
-use Rattle.mbe.specs.declared.macro_call_style.MacroCallStyle.{MacroCallStyle}
-use Rattle.mbe.specs.declared.macro_call_style.MacroCallStyle.TheVariants.{FnLike, Attr, Derive}
+use Rattle.mbe_semantics.specs.declared.macro_call_style.MacroCallStyle.{MacroCallStyle}
+use Rattle.mbe_semantics.specs.declared.macro_call_style.MacroCallStyle.TheVariants.{FnLike, Attr, Derive}
 use Rattle.mbe.specs.declared.macro_call_style.MacroCallStyles.{MacroCallStyles}
 
 -- the one bit of a style

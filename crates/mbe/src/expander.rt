@@ -1,69 +1,22 @@
 // The choice of the rule.
 ghost use Rattle.std.specs.Prelude.{◌≡◌, IfOk};
 ghost use Rattle.mbe_tt.specs.Top.{top_group};
-ghost use Rattle.mbe_tt.specs.View.{trees};
-ghost use Rattle.mbe.specs.Answer.{Answers, AreCarried, IsCarried, IsTried};
-ghost use Rattle.mbe.specs.ErrorViews.{errors_of};
-ghost use Rattle.mbe.specs.Item.{style_of};
-ghost use Rattle.mbe.specs.Views.{fragment_seen, rule_of, rules_seen};
-ghost use Rattle.mbe.specs.Marking.{MayMark};
+ghost use Rattle.mbe_semantics.specs.Answer.{Answers, AreCarried, IsCarried, IsTried};
+ghost use Rattle.mbe_errors.specs.ErrorViews.{errors_of};
+ghost use Rattle.mbe_parser.specs.RuleViews.{rule_of, rules_seen};
+ghost use Rattle.mbe_semantics.specs.Marking.{MayMark};
 
-pub(crate) mod delimited;
-pub(crate) mod matcher;
-pub(crate) mod transcriber;
-
-use crate::error::{ExpandError, ExpandErrorKind};
-use crate::expander::transcriber::WriteError;
-use crate::macro_call_style::MacroCallStyle;
-use crate::macros::Rule;
-use crate::parser::MetaVarKind;
-use crate::value_result::{ExpandResult, MatchedArmIndex, ValueResult};
+use mbe_errors::error::{ExpandError, ExpandErrorKind};
+use mbe_errors::value_result::{ExpandResult, MatchedArmIndex, ValueResult};
+use mbe_matcher::matcher;
+use mbe_parser::rules::Rule;
+use mbe_semantics::macro_call_style::MacroCallStyle;
+use mbe_transcriber::transcriber;
+use mbe_transcriber::transcriber::WriteError;
 use mbe_tt::buffer::TopSubtree;
 use mbe_tt::grammar::FragmentGrammar;
 use mbe_tt::span::{DelimSpan, Span};
-use mbe_tt::view::TokenTreesView;
-use std::alloc::{AllocError, Allocator, Global};
-
-/// The trees that a variable took, by the way that they are written. `vis` may take none.
-#[derive_where(Clone, Copy, Debug)]
-pub(crate) enum Fragment<'a, A: Allocator = Global> {
-    Tokens {
-        tree: TokenTreesView<'a, A>,
-        origin: TokensOrigin,
-    },
-    Expr(TokenTreesView<'a, A>),
-    Path(TokenTreesView<'a, A>),
-}
-
-/// Whether tokens were taken as such, or because the grammar found a fragment in them. Only the first are written without
-/// an invisible group around them.
-#[derive(Clone, Copy, Debug, PartialEq, Eq)]
-pub(crate) enum TokensOrigin {
-    Raw,
-    Ast,
-}
-
-impl<'a, A: Allocator> Fragment<'a, A> {
-    // What a variable of the kind took.
-    fn of_kind(kind: Option<MetaVarKind>, tree: TokenTreesView<'a, A>) -> Fragment<'a, A>
-        ensures { fragment_seen result ≡ record { trees = trees tree.entry; style = style_of kind } }
-    {
-        match kind {
-            Some(MetaVarKind::Expr(_)) => Fragment::Expr(tree),
-            Some(MetaVarKind::Path) => Fragment::Path(tree),
-            Some(
-                MetaVarKind::Ident | MetaVarKind::Tt | MetaVarKind::Lifetime | MetaVarKind::Literal,
-            ) => Fragment::Tokens {
-                tree,
-                origin: TokensOrigin::Raw,
-            },
-            _ => Fragment::Tokens {
-                tree,
-                origin: TokensOrigin::Ast,
-            },
-        }
-    }
-}
+use std::alloc::{AllocError, Allocator};
 
 // The substitution of the first rule of the style that fits and doesn't fault.
 pub(crate) fn expand_rules<A: Allocator + Copy, G: FragmentGrammar, M: Fn(Span) -> Span + Copy>(

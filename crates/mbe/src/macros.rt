@@ -1,31 +1,26 @@
 // Macro definitions.
-ghost use Rattle.std.specs.Prelude.{◌≡◌, ◌<◌, [], length, option_map, Some, IfOk, IfErr, OnOk, if◌then◌else◌};
-ghost use Rattle.mbe_tt.specs.Tree.{Forest, flat_len, rest_of};
-ghost use Rattle.mbe.specs.Definition.{outline_at, pattern_at, with_refusal, AreParts, PartsFault};
-ghost use Rattle.mbe.specs.Reader.{fault_of, is_word, IsStyled, IsOutlined, ReadsRule, RuleFault, AreRules, IsOneRule, Stops};
-ghost use Rattle.mbe.specs.Views.{rule_of, rules_seen};
-ghost use Rattle.mbe.specs.ErrorViews.{parse_error_of, errors_of};
-ghost use Rattle.mbe.specs.Answer.{Answers, AreCarried};
-ghost use Rattle.mbe.specs.Macro.{style_bits, TellsRefusal, IsChecked};
+ghost use Rattle.std.specs.Prelude.{◌≡◌, [], length, option_map, Some, IfOk};
+ghost use Rattle.mbe_semantics.specs.Definition.{with_refusal};
+ghost use Rattle.mbe_errors.specs.ErrorViews.{fault_of};
+ghost use Rattle.mbe_parser.specs.RuleViews.{rules_seen};
+ghost use Rattle.mbe_errors.specs.ErrorViews.{parse_error_of, errors_of};
+ghost use Rattle.mbe_semantics.specs.Answer.{Answers, AreCarried};
+ghost use Rattle.mbe_semantics.specs.Macro.{style_bits, TellsRefusal, IsChecked};
 ghost use Rattle.mbe.specs.Styles.{bits_of};
-ghost use Rattle.mbe.specs.declared.macro_call_style.MacroCallStyle.{MacroCallStyle as SpecStyle};
 ghost use Rattle.mbe_tt.specs.Top.{top_group};
-ghost use Rattle.mbe.specs.Marking.{MayMark, MayAsk};
+ghost use Rattle.mbe_semantics.specs.Marking.{MayMark, MayAsk};
 
-mod validate;
-
-use crate::error::{Fault, ParseError, ReadError};
 use crate::expander::expand_rules;
-use crate::macro_call_style::{MacroCallStyle, MacroCallStyles};
-use crate::macros::validate::refuses_some;
-use crate::parser::{MetaTemplate, Mode};
-use crate::value_result::{ExpandResult, MatchedArmIndex};
+use crate::macro_call_style::MacroCallStyles;
 use bitflags::Flags;
+use mbe_errors::error::{Fault, ParseError};
+use mbe_errors::value_result::{ExpandResult, MatchedArmIndex};
+use mbe_parser::rules::{Rule, parse_one_rule, parse_rules};
+use mbe_parser::validate::refuses_some;
+use mbe_semantics::macro_call_style::MacroCallStyle;
 use mbe_tt::buffer::TopSubtree;
 use mbe_tt::grammar::FragmentGrammar;
-use mbe_tt::iter::{TtElement, TtIter};
 use mbe_tt::span::{Edition, Span, SyntaxContext};
-use mbe_tt::tt::Leaf;
 use std::alloc::{AllocError, Allocator, Global};
 
 /// A macro definition that was read: its rules, up to the first fault, and that fault (as in rust-analyzer).
@@ -38,16 +33,9 @@ pub struct DeclarativeMacro<A: Allocator = Global> {
     ghost tells_refusal: { TellsRefusal (record { rules = rules_seen rules.items; err = option_map parse_error_of err }) },
 }
 
-/// A rule of a definition.
-#[derive(Drop)]
-pub(crate) struct Rule<A: Allocator = Global> {
-    pub(crate) style: MacroCallStyle,
-    pub(crate) lhs: MetaTemplate<A>,
-    pub(crate) rhs: MetaTemplate<A>,
-}
-
 impl<A: Allocator + Copy> DeclarativeMacro<A> {
-    ghost use Rattle.mbe.specs.MacroViews.{macro_of, IsReadAs, IsReadAsMacro};
+    ghost use Rattle.mbe.specs.MacroViews.{macro_of};
+    ghost use Rattle.mbe_semantics.specs.ReadAs.{IsReadAs, IsReadAsMacro};
 
     /// A macro without rules, which tells the error: that of a definition whose rules can't even be found.
     pub fn from_err(alloc: A, err: ParseError<A>) -> DeclarativeMacro<A>
@@ -214,145 +202,4 @@ impl<A: Allocator> DeclarativeMacro<A> {
         }
         styles
     }
-}
-
-// The rules that the chars separate, up to the first fault, and that fault.
-fn parse_rules<A: Allocator + Copy, E: Copy + Fn(SyntaxContext) -> Edition>(
-    alloc: A,
-    ctx_edition: E,
-    src: TtIter<'_, A>,
-    separators: &[char],
-    missing: Fault,
-) -> Result<(Vec<Rule<A>, A>, Option<Fault>), AllocError>
-    requires { MayAsk (E.pre ctx_edition) }
-    ensures { IfOk result (λ r. AreRules (E.post ctx_edition) separators.now (fault_of missing) src.entry (rules_seen r.0.items) r.1) }
-{
-    let mut src = src;
-    let mut rules = Vec::new(alloc);
-    'rules: while !src.is_empty() {
-        match Rule::parse(alloc, ctx_edition, &mut src) {
-            Ok(rule) => rules.push(rule)?,
-            Err(error) => {
-                let fault = error.fault()?;
-                return Ok((rules, Some(fault)));
-            }
-        }
-        let Ok(()) = src.expect_any_char(separators) else {
-            if src.is_empty() {
-                return Ok((rules, None));
-            }
-            return Ok((rules, Some(missing)));
-        };
-    }
-    Ok((rules, None))
-}
-
-// The rule of a `macro` with arguments, or its first fault.
-fn parse_one_rule<A: Allocator + Copy, E: Copy + Fn(SyntaxContext) -> Edition>(
-    alloc: A,
-    ctx_edition: E,
-    args: TtIter<'_, A>,
-    body: TtIter<'_, A>,
-) -> Result<(Vec<Rule<A>, A>, Option<Fault>), AllocError>
-    requires { MayAsk (E.pre ctx_edition) }
-    ensures { IfOk result (λ r. IsOneRule (E.post ctx_edition) args.entry body.entry (rules_seen r.0.items) r.1) }
-{
-    let mut rules = Vec::new(alloc);
-    match Rule::of_parts(alloc, ctx_edition, MacroCallStyle::FnLike, args, body) {
-        Ok(rule) => rules.push(rule)?,
-        Err(error) => {
-            let fault = error.fault()?;
-            return Ok((rules, Some(fault)));
-        }
-    }
-    Ok((rules, None))
-}
-
-impl<A: Allocator + Copy> Rule<A> {
-    fn parse<E: Copy + Fn(SyntaxContext) -> Edition>(
-        alloc: A,
-        ctx_edition: E,
-        src: &mut TtIter<'_, A>,
-    ) -> Result<Rule<A>, ReadError>
-        requires { MayAsk (E.pre ctx_edition) }
-        ensures rule { IfOk result (λ r. ReadsRule (E.post ctx_edition) src.old (rule_of r) src.new) }
-        ensures fault { IfErr result (λ e. Stops e (λ f. RuleFault (E.post ctx_edition) f src.old)) }
-        ensures shorter { OnOk result (flat_len src.new < flat_len src.old) }
-    {
-        let style = parse_rule_style(src)?;
-        let (pattern, template) = rule_groups(src)?;
-        Rule::of_parts(alloc, ctx_edition, style, pattern, template)
-    }
-
-    // The rule of a pattern and a template. The pattern is read first.
-    fn of_parts<E: Copy + Fn(SyntaxContext) -> Edition>(
-        alloc: A,
-        ctx_edition: E,
-        style: MacroCallStyle,
-        pattern: TtIter<'_, A>,
-        template: TtIter<'_, A>,
-    ) -> Result<Rule<A>, ReadError>
-        requires { MayAsk (E.pre ctx_edition) }
-        ensures rule { IfOk result (λ r. (back : Forest)
-            → AreParts (E.post ctx_edition) (record { style = style; reads = pattern.entry; writes = template.entry; back = back }) (rule_of r)) }
-        ensures fault { IfErr result (λ e. Stops e (λ f. (back : Forest)
-            → PartsFault (E.post ctx_edition) (record { style = style; reads = pattern.entry; writes = template.entry; back = back }) f)) }
-    {
-        let lhs = MetaTemplate::parse(alloc, ctx_edition, pattern, Mode::Pattern)?;
-        let rhs = MetaTemplate::parse(alloc, ctx_edition, template, Mode::Template)?;
-        Ok(Rule { style, lhs, rhs })
-    }
-}
-
-// The call that a rule is for: `attr` or `derive` and a group, or else a function-like call. An `unsafe` may stand before.
-fn parse_rule_style<A: Allocator>(src: &mut TtIter<'_, A>) -> Result<MacroCallStyle, Fault>
-    ensures { IsStyled result (outline_at src.old) src.new }
-{
-    let _unsafe = eat_word(src, "unsafe");
-    let style = if eat_word(src, "attr") {
-        MacroCallStyle::Attr
-    } else if eat_word(src, "derive") {
-        MacroCallStyle::Derive
-    } else {
-        return Ok(MacroCallStyle::FnLike);
-    };
-    let Ok(_arguments) = src.expect_subtree() else {
-        return Err(Fault::ExpectedParentheses);
-    };
-    Ok(style)
-}
-
-// Passes the identifier of that text, raw or not, where it is in front.
-fn eat_word<A: Allocator>(src: &mut TtIter<'_, A>, word: &str) -> bool
-    ensures value { result ≡ is_word word.now src.old }
-    ensures rest { src.new ≡ (if result then rest_of src.old else src.old) }
-{
-    if let Some(TtElement::Leaf(Leaf::Ident(ident))) = src.peek()
-        && ident.sym.as_str() == word
-    {
-        let _passed = src.next();
-        return true;
-    }
-    false
-}
-
-// The trees of a rule's pattern and of its template.
-fn rule_groups<'a, A: Allocator>(
-    src: &mut TtIter<'a, A>,
-) -> Result<(TtIter<'a, A>, TtIter<'a, A>), Fault>
-    ensures { (style : SpecStyle) → IsOutlined style result (pattern_at style src.old) src.new }
-{
-    let Ok((_subtree, pattern)) = src.expect_subtree() else {
-        return Err(Fault::ExpectedSubtree);
-    };
-    let Ok(()) = src.expect_char('=') else {
-        return Err(Fault::ExpectedEquals);
-    };
-    let Ok(()) = src.expect_char('>') else {
-        return Err(Fault::ExpectedGreater);
-    };
-    let Ok((_subtree, template)) = src.expect_subtree() else {
-        return Err(Fault::ExpectedSubtree);
-    };
-    Ok((pattern, template))
 }

@@ -1,6 +1,6 @@
 use Rattle.std.proofs.Common.{take}
-use Rattle.mbe.specs.Answer.{NoneApplies, AreCarried}
-use Rattle.mbe.specs.Views.{rules_seen}
+use Rattle.mbe_semantics.specs.Answer.{NoneApplies, AreCarried}
+use Rattle.mbe_parser.specs.RuleViews.{rules_seen}
 use Rattle.mbe.proofs.expander.expand_rules.Given as goal
 
 abbrev pub invariant-loop-idx : goal.invariant-loop-idx

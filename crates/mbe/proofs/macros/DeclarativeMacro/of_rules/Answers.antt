@@ -1,8 +1,8 @@
 use Rattle.std.proofs.Common.{ap, sym, ◌∙◌}
 use Rattle.std.specs.List.{list_any}
 use Rattle.std.proofs.lemmas.Bool.{false≢true}
-use Rattle.mbe.specs.Views.{rules_seen}
-use Rattle.mbe.proofs.RefusalLemmas.{refused_reads}
+use Rattle.mbe_parser.specs.RuleViews.{rules_seen}
+use Rattle.mbe_parser.proofs.RefusalLemmas.{refused_reads}
 use Rattle.mbe.proofs.macros.DeclarativeMacro.of_rules.Goals as goal
 
 pub invariant_of-result-2 : goal.invariant_of-result-2

@@ -1,7 +1,7 @@
 use Rattle.std.proofs.lemmas.Result.{IfOk-weaker}
-use Rattle.mbe.specs.Views.{rules_seen}
+use Rattle.mbe_parser.specs.RuleViews.{rules_seen}
 use Rattle.mbe.specs.MacroViews.{macro_of}
-use Rattle.mbe.proofs.RuleReading.{read_as_body, read_as_one}
+use Rattle.mbe_parser.proofs.RuleReading.{read_as_body, read_as_one}
 use Rattle.mbe.proofs.macros.DeclarativeMacro.parse_macro2.Goals as goal
 
 pub returns-in_ok-rules-in-Some : goal.returns-in_ok-rules-in-Some

@@ -1,10 +1,10 @@
 use Rattle.std.proofs.Common.{◌≡◌, ◌+◌, ◌<◌, ◌++◌, ◌∷◌, [], ℕ, List, refl, length, get_or, ap, sym, subst, ◌∙◌, take, rules}
 use Rattle.std.specs.Int.RustNames.{bit_or}
 use Rattle.std.proofs.lemmas.List.{take_more, take_all}
-use Rattle.mbe.specs.declared.macros.Rule as code
+use Rattle.mbe_parser.specs.declared.rules.Rule as code
 use Rattle.mbe.specs.Styles.{bits_of, bit_of}
-use Rattle.mbe.specs.Views.{rule_of, rules_seen}
-use Rattle.mbe.proofs.RuleReading.{rules-push}
+use Rattle.mbe_parser.specs.RuleViews.{rule_of, rules_seen}
+use Rattle.mbe_parser.proofs.RuleReading.{rules-push}
 use Rattle.mbe.proofs.StyleLemmas.{styles_of, styles_push, styles_whole}
 use Rattle.mbe.proofs.macros.DeclarativeMacro.rule_styles.Goals as goal
 

@@ -1,6 +1,6 @@
 use Rattle.std.proofs.Common.{◌≡◌, take}
 use Rattle.mbe.specs.Styles.{bits_of}
-use Rattle.mbe.specs.Views.{rules_seen}
+use Rattle.mbe_parser.specs.RuleViews.{rules_seen}
 use Rattle.mbe.proofs.StyleLemmas.{styles_of}
 use Rattle.mbe.proofs.macros.DeclarativeMacro.rule_styles.Given as goal
 

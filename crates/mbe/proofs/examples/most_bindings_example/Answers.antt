@@ -1,5 +1,0 @@
-use Rattle.mbe.proofs.FurtherExampleLemmas.{most_bindings_example}
-use Rattle.mbe.proofs.examples.most_bindings_example.Goals as goal
-
-pub returns : goal.returns
-returns c = most_bindings_example

@@ -1,5 +1,0 @@
-use Rattle.mbe.proofs.FurtherExampleLemmas.{sign_example}
-use Rattle.mbe.proofs.examples.sign_example.Goals as goal
-
-pub returns : goal.returns
-returns c = sign_example

@@ -1,5 +1,0 @@
-use Rattle.mbe.proofs.CommandLemmas.{commands_bind_alike}
-use Rattle.mbe.proofs.laws.commands_bind_alike.Goals as goal
-
-pub returns : goal.returns
-returns c = commands_bind_alike

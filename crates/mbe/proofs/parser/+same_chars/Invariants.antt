@@ -1,5 +1,0 @@
-use Rattle.std.proofs.Common.{length}
-use Rattle.mbe.proofs.parser.+same_chars.Given as goal
-
-abbrev pub decreases-same_chars : goal.decreases-same_chars
-decreases-same_chars l = length l.one.now

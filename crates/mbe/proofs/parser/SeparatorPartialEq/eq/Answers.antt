@@ -1,6 +1,0 @@
-use Rattle.mbe_tt.specs.Same.{same_by}
-use Rattle.mbe.specs.Equality.{text_code}
-use Rattle.mbe.proofs.parser.SeparatorPartialEq.eq.Goals as goal
-
-pub returns : goal.returns
-returns g c = same_by text_code _ _ _ c.same_separator.ensures

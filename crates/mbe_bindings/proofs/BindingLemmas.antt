@@ -1,0 +1,144 @@
+-- What names lead to in environments that differ in order alone, and in what a match binds.
+use Rattle.std.proofs.Common.{◌≡◌, Bool, true, false, List, [], ◌∷◌, Option, Some, None, if◌then◌else◌, option_map, refl, sym, ap, subst, ◌∙◌}
+use Rattle.std.specs.Str.{bytes_eq}
+use Rattle.std.specs.Map.{lookup}
+use Rattle.std.proofs.lemmas.Slice.Eq.{bytes_eq-Decides}
+use Rattle.mbe_bindings.specs.declared.bindings.Fragment as took
+use Rattle.mbe_bindings.specs.declared.bindings.Fragment.{Fragment}
+use Rattle.mbe_bindings.specs.declared.bindings.Bindings.{Bindings}
+use Rattle.mbe_bindings.specs.BindingViews.{fragment_seen, bound_by}
+use Rattle.std.specs.Prelude.{map}
+use Rattle.std.specs.Cmp.Lexicographic.{nat_list_eq_equiv}
+use Rattle.mbe_semantics.specs.Op.{Name}
+use Rattle.mbe_semantics.specs.Item.{Item, matched, bound, grouped, skipped, rounds, Items, no_items, item, Rounds, no_rounds, round}
+use Rattle.mbe_semantics.specs.Environment.{Environment, Value, fragment, list, empty, missing, value_of, set_value, grown, add_round, skip_names, bind_item, bind, bind_rounds}
+use Rattle.mbe_semantics.specs.Environment.{BindsAlike}
+
+-- ---- what a name is bound to
+
+-- what a variable took, as the value that it is
+abbrev pub taken_value : {A : Type 0} → took.Fragment A → Value
+taken_value x = fragment (fragment_seen x)
+
+abbrev pub values_taken : {A : Type 0} → List (Name × took.Fragment A) → Environment
+values_taken es = map (λ e. (e.0, taken_value e.1)) es
+
+taken_if : {A : Type 0} (b c : Bool) (x : took.Fragment A) (r : Option (took.Fragment A)) (w : Option Value) → b ≡ c → option_map taken_value r ≡ w
+    → option_map taken_value (if b then Some x else r) ≡ (if c then Some (taken_value x) else w)
+taken_if true c x r w e h = rw (← e) refl
+taken_if false c x r w e h = rw (← e) h
+
+pub found_by_name : {A : Type 0} (es : List (Name × took.Fragment A)) (name : Name) → option_map taken_value (lookup (bytes_eq name) es) ≡ value_of (values_taken es) name
+found_by_name [] name = refl
+found_by_name (e ∷ es) name = taken_if (bytes_eq name e.0) (bytes_eq e.0 name) e.1 _ _ (nat_list_eq_equiv.symm name e.0) (found_by_name es name)
+
+-- nothing, or a fragment
+abbrev pub IsOneFragment : Option Value → Type 0
+IsOneFragment None = Unit {0}
+IsOneFragment (Some (fragment x)) = Unit {0}
+IsOneFragment (Some (list vs)) = ⊥
+IsOneFragment (Some empty) = ⊥
+IsOneFragment (Some (missing kind)) = ⊥
+
+one_if : (b : Bool) (v w : Option Value) → IsOneFragment v → IsOneFragment w → IsOneFragment (if b then v else w)
+one_if true v w h k = h
+one_if false v w h k = k
+
+pub each_one : {A : Type 0} (es : List (Name × took.Fragment A)) (name : Name) → IsOneFragment (value_of (values_taken es) name)
+each_one [] name = tt
+each_one (e ∷ es) name = one_if (bytes_eq e.0 name) (Some (taken_value e.1)) _ tt (each_one es name)
+
+-- ---- one name set
+
+same_name : (a b : Name) → bytes_eq a b ≡ true → a ≡ b
+same_name a b = (bytes_eq-Decides a b).0
+
+itself : (a : Name) → bytes_eq a a ≡ true
+itself a = (bytes_eq-Decides a a).1 refl
+
+not_both : {X : Type 0} → true ≡ false → X
+not_both e = cc
+
+pub value_of-set_value : (env : Environment) (name q : Name) (v : Value) →
+    value_of (set_value env name v) q ≡ (if bytes_eq name q then Some v else value_of env q)
+value_of-set_value [] name q v = refl
+value_of-set_value (e ∷ env) name q v = go (value_of-set_value env name q v) (bytes_eq e.0 name) refl
+  where
+    both : (b c : Bool) → bytes_eq e.0 q ≡ b → bytes_eq name q ≡ c → bytes_eq e.0 name ≡ false →
+        (if b then Some e.1 else if c then Some v else value_of env q) ≡ (if c then Some v else if b then Some e.1 else value_of env q)
+    both true true s t n = not_both (sym ((bytes_eq-Decides e.0 name).1 (same_name e.0 q s ∙ sym (same_name name q t))) ∙ n)
+    both true false s t n = refl
+    both false c s t n = refl
+
+    hidden : (c : Bool) (w u : Option Value) → (if c then Some v else w) ≡ (if c then Some v else if c then u else w)
+    hidden true w u = refl
+    hidden false w u = refl
+
+    go : value_of (set_value env name v) q ≡ (if bytes_eq name q then Some v else value_of env q) → (b : Bool) → bytes_eq e.0 name ≡ b →
+        value_of (if b then (name, v) ∷ env else e ∷ set_value env name v) q ≡ (if bytes_eq name q then Some v else if bytes_eq e.0 q then Some e.1 else value_of env q)
+    go others true s =
+        hidden (bytes_eq name q) (value_of env q) (Some e.1)
+        ∙ ap (λ (n : Name). if bytes_eq name q then Some v else if bytes_eq n q then Some e.1 else value_of env q) (sym (same_name e.0 name s))
+    go others false s =
+        ap (λ (w : Option Value). if bytes_eq e.0 q then Some e.1 else w) others
+        ∙ both (bytes_eq e.0 q) (bytes_eq name q) refl refl s
+
+-- ---- what alike environments bind further
+
+pub alike_set : (env other : Environment) (name : Name) (v : Value) → BindsAlike env other → BindsAlike (set_value env name v) (set_value other name v)
+alike_set env other name v h = λ q.
+    value_of-set_value env name q v ∙ (ap (λ (w : Option Value). if bytes_eq name q then Some v else w) (h q) ∙ sym (value_of-set_value other name q v))
+
+alike_grown : (env other : Environment) (name : Name) (v : Value) (w : Option Value) → BindsAlike env other → BindsAlike (grown env name v w) (grown other name v w)
+alike_grown env other name v None h = alike_set env other name _ h
+alike_grown env other name v (Some (list vs)) h = alike_set env other name _ h
+alike_grown env other name v (Some (fragment x)) h = h
+alike_grown env other name v (Some empty) h = h
+alike_grown env other name v (Some (missing kind)) h = h
+
+alike_round : (more env other : Environment) → BindsAlike env other → BindsAlike (add_round more env) (add_round more other)
+alike_round [] env other h = h
+alike_round (e ∷ more) env other h =
+    alike_round more (grown env e.0 e.1 (value_of env e.0)) (grown other e.0 e.1 (value_of other e.0))
+    (subst (λ (w : Option Value). BindsAlike (grown env e.0 e.1 (value_of env e.0)) (grown other e.0 e.1 w)) (h e.0) (alike_grown env other e.0 e.1 (value_of env e.0) h))
+
+alike_skipped : (names : List Name) (env other : Environment) → BindsAlike env other → BindsAlike (skip_names names env) (skip_names names other)
+alike_skipped [] env other h = h
+alike_skipped (name ∷ names) env other h = alike_skipped names (set_value env name empty) (set_value other name empty) (alike_set env other name empty h)
+
+mutual
+  pub alike_item : (x : Item) (env other : Environment) → BindsAlike env other → BindsAlike (bind_item x env) (bind_item x other)
+  alike_item (matched n) env other h = h
+  alike_item (bound name x) env other h = alike_set env other name (fragment x) h
+  alike_item (grouped is) env other h = alike_items is env other h
+  alike_item (skipped names) env other h = alike_skipped names env other h
+  alike_item (rounds rs last) env other h = alike_round (bind last []) (bind_rounds rs env) (bind_rounds rs other) (alike_rounds rs env other h)
+
+  pub alike_items : (is : Items) (env other : Environment) → BindsAlike env other → BindsAlike (bind is env) (bind is other)
+  alike_items no_items env other h = h
+  alike_items (item is x) env other h = alike_item x (bind is env) (bind is other) (alike_items is env other h)
+
+  alike_rounds : (rs : Rounds) (env other : Environment) → BindsAlike env other → BindsAlike (bind_rounds rs env) (bind_rounds rs other)
+  alike_rounds no_rounds env other h = h
+  alike_rounds (round rs is w) env other h = alike_round (bind is []) (bind_rounds rs env) (bind_rounds rs other) (alike_rounds rs env other h)
+
+-- ---- what the map of a match holds
+
+module _ {A : Type 0} where
+  looked : (b : Bool) (x : Fragment A) (w : Option (Fragment A)) →
+      (if b then Some (taken_value x) else option_map taken_value w) ≡ option_map taken_value (if b then Some x else w)
+  looked true x w = refl
+  looked false x w = refl
+
+  -- one entry put in
+  pub entries_updated : (es fs : List (Name × Fragment A)) (name : Name) (x : Fragment A) →
+      ((q : Name) → lookup (bytes_eq q) fs ≡ (if bytes_eq name q then Some x else lookup (bytes_eq q) es)) →
+      BindsAlike (values_taken fs) (set_value (values_taken es) name (taken_value x))
+  entries_updated es fs name x h = λ q.
+      sym (found_by_name fs q) ∙ (ap (option_map taken_value) (h q) ∙ (sym (looked (bytes_eq name q) x (lookup (bytes_eq q) es))
+      ∙ (ap (λ (w : Option Value). if bytes_eq name q then Some (taken_value x) else w) (found_by_name es q)
+      ∙ sym (value_of-set_value (values_taken es) name q (taken_value x)))))
+
+-- each name is bound to one fragment, or to nothing
+pub each_bound : {A : Type 0} (b : Bindings A) (name : Name) → IsOneFragment (value_of (bound_by b) name)
+each_bound b = each_one b.inner.entries

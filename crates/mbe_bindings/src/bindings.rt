@@ -1,0 +1,88 @@
+// What variables are bound to.
+ghost use Rattle.std.specs.Prelude.{◌≡◌, [], OnOk, OnErr, option_map};
+ghost use Rattle.mbe_tt.specs.View.{trees};
+ghost use Rattle.mbe_semantics.specs.Environment.{set_value, value_of, fragment as fragment_value};
+ghost use Rattle.mbe_semantics.specs.Item.{style_of};
+ghost use Rattle.mbe_semantics.specs.Environment.{BindsAlike};
+ghost use Rattle.mbe_bindings.specs.BindingViews.{bound_by, fragment_seen};
+
+use mbe_semantics::kinds::MetaVarKind;
+use mbe_tt::symbol::Symbol;
+use mbe_tt::view::TokenTreesView;
+use std::alloc::{AllocError, Allocator, Global};
+use std::collections::HashMap;
+use std::hash::{BuildHasherDefault, FoldHasher};
+
+/// The trees that a variable took, by the way that they are written. `vis` may take none.
+#[derive_where(Clone, Copy, Debug)]
+pub enum Fragment<'a, A: Allocator = Global> {
+    Tokens {
+        tree: TokenTreesView<'a, A>,
+        origin: TokensOrigin,
+    },
+    Expr(TokenTreesView<'a, A>),
+    Path(TokenTreesView<'a, A>),
+}
+
+/// Whether tokens were taken as such, or because the grammar found a fragment in them. Only the first are written without
+/// an invisible group around them.
+#[derive(Clone, Copy, Debug, PartialEq, Eq)]
+pub enum TokensOrigin {
+    Raw,
+    Ast,
+}
+
+impl<'a, A: Allocator> Fragment<'a, A> {
+    // What a variable of the kind took.
+    pub fn of_kind(kind: Option<MetaVarKind>, tree: TokenTreesView<'a, A>) -> Fragment<'a, A>
+        ensures { fragment_seen result ≡ record { trees = trees tree.entry; style = style_of kind } }
+    {
+        match kind {
+            Some(MetaVarKind::Expr(_)) => Fragment::Expr(tree),
+            Some(MetaVarKind::Path) => Fragment::Path(tree),
+            Some(
+                MetaVarKind::Ident | MetaVarKind::Tt | MetaVarKind::Lifetime | MetaVarKind::Literal,
+            ) => Fragment::Tokens {
+                tree,
+                origin: TokensOrigin::Raw,
+            },
+            _ => Fragment::Tokens {
+                tree,
+                origin: TokensOrigin::Ast,
+            },
+        }
+    }
+}
+
+/// What a match binds: the fragment that each variable took.
+#[derive(Drop)]
+pub struct Bindings<'a, A: Allocator = Global> {
+    inner: HashMap<Symbol<A>, Fragment<'a, A>, BuildHasherDefault<FoldHasher>, A>,
+}
+
+impl<'a, A: Allocator + Copy> Bindings<'a, A> {
+    pub fn new(alloc: A) -> Bindings<'a, A>
+        ensures { bound_by result ≡ [] }
+    {
+        Bindings {
+            inner: HashMap::new(alloc),
+        }
+    }
+
+    pub fn insert(&mut self, name: &Symbol<A>, fragment: Fragment<'a, A>) -> Result<(), AllocError>
+        ensures ok { OnOk result (BindsAlike (bound_by self.new) (set_value (bound_by self.old) name.now (fragment_value (fragment_seen fragment.entry)))) }
+        ensures err { OnErr result (bound_by self.new ≡ bound_by self.old) }
+    {
+        let _replaced = self.inner.insert(name.clone()?, fragment)?;
+        Ok(())
+    }
+}
+
+impl<'a, A: Allocator> Bindings<'a, A> {
+    // What the variable took, if it is bound.
+    pub fn get(&self, name: &Symbol<A>) -> Option<Fragment<'a, A>>
+        ensures { option_map (λ x. fragment_value (fragment_seen x)) result ≡ value_of (bound_by self.now) name.now }
+    {
+        self.inner.get(name).copied()
+    }
+}

@@ -1,0 +1,5 @@
+use Rattle.mbe_laws.proofs.LawLemmas.{each_op_once}
+use Rattle.mbe_laws.proofs.laws.each_op_once.Goals as goal
+
+pub returns : goal.returns
+returns c = each_op_once

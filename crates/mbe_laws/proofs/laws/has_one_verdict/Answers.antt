@@ -1,0 +1,5 @@
+use Rattle.mbe_laws.proofs.RunLemmas.{has_one_verdict}
+use Rattle.mbe_laws.proofs.laws.has_one_verdict.Goals as goal
+
+pub returns : goal.returns
+returns c = has_one_verdict

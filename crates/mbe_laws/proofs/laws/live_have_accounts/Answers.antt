@@ -1,0 +1,5 @@
+use Rattle.mbe_laws.proofs.LogLemmas.{live_have_accounts}
+use Rattle.mbe_laws.proofs.laws.live_have_accounts.Goals as goal
+
+pub returns : goal.returns
+returns c = live_have_accounts

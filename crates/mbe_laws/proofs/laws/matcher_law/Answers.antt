@@ -1,0 +1,5 @@
+use Rattle.mbe_laws.proofs.RunLemmas.{matcher_law}
+use Rattle.mbe_laws.proofs.laws.matcher_law.Goals as goal
+
+pub returns : goal.returns
+returns c = matcher_law

@@ -1,0 +1,5 @@
+use Rattle.mbe_laws.proofs.LawLemmas.{one_account}
+use Rattle.mbe_laws.proofs.laws.one_account.Goals as goal
+
+pub returns : goal.returns
+returns c = one_account

@@ -1,0 +1,5 @@
+use Rattle.mbe_laws.proofs.RunLemmas.{one_verdict}
+use Rattle.mbe_laws.proofs.laws.one_verdict.Goals as goal
+
+pub returns : goal.returns
+returns c = one_verdict

@@ -1,0 +1,5 @@
+use Rattle.mbe_laws.proofs.RoundLemmas.{rounds_have_values}
+use Rattle.mbe_laws.proofs.laws.rounds_have_values.Goals as goal
+
+pub returns : goal.returns
+returns c = rounds_have_values

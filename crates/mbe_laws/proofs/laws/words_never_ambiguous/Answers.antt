@@ -1,0 +1,5 @@
+use Rattle.mbe_laws.proofs.WordLemmas.{words_never_ambiguous}
+use Rattle.mbe_laws.proofs.laws.words_never_ambiguous.Goals as goal
+
+pub returns : goal.returns
+returns c = words_never_ambiguous

@@ -1,0 +1,5 @@
+use Rattle.mbe_laws.proofs.TemplateLemmas.{ops_or_fault}
+use Rattle.mbe_laws.proofs.marking.ops_or_fault.Goals as goal
+
+pub returns : goal.returns
+returns g c = ops_or_fault _

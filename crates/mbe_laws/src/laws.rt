@@ -1,0 +1,87 @@
+// Laws about the definitions. They run nothing.
+ghost use Rattle.mbe_semantics.specs.Laws.{OneReading, ReadingsEnd, BeginningsEndInside, NeverAmbiguous, WordsNeverAmbiguous, RoundsHaveValues, EachOpOnce, OneAccount, ListsFitOnce, LiveHaveAccounts, EntriesFollow, CommandsBindAlike, OneVerdict, HasOneVerdict, LawfulInputs, MatcherLaw, RunsAreRight};
+
+/// Two readings of a pattern without a repetition are equal.
+pub fn one_reading()
+    ensures { OneReading }
+{}
+
+/// A reading of the whole argument is a beginning that ends at its last place.
+pub fn readings_end()
+    ensures { ReadingsEnd }
+{}
+
+/// A beginning of a reading ends in the argument.
+pub fn beginnings_end_inside()
+    ensures { BeginningsEndInside }
+{}
+
+/// A pattern without a repetition is ambiguous at no place.
+pub fn never_ambiguous()
+    ensures { NeverAmbiguous }
+{}
+
+/// A pattern of words is ambiguous at no place.
+pub fn words_never_ambiguous()
+    ensures { WordsNeverAmbiguous }
+{}
+
+/// In a kept round each name of the body leads to a value, if it leads to one outside.
+pub fn rounds_have_values()
+    ensures { RoundsHaveValues }
+{}
+
+/// Ops one by one are the ops, each once and in order.
+pub fn each_op_once()
+    ensures { EachOpOnce }
+{}
+
+/// A handle of a log has one account at most.
+pub fn one_account()
+    ensures { OneAccount }
+{}
+
+/// A pattern that is one repetition has one reading at most, and is ambiguous at no place.
+pub fn lists_fit_once()
+    ensures { ListsFitOnce }
+{}
+
+/// What is written at the end of a list comes behind what the list gives.
+pub fn entries_follow()
+    ensures { EntriesFollow }
+{}
+
+/// Each live handle of a log whose entries stand for earlier ones has an account.
+pub fn live_have_accounts()
+    ensures { LiveHaveAccounts }
+{}
+
+/// A pattern and an argument have one verdict at most.
+pub fn one_verdict()
+    ensures { OneVerdict }
+{}
+
+/// Each checked pattern has a verdict on each argument, and one only.
+pub fn has_one_verdict()
+    ensures { HasOneVerdict }
+{}
+
+/// An argument and a lawful grammar give a lawful input.
+pub fn lawful_inputs()
+    ensures { LawfulInputs }
+{}
+
+/// At each place that is come to, what is held are the beginnings that end there, each once.
+pub fn matcher_law()
+    ensures { MatcherLaw }
+{}
+
+/// What a run over the places answers is the verdict.
+pub fn runs_are_right()
+    ensures { RunsAreRight }
+{}
+
+/// What a log binds by the commands of a reading is what the reading binds.
+pub fn commands_bind_alike()
+    ensures { CommandsBindAlike }
+{}

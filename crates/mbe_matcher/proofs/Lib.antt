@@ -1,0 +1,3 @@
+pub mod WholeFronts
+pub mod PlainMatching
+pub mod PlainReadings

@@ -1,0 +1,76 @@
+-- Each op of the code, as the op that it is.
+use Rattle.std.proofs.Common.{◌≡◌, ℕ, List, map, Option, Vec, rules}
+use Rattle.std.specs.Prelude.{option_map}
+use Rattle.arrayvec.specs.ArrayVec.{ArrayVec}
+use Rattle.mbe_tt.specs.declared.span.Span.{Span}
+use Rattle.mbe_tt.specs.declared.tt.Punct.{Punct as APunct}
+use Rattle.mbe_tt.specs.declared.tt.Delimiter.{Delimiter}
+use Rattle.mbe_tt.specs.declared.tt.Ident.{Ident as AnIdent}
+use Rattle.mbe_tt.specs.declared.tt.Literal.{Literal as ALiteral}
+use Rattle.mbe_tt.specs.Shown.{literal_of, ident_of}
+use Rattle.mbe_semantics.specs.declared.kinds.MetaVarKind.{MetaVarKind}
+use Rattle.mbe_ops.specs.declared.ops.MetaTemplate.{MetaTemplate, roll-MetaTemplate}
+use Rattle.mbe_semantics.specs.declared.kinds.RepeatKind.{RepeatKind}
+use Rattle.mbe_ops.specs.declared.ops.Separator.{Separator}
+use Rattle.mbe_ops.specs.declared.ops.ConcatMetaVarExprElem.{ConcatMetaVarExprElem}
+use Rattle.mbe_ops.specs.declared.ops.Op.{Op, Var, Ignore, Index, Len, Count, Concat, Repeat, Subtree, Literal, Punct, Ident, the_lemmas}
+use Rattle.mbe_ops.specs.declared.ops.Op as code
+use Rattle.mbe_ops.specs.declared.ops.Op.TheOpen.{MetaTemplate-F}
+use Rattle.mbe_ops.specs.declared.ops.Op.TheViews as views_of
+use Rattle.mbe_semantics.specs.Op as ops
+use Rattle.mbe_semantics.specs.Op.{token, group, variable, repetition, expression, literal, ident, puncts}
+use Rattle.mbe_ops.specs.Views.{op_of, ops_of, template_of, separator_seen, element_seen}
+
+pub view-var : (A : Type 0) (name : List ℕ) (kind : Option MetaVarKind) (id : Span) → op_of {A = A} (Var name kind id) ≡ variable name kind id
+view-var A name kind id = search (rules, the_lemmas)
+
+pub view-ignore : (A : Type 0) (name : List ℕ) (id : Span) → op_of {A = A} (Ignore name id) ≡ expression (ops.ignore name id)
+view-ignore A name id = search (rules, the_lemmas)
+
+pub view-index : (A : Type 0) (depth : ℕ) → op_of {A = A} (Index depth) ≡ expression (ops.index depth)
+view-index A depth = search (rules, the_lemmas)
+
+pub view-len : (A : Type 0) (depth : ℕ) → op_of {A = A} (Len depth) ≡ expression (ops.len depth)
+view-len A depth = search (rules, the_lemmas)
+
+pub view-count : (A : Type 0) (name : List ℕ) (depth : ℕ) → op_of {A = A} (Count name depth) ≡ expression (ops.count name depth)
+view-count A name depth = search (rules, the_lemmas)
+
+pub view-concat : {A : Type 0} (es : Vec (ConcatMetaVarExprElem A) A) (span : Span) → op_of (Concat es span) ≡ expression (ops.concat (map element_seen es.items) span)
+view-concat es span = search (rules, the_lemmas)
+
+pub view-repeat : {A : Type 0} (t : MetaTemplate A) (kind : RepeatKind) (s : Option (Separator A)) → op_of (Repeat t kind s) ≡ repetition (template_of t) (option_map separator_seen s) kind
+view-repeat t kind s = search (rules, the_lemmas)
+
+pub view-subtree : {A : Type 0} (t : MetaTemplate A) (d : Delimiter) → op_of (Subtree t d) ≡ group d (template_of t)
+view-subtree t d = search (rules, the_lemmas)
+
+pub view-literal : {A : Type 0} (l : ALiteral A) → op_of (Literal l) ≡ token (literal (literal_of l))
+view-literal l = search (rules, the_lemmas)
+
+pub view-punct : (A : Type 0) (ps : ArrayVec APunct) → op_of {A = A} (Punct ps) ≡ token (puncts ps.items)
+view-punct A ps = search (rules, the_lemmas)
+
+pub view-ident : {A : Type 0} (i : AnIdent A) → op_of (Ident i) ≡ token (ident (ident_of i))
+view-ident i = search (rules, the_lemmas)
+
+pub view-template : {A : Type 0} (v : Vec (Op A) A) → template_of (roll-MetaTemplate A (record { 0 = v })) ≡ ops_of v.items
+view-template v = search (rules, the_lemmas)
+
+pub ruleset views = (
+  view-var,
+  view-ignore,
+  view-index,
+  view-len,
+  view-count,
+  view-concat,
+  view-repeat,
+  view-subtree,
+  view-literal,
+  view-punct,
+  view-ident,
+)
+
+-- a group of the code, whose ops are in sight
+pub view-open : {A : Type 0} (t : MetaTemplate-F A (code.Op A) (Unit {0})) (d : Delimiter) → op_of {A = A} (views_of.Subtree t d) ≡ ops.group d (ops_of t.0.items)
+view-open t d = search (rules, the_lemmas)

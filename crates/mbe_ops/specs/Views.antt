@@ -1,0 +1,59 @@
+-- What the code's patterns and templates are, whatever memory holds them.
+use Rattle.std.specs.Prelude.{◌≡◌, List, [], ◌∷◌, map, Option, Some, None, option_map}
+use Rattle.mbe_tt.specs.Shown.{literal_of, ident_of}
+use Rattle.mbe_tt.specs.View.{trees}
+use Rattle.mbe_tt.specs.Tree.{Forest, Cut}
+use Rattle.mbe_tt.specs.declared.view.TokenTreesView.{TokenTreesView}
+use Rattle.mbe_ops.specs.declared.ops.Op as code
+use Rattle.mbe_ops.specs.declared.ops.Op.{fold-Op}
+use Rattle.mbe_ops.specs.declared.ops.Op.TheOpen.{Op-F}
+use Rattle.mbe_ops.specs.declared.ops.MetaTemplate.{MetaTemplate, out-MetaTemplate}
+use Rattle.mbe_ops.specs.declared.ops.Separator as between
+use Rattle.mbe_ops.specs.declared.ops.ConcatMetaVarExprElem as part
+use Rattle.mbe_semantics.specs.Op as ops
+use Rattle.mbe_semantics.specs.Op.{Op, Ops, no_ops, op, token, group, variable, repetition, expression, literal, ident, puncts, Separator, Element}
+
+abbrev pub all_of : List Op → Ops
+all_of [] = no_ops
+all_of (o ∷ os) = op o (all_of os)
+
+abbrev pub separator_seen : {A : Type 0} → between.Separator A → Separator
+separator_seen (between.TheVariants.Literal l) = ops.literal_separator (literal_of l)
+separator_seen (between.TheVariants.Ident i) = ops.ident_separator (ident_of i)
+separator_seen (between.TheVariants.Puncts ps) = ops.punct_separator ps.items
+separator_seen (between.TheVariants.Lifetime p i) = ops.lifetime_separator p (ident_of i)
+
+abbrev pub element_seen : {A : Type 0} → part.ConcatMetaVarExprElem A → Element
+element_seen (part.TheVariants.Ident i) = ops.ident_element (ident_of i)
+element_seen (part.TheVariants.Var i) = ops.variable_element (ident_of i)
+element_seen (part.TheVariants.Literal l) = ops.literal_element (literal_of l)
+
+-- one level, with the ops inside already seen
+abbrev pub op_step : {A : Type 0} → Op-F A Op Ops → Op
+op_step (Op-F.Var name kind id) = variable name kind id
+op_step (Op-F.Ignore name id) = expression (ops.ignore name id)
+op_step (Op-F.Index depth) = expression (ops.index depth)
+op_step (Op-F.Len depth) = expression (ops.len depth)
+op_step (Op-F.Count name depth) = expression (ops.count name depth)
+op_step (Op-F.Concat elements span) = expression (ops.concat (map element_seen elements.items) span)
+op_step (Op-F.Repeat tokens kind separator) = repetition tokens (option_map separator_seen separator) kind
+op_step (Op-F.Subtree tokens delimiter) = group delimiter tokens
+op_step (Op-F.Literal l) = token (literal (literal_of l))
+op_step (Op-F.Punct ps) = token (puncts ps.items)
+op_step (Op-F.Ident i) = token (ident (ident_of i))
+
+abbrev pub op_of : {A : Type 0} → code.Op A → Op
+op_of {A} = fold-Op A Op Ops op_step (λ t. all_of t.0.items)
+
+abbrev pub ops_of : {A : Type 0} → List (code.Op A) → Ops
+ops_of os = all_of (map op_of os)
+
+abbrev pub template_of : {A : Type 0} → MetaTemplate A → Ops
+template_of {A} t = ops_of (out-MetaTemplate A t).0.items
+
+-- what an iterator gave and left: the front and the back of the cut, or nothing where there is no cut
+abbrev pub IsTaken : {A : Type 0} → Option (TokenTreesView A) → Option Cut → Forest → Type 0
+IsTaken None None left = Unit {0}
+IsTaken (Some taken) (Some c) left = (trees taken ≡ c.front) × (left ≡ c.back)
+IsTaken None (Some c) left = ⊥
+IsTaken (Some taken) None left = ⊥

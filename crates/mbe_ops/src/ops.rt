@@ -1,0 +1,126 @@
+// What patterns and templates are made of.
+ghost use Rattle.std.specs.Prelude.{◌≡◌, ◌↔◌, IsTrue};
+ghost use Rattle.mbe_tt.specs.Glue.{chars_of};
+ghost use Rattle.std.specs.Str.{bytes_eq};
+ghost use Rattle.mbe_ops.specs.Equality.{IsSameSeparator};
+ghost use Rattle.mbe_ops.specs.Views.{separator_seen};
+
+use arrayvec::ArrayVec;
+use mbe_semantics::kinds::{MetaVarKind, RepeatKind};
+use mbe_tt::span::Span;
+use mbe_tt::symbol::Symbol;
+use mbe_tt::tt::{Delimiter, Ident, Literal, Punct};
+use std::alloc::{Allocator, Global};
+
+/// What stands between two rounds of a repetition.
+#[derive(Drop)]
+pub enum Separator<A: Allocator = Global> {
+    Literal(Literal<A>),
+    Ident(Ident<A>),
+    Puncts(ArrayVec<Punct, 3>),
+    /// The punct `'`, and a name.
+    Lifetime(Punct, Ident<A>),
+}
+
+impl<A: Allocator> PartialEq for Separator<A> {
+    ghost use Rattle.mbe_ops.specs.Equality.{separator_eq, separator_eq_laws};
+    ghost use Rattle.std.specs.Cmp.{partial_equiv_from_equiv};
+
+    ghost eq = { separator_eq };
+
+    ghost laws = { partial_equiv_from_equiv separator_eq_laws };
+
+    fn eq(&self, other: &Separator<A>) -> bool {
+        same_separator(self, other)
+    }
+}
+
+impl<A: Allocator> Eq for Separator<A> {
+    ghost use Rattle.mbe_ops.specs.Equality.{separator_eq_laws};
+
+    ghost laws = { separator_eq_laws };
+}
+
+// Separators of one kind are the same by their texts alone (as in rust-analyzer).
+fn same_separator<A: Allocator>(one: &Separator<A>, two: &Separator<A>) -> bool
+    ensures { IsTrue result ↔ IsSameSeparator (separator_seen one.now) (separator_seen two.now) }
+{
+    match (one, two) {
+        (Separator::Literal(one), Separator::Literal(two)) => {
+            one.text_and_suffix == two.text_and_suffix
+        }
+        (Separator::Ident(one), Separator::Ident(two)) => one.sym == two.sym,
+        (Separator::Puncts(one), Separator::Puncts(two)) => {
+            same_chars(one.as_slice(), two.as_slice())
+        }
+        (Separator::Lifetime(_, one), Separator::Lifetime(_, two)) => one.sym == two.sym,
+        _ => false,
+    }
+}
+
+// Whether the puncts have the same chars, whatever their spacing.
+pub fn same_chars(one: &[Punct], two: &[Punct]) -> bool
+    ensures { result ≡ bytes_eq (chars_of one.now) (chars_of two.now) }
+{
+    match (one.split_first(), two.split_first()) {
+        (Some((a, one)), Some((b, two))) => a.char == b.char && same_chars(one, two),
+        (None, None) => true,
+        _ => false,
+    }
+}
+
+/// An element of `${concat(..)}`.
+#[derive(Drop)]
+pub enum ConcatMetaVarExprElem<A: Allocator = Global> {
+    /// Without a `$`, so it stands for itself.
+    Ident(Ident<A>),
+    /// Behind a `$`, so it is a variable.
+    Var(Ident<A>),
+    Literal(Literal<A>),
+}
+
+/// A pattern or a template.
+#[cycle(ops)]
+#[derive(Drop)]
+pub struct MetaTemplate<A: Allocator = Global>(pub Vec<Op<A>, A>);
+
+/// What a pattern or a template is made of.
+#[cycle(ops)]
+#[derive(Drop)]
+pub enum Op<A: Allocator = Global> {
+    Var {
+        name: Symbol<A>,
+        kind: Option<MetaVarKind>,
+        id: Span,
+    },
+    Ignore {
+        name: Symbol<A>,
+        id: Span,
+    },
+    Index {
+        depth: usize,
+    },
+    Len {
+        depth: usize,
+    },
+    Count {
+        name: Symbol<A>,
+        depth: usize,
+    },
+    Concat {
+        elements: Vec<ConcatMetaVarExprElem<A>, A>,
+        span: Span,
+    },
+    Repeat {
+        tokens: MetaTemplate<A>,
+        kind: RepeatKind,
+        separator: Option<Separator<A>>,
+    },
+    Subtree {
+        tokens: MetaTemplate<A>,
+        delimiter: Delimiter,
+    },
+    Literal(Literal<A>),
+    Punct(ArrayVec<Punct, 3>),
+    Ident(Ident<A>),
+}

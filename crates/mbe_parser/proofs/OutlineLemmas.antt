@@ -1,0 +1,160 @@
+-- What stands in front of a rule's pattern; and what is left behind a rule is shorter than what the rule stood in front of.
+use Rattle.std.specs.Prelude.{◌≡◌, ◌<◌, ◌==◌, Bool, true, false, if◌then◌else◌, codes, Some, None, Result, Ok, Err, refl}
+use Rattle.std.proofs.Common.{ap, sym, ◌∙◌, arith}
+use Rattle.std.proofs.lemmas.Option.{none-some}
+use Rattle.mbe_tt.proofs.CutLemmas.{no_true}
+use Rattle.mbe_tt.specs.declared.tt.Delimiter.{Delimiter}
+use Rattle.mbe_tt.specs.Leaf.{Ident, ident, punct, literal, is_text}
+use Rattle.mbe_tt.specs.Tree.{Forest, none, leaf, group, flat_len, rest_of, front_group}
+use Rattle.mbe_semantics.specs.declared.macro_call_style.MacroCallStyle.{MacroCallStyle}
+use Rattle.mbe_semantics.specs.declared.macro_call_style.MacroCallStyle.TheVariants.{FnLike, Attr, Derive}
+use Rattle.mbe_semantics.specs.Template.{Fault, expected}
+use Rattle.mbe_parser.specs.Reader.{is_word}
+use Rattle.mbe_semantics.specs.Definition.{Outline, template_at, greater_at, equals_at, pattern_at, styled_at, style_at, outline_at}
+
+no_ok : {X : Type 0} {e : Fault} {o : Outline} → Err e ≡ Ok o → X
+no_ok e = absurd (cc)
+
+same_ok : {a b : Outline} → (let r : Result Outline Fault = Ok a in r) ≡ Ok b → a ≡ b
+same_ok e = cc
+
+if_ok : (b : Bool) (r : Result Outline Fault) (e : Fault) (o : Outline) → (if b then r else Err e) ≡ Ok o → r ≡ Ok o
+if_ok true r e o h = h
+if_ok false r e o h = no_ok h
+
+template_back : (s : MacroCallStyle) (r f : Forest) (o : Outline) → template_at s r f ≡ Ok o → flat_len o.back < flat_len f
+template_back s r none o e = no_ok e
+template_back s r (leaf l rest) o e = no_ok e
+template_back s r (group d inside rest) o e = let b : rest ≡ o.back = ap (λ (x : Outline). x.back) (same_ok e) in let h = ap flat_len b in omega arith
+
+greater_back : (s : MacroCallStyle) (r f : Forest) (o : Outline) → greater_at s r f ≡ Ok o → flat_len o.back < flat_len f
+greater_back s r none o e = no_ok e
+greater_back s r (group d inside rest) o e = no_ok e
+greater_back s r (leaf (literal l) rest) o e = no_ok e
+greater_back s r (leaf (ident i) rest) o e = no_ok e
+greater_back s r (leaf (punct p) rest) o e = let h = template_back s r rest o (if_ok (p.char == 62) _ _ o e) in omega arith
+
+equals_back : (s : MacroCallStyle) (r f : Forest) (o : Outline) → equals_at s r f ≡ Ok o → flat_len o.back < flat_len f
+equals_back s r none o e = no_ok e
+equals_back s r (group d inside rest) o e = no_ok e
+equals_back s r (leaf (literal l) rest) o e = no_ok e
+equals_back s r (leaf (ident i) rest) o e = no_ok e
+equals_back s r (leaf (punct p) rest) o e = let h = greater_back s r rest o (if_ok (p.char == 61) _ _ o e) in omega arith
+
+pattern_back : (s : MacroCallStyle) (f : Forest) (o : Outline) → pattern_at s f ≡ Ok o → flat_len o.back < flat_len f
+pattern_back s none o e = no_ok e
+pattern_back s (leaf l rest) o e = no_ok e
+pattern_back s (group d inside rest) o e = let h = equals_back s inside rest o e in omega arith
+
+styled_back : (s : MacroCallStyle) (f : Forest) (o : Outline) → styled_at s f ≡ Ok o → flat_len o.back < flat_len f
+styled_back s none o e = no_ok e
+styled_back s (leaf l rest) o e = no_ok e
+styled_back s (group d inside rest) o e = let h = pattern_back s rest o e in omega arith
+
+either : (b : Bool) (x y r : Result Outline Fault) (P : Type 0) → (x ≡ r → P) → (y ≡ r → P) → (if b then x else y) ≡ r → P
+either true x y r P h k e = h e
+either false x y r P h k e = k e
+
+style_back : (f : Forest) (o : Outline) → style_at f ≡ Ok o → flat_len o.back < flat_len f
+style_back none o e = pattern_back FnLike none o e
+style_back (group d inside rest) o e = pattern_back FnLike (group d inside rest) o e
+style_back (leaf (literal l) rest) o e = no_ok e
+style_back (leaf (punct p) rest) o e = no_ok e
+style_back (leaf (ident i) rest) o e =
+    either (is_text i.sym (codes "attr")) _ _ (Ok o) (flat_len o.back < flat_len (leaf (ident i) rest)) (λ h. let k = styled_back Attr rest o h in omega arith)
+    (either (is_text i.sym (codes "derive")) _ _ (Ok o) (flat_len o.back < flat_len (leaf (ident i) rest)) (λ h. let k = styled_back Derive rest o h in omega arith)
+    (λ h. pattern_back FnLike (leaf (ident i) rest) o h)) e
+
+pub outline_back : (f : Forest) (o : Outline) → outline_at f ≡ Ok o → flat_len o.back < flat_len f
+outline_back none o e = style_back none o e
+outline_back (group d inside rest) o e = style_back (group d inside rest) o e
+outline_back (leaf (literal l) rest) o e = style_back (leaf (literal l) rest) o e
+outline_back (leaf (punct p) rest) o e = style_back (leaf (punct p) rest) o e
+outline_back (leaf (ident i) rest) o e =
+    either (is_text i.sym (codes "unsafe")) _ _ (Ok o) (flat_len o.back < flat_len (leaf (ident i) rest)) (λ h. let k = style_back rest o h in omega arith)
+    (λ h. style_back (leaf (ident i) rest) o h) e
+
+-- ---- what stands in front of the pattern
+
+word_passed : (b : Bool) (i : Ident) (rest : Forest)
+    → (if b then style_at rest else style_at (leaf (ident i) rest)) ≡ style_at (if b then rest else leaf (ident i) rest)
+word_passed true i rest = refl
+word_passed false i rest = refl
+
+-- `unsafe` may stand in front
+pub behind_unsafe : (f : Forest) → outline_at f ≡ style_at (if is_word (codes "unsafe") f then rest_of f else f)
+behind_unsafe none = refl
+behind_unsafe (group d inside rest) = refl
+behind_unsafe (leaf (literal l) rest) = refl
+behind_unsafe (leaf (punct p) rest) = refl
+behind_unsafe (leaf (ident i) rest) = word_passed (is_text i.sym (codes "unsafe")) i rest
+
+if_true : (b : Bool) (x y : Result Outline Fault) → b ≡ true → (if b then x else y) ≡ x
+if_true b x y e = ap (λ (c : Bool). if c then x else y) e
+
+if_false : (b : Bool) (x y : Result Outline Fault) → b ≡ false → (if b then x else y) ≡ y
+if_false b x y e = ap (λ (c : Bool). if c then x else y) e
+
+pub behind_attr : (f : Forest) → is_word (codes "attr") f ≡ true → style_at f ≡ styled_at Attr (rest_of f)
+behind_attr none e = absurd (no_true e)
+behind_attr (group d inside rest) e = absurd (no_true e)
+behind_attr (leaf (literal l) rest) e = absurd (no_true e)
+behind_attr (leaf (punct p) rest) e = absurd (no_true e)
+behind_attr (leaf (ident i) rest) e = if_true (is_text i.sym (codes "attr")) _ _ e
+
+pub behind_derive : (f : Forest) → is_word (codes "attr") f ≡ false → is_word (codes "derive") f ≡ true → style_at f ≡ styled_at Derive (rest_of f)
+behind_derive none n e = absurd (no_true e)
+behind_derive (group d inside rest) n e = absurd (no_true e)
+behind_derive (leaf (literal l) rest) n e = absurd (no_true e)
+behind_derive (leaf (punct p) rest) n e = absurd (no_true e)
+behind_derive (leaf (ident i) rest) n e =
+    if_false (is_text i.sym (codes "attr")) _ _ n ∙ if_true (is_text i.sym (codes "derive")) _ _ e
+
+pub behind_nothing : (f : Forest) → is_word (codes "attr") f ≡ false → is_word (codes "derive") f ≡ false → style_at f ≡ pattern_at FnLike f
+behind_nothing none n e = refl
+behind_nothing (group d inside rest) n e = refl
+behind_nothing (leaf (literal l) rest) n e = refl
+behind_nothing (leaf (punct p) rest) n e = refl
+behind_nothing (leaf (ident i) rest) n e =
+    if_false (is_text i.sym (codes "attr")) _ _ n ∙ if_false (is_text i.sym (codes "derive")) _ _ e
+
+pub behind_group : (style : MacroCallStyle) (f : Forest) (g : Delimiter × Forest) → front_group f ≡ Some g → styled_at style f ≡ pattern_at style (rest_of f)
+behind_group style none g e = absurd (none-some g e)
+behind_group style (leaf l rest) g e = absurd (none-some g e)
+behind_group style (group d inside rest) g e = refl
+
+pub no_group : (style : MacroCallStyle) (f : Forest) → front_group f ≡ None → styled_at style f ≡ Err (expected (codes "expected `()`"))
+no_group style none e = refl
+no_group style (leaf l rest) e = refl
+no_group style (group d inside rest) e = absurd (none-some (d, inside) (sym e))
+
+-- ---- the same, by what calls answer
+
+-- the trees that a call left
+abbrev Left : Bool → Forest → Forest → Type 0
+Left r f left = left ≡ (if r then rest_of f else f)
+
+passed : (r : Bool) (f left : Forest) → Left r f left → r ≡ true → rest_of f ≡ left
+passed r f left l h = sym (l ∙ ap (λ (b : Bool). if b then rest_of f else f) h)
+
+stayed : (r : Bool) (f left : Forest) → Left r f left → r ≡ false → f ≡ left
+stayed r f left l h = sym (l ∙ ap (λ (b : Bool). if b then rest_of f else f) h)
+
+pub after_unsafe : (r : Bool) (f left : Forest) → r ≡ is_word (codes "unsafe") f → Left r f left → outline_at f ≡ style_at left
+after_unsafe r f left e l = behind_unsafe f ∙ sym (ap style_at (l ∙ ap (λ (b : Bool). if b then rest_of f else f) e))
+
+pub after_attr : (r : Bool) (f left : Forest) → r ≡ is_word (codes "attr") f → Left r f left → r ≡ true → style_at f ≡ styled_at Attr left
+after_attr r f left e l h = behind_attr f (sym e ∙ h) ∙ ap (styled_at Attr) (passed r f left l h)
+
+module _ (r q : Bool) (f mid left : Forest) (attr : r ≡ is_word (codes "attr") f) (at : Left r f mid) (no_attr : r ≡ false)
+    (derive : q ≡ is_word (codes "derive") mid) (behind : Left q mid left) where
+  derive_at : is_word (codes "derive") f ≡ q
+  derive_at = ap (is_word (codes "derive")) (stayed r f mid at no_attr) ∙ sym derive
+
+  pub after_derive : q ≡ true → style_at f ≡ styled_at Derive left
+  after_derive h =
+      behind_derive f (sym attr ∙ no_attr) (derive_at ∙ h) ∙ ap (styled_at Derive) (ap rest_of (stayed r f mid at no_attr) ∙ passed q mid left behind h)
+
+  pub after_nothing : q ≡ false → style_at f ≡ pattern_at FnLike left
+  after_nothing h =
+      behind_nothing f (sym attr ∙ no_attr) (derive_at ∙ h) ∙ ap (pattern_at FnLike) (stayed r f mid at no_attr ∙ stayed q mid left behind h)

@@ -1,0 +1,115 @@
+use Rattle.std.proofs.Common.{◌≡◌, sym, ap, arith, refl, Some, rules}
+use Rattle.std.proofs.lemmas.Result.{err_from_is_err_and}
+use Rattle.mbe_tt.specs.Leaf as leaves
+use Rattle.mbe_tt.specs.Tree.{none, Leaf_tree, Group_tree, first}
+use Rattle.mbe_tt.specs.Shown.{literal_of, ident_of, leaf_of}
+use Rattle.mbe_semantics.specs.Op.{no_ops}
+use Rattle.mbe_semantics.specs.Template.{head, nothing}
+use Rattle.mbe_parser.specs.Reader.{mode_of}
+use Rattle.mbe_ops.specs.Views.{template_of}
+use Rattle.mbe_ops.proofs.Fragments.{first_tree}
+use Rattle.mbe_ops.proofs.OpViews.{view-template, view-subtree, view-literal, view-ident, view-repeat}
+use Rattle.mbe_ops.proofs.Fragments.{puncts_longer}
+use Rattle.mbe_parser.proofs.ReaderLemmas as lemmas
+use Rattle.mbe_parser.proofs.parser.+template.Goals as goal
+
+pub parse_template-returns-in_err-op-clause-fault : goal.parse_template-returns-in_err-op-clause-fault
+parse_template-returns-in_err-op-clause-fault g t c =
+    let p = err_from_is_err_and c.from_residual.result c.from_residual.ensures.1 in
+    rw (p.1, p.2) (lemmas.later_fault _ c.in_err-op.field-0.0 (mode_of c.args.mode) c.args.src c.trees.src c.trees.invariant.fault c.in_err-op.ensures.fault)
+
+pub parse_template-trees-preserved : goal.parse_template-trees-preserved
+parse_template-trees-preserved g t c =
+    let l = c.trees in
+    let o = c.in_ok-op.op in
+    let reads = c.in_ok-op.ensures.op in
+    record {
+      more = λ os h. rw c.in_ok-push.ensures.items (rw (← lemmas.with_front-push l.ops.items o os) (l.invariant.more _ (reads.more os h)));
+      fault = λ x h. l.invariant.fault x (reads.fault x h);
+      smaller = omega (arith, c.in_ok-op.ensures.shorter);
+    }
+
+pub parse_template-returns-clause-ops : goal.parse_template-returns-clause-ops
+parse_template-returns-clause-ops g t c =
+    let empty : c.trees.src ≡ none = search rules in
+    let whole = c.trees.invariant.more no_ops (nothing c.trees.src (ap (head (mode_of c.args.mode)) empty)) in
+    rw (view-template, ← lemmas.with_front-all c.trees.ops.items) whole
+
+pub next_op-returns-in_err-tokens-in-Subtree-clause-fault : goal.next_op-returns-in_err-tokens-in-Subtree-clause-fault
+next_op-returns-in_err-tokens-in-Subtree-clause-fault g t c =
+    let p = err_from_is_err_and c.from_residual-in_err-tokens-in-Subtree.result c.from_residual-in_err-tokens-in-Subtree.ensures.1 in
+    let front : Some (Group_tree c.in-Subtree.subtree.now.delimiter c.in-Subtree.inside) ≡ first c.args.src.now = search rules in
+    let at = first_tree c.args.src.now c.next-passed-in-Subtree.new.self _ front c.next-passed-in-Subtree.ensures.rest in
+    rw (p.1, p.2) (lemmas.group_fault _ c.in_err-tokens-in-Subtree.field-0.0 (mode_of c.args.mode) c.args.src.now c.in-Subtree.inside
+    c.next-passed-in-Subtree.new.self c.in-Subtree.subtree.now.delimiter at c.in_err-tokens-in-Subtree.ensures.fault)
+
+pub next_op-returns-in-Leaf-Punct-clause-op : goal.next_op-returns-in-Leaf-Punct-clause-op
+next_op-returns-in-Leaf-Punct-clause-op g t c =
+    let front : Some (Leaf_tree (leaves.punct c.in-Leaf-Punct.dollar)) ≡ first c.args.src.now = search rules in
+    let at = first_tree c.args.src.now c.next-dollar.new.self _ front c.next-dollar.ensures.rest in
+    lemmas.head_op _ c.behind_dollar.result (mode_of c.args.mode) c.args.src.now c.behind_dollar.new.src _
+    (lemmas.dollar_head (mode_of c.args.mode) c.args.src.now c.next-dollar.new.self c.in-Leaf-Punct.dollar at c.if-dollar-eq36.true) c.behind_dollar.ensures.op
+
+pub next_op-returns-in-Leaf-Punct-clause-fault : goal.next_op-returns-in-Leaf-Punct-clause-fault
+next_op-returns-in-Leaf-Punct-clause-fault g t c =
+    let front : Some (Leaf_tree (leaves.punct c.in-Leaf-Punct.dollar)) ≡ first c.args.src.now = search rules in
+    let at = first_tree c.args.src.now c.next-dollar.new.self _ front c.next-dollar.ensures.rest in
+    lemmas.head_fault _ c.behind_dollar.result (mode_of c.args.mode) c.args.src.now _
+    (lemmas.dollar_head (mode_of c.args.mode) c.args.src.now c.next-dollar.new.self c.in-Leaf-Punct.dollar at c.if-dollar-eq36.true) c.behind_dollar.ensures.fault
+
+pub next_op-returns-in-Ok-clause-op : goal.next_op-returns-in-Ok-clause-op
+next_op-returns-in-Ok-clause-op g t c =
+    let f = c.args.src.now in
+    let p = c.in-Leaf-Punct-2.field-0-0 in
+    let front : Some (Leaf_tree (leaves.punct p)) ≡ first f = search rules in
+    let at = first_tree f _ _ front (sym (lemmas.behind f)) in
+    let no_dollar : p.char ≡ 36 → ⊥ = search rules in
+    lemmas.puncts_op _ g.row.A.Denot (mode_of c.args.mode) f c.expect_glued_punct.new.self p c.in-Ok.puncts
+    (lemmas.puncts_head (mode_of c.args.mode) f _ p at no_dollar) c.in-Ok.ensures.value c.in-Ok.ensures.rest
+
+pub next_op-returns-in-Ok-clause-shorter : goal.next_op-returns-in-Ok-clause-shorter
+next_op-returns-in-Ok-clause-shorter g t c =
+    let f = c.args.src.now in
+    let p = c.in-Leaf-Punct-2.field-0-0 in
+    let front : Some (Leaf_tree (leaves.punct p)) ≡ first f = search rules in
+    let at = first_tree f _ _ front (sym (lemmas.behind f)) in
+    puncts_longer f _ c.expect_glued_punct.new.self p at c.in-Ok.ensures.rest
+
+pub next_op-returns-in_ok-clone-in-Leaf-Literal-clause-op : goal.next_op-returns-in_ok-clone-in-Leaf-Literal-clause-op
+next_op-returns-in_ok-clone-in-Leaf-Literal-clause-op g t c =
+    let l = c.in_ok-clone-in-Leaf-Literal.field-0 in
+    let front : Some (Leaf_tree (leaves.literal (literal_of l))) ≡ first c.args.src.now = search rules in
+    let at = first_tree c.args.src.now c.next-passed.new.self _ front c.next-passed.ensures.rest in
+    rw view-literal (lemmas.leaf_reads _ (mode_of c.args.mode) c.args.src.now c.next-passed.new.self _ (ap (head (mode_of c.args.mode)) at))
+
+pub next_op-returns-in_ok-clone-in-Leaf-Ident-clause-op : goal.next_op-returns-in_ok-clone-in-Leaf-Ident-clause-op
+next_op-returns-in_ok-clone-in-Leaf-Ident-clause-op g t c =
+    let i = c.in_ok-clone-in-Leaf-Ident.field-0 in
+    let front : Some (Leaf_tree (leaves.ident (ident_of i))) ≡ first c.args.src.now = search rules in
+    let at = first_tree c.args.src.now c.next-passed-in-Leaf-Ident.new.self _ front c.next-passed-in-Leaf-Ident.ensures.rest in
+    rw view-ident (lemmas.leaf_reads _ (mode_of c.args.mode) c.args.src.now c.next-passed-in-Leaf-Ident.new.self _ (ap (head (mode_of c.args.mode)) at))
+
+pub next_op-returns-in_ok-tokens-in-Subtree-clause-op : goal.next_op-returns-in_ok-tokens-in-Subtree-clause-op
+next_op-returns-in_ok-tokens-in-Subtree-clause-op g t c =
+    let front : Some (Group_tree c.in-Subtree.subtree.now.delimiter c.in-Subtree.inside) ≡ first c.args.src.now = search rules in
+    let at = first_tree c.args.src.now c.next-passed-in-Subtree.new.self _ front c.next-passed-in-Subtree.ensures.rest in
+    rw view-subtree (lemmas.reads_group _ (mode_of c.args.mode) c.args.src.now c.in-Subtree.inside c.next-passed-in-Subtree.new.self
+    c.in-Subtree.subtree.now.delimiter _ (ap (head (mode_of c.args.mode)) at) c.in_ok-tokens-in-Subtree.ensures.ops)
+
+pub behind_dollar-returns-in-Leaf-clause-op : goal.behind_dollar-returns-in-Leaf-clause-op
+behind_dollar-returns-in-Leaf-clause-op g t c =
+    let front : Some (Leaf_tree (leaf_of c.in-Leaf.leaf.now)) ≡ first c.args.src.now = search rules in
+    let at = first_tree c.args.src.now c.next.new.self _ front c.next.ensures.rest in
+    lemmas.leaf_op _ (mode_of c.args.mode) c.leaf_behind_dollar.result c.args.dollar c.args.src.now c.next.new.self _ (leaf_of c.in-Leaf.leaf.now) at
+    c.leaf_behind_dollar.ensures.op
+
+pub behind_dollar-returns-in-Leaf-clause-fault : goal.behind_dollar-returns-in-Leaf-clause-fault
+behind_dollar-returns-in-Leaf-clause-fault g t c =
+    let front : Some (Leaf_tree (leaf_of c.in-Leaf.leaf.now)) ≡ first c.args.src.now = search rules in
+    let at = first_tree c.args.src.now c.next.new.self _ front c.next.ensures.rest in
+    lemmas.leaf_fault _ (mode_of c.args.mode) c.leaf_behind_dollar.result c.args.dollar c.args.src.now c.next.new.self (leaf_of c.in-Leaf.leaf.now) at
+    c.leaf_behind_dollar.ensures.fault
+
+pub repetition-returns-clause-op : goal.repetition-returns-clause-op
+repetition-returns-clause-op g t c =
+    rw (c.in_ok-separator.ensures.suffix c.args.body) (template_of c.in_ok-tokens.tokens, c.in_ok-tokens.ensures.ops, sym (view-repeat _ _ _), refl)

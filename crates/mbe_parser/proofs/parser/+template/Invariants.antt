@@ -1,0 +1,31 @@
+use Rattle.std.proofs.Common.{◌≤◌, ◌+◌, ◌*◌}
+use Rattle.mbe_tt.specs.Tree.{flat_len}
+use Rattle.mbe_semantics.specs.Op.{Ops}
+use Rattle.mbe_semantics.specs.Template.{Fault, Template, TemplateFault}
+use Rattle.mbe_parser.specs.Reader.{mode_of}
+use Rattle.mbe_parser.proofs.ReaderLemmas.{with_front}
+use Rattle.mbe_parser.proofs.parser.+template.Given as goal
+
+abbrev pub decreases-parse_template : goal.decreases-parse_template
+decreases-parse_template g l = 2 * flat_len l.src + 1
+
+abbrev pub decreases-next_op : goal.decreases-next_op
+decreases-next_op g l = 2 * flat_len l.src.now
+
+abbrev pub invariant-parse_template-trees : goal.invariant-parse_template-trees
+invariant-parse_template-trees g l = record {
+  more : (os : Ops) → Template (λ ctx e. g.E.Fn.post l.edition (ctx, tt) e) (mode_of l.mode) l.src os
+      → Template (λ ctx e. g.E.Fn.post l.edition (ctx, tt) e) (mode_of l.mode) l.fn.src (with_front l.ops.items os);
+  fault : (f : Fault) → TemplateFault (λ ctx e. g.E.Fn.post l.edition (ctx, tt) e) (mode_of l.mode) f l.src
+      → TemplateFault (λ ctx e. g.E.Fn.post l.edition (ctx, tt) e) (mode_of l.mode) f l.fn.src;
+  smaller : flat_len l.src ≤ flat_len l.fn.src;
+}
+
+abbrev pub decreases-parse_template-trees : goal.decreases-parse_template-trees
+decreases-parse_template-trees g l = flat_len l.src
+
+abbrev pub decreases-behind_dollar : goal.decreases-behind_dollar
+decreases-behind_dollar g l = 2 * flat_len l.src.now
+
+abbrev pub decreases-repetition : goal.decreases-repetition
+decreases-repetition g l = 2 * flat_len l.body + 2

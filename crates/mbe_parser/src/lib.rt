@@ -1,0 +1,6 @@
+// Reads definitions. A layer of `mbe`: use that crate.
+#![tactic(auto)]
+
+pub mod parser;
+pub mod rules;
+pub mod validate;

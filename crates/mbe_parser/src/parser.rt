@@ -1,0 +1,434 @@
+// Reads patterns and templates into ops.
+ghost use Rattle.std.specs.Prelude.{◌≡◌, ◌<◌, ◌≤◌, [], ◌∷◌, codes, option_map, Some, Ok, Err, IfOk, IfErr, IfSome, IfNone, OnOk};
+ghost use Rattle.mbe_tt.specs.Tree.{Forest, flat_len, first, is_truth, leaf as leaf_before};
+ghost use Rattle.mbe_tt.specs.Leaf.{ident as ident_leaf, punct as punct_leaf};
+ghost use Rattle.mbe_tt.specs.Element.{element_tree};
+ghost use Rattle.mbe_tt.specs.Shown.{ident_of, literal_of, leaf_of};
+ghost use Rattle.mbe_tt.specs.declared.span.Span.{Span as SpecSpan};
+ghost use Rattle.mbe_tt.specs.declared.span.Edition.{Edition as SpecEdition};
+ghost use Rattle.mbe_tt.specs.declared.tt.IdentIsRaw.TheVariants.{No};
+ghost use Rattle.mbe_tt.specs.declared.tt.Punct.{Punct as SpecPunct};
+ghost use Rattle.mbe_semantics.specs.Op.{Name, variable as variable_op};
+ghost use Rattle.mbe_semantics.specs.Template as grammar;
+ghost use Rattle.mbe_semantics.specs.Template.{Template, TemplateFault, Specifies, opens_repetition, suffix_of, leaf_in_suffix, invalid_repeat};
+ghost use Rattle.mbe_parser.specs.Reader.{mode_of, Stops, IsExtended, NeverExtended, AtHead, FaultAtHead, ReadsOp};
+ghost use Rattle.mbe_errors.specs.ErrorViews.{fault_of};
+ghost use Rattle.mbe_semantics.specs.Marking.{MayAsk};
+ghost use Rattle.mbe_ops.specs.Views.{op_of, template_of, separator_seen};
+
+mod metavar_expr;
+
+use crate::parser::metavar_expr::parse_metavar_expr;
+use arrayvec::ArrayVec;
+use mbe_errors::error::{Fault, ReadError};
+use mbe_ops::ops::{MetaTemplate, Op, Separator};
+use mbe_semantics::kinds::{ExprKind, MetaVarKind, RepeatKind};
+use mbe_tt::iter::{TtElement, TtIter};
+use mbe_tt::span::{Edition, Span, SyntaxContext};
+use mbe_tt::symbol::Symbol;
+use mbe_tt::tt::{Delimiter, DelimiterKind, Ident, IdentIsRaw, Leaf, Literal, Punct};
+use std::alloc::{AllocError, Allocator};
+
+/// Whether a pattern is read, or a template.
+#[derive(Clone, Copy, Debug, PartialEq, Eq)]
+pub enum Mode {
+    Pattern,
+    Template,
+}
+
+/// Reads all the trees. `edition` is asked what `pat` and `expr` mean, by the context of the specifier's own span.
+#[cycle(template)]
+pub fn parse_template<A: Allocator + Copy, E: Copy + Fn(SyntaxContext) -> Edition>(
+    alloc: A,
+    edition: E,
+    src: TtIter<'_, A>,
+    mode: Mode,
+) -> Result<MetaTemplate<A>, ReadError>
+    requires { MayAsk (E.pre edition) }
+    ensures ops { IfOk result (λ t. Template (E.post edition) (mode_of mode) src.entry (template_of t)) }
+    ensures fault { IfErr result (λ e. Stops e (λ f. TemplateFault (E.post edition) (mode_of mode) f src.entry)) }
+{
+    let mut src = src;
+    let mut ops = Vec::new(alloc);
+    'trees: while let Some(peeked) = src.peek() {
+        let op = next_op(alloc, edition, peeked, &mut src, mode)?;
+        ops.push(op)?;
+    }
+    Ok(MetaTemplate(ops))
+}
+
+// The op that begins with the next tree.
+#[cycle(template)]
+#[tactic(auto, using(mbe_ops::proofs::OpViews::views))]
+fn next_op<A: Allocator + Copy, E: Copy + Fn(SyntaxContext) -> Edition>(
+    alloc: A,
+    edition: E,
+    peeked: TtElement<'_, A>,
+    src: &mut TtIter<'_, A>,
+    mode: Mode,
+) -> Result<Op<A>, ReadError>
+    requires answers { MayAsk (E.pre edition) }
+    requires peeked { first src.old ≡ Some (element_tree peeked) }
+    ensures op { IfOk result (λ o. ReadsOp (E.post edition) (mode_of mode) src.old (op_of o) src.new) }
+    ensures fault { IfErr result (λ e. Stops e (λ f. TemplateFault (E.post edition) (mode_of mode) f src.old)) }
+    ensures shorter { OnOk result (flat_len src.new < flat_len src.old) }
+{
+    match peeked {
+        TtElement::Leaf(Leaf::Punct(dollar)) if dollar.char == '$' => {
+            let _dollar = src.next();
+            behind_dollar(alloc, edition, *dollar, src, mode)
+        }
+        TtElement::Leaf(Leaf::Punct(_)) => {
+            let Ok(puncts) = src.expect_glued_punct() else {
+                unreachable!()
+            };
+            Ok(Op::Punct(puncts))
+        }
+        TtElement::Leaf(Leaf::Literal(literal)) => {
+            let _passed = src.next();
+            Ok(Op::Literal(literal.clone()?))
+        }
+        TtElement::Leaf(Leaf::Ident(ident)) => {
+            let _passed = src.next();
+            Ok(Op::Ident(ident.clone()?))
+        }
+        TtElement::Subtree(subtree, inside) => {
+            let _passed = src.next();
+            let tokens = parse_template(alloc, edition, inside, mode)?;
+            Ok(Op::Subtree {
+                tokens,
+                delimiter: subtree.delimiter,
+            })
+        }
+    }
+}
+
+// What stands behind a `$`.
+#[cycle(template)]
+#[tactic(auto, using(mbe_ops::proofs::OpViews::views))]
+fn behind_dollar<A: Allocator + Copy, E: Copy + Fn(SyntaxContext) -> Edition>(
+    alloc: A,
+    edition: E,
+    dollar: Punct,
+    src: &mut TtIter<'_, A>,
+    mode: Mode,
+) -> Result<Op<A>, ReadError>
+    requires { MayAsk (E.pre edition) }
+    ensures op { IfOk result (λ o. AtHead (E.post edition) (mode_of mode) (grammar.behind_dollar (mode_of mode) dollar src.old) (op_of o) src.new) }
+    ensures fault { IfErr result (λ e. Stops e (FaultAtHead (E.post edition) (mode_of mode) (grammar.behind_dollar (mode_of mode) dollar src.old))) }
+    ensures no_longer { OnOk result (flat_len src.new ≤ flat_len src.old) }
+{
+    let Some(second) = src.next() else {
+        return Ok(Op::Punct(one_punct(dollar)));
+    };
+    match second {
+        TtElement::Subtree(subtree, inside) => match subtree.delimiter.kind {
+            DelimiterKind::Parenthesis => repetition(alloc, edition, inside, src, mode),
+            DelimiterKind::Brace => expression_behind_dollar(alloc, inside, mode),
+            DelimiterKind::Bracket | DelimiterKind::Invisible => {
+                Err(ReadError::Fault(Fault::ExpectedRepetition))
+            }
+        },
+        TtElement::Leaf(leaf) => leaf_behind_dollar(alloc, edition, leaf, src, mode),
+    }
+}
+
+// The repetition with these trees as its body. Its suffix is read first.
+#[cycle(template)]
+#[tactic(auto, using(mbe_ops::proofs::OpViews::views))]
+fn repetition<A: Allocator + Copy, E: Copy + Fn(SyntaxContext) -> Edition>(
+    alloc: A,
+    edition: E,
+    body: TtIter<'_, A>,
+    src: &mut TtIter<'_, A>,
+    mode: Mode,
+) -> Result<Op<A>, ReadError>
+    requires { MayAsk (E.pre edition) }
+    ensures op { IfOk result (λ o. AtHead (E.post edition) (mode_of mode) (grammar.repetition_at body.entry (suffix_of src.old)) (op_of o) src.new) }
+    ensures fault { IfErr result (λ e. Stops e (FaultAtHead (E.post edition) (mode_of mode) (grammar.repetition_at body.entry (suffix_of src.old)))) }
+    ensures no_longer { OnOk result (flat_len src.new ≤ flat_len src.old) }
+{
+    let (separator, kind) = parse_repeat(src)?;
+    let tokens = parse_template(alloc, edition, body, mode)?;
+    Ok(Op::Repeat {
+        tokens,
+        kind,
+        separator,
+    })
+}
+
+fn one_punct(punct: Punct) -> ArrayVec<Punct, 3>
+    ensures { result.items ≡ punct ∷ [] }
+{
+    let mut puncts = ArrayVec::new();
+    puncts.push(punct);
+    puncts
+}
+
+// `${..}`, which stands in templates alone.
+fn expression_behind_dollar<A: Allocator + Copy>(
+    alloc: A,
+    inside: TtIter<'_, A>,
+    mode: Mode,
+) -> Result<Op<A>, ReadError>
+    ensures op { IfOk result (λ o. (rest : Forest)
+        → grammar.expression_at (mode_of mode) rest (grammar.expression_of inside.entry) ≡ Ok (grammar.one (op_of o) rest)) }
+    ensures fault { IfErr result (λ e. Stops e (λ f. (rest : Forest)
+        → grammar.expression_at (mode_of mode) rest (grammar.expression_of inside.entry) ≡ Err f)) }
+{
+    match mode {
+        Mode::Pattern => Err(ReadError::Fault(Fault::ExpressionInPattern)),
+        Mode::Template => parse_metavar_expr(alloc, inside),
+    }
+}
+
+#[tactic(auto, using(mbe_ops::proofs::OpViews::views))]
+fn leaf_behind_dollar<A: Allocator + Copy, E: Copy + Fn(SyntaxContext) -> Edition>(
+    alloc: A,
+    edition: E,
+    leaf: &Leaf<A>,
+    src: &mut TtIter<'_, A>,
+    mode: Mode,
+) -> Result<Op<A>, ReadError>
+    requires { MayAsk (E.pre edition) }
+    ensures op { IfOk result (λ o. (dollar : SpecPunct)
+        → AtHead (E.post edition) (mode_of mode) (grammar.behind_dollar (mode_of mode) dollar (leaf_before (leaf_of leaf.now) src.old)) (op_of o) src.new) }
+    ensures fault { IfErr result (λ e. Stops e (λ f. (dollar : SpecPunct)
+        → grammar.behind_dollar (mode_of mode) dollar (leaf_before (leaf_of leaf.now) src.old) ≡ Err f)) }
+    ensures no_longer { flat_len src.new ≤ flat_len src.old }
+{
+    match leaf {
+        Leaf::Ident(ident) => {
+            if ident.sym.as_str() == "crate" {
+                return Ok(Op::Ident(dollar_crate(alloc, ident.span)?));
+            }
+            variable(edition, &ident.sym, ident.span, src, mode)
+        }
+        Leaf::Literal(literal) => {
+            if !is_boolean_literal(literal) {
+                return Err(ReadError::Fault(Fault::ExpectedIdent));
+            }
+            variable(edition, &literal.text_and_suffix, literal.span, src, mode)
+        }
+        Leaf::Punct(punct) => {
+            if punct.char != '$' {
+                return Err(ReadError::Fault(Fault::ExpectedIdent));
+            }
+            match mode {
+                Mode::Pattern => Err(ReadError::Fault(Fault::DollarInPattern)),
+                Mode::Template => Ok(Op::Punct(one_punct(*punct))),
+            }
+        }
+    }
+}
+
+// The identifier that `$crate` stands for.
+fn dollar_crate<A: Allocator + Copy>(alloc: A, span: Span) -> Result<Ident<A>, AllocError>
+    ensures { IfOk result (λ i. ident_of i ≡ record { sym = codes "$crate"; is_raw = No; span = span }) }
+{
+    Ok(Ident {
+        sym: Symbol::intern(alloc, "$crate")?,
+        is_raw: IdentIsRaw::No,
+        span,
+    })
+}
+
+#[tactic(auto, using(mbe_ops::proofs::OpViews::views))]
+fn variable<A: Allocator, E: Copy + Fn(SyntaxContext) -> Edition>(
+    edition: E,
+    name: &Symbol<A>,
+    id: Span,
+    src: &mut TtIter<'_, A>,
+    mode: Mode,
+) -> Result<Op<A>, ReadError>
+    requires { MayAsk (E.pre edition) }
+    ensures op { IfOk result (λ o. AtHead (E.post edition) (mode_of mode) (grammar.variable_at (mode_of mode) name.now id src.old) (op_of o) src.new) }
+    ensures fault { IfErr result (λ e. Stops e (λ f. grammar.variable_at (mode_of mode) name.now id src.old ≡ Err f)) }
+    ensures no_longer { flat_len src.new ≤ flat_len src.old }
+{
+    let kind = eat_fragment_kind(edition, src, mode)?;
+    Ok(Op::Var {
+        name: name.clone()?,
+        kind,
+        id,
+    })
+}
+
+// In a pattern, `:` and the specifier. In a template a variable is its name alone.
+fn eat_fragment_kind<A: Allocator, E: Copy + Fn(SyntaxContext) -> Edition>(
+    edition: E,
+    src: &mut TtIter<'_, A>,
+    mode: Mode,
+) -> Result<Option<MetaVarKind>, Fault>
+    requires { MayAsk (E.pre edition) }
+    ensures kind { IfOk result (λ kind. (name : Name) (span : SpecSpan)
+        → AtHead (E.post edition) (mode_of mode) (grammar.variable_at (mode_of mode) name span src.old) (variable_op name kind span) src.new) }
+    ensures fault { IfErr result (λ e. (name : Name) (span : SpecSpan)
+        → grammar.variable_at (mode_of mode) name span src.old ≡ Err (fault_of e)) }
+    ensures no_longer { flat_len src.new ≤ flat_len src.old }
+{
+    match mode {
+        Mode::Template => Ok(None),
+        Mode::Pattern => {
+            let Ok(()) = src.expect_char(':') else {
+                return Err(Fault::MissingSpecifier);
+            };
+            let Ok(specifier) = src.expect_ident() else {
+                return Err(Fault::MissingSpecifier);
+            };
+            Ok(fragment_kind(edition, specifier))
+        }
+    }
+}
+
+// The kind that a specifier names, in the edition of its own span; an unknown one is no kind.
+fn fragment_kind<A: Allocator, E: Copy + Fn(SyntaxContext) -> Edition>(
+    edition: E,
+    specifier: &Ident<A>,
+) -> Option<MetaVarKind>
+    requires { MayAsk (E.pre edition) }
+    ensures { Specifies (E.post edition) (ident_of specifier.now) result }
+{
+    Some(match specifier.sym.as_str() {
+        "path" => MetaVarKind::Path,
+        "ty" => MetaVarKind::Ty,
+        "pat" => pat_kind(edition, specifier.span.ctx),
+        "pat_param" => MetaVarKind::PatParam,
+        "stmt" => MetaVarKind::Stmt,
+        "block" => MetaVarKind::Block,
+        "meta" => MetaVarKind::Meta,
+        "item" => MetaVarKind::Item,
+        "vis" => MetaVarKind::Vis,
+        "expr" => expr_kind(edition, specifier.span.ctx),
+        "expr_2021" => MetaVarKind::Expr(ExprKind::Expr2021),
+        "ident" => MetaVarKind::Ident,
+        "tt" => MetaVarKind::Tt,
+        "lifetime" => MetaVarKind::Lifetime,
+        "literal" => MetaVarKind::Literal,
+        _ => return None,
+    })
+}
+
+// `pat` in the edition of the context.
+fn pat_kind<E: Fn(SyntaxContext) -> Edition>(edition: E, ctx: SyntaxContext) -> MetaVarKind
+    requires { MayAsk (E.pre edition) }
+    ensures { (e : SpecEdition) × E.post edition ctx e × (result ≡ grammar.pat_kind e) }
+{
+    if edition(ctx).at_least_2021() {
+        MetaVarKind::Pat
+    } else {
+        MetaVarKind::PatParam
+    }
+}
+
+// `expr` in the edition of the context.
+fn expr_kind<E: Fn(SyntaxContext) -> Edition>(edition: E, ctx: SyntaxContext) -> MetaVarKind
+    requires { MayAsk (E.pre edition) }
+    ensures { (e : SpecEdition) × E.post edition ctx e × (result ≡ grammar.expr_kind e) }
+{
+    if edition(ctx).at_least_2024() {
+        MetaVarKind::Expr(ExprKind::Expr)
+    } else {
+        MetaVarKind::Expr(ExprKind::Expr2021)
+    }
+}
+
+fn is_boolean_literal<A: Allocator>(literal: &Literal<A>) -> bool
+    ensures { result ≡ is_truth (literal_of literal.now).text_and_suffix }
+{
+    let text = literal.text_and_suffix.as_str();
+    text == "true" || text == "false"
+}
+
+// The suffix of a repetition: a separator or none, and then `*`, `+` or `?`.
+fn parse_repeat<A: Allocator>(
+    src: &mut TtIter<'_, A>,
+) -> Result<(Option<Separator<A>>, RepeatKind), ReadError>
+    ensures suffix { IfOk result (λ s. (body : Forest)
+        → grammar.repetition_at body (suffix_of src.old) ≡ Ok (opens_repetition (option_map separator_seen s.0) s.1 body src.new)) }
+    ensures fault { IfErr result (λ e. Stops e (λ f. (body : Forest) → grammar.repetition_at body (suffix_of src.old) ≡ Err f)) }
+    ensures no_longer { OnOk result (flat_len src.new ≤ flat_len src.old) }
+{
+    let mut separator = None;
+    'leaves: while let Some(TtElement::Leaf(leaf)) = src.next() {
+        if let Some(kind) = repeat_kind(leaf) {
+            return Ok((separator, kind));
+        }
+        separator = Some(with_leaf(separator, leaf)?);
+    }
+    Err(ReadError::Fault(Fault::InvalidRepeat))
+}
+
+// Whether the leaf ends a suffix, and how often the repetition may then go round.
+fn repeat_kind<A: Allocator>(leaf: &Leaf<A>) -> Option<RepeatKind>
+    ensures ends { IfSome result (λ kind. (rest : Forest)
+        → suffix_of (leaf_before (leaf_of leaf.now) rest) ≡ Some (record { leaves = []; repeat = kind; back = rest })) }
+    ensures goes_on { IfNone result ((rest : Forest)
+        → suffix_of (leaf_before (leaf_of leaf.now) rest) ≡ option_map (leaf_in_suffix (leaf_of leaf.now)) (suffix_of rest)) }
+{
+    match leaf {
+        Leaf::Punct(punct) => match punct.char {
+            '*' => Some(RepeatKind::ZeroOrMore),
+            '+' => Some(RepeatKind::OneOrMore),
+            '?' => Some(RepeatKind::ZeroOrOne),
+            _ => None,
+        },
+        Leaf::Literal(_) | Leaf::Ident(_) => None,
+    }
+}
+
+// The separator with one leaf more at its end.
+fn with_leaf<A: Allocator>(
+    separator: Option<Separator<A>>,
+    leaf: &Leaf<A>,
+) -> Result<Separator<A>, ReadError>
+    ensures separator { IfOk result (λ s. IsExtended (option_map separator_seen separator) (leaf_of leaf.now) (separator_seen s)) }
+    ensures fault { IfErr result (λ e. Stops e (λ f. (f ≡ invalid_repeat) × NeverExtended (option_map separator_seen separator) (leaf_of leaf.now))) }
+{
+    match leaf {
+        Leaf::Literal(literal) => match separator {
+            None => Ok(Separator::Literal(literal.clone()?)),
+            Some(_whole) => Err(ReadError::Fault(Fault::InvalidRepeat)),
+        },
+        Leaf::Ident(ident) => with_ident(separator, ident),
+        Leaf::Punct(punct) => with_punct(separator, *punct),
+    }
+}
+
+// An identifier separates alone, or as a lifetime behind a quote.
+fn with_ident<A: Allocator>(
+    separator: Option<Separator<A>>,
+    ident: &Ident<A>,
+) -> Result<Separator<A>, ReadError>
+    ensures separator { IfOk result (λ s. IsExtended (option_map separator_seen separator) (ident_leaf (ident_of ident.now)) (separator_seen s)) }
+    ensures fault { IfErr result (λ e. Stops e (λ f. (f ≡ invalid_repeat) × NeverExtended (option_map separator_seen separator) (ident_leaf (ident_of ident.now)))) }
+{
+    match separator {
+        None => Ok(Separator::Ident(ident.clone()?)),
+        Some(Separator::Puncts(puncts)) => match puncts.as_slice() {
+            [quote] if quote.char == '\'' => Ok(Separator::Lifetime(*quote, ident.clone()?)),
+            _ => Err(ReadError::Fault(Fault::InvalidRepeat)),
+        },
+        Some(_whole) => Err(ReadError::Fault(Fault::InvalidRepeat)),
+    }
+}
+
+// One to three puncts separate.
+fn with_punct<A: Allocator>(
+    separator: Option<Separator<A>>,
+    punct: Punct,
+) -> Result<Separator<A>, ReadError>
+    ensures separator { IfOk result (λ s. IsExtended (option_map separator_seen separator) (punct_leaf punct) (separator_seen s)) }
+    ensures fault { IfErr result (λ e. Stops e (λ f. (f ≡ invalid_repeat) × NeverExtended (option_map separator_seen separator) (punct_leaf punct))) }
+{
+    let mut puncts = match separator {
+        None => ArrayVec::new(),
+        Some(Separator::Puncts(puncts)) => puncts,
+        Some(_whole) => return Err(ReadError::Fault(Fault::InvalidRepeat)),
+    };
+    if puncts.is_full() {
+        return Err(ReadError::Fault(Fault::InvalidRepeat));
+    }
+    puncts.push(punct);
+    Ok(Separator::Puncts(puncts))
+}

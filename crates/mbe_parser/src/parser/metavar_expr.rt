@@ -1,0 +1,218 @@
+// Reads metavariable expressions, which are what stands between the braces of `${..}`.
+ghost use Rattle.std.specs.Prelude.{◌≡◌, ◌≢◌, ◌<◌, map, option_map, Some, None, IfOk, IfErr, OnOk, MatchOption, if◌then◌else◌};
+ghost use Rattle.mbe_tt.specs.Literals.{is_plain, decimal_value, literal_text};
+ghost use Rattle.mbe_tt.specs.Shown.{ident_of, literal_of};
+ghost use Rattle.mbe_tt.specs.Tree.{none, flat_len};
+ghost use Rattle.mbe_semantics.specs.Op.{expression};
+ghost use Rattle.mbe_parser.specs.Reader.{NotExpression};
+ghost use Rattle.mbe_semantics.specs.Template.{expression_of, arguments_of, ignore_of, count_of, concat_of, dollar_name, depth_of, depth_behind_comma, elements_of, elements_behind_comma, element_before};
+ghost use Rattle.mbe_ops.specs.Views.{op_of, element_seen};
+
+use mbe_errors::error::{Fault, ReadError};
+use mbe_ops::ops::{ConcatMetaVarExprElem, Op};
+use mbe_tt::iter::{TtElement, TtIter};
+use mbe_tt::span::Span;
+use mbe_tt::tt::{DelimiterKind, Ident, Leaf, Literal};
+use std::alloc::Allocator;
+
+/// Reads what stands between the braces of `${..}`: `ignore($x)`, `index(d)`, `len(d)`, `count($x)`, `count($x, d)` or
+/// `concat(e, e, ..)`. What follows the arguments isn't looked at.
+///
+/// `Err` is `Fault::InvalidExpression` where the trees are none of these, or want of memory. The forms are those of the
+/// unstable features `macro_metavar_expr` and `macro_metavar_expr_concat`, as rust-analyzer reads them.
+pub fn parse_metavar_expr<A: Allocator + Copy>(
+    alloc: A,
+    src: TtIter<'_, A>,
+) -> Result<Op<A>, ReadError>
+    ensures op { IfOk result (λ o. option_map expression (expression_of src.entry) ≡ Some (op_of o)) }
+    ensures fault { IfErr result (λ e. NotExpression e (expression_of src.entry)) }
+{
+    let (func, args) = func_and_args(src).ok_or(Fault::InvalidExpression)?;
+    parse_args(alloc, func, args)
+}
+
+// The name of the function, and the arguments, which stand in parentheses.
+fn func_and_args<'a, A: Allocator>(src: TtIter<'a, A>) -> Option<(&'a Ident<A>, TtIter<'a, A>)>
+    ensures { MatchOption result (expression_of src.entry ≡ None) (λ call. expression_of src.entry ≡ arguments_of (ident_of call.0.now) call.1) }
+{
+    let mut src = src;
+    let func = src.expect_ident().ok()?;
+    let (subtree, args) = src.expect_subtree().ok()?;
+    if subtree.delimiter.kind == DelimiterKind::Parenthesis {
+        Some((func, args))
+    } else {
+        None
+    }
+}
+
+#[tactic(auto, using(mbe_ops::proofs::OpViews::views))]
+fn parse_args<A: Allocator + Copy>(
+    alloc: A,
+    func: &Ident<A>,
+    args: TtIter<'_, A>,
+) -> Result<Op<A>, ReadError>
+    ensures op { IfOk result (λ o. option_map expression (arguments_of (ident_of func.now) args.entry) ≡ Some (op_of o)) }
+    ensures fault { IfErr result (λ e. NotExpression e (arguments_of (ident_of func.now) args.entry)) }
+{
+    match func.sym.as_str() {
+        "ignore" => parse_ignore(args),
+        "count" => parse_count(args),
+        "index" => {
+            let depth = parse_depth(args).ok_or(Fault::InvalidExpression)?;
+            Ok(Op::Index { depth })
+        }
+        "len" => {
+            let depth = parse_depth(args).ok_or(Fault::InvalidExpression)?;
+            Ok(Op::Len { depth })
+        }
+        "concat" => parse_concat(alloc, func.span, args),
+        _ => Err(ReadError::Fault(Fault::InvalidExpression)),
+    }
+}
+
+// A variable, alone.
+#[tactic(auto, using(mbe_ops::proofs::OpViews::views))]
+fn parse_ignore<A: Allocator>(args: TtIter<'_, A>) -> Result<Op<A>, ReadError>
+    ensures op { IfOk result (λ o. option_map expression (ignore_of args.entry) ≡ Some (op_of o)) }
+    ensures fault { IfErr result (λ e. NotExpression e (ignore_of args.entry)) }
+{
+    let mut args = args;
+    let name = eat_name(&mut args).ok_or(Fault::InvalidExpression)?;
+    if !args.is_empty() {
+        return Err(ReadError::Fault(Fault::InvalidExpression));
+    }
+    Ok(Op::Ignore {
+        name: name.sym.clone()?,
+        id: name.span,
+    })
+}
+
+// A variable, and behind a comma a depth.
+#[tactic(auto, using(mbe_ops::proofs::OpViews::views))]
+fn parse_count<A: Allocator>(args: TtIter<'_, A>) -> Result<Op<A>, ReadError>
+    ensures op { IfOk result (λ o. option_map expression (count_of args.entry) ≡ Some (op_of o)) }
+    ensures fault { IfErr result (λ e. NotExpression e (count_of args.entry)) }
+{
+    let mut args = args;
+    let name = eat_name(&mut args).ok_or(Fault::InvalidExpression)?;
+    let depth = parse_depth_behind_comma(args).ok_or(Fault::InvalidExpression)?;
+    Ok(Op::Count {
+        name: name.sym.clone()?,
+        depth,
+    })
+}
+
+// `$` and an identifier other than `_`, which are passed.
+fn eat_name<'a, A: Allocator>(args: &mut TtIter<'a, A>) -> Option<&'a Ident<A>>
+    ensures { option_map (λ name. (ident_of name.now, args.new)) result ≡ dollar_name args.old }
+{
+    args.expect_dollar().ok()?;
+    args.expect_ident().ok()
+}
+
+// `,` and a depth, or nothing, which is the depth 0.
+fn parse_depth_behind_comma<A: Allocator>(src: TtIter<'_, A>) -> Option<usize>
+    ensures { result ≡ depth_behind_comma src.entry }
+{
+    let mut src = src;
+    if src.is_empty() {
+        return Some(0);
+    }
+    src.expect_comma().ok()?;
+    parse_depth(src)
+}
+
+// A depth, alone. A missing one is 0.
+fn parse_depth<A: Allocator>(src: TtIter<'_, A>) -> Option<usize>
+    ensures { result ≡ depth_of src.entry }
+{
+    let mut src = src;
+    match src.next() {
+        None => Some(0),
+        Some(TtElement::Leaf(Leaf::Literal(literal))) if src.is_empty() => parse_usize(literal),
+        Some(_) => None,
+    }
+}
+
+// The number that a literal without suffix writes.
+fn parse_usize<A: Allocator>(literal: &Literal<A>) -> Option<usize>
+    ensures { result ≡ (if is_plain (literal_of literal.now) then decimal_value (literal_text (literal_of literal.now)) else None) }
+{
+    let (text, suffix) = literal.text_and_suffix();
+    if suffix.is_empty() {
+        text.parse().ok()
+    } else {
+        None
+    }
+}
+
+// Two elements or more, with commas between them. A last comma may stand.
+#[tactic(auto, using(mbe_ops::proofs::OpViews::views))]
+fn parse_concat<A: Allocator + Copy>(
+    alloc: A,
+    span: Span,
+    args: TtIter<'_, A>,
+) -> Result<Op<A>, ReadError>
+    ensures op { IfOk result (λ o. option_map expression (concat_of span args.entry) ≡ Some (op_of o)) }
+    ensures fault { IfErr result (λ e. NotExpression e (concat_of span args.entry)) }
+{
+    let elements = parse_elements(alloc, args)?;
+    if elements.len() < 2 {
+        return Err(ReadError::Fault(Fault::InvalidExpression));
+    }
+    Ok(Op::Concat { elements, span })
+}
+
+fn parse_elements<A: Allocator + Copy>(
+    alloc: A,
+    src: TtIter<'_, A>,
+) -> Result<Vec<ConcatMetaVarExprElem<A>, A>, ReadError>
+    ensures elements { IfOk result (λ es. elements_of src.entry ≡ Some (map element_seen es.items)) }
+    ensures fault { IfErr result (λ e. NotExpression e (elements_of src.entry)) }
+{
+    let mut src = src;
+    let mut elements = Vec::new(alloc);
+    'elements: while !src.is_empty() {
+        let element = eat_element(&mut src)?;
+        elements.push(element)?;
+    }
+    Ok(elements)
+}
+
+// An element, and the comma behind it where it isn't the last.
+fn eat_element<A: Allocator>(src: &mut TtIter<'_, A>) -> Result<ConcatMetaVarExprElem<A>, ReadError>
+    requires { src.old ≢ none }
+    ensures element { IfOk result (λ e. elements_of src.old ≡ element_before (element_seen e) (elements_of src.new)) }
+    ensures fault { IfErr result (λ e. NotExpression e (elements_of src.old)) }
+    ensures shorter { OnOk result (flat_len src.new < flat_len src.old) }
+{
+    let element = parse_element(src)?;
+    if !src.is_empty() {
+        src.expect_comma().map_err(|()| Fault::InvalidExpression)?;
+    }
+    Ok(element)
+}
+
+fn parse_element<A: Allocator>(
+    src: &mut TtIter<'_, A>,
+) -> Result<ConcatMetaVarExprElem<A>, ReadError>
+    requires { src.old ≢ none }
+    ensures element { IfOk result (λ e. elements_of src.old ≡ element_before (element_seen e) (elements_behind_comma src.new)) }
+    ensures fault { IfErr result (λ e. NotExpression e (elements_of src.old)) }
+    ensures shorter { OnOk result (flat_len src.new < flat_len src.old) }
+{
+    if let Some(TtElement::Leaf(Leaf::Literal(literal))) = src.peek() {
+        let _passed = src.next();
+        return Ok(ConcatMetaVarExprElem::Literal(literal.clone()?));
+    }
+    let is_var = src.expect_dollar().is_ok();
+    let Ok(ident) = src.expect_ident_or_underscore() else {
+        return Err(ReadError::Fault(Fault::InvalidExpression));
+    };
+    let ident = ident.clone()?;
+    if is_var {
+        Ok(ConcatMetaVarExprElem::Var(ident))
+    } else {
+        Ok(ConcatMetaVarExprElem::Ident(ident))
+    }
+}

@@ -1,0 +1,130 @@
+-- What is read is cut from the front of the trees.
+use Rattle.mbe_tt.specs.Laws.{IsCut}
+use Rattle.mbe_tt.proofs.CutLemmas.{cut_trees-append, no_cut, if_cut, good_cut}
+use Rattle.std.specs.Prelude.{codes, ◌≡◌, ◌==◌, ◌&&◌, ◌||◌, ℕ, Bool, true, false, if◌then◌else◌, List, [], ◌∷◌, length, Option, Some, None, refl}
+use Rattle.std.proofs.Common.{subst}
+use Rattle.std.specs.Str.{bytes_eq}
+use Rattle.std.proofs.lemmas.Option.{same_Some}
+use Rattle.mbe_semantics.specs.declared.kinds.MetaVarKind.{MetaVarKind}
+use Rattle.mbe_semantics.specs.declared.kinds.MetaVarKind.TheVariants as kinds
+use Rattle.mbe_tt.specs.declared.grammar.PrefixEntryPoint.TheVariants as entries
+use Rattle.mbe_tt.specs.Leaf.{ident, literal, punct}
+use Rattle.mbe_tt.specs.Tree.{Forest, none, leaf, group, Cut, cut, cut_trees, is_truth}
+use Rattle.mbe_tt.specs.Glue.{glue, chars_of}
+use Rattle.mbe_semantics.specs.Op as ops
+use Rattle.mbe_semantics.specs.Op.{Op, Ops, no_ops, op}
+use Rattle.mbe_tt.specs.Grammar.{Grammar, good_front}
+use Rattle.mbe_tt.specs.Leaf.{is_text, is_underscore}
+use Rattle.mbe_semantics.specs.Takes.{takes, ident_front, lifetime_front, unsigned_front, literal_front, tree_front, with_leaf, begins_refused}
+use Rattle.mbe_semantics.specs.Fit.{token_front, literal_text_front, ident_text_front, puncts_front, lifetime_text_front, literal_separator_front, between_front}
+
+literal_text_cut : (text : List ℕ) (f : Forest) (c : Cut) → literal_text_front text f ≡ Some c → IsCut f c
+literal_text_cut text (leaf (literal l) rest) c e = if_cut _ (bytes_eq l.text_and_suffix text) _ c (cut_trees-append 1 (leaf (literal l) rest)) e
+literal_text_cut text (leaf (punct p) rest) c e = no_cut e
+literal_text_cut text (leaf (ident i) rest) c e = no_cut e
+literal_text_cut text none c e = no_cut e
+literal_text_cut text (group d inside rest) c e = no_cut e
+
+ident_text_cut : (text : List ℕ) (f : Forest) (c : Cut) → ident_text_front text f ≡ Some c → IsCut f c
+ident_text_cut text (leaf (ident i) rest) c e = if_cut _ (bytes_eq i.sym text) _ c (cut_trees-append 1 (leaf (ident i) rest)) e
+ident_text_cut text (leaf (punct p) rest) c e = no_cut e
+ident_text_cut text (leaf (literal l) rest) c e = no_cut e
+ident_text_cut text none c e = no_cut e
+ident_text_cut text (group d inside rest) c e = no_cut e
+
+puncts_cut : (chars : List ℕ) (f : Forest) (c : Cut) → puncts_front chars f ≡ Some c → IsCut f c
+puncts_cut [] f c e = no_cut e
+puncts_cut (x ∷ chars) f c e = if_cut f (bytes_eq (chars_of (glue f)) (x ∷ chars)) _ c (cut_trees-append (length (x ∷ chars)) f) e
+
+pub token_cut : (t : ops.Token) (f : Forest) (c : Cut) → token_front t f ≡ Some c → IsCut f c
+token_cut (ops.literal l) f c e = literal_text_cut l.text_and_suffix f c e
+token_cut (ops.ident i) f c e = ident_text_cut i.sym f c e
+token_cut (ops.puncts ps) f c e = puncts_cut (chars_of ps) f c e
+
+lifetime_text_cut : (text : List ℕ) (f : Forest) (c : Cut) → lifetime_text_front text f ≡ Some c → IsCut f c
+lifetime_text_cut text (leaf (punct p) (leaf (ident i) rest)) c e =
+    if_cut _ ((p.char == 39) && bytes_eq i.sym text) _ c (cut_trees-append 2 (leaf (punct p) (leaf (ident i) rest))) e
+lifetime_text_cut text _ c e = no_cut e
+
+literal_separator_cut : (text : List ℕ) (f : Forest) (c : Cut) → literal_separator_front text f ≡ Some c → IsCut f c
+literal_separator_cut text (leaf (ident i) rest) c e = go (is_truth text) e
+  where
+    go : (b : Bool) → (if b then ident_text_front text (leaf (ident i) rest) else None) ≡ Some c → IsCut (leaf (ident i) rest) c
+    go true h = ident_text_cut text (leaf (ident i) rest) c h
+    go false h = no_cut h
+literal_separator_cut text (leaf (literal l) rest) c e = literal_text_cut text (leaf (literal l) rest) c e
+literal_separator_cut text (leaf (punct p) rest) c e = no_cut e
+literal_separator_cut text none c e = no_cut e
+literal_separator_cut text (group d inside rest) c e = no_cut e
+
+pub between_cut : (s : Option ops.Separator) (f : Forest) (c : Cut) → between_front s f ≡ Some c → IsCut f c
+between_cut None f c e = subst (IsCut f) (same_Some (cut none f) c e) refl
+between_cut (Some (ops.ident_separator i)) f c e = ident_text_cut i.sym f c e
+between_cut (Some (ops.literal_separator l)) f c e = literal_separator_cut l.text_and_suffix f c e
+between_cut (Some (ops.punct_separator ps)) f c e = puncts_cut (chars_of ps) f c e
+between_cut (Some (ops.lifetime_separator p i)) f c e = lifetime_text_cut i.sym f c e
+
+ident_cut : (f : Forest) (c : Cut) → ident_front f ≡ Some c → IsCut f c
+ident_cut (leaf (ident i) rest) c e = go (is_underscore i.sym) e
+  where
+    go : (b : Bool) → (if b then None else Some (cut_trees 1 (leaf (ident i) rest))) ≡ Some c → IsCut (leaf (ident i) rest) c
+    go true h = no_cut h
+    go false h = subst (IsCut (leaf (ident i) rest)) (same_Some _ c h) (cut_trees-append 1 (leaf (ident i) rest))
+ident_cut _ c e = no_cut e
+
+lifetime_cut : (f : Forest) (c : Cut) → lifetime_front f ≡ Some c → IsCut f c
+lifetime_cut (leaf (punct p) (leaf (ident i) rest)) c e = if_cut _ (p.char == 39) _ c (cut_trees-append 2 (leaf (punct p) (leaf (ident i) rest))) e
+lifetime_cut _ c e = no_cut e
+
+unsigned_cut : (f : Forest) (c : Cut) → unsigned_front f ≡ Some c → IsCut f c
+unsigned_cut (leaf (literal l) rest) c e = subst (IsCut (leaf (literal l) rest)) (same_Some _ c e) (cut_trees-append 1 (leaf (literal l) rest))
+unsigned_cut (leaf (ident i) rest) c e =
+    if_cut _ (is_text i.sym (codes "true") || is_text i.sym (codes "false")) _ c (cut_trees-append 1 (leaf (ident i) rest)) e
+unsigned_cut _ c e = no_cut e
+
+literal_cut : (f : Forest) (c : Cut) → literal_front f ≡ Some c → IsCut f c
+literal_cut (leaf (punct p) rest) c e = go (p.char == 45) (unsigned_front rest) e
+  where
+    go : (b : Bool) (r : Option Cut) → (if b then with_leaf (leaf (punct p) rest) r else None) ≡ Some c → IsCut (leaf (punct p) rest) c
+    go true (Some x) h = subst (IsCut (leaf (punct p) rest)) (same_Some _ c h) (cut_trees-append 2 (leaf (punct p) rest))
+    go true None h = no_cut h
+    go false r h = no_cut h
+literal_cut (leaf (literal l) rest) c e = unsigned_cut (leaf (literal l) rest) c e
+literal_cut (leaf (ident i) rest) c e = unsigned_cut (leaf (ident i) rest) c e
+literal_cut none c e = no_cut e
+literal_cut (group d inside rest) c e = no_cut e
+
+tree_cut : (f : Forest) (c : Cut) → tree_front f ≡ Some c → IsCut f c
+tree_cut (leaf (punct p) rest) c e = go (p.char == 39) e
+  where
+    f : Forest
+    f = leaf (punct p) rest
+
+    go : (b : Bool) → (if b then lifetime_front f else Some (cut_trees (length (glue f)) f)) ≡ Some c → IsCut f c
+    go true h = lifetime_cut f c h
+    go false h = subst (IsCut f) (same_Some _ c h) (cut_trees-append (length (glue f)) f)
+tree_cut none c e = no_cut e
+tree_cut (leaf (literal l) rest) c e = subst (IsCut (leaf (literal l) rest)) (same_Some _ c e) (cut_trees-append 1 (leaf (literal l) rest))
+tree_cut (leaf (ident i) rest) c e = subst (IsCut (leaf (ident i) rest)) (same_Some _ c e) (cut_trees-append 1 (leaf (ident i) rest))
+tree_cut (group d inside rest) c e = subst (IsCut (group d inside rest)) (same_Some _ c e) (cut_trees-append 1 (group d inside rest))
+
+pub takes_cut : (g : Grammar) (kind : Option MetaVarKind) (f : Forest) (c : Cut) → takes g kind f ≡ Some c → IsCut f c
+takes_cut g None f c e = no_cut e
+takes_cut g (Some kinds.Ident) f c e = ident_cut f c e
+takes_cut g (Some kinds.Lifetime) f c e = lifetime_cut f c e
+takes_cut g (Some kinds.Tt) f c e = tree_cut f c e
+takes_cut g (Some kinds.Literal) f c e = literal_cut f c e
+takes_cut g (Some (kinds.Expr kind)) f c e = go (begins_refused kind f) e
+  where
+    go : (b : Bool) → (if b then None else good_front g entries.Expr f) ≡ Some c → IsCut f c
+    go true h = no_cut h
+    go false h = good_cut g entries.Expr f c h
+takes_cut g (Some kinds.Path) f c e = good_cut g entries.Path f c e
+takes_cut g (Some kinds.Ty) f c e = good_cut g entries.Ty f c e
+takes_cut g (Some kinds.Pat) f c e = good_cut g entries.PatTop f c e
+takes_cut g (Some kinds.PatParam) f c e = good_cut g entries.Pat f c e
+takes_cut g (Some kinds.Stmt) f c e = good_cut g entries.Stmt f c e
+takes_cut g (Some kinds.Block) f c e = good_cut g entries.Block f c e
+takes_cut g (Some kinds.Meta) f c e = good_cut g entries.MetaItem f c e
+takes_cut g (Some kinds.Item) f c e = good_cut g entries.Item f c e
+takes_cut g (Some kinds.Vis) f c e = good_cut g entries.Vis f c e

@@ -1,0 +1,174 @@
+-- What is read at a place takes at least one flat token; only a fragment of kind `vis` may take none.
+use Rattle.std.specs.Prelude.{codes, ◌≡◌, ◌≤◌, ◌<◌, ◌+◌, ◌==◌, ◌&&◌, ◌||◌, not, ℕ, zero, suc, Bool, true, false, if◌then◌else◌, List, [], ◌∷◌, length, take, Option, Some, None, refl}
+use Rattle.std.proofs.Common.{arith, ap, sym, ◌∙◌, subst, eqb-true}
+use Rattle.std.specs.Str.{bytes_eq}
+use Rattle.std.proofs.lemmas.Option.{same_Some}
+use Rattle.mbe_semantics.specs.declared.kinds.MetaVarKind.{MetaVarKind}
+use Rattle.mbe_semantics.specs.declared.kinds.MetaVarKind.TheVariants as kinds
+use Rattle.mbe_tt.specs.declared.tt.Punct.{Punct}
+use Rattle.mbe_tt.specs.declared.grammar.PrefixEntryPoint.{PrefixEntryPoint}
+use Rattle.mbe_tt.specs.declared.grammar.PrefixEntryPoint.TheVariants as entries
+use Rattle.mbe_tt.specs.Leaf.{Leaf, ident, literal, punct, is_text, is_underscore}
+use Rattle.mbe_tt.specs.Tree.{Forest, none, leaf, group, flat, flat_len, Cut, cut_trees, is_truth}
+use Rattle.mbe_tt.specs.Glue.{glue, chars_of, if_joint, joined, longest_operator, is_operator}
+use Rattle.mbe_tt.specs.Grammar.{Grammar, IsLawful, front, is_good, good_front}
+use Rattle.mbe_tt.proofs.CutLemmas.{no_cut, if_moves, no_true, both_left, both_right}
+use Rattle.mbe_semantics.specs.Op as ops
+use Rattle.mbe_semantics.specs.Nullable.{is_vis}
+use Rattle.mbe_semantics.specs.Takes.{takes, ident_front, lifetime_front, unsigned_front, literal_front, tree_front, with_leaf, begins_refused}
+use Rattle.mbe_semantics.specs.Fit.{token_front, literal_text_front, ident_text_front, puncts_front, lifetime_text_front, literal_separator_front, separator_front}
+
+pub leaf_moves : (n : ℕ) (l : Leaf) (rest : Forest) → 0 < n → 1 ≤ flat_len (cut_trees n (leaf l rest)).front
+leaf_moves zero l rest h = absurd (omega (arith, h))
+leaf_moves (suc n) l rest h = let e : 1 ≤ 1 + flat_len (cut_trees n rest).front = omega arith in e
+
+literal_moves : (text : List ℕ) (f : Forest) (c : Cut) → literal_text_front text f ≡ Some c → 1 ≤ flat_len c.front
+literal_moves text (leaf (literal l) rest) c e = if_moves (bytes_eq l.text_and_suffix text) _ c (leaf_moves 1 (literal l) rest (omega arith)) e
+literal_moves text _ c e = no_cut e
+
+ident_moves : (text : List ℕ) (f : Forest) (c : Cut) → ident_text_front text f ≡ Some c → 1 ≤ flat_len c.front
+ident_moves text (leaf (ident i) rest) c e = if_moves (bytes_eq i.sym text) _ c (leaf_moves 1 (ident i) rest (omega arith)) e
+ident_moves text _ c e = no_cut e
+
+puncts_move : (chars : List ℕ) (f : Forest) (c : Cut) → puncts_front chars f ≡ Some c → 1 ≤ flat_len c.front
+puncts_move [] f c e = no_cut e
+puncts_move (x ∷ chars) none c e = no_cut e
+puncts_move (x ∷ chars) (group d inside rest) c e = no_cut e
+puncts_move (x ∷ chars) (leaf l rest) c e =
+    if_moves (bytes_eq (chars_of (glue (leaf l rest))) (x ∷ chars)) _ c (let h : 1 ≤ 1 + flat_len (cut_trees (length chars) rest).front = omega arith in h) e
+
+pub token_moves : (t : ops.Token) (f : Forest) (c : Cut) → token_front t f ≡ Some c → 1 ≤ flat_len c.front
+token_moves (ops.literal l) f c e = literal_moves l.text_and_suffix f c e
+token_moves (ops.ident i) f c e = ident_moves i.sym f c e
+token_moves (ops.puncts ps) f c e = puncts_move (chars_of ps) f c e
+
+lifetime_text_moves : (text : List ℕ) (f : Forest) (c : Cut) → lifetime_text_front text f ≡ Some c → 1 ≤ flat_len c.front
+lifetime_text_moves text (leaf (punct p) (leaf (ident i) rest)) c e =
+    if_moves ((p.char == 39) && bytes_eq i.sym text) _ c (leaf_moves 2 (punct p) (leaf (ident i) rest) (omega arith)) e
+lifetime_text_moves text _ c e = no_cut e
+
+literal_separator_moves : (text : List ℕ) (f : Forest) (c : Cut) → literal_separator_front text f ≡ Some c → 1 ≤ flat_len c.front
+literal_separator_moves text (leaf (ident i) rest) c e = go (is_truth text) e
+  where
+    go : (b : Bool) → (if b then ident_text_front text (leaf (ident i) rest) else None) ≡ Some c → 1 ≤ flat_len c.front
+    go true h = ident_moves text (leaf (ident i) rest) c h
+    go false h = no_cut h
+literal_separator_moves text (leaf (literal l) rest) c e = literal_moves text (leaf (literal l) rest) c e
+literal_separator_moves text (leaf (punct p) rest) c e = no_cut e
+literal_separator_moves text none c e = no_cut e
+literal_separator_moves text (group d inside rest) c e = no_cut e
+
+pub separator_moves : (s : ops.Separator) (f : Forest) (c : Cut) → separator_front s f ≡ Some c → 1 ≤ flat_len c.front
+separator_moves (ops.ident_separator i) f c e = ident_moves i.sym f c e
+separator_moves (ops.literal_separator l) f c e = literal_separator_moves l.text_and_suffix f c e
+separator_moves (ops.punct_separator ps) f c e = puncts_move (chars_of ps) f c e
+separator_moves (ops.lifetime_separator p i) f c e = lifetime_text_moves i.sym f c e
+
+-- ---- variables
+
+if_not_moves : (b : Bool) (x c : Cut) → 1 ≤ flat_len x.front → (if b then None else Some x) ≡ Some c → 1 ≤ flat_len c.front
+if_not_moves true x c h e = no_cut e
+if_not_moves false x c h e = subst (λ y. 1 ≤ flat_len y.front) (same_Some x c e) h
+
+some_moves : (x c : Cut) → 1 ≤ flat_len x.front → Some x ≡ Some c → 1 ≤ flat_len c.front
+some_moves x c h e = subst (λ y. 1 ≤ flat_len y.front) (same_Some x c e) h
+
+name_moves : (f : Forest) (c : Cut) → ident_front f ≡ Some c → 1 ≤ flat_len c.front
+name_moves (leaf (ident i) rest) c e = if_not_moves (is_underscore i.sym) _ c (leaf_moves 1 (ident i) rest (omega arith)) e
+name_moves _ c e = no_cut e
+
+lifetime_moves : (f : Forest) (c : Cut) → lifetime_front f ≡ Some c → 1 ≤ flat_len c.front
+lifetime_moves (leaf (punct p) (leaf (ident i) rest)) c e = if_moves (p.char == 39) _ c (leaf_moves 2 (punct p) (leaf (ident i) rest) (omega arith)) e
+lifetime_moves _ c e = no_cut e
+
+unsigned_moves : (f : Forest) (c : Cut) → unsigned_front f ≡ Some c → 1 ≤ flat_len c.front
+unsigned_moves (leaf (literal l) rest) c e = some_moves _ c (leaf_moves 1 (literal l) rest (omega arith)) e
+unsigned_moves (leaf (ident i) rest) c e =
+    if_moves (is_text i.sym (codes "true") || is_text i.sym (codes "false")) _ c (leaf_moves 1 (ident i) rest (omega arith)) e
+unsigned_moves _ c e = no_cut e
+
+number_moves : (f : Forest) (c : Cut) → literal_front f ≡ Some c → 1 ≤ flat_len c.front
+number_moves (leaf (punct p) rest) c e = go (p.char == 45) (unsigned_front rest) e
+  where
+    go : (b : Bool) (r : Option Cut) → (if b then with_leaf (leaf (punct p) rest) r else None) ≡ Some c → 1 ≤ flat_len c.front
+    go true (Some x) h = some_moves _ c (leaf_moves 2 (punct p) rest (omega arith)) h
+    go true None h = no_cut h
+    go false r h = no_cut h
+number_moves (leaf (literal l) rest) c e = unsigned_moves (leaf (literal l) rest) c e
+number_moves (leaf (ident i) rest) c e = unsigned_moves (leaf (ident i) rest) c e
+number_moves none c e = no_cut e
+number_moves (group d inside rest) c e = no_cut e
+
+pub some_operator : (p : Punct) (more : List Punct) → 0 < length (longest_operator (p ∷ more))
+some_operator p more = go (is_operator (chars_of (p ∷ more))) (is_operator (chars_of (take 2 (p ∷ more))))
+  where
+    go : (a b : Bool) → 0 < length (if a then (p ∷ more) else (if b then take 2 (p ∷ more) else take 1 (p ∷ more)))
+    go true b = omega arith
+    go false true = two more
+      where
+        two : (m : List Punct) → 0 < length (take 2 (p ∷ m))
+        two [] = omega arith
+        two (x ∷ m) = omega arith
+    go false false = omega arith
+
+tree_moves : (f : Forest) (c : Cut) → tree_front f ≡ Some c → 1 ≤ flat_len c.front
+tree_moves (leaf (punct p) rest) c e = go (p.char == 39) e
+  where
+    f : Forest
+    f = leaf (punct p) rest
+
+    go : (b : Bool) → (if b then lifetime_front f else Some (cut_trees (length (glue f)) f)) ≡ Some c → 1 ≤ flat_len c.front
+    go true h = lifetime_moves f c h
+    go false h = some_moves _ c (leaf_moves (length (glue f)) (punct p) rest (some_operator p (if_joint p.spacing (joined 2 rest)))) h
+tree_moves none c e = no_cut e
+tree_moves (leaf (literal l) rest) c e = some_moves _ c (leaf_moves 1 (literal l) rest (omega arith)) e
+tree_moves (leaf (ident i) rest) c e = some_moves _ c (leaf_moves 1 (ident i) rest (omega arith)) e
+tree_moves (group d inside rest) c e = some_moves _ c (let h : 1 ≤ 2 + flat_len inside + flat_len (cut_trees 0 rest).front = omega arith in h) e
+
+not_true : (b : Bool) → not b ≡ true → b ≡ false
+not_true true e = no_true e
+not_true false e = refl
+
+-- a good front of no flat token was asked for at the entry of `vis`
+good_empty : (g : Grammar) → IsLawful g → (entry : PrefixEntryPoint) (f : Forest) (c : Cut) → good_front g entry f ≡ Some c → flat_len c.front ≡ 0 → entry ≡ entries.Vis
+good_empty g w entry f c e z = go (is_good g entry f) refl e
+  where
+    go : (b : Bool) → is_good g entry f ≡ b → (if b then Some (front g entry f) else None) ≡ Some c → entry ≡ entries.Vis
+    go true h k =
+        let same : flat_len (front g entry f).front ≡ (g.parse entry (flat f)).count =
+        eqb-true (flat_len (front g entry f).front) (g.parse entry (flat f)).count (both_right (not (g.parse entry (flat f)).fault) _ h) in
+        let length : flat_len (front g entry f).front ≡ flat_len c.front = ap (λ x. flat_len x.front) (same_Some (front g entry f) c k) in
+        w.nothing_for_vis entry (flat f) (not_true (g.parse entry (flat f)).fault (both_left (not (g.parse entry (flat f)).fault) _ h)) (omega (arith, same, length, z))
+    go false h k = no_cut k
+
+abbrev is_vis_entry : PrefixEntryPoint → Bool
+is_vis_entry entries.Vis = true
+is_vis_entry _ = false
+
+no_vis : {A : Type 0} (entry : PrefixEntryPoint) → is_vis_entry entry ≡ false → entry ≡ entries.Vis → A
+no_vis entry e h = no_true (sym e ∙ ap is_vis_entry h)
+
+some_taken : {A : Type 0} (c : Cut) → 1 ≤ flat_len c.front → flat_len c.front ≡ 0 → A
+some_taken c l z = absurd (omega (arith, l, z))
+
+-- what a variable takes over no flat token, it takes as a `vis`
+pub takes_empty : (g : Grammar) → IsLawful g → (kind : Option MetaVarKind) (f : Forest) (c : Cut) → takes g kind f ≡ Some c → flat_len c.front ≡ 0 → is_vis kind ≡ true
+takes_empty g w None f c e z = no_cut e
+takes_empty g w (Some kinds.Ident) f c e z = some_taken c (name_moves f c e) z
+takes_empty g w (Some kinds.Lifetime) f c e z = some_taken c (lifetime_moves f c e) z
+takes_empty g w (Some kinds.Tt) f c e z = some_taken c (tree_moves f c e) z
+takes_empty g w (Some kinds.Literal) f c e z = some_taken c (number_moves f c e) z
+takes_empty g w (Some (kinds.Expr kind)) f c e z = go (begins_refused kind f) e
+  where
+    go : (b : Bool) → (if b then None else good_front g entries.Expr f) ≡ Some c → is_vis (Some (kinds.Expr kind)) ≡ true
+    go true h = no_cut h
+    go false h = no_vis entries.Expr refl (good_empty g w entries.Expr f c h z)
+takes_empty g w (Some kinds.Path) f c e z = no_vis entries.Path refl (good_empty g w entries.Path f c e z)
+takes_empty g w (Some kinds.Ty) f c e z = no_vis entries.Ty refl (good_empty g w entries.Ty f c e z)
+takes_empty g w (Some kinds.Pat) f c e z = no_vis entries.PatTop refl (good_empty g w entries.PatTop f c e z)
+takes_empty g w (Some kinds.PatParam) f c e z = no_vis entries.Pat refl (good_empty g w entries.Pat f c e z)
+takes_empty g w (Some kinds.Stmt) f c e z = no_vis entries.Stmt refl (good_empty g w entries.Stmt f c e z)
+takes_empty g w (Some kinds.Block) f c e z = no_vis entries.Block refl (good_empty g w entries.Block f c e z)
+takes_empty g w (Some kinds.Meta) f c e z = no_vis entries.MetaItem refl (good_empty g w entries.MetaItem f c e z)
+takes_empty g w (Some kinds.Item) f c e z = no_vis entries.Item refl (good_empty g w entries.Item f c e z)
+takes_empty g w (Some kinds.Vis) f c e z = refl

@@ -1,0 +1,5 @@
+// What macros by example mean: the grammar of definitions, matching, transcription; and the plain words of it.
+#![tactic(auto)]
+
+pub mod kinds;
+pub mod macro_call_style;

@@ -1,0 +1,4 @@
+pub mod WritingLemmas
+pub mod Unwritten
+pub mod AgreeLemmas
+pub mod FaultlessLemmas
