@@ -4,14 +4,14 @@ use Rattle.std.proofs.Common.{ap, sym, subst, arith, add-one}
 use Rattle.std.proofs.Math.Seq.{take-nil}
 use Rattle.std.proofs.lemmas.Bool.{lt-ltb, le-ltb}
 use Rattle.std.specs.Result.{OkIff, result_ok}
-use Rattle.mbe_semantics.specs.Macro.{arm_of}
+use Rattle.mbe_semantics.specs.Expansion.Macro.{arm_of}
 use Rattle.std.proofs.lemmas.Option.{none-some, same_Some}
 use Rattle.mbe_tt.specs.Tree.{Forest}
 use Rattle.mbe_tt.specs.Grammar.{Grammar}
 use Rattle.mbe_semantics.specs.declared.macro_call_style.MacroCallStyle.{MacroCallStyle}
-use Rattle.mbe_semantics.specs.Definition.{Rule}
-use Rattle.mbe_semantics.specs.Expansion.{Applies, FirstThatApplies, this_one, a_later_one}
-use Rattle.mbe_semantics.specs.Answer.{NoneApplies, AreCarried, IsCarried}
+use Rattle.mbe_semantics.specs.Syntax.Definition.{Rule}
+use Rattle.mbe_semantics.specs.Expansion.Expansion.{Applies, FirstThatApplies, this_one, a_later_one}
+use Rattle.mbe_semantics.specs.Expansion.Answer.{NoneApplies, AreCarried, IsCarried}
 
 module _ (g : Grammar) (style : MacroCallStyle) (argument : Forest) where
   pub first_at : (rs : List Rule) (n : ℕ) (r : Rule) (a : Applies g style argument r) → NoneApplies g style argument (take n rs) → slice_get rs n ≡ Some r

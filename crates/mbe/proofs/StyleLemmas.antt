@@ -11,8 +11,8 @@ use Rattle.bitflags.proofs.OnLiterals.{bitflags_on_literals}
 use Rattle.std.proofs.lemmas.List.Folds.{list_any-append}
 use Rattle.mbe_semantics.specs.declared.macro_call_style.MacroCallStyle.{MacroCallStyle}
 use Rattle.mbe_semantics.specs.declared.macro_call_style.MacroCallStyle.TheVariants.{FnLike, Attr, Derive}
-use Rattle.mbe_semantics.specs.Definition.{Rule}
-use Rattle.mbe_semantics.specs.Macro.{is_fn_like, is_attr, is_derive, style_bits as bits_of_rules}
+use Rattle.mbe_semantics.specs.Syntax.Definition.{Rule}
+use Rattle.mbe_semantics.specs.Expansion.Macro.{is_fn_like, is_attr, is_derive, style_bits as bits_of_rules}
 use Rattle.mbe.specs.Styles.{bit_of, style_table, StyleBits}
 
 known_is_7 : known_bits style_table ≡ 7

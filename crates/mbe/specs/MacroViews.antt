@@ -1,7 +1,7 @@
 -- What a macro that was read is: its rules, and the fault that it tells.
 use Rattle.std.specs.Prelude.{option_map}
 use Rattle.mbe.specs.declared.macros.DeclarativeMacro.{DeclarativeMacro}
-use Rattle.mbe_semantics.specs.Macro.{Macro}
+use Rattle.mbe_semantics.specs.Expansion.Macro.{Macro}
 use Rattle.mbe_parser.specs.RuleViews.{rules_seen}
 use Rattle.mbe_errors.specs.ErrorViews.{parse_error_of}
 

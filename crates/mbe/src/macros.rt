@@ -1,14 +1,14 @@
 // Macro definitions.
 ghost use Rattle.std.specs.Prelude.{◌≡◌, [], length, option_map, Some, IfOk};
-ghost use Rattle.mbe_semantics.specs.Definition.{with_refusal};
+ghost use Rattle.mbe_semantics.specs.Syntax.Definition.{with_refusal};
 ghost use Rattle.mbe_errors.specs.ErrorViews.{fault_of};
 ghost use Rattle.mbe_parser.specs.RuleViews.{rules_seen};
 ghost use Rattle.mbe_errors.specs.ErrorViews.{parse_error_of, errors_of};
-ghost use Rattle.mbe_semantics.specs.Answer.{Answers, AreCarried};
-ghost use Rattle.mbe_semantics.specs.Macro.{style_bits, TellsRefusal, IsChecked};
+ghost use Rattle.mbe_semantics.specs.Expansion.Answer.{Answers, AreCarried};
+ghost use Rattle.mbe_semantics.specs.Expansion.Macro.{style_bits, TellsRefusal, IsChecked};
 ghost use Rattle.mbe.specs.Styles.{bits_of};
 ghost use Rattle.mbe_tt.specs.Top.{top_group};
-ghost use Rattle.mbe_semantics.specs.Marking.{MayMark, MayAsk};
+ghost use Rattle.mbe_semantics.specs.Laws.Marking.{MayMark, MayAsk};
 
 use crate::expander::expand_rules;
 use crate::macro_call_style::MacroCallStyles;
@@ -35,7 +35,7 @@ pub struct DeclarativeMacro<A: Allocator = Global> {
 
 impl<A: Allocator + Copy> DeclarativeMacro<A> {
     ghost use Rattle.mbe.specs.MacroViews.{macro_of};
-    ghost use Rattle.mbe_semantics.specs.ReadAs.{IsReadAs, IsReadAsMacro};
+    ghost use Rattle.mbe_semantics.specs.Expansion.ReadAs.{IsReadAs, IsReadAsMacro};
 
     /// A macro without rules, which tells the error: that of a definition whose rules can't even be found.
     pub fn from_err(alloc: A, err: ParseError<A>) -> DeclarativeMacro<A>

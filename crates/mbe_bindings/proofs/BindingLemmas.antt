@@ -9,10 +9,10 @@ use Rattle.mbe_bindings.specs.declared.bindings.Bindings.{Bindings}
 use Rattle.mbe_bindings.specs.BindingViews.{fragment_seen, bound_by}
 use Rattle.std.specs.Prelude.{map}
 use Rattle.std.specs.Cmp.Lexicographic.{nat_list_eq_equiv}
-use Rattle.mbe_semantics.specs.Op.{Name}
-use Rattle.mbe_semantics.specs.Item.{Item, matched, bound, grouped, skipped, rounds, Items, no_items, item, Rounds, no_rounds, round}
-use Rattle.mbe_semantics.specs.Environment.{Environment, Value, fragment, list, empty, missing, value_of, set_value, grown, add_round, skip_names, bind_item, bind, bind_rounds}
-use Rattle.mbe_semantics.specs.Environment.{BindsAlike}
+use Rattle.mbe_semantics.specs.Syntax.Op.{Name}
+use Rattle.mbe_semantics.specs.Readings.Item.{Item, matched, bound, grouped, skipped, rounds, Items, no_items, item, Rounds, no_rounds, round}
+use Rattle.mbe_semantics.specs.Bindings.Environment.{Environment, Value, fragment, list, empty, missing, value_of, set_value, grown, add_round, skip_names, bind_item, bind, bind_rounds}
+use Rattle.mbe_semantics.specs.Bindings.Environment.{BindsAlike}
 
 -- ---- what a name is bound to
 

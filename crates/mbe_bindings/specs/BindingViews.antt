@@ -5,8 +5,8 @@ use Rattle.mbe_bindings.specs.declared.bindings.Bindings as found
 use Rattle.mbe_bindings.specs.declared.bindings.Fragment as took
 use Rattle.mbe_bindings.specs.declared.bindings.TokensOrigin.{TokensOrigin}
 use Rattle.mbe_bindings.specs.declared.bindings.TokensOrigin.TheVariants.{Raw, Ast}
-use Rattle.mbe_semantics.specs.Item.{Fragment, Style, plain, stripped, as_expression, as_path}
-use Rattle.mbe_semantics.specs.Environment.{Environment, fragment}
+use Rattle.mbe_semantics.specs.Readings.Item.{Fragment, Style, plain, stripped, as_expression, as_path}
+use Rattle.mbe_semantics.specs.Bindings.Environment.{Environment, fragment}
 
 -- the style of a fragment of tokens: one that the grammar was asked for keeps an invisible group around it
 abbrev pub origin_style : TokensOrigin → Style

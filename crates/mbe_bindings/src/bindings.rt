@@ -1,9 +1,9 @@
 // What variables are bound to.
 ghost use Rattle.std.specs.Prelude.{◌≡◌, [], OnOk, OnErr, option_map};
 ghost use Rattle.mbe_tt.specs.View.{trees};
-ghost use Rattle.mbe_semantics.specs.Environment.{set_value, value_of, fragment as fragment_value};
-ghost use Rattle.mbe_semantics.specs.Item.{style_of};
-ghost use Rattle.mbe_semantics.specs.Environment.{BindsAlike};
+ghost use Rattle.mbe_semantics.specs.Bindings.Environment.{set_value, value_of, fragment as fragment_value};
+ghost use Rattle.mbe_semantics.specs.Readings.Item.{style_of};
+ghost use Rattle.mbe_semantics.specs.Bindings.Environment.{BindsAlike};
 ghost use Rattle.mbe_bindings.specs.BindingViews.{bound_by, fragment_seen};
 
 use mbe_semantics::kinds::MetaVarKind;

@@ -6,8 +6,8 @@ use Rattle.mbe_errors.specs.declared.error.ExpandError as expand
 use Rattle.mbe_errors.specs.declared.error.ExpandErrorKind as kinds
 use Rattle.mbe_errors.specs.declared.error.CountError as counts
 use Rattle.mbe_errors.specs.declared.error.Fault as told
-use Rattle.mbe_semantics.specs.Template.{Fault, unexpected_token, expected, invalid_repeat, empty_repetition}
-use Rattle.mbe_semantics.specs.Error.{ExpandErrorKind, binding_error, unresolved_binding, leftover_tokens, limit_exceeded, no_matching_rule, unexpected_token as unexpected_input, ExpandError}
+use Rattle.mbe_semantics.specs.Syntax.Template.{Fault, unexpected_token, expected, invalid_repeat, empty_repetition}
+use Rattle.mbe_semantics.specs.Expansion.Error.{ExpandErrorKind, binding_error, unresolved_binding, leftover_tokens, limit_exceeded, no_matching_rule, unexpected_token as unexpected_input, ExpandError}
 
 abbrev pub parse_error_of : {A : Type 0} → parse.ParseError A → Fault
 parse_error_of (parse.TheVariants.UnexpectedToken text) = unexpected_token (string_bytes text)

@@ -9,18 +9,18 @@ use Rattle.mbe_tt.specs.Leaf.{ident}
 use Rattle.mbe_tt.specs.Tree.{none, leaf}
 use Rattle.mbe_tt.specs.declared.tt.LitKind.TheVariants.{Str}
 use Rattle.mbe_semantics.specs.declared.macro_call_style.MacroCallStyle.TheVariants.{FnLike}
-use Rattle.mbe_semantics.specs.Op as ops
-use Rattle.mbe_semantics.specs.Template.{nothing, token, variable, undated}
-use Rattle.mbe_semantics.specs.Definition.{Rule, ended, separated}
-use Rattle.mbe_semantics.specs.Environment.{environment_of}
-use Rattle.mbe_semantics.specs.Substitution.{faults, rawness}
-use Rattle.mbe_semantics.specs.Expansion.{Applies, FirstThatApplies, this_one, a_later_one}
-use Rattle.mbe_semantics.specs.Sample.{at, ident_of, taken}
-use Rattle.mbe_semantics.specs.Examples.{ConcatExample, concat_rule, concat_of, foo}
+use Rattle.mbe_semantics.specs.Syntax.Op as ops
+use Rattle.mbe_semantics.specs.Syntax.Template.{nothing, token, variable, undated}
+use Rattle.mbe_semantics.specs.Syntax.Definition.{Rule, ended, separated}
+use Rattle.mbe_semantics.specs.Bindings.Environment.{environment_of}
+use Rattle.mbe_semantics.specs.Writing.Substitution.{faults, rawness}
+use Rattle.mbe_semantics.specs.Expansion.Expansion.{Applies, FirstThatApplies, this_one, a_later_one}
+use Rattle.mbe_semantics.specs.Examples.Sample.{at, ident_of, taken}
+use Rattle.mbe_semantics.specs.Examples.Examples.{ConcatExample, concat_rule, concat_of, foo}
 use Rattle.mbe_examples.proofs.RuleLemmas.{applies_once, faulty_once}
-use Rattle.mbe_semantics.specs.Item as items
-use Rattle.mbe_semantics.specs.Item.{Fragment, Item, matched, bound, skipped, rounds, Items, no_items, item, no_rounds, round, items_width}
-use Rattle.mbe_semantics.specs.Ambiguity.{IsReading}
+use Rattle.mbe_semantics.specs.Readings.Item as items
+use Rattle.mbe_semantics.specs.Readings.Item.{Fragment, Item, matched, bound, skipped, rounds, Items, no_items, item, no_rounds, round, items_width}
+use Rattle.mbe_semantics.specs.Readings.Ambiguity.{IsReading}
 
 abbrev foo_items : Items
 foo_items = item no_items (taken (codes "x") items.stripped foo)

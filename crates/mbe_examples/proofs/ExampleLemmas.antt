@@ -5,25 +5,25 @@ use Rattle.std.proofs.Math.Bool.{false≢true}
 use Rattle.mbe_tt.specs.Tree.{Forest, none, flat_len, Cut, cut_flat}
 use Rattle.mbe_tt.specs.Grammar.{Grammar, IsLawful}
 use Rattle.mbe_tt.specs.declared.grammar.Front.{Front}
-use Rattle.mbe_semantics.specs.Error.{ExpandError, binding_error}
+use Rattle.mbe_semantics.specs.Expansion.Error.{ExpandError, binding_error}
 use Rattle.mbe_semantics.specs.declared.macro_call_style.MacroCallStyle.{MacroCallStyle}
 use Rattle.mbe_semantics.specs.declared.macro_call_style.MacroCallStyle.TheVariants.{FnLike, Attr}
-use Rattle.mbe_semantics.specs.Template.{nothing, token, variable, repeated, undated, dated_expr}
-use Rattle.mbe_semantics.specs.Definition.{ended, separated, unseparated, no_rule}
-use Rattle.mbe_semantics.specs.Environment.{environment_of, binding_total}
-use Rattle.mbe_semantics.specs.Expansion.{Applies, FirstThatApplies, this_one, a_later_one}
-use Rattle.mbe_semantics.specs.Sample.{taken, at, text_at, joint_at, alone_at}
-use Rattle.mbe_semantics.specs.Examples.{EndlessExample, endless_rule, simple_rule, one_a, StyledExample, attr_rule, plain_rule, PathExample, path_rule, path_argument, TextExample, literal_rule, raw_rule, UnboundExample, unbound_rule, RefusedExample, TwiceExample, twice_rule, PunctsExample, puncts_rule, DoubleExample, double_rule, sum_argument, LetExample, FrontExample, front_argument, NoRuleExample, let_rule, let_argument}
+use Rattle.mbe_semantics.specs.Syntax.Template.{nothing, token, variable, repeated, undated, dated_expr}
+use Rattle.mbe_semantics.specs.Syntax.Definition.{ended, separated, unseparated, no_rule}
+use Rattle.mbe_semantics.specs.Bindings.Environment.{environment_of, binding_total}
+use Rattle.mbe_semantics.specs.Expansion.Expansion.{Applies, FirstThatApplies, this_one, a_later_one}
+use Rattle.mbe_semantics.specs.Examples.Sample.{taken, at, text_at, joint_at, alone_at}
+use Rattle.mbe_semantics.specs.Examples.Examples.{EndlessExample, endless_rule, simple_rule, one_a, StyledExample, attr_rule, plain_rule, PathExample, path_rule, path_argument, TextExample, literal_rule, raw_rule, UnboundExample, unbound_rule, RefusedExample, TwiceExample, twice_rule, PunctsExample, puncts_rule, DoubleExample, double_rule, sum_argument, LetExample, FrontExample, front_argument, NoRuleExample, let_rule, let_argument}
 use Rattle.mbe_examples.proofs.RuleLemmas.{answer_cut, answer_fragment, by_run, fits_once, applies_once, faulty_once, closest_alone}
-use Rattle.mbe_semantics.specs.Item as items
-use Rattle.mbe_semantics.specs.Item.{Fragment, Item, matched, bound, skipped, rounds, Items, no_items, item, no_rounds, round, items_width}
-use Rattle.mbe_semantics.specs.Ambiguity.{IsReading}
+use Rattle.mbe_semantics.specs.Readings.Item as items
+use Rattle.mbe_semantics.specs.Readings.Item.{Fragment, Item, matched, bound, skipped, rounds, Items, no_items, item, no_rounds, round, items_width}
+use Rattle.mbe_semantics.specs.Readings.Ambiguity.{IsReading}
 use Rattle.mbe_semantics.specs.declared.kinds.MetaVarKind.TheVariants as kinds
 use Rattle.mbe_semantics.specs.declared.kinds.ExprKind.TheVariants as exprs
-use Rattle.mbe_semantics.specs.Verdict as verdicts
-use Rattle.mbe_semantics.specs.Verdict.{IsVerdict, stuck}
-use Rattle.mbe_semantics.specs.Run.{run, verdict}
-use Rattle.mbe_semantics.specs.Steps.{tree}
+use Rattle.mbe_semantics.specs.Readings.Verdict as verdicts
+use Rattle.mbe_semantics.specs.Readings.Verdict.{IsVerdict, stuck}
+use Rattle.mbe_semantics.specs.Matching.Run.{run, verdict}
+use Rattle.mbe_semantics.specs.Readings.Steps.{tree}
 use Rattle.mbe_semantics.proofs.PlainLemmas.{one_reading}
 
 -- ---- a template without an end

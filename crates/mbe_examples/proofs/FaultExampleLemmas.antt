@@ -1,9 +1,9 @@
 -- What the grammar of definitions says of definitions with a fault.
 use Rattle.std.specs.Prelude.{None, [], refl}
 use Rattle.mbe_tt.specs.Tree.{none}
-use Rattle.mbe_semantics.specs.Template.{nothing, token, repeated, here}
-use Rattle.mbe_semantics.specs.Definition.{ended, no_rule, faulty_rule, unseparated, separated, in_pattern, in_template, faulty}
-use Rattle.mbe_semantics.specs.FurtherExamples.{FaultExamples, SpecifierExamples}
+use Rattle.mbe_semantics.specs.Syntax.Template.{nothing, token, repeated, here}
+use Rattle.mbe_semantics.specs.Syntax.Definition.{ended, no_rule, faulty_rule, unseparated, separated, in_pattern, in_template, faulty}
+use Rattle.mbe_semantics.specs.Examples.FurtherExamples.{FaultExamples, SpecifierExamples}
 
 pub fault_examples : FaultExamples
 fault_examples = record {

@@ -4,34 +4,34 @@ use Rattle.std.proofs.Common.{arith, ap, sym, ◌∙◌}
 use Rattle.std.specs.Fmt.{digits}
 use Rattle.std.proofs.Math.Bool.{false≢true}
 use Rattle.mbe_tt.specs.Tree.{none, group, cut_flat, flat_len}
-use Rattle.mbe_semantics.specs.Op as ops
+use Rattle.mbe_semantics.specs.Syntax.Op as ops
 use Rattle.mbe_semantics.specs.declared.kinds.MetaVarKind.TheVariants.{Vis}
-use Rattle.mbe_semantics.specs.Item.{Fragment, Item, matched, grouped, skipped, rounds, Items, no_items, item, no_rounds}
-use Rattle.mbe_semantics.specs.Input.{fragment_of}
-use Rattle.mbe_semantics.specs.Reading.{within, Beginning, dot}
-use Rattle.mbe_semantics.specs.Steps.{tree}
-use Rattle.mbe_semantics.specs.Ambiguity.{IsReading, IsAmbiguousAt, Fits}
-use Rattle.mbe_semantics.specs.Verdict.{IsVerdict, one_reading, many_readings, ambiguous}
-use Rattle.mbe_semantics.specs.Run.{run, verdict}
+use Rattle.mbe_semantics.specs.Readings.Item.{Fragment, Item, matched, grouped, skipped, rounds, Items, no_items, item, no_rounds}
+use Rattle.mbe_semantics.specs.Readings.Input.{fragment_of}
+use Rattle.mbe_semantics.specs.Readings.Reading.{within, Beginning, dot}
+use Rattle.mbe_semantics.specs.Readings.Steps.{tree}
+use Rattle.mbe_semantics.specs.Readings.Ambiguity.{IsReading, IsAmbiguousAt, Fits}
+use Rattle.mbe_semantics.specs.Readings.Verdict.{IsVerdict, one_reading, many_readings, ambiguous}
+use Rattle.mbe_semantics.specs.Matching.Run.{run, verdict}
 use Rattle.mbe_semantics.proofs.PlainLemmas as plain
-use Rattle.mbe_laws.proofs.WordLemmas.{words_never_ambiguous}
+use Rattle.mbe_laws.proofs.Patterns.WordLemmas.{words_never_ambiguous}
 use Rattle.mbe_examples.proofs.RuleLemmas.{by_run, fits_by_run, closest_alone}
-use Rattle.mbe_semantics.specs.Op.{Op, Ops, no_ops, op}
+use Rattle.mbe_semantics.specs.Syntax.Op.{Op, Ops, no_ops, op}
 use Rattle.mbe_tt.specs.Grammar.{Grammar, IsLawful}
-use Rattle.mbe_semantics.specs.Template.{pattern, template, Template, nothing, token, variable, grouped, repeated, undated}
-use Rattle.mbe_semantics.specs.Definition.{ended, separated}
-use Rattle.mbe_semantics.specs.FirstExamples.{pair_reads, pair_writes, PairExample, pair_rule, pair_argument, pair_items, CastExample, cast_pattern, cast_argument, cast_rule, OptionalExample, twice_pattern, twice_argument, twice_rule, QuoteExample, quote_pattern, quote_argument, quote_rule, RoundsExample, bx_pattern, bx_argument, bx_rule, TemplateExamples, DefinitionExamples, VerdictExamples, group_pattern, list_pattern, x_variable, token_of, comma, in_parentheses, a_then, comma_then, bx_items, of_kind, list_between, quote_then, arrow_pattern}
-use Rattle.mbe_semantics.specs.Sample.{is_2024, delimiter_of, at, word, mark, punct_of}
+use Rattle.mbe_semantics.specs.Syntax.Template.{pattern, template, Template, nothing, token, variable, grouped, repeated, undated}
+use Rattle.mbe_semantics.specs.Syntax.Definition.{ended, separated}
+use Rattle.mbe_semantics.specs.Examples.FirstExamples.{pair_reads, pair_writes, PairExample, pair_rule, pair_argument, pair_items, CastExample, cast_pattern, cast_argument, cast_rule, OptionalExample, twice_pattern, twice_argument, twice_rule, QuoteExample, quote_pattern, quote_argument, quote_rule, RoundsExample, bx_pattern, bx_argument, bx_rule, TemplateExamples, DefinitionExamples, VerdictExamples, group_pattern, list_pattern, x_variable, token_of, comma, in_parentheses, a_then, comma_then, bx_items, of_kind, list_between, quote_then, arrow_pattern}
+use Rattle.mbe_semantics.specs.Examples.Sample.{is_2024, delimiter_of, at, word, mark, punct_of}
 use Rattle.mbe_semantics.specs.declared.kinds.MetaVarKind.TheVariants as kinds
 use Rattle.mbe_semantics.specs.declared.kinds.ExprKind.TheVariants as exprs
 use Rattle.mbe_tt.specs.declared.tt.LitKind.TheVariants.{Str}
 use Rattle.mbe_tt.specs.declared.tt.Spacing.TheVariants.{Alone, Joint}
 use Rattle.mbe_semantics.specs.declared.kinds.RepeatKind.TheVariants.{ZeroOrOne, ZeroOrMore, OneOrMore}
 use Rattle.mbe_tt.specs.declared.tt.DelimiterKind.TheVariants.{Parenthesis, Brace}
-use Rattle.mbe_semantics.specs.Expansion.{Applies, this_one}
+use Rattle.mbe_semantics.specs.Expansion.Expansion.{Applies, this_one}
 use Rattle.mbe_semantics.specs.declared.macro_call_style.MacroCallStyle.TheVariants.{FnLike}
 use Rattle.mbe_tt.specs.declared.grammar.Front.{Front}
-use Rattle.mbe_semantics.specs.Definition.{unseparated, no_rule}
+use Rattle.mbe_semantics.specs.Syntax.Definition.{unseparated, no_rule}
 
 pair_read : (g : Grammar) → IsReading g pair_rule.reads pair_argument pair_items
 pair_read g = ((_, (_, (_, (_, refl, (refl, refl)), refl), (refl, refl)), refl), refl)

@@ -5,24 +5,24 @@ use Rattle.std.proofs.lemmas.Option.{none-some, same_Some}
 use Rattle.mbe_tt.specs.Tree.{Forest, none, group}
 use Rattle.mbe_tt.specs.Grammar.{Grammar, IsLawful}
 use Rattle.mbe_semantics.specs.declared.macro_call_style.MacroCallStyle.TheVariants.{FnLike}
-use Rattle.mbe_semantics.specs.Template.{nothing, token, variable, repeated, undated}
-use Rattle.mbe_semantics.specs.Definition.{Rule, ended, separated}
-use Rattle.mbe_semantics.specs.Item as items
-use Rattle.mbe_semantics.specs.Item.{Item, matched, bound, grouped, skipped, rounds, Items, no_items, item, no_rounds, round}
-use Rattle.mbe_semantics.specs.Ambiguity.{IsReading, Fits}
-use Rattle.mbe_semantics.specs.Environment.{environment_of, binding_total}
-use Rattle.mbe_semantics.specs.Expansion.{Applies, this_one, a_later_one}
-use Rattle.mbe_semantics.specs.Recovery.{IsClosest, IsStyledAt, GoesBefore}
-use Rattle.mbe_semantics.specs.Verdict as verdicts
-use Rattle.mbe_semantics.specs.Verdict.{Verdict, IsVerdict, unmatched}
-use Rattle.mbe_semantics.specs.Run.{run, verdict}
-use Rattle.mbe_semantics.specs.Steps.{tree}
-use Rattle.mbe_semantics.specs.Sample.{taken, text_at, number_at, alone_at, delimiter_of, at}
+use Rattle.mbe_semantics.specs.Syntax.Template.{nothing, token, variable, repeated, undated}
+use Rattle.mbe_semantics.specs.Syntax.Definition.{Rule, ended, separated}
+use Rattle.mbe_semantics.specs.Readings.Item as items
+use Rattle.mbe_semantics.specs.Readings.Item.{Item, matched, bound, grouped, skipped, rounds, Items, no_items, item, no_rounds, round}
+use Rattle.mbe_semantics.specs.Readings.Ambiguity.{IsReading, Fits}
+use Rattle.mbe_semantics.specs.Bindings.Environment.{environment_of, binding_total}
+use Rattle.mbe_semantics.specs.Expansion.Expansion.{Applies, this_one, a_later_one}
+use Rattle.mbe_semantics.specs.Expansion.Recovery.{IsClosest, IsStyledAt, GoesBefore}
+use Rattle.mbe_semantics.specs.Readings.Verdict as verdicts
+use Rattle.mbe_semantics.specs.Readings.Verdict.{Verdict, IsVerdict, unmatched}
+use Rattle.mbe_semantics.specs.Matching.Run.{run, verdict}
+use Rattle.mbe_semantics.specs.Readings.Steps.{tree}
+use Rattle.mbe_semantics.specs.Examples.Sample.{taken, text_at, number_at, alone_at, delimiter_of, at}
 use Rattle.std.specs.Fmt.{digits}
 use Rattle.mbe_tt.specs.declared.tt.DelimiterKind.TheVariants.{Parenthesis}
-use Rattle.mbe_semantics.specs.FurtherExamples.{SignExample, one_rule, two_rule, three_rule, any_literal_rule, signed_argument, spaced_argument, PlusExample, plus_rule, star_argument, InvisibleExample, tree_rule, ident_rule, hidden_rule, hidden_a, NamesExample, one_then_list, list_then_one, two_lists, a_at, MostBindingsExample, one_binding, two_bindings, pq_argument, beside_rule, EarliestExample, earlier_rule, later_rule, p_argument, MarkedExample}
+use Rattle.mbe_semantics.specs.Examples.FurtherExamples.{SignExample, one_rule, two_rule, three_rule, any_literal_rule, signed_argument, spaced_argument, PlusExample, plus_rule, star_argument, InvisibleExample, tree_rule, ident_rule, hidden_rule, hidden_a, NamesExample, one_then_list, list_then_one, two_lists, a_at, MostBindingsExample, one_binding, two_bindings, pq_argument, beside_rule, EarliestExample, earlier_rule, later_rule, p_argument, MarkedExample}
 use Rattle.mbe_examples.proofs.RuleLemmas.{by_run, fits_once, applies_once, applies_by_run}
-use Rattle.mbe_laws.proofs.RunLemmas.{one_verdict}
+use Rattle.mbe_laws.proofs.Matching.RunLemmas.{one_verdict}
 
 -- ---- a literal and its sign
 

@@ -3,8 +3,8 @@ use Rattle.std.specs.Prelude.{◌≡◌, ℕ, List, [], ◌∷◌, length, refl}
 use Rattle.std.proofs.Common.{arith, ap}
 use Rattle.std.specs.Str.{chars}
 use Rattle.unicode_ident.proofs.Computing.{unicode_ident}
-use Rattle.mbe_semantics.specs.LogExamples.{LogExamples, DefaultExamples, entries}
-use Rattle.mbe_semantics.specs.Account.{Entry, HasOneListMore}
+use Rattle.mbe_semantics.specs.Examples.LogExamples.{LogExamples, DefaultExamples, entries}
+use Rattle.mbe_semantics.specs.Bindings.Account.{Entry, HasOneListMore}
 
 four_not : HasOneListMore [] (entries 4 ∷ []) → ⊥
 four_not h =

@@ -7,24 +7,24 @@ use Rattle.mbe_tt.specs.Tree.{none}
 use Rattle.mbe_tt.specs.Grammar.{Grammar}
 use Rattle.mbe_semantics.specs.declared.macro_call_style.MacroCallStyle.TheVariants.{FnLike}
 use Rattle.mbe_semantics.specs.declared.kinds.MetaVarKind.TheVariants as kinds
-use Rattle.mbe_semantics.specs.Template.{nothing, token, variable, repeated, undated}
-use Rattle.mbe_semantics.specs.Definition.{ended, separated}
+use Rattle.mbe_semantics.specs.Syntax.Template.{nothing, token, variable, repeated, undated}
+use Rattle.mbe_semantics.specs.Syntax.Definition.{ended, separated}
 use Rattle.mbe_tt.specs.declared.grammar.PrefixEntryPoint.TheVariants.{Vis}
-use Rattle.mbe_semantics.specs.Expansion.{Applies, this_one, a_later_one}
-use Rattle.mbe_semantics.specs.Sample.{taken, text_at}
-use Rattle.mbe_semantics.specs.Examples.{ListExample, list_rule, list_argument, IndexExample, index_rule, two_words, UnknownExample, unknown_rule, any_rule, one_a, EmptyExample, empty_rule, ZipExample, zip_rule, zip_argument, CountExample, count_rule, count_argument}
+use Rattle.mbe_semantics.specs.Expansion.Expansion.{Applies, this_one, a_later_one}
+use Rattle.mbe_semantics.specs.Examples.Sample.{taken, text_at}
+use Rattle.mbe_semantics.specs.Examples.Examples.{ListExample, list_rule, list_argument, IndexExample, index_rule, two_words, UnknownExample, unknown_rule, any_rule, one_a, EmptyExample, empty_rule, ZipExample, zip_rule, zip_argument, CountExample, count_rule, count_argument}
 use Rattle.mbe_examples.proofs.RuleLemmas.{answer_fragment, fits_by_run, applies_by_run, by_run, closest_alone}
-use Rattle.mbe_semantics.specs.Item as items
-use Rattle.mbe_semantics.specs.Item.{Fragment, Item, matched, bound, skipped, rounds, Items, no_items, item, no_rounds, round, items_width}
-use Rattle.mbe_semantics.specs.Ambiguity.{IsReading}
-use Rattle.mbe_semantics.specs.Input.{input_of}
-use Rattle.mbe_semantics.specs.Reading.{Beginning}
-use Rattle.mbe_semantics.specs.Verdict as verdicts
-use Rattle.mbe_semantics.specs.Verdict.{IsVerdict, many_readings}
-use Rattle.mbe_semantics.specs.Run.{run, verdict}
-use Rattle.mbe_semantics.specs.Steps.{tree}
-use Rattle.mbe_semantics.specs.Ambiguity.{GoesOn}
-use Rattle.mbe_laws.proofs.Moves.{next-takes}
+use Rattle.mbe_semantics.specs.Readings.Item as items
+use Rattle.mbe_semantics.specs.Readings.Item.{Fragment, Item, matched, bound, skipped, rounds, Items, no_items, item, no_rounds, round, items_width}
+use Rattle.mbe_semantics.specs.Readings.Ambiguity.{IsReading}
+use Rattle.mbe_semantics.specs.Readings.Input.{input_of}
+use Rattle.mbe_semantics.specs.Readings.Reading.{Beginning}
+use Rattle.mbe_semantics.specs.Readings.Verdict as verdicts
+use Rattle.mbe_semantics.specs.Readings.Verdict.{IsVerdict, many_readings}
+use Rattle.mbe_semantics.specs.Matching.Run.{run, verdict}
+use Rattle.mbe_semantics.specs.Readings.Steps.{tree}
+use Rattle.mbe_semantics.specs.Readings.Ambiguity.{GoesOn}
+use Rattle.mbe_laws.proofs.Matching.Moves.{next-takes}
 use Rattle.mbe_semantics.proofs.InputLemmas.{lawful_input}
 use Rattle.mbe_tt.specs.Grammar.{IsLawful}
 

@@ -6,22 +6,22 @@ use Rattle.mbe_tt.specs.Tree.{Forest, flat_len, Cut, cut_flat}
 use Rattle.mbe_tt.specs.Grammar.{Grammar, IsLawful}
 use Rattle.mbe_tt.specs.declared.grammar.Front.{Front}
 use Rattle.mbe_semantics.specs.declared.macro_call_style.MacroCallStyle.{MacroCallStyle}
-use Rattle.mbe_semantics.specs.Op.{Ops, has_no_repetition}
-use Rattle.mbe_semantics.specs.Definition.{Rule}
-use Rattle.mbe_semantics.specs.Verdict.{Verdict, IsVerdict, unmatched}
-use Rattle.mbe_semantics.specs.Environment.{environment_of, binding_total}
-use Rattle.mbe_semantics.specs.Substitution.{faults}
-use Rattle.mbe_semantics.specs.Expansion.{Applies}
-use Rattle.mbe_semantics.specs.Recovery.{IsClosest, IsStyledAt, GoesBefore}
+use Rattle.mbe_semantics.specs.Syntax.Op.{Ops, has_no_repetition}
+use Rattle.mbe_semantics.specs.Syntax.Definition.{Rule}
+use Rattle.mbe_semantics.specs.Readings.Verdict.{Verdict, IsVerdict, unmatched}
+use Rattle.mbe_semantics.specs.Bindings.Environment.{environment_of, binding_total}
+use Rattle.mbe_semantics.specs.Writing.Substitution.{faults}
+use Rattle.mbe_semantics.specs.Expansion.Expansion.{Applies}
+use Rattle.mbe_semantics.specs.Expansion.Recovery.{IsClosest, IsStyledAt, GoesBefore}
 use Rattle.mbe_semantics.specs.declared.kinds.MetaVarKind.{MetaVarKind}
-use Rattle.mbe_semantics.specs.Item.{Fragment, Items}
-use Rattle.mbe_semantics.specs.Ambiguity.{IsReading, Fits}
-use Rattle.mbe_semantics.specs.Input.{fragment_of}
-use Rattle.mbe_semantics.specs.Nullable.{Checked}
-use Rattle.mbe_semantics.specs.Run.{verdict}
+use Rattle.mbe_semantics.specs.Readings.Item.{Fragment, Items}
+use Rattle.mbe_semantics.specs.Readings.Ambiguity.{IsReading, Fits}
+use Rattle.mbe_semantics.specs.Readings.Input.{fragment_of}
+use Rattle.mbe_semantics.specs.Syntax.Nullable.{Checked}
+use Rattle.mbe_semantics.specs.Matching.Run.{verdict}
 use Rattle.mbe_semantics.proofs.PlainLemmas.{never_ambiguous, one_reading}
-use Rattle.mbe_laws.proofs.RunLemmas.{verdict-right}
-use Rattle.mbe_semantics.specs.Verdict as verdicts
+use Rattle.mbe_laws.proofs.Matching.RunLemmas.{verdict-right}
+use Rattle.mbe_semantics.specs.Readings.Verdict as verdicts
 
 -- what an answer of the grammar cuts from the front
 abbrev pub answer_cut : Forest → Front → Option Cut

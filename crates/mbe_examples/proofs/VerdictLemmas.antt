@@ -5,18 +5,18 @@ use Rattle.std.proofs.lemmas.Option.{none-some, same_Some}
 use Rattle.mbe_tt.specs.Tree.{none}
 use Rattle.mbe_tt.specs.Grammar.{Grammar, IsLawful}
 use Rattle.mbe_semantics.specs.declared.macro_call_style.MacroCallStyle.TheVariants.{FnLike}
-use Rattle.mbe_semantics.specs.Template.{token, nothing}
-use Rattle.mbe_semantics.specs.Definition.{Rule, separated, ended}
-use Rattle.mbe_semantics.specs.Environment.{environment_of, binding_total}
-use Rattle.mbe_semantics.specs.Recovery.{IsClosest, IsStyledAt, GoesBefore}
-use Rattle.mbe_semantics.specs.Examples.{NearestExample, far_rule, near_rule, near_argument}
-use Rattle.mbe_semantics.specs.Item.{Items}
-use Rattle.mbe_semantics.specs.Ambiguity.{IsReading, Fits}
-use Rattle.mbe_semantics.specs.Verdict.{Verdict, IsVerdict, stuck, unmatched}
-use Rattle.mbe_semantics.specs.Run.{run, verdict}
-use Rattle.mbe_semantics.specs.Steps.{tree}
+use Rattle.mbe_semantics.specs.Syntax.Template.{token, nothing}
+use Rattle.mbe_semantics.specs.Syntax.Definition.{Rule, separated, ended}
+use Rattle.mbe_semantics.specs.Bindings.Environment.{environment_of, binding_total}
+use Rattle.mbe_semantics.specs.Expansion.Recovery.{IsClosest, IsStyledAt, GoesBefore}
+use Rattle.mbe_semantics.specs.Examples.Examples.{NearestExample, far_rule, near_rule, near_argument}
+use Rattle.mbe_semantics.specs.Readings.Item.{Items}
+use Rattle.mbe_semantics.specs.Readings.Ambiguity.{IsReading, Fits}
+use Rattle.mbe_semantics.specs.Readings.Verdict.{Verdict, IsVerdict, stuck, unmatched}
+use Rattle.mbe_semantics.specs.Matching.Run.{run, verdict}
+use Rattle.mbe_semantics.specs.Readings.Steps.{tree}
 use Rattle.mbe_examples.proofs.RuleLemmas.{by_run}
-use Rattle.mbe_laws.proofs.RunLemmas.{one_verdict}
+use Rattle.mbe_laws.proofs.Matching.RunLemmas.{one_verdict}
 
 -- ---- `(a b) => {}; (a c d) => {}` on `a c`
 

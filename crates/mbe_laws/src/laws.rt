@@ -1,5 +1,5 @@
 // Laws about the definitions. They run nothing.
-ghost use Rattle.mbe_semantics.specs.Laws.{OneReading, ReadingsEnd, BeginningsEndInside, NeverAmbiguous, WordsNeverAmbiguous, RoundsHaveValues, EachOpOnce, OneAccount, ListsFitOnce, LiveHaveAccounts, EntriesFollow, CommandsBindAlike, OneVerdict, HasOneVerdict, LawfulInputs, MatcherLaw, RunsAreRight};
+ghost use Rattle.mbe_semantics.specs.Laws.Laws.{OneReading, ReadingsEnd, BeginningsEndInside, NeverAmbiguous, WordsNeverAmbiguous, RoundsHaveValues, EachOpOnce, OneAccount, ListsFitOnce, LiveHaveAccounts, EntriesFollow, CommandsBindAlike, OneVerdict, HasOneVerdict, LawfulInputs, MatcherLaw, RunsAreRight};
 
 /// Two readings of a pattern without a repetition are equal.
 pub fn one_reading()

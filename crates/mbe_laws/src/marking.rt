@@ -3,10 +3,10 @@ ghost use Rattle.std.specs.Prelude.{[]};
 ghost use Rattle.mbe_tt.specs.declared.tt.DelimiterKind.TheVariants.{Invisible};
 ghost use Rattle.mbe_tt.specs.Tree.{group, none};
 ghost use Rattle.mbe_tt.specs.Grammar.{Grammar};
-ghost use Rattle.mbe_semantics.specs.Op.{no_ops};
-ghost use Rattle.mbe_semantics.specs.Substitution.{IsSubstitution};
-ghost use Rattle.mbe_semantics.specs.Laws.{OpsOrFault, HasOpsOrFault, OneTemplate, OneDefinition, WritesAllRounds, WrittenInPlace, SpansHaveSources, OneExpansion};
-ghost use Rattle.mbe_semantics.specs.FromTrees.{ExpandsFromTrees};
+ghost use Rattle.mbe_semantics.specs.Syntax.Op.{no_ops};
+ghost use Rattle.mbe_semantics.specs.Writing.Substitution.{IsSubstitution};
+ghost use Rattle.mbe_semantics.specs.Laws.Laws.{OpsOrFault, HasOpsOrFault, OneTemplate, OneDefinition, WritesAllRounds, WrittenInPlace, SpansHaveSources, OneExpansion};
+ghost use Rattle.mbe_semantics.specs.Expansion.FromTrees.{ExpandsFromTrees};
 
 use mbe_tt::span::{Edition, Span, SyntaxContext};
 

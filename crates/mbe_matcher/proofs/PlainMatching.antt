@@ -12,14 +12,14 @@ use Rattle.mbe_tt.specs.declared.tt.Delimiter.{Delimiter}
 use Rattle.mbe_tt.specs.declared.tt.DelimiterKind.{DelimiterKind}
 use Rattle.mbe_tt.specs.declared.tt.DelimiterKind.TheVariants.{Parenthesis, Brace, Bracket, Invisible}
 use Rattle.std.specs.Prelude.{Result, Ok, Err, IfOk}
-use Rattle.mbe_semantics.specs.Op as ops
-use Rattle.mbe_semantics.specs.Op.{Name, Token, Op, Ops, no_ops, op}
-use Rattle.mbe_semantics.specs.Item.{Item, Items, item}
-use Rattle.mbe_semantics.specs.Fit.{token_front, literal_text_front, ident_text_front, puncts_front}
-use Rattle.mbe_semantics.specs.Environment.{Environment, bind}
+use Rattle.mbe_semantics.specs.Syntax.Op as ops
+use Rattle.mbe_semantics.specs.Syntax.Op.{Name, Token, Op, Ops, no_ops, op}
+use Rattle.mbe_semantics.specs.Readings.Item.{Item, Items, item}
+use Rattle.mbe_semantics.specs.Readings.Fit.{token_front, literal_text_front, ident_text_front, puncts_front}
+use Rattle.mbe_semantics.specs.Bindings.Environment.{Environment, bind}
 use Rattle.mbe_tt.specs.Grammar.{Grammar}
 use Rattle.mbe_matcher.specs.Matching.{matched_front, whole, grouped_front, then_read, read_front, read_on, read_all, HasPassed, HasRead, HasReadAll}
-use Rattle.mbe_semantics.specs.Environment.{BindsAlike}
+use Rattle.mbe_semantics.specs.Bindings.Environment.{BindsAlike}
 use Rattle.mbe_tt.proofs.CutLemmas.{no_true}
 use Rattle.mbe_ops.proofs.Fragments.{left_behind}
 use Rattle.mbe_ops.proofs.Fragments.{glued_is, puncts_longer}

@@ -2,7 +2,7 @@
 use Rattle.std.specs.Prelude.{Bool, true, false, List, [], ◌∷◌, ◌++◌}
 use Rattle.mbe_matcher.specs.declared.delimited.OpDelimited as turn
 use Rattle.mbe_matcher.specs.declared.delimited.OpDelimitedIter.{OpDelimitedIter}
-use Rattle.mbe_semantics.specs.Op.{Op, Ops, no_ops, op}
+use Rattle.mbe_semantics.specs.Syntax.Op.{Op, Ops, no_ops, op}
 use Rattle.mbe_ops.specs.Views.{op_of, ops_of}
 
 -- an op, or a side of the group

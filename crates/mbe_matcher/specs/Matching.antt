@@ -4,14 +4,14 @@ use Rattle.mbe_semantics.specs.declared.kinds.MetaVarKind.{MetaVarKind}
 use Rattle.mbe_tt.specs.declared.tt.DelimiterKind.{DelimiterKind}
 use Rattle.mbe_tt.specs.Tree.{Forest, none, leaf, group, flat_len, Cut, is_same_kind}
 use Rattle.mbe_tt.specs.Grammar.{Grammar}
-use Rattle.mbe_semantics.specs.Op as ops
-use Rattle.mbe_semantics.specs.Op.{Name, Op, Ops, no_ops, op, has_no_repetition}
-use Rattle.mbe_semantics.specs.Item.{Item, matched, bound, grouped, Items, no_items, item, style_of}
-use Rattle.mbe_semantics.specs.Takes.{takes}
-use Rattle.mbe_semantics.specs.Fit.{token_front}
-use Rattle.mbe_semantics.specs.Environment.{Environment, bind, bind_item, environment_of}
-use Rattle.mbe_semantics.specs.Environment.{BindsAlike}
-use Rattle.mbe_semantics.specs.Ambiguity.{IsReading, Fits}
+use Rattle.mbe_semantics.specs.Syntax.Op as ops
+use Rattle.mbe_semantics.specs.Syntax.Op.{Name, Op, Ops, no_ops, op, has_no_repetition}
+use Rattle.mbe_semantics.specs.Readings.Item.{Item, matched, bound, grouped, Items, no_items, item, style_of}
+use Rattle.mbe_semantics.specs.Fragments.Takes.{takes}
+use Rattle.mbe_semantics.specs.Readings.Fit.{token_front}
+use Rattle.mbe_semantics.specs.Bindings.Environment.{Environment, bind, bind_item, environment_of}
+use Rattle.mbe_semantics.specs.Bindings.Environment.{BindsAlike}
+use Rattle.mbe_semantics.specs.Readings.Ambiguity.{IsReading, Fits}
 use Rattle.mbe_bindings.specs.declared.bindings.Bindings as found
 use Rattle.mbe_bindings.specs.BindingViews.{bound_by}
 

@@ -4,7 +4,7 @@ ghost use Rattle.mbe_tt.specs.Tree.{flat_len, cut_flat};
 ghost use Rattle.mbe_tt.specs.View.{trees};
 ghost use Rattle.mbe_tt.specs.Grammar.{front, is_good};
 ghost use Rattle.mbe_tt.specs.Place.{viewed, place_of};
-ghost use Rattle.mbe_semantics.specs.Error.{entry_name, front_error, binding_error};
+ghost use Rattle.mbe_semantics.specs.Expansion.Error.{entry_name, front_error, binding_error};
 ghost use Rattle.mbe_errors.specs.ErrorViews.{error_of, errors_of};
 
 use mbe_errors::error::{ExpandError, ExpandErrorKind};

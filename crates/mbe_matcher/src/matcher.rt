@@ -3,10 +3,10 @@ ghost use Rattle.std.specs.Prelude.{◌≡◌, IfOk};
 ghost use Rattle.mbe_tt.specs.Glue.{chars_of};
 ghost use Rattle.mbe_tt.specs.Shown.{ident_of, literal_of};
 ghost use Rattle.mbe_tt.specs.Grammar.{good_front};
-ghost use Rattle.mbe_semantics.specs.Fit.{ident_text_front, literal_text_front, puncts_front};
-ghost use Rattle.mbe_semantics.specs.Op.{group};
+ghost use Rattle.mbe_semantics.specs.Readings.Fit.{ident_text_front, literal_text_front, puncts_front};
+ghost use Rattle.mbe_semantics.specs.Syntax.Op.{group};
 ghost use Rattle.mbe_matcher.specs.Matching.{read_front, read_all, HasPassed, HasRead, HasReadAll, IsMatch};
-ghost use Rattle.mbe_semantics.specs.Takes.{takes, ident_front, lifetime_front, literal_front, tree_front, begins_refused, is_refused_word};
+ghost use Rattle.mbe_semantics.specs.Fragments.Takes.{takes, ident_front, lifetime_front, literal_front, tree_front, begins_refused, is_refused_word};
 ghost use Rattle.mbe_ops.specs.Views.{IsTaken, op_of, ops_of, template_of};
 ghost use Rattle.mbe_bindings.specs.BindingViews.{bound_by};
 

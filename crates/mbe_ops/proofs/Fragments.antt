@@ -11,7 +11,7 @@ use Rattle.mbe_tt.specs.View.{trees}
 use Rattle.mbe_tt.specs.Glue.{glue, glued, joined, if_joint, is_operator, chars_of}
 use Rattle.mbe_tt.specs.declared.tt.Punct.{Punct}
 use Rattle.mbe_tt.specs.declared.view.TokenTreesView.{TokenTreesView}
-use Rattle.mbe_semantics.specs.Takes.{ident_front, lifetime_front, unsigned_front, with_leaf, literal_front, tree_front}
+use Rattle.mbe_semantics.specs.Fragments.Takes.{ident_front, lifetime_front, unsigned_front, with_leaf, literal_front, tree_front}
 use Rattle.mbe_ops.specs.Views.{IsTaken}
 
 skip-none : (n : ℕ) → skip n none ≡ none

@@ -17,8 +17,8 @@ use Rattle.mbe_ops.specs.declared.ops.Op.{Op, Var, Ignore, Index, Len, Count, Co
 use Rattle.mbe_ops.specs.declared.ops.Op as code
 use Rattle.mbe_ops.specs.declared.ops.Op.TheOpen.{MetaTemplate-F}
 use Rattle.mbe_ops.specs.declared.ops.Op.TheViews as views_of
-use Rattle.mbe_semantics.specs.Op as ops
-use Rattle.mbe_semantics.specs.Op.{token, group, variable, repetition, expression, literal, ident, puncts}
+use Rattle.mbe_semantics.specs.Syntax.Op as ops
+use Rattle.mbe_semantics.specs.Syntax.Op.{token, group, variable, repetition, expression, literal, ident, puncts}
 use Rattle.mbe_ops.specs.Views.{op_of, ops_of, template_of, separator_seen, element_seen}
 
 pub view-var : (A : Type 0) (name : List ℕ) (kind : Option MetaVarKind) (id : Span) → op_of {A = A} (Var name kind id) ≡ variable name kind id

@@ -9,10 +9,10 @@ use Rattle.mbe_tt.specs.Same.{same, same_equiv}
 use Rattle.mbe_ops.specs.declared.ops.Separator as code
 use Rattle.mbe_ops.specs.Views.{separator_seen}
 use Rattle.mbe_tt.specs.Glue.{chars_of}
-use Rattle.mbe_semantics.specs.Op as ops
-use Rattle.mbe_semantics.specs.Op.{Separator, ident_separator, literal_separator, punct_separator, lifetime_separator, Op, Ops, no_ops, op}
-use Rattle.mbe_semantics.specs.Definition.{Rule}
-use Rattle.mbe_semantics.specs.Macro.{Macro}
+use Rattle.mbe_semantics.specs.Syntax.Op as ops
+use Rattle.mbe_semantics.specs.Syntax.Op.{Separator, ident_separator, literal_separator, punct_separator, lifetime_separator, Op, Ops, no_ops, op}
+use Rattle.mbe_semantics.specs.Syntax.Definition.{Rule}
+use Rattle.mbe_semantics.specs.Expansion.Macro.{Macro}
 
 -- what counts of a separator: whether it is an identifier, a literal, puncts or a lifetime, and its text
 abbrev pub SeparatorText : Type 0

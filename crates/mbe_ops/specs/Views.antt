@@ -10,8 +10,8 @@ use Rattle.mbe_ops.specs.declared.ops.Op.TheOpen.{Op-F}
 use Rattle.mbe_ops.specs.declared.ops.MetaTemplate.{MetaTemplate, out-MetaTemplate}
 use Rattle.mbe_ops.specs.declared.ops.Separator as between
 use Rattle.mbe_ops.specs.declared.ops.ConcatMetaVarExprElem as part
-use Rattle.mbe_semantics.specs.Op as ops
-use Rattle.mbe_semantics.specs.Op.{Op, Ops, no_ops, op, token, group, variable, repetition, expression, literal, ident, puncts, Separator, Element}
+use Rattle.mbe_semantics.specs.Syntax.Op as ops
+use Rattle.mbe_semantics.specs.Syntax.Op.{Op, Ops, no_ops, op, token, group, variable, repetition, expression, literal, ident, puncts, Separator, Element}
 
 abbrev pub all_of : List Op → Ops
 all_of [] = no_ops

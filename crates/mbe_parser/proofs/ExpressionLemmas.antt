@@ -14,9 +14,9 @@ use Rattle.mbe_tt.specs.Literals.{is_cut, text_len, is_plain, literal_text, lite
 use Rattle.mbe_tt.specs.Tree.{Forest, none, leaf, group, rest_of, front_char, front_ident, front_group, any_ident}
 use Rattle.mbe_tt.specs.declared.tt.Delimiter.{Delimiter}
 use Rattle.mbe_tt.specs.declared.tt.DelimiterKind.TheVariants.{Parenthesis}
-use Rattle.mbe_semantics.specs.Op.{ident_element, literal_element, variable_element}
+use Rattle.mbe_semantics.specs.Syntax.Op.{ident_element, literal_element, variable_element}
 use Rattle.mbe_parser.proofs.ReaderLemmas.{some_if}
-use Rattle.mbe_semantics.specs.Template.{expression_of, arguments_of, elements_of, elements_behind_comma, element_before}
+use Rattle.mbe_semantics.specs.Syntax.Template.{expression_of, arguments_of, elements_of, elements_behind_comma, element_before}
 
 -- ---- depths
 

@@ -8,9 +8,9 @@ use Rattle.mbe_tt.specs.Leaf.{Ident, ident, punct, literal, is_text}
 use Rattle.mbe_tt.specs.Tree.{Forest, none, leaf, group, flat_len, rest_of, front_group}
 use Rattle.mbe_semantics.specs.declared.macro_call_style.MacroCallStyle.{MacroCallStyle}
 use Rattle.mbe_semantics.specs.declared.macro_call_style.MacroCallStyle.TheVariants.{FnLike, Attr, Derive}
-use Rattle.mbe_semantics.specs.Template.{Fault, expected}
+use Rattle.mbe_semantics.specs.Syntax.Template.{Fault, expected}
 use Rattle.mbe_parser.specs.Reader.{is_word}
-use Rattle.mbe_semantics.specs.Definition.{Outline, template_at, greater_at, equals_at, pattern_at, styled_at, style_at, outline_at}
+use Rattle.mbe_semantics.specs.Syntax.Definition.{Outline, template_at, greater_at, equals_at, pattern_at, styled_at, style_at, outline_at}
 
 no_ok : {X : Type 0} {e : Fault} {o : Outline} → Err e ≡ Ok o → X
 no_ok e = absurd (cc)

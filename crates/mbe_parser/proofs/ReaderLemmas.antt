@@ -14,10 +14,10 @@ use Rattle.mbe_tt.specs.declared.tt.Punct.{Punct}
 use Rattle.mbe_tt.specs.declared.span.Span.{Span}
 use Rattle.mbe_tt.specs.declared.tt.Delimiter.{Delimiter}
 use Rattle.mbe_semantics.specs.declared.kinds.MetaVarKind.{MetaVarKind}
-use Rattle.mbe_semantics.specs.Op as ops
-use Rattle.mbe_semantics.specs.Op.{Name, Op, Ops, op, no_ops, Separator}
+use Rattle.mbe_semantics.specs.Syntax.Op as ops
+use Rattle.mbe_semantics.specs.Syntax.Op.{Name, Op, Ops, op, no_ops, Separator}
 use Rattle.mbe_semantics.specs.declared.kinds.RepeatKind.{RepeatKind}
-use Rattle.mbe_semantics.specs.Template.{Mode, Fault, Head, ended, one, typed, opens_group, opens_repetition, head, behind_dollar, puncts_at, kind_named, kind_names, pat_kind, expr_kind, Specifies, dated_pat, dated_expr, undated, Template, token, variable, grouped, repeated, TemplateFault, here as at_front, in_group, in_repetition, behind_token, behind_variable, behind_group, behind_repetition}
+use Rattle.mbe_semantics.specs.Syntax.Template.{Mode, Fault, Head, ended, one, typed, opens_group, opens_repetition, head, behind_dollar, puncts_at, kind_named, kind_names, pat_kind, expr_kind, Specifies, dated_pat, dated_expr, undated, Template, token, variable, grouped, repeated, TemplateFault, here as at_front, in_group, in_repetition, behind_token, behind_variable, behind_group, behind_repetition}
 use Rattle.mbe_parser.specs.Reader.{AtHead, FaultAtHead, ReadsOp, Stops}
 use Rattle.mbe_errors.specs.ErrorViews.{fault_of}
 use Rattle.mbe_errors.specs.declared.error.ReadError as why

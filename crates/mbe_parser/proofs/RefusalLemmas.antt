@@ -10,10 +10,10 @@ use Rattle.mbe_ops.specs.declared.ops.Op.{Repeat, the_lemmas}
 use Rattle.mbe_semantics.specs.declared.kinds.RepeatKind.{RepeatKind}
 use Rattle.mbe_ops.specs.declared.ops.Separator.{Separator}
 use Rattle.mbe_parser.specs.declared.rules.Rule as written
-use Rattle.mbe_semantics.specs.Op as ops
-use Rattle.mbe_semantics.specs.Op.{Op, Ops, no_ops, op}
-use Rattle.mbe_semantics.specs.Definition.{Rule}
-use Rattle.mbe_semantics.specs.Nullable.{is_nullable, is_nullable_op, is_refused, is_refused_op, is_unseparated}
+use Rattle.mbe_semantics.specs.Syntax.Op as ops
+use Rattle.mbe_semantics.specs.Syntax.Op.{Op, Ops, no_ops, op}
+use Rattle.mbe_semantics.specs.Syntax.Definition.{Rule}
+use Rattle.mbe_semantics.specs.Syntax.Nullable.{is_nullable, is_nullable_op, is_refused, is_refused_op, is_unseparated}
 use Rattle.mbe_ops.specs.Views.{op_of, ops_of, separator_seen}
 use Rattle.mbe_parser.specs.RuleViews.{rule_of, rules_seen}
 

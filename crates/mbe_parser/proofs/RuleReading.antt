@@ -16,14 +16,14 @@ use Rattle.mbe_semantics.specs.declared.macro_call_style.MacroCallStyle.TheVaria
 use Rattle.mbe_errors.specs.declared.error.Fault as told
 use Rattle.mbe_errors.specs.declared.error.ReadError as why
 use Rattle.mbe_parser.specs.declared.rules.Rule as code
-use Rattle.mbe_semantics.specs.Op.{Ops}
-use Rattle.mbe_semantics.specs.Template.{Fault, pattern, template, Template, TemplateFault}
-use Rattle.mbe_semantics.specs.Definition.{Outline, Rule, outline_at, pattern_at, AreParts, PartsFault, in_pattern, in_template, Rules, ended, no_rule, faulty_rule, unseparated, separated, behind_separator, with_refusal, IsMacroOfArguments, one_rule, faulty}
+use Rattle.mbe_semantics.specs.Syntax.Op.{Ops}
+use Rattle.mbe_semantics.specs.Syntax.Template.{Fault, pattern, template, Template, TemplateFault}
+use Rattle.mbe_semantics.specs.Syntax.Definition.{Outline, Rule, outline_at, pattern_at, AreParts, PartsFault, in_pattern, in_template, Rules, ended, no_rule, faulty_rule, unseparated, separated, behind_separator, with_refusal, IsMacroOfArguments, one_rule, faulty}
 use Rattle.mbe_parser.specs.Reader.{IsStyled, IsOutlined, ReadsRule, RuleFault, in_outline, in_parts, AreRules, IsOneRule, Stops}
 use Rattle.mbe_errors.specs.ErrorViews.{fault_of}
 use Rattle.mbe_parser.specs.RuleViews.{rule_of, rules_seen}
-use Rattle.mbe_semantics.specs.Macro.{Macro}
-use Rattle.mbe_semantics.specs.ReadAs.{IsReadAs, IsReadAsMacro}
+use Rattle.mbe_semantics.specs.Expansion.Macro.{Macro}
+use Rattle.mbe_semantics.specs.Expansion.ReadAs.{IsReadAs, IsReadAsMacro}
 use Rattle.mbe_parser.proofs.OutlineLemmas.{outline_back}
 use Rattle.mbe_parser.proofs.ReaderLemmas.{Stops-weaker, on_ok}
 

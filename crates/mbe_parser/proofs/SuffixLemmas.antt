@@ -6,8 +6,8 @@ use Rattle.std.proofs.lemmas.Bool.{ne_eqb, lt-leb}
 use Rattle.mbe_tt.specs.Leaf.{Leaf, Ident, Literal, literal, punct, ident}
 use Rattle.mbe_tt.specs.Tree.{Forest}
 use Rattle.mbe_tt.specs.declared.tt.Punct.{Punct}
-use Rattle.mbe_semantics.specs.Op.{Separator, ident_separator, literal_separator, punct_separator, lifetime_separator}
-use Rattle.mbe_semantics.specs.Template.{Suffix, suffix_of, separator_of, all_puncts, up_to_three}
+use Rattle.mbe_semantics.specs.Syntax.Op.{Separator, ident_separator, literal_separator, punct_separator, lifetime_separator}
+use Rattle.mbe_semantics.specs.Syntax.Template.{Suffix, suffix_of, separator_of, all_puncts, up_to_three}
 use Rattle.mbe_parser.specs.Reader.{IsExtended, NeverExtended}
 
 -- ---- the leaves of a separator

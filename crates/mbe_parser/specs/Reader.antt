@@ -11,9 +11,9 @@ use Rattle.mbe_errors.specs.declared.error.ReadError as read
 use Rattle.mbe_semantics.specs.declared.macro_call_style.MacroCallStyle.{MacroCallStyle}
 use Rattle.mbe_semantics.specs.declared.macro_call_style.MacroCallStyle.TheVariants.{FnLike}
 use Rattle.mbe_errors.specs.ErrorViews.{fault_of}
-use Rattle.mbe_semantics.specs.Op.{Op, Ops, op, variable, group, repetition, Separator}
-use Rattle.mbe_semantics.specs.Definition.{Outline, Rule, pattern_at, outline_at, AreParts, PartsFault, Rules}
-use Rattle.mbe_semantics.specs.Template.{Mode, pattern, template, Fault, separator_of, Head, ended, one, typed, opens_group, opens_repetition, Specifies, Template, TemplateFault}
+use Rattle.mbe_semantics.specs.Syntax.Op.{Op, Ops, op, variable, group, repetition, Separator}
+use Rattle.mbe_semantics.specs.Syntax.Definition.{Outline, Rule, pattern_at, outline_at, AreParts, PartsFault, Rules}
+use Rattle.mbe_semantics.specs.Syntax.Template.{Mode, pattern, template, Fault, separator_of, Head, ended, one, typed, opens_group, opens_repetition, Specifies, Template, TemplateFault}
 
 abbrev pub mode_of : code.Mode → Mode
 mode_of code.TheVariants.Pattern = pattern

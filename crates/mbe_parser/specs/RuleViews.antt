@@ -1,7 +1,7 @@
 -- What the code's rules are, whatever memory holds them.
 use Rattle.std.specs.Prelude.{List, map}
 use Rattle.mbe_parser.specs.declared.rules.Rule as written
-use Rattle.mbe_semantics.specs.Definition.{Rule}
+use Rattle.mbe_semantics.specs.Syntax.Definition.{Rule}
 use Rattle.mbe_ops.specs.Views.{template_of}
 
 abbrev pub rule_of : {A : Type 0} → written.Rule A → Rule

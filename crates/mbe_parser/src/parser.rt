@@ -8,12 +8,12 @@ ghost use Rattle.mbe_tt.specs.declared.span.Span.{Span as SpecSpan};
 ghost use Rattle.mbe_tt.specs.declared.span.Edition.{Edition as SpecEdition};
 ghost use Rattle.mbe_tt.specs.declared.tt.IdentIsRaw.TheVariants.{No};
 ghost use Rattle.mbe_tt.specs.declared.tt.Punct.{Punct as SpecPunct};
-ghost use Rattle.mbe_semantics.specs.Op.{Name, variable as variable_op};
-ghost use Rattle.mbe_semantics.specs.Template as grammar;
-ghost use Rattle.mbe_semantics.specs.Template.{Template, TemplateFault, Specifies, opens_repetition, suffix_of, leaf_in_suffix, invalid_repeat};
+ghost use Rattle.mbe_semantics.specs.Syntax.Op.{Name, variable as variable_op};
+ghost use Rattle.mbe_semantics.specs.Syntax.Template as grammar;
+ghost use Rattle.mbe_semantics.specs.Syntax.Template.{Template, TemplateFault, Specifies, opens_repetition, suffix_of, leaf_in_suffix, invalid_repeat};
 ghost use Rattle.mbe_parser.specs.Reader.{mode_of, Stops, IsExtended, NeverExtended, AtHead, FaultAtHead, ReadsOp};
 ghost use Rattle.mbe_errors.specs.ErrorViews.{fault_of};
-ghost use Rattle.mbe_semantics.specs.Marking.{MayAsk};
+ghost use Rattle.mbe_semantics.specs.Laws.Marking.{MayAsk};
 ghost use Rattle.mbe_ops.specs.Views.{op_of, template_of, separator_seen};
 
 mod metavar_expr;

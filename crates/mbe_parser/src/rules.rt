@@ -1,12 +1,12 @@
 // Reads the rules of definitions.
 ghost use Rattle.std.specs.Prelude.{◌≡◌, ◌<◌, IfOk, IfErr, OnOk, if◌then◌else◌};
 ghost use Rattle.mbe_tt.specs.Tree.{Forest, flat_len, rest_of};
-ghost use Rattle.mbe_semantics.specs.Definition.{outline_at, pattern_at, AreParts, PartsFault};
+ghost use Rattle.mbe_semantics.specs.Syntax.Definition.{outline_at, pattern_at, AreParts, PartsFault};
 ghost use Rattle.mbe_errors.specs.ErrorViews.{fault_of};
 ghost use Rattle.mbe_parser.specs.Reader.{is_word, IsStyled, IsOutlined, ReadsRule, RuleFault, AreRules, IsOneRule, Stops};
 ghost use Rattle.mbe_parser.specs.RuleViews.{rule_of, rules_seen};
 ghost use Rattle.mbe_semantics.specs.declared.macro_call_style.MacroCallStyle.{MacroCallStyle as SpecStyle};
-ghost use Rattle.mbe_semantics.specs.Marking.{MayAsk};
+ghost use Rattle.mbe_semantics.specs.Laws.Marking.{MayAsk};
 
 use crate::parser::{Mode, parse_template};
 use mbe_errors::error::{Fault, ReadError};

@@ -1,7 +1,7 @@
 // The check of empty repetitions.
 ghost use Rattle.std.specs.Prelude.{◌≡◌};
 ghost use Rattle.std.specs.List.{list_any};
-ghost use Rattle.mbe_semantics.specs.Nullable.{is_nullable_op, is_nullable, is_refused_op, is_refused};
+ghost use Rattle.mbe_semantics.specs.Syntax.Nullable.{is_nullable_op, is_nullable, is_refused_op, is_refused};
 ghost use Rattle.mbe_ops.specs.Views.{op_of, ops_of};
 ghost use Rattle.mbe_parser.specs.RuleViews.{rules_seen};
 

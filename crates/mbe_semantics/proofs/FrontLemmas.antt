@@ -11,12 +11,12 @@ use Rattle.mbe_tt.specs.declared.grammar.PrefixEntryPoint.TheVariants as entries
 use Rattle.mbe_tt.specs.Leaf.{ident, literal, punct}
 use Rattle.mbe_tt.specs.Tree.{Forest, none, leaf, group, Cut, cut, cut_trees, is_truth}
 use Rattle.mbe_tt.specs.Glue.{glue, chars_of}
-use Rattle.mbe_semantics.specs.Op as ops
-use Rattle.mbe_semantics.specs.Op.{Op, Ops, no_ops, op}
+use Rattle.mbe_semantics.specs.Syntax.Op as ops
+use Rattle.mbe_semantics.specs.Syntax.Op.{Op, Ops, no_ops, op}
 use Rattle.mbe_tt.specs.Grammar.{Grammar, good_front}
 use Rattle.mbe_tt.specs.Leaf.{is_text, is_underscore}
-use Rattle.mbe_semantics.specs.Takes.{takes, ident_front, lifetime_front, unsigned_front, literal_front, tree_front, with_leaf, begins_refused}
-use Rattle.mbe_semantics.specs.Fit.{token_front, literal_text_front, ident_text_front, puncts_front, lifetime_text_front, literal_separator_front, between_front}
+use Rattle.mbe_semantics.specs.Fragments.Takes.{takes, ident_front, lifetime_front, unsigned_front, literal_front, tree_front, with_leaf, begins_refused}
+use Rattle.mbe_semantics.specs.Readings.Fit.{token_front, literal_text_front, ident_text_front, puncts_front, lifetime_text_front, literal_separator_front, between_front}
 
 literal_text_cut : (text : List ℕ) (f : Forest) (c : Cut) → literal_text_front text f ≡ Some c → IsCut f c
 literal_text_cut text (leaf (literal l) rest) c e = if_cut _ (bytes_eq l.text_and_suffix text) _ c (cut_trees-append 1 (leaf (literal l) rest)) e

@@ -8,14 +8,14 @@ use Rattle.mbe_tt.specs.Tree.{Forest, none, leaf, group, flat_len, Cut, rest_at}
 use Rattle.mbe_tt.specs.Laws.{IsCut}
 use Rattle.mbe_tt.specs.Grammar.{Grammar, IsLawful}
 use Rattle.mbe_tt.proofs.CutLemmas.{no_true, both_left, flat_len-append}
-use Rattle.mbe_semantics.specs.Op.{Token, Separator}
-use Rattle.mbe_semantics.specs.Nullable.{is_vis}
-use Rattle.mbe_semantics.specs.Item.{Fragment, style_of}
-use Rattle.mbe_semantics.specs.Takes.{takes}
-use Rattle.mbe_semantics.specs.Fit.{token_front, separator_front}
-use Rattle.mbe_semantics.specs.Input.{length_of, fragment_of, is_opening, is_none, input_of}
-use Rattle.mbe_semantics.specs.Lawful.{Lawful}
-use Rattle.mbe_semantics.specs.Laws.{LawfulInputs}
+use Rattle.mbe_semantics.specs.Syntax.Op.{Token, Separator}
+use Rattle.mbe_semantics.specs.Syntax.Nullable.{is_vis}
+use Rattle.mbe_semantics.specs.Readings.Item.{Fragment, style_of}
+use Rattle.mbe_semantics.specs.Fragments.Takes.{takes}
+use Rattle.mbe_semantics.specs.Readings.Fit.{token_front, separator_front}
+use Rattle.mbe_semantics.specs.Readings.Input.{length_of, fragment_of, is_opening, is_none, input_of}
+use Rattle.mbe_semantics.specs.Laws.Lawful.{Lawful}
+use Rattle.mbe_semantics.specs.Laws.Laws.{LawfulInputs}
 use Rattle.mbe_semantics.proofs.FrontLemmas.{token_cut, between_cut, takes_cut}
 use Rattle.mbe_semantics.proofs.MoveLemmas.{token_moves, separator_moves, takes_empty}
 

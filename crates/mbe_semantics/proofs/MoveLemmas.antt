@@ -13,10 +13,10 @@ use Rattle.mbe_tt.specs.Tree.{Forest, none, leaf, group, flat, flat_len, Cut, cu
 use Rattle.mbe_tt.specs.Glue.{glue, chars_of, if_joint, joined, longest_operator, is_operator}
 use Rattle.mbe_tt.specs.Grammar.{Grammar, IsLawful, front, is_good, good_front}
 use Rattle.mbe_tt.proofs.CutLemmas.{no_cut, if_moves, no_true, both_left, both_right}
-use Rattle.mbe_semantics.specs.Op as ops
-use Rattle.mbe_semantics.specs.Nullable.{is_vis}
-use Rattle.mbe_semantics.specs.Takes.{takes, ident_front, lifetime_front, unsigned_front, literal_front, tree_front, with_leaf, begins_refused}
-use Rattle.mbe_semantics.specs.Fit.{token_front, literal_text_front, ident_text_front, puncts_front, lifetime_text_front, literal_separator_front, separator_front}
+use Rattle.mbe_semantics.specs.Syntax.Op as ops
+use Rattle.mbe_semantics.specs.Syntax.Nullable.{is_vis}
+use Rattle.mbe_semantics.specs.Fragments.Takes.{takes, ident_front, lifetime_front, unsigned_front, literal_front, tree_front, with_leaf, begins_refused}
+use Rattle.mbe_semantics.specs.Readings.Fit.{token_front, literal_text_front, ident_text_front, puncts_front, lifetime_text_front, literal_separator_front, separator_front}
 
 pub leaf_moves : (n : ℕ) (l : Leaf) (rest : Forest) → 0 < n → 1 ≤ flat_len (cut_trees n (leaf l rest)).front
 leaf_moves zero l rest h = absurd (omega (arith, h))

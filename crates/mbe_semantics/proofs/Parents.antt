@@ -4,12 +4,12 @@ use Rattle.mbe_semantics.specs.declared.kinds.RepeatKind.{RepeatKind}
 use Rattle.mbe_semantics.specs.declared.kinds.RepeatKind.TheVariants.{ZeroOrMore, OneOrMore, ZeroOrOne}
 use Rattle.mbe_semantics.specs.declared.kinds.MetaVarKind.{MetaVarKind}
 use Rattle.mbe_tt.specs.declared.span.Span.{Span}
-use Rattle.mbe_semantics.specs.Op.{Name, Token, Separator, Op, token, group, variable, repetition, expression, Ops, no_ops, op}
-use Rattle.mbe_semantics.specs.Item.{Item, matched, bound, grouped, skipped, rounds, Items, no_items, item, Rounds, no_rounds, round, item_width, items_width, rounds_width}
-use Rattle.mbe_semantics.specs.Input.{Input}
-use Rattle.mbe_semantics.specs.Reading.{MaySkip, MayRepeat, Between, Reads, Frame, inside, within, Beginning, dot, body_of, start_of, place, Within, Begins, At, start}
-use Rattle.mbe_semantics.specs.Steps.{matched_by, bound_by, skip_of, again_of, if_none, empty_of, idle, Move, move, if_some, over_of, when, round_move, separator_move, next}
-use Rattle.mbe_semantics.specs.Lists.{In}
+use Rattle.mbe_semantics.specs.Syntax.Op.{Name, Token, Separator, Op, token, group, variable, repetition, expression, Ops, no_ops, op}
+use Rattle.mbe_semantics.specs.Readings.Item.{Item, matched, bound, grouped, skipped, rounds, Items, no_items, item, Rounds, no_rounds, round, item_width, items_width, rounds_width}
+use Rattle.mbe_semantics.specs.Readings.Input.{Input}
+use Rattle.mbe_semantics.specs.Readings.Reading.{MaySkip, MayRepeat, Between, Reads, Frame, inside, within, Beginning, dot, body_of, start_of, place, Within, Begins, At, start}
+use Rattle.mbe_semantics.specs.Readings.Steps.{matched_by, bound_by, skip_of, again_of, if_none, empty_of, idle, Move, move, if_some, over_of, when, round_move, separator_move, next}
+use Rattle.mbe_semantics.specs.Matching.Lists.{In}
 use Rattle.mbe_semantics.proofs.Taken.{matched-reads, bound-reads}
 
 -- the parts of a move

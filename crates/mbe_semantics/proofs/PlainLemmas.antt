@@ -5,15 +5,15 @@ use Rattle.std.proofs.lemmas.Option.{none-some}
 use Rattle.mbe_semantics.specs.declared.kinds.RepeatKind.{RepeatKind}
 use Rattle.mbe_tt.specs.Tree.{flat_len}
 use Rattle.mbe_tt.proofs.CutLemmas.{no_true, both_left, both_right}
-use Rattle.mbe_semantics.specs.Op.{Separator, Op, token, group, variable, repetition, expression, Ops, no_ops, op, op_has_no_repetition, has_no_repetition}
-use Rattle.mbe_semantics.specs.Item.{Item, Items, no_items, item, Rounds, item_width, items_width}
-use Rattle.mbe_semantics.specs.Input.{Input, input_of}
-use Rattle.mbe_semantics.specs.Reading.{ReadsFirst, Frame, inside, within, Beginning, dot, body_of, start_of, place, Within, Begins, At, start}
-use Rattle.mbe_semantics.specs.Steps.{matched_by, bound_by, if_none, empty_of, idle, Move, move, if_some, over_of, when, next}
-use Rattle.mbe_semantics.specs.Lists.{In}
-use Rattle.mbe_semantics.specs.Story.{story, steps}
-use Rattle.mbe_semantics.specs.Ambiguity.{Ambiguous, GoesOn}
-use Rattle.mbe_semantics.specs.Laws.{OneReading, ReadingsEnd, NeverAmbiguous}
+use Rattle.mbe_semantics.specs.Syntax.Op.{Separator, Op, token, group, variable, repetition, expression, Ops, no_ops, op, op_has_no_repetition, has_no_repetition}
+use Rattle.mbe_semantics.specs.Readings.Item.{Item, Items, no_items, item, Rounds, item_width, items_width}
+use Rattle.mbe_semantics.specs.Readings.Input.{Input, input_of}
+use Rattle.mbe_semantics.specs.Readings.Reading.{ReadsFirst, Frame, inside, within, Beginning, dot, body_of, start_of, place, Within, Begins, At, start}
+use Rattle.mbe_semantics.specs.Readings.Steps.{matched_by, bound_by, if_none, empty_of, idle, Move, move, if_some, over_of, when, next}
+use Rattle.mbe_semantics.specs.Matching.Lists.{In}
+use Rattle.mbe_semantics.specs.Matching.Story.{story, steps}
+use Rattle.mbe_semantics.specs.Readings.Ambiguity.{Ambiguous, GoesOn}
+use Rattle.mbe_semantics.specs.Laws.Laws.{OneReading, ReadingsEnd, NeverAmbiguous}
 use Rattle.mbe_semantics.proofs.Parents.{Idles, Moves, From, parents}
 use Rattle.mbe_semantics.proofs.Stories.{idle-after, next-after}
 

@@ -2,13 +2,13 @@
 use Rattle.std.proofs.Common.{ℕ, zero, suc, ◌≡◌, inl, inr, Option, Some, None, Bool, true, false, List, [], ◌∷◌, ◌++◌, refl, sym, ◌∙◌, ap, subst, arith}
 use Rattle.mbe_semantics.specs.declared.kinds.RepeatKind.{RepeatKind}
 use Rattle.mbe_semantics.specs.declared.kinds.RepeatKind.TheVariants.{ZeroOrMore, OneOrMore, ZeroOrOne}
-use Rattle.mbe_semantics.specs.Op.{Separator, token, group, variable, repetition, expression, Ops, no_ops, op, names_of}
-use Rattle.mbe_semantics.specs.Item.{Item, skipped, rounds, Items, no_items, item, Rounds, no_rounds, round, item_width}
-use Rattle.mbe_semantics.specs.Input.{Input}
-use Rattle.mbe_semantics.specs.Reading.{Frame, inside, within, Beginning, dot}
-use Rattle.mbe_semantics.specs.Steps.{matched_by, bound_by, skip_of, again_of, if_none, empty_of, idle, Move, move, if_some, over_of, when, round_move, separator_move, next}
-use Rattle.mbe_semantics.specs.Story.{Level, tale, in_round, story, before, fresh, steps, is_positive, levels_of}
-use Rattle.mbe_semantics.specs.Lists.{In, Distinct, NoneAt}
+use Rattle.mbe_semantics.specs.Syntax.Op.{Separator, token, group, variable, repetition, expression, Ops, no_ops, op, names_of}
+use Rattle.mbe_semantics.specs.Readings.Item.{Item, skipped, rounds, Items, no_items, item, Rounds, no_rounds, round, item_width}
+use Rattle.mbe_semantics.specs.Readings.Input.{Input}
+use Rattle.mbe_semantics.specs.Readings.Reading.{Frame, inside, within, Beginning, dot}
+use Rattle.mbe_semantics.specs.Readings.Steps.{matched_by, bound_by, skip_of, again_of, if_none, empty_of, idle, Move, move, if_some, over_of, when, round_move, separator_move, next}
+use Rattle.mbe_semantics.specs.Matching.Story.{Level, tale, in_round, story, before, fresh, steps, is_positive, levels_of}
+use Rattle.mbe_semantics.specs.Matching.Lists.{In, Distinct, NoneAt}
 use Rattle.mbe_semantics.proofs.Taken.{IsTaken, matched-taken, bound-taken}
 
 -- y comes from x by one step, and the step took a token or not

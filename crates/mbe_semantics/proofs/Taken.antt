@@ -3,11 +3,11 @@ use Rattle.std.proofs.Common.{ℕ, ◌≡◌, ◌⊎◌, inl, inr, Option, Some,
 use Rattle.std.proofs.lemmas.Option.{none-some, same_Some}
 use Rattle.mbe_semantics.specs.declared.kinds.MetaVarKind.{MetaVarKind}
 use Rattle.mbe_tt.specs.declared.span.Span.{Span}
-use Rattle.mbe_semantics.specs.Op.{Name, Token, token, variable}
-use Rattle.mbe_semantics.specs.Item.{Fragment, Item, matched, bound}
-use Rattle.mbe_semantics.specs.Input.{Input}
-use Rattle.mbe_semantics.specs.Reading.{Reads}
-use Rattle.mbe_semantics.specs.Steps.{matched_by, bound_by}
+use Rattle.mbe_semantics.specs.Syntax.Op.{Name, Token, token, variable}
+use Rattle.mbe_semantics.specs.Readings.Item.{Fragment, Item, matched, bound}
+use Rattle.mbe_semantics.specs.Readings.Input.{Input}
+use Rattle.mbe_semantics.specs.Readings.Reading.{Reads}
+use Rattle.mbe_semantics.specs.Readings.Steps.{matched_by, bound_by}
 
 pub matched-from : (o : Option ℕ) (x : Item) → matched_by o ≡ Some x → (n : ℕ) × (o ≡ Some n) × (matched n ≡ x)
 matched-from None x e = absurd (none-some x e)

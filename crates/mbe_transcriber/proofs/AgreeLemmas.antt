@@ -7,12 +7,12 @@ use Rattle.mbe_tt.specs.declared.tt.Punct.{Punct}
 use Rattle.mbe_tt.specs.Grammar.{Grammar}
 use Rattle.mbe_tt.specs.Tree.{Forest}
 use Rattle.mbe_semantics.specs.declared.kinds.RepeatKind.{RepeatKind}
-use Rattle.mbe_semantics.specs.Op as ops
-use Rattle.mbe_semantics.specs.Op.{Name, Token, Element, ident_element, literal_element, variable_element, Expression, ignore, count, index, len, concat, Use, used_name, uses_of, Op, Ops, no_ops, op}
-use Rattle.mbe_semantics.specs.Environment.{Value, fragment, list, empty, missing, Environment, value_of}
-use Rattle.mbe_semantics.specs.Rounds.{Path, follow, reach, followed, Extent, finite, endless, extent_of, extent_under, extent_over, kept, kept_rounds, level}
-use Rattle.mbe_semantics.specs.Concat.{text_of_value, text_of_element, joined_text, if_identifier, concat_text}
-use Rattle.mbe_semantics.specs.Substitution.{is_simple, is_counted, variable_faults, expression_faults, extent_faults, any_below, any_round, op_faults, faults, separator_trees, total_of, integer, AreRounds, AreKeptRounds, AreMarkedPuncts, IsMarked, IsVariable, IsConcat, IsExpression, Writes, Substitutes, IsSubstitution}
+use Rattle.mbe_semantics.specs.Syntax.Op as ops
+use Rattle.mbe_semantics.specs.Syntax.Op.{Name, Token, Element, ident_element, literal_element, variable_element, Expression, ignore, count, index, len, concat, Use, used_name, uses_of, Op, Ops, no_ops, op}
+use Rattle.mbe_semantics.specs.Bindings.Environment.{Value, fragment, list, empty, missing, Environment, value_of}
+use Rattle.mbe_semantics.specs.Writing.Rounds.{Path, follow, reach, followed, Extent, finite, endless, extent_of, extent_under, extent_over, kept, kept_rounds, level}
+use Rattle.mbe_semantics.specs.Writing.Concat.{text_of_value, text_of_element, joined_text, if_identifier, concat_text}
+use Rattle.mbe_semantics.specs.Writing.Substitution.{is_simple, is_counted, variable_faults, expression_faults, extent_faults, any_below, any_round, op_faults, faults, separator_trees, total_of, integer, AreRounds, AreKeptRounds, AreMarkedPuncts, IsMarked, IsVariable, IsConcat, IsExpression, Writes, Substitutes, IsSubstitution}
 
 -- ---- rounds of two sorts
 

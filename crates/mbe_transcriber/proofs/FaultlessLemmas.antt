@@ -2,12 +2,12 @@
 use Rattle.std.specs.Prelude.{◌≡◌, IsTrue, Option, Some, None, [], false, not, is_none, if◌then◌else◌, option_and_then, refl}
 use Rattle.mbe_tt.proofs.CutLemmas.{no_true, both_left, both_right}
 use Rattle.mbe_bindings.specs.declared.bindings.Bindings.{Bindings}
-use Rattle.mbe_semantics.specs.Op.{Name, Op, Ops, token, group, variable, repetition, expression, no_ops, op}
-use Rattle.mbe_semantics.specs.Environment.{Environment, Value, fragment, list, empty, missing, value_of}
-use Rattle.mbe_semantics.specs.Rounds.{follow}
-use Rattle.mbe_semantics.specs.Substitution.{is_simple, op_faults, faults}
+use Rattle.mbe_semantics.specs.Syntax.Op.{Name, Op, Ops, token, group, variable, repetition, expression, no_ops, op}
+use Rattle.mbe_semantics.specs.Bindings.Environment.{Environment, Value, fragment, list, empty, missing, value_of}
+use Rattle.mbe_semantics.specs.Writing.Rounds.{follow}
+use Rattle.mbe_semantics.specs.Writing.Substitution.{is_simple, op_faults, faults}
 use Rattle.mbe_bindings.specs.BindingViews.{bound_by}
-use Rattle.mbe_semantics.specs.Writing.{writes_plainly_op, writes_plainly}
+use Rattle.mbe_semantics.specs.Private.Writing.{writes_plainly_op, writes_plainly}
 use Rattle.mbe_bindings.proofs.BindingLemmas.{IsOneFragment}
 use Rattle.mbe_bindings.proofs.BindingLemmas.{each_bound}
 

@@ -12,18 +12,18 @@ use Rattle.mbe_tt.specs.declared.span.Span.{Span}
 use Rattle.mbe_tt.proofs.CutLemmas.{no_true}
 use Rattle.mbe_semantics.specs.declared.kinds.MetaVarKind.{MetaVarKind}
 use Rattle.mbe_ops.specs.declared.ops.Op as code
-use Rattle.mbe_semantics.specs.Op as ops
-use Rattle.mbe_semantics.specs.Op.{Name, Op, Ops, no_ops, op, op_has_no_repetition, has_no_repetition, Use, used_name, uses_of, uses_of_op}
-use Rattle.mbe_semantics.specs.Item.{Fragment, style_of, Item, matched, bound, grouped, Items, no_items, item, items_width}
-use Rattle.mbe_semantics.specs.Input.{input_of, fragment_of}
-use Rattle.mbe_semantics.specs.Reading.{Reads, ReadsFirst}
-use Rattle.mbe_semantics.specs.Ambiguity.{IsReading}
-use Rattle.mbe_semantics.specs.Environment.{Environment, Value, fragment, value_of, set_value, bind_item, bind, environment_of}
-use Rattle.mbe_semantics.specs.Definition.{Rule}
+use Rattle.mbe_semantics.specs.Syntax.Op as ops
+use Rattle.mbe_semantics.specs.Syntax.Op.{Name, Op, Ops, no_ops, op, op_has_no_repetition, has_no_repetition, Use, used_name, uses_of, uses_of_op}
+use Rattle.mbe_semantics.specs.Readings.Item.{Fragment, style_of, Item, matched, bound, grouped, Items, no_items, item, items_width}
+use Rattle.mbe_semantics.specs.Readings.Input.{input_of, fragment_of}
+use Rattle.mbe_semantics.specs.Readings.Reading.{Reads, ReadsFirst}
+use Rattle.mbe_semantics.specs.Readings.Ambiguity.{IsReading}
+use Rattle.mbe_semantics.specs.Bindings.Environment.{Environment, Value, fragment, value_of, set_value, bind_item, bind, environment_of}
+use Rattle.mbe_semantics.specs.Syntax.Definition.{Rule}
 use Rattle.mbe_ops.specs.Views.{op_of, ops_of}
-use Rattle.mbe_semantics.specs.Environment.{BindsAlike}
-use Rattle.mbe_semantics.specs.Writing.{is_unwritten, is_unwritten_value, some_unwritten}
-use Rattle.mbe_semantics.specs.Answer.{op_takes_unwritten, takes_unwritten, IsCarried}
+use Rattle.mbe_semantics.specs.Bindings.Environment.{BindsAlike}
+use Rattle.mbe_semantics.specs.Private.Writing.{is_unwritten, is_unwritten_value, some_unwritten}
+use Rattle.mbe_semantics.specs.Expansion.Answer.{op_takes_unwritten, takes_unwritten, IsCarried}
 use Rattle.mbe_bindings.proofs.BindingLemmas.{value_of-set_value}
 use Rattle.mbe_semantics.proofs.PlainLemmas.{plain_op}
 

@@ -19,16 +19,16 @@ use Rattle.mbe_tt.proofs.PlaceLemmas.{append-assoc}
 use Rattle.mbe_tt.proofs.CutLemmas.{both_left, both_right}
 use Rattle.mbe_semantics.specs.declared.kinds.MetaVarKind.{MetaVarKind}
 use Rattle.mbe_ops.specs.declared.ops.Op as code
-use Rattle.mbe_semantics.specs.Op as ops
-use Rattle.mbe_semantics.specs.Op.{Name, Op, Ops, op, no_ops}
-use Rattle.mbe_semantics.specs.Item.{Style, plain, stripped, as_expression, as_path}
-use Rattle.mbe_semantics.specs.Environment.{Environment, Value, fragment, list, empty, missing, value_of}
+use Rattle.mbe_semantics.specs.Syntax.Op as ops
+use Rattle.mbe_semantics.specs.Syntax.Op.{Name, Op, Ops, op, no_ops}
+use Rattle.mbe_semantics.specs.Readings.Item.{Style, plain, stripped, as_expression, as_path}
+use Rattle.mbe_semantics.specs.Bindings.Environment.{Environment, Value, fragment, list, empty, missing, value_of}
 use Rattle.mbe_bindings.proofs.BindingLemmas.{IsOneFragment}
-use Rattle.mbe_semantics.specs.Rounds.{follow}
-use Rattle.mbe_semantics.specs.Written.{IsWrittenAs}
-use Rattle.mbe_semantics.specs.Substitution.{IsVariable, IsSubstitution, unbound_variable}
+use Rattle.mbe_semantics.specs.Writing.Rounds.{follow}
+use Rattle.mbe_semantics.specs.Writing.Written.{IsWrittenAs}
+use Rattle.mbe_semantics.specs.Writing.Substitution.{IsVariable, IsSubstitution, unbound_variable}
 use Rattle.mbe_ops.specs.Views.{op_of, ops_of}
-use Rattle.mbe_semantics.specs.Writing.{Appends, IsMarkedLiteral, IsMarkedIdent, AreMarked, IsWritten, AreWritten, plain_fragment, plain_variable, is_unwritten, is_unwritten_value, writes_plainly, writes_plainly_op}
+use Rattle.mbe_semantics.specs.Private.Writing.{Appends, IsMarkedLiteral, IsMarkedIdent, AreMarked, IsWritten, AreWritten, plain_fragment, plain_variable, is_unwritten, is_unwritten_value, writes_plainly, writes_plainly_op}
 
 -- ---- a builder's trees
 

@@ -3,9 +3,9 @@ ghost use Rattle.std.specs.Prelude.{◌≡◌, ◌≢◌, ◌<◌, map, option_m
 ghost use Rattle.mbe_tt.specs.Literals.{is_plain, decimal_value, literal_text};
 ghost use Rattle.mbe_tt.specs.Shown.{ident_of, literal_of};
 ghost use Rattle.mbe_tt.specs.Tree.{none, flat_len};
-ghost use Rattle.mbe_semantics.specs.Op.{expression};
+ghost use Rattle.mbe_semantics.specs.Syntax.Op.{expression};
 ghost use Rattle.mbe_parser.specs.Reader.{NotExpression};
-ghost use Rattle.mbe_semantics.specs.Template.{expression_of, arguments_of, ignore_of, count_of, concat_of, dollar_name, depth_of, depth_behind_comma, elements_of, elements_behind_comma, element_before};
+ghost use Rattle.mbe_semantics.specs.Syntax.Template.{expression_of, arguments_of, ignore_of, count_of, concat_of, dollar_name, depth_of, depth_behind_comma, elements_of, elements_behind_comma, element_before};
 ghost use Rattle.mbe_ops.specs.Views.{op_of, element_seen};
 
 use mbe_errors::error::{Fault, ReadError};

@@ -2,12 +2,12 @@ use Rattle.std.proofs.Common.{◌∙◌, sym, ap, subst, [], IsTrue, IsFalse, ru
 use Rattle.std.proofs.lemmas.Bool.{false≢true}
 use denote.Enum.Bare.{differs_false}
 use Rattle.mbe_semantics.specs.contracts.macro_call_style.MacroCallStyle.{the_type}
-use Rattle.mbe_semantics.specs.Ambiguity.{Fits, IsReading}
-use Rattle.mbe_semantics.specs.Environment.{environment_of}
+use Rattle.mbe_semantics.specs.Readings.Ambiguity.{Fits, IsReading}
+use Rattle.mbe_semantics.specs.Bindings.Environment.{environment_of}
 use Rattle.mbe_parser.specs.RuleViews.{rule_of}
 use Rattle.mbe_ops.specs.Views.{template_of, ops_of}
 use Rattle.mbe_bindings.specs.BindingViews.{bound_by}
-use Rattle.mbe_semantics.specs.Writing.{writes_plainly}
+use Rattle.mbe_semantics.specs.Private.Writing.{writes_plainly}
 use Rattle.mbe_transcriber.proofs.AgreeLemmas.{faults-same, IsSubstitution-same}
 use Rattle.mbe_transcriber.proofs.Unwritten.{carried_writes}
 use Rattle.mbe.proofs.expander.apply.Goals as goal

@@ -5,7 +5,7 @@ use Rattle.mbe_tt.specs.Top.{top_group}
 use Rattle.mbe_tt.specs.declared.span.DelimSpan.{DelimSpan}
 use Rattle.mbe_tt.specs.declared.tt.DelimiterKind.TheVariants.{Invisible}
 use Rattle.mbe_parser.specs.RuleViews.{rule_of, rules_seen}
-use Rattle.mbe_semantics.specs.Answer.{NoneApplies}
+use Rattle.mbe_semantics.specs.Expansion.Answer.{NoneApplies}
 use Rattle.mbe.proofs.ChoiceLemmas.{first_at, none_contained, none_more, seen_at, all_seen, arm_at, carried_at}
 use Rattle.mbe.proofs.expander.expand_rules.Goals as goal
 

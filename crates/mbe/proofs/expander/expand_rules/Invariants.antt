@@ -1,5 +1,5 @@
 use Rattle.std.proofs.Common.{take}
-use Rattle.mbe_semantics.specs.Answer.{NoneApplies, AreCarried}
+use Rattle.mbe_semantics.specs.Expansion.Answer.{NoneApplies, AreCarried}
 use Rattle.mbe_parser.specs.RuleViews.{rules_seen}
 use Rattle.mbe.proofs.expander.expand_rules.Given as goal
 

@@ -1,4 +1,4 @@
-use Rattle.mbe_laws.proofs.CommandLemmas.{commands_bind_alike}
+use Rattle.mbe_laws.proofs.Bindings.CommandLemmas.{commands_bind_alike}
 use Rattle.mbe_laws.proofs.laws.commands_bind_alike.Goals as goal
 
 pub returns : goal.returns

@@ -1,4 +1,4 @@
-use Rattle.mbe_laws.proofs.RunLemmas.{has_one_verdict}
+use Rattle.mbe_laws.proofs.Matching.RunLemmas.{has_one_verdict}
 use Rattle.mbe_laws.proofs.laws.has_one_verdict.Goals as goal
 
 pub returns : goal.returns

@@ -1,4 +1,4 @@
-use Rattle.mbe_laws.proofs.RunLemmas.{matcher_law}
+use Rattle.mbe_laws.proofs.Matching.RunLemmas.{matcher_law}
 use Rattle.mbe_laws.proofs.laws.matcher_law.Goals as goal
 
 pub returns : goal.returns

@@ -1,4 +1,4 @@
-use Rattle.mbe_laws.proofs.RunLemmas.{one_verdict}
+use Rattle.mbe_laws.proofs.Matching.RunLemmas.{one_verdict}
 use Rattle.mbe_laws.proofs.laws.one_verdict.Goals as goal
 
 pub returns : goal.returns

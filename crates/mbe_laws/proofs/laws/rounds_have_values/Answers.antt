@@ -1,4 +1,4 @@
-use Rattle.mbe_laws.proofs.RoundLemmas.{rounds_have_values}
+use Rattle.mbe_laws.proofs.Bindings.RoundLemmas.{rounds_have_values}
 use Rattle.mbe_laws.proofs.laws.rounds_have_values.Goals as goal
 
 pub returns : goal.returns

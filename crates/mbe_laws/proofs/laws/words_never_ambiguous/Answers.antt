@@ -1,4 +1,4 @@
-use Rattle.mbe_laws.proofs.WordLemmas.{words_never_ambiguous}
+use Rattle.mbe_laws.proofs.Patterns.WordLemmas.{words_never_ambiguous}
 use Rattle.mbe_laws.proofs.laws.words_never_ambiguous.Goals as goal
 
 pub returns : goal.returns

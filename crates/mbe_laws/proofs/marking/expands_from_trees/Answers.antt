@@ -1,4 +1,4 @@
-use Rattle.mbe_laws.proofs.FromTreesLemmas.{expands_from_trees}
+use Rattle.mbe_laws.proofs.Expansion.FromTreesLemmas.{expands_from_trees}
 use Rattle.mbe_laws.proofs.marking.expands_from_trees.Goals as goal
 
 pub returns : goal.returns

@@ -1,4 +1,4 @@
-use Rattle.mbe_laws.proofs.TemplateLemmas.{one_definition}
+use Rattle.mbe_laws.proofs.Definitions.TemplateLemmas.{one_definition}
 use Rattle.mbe_laws.proofs.marking.one_definition.Goals as goal
 
 pub returns : goal.returns

@@ -1,4 +1,4 @@
-use Rattle.mbe_laws.proofs.ExpansionLemmas.{one_expansion}
+use Rattle.mbe_laws.proofs.Expansion.ExpansionLemmas.{one_expansion}
 use Rattle.mbe_laws.proofs.marking.one_expansion.Goals as goal
 
 pub returns : goal.returns

@@ -1,4 +1,4 @@
-use Rattle.mbe_laws.proofs.TemplateLemmas.{one_template}
+use Rattle.mbe_laws.proofs.Definitions.TemplateLemmas.{one_template}
 use Rattle.mbe_laws.proofs.marking.one_template.Goals as goal
 
 pub returns : goal.returns

@@ -1,4 +1,4 @@
-use Rattle.mbe_laws.proofs.TemplateLemmas.{ops_or_fault}
+use Rattle.mbe_laws.proofs.Definitions.TemplateLemmas.{ops_or_fault}
 use Rattle.mbe_laws.proofs.marking.ops_or_fault.Goals as goal
 
 pub returns : goal.returns

@@ -1,4 +1,4 @@
-use Rattle.mbe_laws.proofs.SpanLemmas.{spans_have_sources}
+use Rattle.mbe_laws.proofs.Writing.SpanLemmas.{spans_have_sources}
 use Rattle.mbe_laws.proofs.marking.spans_have_sources.Goals as goal
 
 pub returns : goal.returns

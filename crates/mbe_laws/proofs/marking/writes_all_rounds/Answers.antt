@@ -1,4 +1,4 @@
-use Rattle.mbe_laws.proofs.LawLemmas.{writes_all_rounds}
+use Rattle.mbe_laws.proofs.Writing.LawLemmas.{writes_all_rounds}
 use Rattle.mbe_laws.proofs.marking.writes_all_rounds.Goals as goal
 
 pub returns : goal.returns

@@ -1,4 +1,4 @@
-use Rattle.mbe_laws.proofs.SpanLemmas.{written_in_place}
+use Rattle.mbe_laws.proofs.Writing.SpanLemmas.{written_in_place}
 use Rattle.mbe_laws.proofs.marking.written_in_place.Goals as goal
 
 pub returns : goal.returns

@@ -3,9 +3,9 @@ use Rattle.std.proofs.lemmas.List.{drop_more, drop_all}
 use denote.Enum.Bare.{same_true}
 use Rattle.mbe_tt.specs.contracts.tt.DelimiterKind.{the_type}
 use Rattle.mbe_tt.specs.Glue.{chars_of}
-use Rattle.mbe_semantics.specs.Op.{token, puncts}
-use Rattle.mbe_semantics.specs.Item.{no_items, item}
-use Rattle.mbe_semantics.specs.Fit.{puncts_front}
+use Rattle.mbe_semantics.specs.Syntax.Op.{token, puncts}
+use Rattle.mbe_semantics.specs.Readings.Item.{no_items, item}
+use Rattle.mbe_semantics.specs.Readings.Fit.{puncts_front}
 use Rattle.mbe_matcher.specs.Matching.{read_front, read_on, HasPassed, HasRead}
 use Rattle.mbe_ops.specs.Views.{op_of, ops_of}
 use Rattle.mbe_bindings.specs.BindingViews.{bound_by}

@@ -1,8 +1,8 @@
 use Rattle.std.proofs.Common.{◌≡◌, drop}
-use Rattle.mbe_semantics.specs.Item.{Items, no_items}
-use Rattle.mbe_semantics.specs.Environment.{bind}
+use Rattle.mbe_semantics.specs.Readings.Item.{Items, no_items}
+use Rattle.mbe_semantics.specs.Bindings.Environment.{bind}
 use Rattle.mbe_matcher.specs.Matching.{read_on}
-use Rattle.mbe_semantics.specs.Environment.{BindsAlike}
+use Rattle.mbe_semantics.specs.Bindings.Environment.{BindsAlike}
 use Rattle.mbe_ops.specs.Views.{ops_of}
 use Rattle.mbe_bindings.specs.BindingViews.{bound_by}
 use Rattle.mbe_matcher.proofs.matcher.+matching.Given as goal

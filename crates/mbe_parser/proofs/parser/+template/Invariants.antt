@@ -1,7 +1,7 @@
 use Rattle.std.proofs.Common.{◌≤◌, ◌+◌, ◌*◌}
 use Rattle.mbe_tt.specs.Tree.{flat_len}
-use Rattle.mbe_semantics.specs.Op.{Ops}
-use Rattle.mbe_semantics.specs.Template.{Fault, Template, TemplateFault}
+use Rattle.mbe_semantics.specs.Syntax.Op.{Ops}
+use Rattle.mbe_semantics.specs.Syntax.Template.{Fault, Template, TemplateFault}
 use Rattle.mbe_parser.specs.Reader.{mode_of}
 use Rattle.mbe_parser.proofs.ReaderLemmas.{with_front}
 use Rattle.mbe_parser.proofs.parser.+template.Given as goal

@@ -1,5 +1,5 @@
 use Rattle.std.proofs.Common.{◌+◌, drop, ap, sym, ◌∙◌}
-use Rattle.mbe_semantics.specs.Nullable.{is_nullable, is_nullable_op, may_skip}
+use Rattle.mbe_semantics.specs.Syntax.Nullable.{is_nullable, is_nullable_op, may_skip}
 use Rattle.mbe_ops.specs.Views.{op_of, ops_of}
 use Rattle.mbe_parser.proofs.RefusalLemmas.{view-open_repeat, next_op, next_nullable, not_nullable}
 use Rattle.mbe_parser.proofs.validate.+nullable.Goals as goal

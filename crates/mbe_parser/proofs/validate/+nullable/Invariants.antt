@@ -1,5 +1,5 @@
 use Rattle.std.proofs.Common.{◌≡◌, drop}
-use Rattle.mbe_semantics.specs.Nullable.{is_nullable}
+use Rattle.mbe_semantics.specs.Syntax.Nullable.{is_nullable}
 use Rattle.mbe_ops.specs.Views.{ops_of}
 use Rattle.mbe_parser.proofs.validate.+nullable.Given as goal
 

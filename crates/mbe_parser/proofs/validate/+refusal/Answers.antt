@@ -1,5 +1,5 @@
 use Rattle.std.proofs.Common.{◌≡◌, ◌+◌, drop, ap, sym, ◌∙◌, ◌&&◌, false, option_map}
-use Rattle.mbe_semantics.specs.Nullable.{is_nullable, is_refused, is_refused_op, is_unseparated}
+use Rattle.mbe_semantics.specs.Syntax.Nullable.{is_nullable, is_refused, is_refused_op, is_unseparated}
 use Rattle.mbe_ops.specs.Views.{op_of, ops_of, separator_seen}
 use Rattle.mbe_ops.proofs.OpViews.{view-open}
 use Rattle.mbe_parser.proofs.RefusalLemmas.{view-open_repeat, next_op, next_refused, refused_here, unseparated_if, body_reads, body_decides}

@@ -1,7 +1,7 @@
 use Rattle.std.proofs.Common.{ap, sym, ◌∙◌}
 use Rattle.mbe_parser.specs.RuleViews.{rule_of}
 use Rattle.mbe_ops.specs.Views.{ops_of}
-use Rattle.mbe_semantics.specs.Nullable.{is_refused}
+use Rattle.mbe_semantics.specs.Syntax.Nullable.{is_refused}
 use Rattle.mbe_parser.proofs.RefusalLemmas.{next_rule, rule_kept, rule_refused, no_rule_left}
 use Rattle.mbe_parser.proofs.validate.refuses_some.Goals as goal
 

@@ -1,6 +1,6 @@
 use Rattle.std.proofs.Common.{ap, sym, ◌∙◌}
 use Rattle.mbe_ops.specs.Views.{op_of, ops_of}
-use Rattle.mbe_semantics.specs.Writing.{writes_plainly, writes_plainly_op}
+use Rattle.mbe_semantics.specs.Private.Writing.{writes_plainly, writes_plainly_op}
 use Rattle.mbe_ops.proofs.OpViews.{view-open}
 use Rattle.mbe_transcriber.proofs.transcriber.+plain.Goals as goal
 

@@ -1,6 +1,6 @@
 use Rattle.std.proofs.Common.{◌≡◌, drop}
 use Rattle.mbe_ops.specs.Views.{ops_of}
-use Rattle.mbe_semantics.specs.Writing.{writes_plainly}
+use Rattle.mbe_semantics.specs.Private.Writing.{writes_plainly}
 use Rattle.mbe_transcriber.proofs.transcriber.+plain.Given as goal
 
 abbrev pub invariant-writes_plainly-loop-op : goal.invariant-writes_plainly-loop-op

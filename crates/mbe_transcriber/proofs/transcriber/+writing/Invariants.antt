@@ -2,8 +2,8 @@ use Rattle.std.proofs.Common.{◌≡◌, IsTrue, length, drop}
 use Rattle.mbe_tt.specs.Building.{Levels}
 use Rattle.mbe_ops.specs.Views.{ops_of}
 use Rattle.mbe_bindings.specs.BindingViews.{bound_by}
-use Rattle.mbe_semantics.specs.Op.{uses_of}
-use Rattle.mbe_semantics.specs.Writing.{Appends, AreWritten, some_unwritten, writes_plainly}
+use Rattle.mbe_semantics.specs.Syntax.Op.{uses_of}
+use Rattle.mbe_semantics.specs.Private.Writing.{Appends, AreWritten, some_unwritten, writes_plainly}
 use Rattle.mbe_transcriber.proofs.transcriber.+writing.Given as goal
 
 abbrev pub invariant-expand_ops-loop-op : goal.invariant-expand_ops-loop-op

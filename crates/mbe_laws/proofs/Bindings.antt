@@ -1,0 +1,4 @@
+-- Commands, environments, rounds and the log.
+pub mod CommandLemmas
+pub mod LogLemmas
+pub mod RoundLemmas

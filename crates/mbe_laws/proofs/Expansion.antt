@@ -1,0 +1,3 @@
+-- One tree by one rule, and the expansion theorem from three trees.
+pub mod ExpansionLemmas
+pub mod FromTreesLemmas

@@ -1,0 +1,3 @@
+-- Patterns that are words, or one repetition.
+pub mod ListLemmas
+pub mod WordLemmas

@@ -1,0 +1,4 @@
+-- What a reading binds, and the account of a handle into the log.
+pub mod Environment
+pub mod Missing
+pub mod Account

@@ -1,0 +1,261 @@
+-- What the log of bindings holds: the account of a handle, and what it binds (the project's own choice, after
+-- rust-analyzer's log).
+use Rattle.std.specs.Prelude.{◌≡◌, ◌≢◌, ◌<◌, ◌≤◌, ℕ, zero, suc, List, [], ◌∷◌, ◌++◌, length, take, slice_get, Option, Some, None}
+use Rattle.mbe_tt.specs.Tree.{none}
+use Rattle.mbe_semantics.specs.declared.kinds.MetaVarKind.{MetaVarKind}
+use Rattle.mbe_semantics.specs.Syntax.Op.{Name}
+use Rattle.mbe_semantics.specs.Readings.Item as items
+use Rattle.mbe_semantics.specs.Readings.Item.{Fragment, Item, matched, bound, grouped, skipped, rounds, Items, no_items, item, Rounds, no_rounds, round}
+use Rattle.mbe_semantics.specs.Bindings.Environment.{Value, fragment, list, empty, missing, Values, no_values, value, add_value, Environment, value_of, set_value}
+
+-- Lists grow at their end, as the log does.
+mutual
+  -- what is written into a log
+  pub data Command : Type 0 where
+    binds : Name → Fragment → Command
+    -- a fragment that took nothing
+    binds_nothing : Name → Command
+    -- a repetition without rounds
+    skips : Name → Command
+    misses : Name → MetaVarKind → Command
+    -- a repetition with rounds
+    nests : CommandRounds → Command
+
+  -- commands one after the other
+  pub data Commands : Type 0 where
+    no_commands : Commands
+    command : Commands → Command → Commands
+
+  -- rounds one after the other, each a list of commands
+  pub data CommandRounds : Type 0 where
+    no_command_rounds : CommandRounds
+    command_round : CommandRounds → Commands → CommandRounds
+
+-- the rounds that are finished, and the commands of the current one
+pub record Account : Type 0 where
+  pub finished : CommandRounds
+  pub current : Commands
+
+-- the account of a new handle
+abbrev pub no_account : Account
+no_account = record { finished = no_command_rounds; current = no_commands }
+
+-- with one command more
+abbrev pub pushed : Command → Account → Account
+pushed c a = record a { current = command a.current c }
+
+-- all rounds, the current one as the last
+abbrev pub all_rounds : Account → CommandRounds
+all_rounds a = command_round a.finished a.current
+
+-- with the child's rounds, as they are now
+abbrev pub pushed_nested : Account → Account → Account
+pushed_nested parent child = pushed (nests (all_rounds child)) parent
+
+-- the current round is finished, and an empty one begins
+abbrev pub pushed_default : Account → Account
+pushed_default a = record { finished = all_rounds a; current = no_commands }
+
+-- ---- what commands bind
+
+-- the fragment of a variable that took nothing
+abbrev pub nothing_taken : Fragment
+nothing_taken = record { trees = none; style = items.plain }
+
+-- with empty lists behind them, until there are n
+abbrev pub filled : ℕ → Values → Values
+filled zero vs = vs
+filled (suc n) no_values = value (list no_values) (filled n no_values)
+filled (suc n) (value v vs) = value v (filled n vs)
+
+-- round i gives its value to the name's list
+abbrev pub grown_in : ℕ → Environment → Name → Value → Option Value → Environment
+grown_in i env name v None = set_value env name (list (add_value (filled i no_values) v))
+grown_in i env name v (Some (list vs)) = set_value env name (list (add_value (filled i vs) v))
+grown_in i env name v (Some _) = env
+
+-- each name of round i gives its list one value more
+abbrev pub add_round_in : ℕ → Environment → Environment → Environment
+add_round_in i [] env = env
+add_round_in i (e ∷ more) env = add_round_in i more (grown_in i env e.0 e.1 (value_of env e.0))
+
+-- how many rounds there are
+abbrev pub round_count : CommandRounds → ℕ
+round_count no_command_rounds = 0
+round_count (command_round rs cs) = suc (round_count rs)
+
+-- what the commands bind, one after the other, over what was bound before
+abbrev mutual
+  pub run_command : Command → Environment → Environment
+  run_command (binds name x) env = set_value env name (fragment x)
+  run_command (binds_nothing name) env = set_value env name (fragment nothing_taken)
+  run_command (skips name) env = set_value env name empty
+  run_command (misses name kind) env = set_value env name (missing kind)
+  run_command (nests rs) env = run_rounds rs env
+
+  pub run : Commands → Environment → Environment
+  run no_commands env = env
+  run (command cs c) env = run_command c (run cs env)
+
+  -- each round by itself
+  pub run_rounds : CommandRounds → Environment → Environment
+  run_rounds no_command_rounds env = env
+  run_rounds (command_round rs cs) env = add_round_in (round_count rs) (run cs []) (run_rounds rs env)
+
+-- the environment of an account: that of its current list
+abbrev pub bound_by : Account → Environment
+bound_by a = run a.current []
+
+-- ---- the commands of a reading
+
+-- each name is skipped
+abbrev pub skip_commands : List Name → Commands → Commands
+skip_commands [] cs = cs
+skip_commands (name ∷ names) cs = skip_commands names (command cs (skips name))
+
+-- the commands that items write, from left to right, behind those that were written before
+abbrev mutual
+  pub write_item : Item → Commands → Commands
+  write_item (matched n) cs = cs
+  write_item (bound name x) cs = command cs (binds name x)
+  write_item (grouped is) cs = write is cs
+  write_item (skipped names) cs = skip_commands names cs
+  write_item (rounds rs last) cs = command cs (nests (command_round (rounds_of_items rs) (write last no_commands)))
+
+  pub write : Items → Commands → Commands
+  write no_items cs = cs
+  write (item is x) cs = write_item x (write is cs)
+
+  pub rounds_of_items : Rounds → CommandRounds
+  rounds_of_items no_rounds = no_command_rounds
+  rounds_of_items (round rs is w) = command_round (rounds_of_items rs) (write is no_commands)
+
+-- the commands of a whole reading
+abbrev pub commands_of : Items → Commands
+commands_of is = write is no_commands
+
+-- ---- the log
+
+-- the first so many entries of a list
+pub record Part : Type 0 where
+  pub list : ℕ
+  pub first : ℕ
+
+-- what a list of commands in the log holds
+pub data Entry : Type 0 where
+  binds : Name → Fragment → Entry
+  binds_nothing : Name → Entry
+  skips : Name → Entry
+  misses : Name → MetaVarKind → Entry
+  -- the child's finished rounds, and its current list
+  nests : Part → Part → Entry
+  -- commands of another list
+  links : Part → Entry
+
+-- what a list of rounds in the log holds
+pub data RoundEntry : Type 0 where
+  -- a list of commands
+  finishes : Part → RoundEntry
+  -- finished rounds of another list
+  links : Part → RoundEntry
+
+-- each entry with its number in the order of writing
+pub record Log : Type 0 where
+  pub commands : List (List (ℕ × Entry))
+  pub rounds : List (List (ℕ × RoundEntry))
+
+-- which two lists are a handle's own
+pub record Handle : Type 0 where
+  pub current : ℕ
+  pub finished : ℕ
+
+-- both its lists are in the log
+abbrev pub IsLive : Log → Handle → Type 0
+IsLive log h = (h.current < length log.commands) × (h.finished < length log.rounds)
+
+-- two handles have no list in common
+abbrev pub AreApart : Handle → Handle → Type 0
+AreApart h k = (h.current ≢ k.current) × (h.finished ≢ k.finished)
+
+module _ (log : Log) where
+  mutual
+    -- What entries give behind the commands before them, when parts are replaced by what they stand for.
+    pub data Gives : Commands → List (ℕ × Entry) → Commands → Type 0 where
+      gives_nothing : (cs : Commands) → Gives cs [] cs
+      gives_binding : (cs : Commands) (n : ℕ) (name : Name) (x : Fragment) (es : List (ℕ × Entry)) (all : Commands) →
+          Gives (command cs (Command.binds name x)) es all → Gives cs ((n, Entry.binds name x) ∷ es) all
+      gives_empty : (cs : Commands) (n : ℕ) (name : Name) (es : List (ℕ × Entry)) (all : Commands) →
+          Gives (command cs (Command.binds_nothing name)) es all → Gives cs ((n, Entry.binds_nothing name) ∷ es) all
+      gives_skip : (cs : Commands) (n : ℕ) (name : Name) (es : List (ℕ × Entry)) (all : Commands) →
+          Gives (command cs (Command.skips name)) es all → Gives cs ((n, Entry.skips name) ∷ es) all
+      gives_missing : (cs : Commands) (n : ℕ) (name : Name) (kind : MetaVarKind) (es : List (ℕ × Entry)) (all : Commands) →
+          Gives (command cs (Command.misses name kind)) es all → Gives cs ((n, Entry.misses name kind) ∷ es) all
+      gives_nested : (cs : Commands) (n : ℕ) (finished current : Part) (es : List (ℕ × Entry)) (rs : CommandRounds) (ds all : Commands) →
+          PartGivesRounds no_command_rounds finished rs → PartGives no_commands current ds →
+          Gives (command cs (Command.nests (command_round rs ds))) es all → Gives cs ((n, Entry.nests finished current) ∷ es) all
+      gives_link : (cs : Commands) (n : ℕ) (part : Part) (es : List (ℕ × Entry)) (ds all : Commands) →
+          PartGives cs part ds → Gives ds es all → Gives cs ((n, Entry.links part) ∷ es) all
+
+    -- the same, of rounds
+    pub data GivesRounds : CommandRounds → List (ℕ × RoundEntry) → CommandRounds → Type 0 where
+      gives_no_rounds : (rs : CommandRounds) → GivesRounds rs [] rs
+      gives_round : (rs : CommandRounds) (n : ℕ) (part : Part) (es : List (ℕ × RoundEntry)) (cs : Commands) (all : CommandRounds) →
+          PartGives no_commands part cs → GivesRounds (command_round rs cs) es all → GivesRounds rs ((n, RoundEntry.finishes part) ∷ es) all
+      gives_linked_rounds : (rs : CommandRounds) (n : ℕ) (part : Part) (es : List (ℕ × RoundEntry)) (qs all : CommandRounds) →
+          PartGivesRounds rs part qs → GivesRounds qs es all → GivesRounds rs ((n, RoundEntry.links part) ∷ es) all
+
+    -- the first entries of a list give these commands
+    pub data PartGives : Commands → Part → Commands → Type 0 where
+      part_gives : (cs : Commands) (part : Part) (all : Commands) (es : List (ℕ × Entry)) → slice_get log.commands part.list ≡ Some es → part.first ≤ length es →
+          Gives cs (take part.first es) all → PartGives cs part all
+
+    -- the same, of rounds
+    pub data PartGivesRounds : CommandRounds → Part → CommandRounds → Type 0 where
+      part_gives_rounds : (rs : CommandRounds) (part : Part) (all : CommandRounds) (es : List (ℕ × RoundEntry)) → slice_get log.rounds part.list ≡ Some es → part.first ≤ length es →
+          GivesRounds rs (take part.first es) all → PartGivesRounds rs part all
+
+  -- the account of a live handle
+  pub record IsAccount (h : Handle) (a : Account) : Type 0 where
+    pub commands : List (ℕ × Entry)
+    pub rounds : List (ℕ × RoundEntry)
+    pub current_list : slice_get log.commands h.current ≡ Some commands
+    pub finished_list : slice_get log.rounds h.finished ≡ Some rounds
+    pub current : Gives no_commands commands a.current
+    pub finished : GivesRounds no_command_rounds rounds a.finished
+
+  -- ---- the order of writing
+
+  -- all numbers are below n
+  abbrev pub AreBelow : {E : Type 0} → ℕ → List (ℕ × E) → Type 0
+  AreBelow n [] = Unit {0}
+  AreBelow n (e ∷ es) = (e.0 < n) × AreBelow n es
+
+  -- the part has lower numbers alone
+  abbrev pub IsBelow : ℕ → Part → Type 0
+  IsBelow n part = (es : List (ℕ × Entry)) × (slice_get log.commands part.list ≡ Some es) × (part.first ≤ length es) × AreBelow n (take part.first es)
+
+  -- the same, of rounds
+  abbrev pub AreRoundsBelow : ℕ → Part → Type 0
+  AreRoundsBelow n part = (es : List (ℕ × RoundEntry)) × (slice_get log.rounds part.list ≡ Some es) × (part.first ≤ length es) × AreBelow n (take part.first es)
+
+  -- what an entry stands for was written before it
+  abbrev pub StandsForLower : ℕ → Entry → Type 0
+  StandsForLower n (Entry.nests finished current) = AreRoundsBelow n finished × IsBelow n current
+  StandsForLower n (Entry.links part) = IsBelow n part
+  StandsForLower n _ = Unit {0}
+
+  -- the same, of rounds
+  abbrev pub RoundStandsForLower : ℕ → RoundEntry → Type 0
+  RoundStandsForLower n (RoundEntry.finishes part) = IsBelow n part
+  RoundStandsForLower n (RoundEntry.links part) = AreRoundsBelow n part
+
+  -- an entry stands for entries that were written before it
+  pub record IsOrdered : Type 0 where
+    pub commands : (i j n : ℕ) (es : List (ℕ × Entry)) (e : Entry) →
+        slice_get log.commands i ≡ Some es → slice_get es j ≡ Some (n, e) → StandsForLower n e
+    pub rounds : (i j n : ℕ) (es : List (ℕ × RoundEntry)) (e : RoundEntry) →
+        slice_get log.rounds i ≡ Some es → slice_get es j ≡ Some (n, e) → RoundStandsForLower n e
+
+-- one list more at the end of the lists, of at most three entries, and nothing else is changed
+abbrev pub HasOneListMore : {E : Type 0} → List (List (ℕ × E)) → List (List (ℕ × E)) → Type 0
+HasOneListMore {E} old new = (es : List (ℕ × E)) × (length es ≤ 3) × (new ≡ old ++ es ∷ [])

@@ -1,0 +1,77 @@
+-- What the public calls promise, over the values that clauses see.
+use Rattle.std.specs.Prelude.{◌≡◌, ◌≢◌, ◌⊎◌, ◌+◌, ◌^◌, ℕ, Bool, true, false, nat_lt, if◌then◌else◌, List, [], ◌∷◌, Contains, Option, Some, None, IsNone, IsTrue}
+use Rattle.std.specs.List.{list_any}
+use Rattle.mbe_tt.specs.declared.span.Span.{Span}
+use Rattle.mbe_tt.specs.declared.tt.DelimiterKind.TheVariants.{Invisible}
+use Rattle.mbe_tt.specs.Tree.{Forest, none, group}
+use Rattle.mbe_tt.specs.Grammar.{Grammar}
+use Rattle.mbe_semantics.specs.declared.macro_call_style.MacroCallStyle.{MacroCallStyle}
+use Rattle.mbe_semantics.specs.declared.macro_call_style.MacroCallStyle.TheVariants.{FnLike, Attr, Derive}
+use Rattle.mbe_semantics.specs.Syntax.Template.{Fault, empty_repetition}
+use Rattle.mbe_semantics.specs.Syntax.Definition.{Rule}
+use Rattle.mbe_semantics.specs.Syntax.Nullable.{is_refused}
+use Rattle.mbe_semantics.specs.Expansion.Error.{ExpandError, no_matching_rule}
+use Rattle.mbe_semantics.specs.Expansion.Expansion.{Applies, IsExpansion}
+use Rattle.mbe_semantics.specs.Expansion.Recovery.{HasStyle, IsClosest}
+
+-- a definition that was read
+pub record Macro : Type 0 where
+  pub rules : List Rule
+  pub err : Option Fault
+
+-- a refused pattern is told
+abbrev pub TellsRefusal : Macro → Type 0
+TellsRefusal m = IsTrue (list_any (λ r. is_refused r.reads) m.rules) → m.err ≡ Some empty_repetition
+
+-- no repetition is refused, or there is no rule (what `expand` asks for)
+abbrev pub IsChecked : Macro → Type 0
+IsChecked m = (m.err ≢ Some empty_repetition) ⊎ (m.rules ≡ [])
+
+-- ---- styles
+
+-- the rule is for a function-like call
+abbrev pub is_fn_like : Rule → Bool
+is_fn_like r = is_this r.style
+  where
+    is_this : MacroCallStyle → Bool
+    is_this FnLike = true
+    is_this _ = false
+
+-- the rule is for an attribute
+abbrev pub is_attr : Rule → Bool
+is_attr r = is_this r.style
+  where
+    is_this : MacroCallStyle → Bool
+    is_this Attr = true
+    is_this _ = false
+
+-- the rule is for a derive
+abbrev pub is_derive : Rule → Bool
+is_derive r = is_this r.style
+  where
+    is_this : MacroCallStyle → Bool
+    is_this Derive = true
+    is_this _ = false
+
+-- the bits of the rules' styles; without rules those of a function-like call
+abbrev pub style_bits : List Rule → ℕ
+style_bits [] = 1
+style_bits (r ∷ rs) =
+    (if list_any is_fn_like (r ∷ rs) then 1 else 0) + (if list_any is_attr (r ∷ rs) then 2 else 0) + (if list_any is_derive (r ∷ rs) then 4 else 0)
+
+-- ---- expansion
+
+-- a place among the rules, where it fits 32 bits
+abbrev pub arm_of : ℕ → Option ℕ
+arm_of n = if nat_lt n (2 ^ 32) then Some n else None
+
+-- An answer without an error is the expansion by the first rule that applies, and where some rule applies there is
+-- no error. With an error the rule is the closest one, and without a rule of the style there is none.
+pub record Expands (g : Grammar) (Marks : Span → Span → Type 0) (m : Macro) (style : MacroCallStyle) (argument : Forest) (call_site : Span)
+    (out : Forest) (index : Option ℕ) (err : Option ExpandError) : Type 0 where
+  pub sound : IsNone err → (n : ℕ) × IsExpansion g style argument Marks call_site m.rules n out × (index ≡ arm_of n)
+  pub complete : (r : Rule) → Contains m.rules r → Applies g style argument r → IsNone err
+  pub recovers : (e : ExpandError) → err ≡ Some e → HasStyle m.rules style → (n : ℕ) × IsClosest g style argument m.rules n × (index ≡ arm_of n)
+  pub no_rule : (HasStyle m.rules style → ⊥) →
+      (out ≡ group (record { opening = call_site; close = call_site; kind = Invisible }) none none)
+      × (index ≡ None) × (err ≡ Some (record { span = call_site; kind = no_matching_rule }))

@@ -1,0 +1,2 @@
+-- What a variable takes of an argument.
+pub mod Takes

@@ -1,0 +1,2 @@
+-- Words of private code.
+pub mod Writing

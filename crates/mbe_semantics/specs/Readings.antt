@@ -1,0 +1,8 @@
+-- How a pattern reads an argument: items, beginnings, steps, ambiguity, verdicts.
+pub mod Item
+pub mod Fit
+pub mod Input
+pub mod Reading
+pub mod Steps
+pub mod Ambiguity
+pub mod Verdict

@@ -1,0 +1,53 @@
+-- What stands at the places of an argument. It is all that readings and beginnings see of trees and grammar.
+use Rattle.std.specs.Prelude.{ℕ, Bool, true, false, ◌&&◌, nat_lt, Option, Some, None}
+use Rattle.mbe_semantics.specs.declared.kinds.MetaVarKind.{MetaVarKind}
+use Rattle.mbe_tt.specs.declared.tt.DelimiterKind.{DelimiterKind}
+use Rattle.mbe_tt.specs.Tree.{Forest, none, group, flat_len, Cut, rest_at, is_same_kind}
+use Rattle.mbe_tt.specs.Grammar.{Grammar}
+use Rattle.mbe_semantics.specs.Syntax.Op.{Token, Separator}
+use Rattle.mbe_semantics.specs.Fragments.Takes.{takes}
+use Rattle.mbe_semantics.specs.Readings.Fit.{token_front, separator_front}
+use Rattle.mbe_semantics.specs.Readings.Item.{Fragment, style_of}
+
+-- answers for each place
+pub record Input : Type 0 where
+  -- a token of the pattern fits at the place, over so many flat tokens
+  pub token_at : Token → ℕ → Option ℕ
+  -- a variable of the kind takes this fragment at the place
+  pub fragment_at : Option MetaVarKind → ℕ → Option Fragment
+  -- a separator fits at the place, over so many flat tokens
+  pub separator_at : Separator → ℕ → Option ℕ
+  -- a group of the kind opens at the place
+  pub opens_at : DelimiterKind → ℕ → Bool
+  -- a group closes at the place
+  pub closes_at : ℕ → Bool
+
+-- how many flat tokens the front has
+abbrev pub length_of : Option Cut → Option ℕ
+length_of None = None
+length_of (Some c) = Some (flat_len c.front)
+
+-- the front as a fragment of the kind
+abbrev pub fragment_of : Option MetaVarKind → Option Cut → Option Fragment
+fragment_of kind None = None
+fragment_of kind (Some c) = Some (record { trees = c.front; style = style_of kind })
+
+-- a group of this kind stands at the front
+abbrev pub is_opening : DelimiterKind → Forest → Bool
+is_opening kind (group d inside rest) = is_same_kind kind d.kind
+is_opening kind _ = false
+
+-- no tree is left
+abbrev pub is_none : Forest → Bool
+is_none none = true
+is_none _ = false
+
+-- A group closes where nothing is left in it. Outside all groups nothing is left at the argument's end alone.
+abbrev pub input_of : Grammar → Forest → Input
+input_of g argument = record {
+  token_at = λ t p. length_of (token_front t (rest_at argument p));
+  fragment_at = λ kind p. fragment_of kind (takes g kind (rest_at argument p));
+  separator_at = λ s p. length_of (separator_front s (rest_at argument p));
+  opens_at = λ kind p. is_opening kind (rest_at argument p);
+  closes_at = λ p. nat_lt p (flat_len argument) && is_none (rest_at argument p);
+}

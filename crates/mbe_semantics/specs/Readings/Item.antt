@@ -1,0 +1,70 @@
+-- What a reading holds: an item for each op of the pattern.
+use Rattle.std.specs.Prelude.{ℕ, suc, ◌+◌, List, Option, Some}
+use Rattle.mbe_semantics.specs.declared.kinds.MetaVarKind.{MetaVarKind}
+use Rattle.mbe_semantics.specs.declared.kinds.MetaVarKind.TheVariants as kinds
+use Rattle.mbe_tt.specs.Tree.{Forest, flat_len}
+use Rattle.mbe_semantics.specs.Syntax.Op.{Name}
+
+-- how a fragment is written
+pub data Style : Type 0 where
+  plain : Style
+  -- without an invisible group around it
+  stripped : Style
+  as_expression : Style
+  as_path : Style
+
+-- which style a kind is written in
+abbrev pub style_of : Option MetaVarKind → Style
+style_of (Some kinds.Ident) = stripped
+style_of (Some kinds.Tt) = stripped
+style_of (Some kinds.Lifetime) = stripped
+style_of (Some kinds.Literal) = stripped
+style_of (Some (kinds.Expr kind)) = as_expression
+style_of (Some kinds.Path) = as_path
+style_of _ = plain
+
+-- what a variable took from the argument
+pub record Fragment : Type 0 where
+  pub trees : Forest
+  pub style : Style
+
+-- What an op read. Lists grow at their end, as the reading does.
+mutual
+  -- what one op read
+  pub data Item : Type 0 where
+    -- a token of the pattern, over so many flat tokens
+    matched : ℕ → Item
+    -- the variable of this name
+    bound : Name → Fragment → Item
+    grouped : Items → Item
+    -- a repetition without a round, and the names of the variables in it
+    skipped : List Name → Item
+    -- a repetition with rounds: all but the last, and the last
+    rounds : Rounds → Items → Item
+
+  -- what ops read, one after the other
+  pub data Items : Type 0 where
+    no_items : Items
+    item : Items → Item → Items
+
+  -- complete rounds, each with the width of the separator behind it, which is 0 where there is no separator
+  pub data Rounds : Type 0 where
+    no_rounds : Rounds
+    round : Rounds → Items → ℕ → Rounds
+
+-- the number of flat tokens that were read
+abbrev mutual
+  pub item_width : Item → ℕ
+  item_width (matched n) = n
+  item_width (bound name x) = flat_len x.trees
+  item_width (grouped is) = suc (suc (items_width is))
+  item_width (skipped names) = 0
+  item_width (rounds rs last) = rounds_width rs + items_width last
+
+  pub items_width : Items → ℕ
+  items_width no_items = 0
+  items_width (item is x) = items_width is + item_width x
+
+  pub rounds_width : Rounds → ℕ
+  rounds_width no_rounds = 0
+  rounds_width (round rs is w) = rounds_width rs + items_width is + w

@@ -1,0 +1,54 @@
+-- How a fragment is written (as in rust-analyzer).
+use Rattle.std.specs.Prelude.{◌≡◌, Bool, true, false, ◌==◌, if◌then◌else◌}
+use Rattle.mbe_tt.specs.declared.span.Span.{Span}
+use Rattle.mbe_tt.specs.Leaf.{ident, literal, punct}
+use Rattle.mbe_tt.specs.declared.tt.Spacing.TheVariants.{Alone, Joint}
+use Rattle.mbe_tt.specs.declared.tt.DelimiterKind.{DelimiterKind}
+use Rattle.mbe_tt.specs.declared.tt.DelimiterKind.TheVariants.{Parenthesis, Invisible}
+use Rattle.mbe_tt.specs.Tree.{Forest, none, leaf, group, alone, strip_invisible}
+use Rattle.mbe_semantics.specs.Readings.Item.{Style, plain, stripped, as_expression, as_path}
+
+-- nothing shows this group's delimiters
+abbrev pub is_invisible : DelimiterKind → Bool
+is_invisible Invisible = true
+is_invisible _ = false
+
+-- an expression that needs parentheses: all but one leaf, one visible group, or `-` and a literal
+abbrev pub needs_parentheses : Forest → Bool
+needs_parentheses (leaf l none) = false
+needs_parentheses (group d inside none) = is_invisible d.kind
+needs_parentheses (leaf (punct p) (leaf (literal l) none)) = if p.char == 45 then false else true
+needs_parentheses f = true
+
+-- `::`, with the call site's span
+abbrev pub double_colon : Span → Forest → Forest
+double_colon call_site rest =
+    leaf (punct (record { char = 58; spacing = Joint; span = call_site }))
+    (leaf (punct (record { char = 58; spacing = Alone; span = call_site })) rest)
+
+-- with `::` before each `<` of these trees that follows an identifier
+abbrev pub path_trees : Span → Forest → Forest
+path_trees call_site none = none
+path_trees call_site (leaf (ident i) (leaf (punct p) rest)) =
+    leaf (ident i) (if p.char == 60 then double_colon call_site (leaf (punct p) (path_trees call_site rest)) else leaf (punct p) (path_trees call_site rest))
+path_trees call_site (leaf l rest) = leaf l (path_trees call_site rest)
+path_trees call_site (group d inside rest) = group d inside (path_trees call_site rest)
+
+-- one group around the trees
+abbrev pub in_parentheses : Span → Forest → Forest
+in_parentheses span f = group (record { opening = span; close = span; kind = Parenthesis }) f none
+
+-- `Marks s t`: the marker may answer t for s
+module _ (Marks : Span → Span → Type 0) where
+  -- parentheses where they are needed, both with one answer of the marker
+  abbrev pub IsParenthesized : Bool → Span → Forest → Forest → Type 0
+  IsParenthesized false span f out = out ≡ f
+  IsParenthesized true span f out = (marked : Span) × Marks span marked × (out ≡ in_parentheses marked f)
+
+  -- `span` is the variable's span in the template
+  abbrev pub IsWrittenAs : Span → Style → Span → Forest → Forest → Type 0
+  IsWrittenAs call_site plain span f out = out ≡ alone f
+  IsWrittenAs call_site stripped span f out = out ≡ alone (strip_invisible f)
+  IsWrittenAs call_site as_path span f out = out ≡ path_trees call_site f
+  IsWrittenAs call_site as_expression span f out =
+      IsParenthesized (needs_parentheses (strip_invisible f)) span (alone (strip_invisible f)) out
