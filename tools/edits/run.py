@@ -9,8 +9,9 @@ that an edit changes, or with --whole the whole crate. Each edit ends as one of 
 
     goal     a goal of the code is open: the contract refuses the edit
     answer   the answer that a proof file gives to a goal no longer proves it: the values that it speaks of have changed
-    text     a proof file names a step that the edit took away, and nothing else is refused: this says nothing of the
-             contract, so write the edit with the same steps
+    text     nothing is refused but a proof file that names a step which the edit took away, or which has another name since
+             the edit calls that function more or less often: this says nothing of the contract, so write the edit with
+             the same steps
     proved   nothing is refused: the contract is too weak
     bad      the edit can't be applied, or doesn't reach the prover
 
@@ -69,8 +70,9 @@ def function_at(text, at):
 
 
 def path_of(file, function):
+    """A method is named by its type, which may stand in another module, and a free function by its module."""
     module = file.removeprefix("src/").removesuffix(".rt").replace("/", "::")
-    return "::".join([*([module] if module not in ("lib", "main") else []), function])
+    return function if "::" in function or module in ("lib", "main") else f"{module}::{function}"
 
 
 def check(crate, functions):
@@ -81,18 +83,37 @@ def check(crate, functions):
     return ran.returncode, ran.stdout
 
 
-def verdict(status, said):
+def calls_changed(edit):
+    """The names of the functions that the edit calls more or less often."""
+    with open(edit, encoding="utf-8") as it:
+        lines = it.read().split("\n")
+    number = {}
+    for line in lines:
+        for name in re.findall(r"(\w+)(?:::<.*?>)?\(", line):
+            number[name] = number.get(name, 0) + (1 if line.startswith("new:") else -1)
+    return {name for name, it in number.items() if it}
+
+
+def cites_any(file, names):
+    with open(file, encoding="utf-8") as it:
+        return sorted(set(re.findall(r"\bc\.(\w+)", it.read())) & names)
+
+
+def verdict(status, said, crate, edit):
     """How an edit ends, and what shows it, from what the check said."""
     if status == 0:
         return "proved", "every goal is still proved"
-    refused = ", ".join(re.findall(r"(?m)^fn \w+::(\S+): not proved", said))
+    refused = ", ".join(re.findall(r"(?m)^fn \w+::(\S+): (?:not proved|no proof)", said))
     goals = re.findall(r"(?m)^note: src/\S+: .*\(`([^`]*)`\)", said)
     if goals:
         return "goal", f"{' '.join(dict.fromkeys(goals))} of {refused}"
     errors = re.findall(r"(?m)^(?:\./)?(proofs/\S+?): error: (.*)", said)
-    answers = [re.match(r"`([^`]*)`", what) for _, what in errors if not LOST_NAME.search(what)]
+    answers = [(where.split(":")[0], re.match(r"`([^`]*)`", what)) for where, what in errors if not LOST_NAME.search(what)]
+    renamed = {it for file in {file for file, _ in answers} for it in cites_any(f"{crate}/{file}", calls_changed(edit))}
+    if answers and not renamed:
+        return "answer", f"{' '.join(dict.fromkeys(it[1] for _, it in answers if it))} of {refused}"
     if answers:
-        return "answer", f"{' '.join(dict.fromkeys(it[1] for it in answers if it))} of {refused}"
+        return "text", f"{answers[0][0]} names {', '.join(sorted(renamed))}, which the edit calls more or less often"
     if errors:
         where, what = errors[0]
         return "text", f"{where}: {what[:140]}"
@@ -120,7 +141,7 @@ def tried(edit, crate, is_whole):
     finally:
         for file, kept in texts.items():
             shutil.move(kept, f"{crate}/{file}")
-    return verdict(status, said)
+    return verdict(status, said, crate, edit)
 
 
 def edits_of(top, words, with_gate):
