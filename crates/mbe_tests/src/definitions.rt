@@ -19,16 +19,26 @@ pub enum Told {
 }
 
 pub const MISSING_SPECIFIER: Told = Told::Unexpected("missing fragment specifier");
+
 pub const IDENT: Told = Told::Expected("expected ident");
+
 pub const SUBTREE: Told = Told::Expected("expected subtree");
+
 pub const EQUALS: Told = Told::Expected("expected `=`");
+
 pub const GREATER: Told = Told::Expected("expected `>`");
+
 pub const PARENTHESES: Told = Told::Expected("expected `()`");
+
 const SEMICOLON: Told = Told::Expected("expected `;`");
+
 pub const REPETITION: Told = Told::Expected("expected `$()` repetition or `${}` expression");
+
 pub const DOLLARS: Told = Told::Unexpected("`$$` is not allowed on the pattern side");
-pub const EXPRESSION: Told =
-    Told::Unexpected("`${}` metavariable expressions are not allowed in matchers");
+
+pub const EXPRESSION: Told = Told::Unexpected(
+    "`${}` metavariable expressions are not allowed in matchers",
+);
 
 impl Told {
     /// That error, made anew.

@@ -45,7 +45,13 @@ fn assert_call(
     (arm, text, start): (u32, &str, u32),
 ) -> Result<(), Fail> {
     let answer = expanded_as(rt, alloc, definition, style)?;
-    assert_answer(rt, alloc, &answer, at(1, 0, 0), (arm, &[word(text, 0, start)]))?;
+    assert_answer(
+        rt,
+        alloc,
+        &answer,
+        at(1, 0, 0),
+        (arm, &[word(text, 0, start)]),
+    )?;
     Ok(())
 }
 
