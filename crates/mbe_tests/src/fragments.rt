@@ -1,7 +1,7 @@
 // Which fragments a variable takes by a grammar that is handed in, and how they are written.
 use crate::grammar::{Counting, NoMemory, Numbered, number_of};
 use crate::runs::{assert_answer, assert_checked, assert_no_rule, parsed, whole};
-use crate::tokens::{Token, alone, at, close, float, joint, number, open, raw, string, word};
+use crate::tokens::{Lexeme, Token, alone, at, close, float, joint, number, open, string, word};
 use crate::trees::{built, lexed};
 use mbe::{DeclarativeMacro, MacroCallStyle};
 use mbe_tt::grammar::{FragmentGrammar, PrefixEntryPoint};
@@ -46,6 +46,33 @@ fn assert_makes<G: FragmentGrammar>(
     Ok(())
 }
 
+// No rule of the definition answers any of the arguments.
+fn assert_none<G: FragmentGrammar>(
+    rt: &impl Abort,
+    alloc: Global,
+    grammar: &G,
+    definition: &str,
+    arguments: &[&str],
+) -> Result<(), Fail> {
+    for &argument in arguments {
+        assert_texts(rt, alloc, grammar, (definition, argument), None)?;
+    }
+    Ok(())
+}
+
+// The rule of a variable of that specifier, which writes these tokens.
+fn rule_of(
+    alloc: Global,
+    specifier: &str,
+    template: &str,
+    edition: Edition,
+) -> Result<DeclarativeMacro, Fail> {
+    let text = format!(in alloc; "($x:{specifier}) => {{{template}}}")?;
+    let definition = lexed(alloc, 0, text.as_str())?;
+    let rules = DeclarativeMacro::parse_macro_rules(alloc, &definition, |_| edition)?;
+    Ok(rules)
+}
+
 // The same of two texts: the definition is file 0, the argument file 1.
 fn assert_texts<G: FragmentGrammar>(
     rt: &impl Abort,
@@ -86,6 +113,8 @@ fn minus_belongs_to_a_literal(rt: HostRuntime) -> Result<(), Fail> {
     Ok(())
 }
 
+static NO_LITERALS: [&str; 9] = ["", "-", "a", "-a", "- truth", "--1", "+1", "(1)", "1 1"];
+
 #[test]
 fn literal_takes_true_and_false(rt: HostRuntime) -> Result<(), Fail> {
     let rules = "($l:literal) => {$l}";
@@ -105,9 +134,7 @@ fn literal_takes_true_and_false(rt: HostRuntime) -> Result<(), Fail> {
         (rules, "- false"),
         Some((0, &signed)),
     )?;
-    for argument in ["", "-", "a", "-a", "- truth", "--1", "+1", "(1)", "1 1"] {
-        assert_texts(&rt, rt.alloc(), &taking(9), (rules, argument), None)?;
-    }
+    assert_none(&rt, rt.alloc(), &taking(9), rules, &NO_LITERALS)?;
     let rules = parsed(rt.alloc(), &lexed(rt.alloc(), 0, rules)?)?;
     let text = [string("a b", 1, 0)];
     let argument = built(rt.alloc(), at(1, 0, 5), &text)?;
@@ -120,18 +147,19 @@ fn literal_takes_true_and_false(rt: HostRuntime) -> Result<(), Fail> {
     )
 }
 
+static LIFETIMES: [(&str, &str); 3] = [("'a", "a"), ("'_", "_"), ("'static", "static")];
+
+static NO_LIFETIMES: [&str; 8] = ["", "'", "a", "'1", "'(a)", "''a", "'a b", "('a)"];
+
 #[test]
 fn lifetime_takes_a_quote_and_a_name(rt: HostRuntime) -> Result<(), Fail> {
     let rules = "($l:lifetime) => {$l}";
-    for (argument, name) in [("'a", "a"), ("'_", "_"), ("'static", "static")] {
+    for &(argument, name) in &LIFETIMES {
         let want = [joint('\'', 1, 0), word(name, 1, 1)];
         let texts = (rules, argument);
         assert_texts(&rt, rt.alloc(), &taking(0), texts, Some((0, &want)))?;
     }
-    for argument in ["", "'", "a", "'1", "'(a)", "''a", "'a b", "('a)"] {
-        assert_texts(&rt, rt.alloc(), &taking(9), (rules, argument), None)?;
-    }
-    Ok(())
+    assert_none(&rt, rt.alloc(), &taking(9), rules, &NO_LIFETIMES)
 }
 
 // Each specifier fits just as many words as `Numbered` counts for its entry point.
@@ -154,78 +182,85 @@ fn assert_asks(
     Ok(())
 }
 
+static ENTRY_POINTS: [(&str, PrefixEntryPoint); 11] = [
+    ("path", PrefixEntryPoint::Path),
+    ("expr", PrefixEntryPoint::Expr),
+    ("expr_2021", PrefixEntryPoint::Expr),
+    ("ty", PrefixEntryPoint::Ty),
+    ("pat", PrefixEntryPoint::PatTop),
+    ("pat_param", PrefixEntryPoint::Pat),
+    ("stmt", PrefixEntryPoint::Stmt),
+    ("block", PrefixEntryPoint::Block),
+    ("meta", PrefixEntryPoint::MetaItem),
+    ("item", PrefixEntryPoint::Item),
+    ("vis", PrefixEntryPoint::Vis),
+];
+
 #[test]
 fn each_specifier_asks_its_entry_point(rt: HostRuntime) -> Result<(), Fail> {
-    for (specifier, entry) in [
-        ("path", PrefixEntryPoint::Path),
-        ("expr", PrefixEntryPoint::Expr),
-        ("expr_2021", PrefixEntryPoint::Expr),
-        ("ty", PrefixEntryPoint::Ty),
-        ("pat", PrefixEntryPoint::PatTop),
-        ("pat_param", PrefixEntryPoint::Pat),
-        ("stmt", PrefixEntryPoint::Stmt),
-        ("block", PrefixEntryPoint::Block),
-        ("meta", PrefixEntryPoint::MetaItem),
-        ("item", PrefixEntryPoint::Item),
-        ("vis", PrefixEntryPoint::Vis),
-    ] {
-        let text = format!(in rt.alloc(); "($x:{specifier}) => {{}}")?;
-        let rules = parsed(rt.alloc(), &lexed(rt.alloc(), 0, text.as_str())?)?;
+    for &(specifier, entry) in &ENTRY_POINTS {
+        let rules = rule_of(rt.alloc(), specifier, "", Edition::Edition2024)?;
         assert_asks(&rt, rt.alloc(), &rules, entry)?;
     }
     Ok(())
 }
+
+static PATTERNS: [(Edition, PrefixEntryPoint); 4] = [
+    (Edition::Edition2015, PrefixEntryPoint::Pat),
+    (Edition::Edition2018, PrefixEntryPoint::Pat),
+    (Edition::Edition2021, PrefixEntryPoint::PatTop),
+    (Edition::Edition2024, PrefixEntryPoint::PatTop),
+];
 
 #[test]
 fn pat_is_the_older_one_before_2021(rt: HostRuntime) -> Result<(), Fail> {
-    let definition = lexed(rt.alloc(), 0, "($x:pat) => {}")?;
-    for (edition, entry) in [
-        (Edition::Edition2015, PrefixEntryPoint::Pat),
-        (Edition::Edition2018, PrefixEntryPoint::Pat),
-        (Edition::Edition2021, PrefixEntryPoint::PatTop),
-        (Edition::Edition2024, PrefixEntryPoint::PatTop),
-    ] {
-        let rules = DeclarativeMacro::parse_macro_rules(rt.alloc(), &definition, |_| edition)?;
+    for &(edition, entry) in &PATTERNS {
+        let rules = rule_of(rt.alloc(), "pat", "", edition)?;
         assert_asks(&rt, rt.alloc(), &rules, entry)?;
     }
     Ok(())
 }
 
-// Whether one token of an argument is an expression of the specifier, read in an edition.
+static EXPRESSIONS: [(&str, Edition); 4] = [
+    ("expr", Edition::Edition2024),
+    ("expr", Edition::Edition2021),
+    ("expr_2021", Edition::Edition2024),
+    ("ty", Edition::Edition2024),
+];
+
+// A first token, and of which of these it is the beginning.
+static BEGINNINGS: [(Lexeme<'static>, [bool; 4]); 9] = [
+    (Lexeme::Word("a"), [true, true, true, true]),
+    (Lexeme::Number("1"), [true, true, true, true]),
+    (Lexeme::Word("let"), [false, false, false, true]),
+    (Lexeme::Raw("let"), [false, false, false, true]),
+    (Lexeme::Word("lets"), [true, true, true, true]),
+    (Lexeme::Word("_"), [true, false, false, true]),
+    (Lexeme::Word("const"), [true, false, false, true]),
+    (Lexeme::Raw("const"), [true, true, true, true]),
+    (Lexeme::Word("constant"), [true, true, true, true]),
+];
+
+// Whether the token is an expression of the specifier, read in an edition.
 fn assert_begins(
     rt: &impl Abort,
     alloc: Global,
     (specifier, edition): (&str, Edition),
-    (token, fits): (Token<'_>, bool),
+    lexeme: Lexeme<'_>,
+    fits: bool,
 ) -> Result<(), Fail> {
-    let text = format!(in alloc; "($e:{specifier}) => {{}}")?;
-    let definition = lexed(alloc, 0, text.as_str())?;
-    let rules = DeclarativeMacro::parse_macro_rules(alloc, &definition, |_| edition)?;
-    let argument = built(alloc, at(1, 0, 9), &[token])?;
+    let rules = rule_of(alloc, specifier, "", edition)?;
+    let span = at(1, 0, 9);
+    let argument = built(alloc, span, &[Token { lexeme, span }])?;
     let want: Option<(u32, &[Token<'_>])> = if fits { Some((0, &[])) } else { None };
     assert_makes(rt, alloc, &taking(1), (&rules, &argument), want)
 }
 
 #[test]
 fn expressions_begin_with_no_let(rt: HostRuntime) -> Result<(), Fail> {
-    for (token, newer, older) in [
-        (word("a", 1, 0), true, true),
-        (number("1", 1, 0), true, true),
-        (word("let", 1, 0), false, false),
-        (raw("let", 1, 0), false, false),
-        (word("lets", 1, 0), true, true),
-        (word("_", 1, 0), true, false),
-        (word("const", 1, 0), true, false),
-        (raw("const", 1, 0), true, true),
-        (word("constant", 1, 0), true, true),
-    ] {
-        for (specifier, edition, fits) in [
-            ("expr", Edition::Edition2024, newer),
-            ("expr", Edition::Edition2021, older),
-            ("expr_2021", Edition::Edition2024, older),
-            ("ty", Edition::Edition2024, true),
-        ] {
-            assert_begins(&rt, rt.alloc(), (specifier, edition), (token, fits))?;
+    for &(lexeme, fits) in &BEGINNINGS {
+        for (&read, fits) in EXPRESSIONS.iter().zip(fits) {
+            assert_begins(&rt, rt.alloc(), read, lexeme, fits)?;
         }
     }
     Ok(())
@@ -255,9 +290,7 @@ fn vis_may_take_nothing(rt: HostRuntime) -> Result<(), Fail> {
         (rules, "pub a"),
         Some((0, &public)),
     )?;
-    for argument in ["", "a", "pub a b"] {
-        assert_texts(&rt, rt.alloc(), &taking(1), (rules, argument), None)?;
-    }
+    assert_none(&rt, rt.alloc(), &taking(1), rules, &["", "a", "pub a b"])?;
     assert_texts(&rt, rt.alloc(), &taking(0), ("($t:ty) => {}", ""), None)
 }
 
@@ -309,23 +342,24 @@ fn fragments_of_the_grammar_are_written_as_they_are(rt: HostRuntime) -> Result<(
     assert_texts(&rt, rt.alloc(), &taking(2), texts, Some((0, &last)))
 }
 
+static STRIPPED: [(&str, bool); 9] = [
+    ("ty", false),
+    ("pat", false),
+    ("pat_param", false),
+    ("stmt", false),
+    ("block", false),
+    ("meta", false),
+    ("item", false),
+    ("vis", false),
+    ("tt", true),
+];
+
 #[test]
 fn only_what_the_grammar_took_keeps_an_invisible_group(rt: HostRuntime) -> Result<(), Fail> {
     let tokens = [open(Invisible, 1, 0), word("a", 1, 1), close(1, 2)];
     let argument = built(rt.alloc(), at(1, 0, 3), &tokens)?;
-    for (specifier, stripped) in [
-        ("ty", false),
-        ("pat", false),
-        ("pat_param", false),
-        ("stmt", false),
-        ("block", false),
-        ("meta", false),
-        ("item", false),
-        ("vis", false),
-        ("tt", true),
-    ] {
-        let text = format!(in rt.alloc(); "($x:{specifier}) => {{$x}}")?;
-        let rules = parsed(rt.alloc(), &lexed(rt.alloc(), 0, text.as_str())?)?;
+    for &(specifier, stripped) in &STRIPPED {
+        let rules = rule_of(rt.alloc(), specifier, "$x", Edition::Edition2024)?;
         let (start, end) = if stripped { (1usize, 2usize) } else { (0, 3) };
         let want = tokens.get(start..end).ok_or("tokens")?;
         let of = (&rules, &argument);
@@ -334,14 +368,16 @@ fn only_what_the_grammar_took_keeps_an_invisible_group(rt: HostRuntime) -> Resul
     Ok(())
 }
 
+static UNWRITTEN: [&str; 3] = [
+    "($e:expr) => {$e}; ($t:tt) => {A}",
+    "($p:path) => {$p}; ($t:tt) => {A}",
+    "($e:expr)=>{[$e]}; ($t:tt) => {A}",
+];
+
 // Until expressions and paths are written.
 #[test]
 fn rules_that_write_an_expression_or_a_path_are_passed_over(rt: HostRuntime) -> Result<(), Fail> {
-    for rules in [
-        "($e:expr) => {$e}; ($t:tt) => {A}",
-        "($p:path) => {$p}; ($t:tt) => {A}",
-        "($e:expr)=>{[$e]}; ($t:tt) => {A}",
-    ] {
+    for &rules in &UNWRITTEN {
         let want = [word("A", 0, 31)];
         assert_texts(&rt, rt.alloc(), &taking(1), (rules, "1"), Some((1, &want)))?;
     }

@@ -11,7 +11,7 @@ use std::process::Abort;
 use std::rc::Rc;
 use std::test::Fail;
 
-const ENTRIES: [(PrefixEntryPoint, &str); 10] = [
+static ENTRIES: [(PrefixEntryPoint, &str); 10] = [
     (PrefixEntryPoint::Path, "expected Path"),
     (PrefixEntryPoint::Expr, "expected Expr"),
     (PrefixEntryPoint::Ty, "expected Ty"),
@@ -68,41 +68,49 @@ fn assert_front<G: FragmentGrammar>(
     Ok(())
 }
 
+// What is counted, of which entry point and text, the numbers of trees and of flat tokens, and where the next tree stands.
+type Good = (
+    usize,
+    PrefixEntryPoint,
+    &'static str,
+    (usize, usize),
+    Option<(u32, u32)>,
+);
+
+static GOOD: [Good; 6] = [
+    (0, PrefixEntryPoint::Vis, "", (0, 0), None),
+    (0, PrefixEntryPoint::Vis, "x", (0, 0), Some((0, 1))),
+    (
+        4,
+        PrefixEntryPoint::Vis,
+        "pub(crate) x",
+        (2, 4),
+        Some((11, 12)),
+    ),
+    (
+        7,
+        PrefixEntryPoint::Ty,
+        "&'a mut [u8] z",
+        (5, 7),
+        Some((13, 14)),
+    ),
+    (4, PrefixEntryPoint::Expr, "(a b) c", (1, 4), Some((6, 7))),
+    (9, PrefixEntryPoint::Expr, "(a b) c", (2, 5), None),
+];
+
 #[test]
 fn good_fronts_are_whole_trees(rt: HostRuntime) -> Result<(), Fail> {
-    for (count, asked, size, next) in [
-        (0, (PrefixEntryPoint::Vis, ""), (0, 0), None),
-        (0, (PrefixEntryPoint::Vis, "x"), (0, 0), Some(at(1, 0, 1))),
-        (
-            4,
-            (PrefixEntryPoint::Vis, "pub(crate) x"),
-            (2, 4),
-            Some(at(1, 11, 12)),
-        ),
-        (
-            7,
-            (PrefixEntryPoint::Ty, "&'a mut [u8] z"),
-            (5, 7),
-            Some(at(1, 13, 14)),
-        ),
-        (
-            4,
-            (PrefixEntryPoint::Expr, "(a b) c"),
-            (1, 4),
-            Some(at(1, 6, 7)),
-        ),
-        (9, (PrefixEntryPoint::Expr, "(a b) c"), (2, 5), None),
-    ] {
+    for &(count, entry, text, size, next) in &GOOD {
         let grammar = Counting {
             count,
             fault: false,
         };
         let want = Want {
             size,
-            next,
+            next: next.map(|(start, end)| at(1, start, end)),
             error: None,
         };
-        assert_front(&rt, rt.alloc(), &grammar, asked, want)?;
+        assert_front(&rt, rt.alloc(), &grammar, (entry, text), want)?;
     }
     Ok(())
 }
@@ -150,7 +158,7 @@ fn groups_in_one_another_are_taken_whole(rt: HostRuntime) -> Result<(), Fail> {
 #[test]
 fn a_fault_is_told_by_the_name_of_its_entry_point(rt: HostRuntime) -> Result<(), Fail> {
     let faulty = |count| Counting { count, fault: true };
-    for (entry, text) in ENTRIES {
+    for &(entry, text) in &ENTRIES {
         let nothing = Want {
             size: (0, 0),
             next: None,
@@ -169,7 +177,7 @@ fn a_fault_is_told_by_the_name_of_its_entry_point(rt: HostRuntime) -> Result<(),
 
 #[test]
 fn each_entry_point_is_asked_by_itself(rt: HostRuntime) -> Result<(), Fail> {
-    for (entry, _text) in ENTRIES {
+    for &(entry, _text) in &ENTRIES {
         let number = number_of(entry);
         let want = Want {
             size: (number, number),

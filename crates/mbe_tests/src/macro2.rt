@@ -1,5 +1,7 @@
 // Definitions by `macro`: rules in a body, or one rule of arguments and a body.
-use crate::definitions::{Told, assert_read};
+use crate::definitions::{
+    MISSING_SPECIFIER, PARENTHESES, REPETITION, Row, SUBTREE, Told, assert_read,
+};
 use crate::runs::{assert_answer, assert_checked, assert_no_rule, expanded, whole};
 use crate::tokens::{alone, close, joint, open, word};
 use crate::trees::lexed;
@@ -9,6 +11,8 @@ use mbe_tt::tt::DelimiterKind::{Brace, Bracket};
 use std::alloc::{AllocError, Global};
 use std::process::Abort;
 use std::test::Fail;
+
+const SEPARATOR: Told = Told::Expected("expected `;` or `,` to delimit rules");
 
 // The macro of a body, and of arguments if there are some. Both are file 0.
 fn read(alloc: Global, args: Option<&str>, body: &str) -> Result<DeclarativeMacro, AllocError> {
@@ -33,28 +37,24 @@ fn assert_body(
     assert_read(rt, alloc, &read(alloc, None, body)?, body, want)
 }
 
+static BODIES: [Row; 12] = [
+    ("", 0, Told::Nothing),
+    ("() => {}", 1, Told::Nothing),
+    ("() => {},", 1, Told::Nothing),
+    ("() => {}; () => {}, () => {};", 3, Told::Nothing),
+    ("() => {}, () => {} x", 2, SEPARATOR),
+    ("() => {} () => {}", 1, SEPARATOR),
+    ("() => {}: () => {}", 1, SEPARATOR),
+    ("() => {},,", 1, SUBTREE),
+    ("() => {};,", 1, SUBTREE),
+    (",", 0, SUBTREE),
+    ("() => {}, attr => {}", 1, PARENTHESES),
+    ("() => {}, ($x) => {}", 1, MISSING_SPECIFIER),
+];
+
 #[test]
 fn semicolons_and_commas_separate_rules(rt: HostRuntime) -> Result<(), Fail> {
-    let missing = Told::Expected("expected `;` or `,` to delimit rules");
-    let subtree = Told::Expected("expected subtree");
-    for (body, count, told) in [
-        ("", 0, Told::Nothing),
-        ("() => {}", 1, Told::Nothing),
-        ("() => {},", 1, Told::Nothing),
-        ("() => {}; () => {}, () => {};", 3, Told::Nothing),
-        ("() => {}, () => {} x", 2, missing),
-        ("() => {} () => {}", 1, missing),
-        ("() => {}: () => {}", 1, missing),
-        ("() => {},,", 1, subtree),
-        ("() => {};,", 1, subtree),
-        (",", 0, subtree),
-        ("() => {}, attr => {}", 1, Told::Expected("expected `()`")),
-        (
-            "() => {}, ($x) => {}",
-            1,
-            Told::Unexpected("missing fragment specifier"),
-        ),
-    ] {
+    for &(body, count, told) in &BODIES {
         assert_body(&rt, rt.alloc(), body, (count, told))?;
     }
     Ok(())
@@ -97,18 +97,18 @@ fn arguments_and_a_body_are_one_rule(rt: HostRuntime) -> Result<(), Fail> {
     assert_no_rule(&rt, alloc, &answer, whole(&argument))
 }
 
+static ARGUMENTS: [(&str, &str, usize, Told); 6] = [
+    ("", "", 1, Told::Nothing),
+    ("$x", "", 0, MISSING_SPECIFIER),
+    ("", "$[a]", 0, REPETITION),
+    ("$x", "$[a]", 0, MISSING_SPECIFIER),
+    ("$[a]", "$1", 0, REPETITION),
+    ("", "() => {} x", 1, Told::Nothing),
+];
+
 #[test]
 fn arguments_are_read_before_the_body(rt: HostRuntime) -> Result<(), Fail> {
-    let missing = Told::Unexpected("missing fragment specifier");
-    let repetition = Told::Expected("expected `$()` repetition or `${}` expression");
-    for (args, body, count, told) in [
-        ("", "", 1, Told::Nothing),
-        ("$x", "", 0, missing),
-        ("", "$[a]", 0, repetition),
-        ("$x", "$[a]", 0, missing),
-        ("$[a]", "$1", 0, repetition),
-        ("", "() => {} x", 1, Told::Nothing),
-    ] {
+    for &(args, body, count, told) in &ARGUMENTS {
         let rules = read(rt.alloc(), Some(args), body)?;
         assert_read(&rt, rt.alloc(), &rules, args, (count, told))?;
     }

@@ -1,5 +1,8 @@
 // Which arguments a pattern fits, and what its variables take.
-use crate::runs::{assert_expands, assert_refused, assert_trees_expand, assert_trees_refused};
+use crate::runs::{
+    assert_each_refused, assert_expands, assert_pairs_refused, assert_refused, assert_trees_expand,
+    assert_trees_refused,
+};
 use crate::tokens::{Token, alone, at, close, float, joint, open, raw, string, word};
 use crate::trees::{built, lexed};
 use mbe_tt::tt::DelimiterKind::{Bracket, Invisible, Parenthesis};
@@ -12,6 +15,16 @@ fn argument(alloc: Global, tokens: &[Token<'_>]) -> Result<TopSubtree, AllocErro
     built(alloc, at(1, 0, 10), tokens)
 }
 
+static OTHER_LEAVES: [(&str, &str); 7] = [
+    ("(1) => {}", "2"),
+    ("(1) => {}", "a"),
+    ("(foo) => {}", "fo"),
+    ("(foo) => {}", "foo1"),
+    ("(a) => {}", "+"),
+    ("(+) => {}", "a"),
+    ("(a) => {}", "(a)"),
+];
+
 #[test]
 fn leaves_fit_by_their_texts(rt: HostRuntime) -> Result<(), Fail> {
     let one = lexed(rt.alloc(), 0, "(1) => {}")?;
@@ -22,19 +35,11 @@ fn leaves_fit_by_their_texts(rt: HostRuntime) -> Result<(), Fail> {
     assert_trees_expand(&rt, rt.alloc(), &foo, &of_raw, (0, &[]))?;
     let of_text = argument(rt.alloc(), &[string("foo", 1, 0)])?;
     assert_trees_refused(&rt, rt.alloc(), &foo, &of_text)?;
-    for texts in [
-        ("(1) => {}", "2"),
-        ("(1) => {}", "a"),
-        ("(foo) => {}", "fo"),
-        ("(foo) => {}", "foo1"),
-        ("(a) => {}", "+"),
-        ("(+) => {}", "a"),
-        ("(a) => {}", "(a)"),
-    ] {
-        assert_refused(&rt, rt.alloc(), texts)?;
-    }
+    assert_pairs_refused(&rt, rt.alloc(), &OTHER_LEAVES)?;
     assert_expands(&rt, rt.alloc(), ("(_) => {}", "_"), (0, &[]))
 }
+
+static OTHER_FLOATS: [&str; 5] = ["-3", "- 3 . 0", "-3.00", "3.0", "--3.0"];
 
 #[test]
 fn a_sign_and_a_float_are_two_tokens(rt: HostRuntime) -> Result<(), Fail> {
@@ -43,19 +48,16 @@ fn a_sign_and_a_float_are_two_tokens(rt: HostRuntime) -> Result<(), Fail> {
     for argument in ["-3.0", "- 3.0"] {
         assert_expands(&rt, rt.alloc(), (rules, argument), (0, &want))?;
     }
-    for argument in ["-3", "- 3 . 0", "-3.00", "3.0", "--3.0"] {
-        assert_refused(&rt, rt.alloc(), (rules, argument))?;
-    }
-    Ok(())
+    assert_each_refused(&rt, rt.alloc(), rules, &OTHER_FLOATS)
 }
+
+static OTHER_GROUPS: [&str; 8] = ["(a)", "{a}", "a", "[]", "[a a]", "[b]", "[[a]]", "[a] [a]"];
 
 #[test]
 fn groups_fit_groups_of_their_kind(rt: HostRuntime) -> Result<(), Fail> {
     let rules = "([a]) => {A}";
     assert_expands(&rt, rt.alloc(), (rules, "[a]"), (0, &[word("A", 0, 10)]))?;
-    for argument in ["(a)", "{a}", "a", "[]", "[a a]", "[b]", "[[a]]", "[a] [a]"] {
-        assert_refused(&rt, rt.alloc(), (rules, argument))?;
-    }
+    assert_each_refused(&rt, rt.alloc(), rules, &OTHER_GROUPS)?;
     let invisible = argument(
         rt.alloc(),
         &[open(Invisible, 1, 0), word("a", 1, 1), close(1, 2)],
@@ -67,49 +69,49 @@ fn groups_fit_groups_of_their_kind(rt: HostRuntime) -> Result<(), Fail> {
     Ok(())
 }
 
+static NOT_WHOLE: [(&str, &str); 12] = [
+    ("() => {}", "a"),
+    ("() => {}", "()"),
+    ("(a) => {}", "a b"),
+    ("(a) => {}", ""),
+    ("(a b) => {}", "a"),
+    ("((a)) => {}", "(a b)"),
+    ("((a)) => {}", "()"),
+    ("((a) b) => {}", "(a b)"),
+    ("((a b)) => {}", "(a) b"),
+    ("($x:tt) => {}", ""),
+    ("($x:tt) => {}", "a b"),
+    ("($x:tt $y:tt) => {}", "a"),
+];
+
 #[test]
 fn patterns_read_the_whole_argument(rt: HostRuntime) -> Result<(), Fail> {
-    for texts in [
-        ("() => {}", "a"),
-        ("() => {}", "()"),
-        ("(a) => {}", "a b"),
-        ("(a) => {}", ""),
-        ("(a b) => {}", "a"),
-        ("((a)) => {}", "(a b)"),
-        ("((a)) => {}", "()"),
-        ("((a) b) => {}", "(a b)"),
-        ("((a b)) => {}", "(a) b"),
-        ("($x:tt) => {}", ""),
-        ("($x:tt) => {}", "a b"),
-        ("($x:tt $y:tt) => {}", "a"),
-    ] {
-        assert_refused(&rt, rt.alloc(), texts)?;
-    }
-    Ok(())
+    assert_pairs_refused(&rt, rt.alloc(), &NOT_WHOLE)
 }
+
+static PUNCTS_THAT_FIT: [(&str, &str); 5] = [
+    ("(->) => {}", "->"),
+    ("(- >) => {}", "- >"),
+    ("(..=) => {}", "..="),
+    ("(+;) => {}", "+;"),
+    ("(+;) => {}", "+ ;"),
+];
+
+static PUNCTS_THAT_DO_NOT: [(&str, &str); 6] = [
+    ("(->) => {}", "- >"),
+    ("(- >) => {}", "->"),
+    ("(->) => {}", "=>"),
+    ("(..) => {}", "..="),
+    ("(..=) => {}", ".. ="),
+    ("(-) => {}", "->"),
+];
 
 #[test]
 fn puncts_fit_where_they_stand_together(rt: HostRuntime) -> Result<(), Fail> {
-    for texts in [
-        ("(->) => {}", "->"),
-        ("(- >) => {}", "- >"),
-        ("(..=) => {}", "..="),
-        ("(+;) => {}", "+;"),
-        ("(+;) => {}", "+ ;"),
-    ] {
+    for &texts in &PUNCTS_THAT_FIT {
         assert_expands(&rt, rt.alloc(), texts, (0, &[]))?;
     }
-    for texts in [
-        ("(->) => {}", "- >"),
-        ("(- >) => {}", "->"),
-        ("(->) => {}", "=>"),
-        ("(..) => {}", "..="),
-        ("(..=) => {}", ".. ="),
-        ("(-) => {}", "->"),
-    ] {
-        assert_refused(&rt, rt.alloc(), texts)?;
-    }
-    Ok(())
+    assert_pairs_refused(&rt, rt.alloc(), &PUNCTS_THAT_DO_NOT)
 }
 
 #[test]
@@ -129,6 +131,8 @@ fn tt_takes_puncts_that_stand_together(rt: HostRuntime) -> Result<(), Fail> {
     assert_expands(&rt, rt.alloc(), texts, (0, &turned))
 }
 
+static NO_LIFETIMES: [&str; 5] = ["'", "'1", "'+", "'(a)", "'a b"];
+
 #[test]
 fn tt_takes_a_lifetime_whole(rt: HostRuntime) -> Result<(), Fail> {
     let rules = "($t:tt) => {$t}";
@@ -136,9 +140,7 @@ fn tt_takes_a_lifetime_whole(rt: HostRuntime) -> Result<(), Fail> {
     assert_expands(&rt, rt.alloc(), (rules, "'a"), (0, &named))?;
     let unnamed = [joint('\'', 1, 0), word("_", 1, 1)];
     assert_expands(&rt, rt.alloc(), (rules, "'_"), (0, &unnamed))?;
-    for argument in ["'", "'1", "'+", "'(a)", "'a b"] {
-        assert_refused(&rt, rt.alloc(), (rules, argument))?;
-    }
+    assert_each_refused(&rt, rt.alloc(), rules, &NO_LIFETIMES)?;
     assert_refused(&rt, rt.alloc(), ("($t:tt $u:tt) => {}", "'a"))
 }
 
@@ -177,6 +179,10 @@ fn tt_is_written_without_its_invisible_group(rt: HostRuntime) -> Result<(), Fail
     assert_trees_expand(&rt, rt.alloc(), &rules, &empty, (0, &[]))
 }
 
+static NO_IDENTS: [&str; 6] = ["_", "1", "+", "(a)", "'a", ""];
+
+static SINGLE_TREES: [&str; 3] = ["a", "1", "(a)"];
+
 #[test]
 fn ident_takes_identifiers_alone(rt: HostRuntime) -> Result<(), Fail> {
     let text = "($x:ident) => {$x}";
@@ -185,13 +191,8 @@ fn ident_takes_identifiers_alone(rt: HostRuntime) -> Result<(), Fail> {
     let named = [raw("b", 1, 0)];
     let of_raw = argument(rt.alloc(), &named)?;
     assert_trees_expand(&rt, rt.alloc(), &rules, &of_raw, (0, &named))?;
-    for argument in ["_", "1", "+", "(a)", "'a", ""] {
-        assert_refused(&rt, rt.alloc(), (text, argument))?;
-    }
-    for argument in ["a", "1", "(a)"] {
-        assert_refused(&rt, rt.alloc(), ("($x:foo) => {}", argument))?;
-    }
-    Ok(())
+    assert_each_refused(&rt, rt.alloc(), text, &NO_IDENTS)?;
+    assert_each_refused(&rt, rt.alloc(), "($x:foo) => {}", &SINGLE_TREES)
 }
 
 #[test]

@@ -1,67 +1,62 @@
 // Repetitions without separator that can read nothing.
-use crate::definitions::{Told, assert_read, assert_told};
+use crate::definitions::{
+    MISSING_SPECIFIER, REPETITION, Row, Told, assert_read, assert_rows_told, assert_texts_told,
+};
 use crate::trees::lexed;
 use mbe::{DeclarativeMacro, MacroCallStyles};
 use mbe_tt::span::Edition;
 use std::test::Fail;
 
+static REFUSED: [&str; 13] = [
+    "($()*) => {}",
+    "($()+) => {}",
+    "($()?) => {}",
+    "($($v:vis)*) => {}",
+    "($($v:vis)?) => {}",
+    "($($(a)?)*) => {}",
+    "($($(a)*)+) => {}",
+    "($($(a),*)*) => {}",
+    "($( $($v:vis),+ )*) => {}",
+    "($($v:vis $(a)?)*) => {}",
+    "(x [$()*]) => {}",
+    "($(a $()*);*) => {}",
+    "($()*) => {} x",
+];
+
 #[test]
 fn repetitions_that_can_read_nothing_are_refused(rt: HostRuntime) -> Result<(), Fail> {
-    for definition in [
-        "($()*) => {}",
-        "($()+) => {}",
-        "($()?) => {}",
-        "($($v:vis)*) => {}",
-        "($($v:vis)?) => {}",
-        "($($(a)?)*) => {}",
-        "($($(a)*)+) => {}",
-        "($($(a),*)*) => {}",
-        "($( $($v:vis),+ )*) => {}",
-        "($($v:vis $(a)?)*) => {}",
-        "(x [$()*]) => {}",
-        "($(a $()*);*) => {}",
-        "($()*) => {} x",
-    ] {
-        assert_told(&rt, rt.alloc(), definition, (1, Told::EmptyRepetition))?;
-    }
-    Ok(())
+    let want = (1, Told::EmptyRepetition);
+    assert_texts_told(&rt, rt.alloc(), ("", ""), &REFUSED, want)
 }
+
+static PASSED: [&str; 8] = [
+    "($($v:vis),*) => {}",
+    "($($(a)* b)*) => {}",
+    "($(($v:vis))*) => {}",
+    "($($x:foo)*) => {}",
+    "($(),*) => {}",
+    "($($(a)+)*) => {}",
+    "($v:vis) => {}",
+    "() => {$()*}",
+];
 
 #[test]
 fn repetitions_that_read_something_pass(rt: HostRuntime) -> Result<(), Fail> {
-    for definition in [
-        "($($v:vis),*) => {}",
-        "($($(a)* b)*) => {}",
-        "($(($v:vis))*) => {}",
-        "($($x:foo)*) => {}",
-        "($(),*) => {}",
-        "($($(a)+)*) => {}",
-        "($v:vis) => {}",
-        "() => {$()*}",
-    ] {
-        assert_told(&rt, rt.alloc(), definition, (1, Told::Nothing))?;
-    }
-    Ok(())
+    assert_texts_told(&rt, rt.alloc(), ("", ""), &PASSED, (1, Told::Nothing))
 }
+
+static OVER_FAULTS: [Row; 5] = [
+    ("() => {}; ($()*) => {}; () => {}", 3, Told::EmptyRepetition),
+    ("($()*) => {}; ($x) => {}", 1, Told::EmptyRepetition),
+    ("($()*) => {} () => {}", 1, Told::EmptyRepetition),
+    // the rule that is refused isn't kept
+    ("() => {}; ($()* $x) => {}", 1, MISSING_SPECIFIER),
+    ("($()*) => {$[a]}", 0, REPETITION),
+];
 
 #[test]
 fn a_refusal_is_told_over_any_fault(rt: HostRuntime) -> Result<(), Fail> {
-    let missing = Told::Unexpected("missing fragment specifier");
-    for (definition, count, told) in [
-        ("() => {}; ($()*) => {}; () => {}", 3, Told::EmptyRepetition),
-        ("($()*) => {}; ($x) => {}", 1, Told::EmptyRepetition),
-        ("($()*) => {} () => {}", 1, Told::EmptyRepetition),
-        // the rule that is refused isn't kept
-        ("() => {}; ($()* $x) => {}", 1, missing),
-        (
-            "($()*) => {$[a]}",
-            0,
-            Told::Expected("expected `$()` repetition or `${}` expression"),
-        ),
-    ] {
-        assert_told(&rt, rt.alloc(), definition, (count, told))?;
-    }
-    Ok(())
+    assert_rows_told(&rt, rt.alloc(), &OVER_FAULTS)
 }
 
 #[test]

@@ -138,3 +138,28 @@ pub fn assert_refused(
     let argument = lexed(alloc, 1, argument)?;
     assert_trees_refused(rt, alloc, &definition, &argument)
 }
+
+/// As `assert_refused`, of each pair of a definition and an argument.
+pub fn assert_pairs_refused(
+    rt: &impl Abort,
+    alloc: Global,
+    pairs: &[(&str, &str)],
+) -> Result<(), Fail> {
+    for &pair in pairs {
+        assert_refused(rt, alloc, pair)?;
+    }
+    Ok(())
+}
+
+/// As `assert_refused`, of each argument.
+pub fn assert_each_refused(
+    rt: &impl Abort,
+    alloc: Global,
+    definition: &str,
+    arguments: &[&str],
+) -> Result<(), Fail> {
+    for &argument in arguments {
+        assert_refused(rt, alloc, (definition, argument))?;
+    }
+    Ok(())
+}

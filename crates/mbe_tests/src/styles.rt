@@ -1,5 +1,5 @@
 // Styles of rules, and sets of styles.
-use crate::definitions::{Told, assert_told};
+use crate::definitions::{EQUALS, PARENTHESES, Row, SUBTREE, Told, assert_rows_told};
 use crate::runs::{
     Expansion, assert_answer, assert_checked, assert_no_rule, expanded, parsed, whole,
 };
@@ -29,39 +29,65 @@ fn expanded_as(
     Ok(expanded(alloc, &rules, &argument, style)?)
 }
 
-#[test]
-fn rules_of_another_style_are_passed_over(rt: HostRuntime) -> Result<(), Fail> {
-    let alloc = rt.alloc();
-    let site = at(1, 0, 0);
-    let answer = expanded_as(&rt, alloc, TWO_STYLES, MacroCallStyle::FnLike)?;
-    assert_answer(&rt, alloc, &answer, site, (1, &[word("B", 0, 25)]))?;
-    let answer = expanded_as(&rt, alloc, TWO_STYLES, MacroCallStyle::Attr)?;
-    assert_answer(&rt, alloc, &answer, site, (0, &[word("A", 0, 14)]))?;
-    let answer = expanded_as(&rt, alloc, TWO_STYLES, MacroCallStyle::Derive)?;
-    assert_no_rule(&rt, alloc, &answer, site)?;
-    let derive = "() => {A}; unsafe derive[x] () => {B}; derive() () => {C}";
-    let answer = expanded_as(&rt, alloc, derive, MacroCallStyle::Derive)?;
-    assert_answer(&rt, alloc, &answer, site, (1, &[word("B", 0, 35)]))?;
+const THREE_RULES: &str = "() => {A}; unsafe derive[x] () => {B}; derive() () => {C}";
+
+// The call, the index of its rule, and the word that the rule writes, with its place.
+static CALLS: [(&str, MacroCallStyle, (u32, &str, u32)); 3] = [
+    (TWO_STYLES, MacroCallStyle::FnLike, (1, "B", 25)),
+    (TWO_STYLES, MacroCallStyle::Attr, (0, "A", 14)),
+    (THREE_RULES, MacroCallStyle::Derive, (1, "B", 35)),
+];
+
+fn assert_call(
+    rt: &impl Abort,
+    alloc: Global,
+    (definition, style): (&str, MacroCallStyle),
+    (arm, text, start): (u32, &str, u32),
+) -> Result<(), Fail> {
+    let answer = expanded_as(rt, alloc, definition, style)?;
+    assert_answer(
+        rt,
+        alloc,
+        &answer,
+        at(1, 0, 0),
+        (arm, &[word(text, 0, start)]),
+    )?;
     Ok(())
 }
 
 #[test]
+fn rules_of_another_style_are_passed_over(rt: HostRuntime) -> Result<(), Fail> {
+    for &(definition, style, want) in &CALLS {
+        assert_call(&rt, rt.alloc(), (definition, style), want)?;
+    }
+    Ok(())
+}
+
+#[test]
+fn a_call_of_another_style_has_no_rule(rt: HostRuntime) -> Result<(), Fail> {
+    let answer = expanded_as(&rt, rt.alloc(), TWO_STYLES, MacroCallStyle::Derive)?;
+    assert_no_rule(&rt, rt.alloc(), &answer, at(1, 0, 0))
+}
+
+static BITS: [(&str, u8); 13] = [
+    (TWO_STYLES, 3),
+    ("", 1),
+    ("x", 1),
+    ("() => {}", 1),
+    ("unsafe () => {}", 1),
+    ("attr() () => {}", 2),
+    ("unsafe attr() () => {}", 2),
+    ("attr() () => {}; attr() () => {}", 2),
+    ("derive() () => {}", 4),
+    ("derive() () => {}; x", 4),
+    ("() => {}; derive{a} () => {}", 5),
+    ("attr[] () => {}; unsafe derive() () => {}", 6),
+    ("derive() () => {}; attr() () => {}; () => {}", 7),
+];
+
+#[test]
 fn styles_of_a_definition_are_those_of_its_rules(rt: HostRuntime) -> Result<(), Fail> {
-    for (definition, bits) in [
-        (TWO_STYLES, 3u8),
-        ("", 1),
-        ("x", 1),
-        ("() => {}", 1),
-        ("unsafe () => {}", 1),
-        ("attr() () => {}", 2),
-        ("unsafe attr() () => {}", 2),
-        ("attr() () => {}; attr() () => {}", 2),
-        ("derive() () => {}", 4),
-        ("derive() () => {}; x", 4),
-        ("() => {}; derive{a} () => {}", 5),
-        ("attr[] () => {}; unsafe derive() () => {}", 6),
-        ("derive() () => {}; attr() () => {}; () => {}", 7),
-    ] {
+    for &(definition, bits) in &BITS {
         let tree = lexed(rt.alloc(), 0, definition)?;
         let styles = parsed(rt.alloc(), &tree)?.rule_styles();
         assert_eq!(rt; styles.bits(), bits, "{definition}");
@@ -69,29 +95,25 @@ fn styles_of_a_definition_are_those_of_its_rules(rt: HostRuntime) -> Result<(), 
     Ok(())
 }
 
+static GROUPS: [Row; 13] = [
+    ("attr => {}", 0, PARENTHESES),
+    ("derive => {}", 0, PARENTHESES),
+    ("unsafe attr", 0, PARENTHESES),
+    ("attr attr() () => {}", 0, PARENTHESES),
+    ("() => {}; attr => {}", 1, PARENTHESES),
+    ("attr() => {}", 0, SUBTREE),
+    ("attr()", 0, SUBTREE),
+    ("unsafe", 0, SUBTREE),
+    ("unsafe unsafe () => {}", 0, SUBTREE),
+    ("attr() unsafe () => {}", 0, SUBTREE),
+    ("Attr() () => {}", 0, SUBTREE),
+    ("attr() {}", 0, EQUALS),
+    ("unsafe attr() () => {}", 1, Told::Nothing),
+];
+
 #[test]
 fn a_style_has_a_group(rt: HostRuntime) -> Result<(), Fail> {
-    let parentheses = Told::Expected("expected `()`");
-    let subtree = Told::Expected("expected subtree");
-    let equals = Told::Expected("expected `=`");
-    for (definition, count, told) in [
-        ("attr => {}", 0, parentheses),
-        ("derive => {}", 0, parentheses),
-        ("unsafe attr", 0, parentheses),
-        ("attr attr() () => {}", 0, parentheses),
-        ("() => {}; attr => {}", 1, parentheses),
-        ("attr() => {}", 0, subtree),
-        ("attr()", 0, subtree),
-        ("unsafe", 0, subtree),
-        ("unsafe unsafe () => {}", 0, subtree),
-        ("attr() unsafe () => {}", 0, subtree),
-        ("Attr() () => {}", 0, subtree),
-        ("attr() {}", 0, equals),
-        ("unsafe attr() () => {}", 1, Told::Nothing),
-    ] {
-        assert_told(&rt, rt.alloc(), definition, (count, told))?;
-    }
-    Ok(())
+    assert_rows_told(&rt, rt.alloc(), &GROUPS)
 }
 
 // `r#unsafe r#attr() () => {}`, with any spans.
@@ -150,23 +172,39 @@ fn set(bits: u8) -> MacroCallStyles {
     MacroCallStyles::from_bits_retain(bits)
 }
 
+static NAMED: [(MacroCallStyles, MacroCallStyle, u8); 3] = [
+    (MacroCallStyles::FN_LIKE, MacroCallStyle::FnLike, 1),
+    (MacroCallStyles::ATTR, MacroCallStyle::Attr, 2),
+    (MacroCallStyles::DERIVE, MacroCallStyle::Derive, 4),
+];
+
 #[test]
-fn sets_of_styles_are_their_bits(rt: HostRuntime) -> Result<(), Fail> {
-    assert_eq!(rt; MacroCallStyles::FN_LIKE.bits(), 1);
-    assert_eq!(rt; MacroCallStyles::ATTR.bits(), 2);
-    assert_eq!(rt; MacroCallStyles::DERIVE.bits(), 4);
+fn styles_have_their_bits(rt: HostRuntime) -> Result<(), Fail> {
+    for &(styles, style, bits) in &NAMED {
+        assert_eq!(rt; styles.bits(), bits);
+        assert_eq!(rt; MacroCallStyles::from(style).bits(), bits);
+    }
     assert_eq!(rt; MacroCallStyles::empty().bits(), 0);
     assert_eq!(rt; MacroCallStyles::all().bits(), 7);
-    assert_eq!(rt; MacroCallStyles::from(MacroCallStyle::FnLike).bits(), 1);
-    assert_eq!(rt; MacroCallStyles::from(MacroCallStyle::Attr).bits(), 2);
-    assert_eq!(rt; MacroCallStyles::from(MacroCallStyle::Derive).bits(), 4);
+    Ok(())
+}
+
+#[test]
+fn sets_of_styles_are_their_bits(rt: HostRuntime) -> Result<(), Fail> {
     for bits in 0..=255u8 {
         let found = MacroCallStyles::from_bits(bits);
         assert_eq!(rt; found.is_some(), bits < 8, "{bits}");
         assert!(rt; found.is_none() || found == Some(set(bits)), "{bits}");
         assert_eq!(rt; set(bits).bits(), bits, "{bits}");
     }
-    for (bits, low) in [(0, 0), (5, 5), (8, 0), (13, 5), (248, 0), (255, 7)] {
+    Ok(())
+}
+
+static LOW_BITS: [(u8, u8); 6] = [(0, 0), (5, 5), (8, 0), (13, 5), (248, 0), (255, 7)];
+
+#[test]
+fn bits_of_no_style_are_cut(rt: HostRuntime) -> Result<(), Fail> {
+    for &(bits, low) in &LOW_BITS {
         assert_eq!(rt;
             MacroCallStyles::from_bits_truncate(bits).bits(),
             low,
@@ -176,27 +214,36 @@ fn sets_of_styles_are_their_bits(rt: HostRuntime) -> Result<(), Fail> {
     Ok(())
 }
 
+static SIZES: [(u8, bool, bool); 6] = [
+    (0, true, false),
+    (1, false, false),
+    (6, false, false),
+    (7, false, true),
+    (8, false, false),
+    (135, false, true),
+];
+
 #[test]
 fn questions_to_sets_of_styles(rt: HostRuntime) -> Result<(), Fail> {
-    for (bits, is_empty, is_all) in [
-        (0, true, false),
-        (1, false, false),
-        (6, false, false),
-        (7, false, true),
-        (8, false, false),
-        (135, false, true),
-    ] {
+    for &(bits, is_empty, is_all) in &SIZES {
         assert_eq!(rt; set(bits).is_empty(), is_empty, "{bits}");
         assert_eq!(rt; set(bits).is_all(), is_all, "{bits}");
     }
-    for (one, other, contains, intersects) in [
-        (3, 1, true, true),
-        (3, 6, false, true),
-        (3, 4, false, false),
-        (3, 0, true, false),
-        (0, 3, false, false),
-        (9, 8, true, true),
-    ] {
+    Ok(())
+}
+
+static SHARED: [(u8, u8, bool, bool); 6] = [
+    (3, 1, true, true),
+    (3, 6, false, true),
+    (3, 4, false, false),
+    (3, 0, true, false),
+    (0, 3, false, false),
+    (9, 8, true, true),
+];
+
+#[test]
+fn what_two_sets_of_styles_share(rt: HostRuntime) -> Result<(), Fail> {
+    for &(one, other, contains, intersects) in &SHARED {
         assert_eq!(rt; set(one).contains(set(other)), contains, "{one} {other}");
         assert_eq!(rt;
             set(one).intersects(set(other)),
@@ -207,21 +254,34 @@ fn questions_to_sets_of_styles(rt: HostRuntime) -> Result<(), Fail> {
     Ok(())
 }
 
+// Two sets, and their union, intersection, difference and symmetric difference.
+static TOGETHER: [(u8, u8, [u8; 4]); 4] = [
+    (3, 6, [7, 2, 1, 5]),
+    (1, 4, [5, 0, 1, 5]),
+    (7, 7, [7, 7, 0, 0]),
+    (12, 4, [12, 4, 8, 8]),
+];
+
 #[test]
 fn sets_of_styles_together(rt: HostRuntime) -> Result<(), Fail> {
-    for (one, other, union, intersection, difference, symmetric) in [
-        (3, 6, 7, 2, 1, 5),
-        (1, 4, 5, 0, 1, 5),
-        (7, 7, 7, 7, 0, 0),
-        (12, 4, 12, 4, 8, 8),
-    ] {
+    for &(one, other, want) in &TOGETHER {
         let (one, other) = (set(one), set(other));
-        assert_eq!(rt; one.union(other), set(union));
-        assert_eq!(rt; one.intersection(other), set(intersection));
-        assert_eq!(rt; one.difference(other), set(difference));
-        assert_eq!(rt; one.symmetric_difference(other), set(symmetric));
+        let found = [
+            one.union(other).bits(),
+            one.intersection(other).bits(),
+            one.difference(other).bits(),
+            one.symmetric_difference(other).bits(),
+        ];
+        assert_eq!(rt; found, want);
     }
-    for (bits, others) in [(0, 7), (1, 6), (7, 0), (248, 7), (255, 0)] {
+    Ok(())
+}
+
+static COMPLEMENTS: [(u8, u8); 5] = [(0, 7), (1, 6), (7, 0), (248, 7), (255, 0)];
+
+#[test]
+fn complements_of_sets_of_styles(rt: HostRuntime) -> Result<(), Fail> {
+    for &(bits, others) in &COMPLEMENTS {
         assert_eq!(rt; set(bits).complement(), set(others), "{bits}");
     }
     Ok(())

@@ -1,0 +1,171 @@
+#!/usr/bin/env python3
+"""Tries edits that the prover must refuse, and says what refused each. From the top of the repository:
+
+    python3 tools/edits/run.py [--gate] [--whole] [CRATE | CRATE/EDIT]..
+
+It tries the edits of tools/edits/CRATE, and with --gate those of crates/CRATE/must-fail too, which `rt ci` tries. It works on
+a copy of the repository, with the work that earlier checks kept there (so check the crates first), and checks the functions
+that an edit changes, or with --whole the whole crate. Each edit ends as one of these:
+
+    goal     a goal of the code is open: the contract refuses the edit
+    answer   the answer that a proof file gives to a goal no longer proves it: the values that it speaks of have changed
+    text     nothing is refused but a proof file that names a step which the edit took away, or which has another name since
+             the edit calls that function more or less often: this says nothing of the contract, so write the edit with
+             the same steps
+    proved   nothing is refused: the contract is too weak
+    bad      the edit can't be applied, or doesn't reach the prover
+
+The first two count. The exit status is 0 if all edits do.
+"""
+import os
+import re
+import shutil
+import subprocess
+import sys
+import tempfile
+
+TOP = os.path.dirname(os.path.dirname(os.path.dirname(os.path.abspath(__file__))))
+LOST_NAME = re.compile(r"has no field|is not in scope|has no `|was not admitted|projects from a record|is no name|cannot find")
+
+
+def texts_of(edit, crate):
+    """The edited texts by file, and where each file is changed; or what is wrong with the edit."""
+    texts, changed, file, old = {}, [], "", None
+    with open(edit, encoding="utf-8") as it:
+        lines = it.read().split("\n")
+    for line in lines:
+        key, _, value = line.partition(":")
+        value = value.removeprefix(" ")
+        if key == "file":
+            file = value.strip()
+        elif key == "old":
+            old = value
+        elif key == "new":
+            if file not in texts:
+                with open(f"{crate}/{file}", encoding="utf-8") as it:
+                    texts[file] = it.read()
+            if texts[file].count(old) != 1:
+                return None, f"`{old}` is in {file} {texts[file].count(old)} times"
+            changed.append((file, function_at(texts[file], texts[file].index(old))))
+            texts[file] = texts[file].replace(old, value)
+    return texts, changed
+
+
+def function_at(text, at):
+    """The function that stands at an offset, as `--only` names it below its module."""
+    function, owner = None, ""
+    for line in text[:at].split("\n") + [text[at:].split("\n")[0]]:
+        is_impl = re.match(r"impl\b(?:<[^{]*?>)? (?:(?P<of>[\w:]+)(?:<.*?>)? for )?(?P<type>\w+)", line)
+        is_fn = re.match(r"( {4})?(?:pub(?:\(\w+\))? )?fn (\w+)", line)
+        if is_impl:
+            owner = is_impl["type"] + (is_impl["of"] or "").split("::")[-1]
+            function = None
+        elif is_fn and is_fn[1]:
+            function = f"{owner}::{is_fn[2]}"
+        elif is_fn:
+            function = is_fn[2]
+        elif line == "}":
+            function, owner = None, ""
+    return function
+
+
+def path_of(file, function):
+    """A method is named by its type, which may stand in another module, and a free function by its module."""
+    module = file.removeprefix("src/").removesuffix(".rt").replace("/", "::")
+    return function if "::" in function or module in ("lib", "main") else f"{module}::{function}"
+
+
+def check(crate, functions):
+    words = ["rt", "check", "--jobs", "1"]
+    for it in functions:
+        words += ["--only", it]
+    ran = subprocess.run(words, cwd=crate, stdin=subprocess.DEVNULL, stdout=subprocess.PIPE, stderr=subprocess.STDOUT, errors="replace")
+    return ran.returncode, ran.stdout
+
+
+def calls_changed(edit):
+    """The names of the functions that the edit calls more or less often."""
+    with open(edit, encoding="utf-8") as it:
+        lines = it.read().split("\n")
+    number = {}
+    for line in lines:
+        for name in re.findall(r"(\w+)(?:::<.*?>)?\(", line):
+            number[name] = number.get(name, 0) + (1 if line.startswith("new:") else -1)
+    return {name for name, it in number.items() if it}
+
+
+def cites_any(file, names):
+    with open(file, encoding="utf-8") as it:
+        return sorted(set(re.findall(r"\bc\.(\w+)", it.read())) & names)
+
+
+def verdict(status, said, crate, edit):
+    """How an edit ends, and what shows it, from what the check said."""
+    if status == 0:
+        return "proved", "every goal is still proved"
+    refused = ", ".join(re.findall(r"(?m)^fn \w+::(\S+): (?:not proved|no proof)", said))
+    goals = re.findall(r"(?m)^note: src/\S+: .*\(`([^`]*)`\)", said)
+    if goals:
+        return "goal", f"{' '.join(dict.fromkeys(goals))} of {refused}"
+    errors = re.findall(r"(?m)^(?:\./)?(proofs/\S+?): error: (.*)", said)
+    answers = [(where.split(":")[0], re.match(r"`([^`]*)`", what)) for where, what in errors if not LOST_NAME.search(what)]
+    renamed = {it for file in {file for file, _ in answers} for it in cites_any(f"{crate}/{file}", calls_changed(edit))}
+    if answers and not renamed:
+        return "answer", f"{' '.join(dict.fromkeys(it[1] for _, it in answers if it))} of {refused}"
+    if answers:
+        return "text", f"{answers[0][0]} names {', '.join(sorted(renamed))}, which the edit calls more or less often"
+    if errors:
+        where, what = errors[0]
+        return "text", f"{where}: {what[:140]}"
+    last = [it for it in said.split("\n") if "error" in it] or said.rstrip().split("\n")
+    return "bad", last[0][:200]
+
+
+def tried(edit, crate, is_whole):
+    texts, changed = texts_of(edit, crate)
+    if texts is None:
+        return "bad", changed
+    functions = [path_of(*it) for it in changed if it[1]]
+    for file, text in texts.items():
+        shutil.copy(f"{crate}/{file}", f"{crate}/out/before-the-edit")
+        with open(f"{crate}/{file}", "w", encoding="utf-8") as it:
+            it.write(text)
+        texts[file] = f"{crate}/out/before-the-edit"
+        assert len(texts) == 1, "an edit changes one file"
+    try:
+        status, said = 2, ""
+        if not is_whole and len(functions) == len(changed):
+            status, said = check(crate, functions)
+        if status == 2:
+            status, said = check(crate, [])
+    finally:
+        for file, kept in texts.items():
+            shutil.move(kept, f"{crate}/{file}")
+    return verdict(status, said, crate, edit)
+
+
+def edits_of(top, words, with_gate):
+    found = []
+    for name in sorted(os.listdir(f"{top}/crates")):
+        for folder in [f"tools/edits/{name}", *([f"crates/{name}/must-fail"] if with_gate else [])]:
+            if os.path.isdir(f"{top}/{folder}"):
+                found += [(name, f"{top}/{folder}/{it}") for it in sorted(os.listdir(f"{top}/{folder}")) if it.endswith(".edit")]
+    return [it for it in found if not words or it[0] in words or f"{it[0]}/{os.path.basename(it[1])[:-5]}" in words]
+
+
+def main():
+    words = [it for it in sys.argv[1:] if not it.startswith("--")]
+    ends = {}
+    with tempfile.TemporaryDirectory(prefix="edits-", dir=os.environ.get("TMPDIR")) as top:
+        for it in ("crates", "crates.txt", "HANDLES"):
+            subprocess.run(["cp", "-a", f"{TOP}/{it}", top], check=True)
+        for name, edit in edits_of(TOP, words, "--gate" in sys.argv):
+            how, why = tried(edit, f"{top}/crates/{name}", "--whole" in sys.argv)
+            ends[how] = ends.get(how, 0) + 1
+            print(f"{how:7} {name}/{os.path.basename(edit)[:-5]}: {why}", flush=True)
+    print(f"{sum(ends.values())} edits: " + ", ".join(f"{n} {how}" for how, n in sorted(ends.items())))
+    sys.exit(0 if set(ends) <= {"goal", "answer"} else 1)
+
+
+if __name__ == "__main__":
+    main()
