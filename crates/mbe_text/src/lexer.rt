@@ -9,6 +9,8 @@ use mbe_tt::tt::{
     Delimiter, DelimiterKind, Ident, Leaf, Literal, Punct, TopSubtree, TopSubtreeBuilder,
 };
 use std::alloc::{AllocError, AllocFailed, Allocator};
+use std::error::Error;
+use std::fmt;
 
 /// Why a text has no token trees.
 #[derive(Debug, Drop, PartialEq, Eq)]
@@ -17,6 +19,17 @@ pub enum LexError {
     Fault(u32),
     OutOfMemory,
 }
+
+impl fmt::Display for LexError {
+    fn fmt<W: fmt::Write>(&self, f: &mut fmt::Formatter<W>) -> fmt::Result {
+        match self {
+            LexError::Fault(offset) => write!(f, "cannot lex at {offset}"),
+            LexError::OutOfMemory => write!(f, "out of memory"),
+        }
+    }
+}
+
+impl Error for LexError {}
 
 impl From<Fault> for LexError {
     ghost use Rattle.mbe_text.specs.declared.lexer.LexError.TheVariants as errors;
