@@ -9,12 +9,13 @@ set -eu
 top=$(cd "$(dirname "$0")/../.." && pwd)
 folder=${1:-$(mktemp -d)}
 mkdir -p "$folder/crates"
-cat >"$folder/crates.txt" <<'END'
-mbe_tt: arrayvec
-mbe: mbe_tt arrayvec bitflags unicode_ident
-mbe_bench: mbe mbe_tt
-END
-for crate in crates/mbe_tt crates/mbe tools/bench/mbe_bench; do
+libraries=$(sed -n 's/^\(mbe[a-z_]*\):.*/\1/p' "$top/crates.txt" | grep -v -e '_tests$' -e '^mbex$' -e '^mbe_program$' -e '^mbe_grammar$')
+: >"$folder/crates.txt"
+for crate in $libraries; do
+    grep "^$crate:" "$top/crates.txt" >>"$folder/crates.txt"
+done
+echo 'mbe_bench: mbe mbe_text mbe_tt' >>"$folder/crates.txt"
+for crate in $(for name in $libraries; do echo "crates/$name"; done) tools/bench/mbe_bench; do
     to=$folder/crates/$(basename "$crate")
     mkdir -p "$to"
     rm -rf "$to/src" "$to/specs" "$to/proofs"

@@ -1,52 +1,79 @@
 // The example of the README, word for word.
-use mbe::{DeclarativeMacro, MacroCallStyle, MatchedArmIndex};
-use mbe_tt::grammar::FragmentGrammar;
-use mbe_tt::span::{Edition, Span};
-use mbe_tt::tt::TopSubtree;
-use std::alloc::{AllocError, Global};
+ghost use Rattle.std.specs.Prelude.{◌<◌, ◌^◌, length};
 
-/// The arm that expands the call; none where the definition has a fault.
-pub fn arm<G: FragmentGrammar>(
+use anyhow::bail;
+use mbe::{DeclarativeMacro, MacroCallStyle};
+use mbe_grammar::SampleGrammar;
+use mbe_text::lexer::lex;
+use mbe_text::printing::print_tree;
+use mbe_tt::span::Edition;
+use std::alloc::Global;
+use std::io::Write;
+
+/// Prints what a call with this argument expands to.
+pub fn print_expanded<W: Write>(
     alloc: Global,
-    grammar: &G,
-    definition: &TopSubtree,
-    argument: &TopSubtree,
-    call_site: Span,
-) -> Result<MatchedArmIndex, AllocError> {
-    let defined = DeclarativeMacro::parse_macro_rules(alloc, definition, |_| Edition::Edition2024)?;
-    if defined.err().is_some() {
-        return Ok(None);
+    rules: &str,
+    argument: &str,
+    out: &mut W,
+) -> anyhow::Result<()>
+    requires rules { length rules.now < 2 ^ 32 }
+    requires argument { length argument.now < 2 ^ 32 }
+{
+    let rules = lex(alloc, rules, 0)?;
+    let argument = lex(alloc, argument, 1)?;
+    let defined = DeclarativeMacro::parse_macro_rules(alloc, &rules, |_| Edition::Edition2024)?;
+    if let Some(error) = defined.err() {
+        bail!("{error}");
     }
-    let expanded = defined.expand(
-        alloc,
-        grammar,
-        argument,
-        |span| span,
-        MacroCallStyle::FnLike,
-        call_site,
-    )?;
-    Ok(expanded.value.1)
+    let call_site = argument.top_subtree().delimiter.opening;
+    let style = MacroCallStyle::FnLike;
+    let expanded = defined.expand(alloc, &SampleGrammar, &argument, |s| s, style, call_site)?;
+    print_tree(&expanded.value.0, out)?;
+    Ok(())
 }
 
 mod tests {
-    use super::arm;
-    use crate::grammar::NoGrammar;
-    use crate::runs::whole;
-    use crate::trees::lexed;
+    use super::print_expanded;
+    use std::alloc::Global;
+    use std::process::Abort;
     use std::test::Fail;
 
+    // Rules, an argument, and what is printed; nothing where the definition has a fault.
+    static PRINTED: [(&str, &str, &str); 3] = [
+        (
+            "($x:ident = $t:tt;) => { pair ($t) $x }",
+            "a = 1;",
+            "SUBTREE $$ 1@0..6 1@0..6
+  IDENT   pair 0@25..29
+  SUBTREE () 0@30..31 0@33..34
+    LITERAL Integer 1 1@4..5
+  IDENT   a 1@0..1
+",
+        ),
+        ("(b) => {}", "a", "SUBTREE $$ 1@0..1 1@0..1\n"),
+        ("($x:ident) => {$x} x", "a", ""),
+    ];
+
+    fn assert_prints(
+        rt: &impl Abort,
+        alloc: Global,
+        (rules, argument): (&str, &str),
+        want: &str,
+    ) -> Result<(), Fail> {
+        assert!(rt; rules.len() < 1_000_000 && argument.len() < 1_000_000);
+        let mut out = Vec::new(alloc);
+        let printed = print_expanded(alloc, rules, argument, &mut out);
+        assert_eq!(rt; printed.is_ok(), !want.is_empty(), "{rules} on {argument}");
+        let output = String::from_utf8(out)?;
+        assert_eq!(rt; output.as_str(), want, "{rules} on {argument}");
+        Ok(())
+    }
+
     #[test]
-    fn the_example_names_the_arm(rt: HostRuntime) -> Result<(), Fail> {
-        let alloc = rt.alloc();
-        for (definition, want) in [
-            ("(b) => {}; ($x:ident) => {$x}", Some(1)),
-            ("(b) => {}", None),
-            ("($x:ident) => {$x} x", None),
-        ] {
-            let definition = lexed(alloc, 0, definition)?;
-            let argument = lexed(alloc, 1, "a")?;
-            let found = arm(alloc, &NoGrammar, &definition, &argument, whole(&argument))?;
-            assert_eq!(&rt; found, want);
+    fn the_example_prints_the_expansion(rt: HostRuntime) -> Result<(), Fail> {
+        for (rules, argument, want) in &PRINTED {
+            assert_prints(&rt, rt.alloc(), (rules, argument), want)?;
         }
         Ok(())
     }

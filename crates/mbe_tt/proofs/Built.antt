@@ -1,5 +1,5 @@
 -- What a step of a builder does to its entries.
-use Rattle.std.proofs.Common.{◌≡◌, ℕ, ◌+◌, ◌-◌, ◌≤◌, ◌<◌, List, [], ◌∷◌, ◌++◌, length, take, drop, refl, ap, sym, ◌∙◌, arith, length-append, append_assoc, set}
+use Rattle.std.proofs.Common.{◌≡◌, ℕ, ◌+◌, ◌-◌, ◌≤◌, ◌<◌, List, [], ◌∷◌, ◌++◌, length, take, drop, refl, ap, sym, Some, ◌∙◌, arith, length-append, append_assoc, set}
 use Rattle.std.proofs.Math.Seq.{take-append_seam, drop-append_seam, set-append_seam}
 use Rattle.mbe_tt.specs.declared.span.Span.{Span}
 use Rattle.mbe_tt.specs.declared.tt.Subtree.{Subtree}
@@ -7,7 +7,7 @@ use Rattle.mbe_tt.specs.OpensAt.{OpensAt}
 use Rattle.mbe_tt.specs.Top.{top_of, top_group}
 use Rattle.mbe_tt.specs.Tree.{Forest, none, group}
 use Rattle.mbe_tt.specs.Entries.{spell, forest_of}
-use Rattle.mbe_tt.specs.Building.{Levels, flat_written, put, closed, written, current, levels_of, levels_of-written, IsBuilding}
+use Rattle.mbe_tt.specs.Building.{Levels, kind_inside, flat_written, put, closed, written, current, levels_of, levels_of-written, IsBuilding}
 use Rattle.mbe_tt.specs.declared.tt.Delimiter.{Delimiter}
 use Rattle.mbe_tt.specs.Entry.{Entry}
 use Rattle.mbe_tt.specs.Entry.{Open, Close}
@@ -103,6 +103,13 @@ opening_is g outer es place s n e at o =
     let back : Open s n ∷ o.after ≡ Open (record { delimiter = g.0 }) (current outer) ∷ spell g.1 =
     back_of o.before _ (written outer) _ (sym o.at ∙ at) (sym o.is ∙ e) in
     record { subtree = cc; link = cc }
+
+pub kind_here : (b : Levels) (es : List Entry) (place : ℕ) (s : Subtree) (n : ℕ) → 1 < length b → es ≡ written b → place ≡ current b → OpensAt es place s n
+    → Some s.delimiter.kind ≡ kind_inside b
+kind_here [] es place s n h e at o = absurd (omega arith)
+kind_here (g ∷ []) es place s n h e at o = absurd (omega arith)
+kind_here (g ∷ (k ∷ outer)) es place s n h e at o =
+    ap (λ (t : Subtree). Some t.delimiter.kind) (opening_is g (k ∷ outer) es place s n e at o).subtree
 
 -- the clause of `finish`
 abbrev pub Finishes : List Entry → ℕ → Subtree → List Entry → Type 0

@@ -1,11 +1,12 @@
 -- What a builder has written: the groups that are open, innermost first, each with its trees so far.
-use Rattle.std.specs.Prelude.{◌≡◌, ℕ, ◌+◌, ◌<◌, ◌≤◌, List, [], ◌∷◌, ◌++◌, length, refl}
+use Rattle.std.specs.Prelude.{◌≡◌, ℕ, ◌+◌, ◌<◌, ◌≤◌, List, [], ◌∷◌, ◌++◌, length, refl, Option, Some, None}
 use Rattle.std.proofs.Common.{ap, sym, ◌∙◌, append_assoc, append-nil}
 use Rattle.std.specs.Coded.{Coded, code_by}
 use Rattle.mbe_tt.specs.Tree.{Forest, none, group, append, flat_len, unwrapped}
 use Rattle.mbe_tt.specs.Entries.{spell, read, Reading, open_at, append-none, read-spell, entries_code}
 use Rattle.mbe_tt.specs.declared.span.Span.{Span}
 use Rattle.mbe_tt.specs.declared.tt.Delimiter.{Delimiter}
+use Rattle.mbe_tt.specs.declared.tt.DelimiterKind.{DelimiterKind}
 use Rattle.mbe_tt.specs.Entry.{Entry}
 use Rattle.mbe_tt.specs.Entry.{Open}
 
@@ -22,6 +23,12 @@ put f (g ∷ outer) = (g.0, append g.1 f) ∷ outer
 abbrev pub unwrap_last : Levels → Levels
 unwrap_last [] = []
 unwrap_last (g ∷ outer) = (g.0, unwrapped g.1) ∷ outer
+
+-- the kind of the innermost open group, where that is not the outermost one
+abbrev pub kind_inside : Levels → Option DelimiterKind
+kind_inside [] = None
+kind_inside (g ∷ []) = None
+kind_inside (g ∷ (h ∷ outer)) = Some g.0.kind
 
 -- a group at the end of the innermost of these
 abbrev pub close_into : Delimiter → Forest → Span → Levels → Levels

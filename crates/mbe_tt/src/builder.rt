@@ -1,5 +1,5 @@
 // Writing a buffer, group by group. The names follow rust-analyzer's `tt`; what the calls answer is the project's own.
-ghost use Rattle.std.specs.Prelude.{◌≡◌, ℕ, ◌+◌, ◌<◌, ◌≤◌, List, [], ◌∷◌, ◌++◌, length, slice_set, vec_capacity, IfOk, OnOk, OnErr};
+ghost use Rattle.std.specs.Prelude.{◌≡◌, ℕ, ◌+◌, ◌<◌, ◌≤◌, List, [], ◌∷◌, ◌++◌, length, slice_set, vec_capacity, IfOk, IfSome, IfNone, OnOk, OnErr};
 ghost use Rattle.mbe_tt.specs.OpensAt.{OpensAt};
 ghost use Rattle.mbe_tt.specs.Entry.{Entry as FlatEntry, Open, Close};
 ghost use Rattle.mbe_tt.specs.Shown.{entries_of, entry_of, leaf_of, leaves_of};
@@ -49,7 +49,7 @@ impl<A: Allocator> Model for TopSubtreeBuilder<A> {
 }
 
 impl<A: Allocator> TopSubtreeBuilder<A> {
-    ghost use Rattle.mbe_tt.specs.Building.{Levels, put, closed, flat_written, unwrap_last, IsEarlier};
+    ghost use Rattle.mbe_tt.specs.Building.{Levels, kind_inside, put, closed, flat_written, unwrap_last, IsEarlier};
     ghost use Rattle.mbe_tt.specs.View.{trees};
 
     /// A builder with one open group, the whole. `AllocError` for want of memory.
@@ -93,6 +93,20 @@ impl<A: Allocator> TopSubtreeBuilder<A> {
         self.at = begin;
         self.depth += 1;
         Ok(())
+    }
+
+    /// The kind of the innermost open group; none where only the whole is open. So a caller knows by it whether `close` may be
+    /// called, and whether a closing fits. The call is the project's own.
+    pub fn open_kind(&self) -> Option<DelimiterKind>
+        ensures kind { result ≡ kind_inside self.now }
+        ensures inside { IfSome result (λ _. 1 < length self.now) }
+        ensures whole { IfNone result (length self.now ≡ 1) }
+    {
+        if self.depth == 1 {
+            return None;
+        }
+        let (subtree, _around) = opening_at(&self.entries, self.at);
+        Some(subtree.delimiter.kind)
     }
 
     /// Closes the innermost open group with that span. It asks for an open group other than the whole, and takes no memory.

@@ -1,4 +1,4 @@
-use super::parts::{Part, tree, write};
+use super::parts::{Part, tree, write, write_open};
 use super::views::sample;
 use crate::writing::{delimiter, ident, punct, span, write_and_go_back};
 use mbe_tt::tt::{
@@ -27,6 +27,50 @@ fn groups_have_their_kinds_and_spans(rt: HostRuntime) -> Result<(), Fail> {
             kind,
         };
         assert!(rt; group.delimiter == want);
+    }
+    Ok(())
+}
+
+// Parts, and the kind of the innermost group that they leave open inside the whole, which is a brace.
+static OPEN: [(&[Part], Option<DelimiterKind>); 7] = [
+    (&[], None),
+    (&[Part::Ident("alone")], None),
+    (
+        &[Part::Open(DelimiterKind::Parenthesis)],
+        Some(DelimiterKind::Parenthesis),
+    ),
+    (
+        &[Part::Open(DelimiterKind::Bracket), Part::Ident("within")],
+        Some(DelimiterKind::Bracket),
+    ),
+    (
+        &[
+            Part::Open(DelimiterKind::Bracket),
+            Part::Open(DelimiterKind::Invisible),
+        ],
+        Some(DelimiterKind::Invisible),
+    ),
+    (
+        &[
+            Part::Open(DelimiterKind::Bracket),
+            Part::Open(DelimiterKind::Invisible),
+            Part::Close(3),
+        ],
+        Some(DelimiterKind::Bracket),
+    ),
+    (&[Part::Open(DelimiterKind::Brace), Part::Close(3)], None),
+];
+
+fn open_kind(alloc: Global, parts: &[Part]) -> Result<Option<DelimiterKind>, AllocError> {
+    let mut builder = TopSubtreeBuilder::new(alloc, delimiter(DelimiterKind::Brace))?;
+    write_open(&mut builder, alloc, parts)?;
+    Ok(builder.open_kind())
+}
+
+#[test]
+fn the_kind_of_the_innermost_open_group_is_told(rt: HostRuntime) -> Result<(), Fail> {
+    for (row, (parts, kind)) in OPEN.iter().enumerate() {
+        assert!(rt; open_kind(rt.alloc(), parts)? == *kind, "row {row}");
     }
     Ok(())
 }

@@ -15,34 +15,57 @@ pub enum Part {
     Close(u8),
 }
 
-/// Writes the parts. A closing without an opening is left out, and what is open at the end is closed at 2.
+// Writes a part. A closing without an opening is left out.
 #[tactic(auto, using(mbe_tt::proofs::OpenGroups::put_length, mbe_tt::proofs::OpenGroups::closed_length))]
+fn write_part<A: Allocator + Copy>(
+    builder: &mut TopSubtreeBuilder<A>,
+    alloc: A,
+    part: Part,
+) -> Result<(), AllocError>
+    requires { 0 < length builder.old }
+    ensures { 0 < length builder.new }
+{
+    match part {
+        Part::Ident(text) => builder.push(ident(alloc, text)?),
+        Part::Text(text) => builder.push(literal(alloc, text)?),
+        Part::Punct(char, spacing) => builder.push(punct(char, spacing)),
+        Part::Open(kind) => builder.open(kind, span(1)),
+        Part::Close(at) => {
+            if builder.open_kind().is_some() {
+                builder.close(span(u32::from(at)));
+            }
+            Ok(())
+        }
+    }
+}
+
+/// Writes the parts, into a builder with no group but the whole. A closing without an opening is left out.
+pub fn write_open<A: Allocator + Copy>(
+    builder: &mut TopSubtreeBuilder<A>,
+    alloc: A,
+    parts: &[Part],
+) -> Result<(), AllocError>
+    requires { 0 < length builder.old }
+    ensures { 0 < length builder.new }
+{
+    for part in parts {
+        write_part(builder, alloc, *part)?;
+    }
+    Ok(())
+}
+
+/// The same, and what is open at the end is closed at 2.
+#[tactic(auto, using(mbe_tt::proofs::OpenGroups::closed_length))]
 pub fn write<A: Allocator + Copy>(
     builder: &mut TopSubtreeBuilder<A>,
     alloc: A,
     parts: &[Part],
 ) -> Result<(), AllocError>
     requires { 0 < length builder.old }
-    ensures { OnOk result (length builder.new ≡ length builder.old) }
+    ensures { OnOk result (length builder.new ≡ 1) }
 {
-    let mut open = 0usize;
-    for part in parts {
-        match *part {
-            Part::Ident(text) => builder.push(ident(alloc, text)?)?,
-            Part::Text(text) => builder.push(literal(alloc, text)?)?,
-            Part::Punct(char, spacing) => builder.push(punct(char, spacing))?,
-            Part::Open(kind) => {
-                builder.open(kind, span(1))?;
-                open += 1;
-            }
-            Part::Close(at) if open > 0 => {
-                builder.close(span(u32::from(at)));
-                open -= 1;
-            }
-            Part::Close(_) => {}
-        }
-    }
-    for _left in 0..open {
+    write_open(builder, alloc, parts)?;
+    'groups: while builder.open_kind().is_some() {
         builder.close(span(2));
     }
     Ok(())

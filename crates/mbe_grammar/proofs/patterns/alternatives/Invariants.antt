@@ -1,0 +1,12 @@
+use Rattle.std.proofs.Common.{◌≡◌}
+use Rattle.mbe_tt.specs.Tree.{flat_len}
+use Rattle.mbe_tt.specs.View.{trees}
+use Rattle.mbe_grammar.specs.Rule.{in_turn}
+use Rattle.mbe_grammar.specs.SampleGrammar.{takes, Alternative}
+use Rattle.mbe_grammar.proofs.patterns.alternatives.Given as goal
+
+abbrev pub invariant-alternatives : goal.invariant-alternatives
+invariant-alternatives g l = in_turn (takes Alternative) (trees l.rest) ≡ in_turn (takes Alternative) (trees l.fn.tokens)
+
+abbrev pub decreases-alternatives : goal.decreases-alternatives
+decreases-alternatives g l = flat_len (trees l.rest)

@@ -1,0 +1,61 @@
+// What a part of the grammar answers, and what is made of that.
+ghost use Rattle.std.specs.Prelude.{◌≡◌, Ok};
+ghost use Rattle.mbe_tt.specs.View.{trees};
+ghost use Rattle.mbe_grammar.specs.Rule.{or_else, has_to_stand, if_stands, if_absent};
+ghost use Rattle.mbe_grammar.specs.Steps.{seen};
+
+use mbe_tt::tt::TokenTreesView;
+use std::alloc::Allocator;
+
+/// Why a part of the grammar takes nothing.
+#[derive(Clone, Copy, Debug, PartialEq, Eq)]
+pub enum Miss {
+    /// It doesn't stand in front. Another alternative may.
+    Absent,
+    /// The whole faults.
+    Fault,
+}
+
+/// What is left behind a part of the grammar, or why it takes nothing.
+pub type Step<'t, A> = Result<TokenTreesView<'t, A>, Miss>;
+
+/// The step of a part that needn't stand in front of the trees: it takes nothing where it doesn't.
+pub fn maybe<'t, A: Allocator>(step: Step<'t, A>, tokens: TokenTreesView<'t, A>) -> Step<'t, A>
+    ensures { seen result ≡ or_else (seen step.entry) (Ok (trees tokens.entry)) }
+{
+    match step {
+        Err(Miss::Absent) => Ok(tokens),
+        taken => taken,
+    }
+}
+
+/// The step of a part that has to stand.
+pub fn needed<'t, A: Allocator>(step: Step<'t, A>) -> Step<'t, A>
+    ensures { seen result ≡ has_to_stand (seen step.entry) }
+{
+    match step {
+        Ok(rest) => Ok(rest),
+        Err(_) => Err(Miss::Fault),
+    }
+}
+
+/// The step that takes nothing where a part stands in front of the trees.
+pub fn ahead<'t, A: Allocator>(step: Step<'t, A>, tokens: TokenTreesView<'t, A>) -> Step<'t, A>
+    ensures { seen result ≡ if_stands (seen step.entry) (trees tokens.entry) }
+{
+    match step {
+        Ok(_rest) => Ok(tokens),
+        missed => missed,
+    }
+}
+
+/// The step that takes nothing where a part doesn't stand in front of the trees.
+pub fn not_ahead<'t, A: Allocator>(step: Step<'t, A>, tokens: TokenTreesView<'t, A>) -> Step<'t, A>
+    ensures { seen result ≡ if_absent (seen step.entry) (trees tokens.entry) }
+{
+    match step {
+        Ok(_rest) => Err(Miss::Absent),
+        Err(Miss::Absent) => Ok(tokens),
+        faulted => faulted,
+    }
+}

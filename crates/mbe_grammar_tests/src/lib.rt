@@ -1,0 +1,5 @@
+// The tests of `mbe_grammar`, through its public calls.
+#![tactic(auto)]
+
+#[cfg(test)]
+mod fragments;

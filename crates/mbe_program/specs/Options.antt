@@ -1,0 +1,34 @@
+-- What the words behind the program's name ask for.
+use Rattle.std.specs.Prelude.{ℕ, List, [], ◌∷◌, Option, Some, None, codes, option_map, if◌then◌else◌, bytes_eq}
+use Rattle.mbe_tt.specs.declared.span.Edition.{Edition}
+use Rattle.mbe_tt.specs.declared.span.Edition.TheVariants.{Edition2015, Edition2018, Edition2021, Edition2024}
+use Rattle.mbe_program.specs.declared.settings.Options.{Options}
+
+-- the edition that a word names
+abbrev pub edition_of : List ℕ → Option Edition
+edition_of word =
+    if bytes_eq word (codes "2015") then Some Edition2015
+    else if bytes_eq word (codes "2018") then Some Edition2018
+    else if bytes_eq word (codes "2021") then Some Edition2021
+    else if bytes_eq word (codes "2024") then Some Edition2024
+    else None
+
+-- what options hold: the names of both files, and the edition
+abbrev pub Seen : Type 0
+Seen = List ℕ × List ℕ × Edition
+
+abbrev pub seen : Options → Seen
+seen o = (o.def.now, o.arg.now, o.edition)
+
+-- two files, and the edition 2024 or the one that a third word names
+abbrev pub files_of : List (List ℕ) → Option Seen
+files_of [] = None
+files_of (d ∷ []) = None
+files_of (d ∷ a ∷ []) = Some (d, a, Edition2024)
+files_of (d ∷ a ∷ e ∷ []) = option_map (λ edition. (d, a, edition)) (edition_of e)
+files_of (d ∷ a ∷ e ∷ x ∷ ws) = None
+
+-- what the words behind the program's name ask for; a first word `--lint` is never a file
+abbrev pub options_of : List (List ℕ) → Option Seen
+options_of [] = None
+options_of (w ∷ ws) = if bytes_eq w (codes "--lint") then None else files_of (w ∷ ws)

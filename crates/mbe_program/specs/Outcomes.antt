@@ -1,0 +1,42 @@
+-- How a run ends.
+use Rattle.std.specs.Prelude.{ℕ, ⊤, ◌≡◌, ◌≤◌, List, Option}
+use Rattle.mbe_program.specs.declared.program.Outcome.{Outcome}
+use Rattle.mbe_program.specs.declared.program.Outcome.TheVariants.{Expanded, Faulted, Refused, CannotLex, CannotWrite, OutOfMemory}
+use Rattle.mbe_program.specs.declared.reports.Report.{Report}
+use Rattle.mbe_program.specs.declared.reports.Report.TheVariants as says
+
+-- the exit status of a run
+abbrev pub status_of : {A : Type 0} → Outcome A → ℕ
+status_of Expanded = 0
+status_of Faulted = 1
+status_of (Refused error) = 2
+status_of CannotWrite = 3
+status_of (CannotLex file offset) = 4
+status_of OutOfMemory = 5
+
+-- a run that comes to no expansion writes nothing
+abbrev pub IsSilent : {A : Type 0} → Outcome A → Option (List ℕ) → Option (List ℕ) → Type 0
+IsSilent Expanded before after = ⊤
+IsSilent Faulted before after = ⊤
+IsSilent (Refused error) before after = after ≡ before
+IsSilent CannotWrite before after = ⊤
+IsSilent (CannotLex file offset) before after = after ≡ before
+IsSilent OutOfMemory before after = after ≡ before
+
+-- a text that isn't lexed is at fault in that file, which is so long, or at its end
+abbrev pub FaultsIn : {A : Type 0} → ℕ → ℕ → Outcome A → Type 0
+FaultsIn file len Expanded = ⊤
+FaultsIn file len Faulted = ⊤
+FaultsIn file len (Refused error) = ⊤
+FaultsIn file len CannotWrite = ⊤
+FaultsIn file len (CannotLex f offset) = (f ≡ file) × (offset ≤ len)
+FaultsIn file len OutOfMemory = ⊤
+
+-- the exit status of a program that says this
+abbrev pub report_status : {A : Type 0} → Report A → ℕ
+report_status (says.Refused error) = 2
+report_status says.Usage = 3
+report_status (says.CannotRead name) = 3
+report_status says.CannotWrite = 3
+report_status (says.CannotLex name offset) = 4
+report_status says.OutOfMemory = 5

@@ -1,0 +1,49 @@
+// The words behind the program's name.
+ghost use Rattle.std.specs.Prelude.{◌≡◌, map, option_map};
+ghost use Rattle.std.specs.String.{string_bytes};
+ghost use Rattle.mbe_program.specs.Options.{edition_of, files_of, options_of, seen};
+
+use crate::settings::Options;
+use mbe_tt::span::Edition;
+
+fn edition(word: &str) -> Option<Edition>
+    ensures { result ≡ edition_of word.now }
+{
+    match word {
+        "2015" => Some(Edition::Edition2015),
+        "2018" => Some(Edition::Edition2018),
+        "2021" => Some(Edition::Edition2021),
+        "2024" => Some(Edition::Edition2024),
+        _ => None,
+    }
+}
+
+fn files(words: &[String]) -> Option<Options<'_>>
+    ensures { option_map seen result ≡ files_of (map string_bytes words.now) }
+{
+    match words {
+        [def, arg] => Some(Options {
+            def: def.as_str(),
+            arg: arg.as_str(),
+            edition: Edition::Edition2024,
+        }),
+        [def, arg, word] => Some(Options {
+            def: def.as_str(),
+            arg: arg.as_str(),
+            edition: edition(word.as_str())?,
+        }),
+        _ => None,
+    }
+}
+
+/// What the words behind the program's name ask for: `DEF-FILE ARG-FILE [EDITION]`, the edition one of `2015`, `2018`,
+/// `2021` and `2024`, by default `2024`. `None` for all other words. A first word `--lint` is never a file; nothing is
+/// linted yet, so it is refused.
+pub fn options(words: &[String]) -> Option<Options<'_>>
+    ensures { option_map seen result ≡ options_of (map string_bytes words.now) }
+{
+    match words.split_first() {
+        Some((first, _rest)) if first.as_str() == "--lint" => None,
+        _ => files(words),
+    }
+}

@@ -1,0 +1,10 @@
+// The program `mbex` without its `main`: what its words ask for, a run from two texts to what is written, and what is said
+// where nothing is.
+#![tactic(auto)]
+
+pub mod arguments;
+pub mod command;
+pub mod printing;
+pub mod program;
+pub mod reports;
+pub mod settings;

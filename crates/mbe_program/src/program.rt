@@ -1,0 +1,124 @@
+// A run, from both texts to what is written.
+ghost use Rattle.std.specs.Prelude.{◌≡◌, ◌<◌, ◌^◌, ◌⊎◌, length, IfErr};
+ghost use Rattle.mbe_program.specs.Outcomes.{FaultsIn, IsSilent, status_of};
+
+use crate::printing::print_expansion;
+use mbe::{DeclarativeMacro, ExpandResult, MacroCallStyle, MatchedArmIndex, ParseError};
+use mbe_grammar::SampleGrammar;
+use mbe_text::lexer::{LexError, lex};
+use mbe_text::scanner::file_span;
+use mbe_tt::span::Edition;
+use mbe_tt::tt::TopSubtree;
+use std::alloc::{AllocError, Allocator};
+use std::io::Write;
+
+/// How a run ended.
+#[derive(Drop)]
+pub enum Outcome<A: Allocator> {
+    /// The expansion is written.
+    Expanded,
+    /// The expansion has an error, and both are written.
+    Faulted,
+    /// The definition isn't one.
+    Refused(ParseError<A>),
+    /// What isn't lexed begins at this byte of the definition (file 0) or the argument (file 1).
+    CannotLex { file: u32, offset: u32 },
+    CannotWrite,
+    OutOfMemory,
+}
+
+impl<A: Allocator> Outcome<A> {
+    /// The exit status of the program.
+    pub fn status(&self) -> u8
+        ensures { result ≡ status_of self.now }
+    {
+        match self {
+            Outcome::Expanded => 0,
+            Outcome::Faulted => 1,
+            Outcome::Refused(_) => 2,
+            Outcome::CannotWrite => 3,
+            Outcome::CannotLex { .. } => 4,
+            Outcome::OutOfMemory => 5,
+        }
+    }
+}
+
+impl<A: Allocator> From<AllocError> for Outcome<A> {
+    ghost use Rattle.mbe_program.specs.declared.program.Outcome.TheVariants.{OutOfMemory};
+
+    ghost from_gives = { λ _ outcome. outcome ≡ OutOfMemory };
+
+    fn from(_error: AllocError) -> Outcome<A> {
+        Outcome::OutOfMemory
+    }
+}
+
+fn lexed<A: Allocator + Copy>(alloc: A, text: &str, file: u32) -> Result<TopSubtree<A>, Outcome<A>>
+    requires { length text.now < 2 ^ 32 }
+    ensures { IfErr result (FaultsIn file (length text.now)) }
+{
+    match lex(alloc, text, file) {
+        Ok(tree) => Ok(tree),
+        Err(LexError::Fault(offset)) => Err(Outcome::CannotLex { file, offset }),
+        Err(LexError::OutOfMemory) => Err(Outcome::OutOfMemory),
+    }
+}
+
+type Expansion<A> = ExpandResult<(TopSubtree<A>, MatchedArmIndex), A>;
+
+// What the definition makes of the argument, or why there is no expansion.
+fn expansion<A: Allocator + Copy>(
+    alloc: A,
+    def: &str,
+    arg: &str,
+    edition: Edition,
+) -> Result<Expansion<A>, Outcome<A>>
+    requires def { length def.now < 2 ^ 32 }
+    requires arg { length arg.now < 2 ^ 32 }
+    ensures { IfErr result (λ outcome. FaultsIn 0 (length def.now) outcome ⊎ FaultsIn 1 (length arg.now) outcome) }
+{
+    let definition = lexed(alloc, def, 0)?;
+    let argument = lexed(alloc, arg, 1)?;
+    let rules = DeclarativeMacro::parse_macro_rules(alloc, &definition, |_context| edition)?;
+    if let Some(error) = rules.err() {
+        return Err(Outcome::Refused(error.try_clone(alloc)?));
+    }
+    let call_site = file_span(1, 0, arg.len() as u32);
+    let expansion = rules.expand(
+        alloc,
+        &SampleGrammar,
+        &argument,
+        |span| span,
+        MacroCallStyle::FnLike,
+        call_site,
+    )?;
+    Ok(expansion)
+}
+
+/// Expands the text of an argument by the text of a definition, in which every token is of that edition, and writes the
+/// error, if there is one, the rule used and the tree. Nothing is written where a text isn't lexed, the definition is
+/// refused or memory is wanting. Where a write fails, the outcome says so, and what was written is a beginning.
+pub fn run<A: Allocator + Copy, W: Write>(
+    alloc: A,
+    def: &str,
+    arg: &str,
+    edition: Edition,
+    out: &mut W,
+) -> Outcome<A>
+    requires def { length def.now < 2 ^ 32 }
+    requires arg { length arg.now < 2 ^ 32 }
+    ensures silent { IsSilent result (W.contents out.old) (W.contents out.new) }
+    ensures within { FaultsIn 0 (length def.now) result ⊎ FaultsIn 1 (length arg.now) result }
+{
+    let expansion = match expansion(alloc, def, arg, edition) {
+        Ok(expansion) => expansion,
+        Err(outcome) => return outcome,
+    };
+    if print_expansion(&expansion, out).is_err() {
+        return Outcome::CannotWrite;
+    }
+    match expansion.err {
+        Some(_) => Outcome::Faulted,
+        None => Outcome::Expanded,
+    }
+}

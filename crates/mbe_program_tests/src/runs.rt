@@ -1,0 +1,565 @@
+// What no clause says: printed text, whole runs, and what is done where memory or a write fails.
+ghost use Rattle.std.specs.Prelude.{◌<◌};
+
+use mbe_grammar::SampleGrammar;
+use mbe_program::arguments::options;
+use mbe_program::command::started;
+use mbe_program::program::{Outcome, run};
+use mbe_program::reports::Report;
+use mbe_program::settings::Options;
+use mbe_text::lexer::lex;
+use mbe_tt::grammar::{FragmentGrammar, PrefixEntryPoint};
+use mbe_tt::span::Edition;
+use refusing::Refusing;
+use std::alloc::Global;
+use std::io;
+use std::io::Write;
+use std::process::Abort;
+use std::test::Fail;
+
+const PAIR: (&str, &str) = ("($x:ident = $t:tt;) => { pair ($t) $x }", "a = 1;");
+
+const PAIR_OUTPUT: &str = "arm 0
+SUBTREE $$ 1@0..6 1@0..6
+  IDENT   pair 0@25..29
+  SUBTREE () 0@30..31 0@33..34
+    LITERAL Integer 1 1@4..5
+  IDENT   a 1@0..1
+";
+
+const STRUCT: (&str, &str) = (
+    "\n( struct $ident:ident ) => {\n    struct $ident {\n        map: ::std::collections::HashSet<()>,\n    }\n};\n",
+    "\nstruct MyTraitMap2\n",
+);
+
+const STRUCT_OUTPUT: &str = "arm 0
+SUBTREE $$ 1@0..20 1@0..20
+  IDENT   struct 0@34..40
+  IDENT   MyTraitMap2 1@8..19
+  SUBTREE {} 0@48..49 0@100..101
+    IDENT   map 0@58..61
+    PUNCH   : [alone] 0@61..62
+    PUNCH   : [joint] 0@63..64
+    PUNCH   : [alone] 0@64..65
+    IDENT   std 0@65..68
+    PUNCH   : [joint] 0@68..69
+    PUNCH   : [alone] 0@69..70
+    IDENT   collections 0@70..81
+    PUNCH   : [joint] 0@81..82
+    PUNCH   : [alone] 0@82..83
+    IDENT   HashSet 0@83..90
+    PUNCH   < [alone] 0@90..91
+    SUBTREE () 0@91..92 0@92..93
+    PUNCH   > [joint] 0@93..94
+    PUNCH   , [alone] 0@94..95
+";
+
+// What a run writes, and its status.
+fn ran(rt: &impl Abort, alloc: Global, def: &str, arg: &str) -> Result<(String, u8), Fail> {
+    assert!(rt; def.len() < 1_000_000 && arg.len() < 1_000_000);
+    let mut out = Vec::new(alloc);
+    let outcome = run(alloc, def, arg, Edition::Edition2024, &mut out);
+    Ok((String::from_utf8(out)?, outcome.status()))
+}
+
+pub fn assert_expands(
+    rt: &impl Abort,
+    alloc: Global,
+    texts: (&str, &str),
+    want: &str,
+) -> Result<(), Fail> {
+    let (def, arg) = texts;
+    let (output, status) = ran(rt, alloc, def, arg)?;
+    assert_eq!(rt; output.as_str(), want, "{def} on {arg}");
+    assert_eq!(rt; status, 0, "{def} on {arg}");
+    Ok(())
+}
+
+// A definition and an argument, and what is written of them.
+static EXPANDED: [(&str, &str, &str); 9] = [
+    (PAIR.0, PAIR.1, PAIR_OUTPUT),
+    (STRUCT.0, STRUCT.1, STRUCT_OUTPUT),
+    // Groups that are open end with the text.
+    (
+        "\n() => { { }\n",
+        "",
+        "arm 0\nSUBTREE $$ 1@0..0 1@0..0\n  SUBTREE {} 0@9..10 0@11..12\n",
+    ),
+    // Leaves fit by their texts.
+    ("(1) => {}", "\"1\"", "arm 0\nSUBTREE $$ 1@0..3 1@0..3\n"),
+    ("(foo) => {}", "r#foo", "arm 0\nSUBTREE $$ 1@0..5 1@0..5\n"),
+    // An unbound name is written back.
+    (
+        "() => {$y}",
+        "",
+        "arm 0\nSUBTREE $$ 1@0..0 1@0..0\n  PUNCH   $ [alone] 0@8..9\n  IDENT   y 0@8..9\n",
+    ),
+    // The last binding of a name is written.
+    (
+        "($x:ident $x:ident) => {$x}",
+        "a b",
+        "arm 0\nSUBTREE $$ 1@0..3 1@0..3\n  IDENT   b 1@2..3\n",
+    ),
+    // The last punct of a fragment is alone.
+    (
+        "($a:tt $b:tt) => {$a $b}",
+        ";+",
+        "arm 0
+SUBTREE $$ 1@0..2 1@0..2
+  PUNCH   ; [alone] 1@0..1
+  PUNCH   + [alone] 1@1..2
+",
+    ),
+    // A variable of unknown kind never fits.
+    (
+        "($x:foo) => {}; (a) => {}",
+        "a",
+        "arm 1\nSUBTREE $$ 1@0..1 1@0..1\n",
+    ),
+];
+
+#[test]
+fn expansions_are_printed(rt: HostRuntime) -> Result<(), Fail> {
+    for (def, arg, want) in &EXPANDED {
+        assert_expands(&rt, rt.alloc(), (def, arg), want)?;
+    }
+    Ok(())
+}
+
+#[test]
+fn no_rule_fits(rt: HostRuntime) -> Result<(), Fail> {
+    let (output, status) = ran(&rt, rt.alloc(), "(a) => {b}", "c")?;
+    assert_eq!(rt;
+        output.as_str(),
+        "error: no rule matches input tokens at 1@0..1\narm none\nSUBTREE $$ 1@0..1 1@0..1\n"
+    );
+    assert_eq!(rt; status, 1);
+    Ok(())
+}
+
+const NAMES: Options<'static> = Options {
+    def: "the.def",
+    arg: "the.arg",
+    edition: Edition::Edition2024,
+};
+
+// Whether the line on standard error is that.
+fn assert_says(
+    rt: &impl Abort,
+    alloc: Global,
+    report: Option<Report<'_, Global>>,
+    want: &str,
+) -> Result<(), Fail> {
+    let Some(report) = report else {
+        assert_eq!(rt; want, "");
+        return Ok(());
+    };
+    let line = format!(in alloc; "{report}")?;
+    assert_eq!(rt; line.as_str(), want);
+    Ok(())
+}
+
+// A definition and an argument, the status, and the line on standard error.
+static FAILURES: [(&str, &str, u8, &str); 7] = [
+    ("() => {}", "", 0, ""),
+    ("(a) => {}", "", 1, ""),
+    ("() => {} x", "", 2, "definition refused: expected `;`"),
+    (
+        "($x:ident) =>",
+        "",
+        2,
+        "definition refused: expected subtree",
+    ),
+    ("() => {} x", "'", 4, "cannot lex the.arg at 0"),
+    ("(a ` b) => {}", "'", 4, "cannot lex the.def at 3"),
+    ("", "é \"", 4, "cannot lex the.arg at 3"),
+];
+
+// Whether a run ends with that status and line, and writes something only where there is an expansion.
+fn assert_ends_with(
+    rt: &impl Abort,
+    alloc: Global,
+    (def, arg): (&str, &str),
+    status: u8,
+    line: &str,
+) -> Result<(), Fail> {
+    assert!(rt; def.len() < 1_000_000 && arg.len() < 1_000_000);
+    let mut out = Vec::new(alloc);
+    let outcome = run(alloc, def, arg, Edition::Edition2024, &mut out);
+    assert_eq!(rt; outcome.status(), status, "{def} on {arg}");
+    assert_eq!(rt; out.is_empty(), status > 1, "{def} on {arg}");
+    assert_says(rt, alloc, outcome.report(&NAMES), line)
+}
+
+#[test]
+fn failures_have_a_status_and_a_line(rt: HostRuntime) -> Result<(), Fail> {
+    for (def, arg, status, line) in &FAILURES {
+        assert_ends_with(&rt, rt.alloc(), (def, arg), *status, line)?;
+    }
+    Ok(())
+}
+
+#[test]
+fn other_failures_have_a_line(rt: HostRuntime) -> Result<(), Fail> {
+    let usage = "usage: mbex [--lint] DEF-FILE ARG-FILE [EDITION]";
+    assert_says(&rt, rt.alloc(), Some(Report::Usage), usage)?;
+    assert_eq!(rt; Report::<Global>::Usage.status(), 3);
+    assert_says(
+        &rt,
+        rt.alloc(),
+        Some(Report::CannotRead("a.b")),
+        "cannot read a.b",
+    )?;
+    assert_eq!(rt; Report::<Global>::CannotRead("a.b").status(), 3);
+    let unwritten = Outcome::<Global>::CannotWrite;
+    assert_eq!(rt; unwritten.status(), 3);
+    assert_says(&rt, rt.alloc(), unwritten.report(&NAMES), "cannot write")?;
+    let wanting = Outcome::<Global>::OutOfMemory;
+    assert_eq!(rt; wanting.status(), 5);
+    assert_says(&rt, rt.alloc(), wanting.report(&NAMES), "out of memory")
+}
+
+static WORDS: [(&str, Option<Edition>); 11] = [
+    ("", None),
+    ("d", None),
+    ("d a", Some(Edition::Edition2024)),
+    ("d a 2015", Some(Edition::Edition2015)),
+    ("d a 2018", Some(Edition::Edition2018)),
+    ("d a 2021", Some(Edition::Edition2021)),
+    ("d a 2024", Some(Edition::Edition2024)),
+    ("d a 2022", None),
+    ("d a 2018 x", None),
+    ("--lint d a", None),
+    ("--lint a", None),
+];
+
+fn words_of(alloc: Global, text: &str) -> Result<Vec<String>, Fail> {
+    let mut words = Vec::new(alloc);
+    for word in text.split_whitespace() {
+        words.push(String::from_str(alloc, word)?)?;
+    }
+    Ok(words)
+}
+
+#[test]
+fn words_name_files_and_an_edition(rt: HostRuntime) -> Result<(), Fail> {
+    for (text, edition) in &WORDS {
+        let words = words_of(rt.alloc(), text)?;
+        let want = edition.map(|edition| Options {
+            def: "d",
+            arg: "a",
+            edition,
+        });
+        assert!(rt; options(words.as_slice()) == want, "{text}");
+    }
+    Ok(())
+}
+
+// The words, and the status. The running program's own file isn't UTF-8.
+static FILES: [(&str, u8); 5] = [
+    ("/no/such/file /dev/null", 3),
+    ("/dev/null /no/such/file", 3),
+    ("/proc/self/exe /dev/null", 3),
+    ("/dev/null /dev/null", 1),
+    ("--lint /dev/null", 3),
+];
+
+#[test]
+fn files_that_cannot_be_read(rt: HostRuntime) -> Result<(), Fail> {
+    for (text, status) in &FILES {
+        let words = words_of(rt.alloc(), text)?;
+        assert_eq!(rt; started(&rt, words.as_slice()), *status, "{text}");
+    }
+    Ok(())
+}
+
+#[test]
+fn a_refused_request_is_want_of_memory(rt: HostRuntime) -> Result<(), Fail> {
+    let (def, arg) = PAIR;
+    for number in 1..10_000u64 {
+        let alloc = Refusing::new(rt.alloc(), number);
+        let mut out = Vec::new(rt.alloc());
+        let outcome = run(&alloc, def, arg, Edition::Edition2024, &mut out);
+        if !alloc.has_refused() {
+            assert_eq!(rt; outcome.status(), 0);
+            assert!(rt; out.as_slice() == PAIR_OUTPUT.as_bytes());
+            assert!(rt; number > 20, "only {number} requests");
+            return Ok(());
+        }
+        assert_eq!(rt; outcome.status(), 5, "at {number}");
+        assert!(rt; out.is_empty(), "at {number}");
+    }
+    Err(Fail::from("it goes on"))
+}
+
+/// Fails at one write, counted from 1.
+#[derive(Drop)]
+struct Failing {
+    written: Vec<u8>,
+    left: u64,
+}
+
+impl Failing {
+    fn turn(&mut self) -> io::Result<()> {
+        self.left = self.left.saturating_sub(1);
+        if self.left == 0 {
+            return Err(io::Error::from(io::ErrorKind::BrokenPipe));
+        }
+        Ok(())
+    }
+}
+
+impl Write for Failing {
+    fn write(&mut self, buf: &[u8]) -> io::Result<usize> {
+        self.turn()?;
+        self.written.extend_from_slice(buf)?;
+        Ok(buf.len())
+    }
+
+    fn flush(&mut self) -> io::Result<()> {
+        self.turn()
+    }
+}
+
+#[test]
+fn a_failed_write_is_told(rt: HostRuntime) -> Result<(), Fail> {
+    let (def, arg) = PAIR;
+    for number in 1..10_000u64 {
+        let mut out = Failing {
+            written: Vec::new(rt.alloc()),
+            left: number,
+        };
+        let outcome = run(rt.alloc(), def, arg, Edition::Edition2024, &mut out);
+        let written = out.written.as_slice();
+        if out.left > 0 {
+            assert_eq!(rt; outcome.status(), 0);
+            assert!(rt; written == PAIR_OUTPUT.as_bytes());
+            assert!(rt; number > 20, "only {number} writes");
+            return Ok(());
+        }
+        assert_eq!(rt; outcome.status(), 3, "at {number}");
+        assert!(rt; PAIR_OUTPUT.as_bytes().starts_with(written), "at {number}");
+    }
+    Err(Fail::from("it goes on"))
+}
+
+// Whether a run of any texts ends as runs do.
+fn assert_ends(rt: &impl Abort, alloc: Global, def: &str, arg: &str) -> Result<(), Fail> {
+    assert!(rt; def.len() < 1_000_000 && arg.len() < 1_000_000);
+    let mut out = Vec::new(alloc);
+    let outcome = run(alloc, def, arg, Edition::Edition2024, &mut out);
+    let written = out.as_slice();
+    match outcome {
+        Outcome::Expanded => assert!(rt; written.starts_with(b"arm "), "{def:?} on {arg:?}"),
+        Outcome::Faulted => assert!(rt; written.starts_with(b"error: "), "{def:?} on {arg:?}"),
+        Outcome::Refused(_) => assert!(rt; written.is_empty(), "{def:?} on {arg:?}"),
+        Outcome::CannotLex { file, offset } => {
+            let text = if file == 0 { def } else { arg };
+            assert!(rt;
+                text.is_char_boundary(offset as usize),
+                "{def:?} on {arg:?}"
+            );
+            assert!(rt; written.is_empty(), "{def:?} on {arg:?}");
+        }
+        Outcome::CannotWrite | Outcome::OutOfMemory => {
+            assert!(rt; false, "{def:?} on {arg:?}");
+        }
+    }
+    Ok(())
+}
+
+#[test]
+fn every_front_of_a_text_ends(rt: HostRuntime) -> Result<(), Fail> {
+    for (def, arg) in [
+        PAIR,
+        STRUCT,
+        ("(é \"a\\\"b\"s) => {r#c /* d */}", "é \"a\\\"b\"s"),
+    ] {
+        for end in 0..=def.len() {
+            if let Some(front) = def.get(..end) {
+                assert_ends(&rt, rt.alloc(), front, arg)?;
+            }
+        }
+        for end in 0..=arg.len() {
+            if let Some(front) = arg.get(..end) {
+                assert_ends(&rt, rt.alloc(), def, front)?;
+            }
+        }
+    }
+    Ok(())
+}
+
+const PIECES: [&str; 96] = [
+    "(",
+    ")",
+    "[",
+    "]",
+    "{",
+    "}",
+    "$",
+    "$x:ident",
+    "$t:tt",
+    "$x",
+    "$t",
+    ":",
+    "=>",
+    ";",
+    ",",
+    "x",
+    "r#x",
+    "crate ",
+    "_",
+    "1",
+    "1.0",
+    "0x",
+    "\"",
+    "'",
+    "\\",
+    "//",
+    "/*",
+    "*/",
+    "\n",
+    " ",
+    "é",
+    "\u{0}",
+    "$e:expr",
+    "$t:ty",
+    "$p:pat",
+    "$p:path",
+    "$s:stmt",
+    "$b:block",
+    "$m:meta",
+    "$i:item",
+    "$v:vis",
+    "$l:lifetime",
+    "$l:literal",
+    "$(",
+    "),*",
+    ")?",
+    "let ",
+    "mut ",
+    "ref ",
+    "pub ",
+    "self ",
+    "in ",
+    "const ",
+    "unsafe ",
+    "break ",
+    "return ",
+    "true ",
+    "use ",
+    "static ",
+    "fn ",
+    "struct ",
+    "impl ",
+    "'a ",
+    "'b'",
+    "'\\n'",
+    "1.5",
+    "1e5",
+    "2u8",
+    "\"s\"",
+    "&",
+    "*",
+    "<",
+    ">",
+    "::",
+    "->",
+    "!",
+    "?",
+    ".",
+    "..",
+    "=",
+    "==",
+    "+",
+    "-",
+    "|",
+    "&&",
+    "<<=",
+    "{ }",
+    "( )",
+    "[ ]",
+    "(x, y)",
+    "{ x }",
+    "::<x>",
+    "x::y",
+    "x.y()",
+    "x + 1",
+    ": u8",
+];
+
+/// Numbers that look random, from a seed.
+#[derive(Drop)]
+struct Numbers(u64);
+
+impl Numbers {
+    fn below(&mut self, bound: u64) -> u64
+        requires { 0 < bound }
+        ensures { result < bound }
+    {
+        self.0 = self
+            .0
+            .wrapping_mul(6_364_136_223_846_793_005)
+            .wrapping_add(1_442_695_040_888_963_407);
+        (self.0 >> 33) % bound
+    }
+
+    // Up to eleven pieces or characters.
+    fn text(&mut self, alloc: Global, is_of_pieces: bool) -> Result<String, Fail> {
+        let mut text = String::new(alloc);
+        for _ in 0..self.below(12) {
+            if is_of_pieces {
+                text.push_str(PIECES[self.below(96) as usize])?;
+            } else if let Some(char) = char::from_u32(self.below(0x11_0000) as u32) {
+                text.push(char)?;
+            }
+        }
+        Ok(text)
+    }
+}
+
+const ENTRIES: [PrefixEntryPoint; 10] = [
+    PrefixEntryPoint::Path,
+    PrefixEntryPoint::Expr,
+    PrefixEntryPoint::Ty,
+    PrefixEntryPoint::PatTop,
+    PrefixEntryPoint::Pat,
+    PrefixEntryPoint::Stmt,
+    PrefixEntryPoint::Block,
+    PrefixEntryPoint::MetaItem,
+    PrefixEntryPoint::Item,
+    PrefixEntryPoint::Vis,
+];
+
+// Whether the grammar answers for the front of any text.
+fn assert_parses(rt: &impl Abort, alloc: Global, text: &str) -> Result<(), Fail> {
+    assert!(rt; text.len() < 1_000_000);
+    let Ok(tree) = lex(alloc, text, 0) else {
+        return Ok(());
+    };
+    let view = tree.iter().remaining();
+    for entry in ENTRIES {
+        let front = SampleGrammar.parse(entry, view)?;
+        assert!(rt; front.count <= view.flat_len(), "{text}");
+        assert!(rt; !front.fault || front.count == 0, "{text}");
+    }
+    Ok(())
+}
+
+// Two texts and the rule that is made of two, in each turn.
+#[test]
+fn random_texts_end(rt: HostRuntime) -> Result<(), Fail> {
+    let mut numbers = Numbers(1);
+    for number in 0..7_000u64 {
+        let is_of_pieces = number % 4 != 0;
+        let def = numbers.text(rt.alloc(), is_of_pieces)?;
+        let arg = numbers.text(rt.alloc(), is_of_pieces)?;
+        assert_ends(&rt, rt.alloc(), def.as_str(), arg.as_str())?;
+        let template = numbers.text(rt.alloc(), is_of_pieces)?;
+        let rule = format!(in rt.alloc(); "({def}) => {{{template}}}")?;
+        assert_ends(&rt, rt.alloc(), rule.as_str(), arg.as_str())?;
+        assert_ends(&rt, rt.alloc(), rule.as_str(), def.as_str())?;
+        assert_parses(&rt, rt.alloc(), arg.as_str())?;
+    }
+    Ok(())
+}

@@ -1,0 +1,147 @@
+// The token trees of a text.
+ghost use Rattle.std.specs.Prelude.{◌≡◌, ◌<◌, ◌+◌, ◌^◌, length, IfErr};
+ghost use Rattle.mbe_text.specs.Scanning.{FaultsWithin};
+
+use crate::scanner::{Fault, Lexeme, Scanner, Token, file_span};
+use mbe_tt::span::Span;
+use mbe_tt::symbol::Symbol;
+use mbe_tt::tt::{
+    Delimiter, DelimiterKind, Ident, Leaf, Literal, Punct, TopSubtree, TopSubtreeBuilder,
+};
+use std::alloc::{AllocError, AllocFailed, Allocator};
+use std::error::Error;
+use std::fmt;
+
+/// Why a text has no token trees.
+#[derive(Debug, Drop, PartialEq, Eq)]
+pub enum LexError {
+    /// What is wrong begins at this byte.
+    Fault(u32),
+    OutOfMemory,
+}
+
+impl fmt::Display for LexError {
+    fn fmt<W: fmt::Write>(&self, f: &mut fmt::Formatter<W>) -> fmt::Result {
+        match self {
+            LexError::Fault(offset) => write!(f, "cannot lex at {offset}"),
+            LexError::OutOfMemory => write!(f, "out of memory"),
+        }
+    }
+}
+
+impl Error for LexError {}
+
+impl From<Fault> for LexError {
+    ghost use Rattle.mbe_text.specs.declared.lexer.LexError.TheVariants as errors;
+
+    ghost from_gives = { λ fault error. error ≡ errors.Fault fault.offset };
+
+    fn from(fault: Fault) -> LexError {
+        LexError::Fault(fault.offset)
+    }
+}
+
+impl From<AllocError> for LexError {
+    ghost use Rattle.mbe_text.specs.declared.lexer.LexError.TheVariants as errors;
+
+    ghost from_gives = { λ _ error. error ≡ errors.OutOfMemory };
+
+    fn from(_error: AllocError) -> LexError {
+        LexError::OutOfMemory
+    }
+}
+
+// Adds the token at the end of the innermost open group. A closing that doesn't fit that group is a fault.
+fn add<A: Allocator + Copy>(
+    builder: &mut TopSubtreeBuilder<A>,
+    alloc: A,
+    token: Token<'_>,
+) -> Result<(), LexError>
+    ensures { IfErr result (FaultsWithin token.entry.span.start) }
+{
+    let span = token.span;
+    match token.lexeme {
+        Lexeme::Open(kind) => builder.open(kind, span)?,
+        Lexeme::Close(kind) => close(builder, kind, span)?,
+        Lexeme::Punct { char, spacing } => builder.push(Leaf::Punct(Punct {
+            char,
+            spacing,
+            span,
+        }))?,
+        Lexeme::Ident { name, is_raw } => {
+            let sym = Symbol::intern(alloc, name)?;
+            builder.push(Leaf::Ident(Ident { sym, is_raw, span }))?;
+        }
+        Lexeme::Literal {
+            text,
+            suffix,
+            suffix_len,
+            kind,
+        } => builder.push(Leaf::Literal(Literal {
+            text_and_suffix: joined(alloc, text, suffix)?,
+            suffix_len,
+            kind,
+            span,
+        }))?,
+    }
+    Ok(())
+}
+
+// Closes the innermost open group, if it is of that kind.
+fn close<A: Allocator>(
+    builder: &mut TopSubtreeBuilder<A>,
+    kind: DelimiterKind,
+    span: Span,
+) -> Result<(), Fault>
+    ensures { IfErr result (λ fault. fault.offset ≡ span.start) }
+{
+    match builder.open_kind() {
+        Some(open) if open == kind => {
+            builder.close(span);
+            Ok(())
+        }
+        _ => Err(Fault { offset: span.start }),
+    }
+}
+
+// The trees, with each open group closed with this span.
+#[tactic(auto, using(mbe_tt::proofs::OpenGroups::closed_length))]
+fn finish<A: Allocator>(mut builder: TopSubtreeBuilder<A>, end: Span) -> TopSubtree<A> {
+    'groups: while builder.open_kind().is_some() {
+        builder.close(end);
+    }
+    builder.build()
+}
+
+// The symbol of a literal: its text and then its suffix.
+fn joined<A: Allocator + Copy>(
+    alloc: A,
+    text: &str,
+    suffix: &str,
+) -> Result<Symbol<A>, AllocError> {
+    if suffix.is_empty() {
+        return Symbol::intern(alloc, text);
+    }
+    let mut whole = String::from_str(alloc, text)?;
+    whole.push_str(suffix)?;
+    Symbol::intern(alloc, whole.as_str())
+}
+
+/// The token trees of a file's text, inside an invisible group whose both spans are the whole text. Spans count bytes.
+/// Groups that are open at the end are closed there. A closing without its group is a fault, and so is what isn't a token.
+///
+/// The tokens are the project's own choice, near to Rust's: doc comments are comments, and prefixed strings, raw strings
+/// and byte literals are faults. It asks that the text is shorter than 2^32 bytes, as spans count them in 32 bits.
+pub fn lex<A: Allocator + Copy>(alloc: A, text: &str, file: u32) -> Result<TopSubtree<A>, LexError>
+    requires { length text.now < 2 ^ 32 }
+    ensures { IfErr result (FaultsWithin (length text.now)) }
+{
+    let len = text.len() as u32;
+    let mut scanner = Scanner::new(text, file);
+    let whole = Delimiter::invisible_spanned(file_span(file, 0, len));
+    let mut builder = TopSubtreeBuilder::new(alloc, whole)?;
+    'tokens: while let Some(token) = scanner.token()? {
+        add(&mut builder, alloc, token)?;
+    }
+    Ok(finish(builder, file_span(file, len, len)))
+}

@@ -1,0 +1,6 @@
+// Text and token trees: the trees of a text, and the printed form of trees.
+#![tactic(auto)]
+
+pub mod lexer;
+pub mod printing;
+pub mod scanner;

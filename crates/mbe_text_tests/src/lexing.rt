@@ -1,0 +1,344 @@
+// Each rule of the lexer: texts with their tokens and bytes, and texts that aren't lexed with the byte at fault.
+use mbe_text::lexer::{LexError, lex};
+use mbe_text::printing::print_tree;
+use mbe_tt::tt::{DelimiterKind, Leaf, LitKind, Spacing, Subtree, TopSubtree, TtElement};
+use std::alloc::Global;
+use std::process::Abort;
+use std::test::Fail;
+
+// The trees of a text that isn't long.
+fn trees(rt: &impl Abort, alloc: Global, text: &str) -> Result<TopSubtree, LexError> {
+    assert!(rt; text.len() < 1_000_000);
+    lex(alloc, text, 0)
+}
+
+#[test]
+fn printed_tokens(rt: HostRuntime) -> Result<(), Fail> {
+    let text = "r#é 0xFFu8 \"a\\\"\"b2 ['c' 1.5 += {";
+    let want = "SUBTREE $$ 0@0..33 0@0..33
+  IDENT   r#é 0@0..4
+  LITERAL Integer 0xFFu8 0@5..11
+  LITERAL Str a\\\"b2 0@12..19
+  SUBTREE [] 0@20..21 0@33..33
+    LITERAL Char c 0@21..24
+    LITERAL Float 1.5 0@25..28
+    PUNCH   + [joint] 0@29..30
+    PUNCH   = [alone] 0@30..31
+    SUBTREE {} 0@32..33 0@33..33
+";
+    let Ok(tree) = trees(&rt, rt.alloc(), text) else {
+        return Err(Fail::from("not lexed"));
+    };
+    let mut out = Vec::new(rt.alloc());
+    print_tree(&tree, &mut out)?;
+    let output = String::from_utf8(out)?;
+    assert_eq!(rt; output.as_str(), want);
+    Ok(())
+}
+
+fn kind_name(kind: LitKind) -> &'static str {
+    match kind {
+        LitKind::Integer => "Integer",
+        LitKind::Float => "Float",
+        LitKind::Char => "Char",
+        LitKind::Str => "Str",
+        _ => "another",
+    }
+}
+
+// A leaf and its bytes; `|` stands before the suffix of a literal.
+fn push_leaf(leaf: &Leaf, line: &mut String) -> Result<(), Fail> {
+    match leaf {
+        Leaf::Ident(ident) => write!(line, "{ident}")?,
+        Leaf::Punct(punct) => {
+            let spacing = match punct.spacing {
+                Spacing::Alone => "alone",
+                Spacing::Joint => "joint",
+            };
+            let char = punct.char;
+            write!(line, "{char} {spacing}")?;
+        }
+        Leaf::Literal(literal) => {
+            let kind = kind_name(literal.kind);
+            let (text, suffix) = literal.text_and_suffix();
+            write!(line, "{kind} {text}")?;
+            if !suffix.is_empty() {
+                write!(line, "|{suffix}")?;
+            }
+        }
+    }
+    let span = leaf.span();
+    let (start, end) = (span.start, span.end);
+    write!(line, " {start}..{end}")?;
+    Ok(())
+}
+
+// The opening of a group, the bytes of that and of its closing.
+fn push_opening(subtree: &Subtree, line: &mut String) -> Result<(), Fail> {
+    let sign = match subtree.delimiter.kind {
+        DelimiterKind::Parenthesis => '(',
+        DelimiterKind::Bracket => '[',
+        DelimiterKind::Brace => '{',
+        DelimiterKind::Invisible => '$',
+    };
+    let (opening, close) = (subtree.delimiter.opening, subtree.delimiter.close);
+    let (start, end) = (opening.start, opening.end);
+    write!(line, "{sign} {start}..{end}")?;
+    let (start, end) = (close.start, close.end);
+    write!(line, " {start}..{end}")?;
+    Ok(())
+}
+
+// The flat tokens of a text in one line.
+fn tokens(rt: &impl Abort, alloc: Global, text: &str) -> Result<String, Fail> {
+    let Ok(tree) = trees(rt, alloc, text) else {
+        return Err(Fail::from("not lexed"));
+    };
+    let mut line = String::new(alloc);
+    let view = tree.iter().remaining();
+    let mut cursor = view.cursor();
+    for _ in 0..view.flat_len() {
+        if !line.is_empty() {
+            line.push_str(", ")?;
+        }
+        match cursor.token_tree() {
+            Some(TtElement::Leaf(leaf)) => push_leaf(leaf, &mut line)?,
+            Some(TtElement::Subtree(subtree, _inside)) => push_opening(subtree, &mut line)?,
+            None => line.push_str("end")?,
+        }
+        cursor.bump_or_end();
+    }
+    Ok(line)
+}
+
+// Whether the text has these tokens.
+fn assert_tokens(rt: &impl Abort, alloc: Global, text: &str, want: &str) -> Result<(), Fail> {
+    let line = tokens(rt, alloc, text)?;
+    assert_eq!(rt; line.as_str(), want, "{text}");
+    Ok(())
+}
+
+// Whether the text is at fault at this byte.
+fn assert_fault(rt: &impl Abort, alloc: Global, text: &str, want: u32) -> Result<(), Fail> {
+    match trees(rt, alloc, text) {
+        Err(LexError::Fault(offset)) => assert_eq!(rt; offset, want, "{text}"),
+        _ => return Err(Fail::from("lexed")),
+    }
+    Ok(())
+}
+
+// Texts with their tokens: a literal is its kind and its text, with `|` before a suffix, a punct its char and its spacing.
+// Behind each stand its bytes, and behind an opening those of the closing too.
+static TOKENS: [(&str, &str); 84] = [
+    // White space and comments are passed over, block comments nest, and one without an end is at fault where it begins.
+    (" \t\r\n", ""),
+    ("a//b\nc", "a 0..1, c 5..6"),
+    ("a//", "a 0..1"),
+    ("//!a\n///b\n/** c */d", "d 18..19"),
+    ("/*/**/*/a", "a 8..9"),
+    ("/**/a", "a 4..5"),
+    ("a/b", "a 0..1, / alone 1..2, b 2..3"),
+    ("a*/b", "a 0..1, * joint 1..2, / alone 2..3, b 3..4"),
+    // Identifiers are as long as they can be. One that would begin a prefixed string or a byte literal is a fault.
+    ("_ _1 é1", "_ 0..1, _1 2..4, é1 5..8"),
+    ("a-b", "a 0..1, - alone 1..2, b 2..3"),
+    ("r#a r#_ r#é1", "r#a 0..3, r#_ 4..7, r#é1 8..13"),
+    ("r#", "r 0..1, # alone 1..2"),
+    ("r#1", "r 0..1, # alone 1..2, Integer 1 2..3"),
+    ("r# a", "r 0..1, # alone 1..2, a 3..4"),
+    ("r##a", "r 0..1, # joint 1..2, # alone 2..3, a 3..4"),
+    ("br#a", "br 0..2, # alone 2..3, a 3..4"),
+    ("a#\"b\"", "a 0..1, # alone 1..2, Str b 2..5"),
+    ("b 'a'", "b 0..1, Char a 2..5"),
+    ("br'a'", "br 0..2, Char a 2..5"),
+    // A string ends at the next quote that no `\` takes with it.
+    ("\"a\"", "Str a 0..3"),
+    ("\"\"", "Str  0..2"),
+    ("\"a\\\"b\"", "Str a\\\"b 0..6"),
+    ("\"\\\\\"", "Str \\\\ 0..4"),
+    ("\"//é\" b", "Str //é 0..6, b 7..8"),
+    ("\"a\"\"b\"", "Str a 0..3, Str b 3..6"),
+    // Behind a `'`: a char where one stands before the next `'`, else a lifetime.
+    ("'a'", "Char a 0..3"),
+    ("'a", "' joint 0..1, a 1..2"),
+    ("'ab'c'", "' joint 0..1, ab 1..3, Char c 3..6"),
+    ("'é'", "Char é 0..4"),
+    ("'\\''", "Char \\' 0..4"),
+    ("'\\n'", "Char \\n 0..4"),
+    ("'\\u{61}'", "Char \\u{61} 0..8"),
+    ("'\\ab'", "Char \\ab 0..5"),
+    ("' ' '\"' '1'", "Char   0..3, Char \" 4..7, Char 1 8..11"),
+    ("'_' '_", "Char _ 0..3, ' joint 4..5, _ 5..6"),
+    ("&'a", "& alone 0..1, ' joint 1..2, a 2..3"),
+    ("'a 'b'", "' joint 0..1, a 1..2, Char b 3..6"),
+    ("'a''b'", "Char a 0..3, Char b 3..6"),
+    ("'r#a", "' joint 0..1, r#a 1..4"),
+    ("'é1+", "' joint 0..1, é1 1..4, + alone 4..5"),
+    // Integers in four bases.
+    (
+                "0 00 1_000",
+                "Integer 0 0..1, Integer 00 2..4, Integer 1_000 5..10",
+            ),
+    ("0x 0xF_f", "Integer 0x 0..2, Integer 0xF_f 3..8"),
+    ("0xfg", "Integer 0xf|g 0..4"),
+    ("0o78i 0b12", "Integer 0o78|i 0..5, Integer 0b12 6..10"),
+    ("0b1e3", "Integer 0b1|e3 0..5"),
+    ("0X1", "Integer 0|X1 0..3"),
+    ("0x1.5", "Integer 0x1 0..3, . alone 3..4, Integer 5 4..5"),
+    ("0x1e+5", "Integer 0x1e 0..4, + alone 4..5, Integer 5 5..6"),
+    (".1", ". alone 0..1, Integer 1 1..2"),
+    // A number is a float where a fraction or an exponent is taken.
+    ("1. 1.0", "Float 1. 0..2, Float 1.0 3..6"),
+    (
+                "1..2",
+                "Integer 1 0..1, . joint 1..2, . alone 2..3, Integer 2 3..4",
+            ),
+    ("1.a", "Integer 1 0..1, . alone 1..2, a 2..3"),
+    ("1._", "Integer 1 0..1, . alone 1..2, _ 2..3"),
+    ("1.é", "Integer 1 0..1, . alone 1..2, é 2..4"),
+    ("1.+2", "Float 1. 0..2, + alone 2..3, Integer 2 3..4"),
+    ("1.(", "Float 1. 0..2, ( 2..3 3..3, end"),
+    ("1.0.0", "Float 1.0 0..3, . alone 3..4, Integer 0 4..5"),
+    ("1_.2_", "Float 1_.2_ 0..5"),
+    (
+                "1e5 1E+5 1e-5_",
+                "Float 1e5 0..3, Float 1E+5 4..8, Float 1e-5_ 9..14",
+            ),
+    ("1.5e3_0f64", "Float 1.5e3_0|f64 0..10"),
+    ("1.e5", "Integer 1 0..1, . alone 1..2, e5 2..4"),
+    ("1.0e", "Float 1.0|e 0..4"),
+    ("1e 1e_5", "Integer 1|e 0..2, Integer 1|e_5 3..7"),
+    ("1e+", "Integer 1|e 0..2, + alone 2..3"),
+    ("1e+x", "Integer 1|e 0..2, + alone 2..3, x 3..4"),
+    // An identifier directly behind a literal is its suffix.
+    ("1u8 1_é", "Integer 1|u8 0..3, Integer 1_|é 4..8"),
+    ("\"a\"_b c", "Str a|_b 0..5, c 6..7"),
+    ("\"a\" b", "Str a 0..3, b 4..5"),
+    ("'a'b", "Char a|b 0..4"),
+    ("1.0f32", "Float 1.0|f32 0..6"),
+    ("1r#a", "Integer 1|r 0..2, # alone 2..3, a 3..4"),
+    ("1'a'", "Integer 1 0..1, Char a 1..4"),
+    // A closing fits the open group; groups that are open at the end are closed there.
+    (
+                "(a[b]{c})",
+                "( 0..1 8..9, a 1..2, [ 2..3 4..5, b 3..4, end, { 5..6 7..8, c 6..7, end, end",
+            ),
+    ("( [", "( 0..1 3..3, [ 2..3 3..3, end, end"),
+    ("()a", "( 0..1 1..2, end, a 2..3"),
+    // A punct is joint where the next token begins directly behind it and is a punct; any other character is a fault.
+    ("+a+", "+ alone 0..1, a 1..2, + alone 2..3"),
+    ("+ +", "+ alone 0..1, + alone 2..3"),
+    ("+/**/+", "+ alone 0..1, + alone 5..6"),
+    ("+//\n+", "+ alone 0..1, + alone 4..5"),
+    ("+/ /", "+ joint 0..1, / alone 1..2, / alone 3..4"),
+    ("+'a", "+ alone 0..1, ' joint 1..2, a 2..3"),
+    ("+(+", "+ alone 0..1, ( 1..2 3..3, + alone 2..3, end"),
+    ("+\"\"", "+ alone 0..1, Str  1..3"),
+    (";+;", "; joint 0..1, + joint 1..2, ; alone 2..3"),
+];
+
+// Texts that aren't lexed, with the byte at fault.
+static FAULTS: [(&str, u32); 41] = [
+    // White space and comments are passed over, block comments nest, and one without an end is at fault where it begins.
+    ("a /* b", 2),
+    ("a /* /* */", 2),
+    ("/*/", 0),
+    ("a\u{c}b", 1),
+    ("a\u{a0}b", 1),
+    // Identifiers are as long as they can be. One that would begin a prefixed string or a byte literal is a fault.
+    ("a\"b\"", 0),
+    ("x r#a\"b\"", 2),
+    ("1 r\"a\"", 2),
+    ("r#\"a\"#", 0),
+    ("x br##\"a\"##", 2),
+    ("cr#\"", 0),
+    ("b'a'", 0),
+    ("x b'", 2),
+    ("u8\"\"", 0),
+    // A string ends at the next quote that no `\` takes with it.
+    ("\"abc", 0),
+    ("a \"b\\\"", 2),
+    ("\"\\", 0),
+    ("a\n\"", 2),
+    // Behind a `'`: a char where one stands before the next `'`, else a lifetime.
+    ("'", 0),
+    ("''", 0),
+    ("'''", 0),
+    ("'\n'", 0),
+    ("'\\", 0),
+    ("'\\'", 0),
+    ("a '1", 2),
+    ("'//'", 0),
+    ("' a", 0),
+    ("'a\"b\"", 1),
+    ("'ab'", 3),
+    // Integers in four bases.
+    ("٣", 0),
+    // An identifier directly behind a literal is its suffix.
+    ("1u8\"a\"", 1),
+    ("'a'b'c'", 3),
+    // A closing fits the open group; groups that are open at the end are closed there.
+    (")", 0),
+    ("(]", 1),
+    ("{ ( }", 4),
+    ("é }", 3),
+    ("(a))", 3),
+    // A punct is joint where the next token begins directly behind it and is a punct; any other character is a fault.
+    ("a `", 2),
+    ("\\", 0),
+    ("a\u{0}", 1),
+    ("€", 0),
+];
+
+#[test]
+fn texts_have_their_tokens(rt: HostRuntime) -> Result<(), Fail> {
+    for (text, want) in &TOKENS {
+        assert_tokens(&rt, rt.alloc(), text, want)?;
+    }
+    Ok(())
+}
+
+#[test]
+fn texts_are_at_fault(rt: HostRuntime) -> Result<(), Fail> {
+    for (text, want) in &FAULTS {
+        assert_fault(&rt, rt.alloc(), text, *want)?;
+    }
+    Ok(())
+}
+
+// A suffix has at most 255 bytes, behind each kind of literal.
+#[test]
+fn longest_suffix(rt: HostRuntime) -> Result<(), Fail> {
+    let longest = "a".repeat(rt.alloc(), 255)?;
+    let suffix = longest.as_str();
+    for (literal, kind, text) in [
+        ("1", "Integer", "1"),
+        ("1.5", "Float", "1.5"),
+        ("'b'", "Char", "b"),
+        ("\"b\"", "Str", "b"),
+    ] {
+        let source = format!(in rt.alloc(); "{literal}{suffix}")?;
+        let end = source.len();
+        let want = format!(in rt.alloc(); "{kind} {text}|{suffix} 0..{end}")?;
+        assert_tokens(&rt, rt.alloc(), source.as_str(), want.as_str())?;
+        let start = literal.len() as u32;
+        let source = format!(in rt.alloc(); "{literal}{suffix}b")?;
+        assert_fault(&rt, rt.alloc(), source.as_str(), start)?;
+    }
+    Ok(())
+}
+
+#[test]
+fn each_punct_is_one(rt: HostRuntime) -> Result<(), Fail> {
+    let text = "=<>!&|~@.,;:#$?+-*/%^";
+    let mut want = String::new(rt.alloc());
+    for (start, char) in text.chars().enumerate() {
+        let end = start.saturating_add(1);
+        if char == '^' {
+            write!(want, "{char} alone {start}..{end}")?;
+        } else {
+            write!(want, "{char} joint {start}..{end}, ")?;
+        }
+    }
+    assert_tokens(&rt, rt.alloc(), text, want.as_str())
+}

@@ -1,0 +1,5 @@
+// The tests of `mbe_text`, through its public calls.
+#![tactic(auto)]
+
+#[cfg(test)]
+mod lexing;

@@ -1,8 +1,0 @@
-use Rattle.std.proofs.Common.{sym, ap, ◌∙◌}
-use Rattle.mbe_tt.specs.View.{trees}
-use Rattle.mbex.specs.SampleGrammar.{answer}
-use Rattle.mbex.proofs.FlatTreeLemmas.{trees_of_flat-flat}
-use Rattle.mbex.proofs.sample_grammar.SampleGrammarFragmentGrammar.parse.Goals as goal
-
-pub returns : goal.returns
-returns g c = c.front.ensures ∙ sym (ap (answer c.args.entry) (trees_of_flat-flat (trees c.args.tokens)))
