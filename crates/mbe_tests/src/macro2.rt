@@ -14,8 +14,8 @@ use std::test::Fail;
 
 const SEPARATOR: Told = Told::Expected("expected `;` or `,` to delimit rules");
 
-// The macro of a body, and of arguments if there are some. Both are file 0.
-fn read(alloc: Global, args: Option<&str>, body: &str) -> Result<DeclarativeMacro, AllocError> {
+/// The macro of a body, and of arguments if there are some. Both are file 0.
+pub fn read(alloc: Global, args: Option<&str>, body: &str) -> Result<DeclarativeMacro, AllocError> {
     let body = lexed(alloc, 0, body)?;
     match args {
         None => DeclarativeMacro::parse_macro2(alloc, None, &body, |_context| Edition::Edition2024),

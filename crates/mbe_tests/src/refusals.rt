@@ -2,9 +2,8 @@
 use crate::definitions::{
     MISSING_SPECIFIER, REPETITION, Row, Told, assert_read, assert_rows_told, assert_texts_told,
 };
-use crate::trees::lexed;
-use mbe::{DeclarativeMacro, MacroCallStyles};
-use mbe_tt::span::Edition;
+use crate::macro2::read;
+use mbe::MacroCallStyles;
 use std::test::Fail;
 
 static REFUSED: [&str; 13] = [
@@ -60,25 +59,21 @@ fn a_refusal_is_told_over_any_fault(rt: HostRuntime) -> Result<(), Fail> {
 }
 
 #[test]
-fn refusals_of_a_macro(rt: HostRuntime) -> Result<(), Fail> {
-    let alloc = rt.alloc();
-    let empty = lexed(alloc, 0, "")?;
-    let args = lexed(alloc, 0, "$()*")?;
-    let rules: DeclarativeMacro = DeclarativeMacro::parse_macro2(
-        alloc,
-        Some(&args),
-        &empty,
-        |_context| Edition::Edition2024,
+fn refused_arguments_of_a_macro(rt: HostRuntime) -> Result<(), Fail> {
+    let rules = read(rt.alloc(), Some("$()*"), "")?;
+    assert_read(&rt, rt.alloc(), &rules, "$()*", (1, Told::EmptyRepetition))
+}
+
+#[test]
+fn refused_body_of_a_macro(rt: HostRuntime) -> Result<(), Fail> {
+    let rules = read(rt.alloc(), None, "derive() ($()*) => {}, x")?;
+    assert_read(
+        &rt,
+        rt.alloc(),
+        &rules,
+        "derive",
+        (1, Told::EmptyRepetition),
     )?;
-    assert_read(&rt, alloc, &rules, "$()*", (1, Told::EmptyRepetition))?;
-    let body = lexed(alloc, 0, "derive() ($()*) => {}, x")?;
-    let rules: DeclarativeMacro = DeclarativeMacro::parse_macro2(
-        alloc,
-        None,
-        &body,
-        |_context| Edition::Edition2024,
-    )?;
-    assert_read(&rt, alloc, &rules, "derive", (1, Told::EmptyRepetition))?;
     assert_eq!(rt; rules.rule_styles(), MacroCallStyles::DERIVE);
     Ok(())
 }

@@ -1,5 +1,8 @@
 // Styles of rules, and sets of styles.
-use crate::definitions::{EQUALS, PARENTHESES, Row, SUBTREE, Told, assert_rows_told};
+ghost use Rattle.mbe.specs.Macro.{IsChecked};
+ghost use Rattle.mbe.specs.MacroViews.{macro_of};
+
+use crate::definitions::{EQUALS, PARENTHESES, Row, SUBTREE, Told, assert_read, assert_rows_told};
 use crate::runs::{
     Expansion, assert_answer, assert_checked, assert_no_rule, expanded, parsed, whole,
 };
@@ -143,28 +146,43 @@ fn raw_words_count_as_well(rt: HostRuntime) -> Result<(), Fail> {
 
 #[test]
 fn macro_of_an_error(rt: HostRuntime) -> Result<(), Fail> {
-    let alloc = rt.alloc();
-    let rules = DeclarativeMacro::from_err(alloc, ParseError::InvalidRepeat);
-    assert_eq!(rt; rules.num_rules(), 0);
+    let rules = DeclarativeMacro::from_err(rt.alloc(), ParseError::InvalidRepeat);
+    assert_read(
+        &rt,
+        rt.alloc(),
+        &rules,
+        "an error",
+        (0, Told::InvalidRepeat),
+    )?;
     assert_eq!(rt; rules.rule_styles(), MacroCallStyles::FN_LIKE);
-    let Some(error) = rules.err() else {
-        return Err(Fail::from("no error"));
-    };
-    let shown = format!(in alloc; "{error}")?;
-    assert_eq!(rt; shown.as_str(), "invalid repeat");
-    let argument = lexed(alloc, 1, "a")?;
-    assert_checked(&rt, &rules);
-    let answer = expanded(alloc, &rules, &argument, MacroCallStyle::FnLike)?;
-    assert_no_rule(&rt, alloc, &answer, whole(&argument))
+    Ok(())
+}
+
+// No rule answers a call with that argument.
+fn assert_no_call(
+    rt: &impl Abort,
+    alloc: Global,
+    rules: &DeclarativeMacro,
+    argument: &str,
+    style: MacroCallStyle,
+) -> Result<(), Fail>
+    requires { IsChecked (macro_of rules.now) }
+{
+    let argument = lexed(alloc, 1, argument)?;
+    let answer = expanded(alloc, rules, &argument, style)?;
+    assert_no_rule(rt, alloc, &answer, whole(&argument))
+}
+
+#[test]
+fn macro_of_an_error_has_no_rule(rt: HostRuntime) -> Result<(), Fail> {
+    let rules = DeclarativeMacro::from_err(rt.alloc(), ParseError::InvalidRepeat);
+    assert_no_call(&rt, rt.alloc(), &rules, "a", MacroCallStyle::FnLike)
 }
 
 #[test]
 fn macro_of_a_refusal_has_no_rule(rt: HostRuntime) -> Result<(), Fail> {
-    let alloc = rt.alloc();
-    let rules = DeclarativeMacro::from_err(alloc, ParseError::RepetitionEmptyTokenTree);
-    let argument = lexed(alloc, 1, "")?;
-    let answer = expanded(alloc, &rules, &argument, MacroCallStyle::Attr)?;
-    assert_no_rule(&rt, alloc, &answer, whole(&argument))
+    let rules = DeclarativeMacro::from_err(rt.alloc(), ParseError::RepetitionEmptyTokenTree);
+    assert_no_call(&rt, rt.alloc(), &rules, "", MacroCallStyle::Attr)
 }
 
 // The set of these bits, whether they are a style's or not.
