@@ -3,12 +3,11 @@ use Rattle.std.proofs.Common.{◌≡◌, Bool, true, false, List, [], ◌∷◌,
 use Rattle.std.specs.Str.{bytes_eq}
 use Rattle.std.specs.Map.{lookup}
 use Rattle.std.proofs.lemmas.Slice.Eq.{bytes_eq-Decides}
-use Rattle.mbe.specs.declared.expander.Fragment.{Fragment}
 use Rattle.mbe.specs.Op.{Name}
 use Rattle.mbe.specs.Item.{Item, matched, bound, grouped, skipped, rounds, Items, no_items, item, Rounds, no_rounds, round}
 use Rattle.mbe.specs.Environment.{Environment, Value, fragment, list, empty, missing, value_of, set_value, grown, add_round, skip_names, bind_item, bind, bind_rounds}
 use Rattle.mbe.specs.Matching.{BindsAlike}
-use Rattle.mbe.proofs.WritingLemmas.{taken_value, values_taken, found_by_name}
+use Rattle.mbe.proofs.WritingLemmas.{values_bound, found_by_name}
 
 -- ---- one name set
 
@@ -86,17 +85,16 @@ mutual
 
 -- ---- what the map of a match holds
 
-module _ {A : Type 0} where
-  looked : (b : Bool) (x : Fragment A) (w : Option (Fragment A)) →
-      (if b then Some (taken_value x) else option_map taken_value w) ≡ option_map taken_value (if b then Some x else w)
+module _ {X : Type 0} (seen : X → Value) where
+  looked : (b : Bool) (x : X) (w : Option X) → (if b then Some (seen x) else option_map seen w) ≡ option_map seen (if b then Some x else w)
   looked true x w = refl
   looked false x w = refl
 
   -- one entry put in
-  pub entries_updated : (es fs : List (Name × Fragment A)) (name : Name) (x : Fragment A) →
+  pub entries_updated : (es fs : List (Name × X)) (name : Name) (x : X) →
       ((q : Name) → lookup (bytes_eq q) fs ≡ (if bytes_eq name q then Some x else lookup (bytes_eq q) es)) →
-      BindsAlike (values_taken fs) (set_value (values_taken es) name (taken_value x))
+      BindsAlike (values_bound seen fs) (set_value (values_bound seen es) name (seen x))
   entries_updated es fs name x h = λ q.
-      sym (found_by_name fs q) ∙ (ap (option_map taken_value) (h q) ∙ (sym (looked (bytes_eq name q) x (lookup (bytes_eq q) es))
-      ∙ (ap (λ (w : Option Value). if bytes_eq name q then Some (taken_value x) else w) (found_by_name es q)
-      ∙ sym (value_of-set_value (values_taken es) name q (taken_value x)))))
+      sym (found_by_name seen fs q) ∙ (ap (option_map seen) (h q) ∙ (sym (looked (bytes_eq name q) x (lookup (bytes_eq q) es))
+      ∙ (ap (λ (w : Option Value). if bytes_eq name q then Some (seen x) else w) (found_by_name seen es q)
+      ∙ sym (value_of-set_value (values_bound seen es) name q (seen x)))))

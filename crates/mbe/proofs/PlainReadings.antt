@@ -9,7 +9,7 @@ use Rattle.mbe_tt.specs.declared.tt.Delimiter.{Delimiter}
 use Rattle.mbe_tt.proofs.CutLemmas.{flat_len-append, no_true, both_left, both_right}
 use Rattle.mbe_tt.proofs.PlaceLemmas.{rest_at-append, rest_at-in_group, rest_at-zero}
 use Rattle.mbe.specs.declared.parser.MetaVarKind.{MetaVarKind}
-use Rattle.mbe.specs.declared.expander.matcher.Bindings as found
+use Rattle.mbe.specs.declared.expander.bindings.Bindings as found
 use Rattle.mbe.specs.Op as ops
 use Rattle.mbe.specs.Op.{Name, Token, Op, Ops, no_ops, op, op_has_no_repetition, has_no_repetition}
 use Rattle.mbe.specs.Item.{Fragment, style_of, Item, matched, bound, grouped, Items, no_items, item, item_width, items_width}

@@ -11,7 +11,7 @@ use Rattle.mbe.specs.Takes.{takes}
 use Rattle.mbe.specs.Fit.{token_front}
 use Rattle.mbe.specs.Environment.{Environment, value_of, bind, bind_item, environment_of}
 use Rattle.mbe.specs.Ambiguity.{IsReading, Fits}
-use Rattle.mbe.specs.declared.expander.matcher.Bindings as found
+use Rattle.mbe.specs.declared.expander.bindings.Bindings as found
 use Rattle.mbe.specs.Views.{bound_by}
 
 -- ---- what is read from the front, and the trees behind it

@@ -14,12 +14,15 @@ use Rattle.mbe.specs.declared.macros.Rule as written
 use Rattle.mbe.specs.Op as ops
 use Rattle.mbe.specs.Op.{Op, Ops, no_ops, op, token, group, variable, repetition, expression, literal, ident, puncts, Separator, Element}
 use Rattle.mbe.specs.Definition.{Rule}
-use Rattle.mbe.specs.declared.expander.matcher.Bindings as found
+use Rattle.mbe.specs.declared.expander.bindings.Bindings as found
+use Rattle.mbe.specs.declared.expander.bindings.Binding as bound
+use Rattle.mbe.specs.declared.expander.bindings.Binding.{fold-Binding}
+use Rattle.mbe.specs.declared.expander.bindings.Binding.TheOpen.{Binding-F}
 use Rattle.mbe.specs.declared.expander.Fragment as took
 use Rattle.mbe.specs.declared.expander.TokensOrigin.{TokensOrigin}
 use Rattle.mbe.specs.declared.expander.TokensOrigin.TheVariants.{Raw, Ast}
 use Rattle.mbe.specs.Item.{Fragment, Style, plain, stripped, as_expression, as_path}
-use Rattle.mbe.specs.Environment.{Environment, fragment}
+use Rattle.mbe.specs.Environment.{Environment, Value, fragment, list, empty, missing, Values, no_values, value}
 
 abbrev pub all_of : List Op → Ops
 all_of [] = no_ops
@@ -35,6 +38,9 @@ abbrev pub element_seen : {A : Type 0} → part.ConcatMetaVarExprElem A → Elem
 element_seen (part.TheVariants.Ident i) = ops.ident_element (ident_of i)
 element_seen (part.TheVariants.Var i) = ops.variable_element (ident_of i)
 element_seen (part.TheVariants.Literal l) = ops.literal_element (literal_of l)
+
+abbrev pub elements_seen : {A : Type 0} → List (part.ConcatMetaVarExprElem A) → List Element
+elements_seen es = map element_seen es
 
 -- one level, with the ops inside already seen
 abbrev pub op_step : {A : Type 0} → Op-F A Op Ops → Op
@@ -83,6 +89,26 @@ fragment_seen (took.TheVariants.Tokens tree origin) = record { trees = trees tre
 fragment_seen (took.TheVariants.Expr tree) = record { trees = trees tree; style = as_expression }
 fragment_seen (took.TheVariants.Path tree) = record { trees = trees tree; style = as_path }
 
+-- the values of a list
+abbrev pub all_values : List Value → Values
+all_values [] = no_values
+all_values (v ∷ vs) = value v (all_values vs)
+
+-- one level, with the values inside already seen
+abbrev pub value_step : {A : Type 0} → Binding-F A Value → Value
+value_step (Binding-F.Fragment x) = fragment (fragment_seen x)
+value_step (Binding-F.Nested vs) = list (all_values vs.items)
+value_step Binding-F.Empty = empty
+value_step (Binding-F.Missing kind) = missing kind
+
+-- what a name is bound to
+abbrev pub value_seen : {A : Type 0} → bound.Binding A → Value
+value_seen {A} = fold-Binding A Value value_step
+
+-- the values of a list of the code
+abbrev pub values_seen : {A : Type 0} → List (bound.Binding A) → Values
+values_seen vs = all_values (map value_seen vs)
+
 -- what was bound, as an environment
 abbrev pub bound_by : {A : Type 0} → found.Bindings A → Environment
-bound_by b = map (λ e. (e.0, fragment (fragment_seen e.1))) b.inner.entries
+bound_by b = map (λ e. (e.0, value_seen e.1)) b.inner.entries

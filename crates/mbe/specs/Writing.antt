@@ -1,60 +1,50 @@
 -- What the transcriber writes behind the trees that are there.
-use Rattle.std.specs.Prelude.{◌≡◌, ◌&&◌, Bool, true, false, List, [], Option, Some}
-use Rattle.std.specs.List.{list_any}
+use Rattle.std.specs.Prelude.{◌≡◌, ℕ, Bool, true, false, List, length, Option, Some, None}
 use Rattle.mbe_tt.specs.declared.span.Span.{Span}
 use Rattle.mbe_tt.specs.declared.tt.Punct.{Punct}
 use Rattle.mbe_tt.specs.Leaf.{Literal, Ident}
 use Rattle.mbe_tt.specs.Grammar.{Grammar}
 use Rattle.mbe_tt.specs.Tree.{Forest, alone, strip_invisible}
 use Rattle.mbe_tt.specs.Building.{Levels, put}
-use Rattle.mbe.specs.Op as ops
-use Rattle.mbe.specs.Op.{Name, Op, Ops, no_ops, op, Use, used_name}
-use Rattle.mbe.specs.Item.{Style, plain, stripped, as_expression, as_path}
-use Rattle.mbe.specs.Environment.{Environment, Value, fragment, value_of}
-use Rattle.mbe.specs.Substitution.{AreMarkedPuncts, Writes, Substitutes, unbound_variable}
+use Rattle.mbe.specs.Op.{Name, Separator, Op, Ops}
+use Rattle.mbe.specs.Item.{Style, stripped}
+use Rattle.mbe.specs.Environment.{Environment, value_of}
+use Rattle.mbe.specs.Rounds.{Path, followed, level}
+use Rattle.mbe.specs.Substitution.{AreMarkedPuncts, Writes, Substitutes, AreRounds, IsVariable, IsConcat, separator_trees, integer, faults, any_below}
 
 -- such trees come at the end of the innermost open group
 unfoldable pub Appends : (Forest → Type 0) → Levels → Levels → Type 0
 Appends P old new = (made : Forest) × P made × (new ≡ put made old)
 
--- no repetition and no metavariable expression stands in the ops
-abbrev mutual
-  pub writes_plainly_op : Op → Bool
-  writes_plainly_op (ops.token t) = true
-  writes_plainly_op (ops.group d body) = writes_plainly body
-  writes_plainly_op (ops.variable name kind span) = true
-  writes_plainly_op (ops.repetition body separator repeat) = false
-  writes_plainly_op (ops.expression e) = false
+-- What a call that writes did: whether it met a fault, and, where there is none to meet, what it wrote. The groups that were
+-- open are open still.
+pub record Wrote (fault faulty : Bool) (P : Forest → Type 0) (old new : Levels) : Type 0 where
+  pub told : fault ≡ faulty
+  pub groups : length new ≡ length old
+  pub written : faulty ≡ false → Appends P old new
 
-  pub writes_plainly : Ops → Bool
-  writes_plainly no_ops = true
-  writes_plainly (op o os) = writes_plainly_op o && writes_plainly os
+-- a separator where one goes here, and else nothing
+abbrev pub IsParted : Option Separator → Bool → Levels → Levels → Type 0
+IsParted separator true old new = new ≡ put (separator_trees separator) old
+IsParted separator false old new = new ≡ old
+
+-- some round of these faults
+abbrev pub rounds_fault : Environment → Path → Ops → ℕ → Bool
+rounds_fault env path body rounds = any_below (λ i. faults env (level i rounds path) body) rounds
+
+-- an integer of that number
+unfoldable pub IsNumber : ℕ → Span → Forest → Type 0
+IsNumber n span out = out ≡ integer n span
+
+-- the texts of elements, joined: of all of them, or with a fault of those that have one
+abbrev pub IsJoined : List ℕ → Bool → Option (List ℕ) → Type 0
+IsJoined text fault None = fault ≡ true
+IsJoined text fault (Some joined) = (fault ≡ false) × (text ≡ joined)
 
 -- a fragment that is written as it is, or without an invisible group around it
 abbrev pub plain_fragment : Style → Forest → Forest
 plain_fragment stripped f = alone (strip_invisible f)
 plain_fragment _ f = alone f
-
--- what a name's value writes where it is written so; an unbound name is written as it stands
-abbrev pub plain_variable : Name → Span → Option Value → Forest
-plain_variable name span (Some (fragment x)) = plain_fragment x.style x.trees
-plain_variable name span _ = unbound_variable name span
-
--- an expression or a path, which isn't written yet
-abbrev pub is_unwritten : Style → Bool
-is_unwritten plain = false
-is_unwritten stripped = false
-is_unwritten as_expression = true
-is_unwritten as_path = true
-
--- a name's value has such a style
-abbrev pub is_unwritten_value : Option Value → Bool
-is_unwritten_value (Some (fragment x)) = is_unwritten x.style
-is_unwritten_value _ = false
-
--- one of the names has such a value
-abbrev pub some_unwritten : Environment → List Use → Bool
-some_unwritten env us = list_any (λ u. is_unwritten_value (value_of env (used_name u))) us
 
 -- `Marks s t`: the marker may answer t for s
 module _ (Marks : Span → Span → Type 0) where
@@ -70,10 +60,25 @@ module _ (Marks : Span → Span → Type 0) where
   unfoldable pub AreMarked : List Punct → Forest → Type 0
   AreMarked ps out = (g : Grammar) (call_site : Span) (env : Environment) → AreMarkedPuncts g Marks call_site env ps out
 
-  -- the op writes these trees outside all repetitions, whatever the grammar and the call site are
-  unfoldable pub IsWritten : Environment → Op → Forest → Type 0
-  IsWritten env o out = (g : Grammar) (call_site : Span) → Writes g Marks call_site env [] o out
+  -- what a variable of that span writes for what its name is bound to
+  unfoldable pub IsVariableWritten : Span → Environment → Path → Name → Span → Forest → Type 0
+  IsVariableWritten call_site env path name span out =
+      (g : Grammar) → IsVariable g Marks call_site env name span (value_of env name) (followed env path name) out
+
+-- one identifier of that text, marked by the span
+unfoldable pub IsConcatWritten : Grammar → (Span → Span → Type 0) → Span → Option (List ℕ) → Forest → Type 0
+IsConcatWritten g Marks span text out = (call_site : Span) (env : Environment) → IsConcat g Marks call_site env span text out
+
+module _ (g : Grammar) (Marks : Span → Span → Type 0) (call_site : Span) (env : Environment) (path : Path) where
+  -- the op writes these trees in the rounds of the path
+  unfoldable pub IsWritten : Op → Forest → Type 0
+  IsWritten o out = Writes g Marks call_site env path o out
 
   -- the ops write these trees so, one after the other
-  unfoldable pub AreWritten : Environment → Ops → Forest → Type 0
-  AreWritten env os out = (g : Grammar) (call_site : Span) → Substitutes g Marks call_site env [] os out
+  unfoldable pub AreWritten : Ops → Forest → Type 0
+  AreWritten os out = Substitutes g Marks call_site env path os out
+
+  -- the first `done` of a number of rounds, with the separator between two of them
+  unfoldable pub AreRoundsWritten : Option Separator → Ops → ℕ → ℕ → Forest → Type 0
+  AreRoundsWritten separator body rounds done out =
+      AreRounds (separator_trees separator) (λ i. Substitutes g Marks call_site env (level i rounds path) body) done out

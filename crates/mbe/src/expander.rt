@@ -8,12 +8,12 @@ ghost use Rattle.mbe.specs.Item.{style_of};
 ghost use Rattle.mbe.specs.Views.{fragment_seen, rule_of, rules_seen};
 ghost use Rattle.mbe.specs.Marking.{MayMark};
 
+pub(crate) mod bindings;
 pub(crate) mod delimited;
 pub(crate) mod matcher;
 pub(crate) mod transcriber;
 
 use crate::error::{ExpandError, ExpandErrorKind};
-use crate::expander::transcriber::WriteError;
 use crate::macro_call_style::MacroCallStyle;
 use crate::macros::Rule;
 use crate::parser::MetaVarKind;
@@ -115,12 +115,9 @@ fn apply<A: Allocator + Copy, G: FragmentGrammar, M: Fn(Span) -> Span + Copy>(
     let Some(bindings) = matcher::match_(alloc, grammar, &rule.lhs, input.iter())? else {
         return Ok(None);
     };
-    if !transcriber::writes_plainly(&rule.rhs.0) {
-        return Ok(None);
-    }
-    match transcriber::transcribe(alloc, &rule.rhs, &bindings, marker, call_site) {
-        Ok(tree) => Ok(Some(tree)),
-        Err(WriteError::NotCarried) => Ok(None),
-        Err(WriteError::Memory) => Err(AllocError),
+    let written = transcriber::transcribe(alloc, grammar, &rule.rhs, &bindings, marker, call_site)?;
+    match written.err {
+        Some(_) => Ok(None),
+        None => Ok(Some(written.value)),
     }
 }

@@ -11,49 +11,14 @@ ghost use Rattle.mbe.specs.Takes.{takes, ident_front, lifetime_front, literal_fr
 ghost use Rattle.mbe.specs.Views.{IsTaken, bound_by, fragment_seen, op_of, ops_of, template_of};
 
 use crate::expander::Fragment;
+use crate::expander::bindings::{Binding, Bindings};
 use crate::fragment::eat_front;
 use crate::parser::{ExprKind, MetaTemplate, MetaVarKind, Op, same_chars};
 use mbe_tt::grammar::{FragmentGrammar, PrefixEntryPoint};
 use mbe_tt::iter::{TtElement, TtIter};
-use mbe_tt::symbol::Symbol;
 use mbe_tt::tt::{Delimiter, Ident, IdentIsRaw, Leaf, Literal, Punct};
 use mbe_tt::view::TokenTreesView;
-use std::alloc::{AllocError, Allocator, Global};
-use std::collections::HashMap;
-use std::hash::{BuildHasherDefault, FoldHasher};
-
-/// What a match binds: the fragment that each variable took.
-#[derive(Drop)]
-pub(crate) struct Bindings<'a, A: Allocator = Global> {
-    inner: HashMap<Symbol<A>, Fragment<'a, A>, BuildHasherDefault<FoldHasher>, A>,
-}
-
-impl<'a, A: Allocator + Copy> Bindings<'a, A> {
-    fn new(alloc: A) -> Bindings<'a, A>
-        ensures { bound_by result ≡ [] }
-    {
-        Bindings {
-            inner: HashMap::new(alloc),
-        }
-    }
-
-    fn insert(&mut self, name: &Symbol<A>, fragment: Fragment<'a, A>) -> Result<(), AllocError>
-        ensures ok { OnOk result (BindsAlike (bound_by self.new) (set_value (bound_by self.old) name.now (fragment_value (fragment_seen fragment.entry)))) }
-        ensures err { OnErr result (bound_by self.new ≡ bound_by self.old) }
-    {
-        let _replaced = self.inner.insert(name.clone()?, fragment)?;
-        Ok(())
-    }
-}
-
-impl<'a, A: Allocator> Bindings<'a, A> {
-    // What the variable took, if it is bound.
-    pub(crate) fn get(&self, name: &Symbol<A>) -> Option<Fragment<'a, A>>
-        ensures { option_map (λ x. fragment_value (fragment_seen x)) result ≡ value_of (bound_by self.now) name.now }
-    {
-        self.inner.get(name).copied()
-    }
-}
+use std::alloc::{AllocError, Allocator};
 
 // What the pattern binds, where it reads the whole argument.
 pub(crate) fn match_<'a, A: Allocator + Copy, G: FragmentGrammar>(
@@ -111,7 +76,7 @@ fn match_op<'a, A: Allocator + Copy, G: FragmentGrammar>(
         }
         Op::Var { name, kind, .. } => match eat_fragment(grammar, *kind, src)? {
             Some(tree) => {
-                bindings.insert(name, Fragment::of_kind(*kind, tree))?;
+                bindings.insert(name, Binding::Fragment(Fragment::of_kind(*kind, tree)))?;
                 Ok(true)
             }
             None => Ok(false),
