@@ -1,14 +1,12 @@
 -- What names lead to in environments that differ in order alone, and in what a match binds.
 use Rattle.std.proofs.Common.{◌≡◌, Bool, true, false, List, [], ◌∷◌, Option, Some, None, if◌then◌else◌, option_map, refl, sym, ap, subst, ◌∙◌}
 use Rattle.std.specs.Str.{bytes_eq}
+use Rattle.std.specs.Prelude.{map}
+use Rattle.std.specs.Option.{option_copied}
+use Rattle.std.specs.Cmp.Lexicographic.{nat_list_eq_equiv}
+use denote.Bor.{Bor}
 use Rattle.std.specs.Map.{lookup}
 use Rattle.std.proofs.lemmas.Slice.Eq.{bytes_eq-Decides}
-use Rattle.mbe_bindings.specs.declared.bindings.Fragment as took
-use Rattle.mbe_bindings.specs.declared.bindings.Fragment.{Fragment}
-use Rattle.mbe_bindings.specs.declared.bindings.Bindings.{Bindings}
-use Rattle.mbe_bindings.specs.BindingViews.{fragment_seen, bound_by}
-use Rattle.std.specs.Prelude.{map}
-use Rattle.std.specs.Cmp.Lexicographic.{nat_list_eq_equiv}
 use Rattle.mbe_semantics.specs.Syntax.Op.{Name}
 use Rattle.mbe_semantics.specs.Readings.Item.{Item, matched, bound, grouped, skipped, rounds, Items, no_items, item, Rounds, no_rounds, round}
 use Rattle.mbe_semantics.specs.Bindings.Environment.{Environment, Value, fragment, list, empty, missing, value_of, set_value, grown, add_round, skip_names, bind_item, bind, bind_rounds}
@@ -16,37 +14,21 @@ use Rattle.mbe_semantics.specs.Bindings.Environment.{BindsAlike}
 
 -- ---- what a name is bound to
 
--- what a variable took, as the value that it is
-abbrev pub taken_value : {A : Type 0} → took.Fragment A → Value
-taken_value x = fragment (fragment_seen x)
+abbrev pub values_bound : {X : Type 0} → (X → Value) → List (Name × X) → Environment
+values_bound seen es = map (λ e. (e.0, seen e.1)) es
 
-abbrev pub values_taken : {A : Type 0} → List (Name × took.Fragment A) → Environment
-values_taken es = map (λ e. (e.0, taken_value e.1)) es
+seen_if : {X : Type 0} (seen : X → Value) (b c : Bool) (x : X) (r : Option X) (w : Option Value) → b ≡ c → option_map seen r ≡ w
+    → option_map seen (if b then Some x else r) ≡ (if c then Some (seen x) else w)
+seen_if seen true c x r w e h = rw (← e) refl
+seen_if seen false c x r w e h = rw (← e) h
 
-taken_if : {A : Type 0} (b c : Bool) (x : took.Fragment A) (r : Option (took.Fragment A)) (w : Option Value) → b ≡ c → option_map taken_value r ≡ w
-    → option_map taken_value (if b then Some x else r) ≡ (if c then Some (taken_value x) else w)
-taken_if true c x r w e h = rw (← e) refl
-taken_if false c x r w e h = rw (← e) h
+pub found_by_name : {X : Type 0} (seen : X → Value) (es : List (Name × X)) (name : Name) → option_map seen (lookup (bytes_eq name) es) ≡ value_of (values_bound seen es) name
+found_by_name seen [] name = refl
+found_by_name seen (e ∷ es) name = seen_if seen (bytes_eq name e.0) (bytes_eq e.0 name) e.1 _ _ (nat_list_eq_equiv.symm name e.0) (found_by_name seen es name)
 
-pub found_by_name : {A : Type 0} (es : List (Name × took.Fragment A)) (name : Name) → option_map taken_value (lookup (bytes_eq name) es) ≡ value_of (values_taken es) name
-found_by_name [] name = refl
-found_by_name (e ∷ es) name = taken_if (bytes_eq name e.0) (bytes_eq e.0 name) e.1 _ _ (nat_list_eq_equiv.symm name e.0) (found_by_name es name)
-
--- nothing, or a fragment
-abbrev pub IsOneFragment : Option Value → Type 0
-IsOneFragment None = Unit {0}
-IsOneFragment (Some (fragment x)) = Unit {0}
-IsOneFragment (Some (list vs)) = ⊥
-IsOneFragment (Some empty) = ⊥
-IsOneFragment (Some (missing kind)) = ⊥
-
-one_if : (b : Bool) (v w : Option Value) → IsOneFragment v → IsOneFragment w → IsOneFragment (if b then v else w)
-one_if true v w h k = h
-one_if false v w h k = k
-
-pub each_one : {A : Type 0} (es : List (Name × took.Fragment A)) (name : Name) → IsOneFragment (value_of (values_taken es) name)
-each_one [] name = tt
-each_one (e ∷ es) name = one_if (bytes_eq e.0 name) (Some (taken_value e.1)) _ tt (each_one es name)
+pub seen_copied : {X Y : Type 0} (f : X → Y) (r : Option (Bor X)) → option_map (λ b. f b.now) r ≡ option_map f (option_copied r)
+seen_copied f None = refl
+seen_copied f (Some x) = refl
 
 -- ---- one name set
 
@@ -124,21 +106,16 @@ mutual
 
 -- ---- what the map of a match holds
 
-module _ {A : Type 0} where
-  looked : (b : Bool) (x : Fragment A) (w : Option (Fragment A)) →
-      (if b then Some (taken_value x) else option_map taken_value w) ≡ option_map taken_value (if b then Some x else w)
+module _ {X : Type 0} (seen : X → Value) where
+  looked : (b : Bool) (x : X) (w : Option X) → (if b then Some (seen x) else option_map seen w) ≡ option_map seen (if b then Some x else w)
   looked true x w = refl
   looked false x w = refl
 
   -- one entry put in
-  pub entries_updated : (es fs : List (Name × Fragment A)) (name : Name) (x : Fragment A) →
+  pub entries_updated : (es fs : List (Name × X)) (name : Name) (x : X) →
       ((q : Name) → lookup (bytes_eq q) fs ≡ (if bytes_eq name q then Some x else lookup (bytes_eq q) es)) →
-      BindsAlike (values_taken fs) (set_value (values_taken es) name (taken_value x))
+      BindsAlike (values_bound seen fs) (set_value (values_bound seen es) name (seen x))
   entries_updated es fs name x h = λ q.
-      sym (found_by_name fs q) ∙ (ap (option_map taken_value) (h q) ∙ (sym (looked (bytes_eq name q) x (lookup (bytes_eq q) es))
-      ∙ (ap (λ (w : Option Value). if bytes_eq name q then Some (taken_value x) else w) (found_by_name es q)
-      ∙ sym (value_of-set_value (values_taken es) name q (taken_value x)))))
-
--- each name is bound to one fragment, or to nothing
-pub each_bound : {A : Type 0} (b : Bindings A) (name : Name) → IsOneFragment (value_of (bound_by b) name)
-each_bound b = each_one b.inner.entries
+      sym (found_by_name seen fs q) ∙ (ap (option_map seen) (h q) ∙ (sym (looked (bytes_eq name q) x (lookup (bytes_eq q) es))
+      ∙ (ap (λ (w : Option Value). if bytes_eq name q then Some (seen x) else w) (found_by_name seen es q)
+      ∙ sym (value_of-set_value (values_bound seen es) name q (seen x)))))

@@ -1,12 +1,15 @@
 -- What the code's fragments and bindings are, whatever memory holds them.
-use Rattle.std.specs.Prelude.{map}
+use Rattle.std.specs.Prelude.{List, [], ◌∷◌, map}
 use Rattle.mbe_tt.specs.View.{trees}
 use Rattle.mbe_bindings.specs.declared.bindings.Bindings as found
+use Rattle.mbe_bindings.specs.declared.bindings.Binding as bound
+use Rattle.mbe_bindings.specs.declared.bindings.Binding.{fold-Binding}
+use Rattle.mbe_bindings.specs.declared.bindings.Binding.TheOpen.{Binding-F}
 use Rattle.mbe_bindings.specs.declared.bindings.Fragment as took
 use Rattle.mbe_bindings.specs.declared.bindings.TokensOrigin.{TokensOrigin}
 use Rattle.mbe_bindings.specs.declared.bindings.TokensOrigin.TheVariants.{Raw, Ast}
 use Rattle.mbe_semantics.specs.Readings.Item.{Fragment, Style, plain, stripped, as_expression, as_path}
-use Rattle.mbe_semantics.specs.Bindings.Environment.{Environment, fragment}
+use Rattle.mbe_semantics.specs.Bindings.Environment.{Environment, Value, fragment, list, empty, missing, Values, no_values, value}
 
 -- the style of a fragment of tokens: one that the grammar was asked for keeps an invisible group around it
 abbrev pub origin_style : TokensOrigin → Style
@@ -19,6 +22,26 @@ fragment_seen (took.TheVariants.Tokens tree origin) = record { trees = trees tre
 fragment_seen (took.TheVariants.Expr tree) = record { trees = trees tree; style = as_expression }
 fragment_seen (took.TheVariants.Path tree) = record { trees = trees tree; style = as_path }
 
+-- the values of a list
+abbrev pub all_values : List Value → Values
+all_values [] = no_values
+all_values (v ∷ vs) = value v (all_values vs)
+
+-- one level, with the values inside already seen
+abbrev pub value_step : {A : Type 0} → Binding-F A Value → Value
+value_step (Binding-F.Fragment x) = fragment (fragment_seen x)
+value_step (Binding-F.Nested vs) = list (all_values vs.items)
+value_step Binding-F.Empty = empty
+value_step (Binding-F.Missing kind) = missing kind
+
+-- what a name is bound to
+abbrev pub value_seen : {A : Type 0} → bound.Binding A → Value
+value_seen {A} = fold-Binding A Value value_step
+
+-- the values of a list of the code
+abbrev pub values_seen : {A : Type 0} → List (bound.Binding A) → Values
+values_seen vs = all_values (map value_seen vs)
+
 -- what was bound, as an environment
 abbrev pub bound_by : {A : Type 0} → found.Bindings A → Environment
-bound_by b = map (λ e. (e.0, fragment (fragment_seen e.1))) b.inner.entries
+bound_by b = map (λ e. (e.0, value_seen e.1)) b.inner.entries

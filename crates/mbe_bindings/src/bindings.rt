@@ -1,10 +1,10 @@
 // What variables are bound to.
 ghost use Rattle.std.specs.Prelude.{◌≡◌, [], OnOk, OnErr, option_map};
 ghost use Rattle.mbe_tt.specs.View.{trees};
-ghost use Rattle.mbe_semantics.specs.Bindings.Environment.{set_value, value_of, fragment as fragment_value};
+ghost use Rattle.mbe_semantics.specs.Bindings.Environment.{set_value, value_of};
 ghost use Rattle.mbe_semantics.specs.Readings.Item.{style_of};
 ghost use Rattle.mbe_semantics.specs.Bindings.Environment.{BindsAlike};
-ghost use Rattle.mbe_bindings.specs.BindingViews.{bound_by, fragment_seen};
+ghost use Rattle.mbe_bindings.specs.BindingViews.{bound_by, fragment_seen, value_seen};
 
 use mbe_semantics::kinds::MetaVarKind;
 use mbe_tt::symbol::Symbol;
@@ -54,10 +54,22 @@ impl<'a, A: Allocator> Fragment<'a, A> {
     }
 }
 
-/// What a match binds: the fragment that each variable took.
+/// What a name is bound to.
+#[derive(Drop)]
+pub enum Binding<'a, A: Allocator = Global> {
+    Fragment(Fragment<'a, A>),
+    /// A value for each round.
+    Nested(Vec<Binding<'a, A>, A>),
+    /// The repetition was skipped.
+    Empty,
+    /// A variable that took nothing fitting, in a match that failed.
+    Missing(MetaVarKind),
+}
+
+/// What each name is bound to.
 #[derive(Drop)]
 pub struct Bindings<'a, A: Allocator = Global> {
-    inner: HashMap<Symbol<A>, Fragment<'a, A>, BuildHasherDefault<FoldHasher>, A>,
+    inner: HashMap<Symbol<A>, Binding<'a, A>, BuildHasherDefault<FoldHasher>, A>,
 }
 
 impl<'a, A: Allocator + Copy> Bindings<'a, A> {
@@ -69,20 +81,24 @@ impl<'a, A: Allocator + Copy> Bindings<'a, A> {
         }
     }
 
-    pub fn insert(&mut self, name: &Symbol<A>, fragment: Fragment<'a, A>) -> Result<(), AllocError>
-        ensures ok { OnOk result (BindsAlike (bound_by self.new) (set_value (bound_by self.old) name.now (fragment_value (fragment_seen fragment.entry)))) }
+    pub fn insert(
+        &mut self,
+        name: &Symbol<A>,
+        binding: Binding<'a, A>,
+    ) -> Result<(), AllocError>
+        ensures ok { OnOk result (BindsAlike (bound_by self.new) (set_value (bound_by self.old) name.now (value_seen binding.entry))) }
         ensures err { OnErr result (bound_by self.new ≡ bound_by self.old) }
     {
-        let _replaced = self.inner.insert(name.clone()?, fragment)?;
+        let _replaced = self.inner.insert(name.clone()?, binding)?;
         Ok(())
     }
 }
 
 impl<'a, A: Allocator> Bindings<'a, A> {
-    // What the variable took, if it is bound.
-    pub fn get(&self, name: &Symbol<A>) -> Option<Fragment<'a, A>>
-        ensures { option_map (λ x. fragment_value (fragment_seen x)) result ≡ value_of (bound_by self.now) name.now }
+    /// What the name is bound to, if it is bound.
+    pub fn get(&self, name: &Symbol<A>) -> Option<&Binding<'a, A>>
+        ensures { option_map (λ b. value_seen b.now) result ≡ value_of (bound_by self.now) name.now }
     {
-        self.inner.get(name).copied()
+        self.inner.get(name)
     }
 }

@@ -9,8 +9,7 @@ use Rattle.mbe_semantics.specs.Syntax.Op.{Name, Op, Ops, no_ops, op, has_no_repe
 use Rattle.mbe_semantics.specs.Readings.Item.{Item, matched, bound, grouped, Items, no_items, item, style_of}
 use Rattle.mbe_semantics.specs.Fragments.Takes.{takes}
 use Rattle.mbe_semantics.specs.Readings.Fit.{token_front}
-use Rattle.mbe_semantics.specs.Bindings.Environment.{Environment, bind, bind_item, environment_of}
-use Rattle.mbe_semantics.specs.Bindings.Environment.{BindsAlike}
+use Rattle.mbe_semantics.specs.Bindings.Environment.{Environment, BindsAlike, bind, bind_item, environment_of}
 use Rattle.mbe_semantics.specs.Readings.Ambiguity.{IsReading, Fits}
 use Rattle.mbe_bindings.specs.declared.bindings.Bindings as found
 use Rattle.mbe_bindings.specs.BindingViews.{bound_by}

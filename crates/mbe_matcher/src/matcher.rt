@@ -11,7 +11,7 @@ ghost use Rattle.mbe_ops.specs.Views.{IsTaken, op_of, ops_of, template_of};
 ghost use Rattle.mbe_bindings.specs.BindingViews.{bound_by};
 
 use crate::fragment::eat_front;
-use mbe_bindings::bindings::{Bindings, Fragment};
+use mbe_bindings::bindings::{Binding, Bindings, Fragment};
 use mbe_ops::ops::{MetaTemplate, Op, same_chars};
 use mbe_semantics::kinds::{ExprKind, MetaVarKind};
 use mbe_tt::grammar::{FragmentGrammar, PrefixEntryPoint};
@@ -76,7 +76,7 @@ fn match_op<'a, A: Allocator + Copy, G: FragmentGrammar>(
         }
         Op::Var { name, kind, .. } => match eat_fragment(grammar, *kind, src)? {
             Some(tree) => {
-                bindings.insert(name, Fragment::of_kind(*kind, tree))?;
+                bindings.insert(name, Binding::Fragment(Fragment::of_kind(*kind, tree)))?;
                 Ok(true)
             }
             None => Ok(false),

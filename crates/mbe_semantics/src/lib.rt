@@ -3,3 +3,4 @@
 
 pub mod kinds;
 pub mod macro_call_style;
+pub mod rounds;

@@ -108,6 +108,11 @@ abbrev pub index_of : Option Level → ℕ
 index_of None = 0
 index_of (Some l) = l.index
 
+-- the number of a level's rounds, 0 where there is none
+abbrev pub rounds_in : Option Level → ℕ
+rounds_in None = 0
+rounds_in (Some l) = l.rounds
+
 -- the number that `count` writes
 abbrev pub total_of : ℕ → Option Value → ℕ
 total_of depth None = 0
@@ -160,12 +165,12 @@ module _ (g : Grammar) (Marks : Span → Span → Type 0) (call_site : Span) (en
       (marked : Span) × Marks span marked
       × (out ≡ leaf (ident (record { sym = text; is_raw = rawness (g.is_keyword text); span = marked })) none)
 
-  -- what a metavariable expression writes; `len` writes 0
+  -- what a metavariable expression writes
   abbrev pub IsExpression : Path → Expression → Forest → Type 0
   IsExpression path (ignore name span) out = out ≡ none
   IsExpression path (count name depth) out = out ≡ integer (total_of depth (followed env path name)) call_site
   IsExpression path (index depth) out = out ≡ integer (index_of (level_at path depth)) call_site
-  IsExpression path (len depth) out = out ≡ integer 0 call_site
+  IsExpression path (len depth) out = out ≡ integer (rounds_in (level_at path depth)) call_site
   IsExpression path (concat elements span) out = IsConcat span (concat_text env path elements) out
 
   -- the op writes these trees, in the rounds of the path
