@@ -19,7 +19,8 @@ use Rattle.mbe_bindings.specs.declared.bindings.Fragment.{Fragment as Took}
 use Rattle.mbe_bindings.specs.declared.bindings.Binding.{Binding, Fragment, Nested, Empty, Missing, the_lemmas}
 use Rattle.mbe_semantics.specs.Syntax.Op.{Name, Op, Ops, op, no_ops, repetition, Use, used_name, uses_of, uses_of_op}
 use Rattle.mbe_semantics.specs.Bindings.Environment.{Environment, value_of, Value, fragment, list, empty, missing}
-use Rattle.mbe_semantics.specs.Writing.Rounds.{member, value_count, follow, reach, Level, Path, level_at, value_total, totals, Extent, finite, endless, lesser, least_extent, extent_over, extent_of, extent_under}
+use Rattle.mbe_semantics.specs.declared.rounds.Level.{Level}
+use Rattle.mbe_semantics.specs.Writing.Rounds.{member, value_count, follow, reach, Path, level_at, value_total, totals, Extent, finite, endless, lesser, least_extent, extent_over, extent_of, extent_under}
 use Rattle.mbe_transcriber.specs.Counting.{shorter, shortest, use_seen}
 use Rattle.mbe_bindings.specs.BindingViews.{value_seen, values_seen, fragment_seen}
 use Rattle.mbe_ops.specs.Views.{op_of, ops_of, separator_seen}

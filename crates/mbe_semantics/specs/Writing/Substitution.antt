@@ -18,7 +18,8 @@ use Rattle.mbe_semantics.specs.Syntax.Op.{Name, Token, Separator, ident_separato
 use Rattle.mbe_tt.specs.Grammar.{Grammar}
 use Rattle.mbe_semantics.specs.Bindings.Environment.{Value, fragment, missing, Environment, value_of}
 use Rattle.mbe_semantics.specs.Bindings.Missing.{default_trees}
-use Rattle.mbe_semantics.specs.Writing.Rounds.{Path, Level, followed, Extent, finite, endless, kept_rounds, level, level_at, value_total}
+use Rattle.mbe_semantics.specs.declared.rounds.Level.{Level}
+use Rattle.mbe_semantics.specs.Writing.Rounds.{Path, followed, Extent, finite, endless, kept_rounds, level, level_at, value_total}
 use Rattle.mbe_semantics.specs.Writing.Concat.{concat_text}
 use Rattle.mbe_semantics.specs.Writing.Written.{IsWrittenAs}
 

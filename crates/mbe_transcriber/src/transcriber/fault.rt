@@ -1,4 +1,9 @@
 // Why a template can't be written, before memory is asked for the text.
+ghost use Rattle.std.specs.Prelude.{◌≡◌, IfOk};
+ghost use Rattle.mbe_errors.specs.ErrorViews.{error_of, kind_of as kind_seen};
+ghost use Rattle.mbe_semantics.specs.Expansion.Error.{binding_error};
+ghost use Rattle.mbe_transcriber.specs.FaultViews.{about_binding, kind_of_fault, error_of_fault};
+
 use mbe_errors::error::{ExpandError, ExpandErrorKind};
 use mbe_tt::span::Span;
 use mbe_tt::symbol::Symbol;
@@ -36,7 +41,9 @@ pub(crate) enum FaultKind<'t, A: Allocator> {
 
 impl<A: Allocator + Copy> Fault<'_, A> {
     /// The same, with its text.
-    pub(crate) fn error(self, alloc: A) -> Result<ExpandError<A>, AllocError> {
+    pub(crate) fn error(self, alloc: A) -> Result<ExpandError<A>, AllocError>
+        ensures { IfOk result (λ e. error_of e ≡ error_of_fault self) }
+    {
         ExpandError::new(alloc, self.span, kind_of(alloc, self.kind)?)
     }
 }
@@ -44,7 +51,9 @@ impl<A: Allocator + Copy> Fault<'_, A> {
 fn kind_of<A: Allocator + Copy>(
     alloc: A,
     kind: FaultKind<'_, A>,
-) -> Result<ExpandErrorKind<A>, AllocError> {
+) -> Result<ExpandErrorKind<A>, AllocError>
+    ensures { IfOk result (λ k. kind_seen k ≡ kind_of_fault kind) }
+{
     match kind {
         FaultKind::Unresolved(name) => Ok(ExpandErrorKind::UnresolvedBinding(String::from_str(
             alloc,
@@ -67,7 +76,9 @@ fn kind_of<A: Allocator + Copy>(
     }
 }
 
-fn told<A: Allocator + Copy>(alloc: A, text: &str) -> Result<ExpandErrorKind<A>, AllocError> {
+fn told<A: Allocator + Copy>(alloc: A, text: &str) -> Result<ExpandErrorKind<A>, AllocError>
+    ensures { IfOk result (λ k. kind_seen k ≡ binding_error text.now) }
+{
     Ok(ExpandErrorKind::BindingError(String::from_str(alloc, text)?))
 }
 
@@ -76,7 +87,9 @@ fn named<A: Allocator + Copy>(
     alloc: A,
     words: &str,
     name: &Symbol<A>,
-) -> Result<ExpandErrorKind<A>, AllocError> {
+) -> Result<ExpandErrorKind<A>, AllocError>
+    ensures { IfOk result (λ k. kind_seen k ≡ about_binding words.now name.now) }
+{
     let name = name.as_str();
     let mut text = String::from_str(alloc, words)?;
     text.push_str(" binding `")?;
