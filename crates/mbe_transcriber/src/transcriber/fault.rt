@@ -42,7 +42,7 @@ pub(crate) enum FaultKind<'t, A: Allocator> {
 impl<A: Allocator + Copy> Fault<'_, A> {
     /// The same, with its text.
     pub(crate) fn error(self, alloc: A) -> Result<ExpandError<A>, AllocError>
-        ensures { IfOk result (λ e. error_of e ≡ error_of_fault self) }
+        ensures { IfOk result (λ e. error_of e ≡ error_of_fault self.entry) }
     {
         ExpandError::new(alloc, self.span, kind_of(alloc, self.kind)?)
     }
@@ -52,7 +52,7 @@ fn kind_of<A: Allocator + Copy>(
     alloc: A,
     kind: FaultKind<'_, A>,
 ) -> Result<ExpandErrorKind<A>, AllocError>
-    ensures { IfOk result (λ k. kind_seen k ≡ kind_of_fault kind) }
+    ensures { IfOk result (λ k. kind_seen k ≡ kind_of_fault kind.entry) }
 {
     match kind {
         FaultKind::Unresolved(name) => Ok(ExpandErrorKind::UnresolvedBinding(String::from_str(
