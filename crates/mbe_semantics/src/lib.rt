@@ -2,4 +2,5 @@
 #![tactic(auto)]
 
 pub mod kinds;
+pub mod log;
 pub mod macro_call_style;

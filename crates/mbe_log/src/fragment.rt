@@ -1,0 +1,45 @@
+// What a variable took.
+ghost use Rattle.std.specs.Prelude.{◌≡◌, IfOk};
+ghost use Rattle.mbe_log.specs.BindingViews.{fragment_seen};
+
+use mbe_tt::buffer::TopSubtree;
+use mbe_tt::view::TokenTreesView;
+use std::alloc::{AllocError, Allocator, Global};
+
+/// Whether tokens were taken as such, or because the grammar found a fragment in them.
+#[derive(Clone, Copy, Debug, Drop, PartialEq, Eq)]
+pub enum TokensOrigin {
+    Raw,
+    Ast,
+}
+
+/// What a variable took.
+#[derive(Drop)]
+pub enum Fragment<'a, A: Allocator = Global> {
+    Empty,
+    Tokens {
+        tree: TokenTreesView<'a, A>,
+        origin: TokensOrigin,
+    },
+    Expr(TokenTreesView<'a, A>),
+    Path(TokenTreesView<'a, A>),
+    TokensOwned(TopSubtree<A>),
+}
+
+impl<'a, A: Allocator + Copy> Fragment<'a, A> {
+    /// An equal copy. `AllocError` for want of memory.
+    pub fn try_clone(&self) -> Result<Fragment<'a, A>, AllocError>
+        ensures { IfOk result (λ x. fragment_seen x ≡ fragment_seen self.now) }
+    {
+        match self {
+            Fragment::Empty => Ok(Fragment::Empty),
+            Fragment::Tokens { tree, origin } => Ok(Fragment::Tokens {
+                tree: *tree,
+                origin: *origin,
+            }),
+            Fragment::Expr(tree) => Ok(Fragment::Expr(*tree)),
+            Fragment::Path(tree) => Ok(Fragment::Path(*tree)),
+            Fragment::TokensOwned(tree) => Ok(Fragment::TokensOwned(tree.try_clone()?)),
+        }
+    }
+}
