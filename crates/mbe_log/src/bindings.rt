@@ -1,5 +1,5 @@
 // What the names of a match are bound to.
-ghost use Rattle.std.specs.Prelude.{◌≡◌, ◌+◌, [], length, map, IfOk, OnOk, option_map};
+ghost use Rattle.std.specs.Prelude.{◌≡◌, ◌+◌, [], length, map, OnOk, OnErr, option_map};
 ghost use Rattle.indexmap.specs.IndexMap.{index_map_len};
 ghost use Rattle.mbe_semantics.specs.Bindings.Environment.{add_value, set_value, value_of};
 ghost use Rattle.mbe_semantics.specs.Bindings.Account.{add_round_in, filled, grown_in};
@@ -47,7 +47,8 @@ impl<'a, A: Allocator> Bindings<'a, A> {
 }
 
 impl<'a, A: Allocator + Copy> Bindings<'a, A> {
-    pub(crate) fn new(alloc: A) -> Bindings<'a, A>
+    /// No name is bound.
+    pub fn new(alloc: A) -> Bindings<'a, A>
         ensures { bound_by result ≡ [] }
     {
         Bindings {
@@ -55,9 +56,18 @@ impl<'a, A: Allocator + Copy> Bindings<'a, A> {
         }
     }
 
-    // The name has this value now, whatever it had.
-    pub(crate) fn insert(&mut self, name: Symbol<A>, value: Binding<'a, A>) -> Result<(), AllocError>
-        ensures { OnOk result (bound_by self.new ≡ set_value (bound_by self.old) name (value_seen value.entry)) }
+    /// The name is bound to this now, whatever it was bound to. `AllocError` if out of memory.
+    pub fn insert(&mut self, name: &Symbol<A>, value: Binding<'a, A>) -> Result<(), AllocError>
+        ensures ok { OnOk result (bound_by self.new ≡ set_value (bound_by self.old) name.now (value_seen value.entry)) }
+        ensures err { OnErr result (bound_by self.new ≡ bound_by self.old) }
+    {
+        self.put(name.clone()?, value)?;
+        Ok(())
+    }
+
+    fn put(&mut self, name: Symbol<A>, value: Binding<'a, A>) -> Result<(), AllocError>
+        ensures ok { OnOk result (bound_by self.new ≡ set_value (bound_by self.old) name (value_seen value.entry)) }
+        ensures err { OnErr result (bound_by self.new ≡ bound_by self.old) }
     {
         let _replaced = self.inner.insert(name, value)?;
         Ok(())
@@ -85,7 +95,7 @@ impl<'a, A: Allocator + Copy> Bindings<'a, A> {
             None => {
                 let mut list = Binding::Nested(Vec::new(alloc));
                 grow_value(alloc, &mut list, number, value)?;
-                self.insert(name, list)?;
+                self.put(name, list)?;
                 Ok(())
             }
         }

@@ -1,7 +1,10 @@
 // What a variable took.
 ghost use Rattle.std.specs.Prelude.{◌≡◌, IfOk};
+ghost use Rattle.mbe_tt.specs.View.{trees};
+ghost use Rattle.mbe_semantics.specs.Readings.Item.{style_of};
 ghost use Rattle.mbe_log.specs.BindingViews.{fragment_seen};
 
+use mbe_semantics::kinds::MetaVarKind;
 use mbe_tt::buffer::TopSubtree;
 use mbe_tt::view::TokenTreesView;
 use std::alloc::{AllocError, Allocator, Global};
@@ -40,6 +43,28 @@ impl<'a, A: Allocator + Copy> Fragment<'a, A> {
             Fragment::Expr(tree) => Ok(Fragment::Expr(*tree)),
             Fragment::Path(tree) => Ok(Fragment::Path(*tree)),
             Fragment::TokensOwned(tree) => Ok(Fragment::TokensOwned(tree.try_clone()?)),
+        }
+    }
+}
+
+impl<'a, A: Allocator> Fragment<'a, A> {
+    /// What a variable of the kind took.
+    pub fn of_kind(kind: Option<MetaVarKind>, tree: TokenTreesView<'a, A>) -> Fragment<'a, A>
+        ensures { fragment_seen result ≡ record { trees = trees tree.entry; style = style_of kind } }
+    {
+        match kind {
+            Some(MetaVarKind::Expr(_)) => Fragment::Expr(tree),
+            Some(MetaVarKind::Path) => Fragment::Path(tree),
+            Some(
+                MetaVarKind::Ident | MetaVarKind::Tt | MetaVarKind::Lifetime | MetaVarKind::Literal,
+            ) => Fragment::Tokens {
+                tree,
+                origin: TokensOrigin::Raw,
+            },
+            _ => Fragment::Tokens {
+                tree,
+                origin: TokensOrigin::Ast,
+            },
         }
     }
 }

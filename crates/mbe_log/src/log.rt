@@ -335,13 +335,13 @@ fn bind_command<'a, A: Allocator + Copy>(
 {
     match command {
         Command::Fragment(name, fragment) => {
-            bindings.insert(name.clone()?, Binding::Fragment(fragment.try_clone()?))
+            bindings.insert(name, Binding::Fragment(fragment.try_clone()?))
         }
         Command::Optional(name) => {
-            bindings.insert(name.clone()?, Binding::Fragment(Fragment::Empty))
+            bindings.insert(name, Binding::Fragment(Fragment::Empty))
         }
-        Command::Empty(name) => bindings.insert(name.clone()?, Binding::Empty),
-        Command::Missing(name, kind) => bindings.insert(name.clone()?, Binding::Missing(*kind)),
+        Command::Empty(name) => bindings.insert(name, Binding::Empty),
+        Command::Missing(name, kind) => bindings.insert(name, Binding::Missing(*kind)),
         Command::Nested { finished, current } => {
             bind_rounds(alloc, commands, rounds, *finished, *current, depth - 1, bindings)
         }
