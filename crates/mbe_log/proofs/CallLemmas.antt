@@ -135,7 +135,7 @@ module _ (log : Log) (es : List Entry) (fs : List RoundEntry) where
   pub grounded-lists : (n : ℕ) → IsGrounded log n → (cs : Commands) → Gives log no_commands es cs → depth cs ≤ n →
       (rs : CommandRounds) → GivesRounds log no_command_rounds fs rs → rounds_depth rs ≤ n → IsGrounded with_lists n
   grounded-lists n g cs h d rs k e = grounded-round-list (with_list log es) fs n (grounded-list log es n g cs h d) rs
-    (rounds log (with_list log es) (more-list log.commands es) (more-itself log.rounds) k) e
+      (rounds log (with_list log es) (more-list log.commands es) (more-itself log.rounds) k) e
 
 -- ---- one entry more at the end of a list
 
@@ -151,7 +151,7 @@ get-appended {E} ess i j e fs h = go (same_or_not i j)
     go (inl k) =
         let t = there ess j j_there in
         let u : slice_get (appended ess i e) j ≡ Some (t.0 ++ e ∷ []) =
-          subst (λ x. slice_get (appended ess i e) x ≡ Some (t.0 ++ e ∷ [])) k (appended-same ess i e t.0 (subst (λ x. slice_get ess x ≡ Some t.0) (sym k) t.1)) in
+        subst (λ x. slice_get (appended ess i e) x ≡ Some (t.0 ++ e ∷ [])) k (appended-same ess i e t.0 (subst (λ x. slice_get ess x ≡ Some t.0) (sym k) t.1)) in
         let v : fs ≡ t.0 ++ e ∷ [] = cc in
         inr (t.0, t.1, k, v)
     go (inr n) = inl (sym (appended-other ess i j e n) ∙ h)
@@ -205,7 +205,7 @@ module _ (log : Log) (at : ℕ) (p : Part) where
           let a = g.rounds i s.0 s.1 in (
             command_round a.0 cs,
             subst (λ x. GivesRounds with_round no_command_rounds x (command_round a.0 cs)) (sym s.3)
-              (up (rounds_follow log a.1 (RoundEntry.finishes p ∷ []) (command_round a.0 cs) (round_one log a.0 p cs q))),
+                (up (rounds_follow log a.1 (RoundEntry.finishes p ∷ []) (command_round a.0 cs) (round_one log a.0 p cs q))),
             let b = a.2 in omega (arith, b, d),
           )
 

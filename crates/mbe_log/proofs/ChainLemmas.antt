@@ -34,11 +34,11 @@ module _ {T : Type 0} (lists : List (Chain T)) where
       subst (Flat lists start) (sym (ap reverse m ∙ reversed found (take (own_in l.link part.first) l.own)))
       (f.1 (take (own_in l.link part.first) l.own) (ends part l (take (own_in l.link part.first) l.own) h (sym n) refl))
   collected-step start part l found more (Some q) ch h f n m = (
-      (ch part.list l q h (link_some l.link part.first q (sym n))).1,
-      λ ys g. subst (Flat lists start) (append_assoc ys (take (own_in l.link part.first) l.own) (reverse found)
-      ∙ ap (λ x. ys ++ x) (sym (ap reverse m ∙ reversed found (take (own_in l.link part.first) l.own))))
-      (f.1 (ys ++ take (own_in l.link part.first) l.own) (goes_on part l q ys (ys ++ take (own_in l.link part.first) l.own) h (sym n) g refl)),
-    )
+    (ch part.list l q h (link_some l.link part.first q (sym n))).1,
+    λ ys g. subst (Flat lists start) (append_assoc ys (take (own_in l.link part.first) l.own) (reverse found)
+        ∙ ap (λ x. ys ++ x) (sym (ap reverse m ∙ reversed found (take (own_in l.link part.first) l.own))))
+        (f.1 (ys ++ take (own_in l.link part.first) l.own) (goes_on part l q ys (ys ++ take (own_in l.link part.first) l.own) h (sym n) g refl)),
+  )
 
   pub left-falls : (part : Part) (l : Chain T) (next : Option Part) → IsChained lists → slice_get lists part.list ≡ Some l → next ≡ link_in l.link part.first →
       suc (left_of next) ≤ left_of (Some part)
@@ -99,19 +99,19 @@ module _ {T : Type 0} (lists : List (Chain T)) where
       let own = take (own_in l.link part.first) l.own in (
         f.0 ++ reverse own,
         ap (map (entry_at lists)) (m ∙ ap (λ x. found ++ places_down part.list x) o) ∙ map-append (entry_at lists) found (places_down part.list (own_in l.link part.first))
-        ∙ ap (λ x. x ++ map (entry_at lists) (places_down part.list (own_in l.link part.first))) f.1
-        ∙ ap (λ x. map Some f.0 ++ x) (down part.list l (own_in l.link part.first) s (own_within part l (subst (λ x. part.first ≤ chain_len x) w g.0.2)))
-        ∙ sym (map-append Some f.0 (reverse own)),
+            ∙ ap (λ x. x ++ map (entry_at lists) (places_down part.list (own_in l.link part.first))) f.1
+            ∙ ap (λ x. map Some f.0 ++ x) (down part.list l (own_in l.link part.first) s (own_within part l (subst (λ x. part.first ≤ chain_len x) w g.0.2)))
+            ∙ sym (map-append Some f.0 (reverse own)),
         collected-step-at lists start part l f.0 (f.0 ++ reverse own) here next ch i f.2 e n refl,
       )
 
   pub places-end : (start : Part) (found more : List Part) (here : Option Part) → here ≡ None → PlacesCollected lists start here found → more ≡ reverse found →
       ArePlaces lists start more
   places-end start found more here i f m = (
-      reverse f.0,
-      collected-end lists start f.0 (reverse f.0) here i f.2 refl,
-      ap (map (entry_at lists)) m ∙ map-reverse (entry_at lists) found ∙ ap reverse f.1 ∙ sym (map-reverse Some f.0),
-    )
+    reverse f.0,
+    collected-end lists start f.0 (reverse f.0) here i f.2 refl,
+    ap (map (entry_at lists)) m ∙ map-reverse (entry_at lists) found ∙ ap reverse f.1 ∙ sym (map-reverse Some f.0),
+  )
 
 pub down-one : (at n : ℕ) → 0 < n → places_down at n ≡ record { list = at; first = n - 1 } ∷ places_down at (n - 1)
 down-one at zero h = absurd (omega (arith, h))

@@ -77,7 +77,7 @@ module _ {A : Type 0} (C : List (Chain (code.Command A))) (R : List (Chain Part)
       links = chained-extended C new current q x s.links (current_within l) e;
       round_links = s.round_links;
       grounded = step-grounded (log_of C R) (record { current = current; finished = finished }) (map commands_seen new) q (first_link (link_to current e.0)) (entry_seen x) (step-of C R new current q x e)
-        c g (λ cs k. linked C R current e.0 cs e.1 k) n m s.grounded w d (live_held l).0;
+          c g (λ cs k. linked C R current e.0 cs e.1 k) n m s.grounded w d (live_held l).0;
     }
 
     pub plain-sound : (n : ℕ) (new : List (Chain (code.Command A))) (q : Part) (x : code.Command A) → IsSound C R n → IsExtended C new current q x → IsLive log h → IsPlain (entry_seen x) → IsSound new R n
@@ -113,7 +113,7 @@ module _ {A : Type 0} (C : List (Chain (code.Command A))) (R : List (Chain Part)
         (subst (λ y. IsChanged (log_of C R) y (record { current = current; finished = finished }) (record { current = record { list = i; first = 0 }; finished = q }) pushed_default)
         (ap (λ x. record { commands = x; rounds = map rounds_seen S }) (sym (default_commands D d)))
         (subst (λ n. IsChanged (log_of C R) (record { commands = map commands_seen C ++ [] ∷ []; rounds = map rounds_seen S }) (record { current = current; finished = finished })
-          (record { current = record { list = n; first = 0 }; finished = q }) pushed_default) (length-mapped commands_seen C ∙ sym j)
+        (record { current = record { list = n; first = 0 }; finished = q }) pushed_default) (length-mapped commands_seen C ∙ sym j)
         (default-changes (log_of C R) (record { current = current; finished = finished }) (map rounds_seen S) q (first_round_link (link_to finished e.0)) (step-of-rounds C R S finished q current e)
         (λ rs k. linked_rounds C R finished e.0 rs e.1 k) (live_held l)))))
       where
@@ -126,8 +126,8 @@ module _ {A : Type 0} (C : List (Chain (code.Command A))) (R : List (Chain Part)
       links = subst (λ y. IsChained y) (sym d) (chained-more C (record { link = None; own = [] }) k.links (λ q e. absurd (let z : ⊥ = cc in z)));
       round_links = chained-extended R S finished q current k.round_links (finished_within l) e;
       grounded = subst (λ y. IsGrounded (record { commands = y; rounds = map rounds_seen S }) n) (sym (ap (map commands_seen) d ∙ ap (λ x. x.commands) (seen-lists C R None None)))
-        (default-grounded (log_of C R) (record { current = current; finished = finished }) (map rounds_seen S) q (first_round_link (link_to finished e.0)) (step-of-rounds C R S finished q current e)
-        (λ rs k. linked_rounds C R finished e.0 rs e.1 k) n k.grounded (live_held l));
+          (default-grounded (log_of C R) (record { current = current; finished = finished }) (map rounds_seen S) q (first_round_link (link_to finished e.0)) (step-of-rounds C R S finished q current e)
+          (λ rs k. linked_rounds C R finished e.0 rs e.1 k) n k.grounded (live_held l));
     }
 
     -- building
@@ -139,7 +139,7 @@ module _ {A : Type 0} (C : List (Chain (code.Command A))) (R : List (Chain Part)
         IfOk r (λ b. (a : Account) → IsAccount log h a → bound_by b ≡ run a.current [])
     build-returns D S d e (Err x) k = k
     build-returns D S d e (Ok b) k = λ a m. k a.current
-      (subst (λ x. PartGives (log_of x S) no_commands current a.current) (sym d) (subst (λ y. PartGives (log_of C y) no_commands current a.current) (sym e) (account_held a m).current))
+        (subst (λ x. PartGives (log_of x S) no_commands current a.current) (sym d) (subst (λ y. PartGives (log_of C y) no_commands current a.current) (sym e) (account_held a m).current))
 
     -- each live handle has an account
     pub account-there : (n : ℕ) → IsSound C R n → IsLive log h → (a : Account) × IsAccount log h a
@@ -153,9 +153,9 @@ module _ {A : Type 0} (C : List (Chain (code.Command A))) (R : List (Chain Part)
     -- where it is at the end, its numbers are the lengths of its lists
     pub lengths : IsAtEnd log h → (current.first ≡ current_len log h) × (finished.first ≡ finished_len log h)
     lengths w = (
-        ap (λ k. k.current.first) view ∙ w.0.2 ∙ sym (ap len_at w.0.1),
-        ap (λ k. k.finished.first) view ∙ w.1.2 ∙ sym (ap len_at w.1.1),
-      )
+      ap (λ k. k.current.first) view ∙ w.0.2 ∙ sym (ap len_at w.0.1),
+      ap (λ k. k.finished.first) view ∙ w.1.2 ∙ sym (ap len_at w.1.1),
+    )
 
     at_end_held : IsAtEnd log h → IsAtEnd (log_of C R) (record { current = current; finished = finished })
     at_end_held l = subst (λ x. IsAtEnd x (record { current = current; finished = finished })) (sym seen) (subst (IsAtEnd log) (sym view) l)
@@ -167,9 +167,9 @@ module _ {A : Type 0} (C : List (Chain (code.Command A))) (R : List (Chain Part)
 
     pub default-writes : (S : List (Chain Part)) (q x : Part) (i : ℕ) → IsExtended R S finished q x → WritesRound log h (record { current = record { list = i; first = 0 }; finished = q })
     default-writes S q x i e w = (
-        refl,
-        subst (λ k. q ≡ record { list = k.finished.list; first = k.finished.first + 1 }) view (at-end R S finished q x e (whole-rounds-len finished e.0 (at_end_held w).1 e.1)),
-      )
+      refl,
+      subst (λ k. q ≡ record { list = k.finished.list; first = k.finished.first + 1 }) view (at-end R S finished q x e (whole-rounds-len finished e.0 (at_end_held w).1 e.1)),
+    )
 
     -- a copy
     pub copy-sound : (n : ℕ) (l : Chain (code.Command A)) (r : Chain Part) → IsSound C R n → IsLive log h → slice_get C current.list ≡ Some l → slice_get R finished.list ≡ Some r →
@@ -226,7 +226,7 @@ module _ {A : Type 0} (C : List (Chain (code.Command A))) (R : List (Chain Part)
 
     new_handle : next_handle (log_of C R) (first_link l) (first_round_link r) ≡ record { current = current; finished = finished }
     new_handle = ap (λ p. record { current = p; finished = record { list = length (map rounds_seen R); first = length (first_round_link r) } }) current_is
-      ∙ ap (λ p. record { current = current; finished = p }) finished_is
+        ∙ ap (λ p. record { current = current; finished = p }) finished_is
 
     pub lists-given : IsGiven log (log_of D S) (record { current = current; finished = finished })
     lists-given =

@@ -101,7 +101,7 @@ module _ {A : Type 0} (C : List (Chain (code.Command A))) (R : List (Chain Part)
 
   pub sound-empty : (n : ℕ) → IsSound C R n → IsSound (C ++ record { link = None; own = [] } ∷ []) (R ++ record { link = None; own = [] } ∷ []) n
   sound-empty n s = sound-lists n None None s (λ p h. absurd (let e : ⊥ = cc in e)) (λ p h. absurd (let e : ⊥ = cc in e))
-    no_commands (gives_nothing no_commands) (omega arith) no_command_rounds (gives_no_rounds no_command_rounds) (omega arith)
+      no_commands (gives_nothing no_commands) (omega arith) no_command_rounds (gives_no_rounds no_command_rounds) (omega arith)
 
   pub sound-copy : (n : ℕ) (h : Handle) (l : Chain (code.Command A)) (r : Chain Part) → IsSound C R n → IsLive (log_of C R) h → slice_get C h.current.list ≡ Some l → slice_get R h.finished.list ≡ Some r →
       IsSound (C ++ record { link = link_to h.current l; own = [] } ∷ []) (R ++ record { link = link_to h.finished r; own = [] } ∷ []) n
@@ -220,25 +220,25 @@ at-end lists new p q x (l, s, inr k) h = absurd (let a = k.0 in omega (arith, a,
 pub step-of : {A : Type 0} (C : List (Chain (code.Command A))) (R : List (Chain Part)) (new : List (Chain (code.Command A))) (p q : Part) (x : code.Command A) (e : IsExtended C new p q x) →
     IsStep (map commands_seen C) (map commands_seen new) p q (first_link (link_to p e.0)) (entry_seen x)
 step-of C R new p q x (l, s, inl k) = inl (
-    (commands_seen l, map-get commands_seen C p.list l s, k.0 ∙ sym (commands_len C R l)),
-    ap (map commands_seen) k.1 ∙ seen-longer C p.list l x s,
-    k.2 ∙ ap (λ n. record { list = p.list; first = n }) (longer_len l x p.first k.0),
-  )
+  (commands_seen l, map-get commands_seen C p.list l s, k.0 ∙ sym (commands_len C R l)),
+  ap (map commands_seen) k.1 ∙ seen-longer C p.list l x s,
+  k.2 ∙ ap (λ n. record { list = p.list; first = n }) (longer_len l x p.first k.0),
+)
 step-of C R new p q x (l, s, inr k) = inr (
-    ap (map commands_seen) k.1 ∙ map-append commands_seen C (forked p l x ∷ []),
-    k.2 ∙ ap (λ n. record { list = n; first = chain_len (forked p l x) }) (sym (length-mapped commands_seen C))
+  ap (map commands_seen) k.1 ∙ map-append commands_seen C (forked p l x ∷ []),
+  k.2 ∙ ap (λ n. record { list = n; first = chain_len (forked p l x) }) (sym (length-mapped commands_seen C))
       ∙ ap (λ n. record { list = length (map commands_seen C); first = n }) (fork_len (link_to p l)),
-  )
+)
 
 pub step-of-rounds : {A : Type 0} (C : List (Chain (code.Command A))) (R new : List (Chain Part)) (p q x : Part) (e : IsExtended R new p q x) →
     IsStep (map rounds_seen R) (map rounds_seen new) p q (first_round_link (link_to p e.0)) (RoundEntry.finishes x)
 step-of-rounds C R new p q x (l, s, inl k) = inl (
-    (rounds_seen l, map-get rounds_seen R p.list l s, k.0 ∙ sym (rounds_len C R l)),
-    ap (map rounds_seen) k.1 ∙ seen-round R p.list l x s,
-    k.2 ∙ ap (λ n. record { list = p.list; first = n }) (longer_len l x p.first k.0),
-  )
+  (rounds_seen l, map-get rounds_seen R p.list l s, k.0 ∙ sym (rounds_len C R l)),
+  ap (map rounds_seen) k.1 ∙ seen-round R p.list l x s,
+  k.2 ∙ ap (λ n. record { list = p.list; first = n }) (longer_len l x p.first k.0),
+)
 step-of-rounds C R new p q x (l, s, inr k) = inr (
-    ap (map rounds_seen) k.1 ∙ map-append rounds_seen R (forked p l x ∷ []),
-    k.2 ∙ ap (λ n. record { list = n; first = chain_len (forked p l x) }) (sym (length-mapped rounds_seen R))
+  ap (map rounds_seen) k.1 ∙ map-append rounds_seen R (forked p l x ∷ []),
+  k.2 ∙ ap (λ n. record { list = n; first = chain_len (forked p l x) }) (sym (length-mapped rounds_seen R))
       ∙ ap (λ n. record { list = length (map rounds_seen R); first = n }) (fork_round_len (link_to p l)),
-  )
+)

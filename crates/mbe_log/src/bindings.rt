@@ -74,7 +74,12 @@ impl<'a, A: Allocator + Copy> Bindings<'a, A> {
     }
 
     // Each name of the round of this number gives its list one value more.
-    pub(crate) fn add_round(&mut self, alloc: A, number: usize, round: Bindings<'a, A>) -> Result<(), AllocError>
+    pub(crate) fn add_round(
+        &mut self,
+        alloc: A,
+        number: usize,
+        round: Bindings<'a, A>,
+    ) -> Result<(), AllocError>
         ensures { OnOk result (bound_by self.new ≡ add_round_in number (bound_by round.entry) (bound_by self.old)) }
     {
         for (name, value) in round.inner {
@@ -84,7 +89,13 @@ impl<'a, A: Allocator + Copy> Bindings<'a, A> {
     }
 
     // One value more of a list. A name that has no list yet gets one, and any other value stays.
-    fn grow(&mut self, alloc: A, number: usize, name: Symbol<A>, value: Binding<'a, A>) -> Result<(), AllocError>
+    fn grow(
+        &mut self,
+        alloc: A,
+        number: usize,
+        name: Symbol<A>,
+        value: Binding<'a, A>,
+    ) -> Result<(), AllocError>
         ensures { OnOk result (bound_by self.new ≡ grown_in number (bound_by self.old) name (value_seen value.entry) (value_of (bound_by self.old) name)) }
     {
         match self.inner.get_mut(&name) {
@@ -117,7 +128,7 @@ fn grow_value<'a, A: Allocator + Copy>(
     }
 }
 
-// One value more, behind empty lists for the rounds that the list lacks.
+// One value more, after empty lists for the rounds that the list lacks.
 fn push_round<'a, A: Allocator + Copy>(
     alloc: A,
     list: &mut Vec<Binding<'a, A>, A>,

@@ -6,7 +6,7 @@ use mbe_semantics::log::Part;
 use std::alloc::{AllocError, Allocator, Global};
 use std::marker::Model;
 
-/// A link, which counts as an entry, and entries of its own behind it.
+/// A link, which counts as an entry, and entries of its own after it.
 #[derive(Drop)]
 pub(crate) struct Linked<T, A: Allocator = Global> {
     link: Option<Part>,
@@ -77,7 +77,7 @@ impl<T, A: Allocator> Linked<T, A> {
 }
 
 impl<T: Drop, A: Allocator> Linked<T, A> {
-    /// One entry more at the end. `AllocError` for want of memory.
+    /// One entry more at the end. `AllocError` if out of memory.
     pub(crate) fn push(&mut self, entry: T) -> Result<(), AllocError>
         ensures ok { OnOk result (self.new ≡ record self.old { own = self.old.own ++ entry ∷ [] }) }
         ensures err { OnErr result (self.new ≡ self.old) }
@@ -98,7 +98,7 @@ pub(crate) fn is_within<T, A: Allocator>(lists: &[Linked<T, A>], part: Part) -> 
 }
 
 /// The part with one entry more: in its own list where it goes up to the end of that, else in a new list that links to the
-/// part. `AllocError` for want of memory.
+/// part. `AllocError` if out of memory.
 pub(crate) fn extend<T: Drop, A: Allocator + Copy>(
     alloc: A,
     lists: &mut Vec<Linked<T, A>, A>,
@@ -150,7 +150,11 @@ pub(crate) fn places<T, A: Allocator + Copy>(
 }
 
 // The places of a list's first own entries, last first.
-fn push_places<A: Allocator>(places: &mut Vec<Part, A>, list: usize, count: usize) -> Result<(), AllocError>
+fn push_places<A: Allocator>(
+    places: &mut Vec<Part, A>,
+    list: usize,
+    count: usize,
+) -> Result<(), AllocError>
     ensures { OnOk result (places.new.items ≡ places.old.items ++ places_down list count) }
 {
     let mut first = count;

@@ -17,6 +17,7 @@ pub enum TokensOrigin {
 }
 
 /// What a variable took.
+#[derive_where(Debug, PartialEq, Eq)]
 #[derive(Drop)]
 pub enum Fragment<'a, A: Allocator = Global> {
     Empty,
@@ -30,7 +31,7 @@ pub enum Fragment<'a, A: Allocator = Global> {
 }
 
 impl<'a, A: Allocator + Copy> Fragment<'a, A> {
-    /// An equal copy. `AllocError` for want of memory.
+    /// An equal copy. `AllocError` if out of memory.
     pub fn try_clone(&self) -> Result<Fragment<'a, A>, AllocError>
         ensures { IfOk result (λ x. fragment_seen x ≡ fragment_seen self.now) }
     {
@@ -47,24 +48,26 @@ impl<'a, A: Allocator + Copy> Fragment<'a, A> {
     }
 }
 
-impl<'a, A: Allocator> Fragment<'a, A> {
-    /// What a variable of the kind took.
-    pub fn of_kind(kind: Option<MetaVarKind>, tree: TokenTreesView<'a, A>) -> Fragment<'a, A>
-        ensures { fragment_seen result ≡ record { trees = trees tree.entry; style = style_of kind } }
-    {
-        match kind {
-            Some(MetaVarKind::Expr(_)) => Fragment::Expr(tree),
-            Some(MetaVarKind::Path) => Fragment::Path(tree),
-            Some(
-                MetaVarKind::Ident | MetaVarKind::Tt | MetaVarKind::Lifetime | MetaVarKind::Literal,
-            ) => Fragment::Tokens {
-                tree,
-                origin: TokensOrigin::Raw,
-            },
-            _ => Fragment::Tokens {
-                tree,
-                origin: TokensOrigin::Ast,
-            },
-        }
+/// What a variable of the kind took.
+pub fn of_kind<'a, A: Allocator>(
+    kind: Option<MetaVarKind>,
+    tree: TokenTreesView<'a, A>,
+) -> Fragment<'a, A>
+    ensures { fragment_seen result ≡ record { trees = trees tree.entry; style = style_of kind } }
+{
+    match kind {
+        Some(MetaVarKind::Expr(_)) => Fragment::Expr(tree),
+        Some(MetaVarKind::Path) => Fragment::Path(tree),
+        Some(MetaVarKind::Ident | MetaVarKind::Tt | MetaVarKind::Lifetime | MetaVarKind::Literal) =>
+            {
+                Fragment::Tokens {
+                    tree,
+                    origin: TokensOrigin::Raw,
+                }
+            }
+        _ => Fragment::Tokens {
+            tree,
+            origin: TokensOrigin::Ast,
+        },
     }
 }

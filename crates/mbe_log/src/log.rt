@@ -1,5 +1,19 @@
-// The log of bindings that the positions of a match share. Its structure follows rust-analyzer's `BindingsBuilder`; that
-// links carry a length, and that a copy of a list that only links goes to where that one does, are the project's own.
+// The log of bindings that the positions of a match share. Its structure follows rust-analyzer's `BindingsBuilder`; that a
+// link carries a length, and that a list without an entry of its own passes its link on, are the project's own.
+//
+// A log holds lists of commands and lists of finished rounds. A handle names a list of each sort, and how many of its first
+// entries are the handle's. A push goes on in place where the handle's entries end the list, and else begins a list that
+// links to them; so what a handle stands for never changes. Of the commands alone, `0,1` for the first entry of list 0:
+//
+//     push x to h    h = 0,1            0: x
+//     c = copy h     h = 0,1  c = 1,1   0: x    1: ->0,1
+//     push y to h    h = 0,2  c = 1,1   0: x y  1: ->0,1
+//     push z to c    h = 0,2  c = 1,2   0: x y  1: ->0,1 z
+//     k = again h    k = 0,2
+//     push v to h    h = 0,3            0: x y v
+//     push w to k    k = 2,2            0: x y v  2: ->0,2 w
+//
+// Building follows the links of a list by a loop, and recurses only into nested commands.
 ghost use Rattle.std.specs.Prelude.{◌≡◌, ◌↔◌, ◌≤◌, [], IsTrue, IfOk, OnOk, OnErr};
 ghost use Rattle.mbe_semantics.specs.Bindings.Account.{Account, Commands, CommandRounds, IsLive, IsAccount, no_account, no_lists, pushed, pushed_nested, pushed_default, run, run_command, run_rounds, no_commands, no_command_rounds, command_round, PartGives, PartGivesRounds, Command as Written, HasOneListMore};
 ghost use Rattle.mbe_log.specs.Shared.{IsGiven, IsChanged, IsAtEnd, WritesOne, WritesRound, current_len, finished_len, IsPlain};
@@ -20,7 +34,7 @@ use std::marker::Model;
 
 /// What a position has of a log: the first so many entries of two lists. A push gives it another value; what the old one stood
 /// for stays. So one handle may serve many holders by `&Handle`.
-#[derive(Debug, Drop)]
+#[derive(Debug, Drop, PartialEq, Eq)]
 pub struct Handle {
     current: Part,
     finished: Part,
@@ -39,15 +53,13 @@ impl Model for Handle {
     ghost inverse = { λ h. record { current = h.current; finished = h.finished } };
 }
 
-impl Handle {
-    /// The same entries once more. A push to one of the two leaves the other as it is.
-    pub fn again(&self) -> Handle
-        ensures { result ≡ self.now }
-    {
-        Handle {
-            current: self.current,
-            finished: self.finished,
-        }
+/// The same entries once more. A push to one of the two leaves the other as it is.
+pub fn again(handle: &Handle) -> Handle
+    ensures { result ≡ handle.now }
+{
+    Handle {
+        current: handle.current,
+        finished: handle.finished,
     }
 }
 
@@ -110,7 +122,7 @@ impl<'a, A: Allocator + Copy> BindingLog<'a, A> {
         }
     }
 
-    /// A handle with an empty account. `AllocError` for want of memory.
+    /// A handle with an empty account. `AllocError` if out of memory.
     pub fn alloc(&mut self) -> Result<Handle, AllocError>
         ensures given { IfOk result (λ h. IsGiven self.old self.new h) }
         ensures account { IfOk result (λ h. IsAccount self.new h no_account) }
@@ -121,7 +133,8 @@ impl<'a, A: Allocator + Copy> BindingLog<'a, A> {
         self.rounds.reserve(1)?;
         let current = self.commands.len();
         let finished = self.rounds.len();
-        self.commands.push_reserved(Linked::linked(self.alloc, None));
+        self.commands
+            .push_reserved(Linked::linked(self.alloc, None));
         self.rounds.push_reserved(Linked::linked(self.alloc, None));
         Ok(Handle {
             current: Part {
@@ -135,7 +148,7 @@ impl<'a, A: Allocator + Copy> BindingLog<'a, A> {
         })
     }
 
-    /// A handle with an equal account. `AllocError` for want of memory.
+    /// A handle with an equal account. `AllocError` if out of memory.
     pub fn copy(&mut self, handle: &Handle) -> Result<Handle, AllocError>
         requires { IsLive self.old handle.now }
         ensures given { IfOk result (λ h. IsGiven self.old self.new h) }
@@ -145,8 +158,14 @@ impl<'a, A: Allocator + Copy> BindingLog<'a, A> {
         ensures few { IfOk result (λ h. h.current.first ≤ 3 × h.finished.first ≤ 3) }
         ensures err { OnErr result (self.new ≡ self.old) }
     {
-        let current = Linked::linked(self.alloc, self.commands[handle.current.list].link_to(handle.current));
-        let finished = Linked::linked(self.alloc, self.rounds[handle.finished.list].link_to(handle.finished));
+        let current = Linked::linked(
+            self.alloc,
+            self.commands[handle.current.list].link_to(handle.current),
+        );
+        let finished = Linked::linked(
+            self.alloc,
+            self.rounds[handle.finished.list].link_to(handle.finished),
+        );
         self.commands.reserve(1)?;
         self.rounds.reserve(1)?;
         let handle = Handle {
@@ -164,8 +183,13 @@ impl<'a, A: Allocator + Copy> BindingLog<'a, A> {
         Ok(handle)
     }
 
-    /// The name is bound to the fragment. `AllocError` for want of memory.
-    pub fn push_fragment(&mut self, handle: &mut Handle, name: &Symbol<A>, fragment: Fragment<'a, A>) -> Result<(), AllocError>
+    /// The name is bound to the fragment. `AllocError` if out of memory.
+    pub fn push_fragment(
+        &mut self,
+        handle: &mut Handle,
+        name: &Symbol<A>,
+        fragment: Fragment<'a, A>,
+    ) -> Result<(), AllocError>
         requires { IsLive self.old handle.old }
         ensures ok { OnOk result (IsChanged self.old self.new handle.old handle.new (pushed (Written.binds name.now (fragment_seen fragment.entry)))) }
         ensures written { OnOk result (WritesOne self.old handle.old handle.new) }
@@ -175,7 +199,7 @@ impl<'a, A: Allocator + Copy> BindingLog<'a, A> {
         Ok(())
     }
 
-    /// The name is bound to a fragment that took nothing. `AllocError` for want of memory.
+    /// The name is bound to a fragment that took nothing. `AllocError` if out of memory.
     pub fn push_optional(&mut self, handle: &mut Handle, name: &Symbol<A>) -> Result<(), AllocError>
         requires { IsLive self.old handle.old }
         ensures ok { OnOk result (IsChanged self.old self.new handle.old handle.new (pushed (Written.binds_nothing name.now))) }
@@ -186,7 +210,7 @@ impl<'a, A: Allocator + Copy> BindingLog<'a, A> {
         Ok(())
     }
 
-    /// The name stands in a repetition without rounds. `AllocError` for want of memory.
+    /// The name stands in a repetition without rounds. `AllocError` if out of memory.
     pub fn push_empty(&mut self, handle: &mut Handle, name: &Symbol<A>) -> Result<(), AllocError>
         requires { IsLive self.old handle.old }
         ensures ok { OnOk result (IsChanged self.old self.new handle.old handle.new (pushed (Written.skips name.now))) }
@@ -197,8 +221,13 @@ impl<'a, A: Allocator + Copy> BindingLog<'a, A> {
         Ok(())
     }
 
-    /// Nothing fits the name. `AllocError` for want of memory.
-    pub fn push_missing(&mut self, handle: &mut Handle, name: &Symbol<A>, kind: MetaVarKind) -> Result<(), AllocError>
+    /// Nothing fits the name. `AllocError` if out of memory.
+    pub fn push_missing(
+        &mut self,
+        handle: &mut Handle,
+        name: &Symbol<A>,
+        kind: MetaVarKind,
+    ) -> Result<(), AllocError>
         requires { IsLive self.old handle.old }
         ensures ok { OnOk result (IsChanged self.old self.new handle.old handle.new (pushed (Written.misses name.now kind))) }
         ensures written { OnOk result (WritesOne self.old handle.old handle.new) }
@@ -208,7 +237,7 @@ impl<'a, A: Allocator + Copy> BindingLog<'a, A> {
         Ok(())
     }
 
-    // One command more behind the handle's current ones, which isn't nested.
+    // One command more after the handle's current ones, which isn't nested.
     fn push(&mut self, handle: &mut Handle, command: Command<'a, A>) -> Result<(), AllocError>
         requires live { IsLive self.old handle.old }
         requires plain { IsPlain (entry_seen command) }
@@ -221,7 +250,7 @@ impl<'a, A: Allocator + Copy> BindingLog<'a, A> {
         Ok(())
     }
 
-    /// The child's finished rounds, and its current commands as the last round, as they are now. `AllocError` for want of memory.
+    /// The child's finished rounds, and its current commands as the last round, as they are now. `AllocError` if out of memory.
     pub fn push_nested(&mut self, parent: &mut Handle, child: &Handle) -> Result<(), AllocError>
         requires parent { IsLive self.old parent.old }
         requires child { IsLive self.old child.now }
@@ -243,7 +272,7 @@ impl<'a, A: Allocator + Copy> BindingLog<'a, A> {
         Ok(())
     }
 
-    /// The current commands are a finished round now, and an empty list begins. `AllocError` for want of memory.
+    /// The current commands are a finished round now, and an empty list begins. `AllocError` if out of memory.
     pub fn push_default(&mut self, handle: &mut Handle) -> Result<(), AllocError>
         requires { IsLive self.old handle.old }
         ensures ok { OnOk result (IsChanged self.old self.new handle.old handle.new pushed_default) }
@@ -255,17 +284,24 @@ impl<'a, A: Allocator + Copy> BindingLog<'a, A> {
         let finished = extend(self.alloc, &mut self.rounds, handle.finished, round)?;
         handle.finished = finished;
         let list = self.commands.len();
-        self.commands.push_reserved(Linked::linked(self.alloc, None));
+        self.commands
+            .push_reserved(Linked::linked(self.alloc, None));
         handle.current = Part { list, first: 0 };
         Ok(())
     }
 
-    /// The environment of the current commands. `AllocError` for want of memory.
+    /// The environment of the current commands. `AllocError` if out of memory.
     pub fn build(&self, handle: &Handle) -> Result<Bindings<'a, A>, AllocError>
         requires { IsLive self.now handle.now }
         ensures { IfOk result (λ b. (a : Account) → IsAccount self.now handle.now a → bound_by b ≡ run a.current []) }
     {
-        build_part(self.alloc, &self.commands, &self.rounds, handle.current, self.nested)
+        build_part(
+            self.alloc,
+            &self.commands,
+            &self.rounds,
+            handle.current,
+            self.nested,
+        )
     }
 }
 
@@ -337,13 +373,19 @@ fn bind_command<'a, A: Allocator + Copy>(
         Command::Fragment(name, fragment) => {
             bindings.insert(name, Binding::Fragment(fragment.try_clone()?))
         }
-        Command::Optional(name) => {
-            bindings.insert(name, Binding::Fragment(Fragment::Empty))
-        }
+        Command::Optional(name) => { bindings.insert(name, Binding::Fragment(Fragment::Empty)) }
         Command::Empty(name) => bindings.insert(name, Binding::Empty),
         Command::Missing(name, kind) => bindings.insert(name, Binding::Missing(*kind)),
         Command::Nested { finished, current } => {
-            bind_rounds(alloc, commands, rounds, *finished, *current, depth - 1, bindings)
+            bind_rounds(
+                alloc,
+                commands,
+                rounds,
+                *finished,
+                *current,
+                depth - 1,
+                bindings,
+            )
         }
     }
 }

@@ -29,11 +29,11 @@ pub build_part-bind_command-requires : goal.build_part-bind_command-requires
 build_part-bind_command-requires g t c =
     let short : c.loop-place.place-index < length c.deref-place-items.result.now = search rules in
     let grounded : IsCommandGrounded (log_of c.args.commands.now c.args.rounds.now) (entry_seen c.own_at-command.result.now) c.args.depth =
-      grounded_command c.args.commands.now c.args.rounds.now c.deref-place-items.result.now c.loop-place.place-index (bound_by c.loop-place.bindings)
-        c.own_at-command.result.now c.loop-place.invariant
-        (same_entry c.args.commands.now c.args.part c.in_ok-found.found.items c.deref-place-items.result.now c.in_ok-found.ensures c.deref-place-items.ensures.value
-        c.loop-place.place-index _ c.index-commands-place.result c.own_at-command.result.now short c.index-commands-place.is c.own_at-command.ensures)
-        c.args.part c.in_ok-found.found.items c.args.depth c.in_ok-found.ensures c.deref-place-items.ensures.value c.requires.grounded in
+    grounded_command c.args.commands.now c.args.rounds.now c.deref-place-items.result.now c.loop-place.place-index (bound_by c.loop-place.bindings)
+    c.own_at-command.result.now c.loop-place.invariant
+    (same_entry c.args.commands.now c.args.part c.in_ok-found.found.items c.deref-place-items.result.now c.in_ok-found.ensures c.deref-place-items.ensures.value
+    c.loop-place.place-index _ c.index-commands-place.result c.own_at-command.result.now short c.index-commands-place.is c.own_at-command.ensures)
+    c.args.part c.in_ok-found.found.items c.args.depth c.in_ok-found.ensures c.deref-place-items.ensures.value c.requires.grounded in
     search (rules, grounded)
 
 pub build_part-loop-place-preserved : goal.build_part-loop-place-preserved
@@ -73,11 +73,11 @@ pub bind_rounds-build_part-requires : goal.bind_rounds-build_part-requires
 bind_rounds-build_part-requires g t c =
     let short : c.loop-number.number < length c.deref-place-items.result.now = search rules in
     let grounded : IsPartGrounded (log_of c.args.commands.now c.args.rounds.now) c.own_at-part.result.now c.args.depth =
-      grounded_round c.args.commands.now c.args.rounds.now c.deref-place-items.result.now c.loop-number.number (bound_by c.args.bindings.now)
-        (bound_by c.loop-number.bindings) c.own_at-part.result.now c.loop-number.invariant
-        (same_entry c.args.rounds.now c.args.finished c.in_ok-found.found.items c.deref-place-items.result.now c.in_ok-found.ensures c.deref-place-items.ensures.value
-        c.loop-number.number _ c.index-rounds-place.result c.own_at-part.result.now short c.index-rounds-place.is c.own_at-part.ensures)
-        c.args.finished c.args.last c.in_ok-found.found.items c.args.depth c.in_ok-found.ensures c.deref-place-items.ensures.value c.requires.grounded in
+    grounded_round c.args.commands.now c.args.rounds.now c.deref-place-items.result.now c.loop-number.number (bound_by c.args.bindings.now)
+    (bound_by c.loop-number.bindings) c.own_at-part.result.now c.loop-number.invariant
+    (same_entry c.args.rounds.now c.args.finished c.in_ok-found.found.items c.deref-place-items.result.now c.in_ok-found.ensures c.deref-place-items.ensures.value
+    c.loop-number.number _ c.index-rounds-place.result c.own_at-part.result.now short c.index-rounds-place.is c.own_at-part.ensures)
+    c.args.finished c.args.last c.in_ok-found.found.items c.args.depth c.in_ok-found.ensures c.deref-place-items.ensures.value c.requires.grounded in
     search (rules, grounded)
 
 pub bind_rounds-loop-number-preserved : goal.bind_rounds-loop-number-preserved
@@ -101,10 +101,10 @@ pub build_part-offset_bounds-commands-place : goal.build_part-offset_bounds-comm
 build_part-offset_bounds-commands-place g t c =
     let short : c.loop-place.place-index < length c.deref-place-items.result.now = search rules in
     let k = list_there c.args.commands.now c.args.part c.in_ok-found.found.items c.deref-place-items.result.now c.in_ok-found.ensures c.deref-place-items.ensures.value
-      c.loop-place.place-index (record { list = 0; first = 0 }) short in omega (arith, k)
+    c.loop-place.place-index (record { list = 0; first = 0 }) short in omega (arith, k)
 
 pub bind_rounds-offset_bounds-rounds-place : goal.bind_rounds-offset_bounds-rounds-place
 bind_rounds-offset_bounds-rounds-place g t c =
     let short : c.loop-number.number < length c.deref-place-items.result.now = search rules in
     let k = list_there c.args.rounds.now c.args.finished c.in_ok-found.found.items c.deref-place-items.result.now c.in_ok-found.ensures c.deref-place-items.ensures.value
-      c.loop-number.number (record { list = 0; first = 0 }) short in omega (arith, k)
+    c.loop-number.number (record { list = 0; first = 0 }) short in omega (arith, k)

@@ -8,9 +8,9 @@ use Rattle.mbe_log.proofs.log.BindingLog.copy.Goals as goal
 pub invariant_of-self-2 : goal.invariant_of-self-2
 invariant_of-self-2 g c =
     let s : slice_get c.self.inside.commands.items c.handle.inside.current.list ≡ Some c.index.result.now =
-      within-at c.self.inside.commands.items c.handle.inside.current c.index.result.now (current_within c.self.inside.commands.items c.self.inside.rounds.items c.args.self.now c.self.view_is c.handle.inside.current c.handle.inside.finished c.args.handle.now c.handle.view_is c.requires) c.index.ensures in
+    within-at c.self.inside.commands.items c.handle.inside.current c.index.result.now (current_within c.self.inside.commands.items c.self.inside.rounds.items c.args.self.now c.self.view_is c.handle.inside.current c.handle.inside.finished c.args.handle.now c.handle.view_is c.requires) c.index.ensures in
     let t : slice_get c.self.inside.rounds.items c.handle.inside.finished.list ≡ Some c.index-2.result.now =
-      within-at c.self.inside.rounds.items c.handle.inside.finished c.index-2.result.now (finished_within c.self.inside.commands.items c.self.inside.rounds.items c.args.self.now c.self.view_is c.handle.inside.current c.handle.inside.finished c.args.handle.now c.handle.view_is c.requires) c.index-2.ensures in
+    within-at c.self.inside.rounds.items c.handle.inside.finished c.index-2.result.now (finished_within c.self.inside.commands.items c.self.inside.rounds.items c.args.self.now c.self.view_is c.handle.inside.current c.handle.inside.finished c.args.handle.now c.handle.view_is c.requires) c.index-2.ensures in
     let d = c.push_reserved.ensures.items ∙ ap (λ x. x ++ c.linked-current.result ∷ []) c.in_ok-reserve.ensures.items ∙ ap (λ l. c.self.inside.commands.items ++ l ∷ []) c.linked-current.ensures ∙ ap (λ k. c.self.inside.commands.items ++ record { link = k; own = [] } ∷ []) c.link_to.ensures in
     let e = c.push_reserved-2.ensures.items ∙ ap (λ x. x ++ c.linked-finished.result ∷ []) c.in_ok-reserve-2.ensures.items ∙ ap (λ l. c.self.inside.rounds.items ++ l ∷ []) c.linked-finished.ensures ∙ ap (λ k. c.self.inside.rounds.items ++ record { link = k; own = [] } ∷ []) c.link_to-2.ensures in
     subst (λ x. IsSound x c.push_reserved-2.new.self.items c.self.inside.nested) (sym d)
@@ -35,9 +35,9 @@ returns-clause-given g c =
 pub returns-clause-account : goal.returns-clause-account
 returns-clause-account g c =
     let s : slice_get c.self.inside.commands.items c.handle.inside.current.list ≡ Some c.index.result.now =
-      within-at c.self.inside.commands.items c.handle.inside.current c.index.result.now (current_within c.self.inside.commands.items c.self.inside.rounds.items c.args.self.now c.self.view_is c.handle.inside.current c.handle.inside.finished c.args.handle.now c.handle.view_is c.requires) c.index.ensures in
+    within-at c.self.inside.commands.items c.handle.inside.current c.index.result.now (current_within c.self.inside.commands.items c.self.inside.rounds.items c.args.self.now c.self.view_is c.handle.inside.current c.handle.inside.finished c.args.handle.now c.handle.view_is c.requires) c.index.ensures in
     let t : slice_get c.self.inside.rounds.items c.handle.inside.finished.list ≡ Some c.index-2.result.now =
-      within-at c.self.inside.rounds.items c.handle.inside.finished c.index-2.result.now (finished_within c.self.inside.commands.items c.self.inside.rounds.items c.args.self.now c.self.view_is c.handle.inside.current c.handle.inside.finished c.args.handle.now c.handle.view_is c.requires) c.index-2.ensures in
+    within-at c.self.inside.rounds.items c.handle.inside.finished c.index-2.result.now (finished_within c.self.inside.commands.items c.self.inside.rounds.items c.args.self.now c.self.view_is c.handle.inside.current c.handle.inside.finished c.args.handle.now c.handle.view_is c.requires) c.index-2.ensures in
     let d = c.push_reserved.ensures.items ∙ ap (λ x. x ++ c.linked-current.result ∷ []) c.in_ok-reserve.ensures.items ∙ ap (λ l. c.self.inside.commands.items ++ l ∷ []) c.linked-current.ensures ∙ ap (λ k. c.self.inside.commands.items ++ record { link = k; own = [] } ∷ []) c.link_to.ensures in
     let e = c.push_reserved-2.ensures.items ∙ ap (λ x. x ++ c.linked-finished.result ∷ []) c.in_ok-reserve-2.ensures.items ∙ ap (λ l. c.self.inside.rounds.items ++ l ∷ []) c.linked-finished.ensures ∙ ap (λ k. c.self.inside.rounds.items ++ record { link = k; own = [] } ∷ []) c.link_to-2.ensures in
     let i : c.len.result ≡ length c.self.inside.commands.items = search rules in
