@@ -15,15 +15,19 @@ use Rattle.mbe_ops.specs.declared.ops.Op.{Repeat, the_lemmas as op_lemmas}
 use Rattle.mbe_ops.specs.declared.ops.Op.TheOpen.{MetaTemplate-F}
 use Rattle.mbe_transcriber.specs.declared.transcriber.following.Want.{Want}
 use Rattle.mbe_transcriber.specs.declared.transcriber.following.Want.TheVariants as wants
-use Rattle.mbe_bindings.specs.declared.bindings.Fragment.{Fragment as Took}
-use Rattle.mbe_bindings.specs.declared.bindings.Binding.{Binding, Fragment, Nested, Empty, Missing, the_lemmas}
+use Rattle.mbe_log.specs.declared.fragment.Fragment.{Fragment as Took}
+use Rattle.mbe_log.specs.declared.bindings.Binding.{Binding, Fragment, Nested, Empty, Missing, the_lemmas}
 use Rattle.mbe_semantics.specs.Syntax.Op.{Name, Op, Ops, op, no_ops, repetition, Use, used_name, uses_of, uses_of_op}
 use Rattle.mbe_semantics.specs.Bindings.Environment.{Environment, value_of, Value, fragment, list, empty, missing}
 use Rattle.mbe_semantics.specs.declared.rounds.Level.{Level}
 use Rattle.mbe_semantics.specs.Writing.Rounds.{member, value_count, follow, reach, Path, level_at, value_total, totals, Extent, finite, endless, lesser, least_extent, extent_over, extent_of, extent_under}
 use Rattle.mbe_transcriber.specs.Counting.{shorter, shortest, use_seen}
-use Rattle.mbe_bindings.specs.BindingViews.{value_seen, values_seen, fragment_seen}
+use Rattle.mbe_log.specs.BindingViews.{value_seen, values_seen, fragment_seen}
 use Rattle.mbe_ops.specs.Views.{op_of, ops_of, separator_seen}
+
+pub seen_copied : {X Y : Type 0} (f : X → Y) (r : Option (Bor X)) → option_map (λ b. f b.now) r ≡ option_map f (option_copied r)
+seen_copied f None = refl
+seen_copied f (Some x) = refl
 
 -- ---- each value of the code, as the value that it is
 

@@ -8,17 +8,18 @@ use Rattle.mbe_tt.specs.Tree.{Forest, none, alone, strip_invisible}
 use Rattle.mbe_tt.specs.Building.{Levels, put, closed}
 use Rattle.mbe_semantics.specs.declared.kinds.MetaVarKind.{MetaVarKind}
 use Rattle.mbe_semantics.specs.declared.kinds.MetaVarKind.TheVariants as kinds
-use Rattle.mbe_bindings.specs.declared.bindings.TokensOrigin.{TokensOrigin}
-use Rattle.mbe_bindings.specs.declared.bindings.TokensOrigin.TheVariants.{Raw, Ast}
+use Rattle.mbe_log.specs.declared.fragment.TokensOrigin.{TokensOrigin}
+use Rattle.mbe_log.specs.declared.fragment.TokensOrigin.TheVariants.{Raw, Ast}
 use Rattle.mbe_semantics.specs.Syntax.Op.{Name}
-use Rattle.mbe_semantics.specs.Readings.Item.{Fragment, as_path}
+use Rattle.mbe_semantics.specs.Readings.Item.{Fragment, plain, as_path}
 use Rattle.mbe_semantics.specs.Bindings.Environment.{Environment, Value, fragment, missing, value_of}
 use Rattle.mbe_semantics.specs.Bindings.Missing.{default_trees}
 use Rattle.mbe_semantics.specs.Writing.Rounds.{Path, follow}
 use Rattle.mbe_semantics.specs.Writing.Written.{IsWrittenAs, IsExpressionWritten, IsParenthesized, needs_parentheses, in_parentheses}
 use Rattle.mbe_semantics.specs.Writing.Substitution.{IsVariable, unbound_variable, is_simple, variable_faults}
-use Rattle.mbe_bindings.specs.BindingViews.{origin_style}
+use Rattle.mbe_log.specs.BindingViews.{origin_style}
 use Rattle.mbe_transcriber.specs.Writing.{Appends, Wrote, IsVariableWritten, plain_fragment}
+use Rattle.mbe_transcriber.proofs.WritingLemmas.{put-none}
 use Rattle.mbe_transcriber.proofs.WroteLemmas.{wrote_trees, wrote_fault, appended, appends_groups}
 
 module _ (Marks : Span → Span → Type 0) (site : Span) (env : Environment) (p : Path) (name : Name) (span : Span) where
@@ -62,6 +63,12 @@ if_ok (Err e) f h = tt
 if_ok (Ok x) f h = f h
 
 module _ (Marks : Span → Span → Type 0) (site : Span) (span : Span) where
+  pub nothing_written : (old : Levels) → Appends (IsWrittenAs Marks site plain span none) old old
+  nothing_written old = appended _ none old old refl (put-none old)
+
+  pub whole_written : (f whole : Forest) (old new : Levels) → whole ≡ f → new ≡ put (alone whole) old → Appends (IsWrittenAs Marks site plain span f) old new
+  whole_written f whole old new s e = appended _ (alone whole) old new (ap alone s) e
+
   pub tokens_written : (origin : TokensOrigin) (f tokens : Forest) (old new : Levels) → tokens ≡ plain_fragment (origin_style origin) f → new ≡ put tokens old
       → Appends (IsWrittenAs Marks site (origin_style origin) span f) old new
   tokens_written Raw f tokens old new s e = appended _ tokens old new s e

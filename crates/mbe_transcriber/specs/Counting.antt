@@ -6,7 +6,7 @@ use Rattle.mbe_transcriber.specs.declared.transcriber.following.Simple as single
 use Rattle.mbe_semantics.specs.Syntax.Op.{Name, Use, for_fragment, for_number}
 use Rattle.mbe_semantics.specs.Bindings.Environment.{Value, fragment, missing}
 use Rattle.mbe_semantics.specs.Writing.Rounds.{Extent, finite, endless, lesser}
-use Rattle.mbe_bindings.specs.BindingViews.{fragment_seen}
+use Rattle.mbe_log.specs.BindingViews.{fragment_seen}
 
 abbrev pub extent_seen : counted.Extent → Extent
 extent_seen (counted.TheVariants.Finite n) = finite n

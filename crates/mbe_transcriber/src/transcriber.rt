@@ -8,7 +8,7 @@ ghost use Rattle.mbe_semantics.specs.Laws.Marking.{MayMark};
 ghost use Rattle.mbe_semantics.specs.Syntax.Op.{repetition, lifetime_separator};
 ghost use Rattle.mbe_semantics.specs.Writing.Substitution.{IsSubstitution, faults, op_faults, variable_faults, separator_trees, punct_trees};
 ghost use Rattle.mbe_ops.specs.Views.{op_of, ops_of, template_of, separator_seen};
-ghost use Rattle.mbe_bindings.specs.BindingViews.{bound_by};
+ghost use Rattle.mbe_log.specs.BindingViews.{bound_by};
 ghost use Rattle.mbe_transcriber.specs.Writing.{Appends, AreMarked, IsMarkedLiteral, IsMarkedIdent, IsWritten, AreWritten, IsVariableWritten, IsParted, Wrote};
 
 mod expressions;
@@ -24,7 +24,7 @@ use crate::transcriber::following::{
     Simple, index_at, kept_rounds, rounds_at, rounds_of, simple_at,
 };
 use crate::transcriber::fragments::{write_default, write_fragment, write_unbound};
-use mbe_bindings::bindings::Bindings;
+use mbe_log::bindings::Bindings;
 use mbe_errors::value_result::{ExpandResult, ValueResult};
 use mbe_ops::ops::{MetaTemplate, Op, Separator};
 use mbe_semantics::kinds::RepeatKind;

@@ -1,5 +1,6 @@
 // Bindings of texts: names, and after each its value.
-use mbe_bindings::bindings::{Binding, Bindings, Fragment, TokensOrigin};
+use mbe_log::bindings::{Binding, Bindings};
+use mbe_log::fragment::{Fragment, TokensOrigin};
 use mbe_semantics::kinds::{ExprKind, MetaVarKind};
 use mbe_tt::tt::{DelimiterKind, Leaf, Punct, Subtree, TokenTreesView, TtElement, TtIter};
 use std::alloc::{AllocError, Allocator};

@@ -11,14 +11,15 @@ ghost use Rattle.mbe_semantics.specs.Laws.Marking.{MayMark};
 ghost use Rattle.mbe_semantics.specs.Bindings.Missing.{default_trees, no_span};
 ghost use Rattle.mbe_semantics.specs.Writing.Rounds.{followed};
 ghost use Rattle.mbe_semantics.specs.Writing.Substitution.{integer, total_of, is_simple, is_counted};
-ghost use Rattle.mbe_bindings.specs.BindingViews.{bound_by, fragment_seen};
+ghost use Rattle.mbe_log.specs.BindingViews.{bound_by, fragment_seen};
 ghost use Rattle.mbe_ops.specs.Views.{element_seen, elements_seen};
 ghost use Rattle.mbe_transcriber.specs.Writing.{Appends, Wrote, IsNumber, IsConcatWritten, IsJoined};
 
 use crate::transcriber::fault::{Fault, FaultKind};
 use crate::transcriber::following::{Lost, Simple, follow, simple_at, value_total};
 use crate::transcriber::{ExpandCtx, mark};
-use mbe_bindings::bindings::{Bindings, Fragment, TokensOrigin};
+use mbe_log::bindings::Bindings;
+use mbe_log::fragment::{Fragment, TokensOrigin};
 use mbe_ops::ops::ConcatMetaVarExprElem;
 use mbe_semantics::kinds::MetaVarKind;
 use mbe_semantics::rounds::Level;

@@ -6,10 +6,11 @@ ghost use Rattle.mbe_semantics.specs.Syntax.Op.{uses_of, uses_of_op, uses_of_ele
 ghost use Rattle.mbe_semantics.specs.Writing.Rounds as spec;
 ghost use Rattle.mbe_semantics.specs.Writing.Rounds.{follow, reach, kept, finite, level_at, rounds_of, value_total, totals};
 ghost use Rattle.mbe_semantics.specs.Writing.Substitution.{is_simple, extent_faults, index_of, rounds_in};
-ghost use Rattle.mbe_bindings.specs.BindingViews.{bound_by, value_seen, values_seen};
+ghost use Rattle.mbe_log.specs.BindingViews.{bound_by, value_seen, values_seen};
 ghost use Rattle.mbe_ops.specs.Views.{op_of, ops_of, elements_seen};
 
-use mbe_bindings::bindings::{Binding, Bindings, Fragment};
+use mbe_log::bindings::{Binding, Bindings};
+use mbe_log::fragment::Fragment;
 use crate::transcriber::fault::{Fault, FaultKind};
 use mbe_ops::ops::{ConcatMetaVarExprElem, Op};
 use mbe_semantics::kinds::{MetaVarKind, RepeatKind};

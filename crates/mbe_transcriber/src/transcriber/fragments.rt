@@ -10,13 +10,13 @@ ghost use Rattle.mbe_semantics.specs.Laws.Marking.{MayMark};
 ghost use Rattle.mbe_semantics.specs.Bindings.Missing.{default_trees};
 ghost use Rattle.mbe_semantics.specs.Syntax.Op.{Name};
 ghost use Rattle.mbe_semantics.specs.Writing.Substitution.{unbound_variable};
-ghost use Rattle.mbe_bindings.specs.BindingViews.{fragment_seen, origin_style};
+ghost use Rattle.mbe_log.specs.BindingViews.{fragment_seen, origin_style};
 ghost use Rattle.mbe_transcriber.specs.Writing.{Appends, plain_fragment};
 ghost use Rattle.mbe_semantics.specs.Writing.Written as spec;
 ghost use Rattle.mbe_semantics.specs.Writing.Written.{IsWrittenAs, path_trees};
 
 use crate::transcriber::mark;
-use mbe_bindings::bindings::{Fragment, TokensOrigin};
+use mbe_log::fragment::{Fragment, TokensOrigin};
 use mbe_semantics::kinds::MetaVarKind;
 use mbe_tt::builder::TopSubtreeBuilder;
 use mbe_tt::iter::{TtElement, TtIter};
@@ -40,11 +40,13 @@ pub(crate) fn write_fragment<A: Allocator, M: Fn(Span) -> Span + Copy>(
     ensures written { OnOk result (Appends (IsWrittenAs (M.post marker) call_site (fragment_seen fragment.now).style id (fragment_seen fragment.now).trees) builder.old builder.new) }
 {
     match fragment {
+        Fragment::Empty => Ok(()),
         Fragment::Tokens { tree, origin } => {
             builder.extend_with_tt_alone(written_tokens(*tree, *origin))
         }
         Fragment::Expr(tree) => write_expression(*tree, id, marker, builder),
         Fragment::Path(tree) => write_path(*tree, call_site, builder),
+        Fragment::TokensOwned(tree) => builder.extend_with_tt_alone(tree.view()),
     }
 }
 

@@ -7,7 +7,7 @@ use Rattle.mbe_semantics.specs.Readings.Ambiguity.{Fits, IsReading}
 use Rattle.mbe_semantics.specs.Bindings.Environment.{environment_of}
 use Rattle.mbe_semantics.specs.Writing.Substitution.{faults}
 use Rattle.mbe_ops.specs.Views.{template_of}
-use Rattle.mbe_bindings.specs.BindingViews.{bound_by}
+use Rattle.mbe_log.specs.BindingViews.{bound_by}
 use Rattle.mbe_transcriber.proofs.AgreeLemmas.{faults-same, IsSubstitution-same}
 use Rattle.mbe.proofs.expander.apply.Goals as goal
 

@@ -3,10 +3,10 @@ use Rattle.std.specs.Prelude.{is_some, option_map}
 use Rattle.mbe_tt.specs.Shown.{literal_of, ident_of}
 use Rattle.mbe_semantics.specs.Writing.Rounds.{level, kept, kept_rounds, finite}
 use Rattle.mbe_ops.specs.Views.{op_of, ops_of, separator_seen, elements_seen}
-use Rattle.mbe_bindings.specs.BindingViews.{bound_by}
+use Rattle.mbe_log.specs.BindingViews.{bound_by}
 use Rattle.mbe_ops.proofs.OpViews.{view-repeat, view-var, view-subtree, view-literal, view-punct, view-ident, view-index, view-len, view-count, view-concat, view-ignore}
 use Rattle.mbe_transcriber.proofs.FollowLemmas.{ops_split, ops_over}
-use Rattle.mbe_bindings.proofs.BindingLemmas.{seen_copied}
+use Rattle.mbe_transcriber.proofs.FollowLemmas.{seen_copied}
 use Rattle.mbe_transcriber.proofs.WroteLemmas as lemmas
 use Rattle.mbe_transcriber.proofs.JoinLemmas.{or_either, swapped, popped}
 use Rattle.mbe_transcriber.proofs.transcriber.+writing.Goals as goal

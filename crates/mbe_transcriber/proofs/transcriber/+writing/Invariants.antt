@@ -1,7 +1,7 @@
 use Rattle.std.proofs.Common.{◌≡◌, drop}
 use Rattle.std.specs.Prelude.{is_some, option_map}
 use Rattle.mbe_ops.specs.Views.{ops_of, separator_seen}
-use Rattle.mbe_bindings.specs.BindingViews.{bound_by}
+use Rattle.mbe_log.specs.BindingViews.{bound_by}
 use Rattle.mbe_transcriber.proofs.WroteLemmas.{Sofar, Rounded}
 use Rattle.mbe_transcriber.proofs.transcriber.+writing.Given as goal
 

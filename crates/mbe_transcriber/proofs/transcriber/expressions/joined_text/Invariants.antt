@@ -1,7 +1,7 @@
 use Rattle.std.proofs.Common.{drop}
 use Rattle.std.specs.Prelude.{is_some, string_bytes}
 use Rattle.mbe_ops.specs.Views.{elements_seen}
-use Rattle.mbe_bindings.specs.BindingViews.{bound_by}
+use Rattle.mbe_log.specs.BindingViews.{bound_by}
 use Rattle.mbe_transcriber.proofs.JoinLemmas.{Joining}
 use Rattle.mbe_transcriber.proofs.transcriber.expressions.joined_text.Given as goal
 

@@ -1,7 +1,7 @@
 use Rattle.std.proofs.Common.{◌≡◌, ◌∙◌, ap, sym, rules}
 use Rattle.std.specs.Prelude.{is_some, string_bytes, chars}
 use Rattle.mbe_semantics.specs.Writing.Concat.{are_identifier_chars}
-use Rattle.mbe_bindings.specs.BindingViews.{bound_by}
+use Rattle.mbe_log.specs.BindingViews.{bound_by}
 use Rattle.mbe_ops.specs.Views.{elements_seen}
 use Rattle.mbe_transcriber.proofs.JoinLemmas.{joined_wrote, dummy_wrote, or_told}
 use Rattle.mbe_transcriber.proofs.transcriber.expressions.write_concat.Goals as goal

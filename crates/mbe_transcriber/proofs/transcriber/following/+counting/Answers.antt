@@ -4,7 +4,7 @@ use Rattle.mbe_transcriber.specs.Counting.{shortest, shorter, extent_seen}
 use Rattle.mbe_semantics.specs.Syntax.Op.{uses_of, uses_of_op}
 use Rattle.mbe_semantics.specs.Writing.Rounds.{extent_under}
 use Rattle.mbe_ops.specs.Views.{ops_of, op_of}
-use Rattle.mbe_bindings.specs.BindingViews.{bound_by}
+use Rattle.mbe_log.specs.BindingViews.{bound_by}
 use Rattle.mbe_ops.proofs.OpViews.{view-open}
 use Rattle.mbe_transcriber.proofs.FollowLemmas.{shortest_next, shortest_end, ops_split, ops_over, view-body}
 use Rattle.mbe_transcriber.proofs.transcriber.following.+counting.Goals as goal

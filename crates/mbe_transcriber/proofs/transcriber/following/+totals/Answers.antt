@@ -1,7 +1,7 @@
 use Rattle.std.proofs.Common.{◌≡◌, length, ap, sym, ◌∙◌, rules}
-use Rattle.mbe_bindings.specs.declared.bindings.Binding.{Nested}
+use Rattle.mbe_log.specs.declared.bindings.Binding.{Nested}
 use Rattle.mbe_semantics.specs.Writing.Rounds.{value_total}
-use Rattle.mbe_bindings.specs.BindingViews.{value_seen}
+use Rattle.mbe_log.specs.BindingViews.{value_seen}
 use Rattle.mbe_transcriber.proofs.FollowLemmas.{total_zero}
 use Rattle.mbe_transcriber.proofs.transcriber.following.+totals.Goals as goal
 

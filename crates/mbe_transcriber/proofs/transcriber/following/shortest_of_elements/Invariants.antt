@@ -4,7 +4,7 @@ use Rattle.mbe_transcriber.specs.Counting.{shortest, shorter, extent_seen}
 use Rattle.mbe_semantics.specs.Syntax.Op.{uses_of_elements}
 use Rattle.mbe_semantics.specs.Writing.Rounds.{extent_under}
 use Rattle.mbe_ops.specs.Views.{elements_seen}
-use Rattle.mbe_bindings.specs.BindingViews.{bound_by}
+use Rattle.mbe_log.specs.BindingViews.{bound_by}
 use Rattle.mbe_transcriber.proofs.transcriber.following.shortest_of_elements.Given as goal
 
 abbrev pub invariant-loop-element : goal.invariant-loop-element

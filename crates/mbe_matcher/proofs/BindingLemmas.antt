@@ -1,4 +1,4 @@
--- What names lead to in environments that differ in order alone, and in what a match binds.
+-- What names lead to in environments that differ in order alone.
 use Rattle.std.proofs.Common.{◌≡◌, Bool, true, false, List, [], ◌∷◌, Option, Some, None, if◌then◌else◌, option_map, refl, sym, ap, subst, ◌∙◌}
 use Rattle.std.specs.Str.{bytes_eq}
 use Rattle.std.specs.Prelude.{map}
@@ -11,24 +11,6 @@ use Rattle.mbe_semantics.specs.Syntax.Op.{Name}
 use Rattle.mbe_semantics.specs.Readings.Item.{Item, matched, bound, grouped, skipped, rounds, Items, no_items, item, Rounds, no_rounds, round}
 use Rattle.mbe_semantics.specs.Bindings.Environment.{Environment, Value, fragment, list, empty, missing, value_of, set_value, grown, add_round, skip_names, bind_item, bind, bind_rounds}
 use Rattle.mbe_semantics.specs.Bindings.Environment.{BindsAlike}
-
--- ---- what a name is bound to
-
-abbrev pub values_bound : {X : Type 0} → (X → Value) → List (Name × X) → Environment
-values_bound seen es = map (λ e. (e.0, seen e.1)) es
-
-seen_if : {X : Type 0} (seen : X → Value) (b c : Bool) (x : X) (r : Option X) (w : Option Value) → b ≡ c → option_map seen r ≡ w
-    → option_map seen (if b then Some x else r) ≡ (if c then Some (seen x) else w)
-seen_if seen true c x r w e h = rw (← e) refl
-seen_if seen false c x r w e h = rw (← e) h
-
-pub found_by_name : {X : Type 0} (seen : X → Value) (es : List (Name × X)) (name : Name) → option_map seen (lookup (bytes_eq name) es) ≡ value_of (values_bound seen es) name
-found_by_name seen [] name = refl
-found_by_name seen (e ∷ es) name = seen_if seen (bytes_eq name e.0) (bytes_eq e.0 name) e.1 _ _ (nat_list_eq_equiv.symm name e.0) (found_by_name seen es name)
-
-pub seen_copied : {X Y : Type 0} (f : X → Y) (r : Option (Bor X)) → option_map (λ b. f b.now) r ≡ option_map f (option_copied r)
-seen_copied f None = refl
-seen_copied f (Some x) = refl
 
 -- ---- one name set
 
@@ -103,19 +85,3 @@ mutual
   alike_rounds : (rs : Rounds) (env other : Environment) → BindsAlike env other → BindsAlike (bind_rounds rs env) (bind_rounds rs other)
   alike_rounds no_rounds env other h = h
   alike_rounds (round rs is w) env other h = alike_round (bind is []) (bind_rounds rs env) (bind_rounds rs other) (alike_rounds rs env other h)
-
--- ---- what the map of a match holds
-
-module _ {X : Type 0} (seen : X → Value) where
-  looked : (b : Bool) (x : X) (w : Option X) → (if b then Some (seen x) else option_map seen w) ≡ option_map seen (if b then Some x else w)
-  looked true x w = refl
-  looked false x w = refl
-
-  -- one entry put in
-  pub entries_updated : (es fs : List (Name × X)) (name : Name) (x : X) →
-      ((q : Name) → lookup (bytes_eq q) fs ≡ (if bytes_eq name q then Some x else lookup (bytes_eq q) es)) →
-      BindsAlike (values_bound seen fs) (set_value (values_bound seen es) name (seen x))
-  entries_updated es fs name x h = λ q.
-      sym (found_by_name seen fs q) ∙ (ap (option_map seen) (h q) ∙ (sym (looked (bytes_eq name q) x (lookup (bytes_eq q) es))
-      ∙ (ap (λ (w : Option Value). if bytes_eq name q then Some (seen x) else w) (found_by_name seen es q)
-      ∙ sym (value_of-set_value (values_bound seen es) name q (seen x)))))
