@@ -12,7 +12,6 @@ use mbe_matcher::matcher;
 use mbe_parser::rules::Rule;
 use mbe_semantics::macro_call_style::MacroCallStyle;
 use mbe_transcriber::transcriber;
-use mbe_transcriber::transcriber::WriteError;
 use mbe_tt::buffer::TopSubtree;
 use mbe_tt::grammar::FragmentGrammar;
 use mbe_tt::span::{DelimSpan, Span};
@@ -68,12 +67,9 @@ fn apply<A: Allocator + Copy, G: FragmentGrammar, M: Fn(Span) -> Span + Copy>(
     let Some(bindings) = matcher::match_(alloc, grammar, &rule.lhs, input.iter())? else {
         return Ok(None);
     };
-    if !transcriber::writes_plainly(&rule.rhs.0) {
-        return Ok(None);
-    }
-    match transcriber::transcribe(alloc, &rule.rhs, &bindings, marker, call_site) {
-        Ok(tree) => Ok(Some(tree)),
-        Err(WriteError::NotCarried) => Ok(None),
-        Err(WriteError::Memory) => Err(AllocError),
+    let written = transcriber::transcribe(alloc, grammar, &rule.rhs, &bindings, marker, call_site)?;
+    match written.err {
+        Some(_) => Ok(None),
+        None => Ok(Some(written.value)),
     }
 }

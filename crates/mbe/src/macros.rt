@@ -144,8 +144,8 @@ impl<A: Allocator + Copy> DeclarativeMacro<A> {
     /// failure is want of memory, here or in the grammar; the macro and the argument are as they were in each case.
     ///
     /// The order of trying is rust-analyzer's: a rule that fits but whose substitution faults doesn't stop the search, as
-    /// it does in the Rust Reference. A rule with a repetition or a metavariable expression, or whose template names a
-    /// variable of kind `expr` or `path`, is passed over as one that doesn't fit, since these aren't expanded yet.
+    /// it does in the Rust Reference. A rule with a repetition in its pattern is passed over as one that doesn't fit, since
+    /// these aren't matched yet; every template is written.
     pub fn expand<G: FragmentGrammar, M: Fn(Span) -> Span + Copy>(
         &self,
         alloc: A,

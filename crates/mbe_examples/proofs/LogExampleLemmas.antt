@@ -12,7 +12,7 @@ four_not h =
     let m = h.1 in
     omega (arith, l, m)
   where
-    first_of_lists : List (List (ℕ × Entry)) → List (ℕ × Entry)
+    first_of_lists : List (List Entry) → List Entry
     first_of_lists [] = []
     first_of_lists (es ∷ more) = es
 

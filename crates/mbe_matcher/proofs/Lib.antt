@@ -1,3 +1,4 @@
+pub mod BindingLemmas
 pub mod WholeFronts
 pub mod PlainMatching
 pub mod PlainReadings

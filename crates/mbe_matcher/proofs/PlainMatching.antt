@@ -23,7 +23,7 @@ use Rattle.mbe_semantics.specs.Bindings.Environment.{BindsAlike}
 use Rattle.mbe_tt.proofs.CutLemmas.{no_true}
 use Rattle.mbe_ops.proofs.Fragments.{left_behind}
 use Rattle.mbe_ops.proofs.Fragments.{glued_is, puncts_longer}
-use Rattle.mbe_bindings.proofs.BindingLemmas.{alike_item}
+use Rattle.mbe_matcher.proofs.BindingLemmas.{alike_item}
 
 -- ---- tokens
 

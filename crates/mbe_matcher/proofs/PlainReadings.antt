@@ -9,7 +9,7 @@ use Rattle.mbe_tt.specs.declared.tt.Delimiter.{Delimiter}
 use Rattle.mbe_tt.proofs.CutLemmas.{flat_len-append, no_true, both_left, both_right}
 use Rattle.mbe_tt.proofs.PlaceLemmas.{rest_at-append, rest_at-in_group, rest_at-zero}
 use Rattle.mbe_semantics.specs.declared.kinds.MetaVarKind.{MetaVarKind}
-use Rattle.mbe_bindings.specs.declared.bindings.Bindings as found
+use Rattle.mbe_log.specs.declared.bindings.Bindings as found
 use Rattle.mbe_semantics.specs.Syntax.Op as ops
 use Rattle.mbe_semantics.specs.Syntax.Op.{Name, Token, Op, Ops, no_ops, op, op_has_no_repetition, has_no_repetition}
 use Rattle.mbe_semantics.specs.Readings.Item.{Fragment, style_of, Item, matched, bound, grouped, Items, no_items, item, item_width, items_width}
@@ -19,7 +19,7 @@ use Rattle.mbe_semantics.specs.Readings.Fit.{token_front}
 use Rattle.mbe_semantics.specs.Fragments.Takes.{takes}
 use Rattle.mbe_semantics.specs.Bindings.Environment.{Environment, bind}
 use Rattle.mbe_semantics.specs.Readings.Ambiguity.{IsReading, Fits}
-use Rattle.mbe_bindings.specs.BindingViews.{bound_by}
+use Rattle.mbe_log.specs.BindingViews.{bound_by}
 use Rattle.mbe_matcher.specs.Matching.{matched_front, bound_front, whole, grouped_front, then_read, read_front, read_on, read_all, HasReadAll, IsMatch}
 use Rattle.mbe_semantics.specs.Bindings.Environment.{BindsAlike}
 use Rattle.mbe_semantics.proofs.FrontLemmas.{token_cut, takes_cut}

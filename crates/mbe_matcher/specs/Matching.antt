@@ -9,11 +9,10 @@ use Rattle.mbe_semantics.specs.Syntax.Op.{Name, Op, Ops, no_ops, op, has_no_repe
 use Rattle.mbe_semantics.specs.Readings.Item.{Item, matched, bound, grouped, Items, no_items, item, style_of}
 use Rattle.mbe_semantics.specs.Fragments.Takes.{takes}
 use Rattle.mbe_semantics.specs.Readings.Fit.{token_front}
-use Rattle.mbe_semantics.specs.Bindings.Environment.{Environment, bind, bind_item, environment_of}
-use Rattle.mbe_semantics.specs.Bindings.Environment.{BindsAlike}
+use Rattle.mbe_semantics.specs.Bindings.Environment.{Environment, BindsAlike, bind, bind_item, environment_of}
 use Rattle.mbe_semantics.specs.Readings.Ambiguity.{IsReading, Fits}
-use Rattle.mbe_bindings.specs.declared.bindings.Bindings as found
-use Rattle.mbe_bindings.specs.BindingViews.{bound_by}
+use Rattle.mbe_log.specs.declared.bindings.Bindings as found
+use Rattle.mbe_log.specs.BindingViews.{bound_by}
 
 -- ---- what is read from the front, and the trees behind it
 

@@ -8,10 +8,11 @@ ghost use Rattle.mbe_semantics.specs.Syntax.Op.{group};
 ghost use Rattle.mbe_matcher.specs.Matching.{read_front, read_all, HasPassed, HasRead, HasReadAll, IsMatch};
 ghost use Rattle.mbe_semantics.specs.Fragments.Takes.{takes, ident_front, lifetime_front, literal_front, tree_front, begins_refused, is_refused_word};
 ghost use Rattle.mbe_ops.specs.Views.{IsTaken, op_of, ops_of, template_of};
-ghost use Rattle.mbe_bindings.specs.BindingViews.{bound_by};
+ghost use Rattle.mbe_log.specs.BindingViews.{bound_by};
 
 use crate::fragment::eat_front;
-use mbe_bindings::bindings::{Bindings, Fragment};
+use mbe_log::bindings::{Binding, Bindings};
+use mbe_log::fragment::Fragment;
 use mbe_ops::ops::{MetaTemplate, Op, same_chars};
 use mbe_semantics::kinds::{ExprKind, MetaVarKind};
 use mbe_tt::grammar::{FragmentGrammar, PrefixEntryPoint};
@@ -76,7 +77,7 @@ fn match_op<'a, A: Allocator + Copy, G: FragmentGrammar>(
         }
         Op::Var { name, kind, .. } => match eat_fragment(grammar, *kind, src)? {
             Some(tree) => {
-                bindings.insert(name, Fragment::of_kind(*kind, tree))?;
+                bindings.insert(name, Binding::Fragment(Fragment::of_kind(*kind, tree)))?;
                 Ok(true)
             }
             None => Ok(false),

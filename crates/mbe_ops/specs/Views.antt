@@ -28,6 +28,9 @@ element_seen (part.TheVariants.Ident i) = ops.ident_element (ident_of i)
 element_seen (part.TheVariants.Var i) = ops.variable_element (ident_of i)
 element_seen (part.TheVariants.Literal l) = ops.literal_element (literal_of l)
 
+abbrev pub elements_seen : {A : Type 0} → List (part.ConcatMetaVarExprElem A) → List Element
+elements_seen es = map element_seen es
+
 -- one level, with the ops inside already seen
 abbrev pub op_step : {A : Type 0} → Op-F A Op Ops → Op
 op_step (Op-F.Var name kind id) = variable name kind id

@@ -7,4 +7,3 @@ pub mod Expansion
 pub mod Laws
 pub mod Examples
 pub mod Matching
-pub mod Private

@@ -2,4 +2,6 @@
 #![tactic(auto)]
 
 pub mod kinds;
+pub mod log;
 pub mod macro_call_style;
+pub mod rounds;

@@ -6,7 +6,7 @@ use crate::trees::{built, lexed};
 use mbe::{DeclarativeMacro, MacroCallStyle};
 use mbe_tt::grammar::{FragmentGrammar, PrefixEntryPoint};
 use mbe_tt::span::Edition;
-use mbe_tt::tt::DelimiterKind::{Bracket, Invisible};
+use mbe_tt::tt::DelimiterKind::{Bracket, Invisible, Parenthesis};
 use mbe_tt::tt::TopSubtree;
 use std::alloc::Global;
 use std::process::Abort;
@@ -368,28 +368,40 @@ fn only_what_the_grammar_took_keeps_an_invisible_group(rt: HostRuntime) -> Resul
     Ok(())
 }
 
-static UNWRITTEN: [&str; 3] = [
-    "($e:expr) => {$e}; ($t:tt) => {A}",
-    "($p:path) => {$p}; ($t:tt) => {A}",
-    "($e:expr)=>{[$e]}; ($t:tt) => {A}",
-];
-
-// Until expressions and paths are written.
 #[test]
-fn rules_that_write_an_expression_or_a_path_are_passed_over(rt: HostRuntime) -> Result<(), Fail> {
-    for &rules in &UNWRITTEN {
-        let want = [word("A", 0, 31)];
-        assert_texts(&rt, rt.alloc(), &taking(1), (rules, "1"), Some((1, &want)))?;
-    }
-    let unnamed = "($e:expr) => {B}; ($t:tt) => {A}";
-    let want = [word("B", 0, 14)];
-    assert_texts(
-        &rt,
-        rt.alloc(),
-        &taking(1),
-        (unnamed, "1"),
-        Some((0, &want)),
-    )
+fn expressions_are_written(rt: HostRuntime) -> Result<(), Fail> {
+    let one = [number("1", 1, 0)];
+    let grouped = [open(Bracket, 0, 14), one[0], close(0, 17)];
+    let rules = "($e:expr) => {$e}; ($t:tt) => {A}";
+    assert_texts(&rt, rt.alloc(), &taking(1), (rules, "1"), Some((0, &one)))?;
+    let rules = "($e:expr) => {[$e]}; ($t:tt) => {A}";
+    assert_texts(&rt, rt.alloc(), &taking(1), (rules, "1"), Some((0, &grouped)))?;
+    let product = [
+        open(Parenthesis, 0, 15),
+        number("1", 1, 0),
+        alone('+', 1, 2),
+        number("2", 1, 4),
+        close(0, 15),
+        alone('*', 0, 17),
+        number("2", 0, 19),
+    ];
+    let texts = ("($e:expr) => {$e * 2}", "1 + 2");
+    assert_texts(&rt, rt.alloc(), &taking(3), texts, Some((0, &product)))
+}
+
+#[test]
+fn paths_are_written_with_double_colons(rt: HostRuntime) -> Result<(), Fail> {
+    let whole = at(1, 0, 7);
+    let want = [
+        word("Vec", 1, 0),
+        joint(':', 1, 0).with_span(whole),
+        alone(':', 1, 0).with_span(whole),
+        alone('<', 1, 3),
+        word("u8", 1, 4),
+        alone('>', 1, 6),
+    ];
+    let texts = ("($p:path) => {$p}", "Vec<u8>");
+    assert_texts(&rt, rt.alloc(), &taking(4), texts, Some((0, &want)))
 }
 
 #[test]

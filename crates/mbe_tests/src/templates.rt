@@ -1,6 +1,6 @@
 // What a template writes, and what a `$` stands for.
 use crate::runs::{assert_expands, assert_refused, assert_trees_expand};
-use crate::tokens::{Token, alone, at, close, joint, open, raw, string, word};
+use crate::tokens::{Token, alone, at, close, joint, number, open, raw, string, word};
 use crate::trees::{built, lexed};
 use mbe_tt::tt::DelimiterKind::{Brace, Bracket, Parenthesis};
 use mbe_tt::tt::TopSubtree;
@@ -149,4 +149,21 @@ fn true_and_false_are_names(rt: HostRuntime) -> Result<(), Fail> {
         word("false", 0, 24).with_span(unbound),
     ];
     assert_trees_expand(&rt, rt.alloc(), &literal, &argument, (0, &want))
+}
+
+#[test]
+fn metavariable_expressions_are_written(rt: HostRuntime) -> Result<(), Fail> {
+    let joined = [word("foo_bar", 0, 17).with_span(at(0, 17, 23))];
+    let texts = ("($x:ident) => {${concat($x, _bar)}}", "foo");
+    assert_expands(&rt, rt.alloc(), texts, (0, &joined))?;
+    let zero = [number("0", 1, 0).with_span(at(1, 0, 0))];
+    assert_expands(&rt, rt.alloc(), ("() => {${len()}}", ""), (0, &zero))?;
+    assert_expands(&rt, rt.alloc(), ("() => {${index()}}", ""), (0, &zero))
+}
+
+#[test]
+fn rounds_without_an_end_are_a_fault(rt: HostRuntime) -> Result<(), Fail> {
+    let texts = ("($x:ident) => {$($x)*}; ($x:ident) => {$x}", "a");
+    assert_expands(&rt, rt.alloc(), texts, (1, &[word("a", 1, 0)]))?;
+    assert_refused(&rt, rt.alloc(), ("($x:ident) => {$($x)*}", "a"))
 }

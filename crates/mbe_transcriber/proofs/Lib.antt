@@ -1,4 +1,7 @@
 pub mod WritingLemmas
-pub mod Unwritten
+pub mod FollowLemmas
+pub mod WroteLemmas
+pub mod VariableLemmas
+pub mod PathLemmas
+pub mod JoinLemmas
 pub mod AgreeLemmas
-pub mod FaultlessLemmas

@@ -1,98 +1,83 @@
 // Writes a template with its variables replaced.
-ghost use Rattle.std.specs.Prelude.{◌≡◌, ◌<◌, false, [], length, IfOk, IfErr, OnOk, IsTrue};
+ghost use Rattle.std.specs.Prelude.{◌≡◌, ◌<◌, Some, false, [], is_some, length, option_map, IfOk, OnOk};
 ghost use Rattle.mbe_tt.specs.Building.{put};
-ghost use Rattle.mbe_tt.specs.Grammar.{Grammar};
 ghost use Rattle.mbe_tt.specs.Shown.{literal_of, ident_of};
 ghost use Rattle.mbe_tt.specs.Top.{top_group};
-ghost use Rattle.mbe_tt.specs.Tree.{alone};
-ghost use Rattle.mbe_tt.specs.View.{trees};
-ghost use Rattle.mbe_semantics.specs.Bindings.Environment.{value_of};
+ghost use Rattle.mbe_errors.specs.ErrorViews.{errors_of};
 ghost use Rattle.mbe_semantics.specs.Laws.Marking.{MayMark};
-ghost use Rattle.mbe_semantics.specs.Syntax.Op.{uses_of, uses_of_op};
-ghost use Rattle.mbe_semantics.specs.Writing.Substitution.{IsSubstitution, faults, unbound_variable};
-ghost use Rattle.mbe_ops.specs.Views.{op_of, ops_of, template_of};
-ghost use Rattle.mbe_bindings.specs.BindingViews.{origin_style, bound_by};
-ghost use Rattle.mbe_semantics.specs.Private.Writing as spec;
-ghost use Rattle.mbe_semantics.specs.Private.Writing.{Appends, AreMarked, IsMarkedLiteral, IsMarkedIdent, IsWritten, AreWritten, plain_fragment, plain_variable, is_unwritten_value, some_unwritten};
-ghost use Rattle.mbe_transcriber.specs.declared.transcriber.WriteError.TheVariants.{NotCarried};
+ghost use Rattle.mbe_semantics.specs.Syntax.Op.{repetition, lifetime_separator};
+ghost use Rattle.mbe_semantics.specs.Writing.Substitution.{IsSubstitution, faults, op_faults, variable_faults, separator_trees, punct_trees};
+ghost use Rattle.mbe_ops.specs.Views.{op_of, ops_of, template_of, separator_seen};
+ghost use Rattle.mbe_log.specs.BindingViews.{bound_by};
+ghost use Rattle.mbe_transcriber.specs.Writing.{Appends, AreMarked, IsMarkedLiteral, IsMarkedIdent, IsWritten, AreWritten, IsVariableWritten, IsParted, Wrote};
 
-use mbe_bindings::bindings::{Bindings, Fragment, TokensOrigin};
-use mbe_ops::ops::{MetaTemplate, Op};
+mod expressions;
+mod fault;
+mod following;
+mod fragments;
+
+use crate::transcriber::expressions::{
+    find_ignored, write_concat, write_count, write_number,
+};
+use crate::transcriber::fault::Fault;
+use crate::transcriber::following::{
+    Simple, index_at, kept_rounds, rounds_at, rounds_of, simple_at,
+};
+use crate::transcriber::fragments::{write_default, write_fragment, write_unbound};
+use mbe_log::bindings::Bindings;
+use mbe_errors::value_result::{ExpandResult, ValueResult};
+use mbe_ops::ops::{MetaTemplate, Op, Separator};
+use mbe_semantics::kinds::RepeatKind;
+use mbe_semantics::rounds::Level;
 use mbe_tt::buffer::TopSubtree;
 use mbe_tt::builder::TopSubtreeBuilder;
+use mbe_tt::grammar::FragmentGrammar;
 use mbe_tt::span::Span;
 use mbe_tt::symbol::Symbol;
-use mbe_tt::tt::{Delimiter, Ident, IdentIsRaw, Leaf, Literal, Punct, Spacing};
-use mbe_tt::view::TokenTreesView;
+use mbe_tt::tt::{Delimiter, Ident, Leaf, Literal, Punct};
 use std::alloc::{AllocError, Allocator};
 
-// Whether the ops write tokens, groups and variables alone. No more is carried yet.
-#[cycle(plain)]
-pub fn writes_plainly<A: Allocator>(ops: &[Op<A>]) -> bool
-    ensures { result ≡ spec.writes_plainly (ops_of ops.now) }
-{
-    for op in ops {
-        if !op_writes_plainly(op) {
-            return false;
-        }
-    }
-    true
-}
-
-#[cycle(plain)]
-#[tactic(auto, using(mbe_ops::proofs::OpViews::views))]
-fn op_writes_plainly<A: Allocator>(op: &Op<A>) -> bool
-    ensures { result ≡ spec.writes_plainly_op (op_of op.now) }
-{
-    match op {
-        Op::Literal(_) | Op::Ident(_) | Op::Punct(_) | Op::Var { .. } => true,
-        Op::Subtree { tokens, .. } => writes_plainly(&tokens.0),
-        Op::Repeat { .. }
-        | Op::Ignore { .. }
-        | Op::Index { .. }
-        | Op::Len { .. }
-        | Op::Count { .. }
-        | Op::Concat { .. } => false,
-    }
-}
-
-/// Why a template wasn't written.
-#[derive(Clone, Copy, Debug)]
-pub enum WriteError {
-    Memory,
-    /// It names an expression or a path.
-    NotCarried,
-}
-
-impl From<AllocError> for WriteError {
-    ghost use Rattle.std.specs.Prelude.{◌≡◌};
-    ghost use Rattle.mbe_transcriber.specs.declared.transcriber.WriteError.TheVariants.{Memory};
-
-    ghost from_gives = { λ _ e. e ≡ Memory };
-
-    fn from(_error: AllocError) -> WriteError {
-        WriteError::Memory
-    }
-}
-
-// The template's substitution, in an invisible group with the call site as both spans. A template of tokens, groups and
-// variables never faults, as each name is bound to one fragment or to nothing.
-pub fn transcribe<A: Allocator + Copy, M: Fn(Span) -> Span + Copy>(
+/// What a template is written with.
+#[derive_where(Clone, Copy; A, M)]
+pub(crate) struct ExpandCtx<'t, 'a, A: Allocator, G, M> {
     alloc: A,
+    grammar: &'t G,
+    bindings: &'t Bindings<'a, A>,
+    marker: M,
+    call_site: Span,
+}
+
+/// The template's substitution, in an invisible group with the call site as both spans, and its first fault. Beside a fault the
+/// tree holds what could be written.
+pub fn transcribe<A: Allocator + Copy, G: FragmentGrammar, M: Fn(Span) -> Span + Copy>(
+    alloc: A,
+    grammar: &G,
     template: &MetaTemplate<A>,
     bindings: &Bindings<'_, A>,
     marker: M,
     call_site: Span,
-) -> Result<TopSubtree<A>, WriteError>
+) -> Result<ExpandResult<TopSubtree<A>, A>, AllocError>
     requires marks { MayMark (M.pre marker) }
-    requires plain { IsTrue (spec.writes_plainly (template_of template.now)) }
-    ensures faultless { faults (bound_by bindings.now) [] (template_of template.now) ≡ false }
-    ensures not_carried { IfErr result (λ e. e ≡ NotCarried → IsTrue (some_unwritten (bound_by bindings.now) (uses_of (template_of template.now)))) }
-    ensures substitution { IfOk result (λ t. (g : Grammar) → IsSubstitution g (M.post marker) call_site (bound_by bindings.now) (template_of template.now) (top_group t)) }
+    ensures fault { IfOk result (λ r. is_some r.err ≡ faults (bound_by bindings.now) [] (template_of template.now)) }
+    ensures substitution { IfOk result (λ r. faults (bound_by bindings.now) [] (template_of template.now) ≡ false
+        → IsSubstitution (G.grammar grammar.now) (M.post marker) call_site (bound_by bindings.now) (template_of template.now) (top_group r.value)) }
 {
+    let ctx = ExpandCtx {
+        alloc,
+        grammar,
+        bindings,
+        marker,
+        call_site,
+    };
     let mut builder = TopSubtreeBuilder::new(alloc, Delimiter::invisible_spanned(call_site))?;
-    expand_ops(&template.0, bindings, &mut builder, marker)?;
-    Ok(builder.build())
+    let err = match expand_ops(&ctx, &template.0, &[], &mut builder)? {
+        Some(fault) => Some(fault.error(alloc)?),
+        None => None,
+    };
+    Ok(ValueResult {
+        value: builder.build(),
+        err,
+    })
 }
 
 // The marker's answer.
@@ -103,60 +88,206 @@ fn mark<M: Fn(Span) -> Span + Copy>(span: Span, marker: M) -> Span
     marker(span)
 }
 
-// Writes the ops one after the other.
+// Writes the ops one after the other, and answers the first fault.
 #[cycle(writing)]
-#[tactic(auto, using(crate::proofs::WritingLemmas::plain_first))]
-fn expand_ops<A: Allocator + Copy, M: Fn(Span) -> Span + Copy>(
-    ops: &[Op<A>],
-    bindings: &Bindings<'_, A>,
+fn expand_ops<'t, A: Allocator + Copy, G: FragmentGrammar, M: Fn(Span) -> Span + Copy>(
+    ctx: &ExpandCtx<'_, '_, A, G, M>,
+    ops: &'t [Op<A>],
+    path: &[Level],
     builder: &mut TopSubtreeBuilder<A>,
-    marker: M,
-) -> Result<(), WriteError>
-    requires marks { MayMark (M.pre marker) }
+) -> Result<Option<Fault<'t, A>>, AllocError>
+    requires marks { MayMark (M.pre ctx.now.marker) }
     requires some_group { 0 < length builder.old }
-    requires plain { IsTrue (spec.writes_plainly (ops_of ops.now)) }
-    ensures open_groups { OnOk result (length builder.new ≡ length builder.old) }
-    ensures written { OnOk result (Appends (AreWritten (M.post marker) (bound_by bindings.now) (ops_of ops.now)) builder.old builder.new) }
-    ensures not_carried { IfErr result (λ e. e ≡ NotCarried → IsTrue (some_unwritten (bound_by bindings.now) (uses_of (ops_of ops.now)))) }
+    ensures { IfOk result (λ fault. Wrote (is_some fault) (faults (bound_by ctx.now.bindings.now) path.now (ops_of ops.now))
+        (AreWritten (G.grammar ctx.now.grammar.now) (M.post ctx.now.marker) ctx.now.call_site (bound_by ctx.now.bindings.now) path.now (ops_of ops.now))
+        builder.old builder.new) }
 {
+    let mut first = None;
     for op in ops {
-        expand_op(op, bindings, builder, marker)?;
+        let fault = expand_op(ctx, op, path, builder)?;
+        first = first.or(fault);
     }
-    Ok(())
+    Ok(first)
 }
 
 #[cycle(writing)]
 #[tactic(auto, using(mbe_ops::proofs::OpViews::views))]
-fn expand_op<A: Allocator + Copy, M: Fn(Span) -> Span + Copy>(
-    op: &Op<A>,
-    bindings: &Bindings<'_, A>,
+fn expand_op<'t, A: Allocator + Copy, G: FragmentGrammar, M: Fn(Span) -> Span + Copy>(
+    ctx: &ExpandCtx<'_, '_, A, G, M>,
+    op: &'t Op<A>,
+    path: &[Level],
     builder: &mut TopSubtreeBuilder<A>,
-    marker: M,
-) -> Result<(), WriteError>
-    requires marks { MayMark (M.pre marker) }
+) -> Result<Option<Fault<'t, A>>, AllocError>
+    requires marks { MayMark (M.pre ctx.now.marker) }
     requires some_group { 0 < length builder.old }
-    requires plain { IsTrue (spec.writes_plainly_op (op_of op.now)) }
-    ensures open_groups { OnOk result (length builder.new ≡ length builder.old) }
-    ensures written { OnOk result (Appends (IsWritten (M.post marker) (bound_by bindings.now) (op_of op.now)) builder.old builder.new) }
-    ensures not_carried { IfErr result (λ e. e ≡ NotCarried → IsTrue (some_unwritten (bound_by bindings.now) (uses_of_op (op_of op.now)))) }
+    ensures { IfOk result (λ fault. Wrote (is_some fault) (op_faults (bound_by ctx.now.bindings.now) path.now (op_of op.now))
+        (IsWritten (G.grammar ctx.now.grammar.now) (M.post ctx.now.marker) ctx.now.call_site (bound_by ctx.now.bindings.now) path.now (op_of op.now))
+        builder.old builder.new) }
 {
     match op {
-        Op::Literal(literal) => Ok(builder.push(Leaf::Literal(marked_literal(literal, marker)?))?),
-        Op::Ident(ident) => Ok(builder.push(Leaf::Ident(marked_ident(ident, marker)?))?),
-        Op::Punct(puncts) => Ok(write_puncts(puncts.as_slice(), builder, marker)?),
-        Op::Subtree { tokens, delimiter } => {
-            builder.open(delimiter.kind, mark(delimiter.opening, marker))?;
-            expand_ops(&tokens.0, bindings, builder, marker)?;
-            builder.close(mark(delimiter.close, marker));
-            Ok(())
+        Op::Literal(literal) => {
+            builder.push(Leaf::Literal(marked_literal(literal, ctx.marker)?))?;
+            Ok(None)
         }
-        Op::Var { name, id, .. } => write_var(name, *id, bindings, builder),
-        Op::Repeat { .. }
-        | Op::Ignore { .. }
-        | Op::Index { .. }
-        | Op::Len { .. }
-        | Op::Count { .. }
-        | Op::Concat { .. } => unreachable!(),
+        Op::Ident(ident) => {
+            builder.push(Leaf::Ident(marked_ident(ident, ctx.marker)?))?;
+            Ok(None)
+        }
+        Op::Punct(puncts) => {
+            write_puncts(puncts.as_slice(), builder, ctx.marker)?;
+            Ok(None)
+        }
+        Op::Subtree { tokens, delimiter } => {
+            builder.open(delimiter.kind, mark(delimiter.opening, ctx.marker))?;
+            let fault = expand_ops(ctx, &tokens.0, path, builder)?;
+            builder.close(mark(delimiter.close, ctx.marker));
+            Ok(fault)
+        }
+        Op::Repeat {
+            tokens,
+            kind,
+            separator,
+        } => expand_repeat(ctx, &tokens.0, *kind, separator.as_ref(), path, builder),
+        Op::Var { name, id, .. } => write_var(ctx, name, *id, path, builder),
+        Op::Ignore { name, id } => Ok(find_ignored(ctx.bindings, name, *id, path)),
+        Op::Index { depth } => {
+            write_number(ctx.alloc, index_at(path, *depth), ctx.call_site, builder)?;
+            Ok(None)
+        }
+        Op::Len { depth } => {
+            write_number(ctx.alloc, rounds_at(path, *depth), ctx.call_site, builder)?;
+            Ok(None)
+        }
+        Op::Count { name, depth } => write_count(ctx, name, *depth, path, builder),
+        Op::Concat { elements, span } => { write_concat(ctx, elements, *span, path, builder) }
+    }
+}
+
+// The rounds of the body, with the separator behind each but the last that doesn't fault. Where they are too many, or none
+// where one has to be, nothing is written.
+#[cycle(writing)]
+fn expand_repeat<'t, A: Allocator + Copy, G: FragmentGrammar, M: Fn(Span) -> Span + Copy>(
+    ctx: &ExpandCtx<'_, '_, A, G, M>,
+    body: &'t [Op<A>],
+    kind: RepeatKind,
+    separator: Option<&Separator<A>>,
+    path: &[Level],
+    builder: &mut TopSubtreeBuilder<A>,
+) -> Result<Option<Fault<'t, A>>, AllocError>
+    requires marks { MayMark (M.pre ctx.now.marker) }
+    requires some_group { 0 < length builder.old }
+    ensures { IfOk result (λ fault. Wrote (is_some fault)
+        (op_faults (bound_by ctx.now.bindings.now) path.now (repetition (ops_of body.now) (option_map (λ s. separator_seen s.now) separator.entry) kind))
+        (IsWritten (G.grammar ctx.now.grammar.now) (M.post ctx.now.marker) ctx.now.call_site (bound_by ctx.now.bindings.now) path.now
+        (repetition (ops_of body.now) (option_map (λ s. separator_seen s.now) separator.entry) kind))
+        builder.old builder.new) }
+{
+    let rounds = match kept_rounds(kind, rounds_of(ctx.bindings, path, body)) {
+        Ok(rounds) => rounds,
+        Err(kind) => {
+            return Ok(Some(Fault {
+                span: ctx.call_site,
+                kind,
+            }));
+        }
+    };
+    let mut inside = path.to_vec(ctx.alloc)?;
+    let mut first = None;
+    let mut separated = false;
+    for index in 0..rounds {
+        write_between(separated, separator, builder)?;
+        inside.push(Level { index, rounds })?;
+        let fault = expand_ops(ctx, body, &inside, builder)?;
+        let _level = inside.pop();
+        separated = fault.is_none();
+        first = first.or(fault);
+    }
+    Ok(first)
+}
+
+// The separator, where one goes here.
+fn write_between<A: Allocator>(
+    separated: bool,
+    separator: Option<&Separator<A>>,
+    builder: &mut TopSubtreeBuilder<A>,
+) -> Result<(), AllocError>
+    ensures open_groups { OnOk result (length builder.new ≡ length builder.old) }
+    ensures parted { OnOk result (IsParted (option_map (λ s. separator_seen s.now) separator.entry) separated builder.old builder.new) }
+{
+    if separated {
+        write_separator(separator, builder)
+    } else {
+        Ok(())
+    }
+}
+
+// A separator keeps its spans.
+fn write_separator<A: Allocator>(
+    separator: Option<&Separator<A>>,
+    builder: &mut TopSubtreeBuilder<A>,
+) -> Result<(), AllocError>
+    ensures { OnOk result (builder.new ≡ put (separator_trees (option_map (λ s. separator_seen s.now) separator.entry)) builder.old) }
+{
+    match separator {
+        None => Ok(()),
+        Some(Separator::Literal(literal)) => builder.push(Leaf::Literal(literal.clone()?)),
+        Some(Separator::Ident(ident)) => builder.push(Leaf::Ident(ident.clone()?)),
+        Some(Separator::Puncts(puncts)) => push_puncts(puncts.as_slice(), builder),
+        Some(Separator::Lifetime(quote, name)) => push_lifetime(*quote, name, builder),
+    }
+}
+
+fn push_lifetime<A: Allocator>(
+    quote: Punct,
+    name: &Ident<A>,
+    builder: &mut TopSubtreeBuilder<A>,
+) -> Result<(), AllocError>
+    ensures { OnOk result (builder.new ≡ put (separator_trees (Some (lifetime_separator quote (ident_of name.now)))) builder.old) }
+{
+    builder.push(Leaf::Punct(quote))?;
+    builder.push(Leaf::Ident(name.clone()?))
+}
+
+fn push_puncts<A: Allocator>(
+    puncts: &[Punct],
+    builder: &mut TopSubtreeBuilder<A>,
+) -> Result<(), AllocError>
+    ensures { OnOk result (builder.new ≡ put (punct_trees puncts.now) builder.old) }
+{
+    for punct in puncts {
+        builder.push(Leaf::Punct(*punct))?;
+    }
+    Ok(())
+}
+
+// What the variable took, or `$` and its name where it is bound to nothing.
+fn write_var<'t, A: Allocator + Copy, G, M: Fn(Span) -> Span + Copy>(
+    ctx: &ExpandCtx<'_, '_, A, G, M>,
+    name: &'t Symbol<A>,
+    id: Span,
+    path: &[Level],
+    builder: &mut TopSubtreeBuilder<A>,
+) -> Result<Option<Fault<'t, A>>, AllocError>
+    requires marks { MayMark (M.pre ctx.now.marker) }
+    requires some_group { 0 < length builder.old }
+    ensures { IfOk result (λ fault. Wrote (is_some fault) (variable_faults (bound_by ctx.now.bindings.now) path.now name.now)
+        (IsVariableWritten (M.post ctx.now.marker) ctx.now.call_site (bound_by ctx.now.bindings.now) path.now name.now id)
+        builder.old builder.new) }
+{
+    let Some(binding) = ctx.bindings.get(name) else {
+        write_unbound(name, id, builder)?;
+        return Ok(None);
+    };
+    match simple_at(binding, name, id, path) {
+        Ok(Simple::Fragment(fragment)) => {
+            write_fragment(fragment, id, ctx.marker, ctx.call_site, builder)?;
+            Ok(None)
+        }
+        Ok(Simple::Missing(kind)) => {
+            write_default(ctx.alloc, kind, mark(id, ctx.marker), builder)?;
+            Ok(None)
+        }
+        Err(fault) => Ok(Some(fault)),
     }
 }
 
@@ -206,58 +337,4 @@ fn write_puncts<A: Allocator, M: Fn(Span) -> Span + Copy>(
         }))?;
     }
     Ok(())
-}
-
-// What the variable took, or `$` and its name where it is bound to nothing.
-fn write_var<A: Allocator + Copy>(
-    name: &Symbol<A>,
-    id: Span,
-    bindings: &Bindings<'_, A>,
-    builder: &mut TopSubtreeBuilder<A>,
-) -> Result<(), WriteError>
-    ensures open_groups { OnOk result (length builder.new ≡ length builder.old) }
-    ensures written { OnOk result (builder.new ≡ put (plain_variable name.now id (value_of (bound_by bindings.now) name.now)) builder.old) }
-    ensures carried { OnOk result (is_unwritten_value (value_of (bound_by bindings.now) name.now) ≡ false) }
-    ensures not_carried { IfErr result (λ e. e ≡ NotCarried → IsTrue (is_unwritten_value (value_of (bound_by bindings.now) name.now))) }
-{
-    match bindings.get(name) {
-        Some(Fragment::Tokens { tree, origin }) => {
-            Ok(builder.extend_with_tt_alone(written_tokens(tree, origin))?)
-        }
-        Some(Fragment::Expr(_) | Fragment::Path(_)) => Err(WriteError::NotCarried),
-        None => Ok(write_unbound(name, id, builder)?),
-    }
-}
-
-// The trees as they are written, but for a last punct's spacing.
-fn written_tokens<'a, A: Allocator>(
-    tree: TokenTreesView<'a, A>,
-    origin: TokensOrigin,
-) -> TokenTreesView<'a, A>
-    ensures { alone (trees result) ≡ plain_fragment (origin_style origin) (trees tree.entry) }
-{
-    match origin {
-        TokensOrigin::Raw => tree.strip_invisible(),
-        TokensOrigin::Ast => tree,
-    }
-}
-
-fn write_unbound<A: Allocator>(
-    name: &Symbol<A>,
-    id: Span,
-    builder: &mut TopSubtreeBuilder<A>,
-) -> Result<(), AllocError>
-    ensures open_groups { OnOk result (length builder.new ≡ length builder.old) }
-    ensures written { OnOk result (builder.new ≡ put (unbound_variable name.now id) builder.old) }
-{
-    builder.push(Leaf::Punct(Punct {
-        char: '$',
-        spacing: Spacing::Alone,
-        span: id,
-    }))?;
-    builder.push(Leaf::Ident(Ident {
-        sym: name.clone()?,
-        is_raw: IdentIsRaw::No,
-        span: id,
-    }))
 }

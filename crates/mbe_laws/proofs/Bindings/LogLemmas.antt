@@ -1,140 +1,130 @@
 -- Each live handle of an ordered log has an account.
-use Rattle.std.specs.Prelude.{◌≡◌, ◌<◌, ◌≤◌, ◌+◌, ℕ, zero, suc, List, [], ◌∷◌, ◌++◌, length, take, slice_get, Some, refl}
+use Rattle.std.specs.Prelude.{◌≡◌, ◌<◌, ◌≤◌, ◌+◌, ℕ, zero, suc, max, List, [], ◌∷◌, ◌++◌, length, take, slice_get, Some, refl}
 use Rattle.std.proofs.Common.{arith}
-use Rattle.mbe_semantics.specs.Bindings.Account.{Command, Commands, CommandRounds, no_commands, command, no_command_rounds, command_round, Part, Entry, RoundEntry, Log, Gives, GivesRounds, PartGives, PartGivesRounds, gives_nothing, gives_binding, gives_empty, gives_skip, gives_missing, gives_nested, gives_link, gives_no_rounds, gives_round, gives_linked_rounds, part_gives, part_gives_rounds, AreBelow, IsBelow, AreRoundsBelow, StandsForLower, RoundStandsForLower, IsOrdered}
+use Rattle.mbe_semantics.specs.declared.log.Part.{Part}
+use Rattle.mbe_semantics.specs.Bindings.Account.{Command, Commands, CommandRounds, no_commands, command, no_command_rounds, command_round, Entry, RoundEntry, Log, Order, Gives, GivesRounds, PartGives, PartGivesRounds, gives_nothing, gives_binding, gives_empty, gives_skip, gives_missing, gives_nested, gives_link, gives_no_rounds, gives_round, gives_linked_rounds, part_gives, part_gives_rounds, IsBelow, AreRoundsBelow, StandsForLower, RoundStandsForLower, IsOrdered}
 use Rattle.mbe_semantics.specs.Laws.Laws.{LiveHaveAccounts, EntriesFollow}
 
-abbrev AreOrdered : Log → List (ℕ × Entry) → Type 0
-AreOrdered log [] = Unit {0}
-AreOrdered log (e ∷ es) = StandsForLower log e.0 e.1 × AreOrdered log es
+module _ (log : Log) (order : Order) where
+  -- each entry has a number below n, and stands for lower ones
+  abbrev AreReady : ℕ → List Entry → Type 0
+  AreReady n [] = Unit {0}
+  AreReady n (e ∷ es) = ((k : ℕ) × (k < n) × StandsForLower log order k e) × AreReady n es
 
-abbrev AreRoundsOrdered : Log → List (ℕ × RoundEntry) → Type 0
-AreRoundsOrdered log [] = Unit {0}
-AreRoundsOrdered log (e ∷ es) = RoundStandsForLower log e.0 e.1 × AreRoundsOrdered log es
+  -- the same, of rounds
+  abbrev AreRoundsReady : ℕ → List RoundEntry → Type 0
+  AreRoundsReady n [] = Unit {0}
+  AreRoundsReady n (e ∷ es) = ((k : ℕ) × (k < n) × RoundStandsForLower log order k e) × AreRoundsReady n es
 
-ordered_list : (log : Log) (es : List (ℕ × Entry)) → ((j n : ℕ) (e : Entry) → slice_get es j ≡ Some (n, e) → StandsForLower log n e) → AreOrdered log es
-ordered_list log [] h = tt
-ordered_list log (e ∷ es) h = (h 0 e.0 e.1 refl, ordered_list log es (λ j n x k. h (suc j) n x k))
+  -- the first m entries, whose numbers are those of places from i on
+  ready_list : (n m : ℕ) (number : ℕ → ℕ) (es : List Entry) → ((j : ℕ) → j < m → number j < n)
+      → ((j : ℕ) (e : Entry) → slice_get es j ≡ Some e → StandsForLower log order (number j) e) → AreReady n (take m es)
+  ready_list n zero number [] b h = tt
+  ready_list n zero number (e ∷ es) b h = tt
+  ready_list n (suc m) number [] b h = tt
+  ready_list n (suc m) number (e ∷ es) b h =
+      ((number 0, b 0 (omega arith), h 0 e refl), ready_list n m (λ j. number (suc j)) es (λ j k. b (suc j) (omega (arith, k))) (λ j x k. h (suc j) x k))
 
-ordered_rounds : (log : Log) (es : List (ℕ × RoundEntry)) → ((j n : ℕ) (e : RoundEntry) → slice_get es j ≡ Some (n, e) → RoundStandsForLower log n e) → AreRoundsOrdered log es
-ordered_rounds log [] h = tt
-ordered_rounds log (e ∷ es) h = (h 0 e.0 e.1 refl, ordered_rounds log es (λ j n x k. h (suc j) n x k))
+  ready_rounds : (n m : ℕ) (number : ℕ → ℕ) (es : List RoundEntry) → ((j : ℕ) → j < m → number j < n)
+      → ((j : ℕ) (e : RoundEntry) → slice_get es j ≡ Some e → RoundStandsForLower log order (number j) e) → AreRoundsReady n (take m es)
+  ready_rounds n zero number [] b h = tt
+  ready_rounds n zero number (e ∷ es) b h = tt
+  ready_rounds n (suc m) number [] b h = tt
+  ready_rounds n (suc m) number (e ∷ es) b h =
+      ((number 0, b 0 (omega arith), h 0 e refl), ready_rounds n m (λ j. number (suc j)) es (λ j k. b (suc j) (omega (arith, k))) (λ j x k. h (suc j) x k))
 
-take_ordered : (log : Log) (n : ℕ) (es : List (ℕ × Entry)) → AreOrdered log es → AreOrdered log (take n es)
-take_ordered log zero [] h = tt
-take_ordered log zero (e ∷ es) h = tt
-take_ordered log (suc n) [] h = tt
-take_ordered log (suc n) (e ∷ es) h = (h.0, take_ordered log n es h.1)
+  -- lists of entries with numbers below n give something
+  abbrev ListsGive : ℕ → Type 0
+  ListsGive n = (es : List Entry) → AreReady n es → (cs : Commands) → (all : Commands) × Gives log cs es all
 
-take_rounds_ordered : (log : Log) (n : ℕ) (es : List (ℕ × RoundEntry)) → AreRoundsOrdered log es → AreRoundsOrdered log (take n es)
-take_rounds_ordered log zero [] h = tt
-take_rounds_ordered log zero (e ∷ es) h = tt
-take_rounds_ordered log (suc n) [] h = tt
-take_rounds_ordered log (suc n) (e ∷ es) h = (h.0, take_rounds_ordered log n es h.1)
+  abbrev RoundsGive : ℕ → Type 0
+  RoundsGive n = (es : List RoundEntry) → AreRoundsReady n es → (rs : CommandRounds) → (all : CommandRounds) × GivesRounds log rs es all
 
-wider : (log : Log) {E : Type 0} (n m : ℕ) (es : List (ℕ × E)) → n ≤ m → AreBelow log n es → AreBelow log m es
-wider log n m [] h k = tt
-wider log n m (e ∷ es) h k = let a = k.0 in (omega (arith, h, a), wider log n m es h k.1)
+  part_some : IsOrdered log order → (n k : ℕ) (part : Part) → k ≤ n → ListsGive n → IsBelow log order k part → (cs : Commands) → (all : Commands) × PartGives log cs part all
+  part_some o n k part h give b cs =
+      let p = give (take part.first b.0.0) (ready_list n part.first (order.commands part.list) b.0.0 (λ j l. let a = b.1 j l in omega (arith, h, a)) (λ j e x. o.commands part.list j b.0.0 e b.0.1 x)) cs in
+      (p.0, part_gives cs part p.0 b.0.0 b.0.1 b.0.2 p.1)
 
-bound_of : (log : Log) {E : Type 0} (es : List (ℕ × E)) → (n : ℕ) × AreBelow log n es
-bound_of log [] = (0, tt)
-bound_of log (e ∷ es) = let p = bound_of log es in (1 + e.0 + p.0, (omega arith, wider log p.0 (1 + e.0 + p.0) es (omega arith) p.1))
+  rounds_part_some : IsOrdered log order → (n k : ℕ) (part : Part) → k ≤ n → RoundsGive n → AreRoundsBelow log order k part → (rs : CommandRounds) →
+      (all : CommandRounds) × PartGivesRounds log rs part all
+  rounds_part_some o n k part h give b rs =
+      let p = give (take part.first b.0.0) (ready_rounds n part.first (order.rounds part.list) b.0.0 (λ j l. let a = b.1 j l in omega (arith, h, a)) (λ j e x. o.rounds part.list j b.0.0 e b.0.1 x)) rs in
+      (p.0, part_gives_rounds rs part p.0 b.0.0 b.0.1 b.0.2 p.1)
 
--- lists of entries with numbers below n give something
-abbrev ListsGive : Log → ℕ → Type 0
-ListsGive log n = (es : List (ℕ × Entry)) → AreBelow log n es → AreOrdered log es → (cs : Commands) → (all : Commands) × Gives log cs es all
+  list_step : IsOrdered log order → (n : ℕ) → ListsGive n → RoundsGive n → ListsGive (suc n)
+  list_step o n f r [] b cs = (cs, gives_nothing cs)
+  list_step o n f r (Entry.binds name x ∷ es) b cs =
+      let p = list_step o n f r es b.1 (command cs (Command.binds name x)) in (p.0, gives_binding cs name x es p.0 p.1)
+  list_step o n f r (Entry.binds_nothing name ∷ es) b cs =
+      let p = list_step o n f r es b.1 (command cs (Command.binds_nothing name)) in (p.0, gives_empty cs name es p.0 p.1)
+  list_step o n f r (Entry.skips name ∷ es) b cs =
+      let p = list_step o n f r es b.1 (command cs (Command.skips name)) in (p.0, gives_skip cs name es p.0 p.1)
+  list_step o n f r (Entry.misses name kind ∷ es) b cs =
+      let p = list_step o n f r es b.1 (command cs (Command.misses name kind)) in (p.0, gives_missing cs name kind es p.0 p.1)
+  list_step o n f r (Entry.nests finished current ∷ es) b cs =
+      let q = rounds_part_some o n (b.0).0 finished (let a = (b.0).1 in omega (arith, a)) r ((b.0).2).0 no_command_rounds in
+      let c = part_some o n (b.0).0 current (let a = (b.0).1 in omega (arith, a)) f ((b.0).2).1 no_commands in
+      let p = list_step o n f r es b.1 (command cs (Command.nests (command_round q.0 c.0))) in
+      (p.0, gives_nested cs finished current es q.0 c.0 p.0 q.1 c.1 p.1)
+  list_step o n f r (Entry.links part ∷ es) b cs =
+      let c = part_some o n (b.0).0 part (let a = (b.0).1 in omega (arith, a)) f (b.0).2 cs in
+      let p = list_step o n f r es b.1 c.0 in
+      (p.0, gives_link cs part es c.0 p.0 c.1 p.1)
 
-abbrev RoundsGive : Log → ℕ → Type 0
-RoundsGive log n = (es : List (ℕ × RoundEntry)) → AreBelow log n es → AreRoundsOrdered log es → (rs : CommandRounds) → (all : CommandRounds) × GivesRounds log rs es all
+  rounds_step : IsOrdered log order → (n : ℕ) → ListsGive n → RoundsGive n → RoundsGive (suc n)
+  rounds_step o n f r [] b rs = (rs, gives_no_rounds rs)
+  rounds_step o n f r (RoundEntry.finishes part ∷ es) b rs =
+      let c = part_some o n (b.0).0 part (let a = (b.0).1 in omega (arith, a)) f (b.0).2 no_commands in
+      let p = rounds_step o n f r es b.1 (command_round rs c.0) in
+      (p.0, gives_round rs part es c.0 p.0 c.1 p.1)
+  rounds_step o n f r (RoundEntry.links part ∷ es) b rs =
+      let q = rounds_part_some o n (b.0).0 part (let a = (b.0).1 in omega (arith, a)) r (b.0).2 rs in
+      let p = rounds_step o n f r es b.1 q.0 in
+      (p.0, gives_linked_rounds rs part es q.0 p.0 q.1 p.1)
 
-part_some : (log : Log) → IsOrdered log → (n k : ℕ) (part : Part) → k ≤ n → ListsGive log n → IsBelow log k part → (cs : Commands) →
-    (all : Commands) × PartGives log cs part all
-part_some log o n k part h give b cs =
-    let p = give (take part.first b.0) (wider log k n (take part.first b.0) h b.3)
-    (take_ordered log part.first b.0 (ordered_list log b.0 (λ j m e x. o.commands part.list j m b.0 e b.1 x))) cs in
-    (p.0, part_gives cs part p.0 b.0 b.1 b.2 p.1)
+  both_give : IsOrdered log order → (n : ℕ) → ListsGive n × RoundsGive n
+  both_give o zero = (no_list, no_rounds)
+    where
+      no_list : ListsGive 0
+      no_list [] b cs = (cs, gives_nothing cs)
+      no_list (e ∷ es) b cs = let a = (b.0).1 in absurd (omega (arith, a))
 
-rounds_part_some : (log : Log) → IsOrdered log → (n k : ℕ) (part : Part) → k ≤ n → RoundsGive log n → AreRoundsBelow log k part → (rs : CommandRounds) →
-    (all : CommandRounds) × PartGivesRounds log rs part all
-rounds_part_some log o n k part h give b rs =
-    let p = give (take part.first b.0) (wider log k n (take part.first b.0) h b.3)
-    (take_rounds_ordered log part.first b.0 (ordered_rounds log b.0 (λ j m e x. o.rounds part.list j m b.0 e b.1 x))) rs in
-    (p.0, part_gives_rounds rs part p.0 b.0 b.1 b.2 p.1)
+      no_rounds : RoundsGive 0
+      no_rounds [] b rs = (rs, gives_no_rounds rs)
+      no_rounds (e ∷ es) b rs = let a = (b.0).1 in absurd (omega (arith, a))
+  both_give o (suc n) = let p = both_give o n in (list_step o n p.0 p.1, rounds_step o n p.0 p.1)
 
-list_step : (log : Log) → IsOrdered log → (n : ℕ) → ListsGive log n → RoundsGive log n → ListsGive log (suc n)
-list_step log o n f r [] b h cs = (cs, gives_nothing cs)
-list_step log o n f r ((k, Entry.binds name x) ∷ es) b h cs =
-    let p = list_step log o n f r es b.1 h.1 (command cs (Command.binds name x)) in (p.0, gives_binding cs k name x es p.0 p.1)
-list_step log o n f r ((k, Entry.binds_nothing name) ∷ es) b h cs =
-    let p = list_step log o n f r es b.1 h.1 (command cs (Command.binds_nothing name)) in (p.0, gives_empty cs k name es p.0 p.1)
-list_step log o n f r ((k, Entry.skips name) ∷ es) b h cs =
-    let p = list_step log o n f r es b.1 h.1 (command cs (Command.skips name)) in (p.0, gives_skip cs k name es p.0 p.1)
-list_step log o n f r ((k, Entry.misses name kind) ∷ es) b h cs =
-    let p = list_step log o n f r es b.1 h.1 (command cs (Command.misses name kind)) in (p.0, gives_missing cs k name kind es p.0 p.1)
-list_step log o n f r ((k, Entry.nests finished current) ∷ es) b h cs =
-    let q = rounds_part_some log o n k finished (let a = b.0 in omega (arith, a)) r (h.0).0 no_command_rounds in
-    let c = part_some log o n k current (let a = b.0 in omega (arith, a)) f (h.0).1 no_commands in
-    let p = list_step log o n f r es b.1 h.1 (command cs (Command.nests (command_round q.0 c.0))) in
-    (p.0, gives_nested cs k finished current es q.0 c.0 p.0 q.1 c.1 p.1)
-list_step log o n f r ((k, Entry.links part) ∷ es) b h cs =
-    let c = part_some log o n k part (let a = b.0 in omega (arith, a)) f h.0 cs in
-    let p = list_step log o n f r es b.1 h.1 c.0 in
-    (p.0, gives_link cs k part es c.0 p.0 c.1 p.1)
-
-rounds_step : (log : Log) → IsOrdered log → (n : ℕ) → ListsGive log n → RoundsGive log n → RoundsGive log (suc n)
-rounds_step log o n f r [] b h rs = (rs, gives_no_rounds rs)
-rounds_step log o n f r ((k, RoundEntry.finishes part) ∷ es) b h rs =
-    let c = part_some log o n k part (let a = b.0 in omega (arith, a)) f h.0 no_commands in
-    let p = rounds_step log o n f r es b.1 h.1 (command_round rs c.0) in
-    (p.0, gives_round rs k part es c.0 p.0 c.1 p.1)
-rounds_step log o n f r ((k, RoundEntry.links part) ∷ es) b h rs =
-    let q = rounds_part_some log o n k part (let a = b.0 in omega (arith, a)) r h.0 rs in
-    let p = rounds_step log o n f r es b.1 h.1 q.0 in
-    (p.0, gives_linked_rounds rs k part es q.0 p.0 q.1 p.1)
-
-both_give : (log : Log) → IsOrdered log → (n : ℕ) → ListsGive log n × RoundsGive log n
-both_give log o zero = (no_list, no_rounds)
+-- a number above those of the first places
+above : (number : ℕ → ℕ) (m : ℕ) → (n : ℕ) × ((j : ℕ) → j < m → number j < n)
+above number zero = (0, λ j h. omega (arith, h))
+above number (suc m) = let p = above (λ j. number (suc j)) m in (1 + number 0 + p.0, go p)
   where
-    no_list : ListsGive log 0
-    no_list [] b h cs = (cs, gives_nothing cs)
-    no_list (e ∷ es) b h cs = let a = b.0 in absurd (omega (arith, a))
-
-    no_rounds : RoundsGive log 0
-    no_rounds [] b h rs = (rs, gives_no_rounds rs)
-    no_rounds (e ∷ es) b h rs = let a = b.0 in absurd (omega (arith, a))
-both_give log o (suc n) = let p = both_give log o n in (list_step log o n p.0 p.1, rounds_step log o n p.0 p.1)
-
-within : {X : Type 0} (xs : List X) (i : ℕ) → i < length xs → (x : X) × (slice_get xs i ≡ Some x)
-within [] i h = absurd (omega (arith, h))
-within (x ∷ xs) zero h = (x, refl)
-within (x ∷ xs) (suc i) h = within xs i (omega (arith, h))
+    go : (p : (n : ℕ) × ((j : ℕ) → j < m → number (suc j) < n)) (j : ℕ) → j < suc m → number j < 1 + number 0 + p.0
+    go p zero h = omega arith
+    go p (suc j) h = let a = p.1 j (omega (arith, h)) in omega (arith, a)
 
 pub live_have_accounts : LiveHaveAccounts
-live_have_accounts log h o l =
-    let c = within log.commands h.current l.0 in
-    let r = within log.rounds h.finished l.1 in
-    let b = bound_of log c.0 in
-    let d = bound_of log r.0 in
-    let p = (both_give log o b.0).0 c.0 b.1 (ordered_list log c.0 (λ j m e x. o.commands h.current j m c.0 e c.1 x)) no_commands in
-    let q = (both_give log o d.0).1 r.0 d.1 (ordered_rounds log r.0 (λ j m e x. o.rounds h.finished j m r.0 e r.1 x)) no_command_rounds in (
-      record { finished = q.0; current = p.0 },
-      record { commands = c.0; rounds = r.0; current_list = c.1; finished_list = r.1; current = p.1; finished = q.1 },
-    )
+live_have_accounts log order h o l =
+    let b = above (order.commands h.current.list) h.current.first in
+    let d = above (order.rounds h.finished.list) h.finished.first in
+    let p = part_some log order o b.0 b.0 h.current (omega arith) (both_give log order o b.0).0 (l.0, b.1) no_commands in
+    let q = rounds_part_some log order o d.0 d.0 h.finished (omega arith) (both_give log order o d.0).1 (l.1, d.1) no_command_rounds in
+    (record { finished = q.0; current = p.0 }, record { current = p.1; finished = q.1 })
 
-follow : (log : Log) {cs middle : Commands} {es : List (ℕ × Entry)} → Gives log cs es middle → (more : List (ℕ × Entry)) (all : Commands) → Gives log middle more all → Gives log cs (es ++ more) all
+follow : (log : Log) {cs middle : Commands} {es : List Entry} → Gives log cs es middle → (more : List Entry) (all : Commands) → Gives log middle more all → Gives log cs (es ++ more) all
 follow log (gives_nothing cs) more all h = h
-follow log (gives_binding cs n name x es _ r) more all h = gives_binding cs n name x (es ++ more) all (follow log r more all h)
-follow log (gives_empty cs n name es _ r) more all h = gives_empty cs n name (es ++ more) all (follow log r more all h)
-follow log (gives_skip cs n name es _ r) more all h = gives_skip cs n name (es ++ more) all (follow log r more all h)
-follow log (gives_missing cs n name kind es _ r) more all h = gives_missing cs n name kind (es ++ more) all (follow log r more all h)
-follow log (gives_nested cs n finished current es rs ds _ p q r) more all h = gives_nested cs n finished current (es ++ more) rs ds all p q (follow log r more all h)
-follow log (gives_link cs n part es ds _ p r) more all h = gives_link cs n part (es ++ more) ds all p (follow log r more all h)
+follow log (gives_binding cs name x es _ r) more all h = gives_binding cs name x (es ++ more) all (follow log r more all h)
+follow log (gives_empty cs name es _ r) more all h = gives_empty cs name (es ++ more) all (follow log r more all h)
+follow log (gives_skip cs name es _ r) more all h = gives_skip cs name (es ++ more) all (follow log r more all h)
+follow log (gives_missing cs name kind es _ r) more all h = gives_missing cs name kind (es ++ more) all (follow log r more all h)
+follow log (gives_nested cs finished current es rs ds _ p q r) more all h = gives_nested cs finished current (es ++ more) rs ds all p q (follow log r more all h)
+follow log (gives_link cs part es ds _ p r) more all h = gives_link cs part (es ++ more) ds all p (follow log r more all h)
 
-rounds_follow : (log : Log) {rs middle : CommandRounds} {es : List (ℕ × RoundEntry)} → GivesRounds log rs es middle → (more : List (ℕ × RoundEntry)) (all : CommandRounds) →
+rounds_follow : (log : Log) {rs middle : CommandRounds} {es : List RoundEntry} → GivesRounds log rs es middle → (more : List RoundEntry) (all : CommandRounds) →
     GivesRounds log middle more all → GivesRounds log rs (es ++ more) all
 rounds_follow log (gives_no_rounds rs) more all h = h
-rounds_follow log (gives_round rs n part es cs _ p r) more all h = gives_round rs n part (es ++ more) cs all p (rounds_follow log r more all h)
-rounds_follow log (gives_linked_rounds rs n part es qs _ p r) more all h = gives_linked_rounds rs n part (es ++ more) qs all p (rounds_follow log r more all h)
+rounds_follow log (gives_round rs part es cs _ p r) more all h = gives_round rs part (es ++ more) cs all p (rounds_follow log r more all h)
+rounds_follow log (gives_linked_rounds rs part es qs _ p r) more all h = gives_linked_rounds rs part (es ++ more) qs all p (rounds_follow log r more all h)
 
 pub entries_follow : EntriesFollow
 entries_follow = record {

@@ -7,7 +7,8 @@ use Rattle.mbe_semantics.specs.declared.kinds.RepeatKind.{RepeatKind}
 use Rattle.mbe_semantics.specs.declared.kinds.RepeatKind.TheVariants.{ZeroOrMore, OneOrMore, ZeroOrOne}
 use Rattle.mbe_semantics.specs.Syntax.Op.{Name, Use, used_name, uses_of}
 use Rattle.mbe_semantics.specs.Bindings.Environment.{Value, fragment, list, empty, missing, Values, no_values, value, Environment, value_of}
-use Rattle.mbe_semantics.specs.Writing.Rounds.{Level, Path, member, value_count, follow, reach, reached, Extent, finite, endless, extent_of, extent_under, lesser, least_extent, extent_over, kept}
+use Rattle.mbe_semantics.specs.declared.rounds.Level.{Level}
+use Rattle.mbe_semantics.specs.Writing.Rounds.{Path, member, value_count, follow, reach, reached, Extent, finite, endless, extent_of, extent_under, lesser, least_extent, extent_over, kept}
 use Rattle.mbe_semantics.specs.Laws.Laws.{IsUsed, RoundsHaveValues}
 
 -- behind a longer path the value stays, or it is one that each index reached

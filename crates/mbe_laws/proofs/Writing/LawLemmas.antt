@@ -38,24 +38,24 @@ writes_all_rounds Marks g call_site env path body separator n out e h k = (
 )
 
 mutual
-  one_list : (log : Log) {cs : Commands} {es : List (ℕ × Entry)} {all : Commands} → Gives log cs es all → (bs : Commands) → Gives log cs es bs → all ≡ bs
+  one_list : (log : Log) {cs : Commands} {es : List Entry} {all : Commands} → Gives log cs es all → (bs : Commands) → Gives log cs es bs → all ≡ bs
   one_list log (gives_nothing cs) bs (gives_nothing _) = refl
-  one_list log (gives_binding cs n name x es all r) bs (gives_binding _ _ _ _ _ _ s) = one_list log r bs s
-  one_list log (gives_empty cs n name es all r) bs (gives_empty _ _ _ _ _ s) = one_list log r bs s
-  one_list log (gives_skip cs n name es all r) bs (gives_skip _ _ _ _ _ s) = one_list log r bs s
-  one_list log (gives_missing cs n name kind es all r) bs (gives_missing _ _ _ _ _ _ s) = one_list log r bs s
-  one_list log (gives_nested cs n finished current es rs ds all p q r) bs (gives_nested _ _ _ _ _ rs' ds' _ p' q' r') =
+  one_list log (gives_binding cs name x es all r) bs (gives_binding _ _ _ _ _ s) = one_list log r bs s
+  one_list log (gives_empty cs name es all r) bs (gives_empty _ _ _ _ s) = one_list log r bs s
+  one_list log (gives_skip cs name es all r) bs (gives_skip _ _ _ _ s) = one_list log r bs s
+  one_list log (gives_missing cs name kind es all r) bs (gives_missing _ _ _ _ _ s) = one_list log r bs s
+  one_list log (gives_nested cs finished current es rs ds all p q r) bs (gives_nested _ _ _ _ rs' ds' _ p' q' r') =
       one_list log r bs (subst (λ x. Gives log (command cs (Command.nests (command_round x ds))) es bs) (sym (one_rounds_part log p rs' p'))
       (subst (λ x. Gives log (command cs (Command.nests (command_round rs' x))) es bs) (sym (one_part log q ds' q')) r'))
-  one_list log (gives_link cs n part es ds all p r) bs (gives_link _ _ _ _ ds' _ p' r') =
+  one_list log (gives_link cs part es ds all p r) bs (gives_link _ _ _ ds' _ p' r') =
       one_list log r bs (subst (λ x. Gives log x es bs) (sym (one_part log p ds' p')) r')
 
-  one_rounds : (log : Log) {rs : CommandRounds} {es : List (ℕ × RoundEntry)} {all : CommandRounds} → GivesRounds log rs es all → (bs : CommandRounds) →
+  one_rounds : (log : Log) {rs : CommandRounds} {es : List RoundEntry} {all : CommandRounds} → GivesRounds log rs es all → (bs : CommandRounds) →
       GivesRounds log rs es bs → all ≡ bs
   one_rounds log (gives_no_rounds rs) bs (gives_no_rounds _) = refl
-  one_rounds log (gives_round rs n part es cs all p r) bs (gives_round _ _ _ _ cs' _ p' r') =
+  one_rounds log (gives_round rs part es cs all p r) bs (gives_round _ _ _ cs' _ p' r') =
       one_rounds log r bs (subst (λ x. GivesRounds log (command_round rs x) es bs) (sym (one_part log p cs' p')) r')
-  one_rounds log (gives_linked_rounds rs n part es qs all p r) bs (gives_linked_rounds _ _ _ _ qs' _ p' r') =
+  one_rounds log (gives_linked_rounds rs part es qs all p r) bs (gives_linked_rounds _ _ _ qs' _ p' r') =
       one_rounds log r bs (subst (λ x. GivesRounds log x es bs) (sym (one_rounds_part log p qs' p')) r')
 
   one_part : (log : Log) {cs : Commands} {part : _} {all : Commands} → PartGives log cs part all → (bs : Commands) → PartGives log cs part bs → all ≡ bs
@@ -69,6 +69,5 @@ mutual
 
 pub one_account : OneAccount
 one_account log h a b p q =
-    ap (λ x. record a { current = x }) (one_list log p.current b.current (subst (λ x. Gives log no_commands x b.current) (same_Some q.commands p.commands (sym q.current_list ∙ p.current_list)) q.current))
-    ∙ ap (λ x. record { finished = x; current = b.current })
-    (one_rounds log p.finished b.finished (subst (λ x. GivesRounds log no_command_rounds x b.finished) (same_Some q.rounds p.rounds (sym q.finished_list ∙ p.finished_list)) q.finished))
+    ap (λ x. record a { current = x }) (one_part log p.current b.current q.current)
+    ∙ ap (λ x. record { finished = x; current = b.current }) (one_rounds_part log p.finished b.finished q.finished)

@@ -3,6 +3,7 @@
 use Rattle.std.specs.Prelude.{◌≡◌, ◌≢◌, ◌<◌, ◌≤◌, ℕ, zero, suc, List, [], ◌∷◌, ◌++◌, length, take, slice_get, Option, Some, None}
 use Rattle.mbe_tt.specs.Tree.{none}
 use Rattle.mbe_semantics.specs.declared.kinds.MetaVarKind.{MetaVarKind}
+use Rattle.mbe_semantics.specs.declared.log.Part.{Part}
 use Rattle.mbe_semantics.specs.Syntax.Op.{Name}
 use Rattle.mbe_semantics.specs.Readings.Item as items
 use Rattle.mbe_semantics.specs.Readings.Item.{Fragment, Item, matched, bound, grouped, skipped, rounds, Items, no_items, item, Rounds, no_rounds, round}
@@ -136,11 +137,6 @@ commands_of is = write is no_commands
 
 -- ---- the log
 
--- the first so many entries of a list
-pub record Part : Type 0 where
-  pub list : ℕ
-  pub first : ℕ
-
 -- what a list of commands in the log holds
 pub data Entry : Type 0 where
   binds : Name → Fragment → Entry
@@ -159,103 +155,108 @@ pub data RoundEntry : Type 0 where
   -- finished rounds of another list
   links : Part → RoundEntry
 
--- each entry with its number in the order of writing
+-- all lists
 pub record Log : Type 0 where
-  pub commands : List (List (ℕ × Entry))
-  pub rounds : List (List (ℕ × RoundEntry))
+  pub commands : List (List Entry)
+  pub rounds : List (List RoundEntry)
 
--- which two lists are a handle's own
+-- a log without lists
+abbrev pub no_lists : Log
+no_lists = record { commands = []; rounds = [] }
+
+-- which entries are a handle's: of which two lists, and how many of their first ones
 pub record Handle : Type 0 where
-  pub current : ℕ
-  pub finished : ℕ
+  pub current : Part
+  pub finished : Part
 
--- both its lists are in the log
+-- the list is there, and has so many entries
+abbrev pub IsIn : {E : Type 0} → List (List E) → Part → Type 0
+IsIn {E} lists part = (es : List E) × (slice_get lists part.list ≡ Some es) × (part.first ≤ length es)
+
+-- both its parts are in the log
 abbrev pub IsLive : Log → Handle → Type 0
-IsLive log h = (h.current < length log.commands) × (h.finished < length log.rounds)
+IsLive log h = IsIn log.commands h.current × IsIn log.rounds h.finished
 
 -- two handles have no list in common
 abbrev pub AreApart : Handle → Handle → Type 0
-AreApart h k = (h.current ≢ k.current) × (h.finished ≢ k.finished)
+AreApart h k = (h.current.list ≢ k.current.list) × (h.finished.list ≢ k.finished.list)
+
+-- The number of each entry in the order of writing, by its list and its place there. It isn't stored.
+pub record Order : Type 0 where
+  pub commands : ℕ → ℕ → ℕ
+  pub rounds : ℕ → ℕ → ℕ
 
 module _ (log : Log) where
   mutual
     -- What entries give behind the commands before them, when parts are replaced by what they stand for.
-    pub data Gives : Commands → List (ℕ × Entry) → Commands → Type 0 where
+    pub data Gives : Commands → List Entry → Commands → Type 0 where
       gives_nothing : (cs : Commands) → Gives cs [] cs
-      gives_binding : (cs : Commands) (n : ℕ) (name : Name) (x : Fragment) (es : List (ℕ × Entry)) (all : Commands) →
-          Gives (command cs (Command.binds name x)) es all → Gives cs ((n, Entry.binds name x) ∷ es) all
-      gives_empty : (cs : Commands) (n : ℕ) (name : Name) (es : List (ℕ × Entry)) (all : Commands) →
-          Gives (command cs (Command.binds_nothing name)) es all → Gives cs ((n, Entry.binds_nothing name) ∷ es) all
-      gives_skip : (cs : Commands) (n : ℕ) (name : Name) (es : List (ℕ × Entry)) (all : Commands) →
-          Gives (command cs (Command.skips name)) es all → Gives cs ((n, Entry.skips name) ∷ es) all
-      gives_missing : (cs : Commands) (n : ℕ) (name : Name) (kind : MetaVarKind) (es : List (ℕ × Entry)) (all : Commands) →
-          Gives (command cs (Command.misses name kind)) es all → Gives cs ((n, Entry.misses name kind) ∷ es) all
-      gives_nested : (cs : Commands) (n : ℕ) (finished current : Part) (es : List (ℕ × Entry)) (rs : CommandRounds) (ds all : Commands) →
+      gives_binding : (cs : Commands) (name : Name) (x : Fragment) (es : List Entry) (all : Commands) →
+          Gives (command cs (Command.binds name x)) es all → Gives cs (Entry.binds name x ∷ es) all
+      gives_empty : (cs : Commands) (name : Name) (es : List Entry) (all : Commands) →
+          Gives (command cs (Command.binds_nothing name)) es all → Gives cs (Entry.binds_nothing name ∷ es) all
+      gives_skip : (cs : Commands) (name : Name) (es : List Entry) (all : Commands) →
+          Gives (command cs (Command.skips name)) es all → Gives cs (Entry.skips name ∷ es) all
+      gives_missing : (cs : Commands) (name : Name) (kind : MetaVarKind) (es : List Entry) (all : Commands) →
+          Gives (command cs (Command.misses name kind)) es all → Gives cs (Entry.misses name kind ∷ es) all
+      gives_nested : (cs : Commands) (finished current : Part) (es : List Entry) (rs : CommandRounds) (ds all : Commands) →
           PartGivesRounds no_command_rounds finished rs → PartGives no_commands current ds →
-          Gives (command cs (Command.nests (command_round rs ds))) es all → Gives cs ((n, Entry.nests finished current) ∷ es) all
-      gives_link : (cs : Commands) (n : ℕ) (part : Part) (es : List (ℕ × Entry)) (ds all : Commands) →
-          PartGives cs part ds → Gives ds es all → Gives cs ((n, Entry.links part) ∷ es) all
+          Gives (command cs (Command.nests (command_round rs ds))) es all → Gives cs (Entry.nests finished current ∷ es) all
+      gives_link : (cs : Commands) (part : Part) (es : List Entry) (ds all : Commands) →
+          PartGives cs part ds → Gives ds es all → Gives cs (Entry.links part ∷ es) all
 
     -- the same, of rounds
-    pub data GivesRounds : CommandRounds → List (ℕ × RoundEntry) → CommandRounds → Type 0 where
+    pub data GivesRounds : CommandRounds → List RoundEntry → CommandRounds → Type 0 where
       gives_no_rounds : (rs : CommandRounds) → GivesRounds rs [] rs
-      gives_round : (rs : CommandRounds) (n : ℕ) (part : Part) (es : List (ℕ × RoundEntry)) (cs : Commands) (all : CommandRounds) →
-          PartGives no_commands part cs → GivesRounds (command_round rs cs) es all → GivesRounds rs ((n, RoundEntry.finishes part) ∷ es) all
-      gives_linked_rounds : (rs : CommandRounds) (n : ℕ) (part : Part) (es : List (ℕ × RoundEntry)) (qs all : CommandRounds) →
-          PartGivesRounds rs part qs → GivesRounds qs es all → GivesRounds rs ((n, RoundEntry.links part) ∷ es) all
+      gives_round : (rs : CommandRounds) (part : Part) (es : List RoundEntry) (cs : Commands) (all : CommandRounds) →
+          PartGives no_commands part cs → GivesRounds (command_round rs cs) es all → GivesRounds rs (RoundEntry.finishes part ∷ es) all
+      gives_linked_rounds : (rs : CommandRounds) (part : Part) (es : List RoundEntry) (qs all : CommandRounds) →
+          PartGivesRounds rs part qs → GivesRounds qs es all → GivesRounds rs (RoundEntry.links part ∷ es) all
 
     -- the first entries of a list give these commands
     pub data PartGives : Commands → Part → Commands → Type 0 where
-      part_gives : (cs : Commands) (part : Part) (all : Commands) (es : List (ℕ × Entry)) → slice_get log.commands part.list ≡ Some es → part.first ≤ length es →
+      part_gives : (cs : Commands) (part : Part) (all : Commands) (es : List Entry) → slice_get log.commands part.list ≡ Some es → part.first ≤ length es →
           Gives cs (take part.first es) all → PartGives cs part all
 
     -- the same, of rounds
     pub data PartGivesRounds : CommandRounds → Part → CommandRounds → Type 0 where
-      part_gives_rounds : (rs : CommandRounds) (part : Part) (all : CommandRounds) (es : List (ℕ × RoundEntry)) → slice_get log.rounds part.list ≡ Some es → part.first ≤ length es →
+      part_gives_rounds : (rs : CommandRounds) (part : Part) (all : CommandRounds) (es : List RoundEntry) → slice_get log.rounds part.list ≡ Some es → part.first ≤ length es →
           GivesRounds rs (take part.first es) all → PartGivesRounds rs part all
 
   -- the account of a live handle
   pub record IsAccount (h : Handle) (a : Account) : Type 0 where
-    pub commands : List (ℕ × Entry)
-    pub rounds : List (ℕ × RoundEntry)
-    pub current_list : slice_get log.commands h.current ≡ Some commands
-    pub finished_list : slice_get log.rounds h.finished ≡ Some rounds
-    pub current : Gives no_commands commands a.current
-    pub finished : GivesRounds no_command_rounds rounds a.finished
+    pub current : PartGives no_commands h.current a.current
+    pub finished : PartGivesRounds no_command_rounds h.finished a.finished
 
   -- ---- the order of writing
 
-  -- all numbers are below n
-  abbrev pub AreBelow : {E : Type 0} → ℕ → List (ℕ × E) → Type 0
-  AreBelow n [] = Unit {0}
-  AreBelow n (e ∷ es) = (e.0 < n) × AreBelow n es
+  module _ (order : Order) where
+    -- the entries of the part have lower numbers alone
+    abbrev pub IsBelow : ℕ → Part → Type 0
+    IsBelow n part = IsIn log.commands part × ((j : ℕ) → j < part.first → order.commands part.list j < n)
 
-  -- the part has lower numbers alone
-  abbrev pub IsBelow : ℕ → Part → Type 0
-  IsBelow n part = (es : List (ℕ × Entry)) × (slice_get log.commands part.list ≡ Some es) × (part.first ≤ length es) × AreBelow n (take part.first es)
+    -- the same, of rounds
+    abbrev pub AreRoundsBelow : ℕ → Part → Type 0
+    AreRoundsBelow n part = IsIn log.rounds part × ((j : ℕ) → j < part.first → order.rounds part.list j < n)
 
-  -- the same, of rounds
-  abbrev pub AreRoundsBelow : ℕ → Part → Type 0
-  AreRoundsBelow n part = (es : List (ℕ × RoundEntry)) × (slice_get log.rounds part.list ≡ Some es) × (part.first ≤ length es) × AreBelow n (take part.first es)
+    -- what an entry stands for was written before it
+    abbrev pub StandsForLower : ℕ → Entry → Type 0
+    StandsForLower n (Entry.nests finished current) = AreRoundsBelow n finished × IsBelow n current
+    StandsForLower n (Entry.links part) = IsBelow n part
+    StandsForLower n _ = Unit {0}
 
-  -- what an entry stands for was written before it
-  abbrev pub StandsForLower : ℕ → Entry → Type 0
-  StandsForLower n (Entry.nests finished current) = AreRoundsBelow n finished × IsBelow n current
-  StandsForLower n (Entry.links part) = IsBelow n part
-  StandsForLower n _ = Unit {0}
+    -- the same, of rounds
+    abbrev pub RoundStandsForLower : ℕ → RoundEntry → Type 0
+    RoundStandsForLower n (RoundEntry.finishes part) = IsBelow n part
+    RoundStandsForLower n (RoundEntry.links part) = AreRoundsBelow n part
 
-  -- the same, of rounds
-  abbrev pub RoundStandsForLower : ℕ → RoundEntry → Type 0
-  RoundStandsForLower n (RoundEntry.finishes part) = IsBelow n part
-  RoundStandsForLower n (RoundEntry.links part) = AreRoundsBelow n part
-
-  -- an entry stands for entries that were written before it
-  pub record IsOrdered : Type 0 where
-    pub commands : (i j n : ℕ) (es : List (ℕ × Entry)) (e : Entry) →
-        slice_get log.commands i ≡ Some es → slice_get es j ≡ Some (n, e) → StandsForLower n e
-    pub rounds : (i j n : ℕ) (es : List (ℕ × RoundEntry)) (e : RoundEntry) →
-        slice_get log.rounds i ≡ Some es → slice_get es j ≡ Some (n, e) → RoundStandsForLower n e
+    -- an entry stands for entries that were written before it
+    pub record IsOrdered : Type 0 where
+      pub commands : (i j : ℕ) (es : List Entry) (e : Entry) →
+          slice_get log.commands i ≡ Some es → slice_get es j ≡ Some e → StandsForLower (order.commands i j) e
+      pub rounds : (i j : ℕ) (es : List RoundEntry) (e : RoundEntry) →
+          slice_get log.rounds i ≡ Some es → slice_get es j ≡ Some e → RoundStandsForLower (order.rounds i j) e
 
 -- one list more at the end of the lists, of at most three entries, and nothing else is changed
-abbrev pub HasOneListMore : {E : Type 0} → List (List (ℕ × E)) → List (List (ℕ × E)) → Type 0
-HasOneListMore {E} old new = (es : List (ℕ × E)) × (length es ≤ 3) × (new ≡ old ++ es ∷ [])
+abbrev pub HasOneListMore : {E : Type 0} → List (List E) → List (List E) → Type 0
+HasOneListMore {E} old new = (es : List E) × (length es ≤ 3) × (new ≡ old ++ es ∷ [])

@@ -276,7 +276,7 @@ counted end text rest = leaf (literal (integer_of text (at 1 0 end))) rest
 pub record IndexExample : Type 0 where
   pub defines : Defines index_definition (index_rule ∷ [])
   pub expands : (g : Grammar) → IsLawful g → ExpandsBy g (index_rule ∷ []) two_words 3 0
-      (counted 3 (codes "0") (counted 3 (codes "0") (text_at 1 0 (codes "a") (counted 3 (codes "1") (counted 3 (codes "0") (text_at 1 2 (codes "b") none))))))
+      (counted 3 (codes "0") (counted 3 (codes "2") (text_at 1 0 (codes "a") (counted 3 (codes "1") (counted 3 (codes "2") (text_at 1 2 (codes "b") none))))))
 
 -- ---- `($x:foo) => {}; ($($t:tt)*) => {}` on `a`
 

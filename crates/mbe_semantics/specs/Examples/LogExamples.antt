@@ -41,9 +41,9 @@ abbrev pub rounds_items : Items
 rounds_items = item no_items (rounds (round no_rounds first_round 0) last_round)
 
 -- a list of so many entries
-abbrev pub entries : ℕ → List (ℕ × Entry)
+abbrev pub entries : ℕ → List Entry
 entries zero = []
-entries (suc n) = (n, Entry.skips (codes "x")) ∷ entries n
+entries (suc n) = Entry.skips (codes "x") ∷ entries n
 
 pub record LogExamples : Type 0 where
   -- a copy may add a list of three entries, and not of four

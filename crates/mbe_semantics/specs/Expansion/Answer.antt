@@ -1,7 +1,5 @@
 -- What an expansion answers where no rule recovers.
-use Rattle.std.specs.Prelude.{◌≡◌, ℕ, Bool, false, not, ◌&&◌, ◌||◌, List, [], ◌∷◌, Contains, Option, Some, None, IsNone, IsTrue}
-use Rattle.std.specs.List.{list_any}
-use Rattle.std.specs.Str.{bytes_eq}
+use Rattle.std.specs.Prelude.{◌≡◌, ℕ, List, [], ◌∷◌, Contains, Option, Some, None, IsNone, IsTrue}
 use Rattle.mbe_tt.specs.declared.span.Span.{Span}
 use Rattle.mbe_tt.specs.declared.tt.DelimiterKind.TheVariants.{Invisible}
 use Rattle.mbe_tt.specs.Tree.{Forest, none, group}
@@ -13,11 +11,8 @@ use Rattle.mbe_semantics.specs.Bindings.Environment.{environment_of}
 use Rattle.mbe_semantics.specs.Expansion.Error.{ExpandError, no_matching_rule}
 use Rattle.mbe_semantics.specs.Expansion.Expansion.{Applies, IsExpansion}
 use Rattle.mbe_semantics.specs.Expansion.Macro.{arm_of}
-use Rattle.mbe_semantics.specs.Syntax.Op as ops
-use Rattle.mbe_semantics.specs.Syntax.Op.{Name, Op, Ops, no_ops, op, has_no_repetition, used_name, uses_of}
-use Rattle.mbe_semantics.specs.Readings.Item.{style_of}
+use Rattle.mbe_semantics.specs.Syntax.Op.{has_no_repetition}
 use Rattle.mbe_semantics.specs.Writing.Substitution.{IsSubstitution}
-use Rattle.mbe_semantics.specs.Private.Writing.{is_unwritten, writes_plainly}
 
 -- An answer without an error is the expansion by the first rule that applies, and where some rule applies there is no
 -- error. With an error the tree is empty, no rule is named, and the error is told at the call site.
@@ -29,28 +24,9 @@ pub record Answers (g : Grammar) (Marks : Span → Span → Type 0) (rules : Lis
       (out ≡ group (record { opening = call_site; close = call_site; kind = Invisible }) none none)
       × (index ≡ None) × (e ≡ record { span = call_site; kind = no_matching_rule })
 
--- a variable of this name takes an expression or a path
-abbrev mutual
-  pub op_takes_unwritten : Name → Op → Bool
-  op_takes_unwritten name (ops.group d body) = takes_unwritten name body
-  op_takes_unwritten name (ops.variable own kind span) = bytes_eq own name && is_unwritten (style_of kind)
-  op_takes_unwritten name (ops.repetition body separator repeat) = takes_unwritten name body
-  op_takes_unwritten name _ = false
-
-  pub takes_unwritten : Name → Ops → Bool
-  takes_unwritten name no_ops = false
-  takes_unwritten name (op o os) = op_takes_unwritten name o || takes_unwritten name os
-
--- the template names no variable of the pattern that takes an expression or a path
-abbrev pub writes_all : Rule → Bool
-writes_all r = not (list_any (λ u. takes_unwritten (used_name u) r.reads) (uses_of r.writes))
-
--- The rule is carried: no repetition stands in its pattern or its template, and the template has no metavariable
--- expression and names no expression and no path.
+-- The rule is carried: no repetition stands in its pattern.
 pub record IsCarried (r : Rule) : Type 0 where
   pub reads : IsTrue (has_no_repetition r.reads)
-  pub writes : IsTrue (writes_plainly r.writes)
-  pub names : IsTrue (writes_all r)
 
 abbrev pub AreCarried : List Rule → Type 0
 AreCarried [] = Unit {0}

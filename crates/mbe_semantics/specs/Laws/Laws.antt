@@ -28,7 +28,7 @@ use Rattle.mbe_semantics.specs.Bindings.Environment.{Value, fragment, Environmen
 use Rattle.mbe_semantics.specs.Writing.Rounds.{Path, rounds_of, kept_rounds, finite, followed, level}
 use Rattle.mbe_semantics.specs.Writing.Substitution.{faults, op_faults, separator_trees, AreRounds, Writes, Substitutes}
 use Rattle.mbe_semantics.specs.Expansion.Expansion.{IsExpansion}
-use Rattle.mbe_semantics.specs.Bindings.Account.{Commands, CommandRounds, Account, Entry, RoundEntry, Log, Handle, IsLive, Gives, GivesRounds, IsOrdered, IsAccount, run, commands_of}
+use Rattle.mbe_semantics.specs.Bindings.Account.{Commands, CommandRounds, Account, Entry, RoundEntry, Log, Order, Handle, IsLive, Gives, GivesRounds, IsOrdered, IsAccount, run, commands_of}
 
 -- two readings of a pattern without a repetition are equal
 abbrev pub OneReading : Type 0
@@ -286,9 +286,9 @@ abbrev pub CommandsBindAlike : Type 0
 CommandsBindAlike = (g : Grammar) (pattern : Ops) (argument : Forest) (is : Items) → IsReading g pattern argument is →
     run (commands_of is) [] ≡ environment_of is
 
--- an entry that stands for earlier ones alone gives commands, so each live handle has an account
+-- where each entry stands for earlier ones alone, each live handle has an account
 abbrev pub LiveHaveAccounts : Type 0
-LiveHaveAccounts = (log : Log) (h : Handle) → IsOrdered log → IsLive log h → (a : Account) × IsAccount log h a
+LiveHaveAccounts = (log : Log) (order : Order) (h : Handle) → IsOrdered log order → IsLive log h → (a : Account) × IsAccount log h a
 
 -- the account of a handle is one
 abbrev pub OneAccount : Type 0
@@ -296,7 +296,7 @@ OneAccount = (log : Log) (h : Handle) (a b : Account) → IsAccount log h a → 
 
 -- what is written at the end of a list comes behind what the list gives
 pub record EntriesFollow : Type 0 where
-  pub commands : (log : Log) (cs middle all : Commands) (es more : List (ℕ × Entry)) →
+  pub commands : (log : Log) (cs middle all : Commands) (es more : List Entry) →
       Gives log cs es middle → Gives log middle more all → Gives log cs (es ++ more) all
-  pub rounds : (log : Log) (rs middle all : CommandRounds) (es more : List (ℕ × RoundEntry)) →
+  pub rounds : (log : Log) (rs middle all : CommandRounds) (es more : List RoundEntry) →
       GivesRounds log rs es middle → GivesRounds log middle more all → GivesRounds log rs (es ++ more) all

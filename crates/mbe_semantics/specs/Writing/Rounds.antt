@@ -3,15 +3,11 @@
 use Rattle.std.specs.Prelude.{ℕ, zero, suc, ◌+◌, min, if◌then◌else◌, ◌==◌, List, [], ◌∷◌, ◌++◌, length, filter_map, Option, Some, None, option_map, option_and_then}
 use Rattle.mbe_semantics.specs.declared.kinds.RepeatKind.{RepeatKind}
 use Rattle.mbe_semantics.specs.declared.kinds.RepeatKind.TheVariants.{ZeroOrOne}
+use Rattle.mbe_semantics.specs.declared.rounds.Level.{Level}
 use Rattle.mbe_semantics.specs.Syntax.Op.{Name, Ops, Use, for_fragment, for_number, used_name, uses_of}
 use Rattle.mbe_semantics.specs.Bindings.Environment.{Value, fragment, list, empty, missing, Values, no_values, value, Environment, value_of}
 
--- the round that a repetition is in, and how many rounds it writes
-pub record Level : Type 0 where
-  pub index : ℕ
-  pub rounds : ℕ
-
--- outermost first
+-- The path names, of each repetition around a place, the round that it is in and how many rounds it writes; outermost first.
 abbrev pub Path : Type 0
 Path = List Level
 

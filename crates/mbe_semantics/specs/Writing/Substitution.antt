@@ -18,7 +18,8 @@ use Rattle.mbe_semantics.specs.Syntax.Op.{Name, Token, Separator, ident_separato
 use Rattle.mbe_tt.specs.Grammar.{Grammar}
 use Rattle.mbe_semantics.specs.Bindings.Environment.{Value, fragment, missing, Environment, value_of}
 use Rattle.mbe_semantics.specs.Bindings.Missing.{default_trees}
-use Rattle.mbe_semantics.specs.Writing.Rounds.{Path, Level, followed, Extent, finite, endless, kept_rounds, level, level_at, value_total}
+use Rattle.mbe_semantics.specs.declared.rounds.Level.{Level}
+use Rattle.mbe_semantics.specs.Writing.Rounds.{Path, followed, Extent, finite, endless, kept_rounds, level, level_at, value_total}
 use Rattle.mbe_semantics.specs.Writing.Concat.{concat_text}
 use Rattle.mbe_semantics.specs.Writing.Written.{IsWrittenAs}
 
@@ -108,6 +109,11 @@ abbrev pub index_of : Option Level → ℕ
 index_of None = 0
 index_of (Some l) = l.index
 
+-- the number of a level's rounds, 0 where there is none
+abbrev pub rounds_in : Option Level → ℕ
+rounds_in None = 0
+rounds_in (Some l) = l.rounds
+
 -- the number that `count` writes
 abbrev pub total_of : ℕ → Option Value → ℕ
 total_of depth None = 0
@@ -160,12 +166,12 @@ module _ (g : Grammar) (Marks : Span → Span → Type 0) (call_site : Span) (en
       (marked : Span) × Marks span marked
       × (out ≡ leaf (ident (record { sym = text; is_raw = rawness (g.is_keyword text); span = marked })) none)
 
-  -- what a metavariable expression writes; `len` writes 0
+  -- what a metavariable expression writes
   abbrev pub IsExpression : Path → Expression → Forest → Type 0
   IsExpression path (ignore name span) out = out ≡ none
   IsExpression path (count name depth) out = out ≡ integer (total_of depth (followed env path name)) call_site
   IsExpression path (index depth) out = out ≡ integer (index_of (level_at path depth)) call_site
-  IsExpression path (len depth) out = out ≡ integer 0 call_site
+  IsExpression path (len depth) out = out ≡ integer (rounds_in (level_at path depth)) call_site
   IsExpression path (concat elements span) out = IsConcat span (concat_text env path elements) out
 
   -- the op writes these trees, in the rounds of the path

@@ -34,6 +34,16 @@ path_trees call_site (leaf (ident i) (leaf (punct p) rest)) =
 path_trees call_site (leaf l rest) = leaf l (path_trees call_site rest)
 path_trees call_site (group d inside rest) = group d inside (path_trees call_site rest)
 
+-- exactly one identifier
+abbrev pub is_ident : Forest → Bool
+is_ident (leaf (ident i) none) = true
+is_ident f = false
+
+-- `<` comes next
+abbrev pub stands_before_less : Forest → Bool
+stands_before_less (leaf (punct p) rest) = p.char == 60
+stands_before_less f = false
+
 -- one group around the trees
 abbrev pub in_parentheses : Span → Forest → Forest
 in_parentheses span f = group (record { opening = span; close = span; kind = Parenthesis }) f none
@@ -45,10 +55,13 @@ module _ (Marks : Span → Span → Type 0) where
   IsParenthesized false span f out = out ≡ f
   IsParenthesized true span f out = (marked : Span) × Marks span marked × (out ≡ in_parentheses marked f)
 
+  -- an expression, opened one level where it is exactly one invisible group
+  abbrev pub IsExpressionWritten : Span → Forest → Forest → Type 0
+  IsExpressionWritten span f out = IsParenthesized (needs_parentheses (strip_invisible f)) span (alone (strip_invisible f)) out
+
   -- `span` is the variable's span in the template
   abbrev pub IsWrittenAs : Span → Style → Span → Forest → Forest → Type 0
   IsWrittenAs call_site plain span f out = out ≡ alone f
   IsWrittenAs call_site stripped span f out = out ≡ alone (strip_invisible f)
   IsWrittenAs call_site as_path span f out = out ≡ path_trees call_site f
-  IsWrittenAs call_site as_expression span f out =
-      IsParenthesized (needs_parentheses (strip_invisible f)) span (alone (strip_invisible f)) out
+  IsWrittenAs call_site as_expression span f out = IsExpressionWritten span f out

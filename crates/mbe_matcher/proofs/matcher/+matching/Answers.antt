@@ -8,7 +8,7 @@ use Rattle.mbe_semantics.specs.Readings.Item.{no_items, item}
 use Rattle.mbe_semantics.specs.Readings.Fit.{puncts_front}
 use Rattle.mbe_matcher.specs.Matching.{read_front, read_on, HasPassed, HasRead}
 use Rattle.mbe_ops.specs.Views.{op_of, ops_of}
-use Rattle.mbe_bindings.specs.BindingViews.{bound_by}
+use Rattle.mbe_log.specs.BindingViews.{bound_by}
 use Rattle.mbe_ops.proofs.OpViews.{view-punct, view-subtree}
 use Rattle.mbe_matcher.proofs.PlainMatching.{token_read, group_ok, same_kind, next_read, stopped_read, not_all, all_read}
 use Rattle.mbe_matcher.proofs.matcher.+matching.Goals as goal

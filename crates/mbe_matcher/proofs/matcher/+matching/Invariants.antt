@@ -4,7 +4,7 @@ use Rattle.mbe_semantics.specs.Bindings.Environment.{bind}
 use Rattle.mbe_matcher.specs.Matching.{read_on}
 use Rattle.mbe_semantics.specs.Bindings.Environment.{BindsAlike}
 use Rattle.mbe_ops.specs.Views.{ops_of}
-use Rattle.mbe_bindings.specs.BindingViews.{bound_by}
+use Rattle.mbe_log.specs.BindingViews.{bound_by}
 use Rattle.mbe_matcher.proofs.matcher.+matching.Given as goal
 
 abbrev pub invariant-match_ops-loop-op : goal.invariant-match_ops-loop-op

@@ -1,7 +1,7 @@
 use Rattle.std.proofs.Common.{◌≡◌, ap, true, false}
 use Rattle.mbe_matcher.specs.Matching.{read_all, HasReadAll}
 use Rattle.mbe_ops.specs.Views.{ops_of, template_of}
-use Rattle.mbe_bindings.specs.BindingViews.{bound_by}
+use Rattle.mbe_log.specs.BindingViews.{bound_by}
 use Rattle.mbe_matcher.proofs.PlainReadings.{match_found, match_refused}
 use Rattle.mbe_matcher.proofs.matcher.match_.Goals as goal
 

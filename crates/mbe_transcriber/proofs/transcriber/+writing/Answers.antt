@@ -1,59 +1,117 @@
-use Rattle.std.proofs.Common.{◌∙◌}
-use Rattle.std.proofs.lemmas.Result.{err_from_is_err_and}
+use Rattle.std.proofs.Common.{◌≡◌, ◌<◌, ◌+◌, ◌-◌, ◌∷◌, vec_len, length-append, ◌++◌, [], ◌∙◌, ap, sym, drop, length, refl, rules, arith}
+use Rattle.std.specs.Prelude.{is_some, option_map}
 use Rattle.mbe_tt.specs.Shown.{literal_of, ident_of}
-use Rattle.mbe_ops.proofs.OpViews.{view-var, view-subtree, view-literal, view-punct, view-ident}
-use Rattle.mbe_transcriber.proofs.WritingLemmas as lemmas
-use Rattle.mbe_bindings.proofs.BindingLemmas.{each_bound}
-use Rattle.mbe_transcriber.proofs.Unwritten.{unwritten_here, unwritten_behind}
+use Rattle.mbe_semantics.specs.Writing.Rounds.{level, kept, kept_rounds, finite}
+use Rattle.mbe_ops.specs.Views.{op_of, ops_of, separator_seen, elements_seen}
+use Rattle.mbe_log.specs.BindingViews.{bound_by}
+use Rattle.mbe_ops.proofs.OpViews.{view-repeat, view-var, view-subtree, view-literal, view-punct, view-ident, view-index, view-len, view-count, view-concat, view-ignore}
+use Rattle.mbe_transcriber.proofs.FollowLemmas.{ops_split, ops_over}
+use Rattle.mbe_transcriber.proofs.FollowLemmas.{seen_copied}
+use Rattle.mbe_transcriber.proofs.WroteLemmas as lemmas
+use Rattle.mbe_transcriber.proofs.JoinLemmas.{or_either, swapped, popped}
 use Rattle.mbe_transcriber.proofs.transcriber.+writing.Goals as goal
 
-pub expand_op-returns-in_ok-push-in-Literal-clause-written : goal.expand_op-returns-in_ok-push-in-Literal-clause-written
-expand_op-returns-in_ok-push-in-Literal-clause-written g t c =
-    rw (c.in-Literal.is, view-literal) (lemmas.writes_literal _ _ (literal_of c.in-Literal.literal) (literal_of c.in_ok-marked_literal-in-Literal.field-0)
+pub expand_op-returns-in_ok-push-in-Literal : goal.expand_op-returns-in_ok-push-in-Literal
+expand_op-returns-in_ok-push-in-Literal g t c =
+    rw (c.in-Literal.is, view-literal) (lemmas.wrote_literal _ _ _ _ _ (literal_of c.in-Literal.literal) (literal_of c.in_ok-marked_literal-in-Literal.field-0)
     c.args.builder.now c.push.new.self c.in_ok-marked_literal-in-Literal.ensures c.in_ok-push-in-Literal.ensures.ok)
 
-pub expand_op-returns-in_ok-push-in-Ident-clause-written : goal.expand_op-returns-in_ok-push-in-Ident-clause-written
-expand_op-returns-in_ok-push-in-Ident-clause-written g t c =
-    rw (c.in-Ident.is, view-ident) (lemmas.writes_ident _ _ (ident_of c.in-Ident.ident) (ident_of c.in_ok-marked_ident-in-Ident.field-0)
+pub expand_op-returns-in_ok-push-in-Ident : goal.expand_op-returns-in_ok-push-in-Ident
+expand_op-returns-in_ok-push-in-Ident g t c =
+    rw (c.in-Ident.is, view-ident) (lemmas.wrote_ident _ _ _ _ _ (ident_of c.in-Ident.ident) (ident_of c.in_ok-marked_ident-in-Ident.field-0)
     c.args.builder.now c.push-in-Ident.new.self c.in_ok-marked_ident-in-Ident.ensures c.in_ok-push-in-Ident.ensures.ok)
 
-pub expand_op-returns-in_ok-write_puncts-in-Punct-clause-written : goal.expand_op-returns-in_ok-write_puncts-in-Punct-clause-written
-expand_op-returns-in_ok-write_puncts-in-Punct-clause-written g t c =
-    rw (c.in-Punct.is, view-punct) (lemmas.writes_puncts _ _ c.in-Punct.puncts.items c.as_slice.result.now c.args.builder.now c.write_puncts.new.builder
+pub expand_op-returns-in_ok-write_puncts-in-Punct : goal.expand_op-returns-in_ok-write_puncts-in-Punct
+expand_op-returns-in_ok-write_puncts-in-Punct g t c =
+    rw (c.in-Punct.is, view-punct) (lemmas.wrote_puncts _ _ _ _ _ c.in-Punct.puncts.items c.as_slice.result.now c.args.builder.now c.write_puncts.new.builder
     c.as_slice.ensures.value c.in_ok-write_puncts-in-Punct.ensures.written)
 
-pub expand_op-returns-in_ok-expand_ops-in-Subtree-clause-written : goal.expand_op-returns-in_ok-expand_ops-in-Subtree-clause-written
-expand_op-returns-in_ok-expand_ops-in-Subtree-clause-written g t c =
-    rw (c.in-Subtree.is, view-subtree) (lemmas.writes_group _ _ c.in-Subtree.delimiter c.mark.result c.mark-in-Subtree.result _ c.args.builder.now c.open.new.self
+pub expand_op-returns-in_ok-fault-in-Subtree : goal.expand_op-returns-in_ok-fault-in-Subtree
+expand_op-returns-in_ok-fault-in-Subtree g t c =
+    rw (c.in-Subtree.is, view-subtree) (lemmas.wrote_group _ _ _ _ _ c.in-Subtree.delimiter c.mark.result c.mark-in-Subtree.result _ _ c.args.builder.now c.open.new.self
     c.expand_ops.new.builder c.close.new.self c.mark.ensures c.mark-in-Subtree.ensures c.in_ok-open-in-Subtree.ensures.ok
-    (rw (← c.deref.ensures.value) c.in_ok-expand_ops-in-Subtree.ensures.written) c.close.ensures)
+    (rw (← c.deref.ensures.value) c.in_ok-fault-in-Subtree.ensures) c.close.ensures)
 
-pub expand_op-returns-in-Var-clause-written : goal.expand_op-returns-in-Var-clause-written
-expand_op-returns-in-Var-clause-written g t c =
-    rw (c.in-Var.is, view-var) (lemmas.variable_written _ _ c.write_var.result c.in-Var.name c.in-Var.kind c.in-Var.id c.args.builder.now c.write_var.new.builder
-    (each_bound c.args.bindings.now c.in-Var.name) c.write_var.ensures.carried c.write_var.ensures.written)
+pub expand_op-returns-in-Var : goal.expand_op-returns-in-Var
+expand_op-returns-in-Var g t c =
+    rw (c.in-Var.is, view-var) (lemmas.if_ok_with c.write_var.result (λ f w. lemmas.wrote_variable _ _ _ _ _ (is_some f) c.in-Var.name c.in-Var.kind c.in-Var.id c.args.builder.now c.write_var.new.builder w)
+    c.write_var.ensures)
+
+pub expand_op-returns-in-Ignore : goal.expand_op-returns-in-Ignore
+expand_op-returns-in-Ignore g t c =
+    rw (c.in-Ignore.is, view-ignore) (lemmas.wrote_ignored _ _ _ _ _ (is_some c.find_ignored.result) c.in-Ignore.name c.in-Ignore.id c.args.builder.now c.find_ignored.ensures)
+
+pub expand_op-returns-in_ok-write_number-in-Index : goal.expand_op-returns-in_ok-write_number-in-Index
+expand_op-returns-in_ok-write_number-in-Index g t c =
+    rw (c.in-Index.is, view-index) (lemmas.wrote_index _ _ _ _ _ c.in-Index.depth c.index_at.result c.args.builder.now c.write_number.new.builder c.index_at.ensures
+    c.in_ok-write_number-in-Index.ensures)
+
+pub expand_op-returns-in_ok-write_number-in-Len : goal.expand_op-returns-in_ok-write_number-in-Len
+expand_op-returns-in_ok-write_number-in-Len g t c =
+    rw (c.in-Len.is, view-len) (lemmas.wrote_len _ _ _ _ _ c.in-Len.depth c.rounds_at.result c.args.builder.now c.write_number-in-Len.new.builder c.rounds_at.ensures
+    c.in_ok-write_number-in-Len.ensures)
+
+pub expand_op-returns-in-Count : goal.expand_op-returns-in-Count
+expand_op-returns-in-Count g t c =
+    rw (c.in-Count.is, view-count) (lemmas.if_ok_with c.write_count.result (λ f w. lemmas.wrote_count _ _ _ _ _ (is_some f) c.in-Count.name c.in-Count.depth c.args.builder.now c.write_count.new.builder w)
+    c.write_count.ensures)
+
+pub expand_op-returns-in-Concat : goal.expand_op-returns-in-Concat
+expand_op-returns-in-Concat g t c =
+    rw (c.in-Concat.is, view-concat, ← c.deref-in-Concat.ensures.value) (lemmas.if_ok_with c.write_concat.result
+    (λ f w. lemmas.wrote_concat _ _ _ _ _ (is_some f) (elements_seen c.deref-in-Concat.result.now) c.in-Concat.span c.args.builder.now c.write_concat.new.builder w) c.write_concat.ensures)
 
 pub expand_ops-loop-op-preserved : goal.expand_ops-loop-op-preserved
-expand_ops-loop-op-preserved g t c = record {
-  open_groups = c.in_ok-expand_op.ensures.open_groups ∙ c.loop-op.invariant.open_groups;
-  plain = lemmas.plain_rest c.args.ops.now c.loop-op.op-index c.op-item.result c.loop-op-test.true c.loop-op.invariant.plain;
-  written = λ last w. c.loop-op.invariant.written last
-      (lemmas.writes_next _ _ c.args.ops.now c.loop-op.op-index c.op-item.result c.loop-op.builder c.expand_op.new.builder last c.loop-op-test.true
-      (rw (← c.op-item.is) c.in_ok-expand_op.ensures.written) w);
-  unwritten = λ k. c.loop-op.invariant.unwritten (unwritten_behind _ c.args.ops.now c.loop-op.op-index c.op-item.result c.loop-op-test.true k);
+expand_ops-loop-op-preserved g t c =
+    lemmas.sofar_step _ _ _ _ _ (is_some c.loop-op.first) (is_some c.in_ok-fault.fault) (is_some c.or-first.result) (ops_of c.args.ops.now) (ops_of (drop c.loop-op.op-index c.args.ops.now))
+    (op_of c.op-item.result) (ops_of (drop (c.loop-op.op-index + 1) c.args.ops.now)) _ _ _
+    (ops_split c.args.ops.now c.loop-op.op-index c.op-item.result c.loop-op-test.true c.op-item.is)
+    (ap is_some c.or-first.ensures ∙ or_either c.loop-op.first c.in_ok-fault.fault) c.loop-op.invariant c.in_ok-fault.ensures
+
+pub expand_ops-returns : goal.expand_ops-returns
+expand_ops-returns g t c =
+    lemmas.sofar_done _ _ _ _ _ (is_some c.loop-op.first) (ops_of c.args.ops.now) (ops_of (drop c.loop-op.op-index c.args.ops.now)) _ _
+    (ops_over c.args.ops.now c.loop-op.op-index c.loop-op-test.false) c.loop-op.invariant
+
+pub expand_repeat-loop-index-init : goal.expand_repeat-loop-index-init
+expand_repeat-loop-index-init g t c = record {
+  path = c.in_ok-inside.ensures.items_if_clones_equal (λ x y h. search rules);
+  rounded = lemmas.rounded_start _ _ _ _ _ (option_map (λ s. separator_seen s.now) c.args.separator) (ops_of c.args.body.now) c.in-Ok.rounds c.args.builder.now;
 }
 
-pub expand_ops-returns-clause-written : goal.expand_ops-returns-clause-written
-expand_ops-returns-clause-written g t c =
-    c.loop-op.invariant.written c.loop-op.builder (lemmas.writes_end _ _ c.args.ops.now c.loop-op.op-index c.loop-op.builder c.loop-op-test.false)
+pub expand_repeat-expand_ops-requires : goal.expand_repeat-expand_ops-requires
+expand_repeat-expand_ops-requires g t c κs within =
+    let some : 0 < length c.write_between.new.builder =
+    omega (arith, c.requires.some_group, c.in_ok-write_between.ensures.open_groups, c.loop-index.invariant.rounded.groups) in
+    (omega (arith, c.decreases), (within.0, (within.1.0, (within.1.1, (c.requires.marks, some)))))
 
-pub expand_op-returns-in_err-expand_ops-in-Subtree-clause-not_carried : goal.expand_op-returns-in_err-expand_ops-in-Subtree-clause-not_carried
-expand_op-returns-in_err-expand_ops-in-Subtree-clause-not_carried g t c =
-    let p = err_from_is_err_and c.from_residual-in_err-expand_ops-in-Subtree.result c.from_residual-in_err-expand_ops-in-Subtree.ensures.1 in
-    rw (p.1, p.2, c.in-Subtree.is, view-subtree) (rw (← c.deref.ensures.value) c.in_err-expand_ops-in-Subtree.ensures.not_carried)
+pub expand_op-returns-in-Repeat : goal.expand_op-returns-in-Repeat
+expand_op-returns-in-Repeat g t c =
+    rw (c.in-Repeat.is, view-repeat, ← c.as_ref.ensures.value) (rw (← c.deref-in-Repeat.ensures.value, ← seen_copied separator_seen c.as_ref.result) c.expand_repeat.ensures)
 
-pub expand_ops-returns-in_err-expand_op-clause-not_carried : goal.expand_ops-returns-in_err-expand_op-clause-not_carried
-expand_ops-returns-in_err-expand_op-clause-not_carried g t c =
-    let p = err_from_is_err_and c.from_residual.result c.from_residual.ensures.1 in
-    rw (p.1, p.2) (λ e. c.loop-op.invariant.unwritten (unwritten_here _ c.args.ops.now c.loop-op.op-index c.op-item.result c.loop-op-test.true
-    (rw (← c.op-item.is) (c.in_err-expand_op.ensures.not_carried e))))
+pub expand_repeat-loop-index-preserved : goal.expand_repeat-loop-index-preserved
+expand_repeat-loop-index-preserved g t c =
+    let seps = option_map (λ s. separator_seen s.now) c.args.separator in
+    let pushed : c.push.new.self.items ≡ c.loop-index.inside.items ++ (record { index = c.loop-index.index; rounds = c.in-Ok.rounds } ∷ []) = c.in_ok-push.ensures.items in
+    let inner : c.deref.result.now ≡ level c.loop-index.index c.in-Ok.rounds c.args.path.now =
+    c.deref.ensures.value ∙ (pushed ∙ ap (λ p. level c.loop-index.index c.in-Ok.rounds p) c.loop-index.invariant.path) in
+    let counted : vec_len c.push.new.self ≡ length c.push.new.self.items = search rules in
+    let longer = ap length pushed ∙ length-append c.loop-index.inside.items (record { index = c.loop-index.index; rounds = c.in-Ok.rounds } ∷ []) in
+    let short : vec_len c.push.new.self - 1 ≡ length c.loop-index.inside.items = omega (arith, counted, longer) in
+    record {
+      path = popped c.loop-index.inside.items c.push.new.self.items c.pop-level.new.self.items _ (vec_len c.push.new.self - 1) pushed c.pop-level.ensures.rest short ∙ c.loop-index.invariant.path;
+      rounded = lemmas.rounded_step _ _ _ _ _ seps (ops_of c.args.body.now) c.in-Ok.rounds c.loop-index.index (is_some c.loop-index.first) c.loop-index.separated
+          (is_some c.in_ok-fault.fault) (is_some c.or-first.result) c.is_none-separated.result c.args.builder.now c.loop-index.builder c.write_between.new.builder c.expand_ops.new.builder
+          c.deref.result.now (ops_of c.args.body.now) inner refl
+          (ap is_some c.or-first.ensures ∙ or_either c.loop-index.first c.in_ok-fault.fault) (swapped (is_some c.in_ok-fault.fault) c.is_none-separated.result c.is_none-separated.ensures)
+          c.loop-index.invariant.rounded c.in_ok-write_between.ensures.parted c.in_ok-fault.ensures;
+    }
+
+pub expand_repeat-returns : goal.expand_repeat-returns
+expand_repeat-returns g t c =
+    let seps = option_map (λ s. separator_seen s.now) c.args.separator in
+    let same : kept_rounds c.args.kind (bound_by c.args.ctx.now.bindings.now) c.args.path.now (ops_of c.args.body.now) ≡ finite c.in-Ok.rounds =
+    ap (kept c.args.kind) (sym c.rounds_of.ensures) ∙ c.in-Ok.ensures.kept.0 in
+    let all : c.loop-index.index ≡ c.in-Ok.rounds = omega arith in
+    lemmas.rounded_end _ _ _ _ _ seps (ops_of c.args.body.now) c.args.kind c.in-Ok.rounds (is_some c.loop-index.first) c.loop-index.separated c.args.builder.now c.loop-index.builder
+    same c.in-Ok.ensures.kept.1 (rw all at c.loop-index.invariant.rounded)

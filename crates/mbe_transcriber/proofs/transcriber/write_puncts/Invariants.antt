@@ -1,6 +1,6 @@
 use Rattle.std.proofs.Common.{◌≡◌, length, drop}
 use Rattle.mbe_tt.specs.Building.{Levels}
-use Rattle.mbe_semantics.specs.Private.Writing.{Appends, AreMarked}
+use Rattle.mbe_transcriber.specs.Writing.{Appends, AreMarked}
 use Rattle.mbe_transcriber.proofs.transcriber.write_puncts.Given as goal
 
 abbrev pub invariant-loop-punct : goal.invariant-loop-punct

@@ -1,0 +1,118 @@
+-- The walk along links.
+use Rattle.std.proofs.Common.{◌≡◌, ◌<◌, ◌≤◌, ◌-◌, ℕ, zero, suc, List, [], ◌∷◌, ◌++◌, length, map, take, reverse, Option, Some, None, refl, sym, ◌∙◌, ap, subst, arith, append_assoc, get_or}
+use Rattle.std.specs.Prelude.{slice_get}
+use Rattle.indexmap.proofs.ReorderLemmas.{map-reverse}
+use Rattle.std.proofs.lemmas.List.{map-append}
+use Rattle.std.proofs.lemmas.List.{reverse-append, reverse-reverse}
+use Rattle.mbe_semantics.specs.declared.log.Part.{Part}
+use Rattle.mbe_log.specs.Chain.{Chain, chain_len, IsWithin, IsChained, Flat, ends, goes_on, link_in, own_in, own_of, entry_at, ArePlaces, places_down}
+use Rattle.mbe_log.specs.Collected.{Collected, PlacesCollected, left_of}
+
+pub got : {X : Type 0} (xs : List X) (i : ℕ) (x d : X) → slice_get xs i ≡ Some x → get_or xs i d ≡ x
+got [] i x d h = cc
+got (y ∷ xs) zero x d h = cc
+got (y ∷ xs) (suc i) x d h = got xs i x d h
+
+pub in_range : {X : Type 0} (xs : List X) (i : ℕ) (x : X) → slice_get xs i ≡ Some x → i < length xs
+in_range [] i x h = absurd (let e : ⊥ = cc in e)
+in_range (y ∷ xs) zero x h = omega arith
+in_range (y ∷ xs) (suc i) x h = let k = in_range xs i x h in omega (arith, k)
+
+pub link_some : (k : Option Part) (n : ℕ) (q : Part) → link_in k n ≡ Some q → k ≡ Some q
+link_some None n q h = absurd (let e : ⊥ = cc in e)
+link_some (Some p) zero q h = absurd (let e : ⊥ = cc in e)
+link_some (Some p) (suc n) q h = h
+
+module _ {T : Type 0} (lists : List (Chain T)) where
+  reversed : (found own : List T) → reverse (found ++ reverse own) ≡ own ++ reverse found
+  reversed found own = reverse-append found (reverse own) ∙ ap (λ x. x ++ reverse found) (reverse-reverse own)
+
+  pub collected-step : (start part : Part) (l : Chain T) (found more : List T) (next : Option Part) → IsChained lists → slice_get lists part.list ≡ Some l →
+      Collected lists start (Some part) found → next ≡ link_in l.link part.first → more ≡ found ++ reverse (take (own_in l.link part.first) l.own) →
+      Collected lists start next more
+  collected-step start part l found more None ch h f n m =
+      subst (Flat lists start) (sym (ap reverse m ∙ reversed found (take (own_in l.link part.first) l.own)))
+      (f.1 (take (own_in l.link part.first) l.own) (ends part l (take (own_in l.link part.first) l.own) h (sym n) refl))
+  collected-step start part l found more (Some q) ch h f n m = (
+    (ch part.list l q h (link_some l.link part.first q (sym n))).1,
+    λ ys g. subst (Flat lists start) (append_assoc ys (take (own_in l.link part.first) l.own) (reverse found)
+        ∙ ap (λ x. ys ++ x) (sym (ap reverse m ∙ reversed found (take (own_in l.link part.first) l.own))))
+        (f.1 (ys ++ take (own_in l.link part.first) l.own) (goes_on part l q ys (ys ++ take (own_in l.link part.first) l.own) h (sym n) g refl)),
+  )
+
+  pub left-falls : (part : Part) (l : Chain T) (next : Option Part) → IsChained lists → slice_get lists part.list ≡ Some l → next ≡ link_in l.link part.first →
+      suc (left_of next) ≤ left_of (Some part)
+  left-falls part l None ch h n = omega arith
+  left-falls part l (Some q) ch h n = let k = (ch part.list l q h (link_some l.link part.first q (sym n))).0 in omega (arith, k)
+
+  same_list : (part : Part) (l : Chain T) → IsWithin lists part → l ≡ get_or lists part.list l → slice_get lists part.list ≡ Some l
+  same_list part l w e = w.1 ∙ ap Some (sym (e ∙ got lists part.list w.0 l w.1))
+
+  pub collected-step-at : (start part : Part) (l : Chain T) (found more : List T) (here next : Option Part) → IsChained lists → here ≡ Some part →
+      Collected lists start here found → l ≡ get_or lists part.list l → next ≡ link_in l.link part.first →
+      more ≡ found ++ reverse (take (own_in l.link part.first) l.own) → Collected lists start next more
+  collected-step-at start part l found more here next ch i f e n m =
+      let g = subst (λ o. Collected lists start o found) i f in collected-step start part l found more next ch (same_list part l g.0 e) g n m
+
+  pub left-falls-at : (start part : Part) (l : Chain T) (found : List T) (here next : Option Part) → IsChained lists → here ≡ Some part →
+      Collected lists start here found → l ≡ get_or lists part.list l → next ≡ link_in l.link part.first → suc (left_of next) ≤ left_of here
+  left-falls-at start part l found here next ch i f e n =
+      let g = subst (λ o. Collected lists start o found) i f in
+      subst (λ o. suc (left_of next) ≤ left_of o) (sym i) (left-falls part l next ch (same_list part l g.0 e) n)
+
+  pub collected-end : (start : Part) (found more : List T) (here : Option Part) → here ≡ None → Collected lists start here found → more ≡ reverse found → Flat lists start more
+  collected-end start found more here i f m = subst (Flat lists start) (sym m) (subst (λ o. Collected lists start o found) i f)
+
+-- ---- places
+
+-- the first suc n of a list
+take-next : {X : Type 0} (xs : List X) (n : ℕ) → n < length xs → (x : X) × (slice_get xs n ≡ Some x) × (take (suc n) xs ≡ take n xs ++ x ∷ [])
+take-next [] n h = absurd (omega (arith, h))
+take-next (x ∷ xs) zero h = (x, refl, refl)
+take-next (x ∷ xs) (suc n) h = let k = take-next xs n (omega (arith, h)) in (k.0, k.1, ap (λ t. x ∷ t) k.2)
+
+module _ {T : Type 0} (lists : List (Chain T)) where
+  pub down : (at : ℕ) (l : Chain T) (n : ℕ) → slice_get lists at ≡ Some l → n ≤ length l.own →
+      map (entry_at lists) (places_down at n) ≡ map Some (reverse (take n l.own))
+  down at l zero s h = refl
+  down at l (suc n) s h =
+      let k = take-next l.own n (omega (arith, h)) in
+      let here : own_of (slice_get lists at) n ≡ Some k.0 = ap (λ o. own_of o n) s ∙ k.1 in
+      ap (λ t. own_of (slice_get lists at) n ∷ t) (down at l n s (omega (arith, h)))
+      ∙ ap (λ o. o ∷ map Some (reverse (take n l.own))) here
+      ∙ ap (map Some) (sym (ap reverse k.2 ∙ reverse-append (take n l.own) (k.0 ∷ [])))
+
+  own_within : (part : Part) (l : Chain T) → part.first ≤ chain_len l → own_in l.link part.first ≤ length l.own
+  own_within part l h = go l.link part.first h
+    where
+      go : (k : Option Part) (n : ℕ) → n ≤ chain_len (record l { link = k }) → own_in k n ≤ length l.own
+      go None n h = omega (arith, h)
+      go (Some p) n h = omega (arith, h)
+
+  pub places-step : (start part : Part) (l : Chain T) (found more : List Part) (here next : Option Part) (count : ℕ) → IsChained lists → here ≡ Some part →
+      PlacesCollected lists start here found → l ≡ get_or lists part.list l → next ≡ link_in l.link part.first → count ≡ own_in l.link part.first →
+      more ≡ found ++ places_down part.list count → PlacesCollected lists start next more
+  places-step start part l found more here next count ch i f e n o m =
+      let g = subst (λ o. Collected lists start o f.0) i f.2 in
+      let s : slice_get lists part.list ≡ Some l = same_list lists part l g.0 e in
+      let w : g.0.0 ≡ l = let q = g.0.1 in cc in
+      let own = take (own_in l.link part.first) l.own in (
+        f.0 ++ reverse own,
+        ap (map (entry_at lists)) (m ∙ ap (λ x. found ++ places_down part.list x) o) ∙ map-append (entry_at lists) found (places_down part.list (own_in l.link part.first))
+            ∙ ap (λ x. x ++ map (entry_at lists) (places_down part.list (own_in l.link part.first))) f.1
+            ∙ ap (λ x. map Some f.0 ++ x) (down part.list l (own_in l.link part.first) s (own_within part l (subst (λ x. part.first ≤ chain_len x) w g.0.2)))
+            ∙ sym (map-append Some f.0 (reverse own)),
+        collected-step-at lists start part l f.0 (f.0 ++ reverse own) here next ch i f.2 e n refl,
+      )
+
+  pub places-end : (start : Part) (found more : List Part) (here : Option Part) → here ≡ None → PlacesCollected lists start here found → more ≡ reverse found →
+      ArePlaces lists start more
+  places-end start found more here i f m = (
+    reverse f.0,
+    collected-end lists start f.0 (reverse f.0) here i f.2 refl,
+    ap (map (entry_at lists)) m ∙ map-reverse (entry_at lists) found ∙ ap reverse f.1 ∙ sym (map-reverse Some f.0),
+  )
+
+pub down-one : (at n : ℕ) → 0 < n → places_down at n ≡ record { list = at; first = n - 1 } ∷ places_down at (n - 1)
+down-one at zero h = absurd (omega (arith, h))
+down-one at (suc n) h = let m : n ≡ suc n - 1 = omega arith in ap (λ j. record { list = at; first = j } ∷ places_down at j) m

@@ -1,0 +1,9 @@
+pub mod BindingLemmas
+pub mod BuildLemmas
+pub mod CallLemmas
+pub mod ChainLemmas
+pub mod ClientLemmas
+pub mod CodeLemmas
+pub mod LogLemmas
+pub mod SoundLemmas
+pub mod StepLemmas

@@ -1,0 +1,127 @@
+-- Building, step by step.
+use Rattle.std.specs.Prelude.{◌≡◌, ◌<◌, ◌≤◌, ◌+◌, ℕ, suc, List, [], ◌∷◌, length, map, drop, slice_get, Option, Some, None, refl}
+use Rattle.std.proofs.Common.{arith, sym, ap, subst, ◌∙◌, get_or}
+use Rattle.mbe_semantics.specs.declared.log.Part.{Part}
+use Rattle.mbe_log.specs.declared.log.Command as code
+use Rattle.mbe_log.specs.Chain.{Chain, own_of, entry_at, ArePlaces}
+use Rattle.mbe_log.specs.Entries.{entry_seen, log_of}
+use Rattle.mbe_semantics.specs.Bindings.Environment.{Environment}
+use Rattle.mbe_semantics.specs.Bindings.Account.{Command, Commands, CommandRounds, no_commands, command, no_command_rounds, command_round, RoundEntry, Gives, GivesRounds, PartGives, PartGivesRounds, run, run_command, run_rounds, round_count, add_round_in}
+use Rattle.mbe_log.specs.Building.{IsBuiltSoFar, AreBoundSoFar}
+use Rattle.mbe_log.specs.Sound.{GivesCommand, IsPartGrounded, IsCommandGrounded, AreRoundsGrounded}
+use Rattle.mbe_log.proofs.ChainLemmas.{got, in_range}
+use Rattle.mbe_log.proofs.LogLemmas.{there}
+use Rattle.mbe_log.proofs.BuildLemmas.{get-map, map-get, drop-at, drop-end, round_head, command_head, end_of, rounds_end_of, deeper, deeper_rounds, flat_gives, flat_rounds}
+
+length-mapped : {X Y : Type 0} (f : X → Y) (xs : List X) → length (map f xs) ≡ length xs
+length-mapped f [] = refl
+length-mapped f (x ∷ xs) = ap suc (length-mapped f xs)
+
+module _ {T : Type 0} (lists : List (Chain T)) where
+  own_there : (o : Option (Chain T)) (i : ℕ) (x : T) → own_of o i ≡ Some x → (l : Chain T) × (o ≡ Some l) × (slice_get l.own i ≡ Some x)
+  own_there None i x h = cc
+  own_there (Some l) i x h = (l, refl, h)
+
+  -- what stands at the place of this index
+  pub at_place : (items : List Part) (xs : List T) → map (entry_at lists) items ≡ map Some xs → (i : ℕ) (d : Part) → i < length items →
+      (x : T) × (slice_get xs i ≡ Some x) × (l : Chain T) × (slice_get lists (get_or items i d).list ≡ Some l) × (slice_get l.own (get_or items i d).first ≡ Some x)
+  at_place items xs e i d h =
+      let p = there items i h in
+      let q : get_or items i d ≡ p.0 = got items i p.0 d p.1 in
+      let m = get-map Some xs i (entry_at lists p.0) (ap (λ ys. slice_get ys i) (sym e) ∙ map-get (entry_at lists) items i p.0 p.1) in
+      let o = own_there (slice_get lists p.0.list) p.0.first m.0 (sym m.2) in
+      (m.0, m.1, o.0, subst (λ r. slice_get lists r.list ≡ Some o.0) (sym q) o.1, subst (λ r. slice_get o.0.own r.first ≡ Some m.0) (sym q) o.2)
+
+  module _ (part : Part) (found items : List Part) (a : ArePlaces lists part found) (same : items ≡ found) (i : ℕ) where
+    pub alike : map (entry_at lists) items ≡ map Some a.0
+    alike = ap (map (entry_at lists)) same ∙ a.2
+
+    pub list_there : (d : Part) → i < length items → (get_or items i d).list < length lists
+    list_there d h = let p = at_place items a.0 alike i d h in in_range lists (get_or items i d).list p.2 p.3
+
+    pub own_in_list : (d : Part) (l : Chain T) → i < length items → l ≡ get_or lists (get_or items i d).list l → (get_or items i d).first < length l.own
+    own_in_list d l h e =
+        let p = at_place items a.0 alike i d h in
+        let q : l ≡ p.2 = e ∙ got lists (get_or items i d).list p.2 l p.3 in
+        subst (λ m. (get_or items i d).first < length m.own) (sym q) (in_range p.2.own (get_or items i d).first p.0 p.4)
+
+    -- the entry that was found is the one of this index, whichever entries are meant
+    pub same_entry : (d : Part) (l : Chain T) (x : T) → i < length items → l ≡ get_or lists (get_or items i d).list l → slice_get l.own (get_or items i d).first ≡ Some x →
+        (xs : List T) → map (entry_at lists) items ≡ map Some xs → slice_get xs i ≡ Some x
+    same_entry d l x h e s xs m =
+        let p = at_place items xs m i d h in
+        let q : l ≡ p.2 = e ∙ got lists (get_or items i d).list p.2 l p.3 in
+        let r : p.0 ≡ x = let u = subst (λ m. slice_get m.own (get_or items i d).first ≡ Some x) q s in let v = p.4 in cc in
+        p.1 ∙ ap Some r
+
+module _ {A : Type 0} (C : List (Chain (code.Command A))) (R : List (Chain Part)) (items : List Part) (i : ℕ) where
+  -- ---- commands
+
+  module _ (env : Environment) (x : code.Command A) (built : IsBuiltSoFar C R items i env) (here : (xs : List (code.Command A)) → map (entry_at C) items ≡ map Some xs → slice_get xs i ≡ Some x) where
+    next_command : (xs : List (code.Command A)) → map (entry_at C) items ≡ map Some xs → (cs : Commands) → Gives (log_of C R) no_commands (map entry_seen xs) cs →
+        (mid : Commands) × (c : Command) × GivesCommand (log_of C R) (entry_seen x) c × Gives (log_of C R) (command mid c) (map entry_seen (drop (suc i) xs)) cs × (env ≡ run mid [])
+    next_command xs m cs h =
+        let b = built xs m cs h in
+        let k = command_head x (subst (λ ys. Gives (log_of C R) b.0 (map entry_seen ys) cs) (drop-at xs i x (here xs m)) b.1) in
+        (b.0, k.0, k.1, k.2, b.2)
+
+    pub grounded_command : (part : Part) (found : List Part) (most : ℕ) → ArePlaces C part found → items ≡ found → IsPartGrounded (log_of C R) part most →
+        IsCommandGrounded (log_of C R) (entry_seen x) most
+    grounded_command part found most a same g =
+        let k = next_command a.0 (ap (map (entry_at C)) same ∙ a.2) g.0 (flat_gives C R a.1 no_commands g.0 g.1) in
+        (k.1, k.2, let u = deeper k.3 in let v = g.2 in omega (arith, u, v))
+
+    pub built-step : (after : Environment) → ((c : Command) → GivesCommand (log_of C R) (entry_seen x) c → after ≡ run_command c env) → IsBuiltSoFar C R items (i + 1) after
+    built-step after s = λ xs m cs h.
+        let k = next_command xs m cs h in
+        let j : suc i ≡ i + 1 = omega arith in
+        (command k.0 k.1, subst (λ n. Gives (log_of C R) (command k.0 k.1) (map entry_seen (drop n xs)) cs) j k.3, s k.1 k.2 ∙ ap (run_command k.1) k.4)
+
+  pub built-end : (env : Environment) (part : Part) (found : List Part) → IsBuiltSoFar C R items i env → ArePlaces C part found → items ≡ found → length items ≤ i →
+      (cs : Commands) → PartGives (log_of C R) no_commands part cs → env ≡ run cs []
+  built-end env part found built a same long cs p =
+      let m : map (entry_at C) items ≡ map Some a.0 = ap (map (entry_at C)) same ∙ a.2 in
+      let b = built a.0 m cs (flat_gives C R a.1 no_commands cs p) in
+      let n : length a.0 ≤ i = (let u = length-mapped (entry_at C) items in let v = length-mapped Some a.0 in let w = ap length m in omega (arith, u, v, w, long)) in
+      let e : b.0 ≡ cs = end_of (subst (λ ys. Gives (log_of C R) b.0 (map entry_seen ys) cs) (drop-end a.0 i n) b.1) in
+      b.2 ∙ ap (λ ds. run ds []) e
+
+  -- ---- rounds
+
+  module _ (before env : Environment) (x : Part) (bound : AreBoundSoFar C R items i before env) (here : (xs : List Part) → map (entry_at R) items ≡ map Some xs → slice_get xs i ≡ Some x) where
+    next_round : (xs : List Part) → map (entry_at R) items ≡ map Some xs → (rs : CommandRounds) → GivesRounds (log_of C R) no_command_rounds (map RoundEntry.finishes xs) rs →
+        (mid : CommandRounds) × (cs : Commands) × PartGives (log_of C R) no_commands x cs × GivesRounds (log_of C R) (command_round mid cs) (map RoundEntry.finishes (drop (suc i) xs)) rs
+        × (round_count mid ≡ i) × (env ≡ run_rounds mid before)
+    next_round xs m rs h =
+        let b = bound xs m rs h in
+        let k = round_head (subst (λ ys. GivesRounds (log_of C R) b.0 (map RoundEntry.finishes ys) rs) (drop-at xs i x (here xs m)) b.1) in
+        (b.0, k.0, k.1, k.2, b.2, b.3)
+
+    pub grounded_round : (finished last : Part) (found : List Part) (most : ℕ) → ArePlaces R finished found → items ≡ found → AreRoundsGrounded (log_of C R) finished last most →
+        IsPartGrounded (log_of C R) x most
+    grounded_round finished last found most a same g =
+        let k = next_round a.0 (ap (map (entry_at R)) same ∙ a.2) g.0 (flat_rounds C R a.1 no_command_rounds g.0 g.2) in
+        (k.1, k.2, let u = deeper_rounds k.3 in let v = g.4 in omega (arith, u, v))
+
+    pub bound-step : (after round : Environment) → ((cs : Commands) → PartGives (log_of C R) no_commands x cs → round ≡ run cs []) → after ≡ add_round_in i round env →
+        AreBoundSoFar C R items (i + 1) before after
+    bound-step after round r s = λ xs m rs h.
+        let k = next_round xs m rs h in
+        let j : suc i ≡ i + 1 = omega arith in (
+          command_round k.0 k.1,
+          subst (λ n. GivesRounds (log_of C R) (command_round k.0 k.1) (map RoundEntry.finishes (drop n xs)) rs) j k.3,
+          ap suc k.4 ∙ j,
+          s ∙ ap (λ n. add_round_in n round env) (sym k.4) ∙ ap (λ e. add_round_in (round_count k.0) e env) (r k.1 k.2) ∙ ap (add_round_in (round_count k.0) (run k.1 [])) k.5,
+        )
+
+  pub bound-end : (before env after round : Environment) (finished last : Part) (found : List Part) → AreBoundSoFar C R items i before env → ArePlaces R finished found → items ≡ found →
+      length items ≤ i → i ≡ length found → ((cs : Commands) → PartGives (log_of C R) no_commands last cs → round ≡ run cs []) → after ≡ add_round_in (length found) round env →
+      (rs : CommandRounds) (ds : Commands) → PartGivesRounds (log_of C R) no_command_rounds finished rs → PartGives (log_of C R) no_commands last ds →
+      after ≡ run_rounds (command_round rs ds) before
+  bound-end before env after round finished last found bound a same long count r s rs ds p q =
+      let m : map (entry_at R) items ≡ map Some a.0 = ap (map (entry_at R)) same ∙ a.2 in
+      let b = bound a.0 m rs (flat_rounds C R a.1 no_command_rounds rs p) in
+      let n : length a.0 ≤ i = (let u = length-mapped (entry_at R) items in let v = length-mapped Some a.0 in let w = ap length m in omega (arith, u, v, w, long)) in
+      let e : b.0 ≡ rs = rounds_end_of (subst (λ ys. GivesRounds (log_of C R) b.0 (map RoundEntry.finishes ys) rs) (drop-end a.0 i n) b.1) in
+      s ∙ ap (λ n. add_round_in n round env) (sym count ∙ sym b.2 ∙ ap round_count e) ∙ ap (λ v. add_round_in (round_count rs) v env) (r ds q)
+      ∙ ap (add_round_in (round_count rs) (run ds [])) (b.3 ∙ ap (λ t. run_rounds t before) e)

@@ -1,0 +1,16 @@
+use Rattle.std.proofs.Common.{◌∙◌, ap}
+use Rattle.mbe_semantics.specs.Bindings.Environment.{set_value}
+use Rattle.mbe_log.specs.BindingViews.{value_seen}
+use Rattle.mbe_log.proofs.BindingLemmas.{grown-found, grown-new, values_of}
+use Rattle.mbe_log.proofs.bindings.Bindings.grow.Goals as goal
+
+pub returns-in_ok-grow_value-in-Some : goal.returns-in_ok-grow_value-in-Some
+returns-in_ok-grow_value-in-Some g c =
+    grown-found c.args.number c.args.self.now.inner.entries c.args.name (value_seen c.args.value) _ c.in-Some.found.now c.grow_value.new.binding
+    c.in-Some.ensures.value (c.get_mut.follows.holds c.grow_value.new.binding).0 c.in_ok-grow_value-in-Some.ensures
+
+pub returns-in_ok-put-in-None : goal.returns-in_ok-put-in-None
+returns-in_ok-put-in-None g c =
+    grown-new c.args.number c.args.self.now.inner.entries c.args.name (value_seen c.args.value) _ c.new.result c.grow_value-in-None.new.binding
+    c.in-None.ensures.value c.new.ensures.items c.in_ok-grow_value-in-None.ensures
+    (c.in_ok-put-in-None.ensures.ok ∙ ap (λ m. set_value (values_of m.entries) c.args.name (value_seen c.grow_value-in-None.new.binding)) c.get_mut.follows.holds-at-none)

@@ -1,0 +1,110 @@
+use Rattle.std.proofs.Common.{◌≡◌, ◌<◌, ◌≤◌, length, refl, arith, rules}
+use Rattle.mbe_semantics.specs.Bindings.Account.{no_commands, no_command_rounds}
+use Rattle.mbe_log.specs.BindingViews.{bound_by}
+use Rattle.mbe_log.specs.Entries.{entry_seen, log_of}
+use Rattle.mbe_log.specs.Sound.{IsPartGrounded, IsCommandGrounded}
+use Rattle.mbe_log.proofs.BuildLemmas.{is_within, is_rounds_within}
+use Rattle.mbe_log.proofs.StepLemmas.{list_there, own_in_list, same_entry, grounded_command, built-step, built-end, grounded_round, bound-step, bound-end}
+use Rattle.mbe_log.proofs.log.+building.Goals as goal
+
+pub build_part-places-requires-clause-within : goal.build_part-places-requires-clause-within
+build_part-places-requires-clause-within g t c = is_within c.args.commands.now c.args.rounds.now c.requires.grounded.1
+
+pub build_part-loop-place-init : goal.build_part-loop-place-init
+build_part-loop-place-init g t c = λ xs e cs h. (no_commands, h, c.new-bindings.ensures)
+
+pub build_part-bounds-commands-place : goal.build_part-bounds-commands-place
+build_part-bounds-commands-place g t c =
+    let short : c.loop-place.place-index < length c.deref-place-items.result.now = search rules in
+    list_there c.args.commands.now c.args.part c.in_ok-found.found.items c.deref-place-items.result.now c.in_ok-found.ensures c.deref-place-items.ensures.value
+    c.loop-place.place-index _ short
+
+pub build_part-own_at-command-requires : goal.build_part-own_at-command-requires
+build_part-own_at-command-requires g t c =
+    let short : c.loop-place.place-index < length c.deref-place-items.result.now = search rules in
+    own_in_list c.args.commands.now c.args.part c.in_ok-found.found.items c.deref-place-items.result.now c.in_ok-found.ensures c.deref-place-items.ensures.value
+    c.loop-place.place-index _ c.index-commands-place.result short c.index-commands-place.is
+
+pub build_part-bind_command-requires : goal.build_part-bind_command-requires
+build_part-bind_command-requires g t c =
+    let short : c.loop-place.place-index < length c.deref-place-items.result.now = search rules in
+    let grounded : IsCommandGrounded (log_of c.args.commands.now c.args.rounds.now) (entry_seen c.own_at-command.result.now) c.args.depth =
+    grounded_command c.args.commands.now c.args.rounds.now c.deref-place-items.result.now c.loop-place.place-index (bound_by c.loop-place.bindings)
+    c.own_at-command.result.now c.loop-place.invariant
+    (same_entry c.args.commands.now c.args.part c.in_ok-found.found.items c.deref-place-items.result.now c.in_ok-found.ensures c.deref-place-items.ensures.value
+    c.loop-place.place-index _ c.index-commands-place.result c.own_at-command.result.now short c.index-commands-place.is c.own_at-command.ensures)
+    c.args.part c.in_ok-found.found.items c.args.depth c.in_ok-found.ensures c.deref-place-items.ensures.value c.requires.grounded in
+    search (rules, grounded)
+
+pub build_part-loop-place-preserved : goal.build_part-loop-place-preserved
+build_part-loop-place-preserved g t c =
+    let short : c.loop-place.place-index < length c.deref-place-items.result.now = search rules in
+    built-step c.args.commands.now c.args.rounds.now c.deref-place-items.result.now c.loop-place.place-index (bound_by c.loop-place.bindings)
+    c.own_at-command.result.now c.loop-place.invariant
+    (same_entry c.args.commands.now c.args.part c.in_ok-found.found.items c.deref-place-items.result.now c.in_ok-found.ensures c.deref-place-items.ensures.value
+    c.loop-place.place-index _ c.index-commands-place.result c.own_at-command.result.now short c.index-commands-place.is c.own_at-command.ensures)
+    (bound_by c.bind_command.new.bindings) c.in_ok-bind_command.ensures
+
+pub build_part-returns : goal.build_part-returns
+build_part-returns g t c =
+    let long : length c.deref-place-items.result.now ≤ c.loop-place.place-index = search rules in
+    built-end c.args.commands.now c.args.rounds.now c.deref-place-items.result.now c.loop-place.place-index (bound_by c.loop-place.bindings)
+    c.args.part c.in_ok-found.found.items c.loop-place.invariant c.in_ok-found.ensures c.deref-place-items.ensures.value long
+
+pub bind_rounds-places-requires-clause-within : goal.bind_rounds-places-requires-clause-within
+bind_rounds-places-requires-clause-within g t c = is_rounds_within c.args.commands.now c.args.rounds.now c.requires.grounded.2
+
+pub bind_rounds-loop-number-init : goal.bind_rounds-loop-number-init
+bind_rounds-loop-number-init g t c = λ xs e rs h. (no_command_rounds, h, refl, refl)
+
+pub bind_rounds-bounds-rounds-place : goal.bind_rounds-bounds-rounds-place
+bind_rounds-bounds-rounds-place g t c =
+    let short : c.loop-number.number < length c.deref-place-items.result.now = search rules in
+    list_there c.args.rounds.now c.args.finished c.in_ok-found.found.items c.deref-place-items.result.now c.in_ok-found.ensures c.deref-place-items.ensures.value
+    c.loop-number.number _ short
+
+pub bind_rounds-own_at-part-requires : goal.bind_rounds-own_at-part-requires
+bind_rounds-own_at-part-requires g t c =
+    let short : c.loop-number.number < length c.deref-place-items.result.now = search rules in
+    own_in_list c.args.rounds.now c.args.finished c.in_ok-found.found.items c.deref-place-items.result.now c.in_ok-found.ensures c.deref-place-items.ensures.value
+    c.loop-number.number _ c.index-rounds-place.result short c.index-rounds-place.is
+
+pub bind_rounds-build_part-requires : goal.bind_rounds-build_part-requires
+bind_rounds-build_part-requires g t c =
+    let short : c.loop-number.number < length c.deref-place-items.result.now = search rules in
+    let grounded : IsPartGrounded (log_of c.args.commands.now c.args.rounds.now) c.own_at-part.result.now c.args.depth =
+    grounded_round c.args.commands.now c.args.rounds.now c.deref-place-items.result.now c.loop-number.number (bound_by c.args.bindings.now)
+    (bound_by c.loop-number.bindings) c.own_at-part.result.now c.loop-number.invariant
+    (same_entry c.args.rounds.now c.args.finished c.in_ok-found.found.items c.deref-place-items.result.now c.in_ok-found.ensures c.deref-place-items.ensures.value
+    c.loop-number.number _ c.index-rounds-place.result c.own_at-part.result.now short c.index-rounds-place.is c.own_at-part.ensures)
+    c.args.finished c.args.last c.in_ok-found.found.items c.args.depth c.in_ok-found.ensures c.deref-place-items.ensures.value c.requires.grounded in
+    search (rules, grounded)
+
+pub bind_rounds-loop-number-preserved : goal.bind_rounds-loop-number-preserved
+bind_rounds-loop-number-preserved g t c =
+    let short : c.loop-number.number < length c.deref-place-items.result.now = search rules in
+    bound-step c.args.commands.now c.args.rounds.now c.deref-place-items.result.now c.loop-number.number (bound_by c.args.bindings.now)
+    (bound_by c.loop-number.bindings) c.own_at-part.result.now c.loop-number.invariant
+    (same_entry c.args.rounds.now c.args.finished c.in_ok-found.found.items c.deref-place-items.result.now c.in_ok-found.ensures c.deref-place-items.ensures.value
+    c.loop-number.number _ c.index-rounds-place.result c.own_at-part.result.now short c.index-rounds-place.is c.own_at-part.ensures)
+    (bound_by c.add_round.new.self) (bound_by c.in_ok-round.round) c.in_ok-round.ensures c.in_ok-add_round.ensures
+
+pub bind_rounds-returns : goal.bind_rounds-returns
+bind_rounds-returns g t c =
+    let long : length c.deref-place-items.result.now ≤ c.loop-number.number = search rules in
+    let count : c.loop-number.number ≡ length c.in_ok-found.found.items = search rules in
+    bound-end c.args.commands.now c.args.rounds.now c.deref-place-items.result.now c.loop-number.number (bound_by c.args.bindings.now)
+    (bound_by c.loop-number.bindings) (bound_by c.add_round-2.new.self) (bound_by c.in_ok-round-2.round) c.args.finished c.args.last c.in_ok-found.found.items
+    c.loop-number.invariant c.in_ok-found.ensures c.deref-place-items.ensures.value long count c.in_ok-round-2.ensures (search rules)
+
+pub build_part-offset_bounds-commands-place : goal.build_part-offset_bounds-commands-place
+build_part-offset_bounds-commands-place g t c =
+    let short : c.loop-place.place-index < length c.deref-place-items.result.now = search rules in
+    let k = list_there c.args.commands.now c.args.part c.in_ok-found.found.items c.deref-place-items.result.now c.in_ok-found.ensures c.deref-place-items.ensures.value
+    c.loop-place.place-index (record { list = 0; first = 0 }) short in omega (arith, k)
+
+pub bind_rounds-offset_bounds-rounds-place : goal.bind_rounds-offset_bounds-rounds-place
+bind_rounds-offset_bounds-rounds-place g t c =
+    let short : c.loop-number.number < length c.deref-place-items.result.now = search rules in
+    let k = list_there c.args.rounds.now c.args.finished c.in_ok-found.found.items c.deref-place-items.result.now c.in_ok-found.ensures c.deref-place-items.ensures.value
+    c.loop-number.number (record { list = 0; first = 0 }) short in omega (arith, k)

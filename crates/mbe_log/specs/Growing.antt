@@ -1,0 +1,11 @@
+-- One value more of a list.
+use Rattle.std.specs.Prelude.{ℕ}
+use Rattle.mbe_semantics.specs.Bindings.Environment.{Value, fragment, list, empty, missing, add_value}
+use Rattle.mbe_semantics.specs.Bindings.Account.{filled}
+
+-- a list with one value more, after empty lists for the rounds that it lacks; any other value stays
+abbrev pub grown_value : ℕ → Value → Value → Value
+grown_value number v (list vs) = list (add_value (filled number vs) v)
+grown_value number v (fragment x) = fragment x
+grown_value number v empty = empty
+grown_value number v (missing kind) = missing kind

@@ -1,0 +1,9 @@
+pub mod Accounts
+pub mod BindingViews
+pub mod Building
+pub mod Chain
+pub mod Collected
+pub mod Entries
+pub mod Growing
+pub mod Shared
+pub mod Sound

@@ -1,0 +1,58 @@
+-- What is true of a log at all times: each list gives commands, with no more levels than nested commands were written.
+use Rattle.std.specs.Prelude.{◌≡◌, ◌≤◌, ℕ, suc, max, List, slice_get, Some}
+use Rattle.mbe_semantics.specs.declared.log.Part.{Part}
+use Rattle.mbe_log.specs.declared.log.Command as code
+use Rattle.mbe_log.specs.Chain.{Chain, IsChained}
+use Rattle.mbe_semantics.specs.Bindings.Account.{Command, Commands, CommandRounds, no_commands, command, no_command_rounds, command_round, Entry, RoundEntry, Log, Gives, GivesRounds, PartGives, PartGivesRounds}
+use Rattle.mbe_log.specs.Entries.{log_of}
+
+-- how many levels of nested commands there are
+abbrev mutual
+  pub command_depth : Command → ℕ
+  command_depth (Command.binds name x) = 0
+  command_depth (Command.binds_nothing name) = 0
+  command_depth (Command.skips name) = 0
+  command_depth (Command.misses name kind) = 0
+  command_depth (Command.nests rs) = suc (rounds_depth rs)
+
+  pub depth : Commands → ℕ
+  depth no_commands = 0
+  depth (command cs c) = max (depth cs) (command_depth c)
+
+  pub rounds_depth : CommandRounds → ℕ
+  rounds_depth no_command_rounds = 0
+  rounds_depth (command_round rs cs) = max (rounds_depth rs) (depth cs)
+
+-- each list gives commands, or rounds
+pub record IsGrounded (log : Log) (most : ℕ) : Type 0 where
+  pub commands : (i : ℕ) (es : List Entry) → slice_get log.commands i ≡ Some es → (cs : Commands) × Gives log no_commands es cs × (depth cs ≤ most)
+  pub rounds : (i : ℕ) (es : List RoundEntry) → slice_get log.rounds i ≡ Some es → (rs : CommandRounds) × GivesRounds log no_command_rounds es rs × (rounds_depth rs ≤ most)
+
+pub record IsSound {A : Type 0} (commands : List (Chain (code.Command A))) (rounds : List (Chain Part)) (most : ℕ) : Type 0 where
+  pub links : IsChained commands
+  pub round_links : IsChained rounds
+  pub grounded : IsGrounded (log_of commands rounds) most
+
+-- ---- what building asks for and gives
+
+-- a command that isn't a link
+abbrev pub GivesCommand : Log → Entry → Command → Type 0
+GivesCommand log (Entry.binds name x) c = c ≡ Command.binds name x
+GivesCommand log (Entry.binds_nothing name) c = c ≡ Command.binds_nothing name
+GivesCommand log (Entry.skips name) c = c ≡ Command.skips name
+GivesCommand log (Entry.misses name kind) c = c ≡ Command.misses name kind
+GivesCommand log (Entry.nests finished current) c =
+    (rs : CommandRounds) × (ds : Commands) × PartGivesRounds log no_command_rounds finished rs × PartGives log no_commands current ds
+    × (c ≡ Command.nests (command_round rs ds))
+GivesCommand log (Entry.links part) c = ⊥
+
+abbrev pub IsPartGrounded : Log → Part → ℕ → Type 0
+IsPartGrounded log part most = (cs : Commands) × PartGives log no_commands part cs × (depth cs ≤ most)
+
+abbrev pub IsCommandGrounded : Log → Entry → ℕ → Type 0
+IsCommandGrounded log e most = (c : Command) × GivesCommand log e c × (command_depth c ≤ most)
+
+abbrev pub AreRoundsGrounded : Log → Part → Part → ℕ → Type 0
+AreRoundsGrounded log finished last most =
+    (rs : CommandRounds) × (ds : Commands) × PartGivesRounds log no_command_rounds finished rs × PartGives log no_commands last ds
+    × (rounds_depth (command_round rs ds) ≤ most)

@@ -1,0 +1,145 @@
+// What the names of a match are bound to.
+ghost use Rattle.std.specs.Prelude.{◌≡◌, ◌+◌, [], length, map, OnOk, OnErr, option_map};
+ghost use Rattle.indexmap.specs.IndexMap.{index_map_len};
+ghost use Rattle.mbe_semantics.specs.Bindings.Environment.{add_value, set_value, value_of};
+ghost use Rattle.mbe_semantics.specs.Bindings.Account.{add_round_in, filled, grown_in};
+ghost use Rattle.mbe_log.specs.Growing.{grown_value};
+ghost use Rattle.mbe_log.specs.BindingViews.{all_values, bound_by, value_seen};
+
+use crate::fragment::Fragment;
+use indexmap::IndexMap;
+use mbe_semantics::kinds::MetaVarKind;
+use mbe_tt::symbol::Symbol;
+use std::alloc::{AllocError, Allocator, Global};
+use std::hash::{BuildHasherDefault, FoldHasher};
+
+/// What a name is bound to.
+#[derive(Drop)]
+pub enum Binding<'a, A: Allocator = Global> {
+    Fragment(Fragment<'a, A>),
+    /// One for each round of a repetition.
+    Nested(Vec<Binding<'a, A>, A>),
+    /// The repetition had no rounds.
+    Empty,
+    Missing(MetaVarKind),
+}
+
+/// The names that a match binds, in the order in which they were first bound.
+#[derive(Drop)]
+pub struct Bindings<'a, A: Allocator = Global> {
+    inner: IndexMap<Symbol<A>, Binding<'a, A>, BuildHasherDefault<FoldHasher>, A>,
+}
+
+impl<'a, A: Allocator> Bindings<'a, A> {
+    /// What the name is bound to.
+    pub fn get(&self, name: &Symbol<A>) -> Option<&Binding<'a, A>>
+        ensures { option_map (λ x. value_seen x.now) result ≡ value_of (bound_by self.now) name.now }
+    {
+        self.inner.get(name)
+    }
+
+    /// The number of names.
+    pub fn len(&self) -> usize
+        ensures { result ≡ length (bound_by self.now) }
+    {
+        self.inner.len()
+    }
+}
+
+impl<'a, A: Allocator + Copy> Bindings<'a, A> {
+    /// No name is bound.
+    pub fn new(alloc: A) -> Bindings<'a, A>
+        ensures { bound_by result ≡ [] }
+    {
+        Bindings {
+            inner: IndexMap::new(alloc),
+        }
+    }
+
+    /// The name is bound to this now, whatever it was bound to. `AllocError` if out of memory.
+    pub fn insert(&mut self, name: &Symbol<A>, value: Binding<'a, A>) -> Result<(), AllocError>
+        ensures ok { OnOk result (bound_by self.new ≡ set_value (bound_by self.old) name.now (value_seen value.entry)) }
+        ensures err { OnErr result (bound_by self.new ≡ bound_by self.old) }
+    {
+        self.put(name.clone()?, value)?;
+        Ok(())
+    }
+
+    fn put(&mut self, name: Symbol<A>, value: Binding<'a, A>) -> Result<(), AllocError>
+        ensures ok { OnOk result (bound_by self.new ≡ set_value (bound_by self.old) name (value_seen value.entry)) }
+        ensures err { OnErr result (bound_by self.new ≡ bound_by self.old) }
+    {
+        let _replaced = self.inner.insert(name, value)?;
+        Ok(())
+    }
+
+    // Each name of the round of this number gives its list one value more.
+    pub(crate) fn add_round(
+        &mut self,
+        alloc: A,
+        number: usize,
+        round: Bindings<'a, A>,
+    ) -> Result<(), AllocError>
+        ensures { OnOk result (bound_by self.new ≡ add_round_in number (bound_by round.entry) (bound_by self.old)) }
+    {
+        for (name, value) in round.inner {
+            self.grow(alloc, number, name, value)?;
+        }
+        Ok(())
+    }
+
+    // One value more of a list. A name that has no list yet gets one, and any other value stays.
+    fn grow(
+        &mut self,
+        alloc: A,
+        number: usize,
+        name: Symbol<A>,
+        value: Binding<'a, A>,
+    ) -> Result<(), AllocError>
+        ensures { OnOk result (bound_by self.new ≡ grown_in number (bound_by self.old) name (value_seen value.entry) (value_of (bound_by self.old) name)) }
+    {
+        match self.inner.get_mut(&name) {
+            Some(found) => {
+                grow_value(alloc, found, number, value)?;
+                Ok(())
+            }
+            None => {
+                let mut list = Binding::Nested(Vec::new(alloc));
+                grow_value(alloc, &mut list, number, value)?;
+                self.put(name, list)?;
+                Ok(())
+            }
+        }
+    }
+}
+
+// A list gets one value more; any other value stays.
+fn grow_value<'a, A: Allocator + Copy>(
+    alloc: A,
+    binding: &mut Binding<'a, A>,
+    number: usize,
+    value: Binding<'a, A>,
+) -> Result<(), AllocError>
+    ensures { OnOk result (value_seen binding.new ≡ grown_value number (value_seen value.entry) (value_seen binding.old)) }
+{
+    match binding {
+        Binding::Nested(list) => push_round(alloc, list, number, value),
+        _ => Ok(()),
+    }
+}
+
+// One value more, after empty lists for the rounds that the list lacks.
+fn push_round<'a, A: Allocator + Copy>(
+    alloc: A,
+    list: &mut Vec<Binding<'a, A>, A>,
+    number: usize,
+    value: Binding<'a, A>,
+) -> Result<(), AllocError>
+    ensures { OnOk result (all_values (map value_seen list.new.items) ≡ add_value (filled number (all_values (map value_seen list.old.items))) (value_seen value.entry)) }
+{
+    while list.len() < number {
+        list.push(Binding::Nested(Vec::new(alloc)))?;
+    }
+    list.push(value)?;
+    Ok(())
+}

@@ -1,0 +1,166 @@
+// A list that may begin with the first entries of another.
+ghost use Rattle.std.specs.Prelude.{◌≡◌, ◌↔◌, IsTrue, ◌<◌, [], ◌∷◌, ◌++◌, length, slice_get, Some, None, IfOk, OnOk, OnErr};
+ghost use Rattle.mbe_log.specs.Chain.{chain_len, link_to, link_in, own_in, IsChained, IsWithin, IsExtended, ArePlaces, places_down};
+
+use mbe_semantics::log::Part;
+use std::alloc::{AllocError, Allocator, Global};
+use std::marker::Model;
+
+/// A link, which counts as an entry, and entries of its own after it.
+#[derive(Drop)]
+pub(crate) struct Linked<T, A: Allocator = Global> {
+    link: Option<Part>,
+    own: Vec<T, A>,
+}
+
+impl<T, A: Allocator> Model for Linked<T, A> {
+    ghost use Rattle.std.specs.Prelude.{◌+◌, ◌<◌, ◌^◌, length};
+    ghost use Rattle.mbe_log.specs.Chain.{Chain, chain_code};
+
+    ghost Value = { Chain T };
+
+    ghost coded = { chain_code T.code };
+
+    ghost view = { λ l. record { link = l.link; own = l.own.items } };
+
+    ghost invariant = { λ l. length l.own.items + 1 < 2 ^ 64 };
+}
+
+impl<T, A: Allocator> Linked<T, A> {
+    /// A list that may begin with a link.
+    pub(crate) fn linked(alloc: A, link: Option<Part>) -> Linked<T, A>
+        ensures { result ≡ record { link = link; own = [] } }
+    {
+        Linked {
+            link,
+            own: Vec::new(alloc),
+        }
+    }
+
+    /// What stands in another list for a part of this one. A part that has only the link passes that on.
+    pub(crate) fn link_to(&self, part: Part) -> Option<Part>
+        ensures { result ≡ link_to part self.now }
+    {
+        let (link, own) = self.cut(part.first);
+        if own == 0 { link } else { Some(part) }
+    }
+
+    /// How many entries it has.
+    pub(crate) fn len(&self) -> usize
+        ensures { result ≡ chain_len self.now }
+    {
+        match self.link {
+            Some(_) => self.own.len() + 1,
+            None => self.own.len(),
+        }
+    }
+
+    /// The link among the first so many entries, and how many others are among them.
+    fn cut(&self, first: usize) -> (Option<Part>, usize)
+        ensures link { result.0 ≡ link_in self.now.link first }
+        ensures own { result.1 ≡ own_in self.now.link first }
+    {
+        match self.link {
+            Some(link) if first > 0 => (Some(link), first - 1),
+            Some(_) => (None, 0),
+            None => (None, first),
+        }
+    }
+
+    /// The entry of its own at the index.
+    pub(crate) fn own_at(&self, index: usize) -> &T
+        requires { index < length self.now.own }
+        ensures { slice_get self.now.own index ≡ Some result.now }
+    {
+        &self.own[index]
+    }
+}
+
+impl<T: Drop, A: Allocator> Linked<T, A> {
+    /// One entry more at the end. `AllocError` if out of memory.
+    pub(crate) fn push(&mut self, entry: T) -> Result<(), AllocError>
+        ensures ok { OnOk result (self.new ≡ record self.old { own = self.old.own ++ entry ∷ [] }) }
+        ensures err { OnErr result (self.new ≡ self.old) }
+    {
+        if self.own.len() >= usize::MAX - 1 {
+            return Err(AllocError);
+        }
+        self.own.push(entry)?;
+        Ok(())
+    }
+}
+
+/// Whether the part's list is there, and has so many entries.
+pub(crate) fn is_within<T, A: Allocator>(lists: &[Linked<T, A>], part: Part) -> bool
+    ensures { IsTrue result ↔ IsWithin lists.now part }
+{
+    part.list < lists.len() && part.first <= lists[part.list].len()
+}
+
+/// The part with one entry more: in its own list where it goes up to the end of that, else in a new list that links to the
+/// part. `AllocError` if out of memory.
+pub(crate) fn extend<T: Drop, A: Allocator + Copy>(
+    alloc: A,
+    lists: &mut Vec<Linked<T, A>, A>,
+    part: Part,
+    entry: T,
+) -> Result<Part, AllocError>
+    requires { IsWithin lists.old.items part }
+    ensures ok { IfOk result (λ longer. IsExtended lists.old.items lists.new.items part longer entry) }
+    ensures err { OnErr result (lists.new.items ≡ lists.old.items) }
+{
+    if part.first < lists[part.list].len() {
+        let mut list = Linked::linked(alloc, lists[part.list].link_to(part));
+        list.push(entry)?;
+        let longer = Part {
+            list: lists.len(),
+            first: list.len(),
+        };
+        lists.push(list)?;
+        return Ok(longer);
+    }
+    lists[part.list].push(entry)?;
+    let first = lists[part.list].len();
+    Ok(Part {
+        list: part.list,
+        first,
+    })
+}
+
+/// Where the entries of a part stand, where each link is replaced by what it stands for. A place is a list and an index
+/// among its own entries.
+pub(crate) fn places<T, A: Allocator + Copy>(
+    alloc: A,
+    lists: &[Linked<T, A>],
+    part: Part,
+) -> Result<Vec<Part, A>, AllocError>
+    requires chained { IsChained lists.now }
+    requires within { IsWithin lists.now part }
+    ensures { IfOk result (λ v. ArePlaces lists.now part v.items) }
+{
+    let mut places = Vec::new(alloc);
+    let mut next = Some(part);
+    while let Some(part) = next {
+        let (link, own) = lists[part.list].cut(part.first);
+        push_places(&mut places, part.list, own)?;
+        next = link;
+    }
+    places.reverse();
+    Ok(places)
+}
+
+// The places of a list's first own entries, last first.
+fn push_places<A: Allocator>(
+    places: &mut Vec<Part, A>,
+    list: usize,
+    count: usize,
+) -> Result<(), AllocError>
+    ensures { OnOk result (places.new.items ≡ places.old.items ++ places_down list count) }
+{
+    let mut first = count;
+    while first > 0 {
+        first -= 1;
+        places.push(Part { list, first })?;
+    }
+    Ok(())
+}

@@ -1,0 +1,73 @@
+// What a variable took.
+ghost use Rattle.std.specs.Prelude.{◌≡◌, IfOk};
+ghost use Rattle.mbe_tt.specs.View.{trees};
+ghost use Rattle.mbe_semantics.specs.Readings.Item.{style_of};
+ghost use Rattle.mbe_log.specs.BindingViews.{fragment_seen};
+
+use mbe_semantics::kinds::MetaVarKind;
+use mbe_tt::buffer::TopSubtree;
+use mbe_tt::view::TokenTreesView;
+use std::alloc::{AllocError, Allocator, Global};
+
+/// Whether tokens were taken as such, or because the grammar found a fragment in them.
+#[derive(Clone, Copy, Debug, Drop, PartialEq, Eq)]
+pub enum TokensOrigin {
+    Raw,
+    Ast,
+}
+
+/// What a variable took.
+#[derive_where(Debug, PartialEq, Eq)]
+#[derive(Drop)]
+pub enum Fragment<'a, A: Allocator = Global> {
+    Empty,
+    Tokens {
+        tree: TokenTreesView<'a, A>,
+        origin: TokensOrigin,
+    },
+    Expr(TokenTreesView<'a, A>),
+    Path(TokenTreesView<'a, A>),
+    TokensOwned(TopSubtree<A>),
+}
+
+impl<'a, A: Allocator + Copy> Fragment<'a, A> {
+    /// An equal copy. `AllocError` if out of memory.
+    pub fn try_clone(&self) -> Result<Fragment<'a, A>, AllocError>
+        ensures { IfOk result (λ x. fragment_seen x ≡ fragment_seen self.now) }
+    {
+        match self {
+            Fragment::Empty => Ok(Fragment::Empty),
+            Fragment::Tokens { tree, origin } => Ok(Fragment::Tokens {
+                tree: *tree,
+                origin: *origin,
+            }),
+            Fragment::Expr(tree) => Ok(Fragment::Expr(*tree)),
+            Fragment::Path(tree) => Ok(Fragment::Path(*tree)),
+            Fragment::TokensOwned(tree) => Ok(Fragment::TokensOwned(tree.try_clone()?)),
+        }
+    }
+}
+
+/// What a variable of the kind took.
+pub fn of_kind<'a, A: Allocator>(
+    kind: Option<MetaVarKind>,
+    tree: TokenTreesView<'a, A>,
+) -> Fragment<'a, A>
+    ensures { fragment_seen result ≡ record { trees = trees tree.entry; style = style_of kind } }
+{
+    match kind {
+        Some(MetaVarKind::Expr(_)) => Fragment::Expr(tree),
+        Some(MetaVarKind::Path) => Fragment::Path(tree),
+        Some(MetaVarKind::Ident | MetaVarKind::Tt | MetaVarKind::Lifetime | MetaVarKind::Literal) =>
+            {
+                Fragment::Tokens {
+                    tree,
+                    origin: TokensOrigin::Raw,
+                }
+            }
+        _ => Fragment::Tokens {
+            tree,
+            origin: TokensOrigin::Ast,
+        },
+    }
+}

@@ -1,0 +1,419 @@
+// The log of bindings that the positions of a match share. Its structure follows rust-analyzer's `BindingsBuilder`; that a
+// link carries a length, and that a list without an entry of its own passes its link on, are the project's own.
+//
+// A log holds lists of commands and lists of finished rounds. A handle names a list of each sort, and how many of its first
+// entries are the handle's. A push goes on in place where the handle's entries end the list, and else begins a list that
+// links to them; so what a handle stands for never changes. Of the commands alone, `0,1` for the first entry of list 0:
+//
+//     push x to h    h = 0,1            0: x
+//     c = copy h     h = 0,1  c = 1,1   0: x    1: ->0,1
+//     push y to h    h = 0,2  c = 1,1   0: x y  1: ->0,1
+//     push z to c    h = 0,2  c = 1,2   0: x y  1: ->0,1 z
+//     k = again h    k = 0,2
+//     push v to h    h = 0,3            0: x y v
+//     push w to k    k = 2,2            0: x y v  2: ->0,2 w
+//
+// Building follows the links of a list by a loop, and recurses only into nested commands.
+ghost use Rattle.std.specs.Prelude.{◌≡◌, ◌↔◌, ◌≤◌, [], IsTrue, IfOk, OnOk, OnErr};
+ghost use Rattle.mbe_semantics.specs.Bindings.Account.{Account, Commands, CommandRounds, IsLive, IsAccount, no_account, no_lists, pushed, pushed_nested, pushed_default, run, run_command, run_rounds, no_commands, no_command_rounds, command_round, PartGives, PartGivesRounds, Command as Written, HasOneListMore};
+ghost use Rattle.mbe_log.specs.Shared.{IsGiven, IsChanged, IsAtEnd, WritesOne, WritesRound, current_len, finished_len, IsPlain};
+ghost use Rattle.mbe_log.specs.BindingViews.{bound_by};
+ghost use Rattle.mbe_log.specs.Chain.{IsChained};
+ghost use Rattle.mbe_log.specs.Entries.{entry_seen, log_of};
+ghost use Rattle.mbe_log.specs.Sound.{GivesCommand, IsPartGrounded, IsCommandGrounded, AreRoundsGrounded};
+ghost use Rattle.mbe_log.specs.BindingViews.{fragment_seen};
+
+use crate::bindings::{Binding, Bindings};
+use crate::chain::{Linked, extend, is_within, places};
+use crate::fragment::Fragment;
+use mbe_semantics::kinds::MetaVarKind;
+use mbe_semantics::log::Part;
+use mbe_tt::symbol::Symbol;
+use std::alloc::{AllocError, Allocator, Global};
+use std::marker::Model;
+
+/// What a position has of a log: the first so many entries of two lists. A push gives it another value; what the old one stood
+/// for stays. So one handle may serve many holders by `&Handle`.
+#[derive(Debug, Drop, PartialEq, Eq)]
+pub struct Handle {
+    current: Part,
+    finished: Part,
+}
+
+impl Model for Handle {
+    ghost use Rattle.mbe_semantics.specs.Bindings.Account as account;
+    ghost use Rattle.mbe_log.specs.Entries.{handle_code};
+
+    ghost Value = { account.Handle };
+
+    ghost coded = { handle_code };
+
+    ghost view = { λ h. record { current = h.current; finished = h.finished } };
+
+    ghost inverse = { λ h. record { current = h.current; finished = h.finished } };
+}
+
+/// The same entries once more. A push to one of the two leaves the other as it is.
+pub fn again(handle: &Handle) -> Handle
+    ensures { result ≡ handle.now }
+{
+    Handle {
+        current: handle.current,
+        finished: handle.finished,
+    }
+}
+
+/// What is written into a list.
+#[derive(Drop)]
+pub(crate) enum Command<'a, A: Allocator = Global> {
+    Fragment(Symbol<A>, Fragment<'a, A>),
+    Optional(Symbol<A>),
+    Empty(Symbol<A>),
+    Missing(Symbol<A>, MetaVarKind),
+    Nested { finished: Part, current: Part },
+}
+
+/// What positions bind, each by a handle of its own.
+pub struct BindingLog<'a, A: Allocator = Global> {
+    alloc: A,
+    commands: Vec<Linked<Command<'a, A>, A>, A>,
+    rounds: Vec<Linked<Part, A>, A>,
+    // How many nested commands were written: none has more levels inside.
+    nested: usize,
+}
+
+impl<'a, A: Allocator> Model for BindingLog<'a, A> {
+    ghost use Rattle.mbe_semantics.specs.Bindings.Account.{Log};
+    ghost use Rattle.mbe_log.specs.Entries.{log_code, log_of};
+    ghost use Rattle.mbe_log.specs.Sound.{IsSound};
+
+    ghost Value = { Log };
+
+    ghost coded = { log_code };
+
+    ghost view = { λ b. log_of b.commands.items b.rounds.items };
+
+    ghost invariant = { λ b. IsSound b.commands.items b.rounds.items b.nested };
+}
+
+impl<A: Allocator> Drop for BindingLog<'_, A> {
+    fn drop(self) {
+        let BindingLog {
+            alloc: _,
+            commands,
+            rounds,
+            nested: _,
+        } = self;
+        release(commands);
+        release(rounds);
+    }
+}
+
+impl<'a, A: Allocator + Copy> BindingLog<'a, A> {
+    /// A log without lists.
+    pub fn new(alloc: A) -> BindingLog<'a, A>
+        ensures { result ≡ no_lists }
+    {
+        BindingLog {
+            alloc,
+            commands: Vec::new(alloc),
+            rounds: Vec::new(alloc),
+            nested: 0,
+        }
+    }
+
+    /// A handle with an empty account. `AllocError` if out of memory.
+    pub fn alloc(&mut self) -> Result<Handle, AllocError>
+        ensures given { IfOk result (λ h. IsGiven self.old self.new h) }
+        ensures account { IfOk result (λ h. IsAccount self.new h no_account) }
+        ensures empty { IfOk result (λ h. h.current.first ≡ 0 × h.finished.first ≡ 0) }
+        ensures err { OnErr result (self.new ≡ self.old) }
+    {
+        self.commands.reserve(1)?;
+        self.rounds.reserve(1)?;
+        let current = self.commands.len();
+        let finished = self.rounds.len();
+        self.commands
+            .push_reserved(Linked::linked(self.alloc, None));
+        self.rounds.push_reserved(Linked::linked(self.alloc, None));
+        Ok(Handle {
+            current: Part {
+                list: current,
+                first: 0,
+            },
+            finished: Part {
+                list: finished,
+                first: 0,
+            },
+        })
+    }
+
+    /// A handle with an equal account. `AllocError` if out of memory.
+    pub fn copy(&mut self, handle: &Handle) -> Result<Handle, AllocError>
+        requires { IsLive self.old handle.now }
+        ensures given { IfOk result (λ h. IsGiven self.old self.new h) }
+        ensures account { IfOk result (λ h. (a : Account) → IsAccount self.old handle.now a → IsAccount self.new h a) }
+        ensures commands { OnOk result (HasOneListMore self.old.commands self.new.commands) }
+        ensures rounds { OnOk result (HasOneListMore self.old.rounds self.new.rounds) }
+        ensures few { IfOk result (λ h. h.current.first ≤ 3 × h.finished.first ≤ 3) }
+        ensures err { OnErr result (self.new ≡ self.old) }
+    {
+        let current = Linked::linked(
+            self.alloc,
+            self.commands[handle.current.list].link_to(handle.current),
+        );
+        let finished = Linked::linked(
+            self.alloc,
+            self.rounds[handle.finished.list].link_to(handle.finished),
+        );
+        self.commands.reserve(1)?;
+        self.rounds.reserve(1)?;
+        let handle = Handle {
+            current: Part {
+                list: self.commands.len(),
+                first: current.len(),
+            },
+            finished: Part {
+                list: self.rounds.len(),
+                first: finished.len(),
+            },
+        };
+        self.commands.push_reserved(current);
+        self.rounds.push_reserved(finished);
+        Ok(handle)
+    }
+
+    /// The name is bound to the fragment. `AllocError` if out of memory.
+    pub fn push_fragment(
+        &mut self,
+        handle: &mut Handle,
+        name: &Symbol<A>,
+        fragment: Fragment<'a, A>,
+    ) -> Result<(), AllocError>
+        requires { IsLive self.old handle.old }
+        ensures ok { OnOk result (IsChanged self.old self.new handle.old handle.new (pushed (Written.binds name.now (fragment_seen fragment.entry)))) }
+        ensures written { OnOk result (WritesOne self.old handle.old handle.new) }
+        ensures err { OnErr result (self.new ≡ self.old × handle.new ≡ handle.old) }
+    {
+        self.push(handle, Command::Fragment(name.clone()?, fragment))?;
+        Ok(())
+    }
+
+    /// The name is bound to a fragment that took nothing. `AllocError` if out of memory.
+    pub fn push_optional(&mut self, handle: &mut Handle, name: &Symbol<A>) -> Result<(), AllocError>
+        requires { IsLive self.old handle.old }
+        ensures ok { OnOk result (IsChanged self.old self.new handle.old handle.new (pushed (Written.binds_nothing name.now))) }
+        ensures written { OnOk result (WritesOne self.old handle.old handle.new) }
+        ensures err { OnErr result (self.new ≡ self.old × handle.new ≡ handle.old) }
+    {
+        self.push(handle, Command::Optional(name.clone()?))?;
+        Ok(())
+    }
+
+    /// The name stands in a repetition without rounds. `AllocError` if out of memory.
+    pub fn push_empty(&mut self, handle: &mut Handle, name: &Symbol<A>) -> Result<(), AllocError>
+        requires { IsLive self.old handle.old }
+        ensures ok { OnOk result (IsChanged self.old self.new handle.old handle.new (pushed (Written.skips name.now))) }
+        ensures written { OnOk result (WritesOne self.old handle.old handle.new) }
+        ensures err { OnErr result (self.new ≡ self.old × handle.new ≡ handle.old) }
+    {
+        self.push(handle, Command::Empty(name.clone()?))?;
+        Ok(())
+    }
+
+    /// Nothing fits the name. `AllocError` if out of memory.
+    pub fn push_missing(
+        &mut self,
+        handle: &mut Handle,
+        name: &Symbol<A>,
+        kind: MetaVarKind,
+    ) -> Result<(), AllocError>
+        requires { IsLive self.old handle.old }
+        ensures ok { OnOk result (IsChanged self.old self.new handle.old handle.new (pushed (Written.misses name.now kind))) }
+        ensures written { OnOk result (WritesOne self.old handle.old handle.new) }
+        ensures err { OnErr result (self.new ≡ self.old × handle.new ≡ handle.old) }
+    {
+        self.push(handle, Command::Missing(name.clone()?, kind))?;
+        Ok(())
+    }
+
+    // One command more after the handle's current ones, which isn't nested.
+    fn push(&mut self, handle: &mut Handle, command: Command<'a, A>) -> Result<(), AllocError>
+        requires live { IsLive self.old handle.old }
+        requires plain { IsPlain (entry_seen command) }
+        ensures ok { OnOk result ((c : Written) → GivesCommand self.old (entry_seen command.entry) c → IsChanged self.old self.new handle.old handle.new (pushed c)) }
+        ensures written { OnOk result (WritesOne self.old handle.old handle.new) }
+        ensures err { OnErr result (self.new ≡ self.old × handle.new ≡ handle.old) }
+    {
+        let current = extend(self.alloc, &mut self.commands, handle.current, command)?;
+        handle.current = current;
+        Ok(())
+    }
+
+    /// The child's finished rounds, and its current commands as the last round, as they are now. `AllocError` if out of memory.
+    pub fn push_nested(&mut self, parent: &mut Handle, child: &Handle) -> Result<(), AllocError>
+        requires parent { IsLive self.old parent.old }
+        requires child { IsLive self.old child.now }
+        ensures ok { OnOk result ((b : Account) → IsAccount self.old child.now b → IsChanged self.old self.new parent.old parent.new (λ a. pushed_nested a b)) }
+        ensures written { OnOk result (WritesOne self.old parent.old parent.new) }
+        ensures err { OnErr result (self.new ≡ self.old × parent.new ≡ parent.old) }
+    {
+        let nested = self.nested.checked_add(1).ok_or(AllocError)?;
+        let finished = child.finished;
+        let current = child.current;
+        let longer = extend(
+            self.alloc,
+            &mut self.commands,
+            parent.current,
+            Command::Nested { finished, current },
+        )?;
+        parent.current = longer;
+        self.nested = nested;
+        Ok(())
+    }
+
+    /// The current commands are a finished round now, and an empty list begins. `AllocError` if out of memory.
+    pub fn push_default(&mut self, handle: &mut Handle) -> Result<(), AllocError>
+        requires { IsLive self.old handle.old }
+        ensures ok { OnOk result (IsChanged self.old self.new handle.old handle.new pushed_default) }
+        ensures written { OnOk result (WritesRound self.old handle.old handle.new) }
+        ensures err { OnErr result (self.new ≡ self.old × handle.new ≡ handle.old) }
+    {
+        let round = handle.current;
+        self.commands.reserve(1)?;
+        let finished = extend(self.alloc, &mut self.rounds, handle.finished, round)?;
+        handle.finished = finished;
+        let list = self.commands.len();
+        self.commands
+            .push_reserved(Linked::linked(self.alloc, None));
+        handle.current = Part { list, first: 0 };
+        Ok(())
+    }
+
+    /// The environment of the current commands. `AllocError` if out of memory.
+    pub fn build(&self, handle: &Handle) -> Result<Bindings<'a, A>, AllocError>
+        requires { IsLive self.now handle.now }
+        ensures { IfOk result (λ b. (a : Account) → IsAccount self.now handle.now a → bound_by b ≡ run a.current []) }
+    {
+        build_part(
+            self.alloc,
+            &self.commands,
+            &self.rounds,
+            handle.current,
+            self.nested,
+        )
+    }
+}
+
+impl<'a, A: Allocator> BindingLog<'a, A> {
+    /// Whether both lists of the handle exist in this log, with as many entries.
+    pub fn is_live(&self, handle: &Handle) -> bool
+        ensures { IsTrue result ↔ IsLive self.now handle.now }
+    {
+        is_within(&self.commands, handle.current) && is_within(&self.rounds, handle.finished)
+    }
+
+    /// How many entries of its current list are the handle's, and of its list of finished rounds: all, if nothing else was
+    /// pushed there.
+    pub fn entries_of(&self, handle: &Handle) -> (usize, usize)
+        requires { IsLive self.now handle.now }
+        ensures current { result.0 ≡ handle.now.current.first }
+        ensures finished { result.1 ≡ handle.now.finished.first }
+        ensures lengths { IsAtEnd self.now handle.now → (result.0 ≡ current_len self.now handle.now) × (result.1 ≡ finished_len self.now handle.now) }
+        ensures account { (a : Account) × IsAccount self.now handle.now a }
+    {
+        let _ = &self.alloc;
+        (handle.current.first, handle.finished.first)
+    }
+}
+
+fn release<T: Drop, A: Allocator>(lists: Vec<Linked<T, A>, A>) {
+    let _lists = lists;
+}
+
+// What the commands of a part bind, which nest no deeper than that.
+#[cycle(building)]
+fn build_part<'a, A: Allocator + Copy>(
+    alloc: A,
+    commands: &[Linked<Command<'a, A>, A>],
+    rounds: &[Linked<Part, A>],
+    part: Part,
+    depth: usize,
+) -> Result<Bindings<'a, A>, AllocError>
+    requires links { IsChained commands.now }
+    requires round_links { IsChained rounds.now }
+    requires grounded { IsPartGrounded (log_of commands.now rounds.now) part depth }
+    ensures { IfOk result (λ b. (cs : Commands) → PartGives (log_of commands.now rounds.now) no_commands part cs → bound_by b ≡ run cs []) }
+{
+    let mut bindings = Bindings::new(alloc);
+    let found = places(alloc, commands, part)?;
+    for place in &found {
+        let command = commands[place.list].own_at(place.first);
+        bind_command(alloc, commands, rounds, command, depth, &mut bindings)?;
+    }
+    Ok(bindings)
+}
+
+// What the command binds, over what was bound before.
+#[cycle(building)]
+fn bind_command<'a, A: Allocator + Copy>(
+    alloc: A,
+    commands: &[Linked<Command<'a, A>, A>],
+    rounds: &[Linked<Part, A>],
+    command: &Command<'a, A>,
+    depth: usize,
+    bindings: &mut Bindings<'a, A>,
+) -> Result<(), AllocError>
+    requires links { IsChained commands.now }
+    requires round_links { IsChained rounds.now }
+    requires grounded { IsCommandGrounded (log_of commands.now rounds.now) (entry_seen command.now) depth }
+    ensures { OnOk result ((c : Written) → GivesCommand (log_of commands.now rounds.now) (entry_seen command.now) c → bound_by bindings.new ≡ run_command c (bound_by bindings.old)) }
+{
+    match command {
+        Command::Fragment(name, fragment) => {
+            bindings.insert(name, Binding::Fragment(fragment.try_clone()?))
+        }
+        Command::Optional(name) => { bindings.insert(name, Binding::Fragment(Fragment::Empty)) }
+        Command::Empty(name) => bindings.insert(name, Binding::Empty),
+        Command::Missing(name, kind) => bindings.insert(name, Binding::Missing(*kind)),
+        Command::Nested { finished, current } => {
+            bind_rounds(
+                alloc,
+                commands,
+                rounds,
+                *finished,
+                *current,
+                depth - 1,
+                bindings,
+            )
+        }
+    }
+}
+
+// What the rounds bind, each by itself.
+#[cycle(building)]
+fn bind_rounds<'a, A: Allocator + Copy>(
+    alloc: A,
+    commands: &[Linked<Command<'a, A>, A>],
+    rounds: &[Linked<Part, A>],
+    finished: Part,
+    last: Part,
+    depth: usize,
+    bindings: &mut Bindings<'a, A>,
+) -> Result<(), AllocError>
+    requires links { IsChained commands.now }
+    requires round_links { IsChained rounds.now }
+    requires grounded { AreRoundsGrounded (log_of commands.now rounds.now) finished last depth }
+    ensures { OnOk result ((rs : CommandRounds) (ds : Commands) → PartGivesRounds (log_of commands.now rounds.now) no_command_rounds finished rs
+        → PartGives (log_of commands.now rounds.now) no_commands last ds → bound_by bindings.new ≡ run_rounds (command_round rs ds) (bound_by bindings.old)) }
+{
+    let found = places(alloc, rounds, finished)?;
+    for (number, place) in found.iter().enumerate() {
+        let part = *rounds[place.list].own_at(place.first);
+        let round = build_part(alloc, commands, rounds, part, depth)?;
+        bindings.add_round(alloc, number, round)?;
+    }
+    let round = build_part(alloc, commands, rounds, last, depth)?;
+    bindings.add_round(alloc, found.len(), round)?;
+    Ok(())
+}

@@ -1,2 +1,0 @@
--- Words of private code.
-pub mod Writing

@@ -1,0 +1,10 @@
+use Rattle.std.proofs.Common.{drop}
+use Rattle.std.specs.Prelude.{is_some, string_bytes}
+use Rattle.mbe_ops.specs.Views.{elements_seen}
+use Rattle.mbe_log.specs.BindingViews.{bound_by}
+use Rattle.mbe_transcriber.proofs.JoinLemmas.{Joining}
+use Rattle.mbe_transcriber.proofs.transcriber.expressions.joined_text.Given as goal
+
+abbrev pub invariant-loop-element : goal.invariant-loop-element
+invariant-loop-element g l =
+    Joining (bound_by l.ctx.bindings.now) l.path (string_bytes l.text) (is_some l.fault) (elements_seen l.elements) (elements_seen (drop l.element-index l.elements))

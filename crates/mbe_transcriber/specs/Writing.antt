@@ -1,0 +1,84 @@
+-- What the transcriber writes behind the trees that are there.
+use Rattle.std.specs.Prelude.{◌≡◌, ℕ, Bool, true, false, List, length, Option, Some, None}
+use Rattle.mbe_tt.specs.declared.span.Span.{Span}
+use Rattle.mbe_tt.specs.declared.tt.Punct.{Punct}
+use Rattle.mbe_tt.specs.Leaf.{Literal, Ident}
+use Rattle.mbe_tt.specs.Grammar.{Grammar}
+use Rattle.mbe_tt.specs.Tree.{Forest, alone, strip_invisible}
+use Rattle.mbe_tt.specs.Building.{Levels, put}
+use Rattle.mbe_semantics.specs.Syntax.Op.{Name, Separator, Op, Ops}
+use Rattle.mbe_semantics.specs.Readings.Item.{Style, stripped}
+use Rattle.mbe_semantics.specs.Bindings.Environment.{Environment, value_of}
+use Rattle.mbe_semantics.specs.Writing.Rounds.{Path, followed, level}
+use Rattle.mbe_semantics.specs.Writing.Substitution.{AreMarkedPuncts, Writes, Substitutes, AreRounds, IsVariable, IsConcat, separator_trees, integer, faults, any_below}
+
+-- such trees come at the end of the innermost open group
+unfoldable pub Appends : (Forest → Type 0) → Levels → Levels → Type 0
+Appends P old new = (made : Forest) × P made × (new ≡ put made old)
+
+-- What a call that writes did: whether it met a fault, and, where there is none to meet, what it wrote. The groups that were
+-- open are open still.
+pub record Wrote (fault faulty : Bool) (P : Forest → Type 0) (old new : Levels) : Type 0 where
+  pub told : fault ≡ faulty
+  pub groups : length new ≡ length old
+  pub written : faulty ≡ false → Appends P old new
+
+-- a separator where one goes here, and else nothing
+abbrev pub IsParted : Option Separator → Bool → Levels → Levels → Type 0
+IsParted separator true old new = new ≡ put (separator_trees separator) old
+IsParted separator false old new = new ≡ old
+
+-- some round of these faults
+abbrev pub rounds_fault : Environment → Path → Ops → ℕ → Bool
+rounds_fault env path body rounds = any_below (λ i. faults env (level i rounds path) body) rounds
+
+-- an integer of that number
+unfoldable pub IsNumber : ℕ → Span → Forest → Type 0
+IsNumber n span out = out ≡ integer n span
+
+-- the texts of elements, joined: of all of them, or with a fault of those that have one
+abbrev pub IsJoined : List ℕ → Bool → Option (List ℕ) → Type 0
+IsJoined text fault None = fault ≡ true
+IsJoined text fault (Some joined) = (fault ≡ false) × (text ≡ joined)
+
+-- a fragment that is written as it is, or without an invisible group around it
+abbrev pub plain_fragment : Style → Forest → Forest
+plain_fragment stripped f = alone (strip_invisible f)
+plain_fragment _ f = alone f
+
+-- `Marks s t`: the marker may answer t for s
+module _ (Marks : Span → Span → Type 0) where
+  -- the same literal, with an answer of the marker on its span
+  abbrev pub IsMarkedLiteral : Literal → Literal → Type 0
+  IsMarkedLiteral l m = Marks l.span m.span × (m ≡ record l { span = m.span })
+
+  -- the same identifier, with an answer of the marker on its span
+  abbrev pub IsMarkedIdent : Ident → Ident → Type 0
+  IsMarkedIdent i m = Marks i.span m.span × (m ≡ record i { span = m.span })
+
+  -- the puncts, each with an answer of the marker on its span
+  unfoldable pub AreMarked : List Punct → Forest → Type 0
+  AreMarked ps out = (g : Grammar) (call_site : Span) (env : Environment) → AreMarkedPuncts g Marks call_site env ps out
+
+  -- what a variable of that span writes for what its name is bound to
+  unfoldable pub IsVariableWritten : Span → Environment → Path → Name → Span → Forest → Type 0
+  IsVariableWritten call_site env path name span out =
+      (g : Grammar) → IsVariable g Marks call_site env name span (value_of env name) (followed env path name) out
+
+-- one identifier of that text, marked by the span
+unfoldable pub IsConcatWritten : Grammar → (Span → Span → Type 0) → Span → Option (List ℕ) → Forest → Type 0
+IsConcatWritten g Marks span text out = (call_site : Span) (env : Environment) → IsConcat g Marks call_site env span text out
+
+module _ (g : Grammar) (Marks : Span → Span → Type 0) (call_site : Span) (env : Environment) (path : Path) where
+  -- the op writes these trees in the rounds of the path
+  unfoldable pub IsWritten : Op → Forest → Type 0
+  IsWritten o out = Writes g Marks call_site env path o out
+
+  -- the ops write these trees so, one after the other
+  unfoldable pub AreWritten : Ops → Forest → Type 0
+  AreWritten os out = Substitutes g Marks call_site env path os out
+
+  -- the first `done` of a number of rounds, with the separator between two of them
+  unfoldable pub AreRoundsWritten : Option Separator → Ops → ℕ → ℕ → Forest → Type 0
+  AreRoundsWritten separator body rounds done out =
+      AreRounds (separator_trees separator) (λ i. Substitutes g Marks call_site env (level i rounds path) body) done out

@@ -1,0 +1,281 @@
+// What metavariable expressions write.
+ghost use Rattle.unicode_ident.specs.Ident as xid;
+ghost use Rattle.std.specs.List.{list_all};
+ghost use Rattle.std.specs.Prelude.{◌||◌, ◌==◌, ◌≡◌, ◌<◌, ◌^◌, Some, None, true, false, not, is_some, is_none, chars, option_map, string_bytes, OnOk, IfOk, IfErr};
+ghost use Rattle.mbe_tt.specs.Building.{put};
+ghost use Rattle.mbe_tt.specs.Grammar.{Grammar};
+ghost use Rattle.mbe_semantics.specs.Writing.Concat as spec;
+ghost use Rattle.mbe_semantics.specs.Writing.Concat.{concat_text, are_identifier_chars, text_of_element, text_of_value, text_of_tree, text_in_style};
+ghost use Rattle.mbe_transcriber.specs.Counting.{simple_value};
+ghost use Rattle.mbe_semantics.specs.Laws.Marking.{MayMark};
+ghost use Rattle.mbe_semantics.specs.Bindings.Missing.{default_trees, no_span};
+ghost use Rattle.mbe_semantics.specs.Writing.Rounds.{followed};
+ghost use Rattle.mbe_semantics.specs.Writing.Substitution.{integer, total_of, is_simple, is_counted};
+ghost use Rattle.mbe_log.specs.BindingViews.{bound_by, fragment_seen};
+ghost use Rattle.mbe_ops.specs.Views.{element_seen, elements_seen};
+ghost use Rattle.mbe_transcriber.specs.Writing.{Appends, Wrote, IsNumber, IsConcatWritten, IsJoined};
+
+use crate::transcriber::fault::{Fault, FaultKind};
+use crate::transcriber::following::{Lost, Simple, follow, simple_at, value_total};
+use crate::transcriber::{ExpandCtx, mark};
+use mbe_log::bindings::Bindings;
+use mbe_log::fragment::{Fragment, TokensOrigin};
+use mbe_ops::ops::ConcatMetaVarExprElem;
+use mbe_semantics::kinds::MetaVarKind;
+use mbe_semantics::rounds::Level;
+use mbe_tt::builder::TopSubtreeBuilder;
+use mbe_tt::grammar::FragmentGrammar;
+use mbe_tt::iter::TtElement;
+use mbe_tt::span::Span;
+use mbe_tt::symbol::Symbol;
+use mbe_tt::tt::{Ident, IdentIsRaw, Leaf, LitKind, Literal};
+use mbe_tt::view::TokenTreesView;
+use std::alloc::{AllocError, Allocator};
+use unicode_ident::{is_xid_continue, is_xid_start};
+
+// An integer without suffix.
+pub(crate) fn write_number<A: Allocator + Copy>(
+    alloc: A,
+    number: usize,
+    span: Span,
+    builder: &mut TopSubtreeBuilder<A>,
+) -> Result<(), AllocError>
+    ensures { OnOk result (builder.new ≡ put (integer number span) builder.old) }
+{
+    let text = format!(in alloc; "{number}")?;
+    builder.push(Leaf::Literal(Literal {
+        text_and_suffix: Symbol::intern(alloc, text.as_str())?,
+        suffix_len: 0,
+        kind: LitKind::Integer,
+        span,
+    }))
+}
+
+// How many values the name leads to at a depth of lists.
+pub(crate) fn write_count<'t, A: Allocator + Copy, G, M>(
+    ctx: &ExpandCtx<'_, '_, A, G, M>,
+    name: &'t Symbol<A>,
+    depth: usize,
+    path: &[Level],
+    builder: &mut TopSubtreeBuilder<A>,
+) -> Result<Option<Fault<'t, A>>, AllocError>
+    ensures { IfOk result (λ fault. Wrote (is_some fault) (not (is_counted depth (followed (bound_by ctx.now.bindings.now) path.now name.now)))
+        (IsNumber (total_of depth (followed (bound_by ctx.now.bindings.now) path.now name.now)) ctx.now.call_site) builder.old builder.new) }
+{
+    match count(ctx.bindings, name, depth, path) {
+        Ok(number) => {
+            write_number(ctx.alloc, number, ctx.call_site, builder)?;
+            Ok(None)
+        }
+        Err(kind) => Ok(Some(Fault {
+            span: ctx.call_site,
+            kind,
+        })),
+    }
+}
+
+// `ignore` writes nothing.
+pub(crate) fn find_ignored<'t, A: Allocator>(
+    bindings: &Bindings<'_, A>,
+    name: &'t Symbol<A>,
+    id: Span,
+    path: &[Level],
+) -> Option<Fault<'t, A>>
+    ensures { is_some result ≡ not (is_simple (followed (bound_by bindings.now) path.now name.now)) }
+{
+    simple_of(bindings, name, id, path).err()
+}
+
+// What a variable writes that has to be bound.
+fn simple_of<'b, 't, 'a, A: Allocator>(
+    bindings: &'b Bindings<'a, A>,
+    name: &'t Symbol<A>,
+    span: Span,
+    path: &[Level],
+) -> Result<Simple<'b, 'a, A>, Fault<'t, A>>
+    ensures found { IfOk result (λ s. followed (bound_by bindings.now) path.now name.now ≡ Some (simple_value s)) }
+    ensures lost { IfErr result (λ _. is_simple (followed (bound_by bindings.now) path.now name.now) ≡ false) }
+{
+    match bindings.get(name) {
+        Some(binding) => simple_at(binding, name, span, path),
+        None => Err(Fault {
+            span,
+            kind: FaultKind::Unresolved(name),
+        }),
+    }
+}
+
+// The number of values that the name leads to at a depth of lists.
+fn count<'t, A: Allocator>(
+    bindings: &Bindings<'_, A>,
+    name: &'t Symbol<A>,
+    depth: usize,
+    path: &[Level],
+) -> Result<usize, FaultKind<'t, A>>
+    ensures found { IfOk result (λ n. (is_counted depth (followed (bound_by bindings.now) path.now name.now) ≡ true)
+        × (n ≡ total_of depth (followed (bound_by bindings.now) path.now name.now))) }
+    ensures lost { IfErr result (λ _. is_counted depth (followed (bound_by bindings.now) path.now name.now) ≡ false) }
+{
+    let Some(binding) = bindings.get(name) else {
+        return Err(FaultKind::Unresolved(name));
+    };
+    match follow(binding, path) {
+        Ok(value) => value_total(value, depth).ok_or(FaultKind::Limit),
+        Err(Lost::Empty) => Err(FaultKind::EmptyInside(name)),
+        Err(Lost::NoValue) => Err(FaultKind::NoValue(name)),
+    }
+}
+
+// One identifier, joined from the texts of the elements. One that has no text is left out.
+pub(crate) fn write_concat<'t, A: Allocator + Copy, G: FragmentGrammar, M: Fn(Span) -> Span + Copy>(
+    ctx: &ExpandCtx<'_, '_, A, G, M>,
+    elements: &'t [ConcatMetaVarExprElem<A>],
+    span: Span,
+    path: &[Level],
+    builder: &mut TopSubtreeBuilder<A>,
+) -> Result<Option<Fault<'t, A>>, AllocError>
+    requires { MayMark (M.pre ctx.now.marker) }
+    ensures { IfOk result (λ fault. Wrote (is_some fault) (is_none (concat_text (bound_by ctx.now.bindings.now) path.now (elements_seen elements.now)))
+        (IsConcatWritten (G.grammar ctx.now.grammar.now) (M.post ctx.now.marker) span (concat_text (bound_by ctx.now.bindings.now) path.now (elements_seen elements.now)))
+        builder.old builder.new) }
+{
+    let (text, fault) = joined_text(ctx, elements, path)?;
+    if is_identifier(text.as_str()) {
+        write_name(ctx, text.as_str(), span, builder)?;
+        return Ok(fault);
+    }
+    write_name(ctx, "__ra_concat_dummy", span, builder)?;
+    Ok(fault.or(Some(Fault {
+        span,
+        kind: FaultKind::NoIdentifier,
+    })))
+}
+
+// An identifier, raw where its text is a keyword.
+fn write_name<A: Allocator + Copy, G: FragmentGrammar, M: Fn(Span) -> Span + Copy>(
+    ctx: &ExpandCtx<'_, '_, A, G, M>,
+    text: &str,
+    span: Span,
+    builder: &mut TopSubtreeBuilder<A>,
+) -> Result<(), AllocError>
+    requires { MayMark (M.pre ctx.now.marker) }
+    ensures { OnOk result (Appends (IsConcatWritten (G.grammar ctx.now.grammar.now) (M.post ctx.now.marker) span (Some text.now)) builder.old builder.new) }
+{
+    let is_raw = if ctx.grammar.is_keyword(text) {
+        IdentIsRaw::Yes
+    } else {
+        IdentIsRaw::No
+    };
+    builder.push(Leaf::Ident(Ident {
+        sym: Symbol::intern(ctx.alloc, text)?,
+        is_raw,
+        span: mark(span, ctx.marker),
+    }))
+}
+
+// The texts of the elements that have one, joined, and the first fault among the others.
+fn joined_text<'t, A: Allocator + Copy, G, M>(
+    ctx: &ExpandCtx<'_, '_, A, G, M>,
+    elements: &'t [ConcatMetaVarExprElem<A>],
+    path: &[Level],
+) -> Result<(String<A>, Option<Fault<'t, A>>), AllocError>
+    ensures { IfOk result (λ r. IsJoined (string_bytes r.0) (is_some r.1) (spec.joined_text (bound_by ctx.now.bindings.now) path.now (elements_seen elements.now))) }
+{
+    let mut text = String::new(ctx.alloc);
+    let mut fault = None;
+    for element in elements {
+        match element_text(ctx.bindings, element, path) {
+            Ok(own) => text.push_str(own)?,
+            Err(own) => fault = fault.or(Some(own)),
+        }
+    }
+    Ok((text, fault))
+}
+
+// The text of one element.
+fn element_text<'b, 't: 'b, A: Allocator>(
+    bindings: &'b Bindings<'_, A>,
+    element: &'t ConcatMetaVarExprElem<A>,
+    path: &[Level],
+) -> Result<&'b str, Fault<'t, A>>
+    ensures found { IfOk result (λ text. text_of_element (bound_by bindings.now) path.now (element_seen element.now) ≡ Some text.now) }
+    ensures lost { IfErr result (λ _. text_of_element (bound_by bindings.now) path.now (element_seen element.now) ≡ None) }
+{
+    let variable = match element {
+        ConcatMetaVarExprElem::Ident(ident) => return Ok(ident.sym.as_str()),
+        ConcatMetaVarExprElem::Literal(literal) => return Ok(literal.text()),
+        ConcatMetaVarExprElem::Var(variable) => variable,
+    };
+    let text = match simple_of(bindings, &variable.sym, variable.span, path)? {
+        Simple::Fragment(fragment) => fragment_text(fragment),
+        Simple::Missing(kind) => default_text(kind),
+    };
+    text.ok_or(Fault {
+        span: variable.span,
+        kind: FaultKind::NoText,
+    })
+}
+
+// The text of one identifier or literal. Expressions and paths have none.
+fn fragment_text<'b, A: Allocator>(fragment: &'b Fragment<'_, A>) -> Option<&'b str>
+    ensures { option_map (λ text. text.now) result ≡ text_in_style (fragment_seen fragment.now).style (fragment_seen fragment.now).trees }
+{
+    let Fragment::Tokens { tree, .. } = fragment else {
+        return None;
+    };
+    let mut iter = tree.iter();
+    let first = iter.next()?;
+    if !iter.is_empty() {
+        return None;
+    }
+    match first {
+        TtElement::Leaf(Leaf::Ident(ident)) => Some(ident.sym.as_str()),
+        TtElement::Leaf(Leaf::Literal(literal)) => Some(literal.text()),
+        _ => None,
+    }
+}
+
+// The text of what is written for a missing variable of that kind, where that is one identifier.
+fn default_text(kind: MetaVarKind) -> Option<&'static str>
+    ensures { option_map (λ text. text.now) result ≡ text_of_tree (default_trees kind no_span) }
+{
+    match kind {
+        MetaVarKind::Stmt
+        | MetaVarKind::Block
+        | MetaVarKind::Meta
+        | MetaVarKind::Item
+        | MetaVarKind::Tt
+        | MetaVarKind::Vis
+        | MetaVarKind::Lifetime => None,
+        MetaVarKind::Path
+        | MetaVarKind::Ty
+        | MetaVarKind::Pat
+        | MetaVarKind::PatParam
+        | MetaVarKind::Expr(_)
+        | MetaVarKind::Ident
+        | MetaVarKind::Literal => Some("missing"),
+    }
+}
+
+// `_` or XID_Start, and then XID_Continue.
+fn is_identifier(text: &str) -> bool
+    ensures { result ≡ are_identifier_chars (chars text.now) }
+{
+    let mut rest = text.chars();
+    match rest.next() {
+        Some(first) => begins_identifier(first) && continues_identifier(rest.as_str()),
+        None => false,
+    }
+}
+
+fn begins_identifier(char: char) -> bool
+    ensures { result ≡ (xid.is_xid_start char || (char == 95)) }
+{
+    is_xid_start(char) | (char == '_')
+}
+
+fn continues_identifier(text: &str) -> bool
+    ensures { result ≡ list_all xid.is_xid_continue (chars text.now) }
+{
+    text.chars().all(is_xid_continue)
+}
