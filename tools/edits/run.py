@@ -126,21 +126,19 @@ def tried(edit, crate, is_whole):
     if texts is None:
         return "bad", changed
     functions = [path_of(*it) for it in changed if it[1]]
-    for file, text in texts.items():
-        shutil.copy(f"{crate}/{file}", f"{crate}/out/before-the-edit")
-        with open(f"{crate}/{file}", "w", encoding="utf-8") as it:
-            it.write(text)
-        texts[file] = f"{crate}/out/before-the-edit"
-        assert len(texts) == 1, "an edit changes one file"
-    try:
+    with tempfile.TemporaryDirectory(prefix="edit-") as aside:
+        for number, (file, text) in enumerate(texts.items()):
+            shutil.copy2(f"{crate}/{file}", f"{aside}/{number}")
+            with open(f"{crate}/{file}", "w", encoding="utf-8") as it:
+                it.write(text)
         status, said = 2, ""
         if not is_whole and len(functions) == len(changed):
             status, said = check(crate, functions)
+        # (no function fits the name, or the edit is in none)
         if status == 2:
             status, said = check(crate, [])
-    finally:
-        for file, kept in texts.items():
-            shutil.move(kept, f"{crate}/{file}")
+        for number, file in enumerate(texts):
+            shutil.copy2(f"{aside}/{number}", f"{crate}/{file}")
     return verdict(status, said, crate, edit)
 
 
