@@ -5,7 +5,8 @@ use mbe_tt::grammar::{FragmentGrammar, Front, PrefixEntryPoint};
 use mbe_tt::span::{Span, SyntaxContext};
 use mbe_tt::symbol::Symbol;
 use mbe_tt::tt::{
-    Delimiter, DelimiterKind, Ident, IdentIsRaw, Leaf, Punct, Spacing, TopSubtree, TopSubtreeBuilder,
+    Delimiter, DelimiterKind, Ident, IdentIsRaw, Leaf, Punct, Spacing, TopSubtree,
+    TopSubtreeBuilder,
 };
 use std::alloc::Global;
 use std::process::Abort;
@@ -162,7 +163,11 @@ static TAKEN: [(PrefixEntryPoint, &str, Option<usize>); 149] = [
     (PrefixEntryPoint::Stmt, "r#fn f() {}", Some(1)),
     (PrefixEntryPoint::Stmt, ";", None),
     (PrefixEntryPoint::Item, "use a::b; c", Some(6)),
-    (PrefixEntryPoint::Item, "pub(crate) fn f() -> u8 { 1 } x", Some(14)),
+    (
+        PrefixEntryPoint::Item,
+        "pub(crate) fn f() -> u8 { 1 } x",
+        Some(14),
+    ),
     (PrefixEntryPoint::Item, "struct S;", Some(3)),
     (PrefixEntryPoint::Item, "struct S(u8);", Some(6)),
     (PrefixEntryPoint::Item, "struct S { a: u8 } b", Some(7)),

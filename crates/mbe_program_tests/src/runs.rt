@@ -76,34 +76,33 @@ pub fn assert_expands(
 }
 
 // A definition and an argument, and what is written of them.
-static EXPANDED: [(&str, &str, &str); 9] = [
-    (PAIR.0, PAIR.1, PAIR_OUTPUT),
-    (STRUCT.0, STRUCT.1, STRUCT_OUTPUT),
+static EXPANDED: [((&str, &str), &str); 9] = [
+    (PAIR, PAIR_OUTPUT),
+    (STRUCT, STRUCT_OUTPUT),
     // Groups that are open end with the text.
     (
-        "\n() => { { }\n",
-        "",
+        ("\n() => { { }\n", ""),
         "arm 0\nSUBTREE $$ 1@0..0 1@0..0\n  SUBTREE {} 0@9..10 0@11..12\n",
     ),
     // Leaves fit by their texts.
-    ("(1) => {}", "\"1\"", "arm 0\nSUBTREE $$ 1@0..3 1@0..3\n"),
-    ("(foo) => {}", "r#foo", "arm 0\nSUBTREE $$ 1@0..5 1@0..5\n"),
+    (("(1) => {}", "\"1\""), "arm 0\nSUBTREE $$ 1@0..3 1@0..3\n"),
+    (
+        ("(foo) => {}", "r#foo"),
+        "arm 0\nSUBTREE $$ 1@0..5 1@0..5\n",
+    ),
     // An unbound name is written back.
     (
-        "() => {$y}",
-        "",
+        ("() => {$y}", ""),
         "arm 0\nSUBTREE $$ 1@0..0 1@0..0\n  PUNCH   $ [alone] 0@8..9\n  IDENT   y 0@8..9\n",
     ),
     // The last binding of a name is written.
     (
-        "($x:ident $x:ident) => {$x}",
-        "a b",
+        ("($x:ident $x:ident) => {$x}", "a b"),
         "arm 0\nSUBTREE $$ 1@0..3 1@0..3\n  IDENT   b 1@2..3\n",
     ),
     // The last punct of a fragment is alone.
     (
-        "($a:tt $b:tt) => {$a $b}",
-        ";+",
+        ("($a:tt $b:tt) => {$a $b}", ";+"),
         "arm 0
 SUBTREE $$ 1@0..2 1@0..2
   PUNCH   ; [alone] 1@0..1
@@ -112,16 +111,15 @@ SUBTREE $$ 1@0..2 1@0..2
     ),
     // A variable of unknown kind never fits.
     (
-        "($x:foo) => {}; (a) => {}",
-        "a",
+        ("($x:foo) => {}; (a) => {}", "a"),
         "arm 1\nSUBTREE $$ 1@0..1 1@0..1\n",
     ),
 ];
 
 #[test]
 fn expansions_are_printed(rt: HostRuntime) -> Result<(), Fail> {
-    for (def, arg, want) in &EXPANDED {
-        assert_expands(&rt, rt.alloc(), (def, arg), want)?;
+    for (texts, want) in &EXPANDED {
+        assert_expands(&rt, rt.alloc(), *texts, want)?;
     }
     Ok(())
 }

@@ -3,10 +3,13 @@ ghost use Rattle.std.specs.Prelude.{◌<◌, length};
 
 use crate::tokens::{Lexeme, Token};
 use mbe_text::lexer::{LexError, lex};
+use mbe_text::scanner;
+use mbe_text::scanner::{Scanner, file_span};
 use mbe_tt::span::Span;
 use mbe_tt::symbol::Symbol;
 use mbe_tt::tt::{
-    Delimiter, Ident, IdentIsRaw, Leaf, LitKind, Literal, Punct, TopSubtree, TopSubtreeBuilder,
+    Delimiter, Ident, IdentIsRaw, Leaf, LitKind, Literal, Punct, Spacing, TopSubtree,
+    TopSubtreeBuilder,
 };
 use std::alloc::{AllocError, Allocator};
 
@@ -101,7 +104,48 @@ pub fn built<A: Allocator + Copy>(
     Ok(finish(builder, whole))
 }
 
-/// The token trees of a text. One that isn't lexed is answered as want of memory is, so that its test fails.
+// The token of a scanned text. A `~` stands for a `'` that is a joint punct by itself.
+fn scanned<'t>(text: &'t str, token: scanner::Token<'t>) -> Token<'t> {
+    let span = token.span;
+    let behind = text.get(span.end as usize..).unwrap_or("");
+    let lexeme = match token.lexeme {
+        scanner::Lexeme::Ident { name, is_raw } => match is_raw {
+            IdentIsRaw::No => Lexeme::Word(name),
+            IdentIsRaw::Yes => Lexeme::Raw(name),
+        },
+        scanner::Lexeme::Literal { text, .. } => Lexeme::Number(text),
+        scanner::Lexeme::Punct { char: '~', .. } => Lexeme::Punct('\'', Spacing::Joint),
+        scanner::Lexeme::Punct { char, .. } if behind.starts_with('~') => {
+            Lexeme::Punct(char, Spacing::Alone)
+        }
+        scanner::Lexeme::Punct { char, spacing } => Lexeme::Punct(char, spacing),
+        scanner::Lexeme::Open(kind) => Lexeme::Open(kind),
+        scanner::Lexeme::Close(_) => Lexeme::Close,
+    };
+    Token { lexeme, span }
+}
+
+// The token trees of a text with a `'` that no name follows, which `lex` refuses: the scanner reads a `~` there.
+fn with_quotes<A: Allocator + Copy>(
+    alloc: A,
+    file: u32,
+    text: &str,
+) -> Result<TopSubtree<A>, AllocError> {
+    let marked = text.replace(alloc, "'", "~")?;
+    if marked.len() > u32::MAX as usize {
+        return Err(AllocError);
+    }
+    let end = marked.len() as u32;
+    let whole = Delimiter::invisible_spanned(file_span(file, 0, end));
+    let mut builder = TopSubtreeBuilder::new(alloc, whole)?;
+    let mut scanner = Scanner::new(marked.as_str(), file);
+    'tokens: while let Ok(Some(token)) = scanner.token() {
+        add(&mut builder, alloc, scanned(marked.as_str(), token))?;
+    }
+    Ok(finish(builder, file_span(file, end, end)))
+}
+
+/// The token trees of a text of words, numbers, puncts, lifetimes and groups. A `'` may stand alone.
 pub fn lexed<A: Allocator + Copy>(
     alloc: A,
     file: u32,
@@ -112,6 +156,7 @@ pub fn lexed<A: Allocator + Copy>(
     }
     match lex(alloc, text, file) {
         Ok(tree) => Ok(tree),
-        Err(LexError::Fault(_) | LexError::OutOfMemory) => Err(AllocError),
+        Err(LexError::OutOfMemory) => Err(AllocError),
+        Err(LexError::Fault(_)) => with_quotes(alloc, file, text),
     }
 }

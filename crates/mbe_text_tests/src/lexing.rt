@@ -176,9 +176,9 @@ static TOKENS: [(&str, &str); 84] = [
     ("'é1+", "' joint 0..1, é1 1..4, + alone 4..5"),
     // Integers in four bases.
     (
-                "0 00 1_000",
-                "Integer 0 0..1, Integer 00 2..4, Integer 1_000 5..10",
-            ),
+        "0 00 1_000",
+        "Integer 0 0..1, Integer 00 2..4, Integer 1_000 5..10",
+    ),
     ("0x 0xF_f", "Integer 0x 0..2, Integer 0xF_f 3..8"),
     ("0xfg", "Integer 0xf|g 0..4"),
     ("0o78i 0b12", "Integer 0o78|i 0..5, Integer 0b12 6..10"),
@@ -190,9 +190,9 @@ static TOKENS: [(&str, &str); 84] = [
     // A number is a float where a fraction or an exponent is taken.
     ("1. 1.0", "Float 1. 0..2, Float 1.0 3..6"),
     (
-                "1..2",
-                "Integer 1 0..1, . joint 1..2, . alone 2..3, Integer 2 3..4",
-            ),
+        "1..2",
+        "Integer 1 0..1, . joint 1..2, . alone 2..3, Integer 2 3..4",
+    ),
     ("1.a", "Integer 1 0..1, . alone 1..2, a 2..3"),
     ("1._", "Integer 1 0..1, . alone 1..2, _ 2..3"),
     ("1.é", "Integer 1 0..1, . alone 1..2, é 2..4"),
@@ -201,9 +201,9 @@ static TOKENS: [(&str, &str); 84] = [
     ("1.0.0", "Float 1.0 0..3, . alone 3..4, Integer 0 4..5"),
     ("1_.2_", "Float 1_.2_ 0..5"),
     (
-                "1e5 1E+5 1e-5_",
-                "Float 1e5 0..3, Float 1E+5 4..8, Float 1e-5_ 9..14",
-            ),
+        "1e5 1E+5 1e-5_",
+        "Float 1e5 0..3, Float 1E+5 4..8, Float 1e-5_ 9..14",
+    ),
     ("1.5e3_0f64", "Float 1.5e3_0|f64 0..10"),
     ("1.e5", "Integer 1 0..1, . alone 1..2, e5 2..4"),
     ("1.0e", "Float 1.0|e 0..4"),
@@ -220,9 +220,9 @@ static TOKENS: [(&str, &str); 84] = [
     ("1'a'", "Integer 1 0..1, Char a 1..4"),
     // A closing fits the open group; groups that are open at the end are closed there.
     (
-                "(a[b]{c})",
-                "( 0..1 8..9, a 1..2, [ 2..3 4..5, b 3..4, end, { 5..6 7..8, c 6..7, end, end",
-            ),
+        "(a[b]{c})",
+        "( 0..1 8..9, a 1..2, [ 2..3 4..5, b 3..4, end, { 5..6 7..8, c 6..7, end, end",
+    ),
     ("( [", "( 0..1 3..3, [ 2..3 3..3, end, end"),
     ("()a", "( 0..1 1..2, end, a 2..3"),
     // A punct is joint where the next token begins directly behind it and is a punct; any other character is a fault.
