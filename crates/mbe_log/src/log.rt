@@ -1,5 +1,6 @@
 // The log of bindings that the positions of a match share. Its structure follows rust-analyzer's `BindingsBuilder`; that a
-// link carries a length, and that a list without an entry of its own passes its link on, are the project's own.
+// finished round and a handle carry a length as links do, and that a list without an entry of its own passes its link on,
+// are the project's own.
 //
 // A log holds lists of commands and lists of finished rounds. A handle names a list of each sort, and how many of its first
 // entries are the handle's. A push goes on in place where the handle's entries end the list, and else begins a list that
