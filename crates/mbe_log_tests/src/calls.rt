@@ -1,4 +1,6 @@
 // Calls of a log as values, and what bindings are as text.
+ghost use Rattle.mbe_semantics.specs.Bindings.Account.{IsLive};
+
 use mbe_log::bindings::{Binding, Bindings};
 use mbe_log::fragment::Fragment;
 use mbe_log::log::{BindingLog, Handle, again};
@@ -6,7 +8,6 @@ use mbe_semantics::kinds::MetaVarKind;
 use mbe_tt::symbol::Symbol;
 use mbe_tt::view::TokenTreesView;
 use std::alloc::{AllocError, Allocator, Global};
-ghost use Rattle.mbe_semantics.specs.Bindings.Account.{IsLive};
 
 /// What a name is bound to.
 #[derive(Clone, Copy, Debug)]
@@ -110,7 +111,10 @@ fn nest<A: Allocator + Copy>(
     Ok(true)
 }
 
-fn finish<A: Allocator + Copy>(log: &mut BindingLog<'_, A>, handle: &mut Handle) -> Result<bool, AllocError> {
+fn finish<A: Allocator + Copy>(
+    log: &mut BindingLog<'_, A>,
+    handle: &mut Handle,
+) -> Result<bool, AllocError> {
     if !log.is_live(handle) {
         return Ok(false);
     }

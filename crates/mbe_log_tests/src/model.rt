@@ -36,7 +36,10 @@ pub fn apply(alloc: Global, accounts: &mut Vec<Account>, call: Call) -> Result<(
             }
         }
         Call::Nested(parent, child) => {
-            if let (Some(child), Some(parent)) = (copied(accounts, child)?, accounts.get_mut(parent)) {
+            if let (Some(child), Some(parent)) = (
+                copied(accounts, child)?,
+                accounts.get_mut(parent),
+            ) {
                 nest(&mut parent.current, child)?;
             }
         }
@@ -157,16 +160,17 @@ fn letter(alloc: Global, what: What) -> Result<String, AllocError> {
 
 // A round gives its value to the name's list, which has empty lists for the rounds before it. A value that is no list stays.
 fn grow(outer: &mut Frame, round: &Frame) -> Result<(), AllocError> {
-    if round.text.is_empty() && round.count.is_none() || !outer.text.is_empty() && outer.count.is_none() {
+    if round.text.is_empty() && round.count.is_none()
+        || !outer.text.is_empty() && outer.count.is_none()
+    {
         return Ok(());
     }
-    let mut count = outer.count.unwrap_or(0);
-    while count < round.round {
+    let count = outer.count.unwrap_or(0);
+    for _missing in count..round.round {
         outer.text.push_str("[]")?;
-        count += 1;
     }
     write(round, &mut outer.text)?;
-    outer.count = Some(count.saturating_add(1));
+    outer.count = Some(count.max(round.round).saturating_add(1));
     Ok(())
 }
 

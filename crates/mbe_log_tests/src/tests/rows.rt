@@ -155,7 +155,11 @@ static ROWS: [Row; 11] = [
 ];
 
 // The numbers and the text of a handle after the calls.
-fn answer(alloc: Global, names: &[Symbol], row: &Row) -> Result<((usize, usize), String), AllocError> {
+fn answer(
+    alloc: Global,
+    names: &[Symbol],
+    row: &Row,
+) -> Result<((usize, usize), String), AllocError> {
     let tree = TopSubtree::empty(alloc, DelimSpan::from_single(Span::default()))?;
     let mut book = Book {
         log: BindingLog::new(alloc),
@@ -192,11 +196,14 @@ fn a_copy_of_many_commands_is_short(rt: HostRuntime) -> Result<(), Fail> {
     let names = names(rt.alloc(), 1_001)?;
     let mut log = BindingLog::new(rt.alloc());
     let mut handle = log.alloc()?;
-    for name in &names[..1_000] {
+    let Some(last) = names.last() else {
+        return Err(Fail::from("no name"));
+    };
+    for name in names.iter().take(1_000) {
         log.push_optional(&mut handle, name)?;
     }
     let copy = log.copy(&handle)?;
-    log.push_optional(&mut handle, &names[1_000])?;
+    log.push_optional(&mut handle, last)?;
     let (commands, rounds) = log.entries_of(&copy);
     assert!(rt; commands <= 3 && rounds <= 3);
     assert!(rt; log.build(&copy)?.len() == 1_000);

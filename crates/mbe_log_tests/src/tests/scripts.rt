@@ -7,6 +7,7 @@ use std::alloc::Global;
 use std::test::Fail;
 
 const NAMES: usize = 3;
+
 const HANDLES: usize = 6;
 
 static WHATS: [What; 4] = [What::Tree, What::Nothing, What::Skipped, What::Missing];

@@ -16,7 +16,7 @@ push_empty-requires-3 g c =
     let one : Account = pushed (Command.skips c.args.name.now) no_account in
     let three : Account = pushed (Command.binds_nothing c.args.other.now) one in
     let second4 = c.in_ok-push_empty-2.ensures.ok.kept.others c.in_ok-second.second one
-      (c.in_ok-second.ensures.account one (c.in_ok-push_empty.ensures.ok.account no_account c.in_ok-first.ensures.account)) in
+    (c.in_ok-second.ensures.account one (c.in_ok-push_empty.ensures.ok.account no_account c.in_ok-first.ensures.account)) in
     let second6 = c.in_ok-outer.ensures.given.kept.others c.push_optional.new.handle three (c.in_ok-push_optional.ensures.ok.account one second4) in
     let nested = c.in_ok-push_nested.ensures.ok three second6 in
     nested.kept.stays c.push_optional.new.handle (c.in_ok-outer.ensures.given.kept.stays c.push_optional.new.handle c.in_ok-push_optional.ensures.ok.live)
@@ -26,7 +26,7 @@ build-requires g c =
     let one : Account = pushed (Command.skips c.args.name.now) no_account in
     let three : Account = pushed (Command.binds_nothing c.args.other.now) one in
     let second4 = c.in_ok-push_empty-2.ensures.ok.kept.others c.in_ok-second.second one
-      (c.in_ok-second.ensures.account one (c.in_ok-push_empty.ensures.ok.account no_account c.in_ok-first.ensures.account)) in
+    (c.in_ok-second.ensures.account one (c.in_ok-push_empty.ensures.ok.account no_account c.in_ok-first.ensures.account)) in
     let second6 = c.in_ok-outer.ensures.given.kept.others c.push_optional.new.handle three (c.in_ok-push_optional.ensures.ok.account one second4) in
     let nested = c.in_ok-push_nested.ensures.ok three second6 in
     c.in_ok-push_empty-3.ensures.ok.kept.stays c.push_nested.new.parent nested.live
@@ -36,7 +36,7 @@ returns-clause-binds g c =
     let one : Account = pushed (Command.skips c.args.name.now) no_account in
     let three : Account = pushed (Command.binds_nothing c.args.other.now) one in
     let second4 = c.in_ok-push_empty-2.ensures.ok.kept.others c.in_ok-second.second one
-      (c.in_ok-second.ensures.account one (c.in_ok-push_empty.ensures.ok.account no_account c.in_ok-first.ensures.account)) in
+    (c.in_ok-second.ensures.account one (c.in_ok-push_empty.ensures.ok.account no_account c.in_ok-first.ensures.account)) in
     let second6 = c.in_ok-outer.ensures.given.kept.others c.push_optional.new.handle three (c.in_ok-push_optional.ensures.ok.account one second4) in
     let nested = c.in_ok-push_nested.ensures.ok three second6 in
     let four : Account = pushed_nested no_account three in
@@ -47,7 +47,7 @@ returns-clause-others g c =
     let one : Account = pushed (Command.skips c.args.name.now) no_account in
     let three : Account = pushed (Command.binds_nothing c.args.other.now) one in
     let second4 = c.in_ok-push_empty-2.ensures.ok.kept.others c.in_ok-second.second one
-      (c.in_ok-second.ensures.account one (c.in_ok-push_empty.ensures.ok.account no_account c.in_ok-first.ensures.account)) in
+    (c.in_ok-second.ensures.account one (c.in_ok-push_empty.ensures.ok.account no_account c.in_ok-first.ensures.account)) in
     let second6 = c.in_ok-outer.ensures.given.kept.others c.push_optional.new.handle three (c.in_ok-push_optional.ensures.ok.account one second4) in
     let nested = c.in_ok-push_nested.ensures.ok three second6 in
     let k2 = kept-on c.args.log.now c.alloc.new.self c.push_empty.new.self c.in_ok-first.ensures.given.kept c.in_ok-push_empty.ensures.ok.kept in
