@@ -200,10 +200,14 @@ fn a_copy_of_many_commands_is_short(rt: HostRuntime) -> Result<(), Fail> {
         return Err(Fail::from("no name"));
     };
     for name in names.iter().take(1_000) {
+        assert!(rt; log.is_live(&handle));
         log.push_optional(&mut handle, name)?;
     }
+    assert!(rt; log.is_live(&handle));
     let copy = log.copy(&handle)?;
+    assert!(rt; log.is_live(&handle));
     log.push_optional(&mut handle, last)?;
+    assert!(rt; log.is_live(&copy));
     let (commands, rounds) = log.entries_of(&copy);
     assert!(rt; commands <= 3 && rounds <= 3);
     assert!(rt; log.build(&copy)?.len() == 1_000);
