@@ -129,7 +129,7 @@ module _ (old new : Log) (c : HasMore old.commands new.commands) (r : HasMore ol
     others = λ k a h. record { current = part h.current; finished = part_rounds h.finished };
   }
 
--- entries behind those that are there
+-- entries after those that are there
 pub follow : (log : Log) {cs middle : Commands} {es : List Entry} → Gives log cs es middle → (more : List Entry) (all : Commands) → Gives log middle more all → Gives log cs (es ++ more) all
 follow log (gives_nothing cs) more all h = h
 follow log (gives_binding cs name x es _ r) more all h = gives_binding cs name x (es ++ more) all (follow log r more all h)

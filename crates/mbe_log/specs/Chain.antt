@@ -4,7 +4,7 @@ use Rattle.std.proofs.Common.{set}
 use Rattle.std.specs.Coded.{Coded, code_by, coded_ℕ, coded×, coded_list, coded_option}
 use Rattle.mbe_semantics.specs.declared.log.Part.{Part}
 
--- what may stand in front, and the entries behind it
+-- what may stand in front, and the entries after it
 pub record Chain (T : Type 0) : Type 0 where
   pub link : Option Part
   pub own : List T

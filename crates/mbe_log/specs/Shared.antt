@@ -7,7 +7,7 @@ use Rattle.mbe_semantics.specs.Bindings.Account.{Account, Entry, RoundEntry, Log
 abbrev pub IsWhole : {E : Type 0} → List (List E) → Part → Type 0
 IsWhole {E} lists part = (es : List E) × (slice_get lists part.list ≡ Some es) × (part.first ≡ length es)
 
--- both parts go up to the end of their lists: nothing was pushed behind them
+-- both parts go up to the end of their lists: nothing was pushed after them
 abbrev pub IsAtEnd : Log → Handle → Type 0
 IsAtEnd log h = IsWhole log.commands h.current × IsWhole log.rounds h.finished
 

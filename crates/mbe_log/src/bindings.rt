@@ -11,9 +11,11 @@ use indexmap::IndexMap;
 use mbe_semantics::kinds::MetaVarKind;
 use mbe_tt::symbol::Symbol;
 use std::alloc::{AllocError, Allocator, Global};
+use std::fmt;
 use std::hash::{BuildHasherDefault, FoldHasher};
 
 /// What a name is bound to.
+#[derive_where(PartialEq, Eq)]
 #[derive(Drop)]
 pub enum Binding<'a, A: Allocator = Global> {
     Fragment(Fragment<'a, A>),
@@ -24,16 +26,46 @@ pub enum Binding<'a, A: Allocator = Global> {
     Missing(MetaVarKind),
 }
 
-/// The names that a match binds, in the order in which they were first bound.
+impl<A: Allocator> fmt::Debug for Binding<'_, A> {
+    fn fmt<W: fmt::Write>(&self, f: &mut fmt::Formatter<W>) -> fmt::Result {
+        match self {
+            Binding::Fragment(fragment) => write!(f, "Fragment({fragment:?})"),
+            Binding::Nested(list) => {
+                f.write_str("Nested([")?;
+                for binding in list {
+                    binding.fmt(f)?;
+                    f.write_str(", ")?;
+                }
+                f.write_str("])")
+            }
+            Binding::Empty => f.write_str("Empty"),
+            Binding::Missing(kind) => write!(f, "Missing({kind:?})"),
+        }
+    }
+}
+
+/// The names that a match binds, in the order in which they were first bound. Equality asks for no order.
+#[derive_where(PartialEq, Eq)]
 #[derive(Drop)]
 pub struct Bindings<'a, A: Allocator = Global> {
     inner: IndexMap<Symbol<A>, Binding<'a, A>, BuildHasherDefault<FoldHasher>, A>,
 }
 
+impl<A: Allocator> fmt::Debug for Bindings<'_, A> {
+    fn fmt<W: fmt::Write>(&self, f: &mut fmt::Formatter<W>) -> fmt::Result {
+        f.write_str("{")?;
+        for (name, binding) in &self.inner {
+            write!(f, "{name:?}: {binding:?}, ")?;
+        }
+        f.write_str("}")
+    }
+}
+
 impl<'a, A: Allocator> Bindings<'a, A> {
     /// What the name is bound to.
     pub fn get(&self, name: &Symbol<A>) -> Option<&Binding<'a, A>>
-        ensures { option_map (λ x. value_seen x.now) result ≡ value_of (bound_by self.now) name.now }
+        ensures { option_map (λ x. value_seen x.now) result
+            ≡ value_of (bound_by self.now) name.now }
     {
         self.inner.get(name)
     }
@@ -58,7 +90,8 @@ impl<'a, A: Allocator + Copy> Bindings<'a, A> {
 
     /// The name is bound to this now, whatever it was bound to. `AllocError` if out of memory.
     pub fn insert(&mut self, name: &Symbol<A>, value: Binding<'a, A>) -> Result<(), AllocError>
-        ensures ok { OnOk result (bound_by self.new ≡ set_value (bound_by self.old) name.now (value_seen value.entry)) }
+        ensures ok { OnOk result (bound_by self.new
+            ≡ set_value (bound_by self.old) name.now (value_seen value.entry)) }
         ensures err { OnErr result (bound_by self.new ≡ bound_by self.old) }
     {
         self.put(name.clone()?, value)?;
@@ -66,7 +99,8 @@ impl<'a, A: Allocator + Copy> Bindings<'a, A> {
     }
 
     fn put(&mut self, name: Symbol<A>, value: Binding<'a, A>) -> Result<(), AllocError>
-        ensures ok { OnOk result (bound_by self.new ≡ set_value (bound_by self.old) name (value_seen value.entry)) }
+        ensures ok { OnOk result (bound_by self.new
+            ≡ set_value (bound_by self.old) name (value_seen value.entry)) }
         ensures err { OnErr result (bound_by self.new ≡ bound_by self.old) }
     {
         let _replaced = self.inner.insert(name, value)?;
@@ -80,7 +114,8 @@ impl<'a, A: Allocator + Copy> Bindings<'a, A> {
         number: usize,
         round: Bindings<'a, A>,
     ) -> Result<(), AllocError>
-        ensures { OnOk result (bound_by self.new ≡ add_round_in number (bound_by round.entry) (bound_by self.old)) }
+        ensures { OnOk result (bound_by self.new
+            ≡ add_round_in number (bound_by round.entry) (bound_by self.old)) }
     {
         for (name, value) in round.inner {
             self.grow(alloc, number, name, value)?;
@@ -96,7 +131,9 @@ impl<'a, A: Allocator + Copy> Bindings<'a, A> {
         name: Symbol<A>,
         value: Binding<'a, A>,
     ) -> Result<(), AllocError>
-        ensures { OnOk result (bound_by self.new ≡ grown_in number (bound_by self.old) name (value_seen value.entry) (value_of (bound_by self.old) name)) }
+        ensures { OnOk result (bound_by self.new
+            ≡ grown_in number (bound_by self.old) name (value_seen value.entry)
+            (value_of (bound_by self.old) name)) }
     {
         match self.inner.get_mut(&name) {
             Some(found) => {
@@ -120,7 +157,8 @@ fn grow_value<'a, A: Allocator + Copy>(
     number: usize,
     value: Binding<'a, A>,
 ) -> Result<(), AllocError>
-    ensures { OnOk result (value_seen binding.new ≡ grown_value number (value_seen value.entry) (value_seen binding.old)) }
+    ensures { OnOk result (value_seen binding.new
+        ≡ grown_value number (value_seen value.entry) (value_seen binding.old)) }
 {
     match binding {
         Binding::Nested(list) => push_round(alloc, list, number, value),
@@ -135,7 +173,8 @@ fn push_round<'a, A: Allocator + Copy>(
     number: usize,
     value: Binding<'a, A>,
 ) -> Result<(), AllocError>
-    ensures { OnOk result (all_values (map value_seen list.new.items) ≡ add_value (filled number (all_values (map value_seen list.old.items))) (value_seen value.entry)) }
+    ensures { OnOk result (all_values (map value_seen list.new.items)
+        ≡ add_value (filled number (all_values (map value_seen list.old.items))) (value_seen value.entry)) }
 {
     while list.len() < number {
         list.push(Binding::Nested(Vec::new(alloc)))?;

@@ -1,5 +1,6 @@
 // The log of bindings that the positions of a match share. Its structure follows rust-analyzer's `BindingsBuilder`; that a
-// link carries a length, and that a list without an entry of its own passes its link on, are the project's own.
+// finished round and a handle carry a length as links do, and that a list without an entry of its own passes its link on,
+// are the project's own.
 //
 // A log holds lists of commands and lists of finished rounds. A handle names a list of each sort, and how many of its first
 // entries are the handle's. A push goes on in place where the handle's entries end the list, and else begins a list that
@@ -152,7 +153,8 @@ impl<'a, A: Allocator + Copy> BindingLog<'a, A> {
     pub fn copy(&mut self, handle: &Handle) -> Result<Handle, AllocError>
         requires { IsLive self.old handle.now }
         ensures given { IfOk result (λ h. IsGiven self.old self.new h) }
-        ensures account { IfOk result (λ h. (a : Account) → IsAccount self.old handle.now a → IsAccount self.new h a) }
+        ensures account { IfOk result (λ h. (a : Account)
+            → IsAccount self.old handle.now a → IsAccount self.new h a) }
         ensures commands { OnOk result (HasOneListMore self.old.commands self.new.commands) }
         ensures rounds { OnOk result (HasOneListMore self.old.rounds self.new.rounds) }
         ensures few { IfOk result (λ h. h.current.first ≤ 3 × h.finished.first ≤ 3) }
@@ -191,7 +193,8 @@ impl<'a, A: Allocator + Copy> BindingLog<'a, A> {
         fragment: Fragment<'a, A>,
     ) -> Result<(), AllocError>
         requires { IsLive self.old handle.old }
-        ensures ok { OnOk result (IsChanged self.old self.new handle.old handle.new (pushed (Written.binds name.now (fragment_seen fragment.entry)))) }
+        ensures ok { OnOk result (IsChanged self.old self.new handle.old handle.new
+            (pushed (Written.binds name.now (fragment_seen fragment.entry)))) }
         ensures written { OnOk result (WritesOne self.old handle.old handle.new) }
         ensures err { OnErr result (self.new ≡ self.old × handle.new ≡ handle.old) }
     {
@@ -202,7 +205,8 @@ impl<'a, A: Allocator + Copy> BindingLog<'a, A> {
     /// The name is bound to a fragment that took nothing. `AllocError` if out of memory.
     pub fn push_optional(&mut self, handle: &mut Handle, name: &Symbol<A>) -> Result<(), AllocError>
         requires { IsLive self.old handle.old }
-        ensures ok { OnOk result (IsChanged self.old self.new handle.old handle.new (pushed (Written.binds_nothing name.now))) }
+        ensures ok { OnOk result (IsChanged self.old self.new handle.old handle.new
+            (pushed (Written.binds_nothing name.now))) }
         ensures written { OnOk result (WritesOne self.old handle.old handle.new) }
         ensures err { OnErr result (self.new ≡ self.old × handle.new ≡ handle.old) }
     {
@@ -213,7 +217,8 @@ impl<'a, A: Allocator + Copy> BindingLog<'a, A> {
     /// The name stands in a repetition without rounds. `AllocError` if out of memory.
     pub fn push_empty(&mut self, handle: &mut Handle, name: &Symbol<A>) -> Result<(), AllocError>
         requires { IsLive self.old handle.old }
-        ensures ok { OnOk result (IsChanged self.old self.new handle.old handle.new (pushed (Written.skips name.now))) }
+        ensures ok { OnOk result (IsChanged self.old self.new handle.old handle.new
+            (pushed (Written.skips name.now))) }
         ensures written { OnOk result (WritesOne self.old handle.old handle.new) }
         ensures err { OnErr result (self.new ≡ self.old × handle.new ≡ handle.old) }
     {
@@ -229,7 +234,8 @@ impl<'a, A: Allocator + Copy> BindingLog<'a, A> {
         kind: MetaVarKind,
     ) -> Result<(), AllocError>
         requires { IsLive self.old handle.old }
-        ensures ok { OnOk result (IsChanged self.old self.new handle.old handle.new (pushed (Written.misses name.now kind))) }
+        ensures ok { OnOk result (IsChanged self.old self.new handle.old handle.new
+            (pushed (Written.misses name.now kind))) }
         ensures written { OnOk result (WritesOne self.old handle.old handle.new) }
         ensures err { OnErr result (self.new ≡ self.old × handle.new ≡ handle.old) }
     {
@@ -241,7 +247,8 @@ impl<'a, A: Allocator + Copy> BindingLog<'a, A> {
     fn push(&mut self, handle: &mut Handle, command: Command<'a, A>) -> Result<(), AllocError>
         requires live { IsLive self.old handle.old }
         requires plain { IsPlain (entry_seen command) }
-        ensures ok { OnOk result ((c : Written) → GivesCommand self.old (entry_seen command.entry) c → IsChanged self.old self.new handle.old handle.new (pushed c)) }
+        ensures ok { OnOk result ((c : Written) → GivesCommand self.old (entry_seen command.entry) c
+            → IsChanged self.old self.new handle.old handle.new (pushed c)) }
         ensures written { OnOk result (WritesOne self.old handle.old handle.new) }
         ensures err { OnErr result (self.new ≡ self.old × handle.new ≡ handle.old) }
     {
@@ -254,7 +261,8 @@ impl<'a, A: Allocator + Copy> BindingLog<'a, A> {
     pub fn push_nested(&mut self, parent: &mut Handle, child: &Handle) -> Result<(), AllocError>
         requires parent { IsLive self.old parent.old }
         requires child { IsLive self.old child.now }
-        ensures ok { OnOk result ((b : Account) → IsAccount self.old child.now b → IsChanged self.old self.new parent.old parent.new (λ a. pushed_nested a b)) }
+        ensures ok { OnOk result ((b : Account) → IsAccount self.old child.now b
+            → IsChanged self.old self.new parent.old parent.new (λ a. pushed_nested a b)) }
         ensures written { OnOk result (WritesOne self.old parent.old parent.new) }
         ensures err { OnErr result (self.new ≡ self.old × parent.new ≡ parent.old) }
     {
@@ -275,7 +283,8 @@ impl<'a, A: Allocator + Copy> BindingLog<'a, A> {
     /// The current commands are a finished round now, and an empty list begins. `AllocError` if out of memory.
     pub fn push_default(&mut self, handle: &mut Handle) -> Result<(), AllocError>
         requires { IsLive self.old handle.old }
-        ensures ok { OnOk result (IsChanged self.old self.new handle.old handle.new pushed_default) }
+        ensures ok { OnOk result (IsChanged self.old self.new handle.old handle.new
+            pushed_default) }
         ensures written { OnOk result (WritesRound self.old handle.old handle.new) }
         ensures err { OnErr result (self.new ≡ self.old × handle.new ≡ handle.old) }
     {
@@ -293,7 +302,8 @@ impl<'a, A: Allocator + Copy> BindingLog<'a, A> {
     /// The environment of the current commands. `AllocError` if out of memory.
     pub fn build(&self, handle: &Handle) -> Result<Bindings<'a, A>, AllocError>
         requires { IsLive self.now handle.now }
-        ensures { IfOk result (λ b. (a : Account) → IsAccount self.now handle.now a → bound_by b ≡ run a.current []) }
+        ensures { IfOk result (λ b. (a : Account)
+            → IsAccount self.now handle.now a → bound_by b ≡ run a.current []) }
     {
         build_part(
             self.alloc,
@@ -319,7 +329,8 @@ impl<'a, A: Allocator> BindingLog<'a, A> {
         requires { IsLive self.now handle.now }
         ensures current { result.0 ≡ handle.now.current.first }
         ensures finished { result.1 ≡ handle.now.finished.first }
-        ensures lengths { IsAtEnd self.now handle.now → (result.0 ≡ current_len self.now handle.now) × (result.1 ≡ finished_len self.now handle.now) }
+        ensures lengths { IsAtEnd self.now handle.now
+            → (result.0 ≡ current_len self.now handle.now) × (result.1 ≡ finished_len self.now handle.now) }
         ensures account { (a : Account) × IsAccount self.now handle.now a }
     {
         let _ = &self.alloc;
@@ -343,7 +354,8 @@ fn build_part<'a, A: Allocator + Copy>(
     requires links { IsChained commands.now }
     requires round_links { IsChained rounds.now }
     requires grounded { IsPartGrounded (log_of commands.now rounds.now) part depth }
-    ensures { IfOk result (λ b. (cs : Commands) → PartGives (log_of commands.now rounds.now) no_commands part cs → bound_by b ≡ run cs []) }
+    ensures { IfOk result (λ b. (cs : Commands) → PartGives (log_of commands.now rounds.now) no_commands part cs
+        → bound_by b ≡ run cs []) }
 {
     let mut bindings = Bindings::new(alloc);
     let found = places(alloc, commands, part)?;
@@ -367,7 +379,8 @@ fn bind_command<'a, A: Allocator + Copy>(
     requires links { IsChained commands.now }
     requires round_links { IsChained rounds.now }
     requires grounded { IsCommandGrounded (log_of commands.now rounds.now) (entry_seen command.now) depth }
-    ensures { OnOk result ((c : Written) → GivesCommand (log_of commands.now rounds.now) (entry_seen command.now) c → bound_by bindings.new ≡ run_command c (bound_by bindings.old)) }
+    ensures { OnOk result ((c : Written) → GivesCommand (log_of commands.now rounds.now) (entry_seen command.now) c
+        → bound_by bindings.new ≡ run_command c (bound_by bindings.old)) }
 {
     match command {
         Command::Fragment(name, fragment) => {
@@ -404,7 +417,8 @@ fn bind_rounds<'a, A: Allocator + Copy>(
     requires links { IsChained commands.now }
     requires round_links { IsChained rounds.now }
     requires grounded { AreRoundsGrounded (log_of commands.now rounds.now) finished last depth }
-    ensures { OnOk result ((rs : CommandRounds) (ds : Commands) → PartGivesRounds (log_of commands.now rounds.now) no_command_rounds finished rs
+    ensures { OnOk result ((rs : CommandRounds) (ds : Commands)
+        → PartGivesRounds (log_of commands.now rounds.now) no_command_rounds finished rs
         → PartGives (log_of commands.now rounds.now) no_commands last ds → bound_by bindings.new ≡ run_rounds (command_round rs ds) (bound_by bindings.old)) }
 {
     let found = places(alloc, rounds, finished)?;

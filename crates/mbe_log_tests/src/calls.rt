@@ -1,0 +1,181 @@
+// Calls of a log as values, and what bindings are as text.
+ghost use Rattle.mbe_semantics.specs.Bindings.Account.{IsLive};
+
+use mbe_log::bindings::{Binding, Bindings};
+use mbe_log::fragment::Fragment;
+use mbe_log::log::{BindingLog, Handle, again};
+use mbe_semantics::kinds::MetaVarKind;
+use mbe_tt::symbol::Symbol;
+use mbe_tt::view::TokenTreesView;
+use std::alloc::{AllocError, Allocator, Global};
+
+/// What a name is bound to.
+#[derive(Clone, Copy, Debug)]
+pub enum What {
+    Tree,
+    Nothing,
+    Skipped,
+    Missing,
+}
+
+/// A call, with handles and names by their places.
+#[derive(Clone, Copy, Debug)]
+pub enum Call {
+    Alloc,
+    Copy(usize),
+    Push(usize, What, usize),
+    Nested(usize, usize),
+    Default(usize),
+}
+
+/// A log, and the handles that it gave.
+#[derive(Drop)]
+pub struct Book<'a, A: Allocator = Global> {
+    pub log: BindingLog<'a, A>,
+    pub handles: Vec<Handle, A>,
+}
+
+/// Makes the call. `false` where no live handle stands at the place.
+pub fn apply<'a, A: Allocator + Copy>(
+    book: &mut Book<'a, A>,
+    names: &[Symbol<A>],
+    tree: TokenTreesView<'a, A>,
+    call: Call,
+) -> Result<bool, AllocError> {
+    match call {
+        Call::Alloc => {
+            let handle = book.log.alloc()?;
+            book.handles.push(handle)?;
+            Ok(true)
+        }
+        Call::Copy(at) => copy(book, at),
+        Call::Push(at, what, name) => match (book.handles.get_mut(at), names.get(name)) {
+            (Some(handle), Some(name)) => push(&mut book.log, handle, what, name, tree),
+            _ => Ok(false),
+        },
+        Call::Nested(parent, child) => nest(book, parent, child),
+        Call::Default(at) => match book.handles.get_mut(at) {
+            Some(handle) => finish(&mut book.log, handle),
+            None => Ok(false),
+        },
+    }
+}
+
+fn copy<A: Allocator + Copy>(book: &mut Book<'_, A>, at: usize) -> Result<bool, AllocError> {
+    let Some(handle) = book.handles.get(at) else {
+        return Ok(false);
+    };
+    if !book.log.is_live(handle) {
+        return Ok(false);
+    }
+    let copy = book.log.copy(handle)?;
+    book.handles.push(copy)?;
+    Ok(true)
+}
+
+fn push<'a, A: Allocator + Copy>(
+    log: &mut BindingLog<'a, A>,
+    handle: &mut Handle,
+    what: What,
+    name: &Symbol<A>,
+    tree: TokenTreesView<'a, A>,
+) -> Result<bool, AllocError> {
+    if !log.is_live(handle) {
+        return Ok(false);
+    }
+    match what {
+        What::Tree => log.push_fragment(handle, name, Fragment::Expr(tree))?,
+        What::Nothing => log.push_optional(handle, name)?,
+        What::Skipped => log.push_empty(handle, name)?,
+        What::Missing => log.push_missing(handle, name, MetaVarKind::Ident)?,
+    }
+    Ok(true)
+}
+
+fn nest<A: Allocator + Copy>(
+    book: &mut Book<'_, A>,
+    parent: usize,
+    child: usize,
+) -> Result<bool, AllocError> {
+    let Some(child) = book.handles.get(child) else {
+        return Ok(false);
+    };
+    let child = again(child);
+    let Some(parent) = book.handles.get_mut(parent) else {
+        return Ok(false);
+    };
+    if !book.log.is_live(parent) || !book.log.is_live(&child) {
+        return Ok(false);
+    }
+    book.log.push_nested(parent, &child)?;
+    Ok(true)
+}
+
+fn finish<A: Allocator + Copy>(
+    log: &mut BindingLog<'_, A>,
+    handle: &mut Handle,
+) -> Result<bool, AllocError> {
+    if !log.is_live(handle) {
+        return Ok(false);
+    }
+    log.push_default(handle)?;
+    Ok(true)
+}
+
+/// What the handle binds, as text: for each name a letter, a list in brackets, or `.` where it isn't bound. Nothing where the
+/// handle isn't live.
+pub fn built<A: Allocator + Copy>(
+    alloc: A,
+    log: &BindingLog<'_, A>,
+    handle: &Handle,
+    names: &[Symbol<A>],
+) -> Result<String<A>, AllocError> {
+    let mut text = String::new(alloc);
+    if !log.is_live(handle) {
+        return Ok(text);
+    }
+    let bindings = log.build(handle)?;
+    for name in names {
+        match bindings.get(name) {
+            Some(binding) => show(binding, &mut text)?,
+            None => text.push('.')?,
+        }
+    }
+    Ok(text)
+}
+
+// The binding as text.
+fn show<A: Allocator>(binding: &Binding<'_, A>, text: &mut String<A>) -> Result<(), AllocError> {
+    match binding {
+        Binding::Fragment(fragment) => text.push(letter(fragment)),
+        Binding::Nested(list) => {
+            text.push('[')?;
+            for inner in list {
+                show(inner, text)?;
+            }
+            text.push(']')
+        }
+        Binding::Empty => text.push('-'),
+        Binding::Missing(_) => text.push('?'),
+    }
+}
+
+fn letter<A: Allocator>(fragment: &Fragment<'_, A>) -> char {
+    match fragment {
+        Fragment::Empty => 'o',
+        Fragment::Tokens { .. } => 't',
+        Fragment::Expr(_) => 'e',
+        Fragment::Path(_) => 'p',
+        Fragment::TokensOwned(_) => 'w',
+    }
+}
+
+/// So many names, all different.
+pub fn names<A: Allocator + Copy>(alloc: A, count: usize) -> Result<Vec<Symbol<A>, A>, AllocError> {
+    let mut names = Vec::new(alloc);
+    for i in 0..count {
+        let text = format!(in alloc; "n{i}")?;
+        names.push(Symbol::intern(alloc, text.as_str())?)?;
+    }
+    Ok(names)
+}

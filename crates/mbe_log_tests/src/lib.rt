@@ -1,0 +1,10 @@
+// Users of the binding log, who see its contracts alone, and its tests.
+#![tactic(auto)]
+
+#[cfg(test)]
+mod calls;
+#[cfg(test)]
+mod model;
+#[cfg(test)]
+mod tests;
+pub mod uses;

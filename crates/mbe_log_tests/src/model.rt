@@ -1,0 +1,187 @@
+// A plain model of a log: each account is a list of its own, which a copy clones.
+use crate::calls::{Call, What};
+use std::alloc::{AllocError, Global};
+
+// What an account holds, in the order of writing. A nested account stands between an opening and a closing.
+#[derive(Clone, Copy, Debug)]
+enum Token {
+    Bound(usize, What),
+    Open,
+    NextRound,
+    Close,
+}
+
+/// The finished rounds, each with its end, and the current round.
+#[derive(Drop)]
+pub struct Account {
+    finished: Vec<Token>,
+    current: Vec<Token>,
+}
+
+/// Does the call.
+pub fn apply(alloc: Global, accounts: &mut Vec<Account>, call: Call) -> Result<(), AllocError> {
+    match call {
+        Call::Alloc => accounts.push(Account {
+            finished: Vec::new(alloc),
+            current: Vec::new(alloc),
+        })?,
+        Call::Copy(at) => {
+            if let Some(copy) = copied(accounts, at)? {
+                accounts.push(copy)?;
+            }
+        }
+        Call::Push(at, what, name) => {
+            if let Some(account) = accounts.get_mut(at) {
+                account.current.push(Token::Bound(name, what))?;
+            }
+        }
+        Call::Nested(parent, child) => {
+            if let (Some(child), Some(parent)) = (
+                copied(accounts, child)?,
+                accounts.get_mut(parent),
+            ) {
+                nest(&mut parent.current, child)?;
+            }
+        }
+        Call::Default(at) => {
+            if let Some(account) = accounts.get_mut(at) {
+                finish(account)?;
+            }
+        }
+    }
+    Ok(())
+}
+
+fn copied(accounts: &[Account], at: usize) -> Result<Option<Account>, AllocError> {
+    match accounts.get(at) {
+        Some(account) => Ok(Some(Account {
+            finished: account.finished.clone()?,
+            current: account.current.clone()?,
+        })),
+        None => Ok(None),
+    }
+}
+
+fn nest(current: &mut Vec<Token>, child: Account) -> Result<(), AllocError> {
+    current.push(Token::Open)?;
+    for token in &child.finished {
+        current.push(*token)?;
+    }
+    for token in &child.current {
+        current.push(*token)?;
+    }
+    current.push(Token::Close)?;
+    Ok(())
+}
+
+fn finish(account: &mut Account) -> Result<(), AllocError> {
+    for token in &account.current {
+        account.finished.push(*token)?;
+    }
+    account.finished.push(Token::NextRound)?;
+    account.current.clear();
+    Ok(())
+}
+
+// What a name is bound to in a round that is being read: nothing, a letter, or a list of so many values.
+#[derive(Drop)]
+struct Frame {
+    round: usize,
+    count: Option<usize>,
+    text: String,
+}
+
+fn new_frame(alloc: Global, round: usize) -> Frame {
+    Frame {
+        round,
+        count: None,
+        text: String::new(alloc),
+    }
+}
+
+/// What the account binds, as the text of `calls::built` for so many names.
+pub fn built(alloc: Global, account: &Account, names: usize) -> Result<String, AllocError> {
+    let mut text = String::new(alloc);
+    for name in 0..names {
+        let bound = read(alloc, &account.current, name)?;
+        write(&bound, &mut text)?;
+    }
+    Ok(text)
+}
+
+// What the commands bind the name to.
+fn read(alloc: Global, tokens: &[Token], name: usize) -> Result<Frame, AllocError> {
+    let mut open = Vec::new(alloc);
+    let mut top = new_frame(alloc, 0);
+    for token in tokens {
+        match *token {
+            Token::Bound(bound, what) => {
+                if bound == name {
+                    top = Frame {
+                        round: top.round,
+                        count: None,
+                        text: letter(alloc, what)?,
+                    };
+                }
+            }
+            Token::Open => {
+                open.push(top)?;
+                top = new_frame(alloc, 0);
+            }
+            Token::NextRound => {
+                let round = top.round.saturating_add(1);
+                if let Some(outer) = open.last_mut() {
+                    grow(outer, &top)?;
+                }
+                top = new_frame(alloc, round);
+            }
+            Token::Close => {
+                if let Some(outer) = open.pop() {
+                    let inner = top;
+                    top = outer;
+                    grow(&mut top, &inner)?;
+                }
+            }
+        }
+    }
+    Ok(top)
+}
+
+fn letter(alloc: Global, what: What) -> Result<String, AllocError> {
+    let mut text = String::new(alloc);
+    text.push(match what {
+        What::Tree => 'e',
+        What::Nothing => 'o',
+        What::Skipped => '-',
+        What::Missing => '?',
+    })?;
+    Ok(text)
+}
+
+// A round gives its value to the name's list, which has empty lists for the rounds before it. A value that is no list stays.
+fn grow(outer: &mut Frame, round: &Frame) -> Result<(), AllocError> {
+    if round.text.is_empty() && round.count.is_none()
+        || !outer.text.is_empty() && outer.count.is_none()
+    {
+        return Ok(());
+    }
+    let count = outer.count.unwrap_or(0);
+    for _missing in count..round.round {
+        outer.text.push_str("[]")?;
+    }
+    write(round, &mut outer.text)?;
+    outer.count = Some(count.max(round.round).saturating_add(1));
+    Ok(())
+}
+
+fn write(frame: &Frame, text: &mut String) -> Result<(), AllocError> {
+    if frame.count.is_some() {
+        text.push('[')?;
+        text.push_str(frame.text.as_str())?;
+        return text.push(']');
+    }
+    if frame.text.is_empty() {
+        return text.push('.');
+    }
+    text.push_str(frame.text.as_str())
+}

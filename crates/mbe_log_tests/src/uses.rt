@@ -1,0 +1,76 @@
+// How one uses a log: two positions from one, one of them nested in a third.
+ghost use Rattle.std.specs.Prelude.{◌≡◌, IfOk, OnOk};
+ghost use Rattle.mbe_semantics.specs.Bindings.Account.{bound_by, no_account, pushed, pushed_nested, Command as Written};
+ghost use Rattle.mbe_log.specs.Accounts.{Held, HasAccounts};
+ghost use Rattle.mbe_log.specs.BindingViews.{bound_by as bound_in};
+
+use mbe_log::bindings::Bindings;
+use mbe_log::fragment::Fragment;
+use mbe_log::log::BindingLog;
+use mbe_tt::buffer::TopSubtree;
+use mbe_tt::symbol::Symbol;
+use mbe_tt::view::TokenTreesView;
+use std::alloc::{AllocError, Allocator};
+
+/// What the third position binds: neither what the first position binds nor what is pushed later. Other handles' accounts stay.
+pub fn split<'a, A: Allocator + Copy>(
+    log: &mut BindingLog<'a, A>,
+    name: &Symbol<A>,
+    other: &Symbol<A>,
+) -> Result<Bindings<'a, A>, AllocError>
+    ensures binds { IfOk result (λ b. bound_in b ≡ bound_by (pushed_nested no_account (pushed (Written.binds_nothing other.now) (pushed (Written.skips name.now) no_account)))) }
+    ensures others { OnOk result ((held : Held) → HasAccounts log.old held → HasAccounts log.new held) }
+{
+    let mut first = log.alloc()?;
+    log.push_empty(&mut first, name)?;
+    let mut second = log.copy(&first)?;
+    log.push_empty(&mut first, other)?;
+    log.push_optional(&mut second, other)?;
+    let mut outer = log.alloc()?;
+    log.push_nested(&mut outer, &second)?;
+    log.push_empty(&mut second, name)?;
+    let bindings = log.build(&outer)?;
+    Ok(bindings)
+}
+
+/// What the numbers of a handle are after three pushes, and once that round is finished.
+pub fn numbers<A: Allocator + Copy>(
+    log: &mut BindingLog<'_, A>,
+    name: &Symbol<A>,
+) -> Result<((usize, usize), (usize, usize)), AllocError>
+    ensures pushed { IfOk result (λ r. r.0.0 ≡ 3 × r.0.1 ≡ 0) }
+    ensures finished { IfOk result (λ r. r.1.0 ≡ 0 × r.1.1 ≡ 1) }
+{
+    let mut handle = log.alloc()?;
+    log.push_empty(&mut handle, name)?;
+    log.push_optional(&mut handle, name)?;
+    log.push_empty(&mut handle, name)?;
+    let before = log.entries_of(&handle);
+    log.push_default(&mut handle)?;
+    let after = log.entries_of(&handle);
+    Ok((before, after))
+}
+
+/// One who owns the log: what a single position binds.
+pub fn own<'a, A: Allocator + Copy>(
+    alloc: A,
+    name: &Symbol<A>,
+    input: &'a TopSubtree<A>,
+) -> Result<Bindings<'a, A>, AllocError> {
+    let mut log = BindingLog::new(alloc);
+    let mut handle = log.alloc()?;
+    log.push_fragment(&mut handle, name, Fragment::Expr(input.view()))?;
+    let bindings = log.build(&handle)?;
+    Ok(bindings)
+}
+
+/// What a single position binds.
+pub fn bind_one<'a, A: Allocator + Copy>(
+    log: &mut BindingLog<'a, A>,
+    name: &Symbol<A>,
+    tree: TokenTreesView<'a, A>,
+) -> Result<Bindings<'a, A>, AllocError> {
+    let mut handle = log.alloc()?;
+    log.push_fragment(&mut handle, name, Fragment::Expr(tree))?;
+    log.build(&handle)
+}
