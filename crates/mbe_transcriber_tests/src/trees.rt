@@ -35,7 +35,8 @@ struct Token<'a> {
 
 // A number of a text, 0 where it is none.
 fn number(text: Option<&str>) -> u32 {
-    text.and_then(|digits| digits.parse::<u32>().ok()).unwrap_or(0)
+    text.and_then(|digits| digits.parse::<u32>().ok())
+        .unwrap_or(0)
 }
 
 fn offset(place: usize) -> u32 {
