@@ -12,7 +12,7 @@ ghost use Rattle.mbe_log.specs.BindingViews.{bound_by};
 
 use crate::fragment::eat_front;
 use mbe_log::bindings::{Binding, Bindings};
-use mbe_log::fragment::Fragment;
+use mbe_log::fragment::of_kind;
 use mbe_ops::ops::{MetaTemplate, Op, same_chars};
 use mbe_semantics::kinds::{ExprKind, MetaVarKind};
 use mbe_tt::grammar::{FragmentGrammar, PrefixEntryPoint};
@@ -77,7 +77,7 @@ fn match_op<'a, A: Allocator + Copy, G: FragmentGrammar>(
         }
         Op::Var { name, kind, .. } => match eat_fragment(grammar, *kind, src)? {
             Some(tree) => {
-                bindings.insert(name, Binding::Fragment(Fragment::of_kind(*kind, tree)))?;
+                bindings.insert(name, Binding::Fragment(of_kind(*kind, tree)))?;
                 Ok(true)
             }
             None => Ok(false),

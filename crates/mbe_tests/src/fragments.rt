@@ -375,7 +375,13 @@ fn expressions_are_written(rt: HostRuntime) -> Result<(), Fail> {
     let rules = "($e:expr) => {$e}; ($t:tt) => {A}";
     assert_texts(&rt, rt.alloc(), &taking(1), (rules, "1"), Some((0, &one)))?;
     let rules = "($e:expr) => {[$e]}; ($t:tt) => {A}";
-    assert_texts(&rt, rt.alloc(), &taking(1), (rules, "1"), Some((0, &grouped)))?;
+    assert_texts(
+        &rt,
+        rt.alloc(),
+        &taking(1),
+        (rules, "1"),
+        Some((0, &grouped)),
+    )?;
     let product = [
         open(Parenthesis, 0, 15),
         number("1", 1, 0),

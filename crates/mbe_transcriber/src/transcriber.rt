@@ -16,16 +16,14 @@ mod fault;
 mod following;
 mod fragments;
 
-use crate::transcriber::expressions::{
-    find_ignored, write_concat, write_count, write_number,
-};
+use crate::transcriber::expressions::{find_ignored, write_concat, write_count, write_number};
 use crate::transcriber::fault::Fault;
 use crate::transcriber::following::{
     Simple, index_at, kept_rounds, rounds_at, rounds_of, simple_at,
 };
 use crate::transcriber::fragments::{write_default, write_fragment, write_unbound};
-use mbe_log::bindings::Bindings;
 use mbe_errors::value_result::{ExpandResult, ValueResult};
+use mbe_log::bindings::Bindings;
 use mbe_ops::ops::{MetaTemplate, Op, Separator};
 use mbe_semantics::kinds::RepeatKind;
 use mbe_semantics::rounds::Level;

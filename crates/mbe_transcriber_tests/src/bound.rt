@@ -82,10 +82,7 @@ fn lists<'a, A: Allocator + Copy>(
 fn parenthesized<'a, A: Allocator>(tree: TokenTreesView<'a, A>) -> Option<TtIter<'a, A>> {
     match tree.iter().next() {
         Some(TtElement::Subtree(subtree, inside))
-            if subtree.delimiter.kind == DelimiterKind::Parenthesis =>
-        {
-            Some(inside)
-        }
+            if subtree.delimiter.kind == DelimiterKind::Parenthesis => { Some(inside) }
         _ => None,
     }
 }

@@ -37,7 +37,10 @@ fn assert_writes(
     let bound = words(alloc, given)?;
     let trees = rounds(alloc, kept)?;
     let texts = (ALL, bound.as_str());
-    assert!(rt; is_written(alloc, texts, (trees.as_str(), reported))?, "{given} rounds");
+    assert!(rt;
+        is_written(alloc, texts, (trees.as_str(), reported))?,
+        "{given} rounds"
+    );
     Ok(())
 }
 

@@ -27,7 +27,12 @@ fn template_of<A: Allocator + Copy>(
     alloc: A,
     trees: &TopSubtree<A>,
 ) -> Result<MetaTemplate<A>, AllocError> {
-    match parse_template(alloc, |_| Edition::Edition2024, trees.iter(), Mode::Template) {
+    match parse_template(
+        alloc,
+        |_| Edition::Edition2024,
+        trees.iter(),
+        Mode::Template,
+    ) {
         Ok(template) => Ok(template),
         Err(error) => {
             let _fault = error.fault()?;
@@ -46,7 +51,14 @@ pub fn written<A: Allocator + Copy>(
     let template = template_of(alloc, &template)?;
     let bound = trees_of(alloc, 1, bound)?;
     let bindings = bindings_of(alloc, bound.iter())?;
-    transcribe(alloc, &OneKeyword, &template, &bindings, |span| marked(span), CALL_SITE)
+    transcribe(
+        alloc,
+        &OneKeyword,
+        &template,
+        &bindings,
+        |span| marked(span),
+        CALL_SITE,
+    )
 }
 
 // Whether just that is reported, with the file and the start of its span.
@@ -588,7 +600,10 @@ fn assert_each_refused(rt: &impl Abort, alloc: Global, row: &Row) -> Result<(), 
         let alloc = Refusing::new(alloc, request);
         match row.is_right(&alloc) {
             Ok(is_right) => {
-                assert!(rt; is_right && !alloc.has_refused() && request > 10, "at {request}");
+                assert!(rt;
+                    is_right && !alloc.has_refused() && request > 10,
+                    "at {request}"
+                );
                 return Ok(());
             }
             Err(AllocError) => assert!(rt; alloc.has_refused(), "at {request}"),

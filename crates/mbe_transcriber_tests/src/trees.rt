@@ -35,7 +35,8 @@ struct Token<'a> {
 
 // A number of a text, 0 where it is none.
 fn number(text: Option<&str>) -> u32 {
-    text.and_then(|digits| digits.parse::<u32>().ok()).unwrap_or(0)
+    text.and_then(|digits| digits.parse::<u32>().ok())
+        .unwrap_or(0)
 }
 
 fn offset(place: usize) -> u32 {
@@ -62,7 +63,7 @@ fn written_span(text: &str, len: usize) -> Span {
 }
 
 // `TEXT@SPAN` is the token of that text with that span, `TEXT!SPAN` has the marker's answer on it, and a text alone has the span where it stands.
-fn token(word: &str, file: u32, start: usize) -> Token<'_> {
+fn token_of(word: &str, file: u32, start: usize) -> Token<'_> {
     if let Some((text, span)) = word.split_once('@') {
         return Token {
             text,
@@ -225,7 +226,7 @@ pub fn trees_of<A: Allocator + Copy>(
     let mut trees = Trees::new(alloc, CALL_SITE)?;
     let mut start = 0usize;
     for word in text.split(' ') {
-        trees.add(alloc, token(word, file, start))?;
+        trees.add(alloc, token_of(word, file, start))?;
         start = start.saturating_add(word.len()).saturating_add(1);
     }
     Ok(trees.finish(CALL_SITE))

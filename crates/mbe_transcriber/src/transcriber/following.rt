@@ -9,9 +9,9 @@ ghost use Rattle.mbe_semantics.specs.Writing.Substitution.{is_simple, extent_fau
 ghost use Rattle.mbe_log.specs.BindingViews.{bound_by, value_seen, values_seen};
 ghost use Rattle.mbe_ops.specs.Views.{op_of, ops_of, elements_seen};
 
+use crate::transcriber::fault::{Fault, FaultKind};
 use mbe_log::bindings::{Binding, Bindings};
 use mbe_log::fragment::Fragment;
-use crate::transcriber::fault::{Fault, FaultKind};
 use mbe_ops::ops::{ConcatMetaVarExprElem, Op};
 use mbe_semantics::kinds::{MetaVarKind, RepeatKind};
 use mbe_semantics::rounds::Level;
