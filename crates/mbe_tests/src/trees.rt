@@ -125,7 +125,8 @@ fn scanned<'t>(text: &'t str, token: scanner::Token<'t>) -> Token<'t> {
     Token { lexeme, span }
 }
 
-// The token trees of a text with a `'` that no name follows, which `lex` refuses: the scanner reads a `~` there.
+// The token trees of a text with a `'` that no name follows, which `lex` refuses: the scanner reads a `~` there. A text at
+// fault elsewhere is a slip of the test, which ends it.
 fn with_quotes<A: Allocator + Copy>(
     alloc: A,
     file: u32,
@@ -139,10 +140,13 @@ fn with_quotes<A: Allocator + Copy>(
     let whole = Delimiter::invisible_spanned(file_span(file, 0, end));
     let mut builder = TopSubtreeBuilder::new(alloc, whole)?;
     let mut scanner = Scanner::new(marked.as_str(), file);
-    'tokens: while let Ok(Some(token)) = scanner.token() {
-        add(&mut builder, alloc, scanned(marked.as_str(), token))?;
+    'tokens: loop {
+        match scanner.token() {
+            Ok(Some(token)) => add(&mut builder, alloc, scanned(marked.as_str(), token))?,
+            Ok(None) => return Ok(finish(builder, file_span(file, end, end))),
+            Err(_fault) => return Err(AllocError),
+        }
     }
-    Ok(finish(builder, file_span(file, end, end)))
 }
 
 /// The token trees of a text of words, numbers, puncts, lifetimes and groups. A `'` may stand alone.
