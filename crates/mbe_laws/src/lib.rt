@@ -1,4 +1,4 @@
-// Laws about the definitions of `mbe_semantics`. They run nothing.
+// Laws about the definitions of `mbe_semantics`. They run nothing. A layer of `mbe`: use that crate.
 #![tactic(auto)]
 
 pub mod laws;

@@ -1,4 +1,5 @@
-// What macros by example mean: the grammar of definitions, matching, transcription; and the plain words of it.
+// What macros by example mean: the grammar of definitions, matching, transcription; and the plain words of it. A layer of
+// `mbe`: use that crate.
 #![tactic(auto)]
 
 pub mod kinds;
