@@ -1,6 +1,6 @@
 // The choice of the rule.
 ghost use Rattle.std.specs.Prelude.{◌≡◌, IfOk};
-ghost use Rattle.mbe_tt.specs.Top.{top_group};
+ghost use Rattle.mbe_tt.specs.Trees.Top.{top_group};
 ghost use Rattle.mbe_semantics.specs.Expansion.Answer.{Answers, AreCarried, IsCarried, IsTried};
 ghost use Rattle.mbe_errors.specs.ErrorViews.{errors_of};
 ghost use Rattle.mbe_parser.specs.RuleViews.{rule_of, rules_seen};

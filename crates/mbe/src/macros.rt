@@ -7,7 +7,7 @@ ghost use Rattle.mbe_errors.specs.ErrorViews.{parse_error_of, errors_of};
 ghost use Rattle.mbe_semantics.specs.Expansion.Answer.{Answers, AreCarried};
 ghost use Rattle.mbe_semantics.specs.Expansion.Macro.{style_bits, TellsRefusal, IsChecked};
 ghost use Rattle.mbe.specs.Styles.{bits_of};
-ghost use Rattle.mbe_tt.specs.Top.{top_group};
+ghost use Rattle.mbe_tt.specs.Trees.Top.{top_group};
 ghost use Rattle.mbe_semantics.specs.Laws.Marking.{MayMark, MayAsk};
 
 use crate::expander::expand_rules;

@@ -4,9 +4,9 @@ use Rattle.std.specs.Str.{chars}
 use Rattle.std.proofs.Common.{ap, sym, ◌∙◌}
 use Rattle.std.proofs.Math.Bool.{false≢true}
 use Rattle.unicode_ident.proofs.Computing.{unicode_ident}
-use Rattle.mbe_tt.specs.Grammar.{Grammar}
-use Rattle.mbe_tt.specs.Leaf.{ident}
-use Rattle.mbe_tt.specs.Tree.{none, leaf}
+use Rattle.mbe_tt.specs.Fragments.Grammar.{Grammar}
+use Rattle.mbe_tt.specs.Trees.Leaf.{ident}
+use Rattle.mbe_tt.specs.Trees.Tree.{none, leaf}
 use Rattle.mbe_tt.specs.declared.tt.LitKind.TheVariants.{Str}
 use Rattle.mbe_semantics.specs.declared.macro_call_style.MacroCallStyle.TheVariants.{FnLike}
 use Rattle.mbe_semantics.specs.Syntax.Op as ops

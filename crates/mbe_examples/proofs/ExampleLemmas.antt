@@ -2,8 +2,8 @@
 use Rattle.std.specs.Prelude.{◌≡◌, ◌≢◌, ◌-◌, ◌^◌, ℕ, min, nat_le, Bool, true, false, [], ◌∷◌, None, refl, not, ◌&&◌, ◌==◌, if◌then◌else◌, codes, Option, Some}
 use Rattle.std.proofs.Common.{arith, ap, sym, ◌∙◌}
 use Rattle.std.proofs.Math.Bool.{false≢true}
-use Rattle.mbe_tt.specs.Tree.{Forest, none, flat_len, Cut, cut_flat}
-use Rattle.mbe_tt.specs.Grammar.{Grammar, IsLawful}
+use Rattle.mbe_tt.specs.Trees.Tree.{Forest, none, flat_len, Cut, cut_flat}
+use Rattle.mbe_tt.specs.Fragments.Grammar.{Grammar, IsLawful}
 use Rattle.mbe_tt.specs.declared.grammar.Front.{Front}
 use Rattle.mbe_semantics.specs.Expansion.Error.{ExpandError, binding_error}
 use Rattle.mbe_semantics.specs.declared.macro_call_style.MacroCallStyle.{MacroCallStyle}

@@ -1,6 +1,6 @@
 -- What the grammar of definitions says of definitions with a fault.
 use Rattle.std.specs.Prelude.{None, [], refl}
-use Rattle.mbe_tt.specs.Tree.{none}
+use Rattle.mbe_tt.specs.Trees.Tree.{none}
 use Rattle.mbe_semantics.specs.Syntax.Template.{nothing, token, repeated, here}
 use Rattle.mbe_semantics.specs.Syntax.Definition.{ended, no_rule, faulty_rule, unseparated, separated, in_pattern, in_template, faulty}
 use Rattle.mbe_semantics.specs.Examples.FurtherExamples.{FaultExamples, SpecifierExamples}

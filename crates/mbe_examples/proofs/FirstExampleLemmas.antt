@@ -3,7 +3,7 @@ use Rattle.std.specs.Prelude.{nat_le, not, ◌&&◌, ◌==◌, if◌then◌else�
 use Rattle.std.proofs.Common.{arith, ap, sym, ◌∙◌}
 use Rattle.std.specs.Fmt.{digits}
 use Rattle.std.proofs.Math.Bool.{false≢true}
-use Rattle.mbe_tt.specs.Tree.{none, group, cut_flat, flat_len}
+use Rattle.mbe_tt.specs.Trees.Tree.{none, group, cut_flat, flat_len}
 use Rattle.mbe_semantics.specs.Syntax.Op as ops
 use Rattle.mbe_semantics.specs.declared.kinds.MetaVarKind.TheVariants.{Vis}
 use Rattle.mbe_semantics.specs.Readings.Item.{Fragment, Item, matched, grouped, skipped, rounds, Items, no_items, item, no_rounds}
@@ -17,7 +17,7 @@ use Rattle.mbe_semantics.proofs.PlainLemmas as plain
 use Rattle.mbe_laws.proofs.Patterns.WordLemmas.{words_never_ambiguous}
 use Rattle.mbe_examples.proofs.RuleLemmas.{by_run, fits_by_run, closest_alone}
 use Rattle.mbe_semantics.specs.Syntax.Op.{Op, Ops, no_ops, op}
-use Rattle.mbe_tt.specs.Grammar.{Grammar, IsLawful}
+use Rattle.mbe_tt.specs.Fragments.Grammar.{Grammar, IsLawful}
 use Rattle.mbe_semantics.specs.Syntax.Template.{pattern, template, Template, nothing, token, variable, grouped, repeated, undated}
 use Rattle.mbe_semantics.specs.Syntax.Definition.{ended, separated}
 use Rattle.mbe_semantics.specs.Examples.FirstExamples.{pair_reads, pair_writes, PairExample, pair_rule, pair_argument, pair_items, CastExample, cast_pattern, cast_argument, cast_rule, OptionalExample, twice_pattern, twice_argument, twice_rule, QuoteExample, quote_pattern, quote_argument, quote_rule, RoundsExample, bx_pattern, bx_argument, bx_rule, TemplateExamples, DefinitionExamples, VerdictExamples, group_pattern, list_pattern, x_variable, token_of, comma, in_parentheses, a_then, comma_then, bx_items, of_kind, list_between, quote_then, arrow_pattern}

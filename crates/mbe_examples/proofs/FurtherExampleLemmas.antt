@@ -2,8 +2,8 @@
 use Rattle.std.specs.Prelude.{◌≡◌, ◌⊎◌, ◌-◌, ◌^◌, ◌<◌, ◌≤◌, ℕ, zero, suc, min, List, [], ◌∷◌, codes, None, refl}
 use Rattle.std.proofs.Common.{arith, ap, sym, ◌∙◌, subst}
 use Rattle.std.proofs.lemmas.Option.{none-some, same_Some}
-use Rattle.mbe_tt.specs.Tree.{Forest, none, group}
-use Rattle.mbe_tt.specs.Grammar.{Grammar, IsLawful}
+use Rattle.mbe_tt.specs.Trees.Tree.{Forest, none, group}
+use Rattle.mbe_tt.specs.Fragments.Grammar.{Grammar, IsLawful}
 use Rattle.mbe_semantics.specs.declared.macro_call_style.MacroCallStyle.TheVariants.{FnLike}
 use Rattle.mbe_semantics.specs.Syntax.Template.{nothing, token, variable, repeated, undated}
 use Rattle.mbe_semantics.specs.Syntax.Definition.{Rule, ended, separated}

@@ -3,8 +3,8 @@ use Rattle.std.specs.Prelude.{◌≡◌, ◌≢◌, ◌≤◌, ◌+◌, ℕ, Boo
 use Rattle.std.proofs.Common.{arith, ap, sym, ◌∙◌}
 use Rattle.std.proofs.Math.Bool.{false≢true}
 use Rattle.std.specs.Fmt.{digits}
-use Rattle.mbe_tt.specs.Tree.{none}
-use Rattle.mbe_tt.specs.Grammar.{Grammar}
+use Rattle.mbe_tt.specs.Trees.Tree.{none}
+use Rattle.mbe_tt.specs.Fragments.Grammar.{Grammar}
 use Rattle.mbe_semantics.specs.declared.macro_call_style.MacroCallStyle.TheVariants.{FnLike}
 use Rattle.mbe_semantics.specs.declared.kinds.MetaVarKind.TheVariants as kinds
 use Rattle.mbe_semantics.specs.Syntax.Template.{nothing, token, variable, repeated, undated}
@@ -26,7 +26,7 @@ use Rattle.mbe_semantics.specs.Readings.Steps.{tree}
 use Rattle.mbe_semantics.specs.Readings.Ambiguity.{GoesOn}
 use Rattle.mbe_laws.proofs.Matching.Moves.{next-takes}
 use Rattle.mbe_semantics.proofs.InputLemmas.{lawful_input}
-use Rattle.mbe_tt.specs.Grammar.{IsLawful}
+use Rattle.mbe_tt.specs.Fragments.Grammar.{IsLawful}
 
 -- ---- lists
 

@@ -2,8 +2,8 @@
 use Rattle.std.specs.Prelude.{◌≡◌, ◌⊎◌, ◌-◌, ◌^◌, ◌&&◌, ◌==◌, not, ℕ, zero, suc, min, if◌then◌else◌, IsTrue, IsFalse, [], ◌∷◌, Option, Some, None, refl}
 use Rattle.std.proofs.Common.{arith, subst, sym, ◌∙◌}
 use Rattle.std.proofs.lemmas.Option.{none-some, same_Some}
-use Rattle.mbe_tt.specs.Tree.{Forest, flat_len, Cut, cut_flat}
-use Rattle.mbe_tt.specs.Grammar.{Grammar, IsLawful}
+use Rattle.mbe_tt.specs.Trees.Tree.{Forest, flat_len, Cut, cut_flat}
+use Rattle.mbe_tt.specs.Fragments.Grammar.{Grammar, IsLawful}
 use Rattle.mbe_tt.specs.declared.grammar.Front.{Front}
 use Rattle.mbe_semantics.specs.declared.macro_call_style.MacroCallStyle.{MacroCallStyle}
 use Rattle.mbe_semantics.specs.Syntax.Op.{Ops, has_no_repetition}

@@ -2,7 +2,7 @@
 ghost use Rattle.mbe_semantics.specs.Examples.Examples.{EndlessExample, StyledExample, PathExample, TextExample, UnboundExample, RefusedExample, TwiceExample, PunctsExample, DoubleExample, LetExample, NoRuleExample, FrontExample, ConcatExample, NearestExample, EmptyExample, CountExample, ZipExample, UnknownExample, IndexExample, ListExample};
 ghost use Rattle.mbe_semantics.specs.Examples.FurtherExamples.{FaultExamples, SignExample, PlusExample, InvisibleExample, NamesExample, MostBindingsExample, EarliestExample, MarkedExample, SpecifierExamples};
 ghost use Rattle.mbe_semantics.specs.Examples.LogExamples.{LogExamples, DefaultExamples};
-ghost use Rattle.mbe_tt.specs.Grammar.{Grammar, IsLawful};
+ghost use Rattle.mbe_tt.specs.Fragments.Grammar.{Grammar, IsLawful};
 ghost use Rattle.mbe_semantics.specs.Examples.FirstExamples.{VerdictExamples, PairExample, CastExample, OptionalExample, QuoteExample, RoundsExample, TemplateExamples, DefinitionExamples};
 
 /// `($x:ident) => {$($x)*}; ($x:ident) => {$x}` on `a`.

@@ -1,6 +1,6 @@
 -- The trees of a forest's flat tokens are that forest.
 use Rattle.std.proofs.Common.{◌≡◌, List, [], ◌∷◌, ◌++◌, refl, sym, ap, ◌∙◌, append_assoc, append-nil}
-use Rattle.mbe_tt.specs.Tree.{Forest, none, leaf, group, append, flat, FlatToken, closing}
+use Rattle.mbe_tt.specs.Trees.Tree.{Forest, none, leaf, group, append, flat, FlatToken, closing}
 use Rattle.mbe_grammar.specs.FlatTrees.{Levels, open_level, levels, trees_of_flat}
 
 append-none : (f : Forest) → append f none ≡ f

@@ -1,6 +1,6 @@
 -- Each part of the program's grammar takes what its rule says.
 use Rattle.std.proofs.Common.{◌≡◌, ℕ, ◌<◌, ◌≤◌, true, Ok, Err, refl, arith}
-use Rattle.mbe_tt.specs.Tree.{Forest, flat_len}
+use Rattle.mbe_tt.specs.Trees.Tree.{Forest, flat_len}
 use Rattle.mbe_grammar.specs.declared.step.Miss.TheVariants.{Absent, Fault}
 use Rattle.mbe_grammar.specs.declared.types.PathStyle.{PathStyle}
 use Rattle.mbe_grammar.specs.declared.types.PathStyle.TheVariants.{Plain, Expression}

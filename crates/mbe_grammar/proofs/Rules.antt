@@ -1,7 +1,7 @@
 -- A part takes what its rule says, since deeper calls of parts change nothing, and what a loop over one rule may go by.
 use Rattle.std.proofs.Common.{◌≡◌, ℕ, zero, suc, ◌+◌, ◌-◌, ◌*◌, ◌<◌, ◌≤◌, Bool, true, false, ◌&&◌, Ok, Err, refl, sym, ap, ◌∙◌, subst, arith, ltb-true, zero-add}
 use Rattle.std.specs.Prelude.{if◌then◌else◌, nat_lt}
-use Rattle.mbe_tt.specs.Tree.{Forest, flat_len}
+use Rattle.mbe_tt.specs.Trees.Tree.{Forest, flat_len}
 use Rattle.mbe_grammar.specs.declared.step.Miss.TheVariants.{Absent, Fault}
 use Rattle.mbe_grammar.specs.Rule.{Rule, one, puncts_of, through, to_closing_angle, part, ◌then◌, ◌or◌, maybe, repeated, needed, ahead, not_ahead, Step, ◌>>=◌, or_else, has_to_stand, if_stands, if_absent, once_more, times, in_turn, meaning, taken_within, taken}
 use Rattle.mbe_grammar.specs.RuleLaws.{count, Leaves, leaves_weaker, is_solid, Solid, meaning_leaves, within_leaves, taken_leaves}

@@ -1,6 +1,6 @@
 -- The trees whose flat tokens are in a list.
 use Rattle.std.specs.Prelude.{List, [], ◌∷◌}
-use Rattle.mbe_tt.specs.Tree.{Forest, none, leaf, group, FlatToken, token, opening, closing}
+use Rattle.mbe_tt.specs.Trees.Tree.{Forest, none, leaf, group, FlatToken, token, opening, closing}
 use Rattle.mbe_tt.specs.declared.tt.Delimiter.{Delimiter}
 
 -- Read from the end of a list: the trees up to the end of the innermost group, and the same for each group around it.

@@ -1,8 +1,8 @@
 -- The program's grammar is lawful: laws and no definitions, as in RuleLaws.
 use Rattle.std.specs.Prelude.{◌≡◌, ℕ, ◌+◌, ◌≤◌, Bool, true, false, List, [], ◌∷◌, length, Ok, Err, refl}
 use Rattle.std.proofs.Common.{arith, true≢false}
-use Rattle.mbe_tt.specs.Tree.{Forest, flat_len, FlatToken, token, opening, closing}
-use Rattle.mbe_tt.specs.Grammar.{IsLawful}
+use Rattle.mbe_tt.specs.Trees.Tree.{Forest, flat_len, FlatToken, token, opening, closing}
+use Rattle.mbe_tt.specs.Fragments.Grammar.{IsLawful}
 use Rattle.mbe_tt.specs.declared.tt.Delimiter.{Delimiter}
 use Rattle.mbe_tt.specs.declared.grammar.PrefixEntryPoint.{PrefixEntryPoint}
 use Rattle.mbe_tt.specs.declared.grammar.PrefixEntryPoint.TheVariants as entries

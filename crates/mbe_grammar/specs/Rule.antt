@@ -3,9 +3,9 @@
 use Rattle.std.specs.Prelude.{ℕ, zero, suc, ◌+◌, ◌-◌, ◌*◌, ◌==◌, Bool, true, false, not, ◌&&◌, ◌||◌, if◌then◌else◌, List, Option, Some, None, option_and_then, length, Result, Ok, Err}
 use Rattle.std.specs.List.{list_any}
 use Rattle.std.specs.Str.{bytes_eq}
-use Rattle.mbe_tt.specs.Tree.{Forest, none, leaf, group, Tree, Leaf_tree, Group_tree, skip, flat_len}
-use Rattle.mbe_tt.specs.Leaf.{Leaf, punct, literal, ident}
-use Rattle.mbe_tt.specs.Glue.{glue, glued, chars_of}
+use Rattle.mbe_tt.specs.Trees.Tree.{Forest, none, leaf, group, Tree, Leaf_tree, Group_tree, skip, flat_len}
+use Rattle.mbe_tt.specs.Trees.Leaf.{Leaf, punct, literal, ident}
+use Rattle.mbe_tt.specs.Trees.Glue.{glue, glued, chars_of}
 use Rattle.mbe_tt.specs.declared.tt.Spacing.{Spacing}
 use Rattle.mbe_tt.specs.declared.tt.Spacing.TheVariants.{Alone, Joint}
 use Rattle.mbe_grammar.specs.declared.step.Miss.{Miss}

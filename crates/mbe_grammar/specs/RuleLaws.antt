@@ -4,9 +4,9 @@ use Rattle.std.specs.Prelude.{◌≡◌, ℕ, zero, suc, ◌+◌, ◌-◌, ◌*�
 use Rattle.std.specs.List.{list_any}
 use Rattle.std.specs.Str.{bytes_eq}
 use Rattle.std.proofs.Common.{arith}
-use Rattle.mbe_tt.specs.Tree.{Forest, none, leaf, group, Tree, Leaf_tree, Group_tree, flat_len, skip}
-use Rattle.mbe_tt.specs.Leaf.{Leaf, punct, literal, ident}
-use Rattle.mbe_tt.specs.Glue.{glue, chars_of, if_joint, joined}
+use Rattle.mbe_tt.specs.Trees.Tree.{Forest, none, leaf, group, Tree, Leaf_tree, Group_tree, flat_len, skip}
+use Rattle.mbe_tt.specs.Trees.Leaf.{Leaf, punct, literal, ident}
+use Rattle.mbe_tt.specs.Trees.Glue.{glue, chars_of, if_joint, joined}
 use Rattle.mbe_tt.specs.declared.tt.Punct.{Punct}
 use Rattle.mbe_grammar.specs.declared.step.Miss.{Miss}
 use Rattle.mbe_grammar.specs.declared.step.Miss.TheVariants.{Absent, Fault}

@@ -1,8 +1,8 @@
 -- Tests of single trees.
 use Rattle.std.specs.Prelude.{ℕ, Bool, true, false, not, ◌&&◌, is_some, List, [], ◌∷◌, codes}
 use Rattle.std.specs.List.{list_any}
-use Rattle.mbe_tt.specs.Tree.{Tree, Leaf_tree, Group_tree, is_same_kind}
-use Rattle.mbe_tt.specs.Leaf.{literal, punct, ident, is_text, is_underscore}
+use Rattle.mbe_tt.specs.Trees.Tree.{Tree, Leaf_tree, Group_tree, is_same_kind}
+use Rattle.mbe_tt.specs.Trees.Leaf.{literal, punct, ident, is_text, is_underscore}
 use Rattle.mbe_tt.specs.declared.tt.IdentIsRaw.{IdentIsRaw}
 use Rattle.mbe_tt.specs.declared.tt.IdentIsRaw.TheVariants.{No, Yes}
 use Rattle.mbe_tt.specs.declared.tt.DelimiterKind.{DelimiterKind}

@@ -1,6 +1,6 @@
 -- What a step of the program's grammar says.
 use Rattle.std.specs.Prelude.{Result, Ok, Err}
-use Rattle.mbe_tt.specs.View.{trees}
+use Rattle.mbe_tt.specs.Views.View.{trees}
 use Rattle.mbe_tt.specs.declared.view.TokenTreesView.{TokenTreesView}
 use Rattle.mbe_grammar.specs.declared.step.Miss.{Miss}
 use Rattle.mbe_grammar.specs.Rule.{Step}

@@ -1,8 +1,8 @@
 // Blocks, attributes, statements and items.
 ghost use Rattle.std.specs.Prelude.{◌≡◌};
-ghost use Rattle.mbe_tt.specs.Element.{element_tree};
-ghost use Rattle.mbe_tt.specs.Tree.{first};
-ghost use Rattle.mbe_tt.specs.View.{trees};
+ghost use Rattle.mbe_tt.specs.Views.Element.{element_tree};
+ghost use Rattle.mbe_tt.specs.Trees.Tree.{first};
+ghost use Rattle.mbe_tt.specs.Views.View.{trees};
 ghost use Rattle.mbe_grammar.specs.Rule.{or_miss, behind_one, behind_first, meaning};
 ghost use Rattle.mbe_grammar.specs.SingleTrees.{is_scope};
 ghost use Rattle.mbe_grammar.specs.SampleGrammar.{takes, is_item_end, short_item, long_item, item_word, const_block, public, Block, Assignment, Meta, Annotation, Let, ItemStmt, Stmt, Item, Vis};

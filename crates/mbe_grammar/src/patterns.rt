@@ -1,6 +1,6 @@
 // Patterns.
 ghost use Rattle.std.specs.Prelude.{◌≡◌};
-ghost use Rattle.mbe_tt.specs.View.{trees};
+ghost use Rattle.mbe_tt.specs.Views.View.{trees};
 ghost use Rattle.mbe_grammar.specs.Rule.{in_turn, meaning};
 ghost use Rattle.mbe_grammar.specs.SampleGrammar.{takes, mut_reference, SignedLiteral, BindingMode, BoundPat, PathPat, Pat, Alternative, PatTop};
 ghost use Rattle.mbe_grammar.specs.Steps.{seen};

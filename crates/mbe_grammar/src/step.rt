@@ -1,6 +1,6 @@
 // What a part of the grammar answers, and what is made of that.
 ghost use Rattle.std.specs.Prelude.{◌≡◌, Ok};
-ghost use Rattle.mbe_tt.specs.View.{trees};
+ghost use Rattle.mbe_tt.specs.Views.View.{trees};
 ghost use Rattle.mbe_grammar.specs.Rule.{or_else, has_to_stand, if_stands, if_absent};
 ghost use Rattle.mbe_grammar.specs.Steps.{seen};
 

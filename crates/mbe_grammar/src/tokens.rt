@@ -2,9 +2,9 @@
 ghost use Rattle.std.specs.Prelude.{◌≡◌, ◌<◌, IfOk, [], ◌∷◌, map, false};
 ghost use Rattle.std.specs.List.{list_any};
 ghost use Rattle.std.specs.Str.{bytes_eq};
-ghost use Rattle.mbe_tt.specs.Glue.{chars_of};
-ghost use Rattle.mbe_tt.specs.Tree.{flat_len, is_same_kind};
-ghost use Rattle.mbe_tt.specs.View.{trees};
+ghost use Rattle.mbe_tt.specs.Trees.Glue.{chars_of};
+ghost use Rattle.mbe_tt.specs.Trees.Tree.{flat_len, is_same_kind};
+ghost use Rattle.mbe_tt.specs.Views.View.{trees};
 ghost use Rattle.mbe_grammar.specs.Rule.{or_miss, behind_one, behind_puncts, behind_angle};
 ghost use Rattle.mbe_grammar.specs.SingleTrees.{is_word, is_one_of, is_name, is_identifier, is_literal, is_no_punct, is_punct, is_group};
 ghost use Rattle.mbe_grammar.specs.Steps.{seen};

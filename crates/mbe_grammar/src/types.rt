@@ -1,6 +1,6 @@
 // Paths and types.
 ghost use Rattle.std.specs.Prelude.{◌≡◌};
-ghost use Rattle.mbe_tt.specs.View.{trees};
+ghost use Rattle.mbe_tt.specs.Views.View.{trees};
 ghost use Rattle.mbe_grammar.specs.Rule.{in_turn, meaning};
 ghost use Rattle.mbe_grammar.specs.SampleGrammar.{takes, reference_sign, pointer_sign, Lifetime, Angle, Turbofish, Colons, Segment, NextSegment, Path, Indirection, Pointee, Ty};
 ghost use Rattle.mbe_grammar.specs.Steps.{seen};

@@ -1,8 +1,8 @@
 // Laws that speak of the answers of a closure: the marker of spans, and the edition of a context. They run nothing.
 ghost use Rattle.std.specs.Prelude.{[]};
 ghost use Rattle.mbe_tt.specs.declared.tt.DelimiterKind.TheVariants.{Invisible};
-ghost use Rattle.mbe_tt.specs.Tree.{group, none};
-ghost use Rattle.mbe_tt.specs.Grammar.{Grammar};
+ghost use Rattle.mbe_tt.specs.Trees.Tree.{group, none};
+ghost use Rattle.mbe_tt.specs.Fragments.Grammar.{Grammar};
 ghost use Rattle.mbe_semantics.specs.Syntax.Op.{no_ops};
 ghost use Rattle.mbe_semantics.specs.Writing.Substitution.{IsSubstitution};
 ghost use Rattle.mbe_semantics.specs.Laws.Laws.{OpsOrFault, HasOpsOrFault, OneTemplate, OneDefinition, WritesAllRounds, WrittenInPlace, SpansHaveSources, OneExpansion};

@@ -1,8 +1,8 @@
 -- What the code's fragments and bindings are, whatever memory holds them.
 use Rattle.std.specs.Prelude.{List, [], ◌∷◌, map}
-use Rattle.mbe_tt.specs.Tree.{none}
-use Rattle.mbe_tt.specs.View.{trees}
-use Rattle.mbe_tt.specs.Top.{top_group}
+use Rattle.mbe_tt.specs.Trees.Tree.{none}
+use Rattle.mbe_tt.specs.Views.View.{trees}
+use Rattle.mbe_tt.specs.Trees.Top.{top_group}
 use Rattle.mbe_log.specs.declared.fragment.Fragment as took
 use Rattle.mbe_log.specs.declared.fragment.TokensOrigin.{TokensOrigin}
 use Rattle.mbe_log.specs.declared.fragment.TokensOrigin.TheVariants.{Raw, Ast}

@@ -1,6 +1,6 @@
 // What a variable took.
 ghost use Rattle.std.specs.Prelude.{◌≡◌, IfOk};
-ghost use Rattle.mbe_tt.specs.View.{trees};
+ghost use Rattle.mbe_tt.specs.Views.View.{trees};
 ghost use Rattle.mbe_semantics.specs.Readings.Item.{style_of};
 ghost use Rattle.mbe_log.specs.BindingViews.{fragment_seen};
 

@@ -4,9 +4,9 @@ use Rattle.std.specs.Str.{bytes_eq}
 use Rattle.std.proofs.lemmas.Option.{none-some, same_Some}
 use Rattle.std.proofs.lemmas.Slice.Eq.{bytes_eq-Decides}
 use Rattle.std.proofs.lemmas.List.{length-map}
-use Rattle.mbe_tt.specs.Leaf.{Ident, Literal, literal, punct, ident}
-use Rattle.mbe_tt.specs.Tree.{Forest, none, leaf, group, flat_len, rest_of, skip, front_leaf, any_ident, front_group, is_same_kind, Cut, cut_trees}
-use Rattle.mbe_tt.specs.Glue.{glue, glued, chars_of}
+use Rattle.mbe_tt.specs.Trees.Leaf.{Ident, Literal, literal, punct, ident}
+use Rattle.mbe_tt.specs.Trees.Tree.{Forest, none, leaf, group, flat_len, rest_of, skip, front_leaf, any_ident, front_group, is_same_kind, Cut, cut_trees}
+use Rattle.mbe_tt.specs.Trees.Glue.{glue, glued, chars_of}
 use Rattle.mbe_tt.specs.declared.tt.Punct.{Punct}
 use Rattle.mbe_tt.specs.declared.tt.Delimiter.{Delimiter}
 use Rattle.mbe_tt.specs.declared.tt.DelimiterKind.{DelimiterKind}
@@ -17,10 +17,10 @@ use Rattle.mbe_semantics.specs.Syntax.Op.{Name, Token, Op, Ops, no_ops, op}
 use Rattle.mbe_semantics.specs.Readings.Item.{Item, Items, item}
 use Rattle.mbe_semantics.specs.Readings.Fit.{token_front, literal_text_front, ident_text_front, puncts_front}
 use Rattle.mbe_semantics.specs.Bindings.Environment.{Environment, bind}
-use Rattle.mbe_tt.specs.Grammar.{Grammar}
+use Rattle.mbe_tt.specs.Fragments.Grammar.{Grammar}
 use Rattle.mbe_matcher.specs.Matching.{matched_front, whole, grouped_front, then_read, read_front, read_on, read_all, HasPassed, HasRead, HasReadAll}
 use Rattle.mbe_semantics.specs.Bindings.Environment.{BindsAlike}
-use Rattle.mbe_tt.proofs.CutLemmas.{no_true}
+use Rattle.mbe_tt.proofs.Places.CutLemmas.{no_true}
 use Rattle.mbe_ops.proofs.Fragments.{left_behind}
 use Rattle.mbe_ops.proofs.Fragments.{glued_is, puncts_longer}
 use Rattle.mbe_matcher.proofs.BindingLemmas.{alike_item}

@@ -2,12 +2,12 @@
 use Rattle.std.proofs.Common.{◌≡◌, ◌≤◌, ◌<◌, ◌+◌, ℕ, suc, Bool, true, false, [], Option, Some, None, if◌then◌else◌, refl, sym, ap, subst, ◌∙◌, arith, lt-ltb}
 use Rattle.std.specs.Prelude.{IsTrue, ◌&&◌, nat_lt}
 use Rattle.std.proofs.lemmas.Option.{none-some, same_Some}
-use Rattle.mbe_tt.specs.Tree.{Forest, none, leaf, group, append, flat_len, rest_at, is_same_kind, Cut}
-use Rattle.mbe_tt.specs.Grammar.{Grammar}
+use Rattle.mbe_tt.specs.Trees.Tree.{Forest, none, leaf, group, append, flat_len, rest_at, is_same_kind, Cut}
+use Rattle.mbe_tt.specs.Fragments.Grammar.{Grammar}
 use Rattle.mbe_tt.specs.declared.span.Span.{Span}
 use Rattle.mbe_tt.specs.declared.tt.Delimiter.{Delimiter}
-use Rattle.mbe_tt.proofs.CutLemmas.{flat_len-append, no_true, both_left, both_right}
-use Rattle.mbe_tt.proofs.PlaceLemmas.{rest_at-append, rest_at-in_group, rest_at-zero}
+use Rattle.mbe_tt.proofs.Places.CutLemmas.{flat_len-append, no_true, both_left, both_right}
+use Rattle.mbe_tt.proofs.Places.PlaceLemmas.{rest_at-append, rest_at-in_group, rest_at-zero}
 use Rattle.mbe_semantics.specs.declared.kinds.MetaVarKind.{MetaVarKind}
 use Rattle.mbe_log.specs.declared.bindings.Bindings as found
 use Rattle.mbe_semantics.specs.Syntax.Op as ops

@@ -3,15 +3,15 @@ use Rattle.std.proofs.Common.{◌≡◌, ◌≤◌, ◌+◌, ◌-◌, ◌==◌, 
 use Rattle.std.specs.Prelude.{min, not, ◌↔◌, ◌⊎◌}
 use Rattle.std.proofs.lemmas.Bool.{eq-eqb, ne_eqb}
 use Rattle.mbe_tt.specs.declared.tt.Delimiter.{Delimiter}
-use Rattle.mbe_tt.specs.Tree.{Forest, none, leaf, group, append, flat_len, rest_at, depth_at, Cut, leaf_before, group_before, cut_flat}
-use Rattle.mbe_tt.specs.Leaf.{Leaf}
-use Rattle.mbe_tt.specs.Tree.{flat}
-use Rattle.mbe_tt.specs.Grammar.{Grammar, IsLawful, front, is_good}
-use Rattle.mbe_tt.specs.Place.{Placed, viewed, place_of, left_at, IsAtRoot}
+use Rattle.mbe_tt.specs.Trees.Tree.{Forest, none, leaf, group, append, flat_len, rest_at, depth_at, Cut, leaf_before, group_before, cut_flat}
+use Rattle.mbe_tt.specs.Trees.Leaf.{Leaf}
+use Rattle.mbe_tt.specs.Trees.Tree.{flat}
+use Rattle.mbe_tt.specs.Fragments.Grammar.{Grammar, IsLawful, front, is_good}
+use Rattle.mbe_tt.specs.Buffers.Place.{Placed, viewed, place_of, left_at, IsAtRoot}
 use Rattle.mbe_tt.specs.declared.grammar.Front.{Front}
 use Rattle.mbe_tt.specs.declared.grammar.PrefixEntryPoint.{PrefixEntryPoint}
-use Rattle.mbe_tt.proofs.CutLemmas.{no_true, cut_flat-append, flat_length, shortest_cut}
-use Rattle.mbe_tt.proofs.PlaceLemmas.{rest_at-append, rest_at-zero, depth_at-zero, depth_at-in_group, depth_at-behind_group}
+use Rattle.mbe_tt.proofs.Places.CutLemmas.{no_true, cut_flat-append, flat_length, shortest_cut}
+use Rattle.mbe_tt.proofs.Places.PlaceLemmas.{rest_at-append, rest_at-zero, depth_at-zero, depth_at-in_group, depth_at-behind_group}
 
 -- ---- groups around a place
 

@@ -2,8 +2,8 @@
 use Rattle.std.specs.Prelude.{◌≡◌, Bool, true, false, IsTrue, if◌then◌else◌, Option, Some, None}
 use Rattle.mbe_semantics.specs.declared.kinds.MetaVarKind.{MetaVarKind}
 use Rattle.mbe_tt.specs.declared.tt.DelimiterKind.{DelimiterKind}
-use Rattle.mbe_tt.specs.Tree.{Forest, none, leaf, group, flat_len, Cut, is_same_kind}
-use Rattle.mbe_tt.specs.Grammar.{Grammar}
+use Rattle.mbe_tt.specs.Trees.Tree.{Forest, none, leaf, group, flat_len, Cut, is_same_kind}
+use Rattle.mbe_tt.specs.Fragments.Grammar.{Grammar}
 use Rattle.mbe_semantics.specs.Syntax.Op as ops
 use Rattle.mbe_semantics.specs.Syntax.Op.{Name, Op, Ops, no_ops, op, has_no_repetition}
 use Rattle.mbe_semantics.specs.Readings.Item.{Item, matched, bound, grouped, Items, no_items, item, style_of}

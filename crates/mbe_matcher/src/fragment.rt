@@ -1,9 +1,9 @@
 // What a grammar counts at the front of trees, rounded up to whole trees.
 ghost use Rattle.std.specs.Prelude.{◌≡◌, ◌≤◌, ◌++◌, codes, IfOk, OnOk, OnErr};
-ghost use Rattle.mbe_tt.specs.Tree.{flat_len, cut_flat};
-ghost use Rattle.mbe_tt.specs.View.{trees};
-ghost use Rattle.mbe_tt.specs.Grammar.{front, is_good};
-ghost use Rattle.mbe_tt.specs.Place.{viewed, place_of};
+ghost use Rattle.mbe_tt.specs.Trees.Tree.{flat_len, cut_flat};
+ghost use Rattle.mbe_tt.specs.Views.View.{trees};
+ghost use Rattle.mbe_tt.specs.Fragments.Grammar.{front, is_good};
+ghost use Rattle.mbe_tt.specs.Buffers.Place.{viewed, place_of};
 ghost use Rattle.mbe_semantics.specs.Expansion.Error.{entry_name, front_error, binding_error};
 ghost use Rattle.mbe_errors.specs.ErrorViews.{error_of, errors_of};
 

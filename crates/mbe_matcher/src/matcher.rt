@@ -1,8 +1,8 @@
 // Matches an argument against a pattern.
 ghost use Rattle.std.specs.Prelude.{◌≡◌, IfOk};
-ghost use Rattle.mbe_tt.specs.Glue.{chars_of};
-ghost use Rattle.mbe_tt.specs.Shown.{ident_of, literal_of};
-ghost use Rattle.mbe_tt.specs.Grammar.{good_front};
+ghost use Rattle.mbe_tt.specs.Trees.Glue.{chars_of};
+ghost use Rattle.mbe_tt.specs.Views.Shown.{ident_of, literal_of};
+ghost use Rattle.mbe_tt.specs.Fragments.Grammar.{good_front};
 ghost use Rattle.mbe_semantics.specs.Readings.Fit.{ident_text_front, literal_text_front, puncts_front};
 ghost use Rattle.mbe_semantics.specs.Syntax.Op.{group};
 ghost use Rattle.mbe_matcher.specs.Matching.{read_front, read_all, HasPassed, HasRead, HasReadAll, IsMatch};

@@ -3,12 +3,12 @@ use Rattle.std.specs.Prelude.{◌≡◌, ◌≤◌, ◌<◌, ◌∷◌, take, �
 use Rattle.std.proofs.Common.{ap, sym, ◌∙◌, arith, subst}
 use Rattle.std.proofs.lemmas.Option.{none-some, same_Some}
 use Rattle.std.proofs.lemmas.Bool.{eq-eqb, ne_eqb}
-use Rattle.mbe_tt.specs.Leaf.{Leaf, Ident, literal, punct, ident, is_underscore}
-use Rattle.mbe_tt.specs.Tree.{Forest, none, leaf, group, append, flat_len, rest_of, skip, front_ident, front_char, front_literal, is_truth, Cut, cut_trees}
-use Rattle.mbe_tt.proofs.CutLemmas.{cut_trees-append}
-use Rattle.mbe_tt.specs.Tree.{first, tree, Tree, Leaf_tree, Group_tree, any_ident}
-use Rattle.mbe_tt.specs.View.{trees}
-use Rattle.mbe_tt.specs.Glue.{glue, glued, joined, if_joint, is_operator, chars_of}
+use Rattle.mbe_tt.specs.Trees.Leaf.{Leaf, Ident, literal, punct, ident, is_underscore}
+use Rattle.mbe_tt.specs.Trees.Tree.{Forest, none, leaf, group, append, flat_len, rest_of, skip, front_ident, front_char, front_literal, is_truth, Cut, cut_trees}
+use Rattle.mbe_tt.proofs.Places.CutLemmas.{cut_trees-append}
+use Rattle.mbe_tt.specs.Trees.Tree.{first, tree, Tree, Leaf_tree, Group_tree, any_ident}
+use Rattle.mbe_tt.specs.Views.View.{trees}
+use Rattle.mbe_tt.specs.Trees.Glue.{glue, glued, joined, if_joint, is_operator, chars_of}
 use Rattle.mbe_tt.specs.declared.tt.Punct.{Punct}
 use Rattle.mbe_tt.specs.declared.view.TokenTreesView.{TokenTreesView}
 use Rattle.mbe_semantics.specs.Fragments.Takes.{ident_front, lifetime_front, unsigned_front, with_leaf, literal_front, tree_front}

@@ -7,7 +7,7 @@ use Rattle.mbe_tt.specs.declared.tt.Punct.{Punct as APunct}
 use Rattle.mbe_tt.specs.declared.tt.Delimiter.{Delimiter}
 use Rattle.mbe_tt.specs.declared.tt.Ident.{Ident as AnIdent}
 use Rattle.mbe_tt.specs.declared.tt.Literal.{Literal as ALiteral}
-use Rattle.mbe_tt.specs.Shown.{literal_of, ident_of}
+use Rattle.mbe_tt.specs.Views.Shown.{literal_of, ident_of}
 use Rattle.mbe_semantics.specs.declared.kinds.MetaVarKind.{MetaVarKind}
 use Rattle.mbe_ops.specs.declared.ops.MetaTemplate.{MetaTemplate, roll-MetaTemplate}
 use Rattle.mbe_semantics.specs.declared.kinds.RepeatKind.{RepeatKind}

@@ -5,10 +5,10 @@ use Rattle.std.specs.Coded.{Coded, coded_list, coded_ℕ, coded⊎}
 use Rattle.std.specs.Cmp.{IsEquivalence}
 use Rattle.std.proofs.Common.{inl, inr}
 use Rattle.std.proofs.lemmas.Cmp.{on_equiv}
-use Rattle.mbe_tt.specs.Same.{same, same_equiv}
+use Rattle.mbe_tt.specs.Laws.Same.{same, same_equiv}
 use Rattle.mbe_ops.specs.declared.ops.Separator as code
 use Rattle.mbe_ops.specs.Views.{separator_seen}
-use Rattle.mbe_tt.specs.Glue.{chars_of}
+use Rattle.mbe_tt.specs.Trees.Glue.{chars_of}
 use Rattle.mbe_semantics.specs.Syntax.Op as ops
 use Rattle.mbe_semantics.specs.Syntax.Op.{Separator, ident_separator, literal_separator, punct_separator, lifetime_separator, Op, Ops, no_ops, op}
 use Rattle.mbe_semantics.specs.Syntax.Definition.{Rule}

@@ -1,8 +1,8 @@
 -- What the code's patterns and templates are, whatever memory holds them.
 use Rattle.std.specs.Prelude.{◌≡◌, List, [], ◌∷◌, map, Option, Some, None, option_map}
-use Rattle.mbe_tt.specs.Shown.{literal_of, ident_of}
-use Rattle.mbe_tt.specs.View.{trees}
-use Rattle.mbe_tt.specs.Tree.{Forest, Cut}
+use Rattle.mbe_tt.specs.Views.Shown.{literal_of, ident_of}
+use Rattle.mbe_tt.specs.Views.View.{trees}
+use Rattle.mbe_tt.specs.Trees.Tree.{Forest, Cut}
 use Rattle.mbe_tt.specs.declared.view.TokenTreesView.{TokenTreesView}
 use Rattle.mbe_ops.specs.declared.ops.Op as code
 use Rattle.mbe_ops.specs.declared.ops.Op.{fold-Op}

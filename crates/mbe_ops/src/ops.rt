@@ -1,6 +1,6 @@
 // What patterns and templates are made of.
 ghost use Rattle.std.specs.Prelude.{◌≡◌, ◌↔◌, IsTrue};
-ghost use Rattle.mbe_tt.specs.Glue.{chars_of};
+ghost use Rattle.mbe_tt.specs.Trees.Glue.{chars_of};
 ghost use Rattle.std.specs.Str.{bytes_eq};
 ghost use Rattle.mbe_ops.specs.Equality.{IsSameSeparator};
 ghost use Rattle.mbe_ops.specs.Views.{separator_seen};

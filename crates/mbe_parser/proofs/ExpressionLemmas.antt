@@ -9,9 +9,9 @@ use Rattle.std.specs.Bool.{Decides}
 use Rattle.std.specs.Result.{OkIff, result_ok}
 use Rattle.std.specs.Str.{all_ascii_digits}
 use Rattle.std.specs.Str.Parse.{AllDigits, ParsesUnsigned, digits_value, without_leading_plus}
-use Rattle.mbe_tt.specs.Leaf.{Ident, Literal, literal, punct, ident, is_underscore}
-use Rattle.mbe_tt.specs.Literals.{is_cut, text_len, is_plain, literal_text, literal_suffix, decimal_value}
-use Rattle.mbe_tt.specs.Tree.{Forest, none, leaf, group, rest_of, front_char, front_ident, front_group, any_ident}
+use Rattle.mbe_tt.specs.Trees.Leaf.{Ident, Literal, literal, punct, ident, is_underscore}
+use Rattle.mbe_tt.specs.Trees.Literals.{is_cut, text_len, is_plain, literal_text, literal_suffix, decimal_value}
+use Rattle.mbe_tt.specs.Trees.Tree.{Forest, none, leaf, group, rest_of, front_char, front_ident, front_group, any_ident}
 use Rattle.mbe_tt.specs.declared.tt.Delimiter.{Delimiter}
 use Rattle.mbe_tt.specs.declared.tt.DelimiterKind.TheVariants.{Parenthesis}
 use Rattle.mbe_semantics.specs.Syntax.Op.{ident_element, literal_element, variable_element}

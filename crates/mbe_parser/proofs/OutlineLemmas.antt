@@ -2,10 +2,10 @@
 use Rattle.std.specs.Prelude.{◌≡◌, ◌<◌, ◌==◌, Bool, true, false, if◌then◌else◌, codes, Some, None, Result, Ok, Err, refl}
 use Rattle.std.proofs.Common.{ap, sym, ◌∙◌, arith}
 use Rattle.std.proofs.lemmas.Option.{none-some}
-use Rattle.mbe_tt.proofs.CutLemmas.{no_true}
+use Rattle.mbe_tt.proofs.Places.CutLemmas.{no_true}
 use Rattle.mbe_tt.specs.declared.tt.Delimiter.{Delimiter}
-use Rattle.mbe_tt.specs.Leaf.{Ident, ident, punct, literal, is_text}
-use Rattle.mbe_tt.specs.Tree.{Forest, none, leaf, group, flat_len, rest_of, front_group}
+use Rattle.mbe_tt.specs.Trees.Leaf.{Ident, ident, punct, literal, is_text}
+use Rattle.mbe_tt.specs.Trees.Tree.{Forest, none, leaf, group, flat_len, rest_of, front_group}
 use Rattle.mbe_semantics.specs.declared.macro_call_style.MacroCallStyle.{MacroCallStyle}
 use Rattle.mbe_semantics.specs.declared.macro_call_style.MacroCallStyle.TheVariants.{FnLike, Attr, Derive}
 use Rattle.mbe_semantics.specs.Syntax.Template.{Fault, expected}

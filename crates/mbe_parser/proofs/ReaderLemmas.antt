@@ -5,9 +5,9 @@ use Rattle.std.proofs.lemmas.Option.{none-some, same_Some}
 use Rattle.std.proofs.lemmas.Bool.{eq-eqb, ne_eqb}
 use Rattle.std.specs.Str.{bytes_eq}
 use Rattle.std.proofs.lemmas.Slice.Eq.{bytes_eq-Decides}
-use Rattle.mbe_tt.specs.Leaf.{Leaf, Ident, punct, is_text}
-use Rattle.mbe_tt.specs.Tree.{Forest, leaf, group, rest_of, skip}
-use Rattle.mbe_tt.specs.Glue.{glue, glued}
+use Rattle.mbe_tt.specs.Trees.Leaf.{Leaf, Ident, punct, is_text}
+use Rattle.mbe_tt.specs.Trees.Tree.{Forest, leaf, group, rest_of, skip}
+use Rattle.mbe_tt.specs.Trees.Glue.{glue, glued}
 use Rattle.mbe_tt.specs.declared.span.SyntaxContext.{SyntaxContext}
 use Rattle.mbe_tt.specs.declared.span.Edition.{Edition}
 use Rattle.mbe_tt.specs.declared.tt.Punct.{Punct}

@@ -6,8 +6,8 @@ use Rattle.std.proofs.lemmas.Option.{none-some, same_Some}
 use Rattle.std.proofs.lemmas.Bool.{eqb-true}
 use Rattle.std.proofs.lemmas.Cmp.{nat_eq_equiv}
 use Rattle.std.proofs.lemmas.Map.Views.{list_any-from_Contains, Contains-from_any}
-use Rattle.mbe_tt.specs.Leaf.{literal, punct, ident}
-use Rattle.mbe_tt.specs.Tree.{Forest, none, leaf, group, rest_of, front_punct, flat_len}
+use Rattle.mbe_tt.specs.Trees.Leaf.{literal, punct, ident}
+use Rattle.mbe_tt.specs.Trees.Tree.{Forest, none, leaf, group, rest_of, front_punct, flat_len}
 use Rattle.mbe_tt.specs.declared.tt.Punct.{Punct}
 use Rattle.mbe_tt.specs.declared.span.SyntaxContext.{SyntaxContext}
 use Rattle.mbe_tt.specs.declared.span.Edition.{Edition}

@@ -3,8 +3,8 @@ use Rattle.std.specs.Prelude.{◌≡◌, ◌<◌, ◌==◌, Bool, true, false, i
 use Rattle.std.proofs.Common.{ap, sym, ◌∙◌, arith}
 use Rattle.std.proofs.lemmas.Option.{none-some, same_Some}
 use Rattle.std.proofs.lemmas.Bool.{ne_eqb, lt-leb}
-use Rattle.mbe_tt.specs.Leaf.{Leaf, Ident, Literal, literal, punct, ident}
-use Rattle.mbe_tt.specs.Tree.{Forest}
+use Rattle.mbe_tt.specs.Trees.Leaf.{Leaf, Ident, Literal, literal, punct, ident}
+use Rattle.mbe_tt.specs.Trees.Tree.{Forest}
 use Rattle.mbe_tt.specs.declared.tt.Punct.{Punct}
 use Rattle.mbe_semantics.specs.Syntax.Op.{Separator, ident_separator, literal_separator, punct_separator, lifetime_separator}
 use Rattle.mbe_semantics.specs.Syntax.Template.{Suffix, suffix_of, separator_of, all_puncts, up_to_three}

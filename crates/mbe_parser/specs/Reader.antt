@@ -1,7 +1,7 @@
 -- What the reader of patterns and templates answers, told by their grammar.
 use Rattle.std.specs.Prelude.{◌≡◌, ℕ, Bool, false, List, [], ◌∷◌, ◌++◌, Option, Some, None, option_map, Result, Ok, Err}
-use Rattle.mbe_tt.specs.Leaf.{Leaf, ident, is_text}
-use Rattle.mbe_tt.specs.Tree.{Forest, none, leaf}
+use Rattle.mbe_tt.specs.Trees.Leaf.{Leaf, ident, is_text}
+use Rattle.mbe_tt.specs.Trees.Tree.{Forest, none, leaf}
 use Rattle.mbe_tt.specs.declared.span.SyntaxContext.{SyntaxContext}
 use Rattle.mbe_tt.specs.declared.span.Edition.{Edition}
 use Rattle.mbe_semantics.specs.declared.kinds.MetaVarKind.{MetaVarKind}

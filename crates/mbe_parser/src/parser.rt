@@ -1,9 +1,9 @@
 // Reads patterns and templates into ops.
 ghost use Rattle.std.specs.Prelude.{◌≡◌, ◌<◌, ◌≤◌, [], ◌∷◌, codes, option_map, Some, Ok, Err, IfOk, IfErr, IfSome, IfNone, OnOk};
-ghost use Rattle.mbe_tt.specs.Tree.{Forest, flat_len, first, is_truth, leaf as leaf_before};
-ghost use Rattle.mbe_tt.specs.Leaf.{ident as ident_leaf, punct as punct_leaf};
-ghost use Rattle.mbe_tt.specs.Element.{element_tree};
-ghost use Rattle.mbe_tt.specs.Shown.{ident_of, literal_of, leaf_of};
+ghost use Rattle.mbe_tt.specs.Trees.Tree.{Forest, flat_len, first, is_truth, leaf as leaf_before};
+ghost use Rattle.mbe_tt.specs.Trees.Leaf.{ident as ident_leaf, punct as punct_leaf};
+ghost use Rattle.mbe_tt.specs.Views.Element.{element_tree};
+ghost use Rattle.mbe_tt.specs.Views.Shown.{ident_of, literal_of, leaf_of};
 ghost use Rattle.mbe_tt.specs.declared.span.Span.{Span as SpecSpan};
 ghost use Rattle.mbe_tt.specs.declared.span.Edition.{Edition as SpecEdition};
 ghost use Rattle.mbe_tt.specs.declared.tt.IdentIsRaw.TheVariants.{No};

@@ -1,6 +1,6 @@
 // Reads the rules of definitions.
 ghost use Rattle.std.specs.Prelude.{◌≡◌, ◌<◌, IfOk, IfErr, OnOk, if◌then◌else◌};
-ghost use Rattle.mbe_tt.specs.Tree.{Forest, flat_len, rest_of};
+ghost use Rattle.mbe_tt.specs.Trees.Tree.{Forest, flat_len, rest_of};
 ghost use Rattle.mbe_semantics.specs.Syntax.Definition.{outline_at, pattern_at, AreParts, PartsFault};
 ghost use Rattle.mbe_errors.specs.ErrorViews.{fault_of};
 ghost use Rattle.mbe_parser.specs.Reader.{is_word, IsStyled, IsOutlined, ReadsRule, RuleFault, AreRules, IsOneRule, Stops};

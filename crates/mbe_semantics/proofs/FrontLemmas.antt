@@ -1,6 +1,6 @@
 -- What is read is cut from the front of the trees.
-use Rattle.mbe_tt.specs.Laws.{IsCut}
-use Rattle.mbe_tt.proofs.CutLemmas.{cut_trees-append, no_cut, if_cut, good_cut}
+use Rattle.mbe_tt.specs.Laws.TreeLaws.{IsCut}
+use Rattle.mbe_tt.proofs.Places.CutLemmas.{cut_trees-append, no_cut, if_cut, good_cut}
 use Rattle.std.specs.Prelude.{codes, ◌≡◌, ◌==◌, ◌&&◌, ◌||◌, ℕ, Bool, true, false, if◌then◌else◌, List, [], ◌∷◌, length, Option, Some, None, refl}
 use Rattle.std.proofs.Common.{subst}
 use Rattle.std.specs.Str.{bytes_eq}
@@ -8,13 +8,13 @@ use Rattle.std.proofs.lemmas.Option.{same_Some}
 use Rattle.mbe_semantics.specs.declared.kinds.MetaVarKind.{MetaVarKind}
 use Rattle.mbe_semantics.specs.declared.kinds.MetaVarKind.TheVariants as kinds
 use Rattle.mbe_tt.specs.declared.grammar.PrefixEntryPoint.TheVariants as entries
-use Rattle.mbe_tt.specs.Leaf.{ident, literal, punct}
-use Rattle.mbe_tt.specs.Tree.{Forest, none, leaf, group, Cut, cut, cut_trees, is_truth}
-use Rattle.mbe_tt.specs.Glue.{glue, chars_of}
+use Rattle.mbe_tt.specs.Trees.Leaf.{ident, literal, punct}
+use Rattle.mbe_tt.specs.Trees.Tree.{Forest, none, leaf, group, Cut, cut, cut_trees, is_truth}
+use Rattle.mbe_tt.specs.Trees.Glue.{glue, chars_of}
 use Rattle.mbe_semantics.specs.Syntax.Op as ops
 use Rattle.mbe_semantics.specs.Syntax.Op.{Op, Ops, no_ops, op}
-use Rattle.mbe_tt.specs.Grammar.{Grammar, good_front}
-use Rattle.mbe_tt.specs.Leaf.{is_text, is_underscore}
+use Rattle.mbe_tt.specs.Fragments.Grammar.{Grammar, good_front}
+use Rattle.mbe_tt.specs.Trees.Leaf.{is_text, is_underscore}
 use Rattle.mbe_semantics.specs.Fragments.Takes.{takes, ident_front, lifetime_front, unsigned_front, literal_front, tree_front, with_leaf, begins_refused}
 use Rattle.mbe_semantics.specs.Readings.Fit.{token_front, literal_text_front, ident_text_front, puncts_front, lifetime_text_front, literal_separator_front, between_front}
 

@@ -4,10 +4,10 @@ use Rattle.std.proofs.Common.{arith, ap, ◌∙◌, leb-false, ltb-true}
 use Rattle.std.proofs.lemmas.Option.{none-some, same_Some}
 use Rattle.mbe_semantics.specs.declared.kinds.MetaVarKind.{MetaVarKind}
 use Rattle.mbe_tt.specs.declared.tt.DelimiterKind.{DelimiterKind}
-use Rattle.mbe_tt.specs.Tree.{Forest, none, leaf, group, flat_len, Cut, rest_at}
-use Rattle.mbe_tt.specs.Laws.{IsCut}
-use Rattle.mbe_tt.specs.Grammar.{Grammar, IsLawful}
-use Rattle.mbe_tt.proofs.CutLemmas.{no_true, both_left, flat_len-append}
+use Rattle.mbe_tt.specs.Trees.Tree.{Forest, none, leaf, group, flat_len, Cut, rest_at}
+use Rattle.mbe_tt.specs.Laws.TreeLaws.{IsCut}
+use Rattle.mbe_tt.specs.Fragments.Grammar.{Grammar, IsLawful}
+use Rattle.mbe_tt.proofs.Places.CutLemmas.{no_true, both_left, flat_len-append}
 use Rattle.mbe_semantics.specs.Syntax.Op.{Token, Separator}
 use Rattle.mbe_semantics.specs.Syntax.Nullable.{is_vis}
 use Rattle.mbe_semantics.specs.Readings.Item.{Fragment, style_of}

@@ -8,11 +8,11 @@ use Rattle.mbe_semantics.specs.declared.kinds.MetaVarKind.TheVariants as kinds
 use Rattle.mbe_tt.specs.declared.tt.Punct.{Punct}
 use Rattle.mbe_tt.specs.declared.grammar.PrefixEntryPoint.{PrefixEntryPoint}
 use Rattle.mbe_tt.specs.declared.grammar.PrefixEntryPoint.TheVariants as entries
-use Rattle.mbe_tt.specs.Leaf.{Leaf, ident, literal, punct, is_text, is_underscore}
-use Rattle.mbe_tt.specs.Tree.{Forest, none, leaf, group, flat, flat_len, Cut, cut_trees, is_truth}
-use Rattle.mbe_tt.specs.Glue.{glue, chars_of, if_joint, joined, longest_operator, is_operator}
-use Rattle.mbe_tt.specs.Grammar.{Grammar, IsLawful, front, is_good, good_front}
-use Rattle.mbe_tt.proofs.CutLemmas.{no_cut, if_moves, no_true, both_left, both_right}
+use Rattle.mbe_tt.specs.Trees.Leaf.{Leaf, ident, literal, punct, is_text, is_underscore}
+use Rattle.mbe_tt.specs.Trees.Tree.{Forest, none, leaf, group, flat, flat_len, Cut, cut_trees, is_truth}
+use Rattle.mbe_tt.specs.Trees.Glue.{glue, chars_of, if_joint, joined, longest_operator, is_operator}
+use Rattle.mbe_tt.specs.Fragments.Grammar.{Grammar, IsLawful, front, is_good, good_front}
+use Rattle.mbe_tt.proofs.Places.CutLemmas.{no_cut, if_moves, no_true, both_left, both_right}
 use Rattle.mbe_semantics.specs.Syntax.Op as ops
 use Rattle.mbe_semantics.specs.Syntax.Nullable.{is_vis}
 use Rattle.mbe_semantics.specs.Fragments.Takes.{takes, ident_front, lifetime_front, unsigned_front, literal_front, tree_front, with_leaf, begins_refused}

@@ -3,8 +3,8 @@ use Rattle.std.proofs.Common.{ℕ, zero, suc, ◌+◌, ◌≡◌, ◌⊎◌, ◌
 use Rattle.std.specs.Prelude.{IsTrue}
 use Rattle.std.proofs.lemmas.Option.{none-some}
 use Rattle.mbe_semantics.specs.declared.kinds.RepeatKind.{RepeatKind}
-use Rattle.mbe_tt.specs.Tree.{flat_len}
-use Rattle.mbe_tt.proofs.CutLemmas.{no_true, both_left, both_right}
+use Rattle.mbe_tt.specs.Trees.Tree.{flat_len}
+use Rattle.mbe_tt.proofs.Places.CutLemmas.{no_true, both_left, both_right}
 use Rattle.mbe_semantics.specs.Syntax.Op.{Separator, Op, token, group, variable, repetition, expression, Ops, no_ops, op, op_has_no_repetition, has_no_repetition}
 use Rattle.mbe_semantics.specs.Readings.Item.{Item, Items, no_items, item, Rounds, item_width, items_width}
 use Rattle.mbe_semantics.specs.Readings.Input.{Input, input_of}

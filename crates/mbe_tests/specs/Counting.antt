@@ -2,7 +2,7 @@
 use Rattle.std.specs.Prelude.{◌≡◌, ◌≤◌, ℕ, Bool, true, false, ◌||◌, ◌&&◌, nat_lt, ◌==◌, min, if◌then◌else◌, length, refl}
 use Rattle.std.proofs.Common.{arith, ap, sym, ◌∙◌, true≢false, zero-le}
 use Rattle.std.proofs.lemmas.Bool.{ltb-false}
-use Rattle.mbe_tt.specs.Grammar.{Grammar, IsLawful}
+use Rattle.mbe_tt.specs.Fragments.Grammar.{Grammar, IsLawful}
 use Rattle.mbe_tt.specs.declared.grammar.Front.{Front}
 use Rattle.mbe_tt.specs.declared.grammar.PrefixEntryPoint.{PrefixEntryPoint}
 use Rattle.mbe_tt.specs.declared.grammar.PrefixEntryPoint.TheVariants.{Path, Expr, Ty, PatTop, Pat, Stmt, Block, MetaItem, Item, Vis}

@@ -7,8 +7,8 @@ use Rattle.std.specs.Option.{option_or}
 use Rattle.std.specs.List.{list_all}
 use Rattle.unicode_ident.specs.Ident.{is_xid_start, is_xid_continue}
 use Rattle.mbe_tt.specs.declared.span.Span.{Span}
-use Rattle.mbe_tt.specs.Building.{Levels}
-use Rattle.mbe_tt.specs.Grammar.{Grammar}
+use Rattle.mbe_tt.specs.Buffers.Building.{Levels}
+use Rattle.mbe_tt.specs.Fragments.Grammar.{Grammar}
 use Rattle.mbe_semantics.specs.Syntax.Op.{Element}
 use Rattle.mbe_semantics.specs.Bindings.Environment.{Environment}
 use Rattle.mbe_semantics.specs.Writing.Rounds.{Path}

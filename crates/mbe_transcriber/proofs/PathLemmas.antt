@@ -2,9 +2,9 @@
 use Rattle.std.proofs.Common.{◌≡◌, Bool, true, false, Option, Some, None, refl, ap, sym, ◌∙◌}
 use Rattle.std.specs.Prelude.{not, ◌||◌, ◌&&◌, ◌==◌, if◌then◌else◌, is_none, option_map}
 use Rattle.mbe_tt.specs.declared.span.Span.{Span}
-use Rattle.mbe_tt.specs.Leaf.{literal, ident, punct}
-use Rattle.mbe_tt.specs.Tree.{Forest, none, leaf, group, append, Tree, Leaf_tree, Group_tree, tree, first, rest_of}
-use Rattle.mbe_tt.specs.Building.{Levels, put}
+use Rattle.mbe_tt.specs.Trees.Leaf.{literal, ident, punct}
+use Rattle.mbe_tt.specs.Trees.Tree.{Forest, none, leaf, group, append, Tree, Leaf_tree, Group_tree, tree, first, rest_of}
+use Rattle.mbe_tt.specs.Buffers.Building.{Levels, put}
 use Rattle.mbe_semantics.specs.Writing.Written.{is_invisible, needs_parentheses, path_trees, double_colon, is_ident, stands_before_less}
 use Rattle.mbe_transcriber.proofs.WritingLemmas.{put-none, put-put, put_both}
 

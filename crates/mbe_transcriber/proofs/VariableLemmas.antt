@@ -3,9 +3,9 @@ use Rattle.std.proofs.Common.{◌≡◌, ◌∷◌, Bool, true, false, Option, S
 use Rattle.std.specs.Prelude.{Result, Ok, Err, OnOk, not, is_none, if◌then◌else◌, option_and_then}
 use Rattle.mbe_tt.specs.declared.span.Span.{Span}
 use Rattle.mbe_tt.specs.declared.tt.DelimiterKind.TheVariants.{Parenthesis}
-use Rattle.mbe_tt.specs.Grammar.{Grammar}
-use Rattle.mbe_tt.specs.Tree.{Forest, none, alone, strip_invisible}
-use Rattle.mbe_tt.specs.Building.{Levels, put, closed}
+use Rattle.mbe_tt.specs.Fragments.Grammar.{Grammar}
+use Rattle.mbe_tt.specs.Trees.Tree.{Forest, none, alone, strip_invisible}
+use Rattle.mbe_tt.specs.Buffers.Building.{Levels, put, closed}
 use Rattle.mbe_semantics.specs.declared.kinds.MetaVarKind.{MetaVarKind}
 use Rattle.mbe_semantics.specs.declared.kinds.MetaVarKind.TheVariants as kinds
 use Rattle.mbe_log.specs.declared.fragment.TokensOrigin.{TokensOrigin}

@@ -5,11 +5,11 @@ use Rattle.std.proofs.lemmas.List.{drop_more, drop_all}
 use Rattle.mbe_tt.specs.declared.span.Span.{Span}
 use Rattle.mbe_tt.specs.declared.tt.Punct.{Punct}
 use Rattle.mbe_tt.specs.declared.tt.Delimiter.{Delimiter}
-use Rattle.mbe_tt.specs.Leaf.{Leaf, punct}
-use Rattle.mbe_tt.specs.Tree.{Forest, none, leaf, append, one_leaf}
-use Rattle.mbe_tt.specs.Entries.{append-none}
-use Rattle.mbe_tt.specs.Building.{Levels, put}
-use Rattle.mbe_tt.proofs.PlaceLemmas.{append-assoc}
+use Rattle.mbe_tt.specs.Trees.Leaf.{Leaf, punct}
+use Rattle.mbe_tt.specs.Trees.Tree.{Forest, none, leaf, append, one_leaf}
+use Rattle.mbe_tt.specs.Views.Entries.{append-none}
+use Rattle.mbe_tt.specs.Buffers.Building.{Levels, put}
+use Rattle.mbe_tt.proofs.Places.PlaceLemmas.{append-assoc}
 use Rattle.mbe_semantics.specs.Writing.Substitution.{punct_trees}
 use Rattle.mbe_transcriber.specs.Writing.{Appends, AreMarked}
 

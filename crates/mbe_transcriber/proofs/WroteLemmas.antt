@@ -6,13 +6,13 @@ use Rattle.mbe_tt.specs.declared.tt.Punct.{Punct}
 use Rattle.mbe_tt.specs.declared.tt.Delimiter.{Delimiter}
 use Rattle.mbe_tt.specs.declared.tt.DelimiterKind.TheVariants.{Invisible}
 use Rattle.mbe_tt.specs.declared.tt.IdentIsRaw.{IdentIsRaw}
-use Rattle.mbe_tt.specs.Leaf.{Literal, Ident, literal, ident}
-use Rattle.mbe_tt.specs.Grammar.{Grammar}
-use Rattle.mbe_tt.specs.Tree as tree
-use Rattle.mbe_tt.specs.Tree.{Forest, none, leaf, append, one_leaf}
-use Rattle.mbe_tt.specs.Top.{Top, top_group}
-use Rattle.mbe_tt.specs.Building.{Levels, put, closed}
-use Rattle.mbe_tt.proofs.Built.{length-put}
+use Rattle.mbe_tt.specs.Trees.Leaf.{Literal, Ident, literal, ident}
+use Rattle.mbe_tt.specs.Fragments.Grammar.{Grammar}
+use Rattle.mbe_tt.specs.Trees.Tree as tree
+use Rattle.mbe_tt.specs.Trees.Tree.{Forest, none, leaf, append, one_leaf}
+use Rattle.mbe_tt.specs.Trees.Top.{Top, top_group}
+use Rattle.mbe_tt.specs.Buffers.Building.{Levels, put, closed}
+use Rattle.mbe_tt.proofs.Buffers.Built.{length-put}
 use Rattle.mbe_semantics.specs.declared.kinds.MetaVarKind.{MetaVarKind}
 use Rattle.mbe_semantics.specs.declared.kinds.RepeatKind.{RepeatKind}
 use Rattle.mbe_semantics.specs.Syntax.Op as ops

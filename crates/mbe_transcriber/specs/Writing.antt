@@ -2,10 +2,10 @@
 use Rattle.std.specs.Prelude.{◌≡◌, ℕ, Bool, true, false, List, length, Option, Some, None}
 use Rattle.mbe_tt.specs.declared.span.Span.{Span}
 use Rattle.mbe_tt.specs.declared.tt.Punct.{Punct}
-use Rattle.mbe_tt.specs.Leaf.{Literal, Ident}
-use Rattle.mbe_tt.specs.Grammar.{Grammar}
-use Rattle.mbe_tt.specs.Tree.{Forest, alone, strip_invisible}
-use Rattle.mbe_tt.specs.Building.{Levels, put}
+use Rattle.mbe_tt.specs.Trees.Leaf.{Literal, Ident}
+use Rattle.mbe_tt.specs.Fragments.Grammar.{Grammar}
+use Rattle.mbe_tt.specs.Trees.Tree.{Forest, alone, strip_invisible}
+use Rattle.mbe_tt.specs.Buffers.Building.{Levels, put}
 use Rattle.mbe_semantics.specs.Syntax.Op.{Name, Separator, Op, Ops}
 use Rattle.mbe_semantics.specs.Readings.Item.{Style, stripped}
 use Rattle.mbe_semantics.specs.Bindings.Environment.{Environment, value_of}

@@ -1,8 +1,8 @@
 // Writes a template with its variables replaced.
 ghost use Rattle.std.specs.Prelude.{◌≡◌, ◌<◌, Some, false, [], is_some, length, option_map, IfOk, OnOk};
-ghost use Rattle.mbe_tt.specs.Building.{put};
-ghost use Rattle.mbe_tt.specs.Shown.{literal_of, ident_of};
-ghost use Rattle.mbe_tt.specs.Top.{top_group};
+ghost use Rattle.mbe_tt.specs.Buffers.Building.{put};
+ghost use Rattle.mbe_tt.specs.Views.Shown.{literal_of, ident_of};
+ghost use Rattle.mbe_tt.specs.Trees.Top.{top_group};
 ghost use Rattle.mbe_errors.specs.ErrorViews.{errors_of};
 ghost use Rattle.mbe_semantics.specs.Laws.Marking.{MayMark};
 ghost use Rattle.mbe_semantics.specs.Syntax.Op.{repetition, lifetime_separator};

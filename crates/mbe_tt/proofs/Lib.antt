@@ -1,11 +1,8 @@
-pub mod Spelled
-pub mod Built
-pub mod Placed
+pub mod Buffers
+pub mod Places
+pub mod Glue
 mod Seen
 mod Last
 mod Grown
 mod Unwrapped
-pub mod CutLemmas
-pub mod PlaceLemmas
 mod GlueLemmas
-pub mod OpenGroups

@@ -1,8 +1,8 @@
 // A flat buffer that holds one group. The names follow rust-analyzer's `tt`; what the calls answer is the project's own.
 ghost use Rattle.std.specs.Prelude.{◌≡◌, IfOk};
-ghost use Rattle.mbe_tt.specs.Tree.{none};
-ghost use Rattle.mbe_tt.specs.Top.{top_code};
-ghost use Rattle.mbe_tt.specs.Same.{same, same_equiv};
+ghost use Rattle.mbe_tt.specs.Trees.Tree.{none};
+ghost use Rattle.mbe_tt.specs.Trees.Top.{top_code};
+ghost use Rattle.mbe_tt.specs.Laws.Same.{same, same_equiv};
 ghost use Rattle.std.specs.Cmp.{partial_equiv_from_equiv};
 
 use crate::builder::TopSubtreeBuilder;
@@ -24,9 +24,9 @@ pub struct TopSubtree<A: Allocator = Global> {
 
 impl<A: Allocator> Model for TopSubtree<A> {
     ghost use Rattle.std.specs.Prelude.{◌≡◌};
-    ghost use Rattle.mbe_tt.specs.Entries.{forest_of, spell};
-    ghost use Rattle.mbe_tt.specs.Shown.{entries_of};
-    ghost use Rattle.mbe_tt.specs.Top.{Top, top_of, top_group, top_code};
+    ghost use Rattle.mbe_tt.specs.Views.Entries.{forest_of, spell};
+    ghost use Rattle.mbe_tt.specs.Views.Shown.{entries_of};
+    ghost use Rattle.mbe_tt.specs.Trees.Top.{Top, top_of, top_group, top_code};
 
     ghost Value = { Top };
 
@@ -38,8 +38,8 @@ impl<A: Allocator> Model for TopSubtree<A> {
 }
 
 impl<A: Allocator> TopSubtree<A> {
-    ghost use Rattle.mbe_tt.specs.View.{trees};
-    ghost use Rattle.mbe_tt.specs.Top.{top_group, delimiter_of, inside};
+    ghost use Rattle.mbe_tt.specs.Views.View.{trees};
+    ghost use Rattle.mbe_tt.specs.Trees.Top.{top_group, delimiter_of, inside};
     ghost use Rattle.mbe_tt.specs.declared.tt.DelimiterKind.TheVariants.{Invisible};
 
     /// An empty invisible group with those spans. `AllocError` for want of memory.

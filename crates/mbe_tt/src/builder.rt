@@ -1,14 +1,14 @@
 // Writing a buffer, group by group. The names follow rust-analyzer's `tt`; what the calls answer is the project's own.
 ghost use Rattle.std.specs.Prelude.{◌≡◌, ℕ, ◌+◌, ◌<◌, ◌≤◌, List, [], ◌∷◌, ◌++◌, length, slice_set, vec_capacity, IfOk, IfSome, IfNone, OnOk, OnErr};
-ghost use Rattle.mbe_tt.specs.OpensAt.{OpensAt};
-ghost use Rattle.mbe_tt.specs.Entry.{Entry as FlatEntry, Open, Close};
-ghost use Rattle.mbe_tt.specs.Shown.{entries_of, entry_of, leaf_of, leaves_of};
+ghost use Rattle.mbe_tt.specs.Buffers.OpensAt.{OpensAt};
+ghost use Rattle.mbe_tt.specs.Views.Entry.{Entry as FlatEntry, Open, Close};
+ghost use Rattle.mbe_tt.specs.Views.Shown.{entries_of, entry_of, leaf_of, leaves_of};
 ghost use Rattle.mbe_tt.specs.declared.tt.Subtree.{Subtree};
-ghost use Rattle.mbe_tt.specs.Tree.{Forest, none, one_leaf, alone};
-ghost use Rattle.mbe_tt.specs.Tree as spec;
-ghost use Rattle.mbe_tt.specs.Entry as flat;
-ghost use Rattle.mbe_tt.specs.Entries.{Spelled, forest_of};
-ghost use Rattle.mbe_tt.specs.Element.{element_tree};
+ghost use Rattle.mbe_tt.specs.Trees.Tree.{Forest, none, one_leaf, alone};
+ghost use Rattle.mbe_tt.specs.Trees.Tree as spec;
+ghost use Rattle.mbe_tt.specs.Views.Entry as flat;
+ghost use Rattle.mbe_tt.specs.Views.Entries.{Spelled, forest_of};
+ghost use Rattle.mbe_tt.specs.Views.Element.{element_tree};
 ghost use Rattle.std.specs.Iterator.{Drains, IsFinite};
 ghost use Rattle.std.specs.Prelude.{take, drop, ◌-◌, Some, None, if◌then◌else◌};
 
@@ -36,8 +36,8 @@ pub struct TopSubtreeBuilder<A: Allocator = Global> {
 
 impl<A: Allocator> Model for TopSubtreeBuilder<A> {
     ghost use Rattle.std.specs.Prelude.{vec_capacity};
-    ghost use Rattle.mbe_tt.specs.Building.{Levels, levels_of, levels_code, IsBuilding};
-    ghost use Rattle.mbe_tt.specs.Shown.{entries_of};
+    ghost use Rattle.mbe_tt.specs.Buffers.Building.{Levels, levels_of, levels_code, IsBuilding};
+    ghost use Rattle.mbe_tt.specs.Views.Shown.{entries_of};
 
     ghost Value = { Levels };
 
@@ -49,8 +49,8 @@ impl<A: Allocator> Model for TopSubtreeBuilder<A> {
 }
 
 impl<A: Allocator> TopSubtreeBuilder<A> {
-    ghost use Rattle.mbe_tt.specs.Building.{Levels, kind_inside, put, closed, flat_written, unwrap_last, IsEarlier};
-    ghost use Rattle.mbe_tt.specs.View.{trees};
+    ghost use Rattle.mbe_tt.specs.Buffers.Building.{Levels, kind_inside, put, closed, flat_written, unwrap_last, IsEarlier};
+    ghost use Rattle.mbe_tt.specs.Views.View.{trees};
 
     /// A builder with one open group, the whole. `AllocError` for want of memory.
     pub fn new(alloc: A, delimiter: Delimiter) -> Result<TopSubtreeBuilder<A>, AllocError>

@@ -1,10 +1,10 @@
 // A walk over the flat tokens of a view. The names follow rust-analyzer's `tt`; what the calls answer is the project's
 // own.
 ghost use Rattle.std.specs.Prelude.{◌≡◌, ◌↔◌, ℕ, ◌+◌, min, [], IsTrue, length, option_map, ◌<◌, ◌^◌};
-ghost use Rattle.mbe_tt.specs.Tree.{Forest, append, first, flat_len, rest_at};
-ghost use Rattle.mbe_tt.specs.Element.{element_tree};
-ghost use Rattle.mbe_tt.specs.Shown.{entries_of, entry_of};
-ghost use Rattle.mbe_tt.specs.Place.{Rests, spell_rests, DepthAfter, viewed, place_of, left_at, IsAtRoot};
+ghost use Rattle.mbe_tt.specs.Trees.Tree.{Forest, append, first, flat_len, rest_at};
+ghost use Rattle.mbe_tt.specs.Views.Element.{element_tree};
+ghost use Rattle.mbe_tt.specs.Views.Shown.{entries_of, entry_of};
+ghost use Rattle.mbe_tt.specs.Buffers.Place.{Rests, spell_rests, DepthAfter, viewed, place_of, left_at, IsAtRoot};
 
 use crate::entry::Entry;
 use crate::iter::{TtElement, TtIter};
@@ -24,9 +24,9 @@ pub struct Cursor<'a, A: Allocator = Global> {
 }
 
 impl<'a, A: Allocator> Model for Cursor<'a, A> {
-    ghost use Rattle.mbe_tt.specs.Entries.{forest_of};
-    ghost use Rattle.mbe_tt.specs.Shown.{entries_of};
-    ghost use Rattle.mbe_tt.specs.Place.{Placed, placed_code, IsPlaced};
+    ghost use Rattle.mbe_tt.specs.Views.Entries.{forest_of};
+    ghost use Rattle.mbe_tt.specs.Views.Shown.{entries_of};
+    ghost use Rattle.mbe_tt.specs.Buffers.Place.{Placed, placed_code, IsPlaced};
 
     ghost Value = { Placed };
 
@@ -38,7 +38,7 @@ impl<'a, A: Allocator> Model for Cursor<'a, A> {
 }
 
 impl<'a, A: Allocator> TokenTreesView<'a, A> {
-    ghost use Rattle.mbe_tt.specs.View.{trees};
+    ghost use Rattle.mbe_tt.specs.Views.View.{trees};
 
     /// A cursor before the first tree.
     pub fn cursor(&self) -> Cursor<'a, A>
@@ -53,7 +53,7 @@ impl<'a, A: Allocator> TokenTreesView<'a, A> {
 }
 
 impl<'a, A: Allocator> Cursor<'a, A> {
-    ghost use Rattle.mbe_tt.specs.View.{trees};
+    ghost use Rattle.mbe_tt.specs.Views.View.{trees};
 
     /// Whether it stands in no group of the view.
     pub fn is_root(&self) -> bool

@@ -1,6 +1,6 @@
 // An entry of a flat buffer, which spells one flat token.
 ghost use Rattle.std.specs.Prelude.{◌≡◌, ◌↔◌, IsTrue};
-ghost use Rattle.mbe_tt.specs.Shown.{entry_of, entries_of};
+ghost use Rattle.mbe_tt.specs.Views.Shown.{entry_of, entries_of};
 ghost use Rattle.std.specs.Cmp.{partial_equiv_from_equiv};
 
 use crate::tt::{Leaf, Subtree, same_leaf};
@@ -28,7 +28,7 @@ impl<A: Allocator> Clone for Entry<A> {
 }
 
 impl<A: Allocator> PartialEq for Entry<A> {
-    ghost use Rattle.mbe_tt.specs.Shown.{entry_eq, entry_eq_laws};
+    ghost use Rattle.mbe_tt.specs.Views.Shown.{entry_eq, entry_eq_laws};
 
     ghost eq = { entry_eq };
 
@@ -40,7 +40,7 @@ impl<A: Allocator> PartialEq for Entry<A> {
 }
 
 impl<A: Allocator> Eq for Entry<A> {
-    ghost use Rattle.mbe_tt.specs.Shown.{entry_eq_laws};
+    ghost use Rattle.mbe_tt.specs.Views.Shown.{entry_eq_laws};
 
     ghost laws = { entry_eq_laws };
 }

@@ -32,9 +32,9 @@ pub struct Front {
 /// An implementation says by its ghost member `grammar` what it answers, and proves that this is lawful: it counts no
 /// more flat tokens than there are, and takes nothing without a fault for `Vis` alone.
 pub trait FragmentGrammar {
-    ghost use Rattle.mbe_tt.specs.Tree.{flat};
-    ghost use Rattle.mbe_tt.specs.View.{trees};
-    ghost use Rattle.mbe_tt.specs.Grammar.{Grammar, IsLawful};
+    ghost use Rattle.mbe_tt.specs.Trees.Tree.{flat};
+    ghost use Rattle.mbe_tt.specs.Views.View.{trees};
+    ghost use Rattle.mbe_tt.specs.Fragments.Grammar.{Grammar, IsLawful};
 
     ghost grammar: { Self → Grammar };
 

@@ -2,11 +2,11 @@
 // project's own.
 ghost use Rattle.std.specs.Prelude.{◌≡◌, ◌↔◌, IsTrue, option_map, length, [], ◌∷◌, IsOk, is_ok, is_some, OnSome, if◌then◌else◌, Some, None, ⊤};
 ghost use Rattle.std.specs.Result.{result_ok};
-ghost use Rattle.mbe_tt.specs.Tree.{Forest, none, group, tree, append, first, rest_of, front_char, front_punct, front_ident, front_group, front_leaf, front_literal, literal_leaf, any_ident, first_span, skip};
-ghost use Rattle.mbe_tt.specs.Entries.{forest_of, Spelled};
-ghost use Rattle.mbe_tt.specs.Glue.{glue, glued, is_operator, joined_punct, third_punct};
-ghost use Rattle.mbe_tt.specs.Entry.{Open};
-ghost use Rattle.mbe_tt.specs.Shown.{entries_of, ident_of, leaf_of};
+ghost use Rattle.mbe_tt.specs.Trees.Tree.{Forest, none, group, tree, append, first, rest_of, front_char, front_punct, front_ident, front_group, front_leaf, front_literal, literal_leaf, any_ident, first_span, skip};
+ghost use Rattle.mbe_tt.specs.Views.Entries.{forest_of, Spelled};
+ghost use Rattle.mbe_tt.specs.Trees.Glue.{glue, glued, is_operator, joined_punct, third_punct};
+ghost use Rattle.mbe_tt.specs.Views.Entry.{Open};
+ghost use Rattle.mbe_tt.specs.Views.Shown.{entries_of, ident_of, leaf_of};
 ghost use Rattle.std.specs.List.{Contains};
 ghost use Rattle.std.specs.Iterator.{YieldsFirstBy, item_count};
 ghost use Rattle.mbe_tt.specs.declared.tt.Punct.{Punct as SpecPunct};
@@ -31,9 +31,9 @@ pub struct TtIter<'a, A: Allocator = Global> {
 
 impl<'a, A: Allocator> Model for TtIter<'a, A> {
     ghost use Rattle.std.specs.Prelude.{◌≡◌};
-    ghost use Rattle.mbe_tt.specs.Tree.{Forest};
-    ghost use Rattle.mbe_tt.specs.Entries.{forest_of, spell, forest_code};
-    ghost use Rattle.mbe_tt.specs.Shown.{entries_of};
+    ghost use Rattle.mbe_tt.specs.Trees.Tree.{Forest};
+    ghost use Rattle.mbe_tt.specs.Views.Entries.{forest_of, spell, forest_code};
+    ghost use Rattle.mbe_tt.specs.Views.Shown.{entries_of};
 
     ghost Value = { Forest };
 
@@ -73,9 +73,9 @@ pub(crate) fn content_and_rest<'a, A: Allocator>(
 }
 
 impl<'a, A: Allocator> TtIter<'a, A> {
-    ghost use Rattle.mbe_tt.specs.View.{trees};
-    ghost use Rattle.mbe_tt.specs.Element.{element_tree};
-    ghost use Rattle.mbe_tt.specs.Savepoint.{saved};
+    ghost use Rattle.mbe_tt.specs.Views.View.{trees};
+    ghost use Rattle.mbe_tt.specs.Views.Element.{element_tree};
+    ghost use Rattle.mbe_tt.specs.Views.Savepoint.{saved};
 
     /// Whether no tree is left.
     pub fn is_empty(&self) -> bool
@@ -332,8 +332,8 @@ impl<'a, A: Allocator> TtIter<'a, A> {
 
 /// Each tree comes once, in order, and the iterator ends.
 impl<'a, A: Allocator> Iterator for TtIter<'a, A> {
-    ghost use Rattle.mbe_tt.specs.Tree.{each_tree};
-    ghost use Rattle.mbe_tt.specs.Element.{element_tree};
+    ghost use Rattle.mbe_tt.specs.Trees.Tree.{each_tree};
+    ghost use Rattle.mbe_tt.specs.Views.Element.{element_tree};
 
     type Item = TtElement<'a, A>;
 
@@ -347,7 +347,7 @@ impl<'a, A: Allocator> Iterator for TtIter<'a, A> {
 }
 
 impl<'a, A: Allocator> TtElement<'a, A> {
-    ghost use Rattle.mbe_tt.specs.Element.{element_tree};
+    ghost use Rattle.mbe_tt.specs.Views.Element.{element_tree};
 
     /// Where the tree begins: a leaf's span, or where a group opens.
     pub fn first_span(&self) -> Span

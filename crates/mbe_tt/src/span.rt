@@ -45,7 +45,7 @@ pub enum Edition {
 }
 
 impl Edition {
-    ghost use Rattle.mbe_tt.specs.Editions as spec;
+    ghost use Rattle.mbe_tt.specs.Trees.Editions as spec;
 
     /// Whether it is the edition of 2021 or a later one.
     pub fn at_least_2021(self) -> bool

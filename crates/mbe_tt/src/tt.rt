@@ -1,7 +1,7 @@
 // Token trees: leaves, and the delimiters of groups. The types of trees, iterators, views and builders are re-exported
 // here. The names follow rust-analyzer's `tt`; what the calls answer is the project's own.
 ghost use Rattle.std.specs.Prelude.{◌≡◌, ◌↔◌, IsTrue};
-ghost use Rattle.mbe_tt.specs.Shown.{ident_of, literal_of, leaf_of};
+ghost use Rattle.mbe_tt.specs.Views.Shown.{ident_of, literal_of, leaf_of};
 ghost use Rattle.std.specs.Cmp.{partial_equiv_from_equiv};
 
 pub use crate::buffer::TopSubtree;
@@ -129,7 +129,7 @@ impl Delimiter {
 }
 
 impl<A: Allocator> Leaf<A> {
-    ghost use Rattle.mbe_tt.specs.Leaf.{span_of};
+    ghost use Rattle.mbe_tt.specs.Trees.Leaf.{span_of};
 
     /// Where the leaf stands.
     pub fn span(&self) -> Span
@@ -184,7 +184,7 @@ impl<A: Allocator> Clone for Leaf<A> {
 }
 
 impl<A: Allocator> PartialEq for Ident<A> {
-    ghost use Rattle.mbe_tt.specs.Shown.{ident_eq, ident_eq_laws};
+    ghost use Rattle.mbe_tt.specs.Views.Shown.{ident_eq, ident_eq_laws};
 
     ghost eq = { ident_eq };
 
@@ -196,13 +196,13 @@ impl<A: Allocator> PartialEq for Ident<A> {
 }
 
 impl<A: Allocator> Eq for Ident<A> {
-    ghost use Rattle.mbe_tt.specs.Shown.{ident_eq_laws};
+    ghost use Rattle.mbe_tt.specs.Views.Shown.{ident_eq_laws};
 
     ghost laws = { ident_eq_laws };
 }
 
 impl<A: Allocator> PartialEq for Literal<A> {
-    ghost use Rattle.mbe_tt.specs.Shown.{literal_eq, literal_eq_laws};
+    ghost use Rattle.mbe_tt.specs.Views.Shown.{literal_eq, literal_eq_laws};
 
     ghost eq = { literal_eq };
 
@@ -214,13 +214,13 @@ impl<A: Allocator> PartialEq for Literal<A> {
 }
 
 impl<A: Allocator> Eq for Literal<A> {
-    ghost use Rattle.mbe_tt.specs.Shown.{literal_eq_laws};
+    ghost use Rattle.mbe_tt.specs.Views.Shown.{literal_eq_laws};
 
     ghost laws = { literal_eq_laws };
 }
 
 impl<A: Allocator> PartialEq for Leaf<A> {
-    ghost use Rattle.mbe_tt.specs.Shown.{leaf_eq, leaf_eq_laws};
+    ghost use Rattle.mbe_tt.specs.Views.Shown.{leaf_eq, leaf_eq_laws};
 
     ghost eq = { leaf_eq };
 
@@ -232,7 +232,7 @@ impl<A: Allocator> PartialEq for Leaf<A> {
 }
 
 impl<A: Allocator> Eq for Leaf<A> {
-    ghost use Rattle.mbe_tt.specs.Shown.{leaf_eq_laws};
+    ghost use Rattle.mbe_tt.specs.Views.Shown.{leaf_eq_laws};
 
     ghost laws = { leaf_eq_laws };
 }

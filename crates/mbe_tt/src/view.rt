@@ -1,11 +1,11 @@
 // Trees that stand side by side in a buffer. The names follow rust-analyzer's `tt`; what the calls answer is the
 // project's own.
 ghost use Rattle.std.specs.Prelude.{◌≡◌, option_map, ⊤};
-ghost use Rattle.mbe_tt.specs.Entries.{Spelled, Spelled-prop};
+ghost use Rattle.mbe_tt.specs.Views.Entries.{Spelled, Spelled-prop};
 ghost use Rattle.std.specs.Prelude.{IsTrue, ◌↔◌};
-ghost use Rattle.mbe_tt.specs.Shown.{entries_of};
+ghost use Rattle.mbe_tt.specs.Views.Shown.{entries_of};
 ghost use Rattle.std.specs.Cmp.{partial_equiv_from_equiv};
-ghost use Rattle.mbe_tt.specs.Tree.{tree_count, flat_len, strip_invisible, one_group};
+ghost use Rattle.mbe_tt.specs.Trees.Tree.{tree_count, flat_len, strip_invisible, one_group};
 
 use crate::entry::{Entry, same_entries};
 use crate::iter::{TtElement, TtIter};
@@ -33,7 +33,7 @@ impl<'a, A: Allocator> Clone for TokenTreesView<'a, A> {
 }
 
 impl<'a, A: Allocator> TokenTreesView<'a, A> {
-    ghost use Rattle.mbe_tt.specs.View.{trees, group_of};
+    ghost use Rattle.mbe_tt.specs.Views.View.{trees, group_of};
 
     /// An iterator over the trees.
     pub fn iter(&self) -> TtIter<'a, A>
@@ -103,8 +103,8 @@ pub struct SubtreeView<'a, A: Allocator = Global> {
 }
 
 impl<'a, A: Allocator> SubtreeView<'a, A> {
-    ghost use Rattle.mbe_tt.specs.View.{group_of};
-    ghost use Rattle.mbe_tt.specs.Top.{delimiter_of, inside};
+    ghost use Rattle.mbe_tt.specs.Views.View.{group_of};
+    ghost use Rattle.mbe_tt.specs.Trees.Top.{delimiter_of, inside};
 
     /// The group without its content.
     pub fn top_subtree(&self) -> &'a Subtree
@@ -122,7 +122,7 @@ impl<'a, A: Allocator> SubtreeView<'a, A> {
 }
 
 impl<'a, A: Allocator> PartialEq for TokenTreesView<'a, A> {
-    ghost use Rattle.mbe_tt.specs.View.{view_eq, view_eq_laws};
+    ghost use Rattle.mbe_tt.specs.Views.View.{view_eq, view_eq_laws};
 
     ghost eq = { view_eq };
 
@@ -134,13 +134,13 @@ impl<'a, A: Allocator> PartialEq for TokenTreesView<'a, A> {
 }
 
 impl<'a, A: Allocator> Eq for TokenTreesView<'a, A> {
-    ghost use Rattle.mbe_tt.specs.View.{view_eq_laws};
+    ghost use Rattle.mbe_tt.specs.Views.View.{view_eq_laws};
 
     ghost laws = { view_eq_laws };
 }
 
 impl<'a, A: Allocator> PartialEq for SubtreeView<'a, A> {
-    ghost use Rattle.mbe_tt.specs.View.{subtree_view_eq, subtree_view_eq_laws};
+    ghost use Rattle.mbe_tt.specs.Views.View.{subtree_view_eq, subtree_view_eq_laws};
 
     ghost eq = { subtree_view_eq };
 
@@ -152,13 +152,13 @@ impl<'a, A: Allocator> PartialEq for SubtreeView<'a, A> {
 }
 
 impl<'a, A: Allocator> Eq for SubtreeView<'a, A> {
-    ghost use Rattle.mbe_tt.specs.View.{subtree_view_eq_laws};
+    ghost use Rattle.mbe_tt.specs.Views.View.{subtree_view_eq_laws};
 
     ghost laws = { subtree_view_eq_laws };
 }
 
 impl<'a, A: Allocator> SubtreeView<'a, A> {
-    ghost use Rattle.mbe_tt.specs.View.{group_of};
+    ghost use Rattle.mbe_tt.specs.Views.View.{group_of};
 
     // Whether the delimiters and the contents are the same.
     fn is_same(&self, other: &SubtreeView<'a, A>) -> bool

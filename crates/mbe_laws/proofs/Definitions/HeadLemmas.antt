@@ -8,10 +8,10 @@ use Rattle.mbe_tt.specs.declared.span.Edition.{Edition}
 use Rattle.mbe_tt.specs.declared.tt.Punct.{Punct}
 use Rattle.mbe_tt.specs.declared.tt.DelimiterKind.{DelimiterKind}
 use Rattle.mbe_tt.specs.declared.tt.DelimiterKind.TheVariants as delimiters
-use Rattle.mbe_tt.specs.Leaf.{Ident, literal, punct, ident, is_text, is_underscore}
-use Rattle.mbe_tt.specs.Tree.{Forest, none, leaf, group, append, flat_len, cut_trees, is_truth}
-use Rattle.mbe_tt.specs.Glue.{glue, if_joint, joined}
-use Rattle.mbe_tt.proofs.CutLemmas.{cut_trees-append, flat_len-append}
+use Rattle.mbe_tt.specs.Trees.Leaf.{Ident, literal, punct, ident, is_text, is_underscore}
+use Rattle.mbe_tt.specs.Trees.Tree.{Forest, none, leaf, group, append, flat_len, cut_trees, is_truth}
+use Rattle.mbe_tt.specs.Trees.Glue.{glue, if_joint, joined}
+use Rattle.mbe_tt.proofs.Places.CutLemmas.{cut_trees-append, flat_len-append}
 use Rattle.mbe_semantics.specs.declared.kinds.MetaVarKind.{MetaVarKind}
 use Rattle.mbe_semantics.specs.declared.kinds.RepeatKind.{RepeatKind}
 use Rattle.mbe_semantics.specs.Syntax.Op as ops

@@ -5,8 +5,8 @@ use Rattle.std.specs.Str.{bytes_eq}
 use Rattle.std.proofs.lemmas.Slice.Eq.{bytes_eq-Decides}
 use Rattle.mbe_tt.specs.declared.span.SyntaxContext.{SyntaxContext}
 use Rattle.mbe_tt.specs.declared.span.Edition.{Edition}
-use Rattle.mbe_tt.specs.Leaf.{Ident}
-use Rattle.mbe_tt.specs.Tree.{Forest, none}
+use Rattle.mbe_tt.specs.Trees.Leaf.{Ident}
+use Rattle.mbe_tt.specs.Trees.Tree.{Forest, none}
 use Rattle.mbe_semantics.specs.declared.kinds.MetaVarKind.{MetaVarKind}
 use Rattle.mbe_semantics.specs.Syntax.Op as ops
 use Rattle.mbe_semantics.specs.Syntax.Op.{Op, Ops, no_ops, op}

@@ -2,7 +2,7 @@
 use Rattle.std.proofs.Common.{ℕ, zero, suc, ◌+◌, ◌≡◌, ◌<◌, ◌≤◌, inl, inr, Option, Some, None, Bool, true, false, List, [], ◌∷◌, ◌++◌, map, length, refl, ◌∙◌, ap, subst, arith, option_map}
 use Rattle.mbe_semantics.specs.declared.kinds.RepeatKind.{RepeatKind}
 use Rattle.mbe_semantics.specs.declared.kinds.RepeatKind.TheVariants.{ZeroOrMore, OneOrMore, ZeroOrOne}
-use Rattle.mbe_tt.specs.Tree.{flat_len}
+use Rattle.mbe_tt.specs.Trees.Tree.{flat_len}
 use Rattle.mbe_semantics.specs.Syntax.Op.{Name, Separator, token, group, variable, repetition, expression, Ops, no_ops, op, names_of}
 use Rattle.mbe_semantics.specs.Readings.Item.{Fragment, Item, matched, bound, skipped, Items, no_items, item, Rounds, no_rounds, item_width, items_width, rounds_width}
 use Rattle.mbe_semantics.specs.Readings.Input.{Input}

@@ -2,8 +2,8 @@
 use Rattle.std.proofs.Common.{ℕ, zero, suc, ◌+◌, ◌≡◌, ◌⊎◌, ◌<◌, ◌≤◌, inl, inr, Bool, true, false, List, [], ◌∷◌, refl, sym, ◌∙◌, ap, subst, arith, eqb-true}
 use Rattle.std.specs.Prelude.{if◌then◌else◌, ◌==◌}
 use Rattle.std.proofs.lemmas.Bool.{eqb-false}
-use Rattle.mbe_tt.specs.Tree.{Forest, flat_len}
-use Rattle.mbe_tt.specs.Grammar.{Grammar, IsLawful}
+use Rattle.mbe_tt.specs.Trees.Tree.{Forest, flat_len}
+use Rattle.mbe_tt.specs.Fragments.Grammar.{Grammar, IsLawful}
 use Rattle.mbe_semantics.specs.Syntax.Op.{Ops, no_ops}
 use Rattle.mbe_semantics.specs.Readings.Item.{Items, items_width}
 use Rattle.mbe_semantics.specs.Readings.Input.{Input, input_of}

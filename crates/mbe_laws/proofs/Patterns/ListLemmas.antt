@@ -4,9 +4,9 @@ use Rattle.std.specs.Prelude.{IsTrue}
 use Rattle.std.proofs.lemmas.Option.{none-some}
 use Rattle.mbe_semantics.specs.declared.kinds.RepeatKind.{RepeatKind}
 use Rattle.mbe_semantics.specs.declared.kinds.RepeatKind.TheVariants.{ZeroOrMore, OneOrMore, ZeroOrOne}
-use Rattle.mbe_tt.specs.Tree.{Forest, rest_at}
-use Rattle.mbe_tt.specs.Grammar.{Grammar}
-use Rattle.mbe_tt.proofs.CutLemmas.{no_true}
+use Rattle.mbe_tt.specs.Trees.Tree.{Forest, rest_at}
+use Rattle.mbe_tt.specs.Fragments.Grammar.{Grammar}
+use Rattle.mbe_tt.proofs.Places.CutLemmas.{no_true}
 use Rattle.mbe_semantics.specs.Readings.Fit.{separator_front}
 use Rattle.mbe_semantics.specs.Syntax.Op.{Separator, Op, token, group, variable, repetition, expression, Ops, no_ops, op, has_no_repetition, names_of}
 use Rattle.mbe_semantics.specs.Readings.Item.{Item, matched, bound, grouped, skipped, rounds, Items, no_items, item, Rounds, no_rounds, round, item_width, items_width, rounds_width}

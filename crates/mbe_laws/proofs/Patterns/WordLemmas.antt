@@ -5,11 +5,11 @@ use Rattle.std.specs.Str.{bytes_eq}
 use Rattle.std.proofs.lemmas.Option.{none-some, same_Some}
 use Rattle.mbe_semantics.specs.declared.kinds.RepeatKind.{RepeatKind}
 use Rattle.mbe_semantics.specs.declared.kinds.RepeatKind.TheVariants.{ZeroOrMore, OneOrMore, ZeroOrOne}
-use Rattle.mbe_tt.specs.Leaf as leaves
-use Rattle.mbe_tt.specs.Tree.{Forest, flat_len, Cut, rest_at}
-use Rattle.mbe_tt.specs.Tree as tree
-use Rattle.mbe_tt.specs.Grammar.{Grammar}
-use Rattle.mbe_tt.proofs.CutLemmas.{no_true, both_left, both_right}
+use Rattle.mbe_tt.specs.Trees.Leaf as leaves
+use Rattle.mbe_tt.specs.Trees.Tree.{Forest, flat_len, Cut, rest_at}
+use Rattle.mbe_tt.specs.Trees.Tree as tree
+use Rattle.mbe_tt.specs.Fragments.Grammar.{Grammar}
+use Rattle.mbe_tt.proofs.Places.CutLemmas.{no_true, both_left, both_right}
 use Rattle.mbe_semantics.specs.Syntax.Op as ops
 use Rattle.mbe_semantics.specs.Syntax.Op.{Token, Separator, Op, token, group, variable, repetition, expression, Ops, no_ops, op}
 use Rattle.mbe_semantics.specs.Readings.Fit.{ident_text_front}

@@ -6,9 +6,9 @@ use Rattle.mbe_tt.specs.declared.span.Span.{Span}
 use Rattle.mbe_tt.specs.declared.tt.DelimiterKind.{DelimiterKind}
 use Rattle.mbe_tt.specs.declared.tt.DelimiterKind.TheVariants.{Invisible, Parenthesis, Brace, Bracket}
 use Rattle.mbe_tt.specs.declared.tt.Punct.{Punct}
-use Rattle.mbe_tt.specs.Leaf.{Leaf, literal, punct, ident, span_of}
-use Rattle.mbe_tt.specs.Tree.{Forest, none, leaf, group, append, rest_at, flat_len, Cut, alone, alone_leaf, strip_group, strip_invisible, spans_of}
-use Rattle.mbe_tt.specs.Grammar.{Grammar}
+use Rattle.mbe_tt.specs.Trees.Leaf.{Leaf, literal, punct, ident, span_of}
+use Rattle.mbe_tt.specs.Trees.Tree.{Forest, none, leaf, group, append, rest_at, flat_len, Cut, alone, alone_leaf, strip_group, strip_invisible, spans_of}
+use Rattle.mbe_tt.specs.Fragments.Grammar.{Grammar}
 use Rattle.mbe_semantics.specs.declared.kinds.MetaVarKind.{MetaVarKind}
 use Rattle.mbe_semantics.specs.declared.kinds.MetaVarKind.TheVariants as kinds
 use Rattle.mbe_semantics.specs.Syntax.Op as ops

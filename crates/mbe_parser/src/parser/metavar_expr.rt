@@ -1,8 +1,8 @@
 // Reads metavariable expressions, which are what stands between the braces of `${..}`.
 ghost use Rattle.std.specs.Prelude.{◌≡◌, ◌≢◌, ◌<◌, map, option_map, Some, None, IfOk, IfErr, OnOk, MatchOption, if◌then◌else◌};
-ghost use Rattle.mbe_tt.specs.Literals.{is_plain, decimal_value, literal_text};
-ghost use Rattle.mbe_tt.specs.Shown.{ident_of, literal_of};
-ghost use Rattle.mbe_tt.specs.Tree.{none, flat_len};
+ghost use Rattle.mbe_tt.specs.Trees.Literals.{is_plain, decimal_value, literal_text};
+ghost use Rattle.mbe_tt.specs.Views.Shown.{ident_of, literal_of};
+ghost use Rattle.mbe_tt.specs.Trees.Tree.{none, flat_len};
 ghost use Rattle.mbe_semantics.specs.Syntax.Op.{expression};
 ghost use Rattle.mbe_parser.specs.Reader.{NotExpression};
 ghost use Rattle.mbe_semantics.specs.Syntax.Template.{expression_of, arguments_of, ignore_of, count_of, concat_of, dollar_name, depth_of, depth_behind_comma, elements_of, elements_behind_comma, element_before};

@@ -1,7 +1,7 @@
 -- What the log of bindings holds: the account of a handle, and what it binds (the project's own choice, after
 -- rust-analyzer's log).
 use Rattle.std.specs.Prelude.{◌≡◌, ◌≢◌, ◌<◌, ◌≤◌, ℕ, zero, suc, List, [], ◌∷◌, ◌++◌, length, take, slice_get, Option, Some, None}
-use Rattle.mbe_tt.specs.Tree.{none}
+use Rattle.mbe_tt.specs.Trees.Tree.{none}
 use Rattle.mbe_semantics.specs.declared.kinds.MetaVarKind.{MetaVarKind}
 use Rattle.mbe_semantics.specs.declared.log.Part.{Part}
 use Rattle.mbe_semantics.specs.Syntax.Op.{Name}

@@ -5,10 +5,10 @@ use Rattle.mbe_tt.specs.declared.tt.DelimiterKind.TheVariants.{Parenthesis}
 use Rattle.mbe_tt.specs.declared.tt.IdentIsRaw.TheVariants as raw
 use Rattle.mbe_tt.specs.declared.tt.LitKind.TheVariants.{Str}
 use Rattle.mbe_tt.specs.declared.tt.Spacing.TheVariants.{Alone, Joint}
-use Rattle.mbe_tt.specs.Leaf.{ident, literal}
-use Rattle.mbe_tt.specs.Tree.{Forest, none, leaf, group, flat, cut}
+use Rattle.mbe_tt.specs.Trees.Leaf.{ident, literal}
+use Rattle.mbe_tt.specs.Trees.Tree.{Forest, none, leaf, group, flat, cut}
 use Rattle.mbe_tt.specs.declared.span.DelimSpan.{DelimSpan}
-use Rattle.mbe_tt.specs.Grammar.{Grammar, IsLawful, front}
+use Rattle.mbe_tt.specs.Fragments.Grammar.{Grammar, IsLawful, front}
 use Rattle.mbe_semantics.specs.Expansion.Error.{binding_error, front_error, text_of_fault}
 use Rattle.mbe_semantics.specs.declared.macro_call_style.MacroCallStyle.TheVariants.{FnLike, Attr}
 use Rattle.mbe_semantics.specs.declared.kinds.MetaVarKind.TheVariants as kinds

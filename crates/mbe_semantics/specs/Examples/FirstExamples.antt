@@ -6,17 +6,17 @@ use Rattle.mbe_semantics.specs.declared.kinds.ExprKind.TheVariants as exprs
 use Rattle.mbe_semantics.specs.declared.kinds.RepeatKind.{RepeatKind}
 use Rattle.mbe_semantics.specs.declared.macro_call_style.MacroCallStyle.TheVariants.{FnLike}
 use Rattle.mbe_semantics.specs.declared.kinds.RepeatKind.TheVariants.{ZeroOrMore, ZeroOrOne, OneOrMore}
-use Rattle.mbe_tt.specs.Leaf.{ident, literal}
+use Rattle.mbe_tt.specs.Trees.Leaf.{ident, literal}
 use Rattle.mbe_tt.specs.declared.tt.LitKind.TheVariants.{Str}
 use Rattle.mbe_tt.specs.declared.tt.IdentIsRaw.TheVariants as raw
 use Rattle.mbe_tt.specs.declared.tt.Spacing.TheVariants.{Alone, Joint}
 use Rattle.mbe_tt.specs.declared.tt.DelimiterKind.TheVariants.{Parenthesis, Brace, Invisible}
-use Rattle.mbe_tt.specs.Tree.{Forest, none, leaf, group, cut}
+use Rattle.mbe_tt.specs.Trees.Tree.{Forest, none, leaf, group, cut}
 use Rattle.mbe_semantics.specs.Syntax.Op as ops
 use Rattle.mbe_semantics.specs.Syntax.Op.{Name, Op, Ops, no_ops, op, names_of, punct_separator, ident_separator, lifetime_separator}
 use Rattle.mbe_semantics.specs.Syntax.Template.{expected}
 use Rattle.mbe_semantics.specs.Syntax.Definition.{Rule, IsMacroRules}
-use Rattle.mbe_tt.specs.Grammar.{Grammar, IsLawful}
+use Rattle.mbe_tt.specs.Fragments.Grammar.{Grammar, IsLawful}
 use Rattle.mbe_semantics.specs.Readings.Item as items
 use Rattle.mbe_semantics.specs.Readings.Item.{Items, matched, bound, skipped, rounds, no_items, item, no_rounds, round}
 use Rattle.mbe_semantics.specs.Readings.Ambiguity.{IsReading, IsAmbiguousAt, Fits}
@@ -26,7 +26,7 @@ use Rattle.mbe_semantics.specs.Writing.Rounds.{finite}
 use Rattle.mbe_semantics.specs.Writing.Written.{IsWrittenAs, path_trees}
 use Rattle.mbe_semantics.specs.Syntax.Nullable.{is_refused}
 use Rattle.mbe_semantics.specs.Readings.Fit.{token_front}
-use Rattle.mbe_tt.specs.Glue.{glue, chars_of}
+use Rattle.mbe_tt.specs.Trees.Glue.{glue, chars_of}
 use Rattle.mbe_tt.specs.declared.grammar.PrefixEntryPoint.TheVariants.{Vis}
 use Rattle.mbe_semantics.specs.Expansion.Expansion.{IsExpansion}
 use Rattle.mbe_semantics.specs.Writing.Substitution.{faults, extent_faults, total_of, IsSubstitution}

@@ -4,9 +4,9 @@ use Rattle.mbe_tt.specs.declared.tt.DelimiterKind.TheVariants.{Parenthesis, Brac
 use Rattle.mbe_tt.specs.declared.tt.LitKind.{LitKind}
 use Rattle.mbe_tt.specs.declared.tt.LitKind.TheVariants.{Integer, Float, Str}
 use Rattle.mbe_tt.specs.declared.tt.Spacing.TheVariants.{Alone, Joint}
-use Rattle.mbe_tt.specs.Leaf.{Literal, literal, ident}
-use Rattle.mbe_tt.specs.Tree.{Forest, none, leaf, group}
-use Rattle.mbe_tt.specs.Grammar.{Grammar, IsLawful, good_front}
+use Rattle.mbe_tt.specs.Trees.Leaf.{Literal, literal, ident}
+use Rattle.mbe_tt.specs.Trees.Tree.{Forest, none, leaf, group}
+use Rattle.mbe_tt.specs.Fragments.Grammar.{Grammar, IsLawful, good_front}
 use Rattle.mbe_tt.specs.declared.span.Span.{Span}
 use Rattle.mbe_tt.specs.declared.span.Edition.TheVariants.{Edition2018, Edition2021, Edition2024}
 use Rattle.mbe_tt.specs.declared.grammar.PrefixEntryPoint.TheVariants as entries

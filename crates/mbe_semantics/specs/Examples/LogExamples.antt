@@ -1,6 +1,6 @@
 -- What small lists of commands bind, and what is written for missing variables.
 use Rattle.std.specs.Prelude.{◌≡◌, ℕ, zero, suc, List, [], ◌∷◌, codes, Some, None}
-use Rattle.mbe_tt.specs.Tree.{none}
+use Rattle.mbe_tt.specs.Trees.Tree.{none}
 use Rattle.mbe_semantics.specs.declared.kinds.MetaVarKind.TheVariants as kinds
 use Rattle.mbe_semantics.specs.declared.kinds.RepeatKind.TheVariants.{ZeroOrMore}
 use Rattle.mbe_semantics.specs.Syntax.Op as ops

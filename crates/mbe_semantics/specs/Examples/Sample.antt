@@ -9,9 +9,9 @@ use Rattle.mbe_tt.specs.declared.tt.LitKind.TheVariants.{Integer}
 use Rattle.mbe_tt.specs.declared.tt.Punct.{Punct}
 use Rattle.mbe_tt.specs.declared.tt.Spacing.{Spacing}
 use Rattle.mbe_tt.specs.declared.tt.Spacing.TheVariants.{Alone, Joint}
-use Rattle.mbe_tt.specs.Leaf.{Ident, Literal, ident, literal, punct}
-use Rattle.mbe_tt.specs.Tree.{Forest, none, leaf, group}
-use Rattle.mbe_tt.specs.Grammar.{Grammar}
+use Rattle.mbe_tt.specs.Trees.Leaf.{Ident, Literal, ident, literal, punct}
+use Rattle.mbe_tt.specs.Trees.Tree.{Forest, none, leaf, group}
+use Rattle.mbe_tt.specs.Fragments.Grammar.{Grammar}
 use Rattle.mbe_semantics.specs.declared.kinds.MetaVarKind.{MetaVarKind}
 use Rattle.mbe_semantics.specs.declared.macro_call_style.MacroCallStyle.TheVariants.{FnLike}
 use Rattle.mbe_semantics.specs.Syntax.Op as ops

@@ -2,9 +2,9 @@
 use Rattle.std.specs.Prelude.{◌≡◌, ℕ, List, [], ◌∷◌, Contains, Option, Some, None, IsNone, IsTrue}
 use Rattle.mbe_tt.specs.declared.span.Span.{Span}
 use Rattle.mbe_tt.specs.declared.tt.DelimiterKind.TheVariants.{Invisible}
-use Rattle.mbe_tt.specs.Tree.{Forest, none, group}
-use Rattle.mbe_tt.specs.Top.{Top, top_group}
-use Rattle.mbe_tt.specs.Grammar.{Grammar}
+use Rattle.mbe_tt.specs.Trees.Tree.{Forest, none, group}
+use Rattle.mbe_tt.specs.Trees.Top.{Top, top_group}
+use Rattle.mbe_tt.specs.Fragments.Grammar.{Grammar}
 use Rattle.mbe_semantics.specs.declared.macro_call_style.MacroCallStyle.{MacroCallStyle}
 use Rattle.mbe_semantics.specs.Syntax.Definition.{Rule}
 use Rattle.mbe_semantics.specs.Bindings.Environment.{environment_of}

@@ -4,8 +4,8 @@ use Rattle.mbe_tt.specs.declared.span.Span.{Span}
 use Rattle.mbe_tt.specs.declared.span.DelimSpan.{DelimSpan}
 use Rattle.mbe_tt.specs.declared.grammar.PrefixEntryPoint.{PrefixEntryPoint}
 use Rattle.mbe_tt.specs.declared.grammar.PrefixEntryPoint.TheVariants as entries
-use Rattle.mbe_tt.specs.Tree.{Forest, first, first_span}
-use Rattle.mbe_tt.specs.Grammar.{Grammar, is_good}
+use Rattle.mbe_tt.specs.Trees.Tree.{Forest, first, first_span}
+use Rattle.mbe_tt.specs.Fragments.Grammar.{Grammar, is_good}
 use Rattle.mbe_semantics.specs.Syntax.Template.{Fault}
 use Rattle.mbe_semantics.specs.Syntax.Template as faults
 

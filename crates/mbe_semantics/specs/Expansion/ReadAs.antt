@@ -1,6 +1,6 @@
 -- What a macro that was read is, told by the grammar of definitions.
 use Rattle.std.specs.Prelude.{Option, Some, None}
-use Rattle.mbe_tt.specs.Tree.{Forest}
+use Rattle.mbe_tt.specs.Trees.Tree.{Forest}
 use Rattle.mbe_tt.specs.declared.span.SyntaxContext.{SyntaxContext}
 use Rattle.mbe_tt.specs.declared.span.Edition.{Edition}
 use Rattle.mbe_semantics.specs.Expansion.Macro.{Macro}

@@ -5,13 +5,13 @@ use Rattle.mbe_semantics.specs.declared.kinds.MetaVarKind.TheVariants as kinds
 use Rattle.mbe_semantics.specs.declared.kinds.ExprKind.{ExprKind}
 use Rattle.mbe_semantics.specs.declared.kinds.ExprKind.TheVariants as exprs
 use Rattle.mbe_tt.specs.declared.grammar.PrefixEntryPoint.TheVariants as entries
-use Rattle.mbe_tt.specs.Leaf.{ident, literal, punct}
+use Rattle.mbe_tt.specs.Trees.Leaf.{ident, literal, punct}
 use Rattle.mbe_tt.specs.declared.tt.IdentIsRaw.{IdentIsRaw}
 use Rattle.mbe_tt.specs.declared.tt.IdentIsRaw.TheVariants.{No, Yes}
-use Rattle.mbe_tt.specs.Tree.{Forest, none, leaf, Cut, cut_trees, is_truth}
-use Rattle.mbe_tt.specs.Glue.{glue}
-use Rattle.mbe_tt.specs.Leaf.{is_text, is_underscore}
-use Rattle.mbe_tt.specs.Grammar.{Grammar, good_front}
+use Rattle.mbe_tt.specs.Trees.Tree.{Forest, none, leaf, Cut, cut_trees, is_truth}
+use Rattle.mbe_tt.specs.Trees.Glue.{glue}
+use Rattle.mbe_tt.specs.Trees.Leaf.{is_text, is_underscore}
+use Rattle.mbe_tt.specs.Fragments.Grammar.{Grammar, good_front}
 
 -- an identifier other than `_`
 abbrev pub ident_front : Forest → Option Cut

@@ -1,9 +1,9 @@
 -- Which tokens a token of the pattern fits, and which a separator does (as in rust-analyzer).
 use Rattle.std.specs.Prelude.{ℕ, ◌&&◌, ◌==◌, if◌then◌else◌, List, [], ◌∷◌, length, Option, Some, None}
 use Rattle.std.specs.Str.{bytes_eq}
-use Rattle.mbe_tt.specs.Leaf.{ident, literal, punct}
-use Rattle.mbe_tt.specs.Tree.{Forest, none, leaf, Cut, cut, cut_trees, is_truth}
-use Rattle.mbe_tt.specs.Glue.{glue, chars_of}
+use Rattle.mbe_tt.specs.Trees.Leaf.{ident, literal, punct}
+use Rattle.mbe_tt.specs.Trees.Tree.{Forest, none, leaf, Cut, cut, cut_trees, is_truth}
+use Rattle.mbe_tt.specs.Trees.Glue.{glue, chars_of}
 use Rattle.mbe_semantics.specs.Syntax.Op as ops
 use Rattle.mbe_semantics.specs.Syntax.Op.{Token, Separator, ident_separator, literal_separator, punct_separator, lifetime_separator}
 

@@ -2,8 +2,8 @@
 use Rattle.std.specs.Prelude.{ℕ, Bool, true, false, ◌&&◌, nat_lt, Option, Some, None}
 use Rattle.mbe_semantics.specs.declared.kinds.MetaVarKind.{MetaVarKind}
 use Rattle.mbe_tt.specs.declared.tt.DelimiterKind.{DelimiterKind}
-use Rattle.mbe_tt.specs.Tree.{Forest, none, group, flat_len, Cut, rest_at, is_same_kind}
-use Rattle.mbe_tt.specs.Grammar.{Grammar}
+use Rattle.mbe_tt.specs.Trees.Tree.{Forest, none, group, flat_len, Cut, rest_at, is_same_kind}
+use Rattle.mbe_tt.specs.Fragments.Grammar.{Grammar}
 use Rattle.mbe_semantics.specs.Syntax.Op.{Token, Separator}
 use Rattle.mbe_semantics.specs.Fragments.Takes.{takes}
 use Rattle.mbe_semantics.specs.Readings.Fit.{token_front, separator_front}

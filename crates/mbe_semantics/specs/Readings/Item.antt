@@ -2,7 +2,7 @@
 use Rattle.std.specs.Prelude.{ℕ, suc, ◌+◌, List, Option, Some}
 use Rattle.mbe_semantics.specs.declared.kinds.MetaVarKind.{MetaVarKind}
 use Rattle.mbe_semantics.specs.declared.kinds.MetaVarKind.TheVariants as kinds
-use Rattle.mbe_tt.specs.Tree.{Forest, flat_len}
+use Rattle.mbe_tt.specs.Trees.Tree.{Forest, flat_len}
 use Rattle.mbe_semantics.specs.Syntax.Op.{Name}
 
 -- how a fragment is written

@@ -1,7 +1,7 @@
 -- What a linter is told of a pattern and an argument, and where a match stops.
 use Rattle.std.specs.Prelude.{◌≡◌, ◌≤◌, ◌<◌, ℕ, zero, suc, List, [], ◌∷◌}
-use Rattle.mbe_tt.specs.Tree.{Forest, flat_len, tree_count, rest_at}
-use Rattle.mbe_tt.specs.Grammar.{Grammar}
+use Rattle.mbe_tt.specs.Trees.Tree.{Forest, flat_len, tree_count, rest_at}
+use Rattle.mbe_tt.specs.Fragments.Grammar.{Grammar}
 use Rattle.mbe_semantics.specs.Syntax.Op.{Ops}
 use Rattle.mbe_semantics.specs.Readings.Item.{Items}
 use Rattle.mbe_semantics.specs.Readings.Input.{Input, input_of}

@@ -6,11 +6,11 @@ use Rattle.mbe_tt.specs.declared.span.SyntaxContext.{SyntaxContext}
 use Rattle.mbe_tt.specs.declared.span.Edition.{Edition}
 use Rattle.mbe_semantics.specs.declared.macro_call_style.MacroCallStyle.{MacroCallStyle}
 use Rattle.mbe_semantics.specs.declared.macro_call_style.MacroCallStyle.TheVariants.{FnLike, Attr, Derive}
-use Rattle.mbe_tt.specs.Leaf.{ident, punct}
-use Rattle.mbe_tt.specs.Tree.{Forest, none, leaf, group}
+use Rattle.mbe_tt.specs.Trees.Leaf.{ident, punct}
+use Rattle.mbe_tt.specs.Trees.Tree.{Forest, none, leaf, group}
 use Rattle.mbe_semantics.specs.Syntax.Op.{Ops}
 use Rattle.mbe_semantics.specs.Syntax.Template.{pattern, template, Fault, expected, empty_repetition, Template, TemplateFault}
-use Rattle.mbe_tt.specs.Leaf.{is_text}
+use Rattle.mbe_tt.specs.Trees.Leaf.{is_text}
 use Rattle.mbe_semantics.specs.Syntax.Nullable.{is_refused}
 
 -- a rule: the call that it is for, its pattern and its template

@@ -1,7 +1,7 @@
 -- How trees are read as a pattern or a template, and their first fault (as rust-analyzer reads them).
 use Rattle.std.specs.Prelude.{◌≡◌, ℕ, not, ◌&&◌, ◌==◌, nat_le, if◌then◌else◌, List, [], ◌∷◌, length, codes, Option, Some, None, option_map, option_and_then, Result, Ok, Err, IsTrue, IsFalse}
-use Rattle.mbe_tt.specs.Leaf.{is_text, is_underscore}
-use Rattle.mbe_tt.specs.Editions.{at_least_2021, at_least_2024}
+use Rattle.mbe_tt.specs.Trees.Leaf.{is_text, is_underscore}
+use Rattle.mbe_tt.specs.Trees.Editions.{at_least_2021, at_least_2024}
 use Rattle.mbe_tt.specs.declared.span.Span.{Span}
 use Rattle.mbe_tt.specs.declared.span.SyntaxContext.{SyntaxContext}
 use Rattle.mbe_tt.specs.declared.span.Edition.{Edition}
@@ -10,17 +10,17 @@ use Rattle.mbe_semantics.specs.declared.kinds.MetaVarKind.{MetaVarKind}
 use Rattle.mbe_semantics.specs.declared.kinds.MetaVarKind.TheVariants as kinds
 use Rattle.mbe_semantics.specs.declared.kinds.RepeatKind.{RepeatKind}
 use Rattle.mbe_semantics.specs.declared.kinds.RepeatKind.TheVariants as repeats
-use Rattle.mbe_tt.specs.Leaf.{Ident, Leaf, ident, literal, punct}
+use Rattle.mbe_tt.specs.Trees.Leaf.{Ident, Leaf, ident, literal, punct}
 use Rattle.mbe_tt.specs.declared.tt.IdentIsRaw.TheVariants as raw
 use Rattle.mbe_tt.specs.declared.tt.Punct.{Punct}
 use Rattle.mbe_tt.specs.declared.tt.Delimiter.{Delimiter}
 use Rattle.mbe_tt.specs.declared.tt.DelimiterKind.{DelimiterKind}
 use Rattle.mbe_tt.specs.declared.tt.DelimiterKind.TheVariants as delimiters
-use Rattle.mbe_tt.specs.Tree.{Forest, none, leaf, group, cut_trees, is_truth}
-use Rattle.mbe_tt.specs.Glue.{glue}
+use Rattle.mbe_tt.specs.Trees.Tree.{Forest, none, leaf, group, cut_trees, is_truth}
+use Rattle.mbe_tt.specs.Trees.Glue.{glue}
 use Rattle.mbe_semantics.specs.Syntax.Op as ops
 use Rattle.mbe_semantics.specs.Syntax.Op.{Name, Separator, ident_separator, literal_separator, punct_separator, lifetime_separator, Element, ident_element, literal_element, variable_element, Expression, Op, Ops, no_ops, op}
-use Rattle.mbe_tt.specs.Literals.{is_plain, decimal_value, literal_text}
+use Rattle.mbe_tt.specs.Trees.Literals.{is_plain, decimal_value, literal_text}
 
 -- the two sides of a rule, which read some trees differently
 pub data Mode : Type 0 where

@@ -2,9 +2,9 @@
 use Rattle.std.specs.Prelude.{ℕ, Bool, false, ◌&&◌, ◌||◌, ◌==◌, if◌then◌else◌, List, [], ◌∷◌, ◌++◌, Option, Some, None, option_map, option_and_then, chars}
 use Rattle.std.specs.List.{list_all}
 use Rattle.unicode_ident.specs.Ident.{is_xid_start, is_xid_continue}
-use Rattle.mbe_tt.specs.Leaf.{ident, literal}
-use Rattle.mbe_tt.specs.Tree.{Forest, none, leaf}
-use Rattle.mbe_tt.specs.Literals.{literal_text}
+use Rattle.mbe_tt.specs.Trees.Leaf.{ident, literal}
+use Rattle.mbe_tt.specs.Trees.Tree.{Forest, none, leaf}
+use Rattle.mbe_tt.specs.Trees.Literals.{literal_text}
 use Rattle.mbe_semantics.specs.Syntax.Op.{Element, ident_element, literal_element, variable_element}
 use Rattle.mbe_semantics.specs.Readings.Item.{Style, as_expression, as_path}
 use Rattle.mbe_semantics.specs.Bindings.Environment.{Value, fragment, missing, Environment}

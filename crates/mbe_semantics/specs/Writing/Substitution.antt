@@ -4,18 +4,18 @@ use Rattle.std.specs.Prelude.{◌≡◌, ℕ, zero, suc, ◌^◌, Bool, true, fa
 use Rattle.mbe_tt.specs.declared.span.Span.{Span}
 use Rattle.mbe_semantics.specs.declared.kinds.RepeatKind.{RepeatKind}
 use Rattle.mbe_semantics.specs.declared.kinds.RepeatKind.TheVariants.{ZeroOrOne, OneOrMore, ZeroOrMore}
-use Rattle.mbe_tt.specs.Leaf.{ident, literal, punct}
+use Rattle.mbe_tt.specs.Trees.Leaf.{ident, literal, punct}
 use Rattle.mbe_tt.specs.declared.tt.Punct.{Punct}
 use Rattle.mbe_tt.specs.declared.tt.LitKind.TheVariants.{Integer}
 use Rattle.mbe_tt.specs.declared.tt.IdentIsRaw.{IdentIsRaw}
 use Rattle.mbe_tt.specs.declared.tt.IdentIsRaw.TheVariants as raw
 use Rattle.mbe_tt.specs.declared.tt.Spacing.TheVariants.{Alone}
 use Rattle.mbe_tt.specs.declared.tt.DelimiterKind.TheVariants.{Invisible}
-use Rattle.mbe_tt.specs.Tree as tree
-use Rattle.mbe_tt.specs.Tree.{Forest, none, leaf, append}
+use Rattle.mbe_tt.specs.Trees.Tree as tree
+use Rattle.mbe_tt.specs.Trees.Tree.{Forest, none, leaf, append}
 use Rattle.mbe_semantics.specs.Syntax.Op as ops
 use Rattle.mbe_semantics.specs.Syntax.Op.{Name, Token, Separator, ident_separator, literal_separator, punct_separator, lifetime_separator, Element, Expression, ignore, count, index, len, concat, Op, Ops, no_ops, op}
-use Rattle.mbe_tt.specs.Grammar.{Grammar}
+use Rattle.mbe_tt.specs.Fragments.Grammar.{Grammar}
 use Rattle.mbe_semantics.specs.Bindings.Environment.{Value, fragment, missing, Environment, value_of}
 use Rattle.mbe_semantics.specs.Bindings.Missing.{default_trees}
 use Rattle.mbe_semantics.specs.declared.rounds.Level.{Level}

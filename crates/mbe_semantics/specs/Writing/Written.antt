@@ -1,11 +1,11 @@
 -- How a fragment is written (as in rust-analyzer).
 use Rattle.std.specs.Prelude.{◌≡◌, Bool, true, false, ◌==◌, if◌then◌else◌}
 use Rattle.mbe_tt.specs.declared.span.Span.{Span}
-use Rattle.mbe_tt.specs.Leaf.{ident, literal, punct}
+use Rattle.mbe_tt.specs.Trees.Leaf.{ident, literal, punct}
 use Rattle.mbe_tt.specs.declared.tt.Spacing.TheVariants.{Alone, Joint}
 use Rattle.mbe_tt.specs.declared.tt.DelimiterKind.{DelimiterKind}
 use Rattle.mbe_tt.specs.declared.tt.DelimiterKind.TheVariants.{Parenthesis, Invisible}
-use Rattle.mbe_tt.specs.Tree.{Forest, none, leaf, group, alone, strip_invisible}
+use Rattle.mbe_tt.specs.Trees.Tree.{Forest, none, leaf, group, alone, strip_invisible}
 use Rattle.mbe_semantics.specs.Readings.Item.{Style, plain, stripped, as_expression, as_path}
 
 -- nothing shows this group's delimiters

@@ -2,8 +2,8 @@
 ghost use Rattle.unicode_ident.specs.Ident as xid;
 ghost use Rattle.std.specs.List.{list_all};
 ghost use Rattle.std.specs.Prelude.{◌||◌, ◌==◌, ◌≡◌, ◌<◌, ◌^◌, Some, None, true, false, not, is_some, is_none, chars, option_map, string_bytes, OnOk, IfOk, IfErr};
-ghost use Rattle.mbe_tt.specs.Building.{put};
-ghost use Rattle.mbe_tt.specs.Grammar.{Grammar};
+ghost use Rattle.mbe_tt.specs.Buffers.Building.{put};
+ghost use Rattle.mbe_tt.specs.Fragments.Grammar.{Grammar};
 ghost use Rattle.mbe_semantics.specs.Writing.Concat as spec;
 ghost use Rattle.mbe_semantics.specs.Writing.Concat.{concat_text, are_identifier_chars, text_of_element, text_of_value, text_of_tree, text_in_style};
 ghost use Rattle.mbe_transcriber.specs.Counting.{simple_value};

@@ -1,11 +1,11 @@
 // How a variable's fragment is written.
 ghost use Rattle.std.specs.Prelude.{◌≡◌, ◌<◌, length, Some, None, OnOk, IsTrue, IfSome};
-ghost use Rattle.mbe_tt.specs.Building.{put};
-ghost use Rattle.mbe_tt.specs.Leaf.{punct as punct_leaf, ident as ident_leaf};
-ghost use Rattle.mbe_tt.specs.Shown.{leaf_of};
-ghost use Rattle.mbe_tt.specs.Tree.{alone, none};
+ghost use Rattle.mbe_tt.specs.Buffers.Building.{put};
+ghost use Rattle.mbe_tt.specs.Trees.Leaf.{punct as punct_leaf, ident as ident_leaf};
+ghost use Rattle.mbe_tt.specs.Views.Shown.{leaf_of};
+ghost use Rattle.mbe_tt.specs.Trees.Tree.{alone, none};
 ghost use Rattle.mbe_tt.specs.declared.tt.IdentIsRaw.TheVariants.{No};
-ghost use Rattle.mbe_tt.specs.View.{trees};
+ghost use Rattle.mbe_tt.specs.Views.View.{trees};
 ghost use Rattle.mbe_semantics.specs.Laws.Marking.{MayMark};
 ghost use Rattle.mbe_semantics.specs.Bindings.Missing.{default_trees};
 ghost use Rattle.mbe_semantics.specs.Syntax.Op.{Name};

@@ -1,7 +1,7 @@
 use Rattle.std.proofs.Common.{◌∙◌, sym, ap, subst, refl}
 use Rattle.std.proofs.lemmas.Option.{none-some, same_Some}
-use Rattle.mbe_tt.specs.Tree.{none, group}
-use Rattle.mbe_tt.specs.Top.{top_group}
+use Rattle.mbe_tt.specs.Trees.Tree.{none, group}
+use Rattle.mbe_tt.specs.Trees.Top.{top_group}
 use Rattle.mbe_tt.specs.declared.span.DelimSpan.{DelimSpan}
 use Rattle.mbe_tt.specs.declared.tt.DelimiterKind.TheVariants.{Invisible}
 use Rattle.mbe_parser.specs.RuleViews.{rule_of, rules_seen}

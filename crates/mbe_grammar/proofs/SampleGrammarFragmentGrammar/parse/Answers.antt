@@ -1,5 +1,5 @@
 use Rattle.std.proofs.Common.{sym, ap, ◌∙◌}
-use Rattle.mbe_tt.specs.View.{trees}
+use Rattle.mbe_tt.specs.Views.View.{trees}
 use Rattle.mbe_grammar.specs.SampleGrammar.{answer}
 use Rattle.mbe_grammar.proofs.FlatTreeLemmas.{trees_of_flat-flat}
 use Rattle.mbe_grammar.proofs.SampleGrammarFragmentGrammar.parse.Goals as goal

@@ -1,5 +1,5 @@
 use Rattle.std.proofs.Common.{refl, sym, arith}
-use Rattle.mbe_tt.specs.View.{trees}
+use Rattle.mbe_tt.specs.Views.View.{trees}
 use Rattle.mbe_grammar.specs.SampleGrammar.{JumpWord, Operator, Prefix, Unary}
 use Rattle.mbe_grammar.proofs.Parts.{takes_shorter, turns_no_longer}
 use Rattle.mbe_grammar.proofs.expressions.+expressions.Goals as goal

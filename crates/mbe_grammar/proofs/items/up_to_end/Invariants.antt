@@ -1,6 +1,6 @@
 use Rattle.std.proofs.Common.{◌≡◌}
-use Rattle.mbe_tt.specs.Tree.{flat_len}
-use Rattle.mbe_tt.specs.View.{trees}
+use Rattle.mbe_tt.specs.Trees.Tree.{flat_len}
+use Rattle.mbe_tt.specs.Views.View.{trees}
 use Rattle.mbe_grammar.specs.Rule.{behind_first}
 use Rattle.mbe_grammar.specs.SampleGrammar.{is_item_end}
 use Rattle.mbe_grammar.proofs.items.up_to_end.Given as goal

@@ -1,5 +1,5 @@
 use Rattle.std.proofs.Common.{refl, sym, arith}
-use Rattle.mbe_tt.specs.View.{trees}
+use Rattle.mbe_tt.specs.Views.View.{trees}
 use Rattle.mbe_grammar.specs.SampleGrammar.{BindingMode}
 use Rattle.mbe_grammar.proofs.Parts.{takes_shorter}
 use Rattle.mbe_grammar.proofs.patterns.+patterns.Goals as goal

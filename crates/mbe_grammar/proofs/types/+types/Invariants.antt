@@ -1,6 +1,6 @@
 use Rattle.std.proofs.Common.{◌+◌, ◌*◌}
-use Rattle.mbe_tt.specs.Tree.{flat_len}
-use Rattle.mbe_tt.specs.View.{trees}
+use Rattle.mbe_tt.specs.Trees.Tree.{flat_len}
+use Rattle.mbe_tt.specs.Views.View.{trees}
 use Rattle.mbe_grammar.proofs.types.+types.Given as goal
 
 abbrev pub decreases-pointee : goal.decreases-pointee

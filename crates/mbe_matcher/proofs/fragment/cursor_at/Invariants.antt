@@ -1,5 +1,5 @@
 use Rattle.std.proofs.Common.{◌≡◌}
-use Rattle.mbe_tt.specs.Place.{viewed}
+use Rattle.mbe_tt.specs.Buffers.Place.{viewed}
 use Rattle.mbe_matcher.proofs.fragment.cursor_at.Given as goal
 
 abbrev pub invariant-loop-passed : goal.invariant-loop-passed

@@ -1,5 +1,5 @@
 use Rattle.std.proofs.Common.{◌∙◌}
-use Rattle.mbe_tt.specs.View.{trees}
+use Rattle.mbe_tt.specs.Views.View.{trees}
 use Rattle.mbe_matcher.proofs.WholeFronts.{counted_within, stands_at, good_counted, bad_counted, behind_all_groups, crossed_front, left_back}
 use Rattle.mbe_matcher.proofs.fragment.eat_front.Goals as goal
 use Rattle.mbe_matcher.proofs.fragment.eat_front.Goals.{then-not-front, else-not-front}

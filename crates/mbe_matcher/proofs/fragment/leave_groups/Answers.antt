@@ -1,5 +1,5 @@
 use Rattle.std.proofs.Common.{◌∙◌, arith, rules}
-use Rattle.mbe_tt.specs.Place.{viewed, IsAtRoot}
+use Rattle.mbe_tt.specs.Buffers.Place.{viewed, IsAtRoot}
 use Rattle.mbe_matcher.proofs.WholeFronts.{goes_on, stands_behind}
 use Rattle.mbe_matcher.proofs.fragment.leave_groups.Goals as goal
 

@@ -1,6 +1,6 @@
 use Rattle.std.proofs.Common.{◌≡◌, ◌≤◌, ◌-◌}
-use Rattle.mbe_tt.specs.Tree.{flat_len, cut_flat}
-use Rattle.mbe_tt.specs.Place.{viewed, place_of}
+use Rattle.mbe_tt.specs.Trees.Tree.{flat_len, cut_flat}
+use Rattle.mbe_tt.specs.Buffers.Place.{viewed, place_of}
 use Rattle.mbe_matcher.proofs.fragment.leave_groups.Given as goal
 
 abbrev pub invariant-groups : goal.invariant-groups

@@ -2,7 +2,7 @@ use Rattle.std.proofs.Common.{◌≡◌, ◌+◌, ◌∷◌, drop, true, false, 
 use Rattle.std.proofs.lemmas.List.{drop_more, drop_all}
 use denote.Enum.Bare.{same_true}
 use Rattle.mbe_tt.specs.contracts.tt.DelimiterKind.{the_type}
-use Rattle.mbe_tt.specs.Glue.{chars_of}
+use Rattle.mbe_tt.specs.Trees.Glue.{chars_of}
 use Rattle.mbe_semantics.specs.Syntax.Op.{token, puncts}
 use Rattle.mbe_semantics.specs.Readings.Item.{no_items, item}
 use Rattle.mbe_semantics.specs.Readings.Fit.{puncts_front}

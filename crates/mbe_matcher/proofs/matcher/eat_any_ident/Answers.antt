@@ -1,5 +1,5 @@
 use Rattle.std.proofs.Common.{sym}
-use Rattle.mbe_tt.specs.Tree.{cut_trees}
+use Rattle.mbe_tt.specs.Trees.Tree.{cut_trees}
 use Rattle.mbe_ops.proofs.Fragments.{passed_to, left_behind, taken, ident_in_front}
 use Rattle.mbe_matcher.proofs.matcher.eat_any_ident.Goals as goal
 

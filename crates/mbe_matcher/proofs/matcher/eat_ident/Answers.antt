@@ -1,6 +1,6 @@
 use Rattle.std.proofs.Common.{◌≡◌, Some, rules}
-use Rattle.mbe_tt.specs.Shown.{ident_of}
-use Rattle.mbe_tt.specs.Tree.{any_ident}
+use Rattle.mbe_tt.specs.Views.Shown.{ident_of}
+use Rattle.mbe_tt.specs.Trees.Tree.{any_ident}
 use Rattle.mbe_matcher.proofs.PlainMatching.{ident_passed}
 use Rattle.mbe_matcher.proofs.matcher.eat_ident.Goals as goal
 

@@ -1,5 +1,5 @@
 use Rattle.std.proofs.Common.{◌≡◌, sym, ap, ◌∙◌, Some, rules}
-use Rattle.mbe_tt.specs.Tree.{cut_trees, rest_of, skip, any_ident, front_char}
+use Rattle.mbe_tt.specs.Trees.Tree.{cut_trees, rest_of, skip, any_ident, front_char}
 use Rattle.mbe_ops.proofs.Fragments.{passed_to, left_behind, taken, lifetime_in_front}
 use Rattle.mbe_matcher.proofs.matcher.eat_lifetime.Goals as goal
 

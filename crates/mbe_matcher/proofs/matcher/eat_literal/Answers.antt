@@ -1,7 +1,7 @@
 use Rattle.std.proofs.Common.{◌≡◌, Some, rules}
-use Rattle.mbe_tt.specs.Leaf.{literal}
-use Rattle.mbe_tt.specs.Shown.{literal_of}
-use Rattle.mbe_tt.specs.Tree.{front_leaf}
+use Rattle.mbe_tt.specs.Trees.Leaf.{literal}
+use Rattle.mbe_tt.specs.Views.Shown.{literal_of}
+use Rattle.mbe_tt.specs.Trees.Tree.{front_leaf}
 use Rattle.mbe_matcher.proofs.PlainMatching.{literal_passed}
 use Rattle.mbe_matcher.proofs.matcher.eat_literal.Goals as goal
 

@@ -1,6 +1,6 @@
 use Rattle.std.proofs.Common.{◌≡◌, rules}
 use Rattle.std.specs.Str.{bytes_eq}
-use Rattle.mbe_tt.specs.Glue.{chars_of}
+use Rattle.mbe_tt.specs.Trees.Glue.{chars_of}
 use Rattle.mbe_matcher.proofs.PlainMatching.{puncts_passed}
 use Rattle.mbe_matcher.proofs.matcher.eat_puncts.Goals as goal
 

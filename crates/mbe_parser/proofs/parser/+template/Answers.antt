@@ -1,8 +1,8 @@
 use Rattle.std.proofs.Common.{◌≡◌, sym, ap, arith, refl, Some, rules}
 use Rattle.std.proofs.lemmas.Result.{err_from_is_err_and}
-use Rattle.mbe_tt.specs.Leaf as leaves
-use Rattle.mbe_tt.specs.Tree.{none, Leaf_tree, Group_tree, first}
-use Rattle.mbe_tt.specs.Shown.{literal_of, ident_of, leaf_of}
+use Rattle.mbe_tt.specs.Trees.Leaf as leaves
+use Rattle.mbe_tt.specs.Trees.Tree.{none, Leaf_tree, Group_tree, first}
+use Rattle.mbe_tt.specs.Views.Shown.{literal_of, ident_of, leaf_of}
 use Rattle.mbe_semantics.specs.Syntax.Op.{no_ops}
 use Rattle.mbe_semantics.specs.Syntax.Template.{head, nothing}
 use Rattle.mbe_parser.specs.Reader.{mode_of}

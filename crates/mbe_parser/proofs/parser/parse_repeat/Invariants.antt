@@ -1,6 +1,6 @@
 use Rattle.std.proofs.Common.{◌≤◌}
 use Rattle.std.specs.Prelude.{option_map}
-use Rattle.mbe_tt.specs.Tree.{flat_len}
+use Rattle.mbe_tt.specs.Trees.Tree.{flat_len}
 use Rattle.mbe_ops.specs.Views.{separator_seen}
 use Rattle.mbe_parser.proofs.SuffixLemmas.{SoFar}
 use Rattle.mbe_parser.proofs.parser.parse_repeat.Given as goal

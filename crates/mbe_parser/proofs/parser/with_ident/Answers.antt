@@ -1,6 +1,6 @@
 use Rattle.std.proofs.Common.{◌≡◌, refl, rules, ap, ◌∙◌, length}
 use Rattle.std.specs.Prelude.{[], ◌∷◌}
-use Rattle.mbe_tt.specs.Shown.{ident_of}
+use Rattle.mbe_tt.specs.Views.Shown.{ident_of}
 use Rattle.mbe_parser.proofs.SuffixLemmas.{no_lifetime}
 use Rattle.mbe_parser.proofs.parser.with_ident.Goals as goal
 use Rattle.mbe_parser.proofs.parser.with_ident.Goals.{in_default-via-then-as_slice-lt1, in_default-via-in-len1+else-quote-eq39, in_default-via-else-as_slice-lt1+else-this-lt2}

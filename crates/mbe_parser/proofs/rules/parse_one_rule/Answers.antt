@@ -1,5 +1,5 @@
 use Rattle.std.proofs.Common.{◌≡◌, ◌++◌, ◌∷◌, [], ap, ◌∙◌}
-use Rattle.mbe_tt.specs.Tree.{none}
+use Rattle.mbe_tt.specs.Trees.Tree.{none}
 use Rattle.mbe_parser.specs.RuleViews.{rule_of, rules_seen}
 use Rattle.mbe_parser.proofs.RuleReading.{one_fault}
 use Rattle.mbe_parser.proofs.rules.parse_one_rule.Goals as goal

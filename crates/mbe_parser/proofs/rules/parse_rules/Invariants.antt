@@ -1,4 +1,4 @@
-use Rattle.mbe_tt.specs.Tree.{flat_len}
+use Rattle.mbe_tt.specs.Trees.Tree.{flat_len}
 use Rattle.mbe_errors.specs.ErrorViews.{fault_of}
 use Rattle.mbe_parser.specs.RuleViews.{rules_seen}
 use Rattle.mbe_parser.proofs.RuleReading.{Continues}

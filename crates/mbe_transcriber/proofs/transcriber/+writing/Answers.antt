@@ -1,6 +1,6 @@
 use Rattle.std.proofs.Common.{◌≡◌, ◌<◌, ◌+◌, ◌-◌, ◌∷◌, vec_len, length-append, ◌++◌, [], ◌∙◌, ap, sym, drop, length, refl, rules, arith}
 use Rattle.std.specs.Prelude.{is_some, option_map}
-use Rattle.mbe_tt.specs.Shown.{literal_of, ident_of}
+use Rattle.mbe_tt.specs.Views.Shown.{literal_of, ident_of}
 use Rattle.mbe_semantics.specs.Writing.Rounds.{level, kept, kept_rounds, finite}
 use Rattle.mbe_ops.specs.Views.{op_of, ops_of, separator_seen, elements_seen}
 use Rattle.mbe_log.specs.BindingViews.{bound_by}

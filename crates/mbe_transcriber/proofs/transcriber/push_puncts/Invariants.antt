@@ -1,5 +1,5 @@
 use Rattle.std.proofs.Common.{◌≡◌, drop}
-use Rattle.mbe_tt.specs.Building.{put}
+use Rattle.mbe_tt.specs.Buffers.Building.{put}
 use Rattle.mbe_semantics.specs.Writing.Substitution.{punct_trees}
 use Rattle.mbe_transcriber.proofs.transcriber.push_puncts.Given as goal
 

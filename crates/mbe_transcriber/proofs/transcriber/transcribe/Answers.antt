@@ -1,7 +1,7 @@
 use Rattle.std.proofs.Common.{◌∷◌, [], ap, ◌∙◌}
 use Rattle.std.specs.Prelude.{is_some}
 use Rattle.mbe_tt.specs.declared.tt.Delimiter.{Delimiter}
-use Rattle.mbe_tt.specs.Tree.{Forest, none}
+use Rattle.mbe_tt.specs.Trees.Tree.{Forest, none}
 use Rattle.mbe_ops.specs.Views.{template_of}
 use Rattle.mbe_log.specs.BindingViews.{bound_by}
 use Rattle.mbe_transcriber.proofs.WroteLemmas.{wrote_whole}

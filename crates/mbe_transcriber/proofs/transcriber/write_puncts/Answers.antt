@@ -1,5 +1,5 @@
 use Rattle.std.proofs.Common.{ap, ◌∙◌, length}
-use Rattle.mbe_tt.proofs.Built.{length-put}
+use Rattle.mbe_tt.proofs.Buffers.Built.{length-put}
 use Rattle.mbe_transcriber.proofs.WritingLemmas.{writes_punct, writes_last_punct}
 use Rattle.mbe_transcriber.proofs.transcriber.write_puncts.Goals as goal
 

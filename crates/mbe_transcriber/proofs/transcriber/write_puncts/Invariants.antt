@@ -1,5 +1,5 @@
 use Rattle.std.proofs.Common.{◌≡◌, length, drop}
-use Rattle.mbe_tt.specs.Building.{Levels}
+use Rattle.mbe_tt.specs.Buffers.Building.{Levels}
 use Rattle.mbe_transcriber.specs.Writing.{Appends, AreMarked}
 use Rattle.mbe_transcriber.proofs.transcriber.write_puncts.Given as goal
 

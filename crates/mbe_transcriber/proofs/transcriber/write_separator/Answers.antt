@@ -1,6 +1,6 @@
 use Rattle.std.proofs.Common.{◌∙◌, ap, sym}
 use Rattle.std.specs.Prelude.{option_map}
-use Rattle.mbe_tt.specs.Building.{put}
+use Rattle.mbe_tt.specs.Buffers.Building.{put}
 use Rattle.mbe_semantics.specs.Writing.Substitution.{separator_trees}
 use Rattle.mbe_ops.specs.Views.{separator_seen}
 use Rattle.mbe_transcriber.proofs.WritingLemmas.{put-none}

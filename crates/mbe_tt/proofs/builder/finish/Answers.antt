@@ -1,9 +1,9 @@
 use Rattle.std.proofs.Common.{◌≡◌, ◌∙◌, ◌++◌, ◌∷◌, ◌-◌, [], List, ap, ℕ, set, length, arith}
-use Rattle.mbe_tt.specs.Entry.{Entry}
-use Rattle.mbe_tt.specs.Entry.{Close, Open}
-use Rattle.mbe_tt.specs.Shown.{entries_of}
-use Rattle.mbe_tt.proofs.Seen.{shown_append, length-shown}
-use Rattle.mbe_tt.proofs.Built.{finished}
+use Rattle.mbe_tt.specs.Views.Entry.{Entry}
+use Rattle.mbe_tt.specs.Views.Entry.{Close, Open}
+use Rattle.mbe_tt.specs.Views.Shown.{entries_of}
+use Rattle.mbe_tt.proofs.Buffers.Seen.{shown_append, length-shown}
+use Rattle.mbe_tt.proofs.Buffers.Built.{finished}
 use Rattle.mbe_tt.proofs.builder.finish.Goals as goal
 
 pub returns-clause-items : goal.returns-clause-items

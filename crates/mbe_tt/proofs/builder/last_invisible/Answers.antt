@@ -1,10 +1,10 @@
 use Rattle.std.proofs.Common.{◌≡◌, ◌+◌, ◌-◌, ap, arith, length}
-use Rattle.mbe_tt.specs.Tree.{Forest, flat_len}
-use Rattle.mbe_tt.specs.Entries.{forest_of}
-use Rattle.mbe_tt.specs.Shown.{entries_of}
-use Rattle.mbe_tt.proofs.Seen.{length-shown}
-use Rattle.mbe_tt.proofs.Spelled.{length-spell}
-use Rattle.mbe_tt.proofs.Last.{flat_rest, passed_one, false_not}
+use Rattle.mbe_tt.specs.Trees.Tree.{Forest, flat_len}
+use Rattle.mbe_tt.specs.Views.Entries.{forest_of}
+use Rattle.mbe_tt.specs.Views.Shown.{entries_of}
+use Rattle.mbe_tt.proofs.Buffers.Seen.{length-shown}
+use Rattle.mbe_tt.proofs.Buffers.Spelled.{length-spell}
+use Rattle.mbe_tt.proofs.Places.Last.{flat_rest, passed_one, false_not}
 use Rattle.mbe_tt.proofs.builder.last_invisible.Goals as goal
 
 pub overflow_sub-place : goal.overflow_sub-place

@@ -1,8 +1,8 @@
 use Rattle.std.proofs.Common.{◌≡◌, ◌+◌}
 use Rattle.std.specs.Option.{option_map}
-use Rattle.mbe_tt.specs.Tree.{last_invisible, flat_len, tree_count}
-use Rattle.mbe_tt.specs.Entries.{forest_of}
-use Rattle.mbe_tt.specs.Shown.{entries_of}
+use Rattle.mbe_tt.specs.Trees.Tree.{last_invisible, flat_len, tree_count}
+use Rattle.mbe_tt.specs.Views.Entries.{forest_of}
+use Rattle.mbe_tt.specs.Views.Shown.{entries_of}
 use Rattle.mbe_tt.proofs.builder.last_invisible.Given as goal
 
 abbrev pub invariant-loop-tree : goal.invariant-loop-tree

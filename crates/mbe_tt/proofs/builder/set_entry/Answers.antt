@@ -1,4 +1,4 @@
-use Rattle.mbe_tt.proofs.Seen.{shown_set}
+use Rattle.mbe_tt.proofs.Buffers.Seen.{shown_set}
 use Rattle.std.proofs.Common.{refl}
 use Rattle.mbe_tt.proofs.builder.set_entry.Goals as goal
 

@@ -1,8 +1,8 @@
 use Rattle.std.proofs.Common.{◌≡◌, ◌∙◌, ◌+◌, ◌-◌, ◌++◌, List, ap, length, take, drop, arith, ℕ}
 use Rattle.std.specs.Vec.{vec_len}
-use Rattle.mbe_tt.specs.Entry.{Entry}
-use Rattle.mbe_tt.specs.Shown.{entries_of}
-use Rattle.mbe_tt.proofs.Seen.{shown_take, shown_cut}
+use Rattle.mbe_tt.specs.Views.Entry.{Entry}
+use Rattle.mbe_tt.specs.Views.Shown.{entries_of}
+use Rattle.mbe_tt.proofs.Buffers.Seen.{shown_take, shown_cut}
 use Rattle.mbe_tt.proofs.builder.unwrap_at.Goals as goal
 
 pub returns-clause-items : goal.returns-clause-items

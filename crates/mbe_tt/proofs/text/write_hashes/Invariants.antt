@@ -1,4 +1,4 @@
-use Rattle.mbe_tt.specs.Literals.{hash_text}
+use Rattle.mbe_tt.specs.Trees.Literals.{hash_text}
 use Rattle.std.specs.Fmt.{HasWritten, IsPlainFormatter}
 use Rattle.mbe_tt.proofs.text.write_hashes.Given as goal
 

@@ -1,7 +1,7 @@
 use Rattle.std.proofs.Common.{◌∙◌, ap, sym}
-use Rattle.mbe_tt.specs.Tree.{Tree, tree, none, append}
-use Rattle.mbe_tt.specs.Element.{element_tree}
-use Rattle.mbe_tt.proofs.Spelled.{first_rest}
+use Rattle.mbe_tt.specs.Trees.Tree.{Tree, tree, none, append}
+use Rattle.mbe_tt.specs.Views.Element.{element_tree}
+use Rattle.mbe_tt.proofs.Buffers.Spelled.{first_rest}
 use Rattle.mbe_tt_tests.proofs.writing.pass_by_savepoint.Goals as goal
 
 pub from_savepoint-requires : goal.from_savepoint-requires

@@ -1,7 +1,7 @@
 use Rattle.std.proofs.Common.{◌∙◌, ap}
-use Rattle.mbe_tt.specs.Leaf.{ident}
+use Rattle.mbe_tt.specs.Trees.Leaf.{ident}
 use Rattle.mbe_tt.specs.declared.tt.IdentIsRaw.TheVariants.{No}
-use Rattle.mbe_tt.specs.Building.{put}
+use Rattle.mbe_tt.specs.Buffers.Building.{put}
 use Rattle.mbe_transcriber.proofs.VariableLemmas.{nothing_for}
 use Rattle.mbe_transcriber.proofs.WritingLemmas.{two_leaves, put-none}
 use Rattle.mbe_transcriber.proofs.transcriber.fragments.write_default.Goals as goal

@@ -1,5 +1,5 @@
 use Rattle.std.proofs.Common.{◌∙◌, sym}
-use Rattle.mbe_tt.specs.View.{trees}
+use Rattle.mbe_tt.specs.Views.View.{trees}
 use Rattle.mbe_transcriber.proofs.VariableLemmas.{bare_written, enclosed_written, if_ok}
 use Rattle.mbe_transcriber.proofs.transcriber.fragments.write_expression.Goals as goal
 

@@ -1,7 +1,7 @@
 use Rattle.std.proofs.Common.{refl}
-use Rattle.mbe_tt.specs.View.{trees}
-use Rattle.mbe_tt.specs.Tree.{alone}
-use Rattle.mbe_tt.specs.Top.{top_group}
+use Rattle.mbe_tt.specs.Views.View.{trees}
+use Rattle.mbe_tt.specs.Trees.Tree.{alone}
+use Rattle.mbe_tt.specs.Trees.Top.{top_group}
 use Rattle.mbe_semantics.specs.Writing.Written.{path_trees}
 use Rattle.mbe_transcriber.proofs.VariableLemmas.{nothing_written, whole_written, tokens_written, path_written, if_ok}
 use Rattle.mbe_transcriber.proofs.transcriber.fragments.write_fragment.Goals as goal

@@ -1,7 +1,7 @@
 use Rattle.std.proofs.Common.{◌≡◌, ◌∙◌, ap, sym, true, false, rules}
 use Rattle.std.specs.Prelude.{◌&&◌}
-use Rattle.mbe_tt.specs.View.{trees}
-use Rattle.mbe_tt.specs.Building.{put}
+use Rattle.mbe_tt.specs.Views.View.{trees}
+use Rattle.mbe_tt.specs.Buffers.Building.{put}
 use Rattle.mbe_semantics.specs.Writing.Written.{path_trees, is_ident, stands_before_less}
 use Rattle.mbe_transcriber.proofs.WritingLemmas.{put-none}
 use Rattle.mbe_transcriber.proofs.PathLemmas.{path_next, path_end, first_tree, less_behind, other_behind, ident_then}

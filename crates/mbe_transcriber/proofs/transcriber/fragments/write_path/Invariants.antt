@@ -1,6 +1,6 @@
 use Rattle.std.proofs.Common.{◌≡◌}
-use Rattle.mbe_tt.specs.Building.{put}
-use Rattle.mbe_tt.specs.Tree.{flat_len}
+use Rattle.mbe_tt.specs.Buffers.Building.{put}
+use Rattle.mbe_tt.specs.Trees.Tree.{flat_len}
 use Rattle.mbe_semantics.specs.Writing.Written.{path_trees}
 use Rattle.mbe_transcriber.proofs.transcriber.fragments.write_path.Given as goal
 

@@ -1,5 +1,5 @@
 use Rattle.std.proofs.Common.{◌≡◌, ◌∙◌, ap, rules}
-use Rattle.mbe_tt.specs.Leaf.{ident}
+use Rattle.mbe_tt.specs.Trees.Leaf.{ident}
 use Rattle.mbe_tt.specs.declared.tt.IdentIsRaw.TheVariants.{No}
 use Rattle.mbe_transcriber.proofs.WritingLemmas.{two_leaves}
 use Rattle.mbe_transcriber.proofs.transcriber.fragments.write_unbound.Goals as goal

@@ -1,7 +1,7 @@
 use Rattle.std.proofs.Common.{◌≡◌, ◌∙◌, ap, length, sym}
-use Rattle.mbe_tt.specs.Building.{levels_of}
-use Rattle.mbe_tt.specs.Shown.{entries_of}
-use Rattle.mbe_tt.proofs.Built.{opens_at_first, after_build}
+use Rattle.mbe_tt.specs.Buffers.Building.{levels_of}
+use Rattle.mbe_tt.specs.Views.Shown.{entries_of}
+use Rattle.mbe_tt.proofs.Buffers.Built.{opens_at_first, after_build}
 use Rattle.mbe_tt.proofs.builder.TopSubtreeBuilder.build.Goals as goal
 
 pub opening_at-around-requires : goal.opening_at-around-requires

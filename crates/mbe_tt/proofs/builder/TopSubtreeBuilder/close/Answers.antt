@@ -1,9 +1,9 @@
 use Rattle.std.proofs.Common.{◌∙◌, ◌+◌, ◌-◌, ◌<◌, ◌≤◌, arith, ap, length}
 use Rattle.std.specs.Vec.{vec_capacity}
-use Rattle.mbe_tt.specs.Building.{closed, levels_of}
-use Rattle.mbe_tt.specs.Shown.{entries_of}
-use Rattle.mbe_tt.proofs.Seen.{length-shown}
-use Rattle.mbe_tt.proofs.Built.{opens_at, after_close, finish_len}
+use Rattle.mbe_tt.specs.Buffers.Building.{closed, levels_of}
+use Rattle.mbe_tt.specs.Views.Shown.{entries_of}
+use Rattle.mbe_tt.proofs.Buffers.Seen.{length-shown}
+use Rattle.mbe_tt.proofs.Buffers.Built.{opens_at, after_close, finish_len}
 use Rattle.mbe_tt.proofs.builder.TopSubtreeBuilder.close.Goals as goal
 
 pub opening_at-around-requires : goal.opening_at-around-requires

@@ -1,5 +1,5 @@
 use Rattle.std.proofs.Common.{rules}
-use Rattle.mbe_tt.proofs.Grown.{put-none, put_more}
+use Rattle.mbe_tt.proofs.Buffers.Grown.{put-none, put_more}
 use Rattle.mbe_tt.proofs.builder.TopSubtreeBuilder.extend.Goals as goal
 
 pub loop-leaf-init : goal.loop-leaf-init

@@ -1,6 +1,6 @@
 use Rattle.std.proofs.Common.{◌≡◌}
-use Rattle.mbe_tt.specs.Building.{put}
-use Rattle.mbe_tt.specs.Shown.{leaves_of}
+use Rattle.mbe_tt.specs.Buffers.Building.{put}
+use Rattle.mbe_tt.specs.Views.Shown.{leaves_of}
 use Rattle.mbe_tt.proofs.builder.TopSubtreeBuilder.extend.Given as goal
 
 abbrev pub invariant-loop-leaf : goal.invariant-loop-leaf

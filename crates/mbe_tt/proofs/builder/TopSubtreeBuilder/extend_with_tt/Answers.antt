@@ -1,12 +1,12 @@
 use Rattle.std.proofs.Common.{◌∙◌, ◌+◌, ◌≤◌, ◌++◌, List, arith, ap, length}
 use Rattle.std.specs.Vec.{vec_capacity}
 use Rattle.std.specs.List.{each_same}
-use Rattle.mbe_tt.specs.View.{trees}
-use Rattle.mbe_tt.specs.Building.{put}
-use Rattle.mbe_tt.specs.Entry.{Entry}
-use Rattle.mbe_tt.specs.Shown.{entries_of}
-use Rattle.mbe_tt.proofs.Seen.{length-shown, shown_append}
-use Rattle.mbe_tt.proofs.Built.{after_put}
+use Rattle.mbe_tt.specs.Views.View.{trees}
+use Rattle.mbe_tt.specs.Buffers.Building.{put}
+use Rattle.mbe_tt.specs.Views.Entry.{Entry}
+use Rattle.mbe_tt.specs.Views.Shown.{entries_of}
+use Rattle.mbe_tt.proofs.Buffers.Seen.{length-shown, shown_append}
+use Rattle.mbe_tt.proofs.Buffers.Built.{after_put}
 use Rattle.mbe_tt.proofs.builder.TopSubtreeBuilder.extend_with_tt.Goals as goal
 
 pub invariant_of-self-2 : goal.invariant_of-self-2

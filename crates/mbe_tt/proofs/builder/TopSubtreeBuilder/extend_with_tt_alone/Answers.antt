@@ -2,18 +2,18 @@ use Rattle.std.proofs.Common.{◌≡◌, ◌∙◌, ◌+◌, ◌≤◌, ◌++◌
 use Rattle.std.specs.Vec.{vec_capacity}
 use Rattle.std.specs.List.{each_same}
 use Rattle.std.specs.Prelude.{OnOk}
-use Rattle.mbe_tt.specs.Entries.{spell}
-use Rattle.mbe_tt.specs.View.{trees}
-use Rattle.mbe_tt.specs.Tree.{Forest, alone}
-use Rattle.mbe_tt.specs.Building.{put}
-use Rattle.mbe_tt.specs.Entry.{Entry, Leaf, entry_punct}
-use Rattle.mbe_tt.specs.Leaf.{punct}
-use Rattle.mbe_tt.specs.Shown.{entries_of, entry_of}
+use Rattle.mbe_tt.specs.Views.Entries.{spell}
+use Rattle.mbe_tt.specs.Views.View.{trees}
+use Rattle.mbe_tt.specs.Trees.Tree.{Forest, alone}
+use Rattle.mbe_tt.specs.Buffers.Building.{put}
+use Rattle.mbe_tt.specs.Views.Entry.{Entry, Leaf, entry_punct}
+use Rattle.mbe_tt.specs.Trees.Leaf.{punct}
+use Rattle.mbe_tt.specs.Views.Shown.{entries_of, entry_of}
 use Rattle.mbe_tt.specs.declared.tt.Punct.{Punct}
 use Rattle.mbe_tt.specs.declared.tt.Spacing.TheVariants.{Alone}
-use Rattle.mbe_tt.proofs.Seen.{length-shown, shown_append}
-use Rattle.mbe_tt.proofs.Built.{after_put}
-use Rattle.mbe_tt.proofs.Last.{none_is, alone_keeps, alone_punct}
+use Rattle.mbe_tt.proofs.Buffers.Seen.{length-shown, shown_append}
+use Rattle.mbe_tt.proofs.Buffers.Built.{after_put}
+use Rattle.mbe_tt.proofs.Places.Last.{none_is, alone_keeps, alone_punct}
 use Rattle.mbe_tt.proofs.builder.TopSubtreeBuilder.extend_with_tt_alone.Goals as goal
 
 pub invariant_of-self-2 : goal.invariant_of-self-2

@@ -1,13 +1,13 @@
 use Rattle.std.proofs.Common.{◌≡◌, ◌∙◌, ◌+◌, ◌≤◌, ◌∷◌, [], ◌++◌, List, arith, ap, length, ℕ, subst}
 use Rattle.std.specs.Vec.{vec_capacity}
-use Rattle.mbe_tt.specs.Tree.{none}
-use Rattle.mbe_tt.specs.Building.{Levels, IsBuilding}
+use Rattle.mbe_tt.specs.Trees.Tree.{none}
+use Rattle.mbe_tt.specs.Buffers.Building.{Levels, IsBuilding}
 use Rattle.mbe_tt.specs.declared.tt.Delimiter.{Delimiter}
-use Rattle.mbe_tt.specs.Entry.{Entry}
-use Rattle.mbe_tt.specs.Entry.{Open}
-use Rattle.mbe_tt.specs.Shown.{entries_of}
-use Rattle.mbe_tt.proofs.Seen.{length-shown, shown_append}
-use Rattle.mbe_tt.proofs.Built.{after_open_group}
+use Rattle.mbe_tt.specs.Views.Entry.{Entry}
+use Rattle.mbe_tt.specs.Views.Entry.{Open}
+use Rattle.mbe_tt.specs.Views.Shown.{entries_of}
+use Rattle.mbe_tt.proofs.Buffers.Seen.{length-shown, shown_append}
+use Rattle.mbe_tt.proofs.Buffers.Built.{after_open_group}
 use Rattle.mbe_tt.proofs.builder.TopSubtreeBuilder.open.Goals as goal
 
 pub invariant_of-self-2 : goal.invariant_of-self-2

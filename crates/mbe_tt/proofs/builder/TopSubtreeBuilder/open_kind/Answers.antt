@@ -1,7 +1,7 @@
 use Rattle.std.proofs.Common.{◌∙◌, ◌<◌, arith, ap, length}
-use Rattle.mbe_tt.specs.Building.{kind_inside, levels_of}
-use Rattle.mbe_tt.specs.Shown.{entries_of}
-use Rattle.mbe_tt.proofs.Built.{opens_at, kind_here}
+use Rattle.mbe_tt.specs.Buffers.Building.{kind_inside, levels_of}
+use Rattle.mbe_tt.specs.Views.Shown.{entries_of}
+use Rattle.mbe_tt.proofs.Buffers.Built.{opens_at, kind_here}
 use Rattle.mbe_tt.proofs.builder.TopSubtreeBuilder.open_kind.Goals as goal
 
 pub opening_at-around-requires : goal.opening_at-around-requires

@@ -1,13 +1,13 @@
 use Rattle.std.proofs.Common.{◌≡◌, ◌∙◌, ◌+◌, List, drop, arith, ap, length, sym, refl, ℕ}
-use Rattle.mbe_tt.specs.Entry.{Entry}
-use Rattle.mbe_tt.specs.Entries.{spell}
-use Rattle.mbe_tt.specs.Building.{Levels, levels_of, unwrap_last}
-use Rattle.mbe_tt.specs.Tree.{last_invisible, unwrapped}
-use Rattle.mbe_tt.specs.Shown.{entries_of}
-use Rattle.mbe_tt.proofs.Seen.{length-shown, shown_drop}
-use Rattle.mbe_tt.proofs.Spelled.{spelled, read_back}
-use Rattle.mbe_tt.proofs.Last.{none_of, ends_invisible, unwrapped_same}
-use Rattle.mbe_tt.proofs.Unwrapped.{innermost, place_fits, inside_is, group_fits, after_unwrap, not_unwrapped, taken_out_from}
+use Rattle.mbe_tt.specs.Views.Entry.{Entry}
+use Rattle.mbe_tt.specs.Views.Entries.{spell}
+use Rattle.mbe_tt.specs.Buffers.Building.{Levels, levels_of, unwrap_last}
+use Rattle.mbe_tt.specs.Trees.Tree.{last_invisible, unwrapped}
+use Rattle.mbe_tt.specs.Views.Shown.{entries_of}
+use Rattle.mbe_tt.proofs.Buffers.Seen.{length-shown, shown_drop}
+use Rattle.mbe_tt.proofs.Buffers.Spelled.{spelled, read_back}
+use Rattle.mbe_tt.proofs.Places.Last.{none_of, ends_invisible, unwrapped_same}
+use Rattle.mbe_tt.proofs.Buffers.Unwrapped.{innermost, place_fits, inside_is, group_fits, after_unwrap, not_unwrapped, taken_out_from}
 use Rattle.mbe_tt.proofs.builder.TopSubtreeBuilder.remove_last_subtree_if_invisible.Goals as goal
 
 pub overflow_add-self-inside : goal.overflow_add-self-inside

@@ -1,8 +1,8 @@
 use Rattle.std.proofs.Common.{◌≡◌, ◌∙◌, ◌<◌, arith, ap, length, sym}
-use Rattle.mbe_tt.specs.Building.{levels_of, put, written}
-use Rattle.mbe_tt.specs.Shown.{entries_of}
-use Rattle.mbe_tt.proofs.Seen.{length-shown, shown_take}
-use Rattle.mbe_tt.proofs.Built.{point_fits, length-put, after_restore}
+use Rattle.mbe_tt.specs.Buffers.Building.{levels_of, put, written}
+use Rattle.mbe_tt.specs.Views.Shown.{entries_of}
+use Rattle.mbe_tt.proofs.Buffers.Seen.{length-shown, shown_take}
+use Rattle.mbe_tt.proofs.Buffers.Built.{point_fits, length-put, after_restore}
 use Rattle.mbe_tt.proofs.builder.TopSubtreeBuilder.restore.Goals as goal
 
 pub overflow_add-point : goal.overflow_add-point

@@ -1,8 +1,8 @@
 use Rattle.std.proofs.Common.{arith, ap, length}
-use Rattle.mbe_tt.specs.Building.{levels_of, flat_written}
-use Rattle.mbe_tt.specs.Shown.{entries_of}
-use Rattle.mbe_tt.proofs.Seen.{length-shown}
-use Rattle.mbe_tt.proofs.Built.{length-written}
+use Rattle.mbe_tt.specs.Buffers.Building.{levels_of, flat_written}
+use Rattle.mbe_tt.specs.Views.Shown.{entries_of}
+use Rattle.mbe_tt.proofs.Buffers.Seen.{length-shown}
+use Rattle.mbe_tt.proofs.Buffers.Built.{length-written}
 use Rattle.mbe_tt.proofs.builder.TopSubtreeBuilder.restore_point.Goals as goal
 
 pub returns : goal.returns

@@ -1,11 +1,11 @@
 use Rattle.std.proofs.Common.{◌∙◌, ◌≤◌, ℕ, arith, ap, length, sym}
-use Rattle.mbe_tt.specs.Tree.{Forest, append, flat_len, rest_at, depth_at}
-use Rattle.mbe_tt.specs.Entries.{forest_of}
-use Rattle.mbe_tt.specs.Place.{rests}
-use Rattle.mbe_tt.specs.Shown.{entries_of}
-use Rattle.mbe_tt.proofs.Seen.{shown_take}
-use Rattle.mbe_tt.proofs.Spelled.{length-spell, spelled, read_back}
-use Rattle.mbe_tt.proofs.Placed.{Crossed, crossed_is, passed_entries, root-rests, rest_at-rests}
+use Rattle.mbe_tt.specs.Trees.Tree.{Forest, append, flat_len, rest_at, depth_at}
+use Rattle.mbe_tt.specs.Views.Entries.{forest_of}
+use Rattle.mbe_tt.specs.Buffers.Place.{rests}
+use Rattle.mbe_tt.specs.Views.Shown.{entries_of}
+use Rattle.mbe_tt.proofs.Buffers.Seen.{shown_take}
+use Rattle.mbe_tt.proofs.Buffers.Spelled.{length-spell, spelled, read_back}
+use Rattle.mbe_tt.proofs.Places.Placed.{Crossed, crossed_is, passed_entries, root-rests, rest_at-rests}
 use Rattle.mbe_tt.proofs.cursor.Cursor.crossed.Goals as goal
 
 pub invariant_of-result : goal.invariant_of-result

@@ -1,11 +1,11 @@
 use Rattle.std.proofs.Common.{◌∙◌, ◌≤◌, ap, ℕ, arith, length}
-use Rattle.mbe_tt.specs.Tree.{Forest, first, flat_len, rest_at}
-use Rattle.mbe_tt.specs.Entries.{forest_of}
-use Rattle.mbe_tt.specs.Place.{rests}
-use Rattle.mbe_tt.specs.Shown.{entries_of}
-use Rattle.mbe_tt.proofs.Seen.{shown_drop}
-use Rattle.mbe_tt.proofs.Placed.{left_is, rest_at-rests}
-use Rattle.mbe_tt.proofs.Spelled.{length-spell}
+use Rattle.mbe_tt.specs.Trees.Tree.{Forest, first, flat_len, rest_at}
+use Rattle.mbe_tt.specs.Views.Entries.{forest_of}
+use Rattle.mbe_tt.specs.Buffers.Place.{rests}
+use Rattle.mbe_tt.specs.Views.Shown.{entries_of}
+use Rattle.mbe_tt.proofs.Buffers.Seen.{shown_drop}
+use Rattle.mbe_tt.proofs.Places.Placed.{left_is, rest_at-rests}
+use Rattle.mbe_tt.proofs.Buffers.Spelled.{length-spell}
 use Rattle.mbe_tt.proofs.cursor.Cursor.token_tree.Goals as goal
 
 pub first_tree-requires : goal.first_tree-requires

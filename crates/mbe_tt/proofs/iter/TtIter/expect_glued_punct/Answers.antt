@@ -1,5 +1,5 @@
 use Rattle.std.proofs.Common.{◌≡◌, ◌∙◌, ◌∷◌, ◌++◌, [], ap, sym}
-use Rattle.mbe_tt.proofs.GlueLemmas.{Front, Glues, three_glued, two_glued, one_glued}
+use Rattle.mbe_tt.proofs.Glue.GlueLemmas.{Front, Glues, three_glued, two_glued, one_glued}
 use Rattle.mbe_tt.proofs.iter.TtIter.expect_glued_punct.Goals as goal
 use Rattle.mbe_tt.proofs.iter.TtIter.expect_glued_punct.Goals.{then-is_two, else-is_two}
 

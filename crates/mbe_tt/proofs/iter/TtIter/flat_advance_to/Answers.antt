@@ -1,11 +1,11 @@
 use Rattle.std.proofs.Common.{◌≡◌, ◌∙◌, ◌≤◌, [], ap, ℕ, arith, length}
-use Rattle.mbe_tt.specs.Tree.{Forest, flat_len, rest_at, depth_at}
-use Rattle.mbe_tt.specs.Entries.{forest_of}
-use Rattle.mbe_tt.specs.Place.{rests}
-use Rattle.mbe_tt.specs.Shown.{entries_of}
-use Rattle.mbe_tt.proofs.Seen.{shown_drop}
-use Rattle.mbe_tt.proofs.Spelled.{length-spell, spelled, read_back}
-use Rattle.mbe_tt.proofs.Placed.{left_at_root, root-rests, rest_at-rests}
+use Rattle.mbe_tt.specs.Trees.Tree.{Forest, flat_len, rest_at, depth_at}
+use Rattle.mbe_tt.specs.Views.Entries.{forest_of}
+use Rattle.mbe_tt.specs.Buffers.Place.{rests}
+use Rattle.mbe_tt.specs.Views.Shown.{entries_of}
+use Rattle.mbe_tt.proofs.Buffers.Seen.{shown_drop}
+use Rattle.mbe_tt.proofs.Buffers.Spelled.{length-spell, spelled, read_back}
+use Rattle.mbe_tt.proofs.Places.Placed.{left_at_root, root-rests, rest_at-rests}
 use Rattle.mbe_tt.proofs.iter.TtIter.flat_advance_to.Goals as goal
 
 pub invariant_of-self : goal.invariant_of-self

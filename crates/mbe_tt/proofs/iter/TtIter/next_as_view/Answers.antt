@@ -1,8 +1,8 @@
 use Rattle.std.proofs.Common.{◌∙◌, sym, ap, Some}
-use Rattle.mbe_tt.specs.Tree.{Tree, tree, none, append}
-use Rattle.mbe_tt.specs.Element.{element_tree}
+use Rattle.mbe_tt.specs.Trees.Tree.{Tree, tree, none, append}
+use Rattle.mbe_tt.specs.Views.Element.{element_tree}
 use Rattle.std.specs.Option.{option_map}
-use Rattle.mbe_tt.proofs.Spelled.{first_rest}
+use Rattle.mbe_tt.proofs.Buffers.Spelled.{first_rest}
 use Rattle.mbe_tt.proofs.iter.TtIter.next_as_view.Goals as goal
 
 pub from_savepoint-requires : goal.from_savepoint-requires

@@ -1,9 +1,9 @@
 use Rattle.std.proofs.Common.{◌≡◌, ◌∙◌, ap}
-use Rattle.mbe_tt.specs.Entries.{forest_code}
-use Rattle.mbe_tt.specs.Same.{same_tells}
-use Rattle.mbe_tt.specs.Top.{Top, delimiter_of, inside}
-use Rattle.mbe_tt.specs.Tree.{Forest}
-use Rattle.mbe_tt.specs.View.{group_of, trees}
+use Rattle.mbe_tt.specs.Views.Entries.{forest_code}
+use Rattle.mbe_tt.specs.Laws.Same.{same_tells}
+use Rattle.mbe_tt.specs.Trees.Top.{Top, delimiter_of, inside}
+use Rattle.mbe_tt.specs.Trees.Tree.{Forest}
+use Rattle.mbe_tt.specs.Views.View.{group_of, trees}
 use Rattle.mbe_tt.specs.declared.tt.Delimiter.{Delimiter}
 use Rattle.mbe_tt.proofs.view.SubtreeView.is_same.Goals as goal
 

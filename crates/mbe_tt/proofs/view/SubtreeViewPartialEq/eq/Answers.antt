@@ -1,5 +1,5 @@
-use Rattle.mbe_tt.specs.Same.{same_by}
-use Rattle.mbe_tt.specs.Top.{top_code}
+use Rattle.mbe_tt.specs.Laws.Same.{same_by}
+use Rattle.mbe_tt.specs.Trees.Top.{top_code}
 use Rattle.mbe_tt.proofs.view.SubtreeViewPartialEq.eq.Goals as goal
 
 pub returns : goal.returns

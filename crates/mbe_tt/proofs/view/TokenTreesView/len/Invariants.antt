@@ -1,6 +1,6 @@
 use Rattle.std.proofs.Common.{◌≡◌, ◌+◌}
-use Rattle.mbe_tt.specs.Tree.{tree_count}
-use Rattle.mbe_tt.specs.View.{trees}
+use Rattle.mbe_tt.specs.Trees.Tree.{tree_count}
+use Rattle.mbe_tt.specs.Views.View.{trees}
 use Rattle.mbe_tt.proofs.view.TokenTreesView.len.Given as goal
 
 abbrev pub invariant-loop-tree : goal.invariant-loop-tree

@@ -1,0 +1,2 @@
+-- Glued puncts.
+pub mod GlueLemmas

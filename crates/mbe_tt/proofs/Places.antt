@@ -1,0 +1,5 @@
+-- Places in trees, and what is left there.
+pub mod PlaceLemmas
+pub mod Placed
+pub mod CutLemmas
+pub mod Last

@@ -1,0 +1,2 @@
+-- What a grammar of fragments answers.
+pub mod Grammar

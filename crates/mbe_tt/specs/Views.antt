@@ -1,0 +1,7 @@
+-- How the values of the code are seen as trees.
+pub mod Entry
+pub mod Entries
+pub mod Shown
+pub mod View
+pub mod Element
+pub mod Savepoint
