@@ -3,4 +3,10 @@
 
 pub mod delimited;
 pub mod fragment;
+mod fronts;
 pub mod matcher;
+pub mod matching;
+mod position;
+mod skipping;
+mod source;
+mod steps;
