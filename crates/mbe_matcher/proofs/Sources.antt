@@ -1,13 +1,15 @@
 -- A place in an argument, and what is left of the groups around it.
-use Rattle.std.proofs.Common.{◌≡◌, ℕ, ◌+◌, ◌<◌, ◌≤◌, ◌&&◌, Bool, true, false, IsTrue, ◌↔◌, nat_lt, List, [], ◌∷◌, ◌++◌, reverse, length, Option, Some, None, option_to_list, refl, sym, ap, ◌∙◌, arith}
+use Rattle.std.proofs.Common.{◌≡◌, ℕ, zero, suc, ◌+◌, ◌<◌, ◌≤◌, ◌&&◌, Bool, true, false, IsTrue, ◌↔◌, nat_lt, List, [], ◌∷◌, ◌++◌, reverse, length, Option, Some, None, option_to_list, refl, sym, ap, ◌∙◌, arith}
 use Rattle.std.proofs.lemmas.List.{reverse-append}
 use Rattle.std.proofs.lemmas.Bool.{lt-ltb, le-ltb, false_from_ne_true}
 use Rattle.std.proofs.lemmas.Option.{none-some, same_Some}
 use Rattle.mbe_tt.specs.Trees.Leaf.{Leaf}
 use Rattle.mbe_tt.specs.declared.tt.Delimiter.{Delimiter}
-use Rattle.mbe_tt.specs.Trees.Tree.{Forest, none, leaf, group, flat_len, first, rest_of, rest_at, Leaf_tree, Group_tree}
-use Rattle.mbe_tt.specs.Buffers.Place.{rests, step}
+use Rattle.mbe_tt.specs.Trees.Tree.{Forest, none, leaf, group, flat_len, first, rest_of, rest_at, append, Leaf_tree, Group_tree}
+use Rattle.mbe_tt.specs.Buffers.Place.{Rests, rests, step, walk}
 use Rattle.mbe_tt.proofs.Places.Placed.{walk-step, rest_at-walk}
+use Rattle.mbe_tt.proofs.Places.PlaceLemmas.{append-none}
+use Rattle.mbe_matcher.specs.Fronts.{IsBehind}
 use Rattle.mbe_semantics.specs.Readings.Input.{is_none}
 
 -- what is held innermost is what is left at the place
@@ -78,3 +80,26 @@ closes_here f here n r e l h =
 
 pub closes_not : (f : Forest) (n : ℕ) → flat_len f ≤ n → false ≡ (nat_lt n (flat_len f) && is_none (rest_at f n))
 closes_not f n l = ap (λ (b : Bool). b && is_none (rest_at f n)) (sym (le-ltb n (flat_len f) l))
+
+-- ---- after whole trees
+
+walk_past : (front beyond : Forest) (around : List Forest) (n m : ℕ) → n ≡ flat_len front + m → walk n (append front beyond, around) ≡ walk m (beyond, around)
+walk_past none beyond around n m e = let h : n ≡ m = omega (arith, e) in ap (λ (k : ℕ). walk k (beyond, around)) h
+walk_past (leaf l rest) beyond around zero m e = absurd (omega (arith, e))
+walk_past (leaf l rest) beyond around (suc n) m e = walk_past rest beyond around n m (omega (arith, e))
+walk_past (group d inside rest) beyond around zero m e = absurd (omega (arith, e))
+walk_past (group d inside rest) beyond around (suc n) m e =
+    ap (λ (f : Forest). walk n (f, append rest beyond ∷ around)) (sym (append-none inside))
+    ∙ walk_past inside none (append rest beyond ∷ around) n (suc (flat_len rest + m)) (omega (arith, e))
+    ∙ walk_past rest beyond around (flat_len rest + m) m refl
+
+walk_on : (n m k : ℕ) (r : Rests) → k ≡ n + m → walk k r ≡ walk m (walk n r)
+walk_on zero m k r e = let h : k ≡ m = omega (arith, e) in ap (λ (x : ℕ). walk x r) h
+walk_on (suc n) m zero r e = absurd (omega (arith, e))
+walk_on (suc n) m (suc k) r e = walk_on n m k (step r.0 r.1) (omega (arith, e))
+
+pub behind_trees : (f : Forest) (n width : ℕ) (here beyond : Forest) (around : List Forest) → rests f n ≡ (here, around) → IsBehind here width beyond →
+    rests f (n + width) ≡ (beyond, around)
+behind_trees f n width here beyond around e (front, a, l) =
+    walk_on n width (n + width) (f, []) refl ∙ ap (walk width) e ∙ ap (λ (h : Forest). walk width (h, around)) (sym a)
+    ∙ walk_past front beyond around width 0 (omega (arith, l))
