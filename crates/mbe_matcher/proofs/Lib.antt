@@ -2,3 +2,4 @@ pub mod BindingLemmas
 pub mod WholeFronts
 pub mod PlainMatching
 pub mod PlainReadings
+pub mod Counting
