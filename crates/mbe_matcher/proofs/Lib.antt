@@ -3,3 +3,5 @@ pub mod WholeFronts
 pub mod PlainMatching
 pub mod PlainReadings
 pub mod Counting
+pub mod Standing
+pub mod Settling
