@@ -19,21 +19,9 @@ use Rattle.mbe_matcher.specs.declared.position.Steps.{Steps}
 use Rattle.mbe_matcher.specs.declared.position.Waiting.{Waiting}
 use Rattle.mbe_matcher.specs.Positions.{Each, Both, Shows, IsPosition, LeadsTo, Holds, Keeps, AreStepsNow, AreSteps, idle_in}
 use Rattle.mbe_matcher.specs.Matched.{IsStack, AreSettled}
-use Rattle.mbe_matcher.proofs.Standing.{shows_keep, leads_keep, holds_keep}
+use Rattle.mbe_matcher.proofs.Keeping.{each_weaker, each_append, both_each, shows_keep, leads_keep, holds_keep}
 
 -- ---- lists, member by member
-
-each_append : {X Y : Type 0} (R : X → Y → Type 0) (xs zs : List X) (ys ws : List Y) → Each R xs ys → Each R zs ws → Each R (xs ++ zs) (ys ++ ws)
-each_append R [] zs [] ws a b = b
-each_append R (x ∷ xs) zs (y ∷ ys) ws a b = (a.0, each_append R xs zs ys ws a.1 b)
-each_append R [] zs (y ∷ ys) ws a b = elim a [ ]
-each_append R (x ∷ xs) zs [] ws a b = elim a [ ]
-
-each_some : {X Y : Type 0} (R : X → Y → Type 0) (x : Option X) (y : Option Y) → Both R x y → Each R (option_to_list x) (option_to_list y)
-each_some R None None h = tt
-each_some R (Some x) (Some y) h = (h, tt)
-each_some R None (Some y) h = elim h [ ]
-each_some R (Some x) None h = elim h [ ]
 
 -- the last of each
 pub record Last {X Y : Type 0} (R : X → Y → Type 0) (xs : List X) (x : X) (ys : List Y) : Type 0 where
@@ -51,12 +39,6 @@ last_of R (w ∷ xs) x [] a = elim a [ ]
 last_of R (w ∷ xs) x (y ∷ ys) a =
     let r = last_of R xs x ys a.1 in
     record { front = y ∷ r.front; last = r.last; is = ap (λ l. y ∷ l) r.is; fronts = (a.0, r.fronts); lasts = r.lasts }
-
-each_map : {X Y : Type 0} (R S : X → Y → Type 0) → ((x : X) (y : Y) → R x y → S x y) → (xs : List X) (ys : List Y) → Each R xs ys → Each S xs ys
-each_map R S h [] [] a = tt
-each_map R S h (x ∷ xs) (y ∷ ys) a = (h x y a.0, each_map R S h xs ys a.1)
-each_map R S h [] (y ∷ ys) a = elim a [ ]
-each_map R S h (x ∷ xs) [] a = elim a [ ]
 
 -- pushed the other way round
 each_turned : {X Y : Type 0} (R : X → Y → Type 0) (a b : Option X) (ys : List Y) → Each R (option_to_list a ++ option_to_list b) ys → Each R (option_to_list b ++ option_to_list a) (reverse ys)
@@ -159,22 +141,22 @@ module _ {A : Type 0} (i : Input) (pattern : Ops) (argument : Forest) (q : ℕ) 
     shown : Each (Shows new after) todo' (popped.front ++ reverse (idle_of i q popped.last))
     shown = subst (λ l. Each (Shows new after) l (popped.front ++ reverse (idle_of i q popped.last))) (sym (pushed ∙ append_assoc rest (option_to_list s.second) (option_to_list s.first)))
         (each_append (Shows new after) rest (option_to_list s.second ++ option_to_list s.first) popped.front (reverse (idle_of i q popped.last))
-        (each_map (Shows log outers) (Shows new after) (λ x y h. shows_keep log new outers after st.kept x y h) rest popped.front popped.fronts)
+        (each_weaker (Shows log outers) (Shows new after) (λ x y h. shows_keep log new outers after st.kept x y h) rest popped.front popped.fronts)
         (each_turned (Shows new after) s.first s.second (idle_of i q popped.last) st.now.idle))
 
     goes_on : Each (LeadsTo new after (rest_at argument q)) ws' (filter_map (next_of i q) (w.out ++ popped.last ∷ []))
     goes_on = subst (λ l. Each (LeadsTo new after (rest_at argument q)) l (filter_map (next_of i q) (w.out ++ popped.last ∷ []))) (sym waits)
         (subst (Each (LeadsTo new after (rest_at argument q)) (ws ++ option_to_list s.next)) (sym (filter_map-append (next_of i q) w.out (popped.last ∷ []) ∙ ap (λ l. filter_map (next_of i q) w.out ++ l) (one_step (next_of i q) popped.last)))
         (each_append (LeadsTo new after (rest_at argument q)) ws (option_to_list s.next) (filter_map (next_of i q) w.out) (option_to_list (next_of i q popped.last))
-        (each_map (LeadsTo log outers (rest_at argument q)) (LeadsTo new after (rest_at argument q)) (λ x y h. leads_keep log new outers after st.kept (rest_at argument q) x y h) ws (filter_map (next_of i q) w.out) w.goes_on)
-        (each_some (LeadsTo new after (rest_at argument q)) s.next (next_of i q popped.last) st.now.next)))
+        (each_weaker (LeadsTo log outers (rest_at argument q)) (LeadsTo new after (rest_at argument q)) (λ x y h. leads_keep log new outers after st.kept (rest_at argument q) x y h) ws (filter_map (next_of i q) w.out) w.goes_on)
+        (both_each (LeadsTo new after (rest_at argument q)) s.next (next_of i q popped.last) st.now.next)))
 
     ended : Each (Holds new) hs' (filter_map finished_of (w.out ++ popped.last ∷ []))
     ended = subst (λ l. Each (Holds new) l (filter_map finished_of (w.out ++ popped.last ∷ []))) (sym ends)
         (subst (Each (Holds new) (hs ++ option_to_list s.done)) (sym (filter_map-append finished_of w.out (popped.last ∷ []) ∙ ap (λ l. filter_map finished_of w.out ++ l) (one_step finished_of popped.last)))
         (each_append (Holds new) hs (option_to_list s.done) (filter_map finished_of w.out) (option_to_list (finished_of popped.last))
-        (each_map (Holds log) (Holds new) (λ x y h. holds_keep log new st.kept.log x y h) hs (filter_map finished_of w.out) w.ended)
-        (each_some (Holds new) s.done (finished_of popped.last) st.now.done)))
+        (each_weaker (Holds log) (Holds new) (λ x y h. holds_keep log new outers after st.kept x y h) hs (filter_map finished_of w.out) w.ended)
+        (both_each (Holds new) s.done (finished_of popped.last) st.now.done)))
 
     pub walked_take : nat_lt (times p.number met) 2 ≡ true → Walked i pattern q all (p.number ∷ met) new after (rest_at argument q) todo' ws' hs'
     walked_take few = record {

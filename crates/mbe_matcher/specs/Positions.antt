@@ -44,23 +44,28 @@ Grows {X} old new = (more : List X) × (new ≡ old ++ more)
 
 -- ---- positions
 
+-- what is left after a fragment of this width
+abbrev pub IsLeft : Forest → ℕ → Option Forest → Type 0
+IsLeft here width None = Unit {0}
+IsLeft here width (Some beyond) = IsBehind here width beyond
+
+-- an open repetition, with the place where its round began and the account outside
+abbrev pub edge_in : {A : Type 0} → Rounds A → Ops → ℕ → Account → Edge
+edge_in r rest began outside = edge (ops_of r.body.now) (option_map (λ s. separator_seen s.now) r.separator) r.kind rest began outside
+
+-- What is kept of an open repetition: the account outside, and the number of the dot before its body.
+pub record AreRounds {A : Type 0} (log : Log) (r : Rounds A) (rest : Ops) (outside : Account) (up : List Edge) : Type 0 where
+  pub account : IsAccount log r.outside outside
+  pub front : r.front ≡ dots (ops_of r.body.now) + (dots rest + edges_behind up)
+
 module _ {A : Type 0} (log : Log) (outers : List (Outer A)) where
-  -- An open repetition, in whichever place its round began. The dot before its body has the number that is kept.
-  pub record AreRounds (r : Rounds A) (rest : Ops) (outside : Account) (up : List Edge) : Type 0 where
-    pub account : IsAccount log r.outside outside
-    pub front : r.front ≡ dots (ops_of r.body.now) + (dots rest + edges_behind up)
-
-  -- the separator, whatever memory holds it
-  abbrev pub edge_in : Rounds A → Ops → ℕ → Account → Edge
-  edge_in r rest began outside = edge (ops_of r.body.now) (option_map (λ s. separator_seen s.now) r.separator) r.kind rest began outside
-
-  -- the open items from an outer one on, innermost first
+  -- The open items from an outer one on, innermost first. Where a round began isn't kept.
   pub data AreEdges : Option ℕ → List Edge → Type 0 where
     none_open : AreEdges None []
     group_open : (n : ℕ) (o : Outer A) (es : List Edge) → slice_get outers n ≡ Some o → o.rounds ≡ None → AreEdges o.up es →
         AreEdges (Some n) (gate (ops_of o.rest.now) ∷ es)
     repetition_open : (n : ℕ) (o : Outer A) (r : Rounds A) (began : ℕ) (outside : Account) (es : List Edge) →
-        slice_get outers n ≡ Some o → o.rounds ≡ Some r → AreRounds r (ops_of o.rest.now) outside es → AreEdges o.up es →
+        slice_get outers n ≡ Some o → o.rounds ≡ Some r → AreRounds log r (ops_of o.rest.now) outside es → AreEdges o.up es →
         AreEdges (Some n) (edge_in r (ops_of o.rest.now) began outside ∷ es)
 
   -- the position has these ops left, this account, and these open items
@@ -68,7 +73,7 @@ module _ {A : Type 0} (log : Log) (outers : List (Outer A)) where
     pub dot : ops_of p.dot.now ≡ rest
     pub number : p.number ≡ dots rest + edges_behind up
     pub account : IsAccount log p.handle a
-    pub open : AreEdges p.up up
+    pub around : AreEdges p.up up
 
   -- the position is one of this outline
   abbrev pub Shows : Position A → Outline → Type 0
@@ -80,11 +85,6 @@ module _ {A : Type 0} (log : Log) (outers : List (Outer A)) where
 
   -- ---- steps
 
-  -- what is left after a fragment of this width
-  abbrev pub IsLeft : Forest → ℕ → Option Forest → Type 0
-  IsLeft here width None = Unit {0}
-  IsLeft here width (Some beyond) = IsBehind here width beyond
-
   -- it waits for this step, over trees of `here`
   pub record Leads (here : Forest) (w : Waiting A) (width : ℕ) (by_fragment : Bool) (o : Outline) : Type 0 where
     pub width_is : w.width ≡ width
@@ -95,9 +95,10 @@ module _ {A : Type 0} (log : Log) (outers : List (Outer A)) where
   abbrev pub LeadsTo : Forest → Waiting A → Advance → Type 0
   LeadsTo here w (advance width by_fragment o) = Leads here w width by_fragment o
 
-  -- the handle has these current commands
-  abbrev pub Holds : Handle → Commands → Type 0
-  Holds h cs = (a : Account) × IsAccount log h a × (a.current ≡ cs)
+
+-- the handle has these current commands
+abbrev pub Holds : Log → Handle → Commands → Type 0
+Holds log h cs = (a : Account) × IsAccount log h a × (a.current ≡ cs)
 
 -- the steps over no token, in order
 abbrev pub idle_in : {A : Type 0} → Steps A → List (Position A)

@@ -160,7 +160,7 @@ pub(crate) fn between_width<A: Allocator>(
     src: &TtIter<'_, A>,
 ) -> Option<usize>
     ensures { result ≡ if_again kind
-        (length_of (between_front (option_map (λ s. separator_seen s.now) separator) src.now)) }
+        (length_of (between_front (option_map (λ s. separator_seen s.now) separator.entry) src.now)) }
 {
     if kind == RepeatKind::ZeroOrOne {
         return None;
