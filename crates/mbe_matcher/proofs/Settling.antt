@@ -1,12 +1,12 @@
 -- The loop over the stack of positions at a place.
-use Rattle.std.proofs.Common.{ℕ, ◌+◌, ◌≡◌, ◌<◌, ◌≤◌, Bool, true, false, Option, Some, None, option_to_list, List, [], ◌∷◌, ◌++◌, length, map, reverse, append_assoc, refl, sym, ap, subst, ◌∙◌, arith}
+use Rattle.std.proofs.Common.{ℕ, ◌+◌, ◌≡◌, ◌<◌, ◌≤◌, Bool, true, false, Option, Some, None, option_to_list, List, [], ◌∷◌, ◌++◌, length, map, reverse, append_assoc, refl, sym, ap, subst, ◌∙◌, arith, length-append}
 use Rattle.std.specs.Prelude.{nat_lt}
 use Rattle.std.specs.List.{filter_map, cons_option}
 use Rattle.std.proofs.lemmas.Bool.{ltb-true, ltb-false}
 use Rattle.std.proofs.lemmas.List.Elements.{filter_map-append}
 use Rattle.mbe_tt.specs.Trees.Tree.{Forest, rest_at}
 use Rattle.mbe_semantics.specs.Readings.Input.{Input}
-use Rattle.mbe_semantics.specs.Syntax.Op.{Ops}
+use Rattle.mbe_semantics.specs.Syntax.Op.{Ops, no_ops, op}
 use Rattle.mbe_semantics.specs.Bindings.Account.{Log, Handle}
 use Rattle.mbe_semantics.specs.Matching.Dots.{dots, outline_number}
 use Rattle.mbe_semantics.specs.Matching.Outline.{Outline, outline, Advance, idle_of, next_of, finished_of}
@@ -52,7 +52,7 @@ each_turned R None (Some x) (y ∷ []) h = h
 each_turned R None (Some x) (y ∷ z ∷ ys) h = elim h.1 [ ]
 each_turned R (Some w) (Some x) [] h = elim h [ ]
 each_turned R (Some w) (Some x) (y ∷ []) h = elim h.1 [ ]
-each_turned R (Some w) (Some x) (y ∷ z ∷ []) h = (h.1.0, h.0, tt)
+each_turned R (Some w) (Some x) (y ∷ z ∷ []) h = (h.1.0, (h.0, tt))
 each_turned R (Some w) (Some x) (y ∷ z ∷ v ∷ ys) h = elim h.1.1 [ ]
 
 each_none : {X Y : Type 0} (R : X → Y → Type 0) (ys : List Y) → Each R [] ys → ys ≡ []
@@ -83,7 +83,7 @@ walked_start i q size log outers here todo ws hs s e f = record {
 }
 
 one_step : {X Y : Type 0} (f : X → Option Y) (x : X) → filter_map f (x ∷ []) ≡ option_to_list (f x)
-one_step f x = at (f x)
+one_step {Y = Y} f x = at (f x)
   where
     at : (y : Option Y) → cons_option y [] ≡ option_to_list y
     at None = refl
@@ -182,3 +182,51 @@ walked_end i q size old log before outers here first todo met ws hs s e w =
       goes_on = subst (λ l. Each (LeadsTo log outers here) ws (filter_map (next_of i q) l)) done w.goes_on;
       ended = subst (λ l. Each (Holds log) hs (filter_map finished_of l)) done w.ended;
     }
+
+-- ---- how many there are
+
+pub nothing : {X : Type 0} (xs : List X) → length xs ≡ 0 → xs ≡ []
+nothing [] e = refl
+nothing (x ∷ xs) e = absurd (omega (arith, e))
+
+some_few : {X : Type 0} (x : Option X) → length (option_to_list x) ≤ 1
+some_few None = omega arith
+some_few (Some x) = omega arith
+
+both_few : {X Y : Type 0} (R : X → Y → Type 0) (x : Option X) (y : Option Y) → Both R x y → length (option_to_list x) ≡ length (option_to_list y)
+both_few R None None h = refl
+both_few R (Some x) (Some y) h = refl
+both_few R None (Some y) h = absurd h
+both_few R (Some x) None h = absurd h
+
+-- a position at the pattern's end goes on over no token
+one_way : (i : Input) (q : ℕ) (o : Outline) → length (option_to_list (next_of i q o)) + length (option_to_list (finished_of o)) ≤ 1
+one_way i q (outline no_ops e []) = omega arith
+one_way i q (outline no_ops e (x ∷ up)) = let f : length (option_to_list (next_of i q (outline no_ops e (x ∷ up)))) ≤ 1 = some_few (next_of i q (outline no_ops e (x ∷ up))) in omega (arith, f)
+one_way i q (outline (op o rest) e up) = let f : length (option_to_list (next_of i q (outline (op o rest) e up))) ≤ 1 = some_few (next_of i q (outline (op o rest) e up)) in omega (arith, f)
+
+pub steps_few : {A : Type 0} (i : Input) (argument : Forest) (q : ℕ) (log new : Log) (outers after : List (Outer A)) (p : Position A) (s : Steps A) → IsPosition log outers p →
+    ((o : Outline) → Shows log outers p o → AreSteps i argument q log new outers after o s) → length (option_to_list s.next) + length (option_to_list s.done) ≤ 1
+steps_few i argument q log new outers after p s is gives =
+    let st = gives is.0 is.1 in
+    let a : length (option_to_list s.next) ≡ length (option_to_list (next_of i q is.0)) = both_few (LeadsTo new after (rest_at argument q)) s.next (next_of i q is.0) st.now.next in
+    let b : length (option_to_list s.done) ≡ length (option_to_list (finished_of is.0)) = both_few (Holds new) s.done (finished_of is.0) st.now.done in
+    let c = one_way i q is.0 in
+    omega (arith, a, b, c)
+
+pub few_on : {W H : Type 0} (ws ws' : List W) (hs hs' : List H) (w : Option W) (h : Option H) (v v' n : ℕ) → ws' ≡ ws ++ option_to_list w → hs' ≡ hs ++ option_to_list h →
+    length (option_to_list w) + length (option_to_list h) ≤ 1 → v' < v → length ws + length hs + v ≤ n → length ws' + length hs' + v' ≤ n
+few_on ws ws' hs hs' w h v v' n e f one l few =
+    let a : length ws' ≡ length ws + length (option_to_list w) = ap length e ∙ length-append ws (option_to_list w) in
+    let b : length hs' ≡ length hs + length (option_to_list h) = ap length f ∙ length-append hs (option_to_list h) in
+    omega (arith, a, b, one, l, few)
+
+pub stack_falls : {P : Type 0} (rest all all' : List P) (p : P) (first second : Option P) (v v' : ℕ) → all ≡ rest ++ p ∷ [] → all' ≡ (rest ++ option_to_list second) ++ option_to_list first →
+    v' < v → length all' + (v' + v') < length all + (v + v)
+stack_falls rest all all' p first second v v' e f l =
+    let a : length all ≡ length rest + 1 = ap length e ∙ length-append rest (p ∷ []) in
+    let b : length all' ≡ length rest + length (option_to_list second) + length (option_to_list first) =
+    ap length f ∙ length-append (rest ++ option_to_list second) (option_to_list first) ∙ ap (λ n. n + length (option_to_list first)) (length-append rest (option_to_list second)) in
+    let c : length (option_to_list first) ≤ 1 = some_few first in
+    let d : length (option_to_list second) ≤ 1 = some_few second in
+    omega (arith, a, b, c, d, l)
