@@ -7,3 +7,5 @@ pub mod Sources
 pub mod Widths
 pub mod SkipLemmas
 pub mod StepLemmas
+pub mod Counting
+pub mod Settling

@@ -4,3 +4,4 @@ pub mod Fronts
 pub mod Rewriting
 pub mod Positions
 pub mod Matched
+pub mod Counts

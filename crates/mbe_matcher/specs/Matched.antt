@@ -1,5 +1,5 @@
--- What a match answers.
-use Rattle.std.specs.Prelude.{ℕ, ◌≡◌, Bool, false, ◌||◌, not, nat_eq, is_some, List, [], ◌∷◌, Option, Some, None}
+-- What is settled at a place, and what a match answers.
+use Rattle.std.specs.Prelude.{ℕ, ◌≡◌, Bool, false, ◌||◌, not, nat_eq, is_some, List, [], ◌∷◌, reverse, Option, Some, None}
 use Rattle.mbe_tt.specs.Trees.Tree.{Forest}
 use Rattle.mbe_tt.specs.Fragments.Grammar.{Grammar}
 use Rattle.mbe_semantics.specs.Syntax.Op.{Ops}
@@ -9,9 +9,32 @@ use Rattle.mbe_semantics.specs.Readings.Verdict.{Verdict, one_reading, many_read
 use Rattle.mbe_semantics.specs.Bindings.Account.{Log, Handle, IsLive, commands_of}
 use Rattle.mbe_matcher.specs.declared.matching.MatchVerdict.{MatchVerdict}
 use Rattle.mbe_matcher.specs.declared.matching.MatchVerdict.TheVariants as told
+use Rattle.mbe_semantics.specs.Readings.Input.{Input}
+use Rattle.mbe_semantics.specs.Readings.Reading.{Beginning}
+use Rattle.mbe_semantics.specs.Matching.Dots.{dots}
+use Rattle.mbe_semantics.specs.Matching.Outline.{Outline}
+use Rattle.mbe_semantics.specs.Matching.Settled.{Stack}
+use Rattle.mbe_bounds.specs.Loop.Kept.{kept_moves, kept_ends}
+use Rattle.mbe_matcher.specs.declared.position.Outer.{Outer}
 use Rattle.mbe_matcher.specs.declared.position.Position.{Position}
 use Rattle.mbe_matcher.specs.declared.position.Waiting.{Waiting}
-use Rattle.mbe_matcher.specs.Positions.{Holds}
+use Rattle.mbe_matcher.specs.Positions.{Each, Shows, LeadsTo, Holds}
+
+-- ---- the positions at a place
+
+-- The positions, the last on top, stand for beginnings of a pattern of so many dots that end at the place.
+pub record IsStack {A : Type 0} (i : Input) (place size : ℕ) (log : Log) (outers : List (Outer A)) (todo : List (Position A)) : Type 0 where
+  pub pattern : Ops
+  pub size_is : dots pattern ≡ size
+  pub beginnings : List Beginning
+  pub spots : List Outline
+  pub stack : Stack i pattern place beginnings spots
+  pub shown : Each (Shows log outers) todo spots
+
+-- What comes of a stack, where two of each dot are followed: steps over trees of `here`, and commands at the pattern's end.
+pub record AreSettled {A : Type 0} (i : Input) (place : ℕ) (pattern : Ops) (spots : List Outline) (log : Log) (outers : List (Outer A)) (here : Forest) (waiting : List (Waiting A)) (ends : List Handle) : Type 0 where
+  pub goes_on : Each (LeadsTo log outers here) waiting (kept_moves i (dots pattern) place (reverse spots))
+  pub ended : Each (Holds log) ends (kept_ends i (dots pattern) place (reverse spots))
 
 -- ---- the positions that go on
 

@@ -3,10 +3,12 @@
 
 pub mod delimited;
 pub mod fragment;
+mod counts;
 mod fronts;
 pub mod matcher;
 pub mod matching;
 mod position;
+mod settle;
 mod skipping;
 mod source;
 mod steps;
