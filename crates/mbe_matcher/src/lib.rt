@@ -10,5 +10,6 @@ pub mod matching;
 mod position;
 mod settle;
 mod skipping;
+mod report;
 mod source;
 mod steps;
