@@ -11,9 +11,10 @@ ghost use Rattle.mbe_matcher.specs.Rewriting.{IsRewritten};
 
 use crate::fragment::{eat_front, expect_fragment};
 use crate::matcher::begins_refused;
+use crate::source::Source;
 use mbe_errors::error::{ExpandError, ExpandErrorKind};
 use mbe_log::fragment::of_kind;
-use mbe_log::log::{BindingLog, Handle};
+use mbe_log::log::{BindingLog, Handle, again};
 use mbe_ops::ops::Op;
 use mbe_semantics::kinds::MetaVarKind;
 use mbe_tt::grammar::{FragmentGrammar, PrefixEntryPoint};
@@ -21,7 +22,7 @@ use mbe_tt::iter::{TtElement, TtIter};
 use mbe_tt::span::DelimSpan;
 use mbe_tt::symbol::Symbol;
 use mbe_tt::tt::{Leaf, Punct};
-use std::alloc::{AllocError, Allocator};
+use std::alloc::{AllocError, Allocator, Global};
 
 // Where an error of the trees in front stands.
 fn noted<A: Allocator>(
@@ -188,4 +189,137 @@ pub(crate) fn bind_failing<'a, A: Allocator + Copy, G: FragmentGrammar>(
         return log.push_missing(handle, name, kind);
     }
     log.push_fragment(handle, name, of_kind(Some(kind), counted.whole))
+}
+
+// An op, and the trees in front of it that it doesn't fit.
+#[derive(Drop)]
+struct Misfit<'a, A: Allocator = Global> {
+    op: &'a Op<A>,
+    here: TtIter<'a, A>,
+}
+
+// What the bindings of a report come from.
+#[derive(Drop)]
+struct Last<'a, A: Allocator = Global> {
+    handle: Handle,
+    // Where the position failed. None where it stands at the pattern's end.
+    misfit: Option<Misfit<'a, A>>,
+}
+
+// What positions report on the way.
+#[derive(Drop)]
+pub(crate) struct Report<'a, A: Allocator = Global> {
+    // The first that failed.
+    first: Option<Misfit<'a, A>>,
+    // The last that failed at a place; or the first at the pattern's end, where none failed there.
+    last: Option<Last<'a, A>>,
+    failed_here: bool,
+}
+
+// Whether an error is noted where the op doesn't fit. At a group and at a variable of an unknown kind none is.
+fn is_noted<A: Allocator>(op: &Op<A>) -> bool {
+    matches!(
+        op,
+        Op::Literal(_) | Op::Ident(_) | Op::Punct(_) | Op::Var { kind: Some(_), .. }
+    )
+}
+
+impl<'a, A: Allocator> Report<'a, A> {
+    ghost use Rattle.mbe_semantics.specs.Bindings.Account.{Log};
+    ghost use Rattle.mbe_matcher.specs.Reports.{IsReport};
+    ghost use Rattle.mbe_log.specs.Accounts.{Every};
+
+    // Nothing is reported.
+    pub(crate) fn new() -> Report<'a, A>
+        ensures { (log : Log) → IsReport log result }
+    {
+        Report {
+            first: None,
+            last: None,
+            failed_here: false,
+        }
+    }
+
+    // A position that stands before these ops has no step at the place.
+    pub(crate) fn note(&mut self, source: &Source<'a, A>, dot: &'a [Op<A>], handle: Handle)
+        ensures { (log : Log) → IsLive log handle → IsReport log self.old → IsReport log self.new }
+    {
+        let Some((op, _rest)) = dot.split_first() else {
+            return;
+        };
+        if !is_noted(op) {
+            return;
+        }
+        if self.first.is_none() {
+            self.first = Some(Misfit { op, here: source.here() });
+        }
+        let misfit = Some(Misfit { op, here: source.here() });
+        self.last = Some(Last { handle, misfit });
+        self.failed_here = true;
+    }
+
+    // All positions of the place were looked at. Those at the pattern's end have bound this.
+    pub(crate) fn after_place(&mut self, ends: &[Handle])
+        ensures { (log : Log) → Every (IsLive log) ends.now → IsReport log self.old → IsReport log self.new }
+    {
+        if let Some(end) = ends.first()
+            && !self.failed_here
+        {
+            self.last = Some(Last {
+                handle: again(end),
+                misfit: None,
+            });
+        }
+        self.failed_here = false;
+    }
+}
+
+impl<'a, A: Allocator + Copy> Report<'a, A> {
+    ghost use Rattle.mbe_log.specs.Shared.{IsKept};
+    ghost use Rattle.mbe_matcher.specs.Reports.{IsReport};
+
+    // The first error that was noted; where none was, that of the stop, at the argument's opening.
+    pub(crate) fn error<G: FragmentGrammar>(
+        &self,
+        alloc: A,
+        grammar: &G,
+        around: DelimSpan,
+        is_at_end: bool,
+    ) -> Result<ExpandError<A>, AllocError> {
+        if let Some(misfit) = &self.first
+            && let Some(error) = failing(alloc, grammar, misfit.op, &misfit.here, around)?
+        {
+            return Ok(error);
+        }
+        let kind = if is_at_end {
+            ExpandErrorKind::UnexpectedToken
+        } else {
+            ExpandErrorKind::LeftoverTokens
+        };
+        ExpandError::new(alloc, around.opening, kind)
+    }
+
+    // What the last position that is reported had bound.
+    pub(crate) fn bindings<G: FragmentGrammar>(
+        self,
+        grammar: &G,
+        log: &mut BindingLog<'a, A>,
+    ) -> Result<Handle, AllocError>
+        requires { IsReport log.old self }
+        ensures live { IfOk result (λ h. IsLive log.new h) }
+        ensures kept { OnOk result (IsKept log.old log.new) }
+    {
+        let Some(last) = self.last else {
+            return log.alloc();
+        };
+        let Last { mut handle, misfit } = last;
+        let Some(misfit) = misfit else {
+            return Ok(handle);
+        };
+        let Op::Var { name, kind: Some(kind), .. } = misfit.op else {
+            return Ok(handle);
+        };
+        bind_failing(grammar, log, &mut handle, name, *kind, &misfit.here)?;
+        Ok(handle)
+    }
 }
