@@ -76,3 +76,11 @@ module _ {A : Type 0} (old new : Log) (before after : List (Outer A)) (k : Keeps
 
   pub holds_keep : (h : Handle) (cs : Commands) → Holds old h cs → Holds new h cs
   holds_keep h cs (a, i, e) = (a, k.log.others h a i, e)
+
+-- one outer item more
+pub keeps_more : {A : Type 0} (log : Log) (outers all : List (Outer A)) (o : Outer A) → all ≡ outers ++ o ∷ [] → Keeps log log outers all
+keeps_more log outers all o e = record { log = kept_not log; outers = (o ∷ [], e) }
+
+-- no outer item more
+pub kept_only : {A : Type 0} (old new : Log) (outers : List (Outer A)) → IsKept old new → Keeps old new outers outers
+kept_only old new outers k = record { log = k; outers = grows_not outers }

@@ -1,7 +1,7 @@
 // The steps of a position at one place.
 ghost use Rattle.std.specs.Prelude.{◌≡◌, ◌≤◌, ◌+◌, IfOk, Some, None, option_map};
-ghost use Rattle.mbe_semantics.specs.Bindings.Account.{IsLive};
-ghost use Rattle.mbe_semantics.specs.Syntax.Op.{op, group, variable, repetition, no_ops};
+ghost use Rattle.mbe_semantics.specs.Bindings.Account.{Account, IsAccount, IsLive};
+ghost use Rattle.mbe_semantics.specs.Syntax.Op.{op as op_then, group, variable, repetition, no_ops};
 ghost use Rattle.mbe_semantics.specs.Matching.Dots.{dots};
 ghost use Rattle.mbe_tt.specs.declared.span.Span.{Span};
 ghost use Rattle.mbe_tt.specs.Fragments.Grammar.{Grammar};
@@ -53,7 +53,7 @@ fn op_steps<'a, A: Allocator + Copy, G: FragmentGrammar>(
     position: Position<'a, A>,
 ) -> Result<Steps<'a, A>, AllocError>
     requires stands { IsPosition log.old outers.old.items position }
-    requires dot { ops_of position.dot.now ≡ op (op_of op.now) (ops_of rest.now) }
+    requires dot { ops_of position.dot.now ≡ op_then (op_of op.now) (ops_of rest.now) }
     ensures { GivesSteps (G.grammar grammar.now) source.now log.old log.new
         outers.old.items outers.new.items position.entry result }
 {
@@ -93,7 +93,7 @@ fn over<'a, A: Allocator>(
     beyond: Option<TtIter<'a, A>>,
     after: Position<'a, A>,
 ) -> Steps<'a, A>
-    ensures { result ≡ over_steps width beyond after.entry }
+    ensures { result ≡ over_steps width beyond.entry after.entry }
 {
     if width == 0 {
         return Steps {
@@ -124,7 +124,7 @@ fn plain_steps<'a, A: Allocator>(
     position: Position<'a, A>,
 ) -> Steps<'a, A>
     requires plain { IsPlain (op_of op.now) }
-    requires dot { ops_of position.dot.now ≡ op (op_of op.now) (ops_of rest.now) }
+    requires dot { ops_of position.dot.now ≡ op_then (op_of op.now) (ops_of rest.now) }
     requires number { 1 ≤ position.number }
     ensures { AreStepsOf source.now position.entry result }
 {
@@ -149,7 +149,7 @@ fn group_steps<'a, A: Allocator + Copy>(
     rest: &'a [Op<A>],
     position: Position<'a, A>,
 ) -> Result<Steps<'a, A>, AllocError>
-    requires dot { ops_of position.dot.now ≡ op (group delimiter (ops_of body.now)) (ops_of rest.now) }
+    requires dot { ops_of position.dot.now ≡ op_then (group delimiter (ops_of body.now)) (ops_of rest.now) }
     requires number { 1 ≤ position.number }
     ensures { GivesStepsOver source.now outers.old.items outers.new.items position.entry result }
 {
@@ -182,7 +182,7 @@ fn variable_steps<'a, A: Allocator + Copy, G: FragmentGrammar>(
     position: Position<'a, A>,
 ) -> Result<Steps<'a, A>, AllocError>
     requires live { IsLive log.old position.handle }
-    requires dot { (span : Span) × (ops_of position.dot.now ≡ op (variable name.now kind span) (ops_of rest.now)) }
+    requires dot { (span : Span) × (ops_of position.dot.now ≡ op_then (variable name.now kind span) (ops_of rest.now)) }
     requires number { 1 ≤ position.number }
     ensures { GivesStepsIn (G.grammar grammar.now) source.now log.old log.new position.entry result }
 {
@@ -212,7 +212,7 @@ fn repetition_steps<'a, A: Allocator + Copy>(
     position: Position<'a, A>,
 ) -> Result<Steps<'a, A>, AllocError>
     requires live { IsLive log.old position.handle }
-    requires dot { ops_of position.dot.now ≡ op (repetition (ops_of body.now)
+    requires dot { ops_of position.dot.now ≡ op_then (repetition (ops_of body.now)
         (option_map (λ s. separator_seen s.now) separator) kind) (ops_of rest.now) }
     requires number { 1 + dots (ops_of body.now) ≤ position.number }
     ensures { GivesStepsFor log.old log.new outers.old.items outers.new.items position.entry result }
@@ -258,10 +258,12 @@ fn skipped<'a, A: Allocator + Copy>(
     requires number { 1 + dots (ops_of body.now) ≤ before.now.number }
     ensures { IfOk result (IsSkip kind (ops_of body.now) (ops_of rest.now) log.old log.new before.now) }
 {
-    if kind == RepeatKind::OneOrMore {
+    if let RepeatKind::OneOrMore = kind {
         return Ok(None);
     }
-    let inside = dots_of(body).ok_or(AllocError)?;
+    let Some(inside) = dots_of(body) else {
+        return Err(AllocError);
+    };
     let mut handle = again(&before.handle);
     skip_names(log, body, &mut handle)?;
     Ok(Some(Position {
@@ -316,7 +318,7 @@ fn round_steps<'a, A: Allocator + Copy>(
     rounds: &Rounds<'a, A>,
     position: Position<'a, A>,
 ) -> Result<Steps<'a, A>, AllocError>
-    requires live { IsLive log.old position.handle }
+    requires account { (a : Account) × IsAccount log.old position.handle a }
     requires outside { IsLive log.old rounds.now.outside }
     requires dot { ops_of position.dot.now ≡ no_ops }
     requires number { 1 ≤ position.number }
