@@ -9,3 +9,4 @@ pub mod SkipLemmas
 pub mod StepLemmas
 pub mod Counting
 pub mod Settling
+pub mod MatchEnds

@@ -1,5 +1,5 @@
 -- What is settled at a place, and what a match answers.
-use Rattle.std.specs.Prelude.{ℕ, ◌≡◌, Bool, false, ◌||◌, not, nat_eq, is_some, List, [], ◌∷◌, reverse, Option, Some, None}
+use Rattle.std.specs.Prelude.{ℕ, ◌≡◌, ◌==◌, if◌then◌else◌, Bool, false, ◌||◌, not, nat_eq, is_some, List, [], ◌∷◌, reverse, Option, Some, None}
 use Rattle.mbe_tt.specs.Trees.Tree.{Forest}
 use Rattle.mbe_tt.specs.Fragments.Grammar.{Grammar}
 use Rattle.mbe_semantics.specs.Syntax.Op.{Ops}
@@ -7,8 +7,9 @@ use Rattle.mbe_semantics.specs.Readings.Item.{Items}
 use Rattle.mbe_semantics.specs.Readings.Ambiguity.{Fits}
 use Rattle.mbe_semantics.specs.Readings.Verdict.{Verdict, one_reading, many_readings, ambiguous, stuck}
 use Rattle.mbe_semantics.specs.Bindings.Account.{Log, Handle, IsLive, commands_of}
-use Rattle.mbe_matcher.specs.declared.matching.MatchVerdict.{MatchVerdict}
-use Rattle.mbe_matcher.specs.declared.matching.MatchVerdict.TheVariants as told
+use Rattle.mbe_matcher.specs.declared.matching.Verdict as verdicts
+use Rattle.mbe_matcher.specs.declared.places.Stop.{Stop}
+use Rattle.mbe_matcher.specs.declared.places.Stop.TheVariants as told
 use Rattle.mbe_semantics.specs.Readings.Input.{Input}
 use Rattle.mbe_semantics.specs.Readings.Reading.{Beginning}
 use Rattle.mbe_semantics.specs.Matching.Dots.{dots}
@@ -57,14 +58,21 @@ position_after w = w.after
 
 -- ---- what a match answers
 
-abbrev pub verdict_in : MatchVerdict → Verdict
+abbrev pub verdict_in : Stop → Verdict
 verdict_in (told.OneReading h) = one_reading
 verdict_in told.ManyReadings = many_readings
 verdict_in (told.Ambiguous q) = ambiguous q
 verdict_in (told.Stuck q) = stuck q
 
+-- what it says to those outside
+abbrev pub verdict_seen : verdicts.Verdict → Verdict
+verdict_seen verdicts.TheVariants.OneReading = one_reading
+verdict_seen verdicts.TheVariants.ManyReadings = many_readings
+verdict_seen (verdicts.TheVariants.Ambiguous q) = ambiguous q
+verdict_seen (verdicts.TheVariants.Stuck q) = stuck q
+
 -- the handle of the only reading
-abbrev pub reading_in : MatchVerdict → Option Handle
+abbrev pub reading_in : Stop → Option Handle
 reading_in (told.OneReading h) = Some h
 reading_in told.ManyReadings = None
 reading_in (told.Ambiguous q) = None
@@ -75,6 +83,15 @@ abbrev pub ends_as : ℕ → List Handle → Verdict
 ends_as place [] = stuck place
 ends_as place (h ∷ []) = one_reading
 ends_as place (h ∷ k ∷ hs) = many_readings
+
+-- none goes on
+abbrev pub stuck_at : {A : Type 0} → ℕ → List (Waiting A) → Option Verdict
+stuck_at q [] = Some (stuck q)
+stuck_at q (w ∷ ws) = None
+
+-- where they stop at this place, if they do
+abbrev pub stop_at : {A : Type 0} → ℕ → ℕ → List (Waiting A) → List Handle → Option Verdict
+stop_at q len ws hs = if q == len then Some (ends_as q hs) else if is_clash ws then Some (ambiguous q) else stuck_at q ws
 
 -- The only reading writes the current commands of the handle.
 abbrev pub Binds : Grammar → Ops → Forest → Log → Handle → Type 0

@@ -7,6 +7,7 @@ mod counts;
 mod fronts;
 pub mod matcher;
 pub mod matching;
+mod places;
 mod position;
 mod settle;
 mod skipping;
