@@ -240,14 +240,20 @@ impl<'a, A: Allocator> Report<'a, A> {
         }
     }
 
-    // A position that stands before these ops has no step at the place.
-    pub(crate) fn note(&mut self, source: &Source<'a, A>, dot: &'a [Op<A>], handle: Handle)
+    // A position before these ops was looked at, which failed if it has no step at the place.
+    pub(crate) fn looked_at(
+        &mut self,
+        source: &Source<'a, A>,
+        dot: &'a [Op<A>],
+        handle: Handle,
+        has_step: bool,
+    )
         ensures { (log : Log) → IsLive log handle → IsReport log self.old → IsReport log self.new }
     {
         let Some((op, _rest)) = dot.split_first() else {
             return;
         };
-        if !is_noted(op) {
+        if has_step || !is_noted(op) {
             return;
         }
         if self.first.is_none() {

@@ -7,11 +7,13 @@ use Rattle.mbe_bounds.specs.Loop.Kept.{kept}
 use Rattle.mbe_matcher.specs.Counts.{AreCounted, AreBlankFrom, vacancies}
 use Rattle.mbe_matcher.specs.Positions.{Keeps}
 use Rattle.mbe_matcher.specs.Matched.{IsStack}
+use Rattle.mbe_matcher.specs.Reports.{IsReport}
 use Rattle.mbe_matcher.proofs.Settling.{Walked}
 use Rattle.mbe_matcher.proofs.settle.settle.Given as goal
 
 abbrev pub invariant-loop-position : goal.invariant-loop-position
 invariant-loop-position g l = record {
+    report : IsReport l.fn.log l.fn.report → IsReport l.log l.report;
     keeps : Keeps l.fn.log l.log l.fn.outers.items l.outers.items;
     blank : AreBlankFrom l.counts.marks.items (l.source.place + 1);
     size : length l.counts.marks.items ≡ length l.fn.counts.marks.items;
