@@ -77,15 +77,28 @@ pub fn match_argument<'a, A: Allocator + Copy, G: FragmentGrammar>(
         }),
         Stop::ManyReadings => {
             let verdict = Verdict::ManyReadings;
-            failed(alloc, grammar, verdict, unmatched, true, around, report, log)
+            failed(
+                alloc, grammar, verdict, unmatched, true, around, report, log,
+            )
         }
         Stop::Ambiguous(place) => {
             let verdict = Verdict::Ambiguous(place);
-            failed(alloc, grammar, verdict, unmatched, false, around, report, log)
+            failed(
+                alloc, grammar, verdict, unmatched, false, around, report, log,
+            )
         }
         Stop::Stuck(place) => {
             let verdict = Verdict::Stuck(place);
-            failed(alloc, grammar, verdict, unmatched, place == length, around, report, log)
+            failed(
+                alloc,
+                grammar,
+                verdict,
+                unmatched,
+                place == length,
+                around,
+                report,
+                log,
+            )
         }
     }
 }

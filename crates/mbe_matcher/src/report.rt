@@ -159,7 +159,10 @@ pub(crate) fn failing<A: Allocator + Copy, G: FragmentGrammar>(
             let kind = unlike_puncts(format!(in alloc; "expected punct: `{chars}`")?, here);
             Ok(Some(noted(alloc, kind, here, around)?))
         }
-        Op::Var { kind: Some(kind), .. } => variable_error(alloc, grammar, *kind, here, around),
+        Op::Var {
+            kind: Some(kind),
+            ..
+        } => variable_error(alloc, grammar, *kind, here, around),
         _ => Ok(None),
     }
 }
@@ -257,9 +260,15 @@ impl<'a, A: Allocator> Report<'a, A> {
             return;
         }
         if self.first.is_none() {
-            self.first = Some(Misfit { op, here: source.here() });
+            self.first = Some(Misfit {
+                op,
+                here: source.here(),
+            });
         }
-        let misfit = Some(Misfit { op, here: source.here() });
+        let misfit = Some(Misfit {
+            op,
+            here: source.here(),
+        });
         self.last = Some(Last { handle, misfit });
         self.failed_here = true;
     }
@@ -322,7 +331,12 @@ impl<'a, A: Allocator + Copy> Report<'a, A> {
         let Some(misfit) = misfit else {
             return Ok(handle);
         };
-        let Op::Var { name, kind: Some(kind), .. } = misfit.op else {
+        let Op::Var {
+            name,
+            kind: Some(kind),
+            ..
+        } = misfit.op
+        else {
             return Ok(handle);
         };
         bind_failing(grammar, log, &mut handle, name, *kind, &misfit.here)?;

@@ -27,7 +27,10 @@ pub(crate) struct Settled<'a, A: Allocator = Global> {
 }
 
 // The value at the end, if there is one.
-fn push_some<T: Drop, A: Allocator>(values: &mut Vec<T, A>, value: Option<T>) -> Result<(), AllocError>
+fn push_some<T: Drop, A: Allocator>(
+    values: &mut Vec<T, A>,
+    value: Option<T>,
+) -> Result<(), AllocError>
     ensures { OnOk result (values.new.items ≡ values.old.items ++ option_to_list value) }
 {
     let Some(value) = value else {
