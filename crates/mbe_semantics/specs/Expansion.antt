@@ -3,6 +3,5 @@ pub mod Macro
 pub mod Error
 pub mod Expansion
 pub mod Recovery
-pub mod Answer
 pub mod ReadAs
 pub mod FromTrees
