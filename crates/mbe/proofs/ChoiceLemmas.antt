@@ -11,9 +11,13 @@ use Rattle.mbe_tt.specs.Fragments.Grammar.{Grammar}
 use Rattle.mbe_semantics.specs.declared.macro_call_style.MacroCallStyle.{MacroCallStyle}
 use Rattle.mbe_semantics.specs.Syntax.Definition.{Rule}
 use Rattle.mbe_semantics.specs.Expansion.Expansion.{Applies, FirstThatApplies, this_one, a_later_one}
-use Rattle.mbe_semantics.specs.Expansion.Answer.{NoneApplies, AreCarried, IsCarried}
 
 module _ (g : Grammar) (style : MacroCallStyle) (argument : Forest) where
+  -- no rule of these applies
+  abbrev pub NoneApplies : List Rule → Type 0
+  NoneApplies [] = Unit {0}
+  NoneApplies (r ∷ rs) = (Applies g style argument r → ⊥) × NoneApplies rs
+
   pub first_at : (rs : List Rule) (n : ℕ) (r : Rule) (a : Applies g style argument r) → NoneApplies g style argument (take n rs) → slice_get rs n ≡ Some r
       → FirstThatApplies g style argument rs n r a
   first_at [] n r a before e = absurd (none-some r e)
@@ -55,10 +59,3 @@ all_seen f (x ∷ xs) (suc n) h = ap (λ (ys : List _). f x ∷ ys) (all_seen f 
 pub arm_at : {E : Type 0} (r : Result ℕ E) (n : ℕ) → OkIff r (n < 2 ^ 32) n → result_ok r ≡ arm_of n
 arm_at (Ok x) n h = rw (lt-ltb n (2 ^ 32) h.0) (ap Some h.1)
 arm_at (Err e) n h = let k : 2 ^ 32 ≤ n = omega (arith, h) in rw (le-ltb n (2 ^ 32) k) refl
-
--- ---- rules that are carried
-
-pub carried_at : (rs : List Rule) (n : ℕ) (r : Rule) → AreCarried rs → slice_get rs n ≡ Some r → IsCarried r
-carried_at [] n r h e = absurd (none-some r e)
-carried_at (x ∷ rs) zero r h e = subst IsCarried (same_Some x r e) h.0
-carried_at (x ∷ rs) (suc n) r h e = carried_at rs n r h.1 e

@@ -1,2 +1,3 @@
+pub mod Matched
 pub mod Matching
 pub mod Delimited

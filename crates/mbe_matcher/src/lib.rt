@@ -4,3 +4,4 @@
 pub mod delimited;
 pub mod fragment;
 pub mod matcher;
+pub mod matching;
