@@ -1,11 +1,11 @@
 -- What is the same has one code, and lists that are the same are so one by one.
-use Rattle.std.specs.Prelude.{◌≡◌, ◌↔◌, ◌==◌, ◌+◌, ◌<◌, ◌≤◌, ◌&&◌, ℕ, zero, suc, Bool, true, false, nat_eq, length, get_or, drop, List, [], ◌∷◌, Option, Some, None, option_map, IsTrue, refl}
+use Rattle.std.specs.Prelude.{◌≡◌, ◌++◌, map, take, ◌↔◌, ◌==◌, ◌+◌, ◌<◌, ◌≤◌, ◌&&◌, ℕ, zero, suc, Bool, true, false, nat_eq, length, get_or, drop, List, [], ◌∷◌, Option, Some, None, option_map, IsTrue, refl}
 use Rattle.std.specs.Coded.{coded_option}
 use Rattle.std.specs.Cmp.Lexicographic.{pointwise}
 use Rattle.std.proofs.Common.{ap, sym, ◌∙◌, subst, true≢false, eq-eqb, arith}
 use Rattle.std.proofs.lemmas.Option.{none-some, same_Some}
 use Rattle.std.proofs.lemmas.Bool.{ne_eqb}
-use Rattle.std.proofs.lemmas.List.{drop_more, drop_all}
+use Rattle.std.proofs.lemmas.List.{drop_more, drop_all, take_more, map-append}
 use base.Stored.{Gv, gnum, gcons}
 use Rattle.mbe_tt.specs.Laws.Same.{same_is, is_same}
 use Rattle.mbe_tt.specs.declared.span.Span.{Span}
@@ -289,3 +289,15 @@ ops_one_by_one = record {
   longer = λ x xs h. h;
   shorter = λ y ys h. h;
 }
+
+-- ---- lists that are copied
+
+-- the copies of one more, as they are seen
+pub one_copied : {X Y : Type 0} (seen : X → Y) (copy new xs : List X) (i : ℕ) (x o : X) → i < length xs → x ≡ get_or xs i x → new ≡ copy ++ o ∷ [] → seen o ≡ seen x
+    → map seen copy ≡ map seen (take i xs) → map seen new ≡ map seen (take (i + 1) xs)
+one_copied seen copy new xs i x o l e n h so_far =
+    let more = take_more xs i x l ∙ ap (λ y. take i xs ++ y ∷ []) (sym e) in
+    ap (map seen) n
+    ∙ (map-append seen copy (o ∷ [])
+    ∙ ((λ k. so_far k ++ h k ∷ [])
+    ∙ (sym (map-append seen (take i xs) (x ∷ [])) ∙ ap (map seen) (sym more))))

@@ -1,6 +1,5 @@
 -- Each op of the code, as the op that it is.
-use Rattle.std.proofs.Common.{◌≡◌, ◌+◌, ◌<◌, ◌++◌, ◌∷◌, [], ℕ, List, length, get_or, map, take, Option, Vec, ap, sym, ◌∙◌, rules}
-use Rattle.std.proofs.lemmas.List.{map-append, take_more}
+use Rattle.std.proofs.Common.{◌≡◌, ℕ, List, map, Option, Vec, ap, sym, ◌∙◌, rules}
 use Rattle.std.specs.Prelude.{option_map}
 use Rattle.arrayvec.specs.ArrayVec.{ArrayVec}
 use Rattle.mbe_tt.specs.declared.span.Span.{Span}
@@ -97,13 +96,3 @@ copied_repetition {A} v t xs kind copy s e f h =
     view-repeat (roll-MetaTemplate A (record { 0 = v })) kind copy
     ∙ (ap (λ os. ops.repetition os (option_map separator_seen copy) kind) (view-template v ∙ (e ∙ ap ops_of f))
     ∙ (ap (λ between. ops.repetition (ops_of t.0.items) between kind) h ∙ sym (view-open_repeat t kind s)))
-
--- the copies of one op more
-pub one_copied : {A : Type 0} (copy new xs : List (code.Op A)) (i : ℕ) (x o : code.Op A) → i < length xs → x ≡ get_or xs i x → new ≡ copy ++ o ∷ [] → op_of o ≡ op_of x
-    → map op_of copy ≡ map op_of (take i xs) → map op_of new ≡ map op_of (take (i + 1) xs)
-one_copied copy new xs i x o l e n h so_far =
-    let more = take_more xs i x l ∙ ap (λ y. take i xs ++ y ∷ []) (sym e) in
-    ap (map op_of) n
-    ∙ (map-append op_of copy (o ∷ [])
-    ∙ ((λ k. so_far k ++ h k ∷ [])
-    ∙ (sym (map-append op_of (take i xs) (x ∷ [])) ∙ ap (map op_of) (sym more))))

@@ -1,6 +1,7 @@
 use Rattle.std.proofs.Common.{◌∙◌, sym, ap}
 use Rattle.mbe_ops.specs.Views.{op_of}
-use Rattle.mbe_ops.proofs.OpViews.{copied_group, copied_repetition, one_copied}
+use Rattle.mbe_ops.proofs.EqualityLemmas.{one_copied}
+use Rattle.mbe_ops.proofs.OpViews.{copied_group, copied_repetition}
 use Rattle.mbe_ops.proofs.copies.+copies.Goals as goal
 
 pub copied_op-returns-in_ok-copied_between-in-Repeat : goal.copied_op-returns-in_ok-copied_between-in-Repeat
@@ -17,5 +18,5 @@ copied_op-returns-in_ok-copied_ops-in-Subtree g t c =
 
 pub copied_ops-loop-op-preserved : goal.copied_ops-loop-op-preserved
 copied_ops-loop-op-preserved g t c =
-    one_copied c.loop-op.copy.items c.push.new.self.items c.args.ops.now c.loop-op.op-index c.op-item.result c.in_ok-op.op c.loop-op-test.true c.op-item.is
+    one_copied op_of c.loop-op.copy.items c.push.new.self.items c.args.ops.now c.loop-op.op-index c.op-item.result c.in_ok-op.op c.loop-op-test.true c.op-item.is
     c.in_ok-push.ensures.items c.in_ok-op.ensures c.loop-op.invariant
