@@ -1,4 +1,3 @@
-pub mod Matched
 pub mod Matching
 pub mod Delimited
 pub mod Fronts
