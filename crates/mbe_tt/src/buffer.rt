@@ -34,7 +34,8 @@ impl<A: Allocator> Model for TopSubtree<A> {
 
     ghost view = { λ a. top_of (forest_of (entries_of a.entries.items)) };
 
-    ghost invariant = { λ a. entries_of a.entries.items ≡ spell (top_group (top_of (forest_of (entries_of a.entries.items)))) };
+    ghost invariant = { λ a. entries_of a.entries.items
+        ≡ spell (top_group (top_of (forest_of (entries_of a.entries.items)))) };
 }
 
 impl<A: Allocator> TopSubtree<A> {
@@ -44,7 +45,11 @@ impl<A: Allocator> TopSubtree<A> {
 
     /// An empty invisible group with those spans. `AllocError` for want of memory.
     pub fn empty(alloc: A, span: DelimSpan) -> Result<TopSubtree<A>, AllocError>
-        ensures { IfOk result (λ t. t ≡ (record { opening = span.opening; close = span.close; kind = Invisible }, none)) }
+        ensures { IfOk result
+            (λ t. t ≡ (
+              record { opening = span.opening; close = span.close; kind = Invisible },
+              none,
+            )) }
     {
         let delimiter = Delimiter {
             opening: span.opening,
