@@ -1,4 +1,4 @@
-// A flat buffer that holds one group. The names follow rust-analyzer's `tt`; what the calls answer is the project's own.
+// A flat buffer that holds one group. The names follow rust-analyzer's `tt`; what the calls return is the project's own.
 ghost use Rattle.std.specs.Prelude.{◌≡◌, IfOk};
 ghost use Rattle.mbe_tt.specs.Trees.Tree.{none};
 ghost use Rattle.mbe_tt.specs.Trees.Top.{top_code};
@@ -43,7 +43,7 @@ impl<A: Allocator> TopSubtree<A> {
     ghost use Rattle.mbe_tt.specs.Trees.Top.{top_group, delimiter_of, inside};
     ghost use Rattle.mbe_tt.specs.declared.tt.DelimiterKind.TheVariants.{Invisible};
 
-    /// An empty invisible group with those spans. `AllocError` for want of memory.
+    /// An empty invisible group with those spans. `AllocError` if out of memory.
     pub fn empty(alloc: A, span: DelimSpan) -> Result<TopSubtree<A>, AllocError>
         ensures { IfOk result
             (λ t. t ≡ (
@@ -91,7 +91,7 @@ impl<A: Allocator> TopSubtree<A> {
 }
 
 impl<A: Allocator + Copy> TopSubtree<A> {
-    /// An equal copy, in memory of the same allocator. `AllocError` for want of memory.
+    /// An equal copy, in memory of the same allocator. `AllocError` if out of memory.
     pub fn try_clone(&self) -> Result<TopSubtree<A>, AllocError>
         ensures { IfOk result (λ t. t ≡ self.now) }
     {

@@ -1,4 +1,4 @@
-// Writing a buffer, group by group. The names follow rust-analyzer's `tt`; what the calls answer is the project's own.
+// Writing a buffer, group by group. The names follow rust-analyzer's `tt`; what the calls return is the project's own.
 ghost use Rattle.std.specs.Prelude.{◌≡◌, ℕ, ◌+◌, ◌<◌, ◌≤◌, List, [], ◌∷◌, ◌++◌, length, slice_set};
 ghost use Rattle.std.specs.Prelude.{vec_capacity, IfOk, IfSome, IfNone, OnOk, OnErr};
 ghost use Rattle.mbe_tt.specs.Buffers.OpensAt.{OpensAt};
@@ -55,7 +55,7 @@ impl<A: Allocator> TopSubtreeBuilder<A> {
     ghost use Rattle.mbe_tt.specs.Buffers.Building.{flat_written, unwrap_last, IsEarlier};
     ghost use Rattle.mbe_tt.specs.Views.View.{trees};
 
-    /// A builder with one open group, the whole. `AllocError` for want of memory.
+    /// A builder with one open group, the whole. `AllocError` if out of memory.
     pub fn new(alloc: A, delimiter: Delimiter) -> Result<TopSubtreeBuilder<A>, AllocError>
         ensures { IfOk result (λ b. b ≡ (delimiter, none) ∷ []) }
     {
@@ -68,7 +68,7 @@ impl<A: Allocator> TopSubtreeBuilder<A> {
         })
     }
 
-    /// Writes a leaf at the end of the innermost open group. `AllocError` for want of memory.
+    /// Writes a leaf at the end of the innermost open group. `AllocError` if out of memory.
     pub fn push(&mut self, leaf: Leaf<A>) -> Result<(), AllocError>
         ensures ok { OnOk result (self.new ≡ put (one_leaf (leaf_of leaf)) self.old) }
         ensures err { OnErr result (self.new ≡ self.old) }
@@ -79,7 +79,7 @@ impl<A: Allocator> TopSubtreeBuilder<A> {
     }
 
     /// Opens a group at the end of the innermost one, and takes the room for its closing. Until it is closed, its closing span
-    /// is the opening one. `AllocError` for want of memory.
+    /// is the opening one. `AllocError` if out of memory.
     pub fn open(&mut self, kind: DelimiterKind, span: Span) -> Result<(), AllocError>
         ensures ok { OnOk result
             (self.new ≡ (record { opening = span; close = span; kind = kind }, none) ∷ self.old) }
@@ -125,7 +125,7 @@ impl<A: Allocator> TopSubtreeBuilder<A> {
         self.depth -= 1;
     }
 
-    /// Writes copies of the view's trees at the end of the innermost open group. `AllocError` for want of memory.
+    /// Writes copies of the view's trees at the end of the innermost open group. `AllocError` if out of memory.
     pub fn extend_with_tt(&mut self, view: TokenTreesView<'_, A>) -> Result<(), AllocError>
         ensures ok { OnOk result (self.new ≡ put (trees view.entry) self.old) }
         ensures err { OnErr result (self.new ≡ self.old) }
@@ -173,7 +173,7 @@ impl<A: Allocator> TopSubtreeBuilder<A> {
     }
 
     /// Writes the leaves one after another at the end of the innermost open group. It asks that the leaves end. `AllocError`
-    /// for want of memory: then none of them is written.
+    /// if out of memory: then none of them is written.
     pub fn extend<I: IntoIterator<Item = Leaf<A>>>(&mut self, leaves: I) -> Result<(), AllocError>
         requires { (s : I.IntoIter) → I.into_iter_gives leaves s → I.IntoIter.can_next s
             × IsFinite (I.IntoIter.remaining s) }
@@ -199,7 +199,7 @@ impl<A: Allocator> TopSubtreeBuilder<A> {
         self.entries.len() - 1
     }
 
-    /// Keeps the first flat tokens, as many as `point` says. It asks that there are so many, and that the groups open behind
+    /// Keeps the first flat tokens, as many as `point` says. It asks that there are so many, and that the groups open after
     /// the last of them are those that are open now. It takes no memory.
     pub fn restore(&mut self, point: usize)
         requires { (kept : Levels) × IsEarlier self.old point kept }

@@ -1,4 +1,4 @@
-// A walk over the flat tokens of a view. The names follow rust-analyzer's `tt`; what the calls answer is the project's
+// A walk over the flat tokens of a view. The names follow rust-analyzer's `tt`; what the calls return is the project's
 // own.
 ghost use Rattle.std.specs.Prelude.{◌≡◌, ◌↔◌, ℕ, ◌+◌, min, [], IsTrue, length, option_map, ◌<◌};
 ghost use Rattle.std.specs.Prelude.{◌^◌};
@@ -127,7 +127,7 @@ fn first_tree<'a, A: Allocator>(left: &'a [Entry<A>]) -> Option<TtElement<'a, A>
     }
 }
 
-// The number of groups around the place behind an entry, from the number before it.
+// The number of groups around the place after an entry, from the number before it.
 fn depth_after<A: Allocator>(entry: &Entry<A>, depth: usize) -> usize
     requires { (after : ℕ) × DepthAfter (entry_of entry.now) depth after × (after < 2 ^ 64) }
     ensures { DepthAfter (entry_of entry.now) depth result }

@@ -1,4 +1,4 @@
-// An iterator over trees that stand side by side. The names follow rust-analyzer's `tt`; what the calls answer is the
+// An iterator over trees that stand side by side. The names follow rust-analyzer's `tt`; what the calls return is the
 // project's own.
 ghost use Rattle.std.specs.Prelude.{◌≡◌, ◌↔◌, IsTrue, option_map, length, [], ◌∷◌, IsOk, is_ok};
 ghost use Rattle.std.specs.Prelude.{is_some, OnSome, if◌then◌else◌, Some, None, ⊤};
@@ -63,7 +63,7 @@ pub enum TtElement<'a, A: Allocator = Global> {
     Subtree(&'a Subtree, TtIter<'a, A>),
 }
 
-// The trees inside a group, and those after it. `rest` is what stands behind the group's opening.
+// The trees inside a group, and those after it. `rest` is what follows the group's opening.
 pub(crate) fn content_and_rest<'a, A: Allocator>(
     subtree: &Subtree,
     len: usize,
@@ -183,7 +183,7 @@ impl<'a, A: Allocator> TtIter<'a, A> {
         Err(())
     }
 
-    /// Passes a group, and answers it with an iterator over its content.
+    /// Passes a group, and returns it with an iterator over its content.
     pub fn expect_subtree(&mut self) -> Result<(&'a Subtree, TtIter<'a, A>), ()>
         ensures value { option_map (λ g. (g.0.now.delimiter, g.1)) (result_ok result)
             ≡ front_group self.old }
@@ -288,7 +288,7 @@ impl<'a, A: Allocator> TtIter<'a, A> {
     }
 
     /// Passes the one to three puncts in front that make the longest operator, or one punct where none is made. All but the
-    /// last have to be joint, and a third is looked at only behind two that are. Which chars make an operator stands in
+    /// last have to be joint, and a third is looked at only after two that are. Which chars make an operator stands in
     /// `operators`.
     pub fn expect_glued_punct(&mut self) -> Result<ArrayVec<Punct, 3>, ()>
         ensures value { option_map (λ ps. ps.items) (result_ok result) ≡ glued self.old }
