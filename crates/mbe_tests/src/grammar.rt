@@ -66,7 +66,7 @@ pub struct Counting {
     pub fault: bool,
 }
 
-#[tactic(auto, using(mbe_tt::proofs::CutLemmas::flat_length))]
+#[tactic(auto, using(mbe_tt::proofs::Places::CutLemmas::flat_length))]
 impl FragmentGrammar for Counting {
     ghost use Rattle.mbe_tests.specs.Counting.{counting, counting_lawful};
 
@@ -101,7 +101,7 @@ fn may_be_empty(entry: PrefixEntryPoint) -> bool
 #[derive(Clone, Copy)]
 pub struct Numbered;
 
-#[tactic(auto, using(mbe_tt::proofs::CutLemmas::flat_length))]
+#[tactic(auto, using(mbe_tt::proofs::Places::CutLemmas::flat_length))]
 impl FragmentGrammar for Numbered {
     ghost use Rattle.mbe_tests.specs.Counting.{numbered, numbered_lawful};
 

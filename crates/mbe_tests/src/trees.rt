@@ -35,7 +35,7 @@ fn add<A: Allocator + Copy>(
 }
 
 // The trees, with each open group closed with this span.
-#[tactic(auto, using(mbe_tt::proofs::OpenGroups::closed_length))]
+#[tactic(auto, using(mbe_tt::proofs::Buffers::OpenGroups::closed_length))]
 fn finish<A: Allocator>(mut builder: TopSubtreeBuilder<A>, end: Span) -> TopSubtree<A> {
     'groups: while builder.open_kind().is_some() {
         builder.close(end);

@@ -8,7 +8,7 @@ use std::alloc::{AllocError, Allocator};
 /// A grammar that takes two flat tokens of everything, and faults where there are fewer.
 pub struct Pairs;
 
-#[tactic(auto, using(mbe_tt::proofs::CutLemmas::flat_length))]
+#[tactic(auto, using(mbe_tt::proofs::Places::CutLemmas::flat_length))]
 impl FragmentGrammar for Pairs {
     ghost use Rattle.mbe_tt_tests.specs.Pairs.{pairs, pairs_lawful};
 

@@ -56,7 +56,7 @@ pub fn literal<A: Allocator + Copy>(alloc: A, text: &str) -> Result<Leaf<A>, All
 }
 
 // A group with that leaf in it, or nothing.
-#[tactic(auto, using(mbe_tt::proofs::OpenGroups::put_length, mbe_tt::proofs::OpenGroups::closed_length))]
+#[tactic(auto, using(mbe_tt::proofs::Buffers::OpenGroups::put_length, mbe_tt::proofs::Buffers::OpenGroups::closed_length))]
 fn write_group<A: Allocator>(
     builder: &mut TopSubtreeBuilder<A>,
     leaf: Leaf<A>,
@@ -76,7 +76,7 @@ fn write_group<A: Allocator>(
 
 /// Writes a group with that leaf in it, and goes back to where the builder was. It answers how many flat tokens were
 /// written in between.
-#[tactic(auto, using(mbe_tt::proofs::OpenGroups::put_length, mbe_tt::proofs::OpenGroups::closed_length))]
+#[tactic(auto, using(mbe_tt::proofs::Buffers::OpenGroups::put_length, mbe_tt::proofs::Buffers::OpenGroups::closed_length))]
 pub fn write_and_go_back<A: Allocator>(
     builder: &mut TopSubtreeBuilder<A>,
     leaf: Leaf<A>,
@@ -95,7 +95,7 @@ pub fn write_and_go_back<A: Allocator>(
 }
 
 // One part: a leaf, a group with a leaf in it, or copies of the view's trees. Refused, it writes nothing.
-#[tactic(auto, using(mbe_tt::proofs::OpenGroups::put_length, mbe_tt::proofs::OpenGroups::closed_length))]
+#[tactic(auto, using(mbe_tt::proofs::Buffers::OpenGroups::put_length, mbe_tt::proofs::Buffers::OpenGroups::closed_length))]
 fn write_part<A: Allocator + Copy>(
     builder: &mut TopSubtreeBuilder<A>,
     alloc: A,
@@ -117,7 +117,7 @@ fn write_part<A: Allocator + Copy>(
 }
 
 /// Writes as many parts as `limit` says and memory allows. It answers how many were written whole.
-#[tactic(auto, using(mbe_tt::proofs::OpenGroups::put_length, mbe_tt::proofs::OpenGroups::closed_length))]
+#[tactic(auto, using(mbe_tt::proofs::Buffers::OpenGroups::put_length, mbe_tt::proofs::Buffers::OpenGroups::closed_length))]
 pub fn write_parts<A: Allocator + Copy>(
     builder: &mut TopSubtreeBuilder<A>,
     alloc: A,

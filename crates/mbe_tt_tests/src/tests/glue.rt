@@ -5,7 +5,7 @@ use std::alloc::{AllocError, Global};
 use std::test::Fail;
 
 // The chars, which are ASCII, as puncts, all but the last joint, and an identifier behind them.
-#[tactic(auto, using(mbe_tt::proofs::OpenGroups::put_length))]
+#[tactic(auto, using(mbe_tt::proofs::Buffers::OpenGroups::put_length))]
 fn puncts(alloc: Global, chars: &str, last: Spacing) -> Result<TopSubtree, AllocError> {
     let mut builder = TopSubtreeBuilder::new(alloc, delimiter(DelimiterKind::Invisible))?;
     let bytes = chars.as_bytes();

@@ -16,7 +16,7 @@ pub enum Part {
 }
 
 // Writes a part. A closing without an opening is left out.
-#[tactic(auto, using(mbe_tt::proofs::OpenGroups::put_length, mbe_tt::proofs::OpenGroups::closed_length))]
+#[tactic(auto, using(mbe_tt::proofs::Buffers::OpenGroups::put_length, mbe_tt::proofs::Buffers::OpenGroups::closed_length))]
 fn write_part<A: Allocator + Copy>(
     builder: &mut TopSubtreeBuilder<A>,
     alloc: A,
@@ -55,7 +55,7 @@ pub fn write_open<A: Allocator + Copy>(
 }
 
 /// The same, and what is open at the end is closed at 2.
-#[tactic(auto, using(mbe_tt::proofs::OpenGroups::closed_length))]
+#[tactic(auto, using(mbe_tt::proofs::Buffers::OpenGroups::closed_length))]
 pub fn write<A: Allocator + Copy>(
     builder: &mut TopSubtreeBuilder<A>,
     alloc: A,
