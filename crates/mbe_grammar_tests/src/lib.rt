@@ -5,3 +5,4 @@
 mod chains;
 #[cfg(test)]
 mod fragments;
+pub mod one_token;
