@@ -7,6 +7,7 @@ use Rattle.mbe_semantics.specs.Readings.Item.{Items}
 use Rattle.mbe_semantics.specs.Readings.Ambiguity.{Fits}
 use Rattle.mbe_semantics.specs.Readings.Verdict.{Verdict, one_reading, many_readings, ambiguous, stuck}
 use Rattle.mbe_semantics.specs.Bindings.Account.{Log, Handle, IsLive, commands_of}
+use Rattle.mbe_matcher.specs.declared.matching.Verdict as verdicts
 use Rattle.mbe_matcher.specs.declared.places.Stop.{Stop}
 use Rattle.mbe_matcher.specs.declared.places.Stop.TheVariants as told
 use Rattle.mbe_semantics.specs.Readings.Input.{Input}
@@ -62,6 +63,13 @@ verdict_in (told.OneReading h) = one_reading
 verdict_in told.ManyReadings = many_readings
 verdict_in (told.Ambiguous q) = ambiguous q
 verdict_in (told.Stuck q) = stuck q
+
+-- what it says to those outside
+abbrev pub verdict_seen : verdicts.Verdict → Verdict
+verdict_seen verdicts.TheVariants.OneReading = one_reading
+verdict_seen verdicts.TheVariants.ManyReadings = many_readings
+verdict_seen (verdicts.TheVariants.Ambiguous q) = ambiguous q
+verdict_seen (verdicts.TheVariants.Stuck q) = stuck q
 
 -- the handle of the only reading
 abbrev pub reading_in : Stop → Option Handle
