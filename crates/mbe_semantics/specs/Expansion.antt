@@ -4,6 +4,5 @@ pub mod Error
 pub mod Failing
 pub mod Expansion
 pub mod Recovery
-pub mod Answer
 pub mod ReadAs
 pub mod FromTrees
