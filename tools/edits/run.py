@@ -7,7 +7,7 @@ It tries the edits of tools/edits/CRATE, and with --gate those of crates/CRATE/m
 a copy of the repository, with the work that earlier checks kept there (so check the crates first), and checks the functions
 that an edit changes, or with --whole the whole crate. Each edit ends as one of these:
 
-    goal     a goal of the code is open: the contract refuses the edit
+    goal     a goal of the code is open: the contract refuses the edit, or a law of a trait does, which `search` is to prove
     answer   the answer that a proof file gives to a goal no longer proves it: the values that it speaks of have changed
     text     nothing is refused but a proof file that names a step which the edit took away, or which has another name since
              the edit calls that function more or less often: this says nothing of the contract, so write the edit with
@@ -107,6 +107,9 @@ def verdict(status, said, crate, edit):
     goals = re.findall(r"(?m)^note: src/\S+: .*\(`([^`]*)`\)", said)
     if goals:
         return "goal", f"{' '.join(dict.fromkeys(goals))} of {refused}"
+    laws = re.findall(r"(?m)^src/\S+: error: `(\w+)-value`: `search`: no proof of", said)
+    if laws:
+        return "goal", f"the law {' '.join(dict.fromkeys(laws))}, which `search` doesn't prove"
     errors = re.findall(r"(?m)^(?:\./)?(proofs/\S+?): error: (.*)", said)
     answers = [(where.split(":")[0], re.match(r"`([^`]*)`", what)) for where, what in errors if not LOST_NAME.search(what)]
     renamed = {it for file in {file for file, _ in answers} for it in cites_any(f"{crate}/{file}", calls_changed(edit))}

@@ -18,6 +18,7 @@ module _ (g : Grammar) (style : MacroCallStyle) (argument : Forest) where
   NoneApplies [] = Unit {0}
   NoneApplies (r ∷ rs) = (Applies g style argument r → ⊥) × NoneApplies rs
 
+module _ (g : Grammar) (style : MacroCallStyle) (argument : Forest) where
   pub first_at : (rs : List Rule) (n : ℕ) (r : Rule) (a : Applies g style argument r) → NoneApplies g style argument (take n rs) → slice_get rs n ≡ Some r
       → FirstThatApplies g style argument rs n r a
   first_at [] n r a before e = absurd (none-some r e)
@@ -49,6 +50,10 @@ pub seen_at : {X Y : Type 0} (f : X → Y) (xs : List X) (i : ℕ) (x : X) → i
 seen_at f [] i x l e = absurd (omega (arith, l))
 seen_at f (y ∷ ys) zero x l e = ap (λ z. Some (f z)) (sym e)
 seen_at f (y ∷ ys) (suc i) x l e = seen_at f ys i x (omega arith) e
+
+pub length_seen : {X Y : Type 0} (f : X → Y) (xs : List X) → length (map f xs) ≡ length xs
+length_seen f [] = refl
+length_seen f (x ∷ xs) = ap suc (length_seen f xs)
 
 pub all_seen : {X Y : Type 0} (f : X → Y) (xs : List X) (n : ℕ) → length xs ≤ n → take n (map f xs) ≡ map f xs
 all_seen f [] n h = take-nil n

@@ -1,5 +1,5 @@
 -- The closest of the rules that were tried so far.
-use Rattle.std.specs.Prelude.{◌≡◌, ◌<◌, ◌≤◌, ◌+◌, ◌-◌, ◌^◌, ◌⊎◌, ℕ, Bool, true, false, ◌||◌, ◌&&◌, nat_lt, nat_eq, if◌then◌else◌, min, List, [], ◌∷◌, slice_get, slice_index_or, length, Contains, Option, Some, None, IsTrue, refl}
+use Rattle.std.specs.Prelude.{◌≡◌, ◌<◌, ◌≤◌, ◌+◌, ◌-◌, ◌^◌, ◌⊎◌, ℕ, zero, suc, Bool, true, false, ◌||◌, ◌&&◌, nat_lt, nat_eq, if◌then◌else◌, min, List, [], ◌∷◌, slice_get, slice_index_or, length, Contains, Option, Some, None, option_map, Result, Ok, Err, IfOk, IsTrue, refl}
 use Rattle.std.specs.List.{list_any}
 use Rattle.std.proofs.Common.{ap, sym, subst, ◌∙◌, arith, inl, inr}
 use Rattle.std.proofs.lemmas.Bool.{cases_lt, cases_Bool, ltb-true, ltb-false, eqb-true, eqb-false, eq-eqb, ne_eqb, or_parts, and_cases, and_parts, or_cases}
@@ -15,8 +15,9 @@ use Rattle.mbe_semantics.specs.Readings.Verdict.{Verdict, IsVerdict, unmatched}
 use Rattle.mbe_semantics.specs.Bindings.Environment.{environment_of, binding_total}
 use Rattle.mbe_semantics.specs.Expansion.Macro.{Macro, TellsRefusal, IsChecked}
 use Rattle.mbe_semantics.specs.Expansion.Recovery.{HasStyle, IsStyledAt, GoesBefore, IsClosest}
+use Rattle.mbe.specs.declared.expander.Candidate.{Candidate}
 use Rattle.mbe.specs.declared.expander.Nearness.{Nearness}
-use Rattle.mbe.specs.Choice.{AreChecked, is_nearer, IsNearness}
+use Rattle.mbe.specs.Choice.{AreChecked, candidate_seen, is_nearer, nearer_of, IsNearness}
 
 -- a number of each place, with another one at one place
 abbrev put : (ℕ → ℕ) → ℕ → ℕ → ℕ → ℕ
@@ -31,6 +32,24 @@ put_before f k v m l = rw (ne_eqb m k (λ e. omega (arith, l, e))) refl
 -- the order of two rules by their numbers
 abbrev Before : ℕ → ℕ → ℕ → ℕ → ℕ → ℕ → Type 0
 Before left other bound held n m = (left < other) ⊎ ((left ≡ other) × ((held < bound) ⊎ ((held ≡ bound) × (n ≤ m))))
+
+-- a place with a rule is a place of the list
+within : (xs : List Rule) (m : ℕ) (r : Rule) → slice_get xs m ≡ Some r → m < length xs
+within [] m r e = absurd (none-some r e)
+within (x ∷ xs) zero r e = omega arith
+within (x ∷ xs) (suc m) r e = let l = within xs m r e in omega (arith, l)
+
+-- a rule at a place is one of the rules
+pub at_place : (xs : List Rule) (m : ℕ) (r : Rule) → slice_get xs m ≡ Some r → Contains xs r
+at_place [] m r e = absurd (none-some r e)
+at_place (x ∷ xs) zero r e = (0, omega arith, same_Some x r e)
+at_place (x ∷ xs) (suc m) r e = let c = at_place xs m r e in (suc c.0, let l = c.1 in omega (arith, l), c.2)
+
+-- and one of the rules stands at a place
+placed : (xs : List Rule) (m : ℕ) (r : Rule) → m < length xs → slice_index_or xs m r ≡ r → slice_get xs m ≡ Some r
+placed [] m r l e = absurd (omega (arith, l))
+placed (x ∷ xs) zero r l e = ap Some e
+placed (x ∷ xs) (suc m) r l e = placed xs m r (omega (arith, l)) e
 
 module _ (g : Grammar) (style : MacroCallStyle) (argument : Forest) (rs : List Rule) where
   -- the closest of the first so many rules, by its place and how near it comes
@@ -69,8 +88,8 @@ module _ (g : Grammar) (style : MacroCallStyle) (argument : Forest) (rs : List R
             subst (λ (i : ℕ). P i s) (sym e) (subst (P k) (sym q) (p (ap (λ (x : Rule). x.style) (sym q) ∙ a.1)))
 
     pub so_far_skipped : (best : Option (ℕ × Nearness)) → IsSoFar k best → (r.style ≡ style → ⊥) → IsSoFar (k + 1) best
-    so_far_skipped None h no = one_more (λ m s. ⊥) h no
-    so_far_skipped (Some (n, near)) h no = record {
+    so_far_skipped None h other = one_more (λ m s. ⊥) h other
+    so_far_skipped (Some (n, near)) h other = record {
       left = h.left;
       bound = h.bound;
       rule = h.rule;
@@ -78,10 +97,10 @@ module _ (g : Grammar) (style : MacroCallStyle) (argument : Forest) (rs : List R
       styled = h.styled;
       its_left = h.its_left;
       its_bound = h.its_bound;
-      unmatched_trees = one_more (λ m s. (v : Verdict) × IsVerdict g s.reads argument v × (h.left m ≡ unmatched argument v)) h.unmatched_trees (λ e. absurd (no e));
+      unmatched_trees = one_more (λ m s. (v : Verdict) × IsVerdict g s.reads argument v × (h.left m ≡ unmatched argument v)) h.unmatched_trees (λ e. absurd (other e));
       bindings = λ m s is l a f. one_more (λ i t. Fits g t.reads argument is → h.bound i ≡ min (binding_total (environment_of is)) (2 ^ 64 - 1)) (λ i t b c d. h.bindings i t is b c d)
-          (λ e. absurd (no e)) m s l a f;
-      first = one_more (λ m s. GoesBefore h.left h.bound n m) h.first (λ e. absurd (no e));
+          (λ e. absurd (other e)) m s l a f;
+      first = one_more (λ m s. GoesBefore h.left h.bound n m) h.first (λ e. absurd (other e));
     }
 
     module _ (own : r.style ≡ style) (near : Nearness) (is_near : IsNearness g argument r near) where
@@ -134,20 +153,20 @@ module _ (g : Grammar) (style : MacroCallStyle) (argument : Forest) (rs : List R
         known m s l a = let x : Before (h.left n) (h.left m) (h.bound n) (h.bound m) n m = h.first m s l a in rw (← h.its_left, ← h.its_bound) x
 
         not_nearer : is_nearer near best ≡ false → Before best.unmatched near.unmatched best.bound near.bound n k
-        not_nearer no = go (cases_lt best.unmatched near.unmatched) (cases_lt near.bound best.bound)
+        not_nearer far = go (cases_lt best.unmatched near.unmatched) (cases_lt near.bound best.bound)
           where
             parts : (nat_lt near.unmatched best.unmatched ≡ false) × ((nat_eq near.unmatched best.unmatched && nat_lt best.bound near.bound) ≡ false)
-            parts = or_parts _ _ no
+            parts = or_parts _ _ far
 
-            less : (near.unmatched < best.unmatched) → ⊥
+            less : best.unmatched ≤ near.unmatched
             less = ltb-false near.unmatched best.unmatched parts.0
 
-            more : near.unmatched ≡ best.unmatched → (best.bound < near.bound) → ⊥
+            more : near.unmatched ≡ best.unmatched → near.bound ≤ best.bound
             more e = use_case (and_cases _ _ parts.1)
               where
-                use_case : (nat_eq near.unmatched best.unmatched ≡ false) ⊎ (nat_lt best.bound near.bound ≡ false) → best.bound < near.bound → ⊥
-                use_case (inl x) l = eqb-false near.unmatched best.unmatched x e
-                use_case (inr x) l = ltb-false best.bound near.bound x l
+                use_case : (nat_eq near.unmatched best.unmatched ≡ false) ⊎ (nat_lt best.bound near.bound ≡ false) → near.bound ≤ best.bound
+                use_case (inl x) = absurd (eqb-false near.unmatched best.unmatched x e)
+                use_case (inr x) = ltb-false best.bound near.bound x
 
             go : (best.unmatched < near.unmatched) ⊎ (near.unmatched ≤ best.unmatched) → (near.bound < best.bound) ⊎ (best.bound ≤ near.bound)
                 → Before best.unmatched near.unmatched best.bound near.bound n k
@@ -162,7 +181,7 @@ module _ (g : Grammar) (style : MacroCallStyle) (argument : Forest) (rs : List R
                 same = omega (arith, l, less)
 
         pub so_far_kept : is_nearer near best ≡ false → IsSoFar (k + 1) (Some (n, best))
-        so_far_kept no = record {
+        so_far_kept far = record {
           left = put h.left k near.unmatched;
           bound = put h.bound k near.bound;
           rule = h.rule;
@@ -174,31 +193,31 @@ module _ (g : Grammar) (style : MacroCallStyle) (argument : Forest) (rs : List R
           bindings = bound_all;
           first = one_more (λ m s. GoesBefore (put h.left k near.unmatched) (put h.bound k near.bound) n m)
               (λ m s l a. order n m best.unmatched (h.left m) best.bound (h.bound m) was_left (put_before h.left k near.unmatched m l) was_bound (put_before h.bound k near.bound m l) (known m s l a))
-              (λ e. order n k best.unmatched near.unmatched best.bound near.bound was_left (put_here h.left k near.unmatched) was_bound (put_here h.bound k near.bound) (not_nearer no));
+              (λ e. order n k best.unmatched near.unmatched best.bound near.bound was_left (put_here h.left k near.unmatched) was_bound (put_here h.bound k near.bound) (not_nearer far));
         }
 
         -- what is nearer than the best goes before all that the best goes before
         nearer_goes : is_nearer near best ≡ true → (m : ℕ) (b d : ℕ) → Before best.unmatched b best.bound d n m → Before near.unmatched b near.bound d k m
-        nearer_goes yes m b d x = go (or_cases _ _ yes) x
+        nearer_goes closer m b d x = go (or_cases _ _ closer) x
           where
             go : (nat_lt near.unmatched best.unmatched ≡ true) ⊎ ((nat_eq near.unmatched best.unmatched && nat_lt best.bound near.bound) ≡ true)
                 → Before best.unmatched b best.bound d n m → Before near.unmatched b near.bound d k m
             go (inl l) (inl y) = let p = ltb-true near.unmatched best.unmatched l in inl (omega (arith, p, y))
             go (inl l) (inr y) = let p = ltb-true near.unmatched best.unmatched l in inl (let e = y.0 in omega (arith, p, e))
             go (inr l) (inl y) =
-                let p = eqb-true near.unmatched best.unmatched (and_parts _ _ l).0 in
+                let p : near.unmatched ≡ best.unmatched = eqb-true near.unmatched best.unmatched (and_parts (nat_eq near.unmatched best.unmatched) (nat_lt best.bound near.bound) l).0 in
                 inl (omega (arith, p, y))
             go (inr l) (inr (e, inl y)) =
-                let p = eqb-true near.unmatched best.unmatched (and_parts _ _ l).0 in
-                let q = ltb-true best.bound near.bound (and_parts _ _ l).1 in
+                let p : near.unmatched ≡ best.unmatched = eqb-true near.unmatched best.unmatched (and_parts (nat_eq near.unmatched best.unmatched) (nat_lt best.bound near.bound) l).0 in
+                let q : best.bound < near.bound = ltb-true best.bound near.bound (and_parts (nat_eq near.unmatched best.unmatched) (nat_lt best.bound near.bound) l).1 in
                 inr (p ∙ e, inl (omega (arith, q, y)))
             go (inr l) (inr (e, inr y)) =
-                let p = eqb-true near.unmatched best.unmatched (and_parts _ _ l).0 in
-                let q = ltb-true best.bound near.bound (and_parts _ _ l).1 in
+                let p : near.unmatched ≡ best.unmatched = eqb-true near.unmatched best.unmatched (and_parts (nat_eq near.unmatched best.unmatched) (nat_lt best.bound near.bound) l).0 in
+                let q : best.bound < near.bound = ltb-true best.bound near.bound (and_parts (nat_eq near.unmatched best.unmatched) (nat_lt best.bound near.bound) l).1 in
                 inr (p ∙ e, inl (let z = y.0 in omega (arith, q, z)))
 
         pub so_far_nearer : is_nearer near best ≡ true → IsSoFar (k + 1) (Some (k, near))
-        so_far_nearer yes = record {
+        so_far_nearer closer = record {
           left = put h.left k near.unmatched;
           bound = put h.bound k near.bound;
           rule = r;
@@ -210,16 +229,21 @@ module _ (g : Grammar) (style : MacroCallStyle) (argument : Forest) (rs : List R
           bindings = bound_all;
           first = one_more (λ m s. GoesBefore (put h.left k near.unmatched) (put h.bound k near.bound) k m)
               (λ m s l a. order k m near.unmatched (h.left m) near.bound (h.bound m) (put_here h.left k near.unmatched) (put_before h.left k near.unmatched m l) (put_here h.bound k near.bound)
-                  (put_before h.bound k near.bound m l) (nearer_goes yes m (h.left m) (h.bound m) (known m s l a)))
+                  (put_before h.bound k near.bound m l) (nearer_goes closer m (h.left m) (h.bound m) (known m s l a)))
               (λ e. order k k near.unmatched near.unmatched near.bound near.bound (put_here h.left k near.unmatched) (put_here h.left k near.unmatched) (put_here h.bound k near.bound) (put_here h.bound k near.bound)
                   (inr (refl, inr (refl, omega arith))));
         }
 
-  -- a place with a rule is a place of the list
-  within : (xs : List Rule) (m : ℕ) (r : Rule) → slice_get xs m ≡ Some r → m < length xs
-  within [] m r e = absurd (none-some r e)
-  within (x ∷ xs) 0 r e = omega arith
-  within (x ∷ xs) (suc m) r e = let l = within xs m r e in omega (arith, l)
+  -- the nearer of the best and one more
+  pub so_far_tried : {A : Type 0} (k : ℕ) (r : Rule) → slice_get rs k ≡ Some r → r.style ≡ style → (best : Option (Candidate A)) (next : Candidate A) → next.idx ≡ k
+      → IsNearness g argument r next.nearness → IsSoFar k (option_map candidate_seen best) → IsSoFar (k + 1) (Some (candidate_seen (nearer_of best next)))
+  so_far_tried k r here own None next e near h =
+      subst (λ i. IsSoFar (k + 1) (Some (i, next.nearness))) (sym e) (so_far_first k r here own next.nearness near h)
+  so_far_tried k r here own (Some best) next e near h = go (cases_Bool (is_nearer next.nearness best.nearness))
+    where
+      go : (is_nearer next.nearness best.nearness ≡ true) ⊎ (is_nearer next.nearness best.nearness ≡ false) → IsSoFar (k + 1) (Some (candidate_seen (nearer_of (Some best) next)))
+      go (inl t) = rw t (subst (λ i. IsSoFar (k + 1) (Some (i, next.nearness))) (sym e) (so_far_nearer k r here own next.nearness near best.idx best.nearness h t))
+      go (inr f) = rw f (so_far_kept k r here own next.nearness near best.idx best.nearness h f)
 
   -- after all rules it is the closest of them
   pub closest : (k n : ℕ) (near : Nearness) → length rs ≤ k → IsSoFar k (Some (n, near)) → IsClosest g style argument rs n
@@ -233,18 +257,6 @@ module _ (g : Grammar) (style : MacroCallStyle) (argument : Forest) (rs : List R
     first = λ m r a. let l = within rs m r a.0 in h.first m r (omega (arith, l, all)) a;
   }
 
-  -- a rule at a place is one of the rules
-  at_place : (xs : List Rule) (m : ℕ) (r : Rule) → slice_get xs m ≡ Some r → Contains xs r
-  at_place [] m r e = absurd (none-some r e)
-  at_place (x ∷ xs) 0 r e = (0, omega arith, same_Some x r e)
-  at_place (x ∷ xs) (suc m) r e = let c = at_place xs m r e in (suc c.0, let l = c.1 in omega (arith, l), c.2)
-
-  -- and one of the rules stands at a place
-  placed : (xs : List Rule) (m : ℕ) (r : Rule) → m < length xs → slice_index_or xs m r ≡ r → slice_get xs m ≡ Some r
-  placed [] m r l e = absurd (omega (arith, l))
-  placed (x ∷ xs) 0 r l e = ap Some e
-  placed (x ∷ xs) (suc m) r l e = placed xs m r (omega (arith, l)) e
-
   -- the closest one is of the style
   pub has_style : (k n : ℕ) (near : Nearness) → IsSoFar k (Some (n, near)) → HasStyle rs style
   has_style k n near h = (h.rule, at_place rs n h.rule h.styled.0, h.styled.1)
@@ -257,14 +269,25 @@ module _ (g : Grammar) (style : MacroCallStyle) (argument : Forest) (rs : List R
 
 none_refused : (rs : List Rule) → list_any (λ (r : Rule). is_refused r.reads) rs ≡ false → AreChecked rs
 none_refused [] h n r e = absurd (none-some r e)
-none_refused (x ∷ xs) h 0 r e = subst (λ (y : Rule). Checked y.reads) (same_Some x r e) (or_parts _ _ h).0
+none_refused (x ∷ xs) h zero r e = subst (λ (y : Rule). Checked y.reads) (same_Some x r e) (or_parts _ _ h).0
 none_refused (x ∷ xs) h (suc n) r e = none_refused xs (or_parts _ _ h).1 n r e
 
 -- a macro whose error says no refusal has checked rules alone
 pub all_checked : (m : Macro) → TellsRefusal m → IsChecked m → AreChecked m.rules
-all_checked m tells (inl no) = go (cases_Bool (list_any (λ (r : Rule). is_refused r.reads) m.rules))
+all_checked m tells (inl other) = go (cases_Bool (list_any (λ (r : Rule). is_refused r.reads) m.rules))
   where
     go : (list_any (λ (r : Rule). is_refused r.reads) m.rules ≡ true) ⊎ (list_any (λ (r : Rule). is_refused r.reads) m.rules ≡ false) → AreChecked m.rules
-    go (inl x) = absurd (no (tells x))
+    go (inl x) = absurd (other (tells x))
     go (inr x) = none_refused m.rules x
 all_checked m tells (inr e) = subst AreChecked (sym e) (λ n r x. absurd (none-some r x))
+
+-- ---- results
+
+-- two facts of a value make a third
+pub ok_both : {X E : Type 0} (r : Result X E) (P Q R : X → Type 0) → ((x : X) → P x → Q x → R x) → IfOk r P → IfOk r Q → IfOk r R
+ok_both (Ok x) P Q R f p q = f x p q
+ok_both (Err e) P Q R f p q = tt
+
+pub ok_three : {X E : Type 0} (r : Result X E) (P Q R S : X → Type 0) → ((x : X) → P x → Q x → R x → S x) → IfOk r P → IfOk r Q → IfOk r R → IfOk r S
+ok_three (Ok x) P Q R S f p q s = f x p q s
+ok_three (Err e) P Q R S f p q s = tt

@@ -1,5 +1,5 @@
 -- What the choice of a rule goes by: words of private code.
-use Rattle.std.specs.Prelude.{◌≡◌, ◌^◌, ◌-◌, ℕ, Bool, ◌||◌, ◌&&◌, nat_lt, nat_eq, min, List, slice_get, Some}
+use Rattle.std.specs.Prelude.{◌≡◌, ◌^◌, ◌-◌, ℕ, Bool, ◌||◌, ◌&&◌, nat_lt, nat_eq, if◌then◌else◌, min, List, slice_get, Option, Some, None}
 use Rattle.mbe_tt.specs.declared.span.Span.{Span}
 use Rattle.mbe_tt.specs.Trees.Tree.{Forest}
 use Rattle.mbe_tt.specs.Trees.Top.{top_group}
@@ -12,6 +12,7 @@ use Rattle.mbe_semantics.specs.Readings.Verdict.{Verdict, IsVerdict, unmatched}
 use Rattle.mbe_semantics.specs.Bindings.Environment.{environment_of, binding_total}
 use Rattle.mbe_semantics.specs.Writing.Substitution.{IsSubstitution}
 use Rattle.mbe_semantics.specs.Expansion.Expansion.{Applies}
+use Rattle.mbe.specs.declared.expander.Candidate.{Candidate}
 use Rattle.mbe.specs.declared.expander.Nearness.{Nearness}
 use Rattle.mbe.specs.declared.expander.Tried.{Tried}
 use Rattle.mbe.specs.declared.expander.Tried.TheVariants as tried
@@ -20,9 +21,18 @@ use Rattle.mbe.specs.declared.expander.Tried.TheVariants as tried
 abbrev pub AreChecked : List Rule → Type 0
 AreChecked rules = (n : ℕ) (r : Rule) → slice_get rules n ≡ Some r → Checked r.reads
 
+-- a candidate's place, and how near it comes
+abbrev pub candidate_seen : {A : Type 0} → Candidate A → ℕ × Nearness
+candidate_seen c = (c.idx, c.nearness)
+
 -- fewer trees are left, or as many and more is bound
 abbrev pub is_nearer : Nearness → Nearness → Bool
 is_nearer n than = nat_lt n.unmatched than.unmatched || nat_eq n.unmatched than.unmatched && nat_lt than.bound n.bound
+
+-- the next candidate, where it is nearer than the best before it
+abbrev pub nearer_of : {A : Type 0} → Option (Candidate A) → Candidate A → Candidate A
+nearer_of None next = next
+nearer_of (Some best) next = if is_nearer next.nearness best.nearness then next else best
 
 -- how near the rule comes; where it fits, what is bound is counted
 pub record IsNearness (g : Grammar) (argument : Forest) (r : Rule) (n : Nearness) : Type 0 where

@@ -1,5 +1,5 @@
 // The choice of the rule.
-ghost use Rattle.std.specs.Prelude.{◌≡◌, IfOk, Some, None, is_some, true, if◌then◌else◌};
+ghost use Rattle.std.specs.Prelude.{◌≡◌, IfOk, Some, None, IsSome};
 ghost use Rattle.mbe_tt.specs.Trees.Top.{top_group};
 ghost use Rattle.mbe_semantics.specs.Expansion.Macro.{Expands, arm_of, empty_tree};
 ghost use Rattle.mbe_semantics.specs.Expansion.Error.{no_matching_rule};
@@ -8,8 +8,7 @@ ghost use Rattle.mbe_semantics.specs.Syntax.Nullable.{Checked};
 ghost use Rattle.mbe_errors.specs.ErrorViews.{errors_of};
 ghost use Rattle.mbe_ops.specs.Views.{template_of};
 ghost use Rattle.mbe_parser.specs.RuleViews.{rule_of, rules_seen};
-ghost use Rattle.mbe.specs.Choice.{AreChecked, IsTried, is_nearer};
-ghost use Rattle.mbe.specs.declared.expander.Candidate.{Candidate};
+ghost use Rattle.mbe.specs.Choice.{AreChecked, IsTried, is_nearer, nearer_of};
 
 use mbe_errors::error::{ExpandError, ExpandErrorKind};
 use mbe_errors::value_result::{ExpandResult, MatchedArmIndex, ValueResult};
@@ -111,10 +110,11 @@ pub(crate) fn expand_rules<A: Allocator + Copy, G: FragmentGrammar, M: Fn(Span) 
 }
 
 // The next one, where it is nearer than the best of those before it.
-fn nearer<'a, A: Allocator>(best: Option<Candidate<'a, A>>, next: Candidate<'a, A>) -> Candidate<'a, A>
-    ensures first { best ≡ None → result ≡ next }
-    ensures one { (b : Candidate A) → best ≡ Some b
-        → result ≡ (if is_nearer next.nearness b.nearness then next else b) }
+fn nearer<'a, A: Allocator>(
+    best: Option<Candidate<'a, A>>,
+    next: Candidate<'a, A>,
+) -> Candidate<'a, A>
+    ensures { result ≡ nearer_of best.entry next.entry }
 {
     let Some(best) = best else {
         return next;
@@ -176,7 +176,7 @@ fn recovered<A: Allocator + Copy, G: FragmentGrammar, M: Fn(Span) -> Span + Copy
 ) -> Result<ExpandResult<(TopSubtree<A>, MatchedArmIndex), A>, AllocError>
     requires { MayMark (M.pre marker) }
     ensures index { IfOk result (λ r. r.value.1 ≡ arm_of candidate.entry.idx) }
-    ensures err { IfOk result (λ r. is_some r.err ≡ true) }
+    ensures err { IfOk result (λ r. IsSome (errors_of r.err)) }
 {
     let Candidate {
         idx,

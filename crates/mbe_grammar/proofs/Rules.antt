@@ -1,9 +1,9 @@
 -- A part takes what its rule says, since deeper calls of parts change nothing, and what a loop over one rule may go by.
-use Rattle.std.proofs.Common.{◌≡◌, ℕ, zero, suc, ◌+◌, ◌-◌, ◌*◌, ◌<◌, ◌≤◌, Bool, true, false, ◌&&◌, Ok, Err, refl, sym, ap, ◌∙◌, subst, arith, ltb-true, zero-add}
+use Rattle.std.proofs.Common.{◌≡◌, ℕ, zero, suc, ◌+◌, ◌-◌, ◌*◌, ◌<◌, ◌≤◌, Bool, true, false, ◌&&◌, Option, Some, None, Ok, Err, refl, sym, ap, ◌∙◌, subst, arith, ltb-true, zero-add}
 use Rattle.std.specs.Prelude.{if◌then◌else◌, nat_lt}
 use Rattle.mbe_tt.specs.Trees.Tree.{Forest, flat_len}
 use Rattle.mbe_grammar.specs.declared.step.Miss.TheVariants.{Absent, Fault}
-use Rattle.mbe_grammar.specs.Rule.{Rule, one, puncts_of, through, to_closing_angle, part, ◌then◌, ◌or◌, maybe, repeated, needed, ahead, not_ahead, Step, ◌>>=◌, or_else, has_to_stand, if_stands, if_absent, once_more, times, in_turn, meaning, taken_within, taken}
+use Rattle.mbe_grammar.specs.Rule.{Rule, one, puncts_of, through, to_closing_angle, part, ◌then◌, ◌or◌, maybe, repeated, needed, ahead, not_ahead, Step, ◌>>=◌, or_else, has_to_stand, if_stands, if_absent, or_miss, once_more, times, in_turn, meaning, taken_within, taken}
 use Rattle.mbe_grammar.specs.RuleLaws.{count, Leaves, leaves_weaker, is_solid, Solid, meaning_leaves, within_leaves, taken_leaves}
 
 -- ---- parts that call one another
@@ -154,3 +154,106 @@ in_turn_ends r f e = ap (λ s. once_more s (times (flat_len f) r) f) e
 pub in_turn_faults : (r : Forest → Step) (f : Forest) → r f ≡ Err Fault → in_turn r f ≡ Err Fault
 unfolding in_turn
 in_turn_faults r f e = ap (λ s. once_more s (times (flat_len f) r) f) e
+
+-- where it ends, the rule doesn't stand once more
+once_more_done : (f g : Forest) (s : Step) (r more : Forest → Step) → r f ≡ s → Leaves true f s → ((h : Forest) → flat_len h < flat_len f → more h ≡ Ok g → r g ≡ Err Absent)
+    → once_more s more f ≡ Ok g → r g ≡ Err Absent
+once_more_done f g (Ok h) r more e l k t = k h (omega arith) t
+once_more_done f g (Err Absent) r more e l k t = cc
+once_more_done f g (Err Fault) r more e l k t = cc
+
+times_done : (n : ℕ) (r : Forest → Step) → ((g : Forest) → Leaves true g (r g)) → (f g : Forest) → flat_len f < n → times n r f ≡ Ok g → r g ≡ Err Absent
+times_done zero r h f g lt t = absurd (omega arith)
+times_done (suc n) r h f g lt t = once_more_done f g (r f) r (times n r) refl (h f) (λ k le. times_done n r h k g (omega arith)) t
+
+pub in_turn_done : (r : Forest → Step) → ((g : Forest) → Leaves true g (r g)) → (f g : Forest) → in_turn r f ≡ Ok g → r g ≡ Err Absent
+unfolding in_turn
+in_turn_done r h f g t = times_done (suc (flat_len f)) r h f g (omega arith) t
+
+-- what each step leads to, and holds before the first
+once_more_keeps : (P : Forest → Type 0) (f g : Forest) (s : Step) (more : Forest → Step) → P f → ((h : Forest) → s ≡ Ok h → P h) → ((h : Forest) → P h → more h ≡ Ok g → P g)
+    → once_more s more f ≡ Ok g → P g
+once_more_keeps P f g (Ok h) more here step k t = k h (step h refl) t
+once_more_keeps P f g (Err Absent) more here step k t = let e : f ≡ g = cc in subst P e here
+once_more_keeps P f g (Err Fault) more here step k t = cc
+
+times_keeps : (P : Forest → Type 0) (n : ℕ) (r : Forest → Step) → ((f g : Forest) → r f ≡ Ok g → P g) → (f g : Forest) → P f → times n r f ≡ Ok g → P g
+times_keeps P zero r h f g here t = let e : f ≡ g = cc in subst P e here
+times_keeps P (suc n) r h f g here t = once_more_keeps P f g (r f) (times n r) here (h f) (λ k now. times_keeps P n r h k g now) t
+
+pub in_turn_keeps : (P : Forest → Type 0) (r : Forest → Step) → ((f g : Forest) → r f ≡ Ok g → P g) → (f g : Forest) → P f → in_turn r f ≡ Ok g → P g
+unfolding in_turn
+in_turn_keeps P r h f g here t = times_keeps P (suc (flat_len f)) r h f g here t
+
+-- a repetition always stands
+once_more_stands : (f : Forest) (s : Step) (more : Forest → Step) → ((g : Forest) → has_to_stand (more g) ≡ more g) → has_to_stand (once_more s more f) ≡ once_more s more f
+once_more_stands f (Ok g) more h = h g
+once_more_stands f (Err Absent) more h = refl
+once_more_stands f (Err Fault) more h = refl
+
+times_stand : (n : ℕ) (r : Forest → Step) (f : Forest) → has_to_stand (times n r f) ≡ times n r f
+times_stand zero r f = refl
+times_stand (suc n) r f = once_more_stands f (r f) (times n r) (times_stand n r)
+
+pub in_turn_stands : (r : Forest → Step) (f : Forest) → has_to_stand (in_turn r f) ≡ in_turn r f
+unfolding in_turn
+in_turn_stands r f = times_stand (suc (flat_len f)) r f
+
+-- ---- rules without a fault
+
+-- whether a rule faults nowhere, if those parts don't
+abbrev pub is_calm : {P : Type 0} → (P → Bool) → Rule P → Bool
+is_calm calm (one p) = true
+is_calm calm (puncts_of texts) = true
+is_calm calm (through p) = false
+is_calm calm to_closing_angle = false
+is_calm calm (part x) = calm x
+is_calm calm (r then s) = is_calm calm r && is_calm calm s
+is_calm calm (r or s) = is_calm calm r && is_calm calm s
+is_calm calm (maybe r) = is_calm calm r
+is_calm calm (repeated r) = false
+is_calm calm (needed r) = false
+is_calm calm (ahead r) = is_calm calm r
+is_calm calm (not_ahead r) = is_calm calm r
+
+abbrev Calm : Step → Type 0
+Calm s = s ≡ Err Fault → ⊥
+
+miss_calm : (x : Option Forest) → Calm (or_miss Absent x)
+miss_calm None e = cc
+miss_calm (Some rest) e = cc
+
+then_calm : (s : Step) (next : Forest → Step) → Calm s → ((g : Forest) → Calm (next g)) → Calm (s >>= next)
+then_calm (Ok g) next h k e = k g e
+then_calm (Err miss) next h k e = h e
+
+or_calm : (s t : Step) → Calm s → Calm t → Calm (or_else s t)
+or_calm (Ok g) t h k e = h e
+or_calm (Err Absent) t h k e = k e
+or_calm (Err Fault) t h k e = h e
+
+ahead_calm : (f : Forest) (s : Step) → Calm s → Calm (if_stands s f)
+ahead_calm f (Ok g) h e = cc
+ahead_calm f (Err miss) h e = h e
+
+not_ahead_calm : (f : Forest) (s : Step) → Calm s → Calm (if_absent s f)
+not_ahead_calm f (Ok g) h e = cc
+not_ahead_calm f (Err Absent) h e = cc
+not_ahead_calm f (Err Fault) h e = h e
+
+pub never_faults : {P : Type 0} (calm : P → Bool) (parts : P → Forest → Step) → ((x : P) → calm x ≡ true → (f : Forest) → parts x f ≡ Err Fault → ⊥)
+    → (r : Rule P) → is_calm calm r ≡ true → (f : Forest) → meaning parts r f ≡ Err Fault → ⊥
+never_faults calm parts h (one p) b f = miss_calm _
+never_faults calm parts h (puncts_of texts) b f = miss_calm _
+never_faults calm parts h (through p) b f = cc
+never_faults calm parts h to_closing_angle b f = cc
+never_faults calm parts h (part x) b f = h x b f
+never_faults calm parts h (r then s) b f =
+    let (p, q) = both_true _ _ b in then_calm (meaning parts r f) (meaning parts s) (never_faults calm parts h r p f) (never_faults calm parts h s q)
+never_faults calm parts h (r or s) b f =
+    let (p, q) = both_true _ _ b in or_calm (meaning parts r f) (meaning parts s f) (never_faults calm parts h r p f) (never_faults calm parts h s q f)
+never_faults calm parts h (maybe r) b f = or_calm (meaning parts r f) (Ok f) (never_faults calm parts h r b f) (λ e. cc)
+never_faults calm parts h (repeated r) b f = cc
+never_faults calm parts h (needed r) b f = cc
+never_faults calm parts h (ahead r) b f = ahead_calm f (meaning parts r f) (never_faults calm parts h r b f)
+never_faults calm parts h (not_ahead r) b f = not_ahead_calm f (meaning parts r f) (never_faults calm parts h r b f)

@@ -1,5 +1,7 @@
+pub mod Chains
 pub mod FlatTrees
 pub mod Lawful
+pub mod Links
 pub mod Rule
 pub mod RuleLaws
 pub mod SampleGrammar

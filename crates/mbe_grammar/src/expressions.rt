@@ -4,13 +4,16 @@ ghost use Rattle.std.specs.List.{list_any};
 ghost use Rattle.std.specs.Str.{bytes_eq};
 ghost use Rattle.std.specs.Prelude.{map, codes, [], ◌∷◌};
 ghost use Rattle.mbe_tt.specs.Trees.Glue.{chars_of};
+ghost use Rattle.mbe_tt.specs.Trees.Tree.{flat_len};
 ghost use Rattle.mbe_tt.specs.Views.View.{trees};
 ghost use Rattle.mbe_grammar.specs.Rule.{in_turn, meaning};
-ghost use Rattle.mbe_grammar.specs.SampleGrammar.{takes, macro_argument, method, any_group, operators, mut_reference, expr_start, Operator, Operation, Expr, Prefix, Unary, Operand, KeywordBlock, JumpWord, JumpValue, Jump, PathExpr, Primary, Field, Post};
+ghost use Rattle.mbe_grammar.specs.SampleGrammar.{takes, macro_argument, method, any_group, operators, mut_reference, expr_start, Operator, Operation, Expr, Prefix, KeywordBlock, JumpWord, PathExpr, Field, Post};
+ghost use Rattle.mbe_grammar.specs.Chains.{jump_to_value, plain_primary, plain_operand};
 ghost use Rattle.mbe_grammar.specs.Steps.{seen};
+ghost use Rattle.mbe_grammar.specs.Links.{whole, GoesOnWithin};
 
 use crate::patterns::mut_reference;
-use crate::step::{Miss, Step, ahead, maybe, needed, not_ahead};
+use crate::step::{Miss, Step, ahead, maybe, not_ahead};
 use crate::tokens::{group, literal, name, no_punct, puncts, sign, word};
 use crate::types::{PathStyle, lifetime, path, turbofish};
 use mbe_tt::tt::{DelimiterKind, Punct, TokenTreesView};
@@ -74,40 +77,6 @@ fn operator<'t, A: Allocator>(tokens: TokenTreesView<'t, A>) -> Step<'t, A>
     }
 }
 
-// An operator, behind which an operand has to stand.
-#[cycle(expressions)]
-#[tactic(auto, using(crate::proofs::Parts::operation_is))]
-fn operation<'t, A: Allocator>(tokens: TokenTreesView<'t, A>) -> Step<'t, A>
-    ensures { seen result ≡ takes Operation (trees tokens.entry) }
-{
-    needed(unary(operator(tokens)?))
-}
-
-// Operations behind the first operand, as many as stand.
-#[cycle(expressions)]
-#[tactic(auto, using(crate::proofs::Parts::turns))]
-fn operations<'t, A: Allocator>(tokens: TokenTreesView<'t, A>) -> Step<'t, A>
-    ensures { seen result ≡ in_turn (takes Operation) (trees tokens.entry) }
-{
-    let mut rest = tokens;
-    'operations: loop {
-        match operation(rest) {
-            Ok(next) => rest = next,
-            Err(Miss::Absent) => return Ok(rest),
-            Err(Miss::Fault) => return Err(Miss::Fault),
-        }
-    }
-}
-
-/// An expression.
-#[cycle(expressions)]
-#[tactic(auto, using(crate::proofs::Parts::expr_is))]
-pub fn expr<'t, A: Allocator>(tokens: TokenTreesView<'t, A>) -> Step<'t, A>
-    ensures { seen result ≡ takes Expr (trees tokens.entry) }
-{
-    operations(unary(tokens)?)
-}
-
 // `-`, `!`, `*` or `& [mut]`.
 #[tactic(auto, using(crate::proofs::Parts::prefix_is))]
 fn prefix<'t, A: Allocator>(tokens: TokenTreesView<'t, A>) -> Step<'t, A>
@@ -134,24 +103,6 @@ fn prefixes<'t, A: Allocator>(tokens: TokenTreesView<'t, A>) -> Step<'t, A>
             Err(Miss::Fault) => return Err(Miss::Fault),
         }
     }
-}
-
-// An operand with its prefixes and what stands behind it.
-#[cycle(expressions)]
-#[tactic(auto, using(crate::proofs::Parts::unary_is))]
-fn unary<'t, A: Allocator>(tokens: TokenTreesView<'t, A>) -> Step<'t, A>
-    ensures { seen result ≡ takes Unary (trees tokens.entry) }
-{
-    operand(prefixes(tokens)?)
-}
-
-// An operand and what stands behind it.
-#[cycle(expressions)]
-#[tactic(auto, using(crate::proofs::Parts::operand_is))]
-fn operand<'t, A: Allocator>(tokens: TokenTreesView<'t, A>) -> Step<'t, A>
-    ensures { seen result ≡ takes Operand (trees tokens.entry) }
-{
-    posts(primary(tokens)?)
 }
 
 // `const` or `unsafe`, and a block.
@@ -185,23 +136,12 @@ fn expr_start<'t, A: Allocator>(tokens: TokenTreesView<'t, A>) -> Step<'t, A>
     )
 }
 
-// An expression, which has to stand where something that may begin one does.
-#[cycle(expressions)]
-#[tactic(auto, using(crate::proofs::Parts::jump_value_is))]
-fn jump_value<'t, A: Allocator>(tokens: TokenTreesView<'t, A>) -> Step<'t, A>
-    ensures { seen result ≡ takes JumpValue (trees tokens.entry) }
+// A jump that has a value, as far as that.
+fn jump_to_value<'t, A: Allocator>(tokens: TokenTreesView<'t, A>) -> Step<'t, A>
+    ensures { seen result ≡ meaning takes jump_to_value (trees tokens.entry) }
 {
-    needed(expr(ahead(expr_start(tokens), tokens)?))
-}
-
-// A jump with its value.
-#[cycle(expressions)]
-#[tactic(auto, using(crate::proofs::Parts::jump_is))]
-fn jump<'t, A: Allocator>(tokens: TokenTreesView<'t, A>) -> Step<'t, A>
-    ensures { seen result ≡ takes Jump (trees tokens.entry) }
-{
-    let rest = jump_word(tokens)?;
-    maybe(jump_value(rest), rest)
+    let value = jump_word(tokens)?;
+    ahead(expr_start(value), value)
 }
 
 // `!` and a group that isn't invisible.
@@ -235,18 +175,16 @@ fn any_group<'t, A: Allocator>(tokens: TokenTreesView<'t, A>) -> Step<'t, A>
     )
 }
 
-// An operand by itself. The word `let` begins none.
-#[cycle(expressions)]
-#[tactic(auto, using(crate::proofs::Parts::primary_is))]
+// An operand by itself, and of a jump the word alone. The word `let` begins none.
 fn primary<'t, A: Allocator>(tokens: TokenTreesView<'t, A>) -> Step<'t, A>
-    ensures { seen result ≡ takes Primary (trees tokens.entry) }
+    ensures { seen result ≡ meaning takes plain_primary (trees tokens.entry) }
 {
     let tokens = not_ahead(word(tokens, &["let"]), tokens)?;
     first_of!(
         word(tokens, &["_", "true", "false"]),
         literal(tokens),
         keyword_block(tokens),
-        jump(tokens),
+        jump_word(tokens),
         any_group(tokens),
         path_expr(tokens)
     )
@@ -294,6 +232,69 @@ fn posts<'t, A: Allocator>(tokens: TokenTreesView<'t, A>) -> Step<'t, A>
         match post(rest) {
             Ok(next) => rest = next,
             Err(Miss::Absent) => return Ok(rest),
+            Err(Miss::Fault) => return Err(Miss::Fault),
+        }
+    }
+}
+
+// An operand that is no jump with a value, and what stands behind it.
+fn operand<'t, A: Allocator>(tokens: TokenTreesView<'t, A>) -> Step<'t, A>
+    ensures { seen result ≡ meaning takes plain_operand (trees tokens.entry) }
+{
+    posts(primary(tokens)?)
+}
+
+// Where an expression ends, or has to go on.
+#[derive_where(Clone, Copy)]
+enum Link<'t, A: Allocator> {
+    // It ends before these trees.
+    End(TokenTreesView<'t, A>),
+    // The rest of it is an expression, which has to stand in front of these trees.
+    GoesOn(TokenTreesView<'t, A>),
+}
+
+// What follows an operand.
+#[tactic(auto, using(crate::proofs::ExpressionChains::operators))]
+fn operation<'t, A: Allocator>(tokens: TokenTreesView<'t, A>) -> Result<Link<'t, A>, Miss>
+    ensures taken { whole result ≡ in_turn (takes Operation) (trees tokens.entry) }
+    ensures shorter { GoesOnWithin (flat_len (trees tokens.entry)) result }
+{
+    match operator(tokens) {
+        Ok(rest) => Ok(Link::GoesOn(rest)),
+        Err(Miss::Absent) => Ok(Link::End(tokens)),
+        Err(Miss::Fault) => Err(Miss::Fault),
+    }
+}
+
+// The front of an expression: an operand with its operator, or a jump as far as its value. What a jump's value leaves,
+// neither a post nor an operation takes, so that the value may be taken for the rest of the whole.
+#[tactic(auto, using(crate::proofs::ExpressionChains::links))]
+fn next_link<'t, A: Allocator>(tokens: TokenTreesView<'t, A>) -> Result<Link<'t, A>, Miss>
+    ensures taken { whole result ≡ takes Expr (trees tokens.entry) }
+    ensures shorter { GoesOnWithin (flat_len (trees tokens.entry)) result }
+{
+    let start = prefixes(tokens)?;
+    match jump_to_value(start) {
+        Ok(value) => Ok(Link::GoesOn(value)),
+        Err(Miss::Absent) => operation(operand(start)?),
+        Err(Miss::Fault) => Err(Miss::Fault),
+    }
+}
+
+/// An expression.
+pub fn expr<'t, A: Allocator>(tokens: TokenTreesView<'t, A>) -> Step<'t, A>
+    ensures { seen result ≡ takes Expr (trees tokens.entry) }
+{
+    let mut rest = tokens;
+    let mut otherwise = Miss::Absent;
+    'links: loop {
+        match next_link(rest) {
+            Ok(Link::GoesOn(next)) => {
+                rest = next;
+                otherwise = Miss::Fault;
+            }
+            Ok(Link::End(end)) => return Ok(end),
+            Err(Miss::Absent) => return Err(otherwise),
             Err(Miss::Fault) => return Err(Miss::Fault),
         }
     }

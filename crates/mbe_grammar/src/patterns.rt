@@ -2,10 +2,11 @@
 ghost use Rattle.std.specs.Prelude.{◌≡◌};
 ghost use Rattle.mbe_tt.specs.Views.View.{trees};
 ghost use Rattle.mbe_grammar.specs.Rule.{in_turn, meaning};
-ghost use Rattle.mbe_grammar.specs.SampleGrammar.{takes, mut_reference, SignedLiteral, BindingMode, BoundPat, PathPat, Pat, Alternative, PatTop};
+ghost use Rattle.mbe_grammar.specs.SampleGrammar.{takes, mut_reference, SignedLiteral, BindingMode, PathPat, Pat, Alternative, PatTop};
+ghost use Rattle.mbe_grammar.specs.Chains.{direct_pattern};
 ghost use Rattle.mbe_grammar.specs.Steps.{seen};
 
-use crate::step::{Miss, Step, maybe, needed};
+use crate::step::{Miss, Step, either, maybe, needed};
 use crate::tokens::{group, literal, puncts, sign, word};
 use crate::types::{PathStyle, path};
 use mbe_tt::tt::{DelimiterKind, TokenTreesView};
@@ -35,15 +36,6 @@ fn binding_mode<'t, A: Allocator>(tokens: TokenTreesView<'t, A>) -> Step<'t, A>
     first_of!(mut_reference(tokens), word(tokens, &["ref", "mut"]))
 }
 
-// A mode and its pattern.
-#[cycle(patterns)]
-#[tactic(auto, using(crate::proofs::Parts::bound_pat_is))]
-fn bound_pat<'t, A: Allocator>(tokens: TokenTreesView<'t, A>) -> Step<'t, A>
-    ensures { seen result ≡ takes BoundPat (trees tokens.entry) }
-{
-    pat(binding_mode(tokens)?)
-}
-
 // A path, and the fields behind it.
 #[tactic(auto, using(crate::proofs::Parts::path_pat_is))]
 fn path_pat<'t, A: Allocator>(tokens: TokenTreesView<'t, A>) -> Step<'t, A>
@@ -54,22 +46,38 @@ fn path_pat<'t, A: Allocator>(tokens: TokenTreesView<'t, A>) -> Step<'t, A>
     maybe(group(rest, &kinds), rest)
 }
 
-/// A pattern without alternatives.
-#[cycle(patterns)]
-#[tactic(auto, using(crate::proofs::Parts::pat_is))]
-pub fn pat<'t, A: Allocator>(tokens: TokenTreesView<'t, A>) -> Step<'t, A>
-    ensures { seen result ≡ takes Pat (trees tokens.entry) }
+// A pattern that no mode begins.
+fn direct_pat<'t, A: Allocator>(tokens: TokenTreesView<'t, A>) -> Step<'t, A>
+    ensures { seen result ≡ meaning takes direct_pattern (trees tokens.entry) }
 {
     first_of!(
         word(tokens, &["_"]),
         signed_literal(tokens),
-        bound_pat(tokens),
         group(
             tokens,
             &[DelimiterKind::Parenthesis, DelimiterKind::Bracket]
         ),
         path_pat(tokens)
     )
+}
+
+/// A pattern without alternatives. A mode that no pattern follows may be a path itself.
+#[tactic(auto, using(crate::proofs::PatternChains::modes))]
+pub fn pat<'t, A: Allocator>(tokens: TokenTreesView<'t, A>) -> Step<'t, A>
+    ensures { seen result ≡ takes Pat (trees tokens.entry) }
+{
+    let mut rest = tokens;
+    let mut otherwise = Err(Miss::Absent);
+    'modes: loop {
+        match binding_mode(rest) {
+            Ok(next) => {
+                otherwise = either(path_pat(rest), otherwise);
+                rest = next;
+            }
+            Err(Miss::Absent) => return either(direct_pat(rest), otherwise),
+            Err(Miss::Fault) => return Err(Miss::Fault),
+        }
+    }
 }
 
 // `|`, behind which a pattern has to stand.

@@ -29,6 +29,16 @@ pub fn maybe<'t, A: Allocator>(step: Step<'t, A>, tokens: TokenTreesView<'t, A>)
     }
 }
 
+/// The step of a part, or that of another where the part doesn't stand.
+pub fn either<'t, A: Allocator>(step: Step<'t, A>, other: Step<'t, A>) -> Step<'t, A>
+    ensures { seen result ≡ or_else (seen step.entry) (seen other.entry) }
+{
+    match step {
+        Err(Miss::Absent) => other,
+        taken => taken,
+    }
+}
+
 /// The step of a part that has to stand.
 pub fn needed<'t, A: Allocator>(step: Step<'t, A>) -> Step<'t, A>
     ensures { seen result ≡ has_to_stand (seen step.entry) }

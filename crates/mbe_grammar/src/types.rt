@@ -2,7 +2,8 @@
 ghost use Rattle.std.specs.Prelude.{◌≡◌};
 ghost use Rattle.mbe_tt.specs.Views.View.{trees};
 ghost use Rattle.mbe_grammar.specs.Rule.{in_turn, meaning};
-ghost use Rattle.mbe_grammar.specs.SampleGrammar.{takes, reference_sign, pointer_sign, Lifetime, Angle, Turbofish, Colons, Segment, NextSegment, Path, Indirection, Pointee, Ty};
+ghost use Rattle.mbe_grammar.specs.SampleGrammar.{takes, reference_sign, pointer_sign, Lifetime, Angle, Turbofish, Colons, Segment, NextSegment, Path, Indirection, Ty};
+ghost use Rattle.mbe_grammar.specs.Chains.{direct_type};
 ghost use Rattle.mbe_grammar.specs.Steps.{seen};
 
 use crate::step::{Miss, Step, ahead, maybe, needed};
@@ -123,20 +124,24 @@ fn pointer<'t, A: Allocator>(tokens: TokenTreesView<'t, A>) -> Step<'t, A>
     word(sign(tokens, '*')?, &["const", "mut"])
 }
 
-// An indirection and its type.
-#[cycle(types)]
-#[tactic(auto, using(crate::proofs::Parts::pointee_is))]
-fn pointee<'t, A: Allocator>(tokens: TokenTreesView<'t, A>) -> Step<'t, A>
-    ensures { seen result ≡ takes Pointee (trees tokens.entry) }
+// Indirections, as many as stand.
+#[tactic(auto, using(crate::proofs::Parts::turns))]
+fn indirections<'t, A: Allocator>(tokens: TokenTreesView<'t, A>) -> Step<'t, A>
+    ensures { seen result ≡ in_turn (takes Indirection) (trees tokens.entry) }
 {
-    ty(indirection(tokens)?)
+    let mut rest = tokens;
+    'indirections: loop {
+        match indirection(rest) {
+            Ok(next) => rest = next,
+            Err(Miss::Absent) => return Ok(rest),
+            Err(Miss::Fault) => return Err(Miss::Fault),
+        }
+    }
 }
 
-/// A type.
-#[cycle(types)]
-#[tactic(auto, using(crate::proofs::Parts::ty_is))]
-pub fn ty<'t, A: Allocator>(tokens: TokenTreesView<'t, A>) -> Step<'t, A>
-    ensures { seen result ≡ takes Ty (trees tokens.entry) }
+// A type that no indirection begins.
+fn direct_ty<'t, A: Allocator>(tokens: TokenTreesView<'t, A>) -> Step<'t, A>
+    ensures { seen result ≡ meaning takes direct_type (trees tokens.entry) }
 {
     first_of!(
         word(tokens, &["_"]),
@@ -145,7 +150,14 @@ pub fn ty<'t, A: Allocator>(tokens: TokenTreesView<'t, A>) -> Step<'t, A>
             tokens,
             &[DelimiterKind::Parenthesis, DelimiterKind::Bracket]
         ),
-        pointee(tokens),
         path(tokens, PathStyle::Plain)
     )
+}
+
+/// A type.
+#[tactic(auto, using(crate::proofs::TypeChains::ty_is))]
+pub fn ty<'t, A: Allocator>(tokens: TokenTreesView<'t, A>) -> Step<'t, A>
+    ensures { seen result ≡ takes Ty (trees tokens.entry) }
+{
+    direct_ty(indirections(tokens)?)
 }

@@ -12,13 +12,13 @@ use std::alloc::Global;
 use std::process::Abort;
 use std::test::Fail;
 
-// The trees of a text that isn't long.
+// The trees of a text.
 fn trees(rt: &impl Abort, alloc: Global, text: &str) -> Result<TopSubtree, LexError> {
-    assert!(rt; text.len() < 1_000_000);
+    assert!(rt; text.len() < 100_000_000);
     lex(alloc, text, 0)
 }
 
-fn assert_takes(
+pub fn assert_takes(
     rt: &impl Abort,
     alloc: Global,
     (entry, text): (PrefixEntryPoint, &str),
@@ -32,7 +32,7 @@ fn assert_takes(
         count: want.unwrap_or(0),
         fault: want.is_none(),
     };
-    assert_eq!(rt; front, want, "{text}");
+    assert_eq!(rt; front, want, "{text:.99}");
     Ok(())
 }
 

@@ -2,4 +2,7 @@
 #![tactic(auto)]
 
 #[cfg(test)]
+mod chains;
+#[cfg(test)]
 mod fragments;
+pub mod one_token;

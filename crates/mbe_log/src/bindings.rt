@@ -186,7 +186,8 @@ fn push_round<'a, A: Allocator + Copy>(
     value: Binding<'a, A>,
 ) -> Result<(), AllocError>
     ensures { OnOk result (all_values (map value_seen list.new.items)
-        ≡ add_value (filled number (all_values (map value_seen list.old.items))) (value_seen value.entry)) }
+        ≡ add_value (filled number (all_values (map value_seen list.old.items)))
+        (value_seen value.entry)) }
 {
     while list.len() < number {
         list.push(Binding::Nested(Vec::new(alloc)))?;

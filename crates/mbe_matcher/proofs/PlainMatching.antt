@@ -27,7 +27,7 @@ use Rattle.mbe_matcher.proofs.BindingLemmas.{alike_item}
 
 -- ---- tokens
 
-passed_if : (b : Bool) (c : Cut) (left : Forest) → left ≡ c.back → HasPassed b (if b then Some c else None) left
+pub passed_if : (b : Bool) (c : Cut) (left : Forest) → left ≡ c.back → HasPassed b (if b then Some c else None) left
 passed_if true c left l = l
 passed_if false c left l = tt
 

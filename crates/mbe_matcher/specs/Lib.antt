@@ -1,3 +1,7 @@
-pub mod Matched
 pub mod Matching
 pub mod Delimited
+pub mod Fronts
+pub mod Rewriting
+pub mod Positions
+pub mod Matched
+pub mod Counts

@@ -3,5 +3,13 @@
 
 pub mod delimited;
 pub mod fragment;
+mod counts;
+mod fronts;
 pub mod matcher;
 pub mod matching;
+mod places;
+mod position;
+mod settle;
+mod skipping;
+mod source;
+mod steps;

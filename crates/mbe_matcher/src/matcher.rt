@@ -112,7 +112,7 @@ fn match_group<'a, A: Allocator + Copy, G: FragmentGrammar>(
 }
 
 // A literal of the same text and suffix, whatever its kind.
-fn eat_literal<A: Allocator>(literal: &Literal<A>, src: &mut TtIter<'_, A>) -> bool
+pub(crate) fn eat_literal<A: Allocator>(literal: &Literal<A>, src: &mut TtIter<'_, A>) -> bool
     ensures { HasPassed result (literal_text_front literal.now.text_and_suffix src.old) src.new }
 {
     match src.expect_leaf() {
@@ -122,7 +122,7 @@ fn eat_literal<A: Allocator>(literal: &Literal<A>, src: &mut TtIter<'_, A>) -> b
 }
 
 // An identifier of the same text, raw or not.
-fn eat_ident<A: Allocator>(ident: &Ident<A>, src: &mut TtIter<'_, A>) -> bool
+pub(crate) fn eat_ident<A: Allocator>(ident: &Ident<A>, src: &mut TtIter<'_, A>) -> bool
     ensures { HasPassed result (ident_text_front ident.now.sym src.old) src.new }
 {
     match src.expect_ident_or_underscore() {
@@ -132,7 +132,7 @@ fn eat_ident<A: Allocator>(ident: &Ident<A>, src: &mut TtIter<'_, A>) -> bool
 }
 
 // Puncts that stand together and have just these chars.
-fn eat_puncts<A: Allocator>(puncts: &[Punct], src: &mut TtIter<'_, A>) -> bool
+pub(crate) fn eat_puncts<A: Allocator>(puncts: &[Punct], src: &mut TtIter<'_, A>) -> bool
     ensures { HasPassed result (puncts_front (chars_of puncts.now) src.old) src.new }
 {
     match src.expect_glued_punct() {
@@ -142,7 +142,7 @@ fn eat_puncts<A: Allocator>(puncts: &[Punct], src: &mut TtIter<'_, A>) -> bool
 }
 
 // What a variable of the kind takes in front. An unknown kind takes nothing.
-fn eat_fragment<'a, A: Allocator, G: FragmentGrammar>(
+pub(crate) fn eat_fragment<'a, A: Allocator, G: FragmentGrammar>(
     grammar: &G,
     kind: Option<MetaVarKind>,
     src: &mut TtIter<'a, A>,

@@ -1,15 +1,16 @@
 // Matches an argument against a pattern with repetitions.
-ghost use Rattle.std.specs.Prelude.{◌≡◌, ◌↔◌, IsNone, IfOk, OnOk};
+ghost use Rattle.std.specs.Prelude.{◌≡◌, ◌↔◌, IsNone, IsSome, IfOk, OnOk};
 ghost use Rattle.mbe_tt.specs.Views.View.{trees};
 ghost use Rattle.mbe_semantics.specs.Syntax.Nullable.{Checked};
 ghost use Rattle.mbe_semantics.specs.Readings.Verdict.{IsVerdict, unmatched, one_reading};
-ghost use Rattle.mbe_semantics.specs.Bindings.Account.{IsLive};
+ghost use Rattle.mbe_semantics.specs.Bindings.Account.{Log, IsLive};
 ghost use Rattle.mbe_errors.specs.ErrorViews.{errors_of};
 ghost use Rattle.mbe_log.specs.Shared.{IsKept};
 ghost use Rattle.mbe_ops.specs.Views.{template_of};
 ghost use Rattle.mbe_matcher.specs.Matched.{verdict_seen, Binds};
 
-use mbe_errors::error::ExpandError;
+use crate::places::{Reached, Stop, reach};
+use mbe_errors::error::{ExpandError, ExpandErrorKind};
 use mbe_log::log::{BindingLog, Handle};
 use mbe_ops::ops::MetaTemplate;
 use mbe_tt::grammar::FragmentGrammar;
@@ -18,7 +19,7 @@ use mbe_tt::view::TokenTreesView;
 use std::alloc::{AllocError, Allocator, Global};
 
 /// How a pattern reads an argument. The numbers are places: flat tokens passed.
-#[derive(Clone, Copy, Debug, Drop, PartialEq, Eq)]
+#[derive(Clone, Copy, Debug, PartialEq, Eq)]
 pub enum Verdict {
     OneReading,
     ManyReadings,
@@ -34,10 +35,14 @@ pub struct Match<A: Allocator = Global> {
     pub verdict: Verdict,
     /// How many trees of the current group are left where it stopped.
     pub unmatched: usize,
+    /// What the only reading binds; nothing without one.
     pub bindings: Handle,
+    /// Why there is no only reading.
     pub err: Option<ExpandError<A>>,
 }
 
+/// Matches the whole argument against a checked pattern. What its readings bind is written into the log. `around` are the spans
+/// of the argument's delimiters. `AllocError` if out of memory.
 pub fn match_argument<'a, A: Allocator + Copy, G: FragmentGrammar>(
     alloc: A,
     grammar: &G,
@@ -57,6 +62,51 @@ pub fn match_argument<'a, A: Allocator + Copy, G: FragmentGrammar>(
     ensures err { IfOk result (λ m. IsNone (errors_of m.err) ↔ (verdict_seen m.verdict ≡ one_reading)) }
     ensures kept { OnOk result (IsKept log.old log.new) }
 {
-    let _ = alloc; let _ = grammar; let _ = pattern; let _ = argument; let _ = around; let _ = log;
-    Err(AllocError)
+    let length = argument.flat_len();
+    let Reached { stop, unmatched } = reach(alloc, grammar, pattern, argument, log)?;
+    match stop {
+        Stop::OneReading(bindings) => Ok(Match {
+            verdict: Verdict::OneReading,
+            unmatched,
+            bindings,
+            err: None,
+        }),
+        Stop::ManyReadings => failed(alloc, Verdict::ManyReadings, unmatched, true, around, log),
+        Stop::Ambiguous(place) => {
+            failed(alloc, Verdict::Ambiguous(place), unmatched, false, around, log)
+        }
+        Stop::Stuck(place) => {
+            failed(alloc, Verdict::Stuck(place), unmatched, place == length, around, log)
+        }
+    }
+}
+
+// A match without an only reading. Its error is at the argument's open span.
+fn failed<'a, A: Allocator + Copy>(
+    alloc: A,
+    verdict: Verdict,
+    unmatched: usize,
+    at_end: bool,
+    around: DelimSpan,
+    log: &mut BindingLog<'a, A>,
+) -> Result<Match<A>, AllocError>
+    ensures verdict { IfOk result (λ m. m.verdict ≡ verdict) }
+    ensures unmatched { IfOk result (λ m. m.unmatched ≡ unmatched) }
+    ensures live { IfOk result (λ m. IsLive log.new m.bindings) }
+    ensures err { IfOk result (λ m. IsSome (errors_of m.err)) }
+    ensures kept { (first : Log) → IsKept first log.old → OnOk result (IsKept first log.new) }
+{
+    let kind = if at_end {
+        ExpandErrorKind::UnexpectedToken
+    } else {
+        ExpandErrorKind::LeftoverTokens
+    };
+    let err = ExpandError::new(alloc, around.opening, kind)?;
+    let bindings = log.alloc()?;
+    Ok(Match {
+        verdict,
+        unmatched,
+        bindings,
+        err: Some(err),
+    })
 }

@@ -79,7 +79,7 @@ fn is_punct(char: char) -> bool {
     PUNCTS.contains(char)
 }
 
-// Whether an identifier of this text and what stands behind it would begin a prefixed or raw string, or a byte literal.
+// Whether an identifier of this text and what follows it would begin a prefixed or raw string, or a byte literal.
 // Those aren't lexed.
 fn begins_literal(name: &str, rest: &str) -> bool {
     match name {
@@ -259,7 +259,7 @@ impl<'t> Scanner<'t> {
         })
     }
 
-    // Passes the identifier that is the suffix of a literal, where one stands here, and gives it with its length in
+    // Passes the identifier that is the suffix of a literal, where one stands here, and returns it with its length in
     // bytes, which is at most 255. One that would begin a prefixed string is a fault, as it is elsewhere. A suffix is
     // never raw.
     fn suffix(&mut self) -> Result<(&'t str, u8), Fault>
@@ -323,7 +323,7 @@ impl<'t> Scanner<'t> {
         self.literal(text, kind)
     }
 
-    // Whether the `'` that stands here begins a char: behind it stands a `\`, or a character and another `'`. That
+    // Whether the `'` that stands here begins a char: after it stands a `\`, or a character and another `'`. That
     // character is no `'` and no line feed.
     fn is_at_char(&self) -> bool {
         let mut chars = self.rest.chars();
@@ -367,7 +367,7 @@ impl<'t> Scanner<'t> {
         }
     }
 
-    // Passes a `.` and the digits behind it, where that is no range and no field.
+    // Passes a `.` and the digits after it, where that is no range and no field.
     fn fraction(&mut self) -> bool
         ensures { GoesOn self.old self.new }
     {
@@ -470,10 +470,11 @@ impl<'t> Scanner<'t> {
         }
     }
 
-    /// Passes white space, comments and the next token, and gives that. `None` at the end of the text.
+    /// Passes white space, comments and the next token, and returns that. `None` at the end of the text.
     pub fn token(&mut self) -> Result<Option<Token<'t>>, Fault>
         ensures on { GoesOn self.old self.new }
-        ensures past { IfOk result (λ token. IsSome token → length self.new.rest.now < length self.old.rest.now) }
+        ensures past { IfOk result (λ token. IsSome token
+            → length self.new.rest.now < length self.old.rest.now) }
         ensures start { IfOk result (λ token. IfSome token (λ t. t.span.start ≤ self.old.total)) }
         ensures within { IfErr result (λ fault. fault.offset ≤ self.old.total) }
     {

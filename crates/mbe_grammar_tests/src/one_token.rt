@@ -1,0 +1,39 @@
+// A grammar as small as the laws of grammars allow. Edits of it show that the laws refuse what isn't lawful.
+ghost use borrow.Author.Rules.{rules};
+
+use mbe_tt::grammar::{FragmentGrammar, Front, PrefixEntryPoint};
+use mbe_tt::tt::TokenTreesView;
+use std::alloc::{AllocError, Allocator};
+
+/// A grammar that takes one flat token of everything, and faults where there is none.
+pub struct OneToken;
+
+#[tactic(auto, using(mbe_tt::proofs::Places::CutLemmas::flat_length))]
+impl FragmentGrammar for OneToken {
+    ghost use Rattle.std.specs.Prelude.{false, ◌==◌, min, length};
+
+    ghost grammar = { λ _. record {
+      parse = λ entry tokens. record {
+        count = min 1 (length tokens);
+        fault = length tokens == 0;
+      };
+      is_keyword = λ text. false;
+    } };
+
+    fn parse<A: Allocator>(
+        &self,
+        _entry: PrefixEntryPoint,
+        tokens: TokenTreesView<'_, A>,
+    ) -> Result<Front, AllocError> {
+        Ok(Front {
+            count: tokens.flat_len().min(1),
+            fault: tokens.flat_len() == 0,
+        })
+    }
+
+    fn is_keyword(&self, _text: &str) -> bool {
+        false
+    }
+
+    ghost lawful = { λ _. Prim.search rules };
+}
