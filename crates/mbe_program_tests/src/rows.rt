@@ -46,19 +46,22 @@ pub fn assert_prints(
     Ok(())
 }
 
-fn assert_rows(rt: &impl Abort, alloc: Global, edition: Edition, rows: &[Row]) -> Result<(), Fail> {
+/// The same of each row.
+pub fn assert_rows(
+    rt: &impl Abort,
+    alloc: Global,
+    edition: Edition,
+    rows: &[Row],
+) -> Result<(), Fail> {
     for (texts, error, arm, trees) in rows {
         assert_prints(rt, alloc, edition, *texts, (error, *arm, trees))?;
     }
     Ok(())
 }
 
-const LIST: &str = "\n($($e:expr),* $(,)?) => {\n    $($e);* ;\n};\n";
+pub const LIST: &str = "\n($($e:expr),* $(,)?) => {\n    $($e);* ;\n};\n";
 
-const OLD_LIST: &str = "\n($($e:expr_2021),* $(,)?) => {\n    $($e);* ;\n};\n";
-
-const SIGNS: &str =
-    "\n(-1) => {-1};\n(- 2) => {- 2};\n(- 3.0) => {- 3.0};\n(@$lit:literal) => {$lit}\n";
+pub const OLD_LIST: &str = "\n($($e:expr_2021),* $(,)?) => {\n    $($e);* ;\n};\n";
 
 pub static WORKED: [Row; 13] = [
     (
@@ -412,20 +415,8 @@ static REPEATED_NAMES: [Row; 4] = [
     ),
 ];
 
-// No rule applies, and the closest one is recovered.
-pub static RECOVERED: [Row; 14] = [
-    (
-        (OLD_LIST, "\n    _,\n"),
-        "no rule matches input tokens at 1@5..6",
-        0,
-        "  PUNCH   ; [alone] 0@44..45\n",
-    ),
-    (
-        (SIGNS, "@--1.0"),
-        "expected literal at 1@1..2",
-        3,
-        "  IDENT   missing 0@72..75\n",
-    ),
+// The closest rule is recovered: the match ends without an only reading, or its substitution faults.
+pub static RECOVERED: [Row; 10] = [
     (
         ("($($v:vis),*) => {}", ""),
         "unexpected token in input at 1@0..0",
@@ -447,18 +438,6 @@ pub static RECOVERED: [Row; 14] = [
     (
         ("($($t:ident),* as $ty:ident) => {}", "as u32"),
         "leftover tokens at 1@0..6",
-        0,
-        "",
-    ),
-    (
-        ("($(a)? $(a)?) => {}", "a"),
-        "expected ident: `a` at 1@0..1",
-        0,
-        "",
-    ),
-    (
-        ("($e:expr) => {}", "r#let"),
-        "no rule matches input tokens at 1@0..5",
         0,
         "",
     ),
@@ -495,59 +474,13 @@ pub static RECOVERED: [Row; 14] = [
     ),
 ];
 
-// The same, read in edition 2021.
-static RECOVERED_BEFORE_2024: [Row; 2] = [
-    (
-        (LIST, "\n    _,\n"),
-        "no rule matches input tokens at 1@5..6",
-        0,
-        "  PUNCH   ; [alone] 0@39..40\n",
-    ),
-    (
-        (LIST, "\n    const { 1 },\n"),
-        "no rule matches input tokens at 1@5..10",
-        0,
-        "  PUNCH   ; [alone] 0@39..40\n",
-    ),
-];
-
 // The rule with fewest trees left is recovered, then the one with most bindings, then the first.
-static CLOSEST: [Row; 10] = [
-    (
-        ("(a) => {A}; (b) => {B}", "c"),
-        "unexpected token in input at 1@0..1",
-        0,
-        "  IDENT   A 0@8..9\n",
-    ),
-    (
-        ("($x:ident b) => {A}; ($x:ident $y:ident c) => {B}", "p q"),
-        "expected ident: `c` at 1@0..3",
-        1,
-        "  IDENT   B 0@47..48\n",
-    ),
+static CLOSEST: [Row; 9] = [
     (
         ("(p $x:tt) => {$($x)*}; ($x:tt $y:tt) => {$($x)*}", "p q"),
         "Expand exceed limit at 1@0..3",
         1,
         "",
-    ),
-    (
-        ("(x) => {B}; ((a b c d)) => {A}", "(a x y z)"),
-        "expected ident: `x` at 1@0..1",
-        0,
-        "  IDENT   B 0@8..9\n",
-    ),
-    (
-        ("((a b)) => {A}; (x) => {B}", "(a c)"),
-        "unexpected token in input at 1@3..4",
-        0,
-        "  IDENT   A 0@12..13\n",
-    ),
-    (
-        ("attr() (a) => {A}; (b) => {B}", "c"),
-        "unexpected token in input at 1@0..1",
-        1,
-        "  IDENT   B 0@27..28\n",
     ),
     (
         (
@@ -574,78 +507,41 @@ static CLOSEST: [Row; 10] = [
         "",
     ),
     (
-        ("(a) => {A}; ($x:ident) => {B}", "1"),
-        "expected ident at 1@0..1",
+        ("([] {}) => {A}; ([] [] {}) => {B}", "[] []"),
+        "unexpected token in input at 1@0..5",
         1,
-        "  IDENT   B 0@27..28\n",
+        "  IDENT   B 0@31..32\n",
+    ),
+    (
+        ("([] []) => {A}; ({}) => {B}", "[] ()"),
+        "leftover tokens at 1@0..5",
+        0,
+        "  IDENT   A 0@12..13\n",
+    ),
+    (
+        ("({}) => {B}; ([[] {}]) => {A}", "[[] () ()]"),
+        "leftover tokens at 1@0..10",
+        0,
+        "  IDENT   B 0@9..10\n",
+    ),
+    (
+        ("([{} a]) => {A}; ({}) => {B}", "[()]"),
+        "leftover tokens at 1@0..4",
+        0,
+        "  IDENT   A 0@13..14\n",
+    ),
+    (
+        ("attr() ([]) => {A}; ({}) => {B}", "()"),
+        "leftover tokens at 1@0..2",
+        1,
+        "  IDENT   B 0@29..30\n",
     ),
 ];
 
-static ERRORS_OF_MATCHES: [Row; 21] = [
-    (
-        ("(1) => {}", "a"),
-        "unexpected token in input at 1@0..1",
-        0,
-        "",
-    ),
-    (
-        ("(foo) => {}", "bar"),
-        "unexpected token in input at 1@0..3",
-        0,
-        "",
-    ),
-    (
-        ("(foo) => {}", "(a)"),
-        "expected ident: `foo` at 1@0..1",
-        0,
-        "",
-    ),
-    (
-        ("(foo) => {}", ""),
-        "expected ident: `foo` at 1@0..0",
-        0,
-        "",
-    ),
-    (
-        ("(\"s\"u8) => {}", ""),
-        "expected literal: `\"s\"u8` at 1@0..0",
-        0,
-        "",
-    ),
-    (
-        ("((a r#b)) => {}", "(a)"),
-        "expected ident: `r#b` at 1@0..3",
-        0,
-        "",
-    ),
-    (
-        ("(+) => {}", "'a"),
-        "unexpected token in input at 1@0..1",
-        0,
-        "",
-    ),
-    (("(+) => {}", "-"), "expected punct: `+` at 1@0..1", 0, ""),
-    (
-        ("(->) => {}", "- >"),
-        "expected punct: `->` at 1@0..1",
-        0,
-        "",
-    ),
-    (
-        ("(->) => {}", "a"),
-        "unexpected token in input at 1@0..1",
-        0,
-        "",
-    ),
+static STOPS: [Row; 9] = [
     (
         ("(->) => {}", ""),
         "unexpected token in input at 1@0..0",
-        0,
-        "",
-    ),
-    (
-        ("($l:lifetime) => {}", "a"),
-        "expected lifetime at 1@0..1",
         0,
         "",
     ),
@@ -664,7 +560,6 @@ static ERRORS_OF_MATCHES: [Row; 21] = [
         0,
         "",
     ),
-    (("(a b) => {}", "a"), "expected ident: `b` at 1@0..1", 0, ""),
     (("(a) => {}", "a b"), "leftover tokens at 1@0..3", 0, ""),
     (("([a]) => {}", "(a)"), "leftover tokens at 1@0..3", 0, ""),
     (
@@ -675,34 +570,6 @@ static ERRORS_OF_MATCHES: [Row; 21] = [
     ),
     (("((a)) => {}", "(a b)"), "leftover tokens at 1@0..5", 0, ""),
     (("($(a),*) => {}", "a;"), "leftover tokens at 1@0..2", 0, ""),
-    (
-        ("($(a),*) => {}", "a,"),
-        "expected ident: `a` at 1@0..2",
-        0,
-        "",
-    ),
-];
-
-// What is bound where a match fails: by the position that failed last.
-static REPORTED: [Row; 3] = [
-    (
-        ("($x:ident b) => {[$x]}", "p q"),
-        "unexpected token in input at 1@2..3",
-        0,
-        "  SUBTREE [] 0@17..18 0@20..21
-    IDENT   p 1@0..1
-",
-    ),
-    (
-        ("($x:ident; $($y:ident 1),*) => {[$x] [$($y)*]}", "a; b 2"),
-        "unexpected token in input at 1@5..6",
-        0,
-        "  SUBTREE [] 0@32..33 0@35..36
-    PUNCH   $ [alone] 0@34..35
-    IDENT   x 0@34..35
-  SUBTREE [] 0@37..38 0@44..45
-",
-    ),
     (
         ("($x:ident $($y:ident)* $z:ident) => {A $x}", "a b"),
         "leftover tokens at 1@0..3",
@@ -765,26 +632,6 @@ static FAULTS: [Row; 8] = [
     ),
 ];
 
-// A missing binding in a metavariable expression.
-static MISSING: [Row; 2] = [
-    (
-        ("($x:ident) => {$($x)* ${count($x)} ${concat(a_, $x)}}", "1"),
-        "expected ident at 1@0..1",
-        0,
-        "  LITERAL Integer 1 1@0..1
-  IDENT   a_missing 0@37..43
-",
-    ),
-    (
-        ("($x:tt) => {${concat(a, $x)} b}", ""),
-        "expected token tree at 1@0..0",
-        0,
-        "  IDENT   a 0@14..20
-  IDENT   b 0@29..30
-",
-    ),
-];
-
 #[test]
 fn rounds_of_the_argument_are_written(rt: HostRuntime) -> Result<(), Fail> {
     for rows in [
@@ -800,100 +647,13 @@ fn rounds_of_the_argument_are_written(rt: HostRuntime) -> Result<(), Fail> {
 
 #[test]
 fn the_closest_rule_is_recovered(rt: HostRuntime) -> Result<(), Fail> {
-    assert_rows(&rt, rt.alloc(), Edition::Edition2024, &RECOVERED)?;
-    assert_rows(
-        &rt,
-        rt.alloc(),
-        Edition::Edition2021,
-        &RECOVERED_BEFORE_2024,
-    )?;
-    assert_rows(&rt, rt.alloc(), Edition::Edition2024, &CLOSEST)
-}
-
-#[test]
-fn a_match_that_fails_tells_its_first_error(rt: HostRuntime) -> Result<(), Fail> {
-    assert_rows(&rt, rt.alloc(), Edition::Edition2024, &ERRORS_OF_MATCHES)?;
-    assert_rows(&rt, rt.alloc(), Edition::Edition2024, &REPORTED)
-}
-
-#[test]
-fn a_substitution_tells_its_first_fault(rt: HostRuntime) -> Result<(), Fail> {
-    assert_rows(&rt, rt.alloc(), Edition::Edition2024, &FAULTS)?;
-    assert_rows(&rt, rt.alloc(), Edition::Edition2024, &MISSING)
-}
-
-// What is written for a fragment that is missing.
-#[derive(Clone, Copy)]
-enum Filler {
-    Nothing,
-    Missing,
-    Semicolon,
-    Block,
-    Lifetime,
-}
-
-// A specifier, what its variable asks for, and its default.
-static DEFAULTS: [(&str, &str, Filler); 14] = [
-    ("path", "Path", Filler::Missing),
-    ("ty", "Ty", Filler::Missing),
-    ("pat", "PatTop", Filler::Missing),
-    ("pat_param", "Pat", Filler::Missing),
-    ("stmt", "Stmt", Filler::Semicolon),
-    ("block", "Block", Filler::Block),
-    ("meta", "MetaItem", Filler::Nothing),
-    ("item", "Item", Filler::Nothing),
-    ("expr", "Expr", Filler::Missing),
-    ("expr_2021", "Expr", Filler::Missing),
-    ("ident", "ident", Filler::Missing),
-    ("tt", "token tree", Filler::Nothing),
-    ("lifetime", "lifetime", Filler::Lifetime),
-    ("literal", "literal", Filler::Missing),
-];
-
-impl Filler {
-    // The lines of the default, with the place of the variable's name.
-    fn lines(self, alloc: Global, place: &str) -> Result<String, Fail> {
-        Ok(match self {
-            Filler::Nothing => String::new(alloc),
-            Filler::Missing => format!(in alloc; "    IDENT   missing {place}\n")?,
-            Filler::Semicolon => format!(in alloc; "    PUNCH   ; [alone] {place}\n")?,
-            Filler::Block => format!(in alloc; "    SUBTREE {{}} {place} {place}\n")?,
-            Filler::Lifetime => format!(in alloc;
-                "    PUNCH   ' [joint] {place}\n    IDENT   missing {place}\n"
-            )?,
-        })
-    }
-}
-
-// The variable stands in brackets, and the argument is empty.
-fn assert_default(
-    rt: &impl Abort,
-    alloc: Global,
-    (specifier, asked): (&str, &str),
-    default: Filler,
-) -> Result<(), Fail> {
-    let definition = format!(in alloc; "($x:{specifier}) => {{[$x]}}")?;
-    let open = specifier.len().saturating_add(10);
-    let (inner, name) = (open.saturating_add(1), open.saturating_add(2));
-    let (close, end) = (open.saturating_add(3), open.saturating_add(4));
-    let place = format!(in alloc; "0@{name}..{close}")?;
-    let lines = default.lines(alloc, place.as_str())?;
-    let trees = format!(in alloc; "  SUBTREE [] 0@{open}..{inner} 0@{close}..{end}\n{lines}")?;
-    let error = format!(in alloc; "expected {asked} at 1@0..0")?;
-    let want = (error.as_str(), 0, trees.as_str());
-    assert_prints(
-        rt,
-        alloc,
-        Edition::Edition2024,
-        (definition.as_str(), ""),
-        want,
-    )
-}
-
-#[test]
-fn a_missing_fragment_has_a_default(rt: HostRuntime) -> Result<(), Fail> {
-    for (specifier, asked, default) in &DEFAULTS {
-        assert_default(&rt, rt.alloc(), (specifier, asked), *default)?;
+    for rows in [
+        RECOVERED.as_slice(),
+        CLOSEST.as_slice(),
+        STOPS.as_slice(),
+        FAULTS.as_slice(),
+    ] {
+        assert_rows(&rt, rt.alloc(), Edition::Edition2024, rows)?;
     }
     Ok(())
 }
