@@ -19,7 +19,7 @@ fn assert_each_refused(rt: &impl Abort, alloc: Global, row: &Row) -> Result<(), 
         if !refusing.has_refused() {
             assert_eq!(rt; outcome.status(), status, "{def}");
             assert!(rt; out.as_slice() == want.as_bytes(), "{def}");
-            assert!(rt; number > 20, "{def}: only {number} requests");
+            assert!(rt; number > 10, "{def}: only {number} requests");
             return Ok(());
         }
         assert_eq!(rt; outcome.status(), 5, "{def} at {number}");
