@@ -9,6 +9,8 @@ ghost use Rattle.mbe.specs.Styles.{bits_of};
 ghost use Rattle.mbe_tt.specs.Trees.Top.{top_group};
 ghost use Rattle.mbe_semantics.specs.Laws.Marking.{MayMark, MayAsk};
 
+mod equality;
+
 use crate::expander::expand_rules;
 use crate::macro_call_style::MacroCallStyles;
 use bitflags::Flags;
@@ -26,6 +28,7 @@ use std::alloc::{AllocError, Allocator, Global};
 ///
 /// In contracts it is seen by `macro_of`, as a list of rules and a fault or none.
 #[derive(Drop)]
+#[derive_where(Debug)]
 pub struct DeclarativeMacro<A: Allocator = Global> {
     rules: Vec<Rule<A>, A>,
     err: Option<ParseError<A>>,

@@ -10,3 +10,4 @@ pub mod StepLemmas
 pub mod Counting
 pub mod Settling
 pub mod MatchEnds
+pub mod Reporting

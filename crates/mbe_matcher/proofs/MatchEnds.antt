@@ -177,7 +177,7 @@ module _ {A : Type 0} (g : Grammar) (pattern : Ops) (argument : Forest) (lawful 
   next_of_list (x ∷ xs) e d f =
       let goes = kept_moves (input_of g argument) (dots pattern) q (reverse spots) in
       let r = turned_next (input_of g argument) pattern (flat_len argument) lawful checked q spots comes x.width (map after_of goes)
-          (same_width log outers (rest_at argument q) ws goes st.goes_on ∙ ap width_first e) (same_clash log outers (rest_at argument q) ws goes st.goes_on ∙ d) refl in
+      (same_width log outers (rest_at argument q) ws goes st.goes_on ∙ ap width_first e) (same_clash log outers (rest_at argument q) ws goes st.goes_on ∙ d) refl in
       record {
         first = x;
         rest = xs;

@@ -177,7 +177,7 @@ walked_end i q size old log before outers here first todo met ws hs s e w =
     let none : w.stack ≡ [] = each_none (Shows log outers) w.stack (subst (λ l. Each (Shows log outers) l w.stack) e w.shown) in
     let done : w.out ≡ kept i (dots s.pattern) q (reverse s.spots) =
     turned_done i s.pattern q (kept i (dots s.pattern) q (reverse s.spots)) met w.out
-        (subst (λ l. KeepsTo i s.pattern q (kept i (dots s.pattern) q (reverse s.spots)) l met w.out) none w.keeps) in
+    (subst (λ l. KeepsTo i s.pattern q (kept i (dots s.pattern) q (reverse s.spots)) l met w.out) none w.keeps) in
     record {
       goes_on = subst (λ l. Each (LeadsTo log outers here) ws (filter_map (next_of i q) l)) done w.goes_on;
       ended = subst (λ l. Each (Holds log) hs (filter_map finished_of l)) done w.ended;

@@ -277,7 +277,7 @@ module _ {A : Type 0} (outers all : List (Outer A)) (n : ℕ) (at : n ≡ length
       Stands old outers p (op (repetition (ops_of body.now) (option_map (λ s. separator_seen s.now) separator) k) rest) a up →
       IsSkip k (ops_of body.now) (ops_of after.now) old mid p second → IsKept mid new → IsAccount new h no_account →
       (let r : Rounds A = record { body = body; separator = separator; kind = k; front = p.number - 1; outside = p.handle } in
-       let o : Outer A = record { rounds = Some r; rest = after; up = p.up } in all ≡ outers ++ o ∷ []) →
+      let o : Outer A = record { rounds = Some r; rest = after; up = p.up } in all ≡ outers ++ o ∷ []) →
       AreSteps i argument q old new outers all (outline (op (repetition (ops_of body.now) (option_map (λ s. separator_seen s.now) separator) k) rest) a up)
       (record { first = Some (record { dot = body; number = p.number - 1; up = Some n; handle = h }); second = second; next = None; done = None })
   repetition_entered i argument q old mid new p rest a up body after separator k second h r s skip kept account e =
@@ -287,17 +287,17 @@ module _ {A : Type 0} (outers all : List (Outer A)) (n : ℕ) (at : n ≡ length
       let number = s.number in
       let later : Keeps mid new outers all = record { log = kept; outers = (o ∷ [], e) } in
       let opened : AreEdges new all (Some n) (edge_in round (ops_of after.now) q a ∷ up) =
-          repetition_open n o round q a up (last_outer outers all o n e at) refl
-          (record { account = keeps.log.others p.handle a s.account; front = (let m = ap dots r in omega (arith, number, m)) })
-          (edges_keep old new outers all keeps s.around) in
+      repetition_open n o round q a up (last_outer outers all o n e at) refl
+      (record { account = keeps.log.others p.handle a s.account; front = (let m = ap dots r in omega (arith, number, m)) })
+      (edges_keep old new outers all keeps s.around) in
       let first : Position A = record { dot = body; number = p.number - 1; up = Some n; handle = h } in
       let into : Stands new all first (ops_of body.now) no_account (edge_in round rest q a ∷ up) =
-          record {
-            dot = refl;
-            number = omega (arith, number);
-            account = account;
-            around = subst (λ x. AreEdges new all (Some n) (edge_in round x q a ∷ up)) r opened;
-          } in
+      record {
+        dot = refl;
+        number = omega (arith, number);
+        account = account;
+        around = subst (λ x. AreEdges new all (Some n) (edge_in round x q a ∷ up)) r opened;
+      } in
       let past = skip.is outers a up s.around s.account (let m = ap dots r in omega (arith, number, m)) in
       let beyond = each_weaker (Shows mid outers) (Shows new all) (shows_keep mid new outers all later) (option_to_list second) _ past in
       record {
@@ -460,21 +460,21 @@ module _ {A : Type 0} (g : Grammar) (argument : Forest) (q : ℕ) (old mid : Log
   pub round_more : (new : Log) (k : Handle) (n m : ℕ) → Some n ≡ if_again r.kind (length_of (between_front seen (rest_at argument q))) → IsChanged mid new p.handle k pushed_default →
       p.up ≡ Some m → slice_get outers m ≡ Some outer → outer.rounds ≡ Some r →
       (let again : Position A = record { dot = r.body; number = r.front; up = p.up; handle = k } in
-       AreSteps (input_of g argument) argument q old new outers outers (outline no_ops a es)
-       (record { first = (over_steps n None again).first; second = Some out; next = (over_steps n None again).next; done = (over_steps n None again).done }))
+      AreSteps (input_of g argument) argument q old new outers outers (outline no_ops a es)
+      (record { first = (over_steps n None again).first; second = Some out; next = (over_steps n None again).next; done = (over_steps n None again).done }))
   round_more new k n m e d u at is =
       let again : Position A = record { dot = r.body; number = r.front; up = p.up; handle = k } in
       let later : Keeps mid new outers outers = record { log = d.kept; outers = grows_not outers } in
       let all : Keeps old new outers outers = record { log = client.kept-on old mid new c.kept d.kept; outers = grows_not outers } in
       let front : (began : ℕ) → Shows new outers again (outline (ops_of r.body.now) (pushed_default a) (edge_in r (ops_of outer.rest.now) began w.outside ∷ w.up)) =
-          λ began. record {
-            dot = refl;
-            number = w.rounds.front;
-            account = d.account a (c.kept.others p.handle a s.account);
-            around = subst (λ x. AreEdges new outers x (edge_in r (ops_of outer.rest.now) began w.outside ∷ w.up)) (sym u)
-                (repetition_open m outer r began w.outside w.up at is (record { account = all.log.others r.outside w.outside w.rounds.account; front = w.rounds.front })
-                (edges_keep old new outers outers all w.around));
-          } in
+      λ began. record {
+        dot = refl;
+        number = w.rounds.front;
+        account = d.account a (c.kept.others p.handle a s.account);
+        around = subst (λ x. AreEdges new outers x (edge_in r (ops_of outer.rest.now) began w.outside ∷ w.up)) (sym u)
+            (repetition_open m outer r began w.outside w.up at is (record { account = all.log.others r.outside w.outside w.rounds.account; front = w.rounds.front })
+            (edges_keep old new outers outers all w.around));
+      } in
       record {
         now = subst (λ x. AreStepsNow (input_of g argument) argument q new outers (outline no_ops a x)
             (record { first = (over_steps n None again).first; second = Some out; next = (over_steps n None again).next; done = (over_steps n None again).done })) (sym w.is)

@@ -4,4 +4,5 @@ pub mod Fronts
 pub mod Rewriting
 pub mod Positions
 pub mod Matched
+pub mod Reports
 pub mod Counts

@@ -95,7 +95,6 @@ module _ {A : Type 0} (log : Log) (outers : List (Outer A)) where
   abbrev pub LeadsTo : Forest → Waiting A → Advance → Type 0
   LeadsTo here w (advance width by_fragment o) = Leads here w width by_fragment o
 
-
 -- the handle has these current commands
 abbrev pub Holds : Log → Handle → Commands → Type 0
 Holds log h cs = (a : Account) × IsAccount log h a × (a.current ≡ cs)

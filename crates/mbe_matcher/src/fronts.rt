@@ -58,10 +58,7 @@ pub(crate) fn token_width<A: Allocator>(op: &Op<A>, src: &TtIter<'_, A>) -> Opti
 }
 
 // The width of a literal of the same text and suffix.
-fn literal_width<A: Allocator>(
-    literal: &Literal<A>,
-    src: &TtIter<'_, A>,
-) -> Option<usize>
+fn literal_width<A: Allocator>(literal: &Literal<A>, src: &TtIter<'_, A>) -> Option<usize>
     ensures { result ≡ length_of (literal_text_front literal.now.text_and_suffix src.now) }
 {
     let mut ahead = fork(src);
@@ -88,10 +85,7 @@ fn puncts_width<A: Allocator>(puncts: &[Punct], src: &TtIter<'_, A>) -> Option<u
 }
 
 // The width of a separator.
-fn separator_width<A: Allocator>(
-    separator: &Separator<A>,
-    src: &TtIter<'_, A>,
-) -> Option<usize>
+fn separator_width<A: Allocator>(separator: &Separator<A>, src: &TtIter<'_, A>) -> Option<usize>
     ensures { result ≡ length_of (separator_front (separator_seen separator.now) src.now) }
 {
     let mut ahead = fork(src);

@@ -188,7 +188,7 @@ fn eat_good_front<'a, A: Allocator, G: FragmentGrammar>(
 }
 
 // Whether the first tree is a word that no expression of the kind begins with.
-fn begins_refused<A: Allocator>(kind: ExprKind, src: &TtIter<'_, A>) -> bool
+pub(crate) fn begins_refused<A: Allocator>(kind: ExprKind, src: &TtIter<'_, A>) -> bool
     ensures { result ≡ begins_refused kind src.now }
 {
     match src.peek() {

@@ -8,9 +8,11 @@ ghost use Rattle.mbe_errors.specs.ErrorViews.{errors_of};
 ghost use Rattle.mbe_log.specs.Shared.{IsKept};
 ghost use Rattle.mbe_ops.specs.Views.{template_of};
 ghost use Rattle.mbe_matcher.specs.Matched.{verdict_seen, Binds};
+ghost use Rattle.mbe_matcher.specs.Reports.{IsReport};
 
 use crate::places::{Reached, Stop, reach};
-use mbe_errors::error::{ExpandError, ExpandErrorKind};
+use crate::report::Report;
+use mbe_errors::error::ExpandError;
 use mbe_log::log::{BindingLog, Handle};
 use mbe_ops::ops::MetaTemplate;
 use mbe_tt::grammar::FragmentGrammar;
@@ -35,9 +37,10 @@ pub struct Match<A: Allocator = Global> {
     pub verdict: Verdict,
     /// How many trees of the current group are left where it stopped.
     pub unmatched: usize,
-    /// What the only reading binds; nothing without one.
+    /// What the only reading binds. Without one, what the last position had bound that failed; or, where none failed at the
+    /// last such place, the first one at the pattern's end.
     pub bindings: Handle,
-    /// Why there is no only reading.
+    /// Why there is no only reading: the first error that a position noted, or that of the place where the match stopped.
     pub err: Option<ExpandError<A>>,
 }
 
@@ -63,7 +66,8 @@ pub fn match_argument<'a, A: Allocator + Copy, G: FragmentGrammar>(
     ensures kept { OnOk result (IsKept log.old log.new) }
 {
     let length = argument.flat_len();
-    let Reached { stop, unmatched } = reach(alloc, grammar, pattern, argument, log)?;
+    let mut report = Report::new();
+    let Reached { stop, unmatched } = reach(alloc, grammar, pattern, argument, log, &mut report)?;
     match stop {
         Stop::OneReading(bindings) => Ok(Match {
             verdict: Verdict::OneReading,
@@ -71,38 +75,54 @@ pub fn match_argument<'a, A: Allocator + Copy, G: FragmentGrammar>(
             bindings,
             err: None,
         }),
-        Stop::ManyReadings => failed(alloc, Verdict::ManyReadings, unmatched, true, around, log),
+        Stop::ManyReadings => {
+            let verdict = Verdict::ManyReadings;
+            failed(
+                alloc, grammar, verdict, unmatched, true, around, report, log,
+            )
+        }
         Stop::Ambiguous(place) => {
-            failed(alloc, Verdict::Ambiguous(place), unmatched, false, around, log)
+            let verdict = Verdict::Ambiguous(place);
+            failed(
+                alloc, grammar, verdict, unmatched, false, around, report, log,
+            )
         }
         Stop::Stuck(place) => {
-            failed(alloc, Verdict::Stuck(place), unmatched, place == length, around, log)
+            let verdict = Verdict::Stuck(place);
+            failed(
+                alloc,
+                grammar,
+                verdict,
+                unmatched,
+                place == length,
+                around,
+                report,
+                log,
+            )
         }
     }
 }
 
-// A match without an only reading. Its error is at the argument's open span.
-fn failed<'a, A: Allocator + Copy>(
+// A match without an only reading, with what is reported of it.
+fn failed<'a, A: Allocator + Copy, G: FragmentGrammar>(
     alloc: A,
+    grammar: &G,
     verdict: Verdict,
     unmatched: usize,
-    at_end: bool,
+    is_at_end: bool,
     around: DelimSpan,
+    report: Report<'a, A>,
     log: &mut BindingLog<'a, A>,
 ) -> Result<Match<A>, AllocError>
+    requires { IsReport log.old report }
     ensures verdict { IfOk result (λ m. m.verdict ≡ verdict) }
     ensures unmatched { IfOk result (λ m. m.unmatched ≡ unmatched) }
     ensures live { IfOk result (λ m. IsLive log.new m.bindings) }
     ensures err { IfOk result (λ m. IsSome (errors_of m.err)) }
     ensures kept { (first : Log) → IsKept first log.old → OnOk result (IsKept first log.new) }
 {
-    let kind = if at_end {
-        ExpandErrorKind::UnexpectedToken
-    } else {
-        ExpandErrorKind::LeftoverTokens
-    };
-    let err = ExpandError::new(alloc, around.opening, kind)?;
-    let bindings = log.alloc()?;
+    let err = report.error(alloc, grammar, around, is_at_end)?;
+    let bindings = report.bindings(grammar, log)?;
     Ok(Match {
         verdict,
         unmatched,

@@ -8,10 +8,12 @@ ghost use Rattle.mbe_semantics.specs.Bindings.Account.{IsLive};
 ghost use Rattle.mbe_log.specs.Shared.{IsKept};
 ghost use Rattle.mbe_ops.specs.Views.{template_of};
 ghost use Rattle.mbe_matcher.specs.Positions.{IsLeft};
+ghost use Rattle.mbe_matcher.specs.Reports.{IsReport};
 ghost use Rattle.mbe_matcher.specs.Matched.{is_clash, clashes_with, position_after, ends_as, stop_at, verdict_in, reading_in, Binds};
 
 use crate::counts::Counts;
 use crate::position::{Position, Waiting};
+use crate::report::Report;
 use crate::settle::{Settled, settle};
 use crate::skipping::dots_of;
 use crate::source::Source;
@@ -138,6 +140,7 @@ pub(crate) fn reach<'a, A: Allocator + Copy, G: FragmentGrammar>(
     pattern: &'a MetaTemplate<A>,
     argument: TokenTreesView<'a, A>,
     log: &mut BindingLog<'a, A>,
+    report: &mut Report<'a, A>,
 ) -> Result<Reached, AllocError>
     requires { Checked (template_of pattern.now) }
     ensures verdict { IfOk result (λ r. IsVerdict (G.grammar grammar.now) (template_of pattern.now)
@@ -148,6 +151,7 @@ pub(crate) fn reach<'a, A: Allocator + Copy, G: FragmentGrammar>(
         (Binds (G.grammar grammar.now) (template_of pattern.now) (trees argument.entry) log.new)) }
     ensures live { IfOk result (λ r. IfSome (reading_in r.stop) (IsLive log.new)) }
     ensures kept { OnOk result (IsKept log.old log.new) }
+    ensures report { OnOk result (IsReport log.old report.old → IsReport log.new report.new) }
 {
     let dots = dots_of(&pattern.0).ok_or(AllocError)?;
     let mut counts = Counts::new(alloc, dots)?;
@@ -162,7 +166,16 @@ pub(crate) fn reach<'a, A: Allocator + Copy, G: FragmentGrammar>(
     })?;
     let mut source = Source::new(alloc, argument);
     loop {
-        let settled = settle(alloc, grammar, &source, log, &mut outers, &mut counts, &mut todo)?;
+        let settled = settle(
+            alloc,
+            grammar,
+            &source,
+            log,
+            &mut outers,
+            &mut counts,
+            report,
+            &mut todo,
+        )?;
         let Settled { waiting, ends } = settled;
         if let Some(stop) = stopped(&source, &waiting, &ends) {
             let unmatched = source.here().remaining().len();

@@ -60,3 +60,10 @@ pub(crate) struct Steps<'a, A: Allocator = Global> {
     // What is bound at the pattern's end.
     pub(crate) done: Option<Handle>,
 }
+
+impl<'a, A: Allocator> Steps<'a, A> {
+    // Whether there is a step, or the pattern's end.
+    pub(crate) fn is_some(&self) -> bool {
+        self.first.is_some() || self.second.is_some() || self.next.is_some() || self.done.is_some()
+    }
+}

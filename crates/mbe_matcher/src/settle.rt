@@ -6,12 +6,14 @@ ghost use Rattle.mbe_semantics.specs.Readings.Input.{input_of};
 ghost use Rattle.mbe_matcher.specs.Counts.{AreBlankFrom};
 ghost use Rattle.mbe_matcher.specs.Positions.{Keeps};
 ghost use Rattle.mbe_matcher.specs.Matched.{IsStack, AreSettled};
+ghost use Rattle.mbe_matcher.specs.Reports.{IsReport};
 
 use crate::counts::Counts;
 use crate::position::{Outer, Position, Waiting};
+use crate::report::Report;
 use crate::source::Source;
 use crate::steps::steps;
-use mbe_log::log::{BindingLog, Handle};
+use mbe_log::log::{BindingLog, Handle, again};
 use mbe_tt::grammar::FragmentGrammar;
 use std::alloc::{AllocError, Allocator, Global};
 
@@ -25,7 +27,10 @@ pub(crate) struct Settled<'a, A: Allocator = Global> {
 }
 
 // The value at the end, if there is one.
-fn push_some<T: Drop, A: Allocator>(values: &mut Vec<T, A>, value: Option<T>) -> Result<(), AllocError>
+fn push_some<T: Drop, A: Allocator>(
+    values: &mut Vec<T, A>,
+    value: Option<T>,
+) -> Result<(), AllocError>
     ensures { OnOk result (values.new.items ≡ values.old.items ++ option_to_list value) }
 {
     let Some(value) = value else {
@@ -44,6 +49,7 @@ pub(crate) fn settle<'a, A: Allocator + Copy, G: FragmentGrammar>(
     log: &mut BindingLog<'a, A>,
     outers: &mut Vec<Outer<'a, A>, A>,
     counts: &mut Counts<A>,
+    report: &mut Report<'a, A>,
     todo: &mut Vec<Position<'a, A>, A>,
 ) -> Result<Settled<'a, A>, AllocError>
     requires stack { IsStack (input_of (G.grammar grammar.now) (trees source.now.whole)) source.now.place
@@ -60,6 +66,7 @@ pub(crate) fn settle<'a, A: Allocator + Copy, G: FragmentGrammar>(
     ensures blank { OnOk result (AreBlankFrom counts.new.marks.items (source.now.place + 1)) }
     ensures size { OnOk result (length counts.new.marks.items ≡ length counts.old.marks.items) }
     ensures done { OnOk result (todo.new.items ≡ []) }
+    ensures report { OnOk result (IsReport log.old report.old → IsReport log.new report.new) }
 {
     let mut waiting = Vec::new(alloc);
     let mut ends = Vec::new(alloc);
@@ -67,11 +74,15 @@ pub(crate) fn settle<'a, A: Allocator + Copy, G: FragmentGrammar>(
         if !counts.takes(position.number, source.place) {
             continue;
         }
+        let dot = position.dot;
+        let handle = again(&position.handle);
         let found = steps(grammar, source, log, outers, position)?;
+        report.looked_at(source, dot, handle, found.is_some());
         push_some(todo, found.second)?;
         push_some(todo, found.first)?;
         push_some(&mut waiting, found.next)?;
         push_some(&mut ends, found.done)?;
     }
+    report.after_place(&ends);
     Ok(Settled { waiting, ends })
 }

@@ -74,15 +74,35 @@ impl<'a, A: Allocator> Source<'a, A> {
         let place = place + 1;
         let Some(tree) = here.next() else {
             let Some(here) = around.pop() else {
-                return Ok(Source { whole, place, here, around });
+                return Ok(Source {
+                    whole,
+                    place,
+                    here,
+                    around,
+                });
             };
-            return Ok(Source { whole, place, here, around });
+            return Ok(Source {
+                whole,
+                place,
+                here,
+                around,
+            });
         };
         match tree {
-            TtElement::Leaf(_) => Ok(Source { whole, place, here, around }),
+            TtElement::Leaf(_) => Ok(Source {
+                whole,
+                place,
+                here,
+                around,
+            }),
             TtElement::Subtree(_, inside) => {
                 around.push(here)?;
-                Ok(Source { whole, place, here: inside, around })
+                Ok(Source {
+                    whole,
+                    place,
+                    here: inside,
+                    around,
+                })
             }
         }
     }

@@ -64,15 +64,21 @@ fn op_steps<'a, A: Allocator + Copy, G: FragmentGrammar>(
         Op::Subtree { tokens, delimiter } => {
             group_steps(source, outers, *delimiter, &tokens.0, rest, position)
         }
-        Op::Repeat { tokens, kind, separator } => {
+        Op::Repeat {
+            tokens,
+            kind,
+            separator,
+        } => {
             let separator = separator.as_ref();
             repetition_steps(log, outers, &tokens.0, separator, *kind, rest, position)
         }
         Op::Literal(_) | Op::Ident(_) | Op::Punct(_) => Ok(plain_steps(source, op, rest, position)),
         // No metavariable expression stands in a pattern.
-        Op::Ignore { .. } | Op::Index { .. } | Op::Len { .. } | Op::Count { .. } | Op::Concat { .. } => {
-            Ok(plain_steps(source, op, rest, position))
-        }
+        Op::Ignore { .. }
+        | Op::Index { .. }
+        | Op::Len { .. }
+        | Op::Count { .. }
+        | Op::Concat { .. } => { Ok(plain_steps(source, op, rest, position)) }
     }
 }
 
@@ -333,7 +339,10 @@ fn round_steps<'a, A: Allocator + Copy>(
         handle: outside,
     });
     let Some(width) = between_width(rounds.kind, rounds.separator, &source.here()) else {
-        return Ok(Steps { second, ..no_steps() });
+        return Ok(Steps {
+            second,
+            ..no_steps()
+        });
     };
     let mut handle = position.handle;
     log.push_default(&mut handle)?;
@@ -343,5 +352,8 @@ fn round_steps<'a, A: Allocator + Copy>(
         up: position.up,
         handle,
     };
-    Ok(Steps { second, ..over(width, None, again) })
+    Ok(Steps {
+        second,
+        ..over(width, None, again)
+    })
 }

@@ -155,6 +155,17 @@ macros_tell m n =
       λ h. is_same key_code _ _ (by_key.1 h),
     )
 
+-- ---- sameness of macros is an equivalence
+
+pub same_itself : (m : Macro) → IsSameMacro m m
+same_itself m = (macros_by_key m m).0 refl
+
+pub same_back : (m n : Macro) → IsSameMacro m n → IsSameMacro n m
+same_back m n h = (macros_by_key n m).0 (sym ((macros_by_key m n).1 h))
+
+pub same_through : (m n o : Macro) → IsSameMacro m n → IsSameMacro n o → IsSameMacro m o
+same_through m n o h k = (macros_by_key m o).0 ((macros_by_key m n).1 h ∙ (macros_by_key n o).1 k)
+
 -- ---- one op
 
 -- how many groups and repetitions stand one inside the other, or side by side: a measure

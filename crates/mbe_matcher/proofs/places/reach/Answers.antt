@@ -19,6 +19,7 @@ use Rattle.mbe_matcher.specs.declared.position.Waiting.{Waiting}
 use Rattle.mbe_matcher.specs.Positions.{Each, Shows, IsLeft}
 use Rattle.mbe_matcher.specs.Matched.{position_after, stop_at, verdict_in, reading_in, Binds}
 use Rattle.mbe_matcher.proofs.MatchEnds.{right_stop, stop_place, binds_stop, next, live_stop, come_first, stack_of, shown_after}
+use Rattle.mbe_matcher.proofs.Reporting.{report_keeps}
 use Rattle.mbe_matcher.proofs.places.reach.Goals as goal
 
 pub loop-source-init : goal.loop-source-init
@@ -37,6 +38,7 @@ loop-source-init g c =
       blank = λ q l. c.in_ok-counts.ensures.blank q (omega arith);
       size = c.in_ok-counts.ensures.size ∙ all;
       kept = c.in_ok-handle.ensures.given.kept;
+      report = λ r. report_keeps c.args.log.now c.alloc.new.self c.args.report.now c.in_ok-handle.ensures.given.kept r;
     }
 
 pub settle-requires-clause-stack : goal.settle-requires-clause-stack
@@ -298,4 +300,8 @@ loop-source-preserved g c =
       blank = λ q l. c.in_ok-settled.ensures.blank q (omega (arith, l, at, some));
       size = c.in_ok-settled.ensures.size ∙ inv.size;
       kept = kept-on c.args.log.now c.loop-source.log log inv.kept c.in_ok-settled.ensures.kept.log;
+      report = λ r. c.in_ok-settled.ensures.report (inv.report r);
     }
+
+pub returns-in-Some-clause-report : goal.returns-in-Some-clause-report
+returns-in-Some-clause-report g c = λ r. c.in_ok-settled.ensures.report (c.loop-source.invariant.report r)

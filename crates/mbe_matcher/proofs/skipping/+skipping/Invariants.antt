@@ -6,5 +6,6 @@ use Rattle.mbe_matcher.proofs.skipping.+skipping.Given as goal
 
 abbrev pub invariant-skip_names-loop-op : goal.invariant-skip_names-loop-op
 invariant-skip_names-loop-op g l = record {
-    live : IsLive l.log l.handle;
-    so_far : SkipsUpTo l.fn.log l.log l.fn.handle l.handle (ops_of l.fn.ops) (ops_of (drop l.op-index l.ops)) }
+  live : IsLive l.log l.handle;
+  so_far : SkipsUpTo l.fn.log l.log l.fn.handle l.handle (ops_of l.fn.ops) (ops_of (drop l.op-index l.ops));
+}

@@ -18,8 +18,8 @@ returns-in_default g c = λ h o s.
     as_outline c.args.log.now c.args.outers.now (λ x. AreSteps (input_of h (trees src.whole)) (trees src.whole) src.place c.args.log.now c.args.log.now c.args.outers.now c.args.outers.now x d)
     c.args.position no_ops o s c.requires.dot
     (λ a up t. record {
-        now = all_read (input_of h (trees src.whole)) (trees src.whole) src.place c.args.log.now c.args.outers.now c.args.position a up t c.in_default.is;
-        kept = keeps_not c.args.log.now c.args.outers.now;
+      now = all_read (input_of h (trees src.whole)) (trees src.whole) src.place c.args.log.now c.args.outers.now c.args.position a up t c.in_default.is;
+      kept = keeps_not c.args.log.now c.args.outers.now;
     })
 
 pub bounds-outers-open : goal.bounds-outers-open
@@ -36,14 +36,14 @@ pub round_steps-requires-clause-outside : goal.round_steps-requires-clause-outsi
 round_steps-requires-clause-outside g c =
     let k = has_within c.args.log.now c.args.outers.now c.args.position c.in-Some.open c.requires.stands c.in-Some.is in
     let at : slice_get c.args.outers.now c.in-Some.open ≡ Some c.index-outers-open.result =
-        slice_get-get_or c.args.outers.now c.in-Some.open c.index-outers-open.result k ∙ ap Some (sym c.index-outers-open.is) in
+    slice_get-get_or c.args.outers.now c.in-Some.open c.index-outers-open.result k ∙ ap Some (sym c.index-outers-open.is) in
     outside_live c.args.log.now c.args.outers.now c.args.position c.in-Some.open c.index-outers-open.result c.in-Some-rounds.rounds c.requires.stands c.in-Some.is at c.in-Some-rounds.is
 
 pub returns-in-Some-rounds : goal.returns-in-Some-rounds
 returns-in-Some-rounds g c = λ h o s.
     let k = has_within c.args.log.now c.args.outers.now c.args.position c.in-Some.open c.requires.stands c.in-Some.is in
     let at : slice_get c.args.outers.now c.in-Some.open ≡ Some c.index-outers-open.result =
-        slice_get-get_or c.args.outers.now c.in-Some.open c.index-outers-open.result k ∙ ap Some (sym c.index-outers-open.is) in
+    slice_get-get_or c.args.outers.now c.in-Some.open c.index-outers-open.result k ∙ ap Some (sym c.index-outers-open.is) in
     c.round_steps.ensures h c.args.outers.now (c.in-Some.open, c.in-Some.is, at, c.in-Some-rounds.is) o s
 
 pub returns-then-not-closes : goal.returns-then-not-closes
@@ -51,15 +51,15 @@ returns-then-not-closes g c = λ h o s.
     let src = c.args.source.now in
     let k = has_within c.args.log.now c.args.outers.now c.args.position c.in-Some.open c.requires.stands c.in-Some.is in
     let at : slice_get c.args.outers.now c.in-Some.open ≡ Some c.index-outers-open.result =
-        slice_get-get_or c.args.outers.now c.in-Some.open c.index-outers-open.result k ∙ ap Some (sym c.index-outers-open.is) in
+    slice_get-get_or c.args.outers.now c.in-Some.open c.index-outers-open.result k ∙ ap Some (sym c.index-outers-open.is) in
     rw c.no_steps.ensures
     (as_outline c.args.log.now c.args.outers.now (λ x. AreSteps (input_of h (trees src.whole)) (trees src.whole) src.place c.args.log.now c.args.log.now c.args.outers.now c.args.outers.now x none_steps)
     c.args.position no_ops o s c.requires.dot
     (λ a up t. record {
-        now = not_closed (input_of h (trees src.whole)) (trees src.whole) src.place c.args.log.now c.args.outers.now c.args.position a up t c.index-outers-open.result
-            (in_group c.args.log.now c.args.outers.now c.args.position.up up c.in-Some.open c.index-outers-open.result t.around c.in-Some.is at c.in_default-rounds.is)
-            (sym c.closes.ensures ∙ c.if-not-closes.true);
-        kept = keeps_not c.args.log.now c.args.outers.now;
+      now = not_closed (input_of h (trees src.whole)) (trees src.whole) src.place c.args.log.now c.args.outers.now c.args.position a up t c.index-outers-open.result
+          (in_group c.args.log.now c.args.outers.now c.args.position.up up c.in-Some.open c.index-outers-open.result t.around c.in-Some.is at c.in_default-rounds.is)
+          (sym c.closes.ensures ∙ c.if-not-closes.true);
+      kept = keeps_not c.args.log.now c.args.outers.now;
     }))
 
 pub returns : goal.returns
@@ -70,13 +70,13 @@ returns g c = λ h o s.
     let p : Position g.row.A.Denot = record { dot = u.rest; number = b.number - 1; up = u.up; handle = b.handle } in
     let k = has_within c.args.log.now c.args.outers.now b c.in-Some.open c.requires.stands c.in-Some.is in
     let at : slice_get c.args.outers.now c.in-Some.open ≡ Some c.index-outers-open.result =
-        slice_get-get_or c.args.outers.now c.in-Some.open c.index-outers-open.result k ∙ ap Some (sym c.index-outers-open.is) in
+    slice_get-get_or c.args.outers.now c.in-Some.open c.index-outers-open.result k ∙ ap Some (sym c.index-outers-open.is) in
     rw c.over.ensures
     (as_outline c.args.log.now c.args.outers.now (λ x. AreSteps (input_of h (trees src.whole)) (trees src.whole) src.place c.args.log.now c.args.log.now c.args.outers.now c.args.outers.now x (over_steps 1 None p))
     b no_ops o s c.requires.dot
     (λ a up t. record {
-        now = closed (input_of h (trees src.whole)) (trees src.whole) src.place c.args.log.now c.args.outers.now b a up t u
-            (in_group c.args.log.now c.args.outers.now b.up up c.in-Some.open u t.around c.in-Some.is at c.in_default-rounds.is)
-            (sym c.closes.ensures ∙ c.if-not-closes.false);
-        kept = keeps_not c.args.log.now c.args.outers.now;
+      now = closed (input_of h (trees src.whole)) (trees src.whole) src.place c.args.log.now c.args.outers.now b a up t u
+          (in_group c.args.log.now c.args.outers.now b.up up c.in-Some.open u t.around c.in-Some.is at c.in_default-rounds.is)
+          (sym c.closes.ensures ∙ c.if-not-closes.false);
+      kept = keeps_not c.args.log.now c.args.outers.now;
     }))

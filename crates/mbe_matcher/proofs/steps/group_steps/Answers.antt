@@ -17,8 +17,8 @@ returns-then-not-opens g c = λ h log o s.
     (as_outline log us (λ x. AreSteps (input_of h (trees src.whole)) (trees src.whole) src.place log log us us x none_steps)
     c.args.position _ o s c.requires.dot
     (λ a up t. record {
-        now = group_none (trees src.whole) src.place log us (input_of h (trees src.whole)) c.args.delimiter (ops_of c.args.body.now) (ops_of c.args.rest.now) a up (sym e ∙ c.if-not-opens.true);
-        kept = keeps_not log us;
+      now = group_none (trees src.whole) src.place log us (input_of h (trees src.whole)) c.args.delimiter (ops_of c.args.body.now) (ops_of c.args.rest.now) a up (sym e ∙ c.if-not-opens.true);
+      kept = keeps_not log us;
     }))
 
 pub returns : goal.returns
@@ -34,7 +34,7 @@ returns g c = λ h log o s.
     (as_outline log us (λ x. AreSteps (input_of h (trees src.whole)) (trees src.whole) src.place log log us vs x (over_steps 1 None p))
     b _ o s c.requires.dot
     (λ a up t. record {
-        now = group_over (trees src.whole) src.place log vs (input_of h (trees src.whole)) c.args.delimiter (ops_of c.args.body.now) (ops_of c.args.rest.now) a up p (sym e ∙ c.if-not-opens.false)
-            (group_entered us vs c.len.result n log b c.args.delimiter (ops_of c.args.rest.now) a up c.args.body c.args.rest refl t c.in_ok-push.ensures.items);
-        kept = keeps_more log us vs _ c.in_ok-push.ensures.items;
+      now = group_over (trees src.whole) src.place log vs (input_of h (trees src.whole)) c.args.delimiter (ops_of c.args.body.now) (ops_of c.args.rest.now) a up p (sym e ∙ c.if-not-opens.false)
+          (group_entered us vs c.len.result n log b c.args.delimiter (ops_of c.args.rest.now) a up c.args.body c.args.rest refl t c.in_ok-push.ensures.items);
+      kept = keeps_more log us vs _ c.in_ok-push.ensures.items;
     }))

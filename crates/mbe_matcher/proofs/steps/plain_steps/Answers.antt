@@ -26,4 +26,4 @@ returns g c = λ h log outers o s.
     (as_outline log outers (λ x. AreStepsNow (input_of h (trees src.whole)) (trees src.whole) src.place log outers x (over_steps c.in-Some.width None p))
     b _ o s c.requires.dot
     (λ a up t. plain_over (trees src.whole) src.place log outers h (op_of c.args.op.now) (ops_of c.args.rest.now) a up c.in-Some.width p c.requires.plain e
-        (plain_past log outers b (op_of c.args.op.now) a up c.args.rest c.requires.plain t)))
+    (plain_past log outers b (op_of c.args.op.now) a up c.args.rest c.requires.plain t)))

@@ -14,5 +14,5 @@ returns g c = λ i argument q o h.
     (λ x. AreSteps i argument q c.args.log.now c.alloc.new.self c.args.outers.now.items c.push.new.self.items x s)
     c.args.position _ o h c.requires.dot
     (λ a up t. repetition_entered c.args.outers.now.items c.push.new.self.items c.len.result n i argument q c.args.log.now c.skipped.new.log c.alloc.new.self
-        c.args.position _ a up c.args.body c.args.rest c.args.separator c.args.kind c.in_ok-second.second c.in_ok-handle.handle refl t
-        c.in_ok-second.ensures c.in_ok-handle.ensures.given.kept c.in_ok-handle.ensures.account c.in_ok-push.ensures.items)
+    c.args.position _ a up c.args.body c.args.rest c.args.separator c.args.kind c.in_ok-second.second c.in_ok-handle.handle refl t
+    c.in_ok-second.ensures c.in_ok-handle.ensures.given.kept c.in_ok-handle.ensures.account c.in_ok-push.ensures.items)

@@ -28,9 +28,9 @@ returns-in_default g c = λ h outers at o s.
     (as_outline old outers (λ x. AreSteps (input_of h (trees src.whole)) (trees src.whole) src.place old mid outers outers x d)
     b no_ops o s c.requires.dot
     (λ a up t. round_done h (trees src.whole) src.place old mid outers b a up u c.args.rounds.now c.push_nested.new.parent t
-        (in_rounds old outers b.up up at.0 u c.args.rounds.now t.around at.1 at.2 at.3)
-        (rw c.again-outside.ensures at (c.in_ok-push_nested.ensures.ok a t.account))
-        (rw c.here.ensures at c.in_default.ensures)))
+    (in_rounds old outers b.up up at.0 u c.args.rounds.now t.around at.1 at.2 at.3)
+    (rw c.again-outside.ensures at (c.in_ok-push_nested.ensures.ok a t.account))
+    (rw c.here.ensures at c.in_default.ensures)))
 
 pub push_default-requires : goal.push_default-requires
 push_default-requires g c =
@@ -54,6 +54,6 @@ returns g c = λ h outers at o s.
     (as_outline old outers (λ x. AreSteps (input_of h (trees src.whole)) (trees src.whole) src.place old new outers outers x d)
     b no_ops o s c.requires.dot
     (λ a up t. round_more h (trees src.whole) src.place old mid outers b a up u r c.push_nested.new.parent t
-        (in_rounds old outers b.up up at.0 u r t.around at.1 at.2 at.3)
-        (rw c.again-outside.ensures at (c.in_ok-push_nested.ensures.ok a t.account))
-        new c.push_default.new.handle n at.0 (rw c.here.ensures at c.in-Some.ensures) c.in_ok-push_default.ensures.ok at.1 at.2 at.3))
+    (in_rounds old outers b.up up at.0 u r t.around at.1 at.2 at.3)
+    (rw c.again-outside.ensures at (c.in_ok-push_nested.ensures.ok a t.account))
+    new c.push_default.new.handle n at.0 (rw c.here.ensures at c.in-Some.ensures) c.in_ok-push_default.ensures.ok at.1 at.2 at.3))
