@@ -1,4 +1,30 @@
-// Matches an argument against a pattern with repetitions.
+// Matches an argument against a pattern, all readings at once.
+//
+// A pattern has a dot before its first op and after each op, and so have the bodies of its groups and repetitions. A position
+// is a dot, the open items around it, and what was bound on the way. All positions go over the argument together, from place
+// to place (a place is how many flat tokens were passed). At a place the stack of positions is emptied, the last first. Before
+// a repetition, a position goes past it or into its body; at a round's end it goes out and, without a separator, into one more
+// round: these are pushed. Before a token, an opening, a closing, a separator or a variable that fits it waits, with the number
+// of flat tokens that it passes. What doesn't fit is dropped. Then:
+//
+// - two wait, and pass different numbers, or one of them a fragment: the place is ambiguous, and the match stops;
+// - none waits: the match is stuck;
+// - else all pass the same number, and are the stack at the next place, in the order in which they began to wait.
+//
+// At the argument's end, the positions at the pattern's end are its readings: one, several, or none.
+//
+// What a position can still do depends on its dot alone, so at each place two of a dot are looked at and any more are dropped:
+// one shows that the dot is reached, a second that there are two readings. So the work at a place is bounded by the number of
+// dots, and a match is linear in the argument. A dot's number says how many dots follow it up to the pattern's end, itself
+// counted: in `$($x:ident),* ;` that is 5 before the repetition, 4 before `$x`, 3 after it, 2 before `;` and 1 at the end. On
+// `p, q ;`:
+//
+//     place   in front   looked at   waiting
+//         0          p     5  4  2   4, over `p` by fragment
+//         1          ,        3  2   3, over the separator
+//         2          q           4   4, over `q` by fragment
+//         3          ;        3  2   2, over `;`
+//         4                      1   none: it is at the pattern's end, and so is the argument: one reading
 ghost use Rattle.std.specs.Prelude.{◌≡◌, ◌↔◌, IsNone, IsSome, IfOk, OnOk};
 ghost use Rattle.mbe_tt.specs.Views.View.{trees};
 ghost use Rattle.mbe_semantics.specs.Syntax.Nullable.{Checked};
