@@ -39,6 +39,15 @@ fn eight_repetitions_of_a_word_are_ambiguous(rt: HostRuntime) -> Result<(), Fail
 }
 
 #[test]
+fn eight_repetitions_of_the_same_token_have_several_readings(rt: HostRuntime) -> Result<(), Fail> {
+    let definition = "($(a)* $(a)* $(a)* $(a)* $(a)* $(a)* $(a)* $(a)*) => {}";
+    let argument = words(rt.alloc(), 1000)?;
+    let want = ("expected ident: `a` at 1@0..1999", 0, "");
+    let texts = (definition, argument.as_str());
+    assert_prints(&rt, rt.alloc(), EDITION, texts, want)
+}
+
+#[test]
 fn groups_in_one_another_are_one_tree(rt: HostRuntime) -> Result<(), Fail> {
     let openings = "(".repeat(rt.alloc(), 10_000)?;
     let closings = ")".repeat(rt.alloc(), 10_000)?;

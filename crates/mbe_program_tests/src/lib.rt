@@ -10,6 +10,8 @@ mod memory;
 #[cfg(test)]
 mod random;
 #[cfg(test)]
+mod reports;
+#[cfg(test)]
 mod rows;
 #[cfg(test)]
 mod runs;

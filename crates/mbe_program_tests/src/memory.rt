@@ -1,5 +1,6 @@
 // What a run answers where a request for memory is refused.
-use crate::rows::{RECOVERED, Row, WORKED, printed};
+use crate::rows::{Row, printed};
+use crate::{reports, rows};
 use mbe_program::program::run;
 use mbe_tt::span::Edition;
 use refusing::Refusing;
@@ -30,7 +31,8 @@ fn assert_each_refused(rt: &impl Abort, alloc: Global, row: &Row) -> Result<(), 
 
 #[test]
 fn a_refused_request_is_out_of_memory(rt: HostRuntime) -> Result<(), Fail> {
-    for row in WORKED.iter().chain(&RECOVERED) {
+    let recovered = rows::RECOVERED.iter().chain(&reports::RECOVERED);
+    for row in rows::WORKED.iter().chain(recovered) {
         assert_each_refused(&rt, rt.alloc(), row)?;
     }
     Ok(())

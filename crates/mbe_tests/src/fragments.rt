@@ -1,6 +1,8 @@
 // Which fragments a variable takes by a grammar that is handed in, and how they are written.
 use crate::grammar::{Counting, NoMemory, Numbered, number_of};
-use crate::runs::{Expansion, assert_answer, assert_checked, assert_unfit, parsed, whole};
+use crate::runs::{
+    Expansion, assert_answer, assert_checked, assert_recovered, assert_unfit, parsed, whole,
+};
 use crate::tokens::{Lexeme, Token, alone, at, close, float, joint, number, open, string, word};
 use crate::trees::{built, lexed};
 use mbe::{DeclarativeMacro, MacroCallStyle};
@@ -340,8 +342,10 @@ fn the_rule_that_leaves_fewest_trees_is_recovered(rt: HostRuntime) -> Result<(),
     let rules = parsed(rt.alloc(), &lexed(rt.alloc(), 0, BY_FRAGMENTS)?)?;
     let argument = lexed(rt.alloc(), 1, "a b c")?;
     let answer = made(&rt, rt.alloc(), &taking(1), (&rules, &argument))?;
-    assert_unfit(&rt, &answer, 1);
-    Ok(())
+    let want = [word("B", 0, 37), word("a", 1, 0)];
+    let span = whole(&argument);
+    let told = ("leftover tokens", span);
+    assert_recovered(&rt, rt.alloc(), &answer, span, (1, &want), told)
 }
 
 #[test]
