@@ -113,9 +113,9 @@ class Maker:
 
 # What docs/DIFFERENCES.md says of definitions that use this.
 EXPLAINED = [
-    (r"\)(,|;|=>|b|1|'a|true|;;)\?", "a separator after a round of `?`"),
-    (r"\)(b|1|'a|true)[*+]", "an iterator kept from an identifier, literal or lifetime that separates rounds"),
-    (r"'a", "positions that advance by different lengths"),
+    (r"\)(,|;|=>|b|1|'a|true|;;)\?", "a separator after the round of a `?` is tried"),
+    (r"\)(b|1|'a|true)[*+]", "a shared iterator can move the source back"),
+    (r"'a", "positions that go on over different numbers of tokens"),
 ]
 
 
