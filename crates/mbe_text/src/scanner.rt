@@ -1,5 +1,6 @@
 // The tokens of a text, one after another.
-ghost use Rattle.std.specs.Prelude.{◌≡◌, ◌↔◌, ◌<◌, ◌≤◌, ◌^◌, length, IsSome, IfSome, IfOk, IfErr};
+ghost use Rattle.std.specs.Prelude.{◌≡◌, ◌↔◌, ◌<◌, ◌≤◌, ◌+◌, ◌^◌, length, IsSome, IfSome, IfNone};
+ghost use Rattle.std.specs.Prelude.{IfOk, IfErr};
 
 use mbe_tt::span::{Span, SyntaxContext};
 use mbe_tt::tt::{DelimiterKind, IdentIsRaw, LitKind, Spacing};
@@ -96,6 +97,7 @@ impl<'t> Scanner<'t> {
     /// Before the first byte of a file's text.
     pub fn new(text: &'t str, file: u32) -> Scanner<'t>
         requires { length text.now < 2 ^ 32 }
+        ensures file { result.file ≡ file }
         ensures rest { result.rest.now ≡ text.now }
         ensures total { result.total ≡ length text.now }
     {
@@ -108,7 +110,7 @@ impl<'t> Scanner<'t> {
 
     /// The number of bytes passed.
     pub fn offset(&self) -> u32
-        ensures { result ≤ self.now.total }
+        ensures { result + length self.now.rest.now ≡ self.now.total }
     {
         self.total - self.rest.len() as u32
     }
@@ -475,6 +477,7 @@ impl<'t> Scanner<'t> {
         ensures on { GoesOn self.old self.new }
         ensures past { IfOk result (λ token. IsSome token
             → length self.new.rest.now < length self.old.rest.now) }
+        ensures end { IfOk result (λ token. IfNone token (length self.new.rest.now ≡ 0)) }
         ensures start { IfOk result (λ token. IfSome token (λ t. t.span.start ≤ self.old.total)) }
         ensures within { IfErr result (λ fault. fault.offset ≤ self.old.total) }
     {

@@ -86,7 +86,7 @@ pub fn transcribe<A: Allocator + Copy, G: FragmentGrammar, M: Fn(Span) -> Span +
     })
 }
 
-// The marker's answer.
+// What the marker returns.
 fn mark<M: Fn(Span) -> Span + Copy>(span: Span, marker: M) -> Span
     requires { MayMark (M.pre marker) }
     ensures { M.post marker span result }
@@ -94,7 +94,7 @@ fn mark<M: Fn(Span) -> Span + Copy>(span: Span, marker: M) -> Span
     marker(span)
 }
 
-// Writes the ops one after the other, and answers the first fault.
+// Writes the ops one after the other, and returns the first fault.
 #[cycle(writing)]
 fn expand_ops<'t, A: Allocator + Copy, G: FragmentGrammar, M: Fn(Span) -> Span + Copy>(
     ctx: &ExpandCtx<'_, '_, A, G, M>,
@@ -176,7 +176,7 @@ fn expand_group<'t, A: Allocator + Copy, G: FragmentGrammar, M: Fn(Span) -> Span
     Ok(fault)
 }
 
-// The rounds of the body, with the separator behind each but the last that doesn't fault. Where they are too many, or none
+// The rounds of the body, with the separator after each but the last that doesn't fault. Where they are too many, or none
 // where one has to be, nothing is written.
 #[cycle(writing)]
 fn expand_repeat<'t, A: Allocator + Copy, G: FragmentGrammar, M: Fn(Span) -> Span + Copy>(
@@ -189,13 +189,12 @@ fn expand_repeat<'t, A: Allocator + Copy, G: FragmentGrammar, M: Fn(Span) -> Spa
 ) -> Result<Option<Fault<'t, A>>, AllocError>
     requires marks { MayMark (M.pre ctx.now.marker) }
     requires some_group { 0 < length builder.old }
-    ensures { IfOk result (λ fault. Wrote (is_some fault)
-        (op_faults (bound_by ctx.now.bindings.now) path.now (repetition (ops_of body.now)
-        (option_map (λ s. separator_seen s.now) separator.entry) kind))
+    ensures { let whole = repetition (ops_of body.now)
+        (option_map (λ s. separator_seen s.now) separator.entry) kind in
+        IfOk result (λ fault. Wrote (is_some fault)
+        (op_faults (bound_by ctx.now.bindings.now) path.now whole)
         (IsWritten (G.grammar ctx.now.grammar.now) (M.post ctx.now.marker) ctx.now.call_site
-        (bound_by ctx.now.bindings.now) path.now (repetition (ops_of body.now)
-        (option_map (λ s. separator_seen s.now) separator.entry) kind))
-        builder.old builder.new) }
+        (bound_by ctx.now.bindings.now) path.now whole) builder.old builder.new) }
 {
     let rounds = match kept_rounds(kind, rounds_of(ctx.bindings, path, body)) {
         Ok(rounds) => rounds,

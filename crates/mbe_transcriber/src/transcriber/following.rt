@@ -56,7 +56,7 @@ pub(crate) enum Extent {
     Endless,
 }
 
-// A list gives its value at each round. A fragment or a missing value gives itself, also before the path's end.
+// A list gives its value at each round. A fragment or a missing value stays, also before the path's end.
 pub(crate) fn follow<'b, 'a, A: Allocator>(
     binding: &'b Binding<'a, A>,
     path: &[Level],
