@@ -1,11 +1,10 @@
 // Matches arguments against patterns. A layer of `mbe`: use that crate.
 #![tactic(auto)]
 
-pub mod delimited;
 pub mod fragment;
 mod counts;
+mod eat;
 mod fronts;
-pub mod matcher;
 pub mod matching;
 mod places;
 mod position;
