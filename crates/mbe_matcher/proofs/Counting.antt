@@ -1,13 +1,12 @@
 -- A table of marks, one of which counts once more.
-use Rattle.std.proofs.Common.{ℕ, suc, ◌+◌, ◌-◌, ◌*◌, ◌≡◌, ◌≢◌, ◌<◌, ◌≤◌, inl, inr, ◌⊎◌, List, [], ◌∷◌, length, set, get_or, refl, sym, ◌∙◌, ap, subst, arith}
-use Rattle.std.specs.List.{sum_by}
+use Rattle.std.proofs.Common.{ℕ, ◌+◌, ◌-◌, ◌≡◌, ◌<◌, ◌≤◌, inl, inr, ◌⊎◌, List, [], ◌∷◌, length, set, get_or, refl, sym, ◌∙◌, ap, arith}
 use Rattle.std.proofs.lemmas.Bool.Decides.{nat_tests}
 use Rattle.std.proofs.lemmas.List.{get_or-set_same, get_or-set_other, length-set}
 use Rattle.std.proofs.lemmas.List.Sums.{sum_by-cons, sum_by-set}
 use Rattle.std.proofs.lemmas.Option.{slice_get_read, get_or_from_slice_get}
 use Rattle.mbe_bounds.proofs.Dots.Sift.{equal_or_not}
 use Rattle.mbe_matcher.specs.declared.counts.Mark.{Mark}
-use Rattle.mbe_matcher.specs.Counts.{count_at, unmet, AreCounted, AreBlankFrom, vacancies}
+use Rattle.mbe_matcher.specs.Counts.{count_at, unmet, AreBlankFrom, vacancies}
 
 -- a mark of another place counts nothing there
 elsewhere : (q : ℕ) (m : Mark) → (m.place ≡ q → ⊥) → count_at q m ≡ 0

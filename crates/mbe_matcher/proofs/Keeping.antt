@@ -1,9 +1,9 @@
 -- What positions stand for in a log, with outer items, they stand for in a later one.
-use Rattle.std.proofs.Common.{◌≡◌, ◌∙◌, ◌++◌, ℕ, zero, suc, List, [], ◌∷◌, Option, Some, None, option_to_list, refl, sym, ap, subst, append_assoc, append-nil}
+use Rattle.std.proofs.Common.{◌≡◌, ◌∙◌, ◌++◌, ℕ, zero, suc, List, [], ◌∷◌, Option, Some, None, option_to_list, sym, ap, append_assoc, append-nil}
 use Rattle.std.specs.Prelude.{slice_get}
 use Rattle.std.proofs.lemmas.Option.{none-some}
 use Rattle.mbe_tt.specs.Trees.Tree.{Forest}
-use Rattle.mbe_semantics.specs.Bindings.Account.{Account, Commands, Log, Handle, IsAccount}
+use Rattle.mbe_semantics.specs.Bindings.Account.{Commands, Log, Handle}
 use Rattle.mbe_semantics.specs.Matching.Outline.{Edge, Outline, outline, Advance, advance}
 use Rattle.mbe_log.specs.Shared.{IsKept}
 use Rattle.mbe_log.proofs.ClientLemmas.{kept-on}

@@ -1,9 +1,7 @@
-pub mod BindingLemmas
 pub mod WholeFronts
-pub mod PlainMatching
-pub mod PlainReadings
 pub mod Keeping
 pub mod Sources
+pub mod FrontLemmas
 pub mod Widths
 pub mod SkipLemmas
 pub mod StepLemmas

@@ -1,17 +1,14 @@
 -- Where the loop over places stops, and how it goes on.
-use Rattle.std.proofs.Common.{ℕ, zero, suc, ◌+◌, ◌≡◌, ◌<◌, ◌≤◌, Bool, true, false, ◌||◌, not, nat_eq, Option, Some, None, List, [], ◌∷◌, map, reverse, length, refl, sym, ap, subst, ◌∙◌, arith, eqb-true}
+use Rattle.std.proofs.Common.{ℕ, suc, ◌+◌, ◌≡◌, ◌<◌, ◌≤◌, Bool, true, false, ◌||◌, not, nat_eq, Option, Some, None, List, [], ◌∷◌, map, reverse, length, refl, sym, ap, subst, ◌∙◌, arith, eqb-true}
 use Rattle.std.specs.Prelude.{◌==◌, if◌then◌else◌, is_some, IfSome}
 use Rattle.std.proofs.lemmas.Bool.{eqb-false}
 use Rattle.mbe_tt.specs.Trees.Tree.{Forest, flat_len, rest_at}
 use Rattle.mbe_tt.specs.Fragments.Grammar.{Grammar}
 use Rattle.mbe_semantics.specs.Syntax.Op.{Ops}
 use Rattle.mbe_semantics.specs.Syntax.Nullable.{Checked}
-use Rattle.mbe_semantics.specs.Readings.Item.{Items}
 use Rattle.mbe_semantics.specs.Readings.Input.{Input, input_of}
-use Rattle.mbe_semantics.specs.Readings.Reading.{Reading}
-use Rattle.mbe_semantics.specs.Readings.Ambiguity.{Calm, OnlyReading, Fits}
-use Rattle.mbe_semantics.specs.Readings.Verdict.{Verdict, one_reading, many_readings, ambiguous, stuck, Right, IsVerdict, verdict_at, stop_of}
-use Rattle.mbe_semantics.specs.Bindings.Account.{Commands, commands_of, no_account, Log, Handle, IsLive, IsAccount}
+use Rattle.mbe_semantics.specs.Readings.Verdict.{Verdict, one_reading, ambiguous, stuck, IsVerdict, verdict_at, stop_of}
+use Rattle.mbe_semantics.specs.Bindings.Account.{Commands, no_account, Log, Handle, IsLive, IsAccount}
 use Rattle.mbe_ops.specs.Views.{ops_of}
 use Rattle.mbe_semantics.specs.Laws.Lawful.{Lawful}
 use Rattle.mbe_semantics.specs.Matching.Dots.{dots}

@@ -1,8 +1,8 @@
 -- Names that are skipped one after the other, and dots that are counted.
-use Rattle.std.proofs.Common.{◌≡◌, ◌+◌, ℕ, List, [], ◌∷◌, ◌++◌, Option, Some, None, refl, sym, ap, subst, ◌∙◌, arith}
+use Rattle.std.proofs.Common.{◌≡◌, List, [], ◌∷◌, ◌++◌, refl, sym, ap, subst, ◌∙◌}
 use Rattle.std.specs.Prelude.{⊤, Result, Ok, Err, OnOk}
 use Rattle.mbe_semantics.specs.Syntax.Op.{Name, Op, Ops, no_ops, op, names_of_op, names_of}
-use Rattle.mbe_semantics.specs.Bindings.Account.{Commands, command, skips, Command, Account, Log, Handle, IsAccount, IsLive, skip_commands, pushed}
+use Rattle.mbe_semantics.specs.Bindings.Account.{Commands, command, Command, Account, Log, Handle, IsAccount, IsLive, skip_commands, pushed}
 use Rattle.mbe_semantics.specs.Matching.Outline.{skipped}
 use Rattle.mbe_log.specs.Shared.{IsKept, IsChanged}
 use Rattle.mbe_log.proofs.ClientLemmas.{kept-on}

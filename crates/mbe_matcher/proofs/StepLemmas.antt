@@ -1,6 +1,6 @@
 -- The steps of a position are those of its outline.
-use Rattle.std.proofs.Common.{ℕ, zero, suc, ◌+◌, ◌-◌, ◌≡◌, ◌≤◌, ◌<◌, Bool, true, false, ◌&&◌, nat_lt, Option, Some, None, option_map, option_to_list, List, [], ◌∷◌, ◌++◌, map, length, get_or, take, drop, Bor, refl, sym, ap, subst, ◌∙◌, arith}
-use Rattle.std.specs.Prelude.{Result, Ok, Err, IfOk, slice_get, is_some}
+use Rattle.std.proofs.Common.{ℕ, zero, suc, ◌+◌, ◌-◌, ◌≡◌, ◌≤◌, ◌<◌, true, false, Option, Some, None, option_map, option_to_list, List, [], ◌∷◌, ◌++◌, length, get_or, take, drop, Bor, refl, sym, ap, subst, ◌∙◌, arith}
+use Rattle.std.specs.Prelude.{slice_get, is_some}
 use Rattle.std.specs.Option.{option_copied}
 use Rattle.std.proofs.lemmas.Option.{none-some, same_Some, slice_get_within}
 use Rattle.mbe_semantics.specs.declared.kinds.MetaVarKind.{MetaVarKind}
@@ -14,7 +14,7 @@ use Rattle.mbe_tt.specs.Laws.TreeLaws.{IsCut}
 use Rattle.mbe_tt.specs.declared.view.TokenTreesView.{TokenTreesView}
 use Rattle.mbe_tt.specs.Fragments.Grammar.{Grammar}
 use Rattle.mbe_semantics.specs.Syntax.Op.{Name, Separator, Op, Ops, no_ops, op, token, group, variable, repetition, expression, names_of}
-use Rattle.mbe_semantics.specs.Readings.Fit.{token_front, separator_front, between_front}
+use Rattle.mbe_semantics.specs.Readings.Fit.{separator_front, between_front}
 use Rattle.mbe_semantics.specs.Readings.Item.{Fragment, style_of}
 use Rattle.mbe_semantics.specs.Readings.Input.{Input, input_of, length_of, fragment_of}
 use Rattle.mbe_semantics.specs.Readings.Steps.{if_none, skip_of, again_of}
@@ -22,7 +22,7 @@ use Rattle.mbe_semantics.proofs.InputLemmas.{length_from}
 use Rattle.mbe_semantics.proofs.MoveLemmas.{separator_moves}
 use Rattle.mbe_semantics.specs.Bindings.Account.{Account, no_account, Command, pushed, pushed_default, pushed_nested, Log, Handle, IsAccount, IsLive}
 use Rattle.mbe_semantics.specs.Matching.Dots.{op_dots, dots, edges_behind}
-use Rattle.mbe_semantics.specs.Matching.Outline.{Edge, gate, edge, Outline, outline, advance, skipped, empty_by, over_advance, empty_bound, bound_advance, if_some_advance, round_advance, separator_advance, when_advance, idle_of, next_of}
+use Rattle.mbe_semantics.specs.Matching.Outline.{Edge, gate, edge, Outline, outline, advance, skipped, empty_by, over_advance, empty_bound, bound_advance, if_some_advance, round_advance, when_advance}
 use Rattle.mbe_log.specs.Shared.{IsKept, IsChanged}
 use Rattle.mbe_log.proofs.ClientLemmas as client
 use Rattle.mbe_ops.specs.declared.ops.Op as code
@@ -33,7 +33,7 @@ use Rattle.mbe_matcher.specs.declared.position.Outer.{Outer}
 use Rattle.mbe_matcher.specs.declared.position.Rounds.{Rounds}
 use Rattle.mbe_matcher.specs.declared.position.Steps.{Steps}
 use Rattle.mbe_matcher.specs.Fronts.{op_width, if_again}
-use Rattle.mbe_matcher.specs.Positions.{Each, Both, Grows, AreRounds, edge_in, AreEdges, none_open, group_open, repetition_open, Stands, Shows, IsPosition, IsLeft, LeadsTo, Holds, idle_in, AreStepsNow, Keeps, AreSteps, IsPlain, over_steps, IsSkip}
+use Rattle.mbe_matcher.specs.Positions.{Each, Both, AreRounds, edge_in, AreEdges, none_open, group_open, repetition_open, Stands, Shows, IsPosition, IsLeft, LeadsTo, Holds, idle_in, AreStepsNow, Keeps, AreSteps, IsPlain, over_steps, IsSkip}
 use Rattle.mbe_matcher.specs.Rewriting.{IsRewritten}
 use Rattle.mbe_matcher.proofs.Keeping.{kept_not, grows_not, each_weaker, shows_keep, edges_keep}
 

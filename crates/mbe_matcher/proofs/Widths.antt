@@ -1,24 +1,21 @@
 -- What was passed, as the number of its flat tokens.
-use Rattle.std.proofs.Common.{◌≡◌, ◌-◌, ◌&&◌, ◌==◌, ℕ, Bool, true, false, List, Option, Some, None, if◌then◌else◌, refl, sym, ap, subst, ◌∙◌, arith}
+use Rattle.std.proofs.Common.{◌≡◌, ◌-◌, ℕ, Bool, true, false, List, Option, Some, None, if◌then◌else◌, refl, sym, ap, subst, ◌∙◌, arith}
 use Rattle.std.specs.Str.{bytes_eq}
 use Rattle.std.proofs.lemmas.Slice.Eq.{bytes_eq-Decides}
 use Rattle.std.proofs.lemmas.Option.{none-some, same_Some}
 use Rattle.std.proofs.lemmas.Bool.{false≢true}
 use Rattle.mbe_tt.specs.Trees.Leaf.{Leaf, Ident, ident, literal, punct}
 use Rattle.mbe_tt.specs.Trees.Tree.{Forest, none, leaf, group, flat_len, rest_of, front_literal, is_truth, Cut, cut_trees}
-use Rattle.mbe_tt.specs.Trees.Glue.{chars_of}
 use Rattle.mbe_tt.specs.Laws.TreeLaws.{IsCut}
-use Rattle.mbe_tt.specs.declared.tt.Punct.{Punct}
 use Rattle.mbe_tt.proofs.Places.CutLemmas.{flat_len-append}
-use Rattle.mbe_semantics.specs.Syntax.Op as ops
 use Rattle.mbe_semantics.specs.Syntax.Op.{Token, Separator}
-use Rattle.mbe_semantics.specs.Readings.Fit.{token_front, literal_text_front, ident_text_front, puncts_front, lifetime_text_front, literal_separator_front, separator_front}
+use Rattle.mbe_semantics.specs.Readings.Fit.{token_front, literal_separator_front, separator_front}
 use Rattle.mbe_semantics.specs.Readings.Input.{length_of}
-use Rattle.mbe_matcher.specs.Matching.{HasPassed}
+use Rattle.mbe_matcher.specs.Fronts.{HasPassed}
 use Rattle.mbe_matcher.specs.Fronts.{has_text}
 use Rattle.mbe_semantics.proofs.FrontLemmas.{token_cut, between_cut}
 use Rattle.mbe_ops.proofs.Fragments.{left_behind}
-use Rattle.mbe_matcher.proofs.PlainMatching.{passed_if}
+use Rattle.mbe_matcher.proofs.FrontLemmas.{passed_if}
 
 -- the flat tokens between an iterator and what it has become
 abbrev pub width : Bool → Forest → Forest → Option ℕ

@@ -2,7 +2,7 @@
 use Rattle.std.specs.Prelude.{◌≡◌, ℕ, Bool, true, false, List, Option, Some, None}
 use Rattle.std.specs.Str.{bytes_eq}
 use Rattle.mbe_tt.specs.Trees.Leaf.{Leaf, ident, literal, punct}
-use Rattle.mbe_tt.specs.Trees.Tree.{Forest, flat_len, append}
+use Rattle.mbe_tt.specs.Trees.Tree.{Forest, flat_len, append, Cut}
 use Rattle.mbe_semantics.specs.Syntax.Op.{Op, token}
 use Rattle.mbe_semantics.specs.Readings.Fit.{token_front}
 use Rattle.mbe_semantics.specs.Readings.Input.{length_of}
@@ -29,3 +29,10 @@ if_again ZeroOrOne o = None
 abbrev pub op_width : Op → Forest → Option ℕ
 op_width (token t) f = length_of (token_front t f)
 op_width _ f = None
+
+-- the front is there, or not; if it is, this is left after it
+abbrev pub HasPassed : Bool → Option Cut → Forest → Type 0
+HasPassed true (Some c) left = left ≡ c.back
+HasPassed true None left = ⊥
+HasPassed false None left = Unit {0}
+HasPassed false (Some c) left = ⊥

@@ -1,5 +1,3 @@
-pub mod Matching
-pub mod Delimited
 pub mod Fronts
 pub mod Rewriting
 pub mod Positions

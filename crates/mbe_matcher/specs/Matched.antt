@@ -6,7 +6,7 @@ use Rattle.mbe_semantics.specs.Syntax.Op.{Ops}
 use Rattle.mbe_semantics.specs.Readings.Item.{Items}
 use Rattle.mbe_semantics.specs.Readings.Ambiguity.{Fits}
 use Rattle.mbe_semantics.specs.Readings.Verdict.{Verdict, one_reading, many_readings, ambiguous, stuck}
-use Rattle.mbe_semantics.specs.Bindings.Account.{Log, Handle, IsLive, commands_of}
+use Rattle.mbe_semantics.specs.Bindings.Account.{Log, Handle, commands_of}
 use Rattle.mbe_matcher.specs.declared.matching.Verdict as verdicts
 use Rattle.mbe_matcher.specs.declared.places.Stop.{Stop}
 use Rattle.mbe_matcher.specs.declared.places.Stop.TheVariants as told

@@ -8,11 +8,10 @@ use Rattle.mbe_tt.specs.Fragments.Grammar.{Grammar}
 use Rattle.mbe_semantics.specs.Syntax.Op.{Op, token, group, variable, repetition, expression, Ops, names_of}
 use Rattle.mbe_semantics.specs.Readings.Input.{Input, input_of}
 use Rattle.mbe_semantics.specs.Readings.Steps.{skip_of}
-use Rattle.mbe_semantics.specs.Bindings.Account.{Account, Commands, Log, Handle, IsAccount, IsLive}
-use Rattle.mbe_semantics.specs.Matching.Dots.{dots, edges_behind, outline_number}
+use Rattle.mbe_semantics.specs.Bindings.Account.{Account, Commands, Log, Handle, IsAccount}
+use Rattle.mbe_semantics.specs.Matching.Dots.{dots, edges_behind}
 use Rattle.mbe_semantics.specs.Matching.Outline.{Edge, gate, edge, Outline, outline, Advance, advance, skipped, idle_of, next_of, finished_of}
 use Rattle.mbe_log.specs.Shared.{IsKept}
-use Rattle.mbe_ops.specs.declared.ops.Op as code
 use Rattle.mbe_ops.specs.Views.{ops_of, separator_seen}
 use Rattle.mbe_matcher.specs.declared.source.Source.{Source}
 use Rattle.mbe_matcher.specs.declared.position.Position.{Position}

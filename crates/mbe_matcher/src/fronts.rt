@@ -6,10 +6,10 @@ ghost use Rattle.mbe_tt.specs.Views.Shown.{leaf_of};
 ghost use Rattle.mbe_semantics.specs.Readings.Fit.{literal_text_front, ident_text_front, puncts_front, lifetime_text_front, literal_separator_front, separator_front, between_front};
 ghost use Rattle.mbe_semantics.specs.Readings.Input.{length_of, is_opening};
 ghost use Rattle.mbe_matcher.specs.Fronts.{has_text, if_again, op_width};
-ghost use Rattle.mbe_matcher.specs.Matching.{HasPassed};
+ghost use Rattle.mbe_matcher.specs.Fronts.{HasPassed};
 ghost use Rattle.mbe_ops.specs.Views.{op_of, separator_seen};
 
-use crate::matcher::{eat_ident, eat_literal, eat_puncts};
+use crate::eat::{eat_ident, eat_literal, eat_puncts};
 use mbe_ops::ops::{Op, Separator};
 use mbe_semantics::kinds::RepeatKind;
 use mbe_tt::iter::TtIter;

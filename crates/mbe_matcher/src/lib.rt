@@ -2,10 +2,9 @@
 #![tactic(auto)]
 
 mod counts;
-pub mod delimited;
+mod eat;
 pub mod fragment;
 mod fronts;
-pub mod matcher;
 pub mod matching;
 mod places;
 mod position;

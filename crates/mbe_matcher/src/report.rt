@@ -9,8 +9,8 @@ ghost use Rattle.mbe_errors.specs.ErrorViews.{error_of, errors_of, kind_of};
 ghost use Rattle.mbe_ops.specs.Views.{op_of};
 ghost use Rattle.mbe_matcher.specs.Rewriting.{IsRewritten};
 
+use crate::eat::begins_refused;
 use crate::fragment::{eat_front, expect_fragment};
-use crate::matcher::begins_refused;
 use crate::source::Source;
 use mbe_errors::error::{ExpandError, ExpandErrorKind};
 use mbe_log::fragment::of_kind;

@@ -1,4 +1,3 @@
-use Rattle.std.proofs.Common.{sym, rules}
 use Rattle.mbe_tt.specs.Views.Shown.{leaf_of}
 use Rattle.mbe_matcher.proofs.Widths.{literal_separator_passed}
 use Rattle.mbe_matcher.proofs.fronts.eat_literal_separator.Goals as goal

@@ -1,10 +1,9 @@
-use Rattle.std.proofs.Common.{◌≡◌, ◌+◌, ◌-◌, ◌<◌, ◌≤◌, ◌∙◌, ◌++◌, ◌∷◌, ℕ, Option, Some, None, List, [], length, map, reverse, get_or, refl, sym, ap, subst, arith}
+use Rattle.std.proofs.Common.{◌≡◌, ◌+◌, ◌∙◌, ◌++◌, ◌∷◌, ℕ, Some, None, [], length, map, reverse, get_or, refl, sym, ap, subst, arith}
 use Rattle.std.specs.Prelude.{IfSome}
 use Rattle.mbe_tt.specs.Views.View.{trees}
 use Rattle.mbe_tt.specs.Trees.Tree.{flat_len, tree_count, rest_at}
 use Rattle.mbe_semantics.specs.Readings.Input.{input_of}
 use Rattle.mbe_semantics.specs.Readings.Verdict.{IsVerdict, unmatched}
-use Rattle.mbe_semantics.specs.Bindings.Account.{IsLive}
 use Rattle.mbe_semantics.specs.Laws.Lawful.{Lawful}
 use Rattle.mbe_semantics.specs.Matching.Dots.{dots}
 use Rattle.mbe_semantics.specs.Matching.Settled.{after_of}

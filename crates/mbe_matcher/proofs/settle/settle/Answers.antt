@@ -1,10 +1,9 @@
-use Rattle.std.proofs.Common.{◌≡◌, ◌+◌, ◌≤◌, ◌<◌, ◌++◌, ◌∷◌, ◌∙◌, ℕ, Bool, true, false, List, [], length, reverse, option_to_list, refl, sym, ap, subst, arith}
-use Rattle.std.specs.Prelude.{nat_lt}
+use Rattle.std.proofs.Common.{◌≡◌, ◌+◌, ◌≤◌, ◌++◌, ◌∷◌, ◌∙◌, [], length, reverse, option_to_list, refl, sym, ap, subst, arith}
 use Rattle.mbe_tt.specs.Trees.Tree.{rest_at}
 use Rattle.mbe_tt.specs.Views.View.{trees}
 use Rattle.mbe_semantics.specs.Matching.Dots.{dots}
 use Rattle.mbe_semantics.specs.Readings.Input.{input_of}
-use Rattle.mbe_bounds.specs.Bounded.TwoEach.{times, cons_if}
+use Rattle.mbe_bounds.specs.Bounded.TwoEach.{cons_if}
 use Rattle.mbe_bounds.specs.Loop.Kept.{kept}
 use Rattle.mbe_matcher.specs.declared.counts.Counts.{Counts}
 use Rattle.mbe_matcher.specs.Counts.{AreCounted, vacancies}

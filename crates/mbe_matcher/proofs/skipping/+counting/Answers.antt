@@ -1,7 +1,7 @@
-use Rattle.std.proofs.Common.{◌≡◌, ◌+◌, ◌∷◌, drop, refl, sym, ap, ◌∙◌, arith, rules}
-use Rattle.std.proofs.lemmas.List.{drop_more, drop_all}
+use Rattle.std.proofs.Common.{◌≡◌, ◌+◌, ◌∷◌, drop, sym, ap, ◌∙◌, arith}
+use Rattle.std.proofs.lemmas.List.{drop_more}
 use Rattle.mbe_semantics.specs.Matching.Dots.{dots}
-use Rattle.mbe_ops.specs.Views.{op_of, ops_of}
+use Rattle.mbe_ops.specs.Views.{ops_of}
 use Rattle.mbe_ops.proofs.OpViews.{view-subtree, view-repeat}
 use Rattle.mbe_matcher.proofs.skipping.+counting.Goals as goal
 

@@ -1,4 +1,4 @@
-use Rattle.std.proofs.Common.{◌≡◌, drop}
+use Rattle.std.proofs.Common.{drop}
 use Rattle.mbe_semantics.specs.Bindings.Account.{IsLive}
 use Rattle.mbe_ops.specs.Views.{ops_of}
 use Rattle.mbe_matcher.proofs.SkipLemmas.{SkipsUpTo}

@@ -1,4 +1,4 @@
-use Rattle.std.proofs.Common.{◌≡◌, ◌∙◌, sym, ap, subst, inl, inr, option_map}
+use Rattle.std.proofs.Common.{◌∙◌, sym, ap, subst, inl, inr, option_map}
 use Rattle.mbe_semantics.specs.Syntax.Op.{op, group, repetition}
 use Rattle.mbe_ops.specs.Views.{op_of, ops_of, separator_seen}
 use Rattle.mbe_ops.proofs.OpViews.{view-subtree, view-repeat, view-ignore, view-index, view-len, view-count, view-concat}

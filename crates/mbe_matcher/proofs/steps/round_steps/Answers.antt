@@ -1,4 +1,4 @@
-use Rattle.std.proofs.Common.{◌≡◌, ◌-◌, ◌∙◌, None, Some, option_map, sym, ap, refl, arith, rules}
+use Rattle.std.proofs.Common.{◌-◌, None, Some}
 use Rattle.mbe_tt.specs.Views.View.{trees}
 use Rattle.mbe_semantics.specs.Syntax.Op.{no_ops}
 use Rattle.mbe_semantics.specs.Readings.Input.{input_of}

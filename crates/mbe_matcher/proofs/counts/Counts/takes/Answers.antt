@@ -1,4 +1,4 @@
-use Rattle.std.proofs.Common.{◌≡◌, ◌<◌, ◌+◌, ◌-◌, length, refl, arith}
+use Rattle.std.proofs.Common.{◌+◌, ◌-◌, refl, arith}
 use Rattle.mbe_matcher.proofs.Counting.{blank_set, vacancy_falls}
 use Rattle.mbe_matcher.proofs.counts.Counts.takes.Goals as goal
 

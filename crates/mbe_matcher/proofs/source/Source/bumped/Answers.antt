@@ -1,7 +1,5 @@
-use Rattle.std.proofs.Common.{◌≡◌, ap, sym, ◌∙◌, arith, rules}
+use Rattle.std.proofs.Common.{arith}
 use Rattle.mbe_tt.specs.Views.View.{trees}
-use Rattle.mbe_tt.specs.Trees.Tree.{first}
-use Rattle.mbe_tt.specs.Views.Element.{element_tree}
 use Rattle.mbe_matcher.proofs.Sources.{behind_leaf, behind_opening, behind_closing, behind_all}
 use Rattle.mbe_matcher.proofs.source.Source.bumped.Goals as goal
 

@@ -1,6 +1,6 @@
 use Rattle.mbe_tt.specs.Views.View.{trees}
 use Rattle.mbe_matcher.proofs.Sources.{here_is, closes_here}
-use Rattle.std.proofs.Common.{arith, rules}
+use Rattle.std.proofs.Common.{arith}
 use Rattle.mbe_matcher.proofs.source.Source.closes.Goals as goal
 
 pub returns-then-self-flat_len : goal.returns-then-self-flat_len

@@ -1,4 +1,4 @@
-use Rattle.std.proofs.Common.{◌≡◌, sym, ap, subst, arith}
+use Rattle.std.proofs.Common.{sym, subst}
 use Rattle.mbe_tt.specs.Views.View.{trees}
 use Rattle.mbe_matcher.specs.Fronts.{IsBehind}
 use Rattle.mbe_matcher.proofs.Sources.{here_is, behind_trees}

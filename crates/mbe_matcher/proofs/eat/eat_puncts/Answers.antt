@@ -1,8 +1,8 @@
 use Rattle.std.proofs.Common.{◌≡◌, rules}
 use Rattle.std.specs.Str.{bytes_eq}
 use Rattle.mbe_tt.specs.Trees.Glue.{chars_of}
-use Rattle.mbe_matcher.proofs.PlainMatching.{puncts_passed}
-use Rattle.mbe_matcher.proofs.matcher.eat_puncts.Goals as goal
+use Rattle.mbe_matcher.proofs.FrontLemmas.{puncts_passed}
+use Rattle.mbe_matcher.proofs.eat.eat_puncts.Goals as goal
 
 pub returns-in-Ok : goal.returns-in-Ok
 returns-in-Ok g c =

@@ -1,115 +1,21 @@
-// Matches an argument against a pattern.
+// Passes what stands in front of an iterator.
 ghost use Rattle.std.specs.Prelude.{◌≡◌, IfOk};
 ghost use Rattle.mbe_tt.specs.Trees.Glue.{chars_of};
 ghost use Rattle.mbe_tt.specs.Views.Shown.{ident_of, literal_of};
 ghost use Rattle.mbe_tt.specs.Fragments.Grammar.{good_front};
 ghost use Rattle.mbe_semantics.specs.Readings.Fit.{ident_text_front, literal_text_front, puncts_front};
-ghost use Rattle.mbe_semantics.specs.Syntax.Op.{group};
-ghost use Rattle.mbe_matcher.specs.Matching.{read_front, read_all, HasPassed, HasRead, HasReadAll, IsMatch};
+ghost use Rattle.mbe_matcher.specs.Fronts.{HasPassed};
 ghost use Rattle.mbe_semantics.specs.Fragments.Takes.{takes, ident_front, lifetime_front, literal_front, tree_front, begins_refused, is_refused_word};
-ghost use Rattle.mbe_ops.specs.Views.{IsTaken, op_of, ops_of, template_of};
-ghost use Rattle.mbe_log.specs.BindingViews.{bound_by};
+ghost use Rattle.mbe_ops.specs.Views.{IsTaken};
 
 use crate::fragment::eat_front;
-use mbe_log::bindings::{Binding, Bindings};
-use mbe_log::fragment::of_kind;
-use mbe_ops::ops::{MetaTemplate, Op, same_chars};
+use mbe_ops::ops::same_chars;
 use mbe_semantics::kinds::{ExprKind, MetaVarKind};
 use mbe_tt::grammar::{FragmentGrammar, PrefixEntryPoint};
 use mbe_tt::iter::{TtElement, TtIter};
 use mbe_tt::tt::{Delimiter, Ident, IdentIsRaw, Leaf, Literal, Punct};
 use mbe_tt::view::TokenTreesView;
 use std::alloc::{AllocError, Allocator};
-
-// What the pattern binds, where it reads the whole argument.
-pub fn match_<'a, A: Allocator + Copy, G: FragmentGrammar>(
-    alloc: A,
-    grammar: &G,
-    pattern: &MetaTemplate<A>,
-    src: TtIter<'a, A>,
-) -> Result<Option<Bindings<'a, A>>, AllocError>
-    ensures { IfOk result (IsMatch (G.grammar grammar.now) (template_of pattern.now) src.entry) }
-{
-    let mut bindings = Bindings::new(alloc);
-    if match_ops(grammar, &pattern.0, src, &mut bindings)? {
-        Ok(Some(bindings))
-    } else {
-        Ok(None)
-    }
-}
-
-// Whether the ops read all the trees.
-#[cycle(matching)]
-fn match_ops<'a, A: Allocator + Copy, G: FragmentGrammar>(
-    grammar: &G,
-    ops: &[Op<A>],
-    src: TtIter<'a, A>,
-    bindings: &mut Bindings<'a, A>,
-) -> Result<bool, AllocError>
-    ensures { IfOk result (λ r. HasReadAll r (read_all (G.grammar grammar.now) (ops_of ops.now) src.entry) (bound_by bindings.old) (bound_by bindings.new)) }
-{
-    let mut src = src;
-    for op in ops {
-        if !match_op(grammar, op, &mut src, bindings)? {
-            return Ok(false);
-        }
-    }
-    Ok(src.is_empty())
-}
-
-// Whether the op reads what stands in front.
-#[cycle(matching)]
-#[tactic(auto, using(mbe_ops::proofs::OpViews::views))]
-fn match_op<'a, A: Allocator + Copy, G: FragmentGrammar>(
-    grammar: &G,
-    op: &Op<A>,
-    src: &mut TtIter<'a, A>,
-    bindings: &mut Bindings<'a, A>,
-) -> Result<bool, AllocError>
-    ensures { IfOk result (λ r. HasRead r (read_front (G.grammar grammar.now) (op_of op.now) src.old) src.new (bound_by bindings.old) (bound_by bindings.new)) }
-{
-    match op {
-        Op::Literal(literal) => Ok(eat_literal(literal, src)),
-        Op::Ident(ident) => Ok(eat_ident(ident, src)),
-        Op::Punct(puncts) => Ok(eat_puncts(puncts.as_slice(), src)),
-        Op::Subtree { tokens, delimiter } => {
-            match_group(grammar, tokens, *delimiter, src, bindings)
-        }
-        Op::Var { name, kind, .. } => match eat_fragment(grammar, *kind, src)? {
-            Some(tree) => {
-                bindings.insert(name, Binding::Fragment(of_kind(*kind, tree)))?;
-                Ok(true)
-            }
-            None => Ok(false),
-        },
-        // Repetitions aren't carried yet; no metavariable expression stands in a pattern.
-        Op::Repeat { .. }
-        | Op::Ignore { .. }
-        | Op::Index { .. }
-        | Op::Len { .. }
-        | Op::Count { .. }
-        | Op::Concat { .. } => Ok(false),
-    }
-}
-
-// Whether a group of the delimiter's kind stands in front, and the ops read its content.
-#[cycle(matching)]
-fn match_group<'a, A: Allocator + Copy, G: FragmentGrammar>(
-    grammar: &G,
-    tokens: &MetaTemplate<A>,
-    delimiter: Delimiter,
-    src: &mut TtIter<'a, A>,
-    bindings: &mut Bindings<'a, A>,
-) -> Result<bool, AllocError>
-    ensures { IfOk result (λ r. HasRead r (read_front (G.grammar grammar.now) (group delimiter (template_of tokens.now)) src.old) src.new (bound_by bindings.old) (bound_by bindings.new)) }
-{
-    match src.expect_subtree() {
-        Ok((subtree, inside)) if subtree.delimiter.kind == delimiter.kind => {
-            match_ops(grammar, &tokens.0, inside, bindings)
-        }
-        _ => Ok(false),
-    }
-}
 
 // A literal of the same text and suffix, whatever its kind.
 pub(crate) fn eat_literal<A: Allocator>(literal: &Literal<A>, src: &mut TtIter<'_, A>) -> bool

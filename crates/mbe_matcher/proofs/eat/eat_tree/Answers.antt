@@ -2,7 +2,7 @@ use Rattle.std.proofs.Common.{◌≡◌, ap, ◌∙◌, length, Some, option_map
 use Rattle.mbe_tt.specs.Trees.Tree.{Forest, none, tree, first, cut_trees, rest_of, front_char}
 use Rattle.mbe_tt.specs.Trees.Glue.{glue}
 use Rattle.mbe_ops.proofs.Fragments.{passed_to, left_behind, taken, quoted, puncts_in_front, one_tree, no_puncts}
-use Rattle.mbe_matcher.proofs.matcher.eat_tree.Goals as goal
+use Rattle.mbe_matcher.proofs.eat.eat_tree.Goals as goal
 
 pub returns-then-is_ok : goal.returns-then-is_ok
 returns-then-is_ok g c =

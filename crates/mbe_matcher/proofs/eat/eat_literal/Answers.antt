@@ -2,8 +2,8 @@ use Rattle.std.proofs.Common.{◌≡◌, Some, rules}
 use Rattle.mbe_tt.specs.Trees.Leaf.{literal}
 use Rattle.mbe_tt.specs.Views.Shown.{literal_of}
 use Rattle.mbe_tt.specs.Trees.Tree.{front_leaf}
-use Rattle.mbe_matcher.proofs.PlainMatching.{literal_passed}
-use Rattle.mbe_matcher.proofs.matcher.eat_literal.Goals as goal
+use Rattle.mbe_matcher.proofs.FrontLemmas.{literal_passed}
+use Rattle.mbe_matcher.proofs.eat.eat_literal.Goals as goal
 
 pub returns-in-Ok-Literal : goal.returns-in-Ok-Literal
 returns-in-Ok-Literal g c =

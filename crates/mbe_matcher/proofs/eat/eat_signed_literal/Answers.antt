@@ -2,7 +2,7 @@ use Rattle.std.proofs.Common.{sym}
 use Rattle.std.specs.Prelude.{is_ok}
 use Rattle.mbe_tt.specs.Trees.Tree.{cut_trees}
 use Rattle.mbe_ops.proofs.Fragments.{passed_to, left_behind, taken, literal_trees, literal_in_front, behind_literal}
-use Rattle.mbe_matcher.proofs.matcher.eat_signed_literal.Goals as goal
+use Rattle.mbe_matcher.proofs.eat.eat_signed_literal.Goals as goal
 
 pub from_savepoint-requires : goal.from_savepoint-requires
 from_savepoint-requires g c =

@@ -1,8 +1,8 @@
 use Rattle.std.proofs.Common.{◌≡◌, Some, rules}
 use Rattle.mbe_tt.specs.Views.Shown.{ident_of}
 use Rattle.mbe_tt.specs.Trees.Tree.{any_ident}
-use Rattle.mbe_matcher.proofs.PlainMatching.{ident_passed}
-use Rattle.mbe_matcher.proofs.matcher.eat_ident.Goals as goal
+use Rattle.mbe_matcher.proofs.FrontLemmas.{ident_passed}
+use Rattle.mbe_matcher.proofs.eat.eat_ident.Goals as goal
 
 pub returns-in-Ok : goal.returns-in-Ok
 returns-in-Ok g c =

@@ -1,7 +1,7 @@
 use Rattle.std.proofs.Common.{sym}
 use Rattle.mbe_tt.specs.Trees.Tree.{cut_trees}
 use Rattle.mbe_ops.proofs.Fragments.{passed_to, left_behind, taken, ident_in_front}
-use Rattle.mbe_matcher.proofs.matcher.eat_any_ident.Goals as goal
+use Rattle.mbe_matcher.proofs.eat.eat_any_ident.Goals as goal
 
 pub from_savepoint-requires : goal.from_savepoint-requires
 from_savepoint-requires g c =

@@ -1,7 +1,7 @@
 use Rattle.std.proofs.Common.{◌≡◌, sym, ap, ◌∙◌, Some, rules}
 use Rattle.mbe_tt.specs.Trees.Tree.{cut_trees, rest_of, skip, any_ident, front_char}
 use Rattle.mbe_ops.proofs.Fragments.{passed_to, left_behind, taken, lifetime_in_front}
-use Rattle.mbe_matcher.proofs.matcher.eat_lifetime.Goals as goal
+use Rattle.mbe_matcher.proofs.eat.eat_lifetime.Goals as goal
 
 pub from_savepoint-requires : goal.from_savepoint-requires
 from_savepoint-requires g c =
