@@ -72,13 +72,13 @@ pub fn matched<A: Allocator + Copy>(
     let mut log = BindingLog::new(alloc);
     let around = argument.top_subtree().delimiter.delim_span();
     let trees = argument.iter().remaining();
-    let matched = match_argument(alloc, &SampleGrammar, &rule.lhs, trees, around, &mut log)?;
+    let found = match_argument(alloc, &SampleGrammar, &rule.lhs, trees, around, &mut log)?;
     let Match {
         verdict,
         unmatched,
         bindings,
-        err: _,
-    } = matched;
+        err: _err,
+    } = found;
     let bindings = log.build(&bindings)?;
     Ok(Some(Outcome {
         verdict,

@@ -18,7 +18,12 @@ const SPAN: Span = Span {
     ctx: SyntaxContext(0),
 };
 
-fn punct<A: Allocator>(char: char, spacing: Spacing) -> Leaf<A> {
+fn punct<A: Allocator>(char: char) -> Leaf<A> {
+    let spacing = if char == '\'' {
+        Spacing::Joint
+    } else {
+        Spacing::Alone
+    };
     Leaf::Punct(Punct {
         char,
         spacing,
@@ -26,49 +31,61 @@ fn punct<A: Allocator>(char: char, spacing: Spacing) -> Leaf<A> {
     })
 }
 
-fn word<A: Allocator + Copy>(alloc: A, text: &str) -> Result<Leaf<A>, AllocError> {
+fn letter<A: Allocator + Copy>(alloc: A, char: char) -> Result<Leaf<A>, AllocError> {
+    let mut text = String::new(alloc);
+    text.push(char)?;
     Ok(Leaf::Ident(Ident {
-        sym: Symbol::intern(alloc, text)?,
+        sym: Symbol::intern(alloc, text.as_str())?,
         is_raw: IdentIsRaw::No,
         span: SPAN,
     }))
 }
 
-// `$(')?`
-fn quote_or_none<A: Allocator + Copy>(builder: &mut TopSubtreeBuilder<A>) -> Result<(), AllocError> {
-    builder.push(punct('$', Spacing::Alone))?;
-    builder.open(DelimiterKind::Parenthesis, SPAN)?;
-    builder.push(punct('\'', Spacing::Alone))?;
-    if builder.open_kind().is_some() {
-        builder.close(SPAN);
+// One char more: a parenthesis, a letter or a punct.
+fn add<A: Allocator + Copy>(
+    alloc: A,
+    builder: &mut TopSubtreeBuilder<A>,
+    char: char,
+) -> Result<(), AllocError> {
+    match char {
+        '(' => builder.open(DelimiterKind::Parenthesis, SPAN),
+        ')' => {
+            if builder.open_kind().is_some() {
+                builder.close(SPAN);
+            }
+            Ok(())
+        }
+        'a'..='z' => builder.push(letter(alloc, char)?),
+        _ => builder.push(punct(char)),
     }
-    builder.push(punct('?', Spacing::Alone))
 }
 
-// `$(b $(')?)'a*`
-fn pattern<A: Allocator + Copy>(alloc: A) -> Result<TopSubtree<A>, AllocError> {
-    let mut builder = TopSubtreeBuilder::new(alloc, Delimiter::invisible_spanned(SPAN))?;
-    builder.push(punct('$', Spacing::Alone))?;
-    builder.open(DelimiterKind::Parenthesis, SPAN)?;
-    builder.push(word(alloc, "b")?)?;
-    quote_or_none(&mut builder)?;
-    if builder.open_kind().is_some() {
+// The trees, with each open group closed.
+#[tactic(auto, using(mbe_tt::proofs::Buffers::OpenGroups::closed_length))]
+fn finish<A: Allocator>(mut builder: TopSubtreeBuilder<A>) -> TopSubtree<A> {
+    'groups: while builder.open_kind().is_some() {
         builder.close(SPAN);
     }
-    builder.push(punct('\'', Spacing::Joint))?;
-    builder.push(word(alloc, "a")?)?;
-    builder.push(punct('*', Spacing::Alone))?;
-    Ok(builder.build())
+    builder.build()
+}
+
+// The trees of a text in which each char is a token.
+fn tokens_of<A: Allocator + Copy>(alloc: A, text: &str) -> Result<TopSubtree<A>, AllocError> {
+    let mut builder = TopSubtreeBuilder::new(alloc, Delimiter::invisible_spanned(SPAN))?;
+    for char in text.chars() {
+        add(alloc, &mut builder, char)?;
+    }
+    Ok(finish(builder))
 }
 
 #[test]
 fn a_quote_and_a_lifetime_pass_different_lengths(rt: HostRuntime) -> Result<(), Fail> {
-    let pattern = pattern(rt.alloc())?;
+    let pattern = tokens_of(rt.alloc(), "$(b$(')?)'a*")?;
     let argument = trees_of(rt.alloc(), 1, "b 'a b")?;
     let Some(outcome) = matched(rt.alloc(), &pattern, &argument, "")? else {
         return Err(Fail::from("the pattern is refused"));
     };
-    assert_eq!(&rt; outcome.verdict, Verdict::Ambiguous(1));
-    assert_eq!(&rt; outcome.unmatched, 3);
+    assert_eq!(rt; outcome.verdict, Verdict::Ambiguous(1));
+    assert_eq!(rt; outcome.unmatched, 3);
     Ok(())
 }
