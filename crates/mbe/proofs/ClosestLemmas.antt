@@ -229,9 +229,9 @@ module _ (g : Grammar) (style : MacroCallStyle) (argument : Forest) (rs : List R
           bindings = bound_all;
           first = one_more (λ m s. GoesBefore (put h.left k near.unmatched) (put h.bound k near.bound) k m)
               (λ m s l a. order k m near.unmatched (h.left m) near.bound (h.bound m) (put_here h.left k near.unmatched) (put_before h.left k near.unmatched m l) (put_here h.bound k near.bound)
-                  (put_before h.bound k near.bound m l) (nearer_goes closer m (h.left m) (h.bound m) (known m s l a)))
+              (put_before h.bound k near.bound m l) (nearer_goes closer m (h.left m) (h.bound m) (known m s l a)))
               (λ e. order k k near.unmatched near.unmatched near.bound near.bound (put_here h.left k near.unmatched) (put_here h.left k near.unmatched) (put_here h.bound k near.bound) (put_here h.bound k near.bound)
-                  (inr (refl, inr (refl, omega arith))));
+              (inr (refl, inr (refl, omega arith))));
         }
 
   -- the nearer of the best and one more

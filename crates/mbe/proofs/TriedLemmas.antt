@@ -34,8 +34,8 @@ module _ (g : Grammar) (r : Rule) (argument : Forest) where
         → faults env [] r.writes ≡ true → (Applies g r.style argument r → ⊥) × IsNearness g argument r near
     faulty is fits env bound count fault = (
       λ a.
-        let same : environment_of a.items ≡ env = ap environment_of (fits.1.1 a.items a.fits.1.0) ∙ sym bound in
-        true≢false (sym (ap (λ e. faults e [] r.writes) same ∙ fault) ∙ a.faultless),
+          let same : environment_of a.items ≡ env = ap environment_of (fits.1.1 a.items a.fits.1.0) ∙ sym bound in
+          true≢false (sym (ap (λ e. faults e [] r.writes) same ∙ fault) ∙ a.faultless),
       record {
         left = (v, right, left);
         bound = λ js f. count ∙ ap (λ e. min (binding_total e) (2 ^ 64 - 1)) (bound ∙ sym (ap environment_of (fits.1.1 js f.1.0)));

@@ -8,8 +8,8 @@ ghost use Rattle.mbe_tt.specs.Fragments.Grammar.{Grammar};
 ghost use Rattle.mbe_ops.specs.Views.{op_of, ops_of, separator_seen};
 ghost use Rattle.mbe_matcher.specs.Positions.{IsPosition, IsPlain, GivesSteps, GivesStepsIn, GivesStepsOver, GivesStepsFor, GivesRoundSteps, AreStepsOf, IsSkip, over_steps};
 
-use crate::fronts::{between_width, opens, token_width};
 use crate::eat::eat_fragment;
+use crate::fronts::{between_width, opens, token_width};
 use crate::position::{Outer, Position, Rounds, Steps, Waiting};
 use crate::skipping::{dots_of, skip_names};
 use crate::source::Source;

@@ -291,7 +291,7 @@ impl Numbers {
 fn random_repetitions_end_within_a_second(rt: HostRuntime) -> Result<(), Fail> {
     let second = Duration::from_secs(1);
     let mut numbers = Numbers(2);
-    for _ in 0..5_000u64 {
+    for _ in 0..1_250u64 {
         let rules = numbers.rules(rt.alloc())?;
         for _ in 0..4u64 {
             let argument = numbers.pieces(rt.alloc(), &WORDS, false)?;
