@@ -1,10 +1,7 @@
-use Rattle.std.proofs.Common.{◌≡◌, ℕ, None, Some, sym, ap, ◌∙◌, rules}
-use Rattle.mbe_tt.specs.Trees.Top.{top_group}
+use Rattle.std.proofs.Common.{None, Some, sym, ap, ◌∙◌, rules}
 use Rattle.mbe_semantics.specs.declared.macro_call_style.MacroCallStyle.TheVariants.{FnLike}
 use Rattle.mbe_grammar.specs.SampleGrammar.{sample}
-use Rattle.mbe.specs.ErrorViews.{errors_of}
 use Rattle.mbe.specs.MacroViews.{macro_of}
-use Rattle.mbe_program.specs.Expansion.{ExpandsTrees, IsRefused}
 use Rattle.mbe_program.proofs.EditionLemmas.{read_in}
 use Rattle.mbe_program.proofs.MarkLemmas.{expands_unmarked}
 use Rattle.mbe_program.proofs.program.expansion.Goals as goal
