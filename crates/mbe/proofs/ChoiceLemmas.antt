@@ -11,7 +11,12 @@ use Rattle.mbe_tt.specs.Fragments.Grammar.{Grammar}
 use Rattle.mbe_semantics.specs.declared.macro_call_style.MacroCallStyle.{MacroCallStyle}
 use Rattle.mbe_semantics.specs.Syntax.Definition.{Rule}
 use Rattle.mbe_semantics.specs.Expansion.Expansion.{Applies, FirstThatApplies, this_one, a_later_one}
-use Rattle.mbe_semantics.specs.Expansion.Answer.{NoneApplies, AreCarried, IsCarried}
+
+module _ (g : Grammar) (style : MacroCallStyle) (argument : Forest) where
+  -- no rule of these applies
+  abbrev pub NoneApplies : List Rule → Type 0
+  NoneApplies [] = Unit {0}
+  NoneApplies (r ∷ rs) = (Applies g style argument r → ⊥) × NoneApplies rs
 
 module _ (g : Grammar) (style : MacroCallStyle) (argument : Forest) where
   pub first_at : (rs : List Rule) (n : ℕ) (r : Rule) (a : Applies g style argument r) → NoneApplies g style argument (take n rs) → slice_get rs n ≡ Some r
@@ -46,6 +51,10 @@ seen_at f [] i x l e = absurd (omega (arith, l))
 seen_at f (y ∷ ys) zero x l e = ap (λ z. Some (f z)) (sym e)
 seen_at f (y ∷ ys) (suc i) x l e = seen_at f ys i x (omega arith) e
 
+pub length_seen : {X Y : Type 0} (f : X → Y) (xs : List X) → length (map f xs) ≡ length xs
+length_seen f [] = refl
+length_seen f (x ∷ xs) = ap suc (length_seen f xs)
+
 pub all_seen : {X Y : Type 0} (f : X → Y) (xs : List X) (n : ℕ) → length xs ≤ n → take n (map f xs) ≡ map f xs
 all_seen f [] n h = take-nil n
 all_seen f (x ∷ xs) zero h = absurd (omega (arith, h))
@@ -55,10 +64,3 @@ all_seen f (x ∷ xs) (suc n) h = ap (λ (ys : List _). f x ∷ ys) (all_seen f 
 pub arm_at : {E : Type 0} (r : Result ℕ E) (n : ℕ) → OkIff r (n < 2 ^ 32) n → result_ok r ≡ arm_of n
 arm_at (Ok x) n h = rw (lt-ltb n (2 ^ 32) h.0) (ap Some h.1)
 arm_at (Err e) n h = let k : 2 ^ 32 ≤ n = omega (arith, h) in rw (le-ltb n (2 ^ 32) k) refl
-
--- ---- rules that are carried
-
-pub carried_at : (rs : List Rule) (n : ℕ) (r : Rule) → AreCarried rs → slice_get rs n ≡ Some r → IsCarried r
-carried_at [] n r h e = absurd (none-some r e)
-carried_at (x ∷ rs) zero r h e = subst IsCarried (same_Some x r e) h.0
-carried_at (x ∷ rs) (suc n) r h e = carried_at rs n r h.1 e

@@ -1,23 +1,71 @@
 // The choice of the rule.
-ghost use Rattle.std.specs.Prelude.{◌≡◌, IfOk};
+ghost use Rattle.std.specs.Prelude.{◌≡◌, IfOk, Some, None, IsSome};
 ghost use Rattle.mbe_tt.specs.Trees.Top.{top_group};
-ghost use Rattle.mbe_semantics.specs.Expansion.Answer.{Answers, AreCarried, IsCarried, IsTried};
-ghost use Rattle.mbe_errors.specs.ErrorViews.{errors_of};
-ghost use Rattle.mbe_parser.specs.RuleViews.{rule_of, rules_seen};
+ghost use Rattle.mbe_semantics.specs.Expansion.Macro.{Expands, arm_of, empty_tree};
+ghost use Rattle.mbe_semantics.specs.Expansion.Error.{no_matching_rule};
 ghost use Rattle.mbe_semantics.specs.Laws.Marking.{MayMark};
+ghost use Rattle.mbe_semantics.specs.Syntax.Nullable.{Checked};
+ghost use Rattle.mbe_errors.specs.ErrorViews.{errors_of};
+ghost use Rattle.mbe_ops.specs.Views.{template_of};
+ghost use Rattle.mbe_parser.specs.RuleViews.{rule_of, rules_seen};
+ghost use Rattle.mbe.specs.Choice.{AreChecked, IsTried, is_nearer, nearer_of};
 
 use mbe_errors::error::{ExpandError, ExpandErrorKind};
 use mbe_errors::value_result::{ExpandResult, MatchedArmIndex, ValueResult};
-use mbe_matcher::matcher;
+use mbe_log::bindings::Bindings;
+use mbe_log::log::BindingLog;
+use mbe_matcher::matching::{Match, match_argument};
 use mbe_parser::rules::Rule;
 use mbe_semantics::macro_call_style::MacroCallStyle;
-use mbe_transcriber::transcriber;
+use mbe_transcriber::transcriber::transcribe;
 use mbe_tt::buffer::TopSubtree;
 use mbe_tt::grammar::FragmentGrammar;
 use mbe_tt::span::{DelimSpan, Span};
 use std::alloc::{AllocError, Allocator};
 
-// The substitution of the first rule of the style that fits and doesn't fault.
+// What is left of a rule that doesn't apply, for the case that none does.
+#[derive(Drop)]
+enum Remains<'a, A: Allocator> {
+    // The match failed: what it reports as bound, and its first error.
+    Unfit(Bindings<'a, A>, ExpandError<A>),
+    // The substitution faulted: what was written, and its first fault.
+    Faulty(TopSubtree<A>, ExpandError<A>),
+}
+
+// How near a rule came: how many trees were left, and how much was bound.
+#[derive(Clone, Copy, Drop)]
+struct Nearness {
+    unmatched: usize,
+    bound: u64,
+}
+
+impl Nearness {
+    // Fewer trees are left, or as many and more is bound.
+    fn is_nearer(self, than: Nearness) -> bool
+        ensures { result ≡ is_nearer self than }
+    {
+        self.unmatched < than.unmatched
+            || self.unmatched == than.unmatched && self.bound > than.bound
+    }
+}
+
+// A rule of the style that doesn't apply, and its place.
+#[derive(Drop)]
+struct Candidate<'a, A: Allocator> {
+    idx: usize,
+    rule: &'a Rule<A>,
+    nearness: Nearness,
+    remains: Remains<'a, A>,
+}
+
+// What one rule of the style comes to.
+#[derive(Drop)]
+enum Tried<'a, A: Allocator> {
+    Applies(TopSubtree<A>),
+    Fails(Nearness, Remains<'a, A>),
+}
+
+// The first rule that applies, else the closest one of the style.
 pub(crate) fn expand_rules<A: Allocator + Copy, G: FragmentGrammar, M: Fn(Span) -> Span + Copy>(
     alloc: A,
     grammar: &G,
@@ -27,49 +75,146 @@ pub(crate) fn expand_rules<A: Allocator + Copy, G: FragmentGrammar, M: Fn(Span) 
     call_style: MacroCallStyle,
     call_site: Span,
 ) -> Result<ExpandResult<(TopSubtree<A>, MatchedArmIndex), A>, AllocError>
-    requires { MayMark (M.pre marker) }
-    ensures { AreCarried (rules_seen rules.now) → IfOk result (λ r. Answers (G.grammar grammar.now) (M.post marker) (rules_seen rules.now) call_style
-        input.now.1 call_site (top_group r.value.0) r.value.1 (errors_of r.err)) }
+    requires checked { AreChecked (rules_seen rules.now) }
+    requires may_mark { MayMark (M.pre marker) }
+    ensures { IfOk result (λ r. Expands (G.grammar grammar.now) (M.post marker) (rules_seen rules.now)
+        call_style input.now.1 call_site (top_group r.value.0) r.value.1 (errors_of r.err)) }
 {
+    let mut nearest: Option<Candidate<'_, A>> = None;
     for (idx, rule) in rules.iter().enumerate() {
-        if let Some(tree) = apply(alloc, grammar, rule, input, marker, call_style, call_site)? {
-            return Ok(ValueResult {
-                value: (tree, u32::try_from(idx).ok()),
-                err: None,
-            });
+        if rule.style != call_style {
+            continue;
+        }
+        match try_rule(alloc, grammar, rule, input, marker, call_site)? {
+            Tried::Applies(tree) => {
+                return Ok(ValueResult {
+                    value: (tree, u32::try_from(idx).ok()),
+                    err: None,
+                });
+            }
+            Tried::Fails(nearness, remains) => {
+                let next = Candidate {
+                    idx,
+                    rule,
+                    nearness,
+                    remains,
+                };
+                nearest = Some(nearer(nearest, next));
+            }
         }
     }
+    match nearest {
+        Some(candidate) => recovered(alloc, grammar, candidate, marker, call_site),
+        None => no_rule(alloc, call_site),
+    }
+}
+
+// The next one, where it is nearer than the best of those before it.
+fn nearer<'a, A: Allocator>(
+    best: Option<Candidate<'a, A>>,
+    next: Candidate<'a, A>,
+) -> Candidate<'a, A>
+    ensures { result ≡ nearer_of best.entry next.entry }
+{
+    let Some(best) = best else {
+        return next;
+    };
+    if next.nearness.is_nearer(best.nearness) {
+        next
+    } else {
+        best
+    }
+}
+
+// What a rule comes to.
+fn try_rule<'a, A: Allocator + Copy, G: FragmentGrammar, M: Fn(Span) -> Span + Copy>(
+    alloc: A,
+    grammar: &G,
+    rule: &'a Rule<A>,
+    input: &'a TopSubtree<A>,
+    marker: M,
+    call_site: Span,
+) -> Result<Tried<'a, A>, AllocError>
+    requires checked { Checked (template_of rule.now.lhs) }
+    requires may_mark { MayMark (M.pre marker) }
+    ensures { IfOk result (IsTried (G.grammar grammar.now) (M.post marker) call_site input.now.1
+        (rule_of rule.now)) }
+{
+    let mut log = BindingLog::new(alloc);
+    let argument = input.iter().remaining();
+    let around = input.top_subtree().delimiter.delim_span();
+    let matched = match_argument(alloc, grammar, &rule.lhs, argument, around, &mut log)?;
+    let Match {
+        verdict: _,
+        unmatched,
+        bindings,
+        err,
+    } = matched;
+    let bindings = log.build(&bindings)?;
+    let nearness = Nearness {
+        unmatched,
+        bound: bindings.count(),
+    };
+    if let Some(err) = err {
+        return Ok(Tried::Fails(nearness, Remains::Unfit(bindings, err)));
+    }
+    let written = transcribe(alloc, grammar, &rule.rhs, &bindings, marker, call_site)?;
+    let ValueResult { value, err } = written;
+    match err {
+        Some(fault) => Ok(Tried::Fails(nearness, Remains::Faulty(value, fault))),
+        None => Ok(Tried::Applies(value)),
+    }
+}
+
+// What the closest rule gives, with its error.
+fn recovered<A: Allocator + Copy, G: FragmentGrammar, M: Fn(Span) -> Span + Copy>(
+    alloc: A,
+    grammar: &G,
+    candidate: Candidate<'_, A>,
+    marker: M,
+    call_site: Span,
+) -> Result<ExpandResult<(TopSubtree<A>, MatchedArmIndex), A>, AllocError>
+    requires { MayMark (M.pre marker) }
+    ensures index { IfOk result (λ r. r.value.1 ≡ arm_of candidate.entry.idx) }
+    ensures err { IfOk result (λ r. IsSome (errors_of r.err)) }
+{
+    let Candidate {
+        idx,
+        rule,
+        nearness: _,
+        remains,
+    } = candidate;
+    let index = u32::try_from(idx).ok();
+    match remains {
+        Remains::Faulty(tree, err) => Ok(ValueResult {
+            value: (tree, index),
+            err: Some(err),
+        }),
+        Remains::Unfit(bindings, err) => {
+            let written = transcribe(alloc, grammar, &rule.rhs, &bindings, marker, call_site)?;
+            let ValueResult { value, err: _ } = written;
+            Ok(ValueResult {
+                value: (value, index),
+                err: Some(err),
+            })
+        }
+    }
+}
+
+// No rule is of the style.
+fn no_rule<A: Allocator + Copy>(
+    alloc: A,
+    call_site: Span,
+) -> Result<ExpandResult<(TopSubtree<A>, MatchedArmIndex), A>, AllocError>
+    ensures tree { IfOk result (λ r. top_group r.value.0 ≡ empty_tree call_site) }
+    ensures index { IfOk result (λ r. r.value.1 ≡ None) }
+    ensures err { IfOk result (λ r. errors_of r.err
+        ≡ Some (record { span = call_site; kind = no_matching_rule })) }
+{
     let error = ExpandError::new(alloc, call_site, ExpandErrorKind::NoMatchingRule)?;
     let empty = TopSubtree::empty(alloc, DelimSpan::from_single(call_site))?;
     Ok(ValueResult {
         value: (empty, None),
         err: Some(error),
     })
-}
-
-// The substitution of the rule, where it is of the style and fits. A rule that isn't carried is passed over.
-fn apply<A: Allocator + Copy, G: FragmentGrammar, M: Fn(Span) -> Span + Copy>(
-    alloc: A,
-    grammar: &G,
-    rule: &Rule<A>,
-    input: &TopSubtree<A>,
-    marker: M,
-    call_style: MacroCallStyle,
-    call_site: Span,
-) -> Result<Option<TopSubtree<A>>, AllocError>
-    requires { MayMark (M.pre marker) }
-    ensures { IsCarried (rule_of rule.now) → IfOk result (λ tried. IsTried (G.grammar grammar.now) call_style input.now.1 (M.post marker) call_site
-        (rule_of rule.now) tried) }
-{
-    if rule.style != call_style {
-        return Ok(None);
-    }
-    let Some(bindings) = matcher::match_(alloc, grammar, &rule.lhs, input.iter())? else {
-        return Ok(None);
-    };
-    let written = transcriber::transcribe(alloc, grammar, &rule.rhs, &bindings, marker, call_site)?;
-    match written.err {
-        Some(_) => Ok(None),
-        None => Ok(Some(written.value)),
-    }
 }

@@ -4,11 +4,12 @@ ghost use Rattle.mbe_semantics.specs.Syntax.Definition.{with_refusal};
 ghost use Rattle.mbe_errors.specs.ErrorViews.{fault_of};
 ghost use Rattle.mbe_parser.specs.RuleViews.{rules_seen};
 ghost use Rattle.mbe_errors.specs.ErrorViews.{parse_error_of, errors_of};
-ghost use Rattle.mbe_semantics.specs.Expansion.Answer.{Answers, AreCarried};
-ghost use Rattle.mbe_semantics.specs.Expansion.Macro.{style_bits, TellsRefusal, IsChecked};
+ghost use Rattle.mbe_semantics.specs.Expansion.Macro.{style_bits, TellsRefusal, IsChecked, Expands};
 ghost use Rattle.mbe.specs.Styles.{bits_of};
 ghost use Rattle.mbe_tt.specs.Trees.Top.{top_group};
 ghost use Rattle.mbe_semantics.specs.Laws.Marking.{MayMark, MayAsk};
+
+mod equality;
 
 use crate::expander::expand_rules;
 use crate::macro_call_style::MacroCallStyles;
@@ -27,6 +28,7 @@ use std::alloc::{AllocError, Allocator, Global};
 ///
 /// In contracts it is seen by `macro_of`, as a list of rules and a fault or none.
 #[derive(Drop)]
+#[derive_where(Debug)]
 pub struct DeclarativeMacro<A: Allocator = Global> {
     rules: Vec<Rule<A>, A>,
     err: Option<ParseError<A>>,
@@ -131,7 +133,7 @@ impl<A: Allocator + Copy> DeclarativeMacro<A> {
         Ok(DeclarativeMacro { rules, err })
     }
 
-    /// Expands a call by the first rule that is of the call's style and fits the whole argument.
+    /// Expands a call by the first rule that is of the call's style, fits the whole argument and substitutes without fault.
     ///
     /// It asks that no pattern was refused: `err` isn't `RepetitionEmptyTokenTree`, or there is no rule.
     ///
@@ -139,13 +141,17 @@ impl<A: Allocator + Copy> DeclarativeMacro<A> {
     /// `marker` answers the span that a token of the template is written with, once for each; the fragments that variables
     /// took keep their spans. `call_site` is the span of the group around the expansion.
     ///
-    /// The answer is the expansion as a token tree, with the place of its rule among all rules of the definition, where it
-    /// fits 32 bits. Where no rule answers it is an empty tree, no place, and `NoMatchingRule` at the call site. The only
-    /// failure is want of memory, here or in the grammar; the macro and the argument are as they were in each case.
+    /// The result is the expansion as a token tree, with the index of its rule among all rules of the definition, where it
+    /// fits 32 bits. A rule fits where it reads the whole argument in exactly one way and meets no local ambiguity.
+    ///
+    /// Where no rule applies there is an error beside the tree. With a rule of the style, the index is that of the closest
+    /// one: the earliest of those with fewest unmatched trees and, among these, most bindings; the tree is its substitution
+    /// under the bindings that its match reports, and the error is the match's first one, or the substitution's. Without
+    /// one, the tree is empty, there is no index, and the error is `NoMatchingRule` at the call site. The only failure is
+    /// `AllocError`, if out of memory here or in the grammar; the macro and the argument are as they were in each case.
     ///
     /// The order of trying is rust-analyzer's: a rule that fits but whose substitution faults doesn't stop the search, as
-    /// it does in the Rust Reference. A rule with a repetition in its pattern is passed over as one that doesn't fit, since
-    /// these aren't matched yet; every template is written.
+    /// it does in the Rust Reference.
     pub fn expand<G: FragmentGrammar, M: Fn(Span) -> Span + Copy>(
         &self,
         alloc: A,
@@ -157,8 +163,9 @@ impl<A: Allocator + Copy> DeclarativeMacro<A> {
     ) -> Result<ExpandResult<(TopSubtree<A>, MatchedArmIndex), A>, AllocError>
         requires checked { IsChecked (macro_of self.now) }
         requires may_mark { MayMark (M.pre marker) }
-        ensures { AreCarried (macro_of self.now).rules → IfOk result (λ r. Answers (G.grammar grammar.now) (M.post marker) (macro_of self.now).rules
-            call_style tt.now.1 call_site (top_group r.value.0) r.value.1 (errors_of r.err)) }
+        ensures expands { IfOk result (λ r. Expands (G.grammar grammar.now) (M.post marker)
+            (macro_of self.now).rules call_style tt.now.1 call_site
+            (top_group r.value.0) r.value.1 (errors_of r.err)) }
     {
         expand_rules(
             alloc,

@@ -7,6 +7,7 @@ ghost use Rattle.mbe_errors.specs.ErrorViews.{parse_error_of, kind_of, error_of,
 
 use mbe_tt::span::Span;
 use std::alloc::{AllocError, AllocFailed, Allocator, Global};
+use std::error::Error;
 use std::fmt;
 use std::rc::Rc;
 
@@ -205,6 +206,26 @@ impl<A: Allocator> fmt::Display for ParseError<A> {
     }
 }
 
+impl<A: Allocator + Copy> ExpandErrorKind<A> {
+    /// An equal copy, or out of memory.
+    pub fn try_clone(&self, alloc: A) -> Result<ExpandErrorKind<A>, AllocError>
+        ensures { IfOk result (λ copy. kind_of copy ≡ kind_of self.now) }
+    {
+        Ok(match self {
+            ExpandErrorKind::BindingError(text) => {
+                ExpandErrorKind::BindingError(String::from_str(alloc, text.as_str())?)
+            }
+            ExpandErrorKind::UnresolvedBinding(name) => {
+                ExpandErrorKind::UnresolvedBinding(String::from_str(alloc, name.as_str())?)
+            }
+            ExpandErrorKind::LeftoverTokens => ExpandErrorKind::LeftoverTokens,
+            ExpandErrorKind::LimitExceeded => ExpandErrorKind::LimitExceeded,
+            ExpandErrorKind::NoMatchingRule => ExpandErrorKind::NoMatchingRule,
+            ExpandErrorKind::UnexpectedToken => ExpandErrorKind::UnexpectedToken,
+        })
+    }
+}
+
 impl<A: Allocator> ExpandError<A> {
     pub fn new(alloc: A, span: Span, kind: ExpandErrorKind<A>) -> Result<ExpandError<A>, AllocError>
         ensures { IfOk result (λ e. error_of e ≡ record { span = span; kind = kind_of kind }) }
@@ -252,3 +273,11 @@ impl fmt::Display for CountError {
         }
     }
 }
+
+impl<A: Allocator> Error for ParseError<A> {}
+
+impl<A: Allocator> Error for ExpandError<A> {}
+
+impl<A: Allocator> Error for ExpandErrorKind<A> {}
+
+impl Error for CountError {}

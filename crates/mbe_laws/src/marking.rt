@@ -75,10 +75,10 @@ pub fn one_expansion<F: Fn(Span) -> Span + Copy + Drop>(marker: F)
     let _ = marker;
 }
 
-/// The expansion theorem from three trees. Of the trees of a definition, those of an argument, and an answer that the
-/// clauses of `parse_macro_rules` and `expand` allow: it has no error exactly when some rule that the grammar of definitions
-/// reads from the definition is of the style and applies to the argument. Then it names the first such rule, and the tree is
-/// that rule's substitution. This holds where all rules are carried.
+/// The expansion theorem from three trees. Of the trees of a definition, those of an argument, and a result that the
+/// clauses of `parse_macro_rules` or `parse_macro2`, and of `expand` allow: it has no error exactly when some rule that the
+/// grammar of definitions reads from the definition is of the style and applies to the argument. Then it names the first
+/// such rule, and the tree is that rule's substitution. With an error it names the closest rule of the style, if there is one.
 pub fn expands_from_trees<
     E: Fn(SyntaxContext) -> Edition + Copy + Drop,
     M: Fn(Span) -> Span + Copy + Drop,

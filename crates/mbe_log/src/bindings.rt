@@ -1,11 +1,12 @@
 // What the names of a match are bound to.
-ghost use Rattle.std.specs.Prelude.{◌≡◌, ◌+◌, [], length, map, OnOk, OnErr, option_map};
+ghost use Rattle.std.specs.Prelude.{◌≡◌, ◌-◌, ◌^◌, min, [], length, map, OnOk, OnErr, option_map};
 ghost use Rattle.indexmap.specs.IndexMap.{index_map_len};
-ghost use Rattle.mbe_semantics.specs.Bindings.Environment.{add_value, set_value, value_of};
+ghost use Rattle.mbe_semantics.specs.Bindings.Environment.{add_value, binding_total, set_value, value_of};
 ghost use Rattle.mbe_semantics.specs.Bindings.Account.{add_round_in, filled, grown_in};
 ghost use Rattle.mbe_log.specs.Growing.{grown_value};
 ghost use Rattle.mbe_log.specs.BindingViews.{all_values, bound_by, value_seen};
 
+use crate::counting::binding_count;
 use crate::fragment::Fragment;
 use indexmap::IndexMap;
 use mbe_semantics::kinds::MetaVarKind;
@@ -75,6 +76,17 @@ impl<'a, A: Allocator> Bindings<'a, A> {
         ensures { result ≡ length (bound_by self.now) }
     {
         self.inner.len()
+    }
+
+    /// The number of fragments, skipped and missing ones, inside lists too; `u64::MAX` if there are more.
+    pub fn count(&self) -> u64
+        ensures { result ≡ min (binding_total (bound_by self.now)) (2 ^ 64 - 1) }
+    {
+        let mut count: u64 = 0;
+        for (_name, binding) in &self.inner {
+            count = count.saturating_add(binding_count(binding));
+        }
+        count
     }
 }
 
@@ -174,7 +186,8 @@ fn push_round<'a, A: Allocator + Copy>(
     value: Binding<'a, A>,
 ) -> Result<(), AllocError>
     ensures { OnOk result (all_values (map value_seen list.new.items)
-        ≡ add_value (filled number (all_values (map value_seen list.old.items))) (value_seen value.entry)) }
+        ≡ add_value (filled number (all_values (map value_seen list.old.items)))
+        (value_seen value.entry)) }
 {
     while list.len() < number {
         list.push(Binding::Nested(Vec::new(alloc)))?;

@@ -1,6 +1,8 @@
 // A list that may begin with the first entries of another.
-ghost use Rattle.std.specs.Prelude.{◌≡◌, ◌↔◌, IsTrue, ◌<◌, [], ◌∷◌, ◌++◌, length, slice_get, Some, None, IfOk, OnOk, OnErr};
-ghost use Rattle.mbe_log.specs.Chain.{chain_len, link_to, link_in, own_in, IsChained, IsWithin, IsExtended, ArePlaces, places_down};
+ghost use Rattle.std.specs.Prelude.{◌≡◌, ◌↔◌, IsTrue, ◌<◌, [], ◌∷◌, ◌++◌, length, slice_get, Some};
+ghost use Rattle.std.specs.Prelude.{None, IfOk, OnOk, OnErr};
+ghost use Rattle.mbe_log.specs.Chain.{chain_len, link_to, link_in, own_in, IsChained, IsWithin};
+ghost use Rattle.mbe_log.specs.Chain.{IsExtended, ArePlaces, places_down};
 
 use mbe_semantics::log::Part;
 use std::alloc::{AllocError, Allocator, Global};
@@ -106,7 +108,8 @@ pub(crate) fn extend<T: Drop, A: Allocator + Copy>(
     entry: T,
 ) -> Result<Part, AllocError>
     requires { IsWithin lists.old.items part }
-    ensures ok { IfOk result (λ longer. IsExtended lists.old.items lists.new.items part longer entry) }
+    ensures ok { IfOk result (λ longer.
+        IsExtended lists.old.items lists.new.items part longer entry) }
     ensures err { OnErr result (lists.new.items ≡ lists.old.items) }
 {
     if part.first < lists[part.list].len() {

@@ -16,12 +16,20 @@
 //
 // Building follows the links of a list by a loop, and recurses only into nested commands.
 ghost use Rattle.std.specs.Prelude.{◌≡◌, ◌↔◌, ◌≤◌, [], IsTrue, IfOk, OnOk, OnErr};
-ghost use Rattle.mbe_semantics.specs.Bindings.Account.{Account, Commands, CommandRounds, IsLive, IsAccount, no_account, no_lists, pushed, pushed_nested, pushed_default, run, run_command, run_rounds, no_commands, no_command_rounds, command_round, PartGives, PartGivesRounds, Command as Written, HasOneListMore};
-ghost use Rattle.mbe_log.specs.Shared.{IsGiven, IsChanged, IsAtEnd, WritesOne, WritesRound, current_len, finished_len, IsPlain};
+ghost use Rattle.mbe_semantics.specs.Bindings.Account.{Account, Commands, CommandRounds, IsLive};
+ghost use Rattle.mbe_semantics.specs.Bindings.Account.{IsAccount, no_account, no_lists, pushed};
+ghost use Rattle.mbe_semantics.specs.Bindings.Account.{pushed_nested, pushed_default, run};
+ghost use Rattle.mbe_semantics.specs.Bindings.Account.{run_command, run_rounds, no_commands};
+ghost use Rattle.mbe_semantics.specs.Bindings.Account.{no_command_rounds, command_round, PartGives};
+ghost use Rattle.mbe_semantics.specs.Bindings.Account.{PartGivesRounds, Command as Written};
+ghost use Rattle.mbe_semantics.specs.Bindings.Account.{HasOneListMore};
+ghost use Rattle.mbe_log.specs.Shared.{IsGiven, IsChanged, IsAtEnd, WritesOne, WritesRound};
+ghost use Rattle.mbe_log.specs.Shared.{current_len, finished_len, IsPlain};
 ghost use Rattle.mbe_log.specs.BindingViews.{bound_by};
 ghost use Rattle.mbe_log.specs.Chain.{IsChained};
 ghost use Rattle.mbe_log.specs.Entries.{entry_seen, log_of};
-ghost use Rattle.mbe_log.specs.Sound.{GivesCommand, IsPartGrounded, IsCommandGrounded, AreRoundsGrounded};
+ghost use Rattle.mbe_log.specs.Sound.{GivesCommand, IsPartGrounded, IsCommandGrounded};
+ghost use Rattle.mbe_log.specs.Sound.{AreRoundsGrounded};
 ghost use Rattle.mbe_log.specs.BindingViews.{fragment_seen};
 
 use crate::bindings::{Binding, Bindings};
@@ -330,7 +338,8 @@ impl<'a, A: Allocator> BindingLog<'a, A> {
         ensures current { result.0 ≡ handle.now.current.first }
         ensures finished { result.1 ≡ handle.now.finished.first }
         ensures lengths { IsAtEnd self.now handle.now
-            → (result.0 ≡ current_len self.now handle.now) × (result.1 ≡ finished_len self.now handle.now) }
+            → (result.0 ≡ current_len self.now handle.now)
+            × (result.1 ≡ finished_len self.now handle.now) }
         ensures account { (a : Account) × IsAccount self.now handle.now a }
     {
         let _ = &self.alloc;
@@ -354,8 +363,8 @@ fn build_part<'a, A: Allocator + Copy>(
     requires links { IsChained commands.now }
     requires round_links { IsChained rounds.now }
     requires grounded { IsPartGrounded (log_of commands.now rounds.now) part depth }
-    ensures { IfOk result (λ b. (cs : Commands) → PartGives (log_of commands.now rounds.now) no_commands part cs
-        → bound_by b ≡ run cs []) }
+    ensures { IfOk result (λ b. (cs : Commands)
+        → PartGives (log_of commands.now rounds.now) no_commands part cs → bound_by b ≡ run cs []) }
 {
     let mut bindings = Bindings::new(alloc);
     let found = places(alloc, commands, part)?;
@@ -378,8 +387,10 @@ fn bind_command<'a, A: Allocator + Copy>(
 ) -> Result<(), AllocError>
     requires links { IsChained commands.now }
     requires round_links { IsChained rounds.now }
-    requires grounded { IsCommandGrounded (log_of commands.now rounds.now) (entry_seen command.now) depth }
-    ensures { OnOk result ((c : Written) → GivesCommand (log_of commands.now rounds.now) (entry_seen command.now) c
+    requires grounded { IsCommandGrounded (log_of commands.now rounds.now)
+        (entry_seen command.now) depth }
+    ensures { OnOk result ((c : Written)
+        → GivesCommand (log_of commands.now rounds.now) (entry_seen command.now) c
         → bound_by bindings.new ≡ run_command c (bound_by bindings.old)) }
 {
     match command {
@@ -419,7 +430,8 @@ fn bind_rounds<'a, A: Allocator + Copy>(
     requires grounded { AreRoundsGrounded (log_of commands.now rounds.now) finished last depth }
     ensures { OnOk result ((rs : CommandRounds) (ds : Commands)
         → PartGivesRounds (log_of commands.now rounds.now) no_command_rounds finished rs
-        → PartGives (log_of commands.now rounds.now) no_commands last ds → bound_by bindings.new ≡ run_rounds (command_round rs ds) (bound_by bindings.old)) }
+        → PartGives (log_of commands.now rounds.now) no_commands last ds
+        → bound_by bindings.new ≡ run_rounds (command_round rs ds) (bound_by bindings.old)) }
 {
     let found = places(alloc, rounds, finished)?;
     for (number, place) in found.iter().enumerate() {

@@ -1,4 +1,11 @@
-pub mod BindingLemmas
 pub mod WholeFronts
-pub mod PlainMatching
-pub mod PlainReadings
+pub mod Keeping
+pub mod Sources
+pub mod FrontLemmas
+pub mod Widths
+pub mod SkipLemmas
+pub mod StepLemmas
+pub mod Counting
+pub mod Settling
+pub mod MatchEnds
+pub mod Reporting

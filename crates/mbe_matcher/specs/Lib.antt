@@ -1,2 +1,6 @@
-pub mod Matching
-pub mod Delimited
+pub mod Fronts
+pub mod Rewriting
+pub mod Positions
+pub mod Matched
+pub mod Reports
+pub mod Counts

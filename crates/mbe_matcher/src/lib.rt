@@ -1,6 +1,15 @@
 // Matches arguments against patterns. A layer of `mbe`: use that crate.
 #![tactic(auto)]
 
-pub mod delimited;
+mod counts;
+mod eat;
 pub mod fragment;
-pub mod matcher;
+mod fronts;
+pub mod matching;
+mod places;
+mod position;
+mod report;
+mod settle;
+mod skipping;
+mod source;
+mod steps;

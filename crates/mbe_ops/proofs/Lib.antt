@@ -1,2 +1,3 @@
+pub mod EqualityLemmas
 pub mod Fragments
 pub mod OpViews

@@ -1,5 +1,5 @@
 -- Each op of the code, as the op that it is.
-use Rattle.std.proofs.Common.{◌≡◌, ℕ, List, map, Option, Vec, rules}
+use Rattle.std.proofs.Common.{◌≡◌, ℕ, List, map, Option, Vec, ap, sym, ◌∙◌, rules}
 use Rattle.std.specs.Prelude.{option_map}
 use Rattle.arrayvec.specs.ArrayVec.{ArrayVec}
 use Rattle.mbe_tt.specs.declared.span.Span.{Span}
@@ -74,3 +74,25 @@ pub ruleset views = (
 -- a group of the code, whose ops are in sight
 pub view-open : {A : Type 0} (t : MetaTemplate-F A (code.Op A) (Unit {0})) (d : Delimiter) → op_of {A = A} (views_of.Subtree t d) ≡ ops.group d (ops_of t.0.items)
 view-open t d = search (rules, the_lemmas)
+
+-- the same of a repetition
+pub view-open_repeat : {A : Type 0} (t : MetaTemplate-F A (code.Op A) (Unit {0})) (kind : RepeatKind) (s : Option (Separator A))
+    → op_of {A = A} (Repeat t kind s) ≡ ops.repetition (ops_of t.0.items) (option_map separator_seen s) kind
+view-open_repeat t kind s = search (rules, the_lemmas)
+
+-- ---- copies
+
+-- the copy of a group with a copy of its body
+pub copied_group : {A : Type 0} (v : Vec (code.Op A) A) (t : MetaTemplate-F A (code.Op A) (Unit {0})) (xs : List (code.Op A)) (d : Delimiter)
+    → ops_of v.items ≡ ops_of xs → xs ≡ t.0.items → op_of (Subtree (roll-MetaTemplate A (record { 0 = v })) d) ≡ op_of {A = A} (views_of.Subtree t d)
+copied_group {A} v t xs d e f =
+    view-subtree (roll-MetaTemplate A (record { 0 = v })) d ∙ (ap (ops.group d) (view-template v ∙ (e ∙ ap ops_of f)) ∙ sym (view-open t d))
+
+-- the copy of a repetition with copies of its body and of its separator
+pub copied_repetition : {A : Type 0} (v : Vec (code.Op A) A) (t : MetaTemplate-F A (code.Op A) (Unit {0})) (xs : List (code.Op A)) (kind : RepeatKind)
+    (copy s : Option (Separator A)) → ops_of v.items ≡ ops_of xs → xs ≡ t.0.items → option_map separator_seen copy ≡ option_map separator_seen s
+    → op_of (Repeat (roll-MetaTemplate A (record { 0 = v })) kind copy) ≡ op_of {A = A} (views_of.Repeat t kind s)
+copied_repetition {A} v t xs kind copy s e f h =
+    view-repeat (roll-MetaTemplate A (record { 0 = v })) kind copy
+    ∙ (ap (λ os. ops.repetition os (option_map separator_seen copy) kind) (view-template v ∙ (e ∙ ap ops_of f))
+    ∙ (ap (λ between. ops.repetition (ops_of t.0.items) between kind) h ∙ sym (view-open_repeat t kind s)))

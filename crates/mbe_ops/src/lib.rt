@@ -1,4 +1,8 @@
 // What patterns and templates are made of. A layer of `mbe`: use that crate.
 #![tactic(auto)]
 
+mod copies;
+mod equal;
 pub mod ops;
+
+pub use crate::equal::same_templates;

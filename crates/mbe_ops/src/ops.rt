@@ -14,6 +14,7 @@ use std::alloc::{Allocator, Global};
 
 /// What stands between two rounds of a repetition.
 #[derive(Drop)]
+#[derive_where(Debug)]
 pub enum Separator<A: Allocator = Global> {
     Literal(Literal<A>),
     Ident(Ident<A>),
@@ -42,7 +43,7 @@ impl<A: Allocator> Eq for Separator<A> {
 }
 
 // Separators of one kind are the same by their texts alone (as in rust-analyzer).
-fn same_separator<A: Allocator>(one: &Separator<A>, two: &Separator<A>) -> bool
+pub(crate) fn same_separator<A: Allocator>(one: &Separator<A>, two: &Separator<A>) -> bool
     ensures { IsTrue result ↔ IsSameSeparator (separator_seen one.now) (separator_seen two.now) }
 {
     match (one, two) {
@@ -71,6 +72,7 @@ pub fn same_chars(one: &[Punct], two: &[Punct]) -> bool
 
 /// An element of `${concat(..)}`.
 #[derive(Drop)]
+#[derive_where(Debug)]
 pub enum ConcatMetaVarExprElem<A: Allocator = Global> {
     /// Without a `$`, so it stands for itself.
     Ident(Ident<A>),
@@ -82,11 +84,13 @@ pub enum ConcatMetaVarExprElem<A: Allocator = Global> {
 /// A pattern or a template.
 #[cycle(ops)]
 #[derive(Drop)]
+#[derive_where(Debug)]
 pub struct MetaTemplate<A: Allocator = Global>(pub Vec<Op<A>, A>);
 
 /// What a pattern or a template is made of.
 #[cycle(ops)]
 #[derive(Drop)]
+#[derive_where(Debug)]
 pub enum Op<A: Allocator = Global> {
     Var {
         name: Symbol<A>,

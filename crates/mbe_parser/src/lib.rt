@@ -1,6 +1,7 @@
 // Reads definitions. A layer of `mbe`: use that crate.
 #![tactic(auto)]
 
+pub mod equality;
 pub mod parser;
 pub mod rules;
 pub mod validate;

@@ -19,6 +19,7 @@ use std::alloc::{AllocError, Allocator, Global};
 
 /// A rule of a definition.
 #[derive(Drop)]
+#[derive_where(Debug)]
 pub struct Rule<A: Allocator = Global> {
     pub style: MacroCallStyle,
     pub lhs: MetaTemplate<A>,

@@ -1,7 +1,7 @@
-// The check of empty repetitions.
-ghost use Rattle.std.specs.Prelude.{◌≡◌};
+// The check of empty repetitions: one pass, from the inside out.
+ghost use Rattle.std.specs.Prelude.{◌≡◌, not, ◌&&◌, ◌||◌};
 ghost use Rattle.std.specs.List.{list_any};
-ghost use Rattle.mbe_semantics.specs.Syntax.Nullable.{is_nullable_op, is_nullable, is_refused_op, is_refused};
+ghost use Rattle.mbe_semantics.specs.Syntax.Nullable.{is_nullable_op, is_nullable, is_refused_op, is_refused, may_skip, is_vis};
 ghost use Rattle.mbe_ops.specs.Views.{op_of, ops_of};
 ghost use Rattle.mbe_parser.specs.RuleViews.{rules_seen};
 
@@ -15,63 +15,93 @@ pub fn refuses_some<A: Allocator>(rules: &[Rule<A>]) -> bool
     ensures { result ≡ list_any (λ r. is_refused r.reads) (rules_seen rules.now) }
 {
     for rule in rules {
-        if refuses(&rule.lhs.0) {
+        if checked(&rule.lhs.0).refused {
             return true;
         }
     }
     false
 }
 
+// What the check has found of some ops.
+#[derive(Clone, Copy, Debug)]
+struct Found {
+    // They can read nothing.
+    empty: bool,
+    // A repetition among them, at any depth, has no separator and a body that can read nothing.
+    refused: bool,
+}
+
+impl Found {
+    // Of these ops and of others after them.
+    fn followed_by(self, next: Found) -> Found
+        ensures empty { result.empty ≡ (self.empty && next.empty) }
+        ensures refused { result.refused ≡ (self.refused || next.refused) }
+    {
+        Found {
+            empty: self.empty && next.empty,
+            refused: self.refused || next.refused,
+        }
+    }
+
+    // Of a repetition with this body.
+    fn repeated(self, kind: RepeatKind, separated: bool) -> Found
+        ensures empty { result.empty ≡ may_skip kind self.empty }
+        ensures refused { result.refused ≡ ((not separated && self.empty) || self.refused) }
+    {
+        let empty = match kind {
+            RepeatKind::OneOrMore => self.empty,
+            RepeatKind::ZeroOrMore | RepeatKind::ZeroOrOne => true,
+        };
+        Found {
+            empty,
+            refused: (!separated && self.empty) || self.refused,
+        }
+    }
+}
+
 #[cycle(refusal)]
-fn refuses<A: Allocator>(pattern: &[Op<A>]) -> bool
-    ensures { result ≡ is_refused (ops_of pattern.now) }
+fn checked<A: Allocator>(ops: &[Op<A>]) -> Found
+    ensures empty { result.empty ≡ is_nullable (ops_of ops.now) }
+    ensures refused { result.refused ≡ is_refused (ops_of ops.now) }
 {
-    for op in pattern {
-        if refuses_op(op) {
-            return true;
-        }
+    let mut found = Found {
+        empty: true,
+        refused: false,
+    };
+    for op in ops {
+        found = found.followed_by(checked_op(op));
     }
-    false
+    found
 }
 
 #[cycle(refusal)]
-fn refuses_op<A: Allocator>(op: &Op<A>) -> bool
-    ensures { result ≡ is_refused_op (op_of op.now) }
+fn checked_op<A: Allocator>(op: &Op<A>) -> Found
+    ensures empty { result.empty ≡ is_nullable_op (op_of op.now) }
+    ensures refused { result.refused ≡ is_refused_op (op_of op.now) }
 {
     match op {
-        Op::Subtree { tokens, .. } => refuses(&tokens.0),
+        Op::Var { kind, .. } => Found {
+            empty: may_take_nothing(*kind),
+            refused: false,
+        },
+        Op::Subtree { tokens, .. } => Found {
+            empty: false,
+            refused: checked(&tokens.0).refused,
+        },
         Op::Repeat {
             tokens,
+            kind,
             separator,
-            ..
-        } => (separator.is_none() && is_nullable(&tokens.0)) || refuses(&tokens.0),
-        _ => false,
-    }
-}
-
-// Whether the ops can read nothing.
-#[cycle(nullable)]
-fn is_nullable<A: Allocator>(ops: &[Op<A>]) -> bool
-    ensures { result ≡ is_nullable (ops_of ops.now) }
-{
-    for op in ops {
-        if !is_nullable_op(op) {
-            return false;
-        }
-    }
-    true
-}
-
-#[cycle(nullable)]
-fn is_nullable_op<A: Allocator>(op: &Op<A>) -> bool
-    ensures { result ≡ is_nullable_op (op_of op.now) }
-{
-    match op {
-        Op::Var { kind, .. } => matches!(kind, Some(MetaVarKind::Vis)),
-        Op::Repeat { tokens, kind, .. } => match kind {
-            RepeatKind::OneOrMore => is_nullable(&tokens.0),
-            RepeatKind::ZeroOrMore | RepeatKind::ZeroOrOne => true,
+        } => checked(&tokens.0).repeated(*kind, separator.is_some()),
+        _ => Found {
+            empty: false,
+            refused: false,
         },
-        _ => false,
     }
+}
+
+fn may_take_nothing(kind: Option<MetaVarKind>) -> bool
+    ensures { result ≡ is_vis kind }
+{
+    matches!(kind, Some(MetaVarKind::Vis))
 }

@@ -4,4 +4,14 @@
 #[cfg(test)]
 mod expansions;
 #[cfg(test)]
+mod large;
+#[cfg(test)]
+mod memory;
+#[cfg(test)]
+mod random;
+#[cfg(test)]
+mod reports;
+#[cfg(test)]
+mod rows;
+#[cfg(test)]
 mod runs;

@@ -1,16 +1,10 @@
 // What no clause says: printed text, whole runs, and what is done where memory or a write fails.
-ghost use Rattle.std.specs.Prelude.{◌<◌};
-
-use mbe_grammar::SampleGrammar;
 use mbe_program::arguments::options;
 use mbe_program::command::started;
 use mbe_program::program::{Outcome, run};
 use mbe_program::reports::Report;
 use mbe_program::settings::Options;
-use mbe_text::lexer::lex;
-use mbe_tt::grammar::{FragmentGrammar, PrefixEntryPoint};
 use mbe_tt::span::Edition;
-use refusing::Refusing;
 use std::alloc::Global;
 use std::io;
 use std::io::Write;
@@ -54,11 +48,16 @@ SUBTREE $$ 1@0..20 1@0..20
     PUNCH   , [alone] 0@94..95
 ";
 
-// What a run writes, and its status.
-fn ran(rt: &impl Abort, alloc: Global, def: &str, arg: &str) -> Result<(String, u8), Fail> {
+/// What a run writes, and its status.
+pub fn ran(
+    rt: &impl Abort,
+    alloc: Global,
+    (def, arg): (&str, &str),
+    edition: Edition,
+) -> Result<(String, u8), Fail> {
     assert!(rt; def.len() < 1_000_000 && arg.len() < 1_000_000);
     let mut out = Vec::new(alloc);
-    let outcome = run(alloc, def, arg, Edition::Edition2024, &mut out);
+    let outcome = run(alloc, def, arg, edition, &mut out);
     Ok((String::from_utf8(out)?, outcome.status()))
 }
 
@@ -69,7 +68,7 @@ pub fn assert_expands(
     want: &str,
 ) -> Result<(), Fail> {
     let (def, arg) = texts;
-    let (output, status) = ran(rt, alloc, def, arg)?;
+    let (output, status) = ran(rt, alloc, texts, Edition::Edition2024)?;
     assert_eq!(rt; output.as_str(), want, "{def} on {arg}");
     assert_eq!(rt; status, 0, "{def} on {arg}");
     Ok(())
@@ -124,14 +123,22 @@ fn expansions_are_printed(rt: HostRuntime) -> Result<(), Fail> {
     Ok(())
 }
 
+// Definitions without a rule of the style of the call.
+static NO_RULES: [&str; 3] = [
+    "",
+    "attr() (c) => {b}",
+    "derive() (c) => {b}; attr() (c) => {b}",
+];
+
 #[test]
-fn no_rule_fits(rt: HostRuntime) -> Result<(), Fail> {
-    let (output, status) = ran(&rt, rt.alloc(), "(a) => {b}", "c")?;
-    assert_eq!(rt;
-        output.as_str(),
-        "error: no rule matches input tokens at 1@0..1\narm none\nSUBTREE $$ 1@0..1 1@0..1\n"
-    );
-    assert_eq!(rt; status, 1);
+fn no_rule_is_of_the_style(rt: HostRuntime) -> Result<(), Fail> {
+    let want =
+        "error: no rule matches input tokens at 1@0..1\narm none\nSUBTREE $$ 1@0..1 1@0..1\n";
+    for &def in &NO_RULES {
+        let (output, status) = ran(&rt, rt.alloc(), (def, "c"), Edition::Edition2024)?;
+        assert_eq!(rt; output.as_str(), want, "{def}");
+        assert_eq!(rt; status, 1, "{def}");
+    }
     Ok(())
 }
 
@@ -158,7 +165,7 @@ fn assert_says(
 }
 
 // A definition and an argument, the status, and the line on standard error.
-static FAILURES: [(&str, &str, u8, &str); 7] = [
+static FAILURES: [(&str, &str, u8, &str); 9] = [
     ("() => {}", "", 0, ""),
     ("(a) => {}", "", 1, ""),
     ("() => {} x", "", 2, "definition refused: expected `;`"),
@@ -167,6 +174,13 @@ static FAILURES: [(&str, &str, u8, &str); 7] = [
         "",
         2,
         "definition refused: expected subtree",
+    ),
+    ("($(a) => {}", "", 2, "definition refused: expected `=`"),
+    (
+        "($( $($v:vis),+ )*) => {}",
+        "",
+        2,
+        "definition refused: empty token tree in repetition",
     ),
     ("() => {} x", "'", 4, "cannot lex the.arg at 0"),
     ("(a ` b) => {}", "'", 4, "cannot lex the.def at 3"),
@@ -271,25 +285,6 @@ fn files_that_cannot_be_read(rt: HostRuntime) -> Result<(), Fail> {
     Ok(())
 }
 
-#[test]
-fn a_refused_request_is_want_of_memory(rt: HostRuntime) -> Result<(), Fail> {
-    let (def, arg) = PAIR;
-    for number in 1..10_000u64 {
-        let alloc = Refusing::new(rt.alloc(), number);
-        let mut out = Vec::new(rt.alloc());
-        let outcome = run(&alloc, def, arg, Edition::Edition2024, &mut out);
-        if !alloc.has_refused() {
-            assert_eq!(rt; outcome.status(), 0);
-            assert!(rt; out.as_slice() == PAIR_OUTPUT.as_bytes());
-            assert!(rt; number > 20, "only {number} requests");
-            return Ok(());
-        }
-        assert_eq!(rt; outcome.status(), 5, "at {number}");
-        assert!(rt; out.is_empty(), "at {number}");
-    }
-    Err(Fail::from("it goes on"))
-}
-
 /// Fails at one write, counted from 1.
 #[derive(Drop)]
 struct Failing {
@@ -341,8 +336,8 @@ fn a_failed_write_is_told(rt: HostRuntime) -> Result<(), Fail> {
     Err(Fail::from("it goes on"))
 }
 
-// Whether a run of any texts ends as runs do.
-fn assert_ends(rt: &impl Abort, alloc: Global, def: &str, arg: &str) -> Result<(), Fail> {
+/// Whether a run of any texts ends as runs do.
+pub fn assert_ends(rt: &impl Abort, alloc: Global, def: &str, arg: &str) -> Result<(), Fail> {
     assert!(rt; def.len() < 1_000_000 && arg.len() < 1_000_000);
     let mut out = Vec::new(alloc);
     let outcome = run(alloc, def, arg, Edition::Edition2024, &mut out);
@@ -383,181 +378,6 @@ fn every_front_of_a_text_ends(rt: HostRuntime) -> Result<(), Fail> {
                 assert_ends(&rt, rt.alloc(), def, front)?;
             }
         }
-    }
-    Ok(())
-}
-
-const PIECES: [&str; 96] = [
-    "(",
-    ")",
-    "[",
-    "]",
-    "{",
-    "}",
-    "$",
-    "$x:ident",
-    "$t:tt",
-    "$x",
-    "$t",
-    ":",
-    "=>",
-    ";",
-    ",",
-    "x",
-    "r#x",
-    "crate ",
-    "_",
-    "1",
-    "1.0",
-    "0x",
-    "\"",
-    "'",
-    "\\",
-    "//",
-    "/*",
-    "*/",
-    "\n",
-    " ",
-    "é",
-    "\u{0}",
-    "$e:expr",
-    "$t:ty",
-    "$p:pat",
-    "$p:path",
-    "$s:stmt",
-    "$b:block",
-    "$m:meta",
-    "$i:item",
-    "$v:vis",
-    "$l:lifetime",
-    "$l:literal",
-    "$(",
-    "),*",
-    ")?",
-    "let ",
-    "mut ",
-    "ref ",
-    "pub ",
-    "self ",
-    "in ",
-    "const ",
-    "unsafe ",
-    "break ",
-    "return ",
-    "true ",
-    "use ",
-    "static ",
-    "fn ",
-    "struct ",
-    "impl ",
-    "'a ",
-    "'b'",
-    "'\\n'",
-    "1.5",
-    "1e5",
-    "2u8",
-    "\"s\"",
-    "&",
-    "*",
-    "<",
-    ">",
-    "::",
-    "->",
-    "!",
-    "?",
-    ".",
-    "..",
-    "=",
-    "==",
-    "+",
-    "-",
-    "|",
-    "&&",
-    "<<=",
-    "{ }",
-    "( )",
-    "[ ]",
-    "(x, y)",
-    "{ x }",
-    "::<x>",
-    "x::y",
-    "x.y()",
-    "x + 1",
-    ": u8",
-];
-
-/// Numbers that look random, from a seed.
-#[derive(Drop)]
-struct Numbers(u64);
-
-impl Numbers {
-    fn below(&mut self, bound: u64) -> u64
-        requires { 0 < bound }
-        ensures { result < bound }
-    {
-        self.0 = self
-            .0
-            .wrapping_mul(6_364_136_223_846_793_005)
-            .wrapping_add(1_442_695_040_888_963_407);
-        (self.0 >> 33) % bound
-    }
-
-    // Up to eleven pieces or characters.
-    fn text(&mut self, alloc: Global, is_of_pieces: bool) -> Result<String, Fail> {
-        let mut text = String::new(alloc);
-        for _ in 0..self.below(12) {
-            if is_of_pieces {
-                text.push_str(PIECES[self.below(96) as usize])?;
-            } else if let Some(char) = char::from_u32(self.below(0x11_0000) as u32) {
-                text.push(char)?;
-            }
-        }
-        Ok(text)
-    }
-}
-
-const ENTRIES: [PrefixEntryPoint; 10] = [
-    PrefixEntryPoint::Path,
-    PrefixEntryPoint::Expr,
-    PrefixEntryPoint::Ty,
-    PrefixEntryPoint::PatTop,
-    PrefixEntryPoint::Pat,
-    PrefixEntryPoint::Stmt,
-    PrefixEntryPoint::Block,
-    PrefixEntryPoint::MetaItem,
-    PrefixEntryPoint::Item,
-    PrefixEntryPoint::Vis,
-];
-
-// Whether the grammar answers for the front of any text.
-fn assert_parses(rt: &impl Abort, alloc: Global, text: &str) -> Result<(), Fail> {
-    assert!(rt; text.len() < 1_000_000);
-    let Ok(tree) = lex(alloc, text, 0) else {
-        return Ok(());
-    };
-    let view = tree.iter().remaining();
-    for entry in ENTRIES {
-        let front = SampleGrammar.parse(entry, view)?;
-        assert!(rt; front.count <= view.flat_len(), "{text}");
-        assert!(rt; !front.fault || front.count == 0, "{text}");
-    }
-    Ok(())
-}
-
-// Two texts and the rule that is made of two, in each turn.
-#[test]
-fn random_texts_end(rt: HostRuntime) -> Result<(), Fail> {
-    let mut numbers = Numbers(1);
-    for number in 0..7_000u64 {
-        let is_of_pieces = number % 4 != 0;
-        let def = numbers.text(rt.alloc(), is_of_pieces)?;
-        let arg = numbers.text(rt.alloc(), is_of_pieces)?;
-        assert_ends(&rt, rt.alloc(), def.as_str(), arg.as_str())?;
-        let template = numbers.text(rt.alloc(), is_of_pieces)?;
-        let rule = format!(in rt.alloc(); "({def}) => {{{template}}}")?;
-        assert_ends(&rt, rt.alloc(), rule.as_str(), arg.as_str())?;
-        assert_ends(&rt, rt.alloc(), rule.as_str(), def.as_str())?;
-        assert_parses(&rt, rt.alloc(), arg.as_str())?;
     }
     Ok(())
 }

@@ -2,6 +2,7 @@
 pub mod Lists
 pub mod Story
 pub mod Outline
+pub mod Dots
 pub mod Held
 pub mod Run
 pub mod Settled

@@ -1,6 +1,8 @@
 // Which fragments a variable takes by a grammar that is handed in, and how they are written.
 use crate::grammar::{Counting, NoMemory, Numbered, number_of};
-use crate::runs::{assert_answer, assert_checked, assert_no_rule, parsed, whole};
+use crate::runs::{
+    Expansion, assert_answer, assert_checked, assert_recovered, assert_unfit, parsed, whole,
+};
 use crate::tokens::{Lexeme, Token, alone, at, close, float, joint, number, open, string, word};
 use crate::trees::{built, lexed};
 use mbe::{DeclarativeMacro, MacroCallStyle};
@@ -12,41 +14,51 @@ use std::alloc::Global;
 use std::process::Abort;
 use std::test::Fail;
 
-// A grammar that takes so many flat tokens of everything.
-fn taking(count: usize) -> Counting {
+/// A grammar that takes so many flat tokens of everything.
+pub fn taking(count: usize) -> Counting {
     Counting {
         count,
         fault: false,
     }
 }
 
-// The macro, read in edition 2024, makes these tokens by the rule of that index; or no rule answers.
-fn assert_makes<G: FragmentGrammar>(
+/// What the macro makes of a call like a function.
+pub fn made<G: FragmentGrammar>(
     rt: &impl Abort,
     alloc: Global,
     grammar: &G,
     (rules, argument): (&DeclarativeMacro, &TopSubtree),
-    want: Option<(u32, &[Token<'_>])>,
-) -> Result<(), Fail> {
+) -> Result<Expansion<Global>, Fail> {
     assert!(rt; rules.err().is_none());
     assert_checked(rt, rules);
-    let call_site = whole(argument);
     let answer = rules.expand(
         alloc,
         grammar,
         argument,
         |span| span,
         MacroCallStyle::FnLike,
-        call_site,
+        whole(argument),
     )?;
+    Ok(answer)
+}
+
+/// The macro makes these tokens by the rule of that index; or its one rule doesn't apply.
+pub fn assert_makes<G: FragmentGrammar>(
+    rt: &impl Abort,
+    alloc: Global,
+    grammar: &G,
+    (rules, argument): (&DeclarativeMacro, &TopSubtree),
+    want: Option<(u32, &[Token<'_>])>,
+) -> Result<(), Fail> {
+    let answer = made(rt, alloc, grammar, (rules, argument))?;
     match want {
-        Some(want) => assert_answer(rt, alloc, &answer, call_site, want)?,
-        None => assert_no_rule(rt, alloc, &answer, call_site)?,
+        Some(want) => assert_answer(rt, alloc, &answer, whole(argument), want)?,
+        None => assert_unfit(rt, &answer, 0),
     }
     Ok(())
 }
 
-// No rule of the definition answers any of the arguments.
+// The one rule of the definition applies to none of the arguments.
 fn assert_none<G: FragmentGrammar>(
     rt: &impl Abort,
     alloc: Global,
@@ -321,8 +333,19 @@ fn the_first_rule_whose_fragment_fits_is_taken(rt: HostRuntime) -> Result<(), Fa
 fn a_rule_whose_fragment_is_too_short_is_passed_over(rt: HostRuntime) -> Result<(), Fail> {
     let texts = (BY_FRAGMENTS, "a b c");
     let two = [word("B", 0, 37), word("a", 1, 0), word("b", 1, 2)];
-    assert_texts(&rt, rt.alloc(), &taking(2), texts, Some((1, &two)))?;
-    assert_texts(&rt, rt.alloc(), &taking(1), texts, None)
+    assert_texts(&rt, rt.alloc(), &taking(2), texts, Some((1, &two)))
+}
+
+// The second rule leaves one word, the others leave two.
+#[test]
+fn the_rule_that_leaves_fewest_trees_is_recovered(rt: HostRuntime) -> Result<(), Fail> {
+    let rules = parsed(rt.alloc(), &lexed(rt.alloc(), 0, BY_FRAGMENTS)?)?;
+    let argument = lexed(rt.alloc(), 1, "a b c")?;
+    let answer = made(&rt, rt.alloc(), &taking(1), (&rules, &argument))?;
+    let want = [word("B", 0, 37), word("a", 1, 0)];
+    let span = whole(&argument);
+    let told = ("leftover tokens", span);
+    assert_recovered(&rt, rt.alloc(), &answer, span, (1, &want), told)
 }
 
 #[test]
@@ -412,7 +435,7 @@ fn paths_are_written_with_double_colons(rt: HostRuntime) -> Result<(), Fail> {
 
 #[test]
 fn an_expansion_wants_the_memory_of_its_grammar(rt: HostRuntime) -> Result<(), Fail> {
-    let definition = lexed(rt.alloc(), 0, "($x:ident) => {}; ($t:ty) => {}")?;
+    let definition = lexed(rt.alloc(), 0, "($x:ident) => {}; ($e:expr) => {}")?;
     let rules = parsed(rt.alloc(), &definition)?;
     assert_makes(
         &rt,

@@ -96,7 +96,7 @@ pub fn assert_expands(
     assert_trees_expand(rt, alloc, &definition, &argument, want)
 }
 
-/// The expansion is that of a call that no rule answers.
+/// The expansion is that of a call for which there is no rule of its style.
 pub fn assert_no_rule(
     rt: &impl Abort,
     alloc: Global,
@@ -114,7 +114,34 @@ pub fn assert_no_rule(
     Ok(())
 }
 
-/// The definition, all of which is read, has no rule for the argument.
+/// The rule of that index, which is the closest one, doesn't apply: an error stands beside what it recovers.
+pub fn assert_unfit(rt: &impl Abort, answer: &Expansion<Global>, arm: u32) {
+    let (_tree, index) = &answer.value;
+    assert!(rt; answer.err.is_some());
+    assert_eq!(rt; *index, Some(arm));
+}
+
+/// The rule of that index doesn't apply, and these tokens are recovered beside an error of that text and span.
+pub fn assert_recovered(
+    rt: &impl Abort,
+    alloc: Global,
+    answer: &Expansion<Global>,
+    call_site: Span,
+    (arm, want): (u32, &[Token<'_>]),
+    (text, span): (&str, Span),
+) -> Result<(), Fail> {
+    assert_unfit(rt, answer, arm);
+    assert_eq!(rt; answer.value.0, built(alloc, call_site, want)?);
+    let Some(error) = &answer.err else {
+        return Err(Fail::from("no error"));
+    };
+    let shown = format!(in alloc; "{error}")?;
+    assert_eq!(rt; shown.as_str(), text);
+    assert_eq!(rt; error.inner.0, span);
+    Ok(())
+}
+
+/// The one rule of the definition, all of which is read, doesn't apply to the argument.
 pub fn assert_trees_refused(
     rt: &impl Abort,
     alloc: Global,
@@ -125,10 +152,11 @@ pub fn assert_trees_refused(
     assert!(rt; rules.err().is_none());
     assert_checked(rt, &rules);
     let answer = expanded(alloc, &rules, argument, MacroCallStyle::FnLike)?;
-    assert_no_rule(rt, alloc, &answer, whole(argument))
+    assert_unfit(rt, &answer, 0);
+    Ok(())
 }
 
-/// The definition, all of which is read, has no rule for the argument.
+/// The one rule of the definition, all of which is read, doesn't apply to the argument.
 pub fn assert_refused(
     rt: &impl Abort,
     alloc: Global,

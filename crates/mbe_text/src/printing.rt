@@ -88,7 +88,7 @@ fn indent<W: Write>(depth: usize, out: &mut W) -> io::Result<()> {
 
 /// Writes a line for each group and leaf, two spaces further in for each group around it: `SUBTREE` with the delimiters
 /// (`$$` where they are invisible) and both spans, `IDENT` with the name, `PUNCH` with the char and its spacing, `LITERAL` with
-/// the kind and the text with its suffix and without its quotes. It answers the first error of the writer, after which what was
+/// the kind and the text with its suffix and without its quotes. It returns the first error of the writer, after which what was
 /// written is a beginning. The form is near to that of rust-analyzer's tests.
 pub fn print_tree<A: Allocator, W: Write>(tree: &TopSubtree<A>, out: &mut W) -> io::Result<()> {
     let view = tree.view();

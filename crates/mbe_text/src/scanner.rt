@@ -1,5 +1,6 @@
 // The tokens of a text, one after another.
-ghost use Rattle.std.specs.Prelude.{◌≡◌, ◌↔◌, ◌<◌, ◌≤◌, ◌^◌, length, IsSome, IfSome, IfOk, IfErr};
+ghost use Rattle.std.specs.Prelude.{◌≡◌, ◌↔◌, ◌<◌, ◌≤◌, ◌+◌, ◌^◌, length, IsSome, IfSome, IfNone};
+ghost use Rattle.std.specs.Prelude.{IfOk, IfErr};
 
 use mbe_tt::span::{Span, SyntaxContext};
 use mbe_tt::tt::{DelimiterKind, IdentIsRaw, LitKind, Spacing};
@@ -79,7 +80,7 @@ fn is_punct(char: char) -> bool {
     PUNCTS.contains(char)
 }
 
-// Whether an identifier of this text and what stands behind it would begin a prefixed or raw string, or a byte literal.
+// Whether an identifier of this text and what follows it would begin a prefixed or raw string, or a byte literal.
 // Those aren't lexed.
 fn begins_literal(name: &str, rest: &str) -> bool {
     match name {
@@ -96,6 +97,7 @@ impl<'t> Scanner<'t> {
     /// Before the first byte of a file's text.
     pub fn new(text: &'t str, file: u32) -> Scanner<'t>
         requires { length text.now < 2 ^ 32 }
+        ensures file { result.file ≡ file }
         ensures rest { result.rest.now ≡ text.now }
         ensures total { result.total ≡ length text.now }
     {
@@ -108,7 +110,7 @@ impl<'t> Scanner<'t> {
 
     /// The number of bytes passed.
     pub fn offset(&self) -> u32
-        ensures { result ≤ self.now.total }
+        ensures { result + length self.now.rest.now ≡ self.now.total }
     {
         self.total - self.rest.len() as u32
     }
@@ -259,7 +261,7 @@ impl<'t> Scanner<'t> {
         })
     }
 
-    // Passes the identifier that is the suffix of a literal, where one stands here, and gives it with its length in
+    // Passes the identifier that is the suffix of a literal, where one stands here, and returns it with its length in
     // bytes, which is at most 255. One that would begin a prefixed string is a fault, as it is elsewhere. A suffix is
     // never raw.
     fn suffix(&mut self) -> Result<(&'t str, u8), Fault>
@@ -323,7 +325,7 @@ impl<'t> Scanner<'t> {
         self.literal(text, kind)
     }
 
-    // Whether the `'` that stands here begins a char: behind it stands a `\`, or a character and another `'`. That
+    // Whether the `'` that stands here begins a char: after it stands a `\`, or a character and another `'`. That
     // character is no `'` and no line feed.
     fn is_at_char(&self) -> bool {
         let mut chars = self.rest.chars();
@@ -367,7 +369,7 @@ impl<'t> Scanner<'t> {
         }
     }
 
-    // Passes a `.` and the digits behind it, where that is no range and no field.
+    // Passes a `.` and the digits after it, where that is no range and no field.
     fn fraction(&mut self) -> bool
         ensures { GoesOn self.old self.new }
     {
@@ -470,10 +472,12 @@ impl<'t> Scanner<'t> {
         }
     }
 
-    /// Passes white space, comments and the next token, and gives that. `None` at the end of the text.
+    /// Passes white space, comments and the next token, and returns that. `None` at the end of the text.
     pub fn token(&mut self) -> Result<Option<Token<'t>>, Fault>
         ensures on { GoesOn self.old self.new }
-        ensures past { IfOk result (λ token. IsSome token → length self.new.rest.now < length self.old.rest.now) }
+        ensures past { IfOk result (λ token. IsSome token
+            → length self.new.rest.now < length self.old.rest.now) }
+        ensures end { IfOk result (λ token. IfNone token (length self.new.rest.now ≡ 0)) }
         ensures start { IfOk result (λ token. IfSome token (λ t. t.span.start ≤ self.old.total)) }
         ensures within { IfErr result (λ fault. fault.offset ≤ self.old.total) }
     {

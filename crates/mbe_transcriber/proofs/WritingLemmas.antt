@@ -1,5 +1,5 @@
 -- What leaf after leaf and punct after punct is put into a builder.
-use Rattle.std.specs.Prelude.{◌≡◌, ◌<◌, ◌≤◌, ◌+◌, ℕ, Bool, true, false, if◌then◌else◌, List, [], ◌∷◌, length, map, Option, Some, option_map, Result, Ok, Err, OnOk, refl}
+use Rattle.std.specs.Prelude.{◌≡◌, ◌<◌, ◌≤◌, ◌+◌, ℕ, List, [], ◌∷◌, length, Result, Ok, Err, OnOk, refl}
 use Rattle.std.proofs.Common.{ap, sym, ◌∙◌, get_or, drop}
 use Rattle.std.proofs.lemmas.List.{drop_more, drop_all}
 use Rattle.mbe_tt.specs.declared.span.Span.{Span}

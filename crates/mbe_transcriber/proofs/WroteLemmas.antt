@@ -1,6 +1,7 @@
--- What is written part by part: whether a fault is told, and the trees where there is none.
-use Rattle.std.proofs.Common.{◌≡◌, ℕ, zero, suc, ◌+◌, Bool, true, false, List, [], ◌∷◌, length, Option, Some, refl, ap, sym, ◌∙◌, subst, add-one}
-use Rattle.std.specs.Prelude.{Result, Ok, Err, IfOk, not, ◌||◌, is_none}
+-- What is written part by part: whether there is a fault, and the trees where there is none.
+use Rattle.std.proofs.Common.{◌≡◌, ℕ, zero, suc, ◌+◌, Bool, true, false, List, [], ◌∷◌, length, Option, Some, None, refl, ap, sym, ◌∙◌, subst, add-one}
+use Rattle.std.specs.Result.{result_and}
+use Rattle.std.specs.Prelude.{Result, Ok, Err, IfOk, OnOk, not, ◌||◌, is_none, is_some}
 use Rattle.mbe_tt.specs.declared.span.Span.{Span}
 use Rattle.mbe_tt.specs.declared.tt.Punct.{Punct}
 use Rattle.mbe_tt.specs.declared.tt.Delimiter.{Delimiter}
@@ -95,6 +96,22 @@ pub if_ok_with : {T E : Type 0} {P Q : T → Type 0} (r : Result T E) → ((x : 
 if_ok_with (Ok x) f h = f x h
 if_ok_with (Err e) f h = tt
 
+-- a call that writes and can't fault, where a fault or none is wanted
+pub wrote_and_none : {T E F C : Type 0} {faulty : Bool} {P : Forest → Type 0} {old new : Levels} (made : Result T E) (all : Result (Option F) E)
+    → all ≡ result_and made (Ok None) → (C → Wrote false faulty P old new) → OnOk made C → IfOk all (λ fault. Wrote (is_some fault) faulty P old new)
+wrote_and_none (Ok x) all e f c = rw e (f c)
+wrote_and_none (Err x) all e f c = rw e tt
+
+pub literal_written : (Marks : Span → Span → Type 0) (l m : Literal) (old new : Levels) → Marks l.span m.span → m ≡ record l { span = m.span }
+    → new ≡ put (one_leaf (literal m)) old → Appends (IsMarkedLiteral Marks l) old new
+unfolding IsMarkedLiteral
+literal_written Marks l m old new h e w = appended _ (one_leaf (literal m)) old new (m.span, h, ap (λ x. one_leaf (literal x)) e) w
+
+pub ident_written : (Marks : Span → Span → Type 0) (i m : Ident) (old new : Levels) → Marks i.span m.span → m ≡ record i { span = m.span }
+    → new ≡ put (one_leaf (ident m)) old → Appends (IsMarkedIdent Marks i) old new
+unfolding IsMarkedIdent
+ident_written Marks i m old new h e w = appended _ (one_leaf (ident m)) old new (m.span, h, ap (λ x. one_leaf (ident x)) e) w
+
 pub parted_groups : (separator : Option Separator) (b : Bool) (now mid : Levels) → IsParted separator b now mid → length mid ≡ length now
 parted_groups separator true now mid e = groups_kept _ now mid e
 parted_groups separator false now mid e = ap length e
@@ -103,15 +120,15 @@ module _ (g : Grammar) (Marks : Span → Span → Type 0) (site : Span) (env : E
   module _ (p : Path) where
     -- ---- tokens and groups
 
-    pub wrote_literal : (l m : Literal) (old new : Levels) → IsMarkedLiteral Marks l m → new ≡ put (one_leaf (literal m)) old
+    pub wrote_literal : (l : Literal) (old new : Levels) → Appends (IsMarkedLiteral Marks l) old new
         → Wrote false false (IsWritten g Marks site env p (ops.token (ops.literal l))) old new
-    unfolding IsWritten
-    wrote_literal l m old new h e = wrote_trees (one_leaf (literal m)) old new (m.span, h.0, ap (λ x. one_leaf (literal x)) h.1) e
+    unfolding Appends IsMarkedLiteral IsWritten
+    wrote_literal l old new w = wrote_trees w.0 old new w.1 w.2
 
-    pub wrote_ident : (i m : Ident) (old new : Levels) → IsMarkedIdent Marks i m → new ≡ put (one_leaf (ident m)) old
+    pub wrote_ident : (i : Ident) (old new : Levels) → Appends (IsMarkedIdent Marks i) old new
         → Wrote false false (IsWritten g Marks site env p (ops.token (ops.ident i))) old new
-    unfolding IsWritten
-    wrote_ident i m old new h e = wrote_trees (one_leaf (ident m)) old new (m.span, h.0, ap (λ x. one_leaf (ident x)) h.1) e
+    unfolding Appends IsMarkedIdent IsWritten
+    wrote_ident i old new w = wrote_trees w.0 old new w.1 w.2
 
     pub wrote_puncts : (ps qs : List Punct) (old new : Levels) → qs ≡ ps → Appends (AreMarked Marks qs) old new
         → Wrote false false (IsWritten g Marks site env p (ops.token (ops.puncts ps))) old new

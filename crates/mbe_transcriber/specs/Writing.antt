@@ -1,10 +1,10 @@
--- What the transcriber writes behind the trees that are there.
+-- What the transcriber writes after the trees that are there.
 use Rattle.std.specs.Prelude.{◌≡◌, ℕ, Bool, true, false, List, length, Option, Some, None}
 use Rattle.mbe_tt.specs.declared.span.Span.{Span}
 use Rattle.mbe_tt.specs.declared.tt.Punct.{Punct}
-use Rattle.mbe_tt.specs.Trees.Leaf.{Literal, Ident}
+use Rattle.mbe_tt.specs.Trees.Leaf.{Literal, Ident, literal, ident}
 use Rattle.mbe_tt.specs.Fragments.Grammar.{Grammar}
-use Rattle.mbe_tt.specs.Trees.Tree.{Forest, alone, strip_invisible}
+use Rattle.mbe_tt.specs.Trees.Tree.{Forest, alone, one_leaf, strip_invisible}
 use Rattle.mbe_tt.specs.Buffers.Building.{Levels, put}
 use Rattle.mbe_semantics.specs.Syntax.Op.{Name, Separator, Op, Ops}
 use Rattle.mbe_semantics.specs.Readings.Item.{Style, stripped}
@@ -46,17 +46,17 @@ abbrev pub plain_fragment : Style → Forest → Forest
 plain_fragment stripped f = alone (strip_invisible f)
 plain_fragment _ f = alone f
 
--- `Marks s t`: the marker may answer t for s
+-- `Marks s t`: the marker may return t for s
 module _ (Marks : Span → Span → Type 0) where
-  -- the same literal, with an answer of the marker on its span
-  abbrev pub IsMarkedLiteral : Literal → Literal → Type 0
-  IsMarkedLiteral l m = Marks l.span m.span × (m ≡ record l { span = m.span })
+  -- the same literal, with a result of the marker on its span
+  unfoldable pub IsMarkedLiteral : Literal → Forest → Type 0
+  IsMarkedLiteral l out = (marked : Span) × Marks l.span marked × (out ≡ one_leaf (literal (record l { span = marked })))
 
-  -- the same identifier, with an answer of the marker on its span
-  abbrev pub IsMarkedIdent : Ident → Ident → Type 0
-  IsMarkedIdent i m = Marks i.span m.span × (m ≡ record i { span = m.span })
+  -- the same identifier, with a result of the marker on its span
+  unfoldable pub IsMarkedIdent : Ident → Forest → Type 0
+  IsMarkedIdent i out = (marked : Span) × Marks i.span marked × (out ≡ one_leaf (ident (record i { span = marked })))
 
-  -- the puncts, each with an answer of the marker on its span
+  -- the puncts, each with a result of the marker on its span
   unfoldable pub AreMarked : List Punct → Forest → Type 0
   AreMarked ps out = (g : Grammar) (call_site : Span) (env : Environment) → AreMarkedPuncts g Marks call_site env ps out
 

@@ -1,15 +1,20 @@
 // Writes a template with its variables replaced.
-ghost use Rattle.std.specs.Prelude.{◌≡◌, ◌<◌, Some, false, [], is_some, length, option_map, IfOk, OnOk};
+ghost use Rattle.std.specs.Prelude.{◌≡◌, ◌<◌, Some, false, [], is_some, length, option_map, IfOk};
+ghost use Rattle.std.specs.Prelude.{OnOk};
 ghost use Rattle.mbe_tt.specs.Buffers.Building.{put};
 ghost use Rattle.mbe_tt.specs.Views.Shown.{literal_of, ident_of};
 ghost use Rattle.mbe_tt.specs.Trees.Top.{top_group};
 ghost use Rattle.mbe_errors.specs.ErrorViews.{errors_of};
 ghost use Rattle.mbe_semantics.specs.Laws.Marking.{MayMark};
-ghost use Rattle.mbe_semantics.specs.Syntax.Op.{repetition, lifetime_separator};
-ghost use Rattle.mbe_semantics.specs.Writing.Substitution.{IsSubstitution, faults, op_faults, variable_faults, separator_trees, punct_trees};
+ghost use Rattle.mbe_semantics.specs.Syntax.Op.{group, repetition, lifetime_separator};
+ghost use Rattle.mbe_semantics.specs.Writing.Substitution.{IsSubstitution, faults, op_faults};
+ghost use Rattle.mbe_semantics.specs.Writing.Substitution.{variable_faults, separator_trees};
+ghost use Rattle.mbe_semantics.specs.Writing.Substitution.{integer, punct_trees};
 ghost use Rattle.mbe_ops.specs.Views.{op_of, ops_of, template_of, separator_seen};
 ghost use Rattle.mbe_log.specs.BindingViews.{bound_by};
-ghost use Rattle.mbe_transcriber.specs.Writing.{Appends, AreMarked, IsMarkedLiteral, IsMarkedIdent, IsWritten, AreWritten, IsVariableWritten, IsParted, Wrote};
+ghost use Rattle.mbe_transcriber.specs.Writing.{Appends, AreMarked, IsMarkedLiteral, IsMarkedIdent};
+ghost use Rattle.mbe_transcriber.specs.Writing.{IsWritten, AreWritten, IsVariableWritten, IsParted};
+ghost use Rattle.mbe_transcriber.specs.Writing.{Wrote};
 
 mod expressions;
 mod fault;
@@ -56,9 +61,12 @@ pub fn transcribe<A: Allocator + Copy, G: FragmentGrammar, M: Fn(Span) -> Span +
     call_site: Span,
 ) -> Result<ExpandResult<TopSubtree<A>, A>, AllocError>
     requires marks { MayMark (M.pre marker) }
-    ensures fault { IfOk result (λ r. is_some r.err ≡ faults (bound_by bindings.now) [] (template_of template.now)) }
-    ensures substitution { IfOk result (λ r. faults (bound_by bindings.now) [] (template_of template.now) ≡ false
-        → IsSubstitution (G.grammar grammar.now) (M.post marker) call_site (bound_by bindings.now) (template_of template.now) (top_group r.value)) }
+    ensures fault { IfOk result (λ r.
+        is_some r.err ≡ faults (bound_by bindings.now) [] (template_of template.now)) }
+    ensures substitution { IfOk result (λ r.
+        faults (bound_by bindings.now) [] (template_of template.now) ≡ false
+        → IsSubstitution (G.grammar grammar.now) (M.post marker) call_site (bound_by bindings.now)
+        (template_of template.now) (top_group r.value)) }
 {
     let ctx = ExpandCtx {
         alloc,
@@ -78,7 +86,7 @@ pub fn transcribe<A: Allocator + Copy, G: FragmentGrammar, M: Fn(Span) -> Span +
     })
 }
 
-// The marker's answer.
+// What the marker returns.
 fn mark<M: Fn(Span) -> Span + Copy>(span: Span, marker: M) -> Span
     requires { MayMark (M.pre marker) }
     ensures { M.post marker span result }
@@ -86,7 +94,7 @@ fn mark<M: Fn(Span) -> Span + Copy>(span: Span, marker: M) -> Span
     marker(span)
 }
 
-// Writes the ops one after the other, and answers the first fault.
+// Writes the ops one after the other, and returns the first fault.
 #[cycle(writing)]
 fn expand_ops<'t, A: Allocator + Copy, G: FragmentGrammar, M: Fn(Span) -> Span + Copy>(
     ctx: &ExpandCtx<'_, '_, A, G, M>,
@@ -96,9 +104,10 @@ fn expand_ops<'t, A: Allocator + Copy, G: FragmentGrammar, M: Fn(Span) -> Span +
 ) -> Result<Option<Fault<'t, A>>, AllocError>
     requires marks { MayMark (M.pre ctx.now.marker) }
     requires some_group { 0 < length builder.old }
-    ensures { IfOk result (λ fault. Wrote (is_some fault) (faults (bound_by ctx.now.bindings.now) path.now (ops_of ops.now))
-        (AreWritten (G.grammar ctx.now.grammar.now) (M.post ctx.now.marker) ctx.now.call_site (bound_by ctx.now.bindings.now) path.now (ops_of ops.now))
-        builder.old builder.new) }
+    ensures { IfOk result (λ fault. Wrote (is_some fault)
+        (faults (bound_by ctx.now.bindings.now) path.now (ops_of ops.now))
+        (AreWritten (G.grammar ctx.now.grammar.now) (M.post ctx.now.marker) ctx.now.call_site
+        (bound_by ctx.now.bindings.now) path.now (ops_of ops.now)) builder.old builder.new) }
 {
     let mut first = None;
     for op in ops {
@@ -118,28 +127,17 @@ fn expand_op<'t, A: Allocator + Copy, G: FragmentGrammar, M: Fn(Span) -> Span + 
 ) -> Result<Option<Fault<'t, A>>, AllocError>
     requires marks { MayMark (M.pre ctx.now.marker) }
     requires some_group { 0 < length builder.old }
-    ensures { IfOk result (λ fault. Wrote (is_some fault) (op_faults (bound_by ctx.now.bindings.now) path.now (op_of op.now))
-        (IsWritten (G.grammar ctx.now.grammar.now) (M.post ctx.now.marker) ctx.now.call_site (bound_by ctx.now.bindings.now) path.now (op_of op.now))
-        builder.old builder.new) }
+    ensures { IfOk result (λ fault. Wrote (is_some fault)
+        (op_faults (bound_by ctx.now.bindings.now) path.now (op_of op.now))
+        (IsWritten (G.grammar ctx.now.grammar.now) (M.post ctx.now.marker) ctx.now.call_site
+        (bound_by ctx.now.bindings.now) path.now (op_of op.now)) builder.old builder.new) }
 {
     match op {
-        Op::Literal(literal) => {
-            builder.push(Leaf::Literal(marked_literal(literal, ctx.marker)?))?;
-            Ok(None)
-        }
-        Op::Ident(ident) => {
-            builder.push(Leaf::Ident(marked_ident(ident, ctx.marker)?))?;
-            Ok(None)
-        }
-        Op::Punct(puncts) => {
-            write_puncts(puncts.as_slice(), builder, ctx.marker)?;
-            Ok(None)
-        }
+        Op::Literal(literal) => write_literal(literal, ctx.marker, builder).and(Ok(None)),
+        Op::Ident(ident) => write_ident(ident, ctx.marker, builder).and(Ok(None)),
+        Op::Punct(puncts) => write_puncts(puncts.as_slice(), builder, ctx.marker).and(Ok(None)),
         Op::Subtree { tokens, delimiter } => {
-            builder.open(delimiter.kind, mark(delimiter.opening, ctx.marker))?;
-            let fault = expand_ops(ctx, &tokens.0, path, builder)?;
-            builder.close(mark(delimiter.close, ctx.marker));
-            Ok(fault)
+            expand_group(ctx, *delimiter, &tokens.0, path, builder)
         }
         Op::Repeat {
             tokens,
@@ -148,20 +146,37 @@ fn expand_op<'t, A: Allocator + Copy, G: FragmentGrammar, M: Fn(Span) -> Span + 
         } => expand_repeat(ctx, &tokens.0, *kind, separator.as_ref(), path, builder),
         Op::Var { name, id, .. } => write_var(ctx, name, *id, path, builder),
         Op::Ignore { name, id } => Ok(find_ignored(ctx.bindings, name, *id, path)),
-        Op::Index { depth } => {
-            write_number(ctx.alloc, index_at(path, *depth), ctx.call_site, builder)?;
-            Ok(None)
-        }
-        Op::Len { depth } => {
-            write_number(ctx.alloc, rounds_at(path, *depth), ctx.call_site, builder)?;
-            Ok(None)
-        }
+        Op::Index { depth } => write_at_call(ctx, index_at(path, *depth), builder).and(Ok(None)),
+        Op::Len { depth } => write_at_call(ctx, rounds_at(path, *depth), builder).and(Ok(None)),
         Op::Count { name, depth } => write_count(ctx, name, *depth, path, builder),
         Op::Concat { elements, span } => { write_concat(ctx, elements, *span, path, builder) }
     }
 }
 
-// The rounds of the body, with the separator behind each but the last that doesn't fault. Where they are too many, or none
+// The body between the delimiters, which are marked each by itself.
+#[cycle(writing)]
+fn expand_group<'t, A: Allocator + Copy, G: FragmentGrammar, M: Fn(Span) -> Span + Copy>(
+    ctx: &ExpandCtx<'_, '_, A, G, M>,
+    delimiter: Delimiter,
+    body: &'t [Op<A>],
+    path: &[Level],
+    builder: &mut TopSubtreeBuilder<A>,
+) -> Result<Option<Fault<'t, A>>, AllocError>
+    requires marks { MayMark (M.pre ctx.now.marker) }
+    requires some_group { 0 < length builder.old }
+    ensures { IfOk result (λ fault. Wrote (is_some fault)
+        (op_faults (bound_by ctx.now.bindings.now) path.now (group delimiter (ops_of body.now)))
+        (IsWritten (G.grammar ctx.now.grammar.now) (M.post ctx.now.marker) ctx.now.call_site
+        (bound_by ctx.now.bindings.now) path.now (group delimiter (ops_of body.now)))
+        builder.old builder.new) }
+{
+    builder.open(delimiter.kind, mark(delimiter.opening, ctx.marker))?;
+    let fault = expand_ops(ctx, body, path, builder)?;
+    builder.close(mark(delimiter.close, ctx.marker));
+    Ok(fault)
+}
+
+// The rounds of the body, with the separator after each but the last that doesn't fault. Where they are too many, or none
 // where one has to be, nothing is written.
 #[cycle(writing)]
 fn expand_repeat<'t, A: Allocator + Copy, G: FragmentGrammar, M: Fn(Span) -> Span + Copy>(
@@ -174,11 +189,12 @@ fn expand_repeat<'t, A: Allocator + Copy, G: FragmentGrammar, M: Fn(Span) -> Spa
 ) -> Result<Option<Fault<'t, A>>, AllocError>
     requires marks { MayMark (M.pre ctx.now.marker) }
     requires some_group { 0 < length builder.old }
-    ensures { IfOk result (λ fault. Wrote (is_some fault)
-        (op_faults (bound_by ctx.now.bindings.now) path.now (repetition (ops_of body.now) (option_map (λ s. separator_seen s.now) separator.entry) kind))
-        (IsWritten (G.grammar ctx.now.grammar.now) (M.post ctx.now.marker) ctx.now.call_site (bound_by ctx.now.bindings.now) path.now
-        (repetition (ops_of body.now) (option_map (λ s. separator_seen s.now) separator.entry) kind))
-        builder.old builder.new) }
+    ensures { let whole = repetition (ops_of body.now)
+        (option_map (λ s. separator_seen s.now) separator.entry) kind in
+        IfOk result (λ fault. Wrote (is_some fault)
+        (op_faults (bound_by ctx.now.bindings.now) path.now whole)
+        (IsWritten (G.grammar ctx.now.grammar.now) (M.post ctx.now.marker) ctx.now.call_site
+        (bound_by ctx.now.bindings.now) path.now whole) builder.old builder.new) }
 {
     let rounds = match kept_rounds(kind, rounds_of(ctx.bindings, path, body)) {
         Ok(rounds) => rounds,
@@ -210,7 +226,8 @@ fn write_between<A: Allocator>(
     builder: &mut TopSubtreeBuilder<A>,
 ) -> Result<(), AllocError>
     ensures open_groups { OnOk result (length builder.new ≡ length builder.old) }
-    ensures parted { OnOk result (IsParted (option_map (λ s. separator_seen s.now) separator.entry) separated builder.old builder.new) }
+    ensures parted { OnOk result (IsParted (option_map (λ s. separator_seen s.now)
+        separator.entry) separated builder.old builder.new) }
 {
     if separated {
         write_separator(separator, builder)
@@ -224,7 +241,8 @@ fn write_separator<A: Allocator>(
     separator: Option<&Separator<A>>,
     builder: &mut TopSubtreeBuilder<A>,
 ) -> Result<(), AllocError>
-    ensures { OnOk result (builder.new ≡ put (separator_trees (option_map (λ s. separator_seen s.now) separator.entry)) builder.old) }
+    ensures { OnOk result (builder.new ≡ put
+        (separator_trees (option_map (λ s. separator_seen s.now) separator.entry)) builder.old) }
 {
     match separator {
         None => Ok(()),
@@ -240,7 +258,8 @@ fn push_lifetime<A: Allocator>(
     name: &Ident<A>,
     builder: &mut TopSubtreeBuilder<A>,
 ) -> Result<(), AllocError>
-    ensures { OnOk result (builder.new ≡ put (separator_trees (Some (lifetime_separator quote (ident_of name.now)))) builder.old) }
+    ensures { OnOk result (builder.new ≡ put
+        (separator_trees (Some (lifetime_separator quote (ident_of name.now)))) builder.old) }
 {
     builder.push(Leaf::Punct(quote))?;
     builder.push(Leaf::Ident(name.clone()?))
@@ -268,9 +287,10 @@ fn write_var<'t, A: Allocator + Copy, G, M: Fn(Span) -> Span + Copy>(
 ) -> Result<Option<Fault<'t, A>>, AllocError>
     requires marks { MayMark (M.pre ctx.now.marker) }
     requires some_group { 0 < length builder.old }
-    ensures { IfOk result (λ fault. Wrote (is_some fault) (variable_faults (bound_by ctx.now.bindings.now) path.now name.now)
-        (IsVariableWritten (M.post ctx.now.marker) ctx.now.call_site (bound_by ctx.now.bindings.now) path.now name.now id)
-        builder.old builder.new) }
+    ensures { IfOk result (λ fault. Wrote (is_some fault)
+        (variable_faults (bound_by ctx.now.bindings.now) path.now name.now)
+        (IsVariableWritten (M.post ctx.now.marker) ctx.now.call_site
+        (bound_by ctx.now.bindings.now) path.now name.now id) builder.old builder.new) }
 {
     let Some(binding) = ctx.bindings.get(name) else {
         write_unbound(name, id, builder)?;
@@ -289,33 +309,48 @@ fn write_var<'t, A: Allocator + Copy, G, M: Fn(Span) -> Span + Copy>(
     }
 }
 
-fn marked_literal<A: Allocator, M: Fn(Span) -> Span + Copy>(
+fn write_literal<A: Allocator, M: Fn(Span) -> Span + Copy>(
     literal: &Literal<A>,
     marker: M,
-) -> Result<Literal<A>, AllocError>
+    builder: &mut TopSubtreeBuilder<A>,
+) -> Result<(), AllocError>
     requires { MayMark (M.pre marker) }
-    ensures { IfOk result (λ l. IsMarkedLiteral (M.post marker) (literal_of literal.now) (literal_of l)) }
+    ensures { OnOk result (Appends (IsMarkedLiteral (M.post marker) (literal_of literal.now))
+        builder.old builder.new) }
 {
-    Ok(Literal {
+    builder.push(Leaf::Literal(Literal {
         text_and_suffix: literal.text_and_suffix.clone()?,
         suffix_len: literal.suffix_len,
         kind: literal.kind,
         span: mark(literal.span, marker),
-    })
+    }))
 }
 
-fn marked_ident<A: Allocator, M: Fn(Span) -> Span + Copy>(
+fn write_ident<A: Allocator, M: Fn(Span) -> Span + Copy>(
     ident: &Ident<A>,
     marker: M,
-) -> Result<Ident<A>, AllocError>
+    builder: &mut TopSubtreeBuilder<A>,
+) -> Result<(), AllocError>
     requires { MayMark (M.pre marker) }
-    ensures { IfOk result (λ i. IsMarkedIdent (M.post marker) (ident_of ident.now) (ident_of i)) }
+    ensures { OnOk result (Appends (IsMarkedIdent (M.post marker) (ident_of ident.now))
+        builder.old builder.new) }
 {
-    Ok(Ident {
+    builder.push(Leaf::Ident(Ident {
         sym: ident.sym.clone()?,
         is_raw: ident.is_raw,
         span: mark(ident.span, marker),
-    })
+    }))
+}
+
+// An integer with the span of the call site.
+fn write_at_call<A: Allocator + Copy, G, M>(
+    ctx: &ExpandCtx<'_, '_, A, G, M>,
+    number: usize,
+    builder: &mut TopSubtreeBuilder<A>,
+) -> Result<(), AllocError>
+    ensures { OnOk result (builder.new ≡ put (integer number ctx.now.call_site) builder.old) }
+{
+    write_number(ctx.alloc, number, ctx.call_site, builder)
 }
 
 fn write_puncts<A: Allocator, M: Fn(Span) -> Span + Copy>(
@@ -325,7 +360,8 @@ fn write_puncts<A: Allocator, M: Fn(Span) -> Span + Copy>(
 ) -> Result<(), AllocError>
     requires { MayMark (M.pre marker) }
     ensures open_groups { OnOk result (length builder.new ≡ length builder.old) }
-    ensures written { OnOk result (Appends (AreMarked (M.post marker) puncts.now) builder.old builder.new) }
+    ensures written { OnOk result
+        (Appends (AreMarked (M.post marker) puncts.now) builder.old builder.new) }
 {
     for punct in puncts {
         builder.push(Leaf::Punct(Punct {

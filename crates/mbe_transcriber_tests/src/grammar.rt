@@ -13,7 +13,10 @@ impl FragmentGrammar for OneKeyword {
     ghost use Rattle.std.specs.Prelude.{true, codes};
     ghost use Rattle.std.specs.Str.{bytes_eq};
 
-    ghost grammar = { λ _. record { parse = λ entry tokens. record { count = 0; fault = true }; is_keyword = λ text. bytes_eq text (codes "type") } };
+    ghost grammar = { λ _. record {
+      parse = λ entry tokens. record { count = 0; fault = true };
+      is_keyword = λ text. bytes_eq text (codes "type");
+    } };
 
     fn parse<A: Allocator>(
         &self,

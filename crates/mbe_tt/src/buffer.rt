@@ -1,4 +1,4 @@
-// A flat buffer that holds one group. The names follow rust-analyzer's `tt`; what the calls answer is the project's own.
+// A flat buffer that holds one group. The names follow rust-analyzer's `tt`; what the calls return is the project's own.
 ghost use Rattle.std.specs.Prelude.{◌≡◌, IfOk};
 ghost use Rattle.mbe_tt.specs.Trees.Tree.{none};
 ghost use Rattle.mbe_tt.specs.Trees.Top.{top_code};
@@ -34,7 +34,8 @@ impl<A: Allocator> Model for TopSubtree<A> {
 
     ghost view = { λ a. top_of (forest_of (entries_of a.entries.items)) };
 
-    ghost invariant = { λ a. entries_of a.entries.items ≡ spell (top_group (top_of (forest_of (entries_of a.entries.items)))) };
+    ghost invariant = { λ a. entries_of a.entries.items
+        ≡ spell (top_group (top_of (forest_of (entries_of a.entries.items)))) };
 }
 
 impl<A: Allocator> TopSubtree<A> {
@@ -42,9 +43,13 @@ impl<A: Allocator> TopSubtree<A> {
     ghost use Rattle.mbe_tt.specs.Trees.Top.{top_group, delimiter_of, inside};
     ghost use Rattle.mbe_tt.specs.declared.tt.DelimiterKind.TheVariants.{Invisible};
 
-    /// An empty invisible group with those spans. `AllocError` for want of memory.
+    /// An empty invisible group with those spans. `AllocError` if out of memory.
     pub fn empty(alloc: A, span: DelimSpan) -> Result<TopSubtree<A>, AllocError>
-        ensures { IfOk result (λ t. t ≡ (record { opening = span.opening; close = span.close; kind = Invisible }, none)) }
+        ensures { IfOk result
+            (λ t. t ≡ (
+              record { opening = span.opening; close = span.close; kind = Invisible },
+              none,
+            )) }
     {
         let delimiter = Delimiter {
             opening: span.opening,
@@ -86,7 +91,7 @@ impl<A: Allocator> TopSubtree<A> {
 }
 
 impl<A: Allocator + Copy> TopSubtree<A> {
-    /// An equal copy, in memory of the same allocator. `AllocError` for want of memory.
+    /// An equal copy, in memory of the same allocator. `AllocError` if out of memory.
     pub fn try_clone(&self) -> Result<TopSubtree<A>, AllocError>
         ensures { IfOk result (λ t. t ≡ self.now) }
     {

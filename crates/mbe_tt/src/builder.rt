@@ -1,5 +1,6 @@
-// Writing a buffer, group by group. The names follow rust-analyzer's `tt`; what the calls answer is the project's own.
-ghost use Rattle.std.specs.Prelude.{◌≡◌, ℕ, ◌+◌, ◌<◌, ◌≤◌, List, [], ◌∷◌, ◌++◌, length, slice_set, vec_capacity, IfOk, IfSome, IfNone, OnOk, OnErr};
+// Writing a buffer, group by group. The names follow rust-analyzer's `tt`; what the calls return is the project's own.
+ghost use Rattle.std.specs.Prelude.{◌≡◌, ℕ, ◌+◌, ◌<◌, ◌≤◌, List, [], ◌∷◌, ◌++◌, length, slice_set};
+ghost use Rattle.std.specs.Prelude.{vec_capacity, IfOk, IfSome, IfNone, OnOk, OnErr};
 ghost use Rattle.mbe_tt.specs.Buffers.OpensAt.{OpensAt};
 ghost use Rattle.mbe_tt.specs.Views.Entry.{Entry as FlatEntry, Open, Close};
 ghost use Rattle.mbe_tt.specs.Views.Shown.{entries_of, entry_of, leaf_of, leaves_of};
@@ -45,14 +46,16 @@ impl<A: Allocator> Model for TopSubtreeBuilder<A> {
 
     ghost view = { λ b. levels_of (entries_of b.entries.items) };
 
-    ghost invariant = { λ b. IsBuilding (entries_of b.entries.items) (vec_capacity b.entries) b.at b.depth };
+    ghost invariant = { λ b.
+        IsBuilding (entries_of b.entries.items) (vec_capacity b.entries) b.at b.depth };
 }
 
 impl<A: Allocator> TopSubtreeBuilder<A> {
-    ghost use Rattle.mbe_tt.specs.Buffers.Building.{Levels, kind_inside, put, closed, flat_written, unwrap_last, IsEarlier};
+    ghost use Rattle.mbe_tt.specs.Buffers.Building.{Levels, kind_inside, put, closed};
+    ghost use Rattle.mbe_tt.specs.Buffers.Building.{flat_written, unwrap_last, IsEarlier};
     ghost use Rattle.mbe_tt.specs.Views.View.{trees};
 
-    /// A builder with one open group, the whole. `AllocError` for want of memory.
+    /// A builder with one open group, the whole. `AllocError` if out of memory.
     pub fn new(alloc: A, delimiter: Delimiter) -> Result<TopSubtreeBuilder<A>, AllocError>
         ensures { IfOk result (λ b. b ≡ (delimiter, none) ∷ []) }
     {
@@ -65,7 +68,7 @@ impl<A: Allocator> TopSubtreeBuilder<A> {
         })
     }
 
-    /// Writes a leaf at the end of the innermost open group. `AllocError` for want of memory.
+    /// Writes a leaf at the end of the innermost open group. `AllocError` if out of memory.
     pub fn push(&mut self, leaf: Leaf<A>) -> Result<(), AllocError>
         ensures ok { OnOk result (self.new ≡ put (one_leaf (leaf_of leaf)) self.old) }
         ensures err { OnErr result (self.new ≡ self.old) }
@@ -76,9 +79,10 @@ impl<A: Allocator> TopSubtreeBuilder<A> {
     }
 
     /// Opens a group at the end of the innermost one, and takes the room for its closing. Until it is closed, its closing span
-    /// is the opening one. `AllocError` for want of memory.
+    /// is the opening one. `AllocError` if out of memory.
     pub fn open(&mut self, kind: DelimiterKind, span: Span) -> Result<(), AllocError>
-        ensures ok { OnOk result (self.new ≡ (record { opening = span; close = span; kind = kind }, none) ∷ self.old) }
+        ensures ok { OnOk result
+            (self.new ≡ (record { opening = span; close = span; kind = kind }, none) ∷ self.old) }
         ensures err { OnErr result (self.new ≡ self.old) }
     {
         self.entries.reserve(self.depth + 2)?;
@@ -121,7 +125,7 @@ impl<A: Allocator> TopSubtreeBuilder<A> {
         self.depth -= 1;
     }
 
-    /// Writes copies of the view's trees at the end of the innermost open group. `AllocError` for want of memory.
+    /// Writes copies of the view's trees at the end of the innermost open group. `AllocError` if out of memory.
     pub fn extend_with_tt(&mut self, view: TokenTreesView<'_, A>) -> Result<(), AllocError>
         ensures ok { OnOk result (self.new ≡ put (trees view.entry) self.old) }
         ensures err { OnErr result (self.new ≡ self.old) }
@@ -169,10 +173,12 @@ impl<A: Allocator> TopSubtreeBuilder<A> {
     }
 
     /// Writes the leaves one after another at the end of the innermost open group. It asks that the leaves end. `AllocError`
-    /// for want of memory: then none of them is written.
+    /// if out of memory: then none of them is written.
     pub fn extend<I: IntoIterator<Item = Leaf<A>>>(&mut self, leaves: I) -> Result<(), AllocError>
-        requires { (s : I.IntoIter) → I.into_iter_gives leaves s → I.IntoIter.can_next s × IsFinite (I.IntoIter.remaining s) }
-        ensures ok { OnOk result ((s : I.IntoIter) × (xs : List (Leaf A)) × I.into_iter_gives leaves s × Drains I.IntoIter.next_gives s xs
+        requires { (s : I.IntoIter) → I.into_iter_gives leaves s → I.IntoIter.can_next s
+            × IsFinite (I.IntoIter.remaining s) }
+        ensures ok { OnOk result ((s : I.IntoIter) × (xs : List (Leaf A))
+            × I.into_iter_gives leaves s × Drains I.IntoIter.next_gives s xs
             × (self.new ≡ put (leaves_of xs) self.old)) }
         ensures err { OnErr result (self.new ≡ self.old) }
     {
@@ -193,11 +199,12 @@ impl<A: Allocator> TopSubtreeBuilder<A> {
         self.entries.len() - 1
     }
 
-    /// Keeps the first flat tokens, as many as `point` says. It asks that there are so many, and that the groups open behind
+    /// Keeps the first flat tokens, as many as `point` says. It asks that there are so many, and that the groups open after
     /// the last of them are those that are open now. It takes no memory.
     pub fn restore(&mut self, point: usize)
         requires { (kept : Levels) × IsEarlier self.old point kept }
-        ensures { (kept : Levels) (since : Forest) → self.old ≡ put since kept → flat_written kept ≡ point → self.new ≡ kept }
+        ensures { (kept : Levels) (since : Forest) → self.old ≡ put since kept
+            → flat_written kept ≡ point → self.new ≡ kept }
     {
         self.entries.truncate(point + 1);
     }
@@ -244,7 +251,8 @@ fn last_invisible<A: Allocator>(entries: &[Entry<A>]) -> Option<usize>
 }
 
 fn is_invisible<A: Allocator>(tree: &TtElement<'_, A>) -> bool
-    ensures { (if result then Some 0 else None) ≡ spec.last_invisible (spec.tree (element_tree tree.now) none) }
+    ensures { (if result then Some 0 else None)
+        ≡ spec.last_invisible (spec.tree (element_tree tree.now) none) }
 {
     match tree {
         TtElement::Leaf(_) => false,
@@ -255,7 +263,8 @@ fn is_invisible<A: Allocator>(tree: &TtElement<'_, A>) -> bool
 // Takes out the opening at that place, and the closing at the end.
 fn unwrap_at<A: Allocator>(entries: &mut Vec<Entry<A>, A>, place: usize)
     requires { place + 1 < length entries.old.items }
-    ensures items { entries_of entries.new.items ≡ take place (take (length entries.old.items - 1) (entries_of entries.old.items))
+    ensures items { entries_of entries.new.items
+        ≡ take place (take (length entries.old.items - 1) (entries_of entries.old.items))
         ++ drop (place + 1) (take (length entries.old.items - 1) (entries_of entries.old.items)) }
     ensures capacity { vec_capacity entries.new ≡ vec_capacity entries.old }
 {
@@ -279,8 +288,10 @@ fn opening_at<A: Allocator>(entries: &Vec<Entry<A>, A>, at: usize) -> (Subtree, 
 fn finish<A: Allocator>(entries: &mut Vec<Entry<A>, A>, at: usize, subtree: Subtree)
     requires opens { (s : Subtree) × (n : ℕ) × OpensAt (entries_of entries.old.items) at s n }
     requires room { length entries.old.items < vec_capacity entries.old }
-    ensures items { (before after : List FlatEntry) (s : Subtree) (n : ℕ) → entries_of entries.old.items ≡ before ++ Open s n ∷ after → at ≡ length before
-        → entries_of entries.new.items ≡ before ++ Open subtree (length after) ∷ (after ++ Close ∷ []) }
+    ensures items { (before after : List FlatEntry) (s : Subtree) (n : ℕ)
+        → entries_of entries.old.items ≡ before ++ Open s n ∷ after → at ≡ length before
+        → entries_of entries.new.items
+        ≡ before ++ Open subtree (length after) ∷ (after ++ Close ∷ []) }
     ensures capacity { vec_capacity entries.old ≤ vec_capacity entries.new }
 {
     let len = entries.len() - at - 1;
@@ -292,7 +303,8 @@ fn finish<A: Allocator>(entries: &mut Vec<Entry<A>, A>, at: usize, subtree: Subt
 
 fn set_entry<A: Allocator>(entries: &mut Vec<Entry<A>, A>, at: usize, entry: Entry<A>)
     requires { at < length entries.old.items }
-    ensures items { entries_of entries.new.items ≡ slice_set (entries_of entries.old.items) at (entry_of entry) }
+    ensures items { entries_of entries.new.items
+        ≡ slice_set (entries_of entries.old.items) at (entry_of entry) }
     ensures capacity { vec_capacity entries.new ≡ vec_capacity entries.old }
 {
     entries[at] = entry;

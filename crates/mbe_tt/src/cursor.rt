@@ -1,10 +1,12 @@
-// A walk over the flat tokens of a view. The names follow rust-analyzer's `tt`; what the calls answer is the project's
+// A walk over the flat tokens of a view. The names follow rust-analyzer's `tt`; what the calls return is the project's
 // own.
-ghost use Rattle.std.specs.Prelude.{◌≡◌, ◌↔◌, ℕ, ◌+◌, min, [], IsTrue, length, option_map, ◌<◌, ◌^◌};
+ghost use Rattle.std.specs.Prelude.{◌≡◌, ◌↔◌, ℕ, ◌+◌, min, [], IsTrue, length, option_map, ◌<◌};
+ghost use Rattle.std.specs.Prelude.{◌^◌};
 ghost use Rattle.mbe_tt.specs.Trees.Tree.{Forest, append, first, flat_len, rest_at};
 ghost use Rattle.mbe_tt.specs.Views.Element.{element_tree};
 ghost use Rattle.mbe_tt.specs.Views.Shown.{entries_of, entry_of};
-ghost use Rattle.mbe_tt.specs.Buffers.Place.{Rests, spell_rests, DepthAfter, viewed, place_of, left_at, IsAtRoot};
+ghost use Rattle.mbe_tt.specs.Buffers.Place.{Rests, spell_rests, DepthAfter, viewed, place_of};
+ghost use Rattle.mbe_tt.specs.Buffers.Place.{left_at, IsAtRoot};
 
 use crate::entry::Entry;
 use crate::iter::{TtElement, TtIter};
@@ -64,7 +66,11 @@ impl<'a, A: Allocator> Cursor<'a, A> {
 
     /// Passes one flat token: a leaf, an opening (going in) or a closing (going out). At the view's end it does nothing.
     pub fn bump_or_end(&mut self)
-        ensures { self.new ≡ (viewed self.old, min (place_of self.old + 1) (flat_len (viewed self.old))) }
+        ensures { self.new ≡ (
+          viewed self.old,
+          min (place_of self.old + 1)
+              (flat_len (viewed self.old)),
+        ) }
     {
         let (_passed, left) = self.entries.split_at(self.place);
         if let Some((entry, _rest)) = left.split_first() {
@@ -107,7 +113,8 @@ impl<'a, A: Allocator> TtIter<'a, A> {
 // The tree that begins a rest of a view.
 fn first_tree<'a, A: Allocator>(left: &'a [Entry<A>]) -> Option<TtElement<'a, A>>
     requires { (r : Rests) × (entries_of left.now ≡ spell_rests r) }
-    ensures { (r : Rests) → entries_of left.now ≡ spell_rests r → option_map element_tree result ≡ first r.0 }
+    ensures { (r : Rests) → entries_of left.now ≡ spell_rests r
+        → option_map element_tree result ≡ first r.0 }
 {
     let (entry, rest) = left.split_first()?;
     match entry {
@@ -120,7 +127,7 @@ fn first_tree<'a, A: Allocator>(left: &'a [Entry<A>]) -> Option<TtElement<'a, A>
     }
 }
 
-// The number of groups around the place behind an entry, from the number before it.
+// The number of groups around the place after an entry, from the number before it.
 fn depth_after<A: Allocator>(entry: &Entry<A>, depth: usize) -> usize
     requires { (after : ℕ) × DepthAfter (entry_of entry.now) depth after × (after < 2 ^ 64) }
     ensures { DepthAfter (entry_of entry.now) depth result }

@@ -44,7 +44,8 @@ pub trait FragmentGrammar {
         entry: PrefixEntryPoint,
         tokens: TokenTreesView<'_, A>,
     ) -> Result<Front, AllocError>
-        ensures { IfOk result (λ front. front ≡ (grammar self.now).parse entry (flat (trees tokens.entry))) };
+        ensures { IfOk result (λ front.
+            front ≡ (grammar self.now).parse entry (flat (trees tokens.entry))) };
 
     /// Whether the text is a keyword, so that an identifier of this text has to be raw.
     fn is_keyword(&self, text: &str) -> bool

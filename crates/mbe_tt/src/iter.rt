@@ -1,8 +1,12 @@
-// An iterator over trees that stand side by side. The names follow rust-analyzer's `tt`; what the calls answer is the
+// An iterator over trees that stand side by side. The names follow rust-analyzer's `tt`; what the calls return is the
 // project's own.
-ghost use Rattle.std.specs.Prelude.{◌≡◌, ◌↔◌, IsTrue, option_map, length, [], ◌∷◌, IsOk, is_ok, is_some, OnSome, if◌then◌else◌, Some, None, ⊤};
+ghost use Rattle.std.specs.Prelude.{◌≡◌, ◌↔◌, IsTrue, option_map, length, [], ◌∷◌, IsOk, is_ok};
+ghost use Rattle.std.specs.Prelude.{is_some, OnSome, if◌then◌else◌, Some, None, ⊤};
 ghost use Rattle.std.specs.Result.{result_ok};
-ghost use Rattle.mbe_tt.specs.Trees.Tree.{Forest, none, group, tree, append, first, rest_of, front_char, front_punct, front_ident, front_group, front_leaf, front_literal, literal_leaf, any_ident, first_span, skip};
+ghost use Rattle.mbe_tt.specs.Trees.Tree.{Forest, none, group, tree, append, first, rest_of};
+ghost use Rattle.mbe_tt.specs.Trees.Tree.{front_char, front_punct, front_ident, front_group};
+ghost use Rattle.mbe_tt.specs.Trees.Tree.{front_leaf, front_literal, literal_leaf, any_ident};
+ghost use Rattle.mbe_tt.specs.Trees.Tree.{first_span, skip};
 ghost use Rattle.mbe_tt.specs.Views.Entries.{forest_of, Spelled};
 ghost use Rattle.mbe_tt.specs.Trees.Glue.{glue, glued, is_operator, joined_punct, third_punct};
 ghost use Rattle.mbe_tt.specs.Views.Entry.{Open};
@@ -41,7 +45,8 @@ impl<'a, A: Allocator> Model for TtIter<'a, A> {
 
     ghost view = { λ a. forest_of (entries_of a.entries.now) };
 
-    ghost invariant = { λ a. entries_of a.entries.now ≡ spell (forest_of (entries_of a.entries.now)) };
+    ghost invariant = { λ a. entries_of a.entries.now
+        ≡ spell (forest_of (entries_of a.entries.now)) };
 }
 
 /// A mark of an iterator's place. Clauses see the trees that were left there, by `saved`.
@@ -58,14 +63,15 @@ pub enum TtElement<'a, A: Allocator = Global> {
     Subtree(&'a Subtree, TtIter<'a, A>),
 }
 
-// The trees inside a group, and those after it. `rest` is what stands behind the group's opening.
+// The trees inside a group, and those after it. `rest` is what follows the group's opening.
 pub(crate) fn content_and_rest<'a, A: Allocator>(
     subtree: &Subtree,
     len: usize,
     rest: &'a [Entry<A>],
 ) -> (TtIter<'a, A>, TtIter<'a, A>)
     requires { Spelled (Open subtree.now len ∷ entries_of rest.now) }
-    ensures { forest_of (Open subtree.now len ∷ entries_of rest.now) ≡ group subtree.now.delimiter result.0 result.1 }
+    ensures { forest_of (Open subtree.now len ∷ entries_of rest.now) ≡ group subtree.now.delimiter
+        result.0 result.1 }
 {
     let (inside, after) = rest.split_at(len);
     let (_close, rest) = after.split_at(1);
@@ -133,7 +139,8 @@ impl<'a, A: Allocator> TtIter<'a, A> {
     /// The trees passed since the savepoint. It asks that the trees left at the savepoint end with those that are left now.
     pub fn from_savepoint(&self, savepoint: TtIterSavepoint<'a, A>) -> TokenTreesView<'a, A>
         requires { (passed : Forest) × (saved savepoint ≡ append passed self.now) }
-        ensures { (passed : Forest) → saved savepoint.entry ≡ append passed self.now → trees result ≡ passed }
+        ensures { (passed : Forest) → saved savepoint.entry ≡ append passed self.now
+            → trees result ≡ passed }
     {
         let before = savepoint.left.entries;
         let (passed, _left) = before.split_at(before.len() - self.entries.len());
@@ -176,9 +183,10 @@ impl<'a, A: Allocator> TtIter<'a, A> {
         Err(())
     }
 
-    /// Passes a group, and answers it with an iterator over its content.
+    /// Passes a group, and returns it with an iterator over its content.
     pub fn expect_subtree(&mut self) -> Result<(&'a Subtree, TtIter<'a, A>), ()>
-        ensures value { option_map (λ g. (g.0.now.delimiter, g.1)) (result_ok result) ≡ front_group self.old }
+        ensures value { option_map (λ g. (g.0.now.delimiter, g.1)) (result_ok result)
+            ≡ front_group self.old }
         ensures rest { self.new ≡ (if is_ok result then rest_of self.old else self.old) }
     {
         if let Some(TtElement::Subtree(subtree, inside)) = self.peek() {
@@ -204,7 +212,8 @@ impl<'a, A: Allocator> TtIter<'a, A> {
 
     /// Passes a punct of one of those chars, whatever its spacing.
     pub fn expect_any_char(&mut self, chars: &[char]) -> Result<(), ()>
-        ensures value { IsOk result ↔ ((p : SpecPunct) × (front_punct self.old ≡ Some p) × Contains chars.now p.char) }
+        ensures value { IsOk result ↔ ((p : SpecPunct) × (front_punct self.old ≡ Some p)
+            × Contains chars.now p.char) }
         ensures rest { self.new ≡ (if is_ok result then rest_of self.old else self.old) }
     {
         if let Some(TtElement::Leaf(Leaf::Punct(punct))) = self.peek()
@@ -258,7 +267,8 @@ impl<'a, A: Allocator> TtIter<'a, A> {
 
     /// Passes a literal, or the identifier `true` or `false`, raw or not.
     pub fn expect_literal(&mut self) -> Result<&'a Leaf<A>, ()>
-        ensures value { option_map (λ l. leaf_of l.now) (result_ok result) ≡ front_literal self.old }
+        ensures value { option_map (λ l. leaf_of l.now) (result_ok result)
+            ≡ front_literal self.old }
         ensures rest { self.new ≡ (if is_ok result then rest_of self.old else self.old) }
     {
         if let Some(TtElement::Leaf(leaf)) = self.peek()
@@ -278,7 +288,7 @@ impl<'a, A: Allocator> TtIter<'a, A> {
     }
 
     /// Passes the one to three puncts in front that make the longest operator, or one punct where none is made. All but the
-    /// last have to be joint, and a third is looked at only behind two that are. Which chars make an operator stands in
+    /// last have to be joint, and a third is looked at only after two that are. Which chars make an operator stands in
     /// `operators`.
     pub fn expect_glued_punct(&mut self) -> Result<ArrayVec<Punct, 3>, ()>
         ensures value { option_map (λ ps. ps.items) (result_ok result) ≡ glued self.old }

@@ -1,7 +1,8 @@
 // How identifiers and literals are written. The rules are the project's own.
 ghost use Rattle.std.specs.Prelude.{◌≡◌, Some, replicate};
 ghost use Rattle.std.specs.Fmt.{DisplaysOnOk};
-ghost use Rattle.mbe_tt.specs.Trees.Literals.{ident_text, literal_text, literal_suffix, literal_output, hash_text};
+ghost use Rattle.mbe_tt.specs.Trees.Literals.{ident_text, literal_text, literal_suffix};
+ghost use Rattle.mbe_tt.specs.Trees.Literals.{literal_output, hash_text};
 ghost use Rattle.mbe_tt.specs.Trees.Literals as spec;
 ghost use Rattle.mbe_tt.specs.Views.Shown.{ident_of, literal_of};
 

@@ -1,5 +1,5 @@
 // Token trees: leaves, and the delimiters of groups. The types of trees, iterators, views and builders are re-exported
-// here. The names follow rust-analyzer's `tt`; what the calls answer is the project's own.
+// here. The names follow rust-analyzer's `tt`; what the calls return is the project's own.
 ghost use Rattle.std.specs.Prelude.{◌≡◌, ◌↔◌, IsTrue};
 ghost use Rattle.mbe_tt.specs.Views.Shown.{ident_of, literal_of, leaf_of};
 ghost use Rattle.std.specs.Cmp.{partial_equiv_from_equiv};

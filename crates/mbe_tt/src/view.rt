@@ -1,4 +1,4 @@
-// Trees that stand side by side in a buffer. The names follow rust-analyzer's `tt`; what the calls answer is the
+// Trees that stand side by side in a buffer. The names follow rust-analyzer's `tt`; what the calls return is the
 // project's own.
 ghost use Rattle.std.specs.Prelude.{◌≡◌, option_map, ⊤};
 ghost use Rattle.mbe_tt.specs.Views.Entries.{Spelled, Spelled-prop};

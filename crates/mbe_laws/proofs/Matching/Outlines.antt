@@ -8,8 +8,8 @@ use Rattle.mbe_semantics.specs.Readings.Item.{Fragment, Item, matched, bound, sk
 use Rattle.mbe_semantics.specs.Readings.Input.{Input}
 use Rattle.mbe_semantics.specs.Readings.Reading.{Frame, inside, within, Beginning, dot, start_of, place}
 use Rattle.mbe_semantics.specs.Readings.Steps.{matched_by, bound_by, skip_of, again_of, if_none, empty_of, idle, Move, if_some, over_of, when, round_move, separator_move, next}
-use Rattle.mbe_semantics.specs.Matching.Outline.{edge, Outline, outline, advance, base_of, edges_of, erase, erase_move, empty_by, empty_bound, idle_of, if_some_advance, over_advance, bound_advance, round_advance, separator_advance, when_advance, next_of, finished_of, rank, weight}
-use Rattle.mbe_semantics.specs.Bindings.Environment.{add_round, skip_names, bind, bind_rounds, environment_of}
+use Rattle.mbe_semantics.specs.Matching.Outline.{edge, Outline, outline, advance, written, skipped as skipped_names, base_of, edges_of, erase, erase_move, empty_by, empty_bound, idle_of, if_some_advance, over_advance, bound_advance, round_advance, separator_advance, when_advance, next_of, finished_of, rank, weight}
+use Rattle.mbe_semantics.specs.Bindings.Account.{no_commands, no_account, pushed_default, pushed_nested, rounds_of_items, commands_of}
 use Rattle.mbe_semantics.specs.Matching.Held.{completed}
 use Rattle.mbe_semantics.specs.Matching.Lists.{In}
 use Rattle.mbe_semantics.specs.Matching.Settled.{load}
@@ -22,11 +22,11 @@ map_if_some : (f : Bool) (n : ℕ) (x : Beginning) → option_map erase_move (if
 map_if_some f zero x = refl
 map_if_some f (suc n) x = refl
 
-map_matched : (w : Option ℕ) (rest : Ops) (is : Items) (up : List Frame) → map erase (empty_of (matched_by w) rest is up) ≡ empty_by w (outline rest (bind is (base_of up)) (edges_of up))
+map_matched : (w : Option ℕ) (rest : Ops) (is : Items) (up : List Frame) → map erase (empty_of (matched_by w) rest is up) ≡ empty_by w (outline rest (written is (base_of up)) (edges_of up))
 map_matched None rest is up = refl
 map_matched (Some n) rest is up = map_if_none n (dot rest (item is (matched n)) up)
 
-map_bound : (name : Name) (w : Option Fragment) (rest : Ops) (is : Items) (up : List Frame) → map erase (empty_of (bound_by name w) rest is up) ≡ empty_bound name w rest (bind is (base_of up)) (edges_of up)
+map_bound : (name : Name) (w : Option Fragment) (rest : Ops) (is : Items) (up : List Frame) → map erase (empty_of (bound_by name w) rest is up) ≡ empty_bound name w rest (written is (base_of up)) (edges_of up)
 map_bound name None rest is up = refl
 map_bound name (Some x) rest is up = map_if_none (flat_len x.trees) (dot rest (item is (bound name x)) up)
 
@@ -47,40 +47,40 @@ erase_idle i q (dot no_ops is (inside d b rest js ∷ up)) e = refl
 erase_idle i q (dot no_ops is (within b s k rest js rs ∷ up)) e =
     let f : start_of up + items_width js + (rounds_width rs + items_width is + 0) ≡ q = omega arith in
     map_again s k _ _
-    ∙ ap (λ p. again_of s k (outline b [] (edge b s k rest p (add_round (bind is []) (bind_rounds rs (bind js (base_of up)))) ∷ edges_of up))
-    ++ (outline rest (add_round (bind is []) (bind_rounds rs (bind js (base_of up)))) (edges_of up) ∷ [])) f
+    ∙ ap (λ p. again_of s k (outline b (pushed_default (written is (record { finished = rounds_of_items rs; current = no_commands }))) (edge b s k rest p (written js (base_of up)) ∷ edges_of up))
+    ++ (outline rest (pushed_nested (written js (base_of up)) (written is (record { finished = rounds_of_items rs; current = no_commands }))) (edges_of up) ∷ [])) f
 erase_idle i q (dot (op (token t) rest) is up) e = map_matched (i.token_at t q) rest is up
 erase_idle i q (dot (op (variable name kind span) rest) is up) e = map_bound name (i.fragment_at kind q) rest is up
 erase_idle i q (dot (op (expression x) rest) is up) e = refl
 erase_idle i q (dot (op (group d b) rest) is up) e = refl
 erase_idle i q (dot (op (repetition b s k) rest) is up) e =
     let f : start_of up + items_width is + 0 ≡ q = omega arith in
-    ap (λ l. outline b [] (edge b s k rest (start_of up + items_width is + 0) (bind is (base_of up)) ∷ edges_of up) ∷ l) (map_skip k _)
-    ∙ ap (λ p. outline b [] (edge b s k rest p (bind is (base_of up)) ∷ edges_of up) ∷ skip_of k (outline rest (skip_names (names_of b) (bind is (base_of up))) (edges_of up))) f
+    ap (λ l. outline b no_account (edge b s k rest (start_of up + items_width is + 0) (written is (base_of up)) ∷ edges_of up) ∷ l) (map_skip k _)
+    ∙ ap (λ p. outline b no_account (edge b s k rest p (written is (base_of up)) ∷ edges_of up) ∷ skip_of k (outline rest (skipped_names (names_of b) (written is (base_of up))) (edges_of up))) f
 
 map_when : (b : Bool) (m : Move) → option_map erase_move (when b m) ≡ when_advance b (erase_move m)
 map_when true m = refl
 map_when false m = refl
 
-map_over_matched : (w : Option ℕ) (rest : Ops) (is : Items) (up : List Frame) → option_map erase_move (over_of false (matched_by w) rest is up) ≡ over_advance w (outline rest (bind is (base_of up)) (edges_of up))
+map_over_matched : (w : Option ℕ) (rest : Ops) (is : Items) (up : List Frame) → option_map erase_move (over_of false (matched_by w) rest is up) ≡ over_advance w (outline rest (written is (base_of up)) (edges_of up))
 map_over_matched None rest is up = refl
 map_over_matched (Some n) rest is up = map_if_some false n (dot rest (item is (matched n)) up)
 
-map_over_bound : (name : Name) (w : Option Fragment) (rest : Ops) (is : Items) (up : List Frame) → option_map erase_move (over_of true (bound_by name w) rest is up) ≡ bound_advance name w rest (bind is (base_of up)) (edges_of up)
+map_over_bound : (name : Name) (w : Option Fragment) (rest : Ops) (is : Items) (up : List Frame) → option_map erase_move (over_of true (bound_by name w) rest is up) ≡ bound_advance name w rest (written is (base_of up)) (edges_of up)
 map_over_bound name None rest is up = refl
 map_over_bound name (Some x) rest is up = map_if_some true (flat_len x.trees) (dot rest (item is (bound name x)) up)
 
 map_round : (k : RepeatKind) (w : Option ℕ) (q : ℕ) (b : Ops) (s : Option Separator) (rest : Ops) (js : Items) (rs : Rounds) (up : List Frame) (is : Items) →
     ((n : ℕ) → start_of up + items_width js + (rounds_width rs + items_width is + n) ≡ q + n) →
-    option_map erase_move (round_move k w b s rest js rs up is) ≡ round_advance k w q b s rest (add_round (bind is []) (bind_rounds rs (bind js (base_of up)))) (edges_of up)
+    option_map erase_move (round_move k w b s rest js rs up is) ≡ round_advance k w q b s rest (written js (base_of up)) (written is (record { finished = rounds_of_items rs; current = no_commands })) (edges_of up)
 map_round k None q b s rest js rs up is e = refl
-map_round ZeroOrMore (Some n) q b s rest js rs up is e = ap (λ p. Some (advance n false (outline b [] (edge b s ZeroOrMore rest p (add_round (bind is []) (bind_rounds rs (bind js (base_of up)))) ∷ edges_of up)))) (e n)
-map_round OneOrMore (Some n) q b s rest js rs up is e = ap (λ p. Some (advance n false (outline b [] (edge b s OneOrMore rest p (add_round (bind is []) (bind_rounds rs (bind js (base_of up)))) ∷ edges_of up)))) (e n)
+map_round ZeroOrMore (Some n) q b s rest js rs up is e = ap (λ p. Some (advance n false (outline b (pushed_default (written is (record { finished = rounds_of_items rs; current = no_commands }))) (edge b s ZeroOrMore rest p (written js (base_of up)) ∷ edges_of up)))) (e n)
+map_round OneOrMore (Some n) q b s rest js rs up is e = ap (λ p. Some (advance n false (outline b (pushed_default (written is (record { finished = rounds_of_items rs; current = no_commands }))) (edge b s OneOrMore rest p (written js (base_of up)) ∷ edges_of up)))) (e n)
 map_round ZeroOrOne (Some n) q b s rest js rs up is e = refl
 
 map_separator : (i : Input) (q : ℕ) (s : Option Separator) (k : RepeatKind) (b rest : Ops) (js : Items) (rs : Rounds) (up : List Frame) (is : Items) →
     ((n : ℕ) → start_of up + items_width js + (rounds_width rs + items_width is + n) ≡ q + n) →
-    option_map erase_move (separator_move i q s k b rest js rs up is) ≡ separator_advance i q s k b rest (add_round (bind is []) (bind_rounds rs (bind js (base_of up)))) (edges_of up)
+    option_map erase_move (separator_move i q s k b rest js rs up is) ≡ separator_advance i q s k b rest (written js (base_of up)) (written is (record { finished = rounds_of_items rs; current = no_commands })) (edges_of up)
 map_separator i q None k b rest js rs up is e = refl
 map_separator i q (Some c) k b rest js rs up is e = map_round k (i.separator_at c q) q b (Some c) rest js rs up is e
 
@@ -94,7 +94,7 @@ erase_next i q (dot (op (expression x) rest) is up) e = refl
 erase_next i q (dot (op (group d b) rest) is up) e = map_when (i.opens_at d.kind q) _
 erase_next i q (dot (op (repetition b s k) rest) is up) e = refl
 
-pub erase_finished : (x : Beginning) → option_map environment_of (completed x) ≡ finished_of (erase x)
+pub erase_finished : (x : Beginning) → option_map commands_of (completed x) ≡ finished_of (erase x)
 erase_finished (dot no_ops is []) = refl
 erase_finished (dot no_ops is (inside d b rest js ∷ up)) = refl
 erase_finished (dot no_ops is (within b s k rest js rs ∷ up)) = refl

@@ -18,7 +18,7 @@ use Rattle.mbe_laws.proofs.Matching.Forest.{in_left, in_right, distinct_append}
 use Rattle.mbe_laws.proofs.Matching.Law.{Inv}
 use Rattle.mbe_laws.proofs.Matching.Advance.{inv-start, inv-next, next_fresh, some_width, right-ambiguous, right-stuck, last-place}
 use Rattle.mbe_laws.proofs.Matching.Final.{right_of, reading_of}
-use Rattle.mbe_semantics.specs.Bindings.Environment.{Environment, environment_of}
+use Rattle.mbe_semantics.specs.Bindings.Account.{Commands, commands_of}
 
 len_map : {A B : Type 0} (f : A → B) (xs : List A) → length (map f xs) ≡ length xs
 len_map f [] = refl
@@ -106,11 +106,11 @@ module _ (i : Input) (pat : Ops) (len : ℕ) (lawful : Lawful i len) (checked : 
   pub comes_start : (o : Outline) → erase (start pat) ≡ o → Comes i pat 0 (o ∷ [])
   comes_start o e = record { xs = start pat ∷ []; inv = inv-start i pat len lawful checked; same = ap (λ v. v ∷ []) e }
 
-  module _ (q : ℕ) (spots : List Outline) (c : Comes i pat q spots) (ws : List Advance) (n : List Environment) (s : Settled i q spots ws n) where
+  module _ (q : ℕ) (spots : List Outline) (c : Comes i pat q spots) (ws : List Advance) (n : List Commands) (s : Settled i q spots ws n) where
     moves : List Move
     moves = moves_of i q (held i q c.xs)
 
-    settled : (ws ≡ map erase_move (moves_of i q (held i q c.xs))) × (n ≡ map environment_of (completions (held i q c.xs)))
+    settled : (ws ≡ map erase_move (moves_of i q (held i q c.xs))) × (n ≡ map commands_of (completions (held i q c.xs)))
     settled = s pat c.xs checked (stack_of i pat q spots c)
 
     pub right_clash : clash ws ≡ true → Right i pat len (ambiguous q)
@@ -136,24 +136,24 @@ module _ (i : Input) (pat : Ops) (len : ℕ) (lawful : Lawful i len) (checked : 
 
     -- the end
     pub right_end : (v : Verdict) → q ≡ len → v ≡ verdict_at len (length n) → Right i pat len v
-    right_end v e f = subst (Right i pat len) (sym (f ∙ ap (λ l. verdict_at len (length l)) settled.1 ∙ ap (verdict_at len) (len_map environment_of (completions (held i q c.xs))) ∙ sym (count_verdict len (completions (held i q c.xs))))) (at_end q e c.inv)
+    right_end v e f = subst (Right i pat len) (sym (f ∙ ap (λ l. verdict_at len (length l)) settled.1 ∙ ap (verdict_at len) (len_map commands_of (completions (held i q c.xs))) ∙ sym (count_verdict len (completions (held i q c.xs))))) (at_end q e c.inv)
       where
         at_end : (p : ℕ) → p ≡ len → Inv i pat p c.xs → Right i pat len (verdict_of len (completions (held i p c.xs)))
         at_end p d = subst (λ k. Inv i pat k c.xs → Right i pat len (verdict_of len (completions (held i k c.xs)))) (sym d)
             (λ w. right_of i pat len lawful checked c.xs w (completions (held i len c.xs)) refl)
 
     -- what the only reading binds
-    pub binds_end : (e : Environment) → q ≡ len → n ≡ e ∷ [] → (is : Items) × Reading i pat len is × (e ≡ environment_of is)
+    pub binds_end : (e : Commands) → q ≡ len → n ≡ e ∷ [] → (is : Items) × Reading i pat len is × (e ≡ commands_of is)
     binds_end e f g = at_end q f c.inv (completions (held i q c.xs)) refl (sym settled.1 ∙ g)
       where
-        at_end : (p : ℕ) → p ≡ len → Inv i pat p c.xs → (rs : List Items) → completions (held i p c.xs) ≡ rs → map environment_of rs ≡ e ∷ [] →
-            (is : Items) × Reading i pat len is × (e ≡ environment_of is)
+        at_end : (p : ℕ) → p ≡ len → Inv i pat p c.xs → (rs : List Items) → completions (held i p c.xs) ≡ rs → map commands_of rs ≡ e ∷ [] →
+            (is : Items) × Reading i pat len is × (e ≡ commands_of is)
         at_end p d w [] g h = cc
         at_end p d w (is ∷ rs) g h = (
           is,
           subst (λ k. Inv i pat k c.xs → completions (held i k c.xs) ≡ is ∷ rs → Reading i pat len is) (sym d)
               (λ w' g'. reading_of i pat len lawful checked c.xs w' is (subst (In is) (sym g') (inl refl))) w g,
-          (let k : e ≡ environment_of is = cc in k),
+          (let k : e ≡ commands_of is = cc in k),
         )
 
     -- on to the next place

@@ -17,13 +17,13 @@ use Rattle.mbe_semantics.specs.Matching.Settled.{Stack, load}
 use Rattle.mbe_laws.proofs.Matching.Forest.{in_either}
 use Rattle.mbe_laws.proofs.Matching.Rank.{idle-falls, whole-step}
 use Rattle.mbe_laws.proofs.Matching.Outlines.{erase_idle, erase_next, erase_finished, load_append, idle_light}
-use Rattle.mbe_semantics.specs.Bindings.Environment.{Environment, environment_of}
+use Rattle.mbe_semantics.specs.Bindings.Account.{Commands, commands_of}
 
 map_cons : (o : Option Move) (ms : List Move) → map erase_move (cons_option o ms) ≡ option_to_list (option_map erase_move o) ++ map erase_move ms
 map_cons None ms = refl
 map_cons (Some m) ms = refl
 
-count_cons : (o : Option Items) (rs : List Items) → map environment_of (cons_option o rs) ≡ option_to_list (option_map environment_of o) ++ map environment_of rs
+count_cons : (o : Option Items) (rs : List Items) → map commands_of (cons_option o rs) ≡ option_to_list (option_map commands_of o) ++ map commands_of rs
 count_cons None rs = refl
 count_cons (Some r) rs = refl
 
@@ -43,7 +43,7 @@ module _ (i : Input) (pat : Ops) (len : ℕ) (lawful : Lawful i len) (checked : 
     pub ys : List Beginning
     pub stack : Stack i pat q ys new
     pub moves : map erase_move (moves_of i q (held i q xs)) ≡ option_to_list (next_of i q o) ++ map erase_move (moves_of i q (held i q ys))
-    pub ends : map environment_of (completions (held i q xs)) ≡ option_to_list (finished_of o) ++ map environment_of (completions (held i q ys))
+    pub ends : map commands_of (completions (held i q xs)) ≡ option_to_list (finished_of o) ++ map commands_of (completions (held i q ys))
 
   turn_at : (x : Beginning) (ys : List Beginning) (spots new : List Outline) (o : Outline) → ((z : Beginning) → In z (x ∷ ys) → At i pat q z) → erase x ≡ o → map erase ys ≡ reverse spots →
       new ≡ spots ++ reverse (idle_of i q o) → Turn (x ∷ ys) o new
@@ -58,9 +58,9 @@ module _ (i : Input) (pat : Ops) (len : ℕ) (lawful : Lawful i len) (checked : 
             ∙ map_cons (next i q x) (moves_of i q (held i q (idle i q x ++ ys)))
             ∙ ap (λ v. option_to_list v ++ map erase_move (moves_of i q (held i q (idle i q x ++ ys)))) (erase_next i q x p ∙ ap (next_of i q) e);
         ends =
-            ap (λ l. map environment_of (completions l)) (held_step x ys ax)
+            ap (λ l. map commands_of (completions l)) (held_step x ys ax)
             ∙ count_cons (completed x) (completions (held i q (idle i q x ++ ys)))
-            ∙ ap (λ v. option_to_list v ++ map environment_of (completions (held i q (idle i q x ++ ys)))) (erase_finished x ∙ ap finished_of e);
+            ∙ ap (λ v. option_to_list v ++ map commands_of (completions (held i q (idle i q x ++ ys)))) (erase_finished x ∙ ap finished_of e);
       }
     where
       sound : (z : Beginning) → In z (idle i q x ++ ys) → At i pat q z
@@ -108,16 +108,16 @@ module _ (i : Input) (pat : Ops) (len : ℕ) (lawful : Lawful i len) (checked : 
   empty_stack (x ∷ xs) s = let e : map erase (x ∷ xs) ≡ [] = s.same in cc
 
 -- what a loop over the stack keeps: the steps so far and those of the stack are those of the first stack
-pub record Keeps (i : Input) (pat : Ops) (q : ℕ) (xs : List Beginning) (spots : List Outline) (ws : List Advance) (n : List Environment) : Type 0 where
+pub record Keeps (i : Input) (pat : Ops) (q : ℕ) (xs : List Beginning) (spots : List Outline) (ws : List Advance) (n : List Commands) : Type 0 where
   pub ys : List Beginning
   pub stack : Stack i pat q ys spots
   pub moves : ws ++ map erase_move (moves_of i q (held i q ys)) ≡ map erase_move (moves_of i q (held i q xs))
-  pub ends : n ++ map environment_of (completions (held i q ys)) ≡ map environment_of (completions (held i q xs))
+  pub ends : n ++ map commands_of (completions (held i q ys)) ≡ map commands_of (completions (held i q xs))
 
 pub keeps_start : (i : Input) (pat : Ops) (q : ℕ) (xs : List Beginning) (spots : List Outline) → Stack i pat q xs spots → Keeps i pat q xs spots [] []
 keeps_start i pat q xs spots s = record { ys = xs; stack = s; moves = refl; ends = refl }
 
-pub keeps_turn : (i : Input) (pat : Ops) (len : ℕ) → Lawful i len → Checked pat → (q : ℕ) (xs : List Beginning) (spots old new : List Outline) (o : Outline) (ws vs : List Advance) (n m : List Environment) →
+pub keeps_turn : (i : Input) (pat : Ops) (len : ℕ) → Lawful i len → Checked pat → (q : ℕ) (xs : List Beginning) (spots old new : List Outline) (o : Outline) (ws vs : List Advance) (n m : List Commands) →
     old ≡ spots ++ (o ∷ []) → new ≡ spots ++ reverse (idle_of i q o) → vs ≡ ws ++ option_to_list (next_of i q o) → m ≡ n ++ option_to_list (finished_of o) →
     Keeps i pat q xs old ws n → Keeps i pat q xs new vs m
 keeps_turn i pat len w c q xs spots old new o ws vs n m a b d e k =
@@ -130,24 +130,24 @@ keeps_turn i pat len w c q xs spots old new o ws vs n m a b d e k =
           ∙ append_assoc ws (option_to_list (next_of i q o)) (map erase_move (moves_of i q (held i q t.ys)))
           ∙ ap (λ l. ws ++ l) (sym t.moves) ∙ k.moves;
       ends =
-          ap (λ l. l ++ map environment_of (completions (held i q t.ys))) e
-          ∙ append_assoc n (option_to_list (finished_of o)) (map environment_of (completions (held i q t.ys)))
+          ap (λ l. l ++ map commands_of (completions (held i q t.ys))) e
+          ∙ append_assoc n (option_to_list (finished_of o)) (map commands_of (completions (held i q t.ys)))
           ∙ ap (λ l. n ++ l) (sym t.ends) ∙ k.ends;
     }
 
-pub keeps_light : (i : Input) (pat : Ops) (len : ℕ) → Lawful i len → Checked pat → (q : ℕ) (xs : List Beginning) (spots old new : List Outline) (o : Outline) (ws : List Advance) (n : List Environment) →
+pub keeps_light : (i : Input) (pat : Ops) (len : ℕ) → Lawful i len → Checked pat → (q : ℕ) (xs : List Beginning) (spots old new : List Outline) (o : Outline) (ws : List Advance) (n : List Commands) →
     old ≡ spots ++ (o ∷ []) → new ≡ spots ++ reverse (idle_of i q o) → Keeps i pat q xs old ws n → load q new < load q old
 keeps_light i pat len w c q xs spots old new o ws n a b k =
     subst (λ l. load q new < load q l) (sym a) (turn_light i pat len w c q k.ys spots new o (subst (λ l. Stack i pat q k.ys l) a k.stack) b)
 
-pub keeps_end : (i : Input) (pat : Ops) (len : ℕ) → Lawful i len → Checked pat → (q : ℕ) (xs : List Beginning) (ws : List Advance) (n : List Environment) → Keeps i pat q xs [] ws n →
-    (ws ≡ map erase_move (moves_of i q (held i q xs))) × (n ≡ map environment_of (completions (held i q xs)))
+pub keeps_end : (i : Input) (pat : Ops) (len : ℕ) → Lawful i len → Checked pat → (q : ℕ) (xs : List Beginning) (ws : List Advance) (n : List Commands) → Keeps i pat q xs [] ws n →
+    (ws ≡ map erase_move (moves_of i q (held i q xs))) × (n ≡ map commands_of (completions (held i q xs)))
 keeps_end i pat len w c q xs ws n k =
     let e : k.ys ≡ [] = empty_stack i pat len w c q k.ys k.stack in
     let f : ws ++ map erase_move (moves_of i q (held i q [])) ≡ map erase_move (moves_of i q (held i q xs)) =
     subst (λ l. ws ++ map erase_move (moves_of i q (held i q l)) ≡ map erase_move (moves_of i q (held i q xs))) e k.moves in
-    let g : n ++ map environment_of (completions (held i q [])) ≡ map environment_of (completions (held i q xs)) =
-    subst (λ l. n ++ map environment_of (completions (held i q l)) ≡ map environment_of (completions (held i q xs))) e k.ends in
+    let g : n ++ map commands_of (completions (held i q [])) ≡ map commands_of (completions (held i q xs)) =
+    subst (λ l. n ++ map commands_of (completions (held i q l)) ≡ map commands_of (completions (held i q xs))) e k.ends in
     (sym (append-nil ws) ∙ f, sym (append-nil n) ∙ g)
 
 pub map_none : {A B : Type 0} (f : A → B) (xs : List A) → length xs ≡ 0 → map f xs ≡ []

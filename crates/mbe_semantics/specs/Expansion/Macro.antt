@@ -65,13 +65,17 @@ style_bits (r ∷ rs) =
 abbrev pub arm_of : ℕ → Option ℕ
 arm_of n = if nat_lt n (2 ^ 32) then Some n else None
 
+-- the invisible group around nothing
+abbrev pub empty_tree : Span → Forest
+empty_tree span = group (record { opening = span; close = span; kind = Invisible }) none none
+
 -- An answer without an error is the expansion by the first rule that applies, and where some rule applies there is
 -- no error. With an error the rule is the closest one, and without a rule of the style there is none.
-pub record Expands (g : Grammar) (Marks : Span → Span → Type 0) (m : Macro) (style : MacroCallStyle) (argument : Forest) (call_site : Span)
-    (out : Forest) (index : Option ℕ) (err : Option ExpandError) : Type 0 where
-  pub sound : IsNone err → (n : ℕ) × IsExpansion g style argument Marks call_site m.rules n out × (index ≡ arm_of n)
-  pub complete : (r : Rule) → Contains m.rules r → Applies g style argument r → IsNone err
-  pub recovers : (e : ExpandError) → err ≡ Some e → HasStyle m.rules style → (n : ℕ) × IsClosest g style argument m.rules n × (index ≡ arm_of n)
-  pub no_rule : (HasStyle m.rules style → ⊥) →
-      (out ≡ group (record { opening = call_site; close = call_site; kind = Invisible }) none none)
-      × (index ≡ None) × (err ≡ Some (record { span = call_site; kind = no_matching_rule }))
+pub record Expands (g : Grammar) (Marks : Span → Span → Type 0) (rules : List Rule) (style : MacroCallStyle)
+    (argument : Forest) (call_site : Span) (out : Forest) (index : Option ℕ) (err : Option ExpandError) : Type 0 where
+  pub sound : IsNone err → (n : ℕ) × IsExpansion g style argument Marks call_site rules n out × (index ≡ arm_of n)
+  pub complete : (r : Rule) → Contains rules r → Applies g style argument r → IsNone err
+  pub recovers : (e : ExpandError) → err ≡ Some e → HasStyle rules style →
+      (n : ℕ) × IsClosest g style argument rules n × (index ≡ arm_of n)
+  pub no_rule : (HasStyle rules style → ⊥) → (out ≡ empty_tree call_site) × (index ≡ None)
+      × (err ≡ Some (record { span = call_site; kind = no_matching_rule }))

@@ -1,19 +1,25 @@
 // What metavariable expressions write.
 ghost use Rattle.unicode_ident.specs.Ident as xid;
 ghost use Rattle.std.specs.List.{list_all};
-ghost use Rattle.std.specs.Prelude.{◌||◌, ◌==◌, ◌≡◌, ◌<◌, ◌^◌, Some, None, true, false, not, is_some, is_none, chars, option_map, string_bytes, OnOk, IfOk, IfErr};
+ghost use Rattle.std.specs.Prelude.{◌||◌, ◌==◌, ◌≡◌, ◌<◌, ◌^◌, Some, None, true, false, not};
+ghost use Rattle.std.specs.Prelude.{is_some, is_none, chars, option_map, string_bytes, OnOk, IfOk};
+ghost use Rattle.std.specs.Prelude.{IfErr};
 ghost use Rattle.mbe_tt.specs.Buffers.Building.{put};
 ghost use Rattle.mbe_tt.specs.Fragments.Grammar.{Grammar};
 ghost use Rattle.mbe_semantics.specs.Writing.Concat as spec;
-ghost use Rattle.mbe_semantics.specs.Writing.Concat.{concat_text, are_identifier_chars, text_of_element, text_of_value, text_of_tree, text_in_style};
+ghost use Rattle.mbe_semantics.specs.Writing.Concat.{concat_text, are_identifier_chars};
+ghost use Rattle.mbe_semantics.specs.Writing.Concat.{text_of_element, text_of_value, text_of_tree};
+ghost use Rattle.mbe_semantics.specs.Writing.Concat.{text_in_style};
 ghost use Rattle.mbe_transcriber.specs.Counting.{simple_value};
 ghost use Rattle.mbe_semantics.specs.Laws.Marking.{MayMark};
 ghost use Rattle.mbe_semantics.specs.Bindings.Missing.{default_trees, no_span};
 ghost use Rattle.mbe_semantics.specs.Writing.Rounds.{followed};
-ghost use Rattle.mbe_semantics.specs.Writing.Substitution.{integer, total_of, is_simple, is_counted};
+ghost use Rattle.mbe_semantics.specs.Writing.Substitution.{integer, total_of, is_simple};
+ghost use Rattle.mbe_semantics.specs.Writing.Substitution.{is_counted};
 ghost use Rattle.mbe_log.specs.BindingViews.{bound_by, fragment_seen};
 ghost use Rattle.mbe_ops.specs.Views.{element_seen, elements_seen};
-ghost use Rattle.mbe_transcriber.specs.Writing.{Appends, Wrote, IsNumber, IsConcatWritten, IsJoined};
+ghost use Rattle.mbe_transcriber.specs.Writing.{Appends, Wrote, IsNumber, IsConcatWritten};
+ghost use Rattle.mbe_transcriber.specs.Writing.{IsJoined};
 
 use crate::transcriber::fault::{Fault, FaultKind};
 use crate::transcriber::following::{Lost, Simple, follow, simple_at, value_total};
@@ -59,8 +65,10 @@ pub(crate) fn write_count<'t, A: Allocator + Copy, G, M>(
     path: &[Level],
     builder: &mut TopSubtreeBuilder<A>,
 ) -> Result<Option<Fault<'t, A>>, AllocError>
-    ensures { IfOk result (λ fault. Wrote (is_some fault) (not (is_counted depth (followed (bound_by ctx.now.bindings.now) path.now name.now)))
-        (IsNumber (total_of depth (followed (bound_by ctx.now.bindings.now) path.now name.now)) ctx.now.call_site) builder.old builder.new) }
+    ensures { IfOk result (λ fault. Wrote (is_some fault)
+        (not (is_counted depth (followed (bound_by ctx.now.bindings.now) path.now name.now)))
+        (IsNumber (total_of depth (followed (bound_by ctx.now.bindings.now) path.now name.now))
+        ctx.now.call_site) builder.old builder.new) }
 {
     match count(ctx.bindings, name, depth, path) {
         Ok(number) => {
@@ -81,7 +89,8 @@ pub(crate) fn find_ignored<'t, A: Allocator>(
     id: Span,
     path: &[Level],
 ) -> Option<Fault<'t, A>>
-    ensures { is_some result ≡ not (is_simple (followed (bound_by bindings.now) path.now name.now)) }
+    ensures { is_some result
+        ≡ not (is_simple (followed (bound_by bindings.now) path.now name.now)) }
 {
     simple_of(bindings, name, id, path).err()
 }
@@ -93,8 +102,10 @@ fn simple_of<'b, 't, 'a, A: Allocator>(
     span: Span,
     path: &[Level],
 ) -> Result<Simple<'b, 'a, A>, Fault<'t, A>>
-    ensures found { IfOk result (λ s. followed (bound_by bindings.now) path.now name.now ≡ Some (simple_value s)) }
-    ensures lost { IfErr result (λ _. is_simple (followed (bound_by bindings.now) path.now name.now) ≡ false) }
+    ensures found { IfOk result (λ s. followed (bound_by bindings.now) path.now name.now
+        ≡ Some (simple_value s)) }
+    ensures lost { IfErr result (λ _.
+        is_simple (followed (bound_by bindings.now) path.now name.now) ≡ false) }
 {
     match bindings.get(name) {
         Some(binding) => simple_at(binding, name, span, path),
@@ -112,9 +123,11 @@ fn count<'t, A: Allocator>(
     depth: usize,
     path: &[Level],
 ) -> Result<usize, FaultKind<'t, A>>
-    ensures found { IfOk result (λ n. (is_counted depth (followed (bound_by bindings.now) path.now name.now) ≡ true)
+    ensures found { IfOk result
+        (λ n. (is_counted depth (followed (bound_by bindings.now) path.now name.now) ≡ true)
         × (n ≡ total_of depth (followed (bound_by bindings.now) path.now name.now))) }
-    ensures lost { IfErr result (λ _. is_counted depth (followed (bound_by bindings.now) path.now name.now) ≡ false) }
+    ensures lost { IfErr result
+        (λ _. is_counted depth (followed (bound_by bindings.now) path.now name.now) ≡ false) }
 {
     let Some(binding) = bindings.get(name) else {
         return Err(FaultKind::Unresolved(name));
@@ -135,8 +148,11 @@ pub(crate) fn write_concat<'t, A: Allocator + Copy, G: FragmentGrammar, M: Fn(Sp
     builder: &mut TopSubtreeBuilder<A>,
 ) -> Result<Option<Fault<'t, A>>, AllocError>
     requires { MayMark (M.pre ctx.now.marker) }
-    ensures { IfOk result (λ fault. Wrote (is_some fault) (is_none (concat_text (bound_by ctx.now.bindings.now) path.now (elements_seen elements.now)))
-        (IsConcatWritten (G.grammar ctx.now.grammar.now) (M.post ctx.now.marker) span (concat_text (bound_by ctx.now.bindings.now) path.now (elements_seen elements.now)))
+    ensures { IfOk result (λ fault. Wrote (is_some fault)
+        (is_none (concat_text
+        (bound_by ctx.now.bindings.now) path.now (elements_seen elements.now)))
+        (IsConcatWritten (G.grammar ctx.now.grammar.now) (M.post ctx.now.marker) span
+        (concat_text (bound_by ctx.now.bindings.now) path.now (elements_seen elements.now)))
         builder.old builder.new) }
 {
     let (text, fault) = joined_text(ctx, elements, path)?;
@@ -159,7 +175,9 @@ fn write_name<A: Allocator + Copy, G: FragmentGrammar, M: Fn(Span) -> Span + Cop
     builder: &mut TopSubtreeBuilder<A>,
 ) -> Result<(), AllocError>
     requires { MayMark (M.pre ctx.now.marker) }
-    ensures { OnOk result (Appends (IsConcatWritten (G.grammar ctx.now.grammar.now) (M.post ctx.now.marker) span (Some text.now)) builder.old builder.new) }
+    ensures { OnOk result (Appends
+        (IsConcatWritten (G.grammar ctx.now.grammar.now) (M.post ctx.now.marker) span
+        (Some text.now)) builder.old builder.new) }
 {
     let is_raw = if ctx.grammar.is_keyword(text) {
         IdentIsRaw::Yes
@@ -179,7 +197,8 @@ fn joined_text<'t, A: Allocator + Copy, G, M>(
     elements: &'t [ConcatMetaVarExprElem<A>],
     path: &[Level],
 ) -> Result<(String<A>, Option<Fault<'t, A>>), AllocError>
-    ensures { IfOk result (λ r. IsJoined (string_bytes r.0) (is_some r.1) (spec.joined_text (bound_by ctx.now.bindings.now) path.now (elements_seen elements.now))) }
+    ensures { IfOk result (λ r. IsJoined (string_bytes r.0) (is_some r.1)
+        (spec.joined_text (bound_by ctx.now.bindings.now) path.now (elements_seen elements.now))) }
 {
     let mut text = String::new(ctx.alloc);
     let mut fault = None;
@@ -198,8 +217,10 @@ fn element_text<'b, 't: 'b, A: Allocator>(
     element: &'t ConcatMetaVarExprElem<A>,
     path: &[Level],
 ) -> Result<&'b str, Fault<'t, A>>
-    ensures found { IfOk result (λ text. text_of_element (bound_by bindings.now) path.now (element_seen element.now) ≡ Some text.now) }
-    ensures lost { IfErr result (λ _. text_of_element (bound_by bindings.now) path.now (element_seen element.now) ≡ None) }
+    ensures found { IfOk result (λ text. text_of_element
+        (bound_by bindings.now) path.now (element_seen element.now) ≡ Some text.now) }
+    ensures lost { IfErr result (λ _. text_of_element
+        (bound_by bindings.now) path.now (element_seen element.now) ≡ None) }
 {
     let variable = match element {
         ConcatMetaVarExprElem::Ident(ident) => return Ok(ident.sym.as_str()),
@@ -218,7 +239,8 @@ fn element_text<'b, 't: 'b, A: Allocator>(
 
 // The text of one identifier or literal. Expressions and paths have none.
 fn fragment_text<'b, A: Allocator>(fragment: &'b Fragment<'_, A>) -> Option<&'b str>
-    ensures { option_map (λ text. text.now) result ≡ text_in_style (fragment_seen fragment.now).style (fragment_seen fragment.now).trees }
+    ensures { option_map (λ text. text.now) result
+        ≡ text_in_style (fragment_seen fragment.now).style (fragment_seen fragment.now).trees }
 {
     let Fragment::Tokens { tree, .. } = fragment else {
         return None;

@@ -9,7 +9,7 @@ use mbe_tt::span::Span;
 use mbe_tt::symbol::Symbol;
 use std::alloc::{AllocError, Allocator};
 
-/// The first fault that was met, and where it is told.
+/// The first fault that was met, and where it is reported.
 #[derive_where(Clone, Copy)]
 pub(crate) struct Fault<'t, A: Allocator> {
     pub(crate) span: Span,
@@ -21,9 +21,9 @@ pub(crate) struct Fault<'t, A: Allocator> {
 pub(crate) enum FaultKind<'t, A: Allocator> {
     /// Nothing is bound to it.
     Unresolved(&'t Symbol<A>),
-    /// Behind all rounds it is a list still.
+    /// After all rounds it is a list still.
     Nested(&'t Symbol<A>),
-    /// Behind all rounds it is a repetition that was skipped.
+    /// After all rounds it is a repetition that was skipped.
     Empty(&'t Symbol<A>),
     /// It is a repetition that was skipped, with a round around it left.
     EmptyInside(&'t Symbol<A>),

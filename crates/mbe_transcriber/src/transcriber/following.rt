@@ -1,11 +1,15 @@
 // Where a name leads in the rounds that a template is in, and how many rounds a repetition writes.
-ghost use Rattle.std.specs.Prelude.{◌≡◌, ◌≤◌, ◌^◌, ℕ, Some, None, true, false, filter_map, option_map, IfOk, IfErr, MatchOption};
+ghost use Rattle.std.specs.Prelude.{◌≡◌, ◌≤◌, ◌^◌, ℕ, Some, None, true, false, filter_map};
+ghost use Rattle.std.specs.Prelude.{option_map, IfOk, IfErr, MatchOption};
 ghost use Rattle.std.specs.Result.{result_ok};
-ghost use Rattle.mbe_transcriber.specs.Counting.{shortest, shorter, extent_seen, use_seen, simple_value};
+ghost use Rattle.mbe_transcriber.specs.Counting.{shortest, shorter, extent_seen, use_seen};
+ghost use Rattle.mbe_transcriber.specs.Counting.{simple_value};
 ghost use Rattle.mbe_semantics.specs.Syntax.Op.{uses_of, uses_of_op, uses_of_elements};
 ghost use Rattle.mbe_semantics.specs.Writing.Rounds as spec;
-ghost use Rattle.mbe_semantics.specs.Writing.Rounds.{follow, reach, kept, finite, level_at, rounds_of, value_total, totals};
-ghost use Rattle.mbe_semantics.specs.Writing.Substitution.{is_simple, extent_faults, index_of, rounds_in};
+ghost use Rattle.mbe_semantics.specs.Writing.Rounds.{follow, reach, kept, finite, level_at};
+ghost use Rattle.mbe_semantics.specs.Writing.Rounds.{rounds_of, value_total, totals};
+ghost use Rattle.mbe_semantics.specs.Writing.Substitution.{is_simple, extent_faults, index_of};
+ghost use Rattle.mbe_semantics.specs.Writing.Substitution.{rounds_in};
 ghost use Rattle.mbe_log.specs.BindingViews.{bound_by, value_seen, values_seen};
 ghost use Rattle.mbe_ops.specs.Views.{op_of, ops_of, elements_seen};
 
@@ -52,12 +56,13 @@ pub(crate) enum Extent {
     Endless,
 }
 
-// A list gives its value at each round. A fragment or a missing value gives itself, also before the path's end.
+// A list gives its value at each round. A fragment or a missing value stays, also before the path's end.
 pub(crate) fn follow<'b, 'a, A: Allocator>(
     binding: &'b Binding<'a, A>,
     path: &[Level],
 ) -> Result<&'b Binding<'a, A>, Lost>
-    ensures { option_map (λ b. value_seen b.now) (result_ok result) ≡ follow path.now (value_seen binding.now) }
+    ensures { option_map (λ b. value_seen b.now) (result_ok result)
+        ≡ follow path.now (value_seen binding.now) }
 {
     let Some((level, inner)) = path.split_first() else {
         return Ok(binding);
@@ -98,8 +103,10 @@ pub(crate) fn simple_at<'b, 't, 'a, A: Allocator>(
     span: Span,
     path: &[Level],
 ) -> Result<Simple<'b, 'a, A>, Fault<'t, A>>
-    ensures found { IfOk result (λ s. follow path.now (value_seen binding.now) ≡ Some (simple_value s)) }
-    ensures lost { IfErr result (λ _. is_simple (follow path.now (value_seen binding.now)) ≡ false) }
+    ensures found { IfOk result (λ s. follow path.now (value_seen binding.now)
+        ≡ Some (simple_value s)) }
+    ensures lost { IfErr result (λ _.
+        is_simple (follow path.now (value_seen binding.now)) ≡ false) }
 {
     let kind = match follow(binding, path) {
         Ok(Binding::Fragment(fragment)) => return Ok(Simple::Fragment(fragment)),
@@ -147,7 +154,8 @@ pub(crate) fn rounds_at(path: &[Level], depth: usize) -> usize
 #[cycle(totals)]
 #[tactic(auto, using(crate::proofs::FollowLemmas::value_views))]
 pub(crate) fn value_total<A: Allocator>(binding: &Binding<'_, A>, depth: usize) -> Option<usize>
-    ensures { MatchOption result (2 ^ 64 ≤ value_total depth (value_seen binding.now)) (λ n. n ≡ value_total depth (value_seen binding.now)) }
+    ensures { MatchOption result (2 ^ 64 ≤ value_total depth (value_seen binding.now))
+        (λ n. n ≡ value_total depth (value_seen binding.now)) }
 {
     match binding {
         Binding::Fragment(_) => Some(1),
@@ -165,7 +173,8 @@ pub(crate) fn value_total<A: Allocator>(binding: &Binding<'_, A>, depth: usize) 
 
 #[cycle(totals)]
 fn values_total<A: Allocator>(values: &[Binding<'_, A>], depth: usize) -> Option<usize>
-    ensures { MatchOption result (2 ^ 64 ≤ totals depth (values_seen values.now)) (λ n. n ≡ totals depth (values_seen values.now)) }
+    ensures { MatchOption result (2 ^ 64 ≤ totals depth (values_seen values.now))
+        (λ n. n ≡ totals depth (values_seen values.now)) }
 {
     let mut total: usize = 0;
     for value in values {
@@ -187,7 +196,8 @@ fn extent_under<A: Allocator>(
     want: Want,
     name: &Symbol<A>,
 ) -> Option<Extent>
-    ensures { option_map extent_seen result ≡ spec.extent_under (bound_by bindings.now) path.now (use_seen want name.now) }
+    ensures { option_map extent_seen result
+        ≡ spec.extent_under (bound_by bindings.now) path.now (use_seen want name.now) }
 {
     let value = reach(bindings.get(name)?, path)?;
     Some(match (value, want) {
@@ -201,7 +211,8 @@ fn extent_under<A: Allocator>(
 
 // The smaller of those that there are.
 fn shorter(one: Option<Extent>, two: Option<Extent>) -> Option<Extent>
-    ensures { option_map extent_seen result ≡ shorter (option_map extent_seen one) (option_map extent_seen two) }
+    ensures { option_map extent_seen result
+        ≡ shorter (option_map extent_seen one) (option_map extent_seen two) }
 {
     match (one, two) {
         (None, other) | (other, None) => other,
@@ -217,7 +228,9 @@ fn shortest<A: Allocator>(
     path: &[Level],
     ops: &[Op<A>],
 ) -> Option<Extent>
-    ensures { option_map extent_seen result ≡ shortest (filter_map (spec.extent_under (bound_by bindings.now) path.now) (uses_of (ops_of ops.now))) }
+    ensures { option_map extent_seen result
+        ≡ shortest (filter_map (spec.extent_under (bound_by bindings.now) path.now)
+        (uses_of (ops_of ops.now))) }
 {
     let mut least = None;
     for op in ops {
@@ -233,7 +246,9 @@ fn shortest_of_op<A: Allocator>(
     path: &[Level],
     op: &Op<A>,
 ) -> Option<Extent>
-    ensures { option_map extent_seen result ≡ shortest (filter_map (spec.extent_under (bound_by bindings.now) path.now) (uses_of_op (op_of op.now))) }
+    ensures { option_map extent_seen result
+        ≡ shortest (filter_map (spec.extent_under (bound_by bindings.now) path.now)
+        (uses_of_op (op_of op.now))) }
 {
     match op {
         Op::Literal(_) | Op::Ident(_) | Op::Punct(_) | Op::Index { .. } | Op::Len { .. } => None,
@@ -252,7 +267,9 @@ fn shortest_of_elements<A: Allocator>(
     path: &[Level],
     elements: &[ConcatMetaVarExprElem<A>],
 ) -> Option<Extent>
-    ensures { option_map extent_seen result ≡ shortest (filter_map (spec.extent_under (bound_by bindings.now) path.now) (uses_of_elements (elements_seen elements.now))) }
+    ensures { option_map extent_seen result
+        ≡ shortest (filter_map (spec.extent_under (bound_by bindings.now) path.now)
+        (uses_of_elements (elements_seen elements.now))) }
 {
     let mut least = None;
     for element in elements {
@@ -283,8 +300,10 @@ pub(crate) fn kept_rounds<'t, A: Allocator>(
     kind: RepeatKind,
     extent: Extent,
 ) -> Result<usize, FaultKind<'t, A>>
-    ensures kept { IfOk result (λ n. (kept kind (extent_seen extent) ≡ finite n) × (extent_faults kind (finite n) ≡ false)) }
-    ensures refused { IfErr result (λ _. extent_faults kind (kept kind (extent_seen extent)) ≡ true) }
+    ensures kept { IfOk result (λ n. (kept kind (extent_seen extent) ≡ finite n)
+        × (extent_faults kind (finite n) ≡ false)) }
+    ensures refused { IfErr result (λ _.
+        extent_faults kind (kept kind (extent_seen extent)) ≡ true) }
 {
     match (kind, extent) {
         (RepeatKind::ZeroOrOne, Extent::Endless) => Ok(1),

@@ -37,7 +37,9 @@ pub(crate) fn write_fragment<A: Allocator, M: Fn(Span) -> Span + Copy>(
     requires marks { MayMark (M.pre marker) }
     requires some_group { 0 < length builder.old }
     ensures open_groups { OnOk result (length builder.new ≡ length builder.old) }
-    ensures written { OnOk result (Appends (IsWrittenAs (M.post marker) call_site (fragment_seen fragment.now).style id (fragment_seen fragment.now).trees) builder.old builder.new) }
+    ensures written { OnOk result (Appends
+        (IsWrittenAs (M.post marker) call_site (fragment_seen fragment.now).style id
+        (fragment_seen fragment.now).trees) builder.old builder.new) }
 {
     match fragment {
         Fragment::Empty => Ok(()),
@@ -73,7 +75,8 @@ fn write_expression<A: Allocator, M: Fn(Span) -> Span + Copy>(
     requires marks { MayMark (M.pre marker) }
     requires some_group { 0 < length builder.old }
     ensures open_groups { OnOk result (length builder.new ≡ length builder.old) }
-    ensures written { OnOk result (Appends (spec.IsExpressionWritten (M.post marker) id (trees tree.entry)) builder.old builder.new) }
+    ensures written { OnOk result (Appends
+        (spec.IsExpressionWritten (M.post marker) id (trees tree.entry)) builder.old builder.new) }
 {
     let tree = tree.strip_invisible();
     if !needs_parentheses(tree) {
@@ -113,7 +116,8 @@ fn write_path<A: Allocator>(
     builder: &mut TopSubtreeBuilder<A>,
 ) -> Result<(), AllocError>
     ensures open_groups { OnOk result (length builder.new ≡ length builder.old) }
-    ensures written { OnOk result (builder.new ≡ put (path_trees call_site (trees tree.entry)) builder.old) }
+    ensures written { OnOk result
+        (builder.new ≡ put (path_trees call_site (trees tree.entry)) builder.old) }
 {
     let mut iter = tree.iter();
     'trees: while let Some(tree) = iter.next_as_view() {

@@ -1,37 +1,44 @@
-use Rattle.std.proofs.Common.{◌≡◌, ◌+◌, drop, ap, sym, ◌∙◌, ◌&&◌, false, option_map}
-use Rattle.mbe_semantics.specs.Syntax.Nullable.{is_nullable, is_refused, is_refused_op, is_unseparated}
-use Rattle.mbe_ops.specs.Views.{op_of, ops_of, separator_seen}
-use Rattle.mbe_ops.proofs.OpViews.{view-open}
-use Rattle.mbe_parser.proofs.RefusalLemmas.{view-open_repeat, next_op, next_refused, refused_here, unseparated_if, body_reads, body_decides}
+use Rattle.std.proofs.Common.{◌+◌, drop, ap, sym, ◌∙◌}
+use Rattle.std.specs.Prelude.{◌&&◌, ◌||◌}
+use Rattle.mbe_semantics.specs.Syntax.Nullable.{is_nullable, is_nullable_op, is_refused, is_refused_op, may_skip}
+use Rattle.mbe_ops.specs.Views.{op_of, ops_of}
+use Rattle.mbe_ops.proofs.OpViews.{view-open, view-open_repeat}
+use Rattle.mbe_parser.proofs.RefusalLemmas.{next_op, next_nullable, next_refused, separated_if}
 use Rattle.mbe_parser.proofs.validate.+refusal.Goals as goal
-use Rattle.mbe_parser.proofs.validate.+refusal.Goals.{refuses_op-then-is_none, refuses_op-else-is_none}
 
-pub refuses-returns-then-refuses_op : goal.refuses-returns-then-refuses_op
-refuses-returns-then-refuses_op g t c =
-    let here = next_op c.args.pattern.now c.loop-op.op-index c.op-item.result c.loop-op-test.true c.op-item.is in
-    refused_here c.refuses_op.result (op_of c.op-item.result) (ops_of (drop (c.loop-op.op-index + 1) c.args.pattern.now)) c.refuses_op.ensures c.if-refuses_op.true
-    ∙ sym (c.loop-op.invariant ∙ ap is_refused here)
+pub checked-loop-op-preserved : goal.checked-loop-op-preserved
+checked-loop-op-preserved g t c =
+    let i = c.loop-op.op-index in
+    let ops = c.args.ops.now in
+    let op = op_of c.op-item.result in
+    let behind = ops_of (drop (i + 1) ops) in
+    let here = next_op ops i c.op-item.result c.loop-op-test.true c.op-item.is in
+    let before = c.loop-op.found in
+    record {
+      empty = next_nullable (is_nullable (ops_of ops)) before.empty c.checked_op.result.empty c.followed_by-found.result.empty op behind (ops_of (drop i ops))
+          here c.checked_op.ensures.empty c.followed_by-found.ensures.empty c.loop-op.invariant.empty;
+      refused = next_refused (is_refused (ops_of ops)) before.refused c.checked_op.result.refused c.followed_by-found.result.refused op behind (ops_of (drop i ops))
+          here c.checked_op.ensures.refused c.followed_by-found.ensures.refused c.loop-op.invariant.refused;
+    }
 
-pub refuses-loop-op-preserved : goal.refuses-loop-op-preserved
-refuses-loop-op-preserved g t c =
-    let here = next_op c.args.pattern.now c.loop-op.op-index c.op-item.result c.loop-op-test.true c.op-item.is in
-    c.loop-op.invariant ∙ (ap is_refused here
-    ∙ next_refused c.refuses_op.result (op_of c.op-item.result) (ops_of (drop (c.loop-op.op-index + 1) c.args.pattern.now)) c.refuses_op.ensures c.if-refuses_op.false)
+pub checked_op-returns-in-Subtree-clause-refused : goal.checked_op-returns-in-Subtree-clause-refused
+checked_op-returns-in-Subtree-clause-refused g t c =
+    let here = c.in-Subtree in
+    c.checked.ensures.refused ∙ (ap (λ os. is_refused (ops_of os)) c.deref.ensures.value
+    ∙ sym (ap (λ o. is_refused_op (op_of o)) here.is ∙ ap is_refused_op (view-open here.tokens here.delimiter)))
 
-pub refuses_op-returns-in-Subtree : goal.refuses_op-returns-in-Subtree
-refuses_op-returns-in-Subtree g t c =
-    c.refuses.ensures ∙ (ap (λ os. is_refused (ops_of os)) c.deref.ensures.value
-    ∙ sym (ap (λ o. is_refused_op (op_of o)) c.in-Subtree.is ∙ ap is_refused_op (view-open c.in-Subtree.tokens c.in-Subtree.delimiter)))
+pub checked_op-returns-in-Repeat-clause-empty : goal.checked_op-returns-in-Repeat-clause-empty
+checked_op-returns-in-Repeat-clause-empty g t c =
+    let here = c.in-Repeat in
+    let inside = c.checked-in-Repeat.ensures.empty ∙ ap (λ os. is_nullable (ops_of os)) c.deref-in-Repeat.ensures.value in
+    c.repeated.ensures.empty ∙ (ap (may_skip here.kind) inside
+    ∙ sym (ap (λ o. is_nullable_op (op_of o)) here.is ∙ ap is_nullable_op (view-open_repeat here.tokens here.kind here.separator)))
 
-pub refuses_op-returns-else-is_nullable : goal.refuses_op-returns-else-is_nullable
-refuses_op-returns-else-is_nullable g t c =
-    let seen = ap (λ o. is_refused_op (op_of o)) c.in-Repeat.is ∙ ap is_refused_op (view-open_repeat c.in-Repeat.tokens c.in-Repeat.kind c.in-Repeat.separator) in
-    let u = is_unseparated (option_map separator_seen c.in-Repeat.separator) in
-    let n = is_nullable (ops_of c.in-Repeat.tokens.0.items) in
-    let reads : (u && n) ≡ false = elim c.if-is_none.branch [
-      | refuses_op-then-is_none w ↦ body_reads u n (sym (ap (λ os. is_nullable (ops_of os)) w.deref-then-is_none.ensures.value)
-          ∙ (sym w.is_nullable.ensures ∙ (sym w.value-is ∙ c.if-is_nullable.false)))
-      | refuses_op-else-is_none w ↦ ap (λ b. b && n) (unseparated_if c.in-Repeat.separator c.is_none.result c.is_none.ensures ∙ w.if-is_none.false)
-    ] in
-    c.refuses-else-is_nullable.ensures ∙ (ap (λ os. is_refused (ops_of os)) c.deref-else-is_nullable.ensures.value
-    ∙ (body_decides u n (is_refused (ops_of c.in-Repeat.tokens.0.items)) reads ∙ sym seen))
+pub checked_op-returns-in-Repeat-clause-refused : goal.checked_op-returns-in-Repeat-clause-refused
+checked_op-returns-in-Repeat-clause-refused g t c =
+    let here = c.in-Repeat in
+    let empty = c.checked-in-Repeat.ensures.empty ∙ ap (λ os. is_nullable (ops_of os)) c.deref-in-Repeat.ensures.value in
+    let refused = c.checked-in-Repeat.ensures.refused ∙ ap (λ os. is_refused (ops_of os)) c.deref-in-Repeat.ensures.value in
+    let alone = separated_if here.separator c.is_some.result c.is_some.ensures in
+    c.repeated.ensures.refused ∙ ((λ k. (alone k && empty k) || refused k)
+    ∙ sym (ap (λ o. is_refused_op (op_of o)) here.is ∙ ap is_refused_op (view-open_repeat here.tokens here.kind here.separator)))

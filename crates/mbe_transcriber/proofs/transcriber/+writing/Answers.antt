@@ -11,26 +11,29 @@ use Rattle.mbe_transcriber.proofs.WroteLemmas as lemmas
 use Rattle.mbe_transcriber.proofs.JoinLemmas.{or_either, swapped, popped}
 use Rattle.mbe_transcriber.proofs.transcriber.+writing.Goals as goal
 
-pub expand_op-returns-in_ok-push-in-Literal : goal.expand_op-returns-in_ok-push-in-Literal
-expand_op-returns-in_ok-push-in-Literal g t c =
-    rw (c.in-Literal.is, view-literal) (lemmas.wrote_literal _ _ _ _ _ (literal_of c.in-Literal.literal) (literal_of c.in_ok-marked_literal-in-Literal.field-0)
-    c.args.builder.now c.push.new.self c.in_ok-marked_literal-in-Literal.ensures c.in_ok-push-in-Literal.ensures.ok)
+pub expand_op-returns-in-Literal : goal.expand_op-returns-in-Literal
+expand_op-returns-in-Literal g t c =
+    rw (c.in-Literal.is, view-literal) (lemmas.wrote_and_none c.write_literal.result c.and.result c.and.ensures
+    (lemmas.wrote_literal _ _ _ _ _ (literal_of c.in-Literal.literal) c.args.builder.now c.write_literal.new.builder) c.write_literal.ensures)
 
-pub expand_op-returns-in_ok-push-in-Ident : goal.expand_op-returns-in_ok-push-in-Ident
-expand_op-returns-in_ok-push-in-Ident g t c =
-    rw (c.in-Ident.is, view-ident) (lemmas.wrote_ident _ _ _ _ _ (ident_of c.in-Ident.ident) (ident_of c.in_ok-marked_ident-in-Ident.field-0)
-    c.args.builder.now c.push-in-Ident.new.self c.in_ok-marked_ident-in-Ident.ensures c.in_ok-push-in-Ident.ensures.ok)
+pub expand_op-returns-in-Ident : goal.expand_op-returns-in-Ident
+expand_op-returns-in-Ident g t c =
+    rw (c.in-Ident.is, view-ident) (lemmas.wrote_and_none c.write_ident.result c.and-in-Ident.result c.and-in-Ident.ensures
+    (lemmas.wrote_ident _ _ _ _ _ (ident_of c.in-Ident.ident) c.args.builder.now c.write_ident.new.builder) c.write_ident.ensures)
 
-pub expand_op-returns-in_ok-write_puncts-in-Punct : goal.expand_op-returns-in_ok-write_puncts-in-Punct
-expand_op-returns-in_ok-write_puncts-in-Punct g t c =
-    rw (c.in-Punct.is, view-punct) (lemmas.wrote_puncts _ _ _ _ _ c.in-Punct.puncts.items c.as_slice.result.now c.args.builder.now c.write_puncts.new.builder
-    c.as_slice.ensures.value c.in_ok-write_puncts-in-Punct.ensures.written)
+pub expand_op-returns-in-Punct : goal.expand_op-returns-in-Punct
+expand_op-returns-in-Punct g t c =
+    rw (c.in-Punct.is, view-punct) (lemmas.wrote_and_none c.write_puncts.result c.and-in-Punct.result c.and-in-Punct.ensures
+    (lemmas.wrote_puncts _ _ _ _ _ c.in-Punct.puncts.items c.as_slice.result.now c.args.builder.now c.write_puncts.new.builder c.as_slice.ensures.value)
+    c.write_puncts.ensures.written)
 
-pub expand_op-returns-in_ok-fault-in-Subtree : goal.expand_op-returns-in_ok-fault-in-Subtree
-expand_op-returns-in_ok-fault-in-Subtree g t c =
-    rw (c.in-Subtree.is, view-subtree) (lemmas.wrote_group _ _ _ _ _ c.in-Subtree.delimiter c.mark.result c.mark-in-Subtree.result _ _ c.args.builder.now c.open.new.self
-    c.expand_ops.new.builder c.close.new.self c.mark.ensures c.mark-in-Subtree.ensures c.in_ok-open-in-Subtree.ensures.ok
-    (rw (← c.deref.ensures.value) c.in_ok-fault-in-Subtree.ensures) c.close.ensures)
+pub expand_op-returns-in-Subtree : goal.expand_op-returns-in-Subtree
+expand_op-returns-in-Subtree g t c = rw (c.in-Subtree.is, view-subtree) (rw (← c.deref.ensures.value) c.expand_group.ensures)
+
+pub expand_group-returns : goal.expand_group-returns
+expand_group-returns g t c =
+    lemmas.wrote_group _ _ _ _ _ c.args.delimiter c.mark.result c.mark-2.result _ _ c.args.builder.now c.open.new.self
+    c.expand_ops.new.builder c.close.new.self c.mark.ensures c.mark-2.ensures c.in_ok-open.ensures.ok c.in_ok-fault.ensures c.close.ensures
 
 pub expand_op-returns-in-Var : goal.expand_op-returns-in-Var
 expand_op-returns-in-Var g t c =
@@ -41,15 +44,16 @@ pub expand_op-returns-in-Ignore : goal.expand_op-returns-in-Ignore
 expand_op-returns-in-Ignore g t c =
     rw (c.in-Ignore.is, view-ignore) (lemmas.wrote_ignored _ _ _ _ _ (is_some c.find_ignored.result) c.in-Ignore.name c.in-Ignore.id c.args.builder.now c.find_ignored.ensures)
 
-pub expand_op-returns-in_ok-write_number-in-Index : goal.expand_op-returns-in_ok-write_number-in-Index
-expand_op-returns-in_ok-write_number-in-Index g t c =
-    rw (c.in-Index.is, view-index) (lemmas.wrote_index _ _ _ _ _ c.in-Index.depth c.index_at.result c.args.builder.now c.write_number.new.builder c.index_at.ensures
-    c.in_ok-write_number-in-Index.ensures)
+pub expand_op-returns-in-Index : goal.expand_op-returns-in-Index
+expand_op-returns-in-Index g t c =
+    rw (c.in-Index.is, view-index) (lemmas.wrote_and_none c.write_at_call.result c.and-in-Index.result c.and-in-Index.ensures
+    (lemmas.wrote_index _ _ _ _ _ c.in-Index.depth c.index_at.result c.args.builder.now c.write_at_call.new.builder c.index_at.ensures) c.write_at_call.ensures)
 
-pub expand_op-returns-in_ok-write_number-in-Len : goal.expand_op-returns-in_ok-write_number-in-Len
-expand_op-returns-in_ok-write_number-in-Len g t c =
-    rw (c.in-Len.is, view-len) (lemmas.wrote_len _ _ _ _ _ c.in-Len.depth c.rounds_at.result c.args.builder.now c.write_number-in-Len.new.builder c.rounds_at.ensures
-    c.in_ok-write_number-in-Len.ensures)
+pub expand_op-returns-in-Len : goal.expand_op-returns-in-Len
+expand_op-returns-in-Len g t c =
+    rw (c.in-Len.is, view-len) (lemmas.wrote_and_none c.write_at_call-in-Len.result c.and-in-Len.result c.and-in-Len.ensures
+    (lemmas.wrote_len _ _ _ _ _ c.in-Len.depth c.rounds_at.result c.args.builder.now c.write_at_call-in-Len.new.builder c.rounds_at.ensures)
+    c.write_at_call-in-Len.ensures)
 
 pub expand_op-returns-in-Count : goal.expand_op-returns-in-Count
 expand_op-returns-in-Count g t c =

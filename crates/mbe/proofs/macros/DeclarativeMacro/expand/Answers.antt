@@ -1,0 +1,10 @@
+use Rattle.std.proofs.Common.{subst, sym}
+use Rattle.mbe_parser.specs.RuleViews.{rules_seen}
+use Rattle.mbe.specs.Choice.{AreChecked}
+use Rattle.mbe.specs.MacroViews.{macro_of}
+use Rattle.mbe.proofs.ClosestLemmas.{all_checked}
+use Rattle.mbe.proofs.macros.DeclarativeMacro.expand.Goals as goal
+
+pub expand_rules-requires-clause-checked : goal.expand_rules-requires-clause-checked
+expand_rules-requires-clause-checked g c =
+    subst (λ rs. AreChecked (rules_seen rs)) (sym c.deref.ensures.value) (all_checked (macro_of c.args.self.now) c.args.self.now.tells_refusal c.requires.checked)

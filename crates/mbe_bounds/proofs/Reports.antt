@@ -1,0 +1,3 @@
+-- The first and the last of each dot.
+pub mod EndLemmas
+pub mod BackwardLemmas

@@ -1,0 +1,4 @@
+pub mod Bounded
+pub mod Orders
+pub mod Reports
+pub mod Loop

@@ -1,0 +1,2 @@
+-- What a program's stack gives at a place.
+pub mod Kept

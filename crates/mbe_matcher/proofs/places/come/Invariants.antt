@@ -1,0 +1,6 @@
+use Rattle.std.proofs.Common.{◌≡◌, ◌++◌, map}
+use Rattle.mbe_matcher.specs.Matched.{position_after}
+use Rattle.mbe_matcher.proofs.places.come.Given as goal
+
+abbrev pub invariant-loop-position : goal.invariant-loop-position
+invariant-loop-position g l = l.todo.items ≡ l.fn.todo.items ++ map position_after l.yielded

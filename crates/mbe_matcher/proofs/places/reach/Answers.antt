@@ -1,0 +1,306 @@
+use Rattle.std.proofs.Common.{◌≡◌, ◌+◌, ◌∙◌, ◌++◌, ◌∷◌, ℕ, Some, None, [], length, map, reverse, get_or, refl, sym, ap, subst, arith}
+use Rattle.std.specs.Prelude.{IfSome}
+use Rattle.mbe_tt.specs.Views.View.{trees}
+use Rattle.mbe_tt.specs.Trees.Tree.{flat_len, tree_count, rest_at}
+use Rattle.mbe_semantics.specs.Readings.Input.{input_of}
+use Rattle.mbe_semantics.specs.Readings.Verdict.{IsVerdict, unmatched}
+use Rattle.mbe_semantics.specs.Laws.Lawful.{Lawful}
+use Rattle.mbe_semantics.specs.Matching.Dots.{dots}
+use Rattle.mbe_semantics.specs.Matching.Settled.{after_of}
+use Rattle.mbe_semantics.specs.Syntax.Nullable.{Checked}
+use Rattle.mbe_semantics.proofs.InputLemmas.{lawful_input}
+use Rattle.mbe_ops.specs.Views.{ops_of, template_of}
+use Rattle.mbe_log.proofs.ClientLemmas.{kept-on}
+use Rattle.mbe_bounds.specs.Loop.Kept.{kept_moves}
+use Rattle.mbe_bounds.proofs.Loop.TurnedPlaces.{ComesTo}
+use Rattle.mbe_matcher.specs.declared.position.Position.{Position}
+use Rattle.mbe_matcher.specs.declared.position.Waiting.{Waiting}
+use Rattle.mbe_matcher.specs.Positions.{Each, Shows, IsLeft}
+use Rattle.mbe_matcher.specs.Matched.{position_after, stop_at, verdict_in, reading_in, Binds}
+use Rattle.mbe_matcher.proofs.MatchEnds.{right_stop, stop_place, binds_stop, next, live_stop, come_first, stack_of, shown_after}
+use Rattle.mbe_matcher.proofs.Reporting.{report_keeps}
+use Rattle.mbe_matcher.proofs.places.reach.Goals as goal
+
+pub loop-source-init : goal.loop-source-init
+loop-source-init g c =
+    let h = g.G.FragmentGrammar.grammar c.args.grammar.now in
+    let s = c.new-source.result in
+    let pat = template_of c.args.pattern.now in
+    let p : Position g.row.A.Denot = record { dot = c.deref-2.result; number = c.in_ok-dots.dots; up = None; handle = c.in_ok-handle.handle } in
+    let one = c.in_ok-push.ensures.items ∙ ap (λ l. l ++ p ∷ []) c.new-todo.ensures.items in
+    let number : c.in_ok-dots.dots ≡ dots (ops_of c.deref.result.now) = subst (λ r. IfSome r (λ n. n ≡ dots (ops_of c.deref.result.now))) c.in_ok-dots.ensures.ok_part c.dots_of.ensures in
+    let all : c.in_ok-dots.dots ≡ dots pat = number ∙ ap (λ l. dots (ops_of l)) c.deref.ensures.value in
+    record {
+      comes = come_first (input_of h (trees s.whole)) pat (flat_len (trees s.whole)) c.alloc.new.self c.new-outers.result.items c.push.new.self.items s.place p c.new-source.ensures.place one
+          (ap ops_of c.deref-2.ensures.value) all refl c.in_ok-handle.ensures.account;
+      whole = c.new-source.ensures.whole;
+      blank = λ q l. c.in_ok-counts.ensures.blank q (omega arith);
+      size = c.in_ok-counts.ensures.size ∙ all;
+      kept = c.in_ok-handle.ensures.given.kept;
+      report = λ r. report_keeps c.args.log.now c.alloc.new.self c.args.report.now c.in_ok-handle.ensures.given.kept r;
+    }
+
+pub settle-requires-clause-stack : goal.settle-requires-clause-stack
+settle-requires-clause-stack g c =
+    let h = g.G.FragmentGrammar.grammar c.args.grammar.now in
+    let s = c.loop-source.source in
+    let i = input_of h (trees s.whole) in
+    let len = flat_len (trees s.whole) in
+    let pat = template_of c.args.pattern.now in
+    let w = lawful_input h (trees s.whole) (g.met.G.FragmentGrammar.lawful c.args.grammar.now) in
+    let inv = c.loop-source.invariant in
+    let come = inv.comes.2 w c.requires in
+    stack_of i pat len w c.requires s.place (length c.loop-source.counts.marks.items) c.loop-source.log c.loop-source.outers.items c.loop-source.todo.items inv.comes.0 (sym inv.size) come inv.comes.1
+
+pub returns-in-Some-clause-verdict : goal.returns-in-Some-clause-verdict
+returns-in-Some-clause-verdict g c =
+    let h = g.G.FragmentGrammar.grammar c.args.grammar.now in
+    let s = c.loop-source.source in
+    let i = input_of h (trees s.whole) in
+    let len = flat_len (trees s.whole) in
+    let pat = template_of c.args.pattern.now in
+    let w = lawful_input h (trees s.whole) (g.met.G.FragmentGrammar.lawful c.args.grammar.now) in
+    let inv = c.loop-source.invariant in
+    let come = inv.comes.2 w c.requires in
+    let stack = stack_of i pat len w c.requires s.place (length c.loop-source.counts.marks.items) c.loop-source.log c.loop-source.outers.items c.loop-source.todo.items inv.comes.0 (sym inv.size) come inv.comes.1 in
+    let st = c.in_ok-settled.ensures.settled stack in
+    let ws = c.in_ok-settled.settled.waiting.items in
+    let hs = c.in_ok-settled.settled.ends.items in
+    let log = c.settle.new.log in
+    let outers = c.settle.new.outers.items in
+    let waits = c.deref-in-loop-source.ensures.value in
+    let ends = c.deref-in-loop-source-2.ensures.value in
+    let v = verdict_in c.in-Some.stop in
+    let e : Some v ≡ stop_at s.place len ws hs =
+    c.in-Some.ensures.stop ∙ ap (λ l. stop_at s.place len l c.deref-in-loop-source-2.result.now) waits ∙ ap (stop_at s.place len ws) ends in
+    subst (λ x. IsVerdict h pat (trees x) v) inv.whole (right_stop h pat (trees s.whole) w c.requires s.place inv.comes.0 come s.within log outers ws hs st v e)
+
+pub returns-in-Some-clause-unmatched : goal.returns-in-Some-clause-unmatched
+returns-in-Some-clause-unmatched g c =
+    let h = g.G.FragmentGrammar.grammar c.args.grammar.now in
+    let s = c.loop-source.source in
+    let i = input_of h (trees s.whole) in
+    let len = flat_len (trees s.whole) in
+    let pat = template_of c.args.pattern.now in
+    let w = lawful_input h (trees s.whole) (g.met.G.FragmentGrammar.lawful c.args.grammar.now) in
+    let inv = c.loop-source.invariant in
+    let come = inv.comes.2 w c.requires in
+    let stack = stack_of i pat len w c.requires s.place (length c.loop-source.counts.marks.items) c.loop-source.log c.loop-source.outers.items c.loop-source.todo.items inv.comes.0 (sym inv.size) come inv.comes.1 in
+    let st = c.in_ok-settled.ensures.settled stack in
+    let ws = c.in_ok-settled.settled.waiting.items in
+    let hs = c.in_ok-settled.settled.ends.items in
+    let log = c.settle.new.log in
+    let outers = c.settle.new.outers.items in
+    let waits = c.deref-in-loop-source.ensures.value in
+    let ends = c.deref-in-loop-source-2.ensures.value in
+    let v = verdict_in c.in-Some.stop in
+    let e : Some v ≡ stop_at s.place len ws hs =
+    c.in-Some.ensures.stop ∙ ap (λ l. stop_at s.place len l c.deref-in-loop-source-2.result.now) waits ∙ ap (stop_at s.place len ws) ends in
+    let stop = stop_place h pat (trees s.whole) w c.requires s.place inv.comes.0 come s.within log outers ws hs st v e in
+    subst (λ x. c.len-unmatched.result ≡ unmatched (trees x) v) inv.whole
+    (c.len-unmatched.ensures ∙ ap tree_count (c.remaining.ensures ∙ c.here.ensures) ∙ ap (λ (n : ℕ). tree_count (rest_at (trees s.whole) n)) (sym stop))
+
+pub returns-in-Some-clause-binds : goal.returns-in-Some-clause-binds
+returns-in-Some-clause-binds g c =
+    let h = g.G.FragmentGrammar.grammar c.args.grammar.now in
+    let s = c.loop-source.source in
+    let i = input_of h (trees s.whole) in
+    let len = flat_len (trees s.whole) in
+    let pat = template_of c.args.pattern.now in
+    let w = lawful_input h (trees s.whole) (g.met.G.FragmentGrammar.lawful c.args.grammar.now) in
+    let inv = c.loop-source.invariant in
+    let come = inv.comes.2 w c.requires in
+    let stack = stack_of i pat len w c.requires s.place (length c.loop-source.counts.marks.items) c.loop-source.log c.loop-source.outers.items c.loop-source.todo.items inv.comes.0 (sym inv.size) come inv.comes.1 in
+    let st = c.in_ok-settled.ensures.settled stack in
+    let ws = c.in_ok-settled.settled.waiting.items in
+    let hs = c.in_ok-settled.settled.ends.items in
+    let log = c.settle.new.log in
+    let outers = c.settle.new.outers.items in
+    let waits = c.deref-in-loop-source.ensures.value in
+    let ends = c.deref-in-loop-source-2.ensures.value in
+    let v = verdict_in c.in-Some.stop in
+    let e : Some v ≡ stop_at s.place len ws hs =
+    c.in-Some.ensures.stop ∙ ap (λ l. stop_at s.place len l c.deref-in-loop-source-2.result.now) waits ∙ ap (stop_at s.place len ws) ends in
+    let only = subst (λ l. IfSome (reading_in c.in-Some.stop) (λ h. l ≡ h ∷ [])) ends c.in-Some.ensures.reading in
+    let b = binds_stop h pat (trees s.whole) w c.requires s.place inv.comes.0 come s.within log outers ws hs st c.in-Some.stop e only in
+    subst (λ x. IfSome (reading_in c.in-Some.stop) (Binds h pat (trees x) log)) inv.whole b
+
+pub returns-in-Some-clause-live : goal.returns-in-Some-clause-live
+returns-in-Some-clause-live g c =
+    let h = g.G.FragmentGrammar.grammar c.args.grammar.now in
+    let s = c.loop-source.source in
+    let i = input_of h (trees s.whole) in
+    let len = flat_len (trees s.whole) in
+    let pat = template_of c.args.pattern.now in
+    let w = lawful_input h (trees s.whole) (g.met.G.FragmentGrammar.lawful c.args.grammar.now) in
+    let inv = c.loop-source.invariant in
+    let come = inv.comes.2 w c.requires in
+    let stack = stack_of i pat len w c.requires s.place (length c.loop-source.counts.marks.items) c.loop-source.log c.loop-source.outers.items c.loop-source.todo.items inv.comes.0 (sym inv.size) come inv.comes.1 in
+    let st = c.in_ok-settled.ensures.settled stack in
+    let ws = c.in_ok-settled.settled.waiting.items in
+    let hs = c.in_ok-settled.settled.ends.items in
+    let log = c.settle.new.log in
+    let outers = c.settle.new.outers.items in
+    let waits = c.deref-in-loop-source.ensures.value in
+    let ends = c.deref-in-loop-source-2.ensures.value in
+    let v = verdict_in c.in-Some.stop in
+    let e : Some v ≡ stop_at s.place len ws hs =
+    c.in-Some.ensures.stop ∙ ap (λ l. stop_at s.place len l c.deref-in-loop-source-2.result.now) waits ∙ ap (stop_at s.place len ws) ends in
+    let only = subst (λ l. IfSome (reading_in c.in-Some.stop) (λ h. l ≡ h ∷ [])) ends c.in-Some.ensures.reading in
+    let b = binds_stop h pat (trees s.whole) w c.requires s.place inv.comes.0 come s.within log outers ws hs st c.in-Some.stop e only in
+    live_stop h pat (trees s.whole) log c.in-Some.stop b
+
+pub returns-in-Some-clause-kept : goal.returns-in-Some-clause-kept
+returns-in-Some-clause-kept g c = kept-on c.args.log.now c.loop-source.log c.settle.new.log c.loop-source.invariant.kept c.in_ok-settled.ensures.kept.log
+
+pub index-requires : goal.index-requires
+index-requires g c =
+    let h = g.G.FragmentGrammar.grammar c.args.grammar.now in
+    let s = c.loop-source.source in
+    let i = input_of h (trees s.whole) in
+    let len = flat_len (trees s.whole) in
+    let pat = template_of c.args.pattern.now in
+    let w = lawful_input h (trees s.whole) (g.met.G.FragmentGrammar.lawful c.args.grammar.now) in
+    let inv = c.loop-source.invariant in
+    let come = inv.comes.2 w c.requires in
+    let stack = stack_of i pat len w c.requires s.place (length c.loop-source.counts.marks.items) c.loop-source.log c.loop-source.outers.items c.loop-source.todo.items inv.comes.0 (sym inv.size) come inv.comes.1 in
+    let st = c.in_ok-settled.ensures.settled stack in
+    let ws = c.in_ok-settled.settled.waiting.items in
+    let hs = c.in_ok-settled.settled.ends.items in
+    let log = c.settle.new.log in
+    let outers = c.settle.new.outers.items in
+    let waits = c.deref-in-loop-source.ensures.value in
+    let ends = c.deref-in-loop-source-2.ensures.value in
+    let e : None ≡ stop_at s.place len ws hs =
+    c.in_default.ensures.stop ∙ ap (λ l. stop_at s.place len l c.deref-in-loop-source-2.result.now) waits ∙ ap (stop_at s.place len ws) ends in
+    let n = next h pat (trees s.whole) w c.requires s.place inv.comes.0 come s.within log outers ws hs st e in
+    let some : length ws ≡ length (n.first ∷ n.rest) = ap length n.is in
+    omega (arith, some)
+
+pub after_step-requires-clause-fits : goal.after_step-requires-clause-fits
+after_step-requires-clause-fits g c =
+    let h = g.G.FragmentGrammar.grammar c.args.grammar.now in
+    let s = c.loop-source.source in
+    let i = input_of h (trees s.whole) in
+    let len = flat_len (trees s.whole) in
+    let pat = template_of c.args.pattern.now in
+    let w = lawful_input h (trees s.whole) (g.met.G.FragmentGrammar.lawful c.args.grammar.now) in
+    let inv = c.loop-source.invariant in
+    let come = inv.comes.2 w c.requires in
+    let stack = stack_of i pat len w c.requires s.place (length c.loop-source.counts.marks.items) c.loop-source.log c.loop-source.outers.items c.loop-source.todo.items inv.comes.0 (sym inv.size) come inv.comes.1 in
+    let st = c.in_ok-settled.ensures.settled stack in
+    let ws = c.in_ok-settled.settled.waiting.items in
+    let hs = c.in_ok-settled.settled.ends.items in
+    let log = c.settle.new.log in
+    let outers = c.settle.new.outers.items in
+    let waits = c.deref-in-loop-source.ensures.value in
+    let ends = c.deref-in-loop-source-2.ensures.value in
+    let e : None ≡ stop_at s.place len ws hs =
+    c.in_default.ensures.stop ∙ ap (λ l. stop_at s.place len l c.deref-in-loop-source-2.result.now) waits ∙ ap (stop_at s.place len ws) ends in
+    let n = next h pat (trees s.whole) w c.requires s.place inv.comes.0 come s.within log outers ws hs st e in
+    let first : c.index.result.now ≡ n.first = c.index.ensures ∙ ap (λ l. get_or l 0 c.index.result.now) n.is in
+    let wide = ap (λ (x : Waiting g.row.A.Denot). x.width) first in
+    let fits = n.fits in
+    omega (arith, wide, fits)
+
+pub after_step-requires-clause-left : goal.after_step-requires-clause-left
+after_step-requires-clause-left g c =
+    let h = g.G.FragmentGrammar.grammar c.args.grammar.now in
+    let s = c.loop-source.source in
+    let i = input_of h (trees s.whole) in
+    let len = flat_len (trees s.whole) in
+    let pat = template_of c.args.pattern.now in
+    let w = lawful_input h (trees s.whole) (g.met.G.FragmentGrammar.lawful c.args.grammar.now) in
+    let inv = c.loop-source.invariant in
+    let come = inv.comes.2 w c.requires in
+    let stack = stack_of i pat len w c.requires s.place (length c.loop-source.counts.marks.items) c.loop-source.log c.loop-source.outers.items c.loop-source.todo.items inv.comes.0 (sym inv.size) come inv.comes.1 in
+    let st = c.in_ok-settled.ensures.settled stack in
+    let ws = c.in_ok-settled.settled.waiting.items in
+    let hs = c.in_ok-settled.settled.ends.items in
+    let log = c.settle.new.log in
+    let outers = c.settle.new.outers.items in
+    let waits = c.deref-in-loop-source.ensures.value in
+    let ends = c.deref-in-loop-source-2.ensures.value in
+    let e : None ≡ stop_at s.place len ws hs =
+    c.in_default.ensures.stop ∙ ap (λ l. stop_at s.place len l c.deref-in-loop-source-2.result.now) waits ∙ ap (stop_at s.place len ws) ends in
+    let n = next h pat (trees s.whole) w c.requires s.place inv.comes.0 come s.within log outers ws hs st e in
+    let first : c.index.result.now ≡ n.first = c.index.ensures ∙ ap (λ l. get_or l 0 c.index.result.now) n.is in
+    subst (λ (x : Waiting g.row.A.Denot). IsLeft (rest_at (trees s.whole) s.place) x.width x.beyond) (sym first) n.left
+
+pub loop-source-smaller : goal.loop-source-smaller
+loop-source-smaller g c =
+    let h = g.G.FragmentGrammar.grammar c.args.grammar.now in
+    let s = c.loop-source.source in
+    let i = input_of h (trees s.whole) in
+    let len = flat_len (trees s.whole) in
+    let pat = template_of c.args.pattern.now in
+    let w = lawful_input h (trees s.whole) (g.met.G.FragmentGrammar.lawful c.args.grammar.now) in
+    let inv = c.loop-source.invariant in
+    let come = inv.comes.2 w c.requires in
+    let stack = stack_of i pat len w c.requires s.place (length c.loop-source.counts.marks.items) c.loop-source.log c.loop-source.outers.items c.loop-source.todo.items inv.comes.0 (sym inv.size) come inv.comes.1 in
+    let st = c.in_ok-settled.ensures.settled stack in
+    let ws = c.in_ok-settled.settled.waiting.items in
+    let hs = c.in_ok-settled.settled.ends.items in
+    let log = c.settle.new.log in
+    let outers = c.settle.new.outers.items in
+    let waits = c.deref-in-loop-source.ensures.value in
+    let ends = c.deref-in-loop-source-2.ensures.value in
+    let e : None ≡ stop_at s.place len ws hs =
+    c.in_default.ensures.stop ∙ ap (λ l. stop_at s.place len l c.deref-in-loop-source-2.result.now) waits ∙ ap (stop_at s.place len ws) ends in
+    let n = next h pat (trees s.whole) w c.requires s.place inv.comes.0 come s.within log outers ws hs st e in
+    let first : c.index.result.now ≡ n.first = c.index.ensures ∙ ap (λ l. get_or l 0 c.index.result.now) n.is in
+    let wide = ap (λ (x : Waiting g.row.A.Denot). x.width) first in
+    let fits = n.fits in
+    let some = n.some in
+    let at = c.in_ok-source.ensures.place in
+    let same = ap (λ x. flat_len (trees x)) c.in_ok-source.ensures.whole in
+    omega (arith, wide, fits, some, at, same)
+
+pub loop-source-preserved : goal.loop-source-preserved
+loop-source-preserved g c =
+    let h = g.G.FragmentGrammar.grammar c.args.grammar.now in
+    let s = c.loop-source.source in
+    let i = input_of h (trees s.whole) in
+    let len = flat_len (trees s.whole) in
+    let pat = template_of c.args.pattern.now in
+    let w = lawful_input h (trees s.whole) (g.met.G.FragmentGrammar.lawful c.args.grammar.now) in
+    let inv = c.loop-source.invariant in
+    let come = inv.comes.2 w c.requires in
+    let stack = stack_of i pat len w c.requires s.place (length c.loop-source.counts.marks.items) c.loop-source.log c.loop-source.outers.items c.loop-source.todo.items inv.comes.0 (sym inv.size) come inv.comes.1 in
+    let st = c.in_ok-settled.ensures.settled stack in
+    let ws = c.in_ok-settled.settled.waiting.items in
+    let hs = c.in_ok-settled.settled.ends.items in
+    let log = c.settle.new.log in
+    let outers = c.settle.new.outers.items in
+    let waits = c.deref-in-loop-source.ensures.value in
+    let ends = c.deref-in-loop-source-2.ensures.value in
+    let e : None ≡ stop_at s.place len ws hs =
+    c.in_default.ensures.stop ∙ ap (λ l. stop_at s.place len l c.deref-in-loop-source-2.result.now) waits ∙ ap (stop_at s.place len ws) ends in
+    let n = next h pat (trees s.whole) w c.requires s.place inv.comes.0 come s.within log outers ws hs st e in
+    let first : c.index.result.now ≡ n.first = c.index.ensures ∙ ap (λ l. get_or l 0 c.index.result.now) n.is in
+    let wide = ap (λ (x : Waiting g.row.A.Denot). x.width) first in
+    let some = n.some in
+    let at : c.in_ok-source.source.place ≡ s.place + n.first.width = c.in_ok-source.ensures.place ∙ ap (λ k. s.place + k) wide in
+    let new = map after_of (kept_moves i (dots pat) s.place (reverse inv.comes.0)) in
+    let arrived : c.come.new.todo.items ≡ map position_after ws = c.in_ok-come.ensures ∙ ap (λ l. l ++ map position_after ws) c.in_ok-settled.ensures.done in
+    record {
+      comes = (
+        new,
+        subst (λ l. Each (Shows log outers) l new) (sym arrived) (shown_after log outers (rest_at (trees s.whole) s.place) ws (kept_moves i (dots pat) s.place (reverse inv.comes.0)) st.goes_on),
+        subst (λ x. (lawful : Lawful (input_of h (trees x)) (flat_len (trees x))) (checked : Checked pat) → ComesTo (input_of h (trees x)) pat (flat_len (trees x)) lawful checked c.in_ok-source.source.place new)
+            (sym c.in_ok-source.ensures.whole)
+            (λ lawful checked.
+            let n = next h pat (trees s.whole) lawful checked s.place inv.comes.0 (inv.comes.2 lawful checked) s.within log outers ws hs st e in
+            let first : c.index.result.now ≡ n.first = c.index.ensures ∙ ap (λ l. get_or l 0 c.index.result.now) n.is in
+            let there : c.in_ok-source.source.place ≡ s.place + n.first.width = c.in_ok-source.ensures.place ∙ ap (λ (x : Waiting g.row.A.Denot). s.place + x.width) first in
+            subst (λ k. ComesTo (input_of h (trees s.whole)) pat (flat_len (trees s.whole)) lawful checked k new) (sym there) n.comes_next),
+      );
+      whole = c.in_ok-source.ensures.whole ∙ inv.whole;
+      blank = λ q l. c.in_ok-settled.ensures.blank q (omega (arith, l, at, some));
+      size = c.in_ok-settled.ensures.size ∙ inv.size;
+      kept = kept-on c.args.log.now c.loop-source.log log inv.kept c.in_ok-settled.ensures.kept.log;
+      report = λ r. c.in_ok-settled.ensures.report (inv.report r);
+    }
+
+pub returns-in-Some-clause-report : goal.returns-in-Some-clause-report
+returns-in-Some-clause-report g c = λ r. c.in_ok-settled.ensures.report (c.loop-source.invariant.report r)

@@ -1,0 +1,63 @@
+use Rattle.std.proofs.Common.{◌∙◌, sym, ap, subst, inl, inr, option_map}
+use Rattle.mbe_semantics.specs.Syntax.Op.{op, group, repetition}
+use Rattle.mbe_ops.specs.Views.{op_of, ops_of, separator_seen}
+use Rattle.mbe_ops.proofs.OpViews.{view-subtree, view-repeat, view-ignore, view-index, view-len, view-count, view-concat}
+use Rattle.mbe_matcher.specs.Positions.{IsPlain}
+use Rattle.mbe_matcher.proofs.Keeping.{keeps_not}
+use Rattle.mbe_matcher.proofs.StepLemmas.{is_live, has_number, has_more, separator_same}
+use Rattle.mbe_matcher.proofs.steps.op_steps.Goals as goal
+
+pub variable_steps-requires-clause-live : goal.variable_steps-requires-clause-live
+variable_steps-requires-clause-live g c = is_live c.args.log.now c.args.outers.now.items c.args.position c.requires.stands
+
+pub group_steps-requires-clause-dot : goal.group_steps-requires-clause-dot
+group_steps-requires-clause-dot g c =
+    c.requires.dot ∙ ap (λ x. op x (ops_of c.args.rest.now))
+    (ap op_of c.in-Subtree.is ∙ view-subtree _ c.in-Subtree.delimiter ∙ ap (λ xs. group c.in-Subtree.delimiter (ops_of xs)) (sym c.deref.ensures.value))
+
+pub group_steps-requires-clause-number : goal.group_steps-requires-clause-number
+group_steps-requires-clause-number g c = has_number c.args.log.now c.args.outers.now.items c.args.position c.requires.stands
+
+pub repetition_steps-requires-clause-live : goal.repetition_steps-requires-clause-live
+repetition_steps-requires-clause-live g c = is_live c.args.log.now c.args.outers.now.items c.args.position c.requires.stands
+
+pub repetition_steps-requires-clause-dot : goal.repetition_steps-requires-clause-dot
+repetition_steps-requires-clause-dot g c =
+    c.requires.dot ∙ ap (λ x. op x (ops_of c.args.rest.now))
+    (ap op_of c.in-Repeat.is ∙ view-repeat _ _ _
+    ∙ ap (λ x. repetition (ops_of c.in-Repeat.tokens.0.items) x c.in-Repeat.kind) (sym (separator_same c.as_ref-separator.result c.in-Repeat.separator c.as_ref-separator.ensures.value))
+    ∙ ap (λ xs. repetition (ops_of xs) (option_map (λ t. separator_seen t.now) c.as_ref-separator.result) c.in-Repeat.kind) (sym c.deref-in-Repeat.ensures.value))
+
+pub repetition_steps-requires-clause-number : goal.repetition_steps-requires-clause-number
+repetition_steps-requires-clause-number g c =
+    has_more c.args.log.now c.args.outers.now.items c.args.position (ops_of c.deref-in-Repeat.result.now) (ops_of c.args.rest.now)
+    (option_map (λ t. separator_seen t.now) c.as_ref-separator.result) c.in-Repeat.kind c.requires.stands
+    (c.requires.dot ∙ ap (λ x. op x (ops_of c.args.rest.now))
+    (ap op_of c.in-Repeat.is ∙ view-repeat _ _ _
+    ∙ ap (λ x. repetition (ops_of c.in-Repeat.tokens.0.items) x c.in-Repeat.kind) (sym (separator_same c.as_ref-separator.result c.in-Repeat.separator c.as_ref-separator.ensures.value))
+    ∙ ap (λ xs. repetition (ops_of xs) (option_map (λ t. separator_seen t.now) c.as_ref-separator.result) c.in-Repeat.kind) (sym c.deref-in-Repeat.ensures.value)))
+
+pub returns-in-Subtree : goal.returns-in-Subtree
+returns-in-Subtree g c = λ o s. c.group_steps.ensures (g.G.FragmentGrammar.grammar c.args.grammar.now) c.args.log.now o s
+
+pub returns-in-Ignore : goal.returns-in-Ignore
+returns-in-Ignore g c = λ o s. record {
+  now = c.plain_steps.ensures (g.G.FragmentGrammar.grammar c.args.grammar.now) c.args.log.now c.args.outers.now.items o s;
+  kept = keeps_not c.args.log.now c.args.outers.now.items;
+}
+
+pub returns-in-Literal : goal.returns-in-Literal
+returns-in-Literal g c = λ o s. record {
+  now = c.plain_steps-in-Literal.ensures (g.G.FragmentGrammar.grammar c.args.grammar.now) c.args.log.now c.args.outers.now.items o s;
+  kept = keeps_not c.args.log.now c.args.outers.now.items;
+}
+
+pub plain_steps-requires-clause-plain : goal.plain_steps-requires-clause-plain
+plain_steps-requires-clause-plain g c =
+    elim c.in-Ignore.is [
+      | inl w ↦ subst IsPlain (sym (ap op_of w.2 ∙ view-ignore _ w.0 w.1)) tt
+      | inr (inl w) ↦ subst IsPlain (sym (ap op_of w.1 ∙ view-index _ w.0)) tt
+      | inr (inr (inl w)) ↦ subst IsPlain (sym (ap op_of w.1 ∙ view-len _ w.0)) tt
+      | inr (inr (inr (inl w))) ↦ subst IsPlain (sym (ap op_of w.2 ∙ view-count _ w.0 w.1)) tt
+      | inr (inr (inr (inr w))) ↦ subst IsPlain (sym (ap op_of w.2 ∙ view-concat w.0 w.1)) tt
+    ]

@@ -1,0 +1,69 @@
+// Positions in a pattern, and their steps.
+use mbe_log::log::Handle;
+use mbe_ops::ops::{Op, Separator};
+use mbe_semantics::kinds::RepeatKind;
+use mbe_tt::iter::TtIter;
+use std::alloc::{Allocator, Global};
+
+// A dot of a pattern, with what was bound on the way to it.
+#[derive(Drop)]
+pub(crate) struct Position<'a, A: Allocator = Global> {
+    // The ops that are left in the innermost group or repetition.
+    pub(crate) dot: &'a [Op<A>],
+    // How many dots there are from here to the pattern's end.
+    pub(crate) number: usize,
+    // Where the innermost open item stands among the outer ones.
+    pub(crate) up: Option<usize>,
+    pub(crate) handle: Handle,
+}
+
+// An open group or repetition. Positions share it, and it never changes.
+#[derive(Drop)]
+pub(crate) struct Outer<'a, A: Allocator = Global> {
+    // None for a group.
+    pub(crate) rounds: Option<Rounds<'a, A>>,
+    // The ops after it.
+    pub(crate) rest: &'a [Op<A>],
+    // The open item around it.
+    pub(crate) up: Option<usize>,
+}
+
+// An open repetition.
+#[derive(Drop)]
+pub(crate) struct Rounds<'a, A: Allocator = Global> {
+    pub(crate) body: &'a [Op<A>],
+    pub(crate) separator: Option<&'a Separator<A>>,
+    pub(crate) kind: RepeatKind,
+    // The number of the dot before the body.
+    pub(crate) front: usize,
+    // What is bound outside.
+    pub(crate) outside: Handle,
+}
+
+// A position that goes on over so many flat tokens.
+#[derive(Drop)]
+pub(crate) struct Waiting<'a, A: Allocator = Global> {
+    pub(crate) width: usize,
+    // What is left of the argument's innermost group after a fragment, if it goes on by one.
+    pub(crate) beyond: Option<TtIter<'a, A>>,
+    pub(crate) after: Position<'a, A>,
+}
+
+// The steps of a position at one place.
+#[derive(Drop)]
+pub(crate) struct Steps<'a, A: Allocator = Global> {
+    // Those over no flat token, in the order in which they are followed.
+    pub(crate) first: Option<Position<'a, A>>,
+    pub(crate) second: Option<Position<'a, A>>,
+    // The one over some.
+    pub(crate) next: Option<Waiting<'a, A>>,
+    // What is bound at the pattern's end.
+    pub(crate) done: Option<Handle>,
+}
+
+impl<'a, A: Allocator> Steps<'a, A> {
+    // Whether there is a step, or the pattern's end.
+    pub(crate) fn is_some(&self) -> bool {
+        self.first.is_some() || self.second.is_some() || self.next.is_some() || self.done.is_some()
+    }
+}

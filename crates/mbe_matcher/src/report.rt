@@ -1,0 +1,345 @@
+// What a match that doesn't fit reports (as in rust-analyzer): the first error that a position noted, and what the last one
+// had bound.
+ghost use Rattle.std.specs.Prelude.{◌≡◌, [], ◌++◌, IfOk, IfSome, OnOk, Some, option_map};
+ghost use Rattle.std.specs.String.{string_bytes};
+ghost use Rattle.mbe_tt.specs.declared.span.Span.{Span};
+ghost use Rattle.mbe_semantics.specs.Bindings.Account.{Account, IsAccount, IsLive, pushed};
+ghost use Rattle.mbe_semantics.specs.Expansion.Failing.{noted, unlike, unlike_puncts, puncts_text, entry_of, kind_text, is_refused, failing_front, failing_variable, failing, bound_if_some, bad_front, failing_command};
+ghost use Rattle.mbe_errors.specs.ErrorViews.{error_of, errors_of, kind_of};
+ghost use Rattle.mbe_ops.specs.Views.{op_of};
+ghost use Rattle.mbe_matcher.specs.Rewriting.{IsRewritten};
+
+use crate::eat::begins_refused;
+use crate::fragment::{eat_front, expect_fragment};
+use crate::source::Source;
+use mbe_errors::error::{ExpandError, ExpandErrorKind};
+use mbe_log::fragment::of_kind;
+use mbe_log::log::{BindingLog, Handle, again};
+use mbe_ops::ops::Op;
+use mbe_semantics::kinds::MetaVarKind;
+use mbe_tt::grammar::{FragmentGrammar, PrefixEntryPoint};
+use mbe_tt::iter::{TtElement, TtIter};
+use mbe_tt::span::DelimSpan;
+use mbe_tt::symbol::Symbol;
+use mbe_tt::tt::{Leaf, Punct};
+use std::alloc::{AllocError, Allocator, Global};
+
+// Where an error of the trees in front stands.
+fn noted<A: Allocator>(
+    alloc: A,
+    kind: ExpandErrorKind<A>,
+    here: &TtIter<'_, A>,
+    around: DelimSpan,
+) -> Result<ExpandError<A>, AllocError>
+    ensures { IfOk result (λ e. error_of e ≡ noted (kind_of kind) here.now around) }
+{
+    let span = here.next_span().unwrap_or(around.close);
+    ExpandError::new(alloc, span, kind)
+}
+
+// In place of a literal or an identifier.
+fn unlike<A: Allocator>(text: String<A>, here: &TtIter<'_, A>) -> ExpandErrorKind<A>
+    ensures { kind_of result ≡ unlike (string_bytes text) here.now }
+{
+    match here.peek() {
+        Some(TtElement::Leaf(_)) => ExpandErrorKind::UnexpectedToken,
+        _ => ExpandErrorKind::BindingError(text),
+    }
+}
+
+// In place of puncts.
+fn unlike_puncts<A: Allocator>(text: String<A>, here: &TtIter<'_, A>) -> ExpandErrorKind<A>
+    ensures { kind_of result ≡ unlike_puncts (string_bytes text) here.now }
+{
+    match here.peek() {
+        Some(TtElement::Leaf(Leaf::Punct(punct))) if punct.char != '\'' => {
+            ExpandErrorKind::BindingError(text)
+        }
+        _ => ExpandErrorKind::UnexpectedToken,
+    }
+}
+
+// The chars of the puncts.
+fn puncts_text<A: Allocator>(alloc: A, puncts: &[Punct]) -> Result<String<A>, AllocError>
+    ensures { IfOk result (λ text. string_bytes text ≡ puncts_text puncts.now) }
+{
+    let mut text = String::new(alloc);
+    for punct in puncts {
+        text.push(punct.char)?;
+    }
+    Ok(text)
+}
+
+// What the grammar is asked for, where it is asked.
+fn entry_of(kind: MetaVarKind) -> Option<PrefixEntryPoint>
+    ensures { result ≡ entry_of kind }
+{
+    match kind {
+        MetaVarKind::Ident | MetaVarKind::Tt | MetaVarKind::Lifetime | MetaVarKind::Literal => None,
+        MetaVarKind::Expr(_) => Some(PrefixEntryPoint::Expr),
+        MetaVarKind::Path => Some(PrefixEntryPoint::Path),
+        MetaVarKind::Ty => Some(PrefixEntryPoint::Ty),
+        MetaVarKind::Pat => Some(PrefixEntryPoint::PatTop),
+        MetaVarKind::PatParam => Some(PrefixEntryPoint::Pat),
+        MetaVarKind::Stmt => Some(PrefixEntryPoint::Stmt),
+        MetaVarKind::Block => Some(PrefixEntryPoint::Block),
+        MetaVarKind::Meta => Some(PrefixEntryPoint::MetaItem),
+        MetaVarKind::Item => Some(PrefixEntryPoint::Item),
+        MetaVarKind::Vis => Some(PrefixEntryPoint::Vis),
+    }
+}
+
+// What is expected of a kind that the grammar isn't asked about.
+fn kind_text(kind: MetaVarKind) -> &'static str
+    ensures { result.now ≡ kind_text kind }
+{
+    match kind {
+        MetaVarKind::Ident => "expected ident",
+        MetaVarKind::Lifetime => "expected lifetime",
+        MetaVarKind::Tt => "expected token tree",
+        MetaVarKind::Literal => "expected literal",
+        _ => "",
+    }
+}
+
+fn is_refused<A: Allocator>(kind: MetaVarKind, here: &TtIter<'_, A>) -> bool
+    ensures { result ≡ is_refused kind here.now }
+{
+    match kind {
+        MetaVarKind::Expr(expr) => begins_refused(expr, here),
+        _ => false,
+    }
+}
+
+// The error of a variable of the kind that takes nothing.
+fn variable_error<A: Allocator + Copy, G: FragmentGrammar>(
+    alloc: A,
+    grammar: &G,
+    kind: MetaVarKind,
+    here: &TtIter<'_, A>,
+    around: DelimSpan,
+) -> Result<Option<ExpandError<A>>, AllocError>
+    ensures { IfOk result (λ e. errors_of e ≡ failing_variable (G.grammar grammar.now) (Some kind) here.now around) }
+{
+    if is_refused(kind, here) {
+        let error = noted(alloc, ExpandErrorKind::NoMatchingRule, here, around)?;
+        return Ok(Some(error));
+    }
+    let Some(entry) = entry_of(kind) else {
+        let text = String::from_str(alloc, kind_text(kind))?;
+        let error = noted(alloc, ExpandErrorKind::BindingError(text), here, around)?;
+        return Ok(Some(error));
+    };
+    let mut ahead = here.remaining().iter();
+    Ok(expect_fragment(alloc, grammar, &mut ahead, entry, around)?.err)
+}
+
+// The error that is noted where the op doesn't fit the trees in front.
+#[tactic(auto, using(mbe_ops::proofs::OpViews::views))]
+pub(crate) fn failing<A: Allocator + Copy, G: FragmentGrammar>(
+    alloc: A,
+    grammar: &G,
+    op: &Op<A>,
+    here: &TtIter<'_, A>,
+    around: DelimSpan,
+) -> Result<Option<ExpandError<A>>, AllocError>
+    ensures { IfOk result (λ e. errors_of e ≡ failing (G.grammar grammar.now) (op_of op.now) here.now around) }
+{
+    match op {
+        Op::Literal(literal) => {
+            let kind = unlike(format!(in alloc; "expected literal: `{literal}`")?, here);
+            Ok(Some(noted(alloc, kind, here, around)?))
+        }
+        Op::Ident(ident) => {
+            let kind = unlike(format!(in alloc; "expected ident: `{ident}`")?, here);
+            Ok(Some(noted(alloc, kind, here, around)?))
+        }
+        Op::Punct(puncts) => {
+            let chars = puncts_text(alloc, puncts.as_slice())?;
+            let kind = unlike_puncts(format!(in alloc; "expected punct: `{chars}`")?, here);
+            Ok(Some(noted(alloc, kind, here, around)?))
+        }
+        Op::Var {
+            kind: Some(kind),
+            ..
+        } => variable_error(alloc, grammar, *kind, here, around),
+        _ => Ok(None),
+    }
+}
+
+// Binds a variable of the kind that takes nothing: to a front that the grammar faults, or it is missing.
+pub(crate) fn bind_failing<'a, A: Allocator + Copy, G: FragmentGrammar>(
+    grammar: &G,
+    log: &mut BindingLog<'a, A>,
+    handle: &mut Handle,
+    name: &Symbol<A>,
+    kind: MetaVarKind,
+    here: &TtIter<'a, A>,
+) -> Result<(), AllocError>
+    requires { IsLive log.old handle.old }
+    ensures { OnOk result (IsRewritten log.old log.new handle.old handle.new
+        (pushed (failing_command (G.grammar grammar.now) name.now kind here.now))) }
+{
+    if is_refused(kind, here) {
+        return log.push_missing(handle, name, kind);
+    }
+    let Some(entry) = entry_of(kind) else {
+        return log.push_missing(handle, name, kind);
+    };
+    let mut ahead = here.remaining().iter();
+    let counted = eat_front(grammar, entry, &mut ahead)?;
+    if counted.whole.iter().is_empty() {
+        return log.push_missing(handle, name, kind);
+    }
+    log.push_fragment(handle, name, of_kind(Some(kind), counted.whole))
+}
+
+// An op, and the trees in front of it that it doesn't fit.
+#[derive(Drop)]
+struct Misfit<'a, A: Allocator = Global> {
+    op: &'a Op<A>,
+    here: TtIter<'a, A>,
+}
+
+// What the bindings of a report come from.
+#[derive(Drop)]
+struct Last<'a, A: Allocator = Global> {
+    handle: Handle,
+    // Where the position failed. None where it stands at the pattern's end.
+    misfit: Option<Misfit<'a, A>>,
+}
+
+// What positions report on the way.
+#[derive(Drop)]
+pub(crate) struct Report<'a, A: Allocator = Global> {
+    // The first that failed.
+    first: Option<Misfit<'a, A>>,
+    // The last that failed at a place; or the first at the pattern's end, where none failed there.
+    last: Option<Last<'a, A>>,
+    failed_here: bool,
+}
+
+// Whether an error is noted where the op doesn't fit. At a group and at a variable of an unknown kind none is.
+fn is_noted<A: Allocator>(op: &Op<A>) -> bool {
+    matches!(
+        op,
+        Op::Literal(_) | Op::Ident(_) | Op::Punct(_) | Op::Var { kind: Some(_), .. }
+    )
+}
+
+impl<'a, A: Allocator> Report<'a, A> {
+    ghost use Rattle.mbe_semantics.specs.Bindings.Account.{Log};
+    ghost use Rattle.mbe_matcher.specs.Reports.{IsReport};
+    ghost use Rattle.mbe_log.specs.Accounts.{Every};
+
+    // Nothing is reported.
+    pub(crate) fn new() -> Report<'a, A>
+        ensures { (log : Log) → IsReport log result }
+    {
+        Report {
+            first: None,
+            last: None,
+            failed_here: false,
+        }
+    }
+
+    // A position before these ops was looked at, which failed if it has no step at the place.
+    pub(crate) fn looked_at(
+        &mut self,
+        source: &Source<'a, A>,
+        dot: &'a [Op<A>],
+        handle: Handle,
+        has_step: bool,
+    )
+        ensures { (log : Log) → IsLive log handle → IsReport log self.old → IsReport log self.new }
+    {
+        let Some((op, _rest)) = dot.split_first() else {
+            return;
+        };
+        if has_step || !is_noted(op) {
+            return;
+        }
+        if self.first.is_none() {
+            self.first = Some(Misfit {
+                op,
+                here: source.here(),
+            });
+        }
+        let misfit = Some(Misfit {
+            op,
+            here: source.here(),
+        });
+        self.last = Some(Last { handle, misfit });
+        self.failed_here = true;
+    }
+
+    // All positions of the place were looked at. Those at the pattern's end have bound this.
+    pub(crate) fn after_place(&mut self, ends: &[Handle])
+        ensures { (log : Log) → Every (IsLive log) ends.now → IsReport log self.old → IsReport log self.new }
+    {
+        if let Some(end) = ends.first()
+            && !self.failed_here
+        {
+            self.last = Some(Last {
+                handle: again(end),
+                misfit: None,
+            });
+        }
+        self.failed_here = false;
+    }
+}
+
+impl<'a, A: Allocator + Copy> Report<'a, A> {
+    ghost use Rattle.mbe_log.specs.Shared.{IsKept};
+    ghost use Rattle.mbe_matcher.specs.Reports.{IsReport};
+
+    // The first error that was noted; where none was, that of the stop, at the argument's opening.
+    pub(crate) fn error<G: FragmentGrammar>(
+        &self,
+        alloc: A,
+        grammar: &G,
+        around: DelimSpan,
+        is_at_end: bool,
+    ) -> Result<ExpandError<A>, AllocError> {
+        if let Some(misfit) = &self.first
+            && let Some(error) = failing(alloc, grammar, misfit.op, &misfit.here, around)?
+        {
+            return Ok(error);
+        }
+        let kind = if is_at_end {
+            ExpandErrorKind::UnexpectedToken
+        } else {
+            ExpandErrorKind::LeftoverTokens
+        };
+        ExpandError::new(alloc, around.opening, kind)
+    }
+
+    // What the last position that is reported had bound.
+    pub(crate) fn bindings<G: FragmentGrammar>(
+        self,
+        grammar: &G,
+        log: &mut BindingLog<'a, A>,
+    ) -> Result<Handle, AllocError>
+        requires { IsReport log.old self }
+        ensures live { IfOk result (λ h. IsLive log.new h) }
+        ensures kept { OnOk result (IsKept log.old log.new) }
+    {
+        let Some(last) = self.last else {
+            return log.alloc();
+        };
+        let Last { mut handle, misfit } = last;
+        let Some(misfit) = misfit else {
+            return Ok(handle);
+        };
+        let Op::Var {
+            name,
+            kind: Some(kind),
+            ..
+        } = misfit.op
+        else {
+            return Ok(handle);
+        };
+        bind_failing(grammar, log, &mut handle, name, *kind, &misfit.here)?;
+        Ok(handle)
+    }
+}

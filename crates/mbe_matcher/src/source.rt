@@ -1,0 +1,144 @@
+// The argument that is matched, from a place on.
+ghost use Rattle.std.specs.Prelude.{◌≡◌, ◌↔◌, IsTrue, ◌+◌, ◌<◌, ◌≤◌, ◌&&◌, nat_lt, IfOk, reverse};
+ghost use Rattle.mbe_tt.specs.Trees.Tree.{Forest, flat_len, rest_at};
+ghost use Rattle.mbe_tt.specs.Views.View.{trees};
+ghost use Rattle.mbe_tt.specs.Buffers.Place.{rests};
+ghost use Rattle.mbe_semantics.specs.Readings.Input.{is_none};
+ghost use Rattle.mbe_matcher.specs.Fronts.{IsBehind};
+
+use mbe_tt::iter::{TtElement, TtIter};
+use mbe_tt::view::TokenTreesView;
+use std::alloc::{AllocError, Allocator, Global};
+
+// An argument and a place in it, a number of flat tokens. It holds what is left of each group around the place, the innermost
+// last.
+#[derive(Drop)]
+pub(crate) struct Source<'a, A: Allocator = Global> {
+    pub(crate) whole: TokenTreesView<'a, A>,
+    pub(crate) place: usize,
+    here: TtIter<'a, A>,
+    around: Vec<TtIter<'a, A>, A>,
+    ghost stands: { rests (trees whole) place ≡ (here, reverse around.items) },
+    pub ghost within: { place ≤ flat_len (trees whole) },
+}
+
+impl<'a, A: Allocator> Source<'a, A> {
+    // The argument's beginning.
+    pub(crate) fn new(alloc: A, whole: TokenTreesView<'a, A>) -> Source<'a, A>
+        ensures whole { result.whole ≡ whole.entry }
+        ensures place { result.place ≡ 0 }
+    {
+        Source {
+            whole,
+            place: 0,
+            here: whole.iter(),
+            around: Vec::new(alloc),
+        }
+    }
+
+    // The trees from the place to the end of the innermost group.
+    pub(crate) fn here(&self) -> TtIter<'a, A>
+        ensures { result ≡ rest_at (trees self.now.whole) self.now.place }
+    {
+        self.here.remaining().iter()
+    }
+
+    // Whether the whole argument is passed.
+    pub(crate) fn is_at_end(&self) -> bool
+        ensures { IsTrue result ↔ (self.now.place ≡ flat_len (trees self.now.whole)) }
+    {
+        self.place == self.whole.flat_len()
+    }
+
+    // Whether a group of the argument ends here.
+    pub(crate) fn closes(&self) -> bool
+        ensures { result ≡ nat_lt self.now.place (flat_len (trees self.now.whole))
+            && is_none (rest_at (trees self.now.whole) self.now.place) }
+    {
+        self.place < self.whole.flat_len() && self.here.is_empty()
+    }
+
+    // The place after one flat token: a leaf, an opening or a closing.
+    fn bumped(self) -> Result<Source<'a, A>, AllocError>
+        requires { self.place < flat_len (trees self.whole) }
+        ensures whole { IfOk result (λ s. s.whole ≡ self.entry.whole) }
+        ensures place { IfOk result (λ s. s.place ≡ self.entry.place + 1) }
+    {
+        let Source {
+            whole,
+            place,
+            mut here,
+            mut around,
+        } = self;
+        let _most = whole.flat_len();
+        let place = place + 1;
+        let Some(tree) = here.next() else {
+            let Some(here) = around.pop() else {
+                return Ok(Source {
+                    whole,
+                    place,
+                    here,
+                    around,
+                });
+            };
+            return Ok(Source {
+                whole,
+                place,
+                here,
+                around,
+            });
+        };
+        match tree {
+            TtElement::Leaf(_) => Ok(Source {
+                whole,
+                place,
+                here,
+                around,
+            }),
+            TtElement::Subtree(_, inside) => {
+                around.push(here)?;
+                Ok(Source {
+                    whole,
+                    place,
+                    here: inside,
+                    around,
+                })
+            }
+        }
+    }
+
+    // The place after so many flat tokens.
+    pub(crate) fn passed(self, width: usize) -> Result<Source<'a, A>, AllocError>
+        requires { self.place + width ≤ flat_len (trees self.whole) }
+        ensures whole { IfOk result (λ s. s.whole ≡ self.entry.whole) }
+        ensures place { IfOk result (λ s. s.place ≡ self.entry.place + width) }
+    {
+        let mut source = self;
+        for _passed in 0..width {
+            source = source.bumped()?;
+        }
+        Ok(source)
+    }
+
+    // The place after whole trees of so many flat tokens, in one step. `beyond` is what is left behind them.
+    pub(crate) fn jumped(self, width: usize, beyond: TtIter<'a, A>) -> Source<'a, A>
+        requires fits { self.place + width ≤ flat_len (trees self.whole) }
+        requires beyond { IsBehind (rest_at (trees self.whole) self.place) width beyond }
+        ensures whole { result.whole ≡ self.entry.whole }
+        ensures place { result.place ≡ self.entry.place + width }
+    {
+        let Source {
+            whole,
+            place,
+            here: _,
+            around,
+        } = self;
+        let _most = whole.flat_len();
+        Source {
+            whole,
+            place: place + width,
+            here: beyond,
+            around,
+        }
+    }
+}

@@ -1,0 +1,119 @@
+// Copies of patterns and templates.
+ghost use Rattle.std.specs.Prelude.{◌≡◌, IfOk, option_map};
+ghost use Rattle.mbe_ops.specs.Views.{separator_seen, elements_seen, op_of, ops_of, template_of};
+
+use crate::ops::{ConcatMetaVarExprElem, MetaTemplate, Op, Separator};
+use arrayvec::ArrayVec;
+use mbe_tt::tt::Punct;
+use std::alloc::{AllocError, Allocator};
+
+impl<A: Allocator + Copy> MetaTemplate<A> {
+    /// An equal copy, or out of memory.
+    pub fn try_clone(&self, alloc: A) -> Result<MetaTemplate<A>, AllocError>
+        ensures { IfOk result (λ copy. template_of copy ≡ template_of self.now) }
+    {
+        Ok(MetaTemplate(copied_ops(alloc, &self.0)?))
+    }
+}
+
+#[cycle(copies)]
+fn copied_ops<A: Allocator + Copy>(alloc: A, ops: &[Op<A>]) -> Result<Vec<Op<A>, A>, AllocError>
+    ensures { IfOk result (λ copy. ops_of copy.items ≡ ops_of ops.now) }
+{
+    let mut copy = Vec::new(alloc);
+    for op in ops {
+        let op = copied_op(alloc, op)?;
+        copy.push(op)?;
+    }
+    Ok(copy)
+}
+
+#[cycle(copies)]
+#[tactic(auto, using(crate::proofs::OpViews::views))]
+fn copied_op<A: Allocator + Copy>(alloc: A, op: &Op<A>) -> Result<Op<A>, AllocError>
+    ensures { IfOk result (λ copy. op_of copy ≡ op_of op.now) }
+{
+    match op {
+        Op::Var { name, kind, id } => Ok(Op::Var {
+            name: name.clone()?,
+            kind: *kind,
+            id: *id,
+        }),
+        Op::Ignore { name, id } => Ok(Op::Ignore {
+            name: name.clone()?,
+            id: *id,
+        }),
+        Op::Index { depth } => Ok(Op::Index { depth: *depth }),
+        Op::Len { depth } => Ok(Op::Len { depth: *depth }),
+        Op::Count { name, depth } => Ok(Op::Count {
+            name: name.clone()?,
+            depth: *depth,
+        }),
+        Op::Concat { elements, span } => Ok(Op::Concat {
+            elements: copied_elements(elements)?,
+            span: *span,
+        }),
+        Op::Repeat {
+            tokens,
+            kind,
+            separator,
+        } => Ok(Op::Repeat {
+            tokens: MetaTemplate(copied_ops(alloc, &tokens.0)?),
+            kind: *kind,
+            separator: copied_between(separator)?,
+        }),
+        Op::Subtree { tokens, delimiter } => Ok(Op::Subtree {
+            tokens: MetaTemplate(copied_ops(alloc, &tokens.0)?),
+            delimiter: *delimiter,
+        }),
+        Op::Literal(literal) => Ok(Op::Literal(literal.clone()?)),
+        Op::Punct(puncts) => Ok(Op::Punct(copied_puncts(puncts)?)),
+        Op::Ident(ident) => Ok(Op::Ident(ident.clone()?)),
+    }
+}
+
+fn copied_between<A: Allocator>(
+    separator: &Option<Separator<A>>,
+) -> Result<Option<Separator<A>>, AllocError>
+    ensures { IfOk result
+        (λ copy. option_map separator_seen copy ≡ option_map separator_seen separator.now) }
+{
+    let Some(separator) = separator else {
+        return Ok(None);
+    };
+    let copy = match separator {
+        Separator::Literal(literal) => Separator::Literal(literal.clone()?),
+        Separator::Ident(ident) => Separator::Ident(ident.clone()?),
+        Separator::Puncts(puncts) => Separator::Puncts(copied_puncts(puncts)?),
+        Separator::Lifetime(quote, ident) => Separator::Lifetime(*quote, ident.clone()?),
+    };
+    Ok(Some(copy))
+}
+
+fn copied_puncts(puncts: &ArrayVec<Punct, 3>) -> Result<ArrayVec<Punct, 3>, AllocError>
+    ensures { IfOk result (λ copy. copy.items ≡ puncts.now.items) }
+{
+    puncts.clone()
+}
+
+fn copied_elements<A: Allocator + Copy>(
+    elements: &Vec<ConcatMetaVarExprElem<A>, A>,
+) -> Result<Vec<ConcatMetaVarExprElem<A>, A>, AllocError>
+    ensures { IfOk result (λ copy. elements_seen copy.items ≡ elements_seen elements.now.items) }
+{
+    elements.clone()
+}
+
+impl<A: Allocator> Clone for ConcatMetaVarExprElem<A> {
+    ghost is_clone = { λ x y. y ≡ x };
+
+    fn clone(&self) -> Result<ConcatMetaVarExprElem<A>, AllocError> {
+        Ok(match self {
+            ConcatMetaVarExprElem::Ident(ident) => ConcatMetaVarExprElem::Ident(ident.clone()?),
+            ConcatMetaVarExprElem::Var(ident) => ConcatMetaVarExprElem::Var(ident.clone()?),
+            ConcatMetaVarExprElem::Literal(literal) => {
+                ConcatMetaVarExprElem::Literal(literal.clone()?)
+            }
+        })
+    }
+}

@@ -1,0 +1,185 @@
+// Equality of patterns and templates: separators count by their texts alone (as in rust-analyzer).
+ghost use Rattle.std.specs.Prelude.{◌≡◌, ◌↔◌, IsTrue, option_map};
+ghost use Rattle.mbe_tt.specs.Views.Shown.{ident_of, literal_of};
+ghost use Rattle.mbe_ops.specs.Equality.{IsSameBetween, IsSameOp, AreSameOps};
+ghost use Rattle.mbe_ops.specs.Views.{separator_seen, element_seen, elements_seen, op_of, ops_of, template_of};
+
+use crate::ops::{ConcatMetaVarExprElem, MetaTemplate, Op, Separator, same_separator};
+use mbe_semantics::kinds::RepeatKind;
+use mbe_tt::tt::{Delimiter, Ident, Literal, Punct};
+use std::alloc::Allocator;
+
+/// Whether the patterns or templates are the same.
+pub fn same_templates<A: Allocator>(one: &MetaTemplate<A>, two: &MetaTemplate<A>) -> bool
+    ensures { IsTrue result ↔ AreSameOps (template_of one.now) (template_of two.now) }
+{
+    same_ops(&one.0, &two.0)
+}
+
+#[cycle(equal)]
+fn same_ops<A: Allocator>(one: &[Op<A>], two: &[Op<A>]) -> bool
+    ensures { IsTrue result ↔ AreSameOps (ops_of one.now) (ops_of two.now) }
+{
+    let mut rest = two;
+    for op in one {
+        let Some((other, others)) = rest.split_first() else {
+            return false;
+        };
+        if !same_op(op, other) {
+            return false;
+        }
+        rest = others;
+    }
+    rest.is_empty()
+}
+
+#[cycle(equal)]
+#[tactic(auto, using(crate::proofs::OpViews::views))]
+fn same_op<A: Allocator>(one: &Op<A>, two: &Op<A>) -> bool
+    ensures { IsTrue result ↔ IsSameOp (op_of one.now) (op_of two.now) }
+{
+    match (one, two) {
+        (
+            Op::Var { name, kind, id },
+            Op::Var {
+                name: n,
+                kind: k,
+                id: i,
+            },
+        ) => name == n && kind == k && id == i,
+        (Op::Ignore { name, id }, Op::Ignore { name: n, id: i }) => name == n && id == i,
+        (Op::Index { depth }, Op::Index { depth: d }) => depth == d,
+        (Op::Len { depth }, Op::Len { depth: d }) => depth == d,
+        (Op::Count { name, depth }, Op::Count { name: n, depth: d }) => name == n && depth == d,
+        (
+            Op::Concat { elements, span },
+            Op::Concat {
+                elements: es,
+                span: s,
+            },
+        ) => same_elements(elements, es) && span == s,
+        (
+            Op::Repeat {
+                tokens,
+                kind,
+                separator,
+            },
+            Op::Repeat {
+                tokens: ts,
+                kind: k,
+                separator: s,
+            },
+        ) => same_suffix(separator, *kind, s, *k) && same_ops(&tokens.0, &ts.0),
+        (
+            Op::Subtree { tokens, delimiter },
+            Op::Subtree {
+                tokens: ts,
+                delimiter: d,
+            },
+        ) => same_delimiter(delimiter, d) && same_ops(&tokens.0, &ts.0),
+        (Op::Literal(one), Op::Literal(two)) => same_literal(one, two),
+        (Op::Punct(one), Op::Punct(two)) => same_puncts(one.as_slice(), two.as_slice()),
+        (Op::Ident(one), Op::Ident(two)) => same_ident(one, two),
+        _ => false,
+    }
+}
+
+// Whether two repetitions go round alike.
+fn same_suffix<A: Allocator>(
+    separator: &Option<Separator<A>>,
+    kind: RepeatKind,
+    other: &Option<Separator<A>>,
+    other_kind: RepeatKind,
+) -> bool
+    ensures { let one = option_map separator_seen separator.now in
+        let two = option_map separator_seen other.now in
+        IsTrue result ↔ (IsSameBetween one two × (kind ≡ other_kind)) }
+{
+    same_between(separator, other) && kind == other_kind
+}
+
+fn same_delimiter(one: &Delimiter, two: &Delimiter) -> bool
+    ensures { IsTrue result ↔ (one.now ≡ two.now) }
+{
+    one == two
+}
+
+// Both have none, or the same.
+fn same_between<A: Allocator>(one: &Option<Separator<A>>, two: &Option<Separator<A>>) -> bool
+    ensures { IsTrue result
+        ↔ IsSameBetween (option_map separator_seen one.now) (option_map separator_seen two.now) }
+{
+    match (one, two) {
+        (Some(one), Some(two)) => same_separator(one, two),
+        (None, None) => true,
+        _ => false,
+    }
+}
+
+fn same_elements<A: Allocator>(
+    one: &[ConcatMetaVarExprElem<A>],
+    two: &[ConcatMetaVarExprElem<A>],
+) -> bool
+    ensures { IsTrue result ↔ (elements_seen one.now ≡ elements_seen two.now) }
+{
+    one == two
+}
+
+fn same_element<A: Allocator>(
+    one: &ConcatMetaVarExprElem<A>,
+    two: &ConcatMetaVarExprElem<A>,
+) -> bool
+    ensures { IsTrue result ↔ (element_seen one.now ≡ element_seen two.now) }
+{
+    match (one, two) {
+        (ConcatMetaVarExprElem::Ident(one), ConcatMetaVarExprElem::Ident(two)) => {
+            same_ident(one, two)
+        }
+        (ConcatMetaVarExprElem::Var(one), ConcatMetaVarExprElem::Var(two)) => same_ident(one, two),
+        (ConcatMetaVarExprElem::Literal(one), ConcatMetaVarExprElem::Literal(two)) => {
+            same_literal(one, two)
+        }
+        _ => false,
+    }
+}
+
+impl<A: Allocator> PartialEq for ConcatMetaVarExprElem<A> {
+    ghost use Rattle.mbe_ops.specs.Codes.{element_eq, element_eq_laws};
+    ghost use Rattle.std.specs.Cmp.{partial_equiv_from_equiv};
+
+    ghost eq = { element_eq };
+
+    ghost laws = { partial_equiv_from_equiv element_eq_laws };
+
+    fn eq(&self, other: &ConcatMetaVarExprElem<A>) -> bool {
+        same_element(self, other)
+    }
+}
+
+impl<A: Allocator> Eq for ConcatMetaVarExprElem<A> {
+    ghost use Rattle.mbe_ops.specs.Codes.{element_eq_laws};
+
+    ghost laws = { element_eq_laws };
+}
+
+fn same_literal<A: Allocator>(one: &Literal<A>, two: &Literal<A>) -> bool
+    ensures { IsTrue result ↔ (literal_of one.now ≡ literal_of two.now) }
+{
+    one == two
+}
+
+fn same_ident<A: Allocator>(one: &Ident<A>, two: &Ident<A>) -> bool
+    ensures { IsTrue result ↔ (ident_of one.now ≡ ident_of two.now) }
+{
+    one == two
+}
+
+fn same_puncts(one: &[Punct], two: &[Punct]) -> bool
+    ensures { IsTrue result ↔ (one.now ≡ two.now) }
+{
+    match (one.split_first(), two.split_first()) {
+        (Some((a, one)), Some((b, two))) => a == b && same_puncts(one, two),
+        (None, None) => true,
+        _ => false,
+    }
+}

@@ -1,0 +1,304 @@
+// Runs on random texts, and on random rules with repetitions.
+ghost use Rattle.std.specs.Prelude.{◌<◌};
+
+use crate::runs::assert_ends;
+use mbe_grammar::SampleGrammar;
+use mbe_text::lexer::lex;
+use mbe_tt::grammar::{FragmentGrammar, PrefixEntryPoint};
+use std::alloc::Global;
+use std::process::Abort;
+use std::test::Fail;
+use std::time::{Duration, Instant};
+
+const PIECES: [&str; 96] = [
+    "(",
+    ")",
+    "[",
+    "]",
+    "{",
+    "}",
+    "$",
+    "$x:ident",
+    "$t:tt",
+    "$x",
+    "$t",
+    ":",
+    "=>",
+    ";",
+    ",",
+    "x",
+    "r#x",
+    "crate ",
+    "_",
+    "1",
+    "1.0",
+    "0x",
+    "\"",
+    "'",
+    "\\",
+    "//",
+    "/*",
+    "*/",
+    "\n",
+    " ",
+    "é",
+    "\u{0}",
+    "$e:expr",
+    "$t:ty",
+    "$p:pat",
+    "$p:path",
+    "$s:stmt",
+    "$b:block",
+    "$m:meta",
+    "$i:item",
+    "$v:vis",
+    "$l:lifetime",
+    "$l:literal",
+    "$(",
+    "),*",
+    ")?",
+    "let ",
+    "mut ",
+    "ref ",
+    "pub ",
+    "self ",
+    "in ",
+    "const ",
+    "unsafe ",
+    "break ",
+    "return ",
+    "true ",
+    "use ",
+    "static ",
+    "fn ",
+    "struct ",
+    "impl ",
+    "'a ",
+    "'b'",
+    "'\\n'",
+    "1.5",
+    "1e5",
+    "2u8",
+    "\"s\"",
+    "&",
+    "*",
+    "<",
+    ">",
+    "::",
+    "->",
+    "!",
+    "?",
+    ".",
+    "..",
+    "=",
+    "==",
+    "+",
+    "-",
+    "|",
+    "&&",
+    "<<=",
+    "{ }",
+    "( )",
+    "[ ]",
+    "(x, y)",
+    "{ x }",
+    "::<x>",
+    "x::y",
+    "x.y()",
+    "x + 1",
+    ": u8",
+];
+
+/// Numbers that look random, from a seed.
+#[derive(Drop)]
+struct Numbers(u64);
+
+impl Numbers {
+    fn below(&mut self, bound: u64) -> u64
+        requires { 0 < bound }
+        ensures { result < bound }
+    {
+        self.0 = self
+            .0
+            .wrapping_mul(6_364_136_223_846_793_005)
+            .wrapping_add(1_442_695_040_888_963_407);
+        (self.0 >> 33) % bound
+    }
+
+    // Up to eleven pieces or characters.
+    fn text(&mut self, alloc: Global, is_of_pieces: bool) -> Result<String, Fail> {
+        let mut text = String::new(alloc);
+        for _ in 0..self.below(12) {
+            if is_of_pieces {
+                text.push_str(PIECES[self.below(96) as usize])?;
+            } else if let Some(char) = char::from_u32(self.below(0x11_0000) as u32) {
+                text.push(char)?;
+            }
+        }
+        Ok(text)
+    }
+}
+
+const ENTRIES: [PrefixEntryPoint; 10] = [
+    PrefixEntryPoint::Path,
+    PrefixEntryPoint::Expr,
+    PrefixEntryPoint::Ty,
+    PrefixEntryPoint::PatTop,
+    PrefixEntryPoint::Pat,
+    PrefixEntryPoint::Stmt,
+    PrefixEntryPoint::Block,
+    PrefixEntryPoint::MetaItem,
+    PrefixEntryPoint::Item,
+    PrefixEntryPoint::Vis,
+];
+
+// Whether the grammar answers for the front of any text.
+fn assert_parses(rt: &impl Abort, alloc: Global, text: &str) -> Result<(), Fail> {
+    assert!(rt; text.len() < 1_000_000);
+    let Ok(tree) = lex(alloc, text, 0) else {
+        return Ok(());
+    };
+    let view = tree.iter().remaining();
+    for entry in ENTRIES {
+        let front = SampleGrammar.parse(entry, view)?;
+        assert!(rt; front.count <= view.flat_len(), "{text}");
+        assert!(rt; !front.fault || front.count == 0, "{text}");
+    }
+    Ok(())
+}
+
+// Two texts and the rule that is made of two, in each turn.
+#[test]
+fn random_texts_end(rt: HostRuntime) -> Result<(), Fail> {
+    let mut numbers = Numbers(1);
+    for number in 0..7_000u64 {
+        let is_of_pieces = number % 4 != 0;
+        let def = numbers.text(rt.alloc(), is_of_pieces)?;
+        let arg = numbers.text(rt.alloc(), is_of_pieces)?;
+        assert_ends(&rt, rt.alloc(), def.as_str(), arg.as_str())?;
+        let template = numbers.text(rt.alloc(), is_of_pieces)?;
+        let rule = format!(in rt.alloc(); "({def}) => {{{template}}}")?;
+        assert_ends(&rt, rt.alloc(), rule.as_str(), arg.as_str())?;
+        assert_ends(&rt, rt.alloc(), rule.as_str(), def.as_str())?;
+        assert_parses(&rt, rt.alloc(), arg.as_str())?;
+    }
+    Ok(())
+}
+
+const OPS: [&str; 24] = [
+    "a ",
+    "b ",
+    "1 ",
+    ", ",
+    "; ",
+    "=> ",
+    "'a ",
+    "(a) ",
+    "[$x:ident] ",
+    "($y:tt) ",
+    "$x:ident ",
+    "$x:ident ",
+    "$y:ident ",
+    "$y:tt ",
+    "$z:literal ",
+    "$z:lifetime ",
+    "$v:vis ",
+    "$e:expr ",
+    "$e:expr_2021 ",
+    "$t:ty ",
+    "$p:path ",
+    "$q:pat ",
+    "$b:block ",
+    "$u:unknown ",
+];
+
+const SUFFIXES: [&str; 16] = [
+    "* ", "+ ", "? ", ",* ", ",+ ", ",? ", ";* ", ";+ ", "a* ", "b+ ", "1* ", "=>* ", "'a* ",
+    ";;* ", "b? ", "* ",
+];
+
+const WRITTEN: [&str; 24] = [
+    "a ",
+    "1 ",
+    ", ",
+    "[$x] ",
+    "$x ",
+    "$x ",
+    "$y ",
+    "$y ",
+    "$z ",
+    "$v ",
+    "$e ",
+    "$t ",
+    "$p ",
+    "$q ",
+    "$b ",
+    "$w ",
+    "${count($x)} ",
+    "${count($y, 1)} ",
+    "${ignore($x)} ",
+    "${index()} ",
+    "${len()} ",
+    "${len(1)} ",
+    "${concat($x, a)} ",
+    "${concat($y, $z)} ",
+];
+
+const WORDS: [&str; 24] = [
+    "a ", "a ", "a ", "b ", "b ", "c ", "1 ", "1 ", ", ", ", ", "; ", "; ", "=> ", "'a ", "(a) ",
+    "[b] ", "(1 2) ", "pub ", "_ ", "a + 1 ", "x::y ", "{} ", "&u8 ", "-2 ",
+];
+
+impl Numbers {
+    // Up to nine pieces. Where there are suffixes, some become the body of a repetition, also one in another.
+    fn pieces(
+        &mut self,
+        alloc: Global,
+        pieces: &[&str; 24],
+        repeats: bool,
+    ) -> Result<String, Fail> {
+        let mut done = String::new(alloc);
+        let mut body = String::new(alloc);
+        for _ in 0..self.below(10) {
+            let turn = self.below(6);
+            if repeats && turn == 0 {
+                let suffix = SUFFIXES[self.below(16) as usize];
+                body = format!(in alloc; "$({body}){suffix}")?;
+            } else if turn == 1 {
+                done.push_str(body.as_str())?;
+                body = String::new(alloc);
+            } else {
+                body.push_str(pieces[self.below(24) as usize])?;
+            }
+        }
+        done.push_str(body.as_str())?;
+        Ok(done)
+    }
+
+    // One to three rules with repetitions.
+    fn rules(&mut self, alloc: Global) -> Result<String, Fail> {
+        let mut rules = String::new(alloc);
+        for _ in 0..=self.below(3) {
+            let pattern = self.pieces(alloc, &OPS, true)?;
+            let template = self.pieces(alloc, &WRITTEN, true)?;
+            rules = format!(in alloc; "{rules}({pattern}) => {{{template}}};\n")?;
+        }
+        Ok(rules)
+    }
+}
+
+#[test]
+fn random_repetitions_end_within_a_second(rt: HostRuntime) -> Result<(), Fail> {
+    let second = Duration::from_secs(1);
+    let mut numbers = Numbers(2);
+    for _ in 0..1_250u64 {
+        let rules = numbers.rules(rt.alloc())?;
+        for _ in 0..4u64 {
+            let argument = numbers.pieces(rt.alloc(), &WORDS, false)?;
+            let start = Instant::now(&rt)?;
+            assert_ends(&rt, rt.alloc(), rules.as_str(), argument.as_str())?;
+            assert!(&rt; start.elapsed(&rt)? < second, "{rules} on {argument}");
+        }
+    }
+    Ok(())
+}

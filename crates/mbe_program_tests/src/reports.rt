@@ -1,0 +1,299 @@
+// What a match that fails reports: its first error, and what is bound where it ends.
+use crate::rows::{LIST, OLD_LIST, Row, assert_prints, assert_rows};
+use mbe_tt::span::Edition;
+use std::alloc::Global;
+use std::process::Abort;
+use std::test::Fail;
+
+const SIGNS: &str =
+    "\n(-1) => {-1};\n(- 2) => {- 2};\n(- 3.0) => {- 3.0};\n(@$lit:literal) => {$lit}\n";
+
+pub static RECOVERED: [Row; 4] = [
+    (
+        (OLD_LIST, "\n    _,\n"),
+        "no rule matches input tokens at 1@5..6",
+        0,
+        "  PUNCH   ; [alone] 0@44..45\n",
+    ),
+    (
+        (SIGNS, "@--1.0"),
+        "expected literal at 1@1..2",
+        3,
+        "  IDENT   missing 0@72..75\n",
+    ),
+    (
+        ("($(a)? $(a)?) => {}", "a"),
+        "expected ident: `a` at 1@0..1",
+        0,
+        "",
+    ),
+    (
+        ("($e:expr) => {}", "r#let"),
+        "no rule matches input tokens at 1@0..5",
+        0,
+        "",
+    ),
+];
+
+// The same, read in edition 2021.
+static RECOVERED_BEFORE_2024: [Row; 2] = [
+    (
+        (LIST, "\n    _,\n"),
+        "no rule matches input tokens at 1@5..6",
+        0,
+        "  PUNCH   ; [alone] 0@39..40\n",
+    ),
+    (
+        (LIST, "\n    const { 1 },\n"),
+        "no rule matches input tokens at 1@5..10",
+        0,
+        "  PUNCH   ; [alone] 0@39..40\n",
+    ),
+];
+
+static CLOSEST: [Row; 6] = [
+    (
+        ("(a) => {A}; (b) => {B}", "c"),
+        "unexpected token in input at 1@0..1",
+        0,
+        "  IDENT   A 0@8..9\n",
+    ),
+    (
+        ("($x:ident b) => {A}; ($x:ident $y:ident c) => {B}", "p q"),
+        "expected ident: `c` at 1@0..3",
+        1,
+        "  IDENT   B 0@47..48\n",
+    ),
+    (
+        ("(x) => {B}; ((a b c d)) => {A}", "(a x y z)"),
+        "expected ident: `x` at 1@0..1",
+        0,
+        "  IDENT   B 0@8..9\n",
+    ),
+    (
+        ("((a b)) => {A}; (x) => {B}", "(a c)"),
+        "unexpected token in input at 1@3..4",
+        0,
+        "  IDENT   A 0@12..13\n",
+    ),
+    (
+        ("attr() (a) => {A}; (b) => {B}", "c"),
+        "unexpected token in input at 1@0..1",
+        1,
+        "  IDENT   B 0@27..28\n",
+    ),
+    (
+        ("(a) => {A}; ($x:ident) => {B}", "1"),
+        "expected ident at 1@0..1",
+        1,
+        "  IDENT   B 0@27..28\n",
+    ),
+];
+
+static ERRORS: [Row; 13] = [
+    (
+        ("(1) => {}", "a"),
+        "unexpected token in input at 1@0..1",
+        0,
+        "",
+    ),
+    (
+        ("(foo) => {}", "bar"),
+        "unexpected token in input at 1@0..3",
+        0,
+        "",
+    ),
+    (
+        ("(foo) => {}", "(a)"),
+        "expected ident: `foo` at 1@0..1",
+        0,
+        "",
+    ),
+    (
+        ("(foo) => {}", ""),
+        "expected ident: `foo` at 1@0..0",
+        0,
+        "",
+    ),
+    (
+        ("(\"s\"u8) => {}", ""),
+        "expected literal: `\"s\"u8` at 1@0..0",
+        0,
+        "",
+    ),
+    (
+        ("((a r#b)) => {}", "(a)"),
+        "expected ident: `r#b` at 1@0..3",
+        0,
+        "",
+    ),
+    (
+        ("(+) => {}", "'a"),
+        "unexpected token in input at 1@0..1",
+        0,
+        "",
+    ),
+    (("(+) => {}", "-"), "expected punct: `+` at 1@0..1", 0, ""),
+    (
+        ("(->) => {}", "- >"),
+        "expected punct: `->` at 1@0..1",
+        0,
+        "",
+    ),
+    (
+        ("(->) => {}", "a"),
+        "unexpected token in input at 1@0..1",
+        0,
+        "",
+    ),
+    (
+        ("($l:lifetime) => {}", "a"),
+        "expected lifetime at 1@0..1",
+        0,
+        "",
+    ),
+    (("(a b) => {}", "a"), "expected ident: `b` at 1@0..1", 0, ""),
+    (
+        ("($(a),*) => {}", "a,"),
+        "expected ident: `a` at 1@0..2",
+        0,
+        "",
+    ),
+];
+
+// What is bound by the position that failed last.
+static REPORTED: [Row; 2] = [
+    (
+        ("($x:ident b) => {[$x]}", "p q"),
+        "unexpected token in input at 1@2..3",
+        0,
+        "  SUBTREE [] 0@17..18 0@20..21
+    IDENT   p 1@0..1
+",
+    ),
+    (
+        ("($x:ident; $($y:ident 1),*) => {[$x] [$($y)*]}", "a; b 2"),
+        "unexpected token in input at 1@5..6",
+        0,
+        "  SUBTREE [] 0@32..33 0@35..36
+    PUNCH   $ [alone] 0@34..35
+    IDENT   x 0@34..35
+  SUBTREE [] 0@37..38 0@44..45
+",
+    ),
+];
+
+// A missing binding in a metavariable expression.
+static MISSING: [Row; 2] = [
+    (
+        ("($x:ident) => {$($x)* ${count($x)} ${concat(a_, $x)}}", "1"),
+        "expected ident at 1@0..1",
+        0,
+        "  LITERAL Integer 1 1@0..1
+  IDENT   a_missing 0@37..43
+",
+    ),
+    (
+        ("($x:tt) => {${concat(a, $x)} b}", ""),
+        "expected token tree at 1@0..0",
+        0,
+        "  IDENT   a 0@14..20
+  IDENT   b 0@29..30
+",
+    ),
+];
+
+#[test]
+fn a_failed_match_reports_its_first_error(rt: HostRuntime) -> Result<(), Fail> {
+    for rows in [
+        RECOVERED.as_slice(),
+        CLOSEST.as_slice(),
+        ERRORS.as_slice(),
+        REPORTED.as_slice(),
+        MISSING.as_slice(),
+    ] {
+        assert_rows(&rt, rt.alloc(), Edition::Edition2024, rows)?;
+    }
+    assert_rows(
+        &rt,
+        rt.alloc(),
+        Edition::Edition2021,
+        &RECOVERED_BEFORE_2024,
+    )
+}
+
+// What is written for a fragment that is missing.
+#[derive(Clone, Copy)]
+enum Filler {
+    Nothing,
+    Missing,
+    Semicolon,
+    Block,
+    Lifetime,
+}
+
+// A specifier, what its variable asks for, and its default.
+static DEFAULTS: [(&str, &str, Filler); 14] = [
+    ("path", "Path", Filler::Missing),
+    ("ty", "Ty", Filler::Missing),
+    ("pat", "PatTop", Filler::Missing),
+    ("pat_param", "Pat", Filler::Missing),
+    ("stmt", "Stmt", Filler::Semicolon),
+    ("block", "Block", Filler::Block),
+    ("meta", "MetaItem", Filler::Nothing),
+    ("item", "Item", Filler::Nothing),
+    ("expr", "Expr", Filler::Missing),
+    ("expr_2021", "Expr", Filler::Missing),
+    ("ident", "ident", Filler::Missing),
+    ("tt", "token tree", Filler::Nothing),
+    ("lifetime", "lifetime", Filler::Lifetime),
+    ("literal", "literal", Filler::Missing),
+];
+
+impl Filler {
+    // The lines of the default, with the place of the variable's name.
+    fn lines(self, alloc: Global, place: &str) -> Result<String, Fail> {
+        Ok(match self {
+            Filler::Nothing => String::new(alloc),
+            Filler::Missing => format!(in alloc; "    IDENT   missing {place}\n")?,
+            Filler::Semicolon => format!(in alloc; "    PUNCH   ; [alone] {place}\n")?,
+            Filler::Block => format!(in alloc; "    SUBTREE {{}} {place} {place}\n")?,
+            Filler::Lifetime => format!(in alloc;
+                "    PUNCH   ' [joint] {place}\n    IDENT   missing {place}\n"
+            )?,
+        })
+    }
+}
+
+// The variable stands in brackets, and the argument is empty.
+fn assert_default(
+    rt: &impl Abort,
+    alloc: Global,
+    (specifier, asked): (&str, &str),
+    default: Filler,
+) -> Result<(), Fail> {
+    let definition = format!(in alloc; "($x:{specifier}) => {{[$x]}}")?;
+    let open = specifier.len().saturating_add(10);
+    let (inner, name) = (open.saturating_add(1), open.saturating_add(2));
+    let (close, end) = (open.saturating_add(3), open.saturating_add(4));
+    let place = format!(in alloc; "0@{name}..{close}")?;
+    let lines = default.lines(alloc, place.as_str())?;
+    let trees = format!(in alloc; "  SUBTREE [] 0@{open}..{inner} 0@{close}..{end}\n{lines}")?;
+    let error = format!(in alloc; "expected {asked} at 1@0..0")?;
+    let want = (error.as_str(), 0, trees.as_str());
+    assert_prints(
+        rt,
+        alloc,
+        Edition::Edition2024,
+        (definition.as_str(), ""),
+        want,
+    )
+}
+
+#[test]
+fn a_missing_fragment_has_a_default(rt: HostRuntime) -> Result<(), Fail> {
+    for (specifier, asked, default) in &DEFAULTS {
+        assert_default(&rt, rt.alloc(), (specifier, asked), *default)?;
+    }
+    Ok(())
+}
