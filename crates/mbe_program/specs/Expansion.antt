@@ -12,7 +12,7 @@ use Rattle.mbe_semantics.specs.Expansion.Macro.{Expands}
 use Rattle.mbe_semantics.specs.Expansion.ReadAs.{IsReadAs}
 use Rattle.mbe_semantics.specs.declared.macro_call_style.MacroCallStyle.TheVariants.{FnLike}
 use Rattle.mbe_program.specs.declared.program.Outcome.{Outcome}
-use Rattle.mbe_program.specs.declared.program.Outcome.TheVariants.{Expanded, Faulted, Refused, CannotLex, CannotWrite, OutOfMemory}
+use Rattle.mbe_program.specs.declared.program.Outcome.TheVariants.{Expanded, Linted, Faulted, Refused, CannotLex, CannotWrite, OutOfMemory}
 
 -- every context is of that edition
 abbrev pub IsEdition : Edition → SyntaxContext → Edition → Type 0
@@ -36,6 +36,7 @@ IsRefused edition definition (Refused error) =
     (rules : List Rule) × IsReadAs (IsEdition edition) definition (record { rules = rules; err = Some (parse_error_of error) })
 IsRefused edition definition OutOfMemory = ⊤
 IsRefused edition definition Expanded = ⊥
+IsRefused edition definition Linted = ⊥
 IsRefused edition definition Faulted = ⊥
 IsRefused edition definition (CannotLex file offset) = ⊥
 IsRefused edition definition CannotWrite = ⊥
@@ -58,6 +59,7 @@ abbrev pub EndsAs : {A : Type 0} → Edition → ℕ → Outcome A → Type 0
 EndsAs edition arg_len Expanded = (out : Forest) × (index : Option ℕ) × ExpandsTexts edition arg_len out index None
 EndsAs edition arg_len Faulted =
     (out : Forest) × (index : Option ℕ) × (e : ExpandError) × ExpandsTexts edition arg_len out index (Some e)
+EndsAs edition arg_len Linted = ⊤
 EndsAs edition arg_len (Refused error) = (definition : Forest) × IsRefused edition definition (Refused error)
 EndsAs edition arg_len (CannotLex file offset) = ⊤
 EndsAs edition arg_len CannotWrite = ⊤
@@ -69,5 +71,6 @@ IsUnlexed (CannotLex file offset) = ⊤
 IsUnlexed OutOfMemory = ⊤
 IsUnlexed (Refused error) = ⊥
 IsUnlexed Expanded = ⊥
+IsUnlexed Linted = ⊥
 IsUnlexed Faulted = ⊥
 IsUnlexed CannotWrite = ⊥
