@@ -1,5 +1,5 @@
 -- What a run writes of the verdicts on a definition's rules.
-use Rattle.std.specs.Prelude.{ℕ, suc, ⊤, ⊥, ◌≡◌, List, [], ◌∷◌, ◌++◌, codes, Bool, true, false, Option, None}
+use Rattle.std.specs.Prelude.{ℕ, suc, ⊤, ◌≡◌, List, [], ◌∷◌, ◌++◌, codes, Bool, true, false, Option, None}
 use Rattle.std.specs.Fmt.{decimal}
 use Rattle.std.specs.Io.KnownBytes.{Appends}
 use Rattle.mbe_tt.specs.declared.span.Edition.{Edition}
@@ -24,10 +24,10 @@ AreVerdicts g argument (r ∷ rs) [] = ⊥
 
 -- The verdicts on an argument of the rules that the grammar of definitions reads from these trees in that edition, which report
 -- no error.
-pub record ExplainsTrees (edition : Edition) (definition argument : Forest) (verdicts : List Verdict) : Type 0 where
+pub record ExplainsTrees (edition : Edition) (definition argument : Forest) (answers : List Verdict) : Type 0 where
   pub rules : List Rule
   pub read : IsReadAs (IsEdition edition) definition (record { rules = rules; err = None })
-  pub verdicts : AreVerdicts sample argument rules verdicts
+  pub verdicts : AreVerdicts sample argument rules answers
 
 -- ---- lines
 
