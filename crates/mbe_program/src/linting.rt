@@ -19,6 +19,7 @@ use std::io::Write;
 use std::{fmt, io};
 
 // The verdict on the argument of each rule, in order.
+#[tactic(auto, using(crate::proofs::LintLemmas::one_verdict_more, crate::proofs::LintLemmas::all_verdicts))]
 fn explained<A: Allocator + Copy>(
     alloc: A,
     rules: &DeclarativeMacro<A>,
@@ -76,6 +77,7 @@ impl fmt::Display for Line {
 /// Writes a line for each verdict, with the index of its rule, and flushes: `rule N: one reading`, `rule N: several readings`,
 /// `rule N: ambiguous at P` or `rule N: stuck at P`, in decimal. The form is the project's own. It returns the first error of the
 /// writer, after which what was written is a prefix.
+#[tactic(auto, using(crate::proofs::LintLemmas::one_line_more, crate::proofs::LintLemmas::all_lines))]
 pub fn print_verdicts<W: Write>(verdicts: &[Verdict], out: &mut W) -> io::Result<()>
     ensures { OnOk result (Appends (W.contents out.old) (W.contents out.new)
         (lines_from 0 (map verdict_seen verdicts.now))) }

@@ -85,7 +85,8 @@ pub(crate) fn defined<A: Allocator + Copy>(
     definition: &TopSubtree<A>,
     edition: Edition,
 ) -> Result<DeclarativeMacro<A>, Outcome<A>>
-    ensures read { IfOk result (λ m. IsReadAs (IsEdition edition) definition.now.1 (macro_of m)) }
+    ensures read { IfOk result (λ m. IsReadAs (IsEdition edition) definition.now.1
+        (record { rules = (macro_of m).rules; err = None })) }
     ensures faultless { IfOk result (λ m. (macro_of m).err ≡ None) }
     ensures refused { IfErr result (IsRefused edition definition.now.1) }
     ensures fails { IfErr result (λ outcome. 2 ≤ status_of outcome) }
