@@ -58,8 +58,12 @@ pub one_line_more : (before now after : Option (List ℕ)) (vs : List given.Verd
     → v ≡ slice_index_or vs n v → Appends before now (lines_from 0 (take n (map verdict_seen vs)))
     → Appends now after (line_of n (verdict_seen v) ++ codes "\n") → Appends before after (lines_from 0 (take (n + 1) (map verdict_seen vs)))
 one_line_more before now after vs n v l e h k =
-    rw add-one (subst (Appends before after) (sym (line_at 0 (map verdict_seen vs) n (verdict_seen v) (seen_at verdict_seen vs n v l e)))
-        (Appends-trans before now after (lines_from 0 (take n (map verdict_seen vs))) (line_of n (verdict_seen v) ++ codes "\n") h k))
+    let seen = map verdict_seen vs in
+    let line : lines_from 0 (take (suc n) seen) ≡ lines_from 0 (take n seen) ++ (line_of n (verdict_seen v) ++ codes "\n") =
+    line_at 0 seen n (verdict_seen v) (seen_at verdict_seen vs n v l e)
+    ∙ ap (λ (k : ℕ). lines_from 0 (take n seen) ++ (line_of k (verdict_seen v) ++ codes "\n")) (omega arith) in
+    rw add-one (subst (Appends before after) (sym line)
+        (Appends-trans before now after (lines_from 0 (take n seen)) (line_of n (verdict_seen v) ++ codes "\n") h k))
 
 -- those of all rules are written
 pub all_lines : (before after : Option (List ℕ)) (vs : List given.Verdict) (n : ℕ) → length vs ≤ n
