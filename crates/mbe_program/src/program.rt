@@ -77,6 +77,24 @@ fn lexed<A: Allocator + Copy>(alloc: A, text: &str, file: u32) -> Result<TopSubt
     }
 }
 
+// The trees of both texts, or the first fault; the definition is lexed first.
+fn both_lexed<A: Allocator + Copy>(
+    alloc: A,
+    def: &str,
+    arg: &str,
+) -> Result<(TopSubtree<A>, TopSubtree<A>), Outcome<A>>
+    requires def { length def.now < 2 ^ 32 }
+    requires arg { length arg.now < 2 ^ 32 }
+    ensures unlexed { IfErr result IsUnlexed }
+    ensures fails { IfErr result (λ outcome. 2 ≤ status_of outcome) }
+    ensures within { IfErr result (λ outcome.
+        FaultsIn 0 (length def.now) outcome ⊎ FaultsIn 1 (length arg.now) outcome) }
+{
+    let definition = lexed(alloc, def, 0)?;
+    let argument = lexed(alloc, arg, 1)?;
+    Ok((definition, argument))
+}
+
 type Expansion<A> = ExpandResult<(TopSubtree<A>, MatchedArmIndex), A>;
 
 // The macro of a definition without an error, or why there is none.
@@ -140,8 +158,7 @@ fn texts_expansion<A: Allocator + Copy>(
     ensures within { IfErr result (λ outcome.
         FaultsIn 0 (length def.now) outcome ⊎ FaultsIn 1 (length arg.now) outcome) }
 {
-    let definition = lexed(alloc, def, 0)?;
-    let argument = lexed(alloc, arg, 1)?;
+    let (definition, argument) = both_lexed(alloc, def, arg)?;
     let call_site = file_span(1, 0, arg.len() as u32);
     expansion(alloc, &definition, &argument, edition, call_site)
 }
@@ -163,8 +180,7 @@ fn texts_verdicts<A: Allocator + Copy>(
     ensures within { IfErr result (λ outcome.
         FaultsIn 0 (length def.now) outcome ⊎ FaultsIn 1 (length arg.now) outcome) }
 {
-    let definition = lexed(alloc, def, 0)?;
-    let argument = lexed(alloc, arg, 1)?;
+    let (definition, argument) = both_lexed(alloc, def, arg)?;
     verdicts(alloc, &definition, &argument, edition)
 }
 
@@ -213,7 +229,7 @@ fn linted<A: Allocator + Copy, W: Write>(
 {
     let verdicts = match texts_verdicts(alloc, def, arg, edition) {
         Ok(verdicts) => verdicts,
-        Err(outcome) => return outcome,
+        Err(failure) => return failure,
     };
     match print_verdicts(&verdicts, out) {
         Ok(()) => Outcome::Linted,
