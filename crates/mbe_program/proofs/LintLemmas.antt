@@ -12,7 +12,7 @@ use Rattle.mbe_semantics.specs.Readings.Verdict.{Verdict, IsVerdict}
 use Rattle.mbe_matcher.specs.declared.matching.Verdict as given
 use Rattle.mbe.specs.Matched.{verdict_seen}
 use Rattle.mbe.specs.Explaining.{Explains}
-use Rattle.mbe.proofs.ChoiceLemmas.{seen_at, all_seen}
+use Rattle.mbe.proofs.ChoiceLemmas.{all_seen}
 use Rattle.mbe_program.specs.Linting.{AreVerdicts, line_of, lines_from}
 
 -- ---- verdicts
@@ -33,7 +33,7 @@ pub one_verdict_more : (g : Grammar) (argument : Forest) (rs : List Rule) (n : �
     → AreVerdicts g argument (take (n + 1) rs) (map verdict_seen (vs ++ v ∷ []))
 one_verdict_more g argument rs n vs v h k =
     rw add-one (subst (AreVerdicts g argument (take (suc n) rs)) (sym (map-append verdict_seen vs (v ∷ [])))
-        (verdict_at g argument rs n (map verdict_seen vs) k.0 (verdict_seen v) h k.1 k.2))
+    (verdict_at g argument rs n (map verdict_seen vs) k.0 (verdict_seen v) h k.1 k.2))
 
 -- those of all rules
 pub all_verdicts : (g : Grammar) (argument : Forest) (rs : List Rule) (n : ℕ) (vs : List Verdict) → length rs ≤ n
@@ -53,17 +53,25 @@ line_at first (w ∷ vs) (suc n) v e =
     ∙ sym (append_assoc (line_of first w ++ codes "\n") (lines_from (suc first) (take n vs)) (line_of (suc first + n) v ++ codes "\n"))
     ∙ ap (λ (k : ℕ). ((line_of first w ++ codes "\n") ++ lines_from (suc first) (take n vs)) ++ (line_of k v ++ codes "\n")) (omega arith)
 
+line_get : (vs : List given.Verdict) (n : ℕ) (other : given.Verdict) → n < length vs
+    → slice_get (map verdict_seen vs) n ≡ Some (verdict_seen (slice_index_or vs n other))
+line_get [] n other l = absurd (omega (arith, l))
+line_get (w ∷ vs) zero other l = refl
+line_get (w ∷ vs) (suc n) other l = line_get vs n other (omega (arith, l))
+
 -- the line of one rule more is written
-pub one_line_more : (before now after : Option (List ℕ)) (vs : List given.Verdict) (n : ℕ) (v : given.Verdict) → n < length vs
-    → v ≡ slice_index_or vs n v → Appends before now (lines_from 0 (take n (map verdict_seen vs)))
-    → Appends now after (line_of n (verdict_seen v) ++ codes "\n") → Appends before after (lines_from 0 (take (n + 1) (map verdict_seen vs)))
-one_line_more before now after vs n v l e h k =
+pub one_line_more : (before now after : Option (List ℕ)) (vs : List given.Verdict) (n : ℕ) (other : given.Verdict) → n < length vs
+    → Appends before now (lines_from 0 (take n (map verdict_seen vs)))
+    → Appends now after (line_of n (verdict_seen (slice_index_or vs n other)) ++ codes "\n")
+    → Appends before after (lines_from 0 (take (n + 1) (map verdict_seen vs)))
+one_line_more before now after vs n other l h k =
     let seen = map verdict_seen vs in
-    let line : lines_from 0 (take (suc n) seen) ≡ lines_from 0 (take n seen) ++ (line_of n (verdict_seen v) ++ codes "\n") =
-    line_at 0 seen n (verdict_seen v) (seen_at verdict_seen vs n v l e)
-    ∙ ap (λ (k : ℕ). lines_from 0 (take n seen) ++ (line_of k (verdict_seen v) ++ codes "\n")) (omega arith) in
+    let v = verdict_seen (slice_index_or vs n other) in
+    let line : lines_from 0 (take (suc n) seen) ≡ lines_from 0 (take n seen) ++ (line_of n v ++ codes "\n") =
+    line_at 0 seen n v (line_get vs n other l)
+    ∙ ap (λ (k : ℕ). lines_from 0 (take n seen) ++ (line_of k v ++ codes "\n")) (omega arith) in
     rw add-one (subst (Appends before after) (sym line)
-        (Appends-trans before now after (lines_from 0 (take n seen)) (line_of n (verdict_seen v) ++ codes "\n") h k))
+    (Appends-trans before now after (lines_from 0 (take n seen)) (line_of n v ++ codes "\n") h k))
 
 -- those of all rules are written
 pub all_lines : (before after : Option (List ℕ)) (vs : List given.Verdict) (n : ℕ) → length vs ≤ n

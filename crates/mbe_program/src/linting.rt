@@ -1,5 +1,5 @@
 // Verdicts on the rules of a definition, a line for each.
-ghost use Rattle.std.specs.Prelude.{◌≡◌, ◌≤◌, map, Some, IfOk, IfErr, OnOk};
+ghost use Rattle.std.specs.Prelude.{◌≡◌, ◌≤◌, ◌++◌, codes, map, Some, IfOk, IfErr, OnOk};
 ghost use Rattle.std.specs.Io.KnownBytes.{Appends};
 ghost use Rattle.mbe_grammar.specs.SampleGrammar.{sample};
 ghost use Rattle.mbe_semantics.specs.Expansion.Macro.{IsChecked};
@@ -74,20 +74,25 @@ impl fmt::Display for Line {
     }
 }
 
+// Writes a rule's line.
+fn print_verdict<W: Write>(rule: usize, verdict: Verdict, out: &mut W) -> io::Result<()>
+    ensures { OnOk result (Appends (W.contents out.old) (W.contents out.new)
+        (line_of rule (verdict_seen verdict) ++ codes "\n")) }
+{
+    let line = Line { rule, verdict };
+    writeln!(out, "{line}")
+}
+
 /// Writes a line for each verdict, with the index of its rule, and flushes: `rule N: one reading`, `rule N: several readings`,
 /// `rule N: ambiguous at P` or `rule N: stuck at P`, in decimal. The form is the project's own. It returns the first error of the
 /// writer, after which what was written is a prefix.
-#[tactic(auto, using(crate::proofs::LintLemmas::one_line_more, crate::proofs::LintLemmas::all_lines))]
+#[tactic(auto, using(crate::proofs::LintLemmas::all_lines))]
 pub fn print_verdicts<W: Write>(verdicts: &[Verdict], out: &mut W) -> io::Result<()>
     ensures { OnOk result (Appends (W.contents out.old) (W.contents out.new)
         (lines_from 0 (map verdict_seen verdicts.now))) }
 {
     for (rule, verdict) in verdicts.iter().enumerate() {
-        let line = Line {
-            rule,
-            verdict: *verdict,
-        };
-        writeln!(out, "{line}")?;
+        print_verdict(rule, *verdict, out)?;
     }
     out.flush()
 }

@@ -18,19 +18,13 @@ static LINTS: [Lint; 14] = [
         ("($($t:ident),* as $ty:ident) => {}", "as u32"),
         "rule 0: ambiguous at 0\n",
     ),
-    (
-        ("($(a)? $(a)?) => {}", "a"),
-        "rule 0: several readings\n",
-    ),
+    (("($(a)? $(a)?) => {}", "a"), "rule 0: several readings\n"),
     (
         (LIST, "\n    _,\n    const { 1 },\n"),
         "rule 0: one reading\n",
     ),
     // No round, and one empty round.
-    (
-        ("($($v:vis),*) => {}", ""),
-        "rule 0: several readings\n",
-    ),
+    (("($($v:vis),*) => {}", ""), "rule 0: several readings\n"),
     // A fault of the template is no matter of matching.
     (
         ("($x:ident) => {$($x)*}; ($x:ident) => {$x}", "a"),

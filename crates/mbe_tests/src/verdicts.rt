@@ -52,28 +52,16 @@ static VERDICTS: [Row; 8] = [
     (
         "(a) => {}; ($x:ident) => {${count(y)}}; ($x:tt $y:tt) => {}",
         "a",
-        &[
-            Verdict::OneReading,
-            Verdict::OneReading,
-            Verdict::Stuck(1),
-        ],
+        &[Verdict::OneReading, Verdict::OneReading, Verdict::Stuck(1)],
     ),
     // Over the quote, or over the whole separator.
-    (
-        "($(b $(')?)'a*) => {}",
-        "b 'a b",
-        &[Verdict::Ambiguous(1)],
-    ),
+    ("($(b $(')?)'a*) => {}", "b 'a b", &[Verdict::Ambiguous(1)]),
     (
         "($($a:ident)* $b:ident) => {}",
         "x",
         &[Verdict::Ambiguous(0)],
     ),
-    (
-        "($(a)? $(a)?) => {}",
-        "a",
-        &[Verdict::ManyReadings],
-    ),
+    ("($(a)? $(a)?) => {}", "a", &[Verdict::ManyReadings]),
     (
         "attr() ([a]) => {}; derive() ([a b]) => {}",
         "[a c]",

@@ -13,4 +13,4 @@ returns-in-Some-clause-refused g c = (
 pub returns-clause-read : goal.returns-clause-read
 returns-clause-read g c =
     read_in c.args.edition c.args.definition.now.1 (macro_of c.in_ok-rules.rules) None c.in_ok-rules.ensures (λ context answer asked. search rules)
-        (sym c.in_default.ensures)
+    (sym c.in_default.ensures)
