@@ -87,6 +87,10 @@ impl<T: Drop, A: Allocator> Linked<T, A> {
         if self.own.len() >= usize::MAX - 1 {
             return Err(AllocError);
         }
+        // Most lists of a match keep one entry: the first takes room for itself alone.
+        if self.own.is_empty() {
+            self.own.reserve_exact(1)?;
+        }
         self.own.push(entry)?;
         Ok(())
     }
