@@ -1,13 +1,11 @@
 -- A grammar whose fragments are single words: an identifier or a literal.
-use Rattle.std.specs.Prelude.{◌≡◌, ◌≤◌, ◌<◌, ℕ, Bool, true, false, List, [], ◌∷◌, length, codes, refl}
+use Rattle.std.specs.Prelude.{◌≡◌, ◌≤◌, ◌<◌, true, false, List, [], ◌∷◌, length, codes}
 use Rattle.std.specs.Str.{bytes_eq}
 use Rattle.std.proofs.Common.{arith, true≢false}
 use Rattle.mbe_tt.specs.Trees.Leaf.{literal, punct, ident}
 use Rattle.mbe_tt.specs.Trees.Tree.{FlatToken, token, opening, closing}
 use Rattle.mbe_tt.specs.Fragments.Grammar.{Grammar, IsLawful}
 use Rattle.mbe_tt.specs.declared.grammar.Front.{Front}
-use Rattle.mbe_tt.specs.declared.grammar.PrefixEntryPoint.{PrefixEntryPoint}
-use Rattle.mbe_tt.specs.declared.grammar.PrefixEntryPoint.TheVariants.{Vis}
 
 abbrev pub one_token : Front
 one_token = record { count = 1; fault = false }

@@ -1,7 +1,7 @@
 // The log of bindings, without the matcher.
-use mbe::{Binding, BindingLog, Bindings, Fragment};
+use mbe::{Binding, BindingLog, Bindings, Fragment, MetaVarKind, TokensOrigin};
 use mbe_tt::symbol::Symbol;
-use mbe_tt::tt::{TokenTreesView, TopSubtree};
+use mbe_tt::tt::TokenTreesView;
 use std::alloc::{AllocError, Allocator};
 
 /// Binds a name in a repetition, once in each round: to this tree, and to nothing in a second round.
@@ -35,6 +35,31 @@ pub fn part_ways<'a, A: Allocator + Copy>(
     Ok((with_name, without))
 }
 
+/// A position whose match fails: its variable is missing. What the handle has is counted.
+pub fn bind_missing<A: Allocator + Copy>(
+    log: &mut BindingLog<'_, A>,
+    name: &Symbol<A>,
+) -> Result<(usize, usize), AllocError> {
+    let mut handle = log.alloc()?;
+    log.push_missing(&mut handle, name, MetaVarKind::Ident)?;
+    Ok(log.entries_of(&handle))
+}
+
+/// Bindings that no match made.
+pub fn bind_by_hand<'a, A: Allocator + Copy>(
+    alloc: A,
+    name: &Symbol<A>,
+    tree: TokenTreesView<'a, A>,
+) -> Result<Bindings<'a, A>, AllocError> {
+    let fragment = Fragment::Tokens {
+        tree,
+        origin: TokensOrigin::Raw,
+    };
+    let mut bindings = Bindings::new(alloc);
+    bindings.insert(name, Binding::Fragment(fragment.try_clone()?))?;
+    Ok(bindings)
+}
+
 /// How many rounds a name is bound in; `None` where it isn't bound in a repetition.
 pub fn rounds_of<A: Allocator>(bindings: &Bindings<'_, A>, name: &Symbol<A>) -> Option<usize> {
     match bindings.get(name)? {
@@ -44,7 +69,8 @@ pub fn rounds_of<A: Allocator>(bindings: &Bindings<'_, A>, name: &Symbol<A>) -> 
 }
 
 mod tests {
-    use super::{bind_rounds, part_ways, rounds_of};
+    use super::{bind_by_hand, bind_missing, bind_rounds, part_ways, rounds_of};
+    use mbe::BindingLog;
     use mbe_text::lexer::lex;
     use mbe_tt::symbol::Symbol;
     use std::test::Fail;
@@ -65,6 +91,17 @@ mod tests {
         let (with_name, without) = part_ways(rt.alloc(), &name)?;
         assert_eq!(rt; (with_name.len(), without.len()), (1, 0));
         assert_eq!(rt; rounds_of(&with_name, &name), None);
+        Ok(())
+    }
+
+    #[test]
+    fn other_ways_to_bind(rt: HostRuntime) -> Result<(), Fail> {
+        let name = Symbol::intern(rt.alloc(), "x")?;
+        let tree = lex(rt.alloc(), "1", 1)?;
+        let mut log = BindingLog::new(rt.alloc());
+        assert_eq!(rt; bind_missing(&mut log, &name)?, (1, 0));
+        let bindings = bind_by_hand(rt.alloc(), &name, tree.view())?;
+        assert_eq!(rt; (bindings.len(), rounds_of(&bindings, &name)), (1, None));
         Ok(())
     }
 }

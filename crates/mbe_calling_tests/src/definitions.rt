@@ -1,7 +1,8 @@
 // Definitions.
 ghost use Rattle.std.specs.Prelude.{◌<◌, ◌^◌, length};
 
-use mbe::{DeclarativeMacro, MacroCallStyles, ParseError};
+use bitflags::Flags;
+use mbe::{DeclarativeMacro, MacroCallStyle, MacroCallStyles, ParseError};
 use mbe_text::lexer::lex;
 use mbe_tt::span::Edition;
 use std::alloc::Global;
@@ -37,9 +38,15 @@ pub fn missing(alloc: Global) -> anyhow::Result<DeclarativeMacro> {
     Ok(DeclarativeMacro::from_err(alloc, ParseError::Expected(text)))
 }
 
+/// Whether a definition has rules for a style of call.
+pub fn has_style(defined: &DeclarativeMacro, style: MacroCallStyle) -> bool {
+    defined.rule_styles().contains(MacroCallStyles::from(style))
+}
+
 mod tests {
-    use super::{describe, missing, read_macro};
+    use super::{describe, has_style, missing, read_macro};
     use bitflags::Flags;
+    use mbe::MacroCallStyle;
     use std::alloc::Global;
     use std::process::Abort;
     use std::test::Fail;
@@ -80,6 +87,8 @@ mod tests {
         let copy = defined.try_clone(rt.alloc())?;
         assert!(rt; copy == defined && defined.err().is_none());
         assert!(rt; defined != missing(rt.alloc())?);
+        assert!(rt; has_style(&defined, MacroCallStyle::FnLike));
+        assert!(rt; !has_style(&defined, MacroCallStyle::Attr));
         Ok(())
     }
 }

@@ -12,6 +12,8 @@ mod grammars;
 #[cfg(test)]
 mod memory;
 #[cfg(test)]
+mod results;
+#[cfg(test)]
 mod texts;
 #[cfg(test)]
 mod walks;

@@ -1,5 +1,5 @@
 // Trees that are built by calls.
-use mbe_tt::span::Span;
+use mbe_tt::span::{DelimSpan, Span};
 use mbe_tt::symbol::Symbol;
 use mbe_tt::tt::{
     Delimiter, DelimiterKind, Ident, IdentIsRaw, Leaf, Punct, Spacing, TokenTreesView, TopSubtree,
@@ -52,8 +52,31 @@ pub fn build_both_or_none<A: Allocator + Copy>(
     Ok(builder.build())
 }
 
+/// The leaves in one group, which is closed by the kind that it was opened with, and then the buffer's content.
+pub fn build_group<A: Allocator + Copy>(
+    alloc: A,
+    leaves: Vec<Leaf<A>, A>,
+    more: &TopSubtree<A>,
+    span: Span,
+) -> Result<TopSubtree<A>, AllocError> {
+    let mut builder = TopSubtreeBuilder::new(alloc, Delimiter::invisible_spanned(span))?;
+    builder.open(DelimiterKind::Brace, span)?;
+    builder.extend(leaves)?;
+    if builder.open_kind() == Some(DelimiterKind::Brace) {
+        builder.close(span);
+    }
+    builder.extend_with_tt(more.view())?;
+    builder.remove_last_subtree_if_invisible();
+    Ok(builder.build())
+}
+
+/// An empty invisible group, as `TopSubtree::empty` makes it of one span for both sides.
+pub fn build_nothing<A: Allocator>(alloc: A, span: Span) -> Result<TopSubtree<A>, AllocError> {
+    TopSubtree::empty(alloc, DelimSpan::from_single(span))
+}
+
 mod tests {
-    use super::{build_both_or_none, build_call, word};
+    use super::{build_both_or_none, build_call, build_group, build_nothing, word};
     use mbe_text::lexer::lex;
     use mbe_text::printing::print_tree;
     use mbe_tt::span::Span;
@@ -92,6 +115,25 @@ mod tests {
         let last = word(rt.alloc(), "g", Span::default())?;
         let both = build_both_or_none(rt.alloc(), content, last, Span::default())?;
         assert_eq!(rt; printed(rt.alloc(), &both)?.as_str(), BOTH);
+        Ok(())
+    }
+
+    const GROUP: &str = "SUBTREE $$ 0@0..0 0@0..0
+  SUBTREE {} 0@0..0 0@0..0
+    IDENT   g 0@0..0
+  LITERAL Integer 1 1@0..1
+";
+
+    #[test]
+    fn groups_are_built(rt: HostRuntime) -> Result<(), Fail> {
+        let more = lex(rt.alloc(), "1", 1)?;
+        let mut leaves = Vec::new(rt.alloc());
+        leaves.push(word(rt.alloc(), "g", Span::default())?)?;
+        let group = build_group(rt.alloc(), leaves, &more, Span::default())?;
+        assert_eq!(rt; printed(rt.alloc(), &group)?.as_str(), GROUP);
+        assert!(rt; group.try_clone()? == group);
+        let nothing = build_nothing(rt.alloc(), Span::default())?;
+        assert!(rt; nothing.iter().is_empty() && nothing != group);
         Ok(())
     }
 }
