@@ -27,8 +27,12 @@ pub fn read_macro(alloc: Global, args: &str, body: &str) -> anyhow::Result<Decla
 {
     let args = lex(alloc, args, 0)?;
     let body = lex(alloc, body, 0)?;
-    let defined =
-        DeclarativeMacro::parse_macro2(alloc, Some(&args), &body, |_ctx| Edition::Edition2024)?;
+    let defined = DeclarativeMacro::parse_macro2(
+        alloc,
+        Some(&args),
+        &body,
+        |_ctx| Edition::Edition2024,
+    )?;
     Ok(defined)
 }
 

@@ -66,7 +66,10 @@ pub fn expand_marked(
         anyhow::bail!("{error}");
     }
     let call_site = argument.top_subtree().delimiter.opening;
-    let marker = move |span: Span| Span { ctx: expansion, ..span };
+    let marker = move |span: Span| Span {
+        ctx: expansion,
+        ..span
+    };
     let expanded = defined.expand(alloc, &SampleGrammar, argument, marker, style, call_site)?;
     Ok(expanded)
 }
@@ -90,7 +93,12 @@ mod tests {
             "",
             "SUBTREE $$ 1@0..1 1@0..1\n  IDENT   let 0@15..18\n  IDENT   a 1@0..1\n",
         ),
-        ("a b", 1, "", "SUBTREE $$ 1@0..3 1@0..3\n  IDENT   b 1@2..3\n"),
+        (
+            "a b",
+            1,
+            "",
+            "SUBTREE $$ 1@0..3 1@0..3\n  IDENT   b 1@2..3\n",
+        ),
         ("a 1", 1, "expected ident at 1@2..3", ""),
     ];
 

@@ -91,8 +91,11 @@ mod tests {
     fn error_by<G: FragmentGrammar>(alloc: Global, grammar: &G) -> Result<String, Fail> {
         let rules = lex(alloc, "($e:expr, $t:ty) => {$t $e}", 0)?;
         let argument = lex(alloc, "1, u8", 1)?;
-        let defined =
-            DeclarativeMacro::parse_macro_rules(alloc, &rules, |_ctx| Edition::Edition2024)?;
+        let defined = DeclarativeMacro::parse_macro_rules(
+            alloc,
+            &rules,
+            |_ctx| Edition::Edition2024,
+        )?;
         if let Some(error) = defined.err() {
             return Ok(format!(in alloc; "{error}")?);
         }
@@ -107,7 +110,10 @@ mod tests {
 
     #[test]
     fn grammars_are_handed_in(rt: HostRuntime) -> Result<(), Fail> {
-        assert_eq!(rt; error_by(rt.alloc(), &NoFragments)?.as_str(), "expected Expr");
+        assert_eq!(rt;
+            error_by(rt.alloc(), &NoFragments)?.as_str(),
+            "expected Expr"
+        );
         assert_eq!(rt; error_by(rt.alloc(), &Words)?.as_str(), "");
         assert!(rt; Words.is_keyword("let") && !Words.is_keyword("fn"));
         Ok(())

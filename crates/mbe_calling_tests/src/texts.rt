@@ -56,7 +56,10 @@ mod tests {
         assert_eq!(rt; fault_of(rt.alloc(), "a += (1u8)"), None);
         assert_eq!(rt; end_of_second("a += (1u8)").ok(), Some(3));
         assert_eq!(rt; end_of_second("a é §").ok(), Some(4));
-        assert_eq!(rt; end_of_second("a §").err().map(|fault| fault.offset), Some(2));
+        assert_eq!(rt;
+            end_of_second("a §").err().map(|fault| fault.offset),
+            Some(2)
+        );
         Ok(())
     }
 }

@@ -134,7 +134,10 @@ mod tests {
         let mut iter = tree.iter();
         let spans = next_spans(&iter).map(|(one, two)| (one.start, two.start));
         assert!(rt; spans == Some((0, 4)) && next_leaf(&mut iter).is_none());
-        assert_eq!(rt; view_of_next(&mut iter).map(|view| view.flat_len()), Some(3));
+        assert_eq!(rt;
+            view_of_next(&mut iter).map(|view| view.flat_len()),
+            Some(3)
+        );
         let mut leaves = iter.remaining().iter();
         let Ok(Leaf::Literal(literal)) = leaves.expect_leaf() else {
             return Err(Fail::from("no literal"));
