@@ -1,10 +1,12 @@
-// The examples of docs/CALLING.md, word for word, and tests that run them.
+// The examples of docs/CALLING.md and docs/MACROS.md, word for word, and tests that run them.
 #![tactic(auto)]
 
 #[cfg(test)]
 mod bindings;
 #[cfg(test)]
 mod definitions;
+#[cfg(test)]
+mod errors;
 #[cfg(test)]
 mod expansions;
 #[cfg(test)]
