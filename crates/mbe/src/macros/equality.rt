@@ -10,7 +10,7 @@ use mbe_parser::equality::{copied_rules, same_rules};
 use std::alloc::{AllocError, Allocator};
 
 impl<A: Allocator + Copy> DeclarativeMacro<A> {
-    /// An equal copy, or out of memory. The macro stays as it was in each case.
+    /// An equal copy. `AllocError` if out of memory. The macro stays as it was in each case.
     pub fn try_clone(&self, alloc: A) -> Result<DeclarativeMacro<A>, AllocError>
         ensures { IfOk result (λ copy. macro_of copy ≡ macro_of self.now) }
     {
