@@ -78,7 +78,7 @@ pub lexed_more : (file len file' total left left' : ℕ) (b c : Levels) (o : Opt
     → Adds (token_item t) b c → Lexed file len left' c
 lexed_more file len file' total left left' b c o t p same_file same_total e is above some below q =
     let is_here : t.span ≡ bytes_of file' t.span.start t.span.end =
-        subst (λ (x : Option Token). IfSome x (λ t. t.span ≡ bytes_of file' t.span.start t.span.end)) e is in
+    subst (λ (x : Option Token). IfSome x (λ t. t.span ≡ bytes_of file' t.span.start t.span.end)) e is in
     let above_here : total ≤ t.span.start + left = subst (λ (x : Option Token). IfSome x (λ t. total ≤ t.span.start + left)) e above in
     let some_here : t.span.start < t.span.end = subst (λ (x : Option Token). IfSome x (λ t. t.span.start < t.span.end)) e some in
     let below_here : t.span.end + left' ≡ total = subst (λ (x : Option Token). IfSome x (λ t. t.span.end + left' ≡ total)) e below in

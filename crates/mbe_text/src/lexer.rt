@@ -122,11 +122,7 @@ fn finish<A: Allocator>(mut builder: TopSubtreeBuilder<A>, end: Span) -> TopSubt
 }
 
 // The symbol of a literal: its text and then its suffix.
-fn joined<A: Allocator + Copy>(
-    alloc: A,
-    text: &str,
-    suffix: &str,
-) -> Result<Symbol<A>, AllocError>
+fn joined<A: Allocator + Copy>(alloc: A, text: &str, suffix: &str) -> Result<Symbol<A>, AllocError>
     ensures { IfOk result (λ s. s ≡ text.now ++ suffix.now) }
 {
     if suffix.is_empty() {
