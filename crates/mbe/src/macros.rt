@@ -24,7 +24,8 @@ use mbe_tt::grammar::FragmentGrammar;
 use mbe_tt::span::{Edition, Span, SyntaxContext};
 use std::alloc::{AllocError, Allocator, Global};
 
-/// A macro definition that was read: its rules, up to the first fault, and that fault (as in rust-analyzer).
+/// A macro definition that was read: its rules, up to the first fault, and that fault (as in
+/// rust-analyzer).
 ///
 /// In contracts it is seen by `macro_of`, as a list of rules and a fault or none.
 #[derive(Drop)]
@@ -32,14 +33,18 @@ use std::alloc::{AllocError, Allocator, Global};
 pub struct DeclarativeMacro<A: Allocator = Global> {
     rules: Vec<Rule<A>, A>,
     err: Option<ParseError<A>>,
-    ghost tells_refusal: { TellsRefusal (record { rules = rules_seen rules.items; err = option_map parse_error_of err }) },
+    ghost tells_refusal: { TellsRefusal (record {
+      rules = rules_seen rules.items;
+      err = option_map parse_error_of err;
+    }) },
 }
 
 impl<A: Allocator + Copy> DeclarativeMacro<A> {
     ghost use Rattle.mbe.specs.MacroViews.{macro_of};
     ghost use Rattle.mbe_semantics.specs.Expansion.ReadAs.{IsReadAs, IsReadAsMacro};
 
-    /// A macro without rules, which tells the error: that of a definition whose rules can't even be found.
+    /// A macro without rules, which reports the error: that of a definition whose rules can't even
+    /// be found.
     pub fn from_err(alloc: A, err: ParseError<A>) -> DeclarativeMacro<A>
         ensures { macro_of result ≡ record { rules = []; err = Some (parse_error_of err) } }
     {
@@ -49,19 +54,22 @@ impl<A: Allocator + Copy> DeclarativeMacro<A> {
         }
     }
 
-    /// Reads the rules of a `macro_rules!` definition, which `;` separates; a last one may be missing.
+    /// Reads the rules of a `macro_rules!` definition, which `;` separates; a last one may be
+    /// missing.
     ///
-    /// `tt` holds the rules alone, without the name and the braces around them. `ctx_edition` answers the edition of a
-    /// context; it decides what `pat` and `expr` mean, by the context of the specifier's own span.
+    /// `tt` holds the rules alone, without the name and the braces around them. `ctx_edition`
+    /// returns the edition of a context; it decides what `pat` and `expr` mean, by the context of
+    /// the specifier's own span.
     ///
-    /// A rule is an optional `unsafe`, an optional `attr` or `derive` with a group behind it, the pattern's group, `=>`, and
-    /// the template's group. The answer keeps the rules before the first fault, and tells that fault by `err`. Where a
-    /// pattern that was kept has a repetition without separator whose body can read nothing, `err` is
-    /// `RepetitionEmptyTokenTree` in place of any other. The only failure is want of memory.
+    /// A rule is an optional `unsafe`, an optional `attr` or `derive` with a group after it, the
+    /// pattern's group, `=>`, and the template's group. The result keeps the rules before the first
+    /// fault, and reports that fault by `err`. Where a pattern that was kept has a repetition
+    /// without separator whose body can read nothing, `err` is `RepetitionEmptyTokenTree` in place
+    /// of any other. The only failure is `AllocError`, if out of memory.
     ///
-    /// The grammar is that of the Rust Reference ("Macros By Example") as rust-analyzer reads it; that a stray token behind
-    /// a rule is always told, and that every repetition without separator that can read nothing is refused, is this
-    /// project's choice.
+    /// The grammar is that of the Rust Reference ("Macros By Example") as rust-analyzer reads it;
+    /// that a stray token after a rule is always reported, and that every repetition without
+    /// separator that can read nothing is refused, is this project's choice.
     pub fn parse_macro_rules<E: Copy + Fn(SyntaxContext) -> Edition>(
         alloc: A,
         tt: &TopSubtree<A>,
@@ -82,9 +90,10 @@ impl<A: Allocator + Copy> DeclarativeMacro<A> {
 
     /// Reads a `macro` definition.
     ///
-    /// Without `args`, `body` holds rules as those of `macro_rules!`, which `;` or `,` separates. With `args` there is one
-    /// rule, of style `FnLike`: its pattern are the trees of `args`, and its template those of `body`. Errors are told as by
-    /// `parse_macro_rules`, and the only failure is want of memory.
+    /// Without `args`, `body` holds rules as those of `macro_rules!`, which `;` or `,` separates.
+    /// With `args` there is one rule, of style `FnLike`: its pattern are the trees of `args`, and
+    /// its template those of `body`. Errors are reported as by `parse_macro_rules`, and the only
+    /// failure is `AllocError`, if out of memory.
     pub fn parse_macro2<E: Copy + Fn(SyntaxContext) -> Edition>(
         alloc: A,
         args: Option<&TopSubtree<A>>,
@@ -92,7 +101,8 @@ impl<A: Allocator + Copy> DeclarativeMacro<A> {
         ctx_edition: E,
     ) -> Result<DeclarativeMacro<A>, AllocError>
         requires { MayAsk (E.pre ctx_edition) }
-        ensures { IfOk result (λ m. IsReadAsMacro (E.post ctx_edition) (option_map (λ trees. trees.now.1) args.entry) body.now.1 (macro_of m)) }
+        ensures { IfOk result (λ m. IsReadAsMacro (E.post ctx_edition)
+            (option_map (λ trees. trees.now.1) args.entry) body.now.1 (macro_of m)) }
     {
         match args {
             Some(args) => {
@@ -118,7 +128,10 @@ impl<A: Allocator + Copy> DeclarativeMacro<A> {
         rules: Vec<Rule<A>, A>,
         fault: Option<Fault>,
     ) -> Result<DeclarativeMacro<A>, AllocError>
-        ensures { IfOk result (λ m. macro_of m ≡ record { rules = rules_seen rules.items; err = with_refusal (rules_seen rules.items) (option_map fault_of fault) }) }
+        ensures { IfOk result (λ m. macro_of m ≡ record {
+          rules = rules_seen rules.items;
+          err = with_refusal (rules_seen rules.items) (option_map fault_of fault);
+        }) }
     {
         if refuses_some(&rules) {
             return Ok(DeclarativeMacro {
@@ -133,25 +146,31 @@ impl<A: Allocator + Copy> DeclarativeMacro<A> {
         Ok(DeclarativeMacro { rules, err })
     }
 
-    /// Expands a call by the first rule that is of the call's style, fits the whole argument and substitutes without fault.
+    /// Expands a call by the first rule that is of the call's style, fits the whole argument and
+    /// substitutes without fault.
     ///
-    /// It asks that no pattern was refused: `err` isn't `RepetitionEmptyTokenTree`, or there is no rule.
+    /// It asks that no pattern was refused: `err` isn't `RepetitionEmptyTokenTree`, or there is no
+    /// rule.
     ///
-    /// `tt` is the argument: the trees inside its group are matched. `grammar` says what the fragments of most kinds are.
-    /// `marker` answers the span that a token of the template is written with, once for each; the fragments that variables
-    /// took keep their spans. `call_site` is the span of the group around the expansion.
+    /// `tt` is the argument: the trees inside its group are matched. `grammar` says what the
+    /// fragments of most kinds are. `marker` returns the span that a token of the template is
+    /// written with, once for each; the fragments that variables took keep their spans. `call_site`
+    /// is the span of the group around the expansion.
     ///
-    /// The result is the expansion as a token tree, with the index of its rule among all rules of the definition, where it
-    /// fits 32 bits. A rule fits where it reads the whole argument in exactly one way and meets no local ambiguity.
+    /// The result is the expansion as a token tree, with the index of its rule among all rules of
+    /// the definition, where it fits 32 bits. A rule fits where it reads the whole argument in
+    /// exactly one way and meets no local ambiguity.
     ///
-    /// Where no rule applies there is an error beside the tree. With a rule of the style, the index is that of the closest
-    /// one: the earliest of those with fewest unmatched trees and, among these, most bindings; the tree is its substitution
-    /// under the bindings that its match reports, and the error is the match's first one, or the substitution's. Without
-    /// one, the tree is empty, there is no index, and the error is `NoMatchingRule` at the call site. The only failure is
-    /// `AllocError`, if out of memory here or in the grammar; the macro and the argument are as they were in each case.
+    /// Where no rule applies there is an error beside the tree. With a rule of the style, the index
+    /// is that of the closest one: the earliest of those with fewest unmatched trees and, among
+    /// these, most bindings; the tree is its substitution under the bindings that its match
+    /// reports, and the error is the match's first one, or the substitution's. Without one, the
+    /// tree is empty, there is no index, and the error is `NoMatchingRule` at the call site. The
+    /// only failure is `AllocError`, if out of memory here or in the grammar; the macro and the
+    /// argument are as they were in each case.
     ///
-    /// The order of trying is rust-analyzer's: a rule that fits but whose substitution faults doesn't stop the search, as
-    /// it does in the Rust Reference.
+    /// The order of trying is rust-analyzer's: a rule that fits but whose substitution faults
+    /// doesn't stop the search, as it does in the Rust Reference.
     pub fn expand<G: FragmentGrammar, M: Fn(Span) -> Span + Copy>(
         &self,
         alloc: A,
@@ -182,7 +201,8 @@ impl<A: Allocator + Copy> DeclarativeMacro<A> {
 impl<A: Allocator> DeclarativeMacro<A> {
     ghost use Rattle.mbe.specs.MacroViews.{macro_of};
 
-    /// The fault that the definition tells, if there is one: a refused pattern, or the first fault in reading order.
+    /// The fault that the definition reports, if there is one: a refused pattern, or the first
+    /// fault in reading order.
     pub fn err(&self) -> Option<&ParseError<A>>
         ensures { option_map (λ e. parse_error_of e.now) result ≡ (macro_of self.now).err }
     {
