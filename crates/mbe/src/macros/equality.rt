@@ -33,8 +33,8 @@ fn copied_fault<A: Allocator + Copy>(
     }
 }
 
-/// Macros are equal where their rules and faults are, spans included; but separators count by their texts alone (as in
-/// rust-analyzer).
+/// Macros are equal where their rules and faults are, spans included; but separators count by their
+/// texts alone (as in rust-analyzer).
 impl<A: Allocator> PartialEq for DeclarativeMacro<A> {
     ghost use Rattle.mbe_ops.specs.Codes.{macro_eq, macro_eq_laws};
     ghost use Rattle.std.specs.Cmp.{partial_equiv_from_equiv};
