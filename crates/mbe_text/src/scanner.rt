@@ -76,10 +76,30 @@ fn is_hex_digit(char: char) -> bool {
     matches!(char, '0'..='9' | 'a'..='f' | 'A'..='F' | '_')
 }
 
-const PUNCTS: &str = "=<>!&|~@.,;:#$?+-*/%^";
-
 fn is_punct(char: char) -> bool {
-    PUNCTS.contains(char)
+    matches!(
+        char,
+        '=' | '<'
+            | '>'
+            | '!'
+            | '&'
+            | '|'
+            | '~'
+            | '@'
+            | '.'
+            | ','
+            | ';'
+            | ':'
+            | '#'
+            | '$'
+            | '?'
+            | '+'
+            | '-'
+            | '*'
+            | '/'
+            | '%'
+            | '^'
+    )
 }
 
 // Whether an identifier of this text and what follows it would begin a prefixed or raw string, or a byte literal.
