@@ -16,7 +16,7 @@ use std::fmt;
 /// Why a text has no token trees.
 #[derive(Debug, Drop, PartialEq, Eq)]
 pub enum LexError {
-    /// What is wrong begins at this byte.
+    /// From this byte on the text is no token, or is a closing without its opening.
     Fault(u32),
     OutOfMemory,
 }

@@ -34,6 +34,7 @@ pub enum Lexeme<'t> {
     Close(DelimiterKind),
 }
 
+/// A token, and where it is in the text.
 #[derive(Clone, Copy)]
 pub struct Token<'t> {
     pub lexeme: Lexeme<'t>,
@@ -55,7 +56,7 @@ pub fn file_span(file: u32, start: u32, end: u32) -> Span
     }
 }
 
-/// What is left of a text, and how long the whole was.
+/// The rest of a text that is read token by token, and how long the whole was.
 #[derive(Drop)]
 pub struct Scanner<'t> {
     file: u32,
@@ -130,7 +131,7 @@ impl<'t> Scanner<'t> {
         }
     }
 
-    /// The number of bytes passed.
+    /// The number of bytes consumed.
     pub fn offset(&self) -> u32
         ensures { result + length self.now.rest.now ≡ self.now.total }
     {
@@ -494,7 +495,8 @@ impl<'t> Scanner<'t> {
         }
     }
 
-    /// Passes white space, comments and the next token, and returns that. `None` at the end of the text.
+    /// Consumes white space, comments and the next token, and returns the token; `None` at the end of the text. `Fault` if what
+    /// is there isn't a token or a comment.
     pub fn token(&mut self) -> Result<Option<Token<'t>>, Fault>
         ensures on { GoesOn self.old self.new }
         ensures past { IfOk result (λ token. IsSome token
