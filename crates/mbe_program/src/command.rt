@@ -9,23 +9,25 @@ use crate::arguments::options;
 use crate::program::{Outcome, run};
 use crate::reports::Report;
 use crate::settings::Options;
-use std::alloc::Global;
+use std::alloc::{Allocator, Global};
 use std::io::BufWriter;
+use std::rt::{Env, Files};
 use std::{env, fs, io};
 
-/// Runs on the words after the program's name, and returns the exit status.
-pub fn run_command(rt: &HostRuntime) -> u8 {
+/// Runs on the words after the program's name, and returns the exit status. The runtime is a parameter, here and below, so
+/// that tests can run the program with words, files and output of their own.
+pub fn run_command<R: Env + Files + Print + Eprint + AllocGlobal>(rt: &R) -> u8 {
     match words(rt) {
         Ok(words) => started(rt, words.as_slice()),
         Err(error) => match error.kind() {
-            io::ErrorKind::OutOfMemory => say(rt, Report::OutOfMemory),
-            _ => say(rt, Report::Usage),
+            io::ErrorKind::OutOfMemory => say(rt, Report::<Global>::OutOfMemory),
+            _ => say(rt, Report::<Global>::Usage),
         },
     }
 }
 
 // The words after the program's name.
-fn words(rt: &HostRuntime) -> io::Result<Vec<String>> {
+fn words<R: Env + AllocGlobal>(rt: &R) -> io::Result<Vec<String>> {
     let mut words = Vec::new(rt.alloc());
     for word in env::args(rt)?.skip(1) {
         words.push(word)?;
@@ -34,7 +36,7 @@ fn words(rt: &HostRuntime) -> io::Result<Vec<String>> {
 }
 
 // The text, if it is shorter than 2^32 bytes.
-fn short(text: String) -> io::Result<String>
+fn short<A: Allocator>(text: String<A>) -> io::Result<String<A>>
     ensures short { IsOk result ↔ (string_len text < 2 ^ 32) }
     ensures same { IfOk result (λ same. same ≡ text) }
 {
@@ -45,7 +47,7 @@ fn short(text: String) -> io::Result<String>
 }
 
 // The line on a file of that name which isn't read: out of memory, or that it can't be read.
-fn unread<'a>(error: &io::Error, name: &'a str) -> Report<'a, Global>
+fn unread<'a, A: Allocator>(error: &io::Error, name: &'a str) -> Report<'a, A>
     ensures { IsUnread (error_kind error.now) name.now result }
 {
     match error.kind() {
@@ -55,11 +57,11 @@ fn unread<'a>(error: &io::Error, name: &'a str) -> Report<'a, Global>
 }
 
 // The text of that file of the run (0 is the definition, 1 the argument), or the line on why there is none.
-fn read<'a>(
-    rt: &HostRuntime,
+fn read<'a, R: Files + Alloc>(
+    rt: &R,
     options: &Options<'a>,
     file: u32,
-) -> Result<String, Report<'a, Global>>
+) -> Result<String<R::A>, Report<'a, R::A>>
     ensures short { IfOk result (λ text. string_len text < 2 ^ 32) }
     ensures named { IfErr result (CannotBeRead (name_of options.now file)) }
 {
@@ -75,19 +77,22 @@ fn read<'a>(
 }
 
 // Writes the line to standard error, where it can, and returns the exit status that goes with it.
-fn say(rt: &HostRuntime, report: Report<'_, Global>) -> u8 {
+fn say<A: Allocator>(rt: &impl Eprint, report: Report<'_, A>) -> u8 {
     let _ = eprintln!(rt; "{report}");
     report.status()
 }
 
 // The outcome of a run on both files that writes to standard output, or the line on why there is none.
-fn run_files<'a>(
-    rt: &HostRuntime,
+fn run_files<'a, R: Files + Print + Alloc>(
+    rt: &R,
     options: &Options<'a>,
-) -> Result<Outcome<Global>, Report<'a, Global>> {
+) -> Result<Outcome<R::A>, Report<'a, R::A>>
+where
+    R::A: Copy,
+{
     let def = read(rt, options, 0)?;
     let arg = read(rt, options, 1)?;
-    let Ok(mut out) = BufWriter::new(rt.alloc(), rt.stdout()) else {
+    let Ok(mut out) = BufWriter::new(rt.alloc(), io::writer(rt)) else {
         return Err(Report::OutOfMemory);
     };
     Ok(run(
@@ -101,9 +106,12 @@ fn run_files<'a>(
 
 /// Runs on the files that the words after the program's name ask for, writes to standard output, says on standard error why
 /// nothing is written, and returns the exit status.
-pub fn started(rt: &HostRuntime, words: &[String]) -> u8 {
+pub fn started<R: Files + Print + Eprint + Alloc>(rt: &R, words: &[String]) -> u8
+where
+    R::A: Copy,
+{
     let Some(options) = options(words) else {
-        return say(rt, Report::Usage);
+        return say(rt, Report::<R::A>::Usage);
     };
     match run_files(rt, &options) {
         Err(report) => say(rt, report),
