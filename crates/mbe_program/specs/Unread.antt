@@ -1,7 +1,7 @@
 -- What is said of a file that isn't read.
 use Rattle.std.specs.Prelude.{ℕ, ◌≡◌, ◌≢◌, List}
-use Rattle.std_io.specs.declared.io.kind.ErrorKind.{ErrorKind}
-use Rattle.std_io.specs.declared.io.kind.ErrorKind.TheVariants as kinds
+use Rattle.std.specs.declared.io.ErrorKind.{ErrorKind}
+use Rattle.std.specs.declared.io.ErrorKind.TheVariants as kinds
 use Rattle.mbe_program.specs.declared.reports.Report.{Report}
 use Rattle.mbe_program.specs.declared.reports.Report.TheVariants.{CannotRead, OutOfMemory}
 

@@ -1,5 +1,5 @@
 // A run of the program: its words, its files, its standard output and error.
-ghost use Rattle.std.specs.Prelude.{◌<◌, ◌^◌, ◌↔◌, IfErr, IfOk, IsOk};
+ghost use Rattle.std.specs.Prelude.{◌≡◌, ◌<◌, ◌^◌, ◌↔◌, IfErr, IfOk, IsOk};
 ghost use Rattle.std.specs.String.{string_len};
 ghost use Rattle.std.specs.IoError.{error_kind};
 ghost use Rattle.mbe_program.specs.Options.{name_of};
