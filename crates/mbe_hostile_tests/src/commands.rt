@@ -1,7 +1,6 @@
 // The whole program on files of a machine of tests: its status, its output and its line on standard error.
 use crate::machine::{Content, Machine};
-use mbe_program::command::{run_command, started};
-use refusing::Refusing;
+use mbe_program::command::run_command;
 use std::alloc::Global;
 use std::io::ErrorKind;
 use std::process::Abort;
@@ -184,59 +183,6 @@ fn a_full_device_and_a_closed_pipe_are_reported(rt: HostRuntime) -> Result<(), F
         }
         assert_breaks(&rt, rt.alloc(), run, (run.2.len(), ErrorKind::StorageFull))?;
         assert_breaks(&rt, rt.alloc(), run, (0, ErrorKind::BrokenPipe))?;
-    }
-    Ok(())
-}
-
-fn words_of(alloc: Global, text: &str) -> Result<Vec<String>, Fail> {
-    let mut words = Vec::new(alloc);
-    for word in text.split_whitespace() {
-        words.push(String::from_str(alloc, word)?)?;
-    }
-    Ok(words)
-}
-
-// Whether the request of this number was refused. Then the program is out of memory, from the reading of the files on; else it
-// ends as the row says.
-fn is_refused(
-    rt: &impl Abort,
-    alloc: Global,
-    &(words, status, output, line): &Run,
-    number: u64,
-) -> Result<bool, Fail> {
-    let refusing = Refusing::new(alloc, number);
-    let machine = Machine::new(alloc, words, &FILES);
-    let ended = started(&(&machine, &refusing), words_of(alloc, words)?.as_slice());
-    let (out, err) = machine.written();
-    if refusing.has_refused() {
-        assert_eq!(rt; ended, 5, "{words} at {number}");
-        assert!(rt; out.is_empty(), "{words} at {number}");
-        assert_says(rt, err.as_slice(), "out of memory", words);
-        return Ok(true);
-    }
-    assert_eq!(rt; ended, status, "{words} at {number}");
-    assert!(rt; out.as_slice() == output.as_bytes(), "{words} at {number}");
-    assert_says(rt, err.as_slice(), line, words);
-    Ok(false)
-}
-
-fn assert_each_refused(rt: &impl Abort, alloc: Global, run: &Run) -> Result<(), Fail> {
-    for number in 1..10_000u64 {
-        if !is_refused(rt, alloc, run, number)? {
-            assert!(rt; number > 2 || run.1 > 1, "{}", run.0);
-            return Ok(());
-        }
-    }
-    Err(Fail::from("it goes on"))
-}
-
-#[test]
-fn each_request_of_the_program_refused(rt: HostRuntime) -> Result<(), Fail> {
-    for run in &RUNS {
-        // A word that is in no text never comes to `started`.
-        if !run.0.contains('?') {
-            assert_each_refused(&rt, rt.alloc(), run)?;
-        }
     }
     Ok(())
 }

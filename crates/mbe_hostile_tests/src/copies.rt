@@ -45,7 +45,10 @@ impl Work for Copied {
         let two = String::from_str(alloc, text)?;
         Ok(match self {
             Copied::Unexpected(_) => {
-                let (one, two) = (ParseError::UnexpectedToken(one), ParseError::UnexpectedToken(two));
+                let (one, two) = (
+                    ParseError::UnexpectedToken(one),
+                    ParseError::UnexpectedToken(two),
+                );
                 copied_fault(alloc, &one, &two)
             }
             Copied::Expected(_) => {

@@ -2,14 +2,13 @@
 ghost use Rattle.mbe.specs.Macro.{IsChecked};
 ghost use Rattle.mbe.specs.MacroViews.{macro_of};
 
-use crate::reading::{lexed, parsed};
+use crate::reading::{lexed, parsed, printed};
 use crate::requests::{Ended, Work, refusals};
 use crate::rows::{ROWS, Row};
 use mbe::{
     DeclarativeMacro, ExpandResult, MacroCallStyle, MatchedArmIndex, ParseError, expect_fragment,
 };
 use mbe_grammar::SampleGrammar;
-use mbe_program::printing::print_expansion;
 use mbe_tt::grammar::PrefixEntryPoint;
 use mbe_tt::span::DelimSpan;
 use mbe_tt::tt::TopSubtree;
@@ -28,13 +27,32 @@ fn expanded<A: Allocator + Copy>(
     }
     let call_site = argument.top_subtree().delimiter.opening;
     let style = MacroCallStyle::FnLike;
-    rules.expand(alloc, &SampleGrammar, argument, |span| span, style, call_site)
+    rules.expand(
+        alloc,
+        &SampleGrammar,
+        argument,
+        |span| span,
+        style,
+        call_site,
+    )
 }
 
-// Whether that is printed of the expansion.
-fn prints<A: Allocator>(global: Global, expansion: &Expansion<A>, want: &str) -> bool {
-    let mut out = Vec::new(global);
-    print_expansion(expansion, &mut out).is_ok() && out.as_slice() == want.as_bytes()
+// Whether the expansion is that: the error with its span, the rule's index and the tree.
+fn is_shown<A: Allocator>(
+    global: Global,
+    expansion: &Expansion<A>,
+    want: &str,
+) -> Result<bool, AllocError> {
+    let mut shown = String::new(global);
+    if let Some(error) = &expansion.err {
+        let span = error.inner.0;
+        let (file, start, end) = (span.file, span.start, span.end);
+        shown = format!(in global; "error: {error} at {file}@{start}..{end}\n")?;
+    }
+    let (tree, arm) = &expansion.value;
+    let tree = printed(global, tree)?;
+    let shown = format!(in global; "{shown}arm {}\n{tree}", arm.unwrap_or(u32::MAX))?;
+    Ok(shown.as_str() == want)
 }
 
 /// The expansion of a row. The macro and the argument equal copies made before, and expand once more as the row says.
@@ -50,9 +68,9 @@ impl Work for Expanding {
         let first = expanded(alloc, &rules, &argument);
         let is_unchanged = rules == before.0 && argument == before.1;
         let again = expanded(alloc, &rules, &argument)?;
-        let is_right = is_unchanged && prints(global, &again, want);
+        let is_right = is_unchanged && is_shown(global, &again, want)?;
         Ok(match first {
-            Ok(first) => Ended::answered(is_right && prints(global, &first, want)),
+            Ok(first) => Ended::answered(is_right && is_shown(global, &first, want)?),
             Err(AllocError) => Ended::refused(is_right),
         })
     }

@@ -9,7 +9,7 @@ use crate::arguments::options;
 use crate::program::{Outcome, run};
 use crate::reports::Report;
 use crate::settings::Options;
-use std::alloc::{Allocator, Global};
+use std::alloc::Global;
 use std::io::BufWriter;
 use std::rt::{Env, Files};
 use std::{env, fs, io};
@@ -20,8 +20,8 @@ pub fn run_command<R: Env + Files + Print + Eprint + AllocGlobal>(rt: &R) -> u8 
     match words(rt) {
         Ok(words) => started(rt, words.as_slice()),
         Err(error) => match error.kind() {
-            io::ErrorKind::OutOfMemory => say(rt, Report::<Global>::OutOfMemory),
-            _ => say(rt, Report::<Global>::Usage),
+            io::ErrorKind::OutOfMemory => say(rt, Report::OutOfMemory),
+            _ => say(rt, Report::Usage),
         },
     }
 }
@@ -36,7 +36,7 @@ fn words<R: Env + AllocGlobal>(rt: &R) -> io::Result<Vec<String>> {
 }
 
 // The text, if it is shorter than 2^32 bytes.
-fn short<A: Allocator>(text: String<A>) -> io::Result<String<A>>
+fn short(text: String) -> io::Result<String>
     ensures short { IsOk result ↔ (string_len text < 2 ^ 32) }
     ensures same { IfOk result (λ same. same ≡ text) }
 {
@@ -47,7 +47,7 @@ fn short<A: Allocator>(text: String<A>) -> io::Result<String<A>>
 }
 
 // The line on a file of that name which isn't read: out of memory, or that it can't be read.
-fn unread<'a, A: Allocator>(error: &io::Error, name: &'a str) -> Report<'a, A>
+fn unread<'a>(error: &io::Error, name: &'a str) -> Report<'a, Global>
     ensures { IsUnread (error_kind error.now) name.now result }
 {
     match error.kind() {
@@ -57,11 +57,11 @@ fn unread<'a, A: Allocator>(error: &io::Error, name: &'a str) -> Report<'a, A>
 }
 
 // The text of that file of the run (0 is the definition, 1 the argument), or the line on why there is none.
-fn read<'a, R: Files + Alloc>(
+fn read<'a, R: Files + AllocGlobal>(
     rt: &R,
     options: &Options<'a>,
     file: u32,
-) -> Result<String<R::A>, Report<'a, R::A>>
+) -> Result<String, Report<'a, Global>>
     ensures short { IfOk result (λ text. string_len text < 2 ^ 32) }
     ensures named { IfErr result (CannotBeRead (name_of options.now file)) }
 {
@@ -77,19 +77,16 @@ fn read<'a, R: Files + Alloc>(
 }
 
 // Writes the line to standard error, where it can, and returns the exit status that goes with it.
-fn say<A: Allocator>(rt: &impl Eprint, report: Report<'_, A>) -> u8 {
+fn say(rt: &impl Eprint, report: Report<'_, Global>) -> u8 {
     let _ = eprintln!(rt; "{report}");
     report.status()
 }
 
 // The outcome of a run on both files that writes to standard output, or the line on why there is none.
-fn run_files<'a, R: Files + Print + Alloc>(
+fn run_files<'a, R: Files + Print + AllocGlobal>(
     rt: &R,
     options: &Options<'a>,
-) -> Result<Outcome<R::A>, Report<'a, R::A>>
-where
-    R::A: Copy,
-{
+) -> Result<Outcome<Global>, Report<'a, Global>> {
     let def = read(rt, options, 0)?;
     let arg = read(rt, options, 1)?;
     let Ok(mut out) = BufWriter::new(rt.alloc(), io::writer(rt)) else {
@@ -106,12 +103,9 @@ where
 
 /// Runs on the files that the words after the program's name ask for, writes to standard output, says on standard error why
 /// nothing is written, and returns the exit status.
-pub fn started<R: Files + Print + Eprint + Alloc>(rt: &R, words: &[String]) -> u8
-where
-    R::A: Copy,
-{
+pub fn started<R: Files + Print + Eprint + AllocGlobal>(rt: &R, words: &[String]) -> u8 {
     let Some(options) = options(words) else {
-        return say(rt, Report::<R::A>::Usage);
+        return say(rt, Report::Usage);
     };
     match run_files(rt, &options) {
         Err(report) => say(rt, report),

@@ -45,7 +45,13 @@ fn words_of(alloc: Global, text: &str) -> Result<Vec<String>, AllocError> {
 // The status of a run that writes to that.
 fn status_of<W: Write + Drop>(alloc: Global, out: W) -> io::Result<u8> {
     let mut out = BufWriter::new(alloc, out)?;
-    let outcome = run(alloc, "($x:ident) => {$x}", "a", Edition::Edition2024, &mut out);
+    let outcome = run(
+        alloc,
+        "($x:ident) => {$x}",
+        "a",
+        Edition::Edition2024,
+        &mut out,
+    );
     Ok(outcome.status())
 }
 
