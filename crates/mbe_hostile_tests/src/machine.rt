@@ -18,7 +18,7 @@ pub enum Content<'a> {
     Breaks(&'a [u8], ErrorKind),
 }
 
-/// A runtime. Its words are those of a text; a `?` in it stands for a byte that is in no text. Its output takes as many
+/// A runtime. Its words are those of a text; the word `?` stands for a byte that is in no text. Its output takes as many
 /// bytes as there is room for, and then fails with that kind of error.
 #[derive(Drop)]
 pub struct Machine<'a> {
@@ -90,13 +90,16 @@ impl Env for Machine<'_> {
     fn arg(&self, i: usize, buf: &mut [u8]) -> Result<usize, FillError> {
         let all = format!(in self.alloc; "mbex {}", self.words).map_err(|_| FillError::NotPresent)?;
         let word = all.split_whitespace().nth(i).ok_or(FillError::NotPresent)?;
-        let Some(to) = buf.get_mut(..word.len()) else {
-            return Err(FillError::TooLong);
+        let bytes = if word == "?" {
+            b"\xff"
+        } else {
+            word.as_bytes()
         };
-        for (byte, &char) in to.iter_mut().zip(word.as_bytes()) {
-            *byte = if char == b'?' { 0xff } else { char };
+        if bytes.len() > buf.len() {
+            return Err(FillError::TooLong);
         }
-        Ok(word.len())
+        buf[..bytes.len()].copy_from_slice(bytes);
+        Ok(bytes.len())
     }
 
     fn var(&self, _name: &str, _buf: &mut [u8]) -> Result<usize, FillError> {
