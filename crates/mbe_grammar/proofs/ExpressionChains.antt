@@ -1,16 +1,16 @@
 -- An expression, link by link.
-use Rattle.std.proofs.Common.{◌≡◌, ℕ, ◌<◌, ◌≤◌, Bool, true, false, List, [], ◌∷◌, map, None, Ok, Err, refl, sym, ap, ◌∙◌, subst, arith}
+use Rattle.std.proofs.Common.{◌≡◌, ℕ, ◌<◌, Bool, true, false, List, [], ◌∷◌, map, None, Ok, Err, refl, sym, ap, ◌∙◌, subst, arith}
 use Rattle.std.specs.Prelude.{codes}
 use Rattle.mbe_tt.specs.Trees.Tree.{Forest, flat_len}
 use Rattle.mbe_grammar.specs.declared.step.Miss.{Miss}
 use Rattle.mbe_grammar.specs.declared.step.Miss.TheVariants.{Absent, Fault}
-use Rattle.mbe_grammar.specs.Rule.{one, part, ◌then◌, ◌or◌, Step, ◌>>=◌, or_else, has_to_stand, if_stands, if_absent, or_miss, behind_one, meaning, in_turn}
-use Rattle.mbe_grammar.specs.RuleLaws.{leaves_weaker, meaning_leaves}
-use Rattle.mbe_grammar.specs.SingleTrees.{is_one_of, is_literal, is_punct}
+use Rattle.mbe_grammar.specs.Rule.{one, part, ◌or◌, Step, ◌>>=◌, or_else, has_to_stand, if_stands, if_absent, or_miss, behind_one, meaning, in_turn}
+use Rattle.mbe_grammar.specs.RuleLaws.{meaning_leaves}
+use Rattle.mbe_grammar.specs.SingleTrees.{is_one_of, is_literal}
 use Rattle.mbe_grammar.specs.SampleGrammar.{Rules, Part, word, words, brace, any_group, expr_start, Operator, Operation, Expr, Prefix, Unary, Operand, KeywordBlock, JumpWord, JumpValue, Jump, PathExpr, Primary, Post, rule_of, takes}
-use Rattle.mbe_grammar.specs.Chains.{jump_to_value, plain_primary, plain_operand}
+use Rattle.mbe_grammar.specs.Chains.{jump_to_value, plain_operand}
 use Rattle.mbe_grammar.specs.Lawful.{takes_some, takes_leaves}
-use Rattle.mbe_grammar.proofs.Rules.{in_turn_done, in_turn_keeps, in_turn_stands, never_faults, shorter, no_longer}
+use Rattle.mbe_grammar.proofs.Rules.{in_turn_done, in_turn_keeps, in_turn_stands, never_faults, shorter}
 use Rattle.mbe_grammar.proofs.Parts.{takes_by_rule, takes_shorter, turns_on, turns_end, turns_fault, turns_no_longer}
 use Rattle.mbe_grammar.proofs.Fronts.{are_apart, Begins, one_absent, words_apart, word_is_no_literal, one_stands, then_stands}
 use Rattle.mbe_grammar.proofs.TypeChains.{is_lifetime, lifetime_calm}

@@ -5,8 +5,8 @@ use Rattle.std.specs.List.{list_any, list_all}
 use Rattle.std.specs.Str.{bytes_eq}
 use Rattle.std.proofs.lemmas.Bool.{eqb-true, or_cases, and_parts, not-true, or_left, or_right}
 use Rattle.std.proofs.lemmas.Slice.Eq.{bytes_eq-Decides}
-use Rattle.mbe_tt.specs.Trees.Leaf.{Leaf, punct, literal, ident, is_text}
-use Rattle.mbe_tt.specs.Trees.Tree.{Forest, none, leaf, group, Tree, Leaf_tree, Group_tree, skip}
+use Rattle.mbe_tt.specs.Trees.Leaf.{punct, literal, ident, is_text}
+use Rattle.mbe_tt.specs.Trees.Tree.{Forest, none, leaf, group, Tree, Leaf_tree, Group_tree}
 use Rattle.mbe_tt.specs.Trees.Glue.{glue, chars_of, if_joint, joined}
 use Rattle.mbe_tt.specs.declared.tt.Punct.{Punct}
 use Rattle.mbe_tt.specs.declared.tt.IdentIsRaw.{IdentIsRaw}

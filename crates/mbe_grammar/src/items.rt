@@ -115,7 +115,8 @@ fn is_item_end<A: Allocator>(tree: &TtElement<'_, A>, at_brace: bool) -> bool
 
 // All trees to the first that ends an item, with that.
 fn up_to_end<'t, A: Allocator>(tokens: TokenTreesView<'t, A>, at_brace: bool) -> Step<'t, A>
-    ensures { seen result ≡ or_miss Miss.Fault (behind_first (is_item_end at_brace) (trees tokens.entry)) }
+    ensures { seen result ≡ or_miss Miss.Fault
+        (behind_first (is_item_end at_brace) (trees tokens.entry)) }
 {
     let mut iter = tokens.iter();
     'trees: while let Some(tree) = iter.next() {

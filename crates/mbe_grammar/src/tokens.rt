@@ -17,7 +17,8 @@ use std::alloc::Allocator;
 
 /// The trees after a word: an identifier of one of those texts that isn't raw.
 pub fn word<'t, A: Allocator>(tokens: TokenTreesView<'t, A>, texts: &[&str]) -> Step<'t, A>
-    ensures { seen result ≡ or_miss Miss.Absent (behind_one (is_one_of (map (λ t. t.now) texts.now)) (trees tokens.entry)) }
+    ensures { seen result ≡ or_miss Miss.Absent
+        (behind_one (is_one_of (map (λ t. t.now) texts.now)) (trees tokens.entry)) }
 {
     let mut iter = tokens.iter();
     match iter.expect_ident_or_underscore() {
@@ -101,7 +102,8 @@ pub fn group<'t, A: Allocator>(
     tokens: TokenTreesView<'t, A>,
     kinds: &[DelimiterKind],
 ) -> Step<'t, A>
-    ensures { seen result ≡ or_miss Miss.Absent (behind_one (is_group kinds.now) (trees tokens.entry)) }
+    ensures { seen result ≡ or_miss Miss.Absent
+        (behind_one (is_group kinds.now) (trees tokens.entry)) }
 {
     let mut iter = tokens.iter();
     match iter.expect_subtree() {
@@ -118,7 +120,8 @@ fn is_kind_of(kind: DelimiterKind, kinds: &[DelimiterKind]) -> bool
 
 /// The trees after the puncts that are taken together, if they have those chars.
 pub fn puncts<'t, A: Allocator>(tokens: TokenTreesView<'t, A>, chars: &[char]) -> Step<'t, A>
-    ensures { seen result ≡ or_miss Miss.Absent (behind_puncts (chars.now ∷ []) (trees tokens.entry)) }
+    ensures { seen result ≡ or_miss Miss.Absent
+        (behind_puncts (chars.now ∷ []) (trees tokens.entry)) }
 {
     let mut iter = tokens.iter();
     match iter.expect_glued_punct() {

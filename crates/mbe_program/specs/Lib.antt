@@ -1,2 +1,4 @@
+pub mod Expansion
 pub mod Options
 pub mod Outcomes
+pub mod Unread

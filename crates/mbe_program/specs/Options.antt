@@ -1,5 +1,5 @@
 -- What the words behind the program's name ask for.
-use Rattle.std.specs.Prelude.{ℕ, List, [], ◌∷◌, Option, Some, None, codes, option_map, if◌then◌else◌, bytes_eq}
+use Rattle.std.specs.Prelude.{ℕ, List, [], ◌∷◌, Option, Some, None, codes, option_map, if◌then◌else◌, bytes_eq, ◌==◌}
 use Rattle.mbe_tt.specs.declared.span.Edition.{Edition}
 use Rattle.mbe_tt.specs.declared.span.Edition.TheVariants.{Edition2015, Edition2018, Edition2021, Edition2024}
 use Rattle.mbe_program.specs.declared.settings.Options.{Options}
@@ -19,6 +19,10 @@ Seen = List ℕ × List ℕ × Edition
 
 abbrev pub seen : Options → Seen
 seen o = (o.def.now, o.arg.now, o.edition)
+
+-- the name of a file: of the definition for 0, of the argument for any other number
+abbrev pub name_of : Options → ℕ → List ℕ
+name_of o file = if file == 0 then o.def.now else o.arg.now
 
 -- two files, and the edition 2024 or the one that a third word names
 abbrev pub files_of : List (List ℕ) → Option Seen

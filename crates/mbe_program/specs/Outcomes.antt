@@ -4,6 +4,8 @@ use Rattle.mbe_program.specs.declared.program.Outcome.{Outcome}
 use Rattle.mbe_program.specs.declared.program.Outcome.TheVariants.{Expanded, Faulted, Refused, CannotLex, CannotWrite, OutOfMemory}
 use Rattle.mbe_program.specs.declared.reports.Report.{Report}
 use Rattle.mbe_program.specs.declared.reports.Report.TheVariants as says
+use Rattle.mbe_program.specs.declared.settings.Options.{Options}
+use Rattle.mbe_program.specs.Options.{name_of}
 
 -- the exit status of a run
 abbrev pub status_of : {A : Type 0} → Outcome A → ℕ
@@ -40,3 +42,12 @@ report_status (says.CannotRead name) = 3
 report_status says.CannotWrite = 3
 report_status (says.CannotLex name offset) = 4
 report_status says.OutOfMemory = 5
+
+-- A line says what a run with these options ended by: the error of the definition, or the file that isn't lexed, by its name,
+-- and the byte.
+abbrev pub Tells : {A : Type 0} → Options → Outcome A → Report A → Type 0
+Tells o (Refused error) (says.Refused told) = told.now ≡ error
+Tells o (CannotLex file offset) (says.CannotLex name at) = (name.now ≡ name_of o file) × (at ≡ offset)
+Tells o CannotWrite says.CannotWrite = ⊤
+Tells o OutOfMemory says.OutOfMemory = ⊤
+Tells o outcome report = ⊥

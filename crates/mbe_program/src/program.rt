@@ -1,5 +1,8 @@
 // A run, from both texts to what is written.
-ghost use Rattle.std.specs.Prelude.{◌≡◌, ◌<◌, ◌^◌, ◌⊎◌, length, IfErr};
+ghost use Rattle.std.specs.Prelude.{◌≡◌, ◌<◌, ◌^◌, ◌⊎◌, length, IfErr, IfOk};
+ghost use Rattle.mbe_tt.specs.Trees.Top.{top_group};
+ghost use Rattle.mbe_errors.specs.ErrorViews.{errors_of};
+ghost use Rattle.mbe_program.specs.Expansion.{ExpandsTrees, IsRefused, ExpandsTexts, EndsAs, IsUnlexed};
 ghost use Rattle.mbe_program.specs.Outcomes.{FaultsIn, IsSilent, status_of};
 
 use crate::printing::print_expansion;
@@ -7,7 +10,7 @@ use mbe::{DeclarativeMacro, ExpandResult, MacroCallStyle, MatchedArmIndex, Parse
 use mbe_grammar::SampleGrammar;
 use mbe_text::lexer::{LexError, lex};
 use mbe_text::scanner::file_span;
-use mbe_tt::span::Edition;
+use mbe_tt::span::{Edition, Span};
 use mbe_tt::tt::TopSubtree;
 use std::alloc::{AllocError, Allocator};
 use std::io::Write;
@@ -55,7 +58,8 @@ impl<A: Allocator> From<AllocError> for Outcome<A> {
 
 fn lexed<A: Allocator + Copy>(alloc: A, text: &str, file: u32) -> Result<TopSubtree<A>, Outcome<A>>
     requires { length text.now < 2 ^ 32 }
-    ensures { IfErr result (FaultsIn file (length text.now)) }
+    ensures unlexed { IfErr result IsUnlexed }
+    ensures within { IfErr result (FaultsIn file (length text.now)) }
 {
     match lex(alloc, text, file) {
         Ok(tree) => Ok(tree),
@@ -66,8 +70,36 @@ fn lexed<A: Allocator + Copy>(alloc: A, text: &str, file: u32) -> Result<TopSubt
 
 type Expansion<A> = ExpandResult<(TopSubtree<A>, MatchedArmIndex), A>;
 
-// What the definition makes of the argument, or why there is no expansion.
+// What a definition makes of an argument, or why there is no expansion.
 fn expansion<A: Allocator + Copy>(
+    alloc: A,
+    definition: &TopSubtree<A>,
+    argument: &TopSubtree<A>,
+    edition: Edition,
+    call_site: Span,
+) -> Result<Expansion<A>, Outcome<A>>
+    ensures expands { IfOk result (λ r. ExpandsTrees edition definition.now.1 argument.now.1
+        call_site (top_group r.value.0) r.value.1 (errors_of r.err)) }
+    ensures refused { IfErr result (IsRefused edition definition.now.1) }
+{
+    let rules = DeclarativeMacro::parse_macro_rules(alloc, definition, |_context| edition)?;
+    if let Some(error) = rules.err() {
+        return Err(Outcome::Refused(error.try_clone(alloc)?));
+    }
+    let expansion = rules.expand(
+        alloc,
+        &SampleGrammar,
+        argument,
+        |span| span,
+        MacroCallStyle::FnLike,
+        call_site,
+    )?;
+    Ok(expansion)
+}
+
+// What the text of a definition makes of that of an argument.
+#[tactic(auto, using(crate::proofs::OutcomeLemmas::unlexed_ends))]
+fn texts_expansion<A: Allocator + Copy>(
     alloc: A,
     def: &str,
     arg: &str,
@@ -75,24 +107,16 @@ fn expansion<A: Allocator + Copy>(
 ) -> Result<Expansion<A>, Outcome<A>>
     requires def { length def.now < 2 ^ 32 }
     requires arg { length arg.now < 2 ^ 32 }
-    ensures { IfErr result (λ outcome. FaultsIn 0 (length def.now) outcome ⊎ FaultsIn 1 (length arg.now) outcome) }
+    ensures expands { IfOk result (λ r. ExpandsTexts edition (length arg.now)
+        (top_group r.value.0) r.value.1 (errors_of r.err)) }
+    ensures ended { IfErr result (EndsAs edition (length arg.now)) }
+    ensures within { IfErr result (λ outcome.
+        FaultsIn 0 (length def.now) outcome ⊎ FaultsIn 1 (length arg.now) outcome) }
 {
     let definition = lexed(alloc, def, 0)?;
     let argument = lexed(alloc, arg, 1)?;
-    let rules = DeclarativeMacro::parse_macro_rules(alloc, &definition, |_context| edition)?;
-    if let Some(error) = rules.err() {
-        return Err(Outcome::Refused(error.try_clone(alloc)?));
-    }
     let call_site = file_span(1, 0, arg.len() as u32);
-    let expansion = rules.expand(
-        alloc,
-        &SampleGrammar,
-        &argument,
-        |span| span,
-        MacroCallStyle::FnLike,
-        call_site,
-    )?;
-    Ok(expansion)
+    expansion(alloc, &definition, &argument, edition, call_site)
 }
 
 /// Expands the text of an argument by the text of a definition, in which every token is of that edition, and writes the
@@ -108,9 +132,10 @@ pub fn run<A: Allocator + Copy, W: Write>(
     requires def { length def.now < 2 ^ 32 }
     requires arg { length arg.now < 2 ^ 32 }
     ensures silent { IsSilent result (W.contents out.old) (W.contents out.new) }
+    ensures ended { EndsAs edition (length arg.now) result }
     ensures within { FaultsIn 0 (length def.now) result ⊎ FaultsIn 1 (length arg.now) result }
 {
-    let expansion = match expansion(alloc, def, arg, edition) {
+    let expansion = match texts_expansion(alloc, def, arg, edition) {
         Ok(expansion) => expansion,
         Err(outcome) => return outcome,
     };

@@ -1,6 +1,6 @@
 // What the program says where it has nothing to write.
 ghost use Rattle.std.specs.Prelude.{◌≡◌, IfSome, IsNone, ◌↔◌, ◌≤◌};
-ghost use Rattle.mbe_program.specs.Outcomes.{report_status, status_of};
+ghost use Rattle.mbe_program.specs.Outcomes.{Tells, report_status, status_of};
 
 use crate::program::Outcome;
 use crate::settings::Options;
@@ -53,12 +53,13 @@ impl<A: Allocator> Outcome<A> {
     pub fn report<'a>(&'a self, options: &Options<'a>) -> Option<Report<'a, A>>
         ensures silent { IsNone result ↔ (status_of self.now ≤ 1) }
         ensures status { IfSome result (λ r. report_status r ≡ status_of self.now) }
+        ensures tells { IfSome result (Tells options.now self.now) }
     {
         match self {
             Outcome::Expanded | Outcome::Faulted => None,
             Outcome::Refused(error) => Some(Report::Refused(error)),
             Outcome::CannotLex { file, offset } => Some(Report::CannotLex {
-                name: if *file == 0 { options.def } else { options.arg },
+                name: options.name_of(*file),
                 offset: *offset,
             }),
             Outcome::CannotWrite => Some(Report::CannotWrite),

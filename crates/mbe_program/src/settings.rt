@@ -1,4 +1,7 @@
 // What a run is asked for.
+ghost use Rattle.std.specs.Prelude.{◌≡◌};
+ghost use Rattle.mbe_program.specs.Options.{name_of};
+
 use mbe_tt::span::Edition;
 
 /// What the words behind the program's name ask for: the names of both files and the edition.
@@ -7,4 +10,13 @@ pub struct Options<'a> {
     pub def: &'a str,
     pub arg: &'a str,
     pub edition: Edition,
+}
+
+impl<'a> Options<'a> {
+    /// The name of a file of the run: of the definition for 0, of the argument for any other number.
+    pub fn name_of(&self, file: u32) -> &'a str
+        ensures { result.now ≡ name_of self.now file }
+    {
+        if file == 0 { self.def } else { self.arg }
+    }
 }

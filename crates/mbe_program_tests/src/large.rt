@@ -93,3 +93,18 @@ fn a_repetition_of_more_rounds_writes_nothing(rt: HostRuntime) -> Result<(), Fai
     let want = ("Expand exceed limit at 1@0..131071", 0, "");
     assert_prints(&rt, rt.alloc(), EDITION, texts, want)
 }
+
+// A pattern and a template of 2,500 words each. The template's first word is at byte 1 + 4,999 + 6.
+#[test]
+fn a_long_rule_is_read_and_written(rt: HostRuntime) -> Result<(), Fail> {
+    let argument = words(rt.alloc(), 2500)?;
+    let definition = format!(in rt.alloc(); "({argument}) => {{{argument}}}")?;
+    let mut trees = String::new(rt.alloc());
+    for number in 0..2500u32 {
+        let start = number.saturating_mul(2).saturating_add(5006);
+        let end = start.saturating_add(1);
+        trees.push_str(format!(in rt.alloc(); "  IDENT   a 0@{start}..{end}\n")?.as_str())?;
+    }
+    let texts = (definition.as_str(), argument.as_str());
+    assert_prints(&rt, rt.alloc(), EDITION, texts, ("", 0, trees.as_str()))
+}

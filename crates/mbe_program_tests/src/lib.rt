@@ -2,6 +2,8 @@
 #![tactic(auto)]
 
 #[cfg(test)]
+mod editions;
+#[cfg(test)]
 mod expansions;
 #[cfg(test)]
 mod large;

@@ -183,7 +183,10 @@ static TOKENS: [(&str, &str); 84] = [
     ("0xfg", "Integer 0xf|g 0..4"),
     ("0o78i 0b12", "Integer 0o78|i 0..5, Integer 0b12 6..10"),
     ("0b1e3", "Integer 0b1|e3 0..5"),
-    ("0X1", "Integer 0|X1 0..3"),
+    (
+        "0X1 0B1 0O7",
+        "Integer 0|X1 0..3, Integer 0|B1 4..7, Integer 0|O7 8..11",
+    ),
     ("0x1.5", "Integer 0x1 0..3, . alone 3..4, Integer 5 4..5"),
     ("0x1e+5", "Integer 0x1e 0..4, + alone 4..5, Integer 5 5..6"),
     (".1", ". alone 0..1, Integer 1 1..2"),

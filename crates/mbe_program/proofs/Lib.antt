@@ -1,0 +1,3 @@
+pub mod EditionLemmas
+pub mod MarkLemmas
+pub mod OutcomeLemmas
