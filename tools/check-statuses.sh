@@ -31,6 +31,10 @@ printf '1' >other.arg
 printf '() => {} x' >refused.def
 printf 'a "b' >open.arg
 printf 'a\377' >latin.arg
+: >empty
+mkdir folder
+: >secret
+chmod 000 secret
 
 check 0 '' good.def good.arg
 check 0 '' good.def good.arg 2015
@@ -52,6 +56,11 @@ check 3 'cannot read missing' missing good.arg
 check 3 'cannot read missing' good.def missing
 check 3 'cannot read latin.arg' good.def latin.arg
 check 3 'cannot read latin.arg' latin.arg open.arg
+check 3 'cannot read folder' folder good.arg
+check 3 'cannot read folder' good.def folder
+[ -r secret ] || check 3 'cannot read secret' secret good.arg
+check 1 '' empty empty
+check 2 'definition refused: expected subtree' good.arg good.def
 check 4 'cannot lex open.arg at 2' good.def open.arg
 check 4 'cannot lex open.arg at 2' refused.def open.arg
 
@@ -87,6 +96,17 @@ if [ -e /dev/full ]; then
         echo "a full device: status $got, says '$said'"
         failed=1
     fi
+fi
+
+# A pipe that nobody reads.
+(
+    sleep 1
+    "$program" good.def good.arg 2>said
+    echo $? >got
+) | :
+if [ "$(cat got)" != 3 ] || [ "$(cat said)" != 'cannot write' ]; then
+    echo "a closed pipe: status $(cat got), says '$(cat said)'"
+    failed=1
 fi
 [ $failed = 0 ] && echo "all statuses are as they should be"
 exit $failed

@@ -49,7 +49,7 @@ impl Nearness {
     }
 }
 
-// A rule of the style that doesn't apply, and its place.
+// A rule of the style that doesn't apply, and its index.
 #[derive(Drop)]
 struct Candidate<'a, A: Allocator> {
     idx: usize,
@@ -77,8 +77,9 @@ pub(crate) fn expand_rules<A: Allocator + Copy, G: FragmentGrammar, M: Fn(Span) 
 ) -> Result<ExpandResult<(TopSubtree<A>, MatchedArmIndex), A>, AllocError>
     requires checked { AreChecked (rules_seen rules.now) }
     requires may_mark { MayMark (M.pre marker) }
-    ensures { IfOk result (λ r. Expands (G.grammar grammar.now) (M.post marker) (rules_seen rules.now)
-        call_style input.now.1 call_site (top_group r.value.0) r.value.1 (errors_of r.err)) }
+    ensures { IfOk result (λ r. Expands (G.grammar grammar.now) (M.post marker)
+        (rules_seen rules.now) call_style input.now.1 call_site
+        (top_group r.value.0) r.value.1 (errors_of r.err)) }
 {
     let mut nearest: Option<Candidate<'_, A>> = None;
     for (idx, rule) in rules.iter().enumerate() {

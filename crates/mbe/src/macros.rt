@@ -43,7 +43,7 @@ impl<A: Allocator + Copy> DeclarativeMacro<A> {
     ghost use Rattle.mbe.specs.MacroViews.{macro_of};
     ghost use Rattle.mbe_semantics.specs.Expansion.ReadAs.{IsReadAs, IsReadAsMacro};
 
-    /// A macro without rules, which tells the error: that of a definition whose rules can't even be found.
+    /// A macro without rules, whose `err` is that error: for a definition whose rules can't even be found.
     pub fn from_err(alloc: A, err: ParseError<A>) -> DeclarativeMacro<A>
         ensures { macro_of result ≡ record { rules = []; err = Some (parse_error_of err) } }
     {
@@ -55,16 +55,16 @@ impl<A: Allocator + Copy> DeclarativeMacro<A> {
 
     /// Reads the rules of a `macro_rules!` definition, which `;` separates; a last one may be missing.
     ///
-    /// `tt` holds the rules alone, without the name and the braces around them. `ctx_edition` answers the edition of a
+    /// `tt` holds the rules alone, without the name and the braces around them. `ctx_edition` returns the edition of a
     /// context; it decides what `pat` and `expr` mean, by the context of the specifier's own span.
     ///
-    /// A rule is an optional `unsafe`, an optional `attr` or `derive` with a group behind it, the pattern's group, `=>`, and
-    /// the template's group. The answer keeps the rules before the first fault, and tells that fault by `err`. Where a
+    /// A rule is an optional `unsafe`, an optional `attr` or `derive` with a group after it, the pattern's group, `=>`, and
+    /// the template's group. The macro keeps the rules before the first fault, and its `err` is that fault. Where a
     /// pattern that was kept has a repetition without separator whose body can read nothing, `err` is
-    /// `RepetitionEmptyTokenTree` in place of any other. The only failure is want of memory.
+    /// `RepetitionEmptyTokenTree` instead of any other. `AllocError` if out of memory.
     ///
-    /// The grammar is that of the Rust Reference ("Macros By Example") as rust-analyzer reads it; that a stray token behind
-    /// a rule is always told, and that every repetition without separator that can read nothing is refused, is this
+    /// The grammar is that of the Rust Reference ("Macros By Example") as rust-analyzer reads it; that a stray token after
+    /// a rule is always reported, and that every repetition without separator that can read nothing is refused, is this
     /// project's choice.
     pub fn parse_macro_rules<E: Copy + Fn(SyntaxContext) -> Edition>(
         alloc: A,
@@ -87,8 +87,8 @@ impl<A: Allocator + Copy> DeclarativeMacro<A> {
     /// Reads a `macro` definition.
     ///
     /// Without `args`, `body` holds rules as those of `macro_rules!`, which `;` or `,` separates. With `args` there is one
-    /// rule, of style `FnLike`: its pattern are the trees of `args`, and its template those of `body`. Errors are told as by
-    /// `parse_macro_rules`, and the only failure is want of memory.
+    /// rule, of style `FnLike`: its pattern is the trees of `args`, and its template those of `body`. Errors are reported as
+    /// by `parse_macro_rules`. `AllocError` if out of memory.
     pub fn parse_macro2<E: Copy + Fn(SyntaxContext) -> Edition>(
         alloc: A,
         args: Option<&TopSubtree<A>>,
@@ -116,7 +116,7 @@ impl<A: Allocator + Copy> DeclarativeMacro<A> {
         }
     }
 
-    // The macro of these rules and the first fault. A refused pattern goes over it.
+    // The macro of these rules and the first fault. A refused pattern takes that fault's place.
     fn of_rules(
         alloc: A,
         rules: Vec<Rule<A>, A>,
@@ -139,11 +139,12 @@ impl<A: Allocator + Copy> DeclarativeMacro<A> {
 
     /// Expands a call by the first rule that is of the call's style, fits the whole argument and substitutes without fault.
     ///
-    /// It asks that no pattern was refused: `err` isn't `RepetitionEmptyTokenTree`, or there is no rule.
+    /// No pattern may have been refused: `err` isn't `RepetitionEmptyTokenTree`, or there is no rule.
     ///
     /// `tt` is the argument: the trees inside its group are matched. `grammar` says what the fragments of most kinds are.
-    /// `marker` answers the span that a token of the template is written with, once for each; the fragments that variables
-    /// took keep their spans. `call_site` is the span of the group around the expansion.
+    /// `marker` returns the span that a token of the template is written with, from the token's own; the fragments that
+    /// variables took keep their spans. `call_site` is the span of the group around the expansion, and of the integers that
+    /// `${count(..)}`, `${index(..)}` and `${len(..)}` write.
     ///
     /// The result is the expansion as a token tree, with the index of its rule among all rules of the definition, where it
     /// fits 32 bits. A rule fits where it reads the whole argument in exactly one way and meets no local ambiguity.
@@ -222,7 +223,7 @@ impl<A: Allocator + Copy> DeclarativeMacro<A> {
 impl<A: Allocator> DeclarativeMacro<A> {
     ghost use Rattle.mbe.specs.MacroViews.{macro_of};
 
-    /// The fault that the definition tells, if there is one: a refused pattern, or the first fault in reading order.
+    /// What is wrong with the definition, if anything is: that a pattern was refused, or the first fault in reading order.
     pub fn err(&self) -> Option<&ParseError<A>>
         ensures { option_map (λ e. parse_error_of e.now) result ≡ (macro_of self.now).err }
     {

@@ -1,5 +1,5 @@
 // Laws of the matcher that holds at most two beginnings of each dot. They run nothing.
-// A dot is where a beginning stands in its pattern. What a beginning can still read depends on its dot alone, so two of each dot tell whether
+// A dot is where a beginning is in its pattern. What a beginning can still read depends on its dot alone, so two of each dot tell whether
 // the argument has no reading, one, or several, and whether it is ambiguous.
 ghost use Rattle.mbe_bounds.specs.Bounded.Laws.{NumbersAreRight, BoundedLaw, FirstTwo, FewTurns, SameVerdict, BoundedRunsAreRight, BoundedReadings, BoundedReadingsHeld};
 ghost use Rattle.mbe_bounds.specs.Bounded.DeepExample.{DeepExample};
@@ -9,12 +9,12 @@ ghost use Rattle.mbe_bounds.specs.Reports.Backward.{BothWaysLaw, SwapLaw};
 ghost use Rattle.mbe_bounds.specs.Orders.OrderLaws.{AnyOrderLaw, InOrderLaw, TurnedLaw, TurnedFew, TurnedVerdict, TurnedRunsAreRight, TurnedReadings, TurnedReadingsHeld, DropsLaw};
 ghost use Rattle.mbe_bounds.specs.Orders.DropExample.{DropExample, DropFirst};
 
-/// The number of a beginning tells its dot among the beginnings of a pattern, and goes from 1 to the number of dots.
+/// The number of a beginning names its dot among the beginnings of a pattern, and goes from 1 to the number of dots.
 pub fn numbers_are_right()
     ensures { NumbersAreRight }
 {}
 
-/// At each place, what the bounded run holds are beginnings that end there, each once: two of each dot that has two, one of each that
+/// At each position, what the bounded run holds are beginnings that end there, each once: two of each dot that has two, one of each that
 /// has one, and so no more than two for each dot of the pattern.
 pub fn bounded_law()
     ensures { BoundedLaw }
@@ -25,17 +25,17 @@ pub fn first_two()
     ensures { FirstTwo }
 {}
 
-/// The stack takes at most six turns for each dot at each place, and one more. So matching is linear in the argument.
+/// The stack takes at most six turns for each dot at each position, and one more. So matching is linear in the argument.
 pub fn few_turns()
     ensures { FewTurns }
 {}
 
-/// The bounded run answers as the full one does.
+/// The bounded run returns what the full one does.
 pub fn same_verdict()
     ensures { SameVerdict }
 {}
 
-/// What the bounded run answers is the verdict.
+/// What the bounded run returns is the verdict.
 pub fn bounded_runs_are_right()
     ensures { BoundedRunsAreRight }
 {}
@@ -60,7 +60,7 @@ pub fn ends_are_kept()
     ensures { EndsAreKept }
 {}
 
-/// The first of each dot at the next place come from the last here, and the last from the first.
+/// The first of each dot at the next position come from the last here, and the last from the first.
 pub fn ends_law()
     ensures { EndsLaw }
 {}
@@ -75,18 +75,18 @@ pub fn both_ways()
     ensures { BothWaysLaw }
 {}
 
-/// From place to place these two lists change roles.
+/// From position to position these two lists change roles.
 pub fn swap_law()
     ensures { SwapLaw }
 {}
 
-/// In whatever order what comes to a place is looked at: what is held is right and little, and one reading held at the end is the
+/// In whatever order what comes to a position is looked at: what is held is right and little, and one reading held at the end is the
 /// only one.
 pub fn any_order_law()
     ensures { AnyOrderLaw }
 {}
 
-/// In each order the bounded run answers as the full one does.
+/// In each order the bounded run returns what the full one does.
 pub fn in_order_law()
     ensures { InOrderLaw }
 {}
@@ -101,12 +101,12 @@ pub fn turned_few()
     ensures { TurnedFew }
 {}
 
-/// In that order the answer is that of the full run.
+/// In that order the result is that of the full run.
 pub fn turned_verdict()
     ensures { TurnedVerdict }
 {}
 
-/// In that order the answer is the verdict.
+/// In that order the result is the verdict.
 pub fn turned_runs_are_right()
     ensures { TurnedRunsAreRight }
 {}
@@ -121,13 +121,13 @@ pub fn turned_readings_held()
     ensures { TurnedReadingsHeld }
 {}
 
-/// Where no three beginnings of one dot end at the places before, the bounded run comes with what the full run comes with, in its
+/// Where no three beginnings of one dot end at the positions before, the bounded run comes with what the full run comes with, in its
 /// order. So what a failed match reports is the same there.
 pub fn drops_law()
     ensures { DropsLaw }
 {}
 
-/// A match that fails at its first place, where three of one dot are held: the last that failed is another of the first two.
+/// A match that fails at its first position, where three of one dot are held: the last that failed is another of the first two.
 pub fn drop_example()
     ensures { DropExample }
 {}

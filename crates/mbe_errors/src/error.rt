@@ -11,13 +11,13 @@ use std::error::Error;
 use std::fmt;
 use std::rc::Rc;
 
-/// Why a definition, or the part of it behind the rules that were kept, wasn't read (as in rust-analyzer).
+/// Why a definition, or the part of it after the rules that were kept, wasn't read (as in rust-analyzer).
 #[derive(Drop)]
 #[derive_where(Debug, PartialEq, Eq)]
 pub enum ParseError<A: Allocator = Global> {
-    /// What stands there can't stand there; the text says what it is.
+    /// What is there isn't allowed there, or lacks its specifier; the text says which.
     UnexpectedToken(String<A>),
-    /// Something else should stand there; the text says what.
+    /// Something else is expected there; the text says what.
     Expected(String<A>),
     /// The suffix of a repetition isn't one.
     InvalidRepeat,
@@ -86,7 +86,7 @@ pub enum ReadError {
 impl ReadError {
     ghost use Rattle.mbe_errors.specs.declared.error.ReadError.TheVariants as variants;
 
-    // The fault, or want of memory.
+    /// The fault. `AllocError` if memory was the reason.
     pub fn fault(self) -> Result<Fault, AllocError>
         ensures { IfOk result (λ fault. self ≡ variants.Fault fault) }
     {
@@ -131,7 +131,7 @@ impl<T: Drop> From<AllocFailed<T>> for ReadError {
 }
 
 impl<A: Allocator + Copy> ParseError<A> {
-    /// An equal copy, or want of memory.
+    /// An equal copy. `AllocError` if out of memory.
     pub fn try_clone(&self, alloc: A) -> Result<ParseError<A>, AllocError>
         ensures { IfOk result (λ copy. parse_error_of copy ≡ parse_error_of self.now) }
     {
@@ -207,7 +207,7 @@ impl<A: Allocator> fmt::Display for ParseError<A> {
 }
 
 impl<A: Allocator + Copy> ExpandErrorKind<A> {
-    /// An equal copy, or out of memory.
+    /// An equal copy. `AllocError` if out of memory.
     pub fn try_clone(&self, alloc: A) -> Result<ExpandErrorKind<A>, AllocError>
         ensures { IfOk result (λ copy. kind_of copy ≡ kind_of self.now) }
     {

@@ -12,10 +12,11 @@ pub struct ValueResult<T, E> {
     pub err: Option<E>,
 }
 
-/// What an expansion answers: a value that may be of use beside an error too.
+/// What an expansion returns: a value that may be of use beside an error too.
 pub type ExpandResult<T, A = Global> = ValueResult<T, ExpandError<A>>;
 
-/// The place, among all rules of the definition, of the rule that expanded the call.
+/// The index, among all rules of the definition, of the rule that expanded the call; `None` without a rule, or if the
+/// index doesn't fit 32 bits.
 pub type MatchedArmIndex = Option<u32>;
 
 impl<T, E> ValueResult<T, E> {
@@ -59,7 +60,7 @@ impl<T, E> ValueResult<T, E> {
         }
     }
 
-    /// What `f` answers on the value, beside the same error.
+    /// What `f` returns of the value, beside the same error.
     pub fn map<U, F: FnOnce(T) -> U>(self, f: F) -> ValueResult<U, E>
         requires { F.pre f self.value }
         ensures value { F.post f self.value result.value }
@@ -72,7 +73,7 @@ impl<T, E> ValueResult<T, E> {
         }
     }
 
-    /// The same value, beside what `f` answers on the error if there is one.
+    /// The same value, beside what `f` returns of the error if there is one.
     pub fn map_err<D, F: FnOnce(E) -> D>(self, f: F) -> ValueResult<T, D>
     where
         F: Drop,
@@ -91,7 +92,7 @@ impl<T, E> ValueResult<T, E> {
         }
     }
 
-    /// The value by reference, beside a copy of the error; or out of memory.
+    /// The value by reference, beside a copy of the error. `AllocError` if the copy is out of memory.
     pub fn as_ref(&self) -> Result<ValueResult<&T, E>, AllocError>
     where
         E: Clone,
@@ -106,7 +107,7 @@ impl<T, E> ValueResult<T, E> {
         }
     }
 
-    /// An equal copy, or out of memory.
+    /// An equal copy. `AllocError` if out of memory.
     pub fn try_clone(&self) -> Result<ValueResult<T, E>, AllocError>
     where
         T: Clone + Drop,

@@ -175,7 +175,7 @@ pub fn invisible_example()
     ensures { InvisibleExample }
 {}
 
-/// Patterns in which a name stands twice.
+/// Patterns in which a name is bound twice.
 pub fn names_example()
     ensures { NamesExample }
 {}

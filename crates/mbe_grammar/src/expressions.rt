@@ -90,7 +90,7 @@ fn prefix<'t, A: Allocator>(tokens: TokenTreesView<'t, A>) -> Step<'t, A>
     )
 }
 
-// Prefixes, as many as stand.
+// Prefixes, as many as there are.
 #[tactic(auto, using(crate::proofs::Parts::turns))]
 fn prefixes<'t, A: Allocator>(tokens: TokenTreesView<'t, A>) -> Step<'t, A>
     ensures { seen result ≡ in_turn (takes Prefix) (trees tokens.entry) }
@@ -113,7 +113,7 @@ fn keyword_block<'t, A: Allocator>(tokens: TokenTreesView<'t, A>) -> Step<'t, A>
     group(word(tokens, &["const", "unsafe"])?, &[DelimiterKind::Brace])
 }
 
-// `break`, `return` or `continue`, and a lifetime behind it.
+// `break`, `return` or `continue`, and a lifetime after it.
 #[tactic(auto, using(crate::proofs::Parts::jump_word_is))]
 fn jump_word<'t, A: Allocator>(tokens: TokenTreesView<'t, A>) -> Step<'t, A>
     ensures { seen result ≡ takes JumpWord (trees tokens.entry) }
@@ -151,7 +151,7 @@ fn macro_argument<'t, A: Allocator>(tokens: TokenTreesView<'t, A>) -> Step<'t, A
     group(puncts(tokens, &['!'])?, &VISIBLE)
 }
 
-// A path, and the argument of a macro behind it.
+// A path, and the argument of a macro after it.
 #[tactic(auto, using(crate::proofs::Parts::path_expr_is))]
 fn path_expr<'t, A: Allocator>(tokens: TokenTreesView<'t, A>) -> Step<'t, A>
     ensures { seen result ≡ takes PathExpr (trees tokens.entry) }
@@ -190,7 +190,7 @@ fn primary<'t, A: Allocator>(tokens: TokenTreesView<'t, A>) -> Step<'t, A>
     )
 }
 
-// A name, and an angle behind it.
+// A name, and generic arguments after it.
 fn method<'t, A: Allocator>(tokens: TokenTreesView<'t, A>) -> Step<'t, A>
     ensures { seen result ≡ meaning takes method (trees tokens.entry) }
 {
@@ -222,7 +222,7 @@ fn post<'t, A: Allocator>(tokens: TokenTreesView<'t, A>) -> Step<'t, A>
     )
 }
 
-// What stands behind an operand.
+// What comes after an operand.
 #[tactic(auto, using(crate::proofs::Parts::turns))]
 fn posts<'t, A: Allocator>(tokens: TokenTreesView<'t, A>) -> Step<'t, A>
     ensures { seen result ≡ in_turn (takes Post) (trees tokens.entry) }
@@ -237,7 +237,7 @@ fn posts<'t, A: Allocator>(tokens: TokenTreesView<'t, A>) -> Step<'t, A>
     }
 }
 
-// An operand that is no jump with a value, and what stands behind it.
+// An operand that is no jump with a value, and what comes after it.
 fn operand<'t, A: Allocator>(tokens: TokenTreesView<'t, A>) -> Step<'t, A>
     ensures { seen result ≡ meaning takes plain_operand (trees tokens.entry) }
 {
@@ -249,7 +249,7 @@ fn operand<'t, A: Allocator>(tokens: TokenTreesView<'t, A>) -> Step<'t, A>
 enum Link<'t, A: Allocator> {
     // It ends before these trees.
     End(TokenTreesView<'t, A>),
-    // The rest of it is an expression, which has to stand in front of these trees.
+    // The rest of it is an expression, which these trees have to begin with.
     GoesOn(TokenTreesView<'t, A>),
 }
 

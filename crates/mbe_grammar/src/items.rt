@@ -37,7 +37,7 @@ fn assignment<'t, A: Allocator>(tokens: TokenTreesView<'t, A>) -> Step<'t, A>
     expr(puncts(tokens, &['='])?)
 }
 
-/// The content of an attribute: a path, and a group or a value behind it.
+/// The content of an attribute: a path, and a group or a value after it.
 #[tactic(auto, using(crate::proofs::Parts::meta_is))]
 pub fn meta<'t, A: Allocator>(tokens: TokenTreesView<'t, A>) -> Step<'t, A>
     ensures { seen result ≡ takes Meta (trees tokens.entry) }

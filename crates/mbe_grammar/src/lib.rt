@@ -7,7 +7,7 @@ ghost use Rattle.mbe_tt.specs.Views.View.{trees};
 ghost use Rattle.mbe_grammar.specs.SampleGrammar.{takes, part_of, answer};
 ghost use Rattle.mbe_grammar.specs.Steps.{seen};
 
-// The step of the first part that stands.
+// The step of the first part that is there.
 macro_rules! first_of {
     ($step:expr) => { $step };
     ($step:expr, $($more:expr),+) => {
@@ -39,7 +39,7 @@ use std::alloc::{AllocError, Allocator};
 #[derive(Clone, Copy, Debug, PartialEq, Eq)]
 pub struct SampleGrammar;
 
-// What is left behind a fragment.
+// What is left after a fragment.
 fn behind<'t, A: Allocator>(entry: PrefixEntryPoint, tokens: TokenTreesView<'t, A>) -> Step<'t, A>
     ensures { seen result ≡ takes (part_of entry) (trees tokens.entry) }
 {

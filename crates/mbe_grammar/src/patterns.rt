@@ -36,7 +36,7 @@ fn binding_mode<'t, A: Allocator>(tokens: TokenTreesView<'t, A>) -> Step<'t, A>
     first_of!(mut_reference(tokens), word(tokens, &["ref", "mut"]))
 }
 
-// A path, and the fields behind it.
+// A path, and the fields after it.
 #[tactic(auto, using(crate::proofs::Parts::path_pat_is))]
 fn path_pat<'t, A: Allocator>(tokens: TokenTreesView<'t, A>) -> Step<'t, A>
     ensures { seen result ≡ takes PathPat (trees tokens.entry) }
@@ -80,7 +80,7 @@ pub fn pat<'t, A: Allocator>(tokens: TokenTreesView<'t, A>) -> Step<'t, A>
     }
 }
 
-// `|`, behind which a pattern has to stand.
+// `|`, after which a pattern has to come.
 #[tactic(auto, using(crate::proofs::Parts::alternative_is))]
 fn alternative<'t, A: Allocator>(tokens: TokenTreesView<'t, A>) -> Step<'t, A>
     ensures { seen result ≡ takes Alternative (trees tokens.entry) }
@@ -88,7 +88,7 @@ fn alternative<'t, A: Allocator>(tokens: TokenTreesView<'t, A>) -> Step<'t, A>
     needed(pat(puncts(tokens, &['|'])?))
 }
 
-// Alternatives behind the first, as many as stand.
+// Alternatives after the first, as many as there are.
 #[tactic(auto, using(crate::proofs::Parts::turns))]
 fn alternatives<'t, A: Allocator>(tokens: TokenTreesView<'t, A>) -> Step<'t, A>
     ensures { seen result ≡ in_turn (takes Alternative) (trees tokens.entry) }

@@ -1,4 +1,4 @@
-// What a part of the grammar answers, and what is made of that.
+// What a part of the grammar returns, and what is made of that.
 ghost use Rattle.std.specs.Prelude.{◌≡◌, Ok};
 ghost use Rattle.mbe_tt.specs.Views.View.{trees};
 ghost use Rattle.mbe_grammar.specs.Rule.{or_else, has_to_stand, if_stands, if_absent};
@@ -10,16 +10,16 @@ use std::alloc::Allocator;
 /// Why a part of the grammar takes nothing.
 #[derive(Clone, Copy, Debug, PartialEq, Eq)]
 pub enum Miss {
-    /// It doesn't stand in front. Another alternative may.
+    /// It isn't there. Another alternative may be.
     Absent,
     /// The whole faults.
     Fault,
 }
 
-/// What is left behind a part of the grammar, or why it takes nothing.
+/// What is left after a part of the grammar, or why it takes nothing.
 pub type Step<'t, A> = Result<TokenTreesView<'t, A>, Miss>;
 
-/// The step of a part that needn't stand in front of the trees: it takes nothing where it doesn't.
+/// The step of a part that needn't be there: if it isn't, it takes nothing.
 pub fn maybe<'t, A: Allocator>(step: Step<'t, A>, tokens: TokenTreesView<'t, A>) -> Step<'t, A>
     ensures { seen result ≡ or_else (seen step.entry) (Ok (trees tokens.entry)) }
 {
@@ -29,7 +29,7 @@ pub fn maybe<'t, A: Allocator>(step: Step<'t, A>, tokens: TokenTreesView<'t, A>)
     }
 }
 
-/// The step of a part, or that of another where the part doesn't stand.
+/// The step of a part, or that of another if the part isn't there.
 pub fn either<'t, A: Allocator>(step: Step<'t, A>, other: Step<'t, A>) -> Step<'t, A>
     ensures { seen result ≡ or_else (seen step.entry) (seen other.entry) }
 {
@@ -39,7 +39,7 @@ pub fn either<'t, A: Allocator>(step: Step<'t, A>, other: Step<'t, A>) -> Step<'
     }
 }
 
-/// The step of a part that has to stand.
+/// The step of a part that has to be there.
 pub fn needed<'t, A: Allocator>(step: Step<'t, A>) -> Step<'t, A>
     ensures { seen result ≡ has_to_stand (seen step.entry) }
 {
@@ -49,7 +49,7 @@ pub fn needed<'t, A: Allocator>(step: Step<'t, A>) -> Step<'t, A>
     }
 }
 
-/// The step that takes nothing where a part stands in front of the trees.
+/// The step that takes nothing, if the trees begin with a part.
 pub fn ahead<'t, A: Allocator>(step: Step<'t, A>, tokens: TokenTreesView<'t, A>) -> Step<'t, A>
     ensures { seen result ≡ if_stands (seen step.entry) (trees tokens.entry) }
 {
@@ -59,7 +59,7 @@ pub fn ahead<'t, A: Allocator>(step: Step<'t, A>, tokens: TokenTreesView<'t, A>)
     }
 }
 
-/// The step that takes nothing where a part doesn't stand in front of the trees.
+/// The step that takes nothing, if the trees don't begin with a part.
 pub fn not_ahead<'t, A: Allocator>(step: Step<'t, A>, tokens: TokenTreesView<'t, A>) -> Step<'t, A>
     ensures { seen result ≡ if_absent (seen step.entry) (trees tokens.entry) }
 {

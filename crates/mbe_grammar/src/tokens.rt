@@ -15,7 +15,7 @@ use mbe_tt::tt::{
 };
 use std::alloc::Allocator;
 
-/// The trees behind a word: an identifier of one of those texts that isn't raw.
+/// The trees after a word: an identifier of one of those texts that isn't raw.
 pub fn word<'t, A: Allocator>(tokens: TokenTreesView<'t, A>, texts: &[&str]) -> Step<'t, A>
     ensures { seen result ≡ or_miss Miss.Absent
         (behind_one (is_one_of (map (λ t. t.now) texts.now)) (trees tokens.entry)) }
@@ -42,7 +42,7 @@ fn is_text_of(text: &str, texts: &[&str]) -> bool
     texts.iter().any(|t| text == *t)
 }
 
-/// The trees behind an identifier.
+/// The trees after an identifier.
 pub fn identifier<'t, A: Allocator>(tokens: TokenTreesView<'t, A>) -> Step<'t, A>
     ensures { seen result ≡ or_miss Miss.Absent (behind_one is_identifier (trees tokens.entry)) }
 {
@@ -53,7 +53,7 @@ pub fn identifier<'t, A: Allocator>(tokens: TokenTreesView<'t, A>) -> Step<'t, A
     }
 }
 
-/// The trees behind an identifier other than `_`.
+/// The trees after an identifier other than `_`.
 pub fn name<'t, A: Allocator>(tokens: TokenTreesView<'t, A>) -> Step<'t, A>
     ensures { seen result ≡ or_miss Miss.Absent (behind_one is_name (trees tokens.entry)) }
 {
@@ -64,7 +64,7 @@ pub fn name<'t, A: Allocator>(tokens: TokenTreesView<'t, A>) -> Step<'t, A>
     }
 }
 
-/// The trees behind a literal.
+/// The trees after a literal.
 pub fn literal<'t, A: Allocator>(tokens: TokenTreesView<'t, A>) -> Step<'t, A>
     ensures { seen result ≡ or_miss Miss.Absent (behind_one is_literal (trees tokens.entry)) }
 {
@@ -75,7 +75,7 @@ pub fn literal<'t, A: Allocator>(tokens: TokenTreesView<'t, A>) -> Step<'t, A>
     }
 }
 
-/// The trees behind a first one that is no punct.
+/// The trees after a first one that is no punct.
 pub fn no_punct<'t, A: Allocator>(tokens: TokenTreesView<'t, A>) -> Step<'t, A>
     ensures { seen result ≡ or_miss Miss.Absent (behind_one is_no_punct (trees tokens.entry)) }
 {
@@ -86,7 +86,7 @@ pub fn no_punct<'t, A: Allocator>(tokens: TokenTreesView<'t, A>) -> Step<'t, A>
     }
 }
 
-/// The trees behind a punct of that char, whatever is taken together with it.
+/// The trees after a punct of that char, whatever is taken together with it.
 pub fn sign<'t, A: Allocator>(tokens: TokenTreesView<'t, A>, char: char) -> Step<'t, A>
     ensures { seen result ≡ or_miss Miss.Absent (behind_one (is_punct char) (trees tokens.entry)) }
 {
@@ -97,7 +97,7 @@ pub fn sign<'t, A: Allocator>(tokens: TokenTreesView<'t, A>, char: char) -> Step
     }
 }
 
-/// The trees behind a group of one of those kinds.
+/// The trees after a group of one of those kinds.
 pub fn group<'t, A: Allocator>(
     tokens: TokenTreesView<'t, A>,
     kinds: &[DelimiterKind],
@@ -118,7 +118,7 @@ fn is_kind_of(kind: DelimiterKind, kinds: &[DelimiterKind]) -> bool
     kinds.iter().any(|k| kind == *k)
 }
 
-/// The trees behind the puncts that are taken together, where they have those chars.
+/// The trees after the puncts that are taken together, if they have those chars.
 pub fn puncts<'t, A: Allocator>(tokens: TokenTreesView<'t, A>, chars: &[char]) -> Step<'t, A>
     ensures { seen result ≡ or_miss Miss.Absent
         (behind_puncts (chars.now ∷ []) (trees tokens.entry)) }
@@ -142,7 +142,7 @@ fn have_chars(puncts: &[Punct], chars: &[char]) -> bool
     }
 }
 
-/// The trees behind the `>` that closes a `<` before them, with those that stand between.
+/// The trees after the `>` that closes a `<` before them, with those between.
 pub fn closing<'t, A: Allocator>(tokens: TokenTreesView<'t, A>) -> Step<'t, A>
     ensures { seen result ≡ or_miss Miss.Fault (behind_angle 0 false (trees tokens.entry)) }
 {

@@ -11,12 +11,12 @@ use crate::tokens::{closing, group, identifier, name, puncts, sign, word};
 use mbe_tt::tt::{DelimiterKind, TokenTreesView};
 use std::alloc::Allocator;
 
-/// Where an angle may stand in a path.
+/// Where generic arguments may be in a path.
 #[derive(Clone, Copy, Debug, PartialEq, Eq)]
 pub enum PathStyle {
-    /// Behind a name, or behind a name and `::`.
+    /// After a name, or after a name and `::`.
     Plain,
-    /// Behind a name and `::` alone, as `<` compares.
+    /// After a name and `::` alone, as `<` compares.
     Expression,
 }
 
@@ -44,7 +44,7 @@ pub fn turbofish<'t, A: Allocator>(tokens: TokenTreesView<'t, A>) -> Step<'t, A>
     angle(puncts(tokens, &[':', ':'])?)
 }
 
-// `::`, behind which a name or an angle has to stand.
+// `::`, after which a name or generic arguments have to come.
 #[tactic(auto, using(crate::proofs::Parts::colons_is))]
 fn colons<'t, A: Allocator>(tokens: TokenTreesView<'t, A>) -> Step<'t, A>
     ensures { seen result ≡ takes Colons (trees tokens.entry) }
@@ -53,7 +53,7 @@ fn colons<'t, A: Allocator>(tokens: TokenTreesView<'t, A>) -> Step<'t, A>
     needed(ahead(first_of!(name(rest), angle(rest)), rest))
 }
 
-// A name, and an angle behind it.
+// A name, and generic arguments after it.
 #[tactic(auto, using(crate::proofs::Parts::segment_is))]
 fn segment<'t, A: Allocator>(tokens: TokenTreesView<'t, A>, style: PathStyle) -> Step<'t, A>
     ensures { seen result ≡ takes (Segment style) (trees tokens.entry) }
@@ -68,7 +68,7 @@ fn segment<'t, A: Allocator>(tokens: TokenTreesView<'t, A>, style: PathStyle) ->
     }
 }
 
-// A segment behind others.
+// A segment after others.
 #[tactic(auto, using(crate::proofs::Parts::next_segment_is))]
 fn next_segment<'t, A: Allocator>(tokens: TokenTreesView<'t, A>, style: PathStyle) -> Step<'t, A>
     ensures { seen result ≡ takes (NextSegment style) (trees tokens.entry) }
@@ -76,7 +76,7 @@ fn next_segment<'t, A: Allocator>(tokens: TokenTreesView<'t, A>, style: PathStyl
     segment(colons(tokens)?, style)
 }
 
-// Segments behind others, as many as stand.
+// Segments after others, as many as there are.
 #[tactic(auto, using(crate::proofs::Parts::turns))]
 fn next_segments<'t, A: Allocator>(tokens: TokenTreesView<'t, A>, style: PathStyle) -> Step<'t, A>
     ensures { seen result ≡ in_turn (takes (NextSegment style)) (trees tokens.entry) }
@@ -124,7 +124,7 @@ fn pointer<'t, A: Allocator>(tokens: TokenTreesView<'t, A>) -> Step<'t, A>
     word(sign(tokens, '*')?, &["const", "mut"])
 }
 
-// Indirections, as many as stand.
+// Indirections, as many as there are.
 #[tactic(auto, using(crate::proofs::Parts::turns))]
 fn indirections<'t, A: Allocator>(tokens: TokenTreesView<'t, A>) -> Step<'t, A>
     ensures { seen result ≡ in_turn (takes Indirection) (trees tokens.entry) }

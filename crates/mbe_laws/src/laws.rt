@@ -6,7 +6,7 @@ pub fn one_reading()
     ensures { OneReading }
 {}
 
-/// A reading of the whole argument is a beginning that ends at its last place.
+/// A reading of the whole argument is a beginning that ends at the argument's end.
 pub fn readings_end()
     ensures { ReadingsEnd }
 {}
@@ -16,12 +16,12 @@ pub fn beginnings_end_inside()
     ensures { BeginningsEndInside }
 {}
 
-/// A pattern without a repetition is ambiguous at no place.
+/// A pattern without a repetition is ambiguous at no position.
 pub fn never_ambiguous()
     ensures { NeverAmbiguous }
 {}
 
-/// A pattern of words is ambiguous at no place.
+/// A pattern of words is ambiguous at no position.
 pub fn words_never_ambiguous()
     ensures { WordsNeverAmbiguous }
 {}
@@ -41,12 +41,13 @@ pub fn one_account()
     ensures { OneAccount }
 {}
 
-/// A pattern that is one repetition has one reading at most, and is ambiguous at no place.
+/// A pattern that is one repetition, of a body without repetitions, is ambiguous at no position; and it has one reading at
+/// most if the body always takes a token.
 pub fn lists_fit_once()
     ensures { ListsFitOnce }
 {}
 
-/// What is written at the end of a list comes behind what the list gives.
+/// What is written at the end of a list comes after what the list gives.
 pub fn entries_follow()
     ensures { EntriesFollow }
 {}
@@ -61,7 +62,7 @@ pub fn one_verdict()
     ensures { OneVerdict }
 {}
 
-/// Each checked pattern has a verdict on each argument, and one only.
+/// Each checked pattern has a verdict on each argument, by a lawful grammar, and one only.
 pub fn has_one_verdict()
     ensures { HasOneVerdict }
 {}
@@ -71,12 +72,13 @@ pub fn lawful_inputs()
     ensures { LawfulInputs }
 {}
 
-/// At each place that is come to, what is held are the beginnings that end there, each once.
+/// Of a checked pattern and a lawful grammar: at each position that a run comes to, what is held are the beginnings that end
+/// there, each once, and none is missing.
 pub fn matcher_law()
     ensures { MatcherLaw }
 {}
 
-/// What a run over the places answers is the verdict.
+/// Of a checked pattern and a lawful grammar: what a run over the positions returns is the verdict.
 pub fn runs_are_right()
     ensures { RunsAreRight }
 {}

@@ -1,4 +1,5 @@
-// Laws that speak of the answers of a closure: the marker of spans, and the edition of a context. They run nothing.
+// Laws that speak of the results of a closure: the marker of spans, and the edition of a context. They have no effect when
+// they run.
 ghost use Rattle.std.specs.Prelude.{[]};
 ghost use Rattle.mbe_tt.specs.declared.tt.DelimiterKind.TheVariants.{Invisible};
 ghost use Rattle.mbe_tt.specs.Trees.Tree.{group, none};
@@ -18,7 +19,7 @@ pub fn nothing_written<F: Fn(Span) -> Span + Copy + Drop>(marker: F, call_site: 
     let _ = call_site;
 }
 
-/// A repetition `*` writes all its rounds.
+/// A repetition `*` that has fewer than 65536 rounds, none of which faults, doesn't fault, and writes them all.
 pub fn writes_all_rounds<F: Fn(Span) -> Span + Copy + Drop>(marker: F)
     ensures { WritesAllRounds (F.post marker) }
 {
@@ -60,15 +61,15 @@ pub fn written_in_place<F: Fn(Span) -> Span + Copy + Drop>(marker: F)
     let _ = marker;
 }
 
-/// Each span of an expansion is an answer of the marker on a span of the template, the call site, a span of a separator or
-/// an unbound name in the template, or a span of the argument.
+/// Each span of an expansion is one that the marker returns for a span of the template, the call site, a span of a separator
+/// or an unbound name in the template, or a span of the argument.
 pub fn spans_have_sources<F: Fn(Span) -> Span + Copy + Drop>(marker: F)
     ensures { SpansHaveSources (F.post marker) }
 {
     let _ = marker;
 }
 
-/// With a marker that answers each span in one way, an expansion without an error is one tree, by one rule.
+/// With a marker that returns one span for each, an expansion without an error is one tree, by one rule.
 pub fn one_expansion<F: Fn(Span) -> Span + Copy + Drop>(marker: F)
     ensures { OneExpansion (F.post marker) }
 {

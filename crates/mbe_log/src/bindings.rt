@@ -1,4 +1,5 @@
-// What the names of a match are bound to.
+// What the names of a match are bound to. A binding is what a template writes for `$x`: the trees that the variable took,
+// or, if `$x` is in a repetition, a list with a binding for each round, to the depth of the repetitions around it.
 ghost use Rattle.std.specs.Prelude.{◌≡◌, ◌-◌, ◌^◌, min, [], length, map, OnOk, OnErr, option_map};
 ghost use Rattle.indexmap.specs.IndexMap.{index_map_len};
 ghost use Rattle.mbe_semantics.specs.Bindings.Environment.{add_value, binding_total, set_value, value_of};
@@ -15,15 +16,17 @@ use std::alloc::{AllocError, Allocator, Global};
 use std::fmt;
 use std::hash::{BuildHasherDefault, FoldHasher};
 
-/// What a name is bound to.
+/// What a name is bound to: what its variable took; of a variable in a repetition, a list.
 #[derive_where(PartialEq, Eq)]
 #[derive(Drop)]
 pub enum Binding<'a, A: Allocator = Global> {
+    /// What the variable took.
     Fragment(Fragment<'a, A>),
     /// One for each round of a repetition.
     Nested(Vec<Binding<'a, A>, A>),
     /// The repetition had no rounds.
     Empty,
+    /// The match failed, as nothing that the variable takes was there. A template writes a default of this kind.
     Missing(MetaVarKind),
 }
 

@@ -39,7 +39,7 @@ impl<T, A: Allocator> Linked<T, A> {
         }
     }
 
-    /// What stands in another list for a part of this one. A part that has only the link passes that on.
+    /// The link that another list begins with to have a part of this one. A part that has only the link gives that link.
     pub(crate) fn link_to(&self, part: Part) -> Option<Part>
         ensures { result ≡ link_to part self.now }
     {
@@ -87,6 +87,10 @@ impl<T: Drop, A: Allocator> Linked<T, A> {
         if self.own.len() >= usize::MAX - 1 {
             return Err(AllocError);
         }
+        // Most lists of a match keep one entry: the first takes room for itself alone.
+        if self.own.is_empty() {
+            self.own.reserve_exact(1)?;
+        }
         self.own.push(entry)?;
         Ok(())
     }
@@ -130,8 +134,8 @@ pub(crate) fn extend<T: Drop, A: Allocator + Copy>(
     })
 }
 
-/// Where the entries of a part stand, where each link is replaced by what it stands for. A place is a list and an index
-/// among its own entries.
+/// Where the entries of a part are, if each link is replaced by the entries that it stands for. A place is a list and an
+/// index among its own entries.
 pub(crate) fn places<T, A: Allocator + Copy>(
     alloc: A,
     lists: &[Linked<T, A>],

@@ -16,17 +16,23 @@ pub enum TokensOrigin {
     Ast,
 }
 
-/// What a variable took.
+/// What a variable took, by how a template writes it.
 #[derive_where(Debug, PartialEq, Eq)]
 #[derive(Drop)]
 pub enum Fragment<'a, A: Allocator = Global> {
+    /// No tokens. Nothing is written.
     Empty,
+    /// Trees that are written as they are but for a last punct, which is `Alone`; `Raw` ones without one invisible group
+    /// around them.
     Tokens {
         tree: TokenTreesView<'a, A>,
         origin: TokensOrigin,
     },
+    /// An expression, which is written in parentheses unless it needs none.
     Expr(TokenTreesView<'a, A>),
+    /// A path, which is written with `::` before its generic arguments.
     Path(TokenTreesView<'a, A>),
+    /// A group that no buffer of the caller's holds. It is written as it is.
     TokensOwned(TopSubtree<A>),
 }
 

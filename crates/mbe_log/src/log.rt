@@ -1,6 +1,10 @@
 // The log of bindings that the positions of a match share. Its structure follows rust-analyzer's `BindingsBuilder`; that a
-// finished round and a handle carry a length as links do, and that a list without an entry of its own passes its link on,
+// finished round and a handle have a length as links do, and that a list without an entry of its own hands its link on,
 // are the project's own.
+//
+// What it is for: while an argument is matched, several positions of the pattern may be possible at once, and each has bound
+// some names. Copying all bindings for each position would cost their number at every token. So all positions write into
+// one log, each knows how much of it is its own, and only the position that the match ends with is built into `Bindings`.
 //
 // A log holds lists of commands and lists of finished rounds. A handle names a list of each sort, and how many of its first
 // entries are the handle's. A push goes on in place where the handle's entries end the list, and else begins a list that
@@ -222,7 +226,7 @@ impl<'a, A: Allocator + Copy> BindingLog<'a, A> {
         Ok(())
     }
 
-    /// The name stands in a repetition without rounds. `AllocError` if out of memory.
+    /// The name is in a repetition that had no rounds. `AllocError` if out of memory.
     pub fn push_empty(&mut self, handle: &mut Handle, name: &Symbol<A>) -> Result<(), AllocError>
         requires { IsLive self.old handle.old }
         ensures ok { OnOk result (IsChanged self.old self.new handle.old handle.new
@@ -234,7 +238,7 @@ impl<'a, A: Allocator + Copy> BindingLog<'a, A> {
         Ok(())
     }
 
-    /// Nothing fits the name. `AllocError` if out of memory.
+    /// Nothing fits the name, so the match failed there. `AllocError` if out of memory.
     pub fn push_missing(
         &mut self,
         handle: &mut Handle,

@@ -23,8 +23,8 @@ impl Mark {
     }
 }
 
-// A mark for each dot, by its number less one. A mark counts at its own place alone, so that nothing is cleared from place to
-// place.
+// A mark for each dot, by its number less one. A mark counts at its own place alone, so that
+// nothing is cleared from place to place.
 #[derive(Drop)]
 pub(crate) struct Counts<A: Allocator = Global> {
     marks: Vec<Mark, A>,

@@ -53,7 +53,8 @@ pub(crate) fn eat_fragment<'a, A: Allocator, G: FragmentGrammar>(
     kind: Option<MetaVarKind>,
     src: &mut TtIter<'a, A>,
 ) -> Result<Option<TokenTreesView<'a, A>>, AllocError>
-    ensures { IfOk result (λ taken. IsTaken taken (takes (G.grammar grammar.now) kind src.old) src.new) }
+    ensures { IfOk result (λ taken. IsTaken taken
+        (takes (G.grammar grammar.now) kind src.old) src.new) }
 {
     let Some(kind) = kind else {
         return Ok(None);
@@ -83,7 +84,8 @@ fn eat_good_front<'a, A: Allocator, G: FragmentGrammar>(
     entry_point: PrefixEntryPoint,
     src: &mut TtIter<'a, A>,
 ) -> Result<Option<TokenTreesView<'a, A>>, AllocError>
-    ensures { IfOk result (λ taken. IsTaken taken (good_front (G.grammar grammar.now) entry_point src.old) src.new) }
+    ensures { IfOk result (λ taken. IsTaken taken
+        (good_front (G.grammar grammar.now) entry_point src.old) src.new) }
 {
     let counted = eat_front(grammar, entry_point, src)?;
     if counted.is_good {
@@ -103,7 +105,8 @@ pub(crate) fn begins_refused<A: Allocator>(kind: ExprKind, src: &TtIter<'_, A>) 
     }
 }
 
-// `let`, raw or not. The older expressions don't begin with `_` or `const` either, unless they are raw.
+// `let`, raw or not. The older expressions don't begin with `_` or `const` either, unless they are
+// raw.
 fn is_refused_word<A: Allocator>(kind: ExprKind, ident: &Ident<A>) -> bool
     ensures { result ≡ is_refused_word kind ident.now.is_raw ident.now.sym }
 {

@@ -18,12 +18,15 @@ use std::alloc::{AllocError, Allocator, Global};
 
 /// Passes the fragment that a grammar finds in front of the iterator (as in rust-analyzer).
 ///
-/// The grammar is asked about all that remains, and counts flat tokens: leaves, openings and closings. The value is the
-/// shortest list of whole trees at the front that holds as many, borrowed from the argument, and the iterator is left
-/// behind it. Where the grammar faults, or the count ends inside a group, there is an error beside it: `BindingError` with
-/// "expected " and the entry point's name, at the first span of what remained, or at `delim_span.close` where nothing did.
+/// The grammar is asked about all that remains, and counts flat tokens: leaves, openings and
+/// closings. The value is the shortest list of whole trees at the front that holds as many,
+/// borrowed from the argument, and the iterator is left after it. Where the grammar faults, or the
+/// count ends inside a group, there is an error beside it: `BindingError` with "expected " and the
+/// entry point's name, at the first span of what remained, or at `delim_span.close` where nothing
+/// did.
 ///
-/// The only failure is want of memory, the grammar's or that of the error's text. The iterator hasn't moved then.
+/// The only failure is `AllocError`: the grammar or the error's text is out of memory. The iterator
+/// hasn't moved then.
 pub fn expect_fragment<'t, A: Allocator + Copy, G: FragmentGrammar>(
     alloc: A,
     grammar: &G,
@@ -31,9 +34,12 @@ pub fn expect_fragment<'t, A: Allocator + Copy, G: FragmentGrammar>(
     entry_point: PrefixEntryPoint,
     delim_span: DelimSpan,
 ) -> Result<ExpandResult<TokenTreesView<'t, A>, A>, AllocError>
-    ensures value { IfOk result (λ r. trees r.value ≡ (front (G.grammar grammar.now) entry_point tt_iter.old).front) }
-    ensures rest { OnOk result (tt_iter.new ≡ (front (G.grammar grammar.now) entry_point tt_iter.old).back) }
-    ensures error { IfOk result (λ r. errors_of r.err ≡ front_error (G.grammar grammar.now) entry_point tt_iter.old delim_span) }
+    ensures value { IfOk result (λ r. trees r.value
+        ≡ (front (G.grammar grammar.now) entry_point tt_iter.old).front) }
+    ensures rest { OnOk result (tt_iter.new
+        ≡ (front (G.grammar grammar.now) entry_point tt_iter.old).back) }
+    ensures error { IfOk result (λ r. errors_of r.err
+        ≡ front_error (G.grammar grammar.now) entry_point tt_iter.old delim_span) }
     ensures unmoved { OnErr result (tt_iter.new ≡ tt_iter.old) }
 {
     let span = tt_iter.next_span().unwrap_or(delim_span.close);
@@ -65,9 +71,12 @@ pub fn eat_front<'t, A: Allocator, G: FragmentGrammar>(
     entry_point: PrefixEntryPoint,
     tt_iter: &mut TtIter<'t, A>,
 ) -> Result<Counted<'t, A>, AllocError>
-    ensures whole { IfOk result (λ r. trees r.whole ≡ (front (G.grammar grammar.now) entry_point tt_iter.old).front) }
-    ensures good { IfOk result (λ r. r.is_good ≡ is_good (G.grammar grammar.now) entry_point tt_iter.old) }
-    ensures rest { OnOk result (tt_iter.new ≡ (front (G.grammar grammar.now) entry_point tt_iter.old).back) }
+    ensures whole { IfOk result (λ r. trees r.whole
+        ≡ (front (G.grammar grammar.now) entry_point tt_iter.old).front) }
+    ensures good { IfOk result (λ r. r.is_good
+        ≡ is_good (G.grammar grammar.now) entry_point tt_iter.old) }
+    ensures rest { OnOk result (tt_iter.new
+        ≡ (front (G.grammar grammar.now) entry_point tt_iter.old).back) }
     ensures unmoved { OnErr result (tt_iter.new ≡ tt_iter.old) }
 {
     let remaining = tt_iter.remaining();
@@ -82,7 +91,7 @@ pub fn eat_front<'t, A: Allocator, G: FragmentGrammar>(
     })
 }
 
-// A cursor behind that many flat tokens.
+// A cursor after that many flat tokens.
 fn cursor_at<'t, A: Allocator>(view: TokenTreesView<'t, A>, count: usize) -> Cursor<'t, A>
     requires { count ≤ flat_len (trees view) }
     ensures { result ≡ (trees view.entry, count) }
@@ -97,7 +106,10 @@ fn cursor_at<'t, A: Allocator>(view: TokenTreesView<'t, A>, count: usize) -> Cur
 // Goes to the end of the tree that the cursor stands in, if it stands in a group.
 fn leave_groups<A: Allocator>(cursor: &mut Cursor<'_, A>)
     requires { place_of cursor.old ≤ flat_len (viewed cursor.old) }
-    ensures { cursor.new ≡ (viewed cursor.old, flat_len (cut_flat (place_of cursor.old) (viewed cursor.old)).front) }
+    ensures { cursor.new ≡ (
+      viewed cursor.old,
+      flat_len (cut_flat (place_of cursor.old) (viewed cursor.old)).front,
+    ) }
 {
     'groups: while !cursor.is_root() {
         cursor.bump_or_end();
@@ -109,7 +121,11 @@ fn expected<A: Allocator + Copy>(
     entry_point: PrefixEntryPoint,
     span: Span,
 ) -> Result<ExpandError<A>, AllocError>
-    ensures { IfOk result (λ e. error_of e ≡ record { span = span; kind = binding_error (codes "expected " ++ entry_name entry_point) }) }
+    ensures { IfOk result (λ e. error_of e
+        ≡ record {
+          span = span;
+          kind = binding_error (codes "expected " ++ entry_name entry_point);
+        }) }
 {
     let name = name_of(entry_point);
     let text = format!(in alloc; "expected {name}")?;

@@ -107,7 +107,8 @@ fn eat_separator<A: Allocator>(separator: &Separator<A>, src: &mut TtIter<'_, A>
 
 // A literal of the text, or `true` or `false` where that is the text.
 fn eat_literal_separator<A: Allocator>(literal: &Literal<A>, src: &mut TtIter<'_, A>) -> bool
-    ensures { HasPassed result (literal_separator_front literal.now.text_and_suffix src.old) src.new }
+    ensures { HasPassed result
+        (literal_separator_front literal.now.text_and_suffix src.old) src.new }
 {
     match src.expect_literal() {
         Ok(leaf) => has_text(leaf, &literal.text_and_suffix),
@@ -147,14 +148,16 @@ pub(crate) fn opens<A: Allocator>(kind: DelimiterKind, src: &TtIter<'_, A>) -> b
     }
 }
 
-// The width of what stands between a round and the next one of a repetition, if a next one may begin here.
+// The width of what stands between a round and the next one of a repetition, if a next one may
+// begin here.
 pub(crate) fn between_width<A: Allocator>(
     kind: RepeatKind,
     separator: Option<&Separator<A>>,
     src: &TtIter<'_, A>,
 ) -> Option<usize>
     ensures { result ≡ if_again kind
-        (length_of (between_front (option_map (λ s. separator_seen s.now) separator.entry) src.now)) }
+        (length_of (between_front
+        (option_map (λ s. separator_seen s.now) separator.entry) src.now)) }
 {
     if kind == RepeatKind::ZeroOrOne {
         return None;

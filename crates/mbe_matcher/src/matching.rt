@@ -1,30 +1,36 @@
 // Matches an argument against a pattern, all readings at once.
 //
-// A pattern has a dot before its first op and after each op, and so have the bodies of its groups and repetitions. A position
-// is a dot, the open items around it, and what was bound on the way. All positions go over the argument together, from place
-// to place (a place is how many flat tokens were passed). At a place the stack of positions is emptied, the last first. Before
-// a repetition, a position goes past it or into its body; at a round's end it goes out and, without a separator, into one more
-// round: these are pushed. Before a token, an opening, a closing, a separator or a variable that fits it waits, with the number
-// of flat tokens that it passes. What doesn't fit is dropped. Then:
+// A pattern has a dot before its first op and after each op, and so have the bodies of its groups
+// and repetitions. A position is a dot, the open items around it, and what was bound on the way.
+// All positions go over the argument together, from place to place (a place is how many flat tokens
+// were passed). At a place the stack of positions is emptied, the last first. Before a repetition,
+// a position goes past it or into its body; at a round's end it goes out and, without a separator,
+// into one more round: these are pushed. Before a token, an opening, a closing, a separator or a
+// variable that fits it waits, with the number of flat tokens that it passes. What doesn't fit is
+// dropped. Then:
 //
-// - two wait, and pass different numbers, or one of them a fragment: the place is ambiguous, and the match stops;
+// - two wait, and pass different numbers, or one of them a fragment: the place is ambiguous, and
+//   the match stops;
 // - none waits: the match is stuck;
-// - else all pass the same number, and are the stack at the next place, in the order in which they began to wait.
+// - else all pass the same number, and are the stack at the next place, in the order in which they
+//   began to wait.
 //
-// At the argument's end, the positions at the pattern's end are its readings: one, several, or none.
+// At the argument's end, the positions at the pattern's end are its readings: one, several, or
+// none.
 //
-// What a position can still do depends on its dot alone, so at each place two of a dot are looked at and any more are dropped:
-// one shows that the dot is reached, a second that there are two readings. So the work at a place is bounded by the number of
-// dots, and a match is linear in the argument. A dot's number says how many dots follow it up to the pattern's end, itself
-// counted: in `$($x:ident),* ;` that is 5 before the repetition, 4 before `$x`, 3 after it, 2 before `;` and 1 at the end. On
-// `p, q ;`:
+// What a position can still do depends on its dot alone, so at each place two of a dot are looked
+// at and any more are dropped: one shows that the dot is reached, a second that there are two
+// readings. So the work at a place is bounded by the number of dots, and a match is linear in the
+// argument. A dot's number says how many dots follow it up to the pattern's end, itself counted: in
+// `$($x:ident),* ;` that is 5 before the repetition, 4 before `$x`, 3 after it, 2 before `;` and 1
+// at the end. On `p, q ;`:
 //
 //     place   in front   looked at   waiting
 //         0          p     5  4  2   4, over `p` by fragment
 //         1          ,        3  2   3, over the separator
 //         2          q           4   4, over `q` by fragment
 //         3          ;        3  2   2, over `;`
-//         4                      1   none: it is at the pattern's end, and so is the argument: one reading
+//         4                      1   none: the pattern ends, and so does the argument: one reading
 ghost use Rattle.std.specs.Prelude.{◌≡◌, ◌↔◌, IsNone, IsSome, IfOk, OnOk};
 ghost use Rattle.mbe_tt.specs.Views.View.{trees};
 ghost use Rattle.mbe_semantics.specs.Syntax.Nullable.{Checked};
@@ -51,7 +57,8 @@ use std::alloc::{AllocError, Allocator, Global};
 pub enum Verdict {
     OneReading,
     ManyReadings,
-    /// At the place, a position goes on by fragment or over another number of tokens than another one.
+    /// At the place, a position goes on by fragment or over another number of tokens than another
+    /// one.
     Ambiguous(usize),
     /// No position goes on from the place.
     Stuck(usize),
@@ -63,15 +70,16 @@ pub struct Match<A: Allocator = Global> {
     pub verdict: Verdict,
     /// How many trees of the current group are left where it stopped.
     pub unmatched: usize,
-    /// What the only reading binds. Without one, what the last position had bound that failed; or, where none failed at the
-    /// last such place, the first one at the pattern's end.
+    /// What the only reading binds. Without one, what the last position had bound that failed; or,
+    /// where none failed at the last such place, the first one at the pattern's end.
     pub bindings: Handle,
-    /// Why there is no only reading: the first error that a position noted, or that of the place where the match stopped.
+    /// Why there is no only reading: the first error that a position noted, or that of the place
+    /// where the match stopped.
     pub err: Option<ExpandError<A>>,
 }
 
-/// Matches the whole argument against a checked pattern. What its readings bind is written into the log. `around` are the spans
-/// of the argument's delimiters. `AllocError` if out of memory.
+/// Matches the whole argument against a checked pattern. What its readings bind is written into the
+/// log. `around` are the spans of the argument's delimiters. `AllocError` if out of memory.
 pub fn match_argument<'a, A: Allocator + Copy, G: FragmentGrammar>(
     alloc: A,
     grammar: &G,
@@ -86,9 +94,11 @@ pub fn match_argument<'a, A: Allocator + Copy, G: FragmentGrammar>(
     ensures unmatched { IfOk result (λ m. m.unmatched
         ≡ unmatched (trees argument.entry) (verdict_seen m.verdict)) }
     ensures binds { IfOk result (λ m. verdict_seen m.verdict ≡ one_reading
-        → Binds (G.grammar grammar.now) (template_of pattern.now) (trees argument.entry) log.new m.bindings) }
+        → Binds (G.grammar grammar.now) (template_of pattern.now) (trees argument.entry)
+        log.new m.bindings) }
     ensures live { IfOk result (λ m. IsLive log.new m.bindings) }
-    ensures err { IfOk result (λ m. IsNone (errors_of m.err) ↔ (verdict_seen m.verdict ≡ one_reading)) }
+    ensures err { IfOk result (λ m. IsNone (errors_of m.err)
+        ↔ (verdict_seen m.verdict ≡ one_reading)) }
     ensures kept { OnOk result (IsKept log.old log.new) }
 {
     let length = argument.flat_len();

@@ -44,7 +44,8 @@ pub(crate) struct Reached {
 
 // Whether one goes on by fragment, or over another number of flat tokens than that.
 fn differs<A: Allocator>(width: usize, by_fragment: bool, other: &Waiting<'_, A>) -> bool
-    ensures { result ≡ (by_fragment || is_some other.now.beyond || not (nat_eq width other.now.width)) }
+    ensures { result ≡ (by_fragment || is_some other.now.beyond
+        || not (nat_eq width other.now.width)) }
 {
     by_fragment || other.beyond.is_some() || width != other.width
 }
@@ -76,7 +77,8 @@ fn after_step<'a, A: Allocator>(
     step: &Waiting<'a, A>,
 ) -> Result<Source<'a, A>, AllocError>
     requires fits { source.place + step.now.width ≤ flat_len (trees source.whole) }
-    requires left { IsLeft (rest_at (trees source.whole) source.place) step.now.width step.now.beyond }
+    requires left { IsLeft (rest_at (trees source.whole) source.place)
+        step.now.width step.now.beyond }
     ensures whole { IfOk result (λ s. s.whole ≡ source.entry.whole) }
     ensures place { IfOk result (λ s. s.place ≡ source.entry.place + step.now.width) }
 {
@@ -91,7 +93,8 @@ fn come<'a, A: Allocator>(
     waiting: Vec<Waiting<'a, A>, A>,
     todo: &mut Vec<Position<'a, A>, A>,
 ) -> Result<(), AllocError>
-    ensures { OnOk result (todo.new.items ≡ todo.old.items ++ map position_after waiting.entry.items) }
+    ensures { OnOk result (todo.new.items
+        ≡ todo.old.items ++ map position_after waiting.entry.items) }
 {
     for position in waiting {
         todo.push(position.after)?;

@@ -1,5 +1,5 @@
-// What a match that doesn't fit reports (as in rust-analyzer): the first error that a position noted, and what the last one
-// had bound.
+// What a match that doesn't fit reports (as in rust-analyzer): the first error that a position
+// noted, and what the last one had bound.
 ghost use Rattle.std.specs.Prelude.{◌≡◌, [], ◌++◌, IfOk, IfSome, OnOk, Some, option_map};
 ghost use Rattle.std.specs.String.{string_bytes};
 ghost use Rattle.mbe_tt.specs.declared.span.Span.{Span};
@@ -119,7 +119,8 @@ fn variable_error<A: Allocator + Copy, G: FragmentGrammar>(
     here: &TtIter<'_, A>,
     around: DelimSpan,
 ) -> Result<Option<ExpandError<A>>, AllocError>
-    ensures { IfOk result (λ e. errors_of e ≡ failing_variable (G.grammar grammar.now) (Some kind) here.now around) }
+    ensures { IfOk result (λ e. errors_of e
+        ≡ failing_variable (G.grammar grammar.now) (Some kind) here.now around) }
 {
     if is_refused(kind, here) {
         let error = noted(alloc, ExpandErrorKind::NoMatchingRule, here, around)?;
@@ -143,7 +144,8 @@ pub(crate) fn failing<A: Allocator + Copy, G: FragmentGrammar>(
     here: &TtIter<'_, A>,
     around: DelimSpan,
 ) -> Result<Option<ExpandError<A>>, AllocError>
-    ensures { IfOk result (λ e. errors_of e ≡ failing (G.grammar grammar.now) (op_of op.now) here.now around) }
+    ensures { IfOk result (λ e. errors_of e
+        ≡ failing (G.grammar grammar.now) (op_of op.now) here.now around) }
 {
     match op {
         Op::Literal(literal) => {
@@ -167,7 +169,8 @@ pub(crate) fn failing<A: Allocator + Copy, G: FragmentGrammar>(
     }
 }
 
-// Binds a variable of the kind that takes nothing: to a front that the grammar faults, or it is missing.
+// Binds a variable of the kind that takes nothing: to a front that the grammar faults, or it is
+// missing.
 pub(crate) fn bind_failing<'a, A: Allocator + Copy, G: FragmentGrammar>(
     grammar: &G,
     log: &mut BindingLog<'a, A>,
@@ -219,7 +222,8 @@ pub(crate) struct Report<'a, A: Allocator = Global> {
     failed_here: bool,
 }
 
-// Whether an error is noted where the op doesn't fit. At a group and at a variable of an unknown kind none is.
+// Whether an error is noted where the op doesn't fit. At a group and at a variable of an unknown
+// kind none is.
 fn is_noted<A: Allocator>(op: &Op<A>) -> bool {
     matches!(
         op,
@@ -275,7 +279,8 @@ impl<'a, A: Allocator> Report<'a, A> {
 
     // All positions of the place were looked at. Those at the pattern's end have bound this.
     pub(crate) fn after_place(&mut self, ends: &[Handle])
-        ensures { (log : Log) → Every (IsLive log) ends.now → IsReport log self.old → IsReport log self.new }
+        ensures { (log : Log) → Every (IsLive log) ends.now → IsReport log self.old
+            → IsReport log self.new }
     {
         if let Some(end) = ends.first()
             && !self.failed_here

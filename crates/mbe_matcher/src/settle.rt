@@ -40,8 +40,9 @@ fn push_some<T: Drop, A: Allocator>(
     Ok(())
 }
 
-// Follows all steps of the positions over no flat token, the last position first. At most two positions of a dot are followed:
-// those after them lead to no other verdict, and to no third reading of two.
+// Follows all steps of the positions over no flat token, the last position first. At most two
+// positions of a dot are followed: those after them lead to no other verdict, and to no third
+// reading of two.
 pub(crate) fn settle<'a, A: Allocator + Copy, G: FragmentGrammar>(
     alloc: A,
     grammar: &G,
@@ -52,14 +53,14 @@ pub(crate) fn settle<'a, A: Allocator + Copy, G: FragmentGrammar>(
     report: &mut Report<'a, A>,
     todo: &mut Vec<Position<'a, A>, A>,
 ) -> Result<Settled<'a, A>, AllocError>
-    requires stack { IsStack (input_of (G.grammar grammar.now) (trees source.now.whole)) source.now.place
-        (length counts.old.marks.items) log.old outers.old.items todo.old.items }
+    requires stack { IsStack (input_of (G.grammar grammar.now) (trees source.now.whole))
+        source.now.place (length counts.old.marks.items) log.old outers.old.items todo.old.items }
     requires blank { AreBlankFrom counts.old.marks.items source.now.place }
-    ensures settled { (s : IsStack (input_of (G.grammar grammar.now) (trees source.now.whole)) source.now.place
-        (length counts.old.marks.items) log.old outers.old.items todo.old.items)
-        → IfOk result (λ r. AreSettled (input_of (G.grammar grammar.now) (trees source.now.whole)) source.now.place
-        s.pattern s.spots log.new outers.new.items (rest_at (trees source.now.whole) source.now.place)
-        r.waiting.items r.ends.items) }
+    ensures settled { (s : IsStack (input_of (G.grammar grammar.now) (trees source.now.whole))
+        source.now.place (length counts.old.marks.items) log.old outers.old.items todo.old.items)
+        → IfOk result (λ r. AreSettled (input_of (G.grammar grammar.now) (trees source.now.whole))
+        source.now.place s.pattern s.spots log.new outers.new.items
+        (rest_at (trees source.now.whole) source.now.place) r.waiting.items r.ends.items) }
     ensures few { IfOk result (λ r. length r.waiting.items + length r.ends.items
         ≤ length counts.old.marks.items + length counts.old.marks.items) }
     ensures kept { OnOk result (Keeps log.old log.new outers.old.items outers.new.items) }

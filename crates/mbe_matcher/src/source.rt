@@ -10,8 +10,8 @@ use mbe_tt::iter::{TtElement, TtIter};
 use mbe_tt::view::TokenTreesView;
 use std::alloc::{AllocError, Allocator, Global};
 
-// An argument and a place in it, a number of flat tokens. It holds what is left of each group around the place, the innermost
-// last.
+// An argument and a place in it, a number of flat tokens. It holds what is left of each group
+// around the place, the innermost last.
 #[derive(Drop)]
 pub(crate) struct Source<'a, A: Allocator = Global> {
     pub(crate) whole: TokenTreesView<'a, A>,
@@ -120,7 +120,8 @@ impl<'a, A: Allocator> Source<'a, A> {
         Ok(source)
     }
 
-    // The place after whole trees of so many flat tokens, in one step. `beyond` is what is left behind them.
+    // The place after whole trees of so many flat tokens, in one step. `beyond` is what is left
+    // after them.
     pub(crate) fn jumped(self, width: usize, beyond: TtIter<'a, A>) -> Source<'a, A>
         requires fits { self.place + width ≤ flat_len (trees self.whole) }
         requires beyond { IsBehind (rest_at (trees self.whole) self.place) width beyond }

@@ -93,7 +93,8 @@ fn no_steps<'a, A: Allocator>() -> Steps<'a, A>
     }
 }
 
-// Over that many flat tokens, or none. `beyond` is what is left after them, where they are a fragment.
+// Over that many flat tokens, or none. `beyond` is what is left after them, where they are a
+// fragment.
 fn over<'a, A: Allocator>(
     width: usize,
     beyond: Option<TtIter<'a, A>>,
@@ -155,7 +156,8 @@ fn group_steps<'a, A: Allocator + Copy>(
     rest: &'a [Op<A>],
     position: Position<'a, A>,
 ) -> Result<Steps<'a, A>, AllocError>
-    requires dot { ops_of position.dot.now ≡ op_then (group delimiter (ops_of body.now)) (ops_of rest.now) }
+    requires dot { ops_of position.dot.now
+        ≡ op_then (group delimiter (ops_of body.now)) (ops_of rest.now) }
     requires number { 1 ≤ position.number }
     ensures { GivesStepsOver source.now outers.old.items outers.new.items position.entry result }
 {
@@ -188,9 +190,11 @@ fn variable_steps<'a, A: Allocator + Copy, G: FragmentGrammar>(
     position: Position<'a, A>,
 ) -> Result<Steps<'a, A>, AllocError>
     requires live { IsLive log.old position.handle }
-    requires dot { (span : Span) × (ops_of position.dot.now ≡ op_then (variable name.now kind span) (ops_of rest.now)) }
+    requires dot { (span : Span) × (ops_of position.dot.now
+        ≡ op_then (variable name.now kind span) (ops_of rest.now)) }
     requires number { 1 ≤ position.number }
-    ensures { GivesStepsIn (G.grammar grammar.now) source.now log.old log.new position.entry result }
+    ensures { GivesStepsIn (G.grammar grammar.now) source.now
+        log.old log.new position.entry result }
 {
     let mut beyond = source.here();
     let Some(tree) = eat_fragment(grammar, kind, &mut beyond)? else {
@@ -221,7 +225,8 @@ fn repetition_steps<'a, A: Allocator + Copy>(
     requires dot { ops_of position.dot.now ≡ op_then (repetition (ops_of body.now)
         (option_map (λ s. separator_seen s.now) separator) kind) (ops_of rest.now) }
     requires number { 1 + dots (ops_of body.now) ≤ position.number }
-    ensures { GivesStepsFor log.old log.new outers.old.items outers.new.items position.entry result }
+    ensures { GivesStepsFor log.old log.new
+        outers.old.items outers.new.items position.entry result }
 {
     let second = skipped(log, body, kind, rest, &position)?;
     let handle = log.alloc()?;
@@ -262,7 +267,8 @@ fn skipped<'a, A: Allocator + Copy>(
 ) -> Result<Option<Position<'a, A>>, AllocError>
     requires live { IsLive log.old before.now.handle }
     requires number { 1 + dots (ops_of body.now) ≤ before.now.number }
-    ensures { IfOk result (IsSkip kind (ops_of body.now) (ops_of rest.now) log.old log.new before.now) }
+    ensures { IfOk result (IsSkip kind (ops_of body.now) (ops_of rest.now)
+        log.old log.new before.now) }
 {
     if let RepeatKind::OneOrMore = kind {
         return Ok(None);
@@ -328,7 +334,8 @@ fn round_steps<'a, A: Allocator + Copy>(
     requires outside { IsLive log.old rounds.now.outside }
     requires dot { ops_of position.dot.now ≡ no_ops }
     requires number { 1 ≤ position.number }
-    ensures { GivesRoundSteps source.now log.old log.new outer.now rounds.now position.entry result }
+    ensures { GivesRoundSteps source.now log.old log.new
+        outer.now rounds.now position.entry result }
 {
     let mut outside = again(&rounds.outside);
     log.push_nested(&mut outside, &position.handle)?;

@@ -12,7 +12,7 @@ use mbe_tt::symbol::Symbol;
 use mbe_tt::tt::{Delimiter, Ident, Literal, Punct};
 use std::alloc::{Allocator, Global};
 
-/// What stands between two rounds of a repetition.
+/// What is written between two rounds of a repetition.
 #[derive(Drop)]
 #[derive_where(Debug)]
 pub enum Separator<A: Allocator = Global> {
@@ -76,7 +76,7 @@ pub fn same_chars(one: &[Punct], two: &[Punct]) -> bool
 pub enum ConcatMetaVarExprElem<A: Allocator = Global> {
     /// Without a `$`, so it stands for itself.
     Ident(Ident<A>),
-    /// Behind a `$`, so it is a variable.
+    /// After a `$`, so it is a variable.
     Var(Ident<A>),
     Literal(Literal<A>),
 }

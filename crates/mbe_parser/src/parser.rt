@@ -36,7 +36,8 @@ pub enum Mode {
     Template,
 }
 
-/// Reads all the trees. `edition` is asked what `pat` and `expr` mean, by the context of the specifier's own span.
+/// Reads all the trees. `edition` is asked what `pat` and `expr` mean, by the context of the
+/// specifier's own span.
 #[cycle(template)]
 pub fn parse_template<A: Allocator + Copy, E: Copy + Fn(SyntaxContext) -> Edition>(
     alloc: A,
@@ -45,8 +46,10 @@ pub fn parse_template<A: Allocator + Copy, E: Copy + Fn(SyntaxContext) -> Editio
     mode: Mode,
 ) -> Result<MetaTemplate<A>, ReadError>
     requires { MayAsk (E.pre edition) }
-    ensures ops { IfOk result (λ t. Template (E.post edition) (mode_of mode) src.entry (template_of t)) }
-    ensures fault { IfErr result (λ e. Stops e (λ f. TemplateFault (E.post edition) (mode_of mode) f src.entry)) }
+    ensures ops { IfOk result (λ t. Template (E.post edition) (mode_of mode)
+        src.entry (template_of t)) }
+    ensures fault { IfErr result (λ e. Stops e (λ f. TemplateFault (E.post edition)
+        (mode_of mode) f src.entry)) }
 {
     let mut src = src;
     let mut ops = Vec::new(alloc);
@@ -69,8 +72,10 @@ fn next_op<A: Allocator + Copy, E: Copy + Fn(SyntaxContext) -> Edition>(
 ) -> Result<Op<A>, ReadError>
     requires answers { MayAsk (E.pre edition) }
     requires peeked { first src.old ≡ Some (element_tree peeked) }
-    ensures op { IfOk result (λ o. ReadsOp (E.post edition) (mode_of mode) src.old (op_of o) src.new) }
-    ensures fault { IfErr result (λ e. Stops e (λ f. TemplateFault (E.post edition) (mode_of mode) f src.old)) }
+    ensures op { IfOk result (λ o. ReadsOp (E.post edition) (mode_of mode)
+        src.old (op_of o) src.new) }
+    ensures fault { IfErr result (λ e. Stops e (λ f. TemplateFault (E.post edition)
+        (mode_of mode) f src.old)) }
     ensures shorter { OnOk result (flat_len src.new < flat_len src.old) }
 {
     match peeked {
@@ -103,7 +108,7 @@ fn next_op<A: Allocator + Copy, E: Copy + Fn(SyntaxContext) -> Edition>(
     }
 }
 
-// What stands behind a `$`.
+// What stands after a `$`.
 #[cycle(template)]
 #[tactic(auto, using(mbe_ops::proofs::OpViews::views))]
 fn behind_dollar<A: Allocator + Copy, E: Copy + Fn(SyntaxContext) -> Edition>(
@@ -114,8 +119,10 @@ fn behind_dollar<A: Allocator + Copy, E: Copy + Fn(SyntaxContext) -> Edition>(
     mode: Mode,
 ) -> Result<Op<A>, ReadError>
     requires { MayAsk (E.pre edition) }
-    ensures op { IfOk result (λ o. AtHead (E.post edition) (mode_of mode) (grammar.behind_dollar (mode_of mode) dollar src.old) (op_of o) src.new) }
-    ensures fault { IfErr result (λ e. Stops e (FaultAtHead (E.post edition) (mode_of mode) (grammar.behind_dollar (mode_of mode) dollar src.old))) }
+    ensures op { IfOk result (λ o. AtHead (E.post edition) (mode_of mode)
+        (grammar.behind_dollar (mode_of mode) dollar src.old) (op_of o) src.new) }
+    ensures fault { IfErr result (λ e. Stops e (FaultAtHead (E.post edition) (mode_of mode)
+        (grammar.behind_dollar (mode_of mode) dollar src.old))) }
     ensures no_longer { OnOk result (flat_len src.new ≤ flat_len src.old) }
 {
     let Some(second) = src.next() else {
@@ -144,8 +151,10 @@ fn repetition<A: Allocator + Copy, E: Copy + Fn(SyntaxContext) -> Edition>(
     mode: Mode,
 ) -> Result<Op<A>, ReadError>
     requires { MayAsk (E.pre edition) }
-    ensures op { IfOk result (λ o. AtHead (E.post edition) (mode_of mode) (grammar.repetition_at body.entry (suffix_of src.old)) (op_of o) src.new) }
-    ensures fault { IfErr result (λ e. Stops e (FaultAtHead (E.post edition) (mode_of mode) (grammar.repetition_at body.entry (suffix_of src.old)))) }
+    ensures op { IfOk result (λ o. AtHead (E.post edition) (mode_of mode)
+        (grammar.repetition_at body.entry (suffix_of src.old)) (op_of o) src.new) }
+    ensures fault { IfErr result (λ e. Stops e (FaultAtHead (E.post edition) (mode_of mode)
+        (grammar.repetition_at body.entry (suffix_of src.old)))) }
     ensures no_longer { OnOk result (flat_len src.new ≤ flat_len src.old) }
 {
     let (separator, kind) = parse_repeat(src)?;
@@ -172,7 +181,8 @@ fn expression_behind_dollar<A: Allocator + Copy>(
     mode: Mode,
 ) -> Result<Op<A>, ReadError>
     ensures op { IfOk result (λ o. (rest : Forest)
-        → grammar.expression_at (mode_of mode) rest (grammar.expression_of inside.entry) ≡ Ok (grammar.one (op_of o) rest)) }
+        → grammar.expression_at (mode_of mode) rest (grammar.expression_of inside.entry)
+        ≡ Ok (grammar.one (op_of o) rest)) }
     ensures fault { IfErr result (λ e. Stops e (λ f. (rest : Forest)
         → grammar.expression_at (mode_of mode) rest (grammar.expression_of inside.entry) ≡ Err f)) }
 {
@@ -192,9 +202,12 @@ fn leaf_behind_dollar<A: Allocator + Copy, E: Copy + Fn(SyntaxContext) -> Editio
 ) -> Result<Op<A>, ReadError>
     requires { MayAsk (E.pre edition) }
     ensures op { IfOk result (λ o. (dollar : SpecPunct)
-        → AtHead (E.post edition) (mode_of mode) (grammar.behind_dollar (mode_of mode) dollar (leaf_before (leaf_of leaf.now) src.old)) (op_of o) src.new) }
+        → AtHead (E.post edition) (mode_of mode)
+        (grammar.behind_dollar (mode_of mode) dollar (leaf_before (leaf_of leaf.now) src.old))
+        (op_of o) src.new) }
     ensures fault { IfErr result (λ e. Stops e (λ f. (dollar : SpecPunct)
-        → grammar.behind_dollar (mode_of mode) dollar (leaf_before (leaf_of leaf.now) src.old) ≡ Err f)) }
+        → grammar.behind_dollar (mode_of mode) dollar (leaf_before (leaf_of leaf.now) src.old)
+        ≡ Err f)) }
     ensures no_longer { flat_len src.new ≤ flat_len src.old }
 {
     match leaf {
@@ -224,7 +237,8 @@ fn leaf_behind_dollar<A: Allocator + Copy, E: Copy + Fn(SyntaxContext) -> Editio
 
 // The identifier that `$crate` stands for.
 fn dollar_crate<A: Allocator + Copy>(alloc: A, span: Span) -> Result<Ident<A>, AllocError>
-    ensures { IfOk result (λ i. ident_of i ≡ record { sym = codes "$crate"; is_raw = No; span = span }) }
+    ensures { IfOk result (λ i. ident_of i
+        ≡ record { sym = codes "$crate"; is_raw = No; span = span }) }
 {
     Ok(Ident {
         sym: Symbol::intern(alloc, "$crate")?,
@@ -242,8 +256,10 @@ fn variable<A: Allocator, E: Copy + Fn(SyntaxContext) -> Edition>(
     mode: Mode,
 ) -> Result<Op<A>, ReadError>
     requires { MayAsk (E.pre edition) }
-    ensures op { IfOk result (λ o. AtHead (E.post edition) (mode_of mode) (grammar.variable_at (mode_of mode) name.now id src.old) (op_of o) src.new) }
-    ensures fault { IfErr result (λ e. Stops e (λ f. grammar.variable_at (mode_of mode) name.now id src.old ≡ Err f)) }
+    ensures op { IfOk result (λ o. AtHead (E.post edition) (mode_of mode)
+        (grammar.variable_at (mode_of mode) name.now id src.old) (op_of o) src.new) }
+    ensures fault { IfErr result (λ e. Stops e (λ f.
+        grammar.variable_at (mode_of mode) name.now id src.old ≡ Err f)) }
     ensures no_longer { flat_len src.new ≤ flat_len src.old }
 {
     let kind = eat_fragment_kind(edition, src, mode)?;
@@ -262,7 +278,9 @@ fn eat_fragment_kind<A: Allocator, E: Copy + Fn(SyntaxContext) -> Edition>(
 ) -> Result<Option<MetaVarKind>, Fault>
     requires { MayAsk (E.pre edition) }
     ensures kind { IfOk result (λ kind. (name : Name) (span : SpecSpan)
-        → AtHead (E.post edition) (mode_of mode) (grammar.variable_at (mode_of mode) name span src.old) (variable_op name kind span) src.new) }
+        → AtHead (E.post edition) (mode_of mode)
+        (grammar.variable_at (mode_of mode) name span src.old)
+        (variable_op name kind span) src.new) }
     ensures fault { IfErr result (λ e. (name : Name) (span : SpecSpan)
         → grammar.variable_at (mode_of mode) name span src.old ≡ Err (fault_of e)) }
     ensures no_longer { flat_len src.new ≤ flat_len src.old }
@@ -345,8 +363,10 @@ fn parse_repeat<A: Allocator>(
     src: &mut TtIter<'_, A>,
 ) -> Result<(Option<Separator<A>>, RepeatKind), ReadError>
     ensures suffix { IfOk result (λ s. (body : Forest)
-        → grammar.repetition_at body (suffix_of src.old) ≡ Ok (opens_repetition (option_map separator_seen s.0) s.1 body src.new)) }
-    ensures fault { IfErr result (λ e. Stops e (λ f. (body : Forest) → grammar.repetition_at body (suffix_of src.old) ≡ Err f)) }
+        → grammar.repetition_at body (suffix_of src.old)
+        ≡ Ok (opens_repetition (option_map separator_seen s.0) s.1 body src.new)) }
+    ensures fault { IfErr result (λ e. Stops e (λ f. (body : Forest)
+        → grammar.repetition_at body (suffix_of src.old) ≡ Err f)) }
     ensures no_longer { OnOk result (flat_len src.new ≤ flat_len src.old) }
 {
     let mut separator = None;
@@ -362,9 +382,11 @@ fn parse_repeat<A: Allocator>(
 // Whether the leaf ends a suffix, and how often the repetition may then go round.
 fn repeat_kind<A: Allocator>(leaf: &Leaf<A>) -> Option<RepeatKind>
     ensures ends { IfSome result (λ kind. (rest : Forest)
-        → suffix_of (leaf_before (leaf_of leaf.now) rest) ≡ Some (record { leaves = []; repeat = kind; back = rest })) }
+        → suffix_of (leaf_before (leaf_of leaf.now) rest)
+        ≡ Some (record { leaves = []; repeat = kind; back = rest })) }
     ensures goes_on { IfNone result ((rest : Forest)
-        → suffix_of (leaf_before (leaf_of leaf.now) rest) ≡ option_map (leaf_in_suffix (leaf_of leaf.now)) (suffix_of rest)) }
+        → suffix_of (leaf_before (leaf_of leaf.now) rest)
+        ≡ option_map (leaf_in_suffix (leaf_of leaf.now)) (suffix_of rest)) }
 {
     match leaf {
         Leaf::Punct(punct) => match punct.char {
@@ -382,8 +404,10 @@ fn with_leaf<A: Allocator>(
     separator: Option<Separator<A>>,
     leaf: &Leaf<A>,
 ) -> Result<Separator<A>, ReadError>
-    ensures separator { IfOk result (λ s. IsExtended (option_map separator_seen separator) (leaf_of leaf.now) (separator_seen s)) }
-    ensures fault { IfErr result (λ e. Stops e (λ f. (f ≡ invalid_repeat) × NeverExtended (option_map separator_seen separator) (leaf_of leaf.now))) }
+    ensures separator { IfOk result (λ s. IsExtended (option_map separator_seen separator)
+        (leaf_of leaf.now) (separator_seen s)) }
+    ensures fault { IfErr result (λ e. Stops e (λ f. (f ≡ invalid_repeat)
+        × NeverExtended (option_map separator_seen separator) (leaf_of leaf.now))) }
 {
     match leaf {
         Leaf::Literal(literal) => match separator {
@@ -395,13 +419,15 @@ fn with_leaf<A: Allocator>(
     }
 }
 
-// An identifier separates alone, or as a lifetime behind a quote.
+// An identifier separates alone, or as a lifetime after a quote.
 fn with_ident<A: Allocator>(
     separator: Option<Separator<A>>,
     ident: &Ident<A>,
 ) -> Result<Separator<A>, ReadError>
-    ensures separator { IfOk result (λ s. IsExtended (option_map separator_seen separator) (ident_leaf (ident_of ident.now)) (separator_seen s)) }
-    ensures fault { IfErr result (λ e. Stops e (λ f. (f ≡ invalid_repeat) × NeverExtended (option_map separator_seen separator) (ident_leaf (ident_of ident.now)))) }
+    ensures separator { IfOk result (λ s. IsExtended (option_map separator_seen separator)
+        (ident_leaf (ident_of ident.now)) (separator_seen s)) }
+    ensures fault { IfErr result (λ e. Stops e (λ f. (f ≡ invalid_repeat)
+        × NeverExtended (option_map separator_seen separator) (ident_leaf (ident_of ident.now)))) }
 {
     match separator {
         None => Ok(Separator::Ident(ident.clone()?)),
@@ -418,8 +444,10 @@ fn with_punct<A: Allocator>(
     separator: Option<Separator<A>>,
     punct: Punct,
 ) -> Result<Separator<A>, ReadError>
-    ensures separator { IfOk result (λ s. IsExtended (option_map separator_seen separator) (punct_leaf punct) (separator_seen s)) }
-    ensures fault { IfErr result (λ e. Stops e (λ f. (f ≡ invalid_repeat) × NeverExtended (option_map separator_seen separator) (punct_leaf punct))) }
+    ensures separator { IfOk result (λ s. IsExtended (option_map separator_seen separator)
+        (punct_leaf punct) (separator_seen s)) }
+    ensures fault { IfErr result (λ e. Stops e (λ f. (f ≡ invalid_repeat)
+        × NeverExtended (option_map separator_seen separator) (punct_leaf punct))) }
 {
     let mut puncts = match separator {
         None => ArrayVec::new(),

@@ -35,7 +35,8 @@ pub fn parse_rules<A: Allocator + Copy, E: Copy + Fn(SyntaxContext) -> Edition>(
     missing: Fault,
 ) -> Result<(Vec<Rule<A>, A>, Option<Fault>), AllocError>
     requires { MayAsk (E.pre ctx_edition) }
-    ensures { IfOk result (λ r. AreRules (E.post ctx_edition) separators.now (fault_of missing) src.entry (rules_seen r.0.items) r.1) }
+    ensures { IfOk result (λ r. AreRules (E.post ctx_edition) separators.now (fault_of missing)
+        src.entry (rules_seen r.0.items) r.1) }
 {
     let mut src = src;
     let mut rules = Vec::new(alloc);
@@ -65,7 +66,8 @@ pub fn parse_one_rule<A: Allocator + Copy, E: Copy + Fn(SyntaxContext) -> Editio
     body: TtIter<'_, A>,
 ) -> Result<(Vec<Rule<A>, A>, Option<Fault>), AllocError>
     requires { MayAsk (E.pre ctx_edition) }
-    ensures { IfOk result (λ r. IsOneRule (E.post ctx_edition) args.entry body.entry (rules_seen r.0.items) r.1) }
+    ensures { IfOk result (λ r. IsOneRule (E.post ctx_edition) args.entry body.entry
+        (rules_seen r.0.items) r.1) }
 {
     let mut rules = Vec::new(alloc);
     match Rule::of_parts(alloc, ctx_edition, MacroCallStyle::FnLike, args, body) {
@@ -85,8 +87,10 @@ impl<A: Allocator + Copy> Rule<A> {
         src: &mut TtIter<'_, A>,
     ) -> Result<Rule<A>, ReadError>
         requires { MayAsk (E.pre ctx_edition) }
-        ensures rule { IfOk result (λ r. ReadsRule (E.post ctx_edition) src.old (rule_of r) src.new) }
-        ensures fault { IfErr result (λ e. Stops e (λ f. RuleFault (E.post ctx_edition) f src.old)) }
+        ensures rule { IfOk result (λ r. ReadsRule (E.post ctx_edition)
+            src.old (rule_of r) src.new) }
+        ensures fault { IfErr result (λ e. Stops e (λ f. RuleFault (E.post ctx_edition)
+            f src.old)) }
         ensures shorter { OnOk result (flat_len src.new < flat_len src.old) }
     {
         let style = parse_rule_style(src)?;
@@ -104,9 +108,19 @@ impl<A: Allocator + Copy> Rule<A> {
     ) -> Result<Rule<A>, ReadError>
         requires { MayAsk (E.pre ctx_edition) }
         ensures rule { IfOk result (λ r. (back : Forest)
-            → AreParts (E.post ctx_edition) (record { style = style; reads = pattern.entry; writes = template.entry; back = back }) (rule_of r)) }
+            → AreParts (E.post ctx_edition) (record {
+              style = style;
+              reads = pattern.entry;
+              writes = template.entry;
+              back = back;
+            }) (rule_of r)) }
         ensures fault { IfErr result (λ e. Stops e (λ f. (back : Forest)
-            → PartsFault (E.post ctx_edition) (record { style = style; reads = pattern.entry; writes = template.entry; back = back }) f)) }
+            → PartsFault (E.post ctx_edition) (record {
+              style = style;
+              reads = pattern.entry;
+              writes = template.entry;
+              back = back;
+            }) f)) }
     {
         let lhs = parse_template(alloc, ctx_edition, pattern, Mode::Pattern)?;
         let rhs = parse_template(alloc, ctx_edition, template, Mode::Template)?;
@@ -114,7 +128,8 @@ impl<A: Allocator + Copy> Rule<A> {
     }
 }
 
-// The call that a rule is for: `attr` or `derive` and a group, or else a function-like call. An `unsafe` may stand before.
+// The call that a rule is for: `attr` or `derive` and a group, or else a function-like call. An
+// `unsafe` may stand before.
 fn parse_rule_style<A: Allocator>(src: &mut TtIter<'_, A>) -> Result<MacroCallStyle, Fault>
     ensures { IsStyled result (outline_at src.old) src.new }
 {

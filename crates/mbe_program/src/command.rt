@@ -11,10 +11,12 @@ use crate::reports::Report;
 use crate::settings::Options;
 use std::alloc::Global;
 use std::io::BufWriter;
+use std::rt::{Env, Files};
 use std::{env, fs, io};
 
-/// Runs on the words after the program's name, and returns the exit status.
-pub fn run_command(rt: &HostRuntime) -> u8 {
+/// Runs on the words after the program's name, and returns the exit status. The runtime is a parameter, here and below, so
+/// that tests can run the program with words, files and output of their own.
+pub fn run_command<R: Env + Files + Print + Eprint + AllocGlobal>(rt: &R) -> u8 {
     match words(rt) {
         Ok(words) => started(rt, words.as_slice()),
         Err(error) => match error.kind() {
@@ -25,7 +27,7 @@ pub fn run_command(rt: &HostRuntime) -> u8 {
 }
 
 // The words after the program's name.
-fn words(rt: &HostRuntime) -> io::Result<Vec<String>> {
+fn words<R: Env + AllocGlobal>(rt: &R) -> io::Result<Vec<String>> {
     let mut words = Vec::new(rt.alloc());
     for word in env::args(rt)?.skip(1) {
         words.push(word)?;
@@ -55,8 +57,8 @@ fn unread<'a>(error: &io::Error, name: &'a str) -> Report<'a, Global>
 }
 
 // The text of that file of the run (0 is the definition, 1 the argument), or the line on why there is none.
-fn read<'a>(
-    rt: &HostRuntime,
+fn read<'a, R: Files + AllocGlobal>(
+    rt: &R,
     options: &Options<'a>,
     file: u32,
 ) -> Result<String, Report<'a, Global>>
@@ -75,19 +77,19 @@ fn read<'a>(
 }
 
 // Writes the line to standard error, where it can, and returns the exit status that goes with it.
-fn say(rt: &HostRuntime, report: Report<'_, Global>) -> u8 {
+fn say(rt: &impl Eprint, report: Report<'_, Global>) -> u8 {
     let _ = eprintln!(rt; "{report}");
     report.status()
 }
 
 // The outcome of a run on both files that writes to standard output, or the line on why there is none.
-fn run_files<'a>(
-    rt: &HostRuntime,
+fn run_files<'a, R: Files + Print + AllocGlobal>(
+    rt: &R,
     options: &Options<'a>,
 ) -> Result<Outcome<Global>, Report<'a, Global>> {
     let def = read(rt, options, 0)?;
     let arg = read(rt, options, 1)?;
-    let Ok(mut out) = BufWriter::new(rt.alloc(), rt.stdout()) else {
+    let Ok(mut out) = BufWriter::new(rt.alloc(), io::writer(rt)) else {
         return Err(Report::OutOfMemory);
     };
     Ok(run(
@@ -102,7 +104,7 @@ fn run_files<'a>(
 
 /// Runs on the files that the words after the program's name ask for, writes to standard output, says on standard error why
 /// nothing is written, and returns the exit status.
-pub fn started(rt: &HostRuntime, words: &[String]) -> u8 {
+pub fn started<R: Files + Print + Eprint + AllocGlobal>(rt: &R, words: &[String]) -> u8 {
     let Some(options) = options(words) else {
         return say(rt, Report::Usage);
     };

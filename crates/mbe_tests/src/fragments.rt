@@ -317,7 +317,10 @@ fn fronts_that_end_in_a_group_do_not_fit(rt: HostRuntime) -> Result<(), Fail> {
         count: 4,
         fault: true,
     };
-    assert_texts(&rt, rt.alloc(), &faulty, texts, None)
+    assert_texts(&rt, rt.alloc(), &faulty, texts, None)?;
+    let expression = ("($e:expr) => {}", "(a) b");
+    assert_texts(&rt, rt.alloc(), &taking(2), expression, None)?;
+    assert_texts(&rt, rt.alloc(), &faulty, expression, None)
 }
 
 const BY_FRAGMENTS: &str = "($t:ty) => {A}; ($t:ty $x:ident) => {B $t}; ($x:tt) => {C}";

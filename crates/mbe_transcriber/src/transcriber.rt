@@ -1,4 +1,8 @@
 // Writes a template with its variables replaced.
+//
+// A repetition counts its rounds first, by the lists that its variables are bound to; then each round is written straight
+// into the builder, with the path of rounds that it is in. A fault stops nothing: the first is kept, and what follows is
+// written as far as it goes, since an editor shows the tree beside the error.
 ghost use Rattle.std.specs.Prelude.{◌≡◌, ◌<◌, Some, false, [], is_some, length, option_map, IfOk};
 ghost use Rattle.std.specs.Prelude.{OnOk};
 ghost use Rattle.mbe_tt.specs.Buffers.Building.{put};

@@ -29,7 +29,7 @@ use std::marker::Model;
 #[derive_where(Debug)]
 pub struct TopSubtreeBuilder<A: Allocator = Global> {
     entries: Vec<Entry<A>, A>,
-    // Where the innermost open group begins. Until it is closed, its opening has the place of the opening around it.
+    // The index of the innermost open group's opening. Until it is closed, that holds the index of the opening around it.
     at: usize,
     // How many groups are open. For each there is room for a closing.
     depth: usize,
@@ -99,7 +99,7 @@ impl<A: Allocator> TopSubtreeBuilder<A> {
         Ok(())
     }
 
-    /// The kind of the innermost open group; none where only the whole is open. So a caller knows by it whether `close` may be
+    /// The kind of the innermost open group; `None` if only the whole is open. So a caller knows by it whether `close` may be
     /// called, and whether a closing fits. The call is the project's own.
     pub fn open_kind(&self) -> Option<DelimiterKind>
         ensures kind { result ≡ kind_inside self.now }
@@ -113,7 +113,7 @@ impl<A: Allocator> TopSubtreeBuilder<A> {
         Some(subtree.delimiter.kind)
     }
 
-    /// Closes the innermost open group with that span. It asks for an open group other than the whole, and takes no memory.
+    /// Closes the innermost open group with that span. A group other than the whole must be open. It takes no memory.
     pub fn close(&mut self, span: Span)
         requires { 1 < length self.old }
         ensures { self.new ≡ closed span self.old }
@@ -161,8 +161,8 @@ impl<A: Allocator> TopSubtreeBuilder<A> {
         Ok(())
     }
 
-    /// Puts the content of the innermost open group's last tree in that tree's place, where it is an invisible group; else it
-    /// does nothing. It takes no memory.
+    /// Replaces the innermost open group's last tree by its content if it is an invisible group; else it does nothing. It
+    /// takes no memory.
     pub fn remove_last_subtree_if_invisible(&mut self)
         ensures { self.new ≡ unwrap_last self.old }
     {
@@ -172,8 +172,8 @@ impl<A: Allocator> TopSubtreeBuilder<A> {
         }
     }
 
-    /// Writes the leaves one after another at the end of the innermost open group. It asks that the leaves end. `AllocError`
-    /// if out of memory: then none of them is written.
+    /// Writes the leaves one after another at the end of the innermost open group. The iterator of leaves must end.
+    /// `AllocError` if out of memory: then none of them is written.
     pub fn extend<I: IntoIterator<Item = Leaf<A>>>(&mut self, leaves: I) -> Result<(), AllocError>
         requires { (s : I.IntoIter) → I.into_iter_gives leaves s → I.IntoIter.can_next s
             × IsFinite (I.IntoIter.remaining s) }
@@ -199,8 +199,8 @@ impl<A: Allocator> TopSubtreeBuilder<A> {
         self.entries.len() - 1
     }
 
-    /// Keeps the first flat tokens, as many as `point` says. It asks that there are so many, and that the groups open after
-    /// the last of them are those that are open now. It takes no memory.
+    /// Keeps the first flat tokens, as many as `point` says. There must be so many, and the groups open after the last of
+    /// them must be those that are open now. It takes no memory.
     pub fn restore(&mut self, point: usize)
         requires { (kept : Levels) × IsEarlier self.old point kept }
         ensures { (kept : Levels) (since : Forest) → self.old ≡ put since kept
@@ -209,7 +209,7 @@ impl<A: Allocator> TopSubtreeBuilder<A> {
         self.entries.truncate(point + 1);
     }
 
-    /// The buffer, with the whole closed. It asks that no other group is open, and takes no memory.
+    /// The buffer, with the whole closed. No other group may be open. It takes no memory.
     pub fn build(self) -> TopSubtree<A>
         requires { length self ≡ 1 }
         ensures { self ≡ result ∷ [] }
@@ -230,7 +230,7 @@ fn entry_punct<A: Allocator>(entry: &Entry<A>) -> Option<Punct>
     }
 }
 
-// The place of the last tree, where it is an invisible group.
+// The index of the last tree, where it is an invisible group.
 fn last_invisible<A: Allocator>(entries: &[Entry<A>]) -> Option<usize>
     requires { Spelled (entries_of entries.now) }
     ensures { result ≡ spec.last_invisible (forest_of (entries_of entries.now)) }
@@ -260,7 +260,7 @@ fn is_invisible<A: Allocator>(tree: &TtElement<'_, A>) -> bool
     }
 }
 
-// Takes out the opening at that place, and the closing at the end.
+// Takes out the opening at that index, and the closing at the end.
 fn unwrap_at<A: Allocator>(entries: &mut Vec<Entry<A>, A>, place: usize)
     requires { place + 1 < length entries.old.items }
     ensures items { entries_of entries.new.items
@@ -272,7 +272,7 @@ fn unwrap_at<A: Allocator>(entries: &mut Vec<Entry<A>, A>, place: usize)
     let _opening = entries.remove(place);
 }
 
-// What is written in the opening at that place.
+// What is written in the opening at that index.
 fn opening_at<A: Allocator>(entries: &Vec<Entry<A>, A>, at: usize) -> (Subtree, usize)
     requires { (s : Subtree) × (n : ℕ) × OpensAt (entries_of entries.now.items) at s n }
     ensures { OpensAt (entries_of entries.now.items) at result.0 result.1 }
@@ -284,7 +284,7 @@ fn opening_at<A: Allocator>(entries: &Vec<Entry<A>, A>, at: usize) -> (Subtree, 
     }
 }
 
-// Closes the group whose opening stands at that place, at the end, where there is room.
+// Closes the group whose opening is at that index, at the end, where there is room.
 fn finish<A: Allocator>(entries: &mut Vec<Entry<A>, A>, at: usize, subtree: Subtree)
     requires opens { (s : Subtree) × (n : ℕ) × OpensAt (entries_of entries.old.items) at s n }
     requires room { length entries.old.items < vec_capacity entries.old }

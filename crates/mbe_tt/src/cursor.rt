@@ -14,14 +14,14 @@ use crate::view::TokenTreesView;
 use std::alloc::{Allocator, Global};
 use std::marker::Model;
 
-/// A place among the flat tokens of a view: leaves, openings and closings, each of which counts one. Clauses see the
-/// view's trees, and how many of its flat tokens are passed.
+/// A position among the flat tokens of a view: leaves, openings and closings, each of which counts one. Clauses see the
+/// view's trees, and how many of its flat tokens are before the position.
 #[derive(Drop)]
 #[derive_where(Clone, Debug)]
 pub struct Cursor<'a, A: Allocator = Global> {
     entries: &'a [Entry<A>],
     place: usize,
-    // How many groups stand around the place.
+    // How many groups are around the position.
     depth: usize,
 }
 
@@ -57,14 +57,15 @@ impl<'a, A: Allocator> TokenTreesView<'a, A> {
 impl<'a, A: Allocator> Cursor<'a, A> {
     ghost use Rattle.mbe_tt.specs.Views.View.{trees};
 
-    /// Whether it stands in no group of the view.
+    /// Whether it is in no group of the view.
     pub fn is_root(&self) -> bool
         ensures { IsTrue result ↔ IsAtRoot self.now }
     {
         self.depth == 0
     }
 
-    /// Passes one flat token: a leaf, an opening (going in) or a closing (going out). At the view's end it does nothing.
+    /// Moves past one flat token: a leaf, an opening (into the group) or a closing (out of it). At the view's end it does
+    /// nothing.
     pub fn bump_or_end(&mut self)
         ensures { self.new ≡ (
           viewed self.old,
@@ -79,7 +80,7 @@ impl<'a, A: Allocator> Cursor<'a, A> {
         }
     }
 
-    /// The next tree at this place; `None` at the end of a group, and at the view's end.
+    /// The tree that begins at this position; `None` at the end of a group, and at the view's end.
     pub fn token_tree(&self) -> Option<TtElement<'a, A>>
         ensures { option_map element_tree result ≡ first (left_at self.now) }
     {
@@ -87,7 +88,7 @@ impl<'a, A: Allocator> Cursor<'a, A> {
         first_tree(left)
     }
 
-    /// The trees passed since the view's beginning. It asks that the cursor stands in no group of the view.
+    /// The trees from the view's beginning to this position. The cursor must be in no group of the view.
     pub fn crossed(&self) -> TokenTreesView<'a, A>
         requires { IsAtRoot self.now }
         ensures all { append (trees result) (left_at self.now) ≡ viewed self.now }
@@ -99,7 +100,7 @@ impl<'a, A: Allocator> Cursor<'a, A> {
 }
 
 impl<'a, A: Allocator> TtIter<'a, A> {
-    /// Goes to the cursor's place. It asks that the cursor is over this iterator's `remaining()`, and in no group of it.
+    /// Moves to the cursor's position. The cursor must be over this iterator's `remaining()`, and in no group of it.
     pub fn flat_advance_to(&mut self, cursor: &Cursor<'a, A>)
         requires same { viewed cursor.now ≡ self.old }
         requires root { IsAtRoot cursor.now }
@@ -127,7 +128,7 @@ fn first_tree<'a, A: Allocator>(left: &'a [Entry<A>]) -> Option<TtElement<'a, A>
     }
 }
 
-// The number of groups around the place after an entry, from the number before it.
+// The number of groups around the position after an entry, from the number before it.
 fn depth_after<A: Allocator>(entry: &Entry<A>, depth: usize) -> usize
     requires { (after : ℕ) × DepthAfter (entry_of entry.now) depth after × (after < 2 ^ 64) }
     ensures { DepthAfter (entry_of entry.now) depth result }

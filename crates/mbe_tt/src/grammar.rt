@@ -29,7 +29,7 @@ pub struct Front {
 
 /// A grammar of fragments, which a caller of the expander hands in.
 ///
-/// An implementation says by its ghost member `grammar` what it answers, and proves that this is lawful: it counts no
+/// An implementation says by its ghost member `grammar` what it returns, and proves that this is lawful: it counts no
 /// more flat tokens than there are, and takes nothing without a fault for `Vis` alone.
 pub trait FragmentGrammar {
     ghost use Rattle.mbe_tt.specs.Trees.Tree.{flat};
@@ -38,7 +38,8 @@ pub trait FragmentGrammar {
 
     ghost grammar: { Self → Grammar };
 
-    /// What stands at the front of the trees. A grammar that needs memory keeps its own allocator.
+    /// The fragment of that kind at the front of the trees: how many flat tokens it has, and whether there is none.
+    /// `AllocError` if out of memory; a grammar that needs memory keeps its own allocator.
     fn parse<A: Allocator>(
         &self,
         entry: PrefixEntryPoint,

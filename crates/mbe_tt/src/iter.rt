@@ -1,4 +1,4 @@
-// An iterator over trees that stand side by side. The names follow rust-analyzer's `tt`; what the calls return is the
+// An iterator over trees side by side. The names follow rust-analyzer's `tt`; what the calls return is the
 // project's own.
 ghost use Rattle.std.specs.Prelude.{◌≡◌, ◌↔◌, IsTrue, option_map, length, [], ◌∷◌, IsOk, is_ok};
 ghost use Rattle.std.specs.Prelude.{is_some, OnSome, if◌then◌else◌, Some, None, ⊤};
@@ -25,8 +25,8 @@ use std::marker::Model;
 
 /// An iterator over the trees of one group's content, borrowed from its buffer. Clauses see the trees that are left.
 ///
-/// Each `expect_` call looks at the next tree, passes it where it is of the sort that is asked for, and else answers
-/// `Err(())` and leaves the iterator where it was. A clone stands at the same place and takes no memory.
+/// Each `expect_` call looks at the next tree, consumes it if it is of the sort that is asked for, and else returns
+/// `Err(())` and leaves the iterator where it was. A clone has the same trees left and takes no memory.
 #[derive(Drop)]
 #[derive_where(Debug)]
 pub struct TtIter<'a, A: Allocator = Global> {
@@ -49,7 +49,7 @@ impl<'a, A: Allocator> Model for TtIter<'a, A> {
         ≡ spell (forest_of (entries_of a.entries.now)) };
 }
 
-/// A mark of an iterator's place. Clauses see the trees that were left there, by `saved`.
+/// A mark of an iterator's position. Clauses see the trees that were left there, by `saved`.
 #[derive_where(Clone, Copy, Debug)]
 pub struct TtIterSavepoint<'a, A: Allocator = Global> {
     left: TokenTreesView<'a, A>,
@@ -99,7 +99,7 @@ impl<'a, A: Allocator> TtIter<'a, A> {
         }
     }
 
-    /// The next tree, which is passed; `None` at the end.
+    /// The next tree, which is consumed; `None` at the end.
     pub fn next(&mut self) -> Option<TtElement<'a, A>>
         ensures value { option_map element_tree result ≡ first self.old }
         ensures rest { self.new ≡ rest_of self.old }
@@ -119,7 +119,7 @@ impl<'a, A: Allocator> TtIter<'a, A> {
         }
     }
 
-    /// The next tree, which isn't passed; `None` at the end.
+    /// The next tree, which isn't consumed; `None` at the end.
     pub fn peek(&self) -> Option<TtElement<'a, A>>
         ensures { option_map element_tree result ≡ first self.now }
     {
@@ -127,7 +127,7 @@ impl<'a, A: Allocator> TtIter<'a, A> {
         ahead.next()
     }
 
-    /// A mark of this place, for `from_savepoint`.
+    /// A mark of this position, for `from_savepoint`.
     pub fn savepoint(&self) -> TtIterSavepoint<'a, A>
         ensures { saved result ≡ self.now }
     {
@@ -136,7 +136,7 @@ impl<'a, A: Allocator> TtIter<'a, A> {
         }
     }
 
-    /// The trees passed since the savepoint. It asks that the trees left at the savepoint end with those that are left now.
+    /// The trees consumed since the savepoint. The trees left at the savepoint must end with those that are left now.
     pub fn from_savepoint(&self, savepoint: TtIterSavepoint<'a, A>) -> TokenTreesView<'a, A>
         requires { (passed : Forest) × (saved savepoint ≡ append passed self.now) }
         ensures { (passed : Forest) → saved savepoint.entry ≡ append passed self.now
@@ -147,7 +147,7 @@ impl<'a, A: Allocator> TtIter<'a, A> {
         TokenTreesView { entries: passed }
     }
 
-    /// The next tree as a view of one tree, passed; `None` at the end.
+    /// The next tree as a view of one tree, consumed; `None` at the end.
     pub fn next_as_view(&mut self) -> Option<TokenTreesView<'a, A>>
         ensures value { option_map trees result ≡ option_map (λ t. tree t none) (first self.old) }
         ensures rest { self.new ≡ rest_of self.old }
@@ -157,7 +157,7 @@ impl<'a, A: Allocator> TtIter<'a, A> {
         Some(self.from_savepoint(savepoint))
     }
 
-    /// Passes a punct of that char, whatever its spacing.
+    /// Consumes a punct of that char, whatever its spacing.
     pub fn expect_char(&mut self, char: char) -> Result<(), ()>
         ensures value { IsOk result ↔ (front_char self.old ≡ Some char) }
         ensures rest { self.new ≡ (if is_ok result then rest_of self.old else self.old) }
@@ -171,7 +171,7 @@ impl<'a, A: Allocator> TtIter<'a, A> {
         Err(())
     }
 
-    /// Passes one punct.
+    /// Consumes one punct.
     pub fn expect_single_punct(&mut self) -> Result<&'a Punct, ()>
         ensures value { option_map (λ p. p.now) (result_ok result) ≡ front_punct self.old }
         ensures rest { self.new ≡ (if is_ok result then rest_of self.old else self.old) }
@@ -183,7 +183,7 @@ impl<'a, A: Allocator> TtIter<'a, A> {
         Err(())
     }
 
-    /// Passes a group, and returns it with an iterator over its content.
+    /// Consumes a group, and returns it with an iterator over its content.
     pub fn expect_subtree(&mut self) -> Result<(&'a Subtree, TtIter<'a, A>), ()>
         ensures value { option_map (λ g. (g.0.now.delimiter, g.1)) (result_ok result)
             ≡ front_group self.old }
@@ -196,7 +196,7 @@ impl<'a, A: Allocator> TtIter<'a, A> {
         Err(())
     }
 
-    /// Passes an identifier other than `_`, raw or not.
+    /// Consumes an identifier other than `_`, raw or not.
     pub fn expect_ident(&mut self) -> Result<&'a Ident<A>, ()>
         ensures value { option_map (λ i. ident_of i.now) (result_ok result) ≡ front_ident self.old }
         ensures rest { self.new ≡ (if is_ok result then rest_of self.old else self.old) }
@@ -210,7 +210,7 @@ impl<'a, A: Allocator> TtIter<'a, A> {
         Err(())
     }
 
-    /// Passes a punct of one of those chars, whatever its spacing.
+    /// Consumes a punct of one of those chars, whatever its spacing.
     pub fn expect_any_char(&mut self, chars: &[char]) -> Result<(), ()>
         ensures value { IsOk result ↔ ((p : SpecPunct) × (front_punct self.old ≡ Some p)
             × Contains chars.now p.char) }
@@ -225,7 +225,7 @@ impl<'a, A: Allocator> TtIter<'a, A> {
         Err(())
     }
 
-    /// Passes a punct `$`.
+    /// Consumes a punct `$`.
     pub fn expect_dollar(&mut self) -> Result<(), ()>
         ensures value { IsOk result ↔ (front_char self.old ≡ Some 36) }
         ensures rest { self.new ≡ (if is_ok result then rest_of self.old else self.old) }
@@ -233,7 +233,7 @@ impl<'a, A: Allocator> TtIter<'a, A> {
         self.expect_char('$')
     }
 
-    /// Passes a punct `,`.
+    /// Consumes a punct `,`.
     pub fn expect_comma(&mut self) -> Result<(), ()>
         ensures value { IsOk result ↔ (front_char self.old ≡ Some 44) }
         ensures rest { self.new ≡ (if is_ok result then rest_of self.old else self.old) }
@@ -241,7 +241,7 @@ impl<'a, A: Allocator> TtIter<'a, A> {
         self.expect_char(',')
     }
 
-    /// Passes a leaf.
+    /// Consumes a leaf.
     pub fn expect_leaf(&mut self) -> Result<&'a Leaf<A>, ()>
         ensures value { option_map (λ l. leaf_of l.now) (result_ok result) ≡ front_leaf self.old }
         ensures rest { self.new ≡ (if is_ok result then rest_of self.old else self.old) }
@@ -253,7 +253,7 @@ impl<'a, A: Allocator> TtIter<'a, A> {
         Err(())
     }
 
-    /// Passes an identifier, also `_`, raw or not.
+    /// Consumes an identifier, also `_`, raw or not.
     pub fn expect_ident_or_underscore(&mut self) -> Result<&'a Ident<A>, ()>
         ensures value { option_map (λ i. ident_of i.now) (result_ok result) ≡ any_ident self.old }
         ensures rest { self.new ≡ (if is_ok result then rest_of self.old else self.old) }
@@ -265,7 +265,7 @@ impl<'a, A: Allocator> TtIter<'a, A> {
         Err(())
     }
 
-    /// Passes a literal, or the identifier `true` or `false`, raw or not.
+    /// Consumes a literal, or the identifier `true` or `false`, raw or not.
     pub fn expect_literal(&mut self) -> Result<&'a Leaf<A>, ()>
         ensures value { option_map (λ l. leaf_of l.now) (result_ok result)
             ≡ front_literal self.old }
@@ -287,9 +287,9 @@ impl<'a, A: Allocator> TtIter<'a, A> {
         Some(self.peek()?.first_span())
     }
 
-    /// Passes the one to three puncts in front that make the longest operator, or one punct where none is made. All but the
-    /// last have to be joint, and a third is looked at only after two that are. Which chars make an operator stands in
-    /// `operators`.
+    /// Consumes the next one to three puncts, those that make the longest operator, or one punct if none is made. All but
+    /// the last have to be joint, and a third is looked at only after two that are. The operators, such as `..=` and
+    /// `->`, are those that `specs/Trees/Glue` lists.
     pub fn expect_glued_punct(&mut self) -> Result<ArrayVec<Punct, 3>, ()>
         ensures value { option_map (λ ps. ps.items) (result_ok result) ≡ glued self.old }
         ensures rest { self.new ≡ skip (length (glue self.old)) self.old }
@@ -315,7 +315,7 @@ impl<'a, A: Allocator> TtIter<'a, A> {
         Ok(glued)
     }
 
-    // The punct that is joined to the one before it, passed.
+    // The punct that is joined to the one before it, consumed.
     fn next_joined(&mut self, before: Punct) -> Option<Punct>
         ensures value { result ≡ joined_punct before.spacing self.old }
         ensures rest { self.new ≡ (if is_some result then rest_of self.old else self.old) }
@@ -326,7 +326,7 @@ impl<'a, A: Allocator> TtIter<'a, A> {
         self.expect_single_punct().ok().copied()
     }
 
-    // The punct that makes an operator of three with the two before it, passed.
+    // The punct that makes an operator of three with the two before it, consumed.
     fn next_third(&mut self, first: Punct, second: Punct) -> Option<Punct>
         ensures value { result ≡ third_punct first second self.old }
         ensures rest { OnSome result (self.new ≡ rest_of self.old) }

@@ -1,11 +1,11 @@
-// Places in a source text, and editions of the language. All of this is the project's own; the names follow rust-analyzer.
+// Positions in a source text, and editions of the language. All of this is the project's own; the names follow rust-analyzer.
 ghost use Rattle.std.specs.Prelude.{◌≡◌};
 
 /// The number of a hygiene context. What it means is the caller's.
 #[derive(Clone, Copy, Debug, Default, Drop, PartialEq, Eq, Hash)]
 pub struct SyntaxContext(pub u32);
 
-/// Where a token stands. `file` and `ast` name a text and an item in it, and are the caller's; `start` and `end` are
+/// Where a token is in a source text. `file` and `ast` name a text and an item in it, and are the caller's; `start` and `end` are
 /// byte offsets in that text, where this crate asks for no order; `ctx` is the hygiene context.
 #[derive(Clone, Copy, Debug, Default, Drop, PartialEq, Eq, Hash)]
 pub struct Span {

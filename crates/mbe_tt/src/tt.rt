@@ -13,7 +13,7 @@ use crate::symbol::Symbol;
 pub use crate::view::{SubtreeView, TokenTreesView};
 use std::alloc::{AllocError, Allocator, Global};
 
-/// Whether a punct stands alone, or is joined to the next tree where that is a punct.
+/// Whether a punct is alone, or is joined to the next tree if that is a punct.
 #[derive(Clone, Copy, Debug, Default, Drop, PartialEq, Eq)]
 pub enum Spacing {
     #[default]
@@ -61,7 +61,7 @@ pub enum LitKind {
     Err,
 }
 
-/// A literal. `text_and_suffix` is what stands between its quotes, and its suffix; `suffix_len` is the suffix's length in bytes.
+/// A literal. `text_and_suffix` is the text between its quotes, and its suffix; `suffix_len` is the suffix's length in bytes.
 #[derive(Drop)]
 #[derive_where(Debug)]
 pub struct Literal<A: Allocator = Global> {
@@ -80,7 +80,7 @@ pub enum Leaf<A: Allocator = Global> {
     Ident(Ident<A>),
 }
 
-/// What stands around a group. `Invisible` groups are written without delimiters.
+/// The brackets around a group. `Invisible` groups are written without brackets.
 #[derive(Clone, Copy, Debug, Drop, PartialEq, Eq)]
 pub enum DelimiterKind {
     Parenthesis,
@@ -131,7 +131,7 @@ impl Delimiter {
 impl<A: Allocator> Leaf<A> {
     ghost use Rattle.mbe_tt.specs.Trees.Leaf.{span_of};
 
-    /// Where the leaf stands.
+    /// Where the leaf is in its source text.
     pub fn span(&self) -> Span
         ensures { result ≡ span_of (leaf_of self.now) }
     {

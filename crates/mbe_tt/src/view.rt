@@ -1,4 +1,4 @@
-// Trees that stand side by side in a buffer. The names follow rust-analyzer's `tt`; what the calls return is the
+// Trees side by side in a buffer. The names follow rust-analyzer's `tt`; what the calls return is the
 // project's own.
 ghost use Rattle.std.specs.Prelude.{◌≡◌, option_map, ⊤};
 ghost use Rattle.mbe_tt.specs.Views.Entries.{Spelled, Spelled-prop};
@@ -12,7 +12,7 @@ use crate::iter::{TtElement, TtIter};
 use crate::tt::{Delimiter, DelimiterKind, Subtree};
 use std::alloc::{AllocError, Allocator, Global};
 
-/// Trees that stand side by side in a buffer, borrowed from it. Clauses see them by `trees`. Views are equal where their
+/// Trees side by side in a buffer, borrowed from it. Clauses see them by `trees`. Views are equal where their
 /// trees are, spans and spacing included.
 #[derive_where(Debug)]
 pub struct TokenTreesView<'a, A: Allocator = Global> {

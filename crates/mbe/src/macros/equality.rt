@@ -10,7 +10,7 @@ use mbe_parser::equality::{copied_rules, same_rules};
 use std::alloc::{AllocError, Allocator};
 
 impl<A: Allocator + Copy> DeclarativeMacro<A> {
-    /// An equal copy, or out of memory. The macro stays as it was in each case.
+    /// An equal copy. `AllocError` if out of memory. The macro stays as it was in each case.
     pub fn try_clone(&self, alloc: A) -> Result<DeclarativeMacro<A>, AllocError>
         ensures { IfOk result (λ copy. macro_of copy ≡ macro_of self.now) }
     {
@@ -33,8 +33,8 @@ fn copied_fault<A: Allocator + Copy>(
     }
 }
 
-/// Macros are equal where their rules and faults are, spans included; but separators count by their texts alone (as in
-/// rust-analyzer).
+/// Macros are equal where their rules and faults are, spans included; but separators count by their
+/// texts alone (as in rust-analyzer).
 impl<A: Allocator> PartialEq for DeclarativeMacro<A> {
     ghost use Rattle.mbe_ops.specs.Codes.{macro_eq, macro_eq_laws};
     ghost use Rattle.std.specs.Cmp.{partial_equiv_from_equiv};

@@ -15,16 +15,18 @@ use mbe_tt::span::Span;
 use mbe_tt::tt::{DelimiterKind, Ident, Leaf, Literal};
 use std::alloc::Allocator;
 
-/// Reads what stands between the braces of `${..}`: `ignore($x)`, `index(d)`, `len(d)`, `count($x)`, `count($x, d)` or
-/// `concat(e, e, ..)`. What follows the arguments isn't looked at.
+/// Reads what stands between the braces of `${..}`: `ignore($x)`, `index(d)`, `len(d)`,
+/// `count($x)`, `count($x, d)` or `concat(e, e, ..)`. What follows the arguments isn't looked at.
 ///
-/// `Err` is `Fault::InvalidExpression` where the trees are none of these, or want of memory. The forms are those of the
-/// unstable features `macro_metavar_expr` and `macro_metavar_expr_concat`, as rust-analyzer reads them.
+/// `Err` is `Fault::InvalidExpression` where the trees are none of these, or `Memory` if out of
+/// memory. The forms are those of the unstable features `macro_metavar_expr` and
+/// `macro_metavar_expr_concat`, as rust-analyzer reads them.
 pub fn parse_metavar_expr<A: Allocator + Copy>(
     alloc: A,
     src: TtIter<'_, A>,
 ) -> Result<Op<A>, ReadError>
-    ensures op { IfOk result (λ o. option_map expression (expression_of src.entry) ≡ Some (op_of o)) }
+    ensures op { IfOk result (λ o. option_map expression (expression_of src.entry)
+        ≡ Some (op_of o)) }
     ensures fault { IfErr result (λ e. NotExpression e (expression_of src.entry)) }
 {
     let (func, args) = func_and_args(src).ok_or(Fault::InvalidExpression)?;
@@ -33,7 +35,8 @@ pub fn parse_metavar_expr<A: Allocator + Copy>(
 
 // The name of the function, and the arguments, which stand in parentheses.
 fn func_and_args<'a, A: Allocator>(src: TtIter<'a, A>) -> Option<(&'a Ident<A>, TtIter<'a, A>)>
-    ensures { MatchOption result (expression_of src.entry ≡ None) (λ call. expression_of src.entry ≡ arguments_of (ident_of call.0.now) call.1) }
+    ensures { MatchOption result (expression_of src.entry ≡ None)
+        (λ call. expression_of src.entry ≡ arguments_of (ident_of call.0.now) call.1) }
 {
     let mut src = src;
     let func = src.expect_ident().ok()?;
@@ -51,8 +54,10 @@ fn parse_args<A: Allocator + Copy>(
     func: &Ident<A>,
     args: TtIter<'_, A>,
 ) -> Result<Op<A>, ReadError>
-    ensures op { IfOk result (λ o. option_map expression (arguments_of (ident_of func.now) args.entry) ≡ Some (op_of o)) }
-    ensures fault { IfErr result (λ e. NotExpression e (arguments_of (ident_of func.now) args.entry)) }
+    ensures op { IfOk result (λ o.
+        option_map expression (arguments_of (ident_of func.now) args.entry) ≡ Some (op_of o)) }
+    ensures fault { IfErr result (λ e. NotExpression e
+        (arguments_of (ident_of func.now) args.entry)) }
 {
     match func.sym.as_str() {
         "ignore" => parse_ignore(args),
@@ -87,7 +92,7 @@ fn parse_ignore<A: Allocator>(args: TtIter<'_, A>) -> Result<Op<A>, ReadError>
     })
 }
 
-// A variable, and behind a comma a depth.
+// A variable, and after a comma a depth.
 #[tactic(auto, using(mbe_ops::proofs::OpViews::views))]
 fn parse_count<A: Allocator>(args: TtIter<'_, A>) -> Result<Op<A>, ReadError>
     ensures op { IfOk result (λ o. option_map expression (count_of args.entry) ≡ Some (op_of o)) }
@@ -136,7 +141,8 @@ fn parse_depth<A: Allocator>(src: TtIter<'_, A>) -> Option<usize>
 
 // The number that a literal without suffix writes.
 fn parse_usize<A: Allocator>(literal: &Literal<A>) -> Option<usize>
-    ensures { result ≡ (if is_plain (literal_of literal.now) then decimal_value (literal_text (literal_of literal.now)) else None) }
+    ensures { result ≡ (if is_plain (literal_of literal.now)
+        then decimal_value (literal_text (literal_of literal.now)) else None) }
 {
     let (text, suffix) = literal.text_and_suffix();
     if suffix.is_empty() {
@@ -153,7 +159,8 @@ fn parse_concat<A: Allocator + Copy>(
     span: Span,
     args: TtIter<'_, A>,
 ) -> Result<Op<A>, ReadError>
-    ensures op { IfOk result (λ o. option_map expression (concat_of span args.entry) ≡ Some (op_of o)) }
+    ensures op { IfOk result (λ o. option_map expression (concat_of span args.entry)
+        ≡ Some (op_of o)) }
     ensures fault { IfErr result (λ e. NotExpression e (concat_of span args.entry)) }
 {
     let elements = parse_elements(alloc, args)?;
@@ -167,7 +174,8 @@ fn parse_elements<A: Allocator + Copy>(
     alloc: A,
     src: TtIter<'_, A>,
 ) -> Result<Vec<ConcatMetaVarExprElem<A>, A>, ReadError>
-    ensures elements { IfOk result (λ es. elements_of src.entry ≡ Some (map element_seen es.items)) }
+    ensures elements { IfOk result (λ es. elements_of src.entry
+        ≡ Some (map element_seen es.items)) }
     ensures fault { IfErr result (λ e. NotExpression e (elements_of src.entry)) }
 {
     let mut src = src;
@@ -179,10 +187,11 @@ fn parse_elements<A: Allocator + Copy>(
     Ok(elements)
 }
 
-// An element, and the comma behind it where it isn't the last.
+// An element, and the comma after it where it isn't the last.
 fn eat_element<A: Allocator>(src: &mut TtIter<'_, A>) -> Result<ConcatMetaVarExprElem<A>, ReadError>
     requires { src.old ≢ none }
-    ensures element { IfOk result (λ e. elements_of src.old ≡ element_before (element_seen e) (elements_of src.new)) }
+    ensures element { IfOk result (λ e. elements_of src.old
+        ≡ element_before (element_seen e) (elements_of src.new)) }
     ensures fault { IfErr result (λ e. NotExpression e (elements_of src.old)) }
     ensures shorter { OnOk result (flat_len src.new < flat_len src.old) }
 {
@@ -197,7 +206,8 @@ fn parse_element<A: Allocator>(
     src: &mut TtIter<'_, A>,
 ) -> Result<ConcatMetaVarExprElem<A>, ReadError>
     requires { src.old ≢ none }
-    ensures element { IfOk result (λ e. elements_of src.old ≡ element_before (element_seen e) (elements_behind_comma src.new)) }
+    ensures element { IfOk result (λ e. elements_of src.old
+        ≡ element_before (element_seen e) (elements_behind_comma src.new)) }
     ensures fault { IfErr result (λ e. NotExpression e (elements_of src.old)) }
     ensures shorter { OnOk result (flat_len src.new < flat_len src.old) }
 {

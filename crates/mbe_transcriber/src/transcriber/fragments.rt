@@ -1,4 +1,13 @@
-// How a variable's fragment is written.
+// How a variable's fragment is written (as in rust-analyzer).
+//
+// An expression is one operand, whatever the template has around it: `$e * 2` of `1 + 2` has to be `(1 + 2) * 2`. So it gets
+// parentheses, but for one leaf, one group in brackets, and `-` with a literal, which are operands by themselves.
+//
+// A path may be written where an expression is expected, and there `Vec<u8>` would compare `Vec` with `u8`. So `::` is
+// written before each `<` that follows a name: `Vec::<u8>` is a path in expressions and in types.
+//
+// What a variable of kind `tt`, `ident`, `lifetime` or `literal` took loses one invisible group around it: that group comes
+// from an expansion before, and isn't part of what was typed.
 ghost use Rattle.std.specs.Prelude.{◌≡◌, ◌<◌, length, Some, None, OnOk, IsTrue, IfSome};
 ghost use Rattle.mbe_tt.specs.Buffers.Building.{put};
 ghost use Rattle.mbe_tt.specs.Trees.Leaf.{punct as punct_leaf, ident as ident_leaf};

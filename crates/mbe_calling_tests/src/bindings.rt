@@ -1,0 +1,107 @@
+// The log of bindings, without the matcher.
+use mbe::{Binding, BindingLog, Bindings, Fragment, MetaVarKind, TokensOrigin};
+use mbe_tt::symbol::Symbol;
+use mbe_tt::tt::TokenTreesView;
+use std::alloc::{AllocError, Allocator};
+
+/// Binds a name in a repetition, once in each round: to this tree, and to nothing in a second round.
+pub fn bind_rounds<'a, A: Allocator + Copy>(
+    alloc: A,
+    name: &Symbol<A>,
+    tree: TokenTreesView<'a, A>,
+) -> Result<Bindings<'a, A>, AllocError> {
+    let mut log = BindingLog::new(alloc);
+    let mut rounds = log.alloc()?;
+    log.push_fragment(&mut rounds, name, Fragment::Expr(tree))?;
+    log.push_default(&mut rounds)?;
+    log.push_optional(&mut rounds, name)?;
+    let mut whole = log.alloc()?;
+    log.push_nested(&mut whole, &rounds)?;
+    let bindings = log.build(&whole)?;
+    Ok(bindings)
+}
+
+/// Two positions that go on from one: what the one pushes then, the other doesn't see.
+pub fn part_ways<'a, A: Allocator + Copy>(
+    alloc: A,
+    name: &Symbol<A>,
+) -> Result<(Bindings<'a, A>, Bindings<'a, A>), AllocError> {
+    let mut log = BindingLog::new(alloc);
+    let mut one = log.alloc()?;
+    let two = log.copy(&one)?;
+    log.push_empty(&mut one, name)?;
+    let with_name = log.build(&one)?;
+    let without = log.build(&two)?;
+    Ok((with_name, without))
+}
+
+/// A position whose match fails: its variable is missing. What the handle has is counted.
+pub fn bind_missing<A: Allocator + Copy>(
+    log: &mut BindingLog<'_, A>,
+    name: &Symbol<A>,
+) -> Result<(usize, usize), AllocError> {
+    let mut handle = log.alloc()?;
+    log.push_missing(&mut handle, name, MetaVarKind::Ident)?;
+    Ok(log.entries_of(&handle))
+}
+
+/// Bindings that no match made.
+pub fn bind_by_hand<'a, A: Allocator + Copy>(
+    alloc: A,
+    name: &Symbol<A>,
+    tree: TokenTreesView<'a, A>,
+) -> Result<Bindings<'a, A>, AllocError> {
+    let fragment = Fragment::Tokens {
+        tree,
+        origin: TokensOrigin::Raw,
+    };
+    let mut bindings = Bindings::new(alloc);
+    bindings.insert(name, Binding::Fragment(fragment.try_clone()?))?;
+    Ok(bindings)
+}
+
+/// How many rounds a name is bound in; `None` where it isn't bound in a repetition.
+pub fn rounds_of<A: Allocator>(bindings: &Bindings<'_, A>, name: &Symbol<A>) -> Option<usize> {
+    match bindings.get(name)? {
+        Binding::Nested(rounds) => Some(rounds.len()),
+        Binding::Fragment(_) | Binding::Empty | Binding::Missing(_) => None,
+    }
+}
+
+mod tests {
+    use super::{bind_by_hand, bind_missing, bind_rounds, part_ways, rounds_of};
+    use mbe::BindingLog;
+    use mbe_text::lexer::lex;
+    use mbe_tt::symbol::Symbol;
+    use std::test::Fail;
+
+    #[test]
+    fn rounds_are_bound(rt: HostRuntime) -> Result<(), Fail> {
+        let name = Symbol::intern(rt.alloc(), "x")?;
+        let tree = lex(rt.alloc(), "1 + 2", 1)?;
+        let bindings = bind_rounds(rt.alloc(), &name, tree.view())?;
+        assert_eq!(rt; rounds_of(&bindings, &name), Some(2));
+        assert_eq!(rt; (bindings.len(), bindings.count()), (1, 2));
+        Ok(())
+    }
+
+    #[test]
+    fn copies_part_ways(rt: HostRuntime) -> Result<(), Fail> {
+        let name = Symbol::intern(rt.alloc(), "x")?;
+        let (with_name, without) = part_ways(rt.alloc(), &name)?;
+        assert_eq!(rt; (with_name.len(), without.len()), (1, 0));
+        assert_eq!(rt; rounds_of(&with_name, &name), None);
+        Ok(())
+    }
+
+    #[test]
+    fn other_ways_to_bind(rt: HostRuntime) -> Result<(), Fail> {
+        let name = Symbol::intern(rt.alloc(), "x")?;
+        let tree = lex(rt.alloc(), "1", 1)?;
+        let mut log = BindingLog::new(rt.alloc());
+        assert_eq!(rt; bind_missing(&mut log, &name)?, (1, 0));
+        let bindings = bind_by_hand(rt.alloc(), &name, tree.view())?;
+        assert_eq!(rt; (bindings.len(), rounds_of(&bindings, &name)), (1, None));
+        Ok(())
+    }
+}

@@ -1,0 +1,98 @@
+// Definitions.
+ghost use Rattle.std.specs.Prelude.{◌<◌, ◌^◌, length};
+
+use bitflags::Flags;
+use mbe::{DeclarativeMacro, MacroCallStyle, MacroCallStyles, ParseError};
+use mbe_text::lexer::lex;
+use mbe_tt::span::Edition;
+use std::alloc::Global;
+
+/// What is known of a definition before any call: its rules, their styles, and the first fault's text.
+pub fn describe(alloc: Global, rules: &str) -> anyhow::Result<(usize, MacroCallStyles, String)>
+    requires { length rules.now < 2 ^ 32 }
+{
+    let rules = lex(alloc, rules, 0)?;
+    let defined = DeclarativeMacro::parse_macro_rules(alloc, &rules, |_ctx| Edition::Edition2021)?;
+    let fault = match defined.err() {
+        Some(error) => format!(in alloc; "{error}")?,
+        None => String::new(alloc),
+    };
+    Ok((defined.num_rules(), defined.rule_styles(), fault))
+}
+
+/// A `macro` with arguments, as `macro m($x:ident) { $x }`: the pattern, and the template.
+pub fn read_macro(alloc: Global, args: &str, body: &str) -> anyhow::Result<DeclarativeMacro>
+    requires args { length args.now < 2 ^ 32 }
+    requires body { length body.now < 2 ^ 32 }
+{
+    let args = lex(alloc, args, 0)?;
+    let body = lex(alloc, body, 0)?;
+    let defined = DeclarativeMacro::parse_macro2(
+        alloc,
+        Some(&args),
+        &body,
+        |_ctx| Edition::Edition2024,
+    )?;
+    Ok(defined)
+}
+
+/// A macro whose definition wasn't found: each call has the error `NoMatchingRule`.
+pub fn missing(alloc: Global) -> anyhow::Result<DeclarativeMacro> {
+    let text = String::from_str(alloc, "expected macro definition")?;
+    Ok(DeclarativeMacro::from_err(alloc, ParseError::Expected(text)))
+}
+
+/// Whether a definition has rules for a style of call.
+pub fn has_style(defined: &DeclarativeMacro, style: MacroCallStyle) -> bool {
+    defined.rule_styles().contains(MacroCallStyles::from(style))
+}
+
+mod tests {
+    use super::{describe, has_style, missing, read_macro};
+    use bitflags::Flags;
+    use mbe::MacroCallStyle;
+    use std::alloc::Global;
+    use std::process::Abort;
+    use std::test::Fail;
+
+    // Rules, how many are kept, the bits of their styles, and the fault.
+    static DESCRIBED: [(&str, usize, u8, &str); 5] = [
+        ("($x:ident) => {$x}; () => {}", 2, 1, ""),
+        ("attr() ($i:item) => {$i}", 1, 2, ""),
+        ("() => {}; ($x) => {}", 1, 1, "missing fragment specifier"),
+        ("($($v:vis)*) => {}", 1, 1, "empty token tree in repetition"),
+        ("", 0, 1, ""),
+    ];
+
+    fn assert_described(
+        rt: &impl Abort,
+        alloc: Global,
+        (rules, count, bits, fault): (&str, usize, u8, &str),
+    ) -> Result<(), Fail> {
+        assert!(rt; rules.len() < 1_000_000);
+        let (kept, styles, text) = describe(alloc, rules)?;
+        assert_eq!(rt; kept, count, "{rules}");
+        assert_eq!(rt; styles.bits(), bits, "{rules}");
+        assert_eq!(rt; text.as_str(), fault, "{rules}");
+        Ok(())
+    }
+
+    #[test]
+    fn definitions_are_described(rt: HostRuntime) -> Result<(), Fail> {
+        for &row in &DESCRIBED {
+            assert_described(&rt, rt.alloc(), row)?;
+        }
+        Ok(())
+    }
+
+    #[test]
+    fn a_macro_is_copied(rt: HostRuntime) -> Result<(), Fail> {
+        let defined = read_macro(rt.alloc(), "$x:ident", "$x")?;
+        let copy = defined.try_clone(rt.alloc())?;
+        assert!(rt; copy == defined && defined.err().is_none());
+        assert!(rt; defined != missing(rt.alloc())?);
+        assert!(rt; has_style(&defined, MacroCallStyle::FnLike));
+        assert!(rt; !has_style(&defined, MacroCallStyle::Attr));
+        Ok(())
+    }
+}

@@ -1,0 +1,121 @@
+// Grammars of one's own.
+ghost use Rattle.std.specs.Prelude.{◌≡◌};
+ghost use Rattle.mbe_calling_tests.specs.Words.{word_front};
+ghost use Rattle.mbe_tt.specs.Trees.Tree.{flat};
+ghost use Rattle.mbe_tt.specs.Views.View.{trees};
+ghost use borrow.Author.Rules.{rules};
+
+use mbe_tt::grammar::{FragmentGrammar, Front, PrefixEntryPoint};
+use mbe_tt::tt::{Leaf, TokenTreesView, TtElement};
+use std::alloc::{AllocError, Allocator};
+
+/// A grammar that finds no fragment anywhere.
+pub struct NoFragments;
+
+impl FragmentGrammar for NoFragments {
+    ghost use Rattle.std.specs.Prelude.{true, false};
+
+    ghost grammar = { λ _. record {
+      parse = λ entry tokens. record { count = 0; fault = true };
+      is_keyword = λ text. false;
+    } };
+
+    fn parse<A: Allocator>(
+        &self,
+        _entry: PrefixEntryPoint,
+        _tokens: TokenTreesView<'_, A>,
+    ) -> Result<Front, AllocError> {
+        Ok(Front {
+            count: 0,
+            fault: true,
+        })
+    }
+
+    fn is_keyword(&self, _text: &str) -> bool {
+        false
+    }
+
+    ghost lawful = { λ _. Prim.search rules };
+}
+
+/// A grammar whose fragments, of every kind, are single identifiers or literals.
+pub struct Words;
+
+impl FragmentGrammar for Words {
+    ghost use Rattle.mbe_calling_tests.specs.Words.{words, words_lawful};
+
+    ghost grammar = { λ _. words };
+
+    fn parse<A: Allocator>(
+        &self,
+        _entry: PrefixEntryPoint,
+        tokens: TokenTreesView<'_, A>,
+    ) -> Result<Front, AllocError> {
+        Ok(word_front(tokens))
+    }
+
+    fn is_keyword(&self, text: &str) -> bool {
+        text == "let"
+    }
+
+    ghost lawful = { λ _. words_lawful };
+}
+
+// One token, where a word comes first.
+fn word_front<A: Allocator>(tokens: TokenTreesView<'_, A>) -> Front
+    ensures { result ≡ word_front (flat (trees tokens.entry)) }
+{
+    let mut iter = tokens.iter();
+    match iter.next() {
+        Some(TtElement::Leaf(Leaf::Ident(_) | Leaf::Literal(_))) => Front {
+            count: 1,
+            fault: false,
+        },
+        _ => Front {
+            count: 0,
+            fault: true,
+        },
+    }
+}
+
+mod tests {
+    use super::{NoFragments, Words};
+    use mbe::{DeclarativeMacro, MacroCallStyle};
+    use mbe_text::lexer::lex;
+    use mbe_tt::grammar::FragmentGrammar;
+    use mbe_tt::span::Edition;
+    use std::alloc::Global;
+    use std::test::Fail;
+
+    // The error of a call by that grammar; nothing without one.
+    fn error_by<G: FragmentGrammar>(alloc: Global, grammar: &G) -> Result<String, Fail> {
+        let rules = lex(alloc, "($e:expr, $t:ty) => {$t $e}", 0)?;
+        let argument = lex(alloc, "1, u8", 1)?;
+        let defined = DeclarativeMacro::parse_macro_rules(
+            alloc,
+            &rules,
+            |_ctx| Edition::Edition2024,
+        )?;
+        if let Some(error) = defined.err() {
+            return Ok(format!(in alloc; "{error}")?);
+        }
+        let call_site = argument.top_subtree().delimiter.opening;
+        let style = MacroCallStyle::FnLike;
+        let expanded = defined.expand(alloc, grammar, &argument, |s| s, style, call_site)?;
+        match &expanded.err {
+            Some(error) => Ok(format!(in alloc; "{error}")?),
+            None => Ok(String::new(alloc)),
+        }
+    }
+
+    #[test]
+    fn grammars_are_handed_in(rt: HostRuntime) -> Result<(), Fail> {
+        assert_eq!(rt;
+            error_by(rt.alloc(), &NoFragments)?.as_str(),
+            "expected Expr"
+        );
+        assert_eq!(rt; error_by(rt.alloc(), &Words)?.as_str(), "");
+        assert!(rt; Words.is_keyword("let") && !Words.is_keyword("fn"));
+        Ok(())
+    }
+}

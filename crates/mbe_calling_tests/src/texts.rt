@@ -1,0 +1,65 @@
+// Text to trees, and trees to text.
+ghost use Rattle.std.specs.Prelude.{◌<◌, ◌^◌, length};
+
+use mbe_text::lexer::{LexError, lex};
+use mbe_text::printing::print_tree;
+use mbe_text::scanner::{Fault, Scanner};
+use std::alloc::Global;
+
+/// The lines that print a text's trees. The text is file 7.
+pub fn lines_of(alloc: Global, text: &str) -> anyhow::Result<String>
+    requires { length text.now < 2 ^ 32 }
+{
+    let tree = lex(alloc, text, 7)?;
+    let mut out = Vec::new(alloc);
+    print_tree(&tree, &mut out)?;
+    Ok(String::from_utf8(out)?)
+}
+
+/// The byte at which a text stops being tokens, if there is one.
+pub fn fault_of(alloc: Global, text: &str) -> Option<u32>
+    requires { length text.now < 2 ^ 32 }
+{
+    match lex(alloc, text, 7) {
+        Err(LexError::Fault(offset)) => Some(offset),
+        Ok(_) | Err(LexError::OutOfMemory) => None,
+    }
+}
+
+/// Where the second token of a text ends, or the text.
+pub fn end_of_second(text: &str) -> Result<u32, Fault>
+    requires { length text.now < 2 ^ 32 }
+{
+    let mut scanner = Scanner::new(text, 7);
+    scanner.token()?;
+    scanner.token()?;
+    Ok(scanner.offset())
+}
+
+mod tests {
+    use super::{end_of_second, fault_of, lines_of};
+    use std::test::Fail;
+
+    // Each line has the token's span: file 7, and its bytes.
+    const LINES: &str = "SUBTREE $$ 7@0..10 7@0..10
+  IDENT   a 7@0..1
+  PUNCH   + [joint] 7@2..3
+  PUNCH   = [alone] 7@3..4
+  SUBTREE () 7@5..6 7@9..10
+    LITERAL Integer 1u8 7@6..9
+";
+
+    #[test]
+    fn a_text_is_printed_by_its_trees(rt: HostRuntime) -> Result<(), Fail> {
+        assert_eq!(rt; lines_of(rt.alloc(), "a += (1u8)")?.as_str(), LINES);
+        assert_eq!(rt; fault_of(rt.alloc(), "a += (1u8]"), Some(9));
+        assert_eq!(rt; fault_of(rt.alloc(), "a += (1u8)"), None);
+        assert_eq!(rt; end_of_second("a += (1u8)").ok(), Some(3));
+        assert_eq!(rt; end_of_second("a é §").ok(), Some(4));
+        assert_eq!(rt;
+            end_of_second("a §").err().map(|fault| fault.offset),
+            Some(2)
+        );
+        Ok(())
+    }
+}

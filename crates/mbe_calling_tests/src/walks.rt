@@ -1,0 +1,170 @@
+// Trees that are read: iterators, views, cursors.
+use mbe_tt::span::Span;
+use mbe_tt::tt::{
+    Ident, Leaf, Literal, SubtreeView, TokenTreesView, TopSubtree, TtElement, TtIter,
+};
+use std::alloc::{AllocError, Allocator, Global};
+
+/// Reads `name = tree;` and leaves the iterator after it. Where something else is there, the iterator stays.
+pub fn assignment<'a, A: Allocator>(
+    iter: &mut TtIter<'a, A>,
+) -> Option<(&'a Ident<A>, TokenTreesView<'a, A>)> {
+    let mut ahead = iter.remaining().iter();
+    let name = ahead.expect_ident().ok()?;
+    ahead.expect_char('=').ok()?;
+    let value = ahead.next_as_view()?;
+    ahead.expect_char(';').ok()?;
+    *iter = ahead;
+    Some((name, value))
+}
+
+/// Each `expect_` call on a tree that it fits: `a _ 1 b + - $ , ! <<= ()`. What the last two return is counted.
+pub fn expect_each<A: Allocator>(iter: &mut TtIter<'_, A>) -> Result<(usize, usize), ()> {
+    iter.expect_ident()?;
+    iter.expect_ident_or_underscore()?;
+    iter.expect_literal()?;
+    iter.expect_leaf()?;
+    iter.expect_char('+')?;
+    iter.expect_any_char(&['-', '*'])?;
+    iter.expect_dollar()?;
+    iter.expect_comma()?;
+    iter.expect_single_punct()?;
+    let operator = iter.expect_glued_punct()?;
+    let (_group, content) = iter.expect_subtree()?;
+    Ok((operator.len(), content.remaining().len()))
+}
+
+/// Where the next tree begins and where the one after it does; nothing is consumed.
+pub fn next_spans<A: Allocator>(iter: &TtIter<'_, A>) -> Option<(Span, Span)> {
+    let first = iter.peek()?.first_span();
+    let mut ahead = iter.remaining().iter();
+    let _first = ahead.next();
+    Some((first, ahead.next_span()?))
+}
+
+/// Consumes the next tree and returns it as a view, as `next_as_view` does.
+pub fn view_of_next<'a, A: Allocator>(iter: &mut TtIter<'a, A>) -> Option<TokenTreesView<'a, A>> {
+    let savepoint = iter.savepoint();
+    let _tree = iter.next()?;
+    Some(iter.from_savepoint(savepoint))
+}
+
+/// The names among the trees of a group, in order; those in groups inside aren't looked at.
+pub fn names<'a>(alloc: Global, group: &'a TopSubtree) -> Result<Vec<&'a str>, AllocError> {
+    let mut names = Vec::new(alloc);
+    for tree in group.iter() {
+        if let TtElement::Leaf(Leaf::Ident(ident)) = tree {
+            names.push(ident.sym.as_str())?;
+        }
+    }
+    Ok(names)
+}
+
+/// The number of leaves at any depth.
+pub fn count_leaves<A: Allocator>(trees: TokenTreesView<'_, A>) -> usize {
+    let mut cursor = trees.cursor();
+    let mut count = 0usize;
+    for _ in 0..trees.flat_len() {
+        if let Some(TtElement::Leaf(_)) = cursor.token_tree() {
+            count = count.saturating_add(1);
+        }
+        cursor.bump_or_end();
+    }
+    count
+}
+
+/// Consumes the next tree if it is a leaf, and returns it as a view. Before a group it does nothing; at the end, the view
+/// is empty.
+pub fn next_leaf<'a, A: Allocator>(iter: &mut TtIter<'a, A>) -> Option<TokenTreesView<'a, A>> {
+    let mut cursor = iter.remaining().cursor();
+    cursor.bump_or_end();
+    if !cursor.is_root() {
+        return None;
+    }
+    iter.flat_advance_to(&cursor);
+    Some(cursor.crossed())
+}
+
+/// The suffix of a literal, as `u8` in `1u8`.
+pub fn suffix<A: Allocator>(literal: &Literal<A>) -> &str {
+    let (_text, suffix) = literal.text_and_suffix();
+    suffix
+}
+
+/// The group that these trees are, with or without an invisible group around it.
+pub fn only_group<'a, A: Allocator>(trees: TokenTreesView<'a, A>) -> Option<SubtreeView<'a, A>> {
+    trees.strip_invisible().try_into_subtree()
+}
+
+mod tests {
+    use super::{
+        assignment, count_leaves, expect_each, names, next_leaf, next_spans, only_group, suffix,
+        view_of_next,
+    };
+    use mbe_text::lexer::lex;
+    use mbe_tt::tt::{DelimiterKind, Leaf};
+    use std::test::Fail;
+
+    #[test]
+    fn assignments_are_read(rt: HostRuntime) -> Result<(), Fail> {
+        let tree = lex(rt.alloc(), "a = (1); b 2", 0)?;
+        let mut iter = tree.iter();
+        let Some((name, value)) = assignment(&mut iter) else {
+            return Err(Fail::from("no assignment"));
+        };
+        assert_eq!(rt; name.sym.as_str(), "a");
+        assert_eq!(rt; (value.len(), value.flat_len()), (1, 3));
+        assert!(rt; assignment(&mut iter).is_none());
+        assert_eq!(rt; iter.remaining().len(), 2);
+        Ok(())
+    }
+
+    #[test]
+    fn each_tree_is_expected(rt: HostRuntime) -> Result<(), Fail> {
+        let tree = lex(rt.alloc(), "a _ 1 b + - $ , ! <<= (x y)", 0)?;
+        let mut iter = tree.iter();
+        assert!(rt; expect_each(&mut iter) == Ok((3, 2)));
+        assert!(rt; iter.is_empty() && expect_each(&mut iter).is_err());
+        Ok(())
+    }
+
+    #[test]
+    fn trees_are_consumed(rt: HostRuntime) -> Result<(), Fail> {
+        let tree = lex(rt.alloc(), "(a) 1u8 [", 0)?;
+        let mut iter = tree.iter();
+        let spans = next_spans(&iter).map(|(one, two)| (one.start, two.start));
+        assert!(rt; spans == Some((0, 4)) && next_leaf(&mut iter).is_none());
+        assert_eq!(rt;
+            view_of_next(&mut iter).map(|view| view.flat_len()),
+            Some(3)
+        );
+        let mut leaves = iter.remaining().iter();
+        let Ok(Leaf::Literal(literal)) = leaves.expect_leaf() else {
+            return Err(Fail::from("no literal"));
+        };
+        assert!(rt; suffix(literal) == "u8" && literal.text() == "1");
+        assert_eq!(rt; next_leaf(&mut iter).map(|view| view.len()), Some(1));
+        assert_eq!(rt; iter.remaining().len(), 1);
+        Ok(())
+    }
+
+    #[test]
+    fn names_and_leaves_are_counted(rt: HostRuntime) -> Result<(), Fail> {
+        let tree = lex(rt.alloc(), "a (b + c) d", 0)?;
+        let names = names(rt.alloc(), &tree)?;
+        assert!(rt; names.as_slice() == ["a", "d"].as_slice());
+        assert_eq!(rt; count_leaves(tree.view()), 5);
+        Ok(())
+    }
+
+    #[test]
+    fn a_group_is_looked_into(rt: HostRuntime) -> Result<(), Fail> {
+        let tree = lex(rt.alloc(), "[a b]", 0)?;
+        let Some(group) = only_group(tree.view()) else {
+            return Err(Fail::from("no group"));
+        };
+        assert!(rt; group.top_subtree().delimiter.kind == DelimiterKind::Bracket);
+        assert_eq!(rt; group.iter().remaining().len(), 2);
+        Ok(())
+    }
+}

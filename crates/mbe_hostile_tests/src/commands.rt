@@ -1,0 +1,188 @@
+// The whole program on files of a machine of tests: its status, its output and its line on standard error.
+use crate::machine::{Content, Machine};
+use mbe_program::command::run_command;
+use std::alloc::Global;
+use std::io::ErrorKind;
+use std::process::Abort;
+use std::test::Fail;
+
+static FILES: [(&str, Content<'static>); 14] = [
+    ("good.def", Content::Bytes(b"($x:ident) => {$x}")),
+    ("old.def", Content::Bytes(b"($p:pat) => {}")),
+    ("refused.def", Content::Bytes(b"() => {} x")),
+    ("good.arg", Content::Bytes(b"a")),
+    ("other.arg", Content::Bytes(b"1")),
+    ("either.arg", Content::Bytes(b"a | b")),
+    ("open.arg", Content::Bytes(b"a \"b")),
+    ("empty", Content::Bytes(b"")),
+    ("latin", Content::Bytes(b"a\xff")),
+    ("half", Content::Bytes(b"a\xc3")),
+    ("secret", Content::Closed(ErrorKind::PermissionDenied)),
+    ("folder", Content::Breaks(b"", ErrorKind::IsADirectory)),
+    ("broken", Content::Breaks(b"a", ErrorKind::Other)),
+    ("huge", Content::Breaks(b"a", ErrorKind::OutOfMemory)),
+];
+
+// The words, the status, standard output, and the line on standard error without its end.
+type Run = (&'static str, u8, &'static str, &'static str);
+
+const EXPANDED: &str = "arm 0\nSUBTREE $$ 1@0..1 1@0..1\n  IDENT   a 1@0..1\n";
+
+const USAGE: &str = "usage: mbex [--lint] DEF-FILE ARG-FILE [EDITION]";
+
+static RUNS: [Run; 36] = [
+    ("good.def good.arg", 0, EXPANDED, ""),
+    ("good.def good.arg 2015", 0, EXPANDED, ""),
+    ("good.def good.arg 2018", 0, EXPANDED, ""),
+    ("good.def good.arg 2021", 0, EXPANDED, ""),
+    ("good.def good.arg 2024", 0, EXPANDED, ""),
+    // `pat` takes a `|` from edition 2021 on.
+    (
+        "old.def either.arg 2021",
+        0,
+        "arm 0\nSUBTREE $$ 1@0..5 1@0..5\n",
+        "",
+    ),
+    (
+        "old.def either.arg 2018",
+        1,
+        "error: leftover tokens at 1@0..5\narm 0\nSUBTREE $$ 1@0..5 1@0..5\n",
+        "",
+    ),
+    (
+        "good.def other.arg",
+        1,
+        "error: expected ident at 1@0..1\narm 0\nSUBTREE $$ 1@0..1 1@0..1\n  IDENT   missing 0@16..17\n",
+        "",
+    ),
+    (
+        "good.def empty",
+        1,
+        "error: expected ident at 1@0..0\narm 0\nSUBTREE $$ 1@0..0 1@0..0\n  IDENT   missing 0@16..17\n",
+        "",
+    ),
+    (
+        "empty good.arg",
+        1,
+        "error: no rule matches input tokens at 1@0..1\narm none\nSUBTREE $$ 1@0..1 1@0..1\n",
+        "",
+    ),
+    (
+        "empty empty",
+        1,
+        "error: no rule matches input tokens at 1@0..0\narm none\nSUBTREE $$ 1@0..0 1@0..0\n",
+        "",
+    ),
+    (
+        "refused.def good.arg",
+        2,
+        "",
+        "definition refused: expected `;`",
+    ),
+    // The files in the other order.
+    (
+        "good.arg good.def",
+        2,
+        "",
+        "definition refused: expected subtree",
+    ),
+    ("", 3, "", USAGE),
+    ("good.def", 3, "", USAGE),
+    ("good.def good.arg 2022", 3, "", USAGE),
+    ("good.def good.arg 2024 more", 3, "", USAGE),
+    ("--lint good.arg", 3, "", USAGE),
+    ("good.def ?", 3, "", USAGE),
+    ("missing good.arg", 3, "", "cannot read missing"),
+    ("good.def missing", 3, "", "cannot read missing"),
+    ("missing latin", 3, "", "cannot read missing"),
+    ("latin missing", 3, "", "cannot read latin"),
+    ("good.def latin", 3, "", "cannot read latin"),
+    ("half good.arg", 3, "", "cannot read half"),
+    ("secret good.arg", 3, "", "cannot read secret"),
+    ("good.def secret", 3, "", "cannot read secret"),
+    ("folder good.arg", 3, "", "cannot read folder"),
+    ("good.def folder", 3, "", "cannot read folder"),
+    ("broken good.arg", 3, "", "cannot read broken"),
+    ("open.arg missing", 3, "", "cannot read missing"),
+    ("open.arg good.arg", 4, "", "cannot lex open.arg at 2"),
+    ("good.def open.arg", 4, "", "cannot lex open.arg at 2"),
+    ("refused.def open.arg", 4, "", "cannot lex open.arg at 2"),
+    ("huge good.arg", 5, "", "out of memory"),
+    ("good.def huge", 5, "", "out of memory"),
+];
+
+// Whether that is on standard error: the line and its end, or nothing where there is no line.
+fn assert_says(rt: &impl Abort, written: &[u8], line: &str, words: &str) {
+    match written.split_last() {
+        None => assert_eq!(rt; line, "", "{words}"),
+        Some((end, said)) => {
+            assert_eq!(rt; *end, b'\n', "{words}");
+            assert!(rt; said == line.as_bytes(), "{words}");
+        }
+    }
+}
+
+fn assert_runs(
+    rt: &impl Abort,
+    alloc: Global,
+    &(words, status, output, line): &Run,
+) -> Result<(), Fail> {
+    let machine = Machine::new(alloc, words, &FILES);
+    assert_eq!(rt; run_command(&machine), status, "{words}");
+    let (out, err) = machine.written();
+    assert!(rt; out.as_slice() == output.as_bytes(), "{words}");
+    assert_says(rt, err.as_slice(), line, words);
+    Ok(())
+}
+
+#[test]
+fn each_run_has_a_status_an_output_and_a_line(rt: HostRuntime) -> Result<(), Fail> {
+    for run in &RUNS {
+        assert_runs(&rt, rt.alloc(), run)?;
+    }
+    Ok(())
+}
+
+// A line that can't be written changes nothing else.
+#[test]
+fn a_mute_standard_error_changes_no_status(rt: HostRuntime) -> Result<(), Fail> {
+    for &(words, status, output, _line) in &RUNS {
+        let machine = Machine::new(rt.alloc(), words, &FILES).mute();
+        assert_eq!(rt; run_command(&machine), status, "{words}");
+        let (out, err) = machine.written();
+        assert!(rt; out.as_slice() == output.as_bytes(), "{words}");
+        assert!(rt; err.is_empty(), "{words}");
+    }
+    Ok(())
+}
+
+// An output that takes so many bytes of it holds these, and the status is 3 unless that is all.
+fn assert_breaks(
+    rt: &impl Abort,
+    alloc: Global,
+    &(words, status, output, line): &Run,
+    (room, full): (usize, ErrorKind),
+) -> Result<(), Fail> {
+    let machine = Machine::new(alloc, words, &FILES).with_room(room, full);
+    let is_whole = room >= output.len();
+    let want = if is_whole { status } else { 3 };
+    assert_eq!(rt; run_command(&machine), want, "{words} at {room}");
+    let (out, err) = machine.written();
+    let taken = output.as_bytes().get(..room).unwrap_or(output.as_bytes());
+    assert!(rt; out.as_slice() == taken, "{words} at {room}");
+    let line = if is_whole { line } else { "cannot write" };
+    assert_says(rt, err.as_slice(), line, words);
+    Ok(())
+}
+
+#[test]
+fn a_full_device_and_a_closed_pipe_are_reported(rt: HostRuntime) -> Result<(), Fail> {
+    for run in &RUNS {
+        for room in 0..run.2.len() {
+            assert_breaks(&rt, rt.alloc(), run, (room, ErrorKind::StorageFull))?;
+        }
+        assert_breaks(&rt, rt.alloc(), run, (run.2.len(), ErrorKind::StorageFull))?;
+        assert_breaks(&rt, rt.alloc(), run, (0, ErrorKind::BrokenPipe))?;
+    }
+    Ok(())
+}

@@ -1,0 +1,24 @@
+// Tests of what must stand whatever it is given: memory that runs out at any request, files that can't be read, outputs that
+// break off, and definitions and arguments that are very large.
+#![tactic(auto)]
+
+#[cfg(test)]
+mod commands;
+#[cfg(test)]
+mod copies;
+#[cfg(test)]
+mod expansions;
+#[cfg(test)]
+mod large;
+#[cfg(test)]
+mod machine;
+#[cfg(test)]
+mod reading;
+#[cfg(test)]
+mod requests;
+#[cfg(test)]
+mod rows;
+#[cfg(test)]
+mod trees;
+#[cfg(test)]
+mod writers;

@@ -1,0 +1,115 @@
+// Definitions that are read while each request for memory is refused in turn.
+use crate::requests::{Ended, Work, refusals};
+use crate::rows::ROWS;
+use mbe::{DeclarativeMacro, MacroCallStyle};
+use mbe_text::lexer::{LexError, lex};
+use mbe_text::printing::print_tree;
+use mbe_tt::span::Edition;
+use mbe_tt::tt::TopSubtree;
+use std::alloc::{AllocError, Allocator, Global};
+use std::test::Fail;
+
+/// The token trees of a text without fault.
+pub fn lexed<A: Allocator + Copy>(
+    alloc: A,
+    file: u32,
+    text: &str,
+) -> Result<TopSubtree<A>, AllocError> {
+    if text.len() > u32::MAX as usize {
+        return Err(AllocError);
+    }
+    match lex(alloc, text, file) {
+        Ok(tree) => Ok(tree),
+        Err(LexError::OutOfMemory | LexError::Fault(_)) => Err(AllocError),
+    }
+}
+
+/// The tree as it is printed.
+pub fn printed<A: Allocator>(global: Global, tree: &TopSubtree<A>) -> Result<String, AllocError> {
+    let mut out = Vec::new(global);
+    if print_tree(tree, &mut out).is_err() {
+        return Err(AllocError);
+    }
+    String::from_utf8(out).map_err(|_| AllocError)
+}
+
+/// The macro of the definition, read in edition 2024.
+pub fn parsed<A: Allocator + Copy>(
+    alloc: A,
+    definition: &TopSubtree<A>,
+) -> Result<DeclarativeMacro<A>, AllocError> {
+    DeclarativeMacro::parse_macro_rules(alloc, definition, |_context| Edition::Edition2024)
+}
+
+/// What is read, and by which call.
+#[derive(Clone, Copy)]
+enum Reading {
+    Rules(&'static str),
+    Body(&'static str),
+    Arguments(&'static str, &'static str),
+}
+
+impl Reading {
+    fn texts(self) -> (&'static str, &'static str) {
+        match self {
+            Reading::Rules(text) | Reading::Body(text) => ("", text),
+            Reading::Arguments(args, body) => (args, body),
+        }
+    }
+
+    fn read<A: Allocator + Copy>(
+        self,
+        alloc: A,
+        args: &TopSubtree<A>,
+        body: &TopSubtree<A>,
+    ) -> Result<DeclarativeMacro<A>, AllocError> {
+        let edition = |_context| Edition::Edition2024;
+        match self {
+            Reading::Rules(_) => parsed(alloc, body),
+            Reading::Body(_) => DeclarativeMacro::parse_macro2(alloc, None, body, edition),
+            Reading::Arguments(..) => {
+                DeclarativeMacro::parse_macro2(alloc, Some(args), body, edition)
+            }
+        }
+    }
+}
+
+// The trees stay as they were, and are read once more, to an equal macro with a rule.
+impl Work for Reading {
+    fn ended<A: Allocator + Copy>(&self, _global: Global, alloc: A) -> Result<Ended, AllocError> {
+        let (args, body) = self.texts();
+        let args = lexed(alloc, 0, args)?;
+        let body = lexed(alloc, 0, body)?;
+        let before = (args.try_clone()?, body.try_clone()?);
+        let first = self.read(alloc, &args, &body);
+        let is_unchanged = args == before.0 && body == before.1;
+        let again = self.read(alloc, &args, &body)?;
+        let is_read = is_unchanged && again.num_rules() > 0;
+        Ok(match first {
+            Ok(first) => Ended::answered(is_read && first == again),
+            Err(AllocError) => Ended::refused(is_read),
+        })
+    }
+}
+
+// Every form of pattern and of template, and a fault.
+const EVERY_FORM: &str =
+    "unsafe attr(x) ($a:ident $b:literal [c] 1 + $($d:expr),* $($e:ty)'f + $($g:tt)1? $(h)=>* \
+    $(i)* $(k)and* $crate) => {$a $j [c] 1 + $($d $e);* $($g)? ${ignore($a)} ${index()} ${len(1)} ${count($d)} ${count($e, 1)} \
+    ${concat(a, $a, 1)} $$ $crate $}; () => {}; ($x)";
+
+#[test]
+fn each_request_of_reading_refused(rt: HostRuntime) -> Result<(), Fail> {
+    for &(definition, ..) in &ROWS {
+        for work in [Reading::Rules(definition), Reading::Body(definition)] {
+            let count = refusals(&rt, rt.alloc(), &work, definition)?;
+            assert!(rt; count > 1, "{definition}");
+        }
+    }
+    let args = Reading::Arguments("$($x:ident),*", "$($x);*");
+    for work in [args, Reading::Rules(EVERY_FORM), Reading::Body(EVERY_FORM)] {
+        let count = refusals(&rt, rt.alloc(), &work, "every form")?;
+        assert!(rt; count > 1);
+    }
+    Ok(())
+}

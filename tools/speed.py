@@ -1,0 +1,161 @@
+#!/usr/bin/env python3
+"""Measures `mbex` beside the original. Outside the gate, from any folder:
+
+    python3 tools/speed.py MBEX ORIGINAL [--case WORD].. [--size N].. [--requests]
+
+MBEX is the program that `rt run` leaves in crates/mbex/out, ORIGINAL a program with the same face over the Rust crate. Each run
+lexes both texts, reads the definition, expands, and prints. It writes a table in Markdown: for each case and size the
+instructions a token of either program (valgrind's callgrind, which repeats, whatever else the machine does), their ratio, and
+the bytes of memory a token at the peak, above what the program takes for an empty argument. A token is a flat token of both texts
+together. With --requests a column more counts requests for memory of either. Both programs must print the same.
+"""
+import argparse
+import os
+import re
+import subprocess
+import tempfile
+
+SIZES = (2_000, 20_000, 65_535)
+
+
+def words(count, name="a"):
+    return [f"{name}{i % 97}" for i in range(count)]
+
+
+def rules(count, pattern):
+    """Rules that don't fit, of a word that differs from the argument's, before the last one, which does."""
+    return "; ".join([pattern.format(f"w{i}") for i in range(count - 1)] + [pattern.format("last")])
+
+
+def plain_rules(n):
+    count = n // 14
+    return rules(count, "({} $x:ident = $y:tt) => {{ a $x b $y }}"), "last p = 1"
+
+
+def repeating_rules(n):
+    count = n // 29
+    return rules(count, "({} $( $x:ident = $y:tt ),* $(;)?) => {{ $( $x $y )* }}"), "last p = 1, q = 2"
+
+
+def long_pattern(n):
+    names = [f"$x{i}:ident" if i % 10 == 0 else f"t{i % 53}" for i in range(n)]
+    return f"({' '.join(names)}) => {{}}", " ".join("q" if i % 10 == 0 else f"t{i % 53}" for i in range(n))
+
+
+def puncts(n):
+    text = " ".join("+ - *".split()[i % 3] for i in range(n))
+    return f"({text}) => {{}}", text
+
+
+def groups(n):
+    text = " ".join("( " * 100 + ") " * 100 for _ in range(max(1, n // 200)))
+    return f"({text}) => {{}}", text
+
+
+def fragments(n):
+    # Each kind that a grammar parses, one after another.
+    kinds = [("$x{}:ty;", "u8;"), ("$x{}:expr;", "a + 1;"), ("$x{}:path;", "a::b;"), ("$x{}:pat;", "(b);")]
+    count = max(1, n // 12)
+    pattern = " ".join(kinds[i % 4][0].format(i) for i in range(count))
+    return f"({pattern}) => {{}}", " ".join(kinds[i % 4][1] for i in range(count))
+
+
+def nested(n):
+    lists = [" ".join(words(100)) for _ in range(max(1, n // 100))]
+    return "($($($x:ident)*);*) => {$($($x)*)*}", ";".join(lists)
+
+
+def expressions(n):
+    return "($($x:ident = $e:expr;)*) => {}", " ".join(f"{word} = {i % 9} + b;" for i, word in enumerate(words(n)))
+
+
+def many_rules_of_an_expression(n):
+    return rules(200, "($e:expr ; {}) => {{ $e }}"), " + ".join(words(n // 2)) + " ; last"
+
+
+CASES = {
+    "plain rules, the last of which fits": plain_rules,
+    "rules with repetitions, the last of which fits": repeating_rules,
+    "a long pattern, every tenth a variable": long_pattern,
+    "a pattern of puncts": puncts,
+    "groups 100 deep": groups,
+    "fragments of the grammar": fragments,
+    "`($($x:ident),*) => {}`": lambda n: ("($($x:ident),*) => {}", ",".join(words(n))),
+    "`($($x:ident)*) => {$($x)*}`": lambda n: ("($($x:ident)*) => {$($x)*}", " ".join(words(n))),
+    "`($($x:ident = $e:expr;)*) => {}`": expressions,
+    "repetitions in repetitions": nested,
+    "two lists side by side": lambda n: (
+        "($($x:ident)* ; $($y:ident)*) => {$($x $y)*}",
+        f"{' '.join(words(n))} ; {' '.join(words(n, 'b'))}",
+    ),
+    "counts": lambda n: ("($($x:ident)*) => {${count($x)} $(${index()} ${len()})*}", " ".join(words(n))),
+    "a list of expressions": lambda n: ("($($e:expr),*) => {[$($e),*]}", ", ".join(f"{w} + 1" for w in words(n))),
+    "200 rules with an expression": many_rules_of_an_expression,
+    "one `$x:tt`": lambda n: ("($x:tt) => {$x}", f"({' '.join(words(n))})"),
+}
+
+
+def flat_tokens(text):
+    """Words, and each other char but spaces; a `$` before a word is one of its own."""
+    return len(re.findall(r"\w+|[^\w\s]", text))
+
+
+def instructions(command):
+    it = subprocess.run(["valgrind", "--tool=callgrind", "--callgrind-out-file=/dev/null", *command], capture_output=True, check=False)
+    return int(re.search(rb"Collected : (\d+)", it.stderr)[1])
+
+
+def requests(command):
+    it = subprocess.run(["valgrind", "--tool=memcheck", *command], capture_output=True, check=False)
+    return int(re.search(rb"total heap usage: ([\d,]+) allocs", it.stderr)[1].replace(b",", b""))
+
+
+def peak(command):
+    """The most memory of a run, in bytes. A child of this script would count what the script itself takes, so `time` starts it."""
+    it = subprocess.run(["/usr/bin/time", "-f", "%M", *command], stdout=subprocess.DEVNULL, stderr=subprocess.PIPE, check=False)
+    return int(it.stderr.split()[-1]) * 1024
+
+
+def printed(command):
+    return subprocess.run(command, capture_output=True, check=False).stdout
+
+
+def main():
+    parser = argparse.ArgumentParser()
+    parser.add_argument("mbex")
+    parser.add_argument("original")
+    parser.add_argument("--case", action="append")
+    parser.add_argument("--size", action="append", type=int)
+    parser.add_argument("--requests", action="store_true")
+    asked = parser.parse_args()
+    both = [os.path.abspath(asked.mbex), os.path.abspath(asked.original)]
+    folder = tempfile.mkdtemp()
+
+    def files(rule, argument):
+        for name, text in (("def", rule), ("arg", argument)):
+            with open(f"{folder}/{name}", "w", encoding="utf-8") as it:
+                it.write(text)
+        return [[program, f"{folder}/def", f"{folder}/arg"] for program in both]
+
+    least = [peak(it) for it in files("() => {}", "")]
+    more = "requests a token, original's | " if asked.requests else ""
+    print(f"| Case | Size | Tokens | Instructions a token | Original's | Ratio | Bytes a token | Original's | {more}")
+    print("|---|---|---|---|---|---|---|---|" + ("---|" if more else ""))
+    for case, make in CASES.items():
+        if asked.case and not any(word in case for word in asked.case):
+            continue
+        for size in asked.size or SIZES:
+            rule, argument = make(size)
+            tokens = flat_tokens(rule) + flat_tokens(argument)
+            commands = files(rule, argument)
+            same = "" if printed(commands[0]) == printed(commands[1]) else " (prints differ)"
+            ours, others = (instructions(it) / tokens for it in commands)
+            taken = [(peak(it) - base) / tokens for it, base in zip(commands, least)]
+            row = [case + same, f"{size:,}", f"{tokens:,}", f"{ours:,.0f}", f"{others:,.0f}", f"{ours / others:.2f}"]
+            row += [f"{it:,.0f}" for it in taken]
+            if more:
+                row.append(", ".join(f"{requests(it) / tokens:.2f}" for it in commands))
+            print("| " + " | ".join(row) + " |", flush=True)
+
+
+main()
