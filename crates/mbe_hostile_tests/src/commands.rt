@@ -30,7 +30,7 @@ const EXPANDED: &str = "arm 0\nSUBTREE $$ 1@0..1 1@0..1\n  IDENT   a 1@0..1\n";
 
 const USAGE: &str = "usage: mbex [--lint] DEF-FILE ARG-FILE [EDITION]";
 
-static RUNS: [Run; 36] = [
+static RUNS: [Run; 45] = [
     ("good.def good.arg", 0, EXPANDED, ""),
     ("good.def good.arg 2015", 0, EXPANDED, ""),
     ("good.def good.arg 2018", 0, EXPANDED, ""),
@@ -85,6 +85,36 @@ static RUNS: [Run; 36] = [
         2,
         "",
         "definition refused: expected subtree",
+    ),
+    ("--lint good.def good.arg", 0, "rule 0: one reading\n", ""),
+    ("--lint good.def other.arg", 0, "rule 0: stuck at 0\n", ""),
+    // `pat` takes the first name alone.
+    (
+        "--lint old.def either.arg 2018",
+        0,
+        "rule 0: stuck at 1\n",
+        "",
+    ),
+    (
+        "--lint old.def either.arg 2021",
+        0,
+        "rule 0: one reading\n",
+        "",
+    ),
+    ("--lint empty good.arg", 0, "", ""),
+    (
+        "--lint refused.def good.arg",
+        2,
+        "",
+        "definition refused: expected `;`",
+    ),
+    ("--lint", 3, "", USAGE),
+    ("--lint good.def missing", 3, "", "cannot read missing"),
+    (
+        "--lint good.def open.arg",
+        4,
+        "",
+        "cannot lex open.arg at 2",
     ),
     ("", 3, "", USAGE),
     ("good.def", 3, "", USAGE),

@@ -123,5 +123,5 @@ pub fn ran<A: Allocator + Copy, W: Write>(
     if def.len() > u32::MAX as usize || arg.len() > u32::MAX as usize {
         return Outcome::OutOfMemory;
     }
-    run(alloc, def, arg, Edition::Edition2024, out)
+    run(alloc, def, arg, Edition::Edition2024, false, out)
 }

@@ -12,7 +12,7 @@ use std::io::{BufWriter, Write};
 
 // The words of each run. The file `missing` isn't there, `.` is a folder, nobody can read the first bytes of `/proc/self/mem`,
 // and `latin` isn't UTF-8.
-static RUNS: [&str; 19] = [
+static RUNS: [&str; 22] = [
     "good.def good.arg",
     "good.def good.arg 2015",
     "good.def other.arg",
@@ -32,6 +32,9 @@ static RUNS: [&str; 19] = [
     "good.def latin",
     "open.arg good.arg",
     "good.def open.arg",
+    "--lint good.def good.arg",
+    "--lint good.def other.arg",
+    "--lint refused.def good.arg",
 ];
 
 fn words_of(alloc: Global, text: &str) -> Result<Vec<String>, AllocError> {
@@ -50,6 +53,7 @@ fn status_of<W: Write + Drop>(alloc: Global, out: W) -> io::Result<u8> {
         "($x:ident) => {$x}",
         "a",
         Edition::Edition2024,
+        false,
         &mut out,
     );
     Ok(outcome.status())
