@@ -50,7 +50,7 @@ type Row = (&'static str, &'static str, &'static [Verdict]);
 static VERDICTS: [Row; 8] = [
     ("", "a", &[]),
     (
-        "(a) => {}; ($x:ident) => {${count(y)}}; ($x:tt $y:tt) => {}",
+        "(a) => {}; ($x:ident) => {${count($y)}}; ($x:tt $y:tt) => {}",
         "a",
         &[Verdict::OneReading, Verdict::OneReading, Verdict::Stuck(1)],
     ),
