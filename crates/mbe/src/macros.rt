@@ -36,7 +36,10 @@ use std::alloc::{AllocError, Allocator, Global};
 pub struct DeclarativeMacro<A: Allocator = Global> {
     rules: Vec<Rule<A>, A>,
     err: Option<ParseError<A>>,
-    ghost tells_refusal: { TellsRefusal (record { rules = rules_seen rules.items; err = option_map parse_error_of err }) },
+    ghost tells_refusal: { TellsRefusal (record {
+      rules = rules_seen rules.items;
+      err = option_map parse_error_of err;
+    }) },
 }
 
 impl<A: Allocator + Copy> DeclarativeMacro<A> {
@@ -96,7 +99,8 @@ impl<A: Allocator + Copy> DeclarativeMacro<A> {
         ctx_edition: E,
     ) -> Result<DeclarativeMacro<A>, AllocError>
         requires { MayAsk (E.pre ctx_edition) }
-        ensures { IfOk result (λ m. IsReadAsMacro (E.post ctx_edition) (option_map (λ trees. trees.now.1) args.entry) body.now.1 (macro_of m)) }
+        ensures { IfOk result (λ m. IsReadAsMacro (E.post ctx_edition)
+            (option_map (λ trees. trees.now.1) args.entry) body.now.1 (macro_of m)) }
     {
         match args {
             Some(args) => {
@@ -122,7 +126,10 @@ impl<A: Allocator + Copy> DeclarativeMacro<A> {
         rules: Vec<Rule<A>, A>,
         fault: Option<Fault>,
     ) -> Result<DeclarativeMacro<A>, AllocError>
-        ensures { IfOk result (λ m. macro_of m ≡ record { rules = rules_seen rules.items; err = with_refusal (rules_seen rules.items) (option_map fault_of fault) }) }
+        ensures { IfOk result (λ m. macro_of m ≡ record {
+          rules = rules_seen rules.items;
+          err = with_refusal (rules_seen rules.items) (option_map fault_of fault);
+        }) }
     {
         if refuses_some(&rules) {
             return Ok(DeclarativeMacro {
