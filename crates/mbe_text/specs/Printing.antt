@@ -14,6 +14,8 @@ use Rattle.mbe_tt.specs.declared.tt.Spacing.{Spacing}
 use Rattle.mbe_tt.specs.declared.tt.Spacing.TheVariants.{Alone, Joint}
 use Rattle.mbe_tt.specs.declared.tt.LitKind.{LitKind}
 use Rattle.mbe_tt.specs.declared.tt.LitKind.TheVariants.{Byte, Char, Integer, Float, Str, StrRaw, ByteStr, ByteStrRaw, CStr, CStrRaw, Err}
+use Rattle.mbe_text.specs.declared.lexer.LexError.{LexError}
+use Rattle.mbe_text.specs.declared.lexer.LexError.TheVariants.{Fault, OutOfMemory}
 
 -- the file, `@`, the first byte, `..` and the byte after the last, all in decimal
 abbrev pub span_text : Span → List ℕ
@@ -91,6 +93,11 @@ abbrev pub depth_after : Option Tree → ℕ → ℕ
 depth_after None depth = depth - 1
 depth_after (Some (Leaf_tree l)) depth = depth
 depth_after (Some (Group_tree d inside)) depth = depth + 1
+
+-- why a text isn't lexed
+abbrev pub lex_error_text : LexError → List ℕ
+lex_error_text (Fault offset) = codes "cannot lex at " ++ decimal offset
+lex_error_text OutOfMemory = codes "out of memory"
 
 -- the lines of a whole buffer
 abbrev pub tree_text : Top → List ℕ

@@ -22,6 +22,11 @@ pub enum LexError {
 }
 
 impl fmt::Display for LexError {
+    ghost use Rattle.std.specs.Prelude.{Some};
+    ghost use Rattle.mbe_text.specs.Printing.{lex_error_text};
+
+    ghost output = { λ e. Some (lex_error_text e) };
+
     fn fmt<W: fmt::Write>(&self, f: &mut fmt::Formatter<W>) -> fmt::Result {
         match self {
             LexError::Fault(offset) => write!(f, "cannot lex at {offset}"),
