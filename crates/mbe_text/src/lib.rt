@@ -2,5 +2,6 @@
 #![tactic(auto)]
 
 pub mod lexer;
+pub mod output;
 pub mod printing;
 pub mod scanner;
