@@ -1,5 +1,6 @@
--- What a run makes of the trees of both texts.
+-- What a run makes of both texts, and what it writes.
 use Rattle.std.specs.Prelude.{◌≡◌, ⊤, ℕ, List, Option, Some, None}
+use Rattle.std.specs.Io.KnownBytes.{Appends}
 use Rattle.mbe_tt.specs.declared.span.Edition.{Edition}
 use Rattle.mbe_tt.specs.declared.span.Span.{Span}
 use Rattle.mbe_tt.specs.declared.span.SyntaxContext.{SyntaxContext}
@@ -11,6 +12,8 @@ use Rattle.mbe_errors.specs.ErrorViews.{parse_error_of}
 use Rattle.mbe_semantics.specs.Expansion.Macro.{Expands}
 use Rattle.mbe_semantics.specs.Expansion.ReadAs.{IsReadAs}
 use Rattle.mbe_semantics.specs.declared.macro_call_style.MacroCallStyle.TheVariants.{FnLike}
+use Rattle.mbe_text.specs.Writing.{Takes}
+use Rattle.mbe_program.specs.Printed.{printed}
 use Rattle.mbe_program.specs.declared.program.Outcome.{Outcome}
 use Rattle.mbe_program.specs.declared.program.Outcome.TheVariants.{Expanded, Faulted, Refused, CannotLex, CannotWrite, OutOfMemory}
 
@@ -35,10 +38,7 @@ abbrev pub IsRefused : {A : Type 0} → Edition → Forest → Outcome A → Typ
 IsRefused edition definition (Refused error) =
     (rules : List Rule) × IsReadAs (IsEdition edition) definition (record { rules = rules; err = Some (parse_error_of error) })
 IsRefused edition definition OutOfMemory = ⊤
-IsRefused edition definition Expanded = ⊥
-IsRefused edition definition Faulted = ⊥
-IsRefused edition definition (CannotLex file offset) = ⊥
-IsRefused edition definition CannotWrite = ⊥
+IsRefused edition definition outcome = ⊥
 
 -- ---- from texts
 
@@ -52,22 +52,28 @@ pub record ExpandsTexts (edition : Edition) (arg_len : ℕ) (out : Forest) (inde
   pub argument : Forest
   pub expands : ExpandsTrees edition definition argument (whole_file 1 arg_len) out index err
 
--- A run ends as `Expanded` where the answer has no error, as `Faulted` where it has one, and as `Refused` with the fault of
--- some trees of the definition.
-abbrev pub EndsAs : {A : Type 0} → Edition → ℕ → Outcome A → Type 0
-EndsAs edition arg_len Expanded = (out : Forest) × (index : Option ℕ) × ExpandsTexts edition arg_len out index None
-EndsAs edition arg_len Faulted =
-    (out : Forest) × (index : Option ℕ) × (e : ExpandError) × ExpandsTexts edition arg_len out index (Some e)
-EndsAs edition arg_len (Refused error) = (definition : Forest) × IsRefused edition definition (Refused error)
-EndsAs edition arg_len (CannotLex file offset) = ⊤
-EndsAs edition arg_len CannotWrite = ⊤
-EndsAs edition arg_len OutOfMemory = ⊤
-
 -- a text isn't lexed, or there is no memory
 abbrev pub IsUnlexed : {A : Type 0} → Outcome A → Type 0
 IsUnlexed (CannotLex file offset) = ⊤
 IsUnlexed OutOfMemory = ⊤
-IsUnlexed (Refused error) = ⊥
-IsUnlexed Expanded = ⊥
-IsUnlexed Faulted = ⊥
-IsUnlexed CannotWrite = ⊥
+IsUnlexed outcome = ⊥
+
+-- There is no expansion of the texts: one isn't lexed, there is no memory, or the trees of the definition have that fault.
+abbrev pub IsUnexpanded : {A : Type 0} → Edition → Outcome A → Type 0
+IsUnexpanded edition (Refused error) = (definition : Forest) × IsRefused edition definition (Refused error)
+IsUnexpanded edition (CannotLex file offset) = ⊤
+IsUnexpanded edition OutOfMemory = ⊤
+IsUnexpanded edition outcome = ⊥
+
+-- Where the answer has no error, a run ends as `Expanded`, and where it has one, as `Faulted`; either way what is printed of it
+-- is written. If a write fails, a prefix of that is written. Without an answer nothing is.
+abbrev pub EndsAs : {A : Type 0} → Edition → ℕ → Option (List ℕ) → Option (List ℕ) → Outcome A → Type 0
+EndsAs edition arg_len before after Expanded =
+    (out : Forest) × (index : Option ℕ) × ExpandsTexts edition arg_len out index None × Appends before after (printed out index None)
+EndsAs edition arg_len before after Faulted =
+    (out : Forest) × (index : Option ℕ) × (e : ExpandError) × ExpandsTexts edition arg_len out index (Some e)
+    × Appends before after (printed out index (Some e))
+EndsAs edition arg_len before after CannotWrite =
+    (out : Forest) × (index : Option ℕ) × (err : Option ExpandError) × (left : List ℕ) × ExpandsTexts edition arg_len out index err
+    × Takes before after (printed out index err) left
+EndsAs edition arg_len before after outcome = IsUnexpanded edition outcome × (after ≡ before)

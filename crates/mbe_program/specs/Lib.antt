@@ -1,4 +1,5 @@
 pub mod Expansion
 pub mod Options
 pub mod Outcomes
+pub mod Printed
 pub mod Unread

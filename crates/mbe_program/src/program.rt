@@ -2,10 +2,10 @@
 ghost use Rattle.std.specs.Prelude.{◌≡◌, ◌<◌, ◌^◌, ◌⊎◌, length, IfErr, IfOk};
 ghost use Rattle.mbe_tt.specs.Trees.Top.{top_group};
 ghost use Rattle.mbe_errors.specs.ErrorViews.{errors_of};
-ghost use Rattle.mbe_program.specs.Expansion.{ExpandsTrees, IsRefused, ExpandsTexts, EndsAs, IsUnlexed};
+ghost use Rattle.mbe_program.specs.Expansion.{ExpandsTrees, IsRefused, ExpandsTexts, EndsAs, IsUnexpanded, IsUnlexed};
 ghost use Rattle.mbe_program.specs.Outcomes.{FaultsIn, IsSilent, status_of};
 
-use crate::printing::print_expansion;
+use crate::printing::{head_of, print_expansion};
 use mbe::{DeclarativeMacro, ExpandResult, MacroCallStyle, MatchedArmIndex, ParseError};
 use mbe_grammar::SampleGrammar;
 use mbe_text::lexer::{LexError, lex};
@@ -98,7 +98,7 @@ fn expansion<A: Allocator + Copy>(
 }
 
 // What the text of a definition makes of that of an argument.
-#[tactic(auto, using(crate::proofs::OutcomeLemmas::unlexed_ends))]
+#[tactic(auto, using(crate::proofs::OutcomeLemmas::unlexed))]
 fn texts_expansion<A: Allocator + Copy>(
     alloc: A,
     def: &str,
@@ -109,7 +109,7 @@ fn texts_expansion<A: Allocator + Copy>(
     requires arg { length arg.now < 2 ^ 32 }
     ensures expands { IfOk result (λ r. ExpandsTexts edition (length arg.now)
         (top_group r.value.0) r.value.1 (errors_of r.err)) }
-    ensures ended { IfErr result (EndsAs edition (length arg.now)) }
+    ensures unexpanded { IfErr result (IsUnexpanded edition) }
     ensures within { IfErr result (λ outcome.
         FaultsIn 0 (length def.now) outcome ⊎ FaultsIn 1 (length arg.now) outcome) }
 {
@@ -120,8 +120,8 @@ fn texts_expansion<A: Allocator + Copy>(
 }
 
 /// Expands the text of an argument by the text of a definition, in which every token is of that edition, and writes the
-/// error, if there is one, the rule used and the tree. Nothing is written where a text isn't lexed, the definition is
-/// refused or memory is wanting. Where a write fails, the outcome says so, and what was written is a beginning.
+/// error, if there is one, the rule used and the tree, and flushes. Nothing is written if a text isn't lexed, the definition
+/// is refused or memory runs out. If a write fails, the outcome says so, and what was written is a prefix.
 pub fn run<A: Allocator + Copy, W: Write>(
     alloc: A,
     def: &str,
@@ -132,14 +132,19 @@ pub fn run<A: Allocator + Copy, W: Write>(
     requires def { length def.now < 2 ^ 32 }
     requires arg { length arg.now < 2 ^ 32 }
     ensures silent { IsSilent result (W.contents out.old) (W.contents out.new) }
-    ensures ended { EndsAs edition (length arg.now) result }
+    ensures ended { EndsAs edition (length arg.now)
+        (W.contents out.old) (W.contents out.new) result }
     ensures within { FaultsIn 0 (length def.now) result ⊎ FaultsIn 1 (length arg.now) result }
 {
     let expansion = match texts_expansion(alloc, def, arg, edition) {
         Ok(expansion) => expansion,
         Err(outcome) => return outcome,
     };
-    if print_expansion(&expansion, out).is_err() {
+    let (tree, arm) = &expansion.value;
+    let Ok(head) = head_of(alloc, expansion.err.as_ref(), *arm) else {
+        return Outcome::OutOfMemory;
+    };
+    if print_expansion(head.as_str(), tree, out).is_err() {
         return Outcome::CannotWrite;
     }
     match expansion.err {
