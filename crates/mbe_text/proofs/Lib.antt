@@ -1,3 +1,4 @@
 pub mod Lines
+pub mod Made
 pub mod Printed
 pub mod Taken

@@ -1,11 +1,9 @@
 -- The lines of a forest, one flat token after another.
-use Rattle.std.proofs.Common.{◌≡◌, ℕ, zero, suc, ◌+◌, ◌-◌, ◌<◌, ◌≤◌, ◌^◌, List, [], ◌∷◌, ◌++◌, length, drop, refl, sym, ap, ◌∙◌, arith, append_assoc, append-nil, Some, None, Option}
+use Rattle.std.proofs.Common.{◌≡◌, ℕ, zero, suc, ◌+◌, ◌-◌, ◌<◌, ◌≤◌, List, [], ◌∷◌, ◌++◌, length, drop, refl, sym, ap, ◌∙◌, arith, append_assoc, append-nil}
 use Rattle.std.specs.Prelude.{codes}
-use Rattle.mbe_tt.specs.Trees.Tree.{Forest, none, leaf, group, first, flat_len, rest_at, Tree, Leaf_tree, Group_tree}
+use Rattle.mbe_tt.specs.Trees.Tree.{Forest, none, leaf, group, first, flat_len, rest_at}
 use Rattle.mbe_tt.specs.Buffers.Place.{Rests, step, rests, spell_rests}
 use Rattle.mbe_tt.specs.Views.Entries.{spell}
-use Rattle.mbe_tt.specs.Views.Entry.{Entry}
-use Rattle.mbe_tt.specs.Views.Entry.{Leaf, Open, Close}
 use Rattle.mbe_tt.proofs.Places.Placed.{walk-step, left_is, rest_at-rests, depth_le}
 use Rattle.mbe_tt.proofs.Buffers.Spelled.{length-spell}
 use Rattle.mbe_text.specs.Printing.{indentation, lines, line, leaf_line, group_line, first_line, depth_after}

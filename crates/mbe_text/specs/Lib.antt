@@ -1,3 +1,4 @@
 pub mod Printing
 pub mod Scanning
+pub mod Tokens
 pub mod Writing

@@ -1,6 +1,7 @@
 // The token trees of a text.
-ghost use Rattle.std.specs.Prelude.{◌≡◌, ◌<◌, ◌+◌, ◌^◌, length, IfErr};
+ghost use Rattle.std.specs.Prelude.{◌≡◌, ◌<◌, ◌+◌, ◌^◌, ◌++◌, length, IfOk, IfErr, OnOk};
 ghost use Rattle.mbe_text.specs.Scanning.{FaultsWithin};
+ghost use Rattle.mbe_text.specs.Tokens.{Adds, IsAstray, FaultsAt, IsMade, ended, token_item, close_item};
 
 use crate::scanner::{Fault, Lexeme, Scanner, Token, file_span};
 use mbe_tt::span::Span;
@@ -57,34 +58,37 @@ fn add<A: Allocator + Copy>(
     alloc: A,
     token: Token<'_>,
 ) -> Result<(), LexError>
-    ensures { IfErr result (FaultsWithin token.entry.span.start) }
+    ensures ok { OnOk result (Adds (token_item token.entry) builder.old builder.new) }
+    ensures err { IfErr result (FaultsAt (token_item token.entry) builder.old) }
 {
     let span = token.span;
     match token.lexeme {
-        Lexeme::Open(kind) => builder.open(kind, span)?,
-        Lexeme::Close(kind) => close(builder, kind, span)?,
-        Lexeme::Punct { char, spacing } => builder.push(Leaf::Punct(Punct {
+        Lexeme::Open(kind) => Ok(builder.open(kind, span)?),
+        Lexeme::Close(kind) => Ok(close(builder, kind, span)?),
+        Lexeme::Punct { char, spacing } => Ok(builder.push(Leaf::Punct(Punct {
             char,
             spacing,
             span,
-        }))?,
+        }))?),
         Lexeme::Ident { name, is_raw } => {
             let sym = Symbol::intern(alloc, name)?;
-            builder.push(Leaf::Ident(Ident { sym, is_raw, span }))?;
+            Ok(builder.push(Leaf::Ident(Ident { sym, is_raw, span }))?)
         }
         Lexeme::Literal {
             text,
             suffix,
             suffix_len,
             kind,
-        } => builder.push(Leaf::Literal(Literal {
-            text_and_suffix: joined(alloc, text, suffix)?,
-            suffix_len,
-            kind,
-            span,
-        }))?,
+        } => {
+            let text_and_suffix = joined(alloc, text, suffix)?;
+            Ok(builder.push(Leaf::Literal(Literal {
+                text_and_suffix,
+                suffix_len,
+                kind,
+                span,
+            }))?)
+        }
     }
-    Ok(())
 }
 
 // Closes the innermost open group, if it is of that kind.
@@ -93,7 +97,9 @@ fn close<A: Allocator>(
     kind: DelimiterKind,
     span: Span,
 ) -> Result<(), Fault>
-    ensures { IfErr result (λ fault. fault.offset ≡ span.start) }
+    ensures ok { OnOk result (Adds (close_item kind span) builder.old builder.new) }
+    ensures err { IfErr result (λ fault. (fault.offset ≡ span.start)
+        × IsAstray (close_item kind span) builder.old) }
 {
     match builder.open_kind() {
         Some(open) if open == kind => {
@@ -106,7 +112,9 @@ fn close<A: Allocator>(
 
 // The trees, with each open group closed with this span.
 #[tactic(auto, using(mbe_tt::proofs::Buffers::OpenGroups::closed_length))]
-fn finish<A: Allocator>(mut builder: TopSubtreeBuilder<A>, end: Span) -> TopSubtree<A> {
+fn finish<A: Allocator>(mut builder: TopSubtreeBuilder<A>, end: Span) -> TopSubtree<A>
+    ensures { result ≡ ended end builder }
+{
     'groups: while builder.open_kind().is_some() {
         builder.close(end);
     }
@@ -114,11 +122,9 @@ fn finish<A: Allocator>(mut builder: TopSubtreeBuilder<A>, end: Span) -> TopSubt
 }
 
 // The symbol of a literal: its text and then its suffix.
-fn joined<A: Allocator + Copy>(
-    alloc: A,
-    text: &str,
-    suffix: &str,
-) -> Result<Symbol<A>, AllocError> {
+fn joined<A: Allocator + Copy>(alloc: A, text: &str, suffix: &str) -> Result<Symbol<A>, AllocError>
+    ensures { IfOk result (λ s. s ≡ text.now ++ suffix.now) }
+{
     if suffix.is_empty() {
         return Symbol::intern(alloc, text);
     }
@@ -128,13 +134,15 @@ fn joined<A: Allocator + Copy>(
 }
 
 /// The token trees of a file's text, inside an invisible group whose both spans are the whole text. Spans count bytes.
-/// Groups that are open at the end are closed there. A closing without its group is a fault, and so is what isn't a token.
+/// Each closing closes a group of its own kind, and another is a fault, as is what isn't a token. Groups that are open at the end
+/// are closed there.
 ///
 /// The tokens are the project's own choice, near to Rust's: doc comments are comments, and prefixed strings, raw strings
 /// and byte literals are faults. It asks that the text is shorter than 2^32 bytes, as spans count them in 32 bits.
 pub fn lex<A: Allocator + Copy>(alloc: A, text: &str, file: u32) -> Result<TopSubtree<A>, LexError>
     requires { length text.now < 2 ^ 32 }
-    ensures { IfErr result (FaultsWithin (length text.now)) }
+    ensures made { IfOk result (IsMade file (length text.now)) }
+    ensures within { IfErr result (FaultsWithin (length text.now)) }
 {
     let len = text.len() as u32;
     let mut scanner = Scanner::new(text, file);

@@ -1,6 +1,7 @@
 // The tokens of a text, one after another.
 ghost use Rattle.std.specs.Prelude.{◌≡◌, ◌↔◌, ◌<◌, ◌≤◌, ◌+◌, ◌^◌, length, IsSome, IfSome, IfNone};
 ghost use Rattle.std.specs.Prelude.{IfOk, IfErr};
+ghost use Rattle.mbe_text.specs.Tokens.{bytes_of};
 
 use mbe_tt::span::{Span, SyntaxContext};
 use mbe_tt::tt::{DelimiterKind, IdentIsRaw, LitKind, Spacing};
@@ -43,6 +44,7 @@ pub struct Token<'t> {
 pub fn file_span(file: u32, start: u32, end: u32) -> Span
     ensures place { (result.file ≡ file) × (result.start ≡ start) × (result.end ≡ end) }
     ensures plain { (result.ast ≡ 0) × (result.ctx.0 ≡ 0) }
+    ensures whole { result ≡ bytes_of file start end }
 {
     Span {
         file,
@@ -74,10 +76,30 @@ fn is_hex_digit(char: char) -> bool {
     matches!(char, '0'..='9' | 'a'..='f' | 'A'..='F' | '_')
 }
 
-const PUNCTS: &str = "=<>!&|~@.,;:#$?+-*/%^";
-
 fn is_punct(char: char) -> bool {
-    PUNCTS.contains(char)
+    matches!(
+        char,
+        '=' | '<'
+            | '>'
+            | '!'
+            | '&'
+            | '|'
+            | '~'
+            | '@'
+            | '.'
+            | ','
+            | ';'
+            | ':'
+            | '#'
+            | '$'
+            | '?'
+            | '+'
+            | '-'
+            | '*'
+            | '/'
+            | '%'
+            | '^'
+    )
 }
 
 // Whether an identifier of this text and what follows it would begin a prefixed or raw string, or a byte literal.
@@ -479,6 +501,13 @@ impl<'t> Scanner<'t> {
             → length self.new.rest.now < length self.old.rest.now) }
         ensures end { IfOk result (λ token. IfNone token (length self.new.rest.now ≡ 0)) }
         ensures start { IfOk result (λ token. IfSome token (λ t. t.span.start ≤ self.old.total)) }
+        ensures span { IfOk result (λ token. IfSome token (λ t.
+            t.span ≡ bytes_of self.old.file t.span.start t.span.end)) }
+        ensures behind { IfOk result (λ token. IfSome token (λ t.
+            self.old.total ≤ t.span.start + length self.old.rest.now)) }
+        ensures some { IfOk result (λ token. IfSome token (λ t. t.span.start < t.span.end)) }
+        ensures up_to { IfOk result (λ token. IfSome token (λ t.
+            t.span.end + length self.new.rest.now ≡ self.old.total)) }
         ensures within { IfErr result (λ fault. fault.offset ≤ self.old.total) }
     {
         self.trivia()?;

@@ -7,7 +7,7 @@ use std::process::Abort;
 use std::test::Fail;
 
 // The trees of a text that isn't long.
-fn trees(rt: &impl Abort, alloc: Global, text: &str) -> Result<TopSubtree, LexError> {
+pub(crate) fn trees(rt: &impl Abort, alloc: Global, text: &str) -> Result<TopSubtree, LexError> {
     assert!(rt; text.len() < 1_000_000);
     lex(alloc, text, 0)
 }

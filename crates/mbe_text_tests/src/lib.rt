@@ -3,3 +3,5 @@
 
 #[cfg(test)]
 mod lexing;
+#[cfg(test)]
+mod printing;

@@ -1,8 +1,13 @@
 use Rattle.std.proofs.Common.{◌≡◌, length}
+use Rattle.mbe_text.proofs.Made.{Lexed}
 use Rattle.mbe_text.proofs.lexer.lex.Given as goal
 
 abbrev pub invariant-tokens : goal.invariant-tokens
-invariant-tokens g l = l.scanner.total ≡ length l.fn.text
+invariant-tokens g l = record {
+  total : l.scanner.total ≡ length l.fn.text;
+  file : l.scanner.file ≡ l.fn.file;
+  lexed : Lexed l.fn.file (length l.fn.text) (length l.scanner.rest.now) l.builder;
+}
 
 abbrev pub decreases-tokens : goal.decreases-tokens
 decreases-tokens g l = length l.scanner.rest.now

@@ -1,9 +1,8 @@
-use Rattle.std.proofs.Common.{◌≡◌, ℕ, ◌+◌, ◌<◌, ◌≤◌, ap, ◌∙◌, arith, option_map}
+use Rattle.std.proofs.Common.{◌≡◌, ◌<◌, ap, ◌∙◌, arith, option_map}
 use Rattle.std.proofs.lemmas.Result.{err_from_is_err_and}
 use Rattle.mbe_tt.specs.Trees.Tree.{Forest, flat_len}
 use Rattle.mbe_tt.specs.Trees.Top.{top_group}
 use Rattle.mbe_tt.specs.Views.Element.{element_tree}
-use Rattle.mbe_text.specs.Printing.{depth_after}
 use Rattle.mbe_text.proofs.Taken.{writes_failed}
 use Rattle.mbe_text.proofs.Printed.{printed_off, printed_fits, printed_on, printed_last}
 use Rattle.mbe_text.proofs.printing.print_tree.Goals as goal

@@ -1,0 +1,94 @@
+-- What the tokens of a text make: leaves, and groups that are closed by closings of their own kind.
+use Rattle.std.specs.Prelude.{◌≡◌, ◌≢◌, ℕ, ◌<◌, ◌≤◌, ⊤, Some, List, [], ◌∷◌, ◌++◌}
+use Rattle.mbe_tt.specs.Trees.Leaf.{Leaf, literal, punct, ident, span_of}
+use Rattle.mbe_tt.specs.Trees.Tree.{Forest, none, group, append, one_leaf}
+use Rattle.mbe_tt.specs.Trees.Top.{Top, top_of}
+use Rattle.mbe_tt.specs.Buffers.Building.{Levels, put, closed, kind_inside}
+use Rattle.mbe_tt.specs.declared.span.Span.{Span}
+use Rattle.mbe_tt.specs.declared.tt.Delimiter.{Delimiter}
+use Rattle.mbe_tt.specs.declared.tt.DelimiterKind.{DelimiterKind}
+use Rattle.mbe_tt.specs.declared.tt.DelimiterKind.TheVariants.{Invisible}
+use Rattle.mbe_text.specs.declared.scanner.Token.{Token}
+use Rattle.mbe_text.specs.declared.scanner.Lexeme.{Lexeme}
+use Rattle.mbe_text.specs.declared.scanner.Lexeme.TheVariants.{Ident, Literal, Punct, Open, Close}
+use Rattle.mbe_text.specs.declared.lexer.LexError.{LexError}
+use Rattle.mbe_text.specs.declared.lexer.LexError.TheVariants as errors
+
+-- a token without the memory of its texts: a leaf, or one side of a group
+pub data Item : Type 0 where
+  leaf_item : Leaf → Item
+  open_item : DelimiterKind → Span → Item
+  close_item : DelimiterKind → Span → Item
+
+-- what a lexeme with that span is
+abbrev pub lexeme_item : Span → Lexeme → Item
+lexeme_item span (Ident name is_raw) = leaf_item (ident (record { sym = name.now; is_raw = is_raw; span = span }))
+lexeme_item span (Literal text suffix suffix_len kind) =
+    leaf_item (literal (record { text_and_suffix = text.now ++ suffix.now; suffix_len = suffix_len; kind = kind; span = span }))
+lexeme_item span (Punct char spacing) = leaf_item (punct (record { char = char; spacing = spacing; span = span }))
+lexeme_item span (Open kind) = open_item kind span
+lexeme_item span (Close kind) = close_item kind span
+
+abbrev pub token_item : Token → Item
+token_item t = lexeme_item t.span t.lexeme
+
+-- where it stands
+abbrev pub item_span : Item → Span
+item_span (leaf_item l) = span_of l
+item_span (open_item kind span) = span
+item_span (close_item kind span) = span
+
+-- How an item changes the groups that are open. A closing has to be of the innermost group's kind.
+abbrev pub Adds : Item → Levels → Levels → Type 0
+Adds (leaf_item l) old new = new ≡ put (one_leaf l) old
+Adds (open_item kind span) old new = new ≡ (record { opening = span; close = span; kind = kind }, none) ∷ old
+Adds (close_item kind span) old new = (kind_inside old ≡ Some kind) × (new ≡ closed span old)
+
+-- a closing that isn't of the innermost group's kind, or closes none
+abbrev pub IsAstray : Item → Levels → Type 0
+IsAstray (leaf_item l) old = ⊥
+IsAstray (open_item kind span) old = ⊥
+IsAstray (close_item kind span) old = kind_inside old ≢ Some kind
+
+-- a fault stands at an item's first byte, and the item is a closing that doesn't fit
+abbrev pub FaultsAt : Item → Levels → LexError → Type 0
+FaultsAt item old (errors.Fault offset) = (offset ≡ (item_span item).start) × IsAstray item old
+FaultsAt item old errors.OutOfMemory = ⊤
+
+-- one item after another
+abbrev pub Makes : Levels → List Item → Levels → Type 0
+Makes old [] new = new ≡ old
+Makes old (x ∷ xs) new = (mid : Levels) × Adds x old mid × Makes mid xs new
+
+-- the innermost group, with the groups around it closed with that span one after another
+abbrev pub gathered : Span → Delimiter → Forest → Levels → Top
+gathered end d f [] = (d, f)
+gathered end d f (g ∷ outer) = gathered end g.0 (append g.1 (group (record d { close = end }) f none)) outer
+
+-- the outermost group, where each of the others is closed with that span
+abbrev pub ended : Span → Levels → Top
+ended end [] = top_of none
+ended end (g ∷ outer) = gathered end g.0 g.1 outer
+
+-- bytes of a file
+abbrev pub bytes_of : ℕ → ℕ → ℕ → Span
+bytes_of file start end = record { file = file; ast = 0; start = start; end = end; ctx = record { 0 = 0 } }
+
+-- each item has a byte at least of that file, and they stand one behind another between those bytes
+abbrev pub AreInOrder : ℕ → ℕ → List Item → ℕ → Type 0
+AreInOrder file from [] to = from ≤ to
+AreInOrder file from (x ∷ xs) to =
+    (item_span x ≡ bytes_of file (item_span x).start (item_span x).end) × (from ≤ (item_span x).start)
+    × ((item_span x).start < (item_span x).end) × AreInOrder file (item_span x).end xs to
+
+-- the whole of a file that is so long, before its first token
+abbrev pub whole : ℕ → ℕ → Levels
+whole file len = (record { opening = bytes_of file 0 len; close = bytes_of file 0 len; kind = Invisible }, none) ∷ []
+
+-- The trees of a file's text: items that stand in it one behind another make them, and the groups open at the end are closed there.
+pub record IsMade (file len : ℕ) (trees : Top) : Type 0 where
+  pub items : List Item
+  pub in_order : AreInOrder file 0 items len
+  pub levels : Levels
+  pub made : Makes (whole file len) items levels
+  pub closed_at_end : trees ≡ ended (bytes_of file len len) levels
