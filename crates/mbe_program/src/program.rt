@@ -2,6 +2,7 @@
 ghost use Rattle.std.specs.Prelude.{◌≡◌, ◌<◌, ◌^◌, ◌⊎◌, length, IfErr, IfOk};
 ghost use Rattle.mbe_tt.specs.Trees.Top.{top_group};
 ghost use Rattle.mbe_errors.specs.ErrorViews.{errors_of};
+ghost use Rattle.mbe_text.specs.Tokens.{IsMade};
 ghost use Rattle.mbe_program.specs.Expansion.{ExpandsTrees, IsRefused, ExpandsTexts, EndsAs, IsUnexpanded, IsUnlexed};
 ghost use Rattle.mbe_program.specs.Outcomes.{FaultsIn, IsSilent, status_of};
 
@@ -58,6 +59,7 @@ impl<A: Allocator> From<AllocError> for Outcome<A> {
 
 fn lexed<A: Allocator + Copy>(alloc: A, text: &str, file: u32) -> Result<TopSubtree<A>, Outcome<A>>
     requires { length text.now < 2 ^ 32 }
+    ensures made { IfOk result (IsMade file (length text.now)) }
     ensures unlexed { IfErr result IsUnlexed }
     ensures within { IfErr result (FaultsIn file (length text.now)) }
 {
@@ -98,7 +100,7 @@ fn expansion<A: Allocator + Copy>(
 }
 
 // What the text of a definition makes of that of an argument.
-#[tactic(auto, using(crate::proofs::OutcomeLemmas::unlexed))]
+#[tactic(auto, using(crate::proofs::OutcomeLemmas::unlexed, crate::proofs::OutcomeLemmas::refused))]
 fn texts_expansion<A: Allocator + Copy>(
     alloc: A,
     def: &str,
@@ -107,9 +109,9 @@ fn texts_expansion<A: Allocator + Copy>(
 ) -> Result<Expansion<A>, Outcome<A>>
     requires def { length def.now < 2 ^ 32 }
     requires arg { length arg.now < 2 ^ 32 }
-    ensures expands { IfOk result (λ r. ExpandsTexts edition (length arg.now)
+    ensures expands { IfOk result (λ r. ExpandsTexts edition (length def.now) (length arg.now)
         (top_group r.value.0) r.value.1 (errors_of r.err)) }
-    ensures unexpanded { IfErr result (IsUnexpanded edition) }
+    ensures unexpanded { IfErr result (IsUnexpanded edition (length def.now)) }
     ensures within { IfErr result (λ outcome.
         FaultsIn 0 (length def.now) outcome ⊎ FaultsIn 1 (length arg.now) outcome) }
 {
@@ -132,7 +134,7 @@ pub fn run<A: Allocator + Copy, W: Write>(
     requires def { length def.now < 2 ^ 32 }
     requires arg { length arg.now < 2 ^ 32 }
     ensures silent { IsSilent result (W.contents out.old) (W.contents out.new) }
-    ensures ended { EndsAs edition (length arg.now)
+    ensures ended { EndsAs edition (length def.now) (length arg.now)
         (W.contents out.old) (W.contents out.new) result }
     ensures within { FaultsIn 0 (length def.now) result ⊎ FaultsIn 1 (length arg.now) result }
 {
