@@ -40,14 +40,44 @@ check 3 "$usage"
 check 3 "$usage" good.def
 check 3 "$usage" good.def good.arg 2022
 check 3 "$usage" good.def good.arg 2024 more
-check 3 "$usage" --lint good.def good.arg
+check 3 "$usage" --lint
 check 3 "$usage" --lint good.arg
+check 3 "$usage" --lint good.def good.arg 2022
+check 0 '' --lint good.def good.arg
+check 0 '' --lint good.def other.arg 2018
+check 2 'definition refused: expected `;`' --lint refused.def good.arg
+check 4 'cannot lex open.arg at 2' --lint good.def open.arg
+check 3 'cannot read missing' --lint missing good.arg
 check 3 'cannot read missing' missing good.arg
 check 3 'cannot read missing' good.def missing
 check 3 'cannot read latin.arg' good.def latin.arg
 check 3 'cannot read latin.arg' latin.arg open.arg
 check 4 'cannot lex open.arg at 2' good.def open.arg
 check 4 'cannot lex open.arg at 2' refused.def open.arg
+
+# lint LINES DEFINITION ARGUMENT: a run with --lint on these texts writes these lines, and ends with status 0.
+lint() {
+    printf '%b' "$2" >lint.def
+    printf '%b' "$3" >lint.arg
+    check 0 '' --lint lint.def lint.arg
+    if [ "$(cat out)" != "$(printf '%b' "$1")" ]; then
+        echo "mbex --lint, $2 on $3: writes '$(cat out)', wanted '$(printf '%b' "$1")'"
+        failed=1
+    fi
+}
+
+lint 'rule 0: ambiguous at 0' '($($t:ident),* as $ty:ident) => {}' 'as u32'
+lint 'rule 0: several readings' '($(a)? $(a)?) => {}' 'a'
+lint 'rule 0: one reading' '\n($($e:expr),* $(,)?) => {\n    $($e);* ;\n};\n' '\n    _,\n    const { 1 },\n'
+lint 'rule 0: several readings' '($($v:vis),*) => {}' ''
+lint 'rule 0: one reading\nrule 1: one reading' '($x:ident) => {$($x)*}; ($x:ident) => {$x}' 'a'
+lint 'rule 0: stuck at 3' '($x:ident = $t:tt;) => { pair ($t) $x }' 'a = 1'
+lint 'rule 0: stuck at 0\nrule 1: one reading' '($x:foo) => {}; ($($t:tt)*) => {}' 'a'
+lint 'rule 0: stuck at 0\nrule 1: stuck at 0\nrule 2: stuck at 0\nrule 3: stuck at 1' \
+    '\n(-1) => {-1};\n(- 2) => {- 2};\n(- 3.0) => {- 3.0};\n(@$lit:literal) => {$lit}\n' '@--1.0'
+lint 'rule 0: stuck at 2' '((a b)) => {}' '(a c)'
+lint 'rule 0: ambiguous at 0' '($($a:ident)* $b:ident) => {}' 'x'
+lint '' '' 'a'
 
 # A device that takes nothing.
 if [ -e /dev/full ]; then

@@ -1,10 +1,12 @@
 // Macro definitions.
-ghost use Rattle.std.specs.Prelude.{◌≡◌, [], length, option_map, Some, IfOk};
+ghost use Rattle.std.specs.Prelude.{◌≡◌, ◌<◌, [], length, option_map, Some, IfOk};
 ghost use Rattle.mbe_semantics.specs.Syntax.Definition.{with_refusal};
 ghost use Rattle.mbe_errors.specs.ErrorViews.{fault_of};
 ghost use Rattle.mbe_parser.specs.RuleViews.{rules_seen};
 ghost use Rattle.mbe_errors.specs.ErrorViews.{parse_error_of, errors_of};
 ghost use Rattle.mbe_semantics.specs.Expansion.Macro.{style_bits, TellsRefusal, IsChecked, Expands};
+ghost use Rattle.mbe_matcher.specs.Matched.{verdict_seen};
+ghost use Rattle.mbe.specs.Explaining.{Explains};
 ghost use Rattle.mbe.specs.Styles.{bits_of};
 ghost use Rattle.mbe_tt.specs.Trees.Top.{top_group};
 ghost use Rattle.mbe_semantics.specs.Laws.Marking.{MayMark, MayAsk};
@@ -16,6 +18,8 @@ use crate::macro_call_style::MacroCallStyles;
 use bitflags::Flags;
 use mbe_errors::error::{Fault, ParseError};
 use mbe_errors::value_result::{ExpandResult, MatchedArmIndex};
+use mbe_log::log::BindingLog;
+use mbe_matcher::matching::{Verdict, match_argument};
 use mbe_parser::rules::{Rule, parse_one_rule, parse_rules};
 use mbe_parser::validate::refuses_some;
 use mbe_semantics::macro_call_style::MacroCallStyle;
@@ -176,6 +180,42 @@ impl<A: Allocator + Copy> DeclarativeMacro<A> {
             call_style,
             call_site,
         )
+    }
+
+    /// How the rule with this index reads an argument, whatever its style and its template.
+    ///
+    /// It asks what `expand` asks, that no pattern was refused, and that `rule` is less than `num_rules`. `tt` is the
+    /// argument: the trees inside its group are matched. `grammar` says what the fragments of most kinds are.
+    ///
+    /// If a position of the argument is locally ambiguous, the result is `Ambiguous` with the first such position. Else it is
+    /// `OneReading` or `ManyReadings` by the number of readings of the whole argument, and if there is none, `Stuck` with the
+    /// last position that the beginning of a reading reaches. `expand` takes a rule only at `OneReading`.
+    ///
+    /// A position is a number of flat tokens: how many of them precede it inside the argument's group. A leaf is one, and a
+    /// group two, its opening and its closing, beside those inside it.
+    ///
+    /// The only failure is `AllocError`, if out of memory here or in the grammar; the macro and the argument are as they were
+    /// in each case. The rule is matched and nothing is written, so it takes no longer than `expand` of that rule.
+    ///
+    /// Verdicts are this project's own; rust-analyzer reports the error of an expansion alone.
+    pub fn explain<G: FragmentGrammar>(
+        &self,
+        alloc: A,
+        grammar: &G,
+        tt: &TopSubtree<A>,
+        rule: usize,
+    ) -> Result<Verdict, AllocError>
+        requires checked { IsChecked (macro_of self.now) }
+        requires rule { rule < length (macro_of self.now).rules }
+        ensures explains { IfOk result (λ verdict. Explains (G.grammar grammar.now)
+            (macro_of self.now).rules tt.now.1 rule (verdict_seen verdict)) }
+    {
+        let mut log = BindingLog::new(alloc);
+        let argument = tt.iter().remaining();
+        let around = tt.top_subtree().delimiter.delim_span();
+        let rule = &self.rules[rule];
+        let matched = match_argument(alloc, grammar, &rule.lhs, argument, around, &mut log)?;
+        Ok(matched.verdict)
     }
 }
 

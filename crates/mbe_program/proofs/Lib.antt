@@ -1,3 +1,4 @@
 pub mod EditionLemmas
+pub mod LintLemmas
 pub mod MarkLemmas
 pub mod OutcomeLemmas

@@ -11,14 +11,16 @@ use Rattle.mbe_text.specs.Tokens.{IsMade}
 use Rattle.mbe_text.specs.Writing.{Takes, Writes}
 use Rattle.mbe_text.proofs.Taken.{takes_whole}
 use Rattle.mbe_program.specs.declared.program.Outcome.{Outcome}
-use Rattle.mbe_program.specs.declared.program.Outcome.TheVariants.{Expanded, Faulted, Refused, CannotLex, CannotWrite, OutOfMemory}
+use Rattle.mbe_program.specs.declared.program.Outcome.TheVariants.{Expanded, Linted, Faulted, Refused, CannotLex, CannotWrite, OutOfMemory}
 use Rattle.mbe_semantics.specs.Expansion.Error.{ExpandError}
 use Rattle.mbe_program.specs.Printed.{head, printed}
 use Rattle.mbe_program.specs.Expansion.{EndsAs, IsRefused, IsUnexpanded, IsUnlexed}
+use Rattle.mbe_program.specs.Linting.{Lints}
 
 -- a text isn't lexed
 pub unlexed : {A : Type 0} (edition : Edition) (def_len : ℕ) (outcome : Outcome A) → IsUnlexed outcome → IsUnexpanded edition def_len outcome
 unlexed edition def_len Expanded h = absurd h
+unlexed edition def_len Linted h = absurd h
 unlexed edition def_len Faulted h = absurd h
 unlexed edition def_len (Refused error) h = absurd h
 unlexed edition def_len (CannotLex file offset) h = tt
@@ -29,6 +31,7 @@ unlexed edition def_len OutOfMemory h = tt
 pub refused : {A : Type 0} (edition : Edition) (def_len : ℕ) (definition : Top) (outcome : Outcome A) → IsMade 0 def_len definition
     → IsRefused edition definition.1 outcome → IsUnexpanded edition def_len outcome
 refused edition def_len definition Expanded made h = absurd h
+refused edition def_len definition Linted made h = absurd h
 refused edition def_len definition Faulted made h = absurd h
 refused edition def_len definition (Refused error) made h = (definition, made, h)
 refused edition def_len definition (CannotLex file offset) made h = absurd h
@@ -39,11 +42,23 @@ refused edition def_len definition OutOfMemory made h = tt
 pub unexpanded_ends : {A : Type 0} (edition : Edition) (def_len arg_len : ℕ) (before after : Option (List ℕ)) (outcome : Outcome A)
     → IsUnexpanded edition def_len outcome → after ≡ before → EndsAs edition def_len arg_len before after outcome
 unexpanded_ends edition def_len arg_len before after Expanded h e = absurd h
+unexpanded_ends edition def_len arg_len before after Linted h e = absurd h
 unexpanded_ends edition def_len arg_len before after Faulted h e = absurd h
 unexpanded_ends edition def_len arg_len before after (Refused error) h e = (h, e)
 unexpanded_ends edition def_len arg_len before after (CannotLex file offset) h e = (h, e)
 unexpanded_ends edition def_len arg_len before after CannotWrite h e = absurd h
 unexpanded_ends edition def_len arg_len before after OutOfMemory h e = (h, e)
+
+-- so does one that lints
+pub unexpanded_lints : {A : Type 0} (edition : Edition) (def_len arg_len : ℕ) (before after : Option (List ℕ)) (outcome : Outcome A)
+    → IsUnexpanded edition def_len outcome → after ≡ before → Lints edition def_len arg_len before after outcome
+unexpanded_lints edition def_len arg_len before after Expanded h e = absurd h
+unexpanded_lints edition def_len arg_len before after Linted h e = absurd h
+unexpanded_lints edition def_len arg_len before after Faulted h e = absurd h
+unexpanded_lints edition def_len arg_len before after (Refused error) h e = (h, e)
+unexpanded_lints edition def_len arg_len before after (CannotLex file offset) h e = (h, e)
+unexpanded_lints edition def_len arg_len before after CannotWrite h e = absurd h
+unexpanded_lints edition def_len arg_len before after OutOfMemory h e = (h, e)
 
 -- what was written stays when the writer is flushed, whether that fails or not
 pub flushed : {T E : Type 0} (a b c : Option (List ℕ)) (r : Result T E) (xs : List ℕ) → Appends a b xs → Keeps b c → Writes a c r xs

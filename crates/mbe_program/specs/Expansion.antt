@@ -17,7 +17,7 @@ use Rattle.mbe_text.specs.Tokens.{IsMade, bytes_of}
 use Rattle.mbe_text.specs.Writing.{Takes}
 use Rattle.mbe_program.specs.Printed.{printed}
 use Rattle.mbe_program.specs.declared.program.Outcome.{Outcome}
-use Rattle.mbe_program.specs.declared.program.Outcome.TheVariants.{Expanded, Faulted, Refused, CannotLex, CannotWrite, OutOfMemory}
+use Rattle.mbe_program.specs.declared.program.Outcome.TheVariants.{Expanded, Linted, Faulted, Refused, CannotLex, CannotWrite, OutOfMemory}
 
 -- every context is of that edition
 abbrev pub IsEdition : Edition → SyntaxContext → Edition → Type 0
@@ -69,7 +69,7 @@ IsUnexpanded edition def_len OutOfMemory = ⊤
 IsUnexpanded edition def_len outcome = ⊥
 
 -- Where the answer has no error, a run ends as `Expanded`, and where it has one, as `Faulted`; either way what is printed of it
--- is written. If a write fails, a prefix of that is written. Without an answer nothing is.
+-- is written. If a write fails, a prefix of that is written. Without an answer nothing is. No such run lints.
 abbrev pub EndsAs : {A : Type 0} → Edition → ℕ → ℕ → Option (List ℕ) → Option (List ℕ) → Outcome A → Type 0
 EndsAs edition def_len arg_len before after Expanded =
     (out : Forest) × (index : Option ℕ) × ExpandsTexts edition def_len arg_len out index None
@@ -80,4 +80,5 @@ EndsAs edition def_len arg_len before after Faulted =
 EndsAs edition def_len arg_len before after CannotWrite =
     (out : Forest) × (index : Option ℕ) × (err : Option ExpandError) × (left : List ℕ)
     × ExpandsTexts edition def_len arg_len out index err × Takes before after (printed out index err) left
+EndsAs edition def_len arg_len before after Linted = ⊥
 EndsAs edition def_len arg_len before after outcome = IsUnexpanded edition def_len outcome × (after ≡ before)

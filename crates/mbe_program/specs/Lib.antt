@@ -1,4 +1,5 @@
 pub mod Expansion
+pub mod Linting
 pub mod Options
 pub mod Outcomes
 pub mod Printed

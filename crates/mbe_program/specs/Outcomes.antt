@@ -1,7 +1,7 @@
 -- How a run ends.
 use Rattle.std.specs.Prelude.{ℕ, ⊤, ◌≡◌, ◌≤◌, List, Option}
 use Rattle.mbe_program.specs.declared.program.Outcome.{Outcome}
-use Rattle.mbe_program.specs.declared.program.Outcome.TheVariants.{Expanded, Faulted, Refused, CannotLex, CannotWrite, OutOfMemory}
+use Rattle.mbe_program.specs.declared.program.Outcome.TheVariants.{Expanded, Linted, Faulted, Refused, CannotLex, CannotWrite, OutOfMemory}
 use Rattle.mbe_program.specs.declared.reports.Report.{Report}
 use Rattle.mbe_program.specs.declared.reports.Report.TheVariants as says
 use Rattle.mbe_program.specs.declared.settings.Options.{Options}
@@ -10,15 +10,17 @@ use Rattle.mbe_program.specs.Options.{name_of}
 -- the exit status of a run
 abbrev pub status_of : {A : Type 0} → Outcome A → ℕ
 status_of Expanded = 0
+status_of Linted = 0
 status_of Faulted = 1
 status_of (Refused error) = 2
 status_of CannotWrite = 3
 status_of (CannotLex file offset) = 4
 status_of OutOfMemory = 5
 
--- a run that comes to no expansion writes nothing
+-- a run that comes neither to an expansion nor to verdicts writes nothing
 abbrev pub IsSilent : {A : Type 0} → Outcome A → Option (List ℕ) → Option (List ℕ) → Type 0
 IsSilent Expanded before after = ⊤
+IsSilent Linted before after = ⊤
 IsSilent Faulted before after = ⊤
 IsSilent (Refused error) before after = after ≡ before
 IsSilent CannotWrite before after = ⊤
@@ -28,6 +30,7 @@ IsSilent OutOfMemory before after = after ≡ before
 -- a text that isn't lexed is at fault in that file, which is so long, or at its end
 abbrev pub FaultsIn : {A : Type 0} → ℕ → ℕ → Outcome A → Type 0
 FaultsIn file len Expanded = ⊤
+FaultsIn file len Linted = ⊤
 FaultsIn file len Faulted = ⊤
 FaultsIn file len (Refused error) = ⊤
 FaultsIn file len CannotWrite = ⊤

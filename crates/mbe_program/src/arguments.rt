@@ -1,4 +1,4 @@
-// The words behind the program's name.
+// The words after the program's name.
 ghost use Rattle.std.specs.Prelude.{◌≡◌, map, option_map};
 ghost use Rattle.std.specs.String.{string_bytes};
 ghost use Rattle.mbe_program.specs.Options.{edition_of, files_of, options_of, seen};
@@ -18,16 +18,18 @@ fn edition(word: &str) -> Option<Edition>
     }
 }
 
-fn files(words: &[String]) -> Option<Options<'_>>
-    ensures { option_map seen result ≡ files_of (map string_bytes words.now) }
+fn files(lint: bool, words: &[String]) -> Option<Options<'_>>
+    ensures { option_map seen result ≡ files_of lint (map string_bytes words.now) }
 {
     match words {
         [def, arg] => Some(Options {
+            lint,
             def: def.as_str(),
             arg: arg.as_str(),
             edition: Edition::Edition2024,
         }),
         [def, arg, word] => Some(Options {
+            lint,
             def: def.as_str(),
             arg: arg.as_str(),
             edition: edition(word.as_str())?,
@@ -36,14 +38,13 @@ fn files(words: &[String]) -> Option<Options<'_>>
     }
 }
 
-/// What the words behind the program's name ask for: `DEF-FILE ARG-FILE [EDITION]`, the edition one of `2015`, `2018`,
-/// `2021` and `2024`, by default `2024`. `None` for all other words. A first word `--lint` is never a file; nothing is
-/// linted yet, so it is refused.
+/// What the words after the program's name ask for: `[--lint] DEF-FILE ARG-FILE [EDITION]`, the edition one of `2015`,
+/// `2018`, `2021` and `2024`, by default `2024`. `None` for all other words. A first word `--lint` is never a file.
 pub fn options(words: &[String]) -> Option<Options<'_>>
     ensures { option_map seen result ≡ options_of (map string_bytes words.now) }
 {
     match words.split_first() {
-        Some((first, _rest)) if first.as_str() == "--lint" => None,
-        _ => files(words),
+        Some((first, rest)) if first.as_str() == "--lint" => files(true, rest),
+        _ => files(false, words),
     }
 }

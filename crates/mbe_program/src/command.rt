@@ -95,6 +95,7 @@ fn run_files<'a>(
         def.as_str(),
         arg.as_str(),
         options.edition,
+        options.lint,
         &mut out,
     ))
 }

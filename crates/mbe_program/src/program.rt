@@ -1,13 +1,19 @@
 // A run, from both texts to what is written.
-ghost use Rattle.std.specs.Prelude.{◌≡◌, ◌<◌, ◌^◌, ◌⊎◌, length, IfErr, IfOk};
+ghost use Rattle.std.specs.Prelude.{◌≡◌, ◌<◌, ◌≤◌, ◌^◌, ◌⊎◌, length, map, true, false, None, IfErr, IfOk};
 ghost use Rattle.mbe_tt.specs.Trees.Top.{top_group};
 ghost use Rattle.mbe_errors.specs.ErrorViews.{errors_of};
+ghost use Rattle.mbe_semantics.specs.Expansion.ReadAs.{IsReadAs};
+ghost use Rattle.mbe.specs.Matched.{verdict_seen};
+ghost use Rattle.mbe.specs.MacroViews.{macro_of};
 ghost use Rattle.mbe_text.specs.Tokens.{IsMade};
 ghost use Rattle.mbe_program.specs.Expansion.{ExpandsTrees, IsRefused, ExpandsTexts, EndsAs, IsUnexpanded, IsUnlexed};
+ghost use Rattle.mbe_program.specs.Expansion.{IsEdition};
+ghost use Rattle.mbe_program.specs.Linting.{ExplainsTexts, Lints};
 ghost use Rattle.mbe_program.specs.Outcomes.{FaultsIn, IsSilent, status_of};
 
+use crate::linting::{print_verdicts, verdicts};
 use crate::printing::{head_of, print_expansion};
-use mbe::{DeclarativeMacro, ExpandResult, MacroCallStyle, MatchedArmIndex, ParseError};
+use mbe::{DeclarativeMacro, ExpandResult, MacroCallStyle, MatchedArmIndex, ParseError, Verdict};
 use mbe_grammar::SampleGrammar;
 use mbe_text::lexer::{LexError, lex};
 use mbe_text::scanner::file_span;
@@ -21,6 +27,8 @@ use std::io::Write;
 pub enum Outcome<A: Allocator> {
     /// The expansion is written.
     Expanded,
+    /// The verdicts on the rules are written.
+    Linted,
     /// The expansion has an error, and both are written.
     Faulted,
     /// The definition isn't one.
@@ -37,7 +45,7 @@ impl<A: Allocator> Outcome<A> {
         ensures { result ≡ status_of self.now }
     {
         match self {
-            Outcome::Expanded => 0,
+            Outcome::Expanded | Outcome::Linted => 0,
             Outcome::Faulted => 1,
             Outcome::Refused(_) => 2,
             Outcome::CannotWrite => 3,
@@ -61,6 +69,7 @@ fn lexed<A: Allocator + Copy>(alloc: A, text: &str, file: u32) -> Result<TopSubt
     requires { length text.now < 2 ^ 32 }
     ensures made { IfOk result (IsMade file (length text.now)) }
     ensures unlexed { IfErr result IsUnlexed }
+    ensures fails { IfErr result (λ outcome. 2 ≤ status_of outcome) }
     ensures within { IfErr result (FaultsIn file (length text.now)) }
 {
     match lex(alloc, text, file) {
@@ -70,7 +79,45 @@ fn lexed<A: Allocator + Copy>(alloc: A, text: &str, file: u32) -> Result<TopSubt
     }
 }
 
+// The trees of both texts, or the first fault; the definition is lexed first.
+fn both_lexed<A: Allocator + Copy>(
+    alloc: A,
+    def: &str,
+    arg: &str,
+) -> Result<(TopSubtree<A>, TopSubtree<A>), Outcome<A>>
+    requires def { length def.now < 2 ^ 32 }
+    requires arg { length arg.now < 2 ^ 32 }
+    ensures made { IfOk result (λ r. IsMade 0 (length def.now) r.0 × IsMade 1 (length arg.now) r.1) }
+    ensures unlexed { IfErr result IsUnlexed }
+    ensures fails { IfErr result (λ outcome. 2 ≤ status_of outcome) }
+    ensures within { IfErr result (λ outcome.
+        FaultsIn 0 (length def.now) outcome ⊎ FaultsIn 1 (length arg.now) outcome) }
+{
+    let definition = lexed(alloc, def, 0)?;
+    let argument = lexed(alloc, arg, 1)?;
+    Ok((definition, argument))
+}
+
 type Expansion<A> = ExpandResult<(TopSubtree<A>, MatchedArmIndex), A>;
+
+// The macro of a definition without an error, or why there is none.
+pub(crate) fn defined<A: Allocator + Copy>(
+    alloc: A,
+    definition: &TopSubtree<A>,
+    edition: Edition,
+) -> Result<DeclarativeMacro<A>, Outcome<A>>
+    ensures read { IfOk result (λ m. IsReadAs (IsEdition edition) definition.now.1
+        (record { rules = (macro_of m).rules; err = None })) }
+    ensures faultless { IfOk result (λ m. (macro_of m).err ≡ None) }
+    ensures refused { IfErr result (IsRefused edition definition.now.1) }
+    ensures fails { IfErr result (λ outcome. 2 ≤ status_of outcome) }
+{
+    let rules = DeclarativeMacro::parse_macro_rules(alloc, definition, |_context| edition)?;
+    if let Some(error) = rules.err() {
+        return Err(Outcome::Refused(error.try_clone(alloc)?));
+    }
+    Ok(rules)
+}
 
 // What a definition makes of an argument, or why there is no expansion.
 fn expansion<A: Allocator + Copy>(
@@ -83,11 +130,9 @@ fn expansion<A: Allocator + Copy>(
     ensures expands { IfOk result (λ r. ExpandsTrees edition definition.now.1 argument.now.1
         call_site (top_group r.value.0) r.value.1 (errors_of r.err)) }
     ensures refused { IfErr result (IsRefused edition definition.now.1) }
+    ensures fails { IfErr result (λ outcome. 2 ≤ status_of outcome) }
 {
-    let rules = DeclarativeMacro::parse_macro_rules(alloc, definition, |_context| edition)?;
-    if let Some(error) = rules.err() {
-        return Err(Outcome::Refused(error.try_clone(alloc)?));
-    }
+    let rules = defined(alloc, definition, edition)?;
     let expansion = rules.expand(
         alloc,
         &SampleGrammar,
@@ -112,19 +157,38 @@ fn texts_expansion<A: Allocator + Copy>(
     ensures expands { IfOk result (λ r. ExpandsTexts edition (length def.now) (length arg.now)
         (top_group r.value.0) r.value.1 (errors_of r.err)) }
     ensures unexpanded { IfErr result (IsUnexpanded edition (length def.now)) }
+    ensures fails { IfErr result (λ outcome. 2 ≤ status_of outcome) }
     ensures within { IfErr result (λ outcome.
         FaultsIn 0 (length def.now) outcome ⊎ FaultsIn 1 (length arg.now) outcome) }
 {
-    let definition = lexed(alloc, def, 0)?;
-    let argument = lexed(alloc, arg, 1)?;
+    let (definition, argument) = both_lexed(alloc, def, arg)?;
     let call_site = file_span(1, 0, arg.len() as u32);
     expansion(alloc, &definition, &argument, edition, call_site)
 }
 
-/// Expands the text of an argument by the text of a definition, in which every token is of that edition, and writes the
-/// error, if there is one, the rule used and the tree, and flushes. Nothing is written if a text isn't lexed, the definition
-/// is refused or memory runs out. If a write fails, the outcome says so, and what was written is a prefix.
-pub fn run<A: Allocator + Copy, W: Write>(
+// The verdicts of the rules in the text of a definition on that of an argument.
+#[tactic(auto, using(crate::proofs::OutcomeLemmas::unlexed, crate::proofs::OutcomeLemmas::refused))]
+fn texts_verdicts<A: Allocator + Copy>(
+    alloc: A,
+    def: &str,
+    arg: &str,
+    edition: Edition,
+) -> Result<Vec<Verdict, A>, Outcome<A>>
+    requires def { length def.now < 2 ^ 32 }
+    requires arg { length arg.now < 2 ^ 32 }
+    ensures explains { IfOk result (λ verdicts. ExplainsTexts edition (length def.now)
+        (length arg.now) (map verdict_seen verdicts.items)) }
+    ensures unexpanded { IfErr result (IsUnexpanded edition (length def.now)) }
+    ensures fails { IfErr result (λ outcome. 2 ≤ status_of outcome) }
+    ensures within { IfErr result (λ outcome.
+        FaultsIn 0 (length def.now) outcome ⊎ FaultsIn 1 (length arg.now) outcome) }
+{
+    let (definition, argument) = both_lexed(alloc, def, arg)?;
+    verdicts(alloc, &definition, &argument, edition)
+}
+
+// A run that expands.
+fn expanded<A: Allocator + Copy, W: Write>(
     alloc: A,
     def: &str,
     arg: &str,
@@ -152,5 +216,60 @@ pub fn run<A: Allocator + Copy, W: Write>(
     match expansion.err {
         Some(_) => Outcome::Faulted,
         None => Outcome::Expanded,
+    }
+}
+
+// A run that lints.
+fn linted<A: Allocator + Copy, W: Write>(
+    alloc: A,
+    def: &str,
+    arg: &str,
+    edition: Edition,
+    out: &mut W,
+) -> Outcome<A>
+    requires def { length def.now < 2 ^ 32 }
+    requires arg { length arg.now < 2 ^ 32 }
+    ensures silent { IsSilent result (W.contents out.old) (W.contents out.new) }
+    ensures lints { Lints edition (length def.now) (length arg.now)
+        (W.contents out.old) (W.contents out.new) result }
+    ensures within { FaultsIn 0 (length def.now) result ⊎ FaultsIn 1 (length arg.now) result }
+{
+    let verdicts = match texts_verdicts(alloc, def, arg, edition) {
+        Ok(verdicts) => verdicts,
+        Err(failure) => return failure,
+    };
+    match print_verdicts(&verdicts, out) {
+        Ok(()) => Outcome::Linted,
+        Err(_) => Outcome::CannotWrite,
+    }
+}
+
+/// Expands the text of an argument by the text of a definition, in which every token is of that edition, and writes the
+/// error, if there is one, the rule used and the tree, and flushes. With `lint` it expands nothing, and writes a line for each rule of the
+/// definition, of every style: how it reads the argument.
+///
+/// Nothing is written if a text isn't lexed, the definition is refused or memory runs out. If a write fails, the outcome says
+/// so, and what was written is a prefix.
+pub fn run<A: Allocator + Copy, W: Write>(
+    alloc: A,
+    def: &str,
+    arg: &str,
+    edition: Edition,
+    lint: bool,
+    out: &mut W,
+) -> Outcome<A>
+    requires def { length def.now < 2 ^ 32 }
+    requires arg { length arg.now < 2 ^ 32 }
+    ensures silent { IsSilent result (W.contents out.old) (W.contents out.new) }
+    ensures expands { lint ≡ false → EndsAs edition (length def.now) (length arg.now)
+        (W.contents out.old) (W.contents out.new) result }
+    ensures lints { lint ≡ true → Lints edition (length def.now) (length arg.now)
+        (W.contents out.old) (W.contents out.new) result }
+    ensures within { FaultsIn 0 (length def.now) result ⊎ FaultsIn 1 (length arg.now) result }
+{
+    if lint {
+        linted(alloc, def, arg, edition, out)
+    } else {
+        expanded(alloc, def, arg, edition, out)
     }
 }

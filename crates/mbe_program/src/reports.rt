@@ -49,14 +49,14 @@ impl<'a, A: Allocator> fmt::Display for Report<'a, A> {
 }
 
 impl<A: Allocator> Outcome<A> {
-    /// What is said of a run that had these options. Nothing is said where there is an expansion.
+    /// What is said of a run that had these options. Nothing is said of one that expanded or linted.
     pub fn report<'a>(&'a self, options: &Options<'a>) -> Option<Report<'a, A>>
         ensures silent { IsNone result ↔ (status_of self.now ≤ 1) }
         ensures status { IfSome result (λ r. report_status r ≡ status_of self.now) }
         ensures tells { IfSome result (Tells options.now self.now) }
     {
         match self {
-            Outcome::Expanded | Outcome::Faulted => None,
+            Outcome::Expanded | Outcome::Linted | Outcome::Faulted => None,
             Outcome::Refused(error) => Some(Report::Refused(error)),
             Outcome::CannotLex { file, offset } => Some(Report::CannotLex {
                 name: options.name_of(*file),

@@ -4,9 +4,11 @@ ghost use Rattle.mbe_program.specs.Options.{name_of};
 
 use mbe_tt::span::Edition;
 
-/// What the words behind the program's name ask for: the names of both files and the edition.
+/// What the words after the program's name ask for: whether to lint in place of expanding, the names of both files and the
+/// edition.
 #[derive(Clone, Copy, Debug, PartialEq, Eq)]
 pub struct Options<'a> {
+    pub lint: bool,
     pub def: &'a str,
     pub arg: &'a str,
     pub edition: Edition,

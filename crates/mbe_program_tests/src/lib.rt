@@ -8,6 +8,8 @@ mod expansions;
 #[cfg(test)]
 mod large;
 #[cfg(test)]
+mod lints;
+#[cfg(test)]
 mod memory;
 #[cfg(test)]
 mod random;

@@ -16,7 +16,7 @@ fn assert_each_refused(rt: &impl Abort, alloc: Global, row: &Row) -> Result<(), 
     for number in 1..100_000u64 {
         let refusing = Refusing::new(alloc, number);
         let mut out = Vec::new(alloc);
-        let outcome = run(&refusing, def, arg, Edition::Edition2024, &mut out);
+        let outcome = run(&refusing, def, arg, Edition::Edition2024, false, &mut out);
         if !refusing.has_refused() {
             assert_eq!(rt; outcome.status(), status, "{def}");
             assert!(rt; out.as_slice() == want.as_bytes(), "{def}");

@@ -57,7 +57,7 @@ pub fn ran(
 ) -> Result<(String, u8), Fail> {
     assert!(rt; def.len() < 1_000_000 && arg.len() < 1_000_000);
     let mut out = Vec::new(alloc);
-    let outcome = run(alloc, def, arg, edition, &mut out);
+    let outcome = run(alloc, def, arg, edition, false, &mut out);
     Ok((String::from_utf8(out)?, outcome.status()))
 }
 
@@ -143,6 +143,7 @@ fn no_rule_is_of_the_style(rt: HostRuntime) -> Result<(), Fail> {
 }
 
 const NAMES: Options<'static> = Options {
+    lint: false,
     def: "the.def",
     arg: "the.arg",
     edition: Edition::Edition2024,
@@ -197,7 +198,7 @@ fn assert_ends_with(
 ) -> Result<(), Fail> {
     assert!(rt; def.len() < 1_000_000 && arg.len() < 1_000_000);
     let mut out = Vec::new(alloc);
-    let outcome = run(alloc, def, arg, Edition::Edition2024, &mut out);
+    let outcome = run(alloc, def, arg, Edition::Edition2024, false, &mut out);
     assert_eq!(rt; outcome.status(), status, "{def} on {arg}");
     assert_eq!(rt; out.is_empty(), status > 1, "{def} on {arg}");
     assert_says(rt, alloc, outcome.report(&NAMES), line)
@@ -231,18 +232,22 @@ fn other_failures_have_a_line(rt: HostRuntime) -> Result<(), Fail> {
     assert_says(&rt, rt.alloc(), wanting.report(&NAMES), "out of memory")
 }
 
-static WORDS: [(&str, Option<Edition>); 11] = [
+static WORDS: [(&str, Option<(bool, Edition)>); 15] = [
     ("", None),
     ("d", None),
-    ("d a", Some(Edition::Edition2024)),
-    ("d a 2015", Some(Edition::Edition2015)),
-    ("d a 2018", Some(Edition::Edition2018)),
-    ("d a 2021", Some(Edition::Edition2021)),
-    ("d a 2024", Some(Edition::Edition2024)),
+    ("d a", Some((false, Edition::Edition2024))),
+    ("d a 2015", Some((false, Edition::Edition2015))),
+    ("d a 2018", Some((false, Edition::Edition2018))),
+    ("d a 2021", Some((false, Edition::Edition2021))),
+    ("d a 2024", Some((false, Edition::Edition2024))),
     ("d a 2022", None),
     ("d a 2018 x", None),
-    ("--lint d a", None),
-    ("--lint a", None),
+    ("--lint", None),
+    ("--lint d", None),
+    ("--lint d a", Some((true, Edition::Edition2024))),
+    ("--lint d a 2015", Some((true, Edition::Edition2015))),
+    ("--lint d a 2022", None),
+    ("--lint d a 2018 x", None),
 ];
 
 fn words_of(alloc: Global, text: &str) -> Result<Vec<String>, Fail> {
@@ -257,7 +262,8 @@ fn words_of(alloc: Global, text: &str) -> Result<Vec<String>, Fail> {
 fn words_name_files_and_an_edition(rt: HostRuntime) -> Result<(), Fail> {
     for (text, edition) in &WORDS {
         let words = words_of(rt.alloc(), text)?;
-        let want = edition.map(|edition| Options {
+        let want = edition.map(|(lint, edition)| Options {
+            lint,
             def: "d",
             arg: "a",
             edition,
@@ -268,12 +274,13 @@ fn words_name_files_and_an_edition(rt: HostRuntime) -> Result<(), Fail> {
 }
 
 // The words, and the status. The running program's own file isn't UTF-8.
-static FILES: [(&str, u8); 5] = [
+static FILES: [(&str, u8); 6] = [
     ("/no/such/file /dev/null", 3),
     ("/dev/null /no/such/file", 3),
     ("/proc/self/exe /dev/null", 3),
     ("/dev/null /dev/null", 1),
     ("--lint /dev/null", 3),
+    ("--lint /dev/null /dev/null", 0),
 ];
 
 #[test]
@@ -287,9 +294,9 @@ fn files_that_cannot_be_read(rt: HostRuntime) -> Result<(), Fail> {
 
 /// Fails at one write, counted from 1.
 #[derive(Drop)]
-struct Failing {
-    written: Vec<u8>,
-    left: u64,
+pub struct Failing {
+    pub written: Vec<u8>,
+    pub left: u64,
 }
 
 impl Failing {
@@ -322,7 +329,7 @@ fn a_failed_write_is_told(rt: HostRuntime) -> Result<(), Fail> {
             written: Vec::new(rt.alloc()),
             left: number,
         };
-        let outcome = run(rt.alloc(), def, arg, Edition::Edition2024, &mut out);
+        let outcome = run(rt.alloc(), def, arg, Edition::Edition2024, false, &mut out);
         let written = out.written.as_slice();
         if out.left > 0 {
             assert_eq!(rt; outcome.status(), 0);
@@ -340,7 +347,7 @@ fn a_failed_write_is_told(rt: HostRuntime) -> Result<(), Fail> {
 pub fn assert_ends(rt: &impl Abort, alloc: Global, def: &str, arg: &str) -> Result<(), Fail> {
     assert!(rt; def.len() < 1_000_000 && arg.len() < 1_000_000);
     let mut out = Vec::new(alloc);
-    let outcome = run(alloc, def, arg, Edition::Edition2024, &mut out);
+    let outcome = run(alloc, def, arg, Edition::Edition2024, false, &mut out);
     let written = out.as_slice();
     match outcome {
         Outcome::Expanded => assert!(rt; written.starts_with(b"arm "), "{def:?} on {arg:?}"),
@@ -354,7 +361,7 @@ pub fn assert_ends(rt: &impl Abort, alloc: Global, def: &str, arg: &str) -> Resu
             );
             assert!(rt; written.is_empty(), "{def:?} on {arg:?}");
         }
-        Outcome::CannotWrite | Outcome::OutOfMemory => {
+        Outcome::Linted | Outcome::CannotWrite | Outcome::OutOfMemory => {
             assert!(rt; false, "{def:?} on {arg:?}");
         }
     }

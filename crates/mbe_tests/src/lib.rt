@@ -41,3 +41,5 @@ mod templates;
 mod tokens;
 #[cfg(test)]
 mod trees;
+#[cfg(test)]
+mod verdicts;

@@ -1,9 +1,11 @@
 // What is answered where a request for memory is refused.
 use crate::first_run::PAIR;
+use crate::grammar::NoGrammar;
 use crate::runs::{assert_answer, assert_checked, expanded, parsed, whole};
 use crate::tokens::{Token, close, number, open, word};
 use crate::trees::lexed;
-use mbe::MacroCallStyle;
+use crate::verdicts::explained;
+use mbe::{MacroCallStyle, Verdict};
 use mbe_tt::tt::DelimiterKind::Parenthesis;
 use refusing::Refusing;
 use std::alloc::{AllocError, Allocator, Global};
@@ -56,11 +58,34 @@ fn reads_twice<A: Allocator + Copy>(rt: &impl Abort, alloc: A) -> Result<bool, A
     Ok(first.is_err())
 }
 
+// The first rule is ambiguous, the second fits.
+const TWO_RULES: &str = "($($x:ident),* as $y:ident) => {}; ($($x:ident)*) => {}";
+
+// Whether the first verdicts ran out of memory. The macro has verdicts once more in either case, and stays as it was.
+fn explains_twice<A: Allocator + Copy>(rt: &impl Abort, alloc: A) -> Result<bool, AllocError> {
+    let definition = lexed(alloc, 0, TWO_RULES)?;
+    let argument = lexed(alloc, 1, "as u32")?;
+    let rules = parsed(alloc, &definition)?;
+    assert_checked(rt, &rules);
+    let copy = rules.try_clone(alloc)?;
+    let want = [Verdict::Ambiguous(0), Verdict::OneReading];
+    let first = explained(alloc, &NoGrammar, &rules, &argument);
+    let again = explained(alloc, &NoGrammar, &rules, &argument)?;
+    assert!(rt; again.as_slice() == want.as_slice());
+    assert!(rt; rules == copy);
+    let Ok(first) = first else {
+        return Ok(true);
+    };
+    assert!(rt; first.as_slice() == want.as_slice());
+    Ok(false)
+}
+
 /// What is done while each request for memory is refused in turn.
 #[derive(Clone, Copy)]
 enum Work {
     Reading,
     Expanding,
+    Explaining,
 }
 
 impl Work {
@@ -72,6 +97,7 @@ impl Work {
         match self {
             Work::Reading => reads_twice(rt, alloc),
             Work::Expanding => expands_twice(rt, alloc),
+            Work::Explaining => explains_twice(rt, alloc),
         }
     }
 }
@@ -106,6 +132,12 @@ fn assert_each_refused(
 #[test]
 fn each_request_of_an_expansion_refused(rt: HostRuntime) -> Result<(), Fail> {
     assert_each_refused(&rt, rt.alloc(), Work::Expanding, 3)
+}
+
+// Each list of positions of a match is a request.
+#[test]
+fn each_request_of_a_verdict_refused(rt: HostRuntime) -> Result<(), Fail> {
+    assert_each_refused(&rt, rt.alloc(), Work::Explaining, 3)
 }
 
 // Each list of ops and of elements is a request, and so is that of the rules.

@@ -1,0 +1,79 @@
+-- Verdicts and their lines, one rule after another.
+use Rattle.std.proofs.Common.{◌≡◌, ◌<◌, ◌≤◌, ◌+◌, ◌∙◌, ℕ, zero, suc, List, [], ◌∷◌, ◌++◌, map, length, take, slice_get, slice_index_or, Option, Some, refl, sym, ap, subst, arith, add-one}
+use Rattle.std.specs.Prelude.{codes}
+use Rattle.std.specs.Io.KnownBytes.{Appends}
+use Rattle.std.proofs.KnownBytes.{Appends-trans}
+use Rattle.std.proofs.lemmas.List.{append_assoc, append-nil, map-append, take_all}
+use Rattle.std.proofs.lemmas.Option.{none-some, same_Some}
+use Rattle.mbe_tt.specs.Trees.Tree.{Forest}
+use Rattle.mbe_tt.specs.Fragments.Grammar.{Grammar}
+use Rattle.mbe_semantics.specs.Syntax.Definition.{Rule}
+use Rattle.mbe_semantics.specs.Readings.Verdict.{Verdict, IsVerdict}
+use Rattle.mbe_matcher.specs.declared.matching.Verdict as given
+use Rattle.mbe.specs.Matched.{verdict_seen}
+use Rattle.mbe.specs.Explaining.{Explains}
+use Rattle.mbe.proofs.ChoiceLemmas.{all_seen}
+use Rattle.mbe_program.specs.Linting.{AreVerdicts, line_of, lines_from}
+
+-- ---- verdicts
+
+verdict_at : (g : Grammar) (argument : Forest) (rs : List Rule) (n : ℕ) (vs : List Verdict) (r : Rule) (v : Verdict)
+    → AreVerdicts g argument (take n rs) vs → slice_get rs n ≡ Some r → IsVerdict g r.reads argument v
+    → AreVerdicts g argument (take (suc n) rs) (vs ++ v ∷ [])
+verdict_at g argument [] n vs r v h e k = absurd (none-some r e)
+verdict_at g argument (x ∷ rs) zero [] r v h e k =
+    (subst (λ (y : Rule). IsVerdict g y.reads argument v) (sym (same_Some x r e)) k, tt)
+verdict_at g argument (x ∷ rs) zero (w ∷ vs) r v h e k = absurd h
+verdict_at g argument (x ∷ rs) (suc n) [] r v h e k = absurd h
+verdict_at g argument (x ∷ rs) (suc n) (w ∷ vs) r v h e k = (h.0, verdict_at g argument rs n vs r v h.1 e k)
+
+-- the verdict of one rule more
+pub one_verdict_more : (g : Grammar) (argument : Forest) (rs : List Rule) (n : ℕ) (vs : List given.Verdict) (v : given.Verdict)
+    → AreVerdicts g argument (take n rs) (map verdict_seen vs) → Explains g rs argument n (verdict_seen v)
+    → AreVerdicts g argument (take (n + 1) rs) (map verdict_seen (vs ++ v ∷ []))
+one_verdict_more g argument rs n vs v h k =
+    rw add-one (subst (AreVerdicts g argument (take (suc n) rs)) (sym (map-append verdict_seen vs (v ∷ [])))
+    (verdict_at g argument rs n (map verdict_seen vs) k.0 (verdict_seen v) h k.1 k.2))
+
+-- those of all rules
+pub all_verdicts : (g : Grammar) (argument : Forest) (rs : List Rule) (n : ℕ) (vs : List Verdict) → length rs ≤ n
+    → AreVerdicts g argument (take n rs) vs → AreVerdicts g argument rs vs
+all_verdicts g argument rs n vs l h = subst (λ (xs : List Rule). AreVerdicts g argument xs vs) (take_all n rs l) h
+
+-- ---- lines
+
+line_at : (first : ℕ) (vs : List Verdict) (n : ℕ) (v : Verdict) → slice_get vs n ≡ Some v
+    → lines_from first (take (suc n) vs) ≡ lines_from first (take n vs) ++ (line_of (first + n) v ++ codes "\n")
+line_at first [] n v e = absurd (none-some v e)
+line_at first (w ∷ vs) zero v e =
+    append-nil (line_of first w ++ codes "\n") ∙ ap (λ (x : Verdict). line_of first x ++ codes "\n") (same_Some w v e)
+    ∙ ap (λ (k : ℕ). line_of k v ++ codes "\n") (omega arith)
+line_at first (w ∷ vs) (suc n) v e =
+    ap (λ (l : List ℕ). (line_of first w ++ codes "\n") ++ l) (line_at (suc first) vs n v e)
+    ∙ sym (append_assoc (line_of first w ++ codes "\n") (lines_from (suc first) (take n vs)) (line_of (suc first + n) v ++ codes "\n"))
+    ∙ ap (λ (k : ℕ). ((line_of first w ++ codes "\n") ++ lines_from (suc first) (take n vs)) ++ (line_of k v ++ codes "\n")) (omega arith)
+
+line_get : (vs : List given.Verdict) (n : ℕ) (other : given.Verdict) → n < length vs
+    → slice_get (map verdict_seen vs) n ≡ Some (verdict_seen (slice_index_or vs n other))
+line_get [] n other l = absurd (omega (arith, l))
+line_get (w ∷ vs) zero other l = refl
+line_get (w ∷ vs) (suc n) other l = line_get vs n other (omega (arith, l))
+
+-- the line of one rule more is written
+pub one_line_more : (before now after : Option (List ℕ)) (vs : List given.Verdict) (n : ℕ) (other : given.Verdict) → n < length vs
+    → Appends before now (lines_from 0 (take n (map verdict_seen vs)))
+    → Appends now after (line_of n (verdict_seen (slice_index_or vs n other)) ++ codes "\n")
+    → Appends before after (lines_from 0 (take (n + 1) (map verdict_seen vs)))
+one_line_more before now after vs n other l h k =
+    let seen = map verdict_seen vs in
+    let v = verdict_seen (slice_index_or vs n other) in
+    let line : lines_from 0 (take (suc n) seen) ≡ lines_from 0 (take n seen) ++ (line_of n v ++ codes "\n") =
+    line_at 0 seen n v (line_get vs n other l)
+    ∙ ap (λ (k : ℕ). lines_from 0 (take n seen) ++ (line_of k v ++ codes "\n")) (omega arith) in
+    rw add-one (subst (Appends before after) (sym line)
+    (Appends-trans before now after (lines_from 0 (take n seen)) (line_of n v ++ codes "\n") h k))
+
+-- those of all rules are written
+pub all_lines : (before after : Option (List ℕ)) (vs : List given.Verdict) (n : ℕ) → length vs ≤ n
+    → Appends before after (lines_from 0 (take n (map verdict_seen vs))) → Appends before after (lines_from 0 (map verdict_seen vs))
+all_lines before after vs n l h = subst (λ (xs : List Verdict). Appends before after (lines_from 0 xs)) (all_seen verdict_seen vs n l) h

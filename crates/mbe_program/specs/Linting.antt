@@ -1,0 +1,67 @@
+-- What a run writes of the verdicts on a definition's rules.
+use Rattle.std.specs.Prelude.{ℕ, suc, ⊤, ◌≡◌, List, [], ◌∷◌, ◌++◌, codes, Option, None}
+use Rattle.std.specs.Fmt.{decimal}
+use Rattle.std.specs.Io.KnownBytes.{Appends}
+use Rattle.mbe_tt.specs.declared.span.Edition.{Edition}
+use Rattle.mbe_tt.specs.Trees.Tree.{Forest}
+use Rattle.mbe_tt.specs.Trees.Top.{Top}
+use Rattle.mbe_tt.specs.Fragments.Grammar.{Grammar}
+use Rattle.mbe_grammar.specs.SampleGrammar.{sample}
+use Rattle.mbe_semantics.specs.Syntax.Definition.{Rule}
+use Rattle.mbe_semantics.specs.Readings.Verdict.{Verdict, one_reading, many_readings, ambiguous, stuck, IsVerdict}
+use Rattle.mbe_semantics.specs.Expansion.ReadAs.{IsReadAs}
+use Rattle.mbe_text.specs.Tokens.{IsMade}
+use Rattle.mbe_program.specs.declared.program.Outcome.{Outcome}
+use Rattle.mbe_program.specs.declared.program.Outcome.TheVariants.{Expanded, Linted, Faulted, CannotWrite}
+use Rattle.mbe_program.specs.Expansion.{IsEdition, IsUnexpanded}
+
+-- ---- verdicts
+
+-- one verdict for each rule, in order
+abbrev pub AreVerdicts : Grammar → Forest → List Rule → List Verdict → Type 0
+AreVerdicts g argument [] [] = ⊤
+AreVerdicts g argument (r ∷ rs) (v ∷ vs) = IsVerdict g r.reads argument v × AreVerdicts g argument rs vs
+AreVerdicts g argument [] (v ∷ vs) = ⊥
+AreVerdicts g argument (r ∷ rs) [] = ⊥
+
+-- The verdicts on an argument of the rules that the grammar of definitions reads from these trees in that edition, which report
+-- no error.
+pub record ExplainsTrees (edition : Edition) (definition argument : Forest) (answers : List Verdict) : Type 0 where
+  pub rules : List Rule
+  pub read : IsReadAs (IsEdition edition) definition (record { rules = rules; err = None })
+  pub verdicts : AreVerdicts sample argument rules answers
+
+-- ---- lines
+
+-- the words for a verdict
+abbrev pub words_for : Verdict → List ℕ
+words_for one_reading = codes "one reading"
+words_for many_readings = codes "several readings"
+words_for (ambiguous place) = codes "ambiguous at " ++ decimal place
+words_for (stuck place) = codes "stuck at " ++ decimal place
+
+-- the text of a rule's line
+abbrev pub line_of : ℕ → Verdict → List ℕ
+line_of rule v = codes "rule " ++ (decimal rule ++ (codes ": " ++ words_for v))
+
+-- a line for each verdict, the rules counted from that number
+abbrev pub lines_from : ℕ → List Verdict → List ℕ
+lines_from rule [] = []
+lines_from rule (v ∷ vs) = (line_of rule v ++ codes "\n") ++ lines_from (suc rule) vs
+
+-- ---- a run
+
+-- These are the verdicts for trees that tokens of the texts make, which are so long.
+abbrev pub ExplainsTexts : Edition → ℕ → ℕ → List Verdict → Type 0
+ExplainsTexts edition def_len arg_len verdicts = (definition : Top) × (argument : Top) × IsMade 0 def_len definition × IsMade 1 arg_len argument
+    × ExplainsTrees edition definition.1 argument.1 verdicts
+
+-- A run that lints ends as `Linted`, and has written a line for each verdict, or a write fails, or it has no verdicts, and then
+-- it has written nothing.
+abbrev pub Lints : {A : Type 0} → Edition → ℕ → ℕ → Option (List ℕ) → Option (List ℕ) → Outcome A → Type 0
+Lints edition def_len arg_len before after Linted =
+    (verdicts : List Verdict) × ExplainsTexts edition def_len arg_len verdicts × Appends before after (lines_from 0 verdicts)
+Lints edition def_len arg_len before after CannotWrite = ⊤
+Lints edition def_len arg_len before after Expanded = ⊥
+Lints edition def_len arg_len before after Faulted = ⊥
+Lints edition def_len arg_len before after outcome = IsUnexpanded edition def_len outcome × (after ≡ before)

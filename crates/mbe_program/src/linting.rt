@@ -1,0 +1,98 @@
+// Verdicts on the rules of a definition, a line for each.
+ghost use Rattle.std.specs.Prelude.{◌≡◌, ◌≤◌, ◌++◌, codes, map, Some, IfOk, IfErr, OnOk};
+ghost use Rattle.std.specs.Io.KnownBytes.{Appends};
+ghost use Rattle.mbe_grammar.specs.SampleGrammar.{sample};
+ghost use Rattle.mbe_semantics.specs.Expansion.Macro.{IsChecked};
+ghost use Rattle.mbe.specs.MacroViews.{macro_of};
+ghost use Rattle.mbe.specs.Matched.{verdict_seen};
+ghost use Rattle.mbe_program.specs.Expansion.{IsRefused};
+ghost use Rattle.mbe_program.specs.Linting.{AreVerdicts, ExplainsTrees, line_of, lines_from};
+ghost use Rattle.mbe_program.specs.Outcomes.{status_of};
+
+use crate::program::{Outcome, defined};
+use mbe::{DeclarativeMacro, Verdict};
+use mbe_grammar::SampleGrammar;
+use mbe_tt::span::Edition;
+use mbe_tt::tt::TopSubtree;
+use std::alloc::{AllocError, Allocator};
+use std::io::Write;
+use std::{fmt, io};
+
+// The verdict on the argument of each rule, in order.
+#[tactic(auto, using(crate::proofs::LintLemmas::one_verdict_more, crate::proofs::LintLemmas::all_verdicts))]
+fn explained<A: Allocator + Copy>(
+    alloc: A,
+    rules: &DeclarativeMacro<A>,
+    argument: &TopSubtree<A>,
+) -> Result<Vec<Verdict, A>, AllocError>
+    requires { IsChecked (macro_of rules.now) }
+    ensures { IfOk result (λ verdicts. AreVerdicts sample argument.now.1 (macro_of rules.now).rules
+        (map verdict_seen verdicts.items)) }
+{
+    let mut verdicts = Vec::new(alloc);
+    for rule in 0..rules.num_rules() {
+        verdicts.push(rules.explain(alloc, &SampleGrammar, argument, rule)?)?;
+    }
+    Ok(verdicts)
+}
+
+/// The verdict on the argument of each rule of a definition, of every style, in order; or why there are none: the definition's
+/// error, or out of memory.
+pub fn verdicts<A: Allocator + Copy>(
+    alloc: A,
+    definition: &TopSubtree<A>,
+    argument: &TopSubtree<A>,
+    edition: Edition,
+) -> Result<Vec<Verdict, A>, Outcome<A>>
+    ensures explains { IfOk result (λ verdicts. ExplainsTrees edition definition.now.1
+        argument.now.1 (map verdict_seen verdicts.items)) }
+    ensures refused { IfErr result (IsRefused edition definition.now.1) }
+    ensures fails { IfErr result (λ outcome. 2 ≤ status_of outcome) }
+{
+    let rules = defined(alloc, definition, edition)?;
+    Ok(explained(alloc, &rules, argument)?)
+}
+
+// A rule's index, and its verdict.
+#[derive(Clone, Copy)]
+struct Line {
+    rule: usize,
+    verdict: Verdict,
+}
+
+impl fmt::Display for Line {
+    ghost output = { λ line. Some (line_of line.rule (verdict_seen line.verdict)) };
+
+    fn fmt<W: fmt::Write>(&self, f: &mut fmt::Formatter<W>) -> fmt::Result {
+        let rule = self.rule;
+        match self.verdict {
+            Verdict::OneReading => write!(f, "rule {rule}: one reading"),
+            Verdict::ManyReadings => write!(f, "rule {rule}: several readings"),
+            Verdict::Ambiguous(place) => write!(f, "rule {rule}: ambiguous at {place}"),
+            Verdict::Stuck(place) => write!(f, "rule {rule}: stuck at {place}"),
+        }
+    }
+}
+
+// Writes a rule's line.
+fn print_verdict<W: Write>(rule: usize, verdict: Verdict, out: &mut W) -> io::Result<()>
+    ensures { OnOk result (Appends (W.contents out.old) (W.contents out.new)
+        (line_of rule (verdict_seen verdict) ++ codes "\n")) }
+{
+    let line = Line { rule, verdict };
+    writeln!(out, "{line}")
+}
+
+/// Writes a line for each verdict, with the index of its rule, and flushes: `rule N: one reading`, `rule N: several readings`,
+/// `rule N: ambiguous at P` or `rule N: stuck at P`, in decimal. The form is the project's own. It returns the first error of the
+/// writer, after which what was written is a prefix.
+#[tactic(auto, using(crate::proofs::LintLemmas::all_lines))]
+pub fn print_verdicts<W: Write>(verdicts: &[Verdict], out: &mut W) -> io::Result<()>
+    ensures { OnOk result (Appends (W.contents out.old) (W.contents out.new)
+        (lines_from 0 (map verdict_seen verdicts.now))) }
+{
+    for (rule, verdict) in verdicts.iter().enumerate() {
+        print_verdict(rule, *verdict, out)?;
+    }
+    out.flush()
+}
