@@ -1,16 +1,83 @@
--- How a run ends whose texts aren't lexed.
-use Rattle.std.proofs.Common.{ℕ}
+-- How a run ends without an expansion, and what a writer that is flushed holds.
+use Rattle.std.proofs.Common.{◌≡◌, ℕ, List, [], ◌++◌, Option, Result, Ok, Err, IsOk, IsErr, subst, ap}
+use Rattle.std.proofs.lemmas.Bool.{false≢true}
+use Rattle.std.specs.Io.KnownBytes.{Appends, Keeps}
+use Rattle.std.proofs.KnownBytes.{Appends-kept}
 use Rattle.mbe_tt.specs.declared.span.Edition.{Edition}
+use Rattle.mbe_tt.specs.Trees.Tree.{Forest}
+use Rattle.mbe_tt.specs.Trees.Top.{Top}
+use Rattle.mbe_text.specs.Printing.{lines}
+use Rattle.mbe_text.specs.Tokens.{IsMade}
+use Rattle.mbe_text.specs.Writing.{Takes, Writes}
+use Rattle.mbe_text.proofs.Taken.{takes_whole}
 use Rattle.mbe_program.specs.declared.program.Outcome.{Outcome}
 use Rattle.mbe_program.specs.declared.program.Outcome.TheVariants.{Expanded, Linted, Faulted, Refused, CannotLex, CannotWrite, OutOfMemory}
-use Rattle.mbe_program.specs.Expansion.{EndsAs, IsUnlexed}
+use Rattle.mbe_semantics.specs.Expansion.Error.{ExpandError}
+use Rattle.mbe_program.specs.Printed.{head, printed}
+use Rattle.mbe_program.specs.Expansion.{EndsAs, IsRefused, IsUnexpanded, IsUnlexed}
+use Rattle.mbe_program.specs.Linting.{Lints}
 
--- nothing is said of such an outcome
-pub unlexed_ends : {A : Type 0} (edition : Edition) (arg_len : ℕ) (outcome : Outcome A) → IsUnlexed outcome → EndsAs edition arg_len outcome
-unlexed_ends edition arg_len Expanded h = absurd h
-unlexed_ends edition arg_len Linted h = absurd h
-unlexed_ends edition arg_len Faulted h = absurd h
-unlexed_ends edition arg_len (Refused error) h = absurd h
-unlexed_ends edition arg_len (CannotLex file offset) h = tt
-unlexed_ends edition arg_len CannotWrite h = absurd h
-unlexed_ends edition arg_len OutOfMemory h = tt
+-- a text isn't lexed
+pub unlexed : {A : Type 0} (edition : Edition) (def_len : ℕ) (outcome : Outcome A) → IsUnlexed outcome → IsUnexpanded edition def_len outcome
+unlexed edition def_len Expanded h = absurd h
+unlexed edition def_len Linted h = absurd h
+unlexed edition def_len Faulted h = absurd h
+unlexed edition def_len (Refused error) h = absurd h
+unlexed edition def_len (CannotLex file offset) h = tt
+unlexed edition def_len CannotWrite h = absurd h
+unlexed edition def_len OutOfMemory h = tt
+
+-- the definition is refused
+pub refused : {A : Type 0} (edition : Edition) (def_len : ℕ) (definition : Top) (outcome : Outcome A) → IsMade 0 def_len definition
+    → IsRefused edition definition.1 outcome → IsUnexpanded edition def_len outcome
+refused edition def_len definition Expanded made h = absurd h
+refused edition def_len definition Linted made h = absurd h
+refused edition def_len definition Faulted made h = absurd h
+refused edition def_len definition (Refused error) made h = (definition, made, h)
+refused edition def_len definition (CannotLex file offset) made h = absurd h
+refused edition def_len definition CannotWrite made h = absurd h
+refused edition def_len definition OutOfMemory made h = tt
+
+-- a run without an expansion writes nothing
+pub unexpanded_ends : {A : Type 0} (edition : Edition) (def_len arg_len : ℕ) (before after : Option (List ℕ)) (outcome : Outcome A)
+    → IsUnexpanded edition def_len outcome → after ≡ before → EndsAs edition def_len arg_len before after outcome
+unexpanded_ends edition def_len arg_len before after Expanded h e = absurd h
+unexpanded_ends edition def_len arg_len before after Linted h e = absurd h
+unexpanded_ends edition def_len arg_len before after Faulted h e = absurd h
+unexpanded_ends edition def_len arg_len before after (Refused error) h e = (h, e)
+unexpanded_ends edition def_len arg_len before after (CannotLex file offset) h e = (h, e)
+unexpanded_ends edition def_len arg_len before after CannotWrite h e = absurd h
+unexpanded_ends edition def_len arg_len before after OutOfMemory h e = (h, e)
+
+-- so does one that lints
+pub unexpanded_lints : {A : Type 0} (edition : Edition) (def_len arg_len : ℕ) (before after : Option (List ℕ)) (outcome : Outcome A)
+    → IsUnexpanded edition def_len outcome → after ≡ before → Lints edition def_len arg_len before after outcome
+unexpanded_lints edition def_len arg_len before after Expanded h e = absurd h
+unexpanded_lints edition def_len arg_len before after Linted h e = absurd h
+unexpanded_lints edition def_len arg_len before after Faulted h e = absurd h
+unexpanded_lints edition def_len arg_len before after (Refused error) h e = (h, e)
+unexpanded_lints edition def_len arg_len before after (CannotLex file offset) h e = (h, e)
+unexpanded_lints edition def_len arg_len before after CannotWrite h e = absurd h
+unexpanded_lints edition def_len arg_len before after OutOfMemory h e = (h, e)
+
+-- what was written stays when the writer is flushed, whether that fails or not
+pub flushed : {T E : Type 0} (a b c : Option (List ℕ)) (r : Result T E) (xs : List ℕ) → Appends a b xs → Keeps b c → Writes a c r xs
+flushed a b c (Ok x) xs p q = Appends-kept a b c xs p q
+flushed a b c (Err e) xs p q = ([], takes_whole a c xs (Appends-kept a b c xs p q))
+
+-- the text is that of both lines before the trees, and then come those of the trees
+printed_whole : (text : List ℕ) (out : Forest) (index : Option ℕ) (err : Option ExpandError) → text ≡ head err index
+    → text ++ lines 0 out ≡ printed out index err
+printed_whole text out index err e = ap (λ (l : List ℕ). l ++ lines 0 out) e
+
+-- where printing succeeds, all is written
+pub printed_all : {T E : Type 0} (a b : Option (List ℕ)) (r : Result T E) (text : List ℕ) (out : Forest) (index : Option ℕ) (err : Option ExpandError)
+    → text ≡ head err index → IsOk r → Writes a b r (text ++ lines 0 out) → Appends a b (printed out index err)
+printed_all a b (Ok x) text out index err e h w = subst (Appends a b) (printed_whole text out index err e) w
+printed_all a b (Err x) text out index err e h w = absurd (false≢true h)
+
+-- where it fails, a prefix is
+pub printed_some : {T E : Type 0} (a b : Option (List ℕ)) (r : Result T E) (text : List ℕ) (out : Forest) (index : Option ℕ) (err : Option ExpandError)
+    → text ≡ head err index → IsErr r → Writes a b r (text ++ lines 0 out) → (left : List ℕ) × Takes a b (printed out index err) left
+printed_some a b (Ok x) text out index err e h w = absurd (false≢true h)
+printed_some a b (Err x) text out index err e h w = (w.0, subst (λ (l : List ℕ). Takes a b l w.0) (printed_whole text out index err e) w.1)

@@ -1,9 +1,11 @@
--- What a run makes of the trees of both texts.
+-- What a run makes of both texts, and what it writes.
 use Rattle.std.specs.Prelude.{◌≡◌, ⊤, ℕ, List, Option, Some, None}
+use Rattle.std.specs.Io.KnownBytes.{Appends}
 use Rattle.mbe_tt.specs.declared.span.Edition.{Edition}
 use Rattle.mbe_tt.specs.declared.span.Span.{Span}
 use Rattle.mbe_tt.specs.declared.span.SyntaxContext.{SyntaxContext}
 use Rattle.mbe_tt.specs.Trees.Tree.{Forest}
+use Rattle.mbe_tt.specs.Trees.Top.{Top}
 use Rattle.mbe_grammar.specs.SampleGrammar.{sample}
 use Rattle.mbe_semantics.specs.Syntax.Definition.{Rule}
 use Rattle.mbe_semantics.specs.Expansion.Error.{ExpandError}
@@ -11,6 +13,9 @@ use Rattle.mbe_errors.specs.ErrorViews.{parse_error_of}
 use Rattle.mbe_semantics.specs.Expansion.Macro.{Expands}
 use Rattle.mbe_semantics.specs.Expansion.ReadAs.{IsReadAs}
 use Rattle.mbe_semantics.specs.declared.macro_call_style.MacroCallStyle.TheVariants.{FnLike}
+use Rattle.mbe_text.specs.Tokens.{IsMade, bytes_of}
+use Rattle.mbe_text.specs.Writing.{Takes}
+use Rattle.mbe_program.specs.Printed.{printed}
 use Rattle.mbe_program.specs.declared.program.Outcome.{Outcome}
 use Rattle.mbe_program.specs.declared.program.Outcome.TheVariants.{Expanded, Linted, Faulted, Refused, CannotLex, CannotWrite, OutOfMemory}
 
@@ -35,42 +40,45 @@ abbrev pub IsRefused : {A : Type 0} → Edition → Forest → Outcome A → Typ
 IsRefused edition definition (Refused error) =
     (rules : List Rule) × IsReadAs (IsEdition edition) definition (record { rules = rules; err = Some (parse_error_of error) })
 IsRefused edition definition OutOfMemory = ⊤
-IsRefused edition definition Expanded = ⊥
-IsRefused edition definition Linted = ⊥
-IsRefused edition definition Faulted = ⊥
-IsRefused edition definition (CannotLex file offset) = ⊥
-IsRefused edition definition CannotWrite = ⊥
+IsRefused edition definition outcome = ⊥
 
 -- ---- from texts
 
--- all bytes of a file that is so long
-abbrev pub whole_file : ℕ → ℕ → Span
-whole_file file len = record { file = file; ast = 0; start = 0; end = len; ctx = record { 0 = 0 } }
-
--- The answer to a call whose argument has so many bytes: some trees of the texts have it, with all of file 1 as call site.
-pub record ExpandsTexts (edition : Edition) (arg_len : ℕ) (out : Forest) (index : Option ℕ) (err : Option ExpandError) : Type 0 where
-  pub definition : Forest
-  pub argument : Forest
-  pub expands : ExpandsTrees edition definition argument (whole_file 1 arg_len) out index err
-
--- A run ends as `Expanded` where the answer has no error, as `Faulted` where it has one, and as `Refused` with the fault of
--- some trees of the definition.
-abbrev pub EndsAs : {A : Type 0} → Edition → ℕ → Outcome A → Type 0
-EndsAs edition arg_len Expanded = (out : Forest) × (index : Option ℕ) × ExpandsTexts edition arg_len out index None
-EndsAs edition arg_len Faulted =
-    (out : Forest) × (index : Option ℕ) × (e : ExpandError) × ExpandsTexts edition arg_len out index (Some e)
-EndsAs edition arg_len Linted = ⊤
-EndsAs edition arg_len (Refused error) = (definition : Forest) × IsRefused edition definition (Refused error)
-EndsAs edition arg_len (CannotLex file offset) = ⊤
-EndsAs edition arg_len CannotWrite = ⊤
-EndsAs edition arg_len OutOfMemory = ⊤
+-- The answer to a call with these texts, which are so long: trees that tokens of the texts make have it, with all bytes of the
+-- argument as call site. The definition is file 0, and the argument file 1.
+pub record ExpandsTexts (edition : Edition) (def_len arg_len : ℕ) (out : Forest) (index : Option ℕ) (err : Option ExpandError) : Type 0 where
+  pub definition : Top
+  pub argument : Top
+  pub defined : IsMade 0 def_len definition
+  pub given : IsMade 1 arg_len argument
+  pub expands : ExpandsTrees edition definition.1 argument.1 (bytes_of 1 0 arg_len) out index err
 
 -- a text isn't lexed, or there is no memory
 abbrev pub IsUnlexed : {A : Type 0} → Outcome A → Type 0
 IsUnlexed (CannotLex file offset) = ⊤
 IsUnlexed OutOfMemory = ⊤
-IsUnlexed (Refused error) = ⊥
-IsUnlexed Expanded = ⊥
-IsUnlexed Linted = ⊥
-IsUnlexed Faulted = ⊥
-IsUnlexed CannotWrite = ⊥
+IsUnlexed outcome = ⊥
+
+-- There is no expansion of the texts: one isn't lexed, there is no memory, or trees that tokens of the definition make have
+-- that fault.
+abbrev pub IsUnexpanded : {A : Type 0} → Edition → ℕ → Outcome A → Type 0
+IsUnexpanded edition def_len (Refused error) =
+    (definition : Top) × IsMade 0 def_len definition × IsRefused edition definition.1 (Refused error)
+IsUnexpanded edition def_len (CannotLex file offset) = ⊤
+IsUnexpanded edition def_len OutOfMemory = ⊤
+IsUnexpanded edition def_len outcome = ⊥
+
+-- Where the answer has no error, a run ends as `Expanded`, and where it has one, as `Faulted`; either way what is printed of it
+-- is written. If a write fails, a prefix of that is written. Without an answer nothing is. No such run lints.
+abbrev pub EndsAs : {A : Type 0} → Edition → ℕ → ℕ → Option (List ℕ) → Option (List ℕ) → Outcome A → Type 0
+EndsAs edition def_len arg_len before after Expanded =
+    (out : Forest) × (index : Option ℕ) × ExpandsTexts edition def_len arg_len out index None
+    × Appends before after (printed out index None)
+EndsAs edition def_len arg_len before after Faulted =
+    (out : Forest) × (index : Option ℕ) × (e : ExpandError) × ExpandsTexts edition def_len arg_len out index (Some e)
+    × Appends before after (printed out index (Some e))
+EndsAs edition def_len arg_len before after CannotWrite =
+    (out : Forest) × (index : Option ℕ) × (err : Option ExpandError) × (left : List ℕ)
+    × ExpandsTexts edition def_len arg_len out index err × Takes before after (printed out index err) left
+EndsAs edition def_len arg_len before after Linted = ⊥
+EndsAs edition def_len arg_len before after outcome = IsUnexpanded edition def_len outcome × (after ≡ before)

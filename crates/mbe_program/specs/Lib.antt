@@ -2,4 +2,5 @@ pub mod Expansion
 pub mod Linting
 pub mod Options
 pub mod Outcomes
+pub mod Printed
 pub mod Unread

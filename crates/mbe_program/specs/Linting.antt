@@ -1,17 +1,19 @@
 -- What a run writes of the verdicts on a definition's rules.
-use Rattle.std.specs.Prelude.{ℕ, suc, ⊤, ◌≡◌, List, [], ◌∷◌, ◌++◌, codes, Bool, true, false, Option, None}
+use Rattle.std.specs.Prelude.{ℕ, suc, ⊤, ◌≡◌, List, [], ◌∷◌, ◌++◌, codes, Option, None}
 use Rattle.std.specs.Fmt.{decimal}
 use Rattle.std.specs.Io.KnownBytes.{Appends}
 use Rattle.mbe_tt.specs.declared.span.Edition.{Edition}
 use Rattle.mbe_tt.specs.Trees.Tree.{Forest}
+use Rattle.mbe_tt.specs.Trees.Top.{Top}
 use Rattle.mbe_tt.specs.Fragments.Grammar.{Grammar}
 use Rattle.mbe_grammar.specs.SampleGrammar.{sample}
 use Rattle.mbe_semantics.specs.Syntax.Definition.{Rule}
 use Rattle.mbe_semantics.specs.Readings.Verdict.{Verdict, one_reading, many_readings, ambiguous, stuck, IsVerdict}
 use Rattle.mbe_semantics.specs.Expansion.ReadAs.{IsReadAs}
+use Rattle.mbe_text.specs.Tokens.{IsMade}
 use Rattle.mbe_program.specs.declared.program.Outcome.{Outcome}
-use Rattle.mbe_program.specs.declared.program.Outcome.TheVariants.{Expanded, Linted, Faulted, Refused, CannotLex, CannotWrite, OutOfMemory}
-use Rattle.mbe_program.specs.Expansion.{IsEdition}
+use Rattle.mbe_program.specs.declared.program.Outcome.TheVariants.{Expanded, Linted, Faulted, CannotWrite}
+use Rattle.mbe_program.specs.Expansion.{IsEdition, IsUnexpanded}
 
 -- ---- verdicts
 
@@ -49,18 +51,17 @@ lines_from rule (v ∷ vs) = (line_of rule v ++ codes "\n") ++ lines_from (suc r
 
 -- ---- a run
 
--- These are the verdicts for some trees of the texts.
-abbrev pub ExplainsTexts : Edition → List Verdict → Type 0
-ExplainsTexts edition verdicts = (definition : Forest) × (argument : Forest) × ExplainsTrees edition definition argument verdicts
+-- These are the verdicts for trees that tokens of the texts make, which are so long.
+abbrev pub ExplainsTexts : Edition → ℕ → ℕ → List Verdict → Type 0
+ExplainsTexts edition def_len arg_len verdicts = (definition : Top) × (argument : Top) × IsMade 0 def_len definition × IsMade 1 arg_len argument
+    × ExplainsTrees edition definition.1 argument.1 verdicts
 
--- A run that lints ends as `Linted`, and has written a line for each verdict; one that doesn't lint ends as `Expanded` or
--- `Faulted`. Both may fail.
-abbrev pub Lints : {A : Type 0} → Bool → Edition → Option (List ℕ) → Option (List ℕ) → Outcome A → Type 0
-Lints lint edition before after Expanded = lint ≡ false
-Lints lint edition before after Faulted = lint ≡ false
-Lints lint edition before after Linted =
-    (lint ≡ true) × (verdicts : List Verdict) × ExplainsTexts edition verdicts × Appends before after (lines_from 0 verdicts)
-Lints lint edition before after (Refused error) = ⊤
-Lints lint edition before after (CannotLex file offset) = ⊤
-Lints lint edition before after CannotWrite = ⊤
-Lints lint edition before after OutOfMemory = ⊤
+-- A run that lints ends as `Linted`, and has written a line for each verdict, or a write fails, or it has no verdicts, and then
+-- it has written nothing.
+abbrev pub Lints : {A : Type 0} → Edition → ℕ → ℕ → Option (List ℕ) → Option (List ℕ) → Outcome A → Type 0
+Lints edition def_len arg_len before after Linted =
+    (verdicts : List Verdict) × ExplainsTexts edition def_len arg_len verdicts × Appends before after (lines_from 0 verdicts)
+Lints edition def_len arg_len before after CannotWrite = ⊤
+Lints edition def_len arg_len before after Expanded = ⊥
+Lints edition def_len arg_len before after Faulted = ⊥
+Lints edition def_len arg_len before after outcome = IsUnexpanded edition def_len outcome × (after ≡ before)

@@ -1,34 +1,70 @@
 // How an expansion is written.
-use mbe::{ExpandError, ExpandResult, MatchedArmIndex};
+ghost use Rattle.std.specs.Prelude.{◌≡◌, ◌++◌, IfOk, option_map};
+ghost use Rattle.std.specs.String.{string_bytes};
+ghost use Rattle.mbe_errors.specs.ErrorViews.{error_of};
+ghost use Rattle.mbe_text.specs.Printing.{tree_text};
+ghost use Rattle.mbe_text.specs.Writing.{Writes};
+ghost use Rattle.mbe_program.specs.Printed as spec;
+
+use mbe::{ExpandError, MatchedArmIndex};
+use mbe_text::output::write_whole;
 use mbe_text::printing::{PrintedSpan, print_tree};
 use mbe_tt::tt::TopSubtree;
-use std::alloc::Allocator;
+use std::alloc::{AllocError, Allocator};
 use std::io;
 use std::io::Write;
 
-fn print_error<A: Allocator, W: Write>(error: &ExpandError<A>, out: &mut W) -> io::Result<()> {
+// The line of the error, or nothing without one.
+fn error_line<A: Allocator + Copy>(
+    alloc: A,
+    error: Option<&ExpandError<A>>,
+) -> Result<String<A>, AllocError>
+    ensures { IfOk result (λ line. string_bytes line
+        ≡ spec.error_line (option_map (λ e. error_of e.now) error.entry)) }
+{
+    let Some(error) = error else {
+        return Ok(String::new(alloc));
+    };
     let (span, kind) = &*error.inner;
     let place = PrintedSpan(*span);
-    writeln!(out, "error: {kind} at {place}")
+    format!(in alloc; "error: {kind} at {place}\n")
 }
 
-fn print_arm<W: Write>(arm: MatchedArmIndex, out: &mut W) -> io::Result<()> {
+// The line of the rule.
+fn arm_line<A: Allocator + Copy>(alloc: A, arm: MatchedArmIndex) -> Result<String<A>, AllocError>
+    ensures { IfOk result (λ line. string_bytes line ≡ spec.arm_line arm) }
+{
     match arm {
-        Some(index) => writeln!(out, "arm {index}"),
-        None => writeln!(out, "arm none"),
+        Some(index) => format!(in alloc; "arm {index}\n"),
+        None => String::from_str(alloc, "arm none\n"),
     }
 }
 
-/// Writes the error, if there is one, the rule used and the tree, and flushes.
+/// The lines before the tree: that of the error, if there is one, and that of the rule. `AllocError` if out of memory.
+pub fn head_of<A: Allocator + Copy>(
+    alloc: A,
+    error: Option<&ExpandError<A>>,
+    arm: MatchedArmIndex,
+) -> Result<String<A>, AllocError>
+    ensures { IfOk result (λ head. string_bytes head
+        ≡ spec.head (option_map (λ e. error_of e.now) error.entry) arm) }
+{
+    let error = error_line(alloc, error)?;
+    let arm = arm_line(alloc, arm)?;
+    format!(in alloc; "{error}{arm}")
+}
+
+/// Writes the lines before the tree and those of the tree, and flushes. It returns the first error of the writer; what was
+/// written then is a prefix of them.
 pub fn print_expansion<A: Allocator, W: Write>(
-    expansion: &ExpandResult<(TopSubtree<A>, MatchedArmIndex), A>,
+    head: &str,
+    tree: &TopSubtree<A>,
     out: &mut W,
-) -> io::Result<()> {
-    if let Some(error) = &expansion.err {
-        print_error(error, out)?;
-    }
-    let (tree, arm) = &expansion.value;
-    print_arm(*arm, out)?;
+) -> io::Result<()>
+    ensures { Writes (W.contents out.old) (W.contents out.new) result
+        (head.now ++ tree_text tree.now) }
+{
+    write_whole(head.as_bytes(), out)?;
     print_tree(tree, out)?;
     out.flush()
 }

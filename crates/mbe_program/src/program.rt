@@ -5,13 +5,14 @@ ghost use Rattle.mbe_errors.specs.ErrorViews.{errors_of};
 ghost use Rattle.mbe_semantics.specs.Expansion.ReadAs.{IsReadAs};
 ghost use Rattle.mbe.specs.Matched.{verdict_seen};
 ghost use Rattle.mbe.specs.MacroViews.{macro_of};
-ghost use Rattle.mbe_program.specs.Expansion.{ExpandsTrees, IsRefused, ExpandsTexts, EndsAs, IsUnlexed};
+ghost use Rattle.mbe_text.specs.Tokens.{IsMade};
+ghost use Rattle.mbe_program.specs.Expansion.{ExpandsTrees, IsRefused, ExpandsTexts, EndsAs, IsUnexpanded, IsUnlexed};
 ghost use Rattle.mbe_program.specs.Expansion.{IsEdition};
 ghost use Rattle.mbe_program.specs.Linting.{ExplainsTexts, Lints};
 ghost use Rattle.mbe_program.specs.Outcomes.{FaultsIn, IsSilent, status_of};
 
 use crate::linting::{print_verdicts, verdicts};
-use crate::printing::print_expansion;
+use crate::printing::{head_of, print_expansion};
 use mbe::{DeclarativeMacro, ExpandResult, MacroCallStyle, MatchedArmIndex, ParseError, Verdict};
 use mbe_grammar::SampleGrammar;
 use mbe_text::lexer::{LexError, lex};
@@ -66,6 +67,7 @@ impl<A: Allocator> From<AllocError> for Outcome<A> {
 
 fn lexed<A: Allocator + Copy>(alloc: A, text: &str, file: u32) -> Result<TopSubtree<A>, Outcome<A>>
     requires { length text.now < 2 ^ 32 }
+    ensures made { IfOk result (IsMade file (length text.now)) }
     ensures unlexed { IfErr result IsUnlexed }
     ensures fails { IfErr result (λ outcome. 2 ≤ status_of outcome) }
     ensures within { IfErr result (FaultsIn file (length text.now)) }
@@ -85,6 +87,7 @@ fn both_lexed<A: Allocator + Copy>(
 ) -> Result<(TopSubtree<A>, TopSubtree<A>), Outcome<A>>
     requires def { length def.now < 2 ^ 32 }
     requires arg { length arg.now < 2 ^ 32 }
+    ensures made { IfOk result (λ r. IsMade 0 (length def.now) r.0 × IsMade 1 (length arg.now) r.1) }
     ensures unlexed { IfErr result IsUnlexed }
     ensures fails { IfErr result (λ outcome. 2 ≤ status_of outcome) }
     ensures within { IfErr result (λ outcome.
@@ -142,7 +145,7 @@ fn expansion<A: Allocator + Copy>(
 }
 
 // What the text of a definition makes of that of an argument.
-#[tactic(auto, using(crate::proofs::OutcomeLemmas::unlexed_ends))]
+#[tactic(auto, using(crate::proofs::OutcomeLemmas::unlexed, crate::proofs::OutcomeLemmas::refused))]
 fn texts_expansion<A: Allocator + Copy>(
     alloc: A,
     def: &str,
@@ -151,9 +154,9 @@ fn texts_expansion<A: Allocator + Copy>(
 ) -> Result<Expansion<A>, Outcome<A>>
     requires def { length def.now < 2 ^ 32 }
     requires arg { length arg.now < 2 ^ 32 }
-    ensures expands { IfOk result (λ r. ExpandsTexts edition (length arg.now)
+    ensures expands { IfOk result (λ r. ExpandsTexts edition (length def.now) (length arg.now)
         (top_group r.value.0) r.value.1 (errors_of r.err)) }
-    ensures ended { IfErr result (EndsAs edition (length arg.now)) }
+    ensures unexpanded { IfErr result (IsUnexpanded edition (length def.now)) }
     ensures fails { IfErr result (λ outcome. 2 ≤ status_of outcome) }
     ensures within { IfErr result (λ outcome.
         FaultsIn 0 (length def.now) outcome ⊎ FaultsIn 1 (length arg.now) outcome) }
@@ -164,7 +167,7 @@ fn texts_expansion<A: Allocator + Copy>(
 }
 
 // The verdicts of the rules in the text of a definition on that of an argument.
-#[tactic(auto, using(crate::proofs::OutcomeLemmas::unlexed_ends))]
+#[tactic(auto, using(crate::proofs::OutcomeLemmas::unlexed, crate::proofs::OutcomeLemmas::refused))]
 fn texts_verdicts<A: Allocator + Copy>(
     alloc: A,
     def: &str,
@@ -173,9 +176,9 @@ fn texts_verdicts<A: Allocator + Copy>(
 ) -> Result<Vec<Verdict, A>, Outcome<A>>
     requires def { length def.now < 2 ^ 32 }
     requires arg { length arg.now < 2 ^ 32 }
-    ensures explains { IfOk result (λ verdicts. ExplainsTexts edition
-        (map verdict_seen verdicts.items)) }
-    ensures ended { IfErr result (EndsAs edition (length arg.now)) }
+    ensures explains { IfOk result (λ verdicts. ExplainsTexts edition (length def.now)
+        (length arg.now) (map verdict_seen verdicts.items)) }
+    ensures unexpanded { IfErr result (IsUnexpanded edition (length def.now)) }
     ensures fails { IfErr result (λ outcome. 2 ≤ status_of outcome) }
     ensures within { IfErr result (λ outcome.
         FaultsIn 0 (length def.now) outcome ⊎ FaultsIn 1 (length arg.now) outcome) }
@@ -195,15 +198,19 @@ fn expanded<A: Allocator + Copy, W: Write>(
     requires def { length def.now < 2 ^ 32 }
     requires arg { length arg.now < 2 ^ 32 }
     ensures silent { IsSilent result (W.contents out.old) (W.contents out.new) }
-    ensures ended { EndsAs edition (length arg.now) result }
-    ensures lints { Lints false edition (W.contents out.old) (W.contents out.new) result }
+    ensures ended { EndsAs edition (length def.now) (length arg.now)
+        (W.contents out.old) (W.contents out.new) result }
     ensures within { FaultsIn 0 (length def.now) result ⊎ FaultsIn 1 (length arg.now) result }
 {
     let expansion = match texts_expansion(alloc, def, arg, edition) {
         Ok(expansion) => expansion,
         Err(outcome) => return outcome,
     };
-    if print_expansion(&expansion, out).is_err() {
+    let (tree, arm) = &expansion.value;
+    let Ok(head) = head_of(alloc, expansion.err.as_ref(), *arm) else {
+        return Outcome::OutOfMemory;
+    };
+    if print_expansion(head.as_str(), tree, out).is_err() {
         return Outcome::CannotWrite;
     }
     match expansion.err {
@@ -223,8 +230,8 @@ fn linted<A: Allocator + Copy, W: Write>(
     requires def { length def.now < 2 ^ 32 }
     requires arg { length arg.now < 2 ^ 32 }
     ensures silent { IsSilent result (W.contents out.old) (W.contents out.new) }
-    ensures ended { EndsAs edition (length arg.now) result }
-    ensures lints { Lints true edition (W.contents out.old) (W.contents out.new) result }
+    ensures lints { Lints edition (length def.now) (length arg.now)
+        (W.contents out.old) (W.contents out.new) result }
     ensures within { FaultsIn 0 (length def.now) result ⊎ FaultsIn 1 (length arg.now) result }
 {
     let verdicts = match texts_verdicts(alloc, def, arg, edition) {
@@ -238,7 +245,7 @@ fn linted<A: Allocator + Copy, W: Write>(
 }
 
 /// Expands the text of an argument by the text of a definition, in which every token is of that edition, and writes the
-/// error, if there is one, the rule used and the tree. With `lint` it expands nothing, and writes a line for each rule of the
+/// error, if there is one, the rule used and the tree, and flushes. With `lint` it expands nothing, and writes a line for each rule of the
 /// definition, of every style: how it reads the argument.
 ///
 /// Nothing is written if a text isn't lexed, the definition is refused or memory runs out. If a write fails, the outcome says
@@ -254,8 +261,10 @@ pub fn run<A: Allocator + Copy, W: Write>(
     requires def { length def.now < 2 ^ 32 }
     requires arg { length arg.now < 2 ^ 32 }
     ensures silent { IsSilent result (W.contents out.old) (W.contents out.new) }
-    ensures ended { EndsAs edition (length arg.now) result }
-    ensures lints { Lints lint edition (W.contents out.old) (W.contents out.new) result }
+    ensures expands { lint ≡ false → EndsAs edition (length def.now) (length arg.now)
+        (W.contents out.old) (W.contents out.new) result }
+    ensures lints { lint ≡ true → Lints edition (length def.now) (length arg.now)
+        (W.contents out.old) (W.contents out.new) result }
     ensures within { FaultsIn 0 (length def.now) result ⊎ FaultsIn 1 (length arg.now) result }
 {
     if lint {
