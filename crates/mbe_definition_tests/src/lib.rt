@@ -1,4 +1,4 @@
-// Tests of definitions: each prefix of many, equality and copies of macros, and the calls of results and errors.
+// Tests of definitions: each prefix of many, equality and copies of macros, the calls of results and errors, and derived texts.
 #![tactic(auto)]
 
 #[cfg(test)]
@@ -11,3 +11,5 @@ mod prefixes;
 mod reading;
 #[cfg(test)]
 mod results;
+#[cfg(test)]
+mod shown;

@@ -14,7 +14,6 @@ use mbe_tt::span::Edition;
 use mbe_tt::symbol::Symbol;
 use mbe_tt::tt::{Leaf, TokenTreesView, TopSubtree, TtElement};
 use std::alloc::{AllocError, Allocator, Global};
-use std::slice;
 
 /// What becomes of a match: the verdict, how many trees are left where it stopped, how many names are bound, and what one
 /// name is bound to.
@@ -62,14 +61,14 @@ pub fn matched<A: Allocator + Copy>(
     argument: &TopSubtree<A>,
     name: &str,
 ) -> Result<Option<Outcome<A>>, AllocError> {
-    let rule = rule_of(alloc, pattern)?;
-    if refuses_some(slice::from_ref(&rule)) {
+    let rules = [rule_of(alloc, pattern)?];
+    if refuses_some(&rules) {
         return Ok(None);
     }
     let mut log = BindingLog::new(alloc);
     let around = argument.top_subtree().delimiter.delim_span();
     let trees = argument.iter().remaining();
-    let found = match_argument(alloc, &SampleGrammar, &rule.lhs, trees, around, &mut log)?;
+    let found = match_argument(alloc, &SampleGrammar, &rules[0].lhs, trees, around, &mut log)?;
     let Match {
         verdict,
         unmatched,
