@@ -61,14 +61,18 @@ pub fn matched<A: Allocator + Copy>(
     argument: &TopSubtree<A>,
     name: &str,
 ) -> Result<Option<Outcome<A>>, AllocError> {
-    let rules = [rule_of(alloc, pattern)?];
+    let mut rules = Vec::new(alloc);
+    rules.push(rule_of(alloc, pattern)?)?;
     if refuses_some(&rules) {
         return Ok(None);
     }
+    let Some(rule) = rules.first() else {
+        return Ok(None);
+    };
     let mut log = BindingLog::new(alloc);
     let around = argument.top_subtree().delimiter.delim_span();
     let trees = argument.iter().remaining();
-    let found = match_argument(alloc, &SampleGrammar, &rules[0].lhs, trees, around, &mut log)?;
+    let found = match_argument(alloc, &SampleGrammar, &rule.lhs, trees, around, &mut log)?;
     let Match {
         verdict,
         unmatched,
