@@ -102,21 +102,38 @@ class Maker:
         return " ".join(words)
 
     def case(self):
+        """Patterns, as many templates, and an argument."""
         self.names = {}
-        rules, samples = [], []
+        patterns, templates, samples = [], [], []
         for _ in range(self.random.choice([1, 1, 2, 3])):
             text, sample = self.pattern(2)
-            rules.append(f"({text}) => {{{self.template(2)}}}")
+            patterns.append(text)
+            templates.append(self.template(2))
             samples.append(sample)
-        return "; ".join(rules), self.spoiled(self.random.choice(samples)())
+        return patterns, templates, self.spoiled(self.random.choice(samples)())
 
 
-# What docs/DIFFERENCES.md says of definitions that use this.
-EXPLAINED = [
+# What docs/DIFFERENCES.md says of patterns and of templates that use this.
+EXPLAINED_PATTERNS = [
     (r"\)(,|;|=>|b|1|'a|true|;;)\?", "a separator after the round of a `?` is tried"),
     (r"\)(b|1|'a|true)[*+]", "a shared iterator can move the source back"),
     (r"'a", "positions that go on over different numbers of tokens"),
 ]
+EXPLAINED_TEMPLATES = [
+    (r"\)(,|;|=>)?\?", "a `?` of a template whose first round faults tries the next rounds"),
+]
+EMPTY = "empty token tree in repetition"
+
+
+def reasons_of(patterns, templates, ours, theirs):
+    """The differences of docs/DIFFERENCES.md that this one may be."""
+    found = [what for use, what in EXPLAINED_PATTERNS if any(re.search(use, it) for it in patterns)]
+    found += [what for use, what in EXPLAINED_TEMPLATES if any(re.search(use, it) for it in templates)]
+    if EMPTY in ours[0] and EMPTY not in theirs[0]:
+        found = ["every repetition without separator is refused whose body can read nothing"]
+    elif theirs[1] == -1:
+        found = ["the original follows every beginning of a reading, and came to no end"]
+    return found
 
 
 def ran(program, folder):
@@ -134,7 +151,8 @@ def main():
     maker, differ, unexplained, statuses = Maker(seed), 0, 0, {}
     with tempfile.TemporaryDirectory(prefix="compare-") as folder:
         for number in range(count):
-            definition, argument = maker.case()
+            patterns, templates, argument = maker.case()
+            definition = "; ".join(f"({it[0]}) => {{{it[1]}}}" for it in zip(patterns, templates))
             for name, text in (("d", definition), ("a", argument)):
                 with open(f"{folder}/{name}", "w", encoding="utf-8") as it:
                     it.write(text)
@@ -143,9 +161,7 @@ def main():
             if ours == theirs:
                 continue
             differ += 1
-            reasons = [what for use, what in EXPLAINED if re.search(use, definition)]
-            if theirs[1] == -1:
-                reasons.append("the original holds every reading, and came to no end")
+            reasons = reasons_of(patterns, templates, ours, theirs)
             unexplained += not reasons
             print(f"{number}: {definition}\n  on: {argument}\n  may be: {', '.join(reasons) or 'NONE'}")
             print(f"  mbex {ours[1]}: {ours[0]!r}\n  original {theirs[1]}: {theirs[0]!r}")

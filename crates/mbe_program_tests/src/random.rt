@@ -8,7 +8,7 @@ use mbe_tt::grammar::{FragmentGrammar, PrefixEntryPoint};
 use std::alloc::Global;
 use std::process::Abort;
 use std::test::Fail;
-use std::time::{Duration, Instant};
+use std::time::{CpuClock, Duration};
 
 const PIECES: [&str; 96] = [
     "(",
@@ -287,18 +287,48 @@ impl Numbers {
     }
 }
 
-#[test]
-fn random_repetitions_end_within_a_second(rt: HostRuntime) -> Result<(), Fail> {
-    let second = Duration::from_secs(1);
-    let mut numbers = Numbers(2);
+// Whether a run of these texts ends within a second of the processor.
+fn assert_ends_within_a_second<R: Abort + CpuClock>(
+    rt: &R,
+    alloc: Global,
+    (rules, argument): (&str, &str),
+) -> Result<(), Fail> {
+    let start = rt.process_cpu_time()?;
+    assert_ends(rt, alloc, rules, argument)?;
+    let taken = rt.process_cpu_time()?.saturating_sub(start);
+    assert!(rt; taken < Duration::from_secs(1), "{rules} on {argument}");
+    Ok(())
+}
+
+// Runs of 1,250 definitions, each on four arguments.
+fn assert_runs_end<R: Abort + CpuClock>(rt: &R, alloc: Global, seed: u64) -> Result<(), Fail> {
+    let mut numbers = Numbers(seed);
     for _ in 0..1_250u64 {
-        let rules = numbers.rules(rt.alloc())?;
+        let rules = numbers.rules(alloc)?;
         for _ in 0..4u64 {
-            let argument = numbers.pieces(rt.alloc(), &WORDS, false)?;
-            let start = Instant::now(&rt)?;
-            assert_ends(&rt, rt.alloc(), rules.as_str(), argument.as_str())?;
-            assert!(&rt; start.elapsed(&rt)? < second, "{rules} on {argument}");
+            let argument = numbers.pieces(alloc, &WORDS, false)?;
+            assert_ends_within_a_second(rt, alloc, (rules.as_str(), argument.as_str()))?;
         }
     }
     Ok(())
+}
+
+#[test]
+fn random_repetitions_end_within_a_second(rt: HostRuntime) -> Result<(), Fail> {
+    assert_runs_end(&rt, rt.alloc(), 2)
+}
+
+#[test]
+fn other_random_repetitions_end_within_a_second(rt: HostRuntime) -> Result<(), Fail> {
+    assert_runs_end(&rt, rt.alloc(), 3)
+}
+
+#[test]
+fn further_random_repetitions_end_within_a_second(rt: HostRuntime) -> Result<(), Fail> {
+    assert_runs_end(&rt, rt.alloc(), 4)
+}
+
+#[test]
+fn last_random_repetitions_end_within_a_second(rt: HostRuntime) -> Result<(), Fail> {
+    assert_runs_end(&rt, rt.alloc(), 5)
 }

@@ -90,7 +90,15 @@ static CLOSEST: [Row; 6] = [
     ),
 ];
 
-static ERRORS: [Row; 13] = [
+static ERRORS: [Row; 14] = [
+    (
+        ("($t:ty) => {[$t]}", "= a"),
+        "expected Ty at 1@0..1",
+        0,
+        "  SUBTREE [] 0@12..13 0@15..16
+    IDENT   missing 0@14..15
+",
+    ),
     (
         ("(1) => {}", "a"),
         "unexpected token in input at 1@0..1",
@@ -184,7 +192,13 @@ static REPORTED: [Row; 2] = [
 ];
 
 // A missing binding in a metavariable expression.
-static MISSING: [Row; 2] = [
+static MISSING: [Row; 3] = [
+    (
+        ("($x:ident) => {$(${concat(a, $x)})* b}", "1"),
+        "expected ident at 1@0..1",
+        0,
+        "  IDENT   b 0@36..37\n",
+    ),
     (
         ("($x:ident) => {$($x)* ${count($x)} ${concat(a_, $x)}}", "1"),
         "expected ident at 1@0..1",

@@ -538,7 +538,16 @@ static CLOSEST: [Row; 9] = [
     ),
 ];
 
-static STOPS: [Row; 9] = [
+static STOPS: [Row; 10] = [
+    // Where no position fails, the first at the pattern's end is reported.
+    (
+        ("($x:ident) => {[$x]}", "a b"),
+        "leftover tokens at 1@0..3",
+        0,
+        "  SUBTREE [] 0@15..16 0@18..19
+    IDENT   a 1@0..1
+",
+    ),
     (
         ("(->) => {}", ""),
         "unexpected token in input at 1@0..0",
@@ -581,7 +590,32 @@ static STOPS: [Row; 9] = [
     ),
 ];
 
-static FAULTS: [Row; 8] = [
+static FAULTS: [Row; 11] = [
+    // What stands before and after a repetition past its limit is kept.
+    (
+        ("($x:ident) => {a $($x)* b}", "a"),
+        "Expand exceed limit at 1@0..1",
+        0,
+        "  IDENT   a 0@15..16
+  IDENT   b 0@24..25
+",
+    ),
+    // The limit comes before the faults of the rounds.
+    (
+        ("($x:ident) => {$($x ${count($z)})*}", "a"),
+        "Expand exceed limit at 1@0..1",
+        0,
+        "",
+    ),
+    // `?` has one round at most, also where that faults.
+    (
+        ("($($($x:ident)*);*) => {$([$x])? b}", "p; q"),
+        "expected simple binding, found nested binding `x` at 0@28..29",
+        0,
+        "  SUBTREE [] 0@26..27 0@29..30
+  IDENT   b 0@33..34
+",
+    ),
     (
         ("($($x:ident)*) => {[$x]}", "a"),
         "expected simple binding, found nested binding `x` at 0@21..22",

@@ -103,7 +103,13 @@ fn assert_all(rt: &impl Abort, alloc: Global, rows: &[Row]) -> Result<(), Fail> 
     Ok(())
 }
 
-static ROUNDS: [Row; 17] = [
+static ROUNDS: [Row; 18] = [
+    Row {
+        template: "$ ( $ { concat ( a , $ x ) } ) * end",
+        bound: "x ?",
+        written: "end!0.33",
+        reported: "",
+    },
     Row {
         template: "$ ( $ x ) ;_ *",
         bound: "x ( a b )",
@@ -430,7 +436,13 @@ static FRAGMENTS: [Row; 18] = [
     },
 ];
 
-static FAULTS: [Row; 20] = [
+static FAULTS: [Row; 21] = [
+    Row {
+        template: "$ ( $ x ) ? end",
+        bound: "x ( ( a ) b )",
+        written: "end!0.12",
+        reported: "expected simple binding, found nested binding `x` @0.6",
+    },
     Row {
         template: "$ ( $ x ) + end",
         bound: "x ( )",

@@ -1,0 +1,311 @@
+// Each prefix of a definition, cut after each char. A group that is open at the end is closed there.
+use crate::reading::read;
+use mbe::DeclarativeMacro;
+use std::alloc::Global;
+use std::process::Abort;
+use std::test::Fail;
+
+type Reported = Option<&'static str>;
+
+const EQUALS: Reported = Some("expected `=`");
+
+const GREATER: Reported = Some("expected `>`");
+
+const SUBTREE: Reported = Some("expected subtree");
+
+const PARENTHESES: Reported = Some("expected `()`");
+
+const SEMICOLON: Reported = Some("expected `;`");
+
+const REPEAT: Reported = Some("invalid repeat");
+
+const EXPRESSION: Reported = Some("invalid metavariable expression");
+
+const EMPTY: Reported = Some("empty token tree in repetition");
+
+// A piece of a definition, and what is read of each prefix that ends in it: how many rules are kept, and the error. `None`
+// where the lexer refuses the prefix.
+type Piece = (&'static str, Option<(usize, Reported)>);
+
+static DEFINITIONS: [&[Piece]; 30] = [
+    &[
+        ("($($x:ident),*) ", Some((0, EQUALS))),
+        ("=", Some((0, GREATER))),
+        ("> ", Some((0, SUBTREE))),
+        ("{$", Some((1, None))),
+        ("($x);", Some((0, REPEAT))),
+        ("*}", Some((1, None))),
+    ],
+    &[
+        ("\n", Some((0, None))),
+        ("() ", Some((0, EQUALS))),
+        ("=", Some((0, GREATER))),
+        ("> ", Some((0, SUBTREE))),
+        ("{ { }\n", Some((1, None))),
+    ],
+    &[
+        ("\n", Some((0, None))),
+        ("($($e:expr),* $(,)?) ", Some((0, EQUALS))),
+        ("=", Some((0, GREATER))),
+        ("> ", Some((0, SUBTREE))),
+        ("{\n    $", Some((1, None))),
+        ("($e);", Some((0, REPEAT))),
+        ("* ;\n};\n", Some((1, None))),
+    ],
+    &[
+        ("\n", Some((0, None))),
+        ("(-1) ", Some((0, EQUALS))),
+        ("=", Some((0, GREATER))),
+        ("> ", Some((0, SUBTREE))),
+        ("{-1};\n", Some((1, None))),
+        ("(- 2) ", Some((1, EQUALS))),
+        ("=", Some((1, GREATER))),
+        ("> ", Some((1, SUBTREE))),
+        ("{- 2};\n", Some((2, None))),
+        ("(- 3.0) ", Some((2, EQUALS))),
+        ("=", Some((2, GREATER))),
+        ("> ", Some((2, SUBTREE))),
+        ("{- 3.0};\n", Some((3, None))),
+        ("(@$lit:literal) ", Some((3, EQUALS))),
+        ("=", Some((3, GREATER))),
+        ("> ", Some((3, SUBTREE))),
+        ("{$lit}\n", Some((4, None))),
+    ],
+    &[
+        ("($($v:vis),*) ", Some((0, EQUALS))),
+        ("=", Some((0, GREATER))),
+        ("> ", Some((0, SUBTREE))),
+        ("{}", Some((1, None))),
+    ],
+    &[
+        ("($( b $(x)? )x*) ", Some((0, EQUALS))),
+        ("=", Some((0, GREATER))),
+        ("> ", Some((0, SUBTREE))),
+        ("{}", Some((1, None))),
+    ],
+    &[
+        ("($x:ident) ", Some((0, EQUALS))),
+        ("=", Some((0, GREATER))),
+        ("> ", Some((0, SUBTREE))),
+        ("{$", Some((1, None))),
+        ("($x)", Some((0, REPEAT))),
+        ("*}; ", Some((1, None))),
+        ("($x:ident) ", Some((1, EQUALS))),
+        ("=", Some((1, GREATER))),
+        ("> ", Some((1, SUBTREE))),
+        ("{$x}", Some((2, None))),
+    ],
+    &[
+        ("att", Some((0, SUBTREE))),
+        ("r", Some((0, PARENTHESES))),
+        ("() ", Some((0, SUBTREE))),
+        ("() ", Some((0, EQUALS))),
+        ("=", Some((0, GREATER))),
+        ("> ", Some((0, SUBTREE))),
+        ("{A}; ", Some((1, None))),
+        ("() ", Some((1, EQUALS))),
+        ("=", Some((1, GREATER))),
+        ("> ", Some((1, SUBTREE))),
+        ("{B}", Some((2, None))),
+    ],
+    &[
+        ("($($a:ident)* ; $($b:ident)*) ", Some((0, EQUALS))),
+        ("=", Some((0, GREATER))),
+        ("> ", Some((0, SUBTREE))),
+        ("{$", Some((1, None))),
+        ("($a $b)", Some((0, REPEAT))),
+        ("*}", Some((1, None))),
+    ],
+    &[
+        ("($($x:ident)*) ", Some((0, EQUALS))),
+        ("=", Some((0, GREATER))),
+        ("> ", Some((0, SUBTREE))),
+        ("{$", Some((1, None))),
+        ("($x)", Some((0, REPEAT))),
+        ("*}", Some((1, None))),
+    ],
+    &[
+        ("($($($x:ident)*),*) ", Some((0, EQUALS))),
+        ("=", Some((0, GREATER))),
+        ("> ", Some((0, SUBTREE))),
+        ("{$", Some((1, None))),
+        ("{count($", Some((0, EXPRESSION))),
+        ("x)} $", Some((1, None))),
+        ("{count($", Some((0, EXPRESSION))),
+        ("x, 1)}}", Some((1, None))),
+    ],
+    &[
+        ("($x:ident) ", Some((0, EQUALS))),
+        ("=", Some((0, GREATER))),
+        ("> ", Some((0, SUBTREE))),
+        ("{$", Some((1, None))),
+        ("{concat($x, ", Some((0, EXPRESSION))),
+        ("_bar)}}", Some((1, None))),
+    ],
+    &[
+        ("($x:ident) ", Some((0, EQUALS))),
+        ("=", Some((0, GREATER))),
+        ("> ", Some((0, SUBTREE))),
+        ("{$", Some((1, None))),
+        ("{concat($x, ", Some((0, EXPRESSION))),
+        ("\"-", None),
+        ("\")}}", Some((1, None))),
+    ],
+    &[
+        ("($p:path) ", Some((0, EQUALS))),
+        ("=", Some((0, GREATER))),
+        ("> ", Some((0, SUBTREE))),
+        ("{$p}", Some((1, None))),
+    ],
+    &[
+        ("(1) ", Some((0, EQUALS))),
+        ("=", Some((0, GREATER))),
+        ("> ", Some((0, SUBTREE))),
+        ("{}", Some((1, None))),
+    ],
+    &[
+        ("(foo) ", Some((0, EQUALS))),
+        ("=", Some((0, GREATER))),
+        ("> ", Some((0, SUBTREE))),
+        ("{}", Some((1, None))),
+    ],
+    &[
+        ("() ", Some((0, EQUALS))),
+        ("=", Some((0, GREATER))),
+        ("> ", Some((0, SUBTREE))),
+        ("{$y}", Some((1, None))),
+    ],
+    &[
+        ("() ", Some((0, EQUALS))),
+        ("=", Some((0, GREATER))),
+        ("> ", Some((0, SUBTREE))),
+        ("{} ", Some((1, None))),
+        ("x", Some((1, SEMICOLON))),
+    ],
+    &[
+        ("($( $($v:vis),+ )*) ", Some((0, EQUALS))),
+        ("=", Some((0, GREATER))),
+        ("> ", Some((0, SUBTREE))),
+        ("{}", Some((1, EMPTY))),
+    ],
+    &[
+        ("($x:ident) ", Some((0, EQUALS))),
+        ("=", Some((0, GREATER))),
+        (">", Some((0, SUBTREE))),
+    ],
+    &[("($(a) => {}", Some((0, EQUALS)))],
+    &[
+        ("($x:ident = $t:tt;) ", Some((0, EQUALS))),
+        ("=", Some((0, GREATER))),
+        ("> ", Some((0, SUBTREE))),
+        ("{ pair ($t) $x }", Some((1, None))),
+    ],
+    &[
+        ("($($t:ident),* as $ty:ident) ", Some((0, EQUALS))),
+        ("=", Some((0, GREATER))),
+        ("> ", Some((0, SUBTREE))),
+        ("{}", Some((1, None))),
+    ],
+    &[
+        ("($(a)? $(a)?) ", Some((0, EQUALS))),
+        ("=", Some((0, GREATER))),
+        ("> ", Some((0, SUBTREE))),
+        ("{}", Some((1, None))),
+    ],
+    &[
+        ("($e:expr) ", Some((0, EQUALS))),
+        ("=", Some((0, GREATER))),
+        ("> ", Some((0, SUBTREE))),
+        ("{$e * 2}", Some((1, None))),
+    ],
+    &[
+        ("($x:ident $x:ident) ", Some((0, EQUALS))),
+        ("=", Some((0, GREATER))),
+        ("> ", Some((0, SUBTREE))),
+        ("{$x}", Some((1, None))),
+    ],
+    &[
+        ("($a:tt $b:tt) ", Some((0, EQUALS))),
+        ("=", Some((0, GREATER))),
+        ("> ", Some((0, SUBTREE))),
+        ("{$a $b}", Some((1, None))),
+    ],
+    &[
+        ("($x:foo) ", Some((0, EQUALS))),
+        ("=", Some((0, GREATER))),
+        ("> ", Some((0, SUBTREE))),
+        ("{}; ", Some((1, None))),
+        ("($($t:tt)*) ", Some((1, EQUALS))),
+        ("=", Some((1, GREATER))),
+        ("> ", Some((1, SUBTREE))),
+        ("{}", Some((2, None))),
+    ],
+    &[
+        ("($e:expr) ", Some((0, EQUALS))),
+        ("=", Some((0, GREATER))),
+        ("> ", Some((0, SUBTREE))),
+        ("{}", Some((1, None))),
+    ],
+    &[
+        ("($($x:ident)*) ", Some((0, EQUALS))),
+        ("=", Some((0, GREATER))),
+        ("> ", Some((0, SUBTREE))),
+        ("{$", Some((1, None))),
+        ("(${index()} ${len()} $x)", Some((0, REPEAT))),
+        ("*}", Some((1, None))),
+    ],
+];
+
+// So many rules of the macro are kept, and that error is reported.
+fn assert_read(
+    rt: &impl Abort,
+    alloc: Global,
+    (rules, text): (&DeclarativeMacro, &str),
+    (count, reported): (usize, Reported),
+) -> Result<(), Fail> {
+    assert_eq!(rt; rules.num_rules(), count, "{text}");
+    let shown = match rules.err() {
+        Some(err) => Some(format!(in alloc; "{err}")?),
+        None => None,
+    };
+    assert_eq!(rt;
+        shown.as_ref().map(|shown| shown.as_str()),
+        reported,
+        "{text}"
+    );
+    Ok(())
+}
+
+// Each prefix that ends in the piece is read so. The text ends before the piece.
+fn assert_piece(
+    rt: &impl Abort,
+    alloc: Global,
+    text: &mut String,
+    &(piece, want): &Piece,
+) -> Result<(), Fail> {
+    for char in piece.chars() {
+        text.push(char)?;
+        let read = read(alloc, text.as_str())?;
+        assert_eq!(rt; read.is_some(), want.is_some(), "{text}");
+        if let (Some(rules), Some(want)) = (read, want) {
+            assert_read(rt, alloc, (&rules, text.as_str()), want)?;
+        }
+    }
+    Ok(())
+}
+
+fn assert_prefixes(rt: &impl Abort, alloc: Global, pieces: &[Piece]) -> Result<(), Fail> {
+    let mut text = String::new(alloc);
+    for piece in pieces {
+        assert_piece(rt, alloc, &mut text, piece)?;
+    }
+    Ok(())
+}
+
+#[test]
+fn each_prefix_of_a_definition(rt: HostRuntime) -> Result<(), Fail> {
+    for pieces in &DEFINITIONS {
+        assert_prefixes(&rt, rt.alloc(), pieces)?;
+    }
+    Ok(())
+}
