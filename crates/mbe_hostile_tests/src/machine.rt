@@ -183,7 +183,7 @@ impl Read for Text<'_> {
 
 impl Write for Text<'_> {
     fn write(&mut self, _buf: &[u8]) -> io::Result<usize> {
-        unsupported()
+        Err(io::Error::from(ErrorKind::Unsupported))
     }
 
     fn flush(&mut self) -> io::Result<()> {

@@ -57,20 +57,18 @@ impl Reading {
         }
     }
 
-    fn read<A: Allocator + Copy>(
+    fn read<'t, A: Allocator + Copy>(
         self,
         alloc: A,
-        args: &TopSubtree<A>,
-        body: &TopSubtree<A>,
+        args: &'t TopSubtree<A>,
+        body: &'t TopSubtree<A>,
     ) -> Result<DeclarativeMacro<A>, AllocError> {
-        let edition = |_context| Edition::Edition2024;
-        match self {
-            Reading::Rules(_) => parsed(alloc, body),
-            Reading::Body(_) => DeclarativeMacro::parse_macro2(alloc, None, body, edition),
-            Reading::Arguments(..) => {
-                DeclarativeMacro::parse_macro2(alloc, Some(args), body, edition)
-            }
-        }
+        let args = match self {
+            Reading::Rules(_) => return parsed(alloc, body),
+            Reading::Body(_) => None,
+            Reading::Arguments(..) => Some(args),
+        };
+        DeclarativeMacro::parse_macro2(alloc, args, body, |_context| Edition::Edition2024)
     }
 }
 
