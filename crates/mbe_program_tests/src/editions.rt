@@ -60,10 +60,10 @@ const WRITTEN: Row = (
     "  IDENT   a 1@0..1\n  PUNCH   | [alone] 1@2..3\n  IDENT   b 1@4..5\n",
 );
 
-static BY_EDITION: [(Edition, [Row; 6]); 4] = [
+static BY_EDITION: [(Edition, &[Row]); 4] = [
     (
         Edition::Edition2015,
-        [
+        &[
             TWO_PATTERNS,
             LEFTOVER,
             PLACEHOLDER,
@@ -74,7 +74,7 @@ static BY_EDITION: [(Edition, [Row; 6]); 4] = [
     ),
     (
         Edition::Edition2018,
-        [
+        &[
             TWO_PATTERNS,
             LEFTOVER,
             PLACEHOLDER,
@@ -85,7 +85,7 @@ static BY_EDITION: [(Edition, [Row; 6]); 4] = [
     ),
     (
         Edition::Edition2021,
-        [
+        &[
             ALTERNATIVES,
             WRITTEN,
             PLACEHOLDER,
@@ -96,7 +96,7 @@ static BY_EDITION: [(Edition, [Row; 6]); 4] = [
     ),
     (
         Edition::Edition2024,
-        [
+        &[
             ALTERNATIVES,
             WRITTEN,
             PLACEHOLDER_EXPRESSION,
