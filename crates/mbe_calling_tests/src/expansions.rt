@@ -113,10 +113,10 @@ mod tests {
         let Some(expansion) = expand_call(alloc, &defined, &argument)? else {
             return Err(Fail::from("a pattern was refused"));
         };
-        assert_eq!(rt; expansion.value.1, Some(rule), "{line}");
+        assert_eq!(rt; expansion.value.1, Some(rule));
         assert_eq!(rt; error_line(alloc, &expansion)?.as_str(), line);
         let printed = tree_or_error(alloc, expansion);
-        assert_eq!(rt; printed.is_ok(), line.is_empty(), "{line}");
+        assert_eq!(rt; printed.is_ok(), line.is_empty());
         let printed = printed.unwrap_or(String::new(alloc));
         assert_eq!(rt; printed.as_str(), tree);
         Ok(())
