@@ -31,7 +31,7 @@ unsigned_front (leaf (ident i) rest) =
     if is_truth i.sym then Some (cut_trees 1 (leaf (ident i) rest)) else None
 unsigned_front _ = None
 
--- the first tree, and the one after it where that is taken by itself
+-- the first two trees, if the second is taken by itself
 abbrev pub with_leaf : Forest → Option Cut → Option Cut
 with_leaf f None = None
 with_leaf f (Some c) = Some (cut_trees 2 f)
