@@ -350,7 +350,7 @@ count_definition =
     (alone_at 0 1 36 (group (parens 2 15) (alone_at 0 3 36 (group (parens 4 13) (typed_at 5 (codes "x") (codes "ident") none) (alone_at 0 14 42 none)))
     (joint_at 0 16 44 (alone_at 0 17 42 none))))
     (arrow_at 20 (group (braces 23 52)
-    (alone_at 0 24 36 (group (braces 25 34) (text_at 0 26 (codes "count") (group (parens 31 34) (named_at 32 (codes "x") none) none))
+    (alone_at 0 24 36 (group (braces 25 35) (text_at 0 26 (codes "count") (group (parens 31 34) (named_at 32 (codes "x") none) none))
     (alone_at 0 37 36 (group (braces 38 51) (text_at 0 39 (codes "count") (group (parens 44 50) (named_at 45 (codes "x") (alone_at 0 47 44 (number_at 0 49 (codes "1") none))) none)) none))))
     none))
 

@@ -22,7 +22,7 @@ abbrev pub walk : ℕ → Rests → Rests
 walk zero r = r
 walk (suc n) r = walk n (step r.0 r.1)
 
--- the trees from a place to the end of the innermost group, and the number of groups around the place
+-- the trees from a place to the end of the innermost group, and those after it in each group around
 abbrev pub rests : Forest → ℕ → Rests
 rests f n = walk n (f, [])
 

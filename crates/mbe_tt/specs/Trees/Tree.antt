@@ -67,7 +67,7 @@ rest_of none = none
 rest_of (leaf l rest) = rest
 rest_of (group d inside rest) = rest
 
--- `count` trees of the front left out
+-- the trees after the first so many
 abbrev pub skip : ℕ → Forest → Forest
 skip zero f = f
 skip (suc n) f = skip n (rest_of f)
@@ -87,7 +87,7 @@ strip_invisible (group d inside none) = strip_group d d.kind inside
 strip_invisible (group d inside (leaf l rest)) = group d inside (leaf l rest)
 strip_invisible (group d inside (group e more rest)) = group d inside (group e more rest)
 
--- the first tree, as the leaf, punct or identifier that it is
+-- the punct that a leaf is
 abbrev pub leaf_punct : Leaf → Option Punct
 leaf_punct (punct p) = Some p
 leaf_punct (literal l) = None
@@ -147,7 +147,7 @@ front_leaf none = None
 front_leaf (leaf l rest) = Some l
 front_leaf (group d inside rest) = None
 
--- a literal, or `true` or `false`
+-- the text is `true` or `false`
 abbrev pub is_truth : List ℕ → Bool
 is_truth text = is_text text (codes "true") || is_text text (codes "false")
 
