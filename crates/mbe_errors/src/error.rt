@@ -1,6 +1,7 @@
 // Errors of definitions and of expansions.
 ghost use Rattle.std.specs.Prelude.{◌≡◌, Some, IfOk};
-ghost use Rattle.mbe_semantics.specs.Syntax.Template.{expected as expected_fault, unexpected_token as unexpected_fault};
+ghost use Rattle.mbe_semantics.specs.Syntax.Template.{expected as expected_fault};
+ghost use Rattle.mbe_semantics.specs.Syntax.Template.{unexpected_token as unexpected_fault};
 ghost use Rattle.mbe_semantics.specs.Expansion.Error.{text_of_fault, text_of_kind};
 ghost use Rattle.mbe_errors.specs.ErrorViews.{fault_of};
 ghost use Rattle.mbe_errors.specs.ErrorViews.{parse_error_of, kind_of, error_of, count_error_text};

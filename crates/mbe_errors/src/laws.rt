@@ -18,7 +18,8 @@ pub fn expand_error_kinds_agree<A: Allocator>()
     ensures equal { (x y : _) → IsTrue (⟦<ExpandErrorKind<A> as PartialEq>⟧.eq x y)
         ↔ (kind_of x ≡ kind_of y) }
     ensures hashed { (x y : _) → kind_of x ≡ kind_of y
-        → ⟦<ExpandErrorKind<A> as Hash>⟧.hash_input x ≡ ⟦<ExpandErrorKind<A> as Hash>⟧.hash_input y }
+        → ⟦<ExpandErrorKind<A> as Hash>⟧.hash_input x
+        ≡ ⟦<ExpandErrorKind<A> as Hash>⟧.hash_input y }
 {}
 
 /// Errors of expansions are equal exactly where they say the same, and equal ones are hashed alike.

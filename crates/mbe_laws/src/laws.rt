@@ -1,5 +1,10 @@
 // Laws about the definitions. They run nothing.
-ghost use Rattle.mbe_semantics.specs.Laws.Laws.{OneReading, ReadingsEnd, BeginningsEndInside, NeverAmbiguous, WordsNeverAmbiguous, RoundsHaveValues, EachOpOnce, OneAccount, ListsFitOnce, LiveHaveAccounts, EntriesFollow, CommandsBindAlike, OneVerdict, HasOneVerdict, LawfulInputs, MatcherLaw, RunsAreRight};
+ghost use Rattle.mbe_semantics.specs.Laws.Laws.{OneReading, ReadingsEnd, BeginningsEndInside};
+ghost use Rattle.mbe_semantics.specs.Laws.Laws.{NeverAmbiguous, WordsNeverAmbiguous};
+ghost use Rattle.mbe_semantics.specs.Laws.Laws.{RoundsHaveValues, EachOpOnce, OneAccount};
+ghost use Rattle.mbe_semantics.specs.Laws.Laws.{ListsFitOnce, LiveHaveAccounts, EntriesFollow};
+ghost use Rattle.mbe_semantics.specs.Laws.Laws.{CommandsBindAlike, OneVerdict, HasOneVerdict};
+ghost use Rattle.mbe_semantics.specs.Laws.Laws.{LawfulInputs, MatcherLaw, RunsAreRight};
 
 /// Two readings of a pattern without a repetition are equal.
 pub fn one_reading()

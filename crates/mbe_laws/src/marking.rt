@@ -6,14 +6,17 @@ ghost use Rattle.mbe_tt.specs.Trees.Tree.{group, none};
 ghost use Rattle.mbe_tt.specs.Fragments.Grammar.{Grammar};
 ghost use Rattle.mbe_semantics.specs.Syntax.Op.{no_ops};
 ghost use Rattle.mbe_semantics.specs.Writing.Substitution.{IsSubstitution};
-ghost use Rattle.mbe_semantics.specs.Laws.Laws.{OpsOrFault, HasOpsOrFault, OneTemplate, OneDefinition, WritesAllRounds, WrittenInPlace, SpansHaveSources, OneExpansion};
+ghost use Rattle.mbe_semantics.specs.Laws.Laws.{OpsOrFault, HasOpsOrFault, OneTemplate};
+ghost use Rattle.mbe_semantics.specs.Laws.Laws.{OneDefinition, WritesAllRounds, WrittenInPlace};
+ghost use Rattle.mbe_semantics.specs.Laws.Laws.{SpansHaveSources, OneExpansion};
 ghost use Rattle.mbe_semantics.specs.Expansion.FromTrees.{ExpandsFromTrees};
 
 use mbe_tt::span::{Edition, Span, SyntaxContext};
 
 /// An empty template writes an empty group.
 pub fn nothing_written<F: Fn(Span) -> Span + Copy + Drop>(marker: F, call_site: Span)
-    ensures { (g : Grammar) → IsSubstitution g (F.post marker) call_site [] no_ops (group (record { opening = call_site; close = call_site; kind = Invisible }) none none) }
+    ensures { (g : Grammar) → IsSubstitution g (F.post marker) call_site [] no_ops
+        (group (record { opening = call_site; close = call_site; kind = Invisible }) none none) }
 {
     let _ = marker;
     let _ = call_site;

@@ -5,5 +5,6 @@ pub mod Chain
 pub mod Collected
 pub mod Entries
 pub mod Growing
+pub mod Printed
 pub mod Shared
 pub mod Sound

@@ -2,7 +2,8 @@
 // or, if `$x` is in a repetition, a list with a binding for each round, to the depth of the repetitions around it.
 ghost use Rattle.std.specs.Prelude.{◌≡◌, ◌-◌, ◌^◌, min, [], length, map, OnOk, OnErr, option_map};
 ghost use Rattle.indexmap.specs.IndexMap.{index_map_len};
-ghost use Rattle.mbe_semantics.specs.Bindings.Environment.{add_value, binding_total, set_value, value_of};
+ghost use Rattle.mbe_semantics.specs.Bindings.Environment.{add_value, binding_total, set_value};
+ghost use Rattle.mbe_semantics.specs.Bindings.Environment.{value_of};
 ghost use Rattle.mbe_semantics.specs.Bindings.Account.{add_round_in, filled, grown_in};
 ghost use Rattle.mbe_log.specs.Growing.{grown_value};
 ghost use Rattle.mbe_log.specs.BindingViews.{all_values, bound_by, value_seen};

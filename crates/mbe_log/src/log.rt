@@ -43,6 +43,7 @@ use mbe_semantics::kinds::MetaVarKind;
 use mbe_semantics::log::Part;
 use mbe_tt::symbol::Symbol;
 use std::alloc::{AllocError, Allocator, Global};
+use std::fmt;
 use std::marker::Model;
 
 /// What a position has of a log: the first so many entries of two lists. A push gives it another value; what the old one stood
@@ -119,6 +120,20 @@ impl<A: Allocator> Drop for BindingLog<'_, A> {
         } = self;
         release(commands);
         release(rounds);
+    }
+}
+
+/// How many lists it has of each sort: what they hold is for handles alone.
+impl<A: Allocator> fmt::Debug for BindingLog<'_, A> {
+    ghost use Rattle.std.specs.Prelude.{Some};
+    ghost use Rattle.mbe_log.specs.Printed.{log_text};
+
+    ghost debug_output = { λ log. Some (log_text log) };
+
+    fn fmt<W: fmt::Write>(&self, f: &mut fmt::Formatter<W>) -> fmt::Result {
+        let commands = self.commands.len();
+        let rounds = self.rounds.len();
+        write!(f, "BindingLog {{ commands: {commands}, rounds: {rounds} }}")
     }
 }
 
