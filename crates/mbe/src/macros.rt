@@ -23,9 +23,9 @@ use mbe_matcher::matching::{Verdict, match_argument};
 use mbe_parser::rules::{Rule, parse_one_rule, parse_rules};
 use mbe_parser::validate::refuses_some;
 use mbe_semantics::macro_call_style::MacroCallStyle;
-use mbe_tt::buffer::TopSubtree;
 use mbe_tt::grammar::FragmentGrammar;
 use mbe_tt::span::{Edition, Span, SyntaxContext};
+use mbe_tt::tt::TopSubtree;
 use std::alloc::{AllocError, Allocator, Global};
 
 /// A macro definition that was read: its rules, up to the first fault, and that fault (as in rust-analyzer).

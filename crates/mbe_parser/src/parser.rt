@@ -23,10 +23,11 @@ use arrayvec::ArrayVec;
 use mbe_errors::error::{Fault, ReadError};
 use mbe_ops::ops::{MetaTemplate, Op, Separator};
 use mbe_semantics::kinds::{ExprKind, MetaVarKind, RepeatKind};
-use mbe_tt::iter::{TtElement, TtIter};
 use mbe_tt::span::{Edition, Span, SyntaxContext};
 use mbe_tt::symbol::Symbol;
-use mbe_tt::tt::{Delimiter, DelimiterKind, Ident, IdentIsRaw, Leaf, Literal, Punct};
+use mbe_tt::tt::{
+    Delimiter, DelimiterKind, Ident, IdentIsRaw, Leaf, Literal, Punct, TtElement, TtIter,
+};
 use std::alloc::{AllocError, Allocator};
 
 /// Whether a pattern is read, or a template.

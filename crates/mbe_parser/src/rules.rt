@@ -12,9 +12,8 @@ use crate::parser::{Mode, parse_template};
 use mbe_errors::error::{Fault, ReadError};
 use mbe_ops::ops::MetaTemplate;
 use mbe_semantics::macro_call_style::MacroCallStyle;
-use mbe_tt::iter::{TtElement, TtIter};
 use mbe_tt::span::{Edition, SyntaxContext};
-use mbe_tt::tt::Leaf;
+use mbe_tt::tt::{Leaf, TtElement, TtIter};
 use std::alloc::{AllocError, Allocator, Global};
 
 /// A rule of a definition.

@@ -36,12 +36,10 @@ use mbe_log::bindings::Bindings;
 use mbe_ops::ops::{MetaTemplate, Op, Separator};
 use mbe_semantics::kinds::RepeatKind;
 use mbe_semantics::rounds::Level;
-use mbe_tt::buffer::TopSubtree;
-use mbe_tt::builder::TopSubtreeBuilder;
 use mbe_tt::grammar::FragmentGrammar;
 use mbe_tt::span::Span;
 use mbe_tt::symbol::Symbol;
-use mbe_tt::tt::{Delimiter, Ident, Leaf, Literal, Punct};
+use mbe_tt::tt::{Delimiter, Ident, Leaf, Literal, Punct, TopSubtree, TopSubtreeBuilder};
 use std::alloc::{AllocError, Allocator};
 
 /// What a template is written with.

@@ -10,9 +10,8 @@ ghost use Rattle.mbe_ops.specs.Views.{op_of, element_seen};
 
 use mbe_errors::error::{Fault, ReadError};
 use mbe_ops::ops::{ConcatMetaVarExprElem, Op};
-use mbe_tt::iter::{TtElement, TtIter};
 use mbe_tt::span::Span;
-use mbe_tt::tt::{DelimiterKind, Ident, Leaf, Literal};
+use mbe_tt::tt::{DelimiterKind, Ident, Leaf, Literal, TtElement, TtIter};
 use std::alloc::Allocator;
 
 /// Reads what stands between the braces of `${..}`: `ignore($x)`, `index(d)`, `len(d)`,

@@ -29,13 +29,12 @@ use mbe_log::fragment::{Fragment, TokensOrigin};
 use mbe_ops::ops::ConcatMetaVarExprElem;
 use mbe_semantics::kinds::MetaVarKind;
 use mbe_semantics::rounds::Level;
-use mbe_tt::builder::TopSubtreeBuilder;
 use mbe_tt::grammar::FragmentGrammar;
-use mbe_tt::iter::TtElement;
 use mbe_tt::span::Span;
 use mbe_tt::symbol::Symbol;
-use mbe_tt::tt::{Ident, IdentIsRaw, Leaf, LitKind, Literal};
-use mbe_tt::view::TokenTreesView;
+use mbe_tt::tt::{
+    Ident, IdentIsRaw, Leaf, LitKind, Literal, TokenTreesView, TopSubtreeBuilder, TtElement,
+};
 use std::alloc::{AllocError, Allocator};
 use unicode_ident::{is_xid_continue, is_xid_start};
 
