@@ -18,9 +18,9 @@ use mbe_matcher::matching::{Match, match_argument};
 use mbe_parser::rules::Rule;
 use mbe_semantics::macro_call_style::MacroCallStyle;
 use mbe_transcriber::transcriber::transcribe;
-use mbe_tt::buffer::TopSubtree;
 use mbe_tt::grammar::FragmentGrammar;
 use mbe_tt::span::{DelimSpan, Span};
+use mbe_tt::tt::TopSubtree;
 use std::alloc::{AllocError, Allocator};
 
 // What is left of a rule that doesn't apply, for the case that none does.

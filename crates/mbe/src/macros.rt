@@ -16,16 +16,16 @@ mod equality;
 use crate::expander::expand_rules;
 use crate::macro_call_style::MacroCallStyles;
 use bitflags::Flags;
-use mbe_errors::error::{Fault, ParseError};
+use mbe_errors::error::{ParseError, SyntaxFault};
 use mbe_errors::value_result::{ExpandResult, MatchedArmIndex};
 use mbe_log::log::BindingLog;
 use mbe_matcher::matching::{Verdict, match_argument};
 use mbe_parser::rules::{Rule, parse_one_rule, parse_rules};
 use mbe_parser::validate::refuses_some;
 use mbe_semantics::macro_call_style::MacroCallStyle;
-use mbe_tt::buffer::TopSubtree;
 use mbe_tt::grammar::FragmentGrammar;
 use mbe_tt::span::{Edition, Span, SyntaxContext};
+use mbe_tt::tt::TopSubtree;
 use std::alloc::{AllocError, Allocator, Global};
 
 /// A macro definition that was read: its rules, up to the first fault, and that fault (as in rust-analyzer).
@@ -82,7 +82,7 @@ impl<A: Allocator + Copy> DeclarativeMacro<A> {
             ctx_edition,
             tt.iter(),
             &[';'],
-            Fault::ExpectedSemicolon,
+            SyntaxFault::ExpectedSemicolon,
         )?;
         DeclarativeMacro::of_rules(alloc, rules, fault)
     }
@@ -113,7 +113,7 @@ impl<A: Allocator + Copy> DeclarativeMacro<A> {
                     ctx_edition,
                     body.iter(),
                     &[';', ','],
-                    Fault::ExpectedSeparator,
+                    SyntaxFault::ExpectedSeparator,
                 )?;
                 DeclarativeMacro::of_rules(alloc, rules, fault)
             }
@@ -124,7 +124,7 @@ impl<A: Allocator + Copy> DeclarativeMacro<A> {
     fn of_rules(
         alloc: A,
         rules: Vec<Rule<A>, A>,
-        fault: Option<Fault>,
+        fault: Option<SyntaxFault>,
     ) -> Result<DeclarativeMacro<A>, AllocError>
         ensures { IfOk result (λ m. macro_of m ≡ record {
           rules = rules_seen rules.items;

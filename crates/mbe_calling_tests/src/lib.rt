@@ -10,6 +10,8 @@ mod errors;
 #[cfg(test)]
 mod expansions;
 #[cfg(test)]
+mod explaining;
+#[cfg(test)]
 mod grammars;
 #[cfg(test)]
 mod memory;

@@ -3,7 +3,7 @@ ghost use Rattle.std.specs.Prelude.{◌<◌, ◌^◌, length};
 
 use mbe_text::lexer::{LexError, lex};
 use mbe_text::printing::print_tree;
-use mbe_text::scanner::{Fault, Scanner};
+use mbe_text::scanner::{LexFault, Scanner};
 use std::alloc::Global;
 
 /// The lines that print a text's trees. The text is file 7.
@@ -27,7 +27,7 @@ pub fn fault_of(alloc: Global, text: &str) -> Option<u32>
 }
 
 /// Where the second token of a text ends, or the text.
-pub fn end_of_second(text: &str) -> Result<u32, Fault>
+pub fn end_of_second(text: &str) -> Result<u32, LexFault>
     requires { length text.now < 2 ^ 32 }
 {
     let mut scanner = Scanner::new(text, 7);

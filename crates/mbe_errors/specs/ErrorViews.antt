@@ -5,7 +5,7 @@ use Rattle.mbe_errors.specs.declared.error.ParseError as parse
 use Rattle.mbe_errors.specs.declared.error.ExpandError as expand
 use Rattle.mbe_errors.specs.declared.error.ExpandErrorKind as kinds
 use Rattle.mbe_errors.specs.declared.error.CountError as counts
-use Rattle.mbe_errors.specs.declared.error.Fault as told
+use Rattle.mbe_errors.specs.declared.error.SyntaxFault as reported
 use Rattle.mbe_semantics.specs.Syntax.Template.{Fault, unexpected_token, expected, invalid_repeat, empty_repetition}
 use Rattle.mbe_semantics.specs.Expansion.Error.{ExpandErrorKind, binding_error, unresolved_binding, leftover_tokens, limit_exceeded, no_matching_rule, unexpected_token as unexpected_input, ExpandError}
 
@@ -34,17 +34,17 @@ count_error_text counts.TheVariants.OutOfBounds = codes "${count} out of bounds"
 count_error_text counts.TheVariants.Misplaced = codes "${count} misplaced"
 
 -- what is told of a fault
-abbrev pub fault_of : told.Fault → Fault
-fault_of told.TheVariants.ExpectedSubtree = expected (codes "expected subtree")
-fault_of told.TheVariants.ExpectedEquals = expected (codes "expected `=`")
-fault_of told.TheVariants.ExpectedGreater = expected (codes "expected `>`")
-fault_of told.TheVariants.ExpectedParentheses = expected (codes "expected `()`")
-fault_of told.TheVariants.ExpectedSemicolon = expected (codes "expected `;`")
-fault_of told.TheVariants.ExpectedSeparator = expected (codes "expected `;` or `,` to delimit rules")
-fault_of told.TheVariants.ExpectedIdent = expected (codes "expected ident")
-fault_of told.TheVariants.ExpectedRepetition = expected (codes "expected `$()` repetition or `${}` expression")
-fault_of told.TheVariants.ExpressionInPattern = unexpected_token (codes "`${}` metavariable expressions are not allowed in matchers")
-fault_of told.TheVariants.DollarInPattern = unexpected_token (codes "`$$` is not allowed on the pattern side")
-fault_of told.TheVariants.MissingSpecifier = unexpected_token (codes "missing fragment specifier")
-fault_of told.TheVariants.InvalidExpression = unexpected_token (codes "invalid metavariable expression")
-fault_of told.TheVariants.InvalidRepeat = invalid_repeat
+abbrev pub fault_of : reported.SyntaxFault → Fault
+fault_of reported.TheVariants.ExpectedSubtree = expected (codes "expected subtree")
+fault_of reported.TheVariants.ExpectedEquals = expected (codes "expected `=`")
+fault_of reported.TheVariants.ExpectedGreater = expected (codes "expected `>`")
+fault_of reported.TheVariants.ExpectedParentheses = expected (codes "expected `()`")
+fault_of reported.TheVariants.ExpectedSemicolon = expected (codes "expected `;`")
+fault_of reported.TheVariants.ExpectedSeparator = expected (codes "expected `;` or `,` to delimit rules")
+fault_of reported.TheVariants.ExpectedIdent = expected (codes "expected ident")
+fault_of reported.TheVariants.ExpectedRepetition = expected (codes "expected `$()` repetition or `${}` expression")
+fault_of reported.TheVariants.ExpressionInPattern = unexpected_token (codes "`${}` metavariable expressions are not allowed in matchers")
+fault_of reported.TheVariants.DollarInPattern = unexpected_token (codes "`$$` is not allowed on the pattern side")
+fault_of reported.TheVariants.MissingSpecifier = unexpected_token (codes "missing fragment specifier")
+fault_of reported.TheVariants.InvalidExpression = unexpected_token (codes "invalid metavariable expression")
+fault_of reported.TheVariants.InvalidRepeat = invalid_repeat

@@ -61,7 +61,7 @@ pub enum CountError {
 
 /// The first fault of a definition, before memory is asked for its text.
 #[derive(Clone, Copy, Debug, PartialEq, Eq)]
-pub enum Fault {
+pub enum SyntaxFault {
     ExpectedSubtree,
     ExpectedEquals,
     ExpectedGreater,
@@ -81,14 +81,14 @@ pub enum Fault {
 #[derive(Clone, Copy, Debug, PartialEq, Eq)]
 pub enum ReadError {
     Memory,
-    Fault(Fault),
+    Fault(SyntaxFault),
 }
 
 impl ReadError {
     ghost use Rattle.mbe_errors.specs.declared.error.ReadError.TheVariants as variants;
 
     /// The fault. `AllocError` if memory was the reason.
-    pub fn fault(self) -> Result<Fault, AllocError>
+    pub fn fault(self) -> Result<SyntaxFault, AllocError>
         ensures { IfOk result (λ fault. self ≡ variants.Fault fault) }
     {
         match self {
@@ -109,13 +109,13 @@ impl From<AllocError> for ReadError {
     }
 }
 
-impl From<Fault> for ReadError {
+impl From<SyntaxFault> for ReadError {
     ghost use Rattle.std.specs.Prelude.{◌≡◌};
     ghost use Rattle.mbe_errors.specs.declared.error.ReadError.TheVariants as variants;
 
     ghost from_gives = { λ fault e. e ≡ variants.Fault fault };
 
-    fn from(fault: Fault) -> ReadError {
+    fn from(fault: SyntaxFault) -> ReadError {
         ReadError::Fault(fault)
     }
 }
@@ -160,34 +160,37 @@ impl<A: Allocator + Copy> ParseError<A> {
         Ok(ParseError::UnexpectedToken(String::from_str(alloc, text)?))
     }
 
-    pub fn of_fault(alloc: A, fault: Fault) -> Result<ParseError<A>, AllocError>
+    pub fn of_fault(alloc: A, fault: SyntaxFault) -> Result<ParseError<A>, AllocError>
         ensures { IfOk result (λ e. parse_error_of e ≡ fault_of fault) }
     {
         match fault {
-            Fault::ExpectedSubtree => ParseError::expected(alloc, "expected subtree"),
-            Fault::ExpectedEquals => ParseError::expected(alloc, "expected `=`"),
-            Fault::ExpectedGreater => ParseError::expected(alloc, "expected `>`"),
-            Fault::ExpectedParentheses => ParseError::expected(alloc, "expected `()`"),
-            Fault::ExpectedSemicolon => ParseError::expected(alloc, "expected `;`"),
-            Fault::ExpectedSeparator => {
+            SyntaxFault::ExpectedSubtree => ParseError::expected(alloc, "expected subtree"),
+            SyntaxFault::ExpectedEquals => ParseError::expected(alloc, "expected `=`"),
+            SyntaxFault::ExpectedGreater => ParseError::expected(alloc, "expected `>`"),
+            SyntaxFault::ExpectedParentheses => ParseError::expected(alloc, "expected `()`"),
+            SyntaxFault::ExpectedSemicolon => ParseError::expected(alloc, "expected `;`"),
+            SyntaxFault::ExpectedSeparator => {
                 ParseError::expected(alloc, "expected `;` or `,` to delimit rules")
             }
-            Fault::ExpectedIdent => ParseError::expected(alloc, "expected ident"),
-            Fault::ExpectedRepetition => {
+            SyntaxFault::ExpectedIdent => ParseError::expected(alloc, "expected ident"),
+            SyntaxFault::ExpectedRepetition => {
                 ParseError::expected(alloc, "expected `$()` repetition or `${}` expression")
             }
-            Fault::ExpressionInPattern => ParseError::unexpected(
+            SyntaxFault::ExpressionInPattern => ParseError::unexpected(
                 alloc,
                 "`${}` metavariable expressions are not allowed in matchers",
             ),
-            Fault::DollarInPattern => {
+            SyntaxFault::DollarInPattern => {
                 ParseError::unexpected(alloc, "`$$` is not allowed on the pattern side")
             }
-            Fault::MissingSpecifier => ParseError::unexpected(alloc, "missing fragment specifier"),
-            Fault::InvalidExpression => {
+            SyntaxFault::MissingSpecifier => ParseError::unexpected(
+                alloc,
+                "missing fragment specifier",
+            ),
+            SyntaxFault::InvalidExpression => {
                 ParseError::unexpected(alloc, "invalid metavariable expression")
             }
-            Fault::InvalidRepeat => Ok(ParseError::InvalidRepeat),
+            SyntaxFault::InvalidRepeat => Ok(ParseError::InvalidRepeat),
         }
     }
 }

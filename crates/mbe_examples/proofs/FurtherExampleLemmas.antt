@@ -228,9 +228,9 @@ names_example = record {
 abbrev number_of : Items → ℕ
 number_of is = min (binding_total (environment_of is)) (2 ^ 64 - 1)
 
-abbrev bound_by : ℕ → ℕ → ℕ → ℕ
-bound_by a b zero = a
-bound_by a b (suc n) = b
+abbrev bound_in_rule : ℕ → ℕ → ℕ → ℕ
+bound_in_rule a b zero = a
+bound_in_rule a b (suc n) = b
 
 module _ (g : Grammar) (argument : Forest) (r q : Rule) (is js : Items) (r_fits : Fits g r.reads argument is) (q_fits : Fits g q.reads argument js)
     (r_styled : r.style ≡ FnLike) (q_styled : q.style ≡ FnLike) where
@@ -248,27 +248,27 @@ module _ (g : Grammar) (argument : Forest) (r q : Rule) (is js : Items) (r_fits 
   left_at (suc zero) s p = (verdicts.one_reading, subst (λ x. IsVerdict g x.reads argument verdicts.one_reading) (same_Some q s p.0) q_verdict, refl)
   left_at (suc (suc m)) s p = absurd (none-some s p.0)
 
-  bound_number : (m : ℕ) (s : Rule) (ks : Items) → IsStyledAt (r ∷ q ∷ []) FnLike m s → Fits g s.reads argument ks → bound_by (number_of is) (number_of js) m ≡ number_of ks
+  bound_number : (m : ℕ) (s : Rule) (ks : Items) → IsStyledAt (r ∷ q ∷ []) FnLike m s → Fits g s.reads argument ks → bound_in_rule (number_of is) (number_of js) m ≡ number_of ks
   bound_number zero s ks p f = ap number_of ((subst (λ x. Fits g x.reads argument ks) (sym (same_Some r s p.0)) f).1.1 is r_fits.1.0)
   bound_number (suc zero) s ks p f = ap number_of ((subst (λ x. Fits g x.reads argument ks) (sym (same_Some q s p.0)) f).1.1 js q_fits.1.0)
   bound_number (suc (suc m)) s ks p f = absurd (none-some s p.0)
 
   first_closest : number_of js ≤ number_of is → IsClosest g FnLike argument (r ∷ q ∷ []) 0
   first_closest h =
-      record { left = λ m. all_left; bound = bound_by (number_of is) (number_of js); rule = r; styled = (refl, r_styled); unmatched_trees = left_at; bindings = bound_number; first = goes_before }
+      record { left = λ m. all_left; bound = bound_in_rule (number_of is) (number_of js); rule = r; styled = (refl, r_styled); unmatched_trees = left_at; bindings = bound_number; first = goes_before }
     where
       either : (a b : ℕ) → b ≤ a → (b < a) ⊎ (b ≡ a)
       either a b l = grind (arith, l)
 
-      goes_before : (m : ℕ) (s : Rule) → IsStyledAt (r ∷ q ∷ []) FnLike m s → GoesBefore (λ x. all_left) (bound_by (number_of is) (number_of js)) 0 m
+      goes_before : (m : ℕ) (s : Rule) → IsStyledAt (r ∷ q ∷ []) FnLike m s → GoesBefore (λ x. all_left) (bound_in_rule (number_of is) (number_of js)) 0 m
       goes_before zero s p = ◌⊎◌.inr (refl, ◌⊎◌.inr (refl, omega arith))
       goes_before (suc m) s p = elim (either (number_of is) (number_of js) h) [ ◌⊎◌.inl l ↦ ◌⊎◌.inr (refl, ◌⊎◌.inl l) | ◌⊎◌.inr e ↦ ◌⊎◌.inr (refl, ◌⊎◌.inr (e, omega arith)) ]
 
   second_closest : number_of is < number_of js → IsClosest g FnLike argument (r ∷ q ∷ []) 1
   second_closest h =
-      record { left = λ m. all_left; bound = bound_by (number_of is) (number_of js); rule = q; styled = (refl, q_styled); unmatched_trees = left_at; bindings = bound_number; first = goes_before }
+      record { left = λ m. all_left; bound = bound_in_rule (number_of is) (number_of js); rule = q; styled = (refl, q_styled); unmatched_trees = left_at; bindings = bound_number; first = goes_before }
     where
-      goes_before : (m : ℕ) (s : Rule) → IsStyledAt (r ∷ q ∷ []) FnLike m s → GoesBefore (λ x. all_left) (bound_by (number_of is) (number_of js)) 1 m
+      goes_before : (m : ℕ) (s : Rule) → IsStyledAt (r ∷ q ∷ []) FnLike m s → GoesBefore (λ x. all_left) (bound_in_rule (number_of is) (number_of js)) 1 m
       goes_before zero s p = ◌⊎◌.inr (refl, ◌⊎◌.inl h)
       goes_before (suc m) s p = ◌⊎◌.inr (refl, ◌⊎◌.inr (refl, omega arith))
 

@@ -7,7 +7,7 @@ use Rattle.mbe_grammar.specs.declared.step.Miss.TheVariants.{Absent, Fault}
 use Rattle.mbe_grammar.specs.Rule.{one, part, ◌or◌, Step, ◌>>=◌, or_else, has_to_stand, if_stands, if_absent, or_miss, behind_one, meaning, in_turn}
 use Rattle.mbe_grammar.specs.RuleLaws.{meaning_leaves}
 use Rattle.mbe_grammar.specs.SingleTrees.{is_one_of, is_literal}
-use Rattle.mbe_grammar.specs.SampleGrammar.{Rules, Part, word, words, brace, any_group, expr_start, Operator, Operation, Expr, Prefix, Unary, Operand, KeywordBlock, JumpWord, JumpValue, Jump, PathExpr, Primary, Post, rule_of, takes}
+use Rattle.mbe_grammar.specs.SampleGrammar.{Rules, Nonterminal, word, words, brace, any_group, expr_start, Operator, Operation, Expr, Prefix, Unary, Operand, KeywordBlock, JumpWord, JumpValue, Jump, PathExpr, Primary, Post, rule_of, takes}
 use Rattle.mbe_grammar.specs.Chains.{jump_to_value, plain_operand}
 use Rattle.mbe_grammar.specs.Lawful.{takes_some, takes_leaves}
 use Rattle.mbe_grammar.proofs.Rules.{in_turn_done, in_turn_keeps, in_turn_stands, never_faults, shorter}
@@ -17,7 +17,7 @@ use Rattle.mbe_grammar.proofs.TypeChains.{is_lifetime, lifetime_calm}
 
 -- ---- where an expression ends
 
-turns_done : (x : Part) (f g : Forest) → takes_some x ≡ true → in_turn (takes x) f ≡ Ok g → takes x g ≡ Err Absent
+turns_done : (x : Nonterminal) (f g : Forest) → takes_some x ≡ true → in_turn (takes x) f ≡ Ok g → takes x g ≡ Err Absent
 turns_done x f g p e = in_turn_done (takes x) (λ h. rw p at (takes_leaves x h)) f g e
 
 stood : (s : Step) (g : Forest) → has_to_stand s ≡ Ok g → s ≡ Ok g
@@ -155,11 +155,11 @@ pub jump_shorter : (f start g : Forest) → in_turn (takes Prefix) f ≡ Ok star
 jump_shorter f start g e jump =
     omega (arith, turns_no_longer Prefix f start e, takes_shorter JumpWord start g refl (jump_parts start g jump).0)
 
-abbrev is_jump_word : Part → Bool
+abbrev is_jump_word : Nonterminal → Bool
 is_jump_word JumpWord = true
 is_jump_word _ = false
 
-jump_word_calm : (x : Part) → is_jump_word x ≡ true → (f : Forest) → takes x f ≡ Err Fault → ⊥
+jump_word_calm : (x : Nonterminal) → is_jump_word x ≡ true → (f : Forest) → takes x f ≡ Err Fault → ⊥
 jump_word_calm JumpWord b f e = never_faults is_lifetime takes lifetime_calm (rule_of JumpWord) refl f (sym (takes_by_rule JumpWord f) ∙ e)
 jump_word_calm _ b f e = cc
 

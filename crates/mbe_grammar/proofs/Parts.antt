@@ -5,13 +5,13 @@ use Rattle.mbe_grammar.specs.declared.step.Miss.TheVariants.{Absent, Fault}
 use Rattle.mbe_grammar.specs.declared.types.PathStyle.{PathStyle}
 use Rattle.mbe_grammar.specs.declared.types.PathStyle.TheVariants.{Plain, Expression}
 use Rattle.mbe_grammar.specs.Rule.{◌>>=◌, meaning, in_turn}
-use Rattle.mbe_grammar.specs.SampleGrammar.{Part, Lifetime, Angle, Turbofish, Colons, Segment, NextSegment, Path, Indirection, Pointee, Ty, Block, Assignment, Meta, SignedLiteral, BindingMode, BoundPat, PathPat, Pat, Alternative, PatTop, Operator, Operation, Expr, Prefix, Unary, KeywordBlock, JumpWord, JumpValue, Jump, PathExpr, Primary, Operand, Field, Post, Annotation, Let, ItemStmt, Stmt, Item, Vis, rule_of, takes}
+use Rattle.mbe_grammar.specs.SampleGrammar.{Nonterminal, Lifetime, Angle, Turbofish, Colons, Segment, NextSegment, Path, Indirection, Pointee, Ty, Block, Assignment, Meta, SignedLiteral, BindingMode, BoundPat, PathPat, Pat, Alternative, PatTop, Operator, Operation, Expr, Prefix, Unary, KeywordBlock, JumpWord, JumpValue, Jump, PathExpr, Primary, Operand, Field, Post, Annotation, Let, ItemStmt, Stmt, Item, Vis, rule_of, takes}
 use Rattle.mbe_grammar.specs.RuleLaws.{leaves_weaker, in_turn_leaves}
 use Rattle.mbe_grammar.specs.Lawful.{takes_some, solid_parts, takes_leaves}
 use Rattle.mbe_grammar.proofs.Rules.{Order, is_below, taken_by_rule, shorter, no_longer, in_turn_on, in_turn_ends, in_turn_faults}
 
 -- a part calls parts of lower rank before it takes a flat token
-abbrev rank : Part → ℕ
+abbrev rank : Nonterminal → ℕ
 rank (NextSegment style) = 1
 rank (Path style) = 1
 rank Pointee = 1
@@ -35,12 +35,12 @@ rank ItemStmt = 2
 rank Stmt = 7
 rank _ = 0
 
-lower_first : (x : Part) → is_below takes_some rank 20 (rank x) (rule_of x) ≡ true
+lower_first : (x : Nonterminal) → is_below takes_some rank 20 (rank x) (rule_of x) ≡ true
 lower_first (Segment Plain) = refl
 lower_first (Segment Expression) = refl
 lower_first _ = refl
 
-few_ranks : (x : Part) → rank x ≤ 20
+few_ranks : (x : Nonterminal) → rank x ≤ 20
 few_ranks (Segment style) = omega arith
 few_ranks _ = omega arith
 
@@ -48,26 +48,26 @@ abbrev order : Order rule_of
 order = record { solid = takes_some; rank = rank; takes_some = solid_parts; lower = lower_first; few = few_ranks }
 
 -- what a part takes, by its rule
-pub takes_by_rule : (x : Part) (f : Forest) → takes x f ≡ meaning takes (rule_of x) f
+pub takes_by_rule : (x : Nonterminal) (f : Forest) → takes x f ≡ meaning takes (rule_of x) f
 unfolding takes
 takes_by_rule x f = taken_by_rule order x f
 
-pub takes_no_longer : (x : Part) (f g : Forest) → takes x f ≡ Ok g → flat_len g ≤ flat_len f
+pub takes_no_longer : (x : Nonterminal) (f g : Forest) → takes x f ≡ Ok g → flat_len g ≤ flat_len f
 takes_no_longer x f g e = no_longer f g (takes x f) (leaves_weaker (takes_some x) f (takes x f) (takes_leaves x f)) e
 
-pub takes_shorter : (x : Part) (f g : Forest) → takes_some x ≡ true → takes x f ≡ Ok g → flat_len g < flat_len f
+pub takes_shorter : (x : Nonterminal) (f g : Forest) → takes_some x ≡ true → takes x f ≡ Ok g → flat_len g < flat_len f
 takes_shorter x f g p e = shorter f g (takes x f) (rw p at (takes_leaves x f)) e
 
-pub turns_on : (x : Part) (f g : Forest) → takes_some x ≡ true → takes x f ≡ Ok g → in_turn (takes x) f ≡ in_turn (takes x) g
+pub turns_on : (x : Nonterminal) (f g : Forest) → takes_some x ≡ true → takes x f ≡ Ok g → in_turn (takes x) f ≡ in_turn (takes x) g
 turns_on x f g p e = in_turn_on (takes x) (λ h. rw p at (takes_leaves x h)) f g e
 
-pub turns_end : (x : Part) (f : Forest) → takes x f ≡ Err Absent → in_turn (takes x) f ≡ Ok f
+pub turns_end : (x : Nonterminal) (f : Forest) → takes x f ≡ Err Absent → in_turn (takes x) f ≡ Ok f
 turns_end x f e = in_turn_ends (takes x) f e
 
-pub turns_fault : (x : Part) (f : Forest) → takes x f ≡ Err Fault → in_turn (takes x) f ≡ Err Fault
+pub turns_fault : (x : Nonterminal) (f : Forest) → takes x f ≡ Err Fault → in_turn (takes x) f ≡ Err Fault
 turns_fault x f e = in_turn_faults (takes x) f e
 
-pub turns_no_longer : (x : Part) (f g : Forest) → in_turn (takes x) f ≡ Ok g → flat_len g ≤ flat_len f
+pub turns_no_longer : (x : Nonterminal) (f g : Forest) → in_turn (takes x) f ≡ Ok g → flat_len g ≤ flat_len f
 turns_no_longer x f g e = no_longer f g (in_turn (takes x) f) (in_turn_leaves (takes x) (λ h. leaves_weaker (takes_some x) h (takes x h) (takes_leaves x h)) f) e
 
 -- what a loop over one part asks for

@@ -9,7 +9,7 @@ use Rattle.mbe_tt.specs.declared.tt.DelimiterKind.{DelimiterKind}
 use Rattle.mbe_tt.specs.declared.tt.DelimiterKind.TheVariants.{Parenthesis, Bracket}
 use Rattle.mbe_grammar.specs.Rule.{one, part, ◌then◌, ◌or◌, maybe, repeated, needed, ahead, Step, ◌>>=◌, or_else, or_miss, behind_one, meaning, in_turn}
 use Rattle.mbe_grammar.specs.SingleTrees.{is_one_of, is_name, is_punct, is_group}
-use Rattle.mbe_grammar.specs.SampleGrammar.{Rules, word, words, puncts, reference_sign, pointer_sign, parenthesis_or_bracket, Part, Lifetime, Angle, Turbofish, Colons, Segment, NextSegment, Path, Indirection, Pointee, Ty, rule_of, takes}
+use Rattle.mbe_grammar.specs.SampleGrammar.{Rules, word, words, puncts, reference_sign, pointer_sign, parenthesis_or_bracket, Nonterminal, Lifetime, Angle, Turbofish, Colons, Segment, NextSegment, Path, Indirection, Pointee, Ty, rule_of, takes}
 use Rattle.mbe_grammar.specs.Chains.{direct_type}
 use Rattle.mbe_grammar.proofs.Rules.{never_faults}
 use Rattle.mbe_grammar.proofs.Parts.{takes_by_rule, takes_shorter, turns_on, turns_end}
@@ -86,11 +86,11 @@ ty_direct f e =
     let third = meaning takes parenthesis_or_bracket f in
     takes_by_rule Ty f ∙ ap (λ s. or_else first (or_else second (or_else third (or_else s (takes (Path Plain) f))))) pointee
 
-abbrev pub is_lifetime : Part → Bool
+abbrev pub is_lifetime : Nonterminal → Bool
 is_lifetime Lifetime = true
 is_lifetime _ = false
 
-pub lifetime_calm : (x : Part) → is_lifetime x ≡ true → (f : Forest) → takes x f ≡ Err Fault → ⊥
+pub lifetime_calm : (x : Nonterminal) → is_lifetime x ≡ true → (f : Forest) → takes x f ≡ Err Fault → ⊥
 lifetime_calm Lifetime b f e = never_faults (λ _. false) takes (λ x c g h. true≢false (sym c)) (rule_of Lifetime) refl f (sym (takes_by_rule Lifetime f) ∙ e)
 lifetime_calm _ b f e = cc
 

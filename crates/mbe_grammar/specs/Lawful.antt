@@ -8,22 +8,22 @@ use Rattle.mbe_tt.specs.declared.grammar.PrefixEntryPoint.{PrefixEntryPoint}
 use Rattle.mbe_tt.specs.declared.grammar.PrefixEntryPoint.TheVariants as entries
 use Rattle.mbe_grammar.specs.FlatTrees.{open_level, levels, trees_of_flat}
 use Rattle.mbe_grammar.specs.Rule.{Step}
-use Rattle.mbe_grammar.specs.SampleGrammar.{Part, Segment, Vis, rule_of, part_of, takes, front_of, answer, sample}
+use Rattle.mbe_grammar.specs.SampleGrammar.{Nonterminal, Segment, Vis, rule_of, part_of, takes, front_of, answer, sample}
 use Rattle.mbe_grammar.specs.declared.types.PathStyle.TheVariants.{Plain, Expression}
 use Rattle.mbe_grammar.specs.RuleLaws.{is_solid, Leaves, taken_leaves}
 
 -- every part but one takes something where it stands
-abbrev pub takes_some : Part → Bool
+abbrev pub takes_some : Nonterminal → Bool
 takes_some Vis = false
 takes_some _ = true
 
-pub solid_parts : (x : Part) → is_solid takes_some (rule_of x) ≡ takes_some x
+pub solid_parts : (x : Nonterminal) → is_solid takes_some (rule_of x) ≡ takes_some x
 solid_parts (Segment Plain) = refl
 solid_parts (Segment Expression) = refl
 solid_parts _ = refl
 
 -- what a part leaves
-pub takes_leaves : (x : Part) (f : Forest) → Leaves (takes_some x) f (takes x f)
+pub takes_leaves : (x : Nonterminal) (f : Forest) → Leaves (takes_some x) f (takes x f)
 unfolding takes
 takes_leaves x f = taken_leaves rule_of takes_some solid_parts x f
 

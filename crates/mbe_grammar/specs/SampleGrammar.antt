@@ -19,52 +19,52 @@ use Rattle.mbe_grammar.specs.Rule.{Rule, one, puncts_of, through, to_closing_ang
 use Rattle.mbe_grammar.specs.SingleTrees.{is_one_of, is_identifier, is_name, is_literal, is_no_punct, is_punct, is_group, is_scope}
 
 -- the parts of the grammar
-pub data Part : Type 0 where
-  Lifetime : Part
-  Angle : Part
-  Turbofish : Part
-  Colons : Part
-  Segment : PathStyle → Part
-  NextSegment : PathStyle → Part
-  Path : PathStyle → Part
-  Indirection : Part
-  Pointee : Part
-  Ty : Part
-  Block : Part
-  Assignment : Part
-  Meta : Part
-  SignedLiteral : Part
-  BindingMode : Part
-  BoundPat : Part
-  PathPat : Part
-  Pat : Part
-  Alternative : Part
-  PatTop : Part
-  Operator : Part
-  Operation : Part
-  Expr : Part
-  Prefix : Part
-  Unary : Part
-  Operand : Part
-  KeywordBlock : Part
-  JumpWord : Part
-  JumpValue : Part
-  Jump : Part
-  PathExpr : Part
-  Primary : Part
-  Field : Part
-  Post : Part
-  Annotation : Part
-  Let : Part
-  ItemStmt : Part
-  Stmt : Part
-  Item : Part
-  Vis : Part
+pub data Nonterminal : Type 0 where
+  Lifetime : Nonterminal
+  Angle : Nonterminal
+  Turbofish : Nonterminal
+  Colons : Nonterminal
+  Segment : PathStyle → Nonterminal
+  NextSegment : PathStyle → Nonterminal
+  Path : PathStyle → Nonterminal
+  Indirection : Nonterminal
+  Pointee : Nonterminal
+  Ty : Nonterminal
+  Block : Nonterminal
+  Assignment : Nonterminal
+  Meta : Nonterminal
+  SignedLiteral : Nonterminal
+  BindingMode : Nonterminal
+  BoundPat : Nonterminal
+  PathPat : Nonterminal
+  Pat : Nonterminal
+  Alternative : Nonterminal
+  PatTop : Nonterminal
+  Operator : Nonterminal
+  Operation : Nonterminal
+  Expr : Nonterminal
+  Prefix : Nonterminal
+  Unary : Nonterminal
+  Operand : Nonterminal
+  KeywordBlock : Nonterminal
+  JumpWord : Nonterminal
+  JumpValue : Nonterminal
+  Jump : Nonterminal
+  PathExpr : Nonterminal
+  Primary : Nonterminal
+  Field : Nonterminal
+  Post : Nonterminal
+  Annotation : Nonterminal
+  Let : Nonterminal
+  ItemStmt : Nonterminal
+  Stmt : Nonterminal
+  Item : Nonterminal
+  Vis : Nonterminal
 
 -- ---- what rules are made of
 
 abbrev pub Rules : Type 0
-Rules = Rule Part
+Rules = Rule Nonterminal
 
 -- an identifier that isn't raw, of that text or of one of those texts
 abbrev pub words : List String → Rules
@@ -157,7 +157,7 @@ method = one is_name then maybe (part Turbofish)
 -- ---- the grammar
 
 -- what each part is
-abbrev pub rule_of : Part → Rules
+abbrev pub rule_of : Nonterminal → Rules
 -- paths
 rule_of Lifetime = puncts "'" then one is_identifier
 rule_of Angle = sign "<" then to_closing_angle
@@ -209,13 +209,13 @@ rule_of Item = part Vis then (short_item or long_item)
 rule_of Vis = maybe public
 
 -- what a part takes
-unfoldable pub takes : Part → Forest → Step
+unfoldable pub takes : Nonterminal → Forest → Step
 takes x f = taken rule_of x f
 
 -- ---- what it answers
 
 -- the part that an entry point asks for
-abbrev pub part_of : PrefixEntryPoint → Part
+abbrev pub part_of : PrefixEntryPoint → Nonterminal
 part_of entries.Path = Path Plain
 part_of entries.Expr = Expr
 part_of entries.Ty = Ty

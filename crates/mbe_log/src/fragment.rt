@@ -5,8 +5,7 @@ ghost use Rattle.mbe_semantics.specs.Readings.Item.{style_of};
 ghost use Rattle.mbe_log.specs.BindingViews.{fragment_seen};
 
 use mbe_semantics::kinds::MetaVarKind;
-use mbe_tt::buffer::TopSubtree;
-use mbe_tt::view::TokenTreesView;
+use mbe_tt::tt::{TokenTreesView, TopSubtree};
 use std::alloc::{AllocError, Allocator, Global};
 
 /// Whether tokens were taken as such, or because the grammar found a fragment in them.

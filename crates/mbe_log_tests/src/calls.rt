@@ -6,7 +6,7 @@ use mbe_log::fragment::Fragment;
 use mbe_log::log::{BindingLog, Handle, again};
 use mbe_semantics::kinds::MetaVarKind;
 use mbe_tt::symbol::Symbol;
-use mbe_tt::view::TokenTreesView;
+use mbe_tt::tt::TokenTreesView;
 use std::alloc::{AllocError, Allocator, Global};
 
 /// What a name is bound to.

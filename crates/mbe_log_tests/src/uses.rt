@@ -8,9 +8,8 @@ ghost use Rattle.mbe_log.specs.BindingViews.{bound_by as bound_in};
 use mbe_log::bindings::Bindings;
 use mbe_log::fragment::Fragment;
 use mbe_log::log::BindingLog;
-use mbe_tt::buffer::TopSubtree;
 use mbe_tt::symbol::Symbol;
-use mbe_tt::view::TokenTreesView;
+use mbe_tt::tt::{TokenTreesView, TopSubtree};
 use std::alloc::{AllocError, Allocator};
 
 /// What the third position binds: neither what the first position binds nor what is pushed later. Other handles' accounts stay.

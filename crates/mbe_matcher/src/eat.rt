@@ -12,9 +12,9 @@ use crate::fragment::eat_front;
 use mbe_ops::ops::same_chars;
 use mbe_semantics::kinds::{ExprKind, MetaVarKind};
 use mbe_tt::grammar::{FragmentGrammar, PrefixEntryPoint};
-use mbe_tt::iter::{TtElement, TtIter};
-use mbe_tt::tt::{Delimiter, Ident, IdentIsRaw, Leaf, Literal, Punct};
-use mbe_tt::view::TokenTreesView;
+use mbe_tt::tt::{
+    Delimiter, Ident, IdentIsRaw, Leaf, Literal, Punct, TokenTreesView, TtElement, TtIter,
+};
 use std::alloc::{AllocError, Allocator};
 
 // A literal of the same text and suffix, whatever its kind.

@@ -9,11 +9,9 @@ ghost use Rattle.mbe_errors.specs.ErrorViews.{error_of, errors_of};
 
 use mbe_errors::error::{ExpandError, ExpandErrorKind};
 use mbe_errors::value_result::{ExpandResult, ValueResult};
-use mbe_tt::cursor::Cursor;
 use mbe_tt::grammar::{FragmentGrammar, PrefixEntryPoint};
-use mbe_tt::iter::TtIter;
 use mbe_tt::span::{DelimSpan, Span};
-use mbe_tt::view::TokenTreesView;
+use mbe_tt::tt::{Cursor, TokenTreesView, TtIter};
 use std::alloc::{AllocError, Allocator, Global};
 
 /// Passes the fragment that a grammar finds in front of the iterator (as in rust-analyzer).

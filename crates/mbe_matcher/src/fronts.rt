@@ -12,9 +12,8 @@ ghost use Rattle.mbe_ops.specs.Views.{op_of, separator_seen};
 use crate::eat::{eat_ident, eat_literal, eat_puncts};
 use mbe_ops::ops::{Op, Separator};
 use mbe_semantics::kinds::RepeatKind;
-use mbe_tt::iter::TtIter;
 use mbe_tt::symbol::Symbol;
-use mbe_tt::tt::{DelimiterKind, Ident, Leaf, Literal, Punct};
+use mbe_tt::tt::{DelimiterKind, Ident, Leaf, Literal, Punct, TtIter};
 use std::alloc::Allocator;
 
 // An iterator at the same place.

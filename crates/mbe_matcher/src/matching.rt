@@ -49,7 +49,7 @@ use mbe_log::log::{BindingLog, Handle};
 use mbe_ops::ops::MetaTemplate;
 use mbe_tt::grammar::FragmentGrammar;
 use mbe_tt::span::DelimSpan;
-use mbe_tt::view::TokenTreesView;
+use mbe_tt::tt::TokenTreesView;
 use std::alloc::{AllocError, Allocator, Global};
 
 /// How a pattern reads an argument. The numbers are places: flat tokens passed.

@@ -20,7 +20,7 @@ use crate::source::Source;
 use mbe_log::log::{BindingLog, Handle, again};
 use mbe_ops::ops::MetaTemplate;
 use mbe_tt::grammar::FragmentGrammar;
-use mbe_tt::view::TokenTreesView;
+use mbe_tt::tt::TokenTreesView;
 use std::alloc::{AllocError, Allocator};
 
 // Where the positions stop, and why. The numbers are places.

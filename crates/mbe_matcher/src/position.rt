@@ -2,7 +2,7 @@
 use mbe_log::log::Handle;
 use mbe_ops::ops::{Op, Separator};
 use mbe_semantics::kinds::RepeatKind;
-use mbe_tt::iter::TtIter;
+use mbe_tt::tt::TtIter;
 use std::alloc::{Allocator, Global};
 
 // A dot of a pattern, with what was bound on the way to it.

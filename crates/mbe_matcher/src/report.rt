@@ -18,10 +18,9 @@ use mbe_log::log::{BindingLog, Handle, again};
 use mbe_ops::ops::Op;
 use mbe_semantics::kinds::MetaVarKind;
 use mbe_tt::grammar::{FragmentGrammar, PrefixEntryPoint};
-use mbe_tt::iter::{TtElement, TtIter};
 use mbe_tt::span::DelimSpan;
 use mbe_tt::symbol::Symbol;
-use mbe_tt::tt::{Leaf, Punct};
+use mbe_tt::tt::{Leaf, Punct, TtElement, TtIter};
 use std::alloc::{AllocError, Allocator, Global};
 
 // Where an error of the trees in front stands.

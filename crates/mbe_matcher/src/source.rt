@@ -6,8 +6,7 @@ ghost use Rattle.mbe_tt.specs.Buffers.Place.{rests};
 ghost use Rattle.mbe_semantics.specs.Readings.Input.{is_none};
 ghost use Rattle.mbe_matcher.specs.Fronts.{IsBehind};
 
-use mbe_tt::iter::{TtElement, TtIter};
-use mbe_tt::view::TokenTreesView;
+use mbe_tt::tt::{TokenTreesView, TtElement, TtIter};
 use std::alloc::{AllocError, Allocator, Global};
 
 // An argument and a place in it, a number of flat tokens. It holds what is left of each group

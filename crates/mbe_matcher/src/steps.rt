@@ -18,9 +18,8 @@ use mbe_log::log::{BindingLog, again};
 use mbe_ops::ops::{Op, Separator};
 use mbe_semantics::kinds::{MetaVarKind, RepeatKind};
 use mbe_tt::grammar::FragmentGrammar;
-use mbe_tt::iter::TtIter;
 use mbe_tt::symbol::Symbol;
-use mbe_tt::tt::Delimiter;
+use mbe_tt::tt::{Delimiter, TtIter};
 use std::alloc::{AllocError, Allocator};
 
 // All steps of the position at the source's place.

@@ -1,6 +1,6 @@
 pub mod ReaderLemmas
 pub mod SuffixLemmas
-pub mod OutlineLemmas
+pub mod RuleTreeLemmas
 pub mod RuleReading
 pub mod ExpressionLemmas
 pub mod RefusalLemmas

@@ -46,18 +46,18 @@ pub kind_named-none : (rows : List (List ℕ × MetaVarKind)) (name : List ℕ) 
 kind_named-none [] name n = refl
 kind_named-none (row ∷ rows) name n = rw (different row.0 name n.0) (kind_named-none rows name n.1)
 
-module _ (Answers : SyntaxContext → Edition → Type 0) where
+module _ (HasEdition : SyntaxContext → Edition → Type 0) where
   pub unknown : (specifier : Ident) → (specifier.sym ≡ codes "pat" → ⊥) → (specifier.sym ≡ codes "expr" → ⊥) → IsNoneOf kind_names specifier.sym
-      → Specifies Answers specifier None
+      → Specifies HasEdition specifier None
   unknown specifier p x n =
-      subst (Specifies Answers specifier) (sym (kind_named-none kind_names specifier.sym n))
+      subst (Specifies HasEdition specifier) (sym (kind_named-none kind_names specifier.sym n))
       (undated (different specifier.sym (codes "pat") (λ e. p (sym e))) (different specifier.sym (codes "expr") (λ e. x (sym e))))
 
   -- a name that means its kind in each edition
   pub known : (specifier : Ident) (name : List ℕ) (kind : Option MetaVarKind) → specifier.sym ≡ name → IsFalse (is_text name (codes "pat"))
-      → IsFalse (is_text name (codes "expr")) → kind_named kind_names name ≡ kind → Specifies Answers specifier kind
+      → IsFalse (is_text name (codes "expr")) → kind_named kind_names name ≡ kind → Specifies HasEdition specifier kind
   known specifier name kind e p x k =
-      subst (Specifies Answers specifier) (ap (kind_named kind_names) e ∙ k)
+      subst (Specifies HasEdition specifier) (ap (kind_named kind_names) e ∙ k)
       (undated (ap (λ t. is_text t (codes "pat")) e ∙ p) (ap (λ t. is_text t (codes "expr")) e ∙ x))
 
   same_text : (a b : List ℕ) → a ≡ b → IsTrue (is_text a b)
@@ -65,18 +65,18 @@ module _ (Answers : SyntaxContext → Edition → Type 0) where
 
   -- `pat` and `expr`, in the edition of the specifier's span
   pub pat_dated : (specifier : Ident) (kind : MetaVarKind) → specifier.sym ≡ codes "pat"
-      → ((e : Edition) × Answers specifier.span.ctx e × (kind ≡ pat_kind e)) → Specifies Answers specifier (Some kind)
-  pat_dated s kind t a = subst (λ k. Specifies Answers s (Some k)) (sym a.2) (dated_pat a.0 (same_text s.sym (codes "pat") t) a.1)
+      → ((e : Edition) × HasEdition specifier.span.ctx e × (kind ≡ pat_kind e)) → Specifies HasEdition specifier (Some kind)
+  pat_dated s kind t a = subst (λ k. Specifies HasEdition s (Some k)) (sym a.2) (dated_pat a.0 (same_text s.sym (codes "pat") t) a.1)
 
   pub expr_dated : (specifier : Ident) (kind : MetaVarKind) → specifier.sym ≡ codes "expr"
-      → ((e : Edition) × Answers specifier.span.ctx e × (kind ≡ expr_kind e)) → Specifies Answers specifier (Some kind)
-  expr_dated s kind t a = subst (λ k. Specifies Answers s (Some k)) (sym a.2) (dated_expr a.0 (same_text s.sym (codes "expr") t) a.1)
+      → ((e : Edition) × HasEdition specifier.span.ctx e × (kind ≡ expr_kind e)) → Specifies HasEdition specifier (Some kind)
+  expr_dated s kind t a = subst (λ k. Specifies HasEdition s (Some k)) (sym a.2) (dated_expr a.0 (same_text s.sym (codes "expr") t) a.1)
 
 -- ---- heads
 
 -- an op at the front, seen through an equation
-module _ (Answers : SyntaxContext → Edition → Type 0) (mode : Mode) where
-  reads_one : (f rest left : Forest) (o p : Op) → head mode f ≡ Ok (one o rest) → o ≡ p → rest ≡ left → ReadsOp Answers mode f p left
+module _ (HasEdition : SyntaxContext → Edition → Type 0) (mode : Mode) where
+  reads_one : (f rest left : Forest) (o p : Op) → head mode f ≡ Ok (one o rest) → o ≡ p → rest ≡ left → ReadsOp HasEdition mode f p left
   reads_one f rest left o p e same behind =
       let h : head mode f ≡ Ok (one p left) = e ∙ (ap (λ (x : Op). let r : Result Head Fault = Ok (one x rest) in r) same ∙ ap (λ (x : Forest). let r : Result Head Fault = Ok (one p x) in r) behind) in
       record {
@@ -85,31 +85,31 @@ module _ (Answers : SyntaxContext → Edition → Type 0) (mode : Mode) where
       }
 
   reads_typed : (f left : Forest) (name : Name) (span : Span) (s : Ident) (kind : Option MetaVarKind)
-      → head mode f ≡ Ok (typed name span s left) → Specifies Answers s kind → ReadsOp Answers mode f (ops.variable name kind span) left
+      → head mode f ≡ Ok (typed name span s left) → Specifies HasEdition s kind → ReadsOp HasEdition mode f (ops.variable name kind span) left
   reads_typed f left name span s kind e specifies = record {
     more = λ os t. variable f left name span s kind os e specifies t;
     fault = λ x t. behind_variable f left name span s e t;
   }
 
   pub reads_group : (f inside left : Forest) (d : Delimiter) (body : Ops) → head mode f ≡ Ok (opens_group d inside left)
-      → Template Answers mode inside body → ReadsOp Answers mode f (ops.group d body) left
+      → Template HasEdition mode inside body → ReadsOp HasEdition mode f (ops.group d body) left
   reads_group f inside left d body e b = record {
     more = λ os t. grouped f inside left d body os e b t;
     fault = λ x t. behind_group f inside left d body e b t;
   }
 
   reads_repetition : (f inside left : Forest) (s : Option Separator) (repeat : RepeatKind) (body : Ops)
-      → head mode f ≡ Ok (opens_repetition s repeat inside left) → Template Answers mode inside body → ReadsOp Answers mode f (ops.repetition body s repeat) left
+      → head mode f ≡ Ok (opens_repetition s repeat inside left) → Template HasEdition mode inside body → ReadsOp HasEdition mode f (ops.repetition body s repeat) left
   reads_repetition f inside left s repeat body e b = record {
     more = λ os t. repeated f inside left s repeat body os e b t;
     fault = λ x t. behind_repetition f inside left s repeat body e b t;
   }
 
-  seen_as : (f left : Forest) (o p : Op) → o ≡ p → ReadsOp Answers mode f o left → ReadsOp Answers mode f p left
-  seen_as f left o p same r = subst (λ (q : Op). ReadsOp Answers mode f q left) same r
+  seen_as : (f left : Forest) (o p : Op) → o ≡ p → ReadsOp HasEdition mode f o left → ReadsOp HasEdition mode f p left
+  seen_as f left o p same r = subst (λ (q : Op). ReadsOp HasEdition mode f q left) same r
 
   -- what stands at the front is read first
-  pub reads_head : (f left : Forest) (p : Op) (h : Result Head Fault) → head mode f ≡ h → AtHead Answers mode h p left → ReadsOp Answers mode f p left
+  pub reads_head : (f left : Forest) (p : Op) (h : Result Head Fault) → head mode f ≡ h → AtHead HasEdition mode h p left → ReadsOp HasEdition mode f p left
   reads_head f left p (Ok (one o rest)) e at = reads_one f rest left o p e at.0 at.1
   reads_head f left p (Ok (typed name span s rest)) e at =
       seen_as f left _ p at.2 (reads_typed f left name span s at.0 (e ∙ ap (λ (x : Forest). let r : Result Head Fault = Ok (typed name span s x) in r) at.3) at.1)
@@ -121,7 +121,7 @@ module _ (Answers : SyntaxContext → Edition → Type 0) (mode : Mode) where
   reads_head f left p (Err x) e at = absurd at
 
   -- the fault of what stands at the front is the first of all
-  pub fault_head : (f : Forest) (x : Fault) (h : Result Head Fault) → head mode f ≡ h → FaultAtHead Answers mode h x → TemplateFault Answers mode x f
+  pub fault_head : (f : Forest) (x : Fault) (h : Result Head Fault) → head mode f ≡ h → FaultAtHead HasEdition mode h x → TemplateFault HasEdition mode x f
   fault_head f x (Err y) e at = at_front f (e ∙ ap (λ (z : Fault). let r : Result Head Fault = Err z in r) at)
   fault_head f x (Ok (opens_group d inside rest)) e at = in_group f inside rest d e at
   fault_head f x (Ok (opens_repetition s repeat inside rest)) e at = in_repetition f inside rest s repeat e at
@@ -130,8 +130,8 @@ module _ (Answers : SyntaxContext → Edition → Type 0) (mode : Mode) where
   fault_head f x (Ok ended) e at = absurd at
 
   -- a fault at the front is that of the whole
-  pub err_head : (x : Fault) (h : Result Head Fault) → h ≡ Err x → FaultAtHead Answers mode h x
-  err_head x h e = subst (λ (r : Result Head Fault). FaultAtHead Answers mode r x) (sym e) refl
+  pub err_head : (x : Fault) (h : Result Head Fault) → h ≡ Err x → FaultAtHead HasEdition mode h x
+  err_head x h e = subst (λ (r : Result Head Fault). FaultAtHead HasEdition mode r x) (sym e) refl
 
 -- ---- an identifier other than `_`
 
@@ -163,18 +163,18 @@ pub stopped : {T : Type 0} (r : Result T why.ReadError) (P Q : Fault → Type 0)
 stopped (Ok x) P Q h p = tt
 stopped (Err e) P Q h p = Stops-weaker e P Q h p
 
-module _ (Answers : SyntaxContext → Edition → Type 0) (m : Mode) where
+module _ (HasEdition : SyntaxContext → Edition → Type 0) (m : Mode) where
   -- a leaf behind a `$`
   pub leaf_op : {A E : Type 0} (r : Result (code.Op A) E) (p : Punct) (f left new : Forest) (l : Leaf) → f ≡ leaf l left
-      → IfOk r (λ o. (d : Punct) → AtHead Answers m (behind_dollar m d (leaf l left)) (op_of o) new) → IfOk r (λ o. AtHead Answers m (behind_dollar m p f) (op_of o) new)
+      → IfOk r (λ o. (d : Punct) → AtHead HasEdition m (behind_dollar m d (leaf l left)) (op_of o) new) → IfOk r (λ o. AtHead HasEdition m (behind_dollar m p f) (op_of o) new)
   leaf_op (Err e) p f left new l here h = tt
-  leaf_op (Ok o) p f left new l here h = subst (λ (g : Forest). AtHead Answers m (behind_dollar m p g) (op_of o) new) (sym here) (h p)
+  leaf_op (Ok o) p f left new l here h = subst (λ (g : Forest). AtHead HasEdition m (behind_dollar m p g) (op_of o) new) (sym here) (h p)
 
   pub leaf_fault : {T : Type 0} (r : Result T why.ReadError) (p : Punct) (f left : Forest) (l : Leaf) → f ≡ leaf l left
-      → IfErr r (λ e. Stops e (λ x. (d : Punct) → behind_dollar m d (leaf l left) ≡ Err x)) → IfErr r (λ e. Stops e (FaultAtHead Answers m (behind_dollar m p f)))
+      → IfErr r (λ e. Stops e (λ x. (d : Punct) → behind_dollar m d (leaf l left) ≡ Err x)) → IfErr r (λ e. Stops e (FaultAtHead HasEdition m (behind_dollar m p f)))
   leaf_fault r p f left l here h =
-      stopped r (λ x. (d : Punct) → behind_dollar m d (leaf l left) ≡ Err x) (FaultAtHead Answers m (behind_dollar m p f))
-      (λ x k. err_head Answers m x (behind_dollar m p f) (ap (behind_dollar m p) here ∙ k p)) h
+      stopped r (λ x. (d : Punct) → behind_dollar m d (leaf l left) ≡ Err x) (FaultAtHead HasEdition m (behind_dollar m p f))
+      (λ x k. err_head HasEdition m x (behind_dollar m p f) (ap (behind_dollar m p) here ∙ k p)) h
 
 -- ---- the front of all trees
 
@@ -191,25 +191,25 @@ puncts_head m f left p here n =
     puncts_if : (b : Bool) → b ≡ false → (if b then behind_dollar m p left else Ok (puncts_at (leaf (punct p) left))) ≡ Ok (puncts_at (leaf (punct p) left))
     puncts_if b t = ap (λ (c : Bool). if c then behind_dollar m p left else Ok (puncts_at (leaf (punct p) left))) t
 
-module _ (Answers : SyntaxContext → Edition → Type 0) where
+module _ (HasEdition : SyntaxContext → Edition → Type 0) where
   pub head_op : {A E : Type 0} (r : Result (code.Op A) E) (m : Mode) (f new : Forest) (h : Result Head Fault) → head m f ≡ h
-      → IfOk r (λ o. AtHead Answers m h (op_of o) new) → IfOk r (λ o. ReadsOp Answers m f (op_of o) new)
+      → IfOk r (λ o. AtHead HasEdition m h (op_of o) new) → IfOk r (λ o. ReadsOp HasEdition m f (op_of o) new)
   head_op (Err e) m f new h here at = tt
-  head_op (Ok o) m f new h here at = reads_head Answers m f new (op_of o) h here at
+  head_op (Ok o) m f new h here at = reads_head HasEdition m f new (op_of o) h here at
 
   pub head_fault : {T : Type 0} (r : Result T why.ReadError) (m : Mode) (f : Forest) (h : Result Head Fault) → head m f ≡ h
-      → IfErr r (λ e. Stops e (FaultAtHead Answers m h)) → IfErr r (λ e. Stops e (λ x. TemplateFault Answers m x f))
-  head_fault r m f h here at = stopped r (FaultAtHead Answers m h) (λ x. TemplateFault Answers m x f) (λ x k. fault_head Answers m f x h here k) at
+      → IfErr r (λ e. Stops e (FaultAtHead HasEdition m h)) → IfErr r (λ e. Stops e (λ x. TemplateFault HasEdition m x f))
+  head_fault r m f h here at = stopped r (FaultAtHead HasEdition m h) (λ x. TemplateFault HasEdition m x f) (λ x k. fault_head HasEdition m f x h here k) at
 
   pub group_fault : (e : why.ReadError) (m : Mode) (f inside left : Forest) (d : Delimiter) → f ≡ group d inside left
-      → Stops e (λ x. TemplateFault Answers m x inside) → Stops e (λ x. TemplateFault Answers m x f)
+      → Stops e (λ x. TemplateFault HasEdition m x inside) → Stops e (λ x. TemplateFault HasEdition m x f)
   group_fault e m f inside left d at h =
-      Stops-weaker e (λ x. TemplateFault Answers m x inside) (λ x. TemplateFault Answers m x f)
+      Stops-weaker e (λ x. TemplateFault HasEdition m x inside) (λ x. TemplateFault HasEdition m x f)
       (λ x k. in_group f inside left d (ap (head m) at) k) h
 
-  pub later_fault : (e : why.ReadError) (m : Mode) (f left : Forest) → ((x : Fault) → TemplateFault Answers m x left → TemplateFault Answers m x f)
-      → Stops e (λ x. TemplateFault Answers m x left) → Stops e (λ x. TemplateFault Answers m x f)
-  later_fault e m f left k h = Stops-weaker e (λ x. TemplateFault Answers m x left) (λ x. TemplateFault Answers m x f) k h
+  pub later_fault : (e : why.ReadError) (m : Mode) (f left : Forest) → ((x : Fault) → TemplateFault HasEdition m x left → TemplateFault HasEdition m x f)
+      → Stops e (λ x. TemplateFault HasEdition m x left) → Stops e (λ x. TemplateFault HasEdition m x f)
+  later_fault e m f left k h = Stops-weaker e (λ x. TemplateFault HasEdition m x left) (λ x. TemplateFault HasEdition m x f) k h
 
 pub on_ok : {T E : Type 0} (r : Result T E) (P : Type 0) → P → OnOk r P
 on_ok (Ok x) P p = p
@@ -220,12 +220,12 @@ behind f = refl
 
 -- ---- tokens at the front
 
-module _ (Answers : SyntaxContext → Edition → Type 0) where
-  pub leaf_reads : (m : Mode) (f left : Forest) (o : Op) → head m f ≡ Ok (one o left) → ReadsOp Answers m f o left
-  leaf_reads m f left o e = reads_head Answers m f left o (Ok (one o left)) e (refl, refl)
+module _ (HasEdition : SyntaxContext → Edition → Type 0) where
+  pub leaf_reads : (m : Mode) (f left : Forest) (o : Op) → head m f ≡ Ok (one o left) → ReadsOp HasEdition m f o left
+  leaf_reads m f left o e = reads_head HasEdition m f left o (Ok (one o left)) e (refl, refl)
 
   pub puncts_op : (A : Type 0) (m : Mode) (f left : Forest) (p : Punct) (ps : ArrayVec Punct) → head m f ≡ Ok (puncts_at f) → Some ps.items ≡ glued f
-      → left ≡ skip (length (glue f)) f → ReadsOp Answers m f (op_of {A = A} (code.TheVariants.Punct ps)) left
+      → left ≡ skip (length (glue f)) f → ReadsOp HasEdition m f (op_of {A = A} (code.TheVariants.Punct ps)) left
   puncts_op A m f left p ps e g l =
-      reads_head Answers m f left _ (Ok (puncts_at f)) e
+      reads_head HasEdition m f left _ (Ok (puncts_at f)) e
       (ap (λ (xs : List Punct). ops.token (ops.puncts xs)) (glued_is f ps.items g) ∙ sym (view-punct A ps), back-skip (length (glue f)) f ∙ sym l)

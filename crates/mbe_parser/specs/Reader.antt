@@ -6,13 +6,13 @@ use Rattle.mbe_tt.specs.declared.span.SyntaxContext.{SyntaxContext}
 use Rattle.mbe_tt.specs.declared.span.Edition.{Edition}
 use Rattle.mbe_semantics.specs.declared.kinds.MetaVarKind.{MetaVarKind}
 use Rattle.mbe_parser.specs.declared.parser.Mode as code
-use Rattle.mbe_errors.specs.declared.error.Fault as told
+use Rattle.mbe_errors.specs.declared.error.SyntaxFault as reported
 use Rattle.mbe_errors.specs.declared.error.ReadError as read
 use Rattle.mbe_semantics.specs.declared.macro_call_style.MacroCallStyle.{MacroCallStyle}
 use Rattle.mbe_semantics.specs.declared.macro_call_style.MacroCallStyle.TheVariants.{FnLike}
 use Rattle.mbe_errors.specs.ErrorViews.{fault_of}
 use Rattle.mbe_semantics.specs.Syntax.Op.{Op, Ops, op, variable, group, repetition, Separator}
-use Rattle.mbe_semantics.specs.Syntax.Definition.{Outline, Rule, pattern_at, outline_at, AreParts, PartsFault, Rules}
+use Rattle.mbe_semantics.specs.Syntax.Definition.{RuleTrees, Rule, pattern_at, rule_trees_at, AreParts, PartsFault, Rules}
 use Rattle.mbe_semantics.specs.Syntax.Template.{Mode, pattern, template, Fault, separator_of, Head, ended, one, typed, opens_group, opens_repetition, Specifies, Template, TemplateFault}
 
 abbrev pub mode_of : code.Mode → Mode
@@ -27,7 +27,7 @@ Stops (read.TheVariants.Fault f) P = P (fault_of f)
 -- why no metavariable expression was read: want of memory, or there is none
 abbrev pub NotExpression : {T : Type 0} → read.ReadError → Option T → Type 0
 NotExpression read.TheVariants.Memory e = Unit {0}
-NotExpression (read.TheVariants.Fault f) e = (f ≡ told.TheVariants.InvalidExpression) × (e ≡ None)
+NotExpression (read.TheVariants.Fault f) e = (f ≡ reported.TheVariants.InvalidExpression) × (e ≡ None)
 
 -- ---- the suffix of a repetition, leaf by leaf
 
@@ -41,24 +41,24 @@ NeverExtended old l = (before behind : List Leaf) → separator_of before ≡ So
 
 -- ---- ops
 
-module _ (Answers : SyntaxContext → Edition → Type 0) where
+module _ (HasEdition : SyntaxContext → Edition → Type 0) where
   -- this op stands at the front, with what is inside it, and these are the trees behind it
   abbrev pub AtHead : Mode → Result Head Fault → Op → Forest → Type 0
   AtHead mode (Ok (one o rest)) p left = (o ≡ p) × (rest ≡ left)
   AtHead mode (Ok (typed name span specifier rest)) p left =
-      (kind : Option MetaVarKind) × Specifies Answers specifier kind × (variable name kind span ≡ p) × (rest ≡ left)
+      (kind : Option MetaVarKind) × Specifies HasEdition specifier kind × (variable name kind span ≡ p) × (rest ≡ left)
   AtHead mode (Ok (opens_group d inside rest)) p left =
-      (body : Ops) × Template Answers mode inside body × (group d body ≡ p) × (rest ≡ left)
+      (body : Ops) × Template HasEdition mode inside body × (group d body ≡ p) × (rest ≡ left)
   AtHead mode (Ok (opens_repetition separator repeat inside rest)) p left =
-      (body : Ops) × Template Answers mode inside body × (repetition body separator repeat ≡ p) × (rest ≡ left)
+      (body : Ops) × Template HasEdition mode inside body × (repetition body separator repeat ≡ p) × (rest ≡ left)
   AtHead mode (Ok ended) p left = ⊥
   AtHead mode (Err f) p left = ⊥
 
   -- this is the fault of the front, or the first fault inside it
   abbrev pub FaultAtHead : Mode → Result Head Fault → Fault → Type 0
   FaultAtHead mode (Err e) f = e ≡ f
-  FaultAtHead mode (Ok (opens_group d inside rest)) f = TemplateFault Answers mode f inside
-  FaultAtHead mode (Ok (opens_repetition separator repeat inside rest)) f = TemplateFault Answers mode f inside
+  FaultAtHead mode (Ok (opens_group d inside rest)) f = TemplateFault HasEdition mode f inside
+  FaultAtHead mode (Ok (opens_repetition separator repeat inside rest)) f = TemplateFault HasEdition mode f inside
   FaultAtHead mode (Ok (one o rest)) f = ⊥
   FaultAtHead mode (Ok (typed name span specifier rest)) f = ⊥
   FaultAtHead mode (Ok ended) f = ⊥
@@ -66,8 +66,8 @@ module _ (Answers : SyntaxContext → Edition → Type 0) where
   -- Before the trees that are left the op was read: what is read there stands behind the op, and the first fault there is
   -- the first of all.
   pub record ReadsOp (mode : Mode) (before : Forest) (o : Op) (left : Forest) : Type 0 where
-    pub more : (os : Ops) → Template Answers mode left os → Template Answers mode before (op o os)
-    pub fault : (f : Fault) → TemplateFault Answers mode f left → TemplateFault Answers mode f before
+    pub more : (os : Ops) → Template HasEdition mode left os → Template HasEdition mode before (op o os)
+    pub fault : (f : Fault) → TemplateFault HasEdition mode f left → TemplateFault HasEdition mode f before
 
 -- ---- rules
 
@@ -77,39 +77,39 @@ is_word word (leaf (ident i) rest) = is_text i.sym word
 is_word word _ = false
 
 -- the style of the rule in front, before the trees that are left; or the fault
-abbrev pub IsStyled : Result MacroCallStyle told.Fault → Result Outline Fault → Forest → Type 0
+abbrev pub IsStyled : Result MacroCallStyle reported.SyntaxFault → Result RuleTrees Fault → Forest → Type 0
 IsStyled (Ok style) r left = r ≡ pattern_at style left
 IsStyled (Err f) r left = r ≡ Err (fault_of f)
 
 -- the trees of the pattern and of the template of one rule of the style, and those behind it; or the fault
-abbrev pub IsOutlined : MacroCallStyle → Result (Forest × Forest) told.Fault → Result Outline Fault → Forest → Type 0
-IsOutlined style (Ok parts) (Ok o) left = (o.style ≡ style) × (o.reads ≡ parts.0) × (o.writes ≡ parts.1) × (o.back ≡ left)
-IsOutlined style (Ok parts) (Err x) left = ⊥
-IsOutlined style (Err f) (Ok o) left = ⊥
-IsOutlined style (Err f) (Err x) left = fault_of f ≡ x
+abbrev pub AreRuleTrees : MacroCallStyle → Result (Forest × Forest) reported.SyntaxFault → Result RuleTrees Fault → Forest → Type 0
+AreRuleTrees style (Ok parts) (Ok o) left = (o.style ≡ style) × (o.reads ≡ parts.0) × (o.writes ≡ parts.1) × (o.back ≡ left)
+AreRuleTrees style (Ok parts) (Err x) left = ⊥
+AreRuleTrees style (Err f) (Ok o) left = ⊥
+AreRuleTrees style (Err f) (Err x) left = fault_of f ≡ x
 
 -- the trees of the one rule of a `macro` with arguments
-abbrev pub one_outline : Forest → Forest → Outline
-one_outline arguments body = record { style = FnLike; reads = arguments; writes = body; back = none }
+abbrev pub one_rule_trees : Forest → Forest → RuleTrees
+one_rule_trees arguments body = record { style = FnLike; reads = arguments; writes = body; back = none }
 
-module _ (Answers : SyntaxContext → Edition → Type 0) where
+module _ (HasEdition : SyntaxContext → Edition → Type 0) where
   -- a rule stands in front, and these are the trees behind it
   pub record ReadsRule (before : Forest) (r : Rule) (left : Forest) : Type 0 where
-    pub outline : Outline
-    pub at : outline_at before ≡ Ok outline
-    pub parts : AreParts Answers outline r
-    pub behind : outline.back ≡ left
+    pub rule_trees : RuleTrees
+    pub at : rule_trees_at before ≡ Ok rule_trees
+    pub parts : AreParts HasEdition rule_trees r
+    pub behind : rule_trees.back ≡ left
 
   -- the first fault of the rule in front
   pub data RuleFault (fault : Fault) (f : Forest) : Type 0 where
-    in_outline : outline_at f ≡ Err fault → RuleFault fault f
-    in_parts : (o : Outline) → outline_at f ≡ Ok o → PartsFault Answers o fault → RuleFault fault f
+    in_trees : rule_trees_at f ≡ Err fault → RuleFault fault f
+    in_parts : (o : RuleTrees) → rule_trees_at f ≡ Ok o → PartsFault HasEdition o fault → RuleFault fault f
 
   -- the rules up to the first fault, and that fault
-  abbrev pub AreRules : List ℕ → Fault → Forest → List Rule → Option told.Fault → Type 0
-  AreRules separators missing f rs x = Rules Answers separators missing f rs (option_map fault_of x)
+  abbrev pub AreRules : List ℕ → Fault → Forest → List Rule → Option reported.SyntaxFault → Type 0
+  AreRules separators missing f rs x = Rules HasEdition separators missing f rs (option_map fault_of x)
 
   -- the one rule of these arguments and this body, or its first fault
-  abbrev pub IsOneRule : Forest → Forest → List Rule → Option told.Fault → Type 0
-  IsOneRule arguments body rs None = (r : Rule) × (rs ≡ r ∷ []) × AreParts Answers (one_outline arguments body) r
-  IsOneRule arguments body rs (Some x) = (rs ≡ []) × PartsFault Answers (one_outline arguments body) (fault_of x)
+  abbrev pub IsOneRule : Forest → Forest → List Rule → Option reported.SyntaxFault → Type 0
+  IsOneRule arguments body rs None = (r : Rule) × (rs ≡ r ∷ []) × AreParts HasEdition (one_rule_trees arguments body) r
+  IsOneRule arguments body rs (Some x) = (rs ≡ []) × PartsFault HasEdition (one_rule_trees arguments body) (fault_of x)

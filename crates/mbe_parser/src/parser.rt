@@ -20,13 +20,14 @@ mod metavar_expr;
 
 use crate::parser::metavar_expr::parse_metavar_expr;
 use arrayvec::ArrayVec;
-use mbe_errors::error::{Fault, ReadError};
+use mbe_errors::error::{ReadError, SyntaxFault};
 use mbe_ops::ops::{MetaTemplate, Op, Separator};
 use mbe_semantics::kinds::{ExprKind, MetaVarKind, RepeatKind};
-use mbe_tt::iter::{TtElement, TtIter};
 use mbe_tt::span::{Edition, Span, SyntaxContext};
 use mbe_tt::symbol::Symbol;
-use mbe_tt::tt::{Delimiter, DelimiterKind, Ident, IdentIsRaw, Leaf, Literal, Punct};
+use mbe_tt::tt::{
+    Delimiter, DelimiterKind, Ident, IdentIsRaw, Leaf, Literal, Punct, TtElement, TtIter,
+};
 use std::alloc::{AllocError, Allocator};
 
 /// Whether a pattern is read, or a template.
@@ -133,7 +134,7 @@ fn behind_dollar<A: Allocator + Copy, E: Copy + Fn(SyntaxContext) -> Edition>(
             DelimiterKind::Parenthesis => repetition(alloc, edition, inside, src, mode),
             DelimiterKind::Brace => expression_behind_dollar(alloc, inside, mode),
             DelimiterKind::Bracket | DelimiterKind::Invisible => {
-                Err(ReadError::Fault(Fault::ExpectedRepetition))
+                Err(ReadError::Fault(SyntaxFault::ExpectedRepetition))
             }
         },
         TtElement::Leaf(leaf) => leaf_behind_dollar(alloc, edition, leaf, src, mode),
@@ -187,7 +188,7 @@ fn expression_behind_dollar<A: Allocator + Copy>(
         → grammar.expression_at (mode_of mode) rest (grammar.expression_of inside.entry) ≡ Err f)) }
 {
     match mode {
-        Mode::Pattern => Err(ReadError::Fault(Fault::ExpressionInPattern)),
+        Mode::Pattern => Err(ReadError::Fault(SyntaxFault::ExpressionInPattern)),
         Mode::Template => parse_metavar_expr(alloc, inside),
     }
 }
@@ -219,16 +220,16 @@ fn leaf_behind_dollar<A: Allocator + Copy, E: Copy + Fn(SyntaxContext) -> Editio
         }
         Leaf::Literal(literal) => {
             if !is_boolean_literal(literal) {
-                return Err(ReadError::Fault(Fault::ExpectedIdent));
+                return Err(ReadError::Fault(SyntaxFault::ExpectedIdent));
             }
             variable(edition, &literal.text_and_suffix, literal.span, src, mode)
         }
         Leaf::Punct(punct) => {
             if punct.char != '$' {
-                return Err(ReadError::Fault(Fault::ExpectedIdent));
+                return Err(ReadError::Fault(SyntaxFault::ExpectedIdent));
             }
             match mode {
-                Mode::Pattern => Err(ReadError::Fault(Fault::DollarInPattern)),
+                Mode::Pattern => Err(ReadError::Fault(SyntaxFault::DollarInPattern)),
                 Mode::Template => Ok(Op::Punct(one_punct(*punct))),
             }
         }
@@ -275,7 +276,7 @@ fn eat_fragment_kind<A: Allocator, E: Copy + Fn(SyntaxContext) -> Edition>(
     edition: E,
     src: &mut TtIter<'_, A>,
     mode: Mode,
-) -> Result<Option<MetaVarKind>, Fault>
+) -> Result<Option<MetaVarKind>, SyntaxFault>
     requires { MayAsk (E.pre edition) }
     ensures kind { IfOk result (λ kind. (name : Name) (span : SpecSpan)
         → AtHead (E.post edition) (mode_of mode)
@@ -289,10 +290,10 @@ fn eat_fragment_kind<A: Allocator, E: Copy + Fn(SyntaxContext) -> Edition>(
         Mode::Template => Ok(None),
         Mode::Pattern => {
             let Ok(()) = src.expect_char(':') else {
-                return Err(Fault::MissingSpecifier);
+                return Err(SyntaxFault::MissingSpecifier);
             };
             let Ok(specifier) = src.expect_ident() else {
-                return Err(Fault::MissingSpecifier);
+                return Err(SyntaxFault::MissingSpecifier);
             };
             Ok(fragment_kind(edition, specifier))
         }
@@ -376,7 +377,7 @@ fn parse_repeat<A: Allocator>(
         }
         separator = Some(with_leaf(separator, leaf)?);
     }
-    Err(ReadError::Fault(Fault::InvalidRepeat))
+    Err(ReadError::Fault(SyntaxFault::InvalidRepeat))
 }
 
 // Whether the leaf ends a suffix, and how often the repetition may then go round.
@@ -412,7 +413,7 @@ fn with_leaf<A: Allocator>(
     match leaf {
         Leaf::Literal(literal) => match separator {
             None => Ok(Separator::Literal(literal.clone()?)),
-            Some(_whole) => Err(ReadError::Fault(Fault::InvalidRepeat)),
+            Some(_whole) => Err(ReadError::Fault(SyntaxFault::InvalidRepeat)),
         },
         Leaf::Ident(ident) => with_ident(separator, ident),
         Leaf::Punct(punct) => with_punct(separator, *punct),
@@ -433,9 +434,9 @@ fn with_ident<A: Allocator>(
         None => Ok(Separator::Ident(ident.clone()?)),
         Some(Separator::Puncts(puncts)) => match puncts.as_slice() {
             [quote] if quote.char == '\'' => Ok(Separator::Lifetime(*quote, ident.clone()?)),
-            _ => Err(ReadError::Fault(Fault::InvalidRepeat)),
+            _ => Err(ReadError::Fault(SyntaxFault::InvalidRepeat)),
         },
-        Some(_whole) => Err(ReadError::Fault(Fault::InvalidRepeat)),
+        Some(_whole) => Err(ReadError::Fault(SyntaxFault::InvalidRepeat)),
     }
 }
 
@@ -452,10 +453,10 @@ fn with_punct<A: Allocator>(
     let mut puncts = match separator {
         None => ArrayVec::new(),
         Some(Separator::Puncts(puncts)) => puncts,
-        Some(_whole) => return Err(ReadError::Fault(Fault::InvalidRepeat)),
+        Some(_whole) => return Err(ReadError::Fault(SyntaxFault::InvalidRepeat)),
     };
     if puncts.is_full() {
-        return Err(ReadError::Fault(Fault::InvalidRepeat));
+        return Err(ReadError::Fault(SyntaxFault::InvalidRepeat));
     }
     puncts.push(punct);
     Ok(Separator::Puncts(puncts))

@@ -1,20 +1,19 @@
 // Reads the rules of definitions.
 ghost use Rattle.std.specs.Prelude.{◌≡◌, ◌<◌, IfOk, IfErr, OnOk, if◌then◌else◌};
 ghost use Rattle.mbe_tt.specs.Trees.Tree.{Forest, flat_len, rest_of};
-ghost use Rattle.mbe_semantics.specs.Syntax.Definition.{outline_at, pattern_at, AreParts, PartsFault};
+ghost use Rattle.mbe_semantics.specs.Syntax.Definition.{rule_trees_at, pattern_at, AreParts, PartsFault};
 ghost use Rattle.mbe_errors.specs.ErrorViews.{fault_of};
-ghost use Rattle.mbe_parser.specs.Reader.{is_word, IsStyled, IsOutlined, ReadsRule, RuleFault, AreRules, IsOneRule, Stops};
+ghost use Rattle.mbe_parser.specs.Reader.{is_word, IsStyled, AreRuleTrees, ReadsRule, RuleFault, AreRules, IsOneRule, Stops};
 ghost use Rattle.mbe_parser.specs.RuleViews.{rule_of, rules_seen};
 ghost use Rattle.mbe_semantics.specs.declared.macro_call_style.MacroCallStyle.{MacroCallStyle as SpecStyle};
 ghost use Rattle.mbe_semantics.specs.Laws.Marking.{MayAsk};
 
 use crate::parser::{Mode, parse_template};
-use mbe_errors::error::{Fault, ReadError};
+use mbe_errors::error::{ReadError, SyntaxFault};
 use mbe_ops::ops::MetaTemplate;
 use mbe_semantics::macro_call_style::MacroCallStyle;
-use mbe_tt::iter::{TtElement, TtIter};
 use mbe_tt::span::{Edition, SyntaxContext};
-use mbe_tt::tt::Leaf;
+use mbe_tt::tt::{Leaf, TtElement, TtIter};
 use std::alloc::{AllocError, Allocator, Global};
 
 /// A rule of a definition.
@@ -32,8 +31,8 @@ pub fn parse_rules<A: Allocator + Copy, E: Copy + Fn(SyntaxContext) -> Edition>(
     ctx_edition: E,
     src: TtIter<'_, A>,
     separators: &[char],
-    missing: Fault,
-) -> Result<(Vec<Rule<A>, A>, Option<Fault>), AllocError>
+    missing: SyntaxFault,
+) -> Result<(Vec<Rule<A>, A>, Option<SyntaxFault>), AllocError>
     requires { MayAsk (E.pre ctx_edition) }
     ensures { IfOk result (λ r. AreRules (E.post ctx_edition) separators.now (fault_of missing)
         src.entry (rules_seen r.0.items) r.1) }
@@ -64,7 +63,7 @@ pub fn parse_one_rule<A: Allocator + Copy, E: Copy + Fn(SyntaxContext) -> Editio
     ctx_edition: E,
     args: TtIter<'_, A>,
     body: TtIter<'_, A>,
-) -> Result<(Vec<Rule<A>, A>, Option<Fault>), AllocError>
+) -> Result<(Vec<Rule<A>, A>, Option<SyntaxFault>), AllocError>
     requires { MayAsk (E.pre ctx_edition) }
     ensures { IfOk result (λ r. IsOneRule (E.post ctx_edition) args.entry body.entry
         (rules_seen r.0.items) r.1) }
@@ -130,8 +129,8 @@ impl<A: Allocator + Copy> Rule<A> {
 
 // The call that a rule is for: `attr` or `derive` and a group, or else a function-like call. An
 // `unsafe` may stand before.
-fn parse_rule_style<A: Allocator>(src: &mut TtIter<'_, A>) -> Result<MacroCallStyle, Fault>
-    ensures { IsStyled result (outline_at src.old) src.new }
+fn parse_rule_style<A: Allocator>(src: &mut TtIter<'_, A>) -> Result<MacroCallStyle, SyntaxFault>
+    ensures { IsStyled result (rule_trees_at src.old) src.new }
 {
     let _unsafe = eat_word(src, "unsafe");
     let style = if eat_word(src, "attr") {
@@ -142,7 +141,7 @@ fn parse_rule_style<A: Allocator>(src: &mut TtIter<'_, A>) -> Result<MacroCallSt
         return Ok(MacroCallStyle::FnLike);
     };
     let Ok(_arguments) = src.expect_subtree() else {
-        return Err(Fault::ExpectedParentheses);
+        return Err(SyntaxFault::ExpectedParentheses);
     };
     Ok(style)
 }
@@ -164,20 +163,20 @@ fn eat_word<A: Allocator>(src: &mut TtIter<'_, A>, word: &str) -> bool
 // The trees of a rule's pattern and of its template.
 fn rule_groups<'a, A: Allocator>(
     src: &mut TtIter<'a, A>,
-) -> Result<(TtIter<'a, A>, TtIter<'a, A>), Fault>
-    ensures { (style : SpecStyle) → IsOutlined style result (pattern_at style src.old) src.new }
+) -> Result<(TtIter<'a, A>, TtIter<'a, A>), SyntaxFault>
+    ensures { (style : SpecStyle) → AreRuleTrees style result (pattern_at style src.old) src.new }
 {
     let Ok((_subtree, pattern)) = src.expect_subtree() else {
-        return Err(Fault::ExpectedSubtree);
+        return Err(SyntaxFault::ExpectedSubtree);
     };
     let Ok(()) = src.expect_char('=') else {
-        return Err(Fault::ExpectedEquals);
+        return Err(SyntaxFault::ExpectedEquals);
     };
     let Ok(()) = src.expect_char('>') else {
-        return Err(Fault::ExpectedGreater);
+        return Err(SyntaxFault::ExpectedGreater);
     };
     let Ok((_subtree, template)) = src.expect_subtree() else {
-        return Err(Fault::ExpectedSubtree);
+        return Err(SyntaxFault::ExpectedSubtree);
     };
     Ok((pattern, template))
 }

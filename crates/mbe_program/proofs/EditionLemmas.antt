@@ -7,7 +7,7 @@ use Rattle.mbe_tt.specs.Trees.Leaf.{Ident}
 use Rattle.mbe_semantics.specs.declared.kinds.MetaVarKind.{MetaVarKind}
 use Rattle.mbe_semantics.specs.Syntax.Op.{Ops}
 use Rattle.mbe_semantics.specs.Syntax.Template.{Mode, Fault, Specifies, dated_pat, dated_expr, undated, Template, nothing, token, variable, grouped, repeated, TemplateFault, here, in_group, in_repetition, behind_token, behind_variable, behind_group, behind_repetition}
-use Rattle.mbe_semantics.specs.Syntax.Definition.{Rule, Outline, AreParts, PartsFault, in_pattern, in_template, Rules, ended, no_rule, faulty_rule, unseparated, separated}
+use Rattle.mbe_semantics.specs.Syntax.Definition.{Rule, RuleTrees, AreParts, PartsFault, in_pattern, in_template, Rules, ended, no_rule, faulty_rule, unseparated, separated}
 use Rattle.mbe_semantics.specs.Expansion.Macro.{Macro}
 use Rattle.mbe_semantics.specs.Expansion.ReadAs.{IsReadAs}
 use Rattle.mbe_program.specs.Expansion.{IsEdition}
@@ -35,10 +35,10 @@ module _ {A B : SyntaxContext → Edition → Type 0} (more : (c : SyntaxContext
   fault_read (behind_repetition f inside rest separator repeat body e b t) =
       behind_repetition f inside rest separator repeat body e (ops_read b) (fault_read t)
 
-  parts_read : {o : Outline} {r : Rule} → AreParts A o r → AreParts B o r
+  parts_read : {o : RuleTrees} {r : Rule} → AreParts A o r → AreParts B o r
   parts_read p = record { style = p.style; reads = ops_read p.reads; writes = ops_read p.writes }
 
-  parts_fault : {o : Outline} {fault : Fault} → PartsFault A o fault → PartsFault B o fault
+  parts_fault : {o : RuleTrees} {fault : Fault} → PartsFault A o fault → PartsFault B o fault
   parts_fault (in_pattern t) = in_pattern (fault_read t)
   parts_fault (in_template reads t u) = in_template reads (ops_read t) (fault_read u)
 

@@ -8,7 +8,7 @@ use Rattle.mbe_semantics.specs.Syntax.Op.{Name, Token, Separator, Op, token, gro
 use Rattle.mbe_semantics.specs.Readings.Item.{Item, matched, bound, grouped, skipped, rounds, Items, no_items, item, Rounds, no_rounds, round, item_width, items_width, rounds_width}
 use Rattle.mbe_semantics.specs.Readings.Input.{Input}
 use Rattle.mbe_semantics.specs.Readings.Reading.{MaySkip, MayRepeat, Between, Reads, Frame, inside, within, Beginning, dot, body_of, start_of, place, Within, Begins, At, start}
-use Rattle.mbe_semantics.specs.Readings.Steps.{matched_by, bound_by, skip_of, again_of, if_none, empty_of, idle, Move, move, if_some, over_of, when, round_move, separator_move, next}
+use Rattle.mbe_semantics.specs.Readings.Steps.{matched_by, bound_as, skip_of, again_of, if_none, empty_of, idle, Move, move, if_some, over_of, when, round_move, separator_move, next}
 use Rattle.mbe_semantics.specs.Matching.Lists.{In}
 use Rattle.mbe_semantics.proofs.Taken.{matched-reads, bound-reads}
 
@@ -54,7 +54,7 @@ next-goes i pat q (dot (op (token t) rest) is up) h =
     over-goes i pat q false (matched_by (i.token_at t q)) rest is up
     (λ x e. ((h.0.0, (token t, h.0.1, subst (λ p. Reads x i (token t) p) (sym h.1) (matched-reads i t q x e))), omega (arith, h.1)))
 next-goes i pat q (dot (op (variable name kind span) rest) is up) h =
-    over-goes i pat q true (bound_by name (i.fragment_at kind q)) rest is up
+    over-goes i pat q true (bound_as name (i.fragment_at kind q)) rest is up
     (λ x e. ((h.0.0, (variable name kind span, h.0.1, subst (λ p. Reads x i (variable name kind span) p) (sym h.1) (bound-reads i name kind span q x e))), omega (arith, h.1)))
 next-goes i pat q (dot (op (expression e) rest) is up) h = tt
 next-goes i pat q (dot (op (group d b) rest) is up) h =
@@ -111,13 +111,13 @@ by_token i pat t rest is up x h e = go (item_width x) refl
     go (suc n) z = (dot (op (token t) rest) is up, h, inr (suc n, false, over_some false (matched_by (i.token_at t (start_of up + items_width is))) rest is up x n e z, omega (arith, z)))
 
 by_variable : (i : Input) (pat : Ops) (name : Name) (kind : Option MetaVarKind) (span : Span) (rest : Ops) (is : Items) (up : List Frame) (x : Item) →
-    Begins i pat (dot (op (variable name kind span) rest) is up) → bound_by name (i.fragment_at kind (start_of up + items_width is)) ≡ Some x →
+    Begins i pat (dot (op (variable name kind span) rest) is up) → bound_as name (i.fragment_at kind (start_of up + items_width is)) ≡ Some x →
     From i pat (dot rest (item is x) up)
 by_variable i pat name kind span rest is up x h e = go (item_width x) refl
   where
     go : (n : ℕ) → item_width x ≡ n → From i pat (dot rest (item is x) up)
-    go zero z = (dot (op (variable name kind span) rest) is up, h, inl (in_empty (bound_by name (i.fragment_at kind (start_of up + items_width is))) rest is up x e z, omega (arith, z)))
-    go (suc n) z = (dot (op (variable name kind span) rest) is up, h, inr (suc n, true, over_some true (bound_by name (i.fragment_at kind (start_of up + items_width is))) rest is up x n e z, omega (arith, z)))
+    go zero z = (dot (op (variable name kind span) rest) is up, h, inl (in_empty (bound_as name (i.fragment_at kind (start_of up + items_width is))) rest is up x e z, omega (arith, z)))
+    go (suc n) z = (dot (op (variable name kind span) rest) is up, h, inr (suc n, true, over_some true (bound_as name (i.fragment_at kind (start_of up + items_width is))) rest is up x n e z, omega (arith, z)))
 
 -- a further round was begun
 by_round : (i : Input) (pat : Ops) (b : Ops) (s : Option Separator) (k : RepeatKind) (rest : Ops) (js : Items) (rs : Rounds) (up : List Frame) (is : Items) (w : ℕ) →
@@ -149,7 +149,7 @@ by_item : (i : Input) (pat : Ops) (o : Op) (rest : Ops) (is : Items) (x : Item) 
     Begins i pat (dot (op o rest) is up) → Reads x i o (start_of up + items_width is) → From i pat (dot rest (item is x) up)
 by_item i pat (token t) rest is (matched n) up h e = by_token i pat t rest is up (matched n) h (ap matched_by e)
 by_item i pat (variable n kind span) rest is (bound name x) up h e =
-    by_variable i pat n kind span rest is up (bound name x) h (ap (bound_by n) e.1 ∙ ap (λ v. Some (bound v x)) (sym e.0))
+    by_variable i pat n kind span rest is up (bound name x) h (ap (bound_as n) e.1 ∙ ap (λ v. Some (bound v x)) (sym e.0))
 by_item i pat (group d b) rest is (grouped inner) up h e = (
   dot no_ops inner (inside d b rest is ∷ up),
   ((h.0, h.1, e.0), e.1),

@@ -9,7 +9,7 @@ use Rattle.mbe_semantics.specs.Syntax.Op.{Separator, Op, token, group, variable,
 use Rattle.mbe_semantics.specs.Readings.Item.{Item, Items, no_items, item, Rounds, item_width, items_width}
 use Rattle.mbe_semantics.specs.Readings.Input.{Input, input_of}
 use Rattle.mbe_semantics.specs.Readings.Reading.{ReadsFirst, Frame, inside, within, Beginning, dot, body_of, start_of, place, Within, Begins, At, start}
-use Rattle.mbe_semantics.specs.Readings.Steps.{matched_by, bound_by, if_none, empty_of, idle, Move, move, if_some, over_of, when, next}
+use Rattle.mbe_semantics.specs.Readings.Steps.{matched_by, bound_as, if_none, empty_of, idle, Move, move, if_some, over_of, when, next}
 use Rattle.mbe_semantics.specs.Matching.Lists.{In}
 use Rattle.mbe_semantics.specs.Matching.Story.{story, steps}
 use Rattle.mbe_semantics.specs.Readings.Ambiguity.{Ambiguous, GoesOn}
@@ -62,7 +62,7 @@ idle_same i pat q (dot no_ops is []) y z h c a b = absurd a
 idle_same i pat q (dot no_ops is (inside d b' rest js ∷ up)) y z h c a b = absurd a
 idle_same i pat q (dot no_ops is (within b' s k rest js rs ∷ up)) y z h c a b = no_frame i pat b' s k rest js rs up h.0 c
 idle_same i pat q (dot (op (token t) rest) is up) y z h c a b = empty_same (matched_by (i.token_at t q)) rest is up y z a b
-idle_same i pat q (dot (op (variable name kind span) rest) is up) y z h c a b = empty_same (bound_by name (i.fragment_at kind q)) rest is up y z a b
+idle_same i pat q (dot (op (variable name kind span) rest) is up) y z h c a b = empty_same (bound_as name (i.fragment_at kind q)) rest is up y z a b
 idle_same i pat q (dot (op (group d b') rest) is up) y z h c a b = absurd a
 idle_same i pat q (dot (op (repetition b' s k) rest) is up) y z h c a b = no_repetition i pat b' s k rest is up h c
 idle_same i pat q (dot (op (expression e) rest) is up) y z h c a b = absurd a
@@ -72,7 +72,7 @@ idle_move i pat q (dot no_ops is []) y m h c a b = absurd a
 idle_move i pat q (dot no_ops is (inside d b' rest js ∷ up)) y m h c a b = absurd a
 idle_move i pat q (dot no_ops is (within b' s k rest js rs ∷ up)) y m h c a b = no_frame i pat b' s k rest js rs up h.0 c
 idle_move i pat q (dot (op (token t) rest) is up) y m h c a b = empty_over false (matched_by (i.token_at t q)) rest is up y m a b
-idle_move i pat q (dot (op (variable name kind span) rest) is up) y m h c a b = empty_over true (bound_by name (i.fragment_at kind q)) rest is up y m a b
+idle_move i pat q (dot (op (variable name kind span) rest) is up) y m h c a b = empty_over true (bound_as name (i.fragment_at kind q)) rest is up y m a b
 idle_move i pat q (dot (op (group d b') rest) is up) y m h c a b = absurd a
 idle_move i pat q (dot (op (repetition b' s k) rest) is up) y m h c a b = no_repetition i pat b' s k rest is up h c
 idle_move i pat q (dot (op (expression e) rest) is up) y m h c a b = absurd a
@@ -102,7 +102,7 @@ next_some i pat q (dot no_ops is []) h c = tt
 next_some i pat q (dot no_ops is (inside d b rest js ∷ up)) h c = when_some (i.closes_at q) _
 next_some i pat q (dot no_ops is (within b s k rest js rs ∷ up)) h c = no_frame i pat b s k rest js rs up h.0 c
 next_some i pat q (dot (op (token t) rest) is up) h c = over_some false (matched_by (i.token_at t q)) rest is up
-next_some i pat q (dot (op (variable name kind span) rest) is up) h c = over_some true (bound_by name (i.fragment_at kind q)) rest is up
+next_some i pat q (dot (op (variable name kind span) rest) is up) h c = over_some true (bound_as name (i.fragment_at kind q)) rest is up
 next_some i pat q (dot (op (group d b) rest) is up) h c = when_some (i.opens_at d.kind q) _
 next_some i pat q (dot (op (repetition b s k) rest) is up) h c = tt
 next_some i pat q (dot (op (expression e) rest) is up) h c = tt

@@ -6,8 +6,8 @@ use Rattle.mbe_semantics.specs.Syntax.Op.{Separator, token, group, variable, rep
 use Rattle.mbe_semantics.specs.Readings.Item.{Item, skipped, rounds, Items, no_items, item, Rounds, no_rounds, round, item_width}
 use Rattle.mbe_semantics.specs.Readings.Input.{Input}
 use Rattle.mbe_semantics.specs.Readings.Reading.{Frame, inside, within, Beginning, dot}
-use Rattle.mbe_semantics.specs.Readings.Steps.{matched_by, bound_by, skip_of, again_of, if_none, empty_of, idle, Move, move, if_some, over_of, when, round_move, separator_move, next}
-use Rattle.mbe_semantics.specs.Matching.Story.{Level, tale, in_round, story, before, fresh, steps, is_positive, levels_of}
+use Rattle.mbe_semantics.specs.Readings.Steps.{matched_by, bound_as, skip_of, again_of, if_none, empty_of, idle, Move, move, if_some, over_of, when, round_move, separator_move, next}
+use Rattle.mbe_semantics.specs.Matching.Story.{OpenItem, tale, in_round, story, before, fresh, steps, is_positive, open_items_of}
 use Rattle.mbe_semantics.specs.Matching.Lists.{In, Distinct, NoneAt}
 use Rattle.mbe_semantics.proofs.Taken.{IsTaken, matched-taken, bound-taken}
 
@@ -59,7 +59,7 @@ idle-after i q (dot no_ops is (inside d b rest js ∷ up)) y h = absurd h
 idle-after i q (dot no_ops is (within b s k rest js rs ∷ up)) y h =
     after_again (dot no_ops is (within b s k rest js rs ∷ up)) _ _ s k (refl, omega arith, refl) (refl, omega arith, refl) y h
 idle-after i q (dot (op (token t) rest) is up) y h = after_empty (op (token t) rest) (matched_by (i.token_at t q)) rest is up (matched-taken (i.token_at t q)) y h
-idle-after i q (dot (op (variable name kind span) rest) is up) y h = after_empty (op (variable name kind span) rest) (bound_by name (i.fragment_at kind q)) rest is up (bound-taken name (i.fragment_at kind q)) y h
+idle-after i q (dot (op (variable name kind span) rest) is up) y h = after_empty (op (variable name kind span) rest) (bound_as name (i.fragment_at kind q)) rest is up (bound-taken name (i.fragment_at kind q)) y h
 idle-after i q (dot (op (expression e) rest) is up) y h = absurd h
 idle-after i q (dot (op (group d b) rest) is up) y h = absurd h
 idle-after i q (dot (op (repetition b s k) rest) is up) y h =
@@ -95,20 +95,20 @@ distinct_skip y z ZeroOrMore n = distinct_two y z n
 distinct_skip y z OneOrMore n = distinct_one y
 distinct_skip y z ZeroOrOne n = distinct_two y z n
 
-apart : (is : Items) (x : Item) (us vs : List Level) → tale no_items us ≡ tale (item is x) vs → ⊥
+apart : (is : Items) (x : Item) (us vs : List OpenItem) → tale no_items us ≡ tale (item is x) vs → ⊥
 apart is x us vs e = cc
 
 pub idle-distinct : (i : Input) (q : ℕ) (x : Beginning) → Distinct story (idle i q x)
 idle-distinct i q (dot no_ops is []) = tt
 idle-distinct i q (dot no_ops is (inside d b rest js ∷ up)) = tt
 idle-distinct i q (dot no_ops is (within b s k rest js rs ∷ up)) = distinct_again (dot b no_items (within b s k rest js (round rs is 0) ∷ up)) (dot rest (item js (rounds rs is)) up) s k
-    (apart js (rounds rs is) (in_round js (round rs is 0) ∷ levels_of up) (levels_of up))
+    (apart js (rounds rs is) (in_round js (round rs is 0) ∷ open_items_of up) (open_items_of up))
 idle-distinct i q (dot (op (token t) rest) is up) = distinct_empty (matched_by (i.token_at t q)) rest is up
-idle-distinct i q (dot (op (variable name kind span) rest) is up) = distinct_empty (bound_by name (i.fragment_at kind q)) rest is up
+idle-distinct i q (dot (op (variable name kind span) rest) is up) = distinct_empty (bound_as name (i.fragment_at kind q)) rest is up
 idle-distinct i q (dot (op (expression e) rest) is up) = tt
 idle-distinct i q (dot (op (group d b) rest) is up) = tt
 idle-distinct i q (dot (op (repetition b s k) rest) is up) = distinct_skip (dot b no_items (within b s k rest is no_rounds ∷ up)) (dot rest (item is (skipped (names_of b))) up) k
-    (apart is (skipped (names_of b)) (in_round is no_rounds ∷ levels_of up) (levels_of up))
+    (apart is (skipped (names_of b)) (in_round is no_rounds ∷ open_items_of up) (open_items_of up))
 
 -- the step that takes tokens
 abbrev pub GoesAfter : Beginning → Option Move → Type 0
@@ -145,7 +145,7 @@ next_goes_after i q (dot no_ops is []) = tt
 next_goes_after i q (dot no_ops is (inside d b rest js ∷ up)) = when_after (dot no_ops is (inside d b rest js ∷ up)) _ (i.closes_at q) (refl, omega arith, refl)
 next_goes_after i q (dot no_ops is (within b s k rest js rs ∷ up)) = separator_after i q s k b rest js rs up is
 next_goes_after i q (dot (op (token t) rest) is up) = over_after (op (token t) rest) false (matched_by (i.token_at t q)) rest is up (matched-taken (i.token_at t q))
-next_goes_after i q (dot (op (variable name kind span) rest) is up) = over_after (op (variable name kind span) rest) true (bound_by name (i.fragment_at kind q)) rest is up (bound-taken name (i.fragment_at kind q))
+next_goes_after i q (dot (op (variable name kind span) rest) is up) = over_after (op (variable name kind span) rest) true (bound_as name (i.fragment_at kind q)) rest is up (bound-taken name (i.fragment_at kind q))
 next_goes_after i q (dot (op (expression e) rest) is up) = tt
 next_goes_after i q (dot (op (group d b) rest) is up) = when_after (dot (op (group d b) rest) is up) _ (i.opens_at d.kind q) (refl, omega arith, refl)
 next_goes_after i q (dot (op (repetition b s k) rest) is up) = tt

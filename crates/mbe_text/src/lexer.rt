@@ -3,7 +3,7 @@ ghost use Rattle.std.specs.Prelude.{◌≡◌, ◌<◌, ◌+◌, ◌^◌, ◌++�
 ghost use Rattle.mbe_text.specs.Scanning.{FaultsWithin};
 ghost use Rattle.mbe_text.specs.Tokens.{Adds, IsAstray, FaultsAt, IsMade, ended, token_item, close_item};
 
-use crate::scanner::{Fault, Lexeme, Scanner, Token, file_span};
+use crate::scanner::{LexFault, Lexeme, Scanner, Token, file_span};
 use mbe_tt::span::Span;
 use mbe_tt::symbol::Symbol;
 use mbe_tt::tt::{
@@ -37,12 +37,12 @@ impl fmt::Display for LexError {
 
 impl Error for LexError {}
 
-impl From<Fault> for LexError {
+impl From<LexFault> for LexError {
     ghost use Rattle.mbe_text.specs.declared.lexer.LexError.TheVariants as errors;
 
     ghost from_gives = { λ fault error. error ≡ errors.Fault fault.offset };
 
-    fn from(fault: Fault) -> LexError {
+    fn from(fault: LexFault) -> LexError {
         LexError::Fault(fault.offset)
     }
 }
@@ -101,7 +101,7 @@ fn close<A: Allocator>(
     builder: &mut TopSubtreeBuilder<A>,
     kind: DelimiterKind,
     span: Span,
-) -> Result<(), Fault>
+) -> Result<(), LexFault>
     ensures ok { OnOk result (Adds (close_item kind span) builder.old builder.new) }
     ensures err { IfErr result (λ fault. (fault.offset ≡ span.start)
         × IsAstray (close_item kind span) builder.old) }
@@ -111,7 +111,7 @@ fn close<A: Allocator>(
             builder.close(span);
             Ok(())
         }
-        _ => Err(Fault { offset: span.start }),
+        _ => Err(LexFault { offset: span.start }),
     }
 }
 

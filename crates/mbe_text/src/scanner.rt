@@ -9,7 +9,7 @@ use unicode_ident::{is_xid_continue, is_xid_start};
 
 /// Text that isn't lexed, by the byte at which what is wrong begins.
 #[derive(Clone, Copy, Debug, PartialEq, Eq)]
-pub struct Fault {
+pub struct LexFault {
     pub offset: u32,
 }
 
@@ -175,7 +175,7 @@ impl<'t> Scanner<'t> {
     }
 
     // Passes white space and comments.
-    fn trivia(&mut self) -> Result<(), Fault>
+    fn trivia(&mut self) -> Result<(), LexFault>
         ensures on { GoesOn self.old self.new }
         ensures within { IfErr result (λ fault. fault.offset ≤ self.old.total) }
     {
@@ -202,7 +202,7 @@ impl<'t> Scanner<'t> {
     }
 
     // Passes a block comment, with those inside it.
-    fn block_comment(&mut self) -> Result<(), Fault>
+    fn block_comment(&mut self) -> Result<(), LexFault>
         ensures on { GoesOn self.old self.new }
         ensures past { Advances self.old self.new }
         ensures within { IfErr result (λ fault. fault.offset ≤ self.old.total) }
@@ -225,7 +225,7 @@ impl<'t> Scanner<'t> {
                 _ => {}
             }
         }
-        Err(Fault { offset: start })
+        Err(LexFault { offset: start })
     }
 
     // Passes an identifier without a `r#`, whose first character stands here.
@@ -247,7 +247,7 @@ impl<'t> Scanner<'t> {
     }
 
     // Passes a raw identifier with its `r#`.
-    fn raw_identifier(&mut self) -> Result<Lexeme<'t>, Fault>
+    fn raw_identifier(&mut self) -> Result<Lexeme<'t>, LexFault>
         requires { 0 < length self.old.rest.now }
         ensures on { GoesOn self.old self.new }
         ensures past { Advances self.old self.new }
@@ -258,7 +258,7 @@ impl<'t> Scanner<'t> {
         self.bump();
         let name = self.word();
         if self.rest.starts_with('"') {
-            return Err(Fault { offset: start });
+            return Err(LexFault { offset: start });
         }
         Ok(Lexeme::Ident {
             name,
@@ -267,7 +267,7 @@ impl<'t> Scanner<'t> {
     }
 
     // Passes an identifier that isn't raw.
-    fn identifier(&mut self) -> Result<Lexeme<'t>, Fault>
+    fn identifier(&mut self) -> Result<Lexeme<'t>, LexFault>
         requires { 0 < length self.old.rest.now }
         ensures on { GoesOn self.old self.new }
         ensures past { Advances self.old self.new }
@@ -276,7 +276,7 @@ impl<'t> Scanner<'t> {
         let start = self.offset();
         let name = self.word();
         if begins_literal(name, self.rest) {
-            return Err(Fault { offset: start });
+            return Err(LexFault { offset: start });
         }
         Ok(Lexeme::Ident {
             name,
@@ -287,7 +287,7 @@ impl<'t> Scanner<'t> {
     // Passes the identifier that is the suffix of a literal, where one stands here, and returns it with its length in
     // bytes, which is at most 255. One that would begin a prefixed string is a fault, as it is elsewhere. A suffix is
     // never raw.
-    fn suffix(&mut self) -> Result<(&'t str, u8), Fault>
+    fn suffix(&mut self) -> Result<(&'t str, u8), LexFault>
         ensures on { GoesOn self.old self.new }
         ensures within { IfErr result (λ fault. fault.offset ≤ self.old.total) }
     {
@@ -298,12 +298,12 @@ impl<'t> Scanner<'t> {
         let name = self.word();
         match u8::try_from(name.len()) {
             Ok(len) if !begins_literal(name, self.rest) => Ok((name, len)),
-            _ => Err(Fault { offset: start }),
+            _ => Err(LexFault { offset: start }),
         }
     }
 
     // A literal of this text, with the suffix that stands here.
-    fn literal(&mut self, text: &'t str, kind: LitKind) -> Result<Lexeme<'t>, Fault>
+    fn literal(&mut self, text: &'t str, kind: LitKind) -> Result<Lexeme<'t>, LexFault>
         ensures on { GoesOn self.old self.new }
         ensures within { IfErr result (λ fault. fault.offset ≤ self.old.total) }
     {
@@ -334,7 +334,7 @@ impl<'t> Scanner<'t> {
     }
 
     // Passes a string, or a char, between two of that quote, with its suffix.
-    fn string(&mut self, quote: char, kind: LitKind) -> Result<Lexeme<'t>, Fault>
+    fn string(&mut self, quote: char, kind: LitKind) -> Result<Lexeme<'t>, LexFault>
         requires { 0 < length self.old.rest.now }
         ensures on { GoesOn self.old self.new }
         ensures past { Advances self.old self.new }
@@ -343,7 +343,7 @@ impl<'t> Scanner<'t> {
         let start = self.offset();
         self.bump();
         let Some(text) = self.quoted(quote) else {
-            return Err(Fault { offset: start });
+            return Err(LexFault { offset: start });
         };
         self.literal(text, kind)
     }
@@ -361,7 +361,7 @@ impl<'t> Scanner<'t> {
     }
 
     // Passes the `'` of a lifetime, whose identifier is the next token.
-    fn lifetime(&mut self) -> Result<Lexeme<'t>, Fault>
+    fn lifetime(&mut self) -> Result<Lexeme<'t>, LexFault>
         requires { 0 < length self.old.rest.now }
         ensures on { GoesOn self.old self.new }
         ensures past { Advances self.old self.new }
@@ -370,7 +370,7 @@ impl<'t> Scanner<'t> {
         let start = self.offset();
         self.bump();
         if !self.rest.starts_with(starts_identifier) {
-            return Err(Fault { offset: start });
+            return Err(LexFault { offset: start });
         }
         Ok(Lexeme::Punct {
             char: '\'',
@@ -379,7 +379,7 @@ impl<'t> Scanner<'t> {
     }
 
     // Passes what begins with the `'` that stands here: a char with its suffix, or the first token of a lifetime.
-    fn quote(&mut self) -> Result<Lexeme<'t>, Fault>
+    fn quote(&mut self) -> Result<Lexeme<'t>, LexFault>
         requires { 0 < length self.old.rest.now }
         ensures on { GoesOn self.old self.new }
         ensures past { Advances self.old self.new }
@@ -450,7 +450,7 @@ impl<'t> Scanner<'t> {
     }
 
     // Passes a number with its suffix.
-    fn number(&mut self) -> Result<Lexeme<'t>, Fault>
+    fn number(&mut self) -> Result<Lexeme<'t>, LexFault>
         requires { 0 < length self.old.rest.now }
         ensures on { GoesOn self.old self.new }
         ensures past { Advances self.old self.new }
@@ -473,7 +473,7 @@ impl<'t> Scanner<'t> {
     }
 
     // Passes a punct, or one side of a group. Another character is a fault.
-    fn sign(&mut self) -> Result<Lexeme<'t>, Fault>
+    fn sign(&mut self) -> Result<Lexeme<'t>, LexFault>
         requires { 0 < length self.old.rest.now }
         ensures on { GoesOn self.old self.new }
         ensures past { Advances self.old self.new }
@@ -491,13 +491,13 @@ impl<'t> Scanner<'t> {
                 char,
                 spacing: self.spacing(),
             }),
-            _ => Err(Fault { offset: start }),
+            _ => Err(LexFault { offset: start }),
         }
     }
 
-    /// Consumes white space, comments and the next token, and returns the token; `None` at the end of the text. `Fault` if what
+    /// Consumes white space, comments and the next token, and returns the token; `None` at the end of the text. `LexFault` if what
     /// is there isn't a token or a comment.
-    pub fn token(&mut self) -> Result<Option<Token<'t>>, Fault>
+    pub fn token(&mut self) -> Result<Option<Token<'t>>, LexFault>
         ensures on { GoesOn self.old self.new }
         ensures past { IfOk result (λ token. IsSome token
             → length self.new.rest.now < length self.old.rest.now) }

@@ -1,6 +1,6 @@
 -- What is reported of each fault of a template, in rust-analyzer's words.
 use Rattle.std.specs.Prelude.{List, ℕ, ◌++◌, codes}
-use Rattle.mbe_transcriber.specs.declared.transcriber.fault.Fault as met
+use Rattle.mbe_transcriber.specs.declared.transcriber.fault.WritingFault as met
 use Rattle.mbe_transcriber.specs.declared.transcriber.fault.FaultKind as met_kind
 use Rattle.mbe_semantics.specs.Syntax.Op.{Name}
 use Rattle.mbe_semantics.specs.Expansion.Error.{ExpandErrorKind, binding_error, unresolved_binding, limit_exceeded, unexpected_token, ExpandError}
@@ -20,5 +20,5 @@ kind_of_fault met_kind.TheVariants.NoIdentifier = binding_error (codes "`${conca
 kind_of_fault met_kind.TheVariants.Limit = limit_exceeded
 kind_of_fault met_kind.TheVariants.NoRound = unexpected_token
 
-abbrev pub error_of_fault : {A : Type 0} → met.Fault A → ExpandError
+abbrev pub error_of_fault : {A : Type 0} → met.WritingFault A → ExpandError
 error_of_fault fault = record { span = fault.span; kind = kind_of_fault fault.kind }

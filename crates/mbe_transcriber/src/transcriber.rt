@@ -26,7 +26,7 @@ mod following;
 mod fragments;
 
 use crate::transcriber::expressions::{find_ignored, write_concat, write_count, write_number};
-use crate::transcriber::fault::Fault;
+use crate::transcriber::fault::WritingFault;
 use crate::transcriber::following::{
     Simple, index_at, kept_rounds, rounds_at, rounds_of, simple_at,
 };
@@ -36,12 +36,10 @@ use mbe_log::bindings::Bindings;
 use mbe_ops::ops::{MetaTemplate, Op, Separator};
 use mbe_semantics::kinds::RepeatKind;
 use mbe_semantics::rounds::Level;
-use mbe_tt::buffer::TopSubtree;
-use mbe_tt::builder::TopSubtreeBuilder;
 use mbe_tt::grammar::FragmentGrammar;
 use mbe_tt::span::Span;
 use mbe_tt::symbol::Symbol;
-use mbe_tt::tt::{Delimiter, Ident, Leaf, Literal, Punct};
+use mbe_tt::tt::{Delimiter, Ident, Leaf, Literal, Punct, TopSubtree, TopSubtreeBuilder};
 use std::alloc::{AllocError, Allocator};
 
 /// What a template is written with.
@@ -105,7 +103,7 @@ fn expand_ops<'t, A: Allocator + Copy, G: FragmentGrammar, M: Fn(Span) -> Span +
     ops: &'t [Op<A>],
     path: &[Level],
     builder: &mut TopSubtreeBuilder<A>,
-) -> Result<Option<Fault<'t, A>>, AllocError>
+) -> Result<Option<WritingFault<'t, A>>, AllocError>
     requires marks { MayMark (M.pre ctx.now.marker) }
     requires some_group { 0 < length builder.old }
     ensures { IfOk result (λ fault. Wrote (is_some fault)
@@ -128,7 +126,7 @@ fn expand_op<'t, A: Allocator + Copy, G: FragmentGrammar, M: Fn(Span) -> Span + 
     op: &'t Op<A>,
     path: &[Level],
     builder: &mut TopSubtreeBuilder<A>,
-) -> Result<Option<Fault<'t, A>>, AllocError>
+) -> Result<Option<WritingFault<'t, A>>, AllocError>
     requires marks { MayMark (M.pre ctx.now.marker) }
     requires some_group { 0 < length builder.old }
     ensures { IfOk result (λ fault. Wrote (is_some fault)
@@ -165,7 +163,7 @@ fn expand_group<'t, A: Allocator + Copy, G: FragmentGrammar, M: Fn(Span) -> Span
     body: &'t [Op<A>],
     path: &[Level],
     builder: &mut TopSubtreeBuilder<A>,
-) -> Result<Option<Fault<'t, A>>, AllocError>
+) -> Result<Option<WritingFault<'t, A>>, AllocError>
     requires marks { MayMark (M.pre ctx.now.marker) }
     requires some_group { 0 < length builder.old }
     ensures { IfOk result (λ fault. Wrote (is_some fault)
@@ -190,7 +188,7 @@ fn expand_repeat<'t, A: Allocator + Copy, G: FragmentGrammar, M: Fn(Span) -> Spa
     separator: Option<&Separator<A>>,
     path: &[Level],
     builder: &mut TopSubtreeBuilder<A>,
-) -> Result<Option<Fault<'t, A>>, AllocError>
+) -> Result<Option<WritingFault<'t, A>>, AllocError>
     requires marks { MayMark (M.pre ctx.now.marker) }
     requires some_group { 0 < length builder.old }
     ensures { let whole = repetition (ops_of body.now)
@@ -203,7 +201,7 @@ fn expand_repeat<'t, A: Allocator + Copy, G: FragmentGrammar, M: Fn(Span) -> Spa
     let rounds = match kept_rounds(kind, rounds_of(ctx.bindings, path, body)) {
         Ok(rounds) => rounds,
         Err(kind) => {
-            return Ok(Some(Fault {
+            return Ok(Some(WritingFault {
                 span: ctx.call_site,
                 kind,
             }));
@@ -288,7 +286,7 @@ fn write_var<'t, A: Allocator + Copy, G, M: Fn(Span) -> Span + Copy>(
     id: Span,
     path: &[Level],
     builder: &mut TopSubtreeBuilder<A>,
-) -> Result<Option<Fault<'t, A>>, AllocError>
+) -> Result<Option<WritingFault<'t, A>>, AllocError>
     requires marks { MayMark (M.pre ctx.now.marker) }
     requires some_group { 0 < length builder.old }
     ensures { IfOk result (λ fault. Wrote (is_some fault)

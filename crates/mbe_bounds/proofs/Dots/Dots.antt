@@ -10,7 +10,7 @@ use Rattle.mbe_semantics.specs.Syntax.Op.{Separator, Op, token, group, variable,
 use Rattle.mbe_semantics.specs.Readings.Item.{Item, grouped, rounds, Items, no_items, item, Rounds, no_rounds, round, item_width, skipped}
 use Rattle.mbe_semantics.specs.Readings.Input.{Input}
 use Rattle.mbe_semantics.specs.Readings.Reading.{ReadsFirst, Frame, inside, within, Beginning, dot, body_of, start_of, Within, Begins, At}
-use Rattle.mbe_semantics.specs.Readings.Steps.{matched_by, bound_by, skip_of, again_of, if_none, empty_of, idle, Move, move, if_some, over_of, when, round_move, separator_move, next}
+use Rattle.mbe_semantics.specs.Readings.Steps.{matched_by, bound_as, skip_of, again_of, if_none, empty_of, idle, Move, move, if_some, over_of, when, round_move, separator_move, next}
 use Rattle.mbe_semantics.specs.Matching.Lists.{In}
 use Rattle.mbe_semantics.specs.Syntax.Nullable.{Checked}
 use Rattle.mbe_semantics.specs.Laws.Lawful.{Lawful}
@@ -80,7 +80,7 @@ idle_dots i q (dot no_ops is (within b s k rest js rs ∷ up)) =
     (dot b no_items (within b s k rest js (round rs is 0) ∷ up)) (dot b no_items (within b s k rest no_items (round no_rounds no_items 0) ∷ blank up))
     (dot rest (item js (rounds rs is)) up) (dot rest (item no_items (rounds no_rounds no_items)) (blank up)) (same_within b s k rest js no_items (round rs is 0) (round no_rounds no_items 0) up) (same_up rest (item js (rounds rs is)) (item no_items (rounds no_rounds no_items)) up)
 idle_dots i q (dot (op (token t) rest) is up) = empty_dots (matched_by (i.token_at t q)) rest is up
-idle_dots i q (dot (op (variable name kind span) rest) is up) = empty_dots (bound_by name (i.fragment_at kind q)) rest is up
+idle_dots i q (dot (op (variable name kind span) rest) is up) = empty_dots (bound_as name (i.fragment_at kind q)) rest is up
 idle_dots i q (dot (op (expression e) rest) is up) = refl
 idle_dots i q (dot (op (group d b) rest) is up) = refl
 idle_dots i q (dot (op (repetition b s k) rest) is up) =
@@ -129,7 +129,7 @@ next_dot i q (dot no_ops is []) = refl
 next_dot i q (dot no_ops is (inside d b rest js ∷ up)) = when_dot (i.closes_at q) _ _ (same_up rest (item js (grouped is)) (item no_items (grouped no_items)) up)
 next_dot i q (dot no_ops is (within b s k rest js rs ∷ up)) = separator_dot i q s k b rest js rs up is
 next_dot i q (dot (op (token t) rest) is up) = over_dot false (matched_by (i.token_at t q)) rest is up
-next_dot i q (dot (op (variable name kind span) rest) is up) = over_dot true (bound_by name (i.fragment_at kind q)) rest is up
+next_dot i q (dot (op (variable name kind span) rest) is up) = over_dot true (bound_as name (i.fragment_at kind q)) rest is up
 next_dot i q (dot (op (expression e) rest) is up) = refl
 next_dot i q (dot (op (group d b) rest) is up) =
     when_dot (i.opens_at d.kind q) _ _ (ap (λ v. dot b no_items (inside d b rest no_items ∷ v)) (sym (blank_twice up)))

@@ -10,7 +10,7 @@ use Rattle.mbe_semantics.specs.Syntax.Op.{Separator, token, group, variable, rep
 use Rattle.mbe_semantics.specs.Readings.Item.{Item, Items, item, item_width, no_items, no_rounds, skipped}
 use Rattle.mbe_semantics.specs.Readings.Input.{Input, input_of}
 use Rattle.mbe_semantics.specs.Readings.Reading.{Frame, inside, within, Beginning, dot, At, start, Reading}
-use Rattle.mbe_semantics.specs.Readings.Steps.{matched_by, bound_by, skip_of, again_of, if_none, empty_of, idle, Move, move, next}
+use Rattle.mbe_semantics.specs.Readings.Steps.{matched_by, bound_as, skip_of, again_of, if_none, empty_of, idle, Move, move, next}
 use Rattle.mbe_semantics.specs.Matching.Lists.{In}
 use Rattle.mbe_semantics.specs.Matching.Story.{story}
 use Rattle.mbe_semantics.specs.Syntax.Nullable.{Checked}
@@ -64,7 +64,7 @@ idle_short i q (dot no_ops is []) = omega arith
 idle_short i q (dot no_ops is (inside d b rest js ∷ up)) = omega arith
 idle_short i q (dot no_ops is (within b s k rest js rs ∷ up)) = short_again s k _ _
 idle_short i q (dot (op (token t) rest) is up) = short_empty (matched_by (i.token_at t q)) rest is up
-idle_short i q (dot (op (variable name kind span) rest) is up) = short_empty (bound_by name (i.fragment_at kind q)) rest is up
+idle_short i q (dot (op (variable name kind span) rest) is up) = short_empty (bound_as name (i.fragment_at kind q)) rest is up
 idle_short i q (dot (op (expression e) rest) is up) = omega arith
 idle_short i q (dot (op (group d b) rest) is up) = omega arith
 idle_short i q (dot (op (repetition b s k) rest) is up) =

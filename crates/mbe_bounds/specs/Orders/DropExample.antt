@@ -11,7 +11,7 @@ use Rattle.mbe_semantics.specs.Readings.Reading.{Beginning, dot, start}
 use Rattle.mbe_semantics.specs.Syntax.Nullable.{Checked}
 use Rattle.mbe_semantics.specs.Matching.Held.{held}
 use Rattle.mbe_semantics.specs.Matching.Outline.{Outline, outline, erase}
-use Rattle.mbe_semantics.specs.Bindings.Account.{bound_by}
+use Rattle.mbe_semantics.specs.Bindings.Account.{environment_of_account}
 use Rattle.mbe_semantics.specs.Bindings.Environment.{Environment, empty, list, value, no_values}
 use Rattle.mbe_semantics.specs.Readings.Verdict.{stuck}
 use Rattle.mbe_semantics.specs.Matching.Dots.{dots}
@@ -33,7 +33,7 @@ fails i q (dot (op _ rest) is up) = false
 
 -- what is bound in its innermost repetition
 abbrev pub bound_now : Outline → Environment
-bound_now (outline rest a up) = bound_by a
+bound_now (outline rest a up) = environment_of_account a
 
 abbrev pub bound_in : Option Beginning → Option Environment
 bound_in None = None

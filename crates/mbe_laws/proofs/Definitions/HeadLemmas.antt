@@ -132,18 +132,18 @@ head_shorter mode (leaf (punct p) rest) = go (p.char == 36)
     go true = dollar_shorter mode p (1 + flat_len rest) rest (omega arith)
     go false = puncts_shorter p rest
 
-module _ (Answers : SyntaxContext → Edition → Type 0) (some : HasSomeEdition Answers) where
-  specifies : (specifier : Ident) → (kind : Option MetaVarKind) × Specifies Answers specifier kind
+module _ (HasEdition : SyntaxContext → Edition → Type 0) (some : HasSomeEdition HasEdition) where
+  specifies : (specifier : Ident) → (kind : Option MetaVarKind) × Specifies HasEdition specifier kind
   specifies s = go (is_text s.sym (codes "pat")) refl (is_text s.sym (codes "expr")) refl (some s.span.ctx)
     where
-      go : (a : Bool) → is_text s.sym (codes "pat") ≡ a → (b : Bool) → is_text s.sym (codes "expr") ≡ b → (e : Edition) × Answers s.span.ctx e →
-          (kind : Option MetaVarKind) × Specifies Answers s kind
+      go : (a : Bool) → is_text s.sym (codes "pat") ≡ a → (b : Bool) → is_text s.sym (codes "expr") ≡ b → (e : Edition) × HasEdition s.span.ctx e →
+          (kind : Option MetaVarKind) × Specifies HasEdition s kind
       go true p b q e = (_, dated_pat e.0 p e.1)
       go false p true q e = (_, dated_expr e.0 q e.1)
       go false p false q e = (_, undated p q)
 
   abbrev Read : Mode → Forest → Type 0
-  Read mode f = ((os : Ops) × Template Answers mode f os) ⊎ ((fault : Fault) × TemplateFault Answers mode fault f)
+  Read mode f = ((os : Ops) × Template HasEdition mode f os) ⊎ ((fault : Fault) × TemplateFault HasEdition mode fault f)
 
   read : (mode : Mode) (n : ℕ) (f : Forest) → flat_len f < n → Read mode f
   read mode zero f h = absurd (omega (arith, h))
@@ -170,5 +170,5 @@ module _ (Answers : SyntaxContext → Edition → Type 0) (some : HasSomeEdition
           (λ p. inr (p.0, behind_repetition f inside rest t repeat b.0 q b.1 p.1)) (ih rest s.1))
           (λ w. inr (w.0, in_repetition f inside rest t repeat q w.1)) (ih inside s.0)
 
-pub has_ops_or_fault : (Answers : SyntaxContext → Edition → Type 0) → HasOpsOrFault Answers
-has_ops_or_fault Answers some mode f = read Answers some mode (suc (flat_len f)) f (omega arith)
+pub has_ops_or_fault : (HasEdition : SyntaxContext → Edition → Type 0) → HasOpsOrFault HasEdition
+has_ops_or_fault HasEdition some mode f = read HasEdition some mode (suc (flat_len f)) f (omega arith)

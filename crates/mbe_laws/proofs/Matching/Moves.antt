@@ -7,7 +7,7 @@ use Rattle.mbe_semantics.specs.Syntax.Op.{Name, Token, Separator, token, group, 
 use Rattle.mbe_semantics.specs.Readings.Item.{Fragment, Item, matched, bound, Items, item, Rounds, item_width}
 use Rattle.mbe_semantics.specs.Readings.Input.{Input}
 use Rattle.mbe_semantics.specs.Readings.Reading.{Frame, inside, within, Beginning, dot}
-use Rattle.mbe_semantics.specs.Readings.Steps.{matched_by, bound_by, Move, move, if_some, over_of, when, round_move, separator_move, next}
+use Rattle.mbe_semantics.specs.Readings.Steps.{matched_by, bound_as, Move, move, if_some, over_of, when, round_move, separator_move, next}
 use Rattle.mbe_semantics.specs.Laws.Lawful.{Lawful}
 use Rattle.mbe_semantics.proofs.Taken.{matched-from, bound-from}
 
@@ -33,7 +33,7 @@ token_takes i len q w t x e =
     let r : (n : ℕ) × (i.token_at t q ≡ Some n) × (matched n ≡ x) = matched-from (i.token_at t q) x e in
     subst (λ v. q + item_width v ≤ len) r.2 (w.token_end t q r.0 r.1)
 
-variable_takes : (i : Input) (len q : ℕ) → Lawful i len → (name : Name) (kind : Option MetaVarKind) (x : Item) → bound_by name (i.fragment_at kind q) ≡ Some x → 0 < item_width x → q + item_width x ≤ len
+variable_takes : (i : Input) (len q : ℕ) → Lawful i len → (name : Name) (kind : Option MetaVarKind) (x : Item) → bound_as name (i.fragment_at kind q) ≡ Some x → 0 < item_width x → q + item_width x ≤ len
 variable_takes i len q w name kind x e l =
     let r : (v : Fragment) × (i.fragment_at kind q ≡ Some v) × (bound name v ≡ x) = bound-from name (i.fragment_at kind q) x e in
     (subst (λ v. 0 < item_width v → q + item_width v ≤ len) r.2 (λ m. w.fragment_end kind q r.0 r.1 m)) l
@@ -55,7 +55,7 @@ next_takes i len q w (dot no_ops is []) = tt
 next_takes i len q w (dot no_ops is (inside d b rest js ∷ up)) = when_takes len q (i.closes_at q) _ (w.closes_end q)
 next_takes i len q w (dot no_ops is (within b s k rest js rs ∷ up)) = separator_takes i len q w s k b rest js rs up is
 next_takes i len q w (dot (op (token t) rest) is up) = over_takes len q false (matched_by (i.token_at t q)) rest is up (λ x e l. token_takes i len q w t x e)
-next_takes i len q w (dot (op (variable name kind span) rest) is up) = over_takes len q true (bound_by name (i.fragment_at kind q)) rest is up (λ x e l. variable_takes i len q w name kind x e l)
+next_takes i len q w (dot (op (variable name kind span) rest) is up) = over_takes len q true (bound_as name (i.fragment_at kind q)) rest is up (λ x e l. variable_takes i len q w name kind x e l)
 next_takes i len q w (dot (op (expression e) rest) is up) = tt
 next_takes i len q w (dot (op (group d b) rest) is up) = when_takes len q (i.opens_at d.kind q) _ (w.opens_end d.kind q)
 next_takes i len q w (dot (op (repetition b s k) rest) is up) = tt

@@ -7,7 +7,7 @@ use Rattle.mbe_semantics.specs.Syntax.Op.{Name, Separator, token, group, variabl
 use Rattle.mbe_semantics.specs.Readings.Item.{Fragment, Item, matched, bound, skipped, Items, no_items, item, Rounds, no_rounds, item_width, items_width, rounds_width}
 use Rattle.mbe_semantics.specs.Readings.Input.{Input}
 use Rattle.mbe_semantics.specs.Readings.Reading.{Frame, inside, within, Beginning, dot, start_of, place}
-use Rattle.mbe_semantics.specs.Readings.Steps.{matched_by, bound_by, skip_of, again_of, if_none, empty_of, idle, Move, if_some, over_of, when, round_move, separator_move, next}
+use Rattle.mbe_semantics.specs.Readings.Steps.{matched_by, bound_as, skip_of, again_of, if_none, empty_of, idle, Move, if_some, over_of, when, round_move, separator_move, next}
 use Rattle.mbe_semantics.specs.Matching.Outline.{edge, Outline, outline, advance, written, skipped as skipped_names, base_of, edges_of, erase, erase_move, empty_by, empty_bound, idle_of, if_some_advance, over_advance, bound_advance, round_advance, separator_advance, when_advance, next_of, finished_of, rank, weight}
 use Rattle.mbe_semantics.specs.Bindings.Account.{no_commands, no_account, pushed_default, pushed_nested, rounds_of_items, commands_of}
 use Rattle.mbe_semantics.specs.Matching.Held.{completed}
@@ -26,7 +26,7 @@ map_matched : (w : Option ℕ) (rest : Ops) (is : Items) (up : List Frame) → m
 map_matched None rest is up = refl
 map_matched (Some n) rest is up = map_if_none n (dot rest (item is (matched n)) up)
 
-map_bound : (name : Name) (w : Option Fragment) (rest : Ops) (is : Items) (up : List Frame) → map erase (empty_of (bound_by name w) rest is up) ≡ empty_bound name w rest (written is (base_of up)) (edges_of up)
+map_bound : (name : Name) (w : Option Fragment) (rest : Ops) (is : Items) (up : List Frame) → map erase (empty_of (bound_as name w) rest is up) ≡ empty_bound name w rest (written is (base_of up)) (edges_of up)
 map_bound name None rest is up = refl
 map_bound name (Some x) rest is up = map_if_none (flat_len x.trees) (dot rest (item is (bound name x)) up)
 
@@ -66,7 +66,7 @@ map_over_matched : (w : Option ℕ) (rest : Ops) (is : Items) (up : List Frame) 
 map_over_matched None rest is up = refl
 map_over_matched (Some n) rest is up = map_if_some false n (dot rest (item is (matched n)) up)
 
-map_over_bound : (name : Name) (w : Option Fragment) (rest : Ops) (is : Items) (up : List Frame) → option_map erase_move (over_of true (bound_by name w) rest is up) ≡ bound_advance name w rest (written is (base_of up)) (edges_of up)
+map_over_bound : (name : Name) (w : Option Fragment) (rest : Ops) (is : Items) (up : List Frame) → option_map erase_move (over_of true (bound_as name w) rest is up) ≡ bound_advance name w rest (written is (base_of up)) (edges_of up)
 map_over_bound name None rest is up = refl
 map_over_bound name (Some x) rest is up = map_if_some true (flat_len x.trees) (dot rest (item is (bound name x)) up)
 
@@ -134,7 +134,7 @@ idle_short i q (dot no_ops is []) = omega arith
 idle_short i q (dot no_ops is (inside d b rest js ∷ up)) = omega arith
 idle_short i q (dot no_ops is (within b s k rest js rs ∷ up)) = short_again s k _ _
 idle_short i q (dot (op (token t) rest) is up) = short_empty (matched_by (i.token_at t q)) rest is up
-idle_short i q (dot (op (variable name kind span) rest) is up) = short_empty (bound_by name (i.fragment_at kind q)) rest is up
+idle_short i q (dot (op (variable name kind span) rest) is up) = short_empty (bound_as name (i.fragment_at kind q)) rest is up
 idle_short i q (dot (op (expression x) rest) is up) = omega arith
 idle_short i q (dot (op (group d b) rest) is up) = omega arith
 idle_short i q (dot (op (repetition b s k) rest) is up) =

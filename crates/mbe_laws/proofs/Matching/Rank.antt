@@ -6,13 +6,13 @@ use Rattle.mbe_semantics.specs.Syntax.Op.{Separator, Op, token, group, variable,
 use Rattle.mbe_semantics.specs.Readings.Item.{Item, matched, bound, grouped, skipped, rounds, Items, no_items, item, Rounds, item_width, items_width, rounds_width}
 use Rattle.mbe_semantics.specs.Readings.Input.{Input}
 use Rattle.mbe_semantics.specs.Readings.Reading.{MaySkip, Reads, ReadsFirst, Frame, inside, within, Beginning, dot, body_of, start_of, Within, At}
-use Rattle.mbe_semantics.specs.Readings.Steps.{matched_by, bound_by, skip_of, again_of, if_none, empty_of, idle, tree}
+use Rattle.mbe_semantics.specs.Readings.Steps.{matched_by, bound_as, skip_of, again_of, if_none, empty_of, idle, tree}
 use Rattle.mbe_semantics.specs.Matching.Lists.{In}
 use Rattle.mbe_semantics.specs.Syntax.Nullable.{may_skip, is_nullable_op, is_nullable, is_unseparated, is_refused_op, is_refused, Checked}
 use Rattle.mbe_semantics.specs.Laws.Lawful.{Lawful}
 use Rattle.mbe_semantics.specs.Matching.Held.{whole, held}
 use Rattle.mbe_semantics.specs.Matching.Outline.{edges_of, ops_size, spare, edges_rank, rank}
-use Rattle.mbe_semantics.specs.Readings.Steps.{matched_by, bound_by, skip_of, again_of, if_none, empty_of, idle, tree}
+use Rattle.mbe_semantics.specs.Readings.Steps.{matched_by, bound_as, skip_of, again_of, if_none, empty_of, idle, tree}
 use Rattle.std.specs.List.{flat_map}
 use Rattle.mbe_laws.proofs.Matching.Forest.{tree-steady}
 use Rattle.mbe_laws.proofs.Matching.Sound.{idle-sound}
@@ -142,7 +142,7 @@ idle_below i pat q (dot no_ops is (within b s k rest js rs ∷ up)) w c h =
     omega arith)
     (omega arith)
 idle_below i pat q (dot (op (token t) rest) is up) w c h = below_empty q _ (matched_by (i.token_at t q)) rest is up (omega arith)
-idle_below i pat q (dot (op (variable name kind span) rest) is up) w c h = below_empty q _ (bound_by name (i.fragment_at kind q)) rest is up (omega arith)
+idle_below i pat q (dot (op (variable name kind span) rest) is up) w c h = below_empty q _ (bound_as name (i.fragment_at kind q)) rest is up (omega arith)
 idle_below i pat q (dot (op (expression e) rest) is up) w c h = λ y m. absurd m
 idle_below i pat q (dot (op (group d b) rest) is up) w c h = λ y m. absurd m
 idle_below i pat q (dot (op (repetition b s k) rest) is up) w c h =

@@ -6,7 +6,7 @@ use Rattle.mbe_semantics.specs.Syntax.Op.{Separator, token, group, variable, rep
 use Rattle.mbe_semantics.specs.Readings.Item.{Item, Items, item, item_width, items_width, rounds_width}
 use Rattle.mbe_semantics.specs.Readings.Input.{Input}
 use Rattle.mbe_semantics.specs.Readings.Reading.{MaySkip, MayRepeat, Between, Reads, Frame, inside, within, Beginning, dot, start_of, At}
-use Rattle.mbe_semantics.specs.Readings.Steps.{matched_by, bound_by, skip_of, again_of, if_none, empty_of, idle}
+use Rattle.mbe_semantics.specs.Readings.Steps.{matched_by, bound_as, skip_of, again_of, if_none, empty_of, idle}
 use Rattle.mbe_semantics.specs.Matching.Lists.{In}
 use Rattle.mbe_semantics.proofs.Taken.{matched-reads, bound-reads}
 
@@ -56,7 +56,7 @@ idle-sound i pat q (dot (op (token t) rest) is up) h =
     all_empty i pat q (matched_by (i.token_at t q)) rest is up
     (λ x e z. ((h.0.0, (token t, h.0.1, subst (λ p. Reads x i (token t) p) (sym h.1) (matched-reads i t q x e))), omega (arith, h.1, z)))
 idle-sound i pat q (dot (op (variable name kind span) rest) is up) h =
-    all_empty i pat q (bound_by name (i.fragment_at kind q)) rest is up
+    all_empty i pat q (bound_as name (i.fragment_at kind q)) rest is up
     (λ x e z. ((h.0.0, (variable name kind span, h.0.1, subst (λ p. Reads x i (variable name kind span) p) (sym h.1) (bound-reads i name kind span q x e))), omega (arith, h.1, z)))
 idle-sound i pat q (dot (op (expression e) rest) is up) h = all_none i pat q
 idle-sound i pat q (dot (op (group d b) rest) is up) h = all_none i pat q

@@ -12,7 +12,7 @@ use Rattle.mbe_semantics.specs.Syntax.Op.{Separator, Op, token, group, variable,
 use Rattle.mbe_semantics.specs.Readings.Item.{Item, matched, bound, grouped, skipped, rounds, Items, no_items, item, Rounds, no_rounds, round, item_width, items_width, rounds_width}
 use Rattle.mbe_semantics.specs.Readings.Input.{Input, input_of}
 use Rattle.mbe_semantics.specs.Readings.Reading.{ReadsFirst, Frame, inside, within, Beginning, dot, body_of, start_of, place, Within, Begins, At, start, Reads, ReadsRounds}
-use Rattle.mbe_semantics.specs.Readings.Steps.{matched_by, bound_by, skip_of, again_of, if_none, empty_of, idle, Move, move, if_some, over_of, when, round_move, separator_move, next}
+use Rattle.mbe_semantics.specs.Readings.Steps.{matched_by, bound_as, skip_of, again_of, if_none, empty_of, idle, Move, move, if_some, over_of, when, round_move, separator_move, next}
 use Rattle.mbe_semantics.specs.Matching.Lists.{In}
 use Rattle.mbe_semantics.specs.Matching.Story.{story, steps}
 use Rattle.mbe_semantics.specs.Readings.Ambiguity.{Ambiguous, GoesOn}
@@ -184,7 +184,7 @@ module _ (i : Input) (body : Ops) (s : Option Separator) (k : RepeatKind) (plain
   idle_once q (dot no_ops is (within b' s' k' rest js rs ∷ [])) y z h m a c b d = again_only s' k' _ rest _ y a c ∙ sym (again_only s' k' _ rest _ z b d)
   idle_once q (dot no_ops is (within b' s' k' rest js rs ∷ g ∷ up)) y z h m a c b d = no_deep b' s' k' rest js rs g up h.0
   idle_once q (dot (op (token t) rest) is (f ∷ up)) y z h m a c b d = empty_same (matched_by (i.token_at t q)) rest is (f ∷ up) y z a b
-  idle_once q (dot (op (variable name kind span) rest) is (f ∷ up)) y z h m a c b d = empty_same (bound_by name (i.fragment_at kind q)) rest is (f ∷ up) y z a b
+  idle_once q (dot (op (variable name kind span) rest) is (f ∷ up)) y z h m a c b d = empty_same (bound_as name (i.fragment_at kind q)) rest is (f ∷ up) y z a b
   idle_once q (dot (op (group _ b') rest) is (f ∷ up)) y z h m a c b d = absurd a
   idle_once q (dot (op (repetition b' s' k') rest) is (f ∷ up)) y z h m a c b d = no_inner b' s' k' rest is f up h
   idle_once q (dot (op (expression e) rest) is (f ∷ up)) y z h m a c b d = absurd a
@@ -195,7 +195,7 @@ module _ (i : Input) (body : Ops) (s : Option Separator) (k : RepeatKind) (plain
   idle_or_next q (dot no_ops is (within b' s' k' rest js rs ∷ [])) y mv h m a c e = again_move i q s' k' _ rest _ y b' js is rs mv a c e
   idle_or_next q (dot no_ops is (within b' s' k' rest js rs ∷ g ∷ up)) y mv h m a c e = no_deep b' s' k' rest js rs g up h.0
   idle_or_next q (dot (op (token t) rest) is (f ∷ up)) y mv h m a c e = empty_over false (matched_by (i.token_at t q)) rest is (f ∷ up) y mv a e
-  idle_or_next q (dot (op (variable name kind span) rest) is (f ∷ up)) y mv h m a c e = empty_over true (bound_by name (i.fragment_at kind q)) rest is (f ∷ up) y mv a e
+  idle_or_next q (dot (op (variable name kind span) rest) is (f ∷ up)) y mv h m a c e = empty_over true (bound_as name (i.fragment_at kind q)) rest is (f ∷ up) y mv a e
   idle_or_next q (dot (op (group _ b') rest) is (f ∷ up)) y mv h m a c e = absurd a
   idle_or_next q (dot (op (repetition b' s' k') rest) is (f ∷ up)) y mv h m a c e = no_inner b' s' k' rest is f up h
   idle_or_next q (dot (op (expression _) rest) is (f ∷ up)) y mv h m a c e = absurd a
@@ -213,7 +213,7 @@ module _ (i : Input) (body : Ops) (s : Option Separator) (k : RepeatKind) (plain
   next_fine q (dot no_ops is (within b s' k' rest js rs ∷ [])) h m = separator_fine q s' k' b rest js rs is
   next_fine q (dot no_ops is (within b s' k' rest js rs ∷ g ∷ up)) h m = no_deep b s' k' rest js rs g up h.0
   next_fine q (dot (op (token t) rest) is (f ∷ up)) h m = over_fine false (matched_by (i.token_at t q)) rest is (f ∷ up)
-  next_fine q (dot (op (variable name kind span) rest) is (f ∷ up)) h m = over_fine true (bound_by name (i.fragment_at kind q)) rest is (f ∷ up)
+  next_fine q (dot (op (variable name kind span) rest) is (f ∷ up)) h m = over_fine true (bound_as name (i.fragment_at kind q)) rest is (f ∷ up)
   next_fine q (dot (op (group d b) rest) is (f ∷ up)) h m = when_fine (outer (f ∷ up)) (i.opens_at d.kind q) _ (omega arith)
   next_fine q (dot (op (repetition b s' k') rest) is (f ∷ up)) h m = tt
   next_fine q (dot (op (expression e) rest) is (f ∷ up)) h m = tt
@@ -230,7 +230,7 @@ module _ (i : Input) (body : Ops) (s : Option Separator) (k : RepeatKind) (plain
   idle_count q (dot no_ops is (within b' s' k' rest js rs ∷ [])) y h m a c = again_count s' k' b' rest js _ is rs y a c
   idle_count q (dot no_ops is (within b' s' k' rest js rs ∷ g ∷ up)) y h m a c = no_deep b' s' k' rest js rs g up h.0
   idle_count q (dot (op (token t) rest) is (f ∷ up)) y h m a c = let e = empty_up (matched_by (i.token_at t q)) rest is (f ∷ up) y a in omega (arith, e)
-  idle_count q (dot (op (variable name kind span) rest) is (f ∷ up)) y h m a c = let e = empty_up (bound_by name (i.fragment_at kind q)) rest is (f ∷ up) y a in omega (arith, e)
+  idle_count q (dot (op (variable name kind span) rest) is (f ∷ up)) y h m a c = let e = empty_up (bound_as name (i.fragment_at kind q)) rest is (f ∷ up) y a in omega (arith, e)
   idle_count q (dot (op (group _ b') rest) is (f ∷ up)) y h m a c = absurd a
   idle_count q (dot (op (repetition b' s' k') rest) is (f ∷ up)) y h m a c = no_inner b' s' k' rest is f up h
   idle_count q (dot (op (expression e) rest) is (f ∷ up)) y h m a c = absurd a

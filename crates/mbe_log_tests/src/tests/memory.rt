@@ -1,9 +1,8 @@
 use crate::calls::{Book, Call, What, apply, built, names};
 use mbe_log::log::BindingLog;
-use mbe_tt::buffer::TopSubtree;
 use mbe_tt::span::{DelimSpan, Span};
 use mbe_tt::symbol::Symbol;
-use mbe_tt::view::TokenTreesView;
+use mbe_tt::tt::{TokenTreesView, TopSubtree};
 use refusing::Refusing;
 use std::alloc::{AllocError, Allocator};
 use std::test::Fail;

@@ -1,8 +1,8 @@
 use crate::calls::{Book, Call, What, apply, built, names};
 use crate::model;
 use mbe_log::log::BindingLog;
-use mbe_tt::buffer::TopSubtree;
 use mbe_tt::span::{DelimSpan, Span};
+use mbe_tt::tt::TopSubtree;
 use std::alloc::Global;
 use std::test::Fail;
 

@@ -8,17 +8,16 @@ ghost use Rattle.mbe_parser.specs.Reader.{NotExpression};
 ghost use Rattle.mbe_semantics.specs.Syntax.Template.{expression_of, arguments_of, ignore_of, count_of, concat_of, dollar_name, depth_of, depth_behind_comma, elements_of, elements_behind_comma, element_before};
 ghost use Rattle.mbe_ops.specs.Views.{op_of, element_seen};
 
-use mbe_errors::error::{Fault, ReadError};
+use mbe_errors::error::{ReadError, SyntaxFault};
 use mbe_ops::ops::{ConcatMetaVarExprElem, Op};
-use mbe_tt::iter::{TtElement, TtIter};
 use mbe_tt::span::Span;
-use mbe_tt::tt::{DelimiterKind, Ident, Leaf, Literal};
+use mbe_tt::tt::{DelimiterKind, Ident, Leaf, Literal, TtElement, TtIter};
 use std::alloc::Allocator;
 
 /// Reads what stands between the braces of `${..}`: `ignore($x)`, `index(d)`, `len(d)`,
 /// `count($x)`, `count($x, d)` or `concat(e, e, ..)`. What follows the arguments isn't looked at.
 ///
-/// `Err` is `Fault::InvalidExpression` where the trees are none of these, or `Memory` if out of
+/// `Err` is `SyntaxFault::InvalidExpression` where the trees are none of these, or `Memory` if out of
 /// memory. The forms are those of the unstable features `macro_metavar_expr` and
 /// `macro_metavar_expr_concat`, as rust-analyzer reads them.
 pub fn parse_metavar_expr<A: Allocator + Copy>(
@@ -29,7 +28,7 @@ pub fn parse_metavar_expr<A: Allocator + Copy>(
         ≡ Some (op_of o)) }
     ensures fault { IfErr result (λ e. NotExpression e (expression_of src.entry)) }
 {
-    let (func, args) = func_and_args(src).ok_or(Fault::InvalidExpression)?;
+    let (func, args) = func_and_args(src).ok_or(SyntaxFault::InvalidExpression)?;
     parse_args(alloc, func, args)
 }
 
@@ -63,15 +62,15 @@ fn parse_args<A: Allocator + Copy>(
         "ignore" => parse_ignore(args),
         "count" => parse_count(args),
         "index" => {
-            let depth = parse_depth(args).ok_or(Fault::InvalidExpression)?;
+            let depth = parse_depth(args).ok_or(SyntaxFault::InvalidExpression)?;
             Ok(Op::Index { depth })
         }
         "len" => {
-            let depth = parse_depth(args).ok_or(Fault::InvalidExpression)?;
+            let depth = parse_depth(args).ok_or(SyntaxFault::InvalidExpression)?;
             Ok(Op::Len { depth })
         }
         "concat" => parse_concat(alloc, func.span, args),
-        _ => Err(ReadError::Fault(Fault::InvalidExpression)),
+        _ => Err(ReadError::Fault(SyntaxFault::InvalidExpression)),
     }
 }
 
@@ -82,9 +81,9 @@ fn parse_ignore<A: Allocator>(args: TtIter<'_, A>) -> Result<Op<A>, ReadError>
     ensures fault { IfErr result (λ e. NotExpression e (ignore_of args.entry)) }
 {
     let mut args = args;
-    let name = eat_name(&mut args).ok_or(Fault::InvalidExpression)?;
+    let name = eat_name(&mut args).ok_or(SyntaxFault::InvalidExpression)?;
     if !args.is_empty() {
-        return Err(ReadError::Fault(Fault::InvalidExpression));
+        return Err(ReadError::Fault(SyntaxFault::InvalidExpression));
     }
     Ok(Op::Ignore {
         name: name.sym.clone()?,
@@ -99,8 +98,8 @@ fn parse_count<A: Allocator>(args: TtIter<'_, A>) -> Result<Op<A>, ReadError>
     ensures fault { IfErr result (λ e. NotExpression e (count_of args.entry)) }
 {
     let mut args = args;
-    let name = eat_name(&mut args).ok_or(Fault::InvalidExpression)?;
-    let depth = parse_depth_behind_comma(args).ok_or(Fault::InvalidExpression)?;
+    let name = eat_name(&mut args).ok_or(SyntaxFault::InvalidExpression)?;
+    let depth = parse_depth_behind_comma(args).ok_or(SyntaxFault::InvalidExpression)?;
     Ok(Op::Count {
         name: name.sym.clone()?,
         depth,
@@ -165,7 +164,7 @@ fn parse_concat<A: Allocator + Copy>(
 {
     let elements = parse_elements(alloc, args)?;
     if elements.len() < 2 {
-        return Err(ReadError::Fault(Fault::InvalidExpression));
+        return Err(ReadError::Fault(SyntaxFault::InvalidExpression));
     }
     Ok(Op::Concat { elements, span })
 }
@@ -197,7 +196,8 @@ fn eat_element<A: Allocator>(src: &mut TtIter<'_, A>) -> Result<ConcatMetaVarExp
 {
     let element = parse_element(src)?;
     if !src.is_empty() {
-        src.expect_comma().map_err(|()| Fault::InvalidExpression)?;
+        src.expect_comma()
+            .map_err(|()| SyntaxFault::InvalidExpression)?;
     }
     Ok(element)
 }
@@ -217,7 +217,7 @@ fn parse_element<A: Allocator>(
     }
     let is_var = src.expect_dollar().is_ok();
     let Ok(ident) = src.expect_ident_or_underscore() else {
-        return Err(ReadError::Fault(Fault::InvalidExpression));
+        return Err(ReadError::Fault(SyntaxFault::InvalidExpression));
     };
     let ident = ident.clone()?;
     if is_var {

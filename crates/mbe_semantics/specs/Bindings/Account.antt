@@ -104,8 +104,8 @@ abbrev mutual
   run_rounds (command_round rs cs) env = add_round_in (round_count rs) (run cs []) (run_rounds rs env)
 
 -- the environment of an account: that of its current list
-abbrev pub bound_by : Account → Environment
-bound_by a = run a.current []
+abbrev pub environment_of_account : Account → Environment
+environment_of_account a = run a.current []
 
 -- ---- the commands of a reading
 

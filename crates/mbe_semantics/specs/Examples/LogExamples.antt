@@ -10,7 +10,7 @@ use Rattle.mbe_semantics.specs.Readings.Item.{Fragment, Items, skipped, rounds, 
 use Rattle.mbe_semantics.specs.Bindings.Environment.{fragment, list, empty, missing, value, no_values, Environment, environment_of}
 use Rattle.mbe_semantics.specs.Writing.Rounds.{kept_rounds, finite, endless}
 use Rattle.mbe_semantics.specs.Writing.Substitution.{total_of}
-use Rattle.mbe_semantics.specs.Bindings.Account.{Command, Commands, no_commands, command, command_round, no_command_rounds, run, commands_of, no_account, pushed, pushed_nested, pushed_default, bound_by, Entry, HasOneListMore}
+use Rattle.mbe_semantics.specs.Bindings.Account.{Command, Commands, no_commands, command, command_round, no_command_rounds, run, commands_of, no_account, pushed, pushed_nested, pushed_default, environment_of_account, Entry, HasOneListMore}
 use Rattle.mbe_semantics.specs.Writing.Concat.{if_identifier}
 use Rattle.mbe_semantics.specs.Bindings.Missing.{default_trees}
 use Rattle.mbe_semantics.specs.Examples.Sample.{at, taken, text_at, joint_at, reads_at}
@@ -58,10 +58,10 @@ pub record LogExamples : Type 0 where
   -- a later command replaces
   pub replaced : run (command (one_command (binds_x (codes "a"))) (Command.misses (codes "x") kinds.Ty)) [] ≡ (codes "x", missing kinds.Ty) ∷ []
   -- a push comes behind the pushes before it
-  pub behind : bound_by (pushed (Command.skips (codes "y")) (pushed (binds_x (codes "a")) no_account))
+  pub behind : environment_of_account (pushed (Command.skips (codes "y")) (pushed (binds_x (codes "a")) no_account))
       ≡ (codes "x", fragment (word_of (codes "a"))) ∷ (codes "y", empty) ∷ []
   -- a child's rounds are pushed as they are, and no later push to the child is seen
-  pub nested : bound_by (pushed_nested no_account (pushed (binds_x (codes "b")) (pushed_default (pushed (binds_x (codes "a")) no_account))))
+  pub nested : environment_of_account (pushed_nested no_account (pushed (binds_x (codes "b")) (pushed_default (pushed (binds_x (codes "a")) no_account))))
       ≡ (codes "x", list (value (fragment (word_of (codes "a"))) (value (fragment (word_of (codes "b"))) no_values))) ∷ []
   -- the commands of a reading bind what the reading binds
   pub alike : run (commands_of rounds_items) [] ≡ environment_of rounds_items

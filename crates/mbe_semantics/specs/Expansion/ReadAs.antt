@@ -6,12 +6,12 @@ use Rattle.mbe_tt.specs.declared.span.Edition.{Edition}
 use Rattle.mbe_semantics.specs.Expansion.Macro.{Macro}
 use Rattle.mbe_semantics.specs.Syntax.Definition.{IsMacroRules, IsMacroBody, IsMacroOfArguments}
 
-module _ (Answers : SyntaxContext → Edition → Type 0) where
+module _ (HasEdition : SyntaxContext → Edition → Type 0) where
   -- what `macro_rules` makes of its trees
   abbrev pub IsReadAs : Forest → Macro → Type 0
-  IsReadAs f m = IsMacroRules Answers f m.rules m.err
+  IsReadAs f m = IsMacroRules HasEdition f m.rules m.err
 
   -- what `macro` makes of its body, and of its arguments where it has some
   abbrev pub IsReadAsMacro : Option Forest → Forest → Macro → Type 0
-  IsReadAsMacro None body m = IsMacroBody Answers body m.rules m.err
-  IsReadAsMacro (Some arguments) body m = IsMacroOfArguments Answers arguments body m.rules m.err
+  IsReadAsMacro None body m = IsMacroBody HasEdition body m.rules m.err
+  IsReadAsMacro (Some arguments) body m = IsMacroOfArguments HasEdition arguments body m.rules m.err

@@ -130,36 +130,36 @@ RunsAreRight = (g : Grammar) (pattern : Ops) (argument : Forest) → IsLawful g 
 
 -- ---- templates
 
--- `Answers c e`: the edition of the context c may be e
+-- `HasEdition c e`: the edition of the context c may be e
 abbrev pub HasOneEdition : (SyntaxContext → Edition → Type 0) → Type 0
-HasOneEdition Answers = (c : SyntaxContext) (e d : Edition) → Answers c e → Answers c d → e ≡ d
+HasOneEdition HasEdition = (c : SyntaxContext) (e d : Edition) → HasEdition c e → HasEdition c d → e ≡ d
 
 -- trees that are ops have no fault
 abbrev pub OpsOrFault : (SyntaxContext → Edition → Type 0) → Type 0
-OpsOrFault Answers = (mode : Mode) (f : Forest) (os : Ops) (fault : Fault) → Template Answers mode f os → TemplateFault Answers mode fault f → ⊥
+OpsOrFault HasEdition = (mode : Mode) (f : Forest) (os : Ops) (fault : Fault) → Template HasEdition mode f os → TemplateFault HasEdition mode fault f → ⊥
 
 -- each context has an edition
 abbrev pub HasSomeEdition : (SyntaxContext → Edition → Type 0) → Type 0
-HasSomeEdition Answers = (c : SyntaxContext) → (e : Edition) × Answers c e
+HasSomeEdition HasEdition = (c : SyntaxContext) → (e : Edition) × HasEdition c e
 
 -- then all trees are ops or have a fault
 abbrev pub HasOpsOrFault : (SyntaxContext → Edition → Type 0) → Type 0
-HasOpsOrFault Answers = HasSomeEdition Answers → (mode : Mode) (f : Forest) →
-    ((os : Ops) × Template Answers mode f os) ⊎ ((fault : Fault) × TemplateFault Answers mode fault f)
+HasOpsOrFault HasEdition = HasSomeEdition HasEdition → (mode : Mode) (f : Forest) →
+    ((os : Ops) × Template HasEdition mode f os) ⊎ ((fault : Fault) × TemplateFault HasEdition mode fault f)
 
 -- where each context has one edition, trees are one list of ops at most
 abbrev pub OneTemplate : (SyntaxContext → Edition → Type 0) → Type 0
-OneTemplate Answers = HasOneEdition Answers → (mode : Mode) (f : Forest) (os others : Ops) →
-    Template Answers mode f os → Template Answers mode f others → os ≡ others
+OneTemplate HasEdition = HasOneEdition HasEdition → (mode : Mode) (f : Forest) (os others : Ops) →
+    Template HasEdition mode f os → Template HasEdition mode f others → os ≡ others
 
 -- and a definition has one list of rules, and one error or none
-pub record OneDefinition (Answers : SyntaxContext → Edition → Type 0) : Type 0 where
-  pub rules : HasOneEdition Answers → (f : Forest) (rs others : List Rule) (err other : Option Fault) →
-      IsMacroRules Answers f rs err → IsMacroRules Answers f others other → (rs ≡ others) × (err ≡ other)
-  pub body : HasOneEdition Answers → (f : Forest) (rs others : List Rule) (err other : Option Fault) →
-      IsMacroBody Answers f rs err → IsMacroBody Answers f others other → (rs ≡ others) × (err ≡ other)
-  pub arguments : HasOneEdition Answers → (arguments body : Forest) (rs others : List Rule) (err other : Option Fault) →
-      IsMacroOfArguments Answers arguments body rs err → IsMacroOfArguments Answers arguments body others other → (rs ≡ others) × (err ≡ other)
+pub record OneDefinition (HasEdition : SyntaxContext → Edition → Type 0) : Type 0 where
+  pub rules : HasOneEdition HasEdition → (f : Forest) (rs others : List Rule) (err other : Option Fault) →
+      IsMacroRules HasEdition f rs err → IsMacroRules HasEdition f others other → (rs ≡ others) × (err ≡ other)
+  pub body : HasOneEdition HasEdition → (f : Forest) (rs others : List Rule) (err other : Option Fault) →
+      IsMacroBody HasEdition f rs err → IsMacroBody HasEdition f others other → (rs ≡ others) × (err ≡ other)
+  pub arguments : HasOneEdition HasEdition → (arguments body : Forest) (rs others : List Rule) (err other : Option Fault) →
+      IsMacroOfArguments HasEdition arguments body rs err → IsMacroOfArguments HasEdition arguments body others other → (rs ≡ others) × (err ≡ other)
 
 -- ---- rounds
 

@@ -5,27 +5,27 @@ use Rattle.mbe_semantics.specs.Readings.Item.{Item, matched, bound, grouped, ski
 use Rattle.mbe_semantics.specs.Readings.Reading.{Frame, inside, within, Beginning, dot}
 
 -- an open item, with what was read before it
-pub data Level : Type 0 where
-  in_group : Items → Level
-  in_round : Items → Rounds → Level
+pub data OpenItem : Type 0 where
+  in_group : Items → OpenItem
+  in_round : Items → Rounds → OpenItem
 
 -- what was read in the innermost open item, and the open items
 pub data Story : Type 0 where
-  tale : Items → List Level → Story
+  tale : Items → List OpenItem → Story
 
 -- an open item without its ops
-abbrev pub level_of : Frame → Level
-level_of (inside d b rest is) = in_group is
-level_of (within b s k rest is rs) = in_round is rs
+abbrev pub open_item_of : Frame → OpenItem
+open_item_of (inside d b rest is) = in_group is
+open_item_of (within b s k rest is rs) = in_round is rs
 
 -- all of them
-abbrev pub levels_of : List Frame → List Level
-levels_of [] = []
-levels_of (f ∷ up) = level_of f ∷ levels_of up
+abbrev pub open_items_of : List Frame → List OpenItem
+open_items_of [] = []
+open_items_of (f ∷ up) = open_item_of f ∷ open_items_of up
 
 -- a beginning without its ops
 abbrev pub story : Beginning → Story
-story (dot rest is up) = tale is (levels_of up)
+story (dot rest is up) = tale is (open_items_of up)
 
 -- the last step taken back
 abbrev pub before : Story → Story
@@ -74,11 +74,11 @@ abbrev mutual
   rounds_steps (round rs is w) = 1 + rounds_steps rs + items_steps is
 
 -- the steps outside the innermost open item
-abbrev pub levels_steps : List Level → ℕ
-levels_steps [] = 0
-levels_steps (in_group is ∷ up) = 1 + items_steps is + levels_steps up
-levels_steps (in_round is rs ∷ up) = 1 + items_steps is + rounds_steps rs + levels_steps up
+abbrev pub open_items_steps : List OpenItem → ℕ
+open_items_steps [] = 0
+open_items_steps (in_group is ∷ up) = 1 + items_steps is + open_items_steps up
+open_items_steps (in_round is rs ∷ up) = 1 + items_steps is + rounds_steps rs + open_items_steps up
 
 -- all steps
 abbrev pub steps : Story → ℕ
-steps (tale is up) = items_steps is + levels_steps up
+steps (tale is up) = items_steps is + open_items_steps up

@@ -14,9 +14,9 @@ matched_by None = None
 matched_by (Some n) = Some (matched n)
 
 -- the item of a variable
-abbrev pub bound_by : Name → Option Fragment → Option Item
-bound_by name None = None
-bound_by name (Some x) = Some (bound name x)
+abbrev pub bound_as : Name → Option Fragment → Option Item
+bound_as name None = None
+bound_as name (Some x) = Some (bound name x)
 
 -- ---- steps over no token
 
@@ -50,7 +50,7 @@ idle i q (dot no_ops is (inside d b rest js ∷ up)) = []
 idle i q (dot no_ops is (within b s k rest js rs ∷ up)) =
     again_of s k (dot b no_items (within b s k rest js (round rs is 0) ∷ up)) ++ (dot rest (item js (rounds rs is)) up ∷ [])
 idle i q (dot (op (token t) rest) is up) = empty_of (matched_by (i.token_at t q)) rest is up
-idle i q (dot (op (variable name kind span) rest) is up) = empty_of (bound_by name (i.fragment_at kind q)) rest is up
+idle i q (dot (op (variable name kind span) rest) is up) = empty_of (bound_as name (i.fragment_at kind q)) rest is up
 idle i q (dot (op (group d b) rest) is up) = []
 idle i q (dot (op (repetition b s k) rest) is up) =
     dot b no_items (within b s k rest is no_rounds ∷ up) ∷ skip_of k (dot rest (item is (skipped (names_of b))) up)
@@ -96,7 +96,7 @@ next i q (dot no_ops is []) = None
 next i q (dot no_ops is (inside d b rest js ∷ up)) = when (i.closes_at q) (move 1 false (dot rest (item js (grouped is)) up))
 next i q (dot no_ops is (within b s k rest js rs ∷ up)) = separator_move i q s k b rest js rs up is
 next i q (dot (op (token t) rest) is up) = over_of false (matched_by (i.token_at t q)) rest is up
-next i q (dot (op (variable name kind span) rest) is up) = over_of true (bound_by name (i.fragment_at kind q)) rest is up
+next i q (dot (op (variable name kind span) rest) is up) = over_of true (bound_as name (i.fragment_at kind q)) rest is up
 next i q (dot (op (group d b) rest) is up) = when (i.opens_at d.kind q) (move 1 false (dot b no_items (inside d b rest is ∷ up)))
 next i q (dot (op (repetition b s k) rest) is up) = None
 next i q (dot (op (expression e) rest) is up) = None

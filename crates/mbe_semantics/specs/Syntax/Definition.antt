@@ -20,39 +20,39 @@ pub record Rule : Type 0 where
   pub writes : Ops
 
 -- the trees of one rule, before its pattern and its template are read, and those behind it
-pub record Outline : Type 0 where
+pub record RuleTrees : Type 0 where
   pub style : MacroCallStyle
   pub reads : Forest
   pub writes : Forest
   pub back : Forest
 
 -- the second group
-abbrev pub template_at : MacroCallStyle → Forest → Forest → Result Outline Fault
+abbrev pub template_at : MacroCallStyle → Forest → Forest → Result RuleTrees Fault
 template_at style reads (group d inside rest) = Ok (record { style = style; reads = reads; writes = inside; back = rest })
 template_at style reads _ = Err (expected (codes "expected subtree"))
 
 -- `>`, and the second group
-abbrev pub greater_at : MacroCallStyle → Forest → Forest → Result Outline Fault
+abbrev pub greater_at : MacroCallStyle → Forest → Forest → Result RuleTrees Fault
 greater_at style reads (leaf (punct p) rest) = if p.char == 62 then template_at style reads rest else Err (expected (codes "expected `>`"))
 greater_at style reads _ = Err (expected (codes "expected `>`"))
 
 -- `=`, and what follows
-abbrev pub equals_at : MacroCallStyle → Forest → Forest → Result Outline Fault
+abbrev pub equals_at : MacroCallStyle → Forest → Forest → Result RuleTrees Fault
 equals_at style reads (leaf (punct p) rest) = if p.char == 61 then greater_at style reads rest else Err (expected (codes "expected `=`"))
 equals_at style reads _ = Err (expected (codes "expected `=`"))
 
 -- the first group, and what follows
-abbrev pub pattern_at : MacroCallStyle → Forest → Result Outline Fault
+abbrev pub pattern_at : MacroCallStyle → Forest → Result RuleTrees Fault
 pattern_at style (group d inside rest) = equals_at style inside rest
 pattern_at style _ = Err (expected (codes "expected subtree"))
 
 -- a group behind `attr` or `derive`
-abbrev pub styled_at : MacroCallStyle → Forest → Result Outline Fault
+abbrev pub styled_at : MacroCallStyle → Forest → Result RuleTrees Fault
 styled_at style (group d inside rest) = pattern_at style rest
 styled_at style _ = Err (expected (codes "expected `()`"))
 
 -- `attr` or `derive`, or nothing for a function-like call
-abbrev pub style_at : Forest → Result Outline Fault
+abbrev pub style_at : Forest → Result RuleTrees Fault
 style_at (leaf (ident i) rest) =
     if is_text i.sym (codes "attr") then styled_at Attr rest
     else if is_text i.sym (codes "derive") then styled_at Derive rest
@@ -60,9 +60,9 @@ style_at (leaf (ident i) rest) =
 style_at f = pattern_at FnLike f
 
 -- one rule: `unsafe`, a style, the pattern's group, `=>`, the template's group; or the first fault
-abbrev pub outline_at : Forest → Result Outline Fault
-outline_at (leaf (ident i) rest) = if is_text i.sym (codes "unsafe") then style_at rest else style_at (leaf (ident i) rest)
-outline_at f = style_at f
+abbrev pub rule_trees_at : Forest → Result RuleTrees Fault
+rule_trees_at (leaf (ident i) rest) = if is_text i.sym (codes "unsafe") then style_at rest else style_at (leaf (ident i) rest)
+rule_trees_at f = style_at f
 
 -- the trees of the next rules, where a separating char or the end follows
 abbrev pub behind_separator : List ℕ → Forest → Option Forest
@@ -74,29 +74,29 @@ behind_separator chars _ = None
 abbrev pub with_refusal : List Rule → Option Fault → Option Fault
 with_refusal rs fault = if list_any (λ r. is_refused r.reads) rs then Some empty_repetition else fault
 
-module _ (Answers : SyntaxContext → Edition → Type 0) where
+module _ (HasEdition : SyntaxContext → Edition → Type 0) where
   -- a pattern and a template are read
-  pub record AreParts (o : Outline) (r : Rule) : Type 0 where
+  pub record AreParts (o : RuleTrees) (r : Rule) : Type 0 where
     pub style : r.style ≡ o.style
-    pub reads : Template Answers pattern o.reads r.reads
-    pub writes : Template Answers template o.writes r.writes
+    pub reads : Template HasEdition pattern o.reads r.reads
+    pub writes : Template HasEdition template o.writes r.writes
 
   -- the first fault in a pattern, and where it has none, in its template
-  pub data PartsFault (o : Outline) (fault : Fault) : Type 0 where
-    in_pattern : TemplateFault Answers pattern fault o.reads → PartsFault o fault
-    in_template : (reads : Ops) → Template Answers pattern o.reads reads → TemplateFault Answers template fault o.writes → PartsFault o fault
+  pub data PartsFault (o : RuleTrees) (fault : Fault) : Type 0 where
+    in_pattern : TemplateFault HasEdition pattern fault o.reads → PartsFault o fault
+    in_template : (reads : Ops) → Template HasEdition pattern o.reads reads → TemplateFault HasEdition template fault o.writes → PartsFault o fault
 
   -- the rules that these chars separate, up to the first fault, and that fault
   pub data Rules (separators : List ℕ) (missing : Fault) : Forest → List Rule → Option Fault → Type 0 where
     ended : Rules separators missing none [] None
-    no_rule : (l : Forest) (fault : Fault) → l ≢ none → outline_at l ≡ Err fault → Rules separators missing l [] (Some fault)
-    faulty_rule : (f : Forest) (o : Outline) (fault : Fault) →
-        outline_at f ≡ Ok o → PartsFault o fault → Rules separators missing f [] (Some fault)
-    unseparated : (f : Forest) (o : Outline) (r : Rule) →
-        outline_at f ≡ Ok o → AreParts o r → behind_separator separators o.back ≡ None →
+    no_rule : (l : Forest) (fault : Fault) → l ≢ none → rule_trees_at l ≡ Err fault → Rules separators missing l [] (Some fault)
+    faulty_rule : (f : Forest) (o : RuleTrees) (fault : Fault) →
+        rule_trees_at f ≡ Ok o → PartsFault o fault → Rules separators missing f [] (Some fault)
+    unseparated : (f : Forest) (o : RuleTrees) (r : Rule) →
+        rule_trees_at f ≡ Ok o → AreParts o r → behind_separator separators o.back ≡ None →
         Rules separators missing f (r ∷ []) (Some missing)
-    separated : (f rest : Forest) (o : Outline) (r : Rule) (rs : List Rule) (fault : Option Fault) →
-        outline_at f ≡ Ok o → AreParts o r → behind_separator separators o.back ≡ Some rest →
+    separated : (f rest : Forest) (o : RuleTrees) (r : Rule) (rs : List Rule) (fault : Option Fault) →
+        rule_trees_at f ≡ Ok o → AreParts o r → behind_separator separators o.back ≡ Some rest →
         Rules separators missing rest rs fault → Rules separators missing f (r ∷ rs) fault
 
   -- what `macro_rules` makes of its trees

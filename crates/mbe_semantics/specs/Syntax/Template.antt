@@ -269,11 +269,11 @@ abbrev pub kind_named : List (List ℕ × MetaVarKind) → List ℕ → Option M
 kind_named [] name = None
 kind_named (row ∷ rows) name = if is_text row.0 name then Some row.1 else kind_named rows name
 
-module _ (Answers : SyntaxContext → Edition → Type 0) where
+module _ (HasEdition : SyntaxContext → Edition → Type 0) where
   -- the specifier means this kind, in an edition that was answered for its own context; no kind is an unknown one
   pub data Specifies (specifier : Ident) : Option MetaVarKind → Type 0 where
-    dated_pat : (e : Edition) → IsTrue (is_text specifier.sym (codes "pat")) → Answers (specifier.span).ctx e → Specifies specifier (Some (pat_kind e))
-    dated_expr : (e : Edition) → IsTrue (is_text specifier.sym (codes "expr")) → Answers (specifier.span).ctx e → Specifies specifier (Some (expr_kind e))
+    dated_pat : (e : Edition) → IsTrue (is_text specifier.sym (codes "pat")) → HasEdition (specifier.span).ctx e → Specifies specifier (Some (pat_kind e))
+    dated_expr : (e : Edition) → IsTrue (is_text specifier.sym (codes "expr")) → HasEdition (specifier.span).ctx e → Specifies specifier (Some (expr_kind e))
     undated : IsFalse (is_text specifier.sym (codes "pat")) → IsFalse (is_text specifier.sym (codes "expr")) → Specifies specifier (kind_named kind_names specifier.sym)
 
   -- the trees are these ops

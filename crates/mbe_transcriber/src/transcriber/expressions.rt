@@ -21,7 +21,7 @@ ghost use Rattle.mbe_ops.specs.Views.{element_seen, elements_seen};
 ghost use Rattle.mbe_transcriber.specs.Writing.{Appends, Wrote, IsNumber, IsConcatWritten};
 ghost use Rattle.mbe_transcriber.specs.Writing.{IsJoined};
 
-use crate::transcriber::fault::{Fault, FaultKind};
+use crate::transcriber::fault::{FaultKind, WritingFault};
 use crate::transcriber::following::{Lost, Simple, follow, simple_at, value_total};
 use crate::transcriber::{ExpandCtx, mark};
 use mbe_log::bindings::Bindings;
@@ -29,13 +29,12 @@ use mbe_log::fragment::{Fragment, TokensOrigin};
 use mbe_ops::ops::ConcatMetaVarExprElem;
 use mbe_semantics::kinds::MetaVarKind;
 use mbe_semantics::rounds::Level;
-use mbe_tt::builder::TopSubtreeBuilder;
 use mbe_tt::grammar::FragmentGrammar;
-use mbe_tt::iter::TtElement;
 use mbe_tt::span::Span;
 use mbe_tt::symbol::Symbol;
-use mbe_tt::tt::{Ident, IdentIsRaw, Leaf, LitKind, Literal};
-use mbe_tt::view::TokenTreesView;
+use mbe_tt::tt::{
+    Ident, IdentIsRaw, Leaf, LitKind, Literal, TokenTreesView, TopSubtreeBuilder, TtElement,
+};
 use std::alloc::{AllocError, Allocator};
 use unicode_ident::{is_xid_continue, is_xid_start};
 
@@ -64,7 +63,7 @@ pub(crate) fn write_count<'t, A: Allocator + Copy, G, M>(
     depth: usize,
     path: &[Level],
     builder: &mut TopSubtreeBuilder<A>,
-) -> Result<Option<Fault<'t, A>>, AllocError>
+) -> Result<Option<WritingFault<'t, A>>, AllocError>
     ensures { IfOk result (λ fault. Wrote (is_some fault)
         (not (is_counted depth (followed (bound_by ctx.now.bindings.now) path.now name.now)))
         (IsNumber (total_of depth (followed (bound_by ctx.now.bindings.now) path.now name.now))
@@ -75,7 +74,7 @@ pub(crate) fn write_count<'t, A: Allocator + Copy, G, M>(
             write_number(ctx.alloc, number, ctx.call_site, builder)?;
             Ok(None)
         }
-        Err(kind) => Ok(Some(Fault {
+        Err(kind) => Ok(Some(WritingFault {
             span: ctx.call_site,
             kind,
         })),
@@ -88,7 +87,7 @@ pub(crate) fn find_ignored<'t, A: Allocator>(
     name: &'t Symbol<A>,
     id: Span,
     path: &[Level],
-) -> Option<Fault<'t, A>>
+) -> Option<WritingFault<'t, A>>
     ensures { is_some result
         ≡ not (is_simple (followed (bound_by bindings.now) path.now name.now)) }
 {
@@ -101,7 +100,7 @@ fn simple_of<'b, 't, 'a, A: Allocator>(
     name: &'t Symbol<A>,
     span: Span,
     path: &[Level],
-) -> Result<Simple<'b, 'a, A>, Fault<'t, A>>
+) -> Result<Simple<'b, 'a, A>, WritingFault<'t, A>>
     ensures found { IfOk result (λ s. followed (bound_by bindings.now) path.now name.now
         ≡ Some (simple_value s)) }
     ensures lost { IfErr result (λ _.
@@ -109,7 +108,7 @@ fn simple_of<'b, 't, 'a, A: Allocator>(
 {
     match bindings.get(name) {
         Some(binding) => simple_at(binding, name, span, path),
-        None => Err(Fault {
+        None => Err(WritingFault {
             span,
             kind: FaultKind::Unresolved(name),
         }),
@@ -146,7 +145,7 @@ pub(crate) fn write_concat<'t, A: Allocator + Copy, G: FragmentGrammar, M: Fn(Sp
     span: Span,
     path: &[Level],
     builder: &mut TopSubtreeBuilder<A>,
-) -> Result<Option<Fault<'t, A>>, AllocError>
+) -> Result<Option<WritingFault<'t, A>>, AllocError>
     requires { MayMark (M.pre ctx.now.marker) }
     ensures { IfOk result (λ fault. Wrote (is_some fault)
         (is_none (concat_text
@@ -161,7 +160,7 @@ pub(crate) fn write_concat<'t, A: Allocator + Copy, G: FragmentGrammar, M: Fn(Sp
         return Ok(fault);
     }
     write_name(ctx, "__ra_concat_dummy", span, builder)?;
-    Ok(fault.or(Some(Fault {
+    Ok(fault.or(Some(WritingFault {
         span,
         kind: FaultKind::NoIdentifier,
     })))
@@ -196,7 +195,7 @@ fn joined_text<'t, A: Allocator + Copy, G, M>(
     ctx: &ExpandCtx<'_, '_, A, G, M>,
     elements: &'t [ConcatMetaVarExprElem<A>],
     path: &[Level],
-) -> Result<(String<A>, Option<Fault<'t, A>>), AllocError>
+) -> Result<(String<A>, Option<WritingFault<'t, A>>), AllocError>
     ensures { IfOk result (λ r. IsJoined (string_bytes r.0) (is_some r.1)
         (spec.joined_text (bound_by ctx.now.bindings.now) path.now (elements_seen elements.now))) }
 {
@@ -216,7 +215,7 @@ fn element_text<'b, 't: 'b, A: Allocator>(
     bindings: &'b Bindings<'_, A>,
     element: &'t ConcatMetaVarExprElem<A>,
     path: &[Level],
-) -> Result<&'b str, Fault<'t, A>>
+) -> Result<&'b str, WritingFault<'t, A>>
     ensures found { IfOk result (λ text. text_of_element
         (bound_by bindings.now) path.now (element_seen element.now) ≡ Some text.now) }
     ensures lost { IfErr result (λ _. text_of_element
@@ -231,7 +230,7 @@ fn element_text<'b, 't: 'b, A: Allocator>(
         Simple::Fragment(fragment) => fragment_text(fragment),
         Simple::Missing(kind) => default_text(kind),
     };
-    text.ok_or(Fault {
+    text.ok_or(WritingFault {
         span: variable.span,
         kind: FaultKind::NoText,
     })

@@ -11,7 +11,7 @@ use std::alloc::{AllocError, Allocator};
 
 /// The first fault that was met, and where it is reported.
 #[derive_where(Clone, Copy)]
-pub(crate) struct Fault<'t, A: Allocator> {
+pub(crate) struct WritingFault<'t, A: Allocator> {
     pub(crate) span: Span,
     pub(crate) kind: FaultKind<'t, A>,
 }
@@ -39,7 +39,7 @@ pub(crate) enum FaultKind<'t, A: Allocator> {
     NoRound,
 }
 
-impl<A: Allocator + Copy> Fault<'_, A> {
+impl<A: Allocator + Copy> WritingFault<'_, A> {
     /// The same, with its text.
     pub(crate) fn error(self, alloc: A) -> Result<ExpandError<A>, AllocError>
         ensures { IfOk result (λ e. error_of e ≡ error_of_fault self.entry) }

@@ -13,7 +13,7 @@ ghost use Rattle.mbe_semantics.specs.Writing.Substitution.{rounds_in};
 ghost use Rattle.mbe_log.specs.BindingViews.{bound_by, value_seen, values_seen};
 ghost use Rattle.mbe_ops.specs.Views.{op_of, ops_of, elements_seen};
 
-use crate::transcriber::fault::{Fault, FaultKind};
+use crate::transcriber::fault::{FaultKind, WritingFault};
 use mbe_log::bindings::{Binding, Bindings};
 use mbe_log::fragment::Fragment;
 use mbe_ops::ops::{ConcatMetaVarExprElem, Op};
@@ -102,7 +102,7 @@ pub(crate) fn simple_at<'b, 't, 'a, A: Allocator>(
     name: &'t Symbol<A>,
     span: Span,
     path: &[Level],
-) -> Result<Simple<'b, 'a, A>, Fault<'t, A>>
+) -> Result<Simple<'b, 'a, A>, WritingFault<'t, A>>
     ensures found { IfOk result (λ s. follow path.now (value_seen binding.now)
         ≡ Some (simple_value s)) }
     ensures lost { IfErr result (λ _.
@@ -116,7 +116,7 @@ pub(crate) fn simple_at<'b, 't, 'a, A: Allocator>(
         Err(Lost::Empty) => FaultKind::EmptyInside(name),
         Err(Lost::NoValue) => FaultKind::NoValue(name),
     };
-    Err(Fault { span, kind })
+    Err(WritingFault { span, kind })
 }
 
 // The level that many outside the innermost.

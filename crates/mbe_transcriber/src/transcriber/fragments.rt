@@ -27,12 +27,12 @@ ghost use Rattle.mbe_semantics.specs.Writing.Written.{IsWrittenAs, path_trees};
 use crate::transcriber::mark;
 use mbe_log::fragment::{Fragment, TokensOrigin};
 use mbe_semantics::kinds::MetaVarKind;
-use mbe_tt::builder::TopSubtreeBuilder;
-use mbe_tt::iter::{TtElement, TtIter};
 use mbe_tt::span::Span;
 use mbe_tt::symbol::Symbol;
-use mbe_tt::tt::{DelimiterKind, Ident, IdentIsRaw, Leaf, Punct, Spacing};
-use mbe_tt::view::TokenTreesView;
+use mbe_tt::tt::{
+    DelimiterKind, Ident, IdentIsRaw, Leaf, Punct, Spacing, TokenTreesView, TopSubtreeBuilder,
+    TtElement, TtIter,
+};
 use std::alloc::{AllocError, Allocator};
 
 // Writes the fragment of a variable with that span.

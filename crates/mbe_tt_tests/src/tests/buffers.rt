@@ -1,4 +1,4 @@
-use super::parts::{Part, tree};
+use super::parts::{Piece, tree};
 use super::views::sample;
 use crate::writing::span;
 use mbe_tt::span::DelimSpan;
@@ -20,24 +20,24 @@ fn an_empty_tree_is_an_invisible_group(rt: HostRuntime) -> Result<(), Fail> {
 }
 
 // Each differs from the others in one part.
-static TREES: [&[Part]; 6] = [
-    &[Part::Punct('+', Spacing::Alone)],
-    &[Part::Punct('+', Spacing::Joint)],
-    &[Part::Punct('-', Spacing::Alone)],
+static TREES: [&[Piece]; 6] = [
+    &[Piece::Punct('+', Spacing::Alone)],
+    &[Piece::Punct('+', Spacing::Joint)],
+    &[Piece::Punct('-', Spacing::Alone)],
     &[
-        Part::Open(DelimiterKind::Bracket),
-        Part::Ident("a"),
-        Part::Close(2),
+        Piece::Open(DelimiterKind::Bracket),
+        Piece::Ident("a"),
+        Piece::Close(2),
     ],
     &[
-        Part::Open(DelimiterKind::Bracket),
-        Part::Ident("a"),
-        Part::Close(3),
+        Piece::Open(DelimiterKind::Bracket),
+        Piece::Ident("a"),
+        Piece::Close(3),
     ],
     &[
-        Part::Open(DelimiterKind::Bracket),
-        Part::Ident("b"),
-        Part::Close(2),
+        Piece::Open(DelimiterKind::Bracket),
+        Piece::Ident("b"),
+        Piece::Close(2),
     ],
 ];
 

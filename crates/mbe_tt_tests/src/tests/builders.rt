@@ -1,4 +1,4 @@
-use super::parts::{Part, tree, write, write_open};
+use super::parts::{Piece, tree, write, write_open};
 use super::views::sample;
 use crate::writing::{delimiter, ident, punct, span, write_and_go_back};
 use mbe_tt::tt::{
@@ -15,7 +15,7 @@ fn groups_have_their_kinds_and_spans(rt: HostRuntime) -> Result<(), Fail> {
         DelimiterKind::Bracket,
         DelimiterKind::Invisible,
     ] {
-        let tree = tree(rt.alloc(), &[Part::Open(kind), Part::Close(12)])?;
+        let tree = tree(rt.alloc(), &[Piece::Open(kind), Piece::Close(12)])?;
         assert!(rt; tree.top_subtree().delimiter == delimiter(DelimiterKind::Brace));
         let Ok((group, inside)) = tree.iter().expect_subtree() else {
             return Err(Fail::from("no group"));
@@ -32,36 +32,36 @@ fn groups_have_their_kinds_and_spans(rt: HostRuntime) -> Result<(), Fail> {
 }
 
 // Parts, and the kind of the innermost group that they leave open inside the whole, which is a brace.
-static OPEN: [(&[Part], Option<DelimiterKind>); 7] = [
+static OPEN: [(&[Piece], Option<DelimiterKind>); 7] = [
     (&[], None),
-    (&[Part::Ident("alone")], None),
+    (&[Piece::Ident("alone")], None),
     (
-        &[Part::Open(DelimiterKind::Parenthesis)],
+        &[Piece::Open(DelimiterKind::Parenthesis)],
         Some(DelimiterKind::Parenthesis),
     ),
     (
-        &[Part::Open(DelimiterKind::Bracket), Part::Ident("within")],
+        &[Piece::Open(DelimiterKind::Bracket), Piece::Ident("within")],
         Some(DelimiterKind::Bracket),
     ),
     (
         &[
-            Part::Open(DelimiterKind::Bracket),
-            Part::Open(DelimiterKind::Invisible),
+            Piece::Open(DelimiterKind::Bracket),
+            Piece::Open(DelimiterKind::Invisible),
         ],
         Some(DelimiterKind::Invisible),
     ),
     (
         &[
-            Part::Open(DelimiterKind::Bracket),
-            Part::Open(DelimiterKind::Invisible),
-            Part::Close(3),
+            Piece::Open(DelimiterKind::Bracket),
+            Piece::Open(DelimiterKind::Invisible),
+            Piece::Close(3),
         ],
         Some(DelimiterKind::Bracket),
     ),
-    (&[Part::Open(DelimiterKind::Brace), Part::Close(3)], None),
+    (&[Piece::Open(DelimiterKind::Brace), Piece::Close(3)], None),
 ];
 
-fn open_kind(alloc: Global, parts: &[Part]) -> Result<Option<DelimiterKind>, AllocError> {
+fn open_kind(alloc: Global, parts: &[Piece]) -> Result<Option<DelimiterKind>, AllocError> {
     let mut builder = TopSubtreeBuilder::new(alloc, delimiter(DelimiterKind::Brace))?;
     write_open(&mut builder, alloc, parts)?;
     Ok(builder.open_kind())
@@ -77,40 +77,40 @@ fn the_kind_of_the_innermost_open_group_is_told(rt: HostRuntime) -> Result<(), F
 
 // Trees, and how many flat tokens and trees are there once the last is unwrapped where it is an invisible group. The whole
 // has two flat tokens, each leaf one and each group two.
-static LAST: [(&[Part], usize, usize); 4] = [
+static LAST: [(&[Piece], usize, usize); 4] = [
     (
         &[
-            Part::Ident("before"),
-            Part::Open(DelimiterKind::Invisible),
-            Part::Ident("within"),
-            Part::Open(DelimiterKind::Parenthesis),
-            Part::Close(2),
-            Part::Close(2),
+            Piece::Ident("before"),
+            Piece::Open(DelimiterKind::Invisible),
+            Piece::Ident("within"),
+            Piece::Open(DelimiterKind::Parenthesis),
+            Piece::Close(2),
+            Piece::Close(2),
         ],
         6,
         3,
     ),
     (
         &[
-            Part::Ident("before"),
-            Part::Open(DelimiterKind::Bracket),
-            Part::Ident("within"),
-            Part::Open(DelimiterKind::Parenthesis),
-            Part::Close(2),
-            Part::Close(2),
+            Piece::Ident("before"),
+            Piece::Open(DelimiterKind::Bracket),
+            Piece::Ident("within"),
+            Piece::Open(DelimiterKind::Parenthesis),
+            Piece::Close(2),
+            Piece::Close(2),
         ],
         8,
         2,
     ),
     (
         &[
-            Part::Ident("before"),
-            Part::Open(DelimiterKind::Invisible),
-            Part::Ident("within"),
-            Part::Open(DelimiterKind::Parenthesis),
-            Part::Close(2),
-            Part::Close(2),
-            Part::Ident("after"),
+            Piece::Ident("before"),
+            Piece::Open(DelimiterKind::Invisible),
+            Piece::Ident("within"),
+            Piece::Open(DelimiterKind::Parenthesis),
+            Piece::Close(2),
+            Piece::Close(2),
+            Piece::Ident("after"),
         ],
         9,
         3,
@@ -118,7 +118,7 @@ static LAST: [(&[Part], usize, usize); 4] = [
     (&[], 2, 0),
 ];
 
-fn unwrapped(alloc: Global, parts: &[Part]) -> Result<TopSubtree, AllocError> {
+fn unwrapped(alloc: Global, parts: &[Piece]) -> Result<TopSubtree, AllocError> {
     let mut builder = TopSubtreeBuilder::new(alloc, delimiter(DelimiterKind::Brace))?;
     write(&mut builder, alloc, parts)?;
     builder.remove_last_subtree_if_invisible();
@@ -135,16 +135,16 @@ fn a_last_invisible_group_is_unwrapped(rt: HostRuntime) -> Result<(), Fail> {
     Ok(())
 }
 
-static JOINT: [Part; 2] = [
-    Part::Punct('+', Spacing::Joint),
-    Part::Punct('+', Spacing::Joint),
+static JOINT: [Piece; 2] = [
+    Piece::Punct('+', Spacing::Joint),
+    Piece::Punct('+', Spacing::Joint),
 ];
 
-static JOINT_BUT_THE_LAST: [Part; 4] = [
-    Part::Punct('+', Spacing::Joint),
-    Part::Punct('+', Spacing::Joint),
-    Part::Punct('+', Spacing::Joint),
-    Part::Punct('+', Spacing::Alone),
+static JOINT_BUT_THE_LAST: [Piece; 4] = [
+    Piece::Punct('+', Spacing::Joint),
+    Piece::Punct('+', Spacing::Joint),
+    Piece::Punct('+', Spacing::Joint),
+    Piece::Punct('+', Spacing::Alone),
 ];
 
 #[test]
@@ -211,6 +211,6 @@ fn a_builder_goes_back_to_a_point(rt: HostRuntime) -> Result<(), Fail> {
     assert!(rt; builder.restore_point() == 1);
     let built = builder.build();
     assert!(rt; built.view().flat_len() == 3);
-    assert!(rt; built == tree(alloc, &[Part::Ident("kept")])?);
+    assert!(rt; built == tree(alloc, &[Piece::Ident("kept")])?);
     Ok(())
 }

@@ -1,4 +1,4 @@
-use super::parts::{Part, tree};
+use super::parts::{Piece, tree};
 use crate::writing::{delimiter, ident, punct};
 use mbe_tt::tt::{DelimiterKind, Spacing, TopSubtree, TopSubtreeBuilder};
 use std::alloc::{AllocError, Global};
@@ -95,9 +95,9 @@ fn lone_puncts_stay_apart(rt: HostRuntime) -> Result<(), Fail> {
         (Spacing::Joint, Spacing::Joint, 3),
     ] {
         let parts = [
-            Part::Punct('.', first),
-            Part::Punct('.', second),
-            Part::Punct('=', Spacing::Joint),
+            Piece::Punct('.', first),
+            Piece::Punct('.', second),
+            Piece::Punct('=', Spacing::Joint),
         ];
         let tree = tree(rt.alloc(), &parts)?;
         assert!(rt; glued(&tree, "..=") == Some(taken));

@@ -1,4 +1,4 @@
-use super::parts::{Part, tree};
+use super::parts::{Piece, tree};
 use super::views::sample;
 use crate::writing::{pass_by_savepoint, span};
 use mbe_tt::tt::{DelimiterKind, Leaf, Spacing, TopSubtree, TtElement, TtIter};
@@ -94,14 +94,14 @@ fn first_wrong(tree: &TopSubtree, rows: &[Row]) -> Option<usize> {
     None
 }
 
-static LEAVES: [Part; 7] = [
-    Part::Ident("a"),
-    Part::Ident("_"),
-    Part::Punct('+', Spacing::Joint),
-    Part::Punct(',', Spacing::Alone),
-    Part::Punct('$', Spacing::Alone),
-    Part::Ident("true"),
-    Part::Ident("false"),
+static LEAVES: [Piece; 7] = [
+    Piece::Ident("a"),
+    Piece::Ident("_"),
+    Piece::Punct('+', Spacing::Joint),
+    Piece::Punct(',', Spacing::Alone),
+    Piece::Punct('$', Spacing::Alone),
+    Piece::Ident("true"),
+    Piece::Ident("false"),
 ];
 
 static LEAVES_ROWS: [Row; 20] = [

@@ -7,7 +7,7 @@ use std::alloc::{AllocError, Allocator};
 
 /// A flat token. Groups open at 1, and close at a place of their own.
 #[derive(Clone, Copy, Drop)]
-pub enum Part {
+pub enum Piece {
     Ident(&'static str),
     Text(&'static str),
     Punct(char, Spacing),
@@ -20,17 +20,17 @@ pub enum Part {
 fn write_part<A: Allocator + Copy>(
     builder: &mut TopSubtreeBuilder<A>,
     alloc: A,
-    part: Part,
+    part: Piece,
 ) -> Result<(), AllocError>
     requires { 0 < length builder.old }
     ensures { 0 < length builder.new }
 {
     match part {
-        Part::Ident(text) => builder.push(ident(alloc, text)?),
-        Part::Text(text) => builder.push(literal(alloc, text)?),
-        Part::Punct(char, spacing) => builder.push(punct(char, spacing)),
-        Part::Open(kind) => builder.open(kind, span(1)),
-        Part::Close(at) => {
+        Piece::Ident(text) => builder.push(ident(alloc, text)?),
+        Piece::Text(text) => builder.push(literal(alloc, text)?),
+        Piece::Punct(char, spacing) => builder.push(punct(char, spacing)),
+        Piece::Open(kind) => builder.open(kind, span(1)),
+        Piece::Close(at) => {
             if builder.open_kind().is_some() {
                 builder.close(span(u32::from(at)));
             }
@@ -43,7 +43,7 @@ fn write_part<A: Allocator + Copy>(
 pub fn write_open<A: Allocator + Copy>(
     builder: &mut TopSubtreeBuilder<A>,
     alloc: A,
-    parts: &[Part],
+    parts: &[Piece],
 ) -> Result<(), AllocError>
     requires { 0 < length builder.old }
     ensures { 0 < length builder.new }
@@ -59,7 +59,7 @@ pub fn write_open<A: Allocator + Copy>(
 pub fn write<A: Allocator + Copy>(
     builder: &mut TopSubtreeBuilder<A>,
     alloc: A,
-    parts: &[Part],
+    parts: &[Piece],
 ) -> Result<(), AllocError>
     requires { 0 < length builder.old }
     ensures { OnOk result (length builder.new ≡ 1) }
@@ -72,7 +72,7 @@ pub fn write<A: Allocator + Copy>(
 }
 
 /// The parts, inside braces.
-pub fn tree<A: Allocator + Copy>(alloc: A, parts: &[Part]) -> Result<TopSubtree<A>, AllocError> {
+pub fn tree<A: Allocator + Copy>(alloc: A, parts: &[Piece]) -> Result<TopSubtree<A>, AllocError> {
     let mut builder = TopSubtreeBuilder::new(alloc, delimiter(DelimiterKind::Brace))?;
     write(&mut builder, alloc, parts)?;
     Ok(builder.build())

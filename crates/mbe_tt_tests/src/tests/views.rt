@@ -1,16 +1,16 @@
-use super::parts::{Part, tree};
+use super::parts::{Piece, tree};
 use crate::writing::{delimiter, span};
 use mbe_tt::tt::{DelimiterKind, Spacing, TopSubtree, TopSubtreeBuilder};
 use std::alloc::{AllocError, Allocator};
 use std::test::Fail;
 
-static SAMPLE: [Part; 6] = [
-    Part::Ident("a"),
-    Part::Open(DelimiterKind::Parenthesis),
-    Part::Punct('+', Spacing::Joint),
-    Part::Ident("b"),
-    Part::Close(2),
-    Part::Text("s"),
+static SAMPLE: [Piece; 6] = [
+    Piece::Ident("a"),
+    Piece::Open(DelimiterKind::Parenthesis),
+    Piece::Punct('+', Spacing::Joint),
+    Piece::Ident("b"),
+    Piece::Close(2),
+    Piece::Text("s"),
 ];
 
 // `a (+ b) "s"`, inside braces.

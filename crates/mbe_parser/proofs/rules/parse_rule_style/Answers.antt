@@ -1,6 +1,6 @@
 use Rattle.std.proofs.Common.{◌≡◌, ap, sym, ◌∙◌}
 use Rattle.mbe_semantics.specs.Syntax.Definition.{style_at, styled_at, pattern_at}
-use Rattle.mbe_parser.proofs.OutlineLemmas.{after_unsafe, after_attr, after_derive, after_nothing, behind_group, no_group}
+use Rattle.mbe_parser.proofs.RuleTreeLemmas.{after_unsafe, after_attr, after_derive, after_nothing, behind_group, no_group}
 use Rattle.mbe_parser.proofs.rules.parse_rule_style.Goals as goal
 use Rattle.mbe_parser.proofs.rules.parse_rule_style.Goals.{then-eat_word, else-eat_word+then-eat_word-2}
 

@@ -1,5 +1,5 @@
 use Rattle.std.proofs.lemmas.Result.{err_from_is_err_and}
-use Rattle.mbe_parser.proofs.RuleReading.{style_fault, outline_fault, rule_read, rule_faulty, rule_shorter}
+use Rattle.mbe_parser.proofs.RuleReading.{style_fault, rule_trees_fault, rule_read, rule_faulty, rule_shorter}
 use Rattle.mbe_parser.proofs.rules.Rule.parse.Goals as goal
 
 pub returns-in_err-style-clause-fault : goal.returns-in_err-style-clause-fault
@@ -10,7 +10,7 @@ returns-in_err-style-clause-fault g c =
 pub returns-in_err-pattern-clause-fault : goal.returns-in_err-pattern-clause-fault
 returns-in_err-pattern-clause-fault g c =
     let p = err_from_is_err_and c.from_residual-in_err-pattern.result c.from_residual-in_err-pattern.ensures.1 in
-    rw (p.1, p.2) (outline_fault _ c.in_ok-style.style _ c.args.src.now c.parse_rule_style.new.src c.rule_groups.new.src c.in_ok-style.ensures (c.in_err-pattern.ensures c.in_ok-style.style))
+    rw (p.1, p.2) (rule_trees_fault _ c.in_ok-style.style _ c.args.src.now c.parse_rule_style.new.src c.rule_groups.new.src c.in_ok-style.ensures (c.in_err-pattern.ensures c.in_ok-style.style))
 
 pub returns-clause-rule : goal.returns-clause-rule
 returns-clause-rule g c =

@@ -10,52 +10,52 @@ use Rattle.mbe_semantics.specs.declared.macro_call_style.MacroCallStyle.{MacroCa
 use Rattle.mbe_semantics.specs.declared.macro_call_style.MacroCallStyle.TheVariants.{FnLike, Attr, Derive}
 use Rattle.mbe_semantics.specs.Syntax.Template.{Fault, expected}
 use Rattle.mbe_parser.specs.Reader.{is_word}
-use Rattle.mbe_semantics.specs.Syntax.Definition.{Outline, template_at, greater_at, equals_at, pattern_at, styled_at, style_at, outline_at}
+use Rattle.mbe_semantics.specs.Syntax.Definition.{RuleTrees, template_at, greater_at, equals_at, pattern_at, styled_at, style_at, rule_trees_at}
 
-no_ok : {X : Type 0} {e : Fault} {o : Outline} → Err e ≡ Ok o → X
+no_ok : {X : Type 0} {e : Fault} {o : RuleTrees} → Err e ≡ Ok o → X
 no_ok e = absurd (cc)
 
-same_ok : {a b : Outline} → (let r : Result Outline Fault = Ok a in r) ≡ Ok b → a ≡ b
+same_ok : {a b : RuleTrees} → (let r : Result RuleTrees Fault = Ok a in r) ≡ Ok b → a ≡ b
 same_ok e = cc
 
-if_ok : (b : Bool) (r : Result Outline Fault) (e : Fault) (o : Outline) → (if b then r else Err e) ≡ Ok o → r ≡ Ok o
+if_ok : (b : Bool) (r : Result RuleTrees Fault) (e : Fault) (o : RuleTrees) → (if b then r else Err e) ≡ Ok o → r ≡ Ok o
 if_ok true r e o h = h
 if_ok false r e o h = no_ok h
 
-template_back : (s : MacroCallStyle) (r f : Forest) (o : Outline) → template_at s r f ≡ Ok o → flat_len o.back < flat_len f
+template_back : (s : MacroCallStyle) (r f : Forest) (o : RuleTrees) → template_at s r f ≡ Ok o → flat_len o.back < flat_len f
 template_back s r none o e = no_ok e
 template_back s r (leaf l rest) o e = no_ok e
-template_back s r (group d inside rest) o e = let b : rest ≡ o.back = ap (λ (x : Outline). x.back) (same_ok e) in let h = ap flat_len b in omega arith
+template_back s r (group d inside rest) o e = let b : rest ≡ o.back = ap (λ (x : RuleTrees). x.back) (same_ok e) in let h = ap flat_len b in omega arith
 
-greater_back : (s : MacroCallStyle) (r f : Forest) (o : Outline) → greater_at s r f ≡ Ok o → flat_len o.back < flat_len f
+greater_back : (s : MacroCallStyle) (r f : Forest) (o : RuleTrees) → greater_at s r f ≡ Ok o → flat_len o.back < flat_len f
 greater_back s r none o e = no_ok e
 greater_back s r (group d inside rest) o e = no_ok e
 greater_back s r (leaf (literal l) rest) o e = no_ok e
 greater_back s r (leaf (ident i) rest) o e = no_ok e
 greater_back s r (leaf (punct p) rest) o e = let h = template_back s r rest o (if_ok (p.char == 62) _ _ o e) in omega arith
 
-equals_back : (s : MacroCallStyle) (r f : Forest) (o : Outline) → equals_at s r f ≡ Ok o → flat_len o.back < flat_len f
+equals_back : (s : MacroCallStyle) (r f : Forest) (o : RuleTrees) → equals_at s r f ≡ Ok o → flat_len o.back < flat_len f
 equals_back s r none o e = no_ok e
 equals_back s r (group d inside rest) o e = no_ok e
 equals_back s r (leaf (literal l) rest) o e = no_ok e
 equals_back s r (leaf (ident i) rest) o e = no_ok e
 equals_back s r (leaf (punct p) rest) o e = let h = greater_back s r rest o (if_ok (p.char == 61) _ _ o e) in omega arith
 
-pattern_back : (s : MacroCallStyle) (f : Forest) (o : Outline) → pattern_at s f ≡ Ok o → flat_len o.back < flat_len f
+pattern_back : (s : MacroCallStyle) (f : Forest) (o : RuleTrees) → pattern_at s f ≡ Ok o → flat_len o.back < flat_len f
 pattern_back s none o e = no_ok e
 pattern_back s (leaf l rest) o e = no_ok e
 pattern_back s (group d inside rest) o e = let h = equals_back s inside rest o e in omega arith
 
-styled_back : (s : MacroCallStyle) (f : Forest) (o : Outline) → styled_at s f ≡ Ok o → flat_len o.back < flat_len f
+styled_back : (s : MacroCallStyle) (f : Forest) (o : RuleTrees) → styled_at s f ≡ Ok o → flat_len o.back < flat_len f
 styled_back s none o e = no_ok e
 styled_back s (leaf l rest) o e = no_ok e
 styled_back s (group d inside rest) o e = let h = pattern_back s rest o e in omega arith
 
-either : (b : Bool) (x y r : Result Outline Fault) (P : Type 0) → (x ≡ r → P) → (y ≡ r → P) → (if b then x else y) ≡ r → P
+either : (b : Bool) (x y r : Result RuleTrees Fault) (P : Type 0) → (x ≡ r → P) → (y ≡ r → P) → (if b then x else y) ≡ r → P
 either true x y r P h k e = h e
 either false x y r P h k e = k e
 
-style_back : (f : Forest) (o : Outline) → style_at f ≡ Ok o → flat_len o.back < flat_len f
+style_back : (f : Forest) (o : RuleTrees) → style_at f ≡ Ok o → flat_len o.back < flat_len f
 style_back none o e = pattern_back FnLike none o e
 style_back (group d inside rest) o e = pattern_back FnLike (group d inside rest) o e
 style_back (leaf (literal l) rest) o e = no_ok e
@@ -65,12 +65,12 @@ style_back (leaf (ident i) rest) o e =
     (either (is_text i.sym (codes "derive")) _ _ (Ok o) (flat_len o.back < flat_len (leaf (ident i) rest)) (λ h. let k = styled_back Derive rest o h in omega arith)
     (λ h. pattern_back FnLike (leaf (ident i) rest) o h)) e
 
-pub outline_back : (f : Forest) (o : Outline) → outline_at f ≡ Ok o → flat_len o.back < flat_len f
-outline_back none o e = style_back none o e
-outline_back (group d inside rest) o e = style_back (group d inside rest) o e
-outline_back (leaf (literal l) rest) o e = style_back (leaf (literal l) rest) o e
-outline_back (leaf (punct p) rest) o e = style_back (leaf (punct p) rest) o e
-outline_back (leaf (ident i) rest) o e =
+pub rule_trees_back : (f : Forest) (o : RuleTrees) → rule_trees_at f ≡ Ok o → flat_len o.back < flat_len f
+rule_trees_back none o e = style_back none o e
+rule_trees_back (group d inside rest) o e = style_back (group d inside rest) o e
+rule_trees_back (leaf (literal l) rest) o e = style_back (leaf (literal l) rest) o e
+rule_trees_back (leaf (punct p) rest) o e = style_back (leaf (punct p) rest) o e
+rule_trees_back (leaf (ident i) rest) o e =
     either (is_text i.sym (codes "unsafe")) _ _ (Ok o) (flat_len o.back < flat_len (leaf (ident i) rest)) (λ h. let k = style_back rest o h in omega arith)
     (λ h. style_back (leaf (ident i) rest) o h) e
 
@@ -82,17 +82,17 @@ word_passed true i rest = refl
 word_passed false i rest = refl
 
 -- `unsafe` may stand in front
-pub behind_unsafe : (f : Forest) → outline_at f ≡ style_at (if is_word (codes "unsafe") f then rest_of f else f)
+pub behind_unsafe : (f : Forest) → rule_trees_at f ≡ style_at (if is_word (codes "unsafe") f then rest_of f else f)
 behind_unsafe none = refl
 behind_unsafe (group d inside rest) = refl
 behind_unsafe (leaf (literal l) rest) = refl
 behind_unsafe (leaf (punct p) rest) = refl
 behind_unsafe (leaf (ident i) rest) = word_passed (is_text i.sym (codes "unsafe")) i rest
 
-if_true : (b : Bool) (x y : Result Outline Fault) → b ≡ true → (if b then x else y) ≡ x
+if_true : (b : Bool) (x y : Result RuleTrees Fault) → b ≡ true → (if b then x else y) ≡ x
 if_true b x y e = ap (λ (c : Bool). if c then x else y) e
 
-if_false : (b : Bool) (x y : Result Outline Fault) → b ≡ false → (if b then x else y) ≡ y
+if_false : (b : Bool) (x y : Result RuleTrees Fault) → b ≡ false → (if b then x else y) ≡ y
 if_false b x y e = ap (λ (c : Bool). if c then x else y) e
 
 pub behind_attr : (f : Forest) → is_word (codes "attr") f ≡ true → style_at f ≡ styled_at Attr (rest_of f)
@@ -140,7 +140,7 @@ passed r f left l h = sym (l ∙ ap (λ (b : Bool). if b then rest_of f else f) 
 stayed : (r : Bool) (f left : Forest) → Left r f left → r ≡ false → f ≡ left
 stayed r f left l h = sym (l ∙ ap (λ (b : Bool). if b then rest_of f else f) h)
 
-pub after_unsafe : (r : Bool) (f left : Forest) → r ≡ is_word (codes "unsafe") f → Left r f left → outline_at f ≡ style_at left
+pub after_unsafe : (r : Bool) (f left : Forest) → r ≡ is_word (codes "unsafe") f → Left r f left → rule_trees_at f ≡ style_at left
 after_unsafe r f left e l = behind_unsafe f ∙ sym (ap style_at (l ∙ ap (λ (b : Bool). if b then rest_of f else f) e))
 
 pub after_attr : (r : Bool) (f left : Forest) → r ≡ is_word (codes "attr") f → Left r f left → r ≡ true → style_at f ≡ styled_at Attr left
