@@ -18,7 +18,7 @@ pub fn read(alloc: Global, rules: &str) -> anyhow::Result<DeclarativeMacro>
     Ok(defined)
 }
 
-/// The answer to a call: a tree and the index of its rule, beside an error or none.
+/// The result of a call: a tree and the index of its rule, beside an error or none.
 pub type Expansion<A> = ExpandResult<(TopSubtree<A>, MatchedArmIndex), A>;
 
 /// Expands a call by the rules that were read. `None` where a pattern was refused: then no call can be expanded.
