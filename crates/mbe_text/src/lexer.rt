@@ -4,6 +4,7 @@ ghost use Rattle.mbe_text.specs.Scanning.{FaultsWithin};
 ghost use Rattle.mbe_text.specs.Tokens.{Adds, IsAstray, FaultsAt, IsMade, ended, token_item, close_item};
 
 use crate::scanner::{LexFault, Lexeme, Scanner, Token, file_span};
+use crate::symbols::SymbolTable;
 use mbe_tt::span::Span;
 use mbe_tt::symbol::Symbol;
 use mbe_tt::tt::{
@@ -60,7 +61,7 @@ impl From<AllocError> for LexError {
 // Adds the token at the end of the innermost open group. A closing that doesn't fit that group is a fault.
 fn add<A: Allocator + Copy>(
     builder: &mut TopSubtreeBuilder<A>,
-    alloc: A,
+    table: &mut SymbolTable<A>,
     token: Token<'_>,
 ) -> Result<(), LexError>
     ensures ok { OnOk result (Adds (token_item token.entry) builder.old builder.new) }
@@ -76,7 +77,7 @@ fn add<A: Allocator + Copy>(
             span,
         }))?),
         Lexeme::Ident { name, is_raw } => {
-            let sym = Symbol::intern(alloc, name)?;
+            let sym = table.intern(name)?;
             Ok(builder.push(Leaf::Ident(Ident { sym, is_raw, span }))?)
         }
         Lexeme::Literal {
@@ -85,7 +86,7 @@ fn add<A: Allocator + Copy>(
             suffix_len,
             kind,
         } => {
-            let text_and_suffix = joined(alloc, text, suffix)?;
+            let text_and_suffix = joined(table, text, suffix)?;
             Ok(builder.push(Leaf::Literal(Literal {
                 text_and_suffix,
                 suffix_len,
@@ -127,15 +128,19 @@ fn finish<A: Allocator>(mut builder: TopSubtreeBuilder<A>, end: Span) -> TopSubt
 }
 
 // The symbol of a literal: its text and then its suffix.
-fn joined<A: Allocator + Copy>(alloc: A, text: &str, suffix: &str) -> Result<Symbol<A>, AllocError>
+fn joined<A: Allocator + Copy>(
+    table: &mut SymbolTable<A>,
+    text: &str,
+    suffix: &str,
+) -> Result<Symbol<A>, AllocError>
     ensures { IfOk result (λ s. s ≡ text.now ++ suffix.now) }
 {
     if suffix.is_empty() {
-        return Symbol::intern(alloc, text);
+        return table.intern(text);
     }
-    let mut whole = String::from_str(alloc, text)?;
+    let mut whole = String::from_str(table.alloc(), text)?;
     whole.push_str(suffix)?;
-    Symbol::intern(alloc, whole.as_str())
+    table.intern(whole.as_str())
 }
 
 /// The token trees of a file's text, inside an invisible group whose both spans are the whole text. Spans count bytes.
@@ -149,12 +154,26 @@ pub fn lex<A: Allocator + Copy>(alloc: A, text: &str, file: u32) -> Result<TopSu
     ensures made { IfOk result (IsMade file (length text.now)) }
     ensures within { IfErr result (FaultsWithin (length text.now)) }
 {
+    lex_in(&mut SymbolTable::new(alloc), text, file)
+}
+
+/// The same, with symbols from that table and in memory of its allocator, so that texts are shared with what else it was
+/// asked for.
+pub fn lex_in<A: Allocator + Copy>(
+    table: &mut SymbolTable<A>,
+    text: &str,
+    file: u32,
+) -> Result<TopSubtree<A>, LexError>
+    requires { length text.now < 2 ^ 32 }
+    ensures made { IfOk result (IsMade file (length text.now)) }
+    ensures within { IfErr result (FaultsWithin (length text.now)) }
+{
     let len = text.len() as u32;
     let mut scanner = Scanner::new(text, file);
     let whole = Delimiter::invisible_spanned(file_span(file, 0, len));
-    let mut builder = TopSubtreeBuilder::new(alloc, whole)?;
+    let mut builder = TopSubtreeBuilder::new(table.alloc(), whole)?;
     'tokens: while let Some(token) = scanner.token()? {
-        add(&mut builder, alloc, token)?;
+        add(&mut builder, table, token)?;
     }
     Ok(finish(builder, file_span(file, len, len)))
 }

@@ -5,3 +5,4 @@ pub mod lexer;
 pub mod output;
 pub mod printing;
 pub mod scanner;
+pub mod symbols;

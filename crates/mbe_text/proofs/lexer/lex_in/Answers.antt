@@ -1,6 +1,6 @@
 use Rattle.std.proofs.Common.{ap, ◌∙◌, length, List, ℕ}
 use Rattle.mbe_text.proofs.Made.{lexed_first, lexed_more, lexed_last}
-use Rattle.mbe_text.proofs.lexer.lex.Goals as goal
+use Rattle.mbe_text.proofs.lexer.lex_in.Goals as goal
 
 pub tokens-init : goal.tokens-init
 tokens-init g c = record {

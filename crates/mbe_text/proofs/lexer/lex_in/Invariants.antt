@@ -1,6 +1,6 @@
 use Rattle.std.proofs.Common.{◌≡◌, length}
 use Rattle.mbe_text.proofs.Made.{Lexed}
-use Rattle.mbe_text.proofs.lexer.lex.Given as goal
+use Rattle.mbe_text.proofs.lexer.lex_in.Given as goal
 
 abbrev pub invariant-tokens : goal.invariant-tokens
 invariant-tokens g l = record {
