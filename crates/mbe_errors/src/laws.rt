@@ -1,8 +1,10 @@
-// Laws about the equality of errors. They run nothing.
+// Laws about the equality of errors and of results. They run nothing.
 ghost use Rattle.std.specs.Prelude.{◌≡◌, ◌↔◌, IsTrue};
+ghost use Rattle.std.specs.Option.{option_eq};
 ghost use Rattle.mbe_errors.specs.ErrorViews.{parse_error_of, kind_of, error_of};
 
 use crate::error::{CountError, ExpandError, ExpandErrorKind, ParseError};
+use crate::value_result::ValueResult;
 use mbe_tt::span::Span;
 use std::alloc::Allocator;
 use std::hash::Hash;
@@ -43,4 +45,20 @@ pub fn count_errors_agree()
     ensures equal { (x y : _) → IsTrue (⟦<CountError as PartialEq>⟧.eq x y) ↔ (x ≡ y) }
     ensures hashed { (x y : _) → x ≡ y
         → ⟦<CountError as Hash>⟧.hash_input x ≡ ⟦<CountError as Hash>⟧.hash_input y }
+{}
+
+/// Results are equal exactly where their values are, and their errors are or neither has one.
+pub fn results_agree<T: PartialEq, E: PartialEq>()
+    ensures { (x y : _) → IsTrue (⟦<ValueResult<T, E> as PartialEq>⟧.eq x y)
+        ↔ (IsTrue (T.eq x.value y.value) × IsTrue (option_eq E.eq x.err y.err)) }
+{}
+
+/// Where `==` of values and of errors is an equivalence, so is that of results.
+pub fn equal_results<T: Eq, E: Eq>()
+    ensures reflexive { (x : _) → IsTrue (⟦<ValueResult<T, E> as PartialEq>⟧.eq x x) }
+    ensures symmetric { (x y : _) → IsTrue (⟦<ValueResult<T, E> as PartialEq>⟧.eq x y)
+        → IsTrue (⟦<ValueResult<T, E> as PartialEq>⟧.eq y x) }
+    ensures transitive { (x y z : _) → IsTrue (⟦<ValueResult<T, E> as PartialEq>⟧.eq x y)
+        → IsTrue (⟦<ValueResult<T, E> as PartialEq>⟧.eq y z)
+        → IsTrue (⟦<ValueResult<T, E> as PartialEq>⟧.eq x z) }
 {}
