@@ -1,4 +1,4 @@
--- What a linter is told of one rule of a definition.
+-- What is reported to a linter about one rule of a definition.
 use Rattle.std.specs.Prelude.{◌≡◌, ℕ, List, slice_get, Some}
 use Rattle.mbe_tt.specs.Trees.Tree.{Forest}
 use Rattle.mbe_tt.specs.Fragments.Grammar.{Grammar}

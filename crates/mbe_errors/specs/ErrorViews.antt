@@ -33,7 +33,7 @@ abbrev pub count_error_text : counts.CountError → List ℕ
 count_error_text counts.TheVariants.OutOfBounds = codes "${count} out of bounds"
 count_error_text counts.TheVariants.Misplaced = codes "${count} misplaced"
 
--- what is told of a fault
+-- what is reported of a fault
 abbrev pub fault_of : reported.SyntaxFault → Fault
 fault_of reported.TheVariants.ExpectedSubtree = expected (codes "expected subtree")
 fault_of reported.TheVariants.ExpectedEquals = expected (codes "expected `=`")

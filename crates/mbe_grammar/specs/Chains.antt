@@ -23,6 +23,6 @@ plain_primary =
     not_ahead (word "let")
     then (words ("_" ∷ "true" ∷ "false" ∷ []) or one is_literal or part KeywordBlock or part JumpWord or any_group or part PathExpr)
 
--- an operand that is no jump with a value, and what stands behind it
+-- an operand that is no jump with a value, and what is after it
 abbrev pub plain_operand : Rules
 plain_operand = plain_primary then repeated (part Post)

@@ -8,7 +8,7 @@ pub record Levels : Type 0 where
   pub level : Forest
   pub around : List Forest
 
--- An opening makes a group where its end was read. Else it is passed over.
+-- An opening makes a group where its end was read. Else it is skipped.
 abbrev pub open_level : Delimiter → Forest → List Forest → Levels
 open_level d inside [] = record { level = inside; around = [] }
 open_level d inside (rest ∷ more) = record { level = group d inside rest; around = more }

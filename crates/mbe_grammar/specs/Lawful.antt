@@ -12,7 +12,7 @@ use Rattle.mbe_grammar.specs.SampleGrammar.{Nonterminal, Segment, Vis, rule_of, 
 use Rattle.mbe_grammar.specs.declared.types.PathStyle.TheVariants.{Plain, Expression}
 use Rattle.mbe_grammar.specs.RuleLaws.{is_solid, Leaves, taken_leaves}
 
--- every part but one takes something where it stands
+-- every part but one takes something where it fits
 abbrev pub takes_some : Nonterminal → Bool
 takes_some Vis = false
 takes_some _ = true

@@ -8,7 +8,7 @@ use Rattle.mbe_grammar.specs.declared.expressions.Link.TheVariants.{End, GoesOn}
 use Rattle.mbe_grammar.specs.Rule.{Step, has_to_stand}
 use Rattle.mbe_grammar.specs.SampleGrammar.{Expr, takes}
 
--- the whole takes what its front does where it ends there, and else what the rest does, which has to stand
+-- the whole takes what its front does where it ends there, and else what the rest does, which has to fit
 abbrev pub whole : {A : Type 0} → Result (Link A) Miss → Step
 whole (Ok (End rest)) = Ok (trees rest)
 whole (Ok (GoesOn rest)) = has_to_stand (takes Expr (trees rest))

@@ -1,5 +1,5 @@
 -- What the rules of a grammar take from the front of trees. They are those of a parsing expression grammar over whole trees: an alternative
--- is taken where none before it stands, and a repetition takes all that it can. One thing is more: a rule may fault, and then the whole does.
+-- is taken where none before it fits, and a repetition takes all that it can. One thing is more: a rule may fault, and then the whole does.
 use Rattle.std.specs.Prelude.{ℕ, zero, suc, ◌+◌, ◌-◌, ◌*◌, ◌==◌, Bool, true, false, not, ◌&&◌, ◌||◌, if◌then◌else◌, List, Option, Some, None, option_and_then, length, Result, Ok, Err}
 use Rattle.std.specs.List.{list_any}
 use Rattle.std.specs.Str.{bytes_eq}
@@ -18,19 +18,19 @@ pub data Rule (P : Type 0) : Type 0 where
   through : (Tree → Bool) → Rule P  -- all trees to the first that passes the test, with that; a fault without one
   to_closing_angle : Rule P  -- all trees to the `>` that closes a `<` before them, with that; a fault without one
   part : P → Rule P  -- that part
-  ◌then◌ : Rule P → Rule P → Rule P  -- the one, and behind it the other
-  ◌or◌ : Rule P → Rule P → Rule P  -- the one, or the other where the one doesn't stand
-  maybe : Rule P → Rule P  -- the rule, or nothing where it doesn't stand
-  repeated : Rule P → Rule P  -- the rule as often as it stands
-  needed : Rule P → Rule P  -- the rule; a fault where it doesn't stand
-  ahead : Rule P → Rule P  -- nothing, where the rule stands
-  not_ahead : Rule P → Rule P  -- nothing, where the rule doesn't stand
+  ◌then◌ : Rule P → Rule P → Rule P  -- the one, and after it the other
+  ◌or◌ : Rule P → Rule P → Rule P  -- the one, or the other where the one doesn't fit
+  maybe : Rule P → Rule P  -- the rule, or nothing where it doesn't fit
+  repeated : Rule P → Rule P  -- the rule as often as it fits
+  needed : Rule P → Rule P  -- the rule; a fault where it doesn't fit
+  ahead : Rule P → Rule P  -- nothing, where the rule fits
+  not_ahead : Rule P → Rule P  -- nothing, where the rule doesn't fit
 
 infixr 20 ◌then◌
 infixr 10 ◌or◌
 -- ---- steps
 
--- what is left behind what a rule takes, or why it takes nothing
+-- what is left after what a rule takes, or why it takes nothing
 abbrev pub Step : Type 0
 Step = Result Forest Miss
 
@@ -74,24 +74,24 @@ abbrev pub times : ℕ → (Forest → Step) → Forest → Step
 times zero r f = Ok f
 times (suc n) r f = once_more (r f) (times n r) f
 
--- As often as it stands. What takes a flat token each time stands no more often than there are some.
+-- As often as it fits. What takes a flat token each time fits no more often than there are some.
 unfoldable pub in_turn : (Forest → Step) → Forest → Step
 in_turn r f = times (suc (flat_len f)) r f
 
 -- ---- single trees and puncts
 
--- the trees behind the first, where that passes the test
+-- the trees after the first, where that passes the test
 abbrev pub behind_one : (Tree → Bool) → Forest → Option Forest
 behind_one p none = None
 behind_one p (leaf l rest) = if p (Leaf_tree l) then Some rest else None
 behind_one p (group d inside rest) = if p (Group_tree d inside) then Some rest else None
 
--- the trees behind the puncts that are taken together, where they are one of these
+-- the trees after the puncts that are taken together, where they are one of these
 abbrev pub behind_puncts : List (List ℕ) → Forest → Option Forest
 behind_puncts texts f =
     option_and_then (λ ps. if list_any (bytes_eq (chars_of ps)) texts then Some (skip (length (glue f)) f) else None) (glued f)
 
--- the trees behind the first that passes the test
+-- the trees after the first that passes the test
 abbrev pub behind_first : (Tree → Bool) → Forest → Option Forest
 behind_first p none = None
 behind_first p (leaf l rest) = if p (Leaf_tree l) then Some rest else behind_first p rest
@@ -107,13 +107,13 @@ abbrev pub is_joint : Spacing → Bool
 is_joint Joint = true
 is_joint Alone = false
 
--- a joint `-` or `=`: a `>` directly behind it closes nothing
+-- a joint `-` or `=`: a `>` directly after it closes nothing
 abbrev pub begins_arrow : Leaf → Bool
 begins_arrow (punct p) = is_joint p.spacing && (p.char == 45 || p.char == 61)
 begins_arrow (literal x) = false
 begins_arrow (ident i) = false
 
--- the trees behind the `>` that closes a `<` before them, with so many more `<` open, directly behind the beginning of an arrow or not
+-- the trees after the `>` that closes a `<` before them, with so many more `<` open, directly after the beginning of an arrow or not
 abbrev pub behind_angle : ℕ → Bool → Forest → Option Forest
 behind_angle more arrow none = None
 behind_angle more arrow (group d inside rest) = behind_angle more false rest

@@ -1,5 +1,5 @@
 -- What the rules of a grammar leave: no more than there was, and less where a rule takes something. These are laws and no definitions. They
--- stand here since the law of a trait is proved by what stands in specs alone.
+-- are here since the law of a trait is proved by what is in specs alone.
 use Rattle.std.specs.Prelude.{◌≡◌, ℕ, zero, suc, ◌+◌, ◌-◌, ◌*◌, ◌<◌, ◌≤◌, ◌==◌, Bool, true, false, not, ◌&&◌, ◌||◌, if◌then◌else◌, List, ◌∷◌, length, take, Option, Some, None, Ok, Err}
 use Rattle.std.specs.List.{list_any}
 use Rattle.std.specs.Str.{bytes_eq}
@@ -153,7 +153,7 @@ puncts_leaves texts (leaf (punct p) rest) =
 
 -- ---- what rules leave
 
--- whether a rule takes something where it stands, if those parts do
+-- whether a rule takes something where it fits, if those parts do
 abbrev pub is_solid : {P : Type 0} → (P → Bool) → Rule P → Bool
 is_solid solid (one p) = true
 is_solid solid (puncts_of texts) = true
@@ -186,7 +186,7 @@ meaning_leaves solid parts h (needed r) f = needed_leaves (is_solid solid r) f (
 meaning_leaves solid parts h (ahead r) f = ahead_leaves f (meaning parts r f)
 meaning_leaves solid parts h (not_ahead r) f = not_ahead_leaves f (meaning parts r f)
 
--- whether those parts are the ones that take something where they stand
+-- whether those parts are the ones that take something where they fit
 abbrev pub Solid : {P : Type 0} → (P → Rule P) → (P → Bool) → Type 0
 Solid {P = P} rules solid = (x : P) → is_solid solid (rules x) ≡ solid x
 

@@ -150,7 +150,7 @@ mut_reference = sign "&" then maybe (word "mut")
 abbrev pub macro_argument : Rules
 macro_argument = puncts "!" then visible_group
 
--- a method's name, and an angle behind it
+-- a method's name, and an angle after it
 abbrev pub method : Rules
 method = one is_name then maybe (part Turbofish)
 
@@ -212,7 +212,7 @@ rule_of Vis = maybe public
 unfoldable pub takes : Nonterminal → Forest → Step
 takes x f = taken rule_of x f
 
--- ---- what it answers
+-- ---- what it returns
 
 -- the part that an entry point asks for
 abbrev pub part_of : PrefixEntryPoint → Nonterminal
@@ -246,6 +246,6 @@ keywords =
 abbrev pub is_keyword : List ℕ → Bool
 is_keyword text = list_any (bytes_eq text) (map codes keywords)
 
--- the grammar, as what it answers on flat tokens
+-- the grammar, as what it returns on flat tokens
 abbrev pub sample : Grammar
 sample = record { parse = λ entry tokens. answer entry (trees_of_flat tokens); is_keyword = is_keyword }

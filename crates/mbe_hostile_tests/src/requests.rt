@@ -33,7 +33,7 @@ impl Ended {
 
 /// A call, with what it is called on.
 pub trait Work {
-    /// Makes the call over `alloc`. What is compared or printed stands in `global`. Out of memory where the call isn't come to.
+    /// Makes the call over `alloc`. What is compared or printed is in `global`. Out of memory where the call isn't reached.
     fn ended<A: Allocator + Copy>(&self, global: Global, alloc: A) -> Result<Ended, AllocError>;
 }
 

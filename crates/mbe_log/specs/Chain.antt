@@ -4,7 +4,7 @@ use Rattle.std.proofs.Common.{set}
 use Rattle.std.specs.Coded.{Coded, code_by, coded_ℕ, coded×, coded_list, coded_option}
 use Rattle.mbe_semantics.specs.declared.log.Part.{Part}
 
--- what may stand in front, and the entries after it
+-- what may be in front, and the entries after it
 pub record Chain (T : Type 0) : Type 0 where
   pub link : Option Part
   pub own : List T
@@ -78,7 +78,7 @@ module _ {T : Type 0} (lists : List (Chain T)) where
     goes_on : (part : Part) (l : Chain T) (link : Part) (ys xs : List T) → slice_get lists part.list ≡ Some l → link_in l.link part.first ≡ Some link →
         Flat link ys → xs ≡ ys ++ take (own_in l.link part.first) l.own → Flat part xs
 
-  -- what stands at a place: a list, and an index among its own entries
+  -- what is at a place: a list, and an index among its own entries
   abbrev pub entry_at : Part → Option T
   entry_at place = own_of (slice_get lists place.list) place.first
 

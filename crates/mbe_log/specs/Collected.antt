@@ -9,7 +9,7 @@ left_of None = 0
 left_of (Some p) = p.list + 1
 
 module _ {T : Type 0} (lists : List (Chain T)) where
-  -- the entries found, last first, and what stands in front of them
+  -- the entries found, last first, and what is in front of them
   abbrev pub Collected : Part → Option Part → List T → Type 0
   Collected part None found = Flat lists part (reverse found)
   Collected part (Some next) found = IsWithin lists next × ((ys : List T) → Flat lists next ys → Flat lists part (ys ++ reverse found))

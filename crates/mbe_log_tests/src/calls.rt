@@ -35,7 +35,7 @@ pub struct Book<'a, A: Allocator = Global> {
     pub handles: Vec<Handle, A>,
 }
 
-/// Makes the call. `false` where no live handle stands at the place.
+/// Makes the call. `false` where no live handle is at the place.
 pub fn apply<'a, A: Allocator + Copy>(
     book: &mut Book<'a, A>,
     names: &[Symbol<A>],

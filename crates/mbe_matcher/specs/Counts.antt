@@ -11,7 +11,7 @@ count_at place m = if m.place == place then m.count else 0
 abbrev pub unmet : Mark
 unmet = record { place = 0; count = 0 }
 
--- The dots of these numbers were met at the place, each as often as it stands there. No other was.
+-- The dots of these numbers were met at the place, each as often as it occurs there. No other was.
 pub record AreCounted (marks : List Mark) (place : ℕ) (met : List ℕ) : Type 0 where
   pub counted : (n : ℕ) → n < length marks → count_at place (slice_index_or marks n unmet) ≡ times (suc n) met
 

@@ -1,4 +1,4 @@
--- What stands in front of an iterator.
+-- What is in front of an iterator.
 use Rattle.std.specs.Prelude.{◌≡◌, ℕ, Bool, true, false, List, Option, Some, None}
 use Rattle.std.specs.Str.{bytes_eq}
 use Rattle.mbe_tt.specs.Trees.Leaf.{Leaf, ident, literal, punct}

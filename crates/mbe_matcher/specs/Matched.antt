@@ -1,4 +1,4 @@
--- What is settled at a place, and what a match answers.
+-- What is settled at a place, and what a match returns.
 use Rattle.std.specs.Prelude.{ℕ, ◌≡◌, ◌==◌, if◌then◌else◌, Bool, false, ◌||◌, not, nat_eq, is_some, List, [], ◌∷◌, reverse, Option, Some, None}
 use Rattle.mbe_tt.specs.Trees.Tree.{Forest}
 use Rattle.mbe_tt.specs.Fragments.Grammar.{Grammar}
@@ -48,7 +48,7 @@ abbrev pub is_clash : {A : Type 0} → List (Waiting A) → Bool
 is_clash [] = false
 is_clash (w ∷ ws) = clashes_with w.width (is_some w.beyond) ws
 
--- how many flat tokens the first passes
+-- how many flat tokens the first consumes
 abbrev pub width_first : {A : Type 0} → List (Waiting A) → Option ℕ
 width_first [] = None
 width_first (w ∷ ws) = Some w.width
@@ -56,7 +56,7 @@ width_first (w ∷ ws) = Some w.width
 abbrev pub position_after : {A : Type 0} → Waiting A → Position A
 position_after w = w.after
 
--- ---- what a match answers
+-- ---- what a match returns
 
 abbrev pub verdict_in : Stop → Verdict
 verdict_in (told.OneReading h) = one_reading

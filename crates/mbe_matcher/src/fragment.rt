@@ -14,7 +14,7 @@ use mbe_tt::span::{DelimSpan, Span};
 use mbe_tt::tt::{Cursor, TokenTreesView, TtIter};
 use std::alloc::{AllocError, Allocator, Global};
 
-/// Passes the fragment that a grammar finds in front of the iterator (as in rust-analyzer).
+/// Consumes the fragment that a grammar finds at the front of the iterator (as in rust-analyzer).
 ///
 /// The grammar is asked about all that remains, and counts flat tokens: leaves, openings and
 /// closings. The value is the shortest list of whole trees at the front that holds as many,

@@ -52,7 +52,7 @@ use mbe_tt::span::DelimSpan;
 use mbe_tt::tt::TokenTreesView;
 use std::alloc::{AllocError, Allocator, Global};
 
-/// How a pattern reads an argument. The numbers are places: flat tokens passed.
+/// How a pattern reads an argument. The numbers are places: flat tokens consumed.
 #[derive(Clone, Copy, Debug, PartialEq, Eq)]
 pub enum Verdict {
     OneReading,

@@ -1,4 +1,4 @@
--- What the reader of patterns and templates answers, told by their grammar.
+-- What the reader of patterns and templates returns, by their grammar.
 use Rattle.std.specs.Prelude.{◌≡◌, ℕ, Bool, false, List, [], ◌∷◌, ◌++◌, Option, Some, None, option_map, Result, Ok, Err}
 use Rattle.mbe_tt.specs.Trees.Leaf.{Leaf, ident, is_text}
 use Rattle.mbe_tt.specs.Trees.Tree.{Forest, none, leaf}
@@ -19,30 +19,30 @@ abbrev pub mode_of : code.Mode → Mode
 mode_of code.TheVariants.Pattern = pattern
 mode_of code.TheVariants.Template = template
 
--- why reading stopped: want of memory, or a fault of which P holds
+-- why reading stopped: out of memory, or a fault of which P holds
 abbrev pub Stops : read.ReadError → (Fault → Type 0) → Type 0
 Stops read.TheVariants.Memory P = Unit {0}
 Stops (read.TheVariants.Fault f) P = P (fault_of f)
 
--- why no metavariable expression was read: want of memory, or there is none
+-- why no metavariable expression was read: out of memory, or there is none
 abbrev pub NotExpression : {T : Type 0} → read.ReadError → Option T → Type 0
 NotExpression read.TheVariants.Memory e = Unit {0}
 NotExpression (read.TheVariants.Fault f) e = (f ≡ reported.TheVariants.InvalidExpression) × (e ≡ None)
 
 -- ---- the suffix of a repetition, leaf by leaf
 
--- whichever leaves are the old separator, or none, with this leaf behind them they are the new one
+-- whichever leaves are the old separator, or none, with this leaf after them they are the new one
 abbrev pub IsExtended : Option Separator → Leaf → Separator → Type 0
 IsExtended old l new = (before : List Leaf) → separator_of before ≡ Some old → separator_of (before ++ l ∷ []) ≡ Some (Some new)
 
--- whichever leaves are the separator, or none, with this leaf behind them no separator begins
+-- whichever leaves are the separator, or none, with this leaf after them no separator begins
 abbrev pub NeverExtended : Option Separator → Leaf → Type 0
 NeverExtended old l = (before behind : List Leaf) → separator_of before ≡ Some old → separator_of (before ++ l ∷ behind) ≡ None
 
 -- ---- ops
 
 module _ (HasEdition : SyntaxContext → Edition → Type 0) where
-  -- this op stands at the front, with what is inside it, and these are the trees behind it
+  -- this op is at the front, with what is inside it, and these are the trees after it
   abbrev pub AtHead : Mode → Result Head Fault → Op → Forest → Type 0
   AtHead mode (Ok (one o rest)) p left = (o ≡ p) × (rest ≡ left)
   AtHead mode (Ok (typed name span specifier rest)) p left =
@@ -63,7 +63,7 @@ module _ (HasEdition : SyntaxContext → Edition → Type 0) where
   FaultAtHead mode (Ok (typed name span specifier rest)) f = ⊥
   FaultAtHead mode (Ok ended) f = ⊥
 
-  -- Before the trees that are left the op was read: what is read there stands behind the op, and the first fault there is
+  -- Before the trees that are left the op was read: what is read there is after the op, and the first fault there is
   -- the first of all.
   pub record ReadsOp (mode : Mode) (before : Forest) (o : Op) (left : Forest) : Type 0 where
     pub more : (os : Ops) → Template HasEdition mode left os → Template HasEdition mode before (op o os)
@@ -81,7 +81,7 @@ abbrev pub IsStyled : Result MacroCallStyle reported.SyntaxFault → Result Rule
 IsStyled (Ok style) r left = r ≡ pattern_at style left
 IsStyled (Err f) r left = r ≡ Err (fault_of f)
 
--- the trees of the pattern and of the template of one rule of the style, and those behind it; or the fault
+-- the trees of the pattern and of the template of one rule of the style, and those after it; or the fault
 abbrev pub AreRuleTrees : MacroCallStyle → Result (Forest × Forest) reported.SyntaxFault → Result RuleTrees Fault → Forest → Type 0
 AreRuleTrees style (Ok parts) (Ok o) left = (o.style ≡ style) × (o.reads ≡ parts.0) × (o.writes ≡ parts.1) × (o.back ≡ left)
 AreRuleTrees style (Ok parts) (Err x) left = ⊥
@@ -93,7 +93,7 @@ abbrev pub one_rule_trees : Forest → Forest → RuleTrees
 one_rule_trees arguments body = record { style = FnLike; reads = arguments; writes = body; back = none }
 
 module _ (HasEdition : SyntaxContext → Edition → Type 0) where
-  -- a rule stands in front, and these are the trees behind it
+  -- a rule is in front, and these are the trees after it
   pub record ReadsRule (before : Forest) (r : Rule) (left : Forest) : Type 0 where
     pub rule_trees : RuleTrees
     pub at : rule_trees_at before ≡ Ok rule_trees

@@ -27,8 +27,8 @@ IsEdition edition context answer = answer ≡ edition
 abbrev pub IsItself : Span → Span → Type 0
 IsItself span marked = marked ≡ span
 
--- The answer to a call whose argument these trees are, by the macro that the grammar of definitions reads from the definition
--- in that edition, which tells no fault.
+-- The result of a call whose argument these trees are, by the macro that the grammar of definitions reads from the definition
+-- in that edition, which reports no fault.
 pub record ExpandsTrees (edition : Edition) (definition argument : Forest) (call_site : Span)
     (out : Forest) (index : Option ℕ) (err : Option ExpandError) : Type 0 where
   pub rules : List Rule

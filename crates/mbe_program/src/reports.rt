@@ -11,7 +11,7 @@ use std::fmt;
 /// A line on standard error.
 #[derive(Drop)]
 pub enum Report<'a, A: Allocator> {
-    /// The words behind the program's name aren't those of a run.
+    /// The words after the program's name aren't those of a run.
     Usage,
     /// The file of this name can't be read, isn't UTF-8 or has 2^32 bytes or more.
     CannotRead(&'a str),

@@ -1,4 +1,4 @@
--- Grammars that count, whatever stands there.
+-- Grammars that count, whatever is there.
 use Rattle.std.specs.Prelude.{◌≡◌, ◌≤◌, ℕ, Bool, true, false, ◌||◌, ◌&&◌, nat_lt, ◌==◌, min, if◌then◌else◌, length, refl}
 use Rattle.std.proofs.Common.{arith, ap, sym, ◌∙◌, true≢false, zero-le}
 use Rattle.std.proofs.lemmas.Bool.{ltb-false}

@@ -55,7 +55,7 @@ impl Told {
     }
 }
 
-/// The macro has so many rules, and tells that error.
+/// The macro has so many rules, and reports that error.
 pub fn assert_read(
     rt: &impl Abort,
     alloc: Global,
@@ -68,7 +68,7 @@ pub fn assert_read(
     Ok(())
 }
 
-/// So many rules of a `macro_rules!` definition are kept, and it tells that error.
+/// So many rules of a `macro_rules!` definition are kept, and it reports that error.
 pub fn assert_told(
     rt: &impl Abort,
     alloc: Global,
@@ -79,7 +79,7 @@ pub fn assert_told(
     assert_tree_told(rt, alloc, (&tree, definition), want)
 }
 
-/// A definition, how many of its rules are kept, and the error that it tells.
+/// A definition, how many of its rules are kept, and the error that it reports.
 pub type Row = (&'static str, usize, Told);
 
 /// As `assert_told`, of each row.

@@ -114,7 +114,7 @@ pub fn assert_no_rule(
     Ok(())
 }
 
-/// The rule of that index, which is the closest one, doesn't apply: an error stands beside what it recovers.
+/// The rule of that index, which is the closest one, doesn't apply: an error is beside what it recovers.
 pub fn assert_unfit(rt: &impl Abort, answer: &Expansion<Global>, arm: u32) {
     let (_tree, index) = &answer.value;
     assert!(rt; answer.err.is_some());

@@ -2,7 +2,7 @@
 use mbe_tt::span::{Span, SyntaxContext};
 use mbe_tt::tt::{DelimiterKind, Spacing};
 
-/// A token of a test, and where it stands.
+/// A token of a test, and where it is.
 #[derive(Clone, Copy)]
 pub struct Token<'a> {
     pub lexeme: Lexeme<'a>,
@@ -67,7 +67,7 @@ pub fn word(text: &str, file: u32, start: u32) -> Token<'_> {
     placed(Lexeme::Word(text), file, start, text.len())
 }
 
-/// An identifier behind `r#`, which its span includes.
+/// An identifier after `r#`, which its span includes.
 pub fn raw(text: &str, file: u32, start: u32) -> Token<'_> {
     placed(Lexeme::Raw(text), file, start, text.len().saturating_add(2))
 }

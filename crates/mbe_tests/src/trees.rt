@@ -149,7 +149,7 @@ fn with_quotes<A: Allocator + Copy>(
     }
 }
 
-/// The token trees of a text of words, numbers, puncts, lifetimes and groups. A `'` may stand alone.
+/// The token trees of a text of words, numbers, puncts, lifetimes and groups. A `'` may be alone.
 pub fn lexed<A: Allocator + Copy>(
     alloc: A,
     file: u32,

@@ -47,7 +47,7 @@ kind_name CStr = codes "CStr"
 kind_name (CStrRaw n) = codes "CStrRaw"
 kind_name Err = codes "Err"
 
--- a leaf: what it is, then what it says, then where it stands
+-- a leaf: what it is, then what it says, then where it is
 abbrev pub ident_line : Ident → List ℕ
 ident_line i = codes "IDENT   " ++ (ident_text i ++ (codes " " ++ span_text i.span))
 
@@ -82,7 +82,7 @@ lines depth none = []
 lines depth (leaf l rest) = line depth (leaf_line l) ++ lines depth rest
 lines depth (group d inside rest) = line depth (group_line d) ++ (lines (suc depth) inside ++ lines depth rest)
 
--- the line of a place's next flat token, which is a closing where no tree stands
+-- the line of a place's next flat token, which is a closing where there is no tree
 abbrev pub first_line : ℕ → Option Tree → List ℕ
 first_line depth None = []
 first_line depth (Some (Leaf_tree l)) = line depth (leaf_line l)

@@ -32,7 +32,7 @@ lexeme_item span (Close kind) = close_item kind span
 abbrev pub token_item : Token → Item
 token_item t = lexeme_item t.span t.lexeme
 
--- where it stands
+-- where it is
 abbrev pub item_span : Item → Span
 item_span (leaf_item l) = span_of l
 item_span (open_item kind span) = span
@@ -50,7 +50,7 @@ IsAstray (leaf_item l) old = ⊥
 IsAstray (open_item kind span) old = ⊥
 IsAstray (close_item kind span) old = kind_inside old ≢ Some kind
 
--- a fault stands at an item's first byte, and the item is a closing that doesn't fit
+-- a fault is at an item's first byte, and the item is a closing that doesn't fit
 abbrev pub FaultsAt : Item → Levels → LexError → Type 0
 FaultsAt item old (errors.Fault offset) = (offset ≡ (item_span item).start) × IsAstray item old
 FaultsAt item old errors.OutOfMemory = ⊤
@@ -74,7 +74,7 @@ ended end (g ∷ outer) = gathered end g.0 g.1 outer
 abbrev pub bytes_of : ℕ → ℕ → ℕ → Span
 bytes_of file start end = record { file = file; ast = 0; start = start; end = end; ctx = record { 0 = 0 } }
 
--- each item has a byte at least of that file, and they stand one behind another between those bytes
+-- each item has a byte at least of that file, and they are one after another between those bytes
 abbrev pub AreInOrder : ℕ → ℕ → List Item → ℕ → Type 0
 AreInOrder file from [] to = from ≤ to
 AreInOrder file from (x ∷ xs) to =
@@ -85,7 +85,7 @@ AreInOrder file from (x ∷ xs) to =
 abbrev pub whole : ℕ → ℕ → Levels
 whole file len = (record { opening = bytes_of file 0 len; close = bytes_of file 0 len; kind = Invisible }, none) ∷ []
 
--- The trees of a file's text: items that stand in it one behind another make them, and the groups open at the end are closed there.
+-- The trees of a file's text: items that are in it one after another make them, and the groups open at the end are closed there.
 pub record IsMade (file len : ℕ) (trees : Top) : Type 0 where
   pub items : List Item
   pub in_order : AreInOrder file 0 items len

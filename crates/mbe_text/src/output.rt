@@ -11,7 +11,7 @@ use std::io::Write;
 type Line = ArrayVec<u8, 128>;
 
 /// Writes all the bytes, in as many calls of the writer as that takes. It returns the writer's first error, other than that a
-/// call was interrupted, which is tried again; then the bytes in front are written that the writer took. A writer that takes none
+/// call was interrupted, which is tried again; then what was written is a prefix, the bytes that the writer took. A writer that takes none
 /// is an error too.
 pub fn write_whole<W: Write>(bytes: &[u8], out: &mut W) -> io::Result<()>
     ensures { Writes (W.contents out.old) (W.contents out.new) result bytes.now }

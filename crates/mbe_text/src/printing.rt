@@ -225,7 +225,7 @@ fn next_depth<A: Allocator>(tree: &Option<TtElement<'_, A>>, depth: usize) -> us
 /// Writes a line for each group and leaf, two spaces further in for each group around it: `SUBTREE` with the delimiters
 /// (`$$` where they are invisible) and both spans, `IDENT` with the name, `PUNCH` with the char and its spacing, `LITERAL` with
 /// the kind and the text with its suffix and without its quotes. It returns the first error of the writer, after which what was
-/// written is a beginning. A line of at most 128 bytes, with its spaces and line feed, goes to the writer at once. The form is near
+/// written is a prefix. A line of at most 128 bytes, with its spaces and line feed, goes to the writer at once. The form is near
 /// to that of rust-analyzer's tests.
 pub fn print_tree<A: Allocator, W: Write>(tree: &TopSubtree<A>, out: &mut W) -> io::Result<()>
     ensures { Writes (W.contents out.old) (W.contents out.new) result (spec.tree_text tree.now) }

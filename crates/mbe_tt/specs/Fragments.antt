@@ -1,2 +1,2 @@
--- What a grammar of fragments answers.
+-- What a grammar of fragments returns.
 pub mod Grammar

@@ -74,7 +74,7 @@ fn write_group<A: Allocator>(
     written
 }
 
-/// Writes a group with that leaf in it, and goes back to where the builder was. It answers how many flat tokens were
+/// Writes a group with that leaf in it, and goes back to where the builder was. It returns how many flat tokens were
 /// written in between.
 #[tactic(auto, using(mbe_tt::proofs::Buffers::OpenGroups::put_length, mbe_tt::proofs::Buffers::OpenGroups::closed_length))]
 pub fn write_and_go_back<A: Allocator>(
@@ -116,7 +116,7 @@ fn write_part<A: Allocator + Copy>(
     }
 }
 
-/// Writes as many parts as `limit` says and memory allows. It answers how many were written whole.
+/// Writes as many parts as `limit` says and memory allows. It returns how many were written whole.
 #[tactic(auto, using(mbe_tt::proofs::Buffers::OpenGroups::put_length, mbe_tt::proofs::Buffers::OpenGroups::closed_length))]
 pub fn write_parts<A: Allocator + Copy>(
     builder: &mut TopSubtreeBuilder<A>,
@@ -149,7 +149,7 @@ pub fn nested<A: Allocator>(alloc: A, depth: usize) -> Result<TopSubtree<A>, All
     Ok(builder.build())
 }
 
-/// Passes that many flat tokens, where the place behind them is in no group of what is left. It says whether it did.
+/// Consumes that many flat tokens, where the place after them is in no group of what is left. It says whether it did.
 pub fn pass_flat<A: Allocator>(iter: &mut TtIter<'_, A>, count: usize) -> bool {
     let mut cursor = iter.remaining().cursor();
     for _passed in 0..count {
@@ -162,7 +162,7 @@ pub fn pass_flat<A: Allocator>(iter: &mut TtIter<'_, A>, count: usize) -> bool {
     true
 }
 
-/// The next tree, which is passed, by a savepoint before it.
+/// The next tree, which is consumed, by a savepoint before it.
 pub fn pass_by_savepoint<'a, A: Allocator>(
     iter: &mut TtIter<'a, A>,
 ) -> Option<TokenTreesView<'a, A>> {

@@ -1,4 +1,4 @@
--- The dot of a beginning: where it stands in its pattern, without what it read.
+-- The dot of a beginning: where it is in its pattern, without what it read.
 use Rattle.std.specs.Prelude.{List, [], ◌∷◌}
 use Rattle.mbe_semantics.specs.Readings.Item.{no_items, no_rounds}
 use Rattle.mbe_semantics.specs.Readings.Reading.{Frame, inside, within, Beginning, dot}

@@ -18,7 +18,7 @@ use Rattle.mbe_bounds.specs.Bounded.Dots.{dot_of}
 use Rattle.mbe_bounds.specs.Bounded.TwoEach.{two_each, turns, held_two_each}
 use Rattle.mbe_bounds.specs.Bounded.Run.{ComesBounded, verdict_bounded}
 
--- The number of a beginning tells its dot among the beginnings of a pattern, and goes from 1 to the number of dots.
+-- The number of a beginning determines its dot among the beginnings of a pattern, and goes from 1 to the number of dots.
 pub record NumbersAreRight : Type 0 where
   pub one_dot : (i j : Input) (pattern : Ops) (x y : Beginning) → Begins i pattern x → Begins j pattern y → number_of x ≡ number_of y → dot_of x ≡ dot_of y
   pub one_number : (x y : Beginning) → dot_of x ≡ dot_of y → number_of x ≡ number_of y
@@ -52,7 +52,7 @@ FewTurns = (g : Grammar) (pattern : Ops) (argument : Forest) → IsLawful g → 
     (length xs ≤ dots pattern + dots pattern)
     × (turns (length xs) (dots pattern) ≤ 1 + (dots pattern + dots pattern + dots pattern + dots pattern + dots pattern + dots pattern))
 
--- the bounded run answers as the full run does
+-- the bounded run returns what the full run does
 abbrev pub SameVerdict : Type 0
 SameVerdict = (g : Grammar) (pattern : Ops) (argument : Forest) → IsLawful g → Checked pattern → verdict_bounded g pattern argument ≡ verdict g pattern argument
 

@@ -30,6 +30,6 @@ run_bounded zero i d len q xs = stuck q
 run_bounded (suc n) i d len q xs =
     go_on_bounded len q (held_two_each i d q xs) (λ k ys. run_bounded n i d len k ys) (moves_of i q (held_two_each i d q xs))
 
--- what the bounded run over the whole argument answers
+-- what the bounded run over the whole argument returns
 unfoldable pub verdict_bounded : Grammar → Ops → Forest → Verdict
 verdict_bounded g pattern argument = run_bounded (suc (flat_len argument)) (input_of g argument) (dots pattern) (flat_len argument) 0 (start pattern ∷ [])

@@ -10,7 +10,7 @@ abbrev pub plus_if : Bool → ℕ → ℕ
 plus_if true n = suc n
 plus_if false n = n
 
--- how often the number stands there
+-- how often the number occurs there
 abbrev pub times : ℕ → List ℕ → ℕ
 times n [] = 0
 times n (m ∷ ms) = plus_if (nat_eq n m) (times n ms)

@@ -24,7 +24,7 @@ abbrev pub is_missing : {A : Type 0} → Option A → Bool
 is_missing None = true
 is_missing (Some x) = false
 
--- it stands before a token or a variable that doesn't fit
+-- it is before a token or a variable that doesn't fit
 abbrev pub fails : Input → ℕ → Beginning → Bool
 fails i q (dot no_ops is up) = false
 fails i q (dot (op (token t) rest) is up) = is_missing (i.token_at t q)

@@ -56,7 +56,7 @@ run_in order zero i d len q xs = stuck q
 run_in order (suc n) i d len q xs =
     go_on_bounded len q (held_two_each i d q xs) (λ k ys. run_in order n i d len k (order k ys)) (moves_of i q (held_two_each i d q xs))
 
--- what this run over the whole argument answers
+-- what this run over the whole argument returns
 unfoldable pub verdict_in : Order → Grammar → Ops → Forest → Verdict
 verdict_in order g pattern argument =
     run_in order (suc (flat_len argument)) (input_of g argument) (dots pattern) (flat_len argument) 0 (start pattern ∷ [])

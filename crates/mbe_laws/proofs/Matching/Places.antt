@@ -24,7 +24,7 @@ len_map : {A B : Type 0} (f : A → B) (xs : List A) → length (map f xs) ≡ l
 len_map f [] = refl
 len_map f (x ∷ xs) = ap suc (len_map f xs)
 
--- the order is no matter
+-- the order does not matter
 in_reverse : {A : Type 0} (x : A) (xs : List A) → In x xs → In x (reverse xs)
 in_reverse x [] h = h
 in_reverse x (y ∷ xs) (inl e) = subst (λ l. In x l) (sym (reverse-append (y ∷ []) xs)) (in_right x (reverse xs) (y ∷ []) (inl e))

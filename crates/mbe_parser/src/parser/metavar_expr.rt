@@ -14,7 +14,7 @@ use mbe_tt::span::Span;
 use mbe_tt::tt::{DelimiterKind, Ident, Leaf, Literal, TtElement, TtIter};
 use std::alloc::Allocator;
 
-/// Reads what stands between the braces of `${..}`: `ignore($x)`, `index(d)`, `len(d)`,
+/// Reads what is between the braces of `${..}`: `ignore($x)`, `index(d)`, `len(d)`,
 /// `count($x)`, `count($x, d)` or `concat(e, e, ..)`. What follows the arguments isn't looked at.
 ///
 /// `Err` is `SyntaxFault::InvalidExpression` where the trees are none of these, or `Memory` if out of

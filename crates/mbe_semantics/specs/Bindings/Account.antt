@@ -63,7 +63,7 @@ pushed_default a = record { finished = all_rounds a; current = no_commands }
 abbrev pub nothing_taken : Fragment
 nothing_taken = record { trees = none; style = items.plain }
 
--- with empty lists behind them, until there are n
+-- with empty lists after them, until there are n
 abbrev pub filled : ℕ → Values → Values
 filled zero vs = vs
 filled (suc n) no_values = value (list no_values) (filled n no_values)
@@ -114,7 +114,7 @@ abbrev pub skip_commands : List Name → Commands → Commands
 skip_commands [] cs = cs
 skip_commands (name ∷ names) cs = skip_commands names (command cs (skips name))
 
--- the commands that items write, from left to right, behind those that were written before
+-- the commands that items write, from left to right, after those that were written before
 abbrev mutual
   pub write_item : Item → Commands → Commands
   write_item (matched n) cs = cs
@@ -188,7 +188,7 @@ pub record Order : Type 0 where
 
 module _ (log : Log) where
   mutual
-    -- What entries give behind the commands before them, when parts are replaced by what they stand for.
+    -- What entries give after the commands before them, when parts are replaced by what they stand for.
     pub data Gives : Commands → List Entry → Commands → Type 0 where
       gives_nothing : (cs : Commands) → Gives cs [] cs
       gives_binding : (cs : Commands) (name : Name) (x : Fragment) (es : List Entry) (all : Commands) →

@@ -167,7 +167,7 @@ quote_rule = fn_like quote_pattern no_ops
 abbrev pub quote_argument : Forest
 quote_argument = text_at 1 0 (codes "b") (joint_at 1 2 39 (text_at 1 3 (codes "a") (text_at 1 5 (codes "b") none)))
 
--- behind `b` the quote is a token, or begins the separator, which is two tokens
+-- after `b` the quote is a token, or begins the separator, which is two tokens
 pub record QuoteExample : Type 0 where
   pub defines : Defines quote_definition (quote_rule ∷ [])
   pub place : (g : Grammar) → IsAmbiguousAt g quote_pattern quote_argument 1
@@ -294,7 +294,7 @@ pub record TemplateExamples : Type 0 where
   pub opened : IsWrittenAs same_span (at 1 0 5) items.as_expression (at 0 15 16)
       (group (delimiter_of Invisible (at 1 0 0) (at 1 5 5)) (number (codes "1") (at 1 0 1) (mark 43 Alone (at 1 2 3) (number (codes "2") (at 1 4 5) none))) none)
       (group (delimiter_of Parenthesis (at 0 15 16) (at 0 15 16)) (number (codes "1") (at 1 0 1) (mark 43 Alone (at 1 2 3) (number (codes "2") (at 1 4 5) none))) none)
-  -- `<T>` gets no `::`, as no identifier stands before the `<`
+  -- `<T>` gets no `::`, as no identifier is before the `<`
   pub plain_path : path_trees (at 1 0 3) (mark 60 Alone (at 1 0 1) (word (codes "T") (at 1 1 2) (mark 62 Alone (at 1 2 3) none)))
       ≡ mark 60 Alone (at 1 0 1) (word (codes "T") (at 1 1 2) (mark 62 Alone (at 1 2 3) none))
   -- `Vec<u8>` gets a `::`

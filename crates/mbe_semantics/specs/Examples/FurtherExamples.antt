@@ -27,7 +27,7 @@ use Rattle.mbe_semantics.specs.Writing.Substitution.{IsSubstitution}
 use Rattle.mbe_semantics.specs.Expansion.Recovery.{IsClosest}
 use Rattle.mbe_semantics.specs.Examples.Sample.{is_2024, at, ident_of, punct_of, integer_of, delimiter_of, text_at, number_at, alone_at, joint_at, arrow_at, parens, braces, typed_at, named_at, reads_at, writes_at, ident_at, fn_like, Defines, ExpandsBy}
 
--- ---- `(-1) => {-1}; (- 2) => {- 2}; (- 3.0) => {- 3.0}; (@$lit:literal) => {$lit}`, a rule a line behind a first line break
+-- ---- `(-1) => {-1}; (- 2) => {- 2}; (- 3.0) => {- 3.0}; (@$lit:literal) => {$lit}`, a rule a line after a first line break
 
 abbrev pub three_at : ℕ → Literal
 three_at start = record { text_and_suffix = codes "3.0"; suffix_len = 0; kind = Float; span = at 0 start (start + 3) }
@@ -122,14 +122,14 @@ abbrev pub hidden_rule : Rule
 hidden_rule = fn_like (op (ops.group (delimiter_of Invisible (at 0 0 0) (at 0 1 1)) (op (reads_at 2 (codes "x") kinds.Ident) no_ops)) no_ops) (op (writes_at 13 (codes "x")) no_ops)
 
 pub record InvisibleExample : Type 0 where
-  -- `$x:tt` takes the group, and writes what stands in it
+  -- `$x:tt` takes the group, and writes what is in it
   pub opened : (g : Grammar) → ExpandsBy g (tree_rule ∷ []) hidden_a 1 0 (text_at 1 0 (codes "a") none)
   -- `$x:ident` doesn't look into it
   pub closed : (g : Grammar) → IsLawful g → IsVerdict g ident_rule.reads hidden_a (stuck 0)
   -- a group of the pattern does
   pub entered : (g : Grammar) → ExpandsBy g (hidden_rule ∷ []) hidden_a 1 0 (text_at 1 0 (codes "a") none)
 
--- ---- a name that stands twice
+-- ---- a name that occurs twice
 
 abbrev pub word_items : ℕ → Ops
 word_items start = op (reads_at start (codes "x") kinds.Ident) no_ops
@@ -167,7 +167,7 @@ pub record NamesExample : Type 0 where
   -- on `a b ; c`: a later fragment replaces the list
   pub replaces : (g : Grammar) → IsLawful g →
       ExpandsBy g (list_then_one ∷ []) (a_at 0 (text_at 1 2 (codes "b") (alone_at 1 4 59 (text_at 1 6 (codes "c") none)))) 7 0 (text_at 1 6 (codes "c") none)
-  -- on `a ; b, c`: later rounds come behind the earlier ones
+  -- on `a ; b, c`: later rounds come after the earlier ones
   pub appended : (g : Grammar) → IsLawful g →
       ExpandsBy g (two_lists ∷ []) (a_at 0 (alone_at 1 2 59 (text_at 1 4 (codes "b") (alone_at 1 5 44 (text_at 1 7 (codes "c") none))))) 8 0
       (a_at 0 (text_at 1 4 (codes "b") (text_at 1 7 (codes "c") none)))

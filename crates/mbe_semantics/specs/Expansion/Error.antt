@@ -56,7 +56,7 @@ entry_name entries.Vis = codes "Vis"
 abbrev pub front_span : Forest → Span → Span
 front_span f end = unwrap_or (option_map first_span (first f)) end
 
--- what is told of a front that the grammar faults, or that ends in a group
+-- what is reported of a front that the grammar faults, or that ends in a group
 abbrev pub front_error : Grammar → PrefixEntryPoint → Forest → DelimSpan → Option ExpandError
 front_error g entry f around =
     if is_good g entry f then None

@@ -1,4 +1,4 @@
--- Which rule of a definition expands an argument. A rule whose substitution faults is passed over, as in
+-- Which rule of a definition expands an argument. A rule whose substitution faults is skipped, as in
 -- rust-analyzer; the Rust Reference stops there.
 use Rattle.std.specs.Prelude.{◌≡◌, ℕ, suc, List, [], ◌∷◌, IsFalse}
 use Rattle.mbe_tt.specs.declared.span.Span.{Span}

@@ -1,4 +1,4 @@
--- The expansion theorem from three trees: the definition's, the argument's and the result's. Between them stand the clauses
+-- The expansion theorem from three trees: the definition's, the argument's and the result's. Between them are the clauses
 -- of the calls that read the definition and expand the argument, and nothing else.
 use Rattle.std.specs.Prelude.{◌≡◌, ◌↔◌, ℕ, List, Contains, Option, IsNone}
 use Rattle.mbe_tt.specs.declared.span.Span.{Span}
@@ -39,7 +39,7 @@ module _ (Asked : SyntaxContext → Edition → Type 0) (Marks : Span → Span �
     pub exactly : IsNone err ↔ ((r : Rule) × Contains rules r × Applies g style argument r)
     pub expands : Expands g Marks rules style argument call_site out index err
 
-  -- So answers each call of `expand` on a macro that `parse_macro_rules` or `parse_macro2` gave.
+  -- Each call of `expand` on a macro that `parse_macro_rules` or `parse_macro2` returned has such a result.
   abbrev pub ExpandsFromTrees : Type 0
   ExpandsFromTrees = (g : Grammar) (definition : Definition) (argument : Forest) (m : Macro) (style : MacroCallStyle)
       (call_site : Span) (out : Forest) (index : Option ℕ) (err : Option ExpandError) →

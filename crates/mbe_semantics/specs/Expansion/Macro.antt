@@ -19,7 +19,7 @@ pub record Macro : Type 0 where
   pub rules : List Rule
   pub err : Option Fault
 
--- a refused pattern is told
+-- a refused pattern is reported
 abbrev pub TellsRefusal : Macro → Type 0
 TellsRefusal m = IsTrue (list_any (λ r. is_refused r.reads) m.rules) → m.err ≡ Some empty_repetition
 

@@ -1,4 +1,4 @@
--- What a macro that was read is, told by the grammar of definitions.
+-- What a macro that was read is, by the grammar of definitions.
 use Rattle.std.specs.Prelude.{Option, Some, None}
 use Rattle.mbe_tt.specs.Trees.Tree.{Forest}
 use Rattle.mbe_tt.specs.declared.span.SyntaxContext.{SyntaxContext}

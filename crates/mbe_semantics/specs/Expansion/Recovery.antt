@@ -17,7 +17,7 @@ HasStyle rs style = (r : Rule) × Contains rs r × (r.style ≡ style)
 abbrev pub IsStyledAt : List Rule → MacroCallStyle → ℕ → Rule → Type 0
 IsStyledAt rs style n r = (slice_get rs n ≡ Some r) × (r.style ≡ style)
 
--- n goes before m: fewer trees are unmatched, or as many and more is bound, or neither and it stands before
+-- n goes before m: fewer trees are unmatched, or as many and more is bound, or neither and it is before
 abbrev pub GoesBefore : (ℕ → ℕ) → (ℕ → ℕ) → ℕ → ℕ → Type 0
 GoesBefore left bound n m =
     (left n < left m) ⊎ ((left n ≡ left m) × ((bound m < bound n) ⊎ ((bound m ≡ bound n) × (n ≤ m))))

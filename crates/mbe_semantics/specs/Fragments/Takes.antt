@@ -31,7 +31,7 @@ unsigned_front (leaf (ident i) rest) =
     if is_truth i.sym then Some (cut_trees 1 (leaf (ident i) rest)) else None
 unsigned_front _ = None
 
--- `-` too
+-- the first two trees, if the second is taken by itself
 abbrev pub with_leaf : Forest → Option Cut → Option Cut
 with_leaf f None = None
 with_leaf f (Some c) = Some (cut_trees 2 f)
@@ -41,7 +41,7 @@ abbrev pub literal_front : Forest → Option Cut
 literal_front (leaf (punct p) rest) = if p.char == 45 then with_leaf (leaf (punct p) rest) (unsigned_front rest) else None
 literal_front f = unsigned_front f
 
--- a lifetime where `'` stands first, and else the puncts that are taken together, or one tree
+-- a lifetime where `'` is first, and else the puncts that are taken together, or one tree
 abbrev pub tree_front : Forest → Option Cut
 tree_front none = None
 tree_front (leaf (punct p) rest) =
@@ -53,7 +53,7 @@ abbrev pub is_plain_word : IdentIsRaw → List ℕ → List ℕ → Bool
 is_plain_word No sym word = is_text sym word
 is_plain_word Yes sym word = false
 
--- the first word that no expression of this kind begins with
+-- a word that no expression of this kind begins with
 abbrev pub is_refused_word : ExprKind → IdentIsRaw → List ℕ → Bool
 is_refused_word exprs.Expr is_raw sym = is_text sym (codes "let")
 is_refused_word exprs.Expr2021 is_raw sym = is_text sym (codes "let") || is_plain_word is_raw sym (codes "_") || is_plain_word is_raw sym (codes "const")

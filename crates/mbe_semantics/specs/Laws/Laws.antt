@@ -124,7 +124,7 @@ abbrev pub MatcherLaw : Type 0
 MatcherLaw = (g : Grammar) (pattern : Ops) (argument : Forest) → IsLawful g → Checked pattern → (q : ℕ) (xs : List Beginning) →
     Comes (input_of g argument) pattern q xs → HeldAre g pattern argument q xs
 
--- what a run over the places answers is the verdict
+-- what a run over the places returns is the verdict
 abbrev pub RunsAreRight : Type 0
 RunsAreRight = (g : Grammar) (pattern : Ops) (argument : Forest) → IsLawful g → Checked pattern → IsVerdict g pattern argument (verdict g pattern argument)
 
@@ -197,7 +197,7 @@ abbrev pub IsSpanIn : Span → List Span → Type 0
 IsSpanIn span [] = ⊥
 IsSpanIn span (s ∷ spans) = (span ≡ s) ⊎ IsSpanIn span spans
 
--- What a variable of kind `tt`, `ident`, `literal` or `lifetime` writes are trees that stand in the argument, or the
+-- What a variable of kind `tt`, `ident`, `literal` or `lifetime` writes are trees that are in the argument, or the
 -- content of one invisible group there; only the spacing of a last punct is changed, and no span is.
 abbrev pub WrittenInPlace : (Span → Span → Type 0) → Type 0
 WrittenInPlace Marks = (g : Grammar) (call_site : Span) (pattern : Ops) (argument : Forest) (is : Items) (path : Path) (name : Name)
@@ -263,7 +263,7 @@ SpansHaveSources Marks = (g : Grammar) (style : MacroCallStyle) (argument : Fore
 
 -- ---- expansions
 
--- the marker answers each span in one way
+-- the marker marks each span in one way
 abbrev pub HasOneAnswer : (Span → Span → Type 0) → Type 0
 HasOneAnswer Marks = (s t u : Span) → Marks s t → Marks s u → t ≡ u
 
@@ -294,7 +294,7 @@ LiveHaveAccounts = (log : Log) (order : Order) (h : Handle) → IsOrdered log or
 abbrev pub OneAccount : Type 0
 OneAccount = (log : Log) (h : Handle) (a b : Account) → IsAccount log h a → IsAccount log h b → a ≡ b
 
--- what is written at the end of a list comes behind what the list gives
+-- what is written at the end of a list comes after what the list gives
 pub record EntriesFollow : Type 0 where
   pub commands : (log : Log) (cs middle all : Commands) (es more : List Entry) →
       Gives log cs es middle → Gives log middle more all → Gives log cs (es ++ more) all

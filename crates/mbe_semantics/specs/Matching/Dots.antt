@@ -1,4 +1,4 @@
--- The dots of a pattern: the places in it where a beginning may stand, each with its number.
+-- The dots of a pattern: the places in it where a beginning may be, each with its number.
 use Rattle.std.specs.Prelude.{ℕ, ◌+◌, List, [], ◌∷◌}
 use Rattle.mbe_semantics.specs.Syntax.Op.{Op, token, group, variable, repetition, expression, Ops, no_ops, op}
 use Rattle.mbe_semantics.specs.Readings.Reading.{Frame, inside, within, Beginning, dot}

@@ -12,7 +12,7 @@ use Rattle.mbe_semantics.specs.Readings.Steps.{skip_of, again_of, if_none, Move,
 use Rattle.mbe_semantics.specs.Bindings.Account.{Commands, no_commands, Account, no_account, binds, pushed, pushed_nested, pushed_default, skip_commands, write, rounds_of_items}
 use Rattle.mbe_semantics.specs.Syntax.Op.{Name, names_of}
 
--- an open item: a group, with the ops behind it; or a repetition, with the place where its round began and the account outside
+-- an open item: a group, with the ops after it; or a repetition, with the place where its round began and the account outside
 pub data Edge : Type 0 where
   gate : Ops → Edge
   edge : Ops → Option Separator → RepeatKind → Ops → ℕ → Account → Edge
@@ -25,7 +25,7 @@ pub data Outline : Type 0 where
 pub data Advance : Type 0 where
   advance : ℕ → Bool → Outline → Advance
 
--- the account behind items
+-- the account after items
 abbrev pub written : Items → Account → Account
 written is a = record { finished = a.finished; current = write is a.current }
 
@@ -77,7 +77,7 @@ idle_of i q (outline (op (group d b) rest) e up) = []
 idle_of i q (outline (op (repetition b s k) rest) e up) =
     outline b no_account (edge b s k rest q e ∷ up) ∷ skip_of k (outline rest (skipped (names_of b) e) up)
 
--- at least one flat token is passed
+-- at least one flat token is consumed
 abbrev pub if_some_advance : Bool → ℕ → Outline → Option Advance
 if_some_advance f zero x = None
 if_some_advance f (suc n) x = Some (advance (suc n) f x)

@@ -28,6 +28,6 @@ unfoldable pub run : ℕ → Input → ℕ → ℕ → List Beginning → Verdic
 run zero i len q xs = stuck q
 run (suc n) i len q xs = go_on i len q xs (λ k ys. run n i len k ys) (moves_of i q (held i q xs))
 
--- what the run over the whole argument answers
+-- what the run over the whole argument returns
 unfoldable pub verdict : Grammar → Ops → Forest → Verdict
 verdict g pattern argument = run (suc (flat_len argument)) (input_of g argument) (flat_len argument) 0 (start pattern ∷ [])

@@ -43,7 +43,7 @@ abbrev pub clash : List Advance → Bool
 clash [] = false
 clash (advance n f o ∷ ws) = clash_with n f ws
 
--- how many flat tokens the first step passes
+-- how many flat tokens the first step consumes
 abbrev pub first_width : List Advance → Option ℕ
 first_width [] = None
 first_width (advance n f o ∷ ws) = Some n

@@ -47,7 +47,7 @@ separator_front (literal_separator l) f = literal_separator_front l.text_and_suf
 separator_front (punct_separator ps) f = puncts_front (chars_of ps) f
 separator_front (lifetime_separator p i) f = lifetime_text_front i.sym f
 
--- what stands between two rounds: a separator, or nothing
+-- what is between two rounds: a separator, or nothing
 abbrev pub between_front : Option Separator → Forest → Option Cut
 between_front None f = Some (cut none f)
 between_front (Some s) f = separator_front s f

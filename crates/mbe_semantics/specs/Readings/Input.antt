@@ -1,4 +1,4 @@
--- What stands at the places of an argument. It is all that readings and beginnings see of trees and grammar.
+-- What is at the places of an argument. It is all that readings and beginnings see of trees and grammar.
 use Rattle.std.specs.Prelude.{ℕ, Bool, true, false, ◌&&◌, nat_lt, Option, Some, None}
 use Rattle.mbe_semantics.specs.declared.kinds.MetaVarKind.{MetaVarKind}
 use Rattle.mbe_tt.specs.declared.tt.DelimiterKind.{DelimiterKind}
@@ -9,7 +9,7 @@ use Rattle.mbe_semantics.specs.Fragments.Takes.{takes}
 use Rattle.mbe_semantics.specs.Readings.Fit.{token_front, separator_front}
 use Rattle.mbe_semantics.specs.Readings.Item.{Fragment, style_of}
 
--- answers for each place
+-- what is at each place
 pub record Input : Type 0 where
   -- a token of the pattern fits at the place, over so many flat tokens
   pub token_at : Token → ℕ → Option ℕ
@@ -32,7 +32,7 @@ abbrev pub fragment_of : Option MetaVarKind → Option Cut → Option Fragment
 fragment_of kind None = None
 fragment_of kind (Some c) = Some (record { trees = c.front; style = style_of kind })
 
--- a group of this kind stands at the front
+-- a group of this kind is at the front
 abbrev pub is_opening : DelimiterKind → Forest → Bool
 is_opening kind (group d inside rest) = is_same_kind kind d.kind
 is_opening kind _ = false

@@ -47,7 +47,7 @@ mutual
     no_items : Items
     item : Items → Item → Items
 
-  -- complete rounds, each with the width of the separator behind it, which is 0 where there is no separator
+  -- complete rounds, each with the width of the separator after it, which is 0 where there is no separator
   pub data Rounds : Type 0 where
     no_rounds : Rounds
     round : Rounds → Items → ℕ → Rounds

@@ -13,13 +13,13 @@ MaySkip ZeroOrMore = Unit {0}
 MaySkip OneOrMore = ⊥
 MaySkip ZeroOrOne = Unit {0}
 
--- it may have another round behind one
+-- it may have another round after one
 abbrev pub MayRepeat : RepeatKind → Type 0
 MayRepeat ZeroOrMore = Unit {0}
 MayRepeat OneOrMore = Unit {0}
 MayRepeat ZeroOrOne = ⊥
 
--- what is between two rounds stands at place p, over w flat tokens
+-- what is between two rounds is at place p, over w flat tokens
 abbrev pub Between : Input → Option Separator → ℕ → ℕ → Type 0
 Between i None p w = w ≡ 0
 Between i (Some s) p w = i.separator_at s p ≡ Some w
@@ -40,7 +40,7 @@ abbrev mutual
   ReadsFirst no_items i os p rest = os ≡ rest
   ReadsFirst (item is x) i os p rest = (o : Op) × ReadsFirst is i os p (op o rest) × Reads x i o (p + items_width is)
 
-  -- From place p these are complete rounds, each with the separator behind it, so that another round may begin.
+  -- From place p these are complete rounds, each with the separator after it, so that another round may begin.
   pub ReadsRounds : Rounds → Input → Ops → Option Separator → RepeatKind → ℕ → Type 0
   ReadsRounds no_rounds i body s k p = Unit {0}
   ReadsRounds (round rs is w) i body s k p =
@@ -49,7 +49,7 @@ abbrev mutual
 
 -- ---- beginnings
 
--- An open item: a group or a repetition that was gone into. It has its op, the ops behind that, and the items before
+-- An open item: a group or a repetition that was gone into. It has its op, the ops after that, and the items before
 -- it; a repetition also has its complete rounds.
 pub data Frame : Type 0 where
   inside : Delimiter → Ops → Ops → Items → Frame

@@ -33,7 +33,7 @@ again_of None ZeroOrMore x = x ∷ []
 again_of None OneOrMore x = x ∷ []
 again_of None ZeroOrOne x = []
 
--- no flat token is passed
+-- no flat token is consumed
 abbrev pub if_none : {A : Type 0} → ℕ → A → List A
 if_none zero x = x ∷ []
 if_none (suc n) x = []
@@ -62,7 +62,7 @@ idle i q (dot (op (expression e) rest) is up) = []
 pub data Move : Type 0 where
   move : ℕ → Bool → Beginning → Move
 
--- at least one flat token is passed
+-- at least one flat token is consumed
 abbrev pub if_some : Bool → ℕ → Beginning → Option Move
 if_some f zero x = None
 if_some f (suc n) x = Some (move (suc n) f x)
@@ -89,7 +89,7 @@ abbrev pub separator_move : Input → ℕ → Option Separator → RepeatKind �
 separator_move i q None k b rest js rs up is = None
 separator_move i q (Some s) k b rest js rs up is = round_move k (i.separator_at s q) b (Some s) rest js rs up is
 
--- The next thing behind the beginning, if it stands at q: a closing, where the group's body is read; the separator,
+-- The next thing after the beginning, if it is at q: a closing, where the group's body is read; the separator,
 -- where a round is read and another may follow; a token; a variable, by fragment, if it takes something; an opening.
 abbrev pub next : Input → ℕ → Beginning → Option Move
 next i q (dot no_ops is []) = None

@@ -1,4 +1,4 @@
--- What a linter is told of a pattern and an argument, and where a match stops.
+-- What is reported to a linter about a pattern and an argument, and where a match stops.
 use Rattle.std.specs.Prelude.{◌≡◌, ◌≤◌, ◌<◌, ℕ, zero, suc, List, [], ◌∷◌}
 use Rattle.mbe_tt.specs.Trees.Tree.{Forest, flat_len, tree_count, rest_at}
 use Rattle.mbe_tt.specs.Fragments.Grammar.{Grammar}
@@ -8,7 +8,7 @@ use Rattle.mbe_semantics.specs.Readings.Input.{Input, input_of}
 use Rattle.mbe_semantics.specs.Readings.Reading.{Beginning, place, Begins, At, Reading}
 use Rattle.mbe_semantics.specs.Readings.Ambiguity.{Ambiguous, Calm, OnlyReading}
 
--- (the project's own choice)
+-- how a pattern reads an argument, with the place of the ambiguity or of the stop (the project's own choice)
 pub data Verdict : Type 0 where
   one_reading : Verdict
   many_readings : Verdict
@@ -25,7 +25,7 @@ Right i pat len (stuck q) =
     Calm i pat × ((is : Items) → Reading i pat len is → ⊥)
     × ((x : Beginning) × At i pat q x) × ((y : Beginning) → Begins i pat y → place y ≤ q)
 
--- what is said of a pattern and an argument
+-- that is the verdict on a pattern and an argument
 abbrev pub IsVerdict : Grammar → Ops → Forest → Verdict → Type 0
 IsVerdict g pattern argument v = Right (input_of g argument) pattern (flat_len argument) v
 

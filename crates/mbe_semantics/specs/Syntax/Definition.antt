@@ -1,5 +1,5 @@
 -- How trees are read as the rules of a definition, and its error (as rust-analyzer reads them; that a stray token
--- behind a rule is always told is the project's own).
+-- after a rule is always reported is the project's own).
 use Rattle.std.specs.Prelude.{◌≡◌, ◌≢◌, ℕ, ◌==◌, if◌then◌else◌, List, [], ◌∷◌, codes, Option, Some, None, Result, Ok, Err}
 use Rattle.std.specs.List.{list_any}
 use Rattle.mbe_tt.specs.declared.span.SyntaxContext.{SyntaxContext}
@@ -19,7 +19,7 @@ pub record Rule : Type 0 where
   pub reads : Ops
   pub writes : Ops
 
--- the trees of one rule, before its pattern and its template are read, and those behind it
+-- the trees of one rule, before its pattern and its template are read, and those after it
 pub record RuleTrees : Type 0 where
   pub style : MacroCallStyle
   pub reads : Forest
@@ -46,7 +46,7 @@ abbrev pub pattern_at : MacroCallStyle → Forest → Result RuleTrees Fault
 pattern_at style (group d inside rest) = equals_at style inside rest
 pattern_at style _ = Err (expected (codes "expected subtree"))
 
--- a group behind `attr` or `derive`
+-- a group after `attr` or `derive`
 abbrev pub styled_at : MacroCallStyle → Forest → Result RuleTrees Fault
 styled_at style (group d inside rest) = pattern_at style rest
 styled_at style _ = Err (expected (codes "expected `()`"))

@@ -27,7 +27,7 @@ abbrev mutual
   is_nullable no_ops = true
   is_nullable (op o os) = is_nullable_op o && is_nullable os
 
--- nothing stands between its rounds
+-- nothing is between its rounds
 abbrev pub is_unseparated : Option Separator → Bool
 is_unseparated None = true
 is_unseparated (Some s) = false

@@ -11,7 +11,7 @@ use Rattle.mbe_tt.specs.declared.tt.Delimiter.{Delimiter}
 abbrev pub Name : Type 0
 Name = List ℕ
 
--- what stands between two rounds of a repetition
+-- what is between two rounds of a repetition
 pub data Separator : Type 0 where
   ident_separator : Ident → Separator
   literal_separator : Literal → Separator
@@ -25,7 +25,7 @@ pub data Element : Type 0 where
   literal_element : Literal → Element
   variable_element : Ident → Element
 
--- a metavariable expression, which stands in templates alone
+-- a metavariable expression, which only templates have
 pub data Expression : Type 0 where
   ignore : Name → Span → Expression
   count : Name → ℕ → Expression
@@ -33,14 +33,14 @@ pub data Expression : Type 0 where
   len : ℕ → Expression
   concat : List Element → Span → Expression
 
--- what is read and written as it stands
+-- what is read and written as it is
 pub data Token : Type 0 where
   literal : Literal → Token
   ident : Ident → Token
   puncts : List Punct → Token
 
 mutual
-  -- what stands at one place of a pattern or a template
+  -- what is at one place of a pattern or a template
   pub data Op : Type 0 where
     token : Token → Op
     group : Delimiter → Ops → Op
@@ -67,7 +67,7 @@ abbrev mutual
   names_of no_ops = []
   names_of (op o ops) = names_of_op o ++ names_of ops
 
--- no repetition stands in the ops, at any depth
+-- the ops have no repetition, at any depth
 abbrev mutual
   pub op_has_no_repetition : Op → Bool
   op_has_no_repetition (group d body) = has_no_repetition body

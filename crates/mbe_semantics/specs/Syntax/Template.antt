@@ -36,7 +36,7 @@ pub data Fault : Type 0 where
 
 -- ---- the suffix of a repetition, which is read before its body
 
--- the leaves up to the first of `*`, `+`, `?`, which of them it is, and the trees behind it
+-- the leaves up to the first of `*`, `+`, `?`, which of them it is, and the trees after it
 pub record Suffix : Type 0 where
   pub leaves : List Leaf
   pub repeat : RepeatKind
@@ -93,7 +93,7 @@ if_end none x = Some x
 if_end (leaf l rest) x = None
 if_end (group d inside rest) x = None
 
--- `$x`, and what stands behind it
+-- `$x`, and what is after it
 abbrev pub dollar_name : Forest → Option (Ident × Forest)
 dollar_name (leaf (punct p) (leaf (ident i) rest)) = if p.char == 36 && not (is_underscore i.sym) then Some (i, rest) else None
 dollar_name _ = None
@@ -114,7 +114,7 @@ depth_behind_comma _ = None
 abbrev pub element_before : Element → Option (List Element) → Option (List Element)
 element_before e more = option_map (λ es. e ∷ es) more
 
--- elements with commas between them; the last comma may stand
+-- elements with commas between them; there may be a comma after the last
 abbrev mutual
   pub elements_of : Forest → Option (List Element)
   elements_of none = Some []
@@ -141,7 +141,7 @@ ignore_of f = option_and_then (λ x. if_end x.1 (ops.ignore (x.0).sym (x.0).span
 abbrev pub count_of : Forest → Option Expression
 count_of f = option_and_then (λ x. option_map (ops.count (x.0).sym) (depth_behind_comma x.1)) (dollar_name f)
 
--- the arguments of `concat`, which stands at that span
+-- the arguments of `concat`, which is at that span
 abbrev pub concat_of : Span → Forest → Option Expression
 concat_of span f = option_and_then (if_two span) (elements_of f)
 
@@ -155,7 +155,7 @@ arguments_of word inside =
     else if is_text word.sym (codes "concat") then concat_of word.span inside
     else None
 
--- what stands between the braces of `${..}`; what follows the arguments isn't looked at
+-- what is between the braces of `${..}`; what follows the arguments isn't looked at
 abbrev pub expression_of : Forest → Option Expression
 expression_of (leaf (ident word) (group d inside rest)) = expression_if_parenthesis d.kind word inside
   where
@@ -164,9 +164,9 @@ expression_of (leaf (ident word) (group d inside rest)) = expression_if_parenthe
     expression_if_parenthesis _ word inside = None
 expression_of _ = None
 
--- ---- the front of a pattern or a template, without what stands inside a group
+-- ---- the front of a pattern or a template, without what is inside a group
 
--- what stands at the front, and the trees inside and behind it
+-- what is at the front, and the trees inside and after it
 pub data Head : Type 0 where
   ended : Head
   -- an op that is whole
@@ -176,7 +176,7 @@ pub data Head : Type 0 where
   opens_group : Delimiter → Forest → Forest → Head
   opens_repetition : Option Separator → RepeatKind → Forest → Forest → Head
 
--- what is told of a variable in a pattern without `:` and an identifier
+-- what is reported of a variable in a pattern without `:` and an identifier
 abbrev pub missing_specifier : Result Head Fault
 missing_specifier = Err (unexpected_token (codes "missing fragment specifier"))
 
@@ -191,12 +191,12 @@ abbrev pub variable_at : Mode → Name → Span → Forest → Result Head Fault
 variable_at pattern name span rest = specifier_at name span rest
 variable_at template name span rest = Ok (one (ops.variable name None span) rest)
 
--- `$$` writes the second `$`, and stands in templates alone
+-- `$$` writes the second `$`, and is allowed in templates only
 abbrev pub second_dollar : Mode → Punct → Forest → Result Head Fault
 second_dollar pattern p rest = Err (unexpected_token (codes "`$$` is not allowed on the pattern side"))
 second_dollar template p rest = Ok (one (ops.token (ops.puncts (p ∷ []))) rest)
 
--- a repetition, where what stands before `*`, `+` or `?` is a separator
+-- a repetition, where what is before `*`, `+` or `?` is a separator
 abbrev pub repetition_with : RepeatKind → Forest → Forest → Option (Option Separator) → Result Head Fault
 repetition_with repeat inside back (Some separator) = Ok (opens_repetition separator repeat inside back)
 repetition_with repeat inside back None = Err invalid_repeat
@@ -206,7 +206,7 @@ abbrev pub repetition_at : Forest → Option Suffix → Result Head Fault
 repetition_at inside (Some s) = repetition_with s.repeat inside s.back (separator_of s.leaves)
 repetition_at inside None = Err invalid_repeat
 
--- `${..}` stands in templates alone
+-- `${..}` is allowed in templates only
 abbrev pub expression_at : Mode → Forest → Option Expression → Result Head Fault
 expression_at pattern rest e = Err (unexpected_token (codes "`${}` metavariable expressions are not allowed in matchers"))
 expression_at template rest (Some e) = Ok (one (ops.expression e) rest)
@@ -222,7 +222,7 @@ group_behind_dollar mode _ inside rest = Err (expected (codes "expected `$()` re
 abbrev pub dollar_crate : Ident → Op
 dollar_crate i = ops.token (ops.ident (record i { sym = codes "$crate"; is_raw = raw.No }))
 
--- what `$` and the tree behind it are; a `$` at the end is a punct
+-- what `$` and the tree after it are; a `$` at the end is a punct
 abbrev pub behind_dollar : Mode → Punct → Forest → Result Head Fault
 behind_dollar mode p none = Ok (one (ops.token (ops.puncts (p ∷ []))) none)
 behind_dollar mode p (group d inside rest) = group_behind_dollar mode d.kind inside rest
@@ -270,7 +270,7 @@ kind_named [] name = None
 kind_named (row ∷ rows) name = if is_text row.0 name then Some row.1 else kind_named rows name
 
 module _ (HasEdition : SyntaxContext → Edition → Type 0) where
-  -- the specifier means this kind, in an edition that was answered for its own context; no kind is an unknown one
+  -- the specifier means this kind, in an edition that its own context may have; no kind is an unknown one
   pub data Specifies (specifier : Ident) : Option MetaVarKind → Type 0 where
     dated_pat : (e : Edition) → IsTrue (is_text specifier.sym (codes "pat")) → HasEdition (specifier.span).ctx e → Specifies specifier (Some (pat_kind e))
     dated_expr : (e : Edition) → IsTrue (is_text specifier.sym (codes "expr")) → HasEdition (specifier.span).ctx e → Specifies specifier (Some (expr_kind e))

@@ -36,7 +36,7 @@ abbrev pub is_counted : ℕ → Option Value → Bool
 is_counted depth None = false
 is_counted depth (Some v) = nat_lt (value_total depth v) (2 ^ 64)
 
--- an unbound name is written as it stands
+-- an unbound name is written as it is
 abbrev pub variable_faults : Environment → Path → Name → Bool
 variable_faults env path name = if is_none (value_of env name) then false else not (is_simple (followed env path name))
 

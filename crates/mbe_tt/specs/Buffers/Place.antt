@@ -1,4 +1,4 @@
--- Places: numbers of flat tokens passed.
+-- Places: numbers of flat tokens consumed.
 use Rattle.std.specs.Prelude.{◌≡◌, ℕ, zero, suc, ◌≤◌, ◌+◌, List, [], ◌∷◌, ◌++◌, length}
 use Rattle.std.specs.Coded.{Coded, coded×, coded_ℕ}
 use Rattle.mbe_tt.specs.Trees.Tree.{Forest, none, leaf, group, rest_at, depth_at}
@@ -22,7 +22,7 @@ abbrev pub walk : ℕ → Rests → Rests
 walk zero r = r
 walk (suc n) r = walk n (step r.0 r.1)
 
--- the trees from a place to the end of the innermost group, and the number of groups around the place
+-- the trees from a place to the end of the innermost group, and those after it in each group around
 abbrev pub rests : Forest → ℕ → Rests
 rests f n = walk n (f, [])
 
@@ -53,7 +53,7 @@ placed_code = coded× forest_code coded_ℕ
 abbrev pub viewed : Placed → Forest
 viewed c = c.0
 
--- the number of flat tokens passed
+-- the number of flat tokens consumed
 abbrev pub place_of : Placed → ℕ
 place_of c = c.1
 

@@ -1,4 +1,4 @@
--- What a grammar of fragments answers, and the whole trees that hold it. rust-analyzer asks its own parser; here any
+-- What a grammar of fragments returns, and the whole trees that hold it. rust-analyzer asks its own parser; here any
 -- lawful grammar is handed in.
 use Rattle.std.specs.Prelude.{◌≡◌, ℕ, ◌≤◌, Bool, false, not, ◌&&◌, ◌==◌, List, length, Option, if◌then◌else◌, Some, None}
 use Rattle.mbe_tt.specs.declared.grammar.Front.{Front}

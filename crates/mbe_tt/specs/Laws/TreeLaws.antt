@@ -26,11 +26,11 @@ pub record ShortestCut : Type 0 where
   pub enough : (n : ℕ) (f : Forest) → n ≤ flat_len f → n ≤ flat_len (cut_flat n f).front
   pub shortest : (n : ℕ) (f : Forest) (c : Cut) → IsCut f c → n ≤ flat_len c.front → flat_len (cut_flat n f).front ≤ flat_len c.front
 
--- what is left behind some trees doesn't depend on these
+-- what is left after some trees doesn't depend on these
 abbrev pub RestBehindTrees : Type 0
 RestBehindTrees = (trees back : Forest) (n : ℕ) → rest_at (append trees back) (flat_len trees + n) ≡ rest_at back n
 
--- behind an opening is what is left of the group's content
+-- after an opening is what is left of the group's content
 abbrev pub RestInGroup : Type 0
 RestInGroup = (d : Delimiter) (inside rest : Forest) (n : ℕ) → n ≤ flat_len inside → rest_at (group d inside rest) (1 + n) ≡ rest_at inside n
 

@@ -39,7 +39,7 @@ is_text a b = bytes_eq a b
 abbrev pub is_underscore : List ℕ → Bool
 is_underscore s = is_text s (codes "_")
 
--- where a leaf stands
+-- where a leaf is
 abbrev pub span_of : Leaf → Span
 span_of (literal l) = l.span
 span_of (punct p) = p.span

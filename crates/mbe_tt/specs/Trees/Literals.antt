@@ -9,7 +9,7 @@ use Rattle.mbe_tt.specs.declared.tt.LitKind.TheVariants.{Byte, Char, Integer, Fl
 use Rattle.mbe_tt.specs.declared.tt.IdentIsRaw.{IdentIsRaw}
 use Rattle.mbe_tt.specs.declared.tt.IdentIsRaw.TheVariants.{No, Yes}
 
--- what stands before a raw identifier
+-- what is before a raw identifier
 abbrev pub raw_prefix : IdentIsRaw → List ℕ
 raw_prefix No = []
 raw_prefix Yes = codes "r#"
@@ -34,7 +34,7 @@ literal_text l = take (text_len l.text_and_suffix l.suffix_len) l.text_and_suffi
 abbrev pub literal_suffix : Literal → List ℕ
 literal_suffix l = drop (text_len l.text_and_suffix l.suffix_len) l.text_and_suffix
 
--- what stands before the first quote's hashes, their number, and the quote
+-- what is before the first quote's hashes, their number, and the quote
 abbrev pub prefix : LitKind → List ℕ
 prefix Byte = codes "b"
 prefix Char = []
@@ -48,7 +48,7 @@ prefix CStr = codes "c"
 prefix (CStrRaw n) = codes "cr"
 prefix Err = []
 
--- how many `#` stand round the quotes
+-- how many `#` are around the quotes
 abbrev pub hashes : LitKind → ℕ
 hashes Byte = 0
 hashes Char = 0
@@ -80,11 +80,11 @@ quote Err = []
 abbrev pub hash_text : ℕ → List ℕ
 hash_text n = replicate n 35
 
--- what stands before the text
+-- what is before the text
 abbrev pub opening : LitKind → List ℕ
 opening k = prefix k ++ (hash_text (hashes k) ++ quote k)
 
--- what stands behind the text, before the suffix
+-- what is after the text, before the suffix
 abbrev pub closing : LitKind → List ℕ
 closing k = quote k ++ hash_text (hashes k)
 
@@ -96,7 +96,7 @@ literal_output l = opening l.kind ++ (literal_text l ++ (closing l.kind ++ liter
 abbrev pub is_plain : Literal → Bool
 is_plain l = text_len l.text_and_suffix l.suffix_len == length l.text_and_suffix
 
--- the number below 2 ^ 64 that decimal digits write, as std reads a `usize`: a plus sign may stand before them
+-- the number below 2 ^ 64 that decimal digits write, as std reads a `usize`: a plus sign may be before them
 abbrev pub decimal_value : List ℕ → Option ℕ
 decimal_value text =
     if nat_lt 0 (length (without_leading_plus text)) && all_ascii_digits (without_leading_plus text)

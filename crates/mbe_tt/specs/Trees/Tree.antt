@@ -61,13 +61,13 @@ first none = None
 first (leaf l rest) = Some (Leaf_tree l)
 first (group d inside rest) = Some (Group_tree d inside)
 
--- the trees behind the first
+-- the trees after the first
 abbrev pub rest_of : Forest → Forest
 rest_of none = none
 rest_of (leaf l rest) = rest
 rest_of (group d inside rest) = rest
 
--- `count` trees of the front left out
+-- the trees after the first so many
 abbrev pub skip : ℕ → Forest → Forest
 skip zero f = f
 skip (suc n) f = skip n (rest_of f)
@@ -87,7 +87,7 @@ strip_invisible (group d inside none) = strip_group d d.kind inside
 strip_invisible (group d inside (leaf l rest)) = group d inside (leaf l rest)
 strip_invisible (group d inside (group e more rest)) = group d inside (group e more rest)
 
--- the first tree, as the leaf, punct or identifier that it is
+-- the punct that a leaf is
 abbrev pub leaf_punct : Leaf → Option Punct
 leaf_punct (punct p) = Some p
 leaf_punct (literal l) = None
@@ -147,7 +147,7 @@ front_leaf none = None
 front_leaf (leaf l rest) = Some l
 front_leaf (group d inside rest) = None
 
--- a literal, or `true` or `false`
+-- the text is `true` or `false`
 abbrev pub is_truth : List ℕ → Bool
 is_truth text = is_text text (codes "true") || is_text text (codes "false")
 
@@ -222,7 +222,7 @@ last_invisible (group d inside (group e more rest)) = option_map (λ n. 2 + flat
 
 -- ---- places
 
--- A place is a number of flat tokens passed. These are the trees from there to the end of the innermost group.
+-- A place is a number of flat tokens consumed. These are the trees from there to the end of the innermost group.
 abbrev pub rest_at : Forest → ℕ → Forest
 rest_at none p = none
 rest_at (leaf l rest) zero = leaf l rest
@@ -240,7 +240,7 @@ depth_at (group d inside rest) zero = 0
 depth_at (group d inside rest) (suc p) =
     if nat_le p (flat_len inside) then 1 + depth_at inside p else depth_at rest (p - flat_len inside - 1)
 
--- trees at the front of a forest, and those behind them
+-- trees at the front of a forest, and those after them
 pub record Cut : Type 0 where
   pub front : Forest
   pub back : Forest
@@ -260,7 +260,7 @@ leaf_before l c = record c { front = leaf l c.front }
 abbrev pub group_before : Delimiter → Forest → Cut → Cut
 group_before d inside c = record c { front = group d inside c.front }
 
--- behind the first n trees, or behind all where there are fewer
+-- after the first n trees, or after all where there are fewer
 abbrev pub cut_trees : ℕ → Forest → Cut
 cut_trees n none = cut none none
 cut_trees zero (leaf l rest) = cut none (leaf l rest)
@@ -268,7 +268,7 @@ cut_trees zero (group d inside rest) = cut none (group d inside rest)
 cut_trees (suc n) (leaf l rest) = leaf_before l (cut_trees n rest)
 cut_trees (suc n) (group d inside rest) = group_before d inside (cut_trees n rest)
 
--- behind the shortest list of whole trees that holds n flat tokens
+-- after the shortest list of whole trees that holds n flat tokens
 abbrev pub cut_flat : ℕ → Forest → Cut
 cut_flat n none = cut none none
 cut_flat zero (leaf l rest) = cut none (leaf l rest)

@@ -10,7 +10,7 @@ use Rattle.mbe_tt.specs.declared.view.TokenTreesView.{TokenTreesView}
 use Rattle.mbe_tt.specs.declared.view.SubtreeView.{SubtreeView}
 use Rattle.mbe_tt.specs.Trees.Top.{Top, top_code}
 
--- the trees that stand side by side in it
+-- the trees that are side by side in it
 abbrev pub trees : {A : Type 0} → TokenTreesView A → Forest
 trees v = forest_of (entries_of v.entries.now)
 
