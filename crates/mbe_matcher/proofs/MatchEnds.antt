@@ -1,6 +1,6 @@
 -- Where the loop over places stops, and how it goes on.
 use Rattle.std.proofs.Common.{ℕ, suc, ◌+◌, ◌≡◌, ◌<◌, ◌≤◌, Bool, true, false, ◌||◌, not, nat_eq, Option, Some, None, List, [], ◌∷◌, map, reverse, length, refl, sym, ap, subst, ◌∙◌, arith, eqb-true}
-use Rattle.std.specs.Prelude.{◌==◌, if◌then◌else◌, is_some, IfSome}
+use Rattle.std.specs.Prelude.{◌==◌, if◌then◌else◌, is_some, IfSome, Result, Ok, Err, IfOk}
 use Rattle.std.proofs.lemmas.Bool.{eqb-false}
 use Rattle.mbe_tt.specs.Trees.Tree.{Forest, flat_len, rest_at}
 use Rattle.mbe_tt.specs.Fragments.Grammar.{Grammar}
@@ -22,8 +22,8 @@ use Rattle.mbe_matcher.specs.declared.places.Stop.TheVariants as told
 use Rattle.mbe_matcher.specs.declared.position.Outer.{Outer}
 use Rattle.mbe_matcher.specs.declared.position.Position.{Position}
 use Rattle.mbe_matcher.specs.declared.position.Waiting.{Waiting}
-use Rattle.mbe_matcher.specs.Positions.{Each, AreEdges, none_open, IsLeft, Shows, LeadsTo, Holds}
-use Rattle.mbe_matcher.specs.Matched.{IsStack, AreSettled, clashes_with, is_clash, width_first, position_after, ends_as, stuck_at, stop_at, verdict_in, reading_in, Binds}
+use Rattle.mbe_matcher.specs.Positions.{Each, IsLeft, Shows, LeadsTo, Holds}
+use Rattle.mbe_matcher.specs.Matched.{IsStack, IsAtStart, AreSettled, clashes_with, is_clash, width_first, position_after, ends_as, stuck_at, stop_at, verdict_in, reading_in, Binds}
 
 -- ---- the positions that go on
 
@@ -203,12 +203,11 @@ live_stop g pattern argument log (told.Stuck p) b = tt
 -- ---- the first place, and the stack of each
 
 pub come_first : {A : Type 0} (i : Input) (pattern : Ops) (len : ℕ) (log : Log) (outers : List (Outer A)) (todo : List (Position A)) (q : ℕ) (p : Position A) → q ≡ 0 → todo ≡ p ∷ [] →
-    ops_of p.dot.now ≡ pattern → p.number ≡ dots pattern → p.up ≡ None → IsAccount log p.handle no_account →
+    IsAtStart log pattern p →
     (spots : List Outline) × Each (Shows log outers) todo spots × ((lawful : Lawful i len) (checked : Checked pattern) → ComesTo i pattern len lawful checked q spots)
-come_first i pattern len log outers todo q p z e d n u a = (
+come_first i pattern len log outers todo q p z e start = (
   outline pattern no_account [] ∷ [],
-  subst (λ l. Each (Shows log outers) l (outline pattern no_account [] ∷ [])) (sym e)
-      (record { dot = d; number = (let m = n in omega (arith, m)); account = a; around = subst (λ v. AreEdges log outers v []) (sym u) none_open }, tt),
+  subst (λ l. Each (Shows log outers) l (outline pattern no_account [] ∷ [])) (sym e) (start outers, tt),
   λ lawful checked. subst (λ k. ComesTo i pattern len lawful checked k (outline pattern no_account [] ∷ [])) (sym z) (turned_start i pattern len lawful checked (outline pattern no_account []) refl),
 )
 
@@ -216,3 +215,15 @@ abbrev pub stack_of : {A : Type 0} (i : Input) (pattern : Ops) (len : ℕ) (lawf
     (spots : List Outline) → dots pattern ≡ size → ComesTo i pattern len lawful checked q spots → Each (Shows log outers) todo spots → IsStack i q size log outers todo
 stack_of i pattern len lawful checked q size log outers todo spots d c e =
     record { pattern = pattern; size_is = d; beginnings = c.xs; spots = spots; stack = record { sound = c.mirrors.sound; same = c.same }; shown = e }
+
+-- what no only reading's handle says
+pub no_reading : (s : Stop) → ((h : Handle) → s ≡ told.OneReading h → ⊥) → verdict_in s ≡ one_reading → ⊥
+no_reading (told.OneReading h) n e = n h refl
+no_reading told.ManyReadings n e = cc
+no_reading (told.Ambiguous p) n e = cc
+no_reading (told.Stuck p) n e = cc
+
+-- two clauses on one result
+pub both_ok : {X E : Type 0} (r : Result X E) (P Q R : X → Type 0) → ((x : X) → P x → Q x → R x) → IfOk r P → IfOk r Q → IfOk r R
+both_ok (Ok x) P Q R f p q = f x p q
+both_ok (Err e) P Q R f p q = tt

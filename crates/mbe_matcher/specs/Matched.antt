@@ -1,16 +1,17 @@
 -- What is settled at a place, and what a match returns.
-use Rattle.std.specs.Prelude.{ℕ, ◌≡◌, ◌==◌, if◌then◌else◌, Bool, false, ◌||◌, not, nat_eq, is_some, List, [], ◌∷◌, reverse, Option, Some, None}
-use Rattle.mbe_tt.specs.Trees.Tree.{Forest}
+use Rattle.std.specs.Prelude.{ℕ, ◌≡◌, ◌==◌, if◌then◌else◌, Bool, false, ◌||◌, not, nat_eq, is_some, List, [], ◌∷◌, length, reverse, Option, Some, None}
+use Rattle.mbe_tt.specs.Trees.Tree.{Forest, rest_at}
+use Rattle.mbe_tt.specs.Views.View.{trees}
 use Rattle.mbe_tt.specs.Fragments.Grammar.{Grammar}
 use Rattle.mbe_semantics.specs.Syntax.Op.{Ops}
 use Rattle.mbe_semantics.specs.Readings.Item.{Items}
 use Rattle.mbe_semantics.specs.Readings.Ambiguity.{Fits}
 use Rattle.mbe_semantics.specs.Readings.Verdict.{Verdict, one_reading, many_readings, ambiguous, stuck}
-use Rattle.mbe_semantics.specs.Bindings.Account.{Log, Handle, commands_of}
+use Rattle.mbe_semantics.specs.Bindings.Account.{Log, Handle, commands_of, no_account}
 use Rattle.mbe_matcher.specs.declared.matching.Verdict as verdicts
 use Rattle.mbe_matcher.specs.declared.places.Stop.{Stop}
 use Rattle.mbe_matcher.specs.declared.places.Stop.TheVariants as told
-use Rattle.mbe_semantics.specs.Readings.Input.{Input}
+use Rattle.mbe_semantics.specs.Readings.Input.{Input, input_of}
 use Rattle.mbe_semantics.specs.Readings.Reading.{Beginning}
 use Rattle.mbe_semantics.specs.Matching.Dots.{dots}
 use Rattle.mbe_semantics.specs.Matching.Outline.{Outline}
@@ -19,7 +20,10 @@ use Rattle.mbe_bounds.specs.Loop.Kept.{kept_moves, kept_ends}
 use Rattle.mbe_matcher.specs.declared.position.Outer.{Outer}
 use Rattle.mbe_matcher.specs.declared.position.Position.{Position}
 use Rattle.mbe_matcher.specs.declared.position.Waiting.{Waiting}
-use Rattle.mbe_matcher.specs.Positions.{Each, Shows, LeadsTo, Holds}
+use Rattle.mbe_matcher.specs.declared.settle.Settled.{Settled}
+use Rattle.mbe_matcher.specs.declared.settle.State.{State}
+use Rattle.mbe_matcher.specs.declared.source.Source.{Source}
+use Rattle.mbe_matcher.specs.Positions.{Each, Stands, Shows, LeadsTo, Holds}
 
 -- ---- the positions at a place
 
@@ -36,6 +40,22 @@ pub record IsStack {A : Type 0} (i : Input) (place size : ℕ) (log : Log) (oute
 pub record AreSettled {A : Type 0} (i : Input) (place : ℕ) (pattern : Ops) (spots : List Outline) (log : Log) (outers : List (Outer A)) (here : Forest) (waiting : List (Waiting A)) (ends : List Handle) : Type 0 where
   pub goes_on : Each (LeadsTo log outers here) waiting (kept_moves i (dots pattern) place (reverse spots))
   pub ended : Each (Holds log) ends (kept_ends i (dots pattern) place (reverse spots))
+
+-- it stands before the first op of the pattern, and has bound nothing
+abbrev pub IsAtStart : {A : Type 0} → Log → Ops → Position A → Type 0
+IsAtStart {A} log pattern p = (outers : List (Outer A)) → Stands log outers p pattern no_account []
+
+-- how many dots the pattern of a match has
+abbrev pub dots_in : {A : Type 0} → State A → ℕ
+dots_in state = length state.counts.marks.items
+
+-- both at the place of a source
+abbrev pub IsStackAt : {A : Type 0} → Grammar → Source A → Log → State A → List (Position A) → Type 0
+IsStackAt g source log state todo = IsStack (input_of g (trees source.whole)) source.place (dots_in state) log state.outers.items todo
+
+abbrev pub AreSettledAt : {A : Type 0} → Grammar → Source A → Ops → List Outline → Log → State A → Settled A → Type 0
+AreSettledAt g source pattern spots log state settled =
+    AreSettled (input_of g (trees source.whole)) source.place pattern spots log state.outers.items (rest_at (trees source.whole) source.place) settled.waiting.items settled.ends.items
 
 -- ---- the positions that go on
 

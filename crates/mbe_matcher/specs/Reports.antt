@@ -11,3 +11,7 @@ IsLast log (Some l) = IsLive log l.handle
 
 abbrev pub IsReport : {A : Type 0} → Log → Report A → Type 0
 IsReport log r = IsLast log r.last
+
+-- a report of the one log is after it one of the other
+abbrev pub ReportStays : {A : Type 0} → Log → Log → Report A → Report A → Type 0
+ReportStays old new before after = IsReport old before → IsReport new after

@@ -39,13 +39,12 @@ ghost use Rattle.mbe_semantics.specs.Bindings.Account.{Log, IsLive};
 ghost use Rattle.mbe_errors.specs.ErrorViews.{errors_of};
 ghost use Rattle.mbe_log.specs.Shared.{IsKept};
 ghost use Rattle.mbe_ops.specs.Views.{template_of};
-ghost use Rattle.mbe_matcher.specs.Matched.{verdict_seen, Binds};
+ghost use Rattle.mbe_matcher.specs.Matched.{verdict_seen, verdict_in, Binds};
 ghost use Rattle.mbe_matcher.specs.Reports.{IsReport};
 
 use crate::places::{Reached, Stop, reach};
-use crate::report::Report;
 use mbe_errors::error::ExpandError;
-use mbe_log::log::{BindingLog, Handle};
+use mbe_log::log::{BindingLog, Handle, again};
 use mbe_ops::ops::MetaTemplate;
 use mbe_tt::grammar::FragmentGrammar;
 use mbe_tt::span::DelimSpan;
@@ -101,66 +100,63 @@ pub fn match_argument<'a, A: Allocator + Copy, G: FragmentGrammar>(
         ↔ (verdict_seen m.verdict ≡ one_reading)) }
     ensures kept { OnOk result (IsKept log.old log.new) }
 {
-    let length = argument.flat_len();
-    let mut report = Report::new();
-    let Reached { stop, unmatched } = reach(alloc, grammar, pattern, argument, log, &mut report)?;
-    match stop {
-        Stop::OneReading(bindings) => Ok(Match {
+    let reached = reach(alloc, grammar, pattern, argument, log)?;
+    if let Stop::OneReading(bindings) = &reached.stop {
+        return Ok(Match {
             verdict: Verdict::OneReading,
-            unmatched,
-            bindings,
+            unmatched: reached.unmatched,
+            bindings: again(bindings),
             err: None,
-        }),
-        Stop::ManyReadings => {
-            let verdict = Verdict::ManyReadings;
-            failed(
-                alloc, grammar, verdict, unmatched, true, around, report, log,
-            )
-        }
-        Stop::Ambiguous(place) => {
-            let verdict = Verdict::Ambiguous(place);
-            failed(
-                alloc, grammar, verdict, unmatched, false, around, report, log,
-            )
-        }
-        Stop::Stuck(place) => {
-            let verdict = Verdict::Stuck(place);
-            failed(
-                alloc,
-                grammar,
-                verdict,
-                unmatched,
-                place == length,
-                around,
-                report,
-                log,
-            )
-        }
+        });
+    }
+    failed(alloc, grammar, reached, argument.flat_len(), around, log)
+}
+
+fn verdict_of(stop: &Stop) -> Verdict
+    ensures { verdict_seen result ≡ verdict_in stop.now }
+{
+    match stop {
+        Stop::OneReading(_) => Verdict::OneReading,
+        Stop::ManyReadings => Verdict::ManyReadings,
+        Stop::Ambiguous(place) => Verdict::Ambiguous(*place),
+        Stop::Stuck(place) => Verdict::Stuck(*place),
     }
 }
 
-// A match without an only reading, with what is reported of it.
+// Whether the positions stop at the end of an argument of so many flat tokens.
+fn is_at_end(stop: &Stop, length: usize) -> bool {
+    match stop {
+        Stop::OneReading(_) | Stop::ManyReadings => true,
+        Stop::Ambiguous(_) => false,
+        Stop::Stuck(place) => *place == length,
+    }
+}
+
+// A match of an argument of so many flat tokens, without an only reading.
 fn failed<'a, A: Allocator + Copy, G: FragmentGrammar>(
     alloc: A,
     grammar: &G,
-    verdict: Verdict,
-    unmatched: usize,
-    is_at_end: bool,
+    reached: Reached<'a, A>,
+    length: usize,
     around: DelimSpan,
-    report: Report<'a, A>,
     log: &mut BindingLog<'a, A>,
 ) -> Result<Match<A>, AllocError>
-    requires { IsReport log.old report }
-    ensures verdict { IfOk result (λ m. m.verdict ≡ verdict) }
-    ensures unmatched { IfOk result (λ m. m.unmatched ≡ unmatched) }
+    requires { IsReport log.old reached.report }
+    ensures verdict { IfOk result (λ m. verdict_seen m.verdict ≡ verdict_in reached.entry.stop) }
+    ensures unmatched { IfOk result (λ m. m.unmatched ≡ reached.entry.unmatched) }
     ensures live { IfOk result (λ m. IsLive log.new m.bindings) }
     ensures err { IfOk result (λ m. IsSome (errors_of m.err)) }
     ensures kept { (first : Log) → IsKept first log.old → OnOk result (IsKept first log.new) }
 {
-    let err = report.error(alloc, grammar, around, is_at_end)?;
+    let Reached {
+        stop,
+        unmatched,
+        report,
+    } = reached;
+    let err = report.error(alloc, grammar, around, is_at_end(&stop, length))?;
     let bindings = report.bindings(grammar, log)?;
     Ok(Match {
-        verdict,
+        verdict: verdict_of(&stop),
         unmatched,
         bindings,
         err: Some(err),

@@ -5,23 +5,23 @@ ghost use Rattle.mbe_tt.specs.Views.View.{trees};
 ghost use Rattle.mbe_semantics.specs.Syntax.Nullable.{Checked};
 ghost use Rattle.mbe_semantics.specs.Readings.Verdict.{IsVerdict, unmatched};
 ghost use Rattle.mbe_semantics.specs.Bindings.Account.{IsLive};
+ghost use Rattle.mbe_semantics.specs.Matching.Dots.{dots};
 ghost use Rattle.mbe_log.specs.Shared.{IsKept};
 ghost use Rattle.mbe_ops.specs.Views.{template_of};
 ghost use Rattle.mbe_matcher.specs.Positions.{IsLeft};
 ghost use Rattle.mbe_matcher.specs.Reports.{IsReport};
-ghost use Rattle.mbe_matcher.specs.Matched.{is_clash, clashes_with, position_after, ends_as, stop_at, verdict_in, reading_in, Binds};
+ghost use Rattle.mbe_matcher.specs.Matched.{IsAtStart, is_clash, clashes_with, position_after, ends_as, stop_at, verdict_in, reading_in, Binds};
 
-use crate::counts::Counts;
 use crate::position::{Position, Waiting};
 use crate::report::Report;
-use crate::settle::{Settled, settle};
+use crate::settle::{Settled, State, settle};
 use crate::skipping::dots_of;
 use crate::source::Source;
 use mbe_log::log::{BindingLog, Handle, again};
 use mbe_ops::ops::MetaTemplate;
 use mbe_tt::grammar::FragmentGrammar;
 use mbe_tt::tt::TokenTreesView;
-use std::alloc::{AllocError, Allocator};
+use std::alloc::{AllocError, Allocator, Global};
 
 // Where the positions stop, and why. The numbers are places.
 #[derive(Drop)]
@@ -35,11 +35,13 @@ pub(crate) enum Stop {
     Stuck(usize),
 }
 
-// Where the positions stop, and how many trees of the current group are left there.
+// Where the positions stop, how many trees of the current group are left there, and what they
+// reported on the way.
 #[derive(Drop)]
-pub(crate) struct Reached {
+pub(crate) struct Reached<'a, A: Allocator = Global> {
     pub(crate) stop: Stop,
     pub(crate) unmatched: usize,
+    pub(crate) report: Report<'a, A>,
 }
 
 // Whether one goes on by fragment, or over another number of flat tokens than that.
@@ -136,6 +138,25 @@ fn stopped<A: Allocator>(
     None
 }
 
+// The position before the first op of a pattern with so many dots.
+fn at_start<'a, A: Allocator + Copy>(
+    pattern: &'a MetaTemplate<A>,
+    number: usize,
+    log: &mut BindingLog<'a, A>,
+) -> Result<Position<'a, A>, AllocError>
+    requires { number ≡ dots (template_of pattern.now) }
+    ensures start { IfOk result (IsAtStart log.new (template_of pattern.now)) }
+    ensures kept { OnOk result (IsKept log.old log.new) }
+{
+    let handle = log.alloc()?;
+    Ok(Position {
+        dot: &pattern.0,
+        number,
+        up: None,
+        handle,
+    })
+}
+
 // Follows the pattern's positions from place to place, as far as they go.
 pub(crate) fn reach<'a, A: Allocator + Copy, G: FragmentGrammar>(
     alloc: A,
@@ -143,8 +164,7 @@ pub(crate) fn reach<'a, A: Allocator + Copy, G: FragmentGrammar>(
     pattern: &'a MetaTemplate<A>,
     argument: TokenTreesView<'a, A>,
     log: &mut BindingLog<'a, A>,
-    report: &mut Report<'a, A>,
-) -> Result<Reached, AllocError>
+) -> Result<Reached<'a, A>, AllocError>
     requires { Checked (template_of pattern.now) }
     ensures verdict { IfOk result (λ r. IsVerdict (G.grammar grammar.now) (template_of pattern.now)
         (trees argument.entry) (verdict_in r.stop)) }
@@ -154,35 +174,24 @@ pub(crate) fn reach<'a, A: Allocator + Copy, G: FragmentGrammar>(
         (Binds (G.grammar grammar.now) (template_of pattern.now) (trees argument.entry) log.new)) }
     ensures live { IfOk result (λ r. IfSome (reading_in r.stop) (IsLive log.new)) }
     ensures kept { OnOk result (IsKept log.old log.new) }
-    ensures report { OnOk result (IsReport log.old report.old → IsReport log.new report.new) }
+    ensures report { IfOk result (λ r. IsReport log.new r.report) }
 {
     let dots = dots_of(&pattern.0).ok_or(AllocError)?;
-    let mut counts = Counts::new(alloc, dots)?;
-    let mut outers = Vec::new(alloc);
+    let mut state = State::new(alloc, dots)?;
     let mut todo = Vec::new(alloc);
-    let handle = log.alloc()?;
-    todo.push(Position {
-        dot: &pattern.0,
-        number: dots,
-        up: None,
-        handle,
-    })?;
+    let position = at_start(pattern, dots, log)?;
+    todo.push(position)?;
     let mut source = Source::new(alloc, argument);
     loop {
-        let settled = settle(
-            alloc,
-            grammar,
-            &source,
-            log,
-            &mut outers,
-            &mut counts,
-            report,
-            &mut todo,
-        )?;
+        let settled = settle(alloc, grammar, &source, log, &mut state, &mut todo)?;
         let Settled { waiting, ends } = settled;
         if let Some(stop) = stopped(&source, &waiting, &ends) {
             let unmatched = source.here().remaining().len();
-            return Ok(Reached { stop, unmatched });
+            return Ok(Reached {
+                stop,
+                unmatched,
+                report: state.report,
+            });
         }
         source = after_step(source, &waiting[0])?;
         come(waiting, &mut todo)?;

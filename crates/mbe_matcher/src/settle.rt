@@ -1,12 +1,10 @@
 // All steps at one place over no flat token.
 ghost use Rattle.std.specs.Prelude.{◌≡◌, ◌+◌, ◌++◌, ◌≤◌, [], length, option_to_list, IfOk, OnOk};
-ghost use Rattle.mbe_tt.specs.Trees.Tree.{rest_at};
-ghost use Rattle.mbe_tt.specs.Views.View.{trees};
-ghost use Rattle.mbe_semantics.specs.Readings.Input.{input_of};
+ghost use Rattle.mbe_semantics.specs.Bindings.Account.{Log};
 ghost use Rattle.mbe_matcher.specs.Counts.{AreBlankFrom};
 ghost use Rattle.mbe_matcher.specs.Positions.{Keeps};
-ghost use Rattle.mbe_matcher.specs.Matched.{IsStack, AreSettled};
-ghost use Rattle.mbe_matcher.specs.Reports.{IsReport};
+ghost use Rattle.mbe_matcher.specs.Matched.{IsStackAt, AreSettledAt, dots_in};
+ghost use Rattle.mbe_matcher.specs.Reports.{IsReport, ReportStays};
 
 use crate::counts::Counts;
 use crate::position::{Outer, Position, Waiting};
@@ -24,6 +22,30 @@ pub(crate) struct Settled<'a, A: Allocator = Global> {
     pub(crate) waiting: Vec<Waiting<'a, A>, A>,
     // What is bound by those at the pattern's end.
     pub(crate) ends: Vec<Handle, A>,
+}
+
+// What a match keeps from place to place, beside the log.
+#[derive(Drop)]
+pub(crate) struct State<'a, A: Allocator = Global> {
+    // The open groups and repetitions around the positions.
+    pub(crate) outers: Vec<Outer<'a, A>, A>,
+    pub(crate) counts: Counts<A>,
+    pub(crate) report: Report<'a, A>,
+}
+
+impl<'a, A: Allocator + Copy> State<'a, A> {
+    // At the start of a pattern with so many dots.
+    pub(crate) fn new(alloc: A, dots: usize) -> Result<State<'a, A>, AllocError>
+        ensures size { IfOk result (λ s. dots_in s ≡ dots) }
+        ensures blank { IfOk result (λ s. AreBlankFrom s.counts.marks.items 0) }
+        ensures report { (log : Log) → IfOk result (λ s. IsReport log s.report) }
+    {
+        Ok(State {
+            outers: Vec::new(alloc),
+            counts: Counts::new(alloc, dots)?,
+            report: Report::new(),
+        })
+    }
 }
 
 // The value at the end, if there is one.
@@ -48,42 +70,37 @@ pub(crate) fn settle<'a, A: Allocator + Copy, G: FragmentGrammar>(
     grammar: &G,
     source: &Source<'a, A>,
     log: &mut BindingLog<'a, A>,
-    outers: &mut Vec<Outer<'a, A>, A>,
-    counts: &mut Counts<A>,
-    report: &mut Report<'a, A>,
+    state: &mut State<'a, A>,
     todo: &mut Vec<Position<'a, A>, A>,
 ) -> Result<Settled<'a, A>, AllocError>
-    requires stack { IsStack (input_of (G.grammar grammar.now) (trees source.now.whole))
-        source.now.place (length counts.old.marks.items) log.old outers.old.items todo.old.items }
-    requires blank { AreBlankFrom counts.old.marks.items source.now.place }
-    ensures settled { (s : IsStack (input_of (G.grammar grammar.now) (trees source.now.whole))
-        source.now.place (length counts.old.marks.items) log.old outers.old.items todo.old.items)
-        → IfOk result (λ r. AreSettled (input_of (G.grammar grammar.now) (trees source.now.whole))
-        source.now.place s.pattern s.spots log.new outers.new.items
-        (rest_at (trees source.now.whole) source.now.place) r.waiting.items r.ends.items) }
+    requires stack { IsStackAt (G.grammar grammar.now) source.now log.old state.old todo.old.items }
+    requires blank { AreBlankFrom state.old.counts.marks.items source.now.place }
+    ensures settled { (s : IsStackAt (G.grammar grammar.now) source.now
+        log.old state.old todo.old.items) → IfOk result
+        (AreSettledAt (G.grammar grammar.now) source.now s.pattern s.spots log.new state.new) }
     ensures few { IfOk result (λ r. length r.waiting.items + length r.ends.items
-        ≤ length counts.old.marks.items + length counts.old.marks.items) }
-    ensures kept { OnOk result (Keeps log.old log.new outers.old.items outers.new.items) }
-    ensures blank { OnOk result (AreBlankFrom counts.new.marks.items (source.now.place + 1)) }
-    ensures size { OnOk result (length counts.new.marks.items ≡ length counts.old.marks.items) }
+        ≤ dots_in state.old + dots_in state.old) }
+    ensures kept { OnOk result (Keeps log.old log.new state.old.outers.items state.new.outers.items) }
+    ensures blank { OnOk result (AreBlankFrom state.new.counts.marks.items (source.now.place + 1)) }
+    ensures size { OnOk result (dots_in state.new ≡ dots_in state.old) }
     ensures done { OnOk result (todo.new.items ≡ []) }
-    ensures report { OnOk result (IsReport log.old report.old → IsReport log.new report.new) }
+    ensures report { OnOk result (ReportStays log.old log.new state.old.report state.new.report) }
 {
     let mut waiting = Vec::new(alloc);
     let mut ends = Vec::new(alloc);
     while let Some(position) = todo.pop() {
-        if !counts.takes(position.number, source.place) {
+        if !state.counts.takes(position.number, source.place) {
             continue;
         }
         let dot = position.dot;
         let handle = again(&position.handle);
-        let found = steps(grammar, source, log, outers, position)?;
-        report.looked_at(source, dot, handle, found.is_some());
+        let found = steps(grammar, source, log, &mut state.outers, position)?;
+        state.report.looked_at(source, dot, handle, found.is_some());
         push_some(todo, found.second)?;
         push_some(todo, found.first)?;
         push_some(&mut waiting, found.next)?;
         push_some(&mut ends, found.done)?;
     }
-    report.after_place(&ends);
+    state.report.after_place(&ends);
     Ok(Settled { waiting, ends })
 }

@@ -57,6 +57,26 @@ impl<'a, A: Allocator> Source<'a, A> {
         self.place < self.whole.flat_len() && self.here.is_empty()
     }
 
+    // A place in the argument, with what is left of the groups around it.
+    fn at(
+        whole: TokenTreesView<'a, A>,
+        place: usize,
+        here: TtIter<'a, A>,
+        around: Vec<TtIter<'a, A>, A>,
+    ) -> Source<'a, A>
+        requires stands { rests (trees whole) place ≡ (here, reverse around.items) }
+        requires within { place ≤ flat_len (trees whole) }
+        ensures whole { result.whole ≡ whole.entry }
+        ensures place { result.place ≡ place }
+    {
+        Source {
+            whole,
+            place,
+            here,
+            around,
+        }
+    }
+
     // The place after one flat token: a leaf, an opening or a closing.
     fn bumped(self) -> Result<Source<'a, A>, AllocError>
         requires { self.place < flat_len (trees self.whole) }
@@ -73,35 +93,15 @@ impl<'a, A: Allocator> Source<'a, A> {
         let place = place + 1;
         let Some(tree) = here.next() else {
             let Some(here) = around.pop() else {
-                return Ok(Source {
-                    whole,
-                    place,
-                    here,
-                    around,
-                });
+                return Ok(Source::at(whole, place, here, around));
             };
-            return Ok(Source {
-                whole,
-                place,
-                here,
-                around,
-            });
+            return Ok(Source::at(whole, place, here, around));
         };
         match tree {
-            TtElement::Leaf(_) => Ok(Source {
-                whole,
-                place,
-                here,
-                around,
-            }),
+            TtElement::Leaf(_) => Ok(Source::at(whole, place, here, around)),
             TtElement::Subtree(_, inside) => {
                 around.push(here)?;
-                Ok(Source {
-                    whole,
-                    place,
-                    here: inside,
-                    around,
-                })
+                Ok(Source::at(whole, place, inside, around))
             }
         }
     }

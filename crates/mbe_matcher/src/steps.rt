@@ -92,6 +92,21 @@ fn no_steps<'a, A: Allocator>() -> Steps<'a, A>
     }
 }
 
+// Those over no flat token alone.
+fn idle<'a, A: Allocator>(
+    first: Option<Position<'a, A>>,
+    second: Option<Position<'a, A>>,
+) -> Steps<'a, A>
+    ensures { result ≡ record { first = first.entry; second = second.entry; next = None; done = None } }
+{
+    Steps {
+        first,
+        second,
+        next: None,
+        done: None,
+    }
+}
+
 // Over that many flat tokens, or none. `beyond` is what is left after them, where they are a
 // fragment.
 fn over<'a, A: Allocator>(
@@ -248,12 +263,7 @@ fn repetition_steps<'a, A: Allocator + Copy>(
         rest,
         up: position.up,
     })?;
-    Ok(Steps {
-        first: Some(first),
-        second,
-        next: None,
-        done: None,
-    })
+    Ok(idle(Some(first), second))
 }
 
 // Past a repetition, where it may have no round.
@@ -345,10 +355,7 @@ fn round_steps<'a, A: Allocator + Copy>(
         handle: outside,
     });
     let Some(width) = between_width(rounds.kind, rounds.separator, &source.here()) else {
-        return Ok(Steps {
-            second,
-            ..no_steps()
-        });
+        return Ok(idle(None, second));
     };
     let mut handle = position.handle;
     log.push_default(&mut handle)?;

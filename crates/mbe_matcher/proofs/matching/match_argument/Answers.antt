@@ -1,19 +1,41 @@
+use Rattle.std.proofs.Common.{◌≡◌, ◌∙◌, sym, ap, subst}
+use Rattle.std.specs.Prelude.{IsSome, IsNone, ◌↔◌}
+use Rattle.std.proofs.lemmas.Result.{IfOk-weaker}
+use Rattle.mbe_tt.specs.Views.View.{trees}
+use Rattle.mbe_semantics.specs.Readings.Verdict.{IsVerdict, unmatched, one_reading}
+use Rattle.mbe_errors.specs.ErrorViews.{errors_of}
+use Rattle.mbe_ops.specs.Views.{template_of}
+use Rattle.mbe_matcher.specs.Matched.{verdict_in, verdict_seen, Binds}
+use Rattle.mbe_matcher.proofs.MatchEnds.{no_reading, both_ok}
 use Rattle.mbe_matcher.proofs.matching.match_argument.Goals as goal
 
-pub returns-in-ManyReadings-clause-kept : goal.returns-in-ManyReadings-clause-kept
-returns-in-ManyReadings-clause-kept g c = c.failed.ensures.kept c.args.log.now c.in_ok-stop.ensures.kept
-
-pub returns-in-Ambiguous-clause-kept : goal.returns-in-Ambiguous-clause-kept
-returns-in-Ambiguous-clause-kept g c = c.failed-in-Ambiguous.ensures.kept c.args.log.now c.in_ok-stop.ensures.kept
-
-pub returns-in-Stuck-clause-kept : goal.returns-in-Stuck-clause-kept
-returns-in-Stuck-clause-kept g c = c.failed-in-Stuck.ensures.kept c.args.log.now c.in_ok-stop.ensures.kept
-
 pub failed-requires : goal.failed-requires
-failed-requires g c = c.in_ok-stop.ensures.report (c.new-report.ensures c.args.log.now)
+failed-requires g c = c.in_ok-reached.ensures.report
 
-pub failed-requires-in-Ambiguous : goal.failed-requires-in-Ambiguous
-failed-requires-in-Ambiguous g c = c.in_ok-stop.ensures.report (c.new-report.ensures c.args.log.now)
+pub returns-clause-verdict : goal.returns-clause-verdict
+returns-clause-verdict g c =
+    let is = IsVerdict (g.G.FragmentGrammar.grammar c.args.grammar.now) (template_of c.args.pattern.now) (trees c.args.argument) in
+    IfOk-weaker c.failed.result (λ m. verdict_seen m.verdict ≡ verdict_in c.in_ok-reached.reached.stop) (λ m. is (verdict_seen m.verdict))
+    (λ m e. subst is (sym e) c.in_ok-reached.ensures.verdict) c.failed.ensures.verdict
 
-pub failed-requires-in-Stuck : goal.failed-requires-in-Stuck
-failed-requires-in-Stuck g c = c.in_ok-stop.ensures.report (c.new-report.ensures c.args.log.now)
+pub returns-clause-unmatched : goal.returns-clause-unmatched
+returns-clause-unmatched g c =
+    both_ok c.failed.result (λ m. verdict_seen m.verdict ≡ verdict_in c.in_ok-reached.reached.stop) (λ m. m.unmatched ≡ c.in_ok-reached.reached.unmatched)
+    (λ m. m.unmatched ≡ unmatched (trees c.args.argument) (verdict_seen m.verdict))
+    (λ m e u. u ∙ c.in_ok-reached.ensures.unmatched ∙ ap (unmatched (trees c.args.argument)) (sym e)) c.failed.ensures.verdict c.failed.ensures.unmatched
+
+pub returns-clause-binds : goal.returns-clause-binds
+returns-clause-binds g c =
+    IfOk-weaker c.failed.result (λ m. verdict_seen m.verdict ≡ verdict_in c.in_ok-reached.reached.stop)
+    (λ m. verdict_seen m.verdict ≡ one_reading → Binds (g.G.FragmentGrammar.grammar c.args.grammar.now) (template_of c.args.pattern.now) (trees c.args.argument) c.failed.new.log m.bindings)
+    (λ m e one. absurd (no_reading c.in_ok-reached.reached.stop c.in_default.not-OneReading (sym e ∙ one))) c.failed.ensures.verdict
+
+pub returns-clause-err : goal.returns-clause-err
+returns-clause-err g c =
+    both_ok c.failed.result (λ m. verdict_seen m.verdict ≡ verdict_in c.in_ok-reached.reached.stop) (λ m. IsSome (errors_of m.err))
+    (λ m. IsNone (errors_of m.err) ↔ (verdict_seen m.verdict ≡ one_reading))
+    (λ m e some. (λ none. let no = sym some ∙ none in cc, λ one. absurd (no_reading c.in_ok-reached.reached.stop c.in_default.not-OneReading (sym e ∙ one))))
+    c.failed.ensures.verdict c.failed.ensures.err
+
+pub returns-clause-kept : goal.returns-clause-kept
+returns-clause-kept g c = c.failed.ensures.kept c.args.log.now c.in_ok-reached.ensures.kept

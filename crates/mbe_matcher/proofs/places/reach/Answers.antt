@@ -21,23 +21,27 @@ use Rattle.mbe_matcher.proofs.MatchEnds.{right_stop, stop_place, binds_stop, nex
 use Rattle.mbe_matcher.proofs.Reporting.{report_keeps}
 use Rattle.mbe_matcher.proofs.places.reach.Goals as goal
 
+pub at_start-requires : goal.at_start-requires
+at_start-requires g c =
+    subst (λ r. IfSome r (λ n. n ≡ dots (ops_of c.deref.result.now))) c.in_ok-dots.ensures.ok_part c.dots_of.ensures ∙ ap (λ l. dots (ops_of l)) c.deref.ensures.value
+
 pub loop-source-init : goal.loop-source-init
 loop-source-init g c =
     let h = g.G.FragmentGrammar.grammar c.args.grammar.now in
     let s = c.new-source.result in
     let pat = template_of c.args.pattern.now in
-    let p : Position g.row.A.Denot = record { dot = c.deref-2.result; number = c.in_ok-dots.dots; up = None; handle = c.in_ok-handle.handle } in
+    let p = c.in_ok-position.position in
     let one = c.in_ok-push.ensures.items ∙ ap (λ l. l ++ p ∷ []) c.new-todo.ensures.items in
-    let number : c.in_ok-dots.dots ≡ dots (ops_of c.deref.result.now) = subst (λ r. IfSome r (λ n. n ≡ dots (ops_of c.deref.result.now))) c.in_ok-dots.ensures.ok_part c.dots_of.ensures in
-    let all : c.in_ok-dots.dots ≡ dots pat = number ∙ ap (λ l. dots (ops_of l)) c.deref.ensures.value in
+    let all : c.in_ok-dots.dots ≡ dots pat =
+    subst (λ r. IfSome r (λ n. n ≡ dots (ops_of c.deref.result.now))) c.in_ok-dots.ensures.ok_part c.dots_of.ensures ∙ ap (λ l. dots (ops_of l)) c.deref.ensures.value in
     record {
-      comes = come_first (input_of h (trees s.whole)) pat (flat_len (trees s.whole)) c.alloc.new.self c.new-outers.result.items c.push.new.self.items s.place p c.new-source.ensures.place one
-          (ap ops_of c.deref-2.ensures.value) all refl c.in_ok-handle.ensures.account;
+      comes = come_first (input_of h (trees s.whole)) pat (flat_len (trees s.whole)) c.at_start.new.log c.in_ok-state.state.outers.items c.push.new.self.items s.place p c.new-source.ensures.place one
+          c.in_ok-position.ensures.start;
       whole = c.new-source.ensures.whole;
-      blank = λ q l. c.in_ok-counts.ensures.blank q (omega arith);
-      size = c.in_ok-counts.ensures.size ∙ all;
-      kept = c.in_ok-handle.ensures.given.kept;
-      report = λ r. report_keeps c.args.log.now c.alloc.new.self c.args.report.now c.in_ok-handle.ensures.given.kept r;
+      blank = λ q l. c.in_ok-state.ensures.blank q (omega arith);
+      size = c.in_ok-state.ensures.size ∙ all;
+      kept = c.in_ok-position.ensures.kept;
+      report = c.in_ok-state.ensures.report c.at_start.new.log;
     }
 
 pub settle-requires-clause-stack : goal.settle-requires-clause-stack
@@ -50,7 +54,7 @@ settle-requires-clause-stack g c =
     let w = lawful_input h (trees s.whole) (g.met.G.FragmentGrammar.lawful c.args.grammar.now) in
     let inv = c.loop-source.invariant in
     let come = inv.comes.2 w c.requires in
-    stack_of i pat len w c.requires s.place (length c.loop-source.counts.marks.items) c.loop-source.log c.loop-source.outers.items c.loop-source.todo.items inv.comes.0 (sym inv.size) come inv.comes.1
+    stack_of i pat len w c.requires s.place (length c.loop-source.state.counts.marks.items) c.loop-source.log c.loop-source.state.outers.items c.loop-source.todo.items inv.comes.0 (sym inv.size) come inv.comes.1
 
 pub returns-in-Some-clause-verdict : goal.returns-in-Some-clause-verdict
 returns-in-Some-clause-verdict g c =
@@ -62,12 +66,12 @@ returns-in-Some-clause-verdict g c =
     let w = lawful_input h (trees s.whole) (g.met.G.FragmentGrammar.lawful c.args.grammar.now) in
     let inv = c.loop-source.invariant in
     let come = inv.comes.2 w c.requires in
-    let stack = stack_of i pat len w c.requires s.place (length c.loop-source.counts.marks.items) c.loop-source.log c.loop-source.outers.items c.loop-source.todo.items inv.comes.0 (sym inv.size) come inv.comes.1 in
+    let stack = stack_of i pat len w c.requires s.place (length c.loop-source.state.counts.marks.items) c.loop-source.log c.loop-source.state.outers.items c.loop-source.todo.items inv.comes.0 (sym inv.size) come inv.comes.1 in
     let st = c.in_ok-settled.ensures.settled stack in
     let ws = c.in_ok-settled.settled.waiting.items in
     let hs = c.in_ok-settled.settled.ends.items in
     let log = c.settle.new.log in
-    let outers = c.settle.new.outers.items in
+    let outers = c.settle.new.state.outers.items in
     let waits = c.deref-in-loop-source.ensures.value in
     let ends = c.deref-in-loop-source-2.ensures.value in
     let v = verdict_in c.in-Some.stop in
@@ -85,12 +89,12 @@ returns-in-Some-clause-unmatched g c =
     let w = lawful_input h (trees s.whole) (g.met.G.FragmentGrammar.lawful c.args.grammar.now) in
     let inv = c.loop-source.invariant in
     let come = inv.comes.2 w c.requires in
-    let stack = stack_of i pat len w c.requires s.place (length c.loop-source.counts.marks.items) c.loop-source.log c.loop-source.outers.items c.loop-source.todo.items inv.comes.0 (sym inv.size) come inv.comes.1 in
+    let stack = stack_of i pat len w c.requires s.place (length c.loop-source.state.counts.marks.items) c.loop-source.log c.loop-source.state.outers.items c.loop-source.todo.items inv.comes.0 (sym inv.size) come inv.comes.1 in
     let st = c.in_ok-settled.ensures.settled stack in
     let ws = c.in_ok-settled.settled.waiting.items in
     let hs = c.in_ok-settled.settled.ends.items in
     let log = c.settle.new.log in
-    let outers = c.settle.new.outers.items in
+    let outers = c.settle.new.state.outers.items in
     let waits = c.deref-in-loop-source.ensures.value in
     let ends = c.deref-in-loop-source-2.ensures.value in
     let v = verdict_in c.in-Some.stop in
@@ -110,12 +114,12 @@ returns-in-Some-clause-binds g c =
     let w = lawful_input h (trees s.whole) (g.met.G.FragmentGrammar.lawful c.args.grammar.now) in
     let inv = c.loop-source.invariant in
     let come = inv.comes.2 w c.requires in
-    let stack = stack_of i pat len w c.requires s.place (length c.loop-source.counts.marks.items) c.loop-source.log c.loop-source.outers.items c.loop-source.todo.items inv.comes.0 (sym inv.size) come inv.comes.1 in
+    let stack = stack_of i pat len w c.requires s.place (length c.loop-source.state.counts.marks.items) c.loop-source.log c.loop-source.state.outers.items c.loop-source.todo.items inv.comes.0 (sym inv.size) come inv.comes.1 in
     let st = c.in_ok-settled.ensures.settled stack in
     let ws = c.in_ok-settled.settled.waiting.items in
     let hs = c.in_ok-settled.settled.ends.items in
     let log = c.settle.new.log in
-    let outers = c.settle.new.outers.items in
+    let outers = c.settle.new.state.outers.items in
     let waits = c.deref-in-loop-source.ensures.value in
     let ends = c.deref-in-loop-source-2.ensures.value in
     let v = verdict_in c.in-Some.stop in
@@ -135,12 +139,12 @@ returns-in-Some-clause-live g c =
     let w = lawful_input h (trees s.whole) (g.met.G.FragmentGrammar.lawful c.args.grammar.now) in
     let inv = c.loop-source.invariant in
     let come = inv.comes.2 w c.requires in
-    let stack = stack_of i pat len w c.requires s.place (length c.loop-source.counts.marks.items) c.loop-source.log c.loop-source.outers.items c.loop-source.todo.items inv.comes.0 (sym inv.size) come inv.comes.1 in
+    let stack = stack_of i pat len w c.requires s.place (length c.loop-source.state.counts.marks.items) c.loop-source.log c.loop-source.state.outers.items c.loop-source.todo.items inv.comes.0 (sym inv.size) come inv.comes.1 in
     let st = c.in_ok-settled.ensures.settled stack in
     let ws = c.in_ok-settled.settled.waiting.items in
     let hs = c.in_ok-settled.settled.ends.items in
     let log = c.settle.new.log in
-    let outers = c.settle.new.outers.items in
+    let outers = c.settle.new.state.outers.items in
     let waits = c.deref-in-loop-source.ensures.value in
     let ends = c.deref-in-loop-source-2.ensures.value in
     let v = verdict_in c.in-Some.stop in
@@ -163,12 +167,12 @@ index-requires g c =
     let w = lawful_input h (trees s.whole) (g.met.G.FragmentGrammar.lawful c.args.grammar.now) in
     let inv = c.loop-source.invariant in
     let come = inv.comes.2 w c.requires in
-    let stack = stack_of i pat len w c.requires s.place (length c.loop-source.counts.marks.items) c.loop-source.log c.loop-source.outers.items c.loop-source.todo.items inv.comes.0 (sym inv.size) come inv.comes.1 in
+    let stack = stack_of i pat len w c.requires s.place (length c.loop-source.state.counts.marks.items) c.loop-source.log c.loop-source.state.outers.items c.loop-source.todo.items inv.comes.0 (sym inv.size) come inv.comes.1 in
     let st = c.in_ok-settled.ensures.settled stack in
     let ws = c.in_ok-settled.settled.waiting.items in
     let hs = c.in_ok-settled.settled.ends.items in
     let log = c.settle.new.log in
-    let outers = c.settle.new.outers.items in
+    let outers = c.settle.new.state.outers.items in
     let waits = c.deref-in-loop-source.ensures.value in
     let ends = c.deref-in-loop-source-2.ensures.value in
     let e : None ≡ stop_at s.place len ws hs =
@@ -187,12 +191,12 @@ after_step-requires-clause-fits g c =
     let w = lawful_input h (trees s.whole) (g.met.G.FragmentGrammar.lawful c.args.grammar.now) in
     let inv = c.loop-source.invariant in
     let come = inv.comes.2 w c.requires in
-    let stack = stack_of i pat len w c.requires s.place (length c.loop-source.counts.marks.items) c.loop-source.log c.loop-source.outers.items c.loop-source.todo.items inv.comes.0 (sym inv.size) come inv.comes.1 in
+    let stack = stack_of i pat len w c.requires s.place (length c.loop-source.state.counts.marks.items) c.loop-source.log c.loop-source.state.outers.items c.loop-source.todo.items inv.comes.0 (sym inv.size) come inv.comes.1 in
     let st = c.in_ok-settled.ensures.settled stack in
     let ws = c.in_ok-settled.settled.waiting.items in
     let hs = c.in_ok-settled.settled.ends.items in
     let log = c.settle.new.log in
-    let outers = c.settle.new.outers.items in
+    let outers = c.settle.new.state.outers.items in
     let waits = c.deref-in-loop-source.ensures.value in
     let ends = c.deref-in-loop-source-2.ensures.value in
     let e : None ≡ stop_at s.place len ws hs =
@@ -213,12 +217,12 @@ after_step-requires-clause-left g c =
     let w = lawful_input h (trees s.whole) (g.met.G.FragmentGrammar.lawful c.args.grammar.now) in
     let inv = c.loop-source.invariant in
     let come = inv.comes.2 w c.requires in
-    let stack = stack_of i pat len w c.requires s.place (length c.loop-source.counts.marks.items) c.loop-source.log c.loop-source.outers.items c.loop-source.todo.items inv.comes.0 (sym inv.size) come inv.comes.1 in
+    let stack = stack_of i pat len w c.requires s.place (length c.loop-source.state.counts.marks.items) c.loop-source.log c.loop-source.state.outers.items c.loop-source.todo.items inv.comes.0 (sym inv.size) come inv.comes.1 in
     let st = c.in_ok-settled.ensures.settled stack in
     let ws = c.in_ok-settled.settled.waiting.items in
     let hs = c.in_ok-settled.settled.ends.items in
     let log = c.settle.new.log in
-    let outers = c.settle.new.outers.items in
+    let outers = c.settle.new.state.outers.items in
     let waits = c.deref-in-loop-source.ensures.value in
     let ends = c.deref-in-loop-source-2.ensures.value in
     let e : None ≡ stop_at s.place len ws hs =
@@ -237,12 +241,12 @@ loop-source-smaller g c =
     let w = lawful_input h (trees s.whole) (g.met.G.FragmentGrammar.lawful c.args.grammar.now) in
     let inv = c.loop-source.invariant in
     let come = inv.comes.2 w c.requires in
-    let stack = stack_of i pat len w c.requires s.place (length c.loop-source.counts.marks.items) c.loop-source.log c.loop-source.outers.items c.loop-source.todo.items inv.comes.0 (sym inv.size) come inv.comes.1 in
+    let stack = stack_of i pat len w c.requires s.place (length c.loop-source.state.counts.marks.items) c.loop-source.log c.loop-source.state.outers.items c.loop-source.todo.items inv.comes.0 (sym inv.size) come inv.comes.1 in
     let st = c.in_ok-settled.ensures.settled stack in
     let ws = c.in_ok-settled.settled.waiting.items in
     let hs = c.in_ok-settled.settled.ends.items in
     let log = c.settle.new.log in
-    let outers = c.settle.new.outers.items in
+    let outers = c.settle.new.state.outers.items in
     let waits = c.deref-in-loop-source.ensures.value in
     let ends = c.deref-in-loop-source-2.ensures.value in
     let e : None ≡ stop_at s.place len ws hs =
@@ -266,12 +270,12 @@ loop-source-preserved g c =
     let w = lawful_input h (trees s.whole) (g.met.G.FragmentGrammar.lawful c.args.grammar.now) in
     let inv = c.loop-source.invariant in
     let come = inv.comes.2 w c.requires in
-    let stack = stack_of i pat len w c.requires s.place (length c.loop-source.counts.marks.items) c.loop-source.log c.loop-source.outers.items c.loop-source.todo.items inv.comes.0 (sym inv.size) come inv.comes.1 in
+    let stack = stack_of i pat len w c.requires s.place (length c.loop-source.state.counts.marks.items) c.loop-source.log c.loop-source.state.outers.items c.loop-source.todo.items inv.comes.0 (sym inv.size) come inv.comes.1 in
     let st = c.in_ok-settled.ensures.settled stack in
     let ws = c.in_ok-settled.settled.waiting.items in
     let hs = c.in_ok-settled.settled.ends.items in
     let log = c.settle.new.log in
-    let outers = c.settle.new.outers.items in
+    let outers = c.settle.new.state.outers.items in
     let waits = c.deref-in-loop-source.ensures.value in
     let ends = c.deref-in-loop-source-2.ensures.value in
     let e : None ≡ stop_at s.place len ws hs =
@@ -299,8 +303,8 @@ loop-source-preserved g c =
       blank = λ q l. c.in_ok-settled.ensures.blank q (omega (arith, l, at, some));
       size = c.in_ok-settled.ensures.size ∙ inv.size;
       kept = kept-on c.args.log.now c.loop-source.log log inv.kept c.in_ok-settled.ensures.kept.log;
-      report = λ r. c.in_ok-settled.ensures.report (inv.report r);
+      report = c.in_ok-settled.ensures.report inv.report;
     }
 
 pub returns-in-Some-clause-report : goal.returns-in-Some-clause-report
-returns-in-Some-clause-report g c = λ r. c.in_ok-settled.ensures.report (c.loop-source.invariant.report r)
+returns-in-Some-clause-report g c = c.in_ok-settled.ensures.report c.loop-source.invariant.report

@@ -16,13 +16,13 @@ use Rattle.mbe_matcher.proofs.places.reach.Given as goal
 
 abbrev pub invariant-loop-source : goal.invariant-loop-source
 invariant-loop-source g l = record {
-  report : IsReport l.fn.log l.fn.report → IsReport l.log l.report;
-  comes : (spots : List Outline) × Each (Shows l.log l.outers.items) l.todo.items spots
+  report : IsReport l.log l.state.report;
+  comes : (spots : List Outline) × Each (Shows l.log l.state.outers.items) l.todo.items spots
       × ((lawful : Lawful (input_of (g.G.FragmentGrammar.grammar l.grammar) (trees l.source.whole)) (flat_len (trees l.source.whole))) (checked : Checked (template_of l.pattern)) →
       ComesTo (input_of (g.G.FragmentGrammar.grammar l.grammar) (trees l.source.whole)) (template_of l.pattern) (flat_len (trees l.source.whole)) lawful checked l.source.place spots);
   whole : l.source.whole ≡ l.argument;
-  blank : AreBlankFrom l.counts.marks.items l.source.place;
-  size : length l.counts.marks.items ≡ dots (template_of l.pattern);
+  blank : AreBlankFrom l.state.counts.marks.items l.source.place;
+  size : length l.state.counts.marks.items ≡ dots (template_of l.pattern);
   kept : IsKept l.fn.log l.log;
 }
 

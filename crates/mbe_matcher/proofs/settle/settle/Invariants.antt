@@ -13,18 +13,18 @@ use Rattle.mbe_matcher.proofs.settle.settle.Given as goal
 
 abbrev pub invariant-loop-position : goal.invariant-loop-position
 invariant-loop-position g l = record {
-  report : IsReport l.fn.log l.fn.report → IsReport l.log l.report;
-  keeps : Keeps l.fn.log l.log l.fn.outers.items l.outers.items;
-  blank : AreBlankFrom l.counts.marks.items (l.source.place + 1);
-  size : length l.counts.marks.items ≡ length l.fn.counts.marks.items;
-  few : length l.waiting.items + length l.ends.items + vacancies l.source.place l.counts.marks.items
-      ≤ length l.fn.counts.marks.items + length l.fn.counts.marks.items;
-  walked : (met : List ℕ) × AreCounted l.counts.marks.items l.source.place met
-      × ((s : IsStack (input_of (g.G.FragmentGrammar.grammar l.grammar) (trees l.source.whole)) l.source.place (length l.fn.counts.marks.items) l.fn.log l.fn.outers.items l.fn.todo.items) →
+  report : IsReport l.fn.log l.fn.state.report → IsReport l.log l.state.report;
+  keeps : Keeps l.fn.log l.log l.fn.state.outers.items l.state.outers.items;
+  blank : AreBlankFrom l.state.counts.marks.items (l.source.place + 1);
+  size : length l.state.counts.marks.items ≡ length l.fn.state.counts.marks.items;
+  few : length l.waiting.items + length l.ends.items + vacancies l.source.place l.state.counts.marks.items
+      ≤ length l.fn.state.counts.marks.items + length l.fn.state.counts.marks.items;
+  walked : (met : List ℕ) × AreCounted l.state.counts.marks.items l.source.place met
+      × ((s : IsStack (input_of (g.G.FragmentGrammar.grammar l.grammar) (trees l.source.whole)) l.source.place (length l.fn.state.counts.marks.items) l.fn.log l.fn.state.outers.items l.fn.todo.items) →
       Walked (input_of (g.G.FragmentGrammar.grammar l.grammar) (trees l.source.whole)) s.pattern l.source.place
       (kept (input_of (g.G.FragmentGrammar.grammar l.grammar) (trees l.source.whole)) (dots s.pattern) l.source.place (reverse s.spots))
-      met l.log l.outers.items (rest_at (trees l.source.whole) l.source.place) l.todo.items l.waiting.items l.ends.items);
+      met l.log l.state.outers.items (rest_at (trees l.source.whole) l.source.place) l.todo.items l.waiting.items l.ends.items);
 }
 
 abbrev pub decreases-loop-position : goal.decreases-loop-position
-decreases-loop-position g l = length l.todo.items + (vacancies l.source.place l.counts.marks.items + vacancies l.source.place l.counts.marks.items)
+decreases-loop-position g l = length l.todo.items + (vacancies l.source.place l.state.counts.marks.items + vacancies l.source.place l.state.counts.marks.items)

@@ -24,7 +24,7 @@ returns-in_default g c = λ h outers at o s.
     let u = c.args.outer.now in
     let p : Position g.row.A.Denot = record { dot = u.rest; number = b.number - 1; up = u.up; handle = c.push_nested.new.parent } in
     let d : Steps g.row.A.Denot = record { first = None; second = Some p; next = None; done = None } in
-    rw c.no_steps.ensures
+    rw c.idle.ensures
     (as_outline old outers (λ x. AreSteps (input_of h (trees src.whole)) (trees src.whole) src.place old mid outers outers x d)
     b no_ops o s c.requires.dot
     (λ a up t. round_done h (trees src.whole) src.place old mid outers b a up u c.args.rounds.now c.push_nested.new.parent t
