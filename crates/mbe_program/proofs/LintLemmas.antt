@@ -1,8 +1,6 @@
 -- Verdicts and their lines, one rule after another.
-use Rattle.std.proofs.Common.{◌≡◌, ◌<◌, ◌≤◌, ◌+◌, ◌∙◌, ℕ, zero, suc, List, [], ◌∷◌, ◌++◌, map, length, take, slice_get, slice_index_or, Option, Some, refl, sym, ap, subst, arith, add-one}
+use Rattle.std.proofs.Common.{◌≡◌, ◌<◌, ◌≤◌, ◌+◌, ◌∙◌, ℕ, zero, suc, List, [], ◌∷◌, ◌++◌, map, length, take, slice_get, slice_index_or, Some, refl, sym, ap, subst, arith, add-one}
 use Rattle.std.specs.Prelude.{codes}
-use Rattle.std.specs.Io.KnownBytes.{Appends}
-use Rattle.std.proofs.KnownBytes.{Appends-trans}
 use Rattle.std.proofs.lemmas.List.{append_assoc, append-nil, map-append, take_all}
 use Rattle.std.proofs.lemmas.Option.{none-some, same_Some}
 use Rattle.mbe_tt.specs.Trees.Tree.{Forest}
@@ -59,21 +57,20 @@ line_get [] n other l = absurd (omega (arith, l))
 line_get (w ∷ vs) zero other l = refl
 line_get (w ∷ vs) (suc n) other l = line_get vs n other (omega (arith, l))
 
--- the line of one rule more is written
-pub one_line_more : (before now after : Option (List ℕ)) (vs : List given.Verdict) (n : ℕ) (other : given.Verdict) → n < length vs
-    → Appends before now (lines_from 0 (take n (map verdict_seen vs)))
-    → Appends now after (line_of n (verdict_seen (slice_index_or vs n other)) ++ codes "\n")
-    → Appends before after (lines_from 0 (take (n + 1) (map verdict_seen vs)))
-one_line_more before now after vs n other l h k =
+-- the line of one rule more
+pub one_line_more : (text more : List ℕ) (vs : List given.Verdict) (n : ℕ) (other : given.Verdict) → n < length vs
+    → text ≡ lines_from 0 (take n (map verdict_seen vs))
+    → more ≡ line_of n (verdict_seen (slice_index_or vs n other)) ++ codes "\n"
+    → text ++ more ≡ lines_from 0 (take (n + 1) (map verdict_seen vs))
+one_line_more text more vs n other l h k =
     let seen = map verdict_seen vs in
     let v = verdict_seen (slice_index_or vs n other) in
     let line : lines_from 0 (take (suc n) seen) ≡ lines_from 0 (take n seen) ++ (line_of n v ++ codes "\n") =
     line_at 0 seen n v (line_get vs n other l)
     ∙ ap (λ (k : ℕ). lines_from 0 (take n seen) ++ (line_of k v ++ codes "\n")) (omega arith) in
-    rw add-one (subst (Appends before after) (sym line)
-    (Appends-trans before now after (lines_from 0 (take n seen)) (line_of n v ++ codes "\n") h k))
+    rw add-one (ap (λ (t : List ℕ). t ++ more) h ∙ (ap (λ (m : List ℕ). lines_from 0 (take n seen) ++ m) k ∙ sym line))
 
--- those of all rules are written
-pub all_lines : (before after : Option (List ℕ)) (vs : List given.Verdict) (n : ℕ) → length vs ≤ n
-    → Appends before after (lines_from 0 (take n (map verdict_seen vs))) → Appends before after (lines_from 0 (map verdict_seen vs))
-all_lines before after vs n l h = subst (λ (xs : List Verdict). Appends before after (lines_from 0 xs)) (all_seen verdict_seen vs n l) h
+-- those of all rules
+pub all_lines : (text : List ℕ) (vs : List given.Verdict) (n : ℕ) → length vs ≤ n → text ≡ lines_from 0 (take n (map verdict_seen vs))
+    → text ≡ lines_from 0 (map verdict_seen vs)
+all_lines text vs n l h = subst (λ (xs : List Verdict). text ≡ lines_from 0 xs) (all_seen verdict_seen vs n l) h

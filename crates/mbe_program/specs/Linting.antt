@@ -11,6 +11,7 @@ use Rattle.mbe_semantics.specs.Syntax.Definition.{Rule}
 use Rattle.mbe_semantics.specs.Readings.Verdict.{Verdict, one_reading, many_readings, ambiguous, stuck, IsVerdict}
 use Rattle.mbe_semantics.specs.Expansion.ReadAs.{IsReadAs}
 use Rattle.mbe_text.specs.Tokens.{IsMade}
+use Rattle.mbe_text.specs.Writing.{Takes}
 use Rattle.mbe_program.specs.declared.program.Outcome.{Outcome}
 use Rattle.mbe_program.specs.declared.program.Outcome.TheVariants.{Expanded, Linted, Faulted, CannotWrite}
 use Rattle.mbe_program.specs.Expansion.{IsEdition, IsUnexpanded}
@@ -56,12 +57,14 @@ abbrev pub ExplainsTexts : Edition → ℕ → ℕ → List Verdict → Type 0
 ExplainsTexts edition def_len arg_len verdicts = (definition : Top) × (argument : Top) × IsMade 0 def_len definition × IsMade 1 arg_len argument
     × ExplainsTrees edition definition.1 argument.1 verdicts
 
--- A run that lints ends as `Linted`, and has written a line for each verdict, or a write fails, or it has no verdicts, and then
--- it has written nothing.
+-- A run that lints ends as `Linted`, and has written a line for each verdict. If a write fails, a prefix of those is written.
+-- Without verdicts nothing is. No such run expands.
 abbrev pub Lints : {A : Type 0} → Edition → ℕ → ℕ → Option (List ℕ) → Option (List ℕ) → Outcome A → Type 0
 Lints edition def_len arg_len before after Linted =
     (verdicts : List Verdict) × ExplainsTexts edition def_len arg_len verdicts × Appends before after (lines_from 0 verdicts)
-Lints edition def_len arg_len before after CannotWrite = ⊤
+Lints edition def_len arg_len before after CannotWrite =
+    (verdicts : List Verdict) × (left : List ℕ) × ExplainsTexts edition def_len arg_len verdicts
+    × Takes before after (lines_from 0 verdicts) left
 Lints edition def_len arg_len before after Expanded = ⊥
 Lints edition def_len arg_len before after Faulted = ⊥
 Lints edition def_len arg_len before after outcome = IsUnexpanded edition def_len outcome × (after ≡ before)

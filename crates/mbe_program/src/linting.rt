@@ -1,17 +1,18 @@
 // Verdicts on the rules of a definition, a line for each.
-ghost use Rattle.std.specs.Prelude.{◌≡◌, ◌≤◌, ◌++◌, codes, map, Some, IfOk, IfErr, OnOk};
-ghost use Rattle.std.specs.Io.KnownBytes.{Appends};
+ghost use Rattle.std.specs.Prelude.{◌≡◌, ◌++◌, codes, map, Some, IfOk, IfErr};
+ghost use Rattle.std.specs.String.{string_bytes};
 ghost use Rattle.mbe_grammar.specs.SampleGrammar.{sample};
 ghost use Rattle.mbe_semantics.specs.Expansion.Macro.{IsChecked};
 ghost use Rattle.mbe.specs.MacroViews.{macro_of};
 ghost use Rattle.mbe.specs.Matched.{verdict_seen};
+ghost use Rattle.mbe_text.specs.Writing.{Writes};
 ghost use Rattle.mbe_program.specs.Expansion.{IsRefused};
 ghost use Rattle.mbe_program.specs.Linting.{AreVerdicts, ExplainsTrees, line_of, lines_from};
-ghost use Rattle.mbe_program.specs.Outcomes.{status_of};
 
 use crate::program::{Outcome, defined};
 use mbe::{DeclarativeMacro, Verdict};
 use mbe_grammar::SampleGrammar;
+use mbe_text::output::write_whole;
 use mbe_tt::span::Edition;
 use mbe_tt::tt::TopSubtree;
 use std::alloc::{AllocError, Allocator};
@@ -47,7 +48,6 @@ pub fn verdicts<A: Allocator + Copy>(
     ensures explains { IfOk result (λ verdicts. ExplainsTrees edition definition.now.1
         argument.now.1 (map verdict_seen verdicts.items)) }
     ensures refused { IfErr result (IsRefused edition definition.now.1) }
-    ensures fails { IfErr result (λ outcome. 2 ≤ status_of outcome) }
 {
     let rules = defined(alloc, definition, edition)?;
     Ok(explained(alloc, &rules, argument)?)
@@ -74,25 +74,41 @@ impl fmt::Display for Line {
     }
 }
 
-// Writes a rule's line.
-fn print_verdict<W: Write>(rule: usize, verdict: Verdict, out: &mut W) -> io::Result<()>
-    ensures { OnOk result (Appends (W.contents out.old) (W.contents out.new)
-        (line_of rule (verdict_seen verdict) ++ codes "\n")) }
+// A rule's line.
+fn line_text<A: Allocator + Copy>(
+    alloc: A,
+    rule: usize,
+    verdict: Verdict,
+) -> Result<String<A>, AllocError>
+    ensures { IfOk result (λ line. string_bytes line
+        ≡ line_of rule (verdict_seen verdict) ++ codes "\n") }
 {
     let line = Line { rule, verdict };
-    writeln!(out, "{line}")
+    format!(in alloc; "{line}\n")
 }
 
-/// Writes a line for each verdict, with the index of its rule, and flushes: `rule N: one reading`, `rule N: several readings`,
-/// `rule N: ambiguous at P` or `rule N: stuck at P`, in decimal. The form is the project's own. It returns the first error of the
-/// writer, after which what was written is a prefix.
-#[tactic(auto, using(crate::proofs::LintLemmas::all_lines))]
-pub fn print_verdicts<W: Write>(verdicts: &[Verdict], out: &mut W) -> io::Result<()>
-    ensures { OnOk result (Appends (W.contents out.old) (W.contents out.new)
-        (lines_from 0 (map verdict_seen verdicts.now))) }
+/// A line for each verdict, with the index of its rule: `rule N: one reading`, `rule N: several readings`, `rule N: ambiguous at P`
+/// or `rule N: stuck at P`, in decimal. The form is the project's own. `AllocError` if out of memory.
+#[tactic(auto, using(crate::proofs::LintLemmas::one_line_more, crate::proofs::LintLemmas::all_lines))]
+pub fn lines_of<A: Allocator + Copy>(
+    alloc: A,
+    verdicts: &[Verdict],
+) -> Result<String<A>, AllocError>
+    ensures { IfOk result (λ lines. string_bytes lines
+        ≡ lines_from 0 (map verdict_seen verdicts.now)) }
 {
+    let mut lines = String::new(alloc);
     for (rule, verdict) in verdicts.iter().enumerate() {
-        print_verdict(rule, *verdict, out)?;
+        let line = line_text(alloc, rule, *verdict)?;
+        lines.push_str(line.as_str())?;
     }
+    Ok(lines)
+}
+
+/// Writes the lines, and flushes. It returns the first error of the writer; what was written then is a prefix of them.
+pub fn print_lines<W: Write>(lines: &str, out: &mut W) -> io::Result<()>
+    ensures { Writes (W.contents out.old) (W.contents out.new) result lines.now }
+{
+    write_whole(lines.as_bytes(), out)?;
     out.flush()
 }

@@ -1,5 +1,5 @@
 // A run, from both texts to what is written.
-ghost use Rattle.std.specs.Prelude.{◌≡◌, ◌<◌, ◌≤◌, ◌^◌, ◌⊎◌, length, map, true, false, None, IfErr, IfOk};
+ghost use Rattle.std.specs.Prelude.{◌≡◌, ◌<◌, ◌^◌, ◌⊎◌, length, map, true, false, None, IfErr, IfOk};
 ghost use Rattle.mbe_tt.specs.Trees.Top.{top_group};
 ghost use Rattle.mbe_errors.specs.ErrorViews.{errors_of};
 ghost use Rattle.mbe_semantics.specs.Expansion.ReadAs.{IsReadAs};
@@ -11,7 +11,7 @@ ghost use Rattle.mbe_program.specs.Expansion.{IsEdition};
 ghost use Rattle.mbe_program.specs.Linting.{ExplainsTexts, Lints};
 ghost use Rattle.mbe_program.specs.Outcomes.{FaultsIn, IsSilent, status_of};
 
-use crate::linting::{print_verdicts, verdicts};
+use crate::linting::{lines_of, print_lines, verdicts};
 use crate::printing::{head_of, print_expansion};
 use mbe::{DeclarativeMacro, ExpandResult, MacroCallStyle, MatchedArmIndex, ParseError, Verdict};
 use mbe_grammar::SampleGrammar;
@@ -69,7 +69,6 @@ fn lexed<A: Allocator + Copy>(alloc: A, text: &str, file: u32) -> Result<TopSubt
     requires { length text.now < 2 ^ 32 }
     ensures made { IfOk result (IsMade file (length text.now)) }
     ensures unlexed { IfErr result IsUnlexed }
-    ensures fails { IfErr result (λ outcome. 2 ≤ status_of outcome) }
     ensures within { IfErr result (FaultsIn file (length text.now)) }
 {
     match lex(alloc, text, file) {
@@ -89,7 +88,6 @@ fn both_lexed<A: Allocator + Copy>(
     requires arg { length arg.now < 2 ^ 32 }
     ensures made { IfOk result (λ r. IsMade 0 (length def.now) r.0 × IsMade 1 (length arg.now) r.1) }
     ensures unlexed { IfErr result IsUnlexed }
-    ensures fails { IfErr result (λ outcome. 2 ≤ status_of outcome) }
     ensures within { IfErr result (λ outcome.
         FaultsIn 0 (length def.now) outcome ⊎ FaultsIn 1 (length arg.now) outcome) }
 {
@@ -110,7 +108,6 @@ pub(crate) fn defined<A: Allocator + Copy>(
         (record { rules = (macro_of m).rules; err = None })) }
     ensures faultless { IfOk result (λ m. (macro_of m).err ≡ None) }
     ensures refused { IfErr result (IsRefused edition definition.now.1) }
-    ensures fails { IfErr result (λ outcome. 2 ≤ status_of outcome) }
 {
     let rules = DeclarativeMacro::parse_macro_rules(alloc, definition, |_context| edition)?;
     if let Some(error) = rules.err() {
@@ -130,7 +127,6 @@ fn expansion<A: Allocator + Copy>(
     ensures expands { IfOk result (λ r. ExpandsTrees edition definition.now.1 argument.now.1
         call_site (top_group r.value.0) r.value.1 (errors_of r.err)) }
     ensures refused { IfErr result (IsRefused edition definition.now.1) }
-    ensures fails { IfErr result (λ outcome. 2 ≤ status_of outcome) }
 {
     let rules = defined(alloc, definition, edition)?;
     let expansion = rules.expand(
@@ -157,7 +153,6 @@ fn texts_expansion<A: Allocator + Copy>(
     ensures expands { IfOk result (λ r. ExpandsTexts edition (length def.now) (length arg.now)
         (top_group r.value.0) r.value.1 (errors_of r.err)) }
     ensures unexpanded { IfErr result (IsUnexpanded edition (length def.now)) }
-    ensures fails { IfErr result (λ outcome. 2 ≤ status_of outcome) }
     ensures within { IfErr result (λ outcome.
         FaultsIn 0 (length def.now) outcome ⊎ FaultsIn 1 (length arg.now) outcome) }
 {
@@ -179,7 +174,6 @@ fn texts_verdicts<A: Allocator + Copy>(
     ensures explains { IfOk result (λ verdicts. ExplainsTexts edition (length def.now)
         (length arg.now) (map verdict_seen verdicts.items)) }
     ensures unexpanded { IfErr result (IsUnexpanded edition (length def.now)) }
-    ensures fails { IfErr result (λ outcome. 2 ≤ status_of outcome) }
     ensures within { IfErr result (λ outcome.
         FaultsIn 0 (length def.now) outcome ⊎ FaultsIn 1 (length arg.now) outcome) }
 {
@@ -238,7 +232,10 @@ fn linted<A: Allocator + Copy, W: Write>(
         Ok(verdicts) => verdicts,
         Err(failure) => return failure,
     };
-    match print_verdicts(&verdicts, out) {
+    let Ok(lines) = lines_of(alloc, &verdicts) else {
+        return Outcome::OutOfMemory;
+    };
+    match print_lines(lines.as_str(), out) {
         Ok(()) => Outcome::Linted,
         Err(_) => Outcome::CannotWrite,
     }
