@@ -92,13 +92,19 @@ fn runs_out<A: Allocator + Copy>(
         return None;
     }
     match copy {
-        Ok(copy) if copy == *before => Some(false),
-        Ok(_) => None,
+        Ok(copy) => {
+            if copy == *before {
+                Some(false)
+            } else {
+                None
+            }
+        }
         Err(AllocError) => Some(true),
     }
 }
 
 // Of what the request of one number was refused.
+#[derive(Clone, Copy)]
 enum Refused {
     Reading,
     Copying,

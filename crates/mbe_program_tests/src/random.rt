@@ -169,8 +169,8 @@ fn parses(alloc: Global, text: &str) -> Result<bool, Fail> {
     Ok(true)
 }
 
-// Whether runs end of two texts and of the rule that is made of two; and their texts, where they don't.
-fn texts_end(
+// Two texts and the rule that is made of two, where a run of them doesn't end.
+fn unended(
     alloc: Global,
     numbers: &mut Numbers,
     is_of_pieces: bool,
@@ -194,7 +194,7 @@ fn texts_end(
 fn random_texts_end(rt: HostRuntime) -> Result<(), Fail> {
     let mut numbers = Numbers(1);
     for number in 0..7_000u64 {
-        assert_eq!(rt; texts_end(rt.alloc(), &mut numbers, number % 4 != 0)?, None);
+        assert_eq!(rt; unended(rt.alloc(), &mut numbers, number % 4 != 0)?, None);
     }
     Ok(())
 }
