@@ -329,14 +329,37 @@ fn first_endless<R: CpuClock>(
     Ok(None)
 }
 
-// Runs of 1,250 definitions of each seed.
-#[test]
-fn random_repetitions_end_within_a_second(rt: HostRuntime) -> Result<(), Fail> {
-    for seed in 2..6u64 {
-        let mut numbers = Numbers(seed);
-        for _ in 0..1_250u64 {
-            assert_eq!(rt; first_endless(&rt, rt.alloc(), &mut numbers)?, None);
+// Runs of 1,250 definitions, each on four arguments.
+fn first_of_seed<R: CpuClock>(rt: &R, alloc: Global, seed: u64) -> Result<Option<String>, Fail> {
+    let mut numbers = Numbers(seed);
+    for _ in 0..1_250u64 {
+        if let Some(texts) = first_endless(rt, alloc, &mut numbers)? {
+            return Ok(Some(texts));
         }
     }
+    Ok(None)
+}
+
+#[test]
+fn random_repetitions_end_within_a_second(rt: HostRuntime) -> Result<(), Fail> {
+    assert_eq!(rt; first_of_seed(&rt, rt.alloc(), 2)?, None);
+    Ok(())
+}
+
+#[test]
+fn other_random_repetitions_end_within_a_second(rt: HostRuntime) -> Result<(), Fail> {
+    assert_eq!(rt; first_of_seed(&rt, rt.alloc(), 3)?, None);
+    Ok(())
+}
+
+#[test]
+fn further_random_repetitions_end_within_a_second(rt: HostRuntime) -> Result<(), Fail> {
+    assert_eq!(rt; first_of_seed(&rt, rt.alloc(), 4)?, None);
+    Ok(())
+}
+
+#[test]
+fn last_random_repetitions_end_within_a_second(rt: HostRuntime) -> Result<(), Fail> {
+    assert_eq!(rt; first_of_seed(&rt, rt.alloc(), 5)?, None);
     Ok(())
 }
