@@ -3,7 +3,6 @@ use crate::reading::read;
 use mbe::DeclarativeMacro;
 use refusing::Refusing;
 use std::alloc::{AllocError, Allocator, Global};
-use std::process::Abort;
 use std::test::Fail;
 
 // The macros of two definitions are equal.
@@ -30,16 +29,20 @@ static DIFFERENT: [&str; 13] = [
     "( $($x:ident),*) => {}",
 ];
 
+// The first text whose macro equals that of the text of that number though it is another, or doesn't equal it.
+fn first_alike(alloc: Global, number: usize, text: &str) -> Result<Option<usize>, Fail> {
+    for (other_number, &other) in DIFFERENT.iter().enumerate() {
+        if are_equal(alloc, text, other)? != (number == other_number) {
+            return Ok(Some(other_number));
+        }
+    }
+    Ok(None)
+}
+
 #[test]
 fn macros_of_other_rules_differ(rt: HostRuntime) -> Result<(), Fail> {
-    for (one, text) in DIFFERENT.iter().enumerate() {
-        for (two, other) in DIFFERENT.iter().enumerate() {
-            assert_eq!(rt;
-                are_equal(rt.alloc(), text, other)?,
-                one == two,
-                "{text} {other}"
-            );
-        }
+    for (number, &text) in DIFFERENT.iter().enumerate() {
+        assert_eq!(rt; first_alike(rt.alloc(), number, text)?, None, "{text}");
     }
     Ok(())
 }
@@ -68,55 +71,77 @@ const EVERY_FORM: &str =
 
 #[test]
 fn a_copy_is_equal(rt: HostRuntime) -> Result<(), Fail> {
-    let alloc = rt.alloc();
     for text in [EVERY_FORM, "", "($()*) => {}; ($x) => {}"] {
-        let rules = read(alloc, text)?.ok_or("a text that doesn't lex")?;
-        let copy = rules.try_clone(alloc)?;
-        assert!(rt; copy == rules, "{text}");
-        assert_eq!(rt; copy.num_rules(), rules.num_rules(), "{text}");
-        assert!(rt; copy.err() == rules.err(), "{text}");
-        assert!(rt; copy.rule_styles() == rules.rule_styles(), "{text}");
+        let rules = read(rt.alloc(), text)?.ok_or("a text that doesn't lex")?;
+        let copy = rules.try_clone(rt.alloc())?;
+        let is_equal = copy == rules && copy.num_rules() == rules.num_rules();
+        let is_alike = copy.err() == rules.err() && copy.rule_styles() == rules.rule_styles();
+        assert!(rt; is_equal && is_alike, "{text}");
     }
     Ok(())
 }
 
-// Whether memory ran out for a copy. The macro is as one that was read before in either case.
+// Whether memory ran out for a copy; nothing where the copy or the macro isn't as one that was read before.
 fn runs_out<A: Allocator + Copy>(
-    rt: &impl Abort,
     alloc: A,
     rules: &DeclarativeMacro<A>,
     before: &DeclarativeMacro<A>,
-) -> bool {
+) -> Option<bool> {
     let copy = rules.try_clone(alloc);
-    assert!(rt; rules == before);
+    if rules != before {
+        return None;
+    }
     match copy {
         Ok(copy) => {
-            assert!(rt; copy == *before);
-            false
+            if copy == *before {
+                Some(false)
+            } else {
+                None
+            }
         }
-        Err(AllocError) => true,
+        Err(AllocError) => Some(true),
+    }
+}
+
+// Of what the request of one number was refused.
+#[derive(Clone, Copy)]
+enum Refused {
+    Reading,
+    Copying,
+    Nothing,
+}
+
+// Of what the request of that number was refused, of reading twice and of a copy. No answer where a copy is wrong.
+fn refused(alloc: Global, request: u64) -> Option<Refused> {
+    let alloc = Refusing::new(alloc, request);
+    let (Ok(Some(rules)), Ok(Some(before))) = (read(&alloc, EVERY_FORM), read(&alloc, EVERY_FORM))
+    else {
+        return if alloc.has_refused() {
+            Some(Refused::Reading)
+        } else {
+            None
+        };
+    };
+    let runs_out = runs_out(&alloc, &rules, &before)?;
+    match (runs_out, alloc.has_refused()) {
+        (true, true) => Some(Refused::Copying),
+        (false, false) => Some(Refused::Nothing),
+        _ => None,
     }
 }
 
 #[test]
 fn each_request_of_a_copy_refused(rt: HostRuntime) -> Result<(), Fail> {
-    let mut refused = 0u64;
+    let mut copies = 0u64;
     for request in 1..10_000u64 {
-        let alloc = Refusing::new(rt.alloc(), request);
-        let (Ok(Some(rules)), Ok(Some(before))) = (
-            read(&alloc, EVERY_FORM),
-            read(&alloc, EVERY_FORM),
-        ) else {
-            assert!(rt; alloc.has_refused(), "at {request}");
-            continue;
-        };
-        if !alloc.has_refused() && !runs_out(&rt, &alloc, &rules, &before) {
-            assert!(rt; !alloc.has_refused(), "at {request}");
-            assert!(rt; refused > 10, "only {refused} requests");
-            return Ok(());
+        match refused(rt.alloc(), request).ok_or("a wrong copy")? {
+            Refused::Reading => {}
+            Refused::Copying => copies = copies.saturating_add(1),
+            Refused::Nothing => {
+                assert!(rt; copies > 10, "only {copies} requests");
+                return Ok(());
+            }
         }
-        assert!(rt; alloc.has_refused(), "at {request}");
-        refused = refused.saturating_add(1);
     }
     Err(Fail::from("it goes on"))
 }

@@ -4,7 +4,6 @@ use mbe_tt::span::{Span, SyntaxContext};
 use std::alloc::{AllocError, Global};
 use std::error::Error;
 use std::hash::{DefaultHasher, Hash, Hasher};
-use std::process::Abort;
 use std::rc::Rc;
 use std::test::Fail;
 
@@ -30,25 +29,29 @@ fn hash_of<T: Hash>(value: &T) -> u64 {
     state.finish()
 }
 
-// Of two kinds, a copy of the first equals the second exactly where they have one number, and is hashed alike then.
-fn assert_compared(rt: &impl Abort, alloc: Global, (one, two): (usize, usize)) -> Result<(), Fail> {
+// Whether, of two kinds, a copy of the first equals the second exactly where they have one number, and is hashed alike then.
+fn are_compared(alloc: Global, (one, two): (usize, usize)) -> Result<bool, AllocError> {
     let copy = kind(alloc, one)?.try_clone(alloc)?;
     let other = kind(alloc, two)?;
-    assert_eq!(rt; copy == other, one == two, "{one} {two}");
-    assert_eq!(rt;
-        hash_of(&copy) == hash_of(&other),
-        one == two,
-        "{one} {two}"
-    );
-    Ok(())
+    let is_equal = copy == other;
+    let is_alike = hash_of(&copy) == hash_of(&other);
+    Ok(is_equal == (one == two) && is_alike == (one == two))
+}
+
+// The first kind that isn't compared so with that one.
+fn first_miscompared(alloc: Global, one: usize) -> Result<Option<usize>, AllocError> {
+    for two in 0..KINDS {
+        if !are_compared(alloc, (one, two))? {
+            return Ok(Some(two));
+        }
+    }
+    Ok(None)
 }
 
 #[test]
 fn kinds_are_compared_and_copied(rt: HostRuntime) -> Result<(), Fail> {
     for one in 0..KINDS {
-        for two in 0..KINDS {
-            assert_compared(&rt, rt.alloc(), (one, two))?;
-        }
+        assert_eq!(rt; first_miscompared(rt.alloc(), one)?, None, "{one}");
     }
     Ok(())
 }
@@ -69,37 +72,39 @@ fn error(alloc: Global, start: u32, number: usize) -> Result<ExpandError, AllocE
     })
 }
 
+// Whether an error of that place and kind equals the other one and is hashed alike.
+fn is_same(
+    alloc: Global,
+    (start, number): (u32, usize),
+    other: &ExpandError,
+) -> Result<bool, AllocError> {
+    let made = error(alloc, start, number)?;
+    Ok(made == *other && hash_of(&made) == hash_of(other))
+}
+
 #[test]
 fn errors_are_compared_by_place_and_kind(rt: HostRuntime) -> Result<(), Fail> {
-    let alloc = rt.alloc();
-    let first = error(alloc, 1, 0)?;
+    let first = error(rt.alloc(), 1, 0)?;
     let clone = first.clone()?;
-    assert!(rt; clone == first);
-    assert_eq!(rt; hash_of(&clone), hash_of(&first));
-    assert!(rt; error(alloc, 1, 0)? == first);
-    assert!(rt; error(alloc, 2, 0)? != first);
-    assert!(rt; error(alloc, 1, 1)? != first);
-    assert_eq!(rt; hash_of(&error(alloc, 1, 0)?), hash_of(&first));
+    assert!(rt; clone == first && hash_of(&clone) == hash_of(&first));
+    assert!(rt; is_same(rt.alloc(), (1, 0), &first)?);
+    assert!(rt; error(rt.alloc(), 2, 0)? != first);
+    assert!(rt; error(rt.alloc(), 1, 1)? != first);
     Ok(())
 }
 
-fn assert_error<E: Error>(
-    rt: &impl Abort,
-    alloc: Global,
-    error: &E,
-    want: &str,
-) -> Result<(), Fail> {
+fn is_shown<E: Error>(alloc: Global, error: &E, want: &str) -> Result<bool, AllocError> {
     let text = format!(in alloc; "{error}")?;
-    assert_eq!(rt; text.as_str(), want);
-    Ok(())
+    Ok(text.as_str() == want)
 }
 
 #[test]
 fn each_error_is_one(rt: HostRuntime) -> Result<(), Fail> {
     let alloc = rt.alloc();
     let parse: ParseError = ParseError::InvalidRepeat;
-    assert_error(&rt, alloc, &parse, "invalid repeat")?;
-    assert_error(&rt, alloc, &kind(alloc, 4)?, "leftover tokens")?;
-    assert_error(&rt, alloc, &error(alloc, 1, 5)?, "Expand exceed limit")?;
-    assert_error(&rt, alloc, &CountError::Misplaced, "${count} misplaced")
+    assert!(rt; is_shown(alloc, &parse, "invalid repeat")?);
+    assert!(rt; is_shown(alloc, &kind(alloc, 4)?, "leftover tokens")?);
+    assert!(rt; is_shown(alloc, &error(alloc, 1, 5)?, "Expand exceed limit")?);
+    assert!(rt; is_shown(alloc, &CountError::Misplaced, "${count} misplaced")?);
+    Ok(())
 }

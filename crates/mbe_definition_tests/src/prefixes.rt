@@ -1,8 +1,7 @@
 // Each prefix of a definition, cut after each char. A group that is open at the end is closed there.
 use crate::reading::read;
 use mbe::DeclarativeMacro;
-use std::alloc::Global;
-use std::process::Abort;
+use std::alloc::{AllocError, Global};
 use std::test::Fail;
 
 type Reported = Option<&'static str>;
@@ -256,56 +255,56 @@ static DEFINITIONS: [&[Piece]; 30] = [
     ],
 ];
 
-// So many rules of the macro are kept, and that error is reported.
-fn assert_read(
-    rt: &impl Abort,
+// Whether so many rules of the macro are kept, and that error is reported.
+fn is_read(
     alloc: Global,
-    (rules, text): (&DeclarativeMacro, &str),
+    rules: &DeclarativeMacro,
     (count, reported): (usize, Reported),
-) -> Result<(), Fail> {
-    assert_eq!(rt; rules.num_rules(), count, "{text}");
-    let shown = match rules.err() {
-        Some(err) => Some(format!(in alloc; "{err}")?),
-        None => None,
+) -> Result<bool, AllocError> {
+    let is_reported = match (rules.err(), reported) {
+        (Some(err), Some(want)) => {
+            let shown = format!(in alloc; "{err}")?;
+            shown.as_str() == want
+        }
+        (err, want) => err.is_none() && want.is_none(),
     };
-    assert_eq!(rt;
-        shown.as_ref().map(|shown| shown.as_str()),
-        reported,
-        "{text}"
-    );
-    Ok(())
+    Ok(rules.num_rules() == count && is_reported)
 }
 
-// Each prefix that ends in the piece is read so. The text ends before the piece.
-fn assert_piece(
-    rt: &impl Abort,
+// Whether each prefix that ends in the piece is read so. The text ends before the piece, or after the first char where it isn't.
+fn is_piece_read(
     alloc: Global,
     text: &mut String,
     &(piece, want): &Piece,
-) -> Result<(), Fail> {
+) -> Result<bool, AllocError> {
     for char in piece.chars() {
         text.push(char)?;
-        let read = read(alloc, text.as_str())?;
-        assert_eq!(rt; read.is_some(), want.is_some(), "{text}");
-        if let (Some(rules), Some(want)) = (read, want) {
-            assert_read(rt, alloc, (&rules, text.as_str()), want)?;
+        let is_so = match (read(alloc, text.as_str())?, want) {
+            (Some(rules), Some(want)) => is_read(alloc, &rules, want)?,
+            (read, want) => read.is_none() && want.is_none(),
+        };
+        if !is_so {
+            return Ok(false);
         }
     }
-    Ok(())
+    Ok(true)
 }
 
-fn assert_prefixes(rt: &impl Abort, alloc: Global, pieces: &[Piece]) -> Result<(), Fail> {
+// The first prefix that is read otherwise.
+fn first_misread(alloc: Global, pieces: &[Piece]) -> Result<Option<String>, AllocError> {
     let mut text = String::new(alloc);
     for piece in pieces {
-        assert_piece(rt, alloc, &mut text, piece)?;
+        if !is_piece_read(alloc, &mut text, piece)? {
+            return Ok(Some(text));
+        }
     }
-    Ok(())
+    Ok(None)
 }
 
 #[test]
 fn each_prefix_of_a_definition(rt: HostRuntime) -> Result<(), Fail> {
     for pieces in &DEFINITIONS {
-        assert_prefixes(&rt, rt.alloc(), pieces)?;
+        assert_eq!(rt; first_misread(rt.alloc(), pieces)?, None);
     }
     Ok(())
 }

@@ -77,8 +77,7 @@ static ERRORS: [Copied; 4] = [
 #[test]
 fn errors_are_copied_or_refused(rt: HostRuntime) -> Result<(), Fail> {
     for work in &ERRORS {
-        let count = refusals(&rt, rt.alloc(), work, "an error")?;
-        assert!(rt; count > 0, "{work:?}");
+        assert!(rt; refusals(rt.alloc(), work).unwrap_or(0) > 0, "{work:?}");
     }
     Ok(())
 }
@@ -133,8 +132,7 @@ impl Work for Copying {
 #[test]
 fn results_are_copied_or_refused(rt: HostRuntime) -> Result<(), Fail> {
     for work in [Copying::Lent, Copying::Whole] {
-        let count = refusals(&rt, rt.alloc(), &work, "a result")?;
-        assert!(rt; count == 1, "{work:?}");
+        assert!(rt; refusals(rt.alloc(), &work) == Some(1), "{work:?}");
     }
     Ok(())
 }

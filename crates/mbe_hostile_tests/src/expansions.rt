@@ -79,8 +79,8 @@ impl Work for Expanding {
 #[test]
 fn each_request_of_an_expansion_refused(rt: HostRuntime) -> Result<(), Fail> {
     for row in &ROWS {
-        let count = refusals(&rt, rt.alloc(), &Expanding(row), row.0)?;
-        assert!(rt; count > 3, "{}", row.0);
+        let count = refusals(rt.alloc(), &Expanding(row));
+        assert!(rt; count.unwrap_or(0) > 3, "{}", row.0);
     }
     Ok(())
 }
@@ -109,7 +109,6 @@ impl Work for Fragment {
 
 #[test]
 fn each_request_of_a_fragment_refused(rt: HostRuntime) -> Result<(), Fail> {
-    let count = refusals(&rt, rt.alloc(), &Fragment, "a fragment")?;
-    assert!(rt; count > 1);
+    assert!(rt; refusals(rt.alloc(), &Fragment).unwrap_or(0) > 1);
     Ok(())
 }

@@ -1,22 +1,14 @@
 // Definitions and arguments of thousands of tokens, with the memory that they take.
 use crate::rows::ran;
 use std::alloc::Global;
-use std::process::Abort;
 use std::test::Fail;
 use std::time::{Duration, Instant};
 
-// The run has that status and prints that.
-fn assert_prints(
-    rt: &impl Abort,
-    alloc: Global,
-    (def, arg): (&str, &str),
-    (status, want): (u8, &str),
-) -> Result<(), Fail> {
+// Whether the run prints that, with that status.
+fn prints(alloc: Global, (def, arg): (&str, &str), (status, want): (u8, &str)) -> bool {
     let mut out = Vec::new(alloc);
     let outcome = ran(alloc, (def, arg), &mut out);
-    assert_eq!(rt; outcome.status(), status);
-    assert!(rt; out.as_slice() == want.as_bytes());
-    Ok(())
+    outcome.status() == status && out.as_slice() == want.as_bytes()
 }
 
 // So many times `a = 1 + 2;`, which is six tokens.
@@ -47,7 +39,8 @@ fn an_argument_of_five_thousand_tokens(rt: HostRuntime) -> Result<(), Fail> {
     let count = format!(in alloc; "  LITERAL Integer {STATEMENTS} 1@0..{end}\n")?;
     want.push_str(count.as_str())?;
     let texts = (definition, argument.as_str());
-    assert_prints(&rt, alloc, texts, (0, want.as_str()))
+    assert!(rt; prints(alloc, texts, (0, want.as_str())));
+    Ok(())
 }
 
 const NAMES: usize = 1_250;
@@ -70,7 +63,8 @@ fn a_definition_of_five_thousand_tokens(rt: HostRuntime) -> Result<(), Fail> {
     let definition = format!(in alloc; "({pattern}) => {{{template}}}")?;
     let argument = "a ".repeat(alloc, NAMES)?;
     let texts = (definition.as_str(), argument.as_str());
-    assert_prints(&rt, alloc, texts, (0, want.as_str()))
+    assert!(rt; prints(alloc, texts, (0, want.as_str())));
+    Ok(())
 }
 
 // Each pattern is a single fragment, which takes a million links and what follows them.
@@ -91,7 +85,7 @@ fn long_chains_are_one_fragment(rt: HostRuntime) -> Result<(), Fail> {
         let end = argument.len();
         let want = format!(in alloc; "arm 0\nSUBTREE $$ 1@0..{end} 1@0..{end}\n")?;
         let texts = (definition, argument.as_str());
-        assert_prints(&rt, alloc, texts, (0, want.as_str()))?;
+        assert!(rt; prints(alloc, texts, (0, want.as_str())), "{link}");
     }
     Ok(())
 }
@@ -106,7 +100,7 @@ fn nested_repetitions_that_can_be_empty_are_refused_at_once(rt: HostRuntime) -> 
     let closings = ")*".repeat(alloc, 4_000)?;
     let definition = format!(in alloc; "({openings}{closings}) => {{}}")?;
     let start = Instant::now(&rt)?;
-    assert_prints(&rt, alloc, (definition.as_str(), ""), (2, ""))?;
+    assert!(rt; prints(alloc, (definition.as_str(), ""), (2, "")));
     let time = start.elapsed(&rt)?;
     assert!(rt; time < Duration::from_secs(6), "{time:?}");
     Ok(())

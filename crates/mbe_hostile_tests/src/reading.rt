@@ -100,14 +100,15 @@ const EVERY_FORM: &str =
 fn each_request_of_reading_refused(rt: HostRuntime) -> Result<(), Fail> {
     for &(definition, ..) in &ROWS {
         for work in [Reading::Rules(definition), Reading::Body(definition)] {
-            let count = refusals(&rt, rt.alloc(), &work, definition)?;
-            assert!(rt; count > 1, "{definition}");
+            assert!(rt;
+                refusals(rt.alloc(), &work).unwrap_or(0) > 1,
+                "{definition}"
+            );
         }
     }
     let args = Reading::Arguments("$($x:ident),*", "$($x);*");
     for work in [args, Reading::Rules(EVERY_FORM), Reading::Body(EVERY_FORM)] {
-        let count = refusals(&rt, rt.alloc(), &work, "every form")?;
-        assert!(rt; count > 1);
+        assert!(rt; refusals(rt.alloc(), &work).unwrap_or(0) > 1);
     }
     Ok(())
 }

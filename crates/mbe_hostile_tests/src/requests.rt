@@ -1,8 +1,6 @@
 // Calls that take memory, with each of their requests refused in turn.
 use refusing::Refusing;
 use std::alloc::{AllocError, Allocator, Global};
-use std::process::Abort;
-use std::test::Fail;
 
 /// How a call ended.
 #[derive(Clone, Copy, Debug, PartialEq, Eq)]
@@ -38,25 +36,25 @@ pub trait Work {
 }
 
 /// How often the call itself was out of memory, while the request of each number from 1 on was refused, until none was. Then,
-/// and only then, it must be as stated; no other call may end wrong, or be out of memory where none was refused.
-pub fn refusals<W: Work>(
-    rt: &impl Abort,
-    alloc: Global,
-    work: &W,
-    name: &str,
-) -> Result<u64, Fail> {
+/// and only then, it must be as stated; no other call may end wrong. Nothing where one did.
+pub fn refusals<W: Work>(alloc: Global, work: &W) -> Option<u64> {
     let mut count = 0u64;
     for number in 1..10_000u64 {
         let refusing = Refusing::new(alloc, number);
         let ended = work.ended(alloc, &refusing);
         if !refusing.has_refused() {
-            assert!(rt; ended == Ok(Ended::Answered), "{name} without a refusal");
-            return Ok(count);
+            return if ended == Ok(Ended::Answered) {
+                Some(count)
+            } else {
+                None
+            };
         }
-        assert!(rt; ended != Ok(Ended::Wrong), "{name} at {number}");
+        if ended == Ok(Ended::Wrong) {
+            return None;
+        }
         if ended == Ok(Ended::OutOfMemory) {
             count = count.saturating_add(1);
         }
     }
-    Err(Fail::from("it goes on"))
+    None
 }

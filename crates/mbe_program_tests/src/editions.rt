@@ -1,5 +1,5 @@
 // What the edition decides: `pat` takes alternatives from 2021 on, and `expr` takes `_` and `const` blocks from 2024 on.
-use crate::rows::{Row, assert_rows};
+use crate::rows::{Row, first_wrong};
 use mbe_tt::span::Edition;
 use std::test::Fail;
 
@@ -109,8 +109,12 @@ static BY_EDITION: [(Edition, &[Row]); 4] = [
 
 #[test]
 fn the_edition_decides_what_fits(rt: HostRuntime) -> Result<(), Fail> {
-    for (edition, rows) in &BY_EDITION {
-        assert_rows(&rt, rt.alloc(), *edition, rows)?;
+    for &(edition, rows) in &BY_EDITION {
+        assert_eq!(rt;
+            first_wrong(rt.alloc(), edition, rows)?,
+            None,
+            "{edition:?}"
+        );
     }
     Ok(())
 }

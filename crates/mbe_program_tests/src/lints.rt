@@ -1,12 +1,9 @@
 // How each rule of a definition reads an argument, as the program writes it.
+use crate::memory::first_unneeded;
 use crate::reports::SIGNS;
 use crate::rows::LIST;
-use crate::runs::Failing;
-use mbe_program::program::run;
+use crate::runs::{first_unwritten, prints};
 use mbe_tt::span::Edition;
-use refusing::Refusing;
-use std::alloc::Global;
-use std::process::Abort;
 use std::test::Fail;
 
 /// A definition and an argument, and the lines.
@@ -66,14 +63,19 @@ static LINTS: [Lint; 14] = [
     (("([$x:ident] b) => {}", "[x] c"), "rule 0: stuck at 3\n"),
 ];
 
+// Each request of a run is refused once, and each write fails once.
 #[test]
 fn lints_are_printed(rt: HostRuntime) -> Result<(), Fail> {
-    for ((def, arg), want) in &LINTS {
-        assert!(rt; def.len() < 1_000_000 && arg.len() < 1_000_000);
-        let mut out = Vec::new(rt.alloc());
-        let outcome = run(rt.alloc(), def, arg, Edition::Edition2024, true, &mut out);
-        assert_eq!(rt; String::from_utf8(out)?.as_str(), *want, "{def} on {arg}");
-        assert_eq!(rt; outcome.status(), 0, "{def} on {arg}");
+    for &(texts, want) in &LINTS {
+        let is_so = prints(rt.alloc(), texts, (Edition::Edition2024, true), (want, 0));
+        assert!(rt; is_so, "{}", texts.0);
+        let request = first_unneeded(rt.alloc(), texts, true, (want, 0));
+        let write = first_unwritten(rt.alloc(), texts, true, want);
+        assert!(rt;
+            request.unwrap_or(0) > 1 && write.unwrap_or(0) > 1,
+            "{}",
+            texts.0
+        );
     }
     Ok(())
 }
@@ -88,71 +90,12 @@ static FAILURES: [(&str, &str, u8); 4] = [
 
 #[test]
 fn what_is_refused_has_no_lines(rt: HostRuntime) -> Result<(), Fail> {
-    for (def, arg, status) in &FAILURES {
-        assert!(rt; def.len() < 1_000_000 && arg.len() < 1_000_000);
-        let mut out = Vec::new(rt.alloc());
-        let outcome = run(rt.alloc(), def, arg, Edition::Edition2024, true, &mut out);
-        assert_eq!(rt; outcome.status(), *status, "{def} on {arg}");
-        assert!(rt; out.is_empty(), "{def} on {arg}");
-    }
-    Ok(())
-}
-
-// Each request of a run is refused once; the run without a refusal prints the lines, and every other one nothing.
-fn assert_each_refused(rt: &impl Abort, alloc: Global, lint: &Lint) -> Result<(), Fail> {
-    let ((def, arg), want) = lint;
-    assert!(rt; def.len() < 1_000_000 && arg.len() < 1_000_000);
-    for number in 1..100_000u64 {
-        let refusing = Refusing::new(alloc, number);
-        let mut out = Vec::new(alloc);
-        let outcome = run(&refusing, def, arg, Edition::Edition2024, true, &mut out);
-        if !refusing.has_refused() {
-            assert_eq!(rt; outcome.status(), 0, "{def}");
-            assert!(rt; out.as_slice() == want.as_bytes(), "{def}");
-            assert!(rt; number > 1, "{def}: no request");
-            return Ok(());
-        }
-        assert_eq!(rt; outcome.status(), 5, "{def} at {number}");
-        assert!(rt; out.is_empty(), "{def} at {number}");
-    }
-    Err(Fail::from("it goes on"))
-}
-
-#[test]
-fn a_refused_request_of_a_lint_is_out_of_memory(rt: HostRuntime) -> Result<(), Fail> {
-    for lint in &LINTS {
-        assert_each_refused(&rt, rt.alloc(), lint)?;
-    }
-    Ok(())
-}
-
-// The writer fails at each call once; the run without a failure prints the lines, and every other one a prefix.
-fn assert_each_write_fails(rt: &impl Abort, alloc: Global, lint: &Lint) -> Result<(), Fail> {
-    let ((def, arg), want) = lint;
-    assert!(rt; def.len() < 1_000_000 && arg.len() < 1_000_000);
-    for number in 1..10_000u64 {
-        let mut out = Failing {
-            written: Vec::new(alloc),
-            left: number,
-        };
-        let outcome = run(alloc, def, arg, Edition::Edition2024, true, &mut out);
-        let written = out.written.as_slice();
-        if out.left > 0 {
-            assert_eq!(rt; outcome.status(), 0, "{def}");
-            assert!(rt; written == want.as_bytes(), "{def}");
-            assert!(rt; number > 1, "{def}: no write");
-            return Ok(());
-        }
-        assert_eq!(rt; outcome.status(), 3, "{def} at {number}");
-        assert!(rt; want.as_bytes().starts_with(written), "{def} at {number}");
-    }
-    Err(Fail::from("it goes on"))
-}
-
-#[test]
-fn a_failed_write_of_a_lint_is_reported(rt: HostRuntime) -> Result<(), Fail> {
-    for lint in &LINTS {
-        assert_each_write_fails(&rt, rt.alloc(), lint)?;
+    for &(def, arg, status) in &FAILURES {
+        let how = (Edition::Edition2024, true);
+        assert!(rt;
+            prints(rt.alloc(), (def, arg), how, ("", status)),
+            "{def} on {arg}"
+        );
     }
     Ok(())
 }

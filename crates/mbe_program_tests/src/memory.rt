@@ -1,39 +1,47 @@
-// What a run answers where a request for memory is refused.
+// What is done where a request for memory is refused.
 use crate::rows::{Row, printed};
+use crate::runs::ran;
 use crate::{reports, rows};
-use mbe_program::program::run;
 use mbe_tt::span::Edition;
 use refusing::Refusing;
 use std::alloc::Global;
-use std::process::Abort;
 use std::test::Fail;
 
-// Each request of a run is refused once; the run without a refusal prints the row, and every other one nothing.
-fn assert_each_refused(rt: &impl Abort, alloc: Global, row: &Row) -> Result<(), Fail> {
-    let ((def, arg), error, arm, trees) = row;
-    let (want, status) = printed(alloc, arg, (error, *arm, trees))?;
-    assert!(rt; def.len() < 1_000_000 && arg.len() < 1_000_000);
+/// The number of the first request that a run doesn't make, if each other one, refused alone, ends it out of memory with
+/// nothing printed, and the run without a refusal prints that with that status.
+pub fn first_unneeded(
+    alloc: Global,
+    texts: (&str, &str),
+    lint: bool,
+    (want, status): (&str, u8),
+) -> Option<u64> {
     for number in 1..100_000u64 {
         let refusing = Refusing::new(alloc, number);
         let mut out = Vec::new(alloc);
-        let outcome = run(&refusing, def, arg, Edition::Edition2024, false, &mut out);
+        let outcome = ran(&refusing, texts, (Edition::Edition2024, lint), &mut out);
         if !refusing.has_refused() {
-            assert_eq!(rt; outcome.status(), status, "{def}");
-            assert!(rt; out.as_slice() == want.as_bytes(), "{def}");
-            assert!(rt; number > 10, "{def}: only {number} requests");
-            return Ok(());
+            let is_so = outcome.status() == status && out.as_slice() == want.as_bytes();
+            return if is_so { Some(number) } else { None };
         }
-        assert_eq!(rt; outcome.status(), 5, "{def} at {number}");
-        assert!(rt; out.is_empty(), "{def} at {number}");
+        if outcome.status() != 5 || !out.is_empty() {
+            return None;
+        }
     }
-    Err(Fail::from("it goes on"))
+    None
+}
+
+// Whether that is so of a row, after ten requests at least.
+fn is_refused(alloc: Global, &(texts, error, arm, trees): &Row) -> Result<bool, Fail> {
+    let (want, status) = printed(alloc, texts.1, (error, arm, trees))?;
+    let number = first_unneeded(alloc, texts, false, (want.as_str(), status));
+    Ok(number.unwrap_or(0) > 10)
 }
 
 #[test]
 fn a_refused_request_is_out_of_memory(rt: HostRuntime) -> Result<(), Fail> {
     let recovered = rows::RECOVERED.iter().chain(&reports::RECOVERED);
     for row in rows::WORKED.iter().chain(recovered) {
-        assert_each_refused(&rt, rt.alloc(), row)?;
+        assert!(rt; is_refused(rt.alloc(), row)?, "{}", row.0.0);
     }
     Ok(())
 }

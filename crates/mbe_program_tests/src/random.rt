@@ -1,12 +1,11 @@
 // Runs on random texts, and on random rules with repetitions.
 ghost use Rattle.std.specs.Prelude.{◌<◌};
 
-use crate::runs::assert_ends;
+use crate::runs::ends;
 use mbe_grammar::SampleGrammar;
 use mbe_text::lexer::lex;
 use mbe_tt::grammar::{FragmentGrammar, PrefixEntryPoint};
 use std::alloc::Global;
-use std::process::Abort;
 use std::test::Fail;
 use std::time::{CpuClock, Duration};
 
@@ -152,35 +151,50 @@ const ENTRIES: [PrefixEntryPoint; 10] = [
     PrefixEntryPoint::Vis,
 ];
 
-// Whether the grammar answers for the front of any text.
-fn assert_parses(rt: &impl Abort, alloc: Global, text: &str) -> Result<(), Fail> {
-    assert!(rt; text.len() < 1_000_000);
+// Whether the grammar finds, of the front of any text, no more tokens than there are, and none at a fault.
+fn parses(alloc: Global, text: &str) -> Result<bool, Fail> {
+    if text.len() > 1_000_000 {
+        return Err(Fail::from("too long"));
+    }
     let Ok(tree) = lex(alloc, text, 0) else {
-        return Ok(());
+        return Ok(true);
     };
     let view = tree.iter().remaining();
     for entry in ENTRIES {
         let front = SampleGrammar.parse(entry, view)?;
-        assert!(rt; front.count <= view.flat_len(), "{text}");
-        assert!(rt; !front.fault || front.count == 0, "{text}");
+        if front.count > view.flat_len() || (front.fault && front.count > 0) {
+            return Ok(false);
+        }
     }
-    Ok(())
+    Ok(true)
 }
 
-// Two texts and the rule that is made of two, in each turn.
+// Two texts and the rule that is made of two, where a run of them doesn't end.
+fn unended(
+    alloc: Global,
+    numbers: &mut Numbers,
+    is_of_pieces: bool,
+) -> Result<Option<String>, Fail> {
+    let def = numbers.text(alloc, is_of_pieces)?;
+    let arg = numbers.text(alloc, is_of_pieces)?;
+    let template = numbers.text(alloc, is_of_pieces)?;
+    let rule = format!(in alloc; "({def}) => {{{template}}}")?;
+    let (def, arg) = (def.as_str(), arg.as_str());
+    let is_so = ends(alloc, def, arg)
+        && ends(alloc, rule.as_str(), arg)
+        && ends(alloc, rule.as_str(), def)
+        && parses(alloc, arg)?;
+    if is_so {
+        return Ok(None);
+    }
+    Ok(Some(format!(in alloc; "{rule} on {arg}")?))
+}
+
 #[test]
 fn random_texts_end(rt: HostRuntime) -> Result<(), Fail> {
     let mut numbers = Numbers(1);
     for number in 0..7_000u64 {
-        let is_of_pieces = number % 4 != 0;
-        let def = numbers.text(rt.alloc(), is_of_pieces)?;
-        let arg = numbers.text(rt.alloc(), is_of_pieces)?;
-        assert_ends(&rt, rt.alloc(), def.as_str(), arg.as_str())?;
-        let template = numbers.text(rt.alloc(), is_of_pieces)?;
-        let rule = format!(in rt.alloc(); "({def}) => {{{template}}}")?;
-        assert_ends(&rt, rt.alloc(), rule.as_str(), arg.as_str())?;
-        assert_ends(&rt, rt.alloc(), rule.as_str(), def.as_str())?;
-        assert_parses(&rt, rt.alloc(), arg.as_str())?;
+        assert_eq!(rt; unended(rt.alloc(), &mut numbers, number % 4 != 0)?, None);
     }
     Ok(())
 }
@@ -288,47 +302,64 @@ impl Numbers {
 }
 
 // Whether a run of these texts ends within a second of the processor.
-fn assert_ends_within_a_second<R: Abort + CpuClock>(
+fn ends_within_a_second<R: CpuClock>(
     rt: &R,
     alloc: Global,
     (rules, argument): (&str, &str),
-) -> Result<(), Fail> {
+) -> Result<bool, Fail> {
     let start = rt.process_cpu_time()?;
-    assert_ends(rt, alloc, rules, argument)?;
+    let ends = ends(alloc, rules, argument);
     let taken = rt.process_cpu_time()?.saturating_sub(start);
-    assert!(rt; taken < Duration::from_secs(1), "{rules} on {argument}");
-    Ok(())
+    Ok(ends && taken < Duration::from_secs(1))
+}
+
+// Runs of random rules, on four random arguments; the first argument on which they don't end.
+fn first_endless<R: CpuClock>(
+    rt: &R,
+    alloc: Global,
+    numbers: &mut Numbers,
+) -> Result<Option<String>, Fail> {
+    let rules = numbers.rules(alloc)?;
+    for _ in 0..4u64 {
+        let argument = numbers.pieces(alloc, &WORDS, false)?;
+        if !ends_within_a_second(rt, alloc, (rules.as_str(), argument.as_str()))? {
+            return Ok(Some(format!(in alloc; "{rules} on {argument}")?));
+        }
+    }
+    Ok(None)
 }
 
 // Runs of 1,250 definitions, each on four arguments.
-fn assert_runs_end<R: Abort + CpuClock>(rt: &R, alloc: Global, seed: u64) -> Result<(), Fail> {
+fn first_of_seed<R: CpuClock>(rt: &R, alloc: Global, seed: u64) -> Result<Option<String>, Fail> {
     let mut numbers = Numbers(seed);
     for _ in 0..1_250u64 {
-        let rules = numbers.rules(alloc)?;
-        for _ in 0..4u64 {
-            let argument = numbers.pieces(alloc, &WORDS, false)?;
-            assert_ends_within_a_second(rt, alloc, (rules.as_str(), argument.as_str()))?;
+        if let Some(texts) = first_endless(rt, alloc, &mut numbers)? {
+            return Ok(Some(texts));
         }
     }
-    Ok(())
+    Ok(None)
 }
 
 #[test]
 fn random_repetitions_end_within_a_second(rt: HostRuntime) -> Result<(), Fail> {
-    assert_runs_end(&rt, rt.alloc(), 2)
+    assert_eq!(rt; first_of_seed(&rt, rt.alloc(), 2)?, None);
+    Ok(())
 }
 
 #[test]
 fn other_random_repetitions_end_within_a_second(rt: HostRuntime) -> Result<(), Fail> {
-    assert_runs_end(&rt, rt.alloc(), 3)
+    assert_eq!(rt; first_of_seed(&rt, rt.alloc(), 3)?, None);
+    Ok(())
 }
 
 #[test]
 fn further_random_repetitions_end_within_a_second(rt: HostRuntime) -> Result<(), Fail> {
-    assert_runs_end(&rt, rt.alloc(), 4)
+    assert_eq!(rt; first_of_seed(&rt, rt.alloc(), 4)?, None);
+    Ok(())
 }
 
 #[test]
 fn last_random_repetitions_end_within_a_second(rt: HostRuntime) -> Result<(), Fail> {
-    assert_runs_end(&rt, rt.alloc(), 5)
+    assert_eq!(rt; first_of_seed(&rt, rt.alloc(), 5)?, None);
+    Ok(())
 }

@@ -1,8 +1,7 @@
 // What a match that fails reports: its first error, and what is bound where it ends.
-use crate::rows::{LIST, OLD_LIST, Row, assert_prints, assert_rows};
+use crate::rows::{LIST, OLD_LIST, Row, first_wrong, is_row};
 use mbe_tt::span::Edition;
 use std::alloc::Global;
-use std::process::Abort;
 use std::test::Fail;
 
 pub const SIGNS: &str =
@@ -219,21 +218,18 @@ static MISSING: [Row; 3] = [
 
 #[test]
 fn a_failed_match_reports_its_first_error(rt: HostRuntime) -> Result<(), Fail> {
-    for rows in [
-        RECOVERED.as_slice(),
-        CLOSEST.as_slice(),
-        ERRORS.as_slice(),
-        REPORTED.as_slice(),
-        MISSING.as_slice(),
-    ] {
-        assert_rows(&rt, rt.alloc(), Edition::Edition2024, rows)?;
+    let tables: [(Edition, &[Row]); 6] = [
+        (Edition::Edition2024, &RECOVERED),
+        (Edition::Edition2024, &CLOSEST),
+        (Edition::Edition2024, &ERRORS),
+        (Edition::Edition2024, &REPORTED),
+        (Edition::Edition2024, &MISSING),
+        (Edition::Edition2021, &RECOVERED_BEFORE_2024),
+    ];
+    for (edition, rows) in tables {
+        assert_eq!(rt; first_wrong(rt.alloc(), edition, rows)?, None);
     }
-    assert_rows(
-        &rt,
-        rt.alloc(),
-        Edition::Edition2021,
-        &RECOVERED_BEFORE_2024,
-    )
+    Ok(())
 }
 
 // What is written for a fragment that is missing.
@@ -279,13 +275,12 @@ impl Filler {
     }
 }
 
-// The variable stands in brackets, and the argument is empty.
-fn assert_default(
-    rt: &impl Abort,
+// Whether the default is written of a variable that stands in brackets, where the argument is empty.
+fn is_default(
     alloc: Global,
     (specifier, asked): (&str, &str),
     default: Filler,
-) -> Result<(), Fail> {
+) -> Result<bool, Fail> {
     let definition = format!(in alloc; "($x:{specifier}) => {{[$x]}}")?;
     let open = specifier.len().saturating_add(10);
     let (inner, name) = (open.saturating_add(1), open.saturating_add(2));
@@ -295,19 +290,14 @@ fn assert_default(
     let trees = format!(in alloc; "  SUBTREE [] 0@{open}..{inner} 0@{close}..{end}\n{lines}")?;
     let error = format!(in alloc; "expected {asked} at 1@0..0")?;
     let want = (error.as_str(), 0, trees.as_str());
-    assert_prints(
-        rt,
-        alloc,
-        Edition::Edition2024,
-        (definition.as_str(), ""),
-        want,
-    )
+    is_row(alloc, Edition::Edition2024, (definition.as_str(), ""), want)
 }
 
 #[test]
 fn a_missing_fragment_has_a_default(rt: HostRuntime) -> Result<(), Fail> {
-    for (specifier, asked, default) in &DEFAULTS {
-        assert_default(&rt, rt.alloc(), (specifier, asked), *default)?;
+    for &(specifier, asked, default) in &DEFAULTS {
+        let is_so = is_default(rt.alloc(), (specifier, asked), default)?;
+        assert!(rt; is_so, "{specifier}");
     }
     Ok(())
 }

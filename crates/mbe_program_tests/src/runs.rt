@@ -5,10 +5,9 @@ use mbe_program::program::{Outcome, run};
 use mbe_program::reports::Report;
 use mbe_program::settings::Options;
 use mbe_tt::span::Edition;
-use std::alloc::Global;
+use std::alloc::{AllocError, Allocator, Global};
 use std::io;
 use std::io::Write;
-use std::process::Abort;
 use std::test::Fail;
 
 const PAIR: (&str, &str) = ("($x:ident = $t:tt;) => { pair ($t) $x }", "a = 1;");
@@ -48,31 +47,32 @@ SUBTREE $$ 1@0..20 1@0..20
     PUNCH   , [alone] 0@94..95
 ";
 
-/// What a run writes, and its status.
-pub fn ran(
-    rt: &impl Abort,
-    alloc: Global,
+/// The run of texts shorter than 2^32 bytes, of an edition, which lints or expands.
+pub fn ran<A: Allocator + Copy, W: Write>(
+    alloc: A,
     (def, arg): (&str, &str),
-    edition: Edition,
-) -> Result<(String, u8), Fail> {
-    assert!(rt; def.len() < 1_000_000 && arg.len() < 1_000_000);
-    let mut out = Vec::new(alloc);
-    let outcome = run(alloc, def, arg, edition, false, &mut out);
-    Ok((String::from_utf8(out)?, outcome.status()))
+    (edition, lint): (Edition, bool),
+    out: &mut W,
+) -> Outcome<A> {
+    if def.len() > u32::MAX as usize || arg.len() > u32::MAX as usize {
+        return Outcome::OutOfMemory;
+    }
+    run(alloc, def, arg, edition, lint, out)
 }
 
-pub fn assert_expands(
-    rt: &impl Abort,
+/// Whether a run prints that, with that status.
+pub fn prints(
     alloc: Global,
     texts: (&str, &str),
-    want: &str,
-) -> Result<(), Fail> {
-    let (def, arg) = texts;
-    let (output, status) = ran(rt, alloc, texts, Edition::Edition2024)?;
-    assert_eq!(rt; output.as_str(), want, "{def} on {arg}");
-    assert_eq!(rt; status, 0, "{def} on {arg}");
-    Ok(())
+    how: (Edition, bool),
+    (want, status): (&str, u8),
+) -> bool {
+    let mut out = Vec::new(alloc);
+    let outcome = ran(alloc, texts, how, &mut out);
+    outcome.status() == status && out.as_slice() == want.as_bytes()
 }
+
+const EXPANDING: (Edition, bool) = (Edition::Edition2024, false);
 
 // A definition and an argument, and what is written of them.
 static EXPANDED: [((&str, &str), &str); 9] = [
@@ -117,8 +117,12 @@ SUBTREE $$ 1@0..2 1@0..2
 
 #[test]
 fn expansions_are_printed(rt: HostRuntime) -> Result<(), Fail> {
-    for (texts, want) in &EXPANDED {
-        assert_expands(&rt, rt.alloc(), *texts, want)?;
+    for &(texts, want) in &EXPANDED {
+        assert!(rt;
+            prints(rt.alloc(), texts, EXPANDING, (want, 0)),
+            "{}",
+            texts.0
+        );
     }
     Ok(())
 }
@@ -135,9 +139,10 @@ fn no_rule_is_of_the_style(rt: HostRuntime) -> Result<(), Fail> {
     let want =
         "error: no rule matches input tokens at 1@0..1\narm none\nSUBTREE $$ 1@0..1 1@0..1\n";
     for &def in &NO_RULES {
-        let (output, status) = ran(&rt, rt.alloc(), (def, "c"), Edition::Edition2024)?;
-        assert_eq!(rt; output.as_str(), want, "{def}");
-        assert_eq!(rt; status, 1, "{def}");
+        assert!(rt;
+            prints(rt.alloc(), (def, "c"), EXPANDING, (want, 1)),
+            "{def}"
+        );
     }
     Ok(())
 }
@@ -150,19 +155,12 @@ const NAMES: Options<'static> = Options {
 };
 
 // Whether the line on standard error is that.
-fn assert_says(
-    rt: &impl Abort,
-    alloc: Global,
-    report: Option<Report<'_, Global>>,
-    want: &str,
-) -> Result<(), Fail> {
+fn says(alloc: Global, report: Option<Report<'_, Global>>, want: &str) -> Result<bool, AllocError> {
     let Some(report) = report else {
-        assert_eq!(rt; want, "");
-        return Ok(());
+        return Ok(want.is_empty());
     };
     let line = format!(in alloc; "{report}")?;
-    assert_eq!(rt; line.as_str(), want);
-    Ok(())
+    Ok(line.as_str() == want)
 }
 
 // A definition and an argument, the status, and the line on standard error.
@@ -189,25 +187,20 @@ static FAILURES: [(&str, &str, u8, &str); 9] = [
 ];
 
 // Whether a run ends with that status and line, and writes something only where there is an expansion.
-fn assert_ends_with(
-    rt: &impl Abort,
+fn ends_with(
     alloc: Global,
-    (def, arg): (&str, &str),
-    status: u8,
-    line: &str,
-) -> Result<(), Fail> {
-    assert!(rt; def.len() < 1_000_000 && arg.len() < 1_000_000);
+    &(def, arg, status, line): &(&str, &str, u8, &str),
+) -> Result<bool, AllocError> {
     let mut out = Vec::new(alloc);
-    let outcome = run(alloc, def, arg, Edition::Edition2024, false, &mut out);
-    assert_eq!(rt; outcome.status(), status, "{def} on {arg}");
-    assert_eq!(rt; out.is_empty(), status > 1, "{def} on {arg}");
-    assert_says(rt, alloc, outcome.report(&NAMES), line)
+    let outcome = ran(alloc, (def, arg), EXPANDING, &mut out);
+    let is_so = outcome.status() == status && out.is_empty() == (status > 1);
+    Ok(is_so && says(alloc, outcome.report(&NAMES), line)?)
 }
 
 #[test]
 fn failures_have_a_status_and_a_line(rt: HostRuntime) -> Result<(), Fail> {
-    for (def, arg, status, line) in &FAILURES {
-        assert_ends_with(&rt, rt.alloc(), (def, arg), *status, line)?;
+    for row in &FAILURES {
+        assert!(rt; ends_with(rt.alloc(), row)?, "{} on {}", row.0, row.1);
     }
     Ok(())
 }
@@ -215,21 +208,18 @@ fn failures_have_a_status_and_a_line(rt: HostRuntime) -> Result<(), Fail> {
 #[test]
 fn other_failures_have_a_line(rt: HostRuntime) -> Result<(), Fail> {
     let usage = "usage: mbex [--lint] DEF-FILE ARG-FILE [EDITION]";
-    assert_says(&rt, rt.alloc(), Some(Report::Usage), usage)?;
-    assert_eq!(rt; Report::<Global>::Usage.status(), 3);
-    assert_says(
-        &rt,
-        rt.alloc(),
-        Some(Report::CannotRead("a.b")),
-        "cannot read a.b",
-    )?;
-    assert_eq!(rt; Report::<Global>::CannotRead("a.b").status(), 3);
+    assert!(rt; Report::<Global>::Usage.status() == 3);
+    assert!(rt; says(rt.alloc(), Some(Report::Usage), usage)?);
+    let unread = Report::CannotRead("a.b");
+    assert!(rt; unread.status() == 3);
+    assert!(rt; says(rt.alloc(), Some(unread), "cannot read a.b")?);
     let unwritten = Outcome::<Global>::CannotWrite;
-    assert_eq!(rt; unwritten.status(), 3);
-    assert_says(&rt, rt.alloc(), unwritten.report(&NAMES), "cannot write")?;
-    let wanting = Outcome::<Global>::OutOfMemory;
-    assert_eq!(rt; wanting.status(), 5);
-    assert_says(&rt, rt.alloc(), wanting.report(&NAMES), "out of memory")
+    assert!(rt; unwritten.status() == 3);
+    assert!(rt; says(rt.alloc(), unwritten.report(&NAMES), "cannot write")?);
+    let out_of_memory = Outcome::<Global>::OutOfMemory;
+    assert!(rt; out_of_memory.status() == 5);
+    assert!(rt; says(rt.alloc(), out_of_memory.report(&NAMES), "out of memory")?);
+    Ok(())
 }
 
 static WORDS: [(&str, Option<(bool, Edition)>); 15] = [
@@ -321,71 +311,73 @@ impl Write for Failing {
     }
 }
 
-#[test]
-fn a_failed_write_is_told(rt: HostRuntime) -> Result<(), Fail> {
-    let (def, arg) = PAIR;
+/// The number of the first write or flush that a run doesn't make, if each other one, failing alone, ends it so that it can't
+/// write, with a prefix printed, and the run without a failure prints that.
+pub fn first_unwritten(alloc: Global, texts: (&str, &str), lint: bool, want: &str) -> Option<u64> {
     for number in 1..10_000u64 {
         let mut out = Failing {
-            written: Vec::new(rt.alloc()),
+            written: Vec::new(alloc),
             left: number,
         };
-        let outcome = run(rt.alloc(), def, arg, Edition::Edition2024, false, &mut out);
+        let outcome = ran(alloc, texts, (Edition::Edition2024, lint), &mut out);
         let written = out.written.as_slice();
         if out.left > 0 {
-            assert_eq!(rt; outcome.status(), 0);
-            assert!(rt; written == PAIR_OUTPUT.as_bytes());
-            // One for each of the six lines, and the flush.
-            assert!(rt; number > 7, "only {number} calls");
-            return Ok(());
+            let is_so = outcome.status() == 0 && written == want.as_bytes();
+            return if is_so { Some(number) } else { None };
         }
-        assert_eq!(rt; outcome.status(), 3, "at {number}");
-        assert!(rt; PAIR_OUTPUT.as_bytes().starts_with(written), "at {number}");
+        if outcome.status() != 3 || !want.as_bytes().starts_with(written) {
+            return None;
+        }
     }
-    Err(Fail::from("it goes on"))
+    None
 }
 
-/// Whether a run of any texts ends as runs do.
-pub fn assert_ends(rt: &impl Abort, alloc: Global, def: &str, arg: &str) -> Result<(), Fail> {
-    assert!(rt; def.len() < 1_000_000 && arg.len() < 1_000_000);
-    let mut out = Vec::new(alloc);
-    let outcome = run(alloc, def, arg, Edition::Edition2024, false, &mut out);
-    let written = out.as_slice();
-    match outcome {
-        Outcome::Expanded => assert!(rt; written.starts_with(b"arm "), "{def:?} on {arg:?}"),
-        Outcome::Faulted => assert!(rt; written.starts_with(b"error: "), "{def:?} on {arg:?}"),
-        Outcome::Refused(_) => assert!(rt; written.is_empty(), "{def:?} on {arg:?}"),
-        Outcome::CannotLex { file, offset } => {
-            let text = if file == 0 { def } else { arg };
-            assert!(rt;
-                text.is_char_boundary(offset as usize),
-                "{def:?} on {arg:?}"
-            );
-            assert!(rt; written.is_empty(), "{def:?} on {arg:?}");
-        }
-        Outcome::Linted | Outcome::CannotWrite | Outcome::OutOfMemory => {
-            assert!(rt; false, "{def:?} on {arg:?}");
-        }
-    }
+// One for each of the six lines, and the flush.
+#[test]
+fn a_failed_write_is_reported(rt: HostRuntime) -> Result<(), Fail> {
+    let number = first_unwritten(rt.alloc(), PAIR, false, PAIR_OUTPUT);
+    assert!(rt; number.unwrap_or(0) > 7, "{number:?}");
     Ok(())
 }
 
+/// Whether a run of any texts ends as runs do.
+pub fn ends(alloc: Global, def: &str, arg: &str) -> bool {
+    let mut out = Vec::new(alloc);
+    let outcome = ran(alloc, (def, arg), EXPANDING, &mut out);
+    let written = out.as_slice();
+    match outcome {
+        Outcome::Expanded => written.starts_with(b"arm "),
+        Outcome::Faulted => written.starts_with(b"error: "),
+        Outcome::Refused(_) => written.is_empty(),
+        Outcome::CannotLex { file, offset } => {
+            let text = if file == 0 { def } else { arg };
+            written.is_empty() && text.is_char_boundary(offset as usize)
+        }
+        Outcome::Linted | Outcome::CannotWrite | Outcome::OutOfMemory => false,
+    }
+}
+
+// The end of the first prefix of one of the texts that, with the other text, makes a run that doesn't end so.
+fn first_endless(alloc: Global, (def, arg): (&str, &str)) -> Option<usize> {
+    for end in 0..=def.len().max(arg.len()) {
+        let (def_front, arg_front) = (def.get(..end), arg.get(..end));
+        if !ends(alloc, def_front.unwrap_or(def), arg)
+            || !ends(alloc, def, arg_front.unwrap_or(arg))
+        {
+            return Some(end);
+        }
+    }
+    None
+}
+
 #[test]
-fn every_front_of_a_text_ends(rt: HostRuntime) -> Result<(), Fail> {
-    for (def, arg) in [
+fn every_prefix_of_a_text_ends(rt: HostRuntime) -> Result<(), Fail> {
+    for texts in [
         PAIR,
         STRUCT,
         ("(é \"a\\\"b\"s) => {r#c /* d */}", "é \"a\\\"b\"s"),
     ] {
-        for end in 0..=def.len() {
-            if let Some(front) = def.get(..end) {
-                assert_ends(&rt, rt.alloc(), front, arg)?;
-            }
-        }
-        for end in 0..=arg.len() {
-            if let Some(front) = arg.get(..end) {
-                assert_ends(&rt, rt.alloc(), def, front)?;
-            }
-        }
+        assert_eq!(rt; first_endless(rt.alloc(), texts), None);
     }
     Ok(())
 }

@@ -1,11 +1,9 @@
 // Faults of definitions: how many rules are kept, and the error.
-use crate::runs::parsed;
+use crate::runs::defined;
 use crate::trees::lexed;
 use mbe::{DeclarativeMacro, ParseError};
 use mbe_tt::span::Edition;
-use mbe_tt::tt::TopSubtree;
 use std::alloc::{AllocError, Global};
-use std::process::Abort;
 use std::test::Fail;
 
 /// The error of a definition.
@@ -55,68 +53,62 @@ impl Told {
     }
 }
 
-/// The macro has so many rules, and reports that error.
-pub fn assert_read(
-    rt: &impl Abort,
-    alloc: Global,
-    rules: &DeclarativeMacro,
-    definition: &str,
-    (count, told): (usize, Told),
-) -> Result<(), Fail> {
-    assert_eq!(rt; rules.num_rules(), count, "{definition}");
-    assert!(rt; rules.err() == told.error(alloc)?.as_ref(), "{definition}");
-    Ok(())
-}
-
-/// So many rules of a `macro_rules!` definition are kept, and it reports that error.
-pub fn assert_told(
-    rt: &impl Abort,
-    alloc: Global,
-    definition: &str,
-    want: (usize, Told),
-) -> Result<(), Fail> {
-    let tree = lexed(alloc, 0, definition)?;
-    assert_tree_told(rt, alloc, (&tree, definition), want)
-}
-
-/// A definition, how many of its rules are kept, and the error that it reports.
+/// A definition, how many of its rules are kept, and its error.
 pub type Row = (&'static str, usize, Told);
 
-/// As `assert_told`, of each row.
-pub fn assert_rows_told(rt: &impl Abort, alloc: Global, rows: &[Row]) -> Result<(), Fail> {
+/// Whether a macro has so many rules and that error.
+pub fn is_read(
+    alloc: Global,
+    rules: &DeclarativeMacro,
+    (count, told): (usize, Told),
+) -> Result<bool, AllocError> {
+    let error = told.error(alloc)?;
+    Ok(rules.num_rules() == count && rules.err() == error.as_ref())
+}
+
+/// Whether a `macro_rules!` definition is read so.
+pub fn is_text_read(
+    alloc: Global,
+    definition: &str,
+    want: (usize, Told),
+) -> Result<bool, AllocError> {
+    is_read(alloc, &defined(alloc, definition)?, want)
+}
+
+/// The first definition that is read otherwise.
+pub fn first_misread(alloc: Global, rows: &[Row]) -> Result<Option<&'static str>, AllocError> {
     for &(definition, count, told) in rows {
-        assert_told(rt, alloc, definition, (count, told))?;
+        if !is_text_read(alloc, definition, (count, told))? {
+            return Ok(Some(definition));
+        }
     }
-    Ok(())
+    Ok(None)
 }
 
-/// As `assert_told`, of each text between the two others.
-pub fn assert_texts_told(
-    rt: &impl Abort,
+/// What stands before texts, what stands after them, the texts, and how each such definition is read.
+pub type Texts = (
+    &'static str,
+    &'static str,
+    &'static [&'static str],
+    (usize, Told),
+);
+
+/// The first text with which the definition is read otherwise.
+pub fn first_text_misread(
     alloc: Global,
-    (before, behind): (&str, &str),
-    texts: &[&str],
-    want: (usize, Told),
-) -> Result<(), Fail> {
+    &(before, after, texts, want): &Texts,
+) -> Result<Option<&'static str>, AllocError> {
     for &text in texts {
-        let definition = format!(in alloc; "{before}{text}{behind}")?;
-        assert_told(rt, alloc, definition.as_str(), want)?;
+        let definition = format!(in alloc; "{before}{text}{after}")?;
+        if !is_text_read(alloc, definition.as_str(), want)? {
+            return Ok(Some(text));
+        }
     }
-    Ok(())
+    Ok(None)
 }
 
-/// As `assert_told`, of trees and a text that names them.
-pub fn assert_tree_told(
-    rt: &impl Abort,
-    alloc: Global,
-    (tree, definition): (&TopSubtree, &str),
-    want: (usize, Told),
-) -> Result<(), Fail> {
-    let rules: DeclarativeMacro = parsed(alloc, tree)?;
-    assert_read(rt, alloc, &rules, definition, want)
-}
-
-static PARTS: [Row; 21] = [
+static READ: [Row; 79] = [
+    // Rules have their parts.
     ("", 0, Told::Nothing),
     ("() => {}", 1, Told::Nothing),
     ("() => {};", 1, Told::Nothing),
@@ -138,14 +130,7 @@ static PARTS: [Row; 21] = [
     ("() = {}", 0, GREATER),
     ("() == {}", 0, GREATER),
     ("($(a) => {}", 0, EQUALS),
-];
-
-#[test]
-fn rules_have_their_parts(rt: HostRuntime) -> Result<(), Fail> {
-    assert_rows_told(&rt, rt.alloc(), &PARTS)
-}
-
-static SPECIFIED: [Row; 11] = [
+    // Variables of a pattern have a specifier.
     ("($x) => {}", 0, MISSING_SPECIFIER),
     ("($x:) => {}", 0, MISSING_SPECIFIER),
     ("($x:_) => {}", 0, MISSING_SPECIFIER),
@@ -157,14 +142,7 @@ static SPECIFIED: [Row; 11] = [
     ("() => {}; ($x) => {}; () => {}", 1, MISSING_SPECIFIER),
     ("($x:ident $y:tt $z:foo) => {}", 1, Told::Nothing),
     ("($_:ident) => {}", 1, Told::Nothing),
-];
-
-#[test]
-fn variables_of_a_pattern_have_a_specifier(rt: HostRuntime) -> Result<(), Fail> {
-    assert_rows_told(&rt, rt.alloc(), &SPECIFIED)
-}
-
-static BEHIND_DOLLAR: [Row; 17] = [
+    // What stands after a dollar.
     ("($1) => {}", 0, IDENT),
     ("($+) => {}", 0, IDENT),
     ("() => {$1}", 0, IDENT),
@@ -182,27 +160,12 @@ static BEHIND_DOLLAR: [Row; 17] = [
     ("() => {$}", 1, Told::Nothing),
     ("() => {$$}", 1, Told::Nothing),
     ("($crate) => {}", 1, Told::Nothing),
-];
-
-#[test]
-fn what_stands_behind_a_dollar(rt: HostRuntime) -> Result<(), Fail> {
-    assert_rows_told(&rt, rt.alloc(), &BEHIND_DOLLAR)
-}
-
-static GROUPS: [Row; 4] = [
+    // Groups of a rule are taken before they are read.
     ("($x)", 0, EQUALS),
     ("($x:path) =", 0, GREATER),
     ("($(a)*) =>", 0, SUBTREE),
     ("($$) => x", 0, SUBTREE),
-];
-
-#[test]
-fn groups_of_a_rule_are_taken_before_they_are_read(rt: HostRuntime) -> Result<(), Fail> {
-    assert_rows_told(&rt, rt.alloc(), &GROUPS)
-}
-
-// Each prefix of a definition.
-static PREFIXES: [Row; 19] = [
+    // Each prefix of a definition.
     ("", 0, Told::Nothing),
     ("(", 0, EQUALS),
     ("($", 0, EQUALS),
@@ -222,14 +185,7 @@ static PREFIXES: [Row; 19] = [
     ("($x:ident) => {$", 1, Told::Nothing),
     ("($x:ident) => {$x", 1, Told::Nothing),
     ("($x:ident) => {$x}", 1, Told::Nothing),
-];
-
-#[test]
-fn fronts_of_a_definition(rt: HostRuntime) -> Result<(), Fail> {
-    assert_rows_told(&rt, rt.alloc(), &PREFIXES)
-}
-
-static FIRST_FAULTS: [Row; 7] = [
+    // The first fault is reported: one of the pattern before one of the template, and reading stops at the first of all.
     ("($x) x", 0, EQUALS),
     ("($x) => {}", 0, MISSING_SPECIFIER),
     ("($x) => {$1}", 0, MISSING_SPECIFIER),
@@ -239,10 +195,10 @@ static FIRST_FAULTS: [Row; 7] = [
     ("() => {};; ($x) => {}", 1, SUBTREE),
 ];
 
-// A fault of the pattern comes before one of the template, and reading stops at the first of all.
 #[test]
-fn the_first_fault_is_told(rt: HostRuntime) -> Result<(), Fail> {
-    assert_rows_told(&rt, rt.alloc(), &FIRST_FAULTS)
+fn definitions_are_read(rt: HostRuntime) -> Result<(), Fail> {
+    assert_eq!(rt; first_misread(rt.alloc(), &READ)?, None);
+    Ok(())
 }
 
 static EDITIONS: [Edition; 4] = [
@@ -270,33 +226,36 @@ static SPECIFIERS: [&str; 15] = [
     "literal",
 ];
 
-// A rule with the specifier is read in the edition, and has no fault.
-fn assert_specifier(
-    rt: &impl Abort,
-    alloc: Global,
-    edition: Edition,
-    specifier: &str,
-) -> Result<(), Fail> {
-    let definition = format!(in alloc; "($x:{specifier} {specifier}) => {{$x}}")?;
-    let tree = lexed(alloc, 0, definition.as_str())?;
-    let rules = DeclarativeMacro::parse_macro_rules(alloc, &tree, |_context| edition)?;
-    assert_read(rt, alloc, &rules, specifier, (1, Told::Nothing))
+// The first specifier of which a rule, read in an edition, is refused.
+fn first_refused(alloc: Global, edition: Edition) -> Result<Option<&'static str>, AllocError> {
+    for &specifier in &SPECIFIERS {
+        let definition = format!(in alloc; "($x:{specifier} {specifier}) => {{$x}}")?;
+        let tree = lexed(alloc, 0, definition.as_str())?;
+        let rules = DeclarativeMacro::parse_macro_rules(alloc, &tree, |_context| edition)?;
+        if !is_read(alloc, &rules, (1, Told::Nothing))? {
+            return Ok(Some(specifier));
+        }
+    }
+    Ok(None)
 }
 
 #[test]
 fn specifiers_have_no_fault_in_any_edition(rt: HostRuntime) -> Result<(), Fail> {
     for &edition in &EDITIONS {
-        for &specifier in &SPECIFIERS {
-            assert_specifier(&rt, rt.alloc(), edition, specifier)?;
-        }
+        assert_eq!(rt; first_refused(rt.alloc(), edition)?, None, "{edition:?}");
     }
     Ok(())
 }
 
-static UNKNOWN: [&str; 6] = ["Path", "tys", "expr2021", "expr_2024", "ident_", "tts"];
+static UNKNOWN: Texts = (
+    "() => {}; ($x:",
+    ") => {}",
+    &["Path", "tys", "expr2021", "expr_2024", "ident_", "tts"],
+    (2, Told::Nothing),
+);
 
 #[test]
 fn unknown_specifiers_have_no_fault(rt: HostRuntime) -> Result<(), Fail> {
-    let around = ("() => {}; ($x:", ") => {}");
-    assert_texts_told(&rt, rt.alloc(), around, &UNKNOWN, (2, Told::Nothing))
+    assert_eq!(rt; first_text_misread(rt.alloc(), &UNKNOWN)?, None);
+    Ok(())
 }

@@ -4,19 +4,12 @@ use crate::tokens::at;
 use mbe::{CountError, ExpandError, ExpandErrorKind};
 use std::alloc::{AllocError, Global};
 use std::fmt::Display;
-use std::process::Abort;
 use std::rc::Rc;
 use std::test::Fail;
 
-fn assert_shown<T: Display>(
-    rt: &impl Abort,
-    alloc: Global,
-    shown: &T,
-    want: &str,
-) -> Result<(), Fail> {
+fn is_shown<T: Display>(alloc: Global, shown: &T, want: &str) -> Result<bool, AllocError> {
     let text = format!(in alloc; "{shown}")?;
-    assert_eq!(rt; text.as_str(), want);
-    Ok(())
+    Ok(text.as_str() == want)
 }
 
 static FAULT_TEXTS: [(Told, &str); 4] = [
@@ -30,7 +23,7 @@ static FAULT_TEXTS: [(Told, &str); 4] = [
 fn faults_of_definitions_have_texts(rt: HostRuntime) -> Result<(), Fail> {
     for &(told, want) in &FAULT_TEXTS {
         let error = told.error(rt.alloc())?.ok_or("an error")?;
-        assert_shown(&rt, rt.alloc(), &error, want)?;
+        assert!(rt; is_shown(rt.alloc(), &error, want)?, "{want}");
     }
     Ok(())
 }
@@ -51,13 +44,20 @@ fn copy_equals(alloc: Global, one: Told, other: Told) -> Result<bool, Fail> {
     Ok(copy == other)
 }
 
+// The first fault of which a copy equals that one though it is another, or doesn't equal it.
+fn first_miscopied(alloc: Global, number: usize, one: Told) -> Result<Option<usize>, Fail> {
+    for (other_number, &other) in FAULTS.iter().enumerate() {
+        if copy_equals(alloc, one, other)? != (number == other_number) {
+            return Ok(Some(other_number));
+        }
+    }
+    Ok(None)
+}
+
 #[test]
 fn copies_of_faults_are_equal(rt: HostRuntime) -> Result<(), Fail> {
     for (number, &one) in FAULTS.iter().enumerate() {
-        for (other_number, &other) in FAULTS.iter().enumerate() {
-            let equal = copy_equals(rt.alloc(), one, other)?;
-            assert_eq!(rt; equal, number == other_number, "{number} {other_number}");
-        }
+        assert_eq!(rt; first_miscopied(rt.alloc(), number, one)?, None, "{number}");
     }
     Ok(())
 }
@@ -97,22 +97,14 @@ static KIND_TEXTS: [(Kind, &str); 6] = [
     (Kind::Unexpected, "unexpected token in input"),
 ];
 
-// The kind is shown so, and an error of the kind too.
-fn assert_kind_shown(rt: &impl Abort, alloc: Global, kind: Kind, want: &str) -> Result<(), Fail> {
+// Whether the kind is shown so, and an error of the kind too.
+fn is_kind_shown(alloc: Global, kind: Kind, want: &str) -> Result<bool, AllocError> {
     let kind = kind.error_kind(alloc)?;
-    assert_shown(rt, alloc, &kind, want)?;
+    let is_so = is_shown(alloc, &kind, want)?;
     let error = ExpandError {
         inner: Rc::new(alloc, (at(1, 2, 3), kind))?,
     };
-    assert_shown(rt, alloc, &error, want)
-}
-
-#[test]
-fn errors_of_expansions_have_texts(rt: HostRuntime) -> Result<(), Fail> {
-    for &(kind, want) in &KIND_TEXTS {
-        assert_kind_shown(&rt, rt.alloc(), kind, want)?;
-    }
-    Ok(())
+    Ok(is_so && is_shown(alloc, &error, want)?)
 }
 
 static COUNT_TEXTS: [(CountError, &str); 2] = [
@@ -121,9 +113,12 @@ static COUNT_TEXTS: [(CountError, &str); 2] = [
 ];
 
 #[test]
-fn errors_of_counts_have_texts(rt: HostRuntime) -> Result<(), Fail> {
+fn errors_of_expansions_and_counts_have_texts(rt: HostRuntime) -> Result<(), Fail> {
+    for &(kind, want) in &KIND_TEXTS {
+        assert!(rt; is_kind_shown(rt.alloc(), kind, want)?, "{want}");
+    }
     for (error, want) in &COUNT_TEXTS {
-        assert_shown(&rt, rt.alloc(), error, want)?;
+        assert!(rt; is_shown(rt.alloc(), error, want)?, "{want}");
     }
     Ok(())
 }

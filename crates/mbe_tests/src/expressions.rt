@@ -1,210 +1,197 @@
 // Metavariable expressions, `${..}`: which are read, and which are faults.
 use crate::definitions::{
-    EXPRESSION, MISSING_SPECIFIER, REPETITION, Row, Told, assert_rows_told, assert_texts_told,
-    assert_tree_told,
+    EXPRESSION, MISSING_SPECIFIER, REPETITION, Row, Texts, Told, first_misread, first_text_misread,
+    is_read,
 };
-use crate::tokens::{Lexeme, Token, alone, at, close, joint, number, open, raw, word};
+use crate::runs::parsed;
+use crate::tokens::Lexeme::{Alone, Close, Joint, Number, Open, Raw, Suffixed, Text, Word};
+use crate::tokens::{Lexeme, at};
 use crate::trees::built;
 use mbe_tt::tt::DelimiterKind;
 use mbe_tt::tt::DelimiterKind::{Brace, Invisible, Parenthesis};
-use std::alloc::Global;
-use std::process::Abort;
+use std::alloc::{AllocError, Global};
 use std::test::Fail;
 
 const INVALID: Told = Told::Unexpected("invalid metavariable expression");
 
-static FORMS: [&str; 17] = [
-    "ignore($x)",
-    "index()",
-    "index(1)",
-    "len()",
-    "len(0)",
-    "len(007)",
-    "len(18446744073709551615)",
-    "count($x)",
-    "count($x,)",
-    "count($x, 2)",
-    "count($crate, 0)",
-    "concat(a, b)",
-    "concat(a, b,)",
-    "concat($x, 1, _, $_)",
-    "concat(true, $false)",
-    "index() foo",
-    "ignore($x) ${}",
+// Expressions of each form, and then invalid expressions, depths and elements.
+static TEXTS: [Texts; 4] = [
+    (
+        "($x:ident) => { ${",
+        "} }",
+        &[
+            "ignore($x)",
+            "index()",
+            "index(1)",
+            "len()",
+            "len(0)",
+            "len(007)",
+            "len(18446744073709551615)",
+            "count($x)",
+            "count($x,)",
+            "count($x, 2)",
+            "count($crate, 0)",
+            "concat(a, b)",
+            "concat(a, b,)",
+            "concat($x, 1, _, $_)",
+            "concat(true, $false)",
+            "index() foo",
+            "ignore($x) ${}",
+        ],
+        (1, Told::Nothing),
+    ),
+    (
+        "() => {}; () => { ${",
+        "} }",
+        &[
+            "",
+            "len",
+            "()",
+            "_()",
+            "1()",
+            "$len()",
+            "len[]",
+            "len{}",
+            "len, ()",
+            "lens()",
+            "Len()",
+            "(len())",
+            "ignore()",
+            "ignore(x)",
+            "ignore($)",
+            "ignore($1)",
+            "ignore($_)",
+            "ignore($x,)",
+            "ignore($x y)",
+            "ignore(, $x)",
+        ],
+        (1, INVALID),
+    ),
+    (
+        "() => { ${",
+        "} }",
+        &[
+            "len(x)",
+            "len(true)",
+            "len(-1)",
+            "len(+1)",
+            "len(1, 2)",
+            "len(1 2)",
+            "len(1,)",
+            "len(,)",
+            "len((1))",
+            "len(0x1)",
+            "len(1_0)",
+            "len(18446744073709551616)",
+            "index($x)",
+            "index(1 2)",
+            "count()",
+            "count(x)",
+            "count($_)",
+            "count($x 1)",
+            "count($x; 1)",
+            "count($x, y)",
+            "count($x, 1,)",
+            "count($x, 1 2)",
+        ],
+        (0, INVALID),
+    ),
+    (
+        "() => { ${",
+        "} }",
+        &[
+            "concat()",
+            "concat(,)",
+            "concat(a)",
+            "concat(a,)",
+            "concat($x)",
+            "concat(a b)",
+            "concat(a; b)",
+            "concat(, a, b)",
+            "concat(a,, b)",
+            "concat(a, b,,)",
+            "concat(a, $)",
+            "concat($, a)",
+            "concat($1, a)",
+            "concat($$x, a)",
+            "concat((a), b)",
+            "concat(a, b, (c))",
+            "concat($x $y, z)",
+        ],
+        (0, INVALID),
+    ),
 ];
 
 #[test]
-fn forms_of_expressions(rt: HostRuntime) -> Result<(), Fail> {
-    let around = ("($x:ident) => { ${", "} }");
-    assert_texts_told(&rt, rt.alloc(), around, &FORMS, (1, Told::Nothing))
-}
-
-static INVALID_EXPRESSIONS: [&str; 20] = [
-    "",
-    "len",
-    "()",
-    "_()",
-    "1()",
-    "$len()",
-    "len[]",
-    "len{}",
-    "len, ()",
-    "lens()",
-    "Len()",
-    "(len())",
-    "ignore()",
-    "ignore(x)",
-    "ignore($)",
-    "ignore($1)",
-    "ignore($_)",
-    "ignore($x,)",
-    "ignore($x y)",
-    "ignore(, $x)",
-];
-
-#[test]
-fn invalid_expressions(rt: HostRuntime) -> Result<(), Fail> {
-    let around = ("() => {}; () => { ${", "} }");
-    assert_texts_told(&rt, rt.alloc(), around, &INVALID_EXPRESSIONS, (1, INVALID))
-}
-
-static INVALID_DEPTHS: [&str; 22] = [
-    "len(x)",
-    "len(true)",
-    "len(-1)",
-    "len(+1)",
-    "len(1, 2)",
-    "len(1 2)",
-    "len(1,)",
-    "len(,)",
-    "len((1))",
-    "len(0x1)",
-    "len(1_0)",
-    "len(18446744073709551616)",
-    "index($x)",
-    "index(1 2)",
-    "count()",
-    "count(x)",
-    "count($_)",
-    "count($x 1)",
-    "count($x; 1)",
-    "count($x, y)",
-    "count($x, 1,)",
-    "count($x, 1 2)",
-];
-
-#[test]
-fn invalid_depths(rt: HostRuntime) -> Result<(), Fail> {
-    let around = ("() => { ${", "} }");
-    assert_texts_told(&rt, rt.alloc(), around, &INVALID_DEPTHS, (0, INVALID))
-}
-
-static INVALID_ELEMENTS: [&str; 17] = [
-    "concat()",
-    "concat(,)",
-    "concat(a)",
-    "concat(a,)",
-    "concat($x)",
-    "concat(a b)",
-    "concat(a; b)",
-    "concat(, a, b)",
-    "concat(a,, b)",
-    "concat(a, b,,)",
-    "concat(a, $)",
-    "concat($, a)",
-    "concat($1, a)",
-    "concat($$x, a)",
-    "concat((a), b)",
-    "concat(a, b, (c))",
-    "concat($x $y, z)",
-];
-
-#[test]
-fn invalid_elements(rt: HostRuntime) -> Result<(), Fail> {
-    let around = ("() => { ${", "} }");
-    assert_texts_told(&rt, rt.alloc(), around, &INVALID_ELEMENTS, (0, INVALID))
-}
-
-// `() => {${word(argument)}}`, where a group of that kind stands around the argument.
-fn with_call(
-    word: Token<'static>,
-    kind: DelimiterKind,
-    argument: Token<'static>,
-) -> [Token<'static>; 13] {
-    [
-        open(Parenthesis, 0, 0),
-        close(0, 1),
-        joint('=', 0, 3),
-        alone('>', 0, 4),
-        open(Brace, 0, 6),
-        alone('$', 0, 7),
-        open(Brace, 0, 8),
-        word,
-        open(kind, 0, 14),
-        argument,
-        close(0, 20),
-        close(0, 21),
-        close(0, 22),
-    ]
-}
-
-// The definition with that call is read as that.
-fn assert_call(
-    rt: &impl Abort,
-    alloc: Global,
-    name: &str,
-    tokens: &[Token<'static>],
-    want: (usize, Told),
-) -> Result<(), Fail> {
-    let definition = built(alloc, at(0, 0, 23), tokens)?;
-    assert_tree_told(rt, alloc, (&definition, name), want)
-}
-
-// What the argument of `len` is, and whether it is a depth.
-static DEPTHS: [(&str, Lexeme<'static>, bool); 13] = [
-    ("1", Lexeme::Number("1"), true),
-    ("1u8", Lexeme::Suffixed("1u8", 2), false),
-    ("1usize", Lexeme::Suffixed("1usize", 5), false),
-    ("a suffix alone", Lexeme::Suffixed("u8", 2), false),
-    ("'2'", Lexeme::Text("2"), true),
-    ("'+2'", Lexeme::Text("+2"), true),
-    ("an empty text", Lexeme::Text(""), false),
-    ("'+'", Lexeme::Text("+"), false),
-    ("'++2'", Lexeme::Text("++2"), false),
-    ("'-2'", Lexeme::Text("-2"), false),
-    ("'-0'", Lexeme::Text("-0"), false),
-    ("' 2'", Lexeme::Text(" 2"), false),
-    ("'two'", Lexeme::Text("two"), false),
-];
-
-#[test]
-fn depths_by_their_text(rt: HostRuntime) -> Result<(), Fail> {
-    for &(name, lexeme, is_depth) in &DEPTHS {
-        let depth = Token {
-            lexeme,
-            span: at(0, 15, 20),
-        };
-        let tokens = with_call(word("len", 0, 9), Parenthesis, depth);
-        let want = if is_depth {
-            (1, Told::Nothing)
-        } else {
-            (0, INVALID)
-        };
-        assert_call(&rt, rt.alloc(), name, &tokens, want)?;
+fn expressions_are_read_or_invalid(rt: HostRuntime) -> Result<(), Fail> {
+    for texts in &TEXTS {
+        assert_eq!(rt; first_text_misread(rt.alloc(), texts)?, None);
     }
     Ok(())
 }
 
-#[test]
-fn raw_words_and_invisible_groups(rt: HostRuntime) -> Result<(), Fail> {
-    let one = number("1", 0, 15);
-    let of_raw = with_call(raw("len", 0, 9), Parenthesis, one);
-    assert_call(&rt, rt.alloc(), "raw", &of_raw, (1, Told::Nothing))?;
-    let invisible = with_call(word("len", 0, 9), Invisible, one);
-    assert_call(&rt, rt.alloc(), "invisible", &invisible, (0, INVALID))
+// A call in an expression: its word, the kind of the group around its argument, the argument, and whether it is read.
+type Call = (Lexeme<'static>, DelimiterKind, Lexeme<'static>, bool);
+
+// Depths by their texts, a raw word, and an invisible group.
+static CALLS: [Call; 15] = [
+    (Word("len"), Parenthesis, Number("1"), true),
+    (Word("len"), Parenthesis, Suffixed("1u8", 2), false),
+    (Word("len"), Parenthesis, Suffixed("1usize", 5), false),
+    // A suffix alone.
+    (Word("len"), Parenthesis, Suffixed("u8", 2), false),
+    (Word("len"), Parenthesis, Text("2"), true),
+    (Word("len"), Parenthesis, Text("+2"), true),
+    (Word("len"), Parenthesis, Text(""), false),
+    (Word("len"), Parenthesis, Text("+"), false),
+    (Word("len"), Parenthesis, Text("++2"), false),
+    (Word("len"), Parenthesis, Text("-2"), false),
+    (Word("len"), Parenthesis, Text("-0"), false),
+    (Word("len"), Parenthesis, Text(" 2"), false),
+    (Word("len"), Parenthesis, Text("two"), false),
+    (Raw("len"), Parenthesis, Number("1"), true),
+    (Word("len"), Invisible, Number("1"), false),
+];
+
+// Whether `() => {${word(argument)}}`, where a group of that kind stands around the argument, is read as stated.
+fn is_call_read(
+    alloc: Global,
+    &(word, kind, argument, is_good): &Call,
+) -> Result<bool, AllocError> {
+    let tokens = [
+        (Open(Parenthesis), 0, 0, 1),
+        (Close, 0, 1, 2),
+        (Joint('='), 0, 3, 4),
+        (Alone('>'), 0, 4, 5),
+        (Open(Brace), 0, 6, 7),
+        (Alone('$'), 0, 7, 8),
+        (Open(Brace), 0, 8, 9),
+        (word, 0, 9, 12),
+        (Open(kind), 0, 14, 15),
+        (argument, 0, 15, 20),
+        (Close, 0, 20, 21),
+        (Close, 0, 21, 22),
+        (Close, 0, 22, 23),
+    ];
+    let rules = parsed(alloc, &built(alloc, at(0, 0, 23), &tokens)?)?;
+    let want = if is_good {
+        (1, Told::Nothing)
+    } else {
+        (0, INVALID)
+    };
+    is_read(alloc, &rules, want)
 }
 
-static IN_READING_ORDER: [Row; 9] = [
+#[test]
+fn depths_by_their_text(rt: HostRuntime) -> Result<(), Fail> {
+    for (row, call) in CALLS.iter().enumerate() {
+        assert!(rt; is_call_read(rt.alloc(), call)?, "row {row}");
+    }
+    Ok(())
+}
+
+static READ: [Row; 13] = [
+    // Faults in reading order.
     ("() => {a [${len()}] ${index(0)} $x}", 1, Told::Nothing),
     ("() => {${len()}}; () => {${len(x)}}; () => {}", 1, INVALID),
     ("() => {[{${concat(a)}}]}", 0, INVALID),
@@ -214,14 +201,7 @@ static IN_READING_ORDER: [Row; 9] = [
     ("() => {${len() $[a]}}", 1, Told::Nothing),
     ("($x) => {${}}", 0, MISSING_SPECIFIER),
     ("() => {${}} x", 0, INVALID),
-];
-
-#[test]
-fn faults_in_reading_order(rt: HostRuntime) -> Result<(), Fail> {
-    assert_rows_told(&rt, rt.alloc(), &IN_READING_ORDER)
-}
-
-static IN_PATTERNS: [Row; 4] = [
+    // Expressions of a pattern.
     ("(${len()}) => {}", 0, EXPRESSION),
     ("(${}) => {}", 0, EXPRESSION),
     ("([a ${concat(a)}]) => {}", 0, EXPRESSION),
@@ -229,6 +209,7 @@ static IN_PATTERNS: [Row; 4] = [
 ];
 
 #[test]
-fn expressions_of_a_pattern(rt: HostRuntime) -> Result<(), Fail> {
-    assert_rows_told(&rt, rt.alloc(), &IN_PATTERNS)
+fn faults_of_expressions(rt: HostRuntime) -> Result<(), Fail> {
+    assert_eq!(rt; first_misread(rt.alloc(), &READ)?, None);
+    Ok(())
 }

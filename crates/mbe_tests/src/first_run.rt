@@ -1,10 +1,11 @@
-// Whole expansions: the first run, and a struct with a map.
-use crate::grammar::NoGrammar;
+// Whole expansions: the first run, a struct with a map, and contexts that a marker sets.
+use crate::grammar::NOTHING;
 use crate::runs::{
-    assert_answer, assert_checked, assert_expands, assert_no_rule, expanded, parsed, whole,
+    Row, Want, assert_checked, defined, expanded, first_wrong, is_made, is_without_rule, whole,
 };
-use crate::tokens::{Token, alone, at, close, joint, number, open, word};
-use crate::trees::lexed;
+use crate::tokens::Lexeme::{Alone, Close, Joint, Number, Open, Word};
+use crate::tokens::Token;
+use crate::trees::{built_in_contexts, lexed};
 use mbe::MacroCallStyle;
 use mbe_tt::span::{Span, SyntaxContext};
 use mbe_tt::tt::DelimiterKind::{Brace, Bracket, Parenthesis};
@@ -12,155 +13,169 @@ use std::alloc::Global;
 use std::process::Abort;
 use std::test::Fail;
 
-pub const PAIR: (&str, &str) = ("($x:ident = $t:tt;) => { pair ($t) $x }", "a = 1;");
+pub const PAIR: &str = "($x:ident = $t:tt;) => { pair ($t) $x }";
+
+pub const PAIR_ARGUMENT: &str = "a = 1;";
+
+/// What the definition of the first run makes of its argument.
+pub const PAIR_MADE: Want = Some((
+    0,
+    &[
+        (Word("pair"), 0, 25, 29),
+        (Open(Parenthesis), 0, 30, 31),
+        (Number("1"), 1, 4, 5),
+        (Close, 0, 33, 34),
+        (Word("a"), 1, 0, 1),
+    ],
+));
+
+const TWO_RULES: &str = "(a) => {A}; (b) => {B}";
+
+static EXPANDED: [Row; 6] = [
+    (PAIR, PAIR_ARGUMENT, PAIR_MADE),
+    (
+        "\n( struct $ident:ident ) => {\n    struct $ident {\n        map: ::std::collections::HashSet<()>,\n    }\n};\n",
+        "\nstruct MyTraitMap2\n",
+        Some((
+            0,
+            &[
+                (Word("struct"), 0, 34, 40),
+                (Word("MyTraitMap2"), 1, 8, 19),
+                (Open(Brace), 0, 48, 49),
+                (Word("map"), 0, 58, 61),
+                (Alone(':'), 0, 61, 62),
+                (Joint(':'), 0, 63, 64),
+                (Alone(':'), 0, 64, 65),
+                (Word("std"), 0, 65, 68),
+                (Joint(':'), 0, 68, 69),
+                (Alone(':'), 0, 69, 70),
+                (Word("collections"), 0, 70, 81),
+                (Joint(':'), 0, 81, 82),
+                (Alone(':'), 0, 82, 83),
+                (Word("HashSet"), 0, 83, 90),
+                (Alone('<'), 0, 90, 91),
+                (Open(Parenthesis), 0, 91, 92),
+                (Close, 0, 92, 93),
+                (Joint('>'), 0, 93, 94),
+                (Alone(','), 0, 94, 95),
+                (Close, 0, 100, 101),
+            ],
+        )),
+    ),
+    // The first rule that fits is used.
+    (TWO_RULES, "a", Some((0, &[(Word("A"), 0, 8, 9)]))),
+    (TWO_RULES, "b", Some((1, &[(Word("B"), 0, 20, 21)]))),
+    (
+        "($x:ident) => {A}; (b) => {B};",
+        "b",
+        Some((0, &[(Word("A"), 0, 15, 16)])),
+    ),
+    (
+        "($x:foo) => {}; ($t:tt) => {$t}",
+        "a",
+        Some((1, &[(Word("a"), 1, 0, 1)])),
+    ),
+];
 
 #[test]
-fn pair_of_an_assignment(rt: HostRuntime) -> Result<(), Fail> {
-    let want = [
-        word("pair", 0, 25),
-        open(Parenthesis, 0, 30),
-        number("1", 1, 4),
-        close(0, 33),
-        word("a", 1, 0),
-    ];
-    assert_expands(&rt, rt.alloc(), PAIR, (0, &want))
-}
-
-// The answer where the marker sets the context 7 in each span.
-fn assert_expands_marked(
-    rt: &impl Abort,
-    alloc: Global,
-    (definition, argument): (&str, &str),
-    want: &[Token<'_>],
-) -> Result<(), Fail> {
-    let definition = lexed(alloc, 0, definition)?;
-    let argument = lexed(alloc, 1, argument)?;
-    let call_site = whole(&argument);
-    let rules = parsed(alloc, &definition)?;
-    assert_checked(rt, &rules);
-    let answer = rules.expand(
-        alloc,
-        &NoGrammar,
-        &argument,
-        |span| Span {
-            ctx: SyntaxContext(7),
-            ..span
-        },
-        MacroCallStyle::FnLike,
-        call_site,
-    )?;
-    assert_answer(rt, alloc, &answer, call_site, (0, want))?;
+fn whole_expansions(rt: HostRuntime) -> Result<(), Fail> {
+    assert_eq!(rt; first_wrong(rt.alloc(), &NOTHING, &EXPANDED)?, None);
     Ok(())
 }
 
-#[test]
-fn pair_of_an_assignment_is_marked(rt: HostRuntime) -> Result<(), Fail> {
-    let want = [
-        word("pair", 0, 25).in_context(7),
-        open(Parenthesis, 0, 30).in_context(7),
-        number("1", 1, 4),
-        close(0, 33).in_context(7),
-        word("a", 1, 0),
-    ];
-    assert_expands_marked(&rt, rt.alloc(), PAIR, &want)
+// A definition, an argument, and the tokens that are made of it, each with the number of its context.
+type Marked = (&'static str, &'static str, &'static [(Token<'static>, u32)]);
+
+// What a template writes itself is marked.
+static MARKED: [Marked; 2] = [
+    (
+        PAIR,
+        PAIR_ARGUMENT,
+        &[
+            ((Word("pair"), 0, 25, 29), 7),
+            ((Open(Parenthesis), 0, 30, 31), 7),
+            ((Number("1"), 1, 4, 5), 0),
+            ((Close, 0, 33, 34), 7),
+            ((Word("a"), 1, 0, 1), 0),
+        ],
+    ),
+    (
+        "() => {1 + [a] $crate $$ $y}",
+        "",
+        &[
+            ((Number("1"), 0, 7, 8), 7),
+            ((Alone('+'), 0, 9, 10), 7),
+            ((Open(Bracket), 0, 11, 12), 7),
+            ((Word("a"), 0, 12, 13), 7),
+            ((Close, 0, 13, 14), 7),
+            ((Word("$crate"), 0, 16, 21), 7),
+            ((Alone('$'), 0, 23, 24), 7),
+            ((Alone('$'), 0, 26, 27), 0),
+            ((Word("y"), 0, 26, 27), 0),
+        ],
+    ),
+];
+
+// Whether that is made where the marker sets the context 7 in each span.
+fn is_marked(
+    rt: &impl Abort,
+    alloc: Global,
+    &(definition, argument, want): &Marked,
+) -> Result<bool, Fail> {
+    let rules = defined(alloc, definition)?;
+    assert_checked(rt, &rules);
+    let argument = lexed(alloc, 1, argument)?;
+    let call_site = whole(&argument);
+    let marker = |span: Span| Span {
+        ctx: SyntaxContext(7),
+        ..span
+    };
+    let style = MacroCallStyle::FnLike;
+    let expansion = rules.expand(alloc, &NOTHING, &argument, marker, style, call_site)?;
+    let (tree, index) = &expansion.value;
+    let want = built_in_contexts(alloc, call_site, want)?;
+    Ok(expansion.err.is_none() && *index == Some(0) && *tree == want)
 }
 
 #[test]
 fn what_a_template_writes_itself_is_marked(rt: HostRuntime) -> Result<(), Fail> {
-    let texts = ("() => {1 + [a] $crate $$ $y}", "");
-    let want = [
-        number("1", 0, 7).in_context(7),
-        alone('+', 0, 9).in_context(7),
-        open(Bracket, 0, 11).in_context(7),
-        word("a", 0, 12).in_context(7),
-        close(0, 13).in_context(7),
-        word("$crate", 0, 16).with_span(at(0, 16, 21)).in_context(7),
-        alone('$', 0, 23).in_context(7),
-        alone('$', 0, 26),
-        word("y", 0, 26),
-    ];
-    assert_expands_marked(&rt, rt.alloc(), texts, &want)
-}
-
-#[test]
-fn struct_with_a_map(rt: HostRuntime) -> Result<(), Fail> {
-    let texts = (
-        "\n( struct $ident:ident ) => {\n    struct $ident {\n        map: ::std::collections::HashSet<()>,\n    }\n};\n",
-        "\nstruct MyTraitMap2\n",
-    );
-    let want = [
-        word("struct", 0, 34),
-        word("MyTraitMap2", 1, 8),
-        open(Brace, 0, 48),
-        word("map", 0, 58),
-        alone(':', 0, 61),
-        joint(':', 0, 63),
-        alone(':', 0, 64),
-        word("std", 0, 65),
-        joint(':', 0, 68),
-        alone(':', 0, 69),
-        word("collections", 0, 70),
-        joint(':', 0, 81),
-        alone(':', 0, 82),
-        word("HashSet", 0, 83),
-        alone('<', 0, 90),
-        open(Parenthesis, 0, 91),
-        close(0, 92),
-        joint('>', 0, 93),
-        alone(',', 0, 94),
-        close(0, 100),
-    ];
-    assert_expands(&rt, rt.alloc(), texts, (0, &want))
-}
-
-#[test]
-fn first_rule_that_fits_is_used(rt: HostRuntime) -> Result<(), Fail> {
-    let rules = "(a) => {A}; (b) => {B}";
-    assert_expands(&rt, rt.alloc(), (rules, "a"), (0, &[word("A", 0, 8)]))?;
-    assert_expands(&rt, rt.alloc(), (rules, "b"), (1, &[word("B", 0, 20)]))?;
-    let both = "($x:ident) => {A}; (b) => {B};";
-    assert_expands(&rt, rt.alloc(), (both, "b"), (0, &[word("A", 0, 15)]))?;
-    let unknown = "($x:foo) => {}; ($t:tt) => {$t}";
-    assert_expands(&rt, rt.alloc(), (unknown, "a"), (1, &[word("a", 1, 0)]))
-}
-
-#[test]
-fn rules_are_for_calls_like_functions(rt: HostRuntime) -> Result<(), Fail> {
-    let definition = lexed(rt.alloc(), 0, "($t:tt) => {$t}")?;
-    let argument = lexed(rt.alloc(), 1, "a")?;
-    let rules = parsed(rt.alloc(), &definition)?;
-    assert_checked(&rt, &rules);
-    for style in [MacroCallStyle::Attr, MacroCallStyle::Derive] {
-        let answer = expanded(rt.alloc(), &rules, &argument, style)?;
-        assert_no_rule(&rt, rt.alloc(), &answer, whole(&argument))?;
+    for row in &MARKED {
+        assert!(rt; is_marked(&rt, rt.alloc(), row)?, "{}", row.0);
     }
     Ok(())
 }
 
+// Calls for which there is no rule of their style.
+static NO_RULES: [(&str, &str, MacroCallStyle); 4] = [
+    ("($t:tt) => {$t}", "a", MacroCallStyle::Attr),
+    ("($t:tt) => {$t}", "a", MacroCallStyle::Derive),
+    ("", "", MacroCallStyle::FnLike),
+    ("attr() () => {A}; () => {B}", "", MacroCallStyle::Derive),
+];
+
 #[test]
-fn rules_before_a_fault_expand(rt: HostRuntime) -> Result<(), Fail> {
-    let definition = lexed(rt.alloc(), 0, "(a) => {A}; ($x) => {}")?;
-    let argument = lexed(rt.alloc(), 1, "a")?;
-    let rules = parsed(rt.alloc(), &definition)?;
-    assert!(rt; rules.err().is_some());
-    assert_checked(&rt, &rules);
-    let answer = expanded(rt.alloc(), &rules, &argument, MacroCallStyle::FnLike)?;
-    assert_answer(
-        &rt,
-        rt.alloc(),
-        &answer,
-        whole(&argument),
-        (0, &[word("A", 0, 8)]),
-    )?;
+fn calls_without_a_rule(rt: HostRuntime) -> Result<(), Fail> {
+    for &(definition, argument, style) in &NO_RULES {
+        let rules = defined(rt.alloc(), definition)?;
+        assert_checked(&rt, &rules);
+        let argument = lexed(rt.alloc(), 1, argument)?;
+        let expansion = expanded(rt.alloc(), &NOTHING, &rules, &argument, style)?;
+        let is_so = is_without_rule(rt.alloc(), &expansion, whole(&argument))?;
+        assert!(rt; is_so, "{definition}");
+    }
     Ok(())
 }
 
+const FIRST: Want = Some((0, &[(Word("A"), 0, 8, 9)]));
+
 #[test]
-fn definition_without_rules(rt: HostRuntime) -> Result<(), Fail> {
-    let definition = lexed(rt.alloc(), 0, "")?;
-    let argument = lexed(rt.alloc(), 1, "")?;
-    let rules = parsed(rt.alloc(), &definition)?;
+fn rules_before_a_fault_expand(rt: HostRuntime) -> Result<(), Fail> {
+    let rules = defined(rt.alloc(), "(a) => {A}; ($x) => {}")?;
+    let argument = lexed(rt.alloc(), 1, "a")?;
+    assert!(rt; rules.err().is_some());
     assert_checked(&rt, &rules);
-    let answer = expanded(rt.alloc(), &rules, &argument, MacroCallStyle::FnLike)?;
-    assert_no_rule(&rt, rt.alloc(), &answer, whole(&argument))
+    let style = MacroCallStyle::FnLike;
+    let expansion = expanded(rt.alloc(), &NOTHING, &rules, &argument, style)?;
+    assert!(rt; is_made(rt.alloc(), &expansion, whole(&argument), FIRST)?);
+    Ok(())
 }

@@ -1,17 +1,17 @@
 // Which fragments a variable takes by a grammar that is handed in, and how they are written.
 use crate::grammar::{Counting, NoMemory, Numbered, number_of};
 use crate::runs::{
-    Expansion, assert_answer, assert_checked, assert_recovered, assert_unfit, parsed, whole,
+    TreesRow, Want, assert_checked, defined, expanded, first_wrong_trees, makes, makes_of_texts,
 };
-use crate::tokens::{Lexeme, Token, alone, at, close, float, joint, number, open, string, word};
-use crate::trees::{built, lexed};
+use crate::tokens::Lexeme::{Alone, Close, Float, Joint, Number, Open, Raw, Text, Word};
+use crate::tokens::{Lexeme, Token, at};
+use crate::trees::Trees::{Of, Tokens};
+use crate::trees::{Trees, built, lexed};
 use mbe::{DeclarativeMacro, MacroCallStyle};
-use mbe_tt::grammar::{FragmentGrammar, PrefixEntryPoint};
+use mbe_tt::grammar::PrefixEntryPoint;
 use mbe_tt::span::Edition;
 use mbe_tt::tt::DelimiterKind::{Bracket, Invisible, Parenthesis};
-use mbe_tt::tt::TopSubtree;
 use std::alloc::Global;
-use std::process::Abort;
 use std::test::Fail;
 
 /// A grammar that takes so many flat tokens of everything.
@@ -22,213 +22,361 @@ pub fn taking(count: usize) -> Counting {
     }
 }
 
-/// What the macro makes of a call like a function.
-pub fn made<G: FragmentGrammar>(
-    rt: &impl Abort,
-    alloc: Global,
-    grammar: &G,
-    (rules, argument): (&DeclarativeMacro, &TopSubtree),
-) -> Result<Expansion<Global>, Fail> {
-    assert!(rt; rules.err().is_none());
-    assert_checked(rt, rules);
-    let answer = rules.expand(
-        alloc,
-        grammar,
-        argument,
-        |span| span,
-        MacroCallStyle::FnLike,
-        whole(argument),
-    )?;
-    Ok(answer)
+const EMPTY: Want = Some((0, &[]));
+
+// How many flat tokens the grammar takes, a definition, an argument, and what is made of it.
+type Row = (usize, &'static str, &'static str, Want);
+
+const SIGNS: &str =
+    "\n(-1) => {-1};\n(- 2) => {- 2};\n(- 3.0) => {- 3.0};\n(@$lit:literal) => {$lit}\n";
+
+// A minus belongs to a literal.
+static SIGNED: [Row; 10] = [
+    (
+        0,
+        SIGNS,
+        "-1",
+        Some((0, &[(Alone('-'), 0, 10, 11), (Number("1"), 0, 11, 12)])),
+    ),
+    (
+        0,
+        SIGNS,
+        "- 1",
+        Some((0, &[(Alone('-'), 0, 10, 11), (Number("1"), 0, 11, 12)])),
+    ),
+    (
+        0,
+        SIGNS,
+        "-2",
+        Some((1, &[(Alone('-'), 0, 25, 26), (Number("2"), 0, 27, 28)])),
+    ),
+    (
+        0,
+        SIGNS,
+        "- 2",
+        Some((1, &[(Alone('-'), 0, 25, 26), (Number("2"), 0, 27, 28)])),
+    ),
+    (
+        0,
+        SIGNS,
+        "-3.0",
+        Some((2, &[(Alone('-'), 0, 43, 44), (Float("3.0"), 0, 45, 48)])),
+    ),
+    (
+        0,
+        SIGNS,
+        "- 3.0",
+        Some((2, &[(Alone('-'), 0, 43, 44), (Float("3.0"), 0, 45, 48)])),
+    ),
+    (
+        0,
+        SIGNS,
+        "@-1",
+        Some((3, &[(Alone('-'), 1, 1, 2), (Number("1"), 1, 2, 3)])),
+    ),
+    (
+        0,
+        SIGNS,
+        "@-1.0",
+        Some((3, &[(Alone('-'), 1, 1, 2), (Float("1.0"), 1, 2, 5)])),
+    ),
+    (0, SIGNS, "@1", Some((3, &[(Number("1"), 1, 1, 2)]))),
+    (0, SIGNS, "@1.0", Some((3, &[(Float("1.0"), 1, 1, 4)]))),
+];
+
+const LITERAL: &str = "($l:literal) => {$l}";
+
+static LITERALS: [Row; 11] = [
+    (0, LITERAL, "true", Some((0, &[(Word("true"), 1, 0, 4)]))),
+    (
+        0,
+        LITERAL,
+        "- false",
+        Some((0, &[(Alone('-'), 1, 0, 1), (Word("false"), 1, 2, 7)])),
+    ),
+    (9, LITERAL, "", None),
+    (9, LITERAL, "-", None),
+    (9, LITERAL, "a", None),
+    (9, LITERAL, "-a", None),
+    (9, LITERAL, "- truth", None),
+    (9, LITERAL, "--1", None),
+    (9, LITERAL, "+1", None),
+    (9, LITERAL, "(1)", None),
+    (9, LITERAL, "1 1", None),
+];
+
+const LIFETIME: &str = "($l:lifetime) => {$l}";
+
+static LIFETIMES: [Row; 11] = [
+    (
+        0,
+        LIFETIME,
+        "'a",
+        Some((0, &[(Joint('\''), 1, 0, 1), (Word("a"), 1, 1, 2)])),
+    ),
+    (
+        0,
+        LIFETIME,
+        "'_",
+        Some((0, &[(Joint('\''), 1, 0, 1), (Word("_"), 1, 1, 2)])),
+    ),
+    (
+        0,
+        LIFETIME,
+        "'static",
+        Some((0, &[(Joint('\''), 1, 0, 1), (Word("static"), 1, 1, 7)])),
+    ),
+    (9, LIFETIME, "", None),
+    (9, LIFETIME, "'", None),
+    (9, LIFETIME, "a", None),
+    (9, LIFETIME, "'1", None),
+    (9, LIFETIME, "'(a)", None),
+    (9, LIFETIME, "''a", None),
+    (9, LIFETIME, "'a b", None),
+    (9, LIFETIME, "('a)", None),
+];
+
+const VIS: &str = "($v:vis) => {[$v]}";
+
+const VIS_AND_NAME: &str = "($v:vis $x:ident) => {$v; $x}";
+
+// A visibility may be nothing, a type not.
+static VISIBILITIES: [Row; 8] = [
+    (
+        0,
+        VIS,
+        "",
+        Some((0, &[(Open(Bracket), 0, 13, 14), (Close, 0, 16, 17)])),
+    ),
+    (
+        5,
+        VIS,
+        "",
+        Some((0, &[(Open(Bracket), 0, 13, 14), (Close, 0, 16, 17)])),
+    ),
+    (
+        0,
+        VIS_AND_NAME,
+        "a",
+        Some((0, &[(Alone(';'), 0, 24, 25), (Word("a"), 1, 0, 1)])),
+    ),
+    (
+        1,
+        VIS_AND_NAME,
+        "pub a",
+        Some((
+            0,
+            &[
+                (Word("pub"), 1, 0, 3),
+                (Alone(';'), 0, 24, 25),
+                (Word("a"), 1, 4, 5),
+            ],
+        )),
+    ),
+    (1, VIS_AND_NAME, "", None),
+    (1, VIS_AND_NAME, "a", None),
+    (1, VIS_AND_NAME, "pub a b", None),
+    (0, "($t:ty) => {}", "", None),
+];
+
+const BY_FRAGMENTS: &str = "($t:ty) => {A}; ($t:ty $x:ident) => {B $t}; ($x:tt) => {C}";
+
+// Fronts that end in a group don't fit. The first rule whose fragment is long enough is taken.
+static FRONTS: [Row; 7] = [
+    (1, "($t:ty) => {}", "(a b)", None),
+    (2, "($t:ty) => {}", "(a b)", None),
+    (3, "($t:ty) => {}", "(a b)", None),
+    (4, "($t:ty) => {}", "(a b)", EMPTY),
+    (2, "($e:expr) => {}", "(a) b", None),
+    (
+        3,
+        BY_FRAGMENTS,
+        "a b c",
+        Some((0, &[(Word("A"), 0, 12, 13)])),
+    ),
+    (
+        2,
+        BY_FRAGMENTS,
+        "a b c",
+        Some((
+            1,
+            &[
+                (Word("B"), 0, 37, 38),
+                (Word("a"), 1, 0, 1),
+                (Word("b"), 1, 2, 3),
+            ],
+        )),
+    ),
+];
+
+// Fragments of the grammar are written as they are, expressions of several tokens in parentheses, paths with two colons.
+static WRITTEN: [Row; 6] = [
+    (
+        6,
+        "($t:ty) => {$t}",
+        "&'a [u8]",
+        Some((
+            0,
+            &[
+                (Alone('&'), 1, 0, 1),
+                (Joint('\''), 1, 1, 2),
+                (Word("a"), 1, 2, 3),
+                (Open(Bracket), 1, 4, 5),
+                (Word("u8"), 1, 5, 7),
+                (Close, 1, 7, 8),
+            ],
+        )),
+    ),
+    (
+        2,
+        "($t:ty ;) => {$t}",
+        "a+;",
+        Some((0, &[(Word("a"), 1, 0, 1), (Alone('+'), 1, 1, 2)])),
+    ),
+    (
+        1,
+        "($e:expr) => {$e}; ($t:tt) => {A}",
+        "1",
+        Some((0, &[(Number("1"), 1, 0, 1)])),
+    ),
+    (
+        1,
+        "($e:expr) => {[$e]}; ($t:tt) => {A}",
+        "1",
+        Some((
+            0,
+            &[
+                (Open(Bracket), 0, 14, 15),
+                (Number("1"), 1, 0, 1),
+                (Close, 0, 17, 18),
+            ],
+        )),
+    ),
+    (
+        3,
+        "($e:expr) => {$e * 2}",
+        "1 + 2",
+        Some((
+            0,
+            &[
+                (Open(Parenthesis), 0, 15, 16),
+                (Number("1"), 1, 0, 1),
+                (Alone('+'), 1, 2, 3),
+                (Number("2"), 1, 4, 5),
+                (Close, 0, 15, 16),
+                (Alone('*'), 0, 17, 18),
+                (Number("2"), 0, 19, 20),
+            ],
+        )),
+    ),
+    (
+        4,
+        "($p:path) => {$p}",
+        "Vec<u8>",
+        Some((
+            0,
+            &[
+                (Word("Vec"), 1, 0, 3),
+                (Joint(':'), 1, 0, 7),
+                (Alone(':'), 1, 0, 7),
+                (Alone('<'), 1, 3, 4),
+                (Word("u8"), 1, 4, 6),
+                (Alone('>'), 1, 6, 7),
+            ],
+        )),
+    ),
+];
+
+// The first row of which something else is made.
+fn first_wrong(alloc: Global, rows: &[Row]) -> Result<Option<(&'static str, &'static str)>, Fail> {
+    for &(count, definition, argument, want) in rows {
+        if !makes_of_texts(alloc, &taking(count), (definition, argument), want)? {
+            return Ok(Some((definition, argument)));
+        }
+    }
+    Ok(None)
 }
 
-/// The macro makes these tokens by the rule of that index; or its one rule doesn't apply.
-pub fn assert_makes<G: FragmentGrammar>(
-    rt: &impl Abort,
-    alloc: Global,
-    grammar: &G,
-    (rules, argument): (&DeclarativeMacro, &TopSubtree),
-    want: Option<(u32, &[Token<'_>])>,
-) -> Result<(), Fail> {
-    let answer = made(rt, alloc, grammar, (rules, argument))?;
-    match want {
-        Some(want) => assert_answer(rt, alloc, &answer, whole(argument), want)?,
-        None => assert_unfit(rt, &answer, 0),
+#[test]
+fn fragments_are_taken_and_written(rt: HostRuntime) -> Result<(), Fail> {
+    let tables: [&[Row]; 6] = [
+        &SIGNED,
+        &LITERALS,
+        &LIFETIMES,
+        &VISIBILITIES,
+        &FRONTS,
+        &WRITTEN,
+    ];
+    for rows in tables {
+        assert_eq!(rt; first_wrong(rt.alloc(), rows)?, None);
     }
     Ok(())
 }
 
-// The one rule of the definition applies to none of the arguments.
-fn assert_none<G: FragmentGrammar>(
-    rt: &impl Abort,
-    alloc: Global,
-    grammar: &G,
-    definition: &str,
-    arguments: &[&str],
-) -> Result<(), Fail> {
-    for &argument in arguments {
-        assert_texts(rt, alloc, grammar, (definition, argument), None)?;
+// A grammar that faults behind a group.
+static FAULTY: [(&str, &str); 2] = [("($t:ty) => {}", "(a b)"), ("($e:expr) => {}", "(a) b")];
+
+#[test]
+fn fronts_at_fault_do_not_fit(rt: HostRuntime) -> Result<(), Fail> {
+    let grammar = Counting {
+        count: 4,
+        fault: true,
+    };
+    for &texts in &FAULTY {
+        assert!(rt; makes_of_texts(rt.alloc(), &grammar, texts, None)?);
     }
     Ok(())
 }
 
-// The rule of a variable of that specifier, which writes these tokens.
-fn rule_of(
-    alloc: Global,
-    specifier: &str,
-    template: &str,
-    edition: Edition,
-) -> Result<DeclarativeMacro, Fail> {
-    let text = format!(in alloc; "($x:{specifier}) => {{{template}}}")?;
+// The rule of a variable of that specifier, which writes nothing.
+fn rule_of(alloc: Global, specifier: &str, edition: Edition) -> Result<DeclarativeMacro, Fail> {
+    let text = format!(in alloc; "($x:{specifier}) => {{}}")?;
     let definition = lexed(alloc, 0, text.as_str())?;
     let rules = DeclarativeMacro::parse_macro_rules(alloc, &definition, |_| edition)?;
     Ok(rules)
 }
 
-// The same of two texts: the definition is file 0, the argument file 1.
-fn assert_texts<G: FragmentGrammar>(
-    rt: &impl Abort,
+// The first number of words that a specifier, read in an edition, fits though `Numbered` counts another number for its entry
+// point, or doesn't fit though it counts that.
+fn first_misfit(
     alloc: Global,
-    grammar: &G,
-    (definition, argument): (&str, &str),
-    want: Option<(u32, &[Token<'_>])>,
-) -> Result<(), Fail> {
-    let rules = parsed(alloc, &lexed(alloc, 0, definition)?)?;
-    let argument = lexed(alloc, 1, argument)?;
-    assert_makes(rt, alloc, grammar, (&rules, &argument), want)
-}
-
-#[test]
-fn minus_belongs_to_a_literal(rt: HostRuntime) -> Result<(), Fail> {
-    let definition =
-        "\n(-1) => {-1};\n(- 2) => {- 2};\n(- 3.0) => {- 3.0};\n(@$lit:literal) => {$lit}\n";
-    let one = [alone('-', 0, 10), number("1", 0, 11)];
-    let two = [alone('-', 0, 25), number("2", 0, 27)];
-    let three = [alone('-', 0, 43), float("3.0", 0, 45)];
-    for (argument, arm, want) in [
-        ("-1", 0, one),
-        ("- 1", 0, one),
-        ("-2", 1, two),
-        ("- 2", 1, two),
-        ("-3.0", 2, three),
-        ("- 3.0", 2, three),
-        ("@-1", 3, [alone('-', 1, 1), number("1", 1, 2)]),
-        ("@-1.0", 3, [alone('-', 1, 1), float("1.0", 1, 2)]),
-    ] {
-        let texts = (definition, argument);
-        assert_texts(&rt, rt.alloc(), &taking(0), texts, Some((arm, &want)))?;
-    }
-    for (argument, want) in [("@1", [number("1", 1, 1)]), ("@1.0", [float("1.0", 1, 1)])] {
-        let texts = (definition, argument);
-        assert_texts(&rt, rt.alloc(), &taking(0), texts, Some((3, &want)))?;
-    }
-    Ok(())
-}
-
-static NO_LITERALS: [&str; 9] = ["", "-", "a", "-a", "- truth", "--1", "+1", "(1)", "1 1"];
-
-#[test]
-fn literal_takes_true_and_false(rt: HostRuntime) -> Result<(), Fail> {
-    let rules = "($l:literal) => {$l}";
-    let truth = [word("true", 1, 0)];
-    assert_texts(
-        &rt,
-        rt.alloc(),
-        &taking(0),
-        (rules, "true"),
-        Some((0, &truth)),
-    )?;
-    let signed = [alone('-', 1, 0), word("false", 1, 2)];
-    assert_texts(
-        &rt,
-        rt.alloc(),
-        &taking(0),
-        (rules, "- false"),
-        Some((0, &signed)),
-    )?;
-    assert_none(&rt, rt.alloc(), &taking(9), rules, &NO_LITERALS)?;
-    let rules = parsed(rt.alloc(), &lexed(rt.alloc(), 0, rules)?)?;
-    let text = [string("a b", 1, 0)];
-    let argument = built(rt.alloc(), at(1, 0, 5), &text)?;
-    assert_makes(
-        &rt,
-        rt.alloc(),
-        &taking(0),
-        (&rules, &argument),
-        Some((0, &text)),
-    )
-}
-
-static LIFETIMES: [(&str, &str); 3] = [("'a", "a"), ("'_", "_"), ("'static", "static")];
-
-static NO_LIFETIMES: [&str; 8] = ["", "'", "a", "'1", "'(a)", "''a", "'a b", "('a)"];
-
-#[test]
-fn lifetime_takes_a_quote_and_a_name(rt: HostRuntime) -> Result<(), Fail> {
-    let rules = "($l:lifetime) => {$l}";
-    for &(argument, name) in &LIFETIMES {
-        let want = [joint('\'', 1, 0), word(name, 1, 1)];
-        let texts = (rules, argument);
-        assert_texts(&rt, rt.alloc(), &taking(0), texts, Some((0, &want)))?;
-    }
-    assert_none(&rt, rt.alloc(), &taking(9), rules, &NO_LIFETIMES)
-}
-
-// Each specifier fits just as many words as `Numbered` counts for its entry point.
-fn assert_asks(
-    rt: &impl Abort,
-    alloc: Global,
-    rules: &DeclarativeMacro,
-    entry: PrefixEntryPoint,
-) -> Result<(), Fail> {
+    &(specifier, edition, entry): &(&str, Edition, PrefixEntryPoint),
+) -> Result<Option<usize>, Fail> {
+    let rules = rule_of(alloc, specifier, edition)?;
     let number = number_of(entry);
     for count in 1..12usize {
-        let argument = lexed(alloc, 1, "a ".repeat(alloc, count)?.as_str())?;
-        let want: Option<(u32, &[Token<'_>])> = if count == number {
-            Some((0, &[]))
-        } else {
-            None
-        };
-        assert_makes(rt, alloc, &Numbered, (rules, &argument), want)?;
+        let words = "a ".repeat(alloc, count)?;
+        let argument = lexed(alloc, 1, words.as_str())?;
+        let want = if count == number { EMPTY } else { None };
+        if !makes(alloc, &Numbered, &rules, &argument, want)? {
+            return Ok(Some(count));
+        }
     }
-    Ok(())
+    Ok(None)
 }
 
-static ENTRY_POINTS: [(&str, PrefixEntryPoint); 11] = [
-    ("path", PrefixEntryPoint::Path),
-    ("expr", PrefixEntryPoint::Expr),
-    ("expr_2021", PrefixEntryPoint::Expr),
-    ("ty", PrefixEntryPoint::Ty),
-    ("pat", PrefixEntryPoint::PatTop),
-    ("pat_param", PrefixEntryPoint::Pat),
-    ("stmt", PrefixEntryPoint::Stmt),
-    ("block", PrefixEntryPoint::Block),
-    ("meta", PrefixEntryPoint::MetaItem),
-    ("item", PrefixEntryPoint::Item),
-    ("vis", PrefixEntryPoint::Vis),
+// `pat` is the older one before 2021.
+static ENTRY_POINTS: [(&str, Edition, PrefixEntryPoint); 14] = [
+    ("path", Edition::Edition2024, PrefixEntryPoint::Path),
+    ("expr", Edition::Edition2024, PrefixEntryPoint::Expr),
+    ("expr_2021", Edition::Edition2024, PrefixEntryPoint::Expr),
+    ("ty", Edition::Edition2024, PrefixEntryPoint::Ty),
+    ("pat", Edition::Edition2015, PrefixEntryPoint::Pat),
+    ("pat", Edition::Edition2018, PrefixEntryPoint::Pat),
+    ("pat", Edition::Edition2021, PrefixEntryPoint::PatTop),
+    ("pat", Edition::Edition2024, PrefixEntryPoint::PatTop),
+    ("pat_param", Edition::Edition2024, PrefixEntryPoint::Pat),
+    ("stmt", Edition::Edition2024, PrefixEntryPoint::Stmt),
+    ("block", Edition::Edition2024, PrefixEntryPoint::Block),
+    ("meta", Edition::Edition2024, PrefixEntryPoint::MetaItem),
+    ("item", Edition::Edition2024, PrefixEntryPoint::Item),
+    ("vis", Edition::Edition2024, PrefixEntryPoint::Vis),
 ];
 
 #[test]
 fn each_specifier_asks_its_entry_point(rt: HostRuntime) -> Result<(), Fail> {
-    for &(specifier, entry) in &ENTRY_POINTS {
-        let rules = rule_of(rt.alloc(), specifier, "", Edition::Edition2024)?;
-        assert_asks(&rt, rt.alloc(), &rules, entry)?;
-    }
-    Ok(())
-}
-
-static PATTERNS: [(Edition, PrefixEntryPoint); 4] = [
-    (Edition::Edition2015, PrefixEntryPoint::Pat),
-    (Edition::Edition2018, PrefixEntryPoint::Pat),
-    (Edition::Edition2021, PrefixEntryPoint::PatTop),
-    (Edition::Edition2024, PrefixEntryPoint::PatTop),
-];
-
-#[test]
-fn pat_is_the_older_one_before_2021(rt: HostRuntime) -> Result<(), Fail> {
-    for &(edition, entry) in &PATTERNS {
-        let rules = rule_of(rt.alloc(), "pat", "", edition)?;
-        assert_asks(&rt, rt.alloc(), &rules, entry)?;
+    for row in &ENTRY_POINTS {
+        assert_eq!(rt; first_misfit(rt.alloc(), row)?, None, "{}", row.0);
     }
     Ok(())
 }
@@ -242,222 +390,88 @@ static EXPRESSIONS: [(&str, Edition); 4] = [
 
 // A first token, and of which of these it is the beginning.
 static BEGINNINGS: [(Lexeme<'static>, [bool; 4]); 9] = [
-    (Lexeme::Word("a"), [true, true, true, true]),
-    (Lexeme::Number("1"), [true, true, true, true]),
-    (Lexeme::Word("let"), [false, false, false, true]),
-    (Lexeme::Raw("let"), [false, false, false, true]),
-    (Lexeme::Word("lets"), [true, true, true, true]),
-    (Lexeme::Word("_"), [true, false, false, true]),
-    (Lexeme::Word("const"), [true, false, false, true]),
-    (Lexeme::Raw("const"), [true, true, true, true]),
-    (Lexeme::Word("constant"), [true, true, true, true]),
+    (Word("a"), [true, true, true, true]),
+    (Number("1"), [true, true, true, true]),
+    (Word("let"), [false, false, false, true]),
+    (Raw("let"), [false, false, false, true]),
+    (Word("lets"), [true, true, true, true]),
+    (Word("_"), [true, false, false, true]),
+    (Word("const"), [true, false, false, true]),
+    (Raw("const"), [true, true, true, true]),
+    (Word("constant"), [true, true, true, true]),
 ];
 
-// Whether the token is an expression of the specifier, read in an edition.
-fn assert_begins(
-    rt: &impl Abort,
+// The first specifier that the token begins, or doesn't begin, otherwise.
+fn first_misjudged(
     alloc: Global,
-    (specifier, edition): (&str, Edition),
-    lexeme: Lexeme<'_>,
-    fits: bool,
-) -> Result<(), Fail> {
-    let rules = rule_of(alloc, specifier, "", edition)?;
-    let span = at(1, 0, 9);
-    let argument = built(alloc, span, &[Token { lexeme, span }])?;
-    let want: Option<(u32, &[Token<'_>])> = if fits { Some((0, &[])) } else { None };
-    assert_makes(rt, alloc, &taking(1), (&rules, &argument), want)
+    &(lexeme, fits): &(Lexeme<'static>, [bool; 4]),
+) -> Result<Option<(&'static str, Edition)>, Fail> {
+    let argument = built(alloc, at(1, 0, 9), &[(lexeme, 1, 0, 9)])?;
+    for (&(specifier, edition), fits) in EXPRESSIONS.iter().zip(fits) {
+        let rules = rule_of(alloc, specifier, edition)?;
+        let want = if fits { EMPTY } else { None };
+        if !makes(alloc, &taking(1), &rules, &argument, want)? {
+            return Ok(Some((specifier, edition)));
+        }
+    }
+    Ok(None)
 }
 
 #[test]
 fn expressions_begin_with_no_let(rt: HostRuntime) -> Result<(), Fail> {
-    for &(lexeme, fits) in &BEGINNINGS {
-        for (&read, fits) in EXPRESSIONS.iter().zip(fits) {
-            assert_begins(&rt, rt.alloc(), read, lexeme, fits)?;
-        }
+    for row in &BEGINNINGS {
+        assert_eq!(rt; first_misjudged(rt.alloc(), row)?, None);
     }
     Ok(())
 }
 
-#[test]
-fn vis_may_take_nothing(rt: HostRuntime) -> Result<(), Fail> {
-    let empty = [open(Bracket, 0, 13), close(0, 16)];
-    let alone_vis = ("($v:vis) => {[$v]}", "");
-    let shown = [open(Bracket, 0, 13), close(0, 16)];
-    assert_texts(&rt, rt.alloc(), &taking(0), alone_vis, Some((0, &shown)))?;
-    assert_texts(&rt, rt.alloc(), &taking(5), alone_vis, Some((0, &empty)))?;
-    let rules = "($v:vis $x:ident) => {$v; $x}";
-    let private = [alone(';', 0, 24), word("a", 1, 0)];
-    assert_texts(
-        &rt,
-        rt.alloc(),
-        &taking(0),
-        (rules, "a"),
-        Some((0, &private)),
-    )?;
-    let public = [word("pub", 1, 0), alone(';', 0, 24), word("a", 1, 4)];
-    assert_texts(
-        &rt,
-        rt.alloc(),
-        &taking(1),
-        (rules, "pub a"),
-        Some((0, &public)),
-    )?;
-    assert_none(&rt, rt.alloc(), &taking(1), rules, &["", "a", "pub a b"])?;
-    assert_texts(&rt, rt.alloc(), &taking(0), ("($t:ty) => {}", ""), None)
-}
-
-#[test]
-fn fronts_that_end_in_a_group_do_not_fit(rt: HostRuntime) -> Result<(), Fail> {
-    let texts = ("($t:ty) => {}", "(a b)");
-    for count in [1, 2, 3] {
-        assert_texts(&rt, rt.alloc(), &taking(count), texts, None)?;
-    }
-    assert_texts(&rt, rt.alloc(), &taking(4), texts, Some((0, &[])))?;
-    let faulty = Counting {
-        count: 4,
-        fault: true,
-    };
-    assert_texts(&rt, rt.alloc(), &faulty, texts, None)?;
-    let expression = ("($e:expr) => {}", "(a) b");
-    assert_texts(&rt, rt.alloc(), &taking(2), expression, None)?;
-    assert_texts(&rt, rt.alloc(), &faulty, expression, None)
-}
-
-const BY_FRAGMENTS: &str = "($t:ty) => {A}; ($t:ty $x:ident) => {B $t}; ($x:tt) => {C}";
-
-#[test]
-fn the_first_rule_whose_fragment_fits_is_taken(rt: HostRuntime) -> Result<(), Fail> {
-    let texts = (BY_FRAGMENTS, "a b c");
-    let three = [word("A", 0, 12)];
-    assert_texts(&rt, rt.alloc(), &taking(3), texts, Some((0, &three)))
-}
-
-#[test]
-fn a_rule_whose_fragment_is_too_short_is_passed_over(rt: HostRuntime) -> Result<(), Fail> {
-    let texts = (BY_FRAGMENTS, "a b c");
-    let two = [word("B", 0, 37), word("a", 1, 0), word("b", 1, 2)];
-    assert_texts(&rt, rt.alloc(), &taking(2), texts, Some((1, &two)))
-}
-
-// The second rule leaves one word, the others leave two.
-#[test]
-fn the_rule_that_leaves_fewest_trees_is_recovered(rt: HostRuntime) -> Result<(), Fail> {
-    let rules = parsed(rt.alloc(), &lexed(rt.alloc(), 0, BY_FRAGMENTS)?)?;
-    let argument = lexed(rt.alloc(), 1, "a b c")?;
-    let answer = made(&rt, rt.alloc(), &taking(1), (&rules, &argument))?;
-    let want = [word("B", 0, 37), word("a", 1, 0)];
-    let span = whole(&argument);
-    let told = ("leftover tokens", span);
-    assert_recovered(&rt, rt.alloc(), &answer, span, (1, &want), told)
-}
-
-#[test]
-fn fragments_of_the_grammar_are_written_as_they_are(rt: HostRuntime) -> Result<(), Fail> {
-    let slice = [
-        alone('&', 1, 0),
-        joint('\'', 1, 1),
-        word("a", 1, 2),
-        open(Bracket, 1, 4),
-        word("u8", 1, 5),
-        close(1, 7),
-    ];
-    let texts = ("($t:ty) => {$t}", "&'a [u8]");
-    assert_texts(&rt, rt.alloc(), &taking(6), texts, Some((0, &slice)))?;
-    let last = [word("a", 1, 0), alone('+', 1, 1)];
-    let texts = ("($t:ty ;) => {$t}", "a+;");
-    assert_texts(&rt, rt.alloc(), &taking(2), texts, Some((0, &last)))
-}
-
-static STRIPPED: [(&str, bool); 9] = [
-    ("ty", false),
-    ("pat", false),
-    ("pat_param", false),
-    ("stmt", false),
-    ("block", false),
-    ("meta", false),
-    ("item", false),
-    ("vis", false),
-    ("tt", true),
+const GROUPED: &[Token<'static>] = &[
+    (Open(Invisible), 1, 0, 1),
+    (Word("a"), 1, 1, 2),
+    (Close, 1, 2, 3),
 ];
 
+const ARGUMENT: Trees = Tokens(3, GROUPED);
+
+// Only what the grammar took keeps an invisible group.
+static STRIPPED: [TreesRow; 9] = [
+    (Of("($x:ty) => {$x}"), ARGUMENT, Some((0, GROUPED))),
+    (Of("($x:pat) => {$x}"), ARGUMENT, Some((0, GROUPED))),
+    (Of("($x:pat_param) => {$x}"), ARGUMENT, Some((0, GROUPED))),
+    (Of("($x:stmt) => {$x}"), ARGUMENT, Some((0, GROUPED))),
+    (Of("($x:block) => {$x}"), ARGUMENT, Some((0, GROUPED))),
+    (Of("($x:meta) => {$x}"), ARGUMENT, Some((0, GROUPED))),
+    (Of("($x:item) => {$x}"), ARGUMENT, Some((0, GROUPED))),
+    (Of("($x:vis) => {$x}"), ARGUMENT, Some((0, GROUPED))),
+    (
+        Of("($x:tt) => {$x}"),
+        ARGUMENT,
+        Some((0, &[(Word("a"), 1, 1, 2)])),
+    ),
+];
+
+static A_TEXT: [TreesRow; 1] = [(
+    Of(LITERAL),
+    Tokens(5, &[(Text("a b"), 1, 0, 5)]),
+    Some((0, &[(Text("a b"), 1, 0, 5)])),
+)];
+
 #[test]
-fn only_what_the_grammar_took_keeps_an_invisible_group(rt: HostRuntime) -> Result<(), Fail> {
-    let tokens = [open(Invisible, 1, 0), word("a", 1, 1), close(1, 2)];
-    let argument = built(rt.alloc(), at(1, 0, 3), &tokens)?;
-    for &(specifier, stripped) in &STRIPPED {
-        let rules = rule_of(rt.alloc(), specifier, "$x", Edition::Edition2024)?;
-        let (start, end) = if stripped { (1usize, 2usize) } else { (0, 3) };
-        let want = tokens.get(start..end).ok_or("tokens")?;
-        let of = (&rules, &argument);
-        assert_makes(&rt, rt.alloc(), &taking(3), of, Some((0, want)))?;
-    }
+fn fragments_of_trees_that_no_text_gives(rt: HostRuntime) -> Result<(), Fail> {
+    assert_eq!(rt; first_wrong_trees(rt.alloc(), &taking(3), &STRIPPED)?, None);
+    assert_eq!(rt; first_wrong_trees(rt.alloc(), &taking(0), &A_TEXT)?, None);
     Ok(())
 }
 
+// The first argument needs no grammar.
 #[test]
-fn expressions_are_written(rt: HostRuntime) -> Result<(), Fail> {
-    let one = [number("1", 1, 0)];
-    let grouped = [open(Bracket, 0, 14), one[0], close(0, 17)];
-    let rules = "($e:expr) => {$e}; ($t:tt) => {A}";
-    assert_texts(&rt, rt.alloc(), &taking(1), (rules, "1"), Some((0, &one)))?;
-    let rules = "($e:expr) => {[$e]}; ($t:tt) => {A}";
-    assert_texts(
-        &rt,
-        rt.alloc(),
-        &taking(1),
-        (rules, "1"),
-        Some((0, &grouped)),
-    )?;
-    let product = [
-        open(Parenthesis, 0, 15),
-        number("1", 1, 0),
-        alone('+', 1, 2),
-        number("2", 1, 4),
-        close(0, 15),
-        alone('*', 0, 17),
-        number("2", 0, 19),
-    ];
-    let texts = ("($e:expr) => {$e * 2}", "1 + 2");
-    assert_texts(&rt, rt.alloc(), &taking(3), texts, Some((0, &product)))
-}
-
-#[test]
-fn paths_are_written_with_double_colons(rt: HostRuntime) -> Result<(), Fail> {
-    let whole = at(1, 0, 7);
-    let want = [
-        word("Vec", 1, 0),
-        joint(':', 1, 0).with_span(whole),
-        alone(':', 1, 0).with_span(whole),
-        alone('<', 1, 3),
-        word("u8", 1, 4),
-        alone('>', 1, 6),
-    ];
-    let texts = ("($p:path) => {$p}", "Vec<u8>");
-    assert_texts(&rt, rt.alloc(), &taking(4), texts, Some((0, &want)))
-}
-
-#[test]
-fn an_expansion_wants_the_memory_of_its_grammar(rt: HostRuntime) -> Result<(), Fail> {
-    let definition = lexed(rt.alloc(), 0, "($x:ident) => {}; ($e:expr) => {}")?;
-    let rules = parsed(rt.alloc(), &definition)?;
-    assert_makes(
-        &rt,
-        rt.alloc(),
-        &NoMemory,
-        (&rules, &lexed(rt.alloc(), 1, "a")?),
-        Some((0, &[])),
-    )?;
+fn an_expansion_needs_the_memory_of_its_grammar(rt: HostRuntime) -> Result<(), Fail> {
+    let rules = defined(rt.alloc(), "($x:ident) => {}; ($e:expr) => {}")?;
+    let word = lexed(rt.alloc(), 1, "a")?;
+    assert!(rt; makes(rt.alloc(), &NoMemory, &rules, &word, EMPTY)?);
+    let number = lexed(rt.alloc(), 1, "1")?;
     assert_checked(&rt, &rules);
-    let argument = lexed(rt.alloc(), 1, "1")?;
-    let call_site = whole(&argument);
-    let answer = rules.expand(
-        rt.alloc(),
-        &NoMemory,
-        &argument,
-        |span| span,
-        MacroCallStyle::FnLike,
-        call_site,
-    );
-    assert!(rt; answer.is_err());
+    let style = MacroCallStyle::FnLike;
+    assert!(rt; expanded(rt.alloc(), &NoMemory, &rules, &number, style).is_err());
     Ok(())
 }

@@ -1,212 +1,292 @@
 // Which arguments a pattern fits, and what its variables take.
-use crate::runs::{
-    assert_each_refused, assert_expands, assert_pairs_refused, assert_refused, assert_trees_expand,
-    assert_trees_refused,
-};
-use crate::tokens::{Token, alone, at, close, float, joint, open, raw, string, word};
-use crate::trees::{built, lexed};
+use crate::grammar::NOTHING;
+use crate::runs::{Row, TreesRow, Want, first_wrong, first_wrong_trees, makes_of_texts};
+use crate::tokens::Lexeme::{Alone, Close, Float, Joint, Open, Raw, Text, Word};
+use crate::trees::Trees;
+use crate::trees::Trees::{Of, Tokens};
 use mbe_tt::tt::DelimiterKind::{Bracket, Invisible, Parenthesis};
-use mbe_tt::tt::TopSubtree;
 use std::alloc::{AllocError, Global};
 use std::test::Fail;
 
-// An argument of these tokens.
-fn argument(alloc: Global, tokens: &[Token<'_>]) -> Result<TopSubtree, AllocError> {
-    built(alloc, at(1, 0, 10), tokens)
-}
+const EMPTY: Want = Some((0, &[]));
 
-static OTHER_LEAVES: [(&str, &str); 7] = [
-    ("(1) => {}", "2"),
-    ("(1) => {}", "a"),
-    ("(foo) => {}", "fo"),
-    ("(foo) => {}", "foo1"),
-    ("(a) => {}", "+"),
-    ("(+) => {}", "a"),
-    ("(a) => {}", "(a)"),
+static LEAVES: [Row; 8] = [
+    ("(1) => {}", "2", None),
+    ("(1) => {}", "a", None),
+    ("(foo) => {}", "fo", None),
+    ("(foo) => {}", "foo1", None),
+    ("(a) => {}", "+", None),
+    ("(+) => {}", "a", None),
+    ("(a) => {}", "(a)", None),
+    ("(_) => {}", "_", Some((0, &[]))),
+];
+
+// A sign and a float are two tokens.
+const SIGNED: &str = "(- 3.0) => {- 3.0}";
+
+static SIGNS: [Row; 7] = [
+    (
+        SIGNED,
+        "-3.0",
+        Some((0, &[(Alone('-'), 0, 12, 13), (Float("3.0"), 0, 14, 17)])),
+    ),
+    (
+        SIGNED,
+        "- 3.0",
+        Some((0, &[(Alone('-'), 0, 12, 13), (Float("3.0"), 0, 14, 17)])),
+    ),
+    (SIGNED, "-3", None),
+    (SIGNED, "- 3 . 0", None),
+    (SIGNED, "-3.00", None),
+    (SIGNED, "3.0", None),
+    (SIGNED, "--3.0", None),
+];
+
+const GROUP: &str = "([a]) => {A}";
+
+static GROUPS: [Row; 9] = [
+    (GROUP, "[a]", Some((0, &[(Word("A"), 0, 10, 11)]))),
+    (GROUP, "(a)", None),
+    (GROUP, "{a}", None),
+    (GROUP, "a", None),
+    (GROUP, "[]", None),
+    (GROUP, "[a a]", None),
+    (GROUP, "[b]", None),
+    (GROUP, "[[a]]", None),
+    (GROUP, "[a] [a]", None),
+];
+
+static NOT_WHOLE: [Row; 12] = [
+    ("() => {}", "a", None),
+    ("() => {}", "()", None),
+    ("(a) => {}", "a b", None),
+    ("(a) => {}", "", None),
+    ("(a b) => {}", "a", None),
+    ("((a)) => {}", "(a b)", None),
+    ("((a)) => {}", "()", None),
+    ("((a) b) => {}", "(a b)", None),
+    ("((a b)) => {}", "(a) b", None),
+    ("($x:tt) => {}", "", None),
+    ("($x:tt) => {}", "a b", None),
+    ("($x:tt $y:tt) => {}", "a", None),
+];
+
+// Puncts fit where they stand together.
+static PUNCTS: [Row; 11] = [
+    ("(->) => {}", "->", Some((0, &[]))),
+    ("(- >) => {}", "- >", Some((0, &[]))),
+    ("(..=) => {}", "..=", Some((0, &[]))),
+    ("(+;) => {}", "+;", Some((0, &[]))),
+    ("(+;) => {}", "+ ;", Some((0, &[]))),
+    ("(->) => {}", "- >", None),
+    ("(- >) => {}", "->", None),
+    ("(->) => {}", "=>", None),
+    ("(..) => {}", "..=", None),
+    ("(..=) => {}", ".. =", None),
+    ("(-) => {}", "->", None),
 ];
 
 #[test]
-fn leaves_fit_by_their_texts(rt: HostRuntime) -> Result<(), Fail> {
-    let one = lexed(rt.alloc(), 0, "(1) => {}")?;
-    let text = argument(rt.alloc(), &[string("1", 1, 0)])?;
-    assert_trees_expand(&rt, rt.alloc(), &one, &text, (0, &[]))?;
-    let foo = lexed(rt.alloc(), 0, "(foo) => {}")?;
-    let of_raw = argument(rt.alloc(), &[raw("foo", 1, 0)])?;
-    assert_trees_expand(&rt, rt.alloc(), &foo, &of_raw, (0, &[]))?;
-    let of_text = argument(rt.alloc(), &[string("foo", 1, 0)])?;
-    assert_trees_refused(&rt, rt.alloc(), &foo, &of_text)?;
-    assert_pairs_refused(&rt, rt.alloc(), &OTHER_LEAVES)?;
-    assert_expands(&rt, rt.alloc(), ("(_) => {}", "_"), (0, &[]))
-}
-
-static OTHER_FLOATS: [&str; 5] = ["-3", "- 3 . 0", "-3.00", "3.0", "--3.0"];
-
-#[test]
-fn a_sign_and_a_float_are_two_tokens(rt: HostRuntime) -> Result<(), Fail> {
-    let rules = "(- 3.0) => {- 3.0}";
-    let want = [alone('-', 0, 12), float("3.0", 0, 14)];
-    for argument in ["-3.0", "- 3.0"] {
-        assert_expands(&rt, rt.alloc(), (rules, argument), (0, &want))?;
-    }
-    assert_each_refused(&rt, rt.alloc(), rules, &OTHER_FLOATS)
-}
-
-static OTHER_GROUPS: [&str; 8] = ["(a)", "{a}", "a", "[]", "[a a]", "[b]", "[[a]]", "[a] [a]"];
-
-#[test]
-fn groups_fit_groups_of_their_kind(rt: HostRuntime) -> Result<(), Fail> {
-    let rules = "([a]) => {A}";
-    assert_expands(&rt, rt.alloc(), (rules, "[a]"), (0, &[word("A", 0, 10)]))?;
-    assert_each_refused(&rt, rt.alloc(), rules, &OTHER_GROUPS)?;
-    let invisible = argument(
-        rt.alloc(),
-        &[open(Invisible, 1, 0), word("a", 1, 1), close(1, 2)],
-    )?;
-    for texts in ["([a]) => {}", "(a) => {}", "($x:ident) => {}"] {
-        let definition = lexed(rt.alloc(), 0, texts)?;
-        assert_trees_refused(&rt, rt.alloc(), &definition, &invisible)?;
+fn tokens_and_groups_fit_their_like(rt: HostRuntime) -> Result<(), Fail> {
+    let tables: [&[Row]; 5] = [&LEAVES, &SIGNS, &GROUPS, &NOT_WHOLE, &PUNCTS];
+    for rows in tables {
+        assert_eq!(rt; first_wrong(rt.alloc(), &NOTHING, rows)?, None);
     }
     Ok(())
 }
 
-static NOT_WHOLE: [(&str, &str); 12] = [
-    ("() => {}", "a"),
-    ("() => {}", "()"),
-    ("(a) => {}", "a b"),
-    ("(a) => {}", ""),
-    ("(a b) => {}", "a"),
-    ("((a)) => {}", "(a b)"),
-    ("((a)) => {}", "()"),
-    ("((a) b) => {}", "(a b)"),
-    ("((a b)) => {}", "(a) b"),
-    ("($x:tt) => {}", ""),
-    ("($x:tt) => {}", "a b"),
-    ("($x:tt $y:tt) => {}", "a"),
+const TT: &str = "($t:tt) => {$t}";
+
+// Puncts that stand together are one tree.
+static GLUED: [Row; 6] = [
+    (
+        TT,
+        "->",
+        Some((0, &[(Joint('-'), 1, 0, 1), (Alone('>'), 1, 1, 2)])),
+    ),
+    (
+        TT,
+        "..=",
+        Some((
+            0,
+            &[
+                (Joint('.'), 1, 0, 1),
+                (Joint('.'), 1, 1, 2),
+                (Alone('='), 1, 2, 3),
+            ],
+        )),
+    ),
+    (TT, "- >", None),
+    ("($a:tt $b:tt) => {}", "->", None),
+    (
+        "($a:tt $b:tt) => {$a $b}",
+        ";+",
+        Some((0, &[(Alone(';'), 1, 0, 1), (Alone('+'), 1, 1, 2)])),
+    ),
+    (
+        "($a:tt $b:tt) => {$b $a}",
+        "..+",
+        Some((
+            0,
+            &[
+                (Alone('+'), 1, 2, 3),
+                (Joint('.'), 1, 0, 1),
+                (Alone('.'), 1, 1, 2),
+            ],
+        )),
+    ),
+];
+
+static LIFETIMES: [Row; 8] = [
+    (
+        TT,
+        "'a",
+        Some((0, &[(Joint('\''), 1, 0, 1), (Word("a"), 1, 1, 2)])),
+    ),
+    (
+        TT,
+        "'_",
+        Some((0, &[(Joint('\''), 1, 0, 1), (Word("_"), 1, 1, 2)])),
+    ),
+    (TT, "'", None),
+    (TT, "'1", None),
+    (TT, "'+", None),
+    (TT, "'(a)", None),
+    (TT, "'a b", None),
+    ("($t:tt $u:tt) => {}", "'a", None),
+];
+
+static ONE_TREE: [Row; 2] = [
+    (TT, "_", Some((0, &[(Word("_"), 1, 0, 1)]))),
+    (
+        TT,
+        "[a +;()]",
+        Some((
+            0,
+            &[
+                (Open(Bracket), 1, 0, 1),
+                (Word("a"), 1, 1, 2),
+                (Joint('+'), 1, 3, 4),
+                (Alone(';'), 1, 4, 5),
+                (Open(Parenthesis), 1, 5, 6),
+                (Close, 1, 6, 7),
+                (Close, 1, 7, 8),
+            ],
+        )),
+    ),
+];
+
+const IDENT: &str = "($x:ident) => {$x}";
+
+// An unknown specifier fits nothing.
+static IDENTS: [Row; 10] = [
+    (IDENT, "__", Some((0, &[(Word("__"), 1, 0, 2)]))),
+    (IDENT, "_", None),
+    (IDENT, "1", None),
+    (IDENT, "+", None),
+    (IDENT, "(a)", None),
+    (IDENT, "'a", None),
+    (IDENT, "", None),
+    ("($x:foo) => {}", "a", None),
+    ("($x:foo) => {}", "1", None),
+    ("($x:foo) => {}", "(a)", None),
 ];
 
 #[test]
-fn patterns_read_the_whole_argument(rt: HostRuntime) -> Result<(), Fail> {
-    assert_pairs_refused(&rt, rt.alloc(), &NOT_WHOLE)
-}
-
-static PUNCTS_THAT_FIT: [(&str, &str); 5] = [
-    ("(->) => {}", "->"),
-    ("(- >) => {}", "- >"),
-    ("(..=) => {}", "..="),
-    ("(+;) => {}", "+;"),
-    ("(+;) => {}", "+ ;"),
-];
-
-static PUNCTS_THAT_DO_NOT: [(&str, &str); 6] = [
-    ("(->) => {}", "- >"),
-    ("(- >) => {}", "->"),
-    ("(->) => {}", "=>"),
-    ("(..) => {}", "..="),
-    ("(..=) => {}", ".. ="),
-    ("(-) => {}", "->"),
-];
-
-#[test]
-fn puncts_fit_where_they_stand_together(rt: HostRuntime) -> Result<(), Fail> {
-    for &texts in &PUNCTS_THAT_FIT {
-        assert_expands(&rt, rt.alloc(), texts, (0, &[]))?;
+fn variables_take_one_tree(rt: HostRuntime) -> Result<(), Fail> {
+    let tables: [&[Row]; 4] = [&GLUED, &LIFETIMES, &ONE_TREE, &IDENTS];
+    for rows in tables {
+        assert_eq!(rt; first_wrong(rt.alloc(), &NOTHING, rows)?, None);
     }
-    assert_pairs_refused(&rt, rt.alloc(), &PUNCTS_THAT_DO_NOT)
+    Ok(())
 }
 
+// A word in an invisible group.
+const GROUPED: Trees = Tokens(
+    10,
+    &[
+        (Open(Invisible), 1, 0, 1),
+        (Word("a"), 1, 1, 2),
+        (Close, 1, 2, 3),
+    ],
+);
+
+static OF_TREES: [TreesRow; 10] = [
+    // Leaves fit by their texts.
+    (
+        Of("(1) => {}"),
+        Tokens(10, &[(Text("1"), 1, 0, 3)]),
+        Some((0, &[])),
+    ),
+    (
+        Of("(foo) => {}"),
+        Tokens(10, &[(Raw("foo"), 1, 0, 5)]),
+        Some((0, &[])),
+    ),
+    (
+        Of("(foo) => {}"),
+        Tokens(10, &[(Text("foo"), 1, 0, 5)]),
+        None,
+    ),
+    (Of("([a]) => {}"), GROUPED, None),
+    (Of("(a) => {}"), GROUPED, None),
+    (Of("($x:ident) => {}"), GROUPED, None),
+    // `tt` is written without its invisible group.
+    (Of(TT), GROUPED, Some((0, &[(Word("a"), 1, 1, 2)]))),
+    (
+        Of(TT),
+        Tokens(
+            10,
+            &[
+                (Open(Invisible), 1, 5, 6),
+                (Open(Invisible), 1, 0, 1),
+                (Word("a"), 1, 1, 2),
+                (Close, 1, 2, 3),
+                (Close, 1, 6, 7),
+            ],
+        ),
+        Some((
+            0,
+            &[
+                (Open(Invisible), 1, 0, 1),
+                (Word("a"), 1, 1, 2),
+                (Close, 1, 2, 3),
+            ],
+        )),
+    ),
+    (
+        Of(TT),
+        Tokens(10, &[(Open(Invisible), 1, 0, 1), (Close, 1, 2, 3)]),
+        Some((0, &[])),
+    ),
+    (
+        Of(IDENT),
+        Tokens(10, &[(Raw("b"), 1, 0, 3)]),
+        Some((0, &[(Raw("b"), 1, 0, 3)])),
+    ),
+];
+
 #[test]
-fn tt_takes_puncts_that_stand_together(rt: HostRuntime) -> Result<(), Fail> {
-    let one = "($a:tt) => {$a}";
-    let arrow = [joint('-', 1, 0), alone('>', 1, 1)];
-    assert_expands(&rt, rt.alloc(), (one, "->"), (0, &arrow))?;
-    let range = [joint('.', 1, 0), joint('.', 1, 1), alone('=', 1, 2)];
-    assert_expands(&rt, rt.alloc(), (one, "..="), (0, &range))?;
-    assert_refused(&rt, rt.alloc(), (one, "- >"))?;
-    assert_refused(&rt, rt.alloc(), ("($a:tt $b:tt) => {}", "->"))?;
-    let two = "($a:tt $b:tt) => {$a $b}";
-    let apart = [alone(';', 1, 0), alone('+', 1, 1)];
-    assert_expands(&rt, rt.alloc(), (two, ";+"), (0, &apart))?;
-    let turned = [alone('+', 1, 2), joint('.', 1, 0), alone('.', 1, 1)];
-    let texts = ("($a:tt $b:tt) => {$b $a}", "..+");
-    assert_expands(&rt, rt.alloc(), texts, (0, &turned))
+fn trees_that_no_text_gives_are_matched(rt: HostRuntime) -> Result<(), Fail> {
+    assert_eq!(rt; first_wrong_trees(rt.alloc(), &NOTHING, &OF_TREES)?, None);
+    Ok(())
 }
 
-static NO_LIFETIMES: [&str; 5] = ["'", "'1", "'+", "'(a)", "'a b"];
-
-#[test]
-fn tt_takes_a_lifetime_whole(rt: HostRuntime) -> Result<(), Fail> {
-    let rules = "($t:tt) => {$t}";
-    let named = [joint('\'', 1, 0), word("a", 1, 1)];
-    assert_expands(&rt, rt.alloc(), (rules, "'a"), (0, &named))?;
-    let unnamed = [joint('\'', 1, 0), word("_", 1, 1)];
-    assert_expands(&rt, rt.alloc(), (rules, "'_"), (0, &unnamed))?;
-    assert_each_refused(&rt, rt.alloc(), rules, &NO_LIFETIMES)?;
-    assert_refused(&rt, rt.alloc(), ("($t:tt $u:tt) => {}", "'a"))
-}
-
-#[test]
-fn tt_takes_one_tree(rt: HostRuntime) -> Result<(), Fail> {
-    let rules = "($t:tt) => {$t}";
-    assert_expands(&rt, rt.alloc(), (rules, "_"), (0, &[word("_", 1, 0)]))?;
-    let group = [
-        open(Bracket, 1, 0),
-        word("a", 1, 1),
-        joint('+', 1, 3),
-        alone(';', 1, 4),
-        open(Parenthesis, 1, 5),
-        close(1, 6),
-        close(1, 7),
-    ];
-    assert_expands(&rt, rt.alloc(), (rules, "[a +;()]"), (0, &group))
-}
-
-#[test]
-fn tt_is_written_without_its_invisible_group(rt: HostRuntime) -> Result<(), Fail> {
-    let rules = lexed(rt.alloc(), 0, "($t:tt) => {$t}")?;
-    let once = [open(Invisible, 1, 0), word("a", 1, 1), close(1, 2)];
-    let bare = argument(rt.alloc(), &once)?;
-    assert_trees_expand(&rt, rt.alloc(), &rules, &bare, (0, &[word("a", 1, 1)]))?;
-    let twice = [
-        open(Invisible, 1, 5),
-        open(Invisible, 1, 0),
-        word("a", 1, 1),
-        close(1, 2),
-        close(1, 6),
-    ];
-    let nested = argument(rt.alloc(), &twice)?;
-    assert_trees_expand(&rt, rt.alloc(), &rules, &nested, (0, &once))?;
-    let empty = argument(rt.alloc(), &[open(Invisible, 1, 0), close(1, 2)])?;
-    assert_trees_expand(&rt, rt.alloc(), &rules, &empty, (0, &[]))
-}
-
-static NO_IDENTS: [&str; 6] = ["_", "1", "+", "(a)", "'a", ""];
-
-static SINGLE_TREES: [&str; 3] = ["a", "1", "(a)"];
-
-#[test]
-fn ident_takes_identifiers_alone(rt: HostRuntime) -> Result<(), Fail> {
-    let text = "($x:ident) => {$x}";
-    assert_expands(&rt, rt.alloc(), (text, "__"), (0, &[word("__", 1, 0)]))?;
-    let rules = lexed(rt.alloc(), 0, text)?;
-    let named = [raw("b", 1, 0)];
-    let of_raw = argument(rt.alloc(), &named)?;
-    assert_trees_expand(&rt, rt.alloc(), &rules, &of_raw, (0, &named))?;
-    assert_each_refused(&rt, rt.alloc(), text, &NO_IDENTS)?;
-    assert_each_refused(&rt, rt.alloc(), "($x:foo) => {}", &SINGLE_TREES)
+// So many groups in one another, with a word in the innermost one.
+fn nested(alloc: Global, depth: usize) -> Result<String, AllocError> {
+    let openings = "(".repeat(alloc, depth)?;
+    let closings = ")".repeat(alloc, depth)?;
+    format!(in alloc; "{openings}a{closings}")
 }
 
 #[test]
 fn a_hundred_groups_in_one_another(rt: HostRuntime) -> Result<(), Fail> {
-    let openings = "(".repeat(rt.alloc(), 100)?;
-    let closings = ")".repeat(rt.alloc(), 100)?;
-    let groups = format!(in rt.alloc(); "{openings}a{closings}")?;
-    let definition = format!(in rt.alloc(); "({groups}) => {{}}")?;
-    assert_expands(
-        &rt,
-        rt.alloc(),
-        (definition.as_str(), groups.as_str()),
-        (0, &[]),
-    )?;
-    let deeper = format!(in rt.alloc(); "({groups})")?;
-    assert_refused(&rt, rt.alloc(), (definition.as_str(), deeper.as_str()))
+    let pattern = nested(rt.alloc(), 101)?;
+    let definition = format!(in rt.alloc(); "{pattern} => {{}}")?;
+    for (depth, want) in [(100usize, EMPTY), (101, None)] {
+        let argument = nested(rt.alloc(), depth)?;
+        let texts = (definition.as_str(), argument.as_str());
+        assert!(rt; makes_of_texts(rt.alloc(), &NOTHING, texts, want)?);
+    }
+    Ok(())
 }

@@ -1,42 +1,29 @@
-// What is answered where a request for memory is refused.
-use crate::first_run::PAIR;
-use crate::grammar::NoGrammar;
-use crate::runs::{assert_answer, assert_checked, expanded, parsed, whole};
-use crate::tokens::{Token, close, number, open, word};
+// What is returned where a request for memory is refused.
+use crate::first_run::{PAIR, PAIR_ARGUMENT, PAIR_MADE};
+use crate::grammar::NOTHING;
+use crate::runs::{assert_checked, expanded, is_made, parsed, whole};
 use crate::trees::lexed;
 use crate::verdicts::explained;
 use mbe::{MacroCallStyle, Verdict};
-use mbe_tt::tt::DelimiterKind::Parenthesis;
 use refusing::Refusing;
 use std::alloc::{AllocError, Allocator, Global};
 use std::process::Abort;
 use std::test::Fail;
 
-// What the definition of the first run makes of its argument.
-fn pair() -> [Token<'static>; 5] {
-    [
-        word("pair", 0, 25),
-        open(Parenthesis, 0, 30),
-        number("1", 1, 4),
-        close(0, 33),
-        word("a", 1, 0),
-    ]
-}
-
-// Whether memory was wanting for the first expansion. The macro expands once more in either case.
+// Whether the first expansion ran out of memory. The macro expands once more in either case.
 fn expands_twice<A: Allocator + Copy>(rt: &impl Abort, alloc: A) -> Result<bool, AllocError> {
-    let definition = lexed(alloc, 0, PAIR.0)?;
-    let argument = lexed(alloc, 1, PAIR.1)?;
+    let definition = lexed(alloc, 0, PAIR)?;
+    let argument = lexed(alloc, 1, PAIR_ARGUMENT)?;
     let rules = parsed(alloc, &definition)?;
     assert_checked(rt, &rules);
     let call_site = whole(&argument);
-    let first = expanded(alloc, &rules, &argument, MacroCallStyle::FnLike);
-    let again = expanded(alloc, &rules, &argument, MacroCallStyle::FnLike)?;
-    assert_answer(rt, alloc, &again, call_site, (0, &pair()))?;
+    let first = expanded(alloc, &NOTHING, &rules, &argument, MacroCallStyle::FnLike);
+    let again = expanded(alloc, &NOTHING, &rules, &argument, MacroCallStyle::FnLike)?;
+    assert!(rt; is_made(alloc, &again, call_site, PAIR_MADE)?);
     let Ok(first) = first else {
         return Ok(true);
     };
-    assert_answer(rt, alloc, &first, call_site, (0, &pair()))?;
+    assert!(rt; is_made(alloc, &first, call_site, PAIR_MADE)?);
     Ok(false)
 }
 
@@ -46,7 +33,7 @@ const EVERY_FORM: &str =
     $(i)* $(k)and* $crate) => {$a $j [c] 1 + $($d $e);* $($g)? ${ignore($a)} ${index()} ${len(1)} ${count($d)} ${count($e, 1)} \
     ${concat(a, $a, 1)} $$ $crate $}";
 
-// Whether memory was wanting for the first reading. The definition is read once more in either case, and stays as it was.
+// Whether the first reading ran out of memory. The definition is read once more in either case, and stays as it was.
 fn reads_twice<A: Allocator + Copy>(rt: &impl Abort, alloc: A) -> Result<bool, AllocError> {
     let definition = lexed(alloc, 0, EVERY_FORM)?;
     let copy = definition.try_clone()?;
@@ -69,8 +56,8 @@ fn explains_twice<A: Allocator + Copy>(rt: &impl Abort, alloc: A) -> Result<bool
     assert_checked(rt, &rules);
     let copy = rules.try_clone(alloc)?;
     let want = [Verdict::Ambiguous(0), Verdict::OneReading];
-    let first = explained(alloc, &NoGrammar, &rules, &argument);
-    let again = explained(alloc, &NoGrammar, &rules, &argument)?;
+    let first = explained(alloc, &NOTHING, &rules, &argument);
+    let again = explained(alloc, &NOTHING, &rules, &argument)?;
     assert!(rt; again.as_slice() == want.as_slice());
     assert!(rt; rules == copy);
     let Ok(first) = first else {
@@ -102,8 +89,8 @@ impl Work {
     }
 }
 
-// Each request is refused once, from the building of the trees to that of the trees to compare with. The requests behind
-// the refused one are granted, so that only the first turn's want of memory lets the run go on.
+// Each request is refused once, from the building of the trees to that of the trees to compare with. The requests after
+// the refused one are granted.
 fn assert_each_refused(
     rt: &impl Abort,
     alloc: Global,
@@ -129,19 +116,18 @@ fn assert_each_refused(
     Err(Fail::from("it goes on"))
 }
 
-#[test]
-fn each_request_of_an_expansion_refused(rt: HostRuntime) -> Result<(), Fail> {
-    assert_each_refused(&rt, rt.alloc(), Work::Expanding, 3)
-}
+// What is done, and how many of its requests there are at least. Each list of positions of a match is a request of a verdict;
+// each list of ops and of elements, and that of the rules, is one of reading.
+static WORKS: [(Work, u64); 3] = [
+    (Work::Expanding, 3),
+    (Work::Explaining, 3),
+    (Work::Reading, 12),
+];
 
-// Each list of positions of a match is a request.
 #[test]
-fn each_request_of_a_verdict_refused(rt: HostRuntime) -> Result<(), Fail> {
-    assert_each_refused(&rt, rt.alloc(), Work::Explaining, 3)
-}
-
-// Each list of ops and of elements is a request, and so is that of the rules.
-#[test]
-fn each_request_of_reading_refused(rt: HostRuntime) -> Result<(), Fail> {
-    assert_each_refused(&rt, rt.alloc(), Work::Reading, 12)
+fn each_request_refused(rt: HostRuntime) -> Result<(), Fail> {
+    for &(work, at_least) in &WORKS {
+        assert_each_refused(&rt, rt.alloc(), work, at_least)?;
+    }
+    Ok(())
 }

@@ -1,47 +1,56 @@
 // Repetitions without separator that can read nothing.
 use crate::definitions::{
-    MISSING_SPECIFIER, REPETITION, Row, Told, assert_read, assert_rows_told, assert_texts_told,
+    MISSING_SPECIFIER, REPETITION, Row, Texts, Told, first_misread, first_text_misread, is_read,
 };
 use crate::macro2::read;
 use mbe::MacroCallStyles;
 use std::test::Fail;
 
-static REFUSED: [&str; 13] = [
-    "($()*) => {}",
-    "($()+) => {}",
-    "($()?) => {}",
-    "($($v:vis)*) => {}",
-    "($($v:vis)?) => {}",
-    "($($(a)?)*) => {}",
-    "($($(a)*)+) => {}",
-    "($($(a),*)*) => {}",
-    "($( $($v:vis),+ )*) => {}",
-    "($($v:vis $(a)?)*) => {}",
-    "(x [$()*]) => {}",
-    "($(a $()*);*) => {}",
-    "($()*) => {} x",
+// Repetitions that can read nothing are refused, those that read something pass.
+static TEXTS: [Texts; 2] = [
+    (
+        "",
+        "",
+        &[
+            "($()*) => {}",
+            "($()+) => {}",
+            "($()?) => {}",
+            "($($v:vis)*) => {}",
+            "($($v:vis)?) => {}",
+            "($($(a)?)*) => {}",
+            "($($(a)*)+) => {}",
+            "($($(a),*)*) => {}",
+            "($( $($v:vis),+ )*) => {}",
+            "($($v:vis $(a)?)*) => {}",
+            "(x [$()*]) => {}",
+            "($(a $()*);*) => {}",
+            "($()*) => {} x",
+        ],
+        (1, Told::EmptyRepetition),
+    ),
+    (
+        "",
+        "",
+        &[
+            "($($v:vis),*) => {}",
+            "($($(a)* b)*) => {}",
+            "($(($v:vis))*) => {}",
+            "($($x:foo)*) => {}",
+            "($(),*) => {}",
+            "($($(a)+)*) => {}",
+            "($v:vis) => {}",
+            "() => {$()*}",
+        ],
+        (1, Told::Nothing),
+    ),
 ];
 
 #[test]
 fn repetitions_that_can_read_nothing_are_refused(rt: HostRuntime) -> Result<(), Fail> {
-    let want = (1, Told::EmptyRepetition);
-    assert_texts_told(&rt, rt.alloc(), ("", ""), &REFUSED, want)
-}
-
-static PASSED: [&str; 8] = [
-    "($($v:vis),*) => {}",
-    "($($(a)* b)*) => {}",
-    "($(($v:vis))*) => {}",
-    "($($x:foo)*) => {}",
-    "($(),*) => {}",
-    "($($(a)+)*) => {}",
-    "($v:vis) => {}",
-    "() => {$()*}",
-];
-
-#[test]
-fn repetitions_that_read_something_pass(rt: HostRuntime) -> Result<(), Fail> {
-    assert_texts_told(&rt, rt.alloc(), ("", ""), &PASSED, (1, Told::Nothing))
+    for texts in &TEXTS {
+        assert_eq!(rt; first_text_misread(rt.alloc(), texts)?, None);
+    }
+    Ok(())
 }
 
 static OVER_FAULTS: [Row; 5] = [
@@ -54,26 +63,23 @@ static OVER_FAULTS: [Row; 5] = [
 ];
 
 #[test]
-fn a_refusal_is_told_over_any_fault(rt: HostRuntime) -> Result<(), Fail> {
-    assert_rows_told(&rt, rt.alloc(), &OVER_FAULTS)
+fn a_refusal_is_reported_over_any_fault(rt: HostRuntime) -> Result<(), Fail> {
+    assert_eq!(rt; first_misread(rt.alloc(), &OVER_FAULTS)?, None);
+    Ok(())
 }
 
-#[test]
-fn refused_arguments_of_a_macro(rt: HostRuntime) -> Result<(), Fail> {
-    let rules = read(rt.alloc(), Some("$()*"), "")?;
-    assert_read(&rt, rt.alloc(), &rules, "$()*", (1, Told::EmptyRepetition))
-}
+// Arguments and a body, and the style of what is refused of them.
+static MACROS: [(Option<&str>, &str, MacroCallStyles); 2] = [
+    (Some("$()*"), "", MacroCallStyles::FN_LIKE),
+    (None, "derive() ($()*) => {}, x", MacroCallStyles::DERIVE),
+];
 
 #[test]
-fn refused_body_of_a_macro(rt: HostRuntime) -> Result<(), Fail> {
-    let rules = read(rt.alloc(), None, "derive() ($()*) => {}, x")?;
-    assert_read(
-        &rt,
-        rt.alloc(),
-        &rules,
-        "derive",
-        (1, Told::EmptyRepetition),
-    )?;
-    assert_eq!(rt; rules.rule_styles(), MacroCallStyles::DERIVE);
+fn refused_arguments_and_bodies_of_macros(rt: HostRuntime) -> Result<(), Fail> {
+    for &(args, body, styles) in &MACROS {
+        let rules = read(rt.alloc(), args, body)?;
+        assert!(rt; is_read(rt.alloc(), &rules, (1, Told::EmptyRepetition))?);
+        assert!(rt; rules.rule_styles() == styles);
+    }
     Ok(())
 }

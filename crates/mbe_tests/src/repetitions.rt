@@ -1,10 +1,9 @@
 // Repetitions of definitions: what separates their rounds, how often they go round, and their faults.
 use crate::definitions::{
-    DOLLARS, EXPRESSION, IDENT, MISSING_SPECIFIER, REPETITION, Row, Told, assert_rows_told,
-    assert_texts_told, assert_told,
+    DOLLARS, EXPRESSION, IDENT, MISSING_SPECIFIER, REPETITION, Row, Texts, Told, first_misread,
+    first_text_misread, is_text_read,
 };
-use std::alloc::Global;
-use std::process::Abort;
+use std::alloc::{AllocError, Global};
 use std::test::Fail;
 
 static SUFFIXES: [&str; 26] = [
@@ -12,63 +11,74 @@ static SUFFIXES: [&str; 26] = [
     "b +", "_?", "true*", "1*", "1 +", "'b*", "'_+", "' b?", "**", "+*", "*;;;;", "*[a]",
 ];
 
-// The suffix stands in the pattern and in the template.
-fn assert_suffix(rt: &impl Abort, alloc: Global, suffix: &str) -> Result<(), Fail> {
-    let definition = format!(in alloc; "() => {{}}; ($(a){suffix}) => {{$(a){suffix}}}")?;
-    assert_told(rt, alloc, definition.as_str(), (2, Told::Nothing))
+// The first suffix of which a pattern and a template, with it in both, aren't read.
+fn first_refused_suffix(alloc: Global) -> Result<Option<&'static str>, AllocError> {
+    for &suffix in &SUFFIXES {
+        let definition = format!(in alloc; "() => {{}}; ($(a){suffix}) => {{$(a){suffix}}}")?;
+        if !is_text_read(alloc, definition.as_str(), (2, Told::Nothing))? {
+            return Ok(Some(suffix));
+        }
+    }
+    Ok(None)
 }
 
 #[test]
 fn suffixes_of_repetitions(rt: HostRuntime) -> Result<(), Fail> {
-    for &suffix in &SUFFIXES {
-        assert_suffix(&rt, rt.alloc(), suffix)?;
-    }
+    assert_eq!(rt; first_refused_suffix(rt.alloc())?, None);
     Ok(())
 }
 
-static INVALID_SUFFIXES: [&str; 27] = [
+const INVALID_SUFFIXES: &[&str] = &[
     "", ",", "b", "'b", "b c*", "b,*", "b'*", "b 1*", "1 b*", "1,*", "1 2*", ",b*", ",1*", ",,b*",
     ",'b*", "''b*", "'b c*", "'b,*", "'1*", ";;;;*", ".....+", "$x*", "[a]*", ",[a]*", "b[a]*",
     "(*)", ",(*)",
 ];
 
+// Invalid suffixes in a pattern, and in a template; and bodies.
+static TEXTS: [Texts; 3] = [
+    (
+        "() => {}; ($(a)",
+        ") => {}",
+        INVALID_SUFFIXES,
+        (1, Told::InvalidRepeat),
+    ),
+    (
+        "() => {}; () => {$(a)",
+        "}",
+        INVALID_SUFFIXES,
+        (1, Told::InvalidRepeat),
+    ),
+    (
+        "",
+        "",
+        &[
+            "($(a);;*) => {}",
+            "($($x:ident),*) => {$($x);*}",
+            "($($($x:ident)*),*) => {$($($x)*),*}",
+            "([a $($x:expr $(, $y:ty)?);+]) => {}",
+            "() => {$([$($x),*])*}",
+            "($(a)*$(b)?) => {$$(a)*}",
+        ],
+        (1, Told::Nothing),
+    ),
+];
+
 #[test]
-fn invalid_suffixes_of_repetitions(rt: HostRuntime) -> Result<(), Fail> {
-    let want = (1, Told::InvalidRepeat);
-    let in_pattern = ("() => {}; ($(a)", ") => {}");
-    assert_texts_told(&rt, rt.alloc(), in_pattern, &INVALID_SUFFIXES, want)?;
-    let in_template = ("() => {}; () => {$(a)", "}");
-    assert_texts_told(&rt, rt.alloc(), in_template, &INVALID_SUFFIXES, want)
+fn invalid_suffixes_and_bodies_of_repetitions(rt: HostRuntime) -> Result<(), Fail> {
+    for texts in &TEXTS {
+        assert_eq!(rt; first_text_misread(rt.alloc(), texts)?, None);
+    }
+    Ok(())
 }
 
-static KEPT: [Row; 5] = [
+static READ: [Row; 20] = [
+    // A repetition that is refused keeps the rules before it.
     ("($(a)) => {}", 0, Told::InvalidRepeat),
     ("($($x)) => {}", 0, Told::InvalidRepeat),
     ("($(a)b c*) => {}", 0, Told::InvalidRepeat),
     ("() => {}; ($(a)) => {}; () => {}", 1, Told::InvalidRepeat),
     ("() => {}; () => {}; () => {{$(a)}}", 2, Told::InvalidRepeat),
-];
-
-#[test]
-fn refused_repetitions_keep_the_rules_before(rt: HostRuntime) -> Result<(), Fail> {
-    assert_rows_told(&rt, rt.alloc(), &KEPT)
-}
-
-static BODIES: [&str; 6] = [
-    "($(a);;*) => {}",
-    "($($x:ident),*) => {$($x);*}",
-    "($($($x:ident)*),*) => {$($($x)*),*}",
-    "([a $($x:expr $(, $y:ty)?);+]) => {}",
-    "() => {$([$($x),*])*}",
-    "($(a)*$(b)?) => {$$(a)*}",
-];
-
-#[test]
-fn bodies_of_repetitions(rt: HostRuntime) -> Result<(), Fail> {
-    assert_texts_told(&rt, rt.alloc(), ("", ""), &BODIES, (1, Told::Nothing))
-}
-
-static FIRST_FAULTS: [Row; 15] = [
+    // A suffix is read before its body, and the body before what stands after the suffix.
     ("($($x)*) => {}", 0, MISSING_SPECIFIER),
     ("($($x:_),*) => {}", 0, MISSING_SPECIFIER),
     ("($($x)) => {}", 0, Told::InvalidRepeat),
@@ -86,8 +96,8 @@ static FIRST_FAULTS: [Row; 15] = [
     ("($(a)) => {$[a]}", 0, Told::InvalidRepeat),
 ];
 
-// A suffix is read before its body, and the body before what stands behind the suffix.
 #[test]
-fn first_fault_around_a_repetition(rt: HostRuntime) -> Result<(), Fail> {
-    assert_rows_told(&rt, rt.alloc(), &FIRST_FAULTS)
+fn faults_of_repetitions(rt: HostRuntime) -> Result<(), Fail> {
+    assert_eq!(rt; first_misread(rt.alloc(), &READ)?, None);
+    Ok(())
 }

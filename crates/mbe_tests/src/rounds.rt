@@ -1,74 +1,81 @@
 // Groups that no text shows, in patterns and in rounds.
-use crate::fragments::{assert_makes, made, taking};
-use crate::runs::{assert_unfit, parsed};
-use crate::tokens::{Token, alone, at, close, joint, open, word};
-use crate::trees::{built, lexed};
-use mbe::DeclarativeMacro;
+use crate::fragments::taking;
+use crate::runs::{TreesRow, first_wrong_trees};
+use crate::tokens::Lexeme::{Alone, Close, Joint, Open, Word};
+use crate::tokens::Token;
+use crate::trees::Trees;
+use crate::trees::Trees::{Of, Tokens};
 use mbe_tt::tt::DelimiterKind::{Brace, Invisible, Parenthesis};
-use mbe_tt::tt::TopSubtree;
-use std::alloc::{AllocError, Global};
 use std::test::Fail;
 
 // The identifier `a` in an invisible group.
-fn grouped() -> [Token<'static>; 3] {
-    [open(Invisible, 1, 0), word("a", 1, 1), close(1, 2)]
-}
-
-fn argument(alloc: Global) -> Result<TopSubtree, AllocError> {
-    built(alloc, at(1, 0, 3), &grouped())
-}
+const GROUPED: &[Token<'static>] = &[
+    (Open(Invisible), 1, 0, 1),
+    (Word("a"), 1, 1, 2),
+    (Close, 1, 2, 3),
+];
 
 // A rule whose pattern is an invisible group with `$x:ident`.
-fn invisible_rule(alloc: Global) -> Result<DeclarativeMacro, AllocError> {
-    let tokens = [
-        open(Parenthesis, 0, 0),
-        open(Invisible, 0, 1),
-        alone('$', 0, 2),
-        word("x", 0, 3),
-        alone(':', 0, 4),
-        word("ident", 0, 5),
-        close(0, 10),
-        close(0, 11),
-        joint('=', 0, 12),
-        alone('>', 0, 13),
-        open(Brace, 0, 14),
-        alone('$', 0, 15),
-        word("x", 0, 16),
-        close(0, 17),
-    ];
-    parsed(alloc, &built(alloc, at(0, 0, 18), &tokens)?)
-}
+const INVISIBLE: Trees = Tokens(
+    18,
+    &[
+        (Open(Parenthesis), 0, 0, 1),
+        (Open(Invisible), 0, 1, 2),
+        (Alone('$'), 0, 2, 3),
+        (Word("x"), 0, 3, 4),
+        (Alone(':'), 0, 4, 5),
+        (Word("ident"), 0, 5, 10),
+        (Close, 0, 10, 11),
+        (Close, 0, 11, 12),
+        (Joint('='), 0, 12, 13),
+        (Alone('>'), 0, 13, 14),
+        (Open(Brace), 0, 14, 15),
+        (Alone('$'), 0, 15, 16),
+        (Word("x"), 0, 16, 17),
+        (Close, 0, 17, 18),
+    ],
+);
 
-#[test]
-fn an_invisible_group_of_a_pattern_is_entered(rt: HostRuntime) -> Result<(), Fail> {
-    let rules = invisible_rule(rt.alloc())?;
-    let want = [word("a", 1, 1)];
-    let of = (&rules, &argument(rt.alloc())?);
-    assert_makes(&rt, rt.alloc(), &taking(1), of, Some((0, &want)))?;
-    let bare = lexed(rt.alloc(), 1, "a")?;
-    let answer = made(&rt, rt.alloc(), &taking(1), (&rules, &bare))?;
-    assert_unfit(&rt, &answer, 0);
-    Ok(())
-}
+static OF_ONE: [TreesRow; 2] = [
+    (
+        INVISIBLE,
+        Tokens(3, GROUPED),
+        Some((0, &[(Word("a"), 1, 1, 2)])),
+    ),
+    (INVISIBLE, Of("a"), None),
+];
 
 // The statement is written as it is, in a round of its own.
-#[test]
-fn a_round_keeps_the_group_of_its_fragment(rt: HostRuntime) -> Result<(), Fail> {
-    let definition = lexed(rt.alloc(), 0, "($($s:stmt);*) => {$($s);*}")?;
-    let rules = parsed(rt.alloc(), &definition)?;
-    let of = (&rules, &argument(rt.alloc())?);
-    assert_makes(&rt, rt.alloc(), &taking(3), of, Some((0, &grouped())))
-}
+static OF_THREE: [TreesRow; 1] = [(
+    Of("($($s:stmt);*) => {$($s);*}"),
+    Tokens(3, GROUPED),
+    Some((0, GROUPED)),
+)];
+
+// An expression of words is put in parentheses.
+static OF_NINE: [TreesRow; 1] = [(
+    Of("($e:expr) => {$e}"),
+    Of("a b"),
+    Some((
+        0,
+        &[
+            (Open(Parenthesis), 0, 15, 16),
+            (Word("a"), 1, 0, 1),
+            (Word("b"), 1, 2, 3),
+            (Close, 0, 15, 16),
+        ],
+    )),
+)];
 
 #[test]
-fn an_expression_of_words_is_put_in_parentheses(rt: HostRuntime) -> Result<(), Fail> {
-    let rules = parsed(rt.alloc(), &lexed(rt.alloc(), 0, "($e:expr) => {$e}")?)?;
-    let want = [
-        open(Parenthesis, 0, 15),
-        word("a", 1, 0),
-        word("b", 1, 2),
-        close(0, 15),
-    ];
-    let of = (&rules, &lexed(rt.alloc(), 1, "a b")?);
-    assert_makes(&rt, rt.alloc(), &taking(9), of, Some((0, &want)))
+fn invisible_groups_are_entered_and_kept(rt: HostRuntime) -> Result<(), Fail> {
+    let tables: [(usize, &[TreesRow]); 3] = [(1, &OF_ONE), (3, &OF_THREE), (9, &OF_NINE)];
+    for (count, rows) in tables {
+        assert_eq!(rt;
+            first_wrong_trees(rt.alloc(), &taking(count), rows)?,
+            None,
+            "{count}"
+        );
+    }
+    Ok(())
 }

@@ -1,14 +1,14 @@
-// Parses and expands, and compares the answers whole.
+// Parses and expands, and compares the results whole.
 ghost use Rattle.mbe.specs.Macro.{IsChecked};
 ghost use Rattle.mbe.specs.MacroViews.{macro_of};
 
-use crate::grammar::NoGrammar;
-use crate::tokens::Token;
-use crate::trees::{built, lexed};
+use crate::tokens::{Token, at};
+use crate::trees::{Trees, built, lexed};
 use mbe::{
     DeclarativeMacro, ExpandError, ExpandErrorKind, ExpandResult, MacroCallStyle, MatchedArmIndex,
     ParseError,
 };
+use mbe_tt::grammar::FragmentGrammar;
 use mbe_tt::span::{DelimSpan, Edition, Span};
 use mbe_tt::tt::TopSubtree;
 use std::alloc::{AllocError, Allocator, Global};
@@ -18,12 +18,27 @@ use std::test::Fail;
 
 pub type Expansion<A> = ExpandResult<(TopSubtree<A>, MatchedArmIndex), A>;
 
+/// The index of a rule and the tokens that it writes. Nothing where the first rule, which is the closest one, doesn't apply:
+/// an error stands beside what it recovers.
+pub type Want = Option<(u32, &'static [Token<'static>])>;
+
+/// A definition, an argument, and what is made of it.
+pub type Row = (&'static str, &'static str, Want);
+
+/// The same of trees that no text gives.
+pub type TreesRow = (Trees, Trees, Want);
+
 /// The macro of a definition that is read in edition 2024.
 pub fn parsed<A: Allocator + Copy>(
     alloc: A,
     definition: &TopSubtree<A>,
 ) -> Result<DeclarativeMacro<A>, AllocError> {
     DeclarativeMacro::parse_macro_rules(alloc, definition, |_context| Edition::Edition2024)
+}
+
+/// The same of a text, which is file 0.
+pub fn defined(alloc: Global, definition: &str) -> Result<DeclarativeMacro, AllocError> {
+    parsed(alloc, &lexed(alloc, 0, definition)?)
 }
 
 /// The span of the whole argument, which is the call site of each expansion here.
@@ -39,9 +54,10 @@ pub fn assert_checked<A: Allocator>(rt: &impl Abort, rules: &DeclarativeMacro<A>
     assert!(rt; !refused);
 }
 
-/// The expansion of a call in a style, with all spans as they are.
-pub fn expanded<A: Allocator + Copy>(
+/// The expansion of a call in a style by a grammar, with all spans as they are.
+pub fn expanded<A: Allocator + Copy, G: FragmentGrammar>(
     alloc: A,
+    grammar: &G,
     rules: &DeclarativeMacro<A>,
     argument: &TopSubtree<A>,
     style: MacroCallStyle,
@@ -49,145 +65,132 @@ pub fn expanded<A: Allocator + Copy>(
     requires { IsChecked (macro_of rules.now) }
 {
     let call_site = whole(argument);
-    rules.expand(alloc, &NoGrammar, argument, |span| span, style, call_site)
+    rules.expand(alloc, grammar, argument, |span| span, style, call_site)
 }
 
-/// The expansion has no error, and is these tokens by the rule of that index.
-pub fn assert_answer<A: Allocator + Copy>(
-    rt: &impl Abort,
-    alloc: A,
-    answer: &Expansion<A>,
-    call_site: Span,
-    (arm, want): (u32, &[Token<'_>]),
-) -> Result<(), AllocError> {
-    let (tree, index) = &answer.value;
-    assert!(rt; answer.err.is_none());
-    assert_eq!(rt; *index, Some(arm));
-    assert_eq!(rt; *tree, built(alloc, call_site, want)?);
-    Ok(())
-}
-
-/// The definition, all of which is read, makes that answer of the argument.
-pub fn assert_trees_expand(
-    rt: &impl Abort,
+/// The expansion of a call like a function by a macro that was read without a fault.
+pub fn made<G: FragmentGrammar>(
     alloc: Global,
-    definition: &TopSubtree,
+    grammar: &G,
+    rules: &DeclarativeMacro,
     argument: &TopSubtree,
-    want: (u32, &[Token<'_>]),
-) -> Result<(), Fail> {
-    let rules = parsed(alloc, definition)?;
-    assert!(rt; rules.err().is_none());
-    assert_checked(rt, &rules);
-    let answer = expanded(alloc, &rules, argument, MacroCallStyle::FnLike)?;
-    assert_answer(rt, alloc, &answer, whole(argument), want)?;
-    Ok(())
+) -> Result<Expansion<Global>, Fail> {
+    if rules.err().is_some() {
+        return Err(Fail::from("the definition has a fault"));
+    }
+    let style = MacroCallStyle::FnLike;
+    Ok(expanded(alloc, grammar, rules, argument, style)?)
 }
 
-/// The definition makes these tokens of the argument by the rule of that index. The definition is file 0, the argument
-/// file 1.
-pub fn assert_expands(
-    rt: &impl Abort,
-    alloc: Global,
-    (definition, argument): (&str, &str),
-    want: (u32, &[Token<'_>]),
-) -> Result<(), Fail> {
-    let definition = lexed(alloc, 0, definition)?;
-    let argument = lexed(alloc, 1, argument)?;
-    assert_trees_expand(rt, alloc, &definition, &argument, want)
-}
-
-/// The expansion is that of a call for which there is no rule of its style.
-pub fn assert_no_rule(
-    rt: &impl Abort,
-    alloc: Global,
-    answer: &Expansion<Global>,
+/// Whether that is the expansion of a call from there.
+pub fn is_made<A: Allocator + Copy>(
+    alloc: A,
+    expansion: &Expansion<A>,
     call_site: Span,
-) -> Result<(), Fail> {
-    let (tree, index) = &answer.value;
+    want: Want,
+) -> Result<bool, AllocError> {
+    let (tree, index) = &expansion.value;
+    match want {
+        None => Ok(expansion.err.is_some() && *index == Some(0)),
+        Some((arm, tokens)) => {
+            let want = built(alloc, call_site, tokens)?;
+            Ok(expansion.err.is_none() && *index == Some(arm) && *tree == want)
+        }
+    }
+}
+
+/// Whether the macro makes that of the argument by a grammar.
+pub fn makes<G: FragmentGrammar>(
+    alloc: Global,
+    grammar: &G,
+    rules: &DeclarativeMacro,
+    argument: &TopSubtree,
+    want: Want,
+) -> Result<bool, Fail> {
+    let expansion = made(alloc, grammar, rules, argument)?;
+    Ok(is_made(alloc, &expansion, whole(argument), want)?)
+}
+
+/// Whether a definition makes that of an argument, which is file 1.
+pub fn makes_of_texts<G: FragmentGrammar>(
+    alloc: Global,
+    grammar: &G,
+    (definition, argument): (&str, &str),
+    want: Want,
+) -> Result<bool, Fail> {
+    let rules = defined(alloc, definition)?;
+    let argument = lexed(alloc, 1, argument)?;
+    makes(alloc, grammar, &rules, &argument, want)
+}
+
+/// The first row of which something else is made by the grammar.
+pub fn first_wrong<G: FragmentGrammar>(
+    alloc: Global,
+    grammar: &G,
+    rows: &[Row],
+) -> Result<Option<(&'static str, &'static str)>, Fail> {
+    for &(definition, argument, want) in rows {
+        if !makes_of_texts(alloc, grammar, (definition, argument), want)? {
+            return Ok(Some((definition, argument)));
+        }
+    }
+    Ok(None)
+}
+
+fn makes_of_trees<G: FragmentGrammar>(
+    alloc: Global,
+    grammar: &G,
+    &(definition, argument, want): &TreesRow,
+) -> Result<bool, Fail> {
+    let rules = parsed(alloc, &definition.read(alloc, 0)?)?;
+    let argument = argument.read(alloc, 1)?;
+    makes(alloc, grammar, &rules, &argument, want)
+}
+
+/// The number of the first row of trees of which something else is made by the grammar.
+pub fn first_wrong_trees<G: FragmentGrammar>(
+    alloc: Global,
+    grammar: &G,
+    rows: &[TreesRow],
+) -> Result<Option<usize>, Fail> {
+    for (number, row) in rows.iter().enumerate() {
+        if !makes_of_trees(alloc, grammar, row)? {
+            return Ok(Some(number));
+        }
+    }
+    Ok(None)
+}
+
+/// Whether the expansion is that of a call from there for which there is no rule of its style.
+pub fn is_without_rule(
+    alloc: Global,
+    expansion: &Expansion<Global>,
+    call_site: Span,
+) -> Result<bool, AllocError> {
+    let (tree, index) = &expansion.value;
     let error = ExpandError {
         inner: Rc::new(alloc, (call_site, ExpandErrorKind::NoMatchingRule))?,
     };
-    assert!(rt; answer.err == Some(error));
-    assert_eq!(rt; *index, None);
     let empty = TopSubtree::empty(alloc, DelimSpan::from_single(call_site))?;
-    assert_eq!(rt; *tree, empty);
-    Ok(())
+    Ok(expansion.err == Some(error) && index.is_none() && *tree == empty)
 }
 
-/// The rule of that index, which is the closest one, doesn't apply: an error is beside what it recovers.
-pub fn assert_unfit(rt: &impl Abort, answer: &Expansion<Global>, arm: u32) {
-    let (_tree, index) = &answer.value;
-    assert!(rt; answer.err.is_some());
-    assert_eq!(rt; *index, Some(arm));
-}
+/// The rule of an index doesn't apply: what is recovered, and the text of the error beside it with its bytes of the argument.
+pub type Recovered = (u32, &'static [Token<'static>], (&'static str, u32, u32));
 
-/// The rule of that index doesn't apply, and these tokens are recovered beside an error of that text and span.
-pub fn assert_recovered(
-    rt: &impl Abort,
+/// Whether that is recovered by an expansion from there.
+pub fn is_recovered(
     alloc: Global,
-    answer: &Expansion<Global>,
+    expansion: &Expansion<Global>,
     call_site: Span,
-    (arm, want): (u32, &[Token<'_>]),
-    (text, span): (&str, Span),
-) -> Result<(), Fail> {
-    assert_unfit(rt, answer, arm);
-    assert_eq!(rt; answer.value.0, built(alloc, call_site, want)?);
-    let Some(error) = &answer.err else {
-        return Err(Fail::from("no error"));
+    (arm, tokens, (text, start, end)): Recovered,
+) -> Result<bool, AllocError> {
+    let (tree, index) = &expansion.value;
+    let Some(error) = &expansion.err else {
+        return Ok(false);
     };
     let shown = format!(in alloc; "{error}")?;
-    assert_eq!(rt; shown.as_str(), text);
-    assert_eq!(rt; error.inner.0, span);
-    Ok(())
-}
-
-/// The one rule of the definition, all of which is read, doesn't apply to the argument.
-pub fn assert_trees_refused(
-    rt: &impl Abort,
-    alloc: Global,
-    definition: &TopSubtree,
-    argument: &TopSubtree,
-) -> Result<(), Fail> {
-    let rules = parsed(alloc, definition)?;
-    assert!(rt; rules.err().is_none());
-    assert_checked(rt, &rules);
-    let answer = expanded(alloc, &rules, argument, MacroCallStyle::FnLike)?;
-    assert_unfit(rt, &answer, 0);
-    Ok(())
-}
-
-/// The one rule of the definition, all of which is read, doesn't apply to the argument.
-pub fn assert_refused(
-    rt: &impl Abort,
-    alloc: Global,
-    (definition, argument): (&str, &str),
-) -> Result<(), Fail> {
-    let definition = lexed(alloc, 0, definition)?;
-    let argument = lexed(alloc, 1, argument)?;
-    assert_trees_refused(rt, alloc, &definition, &argument)
-}
-
-/// As `assert_refused`, of each pair of a definition and an argument.
-pub fn assert_pairs_refused(
-    rt: &impl Abort,
-    alloc: Global,
-    pairs: &[(&str, &str)],
-) -> Result<(), Fail> {
-    for &pair in pairs {
-        assert_refused(rt, alloc, pair)?;
-    }
-    Ok(())
-}
-
-/// As `assert_refused`, of each argument.
-pub fn assert_each_refused(
-    rt: &impl Abort,
-    alloc: Global,
-    definition: &str,
-    arguments: &[&str],
-) -> Result<(), Fail> {
-    for &argument in arguments {
-        assert_refused(rt, alloc, (definition, argument))?;
-    }
-    Ok(())
+    let is_shown = shown.as_str() == text && error.inner.0 == at(1, start, end);
+    let want = built(alloc, call_site, tokens)?;
+    Ok(is_shown && *index == Some(arm) && *tree == want)
 }

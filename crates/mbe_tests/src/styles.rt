@@ -1,75 +1,53 @@
 // Styles of rules, and sets of styles.
-ghost use Rattle.mbe.specs.Macro.{IsChecked};
-ghost use Rattle.mbe.specs.MacroViews.{macro_of};
-
-use crate::definitions::{EQUALS, PARENTHESES, Row, SUBTREE, Told, assert_read, assert_rows_told};
+use crate::definitions::{EQUALS, PARENTHESES, Row, SUBTREE, Told, first_misread, is_read};
+use crate::grammar::NOTHING;
 use crate::runs::{
-    Expansion, assert_answer, assert_checked, assert_no_rule, expanded, parsed, whole,
+    Want, assert_checked, defined, expanded, is_made, is_without_rule, parsed, whole,
 };
-use crate::tokens::{Token, alone, at, close, joint, open, raw, word};
+use crate::tokens::Lexeme::{Alone, Close, Joint, Open, Raw, Word};
+use crate::tokens::{Token, at};
 use crate::trees::{built, lexed};
 use bitflags::Flags;
 use mbe::{DeclarativeMacro, MacroCallStyle, MacroCallStyles, ParseError};
 use mbe_tt::tt::DelimiterKind::{Brace, Parenthesis};
-use std::alloc::Global;
-use std::process::Abort;
 use std::test::Fail;
 
 // A rule for attributes, and then one for calls like functions.
 const TWO_STYLES: &str = "attr() () => {A}; () => {B}";
 
-fn expanded_as(
-    rt: &impl Abort,
-    alloc: Global,
-    definition: &str,
-    style: MacroCallStyle,
-) -> Result<Expansion<Global>, Fail> {
-    let definition = lexed(alloc, 0, definition)?;
-    let argument = lexed(alloc, 1, "")?;
-    let rules = parsed(alloc, &definition)?;
-    assert!(rt; rules.err().is_none());
-    assert_checked(rt, &rules);
-    Ok(expanded(alloc, &rules, &argument, style)?)
-}
-
 const THREE_RULES: &str = "() => {A}; unsafe derive[x] () => {B}; derive() () => {C}";
 
-// The call, the index of its rule, and the word that the rule writes, with its place.
-static CALLS: [(&str, MacroCallStyle, (u32, &str, u32)); 3] = [
-    (TWO_STYLES, MacroCallStyle::FnLike, (1, "B", 25)),
-    (TWO_STYLES, MacroCallStyle::Attr, (0, "A", 14)),
-    (THREE_RULES, MacroCallStyle::Derive, (1, "B", 35)),
+// A definition, the style of the call, and what is made of an empty argument.
+static CALLS: [(&str, MacroCallStyle, Want); 3] = [
+    (
+        TWO_STYLES,
+        MacroCallStyle::FnLike,
+        Some((1, &[(Word("B"), 0, 25, 26)])),
+    ),
+    (
+        TWO_STYLES,
+        MacroCallStyle::Attr,
+        Some((0, &[(Word("A"), 0, 14, 15)])),
+    ),
+    (
+        THREE_RULES,
+        MacroCallStyle::Derive,
+        Some((1, &[(Word("B"), 0, 35, 36)])),
+    ),
 ];
-
-fn assert_call(
-    rt: &impl Abort,
-    alloc: Global,
-    (definition, style): (&str, MacroCallStyle),
-    (arm, text, start): (u32, &str, u32),
-) -> Result<(), Fail> {
-    let answer = expanded_as(rt, alloc, definition, style)?;
-    assert_answer(
-        rt,
-        alloc,
-        &answer,
-        at(1, 0, 0),
-        (arm, &[word(text, 0, start)]),
-    )?;
-    Ok(())
-}
 
 #[test]
 fn rules_of_another_style_are_passed_over(rt: HostRuntime) -> Result<(), Fail> {
+    let argument = lexed(rt.alloc(), 1, "")?;
     for &(definition, style, want) in &CALLS {
-        assert_call(&rt, rt.alloc(), (definition, style), want)?;
+        let rules = defined(rt.alloc(), definition)?;
+        assert!(rt; rules.err().is_none());
+        assert_checked(&rt, &rules);
+        let expansion = expanded(rt.alloc(), &NOTHING, &rules, &argument, style)?;
+        let is_so = is_made(rt.alloc(), &expansion, whole(&argument), want)?;
+        assert!(rt; is_so, "{definition}");
     }
     Ok(())
-}
-
-#[test]
-fn a_call_of_another_style_has_no_rule(rt: HostRuntime) -> Result<(), Fail> {
-    let answer = expanded_as(&rt, rt.alloc(), TWO_STYLES, MacroCallStyle::Derive)?;
-    assert_no_rule(&rt, rt.alloc(), &answer, at(1, 0, 0))
 }
 
 static BITS: [(&str, u8); 13] = [
@@ -91,8 +69,7 @@ static BITS: [(&str, u8); 13] = [
 #[test]
 fn styles_of_a_definition_are_those_of_its_rules(rt: HostRuntime) -> Result<(), Fail> {
     for &(definition, bits) in &BITS {
-        let tree = lexed(rt.alloc(), 0, definition)?;
-        let styles = parsed(rt.alloc(), &tree)?.rule_styles();
+        let styles = defined(rt.alloc(), definition)?.rule_styles();
         assert_eq!(rt; styles.bits(), bits, "{definition}");
     }
     Ok(())
@@ -116,73 +93,65 @@ static GROUPS: [Row; 13] = [
 
 #[test]
 fn a_style_has_a_group(rt: HostRuntime) -> Result<(), Fail> {
-    assert_rows_told(&rt, rt.alloc(), &GROUPS)
+    assert_eq!(rt; first_misread(rt.alloc(), &GROUPS)?, None);
+    Ok(())
 }
 
 // `r#unsafe r#attr() () => {}`, with any spans.
-fn raw_words() -> [Token<'static>; 10] {
-    [
-        raw("unsafe", 0, 0),
-        raw("attr", 0, 9),
-        open(Parenthesis, 0, 15),
-        close(0, 16),
-        open(Parenthesis, 0, 18),
-        close(0, 19),
-        joint('=', 0, 21),
-        alone('>', 0, 22),
-        open(Brace, 0, 24),
-        close(0, 25),
-    ]
-}
+static RAW_WORDS: [Token<'static>; 10] = [
+    (Raw("unsafe"), 0, 0, 8),
+    (Raw("attr"), 0, 9, 15),
+    (Open(Parenthesis), 0, 15, 16),
+    (Close, 0, 16, 17),
+    (Open(Parenthesis), 0, 18, 19),
+    (Close, 0, 19, 20),
+    (Joint('='), 0, 21, 22),
+    (Alone('>'), 0, 22, 23),
+    (Open(Brace), 0, 24, 25),
+    (Close, 0, 25, 26),
+];
 
 #[test]
 fn raw_words_count_as_well(rt: HostRuntime) -> Result<(), Fail> {
-    let tree = built(rt.alloc(), at(0, 0, 26), &raw_words())?;
+    let tree = built(rt.alloc(), at(0, 0, 26), &RAW_WORDS)?;
     let rules = parsed(rt.alloc(), &tree)?;
-    assert!(rt; rules.err().is_none());
-    assert_eq!(rt; rules.rule_styles(), MacroCallStyles::ATTR);
+    assert!(rt; rules.err().is_none() && rules.rule_styles() == MacroCallStyles::ATTR);
     Ok(())
 }
 
+// A call of the macro of an error has no rule.
 #[test]
 fn macro_of_an_error(rt: HostRuntime) -> Result<(), Fail> {
     let rules = DeclarativeMacro::from_err(rt.alloc(), ParseError::InvalidRepeat);
-    assert_read(
-        &rt,
+    let want = (0, Told::InvalidRepeat);
+    assert!(rt; is_read(rt.alloc(), &rules, want)?);
+    assert!(rt; rules.rule_styles() == MacroCallStyles::FN_LIKE);
+    let argument = lexed(rt.alloc(), 1, "a")?;
+    let expansion = expanded(
         rt.alloc(),
+        &NOTHING,
         &rules,
-        "an error",
-        (0, Told::InvalidRepeat),
+        &argument,
+        MacroCallStyle::FnLike,
     )?;
-    assert_eq!(rt; rules.rule_styles(), MacroCallStyles::FN_LIKE);
+    assert!(rt; is_without_rule(rt.alloc(), &expansion, whole(&argument))?);
     Ok(())
 }
 
-// No rule answers a call with that argument.
-fn assert_no_call(
-    rt: &impl Abort,
-    alloc: Global,
-    rules: &DeclarativeMacro,
-    argument: &str,
-    style: MacroCallStyle,
-) -> Result<(), Fail>
-    requires { IsChecked (macro_of rules.now) }
-{
-    let argument = lexed(alloc, 1, argument)?;
-    let answer = expanded(alloc, rules, &argument, style)?;
-    assert_no_rule(rt, alloc, &answer, whole(&argument))
-}
-
-#[test]
-fn macro_of_an_error_has_no_rule(rt: HostRuntime) -> Result<(), Fail> {
-    let rules = DeclarativeMacro::from_err(rt.alloc(), ParseError::InvalidRepeat);
-    assert_no_call(&rt, rt.alloc(), &rules, "a", MacroCallStyle::FnLike)
-}
-
+// It has no rules, so that it can be called.
 #[test]
 fn macro_of_a_refusal_has_no_rule(rt: HostRuntime) -> Result<(), Fail> {
     let rules = DeclarativeMacro::from_err(rt.alloc(), ParseError::RepetitionEmptyTokenTree);
-    assert_no_call(&rt, rt.alloc(), &rules, "", MacroCallStyle::Attr)
+    let argument = lexed(rt.alloc(), 1, "")?;
+    let expansion = expanded(
+        rt.alloc(),
+        &NOTHING,
+        &rules,
+        &argument,
+        MacroCallStyle::Attr,
+    )?;
+    assert!(rt; is_without_rule(rt.alloc(), &expansion, whole(&argument))?);
+    Ok(())
 }
 
 // The set of these bits, whether they are a style's or not.
@@ -218,89 +187,96 @@ fn sets_of_styles_are_their_bits(rt: HostRuntime) -> Result<(), Fail> {
     Ok(())
 }
 
-static LOW_BITS: [(u8, u8); 6] = [(0, 0), (5, 5), (8, 0), (13, 5), (248, 0), (255, 7)];
-
-#[test]
-fn bits_of_no_style_are_cut(rt: HostRuntime) -> Result<(), Fail> {
-    for &(bits, low) in &LOW_BITS {
-        assert_eq!(rt;
-            MacroCallStyles::from_bits_truncate(bits).bits(),
-            low,
-            "{bits}"
-        );
-    }
-    Ok(())
+// What is asked of two sets by their bits; of the first alone where only it matters.
+#[derive(Clone, Copy)]
+enum Asked {
+    Truncated,
+    IsEmpty,
+    IsAll,
+    Contains,
+    Intersects,
+    Union,
+    Intersection,
+    Difference,
+    SymmetricDifference,
+    Complement,
 }
 
-static SIZES: [(u8, bool, bool); 6] = [
-    (0, true, false),
-    (1, false, false),
-    (6, false, false),
-    (7, false, true),
-    (8, false, false),
-    (135, false, true),
+// The bits of a set that is returned; 1 for true.
+fn answer(asked: Asked, one: u8, two: u8) -> u8 {
+    let (first, second) = (set(one), set(two));
+    match asked {
+        Asked::Truncated => MacroCallStyles::from_bits_truncate(one).bits(),
+        Asked::IsEmpty => u8::from(first.is_empty()),
+        Asked::IsAll => u8::from(first.is_all()),
+        Asked::Contains => u8::from(first.contains(second)),
+        Asked::Intersects => u8::from(first.intersects(second)),
+        Asked::Union => first.union(second).bits(),
+        Asked::Intersection => first.intersection(second).bits(),
+        Asked::Difference => first.difference(second).bits(),
+        Asked::SymmetricDifference => first.symmetric_difference(second).bits(),
+        Asked::Complement => first.complement().bits(),
+    }
+}
+
+static ANSWERS: [(Asked, u8, u8, u8); 51] = [
+    (Asked::Truncated, 0, 0, 0),
+    (Asked::Truncated, 5, 0, 5),
+    (Asked::Truncated, 8, 0, 0),
+    (Asked::Truncated, 13, 0, 5),
+    (Asked::Truncated, 248, 0, 0),
+    (Asked::Truncated, 255, 0, 7),
+    (Asked::IsEmpty, 0, 0, 1),
+    (Asked::IsEmpty, 1, 0, 0),
+    (Asked::IsEmpty, 6, 0, 0),
+    (Asked::IsEmpty, 7, 0, 0),
+    (Asked::IsEmpty, 8, 0, 0),
+    (Asked::IsEmpty, 135, 0, 0),
+    (Asked::IsAll, 0, 0, 0),
+    (Asked::IsAll, 1, 0, 0),
+    (Asked::IsAll, 6, 0, 0),
+    (Asked::IsAll, 7, 0, 1),
+    (Asked::IsAll, 8, 0, 0),
+    (Asked::IsAll, 135, 0, 1),
+    (Asked::Contains, 3, 1, 1),
+    (Asked::Contains, 3, 6, 0),
+    (Asked::Contains, 3, 4, 0),
+    (Asked::Contains, 3, 0, 1),
+    (Asked::Contains, 0, 3, 0),
+    (Asked::Contains, 9, 8, 1),
+    (Asked::Intersects, 3, 1, 1),
+    (Asked::Intersects, 3, 6, 1),
+    (Asked::Intersects, 3, 4, 0),
+    (Asked::Intersects, 3, 0, 0),
+    (Asked::Intersects, 0, 3, 0),
+    (Asked::Intersects, 9, 8, 1),
+    (Asked::Union, 3, 6, 7),
+    (Asked::Union, 1, 4, 5),
+    (Asked::Union, 7, 7, 7),
+    (Asked::Union, 12, 4, 12),
+    (Asked::Intersection, 3, 6, 2),
+    (Asked::Intersection, 1, 4, 0),
+    (Asked::Intersection, 7, 7, 7),
+    (Asked::Intersection, 12, 4, 4),
+    (Asked::Difference, 3, 6, 1),
+    (Asked::Difference, 1, 4, 1),
+    (Asked::Difference, 7, 7, 0),
+    (Asked::Difference, 12, 4, 8),
+    (Asked::SymmetricDifference, 3, 6, 5),
+    (Asked::SymmetricDifference, 1, 4, 5),
+    (Asked::SymmetricDifference, 7, 7, 0),
+    (Asked::SymmetricDifference, 12, 4, 8),
+    (Asked::Complement, 0, 0, 7),
+    (Asked::Complement, 1, 0, 6),
+    (Asked::Complement, 7, 0, 0),
+    (Asked::Complement, 248, 0, 7),
+    (Asked::Complement, 255, 0, 0),
 ];
 
 #[test]
 fn questions_to_sets_of_styles(rt: HostRuntime) -> Result<(), Fail> {
-    for &(bits, is_empty, is_all) in &SIZES {
-        assert_eq!(rt; set(bits).is_empty(), is_empty, "{bits}");
-        assert_eq!(rt; set(bits).is_all(), is_all, "{bits}");
-    }
-    Ok(())
-}
-
-static SHARED: [(u8, u8, bool, bool); 6] = [
-    (3, 1, true, true),
-    (3, 6, false, true),
-    (3, 4, false, false),
-    (3, 0, true, false),
-    (0, 3, false, false),
-    (9, 8, true, true),
-];
-
-#[test]
-fn what_two_sets_of_styles_share(rt: HostRuntime) -> Result<(), Fail> {
-    for &(one, other, contains, intersects) in &SHARED {
-        assert_eq!(rt; set(one).contains(set(other)), contains, "{one} {other}");
-        assert_eq!(rt;
-            set(one).intersects(set(other)),
-            intersects,
-            "{one} {other}"
-        );
-    }
-    Ok(())
-}
-
-// Two sets, and their union, intersection, difference and symmetric difference.
-static TOGETHER: [(u8, u8, [u8; 4]); 4] = [
-    (3, 6, [7, 2, 1, 5]),
-    (1, 4, [5, 0, 1, 5]),
-    (7, 7, [7, 7, 0, 0]),
-    (12, 4, [12, 4, 8, 8]),
-];
-
-#[test]
-fn sets_of_styles_together(rt: HostRuntime) -> Result<(), Fail> {
-    for &(one, other, want) in &TOGETHER {
-        let (one, other) = (set(one), set(other));
-        let found = [
-            one.union(other).bits(),
-            one.intersection(other).bits(),
-            one.difference(other).bits(),
-            one.symmetric_difference(other).bits(),
-        ];
-        assert_eq!(rt; found, want);
-    }
-    Ok(())
-}
-
-static COMPLEMENTS: [(u8, u8); 5] = [(0, 7), (1, 6), (7, 0), (248, 7), (255, 0)];
-
-#[test]
-fn complements_of_sets_of_styles(rt: HostRuntime) -> Result<(), Fail> {
-    for &(bits, others) in &COMPLEMENTS {
-        assert_eq!(rt; set(bits).complement(), set(others), "{bits}");
+    for (row, &(asked, one, two, want)) in ANSWERS.iter().enumerate() {
+        assert_eq!(rt; answer(asked, one, two), want, "row {row}");
     }
     Ok(())
 }

@@ -1,33 +1,34 @@
 // Builds the trees of the tests, of tokens or of a text.
 ghost use Rattle.std.specs.Prelude.{◌<◌, length};
 
-use crate::tokens::{Lexeme, Token};
+use crate::tokens::{Lexeme, Token, at};
 use mbe_text::lexer::{LexError, lex};
 use mbe_text::scanner;
 use mbe_text::scanner::{Scanner, file_span};
-use mbe_tt::span::Span;
+use mbe_tt::span::{Span, SyntaxContext};
 use mbe_tt::symbol::Symbol;
 use mbe_tt::tt::{
     Delimiter, Ident, IdentIsRaw, Leaf, LitKind, Literal, Punct, Spacing, TopSubtree,
     TopSubtreeBuilder,
 };
-use std::alloc::{AllocError, Allocator};
+use std::alloc::{AllocError, Allocator, Global};
 
 // Adds the token at the end of the innermost open group. A closing without an opening is left out.
 fn add<A: Allocator + Copy>(
     builder: &mut TopSubtreeBuilder<A>,
     alloc: A,
-    token: Token<'_>,
+    lexeme: Lexeme<'_>,
+    span: Span,
 ) -> Result<(), AllocError> {
-    match token.lexeme {
-        Lexeme::Open(kind) => builder.open(kind, token.span),
+    match lexeme {
+        Lexeme::Open(kind) => builder.open(kind, span),
         Lexeme::Close => {
             if builder.open_kind().is_some() {
-                builder.close(token.span);
+                builder.close(span);
             }
             Ok(())
         }
-        lexeme => match leaf(alloc, lexeme, token.span)? {
+        lexeme => match leaf(alloc, lexeme, span)? {
             Some(leaf) => builder.push(leaf),
             None => Ok(()),
         },
@@ -55,12 +56,17 @@ fn leaf<A: Allocator + Copy>(
         Lexeme::Suffixed(text, len) => Some(literal(alloc, (text, len), LitKind::Integer, span)?),
         Lexeme::Float(text) => Some(literal(alloc, (text, 0), LitKind::Float, span)?),
         Lexeme::Text(text) => Some(literal(alloc, (text, 0), LitKind::Str, span)?),
-        Lexeme::Punct(char, spacing) => Some(Leaf::Punct(Punct {
-            char,
-            spacing,
-            span,
-        })),
+        Lexeme::Alone(char) => Some(punct(char, Spacing::Alone, span)),
+        Lexeme::Joint(char) => Some(punct(char, Spacing::Joint, span)),
         Lexeme::Open(_) | Lexeme::Close => None,
+    })
+}
+
+fn punct<A: Allocator>(char: char, spacing: Spacing, span: Span) -> Leaf<A> {
+    Leaf::Punct(Punct {
+        char,
+        spacing,
+        span,
     })
 }
 
@@ -98,31 +104,48 @@ pub fn built<A: Allocator + Copy>(
     tokens: &[Token<'_>],
 ) -> Result<TopSubtree<A>, AllocError> {
     let mut builder = TopSubtreeBuilder::new(alloc, Delimiter::invisible_spanned(whole))?;
-    for token in tokens {
-        add(&mut builder, alloc, *token)?;
+    for &(lexeme, file, start, end) in tokens {
+        add(&mut builder, alloc, lexeme, at(file, start, end))?;
     }
     Ok(finish(builder, whole))
 }
 
-// The token of a scanned text. A `~` stands for a `'` that is a joint punct by itself.
-fn scanned<'t>(text: &'t str, token: scanner::Token<'t>) -> Token<'t> {
-    let span = token.span;
-    let behind = text.get(span.end as usize..).unwrap_or("");
-    let lexeme = match token.lexeme {
+/// The same, where each token has the context of that number.
+pub fn built_in_contexts(
+    alloc: Global,
+    whole: Span,
+    tokens: &[(Token<'_>, u32)],
+) -> Result<TopSubtree, AllocError> {
+    let mut builder = TopSubtreeBuilder::new(alloc, Delimiter::invisible_spanned(whole))?;
+    for &((lexeme, file, start, end), number) in tokens {
+        let ctx = SyntaxContext(number);
+        let span = Span {
+            ctx,
+            ..at(file, start, end)
+        };
+        add(&mut builder, alloc, lexeme, span)?;
+    }
+    Ok(finish(builder, whole))
+}
+
+// What the token of a scanned text is. A `~` stands for a `'` that is a joint punct by itself.
+fn scanned<'t>(text: &'t str, token: scanner::Token<'t>) -> Lexeme<'t> {
+    let after = text.get(token.span.end as usize..).unwrap_or("");
+    match token.lexeme {
         scanner::Lexeme::Ident { name, is_raw } => match is_raw {
             IdentIsRaw::No => Lexeme::Word(name),
             IdentIsRaw::Yes => Lexeme::Raw(name),
         },
         scanner::Lexeme::Literal { text, .. } => Lexeme::Number(text),
-        scanner::Lexeme::Punct { char: '~', .. } => Lexeme::Punct('\'', Spacing::Joint),
-        scanner::Lexeme::Punct { char, .. } if behind.starts_with('~') => {
-            Lexeme::Punct(char, Spacing::Alone)
-        }
-        scanner::Lexeme::Punct { char, spacing } => Lexeme::Punct(char, spacing),
+        scanner::Lexeme::Punct { char: '~', .. } => Lexeme::Joint('\''),
+        scanner::Lexeme::Punct { char, .. } if after.starts_with('~') => Lexeme::Alone(char),
+        scanner::Lexeme::Punct { char, spacing } => match spacing {
+            Spacing::Alone => Lexeme::Alone(char),
+            Spacing::Joint => Lexeme::Joint(char),
+        },
         scanner::Lexeme::Open(kind) => Lexeme::Open(kind),
         scanner::Lexeme::Close(_) => Lexeme::Close,
-    };
-    Token { lexeme, span }
+    }
 }
 
 // The token trees of a text with a `'` that no name follows, which `lex` refuses: the scanner reads a `~` there. A text at
@@ -142,7 +165,10 @@ fn with_quotes<A: Allocator + Copy>(
     let mut scanner = Scanner::new(marked.as_str(), file);
     'tokens: loop {
         match scanner.token() {
-            Ok(Some(token)) => add(&mut builder, alloc, scanned(marked.as_str(), token))?,
+            Ok(Some(token)) => {
+                let lexeme = scanned(marked.as_str(), token);
+                add(&mut builder, alloc, lexeme, token.span)?;
+            }
             Ok(None) => return Ok(finish(builder, file_span(file, end, end))),
             Err(_fault) => return Err(AllocError),
         }
@@ -162,5 +188,21 @@ pub fn lexed<A: Allocator + Copy>(
         Ok(tree) => Ok(tree),
         Err(LexError::OutOfMemory) => Err(AllocError),
         Err(LexError::Fault(_)) => with_quotes(alloc, file, text),
+    }
+}
+
+/// Trees of a table: those of a text, or these tokens up to that byte, where no text gives them.
+#[derive(Clone, Copy)]
+pub enum Trees {
+    Of(&'static str),
+    Tokens(u32, &'static [Token<'static>]),
+}
+
+impl Trees {
+    pub fn read(self, alloc: Global, file: u32) -> Result<TopSubtree, AllocError> {
+        match self {
+            Trees::Of(text) => lexed(alloc, file, text),
+            Trees::Tokens(end, tokens) => built(alloc, at(file, 0, end), tokens),
+        }
     }
 }

@@ -129,8 +129,8 @@ fn unwrapped(alloc: Global, parts: &[Piece]) -> Result<TopSubtree, AllocError> {
 fn a_last_invisible_group_is_unwrapped(rt: HostRuntime) -> Result<(), Fail> {
     for (row, (parts, tokens, trees)) in LAST.iter().enumerate() {
         let tree = unwrapped(rt.alloc(), parts)?;
-        assert!(rt; tree.view().flat_len() == *tokens, "row {row}");
-        assert!(rt; tree.iter().remaining().len() == *trees, "row {row}");
+        let found = (tree.view().flat_len(), tree.iter().remaining().len());
+        assert!(rt; found == (*tokens, *trees), "row {row}");
     }
     Ok(())
 }

@@ -29,16 +29,22 @@ fn crossed(cursor: &Cursor<'_>) -> (usize, usize) {
     (crossed.len(), crossed.flat_len())
 }
 
+// The first place at which the cursor over the trees isn't as its row says.
+fn first_wrong(view: TokenTreesView<'_>) -> Option<usize> {
+    let mut cursor = view.cursor();
+    for (place, &(root, next, passed)) in PLACES.iter().enumerate() {
+        if cursor.is_root() != root || next_text(&cursor) != next || crossed(&cursor) != passed {
+            return Some(place);
+        }
+        cursor.bump_or_end();
+    }
+    None
+}
+
 #[test]
 fn a_cursor_goes_over_flat_tokens(rt: HostRuntime) -> Result<(), Fail> {
     let tree = sample(rt.alloc())?;
-    let mut cursor = tree.iter().remaining().cursor();
-    for (place, (root, next, passed)) in PLACES.iter().enumerate() {
-        assert!(rt; cursor.is_root() == *root, "at {place}");
-        assert!(rt; next_text(&cursor) == *next, "at {place}");
-        assert!(rt; crossed(&cursor) == *passed, "at {place}");
-        cursor.bump_or_end();
-    }
+    assert_eq!(rt; first_wrong(tree.iter().remaining()), None);
     Ok(())
 }
 
@@ -56,10 +62,13 @@ static MOVES: [(usize, bool, usize); 7] = [
 #[test]
 fn an_iterator_goes_to_a_cursor(rt: HostRuntime) -> Result<(), Fail> {
     let tree = sample(rt.alloc())?;
-    for (count, moves, left) in &MOVES {
+    for &(count, moves, left) in &MOVES {
         let mut iter = tree.iter();
-        assert!(rt; pass_flat(&mut iter, *count) == *moves, "{count}");
-        assert!(rt; iter.remaining().len() == *left, "{count}");
+        let has_moved = pass_flat(&mut iter, count);
+        assert!(rt;
+            has_moved == moves && iter.remaining().len() == left,
+            "{count}"
+        );
     }
     Ok(())
 }

@@ -2,7 +2,7 @@ use super::views::sample;
 use crate::writing::{delimiter, ident, write_parts};
 use mbe_tt::tt::{DelimiterKind, Leaf, TokenTreesView, TopSubtree, TopSubtreeBuilder};
 use refusing::Refusing;
-use std::alloc::{AllocError, Allocator};
+use std::alloc::{AllocError, Allocator, Global};
 use std::test::Fail;
 
 // Four parts have 1, 3, 6 and 6 flat tokens.
@@ -19,35 +19,53 @@ fn held<A: Allocator + Copy>(
     Ok((builder.build(), count))
 }
 
-// The request of each number is refused in turn. What the builder holds then is what one without a refusal holds after as
-// many parts.
+// That a request was refused, or nothing.
+fn refused(alloc: &Refusing<Global>) -> Option<bool> {
+    if alloc.has_refused() {
+        Some(true)
+    } else {
+        None
+    }
+}
+
+// Whether the request of that number was refused. What a builder holds then is what one without a refusal holds after as many
+// parts; nothing where that isn't so.
+fn is_refused(alloc: Global, number: u64) -> Result<Option<bool>, AllocError> {
+    let alloc = Refusing::new(alloc, number);
+    let Ok(source) = sample(&alloc) else {
+        return Ok(refused(&alloc));
+    };
+    let view = source.iter().remaining();
+    let Ok((built, count)) = held(&alloc, view, PARTS) else {
+        return Ok(refused(&alloc));
+    };
+    if !alloc.has_refused() {
+        let is_whole = count == PARTS && built.view().flat_len() == 114;
+        return Ok(if is_whole { Some(false) } else { None });
+    }
+    // The allocator refuses nothing more.
+    let (other, again) = held(&alloc, view, count)?;
+    let is_so = count < PARTS && again == count && built == other;
+    Ok(if is_so { Some(true) } else { None })
+}
+
+// How many requests are refused in turn, until none is.
+fn refusals(alloc: Global) -> Result<Option<u64>, AllocError> {
+    for number in 1..1000u64 {
+        match is_refused(alloc, number)? {
+            Some(true) => {}
+            Some(false) => return Ok(Some(number - 1)),
+            None => return Ok(None),
+        }
+    }
+    Ok(None)
+}
+
+// Every identifier and literal, and each of the two buffers, is a request at least.
 #[test]
 fn a_builder_keeps_what_it_held(rt: HostRuntime) -> Result<(), Fail> {
-    for number in 1..1000u64 {
-        let alloc = Refusing::new(rt.alloc(), number);
-        let Ok(source) = sample(&alloc) else {
-            assert!(rt; alloc.has_refused(), "at {number}");
-            continue;
-        };
-        let view = source.iter().remaining();
-        let Ok((built, count)) = held(&alloc, view, PARTS) else {
-            assert!(rt; alloc.has_refused(), "at {number}");
-            continue;
-        };
-        if !alloc.has_refused() {
-            assert!(rt; count == PARTS);
-            assert!(rt; built.view().flat_len() == 114);
-            // Every identifier and literal, and each of the two buffers, is a request at least.
-            assert!(rt; number > 19, "only {number} requests");
-            return Ok(());
-        }
-        assert!(rt; count < PARTS, "at {number}");
-        // The allocator refuses nothing more.
-        let (other, again) = held(&alloc, view, count)?;
-        assert!(rt; again == count, "at {number}");
-        assert!(rt; built == other, "at {number}");
-    }
-    Err(Fail::from("it goes on"))
+    assert!(rt; refusals(rt.alloc())?.unwrap_or(0) > 18);
+    Ok(())
 }
 
 #[test]

@@ -18,9 +18,9 @@ static EDITIONS: [(Edition, bool, bool); 4] = [
 
 #[test]
 fn editions_are_in_order(rt: HostRuntime) {
-    for (edition, from_2021, from_2024) in &EDITIONS {
-        assert!(rt; edition.at_least_2021() == *from_2021, "{edition:?}");
-        assert!(rt; edition.at_least_2024() == *from_2024, "{edition:?}");
+    for &(edition, from_2021, from_2024) in &EDITIONS {
+        let found = (edition.at_least_2021(), edition.at_least_2024());
+        assert!(rt; found == (from_2021, from_2024), "{edition:?}");
     }
 }
 
@@ -134,20 +134,25 @@ static LITERALS: [Row; 16] = [
     (LitKind::Integer, 3, "12", "12", "", "12"),
 ];
 
+fn is_written(
+    alloc: Global,
+    &(kind, suffix_len, all, text, suffix, written): &Row,
+) -> Result<bool, AllocError> {
+    let literal = Literal {
+        text_and_suffix: Symbol::intern(alloc, all)?,
+        suffix_len,
+        kind,
+        span: span(1),
+    };
+    let printed = format!(in alloc; "{literal}")?;
+    let is_cut = literal.text() == text && literal.text_and_suffix().1 == suffix;
+    Ok(is_cut && printed.as_str() == written)
+}
+
 #[test]
 fn literals_are_written_with_their_quotes(rt: HostRuntime) -> Result<(), Fail> {
-    let alloc = rt.alloc();
-    for (row, (kind, suffix_len, all, text, suffix, written)) in LITERALS.iter().enumerate() {
-        let literal = Literal {
-            text_and_suffix: Symbol::intern(alloc, all)?,
-            suffix_len: *suffix_len,
-            kind: *kind,
-            span: span(1),
-        };
-        assert!(rt; literal.text() == *text, "row {row}");
-        assert!(rt; literal.text_and_suffix().1 == *suffix, "row {row}");
-        let printed = format!(in alloc; "{literal}")?;
-        assert!(rt; printed.as_str() == *written, "row {row}");
+    for row in &LITERALS {
+        assert!(rt; is_written(rt.alloc(), row)?, "{}", row.5);
     }
     Ok(())
 }
