@@ -43,7 +43,7 @@ static TREES: [&[Piece]; 6] = [
 ];
 
 // The first of the trees that equals those parts though it is another, or doesn't equal them.
-fn first_unlike(alloc: Global, one: usize, parts: &[Part]) -> Result<Option<usize>, AllocError> {
+fn first_unlike(alloc: Global, one: usize, parts: &[Piece]) -> Result<Option<usize>, AllocError> {
     let left = tree(alloc, parts)?;
     for (two, others) in TREES.iter().enumerate() {
         let right = tree(alloc, others)?;
