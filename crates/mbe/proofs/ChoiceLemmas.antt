@@ -45,6 +45,11 @@ module _ (g : Grammar) (style : MacroCallStyle) (argument : Forest) where
       → NoneApplies g style argument (take (n + 1) rs)
   none_more rs n r before e h = rw add-one (more_at rs n r before e h)
 
+  -- the first one that applies is one of them
+  pub contains_first : {rs : List Rule} {n : ℕ} {r : Rule} {a : Applies g style argument r} → FirstThatApplies g style argument rs n r a → Contains rs r
+  contains_first (this_one r rs a) = (0, omega arith, refl)
+  contains_first (a_later_one r s rs n m a not_r f e) = let c = contains_first f in (suc c.0, let l = c.1 in omega (arith, l), c.2)
+
 -- a member seen by a function
 pub seen_at : {X Y : Type 0} (f : X → Y) (xs : List X) (i : ℕ) (x : X) → i < length xs → x ≡ slice_index_or xs i x → slice_get (map f xs) i ≡ Some (f x)
 seen_at f [] i x l e = absurd (omega (arith, l))

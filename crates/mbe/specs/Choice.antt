@@ -1,9 +1,10 @@
 -- What the choice of a rule goes by: words of private code.
-use Rattle.std.specs.Prelude.{◌≡◌, ◌^◌, ◌-◌, ℕ, Bool, ◌||◌, ◌&&◌, nat_lt, nat_eq, if◌then◌else◌, min, List, slice_get, Option, Some, None}
+use Rattle.std.specs.Prelude.{◌≡◌, ◌^◌, ◌-◌, ℕ, Bool, ◌||◌, ◌&&◌, nat_lt, nat_eq, if◌then◌else◌, min, List, slice_get, Contains, Option, Some, None}
 use Rattle.mbe_tt.specs.declared.span.Span.{Span}
 use Rattle.mbe_tt.specs.Trees.Tree.{Forest}
 use Rattle.mbe_tt.specs.Trees.Top.{top_group}
 use Rattle.mbe_tt.specs.Fragments.Grammar.{Grammar}
+use Rattle.mbe_semantics.specs.declared.macro_call_style.MacroCallStyle.{MacroCallStyle}
 use Rattle.mbe_semantics.specs.Syntax.Definition.{Rule}
 use Rattle.mbe_semantics.specs.Syntax.Nullable.{Checked}
 use Rattle.mbe_semantics.specs.Readings.Item.{Items}
@@ -11,8 +12,14 @@ use Rattle.mbe_semantics.specs.Readings.Ambiguity.{Fits}
 use Rattle.mbe_semantics.specs.Readings.Verdict.{Verdict, IsVerdict, unmatched}
 use Rattle.mbe_semantics.specs.Bindings.Environment.{environment_of, binding_total}
 use Rattle.mbe_semantics.specs.Writing.Substitution.{IsSubstitution}
-use Rattle.mbe_semantics.specs.Expansion.Expansion.{Applies}
+use Rattle.mbe_semantics.specs.Expansion.Expansion.{Applies, IsExpansion}
+use Rattle.mbe_semantics.specs.Expansion.Recovery.{HasStyle, IsClosest}
+use Rattle.mbe_semantics.specs.Expansion.Macro.{arm_of}
 use Rattle.mbe.specs.declared.expander.Candidate.{Candidate}
+use Rattle.mbe.specs.declared.expander.Choice.{Choice}
+use Rattle.mbe.specs.declared.expander.Choice.TheVariants as chosen
+use Rattle.mbe.specs.declared.expander.Considered.{Considered}
+use Rattle.mbe.specs.declared.expander.Considered.TheVariants as considered
 use Rattle.mbe.specs.declared.expander.Nearness.{Nearness}
 use Rattle.mbe.specs.declared.expander.Tried.{Tried}
 use Rattle.mbe.specs.declared.expander.Tried.TheVariants as tried
@@ -44,3 +51,19 @@ abbrev pub IsTried : {A : Type 0} → Grammar → (Span → Span → Type 0) →
 IsTried g Marks call_site argument r (tried.Applies tree) =
     (a : Applies g r.style argument r) × IsSubstitution g Marks call_site (environment_of a.items) r.writes (top_group tree)
 IsTried g Marks call_site argument r (tried.Fails n remains) = (Applies g r.style argument r → ⊥) × IsNearness g argument r n
+
+-- what the rule with this index comes to
+abbrev pub IsConsidered : {A : Type 0} → Grammar → (Span → Span → Type 0) → MacroCallStyle → Span → Forest → ℕ → Rule → Considered A → Type 0
+IsConsidered g Marks style call_site argument n r considered.OtherStyle = r.style ≡ style → ⊥
+IsConsidered g Marks style call_site argument n r (considered.Applies tree index) =
+    (a : Applies g style argument r) × IsSubstitution g Marks call_site (environment_of a.items) r.writes (top_group tree) × (index ≡ arm_of n)
+IsConsidered g Marks style call_site argument n r (considered.Fails c) =
+    (r.style ≡ style) × (Applies g style argument r → ⊥) × IsNearness g argument r c.nearness × (c.idx ≡ n)
+
+-- what the rules come to: without a rule that applies, the closest one of the style
+abbrev pub IsChosen : {A : Type 0} → Grammar → (Span → Span → Type 0) → MacroCallStyle → Span → Forest → List Rule → Choice A → Type 0
+IsChosen g Marks style call_site argument rs chosen.NoRule = HasStyle rs style → ⊥
+IsChosen g Marks style call_site argument rs (chosen.Expanded tree index) =
+    (n : ℕ) × IsExpansion g style argument Marks call_site rs n (top_group tree) × (index ≡ arm_of n)
+IsChosen g Marks style call_site argument rs (chosen.Closest c) =
+    ((r : Rule) → Contains rs r → Applies g style argument r → ⊥) × IsClosest g style argument rs c.idx

@@ -1,5 +1,5 @@
 // The choice of the rule.
-ghost use Rattle.std.specs.Prelude.{◌≡◌, IfOk, Some, None, IsSome};
+ghost use Rattle.std.specs.Prelude.{◌≡◌, ◌-◌, ◌^◌, min, IfOk, Some, None, IsSome};
 ghost use Rattle.mbe_tt.specs.Trees.Top.{top_group};
 ghost use Rattle.mbe_semantics.specs.Expansion.Macro.{Expands, arm_of, empty_tree};
 ghost use Rattle.mbe_semantics.specs.Expansion.Error.{no_matching_rule};
@@ -8,7 +8,9 @@ ghost use Rattle.mbe_semantics.specs.Syntax.Nullable.{Checked};
 ghost use Rattle.mbe_errors.specs.ErrorViews.{errors_of};
 ghost use Rattle.mbe_ops.specs.Views.{template_of};
 ghost use Rattle.mbe_parser.specs.RuleViews.{rule_of, rules_seen};
-ghost use Rattle.mbe.specs.Choice.{AreChecked, IsTried, is_nearer, nearer_of};
+ghost use Rattle.mbe_semantics.specs.Bindings.Environment.{binding_total};
+ghost use Rattle.mbe_log.specs.BindingViews.{bound_by};
+ghost use Rattle.mbe.specs.Choice.{AreChecked, IsTried, IsConsidered, IsChosen, is_nearer, nearer_of};
 
 use mbe_errors::error::{ExpandError, ExpandErrorKind};
 use mbe_errors::value_result::{ExpandResult, MatchedArmIndex, ValueResult};
@@ -65,6 +67,22 @@ enum Tried<'a, A: Allocator> {
     Fails(Nearness, Remains<'a, A>),
 }
 
+// What a rule with its index comes to in a call.
+#[derive(Drop)]
+enum Considered<'a, A: Allocator> {
+    OtherStyle,
+    Applies(TopSubtree<A>, MatchedArmIndex),
+    Fails(Candidate<'a, A>),
+}
+
+// What all rules come to in a call.
+#[derive(Drop)]
+enum Choice<'a, A: Allocator> {
+    NoRule,
+    Expanded(TopSubtree<A>, MatchedArmIndex),
+    Closest(Candidate<'a, A>),
+}
+
 // The first rule that applies, else the closest one of the style.
 pub(crate) fn expand_rules<A: Allocator + Copy, G: FragmentGrammar, M: Fn(Span) -> Span + Copy>(
     alloc: A,
@@ -81,33 +99,89 @@ pub(crate) fn expand_rules<A: Allocator + Copy, G: FragmentGrammar, M: Fn(Span) 
         (rules_seen rules.now) call_style input.now.1 call_site
         (top_group r.value.0) r.value.1 (errors_of r.err)) }
 {
+    let choice = choose(alloc, grammar, rules, input, marker, call_style, call_site)?;
+    match choice {
+        Choice::Expanded(tree, index) => Ok(ValueResult {
+            value: (tree, index),
+            err: None,
+        }),
+        Choice::Closest(candidate) => recovered(alloc, grammar, candidate, marker, call_site),
+        Choice::NoRule => no_rule(alloc, call_site),
+    }
+}
+
+// Which rule a call goes by.
+fn choose<'a, A: Allocator + Copy, G: FragmentGrammar, M: Fn(Span) -> Span + Copy>(
+    alloc: A,
+    grammar: &G,
+    rules: &'a [Rule<A>],
+    input: &'a TopSubtree<A>,
+    marker: M,
+    call_style: MacroCallStyle,
+    call_site: Span,
+) -> Result<Choice<'a, A>, AllocError>
+    requires checked { AreChecked (rules_seen rules.now) }
+    requires may_mark { MayMark (M.pre marker) }
+    ensures { IfOk result (IsChosen (G.grammar grammar.now) (M.post marker) call_style call_site
+        input.now.1 (rules_seen rules.now)) }
+{
     let mut nearest: Option<Candidate<'_, A>> = None;
     for (idx, rule) in rules.iter().enumerate() {
-        if rule.style != call_style {
-            continue;
-        }
-        match try_rule(alloc, grammar, rule, input, marker, call_site)? {
-            Tried::Applies(tree) => {
-                return Ok(ValueResult {
-                    value: (tree, u32::try_from(idx).ok()),
-                    err: None,
-                });
+        let come_to = consider(
+            alloc, grammar, idx, rule, input, marker, call_style, call_site,
+        )?;
+        match come_to {
+            Considered::OtherStyle => continue,
+            Considered::Applies(tree, index) => {
+                return Ok(Choice::Expanded(tree, index));
             }
-            Tried::Fails(nearness, remains) => {
-                let next = Candidate {
-                    idx,
-                    rule,
-                    nearness,
-                    remains,
-                };
+            Considered::Fails(next) => {
                 nearest = Some(nearer(nearest, next));
             }
         }
     }
     match nearest {
-        Some(candidate) => recovered(alloc, grammar, candidate, marker, call_site),
-        None => no_rule(alloc, call_site),
+        Some(candidate) => Ok(Choice::Closest(candidate)),
+        None => Ok(Choice::NoRule),
     }
+}
+
+// What the rule with this index comes to.
+fn consider<'a, A: Allocator + Copy, G: FragmentGrammar, M: Fn(Span) -> Span + Copy>(
+    alloc: A,
+    grammar: &G,
+    idx: usize,
+    rule: &'a Rule<A>,
+    input: &'a TopSubtree<A>,
+    marker: M,
+    call_style: MacroCallStyle,
+    call_site: Span,
+) -> Result<Considered<'a, A>, AllocError>
+    requires checked { Checked (template_of rule.now.lhs) }
+    requires may_mark { MayMark (M.pre marker) }
+    ensures { IfOk result (IsConsidered (G.grammar grammar.now) (M.post marker) call_style
+        call_site input.now.1 idx (rule_of rule.now)) }
+{
+    if rule.style != call_style {
+        return Ok(Considered::OtherStyle);
+    }
+    let tried = try_rule(alloc, grammar, rule, input, marker, call_site)?;
+    match tried {
+        Tried::Applies(tree) => Ok(Considered::Applies(tree, arm_index(idx))),
+        Tried::Fails(nearness, remains) => Ok(Considered::Fails(Candidate {
+            idx,
+            rule,
+            nearness,
+            remains,
+        })),
+    }
+}
+
+// A rule's index, where it fits 32 bits.
+fn arm_index(idx: usize) -> MatchedArmIndex
+    ensures { result ≡ arm_of idx }
+{
+    u32::try_from(idx).ok()
 }
 
 // The next one, where it is nearer than the best of those before it.
@@ -152,10 +226,7 @@ fn try_rule<'a, A: Allocator + Copy, G: FragmentGrammar, M: Fn(Span) -> Span + C
         err,
     } = matched;
     let bindings = log.build(&bindings)?;
-    let nearness = Nearness {
-        unmatched,
-        bound: bindings.count(),
-    };
+    let nearness = nearness_of(unmatched, &bindings);
     if let Some(err) = err {
         return Ok(Tried::Fails(nearness, Remains::Unfit(bindings, err)));
     }
@@ -164,6 +235,17 @@ fn try_rule<'a, A: Allocator + Copy, G: FragmentGrammar, M: Fn(Span) -> Span + C
     match err {
         Some(fault) => Ok(Tried::Fails(nearness, Remains::Faulty(value, fault))),
         None => Ok(Tried::Applies(value)),
+    }
+}
+
+// How near a match came that left so many trees and bound this.
+fn nearness_of<A: Allocator>(unmatched: usize, bindings: &Bindings<'_, A>) -> Nearness
+    ensures left { result.unmatched ≡ unmatched }
+    ensures bound { result.bound ≡ min (binding_total (bound_by bindings.now)) (2 ^ 64 - 1) }
+{
+    Nearness {
+        unmatched,
+        bound: bindings.count(),
     }
 }
 
@@ -185,7 +267,7 @@ fn recovered<A: Allocator + Copy, G: FragmentGrammar, M: Fn(Span) -> Span + Copy
         nearness: _,
         remains,
     } = candidate;
-    let index = u32::try_from(idx).ok();
+    let index = arm_index(idx);
     match remains {
         Remains::Faulty(tree, err) => Ok(ValueResult {
             value: (tree, index),

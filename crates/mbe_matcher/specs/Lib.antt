@@ -4,3 +4,4 @@ pub mod Positions
 pub mod Matched
 pub mod Reports
 pub mod Counts
+pub mod States

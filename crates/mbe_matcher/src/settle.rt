@@ -2,7 +2,7 @@
 ghost use Rattle.std.specs.Prelude.{◌≡◌, ◌+◌, ◌++◌, ◌≤◌, [], length, option_to_list, IfOk, OnOk};
 ghost use Rattle.mbe_semantics.specs.Bindings.Account.{Log};
 ghost use Rattle.mbe_matcher.specs.Counts.{AreBlankFrom};
-ghost use Rattle.mbe_matcher.specs.Positions.{Keeps};
+ghost use Rattle.mbe_matcher.specs.States.{KeepsState};
 ghost use Rattle.mbe_matcher.specs.Matched.{IsStackAt, AreSettledAt, dots_in};
 ghost use Rattle.mbe_matcher.specs.Reports.{IsReport, ReportStays};
 
@@ -80,7 +80,7 @@ pub(crate) fn settle<'a, A: Allocator + Copy, G: FragmentGrammar>(
         (AreSettledAt (G.grammar grammar.now) source.now s.pattern s.spots log.new state.new) }
     ensures few { IfOk result (λ r. length r.waiting.items + length r.ends.items
         ≤ dots_in state.old + dots_in state.old) }
-    ensures kept { OnOk result (Keeps log.old log.new state.old.outers.items state.new.outers.items) }
+    ensures kept { OnOk result (KeepsState log.old log.new state.old state.new) }
     ensures blank { OnOk result (AreBlankFrom state.new.counts.marks.items (source.now.place + 1)) }
     ensures size { OnOk result (dots_in state.new ≡ dots_in state.old) }
     ensures done { OnOk result (todo.new.items ≡ []) }

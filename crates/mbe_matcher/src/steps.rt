@@ -97,7 +97,8 @@ fn idle<'a, A: Allocator>(
     first: Option<Position<'a, A>>,
     second: Option<Position<'a, A>>,
 ) -> Steps<'a, A>
-    ensures { result ≡ record { first = first.entry; second = second.entry; next = None; done = None } }
+    ensures { result
+        ≡ record { first = first.entry; second = second.entry; next = None; done = None } }
 {
     Steps {
         first,

@@ -22,7 +22,7 @@ returns-in-Some g c =
     let v = verdict_seen c.in_ok-matched.matched.verdict in
     let same : trees c.remaining-argument.result ≡ c.args.input.now.1 = c.remaining-argument.ensures ∙ c.iter.ensures in
     let right = subst (λ f. IsVerdict h (template_of c.args.rule.now.lhs) f v) same m.verdict in
-    let left = m.unmatched ∙ ap (λ f. unmatched f v) same in
+    let left = c.nearness_of-nearness.ensures.left ∙ m.unmatched ∙ ap (λ f. unmatched f v) same in
     unfit h (rule_of c.args.rule.now) c.args.input.now.1 v right _ left
     (λ one. true≢false (sym (ap (λ e. is_some (errors_of e)) c.in-Some.is) ∙ m.err.1 one))
 
@@ -33,14 +33,14 @@ returns-in-Some-err g c =
     let v = verdict_seen c.in_ok-matched.matched.verdict in
     let same : trees c.remaining-argument.result ≡ c.args.input.now.1 = c.remaining-argument.ensures ∙ c.iter.ensures in
     let right = subst (λ f. IsVerdict h (template_of c.args.rule.now.lhs) f v) same m.verdict in
-    let left = m.unmatched ∙ ap (λ f. unmatched f v) same in
+    let left = c.nearness_of-nearness.ensures.left ∙ m.unmatched ∙ ap (λ f. unmatched f v) same in
     let one : v ≡ one_reading = m.err.0 (ap (λ e. is_some (errors_of e)) c.in_default.is) in
     let binds = subst (λ f. Binds h (template_of c.args.rule.now.lhs) f c.match_argument.new.log c.in_ok-matched.matched.bindings) same (m.binds one) in
     let bound : bound_by c.in_ok-bindings.bindings ≡ environment_of binds.0 =
     c.in_ok-bindings.ensures binds.2.0 binds.2.1 ∙ ap (λ cs. run cs []) binds.2.2
     ∙ commands_bind_alike h (template_of c.args.rule.now.lhs) c.args.input.now.1 binds.0 binds.1.1.0 in
     let fault : faults (bound_by c.in_ok-bindings.bindings) [] (template_of c.args.rule.now.rhs) ≡ true = sym c.in_ok-written.ensures.fault ∙ ap is_some c.in-Some-err.is in
-    faulty h (rule_of c.args.rule.now) c.args.input.now.1 v right _ left binds.0 binds.1 (bound_by c.in_ok-bindings.bindings) bound c.count.ensures fault
+    faulty h (rule_of c.args.rule.now) c.args.input.now.1 v right _ left binds.0 binds.1 (bound_by c.in_ok-bindings.bindings) bound c.nearness_of-nearness.ensures.bound fault
 
 pub returns : goal.returns
 returns g c =

@@ -1,0 +1,12 @@
+use Rattle.std.proofs.Common.{take, option_map}
+use Rattle.mbe_parser.specs.RuleViews.{rules_seen}
+use Rattle.mbe.specs.Choice.{candidate_seen}
+use Rattle.mbe.proofs.ChoiceLemmas.{NoneApplies}
+use Rattle.mbe.proofs.ClosestLemmas.{IsSoFar}
+use Rattle.mbe.proofs.expander.choose.Given as goal
+
+abbrev pub invariant-loop-idx : goal.invariant-loop-idx
+invariant-loop-idx g l = record {
+  none : NoneApplies (g.G.FragmentGrammar.grammar l.grammar) l.call_style l.input.1 (take l.idx (rules_seen l.rules));
+  nearest : IsSoFar (g.G.FragmentGrammar.grammar l.grammar) l.call_style l.input.1 (rules_seen l.rules) l.idx (option_map candidate_seen l.nearest);
+}
