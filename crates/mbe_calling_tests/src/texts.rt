@@ -1,9 +1,11 @@
 // Text to trees, and trees to text.
 ghost use Rattle.std.specs.Prelude.{◌<◌, ◌^◌, length};
 
-use mbe_text::lexer::{LexError, lex};
+use mbe_text::lexer::{LexError, lex, lex_in};
 use mbe_text::printing::print_tree;
 use mbe_text::scanner::{LexFault, Scanner};
+use mbe_text::symbols::SymbolTable;
+use mbe_tt::tt::TopSubtree;
 use std::alloc::Global;
 
 /// The lines that print a text's trees. The text is file 7.
@@ -26,6 +28,21 @@ pub fn fault_of(alloc: Global, text: &str) -> Option<u32>
     }
 }
 
+/// The trees of file 0 and of file 1, in which each name is kept once.
+pub fn trees_of(
+    alloc: Global,
+    first: &str,
+    second: &str,
+) -> Result<(TopSubtree, TopSubtree), LexError>
+    requires first { length first.now < 2 ^ 32 }
+    requires second { length second.now < 2 ^ 32 }
+{
+    let mut table = SymbolTable::new(alloc);
+    let one = lex_in(&mut table, first, 0)?;
+    let two = lex_in(&mut table, second, 1)?;
+    Ok((one, two))
+}
+
 /// Where the second token of a text ends, or the text.
 pub fn end_of_second(text: &str) -> Result<u32, LexFault>
     requires { length text.now < 2 ^ 32 }
@@ -37,7 +54,9 @@ pub fn end_of_second(text: &str) -> Result<u32, LexFault>
 }
 
 mod tests {
-    use super::{end_of_second, fault_of, lines_of};
+    use super::{end_of_second, fault_of, lines_of, trees_of};
+    use mbe_text::symbols::SymbolTable;
+    use mbe_tt::symbol::Symbol;
     use std::test::Fail;
 
     // Each line has the token's span: file 7, and its bytes.
@@ -60,6 +79,16 @@ mod tests {
             end_of_second("a §").err().map(|fault| fault.offset),
             Some(2)
         );
+        Ok(())
+    }
+
+    #[test]
+    fn names_of_two_files_are_kept_once(rt: HostRuntime) -> Result<(), Fail> {
+        let (one, two) = trees_of(rt.alloc(), "a + a", "a + b")?;
+        assert!(rt; one != two);
+        let mut table = SymbolTable::new(rt.alloc());
+        let name = table.intern("a")?;
+        assert!(rt; name == Symbol::intern(table.alloc(), "a")?);
         Ok(())
     }
 }

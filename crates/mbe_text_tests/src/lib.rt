@@ -5,3 +5,5 @@
 mod lexing;
 #[cfg(test)]
 mod printing;
+#[cfg(test)]
+mod symbols;
