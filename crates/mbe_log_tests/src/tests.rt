@@ -1,3 +1,4 @@
 mod memory;
 mod rows;
 mod scripts;
+mod values;

@@ -4,13 +4,18 @@ ghost use Rattle.mbe_semantics.specs.Bindings.Account.{bound_by, no_account, pus
 ghost use Rattle.mbe_semantics.specs.Bindings.Account.{Command as Written};
 ghost use Rattle.mbe_log.specs.Accounts.{Held, HasAccounts};
 ghost use Rattle.mbe_log.specs.BindingViews.{bound_by as bound_in};
+ghost use Rattle.mbe_log.specs.Printed.{log_text};
 
 use mbe_log::bindings::Bindings;
 use mbe_log::fragment::Fragment;
 use mbe_log::log::BindingLog;
 use mbe_tt::symbol::Symbol;
+<<<<<<< HEAD
 use mbe_tt::tt::{TokenTreesView, TopSubtree};
 use std::alloc::{AllocError, Allocator};
+=======
+use std::alloc::{AllocError, Allocator, Global};
+>>>>>>> log-wip
 
 /// What the third position binds: neither what the first position binds nor what is pushed later. Other handles' accounts stay.
 pub fn split<'a, A: Allocator + Copy>(
@@ -75,4 +80,11 @@ pub fn bind_one<'a, A: Allocator + Copy>(
     let mut handle = log.alloc()?;
     log.push_fragment(&mut handle, name, Fragment::Expr(tree))?;
     log.build(&handle)
+}
+
+/// What a log prints.
+pub fn text_of(alloc: Global, log: &BindingLog<'_>) -> Result<String, AllocError>
+    ensures { IfOk result (λ text. text.bytes.items ≡ log_text log.now) }
+{
+    format!(in alloc; "{log:?}")
 }
