@@ -92,13 +92,7 @@ fn runs_out<A: Allocator + Copy>(
         return None;
     }
     match copy {
-        Ok(copy) => {
-            if copy == *before {
-                Some(false)
-            } else {
-                None
-            }
-        }
+        Ok(copy) => { if copy == *before { Some(false) } else { None } }
         Err(AllocError) => Some(true),
     }
 }

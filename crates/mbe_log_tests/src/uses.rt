@@ -10,12 +10,8 @@ use mbe_log::bindings::Bindings;
 use mbe_log::fragment::Fragment;
 use mbe_log::log::BindingLog;
 use mbe_tt::symbol::Symbol;
-<<<<<<< HEAD
 use mbe_tt::tt::{TokenTreesView, TopSubtree};
-use std::alloc::{AllocError, Allocator};
-=======
 use std::alloc::{AllocError, Allocator, Global};
->>>>>>> log-wip
 
 /// What the third position binds: neither what the first position binds nor what is pushed later. Other handles' accounts stay.
 pub fn split<'a, A: Allocator + Copy>(

@@ -3,9 +3,9 @@ use mbe_log::bindings::{Binding, Bindings};
 use mbe_log::fragment::{Fragment, TokensOrigin};
 use mbe_log::log::{BindingLog, Handle, again};
 use mbe_semantics::kinds::{ExprKind, MetaVarKind};
-use mbe_tt::tt::TopSubtree;
 use mbe_tt::span::{DelimSpan, Span};
 use mbe_tt::symbol::Symbol;
+use mbe_tt::tt::TopSubtree;
 use std::test::Fail;
 
 #[test]
