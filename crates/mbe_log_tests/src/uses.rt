@@ -1,6 +1,6 @@
 // How one uses a log: two positions from one, one of them nested in a third.
 ghost use Rattle.std.specs.Prelude.{◌≡◌, IfOk, OnOk};
-ghost use Rattle.mbe_semantics.specs.Bindings.Account.{bound_by, no_account, pushed, pushed_nested};
+ghost use Rattle.mbe_semantics.specs.Bindings.Account.{environment_of_account, no_account, pushed, pushed_nested};
 ghost use Rattle.mbe_semantics.specs.Bindings.Account.{Command as Written};
 ghost use Rattle.mbe_log.specs.Accounts.{Held, HasAccounts};
 ghost use Rattle.mbe_log.specs.BindingViews.{bound_by as bound_in};
@@ -19,7 +19,7 @@ pub fn split<'a, A: Allocator + Copy>(
     name: &Symbol<A>,
     other: &Symbol<A>,
 ) -> Result<Bindings<'a, A>, AllocError>
-    ensures binds { IfOk result (λ b. bound_in b ≡ bound_by (pushed_nested no_account
+    ensures binds { IfOk result (λ b. bound_in b ≡ environment_of_account (pushed_nested no_account
         (pushed (Written.binds_nothing other.now) (pushed (Written.skips name.now) no_account)))) }
     ensures others { OnOk result
         ((held : Held) → HasAccounts log.old held → HasAccounts log.new held) }
