@@ -26,7 +26,7 @@ in_order_more file from to new (y ∷ ys) x p is above some below =
     (p.0, p.1, p.2, in_order_more file (item_span y).end to new ys x p.3 is above some below)
 
 -- an item stands where its token does
-span_of_lexeme : (span : Span) (l : Lexeme) → item_span (lexeme_item span l) ≡ span
+pub span_of_lexeme : (span : Span) (l : Lexeme) → item_span (lexeme_item span l) ≡ span
 span_of_lexeme span (Ident name is_raw) = refl
 span_of_lexeme span (Literal text suffix suffix_len kind) = refl
 span_of_lexeme span (Punct char spacing) = refl

@@ -1,7 +1,9 @@
 // The tokens of a text, one after another.
-ghost use Rattle.std.specs.Prelude.{◌≡◌, ◌↔◌, ◌<◌, ◌≤◌, ◌+◌, ◌^◌, length, IsSome, IfSome, IfNone};
-ghost use Rattle.std.specs.Prelude.{IfOk, IfErr};
+ghost use Rattle.std.specs.Prelude.{ℕ, ◌≡◌, ◌↔◌, ◌<◌, ◌≤◌, ◌+◌, ◌^◌, length, IsSome, IfSome, IfNone, OnOk};
+ghost use Rattle.std.specs.Prelude.{IfOk, IfErr, List, [], ◌++◌, ◌∷◌, encode_utf8, IsTrue, true, false};
 ghost use Rattle.mbe_text.specs.Tokens.{bytes_of};
+ghost use Rattle.mbe_text.specs.Reading.{Cuts, Begins, IsLine, Step, Comment, Part, HasNoPart, Parts};
+ghost use Rattle.mbe_text.specs.Reading.{Reads, IsLiteral, IsTokenRead, quote_of};
 
 use mbe_tt::span::{Span, SyntaxContext};
 use mbe_tt::tt::{DelimiterKind, IdentIsRaw, LitKind, Spacing};
@@ -139,7 +141,8 @@ impl<'t> Scanner<'t> {
     }
 
     fn peek(&self) -> Option<char>
-        ensures { IsSome result ↔ 0 < length self.now.rest.now }
+        ensures some { IsSome result ↔ 0 < length self.now.rest.now }
+        ensures begins { IfSome result (λ c. Begins c self.now.rest.now) }
     {
         self.rest.chars().next()
     }
@@ -149,6 +152,7 @@ impl<'t> Scanner<'t> {
         ensures some { IsSome result ↔ 0 < length self.old.rest.now }
         ensures on { GoesOn self.old self.new }
         ensures past { Advances self.old self.new }
+        ensures whole { IfSome result (λ c. self.old.rest.now ≡ encode_utf8 c ++ self.new.rest.now) }
     {
         let mut chars = self.rest.chars();
         let char = chars.next();
@@ -159,7 +163,8 @@ impl<'t> Scanner<'t> {
     // Passes the characters up to one that isn't such.
     fn pass<F: Fn(char) -> bool + Copy>(&mut self, is_such: F)
         requires { F.IsAlwaysCallable is_such }
-        ensures { GoesOn self.old self.new }
+        ensures on { GoesOn self.old self.new }
+        ensures cut { Cuts self.old.rest.now self.new.rest.now }
     {
         let text = self.rest;
         let end = text.find(|c| !is_such(c)).unwrap_or(text.len());
@@ -170,60 +175,115 @@ impl<'t> Scanner<'t> {
     // The text from a mark, which is what was left before, up to here.
     fn since(&self, mark: &'t str) -> &'t str
         requires { length self.now.rest.now ≤ length mark.now }
+        ensures { Cuts mark.now self.now.rest.now
+            → mark.now ≡ result.now ++ self.now.rest.now }
     {
         mark.get(..mark.len() - self.rest.len()).unwrap_or("")
+    }
+
+    // Passes a blank or a comment, and returns whether one stands here.
+    fn part(&mut self) -> Result<bool, Fault>
+        ensures on { GoesOn self.old self.new }
+        ensures past { IfOk result (λ r. r ≡ true
+            → length self.new.rest.now < length self.old.rest.now) }
+        ensures part { IfOk result (λ r. r ≡ true → Part self.old.rest.now self.new.rest.now) }
+        ensures none { IfOk result (λ r. r ≡ false → HasNoPart self.new.rest.now) }
+        ensures same { IfOk result (λ r. r ≡ false
+            → self.new.rest.now ≡ self.old.rest.now) }
+        ensures within { IfErr result (λ fault. fault.offset ≤ self.old.total) }
+    {
+        if self.rest.starts_with("//") {
+            self.line_comment();
+            Ok(true)
+        } else if self.rest.starts_with("/*") {
+            self.block_comment()?;
+            Ok(true)
+        } else if let Some(' ' | '\t' | '\r' | '\n') = self.peek() {
+            self.bump();
+            Ok(true)
+        } else {
+            Ok(false)
+        }
     }
 
     // Passes white space and comments.
     fn trivia(&mut self) -> Result<(), Fault>
         ensures on { GoesOn self.old self.new }
+        ensures parts { OnOk result (Parts self.old.rest.now self.new.rest.now) }
+        ensures none { OnOk result (HasNoPart self.new.rest.now) }
         ensures within { IfErr result (λ fault. fault.offset ≤ self.old.total) }
     {
-        'parts: loop {
-            if self.rest.starts_with("//") {
-                self.line_comment();
-            } else if self.rest.starts_with("/*") {
-                self.block_comment()?;
-            } else if let Some(' ' | '\t' | '\r' | '\n') = self.peek() {
-                self.bump();
-            } else {
-                return Ok(());
-            }
-        }
+        'parts: while self.part()? {}
+        Ok(())
     }
 
     // Passes what is left of a line.
+    fn line(&mut self)
+        ensures on { GoesOn self.old self.new }
+        ensures line { IsLine self.old.rest.now self.new.rest.now }
+    {
+        let text = self.rest;
+        let end = text.find('\n').unwrap_or(text.len());
+        let (_, rest) = text.split_at(end);
+        self.rest = rest;
+    }
+
+    // Passes a comment up to the end of its line.
     fn line_comment(&mut self)
         ensures on { GoesOn self.old self.new }
         ensures past { Advances self.old self.new }
+        ensures line { (text : List ℕ) → self.old.rest.now ≡ 47 ∷ (47 ∷ text)
+            → IsLine text self.new.rest.now }
     {
         self.bump();
-        self.pass(|c| c != '\n');
+        self.bump();
+        self.line();
+    }
+
+    // Passes an opening, a closing or another character of block comments, and returns how many are open after it; `None` at
+    // the end of the text.
+    fn inside(&mut self, depth: u32) -> Option<u32>
+        requires some { 0 < depth }
+        requires fits { depth + length self.old.rest.now ≤ 2 ^ 32 }
+        ensures on { GoesOn self.old self.new }
+        ensures past { IfSome result (λ now. now + length self.new.rest.now
+            ≤ depth + length self.old.rest.now) }
+        ensures less { IfSome result (λ now.
+            length self.new.rest.now < length self.old.rest.now) }
+        ensures step { IfSome result (λ now.
+            Step depth self.old.rest.now now self.new.rest.now) }
+    {
+        let char = self.bump()?;
+        match (char, self.peek()) {
+            ('/', Some('*')) => {
+                self.bump();
+                Some(depth + 1)
+            }
+            ('*', Some('/')) => {
+                self.bump();
+                Some(depth - 1)
+            }
+            _ => Some(depth),
+        }
     }
 
     // Passes a block comment, with those inside it.
     fn block_comment(&mut self) -> Result<(), Fault>
         ensures on { GoesOn self.old self.new }
         ensures past { Advances self.old self.new }
+        ensures comment { OnOk result ((text : List ℕ)
+            → self.old.rest.now ≡ 47 ∷ (42 ∷ text) → Comment 1 text self.new.rest.now) }
         ensures within { IfErr result (λ fault. fault.offset ≤ self.old.total) }
     {
         let start = self.offset();
-        let mut depth = 0u32;
-        'chars: while let Some(char) = self.bump() {
-            match (char, self.peek()) {
-                ('/', Some('*')) => {
-                    self.bump();
-                    depth = depth.saturating_add(1);
-                }
-                ('*', Some('/')) => {
-                    self.bump();
-                    depth = depth.saturating_sub(1);
-                    if depth == 0 {
-                        return Ok(());
-                    }
-                }
-                _ => {}
+        self.bump();
+        self.bump();
+        let mut depth = 1;
+        'chars: while let Some(open) = self.inside(depth) {
+            if open == 0 {
+                return Ok(());
             }
+            depth = open;
         }
         Err(Fault { offset: start })
     }
@@ -232,6 +292,7 @@ impl<'t> Scanner<'t> {
     fn word(&mut self) -> &'t str
         ensures on { GoesOn self.old self.new }
         ensures past { Advances self.old self.new }
+        ensures whole { self.old.rest.now ≡ result.now ++ self.new.rest.now }
     {
         let text = self.rest;
         self.bump();
@@ -240,17 +301,21 @@ impl<'t> Scanner<'t> {
     }
 
     // Whether a raw identifier stands here.
-    fn is_at_raw(&self) -> bool {
-        self.rest
-            .strip_prefix("r#")
-            .is_some_and(|name| name.starts_with(starts_identifier))
+    fn is_at_raw(&self) -> bool
+        ensures { result ≡ true → (text : List ℕ) × (self.now.rest.now ≡ 114 ∷ (35 ∷ text)) }
+    {
+        match self.rest.strip_prefix("r#") {
+            Some(name) => name.starts_with(starts_identifier),
+            None => false,
+        }
     }
 
     // Passes a raw identifier with its `r#`.
     fn raw_identifier(&mut self) -> Result<Lexeme<'t>, Fault>
-        requires { 0 < length self.old.rest.now }
+        requires { (text : List ℕ) × (self.old.rest.now ≡ 114 ∷ (35 ∷ text)) }
         ensures on { GoesOn self.old self.new }
         ensures past { Advances self.old self.new }
+        ensures reads { IfOk result (λ l. Reads self.old.rest.now l self.new.rest.now) }
         ensures within { IfErr result (λ fault. fault.offset ≤ self.old.total) }
     {
         let start = self.offset();
@@ -271,6 +336,7 @@ impl<'t> Scanner<'t> {
         requires { 0 < length self.old.rest.now }
         ensures on { GoesOn self.old self.new }
         ensures past { Advances self.old self.new }
+        ensures reads { IfOk result (λ l. Reads self.old.rest.now l self.new.rest.now) }
         ensures within { IfErr result (λ fault. fault.offset ≤ self.old.total) }
     {
         let start = self.offset();
@@ -289,6 +355,8 @@ impl<'t> Scanner<'t> {
     // never raw.
     fn suffix(&mut self) -> Result<(&'t str, u8), Fault>
         ensures on { GoesOn self.old self.new }
+        ensures whole { IfOk result (λ r. self.old.rest.now ≡ r.0.now ++ self.new.rest.now) }
+        ensures len { IfOk result (λ r. r.1 ≡ length r.0.now) }
         ensures within { IfErr result (λ fault. fault.offset ≤ self.old.total) }
     {
         let start = self.offset();
@@ -305,6 +373,8 @@ impl<'t> Scanner<'t> {
     // A literal of this text, with the suffix that stands here.
     fn literal(&mut self, text: &'t str, kind: LitKind) -> Result<Lexeme<'t>, Fault>
         ensures on { GoesOn self.old self.new }
+        ensures literal { IfOk result (λ l. (suffix : List ℕ)
+            × IsLiteral text.now kind suffix l × (self.old.rest.now ≡ suffix ++ self.new.rest.now)) }
         ensures within { IfErr result (λ fault. fault.offset ≤ self.old.total) }
     {
         let (suffix, suffix_len) = self.suffix()?;
@@ -318,14 +388,16 @@ impl<'t> Scanner<'t> {
 
     // Passes the text up to the next `end` and that too, where a `\` takes the next character with it.
     fn quoted(&mut self, end: char) -> Option<&'t str>
-        ensures { GoesOn self.old self.new }
+        ensures on { GoesOn self.old self.new }
+        ensures whole { IfSome result (λ text.
+            self.old.rest.now ≡ text.now ++ (encode_utf8 end ++ self.new.rest.now)) }
     {
         let text = self.rest;
         'chars: loop {
-            let left = self.rest.len();
+            let inside = self.since(text);
             let char = self.bump()?;
             if char == end {
-                return text.get(..text.len() - left);
+                return Some(inside);
             }
             if char == '\\' {
                 self.bump();
@@ -335,9 +407,11 @@ impl<'t> Scanner<'t> {
 
     // Passes a string, or a char, between two of that quote, with its suffix.
     fn string(&mut self, quote: char, kind: LitKind) -> Result<Lexeme<'t>, Fault>
-        requires { 0 < length self.old.rest.now }
+        requires begins { Begins quote self.old.rest.now }
+        requires quote { quote_of kind ≡ encode_utf8 quote }
         ensures on { GoesOn self.old self.new }
         ensures past { Advances self.old self.new }
+        ensures reads { IfOk result (λ l. Reads self.old.rest.now l self.new.rest.now) }
         ensures within { IfErr result (λ fault. fault.offset ≤ self.old.total) }
     {
         let start = self.offset();
@@ -362,9 +436,10 @@ impl<'t> Scanner<'t> {
 
     // Passes the `'` of a lifetime, whose identifier is the next token.
     fn lifetime(&mut self) -> Result<Lexeme<'t>, Fault>
-        requires { 0 < length self.old.rest.now }
+        requires { Begins 39 self.old.rest.now }
         ensures on { GoesOn self.old self.new }
         ensures past { Advances self.old self.new }
+        ensures reads { IfOk result (λ l. Reads self.old.rest.now l self.new.rest.now) }
         ensures within { IfErr result (λ fault. fault.offset ≤ self.old.total) }
     {
         let start = self.offset();
@@ -380,9 +455,10 @@ impl<'t> Scanner<'t> {
 
     // Passes what begins with the `'` that stands here: a char with its suffix, or the first token of a lifetime.
     fn quote(&mut self) -> Result<Lexeme<'t>, Fault>
-        requires { 0 < length self.old.rest.now }
+        requires { Begins 39 self.old.rest.now }
         ensures on { GoesOn self.old self.new }
         ensures past { Advances self.old self.new }
+        ensures reads { IfOk result (λ l. Reads self.old.rest.now l self.new.rest.now) }
         ensures within { IfErr result (λ fault. fault.offset ≤ self.old.total) }
     {
         if self.is_at_char() {
@@ -394,7 +470,8 @@ impl<'t> Scanner<'t> {
 
     // Passes a `.` and the digits after it, where that is no range and no field.
     fn fraction(&mut self) -> bool
-        ensures { GoesOn self.old self.new }
+        ensures on { GoesOn self.old self.new }
+        ensures cut { Cuts self.old.rest.now self.new.rest.now }
     {
         let Some(rest) = self.rest.strip_prefix('.') else {
             return false;
@@ -408,7 +485,8 @@ impl<'t> Scanner<'t> {
 
     // Passes an exponent that has a digit.
     fn exponent(&mut self) -> bool
-        ensures { GoesOn self.old self.new }
+        ensures on { GoesOn self.old self.new }
+        ensures cut { Cuts self.old.rest.now self.new.rest.now }
     {
         let Some(rest) = self.rest.strip_prefix(|c| c == 'e' || c == 'E') else {
             return false;
@@ -425,6 +503,8 @@ impl<'t> Scanner<'t> {
     fn digits(&mut self) -> LitKind
         ensures on { GoesOn self.old self.new }
         ensures past { Advances self.old self.new }
+        ensures cut { Cuts self.old.rest.now self.new.rest.now }
+        ensures unquoted { quote_of result ≡ [] }
     {
         let first = self.bump();
         match (first, self.peek()) {
@@ -454,6 +534,7 @@ impl<'t> Scanner<'t> {
         requires { 0 < length self.old.rest.now }
         ensures on { GoesOn self.old self.new }
         ensures past { Advances self.old self.new }
+        ensures reads { IfOk result (λ l. Reads self.old.rest.now l self.new.rest.now) }
         ensures within { IfErr result (λ fault. fault.offset ≤ self.old.total) }
     {
         let text = self.rest;
@@ -477,6 +558,7 @@ impl<'t> Scanner<'t> {
         requires { 0 < length self.old.rest.now }
         ensures on { GoesOn self.old self.new }
         ensures past { Advances self.old self.new }
+        ensures reads { IfOk result (λ l. Reads self.old.rest.now l self.new.rest.now) }
         ensures within { IfErr result (λ fault. fault.offset ≤ self.old.total) }
     {
         let start = self.offset();
@@ -510,6 +592,9 @@ impl<'t> Scanner<'t> {
         ensures some { IfOk result (λ token. IfSome token (λ t. t.span.start < t.span.end)) }
         ensures up_to { IfOk result (λ token. IfSome token (λ t.
             t.span.end + length self.new.rest.now ≡ self.old.total)) }
+        ensures read { IfOk result (λ token. IfSome token (λ t.
+            IsTokenRead self.old.total self.old.rest.now t self.new.rest.now)) }
+        ensures last { IfOk result (λ token. IfNone token (Parts self.old.rest.now [])) }
         ensures within { IfErr result (λ fault. fault.offset ≤ self.old.total) }
     {
         self.trivia()?;
