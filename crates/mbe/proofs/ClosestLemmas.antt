@@ -257,11 +257,7 @@ module _ (g : Grammar) (style : MacroCallStyle) (argument : Forest) (rs : List R
     first = λ m r a. let l = within rs m r a.0 in h.first m r (omega (arith, l, all)) a;
   }
 
-  -- the closest one is of the style
-  pub has_style : (k n : ℕ) (near : Nearness) → IsSoFar k (Some (n, near)) → HasStyle rs style
-  has_style k n near h = (h.rule, at_place rs n h.rule h.styled.0, h.styled.1)
-
-  -- without one, none is
+  -- without a closest one, none is of the style
   pub no_style : (k : ℕ) → length rs ≤ k → IsSoFar k None → HasStyle rs style → ⊥
   no_style k all h (r, c, e) = let l = c.1 in h c.0 r (omega (arith, l, all)) (placed rs c.0 r c.1 c.2, e)
 
