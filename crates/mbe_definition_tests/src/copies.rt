@@ -106,7 +106,7 @@ enum Refused {
 }
 
 // Of what the request of that number was refused, of reading twice and of a copy. No answer where a copy is wrong.
-fn refused(alloc: Global, request: u64) -> Option<Refused> {
+fn outcome_of(alloc: Global, request: u64) -> Option<Refused> {
     let alloc = Refusing::new(alloc, request);
     let (Ok(Some(rules)), Ok(Some(before))) = (read(&alloc, EVERY_FORM), read(&alloc, EVERY_FORM))
     else {
@@ -128,7 +128,7 @@ fn refused(alloc: Global, request: u64) -> Option<Refused> {
 fn each_request_of_a_copy_refused(rt: HostRuntime) -> Result<(), Fail> {
     let mut copies = 0u64;
     for request in 1..10_000u64 {
-        match refused(rt.alloc(), request).ok_or("a wrong copy")? {
+        match outcome_of(rt.alloc(), request).ok_or("a wrong copy")? {
             Refused::Reading => {}
             Refused::Copying => copies = copies.saturating_add(1),
             Refused::Nothing => {
