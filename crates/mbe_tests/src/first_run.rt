@@ -157,6 +157,7 @@ static NO_RULES: [(&str, &str, MacroCallStyle); 4] = [
 fn calls_without_a_rule(rt: HostRuntime) -> Result<(), Fail> {
     for &(definition, argument, style) in &NO_RULES {
         let rules = defined(rt.alloc(), definition)?;
+        assert!(rt; rules.err().is_none());
         assert_checked(&rt, &rules);
         let argument = lexed(rt.alloc(), 1, argument)?;
         let expansion = expanded(rt.alloc(), &NOTHING, &rules, &argument, style)?;
