@@ -94,7 +94,7 @@ separator_trees (Some (literal_separator l)) = leaf (literal l) none
 separator_trees (Some (punct_separator ps)) = punct_trees ps
 separator_trees (Some (lifetime_separator p i)) = leaf (punct p) (leaf (ident i) none)
 
--- `$` and the name, as they stood
+-- `$` and the name, as they were
 abbrev pub unbound_variable : Name → Span → Forest
 unbound_variable name span =
     leaf (punct (record { char = 36; spacing = Alone; span = span }))
