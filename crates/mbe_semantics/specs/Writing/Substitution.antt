@@ -137,7 +137,7 @@ abbrev pub AreKeptRounds : Forest → (ℕ → ℕ → Forest → Type 0) → Ex
 AreKeptRounds separator round endless out = ⊥
 AreKeptRounds separator round (finite n) out = AreRounds separator (λ i. round i n) n out
 
--- `Marks s t`: the marker may answer t for s
+-- `Marks s t`: the marker may return t for s
 module _ (g : Grammar) (Marks : Span → Span → Type 0) (call_site : Span) (env : Environment) where
   -- each punct by itself
   abbrev pub AreMarkedPuncts : List Punct → Forest → Type 0
