@@ -45,7 +45,7 @@ at_place [] m r e = absurd (none-some r e)
 at_place (x ∷ xs) zero r e = (0, omega arith, same_Some x r e)
 at_place (x ∷ xs) (suc m) r e = let c = at_place xs m r e in (suc c.0, let l = c.1 in omega (arith, l), c.2)
 
--- and one of the rules stands at a place
+-- and one of the rules is at a place
 placed : (xs : List Rule) (m : ℕ) (r : Rule) → m < length xs → slice_index_or xs m r ≡ r → slice_get xs m ≡ Some r
 placed [] m r l e = absurd (omega (arith, l))
 placed (x ∷ xs) zero r l e = ap Some e

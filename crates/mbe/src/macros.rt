@@ -150,8 +150,8 @@ impl<A: Allocator + Copy> DeclarativeMacro<A> {
     ///
     /// `tt` is the argument: the trees inside its group are matched. `grammar` says what the fragments of most kinds are.
     /// `marker` returns the span that a token of the template is written with, from the token's own; the fragments that
-    /// variables took keep their spans. `call_site` is the span of the group around the expansion, and of the integers that
-    /// `${count(..)}`, `${index(..)}` and `${len(..)}` write.
+    /// variables took keep their spans. `call_site` is the span of the group around the expansion, of the integers that
+    /// `${count(..)}`, `${index(..)}` and `${len(..)}` write, and of the `::` that a path gets.
     ///
     /// The result is the expansion as a token tree, with the index of its rule among all rules of the definition, where it
     /// fits 32 bits. A rule fits where it reads the whole argument in exactly one way and meets no local ambiguity.

@@ -1,4 +1,4 @@
--- The bounded run answers as the full one does.
+-- The bounded run returns what the full one does.
 pub mod Moves
 pub mod BoundedRun
 pub mod ExampleLemmas

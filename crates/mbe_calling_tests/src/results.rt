@@ -30,7 +30,7 @@ pub fn too_deep(alloc: Global, span: Span) -> Result<ExpandError, AllocError> {
     ExpandError::new(alloc, span, ExpandErrorKind::BindingError(text))
 }
 
-/// The type at the front, as the sample grammar finds it. The iterator is left after it.
+/// The type that comes first, as the sample grammar finds it. The iterator is left after it.
 pub fn leading_type<'a>(
     alloc: Global,
     iter: &mut TtIter<'a>,

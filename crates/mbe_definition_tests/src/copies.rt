@@ -12,7 +12,7 @@ fn are_equal(alloc: Global, one: &str, two: &str) -> Result<bool, Fail> {
     Ok(one == two)
 }
 
-// Definitions whose macros differ from one another. All but the last two stand at the same places.
+// Definitions whose macros differ from one another. All but the last two are at the same places.
 static DIFFERENT: [&str; 13] = [
     "($($x:ident),*) => {}",
     "($($x:ident);*) => {}",
@@ -47,7 +47,7 @@ fn macros_of_other_rules_differ(rt: HostRuntime) -> Result<(), Fail> {
     Ok(())
 }
 
-// Pairs whose separators stand at different places.
+// Pairs whose separators are at different places.
 static SAME: [(&str, &str); 5] = [
     ("($($x:ident),*) => {}", "($($x:ident) ,*) => {}"),
     ("($($x:ident)=>*) => {}", "($($x:ident) =>*) => {}"),

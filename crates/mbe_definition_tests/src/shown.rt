@@ -13,7 +13,7 @@ use std::process::Abort;
 use std::rc::Rc;
 use std::test::Fail;
 
-// All of the parts stand in the text.
+// All of the parts are in the text.
 fn assert_parts(rt: &impl Abort, text: &str, parts: &[&str]) {
     for part in parts {
         assert!(rt; text.contains(*part), "{part} in {text}");

@@ -1,4 +1,4 @@
--- More expansions, whole: signs, invisible groups, names that stand twice, and the closest of two rules that fault.
+-- More expansions, whole: signs, invisible groups, names that come twice, and the closest of two rules that fault.
 use Rattle.std.specs.Prelude.{◌≡◌, ◌⊎◌, ◌-◌, ◌^◌, ◌<◌, ◌≤◌, ℕ, zero, suc, min, List, [], ◌∷◌, codes, None, refl}
 use Rattle.std.proofs.Common.{arith, ap, sym, ◌∙◌, subst}
 use Rattle.std.proofs.lemmas.Option.{none-some, same_Some}
@@ -129,7 +129,7 @@ invisible_example = record {
   );
 }
 
--- ---- a name that stands twice
+-- ---- a name that comes twice
 
 abbrev word_item : ℕ → List ℕ → Item
 word_item start text = taken (codes "x") items.stripped (text_at 1 start text none)

@@ -25,7 +25,7 @@ stood (Ok h) g e = e
 stood (Err Absent) g e = cc
 stood (Err Fault) g e = cc
 
--- no post stands behind an operand, an operation or an expression
+-- no post comes after an operand, an operation or an expression
 unary_done : (f g : Forest) → takes Unary f ≡ Ok g → takes Post g ≡ Err Absent
 unary_done f g e =
     let (start, _, operand) = then_stands (in_turn (takes Prefix) f) (takes Operand) g (sym (takes_by_rule Unary f) ∙ e) in
@@ -96,7 +96,7 @@ stands_first (Ok g) t = refl
 stands_first (Err Absent) t = refl
 stands_first (Err Fault) t = refl
 
--- where a jump stands, the operand by itself is that
+-- where a jump is, the operand by itself is that
 primary_jump : (f g : Forest) (s : Step) → takes JumpWord f ≡ Ok g → takes Jump f ≡ has_to_stand s → takes Primary f ≡ has_to_stand s
 primary_jump f g s e jump =
     let h = jump_begins f g e in
@@ -122,7 +122,7 @@ jump_value f g word start =
     ∙ (ap (λ s. or_else s (Ok g)) (takes_by_rule JumpValue g ∙ ap (λ s. s >>= λ h. has_to_stand (takes Expr h)) start)
     ∙ stands_first (takes Expr g) (Ok g)))
 
--- nothing is taken behind an expression
+-- nothing is taken after an expression
 ends_there : (s : Step) (posts operations : Forest → Step) → ((g : Forest) → s ≡ Ok g → posts g ≡ Ok g) → ((g : Forest) → s ≡ Ok g → operations g ≡ Ok g)
     → ((has_to_stand s >>= posts) >>= operations) ≡ has_to_stand s
 ends_there (Ok g) posts operations a b = ap (λ t. t >>= operations) (a g refl) ∙ b g refl

@@ -131,7 +131,7 @@ either_of p q t = p t || q t
 pub either_apart : (p q r : Tree → Bool) → Apart p r → Apart q r → Apart (either_of p q) r
 either_apart p q r a b t h = elim (or_cases (p t) (q t) h) [ inl e ↦ a t e | inr e ↦ b t e ]
 
--- ---- what stands in front where a rule does
+-- ---- what comes first where a rule fits
 
 first_stands : (a : Bool) (rest g : Forest) → or_miss Absent (if a then Some rest else None) ≡ Ok g → a ≡ true
 first_stands true rest g e = refl

@@ -34,7 +34,7 @@ indirection_begins f g e =
 apart_from : (char : ℕ) → (38 == char) ≡ false → (42 == char) ≡ false → Apart begins_indirection (is_punct char)
 apart_from char a b = either_apart (is_punct 38) (is_punct 42) (is_punct char) (signs_apart 38 char a) (signs_apart 42 char b)
 
--- ---- what doesn't stand where an indirection does
+-- ---- what isn't there where an indirection is
 
 colons_absent : (f : Forest) → Begins begins_indirection f → takes Colons f ≡ Err Absent
 colons_absent f h =

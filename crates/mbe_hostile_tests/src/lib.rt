@@ -1,4 +1,4 @@
-// Tests of what must stand whatever it is given: memory that runs out at any request, files that can't be read, outputs that
+// Tests of what must hold whatever is given: memory that runs out at any request, files that can't be read, outputs that
 // break off, and definitions and arguments that are very large.
 #![tactic(auto)]
 

@@ -139,7 +139,7 @@ module _ (log : Log) (es : List Entry) (fs : List RoundEntry) where
 
 -- ---- one entry more at the end of a list
 
--- what stands in a list of lists where one has one entry more
+-- what is in a list of lists where one has one entry more
 get-appended : {E : Type 0} (ess : List (List E)) (i j : ℕ) (e : E) (fs : List E) → slice_get (appended ess i e) j ≡ Some fs →
     (slice_get ess j ≡ Some fs) ⊎ ((es : List E) × (slice_get ess j ≡ Some es) × (i ≡ j) × (fs ≡ es ++ e ∷ []))
 get-appended {E} ess i j e fs h = go (same_or_not i j)

@@ -28,7 +28,7 @@ pub get-last : {X : Type 0} (xs : List X) (y : X) → slice_get (xs ++ y ∷ [])
 get-last [] y = refl
 get-last (x ∷ xs) y = get-last xs y
 
--- what stands in a list with one more at its end
+-- what is in a list with one more at its end
 pub get-more : {X : Type 0} (xs : List X) (y x : X) (i : ℕ) → slice_get (xs ++ y ∷ []) i ≡ Some x →
     (slice_get xs i ≡ Some x) ⊎ ((i ≡ length xs) × (y ≡ x))
 get-more [] y x zero h = inr (refl, cc)

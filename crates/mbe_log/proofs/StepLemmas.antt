@@ -22,7 +22,7 @@ module _ {T : Type 0} (lists : List (Chain T)) where
   own_there None i x h = cc
   own_there (Some l) i x h = (l, refl, h)
 
-  -- what stands at the place of this index
+  -- what is at the place of this index
   pub at_place : (items : List Part) (xs : List T) → map (entry_at lists) items ≡ map Some xs → (i : ℕ) (d : Part) → i < length items →
       (x : T) × (slice_get xs i ≡ Some x) × (l : Chain T) × (slice_get lists (get_or items i d).list ≡ Some l) × (slice_get l.own (get_or items i d).first ≡ Some x)
   at_place items xs e i d h =

@@ -2,7 +2,7 @@
 use crate::calls::{Call, What};
 use std::alloc::{AllocError, Global};
 
-// What an account holds, in the order of writing. A nested account stands between an opening and a closing.
+// What an account holds, in the order of writing. A nested account is between an opening and a closing.
 #[derive(Clone, Copy, Debug)]
 enum Token {
     Bound(usize, What),

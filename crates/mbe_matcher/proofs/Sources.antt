@@ -47,7 +47,7 @@ pub no_items : {A : Type 0} (xs : List A) → length xs ≡ 0 → xs ≡ []
 no_items [] e = refl
 no_items (x ∷ xs) e = absurd (omega arith)
 
--- behind a leaf, an opening and a closing
+-- after a leaf, an opening and a closing
 module _ (f : Forest) (n : ℕ) (here left : Forest) (around : List Forest) (stands : rests f n ≡ (here, reverse around)) (rest : left ≡ rest_of here) where
   pub behind_leaf : (l : Leaf) → Some (Leaf_tree l) ≡ first here → rests f (n + 1) ≡ (left, reverse around)
   behind_leaf l e = one_further f n here (reverse around) stands ∙ leaf_step here left (reverse around) l e rest

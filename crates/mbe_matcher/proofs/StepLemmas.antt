@@ -76,7 +76,7 @@ module _ {A : Type 0} (log : Log) (outers : List (Outer A)) where
   has_more p b rest s k (o, h) e = as_outline (λ x. 1 + dots b ≤ p.number) p (op (repetition b s k) rest) o h e
       (λ a up t. let n = t.number in omega (arith, n))
 
-  -- behind an op without dots
+  -- after an op without dots
   pub stands_past : (p : Position A) (o : Op) (rest : Ops) (a b : Account) (up : List Edge) (h : Handle) (r : Bor (List (code.Op A))) → Stands log outers p (op o rest) a up → op_dots o ≡ 0 →
       ops_of r.now ≡ rest → IsAccount log h b →
       Stands log outers (record { dot = r; number = p.number - 1; up = p.up; handle = h }) rest b up

@@ -67,7 +67,7 @@ ends_inside (group d inside rest) (suc n) h e = go (λ m u v. ends_inside rest m
 
 -- ---- a cursor
 
--- one flat token more, where the cursor stands in a group
+-- one flat token more, where the cursor is in a group
 pub goes_on : (cursor moved : Placed) (f : Forest) → viewed cursor ≡ f → place_of cursor ≤ flat_len f → (IsAtRoot cursor → ⊥)
     → moved ≡ (viewed cursor, min (place_of cursor + 1) (flat_len (viewed cursor)))
     → (viewed moved ≡ f) × (place_of moved ≡ place_of cursor + 1) × (place_of cursor + 1 ≤ flat_len f) × (cut_flat (place_of moved) f ≡ cut_flat (place_of cursor) f)
@@ -79,7 +79,7 @@ goes_on cursor moved f v h n m =
     let p : place_of moved ≡ suc (place_of cursor) = ap place_of m ∙ s in
     (ap viewed m ∙ v, omega (arith, p), omega (arith, l), ap (λ (q : ℕ). cut_flat q f) p ∙ i.1)
 
--- the cursor that stands between two trees is behind the shortest front
+-- the cursor that is between two trees is after the shortest front
 pub stands_behind : (cursor start : Placed) (f : Forest) → viewed cursor ≡ f → place_of cursor ≤ flat_len f → IsAtRoot cursor
     → cut_flat (place_of cursor) f ≡ cut_flat (place_of start) f → cursor ≡ (f, flat_len (cut_flat (place_of start) f).front)
 stands_behind cursor start f v h r c =
@@ -130,7 +130,7 @@ same_front (group j y a) b (group i x c) d e n =
     let w = same_front a b c d v (omega (arith, n, m)) in
     ap (λ (z : Delimiter). group z y a) u ∙ (ap (λ (z : Forest). group i z a) t ∙ ap (group i x) w)
 
--- a cursor behind the shortest front that holds n flat tokens
+-- a cursor after the shortest front that holds n flat tokens
 module _ (f : Forest) (n : ℕ) (cursor : Placed) (at : cursor ≡ (f, flat_len (cut_flat n f).front)) where
   pub behind_all_groups : IsAtRoot cursor
   behind_all_groups =
@@ -160,7 +160,7 @@ module _ (g : Grammar) (entry : PrefixEntryPoint) (f : Forest) (counted : Front)
   begins_at : start ≡ (f, counted.count)
   begins_at = begins ∙ ap (λ (t : Forest). let p : Placed = (t, counted.count) in p) same
 
-  -- where the cursor stands once it has left all groups
+  -- where the cursor is once it has left all groups
   pub stands_at : (cursor : Placed) → cursor ≡ (viewed start, flat_len (cut_flat (place_of start) (viewed start)).front) → cursor ≡ (f, flat_len (front g entry f).front)
   stands_at cursor e =
       e ∙ (ap (λ (p : Placed). let q : Placed = (viewed p, flat_len (cut_flat (place_of p) (viewed p)).front) in q) begins_at

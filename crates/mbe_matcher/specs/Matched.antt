@@ -41,7 +41,7 @@ pub record AreSettled {A : Type 0} (i : Input) (place : ℕ) (pattern : Ops) (sp
   pub goes_on : Each (LeadsTo log outers here) waiting (kept_moves i (dots pattern) place (reverse spots))
   pub ended : Each (Holds log) ends (kept_ends i (dots pattern) place (reverse spots))
 
--- it stands before the first op of the pattern, and has bound nothing
+-- it is before the first op of the pattern, and has bound nothing
 abbrev pub IsAtStart : {A : Type 0} → Log → Ops → Position A → Type 0
 IsAtStart {A} log pattern p = (outers : List (Outer A)) → Stands log outers p pattern no_account []
 

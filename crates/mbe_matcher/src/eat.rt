@@ -1,4 +1,4 @@
-// Passes what stands in front of an iterator.
+// Consumes what comes first in an iterator.
 ghost use Rattle.std.specs.Prelude.{◌≡◌, IfOk};
 ghost use Rattle.mbe_tt.specs.Trees.Glue.{chars_of};
 ghost use Rattle.mbe_tt.specs.Views.Shown.{ident_of, literal_of};
@@ -37,7 +37,7 @@ pub(crate) fn eat_ident<A: Allocator>(ident: &Ident<A>, src: &mut TtIter<'_, A>)
     }
 }
 
-// Puncts that stand together and have just these chars.
+// Puncts that are together and have just these chars.
 pub(crate) fn eat_puncts<A: Allocator>(puncts: &[Punct], src: &mut TtIter<'_, A>) -> bool
     ensures { HasPassed result (puncts_front (chars_of puncts.now) src.old) src.new }
 {
@@ -152,7 +152,7 @@ fn eat_signed_literal<'a, A: Allocator>(src: &mut TtIter<'a, A>) -> Option<Token
     }
 }
 
-// A lifetime where `'` comes first, and else puncts that stand together, or one tree.
+// A lifetime where `'` comes first, and else puncts that are together, or one tree.
 fn eat_tree<'a, A: Allocator>(src: &mut TtIter<'a, A>) -> Option<TokenTreesView<'a, A>>
     ensures { IsTaken result (tree_front src.old) src.new }
 {

@@ -63,7 +63,7 @@ pub struct Counted<'t, A: Allocator = Global> {
     pub is_good: bool,
 }
 
-// Passes the whole trees that hold what the grammar counts.
+// Consumes the whole trees that hold what the grammar counts.
 pub fn eat_front<'t, A: Allocator, G: FragmentGrammar>(
     grammar: &G,
     entry_point: PrefixEntryPoint,
@@ -101,7 +101,7 @@ fn cursor_at<'t, A: Allocator>(view: TokenTreesView<'t, A>, count: usize) -> Cur
     cursor
 }
 
-// Goes to the end of the tree that the cursor stands in, if it stands in a group.
+// Goes to the end of the tree that the cursor is in, if it is in a group.
 fn leave_groups<A: Allocator>(cursor: &mut Cursor<'_, A>)
     requires { place_of cursor.old ≤ flat_len (viewed cursor.old) }
     ensures { cursor.new ≡ (

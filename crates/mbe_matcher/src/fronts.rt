@@ -1,4 +1,4 @@
-// What stands in front of an iterator, and over how many flat tokens.
+// What comes first in an iterator, and over how many flat tokens.
 ghost use Rattle.std.specs.Prelude.{◌≡◌, ◌-◌, if◌then◌else◌, Some, None, option_map};
 ghost use Rattle.mbe_tt.specs.Trees.Glue.{chars_of};
 ghost use Rattle.mbe_tt.specs.Trees.Tree.{flat_len};
@@ -23,7 +23,7 @@ fn fork<'a, A: Allocator>(src: &TtIter<'a, A>) -> TtIter<'a, A>
     src.remaining().iter()
 }
 
-// The flat tokens from `before` to `after`, if they were passed.
+// The flat tokens from `before` to `after`, if they were consumed.
 fn width_to<A: Allocator>(
     passed: bool,
     before: &TtIter<'_, A>,
@@ -74,7 +74,7 @@ fn ident_width<A: Allocator>(ident: &Ident<A>, src: &TtIter<'_, A>) -> Option<us
     width_to(passed, src, &ahead)
 }
 
-// The width of puncts that stand together and have just these chars.
+// The width of puncts that are together and have just these chars.
 fn puncts_width<A: Allocator>(puncts: &[Punct], src: &TtIter<'_, A>) -> Option<usize>
     ensures { result ≡ length_of (puncts_front (chars_of puncts.now) src.now) }
 {
@@ -92,7 +92,7 @@ fn separator_width<A: Allocator>(separator: &Separator<A>, src: &TtIter<'_, A>) 
     width_to(passed, src, &ahead)
 }
 
-// Passes a separator.
+// Consumes a separator.
 fn eat_separator<A: Allocator>(separator: &Separator<A>, src: &mut TtIter<'_, A>) -> bool
     ensures { HasPassed result (separator_front (separator_seen separator.now) src.old) src.new }
 {
@@ -136,7 +136,7 @@ fn eat_lifetime_of<A: Allocator>(ident: &Ident<A>, src: &mut TtIter<'_, A>) -> b
     eat_ident(ident, src)
 }
 
-// Whether a group of the kind stands in front.
+// Whether a group of the kind comes first.
 pub(crate) fn opens<A: Allocator>(kind: DelimiterKind, src: &TtIter<'_, A>) -> bool
     ensures { result ≡ is_opening kind src.now }
 {
@@ -147,7 +147,7 @@ pub(crate) fn opens<A: Allocator>(kind: DelimiterKind, src: &TtIter<'_, A>) -> b
     }
 }
 
-// The width of what stands between a round and the next one of a repetition, if a next one may
+// The width of what is between a round and the next one of a repetition, if a next one may
 // begin here.
 pub(crate) fn between_width<A: Allocator>(
     kind: RepeatKind,

@@ -3,10 +3,10 @@
 // A pattern has a dot before its first op and after each op, and so have the bodies of its groups
 // and repetitions. A position is a dot, the open items around it, and what was bound on the way.
 // All positions go over the argument together, from place to place (a place is how many flat tokens
-// were passed). At a place the stack of positions is emptied, the last first. Before a repetition,
+// were consumed). At a place the stack of positions is emptied, the last first. Before a repetition,
 // a position goes past it or into its body; at a round's end it goes out and, without a separator,
 // into one more round: these are pushed. Before a token, an opening, a closing, a separator or a
-// variable that fits it waits, with the number of flat tokens that it passes. What doesn't fit is
+// variable that fits it waits, with the number of flat tokens that it consumes. What doesn't fit is
 // dropped. Then:
 //
 // - two wait, and pass different numbers, or one of them a fragment: the place is ambiguous, and

@@ -12,7 +12,7 @@ pub(crate) struct Position<'a, A: Allocator = Global> {
     pub(crate) dot: &'a [Op<A>],
     // How many dots there are from here to the pattern's end.
     pub(crate) number: usize,
-    // Where the innermost open item stands among the outer ones.
+    // Where the innermost open item is among the outer ones.
     pub(crate) up: Option<usize>,
     pub(crate) handle: Handle,
 }

@@ -23,7 +23,7 @@ use mbe_tt::symbol::Symbol;
 use mbe_tt::tt::{Leaf, Punct, TtElement, TtIter};
 use std::alloc::{AllocError, Allocator, Global};
 
-// Where an error of the trees in front stands.
+// Where an error of the first trees is.
 fn noted<A: Allocator>(
     alloc: A,
     kind: ExpandErrorKind<A>,
@@ -207,7 +207,7 @@ struct Misfit<'a, A: Allocator = Global> {
 #[derive(Drop)]
 struct Last<'a, A: Allocator = Global> {
     handle: Handle,
-    // Where the position failed. None where it stands at the pattern's end.
+    // Where the position failed. None where it is at the pattern's end.
     misfit: Option<Misfit<'a, A>>,
 }
 

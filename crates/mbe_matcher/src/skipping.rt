@@ -1,4 +1,4 @@
-// What a repetition without rounds leaves: its names bound to nothing, and its dots passed.
+// What a repetition without rounds leaves: its names bound to nothing, and its dots skipped.
 ghost use Rattle.std.specs.Prelude.{◌≡◌, OnOk, IfSome};
 ghost use Rattle.mbe_semantics.specs.Bindings.Account.{IsLive};
 ghost use Rattle.mbe_semantics.specs.Syntax.Op.{names_of, names_of_op};

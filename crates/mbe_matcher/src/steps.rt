@@ -72,7 +72,7 @@ fn op_steps<'a, A: Allocator + Copy, G: FragmentGrammar>(
             repetition_steps(log, outers, &tokens.0, separator, *kind, rest, position)
         }
         Op::Literal(_) | Op::Ident(_) | Op::Punct(_) => Ok(plain_steps(source, op, rest, position)),
-        // No metavariable expression stands in a pattern.
+        // No metavariable expression is in a pattern.
         Op::Ignore { .. }
         | Op::Index { .. }
         | Op::Len { .. }

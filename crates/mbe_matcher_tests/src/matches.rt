@@ -102,7 +102,7 @@ fn bound<A: Allocator + Copy>(
     Ok(text)
 }
 
-// A list stands in brackets, `-` for a skipped name, and `?` for a missing one.
+// A list is in brackets, `-` for a skipped name, and `?` for a missing one.
 fn show<A: Allocator>(binding: &Binding<'_, A>, text: &mut String<A>) -> Result<(), AllocError> {
     match binding {
         Binding::Fragment(fragment) => show_fragment(fragment, text),

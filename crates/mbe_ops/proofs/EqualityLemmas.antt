@@ -168,7 +168,7 @@ same_through m n o h k = (macros_by_key m o).0 ((macros_by_key m n).1 h ∙ (mac
 
 -- ---- one op
 
--- how many groups and repetitions stand one inside the other, or side by side: a measure
+-- how many groups and repetitions are one inside the other, or side by side: a measure
 abbrev mutual
   pub op_weight : Op → ℕ
   op_weight (ops.group d body) = suc (ops_weight body)
@@ -275,7 +275,7 @@ module _ {X : Type 0} (R : X → X → Type 0) (Rs : List X → List X → Type 
         λ s. next.1 (subst (Rs (x ∷ drop (i + 1) xs)) (sym n) (o.both x y (drop (i + 1) xs) zs (t.0 b) s)),
       )
 
-  -- all are passed
+  -- all are consumed
   pub at_the_end : (xs : List X) (i : ℕ) (ys : List X) (r : Bool) → length xs ≤ i → IsTrue r ↔ (ys ≡ []) → AsFarAs xs i ys → IsTrue r ↔ P
   at_the_end xs i ys r l e h =
       let all = drop_all i xs l in (

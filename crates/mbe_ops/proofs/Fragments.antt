@@ -1,4 +1,4 @@
--- What an iterator has passed, and what a variable takes by what stands in front.
+-- What an iterator has consumed, and what a variable takes by what comes first.
 use Rattle.std.specs.Prelude.{◌≡◌, ◌≤◌, ◌<◌, ◌∷◌, take, ℕ, zero, suc, Bool, true, false, if◌then◌else◌, length, List, Option, Some, None, option_map, Result, Ok, Err, IsOk, is_ok, ◌↔◌, refl, ◌==◌}
 use Rattle.std.proofs.Common.{ap, sym, ◌∙◌, arith, subst}
 use Rattle.std.proofs.lemmas.Option.{none-some, same_Some}
@@ -18,7 +18,7 @@ skip-none : (n : ℕ) → skip n none ≡ none
 skip-none zero = refl
 skip-none (suc n) = skip-none n
 
--- behind the first trees
+-- after the first trees
 pub back-skip : (n : ℕ) (f : Forest) → (cut_trees n f).back ≡ skip n f
 back-skip n none = sym (skip-none n)
 back-skip zero (leaf l rest) = refl
@@ -26,7 +26,7 @@ back-skip zero (group d inside rest) = refl
 back-skip (suc n) (leaf l rest) = back-skip n rest
 back-skip (suc n) (group d inside rest) = back-skip n rest
 
--- the trees are those passed and those left
+-- the trees are those consumed and those left
 pub passes : (n : ℕ) (f : Forest) → f ≡ append (cut_trees n f).front (skip n f)
 passes n f = sym (cut_trees-append n f) ∙ ap (append (cut_trees n f).front) (back-skip n f)
 
@@ -45,7 +45,7 @@ left_behind n f left l = l ∙ sym (back-skip n f)
 pub taken : {A : Type 0} (v : TokenTreesView A) (o : Option Cut) (c : Cut) (left : Forest) → o ≡ Some c → trees v ≡ c.front → left ≡ c.back → IsTaken (Some v) o left
 taken v o c left h t l = rw h (t, l)
 
--- ---- what stands in front
+-- ---- what comes first
 
 if_none : {X Y : Type 0} (b : Bool) (x y : X) (z : Y) → (if b then None else Some x) ≡ Some y → (if b then None else Some z) ≡ Some z
 if_none true x y z e = absurd (none-some y e)
@@ -83,7 +83,7 @@ lifetime_in_front (leaf (punct p) rest) i q e = lifetime_behind p rest i (is_quo
 lifetime_in_front (leaf (ident j) rest) i q e = absurd (none-some 39 q)
 lifetime_in_front (group d inside rest) i q e = absurd (none-some 39 q)
 
--- behind a quote stands a lifetime or nothing
+-- after a quote there is a lifetime or nothing
 pub quoted : (f : Forest) → front_char f ≡ Some 39 → tree_front f ≡ lifetime_front f
 quoted none q = absurd (none-some 39 q)
 quoted (leaf (literal l) rest) q = absurd (none-some 39 q)
@@ -91,7 +91,7 @@ quoted (leaf (punct p) rest) q = rw (is_quote p q) refl
 quoted (leaf (ident j) rest) q = absurd (none-some 39 q)
 quoted (group d inside rest) q = absurd (none-some 39 q)
 
--- ---- literals, behind a sign or not
+-- ---- literals, after a sign or not
 
 unsigned_in_front : (f : Forest) (l : Leaf) → front_literal f ≡ Some l → unsigned_front f ≡ Some (cut_trees 1 f)
 unsigned_in_front none l e = absurd (none-some l e)
@@ -114,7 +114,7 @@ bare_in_front (leaf (punct p) rest) l e = absurd (none-some l e)
 bare_in_front (leaf (ident i) rest) l e = unsigned_in_front (leaf (ident i) rest) l e
 bare_in_front (group d inside rest) l e = absurd (none-some l e)
 
--- the trees of a literal, behind a sign that was passed or not
+-- the trees of a literal, after a sign that was consumed or not
 abbrev pub literal_trees : Bool → ℕ
 literal_trees true = 2
 literal_trees false = 1
@@ -154,7 +154,7 @@ one_tree (Some t) (leaf (punct p) rest) left g v l = absurd (none-some _ g)
 one_tree (Some t) (leaf (ident i) rest) left g v l = (same_Some _ _ v ∙ ap (leaf (ident i)) (sym (front-zero rest)), left_behind 1 (leaf (ident i) rest) left l)
 one_tree (Some t) (group d inside rest) left g v l = (same_Some _ _ v ∙ ap (group d inside) (sym (front-zero rest)), left_behind 1 (group d inside rest) left l)
 
--- where no punct is in front, none are passed
+-- where no punct comes first, none are consumed
 pub no_puncts : (f left : Forest) → None ≡ glued f → left ≡ skip (length (glue f)) f → left ≡ f
 no_puncts none left g l = l
 no_puncts (leaf (literal k) rest) left g l = l
@@ -172,7 +172,7 @@ first_none (group d inside rest) e = absurd (none-some _ e)
 tree_is : (s t : Tree) (rest : Forest) → Some t ≡ Some s → tree s rest ≡ tree t rest
 tree_is s t rest e = ap (λ (x : Tree). tree x rest) (sym (same_Some t s e))
 
--- the first tree, and those behind it
+-- the first tree, and those after it
 pub first_tree : (f left : Forest) (t : Tree) → Some t ≡ first f → left ≡ rest_of f → f ≡ tree t left
 first_tree none left t e l = absurd (none-some t (sym e))
 first_tree (leaf k rest) left t e l = tree_is (Leaf_tree k) t rest e ∙ ap (tree t) (sym l)

@@ -1,4 +1,4 @@
--- What stands in front, as a part of a metavariable expression; and std reads the depths that the definition says.
+-- What comes first, as a part of a metavariable expression; and std reads the depths that the definition says.
 use Rattle.std.specs.Prelude.{◌≡◌, ◌≤◌, ◌-◌, ◌^◌, ◌==◌, ℕ, Bool, true, false, if◌then◌else◌, nat_lt, List, length, Some, None, Result, Ok, Err, refl}
 use Rattle.std.proofs.Common.{ap, sym, ◌∙◌, arith, length-drop}
 use Rattle.std.proofs.lemmas.Option.{none-some, same_Some}

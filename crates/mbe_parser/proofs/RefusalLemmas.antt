@@ -14,7 +14,7 @@ use Rattle.mbe_parser.specs.RuleViews.{rule_of, rules_seen}
 
 -- ---- over ops
 
--- the next op, and those behind it
+-- the next op, and those after it
 pub next_op : {A : Type 0} (xs : List (code.Op A)) (i : ℕ) (x : code.Op A) → i < length xs → x ≡ get_or xs i x
     → ops_of (drop i xs) ≡ op (op_of x) (ops_of (drop (i + 1) xs))
 next_op xs i x h e = ap ops_of (drop_more xs i x h) ∙ ap (λ y. op (op_of y) (ops_of (drop (i + 1) xs))) (sym e)
@@ -36,7 +36,7 @@ or_assoc : (a b c : Bool) → ((a || b) || c) ≡ (a || (b || c))
 or_assoc true b c = refl
 or_assoc false b c = refl
 
--- the ops that were passed, and then those that are left, can read nothing
+-- the ops that were read, and then those that are left, can read nothing
 pub next_nullable : (all so_far here now : Bool) (o : Op) (os left : Ops) → left ≡ op o os → here ≡ is_nullable_op o → now ≡ (so_far && here)
     → all ≡ (so_far && is_nullable left) → all ≡ (now && is_nullable os)
 next_nullable all so_far here now o os left l h n e =

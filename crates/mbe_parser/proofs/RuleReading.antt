@@ -141,7 +141,7 @@ module _ (separators : List ℕ) where
 -- ---- all rules
 
 module _ (HasEdition : SyntaxContext → Edition → Type 0) (separators : List ℕ) (missing : Fault) where
-  -- the rules that are behind those that were read
+  -- the rules that are after those that were read
   abbrev pub Continues : List Rule → Forest → Forest → Type 0
   Continues before whole left = (rs : List Rule) (x : Option Fault) → Rules HasEdition separators missing left rs x
       → Rules HasEdition separators missing whole (before ++ rs) x
@@ -161,7 +161,7 @@ module _ (HasEdition : SyntaxContext → Edition → Type 0) (separators : List 
       subst (λ (rs : List Rule). Rules HasEdition separators missing whole rs None) (append-nil before)
       (c [] None (subst (λ (g : Forest). Rules HasEdition separators missing g [] None) (sym e) ended))
 
-  -- one rule more, with a separator behind it
+  -- one rule more, with a separator after it
   pub one_more : (before : List Rule) (r : Rule) (whole left behind rest : Forest) → Continues before whole left → ReadsRule HasEdition left r behind
       → IsSeparated separators behind → rest ≡ rest_of behind → (rs : List Rule) (x : Option Fault) → Rules HasEdition separators missing rest rs x
       → Rules HasEdition separators missing whole (before ++ (r ∷ rs)) x
@@ -169,20 +169,20 @@ module _ (HasEdition : SyntaxContext → Edition → Type 0) (separators : List 
       c (r ∷ rs) x (separated left rest reads.rule_trees r rs x reads.at reads.parts
       (ap (behind_separator separators) reads.behind ∙ (behind-some separators behind e ∙ ap Some (sym at))) h)
 
-  -- the last rule, with nothing behind it
+  -- the last rule, with nothing after it
   pub last_rule : (before : List Rule) (r : Rule) (whole left behind : Forest) → Continues before whole left → ReadsRule HasEdition left r behind
       → behind ≡ none → AreRules HasEdition separators missing whole (before ++ r ∷ []) None
   last_rule before r whole left behind c reads e =
       c (r ∷ []) None (separated left none reads.rule_trees r [] None reads.at reads.parts (ap (behind_separator separators) (reads.behind ∙ e)) ended)
 
-  -- a rule with no separator behind it
+  -- a rule with no separator after it
   pub stray_rule : (before : List Rule) (r : Rule) (whole left behind : Forest) → Continues before whole left → ReadsRule HasEdition left r behind
       → behind ≢ none → (IsSeparated separators behind → ⊥) → Rules HasEdition separators missing whole (before ++ r ∷ []) (Some missing)
   stray_rule before r whole left behind c reads n e =
       c (r ∷ []) (Some missing) (unseparated left reads.rule_trees r reads.at reads.parts
       (ap (behind_separator separators) reads.behind ∙ behind-none separators behind n e))
 
--- rules that were written one behind the other
+-- rules that were written one after the other
 pub rules-push : {A : Type 0} (before : List (code.Rule A)) (r : code.Rule A) → rules_seen (before ++ r ∷ []) ≡ rules_seen before ++ rule_of r ∷ []
 rules-push [] r = refl
 rules-push (b ∷ before) r = ap (λ (rs : List Rule). rule_of b ∷ rs) (rules-push before r)
@@ -192,7 +192,7 @@ pub rules-push-more : {A : Type 0} (before : List (code.Rule A)) (r : code.Rule 
 rules-push-more [] r rs = refl
 rules-push-more (b ∷ before) r rs = ap (λ (xs : List Rule). rule_of b ∷ xs) (rules-push-more before r rs)
 
--- ---- what a macro tells of its definition
+-- ---- what a macro reports of its definition
 
 -- the macro of these rules and this first fault
 abbrev pub macro_with : List Rule → Option reported.SyntaxFault → Macro

@@ -1,4 +1,4 @@
--- What stands in front of a rule's pattern; and what is left behind a rule is shorter than what the rule stood in front of.
+-- What comes before a rule's pattern; and what is left after a rule is shorter than what begins with the rule.
 use Rattle.std.specs.Prelude.{◌≡◌, ◌<◌, ◌==◌, Bool, true, false, if◌then◌else◌, codes, Some, None, Result, Ok, Err, refl}
 use Rattle.std.proofs.Common.{ap, sym, ◌∙◌, arith}
 use Rattle.std.proofs.lemmas.Option.{none-some}
@@ -74,14 +74,14 @@ rule_trees_back (leaf (ident i) rest) o e =
     either (is_text i.sym (codes "unsafe")) _ _ (Ok o) (flat_len o.back < flat_len (leaf (ident i) rest)) (λ h. let k = style_back rest o h in omega arith)
     (λ h. style_back (leaf (ident i) rest) o h) e
 
--- ---- what stands in front of the pattern
+-- ---- what comes before the pattern
 
 word_passed : (b : Bool) (i : Ident) (rest : Forest)
     → (if b then style_at rest else style_at (leaf (ident i) rest)) ≡ style_at (if b then rest else leaf (ident i) rest)
 word_passed true i rest = refl
 word_passed false i rest = refl
 
--- `unsafe` may stand in front
+-- `unsafe` may come first
 pub behind_unsafe : (f : Forest) → rule_trees_at f ≡ style_at (if is_word (codes "unsafe") f then rest_of f else f)
 behind_unsafe none = refl
 behind_unsafe (group d inside rest) = refl

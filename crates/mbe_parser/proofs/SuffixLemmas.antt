@@ -72,7 +72,7 @@ no_puncts : (l : Leaf) → NeverExtended (Some (punct_separator [])) l
 no_puncts l before behind b =
     absurd (none-some (punct_separator []) (same_Some None _ (ap separator_of (sym (separator_leaves before _ b)) ∙ b)))
 
--- puncts with another leaf behind them
+-- puncts with another leaf after them
 stray : (l : Leaf) → ((behind : List Leaf) → all_puncts (l ∷ behind) ≡ None) → (ps : List Punct) (behind : List Leaf) → all_puncts (map punct ps ++ l ∷ behind) ≡ None
 stray l h [] behind = h behind
 stray l h (p ∷ ps) behind = ap (option_map (λ qs. p ∷ qs)) (stray l h ps behind)
@@ -90,7 +90,7 @@ literal_alone (punct_separator (p ∷ [])) k = never_extended _ _ (λ behind. re
 literal_alone (punct_separator (p ∷ q ∷ ps)) k =
     never_extended _ _ (λ behind. no_separator (map punct (p ∷ q ∷ ps) ++ literal k ∷ behind) (stray (literal k) (λ more. refl) (p ∷ q ∷ ps) behind))
 
--- an identifier stands behind no puncts but a quote
+-- an identifier comes after no puncts but a quote
 pub no_lifetime : (ps : List Punct) (i : Ident) → ((q : Punct) → ps ≡ q ∷ [] → q.char ≡ 39 → ⊥) → NeverExtended (Some (punct_separator ps)) (ident i)
 no_lifetime [] i n = no_puncts (ident i)
 no_lifetime (q ∷ []) i n = never_extended _ _ (λ behind. go behind (ne_eqb q.char 39 (n q refl)))
@@ -126,7 +126,7 @@ four_puncts (q ∷ r ∷ s ∷ []) p h = never_extended _ _ (λ behind. go (all_
     go None = refl
     go (Some ps) = ap (λ (b : Bool). option_map Some (if b then Some (punct_separator (q ∷ r ∷ s ∷ p ∷ ps)) else None)) (many ps)
 
--- ---- the suffix behind the leaves that were read
+-- ---- the suffix after the leaves that were read
 
 -- the leaves before those of the suffix
 abbrev pub in_front : List Leaf → Suffix → Suffix

@@ -128,7 +128,7 @@ impl<A: Allocator + Copy> Rule<A> {
 }
 
 // The call that a rule is for: `attr` or `derive` and a group, or else a function-like call. An
-// `unsafe` may stand before.
+// `unsafe` may come before.
 fn parse_rule_style<A: Allocator>(src: &mut TtIter<'_, A>) -> Result<MacroCallStyle, SyntaxFault>
     ensures { IsStyled result (rule_trees_at src.old) src.new }
 {
@@ -146,7 +146,7 @@ fn parse_rule_style<A: Allocator>(src: &mut TtIter<'_, A>) -> Result<MacroCallSt
     Ok(style)
 }
 
-// Passes the identifier of that text, raw or not, where it is in front.
+// Consumes the identifier of that text, raw or not, where it comes first.
 fn eat_word<A: Allocator>(src: &mut TtIter<'_, A>, word: &str) -> bool
     ensures value { result ≡ is_word word.now src.old }
     ensures rest { src.new ≡ (if result then rest_of src.old else src.old) }

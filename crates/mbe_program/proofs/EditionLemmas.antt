@@ -53,7 +53,7 @@ module _ {A B : SyntaxContext → Edition → Type 0} (more : (c : SyntaxContext
   read_as : (f : Forest) (m : Macro) → IsReadAs A f m → IsReadAs B f m
   read_as f m (first, read, refusal) = (first, rules_read read, refusal)
 
--- so it is read in the only edition that is answered, with the fault that it tells
+-- so it is read in the only edition that is returned, with the fault that it reports
 pub read_in : {A : SyntaxContext → Edition → Type 0} (edition : Edition) (f : Forest) (m : Macro) (fault : Option Fault) → IsReadAs A f m
     → ((c : SyntaxContext) (e : Edition) → A c e → e ≡ edition) → m.err ≡ fault → IsReadAs (IsEdition edition) f (record { rules = m.rules; err = fault })
 read_in edition f m fault read only e =

@@ -103,7 +103,7 @@ module _ (g : Grammar) {A B : Span → Span → Type 0} (more : (s t : Span) →
     no_rule = h.no_rule;
   }
 
--- so it is written with each span as it is, where no other mark is answered
+-- so it is written with each span as it is, where no other mark is returned
 pub expands_unmarked : {A : Span → Span → Type 0} (g : Grammar) (rules : List Rule) (style : MacroCallStyle) (argument : Forest) (call_site : Span) (out : Forest) (i : Option ℕ)
     (err : Option ExpandError) → Expands g A rules style argument call_site out i err → ((s t : Span) → A s t → t ≡ s)
     → Expands g IsItself rules style argument call_site out i err

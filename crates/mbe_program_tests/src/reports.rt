@@ -275,7 +275,7 @@ impl Filler {
     }
 }
 
-// Whether the default is written of a variable that stands in brackets, where the argument is empty.
+// Whether the default is written of a variable that is in brackets, where the argument is empty.
 fn is_default(
     alloc: Global,
     (specifier, asked): (&str, &str),

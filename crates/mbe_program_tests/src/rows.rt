@@ -376,7 +376,7 @@ static ROUNDS: [Row; 14] = [
     ),
 ];
 
-// A name that stands twice: the last binding, and rounds after rounds.
+// A name that comes twice: the last binding, and rounds after rounds.
 static REPEATED_NAMES: [Row; 4] = [
     (
         ("($x:ident $($x:ident)*) => {$x}", "a b c"),
@@ -583,7 +583,7 @@ static STOPS: [Row; 10] = [
 ];
 
 static FAULTS: [Row; 11] = [
-    // What stands before and after a repetition past its limit is kept.
+    // What comes before and after a repetition past its limit is kept.
     (
         ("($x:ident) => {a $($x)* b}", "a"),
         "Expand exceed limit at 1@0..1",

@@ -173,7 +173,7 @@ by_item i pat (expression x) rest is (skipped names) up h e = absurd e
 by_item i pat (expression x) rest is (rounds rs last) up h e = absurd e
 by_item i pat _ rest is _ up h e = absurd e
 
--- what stands at the front of a body
+-- what comes first in a body
 by_frame : (i : Input) (pat : Ops) (f : Frame) (up : List Frame) → Within i pat (f ∷ up) → From i pat (dot (body_of pat (f ∷ up)) no_items (f ∷ up))
 by_frame i pat (inside d b rest js) up h = (
   dot (op (group d b) rest) js up,

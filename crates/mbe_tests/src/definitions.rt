@@ -85,7 +85,7 @@ pub fn first_misread(alloc: Global, rows: &[Row]) -> Result<Option<&'static str>
     Ok(None)
 }
 
-/// What stands before texts, what stands after them, the texts, and how each such definition is read.
+/// What comes before texts, what comes after them, the texts, and how each such definition is read.
 pub type Texts = (
     &'static str,
     &'static str,
@@ -142,7 +142,7 @@ static READ: [Row; 79] = [
     ("() => {}; ($x) => {}; () => {}", 1, MISSING_SPECIFIER),
     ("($x:ident $y:tt $z:foo) => {}", 1, Told::Nothing),
     ("($_:ident) => {}", 1, Told::Nothing),
-    // What stands after a dollar.
+    // What comes after a dollar.
     ("($1) => {}", 0, IDENT),
     ("($+) => {}", 0, IDENT),
     ("() => {$1}", 0, IDENT),

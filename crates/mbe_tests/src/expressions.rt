@@ -153,7 +153,7 @@ static CALLS: [Call; 15] = [
     (Word("len"), Invisible, Number("1"), false),
 ];
 
-// Whether `() => {${word(argument)}}`, where a group of that kind stands around the argument, is read as stated.
+// Whether `() => {${word(argument)}}`, where a group of that kind is around the argument, is read as stated.
 fn is_call_read(
     alloc: Global,
     &(word, kind, argument, is_good): &Call,

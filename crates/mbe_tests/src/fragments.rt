@@ -313,7 +313,7 @@ fn fragments_are_taken_and_written(rt: HostRuntime) -> Result<(), Fail> {
     Ok(())
 }
 
-// A grammar that faults behind a group.
+// A grammar that faults after a group.
 static FAULTY: [(&str, &str); 2] = [("($t:ty) => {}", "(a b)"), ("($e:expr) => {}", "(a) b")];
 
 #[test]

@@ -32,7 +32,7 @@ impl FragmentGrammar for NoMemory {
 }
 
 /// A grammar that takes so many flat tokens of everything, or all where there are fewer. It faults where it takes none, but
-/// for `Vis`, and everywhere if it is told to.
+/// for `Vis`, and everywhere if it is made so.
 #[derive(Clone, Copy)]
 pub struct Counting {
     pub count: usize,

@@ -71,7 +71,7 @@ static NOT_WHOLE: [Row; 12] = [
     ("($x:tt $y:tt) => {}", "a", None),
 ];
 
-// Puncts fit where they stand together.
+// Puncts fit where they are together.
 static PUNCTS: [Row; 11] = [
     ("(->) => {}", "->", Some((0, &[]))),
     ("(- >) => {}", "- >", Some((0, &[]))),
@@ -97,7 +97,7 @@ fn tokens_and_groups_fit_their_like(rt: HostRuntime) -> Result<(), Fail> {
 
 const TT: &str = "($t:tt) => {$t}";
 
-// Puncts that stand together are one tree.
+// Puncts that are together are one tree.
 static GLUED: [Row; 6] = [
     (
         TT,

@@ -78,7 +78,7 @@ static READ: [Row; 20] = [
     ("($(a)b c*) => {}", 0, Told::InvalidRepeat),
     ("() => {}; ($(a)) => {}; () => {}", 1, Told::InvalidRepeat),
     ("() => {}; () => {}; () => {{$(a)}}", 2, Told::InvalidRepeat),
-    // A suffix is read before its body, and the body before what stands after the suffix.
+    // A suffix is read before its body, and the body before what comes after the suffix.
     ("($($x)*) => {}", 0, MISSING_SPECIFIER),
     ("($($x:_),*) => {}", 0, MISSING_SPECIFIER),
     ("($($x)) => {}", 0, Told::InvalidRepeat),

@@ -19,7 +19,7 @@ use std::test::Fail;
 pub type Expansion<A> = ExpandResult<(TopSubtree<A>, MatchedArmIndex), A>;
 
 /// The index of a rule and the tokens that it writes. Nothing where the first rule, which is the closest one, doesn't apply:
-/// an error stands beside what it recovers.
+/// an error is beside what it recovers.
 pub type Want = Option<(u32, &'static [Token<'static>])>;
 
 /// A definition, an argument, and what is made of it.

@@ -84,7 +84,7 @@ drop_all zero (x ∷ xs) e = absurd (omega arith)
 drop_all (suc n) [] e = refl
 drop_all (suc n) (x ∷ xs) e = drop_all n xs (omega arith)
 
--- behind the last flat token no line is left
+-- after the last flat token no line is left
 pub walks_last : (f : Forest) (n depth : ℕ) (left : List ℕ) → n ≡ flat_len f → Walks f n depth left → left ≡ []
 walks_last f n depth left e w =
     let r : Rests = rests f n in

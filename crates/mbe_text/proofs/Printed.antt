@@ -8,7 +8,7 @@ use Rattle.mbe_text.specs.Printing.{lines, first_line, depth_after}
 use Rattle.mbe_text.proofs.Taken.{Fails, fails_then}
 use Rattle.mbe_text.proofs.Lines.{Walks, Walked, walked, walks_first, walks_last}
 
--- the cursor's place is behind n flat tokens of these trees, and the lines before it are written
+-- the cursor's place is after n flat tokens of these trees, and the lines before it are written
 pub record Printed (f : Forest) (a b : Option (List ℕ)) (v : Placed) (n depth : ℕ) : Type 0 where
   pub at : v ≡ (f, n)
   pub done : List ℕ

@@ -194,7 +194,7 @@ fn print_leaf<A: Allocator, W: Write>(leaf: &Leaf<A>, depth: usize, out: &mut W)
     }
 }
 
-// Writes the line of the next flat token, which is a closing where no tree stands, and has no line then.
+// Writes the line of the next flat token, which is a closing where no tree is, and has no line then.
 fn print_first<A: Allocator, W: Write>(
     tree: &Option<TtElement<'_, A>>,
     depth: usize,

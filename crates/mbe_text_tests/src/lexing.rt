@@ -46,7 +46,7 @@ fn kind_name(kind: LitKind) -> &'static str {
     }
 }
 
-// A leaf and its bytes; `|` stands before the suffix of a literal.
+// A leaf and its bytes; `|` is before the suffix of a literal.
 fn push_leaf(leaf: &Leaf, line: &mut String) -> Result<(), Fail> {
     match leaf {
         Leaf::Ident(ident) => write!(line, "{ident}")?,
@@ -128,7 +128,7 @@ fn assert_fault(rt: &impl Abort, alloc: Global, text: &str, want: u32) -> Result
 }
 
 // Texts with their tokens: a literal is its kind and its text, with `|` before a suffix, a punct its char and its spacing.
-// Behind each stand its bytes, and behind an opening those of the closing too.
+// After each are its bytes, and after an opening those of the closing too.
 static TOKENS: [(&str, &str); 84] = [
     // White space and comments are passed over, block comments nest, and one without an end is at fault where it begins.
     (" \t\r\n", ""),
@@ -158,7 +158,7 @@ static TOKENS: [(&str, &str); 84] = [
     ("\"\\\\\"", "Str \\\\ 0..4"),
     ("\"//é\" b", "Str //é 0..6, b 7..8"),
     ("\"a\"\"b\"", "Str a 0..3, Str b 3..6"),
-    // Behind a `'`: a char where one stands before the next `'`, else a lifetime.
+    // After a `'`: a char where one is before the next `'`, else a lifetime.
     ("'a'", "Char a 0..3"),
     ("'a", "' joint 0..1, a 1..2"),
     ("'ab'c'", "' joint 0..1, ab 1..3, Char c 3..6"),
@@ -213,7 +213,7 @@ static TOKENS: [(&str, &str); 84] = [
     ("1e 1e_5", "Integer 1|e 0..2, Integer 1|e_5 3..7"),
     ("1e+", "Integer 1|e 0..2, + alone 2..3"),
     ("1e+x", "Integer 1|e 0..2, + alone 2..3, x 3..4"),
-    // An identifier directly behind a literal is its suffix.
+    // An identifier directly after a literal is its suffix.
     ("1u8 1_é", "Integer 1|u8 0..3, Integer 1_|é 4..8"),
     ("\"a\"_b c", "Str a|_b 0..5, c 6..7"),
     ("\"a\" b", "Str a 0..3, b 4..5"),
@@ -228,7 +228,7 @@ static TOKENS: [(&str, &str); 84] = [
     ),
     ("( [", "( 0..1 3..3, [ 2..3 3..3, end, end"),
     ("()a", "( 0..1 1..2, end, a 2..3"),
-    // A punct is joint where the next token begins directly behind it and is a punct; any other character is a fault.
+    // A punct is joint where the next token begins directly after it and is a punct; any other character is a fault.
     ("+a+", "+ alone 0..1, a 1..2, + alone 2..3"),
     ("+ +", "+ alone 0..1, + alone 2..3"),
     ("+/**/+", "+ alone 0..1, + alone 5..6"),
@@ -263,7 +263,7 @@ static FAULTS: [(&str, u32); 41] = [
     ("a \"b\\\"", 2),
     ("\"\\", 0),
     ("a\n\"", 2),
-    // Behind a `'`: a char where one stands before the next `'`, else a lifetime.
+    // After a `'`: a char where one is before the next `'`, else a lifetime.
     ("'", 0),
     ("''", 0),
     ("'''", 0),
@@ -277,7 +277,7 @@ static FAULTS: [(&str, u32); 41] = [
     ("'ab'", 3),
     // Integers in four bases.
     ("٣", 0),
-    // An identifier directly behind a literal is its suffix.
+    // An identifier directly after a literal is its suffix.
     ("1u8\"a\"", 1),
     ("'a'b'c'", 3),
     // A closing fits the open group; groups that are open at the end are closed there.
@@ -286,7 +286,7 @@ static FAULTS: [(&str, u32); 41] = [
     ("{ ( }", 4),
     ("é }", 3),
     ("(a))", 3),
-    // A punct is joint where the next token begins directly behind it and is a punct; any other character is a fault.
+    // A punct is joint where the next token begins directly after it and is a punct; any other character is a fault.
     ("a `", 2),
     ("\\", 0),
     ("a\u{0}", 1),
@@ -309,7 +309,7 @@ fn texts_are_at_fault(rt: HostRuntime) -> Result<(), Fail> {
     Ok(())
 }
 
-// A suffix has at most 255 bytes, behind each kind of literal.
+// A suffix has at most 255 bytes, after each kind of literal.
 #[test]
 fn longest_suffix(rt: HostRuntime) -> Result<(), Fail> {
     let longest = "a".repeat(rt.alloc(), 255)?;

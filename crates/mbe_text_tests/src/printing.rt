@@ -80,7 +80,7 @@ fn assert_printed(rt: &impl Abort, alloc: Global, text: &str, want: &str) -> Res
     Ok(())
 }
 
-// Texts with their lines. Lines of 127, 128 and 129 bytes stand among them, and an identifier and a string of more.
+// Texts with their lines. Lines of 127, 128 and 129 bytes are among them, and an identifier and a string of more.
 static PRINTED: [(&str, &str); 6] = [
     ("", "SUBTREE $$ 0@0..0 0@0..0\n"),
     (

@@ -66,7 +66,7 @@ less_told (group d inside rest) = refl
 
 -- ---- paths, tree by tree
 
--- what is written behind a tree
+-- what is written after a tree
 abbrev pub behind : Span → Bool → Forest
 behind site true = double_colon site none
 behind site false = none

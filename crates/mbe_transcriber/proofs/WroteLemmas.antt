@@ -71,7 +71,7 @@ wrote_trees f old new p e = record { told = refl; groups = groups_kept f old new
 pub wrote_fault : {P : Forest → Type 0} (b : Bool) (old : Levels) → b ≡ true → Wrote true b P old old
 wrote_fault b old e = record { told = sym e; groups = refl; written = λ h. absurd (let k : true ≡ false = sym e ∙ h in cc) }
 
--- the same, told of another thing
+-- the same, said of another thing
 pub wrote_as : {P Q : Forest → Type 0} (a b c : Bool) (old new : Levels) → b ≡ c → ((out : Forest) → P out → Q out) → Wrote a b P old new → Wrote a c Q old new
 unfolding Appends
 wrote_as a b c old new e k w = record {
@@ -151,7 +151,7 @@ module _ (g : Grammar) (Marks : Span → Span → Type 0) (site : Span) (env : E
 
     -- ---- ops one after the other
 
-    -- What a loop over ops did: the first fault so far, and that what is written next comes behind what was written.
+    -- What a loop over ops did: the first fault so far, and that what is written next comes after what was written.
     pub record Sofar (first : Bool) (all rest : Ops) (start now : Levels) : Type 0 where
       pub told : faults env p all ≡ (first || faults env p rest)
       pub groups : length now ≡ length start

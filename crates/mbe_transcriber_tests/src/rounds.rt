@@ -16,7 +16,7 @@ fn words(alloc: Global, count: u32) -> Result<String, AllocError> {
     Ok(text)
 }
 
-// The words of such a list, where they stand, and the end.
+// The words of such a list, where they are, and the end.
 fn rounds(alloc: Global, count: u32) -> Result<String, AllocError> {
     let mut text = String::new(alloc);
     for round in 0..count {

@@ -1,4 +1,4 @@
-// Trees of texts. A blank stands between two tokens, and only there.
+// Trees of texts. A blank is between two tokens, and only there.
 ghost use Rattle.std.specs.Prelude.{◌≡◌, ◌+◌, length};
 
 use mbe_tt::span::{Span, SyntaxContext};
@@ -43,7 +43,7 @@ fn offset(place: usize) -> u32 {
     u32::try_from(place).unwrap_or(u32::MAX)
 }
 
-// What stands after the sign: the file, the start, and the end where it isn't that of the token's text.
+// What comes after the sign: the file, the start, and the end where it isn't that of the token's text.
 fn written_span(text: &str, len: usize) -> Span {
     let mut parts = text.split('.');
     let file = number(parts.next());
@@ -62,7 +62,7 @@ fn written_span(text: &str, len: usize) -> Span {
     }
 }
 
-// `TEXT@SPAN` is the token of that text with that span, `TEXT!SPAN` has the marker's answer on it, and a text alone has the span where it stands.
+// `TEXT@SPAN` is the token of that text with that span, `TEXT!SPAN` has the marker's span of it, and a text alone has the span of its place.
 fn token_of(word: &str, file: u32, start: usize) -> Token<'_> {
     if let Some((text, span)) = word.split_once('@') {
         return Token {
@@ -171,7 +171,7 @@ impl<A: Allocator + Copy> Trees<A> {
     }
 }
 
-// A word, raw where `r#` stands before it.
+// A word, raw where `r#` is before it.
 fn ident<A: Allocator + Copy>(alloc: A, token: Token<'_>) -> Result<Leaf<A>, AllocError> {
     let (text, is_raw) = match token.text.strip_prefix("r#") {
         Some(text) => (text, IdentIsRaw::Yes),
@@ -203,7 +203,7 @@ fn literal<A: Allocator + Copy>(alloc: A, token: Token<'_>) -> Result<Leaf<A>, A
     }))
 }
 
-// A punct is joint where `_` stands after it.
+// A punct is joint where `_` is after it.
 fn punct<A: Allocator>(char: char, token: Token<'_>) -> Leaf<A> {
     let spacing = if token.text.ends_with('_') {
         Spacing::Joint

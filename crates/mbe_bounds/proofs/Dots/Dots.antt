@@ -1,4 +1,4 @@
--- The number of a dot tells the dot, and a dot tells how a beginning goes on.
+-- A dot's number determines the dot, and a dot determines how a beginning goes on.
 use Rattle.std.proofs.Common.{ℕ, zero, suc, ◌+◌, ◌-◌, ◌≡◌, ◌<◌, ◌≤◌, inl, inr, Option, Some, None, Bool, true, false, List, [], ◌∷◌, ◌++◌, map, refl, sym, ◌∙◌, ap, subst, arith, option_map}
 use Rattle.std.specs.Prelude.{nat_lt}
 use Rattle.std.specs.List.{flat_map, cons_option}

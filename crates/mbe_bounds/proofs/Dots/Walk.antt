@@ -83,7 +83,7 @@ module _ {A : Type 0} (key : A → ℕ) (kids : A → List A) (T : A → List A)
       let d : length (T y) ≡ length (T x) = sym (len_map key (T y)) ∙ ap length (alike y x v.0 g e) ∙ len_map key (T x) in
       omega (arith, s, t, d)
 
-  -- what stands below y comes as often as y does
+  -- what is below y comes as often as y does
   abbrev Covers : A → List A → Type 0
   Covers y xs = (z : A) → In z (T y) → times (key y) (map key xs) ≤ times (key z) (map key xs)
 

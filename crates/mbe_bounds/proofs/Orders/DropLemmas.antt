@@ -29,7 +29,7 @@ use Rattle.mbe_bounds.proofs.Run.BoundedRun.{held-is}
 use Rattle.mbe_bounds.proofs.Orders.OrderLemmas.{goes_any, comes-any, ordered-any, in_order}
 
 module _ {A : Type 0} (key : A → ℕ) where
-  -- where none stands too often, all stay
+  -- where none comes too often, all stay
   sift_all : (k : ℕ) (s : List ℕ) (xs : List A) → ((x : A) → In x xs → times (key x) s + times (key x) (map key xs) ≤ k) → sift key k s xs ≡ xs
   sift_all k s [] h = refl
   sift_all k s (x ∷ xs) h =

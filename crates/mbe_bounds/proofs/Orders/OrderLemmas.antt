@@ -239,7 +239,7 @@ module _ (i : Input) (pat : Ops) (len : ℕ) (lawful : Lawful i len) (checked : 
     at_end q zs v e = (subst (λ k. Inv i pat k zs → Right i pat len (verdict_of len (completions (held i k zs)))) (sym e)
         (λ w. right_of i pat len lawful checked zs w (completions (held i len zs)) refl)) v
 
-    -- the run answers rightly
+    -- the run returns the right verdict
     pub run-any : (n q : ℕ) (xs : List Beginning) → Mirrored q xs → q ≤ len → len < n + q → Right i pat len (run_in order n i (dots pat) len q xs)
     unfolding run_in
     run-any zero q xs v l m = absurd (omega (arith, l, m))

@@ -162,6 +162,6 @@ distinct_reverse (x ∷ xs) d =
 pub turning : Orders turn_round
 turning q ys d = record { only = λ x h. from_reverse x ys h; every = λ x h. in_reverse x ys h; once = distinct_reverse ys d }
 
--- where nothing stands three times
+-- where nothing comes three times
 pub same_order : (xs : List Beginning) → Distinct story xs → Reordered xs xs
 same_order xs d = record { only = λ x h. h; every = λ x h. h; once = d }

@@ -11,7 +11,7 @@ use Rattle.mbe_semantics.specs.declared.rounds.Level.{Level}
 use Rattle.mbe_semantics.specs.Writing.Rounds.{Path, member, value_count, follow, reach, reached, Extent, finite, endless, extent_of, extent_under, lesser, least_extent, extent_over, kept}
 use Rattle.mbe_semantics.specs.Laws.Laws.{IsUsed, RoundsHaveValues}
 
--- behind a longer path the value stays, or it is one that each index reached
+-- after a longer path the value stays, or it is one that each index reached
 Longer : Path → Level → Value → Value → Type 0
 Longer path l v w =
     (follow (path ++ l ∷ []) v ≡ Some w) ⊎ ((reach path v ≡ Some w) × (follow (path ++ l ∷ []) v ≡ follow (l ∷ []) w))

@@ -1,4 +1,4 @@
--- All trees are ops or have a fault, where each context has an edition: what stands behind a head is shorter.
+-- All trees are ops or have a fault, where each context has an edition: what comes after a head is shorter.
 use Rattle.std.specs.Prelude.{◌≡◌, ◌⊎◌, ◌<◌, ◌≤◌, ◌+◌, ◌==◌, ℕ, zero, suc, Bool, true, false, not, ◌&&◌, if◌then◌else◌, [], length, codes, option_map, Option, Some, None, Result, Ok, Err, refl}
 use Rattle.std.proofs.Common.{arith, ap, inl, inr}
 use Rattle.std.proofs.lemmas.Option.{none-some, same_Some}
@@ -20,7 +20,7 @@ use Rattle.mbe_semantics.specs.Syntax.Template.{Mode, pattern, template, Fault, 
 use Rattle.mbe_semantics.specs.Laws.Laws.{HasSomeEdition, HasOpsOrFault}
 use Rattle.mbe_semantics.proofs.MoveLemmas.{some_operator, leaf_moves}
 
--- what is left behind the head, and inside it, has fewer than n flat tokens
+-- what is left after the head, and inside it, has fewer than n flat tokens
 abbrev Shorter : ℕ → Result Head Fault → Type 0
 Shorter n (Err e) = Unit {0}
 Shorter n (Ok ended) = Unit {0}

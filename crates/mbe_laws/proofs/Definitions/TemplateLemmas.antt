@@ -33,7 +33,7 @@ one_of f g (inl a) = f a
 one_of f g (inr b) = g b
 
 module _ (HasEdition : SyntaxContext → Edition → Type 0) where
-  -- the trees behind the head, and inside it, are ops
+  -- the trees after the head, and inside it, are ops
   abbrev Parts : Mode → Ops → Result Head Fault → Type 0
   Parts mode os (Err e) = ⊥
   Parts mode os (Ok ended) = os ≡ no_ops

@@ -1,4 +1,4 @@
--- With a marker that answers each span in one way, an expansion without an error is one tree, by one rule.
+-- With a marker that returns one span for each, an expansion without an error is one tree, by one rule.
 use Rattle.std.specs.Prelude.{◌≡◌, ℕ, zero, suc, Bool, true, false, List, [], ◌∷◌, Option, Some, None, refl}
 use Rattle.std.proofs.Common.{ap, sym, subst, ◌∙◌}
 use Rattle.mbe_tt.specs.declared.span.Span.{Span}

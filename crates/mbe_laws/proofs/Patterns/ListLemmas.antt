@@ -120,7 +120,7 @@ fine_move : (c : ℕ) (m : Option Move) (n : ℕ) (f : Bool) (y : Beginning) →
 unfolding Fine
 fine_move c m n f y e h = let P : Option Move → Type 0 = λ v. Fine c v in subst P e h
 
--- so many rounds are complete behind the step
+-- so many rounds are complete after the step
 Counted : ℕ → Option Move → Type 0
 Counted c None = Unit {0}
 Counted c (Some (move n f y)) = count y ≡ c

@@ -161,7 +161,7 @@ module _ (Q : Span → Type 0) where
 
 -- ---- fragments of a reading
 
--- the trees stand in the argument, at some place
+-- the trees are in the argument, at some place
 InPlace : Forest → Fragment → Type 0
 InPlace argument x = (p : ℕ) × (back : Forest) × (rest_at argument p ≡ append x.trees back)
 

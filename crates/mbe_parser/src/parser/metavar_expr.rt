@@ -1,4 +1,4 @@
-// Reads metavariable expressions, which are what stands between the braces of `${..}`.
+// Reads metavariable expressions, which are what is between the braces of `${..}`.
 ghost use Rattle.std.specs.Prelude.{◌≡◌, ◌≢◌, ◌<◌, map, option_map, Some, None, IfOk, IfErr, OnOk, MatchOption, if◌then◌else◌};
 ghost use Rattle.mbe_tt.specs.Trees.Literals.{is_plain, decimal_value, literal_text};
 ghost use Rattle.mbe_tt.specs.Views.Shown.{ident_of, literal_of};
@@ -32,7 +32,7 @@ pub fn parse_metavar_expr<A: Allocator + Copy>(
     parse_args(alloc, func, args)
 }
 
-// The name of the function, and the arguments, which stand in parentheses.
+// The name of the function, and the arguments, which are in parentheses.
 fn func_and_args<'a, A: Allocator>(src: TtIter<'a, A>) -> Option<(&'a Ident<A>, TtIter<'a, A>)>
     ensures { MatchOption result (expression_of src.entry ≡ None)
         (λ call. expression_of src.entry ≡ arguments_of (ident_of call.0.now) call.1) }
@@ -106,7 +106,7 @@ fn parse_count<A: Allocator>(args: TtIter<'_, A>) -> Result<Op<A>, ReadError>
     })
 }
 
-// `$` and an identifier other than `_`, which are passed.
+// `$` and an identifier other than `_`, which are consumed.
 fn eat_name<'a, A: Allocator>(args: &mut TtIter<'a, A>) -> Option<&'a Ident<A>>
     ensures { option_map (λ name. (ident_of name.now, args.new)) result ≡ dollar_name args.old }
 {
@@ -151,7 +151,7 @@ fn parse_usize<A: Allocator>(literal: &Literal<A>) -> Option<usize>
     }
 }
 
-// Two elements or more, with commas between them. A last comma may stand.
+// Two elements or more, with commas between them. There may be a last comma.
 #[tactic(auto, using(mbe_ops::proofs::OpViews::views))]
 fn parse_concat<A: Allocator + Copy>(
     alloc: A,

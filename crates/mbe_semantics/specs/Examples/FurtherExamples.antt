@@ -225,7 +225,7 @@ abbrev pub result_at : ℕ → Forest → Forest
 result_at end inside = group (delimiter_of Invisible (at 1 0 end) (at 1 0 end)) inside none
 
 pub record MarkedExample : Type 0 where
-  -- `pair ($x)` with one value: a token and a group are marked, what stood in the argument isn't, nor is the whole
+  -- `pair ($x)` with one value: a token and a group are marked, what was in the argument isn't, nor is the whole
   pub tokens : (g : Grammar) → IsSubstitution g (sets_context 7) (at 1 0 3) ((codes "x", fragment (record { trees = text_at 1 0 (codes "a") none; style = stripped })) ∷ [])
       (op (ident_at 25 (codes "pair")) (op (ops.group (parens 30 33) (op (writes_at 32 (codes "x")) no_ops)) no_ops))
       (result_at 3 (leaf (ident (ident_of (codes "pair") (in_context 7 (at 0 25 29))))

@@ -94,7 +94,7 @@ separator_trees (Some (literal_separator l)) = leaf (literal l) none
 separator_trees (Some (punct_separator ps)) = punct_trees ps
 separator_trees (Some (lifetime_separator p i)) = leaf (punct p) (leaf (ident i) none)
 
--- `$` and the name, as they stood
+-- `$` and the name, as they were
 abbrev pub unbound_variable : Name → Span → Forest
 unbound_variable name span =
     leaf (punct (record { char = 36; spacing = Alone; span = span }))
@@ -137,7 +137,7 @@ abbrev pub AreKeptRounds : Forest → (ℕ → ℕ → Forest → Type 0) → Ex
 AreKeptRounds separator round endless out = ⊥
 AreKeptRounds separator round (finite n) out = AreRounds separator (λ i. round i n) n out
 
--- `Marks s t`: the marker may answer t for s
+-- `Marks s t`: the marker may return t for s
 module _ (g : Grammar) (Marks : Span → Span → Type 0) (call_site : Span) (env : Environment) where
   -- each punct by itself
   abbrev pub AreMarkedPuncts : List Punct → Forest → Type 0

@@ -48,7 +48,7 @@ stands_before_less f = false
 abbrev pub in_parentheses : Span → Forest → Forest
 in_parentheses span f = group (record { opening = span; close = span; kind = Parenthesis }) f none
 
--- `Marks s t`: the marker may answer t for s
+-- `Marks s t`: the marker may return t for s
 module _ (Marks : Span → Span → Type 0) where
   -- parentheses where they are needed, both with one answer of the marker
   abbrev pub IsParenthesized : Bool → Span → Forest → Forest → Type 0

@@ -194,7 +194,7 @@ pub(crate) fn write_default<A: Allocator + Copy>(
     }
 }
 
-// `$` and the name, as they stood.
+// `$` and the name, as they were.
 pub(crate) fn write_unbound<A: Allocator>(
     unbound: &Symbol<A>,
     id: Span,

@@ -36,7 +36,7 @@ pub length-put : (b : Levels) (f : Forest) → length (put f b) ≡ length b
 length-put [] f = refl
 length-put (g ∷ outer) f = refl
 
--- entries that spell a forest come behind
+-- the builder's entries, once those of a forest are written after them
 pub record Put (b : Levels) (f : Forest) (es : List Entry) (capacity place count : ℕ) : Type 0 where
   pub levels : levels_of es ≡ put f b
   pub building : IsBuilding es capacity place count
@@ -92,7 +92,7 @@ back_of : {A : Type 0} (xs us ys vs : List A) → length xs ≡ length ys → xs
 back_of xs us ys vs h e =
     sym (drop-append_seam xs us) ∙ (ap (drop (length xs)) e ∙ (ap (λ (n : ℕ). drop n (ys ++ vs)) h ∙ drop-append_seam ys vs))
 
--- what stands at an opening is what was written there
+-- what is at an opening is what was written there
 pub record IsOpening (g : Delimiter × Forest) (outer : Levels) (s : Subtree) (n : ℕ) : Type 0 where
   pub subtree : s ≡ record { delimiter = g.0 }
   pub link : n ≡ current outer

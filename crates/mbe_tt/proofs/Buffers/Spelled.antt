@@ -74,7 +74,7 @@ spell-append (group d inside rest) g =
     ap (λ (es : List Entry). Open (record { delimiter = d }) (flat_len inside) ∷ es)
     (ap (λ (es : List Entry). spell inside ++ Close ∷ es) (spell-append rest g) ∙ sym (append_assoc (spell inside) (Close ∷ spell rest) (spell g)))
 
--- what was passed between two places, where the trees left at the first are those passed and then those left at the second
+-- what was consumed between two places, where the trees left at the first are those consumed and then those left at the second
 pub passed_front : (passed left : Forest) (before now : List Entry) → Spelled before → Spelled now → forest_of now ≡ left → forest_of before ≡ append passed left
     → before ≡ spell passed ++ now
 passed_front passed left before now sb sn vn vb =

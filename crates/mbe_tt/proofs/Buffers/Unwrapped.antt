@@ -1,4 +1,4 @@
--- What a builder has once the last tree's content stands in its place.
+-- What a builder has once the last tree's content is in its place.
 use Rattle.std.proofs.Common.{◌≡◌, ℕ, ◌+◌, ◌-◌, ◌≤◌, ◌<◌, List, [], ◌∷◌, ◌++◌, length, take, drop, refl, ap, sym, ◌∙◌, arith, length-append, append_assoc}
 use Rattle.std.proofs.Math.Seq.{take-append_seam, drop-append_seam}
 use Rattle.mbe_tt.specs.Trees.Tree.{Forest, none, group, append, flat_len, unwrapped}

@@ -21,7 +21,7 @@ nothing_joined : (s : Spacing) → if_joint s [] ≡ []
 nothing_joined Alone = refl
 nothing_joined Joint = refl
 
--- behind a punct that is joined to none
+-- after a punct that is joined to none
 joined-none : (s : Spacing) (n : ℕ) (f : Forest) → joined_punct s f ≡ None → if_joint s (joined n f) ≡ []
 joined-none s zero f e = nothing_joined s
 joined-none Alone (suc n) f e = refl
@@ -31,7 +31,7 @@ joined-none Joint (suc n) (leaf (punct p) rest) e = some_no p e
 joined-none Joint (suc n) (leaf (ident i) rest) e = refl
 joined-none Joint (suc n) (group d inside rest) e = refl
 
--- behind a punct that is joined to another
+-- after a punct that is joined to another
 joined-some : (s : Spacing) (n : ℕ) (f : Forest) (b : Punct) → joined_punct s f ≡ Some b
     → if_joint s (joined (suc n) f) ≡ b ∷ if_joint b.spacing (joined n (rest_of f))
 joined-some Alone n f b e = no_some b e
@@ -69,7 +69,7 @@ same_picked false c d e = no_some d e
 abbrev pick : Punct → Punct → Punct → Option Punct
 pick a b c = if is_operator (chars_of (a ∷ b ∷ c ∷ [])) then Some c else None
 
--- what stands behind two joined puncts, where a third makes no operator with them
+-- what comes after two joined puncts, where a third makes no operator with them
 behind_two : (a b : Punct) (f : Forest) (o : Option Punct) → joined_punct b.spacing f ≡ o → option_and_then (pick a b) o ≡ None
     → longest_operator (a ∷ b ∷ if_joint b.spacing (joined 1 f)) ≡ two a b
 behind_two a b f None j e =
@@ -90,7 +90,7 @@ behind_three a b d f (Some c) j e =
 
 -- ---- the puncts at the front
 
--- two puncts and what stands behind them
+-- two puncts and what comes after them
 front-two : (f : Forest) (a b : Punct) → front_punct f ≡ Some a → joined_punct a.spacing (rest_of f) ≡ Some b
     → glue f ≡ longest_operator (a ∷ b ∷ if_joint b.spacing (joined 1 (rest_of (rest_of f))))
 front-two none a b e j = no_some a e
@@ -101,7 +101,7 @@ front-two (leaf (punct p) rest) a b e j =
 front-two (leaf (ident i) rest) a b e j = no_some a e
 front-two (group d inside rest) a b e j = no_some a e
 
--- what the calls read: the trees behind the first punct, and those behind the second
+-- what the calls read: the trees after the first punct, and those after the second
 pub record Front (f ahead beyond : Forest) (a b : Punct) : Type 0 where
   pub first : Some a ≡ front_punct f
   pub second : Some b ≡ joined_punct a.spacing ahead
@@ -113,7 +113,7 @@ front f ahead beyond a b h =
     front-two f a b (sym h.first) (sym (h.second ∙ ap (joined_punct a.spacing) h.behind_first))
     ∙ ap (λ (r : Forest). longest_operator (a ∷ b ∷ if_joint b.spacing (joined 1 r))) (sym (h.behind_second ∙ ap rest_of h.behind_first))
 
--- puncts that are taken together, and the trees behind them
+-- puncts that are taken together, and the trees after them
 pub record Glues (f left : Forest) (ps : List Punct) : Type 0 where
   pub value : Some ps ≡ glued f
   pub rest : left ≡ skip (length (glue f)) f

@@ -242,7 +242,7 @@ pub record Passed (all next : Forest) (place : ℕ) : Type 0 where
   pub len : place + flat_len next ≡ flat_len all
   pub last : option_map (λ n. place + n) (last_invisible next) ≡ last_invisible all
 
--- one more tree passed, which is not the last
+-- one more tree consumed, which is not the last
 pub passed_one : (all iter next : Forest) (place now : ℕ) → place + flat_len iter ≡ flat_len all → option_map (λ n. place + n) (last_invisible iter) ≡ last_invisible all
     → next ≡ rest_of iter → (next ≡ none → ⊥) → now + flat_len next ≡ flat_len all → Passed all next now
 passed_one all none next place now len last e some h = absurd (some e)

@@ -7,7 +7,7 @@ use Rattle.mbe_tt.specs.Trees.Tree.{Forest, none, leaf, group, append, flat_len,
 use Rattle.mbe_tt.specs.Laws.TreeLaws.{RestBehindTrees, RestInGroup}
 use Rattle.mbe_tt.proofs.Places.CutLemmas.{no_true}
 
--- h is what is left of f behind some trees
+-- h is what is left of f after some trees
 abbrev pub IsRest : Forest → Forest → Type 0
 IsRest f h = (t : Forest) × (append t h ≡ f)
 
@@ -24,7 +24,7 @@ append-assoc (group d inside rest) b h = ap (group d inside) (append-assoc rest 
 pub rest_trans : {f m h : Forest} → IsRest f m → IsRest m h → IsRest f h
 rest_trans {f} {m} {h} p q = (append p.0 q.0, sym (append-assoc p.0 q.0 h) ∙ (ap (append p.0) q.1 ∙ p.1))
 
--- behind the opening of a group
+-- after the opening of a group
 rest_at-inside : (inside rest : Forest) (b : Bool) (p : ℕ) → b ≡ true → (if b then rest_at inside p else rest_at rest (p - flat_len inside - 1)) ≡ rest_at inside p
 rest_at-inside inside rest true p e = refl
 rest_at-inside inside rest false p e = no_true e
@@ -33,7 +33,7 @@ rest_at-behind : (inside rest : Forest) (b : Bool) (p : ℕ) → b ≡ false →
 rest_at-behind inside rest true p e = no_true (sym e)
 rest_at-behind inside rest false p e = refl
 
--- what is left n tokens behind some trees is what is left n tokens into the others
+-- what is left n tokens after some trees is what is left n tokens into the others
 pub rest_at-append : (t h : Forest) (n q : ℕ) → q ≡ flat_len t + n → rest_at (append t h) q ≡ rest_at h n
 rest_at-append none h n q e = ap (rest_at h) (let k : q ≡ n = omega (arith, e) in k)
 rest_at-append (leaf l t) h n zero e = absurd (omega (arith, e))

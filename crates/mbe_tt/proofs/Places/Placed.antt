@@ -101,7 +101,7 @@ walk_all (group d inside rest) around =
     ∙ (walk_split (flat_len inside) (suc (flat_len rest)) (inside, rest ∷ around)
     ∙ (ap (walk (suc (flat_len rest))) (walk_all inside (rest ∷ around)) ∙ walk_all rest around))
 
--- behind a group's opening: its content is passed, and its closing
+-- after a group's opening: its content is consumed, and its closing
 past_group : (inside rest : Forest) (around : List Forest) (n m : ℕ) → n ≡ flat_len inside + suc m → walk n (inside, rest ∷ around) ≡ walk m (rest, around)
 past_group inside rest around n m e =
     ap (λ (k : ℕ). walk k (inside, rest ∷ around)) e

@@ -4,7 +4,7 @@ use crate::writing::{nested, pass_flat, span};
 use mbe_tt::tt::{Cursor, DelimiterKind, TokenTreesView};
 use std::test::Fail;
 
-// At each place of `a (+ b) "s"`: whether it is in no group, the next tree, and the trees and flat tokens that are passed
+// At each place of `a (+ b) "s"`: whether it is in no group, the next tree, and the trees and flat tokens that are consumed
 // where it is in no group.
 static PLACES: [(bool, Option<&str>, (usize, usize)); 8] = [
     (true, Some("a"), (0, 0)),
@@ -48,7 +48,7 @@ fn a_cursor_goes_over_flat_tokens(rt: HostRuntime) -> Result<(), Fail> {
     Ok(())
 }
 
-// How many flat tokens are passed, whether the iterator goes there, and how many trees are left then.
+// How many flat tokens are consumed, whether the iterator goes there, and how many trees are left then.
 static MOVES: [(usize, bool, usize); 7] = [
     (0, true, 3),
     (1, true, 2),

@@ -4,7 +4,7 @@ use mbe_tt::tt::{DelimiterKind, Spacing, TopSubtree, TopSubtreeBuilder};
 use std::alloc::{AllocError, Global};
 use std::test::Fail;
 
-// The chars, which are ASCII, as puncts, all but the last joint, and an identifier behind them.
+// The chars, which are ASCII, as puncts, all but the last joint, and an identifier after them.
 #[tactic(auto, using(mbe_tt::proofs::Buffers::OpenGroups::put_length))]
 fn puncts(alloc: Global, chars: &str, last: Spacing) -> Result<TopSubtree, AllocError> {
     let mut builder = TopSubtreeBuilder::new(alloc, delimiter(DelimiterKind::Invisible))?;
@@ -21,7 +21,7 @@ fn puncts(alloc: Global, chars: &str, last: Spacing) -> Result<TopSubtree, Alloc
     Ok(builder.build())
 }
 
-// How many puncts are taken together, where they have those chars and just they are passed.
+// How many puncts are taken together, where they have those chars and just they are consumed.
 fn glued(tree: &TopSubtree, chars: &str) -> Option<usize> {
     let mut iter = tree.iter();
     let all = iter.remaining().len();

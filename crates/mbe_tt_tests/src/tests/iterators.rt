@@ -54,7 +54,7 @@ enum Asked {
     Literal,
 }
 
-// The text of what the call answers, `done` where that is nothing, and `None` where it refuses.
+// The text of what the call returns, `done` where that is nothing, and `None` where it refuses.
 fn answer<'a>(iter: &mut TtIter<'a>, asked: Asked) -> Option<&'a str> {
     match asked {
         Asked::Peek => Some(text(&iter.peek()?)),
@@ -77,7 +77,7 @@ fn done(answer: Result<(), ()>) -> Option<&'static str> {
     if answer.is_ok() { Some("done") } else { None }
 }
 
-// A call, what it answers, and how many trees are left then.
+// A call, what it returns, and how many trees are left then.
 type Row = (Asked, Option<&'static str>, usize);
 
 // The first of those calls, one after the other over the trees inside, that doesn't do as its row says.
@@ -216,7 +216,7 @@ fn a_savepoint_marks_what_is_passed(rt: HostRuntime) -> Result<(), Fail> {
 fn spans_begin_trees(rt: HostRuntime) -> Result<(), Fail> {
     let tree = sample(rt.alloc())?;
     let mut iter = tree.iter();
-    // An identifier stands at 3, the group opens at 1, a literal stands at 5.
+    // An identifier is at 3, the group opens at 1, a literal is at 5.
     for start in [3, 1, 5] {
         assert!(rt; iter.next_span() == Some(span(start)));
         let Some(element) = iter.next() else {

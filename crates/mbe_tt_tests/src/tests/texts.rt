@@ -104,7 +104,7 @@ fn symbols_are_hashed_by_their_texts(rt: HostRuntime) -> Result<(), Fail> {
     Ok(())
 }
 
-// A literal's kind, its suffix's length and its text; what stands before the suffix, the suffix, and what is written.
+// A literal's kind, its suffix's length and its text; what comes before the suffix, the suffix, and what is written.
 type Row = (
     LitKind,
     u8,
