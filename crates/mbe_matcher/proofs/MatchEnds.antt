@@ -8,8 +8,7 @@ use Rattle.mbe_semantics.specs.Syntax.Op.{Ops}
 use Rattle.mbe_semantics.specs.Syntax.Nullable.{Checked}
 use Rattle.mbe_semantics.specs.Readings.Input.{Input, input_of}
 use Rattle.mbe_semantics.specs.Readings.Verdict.{Verdict, one_reading, ambiguous, stuck, IsVerdict, verdict_at, stop_of}
-use Rattle.mbe_semantics.specs.Bindings.Account.{Commands, no_account, Log, Handle, IsLive, IsAccount}
-use Rattle.mbe_ops.specs.Views.{ops_of}
+use Rattle.mbe_semantics.specs.Bindings.Account.{Commands, no_account, Log, Handle, IsLive}
 use Rattle.mbe_semantics.specs.Laws.Lawful.{Lawful}
 use Rattle.mbe_semantics.specs.Matching.Dots.{dots}
 use Rattle.mbe_semantics.specs.Matching.Outline.{Outline, outline, Advance, advance}

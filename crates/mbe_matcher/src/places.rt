@@ -92,13 +92,13 @@ fn after_step<'a, A: Allocator>(
 
 // The positions after their steps, in the same order: the stack at the next place.
 fn come<'a, A: Allocator>(
-    waiting: Vec<Waiting<'a, A>, A>,
+    waiting: &mut Vec<Waiting<'a, A>, A>,
     todo: &mut Vec<Position<'a, A>, A>,
 ) -> Result<(), AllocError>
     ensures { OnOk result (todo.new.items
-        ≡ todo.old.items ++ map position_after waiting.entry.items) }
+        ≡ todo.old.items ++ map position_after waiting.old.items) }
 {
-    for position in waiting {
+    for position in waiting.drain(..) {
         todo.push(position.after)?;
     }
     Ok(())
@@ -181,19 +181,19 @@ pub(crate) fn reach<'a, A: Allocator + Copy, G: FragmentGrammar>(
     let mut todo = Vec::new(alloc);
     let position = at_start(pattern, dots, log)?;
     todo.push(position)?;
+    let mut settled = Settled::new(alloc);
     let mut source = Source::new(alloc, argument);
     loop {
-        let settled = settle(alloc, grammar, &source, log, &mut state, &mut todo)?;
-        let Settled { waiting, ends } = settled;
-        if let Some(stop) = stopped(&source, &waiting, &ends) {
-            let unmatched = source.here().remaining().len();
+        settle(grammar, &source, log, &mut state, &mut todo, &mut settled)?;
+        if let Some(stop) = stopped(&source, &settled.waiting, &settled.ends) {
+            let unmatched = source.trees_left();
             return Ok(Reached {
                 stop,
                 unmatched,
                 report: state.report,
             });
         }
-        source = after_step(source, &waiting[0])?;
-        come(waiting, &mut todo)?;
+        source = after_step(source, &settled.waiting[0])?;
+        come(&mut settled.waiting, &mut todo)?;
     }
 }

@@ -24,6 +24,19 @@ pub(crate) struct Settled<'a, A: Allocator = Global> {
     pub(crate) ends: Vec<Handle, A>,
 }
 
+impl<'a, A: Allocator + Copy> Settled<'a, A> {
+    // Nothing yet.
+    pub(crate) fn new(alloc: A) -> Settled<'a, A>
+        ensures waiting { result.waiting.items ≡ [] }
+        ensures ends { result.ends.items ≡ [] }
+    {
+        Settled {
+            waiting: Vec::new(alloc),
+            ends: Vec::new(alloc),
+        }
+    }
+}
+
 // What a match keeps from place to place, beside the log.
 #[derive(Drop)]
 pub(crate) struct State<'a, A: Allocator = Global> {
@@ -64,21 +77,22 @@ fn push_some<T: Drop, A: Allocator>(
 
 // Follows all steps of the positions over no flat token, the last position first. At most two
 // positions of a dot are followed: those after them lead to no other verdict, and to no third
-// reading of two.
+// reading of two. What was settled before is overwritten, so that its memory serves again.
 pub(crate) fn settle<'a, A: Allocator + Copy, G: FragmentGrammar>(
-    alloc: A,
     grammar: &G,
     source: &Source<'a, A>,
     log: &mut BindingLog<'a, A>,
     state: &mut State<'a, A>,
     todo: &mut Vec<Position<'a, A>, A>,
-) -> Result<Settled<'a, A>, AllocError>
+    settled: &mut Settled<'a, A>,
+) -> Result<(), AllocError>
     requires stack { IsStackAt (G.grammar grammar.now) source.now log.old state.old todo.old.items }
     requires blank { AreBlankFrom state.old.counts.marks.items source.now.place }
     ensures settled { (s : IsStackAt (G.grammar grammar.now) source.now
-        log.old state.old todo.old.items) → IfOk result
-        (AreSettledAt (G.grammar grammar.now) source.now s.pattern s.spots log.new state.new) }
-    ensures few { IfOk result (λ r. length r.waiting.items + length r.ends.items
+        log.old state.old todo.old.items) → OnOk result
+        (AreSettledAt (G.grammar grammar.now) source.now s.pattern s.spots
+        log.new state.new settled.new) }
+    ensures few { OnOk result (length settled.new.waiting.items + length settled.new.ends.items
         ≤ dots_in state.old + dots_in state.old) }
     ensures kept { OnOk result (KeepsState log.old log.new state.old state.new) }
     ensures blank { OnOk result (AreBlankFrom state.new.counts.marks.items (source.now.place + 1)) }
@@ -86,8 +100,8 @@ pub(crate) fn settle<'a, A: Allocator + Copy, G: FragmentGrammar>(
     ensures done { OnOk result (todo.new.items ≡ []) }
     ensures report { OnOk result (ReportStays log.old log.new state.old.report state.new.report) }
 {
-    let mut waiting = Vec::new(alloc);
-    let mut ends = Vec::new(alloc);
+    settled.waiting.clear();
+    settled.ends.clear();
     while let Some(position) = todo.pop() {
         if !state.counts.takes(position.number, source.place) {
             continue;
@@ -98,9 +112,9 @@ pub(crate) fn settle<'a, A: Allocator + Copy, G: FragmentGrammar>(
         state.report.looked_at(source, dot, handle, found.is_some());
         push_some(todo, found.second)?;
         push_some(todo, found.first)?;
-        push_some(&mut waiting, found.next)?;
-        push_some(&mut ends, found.done)?;
+        push_some(&mut settled.waiting, found.next)?;
+        push_some(&mut settled.ends, found.done)?;
     }
-    state.report.after_place(&ends);
-    Ok(Settled { waiting, ends })
+    state.report.after_place(&settled.ends);
+    Ok(())
 }

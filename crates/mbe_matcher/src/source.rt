@@ -1,6 +1,6 @@
 // The argument that is matched, from a place on.
 ghost use Rattle.std.specs.Prelude.{◌≡◌, ◌↔◌, IsTrue, ◌+◌, ◌<◌, ◌≤◌, ◌&&◌, nat_lt, IfOk, reverse};
-ghost use Rattle.mbe_tt.specs.Trees.Tree.{Forest, flat_len, rest_at};
+ghost use Rattle.mbe_tt.specs.Trees.Tree.{Forest, flat_len, tree_count, rest_at};
 ghost use Rattle.mbe_tt.specs.Views.View.{trees};
 ghost use Rattle.mbe_tt.specs.Buffers.Place.{rests};
 ghost use Rattle.mbe_semantics.specs.Readings.Input.{is_none};
@@ -40,6 +40,13 @@ impl<'a, A: Allocator> Source<'a, A> {
         ensures { result ≡ rest_at (trees self.now.whole) self.now.place }
     {
         self.here.remaining().iter()
+    }
+
+    // How many trees are left of the innermost group.
+    pub(crate) fn trees_left(&self) -> usize
+        ensures { result ≡ tree_count (rest_at (trees self.now.whole) self.now.place) }
+    {
+        self.here().remaining().len()
     }
 
     // Whether the whole argument is passed.

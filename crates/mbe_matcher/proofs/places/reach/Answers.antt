@@ -1,4 +1,4 @@
-use Rattle.std.proofs.Common.{◌≡◌, ◌+◌, ◌∙◌, ◌++◌, ◌∷◌, ℕ, Some, None, [], length, map, reverse, get_or, refl, sym, ap, subst, arith}
+use Rattle.std.proofs.Common.{◌≡◌, ◌+◌, ◌∙◌, ◌++◌, ◌∷◌, ℕ, Some, None, [], length, map, reverse, get_or, sym, ap, subst, arith}
 use Rattle.std.specs.Prelude.{IfSome}
 use Rattle.mbe_tt.specs.Views.View.{trees}
 use Rattle.mbe_tt.specs.Trees.Tree.{flat_len, tree_count, rest_at}
@@ -13,12 +13,10 @@ use Rattle.mbe_ops.specs.Views.{ops_of, template_of}
 use Rattle.mbe_log.proofs.ClientLemmas.{kept-on}
 use Rattle.mbe_bounds.specs.Loop.Kept.{kept_moves}
 use Rattle.mbe_bounds.proofs.Loop.TurnedPlaces.{ComesTo}
-use Rattle.mbe_matcher.specs.declared.position.Position.{Position}
 use Rattle.mbe_matcher.specs.declared.position.Waiting.{Waiting}
 use Rattle.mbe_matcher.specs.Positions.{Each, Shows, IsLeft}
 use Rattle.mbe_matcher.specs.Matched.{position_after, stop_at, verdict_in, reading_in, Binds}
 use Rattle.mbe_matcher.proofs.MatchEnds.{right_stop, stop_place, binds_stop, next, live_stop, come_first, stack_of, shown_after}
-use Rattle.mbe_matcher.proofs.Reporting.{report_keeps}
 use Rattle.mbe_matcher.proofs.places.reach.Goals as goal
 
 pub at_start-requires : goal.at_start-requires
@@ -67,9 +65,9 @@ returns-in-Some-clause-verdict g c =
     let inv = c.loop-source.invariant in
     let come = inv.comes.2 w c.requires in
     let stack = stack_of i pat len w c.requires s.place (length c.loop-source.state.counts.marks.items) c.loop-source.log c.loop-source.state.outers.items c.loop-source.todo.items inv.comes.0 (sym inv.size) come inv.comes.1 in
-    let st = c.in_ok-settled.ensures.settled stack in
-    let ws = c.in_ok-settled.settled.waiting.items in
-    let hs = c.in_ok-settled.settled.ends.items in
+    let st = c.in_ok-settle.ensures.settled stack in
+    let ws = c.settle.new.settled.waiting.items in
+    let hs = c.settle.new.settled.ends.items in
     let log = c.settle.new.log in
     let outers = c.settle.new.state.outers.items in
     let waits = c.deref-in-loop-source.ensures.value in
@@ -90,9 +88,9 @@ returns-in-Some-clause-unmatched g c =
     let inv = c.loop-source.invariant in
     let come = inv.comes.2 w c.requires in
     let stack = stack_of i pat len w c.requires s.place (length c.loop-source.state.counts.marks.items) c.loop-source.log c.loop-source.state.outers.items c.loop-source.todo.items inv.comes.0 (sym inv.size) come inv.comes.1 in
-    let st = c.in_ok-settled.ensures.settled stack in
-    let ws = c.in_ok-settled.settled.waiting.items in
-    let hs = c.in_ok-settled.settled.ends.items in
+    let st = c.in_ok-settle.ensures.settled stack in
+    let ws = c.settle.new.settled.waiting.items in
+    let hs = c.settle.new.settled.ends.items in
     let log = c.settle.new.log in
     let outers = c.settle.new.state.outers.items in
     let waits = c.deref-in-loop-source.ensures.value in
@@ -101,8 +99,8 @@ returns-in-Some-clause-unmatched g c =
     let e : Some v ≡ stop_at s.place len ws hs =
     c.in-Some.ensures.stop ∙ ap (λ l. stop_at s.place len l c.deref-in-loop-source-2.result.now) waits ∙ ap (stop_at s.place len ws) ends in
     let stop = stop_place h pat (trees s.whole) w c.requires s.place inv.comes.0 come s.within log outers ws hs st v e in
-    subst (λ x. c.len-unmatched.result ≡ unmatched (trees x) v) inv.whole
-    (c.len-unmatched.ensures ∙ ap tree_count (c.remaining.ensures ∙ c.here.ensures) ∙ ap (λ (n : ℕ). tree_count (rest_at (trees s.whole) n)) (sym stop))
+    subst (λ x. c.trees_left-unmatched.result ≡ unmatched (trees x) v) inv.whole
+    (c.trees_left-unmatched.ensures ∙ ap (λ (n : ℕ). tree_count (rest_at (trees s.whole) n)) (sym stop))
 
 pub returns-in-Some-clause-binds : goal.returns-in-Some-clause-binds
 returns-in-Some-clause-binds g c =
@@ -115,9 +113,9 @@ returns-in-Some-clause-binds g c =
     let inv = c.loop-source.invariant in
     let come = inv.comes.2 w c.requires in
     let stack = stack_of i pat len w c.requires s.place (length c.loop-source.state.counts.marks.items) c.loop-source.log c.loop-source.state.outers.items c.loop-source.todo.items inv.comes.0 (sym inv.size) come inv.comes.1 in
-    let st = c.in_ok-settled.ensures.settled stack in
-    let ws = c.in_ok-settled.settled.waiting.items in
-    let hs = c.in_ok-settled.settled.ends.items in
+    let st = c.in_ok-settle.ensures.settled stack in
+    let ws = c.settle.new.settled.waiting.items in
+    let hs = c.settle.new.settled.ends.items in
     let log = c.settle.new.log in
     let outers = c.settle.new.state.outers.items in
     let waits = c.deref-in-loop-source.ensures.value in
@@ -140,9 +138,9 @@ returns-in-Some-clause-live g c =
     let inv = c.loop-source.invariant in
     let come = inv.comes.2 w c.requires in
     let stack = stack_of i pat len w c.requires s.place (length c.loop-source.state.counts.marks.items) c.loop-source.log c.loop-source.state.outers.items c.loop-source.todo.items inv.comes.0 (sym inv.size) come inv.comes.1 in
-    let st = c.in_ok-settled.ensures.settled stack in
-    let ws = c.in_ok-settled.settled.waiting.items in
-    let hs = c.in_ok-settled.settled.ends.items in
+    let st = c.in_ok-settle.ensures.settled stack in
+    let ws = c.settle.new.settled.waiting.items in
+    let hs = c.settle.new.settled.ends.items in
     let log = c.settle.new.log in
     let outers = c.settle.new.state.outers.items in
     let waits = c.deref-in-loop-source.ensures.value in
@@ -155,7 +153,7 @@ returns-in-Some-clause-live g c =
     live_stop h pat (trees s.whole) log c.in-Some.stop b
 
 pub returns-in-Some-clause-kept : goal.returns-in-Some-clause-kept
-returns-in-Some-clause-kept g c = kept-on c.args.log.now c.loop-source.log c.settle.new.log c.loop-source.invariant.kept c.in_ok-settled.ensures.kept.log
+returns-in-Some-clause-kept g c = kept-on c.args.log.now c.loop-source.log c.settle.new.log c.loop-source.invariant.kept c.in_ok-settle.ensures.kept.log
 
 pub index-requires : goal.index-requires
 index-requires g c =
@@ -168,9 +166,9 @@ index-requires g c =
     let inv = c.loop-source.invariant in
     let come = inv.comes.2 w c.requires in
     let stack = stack_of i pat len w c.requires s.place (length c.loop-source.state.counts.marks.items) c.loop-source.log c.loop-source.state.outers.items c.loop-source.todo.items inv.comes.0 (sym inv.size) come inv.comes.1 in
-    let st = c.in_ok-settled.ensures.settled stack in
-    let ws = c.in_ok-settled.settled.waiting.items in
-    let hs = c.in_ok-settled.settled.ends.items in
+    let st = c.in_ok-settle.ensures.settled stack in
+    let ws = c.settle.new.settled.waiting.items in
+    let hs = c.settle.new.settled.ends.items in
     let log = c.settle.new.log in
     let outers = c.settle.new.state.outers.items in
     let waits = c.deref-in-loop-source.ensures.value in
@@ -192,9 +190,9 @@ after_step-requires-clause-fits g c =
     let inv = c.loop-source.invariant in
     let come = inv.comes.2 w c.requires in
     let stack = stack_of i pat len w c.requires s.place (length c.loop-source.state.counts.marks.items) c.loop-source.log c.loop-source.state.outers.items c.loop-source.todo.items inv.comes.0 (sym inv.size) come inv.comes.1 in
-    let st = c.in_ok-settled.ensures.settled stack in
-    let ws = c.in_ok-settled.settled.waiting.items in
-    let hs = c.in_ok-settled.settled.ends.items in
+    let st = c.in_ok-settle.ensures.settled stack in
+    let ws = c.settle.new.settled.waiting.items in
+    let hs = c.settle.new.settled.ends.items in
     let log = c.settle.new.log in
     let outers = c.settle.new.state.outers.items in
     let waits = c.deref-in-loop-source.ensures.value in
@@ -218,9 +216,9 @@ after_step-requires-clause-left g c =
     let inv = c.loop-source.invariant in
     let come = inv.comes.2 w c.requires in
     let stack = stack_of i pat len w c.requires s.place (length c.loop-source.state.counts.marks.items) c.loop-source.log c.loop-source.state.outers.items c.loop-source.todo.items inv.comes.0 (sym inv.size) come inv.comes.1 in
-    let st = c.in_ok-settled.ensures.settled stack in
-    let ws = c.in_ok-settled.settled.waiting.items in
-    let hs = c.in_ok-settled.settled.ends.items in
+    let st = c.in_ok-settle.ensures.settled stack in
+    let ws = c.settle.new.settled.waiting.items in
+    let hs = c.settle.new.settled.ends.items in
     let log = c.settle.new.log in
     let outers = c.settle.new.state.outers.items in
     let waits = c.deref-in-loop-source.ensures.value in
@@ -242,9 +240,9 @@ loop-source-smaller g c =
     let inv = c.loop-source.invariant in
     let come = inv.comes.2 w c.requires in
     let stack = stack_of i pat len w c.requires s.place (length c.loop-source.state.counts.marks.items) c.loop-source.log c.loop-source.state.outers.items c.loop-source.todo.items inv.comes.0 (sym inv.size) come inv.comes.1 in
-    let st = c.in_ok-settled.ensures.settled stack in
-    let ws = c.in_ok-settled.settled.waiting.items in
-    let hs = c.in_ok-settled.settled.ends.items in
+    let st = c.in_ok-settle.ensures.settled stack in
+    let ws = c.settle.new.settled.waiting.items in
+    let hs = c.settle.new.settled.ends.items in
     let log = c.settle.new.log in
     let outers = c.settle.new.state.outers.items in
     let waits = c.deref-in-loop-source.ensures.value in
@@ -271,9 +269,9 @@ loop-source-preserved g c =
     let inv = c.loop-source.invariant in
     let come = inv.comes.2 w c.requires in
     let stack = stack_of i pat len w c.requires s.place (length c.loop-source.state.counts.marks.items) c.loop-source.log c.loop-source.state.outers.items c.loop-source.todo.items inv.comes.0 (sym inv.size) come inv.comes.1 in
-    let st = c.in_ok-settled.ensures.settled stack in
-    let ws = c.in_ok-settled.settled.waiting.items in
-    let hs = c.in_ok-settled.settled.ends.items in
+    let st = c.in_ok-settle.ensures.settled stack in
+    let ws = c.settle.new.settled.waiting.items in
+    let hs = c.settle.new.settled.ends.items in
     let log = c.settle.new.log in
     let outers = c.settle.new.state.outers.items in
     let waits = c.deref-in-loop-source.ensures.value in
@@ -286,7 +284,7 @@ loop-source-preserved g c =
     let some = n.some in
     let at : c.in_ok-source.source.place ≡ s.place + n.first.width = c.in_ok-source.ensures.place ∙ ap (λ k. s.place + k) wide in
     let new = map after_of (kept_moves i (dots pat) s.place (reverse inv.comes.0)) in
-    let arrived : c.come.new.todo.items ≡ map position_after ws = c.in_ok-come.ensures ∙ ap (λ l. l ++ map position_after ws) c.in_ok-settled.ensures.done in
+    let arrived : c.come.new.todo.items ≡ map position_after ws = c.in_ok-come.ensures ∙ ap (λ l. l ++ map position_after ws) c.in_ok-settle.ensures.done in
     record {
       comes = (
         new,
@@ -300,11 +298,11 @@ loop-source-preserved g c =
             subst (λ k. ComesTo (input_of h (trees s.whole)) pat (flat_len (trees s.whole)) lawful checked k new) (sym there) n.comes_next),
       );
       whole = c.in_ok-source.ensures.whole ∙ inv.whole;
-      blank = λ q l. c.in_ok-settled.ensures.blank q (omega (arith, l, at, some));
-      size = c.in_ok-settled.ensures.size ∙ inv.size;
-      kept = kept-on c.args.log.now c.loop-source.log log inv.kept c.in_ok-settled.ensures.kept.log;
-      report = c.in_ok-settled.ensures.report inv.report;
+      blank = λ q l. c.in_ok-settle.ensures.blank q (omega (arith, l, at, some));
+      size = c.in_ok-settle.ensures.size ∙ inv.size;
+      kept = kept-on c.args.log.now c.loop-source.log log inv.kept c.in_ok-settle.ensures.kept.log;
+      report = c.in_ok-settle.ensures.report inv.report;
     }
 
 pub returns-in-Some-clause-report : goal.returns-in-Some-clause-report
-returns-in-Some-clause-report g c = c.in_ok-settled.ensures.report c.loop-source.invariant.report
+returns-in-Some-clause-report g c = c.in_ok-settle.ensures.report c.loop-source.invariant.report

@@ -19,8 +19,8 @@ pub loop-position-init : goal.loop-position-init
 loop-position-init g c =
     let s = c.args.source.now in
     let i = input_of (g.G.FragmentGrammar.grammar c.args.grammar.now) (trees s.whole) in
-    let none = ap length c.new-waiting.ensures.items in
-    let no_ends = ap length c.new-ends.ensures.items in
+    let none = ap length c.clear.ensures.items in
+    let no_ends = ap length c.clear-2.ensures.items in
     let most = vacancies_most s.place c.args.state.now.counts.marks.items in
     record {
       report = λ r. r;
@@ -32,7 +32,7 @@ loop-position-init g c =
         [],
         c.requires.blank s.place (omega arith),
         λ st. walked_start i s.place (length c.args.state.now.counts.marks.items) c.args.log.now c.args.state.now.outers.items (rest_at (trees s.whole) s.place)
-            c.args.todo.now.items c.new-waiting.result.items c.new-ends.result.items st c.new-waiting.ensures.items c.new-ends.ensures.items,
+            c.args.todo.now.items c.clear.new.self.items c.clear-2.new.self.items st c.clear.ensures.items c.clear-2.ensures.items,
       );
     }
 
@@ -43,7 +43,7 @@ takes-requires-clause-some g c =
     let st = c.requires.stack in
     let inv = c.loop-position.invariant in
     (popped_number i st.pattern (trees s.whole) s.place (kept i (dots st.pattern) s.place (reverse st.spots)) inv.walked.0 c.loop-position.log c.loop-position.state.outers.items c.pop.new.self.items
-    c.loop-position.todo.items c.in-Some.position c.loop-position.waiting.items c.loop-position.ends.items c.in-Some.ensures.items (inv.walked.2 st)).0
+    c.loop-position.todo.items c.in-Some.position c.loop-position.settled.waiting.items c.loop-position.settled.ends.items c.in-Some.ensures.items (inv.walked.2 st)).0
 
 pub takes-requires-clause-within : goal.takes-requires-clause-within
 takes-requires-clause-within g c =
@@ -52,7 +52,7 @@ takes-requires-clause-within g c =
     let st = c.requires.stack in
     let inv = c.loop-position.invariant in
     let n = (popped_number i st.pattern (trees s.whole) s.place (kept i (dots st.pattern) s.place (reverse st.spots)) inv.walked.0 c.loop-position.log c.loop-position.state.outers.items c.pop.new.self.items
-    c.loop-position.todo.items c.in-Some.position c.loop-position.waiting.items c.loop-position.ends.items c.in-Some.ensures.items (inv.walked.2 st)).1 in
+    c.loop-position.todo.items c.in-Some.position c.loop-position.settled.waiting.items c.loop-position.settled.ends.items c.in-Some.ensures.items (inv.walked.2 st)).1 in
     let size = inv.size in
     let all = st.size_is in
     omega (arith, n, size, all)
@@ -70,13 +70,13 @@ loop-position-preserved-then-not-takes g c =
       keeps = inv.keeps;
       blank = c.takes.ensures.blank inv.blank;
       size = c.takes.ensures.size ∙ inv.size;
-      few = subst (λ ms. length c.loop-position.waiting.items + length c.loop-position.ends.items + vacancies s.place ms ≤ length c.args.state.now.counts.marks.items + length c.args.state.now.counts.marks.items)
+      few = subst (λ ms. length c.loop-position.settled.waiting.items + length c.loop-position.settled.ends.items + vacancies s.place ms ≤ length c.args.state.now.counts.marks.items + length c.args.state.now.counts.marks.items)
           (sym same) inv.few;
       walked = (
         met,
         subst (λ b. AreCounted c.takes.new.self.marks.items s.place (cons_if b c.in-Some.position.number met)) c.if-not-takes.true counted.1,
         λ st. walked_drop i st.pattern (trees s.whole) s.place (kept i (dots st.pattern) s.place (reverse st.spots)) met c.loop-position.log c.loop-position.state.outers.items
-            c.pop.new.self.items c.loop-position.todo.items c.in-Some.position c.loop-position.waiting.items c.loop-position.ends.items c.in-Some.ensures.items (inv.walked.2 st)
+            c.pop.new.self.items c.loop-position.todo.items c.in-Some.position c.loop-position.settled.waiting.items c.loop-position.settled.ends.items c.in-Some.ensures.items (inv.walked.2 st)
             (sym counted.0 ∙ c.if-not-takes.true),
       );
     }
@@ -88,7 +88,7 @@ steps-requires g c =
     let st = c.requires.stack in
     let inv = c.loop-position.invariant in
     popped_shown i st.pattern (trees s.whole) s.place (kept i (dots st.pattern) s.place (reverse st.spots)) inv.walked.0 c.loop-position.log c.loop-position.state.outers.items c.pop.new.self.items
-    c.loop-position.todo.items c.in-Some.position c.loop-position.waiting.items c.loop-position.ends.items c.in-Some.ensures.items (inv.walked.2 st)
+    c.loop-position.todo.items c.in-Some.position c.loop-position.settled.waiting.items c.loop-position.settled.ends.items c.in-Some.ensures.items (inv.walked.2 st)
 
 pub loop-position-smaller : goal.loop-position-smaller
 loop-position-smaller g c =
@@ -110,7 +110,7 @@ loop-position-preserved g c =
     let pushed = c.in_ok-push_some-2.ensures ∙ ap (λ l. l ++ option_to_list f.first) c.in_ok-push_some.ensures in
     let st = c.requires.stack in
     let is = popped_shown i st.pattern (trees s.whole) s.place (kept i (dots st.pattern) s.place (reverse st.spots)) met c.loop-position.log c.loop-position.state.outers.items c.pop.new.self.items
-    c.loop-position.todo.items c.in-Some.position c.loop-position.waiting.items c.loop-position.ends.items c.in-Some.ensures.items (inv.walked.2 st) in
+    c.loop-position.todo.items c.in-Some.position c.loop-position.settled.waiting.items c.loop-position.settled.ends.items c.in-Some.ensures.items (inv.walked.2 st) in
     let keeping = (c.in_ok-found.ensures is.0 is.1).kept in
     let live = is_live c.loop-position.log c.loop-position.state.outers.items c.in-Some.position is in
     let held : IsLive c.steps.new.log c.again-handle.result = rw c.again-handle.ensures (keeping.log.stays c.in-Some.position.handle live) in
@@ -119,7 +119,7 @@ loop-position-preserved g c =
       keeps = keeps_on c.args.log.now c.loop-position.log c.steps.new.log c.args.state.now.outers.items c.loop-position.state.outers.items c.steps.new.outers.items inv.keeps keeping;
       blank = c.takes.ensures.blank inv.blank;
       size = c.takes.ensures.size ∙ inv.size;
-      few = few_on c.loop-position.waiting.items c.push_some-in-Some-2.new.values.items c.loop-position.ends.items c.push_some-in-Some-3.new.values.items f.next f.done
+      few = few_on c.loop-position.settled.waiting.items c.push_some-in-Some-2.new.values.items c.loop-position.settled.ends.items c.push_some-in-Some-3.new.values.items f.next f.done
           (vacancies s.place c.loop-position.state.counts.marks.items) (vacancies s.place c.takes.new.self.marks.items)
           (length c.args.state.now.counts.marks.items + length c.args.state.now.counts.marks.items) c.in_ok-push_some-3.ensures c.in_ok-push_some-4.ensures
           (steps_few i (trees s.whole) s.place c.loop-position.log c.steps.new.log c.loop-position.state.outers.items c.steps.new.outers.items c.in-Some.position f is c.in_ok-found.ensures)
@@ -128,7 +128,7 @@ loop-position-preserved g c =
         c.in-Some.position.number ∷ met,
         subst (λ b. AreCounted c.takes.new.self.marks.items s.place (cons_if b c.in-Some.position.number met)) taken counted.1,
         λ st. walked_take i st.pattern (trees s.whole) s.place (kept i (dots st.pattern) s.place (reverse st.spots)) met c.loop-position.log c.loop-position.state.outers.items
-            c.pop.new.self.items c.loop-position.todo.items c.in-Some.position c.loop-position.waiting.items c.loop-position.ends.items c.in-Some.ensures.items (inv.walked.2 st)
+            c.pop.new.self.items c.loop-position.todo.items c.in-Some.position c.loop-position.settled.waiting.items c.loop-position.settled.ends.items c.in-Some.ensures.items (inv.walked.2 st)
             c.steps.new.log c.steps.new.outers.items f c.push_some-in-Some.new.values.items c.push_some-in-Some-2.new.values.items c.push_some-in-Some-3.new.values.items
             c.in_ok-found.ensures pushed c.in_ok-push_some-3.ensures c.in_ok-push_some-4.ensures (sym counted.0 ∙ taken),
       );
@@ -140,7 +140,7 @@ returns-clause-settled g c = λ st.
     let i = input_of (g.G.FragmentGrammar.grammar c.args.grammar.now) (trees s.whole) in
     let inv = c.loop-position.invariant in
     walked_end i s.place (length c.args.state.now.counts.marks.items) c.args.log.now c.loop-position.log c.args.state.now.outers.items c.loop-position.state.outers.items (rest_at (trees s.whole) s.place)
-    c.args.todo.now.items c.loop-position.todo.items inv.walked.0 c.loop-position.waiting.items c.loop-position.ends.items st (nothing c.loop-position.todo.items (omega (arith, c.in_default.ensures.cases.0, c.loop-position.todo.ok.0))) (inv.walked.2 st)
+    c.args.todo.now.items c.loop-position.todo.items inv.walked.0 c.loop-position.settled.waiting.items c.loop-position.settled.ends.items st (nothing c.loop-position.todo.items (omega (arith, c.in_default.ensures.cases.0, c.loop-position.todo.ok.0))) (inv.walked.2 st)
 
 pub returns-clause-report : goal.returns-clause-report
 returns-clause-report g c = λ r.
@@ -149,5 +149,5 @@ returns-clause-report g c = λ r.
     let inv = c.loop-position.invariant in
     let st = c.requires.stack in
     let all = walked_end i s.place (length c.args.state.now.counts.marks.items) c.args.log.now c.loop-position.log c.args.state.now.outers.items c.loop-position.state.outers.items (rest_at (trees s.whole) s.place)
-    c.args.todo.now.items c.loop-position.todo.items inv.walked.0 c.loop-position.waiting.items c.loop-position.ends.items st (nothing c.loop-position.todo.items (omega (arith, c.in_default.ensures.cases.0, c.loop-position.todo.ok.0))) (inv.walked.2 st) in
-    c.after_place.ensures c.loop-position.log (rw c.deref.ensures.value (ends_live c.loop-position.log c.loop-position.ends.items _ all.ended)) (inv.report r)
+    c.args.todo.now.items c.loop-position.todo.items inv.walked.0 c.loop-position.settled.waiting.items c.loop-position.settled.ends.items st (nothing c.loop-position.todo.items (omega (arith, c.in_default.ensures.cases.0, c.loop-position.todo.ok.0))) (inv.walked.2 st) in
+    c.after_place.ensures c.loop-position.log (rw c.deref.ensures.value (ends_live c.loop-position.log c.loop-position.settled.ends.items _ all.ended)) (inv.report r)

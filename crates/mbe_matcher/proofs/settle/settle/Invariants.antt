@@ -17,13 +17,13 @@ invariant-loop-position g l = record {
   keeps : Keeps l.fn.log l.log l.fn.state.outers.items l.state.outers.items;
   blank : AreBlankFrom l.state.counts.marks.items (l.source.place + 1);
   size : length l.state.counts.marks.items ≡ length l.fn.state.counts.marks.items;
-  few : length l.waiting.items + length l.ends.items + vacancies l.source.place l.state.counts.marks.items
+  few : length l.settled.waiting.items + length l.settled.ends.items + vacancies l.source.place l.state.counts.marks.items
       ≤ length l.fn.state.counts.marks.items + length l.fn.state.counts.marks.items;
   walked : (met : List ℕ) × AreCounted l.state.counts.marks.items l.source.place met
       × ((s : IsStack (input_of (g.G.FragmentGrammar.grammar l.grammar) (trees l.source.whole)) l.source.place (length l.fn.state.counts.marks.items) l.fn.log l.fn.state.outers.items l.fn.todo.items) →
       Walked (input_of (g.G.FragmentGrammar.grammar l.grammar) (trees l.source.whole)) s.pattern l.source.place
       (kept (input_of (g.G.FragmentGrammar.grammar l.grammar) (trees l.source.whole)) (dots s.pattern) l.source.place (reverse s.spots))
-      met l.log l.state.outers.items (rest_at (trees l.source.whole) l.source.place) l.todo.items l.waiting.items l.ends.items);
+      met l.log l.state.outers.items (rest_at (trees l.source.whole) l.source.place) l.todo.items l.settled.waiting.items l.settled.ends.items);
 }
 
 abbrev pub decreases-loop-position : goal.decreases-loop-position
