@@ -160,6 +160,7 @@ impl<A: Allocator + Copy> ParseError<A> {
         Ok(ParseError::UnexpectedToken(String::from_str(alloc, text)?))
     }
 
+    /// The error that reports a fault, with its text in memory of `alloc`. `AllocError` if out of memory.
     pub fn of_fault(alloc: A, fault: SyntaxFault) -> Result<ParseError<A>, AllocError>
         ensures { IfOk result (λ e. parse_error_of e ≡ fault_of fault) }
     {
@@ -231,6 +232,7 @@ impl<A: Allocator + Copy> ExpandErrorKind<A> {
 }
 
 impl<A: Allocator> ExpandError<A> {
+    /// The error of that kind at that span, in memory of `alloc`. `AllocError` if out of memory.
     pub fn new(alloc: A, span: Span, kind: ExpandErrorKind<A>) -> Result<ExpandError<A>, AllocError>
         ensures { IfOk result (λ e. error_of e ≡ record { span = span; kind = kind_of kind }) }
     {

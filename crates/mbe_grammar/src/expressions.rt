@@ -19,7 +19,7 @@ use crate::types::{PathStyle, lifetime, path, turbofish};
 use mbe_tt::tt::{DelimiterKind, Punct, TokenTreesView};
 use std::alloc::Allocator;
 
-// The kinds of groups that aren't invisible.
+/// The kinds of groups that aren't invisible.
 pub const VISIBLE: [DelimiterKind; 3] = [
     DelimiterKind::Parenthesis,
     DelimiterKind::Brace,

@@ -63,7 +63,7 @@ pub struct Counted<'t, A: Allocator = Global> {
     pub is_good: bool,
 }
 
-// Consumes the whole trees that hold what the grammar counts.
+/// Consumes the whole trees that hold what the grammar counts.
 pub fn eat_front<'t, A: Allocator, G: FragmentGrammar>(
     grammar: &G,
     entry_point: PrefixEntryPoint,

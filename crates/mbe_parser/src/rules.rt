@@ -25,7 +25,7 @@ pub struct Rule<A: Allocator = Global> {
     pub rhs: MetaTemplate<A>,
 }
 
-// The rules that the chars separate, up to the first fault, and that fault.
+/// The rules that the chars separate, up to the first fault, and that fault.
 pub fn parse_rules<A: Allocator + Copy, E: Copy + Fn(SyntaxContext) -> Edition>(
     alloc: A,
     ctx_edition: E,
@@ -57,7 +57,7 @@ pub fn parse_rules<A: Allocator + Copy, E: Copy + Fn(SyntaxContext) -> Edition>(
     Ok((rules, None))
 }
 
-// The rule of a `macro` with arguments, or its first fault.
+/// The rule of a `macro` with arguments, or its first fault.
 pub fn parse_one_rule<A: Allocator + Copy, E: Copy + Fn(SyntaxContext) -> Edition>(
     alloc: A,
     ctx_edition: E,

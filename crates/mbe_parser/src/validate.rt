@@ -10,8 +10,8 @@ use mbe_ops::ops::Op;
 use mbe_semantics::kinds::{MetaVarKind, RepeatKind};
 use std::alloc::Allocator;
 
-// Whether the pattern of some rule has, at any depth, a repetition without separator whose body can
-// read nothing.
+/// Whether the pattern of some rule has, at any depth, a repetition without separator whose body can
+/// read nothing.
 pub fn refuses_some<A: Allocator>(rules: &[Rule<A>]) -> bool
     ensures { result ≡ list_any (λ r. is_refused r.reads) (rules_seen rules.now) }
 {

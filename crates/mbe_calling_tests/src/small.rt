@@ -1,0 +1,95 @@
+// Calls on small values: spans, editions, styles, results and handles.
+use bitflags::Flags;
+use mbe::{BindingLog, Bindings, Handle, MacroCallStyles, ValueResult};
+use mbe_text::scanner::file_span;
+use mbe_tt::span::{DelimSpan, Edition, Span};
+use mbe_tt::tt::{Ident, TopSubtree, TtIter};
+use std::alloc::{AllocError, Allocator, Global};
+
+/// The sides of a buffer's group.
+pub fn sides<A: Allocator>(tree: &TopSubtree<A>) -> DelimSpan {
+    tree.top_subtree().delimiter.delim_span()
+}
+
+/// The first so many bytes of a file.
+pub fn head(file: u32, bytes: u32) -> Span {
+    file_span(file, 0, bytes)
+}
+
+/// What `$x:pat` takes in an edition: whether alternatives, and whether `$x:expr` takes `const` blocks.
+pub fn takes_more(edition: Edition) -> (bool, bool) {
+    (edition.at_least_2021(), edition.at_least_2024())
+}
+
+/// Attributes and derives, which are written outside of expressions, as bits.
+pub fn outside_bits() -> u8 {
+    MacroCallStyles::ATTR.union(MacroCallStyles::DERIVE).bits()
+}
+
+/// An identifier as it is written, from a clone of it.
+pub fn written(alloc: Global, ident: &Ident) -> Result<String, AllocError> {
+    let copy = ident.clone()?;
+    format!(in alloc; "{copy}")
+}
+
+/// Whether no tree is left, seen on a second iterator at the same position.
+pub fn is_done(iter: &TtIter<'_>) -> Result<bool, AllocError> {
+    let same = iter.clone()?;
+    Ok(same.is_empty())
+}
+
+/// The default beside this error, and how its value is read by reference.
+pub fn failed(error: u32) -> Result<usize, AllocError> {
+    let failed: ValueResult<usize, u32> = ValueResult::only_err(error);
+    let by_ref = failed.as_ref()?;
+    Ok(*by_ref.value)
+}
+
+/// What a handle of any log has bound; nothing if the handle isn't of this one.
+pub fn bound_in<'a>(
+    log: &BindingLog<'a>,
+    handle: &Handle,
+) -> Result<Option<Bindings<'a>>, AllocError> {
+    if !log.is_live(handle) {
+        return Ok(None);
+    }
+    let bindings = log.build(handle)?;
+    Ok(Some(bindings))
+}
+
+mod tests {
+    use super::{bound_in, failed, head, is_done, outside_bits, sides, takes_more, written};
+    use mbe::BindingLog;
+    use mbe_text::lexer::lex;
+    use mbe_tt::span::Edition;
+    use std::test::Fail;
+
+    #[test]
+    fn small_values_are_read(rt: HostRuntime) -> Result<(), Fail> {
+        let tree = lex(rt.alloc(), "r#a", 7)?;
+        assert!(rt; sides(&tree).opening == head(7, 3));
+        assert_eq!(rt; takes_more(Edition::Edition2021), (true, false));
+        assert_eq!(rt; outside_bits(), 6);
+        assert_eq!(rt; failed(1)?, 0);
+        let mut iter = tree.iter();
+        assert!(rt; !is_done(&iter)?);
+        let Ok(ident) = iter.expect_ident() else {
+            return Err(Fail::from("no identifier"));
+        };
+        assert_eq!(rt; written(rt.alloc(), ident)?.as_str(), "r#a");
+        assert!(rt; is_done(&iter)?);
+        Ok(())
+    }
+
+    #[test]
+    fn a_handle_is_of_its_log(rt: HostRuntime) -> Result<(), Fail> {
+        let mut log = BindingLog::new(rt.alloc());
+        let handle = log.alloc()?;
+        let other = BindingLog::new(rt.alloc());
+        let bound = bound_in(&log, &handle)?;
+        assert!(rt; bound.is_some());
+        let bound = bound_in(&other, &handle)?;
+        assert!(rt; bound.is_none());
+        Ok(())
+    }
+}
