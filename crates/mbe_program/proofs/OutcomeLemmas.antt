@@ -18,47 +18,47 @@ use Rattle.mbe_program.specs.Expansion.{EndsAs, IsRefused, IsUnexpanded, IsUnlex
 use Rattle.mbe_program.specs.Linting.{Lints}
 
 -- a text isn't lexed
-pub unlexed : {A : Type 0} (edition : Edition) (def_len : ℕ) (outcome : Outcome A) → IsUnlexed outcome → IsUnexpanded edition def_len outcome
-unlexed edition def_len Expanded h = absurd h
-unlexed edition def_len Linted h = absurd h
-unlexed edition def_len Faulted h = absurd h
-unlexed edition def_len (Refused error) h = absurd h
-unlexed edition def_len (CannotLex file offset) h = tt
-unlexed edition def_len CannotWrite h = absurd h
-unlexed edition def_len OutOfMemory h = tt
+pub unlexed : {A : Type 0} (edition : Edition) (def_text : List ℕ) (outcome : Outcome A) → IsUnlexed outcome → IsUnexpanded edition def_text outcome
+unlexed edition def_text Expanded h = absurd h
+unlexed edition def_text Linted h = absurd h
+unlexed edition def_text Faulted h = absurd h
+unlexed edition def_text (Refused error) h = absurd h
+unlexed edition def_text (CannotLex file offset) h = tt
+unlexed edition def_text CannotWrite h = absurd h
+unlexed edition def_text OutOfMemory h = tt
 
 -- the definition is refused
-pub refused : {A : Type 0} (edition : Edition) (def_len : ℕ) (definition : Top) (outcome : Outcome A) → IsMade 0 def_len definition
-    → IsRefused edition definition.1 outcome → IsUnexpanded edition def_len outcome
-refused edition def_len definition Expanded made h = absurd h
-refused edition def_len definition Linted made h = absurd h
-refused edition def_len definition Faulted made h = absurd h
-refused edition def_len definition (Refused error) made h = (definition, made, h)
-refused edition def_len definition (CannotLex file offset) made h = absurd h
-refused edition def_len definition CannotWrite made h = absurd h
-refused edition def_len definition OutOfMemory made h = tt
+pub refused : {A : Type 0} (edition : Edition) (def_text : List ℕ) (definition : Top) (outcome : Outcome A) → IsMade 0 def_text definition
+    → IsRefused edition definition.1 outcome → IsUnexpanded edition def_text outcome
+refused edition def_text definition Expanded made h = absurd h
+refused edition def_text definition Linted made h = absurd h
+refused edition def_text definition Faulted made h = absurd h
+refused edition def_text definition (Refused error) made h = (definition, made, h)
+refused edition def_text definition (CannotLex file offset) made h = absurd h
+refused edition def_text definition CannotWrite made h = absurd h
+refused edition def_text definition OutOfMemory made h = tt
 
 -- a run without an expansion writes nothing
-pub unexpanded_ends : {A : Type 0} (edition : Edition) (def_len arg_len : ℕ) (before after : Option (List ℕ)) (outcome : Outcome A)
-    → IsUnexpanded edition def_len outcome → after ≡ before → EndsAs edition def_len arg_len before after outcome
-unexpanded_ends edition def_len arg_len before after Expanded h e = absurd h
-unexpanded_ends edition def_len arg_len before after Linted h e = absurd h
-unexpanded_ends edition def_len arg_len before after Faulted h e = absurd h
-unexpanded_ends edition def_len arg_len before after (Refused error) h e = (h, e)
-unexpanded_ends edition def_len arg_len before after (CannotLex file offset) h e = (h, e)
-unexpanded_ends edition def_len arg_len before after CannotWrite h e = absurd h
-unexpanded_ends edition def_len arg_len before after OutOfMemory h e = (h, e)
+pub unexpanded_ends : {A : Type 0} (edition : Edition) (def_text arg_text : List ℕ) (before after : Option (List ℕ)) (outcome : Outcome A)
+    → IsUnexpanded edition def_text outcome → after ≡ before → EndsAs edition def_text arg_text before after outcome
+unexpanded_ends edition def_text arg_text before after Expanded h e = absurd h
+unexpanded_ends edition def_text arg_text before after Linted h e = absurd h
+unexpanded_ends edition def_text arg_text before after Faulted h e = absurd h
+unexpanded_ends edition def_text arg_text before after (Refused error) h e = (h, e)
+unexpanded_ends edition def_text arg_text before after (CannotLex file offset) h e = (h, e)
+unexpanded_ends edition def_text arg_text before after CannotWrite h e = absurd h
+unexpanded_ends edition def_text arg_text before after OutOfMemory h e = (h, e)
 
 -- so does one that lints
-pub unexpanded_lints : {A : Type 0} (edition : Edition) (def_len arg_len : ℕ) (before after : Option (List ℕ)) (outcome : Outcome A)
-    → IsUnexpanded edition def_len outcome → after ≡ before → Lints edition def_len arg_len before after outcome
-unexpanded_lints edition def_len arg_len before after Expanded h e = absurd h
-unexpanded_lints edition def_len arg_len before after Linted h e = absurd h
-unexpanded_lints edition def_len arg_len before after Faulted h e = absurd h
-unexpanded_lints edition def_len arg_len before after (Refused error) h e = (h, e)
-unexpanded_lints edition def_len arg_len before after (CannotLex file offset) h e = (h, e)
-unexpanded_lints edition def_len arg_len before after CannotWrite h e = absurd h
-unexpanded_lints edition def_len arg_len before after OutOfMemory h e = (h, e)
+pub unexpanded_lints : {A : Type 0} (edition : Edition) (def_text arg_text : List ℕ) (before after : Option (List ℕ)) (outcome : Outcome A)
+    → IsUnexpanded edition def_text outcome → after ≡ before → Lints edition def_text arg_text before after outcome
+unexpanded_lints edition def_text arg_text before after Expanded h e = absurd h
+unexpanded_lints edition def_text arg_text before after Linted h e = absurd h
+unexpanded_lints edition def_text arg_text before after Faulted h e = absurd h
+unexpanded_lints edition def_text arg_text before after (Refused error) h e = (h, e)
+unexpanded_lints edition def_text arg_text before after (CannotLex file offset) h e = (h, e)
+unexpanded_lints edition def_text arg_text before after CannotWrite h e = absurd h
+unexpanded_lints edition def_text arg_text before after OutOfMemory h e = (h, e)
 
 -- what was written stays when the writer is flushed, whether that fails or not
 pub flushed : {T E : Type 0} (a b c : Option (List ℕ)) (r : Result T E) (xs : List ℕ) → Appends a b xs → Keeps b c → Writes a c r xs

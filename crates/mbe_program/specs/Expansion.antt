@@ -1,5 +1,5 @@
 -- What a run makes of both texts, and what it writes.
-use Rattle.std.specs.Prelude.{◌≡◌, ⊤, ℕ, List, Option, Some, None}
+use Rattle.std.specs.Prelude.{◌≡◌, ⊤, ℕ, List, length, Option, Some, None}
 use Rattle.std.specs.Io.KnownBytes.{Appends}
 use Rattle.mbe_tt.specs.declared.span.Edition.{Edition}
 use Rattle.mbe_tt.specs.declared.span.Span.{Span}
@@ -44,14 +44,14 @@ IsRefused edition definition outcome = ⊥
 
 -- ---- from texts
 
--- The answer to a call with these texts, which are so long: trees that tokens of the texts make have it, with all bytes of the
+-- The answer to a call with these texts: trees that tokens of the texts make have it, with all bytes of the
 -- argument as call site. The definition is file 0, and the argument file 1.
-pub record ExpandsTexts (edition : Edition) (def_len arg_len : ℕ) (out : Forest) (index : Option ℕ) (err : Option ExpandError) : Type 0 where
+pub record ExpandsTexts (edition : Edition) (def_text arg_text : List ℕ) (out : Forest) (index : Option ℕ) (err : Option ExpandError) : Type 0 where
   pub definition : Top
   pub argument : Top
-  pub defined : IsMade 0 def_len definition
-  pub given : IsMade 1 arg_len argument
-  pub expands : ExpandsTrees edition definition.1 argument.1 (bytes_of 1 0 arg_len) out index err
+  pub defined : IsMade 0 def_text definition
+  pub given : IsMade 1 arg_text argument
+  pub expands : ExpandsTrees edition definition.1 argument.1 (bytes_of 1 0 (length arg_text)) out index err
 
 -- a text isn't lexed, or there is no memory
 abbrev pub IsUnlexed : {A : Type 0} → Outcome A → Type 0
@@ -61,24 +61,24 @@ IsUnlexed outcome = ⊥
 
 -- There is no expansion of the texts: one isn't lexed, there is no memory, or trees that tokens of the definition make have
 -- that fault.
-abbrev pub IsUnexpanded : {A : Type 0} → Edition → ℕ → Outcome A → Type 0
-IsUnexpanded edition def_len (Refused error) =
-    (definition : Top) × IsMade 0 def_len definition × IsRefused edition definition.1 (Refused error)
-IsUnexpanded edition def_len (CannotLex file offset) = ⊤
-IsUnexpanded edition def_len OutOfMemory = ⊤
-IsUnexpanded edition def_len outcome = ⊥
+abbrev pub IsUnexpanded : {A : Type 0} → Edition → List ℕ → Outcome A → Type 0
+IsUnexpanded edition def_text (Refused error) =
+    (definition : Top) × IsMade 0 def_text definition × IsRefused edition definition.1 (Refused error)
+IsUnexpanded edition def_text (CannotLex file offset) = ⊤
+IsUnexpanded edition def_text OutOfMemory = ⊤
+IsUnexpanded edition def_text outcome = ⊥
 
 -- Where the answer has no error, a run ends as `Expanded`, and where it has one, as `Faulted`; either way what is printed of it
 -- is written. If a write fails, a prefix of that is written. Without an answer nothing is. No such run lints.
-abbrev pub EndsAs : {A : Type 0} → Edition → ℕ → ℕ → Option (List ℕ) → Option (List ℕ) → Outcome A → Type 0
-EndsAs edition def_len arg_len before after Expanded =
-    (out : Forest) × (index : Option ℕ) × ExpandsTexts edition def_len arg_len out index None
+abbrev pub EndsAs : {A : Type 0} → Edition → List ℕ → List ℕ → Option (List ℕ) → Option (List ℕ) → Outcome A → Type 0
+EndsAs edition def_text arg_text before after Expanded =
+    (out : Forest) × (index : Option ℕ) × ExpandsTexts edition def_text arg_text out index None
     × Appends before after (printed out index None)
-EndsAs edition def_len arg_len before after Faulted =
-    (out : Forest) × (index : Option ℕ) × (e : ExpandError) × ExpandsTexts edition def_len arg_len out index (Some e)
+EndsAs edition def_text arg_text before after Faulted =
+    (out : Forest) × (index : Option ℕ) × (e : ExpandError) × ExpandsTexts edition def_text arg_text out index (Some e)
     × Appends before after (printed out index (Some e))
-EndsAs edition def_len arg_len before after CannotWrite =
+EndsAs edition def_text arg_text before after CannotWrite =
     (out : Forest) × (index : Option ℕ) × (err : Option ExpandError) × (left : List ℕ)
-    × ExpandsTexts edition def_len arg_len out index err × Takes before after (printed out index err) left
-EndsAs edition def_len arg_len before after Linted = ⊥
-EndsAs edition def_len arg_len before after outcome = IsUnexpanded edition def_len outcome × (after ≡ before)
+    × ExpandsTexts edition def_text arg_text out index err × Takes before after (printed out index err) left
+EndsAs edition def_text arg_text before after Linted = ⊥
+EndsAs edition def_text arg_text before after outcome = IsUnexpanded edition def_text outcome × (after ≡ before)

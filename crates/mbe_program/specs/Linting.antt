@@ -52,19 +52,19 @@ lines_from rule (v ∷ vs) = (line_of rule v ++ codes "\n") ++ lines_from (suc r
 
 -- ---- a run
 
--- These are the verdicts for trees that tokens of the texts make, which are so long.
-abbrev pub ExplainsTexts : Edition → ℕ → ℕ → List Verdict → Type 0
-ExplainsTexts edition def_len arg_len verdicts = (definition : Top) × (argument : Top) × IsMade 0 def_len definition × IsMade 1 arg_len argument
+-- These are the verdicts for trees that tokens of the texts make.
+abbrev pub ExplainsTexts : Edition → List ℕ → List ℕ → List Verdict → Type 0
+ExplainsTexts edition def_text arg_text verdicts = (definition : Top) × (argument : Top) × IsMade 0 def_text definition × IsMade 1 arg_text argument
     × ExplainsTrees edition definition.1 argument.1 verdicts
 
 -- A run that lints ends as `Linted`, and has written a line for each verdict. If a write fails, a prefix of those is written.
 -- Without verdicts nothing is. No such run expands.
-abbrev pub Lints : {A : Type 0} → Edition → ℕ → ℕ → Option (List ℕ) → Option (List ℕ) → Outcome A → Type 0
-Lints edition def_len arg_len before after Linted =
-    (verdicts : List Verdict) × ExplainsTexts edition def_len arg_len verdicts × Appends before after (lines_from 0 verdicts)
-Lints edition def_len arg_len before after CannotWrite =
-    (verdicts : List Verdict) × (left : List ℕ) × ExplainsTexts edition def_len arg_len verdicts
+abbrev pub Lints : {A : Type 0} → Edition → List ℕ → List ℕ → Option (List ℕ) → Option (List ℕ) → Outcome A → Type 0
+Lints edition def_text arg_text before after Linted =
+    (verdicts : List Verdict) × ExplainsTexts edition def_text arg_text verdicts × Appends before after (lines_from 0 verdicts)
+Lints edition def_text arg_text before after CannotWrite =
+    (verdicts : List Verdict) × (left : List ℕ) × ExplainsTexts edition def_text arg_text verdicts
     × Takes before after (lines_from 0 verdicts) left
-Lints edition def_len arg_len before after Expanded = ⊥
-Lints edition def_len arg_len before after Faulted = ⊥
-Lints edition def_len arg_len before after outcome = IsUnexpanded edition def_len outcome × (after ≡ before)
+Lints edition def_text arg_text before after Expanded = ⊥
+Lints edition def_text arg_text before after Faulted = ⊥
+Lints edition def_text arg_text before after outcome = IsUnexpanded edition def_text outcome × (after ≡ before)

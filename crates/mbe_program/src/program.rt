@@ -67,7 +67,7 @@ impl<A: Allocator> From<AllocError> for Outcome<A> {
 
 fn lexed<A: Allocator + Copy>(alloc: A, text: &str, file: u32) -> Result<TopSubtree<A>, Outcome<A>>
     requires { length text.now < 2 ^ 32 }
-    ensures made { IfOk result (IsMade file (length text.now)) }
+    ensures made { IfOk result (IsMade file text.now) }
     ensures unlexed { IfErr result IsUnlexed }
     ensures within { IfErr result (FaultsIn file (length text.now)) }
 {
@@ -86,7 +86,7 @@ fn both_lexed<A: Allocator + Copy>(
 ) -> Result<(TopSubtree<A>, TopSubtree<A>), Outcome<A>>
     requires def { length def.now < 2 ^ 32 }
     requires arg { length arg.now < 2 ^ 32 }
-    ensures made { IfOk result (λ r. IsMade 0 (length def.now) r.0 × IsMade 1 (length arg.now) r.1) }
+    ensures made { IfOk result (λ r. IsMade 0 def.now r.0 × IsMade 1 arg.now r.1) }
     ensures unlexed { IfErr result IsUnlexed }
     ensures within { IfErr result (λ outcome.
         FaultsIn 0 (length def.now) outcome ⊎ FaultsIn 1 (length arg.now) outcome) }
@@ -150,9 +150,9 @@ fn texts_expansion<A: Allocator + Copy>(
 ) -> Result<Expansion<A>, Outcome<A>>
     requires def { length def.now < 2 ^ 32 }
     requires arg { length arg.now < 2 ^ 32 }
-    ensures expands { IfOk result (λ r. ExpandsTexts edition (length def.now) (length arg.now)
+    ensures expands { IfOk result (λ r. ExpandsTexts edition def.now arg.now
         (top_group r.value.0) r.value.1 (errors_of r.err)) }
-    ensures unexpanded { IfErr result (IsUnexpanded edition (length def.now)) }
+    ensures unexpanded { IfErr result (IsUnexpanded edition def.now) }
     ensures within { IfErr result (λ outcome.
         FaultsIn 0 (length def.now) outcome ⊎ FaultsIn 1 (length arg.now) outcome) }
 {
@@ -171,9 +171,9 @@ fn texts_verdicts<A: Allocator + Copy>(
 ) -> Result<Vec<Verdict, A>, Outcome<A>>
     requires def { length def.now < 2 ^ 32 }
     requires arg { length arg.now < 2 ^ 32 }
-    ensures explains { IfOk result (λ verdicts. ExplainsTexts edition (length def.now)
-        (length arg.now) (map verdict_seen verdicts.items)) }
-    ensures unexpanded { IfErr result (IsUnexpanded edition (length def.now)) }
+    ensures explains { IfOk result (λ verdicts. ExplainsTexts edition def.now arg.now
+        (map verdict_seen verdicts.items)) }
+    ensures unexpanded { IfErr result (IsUnexpanded edition def.now) }
     ensures within { IfErr result (λ outcome.
         FaultsIn 0 (length def.now) outcome ⊎ FaultsIn 1 (length arg.now) outcome) }
 {
@@ -192,7 +192,7 @@ fn expanded<A: Allocator + Copy, W: Write>(
     requires def { length def.now < 2 ^ 32 }
     requires arg { length arg.now < 2 ^ 32 }
     ensures silent { IsSilent result (W.contents out.old) (W.contents out.new) }
-    ensures ended { EndsAs edition (length def.now) (length arg.now)
+    ensures ended { EndsAs edition def.now arg.now
         (W.contents out.old) (W.contents out.new) result }
     ensures within { FaultsIn 0 (length def.now) result ⊎ FaultsIn 1 (length arg.now) result }
 {
@@ -224,7 +224,7 @@ fn linted<A: Allocator + Copy, W: Write>(
     requires def { length def.now < 2 ^ 32 }
     requires arg { length arg.now < 2 ^ 32 }
     ensures silent { IsSilent result (W.contents out.old) (W.contents out.new) }
-    ensures lints { Lints edition (length def.now) (length arg.now)
+    ensures lints { Lints edition def.now arg.now
         (W.contents out.old) (W.contents out.new) result }
     ensures within { FaultsIn 0 (length def.now) result ⊎ FaultsIn 1 (length arg.now) result }
 {
@@ -258,9 +258,9 @@ pub fn run<A: Allocator + Copy, W: Write>(
     requires def { length def.now < 2 ^ 32 }
     requires arg { length arg.now < 2 ^ 32 }
     ensures silent { IsSilent result (W.contents out.old) (W.contents out.new) }
-    ensures expands { lint ≡ false → EndsAs edition (length def.now) (length arg.now)
+    ensures expands { lint ≡ false → EndsAs edition def.now arg.now
         (W.contents out.old) (W.contents out.new) result }
-    ensures lints { lint ≡ true → Lints edition (length def.now) (length arg.now)
+    ensures lints { lint ≡ true → Lints edition def.now arg.now
         (W.contents out.old) (W.contents out.new) result }
     ensures within { FaultsIn 0 (length def.now) result ⊎ FaultsIn 1 (length arg.now) result }
 {

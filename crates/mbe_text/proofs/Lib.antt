@@ -1,4 +1,5 @@
 pub mod Lines
 pub mod Made
 pub mod Printed
+pub mod Reading
 pub mod Taken

@@ -1,3 +1,4 @@
+pub mod Ends
 pub mod Printing
 pub mod Scanning
 pub mod Tokens

@@ -6,7 +6,8 @@ use Rattle.mbe_text.specs.declared.lexer.LexError.TheVariants.{Fault, OutOfMemor
 
 -- in the same text, and not backwards
 abbrev pub GoesOn : Scanner → Scanner → Type 0
-GoesOn old new = (new.file ≡ old.file) × (new.total ≡ old.total) × (length new.rest.now ≤ length old.rest.now)
+GoesOn old new =
+    (new.file ≡ old.file) × (new.total ≡ old.total) × (new.text.now ≡ old.text.now) × (length new.rest.now ≤ length old.rest.now)
 
 -- and past something, where something is left
 abbrev pub Advances : Scanner → Scanner → Type 0

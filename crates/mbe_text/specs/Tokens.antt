@@ -1,18 +1,23 @@
 -- What the tokens of a text make: leaves, and groups that are closed by closings of their own kind.
-use Rattle.std.specs.Prelude.{◌≡◌, ◌≢◌, ℕ, ◌<◌, ◌≤◌, ⊤, Some, List, [], ◌∷◌, ◌++◌}
+use Rattle.std.specs.Prelude.{◌≡◌, ◌≢◌, ℕ, ◌<◌, ◌≤◌, ⊤, Some, List, [], ◌∷◌, ◌++◌, length, codes, encode_utf8, slice_range}
 use Rattle.mbe_tt.specs.Trees.Leaf.{Leaf, literal, punct, ident, span_of}
+use Rattle.mbe_tt.specs.Trees.Literals.{ident_text, literal_output}
 use Rattle.mbe_tt.specs.Trees.Tree.{Forest, none, group, append, one_leaf}
 use Rattle.mbe_tt.specs.Trees.Top.{Top, top_of}
 use Rattle.mbe_tt.specs.Buffers.Building.{Levels, put, closed, kind_inside}
 use Rattle.mbe_tt.specs.declared.span.Span.{Span}
 use Rattle.mbe_tt.specs.declared.tt.Delimiter.{Delimiter}
 use Rattle.mbe_tt.specs.declared.tt.DelimiterKind.{DelimiterKind}
-use Rattle.mbe_tt.specs.declared.tt.DelimiterKind.TheVariants.{Invisible}
+use Rattle.mbe_tt.specs.declared.tt.DelimiterKind.TheVariants.{Parenthesis, Brace, Bracket, Invisible}
 use Rattle.mbe_text.specs.declared.scanner.Token.{Token}
 use Rattle.mbe_text.specs.declared.scanner.Lexeme.{Lexeme}
 use Rattle.mbe_text.specs.declared.scanner.Lexeme.TheVariants.{Ident, Literal, Punct, Open, Close}
 use Rattle.mbe_text.specs.declared.lexer.LexError.{LexError}
 use Rattle.mbe_text.specs.declared.lexer.LexError.TheVariants as errors
+
+-- bytes of a file
+abbrev pub bytes_of : ℕ → ℕ → ℕ → Span
+bytes_of file start end = record { file = file; ast = 0; start = start; end = end; ctx = record { 0 = 0 } }
 
 -- a token without the memory of its texts: a leaf, or one side of a group
 pub data Item : Type 0 where
@@ -37,6 +42,36 @@ abbrev pub item_span : Item → Span
 item_span (leaf_item l) = span_of l
 item_span (open_item kind span) = span
 item_span (close_item kind span) = span
+
+-- the sides of a group
+abbrev pub opening_text : DelimiterKind → List ℕ
+opening_text Parenthesis = codes "("
+opening_text Brace = codes "{"
+opening_text Bracket = codes "["
+opening_text Invisible = []
+
+abbrev pub closing_text : DelimiterKind → List ℕ
+closing_text Parenthesis = codes ")"
+closing_text Brace = codes "}"
+closing_text Bracket = codes "]"
+closing_text Invisible = []
+
+-- an item's text: of a literal with its quotes and its suffix, of a raw identifier with its `r#`
+abbrev pub item_text : Item → List ℕ
+item_text (leaf_item (ident i)) = ident_text i
+item_text (leaf_item (punct p)) = encode_utf8 p.char
+item_text (leaf_item (literal l)) = literal_output l
+item_text (open_item kind span) = opening_text kind
+item_text (close_item kind span) = closing_text kind
+
+-- wherever it stands
+abbrev pub lexeme_text : Lexeme → List ℕ
+lexeme_text l = item_text (lexeme_item (bytes_of 0 0 0) l)
+
+-- each item is the bytes of the text at its span
+abbrev pub AreSpelled : List ℕ → List Item → Type 0
+AreSpelled text [] = ⊤
+AreSpelled text (x ∷ xs) = (slice_range text (item_span x).start (item_span x).end ≡ item_text x) × AreSpelled text xs
 
 -- How an item changes the groups that are open. A closing has to be of the innermost group's kind.
 abbrev pub Adds : Item → Levels → Levels → Type 0
@@ -70,10 +105,6 @@ abbrev pub ended : Span → Levels → Top
 ended end [] = top_of none
 ended end (g ∷ outer) = gathered end g.0 g.1 outer
 
--- bytes of a file
-abbrev pub bytes_of : ℕ → ℕ → ℕ → Span
-bytes_of file start end = record { file = file; ast = 0; start = start; end = end; ctx = record { 0 = 0 } }
-
 -- each item has a byte at least of that file, and they are one after another between those bytes
 abbrev pub AreInOrder : ℕ → ℕ → List Item → ℕ → Type 0
 AreInOrder file from [] to = from ≤ to
@@ -85,10 +116,12 @@ AreInOrder file from (x ∷ xs) to =
 abbrev pub whole : ℕ → ℕ → Levels
 whole file len = (record { opening = bytes_of file 0 len; close = bytes_of file 0 len; kind = Invisible }, none) ∷ []
 
--- The trees of a file's text: items that are in it one after another make them, and the groups open at the end are closed there.
-pub record IsMade (file len : ℕ) (trees : Top) : Type 0 where
+-- The trees of a file's text: items that are in it one after another, as they are spelled there, make them, and the groups open at
+-- the end are closed there.
+pub record IsMade (file : ℕ) (text : List ℕ) (trees : Top) : Type 0 where
   pub items : List Item
-  pub in_order : AreInOrder file 0 items len
+  pub in_order : AreInOrder file 0 items (length text)
+  pub spelled : AreSpelled text items
   pub levels : Levels
-  pub made : Makes (whole file len) items levels
-  pub closed_at_end : trees ≡ ended (bytes_of file len len) levels
+  pub made : Makes (whole file (length text)) items levels
+  pub closed_at_end : trees ≡ ended (bytes_of file (length text) (length text)) levels

@@ -151,7 +151,7 @@ fn joined<A: Allocator + Copy>(
 /// and byte literals are faults. It asks that the text is shorter than 2^32 bytes, as spans count them in 32 bits.
 pub fn lex<A: Allocator + Copy>(alloc: A, text: &str, file: u32) -> Result<TopSubtree<A>, LexError>
     requires { length text.now < 2 ^ 32 }
-    ensures made { IfOk result (IsMade file (length text.now)) }
+    ensures made { IfOk result (IsMade file text.now) }
     ensures within { IfErr result (FaultsWithin (length text.now)) }
 {
     lex_in(&mut SymbolTable::new(alloc), text, file)
@@ -165,7 +165,7 @@ pub fn lex_in<A: Allocator + Copy>(
     file: u32,
 ) -> Result<TopSubtree<A>, LexError>
     requires { length text.now < 2 ^ 32 }
-    ensures made { IfOk result (IsMade file (length text.now)) }
+    ensures made { IfOk result (IsMade file text.now) }
     ensures within { IfErr result (FaultsWithin (length text.now)) }
 {
     let len = text.len() as u32;

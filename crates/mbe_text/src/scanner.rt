@@ -1,7 +1,11 @@
 // The tokens of a text, one after another.
 ghost use Rattle.std.specs.Prelude.{◌≡◌, ◌↔◌, ◌<◌, ◌≤◌, ◌+◌, ◌^◌, length, IsSome, IfSome, IfNone};
-ghost use Rattle.std.specs.Prelude.{IfOk, IfErr};
-ghost use Rattle.mbe_text.specs.Tokens.{bytes_of};
+ghost use Rattle.std.specs.Prelude.{ℕ, true, List, [], ◌++◌, ◌∷◌, IfOk, IfErr};
+ghost use Rattle.std.specs.Prelude.{encode_utf8, slice_range};
+ghost use Rattle.std.specs.Str.{IsUtf8};
+ghost use Rattle.mbe_tt.specs.Trees.Literals.{opening, closing};
+ghost use Rattle.mbe_text.specs.Ends.{IsRest, Begins};
+ghost use Rattle.mbe_text.specs.Tokens.{bytes_of, token_item, item_text, lexeme_text};
 
 use mbe_tt::span::{Span, SyntaxContext};
 use mbe_tt::tt::{DelimiterKind, IdentIsRaw, LitKind, Spacing};
@@ -61,8 +65,11 @@ pub fn file_span(file: u32, start: u32, end: u32) -> Span
 pub struct Scanner<'t> {
     file: u32,
     total: u32,
+    text: &'t str,
     rest: &'t str,
     ghost within: { length rest.now ≤ total },
+    ghost whole: { total ≡ length text.now },
+    ghost left: { IsRest text.now rest.now },
 }
 
 fn starts_identifier(char: char) -> bool {
@@ -103,6 +110,14 @@ fn is_punct(char: char) -> bool {
     )
 }
 
+// What a text has before this rest of it.
+fn before<'t>(text: &'t str, rest: &str) -> &'t str
+    requires { length rest.now ≤ length text.now }
+    ensures { IsRest text.now rest.now → text.now ≡ result.now ++ rest.now }
+{
+    text.get(..text.len() - rest.len()).unwrap_or("")
+}
+
 // Whether an identifier of this text and what follows it would begin a prefixed or raw string, or a byte literal.
 // Those aren't lexed.
 fn begins_literal(name: &str, rest: &str) -> bool {
@@ -123,10 +138,12 @@ impl<'t> Scanner<'t> {
         ensures file { result.file ≡ file }
         ensures rest { result.rest.now ≡ text.now }
         ensures total { result.total ≡ length text.now }
+        ensures text { result.text.now ≡ text.now }
     {
         Scanner {
             file,
             total: text.len() as u32,
+            text,
             rest: text,
         }
     }
@@ -139,7 +156,8 @@ impl<'t> Scanner<'t> {
     }
 
     fn peek(&self) -> Option<char>
-        ensures { IsSome result ↔ 0 < length self.now.rest.now }
+        ensures some { IsSome result ↔ 0 < length self.now.rest.now }
+        ensures begins { IfSome result (λ c. Begins c self.now.rest.now) }
     {
         self.rest.chars().next()
     }
@@ -149,6 +167,8 @@ impl<'t> Scanner<'t> {
         ensures some { IsSome result ↔ 0 < length self.old.rest.now }
         ensures on { GoesOn self.old self.new }
         ensures past { Advances self.old self.new }
+        ensures whole { IfSome result (λ c.
+            self.old.rest.now ≡ encode_utf8 c ++ self.new.rest.now) }
     {
         let mut chars = self.rest.chars();
         let char = chars.next();
@@ -165,13 +185,6 @@ impl<'t> Scanner<'t> {
         let end = text.find(|c| !is_such(c)).unwrap_or(text.len());
         let (_, rest) = text.split_at(end);
         self.rest = rest;
-    }
-
-    // The text from a mark, which is what was left before, up to here.
-    fn since(&self, mark: &'t str) -> &'t str
-        requires { length self.now.rest.now ≤ length mark.now }
-    {
-        mark.get(..mark.len() - self.rest.len()).unwrap_or("")
     }
 
     // Passes white space and comments.
@@ -232,18 +245,22 @@ impl<'t> Scanner<'t> {
     fn word(&mut self) -> &'t str
         ensures on { GoesOn self.old self.new }
         ensures past { Advances self.old self.new }
+        ensures whole { self.old.rest.now ≡ result.now ++ self.new.rest.now }
     {
         let text = self.rest;
         self.bump();
         self.pass(is_xid_continue);
-        self.since(text)
+        before(text, self.rest)
     }
 
     // Whether a raw identifier stands here.
-    fn is_at_raw(&self) -> bool {
-        self.rest
-            .strip_prefix("r#")
-            .is_some_and(|name| name.starts_with(starts_identifier))
+    fn is_at_raw(&self) -> bool
+        ensures { result ≡ true → (text : List ℕ) × (self.now.rest.now ≡ 114 ∷ (35 ∷ text)) }
+    {
+        match self.rest.strip_prefix("r#") {
+            Some(name) => name.starts_with(starts_identifier),
+            None => false,
+        }
     }
 
     // Passes a raw identifier with its `r#`.
@@ -251,6 +268,8 @@ impl<'t> Scanner<'t> {
         requires { 0 < length self.old.rest.now }
         ensures on { GoesOn self.old self.new }
         ensures past { Advances self.old self.new }
+        ensures reads { ((text : List ℕ) × (self.old.rest.now ≡ 114 ∷ (35 ∷ text)))
+            → IfOk result (λ l. self.old.rest.now ≡ lexeme_text l ++ self.new.rest.now) }
         ensures within { IfErr result (λ fault. fault.offset ≤ self.old.total) }
     {
         let start = self.offset();
@@ -271,6 +290,8 @@ impl<'t> Scanner<'t> {
         requires { 0 < length self.old.rest.now }
         ensures on { GoesOn self.old self.new }
         ensures past { Advances self.old self.new }
+        ensures reads { IfOk result (λ l.
+            self.old.rest.now ≡ lexeme_text l ++ self.new.rest.now) }
         ensures within { IfErr result (λ fault. fault.offset ≤ self.old.total) }
     {
         let start = self.offset();
@@ -289,6 +310,9 @@ impl<'t> Scanner<'t> {
     // never raw.
     fn suffix(&mut self) -> Result<(&'t str, u8), LexFault>
         ensures on { GoesOn self.old self.new }
+        ensures whole { IfOk result (λ r. self.old.rest.now ≡ r.0.now ++ self.new.rest.now) }
+        ensures len { IfOk result (λ r. r.1 ≡ length r.0.now) }
+        ensures utf8 { IfOk result (λ r. IsUtf8 r.0.now) }
         ensures within { IfErr result (λ fault. fault.offset ≤ self.old.total) }
     {
         let start = self.offset();
@@ -305,6 +329,9 @@ impl<'t> Scanner<'t> {
     // A literal of this text, with the suffix that stands here.
     fn literal(&mut self, text: &'t str, kind: LitKind) -> Result<Lexeme<'t>, LexFault>
         ensures on { GoesOn self.old self.new }
+        ensures reads { IfOk result (λ l. (suffix : List ℕ)
+            × (self.old.rest.now ≡ suffix ++ self.new.rest.now)
+            × (lexeme_text l ≡ opening kind ++ (text.now ++ (closing kind ++ suffix)))) }
         ensures within { IfErr result (λ fault. fault.offset ≤ self.old.total) }
     {
         let (suffix, suffix_len) = self.suffix()?;
@@ -318,14 +345,16 @@ impl<'t> Scanner<'t> {
 
     // Passes the text up to the next `end` and that too, where a `\` takes the next character with it.
     fn quoted(&mut self, end: char) -> Option<&'t str>
-        ensures { GoesOn self.old self.new }
+        ensures on { GoesOn self.old self.new }
+        ensures whole { IfSome result (λ text.
+            self.old.rest.now ≡ text.now ++ (encode_utf8 end ++ self.new.rest.now)) }
     {
         let text = self.rest;
         'chars: loop {
-            let left = self.rest.len();
+            let rest = self.rest;
             let char = self.bump()?;
             if char == end {
-                return text.get(..text.len() - left);
+                return Some(before(text, rest));
             }
             if char == '\\' {
                 self.bump();
@@ -338,6 +367,9 @@ impl<'t> Scanner<'t> {
         requires { 0 < length self.old.rest.now }
         ensures on { GoesOn self.old self.new }
         ensures past { Advances self.old self.new }
+        ensures reads { Begins quote self.old.rest.now
+            → opening kind ≡ encode_utf8 quote → closing kind ≡ encode_utf8 quote
+            → IfOk result (λ l. self.old.rest.now ≡ lexeme_text l ++ self.new.rest.now) }
         ensures within { IfErr result (λ fault. fault.offset ≤ self.old.total) }
     {
         let start = self.offset();
@@ -365,6 +397,8 @@ impl<'t> Scanner<'t> {
         requires { 0 < length self.old.rest.now }
         ensures on { GoesOn self.old self.new }
         ensures past { Advances self.old self.new }
+        ensures reads { Begins 39 self.old.rest.now
+            → IfOk result (λ l. self.old.rest.now ≡ lexeme_text l ++ self.new.rest.now) }
         ensures within { IfErr result (λ fault. fault.offset ≤ self.old.total) }
     {
         let start = self.offset();
@@ -383,6 +417,8 @@ impl<'t> Scanner<'t> {
         requires { 0 < length self.old.rest.now }
         ensures on { GoesOn self.old self.new }
         ensures past { Advances self.old self.new }
+        ensures reads { Begins 39 self.old.rest.now
+            → IfOk result (λ l. self.old.rest.now ≡ lexeme_text l ++ self.new.rest.now) }
         ensures within { IfErr result (λ fault. fault.offset ≤ self.old.total) }
     {
         if self.is_at_char() {
@@ -425,6 +461,7 @@ impl<'t> Scanner<'t> {
     fn digits(&mut self) -> LitKind
         ensures on { GoesOn self.old self.new }
         ensures past { Advances self.old self.new }
+        ensures unquoted { (opening result ≡ []) × (closing result ≡ []) }
     {
         let first = self.bump();
         match (first, self.peek()) {
@@ -454,11 +491,13 @@ impl<'t> Scanner<'t> {
         requires { 0 < length self.old.rest.now }
         ensures on { GoesOn self.old self.new }
         ensures past { Advances self.old self.new }
+        ensures reads { IfOk result (λ l.
+            self.old.rest.now ≡ lexeme_text l ++ self.new.rest.now) }
         ensures within { IfErr result (λ fault. fault.offset ≤ self.old.total) }
     {
         let text = self.rest;
         let kind = self.digits();
-        let digits = self.since(text);
+        let digits = before(text, self.rest);
         self.literal(digits, kind)
     }
 
@@ -477,6 +516,8 @@ impl<'t> Scanner<'t> {
         requires { 0 < length self.old.rest.now }
         ensures on { GoesOn self.old self.new }
         ensures past { Advances self.old self.new }
+        ensures reads { IfOk result (λ l.
+            self.old.rest.now ≡ lexeme_text l ++ self.new.rest.now) }
         ensures within { IfErr result (λ fault. fault.offset ≤ self.old.total) }
     {
         let start = self.offset();
@@ -495,6 +536,30 @@ impl<'t> Scanner<'t> {
         }
     }
 
+    // Passes the token that begins with this character, which stands here.
+    fn lexeme(&mut self, char: char) -> Result<Lexeme<'t>, LexFault>
+        requires { 0 < length self.old.rest.now }
+        ensures on { GoesOn self.old self.new }
+        ensures past { Advances self.old self.new }
+        ensures reads { Begins char self.old.rest.now
+            → IfOk result (λ l. self.old.rest.now ≡ lexeme_text l ++ self.new.rest.now) }
+        ensures within { IfErr result (λ fault. fault.offset ≤ self.old.total) }
+    {
+        if self.is_at_raw() {
+            self.raw_identifier()
+        } else if starts_identifier(char) {
+            self.identifier()
+        } else if char.is_ascii_digit() {
+            self.number()
+        } else if char == '"' {
+            self.string('"', LitKind::Str)
+        } else if char == '\'' {
+            self.quote()
+        } else {
+            self.sign()
+        }
+    }
+
     /// Consumes white space, comments and the next token, and returns the token; `None` at the end of the text. `LexFault` if what
     /// is there isn't a token or a comment.
     pub fn token(&mut self) -> Result<Option<Token<'t>>, LexFault>
@@ -510,6 +575,8 @@ impl<'t> Scanner<'t> {
         ensures some { IfOk result (λ token. IfSome token (λ t. t.span.start < t.span.end)) }
         ensures up_to { IfOk result (λ token. IfSome token (λ t.
             t.span.end + length self.new.rest.now ≡ self.old.total)) }
+        ensures spelled { IfOk result (λ token. IfSome token (λ t.
+            slice_range self.old.text.now t.span.start t.span.end ≡ item_text (token_item t))) }
         ensures within { IfErr result (λ fault. fault.offset ≤ self.old.total) }
     {
         self.trivia()?;
@@ -517,19 +584,7 @@ impl<'t> Scanner<'t> {
         let Some(char) = self.peek() else {
             return Ok(None);
         };
-        let lexeme = if self.is_at_raw() {
-            self.raw_identifier()?
-        } else if starts_identifier(char) {
-            self.identifier()?
-        } else if char.is_ascii_digit() {
-            self.number()?
-        } else if char == '"' {
-            self.string('"', LitKind::Str)?
-        } else if char == '\'' {
-            self.quote()?
-        } else {
-            self.sign()?
-        };
+        let lexeme = self.lexeme(char)?;
         let span = file_span(self.file, start, self.offset());
         Ok(Some(Token { lexeme, span }))
     }

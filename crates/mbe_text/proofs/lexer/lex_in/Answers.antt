@@ -6,6 +6,7 @@ pub tokens-init : goal.tokens-init
 tokens-init g c = record {
   total = c.new-scanner.ensures.total;
   file = c.new-scanner.ensures.file;
+  text = c.new-scanner.ensures.text;
   lexed = lexed_first _ _ _ _ _ _ c.in_ok-builder.ensures c.invisible_spanned-whole.ensures c.file_span.ensures.whole
       (ap (λ (l : List ℕ). length l) c.new-scanner.ensures.rest);
 }
@@ -16,9 +17,10 @@ tokens-preserved g c =
     record {
       total = token.on.1 ∙ c.tokens.invariant.total;
       file = token.on.0 ∙ c.tokens.invariant.file;
-      lexed = lexed_more _ _ c.tokens.scanner.file c.tokens.scanner.total _ _ _ _ _ c.in-Some.token c.tokens.invariant.lexed
-          c.tokens.invariant.file c.tokens.invariant.total c.in-Some.is
-          token.span token.behind token.some token.up_to c.in_ok-add.ensures.ok;
+      text = token.on.2 ∙ c.tokens.invariant.text;
+      lexed = lexed_more _ _ c.tokens.scanner.file c.tokens.scanner.text.now c.tokens.scanner.total _ _ _ _ _ c.in-Some.token c.tokens.invariant.lexed
+          c.tokens.invariant.file c.tokens.invariant.text c.tokens.invariant.total c.in-Some.is
+          token.span token.behind token.some token.up_to token.spelled c.in_ok-add.ensures.ok;
     }
 
 pub returns-clause-made : goal.returns-clause-made

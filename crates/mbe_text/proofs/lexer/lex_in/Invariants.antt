@@ -6,7 +6,8 @@ abbrev pub invariant-tokens : goal.invariant-tokens
 invariant-tokens g l = record {
   total : l.scanner.total ≡ length l.fn.text;
   file : l.scanner.file ≡ l.fn.file;
-  lexed : Lexed l.fn.file (length l.fn.text) (length l.scanner.rest.now) l.builder;
+  text : l.scanner.text.now ≡ l.fn.text;
+  lexed : Lexed l.fn.file l.fn.text (length l.scanner.rest.now) l.builder;
 }
 
 abbrev pub decreases-tokens : goal.decreases-tokens
