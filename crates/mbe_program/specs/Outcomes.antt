@@ -1,5 +1,8 @@
 -- How a run ends.
-use Rattle.std.specs.Prelude.{ℕ, ⊤, ◌≡◌, ◌≤◌, List, Option}
+use Rattle.std.specs.Prelude.{ℕ, ⊤, ◌≡◌, ◌≤◌, List, ◌++◌, Option, codes}
+use Rattle.std.specs.Fmt.{decimal}
+use Rattle.mbe_semantics.specs.Expansion.Error.{text_of_fault}
+use Rattle.mbe_errors.specs.ErrorViews.{parse_error_of}
 use Rattle.mbe_program.specs.declared.program.Outcome.{Outcome}
 use Rattle.mbe_program.specs.declared.program.Outcome.TheVariants.{Expanded, Linted, Faulted, Refused, CannotLex, CannotWrite, OutOfMemory}
 use Rattle.mbe_program.specs.declared.reports.Report.{Report}
@@ -54,3 +57,12 @@ Tells o (CannotLex file offset) (says.CannotLex name at) = (name.now ≡ name_of
 Tells o CannotWrite says.CannotWrite = ⊤
 Tells o OutOfMemory says.OutOfMemory = ⊤
 Tells o outcome report = ⊥
+
+-- the line itself
+abbrev pub report_text : {A : Type 0} → Report A → List ℕ
+report_text says.Usage = codes "usage: mbex [--lint] DEF-FILE ARG-FILE [EDITION]"
+report_text (says.CannotRead name) = codes "cannot read " ++ name.now
+report_text (says.Refused error) = codes "definition refused: " ++ text_of_fault (parse_error_of error.now)
+report_text (says.CannotLex name offset) = codes "cannot lex " ++ (name.now ++ (codes " at " ++ decimal offset))
+report_text says.CannotWrite = codes "cannot write"
+report_text says.OutOfMemory = codes "out of memory"

@@ -36,6 +36,11 @@ impl<'a, A: Allocator> Report<'a, A> {
 }
 
 impl<'a, A: Allocator> fmt::Display for Report<'a, A> {
+    ghost use Rattle.std.specs.Prelude.{Some};
+    ghost use Rattle.mbe_program.specs.Outcomes.{report_text};
+
+    ghost output = { λ r. Some (report_text r) };
+
     fn fmt<W: fmt::Write>(&self, f: &mut fmt::Formatter<W>) -> fmt::Result {
         match self {
             Report::Usage => write!(f, "usage: mbex [--lint] DEF-FILE ARG-FILE [EDITION]"),
