@@ -15,7 +15,7 @@ use Rattle.mbe_parser.proofs.parser.+template.Goals as goal
 
 pub parse_template-returns-in_err-op-clause-fault : goal.parse_template-returns-in_err-op-clause-fault
 parse_template-returns-in_err-op-clause-fault g t c =
-    let p = err_from_is_err_and c.from_residual.result c.from_residual.ensures.1 in
+    let p = err_from_is_err_and c.from_residual-in_err-op.result c.from_residual-in_err-op.ensures.1 in
     rw (p.1, p.2) (lemmas.later_fault _ c.in_err-op.field-0.0 (mode_of c.args.mode) c.args.src c.trees.src c.trees.invariant.fault c.in_err-op.ensures.fault)
 
 pub parse_template-trees-preserved : goal.parse_template-trees-preserved
@@ -33,7 +33,7 @@ pub parse_template-returns-clause-ops : goal.parse_template-returns-clause-ops
 parse_template-returns-clause-ops g t c =
     let empty : c.trees.src ≡ none = search rules in
     let whole = c.trees.invariant.more no_ops (nothing c.trees.src (ap (head (mode_of c.args.mode)) empty)) in
-    rw (view-template, ← lemmas.with_front-all c.trees.ops.items) whole
+    rw (view-template, c.shrink_to_fit.ensures.items, ← lemmas.with_front-all c.trees.ops.items) whole
 
 pub next_op-returns-in_err-tokens-in-Subtree-clause-fault : goal.next_op-returns-in_err-tokens-in-Subtree-clause-fault
 next_op-returns-in_err-tokens-in-Subtree-clause-fault g t c =
@@ -57,18 +57,18 @@ next_op-returns-in-Leaf-Punct-clause-fault g t c =
     lemmas.head_fault _ c.behind_dollar.result (mode_of c.args.mode) c.args.src.now _
     (lemmas.dollar_head (mode_of c.args.mode) c.args.src.now c.next-dollar.new.self c.in-Leaf-Punct.dollar at c.if-dollar-eq36.true) c.behind_dollar.ensures.fault
 
-pub next_op-returns-in-Ok-clause-op : goal.next_op-returns-in-Ok-clause-op
-next_op-returns-in-Ok-clause-op g t c =
+pub next_op-returns-in_ok-new-clause-op : goal.next_op-returns-in_ok-new-clause-op
+next_op-returns-in_ok-new-clause-op g t c =
     let f = c.args.src.now in
     let p = c.in-Leaf-Punct-2.field-0-0 in
     let front : Some (Leaf_tree (leaves.punct p)) ≡ first f = search rules in
     let at = first_tree f _ _ front (sym (lemmas.behind f)) in
     let no_dollar : p.char ≡ 36 → ⊥ = search rules in
-    lemmas.puncts_op _ g.row.A.Denot (mode_of c.args.mode) f c.expect_glued_punct.new.self p c.in-Ok.puncts
-    (lemmas.puncts_head (mode_of c.args.mode) f _ p at no_dollar) c.in-Ok.ensures.value c.in-Ok.ensures.rest
+    rw c.in_ok-new.ensures (lemmas.puncts_op _ g.row.A.Denot (mode_of c.args.mode) f c.expect_glued_punct.new.self p c.in-Ok.puncts.items
+    (lemmas.puncts_head (mode_of c.args.mode) f _ p at no_dollar) c.in-Ok.ensures.value c.in-Ok.ensures.rest)
 
-pub next_op-returns-in-Ok-clause-shorter : goal.next_op-returns-in-Ok-clause-shorter
-next_op-returns-in-Ok-clause-shorter g t c =
+pub next_op-returns-in_ok-new-clause-shorter : goal.next_op-returns-in_ok-new-clause-shorter
+next_op-returns-in_ok-new-clause-shorter g t c =
     let f = c.args.src.now in
     let p = c.in-Leaf-Punct-2.field-0-0 in
     let front : Some (Leaf_tree (leaves.punct p)) ≡ first f = search rules in
@@ -112,4 +112,4 @@ behind_dollar-returns-in-Leaf-clause-fault g t c =
 
 pub repetition-returns-clause-op : goal.repetition-returns-clause-op
 repetition-returns-clause-op g t c =
-    rw (c.in_ok-separator.ensures.suffix c.args.body) (template_of c.in_ok-tokens.tokens, c.in_ok-tokens.ensures.ops, sym (view-repeat _ _ _), refl)
+    rw (c.in_ok-separator.ensures.suffix c.args.body, c.in_ok-separator-2.ensures) (template_of c.in_ok-tokens.tokens, c.in_ok-tokens.ensures.ops, sym (view-repeat _ _ _), refl)
