@@ -15,7 +15,7 @@ use Rattle.mbe_parser.proofs.parser.+template.Goals as goal
 
 pub parse_template-returns-in_err-op-clause-fault : goal.parse_template-returns-in_err-op-clause-fault
 parse_template-returns-in_err-op-clause-fault g t c =
-    let p = err_from_is_err_and c.from_residual-in_err-op.result c.from_residual-in_err-op.ensures.1 in
+    let p = err_from_is_err_and c.from_residual.result c.from_residual.ensures.1 in
     rw (p.1, p.2) (lemmas.later_fault _ c.in_err-op.field-0.0 (mode_of c.args.mode) c.args.src c.trees.src c.trees.invariant.fault c.in_err-op.ensures.fault)
 
 pub parse_template-trees-preserved : goal.parse_template-trees-preserved
@@ -57,18 +57,18 @@ next_op-returns-in-Leaf-Punct-clause-fault g t c =
     lemmas.head_fault _ c.behind_dollar.result (mode_of c.args.mode) c.args.src.now _
     (lemmas.dollar_head (mode_of c.args.mode) c.args.src.now c.next-dollar.new.self c.in-Leaf-Punct.dollar at c.if-dollar-eq36.true) c.behind_dollar.ensures.fault
 
-pub next_op-returns-in_ok-new-clause-op : goal.next_op-returns-in_ok-new-clause-op
-next_op-returns-in_ok-new-clause-op g t c =
+pub next_op-returns-in_ok-new-in-Leaf-Punct-2-clause-op : goal.next_op-returns-in_ok-new-in-Leaf-Punct-2-clause-op
+next_op-returns-in_ok-new-in-Leaf-Punct-2-clause-op g t c =
     let f = c.args.src.now in
     let p = c.in-Leaf-Punct-2.field-0-0 in
     let front : Some (Leaf_tree (leaves.punct p)) ≡ first f = search rules in
     let at = first_tree f _ _ front (sym (lemmas.behind f)) in
     let no_dollar : p.char ≡ 36 → ⊥ = search rules in
-    rw c.in_ok-new.ensures (lemmas.puncts_op _ g.row.A.Denot (mode_of c.args.mode) f c.expect_glued_punct.new.self p c.in-Ok.puncts.items
+    rw c.in_ok-new-in-Leaf-Punct-2.ensures (lemmas.puncts_op _ g.row.A.Denot (mode_of c.args.mode) f c.expect_glued_punct.new.self p c.in-Ok.puncts.items
     (lemmas.puncts_head (mode_of c.args.mode) f _ p at no_dollar) c.in-Ok.ensures.value c.in-Ok.ensures.rest)
 
-pub next_op-returns-in_ok-new-clause-shorter : goal.next_op-returns-in_ok-new-clause-shorter
-next_op-returns-in_ok-new-clause-shorter g t c =
+pub next_op-returns-in_ok-new-in-Leaf-Punct-2-clause-shorter : goal.next_op-returns-in_ok-new-in-Leaf-Punct-2-clause-shorter
+next_op-returns-in_ok-new-in-Leaf-Punct-2-clause-shorter g t c =
     let f = c.args.src.now in
     let p = c.in-Leaf-Punct-2.field-0-0 in
     let front : Some (Leaf_tree (leaves.punct p)) ≡ first f = search rules in
