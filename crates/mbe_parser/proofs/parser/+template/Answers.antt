@@ -1,7 +1,7 @@
 use Rattle.std.proofs.Common.{◌≡◌, sym, ap, arith, refl, Some, rules}
 use Rattle.std.proofs.lemmas.Result.{err_from_is_err_and}
 use Rattle.mbe_tt.specs.Trees.Leaf as leaves
-use Rattle.mbe_tt.specs.Trees.Tree.{none, Leaf_tree, Group_tree, first}
+use Rattle.mbe_tt.specs.Trees.Tree.{none, Leaf_tree, Group_tree, first, flat_len}
 use Rattle.mbe_tt.specs.Views.Shown.{literal_of, ident_of, leaf_of}
 use Rattle.mbe_semantics.specs.Syntax.Op.{no_ops}
 use Rattle.mbe_semantics.specs.Syntax.Template.{head, nothing}
@@ -95,6 +95,13 @@ next_op-returns-in_ok-tokens-in-Subtree-clause-op g t c =
     let at = first_tree c.args.src.now c.next-passed-in-Subtree.new.self _ front c.next-passed-in-Subtree.ensures.rest in
     rw view-subtree (lemmas.reads_group _ (mode_of c.args.mode) c.args.src.now c.in-Subtree.inside c.next-passed-in-Subtree.new.self
     c.in-Subtree.subtree.now.delimiter _ (ap (head (mode_of c.args.mode)) at) c.in_ok-tokens-in-Subtree.ensures.ops)
+
+pub next_op-returns-in_ok-tokens-in-Subtree-clause-shorter : goal.next_op-returns-in_ok-tokens-in-Subtree-clause-shorter
+next_op-returns-in_ok-tokens-in-Subtree-clause-shorter g t c =
+    let front : Some (Group_tree c.in-Subtree.subtree.now.delimiter c.in-Subtree.inside) ≡ first c.args.src.now = search rules in
+    let at = first_tree c.args.src.now c.next-passed-in-Subtree.new.self _ front c.next-passed-in-Subtree.ensures.rest in
+    let longer = ap flat_len at in
+    omega (arith, longer)
 
 pub behind_dollar-returns-in-Leaf-clause-op : goal.behind_dollar-returns-in-Leaf-clause-op
 behind_dollar-returns-in-Leaf-clause-op g t c =
