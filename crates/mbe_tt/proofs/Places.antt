@@ -3,3 +3,4 @@ pub mod PlaceLemmas
 pub mod Placed
 pub mod CutLemmas
 pub mod Last
+pub mod Ending

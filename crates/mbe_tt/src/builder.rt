@@ -230,8 +230,32 @@ fn entry_punct<A: Allocator>(entry: &Entry<A>) -> Option<Punct>
     }
 }
 
-// The index of the last tree, where it is an invisible group.
+// The index of the last tree, where it is an invisible group. Its closing says where it begins, so the number of trees
+// before it doesn't matter.
 fn last_invisible<A: Allocator>(entries: &[Entry<A>]) -> Option<usize>
+    requires { Spelled (entries_of entries.now) }
+    ensures { result ≡ spec.last_invisible (forest_of (entries_of entries.now)) }
+{
+    let (last, front) = entries.split_last()?;
+    let Entry::Close(len) = last else {
+        return None;
+    };
+    if let Some(place) = front.len().checked_sub(len.saturating_add(1)) {
+        let (_before, group) = entries.split_at(place);
+        if let Some((Entry::Open(subtree, inside), _content)) = group.split_first()
+            && inside == len
+        {
+            return match subtree.delimiter.kind {
+                DelimiterKind::Invisible => Some(place),
+                _ => None,
+            };
+        }
+    }
+    last_by_trees(entries)
+}
+
+// The same, found tree by tree: for a closing with which its opening doesn't agree.
+fn last_by_trees<A: Allocator>(entries: &[Entry<A>]) -> Option<usize>
     requires { Spelled (entries_of entries.now) }
     ensures { result ≡ spec.last_invisible (forest_of (entries_of entries.now)) }
 {
@@ -296,7 +320,7 @@ fn finish<A: Allocator>(entries: &mut Vec<Entry<A>, A>, at: usize, subtree: Subt
 {
     let len = entries.len() - at - 1;
     set_entry(entries, at, Entry::Open(subtree, len));
-    let Ok(()) = entries.push(Entry::Close) else {
+    let Ok(()) = entries.push(Entry::Close(len)) else {
         unreachable!()
     };
 }

@@ -124,7 +124,7 @@ fn first_tree<'a, A: Allocator>(left: &'a [Entry<A>]) -> Option<TtElement<'a, A>
             let (content, _closing) = rest.split_at(*len);
             Some(TtElement::Subtree(subtree, TtIter { entries: content }))
         }
-        Entry::Close => None,
+        Entry::Close(_) => None,
     }
 }
 
@@ -136,6 +136,6 @@ fn depth_after<A: Allocator>(entry: &Entry<A>, depth: usize) -> usize
     match entry {
         Entry::Leaf(_) => depth,
         Entry::Open(_, _) => depth + 1,
-        Entry::Close => depth - 1,
+        Entry::Close(_) => depth - 1,
     }
 }

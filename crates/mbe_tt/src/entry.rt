@@ -6,13 +6,15 @@ ghost use Rattle.std.specs.Cmp.{partial_equiv_from_equiv};
 use crate::tt::{Leaf, Subtree, same_leaf};
 use std::alloc::{AllocError, Allocator, Global};
 
-// A group is its opening, its content and its closing. The opening knows how many entries its content has.
+// A group is its opening, its content and its closing. Both know how many entries its content has, so that a group is
+// passed from either end in one step. Clauses see the opening's number alone, and whoever goes by the closing's looks
+// whether the opening agrees.
 #[derive(Drop)]
 #[derive_where(Debug)]
 pub(crate) enum Entry<A: Allocator = Global> {
     Leaf(Leaf<A>),
     Open(Subtree, usize),
-    Close,
+    Close(usize),
 }
 
 impl<A: Allocator> Clone for Entry<A> {
@@ -22,7 +24,7 @@ impl<A: Allocator> Clone for Entry<A> {
         Ok(match self {
             Entry::Leaf(leaf) => Entry::Leaf(leaf.clone()?),
             Entry::Open(subtree, len) => Entry::Open(*subtree, *len),
-            Entry::Close => Entry::Close,
+            Entry::Close(len) => Entry::Close(*len),
         })
     }
 }
@@ -51,7 +53,7 @@ fn same_entry<A: Allocator>(one: &Entry<A>, two: &Entry<A>) -> bool
     match (one, two) {
         (Entry::Leaf(one), Entry::Leaf(two)) => same_leaf(one, two),
         (Entry::Open(one, n), Entry::Open(two, m)) => one == two && n == m,
-        (Entry::Close, Entry::Close) => true,
+        (Entry::Close(_), Entry::Close(_)) => true,
         _ => false,
     }
 }

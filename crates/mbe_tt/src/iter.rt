@@ -115,7 +115,7 @@ impl<'a, A: Allocator> TtIter<'a, A> {
                 *self = rest;
                 Some(TtElement::Subtree(subtree, inside))
             }
-            Entry::Close => None,
+            Entry::Close(_) => None,
         }
     }
 

@@ -57,7 +57,7 @@ opens_with es place s n o e =
 pub opens_not : {A : Type 0} (x : Entry A) (s : Subtree) (n : ℕ) → entry_of x ≡ Open s n → ((t : Subtree) (m : ℕ) → x ≡ e.Open t m → ⊥) → ⊥
 opens_not (e.Leaf l) s n h not = cc
 opens_not (e.Open t m) s n h not = not t m refl
-opens_not e.Close s n h not = cc
+opens_not (e.Close m) s n h not = cc
 
 both_first : (s t : Bool) → (s && t) ≡ true → (s ≡ true) × (t ≡ true)
 both_first true t h = (refl, h)

@@ -65,14 +65,14 @@ ends_same (a ∷ xs) (b ∷ ys) x y e =
     let r = ends_same xs ys x y t in
     record { front = ap (λ (k : Entry). k ∷ xs) h ∙ ap (λ (k : List Entry). b ∷ k) r.front; last = r.last }
 
-spell_last : (f : Forest) (r : LastTree f) → spell f ≡ spell r.before ++ spell (tree r.last none)
+pub spell_last : (f : Forest) (r : LastTree f) → spell f ≡ spell r.before ++ spell (tree r.last none)
 spell_last f r = ap spell r.is ∙ spell-append r.before (tree r.last none)
 
 -- what the last entry of a forest is
 ends_leaf : (before : Forest) (l : TheLeaf) (front : List Entry) (x : Entry) → spell before ++ Leaf l ∷ [] ≡ front ++ x ∷ [] → Ends (spell before) front (Leaf l) x
 ends_leaf before l front x e = ends_same (spell before) front (Leaf l) x e
 
-group_end : (before inside : Forest) (d : Delimiter) (front : List Entry) (x : Entry)
+pub group_end : (before inside : Forest) (d : Delimiter) (front : List Entry) (x : Entry)
     → spell before ++ Open (record { delimiter = d }) (flat_len inside) ∷ (spell inside ++ Close ∷ []) ≡ front ++ x ∷ [] → Close ≡ x
 group_end before inside d front x e =
     (ends_same (spell before ++ Open (record { delimiter = d }) (flat_len inside) ∷ spell inside) front Close x
@@ -133,11 +133,11 @@ abbrev tree_invisible : Tree → Option ℕ
 tree_invisible (Leaf_tree l) = None
 tree_invisible (Group_tree d i) = if_invisible d.kind
 
-further : (a b : ℕ) (o : Option ℕ) → option_map (λ n. a + n) (option_map (λ n. b + n) o) ≡ option_map (λ n. a + b + n) o
+pub further : (a b : ℕ) (o : Option ℕ) → option_map (λ n. a + n) (option_map (λ n. b + n) o) ≡ option_map (λ n. a + b + n) o
 further a b None = refl
 further a b (Some n) = let h : a + (b + n) ≡ a + b + n = omega arith in ap (λ (k : ℕ). Some k) h
 
-from_zero : (o : Option ℕ) → o ≡ option_map (λ n. 0 + n) o
+pub from_zero : (o : Option ℕ) → o ≡ option_map (λ n. 0 + n) o
 from_zero None = refl
 from_zero (Some n) = let h : n ≡ 0 + n = omega arith in ap (λ (k : ℕ). Some k) h
 
@@ -149,7 +149,7 @@ on_leaf : (l : TheLeaf) (before : Forest) (t : Tree) → last_invisible (append 
     → last_invisible (leaf l (append before (tree t none))) ≡ option_map (λ n. flat_len (leaf l before) + n) (tree_invisible t)
 on_leaf l before t h = ap (option_map (λ n. 1 + n)) h ∙ further 1 (flat_len before) (tree_invisible t)
 
-past_group : (d : Delimiter) (i f : Forest) → (f ≡ none → ⊥) → last_invisible (group d i f) ≡ option_map (λ n. 2 + flat_len i + n) (last_invisible f)
+pub past_group : (d : Delimiter) (i f : Forest) → (f ≡ none → ⊥) → last_invisible (group d i f) ≡ option_map (λ n. 2 + flat_len i + n) (last_invisible f)
 past_group d i none h = absurd (h refl)
 past_group d i (leaf m rest) h = refl
 past_group d i (group e j rest) h = refl

@@ -33,7 +33,7 @@ leaves_of ls = leaves (map leaf_of ls)
 abbrev pub entry_of : {A : Type 0} → Entry A → flat.Entry
 entry_of (e.Leaf x) = flat.Leaf (leaf_of x)
 entry_of (e.Open s n) = flat.Open s n
-entry_of e.Close = flat.Close
+entry_of (e.Close n) = flat.Close
 
 abbrev pub entries_of : {A : Type 0} → List (Entry A) → List flat.Entry
 entries_of es = map entry_of es

@@ -1,42 +1,28 @@
-use Rattle.std.proofs.Common.{◌≡◌, ◌+◌, ◌-◌, ap, arith, length}
-use Rattle.mbe_tt.specs.Trees.Tree.{Forest, flat_len}
-use Rattle.mbe_tt.specs.Views.Entries.{forest_of}
+use Rattle.std.proofs.Common.{◌≡◌, ℕ, ◌+◌, ap, sym, ◌∙◌, arith, length, length-append, [], ◌∷◌, drop}
 use Rattle.mbe_tt.specs.Views.Shown.{entries_of}
-use Rattle.mbe_tt.proofs.Buffers.Seen.{length-shown}
-use Rattle.mbe_tt.proofs.Buffers.Spelled.{length-spell}
-use Rattle.mbe_tt.proofs.Places.Last.{flat_rest, passed_one, false_not}
+use Rattle.mbe_tt.specs.declared.entry.Entry.{Entry}
+use Rattle.mbe_tt.proofs.Places.Ending.{leaf_ending, group_ending, place_of_invisible, no_place_of_visible}
 use Rattle.mbe_tt.proofs.builder.last_invisible.Goals as goal
+use Rattle.mbe_tt.proofs.builder.last_invisible.Goals.{in-Invisible, in_default-kind}
 
-pub overflow_sub-place : goal.overflow_sub-place
-overflow_sub-place g c =
-    let all : Forest = forest_of (entries_of c.args.entries.now) in
+pub returns-in_default : goal.returns-in_default
+returns-in_default g c = leaf_ending c.args.entries.now c.in_ok-last.front.now c.in_ok-last.last.now c.requires c.in_ok-last.ensures.cases.0 c.in_default.not-Close
+
+pub returns-in-Some : goal.returns-in-Some
+returns-in-Some g c =
+    let sum : c.in-Some.place + c.in-Some-Open-default.inside + 2 ≡ length c.args.entries.now =
     omega (
       arith,
-      length-shown c.args.entries.now,
-      ap length c.requires,
-      length-spell all,
-      c.loop-tree.invariant.0,
-      ap flat_len c.in-Some.ensures.rest,
-      flat_rest c.loop-tree.iter,
-      c.flat_len.ensures,
-      ap flat_len c.remaining.ensures,
-    )
-
-pub loop-tree-preserved : goal.loop-tree-preserved
-loop-tree-preserved g c =
-    let all : Forest = forest_of (entries_of c.args.entries.now) in
-    let now : length c.args.entries.now - c.flat_len.result + flat_len c.next.new.self ≡ flat_len all =
-    omega (
-      arith,
-      length-shown c.args.entries.now,
-      ap length c.requires,
-      length-spell all,
-      c.loop-tree.invariant.0,
-      ap flat_len c.in-Some.ensures.rest,
-      flat_rest c.loop-tree.iter,
-      c.flat_len.ensures,
-      ap flat_len c.remaining.ensures,
+      c.in-Some.ensures,
+      c.saturating_add.ensures,
+      c.if-inside-len.true,
+      ap length c.in_ok-last.ensures.cases.0,
+      length-append c.in_ok-last.front.now (c.in_ok-last.last.now ∷ []),
     ) in
-    let p = passed_one all c.loop-tree.iter c.next.new.self _ _ c.loop-tree.invariant.0 c.loop-tree.invariant.1 c.in-Some.ensures.rest
-    (false_not c.is_empty.result c.if-is_empty.false c.is_empty.ensures) now in
-    (p.len, p.last)
+    let here = group_ending c.args.entries.now c.in-Some-Open-default._content.now c.in-Some.place c.in-Some-Open-default.inside
+        c.in-Some-Open-default.subtree c.requires (sym c.split_at.ensures.back ∙ (c.in-Some-Open-default.ensures.cases.0
+        ∙ ap (λ (x : Entry _). x ∷ c.in-Some-Open-default._content.now) c.in-Some-Open-default.field-0-0-is)) sum in
+    elim c.match-subtree.branch [
+      | in-Invisible w ↦ w.result-is ∙ (place_of_invisible _ c.in-Some.place w.in-Invisible.is ∙ sym here)
+      | in_default-kind w ↦ w.result-is ∙ (no_place_of_visible _ c.in-Some.place w.in_default-kind.not-Invisible ∙ sym here)
+    ]

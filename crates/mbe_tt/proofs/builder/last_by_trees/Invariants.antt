@@ -3,7 +3,7 @@ use Rattle.std.specs.Option.{option_map}
 use Rattle.mbe_tt.specs.Trees.Tree.{last_invisible, flat_len, tree_count}
 use Rattle.mbe_tt.specs.Views.Entries.{forest_of}
 use Rattle.mbe_tt.specs.Views.Shown.{entries_of}
-use Rattle.mbe_tt.proofs.builder.last_invisible.Given as goal
+use Rattle.mbe_tt.proofs.builder.last_by_trees.Given as goal
 
 abbrev pub invariant-loop-tree : goal.invariant-loop-tree
 invariant-loop-tree g l =
