@@ -15,8 +15,9 @@ use crate::linting::{lines_of, print_lines, verdicts};
 use crate::printing::{head_of, print_expansion};
 use mbe::{DeclarativeMacro, ExpandResult, MacroCallStyle, MatchedArmIndex, ParseError, Verdict};
 use mbe_grammar::SampleGrammar;
-use mbe_text::lexer::{LexError, lex};
+use mbe_text::lexer::{LexError, lex_in};
 use mbe_text::scanner::file_span;
+use mbe_text::symbols::SymbolTable;
 use mbe_tt::span::{Edition, Span};
 use mbe_tt::tt::TopSubtree;
 use std::alloc::{AllocError, Allocator};
@@ -65,20 +66,24 @@ impl<A: Allocator> From<AllocError> for Outcome<A> {
     }
 }
 
-fn lexed<A: Allocator + Copy>(alloc: A, text: &str, file: u32) -> Result<TopSubtree<A>, Outcome<A>>
+fn lexed<A: Allocator + Copy>(
+    table: &mut SymbolTable<A>,
+    text: &str,
+    file: u32,
+) -> Result<TopSubtree<A>, Outcome<A>>
     requires { length text.now < 2 ^ 32 }
     ensures made { IfOk result (IsMade file text.now) }
     ensures unlexed { IfErr result IsUnlexed }
     ensures within { IfErr result (FaultsIn file (length text.now)) }
 {
-    match lex(alloc, text, file) {
+    match lex_in(table, text, file) {
         Ok(tree) => Ok(tree),
         Err(LexError::Fault(offset)) => Err(Outcome::CannotLex { file, offset }),
         Err(LexError::OutOfMemory) => Err(Outcome::OutOfMemory),
     }
 }
 
-// The trees of both texts, or the first fault; the definition is lexed first.
+// The trees of both texts, or the first fault; the definition is lexed first. A text that both have is kept once.
 fn both_lexed<A: Allocator + Copy>(
     alloc: A,
     def: &str,
@@ -91,8 +96,9 @@ fn both_lexed<A: Allocator + Copy>(
     ensures within { IfErr result (λ outcome.
         FaultsIn 0 (length def.now) outcome ⊎ FaultsIn 1 (length arg.now) outcome) }
 {
-    let definition = lexed(alloc, def, 0)?;
-    let argument = lexed(alloc, arg, 1)?;
+    let mut table = SymbolTable::new(alloc);
+    let definition = lexed(&mut table, def, 0)?;
+    let argument = lexed(&mut table, arg, 1)?;
     Ok((definition, argument))
 }
 
