@@ -21,6 +21,7 @@ mod metavar_expr;
 use crate::parser::metavar_expr::parse_metavar_expr;
 use arrayvec::ArrayVec;
 use mbe_errors::error::{ReadError, SyntaxFault};
+use mbe_ops::held::{Between, Puncts};
 use mbe_ops::ops::{MetaTemplate, Op, Separator};
 use mbe_semantics::kinds::{ExprKind, MetaVarKind, RepeatKind};
 use mbe_tt::span::{Edition, Span, SyntaxContext};
@@ -58,6 +59,7 @@ pub fn parse_template<A: Allocator + Copy, E: Copy + Fn(SyntaxContext) -> Editio
         let op = next_op(alloc, edition, peeked, &mut src, mode)?;
         ops.push(op)?;
     }
+    ops.shrink_to_fit();
     Ok(MetaTemplate(ops))
 }
 
@@ -88,7 +90,7 @@ fn next_op<A: Allocator + Copy, E: Copy + Fn(SyntaxContext) -> Edition>(
             let Ok(puncts) = src.expect_glued_punct() else {
                 unreachable!()
             };
-            Ok(Op::Punct(puncts))
+            Ok(Op::Punct(Puncts::new(alloc, puncts)?))
         }
         TtElement::Leaf(Leaf::Literal(literal)) => {
             let _passed = src.next();
@@ -127,7 +129,7 @@ fn behind_dollar<A: Allocator + Copy, E: Copy + Fn(SyntaxContext) -> Edition>(
     ensures no_longer { OnOk result (flat_len src.new ≤ flat_len src.old) }
 {
     let Some(second) = src.next() else {
-        return Ok(Op::Punct(one_punct(dollar)));
+        return Ok(Op::Punct(Puncts::one(dollar)));
     };
     match second {
         TtElement::Subtree(subtree, inside) => match subtree.delimiter.kind {
@@ -160,19 +162,12 @@ fn repetition<A: Allocator + Copy, E: Copy + Fn(SyntaxContext) -> Edition>(
 {
     let (separator, kind) = parse_repeat(src)?;
     let tokens = parse_template(alloc, edition, body, mode)?;
+    let separator = Between::new(alloc, separator)?;
     Ok(Op::Repeat {
         tokens,
         kind,
         separator,
     })
-}
-
-fn one_punct(punct: Punct) -> ArrayVec<Punct, 3>
-    ensures { result.items ≡ punct ∷ [] }
-{
-    let mut puncts = ArrayVec::new();
-    puncts.push(punct);
-    puncts
 }
 
 // `${..}`, which stands in templates alone.
@@ -230,7 +225,7 @@ fn leaf_behind_dollar<A: Allocator + Copy, E: Copy + Fn(SyntaxContext) -> Editio
             }
             match mode {
                 Mode::Pattern => Err(ReadError::Fault(SyntaxFault::DollarInPattern)),
-                Mode::Template => Ok(Op::Punct(one_punct(*punct))),
+                Mode::Template => Ok(Op::Punct(Puncts::one(*punct))),
             }
         }
     }

@@ -24,7 +24,7 @@ expand_op-returns-in-Ident g t c =
 pub expand_op-returns-in-Punct : goal.expand_op-returns-in-Punct
 expand_op-returns-in-Punct g t c =
     rw (c.in-Punct.is, view-punct) (lemmas.wrote_and_none c.write_puncts.result c.and-in-Punct.result c.and-in-Punct.ensures
-    (lemmas.wrote_puncts _ _ _ _ _ c.in-Punct.puncts.items c.as_slice.result.now c.args.builder.now c.write_puncts.new.builder c.as_slice.ensures.value)
+    (lemmas.wrote_puncts _ _ _ _ _ c.in-Punct.puncts c.as_slice.result.now c.args.builder.now c.write_puncts.new.builder c.as_slice.ensures.value)
     c.write_puncts.ensures.written)
 
 pub expand_op-returns-in-Subtree : goal.expand_op-returns-in-Subtree
