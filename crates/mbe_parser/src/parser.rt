@@ -54,13 +54,26 @@ pub fn parse_template<A: Allocator + Copy, E: Copy + Fn(SyntaxContext) -> Editio
         (mode_of mode) f src.entry)) }
 {
     let mut src = src;
-    let mut ops = Vec::new(alloc);
+    let mut ops = Vec::with_capacity(alloc, src.remaining().len())?;
     'trees: while let Some(peeked) = src.peek() {
         let op = next_op(alloc, edition, peeked, &mut src, mode)?;
         ops.push(op)?;
     }
-    ops.shrink_to_fit();
-    Ok(MetaTemplate(ops))
+    Ok(MetaTemplate(fitted(alloc, ops)?))
+}
+
+// The ops in a block of just their size: there may be fewer of them than trees. `shrink_to_fit` would pass over a refused
+// request.
+fn fitted<A: Allocator>(alloc: A, ops: Vec<Op<A>, A>) -> Result<Vec<Op<A>, A>, AllocError>
+    ensures { IfOk result (λ fit. fit.items ≡ ops.items) }
+{
+    if ops.len() == ops.capacity() {
+        return Ok(ops);
+    }
+    let mut ops = ops;
+    let mut fit = Vec::with_capacity(alloc, ops.len())?;
+    fit.append(&mut ops)?;
+    Ok(fit)
 }
 
 // The op that begins with the next tree.

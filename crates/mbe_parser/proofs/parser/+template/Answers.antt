@@ -7,7 +7,7 @@ use Rattle.mbe_semantics.specs.Syntax.Op.{no_ops}
 use Rattle.mbe_semantics.specs.Syntax.Template.{head, nothing}
 use Rattle.mbe_parser.specs.Reader.{mode_of}
 use Rattle.mbe_ops.specs.Views.{template_of}
-use Rattle.mbe_ops.proofs.Fragments.{first_tree}
+use Rattle.mbe_ops.proofs.Fragments.{first_none, first_tree}
 use Rattle.mbe_ops.proofs.OpViews.{view-template, view-subtree, view-literal, view-ident, view-repeat}
 use Rattle.mbe_ops.proofs.Fragments.{puncts_longer}
 use Rattle.mbe_parser.proofs.ReaderLemmas as lemmas
@@ -15,7 +15,7 @@ use Rattle.mbe_parser.proofs.parser.+template.Goals as goal
 
 pub parse_template-returns-in_err-op-clause-fault : goal.parse_template-returns-in_err-op-clause-fault
 parse_template-returns-in_err-op-clause-fault g t c =
-    let p = err_from_is_err_and c.from_residual.result c.from_residual.ensures.1 in
+    let p = err_from_is_err_and c.from_residual-in_err-op.result c.from_residual-in_err-op.ensures.1 in
     rw (p.1, p.2) (lemmas.later_fault _ c.in_err-op.field-0.0 (mode_of c.args.mode) c.args.src c.trees.src c.trees.invariant.fault c.in_err-op.ensures.fault)
 
 pub parse_template-trees-preserved : goal.parse_template-trees-preserved
@@ -31,9 +31,9 @@ parse_template-trees-preserved g t c =
 
 pub parse_template-returns-clause-ops : goal.parse_template-returns-clause-ops
 parse_template-returns-clause-ops g t c =
-    let empty : c.trees.src ≡ none = search rules in
+    let empty : c.trees.src ≡ none = first_none c.trees.src c.in_default.ensures in
     let whole = c.trees.invariant.more no_ops (nothing c.trees.src (ap (head (mode_of c.args.mode)) empty)) in
-    rw (view-template, c.shrink_to_fit.ensures.items, ← lemmas.with_front-all c.trees.ops.items) whole
+    rw (view-template, c.in_ok-fitted.ensures, ← lemmas.with_front-all c.trees.ops.items) whole
 
 pub next_op-returns-in_err-tokens-in-Subtree-clause-fault : goal.next_op-returns-in_err-tokens-in-Subtree-clause-fault
 next_op-returns-in_err-tokens-in-Subtree-clause-fault g t c =
