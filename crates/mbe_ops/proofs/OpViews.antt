@@ -1,7 +1,6 @@
 -- Each op of the code, as the op that it is.
 use Rattle.std.proofs.Common.{◌≡◌, ℕ, List, map, Option, Vec, ap, sym, ◌∙◌, rules}
 use Rattle.std.specs.Prelude.{option_map}
-use Rattle.arrayvec.specs.ArrayVec.{ArrayVec}
 use Rattle.mbe_tt.specs.declared.span.Span.{Span}
 use Rattle.mbe_tt.specs.declared.tt.Punct.{Punct as APunct}
 use Rattle.mbe_tt.specs.declared.tt.Delimiter.{Delimiter}
@@ -48,7 +47,7 @@ view-subtree t d = search (rules, the_lemmas)
 pub view-literal : {A : Type 0} (l : ALiteral A) → op_of (Literal l) ≡ token (literal (literal_of l))
 view-literal l = search (rules, the_lemmas)
 
-pub view-punct : (A : Type 0) (ps : ArrayVec APunct) → op_of {A = A} (Punct ps) ≡ token (puncts ps.items)
+pub view-punct : (A : Type 0) (ps : List APunct) → op_of {A = A} (Punct ps) ≡ token (puncts ps)
 view-punct A ps = search (rules, the_lemmas)
 
 pub view-ident : {A : Type 0} (i : AnIdent A) → op_of (Ident i) ≡ token (ident (ident_of i))

@@ -1,3 +1,4 @@
 pub mod Codes
 pub mod Equality
+pub mod Held
 pub mod Views

@@ -42,7 +42,7 @@ op_step (Op-F.Concat elements span) = expression (ops.concat (map element_seen e
 op_step (Op-F.Repeat tokens kind separator) = repetition tokens (option_map separator_seen separator) kind
 op_step (Op-F.Subtree tokens delimiter) = group delimiter tokens
 op_step (Op-F.Literal l) = token (literal (literal_of l))
-op_step (Op-F.Punct ps) = token (puncts ps.items)
+op_step (Op-F.Punct ps) = token (puncts ps)
 op_step (Op-F.Ident i) = token (ident (ident_of i))
 
 abbrev pub op_of : {A : Type 0} → code.Op A → Op

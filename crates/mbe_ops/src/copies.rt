@@ -2,6 +2,7 @@
 ghost use Rattle.std.specs.Prelude.{◌≡◌, IfOk, option_map};
 ghost use Rattle.mbe_ops.specs.Views.{separator_seen, elements_seen, op_of, ops_of, template_of};
 
+use crate::held::Between;
 use crate::ops::{ConcatMetaVarExprElem, MetaTemplate, Op, Separator};
 use arrayvec::ArrayVec;
 use mbe_tt::tt::Punct;
@@ -60,26 +61,24 @@ fn copied_op<A: Allocator + Copy>(alloc: A, op: &Op<A>) -> Result<Op<A>, AllocEr
         } => Ok(Op::Repeat {
             tokens: MetaTemplate(copied_ops(alloc, &tokens.0)?),
             kind: *kind,
-            separator: copied_between(separator)?,
+            separator: copied_between(alloc, separator)?,
         }),
         Op::Subtree { tokens, delimiter } => Ok(Op::Subtree {
             tokens: MetaTemplate(copied_ops(alloc, &tokens.0)?),
             delimiter: *delimiter,
         }),
         Op::Literal(literal) => Ok(Op::Literal(literal.clone()?)),
-        Op::Punct(puncts) => Ok(Op::Punct(copied_puncts(puncts)?)),
+        Op::Punct(puncts) => Ok(Op::Punct(puncts.try_clone(alloc)?)),
         Op::Ident(ident) => Ok(Op::Ident(ident.clone()?)),
     }
 }
 
-fn copied_between<A: Allocator>(
-    separator: &Option<Separator<A>>,
-) -> Result<Option<Separator<A>>, AllocError>
+fn copied_between<A: Allocator>(alloc: A, separator: &Between<A>) -> Result<Between<A>, AllocError>
     ensures { IfOk result
         (λ copy. option_map separator_seen copy ≡ option_map separator_seen separator.now) }
 {
-    let Some(separator) = separator else {
-        return Ok(None);
+    let Some(separator) = separator.as_ref() else {
+        return Between::new(alloc, None);
     };
     let copy = match separator {
         Separator::Literal(literal) => Separator::Literal(literal.clone()?),
@@ -87,10 +86,10 @@ fn copied_between<A: Allocator>(
         Separator::Puncts(puncts) => Separator::Puncts(copied_puncts(puncts)?),
         Separator::Lifetime(quote, ident) => Separator::Lifetime(*quote, ident.clone()?),
     };
-    Ok(Some(copy))
+    Between::new(alloc, Some(copy))
 }
 
-fn copied_puncts(puncts: &ArrayVec<Punct, 3>) -> Result<ArrayVec<Punct, 3>, AllocError>
+pub(crate) fn copied_puncts(puncts: &ArrayVec<Punct, 3>) -> Result<ArrayVec<Punct, 3>, AllocError>
     ensures { IfOk result (λ copy. copy.items ≡ puncts.now.items) }
 {
     puncts.clone()

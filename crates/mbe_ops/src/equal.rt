@@ -4,7 +4,8 @@ ghost use Rattle.mbe_tt.specs.Views.Shown.{ident_of, literal_of};
 ghost use Rattle.mbe_ops.specs.Equality.{IsSameBetween, IsSameOp, AreSameOps};
 ghost use Rattle.mbe_ops.specs.Views.{separator_seen, element_seen, elements_seen, op_of, ops_of, template_of};
 
-use crate::ops::{ConcatMetaVarExprElem, MetaTemplate, Op, Separator, same_separator};
+use crate::held::Between;
+use crate::ops::{ConcatMetaVarExprElem, MetaTemplate, Op, same_separator};
 use mbe_semantics::kinds::RepeatKind;
 use mbe_tt::tt::{Delimiter, Ident, Literal, Punct};
 use std::alloc::Allocator;
@@ -86,9 +87,9 @@ fn same_op<A: Allocator>(one: &Op<A>, two: &Op<A>) -> bool
 
 // Whether two repetitions go round alike.
 fn same_suffix<A: Allocator>(
-    separator: &Option<Separator<A>>,
+    separator: &Between<A>,
     kind: RepeatKind,
-    other: &Option<Separator<A>>,
+    other: &Between<A>,
     other_kind: RepeatKind,
 ) -> bool
     ensures { let one = option_map separator_seen separator.now in
@@ -105,11 +106,11 @@ fn same_delimiter(one: &Delimiter, two: &Delimiter) -> bool
 }
 
 // Both have none, or the same.
-fn same_between<A: Allocator>(one: &Option<Separator<A>>, two: &Option<Separator<A>>) -> bool
+fn same_between<A: Allocator>(one: &Between<A>, two: &Between<A>) -> bool
     ensures { IsTrue result
         ↔ IsSameBetween (option_map separator_seen one.now) (option_map separator_seen two.now) }
 {
-    match (one, two) {
+    match (one.as_ref(), two.as_ref()) {
         (Some(one), Some(two)) => same_separator(one, two),
         (None, None) => true,
         _ => false,

@@ -3,6 +3,7 @@
 
 mod copies;
 mod equal;
+pub mod held;
 pub mod ops;
 
 pub use crate::equal::same_templates;

@@ -5,6 +5,7 @@ ghost use Rattle.std.specs.Str.{bytes_eq};
 ghost use Rattle.mbe_ops.specs.Equality.{IsSameSeparator};
 ghost use Rattle.mbe_ops.specs.Views.{separator_seen};
 
+use crate::held::{Between, Puncts};
 use arrayvec::ArrayVec;
 use mbe_semantics::kinds::{MetaVarKind, RepeatKind};
 use mbe_tt::span::Span;
@@ -118,13 +119,13 @@ pub enum Op<A: Allocator = Global> {
     Repeat {
         tokens: MetaTemplate<A>,
         kind: RepeatKind,
-        separator: Option<Separator<A>>,
+        separator: Between<A>,
     },
     Subtree {
         tokens: MetaTemplate<A>,
         delimiter: Delimiter,
     },
     Literal(Literal<A>),
-    Punct(ArrayVec<Punct, 3>),
+    Punct(Puncts<A>),
     Ident(Ident<A>),
 }

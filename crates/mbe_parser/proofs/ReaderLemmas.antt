@@ -26,7 +26,6 @@ use Rattle.mbe_ops.specs.declared.ops.Op as code
 use Rattle.mbe_ops.proofs.Fragments.{back-skip}
 use Rattle.mbe_ops.proofs.OpViews.{view-punct}
 use Rattle.mbe_ops.proofs.Fragments.{glued_is}
-use Rattle.arrayvec.specs.ArrayVec.{ArrayVec}
 
 -- ---- specifiers
 
@@ -224,8 +223,8 @@ module _ (HasEdition : SyntaxContext → Edition → Type 0) where
   pub leaf_reads : (m : Mode) (f left : Forest) (o : Op) → head m f ≡ Ok (one o left) → ReadsOp HasEdition m f o left
   leaf_reads m f left o e = reads_head HasEdition m f left o (Ok (one o left)) e (refl, refl)
 
-  pub puncts_op : (A : Type 0) (m : Mode) (f left : Forest) (p : Punct) (ps : ArrayVec Punct) → head m f ≡ Ok (puncts_at f) → Some ps.items ≡ glued f
+  pub puncts_op : (A : Type 0) (m : Mode) (f left : Forest) (p : Punct) (ps : List Punct) → head m f ≡ Ok (puncts_at f) → Some ps ≡ glued f
       → left ≡ skip (length (glue f)) f → ReadsOp HasEdition m f (op_of {A = A} (code.TheVariants.Punct ps)) left
   puncts_op A m f left p ps e g l =
       reads_head HasEdition m f left _ (Ok (puncts_at f)) e
-      (ap (λ (xs : List Punct). ops.token (ops.puncts xs)) (glued_is f ps.items g) ∙ sym (view-punct A ps), back-skip (length (glue f)) f ∙ sym l)
+      (ap (λ (xs : List Punct). ops.token (ops.puncts xs)) (glued_is f ps g) ∙ sym (view-punct A ps), back-skip (length (glue f)) f ∙ sym l)

@@ -21,6 +21,7 @@ mod metavar_expr;
 use crate::parser::metavar_expr::parse_metavar_expr;
 use arrayvec::ArrayVec;
 use mbe_errors::error::{ReadError, SyntaxFault};
+use mbe_ops::held::{Between, Puncts};
 use mbe_ops::ops::{MetaTemplate, Op, Separator};
 use mbe_semantics::kinds::{ExprKind, MetaVarKind, RepeatKind};
 use mbe_tt::span::{Edition, Span, SyntaxContext};
@@ -53,12 +54,26 @@ pub fn parse_template<A: Allocator + Copy, E: Copy + Fn(SyntaxContext) -> Editio
         (mode_of mode) f src.entry)) }
 {
     let mut src = src;
-    let mut ops = Vec::new(alloc);
+    let mut ops = Vec::with_capacity(alloc, src.remaining().len())?;
     'trees: while let Some(peeked) = src.peek() {
         let op = next_op(alloc, edition, peeked, &mut src, mode)?;
         ops.push(op)?;
     }
-    Ok(MetaTemplate(ops))
+    Ok(MetaTemplate(fitted(alloc, ops)?))
+}
+
+// The ops in a block of just their size: there may be fewer of them than trees. `shrink_to_fit` would pass over a refused
+// request.
+fn fitted<A: Allocator>(alloc: A, ops: Vec<Op<A>, A>) -> Result<Vec<Op<A>, A>, AllocError>
+    ensures { IfOk result (λ fit. fit.items ≡ ops.items) }
+{
+    if ops.len() == ops.capacity() {
+        return Ok(ops);
+    }
+    let mut ops = ops;
+    let mut fit = Vec::with_capacity(alloc, ops.len())?;
+    fit.append(&mut ops)?;
+    Ok(fit)
 }
 
 // The op that begins with the next tree.
@@ -88,7 +103,7 @@ fn next_op<A: Allocator + Copy, E: Copy + Fn(SyntaxContext) -> Edition>(
             let Ok(puncts) = src.expect_glued_punct() else {
                 unreachable!()
             };
-            Ok(Op::Punct(puncts))
+            Ok(Op::Punct(Puncts::new(alloc, puncts)?))
         }
         TtElement::Leaf(Leaf::Literal(literal)) => {
             let _passed = src.next();
@@ -127,7 +142,7 @@ fn behind_dollar<A: Allocator + Copy, E: Copy + Fn(SyntaxContext) -> Edition>(
     ensures no_longer { OnOk result (flat_len src.new ≤ flat_len src.old) }
 {
     let Some(second) = src.next() else {
-        return Ok(Op::Punct(one_punct(dollar)));
+        return Ok(Op::Punct(Puncts::one(dollar)));
     };
     match second {
         TtElement::Subtree(subtree, inside) => match subtree.delimiter.kind {
@@ -160,19 +175,12 @@ fn repetition<A: Allocator + Copy, E: Copy + Fn(SyntaxContext) -> Edition>(
 {
     let (separator, kind) = parse_repeat(src)?;
     let tokens = parse_template(alloc, edition, body, mode)?;
+    let separator = Between::new(alloc, separator)?;
     Ok(Op::Repeat {
         tokens,
         kind,
         separator,
     })
-}
-
-fn one_punct(punct: Punct) -> ArrayVec<Punct, 3>
-    ensures { result.items ≡ punct ∷ [] }
-{
-    let mut puncts = ArrayVec::new();
-    puncts.push(punct);
-    puncts
 }
 
 // `${..}`, which stands in templates alone.
@@ -230,7 +238,7 @@ fn leaf_behind_dollar<A: Allocator + Copy, E: Copy + Fn(SyntaxContext) -> Editio
             }
             match mode {
                 Mode::Pattern => Err(ReadError::Fault(SyntaxFault::DollarInPattern)),
-                Mode::Template => Ok(Op::Punct(one_punct(*punct))),
+                Mode::Template => Ok(Op::Punct(Puncts::one(*punct))),
             }
         }
     }

@@ -1,8 +1,27 @@
-use Rattle.std.proofs.Common.{◌∙◌, sym, ap}
-use Rattle.mbe_ops.specs.Views.{op_of}
-use Rattle.mbe_ops.proofs.EqualityLemmas.{one_copied}
-use Rattle.mbe_ops.proofs.OpViews.{copied_group, copied_repetition}
+use Rattle.std.proofs.Common.{◌∙◌, sym, ap, arith}
+use Rattle.mbe_ops.specs.Views.{op_of, ops_of}
+use Rattle.mbe_ops.proofs.EqualityLemmas.{op_weight, ops_weight, op_no_heavier, one_copied}
+use Rattle.mbe_ops.proofs.OpViews.{view-open, view-open_repeat, copied_group, copied_repetition}
 use Rattle.mbe_ops.proofs.copies.+copies.Goals as goal
+
+pub copied_op-copied_ops-requires : goal.copied_op-copied_ops-requires
+copied_op-copied_ops-requires g t c κs within =
+    let here = c.in-Repeat in
+    let seen = ap op_weight (ap op_of here.is ∙ view-open_repeat here.tokens here.kind here.separator) in
+    let inside = ap (λ xs. ops_weight (ops_of xs)) c.deref.ensures.value in
+    (omega (arith, c.decreases, seen, inside), within)
+
+pub copied_op-copied_ops-requires-in-Subtree : goal.copied_op-copied_ops-requires-in-Subtree
+copied_op-copied_ops-requires-in-Subtree g t c κs within =
+    let here = c.in-Subtree in
+    let seen = ap op_weight (ap op_of here.is ∙ view-open here.tokens here.delimiter) in
+    let inside = ap (λ xs. ops_weight (ops_of xs)) c.deref-in-Subtree.ensures.value in
+    (omega (arith, c.decreases, seen, inside), within)
+
+pub copied_ops-copied_op-requires : goal.copied_ops-copied_op-requires
+copied_ops-copied_op-requires g t c κs within =
+    let lighter = op_no_heavier c.args.ops.now c.loop-op.op-index c.op-item.result c.loop-op-test.true c.op-item.is in
+    (omega (arith, c.decreases, lighter), within)
 
 pub copied_op-returns-in_ok-copied_between-in-Repeat : goal.copied_op-returns-in_ok-copied_between-in-Repeat
 copied_op-returns-in_ok-copied_between-in-Repeat g t c =

@@ -1,13 +1,14 @@
-use Rattle.std.proofs.Common.{◌≡◌, sym, ap, arith, refl, Some, rules}
+use Rattle.std.proofs.Common.{◌≡◌, ◌∙◌, sym, ap, arith, refl, Some, None, option_map, rules}
 use Rattle.std.proofs.lemmas.Result.{err_from_is_err_and}
 use Rattle.mbe_tt.specs.Trees.Leaf as leaves
-use Rattle.mbe_tt.specs.Trees.Tree.{none, Leaf_tree, Group_tree, first}
+use Rattle.mbe_tt.specs.Trees.Tree.{none, Leaf_tree, Group_tree, first, flat_len}
+use Rattle.mbe_tt.specs.Views.Element.{element_tree}
 use Rattle.mbe_tt.specs.Views.Shown.{literal_of, ident_of, leaf_of}
 use Rattle.mbe_semantics.specs.Syntax.Op.{no_ops}
 use Rattle.mbe_semantics.specs.Syntax.Template.{head, nothing}
 use Rattle.mbe_parser.specs.Reader.{mode_of}
 use Rattle.mbe_ops.specs.Views.{template_of}
-use Rattle.mbe_ops.proofs.Fragments.{first_tree}
+use Rattle.mbe_ops.proofs.Fragments.{first_none, first_tree}
 use Rattle.mbe_ops.proofs.OpViews.{view-template, view-subtree, view-literal, view-ident, view-repeat}
 use Rattle.mbe_ops.proofs.Fragments.{puncts_longer}
 use Rattle.mbe_parser.proofs.ReaderLemmas as lemmas
@@ -15,7 +16,7 @@ use Rattle.mbe_parser.proofs.parser.+template.Goals as goal
 
 pub parse_template-returns-in_err-op-clause-fault : goal.parse_template-returns-in_err-op-clause-fault
 parse_template-returns-in_err-op-clause-fault g t c =
-    let p = err_from_is_err_and c.from_residual.result c.from_residual.ensures.1 in
+    let p = err_from_is_err_and c.from_residual-in_err-op.result c.from_residual-in_err-op.ensures.1 in
     rw (p.1, p.2) (lemmas.later_fault _ c.in_err-op.field-0.0 (mode_of c.args.mode) c.args.src c.trees.src c.trees.invariant.fault c.in_err-op.ensures.fault)
 
 pub parse_template-trees-preserved : goal.parse_template-trees-preserved
@@ -31,9 +32,9 @@ parse_template-trees-preserved g t c =
 
 pub parse_template-returns-clause-ops : goal.parse_template-returns-clause-ops
 parse_template-returns-clause-ops g t c =
-    let empty : c.trees.src ≡ none = search rules in
+    let empty : c.trees.src ≡ none = first_none c.trees.src c.in_default.ensures in
     let whole = c.trees.invariant.more no_ops (nothing c.trees.src (ap (head (mode_of c.args.mode)) empty)) in
-    rw (view-template, ← lemmas.with_front-all c.trees.ops.items) whole
+    rw (view-template, c.in_ok-fitted.ensures, ← lemmas.with_front-all c.trees.ops.items) whole
 
 pub next_op-returns-in_err-tokens-in-Subtree-clause-fault : goal.next_op-returns-in_err-tokens-in-Subtree-clause-fault
 next_op-returns-in_err-tokens-in-Subtree-clause-fault g t c =
@@ -57,18 +58,18 @@ next_op-returns-in-Leaf-Punct-clause-fault g t c =
     lemmas.head_fault _ c.behind_dollar.result (mode_of c.args.mode) c.args.src.now _
     (lemmas.dollar_head (mode_of c.args.mode) c.args.src.now c.next-dollar.new.self c.in-Leaf-Punct.dollar at c.if-dollar-eq36.true) c.behind_dollar.ensures.fault
 
-pub next_op-returns-in-Ok-clause-op : goal.next_op-returns-in-Ok-clause-op
-next_op-returns-in-Ok-clause-op g t c =
+pub next_op-returns-in_ok-new-in-Leaf-Punct-2-clause-op : goal.next_op-returns-in_ok-new-in-Leaf-Punct-2-clause-op
+next_op-returns-in_ok-new-in-Leaf-Punct-2-clause-op g t c =
     let f = c.args.src.now in
     let p = c.in-Leaf-Punct-2.field-0-0 in
     let front : Some (Leaf_tree (leaves.punct p)) ≡ first f = search rules in
     let at = first_tree f _ _ front (sym (lemmas.behind f)) in
     let no_dollar : p.char ≡ 36 → ⊥ = search rules in
-    lemmas.puncts_op _ g.row.A.Denot (mode_of c.args.mode) f c.expect_glued_punct.new.self p c.in-Ok.puncts
-    (lemmas.puncts_head (mode_of c.args.mode) f _ p at no_dollar) c.in-Ok.ensures.value c.in-Ok.ensures.rest
+    rw c.in_ok-new-in-Leaf-Punct-2.ensures (lemmas.puncts_op _ g.row.A.Denot (mode_of c.args.mode) f c.expect_glued_punct.new.self p c.in-Ok.puncts.items
+    (lemmas.puncts_head (mode_of c.args.mode) f _ p at no_dollar) c.in-Ok.ensures.value c.in-Ok.ensures.rest)
 
-pub next_op-returns-in-Ok-clause-shorter : goal.next_op-returns-in-Ok-clause-shorter
-next_op-returns-in-Ok-clause-shorter g t c =
+pub next_op-returns-in_ok-new-in-Leaf-Punct-2-clause-shorter : goal.next_op-returns-in_ok-new-in-Leaf-Punct-2-clause-shorter
+next_op-returns-in_ok-new-in-Leaf-Punct-2-clause-shorter g t c =
     let f = c.args.src.now in
     let p = c.in-Leaf-Punct-2.field-0-0 in
     let front : Some (Leaf_tree (leaves.punct p)) ≡ first f = search rules in
@@ -96,6 +97,13 @@ next_op-returns-in_ok-tokens-in-Subtree-clause-op g t c =
     rw view-subtree (lemmas.reads_group _ (mode_of c.args.mode) c.args.src.now c.in-Subtree.inside c.next-passed-in-Subtree.new.self
     c.in-Subtree.subtree.now.delimiter _ (ap (head (mode_of c.args.mode)) at) c.in_ok-tokens-in-Subtree.ensures.ops)
 
+pub next_op-returns-in_ok-tokens-in-Subtree-clause-shorter : goal.next_op-returns-in_ok-tokens-in-Subtree-clause-shorter
+next_op-returns-in_ok-tokens-in-Subtree-clause-shorter g t c =
+    let front : Some (Group_tree c.in-Subtree.subtree.now.delimiter c.in-Subtree.inside) ≡ first c.args.src.now = search rules in
+    let at = first_tree c.args.src.now c.next-passed-in-Subtree.new.self _ front c.next-passed-in-Subtree.ensures.rest in
+    let longer = ap flat_len at in
+    omega (arith, longer)
+
 pub behind_dollar-returns-in-Leaf-clause-op : goal.behind_dollar-returns-in-Leaf-clause-op
 behind_dollar-returns-in-Leaf-clause-op g t c =
     let front : Some (Leaf_tree (leaf_of c.in-Leaf.leaf.now)) ≡ first c.args.src.now = search rules in
@@ -112,4 +120,4 @@ behind_dollar-returns-in-Leaf-clause-fault g t c =
 
 pub repetition-returns-clause-op : goal.repetition-returns-clause-op
 repetition-returns-clause-op g t c =
-    rw (c.in_ok-separator.ensures.suffix c.args.body) (template_of c.in_ok-tokens.tokens, c.in_ok-tokens.ensures.ops, sym (view-repeat _ _ _), refl)
+    rw (c.in_ok-separator.ensures.suffix c.args.body, c.in_ok-separator-2.ensures) (template_of c.in_ok-tokens.tokens, c.in_ok-tokens.ensures.ops, sym (view-repeat _ _ _), refl)

@@ -1,10 +1,35 @@
-use Rattle.std.proofs.Common.{◌+◌, drop, ap, sym, ◌∙◌}
+use Rattle.std.proofs.Common.{◌+◌, drop, ap, sym, ◌∙◌, arith}
 use Rattle.std.specs.Prelude.{◌&&◌, ◌||◌}
 use Rattle.mbe_semantics.specs.Syntax.Nullable.{is_nullable, is_nullable_op, is_refused, is_refused_op, may_skip}
 use Rattle.mbe_ops.specs.Views.{op_of, ops_of}
+use Rattle.mbe_ops.proofs.EqualityLemmas.{op_weight, ops_weight, op_no_heavier}
 use Rattle.mbe_ops.proofs.OpViews.{view-open, view-open_repeat}
 use Rattle.mbe_parser.proofs.RefusalLemmas.{next_op, next_nullable, next_refused, separated_if}
 use Rattle.mbe_parser.proofs.validate.+refusal.Goals as goal
+
+pub checked_op-checked-requires : goal.checked_op-checked-requires
+checked_op-checked-requires g t c κs within =
+    let here = c.in-Subtree in
+    let seen = ap op_weight (ap op_of here.is ∙ view-open here.tokens here.delimiter) in
+    let inside = ap (λ xs. ops_weight (ops_of xs)) c.deref.ensures.value in
+    (omega (arith, c.decreases, seen, inside), within)
+
+pub checked_op-checked-requires-in-Repeat : goal.checked_op-checked-requires-in-Repeat
+checked_op-checked-requires-in-Repeat g t c κs within =
+    let here = c.in-Repeat in
+    let seen = ap op_weight (ap op_of here.is ∙ view-open_repeat here.tokens here.kind here.separator) in
+    let inside = ap (λ xs. ops_weight (ops_of xs)) c.deref-in-Repeat.ensures.value in
+    (omega (arith, c.decreases, seen, inside), within)
+
+pub checked-checked_op-requires : goal.checked-checked_op-requires
+checked-checked_op-requires g t c κs within =
+    let lighter = op_no_heavier c.args.ops.now c.loop-op.op-index c.op-item.result c.loop-op-test.true c.op-item.is in
+    (omega (arith, c.decreases, lighter), within)
+
+pub checked_op-returns-in-Subtree-clause-empty : goal.checked_op-returns-in-Subtree-clause-empty
+checked_op-returns-in-Subtree-clause-empty g t c =
+    let here = c.in-Subtree in
+    sym (ap (λ o. is_nullable_op (op_of o)) here.is ∙ ap is_nullable_op (view-open here.tokens here.delimiter))
 
 pub checked-loop-op-preserved : goal.checked-loop-op-preserved
 checked-loop-op-preserved g t c =

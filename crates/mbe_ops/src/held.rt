@@ -1,0 +1,138 @@
+// What an op holds on the heap, so that it stays small: at most 80 bytes where the allocator takes none.
+ghost use Rattle.std.specs.Prelude.{◌≡◌, [], ◌∷◌, IfOk, is_some, option_copied};
+
+use crate::copies::copied_puncts;
+use crate::ops::Separator;
+use arrayvec::ArrayVec;
+use mbe_tt::tt::Punct;
+use std::alloc::{AllocError, Allocator, Global};
+use std::marker::Model;
+use std::{fmt, slice};
+
+/// The puncts of an operator. Clauses see their list.
+#[derive(Drop)]
+pub struct Puncts<A: Allocator = Global> {
+    held: Held<A>,
+}
+
+// Most operators are one punct, which takes no memory of its own.
+#[derive(Drop)]
+enum Held<A: Allocator = Global> {
+    One(Punct),
+    More(Box<ArrayVec<Punct, 3>, A>),
+}
+
+impl<A: Allocator> Model for Puncts<A> {
+    ghost use Rattle.std.specs.Prelude.{List};
+    ghost use Rattle.mbe_tt.specs.declared.tt.Punct.{Punct};
+
+    ghost Value = { List Punct };
+
+    ghost use Rattle.mbe_ops.specs.Held.{held_puncts};
+
+    ghost view = { λ p. held_puncts p.held };
+}
+
+impl<A: Allocator> Puncts<A> {
+    /// One punct.
+    pub fn one(punct: Punct) -> Puncts<A>
+        ensures { result ≡ punct ∷ [] }
+    {
+        Puncts {
+            held: Held::One(punct),
+        }
+    }
+
+    /// The puncts, or out of memory.
+    pub fn new(alloc: A, puncts: ArrayVec<Punct, 3>) -> Result<Puncts<A>, AllocError>
+        ensures { IfOk result (λ held. held ≡ puncts.items) }
+    {
+        if let [punct] = puncts.as_slice() {
+            return Ok(Puncts::one(*punct));
+        }
+        Ok(Puncts {
+            held: Held::More(Box::new(alloc, puncts)?),
+        })
+    }
+
+    /// The puncts.
+    pub fn as_slice(&self) -> &[Punct]
+        ensures value { result.now ≡ self.now }
+    {
+        match &self.held {
+            Held::One(punct) => slice::from_ref(punct),
+            Held::More(puncts) => puncts.as_slice(),
+        }
+    }
+
+    /// An equal copy, or out of memory.
+    pub(crate) fn try_clone(&self, alloc: A) -> Result<Puncts<A>, AllocError>
+        ensures { IfOk result (λ copy. copy ≡ self.now) }
+    {
+        match &self.held {
+            Held::One(punct) => Ok(Puncts::one(*punct)),
+            Held::More(puncts) => Puncts::new(alloc, copied_puncts(puncts.as_ref())?),
+        }
+    }
+}
+
+impl<A: Allocator> fmt::Debug for Puncts<A> {
+    fn fmt<W: fmt::Write>(&self, f: &mut fmt::Formatter<W>) -> fmt::Result {
+        let puncts = self.as_slice();
+        write!(f, "{puncts:?}")
+    }
+}
+
+/// What is written between two rounds, if anything. Clauses see that separator.
+#[derive(Drop)]
+pub struct Between<A: Allocator = Global> {
+    held: Option<Box<Separator<A>, A>>,
+}
+
+impl<A: Allocator> Model for Between<A> {
+    ghost use Rattle.std.specs.Prelude.{Option, option_map};
+    ghost use Rattle.mbe_ops.specs.declared.ops.Separator.{Separator};
+
+    ghost Value = { Option (Separator A) };
+
+    ghost view = { λ b. option_map (λ s. s.value) b.held };
+}
+
+impl<A: Allocator> Between<A> {
+    /// The separator, or out of memory.
+    pub fn new(alloc: A, separator: Option<Separator<A>>) -> Result<Between<A>, AllocError>
+        ensures { IfOk result (λ between. between ≡ separator) }
+    {
+        match separator {
+            None => Ok(Between { held: None }),
+            Some(separator) => Ok(Between {
+                held: Some(Box::new(alloc, separator)?),
+            }),
+        }
+    }
+
+    /// The separator, if there is one.
+    pub fn as_ref(&self) -> Option<&Separator<A>>
+        ensures value { option_copied result ≡ self.now }
+        ensures variant { is_some result ≡ is_some self.now }
+    {
+        match &self.held {
+            None => None,
+            Some(separator) => Some(separator.as_ref()),
+        }
+    }
+
+    /// Whether there is a separator.
+    pub fn is_some(&self) -> bool
+        ensures { result ≡ is_some self.now }
+    {
+        self.held.is_some()
+    }
+}
+
+impl<A: Allocator> fmt::Debug for Between<A> {
+    fn fmt<W: fmt::Write>(&self, f: &mut fmt::Formatter<W>) -> fmt::Result {
+        let separator = self.as_ref();
+        write!(f, "{separator:?}")
+    }
+}
