@@ -56,18 +56,31 @@ pub fn parse_template<A: Allocator + Copy, E: Copy + Fn(SyntaxContext) -> Editio
     let mut src = src;
     let mut ops = Vec::with_capacity(alloc, src.remaining().len())?;
     'trees: while let Some(peeked) = src.peek() {
-        let op = next_op(alloc, edition, peeked, &mut src, mode)?;
-        ops.push(op)?;
+        // Words and literals are pushed here: by way of `next_op` their ops would be moved twice.
+        match peeked {
+            TtElement::Leaf(Leaf::Ident(ident)) => {
+                let _word = src.next();
+                ops.push(Op::Ident(ident.clone()?))?;
+            }
+            TtElement::Leaf(Leaf::Literal(literal)) => {
+                let _literal = src.next();
+                ops.push(Op::Literal(literal.clone()?))?;
+            }
+            peeked => {
+                let op = next_op(alloc, edition, peeked, &mut src, mode)?;
+                ops.push(op)?;
+            }
+        }
     }
     Ok(MetaTemplate(fitted(alloc, ops)?))
 }
 
-// The ops in a block of just their size: there may be fewer of them than trees. `shrink_to_fit` would pass over a refused
-// request.
+// The ops in a block of their size, where the one they are in has room for more than half as many again: there may be fewer
+// ops than trees. `shrink_to_fit` would pass over a refused request.
 fn fitted<A: Allocator>(alloc: A, ops: Vec<Op<A>, A>) -> Result<Vec<Op<A>, A>, AllocError>
     ensures { IfOk result (λ fit. fit.items ≡ ops.items) }
 {
-    if ops.len() == ops.capacity() {
+    if ops.capacity().saturating_sub(ops.len()) <= ops.len() / 2 {
         return Ok(ops);
     }
     let mut ops = ops;

@@ -6,29 +6,71 @@ use Rattle.mbe_tt.specs.Views.Element.{element_tree}
 use Rattle.mbe_tt.specs.Views.Shown.{literal_of, ident_of, leaf_of}
 use Rattle.mbe_semantics.specs.Syntax.Op.{no_ops}
 use Rattle.mbe_semantics.specs.Syntax.Template.{head, nothing}
-use Rattle.mbe_parser.specs.Reader.{mode_of}
-use Rattle.mbe_ops.specs.Views.{template_of}
+use Rattle.mbe_parser.specs.Reader.{mode_of, ReadsOp}
+use Rattle.mbe_ops.specs.declared.ops.Op.TheVariants as ops
+use Rattle.mbe_ops.specs.Views.{op_of, template_of}
 use Rattle.mbe_ops.proofs.Fragments.{first_none, first_tree}
 use Rattle.mbe_ops.proofs.OpViews.{view-template, view-subtree, view-literal, view-ident, view-repeat}
 use Rattle.mbe_ops.proofs.Fragments.{puncts_longer}
 use Rattle.mbe_parser.proofs.ReaderLemmas as lemmas
 use Rattle.mbe_parser.proofs.parser.+template.Goals as goal
 
-pub parse_template-returns-in_err-op-clause-fault : goal.parse_template-returns-in_err-op-clause-fault
-parse_template-returns-in_err-op-clause-fault g t c =
-    let p = err_from_is_err_and c.from_residual-in_err-op.result c.from_residual-in_err-op.ensures.1 in
-    rw (p.1, p.2) (lemmas.later_fault _ c.in_err-op.field-0.0 (mode_of c.args.mode) c.args.src c.trees.src c.trees.invariant.fault c.in_err-op.ensures.fault)
+pub parse_template-returns-in_err-op-in_default-peeked-clause-fault : goal.parse_template-returns-in_err-op-in_default-peeked-clause-fault
+parse_template-returns-in_err-op-in_default-peeked-clause-fault g t c =
+    let e = c.in_err-op-in_default-peeked in
+    let p = err_from_is_err_and c.from_residual-in_err-op-in_default-peeked.result c.from_residual-in_err-op-in_default-peeked.ensures.1 in
+    rw (p.1, p.2) (lemmas.later_fault _ e.field-0.0 (mode_of c.args.mode) c.args.src c.trees.src c.trees.invariant.fault e.ensures.fault)
 
 pub parse_template-trees-preserved : goal.parse_template-trees-preserved
 parse_template-trees-preserved g t c =
     let l = c.trees in
-    let o = c.in_ok-op.op in
-    let reads = c.in_ok-op.ensures.op in
+    let o = c.in_ok-op-in_default-peeked.op in
+    let reads = c.in_ok-op-in_default-peeked.ensures.op in
     record {
-      more = λ os h. rw c.in_ok-push.ensures.items (rw (← lemmas.with_front-push l.ops.items o os) (l.invariant.more _ (reads.more os h)));
+      more = λ os h. rw c.in_ok-push-in_default-peeked.ensures.items (rw (← lemmas.with_front-push l.ops.items o os) (l.invariant.more _ (reads.more os h)));
       fault = λ x h. l.invariant.fault x (reads.fault x h);
-      smaller = omega (arith, c.in_ok-op.ensures.shorter);
+      smaller = omega (arith, c.in_ok-op-in_default-peeked.ensures.shorter, l.invariant.smaller);
     }
+
+pub parse_template-trees-preserved-in-Ident-1 : goal.parse_template-trees-preserved-in-Ident-1
+parse_template-trees-preserved-in-Ident-1 g t c =
+    let l = c.trees in
+    let i = c.in_ok-clone-in-Leaf-Ident.field-0 in
+    let left = c.next-word.new.self in
+    let front : Some (Leaf_tree (leaves.ident (ident_of i))) ≡ first l.src = search rules in
+    let at = first_tree l.src left _ front c.next-word.ensures.rest in
+    let reads : ReadsOp (λ ctx e. g.E.Fn.post c.args.edition (ctx, tt) e) (mode_of c.args.mode) l.src (op_of (ops.Ident i)) left =
+    rw view-ident (lemmas.leaf_reads _ (mode_of c.args.mode) l.src left _ (ap (head (mode_of c.args.mode)) at)) in
+    record {
+      more = λ os h. rw c.in_ok-push-in-Leaf-Ident.ensures.items (rw (← lemmas.with_front-push l.ops.items (ops.Ident i) os) (l.invariant.more _ (reads.more os h)));
+      fault = λ x h. l.invariant.fault x (reads.fault x h);
+      smaller = omega (arith, ap flat_len at, l.invariant.smaller);
+    }
+
+pub parse_template-trees-smaller-in-Ident-1 : goal.parse_template-trees-smaller-in-Ident-1
+parse_template-trees-smaller-in-Ident-1 g t c =
+    let front : Some (Leaf_tree (leaves.ident (ident_of c.in_ok-clone-in-Leaf-Ident.field-0))) ≡ first c.trees.src = search rules in
+    omega (arith, ap flat_len (first_tree c.trees.src c.next-word.new.self _ front c.next-word.ensures.rest))
+
+pub parse_template-trees-preserved-in-Literal-1 : goal.parse_template-trees-preserved-in-Literal-1
+parse_template-trees-preserved-in-Literal-1 g t c =
+    let l = c.trees in
+    let i = c.in_ok-clone-in-Leaf-Literal.field-0 in
+    let left = c.next-literal.new.self in
+    let front : Some (Leaf_tree (leaves.literal (literal_of i))) ≡ first l.src = search rules in
+    let at = first_tree l.src left _ front c.next-literal.ensures.rest in
+    let reads : ReadsOp (λ ctx e. g.E.Fn.post c.args.edition (ctx, tt) e) (mode_of c.args.mode) l.src (op_of (ops.Literal i)) left =
+    rw view-literal (lemmas.leaf_reads _ (mode_of c.args.mode) l.src left _ (ap (head (mode_of c.args.mode)) at)) in
+    record {
+      more = λ os h. rw c.in_ok-push-in-Leaf-Literal.ensures.items (rw (← lemmas.with_front-push l.ops.items (ops.Literal i) os) (l.invariant.more _ (reads.more os h)));
+      fault = λ x h. l.invariant.fault x (reads.fault x h);
+      smaller = omega (arith, ap flat_len at, l.invariant.smaller);
+    }
+
+pub parse_template-trees-smaller-in-Literal-1 : goal.parse_template-trees-smaller-in-Literal-1
+parse_template-trees-smaller-in-Literal-1 g t c =
+    let front : Some (Leaf_tree (leaves.literal (literal_of c.in_ok-clone-in-Leaf-Literal.field-0))) ≡ first c.trees.src = search rules in
+    omega (arith, ap flat_len (first_tree c.trees.src c.next-literal.new.self _ front c.next-literal.ensures.rest))
 
 pub parse_template-returns-clause-ops : goal.parse_template-returns-clause-ops
 parse_template-returns-clause-ops g t c =
