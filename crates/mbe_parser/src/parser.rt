@@ -59,8 +59,17 @@ pub fn parse_template<A: Allocator + Copy, E: Copy + Fn(SyntaxContext) -> Editio
         let op = next_op(alloc, edition, peeked, &mut src, mode)?;
         ops.push(op)?;
     }
-    ops.shrink_to_fit();
-    Ok(MetaTemplate(ops))
+    Ok(MetaTemplate(fitted(alloc, ops)?))
+}
+
+// The ops in a block of just their size. `shrink_to_fit` would pass over a refused request.
+fn fitted<A: Allocator>(alloc: A, ops: Vec<Op<A>, A>) -> Result<Vec<Op<A>, A>, AllocError>
+    ensures { IfOk result (λ fit. fit.items ≡ ops.items) }
+{
+    let mut ops = ops;
+    let mut fit = Vec::with_capacity(alloc, ops.len())?;
+    fit.append(&mut ops)?;
+    Ok(fit)
 }
 
 // The op that begins with the next tree.

@@ -1,13 +1,14 @@
-use Rattle.std.proofs.Common.{◌≡◌, sym, ap, arith, refl, Some, rules}
+use Rattle.std.proofs.Common.{◌≡◌, ◌∙◌, sym, ap, arith, refl, Some, None, option_map, rules}
 use Rattle.std.proofs.lemmas.Result.{err_from_is_err_and}
 use Rattle.mbe_tt.specs.Trees.Leaf as leaves
 use Rattle.mbe_tt.specs.Trees.Tree.{none, Leaf_tree, Group_tree, first, flat_len}
+use Rattle.mbe_tt.specs.Views.Element.{element_tree}
 use Rattle.mbe_tt.specs.Views.Shown.{literal_of, ident_of, leaf_of}
 use Rattle.mbe_semantics.specs.Syntax.Op.{no_ops}
 use Rattle.mbe_semantics.specs.Syntax.Template.{head, nothing}
 use Rattle.mbe_parser.specs.Reader.{mode_of}
 use Rattle.mbe_ops.specs.Views.{template_of}
-use Rattle.mbe_ops.proofs.Fragments.{first_tree}
+use Rattle.mbe_ops.proofs.Fragments.{first_none, first_tree}
 use Rattle.mbe_ops.proofs.OpViews.{view-template, view-subtree, view-literal, view-ident, view-repeat}
 use Rattle.mbe_ops.proofs.Fragments.{puncts_longer}
 use Rattle.mbe_parser.proofs.ReaderLemmas as lemmas
@@ -31,9 +32,10 @@ parse_template-trees-preserved g t c =
 
 pub parse_template-returns-clause-ops : goal.parse_template-returns-clause-ops
 parse_template-returns-clause-ops g t c =
-    let empty : c.trees.src ≡ none = search rules in
+    let nothing_ahead : None ≡ first c.trees.src = sym (ap (option_map element_tree) c.in_default.is) ∙ c.peek.ensures in
+    let empty : c.trees.src ≡ none = first_none c.trees.src nothing_ahead in
     let whole = c.trees.invariant.more no_ops (nothing c.trees.src (ap (head (mode_of c.args.mode)) empty)) in
-    rw (view-template, c.shrink_to_fit.ensures.items, ← lemmas.with_front-all c.trees.ops.items) whole
+    rw (view-template, c.in_ok-fitted.ensures, ← lemmas.with_front-all c.trees.ops.items) whole
 
 pub next_op-returns-in_err-tokens-in-Subtree-clause-fault : goal.next_op-returns-in_err-tokens-in-Subtree-clause-fault
 next_op-returns-in_err-tokens-in-Subtree-clause-fault g t c =

@@ -4,12 +4,19 @@ use Rattle.mbe_tt.specs.Views.Shown.{literal_of, ident_of}
 use Rattle.mbe_semantics.specs.Writing.Rounds.{level, kept, kept_rounds, finite}
 use Rattle.mbe_ops.specs.Views.{op_of, ops_of, separator_seen, elements_seen}
 use Rattle.mbe_log.specs.BindingViews.{bound_by}
+use Rattle.mbe_ops.proofs.EqualityLemmas.{op_no_heavier}
 use Rattle.mbe_ops.proofs.OpViews.{view-repeat, view-var, view-subtree, view-literal, view-punct, view-ident, view-index, view-len, view-count, view-concat, view-ignore}
 use Rattle.mbe_transcriber.proofs.FollowLemmas.{ops_split, ops_over}
 use Rattle.mbe_transcriber.proofs.FollowLemmas.{seen_copied}
 use Rattle.mbe_transcriber.proofs.WroteLemmas as lemmas
 use Rattle.mbe_transcriber.proofs.JoinLemmas.{or_either, swapped, popped}
 use Rattle.mbe_transcriber.proofs.transcriber.+writing.Goals as goal
+
+pub expand_ops-expand_op-requires : goal.expand_ops-expand_op-requires
+expand_ops-expand_op-requires g t c κs within =
+    let lighter = op_no_heavier c.args.ops.now c.loop-op.op-index c.op-item.result c.loop-op-test.true c.op-item.is in
+    let some : 0 < length c.loop-op.builder = omega (arith, c.requires.some_group, c.loop-op.invariant.groups) in
+    (omega (arith, c.decreases, lighter), (within.0, (within.1.0, (within.1.1, (c.requires.marks, some)))))
 
 pub expand_op-returns-in-Literal : goal.expand_op-returns-in-Literal
 expand_op-returns-in-Literal g t c =

@@ -1,6 +1,7 @@
-use Rattle.std.proofs.Common.{◌≡◌, drop}
+use Rattle.std.proofs.Common.{◌≡◌, ◌+◌, ◌*◌, drop}
 use Rattle.std.specs.Prelude.{is_some, option_map}
-use Rattle.mbe_ops.specs.Views.{ops_of, separator_seen}
+use Rattle.mbe_ops.specs.Views.{op_of, ops_of, separator_seen}
+use Rattle.mbe_ops.proofs.EqualityLemmas.{op_weight, ops_weight}
 use Rattle.mbe_log.specs.BindingViews.{bound_by}
 use Rattle.mbe_transcriber.proofs.WroteLemmas.{Sofar, Rounded}
 use Rattle.mbe_transcriber.proofs.transcriber.+writing.Given as goal
@@ -16,3 +17,15 @@ invariant-expand_repeat-loop-index g l = record {
   rounded : Rounded (g.G.FragmentGrammar.grammar l.ctx.grammar.now) (λ s t. g.M.Fn.post l.ctx.marker (s, tt) t) l.ctx.call_site (bound_by l.ctx.bindings.now) l.path
       (option_map (λ s. separator_seen s.now) l.separator) (ops_of l.body) l.rounds l.index (is_some l.first) l.separated l.initial.builder l.builder;
 }
+
+abbrev pub decreases-expand_ops : goal.decreases-expand_ops
+decreases-expand_ops g l = 3 * ops_weight (ops_of l.ops.now) + 1
+
+abbrev pub decreases-expand_op : goal.decreases-expand_op
+decreases-expand_op g l = 3 * op_weight (op_of l.op.now)
+
+abbrev pub decreases-expand_group : goal.decreases-expand_group
+decreases-expand_group g l = 3 * ops_weight (ops_of l.body.now) + 2
+
+abbrev pub decreases-expand_repeat : goal.decreases-expand_repeat
+decreases-expand_repeat g l = 3 * ops_weight (ops_of l.body.now) + 2

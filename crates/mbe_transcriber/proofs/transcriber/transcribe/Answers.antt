@@ -1,11 +1,21 @@
-use Rattle.std.proofs.Common.{◌∷◌, [], ap, ◌∙◌}
+use Rattle.std.proofs.Common.{◌≡◌, ◌∷◌, [], ap, ◌∙◌, rules}
 use Rattle.std.specs.Prelude.{is_some}
 use Rattle.mbe_tt.specs.declared.tt.Delimiter.{Delimiter}
 use Rattle.mbe_tt.specs.Trees.Tree.{Forest, none}
+use Rattle.mbe_semantics.specs.Writing.Substitution.{faults}
 use Rattle.mbe_ops.specs.Views.{template_of}
 use Rattle.mbe_log.specs.BindingViews.{bound_by}
 use Rattle.mbe_transcriber.proofs.WroteLemmas.{wrote_whole}
 use Rattle.mbe_transcriber.proofs.transcriber.transcribe.Goals as goal
+use Rattle.mbe_transcriber.proofs.transcriber.transcribe.Goals.{in-Some+in_ok-error-in-Some, in-None}
+
+pub returns-clause-fault : goal.returns-clause-fault
+returns-clause-fault g c =
+    let told : is_some c.in_ok-fault.field-0 ≡ faults (bound_by c.args.bindings.now) [] (template_of c.args.template.now) =
+    rw (← c.deref.ensures.value) c.in_ok-fault.ensures.told in
+    let same : is_some c.match-branch-3.err ≡ is_some c.in_ok-fault.field-0 =
+    elim c.match-branch-3.branch [ in-Some+in_ok-error-in-Some w ↦ search rules | in-None w ↦ search rules ] in
+    same ∙ told
 
 pub returns-clause-substitution : goal.returns-clause-substitution
 returns-clause-substitution g c =

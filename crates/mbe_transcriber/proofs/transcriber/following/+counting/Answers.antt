@@ -1,13 +1,19 @@
-use Rattle.std.proofs.Common.{◌+◌, drop, ap, sym, ◌∙◌}
+use Rattle.std.proofs.Common.{◌+◌, drop, ap, sym, ◌∙◌, arith}
 use Rattle.std.specs.Prelude.{option_map, filter_map}
 use Rattle.mbe_transcriber.specs.Counting.{shortest, shorter, extent_seen}
 use Rattle.mbe_semantics.specs.Syntax.Op.{uses_of, uses_of_op}
 use Rattle.mbe_semantics.specs.Writing.Rounds.{extent_under}
 use Rattle.mbe_ops.specs.Views.{ops_of, op_of}
 use Rattle.mbe_log.specs.BindingViews.{bound_by}
+use Rattle.mbe_ops.proofs.EqualityLemmas.{op_no_heavier}
 use Rattle.mbe_ops.proofs.OpViews.{view-open}
 use Rattle.mbe_transcriber.proofs.FollowLemmas.{shortest_next, shortest_end, ops_split, ops_over, view-body}
 use Rattle.mbe_transcriber.proofs.transcriber.following.+counting.Goals as goal
+
+pub shortest-shortest_of_op-requires : goal.shortest-shortest_of_op-requires
+shortest-shortest_of_op-requires g t c κs within =
+    let lighter = op_no_heavier c.args.ops.now c.loop-op.op-index c.op-item.result c.loop-op-test.true c.op-item.is in
+    (omega (arith, c.decreases, lighter), within)
 
 pub shortest-loop-op-preserved : goal.shortest-loop-op-preserved
 shortest-loop-op-preserved g t c =
