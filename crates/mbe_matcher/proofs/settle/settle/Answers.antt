@@ -1,4 +1,4 @@
-use Rattle.std.proofs.Common.{◌≡◌, ◌+◌, ◌≤◌, ◌++◌, ◌∷◌, ◌∙◌, [], length, reverse, option_to_list, refl, sym, ap, subst, arith}
+use Rattle.std.proofs.Common.{◌≡◌, ◌+◌, ◌≤◌, ◌++◌, ◌∷◌, ◌∙◌, [], length, reverse, option_to_list, length-append, refl, sym, ap, subst, arith}
 use Rattle.mbe_tt.specs.Trees.Tree.{rest_at}
 use Rattle.mbe_tt.specs.Views.View.{trees}
 use Rattle.mbe_semantics.specs.Matching.Dots.{dots}
@@ -97,6 +97,15 @@ loop-position-smaller g c =
     let pushed = c.in_ok-push_some-2.ensures ∙ ap (λ l. l ++ option_to_list f.first) c.in_ok-push_some.ensures in
     stack_falls c.pop.new.self.items c.loop-position.todo.items c.push_some-in-Some.new.values.items c.in-Some.position f.first f.second
     (vacancies s.place c.loop-position.state.counts.marks.items) (vacancies s.place c.takes.new.self.marks.items) c.in-Some.ensures.items pushed (c.takes.ensures.falls c.if-not-takes.false)
+
+pub loop-position-smaller-then-not-takes : goal.loop-position-smaller-then-not-takes
+loop-position-smaller-then-not-takes g c =
+    let s = c.args.source.now in
+    let same : c.takes.new.self.marks.items ≡ c.loop-position.state.counts.marks.items = ap (λ (x : Counts g.row.A.Denot). x.marks.items) (c.takes.ensures.stays c.if-not-takes.true) in
+    let still = ap (vacancies s.place) same in
+    let popped : length c.loop-position.todo.items ≡ length c.pop.new.self.items + 1 =
+    ap length c.in-Some.ensures.items ∙ length-append c.pop.new.self.items (c.in-Some.position ∷ []) in
+    omega (arith, still, popped)
 
 pub loop-position-preserved : goal.loop-position-preserved
 loop-position-preserved g c =

@@ -1,7 +1,14 @@
-use Rattle.std.proofs.Common.{◌≡◌, ◌+◌, drop}
+use Rattle.std.proofs.Common.{◌≡◌, ◌+◌, ◌*◌, drop}
 use Rattle.mbe_semantics.specs.Matching.Dots.{dots}
-use Rattle.mbe_ops.specs.Views.{ops_of}
+use Rattle.mbe_ops.specs.Views.{op_of, ops_of}
+use Rattle.mbe_ops.proofs.EqualityLemmas.{op_weight, ops_weight}
 use Rattle.mbe_matcher.proofs.skipping.+counting.Given as goal
 
 abbrev pub invariant-dots_of-loop-op : goal.invariant-dots_of-loop-op
 invariant-dots_of-loop-op g l = l.count + dots (ops_of (drop l.op-index l.ops)) ≡ dots (ops_of l.fn.ops) + 1
+
+abbrev pub decreases-dots_of : goal.decreases-dots_of
+decreases-dots_of g l = 2 * ops_weight (ops_of l.ops.now) + 1
+
+abbrev pub decreases-op_dots_of : goal.decreases-op_dots_of
+decreases-op_dots_of g l = 2 * op_weight (op_of l.op.now)

@@ -1,6 +1,7 @@
-use Rattle.std.proofs.Common.{drop}
+use Rattle.std.proofs.Common.{◌+◌, ◌*◌, drop}
 use Rattle.mbe_semantics.specs.Bindings.Account.{IsLive}
-use Rattle.mbe_ops.specs.Views.{ops_of}
+use Rattle.mbe_ops.specs.Views.{op_of, ops_of}
+use Rattle.mbe_ops.proofs.EqualityLemmas.{op_weight, ops_weight}
 use Rattle.mbe_matcher.proofs.SkipLemmas.{SkipsUpTo}
 use Rattle.mbe_matcher.proofs.skipping.+skipping.Given as goal
 
@@ -9,3 +10,9 @@ invariant-skip_names-loop-op g l = record {
   live : IsLive l.log l.handle;
   so_far : SkipsUpTo l.fn.log l.log l.fn.handle l.handle (ops_of l.fn.ops) (ops_of (drop l.op-index l.ops));
 }
+
+abbrev pub decreases-skip_names : goal.decreases-skip_names
+decreases-skip_names g l = 2 * ops_weight (ops_of l.ops.now) + 1
+
+abbrev pub decreases-skip_op : goal.decreases-skip_op
+decreases-skip_op g l = 2 * op_weight (op_of l.op.now)

@@ -1,7 +1,7 @@
 use Rattle.std.proofs.Common.{◌∙◌, sym, ap, subst, inl, inr, option_map}
 use Rattle.mbe_semantics.specs.Syntax.Op.{op, group, repetition}
 use Rattle.mbe_ops.specs.Views.{op_of, ops_of, separator_seen}
-use Rattle.mbe_ops.proofs.OpViews.{view-subtree, view-repeat, view-ignore, view-index, view-len, view-count, view-concat}
+use Rattle.mbe_ops.proofs.OpViews.{view-var, view-subtree, view-repeat, view-literal, view-punct, view-ident, view-ignore, view-index, view-len, view-count, view-concat}
 use Rattle.mbe_matcher.specs.Positions.{IsPlain}
 use Rattle.mbe_matcher.proofs.Keeping.{keeps_not}
 use Rattle.mbe_matcher.proofs.StepLemmas.{is_live, has_number, has_more, separator_same}
@@ -9,6 +9,16 @@ use Rattle.mbe_matcher.proofs.steps.op_steps.Goals as goal
 
 pub variable_steps-requires-clause-live : goal.variable_steps-requires-clause-live
 variable_steps-requires-clause-live g c = is_live c.args.log.now c.args.outers.now.items c.args.position c.requires.stands
+
+pub variable_steps-requires-clause-dot : goal.variable_steps-requires-clause-dot
+variable_steps-requires-clause-dot g c = (
+  c.in-Var.id,
+  c.requires.dot ∙ ap (λ x. op x (ops_of c.args.rest.now))
+      (ap op_of c.in-Var.is ∙ view-var _ c.in-Var.name c.in-Var.kind c.in-Var.id),
+)
+
+pub variable_steps-requires-clause-number : goal.variable_steps-requires-clause-number
+variable_steps-requires-clause-number g c = has_number c.args.log.now c.args.outers.now.items c.args.position c.requires.stands
 
 pub group_steps-requires-clause-dot : goal.group_steps-requires-clause-dot
 group_steps-requires-clause-dot g c =
@@ -61,3 +71,17 @@ plain_steps-requires-clause-plain g c =
       | inr (inr (inr (inl w))) ↦ subst IsPlain (sym (ap op_of w.2 ∙ view-count _ w.0 w.1)) tt
       | inr (inr (inr (inr w))) ↦ subst IsPlain (sym (ap op_of w.2 ∙ view-concat w.0 w.1)) tt
     ]
+
+pub plain_steps-requires-clause-number : goal.plain_steps-requires-clause-number
+plain_steps-requires-clause-number g c = has_number c.args.log.now c.args.outers.now.items c.args.position c.requires.stands
+
+pub plain_steps-requires-in-Literal-clause-plain : goal.plain_steps-requires-in-Literal-clause-plain
+plain_steps-requires-in-Literal-clause-plain g c =
+    elim c.in-Literal.is [
+      | inl w ↦ subst IsPlain (sym (ap op_of w.1 ∙ view-literal w.0)) tt
+      | inr (inl w) ↦ subst IsPlain (sym (ap op_of w.1 ∙ view-ident w.0)) tt
+      | inr (inr w) ↦ subst IsPlain (sym (ap op_of w.1 ∙ view-punct _ w.0)) tt
+    ]
+
+pub plain_steps-requires-in-Literal-clause-number : goal.plain_steps-requires-in-Literal-clause-number
+plain_steps-requires-in-Literal-clause-number g c = has_number c.args.log.now c.args.outers.now.items c.args.position c.requires.stands
