@@ -1,8 +1,6 @@
 // Equality and copies of macros.
 use crate::reading::read;
-use mbe::DeclarativeMacro;
-use refusing::Refusing;
-use std::alloc::{AllocError, Allocator, Global};
+use std::alloc::Global;
 use std::test::Fail;
 
 // The macros of two definitions are equal.
@@ -79,63 +77,4 @@ fn a_copy_is_equal(rt: HostRuntime) -> Result<(), Fail> {
         assert!(rt; is_equal && is_alike, "{text}");
     }
     Ok(())
-}
-
-// Whether memory ran out for a copy; nothing where the copy or the macro isn't as one that was read before.
-fn runs_out<A: Allocator + Copy>(
-    alloc: A,
-    rules: &DeclarativeMacro<A>,
-    before: &DeclarativeMacro<A>,
-) -> Option<bool> {
-    let copy = rules.try_clone(alloc);
-    if rules != before {
-        return None;
-    }
-    match copy {
-        Ok(copy) => { if copy == *before { Some(false) } else { None } }
-        Err(AllocError) => Some(true),
-    }
-}
-
-// Of what the request of one number was refused.
-#[derive(Clone, Copy)]
-enum Refused {
-    Reading,
-    Copying,
-    Nothing,
-}
-
-// Of what the request of that number was refused, of reading twice and of a copy. No answer where a copy is wrong.
-fn outcome_of(alloc: Global, request: u64) -> Option<Refused> {
-    let alloc = Refusing::new(alloc, request);
-    let (Ok(Some(rules)), Ok(Some(before))) = (read(&alloc, EVERY_FORM), read(&alloc, EVERY_FORM))
-    else {
-        return if alloc.has_refused() {
-            Some(Refused::Reading)
-        } else {
-            None
-        };
-    };
-    let runs_out = runs_out(&alloc, &rules, &before)?;
-    match (runs_out, alloc.has_refused()) {
-        (true, true) => Some(Refused::Copying),
-        (false, false) => Some(Refused::Nothing),
-        _ => None,
-    }
-}
-
-#[test]
-fn each_request_of_a_copy_refused(rt: HostRuntime) -> Result<(), Fail> {
-    let mut copies = 0u64;
-    for request in 1..10_000u64 {
-        match outcome_of(rt.alloc(), request).ok_or("a wrong copy")? {
-            Refused::Reading => {}
-            Refused::Copying => copies = copies.saturating_add(1),
-            Refused::Nothing => {
-                assert!(rt; copies > 10, "only {copies} requests");
-                return Ok(());
-            }
-        }
-    }
-    Err(Fail::from("it goes on"))
 }

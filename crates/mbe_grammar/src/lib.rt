@@ -29,6 +29,7 @@ use crate::expressions::expr;
 use crate::items::{block, item, meta, stmt, vis};
 use crate::patterns::{pat, pat_top};
 use crate::step::Step;
+use crate::tokens::is_text_of;
 use crate::types::{PathStyle, path, ty};
 use mbe_tt::grammar::{FragmentGrammar, Front, PrefixEntryPoint};
 use mbe_tt::tt::TokenTreesView;
@@ -74,6 +75,15 @@ fn front<A: Allocator>(entry: PrefixEntryPoint, tokens: TokenTreesView<'_, A>) -
     }
 }
 
+// The words that an identifier is raw for.
+const KEYWORDS: &[&str] = &[
+    "abstract", "as", "async", "await", "become", "box", "break", "const", "continue", "crate",
+    "do", "dyn", "else", "enum", "extern", "false", "final", "fn", "for", "gen", "if", "impl",
+    "in", "let", "loop", "macro", "match", "mod", "move", "mut", "override", "priv", "pub", "ref",
+    "return", "self", "Self", "static", "struct", "super", "trait", "true", "try", "type",
+    "typeof", "unsafe", "unsized", "use", "virtual", "where", "while", "yield",
+];
+
 impl FragmentGrammar for SampleGrammar {
     ghost use Rattle.mbe_grammar.specs.SampleGrammar.{sample};
     ghost use Rattle.mbe_grammar.specs.Lawful.{sample_lawful};
@@ -89,61 +99,7 @@ impl FragmentGrammar for SampleGrammar {
     }
 
     fn is_keyword(&self, text: &str) -> bool {
-        matches!(
-            text,
-            "abstract"
-                | "as"
-                | "async"
-                | "await"
-                | "become"
-                | "box"
-                | "break"
-                | "const"
-                | "continue"
-                | "crate"
-                | "do"
-                | "dyn"
-                | "else"
-                | "enum"
-                | "extern"
-                | "false"
-                | "final"
-                | "fn"
-                | "for"
-                | "gen"
-                | "if"
-                | "impl"
-                | "in"
-                | "let"
-                | "loop"
-                | "macro"
-                | "match"
-                | "mod"
-                | "move"
-                | "mut"
-                | "override"
-                | "priv"
-                | "pub"
-                | "ref"
-                | "return"
-                | "self"
-                | "Self"
-                | "static"
-                | "struct"
-                | "super"
-                | "trait"
-                | "true"
-                | "try"
-                | "type"
-                | "typeof"
-                | "unsafe"
-                | "unsized"
-                | "use"
-                | "virtual"
-                | "where"
-                | "while"
-                | "yield"
-        )
+        is_text_of(text, KEYWORDS)
     }
 
     ghost lawful = { λ _. sample_lawful };

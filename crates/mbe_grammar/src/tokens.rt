@@ -36,7 +36,8 @@ fn is_word<A: Allocator>(ident: &Ident<A>, texts: &[&str]) -> bool
     }
 }
 
-fn is_text_of(text: &str, texts: &[&str]) -> bool
+/// Whether the text is one of those.
+pub fn is_text_of(text: &str, texts: &[&str]) -> bool
     ensures { result ≡ list_any (λ t. bytes_eq text.now t.now) texts.now }
 {
     texts.iter().any(|t| text == *t)

@@ -1,11 +1,12 @@
-// Copies of errors and of results while each request for memory is refused in turn.
+// Copies of errors, of macros and of results while each request for memory is refused in turn.
+use crate::reading::{lexed, parsed};
 use crate::requests::{Ended, Work, refusals};
 use mbe::{ExpandErrorKind, ParseError, ValueResult};
 use std::alloc::{AllocError, Allocator, Global};
 use std::test::Fail;
 
 /// An error that is copied, with the text that it holds.
-#[derive(Clone, Copy, Debug)]
+#[derive(Clone, Copy)]
 enum Copied {
     Unexpected(&'static str),
     Expected(&'static str),
@@ -76,9 +77,40 @@ static ERRORS: [Copied; 4] = [
 
 #[test]
 fn errors_are_copied_or_refused(rt: HostRuntime) -> Result<(), Fail> {
-    for work in &ERRORS {
-        assert!(rt; refusals(rt.alloc(), work).unwrap_or(0) > 0, "{work:?}");
+    for (row, work) in ERRORS.iter().enumerate() {
+        assert!(rt; refusals(rt.alloc(), work).unwrap_or(0) > 0, "row {row}");
     }
+    Ok(())
+}
+
+/// A macro that is copied, of this definition.
+#[derive(Drop)]
+struct Rules(&'static str);
+
+impl Work for Rules {
+    fn ended<A: Allocator + Copy>(&self, _global: Global, alloc: A) -> Result<Ended, AllocError> {
+        let definition = lexed(alloc, 0, self.0)?;
+        let rules = parsed(alloc, &definition)?;
+        let before = parsed(alloc, &definition)?;
+        let copy = rules.try_clone(alloc);
+        let is_unchanged = rules == before;
+        Ok(match copy {
+            Ok(copy) => Ended::answered(is_unchanged && copy == before),
+            Err(AllocError) => Ended::refused(is_unchanged),
+        })
+    }
+}
+
+// Every form of pattern and of template, a second rule, and a fault.
+const EVERY_FORM: &str =
+    "unsafe attr(x) ($a:ident $b:literal [c] 1 + $($d:expr),* $($e:ty)'f + $($g:tt)1? $(h)=>* \
+    $(i)* $(k)and* $crate) => {$a $j [c] 1 + $($d $e);* $($g)? ${ignore($a)} ${index()} ${len(1)} ${count($d)} ${count($e, 1)} \
+    ${concat(a, $a, 1)} $$ $crate $}; () => {}; x";
+
+#[test]
+fn macros_are_copied_or_refused(rt: HostRuntime) -> Result<(), Fail> {
+    let count = refusals(rt.alloc(), &Rules(EVERY_FORM)).unwrap_or(0);
+    assert!(rt; count > 10, "only {count} requests");
     Ok(())
 }
 
@@ -105,7 +137,7 @@ impl<A: Allocator + Copy> Clone for Costly<A> {
 }
 
 /// How a result is copied.
-#[derive(Clone, Copy, Debug)]
+#[derive(Clone, Copy)]
 enum Copying {
     Lent,
     Whole,
@@ -131,8 +163,8 @@ impl Work for Copying {
 
 #[test]
 fn results_are_copied_or_refused(rt: HostRuntime) -> Result<(), Fail> {
-    for work in [Copying::Lent, Copying::Whole] {
-        assert!(rt; refusals(rt.alloc(), &work) == Some(1), "{work:?}");
+    for (row, work) in [Copying::Lent, Copying::Whole].iter().enumerate() {
+        assert!(rt; refusals(rt.alloc(), work) == Some(1), "row {row}");
     }
     Ok(())
 }

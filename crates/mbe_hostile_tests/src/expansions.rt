@@ -6,7 +6,8 @@ use crate::reading::{lexed, parsed, printed};
 use crate::requests::{Ended, Work, refusals};
 use crate::rows::{ROWS, Row};
 use mbe::{
-    DeclarativeMacro, ExpandResult, MacroCallStyle, MatchedArmIndex, ParseError, expect_fragment,
+    DeclarativeMacro, ExpandResult, MacroCallStyle, MatchedArmIndex, ParseError, Verdict,
+    expect_fragment,
 };
 use mbe_grammar::SampleGrammar;
 use mbe_tt::grammar::PrefixEntryPoint;
@@ -110,5 +111,57 @@ impl Work for Fragment {
 #[test]
 fn each_request_of_a_fragment_refused(rt: HostRuntime) -> Result<(), Fail> {
     assert!(rt; refusals(rt.alloc(), &Fragment).unwrap_or(0) > 1);
+    Ok(())
+}
+
+// The verdict of each rule on the argument, in order.
+fn explained<A: Allocator + Copy>(
+    alloc: A,
+    rules: &DeclarativeMacro<A>,
+    argument: &TopSubtree<A>,
+) -> Result<Vec<Verdict, A>, AllocError> {
+    if matches!(rules.err(), Some(ParseError::RepetitionEmptyTokenTree)) {
+        return Err(AllocError);
+    }
+    let mut verdicts = Vec::new(alloc);
+    for rule in 0..rules.num_rules() {
+        verdicts.push(rules.explain(alloc, &SampleGrammar, argument, rule)?)?;
+    }
+    Ok(verdicts)
+}
+
+/// The verdicts on an argument. The macro equals a copy made before, and has the verdicts once more.
+#[derive(Drop)]
+struct Explaining {
+    definition: &'static str,
+    argument: &'static str,
+    verdicts: &'static [Verdict],
+}
+
+impl Work for Explaining {
+    fn ended<A: Allocator + Copy>(&self, _global: Global, alloc: A) -> Result<Ended, AllocError> {
+        let rules = parsed(alloc, &lexed(alloc, 0, self.definition)?)?;
+        let argument = lexed(alloc, 1, self.argument)?;
+        let before = rules.try_clone(alloc)?;
+        let first = explained(alloc, &rules, &argument);
+        let again = explained(alloc, &rules, &argument)?;
+        let is_right = rules == before && again.as_slice() == self.verdicts;
+        Ok(match first {
+            Ok(first) => Ended::answered(is_right && first.as_slice() == self.verdicts),
+            Err(AllocError) => Ended::refused(is_right),
+        })
+    }
+}
+
+// The first rule is ambiguous, the second fits. Each list of positions of a match is a request.
+static EXPLAINED: Explaining = Explaining {
+    definition: "($($x:ident),* as $y:ident) => {}; ($($x:ident)*) => {}",
+    argument: "as u32",
+    verdicts: &[Verdict::Ambiguous(0), Verdict::OneReading],
+};
+
+#[test]
+fn each_request_of_verdicts_refused(rt: HostRuntime) -> Result<(), Fail> {
+    assert!(rt; refusals(rt.alloc(), &EXPLAINED).unwrap_or(0) > 2);
     Ok(())
 }

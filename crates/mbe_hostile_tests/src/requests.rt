@@ -3,7 +3,7 @@ use refusing::Refusing;
 use std::alloc::{AllocError, Allocator, Global};
 
 /// How a call ended.
-#[derive(Clone, Copy, Debug, PartialEq, Eq)]
+#[derive(Clone, Copy, PartialEq, Eq)]
 pub enum Ended {
     /// Out of memory, and what it was called on is as it was before.
     OutOfMemory,

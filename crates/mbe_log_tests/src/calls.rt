@@ -10,7 +10,7 @@ use mbe_tt::tt::TokenTreesView;
 use std::alloc::{AllocError, Allocator, Global};
 
 /// What a name is bound to.
-#[derive(Clone, Copy, Debug)]
+#[derive(Clone, Copy)]
 pub enum What {
     Tree,
     Nothing,
@@ -19,7 +19,7 @@ pub enum What {
 }
 
 /// A call, with handles and names by their places.
-#[derive(Clone, Copy, Debug)]
+#[derive(Clone, Copy)]
 pub enum Call {
     Alloc,
     Copy(usize),

@@ -7,4 +7,5 @@ mod calls;
 mod model;
 #[cfg(test)]
 mod tests;
-pub mod uses;
+#[cfg(test)]
+mod uses;

@@ -3,7 +3,7 @@ use crate::calls::{Call, What};
 use std::alloc::{AllocError, Global};
 
 // What an account holds, in the order of writing. A nested account is between an opening and a closing.
-#[derive(Clone, Copy, Debug)]
+#[derive(Clone, Copy)]
 enum Token {
     Bound(usize, What),
     Open,

@@ -107,7 +107,14 @@ pub fn first_text_misread(
     Ok(None)
 }
 
-static READ: [Row; 79] = [
+// A rule with every form of pattern and of template.
+const EVERY_FORM: &str =
+    "unsafe attr(x) ($a:ident $b:literal [c] 1 + $($d:expr),* $($e:ty)'f + $($g:tt)1? $(h)=>* \
+    $(i)* $(k)and* $crate) => {$a $j [c] 1 + $($d $e);* $($g)? ${ignore($a)} ${index()} ${len(1)} ${count($d)} ${count($e, 1)} \
+    ${concat(a, $a, 1)} $$ $crate $}";
+
+pub static READ: [Row; 80] = [
+    (EVERY_FORM, 1, Told::Nothing),
     // Rules have their parts.
     ("", 0, Told::Nothing),
     ("() => {}", 1, Told::Nothing),
@@ -195,12 +202,6 @@ static READ: [Row; 79] = [
     ("() => {};; ($x) => {}", 1, SUBTREE),
 ];
 
-#[test]
-fn definitions_are_read(rt: HostRuntime) -> Result<(), Fail> {
-    assert_eq!(rt; first_misread(rt.alloc(), &READ)?, None);
-    Ok(())
-}
-
 static EDITIONS: [Edition; 4] = [
     Edition::Edition2015,
     Edition::Edition2018,
@@ -247,15 +248,9 @@ fn specifiers_have_no_fault_in_any_edition(rt: HostRuntime) -> Result<(), Fail> 
     Ok(())
 }
 
-static UNKNOWN: Texts = (
+pub static UNKNOWN: [Texts; 1] = [(
     "() => {}; ($x:",
     ") => {}",
     &["Path", "tys", "expr2021", "expr_2024", "ident_", "tts"],
     (2, Told::Nothing),
-);
-
-#[test]
-fn unknown_specifiers_have_no_fault(rt: HostRuntime) -> Result<(), Fail> {
-    assert_eq!(rt; first_text_misread(rt.alloc(), &UNKNOWN)?, None);
-    Ok(())
-}
+)];

@@ -1,8 +1,5 @@
 // Metavariable expressions, `${..}`: which are read, and which are faults.
-use crate::definitions::{
-    EXPRESSION, MISSING_SPECIFIER, REPETITION, Row, Texts, Told, first_misread, first_text_misread,
-    is_read,
-};
+use crate::definitions::{EXPRESSION, MISSING_SPECIFIER, REPETITION, Row, Texts, Told, is_read};
 use crate::runs::parsed;
 use crate::tokens::Lexeme::{Alone, Close, Joint, Number, Open, Raw, Suffixed, Text, Word};
 use crate::tokens::{Lexeme, at};
@@ -15,7 +12,7 @@ use std::test::Fail;
 const INVALID: Told = Told::Unexpected("invalid metavariable expression");
 
 // Expressions of each form, and then invalid expressions, depths and elements.
-static TEXTS: [Texts; 4] = [
+pub static TEXTS: [Texts; 4] = [
     (
         "($x:ident) => { ${",
         "} }",
@@ -122,14 +119,6 @@ static TEXTS: [Texts; 4] = [
     ),
 ];
 
-#[test]
-fn expressions_are_read_or_invalid(rt: HostRuntime) -> Result<(), Fail> {
-    for texts in &TEXTS {
-        assert_eq!(rt; first_text_misread(rt.alloc(), texts)?, None);
-    }
-    Ok(())
-}
-
 // A call in an expression: its word, the kind of the group around its argument, the argument, and whether it is read.
 type Call = (Lexeme<'static>, DelimiterKind, Lexeme<'static>, bool);
 
@@ -190,7 +179,7 @@ fn depths_by_their_text(rt: HostRuntime) -> Result<(), Fail> {
     Ok(())
 }
 
-static READ: [Row; 13] = [
+pub static READ: [Row; 13] = [
     // Faults in reading order.
     ("() => {a [${len()}] ${index(0)} $x}", 1, Told::Nothing),
     ("() => {${len()}}; () => {${len(x)}}; () => {}", 1, INVALID),
@@ -207,9 +196,3 @@ static READ: [Row; 13] = [
     ("([a ${concat(a)}]) => {}", 0, EXPRESSION),
     ("(${len()}) => {${}}", 0, EXPRESSION),
 ];
-
-#[test]
-fn faults_of_expressions(rt: HostRuntime) -> Result<(), Fail> {
-    assert_eq!(rt; first_misread(rt.alloc(), &READ)?, None);
-    Ok(())
-}

@@ -1,8 +1,6 @@
 // Whole expansions: the first run, a struct with a map, and contexts that a marker sets.
 use crate::grammar::NOTHING;
-use crate::runs::{
-    Row, Want, assert_checked, defined, expanded, first_wrong, is_made, is_without_rule, whole,
-};
+use crate::runs::{Row, Want, assert_checked, defined, whole};
 use crate::tokens::Lexeme::{Alone, Close, Joint, Number, Open, Word};
 use crate::tokens::Token;
 use crate::trees::{built_in_contexts, lexed};
@@ -13,12 +11,12 @@ use std::alloc::Global;
 use std::process::Abort;
 use std::test::Fail;
 
-pub const PAIR: &str = "($x:ident = $t:tt;) => { pair ($t) $x }";
+const PAIR: &str = "($x:ident = $t:tt;) => { pair ($t) $x }";
 
-pub const PAIR_ARGUMENT: &str = "a = 1;";
+const PAIR_ARGUMENT: &str = "a = 1;";
 
 /// What the definition of the first run makes of its argument.
-pub const PAIR_MADE: Want = Some((
+const PAIR_MADE: Want = Some((
     0,
     &[
         (Word("pair"), 0, 25, 29),
@@ -31,7 +29,7 @@ pub const PAIR_MADE: Want = Some((
 
 const TWO_RULES: &str = "(a) => {A}; (b) => {B}";
 
-static EXPANDED: [Row; 6] = [
+pub static EXPANDED: [Row; 6] = [
     (PAIR, PAIR_ARGUMENT, PAIR_MADE),
     (
         "\n( struct $ident:ident ) => {\n    struct $ident {\n        map: ::std::collections::HashSet<()>,\n    }\n};\n",
@@ -76,12 +74,6 @@ static EXPANDED: [Row; 6] = [
         Some((1, &[(Word("a"), 1, 0, 1)])),
     ),
 ];
-
-#[test]
-fn whole_expansions(rt: HostRuntime) -> Result<(), Fail> {
-    assert_eq!(rt; first_wrong(rt.alloc(), &NOTHING, &EXPANDED)?, None);
-    Ok(())
-}
 
 // A definition, an argument, and the tokens that are made of it, each with the number of its context.
 type Marked = (&'static str, &'static str, &'static [(Token<'static>, u32)]);
@@ -142,41 +134,5 @@ fn what_a_template_writes_itself_is_marked(rt: HostRuntime) -> Result<(), Fail> 
     for row in &MARKED {
         assert!(rt; is_marked(&rt, rt.alloc(), row)?, "{}", row.0);
     }
-    Ok(())
-}
-
-// Calls for which there is no rule of their style.
-static NO_RULES: [(&str, &str, MacroCallStyle); 4] = [
-    ("($t:tt) => {$t}", "a", MacroCallStyle::Attr),
-    ("($t:tt) => {$t}", "a", MacroCallStyle::Derive),
-    ("", "", MacroCallStyle::FnLike),
-    ("attr() () => {A}; () => {B}", "", MacroCallStyle::Derive),
-];
-
-#[test]
-fn calls_without_a_rule(rt: HostRuntime) -> Result<(), Fail> {
-    for &(definition, argument, style) in &NO_RULES {
-        let rules = defined(rt.alloc(), definition)?;
-        assert!(rt; rules.err().is_none());
-        assert_checked(&rt, &rules);
-        let argument = lexed(rt.alloc(), 1, argument)?;
-        let expansion = expanded(rt.alloc(), &NOTHING, &rules, &argument, style)?;
-        let is_so = is_without_rule(rt.alloc(), &expansion, whole(&argument))?;
-        assert!(rt; is_so, "{definition}");
-    }
-    Ok(())
-}
-
-const FIRST: Want = Some((0, &[(Word("A"), 0, 8, 9)]));
-
-#[test]
-fn rules_before_a_fault_expand(rt: HostRuntime) -> Result<(), Fail> {
-    let rules = defined(rt.alloc(), "(a) => {A}; ($x) => {}")?;
-    let argument = lexed(rt.alloc(), 1, "a")?;
-    assert!(rt; rules.err().is_some());
-    assert_checked(&rt, &rules);
-    let style = MacroCallStyle::FnLike;
-    let expansion = expanded(rt.alloc(), &NOTHING, &rules, &argument, style)?;
-    assert!(rt; is_made(rt.alloc(), &expansion, whole(&argument), FIRST)?);
     Ok(())
 }

@@ -1,8 +1,6 @@
 // Which fragments a variable takes by a grammar that is handed in, and how they are written.
 use crate::grammar::{Counting, NoMemory, Numbered, number_of};
-use crate::runs::{
-    TreesRow, Want, assert_checked, defined, expanded, first_wrong_trees, makes, makes_of_texts,
-};
+use crate::runs::{TreesRow, Want, assert_checked, defined, expanded, makes, makes_of_texts};
 use crate::tokens::Lexeme::{Alone, Close, Float, Joint, Number, Open, Raw, Text, Word};
 use crate::tokens::{Lexeme, Token, at};
 use crate::trees::Trees::{Of, Tokens};
@@ -434,7 +432,7 @@ const GROUPED: &[Token<'static>] = &[
 const ARGUMENT: Trees = Tokens(3, GROUPED);
 
 // Only what the grammar took keeps an invisible group.
-static STRIPPED: [TreesRow; 9] = [
+pub static STRIPPED: [TreesRow; 9] = [
     (Of("($x:ty) => {$x}"), ARGUMENT, Some((0, GROUPED))),
     (Of("($x:pat) => {$x}"), ARGUMENT, Some((0, GROUPED))),
     (Of("($x:pat_param) => {$x}"), ARGUMENT, Some((0, GROUPED))),
@@ -450,18 +448,11 @@ static STRIPPED: [TreesRow; 9] = [
     ),
 ];
 
-static A_TEXT: [TreesRow; 1] = [(
+pub static A_TEXT: [TreesRow; 1] = [(
     Of(LITERAL),
     Tokens(5, &[(Text("a b"), 1, 0, 5)]),
     Some((0, &[(Text("a b"), 1, 0, 5)])),
 )];
-
-#[test]
-fn fragments_of_trees_that_no_text_gives(rt: HostRuntime) -> Result<(), Fail> {
-    assert_eq!(rt; first_wrong_trees(rt.alloc(), &taking(3), &STRIPPED)?, None);
-    assert_eq!(rt; first_wrong_trees(rt.alloc(), &taking(0), &A_TEXT)?, None);
-    Ok(())
-}
 
 // The first argument needs no grammar.
 #[test]

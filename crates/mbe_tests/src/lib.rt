@@ -22,8 +22,6 @@ mod macro2;
 #[cfg(test)]
 mod matching;
 #[cfg(test)]
-mod memory;
-#[cfg(test)]
 mod recovery;
 #[cfg(test)]
 mod refusals;
@@ -35,6 +33,8 @@ mod rounds;
 mod runs;
 #[cfg(test)]
 mod styles;
+#[cfg(test)]
+mod tables;
 #[cfg(test)]
 mod templates;
 #[cfg(test)]

@@ -1,7 +1,7 @@
 // Definitions by `macro`: rules in a body, or one rule of arguments and a body.
 use crate::definitions::{MISSING_SPECIFIER, PARENTHESES, REPETITION, Row, SUBTREE, Told, is_read};
 use crate::grammar::NOTHING;
-use crate::runs::{Want, assert_checked, expanded, is_without_rule, makes, whole};
+use crate::runs::{Want, answers, assert_checked, makes};
 use crate::tokens::Lexeme::{Alone, Close, Joint, Open, Word};
 use crate::trees::lexed;
 use mbe::{DeclarativeMacro, MacroCallStyle, MacroCallStyles};
@@ -92,15 +92,7 @@ fn arguments_and_a_body_are_one_rule(rt: HostRuntime) -> Result<(), Fail> {
     let rules = read(rt.alloc(), Some("attr $x:ident"), "[$x] => {}")?;
     assert!(rt; rules.num_rules() == 1 && rules.rule_styles() == MacroCallStyles::FN_LIKE);
     assert_checked(&rt, &rules);
-    let argument = lexed(rt.alloc(), 1, "attr b")?;
-    let expansion = expanded(
-        rt.alloc(),
-        &NOTHING,
-        &rules,
-        &argument,
-        MacroCallStyle::Attr,
-    )?;
-    assert!(rt; is_without_rule(rt.alloc(), &expansion, whole(&argument))?);
+    assert!(rt; answers(rt.alloc(), &rules, ("attr b", MacroCallStyle::Attr), None)?);
     Ok(())
 }
 

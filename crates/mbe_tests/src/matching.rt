@@ -1,6 +1,6 @@
 // Which arguments a pattern fits, and what its variables take.
 use crate::grammar::NOTHING;
-use crate::runs::{Row, TreesRow, Want, first_wrong, first_wrong_trees, makes_of_texts};
+use crate::runs::{Row, TreesRow, Want, makes_of_texts};
 use crate::tokens::Lexeme::{Alone, Close, Float, Joint, Open, Raw, Text, Word};
 use crate::trees::Trees;
 use crate::trees::Trees::{Of, Tokens};
@@ -10,7 +10,7 @@ use std::test::Fail;
 
 const EMPTY: Want = Some((0, &[]));
 
-static LEAVES: [Row; 8] = [
+pub static LEAVES: [Row; 8] = [
     ("(1) => {}", "2", None),
     ("(1) => {}", "a", None),
     ("(foo) => {}", "fo", None),
@@ -24,7 +24,7 @@ static LEAVES: [Row; 8] = [
 // A sign and a float are two tokens.
 const SIGNED: &str = "(- 3.0) => {- 3.0}";
 
-static SIGNS: [Row; 7] = [
+pub static SIGNS: [Row; 7] = [
     (
         SIGNED,
         "-3.0",
@@ -44,7 +44,7 @@ static SIGNS: [Row; 7] = [
 
 const GROUP: &str = "([a]) => {A}";
 
-static GROUPS: [Row; 9] = [
+pub static GROUPS: [Row; 9] = [
     (GROUP, "[a]", Some((0, &[(Word("A"), 0, 10, 11)]))),
     (GROUP, "(a)", None),
     (GROUP, "{a}", None),
@@ -56,7 +56,7 @@ static GROUPS: [Row; 9] = [
     (GROUP, "[a] [a]", None),
 ];
 
-static NOT_WHOLE: [Row; 12] = [
+pub static NOT_WHOLE: [Row; 12] = [
     ("() => {}", "a", None),
     ("() => {}", "()", None),
     ("(a) => {}", "a b", None),
@@ -72,7 +72,7 @@ static NOT_WHOLE: [Row; 12] = [
 ];
 
 // Puncts fit where they are together.
-static PUNCTS: [Row; 11] = [
+pub static PUNCTS: [Row; 11] = [
     ("(->) => {}", "->", Some((0, &[]))),
     ("(- >) => {}", "- >", Some((0, &[]))),
     ("(..=) => {}", "..=", Some((0, &[]))),
@@ -86,19 +86,10 @@ static PUNCTS: [Row; 11] = [
     ("(-) => {}", "->", None),
 ];
 
-#[test]
-fn tokens_and_groups_fit_their_like(rt: HostRuntime) -> Result<(), Fail> {
-    let tables: [&[Row]; 5] = [&LEAVES, &SIGNS, &GROUPS, &NOT_WHOLE, &PUNCTS];
-    for rows in tables {
-        assert_eq!(rt; first_wrong(rt.alloc(), &NOTHING, rows)?, None);
-    }
-    Ok(())
-}
-
 const TT: &str = "($t:tt) => {$t}";
 
 // Puncts that are together are one tree.
-static GLUED: [Row; 6] = [
+pub static GLUED: [Row; 6] = [
     (
         TT,
         "->",
@@ -137,7 +128,7 @@ static GLUED: [Row; 6] = [
     ),
 ];
 
-static LIFETIMES: [Row; 8] = [
+pub static LIFETIMES: [Row; 8] = [
     (
         TT,
         "'a",
@@ -156,7 +147,7 @@ static LIFETIMES: [Row; 8] = [
     ("($t:tt $u:tt) => {}", "'a", None),
 ];
 
-static ONE_TREE: [Row; 2] = [
+pub static ONE_TREE: [Row; 2] = [
     (TT, "_", Some((0, &[(Word("_"), 1, 0, 1)]))),
     (
         TT,
@@ -179,7 +170,7 @@ static ONE_TREE: [Row; 2] = [
 const IDENT: &str = "($x:ident) => {$x}";
 
 // An unknown specifier fits nothing.
-static IDENTS: [Row; 10] = [
+pub static IDENTS: [Row; 10] = [
     (IDENT, "__", Some((0, &[(Word("__"), 1, 0, 2)]))),
     (IDENT, "_", None),
     (IDENT, "1", None),
@@ -192,15 +183,6 @@ static IDENTS: [Row; 10] = [
     ("($x:foo) => {}", "(a)", None),
 ];
 
-#[test]
-fn variables_take_one_tree(rt: HostRuntime) -> Result<(), Fail> {
-    let tables: [&[Row]; 4] = [&GLUED, &LIFETIMES, &ONE_TREE, &IDENTS];
-    for rows in tables {
-        assert_eq!(rt; first_wrong(rt.alloc(), &NOTHING, rows)?, None);
-    }
-    Ok(())
-}
-
 // A word in an invisible group.
 const GROUPED: Trees = Tokens(
     10,
@@ -211,7 +193,7 @@ const GROUPED: Trees = Tokens(
     ],
 );
 
-static OF_TREES: [TreesRow; 10] = [
+pub static OF_TREES: [TreesRow; 10] = [
     // Leaves fit by their texts.
     (
         Of("(1) => {}"),
@@ -265,12 +247,6 @@ static OF_TREES: [TreesRow; 10] = [
         Some((0, &[(Raw("b"), 1, 0, 3)])),
     ),
 ];
-
-#[test]
-fn trees_that_no_text_gives_are_matched(rt: HostRuntime) -> Result<(), Fail> {
-    assert_eq!(rt; first_wrong_trees(rt.alloc(), &NOTHING, &OF_TREES)?, None);
-    Ok(())
-}
 
 // So many groups in one another, with a word in the innermost one.
 fn nested(alloc: Global, depth: usize) -> Result<String, AllocError> {

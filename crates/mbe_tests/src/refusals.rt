@@ -1,13 +1,11 @@
 // Repetitions without separator that can read nothing.
-use crate::definitions::{
-    MISSING_SPECIFIER, REPETITION, Row, Texts, Told, first_misread, first_text_misread, is_read,
-};
+use crate::definitions::{MISSING_SPECIFIER, REPETITION, Row, Texts, Told, is_read};
 use crate::macro2::read;
 use mbe::MacroCallStyles;
 use std::test::Fail;
 
 // Repetitions that can read nothing are refused, those that read something pass.
-static TEXTS: [Texts; 2] = [
+pub static TEXTS: [Texts; 2] = [
     (
         "",
         "",
@@ -45,15 +43,8 @@ static TEXTS: [Texts; 2] = [
     ),
 ];
 
-#[test]
-fn repetitions_that_can_read_nothing_are_refused(rt: HostRuntime) -> Result<(), Fail> {
-    for texts in &TEXTS {
-        assert_eq!(rt; first_text_misread(rt.alloc(), texts)?, None);
-    }
-    Ok(())
-}
-
-static OVER_FAULTS: [Row; 5] = [
+// A refusal is reported over any fault.
+pub static OVER_FAULTS: [Row; 5] = [
     ("() => {}; ($()*) => {}; () => {}", 3, Told::EmptyRepetition),
     ("($()*) => {}; ($x) => {}", 1, Told::EmptyRepetition),
     ("($()*) => {} () => {}", 1, Told::EmptyRepetition),
@@ -61,12 +52,6 @@ static OVER_FAULTS: [Row; 5] = [
     ("() => {}; ($()* $x) => {}", 1, MISSING_SPECIFIER),
     ("($()*) => {$[a]}", 0, REPETITION),
 ];
-
-#[test]
-fn a_refusal_is_reported_over_any_fault(rt: HostRuntime) -> Result<(), Fail> {
-    assert_eq!(rt; first_misread(rt.alloc(), &OVER_FAULTS)?, None);
-    Ok(())
-}
 
 // Arguments and a body, and the style of what is refused of them.
 static MACROS: [(Option<&str>, &str, MacroCallStyles); 2] = [

@@ -1,7 +1,6 @@
 // Repetitions of definitions: what separates their rounds, how often they go round, and their faults.
 use crate::definitions::{
-    DOLLARS, EXPRESSION, IDENT, MISSING_SPECIFIER, REPETITION, Row, Texts, Told, first_misread,
-    first_text_misread, is_text_read,
+    DOLLARS, EXPRESSION, IDENT, MISSING_SPECIFIER, REPETITION, Row, Texts, Told, is_text_read,
 };
 use std::alloc::{AllocError, Global};
 use std::test::Fail;
@@ -35,7 +34,7 @@ const INVALID_SUFFIXES: &[&str] = &[
 ];
 
 // Invalid suffixes in a pattern, and in a template; and bodies.
-static TEXTS: [Texts; 3] = [
+pub static TEXTS: [Texts; 3] = [
     (
         "() => {}; ($(a)",
         ") => {}",
@@ -63,15 +62,7 @@ static TEXTS: [Texts; 3] = [
     ),
 ];
 
-#[test]
-fn invalid_suffixes_and_bodies_of_repetitions(rt: HostRuntime) -> Result<(), Fail> {
-    for texts in &TEXTS {
-        assert_eq!(rt; first_text_misread(rt.alloc(), texts)?, None);
-    }
-    Ok(())
-}
-
-static READ: [Row; 20] = [
+pub static READ: [Row; 20] = [
     // A repetition that is refused keeps the rules before it.
     ("($(a)) => {}", 0, Told::InvalidRepeat),
     ("($($x)) => {}", 0, Told::InvalidRepeat),
@@ -95,9 +86,3 @@ static READ: [Row; 20] = [
     ("() => {$(a $1)* $[a]}", 0, IDENT),
     ("($(a)) => {$[a]}", 0, Told::InvalidRepeat),
 ];
-
-#[test]
-fn faults_of_repetitions(rt: HostRuntime) -> Result<(), Fail> {
-    assert_eq!(rt; first_misread(rt.alloc(), &READ)?, None);
-    Ok(())
-}

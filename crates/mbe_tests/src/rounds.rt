@@ -1,12 +1,10 @@
 // Groups that no text shows, in patterns and in rounds.
-use crate::fragments::taking;
-use crate::runs::{TreesRow, first_wrong_trees};
+use crate::runs::TreesRow;
 use crate::tokens::Lexeme::{Alone, Close, Joint, Open, Word};
 use crate::tokens::Token;
 use crate::trees::Trees;
 use crate::trees::Trees::{Of, Tokens};
 use mbe_tt::tt::DelimiterKind::{Brace, Invisible, Parenthesis};
-use std::test::Fail;
 
 // The identifier `a` in an invisible group.
 const GROUPED: &[Token<'static>] = &[
@@ -36,7 +34,7 @@ const INVISIBLE: Trees = Tokens(
     ],
 );
 
-static OF_ONE: [TreesRow; 2] = [
+pub static OF_ONE: [TreesRow; 2] = [
     (
         INVISIBLE,
         Tokens(3, GROUPED),
@@ -46,14 +44,14 @@ static OF_ONE: [TreesRow; 2] = [
 ];
 
 // The statement is written as it is, in a round of its own.
-static OF_THREE: [TreesRow; 1] = [(
+pub static OF_THREE: [TreesRow; 1] = [(
     Of("($($s:stmt);*) => {$($s);*}"),
     Tokens(3, GROUPED),
     Some((0, GROUPED)),
 )];
 
 // An expression of words is put in parentheses.
-static OF_NINE: [TreesRow; 1] = [(
+pub static OF_NINE: [TreesRow; 1] = [(
     Of("($e:expr) => {$e}"),
     Of("a b"),
     Some((
@@ -66,16 +64,3 @@ static OF_NINE: [TreesRow; 1] = [(
         ],
     )),
 )];
-
-#[test]
-fn invisible_groups_are_entered_and_kept(rt: HostRuntime) -> Result<(), Fail> {
-    let tables: [(usize, &[TreesRow]); 3] = [(1, &OF_ONE), (3, &OF_THREE), (9, &OF_NINE)];
-    for (count, rows) in tables {
-        assert_eq!(rt;
-            first_wrong_trees(rt.alloc(), &taking(count), rows)?,
-            None,
-            "{count}"
-        );
-    }
-    Ok(())
-}

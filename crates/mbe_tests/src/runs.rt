@@ -2,6 +2,7 @@
 ghost use Rattle.mbe.specs.Macro.{IsChecked};
 ghost use Rattle.mbe.specs.MacroViews.{macro_of};
 
+use crate::grammar::NOTHING;
 use crate::tokens::{Token, at};
 use crate::trees::{Trees, built, lexed};
 use mbe::{
@@ -161,8 +162,8 @@ pub fn first_wrong_trees<G: FragmentGrammar>(
     Ok(None)
 }
 
-/// Whether the expansion is that of a call from there for which there is no rule of its style.
-pub fn is_without_rule(
+// Whether the expansion is that of a call from there for which there is no rule of its style.
+fn is_without_rule(
     alloc: Global,
     expansion: &Expansion<Global>,
     call_site: Span,
@@ -173,6 +174,27 @@ pub fn is_without_rule(
     };
     let empty = TopSubtree::empty(alloc, DelimSpan::from_single(call_site))?;
     Ok(expansion.err == Some(error) && index.is_none() && *tree == empty)
+}
+
+/// The index of a rule and the tokens that it writes. Nothing where there is no rule of the call's style.
+pub type Called = Option<(u32, &'static [Token<'static>])>;
+
+/// Whether a call with an argument, in a style, makes that. The grammar faults on everything.
+pub fn answers(
+    alloc: Global,
+    rules: &DeclarativeMacro,
+    call: (&str, MacroCallStyle),
+    want: Called,
+) -> Result<bool, AllocError>
+    requires { IsChecked (macro_of rules.now) }
+{
+    let argument = lexed(alloc, 1, call.0)?;
+    let expansion = expanded(alloc, &NOTHING, rules, &argument, call.1)?;
+    let call_site = whole(&argument);
+    match want {
+        None => is_without_rule(alloc, &expansion, call_site),
+        Some(_) => is_made(alloc, &expansion, call_site, want),
+    }
 }
 
 /// The rule of an index doesn't apply: what is recovered, and the text of the error beside it with its bytes of the argument.

@@ -1,12 +1,9 @@
 // Styles of rules, and sets of styles.
-use crate::definitions::{EQUALS, PARENTHESES, Row, SUBTREE, Told, first_misread, is_read};
-use crate::grammar::NOTHING;
-use crate::runs::{
-    Want, assert_checked, defined, expanded, is_made, is_without_rule, parsed, whole,
-};
+use crate::definitions::{EQUALS, PARENTHESES, Row, SUBTREE, Told, is_read};
+use crate::runs::{Called, answers, assert_checked, defined, parsed};
 use crate::tokens::Lexeme::{Alone, Close, Joint, Open, Raw, Word};
 use crate::tokens::{Token, at};
-use crate::trees::{built, lexed};
+use crate::trees::built;
 use bitflags::Flags;
 use mbe::{DeclarativeMacro, MacroCallStyle, MacroCallStyles, ParseError};
 use mbe_tt::tt::DelimiterKind::{Brace, Parenthesis};
@@ -17,35 +14,50 @@ const TWO_STYLES: &str = "attr() () => {A}; () => {B}";
 
 const THREE_RULES: &str = "() => {A}; unsafe derive[x] () => {B}; derive() () => {C}";
 
-// A definition, the style of the call, and what is made of an empty argument.
-static CALLS: [(&str, MacroCallStyle, Want); 3] = [
+// A definition and whether it has a fault, the argument of a call and its style, and what is made of it.
+static CALLS: [((&str, bool), (&str, MacroCallStyle), Called); 8] = [
     (
-        TWO_STYLES,
-        MacroCallStyle::FnLike,
+        (TWO_STYLES, false),
+        ("", MacroCallStyle::FnLike),
         Some((1, &[(Word("B"), 0, 25, 26)])),
     ),
     (
-        TWO_STYLES,
-        MacroCallStyle::Attr,
+        (TWO_STYLES, false),
+        ("", MacroCallStyle::Attr),
         Some((0, &[(Word("A"), 0, 14, 15)])),
     ),
     (
-        THREE_RULES,
-        MacroCallStyle::Derive,
+        (THREE_RULES, false),
+        ("", MacroCallStyle::Derive),
         Some((1, &[(Word("B"), 0, 35, 36)])),
+    ),
+    (
+        ("($t:tt) => {$t}", false),
+        ("a", MacroCallStyle::Attr),
+        None,
+    ),
+    (
+        ("($t:tt) => {$t}", false),
+        ("a", MacroCallStyle::Derive),
+        None,
+    ),
+    (("", false), ("", MacroCallStyle::FnLike), None),
+    ((TWO_STYLES, false), ("", MacroCallStyle::Derive), None),
+    // The rules before a fault expand.
+    (
+        ("(a) => {A}; ($x) => {}", true),
+        ("a", MacroCallStyle::FnLike),
+        Some((0, &[(Word("A"), 0, 8, 9)])),
     ),
 ];
 
 #[test]
 fn rules_of_another_style_are_passed_over(rt: HostRuntime) -> Result<(), Fail> {
-    let argument = lexed(rt.alloc(), 1, "")?;
-    for &(definition, style, want) in &CALLS {
+    for &((definition, has_fault), call, want) in &CALLS {
         let rules = defined(rt.alloc(), definition)?;
-        assert!(rt; rules.err().is_none());
+        assert!(rt; rules.err().is_some() == has_fault, "{definition}");
         assert_checked(&rt, &rules);
-        let expansion = expanded(rt.alloc(), &NOTHING, &rules, &argument, style)?;
-        let is_so = is_made(rt.alloc(), &expansion, whole(&argument), want)?;
-        assert!(rt; is_so, "{definition}");
+        assert!(rt; answers(rt.alloc(), &rules, call, want)?, "{definition}");
     }
     Ok(())
 }
@@ -75,7 +87,7 @@ fn styles_of_a_definition_are_those_of_its_rules(rt: HostRuntime) -> Result<(), 
     Ok(())
 }
 
-static GROUPS: [Row; 13] = [
+pub static GROUPS: [Row; 13] = [
     ("attr => {}", 0, PARENTHESES),
     ("derive => {}", 0, PARENTHESES),
     ("unsafe attr", 0, PARENTHESES),
@@ -90,12 +102,6 @@ static GROUPS: [Row; 13] = [
     ("attr() {}", 0, EQUALS),
     ("unsafe attr() () => {}", 1, Told::Nothing),
 ];
-
-#[test]
-fn a_style_has_a_group(rt: HostRuntime) -> Result<(), Fail> {
-    assert_eq!(rt; first_misread(rt.alloc(), &GROUPS)?, None);
-    Ok(())
-}
 
 // `r#unsafe r#attr() () => {}`, with any spans.
 static RAW_WORDS: [Token<'static>; 10] = [
@@ -123,18 +129,9 @@ fn raw_words_count_as_well(rt: HostRuntime) -> Result<(), Fail> {
 #[test]
 fn macro_of_an_error(rt: HostRuntime) -> Result<(), Fail> {
     let rules = DeclarativeMacro::from_err(rt.alloc(), ParseError::InvalidRepeat);
-    let want = (0, Told::InvalidRepeat);
-    assert!(rt; is_read(rt.alloc(), &rules, want)?);
-    assert!(rt; rules.rule_styles() == MacroCallStyles::FN_LIKE);
-    let argument = lexed(rt.alloc(), 1, "a")?;
-    let expansion = expanded(
-        rt.alloc(),
-        &NOTHING,
-        &rules,
-        &argument,
-        MacroCallStyle::FnLike,
-    )?;
-    assert!(rt; is_without_rule(rt.alloc(), &expansion, whole(&argument))?);
+    let is_so = is_read(rt.alloc(), &rules, (0, Told::InvalidRepeat))?;
+    assert!(rt; is_so && rules.rule_styles() == MacroCallStyles::FN_LIKE);
+    assert!(rt; answers(rt.alloc(), &rules, ("a", MacroCallStyle::FnLike), None)?);
     Ok(())
 }
 
@@ -142,15 +139,7 @@ fn macro_of_an_error(rt: HostRuntime) -> Result<(), Fail> {
 #[test]
 fn macro_of_a_refusal_has_no_rule(rt: HostRuntime) -> Result<(), Fail> {
     let rules = DeclarativeMacro::from_err(rt.alloc(), ParseError::RepetitionEmptyTokenTree);
-    let argument = lexed(rt.alloc(), 1, "")?;
-    let expansion = expanded(
-        rt.alloc(),
-        &NOTHING,
-        &rules,
-        &argument,
-        MacroCallStyle::Attr,
-    )?;
-    assert!(rt; is_without_rule(rt.alloc(), &expansion, whole(&argument))?);
+    assert!(rt; answers(rt.alloc(), &rules, ("", MacroCallStyle::Attr), None)?);
     Ok(())
 }
 

@@ -1,13 +1,11 @@
 // What a template writes, and what a `$` stands for.
-use crate::grammar::NOTHING;
-use crate::runs::{Row, TreesRow, first_wrong, first_wrong_trees};
+use crate::runs::{Row, TreesRow};
 use crate::tokens::Lexeme::{Alone, Close, Joint, Number, Open, Raw, Text, Word};
 use crate::trees::Trees::{Of, Tokens};
 use mbe_tt::tt::DelimiterKind::{Brace, Bracket, Parenthesis};
-use std::test::Fail;
 
 // Unbound names are written back, and the last binding of a name is written.
-static NAMES: [Row; 4] = [
+pub static NAMES: [Row; 4] = [
     (
         "\n() => { { }\n",
         "",
@@ -31,7 +29,7 @@ static NAMES: [Row; 4] = [
 ];
 
 // Two dollars write the second, and the last dollar is a punct.
-static DOLLARS: [Row; 12] = [
+pub static DOLLARS: [Row; 12] = [
     (
         "() => {$crate}",
         "",
@@ -71,7 +69,7 @@ static DOLLARS: [Row; 12] = [
 ];
 
 // Metavariable expressions are written, and rounds without an end are a fault.
-static EXPRESSIONS: [Row; 6] = [
+pub static EXPRESSIONS: [Row; 6] = [
     (
         "($true:tt $false:ident) => {$false $true}",
         "+ b",
@@ -96,17 +94,8 @@ static EXPRESSIONS: [Row; 6] = [
     ("($x:ident) => {$($x)*}", "a", None),
 ];
 
-#[test]
-fn templates_are_written(rt: HostRuntime) -> Result<(), Fail> {
-    let tables: [&[Row]; 3] = [&NAMES, &DOLLARS, &EXPRESSIONS];
-    for rows in tables {
-        assert_eq!(rt; first_wrong(rt.alloc(), &NOTHING, rows)?, None);
-    }
-    Ok(())
-}
-
 // Groups that are open at the end are closed there.
-static OF_TREES: [TreesRow; 5] = [
+pub static OF_TREES: [TreesRow; 5] = [
     // `() => {$r#y}`
     (
         Tokens(
@@ -200,9 +189,3 @@ static OF_TREES: [TreesRow; 5] = [
         )),
     ),
 ];
-
-#[test]
-fn templates_that_no_text_gives_are_written(rt: HostRuntime) -> Result<(), Fail> {
-    assert_eq!(rt; first_wrong_trees(rt.alloc(), &NOTHING, &OF_TREES)?, None);
-    Ok(())
-}
