@@ -10,8 +10,7 @@ use Rattle.mbe_tt.specs.declared.entry.Entry.TheVariants as e
 use Rattle.mbe_tt.specs.declared.tt.DelimiterKind.{DelimiterKind}
 use Rattle.mbe_tt.specs.declared.tt.DelimiterKind.TheVariants.{Invisible, Parenthesis, Brace, Bracket}
 use Rattle.mbe_tt.proofs.Buffers.Seen.{length-shown, shown_append}
-use Rattle.mbe_tt.specs.Views.Entry.{Entry, Leaf, Open, Close}
-use Rattle.mbe_tt.specs.declared.tt.Delimiter.{Delimiter}
+use Rattle.mbe_tt.specs.Views.Entry.{Entry, Open, Close}
 use Rattle.mbe_tt.specs.declared.tt.Subtree.{Subtree}
 use Rattle.mbe_tt.proofs.Buffers.Spelled.{length-spell}
 use Rattle.mbe_tt.proofs.Places.Last.{further, from_zero, past_group, last_of, last_invisible-at, spell_last, group_end}

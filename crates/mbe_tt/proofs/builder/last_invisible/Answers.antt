@@ -1,5 +1,4 @@
-use Rattle.std.proofs.Common.{◌≡◌, ℕ, ◌+◌, ap, sym, ◌∙◌, arith, length, length-append, [], ◌∷◌, drop}
-use Rattle.mbe_tt.specs.Views.Shown.{entries_of}
+use Rattle.std.proofs.Common.{◌≡◌, ◌+◌, ap, sym, ◌∙◌, arith, length, length-append, [], ◌∷◌}
 use Rattle.mbe_tt.specs.declared.entry.Entry.{Entry}
 use Rattle.mbe_tt.proofs.Places.Ending.{leaf_ending, group_ending, place_of_invisible, no_place_of_visible}
 use Rattle.mbe_tt.proofs.builder.last_invisible.Goals as goal
@@ -20,8 +19,8 @@ returns-in-Some g c =
       length-append c.in_ok-last.front.now (c.in_ok-last.last.now ∷ []),
     ) in
     let here = group_ending c.args.entries.now c.in-Some-Open-default._content.now c.in-Some.place c.in-Some-Open-default.inside
-        c.in-Some-Open-default.subtree c.requires (sym c.split_at.ensures.back ∙ (c.in-Some-Open-default.ensures.cases.0
-        ∙ ap (λ (x : Entry _). x ∷ c.in-Some-Open-default._content.now) c.in-Some-Open-default.field-0-0-is)) sum in
+    c.in-Some-Open-default.subtree c.requires (sym c.split_at.ensures.back ∙ (c.in-Some-Open-default.ensures.cases.0
+    ∙ ap (λ (x : Entry _). x ∷ c.in-Some-Open-default._content.now) c.in-Some-Open-default.field-0-0-is)) sum in
     elim c.match-subtree.branch [
       | in-Invisible w ↦ w.result-is ∙ (place_of_invisible _ c.in-Some.place w.in-Invisible.is ∙ sym here)
       | in_default-kind w ↦ w.result-is ∙ (no_place_of_visible _ c.in-Some.place w.in_default-kind.not-Invisible ∙ sym here)
