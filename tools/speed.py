@@ -1,13 +1,16 @@
 #!/usr/bin/env python3
 """Measures `mbex` beside the original. Outside the gate, from any folder:
 
-    python3 tools/speed.py MBEX ORIGINAL [--case WORD].. [--size N].. [--requests]
+    python3 tools/speed.py MBEX ORIGINAL [--case WORD].. [--size N].. [--requests | --reading]
 
 MBEX is the program that `rt run` leaves in crates/mbex/out, ORIGINAL a program with the same face over the Rust crate. Each run
 lexes both texts, reads the definition, expands, and prints. It writes a table in Markdown: for each case and size the
 instructions a token of either program (valgrind's callgrind, which repeats, whatever else the machine does), their ratio, and
 the bytes of memory a token at the peak, above what the program takes for an empty argument. A token is a flat token of both texts
 together. With --requests a column more counts requests for memory of either. Both programs must print the same.
+
+With --reading the table is of reading a definition alone, with checking and dropping it: a run in which no rule has the style of the
+call, so that none is matched, less a run that only lexes the same text. A token is a flat token of the pattern.
 """
 import argparse
 import os
@@ -95,6 +98,18 @@ CASES = {
 }
 
 
+# Patterns for reading alone.
+PATTERNS = {
+    "words": lambda n: " ".join(words(n)),
+    "words, every tenth a variable": lambda n: " ".join(f"$x{i}:ident" if i % 10 == 0 else f"t{i % 53}" for i in range(n * 10 // 13)),
+    "literals": lambda n: " ".join(str(i % 97) for i in range(n)),
+    "puncts": lambda n: " ".join("+ - *".split()[i % 3] for i in range(n)),
+    "`$x:ty;` again and again": lambda n: " ".join(f"$x{i}:ty;" for i in range(n // 5)),
+    "`$($x:ident = $y:tt),*;` again and again": lambda n: " ".join(f"$($x{i}:ident = $y{i}:tt),*;" for i in range(n // 14)),
+    "groups 100 deep": lambda n: " ".join("( " * 100 + ") " * 100 for _ in range(max(1, n // 200))),
+}
+
+
 def flat_tokens(text):
     """Words, and each other char but spaces; a `$` before a word is one of its own."""
     return len(re.findall(r"\w+|[^\w\s]", text))
@@ -120,6 +135,32 @@ def printed(command):
     return subprocess.run(command, capture_output=True, check=False).stdout
 
 
+def readings(both, sizes):
+    """The table of reading alone: instructions and memory of reading a pattern, a token of it."""
+    folder = tempfile.mkdtemp()
+
+    def run(program, rule, argument):
+        for name, text in (("def", rule), ("arg", argument)):
+            with open(f"{folder}/{name}", "w", encoding="utf-8") as it:
+                it.write(text)
+        command = [program, f"{folder}/def", f"{folder}/arg"]
+        return instructions(command), peak(command)
+
+    print("| Pattern | Size | Instructions a token of reading | Original's | Ratio | Bytes a token of reading | Original's |")
+    print("|---|---|---|---|---|---|---|")
+    for name, make in PATTERNS.items():
+        for size in sizes:
+            pattern = make(size)
+            rule = f"attr() ({pattern}) => {{}}"
+            taken = []
+            for program in both:
+                whole, lexed = run(program, rule, "zzz"), run(program, "() => {}", rule)
+                taken.append([(more - less) / flat_tokens(pattern) for more, less in zip(whole, lexed)])
+            (ours, bytes_ours), (others, bytes_others) = taken
+            row = [name, f"{size:,}", f"{ours:,.0f}", f"{others:,.0f}", f"{ours / others:.2f}", f"{bytes_ours:,.0f}", f"{bytes_others:,.0f}"]
+            print("| " + " | ".join(row) + " |", flush=True)
+
+
 def main():
     parser = argparse.ArgumentParser()
     parser.add_argument("mbex")
@@ -127,8 +168,12 @@ def main():
     parser.add_argument("--case", action="append")
     parser.add_argument("--size", action="append", type=int)
     parser.add_argument("--requests", action="store_true")
+    parser.add_argument("--reading", action="store_true")
     asked = parser.parse_args()
     both = [os.path.abspath(asked.mbex), os.path.abspath(asked.original)]
+    if asked.reading:
+        readings(both, asked.size or SIZES)
+        return
     folder = tempfile.mkdtemp()
 
     def files(rule, argument):
