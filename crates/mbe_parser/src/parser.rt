@@ -54,7 +54,7 @@ pub fn parse_template<A: Allocator + Copy, E: Copy + Fn(SyntaxContext) -> Editio
         (mode_of mode) f src.entry)) }
 {
     let mut src = src;
-    let mut ops = Vec::with_capacity(alloc, src.remaining().len())?;
+    let mut ops = Vec::with_capacity(alloc, room(src.remaining().iter(), mode))?;
     'trees: while let Some(peeked) = src.peek() {
         // Words and literals are pushed here: by way of `next_op` their ops would be moved twice.
         match peeked {
@@ -73,6 +73,28 @@ pub fn parse_template<A: Allocator + Copy, E: Copy + Fn(SyntaxContext) -> Editio
         }
     }
     Ok(MetaTemplate(fitted(alloc, ops)?))
+}
+
+// How many ops the trees make, as a rule: in a pattern a `$` takes its name or its round, and two trees after it, in a
+// template the next one. Where there are more, the list grows.
+fn room<A: Allocator>(trees: TtIter<'_, A>, mode: Mode) -> usize {
+    let taken = match mode {
+        Mode::Pattern => 3,
+        Mode::Template => 1,
+    };
+    let mut count = 0usize;
+    let mut skipped = 0;
+    'trees: for tree in trees {
+        if skipped > 0 {
+            skipped -= 1;
+        } else {
+            count = count.saturating_add(1);
+            if matches!(tree, TtElement::Leaf(Leaf::Punct(punct)) if punct.char == '$') {
+                skipped = taken;
+            }
+        }
+    }
+    count
 }
 
 // The ops in a block of their size, where the one they are in has room for more than half as many again: there may be fewer
@@ -329,9 +351,14 @@ fn fragment_kind<A: Allocator, E: Copy + Fn(SyntaxContext) -> Edition>(
     requires { MayAsk (E.pre edition) }
     ensures { Specifies (E.post edition) (ident_of specifier.now) result }
 {
+    // The commonest come first: each text is one comparison more for those after it.
     Some(match specifier.sym.as_str() {
-        "path" => MetaVarKind::Path,
+        "ident" => MetaVarKind::Ident,
+        "expr" => expr_kind(edition, specifier.span.ctx),
+        "tt" => MetaVarKind::Tt,
         "ty" => MetaVarKind::Ty,
+        "literal" => MetaVarKind::Literal,
+        "path" => MetaVarKind::Path,
         "pat" => pat_kind(edition, specifier.span.ctx),
         "pat_param" => MetaVarKind::PatParam,
         "stmt" => MetaVarKind::Stmt,
@@ -339,12 +366,8 @@ fn fragment_kind<A: Allocator, E: Copy + Fn(SyntaxContext) -> Edition>(
         "meta" => MetaVarKind::Meta,
         "item" => MetaVarKind::Item,
         "vis" => MetaVarKind::Vis,
-        "expr" => expr_kind(edition, specifier.span.ctx),
         "expr_2021" => MetaVarKind::Expr(ExprKind::Expr2021),
-        "ident" => MetaVarKind::Ident,
-        "tt" => MetaVarKind::Tt,
         "lifetime" => MetaVarKind::Lifetime,
-        "literal" => MetaVarKind::Literal,
         _ => return None,
     })
 }
