@@ -329,9 +329,14 @@ fn fragment_kind<A: Allocator, E: Copy + Fn(SyntaxContext) -> Edition>(
     requires { MayAsk (E.pre edition) }
     ensures { Specifies (E.post edition) (ident_of specifier.now) result }
 {
+    // The commonest come first: each text is one comparison more for those after it.
     Some(match specifier.sym.as_str() {
-        "path" => MetaVarKind::Path,
+        "ident" => MetaVarKind::Ident,
+        "expr" => expr_kind(edition, specifier.span.ctx),
+        "tt" => MetaVarKind::Tt,
         "ty" => MetaVarKind::Ty,
+        "literal" => MetaVarKind::Literal,
+        "path" => MetaVarKind::Path,
         "pat" => pat_kind(edition, specifier.span.ctx),
         "pat_param" => MetaVarKind::PatParam,
         "stmt" => MetaVarKind::Stmt,
@@ -339,12 +344,8 @@ fn fragment_kind<A: Allocator, E: Copy + Fn(SyntaxContext) -> Edition>(
         "meta" => MetaVarKind::Meta,
         "item" => MetaVarKind::Item,
         "vis" => MetaVarKind::Vis,
-        "expr" => expr_kind(edition, specifier.span.ctx),
         "expr_2021" => MetaVarKind::Expr(ExprKind::Expr2021),
-        "ident" => MetaVarKind::Ident,
-        "tt" => MetaVarKind::Tt,
         "lifetime" => MetaVarKind::Lifetime,
-        "literal" => MetaVarKind::Literal,
         _ => return None,
     })
 }

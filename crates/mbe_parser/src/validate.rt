@@ -1,5 +1,5 @@
 // The check of empty repetitions: one pass, from the inside out.
-ghost use Rattle.std.specs.Prelude.{◌≡◌, not, ◌&&◌, ◌||◌};
+ghost use Rattle.std.specs.Prelude.{◌≡◌, true, false, not, ◌&&◌, ◌||◌};
 ghost use Rattle.std.specs.List.{list_any};
 ghost use Rattle.mbe_semantics.specs.Syntax.Nullable.{is_nullable_op, is_nullable, is_refused_op, is_refused, may_skip, is_vis};
 ghost use Rattle.mbe_ops.specs.Views.{op_of, ops_of};
@@ -70,7 +70,12 @@ fn checked<A: Allocator>(ops: &[Op<A>]) -> Found
         refused: false,
     };
     for op in ops {
-        found = found.followed_by(checked_op(op));
+        // Most ops are tokens.
+        if is_token(op) {
+            found.empty = false;
+        } else {
+            found = found.followed_by(checked_op(op));
+        }
     }
     found
 }
@@ -99,6 +104,14 @@ fn checked_op<A: Allocator>(op: &Op<A>) -> Found
             refused: false,
         },
     }
+}
+
+// Whether the op reads one token, always.
+fn is_token<A: Allocator>(op: &Op<A>) -> bool
+    ensures solid { result ≡ true → is_nullable_op (op_of op.now) ≡ false }
+    ensures lawful { result ≡ true → is_refused_op (op_of op.now) ≡ false }
+{
+    matches!(op, Op::Ident(_) | Op::Literal(_) | Op::Punct(_))
 }
 
 fn may_take_nothing(kind: Option<MetaVarKind>) -> bool
