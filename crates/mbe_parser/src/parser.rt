@@ -1,8 +1,7 @@
 // Reads patterns and templates into ops.
 ghost use Rattle.std.specs.Prelude.{◌≡◌, ◌<◌, ◌≤◌, [], ◌∷◌, codes, option_map, Some, Ok, Err, IfOk, IfErr, IfSome, IfNone, OnOk};
-ghost use Rattle.mbe_tt.specs.Trees.Tree.{Forest, flat_len, first, is_truth, leaf as leaf_before};
+ghost use Rattle.mbe_tt.specs.Trees.Tree.{Forest, Leaf_tree, flat_len, first, is_truth, leaf as leaf_before};
 ghost use Rattle.mbe_tt.specs.Trees.Leaf.{ident as ident_leaf, punct as punct_leaf};
-ghost use Rattle.mbe_tt.specs.Views.Element.{element_tree};
 ghost use Rattle.mbe_tt.specs.Views.Shown.{ident_of, literal_of, leaf_of};
 ghost use Rattle.mbe_tt.specs.declared.span.Span.{Span as SpecSpan};
 ghost use Rattle.mbe_tt.specs.declared.span.Edition.{Edition as SpecEdition};
@@ -56,7 +55,6 @@ pub fn parse_template<A: Allocator + Copy, E: Copy + Fn(SyntaxContext) -> Editio
     let mut src = src;
     let mut ops = Vec::with_capacity(alloc, src.remaining().len())?;
     'trees: while let Some(peeked) = src.peek() {
-        // Words and literals are pushed here: by way of `next_op` their ops would be moved twice.
         match peeked {
             TtElement::Leaf(Leaf::Ident(ident)) => {
                 let _word = src.next();
@@ -66,9 +64,15 @@ pub fn parse_template<A: Allocator + Copy, E: Copy + Fn(SyntaxContext) -> Editio
                 let _literal = src.next();
                 ops.push(Op::Literal(literal.clone()?))?;
             }
-            peeked => {
-                let op = next_op(alloc, edition, peeked, &mut src, mode)?;
+            TtElement::Leaf(Leaf::Punct(punct)) => {
+                let op = op_at_punct(alloc, edition, *punct, &mut src, mode)?;
                 ops.push(op)?;
+            }
+            TtElement::Subtree(subtree, inside) => {
+                let _group = src.next();
+                let tokens = parse_template(alloc, edition, inside, mode)?;
+                let delimiter = subtree.delimiter;
+                ops.push(Op::Subtree { tokens, delimiter })?;
             }
         }
     }
@@ -89,52 +93,32 @@ fn fitted<A: Allocator>(alloc: A, ops: Vec<Op<A>, A>) -> Result<Vec<Op<A>, A>, A
     Ok(fit)
 }
 
-// The op that begins with the next tree.
+// The op that begins with the next tree, which is this punct.
 #[cycle(template)]
 #[tactic(auto, using(mbe_ops::proofs::OpViews::views))]
-fn next_op<A: Allocator + Copy, E: Copy + Fn(SyntaxContext) -> Edition>(
+fn op_at_punct<A: Allocator + Copy, E: Copy + Fn(SyntaxContext) -> Edition>(
     alloc: A,
     edition: E,
-    peeked: TtElement<'_, A>,
+    punct: Punct,
     src: &mut TtIter<'_, A>,
     mode: Mode,
 ) -> Result<Op<A>, ReadError>
     requires answers { MayAsk (E.pre edition) }
-    requires peeked { first src.old ≡ Some (element_tree peeked) }
+    requires peeked { first src.old ≡ Some (Leaf_tree (punct_leaf punct)) }
     ensures op { IfOk result (λ o. ReadsOp (E.post edition) (mode_of mode)
         src.old (op_of o) src.new) }
     ensures fault { IfErr result (λ e. Stops e (λ f. TemplateFault (E.post edition)
         (mode_of mode) f src.old)) }
     ensures shorter { OnOk result (flat_len src.new < flat_len src.old) }
 {
-    match peeked {
-        TtElement::Leaf(Leaf::Punct(dollar)) if dollar.char == '$' => {
-            let _dollar = src.next();
-            behind_dollar(alloc, edition, *dollar, src, mode)
-        }
-        TtElement::Leaf(Leaf::Punct(_)) => {
-            let Ok(puncts) = src.expect_glued_punct() else {
-                unreachable!()
-            };
-            Ok(Op::Punct(Puncts::new(alloc, puncts)?))
-        }
-        TtElement::Leaf(Leaf::Literal(literal)) => {
-            let _passed = src.next();
-            Ok(Op::Literal(literal.clone()?))
-        }
-        TtElement::Leaf(Leaf::Ident(ident)) => {
-            let _passed = src.next();
-            Ok(Op::Ident(ident.clone()?))
-        }
-        TtElement::Subtree(subtree, inside) => {
-            let _passed = src.next();
-            let tokens = parse_template(alloc, edition, inside, mode)?;
-            Ok(Op::Subtree {
-                tokens,
-                delimiter: subtree.delimiter,
-            })
-        }
+    if punct.char == '$' {
+        let _dollar = src.next();
+        return behind_dollar(alloc, edition, punct, src, mode);
     }
+    let Ok(puncts) = src.expect_glued_punct() else {
+        unreachable!()
+    };
+    Ok(Op::Punct(Puncts::new(alloc, puncts)?))
 }
 
 // What stands after a `$`.

@@ -14,25 +14,8 @@ use Rattle.mbe_ops.proofs.Fragments.{puncts_longer}
 use Rattle.mbe_parser.proofs.ReaderLemmas as lemmas
 use Rattle.mbe_parser.proofs.parser.+template.Goals as goal
 
-pub parse_template-returns-in_err-op-in_default-peeked-clause-fault : goal.parse_template-returns-in_err-op-in_default-peeked-clause-fault
-parse_template-returns-in_err-op-in_default-peeked-clause-fault g t c =
-    let e = c.in_err-op-in_default-peeked in
-    let p = err_from_is_err_and c.from_residual-in_err-op-in_default-peeked.result c.from_residual-in_err-op-in_default-peeked.ensures.1 in
-    rw (p.1, p.2) (lemmas.later_fault _ e.field-0.0 (mode_of c.args.mode) c.args.src c.trees.src c.trees.invariant.fault e.ensures.fault)
-
-pub parse_template-trees-preserved : goal.parse_template-trees-preserved
-parse_template-trees-preserved g t c =
-    let l = c.trees in
-    let o = c.in_ok-op-in_default-peeked.op in
-    let reads = c.in_ok-op-in_default-peeked.ensures.op in
-    record {
-      more = λ os h. rw c.in_ok-push-in_default-peeked.ensures.items (rw (← lemmas.with_front-push l.ops.items o os) (l.invariant.more _ (reads.more os h)));
-      fault = λ x h. l.invariant.fault x (reads.fault x h);
-      smaller = omega (arith, c.in_ok-op-in_default-peeked.ensures.shorter, l.invariant.smaller);
-    }
-
-pub parse_template-trees-preserved-in-Ident-1 : goal.parse_template-trees-preserved-in-Ident-1
-parse_template-trees-preserved-in-Ident-1 g t c =
+pub parse_template-trees-preserved-in_ok-push-in-Leaf-Ident : goal.parse_template-trees-preserved-in_ok-push-in-Leaf-Ident
+parse_template-trees-preserved-in_ok-push-in-Leaf-Ident g t c =
     let l = c.trees in
     let i = c.in_ok-clone-in-Leaf-Ident.field-0 in
     let left = c.next-word.new.self in
@@ -46,13 +29,13 @@ parse_template-trees-preserved-in-Ident-1 g t c =
       smaller = omega (arith, ap flat_len at, l.invariant.smaller);
     }
 
-pub parse_template-trees-smaller-in-Ident-1 : goal.parse_template-trees-smaller-in-Ident-1
-parse_template-trees-smaller-in-Ident-1 g t c =
+pub parse_template-trees-smaller-in_ok-push-in-Leaf-Ident : goal.parse_template-trees-smaller-in_ok-push-in-Leaf-Ident
+parse_template-trees-smaller-in_ok-push-in-Leaf-Ident g t c =
     let front : Some (Leaf_tree (leaves.ident (ident_of c.in_ok-clone-in-Leaf-Ident.field-0))) ≡ first c.trees.src = search rules in
     omega (arith, ap flat_len (first_tree c.trees.src c.next-word.new.self _ front c.next-word.ensures.rest))
 
-pub parse_template-trees-preserved-in-Literal-1 : goal.parse_template-trees-preserved-in-Literal-1
-parse_template-trees-preserved-in-Literal-1 g t c =
+pub parse_template-trees-preserved-in_ok-push-in-Leaf-Literal : goal.parse_template-trees-preserved-in_ok-push-in-Leaf-Literal
+parse_template-trees-preserved-in_ok-push-in-Leaf-Literal g t c =
     let l = c.trees in
     let i = c.in_ok-clone-in-Leaf-Literal.field-0 in
     let left = c.next-literal.new.self in
@@ -66,8 +49,8 @@ parse_template-trees-preserved-in-Literal-1 g t c =
       smaller = omega (arith, ap flat_len at, l.invariant.smaller);
     }
 
-pub parse_template-trees-smaller-in-Literal-1 : goal.parse_template-trees-smaller-in-Literal-1
-parse_template-trees-smaller-in-Literal-1 g t c =
+pub parse_template-trees-smaller-in_ok-push-in-Leaf-Literal : goal.parse_template-trees-smaller-in_ok-push-in-Leaf-Literal
+parse_template-trees-smaller-in_ok-push-in-Leaf-Literal g t c =
     let front : Some (Leaf_tree (leaves.literal (literal_of c.in_ok-clone-in-Leaf-Literal.field-0))) ≡ first c.trees.src = search rules in
     omega (arith, ap flat_len (first_tree c.trees.src c.next-literal.new.self _ front c.next-literal.ensures.rest))
 
@@ -77,73 +60,85 @@ parse_template-returns-clause-ops g t c =
     let whole = c.trees.invariant.more no_ops (nothing c.trees.src (ap (head (mode_of c.args.mode)) empty)) in
     rw (view-template, c.in_ok-fitted.ensures, ← lemmas.with_front-all c.trees.ops.items) whole
 
-pub next_op-returns-in_err-tokens-in-Subtree-clause-fault : goal.next_op-returns-in_err-tokens-in-Subtree-clause-fault
-next_op-returns-in_err-tokens-in-Subtree-clause-fault g t c =
+pub parse_template-returns-in_err-op-in-Leaf-Punct-clause-fault : goal.parse_template-returns-in_err-op-in-Leaf-Punct-clause-fault
+parse_template-returns-in_err-op-in-Leaf-Punct-clause-fault g t c =
+    let e = c.in_err-op-in-Leaf-Punct in
+    let p = err_from_is_err_and c.from_residual-in_err-op-in-Leaf-Punct.result c.from_residual-in_err-op-in-Leaf-Punct.ensures.1 in
+    rw (p.1, p.2) (lemmas.later_fault _ e.field-0.0 (mode_of c.args.mode) c.args.src c.trees.src c.trees.invariant.fault e.ensures.fault)
+
+pub parse_template-trees-preserved-in_ok-push-in-Leaf-Punct : goal.parse_template-trees-preserved-in_ok-push-in-Leaf-Punct
+parse_template-trees-preserved-in_ok-push-in-Leaf-Punct g t c =
+    let l = c.trees in
+    let o = c.in_ok-op-in-Leaf-Punct.op in
+    let reads = c.in_ok-op-in-Leaf-Punct.ensures.op in
+    record {
+      more = λ os h. rw c.in_ok-push-in-Leaf-Punct.ensures.items (rw (← lemmas.with_front-push l.ops.items o os) (l.invariant.more _ (reads.more os h)));
+      fault = λ x h. l.invariant.fault x (reads.fault x h);
+      smaller = omega (arith, c.in_ok-op-in-Leaf-Punct.ensures.shorter, l.invariant.smaller);
+    }
+
+pub parse_template-parse_template-requires : goal.parse_template-parse_template-requires
+parse_template-parse_template-requires g t c κs within =
+    let front : Some (Group_tree c.in-Subtree.subtree.now.delimiter c.in-Subtree.inside) ≡ first c.trees.src = search rules in
+    let longer = ap flat_len (first_tree c.trees.src c.next-group.new.self _ front c.next-group.ensures.rest) in
+    (omega (arith, longer, c.trees.invariant.smaller, c.decreases), (within.0, (within.1, c.requires)))
+
+pub parse_template-returns-in_err-tokens-in-Subtree-clause-fault : goal.parse_template-returns-in_err-tokens-in-Subtree-clause-fault
+parse_template-returns-in_err-tokens-in-Subtree-clause-fault g t c =
+    let e = c.in_err-tokens-in-Subtree in
     let p = err_from_is_err_and c.from_residual-in_err-tokens-in-Subtree.result c.from_residual-in_err-tokens-in-Subtree.ensures.1 in
-    let front : Some (Group_tree c.in-Subtree.subtree.now.delimiter c.in-Subtree.inside) ≡ first c.args.src.now = search rules in
-    let at = first_tree c.args.src.now c.next-passed-in-Subtree.new.self _ front c.next-passed-in-Subtree.ensures.rest in
-    rw (p.1, p.2) (lemmas.group_fault _ c.in_err-tokens-in-Subtree.field-0.0 (mode_of c.args.mode) c.args.src.now c.in-Subtree.inside
-    c.next-passed-in-Subtree.new.self c.in-Subtree.subtree.now.delimiter at c.in_err-tokens-in-Subtree.ensures.fault)
+    let front : Some (Group_tree c.in-Subtree.subtree.now.delimiter c.in-Subtree.inside) ≡ first c.trees.src = search rules in
+    let at = first_tree c.trees.src c.next-group.new.self _ front c.next-group.ensures.rest in
+    let here = lemmas.group_fault _ e.field-0.0 (mode_of c.args.mode) c.trees.src c.in-Subtree.inside c.next-group.new.self c.in-Subtree.subtree.now.delimiter at e.ensures.fault in
+    rw (p.1, p.2) (lemmas.later_fault _ e.field-0.0 (mode_of c.args.mode) c.args.src c.trees.src c.trees.invariant.fault here)
 
-pub next_op-returns-in-Leaf-Punct-clause-op : goal.next_op-returns-in-Leaf-Punct-clause-op
-next_op-returns-in-Leaf-Punct-clause-op g t c =
-    let front : Some (Leaf_tree (leaves.punct c.in-Leaf-Punct.dollar)) ≡ first c.args.src.now = search rules in
-    let at = first_tree c.args.src.now c.next-dollar.new.self _ front c.next-dollar.ensures.rest in
-    lemmas.head_op _ c.behind_dollar.result (mode_of c.args.mode) c.args.src.now c.behind_dollar.new.src _
-    (lemmas.dollar_head (mode_of c.args.mode) c.args.src.now c.next-dollar.new.self c.in-Leaf-Punct.dollar at c.if-dollar-eq36.true) c.behind_dollar.ensures.op
-
-pub next_op-returns-in-Leaf-Punct-clause-fault : goal.next_op-returns-in-Leaf-Punct-clause-fault
-next_op-returns-in-Leaf-Punct-clause-fault g t c =
-    let front : Some (Leaf_tree (leaves.punct c.in-Leaf-Punct.dollar)) ≡ first c.args.src.now = search rules in
-    let at = first_tree c.args.src.now c.next-dollar.new.self _ front c.next-dollar.ensures.rest in
-    lemmas.head_fault _ c.behind_dollar.result (mode_of c.args.mode) c.args.src.now _
-    (lemmas.dollar_head (mode_of c.args.mode) c.args.src.now c.next-dollar.new.self c.in-Leaf-Punct.dollar at c.if-dollar-eq36.true) c.behind_dollar.ensures.fault
-
-pub next_op-returns-in_ok-new-in-Leaf-Punct-2-clause-op : goal.next_op-returns-in_ok-new-in-Leaf-Punct-2-clause-op
-next_op-returns-in_ok-new-in-Leaf-Punct-2-clause-op g t c =
-    let f = c.args.src.now in
-    let p = c.in-Leaf-Punct-2.field-0-0 in
-    let front : Some (Leaf_tree (leaves.punct p)) ≡ first f = search rules in
-    let at = first_tree f _ _ front (sym (lemmas.behind f)) in
-    let no_dollar : p.char ≡ 36 → ⊥ = search rules in
-    rw c.in_ok-new-in-Leaf-Punct-2.ensures (lemmas.puncts_op _ g.row.A.Denot (mode_of c.args.mode) f c.expect_glued_punct.new.self p c.in-Ok.puncts.items
-    (lemmas.puncts_head (mode_of c.args.mode) f _ p at no_dollar) c.in-Ok.ensures.value c.in-Ok.ensures.rest)
-
-pub next_op-returns-in_ok-new-in-Leaf-Punct-2-clause-shorter : goal.next_op-returns-in_ok-new-in-Leaf-Punct-2-clause-shorter
-next_op-returns-in_ok-new-in-Leaf-Punct-2-clause-shorter g t c =
-    let f = c.args.src.now in
-    let p = c.in-Leaf-Punct-2.field-0-0 in
-    let front : Some (Leaf_tree (leaves.punct p)) ≡ first f = search rules in
-    let at = first_tree f _ _ front (sym (lemmas.behind f)) in
-    puncts_longer f _ c.expect_glued_punct.new.self p at c.in-Ok.ensures.rest
-
-pub next_op-returns-in_ok-clone-in-Leaf-Literal-clause-op : goal.next_op-returns-in_ok-clone-in-Leaf-Literal-clause-op
-next_op-returns-in_ok-clone-in-Leaf-Literal-clause-op g t c =
-    let l = c.in_ok-clone-in-Leaf-Literal.field-0 in
-    let front : Some (Leaf_tree (leaves.literal (literal_of l))) ≡ first c.args.src.now = search rules in
-    let at = first_tree c.args.src.now c.next-passed.new.self _ front c.next-passed.ensures.rest in
-    rw view-literal (lemmas.leaf_reads _ (mode_of c.args.mode) c.args.src.now c.next-passed.new.self _ (ap (head (mode_of c.args.mode)) at))
-
-pub next_op-returns-in_ok-clone-in-Leaf-Ident-clause-op : goal.next_op-returns-in_ok-clone-in-Leaf-Ident-clause-op
-next_op-returns-in_ok-clone-in-Leaf-Ident-clause-op g t c =
-    let i = c.in_ok-clone-in-Leaf-Ident.field-0 in
-    let front : Some (Leaf_tree (leaves.ident (ident_of i))) ≡ first c.args.src.now = search rules in
-    let at = first_tree c.args.src.now c.next-passed-in-Leaf-Ident.new.self _ front c.next-passed-in-Leaf-Ident.ensures.rest in
-    rw view-ident (lemmas.leaf_reads _ (mode_of c.args.mode) c.args.src.now c.next-passed-in-Leaf-Ident.new.self _ (ap (head (mode_of c.args.mode)) at))
-
-pub next_op-returns-in_ok-tokens-in-Subtree-clause-op : goal.next_op-returns-in_ok-tokens-in-Subtree-clause-op
-next_op-returns-in_ok-tokens-in-Subtree-clause-op g t c =
-    let front : Some (Group_tree c.in-Subtree.subtree.now.delimiter c.in-Subtree.inside) ≡ first c.args.src.now = search rules in
-    let at = first_tree c.args.src.now c.next-passed-in-Subtree.new.self _ front c.next-passed-in-Subtree.ensures.rest in
-    rw view-subtree (lemmas.reads_group _ (mode_of c.args.mode) c.args.src.now c.in-Subtree.inside c.next-passed-in-Subtree.new.self
-    c.in-Subtree.subtree.now.delimiter _ (ap (head (mode_of c.args.mode)) at) c.in_ok-tokens-in-Subtree.ensures.ops)
-
-pub next_op-returns-in_ok-tokens-in-Subtree-clause-shorter : goal.next_op-returns-in_ok-tokens-in-Subtree-clause-shorter
-next_op-returns-in_ok-tokens-in-Subtree-clause-shorter g t c =
-    let front : Some (Group_tree c.in-Subtree.subtree.now.delimiter c.in-Subtree.inside) ≡ first c.args.src.now = search rules in
-    let at = first_tree c.args.src.now c.next-passed-in-Subtree.new.self _ front c.next-passed-in-Subtree.ensures.rest in
-    let longer = ap flat_len at in
+pub parse_template-trees-smaller : goal.parse_template-trees-smaller
+parse_template-trees-smaller g t c =
+    let front : Some (Group_tree c.in-Subtree.subtree.now.delimiter c.in-Subtree.inside) ≡ first c.trees.src = search rules in
+    let longer = ap flat_len (first_tree c.trees.src c.next-group.new.self _ front c.next-group.ensures.rest) in
     omega (arith, longer)
+
+pub parse_template-trees-preserved : goal.parse_template-trees-preserved
+parse_template-trees-preserved g t c =
+    let l = c.trees in
+    let left = c.next-group.new.self in
+    let front : Some (Group_tree c.in-Subtree.subtree.now.delimiter c.in-Subtree.inside) ≡ first l.src = search rules in
+    let at = first_tree l.src left _ front c.next-group.ensures.rest in
+    let o = ops.Subtree c.in_ok-tokens-in-Subtree.tokens c.in-Subtree.subtree.now.delimiter in
+    let reads : ReadsOp (λ ctx e. g.E.Fn.post c.args.edition (ctx, tt) e) (mode_of c.args.mode) l.src (op_of o) left =
+    rw view-subtree (lemmas.reads_group _ (mode_of c.args.mode) l.src c.in-Subtree.inside left c.in-Subtree.subtree.now.delimiter _
+    (ap (head (mode_of c.args.mode)) at) c.in_ok-tokens-in-Subtree.ensures.ops) in
+    record {
+      more = λ os h. rw c.in_ok-push-in-Subtree.ensures.items (rw (← lemmas.with_front-push l.ops.items o os) (l.invariant.more _ (reads.more os h)));
+      fault = λ x h. l.invariant.fault x (reads.fault x h);
+      smaller = omega (arith, ap flat_len at, l.invariant.smaller);
+    }
+
+pub op_at_punct-returns-then-punct-eq36-clause-op : goal.op_at_punct-returns-then-punct-eq36-clause-op
+op_at_punct-returns-then-punct-eq36-clause-op g t c =
+    let at = first_tree c.args.src.now c.next-dollar.new.self _ (sym c.requires.peeked) c.next-dollar.ensures.rest in
+    lemmas.head_op _ c.behind_dollar.result (mode_of c.args.mode) c.args.src.now c.behind_dollar.new.src _
+    (lemmas.dollar_head (mode_of c.args.mode) c.args.src.now c.next-dollar.new.self c.args.punct at c.if-punct-eq36.true) c.behind_dollar.ensures.op
+
+pub op_at_punct-returns-then-punct-eq36-clause-fault : goal.op_at_punct-returns-then-punct-eq36-clause-fault
+op_at_punct-returns-then-punct-eq36-clause-fault g t c =
+    let at = first_tree c.args.src.now c.next-dollar.new.self _ (sym c.requires.peeked) c.next-dollar.ensures.rest in
+    lemmas.head_fault _ c.behind_dollar.result (mode_of c.args.mode) c.args.src.now _
+    (lemmas.dollar_head (mode_of c.args.mode) c.args.src.now c.next-dollar.new.self c.args.punct at c.if-punct-eq36.true) c.behind_dollar.ensures.fault
+
+pub op_at_punct-returns-clause-op : goal.op_at_punct-returns-clause-op
+op_at_punct-returns-clause-op g t c =
+    let f = c.args.src.now in
+    let at = first_tree f _ _ (sym c.requires.peeked) (sym (lemmas.behind f)) in
+    let no_dollar : c.args.punct.char ≡ 36 → ⊥ = search rules in
+    rw c.in_ok-new.ensures (lemmas.puncts_op _ g.row.A.Denot (mode_of c.args.mode) f c.expect_glued_punct.new.self c.args.punct c.in-Ok.puncts.items
+    (lemmas.puncts_head (mode_of c.args.mode) f _ c.args.punct at no_dollar) c.in-Ok.ensures.value c.in-Ok.ensures.rest)
+
+pub op_at_punct-returns-clause-shorter : goal.op_at_punct-returns-clause-shorter
+op_at_punct-returns-clause-shorter g t c =
+    let f = c.args.src.now in
+    let at = first_tree f _ _ (sym c.requires.peeked) (sym (lemmas.behind f)) in
+    puncts_longer f _ c.expect_glued_punct.new.self c.args.punct at c.in-Ok.ensures.rest
 
 pub behind_dollar-returns-in-Leaf-clause-op : goal.behind_dollar-returns-in-Leaf-clause-op
 behind_dollar-returns-in-Leaf-clause-op g t c =

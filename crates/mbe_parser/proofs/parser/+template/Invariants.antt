@@ -9,8 +9,8 @@ use Rattle.mbe_parser.proofs.parser.+template.Given as goal
 abbrev pub decreases-parse_template : goal.decreases-parse_template
 decreases-parse_template g l = 2 * flat_len l.src + 1
 
-abbrev pub decreases-next_op : goal.decreases-next_op
-decreases-next_op g l = 2 * flat_len l.src.now
+abbrev pub decreases-op_at_punct : goal.decreases-op_at_punct
+decreases-op_at_punct g l = 2 * flat_len l.src.now
 
 abbrev pub invariant-parse_template-trees : goal.invariant-parse_template-trees
 invariant-parse_template-trees g l = record {

@@ -47,18 +47,18 @@ checked-loop-op-preserved g t c =
     let any = is_refused (ops_of ops) in
     let left = ops_of (drop i ops) in
     elim c.if-is_token.branch [
-    | checked-then-is_token w ↦ record {
-      empty = next_nullable all before.empty false found.empty op after left here (sym (c.is_token.ensures.solid w.if-is_token.true))
-          (ap (λ (f : Found). f.empty) w.found-is ∙ sym (and-false before.empty)) c.loop-op.invariant.empty;
-      refused = next_refused any before.refused false found.refused op after left here (sym (c.is_token.ensures.lawful w.if-is_token.true))
-          (ap (λ (f : Found). f.refused) w.found-is ∙ sym (or-false before.refused)) c.loop-op.invariant.refused;
-    }
-    | checked-else-is_token w ↦ record {
-      empty = next_nullable all before.empty w.checked_op.result.empty found.empty op after left here w.checked_op.ensures.empty
-          (ap (λ (f : Found). f.empty) w.found-is ∙ w.followed_by-found.ensures.empty) c.loop-op.invariant.empty;
-      refused = next_refused any before.refused w.checked_op.result.refused found.refused op after left here w.checked_op.ensures.refused
-          (ap (λ (f : Found). f.refused) w.found-is ∙ w.followed_by-found.ensures.refused) c.loop-op.invariant.refused;
-    }
+      | checked-then-is_token w ↦ record {
+        empty = next_nullable all before.empty false found.empty op after left here (sym (c.is_token.ensures.solid w.if-is_token.true))
+            (ap (λ (f : Found). f.empty) w.found-is ∙ sym (and-false before.empty)) c.loop-op.invariant.empty;
+        refused = next_refused any before.refused false found.refused op after left here (sym (c.is_token.ensures.lawful w.if-is_token.true))
+            (ap (λ (f : Found). f.refused) w.found-is ∙ sym (or-false before.refused)) c.loop-op.invariant.refused;
+      }
+      | checked-else-is_token w ↦ record {
+        empty = next_nullable all before.empty w.checked_op.result.empty found.empty op after left here w.checked_op.ensures.empty
+            (ap (λ (f : Found). f.empty) w.found-is ∙ w.followed_by-found.ensures.empty) c.loop-op.invariant.empty;
+        refused = next_refused any before.refused w.checked_op.result.refused found.refused op after left here w.checked_op.ensures.refused
+            (ap (λ (f : Found). f.refused) w.found-is ∙ w.followed_by-found.ensures.refused) c.loop-op.invariant.refused;
+      }
     ]
 
 pub checked_op-returns-in-Subtree-clause-refused : goal.checked_op-returns-in-Subtree-clause-refused
