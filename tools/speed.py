@@ -1,13 +1,16 @@
 #!/usr/bin/env python3
 """Measures `mbex` beside the original. Outside the gate, from any folder:
 
-    python3 tools/speed.py MBEX ORIGINAL [--case WORD].. [--size N].. [--requests | --reading]
+    python3 tools/speed.py MBEX ORIGINAL [--case WORD].. [--size N].. [--requests] [--times]
+    python3 tools/speed.py MBEX ORIGINAL --reading [--size N]..
 
 MBEX is the program that `rt run` leaves in crates/mbex/out, ORIGINAL a program with the same face over the Rust crate. Each run
 lexes both texts, reads the definition, expands, and prints. It writes a table in Markdown: for each case and size the
 instructions a token of either program (valgrind's callgrind, which repeats, whatever else the machine does), their ratio, and
 the bytes of memory a token at the peak, above what the program takes for an empty argument. A token is a flat token of both texts
-together. With --requests a column more counts requests for memory of either. Both programs must print the same.
+together. With --requests a column more counts requests for memory of either, with --times one more has nanoseconds a token of either,
+the least of nine runs, above the least of an empty argument: for a machine that does nothing else. Both programs must print the
+same.
 
 With --reading the table is of reading a definition alone, with checking and dropping it: a run in which no rule has the style of the
 call, so that none is matched, less a run that only lexes the same text. A token is a flat token of the pattern.
@@ -17,6 +20,7 @@ import os
 import re
 import subprocess
 import tempfile
+import time
 
 SIZES = (2_000, 20_000, 65_535)
 
@@ -131,6 +135,16 @@ def peak(command):
     return int(it.stderr.split()[-1]) * 1024
 
 
+def nanoseconds(command):
+    """The least time of nine runs, from the start of the program to its end."""
+    least = float("inf")
+    for _ in range(9):
+        begin = time.perf_counter_ns()
+        subprocess.run(command, stdout=subprocess.DEVNULL, check=False)
+        least = min(least, time.perf_counter_ns() - begin)
+    return least
+
+
 def printed(command):
     return subprocess.run(command, capture_output=True, check=False).stdout
 
@@ -168,6 +182,7 @@ def main():
     parser.add_argument("--case", action="append")
     parser.add_argument("--size", action="append", type=int)
     parser.add_argument("--requests", action="store_true")
+    parser.add_argument("--times", action="store_true")
     parser.add_argument("--reading", action="store_true")
     asked = parser.parse_args()
     both = [os.path.abspath(asked.mbex), os.path.abspath(asked.original)]
@@ -182,10 +197,13 @@ def main():
                 it.write(text)
         return [[program, f"{folder}/def", f"{folder}/arg"] for program in both]
 
-    least = [peak(it) for it in files("() => {}", "")]
-    more = "requests a token, original's | " if asked.requests else ""
-    print(f"| Case | Size | Tokens | Instructions a token | Original's | Ratio | Bytes a token | Original's | {more}")
-    print("|---|---|---|---|---|---|---|---|" + ("---|" if more else ""))
+    empty = files("() => {}", "")
+    least = [peak(it) for it in empty]
+    shortest = [nanoseconds(it) for it in empty] if asked.times else []
+    columns = ["Requests a token, original's"] * asked.requests + ["Nanoseconds a token, original's"] * asked.times
+    more = "".join(f" {it} |" for it in columns)
+    print(f"| Case | Size | Tokens | Instructions a token | Original's | Ratio | Bytes a token | Original's |{more}")
+    print("|" + "---|" * (8 + len(columns)))
     for case, make in CASES.items():
         if asked.case and not any(word in case for word in asked.case):
             continue
@@ -198,8 +216,10 @@ def main():
             taken = [(peak(it) - base) / tokens for it, base in zip(commands, least)]
             row = [case + same, f"{size:,}", f"{tokens:,}", f"{ours:,.0f}", f"{others:,.0f}", f"{ours / others:.2f}"]
             row += [f"{it:,.0f}" for it in taken]
-            if more:
+            if asked.requests:
                 row.append(", ".join(f"{requests(it) / tokens:.2f}" for it in commands))
+            if asked.times:
+                row.append(", ".join(f"{(nanoseconds(it) - base) / tokens:,.0f}" for it, base in zip(commands, shortest)))
             print("| " + " | ".join(row) + " |", flush=True)
 
 
