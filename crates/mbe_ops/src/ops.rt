@@ -60,7 +60,7 @@ pub(crate) fn same_separator<A: Allocator>(one: &Separator<A>, two: &Separator<A
     }
 }
 
-// Whether the puncts have the same chars, whatever their spacing.
+/// Whether the puncts have the same chars, whatever their spacing.
 pub fn same_chars(one: &[Punct], two: &[Punct]) -> bool
     ensures { result ≡ bytes_eq (chars_of one.now) (chars_of two.now) }
 {
