@@ -9,7 +9,7 @@ set -eu
 top=$(cd "$(dirname "$0")/../.." && pwd)
 folder=${1:-$(mktemp -d)}
 mkdir -p "$folder/crates"
-libraries=$(sed -n 's/^\(mbe[a-z_]*\):.*/\1/p' "$top/crates.txt" | grep -v -e '_tests$' -e '^mbex$' -e '^mbe_program$' -e '^mbe_grammar$')
+libraries=$(sed -n 's/^\(mbe[a-z_]*\):.*/\1/p' "$top/crates.txt" | grep -v -e '_tests$' -e '^mbex' -e '^mbe_program$' -e '^mbe_grammar$')
 : >"$folder/crates.txt"
 for crate in $libraries; do
     grep "^$crate:" "$top/crates.txt" >>"$folder/crates.txt"
