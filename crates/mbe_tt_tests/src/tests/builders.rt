@@ -1,37 +1,30 @@
 ghost use Rattle.std.specs.Prelude.{◌≡◌, ◌<◌, length};
 
-use super::parts::{Piece, leaves, tree, write, write_open};
+use super::cursors::{is_first_group, opened};
+use super::parts::{Piece, tree, write, write_open};
+use super::steps::{Step, take};
 use super::views::SAMPLE;
-use crate::writing::{delimiter, ident, span, write_and_go_back};
-use mbe_tt::tt::{Delimiter, DelimiterKind, Spacing, TopSubtree, TopSubtreeBuilder};
+use crate::writing::delimiter;
+use mbe_tt::tt::{DelimiterKind, Spacing, TopSubtree, TopSubtreeBuilder};
 use std::alloc::{AllocError, Global};
-use std::test::Fail;
 
-fn is_group(tree: &TopSubtree, kind: DelimiterKind) -> bool {
-    let Ok((group, inside)) = tree.iter().expect_subtree() else {
-        return false;
-    };
-    let want = Delimiter {
-        opening: span(1),
-        close: span(12),
-        kind,
-    };
-    let whole = tree.top_subtree().delimiter;
-    group.delimiter == want && whole == delimiter(DelimiterKind::Brace) && inside.is_empty()
+// Whether a group of that kind that closes at 12 is all that is inside braces.
+fn is_group(alloc: Global, kind: DelimiterKind) -> Result<bool, AllocError> {
+    let tree = tree(alloc, &[Piece::Open(kind), Piece::Close(12)])?;
+    let is_brace = tree.top_subtree().delimiter == delimiter(DelimiterKind::Brace);
+    Ok(is_brace && is_first_group(&tree, opened(kind, 12), true))
 }
 
 #[test]
-fn groups_have_their_kinds_and_spans(rt: HostRuntime) -> Result<(), Fail> {
+fn groups_have_their_kinds_and_spans(rt: HostRuntime) {
     for kind in [
         DelimiterKind::Parenthesis,
         DelimiterKind::Brace,
         DelimiterKind::Bracket,
         DelimiterKind::Invisible,
     ] {
-        let tree = tree(rt.alloc(), &[Piece::Open(kind), Piece::Close(12)])?;
-        assert!(rt; is_group(&tree, kind));
+        assert!(rt; is_group(rt.alloc(), kind).unwrap_or(false), "{kind:?}");
     }
-    Ok(())
 }
 
 // Parts, and the kind of the innermost group that they leave open inside the whole, which is a brace.
@@ -64,30 +57,24 @@ static OPEN: [(&[Piece], Option<DelimiterKind>); 7] = [
     (&[Piece::Open(DelimiterKind::Brace), Piece::Close(3)], None),
 ];
 
-fn open_kind(alloc: Global, parts: &[Piece]) -> Result<Option<DelimiterKind>, AllocError> {
+fn is_open(
+    alloc: Global,
+    parts: &[Piece],
+    kind: Option<DelimiterKind>,
+) -> Result<bool, AllocError> {
     let mut builder = TopSubtreeBuilder::new(alloc, delimiter(DelimiterKind::Brace))?;
     write_open(&mut builder, alloc, parts)?;
-    Ok(builder.open_kind())
+    Ok(builder.open_kind() == kind)
 }
 
 #[test]
-fn the_kind_of_the_innermost_open_group_is_told(rt: HostRuntime) -> Result<(), Fail> {
+fn the_kind_of_the_innermost_open_group_is_told(rt: HostRuntime) {
     for (row, (parts, kind)) in OPEN.iter().enumerate() {
-        assert!(rt; open_kind(rt.alloc(), parts)? == *kind, "row {row}");
+        assert!(rt;
+            is_open(rt.alloc(), parts, *kind).unwrap_or(false),
+            "row {row}"
+        );
     }
-    Ok(())
-}
-
-// What is done with a builder: parts are written, leaves are, copies of trees are, the last of them alone or not, and a group
-// with that identifier is and taken back.
-#[derive(Clone, Copy)]
-enum Step {
-    Write(&'static [Piece]),
-    Extend(&'static [Piece]),
-    Copy(&'static [Piece]),
-    CopyAlone(&'static [Piece]),
-    Unwrap,
-    GoBack(&'static str),
 }
 
 // Steps, each with how many flat tokens are written after it, before a group is taken back; what is there then, how many flat
@@ -226,41 +213,6 @@ static ROWS: [Row; 10] = [
     },
 ];
 
-// Copies the trees inside the whole, which is written from those parts.
-fn copy(
-    builder: &mut TopSubtreeBuilder,
-    alloc: Global,
-    parts: &[Piece],
-    alone: bool,
-) -> Result<(), AllocError>
-    requires { 0 < length builder.old }
-    ensures { length builder.new ≡ length builder.old }
-{
-    let source = tree(alloc, parts)?;
-    let view = source.iter().remaining();
-    if alone {
-        builder.extend_with_tt_alone(view)
-    } else {
-        builder.extend_with_tt(view)
-    }
-}
-
-// Takes a step, and returns how many flat tokens are written then, before a group is taken back.
-fn take(builder: &mut TopSubtreeBuilder, alloc: Global, step: Step) -> Result<usize, AllocError>
-    requires { 0 < length builder.old }
-    ensures { 0 < length builder.new }
-{
-    match step {
-        Step::Write(parts) => write_open(builder, alloc, parts)?,
-        Step::Extend(parts) => builder.extend(leaves(alloc, parts)?)?,
-        Step::Copy(parts) => copy(builder, alloc, parts, false)?,
-        Step::CopyAlone(parts) => copy(builder, alloc, parts, true)?,
-        Step::Unwrap => builder.remove_last_subtree_if_invisible(),
-        Step::GoBack(text) => return write_and_go_back(builder, ident(alloc, text)?),
-    }
-    Ok(builder.restore_point())
-}
-
 // The first step after which another number of flat tokens is written.
 fn first_wrong(
     builder: &mut TopSubtreeBuilder,
@@ -298,9 +250,8 @@ fn is_built(alloc: Global, row: &Row) -> Result<bool, AllocError> {
 }
 
 #[test]
-fn builders_hold_what_their_steps_write(rt: HostRuntime) -> Result<(), Fail> {
+fn builders_hold_what_their_steps_write(rt: HostRuntime) {
     for (at, row) in ROWS.iter().enumerate() {
-        assert!(rt; is_built(rt.alloc(), row)?, "row {at}");
+        assert!(rt; is_built(rt.alloc(), row).unwrap_or(false), "row {at}");
     }
-    Ok(())
 }

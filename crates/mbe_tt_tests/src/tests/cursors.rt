@@ -1,8 +1,11 @@
+ghost use Rattle.std.specs.Prelude.{◌<◌, length};
+
 use super::buffers::is_copied;
 use super::iterators::text;
-use crate::writing::{nested, pass_flat, span};
-use mbe_tt::tt::{Cursor, Delimiter, DelimiterKind, TokenTreesView, TopSubtree};
-use std::test::Fail;
+use super::parts::write;
+use crate::writing::{delimiter, pass_flat, span};
+use mbe_tt::tt::{Cursor, Delimiter, DelimiterKind, TokenTreesView, TopSubtree, TopSubtreeBuilder};
+use std::alloc::{AllocError, Global};
 
 // At each place of `a (+ b) "s"`: whether it is in no group, the next tree, and the trees and flat tokens that are consumed
 // where it is in no group.
@@ -76,33 +79,50 @@ fn walked(view: TokenTreesView<'_>, places: usize) -> (u64, bool) {
     (deep, cursor.is_root() && cursor.token_tree().is_none())
 }
 
-// Whether the trees are a bracket's group, and it comes before those inside.
-fn is_outermost(tree: &TopSubtree) -> bool {
-    let Ok((outermost, _inside)) = tree.iter().expect_subtree() else {
-        return false;
-    };
-    let want = Delimiter {
+/// A delimiter that opens at 1.
+pub fn opened(kind: DelimiterKind, close: u8) -> Delimiter {
+    Delimiter {
         opening: span(1),
-        close: span(2),
-        kind: DelimiterKind::Bracket,
-    };
-    outermost.delimiter == want
+        close: span(u32::from(close)),
+        kind,
+    }
 }
 
-// Ten thousand groups, each in the one before, inside the whole. All places but the first are inside the whole.
+/// Whether the first tree is a group of that delimiter, and has nothing inside or something.
+pub fn is_first_group(tree: &TopSubtree, delimiter: Delimiter, is_empty: bool) -> bool {
+    match tree.iter().expect_subtree() {
+        Ok((group, inside)) => group.delimiter == delimiter && inside.is_empty() == is_empty,
+        Err(()) => false,
+    }
+}
+
+// That many groups, each in the one before, inside the whole.
+#[tactic(auto, using(mbe_tt::proofs::Buffers::OpenGroups::put_length))]
+fn nested(alloc: Global, depth: usize) -> Result<TopSubtree, AllocError> {
+    let mut builder = TopSubtreeBuilder::new(alloc, delimiter(DelimiterKind::Invisible))?;
+    for _opened in 0..depth {
+        builder.open(DelimiterKind::Bracket, span(1))?;
+    }
+    write(&mut builder, alloc, &[])?;
+    Ok(builder.build())
+}
+
+// Ten thousand groups; the outermost comes first, and all places but the first are inside the whole.
 fn is_deep(tree: &TopSubtree) -> bool {
     let whole = tree.view();
     whole.flat_len() == 20002
         && whole.len() == 1
         && walked(whole, 20002) == (20001, true)
-        && is_outermost(tree)
+        && is_first_group(tree, opened(DelimiterKind::Bracket, 2), false)
+}
+
+fn is_nested(alloc: Global) -> Result<bool, AllocError> {
+    let tree = nested(alloc, 10000)?;
+    let is_so = is_deep(&tree) && is_copied(&tree)?;
+    Ok(is_so && nested(alloc, 9999)? != tree)
 }
 
 #[test]
-fn deep_nesting_takes_no_deep_stack(rt: HostRuntime) -> Result<(), Fail> {
-    let tree = nested(rt.alloc(), 10000)?;
-    assert!(rt; is_deep(&tree));
-    assert!(rt; is_copied(&tree)?);
-    assert!(rt; nested(rt.alloc(), 9999)? != tree);
-    Ok(())
+fn deep_nesting_takes_no_deep_stack(rt: HostRuntime) {
+    assert!(rt; is_nested(rt.alloc()).unwrap_or(false));
 }

@@ -6,7 +6,7 @@ use mbe_tt::tt::{
     DelimiterKind, Ident, Leaf, Punct, Spacing, Subtree, TokenTreesView, TopSubtree, TtElement,
     TtIter,
 };
-use std::test::Fail;
+use std::alloc::{AllocError, Global};
 
 // The text of an identifier or a literal; the char of a punct, and the brackets of a group, where the tests ask for them.
 pub fn text<'a>(element: &TtElement<'a>) -> &'a str {
@@ -52,6 +52,7 @@ enum Asked {
     Comma,
     Punct,
     Group,
+    Inside(usize),
     Leaf,
     Ident,
     IdentOrUnderscore,
@@ -70,6 +71,7 @@ fn answer<'a>(iter: &mut TtIter<'a>, asked: Asked) -> Option<&'a str> {
         Asked::Comma => done(iter.expect_comma()),
         Asked::Punct => punct(iter.expect_single_punct()),
         Asked::Group => group(iter.expect_subtree()),
+        Asked::Inside(count) => inside(iter.expect_subtree(), count),
         Asked::Leaf => leaf(iter.expect_leaf()),
         Asked::Ident => ident(iter.expect_ident()),
         Asked::IdentOrUnderscore => ident(iter.expect_ident_or_underscore()),
@@ -86,7 +88,7 @@ fn alone<'a>(answer: Option<TokenTreesView<'a>>) -> Option<&'a str> {
 }
 
 fn done(answer: Result<(), ()>) -> Option<&'static str> {
-    if answer.is_ok() { Some("done") } else { None }
+    answer.is_ok().then_some("done")
 }
 
 fn punct(answer: Result<&Punct, ()>) -> Option<&'static str> {
@@ -95,6 +97,12 @@ fn punct(answer: Result<&Punct, ()>) -> Option<&'static str> {
 
 fn group(answer: Result<(&Subtree, TtIter<'_>), ()>) -> Option<&'static str> {
     Some(brackets(answer.ok()?.0.delimiter.kind))
+}
+
+// Whether so many trees are inside.
+fn inside(answer: Result<(&Subtree, TtIter<'_>), ()>, count: usize) -> Option<&'static str> {
+    let (_group, inside) = answer.ok()?;
+    (inside.remaining().len() == count).then_some("done")
 }
 
 fn leaf<'a>(answer: Result<&'a Leaf, ()>) -> Option<&'a str> {
@@ -184,30 +192,33 @@ const NEXT_ROWS: &[Row] = &[
     (Asked::NextAsView, None, 0),
 ];
 
+// A group comes with its content.
+const INSIDE_ROWS: &[Row] = &[
+    (Asked::Leaf, Some("a"), 2),
+    (Asked::Inside(2), Some("done"), 1),
+];
+
 // The calls over trees.
-static WALKS: [(&[Piece], &[Row]); 4] = [
+static WALKS: [(&[Piece], &[Row]); 5] = [
     (LEAVES, LEAVES_ROWS),
     (LEAVES, PUNCTS_ROWS),
     (SAMPLE, SAMPLE_ROWS),
     (SAMPLE, NEXT_ROWS),
+    (SAMPLE, INSIDE_ROWS),
 ];
 
-#[test]
-fn leaves_groups_and_literals_are_expected(rt: HostRuntime) -> Result<(), Fail> {
-    for (walk, (parts, rows)) in WALKS.iter().enumerate() {
-        let tree = tree(rt.alloc(), parts)?;
-        let wrong = first_wrong(&tree, rows);
-        assert!(rt; wrong.is_none(), "row {wrong:?} of walk {walk}");
-    }
-    Ok(())
+fn is_walked(alloc: Global, parts: &[Piece], rows: &[Row]) -> Result<bool, AllocError> {
+    Ok(first_wrong(&tree(alloc, parts)?, rows).is_none())
 }
 
-/// How many trees are inside the second tree, where it is a group after a leaf.
-pub fn inside_second(tree: &TopSubtree) -> Option<usize> {
-    let mut iter = tree.iter();
-    let _leaf = iter.expect_leaf().ok()?;
-    let (_group, inside) = iter.expect_subtree().ok()?;
-    Some(inside.remaining().len())
+#[test]
+fn leaves_groups_and_literals_are_expected(rt: HostRuntime) {
+    for (walk, (parts, rows)) in WALKS.iter().enumerate() {
+        assert!(rt;
+            is_walked(rt.alloc(), parts, rows).unwrap_or(false),
+            "walk {walk}"
+        );
+    }
 }
 
 /// Whether each tree comes once and in order, with those texts.

@@ -1,45 +1,57 @@
+ghost use Rattle.std.specs.Prelude.{◌<◌, length};
+
 use super::buffers::is_copied;
-use super::parts::{Piece, leaves};
-use super::views::sample;
-use crate::writing::{delimiter, write_parts};
-use mbe_tt::tt::{DelimiterKind, TokenTreesView, TopSubtree, TopSubtreeBuilder};
+use super::parts::{Piece, leaves, write};
+use super::steps::{Step, take};
+use super::views::{SAMPLE, sample};
+use crate::writing::delimiter;
+use mbe_tt::tt::{DelimiterKind, TopSubtree, TopSubtreeBuilder};
 use refusing::Refusing;
 use std::alloc::{AllocError, Allocator, Global};
 
-// Four parts have 1, 3, 6 and 6 flat tokens.
+// They have 1, 3, 6 and 6 flat tokens.
+static STEPS: [Step; 4] = [
+    Step::Write(&[Piece::Ident("one")]),
+    Step::Group("two"),
+    Step::Copy(SAMPLE),
+    Step::CopyAlone(SAMPLE),
+];
+
 const PARTS: usize = 28;
 
-// What a builder holds after as many parts as memory allows, up to so many, and how many they are.
-fn held<A: Allocator + Copy>(
-    alloc: A,
-    view: TokenTreesView<'_, A>,
-    limit: usize,
-) -> Result<(TopSubtree<A>, usize), AllocError> {
+// Takes as many steps as memory allows, up to so many, one after the other and again. How many were taken.
+fn taken<A: Allocator + Copy>(builder: &mut TopSubtreeBuilder<A>, alloc: A, limit: usize) -> usize
+    requires { 0 < length builder.old }
+    ensures { 0 < length builder.new }
+{
+    for part in 0..limit {
+        if take(builder, alloc, STEPS[part % 4]).is_err() {
+            return part;
+        }
+    }
+    limit
+}
+
+// What a builder holds after these steps, and how many they are.
+fn held<A: Allocator + Copy>(alloc: A, limit: usize) -> Result<(TopSubtree<A>, usize), AllocError> {
     let mut builder = TopSubtreeBuilder::new(alloc, delimiter(DelimiterKind::Invisible))?;
-    let count = write_parts(&mut builder, alloc, view, limit);
+    let count = taken(&mut builder, alloc, limit);
+    write(&mut builder, alloc, &[])?;
     Ok((builder.build(), count))
 }
 
-// Whether a builder holds all parts. Where it doesn't, one without a refusal holds the same after as many parts; nothing where
+// Whether a builder holds all parts. Where it doesn't, one without a refusal holds the same after as many steps; nothing where
 // that isn't so. The allocator refuses nothing more.
-fn is_whole<A: Allocator + Copy>(
-    alloc: A,
-    view: TokenTreesView<'_, A>,
-    built: &TopSubtree<A>,
-    count: usize,
-) -> Option<bool> {
+fn keep<A: Allocator + Copy>(alloc: A) -> Result<Option<bool>, AllocError> {
+    let (built, count) = held(alloc, PARTS)?;
     if count == PARTS {
-        return (built.view().flat_len() == 114).then_some(true);
+        return Ok((built.view().flat_len() == 114).then_some(true));
     }
-    let (other, again) = held(alloc, view, count).ok()?;
-    (again == count && *built == other).then_some(false)
-}
-
-fn write<A: Allocator + Copy>(alloc: A) -> Result<Option<bool>, AllocError> {
-    let source = sample(alloc)?;
-    let view = source.iter().remaining();
-    let (built, count) = held(alloc, view, PARTS)?;
-    Ok(is_whole(alloc, view, &built, count))
+    let is_so = match held(alloc, count) {
+        Ok((other, again)) => again == count && built == other,
+        Err(AllocError) => false,
+    };
+    Ok(is_so.then_some(false))
 }
 
 fn copy<A: Allocator + Copy>(alloc: A) -> Result<Option<bool>, AllocError> {
@@ -62,7 +74,7 @@ fn extend<A: Allocator + Copy>(alloc: A) -> Result<Option<bool>, AllocError> {
 // all or none.
 #[derive(Clone, Copy)]
 enum Done {
-    Write,
+    Keep,
     Copy,
     Extend,
 }
@@ -70,7 +82,7 @@ enum Done {
 // Whether it is done whole; nothing where it isn't done as it has to be.
 fn is_done<A: Allocator + Copy>(alloc: A, what: Done) -> Result<Option<bool>, AllocError> {
     match what {
-        Done::Write => write(alloc),
+        Done::Keep => keep(alloc),
         Done::Copy => copy(alloc),
         Done::Extend => extend(alloc),
     }
@@ -99,7 +111,7 @@ fn ends(alloc: Global, what: Done, least: u64, most: u64) -> bool {
 #[test]
 fn a_refused_request_leaves_what_was_there(rt: HostRuntime) {
     for (what, least, most) in [
-        (Done::Write, 19, 1000),
+        (Done::Keep, 19, 1000),
         (Done::Copy, 4, 100),
         (Done::Extend, 21, 100),
     ] {

@@ -85,11 +85,12 @@ pub fn leaves<A: Allocator + Copy>(
 ) -> Result<Vec<Leaf<A>, A>, AllocError> {
     let mut leaves = Vec::new(alloc);
     for part in parts {
-        match *part {
-            Piece::Ident(text) => leaves.push(ident(alloc, text)?)?,
-            Piece::Punct(char, spacing) => leaves.push(punct(char, spacing))?,
-            _ => {}
-        }
+        let leaf = match *part {
+            Piece::Ident(text) => ident(alloc, text)?,
+            Piece::Punct(char, spacing) => punct(char, spacing),
+            _ => continue,
+        };
+        leaves.push(leaf)?;
     }
     Ok(leaves)
 }

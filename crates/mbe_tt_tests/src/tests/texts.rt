@@ -8,7 +8,7 @@ use std::alloc::{AllocError, Global};
 use std::cmp::Ordering;
 use std::collections::HashSet;
 use std::fmt::{Debug, Display};
-use std::test::Fail;
+use std::hash::Hash;
 
 static EDITIONS: [(Edition, bool, bool); 4] = [
     (Edition::Edition2015, false, false),
@@ -25,11 +25,19 @@ fn editions_are_in_order(rt: HostRuntime) {
     }
 }
 
+// How many of them differ, by their hashes too.
+fn count<T: Hash + Eq>(alloc: Global, values: &[T]) -> Result<usize, AllocError> {
+    let mut seen = HashSet::new(alloc);
+    for value in values {
+        seen.insert(value)?;
+    }
+    Ok(seen.len())
+}
+
 #[test]
-fn spans_are_equal_by_all_five_numbers(rt: HostRuntime) -> Result<(), Fail> {
+fn spans_are_equal_by_all_five_numbers(rt: HostRuntime) {
     let first = span(1);
-    let mut seen = HashSet::new(rt.alloc());
-    for span in [
+    let spans = [
         first,
         Span { file: 2, ..first },
         Span { ast: 1, ..first },
@@ -39,13 +47,10 @@ fn spans_are_equal_by_all_five_numbers(rt: HostRuntime) -> Result<(), Fail> {
             ctx: SyntaxContext(1),
             ..first
         },
-    ] {
-        seen.insert(span)?;
-    }
-    assert!(rt; seen.len() == 6);
-    seen.insert(span(1))?;
-    assert!(rt; seen.len() == 6);
-    Ok(())
+        span(1),
+    ];
+    assert!(rt; matches!(count(rt.alloc(), &spans[..6]), Ok(6)));
+    assert!(rt; matches!(count(rt.alloc(), &spans), Ok(6)));
 }
 
 #[test]
@@ -97,14 +102,22 @@ fn are_ordered(one: &Symbol, two: &Symbol, order: Ordering) -> bool {
         && one.partial_cmp(two) == Some(order)
 }
 
+fn are_symbols(
+    alloc: Global,
+    text: &str,
+    other: &str,
+    order: Ordering,
+) -> Result<bool, AllocError> {
+    let one = Symbol::intern(alloc, text)?;
+    let two = Symbol::intern(alloc, other)?;
+    Ok(one.as_str() == text && are_ordered(&one, &two, order))
+}
+
 #[test]
-fn symbols_are_their_texts(rt: HostRuntime) -> Result<(), Fail> {
+fn symbols_are_their_texts(rt: HostRuntime) {
     for &(text, other, order) in &ORDERS {
-        let one = Symbol::intern(rt.alloc(), text)?;
-        let two = Symbol::intern(rt.alloc(), other)?;
-        assert!(rt; one.as_str() == text && are_ordered(&one, &two, order));
+        assert!(rt; are_symbols(rt.alloc(), text, other, order).unwrap_or(false));
     }
-    Ok(())
 }
 
 /// Whether the text is what is written of it.
@@ -126,21 +139,30 @@ fn is_copied(alloc: Global, symbol: &Symbol, text: &str) -> Result<bool, AllocEr
     Ok(copy == *symbol && written.as_str() == text)
 }
 
-#[test]
-fn a_copied_symbol_has_the_text(rt: HostRuntime) -> Result<(), Fail> {
-    let ab = Symbol::intern(rt.alloc(), "ab")?;
-    assert!(rt; is_copied(rt.alloc(), &ab, "\"ab\"")?);
-    Ok(())
+fn has_copy(alloc: Global) -> Result<bool, AllocError> {
+    is_copied(alloc, &Symbol::intern(alloc, "ab")?, "\"ab\"")
 }
 
 #[test]
-fn symbols_are_hashed_by_their_texts(rt: HostRuntime) -> Result<(), Fail> {
-    let mut seen = HashSet::new(rt.alloc());
-    for text in ["ab", "b"] {
-        seen.insert(Symbol::intern(rt.alloc(), text)?)?;
-    }
-    assert!(rt; seen.contains(&Symbol::intern(rt.alloc(), "ab")?));
+fn a_copied_symbol_has_the_text(rt: HostRuntime) {
+    assert!(rt; has_copy(rt.alloc()).unwrap_or(false));
+}
+
+fn put(seen: &mut HashSet<Symbol>, alloc: Global, text: &str) -> Result<(), AllocError> {
+    seen.insert(Symbol::intern(alloc, text)?)?;
     Ok(())
+}
+
+fn are_hashed(alloc: Global) -> Result<bool, AllocError> {
+    let mut seen = HashSet::new(alloc);
+    put(&mut seen, alloc, "ab")?;
+    put(&mut seen, alloc, "b")?;
+    Ok(seen.contains(&Symbol::intern(alloc, "ab")?))
+}
+
+#[test]
+fn symbols_are_hashed_by_their_texts(rt: HostRuntime) {
+    assert!(rt; are_hashed(rt.alloc()).unwrap_or(false));
 }
 
 // A literal's kind, its suffix's length and its text; what comes before the suffix, the suffix, and what is written.
@@ -188,11 +210,10 @@ fn is_written(
 }
 
 #[test]
-fn literals_are_written_with_their_quotes(rt: HostRuntime) -> Result<(), Fail> {
+fn literals_are_written_with_their_quotes(rt: HostRuntime) {
     for row in &LITERALS {
-        assert!(rt; is_written(rt.alloc(), row)?, "{}", row.5);
+        assert!(rt; is_written(rt.alloc(), row).unwrap_or(false), "{}", row.5);
     }
-    Ok(())
 }
 
 fn keyword(alloc: Global, is_raw: IdentIsRaw) -> Result<Ident, AllocError> {
@@ -203,25 +224,23 @@ fn keyword(alloc: Global, is_raw: IdentIsRaw) -> Result<Ident, AllocError> {
     })
 }
 
-// Whether that is written of the keyword's identifier, and a copy is equal.
+// Whether that is written of the identifier, and a copy is equal.
+fn is_mark_written(alloc: Global, ident: &Ident, written: &str) -> Result<bool, AllocError> {
+    let copy = ident.clone()?;
+    Ok(copy == *ident && writes(alloc, ident, written)?)
+}
+
+// The same of the keyword's identifier, and whether a leaf of it shows its span and its text.
 fn is_identifier(alloc: Global, is_raw: IdentIsRaw, written: &str) -> Result<bool, AllocError> {
     let ident = keyword(alloc, is_raw)?;
-    Ok(ident.clone()? == ident && writes(alloc, &ident, written)?)
+    let is_so = is_mark_written(alloc, &ident, written)?;
+    let leaf = Leaf::Ident(ident);
+    Ok(is_so && leaf.span() == span(1) && shows(alloc, &leaf, "\"fn\"")?)
 }
 
 #[test]
-fn raw_identifiers_are_written_with_their_mark(rt: HostRuntime) -> Result<(), Fail> {
+fn identifiers_are_written_with_their_mark_and_shown_as_leaves(rt: HostRuntime) {
     for (is_raw, written) in [(IdentIsRaw::No, "fn"), (IdentIsRaw::Yes, "r#fn")] {
-        assert!(rt; is_identifier(rt.alloc(), is_raw, written)?);
+        assert!(rt; is_identifier(rt.alloc(), is_raw, written).unwrap_or(false));
     }
-    Ok(())
-}
-
-#[test]
-fn a_leaf_shows_its_span_and_its_text(rt: HostRuntime) -> Result<(), Fail> {
-    for is_raw in [IdentIsRaw::No, IdentIsRaw::Yes] {
-        let leaf = Leaf::Ident(keyword(rt.alloc(), is_raw)?);
-        assert!(rt; leaf.span() == span(1) && shows(rt.alloc(), &leaf, "\"fn\"")?);
-    }
-    Ok(())
 }

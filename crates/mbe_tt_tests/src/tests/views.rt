@@ -1,5 +1,5 @@
 use super::cursors::{first_misplaced, first_unmoved};
-use super::iterators::{are_in_order, are_spanned, inside_second, passed};
+use super::iterators::{are_in_order, are_spanned, passed};
 use super::parts::{Piece, tree, write, write_open};
 use crate::writing::delimiter;
 use mbe_tt::tt::{DelimiterKind, Spacing, TokenTreesView, TopSubtree, TopSubtreeBuilder};
@@ -41,7 +41,7 @@ fn is_one_group(whole: TokenTreesView<'_>, inside: TokenTreesView<'_>) -> bool {
 }
 
 // What is seen of the sample, and whether it is so.
-fn seen(tree: &TopSubtree) -> [(&'static str, bool); 10] {
+fn seen(tree: &TopSubtree) -> [(&'static str, bool); 9] {
     let (whole, inside) = (tree.view(), tree.iter().remaining());
     let is_brace = tree.top_subtree().delimiter == delimiter(DelimiterKind::Brace);
     [
@@ -65,10 +65,6 @@ fn seen(tree: &TopSubtree) -> [(&'static str, bool); 10] {
         (
             "an iterator goes to a cursor",
             first_unmoved(tree).is_none(),
-        ),
-        (
-            "a group comes with its content",
-            inside_second(tree) == Some(2),
         ),
         (
             "each tree comes once and in order",
@@ -100,24 +96,29 @@ fn wrapped(alloc: Global, kind: DelimiterKind) -> Result<TopSubtree, AllocError>
 }
 
 // Only one level is opened, of the whole too.
-fn is_stripped(group: &TopSubtree, inside: Option<TokenTreesView<'_>>) -> bool {
+fn is_opened(group: &TopSubtree, inside: Option<TokenTreesView<'_>>) -> bool {
     let content = group.iter().remaining();
     group.view().strip_invisible() == content
         && content.strip_invisible() == inside.unwrap_or(content)
 }
 
+fn is_stripped(alloc: Global, kind: DelimiterKind) -> Result<bool, AllocError> {
+    let tree = sample(alloc)?;
+    let inside = match kind {
+        DelimiterKind::Invisible => Some(tree.iter().remaining()),
+        _ => None,
+    };
+    Ok(is_opened(&wrapped(alloc, kind)?, inside))
+}
+
 #[test]
-fn one_level_of_an_invisible_group_is_stripped(rt: HostRuntime) -> Result<(), Fail> {
-    let tree = sample(rt.alloc())?;
-    let inside = tree.iter().remaining();
-    for (kind, stripped) in [
-        (DelimiterKind::Invisible, Some(inside)),
-        (DelimiterKind::Parenthesis, None),
-        (DelimiterKind::Brace, None),
-        (DelimiterKind::Bracket, None),
+fn one_level_of_an_invisible_group_is_stripped(rt: HostRuntime) {
+    for kind in [
+        DelimiterKind::Invisible,
+        DelimiterKind::Parenthesis,
+        DelimiterKind::Brace,
+        DelimiterKind::Bracket,
     ] {
-        let group = wrapped(rt.alloc(), kind)?;
-        assert!(rt; is_stripped(&group, stripped), "{kind:?}");
+        assert!(rt; is_stripped(rt.alloc(), kind).unwrap_or(false), "{kind:?}");
     }
-    Ok(())
 }
