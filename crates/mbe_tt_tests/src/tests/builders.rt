@@ -204,7 +204,7 @@ static ROWS: [Row; 10] = [
         steps: &[
             (Step::Write(&[]), 0),
             (Step::Write(KEPT), 1),
-            (Step::GoBack("up"), 4),
+            (Step::Group("up", false), 4),
             (Step::Write(&[]), 1),
         ],
         holds: KEPT,

@@ -12,7 +12,7 @@ use std::alloc::{AllocError, Allocator, Global};
 // They have 1, 3, 6 and 6 flat tokens.
 static STEPS: [Step; 4] = [
     Step::Write(&[Piece::Ident("one")]),
-    Step::Group("two"),
+    Step::Group("two", true),
     Step::Copy(SAMPLE),
     Step::CopyAlone(SAMPLE),
 ];
