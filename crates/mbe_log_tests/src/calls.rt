@@ -35,6 +35,30 @@ pub struct Book<'a, A: Allocator = Global> {
     pub handles: Vec<Handle, A>,
 }
 
+/// A book with no handle.
+pub fn new_book<'a, A: Allocator + Copy>(alloc: A) -> Book<'a, A> {
+    Book {
+        log: BindingLog::new(alloc),
+        handles: Vec::new(alloc),
+    }
+}
+
+/// Makes the calls, up to one that is refused or whose handle isn't live. How many were made.
+pub fn make<'a, A: Allocator + Copy>(
+    book: &mut Book<'a, A>,
+    names: &[Symbol<A>],
+    tree: TokenTreesView<'a, A>,
+    calls: &[Call],
+) -> usize {
+    for (made, call) in calls.iter().enumerate() {
+        match apply(book, names, tree, *call) {
+            Ok(true) => {}
+            Ok(false) | Err(AllocError) => return made,
+        }
+    }
+    calls.len()
+}
+
 /// Makes the call. `false` where no live handle is at the place.
 pub fn apply<'a, A: Allocator + Copy>(
     book: &mut Book<'a, A>,
@@ -131,17 +155,35 @@ pub fn built<A: Allocator + Copy>(
     names: &[Symbol<A>],
 ) -> Result<String<A>, AllocError> {
     let mut text = String::new(alloc);
+    show_built(log, handle, names, &mut text)?;
+    Ok(text)
+}
+
+/// The same, after what is in the text.
+pub fn show_built<A: Allocator + Copy>(
+    log: &BindingLog<'_, A>,
+    handle: &Handle,
+    names: &[Symbol<A>],
+    text: &mut String<A>,
+) -> Result<(), AllocError> {
     if !log.is_live(handle) {
-        return Ok(text);
+        return Ok(());
     }
-    let bindings = log.build(handle)?;
+    show_all(&log.build(handle)?, names, text)
+}
+
+fn show_all<A: Allocator>(
+    bindings: &Bindings<'_, A>,
+    names: &[Symbol<A>],
+    text: &mut String<A>,
+) -> Result<(), AllocError> {
     for name in names {
         match bindings.get(name) {
-            Some(binding) => show(binding, &mut text)?,
+            Some(binding) => show(binding, text)?,
             None => text.push('.')?,
         }
     }
-    Ok(text)
+    Ok(())
 }
 
 // The binding as text.
@@ -170,12 +212,16 @@ fn letter<A: Allocator>(fragment: &Fragment<'_, A>) -> char {
     }
 }
 
+fn name<A: Allocator + Copy>(alloc: A, number: usize) -> Result<Symbol<A>, AllocError> {
+    let text = format!(in alloc; "n{number}")?;
+    Symbol::intern(alloc, text.as_str())
+}
+
 /// So many names, all different.
 pub fn names<A: Allocator + Copy>(alloc: A, count: usize) -> Result<Vec<Symbol<A>, A>, AllocError> {
     let mut names = Vec::new(alloc);
-    for i in 0..count {
-        let text = format!(in alloc; "n{i}")?;
-        names.push(Symbol::intern(alloc, text.as_str())?)?;
+    for number in 0..count {
+        names.push(name(alloc, number)?)?;
     }
     Ok(names)
 }

@@ -21,33 +21,30 @@ pub struct Account {
 /// Does the call.
 pub fn apply(alloc: Global, accounts: &mut Vec<Account>, call: Call) -> Result<(), AllocError> {
     match call {
-        Call::Alloc => accounts.push(Account {
-            finished: Vec::new(alloc),
-            current: Vec::new(alloc),
-        })?,
+        Call::Alloc => add(accounts, Some(new_account(alloc))),
         Call::Copy(at) => {
-            if let Some(copy) = copied(accounts, at)? {
-                accounts.push(copy)?;
-            }
+            let copy = copied(accounts, at)?;
+            add(accounts, copy)
         }
-        Call::Push(at, what, name) => {
-            if let Some(account) = accounts.get_mut(at) {
-                account.current.push(Token::Bound(name, what))?;
-            }
-        }
+        Call::Push(at, what, name) => push(accounts.get_mut(at), Token::Bound(name, what)),
         Call::Nested(parent, child) => {
-            if let (Some(child), Some(parent)) = (
-                copied(accounts, child)?,
-                accounts.get_mut(parent),
-            ) {
-                nest(&mut parent.current, child)?;
-            }
+            let child = copied(accounts, child)?;
+            nest(accounts.get_mut(parent), child.as_ref())
         }
-        Call::Default(at) => {
-            if let Some(account) = accounts.get_mut(at) {
-                finish(account)?;
-            }
-        }
+        Call::Default(at) => finish(accounts.get_mut(at)),
+    }
+}
+
+fn new_account(alloc: Global) -> Account {
+    Account {
+        finished: Vec::new(alloc),
+        current: Vec::new(alloc),
+    }
+}
+
+fn add(accounts: &mut Vec<Account>, account: Option<Account>) -> Result<(), AllocError> {
+    if let Some(account) = account {
+        accounts.push(account)?;
     }
     Ok(())
 }
@@ -62,24 +59,29 @@ fn copied(accounts: &[Account], at: usize) -> Result<Option<Account>, AllocError
     }
 }
 
-fn nest(current: &mut Vec<Token>, child: Account) -> Result<(), AllocError> {
-    current.push(Token::Open)?;
-    for token in &child.finished {
-        current.push(*token)?;
+fn push(account: Option<&mut Account>, token: Token) -> Result<(), AllocError> {
+    if let Some(account) = account {
+        account.current.push(token)?;
     }
-    for token in &child.current {
-        current.push(*token)?;
-    }
-    current.push(Token::Close)?;
     Ok(())
 }
 
-fn finish(account: &mut Account) -> Result<(), AllocError> {
-    for token in &account.current {
-        account.finished.push(*token)?;
+fn nest(parent: Option<&mut Account>, child: Option<&Account>) -> Result<(), AllocError> {
+    if let (Some(parent), Some(child)) = (parent, child) {
+        parent.current.push(Token::Open)?;
+        parent.current.extend_from_slice(&child.finished)?;
+        parent.current.extend_from_slice(&child.current)?;
+        parent.current.push(Token::Close)?;
     }
-    account.finished.push(Token::NextRound)?;
-    account.current.clear();
+    Ok(())
+}
+
+fn finish(account: Option<&mut Account>) -> Result<(), AllocError> {
+    if let Some(account) = account {
+        account.finished.extend_from_slice(&account.current)?;
+        account.finished.push(Token::NextRound)?;
+        account.current.clear();
+    }
     Ok(())
 }
 

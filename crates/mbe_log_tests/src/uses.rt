@@ -60,11 +60,7 @@ pub fn own<'a, A: Allocator + Copy>(
     name: &Symbol<A>,
     input: &'a TopSubtree<A>,
 ) -> Result<Bindings<'a, A>, AllocError> {
-    let mut log = BindingLog::new(alloc);
-    let mut handle = log.alloc()?;
-    log.push_fragment(&mut handle, name, Fragment::Expr(input.view()))?;
-    let bindings = log.build(&handle)?;
-    Ok(bindings)
+    bind_one(&mut BindingLog::new(alloc), name, input.view())
 }
 
 /// What a single position binds.

@@ -6,5 +6,6 @@ mod grammars;
 mod iterators;
 mod memory;
 mod parts;
+mod steps;
 mod texts;
 mod views;

@@ -1,11 +1,11 @@
-// Writing trees of any size, part by part.
-ghost use Rattle.std.specs.Prelude.{◌≡◌, ◌+◌, ◌<◌, ◌^◌, length};
+// Leaves and spans to write trees of, and ways over trees.
+ghost use Rattle.std.specs.Prelude.{◌<◌};
 
 use mbe_tt::span::{Span, SyntaxContext};
 use mbe_tt::symbol::Symbol;
 use mbe_tt::tt::{
     Delimiter, DelimiterKind, Ident, IdentIsRaw, Leaf, LitKind, Literal, Punct, Spacing,
-    TokenTreesView, TopSubtree, TopSubtreeBuilder, TtIter,
+    TokenTreesView, TtIter,
 };
 use std::alloc::{AllocError, Allocator};
 
@@ -53,100 +53,6 @@ pub fn literal<A: Allocator + Copy>(alloc: A, text: &str) -> Result<Leaf<A>, All
         kind: LitKind::Str,
         span: span(5),
     }))
-}
-
-// A group with that leaf in it, or nothing.
-#[tactic(auto, using(mbe_tt::proofs::Buffers::OpenGroups::put_length, mbe_tt::proofs::Buffers::OpenGroups::closed_length))]
-fn write_group<A: Allocator>(
-    builder: &mut TopSubtreeBuilder<A>,
-    leaf: Leaf<A>,
-) -> Result<(), AllocError>
-    requires { 0 < length builder.old }
-    ensures { length builder.new ≡ length builder.old }
-{
-    let point = builder.restore_point();
-    builder.open(DelimiterKind::Parenthesis, span(0))?;
-    let written = builder.push(leaf);
-    builder.close(span(9));
-    if written.is_err() {
-        builder.restore(point);
-    }
-    written
-}
-
-/// Writes a group with that leaf in it, and goes back to where the builder was. It returns how many flat tokens were
-/// written in between.
-#[tactic(auto, using(mbe_tt::proofs::Buffers::OpenGroups::put_length, mbe_tt::proofs::Buffers::OpenGroups::closed_length))]
-pub fn write_and_go_back<A: Allocator>(
-    builder: &mut TopSubtreeBuilder<A>,
-    leaf: Leaf<A>,
-) -> Result<usize, AllocError>
-    requires { 0 < length builder.old }
-    ensures { length builder.new ≡ length builder.old }
-{
-    let point = builder.restore_point();
-    builder.open(DelimiterKind::Parenthesis, span(0))?;
-    let written = builder.push(leaf);
-    builder.close(span(9));
-    let reached = builder.restore_point();
-    builder.restore(point);
-    written?;
-    Ok(reached)
-}
-
-// One part: a leaf, a group with a leaf in it, or copies of the view's trees. Refused, it writes nothing.
-#[tactic(auto, using(mbe_tt::proofs::Buffers::OpenGroups::put_length, mbe_tt::proofs::Buffers::OpenGroups::closed_length))]
-fn write_part<A: Allocator + Copy>(
-    builder: &mut TopSubtreeBuilder<A>,
-    alloc: A,
-    view: TokenTreesView<'_, A>,
-    part: usize,
-) -> Result<(), AllocError>
-    requires { 0 < length builder.old }
-    ensures { length builder.new ≡ length builder.old }
-{
-    match part % 4 {
-        0 => builder.push(ident(alloc, "one")?),
-        1 => {
-            let leaf = ident(alloc, "two")?;
-            write_group(builder, leaf)
-        }
-        2 => builder.extend_with_tt(view),
-        _ => builder.extend_with_tt_alone(view),
-    }
-}
-
-/// Writes as many parts as `limit` says and memory allows. It returns how many were written whole.
-#[tactic(auto, using(mbe_tt::proofs::Buffers::OpenGroups::put_length, mbe_tt::proofs::Buffers::OpenGroups::closed_length))]
-pub fn write_parts<A: Allocator + Copy>(
-    builder: &mut TopSubtreeBuilder<A>,
-    alloc: A,
-    view: TokenTreesView<'_, A>,
-    limit: usize,
-) -> usize
-    requires { 0 < length builder.old }
-    ensures { length builder.new ≡ length builder.old }
-{
-    for part in 0..limit {
-        if write_part(builder, alloc, view, part).is_err() {
-            return part;
-        }
-    }
-    limit
-}
-
-/// That many groups, each in the one before.
-pub fn nested<A: Allocator>(alloc: A, depth: usize) -> Result<TopSubtree<A>, AllocError>
-    requires { depth < 2 ^ 32 }
-{
-    let mut builder = TopSubtreeBuilder::new(alloc, delimiter(DelimiterKind::Invisible))?;
-    for _opened in 0..depth {
-        builder.open(DelimiterKind::Bracket, span(1))?;
-    }
-    for _closed in 0..depth {
-        builder.close(span(2));
-    }
-    Ok(builder.build())
 }
 
 /// Consumes that many flat tokens, where the place after them is in no group of what is left. It says whether it did.

@@ -1,11 +1,9 @@
-use crate::calls::{Book, Call, What, apply, built, names};
-use mbe_log::log::BindingLog;
+use crate::calls::{Book, Call, What, make, names, new_book, show_built};
 use mbe_tt::span::{DelimSpan, Span};
 use mbe_tt::symbol::Symbol;
 use mbe_tt::tt::{TokenTreesView, TopSubtree};
 use refusing::Refusing;
-use std::alloc::{AllocError, Allocator};
-use std::test::Fail;
+use std::alloc::{AllocError, Allocator, Global};
 
 // Each call, on lists that end with the handle's entries and on lists that go on after them.
 static CALLS: [Call; 16] = [
@@ -27,26 +25,6 @@ static CALLS: [Call; 16] = [
     Call::Nested(0, 2),
 ];
 
-// Makes the first so many calls, up to one that is refused. How many were made.
-fn make<'a, A: Allocator + Copy>(
-    book: &mut Book<'a, A>,
-    names: &[Symbol<A>],
-    tree: TokenTreesView<'a, A>,
-    limit: usize,
-) -> usize {
-    let mut made = 0usize;
-    for call in &CALLS {
-        if made == limit {
-            break;
-        }
-        match apply(book, names, tree, *call) {
-            Ok(true) => made = made.saturating_add(1),
-            Ok(false) | Err(AllocError) => break,
-        }
-    }
-    made
-}
-
 // What all handles bind, one after the other.
 fn texts<A: Allocator + Copy>(
     alloc: A,
@@ -55,18 +33,19 @@ fn texts<A: Allocator + Copy>(
 ) -> Result<String<A>, AllocError> {
     let mut all = String::new(alloc);
     for handle in &book.handles {
-        let text = built(alloc, &book.log, handle, names)?;
-        all.push_str(text.as_str())?;
+        show_built(&book.log, handle, names, &mut all)?;
         all.push(' ')?;
     }
     Ok(all)
 }
 
-fn book<'a, A: Allocator + Copy>(alloc: A) -> Book<'a, A> {
-    Book {
-        log: BindingLog::new(alloc),
-        handles: Vec::new(alloc),
-    }
+fn bind_alike<A: Allocator + Copy>(
+    alloc: A,
+    one: &Book<'_, A>,
+    other: &Book<'_, A>,
+    names: &[Symbol<A>],
+) -> Result<bool, AllocError> {
+    Ok(texts(alloc, one, names)? == texts(alloc, other, names)?)
 }
 
 // Whether the handles bind what they bind after so many calls without a refusal.
@@ -77,59 +56,64 @@ fn is_as_after<'a, A: Allocator + Copy>(
     tree: TokenTreesView<'a, A>,
     count: usize,
 ) -> Result<bool, AllocError> {
-    let mut other = book(alloc);
-    let made = make(&mut other, names, tree, count);
-    Ok(made == count && texts(alloc, one, names)? == texts(alloc, &other, names)?)
+    let mut other = new_book(alloc);
+    let made = make(&mut other, names, tree, CALLS.get(..count).unwrap_or(&[]));
+    Ok(made == count && bind_alike(alloc, one, &other, names)?)
 }
 
-// The request of each number is refused in turn. What the handles bind then is what they bind after the calls before.
-#[test]
-fn a_refused_call_changes_no_handle(rt: HostRuntime) -> Result<(), Fail> {
-    for number in 1..1000u64 {
-        let alloc = Refusing::new(rt.alloc(), number);
-        let Ok(tree) = TopSubtree::empty(&alloc, DelimSpan::from_single(Span::default())) else {
-            continue;
-        };
-        let Ok(names) = names(&alloc, 3) else {
-            continue;
-        };
-        let mut one = book(&alloc);
-        let made = make(&mut one, &names, tree.view(), CALLS.len());
-        if !alloc.has_refused() {
-            assert!(rt; made == CALLS.len());
-            // The tree, each name, both lists of lists and each list that has an entry are a request at least.
-            assert!(rt; number > 12, "only {number} requests");
-            return Ok(());
-        }
-        let same = is_as_after(&alloc, &one, &names, tree.view(), made)?;
-        assert!(rt; same, "at {number}");
+// Whether all calls are made, and what the handles bind is built where that is asked for. Where they aren't, the handles bind
+// what they bind after the calls before; nothing where that isn't so. The allocator refuses nothing more.
+fn is_whole<'a, A: Allocator + Copy>(
+    one: &mut Book<'a, A>,
+    alloc: A,
+    names: &[Symbol<A>],
+    tree: TokenTreesView<'a, A>,
+    builds: bool,
+) -> Option<bool> {
+    let made = make(one, names, tree, &CALLS);
+    if made == CALLS.len() && (!builds || texts(alloc, one, names).is_ok()) {
+        return Some(true);
     }
-    Err(Fail::from("it goes on"))
+    if is_as_after(alloc, one, names, tree, made).ok()? {
+        Some(false)
+    } else {
+        None
+    }
 }
 
-// The same of building.
-#[test]
-fn a_refused_build_can_be_asked_again(rt: HostRuntime) -> Result<(), Fail> {
+// The same with a tree and names of its own.
+fn is_done<A: Allocator + Copy>(alloc: A, builds: bool) -> Result<Option<bool>, AllocError> {
+    let tree = TopSubtree::empty(alloc, DelimSpan::from_single(Span::default()))?;
+    let names = names(alloc, 3)?;
+    let mut one = new_book(alloc);
+    Ok(is_whole(&mut one, alloc, &names, tree.view(), builds))
+}
+
+// Whether the request of that number was refused. All is done where none was, and else not; nothing where that isn't so.
+fn is_refused(alloc: Global, builds: bool, number: u64) -> Option<bool> {
+    let alloc = Refusing::new(alloc, number);
+    let is_whole = is_done(&alloc, builds).unwrap_or(Some(false))?;
+    (alloc.has_refused() != is_whole).then_some(!is_whole)
+}
+
+// The number of the first request that isn't there to be refused, where each before is refused in turn as it has to be.
+fn first_unrefused(alloc: Global, builds: bool) -> Option<u64> {
     for number in 1..1000u64 {
-        let alloc = Refusing::new(rt.alloc(), number);
-        let Ok(tree) = TopSubtree::empty(&alloc, DelimSpan::from_single(Span::default())) else {
-            continue;
-        };
-        let Ok(names) = names(&alloc, 3) else {
-            continue;
-        };
-        let mut one = book(&alloc);
-        let made = make(&mut one, &names, tree.view(), CALLS.len());
-        if alloc.has_refused() {
-            continue;
+        if !is_refused(alloc, builds, number)? {
+            return Some(number);
         }
-        let first = texts(&alloc, &one, &names);
-        if !alloc.has_refused() {
-            assert!(rt; first.is_ok());
-            return Ok(());
-        }
-        let same = is_as_after(&alloc, &one, &names, tree.view(), made)?;
-        assert!(rt; same, "at {number}");
     }
-    Err(Fail::from("it goes on"))
+    None
+}
+
+// The tree, each name, both lists of lists and each list that has an entry are a request at least.
+#[test]
+fn a_refused_call_changes_no_handle(rt: HostRuntime) {
+    assert!(rt; first_unrefused(rt.alloc(), false).unwrap_or(0) > 12);
+}
+
+// The text of each of the four handles is a request more at least.
+#[test]
+fn a_refused_build_can_be_asked_again(rt: HostRuntime) {
+    assert!(rt; first_unrefused(rt.alloc(), true).unwrap_or(0) > 16);
 }

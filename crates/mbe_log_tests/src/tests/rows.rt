@@ -1,10 +1,9 @@
-use crate::calls::{Book, Call, What, apply, built, names};
-use mbe_log::log::BindingLog;
+use crate::calls::{Book, Call, What, built, make, names, new_book};
+use mbe_log::log::{BindingLog, Handle};
 use mbe_tt::span::{DelimSpan, Span};
 use mbe_tt::symbol::Symbol;
 use mbe_tt::tt::TopSubtree;
 use std::alloc::{AllocError, Global};
-use std::test::Fail;
 
 // Calls, a handle, its two numbers of entries after them, and what it binds three names to.
 struct Row {
@@ -154,63 +153,90 @@ static ROWS: [Row; 11] = [
     },
 ];
 
-// The numbers and the text of a handle after the calls.
-fn answer(
+// Whether the row's handle has the numbers and binds what the row says.
+fn is_bound(
     alloc: Global,
+    book: &Book<'_>,
     names: &[Symbol],
     row: &Row,
-) -> Result<((usize, usize), String), AllocError> {
-    let tree = TopSubtree::empty(alloc, DelimSpan::from_single(Span::default()))?;
-    let mut book = Book {
-        log: BindingLog::new(alloc),
-        handles: Vec::new(alloc),
+) -> Result<bool, AllocError> {
+    let Some(handle) = book.handles.get(row.handle) else {
+        return Ok(false);
     };
-    for call in row.calls {
-        if !apply(&mut book, names, tree.view(), *call)? {
-            return Ok(((0, 0), String::new(alloc)));
-        }
+    if !book.log.is_live(handle) || book.log.entries_of(handle) != row.entries {
+        return Ok(false);
     }
-    match book.handles.get(row.handle) {
-        Some(handle) if book.log.is_live(handle) => Ok((
-            book.log.entries_of(handle),
-            built(alloc, &book.log, handle, names)?,
-        )),
-        _ => Ok(((0, 0), String::new(alloc))),
-    }
+    Ok(built(alloc, &book.log, handle, names)?.as_str() == row.binds)
+}
+
+// The same after the row's calls.
+fn is_so(alloc: Global, row: &Row) -> Result<bool, AllocError> {
+    let tree = TopSubtree::empty(alloc, DelimSpan::from_single(Span::default()))?;
+    let names = names(alloc, 3)?;
+    let mut book = new_book(alloc);
+    let made = make(&mut book, &names, tree.view(), row.calls);
+    Ok(made == row.calls.len() && is_bound(alloc, &book, &names, row)?)
 }
 
 #[test]
-fn calls_bind_what_their_rows_say(rt: HostRuntime) -> Result<(), Fail> {
-    let names = names(rt.alloc(), 3)?;
+fn calls_bind_what_their_rows_say(rt: HostRuntime) {
     for (at, row) in ROWS.iter().enumerate() {
-        let (entries, text) = answer(rt.alloc(), &names, row)?;
-        assert!(rt; entries == row.entries, "at {at}");
-        assert!(rt; text.as_str() == row.binds, "at {at}");
+        assert!(rt; is_so(rt.alloc(), row).unwrap_or(false), "at {at}");
     }
-    Ok(())
+}
+
+// Pushes a command for each name, where the handle is live before each.
+fn push_all(
+    log: &mut BindingLog<'_>,
+    handle: &mut Handle,
+    names: &[Symbol],
+) -> Result<bool, AllocError> {
+    for name in names {
+        if !log.is_live(handle) {
+            return Ok(false);
+        }
+        log.push_optional(handle, name)?;
+    }
+    Ok(true)
+}
+
+// Whether the handle is live, and how many names it binds then.
+fn binds(log: &BindingLog<'_>, handle: &Handle, count: usize) -> Result<bool, AllocError> {
+    if !log.is_live(handle) {
+        return Ok(false);
+    }
+    Ok(log.build(handle)?.len() == count)
+}
+
+// Whether the handle is live, and has few entries.
+fn is_short(log: &BindingLog<'_>, handle: &Handle) -> bool {
+    log.is_live(handle) && matches!(log.entries_of(handle), (0..=3, 0..=3))
+}
+
+// Whether a handle of the first thousand names has a short copy, which doesn't see what is pushed after it.
+fn is_copied(log: &mut BindingLog<'_>, names: &[Symbol]) -> Result<bool, AllocError> {
+    let (front, last) = names.split_at(names.len().min(1_000));
+    let mut handle = log.alloc()?;
+    if !push_all(log, &mut handle, front)? || !log.is_live(&handle) {
+        return Ok(false);
+    }
+    let copy = log.copy(&handle)?;
+    let is_pushed = push_all(log, &mut handle, last)?;
+    Ok(
+        is_pushed
+            && is_short(log, &copy)
+            && binds(log, &copy, 1_000)?
+            && binds(log, &handle, 1_001)?,
+    )
+}
+
+fn is_copied_short(alloc: Global) -> Result<bool, AllocError> {
+    let names = names(alloc, 1_001)?;
+    is_copied(&mut BindingLog::new(alloc), &names)
 }
 
 // A copy of many commands has few entries, and doesn't see what is pushed after it.
 #[test]
-fn a_copy_of_many_commands_is_short(rt: HostRuntime) -> Result<(), Fail> {
-    let names = names(rt.alloc(), 1_001)?;
-    let mut log = BindingLog::new(rt.alloc());
-    let mut handle = log.alloc()?;
-    let Some(last) = names.last() else {
-        return Err(Fail::from("no name"));
-    };
-    for name in names.iter().take(1_000) {
-        assert!(rt; log.is_live(&handle));
-        log.push_optional(&mut handle, name)?;
-    }
-    assert!(rt; log.is_live(&handle));
-    let copy = log.copy(&handle)?;
-    assert!(rt; log.is_live(&handle));
-    log.push_optional(&mut handle, last)?;
-    assert!(rt; log.is_live(&copy));
-    let (commands, rounds) = log.entries_of(&copy);
-    assert!(rt; commands <= 3 && rounds <= 3);
-    assert!(rt; log.build(&copy)?.len() == 1_000);
-    assert!(rt; log.build(&handle)?.len() == 1_001);
-    Ok(())
+fn a_copy_of_many_commands_is_short(rt: HostRuntime) {
+    assert!(rt; is_copied_short(rt.alloc()).unwrap_or(false));
 }

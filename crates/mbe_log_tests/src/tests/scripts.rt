@@ -1,14 +1,15 @@
-use crate::calls::{Book, Call, What, apply, built, names};
+use crate::calls::{Book, Call, What, apply, built, names, new_book};
 use crate::model;
-use mbe_log::log::BindingLog;
 use mbe_tt::span::{DelimSpan, Span};
-use mbe_tt::tt::TopSubtree;
-use std::alloc::Global;
-use std::test::Fail;
+use mbe_tt::symbol::Symbol;
+use mbe_tt::tt::{TokenTreesView, TopSubtree};
+use std::alloc::{AllocError, Global};
 
 const NAMES: usize = 3;
 
 const HANDLES: usize = 6;
+
+const STEPS: usize = 40;
 
 static WHATS: [What; 4] = [What::Tree, What::Nothing, What::Skipped, What::Missing];
 
@@ -35,34 +36,40 @@ fn call(number: usize, handles: usize) -> Call {
     }
 }
 
-// Makes so many calls on a log and on the model, and compares what all handles bind after every eighth.
-fn script(alloc: Global, seed: usize, steps: usize) -> Result<bool, Fail> {
-    let tree = TopSubtree::empty(alloc, DelimSpan::from_single(Span::default()))?;
-    let names = names(alloc, NAMES)?;
-    let mut book = Book {
-        log: BindingLog::new(alloc),
-        handles: Vec::new(alloc),
-    };
-    let mut accounts = Vec::new(alloc);
+// A log and the model beside it.
+#[derive(Drop)]
+struct Both<'a> {
+    book: Book<'a>,
+    accounts: Vec<model::Account>,
+}
+
+// Makes so many calls on both, and compares what all handles bind after every eighth.
+fn play<'a>(
+    both: &mut Both<'a>,
+    alloc: Global,
+    names: &[Symbol],
+    tree: TokenTreesView<'a>,
+    seed: usize,
+) -> Result<bool, AllocError> {
     let mut state = next(seed);
-    for step in 0..steps {
+    for step in 0..STEPS {
         state = next(state);
-        let call = call(state, book.handles.len());
-        if !apply(&mut book, &names, tree.view(), call)? {
+        let call = call(state, both.book.handles.len());
+        if !apply(&mut both.book, names, tree, call)? {
             return Ok(false);
         }
-        model::apply(alloc, &mut accounts, call)?;
-        if step % 8 == 7 && !agrees(alloc, &book, &accounts)? {
+        model::apply(alloc, &mut both.accounts, call)?;
+        if step % 8 == 7 && !agrees(alloc, both, names)? {
             return Ok(false);
         }
     }
     Ok(true)
 }
 
-fn agrees(alloc: Global, book: &Book<'_>, accounts: &[model::Account]) -> Result<bool, Fail> {
-    let names = names(alloc, NAMES)?;
+fn agrees(alloc: Global, both: &Both<'_>, names: &[Symbol]) -> Result<bool, AllocError> {
+    let (book, accounts) = (&both.book, &both.accounts);
     for (handle, account) in book.handles.iter().zip(accounts) {
-        let text = built(alloc, &book.log, handle, &names)?;
+        let text = built(alloc, &book.log, handle, names)?;
         if text != model::built(alloc, account, NAMES)? {
             return Ok(false);
         }
@@ -70,11 +77,19 @@ fn agrees(alloc: Global, book: &Book<'_>, accounts: &[model::Account]) -> Result
     Ok(book.handles.len() == accounts.len())
 }
 
+fn script(alloc: Global, seed: usize) -> Result<bool, AllocError> {
+    let tree = TopSubtree::empty(alloc, DelimSpan::from_single(Span::default()))?;
+    let names = names(alloc, NAMES)?;
+    let mut both = Both {
+        book: new_book(alloc),
+        accounts: Vec::new(alloc),
+    };
+    play(&mut both, alloc, &names, tree.view(), seed)
+}
+
 #[test]
-fn random_scripts_agree_with_plain_lists(rt: HostRuntime) -> Result<(), Fail> {
+fn random_scripts_agree_with_plain_lists(rt: HostRuntime) {
     for seed in 0..500usize {
-        let agrees = script(rt.alloc(), seed, 40)?;
-        assert!(rt; agrees, "at {seed}");
+        assert!(rt; script(rt.alloc(), seed).unwrap_or(false), "at {seed}");
     }
-    Ok(())
 }

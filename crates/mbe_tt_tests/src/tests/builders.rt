@@ -1,34 +1,30 @@
+ghost use Rattle.std.specs.Prelude.{◌≡◌, ◌<◌, length};
+
+use super::cursors::{is_first_group, opened};
 use super::parts::{Piece, tree, write, write_open};
-use super::views::sample;
-use crate::writing::{delimiter, ident, punct, span, write_and_go_back};
-use mbe_tt::tt::{
-    Delimiter, DelimiterKind, Spacing, TokenTreesView, TopSubtree, TopSubtreeBuilder,
-};
+use super::steps::{Step, take};
+use super::views::SAMPLE;
+use crate::writing::delimiter;
+use mbe_tt::tt::{DelimiterKind, Spacing, TopSubtree, TopSubtreeBuilder};
 use std::alloc::{AllocError, Global};
-use std::test::Fail;
+
+// Whether a group of that kind that closes at 12 is all that is inside braces.
+fn is_group(alloc: Global, kind: DelimiterKind) -> Result<bool, AllocError> {
+    let tree = tree(alloc, &[Piece::Open(kind), Piece::Close(12)])?;
+    let is_brace = tree.top_subtree().delimiter == delimiter(DelimiterKind::Brace);
+    Ok(is_brace && is_first_group(&tree, opened(kind, 12), true))
+}
 
 #[test]
-fn groups_have_their_kinds_and_spans(rt: HostRuntime) -> Result<(), Fail> {
+fn groups_have_their_kinds_and_spans(rt: HostRuntime) {
     for kind in [
         DelimiterKind::Parenthesis,
         DelimiterKind::Brace,
         DelimiterKind::Bracket,
         DelimiterKind::Invisible,
     ] {
-        let tree = tree(rt.alloc(), &[Piece::Open(kind), Piece::Close(12)])?;
-        assert!(rt; tree.top_subtree().delimiter == delimiter(DelimiterKind::Brace));
-        let Ok((group, inside)) = tree.iter().expect_subtree() else {
-            return Err(Fail::from("no group"));
-        };
-        assert!(rt; inside.is_empty());
-        let want = Delimiter {
-            opening: span(1),
-            close: span(12),
-            kind,
-        };
-        assert!(rt; group.delimiter == want);
+        assert!(rt; is_group(rt.alloc(), kind).unwrap_or(false), "{kind:?}");
     }
-    Ok(())
 }
 
 // Parts, and the kind of the innermost group that they leave open inside the whole, which is a brace.
@@ -61,156 +57,201 @@ static OPEN: [(&[Piece], Option<DelimiterKind>); 7] = [
     (&[Piece::Open(DelimiterKind::Brace), Piece::Close(3)], None),
 ];
 
-fn open_kind(alloc: Global, parts: &[Piece]) -> Result<Option<DelimiterKind>, AllocError> {
+fn is_open(
+    alloc: Global,
+    parts: &[Piece],
+    kind: Option<DelimiterKind>,
+) -> Result<bool, AllocError> {
     let mut builder = TopSubtreeBuilder::new(alloc, delimiter(DelimiterKind::Brace))?;
     write_open(&mut builder, alloc, parts)?;
-    Ok(builder.open_kind())
+    Ok(builder.open_kind() == kind)
 }
 
 #[test]
-fn the_kind_of_the_innermost_open_group_is_told(rt: HostRuntime) -> Result<(), Fail> {
+fn the_kind_of_the_innermost_open_group_is_told(rt: HostRuntime) {
     for (row, (parts, kind)) in OPEN.iter().enumerate() {
-        assert!(rt; open_kind(rt.alloc(), parts)? == *kind, "row {row}");
+        assert!(rt;
+            is_open(rt.alloc(), parts, *kind).unwrap_or(false),
+            "row {row}"
+        );
     }
-    Ok(())
 }
 
-// Trees, and how many flat tokens and trees are there once the last is unwrapped where it is an invisible group. The whole
-// has two flat tokens, each leaf one and each group two.
-static LAST: [(&[Piece], usize, usize); 4] = [
-    (
-        &[
-            Piece::Ident("before"),
-            Piece::Open(DelimiterKind::Invisible),
-            Piece::Ident("within"),
-            Piece::Open(DelimiterKind::Parenthesis),
-            Piece::Close(2),
-            Piece::Close(2),
-        ],
-        6,
-        3,
-    ),
-    (
-        &[
-            Piece::Ident("before"),
-            Piece::Open(DelimiterKind::Bracket),
-            Piece::Ident("within"),
-            Piece::Open(DelimiterKind::Parenthesis),
-            Piece::Close(2),
-            Piece::Close(2),
-        ],
-        8,
-        2,
-    ),
-    (
-        &[
-            Piece::Ident("before"),
-            Piece::Open(DelimiterKind::Invisible),
-            Piece::Ident("within"),
-            Piece::Open(DelimiterKind::Parenthesis),
-            Piece::Close(2),
-            Piece::Close(2),
-            Piece::Ident("after"),
-        ],
-        9,
-        3,
-    ),
-    (&[], 2, 0),
+// Steps, each with how many flat tokens are written after it, before a group is taken back; what is there then, how many flat
+// tokens with the two of the whole, each leaf one and each group two, and how many trees.
+struct Row {
+    steps: &'static [(Step, usize)],
+    holds: &'static [Piece],
+    tokens: usize,
+    trees: usize,
+}
+
+const INVISIBLE_LAST: &[Piece] = &[
+    Piece::Ident("before"),
+    Piece::Open(DelimiterKind::Invisible),
+    Piece::Ident("within"),
+    Piece::Open(DelimiterKind::Parenthesis),
+    Piece::Close(2),
+    Piece::Close(2),
 ];
 
-fn unwrapped(alloc: Global, parts: &[Piece]) -> Result<TopSubtree, AllocError> {
-    let mut builder = TopSubtreeBuilder::new(alloc, delimiter(DelimiterKind::Brace))?;
-    write(&mut builder, alloc, parts)?;
-    builder.remove_last_subtree_if_invisible();
-    Ok(builder.build())
-}
+const BRACKET_LAST: &[Piece] = &[
+    Piece::Ident("before"),
+    Piece::Open(DelimiterKind::Bracket),
+    Piece::Ident("within"),
+    Piece::Open(DelimiterKind::Parenthesis),
+    Piece::Close(2),
+    Piece::Close(2),
+];
 
-#[test]
-fn a_last_invisible_group_is_unwrapped(rt: HostRuntime) -> Result<(), Fail> {
-    for (row, (parts, tokens, trees)) in LAST.iter().enumerate() {
-        let tree = unwrapped(rt.alloc(), parts)?;
-        let found = (tree.view().flat_len(), tree.iter().remaining().len());
-        assert!(rt; found == (*tokens, *trees), "row {row}");
+const INVISIBLE_WITHIN: &[Piece] = &[
+    Piece::Ident("before"),
+    Piece::Open(DelimiterKind::Invisible),
+    Piece::Ident("within"),
+    Piece::Open(DelimiterKind::Parenthesis),
+    Piece::Close(2),
+    Piece::Close(2),
+    Piece::Ident("after"),
+];
+
+const JOINT: &[Piece] = &[
+    Piece::Punct('+', Spacing::Joint),
+    Piece::Punct('+', Spacing::Joint),
+];
+
+const JOINT_IN_A_GROUP: &[Piece] = &[
+    Piece::Open(DelimiterKind::Brace),
+    Piece::Punct('+', Spacing::Joint),
+    Piece::Punct('+', Spacing::Joint),
+    Piece::Close(9),
+];
+
+const LEAVES: &[Piece] = &[Piece::Ident("a"), Piece::Punct('+', Spacing::Alone)];
+
+const KEPT: &[Piece] = &[Piece::Ident("kept")];
+
+static ROWS: [Row; 10] = [
+    // A last group is unwrapped where it is invisible.
+    Row {
+        steps: &[(Step::Write(INVISIBLE_LAST), 6), (Step::Unwrap, 4)],
+        holds: &[
+            Piece::Ident("before"),
+            Piece::Ident("within"),
+            Piece::Open(DelimiterKind::Parenthesis),
+            Piece::Close(2),
+        ],
+        tokens: 6,
+        trees: 3,
+    },
+    Row {
+        steps: &[(Step::Write(BRACKET_LAST), 6), (Step::Unwrap, 6)],
+        holds: BRACKET_LAST,
+        tokens: 8,
+        trees: 2,
+    },
+    Row {
+        steps: &[(Step::Write(INVISIBLE_WITHIN), 7), (Step::Unwrap, 7)],
+        holds: INVISIBLE_WITHIN,
+        tokens: 9,
+        trees: 3,
+    },
+    Row {
+        steps: &[(Step::Write(&[]), 0), (Step::Unwrap, 0)],
+        holds: &[],
+        tokens: 2,
+        trees: 0,
+    },
+    // Only the last punct is alone; other last trees are copied as they are: a group that ends in a joint punct, a literal,
+    // and none.
+    Row {
+        steps: &[(Step::Copy(JOINT), 2), (Step::CopyAlone(JOINT), 4)],
+        holds: &[
+            Piece::Punct('+', Spacing::Joint),
+            Piece::Punct('+', Spacing::Joint),
+            Piece::Punct('+', Spacing::Joint),
+            Piece::Punct('+', Spacing::Alone),
+        ],
+        tokens: 6,
+        trees: 4,
+    },
+    Row {
+        steps: &[(Step::CopyAlone(JOINT_IN_A_GROUP), 4)],
+        holds: JOINT_IN_A_GROUP,
+        tokens: 6,
+        trees: 1,
+    },
+    Row {
+        steps: &[(Step::CopyAlone(SAMPLE), 6)],
+        holds: SAMPLE,
+        tokens: 8,
+        trees: 3,
+    },
+    Row {
+        steps: &[(Step::CopyAlone(&[]), 0)],
+        holds: &[],
+        tokens: 2,
+        trees: 0,
+    },
+    // Leaves are written in order.
+    Row {
+        steps: &[(Step::Extend(LEAVES), 2)],
+        holds: LEAVES,
+        tokens: 4,
+        trees: 2,
+    },
+    // A builder goes back to a point.
+    Row {
+        steps: &[
+            (Step::Write(&[]), 0),
+            (Step::Write(KEPT), 1),
+            (Step::Group("up", false), 4),
+            (Step::Write(&[]), 1),
+        ],
+        holds: KEPT,
+        tokens: 3,
+        trees: 1,
+    },
+];
+
+// The first step after which another number of flat tokens is written.
+fn first_wrong(
+    builder: &mut TopSubtreeBuilder,
+    alloc: Global,
+    steps: &[(Step, usize)],
+) -> Result<Option<usize>, AllocError>
+    requires { 0 < length builder.old }
+    ensures { 0 < length builder.new }
+{
+    for (place, (step, written)) in steps.iter().enumerate() {
+        if take(builder, alloc, *step)? != *written {
+            return Ok(Some(place));
+        }
     }
-    Ok(())
+    Ok(None)
 }
 
-static JOINT: [Piece; 2] = [
-    Piece::Punct('+', Spacing::Joint),
-    Piece::Punct('+', Spacing::Joint),
-];
-
-static JOINT_BUT_THE_LAST: [Piece; 4] = [
-    Piece::Punct('+', Spacing::Joint),
-    Piece::Punct('+', Spacing::Joint),
-    Piece::Punct('+', Spacing::Joint),
-    Piece::Punct('+', Spacing::Alone),
-];
-
-#[test]
-fn only_the_last_punct_is_alone(rt: HostRuntime) -> Result<(), Fail> {
-    let alloc = rt.alloc();
-    let source = tree(alloc, &JOINT)?;
+// What a builder holds after the steps, or nothing where one of them goes wrong.
+fn built(alloc: Global, steps: &[(Step, usize)]) -> Result<Option<TopSubtree>, AllocError> {
     let mut builder = TopSubtreeBuilder::new(alloc, delimiter(DelimiterKind::Brace))?;
-    builder.extend_with_tt(source.iter().remaining())?;
-    builder.extend_with_tt_alone(source.iter().remaining())?;
-    assert!(rt; builder.build() == tree(alloc, &JOINT_BUT_THE_LAST)?);
-    Ok(())
+    if first_wrong(&mut builder, alloc, steps)?.is_some() {
+        return Ok(None);
+    }
+    write(&mut builder, alloc, &[])?;
+    Ok(Some(builder.build()))
 }
 
-fn copied(alloc: Global, view: TokenTreesView<'_>) -> Result<TopSubtree, AllocError> {
-    let mut builder = TopSubtreeBuilder::new(alloc, delimiter(DelimiterKind::Brace))?;
-    builder.extend_with_tt(view)?;
-    Ok(builder.build())
-}
-
-fn copied_alone(alloc: Global, view: TokenTreesView<'_>) -> Result<TopSubtree, AllocError> {
-    let mut builder = TopSubtreeBuilder::new(alloc, delimiter(DelimiterKind::Brace))?;
-    builder.extend_with_tt_alone(view)?;
-    Ok(builder.build())
-}
-
-// The last tree is a group that ends in a joint punct, or a literal, or there is none.
-#[test]
-fn other_last_trees_are_copied_as_they_are(rt: HostRuntime) -> Result<(), Fail> {
-    let alloc = rt.alloc();
-    let joint = tree(alloc, &JOINT)?;
-    assert!(rt; copied_alone(alloc, joint.view())? == copied(alloc, joint.view())?);
-    let source = sample(alloc)?;
-    assert!(rt; copied_alone(alloc, source.iter().remaining())? == source);
-    let nothing = TopSubtree::empty(alloc, source.top_subtree().delimiter.delim_span())?;
-    let copy = copied_alone(alloc, nothing.iter().remaining())?;
-    assert!(rt; copy.view().flat_len() == 2);
-    Ok(())
+// Whether a builder holds after the row's steps what the row says.
+fn is_built(alloc: Global, row: &Row) -> Result<bool, AllocError> {
+    let Some(built) = built(alloc, row.steps)? else {
+        return Ok(false);
+    };
+    let found = (built.view().flat_len(), built.iter().remaining().len());
+    Ok(found == (row.tokens, row.trees) && built == tree(alloc, row.holds)?)
 }
 
 #[test]
-fn leaves_are_written_in_order(rt: HostRuntime) -> Result<(), Fail> {
-    let alloc = rt.alloc();
-    let mut leaves = Vec::new(alloc);
-    leaves.push(ident(alloc, "a")?)?;
-    leaves.push(punct('+', Spacing::Alone))?;
-    let mut builder = TopSubtreeBuilder::new(alloc, delimiter(DelimiterKind::Brace))?;
-    builder.extend(leaves)?;
-    let tree = builder.build();
-    let mut iter = tree.iter();
-    assert!(rt; iter.expect_ident().is_ok());
-    assert!(rt; iter.expect_char('+').is_ok());
-    assert!(rt; iter.is_empty());
-    Ok(())
-}
-
-#[test]
-fn a_builder_goes_back_to_a_point(rt: HostRuntime) -> Result<(), Fail> {
-    let alloc = rt.alloc();
-    let mut builder = TopSubtreeBuilder::new(alloc, delimiter(DelimiterKind::Brace))?;
-    assert!(rt; builder.restore_point() == 0);
-    builder.push(ident(alloc, "kept")?)?;
-    assert!(rt; builder.restore_point() == 1);
-    assert!(rt; write_and_go_back(&mut builder, ident(alloc, "up")?)? == 4);
-    assert!(rt; builder.restore_point() == 1);
-    let built = builder.build();
-    assert!(rt; built.view().flat_len() == 3);
-    assert!(rt; built == tree(alloc, &[Piece::Ident("kept")])?);
-    Ok(())
+fn builders_hold_what_their_steps_write(rt: HostRuntime) {
+    for (at, row) in ROWS.iter().enumerate() {
+        assert!(rt; is_built(rt.alloc(), row).unwrap_or(false), "row {at}");
+    }
 }

@@ -1,8 +1,11 @@
+ghost use Rattle.std.specs.Prelude.{◌<◌, length};
+
+use super::buffers::is_copied;
 use super::iterators::text;
-use super::views::sample;
-use crate::writing::{nested, pass_flat, span};
-use mbe_tt::tt::{Cursor, DelimiterKind, TokenTreesView};
-use std::test::Fail;
+use super::parts::write;
+use crate::writing::{delimiter, pass_flat, span};
+use mbe_tt::tt::{Cursor, Delimiter, DelimiterKind, TokenTreesView, TopSubtree, TopSubtreeBuilder};
+use std::alloc::{AllocError, Global};
 
 // At each place of `a (+ b) "s"`: whether it is in no group, the next tree, and the trees and flat tokens that are consumed
 // where it is in no group.
@@ -29,8 +32,8 @@ fn crossed(cursor: &Cursor<'_>) -> (usize, usize) {
     (crossed.len(), crossed.flat_len())
 }
 
-// The first place at which the cursor over the trees isn't as its row says.
-fn first_wrong(view: TokenTreesView<'_>) -> Option<usize> {
+/// The first place at which the cursor over the trees isn't as its row says.
+pub fn first_misplaced(view: TokenTreesView<'_>) -> Option<usize> {
     let mut cursor = view.cursor();
     for (place, &(root, next, passed)) in PLACES.iter().enumerate() {
         if cursor.is_root() != root || next_text(&cursor) != next || crossed(&cursor) != passed {
@@ -39,13 +42,6 @@ fn first_wrong(view: TokenTreesView<'_>) -> Option<usize> {
         cursor.bump_or_end();
     }
     None
-}
-
-#[test]
-fn a_cursor_goes_over_flat_tokens(rt: HostRuntime) -> Result<(), Fail> {
-    let tree = sample(rt.alloc())?;
-    assert_eq!(rt; first_wrong(tree.iter().remaining()), None);
-    Ok(())
 }
 
 // How many flat tokens are consumed, whether the iterator goes there, and how many trees are left then.
@@ -59,18 +55,15 @@ static MOVES: [(usize, bool, usize); 7] = [
     (9, true, 0),
 ];
 
-#[test]
-fn an_iterator_goes_to_a_cursor(rt: HostRuntime) -> Result<(), Fail> {
-    let tree = sample(rt.alloc())?;
+/// The first of the moves that an iterator over the trees makes otherwise.
+pub fn first_unmoved(tree: &TopSubtree) -> Option<usize> {
     for &(count, moves, left) in &MOVES {
         let mut iter = tree.iter();
-        let has_moved = pass_flat(&mut iter, count);
-        assert!(rt;
-            has_moved == moves && iter.remaining().len() == left,
-            "{count}"
-        );
+        if pass_flat(&mut iter, count) != moves || iter.remaining().len() != left {
+            return Some(count);
+        }
     }
-    Ok(())
+    None
 }
 
 // How many of so many places are in a group, and whether the last is at the end.
@@ -86,28 +79,50 @@ fn walked(view: TokenTreesView<'_>, places: usize) -> (u64, bool) {
     (deep, cursor.is_root() && cursor.token_tree().is_none())
 }
 
-// Ten thousand groups, each in the one before, inside the whole.
-#[test]
-fn deep_nesting_takes_no_deep_stack(rt: HostRuntime) -> Result<(), Fail> {
-    let tree = nested(rt.alloc(), 10000)?;
-    assert!(rt; tree.view().flat_len() == 20002);
-    assert!(rt; tree.view().len() == 1);
-    // All places but the first are inside the whole.
-    assert!(rt; walked(tree.view(), 20002) == (20001, true));
-    let copy = tree.try_clone()?;
-    assert!(rt; copy == tree);
-    assert!(rt; nested(rt.alloc(), 9999)? != tree);
-    Ok(())
+/// A delimiter that opens at 1.
+pub fn opened(kind: DelimiterKind, close: u8) -> Delimiter {
+    Delimiter {
+        opening: span(1),
+        close: span(u32::from(close)),
+        kind,
+    }
+}
+
+/// Whether the first tree is a group of that delimiter, and has nothing inside or something.
+pub fn is_first_group(tree: &TopSubtree, delimiter: Delimiter, is_empty: bool) -> bool {
+    match tree.iter().expect_subtree() {
+        Ok((group, inside)) => group.delimiter == delimiter && inside.is_empty() == is_empty,
+        Err(()) => false,
+    }
+}
+
+// That many groups, each in the one before, inside the whole.
+#[tactic(auto, using(mbe_tt::proofs::Buffers::OpenGroups::put_length))]
+fn nested(alloc: Global, depth: usize) -> Result<TopSubtree, AllocError> {
+    let mut builder = TopSubtreeBuilder::new(alloc, delimiter(DelimiterKind::Invisible))?;
+    for _opened in 0..depth {
+        builder.open(DelimiterKind::Bracket, span(1))?;
+    }
+    write(&mut builder, alloc, &[])?;
+    Ok(builder.build())
+}
+
+// Ten thousand groups; the outermost comes first, and all places but the first are inside the whole.
+fn is_deep(tree: &TopSubtree) -> bool {
+    let whole = tree.view();
+    whole.flat_len() == 20002
+        && whole.len() == 1
+        && walked(whole, 20002) == (20001, true)
+        && is_first_group(tree, opened(DelimiterKind::Bracket, 2), false)
+}
+
+fn is_nested(alloc: Global) -> Result<bool, AllocError> {
+    let tree = nested(alloc, 10000)?;
+    let is_so = is_deep(&tree) && is_copied(&tree)?;
+    Ok(is_so && nested(alloc, 9999)? != tree)
 }
 
 #[test]
-fn the_outermost_of_nested_groups_comes_first(rt: HostRuntime) -> Result<(), Fail> {
-    let tree = nested(rt.alloc(), 10000)?;
-    let Ok((outermost, _inside)) = tree.iter().expect_subtree() else {
-        return Err(Fail::from("no group"));
-    };
-    assert!(rt; outermost.delimiter.kind == DelimiterKind::Bracket);
-    assert!(rt; outermost.delimiter.opening == span(1));
-    assert!(rt; outermost.delimiter.close == span(2));
-    Ok(())
+fn deep_nesting_takes_no_deep_stack(rt: HostRuntime) {
+    assert!(rt; is_nested(rt.alloc()).unwrap_or(false));
 }

@@ -1,38 +1,43 @@
 use super::parts::{Piece, tree};
-use crate::writing::{delimiter, ident, punct};
-use mbe_tt::tt::{DelimiterKind, Spacing, TopSubtree, TopSubtreeBuilder};
+use mbe_tt::tt::{Punct, Spacing, TopSubtree};
 use std::alloc::{AllocError, Global};
-use std::test::Fail;
 
-// The chars, which are ASCII, as puncts, all but the last joint, and an identifier after them.
-#[tactic(auto, using(mbe_tt::proofs::Buffers::OpenGroups::put_length))]
-fn puncts(alloc: Global, chars: &str, last: Spacing) -> Result<TopSubtree, AllocError> {
-    let mut builder = TopSubtreeBuilder::new(alloc, delimiter(DelimiterKind::Invisible))?;
-    let bytes = chars.as_bytes();
-    for (place, byte) in bytes.iter().enumerate() {
-        let spacing = if place.saturating_add(1) < bytes.len() {
+// The chars, which are ASCII and four at most, as puncts, all but the last joint, and an identifier after them.
+fn puncts(alloc: Global, chars: &str) -> Result<TopSubtree, AllocError> {
+    let mut parts = [Piece::Ident("x"); 5];
+    let last = chars.len().saturating_sub(1);
+    for (place, (part, byte)) in parts.iter_mut().zip(chars.as_bytes()).enumerate() {
+        let spacing = if place < last {
             Spacing::Joint
         } else {
-            last
+            Spacing::Alone
         };
-        builder.push(punct(char::from(*byte), spacing))?;
+        *part = Piece::Punct(char::from(*byte), spacing);
     }
-    builder.push(ident(alloc, "x")?)?;
-    Ok(builder.build())
+    tree(alloc, parts.get(..=chars.len()).unwrap_or(&[]))
 }
 
-// How many puncts are taken together, where they have those chars and just they are consumed.
+fn are_chars(puncts: &[Punct], chars: &str) -> bool {
+    for (punct, char) in puncts.iter().zip(chars.chars()) {
+        if punct.char != char {
+            return false;
+        }
+    }
+    true
+}
+
+// How many puncts are taken together, where they have those chars and just they are consumed; 0 where the front is refused and
+// nothing is consumed, asked for a single punct too.
 fn glued(tree: &TopSubtree, chars: &str) -> Option<usize> {
     let mut iter = tree.iter();
     let all = iter.remaining().len();
-    let glued = iter.expect_glued_punct().ok()?;
-    for (punct, char) in glued.iter().zip(chars.chars()) {
-        if punct.char != char {
-            return None;
-        }
-    }
-    if iter.remaining().len().saturating_add(glued.len()) == all {
-        Some(glued.len())
+    let count = match iter.expect_glued_punct() {
+        Ok(puncts) if !puncts.is_empty() && are_chars(&puncts, chars) => puncts.len(),
+        Err(()) if iter.expect_single_punct().is_err() => 0,
+        _ => return None,
+    };
+    if iter.remaining().len().saturating_add(count) == all {
+        Some(count)
     } else {
         None
     }
@@ -78,41 +83,60 @@ static OPERATORS: [(&str, usize); 36] = [
     ("$", 1),
 ];
 
+fn takes(tree: Result<TopSubtree, AllocError>, chars: &str, taken: usize) -> bool {
+    match tree {
+        Ok(tree) => glued(&tree, chars) == Some(taken),
+        Err(AllocError) => false,
+    }
+}
+
 #[test]
-fn operators_are_taken_together(rt: HostRuntime) -> Result<(), Fail> {
+fn operators_are_taken_together(rt: HostRuntime) {
     for (chars, taken) in &OPERATORS {
-        let tree = puncts(rt.alloc(), chars, Spacing::Alone)?;
-        assert!(rt; glued(&tree, chars) == Some(*taken), "{chars}");
+        assert!(rt; takes(puncts(rt.alloc(), chars), chars, *taken), "{chars}");
     }
-    Ok(())
 }
 
-#[test]
-fn lone_puncts_stay_apart(rt: HostRuntime) -> Result<(), Fail> {
-    for (first, second, taken) in [
-        (Spacing::Alone, Spacing::Joint, 1),
-        (Spacing::Joint, Spacing::Alone, 2),
-        (Spacing::Joint, Spacing::Joint, 3),
-    ] {
-        let parts = [
-            Piece::Punct('.', first),
-            Piece::Punct('.', second),
+// Fronts, and how many puncts of these chars are taken together: lone ones stay apart, and one that is no punct is refused.
+static FRONTS: [(&[Piece], &str, usize); 5] = [
+    (
+        &[
+            Piece::Punct('.', Spacing::Alone),
+            Piece::Punct('.', Spacing::Joint),
             Piece::Punct('=', Spacing::Joint),
-        ];
-        let tree = tree(rt.alloc(), &parts)?;
-        assert!(rt; glued(&tree, "..=") == Some(taken));
-    }
-    Ok(())
-}
+        ],
+        "..=",
+        1,
+    ),
+    (
+        &[
+            Piece::Punct('.', Spacing::Joint),
+            Piece::Punct('.', Spacing::Alone),
+            Piece::Punct('=', Spacing::Joint),
+        ],
+        "..=",
+        2,
+    ),
+    (
+        &[
+            Piece::Punct('.', Spacing::Joint),
+            Piece::Punct('.', Spacing::Joint),
+            Piece::Punct('=', Spacing::Joint),
+        ],
+        "..=",
+        3,
+    ),
+    (
+        &[Piece::Punct('.', Spacing::Joint), Piece::Ident("x")],
+        ".",
+        1,
+    ),
+    (&[Piece::Ident("x")], "", 0),
+];
 
 #[test]
-fn a_front_that_is_no_punct_is_refused(rt: HostRuntime) -> Result<(), Fail> {
-    let tree = puncts(rt.alloc(), "", Spacing::Alone)?;
-    let mut iter = tree.iter();
-    assert!(rt; iter.expect_glued_punct().is_err());
-    assert!(rt; iter.expect_single_punct().is_err());
-    assert!(rt; iter.remaining().len() == 1);
-    let joint = puncts(rt.alloc(), ".", Spacing::Joint)?;
-    assert!(rt; glued(&joint, ".") == Some(1));
-    Ok(())
+fn puncts_are_taken_by_their_spacings(rt: HostRuntime) {
+    for (row, (parts, chars, taken)) in FRONTS.iter().enumerate() {
+        assert!(rt; takes(tree(rt.alloc(), parts), chars, *taken), "row {row}");
+    }
 }

@@ -1,8 +1,12 @@
 use super::parts::{Piece, tree};
-use super::views::sample;
+use super::views::SAMPLE;
 use crate::writing::{pass_by_savepoint, span};
-use mbe_tt::tt::{DelimiterKind, Leaf, Spacing, TopSubtree, TtElement, TtIter};
-use std::test::Fail;
+use mbe_tt::span::Span;
+use mbe_tt::tt::{
+    DelimiterKind, Ident, Leaf, Punct, Spacing, Subtree, TokenTreesView, TopSubtree, TtElement,
+    TtIter,
+};
+use std::alloc::{AllocError, Global};
 
 // The text of an identifier or a literal; the char of a punct, and the brackets of a group, where the tests ask for them.
 pub fn text<'a>(element: &TtElement<'a>) -> &'a str {
@@ -48,6 +52,7 @@ enum Asked {
     Comma,
     Punct,
     Group,
+    Inside(usize),
     Leaf,
     Ident,
     IdentOrUnderscore,
@@ -57,24 +62,55 @@ enum Asked {
 // The text of what the call returns, `done` where that is nothing, and `None` where it refuses.
 fn answer<'a>(iter: &mut TtIter<'a>, asked: Asked) -> Option<&'a str> {
     match asked {
-        Asked::Peek => Some(text(&iter.peek()?)),
-        Asked::Next => Some(text(&iter.next()?)),
-        Asked::NextAsView => Some(text(&iter.next_as_view()?.iter().next()?)),
+        Asked::Peek => element(iter.peek()),
+        Asked::Next => element(iter.next()),
+        Asked::NextAsView => alone(iter.next_as_view()),
         Asked::Char(char) => done(iter.expect_char(char)),
         Asked::AnyChar(one, two) => done(iter.expect_any_char(&[one, two])),
         Asked::Dollar => done(iter.expect_dollar()),
         Asked::Comma => done(iter.expect_comma()),
-        Asked::Punct => Some(char_text(iter.expect_single_punct().ok()?.char)),
-        Asked::Group => Some(brackets(iter.expect_subtree().ok()?.0.delimiter.kind)),
-        Asked::Leaf => Some(leaf_text(iter.expect_leaf().ok()?)),
-        Asked::Ident => Some(iter.expect_ident().ok()?.sym.as_str()),
-        Asked::IdentOrUnderscore => Some(iter.expect_ident_or_underscore().ok()?.sym.as_str()),
-        Asked::Literal => Some(leaf_text(iter.expect_literal().ok()?)),
+        Asked::Punct => punct(iter.expect_single_punct()),
+        Asked::Group => group(iter.expect_subtree()),
+        Asked::Inside(count) => inside(iter.expect_subtree(), count),
+        Asked::Leaf => leaf(iter.expect_leaf()),
+        Asked::Ident => ident(iter.expect_ident()),
+        Asked::IdentOrUnderscore => ident(iter.expect_ident_or_underscore()),
+        Asked::Literal => leaf(iter.expect_literal()),
     }
 }
 
+fn element<'a>(answer: Option<TtElement<'a>>) -> Option<&'a str> {
+    Some(text(&answer?))
+}
+
+fn alone<'a>(answer: Option<TokenTreesView<'a>>) -> Option<&'a str> {
+    element(answer?.iter().next())
+}
+
 fn done(answer: Result<(), ()>) -> Option<&'static str> {
-    if answer.is_ok() { Some("done") } else { None }
+    answer.is_ok().then_some("done")
+}
+
+fn punct(answer: Result<&Punct, ()>) -> Option<&'static str> {
+    Some(char_text(answer.ok()?.char))
+}
+
+fn group(answer: Result<(&Subtree, TtIter<'_>), ()>) -> Option<&'static str> {
+    Some(brackets(answer.ok()?.0.delimiter.kind))
+}
+
+// Whether so many trees are inside.
+fn inside(answer: Result<(&Subtree, TtIter<'_>), ()>, count: usize) -> Option<&'static str> {
+    let (_group, inside) = answer.ok()?;
+    (inside.remaining().len() == count).then_some("done")
+}
+
+fn leaf<'a>(answer: Result<&'a Leaf, ()>) -> Option<&'a str> {
+    Some(leaf_text(answer.ok()?))
+}
+
+fn ident<'a>(answer: Result<&'a Ident, ()>) -> Option<&'a str> {
+    Some(answer.ok()?.sym.as_str())
 }
 
 // A call, what it returns, and how many trees are left then.
@@ -94,7 +130,7 @@ fn first_wrong(tree: &TopSubtree, rows: &[Row]) -> Option<usize> {
     None
 }
 
-static LEAVES: [Piece; 7] = [
+const LEAVES: &[Piece] = &[
     Piece::Ident("a"),
     Piece::Ident("_"),
     Piece::Punct('+', Spacing::Joint),
@@ -104,7 +140,7 @@ static LEAVES: [Piece; 7] = [
     Piece::Ident("false"),
 ];
 
-static LEAVES_ROWS: [Row; 20] = [
+const LEAVES_ROWS: &[Row] = &[
     (Asked::Literal, None, 7),
     (Asked::Group, None, 7),
     (Asked::Char('a'), None, 7),
@@ -128,23 +164,15 @@ static LEAVES_ROWS: [Row; 20] = [
 ];
 
 // Again from the beginning.
-static PUNCTS_ROWS: [Row; 4] = [
+const PUNCTS_ROWS: &[Row] = &[
     (Asked::Leaf, Some("a"), 6),
     (Asked::Leaf, Some("_"), 5),
     (Asked::Char('+'), Some("done"), 4),
     (Asked::Punct, Some(","), 3),
 ];
 
-#[test]
-fn leaves_are_expected(rt: HostRuntime) -> Result<(), Fail> {
-    let leaves = tree(rt.alloc(), &LEAVES)?;
-    assert_eq!(rt; first_wrong(&leaves, &LEAVES_ROWS), None);
-    assert_eq!(rt; first_wrong(&leaves, &PUNCTS_ROWS), None);
-    Ok(())
-}
-
 // Over `a (+ b) "s"`.
-static SAMPLE_ROWS: [Row; 8] = [
+const SAMPLE_ROWS: &[Row] = &[
     (Asked::Peek, Some("a"), 3),
     (Asked::Group, None, 3),
     (Asked::NextAsView, Some("a"), 2),
@@ -155,7 +183,7 @@ static SAMPLE_ROWS: [Row; 8] = [
     (Asked::Literal, None, 0),
 ];
 
-static NEXT_ROWS: [Row; 6] = [
+const NEXT_ROWS: &[Row] = &[
     (Asked::Next, Some("a"), 2),
     (Asked::Next, Some("()"), 1),
     (Asked::Next, Some("s"), 0),
@@ -164,66 +192,72 @@ static NEXT_ROWS: [Row; 6] = [
     (Asked::NextAsView, None, 0),
 ];
 
-#[test]
-fn groups_and_literals_are_expected(rt: HostRuntime) -> Result<(), Fail> {
-    let sample = sample(rt.alloc())?;
-    assert_eq!(rt; first_wrong(&sample, &SAMPLE_ROWS), None);
-    assert_eq!(rt; first_wrong(&sample, &NEXT_ROWS), None);
-    Ok(())
+// A group comes with its content.
+const INSIDE_ROWS: &[Row] = &[
+    (Asked::Leaf, Some("a"), 2),
+    (Asked::Inside(2), Some("done"), 1),
+];
+
+// The calls over trees.
+static WALKS: [(&[Piece], &[Row]); 5] = [
+    (LEAVES, LEAVES_ROWS),
+    (LEAVES, PUNCTS_ROWS),
+    (SAMPLE, SAMPLE_ROWS),
+    (SAMPLE, NEXT_ROWS),
+    (SAMPLE, INSIDE_ROWS),
+];
+
+fn is_walked(alloc: Global, parts: &[Piece], rows: &[Row]) -> Result<bool, AllocError> {
+    Ok(first_wrong(&tree(alloc, parts)?, rows).is_none())
 }
 
 #[test]
-fn a_group_comes_with_its_content(rt: HostRuntime) -> Result<(), Fail> {
-    let tree = sample(rt.alloc())?;
-    let mut iter = tree.iter();
-    assert!(rt; iter.expect_leaf().is_ok());
-    let Ok((_subtree, inside)) = iter.expect_subtree() else {
-        return Err(Fail::from("no group"));
-    };
-    assert!(rt; inside.remaining().len() == 2);
-    Ok(())
+fn leaves_groups_and_literals_are_expected(rt: HostRuntime) {
+    for (walk, (parts, rows)) in WALKS.iter().enumerate() {
+        assert!(rt;
+            is_walked(rt.alloc(), parts, rows).unwrap_or(false),
+            "walk {walk}"
+        );
+    }
 }
 
-#[test]
-fn each_tree_comes_once_and_in_order(rt: HostRuntime) -> Result<(), Fail> {
-    let tree = sample(rt.alloc())?;
-    let mut texts = Vec::new(rt.alloc());
+/// Whether each tree comes once and in order, with those texts.
+pub fn are_in_order(tree: &TopSubtree, texts: &[&str]) -> bool {
+    let mut count = 0usize;
     for element in tree.iter() {
-        texts.push(text(&element))?;
+        if texts.get(count).copied() != Some(text(&element)) {
+            return false;
+        }
+        count = count.saturating_add(1);
     }
-    assert!(rt; texts.as_slice() == ["a", "()", "s"].as_slice());
-    Ok(())
+    count == texts.len()
 }
 
-#[test]
-fn a_savepoint_marks_what_is_passed(rt: HostRuntime) -> Result<(), Fail> {
-    let tree = sample(rt.alloc())?;
+/// How many flat tokens the first tree has, and the second, and all of which a copy of the iterator was made before.
+pub fn passed(tree: &TopSubtree) -> Option<(usize, usize, usize)> {
     let mut iter = tree.iter();
-    let copy = iter.clone()?;
-    let Some(first) = iter.next_as_view() else {
-        return Err(Fail::from("no tree"));
-    };
-    assert!(rt; first.flat_len() == 1);
-    let Some(group) = pass_by_savepoint(&mut iter) else {
-        return Err(Fail::from("no second tree"));
-    };
-    assert!(rt; group.flat_len() == 4);
-    assert!(rt; copy.remaining().flat_len() == 6);
-    Ok(())
+    let copy = iter.clone().ok()?;
+    let first = iter.next_as_view()?;
+    let second = pass_by_savepoint(&mut iter)?;
+    Some((
+        first.flat_len(),
+        second.flat_len(),
+        copy.remaining().flat_len(),
+    ))
 }
 
-#[test]
-fn spans_begin_trees(rt: HostRuntime) -> Result<(), Fail> {
-    let tree = sample(rt.alloc())?;
+fn beginning(element: Option<TtElement<'_>>) -> Option<Span> {
+    Some(element?.first_span())
+}
+
+/// Whether an identifier at 3, a group that opens at 1 and a literal at 5 are all that comes.
+pub fn are_spanned(tree: &TopSubtree) -> bool {
     let mut iter = tree.iter();
-    // An identifier is at 3, the group opens at 1, a literal is at 5.
     for start in [3, 1, 5] {
-        assert!(rt; iter.next_span() == Some(span(start)));
-        let Some(element) = iter.next() else {
-            return Err(Fail::from("no tree"));
-        };
-        assert!(rt; element.first_span() == span(start));
+        let want = Some(span(start));
+        if iter.next_span() != want || beginning(iter.next()) != want {
+            return false;
+        }
     }
-    assert!(rt; iter.next_span().is_none());
-    Ok(())
+    iter.next_span().is_none()
 }

@@ -1,120 +1,120 @@
-use super::views::sample;
-use crate::writing::{delimiter, ident, write_parts};
-use mbe_tt::tt::{DelimiterKind, Leaf, TokenTreesView, TopSubtree, TopSubtreeBuilder};
+ghost use Rattle.std.specs.Prelude.{◌<◌, length};
+
+use super::buffers::is_copied;
+use super::parts::{Piece, leaves, write};
+use super::steps::{Step, take};
+use super::views::{SAMPLE, sample};
+use crate::writing::delimiter;
+use mbe_tt::tt::{DelimiterKind, TopSubtree, TopSubtreeBuilder};
 use refusing::Refusing;
 use std::alloc::{AllocError, Allocator, Global};
-use std::test::Fail;
 
-// Four parts have 1, 3, 6 and 6 flat tokens.
+// They have 1, 3, 6 and 6 flat tokens.
+static STEPS: [Step; 4] = [
+    Step::Write(&[Piece::Ident("one")]),
+    Step::Group("two", true),
+    Step::Copy(SAMPLE),
+    Step::CopyAlone(SAMPLE),
+];
+
 const PARTS: usize = 28;
 
-// What a builder holds after as many parts as memory allows, up to so many, and how many they are.
-fn held<A: Allocator + Copy>(
-    alloc: A,
-    view: TokenTreesView<'_, A>,
-    limit: usize,
-) -> Result<(TopSubtree<A>, usize), AllocError> {
+// Takes as many steps as memory allows, up to so many, one after the other and again. How many were taken.
+fn taken<A: Allocator + Copy>(builder: &mut TopSubtreeBuilder<A>, alloc: A, limit: usize) -> usize
+    requires { 0 < length builder.old }
+    ensures { 0 < length builder.new }
+{
+    for part in 0..limit {
+        if take(builder, alloc, STEPS[part % 4]).is_err() {
+            return part;
+        }
+    }
+    limit
+}
+
+// What a builder holds after these steps, and how many they are.
+fn held<A: Allocator + Copy>(alloc: A, limit: usize) -> Result<(TopSubtree<A>, usize), AllocError> {
     let mut builder = TopSubtreeBuilder::new(alloc, delimiter(DelimiterKind::Invisible))?;
-    let count = write_parts(&mut builder, alloc, view, limit);
+    let count = taken(&mut builder, alloc, limit);
+    write(&mut builder, alloc, &[])?;
     Ok((builder.build(), count))
 }
 
-// That a request was refused, or nothing.
-fn refused(alloc: &Refusing<Global>) -> Option<bool> {
-    if alloc.has_refused() {
-        Some(true)
-    } else {
-        None
+// Whether a builder holds all parts. Where it doesn't, one without a refusal holds the same after as many steps; nothing where
+// that isn't so. The allocator refuses nothing more.
+fn keep<A: Allocator + Copy>(alloc: A) -> Result<Option<bool>, AllocError> {
+    let (built, count) = held(alloc, PARTS)?;
+    if count == PARTS {
+        return Ok((built.view().flat_len() == 114).then_some(true));
+    }
+    let is_so = match held(alloc, count) {
+        Ok((other, again)) => again == count && built == other,
+        Err(AllocError) => false,
+    };
+    Ok(is_so.then_some(false))
+}
+
+fn copy<A: Allocator + Copy>(alloc: A) -> Result<Option<bool>, AllocError> {
+    let tree = sample(alloc)?;
+    Ok(is_copied(&tree)?.then_some(true))
+}
+
+static LEAVES: [Piece; 20] = [Piece::Ident("leaf"); 20];
+
+fn extend<A: Allocator + Copy>(alloc: A) -> Result<Option<bool>, AllocError> {
+    let leaves = leaves(alloc, &LEAVES)?;
+    let mut builder = TopSubtreeBuilder::new(alloc, delimiter(DelimiterKind::Brace))?;
+    let is_written = builder.extend(leaves).is_ok();
+    let written = builder.build().iter().remaining().len();
+    let want = if is_written { 20 } else { 0 };
+    Ok((written == want).then_some(is_written))
+}
+
+// What is done while a request is refused: parts are written, and stay as they were; a tree is copied; leaves are written,
+// all or none.
+#[derive(Clone, Copy)]
+enum Done {
+    Keep,
+    Copy,
+    Extend,
+}
+
+// Whether it is done whole; nothing where it isn't done as it has to be.
+fn is_done<A: Allocator + Copy>(alloc: A, what: Done) -> Result<Option<bool>, AllocError> {
+    match what {
+        Done::Keep => keep(alloc),
+        Done::Copy => copy(alloc),
+        Done::Extend => extend(alloc),
     }
 }
 
-// Whether the request of that number was refused. What a builder holds then is what one without a refusal holds after as many
-// parts; nothing where that isn't so.
-fn is_refused(alloc: Global, number: u64) -> Result<Option<bool>, AllocError> {
+// Whether the request of that number was refused. It is done whole where none was, and else not; nothing where that isn't so.
+fn is_refused(alloc: Global, what: Done, number: u64) -> Option<bool> {
     let alloc = Refusing::new(alloc, number);
-    let Ok(source) = sample(&alloc) else {
-        return Ok(refused(&alloc));
-    };
-    let view = source.iter().remaining();
-    let Ok((built, count)) = held(&alloc, view, PARTS) else {
-        return Ok(refused(&alloc));
-    };
-    if !alloc.has_refused() {
-        let is_whole = count == PARTS && built.view().flat_len() == 114;
-        return Ok(if is_whole { Some(false) } else { None });
-    }
-    // The allocator refuses nothing more.
-    let (other, again) = held(&alloc, view, count)?;
-    let is_so = count < PARTS && again == count && built == other;
-    Ok(if is_so { Some(true) } else { None })
+    let is_whole = is_done(&alloc, what).unwrap_or(Some(false))?;
+    (alloc.has_refused() != is_whole).then_some(!is_whole)
 }
 
-// How many requests are refused in turn, until none is.
-fn refusals(alloc: Global) -> Result<Option<u64>, AllocError> {
-    for number in 1..1000u64 {
-        match is_refused(alloc, number)? {
+// Whether requests are refused in turn until none is, which is after the least number and before the most.
+fn ends(alloc: Global, what: Done, least: u64, most: u64) -> bool {
+    for number in 1..most {
+        match is_refused(alloc, what, number) {
             Some(true) => {}
-            Some(false) => return Ok(Some(number - 1)),
-            None => return Ok(None),
+            Some(false) => return number > least,
+            None => return false,
         }
     }
-    Ok(None)
+    false
 }
 
-// Every identifier and literal, and each of the two buffers, is a request at least.
+// Every identifier and literal is a request at least, and so is each of a builder's two buffers, and a copy.
 #[test]
-fn a_builder_keeps_what_it_held(rt: HostRuntime) -> Result<(), Fail> {
-    assert!(rt; refusals(rt.alloc())?.unwrap_or(0) > 18);
-    Ok(())
-}
-
-#[test]
-fn a_copy_is_equal_or_refused(rt: HostRuntime) -> Result<(), Fail> {
-    for number in 1..100u64 {
-        let alloc = Refusing::new(rt.alloc(), number);
-        let Ok(tree) = sample(&alloc) else {
-            continue;
-        };
-        let Ok(copy) = tree.try_clone() else {
-            assert!(rt; alloc.has_refused(), "at {number}");
-            continue;
-        };
-        assert!(rt; copy == tree);
-        assert!(rt; !alloc.has_refused());
-        return Ok(());
+fn a_refused_request_leaves_what_was_there(rt: HostRuntime) {
+    for (what, least, most) in [
+        (Done::Keep, 19, 1000),
+        (Done::Copy, 4, 100),
+        (Done::Extend, 21, 100),
+    ] {
+        assert!(rt; ends(rt.alloc(), what, least, most), "before {most}");
     }
-    Err(Fail::from("it goes on"))
-}
-
-// Twenty leaves.
-fn leaves<A: Allocator + Copy>(alloc: A) -> Result<Vec<Leaf<A>, A>, AllocError> {
-    let mut leaves = Vec::new(alloc);
-    for _leaf in 0..20 {
-        leaves.push(ident(alloc, "leaf")?)?;
-    }
-    Ok(leaves)
-}
-
-#[test]
-fn leaves_are_written_all_or_none(rt: HostRuntime) -> Result<(), Fail> {
-    for number in 1..100u64 {
-        let alloc = Refusing::new(rt.alloc(), number);
-        let Ok(leaves) = leaves(&alloc) else {
-            continue;
-        };
-        let Ok(mut builder) = TopSubtreeBuilder::new(&alloc, delimiter(DelimiterKind::Brace)) else {
-            continue;
-        };
-        let written = builder.extend(leaves);
-        let tree = builder.build();
-        if written.is_ok() {
-            assert!(rt; tree.iter().remaining().len() == 20);
-            return Ok(());
-        }
-        assert!(rt;
-            alloc.has_refused() && tree.iter().is_empty(),
-            "at {number}"
-        );
-    }
-    Err(Fail::from("it goes on"))
 }

@@ -2,7 +2,7 @@
 ghost use Rattle.std.specs.Prelude.{◌≡◌, ◌<◌, length, OnOk};
 
 use crate::writing::{delimiter, ident, literal, punct, span};
-use mbe_tt::tt::{DelimiterKind, Spacing, TopSubtree, TopSubtreeBuilder};
+use mbe_tt::tt::{DelimiterKind, Leaf, Spacing, TopSubtree, TopSubtreeBuilder};
 use std::alloc::{AllocError, Allocator};
 
 /// A flat token. Groups open at 1, and close at a place of their own.
@@ -76,4 +76,21 @@ pub fn tree<A: Allocator + Copy>(alloc: A, parts: &[Piece]) -> Result<TopSubtree
     let mut builder = TopSubtreeBuilder::new(alloc, delimiter(DelimiterKind::Brace))?;
     write(&mut builder, alloc, parts)?;
     Ok(builder.build())
+}
+
+/// The leaves among the parts, but for literals.
+pub fn leaves<A: Allocator + Copy>(
+    alloc: A,
+    parts: &[Piece],
+) -> Result<Vec<Leaf<A>, A>, AllocError> {
+    let mut leaves = Vec::new(alloc);
+    for part in parts {
+        let leaf = match *part {
+            Piece::Ident(text) => ident(alloc, text)?,
+            Piece::Punct(char, spacing) => punct(char, spacing),
+            _ => continue,
+        };
+        leaves.push(leaf)?;
+    }
+    Ok(leaves)
 }

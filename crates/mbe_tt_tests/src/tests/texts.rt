@@ -7,7 +7,8 @@ use mbe_tt::tt::{
 use std::alloc::{AllocError, Global};
 use std::cmp::Ordering;
 use std::collections::HashSet;
-use std::test::Fail;
+use std::fmt::{Debug, Display};
+use std::hash::Hash;
 
 static EDITIONS: [(Edition, bool, bool); 4] = [
     (Edition::Edition2015, false, false),
@@ -24,11 +25,19 @@ fn editions_are_in_order(rt: HostRuntime) {
     }
 }
 
+// How many of them differ, by their hashes too.
+fn count<T: Hash + Eq>(alloc: Global, values: &[T]) -> Result<usize, AllocError> {
+    let mut seen = HashSet::new(alloc);
+    for value in values {
+        seen.insert(value)?;
+    }
+    Ok(seen.len())
+}
+
 #[test]
-fn spans_are_equal_by_all_five_numbers(rt: HostRuntime) -> Result<(), Fail> {
+fn spans_are_equal_by_all_five_numbers(rt: HostRuntime) {
     let first = span(1);
-    let mut seen = HashSet::new(rt.alloc());
-    for span in [
+    let spans = [
         first,
         Span { file: 2, ..first },
         Span { ast: 1, ..first },
@@ -38,70 +47,122 @@ fn spans_are_equal_by_all_five_numbers(rt: HostRuntime) -> Result<(), Fail> {
             ctx: SyntaxContext(1),
             ..first
         },
-    ] {
-        seen.insert(span)?;
-    }
-    assert!(rt; seen.len() == 6);
-    seen.insert(span(1))?;
-    assert!(rt; seen.len() == 6);
-    Ok(())
+        span(1),
+    ];
+    assert!(rt; matches!(count(rt.alloc(), &spans[..6]), Ok(6)));
+    assert!(rt; matches!(count(rt.alloc(), &spans), Ok(6)));
 }
 
 #[test]
 fn delimiters_keep_their_spans(rt: HostRuntime) {
-    let single = DelimSpan::from_single(span(1));
-    assert!(rt; single.opening == span(1) && single.close == span(1));
+    let (one, two, seven) = (span(1), span(2), span(7));
+    let single = DelimSpan {
+        opening: one,
+        close: one,
+    };
+    assert!(rt; DelimSpan::from_single(one) == single);
+    let both = DelimSpan {
+        opening: one,
+        close: two,
+    };
     let delimiter = Delimiter {
-        opening: span(1),
-        close: span(2),
+        opening: one,
+        close: two,
         kind: DelimiterKind::Bracket,
     };
-    let both = delimiter.delim_span();
-    assert!(rt; both.opening == span(1) && both.close == span(2));
-    let invisible = Delimiter::invisible_spanned(span(7));
-    assert!(rt; invisible.kind == DelimiterKind::Invisible);
-    assert!(rt; invisible.opening == span(7) && invisible.close == span(7));
+    assert!(rt; delimiter.delim_span() == both);
+    let invisible = Delimiter {
+        opening: seven,
+        close: seven,
+        kind: DelimiterKind::Invisible,
+    };
+    assert!(rt; Delimiter::invisible_spanned(seven) == invisible);
 }
 
 #[test]
 fn the_default_punct_is_alone_and_nowhere(rt: HostRuntime) {
-    let punct = Punct::default();
-    assert!(rt; punct.char == '\0');
-    assert!(rt; punct.spacing == Spacing::Alone);
-    assert!(rt; punct.span == Span::default());
+    let punct = Punct {
+        char: '\0',
+        spacing: Spacing::Alone,
+        span: Span::default(),
+    };
+    assert!(rt; Punct::default() == punct);
+}
+
+// Texts of two symbols, and their order.
+static ORDERS: [(&str, &str, Ordering); 3] = [
+    ("ab", "ab", Ordering::Equal),
+    ("ab", "b", Ordering::Less),
+    ("b", "ab", Ordering::Greater),
+];
+
+fn are_ordered(one: &Symbol, two: &Symbol, order: Ordering) -> bool {
+    (one == two) == (order == Ordering::Equal)
+        && one.cmp(two) == order
+        && one.partial_cmp(two) == Some(order)
+}
+
+fn are_symbols(
+    alloc: Global,
+    text: &str,
+    other: &str,
+    order: Ordering,
+) -> Result<bool, AllocError> {
+    let one = Symbol::intern(alloc, text)?;
+    let two = Symbol::intern(alloc, other)?;
+    Ok(one.as_str() == text && are_ordered(&one, &two, order))
 }
 
 #[test]
-fn symbols_are_their_texts(rt: HostRuntime) -> Result<(), Fail> {
-    let alloc = rt.alloc();
-    let ab = Symbol::intern(alloc, "ab")?;
-    let again = Symbol::intern(alloc, "ab")?;
-    let b = Symbol::intern(alloc, "b")?;
-    assert!(rt; ab.as_str() == "ab");
-    assert!(rt; ab == again && ab != b);
-    assert!(rt; ab.cmp(&b) == Ordering::Less);
-    assert!(rt; b.partial_cmp(&again) == Some(Ordering::Greater));
+fn symbols_are_their_texts(rt: HostRuntime) {
+    for &(text, other, order) in &ORDERS {
+        assert!(rt; are_symbols(rt.alloc(), text, other, order).unwrap_or(false));
+    }
+}
+
+/// Whether the text is what is written of it.
+fn writes<T: Display>(alloc: Global, shown: &T, text: &str) -> Result<bool, AllocError> {
+    let written = format!(in alloc; "{shown}")?;
+    Ok(written.as_str() == text)
+}
+
+/// Whether the text is in what is written of it to look for faults.
+pub fn shows<T: Debug>(alloc: Global, shown: &T, text: &str) -> Result<bool, AllocError> {
+    let written = format!(in alloc; "{shown:?}")?;
+    Ok(written.contains(text))
+}
+
+// Whether a copy of the symbol is equal, and the text all that is written of it.
+fn is_copied(alloc: Global, symbol: &Symbol, text: &str) -> Result<bool, AllocError> {
+    let copy = symbol.clone()?;
+    let written = format!(in alloc; "{copy:?}")?;
+    Ok(copy == *symbol && written.as_str() == text)
+}
+
+fn has_copy(alloc: Global) -> Result<bool, AllocError> {
+    is_copied(alloc, &Symbol::intern(alloc, "ab")?, "\"ab\"")
+}
+
+#[test]
+fn a_copied_symbol_has_the_text(rt: HostRuntime) {
+    assert!(rt; has_copy(rt.alloc()).unwrap_or(false));
+}
+
+fn put(seen: &mut HashSet<Symbol>, alloc: Global, text: &str) -> Result<(), AllocError> {
+    seen.insert(Symbol::intern(alloc, text)?)?;
     Ok(())
 }
 
-#[test]
-fn a_copied_symbol_has_the_text(rt: HostRuntime) -> Result<(), Fail> {
-    let ab = Symbol::intern(rt.alloc(), "ab")?;
-    let copy = ab.clone()?;
-    assert!(rt; copy == ab);
-    let printed = format!(in rt.alloc(); "{copy:?}")?;
-    assert!(rt; printed.as_str() == "\"ab\"");
-    Ok(())
-}
-
-#[test]
-fn symbols_are_hashed_by_their_texts(rt: HostRuntime) -> Result<(), Fail> {
-    let alloc = rt.alloc();
+fn are_hashed(alloc: Global) -> Result<bool, AllocError> {
     let mut seen = HashSet::new(alloc);
-    seen.insert(Symbol::intern(alloc, "ab")?)?;
-    seen.insert(Symbol::intern(alloc, "b")?)?;
-    assert!(rt; seen.contains(&Symbol::intern(alloc, "ab")?));
-    Ok(())
+    put(&mut seen, alloc, "ab")?;
+    put(&mut seen, alloc, "b")?;
+    Ok(seen.contains(&Symbol::intern(alloc, "ab")?))
+}
+
+#[test]
+fn symbols_are_hashed_by_their_texts(rt: HostRuntime) {
+    assert!(rt; are_hashed(rt.alloc()).unwrap_or(false));
 }
 
 // A literal's kind, its suffix's length and its text; what comes before the suffix, the suffix, and what is written.
@@ -144,17 +205,15 @@ fn is_written(
         kind,
         span: span(1),
     };
-    let printed = format!(in alloc; "{literal}")?;
     let is_cut = literal.text() == text && literal.text_and_suffix().1 == suffix;
-    Ok(is_cut && printed.as_str() == written)
+    Ok(is_cut && writes(alloc, &literal, written)?)
 }
 
 #[test]
-fn literals_are_written_with_their_quotes(rt: HostRuntime) -> Result<(), Fail> {
+fn literals_are_written_with_their_quotes(rt: HostRuntime) {
     for row in &LITERALS {
-        assert!(rt; is_written(rt.alloc(), row)?, "{}", row.5);
+        assert!(rt; is_written(rt.alloc(), row).unwrap_or(false), "{}", row.5);
     }
-    Ok(())
 }
 
 fn keyword(alloc: Global, is_raw: IdentIsRaw) -> Result<Ident, AllocError> {
@@ -165,26 +224,23 @@ fn keyword(alloc: Global, is_raw: IdentIsRaw) -> Result<Ident, AllocError> {
     })
 }
 
-#[test]
-fn raw_identifiers_are_written_with_their_mark(rt: HostRuntime) -> Result<(), Fail> {
-    let alloc = rt.alloc();
-    for (is_raw, written) in [(IdentIsRaw::No, "fn"), (IdentIsRaw::Yes, "r#fn")] {
-        let ident = keyword(alloc, is_raw)?;
-        let printed = format!(in alloc; "{ident}")?;
-        assert!(rt; printed.as_str() == written);
-        let copy = ident.clone()?;
-        assert!(rt; copy == ident);
-    }
-    Ok(())
+// Whether that is written of the identifier, and a copy is equal.
+fn is_mark_written(alloc: Global, ident: &Ident, written: &str) -> Result<bool, AllocError> {
+    let copy = ident.clone()?;
+    Ok(copy == *ident && writes(alloc, ident, written)?)
+}
+
+// The same of the keyword's identifier, and whether a leaf of it shows its span and its text.
+fn is_identifier(alloc: Global, is_raw: IdentIsRaw, written: &str) -> Result<bool, AllocError> {
+    let ident = keyword(alloc, is_raw)?;
+    let is_so = is_mark_written(alloc, &ident, written)?;
+    let leaf = Leaf::Ident(ident);
+    Ok(is_so && leaf.span() == span(1) && shows(alloc, &leaf, "\"fn\"")?)
 }
 
 #[test]
-fn a_leaf_shows_its_span_and_its_text(rt: HostRuntime) -> Result<(), Fail> {
-    for is_raw in [IdentIsRaw::No, IdentIsRaw::Yes] {
-        let leaf = Leaf::Ident(keyword(rt.alloc(), is_raw)?);
-        assert!(rt; leaf.span() == span(1));
-        let debug = format!(in rt.alloc(); "{leaf:?}")?;
-        assert!(rt; debug.contains("\"fn\""));
+fn identifiers_are_written_with_their_mark_and_shown_as_leaves(rt: HostRuntime) {
+    for (is_raw, written) in [(IdentIsRaw::No, "fn"), (IdentIsRaw::Yes, "r#fn")] {
+        assert!(rt; is_identifier(rt.alloc(), is_raw, written).unwrap_or(false));
     }
-    Ok(())
 }
