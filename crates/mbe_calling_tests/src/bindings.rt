@@ -71,37 +71,43 @@ pub fn rounds_of<A: Allocator>(bindings: &Bindings<'_, A>, name: &Symbol<A>) -> 
 mod tests {
     use super::{bind_by_hand, bind_missing, bind_rounds, part_ways, rounds_of};
     use mbe::BindingLog;
-    use mbe_text::lexer::lex;
+    use mbe_text::lexer::{LexError, lex};
     use mbe_tt::symbol::Symbol;
-    use std::test::Fail;
+    use std::alloc::{AllocError, Global};
 
-    #[test]
-    fn rounds_are_bound(rt: HostRuntime) -> Result<(), Fail> {
-        let name = Symbol::intern(rt.alloc(), "x")?;
-        let tree = lex(rt.alloc(), "1 + 2", 1)?;
-        let bindings = bind_rounds(rt.alloc(), &name, tree.view())?;
-        assert_eq!(rt; rounds_of(&bindings, &name), Some(2));
-        assert_eq!(rt; (bindings.len(), bindings.count()), (1, 2));
-        Ok(())
+    fn are_rounds_bound(alloc: Global, name: &Symbol) -> Result<bool, LexError> {
+        let tree = lex(alloc, "1 + 2", 1)?;
+        let bindings = bind_rounds(alloc, name, tree.view())?;
+        let counts = (bindings.len(), bindings.count());
+        Ok(rounds_of(&bindings, name) == Some(2) && counts == (1, 2))
+    }
+
+    fn do_copies_part(alloc: Global, name: &Symbol) -> Result<bool, AllocError> {
+        let (with_name, without) = part_ways(alloc, name)?;
+        let counts = (with_name.len(), without.len());
+        Ok(rounds_of(&with_name, name).is_none() && counts == (1, 0))
+    }
+
+    fn is_missing_counted(alloc: Global, name: &Symbol) -> Result<bool, AllocError> {
+        let mut log = BindingLog::new(alloc);
+        Ok(bind_missing(&mut log, name)? == (1, 0))
+    }
+
+    fn is_bound_by_hand(alloc: Global, name: &Symbol) -> Result<bool, LexError> {
+        let tree = lex(alloc, "1", 1)?;
+        let bindings = bind_by_hand(alloc, name, tree.view())?;
+        Ok(rounds_of(&bindings, name).is_none() && bindings.len() == 1)
+    }
+
+    fn is_bound_each_way(alloc: Global, name: &Symbol) -> Result<bool, LexError> {
+        let is_found = are_rounds_bound(alloc, name)? && is_bound_by_hand(alloc, name)?;
+        Ok(is_found && do_copies_part(alloc, name)? && is_missing_counted(alloc, name)?)
     }
 
     #[test]
-    fn copies_part_ways(rt: HostRuntime) -> Result<(), Fail> {
+    fn names_are_bound_by_a_log_and_by_hand(rt: HostRuntime) -> Result<(), LexError> {
         let name = Symbol::intern(rt.alloc(), "x")?;
-        let (with_name, without) = part_ways(rt.alloc(), &name)?;
-        assert_eq!(rt; (with_name.len(), without.len()), (1, 0));
-        assert_eq!(rt; rounds_of(&with_name, &name), None);
-        Ok(())
-    }
-
-    #[test]
-    fn other_ways_to_bind(rt: HostRuntime) -> Result<(), Fail> {
-        let name = Symbol::intern(rt.alloc(), "x")?;
-        let tree = lex(rt.alloc(), "1", 1)?;
-        let mut log = BindingLog::new(rt.alloc());
-        assert_eq!(rt; bind_missing(&mut log, &name)?, (1, 0));
-        let bindings = bind_by_hand(rt.alloc(), &name, tree.view())?;
-        assert_eq!(rt; (bindings.len(), rounds_of(&bindings, &name)), (1, None));
+        assert!(rt; is_bound_each_way(rt.alloc(), &name)?);
         Ok(())
     }
 }

@@ -1,9 +1,5 @@
 // The examples of docs/MACROS.md: errors of calls, each with its place.
-use crate::expansions::{error_line, expand_call, read};
-use mbe_text::lexer::lex;
-use std::alloc::Global;
-use std::process::Abort;
-use std::test::Fail;
+use crate::expansions::tests::is_expanded;
 
 // Rules, an argument, and the error with its span.
 static ERRORS: [(&str, &str, &str); 11] = [
@@ -36,26 +32,11 @@ static ERRORS: [(&str, &str, &str); 11] = [
     ),
 ];
 
-fn assert_error(
-    rt: &impl Abort,
-    alloc: Global,
-    (rules, argument, want): (&str, &str, &str),
-) -> Result<(), Fail> {
-    assert!(rt; rules.len() < 1_000_000 && argument.len() < 1_000_000);
-    let defined = read(alloc, rules)?;
-    let argument = lex(alloc, argument, 1)?;
-    let Some(expansion) = expand_call(alloc, &defined, &argument)? else {
-        return Err(Fail::from("a pattern was refused"));
-    };
-    let line = error_line(alloc, &expansion)?;
-    assert_eq!(rt; line.as_str(), want, "{rules}");
-    Ok(())
-}
-
 #[test]
-fn calls_have_these_errors(rt: HostRuntime) -> Result<(), Fail> {
-    for &row in &ERRORS {
-        assert_error(&rt, rt.alloc(), row)?;
+fn calls_have_these_errors(rt: HostRuntime) -> anyhow::Result<()> {
+    for &(rules, argument, want) in &ERRORS {
+        let row = (rules, argument, 0, want, "");
+        assert!(rt; is_expanded(&rt, rt.alloc(), &row)?, "{rules}");
     }
     Ok(())
 }

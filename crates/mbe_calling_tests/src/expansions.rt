@@ -74,83 +74,121 @@ pub fn expand_marked(
     Ok(expanded)
 }
 
-mod tests {
-    use super::{error_line, expand_call, expand_marked, read, tree_or_error};
+pub mod tests {
+    use super::{Expansion, error_line, expand_call, expand_marked, read, tree_or_error};
     use mbe::MacroCallStyle;
     use mbe_text::lexer::lex;
-    use mbe_tt::span::SyntaxContext;
-    use std::alloc::Global;
+    use mbe_tt::span::{Span, SyntaxContext};
+    use mbe_tt::tt::TopSubtree;
+    use std::alloc::{AllocError, Global};
     use std::process::Abort;
-    use std::test::Fail;
+
+    /// Rules, an argument, the index of the rule, the line of the error, and the printed tree without one.
+    pub type Row = (&'static str, &'static str, u32, &'static str, &'static str);
 
     const RULES: &str = "($x:ident) => {let $x}; ($x:ident $y:ident) => {$y}";
 
-    // An argument, the index of the rule, the line of the error, and the printed tree without one.
-    static CALLS: [(&str, u32, &str, &str); 3] = [
+    static CALLS: [Row; 3] = [
         (
+            RULES,
             "a",
             0,
             "",
             "SUBTREE $$ 1@0..1 1@0..1\n  IDENT   let 0@15..18\n  IDENT   a 1@0..1\n",
         ),
         (
+            RULES,
             "a b",
             1,
             "",
             "SUBTREE $$ 1@0..3 1@0..3\n  IDENT   b 1@2..3\n",
         ),
-        ("a 1", 1, "expected ident at 1@2..3", ""),
+        (RULES, "a 1", 1, "expected ident at 1@2..3", ""),
     ];
 
-    fn assert_call(
+    /// The expansion of a call by these rules.
+    pub fn expansion_of(
         rt: &impl Abort,
         alloc: Global,
-        (argument, rule, line, tree): (&str, u32, &str, &str),
-    ) -> Result<(), Fail> {
-        assert!(rt; argument.len() < 1_000_000);
-        let defined = read(alloc, RULES)?;
+        rules: &str,
+        argument: &str,
+    ) -> anyhow::Result<Option<Expansion<Global>>> {
+        assert!(rt; rules.len() < 1_000_000 && argument.len() < 1_000_000);
+        let defined = read(alloc, rules)?;
         let argument = lex(alloc, argument, 1)?;
-        let Some(expansion) = expand_call(alloc, &defined, &argument)? else {
-            return Err(Fail::from("a pattern was refused"));
+        Ok(expand_call(alloc, &defined, &argument)?)
+    }
+
+    /// Whether that line is on the expansion.
+    pub fn has_line(
+        alloc: Global,
+        expansion: &Expansion<Global>,
+        line: &str,
+    ) -> Result<bool, AllocError> {
+        Ok(error_line(alloc, expansion)?.as_str() == line)
+    }
+
+    // Whether that tree is printed; an error is in its place where it is empty.
+    fn is_tree(alloc: Global, expansion: Expansion<Global>, tree: &str) -> bool {
+        match tree_or_error(alloc, expansion) {
+            Ok(printed) => printed.as_str() == tree,
+            Err(_) => tree.is_empty(),
+        }
+    }
+
+    /// Whether the call makes that.
+    pub fn is_expanded(
+        rt: &impl Abort,
+        alloc: Global,
+        &(rules, argument, rule, line, tree): &Row,
+    ) -> anyhow::Result<bool> {
+        let Some(expansion) = expansion_of(rt, alloc, rules, argument)? else {
+            return Ok(false);
         };
-        assert_eq!(rt; expansion.value.1, Some(rule));
-        assert_eq!(rt; error_line(alloc, &expansion)?.as_str(), line);
-        let printed = tree_or_error(alloc, expansion);
-        assert_eq!(rt; printed.is_ok(), line.is_empty());
-        let printed = printed.unwrap_or(String::new(alloc));
-        assert_eq!(rt; printed.as_str(), tree);
-        Ok(())
+        let is_so = expansion.value.1 == Some(rule) && has_line(alloc, &expansion, line)?;
+        Ok(is_so && line.is_empty() != tree.is_empty() && is_tree(alloc, expansion, tree))
     }
 
     #[test]
-    fn calls_are_expanded(rt: HostRuntime) -> Result<(), Fail> {
-        for &row in &CALLS {
-            assert_call(&rt, rt.alloc(), row)?;
+    fn calls_are_expanded(rt: HostRuntime) -> anyhow::Result<()> {
+        for row in &CALLS {
+            assert!(rt; is_expanded(&rt, rt.alloc(), row)?, "{}", row.1);
         }
         Ok(())
     }
 
     #[test]
-    fn refused_patterns_expand_nothing(rt: HostRuntime) -> Result<(), Fail> {
-        let defined = read(rt.alloc(), "($()*) => {}")?;
-        let argument = lex(rt.alloc(), "a", 1)?;
-        assert!(rt; expand_call(rt.alloc(), &defined, &argument)?.is_none());
+    fn refused_patterns_expand_nothing(rt: HostRuntime) -> anyhow::Result<()> {
+        assert!(rt; expansion_of(&rt, rt.alloc(), "($()*) => {}", "a")?.is_none());
         Ok(())
     }
 
+    // The spans of the first two trees.
+    fn first_spans(tree: &TopSubtree) -> Option<(Span, Span)> {
+        let mut trees = tree.iter();
+        let first = trees.next_span()?;
+        let _first = trees.next()?;
+        Some((first, trees.next_span()?))
+    }
+
     // The word of the template has the context of the expansion, and the one of the argument keeps its own.
-    #[test]
-    fn the_template_is_marked(rt: HostRuntime) -> Result<(), Fail> {
-        let defined = read(rt.alloc(), RULES)?;
-        let argument = lex(rt.alloc(), "a", 1)?;
+    fn are_marked((word, taken): (Span, Span)) -> bool {
+        (word.file, word.start, word.ctx.0) == (0, 15, 5)
+            && (taken.file, taken.start, taken.ctx.0) == (1, 0, 0)
+    }
+
+    fn marked_expansion(alloc: Global) -> anyhow::Result<Expansion<Global>> {
+        let defined = read(alloc, RULES)?;
+        let argument = lex(alloc, "a", 1)?;
         let style = MacroCallStyle::FnLike;
-        let expansion = expand_marked(rt.alloc(), &defined, &argument, style, SyntaxContext(5))?;
-        let mut trees = expansion.value.0.iter();
-        let word = trees.next_span().unwrap_or_default();
-        assert!(rt; trees.next().is_some());
-        let taken = trees.next_span().unwrap_or_default();
-        assert_eq!(rt; (word.file, word.start, word.ctx.0), (0, 15, 5));
-        assert_eq!(rt; (taken.file, taken.start, taken.ctx.0), (1, 0, 0));
+        expand_marked(alloc, &defined, &argument, style, SyntaxContext(5))
+    }
+
+    #[test]
+    fn the_template_is_marked(rt: HostRuntime) -> anyhow::Result<()> {
+        let expansion = marked_expansion(rt.alloc())?;
+        let spans = first_spans(&expansion.value.0);
+        assert!(rt; matches!(spans, Some(spans) if are_marked(spans)));
         Ok(())
     }
 }

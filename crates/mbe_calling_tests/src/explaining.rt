@@ -36,8 +36,9 @@ pub fn write_verdicts<W: Write>(
 mod tests {
     use super::write_verdicts;
     use crate::expansions::read;
+    use mbe::DeclarativeMacro;
     use mbe_text::lexer::lex;
-    use std::test::Fail;
+    use std::alloc::Global;
 
     const RULES: &str =
         "($x:ident) => {}; ($x:ident $y:ident) => {}; ($($x:ident)* $y:ident) => {}; ($(a)* $(a)* b) => {}";
@@ -48,13 +49,18 @@ mod tests {
 3 reads it in more than one way
 ";
 
+    // Whether those lines are written of the argument.
+    fn has_lines(alloc: Global, defined: &DeclarativeMacro) -> anyhow::Result<bool> {
+        let argument = lex(alloc, "a b", 1)?;
+        let mut out = Vec::new(alloc);
+        write_verdicts(alloc, defined, &argument, &mut out)?;
+        Ok(out.as_slice() == LINES.as_bytes())
+    }
+
     #[test]
-    fn each_rule_has_its_verdict(rt: HostRuntime) -> Result<(), Fail> {
+    fn each_rule_has_its_verdict(rt: HostRuntime) -> anyhow::Result<()> {
         let defined = read(rt.alloc(), RULES)?;
-        let argument = lex(rt.alloc(), "a b", 1)?;
-        let mut out = Vec::new(rt.alloc());
-        write_verdicts(rt.alloc(), &defined, &argument, &mut out)?;
-        assert_eq!(rt; String::from_utf8(out)?.as_str(), LINES);
+        assert!(rt; has_lines(rt.alloc(), &defined)?);
         Ok(())
     }
 }

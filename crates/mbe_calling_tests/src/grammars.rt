@@ -80,42 +80,38 @@ fn word_front<A: Allocator>(tokens: TokenTreesView<'_, A>) -> Front
 
 mod tests {
     use super::{NoFragments, Words};
+    use crate::expansions::read;
+    use crate::expansions::tests::has_line;
     use mbe::{DeclarativeMacro, MacroCallStyle};
     use mbe_text::lexer::lex;
     use mbe_tt::grammar::FragmentGrammar;
-    use mbe_tt::span::Edition;
-    use std::alloc::Global;
-    use std::test::Fail;
+    use mbe_tt::tt::TopSubtree;
+    use std::alloc::{AllocError, Global};
 
-    // The error of a call by that grammar; nothing without one.
-    fn error_by<G: FragmentGrammar>(alloc: Global, grammar: &G) -> Result<String, Fail> {
-        let rules = lex(alloc, "($e:expr, $t:ty) => {$t $e}", 0)?;
-        let argument = lex(alloc, "1, u8", 1)?;
-        let defined = DeclarativeMacro::parse_macro_rules(
-            alloc,
-            &rules,
-            |_ctx| Edition::Edition2024,
-        )?;
-        if let Some(error) = defined.err() {
-            return Ok(format!(in alloc; "{error}")?);
+    // Whether a call by that grammar has that line of an error, or none.
+    fn has_error<G: FragmentGrammar>(
+        alloc: Global,
+        grammar: &G,
+        (defined, argument): (&DeclarativeMacro, &TopSubtree),
+        line: &str,
+    ) -> Result<bool, AllocError> {
+        if defined.err().is_some() {
+            return Ok(false);
         }
         let call_site = argument.top_subtree().delimiter.opening;
         let style = MacroCallStyle::FnLike;
-        let expanded = defined.expand(alloc, grammar, &argument, |s| s, style, call_site)?;
-        match &expanded.err {
-            Some(error) => Ok(format!(in alloc; "{error}")?),
-            None => Ok(String::new(alloc)),
-        }
+        let expanded = defined.expand(alloc, grammar, argument, |s| s, style, call_site)?;
+        has_line(alloc, &expanded, line)
     }
 
     #[test]
-    fn grammars_are_handed_in(rt: HostRuntime) -> Result<(), Fail> {
-        assert_eq!(rt;
-            error_by(rt.alloc(), &NoFragments)?.as_str(),
-            "expected Expr"
-        );
-        assert_eq!(rt; error_by(rt.alloc(), &Words)?.as_str(), "");
+    fn grammars_are_handed_in(rt: HostRuntime) -> anyhow::Result<()> {
         assert!(rt; Words.is_keyword("let") && !Words.is_keyword("fn"));
+        let defined = read(rt.alloc(), "($e:expr, $t:ty) => {$t $e}")?;
+        let argument = lex(rt.alloc(), "1, u8", 1)?;
+        let call = (&defined, &argument);
+        assert!(rt; has_error(rt.alloc(), &NoFragments, call, "expected Expr at 1@0..1")?);
+        assert!(rt; has_error(rt.alloc(), &Words, call, "")?);
         Ok(())
     }
 }

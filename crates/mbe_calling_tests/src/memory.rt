@@ -30,11 +30,11 @@ pub fn count_requests(alloc: Global) -> Result<u64, AllocError> {
 
 mod tests {
     use super::count_requests;
-    use std::test::Fail;
+    use std::alloc::AllocError;
 
     // The two buffers, the rules, the two lists of ops, the symbols of the texts and the expansion's buffer at least.
     #[test]
-    fn each_request_is_refused_in_turn(rt: HostRuntime) -> Result<(), Fail> {
+    fn each_request_is_refused_in_turn(rt: HostRuntime) -> Result<(), AllocError> {
         assert!(rt; count_requests(rt.alloc())? > 8);
         Ok(())
     }

@@ -41,46 +41,59 @@ pub fn leading_type<'a>(
 
 mod tests {
     use super::{leading_type, or_nothing, paired, summary, too_deep};
-    use crate::expansions::{expand_call, read};
+    use crate::expansions::Expansion;
+    use crate::expansions::tests::expansion_of;
     use mbe::{ExpandErrorKind, ValueResult};
-    use mbe_text::lexer::lex;
+    use mbe_text::lexer::{LexError, lex};
     use mbe_tt::span::{DelimSpan, Span};
-    use std::test::Fail;
+    use mbe_tt::tt::TtIter;
+    use std::alloc::{AllocError, Global};
 
-    #[test]
-    fn results_are_changed(rt: HostRuntime) -> Result<(), Fail> {
-        let defined = read(rt.alloc(), "(a b) => {x y z}")?;
-        let argument = lex(rt.alloc(), "a c", 1)?;
-        let Some(expansion) = expand_call(rt.alloc(), &defined, &argument)? else {
-            return Err(Fail::from("a pattern was refused"));
-        };
+    // Whether there are three trees beside the error at byte 2, and the number that is paired with them.
+    fn is_changed(expansion: Expansion<Global>) -> bool {
         let counts = paired(summary(expansion), 7);
-        assert_eq!(rt; counts.value, (3, 7));
-        assert_eq!(rt; counts.err.map(|span| span.start), Some(2));
-        Ok(())
+        counts.value == (3, 7) && matches!(counts.err, Some(span) if span.start == 2)
     }
 
     #[test]
-    fn results_are_made(rt: HostRuntime) -> Result<(), Fail> {
+    fn results_are_changed(rt: HostRuntime) -> anyhow::Result<()> {
+        let Some(expansion) = expansion_of(&rt, rt.alloc(), "(a b) => {x y z}", "a c")? else {
+            anyhow::bail!("a pattern was refused");
+        };
+        assert!(rt; is_changed(expansion));
+        Ok(())
+    }
+
+    // Whether that error has its text, and is of no other kind.
+    fn is_too_deep(alloc: Global, span: Span) -> Result<bool, AllocError> {
+        let error = too_deep(alloc, span)?;
+        let text = format!(in alloc; "{error}")?;
+        let is_other = error.inner.1 == ExpandErrorKind::LimitExceeded;
+        Ok(!is_other && text.as_str() == "the expansion is too deep")
+    }
+
+    #[test]
+    fn results_are_made(rt: HostRuntime) -> Result<(), AllocError> {
         let span = Span::default();
         assert!(rt; or_nothing(Ok(3)) == ValueResult::ok(3));
         assert!(rt; or_nothing(Err(span)) == ValueResult::only_err(span));
         assert!(rt; ValueResult::new(3, span).result() == Err(span));
-        let error = too_deep(rt.alloc(), span)?;
-        let text = format!(in rt.alloc(); "{error}")?;
-        assert_eq!(rt; text.as_str(), "the expansion is too deep");
-        assert!(rt; error.inner.1 != ExpandErrorKind::LimitExceeded);
+        assert!(rt; is_too_deep(rt.alloc(), span)?);
         Ok(())
     }
 
+    // How many trees the type has that comes first; none if there is no type.
+    fn type_len(alloc: Global, iter: &mut TtIter<'_>) -> Result<Option<usize>, AllocError> {
+        let found = leading_type(alloc, iter, DelimSpan::default())?;
+        Ok(found.err.is_none().then_some(found.value.len()))
+    }
+
     #[test]
-    fn a_type_is_found(rt: HostRuntime) -> Result<(), Fail> {
+    fn a_type_is_found(rt: HostRuntime) -> Result<(), LexError> {
         let tree = lex(rt.alloc(), "Vec<u8> = 1", 1)?;
         let mut iter = tree.iter();
-        let found = leading_type(rt.alloc(), &mut iter, DelimSpan::default())?;
-        assert!(rt; found.err.is_none() && found.value.len() == 4);
-        let found = leading_type(rt.alloc(), &mut iter, DelimSpan::default())?;
-        assert!(rt; found.err.is_some());
+        assert!(rt; type_len(rt.alloc(), &mut iter)? == Some(4));
+        assert!(rt; type_len(rt.alloc(), &mut iter)?.is_none());
         Ok(())
     }
 }

@@ -59,37 +59,42 @@ pub fn bound_in<'a>(
 
 mod tests {
     use super::{bound_in, failed, head, is_done, outside_bits, sides, takes_more, written};
-    use mbe::BindingLog;
-    use mbe_text::lexer::lex;
+    use mbe::{BindingLog, Handle};
+    use mbe_text::lexer::{LexError, lex};
     use mbe_tt::span::Edition;
-    use std::test::Fail;
+    use mbe_tt::tt::TtIter;
+    use std::alloc::{AllocError, Global};
 
-    #[test]
-    fn small_values_are_read(rt: HostRuntime) -> Result<(), Fail> {
-        let tree = lex(rt.alloc(), "r#a", 7)?;
-        assert!(rt; sides(&tree).opening == head(7, 3));
-        assert_eq!(rt; takes_more(Edition::Edition2021), (true, false));
-        assert_eq!(rt; outside_bits(), 6);
-        assert_eq!(rt; failed(1)?, 0);
-        let mut iter = tree.iter();
-        assert!(rt; !is_done(&iter)?);
+    // Whether there is one word, which is written so.
+    fn is_one_word(alloc: Global, mut iter: TtIter<'_>, word: &str) -> Result<bool, AllocError> {
+        let was_done = is_done(&iter)?;
         let Ok(ident) = iter.expect_ident() else {
-            return Err(Fail::from("no identifier"));
+            return Ok(false);
         };
-        assert_eq!(rt; written(rt.alloc(), ident)?.as_str(), "r#a");
-        assert!(rt; is_done(&iter)?);
-        Ok(())
+        let is_only = !was_done && is_done(&iter)?;
+        Ok(is_only && written(alloc, ident)?.as_str() == word)
     }
 
     #[test]
-    fn a_handle_is_of_its_log(rt: HostRuntime) -> Result<(), Fail> {
+    fn small_values_are_read(rt: HostRuntime) -> Result<(), LexError> {
+        assert!(rt; takes_more(Edition::Edition2021) == (true, false));
+        assert!(rt; outside_bits() == 6 && failed(1)? == 0);
+        let tree = lex(rt.alloc(), "r#a", 7)?;
+        let is_at = sides(&tree).opening == head(7, 3);
+        assert!(rt; is_at && is_one_word(rt.alloc(), tree.iter(), "r#a")?);
+        Ok(())
+    }
+
+    fn is_bound(log: &BindingLog<'_>, handle: &Handle) -> Result<bool, AllocError> {
+        Ok(bound_in(log, handle)?.is_some())
+    }
+
+    #[test]
+    fn a_handle_is_of_its_log(rt: HostRuntime) -> Result<(), AllocError> {
         let mut log = BindingLog::new(rt.alloc());
         let handle = log.alloc()?;
         let other = BindingLog::new(rt.alloc());
-        let bound = bound_in(&log, &handle)?;
-        assert!(rt; bound.is_some());
-        let bound = bound_in(&other, &handle)?;
-        assert!(rt; bound.is_none());
+        assert!(rt; is_bound(&log, &handle)? && !is_bound(&other, &handle)?);
         Ok(())
     }
 }

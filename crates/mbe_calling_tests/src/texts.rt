@@ -55,9 +55,11 @@ pub fn end_of_second(text: &str) -> Result<u32, LexFault>
 
 mod tests {
     use super::{end_of_second, fault_of, lines_of, trees_of};
+    use mbe_text::lexer::LexError;
+    use mbe_text::scanner::LexFault;
     use mbe_text::symbols::SymbolTable;
     use mbe_tt::symbol::Symbol;
-    use std::test::Fail;
+    use std::alloc::{AllocError, Global};
 
     // Each line has the token's span: file 7, and its bytes.
     const LINES: &str = "SUBTREE $$ 7@0..10 7@0..10
@@ -69,26 +71,33 @@ mod tests {
 ";
 
     #[test]
-    fn a_text_is_printed_by_its_trees(rt: HostRuntime) -> Result<(), Fail> {
-        assert_eq!(rt; lines_of(rt.alloc(), "a += (1u8)")?.as_str(), LINES);
-        assert_eq!(rt; fault_of(rt.alloc(), "a += (1u8]"), Some(9));
-        assert_eq!(rt; fault_of(rt.alloc(), "a += (1u8)"), None);
-        assert_eq!(rt; end_of_second("a += (1u8)").ok(), Some(3));
-        assert_eq!(rt; end_of_second("a é §").ok(), Some(4));
-        assert_eq!(rt;
-            end_of_second("a §").err().map(|fault| fault.offset),
-            Some(2)
-        );
+    fn a_text_is_printed_by_its_trees(rt: HostRuntime) -> anyhow::Result<()> {
+        assert!(rt; lines_of(rt.alloc(), "a += (1u8)")?.as_str() == LINES);
         Ok(())
     }
 
     #[test]
-    fn names_of_two_files_are_kept_once(rt: HostRuntime) -> Result<(), Fail> {
-        let (one, two) = trees_of(rt.alloc(), "a + a", "a + b")?;
-        assert!(rt; one != two);
-        let mut table = SymbolTable::new(rt.alloc());
-        let name = table.intern("a")?;
-        assert!(rt; name == Symbol::intern(table.alloc(), "a")?);
+    fn faults_and_ends_are_counted_in_bytes(rt: HostRuntime) {
+        assert!(rt; fault_of(rt.alloc(), "a += (1u8]") == Some(9));
+        assert!(rt; fault_of(rt.alloc(), "a += (1u8)").is_none());
+        assert!(rt; end_of_second("a += (1u8)") == Ok(3) && end_of_second("a é §") == Ok(4));
+        assert!(rt; end_of_second("a §") == Err(LexFault { offset: 2 }));
+    }
+
+    fn trees_differ(alloc: Global) -> Result<bool, LexError> {
+        let (one, two) = trees_of(alloc, "a + a", "a + b")?;
+        Ok(one != two)
+    }
+
+    fn is_kept(alloc: Global, text: &str) -> Result<bool, AllocError> {
+        let mut table = SymbolTable::new(alloc);
+        let name = table.intern(text)?;
+        Ok(name == Symbol::intern(table.alloc(), text)?)
+    }
+
+    #[test]
+    fn names_of_two_files_are_kept_once(rt: HostRuntime) -> Result<(), LexError> {
+        assert!(rt; trees_differ(rt.alloc())? && is_kept(rt.alloc(), "a")?);
         Ok(())
     }
 }

@@ -101,70 +101,94 @@ mod tests {
         assignment, count_leaves, expect_each, names, next_leaf, next_spans, only_group, suffix,
         view_of_next,
     };
-    use mbe_text::lexer::lex;
-    use mbe_tt::tt::{DelimiterKind, Leaf};
-    use std::test::Fail;
+    use mbe_text::lexer::{LexError, lex};
+    use mbe_tt::tt::{DelimiterKind, Leaf, TopSubtree, TtIter};
+    use std::alloc::{AllocError, Global};
+
+    // One assignment is read, of a name and a group of one tree; at the two trees that are left none is.
+    fn reads_one_assignment(mut iter: TtIter<'_>) -> bool {
+        match assignment(&mut iter) {
+            Some((name, value)) => {
+                name.sym.as_str() == "a"
+                    && (value.len(), value.flat_len()) == (1, 3)
+                    && assignment(&mut iter).is_none()
+                    && iter.remaining().len() == 2
+            }
+            None => false,
+        }
+    }
 
     #[test]
-    fn assignments_are_read(rt: HostRuntime) -> Result<(), Fail> {
+    fn assignments_are_read(rt: HostRuntime) -> Result<(), LexError> {
         let tree = lex(rt.alloc(), "a = (1); b 2", 0)?;
-        let mut iter = tree.iter();
-        let Some((name, value)) = assignment(&mut iter) else {
-            return Err(Fail::from("no assignment"));
-        };
-        assert_eq!(rt; name.sym.as_str(), "a");
-        assert_eq!(rt; (value.len(), value.flat_len()), (1, 3));
-        assert!(rt; assignment(&mut iter).is_none());
-        assert_eq!(rt; iter.remaining().len(), 2);
+        assert!(rt; reads_one_assignment(tree.iter()));
         Ok(())
     }
 
+    fn expects_each_once(mut iter: TtIter<'_>) -> bool {
+        expect_each(&mut iter) == Ok((3, 2)) && iter.is_empty() && expect_each(&mut iter).is_err()
+    }
+
     #[test]
-    fn each_tree_is_expected(rt: HostRuntime) -> Result<(), Fail> {
+    fn each_tree_is_expected(rt: HostRuntime) -> Result<(), LexError> {
         let tree = lex(rt.alloc(), "a _ 1 b + - $ , ! <<= (x y)", 0)?;
-        let mut iter = tree.iter();
-        assert!(rt; expect_each(&mut iter) == Ok((3, 2)));
-        assert!(rt; iter.is_empty() && expect_each(&mut iter).is_err());
+        assert!(rt; expects_each_once(tree.iter()));
         Ok(())
     }
 
+    // The group comes first, then the literal, and neither call consumes what isn't for it.
+    fn consumes_the_group(iter: &mut TtIter<'_>) -> bool {
+        matches!(next_spans(iter), Some((one, two)) if (one.start, two.start) == (0, 4))
+            && next_leaf(iter).is_none()
+            && matches!(view_of_next(iter), Some(view) if view.flat_len() == 3)
+    }
+
+    fn is_literal_next(mut iter: TtIter<'_>) -> bool {
+        match iter.expect_leaf() {
+            Ok(Leaf::Literal(literal)) => suffix(literal) == "u8" && literal.text() == "1",
+            _ => false,
+        }
+    }
+
+    fn consumes_the_leaf(iter: &mut TtIter<'_>) -> bool {
+        is_literal_next(iter.remaining().iter())
+            && matches!(next_leaf(iter), Some(view) if view.len() == 1)
+            && iter.remaining().len() == 1
+    }
+
     #[test]
-    fn trees_are_consumed(rt: HostRuntime) -> Result<(), Fail> {
+    fn trees_are_consumed(rt: HostRuntime) -> Result<(), LexError> {
         let tree = lex(rt.alloc(), "(a) 1u8 [", 0)?;
         let mut iter = tree.iter();
-        let spans = next_spans(&iter).map(|(one, two)| (one.start, two.start));
-        assert!(rt; spans == Some((0, 4)) && next_leaf(&mut iter).is_none());
-        assert_eq!(rt;
-            view_of_next(&mut iter).map(|view| view.flat_len()),
-            Some(3)
-        );
-        let mut leaves = iter.remaining().iter();
-        let Ok(Leaf::Literal(literal)) = leaves.expect_leaf() else {
-            return Err(Fail::from("no literal"));
-        };
-        assert!(rt; suffix(literal) == "u8" && literal.text() == "1");
-        assert_eq!(rt; next_leaf(&mut iter).map(|view| view.len()), Some(1));
-        assert_eq!(rt; iter.remaining().len(), 1);
+        assert!(rt; consumes_the_group(&mut iter) && consumes_the_leaf(&mut iter));
         Ok(())
     }
 
+    fn are_names(alloc: Global, tree: &TopSubtree, want: &[&str]) -> Result<bool, AllocError> {
+        Ok(names(alloc, tree)?.as_slice() == want)
+    }
+
     #[test]
-    fn names_and_leaves_are_counted(rt: HostRuntime) -> Result<(), Fail> {
+    fn names_and_leaves_are_counted(rt: HostRuntime) -> Result<(), LexError> {
         let tree = lex(rt.alloc(), "a (b + c) d", 0)?;
-        let names = names(rt.alloc(), &tree)?;
-        assert!(rt; names.as_slice() == ["a", "d"].as_slice());
-        assert_eq!(rt; count_leaves(tree.view()), 5);
+        assert!(rt; are_names(rt.alloc(), &tree, &["a", "d"])? && count_leaves(tree.view()) == 5);
         Ok(())
     }
 
+    fn is_bracket_of_two(tree: &TopSubtree) -> bool {
+        match only_group(tree.view()) {
+            Some(group) => {
+                group.top_subtree().delimiter.kind == DelimiterKind::Bracket
+                    && group.iter().remaining().len() == 2
+            }
+            None => false,
+        }
+    }
+
     #[test]
-    fn a_group_is_looked_into(rt: HostRuntime) -> Result<(), Fail> {
+    fn a_group_is_looked_into(rt: HostRuntime) -> Result<(), LexError> {
         let tree = lex(rt.alloc(), "[a b]", 0)?;
-        let Some(group) = only_group(tree.view()) else {
-            return Err(Fail::from("no group"));
-        };
-        assert!(rt; group.top_subtree().delimiter.kind == DelimiterKind::Bracket);
-        assert_eq!(rt; group.iter().remaining().len(), 2);
+        assert!(rt; is_bracket_of_two(&tree));
         Ok(())
     }
 }

@@ -80,14 +80,13 @@ mod tests {
     use mbe_text::lexer::lex;
     use mbe_text::printing::print_tree;
     use mbe_tt::span::Span;
-    use mbe_tt::tt::TopSubtree;
-    use std::alloc::Global;
-    use std::test::Fail;
+    use mbe_tt::tt::{TokenTreesView, TopSubtree};
+    use std::alloc::{AllocError, Global};
 
-    fn printed(alloc: Global, tree: &TopSubtree) -> Result<String, Fail> {
+    fn is_printed(alloc: Global, tree: &TopSubtree, want: &str) -> anyhow::Result<bool> {
         let mut out = Vec::new(alloc);
         print_tree(tree, &mut out)?;
-        Ok(String::from_utf8(out)?)
+        Ok(out.as_slice() == want.as_bytes())
     }
 
     const CALL: &str = "SUBTREE $$ 0@0..0 0@0..0
@@ -99,6 +98,11 @@ mod tests {
     PUNCH   + [alone] 1@3..4
 ";
 
+    fn is_call_built(alloc: Global, content: TokenTreesView<'_>) -> anyhow::Result<bool> {
+        let call = build_call(alloc, "f", content, Span::default())?;
+        is_printed(alloc, &call, CALL)
+    }
+
     const BOTH: &str = "SUBTREE $$ 0@0..0 0@0..0
   LITERAL Integer 1 1@0..1
   PUNCH   + [joint] 1@2..3
@@ -106,15 +110,18 @@ mod tests {
   IDENT   g 0@0..0
 ";
 
+    fn are_both_built(alloc: Global, trees: TokenTreesView<'_>) -> anyhow::Result<bool> {
+        let last = word(alloc, "g", Span::default())?;
+        let both = build_both_or_none(alloc, trees, last, Span::default())?;
+        is_printed(alloc, &both, BOTH)
+    }
+
     #[test]
-    fn trees_are_built(rt: HostRuntime) -> Result<(), Fail> {
+    fn trees_are_built(rt: HostRuntime) -> anyhow::Result<()> {
         let argument = lex(rt.alloc(), "1 ++", 1)?;
         let content = argument.iter().remaining();
-        let call = build_call(rt.alloc(), "f", content, Span::default())?;
-        assert_eq!(rt; printed(rt.alloc(), &call)?.as_str(), CALL);
-        let last = word(rt.alloc(), "g", Span::default())?;
-        let both = build_both_or_none(rt.alloc(), content, last, Span::default())?;
-        assert_eq!(rt; printed(rt.alloc(), &both)?.as_str(), BOTH);
+        assert!(rt; is_call_built(rt.alloc(), content)?);
+        assert!(rt; are_both_built(rt.alloc(), content)?);
         Ok(())
     }
 
@@ -124,16 +131,23 @@ mod tests {
   LITERAL Integer 1 1@0..1
 ";
 
+    fn group_of_a_word(alloc: Global, more: &TopSubtree) -> Result<TopSubtree, AllocError> {
+        let mut leaves = Vec::new(alloc);
+        leaves.push(word(alloc, "g", Span::default())?)?;
+        build_group(alloc, leaves, more, Span::default())
+    }
+
+    // Whether a copy is equal, and a group with nothing in it isn't.
+    fn is_copied(alloc: Global, group: &TopSubtree) -> Result<bool, AllocError> {
+        let nothing = build_nothing(alloc, Span::default())?;
+        Ok(group.try_clone()? == *group && nothing.iter().is_empty() && nothing != *group)
+    }
+
     #[test]
-    fn groups_are_built(rt: HostRuntime) -> Result<(), Fail> {
+    fn groups_are_built(rt: HostRuntime) -> anyhow::Result<()> {
         let more = lex(rt.alloc(), "1", 1)?;
-        let mut leaves = Vec::new(rt.alloc());
-        leaves.push(word(rt.alloc(), "g", Span::default())?)?;
-        let group = build_group(rt.alloc(), leaves, &more, Span::default())?;
-        assert_eq!(rt; printed(rt.alloc(), &group)?.as_str(), GROUP);
-        assert!(rt; group.try_clone()? == group);
-        let nothing = build_nothing(rt.alloc(), Span::default())?;
-        assert!(rt; nothing.iter().is_empty() && nothing != group);
+        let group = group_of_a_word(rt.alloc(), &more)?;
+        assert!(rt; is_printed(rt.alloc(), &group, GROUP)? && is_copied(rt.alloc(), &group)?);
         Ok(())
     }
 }

@@ -1,13 +1,13 @@
 // Equality and copies of macros.
 use crate::reading::read;
+use mbe::DeclarativeMacro;
+use mbe_text::lexer::LexError;
 use std::alloc::Global;
-use std::test::Fail;
 
 // The macros of two definitions are equal.
-fn are_equal(alloc: Global, one: &str, two: &str) -> Result<bool, Fail> {
-    let one = read(alloc, one)?.ok_or("a text that doesn't lex")?;
-    let two = read(alloc, two)?.ok_or("a text that doesn't lex")?;
-    Ok(one == two)
+fn are_equal(alloc: Global, one: &str, two: &str) -> Result<bool, LexError> {
+    let one = read(alloc, one)?;
+    Ok(one == read(alloc, two)?)
 }
 
 // Definitions whose macros differ from one another. All but the last two are at the same places.
@@ -28,7 +28,7 @@ static DIFFERENT: [&str; 13] = [
 ];
 
 // The first text whose macro equals that of the text of that number though it is another, or doesn't equal it.
-fn first_alike(alloc: Global, number: usize, text: &str) -> Result<Option<usize>, Fail> {
+fn first_alike(alloc: Global, number: usize, text: &str) -> Result<Option<usize>, LexError> {
     for (other_number, &other) in DIFFERENT.iter().enumerate() {
         if are_equal(alloc, text, other)? != (number == other_number) {
             return Ok(Some(other_number));
@@ -38,9 +38,10 @@ fn first_alike(alloc: Global, number: usize, text: &str) -> Result<Option<usize>
 }
 
 #[test]
-fn macros_of_other_rules_differ(rt: HostRuntime) -> Result<(), Fail> {
+fn macros_of_other_rules_differ(rt: HostRuntime) -> Result<(), LexError> {
     for (number, &text) in DIFFERENT.iter().enumerate() {
-        assert_eq!(rt; first_alike(rt.alloc(), number, text)?, None, "{text}");
+        let alike = first_alike(rt.alloc(), number, text)?;
+        assert!(rt; alike.is_none(), "{text} and text {alike:?}");
     }
     Ok(())
 }
@@ -55,7 +56,7 @@ static SAME: [(&str, &str); 5] = [
 ];
 
 #[test]
-fn separators_count_by_their_texts(rt: HostRuntime) -> Result<(), Fail> {
+fn separators_count_by_their_texts(rt: HostRuntime) -> Result<(), LexError> {
     for (one, two) in &SAME {
         assert!(rt; are_equal(rt.alloc(), one, two)?, "{one} {two}");
     }
@@ -67,14 +68,25 @@ const EVERY_FORM: &str =
     $(i)* $(k)and* $crate) => {$a $j [c] 1 + $($d $e);* $($g)? ${ignore($a)} ${index()} ${len(1)} ${count($d)} ${count($e, 1)} \
     ${concat(a, $a, 1)} $$ $crate $}; () => {}; x";
 
+static COPIED: [&str; 3] = [EVERY_FORM, "", "($()*) => {}; ($x) => {}"];
+
+fn are_alike(one: &DeclarativeMacro, two: &DeclarativeMacro) -> bool {
+    *one == *two
+        && one.num_rules() == two.num_rules()
+        && one.err() == two.err()
+        && one.rule_styles() == two.rule_styles()
+}
+
+fn is_copied(alloc: Global, text: &str) -> Result<bool, LexError> {
+    let rules = read(alloc, text)?;
+    let copy = rules.try_clone(alloc)?;
+    Ok(are_alike(&copy, &rules))
+}
+
 #[test]
-fn a_copy_is_equal(rt: HostRuntime) -> Result<(), Fail> {
-    for text in [EVERY_FORM, "", "($()*) => {}; ($x) => {}"] {
-        let rules = read(rt.alloc(), text)?.ok_or("a text that doesn't lex")?;
-        let copy = rules.try_clone(rt.alloc())?;
-        let is_equal = copy == rules && copy.num_rules() == rules.num_rules();
-        let is_alike = copy.err() == rules.err() && copy.rule_styles() == rules.rule_styles();
-        assert!(rt; is_equal && is_alike, "{text}");
+fn a_copy_is_equal(rt: HostRuntime) -> Result<(), LexError> {
+    for text in &COPIED {
+        assert!(rt; is_copied(rt.alloc(), text)?, "{text}");
     }
     Ok(())
 }

@@ -1,21 +1,24 @@
 // Kinds of errors: copies, equality and hashes.
+use crate::reading::is_text;
 use mbe::{CountError, ExpandError, ExpandErrorKind, ParseError};
 use mbe_tt::span::{Span, SyntaxContext};
 use std::alloc::{AllocError, Global};
 use std::error::Error;
 use std::hash::{DefaultHasher, Hash, Hasher};
 use std::rc::Rc;
-use std::test::Fail;
 
 const KINDS: usize = 8;
 
 fn kind(alloc: Global, number: usize) -> Result<ExpandErrorKind, AllocError> {
-    let text = |text| String::from_str(alloc, text);
+    let text = match number {
+        1 => "b",
+        3 => "",
+        _ => "a",
+    };
+    let text = String::from_str(alloc, text)?;
     Ok(match number {
-        0 => ExpandErrorKind::BindingError(text("a")?),
-        1 => ExpandErrorKind::BindingError(text("b")?),
-        2 => ExpandErrorKind::UnresolvedBinding(text("a")?),
-        3 => ExpandErrorKind::UnresolvedBinding(text("")?),
+        0 | 1 => ExpandErrorKind::BindingError(text),
+        2 | 3 => ExpandErrorKind::UnresolvedBinding(text),
         4 => ExpandErrorKind::LeftoverTokens,
         5 => ExpandErrorKind::LimitExceeded,
         6 => ExpandErrorKind::NoMatchingRule,
@@ -29,13 +32,20 @@ fn hash_of<T: Hash>(value: &T) -> u64 {
     state.finish()
 }
 
+// Whether the values are equal and hashed alike; none where only one of it holds.
+fn are_same<T: Hash + PartialEq>(one: &T, two: &T) -> Option<bool> {
+    let is_equal = *one == *two;
+    (is_equal == (hash_of(one) == hash_of(two))).then_some(is_equal)
+}
+
+fn copy_of(alloc: Global, number: usize) -> Result<ExpandErrorKind, AllocError> {
+    kind(alloc, number)?.try_clone(alloc)
+}
+
 // Whether, of two kinds, a copy of the first equals the second exactly where they have one number, and is hashed alike then.
 fn are_compared(alloc: Global, (one, two): (usize, usize)) -> Result<bool, AllocError> {
-    let copy = kind(alloc, one)?.try_clone(alloc)?;
-    let other = kind(alloc, two)?;
-    let is_equal = copy == other;
-    let is_alike = hash_of(&copy) == hash_of(&other);
-    Ok(is_equal == (one == two) && is_alike == (one == two))
+    let copy = copy_of(alloc, one)?;
+    Ok(are_same(&copy, &kind(alloc, two)?) == Some(one == two))
 }
 
 // The first kind that isn't compared so with that one.
@@ -49,9 +59,10 @@ fn first_miscompared(alloc: Global, one: usize) -> Result<Option<usize>, AllocEr
 }
 
 #[test]
-fn kinds_are_compared_and_copied(rt: HostRuntime) -> Result<(), Fail> {
+fn kinds_are_compared_and_copied(rt: HostRuntime) -> Result<(), AllocError> {
     for one in 0..KINDS {
-        assert_eq!(rt; first_miscompared(rt.alloc(), one)?, None, "{one}");
+        let two = first_miscompared(rt.alloc(), one)?;
+        assert!(rt; two.is_none(), "{one} and {two:?}");
     }
     Ok(())
 }
@@ -72,39 +83,55 @@ fn error(alloc: Global, start: u32, number: usize) -> Result<ExpandError, AllocE
     })
 }
 
-// Whether an error of that place and kind equals the other one and is hashed alike.
+// Whether an error of that place and kind equals the other one, and is hashed alike.
 fn is_same(
     alloc: Global,
     (start, number): (u32, usize),
     other: &ExpandError,
-) -> Result<bool, AllocError> {
-    let made = error(alloc, start, number)?;
-    Ok(made == *other && hash_of(&made) == hash_of(other))
+) -> Result<Option<bool>, AllocError> {
+    Ok(are_same(&error(alloc, start, number)?, other))
+}
+
+fn is_cloned(error: &ExpandError) -> Result<bool, AllocError> {
+    Ok(are_same(&error.clone()?, error) == Some(true))
+}
+
+// Whether errors equal that one at byte 1 exactly where they have its place and its kind.
+fn are_told_apart(alloc: Global, first: &ExpandError) -> Result<bool, AllocError> {
+    Ok(
+        is_cloned(first)?
+            && is_same(alloc, (1, 0), first)? == Some(true)
+            && is_same(alloc, (2, 0), first)? == Some(false)
+            && is_same(alloc, (1, 1), first)? == Some(false),
+    )
 }
 
 #[test]
-fn errors_are_compared_by_place_and_kind(rt: HostRuntime) -> Result<(), Fail> {
+fn errors_are_compared_by_place_and_kind(rt: HostRuntime) -> Result<(), AllocError> {
     let first = error(rt.alloc(), 1, 0)?;
-    let clone = first.clone()?;
-    assert!(rt; clone == first && hash_of(&clone) == hash_of(&first));
-    assert!(rt; is_same(rt.alloc(), (1, 0), &first)?);
-    assert!(rt; error(rt.alloc(), 2, 0)? != first);
-    assert!(rt; error(rt.alloc(), 1, 1)? != first);
+    assert!(rt; are_told_apart(rt.alloc(), &first)?);
     Ok(())
 }
 
-fn is_shown<E: Error>(alloc: Global, error: &E, want: &str) -> Result<bool, AllocError> {
-    let text = format!(in alloc; "{error}")?;
-    Ok(text.as_str() == want)
+fn is_shown<E: Error>(alloc: Global, error: &E, want: &str) -> bool {
+    is_text(alloc, error, want)
+}
+
+fn is_kind_shown(alloc: Global, number: usize, want: &str) -> Result<bool, AllocError> {
+    Ok(is_shown(alloc, &kind(alloc, number)?, want))
+}
+
+fn is_error_shown(alloc: Global, number: usize, want: &str) -> Result<bool, AllocError> {
+    Ok(is_shown(alloc, &error(alloc, 1, number)?, want))
 }
 
 #[test]
-fn each_error_is_one(rt: HostRuntime) -> Result<(), Fail> {
+fn each_error_is_one(rt: HostRuntime) -> Result<(), AllocError> {
     let alloc = rt.alloc();
+    assert!(rt; is_shown(alloc, &CountError::Misplaced, "${count} misplaced"));
+    assert!(rt; is_kind_shown(alloc, 4, "leftover tokens")?);
+    assert!(rt; is_error_shown(alloc, 5, "Expand exceed limit")?);
     let parse: ParseError = ParseError::InvalidRepeat;
-    assert!(rt; is_shown(alloc, &parse, "invalid repeat")?);
-    assert!(rt; is_shown(alloc, &kind(alloc, 4)?, "leftover tokens")?);
-    assert!(rt; is_shown(alloc, &error(alloc, 1, 5)?, "Expand exceed limit")?);
-    assert!(rt; is_shown(alloc, &CountError::Misplaced, "${count} misplaced")?);
+    assert!(rt; is_shown(alloc, &parse, "invalid repeat"));
     Ok(())
 }

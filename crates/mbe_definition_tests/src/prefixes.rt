@@ -1,8 +1,8 @@
 // Each prefix of a definition, cut after each char. A group that is open at the end is closed there.
-use crate::reading::read;
+use crate::reading::{is_text, read};
 use mbe::DeclarativeMacro;
+use mbe_text::lexer::LexError;
 use std::alloc::{AllocError, Global};
-use std::test::Fail;
 
 type Reported = Option<&'static str>;
 
@@ -256,19 +256,21 @@ static DEFINITIONS: [&[Piece]; 30] = [
 ];
 
 // Whether so many rules of the macro are kept, and that error is reported.
-fn is_read(
-    alloc: Global,
-    rules: &DeclarativeMacro,
-    (count, reported): (usize, Reported),
-) -> Result<bool, AllocError> {
+fn is_kept(alloc: Global, rules: &DeclarativeMacro, (count, reported): (usize, Reported)) -> bool {
     let is_reported = match (rules.err(), reported) {
-        (Some(err), Some(want)) => {
-            let shown = format!(in alloc; "{err}")?;
-            shown.as_str() == want
-        }
+        (Some(err), Some(want)) => is_text(alloc, err, want),
         (err, want) => err.is_none() && want.is_none(),
     };
-    Ok(rules.num_rules() == count && is_reported)
+    rules.num_rules() == count && is_reported
+}
+
+// Whether a text is read so.
+fn is_read(alloc: Global, text: &str, want: Option<(usize, Reported)>) -> Result<bool, AllocError> {
+    match (read(alloc, text), want) {
+        (Ok(rules), Some(want)) => Ok(is_kept(alloc, &rules, want)),
+        (Err(LexError::OutOfMemory), _) => Err(AllocError),
+        (read, want) => Ok(read.is_err() && want.is_none()),
+    }
 }
 
 // Whether each prefix that ends in the piece is read so. The text ends before the piece, or after the first char where it isn't.
@@ -279,11 +281,7 @@ fn is_piece_read(
 ) -> Result<bool, AllocError> {
     for char in piece.chars() {
         text.push(char)?;
-        let is_so = match (read(alloc, text.as_str())?, want) {
-            (Some(rules), Some(want)) => is_read(alloc, &rules, want)?,
-            (read, want) => read.is_none() && want.is_none(),
-        };
-        if !is_so {
+        if !is_read(alloc, text.as_str(), want)? {
             return Ok(false);
         }
     }
@@ -302,9 +300,10 @@ fn first_misread(alloc: Global, pieces: &[Piece]) -> Result<Option<String>, Allo
 }
 
 #[test]
-fn each_prefix_of_a_definition(rt: HostRuntime) -> Result<(), Fail> {
+fn each_prefix_of_a_definition(rt: HostRuntime) -> Result<(), AllocError> {
     for pieces in &DEFINITIONS {
-        assert_eq!(rt; first_misread(rt.alloc(), pieces)?, None);
+        let prefix = first_misread(rt.alloc(), pieces)?;
+        assert!(rt; prefix.is_none(), "{prefix:?}");
     }
     Ok(())
 }

@@ -1,40 +1,24 @@
-// Reads definitions from texts.
+// Reads definitions from texts, and compares what is shown of them.
 use mbe::DeclarativeMacro;
 use mbe_text::lexer::{LexError, lex};
 use mbe_tt::span::Edition;
-use mbe_tt::tt::TopSubtree;
-use std::alloc::{AllocError, Allocator};
+use std::alloc::Global;
+use std::fmt::Display;
 
-/// The token trees of a text, file 0; none where the lexer refuses it.
-pub fn trees<A: Allocator + Copy>(
-    alloc: A,
-    text: &str,
-) -> Result<Option<TopSubtree<A>>, AllocError> {
+/// The macro of a text, which is file 0, in edition 2024.
+pub fn read(alloc: Global, text: &str) -> Result<DeclarativeMacro, LexError> {
     if text.len() > u32::MAX as usize {
-        return Ok(None);
+        return Err(LexError::Fault(u32::MAX));
     }
-    match lex(alloc, text, 0) {
-        Ok(tree) => Ok(Some(tree)),
-        Err(LexError::Fault(_)) => Ok(None),
-        Err(LexError::OutOfMemory) => Err(AllocError),
-    }
+    let definition = lex(alloc, text, 0)?;
+    let edition = |_context| Edition::Edition2024;
+    Ok(DeclarativeMacro::parse_macro_rules(alloc, &definition, edition)?)
 }
 
-/// The macro of a definition that is read in edition 2024.
-pub fn parsed<A: Allocator + Copy>(
-    alloc: A,
-    definition: &TopSubtree<A>,
-) -> Result<DeclarativeMacro<A>, AllocError> {
-    DeclarativeMacro::parse_macro_rules(alloc, definition, |_context| Edition::Edition2024)
-}
-
-/// The macro of a text; none where the lexer refuses it.
-pub fn read<A: Allocator + Copy>(
-    alloc: A,
-    text: &str,
-) -> Result<Option<DeclarativeMacro<A>>, AllocError> {
-    match trees(alloc, text)? {
-        Some(tree) => Ok(Some(parsed(alloc, &tree)?)),
-        None => Ok(None),
+/// Whether that is the value's text. It isn't where there is no memory for it.
+pub fn is_text<T: Display>(alloc: Global, value: &T, want: &str) -> bool {
+    match format!(in alloc; "{value}") {
+        Ok(text) => text.as_str() == want,
+        Err(_) => false,
     }
 }

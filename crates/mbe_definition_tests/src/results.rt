@@ -1,12 +1,20 @@
 // A value beside an error: each of its calls.
 use mbe::CountError::{Misplaced, OutOfBounds};
 use mbe::{CountError, ValueResult};
-use std::test::Fail;
+use std::alloc::AllocError;
 
 type Counted = ValueResult<u32, CountError>;
 
-fn has(answer: &Counted, value: u32, err: Option<CountError>) -> bool {
-    answer.value == value && answer.err == err
+type Want = (u32, Option<CountError>);
+
+// Whether each answer has both parts that are wanted.
+fn are(answers: &[Counted], wanted: &[Want]) -> bool {
+    for (answer, &(value, err)) in answers.iter().zip(wanted) {
+        if answer.value != value || answer.err != err {
+            return false;
+        }
+    }
+    answers.len() == wanted.len()
 }
 
 #[test]
@@ -27,9 +35,7 @@ fn results_are_made(rt: HostRuntime) {
         (3, None),
         (0, Some(Misplaced)),
     ];
-    for (answer, (value, err)) in made.iter().zip(wanted) {
-        assert!(rt; has(answer, value, err));
-    }
+    assert!(rt; are(&made, &wanted));
 }
 
 #[test]
@@ -39,29 +45,44 @@ fn a_result_is_the_error_where_there_is_one(rt: HostRuntime) {
     assert!(rt; failed.result() == Err(Misplaced) && fine.result() == Ok(3));
 }
 
+fn mapped(answer: Counted) -> Counted {
+    answer.map(|n| n ^ 1)
+}
+
+fn moved(answer: Counted) -> Counted {
+    answer.map_err(|_err| OutOfBounds)
+}
+
 #[test]
-fn values_are_paired_and_mapped(rt: HostRuntime) {
+fn values_and_errors_are_paired_and_mapped(rt: HostRuntime) {
     let paired = Counted::new(3, Misplaced).zip_val(true);
     assert!(rt; paired.value == (3, true) && paired.err == Some(Misplaced));
-    let doubled = Counted::new(3, Misplaced).map(|n| n ^ 1);
-    let kept = Counted::ok(3).map(|n| n ^ 1);
-    assert!(rt; has(&doubled, 2, Some(Misplaced)) && has(&kept, 2, None));
+    let made = [
+        mapped(Counted::new(3, Misplaced)),
+        mapped(Counted::ok(3)),
+        moved(Counted::new(3, Misplaced)),
+        moved(Counted::ok(3)),
+    ];
+    let wanted = [
+        (2, Some(Misplaced)),
+        (2, None),
+        (3, Some(OutOfBounds)),
+        (3, None),
+    ];
+    assert!(rt; are(&made, &wanted));
+}
+
+// Whether a copy is equal, and what is lent is both parts.
+fn is_copied(answer: &Counted) -> Result<bool, AllocError> {
+    let lent = answer.as_ref()?;
+    let is_lent = *lent.value == answer.value && lent.err == answer.err;
+    Ok(is_lent && answer.try_clone()? == *answer)
 }
 
 #[test]
-fn errors_are_mapped(rt: HostRuntime) {
-    let moved = Counted::new(3, Misplaced).map_err(|_err| OutOfBounds);
-    let fine = Counted::ok(3).map_err(|_err| OutOfBounds);
-    assert!(rt; has(&moved, 3, Some(OutOfBounds)) && has(&fine, 3, None));
-}
-
-#[test]
-fn results_are_lent_and_copied(rt: HostRuntime) -> Result<(), Fail> {
-    for answer in [Counted::new(3, Misplaced), Counted::ok(4)] {
-        let lent = answer.as_ref()?;
-        assert!(rt; *lent.value == answer.value && lent.err == answer.err);
-        assert!(rt; answer.try_clone()? == answer);
-    }
+fn results_are_lent_and_copied(rt: HostRuntime) -> Result<(), AllocError> {
+    assert!(rt; is_copied(&Counted::new(3, Misplaced))?);
+    assert!(rt; is_copied(&Counted::ok(4))?);
     Ok(())
 }
 
@@ -69,12 +90,6 @@ fn results_are_lent_and_copied(rt: HostRuntime) -> Result<(), Fail> {
 fn results_are_equal_by_both_parts(rt: HostRuntime) {
     let answer: Counted = ValueResult::new(3, Misplaced);
     assert!(rt; answer == ValueResult::new(3, Misplaced));
-    let others = [
-        Counted::new(4, Misplaced),
-        Counted::new(3, OutOfBounds),
-        Counted::ok(3),
-    ];
-    for other in others {
-        assert!(rt; answer != other);
-    }
+    assert!(rt; answer != Counted::new(4, Misplaced));
+    assert!(rt; answer != Counted::new(3, OutOfBounds) && answer != Counted::ok(3));
 }

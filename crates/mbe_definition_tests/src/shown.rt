@@ -1,22 +1,34 @@
 // Every public type has a derived text, which names the type or the variant and holds its fields.
-use crate::reading::{parsed, trees};
+use crate::reading::read;
 use mbe::{
-    Binding, BindingLog, CountError, ExpandError, ExpandErrorKind, ExprKind, Fragment,
-    MacroCallStyle, MacroCallStyles, MetaVarKind, ParseError, TokensOrigin, ValueResult,
+    Binding, BindingLog, Bindings, CountError, ExpandError, ExpandErrorKind, ExprKind, Fragment,
+    Handle, MacroCallStyle, MacroCallStyles, MetaVarKind, ParseError, TokensOrigin, ValueResult,
 };
+use mbe_text::lexer::{LexError, lex};
 use mbe_tt::grammar::{Front, PrefixEntryPoint};
 use mbe_tt::span::{DelimSpan, Edition, Span, SyntaxContext};
 use mbe_tt::symbol::Symbol;
-use mbe_tt::tt::{Delimiter, DelimiterKind, Subtree, TopSubtreeBuilder};
-use std::alloc::Global;
-use std::process::Abort;
+use mbe_tt::tt::{
+    Delimiter, DelimiterKind, Subtree, TokenTreesView, TopSubtree, TopSubtreeBuilder,
+};
+use std::alloc::{AllocError, Global};
+use std::fmt::Debug;
 use std::rc::Rc;
-use std::test::Fail;
 
-// All of the parts are in the text.
-fn assert_parts(rt: &impl Abort, text: &str, parts: &[&str]) {
+fn has_parts(text: &str, parts: &[&str]) -> bool {
     for part in parts {
-        assert!(rt; text.contains(*part), "{part} in {text}");
+        if !text.contains(*part) {
+            return false;
+        }
+    }
+    true
+}
+
+// Whether all of the parts are in the value's derived text. They aren't where there is no memory for it.
+fn shows<T: Debug>(alloc: Global, value: &T, parts: &[&str]) -> bool {
+    match format!(in alloc; "{value:?}") {
+        Ok(text) => has_parts(text.as_str(), parts),
+        Err(_) => false,
     }
 }
 
@@ -31,132 +43,132 @@ const SPAN: Span = Span {
 const SPAN_TEXT: &str = "Span { file: 1, ast: 0, start: 2, end: 3, ctx: SyntaxContext(4) }";
 
 #[test]
-fn spans_and_fronts_are_shown(rt: HostRuntime) -> Result<(), Fail> {
+fn spans_and_fronts_are_shown(rt: HostRuntime) {
+    let alloc = rt.alloc();
     let pair = DelimSpan::from_single(SPAN);
     let front = Front {
         count: 5,
         fault: true,
     };
-    let (edition, entry) = (Edition::Edition2021, PrefixEntryPoint::PatTop);
-    let text = format!(in rt.alloc(); "{SPAN:?} {pair:?} {front:?} {edition:?} {entry:?}")?;
-    let parts = [
-        SPAN_TEXT,
-        "DelimSpan { opening: Span {",
-        "Front { count: 5, fault: true }",
-        "Edition2021",
-        "PatTop",
-    ];
-    assert_parts(&rt, text.as_str(), &parts);
-    Ok(())
+    assert!(rt; shows(alloc, &SPAN, &[SPAN_TEXT]));
+    assert!(rt; shows(alloc, &pair, &["DelimSpan { opening: Span {"]));
+    assert!(rt; shows(alloc, &front, &["Front { count: 5, fault: true }"]));
+    assert!(rt; shows(alloc, &Edition::Edition2021, &["Edition2021"]));
+    assert!(rt; shows(alloc, &PrefixEntryPoint::PatTop, &["PatTop"]));
 }
 
-#[test]
-fn trees_are_shown(rt: HostRuntime) -> Result<(), Fail> {
-    let tree = trees(rt.alloc(), "(a 1 +)")?.ok_or("a text that doesn't lex")?;
+static LEAVES: [&str; 4] = [
+    "TopSubtree {",
+    "Ident(Ident { sym: \"a\", is_raw: No",
+    "Literal(Literal { text_and_suffix: \"1\", suffix_len: 0, kind: Integer",
+    "Punct(Punct { char: '+', spacing: Alone",
+];
+
+// Whether all that is borrowed from a tree is shown, where it holds one group.
+fn are_borrows_shown(alloc: Global, tree: &TopSubtree) -> bool {
     let mut iter = tree.iter();
     let view = iter.remaining();
-    let cursor = view.cursor();
-    let group = view.try_into_subtree();
-    let element = iter.next();
-    let text = format!(in rt.alloc();
-        "{tree:?}\n{iter:?}\n{view:?}\n{cursor:?}\n{group:?}\n{element:?}"
-    )?;
-    let parts = [
-        "TopSubtree {",
-        "TtIter {",
-        "TokenTreesView {",
-        "Cursor {",
-        "SubtreeView",
-        "Subtree(",
-        "Ident(Ident { sym: \"a\", is_raw: No",
-        "Literal(Literal { text_and_suffix: \"1\", suffix_len: 0, kind: Integer",
-        "Punct(Punct { char: '+', spacing: Alone",
-    ];
-    assert_parts(&rt, text.as_str(), &parts);
+    shows(alloc, &iter, &["TtIter {"])
+        && shows(alloc, &view, &["TokenTreesView {"])
+        && shows(alloc, &view.cursor(), &["Cursor {"])
+        && shows(alloc, &view.try_into_subtree(), &["SubtreeView"])
+        && shows(alloc, &iter.next(), &["Subtree("])
+}
+
+#[test]
+fn trees_are_shown(rt: HostRuntime) -> Result<(), LexError> {
+    let tree = lex(rt.alloc(), "(a 1 +)", 0)?;
+    assert!(rt; shows(rt.alloc(), &tree, &LEAVES) && are_borrows_shown(rt.alloc(), &tree));
     Ok(())
 }
 
 #[test]
-fn groups_and_builders_are_shown(rt: HostRuntime) -> Result<(), Fail> {
+fn groups_and_builders_are_shown(rt: HostRuntime) -> Result<(), AllocError> {
     let subtree = Subtree {
         delimiter: Delimiter {
             kind: DelimiterKind::Brace,
             ..Delimiter::invisible_spanned(SPAN)
         },
     };
-    let builder = TopSubtreeBuilder::new(rt.alloc(), subtree.delimiter)?;
-    let text = format!(in rt.alloc(); "{subtree:?}\n{builder:?}")?;
     let parts = [
         "Subtree { delimiter: Delimiter { opening: Span {",
         "kind: Brace",
-        "TopSubtreeBuilder {",
     ];
-    assert_parts(&rt, text.as_str(), &parts);
+    assert!(rt; shows(rt.alloc(), &subtree, &parts));
+    let builder = TopSubtreeBuilder::new(rt.alloc(), subtree.delimiter)?;
+    assert!(rt; shows(rt.alloc(), &builder, &["TopSubtreeBuilder {"]));
     Ok(())
 }
 
-#[test]
-fn errors_and_results_are_shown(rt: HostRuntime) -> Result<(), Fail> {
-    let parse: ParseError = ParseError::Expected(String::from_str(rt.alloc(), "b")?);
-    let kind: ExpandErrorKind = ExpandErrorKind::BindingError(String::from_str(rt.alloc(), "c")?);
-    let result: ValueResult<u32, CountError> = ValueResult::new(6, CountError::Misplaced);
-    let mut text = format!(in rt.alloc(); "{parse:?} {kind:?} {result:?}")?;
+fn is_binding_error_shown(alloc: Global) -> Result<bool, AllocError> {
+    let kind: ExpandErrorKind = ExpandErrorKind::BindingError(String::from_str(alloc, "c")?);
+    let is_kind_shown = shows(alloc, &kind, &["BindingError(\"c\")"]);
     let error: ExpandError = ExpandError {
-        inner: Rc::new(rt.alloc(), (SPAN, kind))?,
+        inner: Rc::new(alloc, (SPAN, kind))?,
     };
-    write!(text, " {error:?}")?;
-    let parts = [
-        "Expected(\"b\")",
-        "BindingError(\"c\")",
-        "ValueResult { value: 6, err: Some(Misplaced) }",
-        "ExpandError { inner: (Span {",
-    ];
-    assert_parts(&rt, text.as_str(), &parts);
+    Ok(is_kind_shown && shows(alloc, &error, &["ExpandError { inner: (Span {"]))
+}
+
+#[test]
+fn errors_and_results_are_shown(rt: HostRuntime) -> Result<(), AllocError> {
+    let alloc = rt.alloc();
+    let result: ValueResult<u32, CountError> = ValueResult::new(6, CountError::Misplaced);
+    assert!(rt;
+        shows(
+            alloc,
+            &result,
+            &["ValueResult { value: 6, err: Some(Misplaced) }"]
+        )
+    );
+    assert!(rt; is_binding_error_shown(alloc)?);
+    let parse: ParseError = ParseError::Expected(String::from_str(alloc, "b")?);
+    assert!(rt; shows(alloc, &parse, &["Expected(\"b\")"]));
     Ok(())
 }
 
 #[test]
-fn macros_and_styles_are_shown(rt: HostRuntime) -> Result<(), Fail> {
-    let tree = trees(rt.alloc(), "attr() ($(a),*) => {}")?.ok_or("a text that doesn't lex")?;
-    let rules = parsed(rt.alloc(), &tree)?;
-    let (style, styles) = (MacroCallStyle::Derive, MacroCallStyles::ATTR);
-    let text = format!(in rt.alloc(); "{rules:?} {style:?} {styles:?}")?;
-    let parts = [
-        "DeclarativeMacro {",
-        "style: Attr",
-        "Derive",
-        "MacroCallStyles(2)",
-    ];
-    assert_parts(&rt, text.as_str(), &parts);
+fn macros_and_styles_are_shown(rt: HostRuntime) -> Result<(), LexError> {
+    let alloc = rt.alloc();
+    assert!(rt; shows(alloc, &MacroCallStyle::Derive, &["Derive"]));
+    assert!(rt; shows(alloc, &MacroCallStyles::ATTR, &["MacroCallStyles(2)"]));
+    let rules = read(alloc, "attr() ($(a),*) => {}")?;
+    assert!(rt; shows(alloc, &rules, &["DeclarativeMacro {", "style: Attr"]));
     Ok(())
 }
 
-// What a name is bound to, as it is shown.
-fn shown_bindings(alloc: Global, name: &Symbol) -> Result<String, Fail> {
-    let tree = trees(alloc, "d")?.ok_or("a text that doesn't lex")?;
-    let mut log = BindingLog::new(alloc);
-    let mut handle = log.alloc()?;
+fn are_shown(alloc: Global, handle: &Handle, bindings: &Bindings<'_>) -> bool {
+    let parts = ["\"x\"", "Fragment(Tokens {", "origin: Raw"];
+    shows(alloc, handle, &["Handle {"]) && shows(alloc, bindings, &parts)
+}
+
+fn is_missing_shown(alloc: Global) -> bool {
+    let missing: Binding = Binding::Missing(MetaVarKind::Expr(ExprKind::Expr2021));
+    shows(alloc, &missing, &["Missing(Expr(Expr2021))"])
+}
+
+// Whether a handle that has bound the name to the tree is shown, and what is built of it.
+fn is_bound_shown(
+    alloc: Global,
+    name: &Symbol,
+    tree: TokenTreesView<'_>,
+) -> Result<bool, AllocError> {
     let fragment = Fragment::Tokens {
-        tree: tree.view(),
+        tree,
         origin: TokensOrigin::Raw,
     };
+    let mut log = BindingLog::new(alloc);
+    let mut handle = log.alloc()?;
     log.push_fragment(&mut handle, name, fragment)?;
     let bindings = log.build(&handle)?;
-    let missing: Binding = Binding::Missing(MetaVarKind::Expr(ExprKind::Expr2021));
-    Ok(format!(in alloc; "{handle:?} {bindings:?} {missing:?}")?)
+    Ok(are_shown(alloc, &handle, &bindings))
 }
 
 #[test]
-fn bindings_are_shown(rt: HostRuntime) -> Result<(), Fail> {
-    let name = Symbol::intern(rt.alloc(), "x")?;
-    let text = shown_bindings(rt.alloc(), &name)?;
-    let parts = [
-        "Handle {",
-        "\"x\"",
-        "Fragment(Tokens {",
-        "origin: Raw",
-        "Missing(Expr(Expr2021))",
-    ];
-    assert_parts(&rt, text.as_str(), &parts);
+fn bindings_are_shown(rt: HostRuntime) -> Result<(), LexError> {
+    let alloc = rt.alloc();
+    assert!(rt; is_missing_shown(alloc));
+    let name = Symbol::intern(alloc, "x")?;
+    let tree = lex(alloc, "d", 0)?;
+    assert!(rt; is_bound_shown(alloc, &name, tree.view())?);
     Ok(())
 }
