@@ -1,0 +1,3 @@
+pub mod FlatTreeLemmas
+pub mod TakesLemmas
+pub mod WordLemmas

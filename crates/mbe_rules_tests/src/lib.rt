@@ -1,0 +1,5 @@
+// The tests of `mbe_rules`, through its public calls.
+#![tactic(auto)]
+
+#[cfg(test)]
+mod tables;
