@@ -25,7 +25,7 @@ pub fn first_two()
     ensures { FirstTwo }
 {}
 
-/// The stack takes at most six turns for each dot at each position, and one more. So matching is linear in the argument.
+/// The stack takes at most six turns for each dot at each position, and one more. So the turns of a match are linear in the argument.
 pub fn few_turns()
     ensures { FewTurns }
 {}

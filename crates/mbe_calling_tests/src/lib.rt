@@ -18,6 +18,8 @@ mod memory;
 #[cfg(test)]
 mod results;
 #[cfg(test)]
+mod rustc;
+#[cfg(test)]
 mod small;
 #[cfg(test)]
 mod texts;

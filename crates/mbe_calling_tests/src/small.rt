@@ -50,7 +50,7 @@ pub fn bound_in<'a>(
     log: &BindingLog<'a>,
     handle: &Handle,
 ) -> Result<Option<Bindings<'a>>, AllocError> {
-    if !log.is_live(handle) {
+    if !log.has_entries_of(handle) {
         return Ok(None);
     }
     let bindings = log.build(handle)?;

@@ -2,12 +2,13 @@
 use Rattle.std.specs.Prelude.{◌≡◌, ◌≢◌, ◌<◌, ◌≤◌, ℕ, zero, suc, List, [], ◌∷◌, ◌++◌, length, take, slice_get, Some, refl}
 use Rattle.std.proofs.Common.{arith, sym, ap, subst, ◌∙◌, ◌⊎◌, inl, inr, length-append}
 use Rattle.mbe_semantics.specs.declared.log.Part.{Part}
-use Rattle.mbe_semantics.specs.Bindings.Account.{Account, pushed, pushed_default, Command, Commands, CommandRounds, no_commands, command, no_command_rounds, command_round, Entry, RoundEntry, Log, Handle, IsIn, IsLive, Gives, GivesRounds, PartGives, PartGivesRounds, gives_nothing, gives_binding, gives_empty, gives_skip, gives_missing, gives_nested, gives_link, gives_no_rounds, gives_round, gives_linked_rounds, part_gives, part_gives_rounds, IsAccount}
+use Rattle.mbe_semantics.specs.Bindings.Account.{Account, pushed, pushed_default, Command, Commands, CommandRounds, no_commands, command, no_command_rounds, command_round, Entry, RoundEntry, Log, Handle, IsIn, HasEntriesOf, Gives, GivesRounds, PartGives, PartGivesRounds, gives_nothing, gives_binding, gives_empty, gives_skip, gives_missing, gives_nested, gives_link, gives_no_rounds, gives_round, gives_linked_rounds, part_gives, part_gives_rounds, IsAccount}
 use Rattle.mbe_log.specs.Shared.{IsWhole, IsGiven, IsChanged, appended, with_list, with_round_list}
 use Rattle.mbe_log.specs.Sound.{depth, command_depth, rounds_depth, IsGrounded, GivesCommand}
-use Rattle.mbe_log.proofs.ChainLemmas.{in_range}
-use Rattle.mbe_log.proofs.LogLemmas.{get-front, get-last, get-more, there, take-whole, length-appended, appended-same, appended-other, same_or_not, HasMore, more-itself, more-list, more-entry, gives, rounds, part_rounds, kept, follow, rounds_follow, gives_one, whole, whole_rounds}
+use Rattle.mbe_log.proofs.LogLemmas.{get-front, get-last, get-more, get-appended, take-whole, appended-same, appended-other, HasMore, more-itself, more-list, more-entry, gives, rounds, part_rounds, kept, follow, rounds_follow, gives_one, whole, whole_rounds}
 use Rattle.mbe_log.proofs.BuildLemmas.{take-none, deeper, deeper_rounds}
+use Rattle.mbe_log.proofs.ClientLemmas.{in_of, lists_there}
+use Rattle.mbe_log.proofs.OrderLemmas.{adds-none, adds-list, adds-entry, within, rounds-within, command-within, order-stays}
 
 -- ---- the first entries of a list give something where the list does
 
@@ -45,6 +46,7 @@ module _ (log : Log) (n : ℕ) (g : IsGrounded log n) where
   grounded-up m w = record {
     commands = λ i xs s. let a = g.commands i xs s in (a.0, a.1, let b = a.2 in omega (arith, b, w));
     rounds = λ i xs s. let a = g.rounds i xs s in (a.0, a.1, let b = a.2 in omega (arith, b, w));
+    ordered = g.ordered;
   }
 
 -- ---- parts that are whole
@@ -77,6 +79,7 @@ module _ (log : Log) (es : List Entry) (n : ℕ) where
   grounded-list g cs h d = record {
     commands = λ i xs s. go i xs (get-more log.commands es xs i s);
     rounds = λ i xs s. let a = g.rounds i xs s in (a.0, rounds log (with_list log es) (more-list log.commands es) (more-itself log.rounds) a.1, a.2);
+    ordered = order-stays log (with_list log es) g.ordered (more-list log.commands es) (more-itself log.rounds) (adds-list _ log.commands es (within log h)) (adds-none _ log.rounds);
   }
     where
       up : {ds all : Commands} {xs : List Entry} → Gives log ds xs all → Gives (with_list log es) ds xs all
@@ -92,6 +95,7 @@ module _ (log : Log) (fs : List RoundEntry) (n : ℕ) where
   grounded-round-list g rs h d = record {
     commands = λ i xs s. let a = g.commands i xs s in (a.0, gives log (with_round_list log fs) (more-itself log.commands) (more-list log.rounds fs) a.1, a.2);
     rounds = λ i xs s. go i xs (get-more log.rounds fs xs i s);
+    ordered = order-stays log (with_round_list log fs) g.ordered (more-itself log.commands) (more-list log.rounds fs) (adds-none _ log.commands) (adds-list _ log.rounds fs (rounds-within log h));
   }
     where
       up : {ds all : CommandRounds} {xs : List RoundEntry} → GivesRounds log ds xs all → GivesRounds (with_round_list log fs) ds xs all
@@ -111,13 +115,17 @@ module _ (log : Log) (es : List Entry) (fs : List RoundEntry) where
   abbrev pub next_handle : Handle
   next_handle = record { current = record { list = length log.commands; first = length es }; finished = record { list = length log.rounds; first = length fs } }
 
+  given_entries : HasEntriesOf with_lists next_handle
+  given_entries = ((es, get-last log.commands es, omega arith), (fs, get-last log.rounds fs, omega arith))
+
   pub given : IsGiven log with_lists next_handle
   given = record {
-    live = ((es, get-last log.commands es, omega arith), (fs, get-last log.rounds fs, omega arith));
+    live = lists_there with_lists next_handle given_entries;
+    entries = given_entries;
     ends = ((es, get-last log.commands es, refl), (fs, get-last log.rounds fs, refl));
     apart = λ k l. (
-      λ e. let a = in_range log.commands k.current.list l.0.0 l.0.1 in omega (arith, a, e),
-      λ e. let a = in_range log.rounds k.finished.list l.1.0 l.1.1 in omega (arith, a, e),
+      λ e. let a = l.0 in omega (arith, a, e),
+      λ e. let a = l.1 in omega (arith, a, e),
     );
     kept = kept log with_lists (more-list log.commands es) (more-list log.rounds fs);
     still = λ k w. (
@@ -139,23 +147,6 @@ module _ (log : Log) (es : List Entry) (fs : List RoundEntry) where
 
 -- ---- one entry more at the end of a list
 
--- what is in a list of lists where one has one entry more
-get-appended : {E : Type 0} (ess : List (List E)) (i j : ℕ) (e : E) (fs : List E) → slice_get (appended ess i e) j ≡ Some fs →
-    (slice_get ess j ≡ Some fs) ⊎ ((es : List E) × (slice_get ess j ≡ Some es) × (i ≡ j) × (fs ≡ es ++ e ∷ []))
-get-appended {E} ess i j e fs h = go (same_or_not i j)
-  where
-    j_there : j < length ess
-    j_there = let k = in_range (appended ess i e) j fs h in let l = length-appended ess i e in omega (arith, k, l)
-
-    go : (i ≡ j) ⊎ (i ≢ j) → (slice_get ess j ≡ Some fs) ⊎ ((es : List E) × (slice_get ess j ≡ Some es) × (i ≡ j) × (fs ≡ es ++ e ∷ []))
-    go (inl k) =
-        let t = there ess j j_there in
-        let u : slice_get (appended ess i e) j ≡ Some (t.0 ++ e ∷ []) =
-        subst (λ x. slice_get (appended ess i e) x ≡ Some (t.0 ++ e ∷ [])) k (appended-same ess i e t.0 (subst (λ x. slice_get ess x ≡ Some t.0) (sym k) t.1)) in
-        let v : fs ≡ t.0 ++ e ∷ [] = cc in
-        inr (t.0, t.1, k, v)
-    go (inr n) = inl (sym (appended-other ess i j e n) ∙ h)
-
 module _ (log : Log) (at : ℕ) (e : Entry) where
   abbrev with_entry : Log
   with_entry = record log { commands = appended log.commands at e }
@@ -164,6 +155,7 @@ module _ (log : Log) (at : ℕ) (e : Entry) where
   grounded-entry n g c k d = record {
     commands = λ i xs s. go i xs (get-appended log.commands at i e xs s);
     rounds = λ i xs s. let a = g.rounds i xs s in (a.0, rounds log with_entry (more-entry log.commands at e) (more-itself log.rounds) a.1, a.2);
+    ordered = order-stays log with_entry g.ordered (more-entry log.commands at e) (more-itself log.rounds) (adds-entry _ log.commands at e (command-within log e c k)) (adds-none _ log.rounds);
   }
     where
       up : {ds all : Commands} {xs : List Entry} → Gives log ds xs all → Gives with_entry ds xs all
@@ -192,6 +184,8 @@ module _ (log : Log) (at : ℕ) (p : Part) where
   grounded-round n g cs q d = record {
     commands = λ i xs s. let a = g.commands i xs s in (a.0, gives log with_round (more-itself log.commands) (more-entry log.rounds at (RoundEntry.finishes p)) a.1, a.2);
     rounds = λ i xs s. go i xs (get-appended log.rounds at i (RoundEntry.finishes p) xs s);
+    ordered = order-stays log with_round g.ordered (more-itself log.commands) (more-entry log.rounds at (RoundEntry.finishes p)) (adds-none _ log.commands)
+        (adds-entry _ log.rounds at (RoundEntry.finishes p) (in_of log q));
   }
     where
       up : {ds all : CommandRounds} {xs : List RoundEntry} → GivesRounds log ds xs all → GivesRounds with_round ds xs all
@@ -240,9 +234,9 @@ module _ {E : Type 0} (old new : List (List E)) (p q : Part) (front : List E) (e
   step-whole (inl s) = let t = step-in-place s.0 s.1 s.2 in (s.0.0 ++ e ∷ [], t.0, t.1)
   step-whole (inr s) = let t = step-forked s.0 s.1 in (front ++ e ∷ [], t.0, t.1)
 
-  pub step-far : IsStep old new p q front e → (k : Part) → IsIn old k → p.list ≢ k.list → q.list ≢ k.list
+  pub step-far : IsStep old new p q front e → (k : Part) → k.list < length old → p.list ≢ k.list → q.list ≢ k.list
   step-far (inl s) k i n = λ h. n (sym (ap (λ r. r.list) s.2) ∙ h)
-  step-far (inr s) k i n = λ h. let a = in_range old k.list i.0 i.1 in let b = ap (λ r. r.list) s.1 in omega (arith, a, b, h)
+  step-far (inr s) k i n = λ h. let b = ap (λ r. r.list) s.1 in omega (arith, i, b, h)
 
   pub step-still : IsStep old new p q front e → (k : Part) → p.list ≢ k.list → IsWhole old k → IsWhole new k
   step-still (inl s) k n w = (w.0, ap (λ ess. slice_get ess k.list) s.1 ∙ appended-other old p.list k.list e n ∙ w.1, w.2)
@@ -265,9 +259,13 @@ module _ (log : Log) (h : Handle) (more : List (List Entry)) (q : Part) (front :
       go (inr r) = let t = step-forked log.commands more h.current q front e r.0 r.1 in
           to-whole with_more q (front ++ e ∷ []) (command cs c) t.0 t.1 (longer_one front cs (f cs a))
 
-  pub step-changes : IsLive log h → IsChanged log with_more h (record h { current = q }) (pushed c)
+  step-entries : HasEntriesOf log h → HasEntriesOf with_more (record h { current = q })
+  step-entries l = (whole-in more q (step-whole log.commands more h.current q front e s), l.1)
+
+  pub step-changes : HasEntriesOf log h → IsChanged log with_more h (record h { current = q }) (pushed c)
   step-changes l = record {
-    live = (whole-in more q (step-whole log.commands more h.current q front e s), l.1);
+    live = lists_there with_more (record h { current = q }) (step-entries l);
+    entries = step-entries l;
     account = λ a k. record {
       current = step-gives a.current k.current;
       finished = part_rounds log with_more (step-more log.commands more h.current q front e s) (more-itself log.rounds) k.finished;
@@ -317,16 +315,23 @@ module _ (log : Log) (h : Handle) (more : List (List RoundEntry)) (q : Part) (fr
       go (inr r) = let t = step-forked log.rounds more h.finished q front (RoundEntry.finishes h.current) r.0 r.1 in
           to-whole-rounds with_default q (front ++ RoundEntry.finishes h.current ∷ []) (command_round rs cs) t.0 t.1 (longer_round front rs cs (f rs a) p)
 
-  pub default-changes : IsLive log h → IsChanged log with_default h (record { current = record { list = length log.commands; first = 0 }; finished = q }) pushed_default
+  abbrev default_handle : Handle
+  default_handle = record { current = record { list = length log.commands; first = 0 }; finished = q }
+
+  default-entries : HasEntriesOf with_default default_handle
+  default-entries = (([], get-last log.commands [], omega arith), whole-in more q (step-whole log.rounds more h.finished q front (RoundEntry.finishes h.current) s))
+
+  pub default-changes : HasEntriesOf log h → IsChanged log with_default h default_handle pushed_default
   default-changes l = record {
-    live = (([], get-last log.commands [], omega arith), whole-in more q (step-whole log.rounds more h.finished q front (RoundEntry.finishes h.current) s));
+    live = lists_there with_default default_handle default-entries;
+    entries = default-entries;
     account = λ a k. record {
       current = whole with_default (length log.commands) [] no_commands no_commands (get-last log.commands []) (gives_nothing no_commands);
       finished = step-rounds a.finished a.current k.finished k.current;
     };
     ends = λ w. (([], get-last log.commands [], refl), step-whole log.rounds more h.finished q front (RoundEntry.finishes h.current) s);
     apart = λ k m n. (
-      λ e. let a = in_range log.commands k.current.list m.0.0 m.0.1 in omega (arith, a, e),
+      λ e. let a = m.0 in omega (arith, a, e),
       step-far log.rounds more h.finished q front (RoundEntry.finishes h.current) s k.finished m.1 n.1,
     );
     kept = kept log with_default (more-list log.commands []) rounds_more;
@@ -336,7 +341,7 @@ module _ (log : Log) (h : Handle) (more : List (List RoundEntry)) (q : Part) (fr
     );
   }
 
-  pub default-grounded : (n : ℕ) → IsGrounded log n → IsLive log h → IsGrounded with_default n
+  pub default-grounded : (n : ℕ) → IsGrounded log n → HasEntriesOf log h → IsGrounded with_default n
   default-grounded n k l =
       grounded-list (record log { rounds = more }) [] n (go s) no_commands (gives_nothing no_commands) (omega arith)
     where

@@ -1,13 +1,13 @@
 -- The calls of a log, on the code's lists.
-use Rattle.std.specs.Prelude.{◌≡◌, ◌≤◌, ◌+◌, ℕ, suc, List, [], ◌∷◌, ◌++◌, length, map, slice_get, Option, Some, None, Result, Ok, Err, IfOk, refl}
+use Rattle.std.specs.Prelude.{◌≡◌, ◌<◌, ◌≤◌, ◌+◌, ℕ, suc, List, [], ◌∷◌, ◌++◌, length, map, slice_get, Option, Some, None, Result, Ok, Err, IfOk, refl}
 use Rattle.std.proofs.Common.{arith, sym, ap, subst, ◌∙◌, get_or}
 use Rattle.mbe_semantics.specs.declared.log.Part.{Part}
 use Rattle.mbe_log.specs.declared.log.Command as code
 use Rattle.mbe_log.specs.Chain.{Chain, IsChained, IsWithin, IsExtended, chain_len, link_len, link_to}
 use Rattle.mbe_log.specs.Entries.{commands_seen, rounds_seen, first_link, first_round_link, entry_seen, log_of}
-use Rattle.mbe_semantics.specs.Bindings.Account.{Account, pushed, pushed_nested, pushed_default, Command, Commands, no_commands, no_command_rounds, command_round, Log, Handle, IsIn, IsLive, Gives, GivesRounds, PartGives, run, IsAccount, HasOneListMore}
+use Rattle.mbe_semantics.specs.Bindings.Account.{Account, pushed, pushed_nested, pushed_default, Command, Commands, no_commands, no_command_rounds, command_round, Log, Handle, IsIn, IsLive, HasEntriesOf, Gives, GivesRounds, PartGives, run, IsAccount, HasOneListMore}
 use Rattle.mbe_log.specs.Shared.{IsGiven, IsChanged, IsAtEnd, IsWhole, WritesOne, WritesRound, current_len, finished_len, len_at, IsPlain}
-use Rattle.mbe_log.specs.Sound.{IsSound, IsGrounded, GivesCommand, command_depth, IsPartGrounded}
+use Rattle.mbe_log.specs.Sound.{IsSound, HasOrder, IsGrounded, GivesCommand, command_depth, IsPartGrounded}
 use Rattle.mbe_log.specs.declared.bindings.Bindings.{Bindings}
 use Rattle.mbe_log.specs.BindingViews.{bound_by}
 use Rattle.mbe_log.proofs.ChainLemmas.{got}
@@ -47,45 +47,45 @@ module _ {A : Type 0} (C : List (Chain (code.Command A))) (R : List (Chain Part)
 
   -- a handle's parts, as the code holds them
   module _ (log : Log) (seen : log_of C R ≡ log) (current finished : Part) (h : Handle) (view : record { current = current; finished = finished } ≡ h) where
-    live_held : IsLive log h → IsLive (log_of C R) (record { current = current; finished = finished })
-    live_held l = subst (λ x. IsLive x (record { current = current; finished = finished })) (sym seen) (subst (IsLive log) (sym view) l)
+    entries_held : HasEntriesOf log h → HasEntriesOf (log_of C R) (record { current = current; finished = finished })
+    entries_held l = subst (λ x. HasEntriesOf x (record { current = current; finished = finished })) (sym seen) (subst (HasEntriesOf log) (sym view) l)
 
     account_held : (a : Account) → IsAccount log h a → IsAccount (log_of C R) (record { current = current; finished = finished }) a
     account_held a k = subst (λ x. IsAccount x (record { current = current; finished = finished }) a) (sym seen) (subst (λ x. IsAccount log x a) (sym view) k)
 
-    pub current_within : IsLive log h → IsWithin C current
-    current_within l = in-within current (live_held l).0
+    pub current_within : HasEntriesOf log h → IsWithin C current
+    current_within l = in-within current (entries_held l).0
 
-    pub finished_within : IsLive log h → IsWithin R finished
-    finished_within l = in-rounds-within finished (live_held l).1
+    pub finished_within : HasEntriesOf log h → IsWithin R finished
+    finished_within l = in-rounds-within finished (entries_held l).1
 
-    pub is-live : IsWithin C current → IsWithin R finished → IsLive log h
-    is-live c r = subst (λ x. IsLive x h) seen (subst (IsLive (log_of C R)) view (within-in current c, within-in-rounds finished r))
+    pub has-entries : IsWithin C current → IsWithin R finished → HasEntriesOf log h
+    has-entries c r = subst (λ x. HasEntriesOf x h) seen (subst (HasEntriesOf (log_of C R)) view (within-in current c, within-in-rounds finished r))
 
     -- one entry more
-    pub push-changes : (new : List (Chain (code.Command A))) (q : Part) (x : code.Command A) → IsExtended C new current q x → IsLive log h → (c : Command) → GivesCommand log (entry_seen x) c →
+    pub push-changes : (new : List (Chain (code.Command A))) (q : Part) (x : code.Command A) → IsExtended C new current q x → HasEntriesOf log h → (c : Command) → GivesCommand log (entry_seen x) c →
         IsChanged log (log_of new R) h (record { current = q; finished = finished }) (pushed c)
     push-changes new q x e l c g =
         subst (λ k. IsChanged log (log_of new R) k (record { current = q; finished = finished }) (pushed c)) view
         (subst (λ y. IsChanged y (log_of new R) (record { current = current; finished = finished }) (record { current = q; finished = finished }) (pushed c)) seen
         (step-changes (log_of C R) (record { current = current; finished = finished }) (map commands_seen new) q (first_link (link_to current e.0)) (entry_seen x) (step-of C R new current q x e) c
-        (subst (λ y. GivesCommand y (entry_seen x) c) (sym seen) g) (λ cs k. linked C R current e.0 cs e.1 k) (live_held l)))
+        (subst (λ y. GivesCommand y (entry_seen x) c) (sym seen) g) (λ cs k. linked C R current e.0 cs e.1 k) (entries_held l)))
 
-    pub push-sound : (n m : ℕ) (new : List (Chain (code.Command A))) (q : Part) (x : code.Command A) → IsSound C R n → n ≤ m → IsExtended C new current q x → IsLive log h →
+    pub push-sound : (n m : ℕ) (new : List (Chain (code.Command A))) (q : Part) (x : code.Command A) → IsSound C R n → n ≤ m → IsExtended C new current q x → HasEntriesOf log h →
         (c : Command) → GivesCommand (log_of C R) (entry_seen x) c → command_depth c ≤ m → IsSound new R m
     push-sound n m new q x s w e l c g d = record {
       links = chained-extended C new current q x s.links (current_within l) e;
       round_links = s.round_links;
       grounded = step-grounded (log_of C R) (record { current = current; finished = finished }) (map commands_seen new) q (first_link (link_to current e.0)) (entry_seen x) (step-of C R new current q x e)
-          c g (λ cs k. linked C R current e.0 cs e.1 k) n m s.grounded w d (live_held l).0;
+          c g (λ cs k. linked C R current e.0 cs e.1 k) n m s.grounded w d (entries_held l).0;
     }
 
-    pub plain-sound : (n : ℕ) (new : List (Chain (code.Command A))) (q : Part) (x : code.Command A) → IsSound C R n → IsExtended C new current q x → IsLive log h → IsPlain (entry_seen x) → IsSound new R n
+    pub plain-sound : (n : ℕ) (new : List (Chain (code.Command A))) (q : Part) (x : code.Command A) → IsSound C R n → IsExtended C new current q x → HasEntriesOf log h → IsPlain (entry_seen x) → IsSound new R n
     plain-sound n new q x s e l p = let k = plain_command C R x p in push-sound n n new q x s (omega arith) e l k.0 k.1 (let z = k.2 in omega (arith, z))
 
     -- a nested command, whose child has these parts
     pub nested-sound : (n m : ℕ) (new : List (Chain (code.Command A))) (q : Part) (child-current child-finished : Part) → IsSound C R n → m ≡ n + 1 →
-        IsExtended C new current q (code.TheVariants.Nested child-finished child-current) → IsLive log h → IsIn (map commands_seen C) child-current → IsIn (map rounds_seen R) child-finished → IsSound new R m
+        IsExtended C new current q (code.TheVariants.Nested child-finished child-current) → HasEntriesOf log h → IsIn (map commands_seen C) child-current → IsIn (map rounds_seen R) child-finished → IsSound new R m
     nested-sound n m new q cc cf s w e l ic ir =
         let p = grounded-part (log_of C R) n s.grounded cc ic in
         let r = grounded-rounds-part (log_of C R) n s.grounded cf ir in
@@ -93,19 +93,19 @@ module _ {A : Type 0} (C : List (Chain (code.Command A))) (R : List (Chain Part)
         (let f = p.2 in let g = r.2 in omega (arith, w, f, g))
 
     pub nested-changes : (new : List (Chain (code.Command A))) (q cc cf : Part) (child : Handle) → record { current = cc; finished = cf } ≡ child →
-        IsExtended C new current q (code.TheVariants.Nested cf cc) → IsLive log h → (b : Account) → IsAccount log child b → IsChanged log (log_of new R) h (record { current = q; finished = finished }) (λ a. pushed_nested a b)
+        IsExtended C new current q (code.TheVariants.Nested cf cc) → HasEntriesOf log h → (b : Account) → IsAccount log child b → IsChanged log (log_of new R) h (record { current = q; finished = finished }) (λ a. pushed_nested a b)
     nested-changes new q cc cf child v e l b k =
         let m = subst (λ x. IsAccount log x b) (sym v) k in
         push-changes new q (code.TheVariants.Nested cf cc) e l (Command.nests (command_round b.finished b.current)) (b.finished, b.current, m.finished, m.current, refl)
 
-    pub child-current : IsLive log h → IsIn (map commands_seen C) current
-    child-current l = (live_held l).0
+    pub child-current : HasEntriesOf log h → IsIn (map commands_seen C) current
+    child-current l = (entries_held l).0
 
-    pub child-finished : IsLive log h → IsIn (map rounds_seen R) finished
-    child-finished l = (live_held l).1
+    pub child-finished : HasEntriesOf log h → IsIn (map rounds_seen R) finished
+    child-finished l = (entries_held l).1
 
     -- a finished round
-    pub default-changed : (D : List (Chain (code.Command A))) (S : List (Chain Part)) (q : Part) (i : ℕ) → D ≡ C ++ record { link = None; own = [] } ∷ [] → i ≡ length C → IsExtended R S finished q current → IsLive log h →
+    pub default-changed : (D : List (Chain (code.Command A))) (S : List (Chain Part)) (q : Part) (i : ℕ) → D ≡ C ++ record { link = None; own = [] } ∷ [] → i ≡ length C → IsExtended R S finished q current → HasEntriesOf log h →
         IsChanged log (log_of D S) h (record { current = record { list = i; first = 0 }; finished = q }) pushed_default
     default-changed D S q i d j e l =
         subst (λ k. IsChanged log (log_of D S) k (record { current = record { list = i; first = 0 }; finished = q }) pushed_default) view
@@ -115,24 +115,24 @@ module _ {A : Type 0} (C : List (Chain (code.Command A))) (R : List (Chain Part)
         (subst (λ n. IsChanged (log_of C R) (record { commands = map commands_seen C ++ [] ∷ []; rounds = map rounds_seen S }) (record { current = current; finished = finished })
         (record { current = record { list = n; first = 0 }; finished = q }) pushed_default) (length-mapped commands_seen C ∙ sym j)
         (default-changes (log_of C R) (record { current = current; finished = finished }) (map rounds_seen S) q (first_round_link (link_to finished e.0)) (step-of-rounds C R S finished q current e)
-        (λ rs k. linked_rounds C R finished e.0 rs e.1 k) (live_held l)))))
+        (λ rs k. linked_rounds C R finished e.0 rs e.1 k) (entries_held l)))))
       where
         default_commands : (D : List (Chain (code.Command A))) → D ≡ C ++ record { link = None; own = [] } ∷ [] → map commands_seen D ≡ map commands_seen C ++ [] ∷ []
         default_commands D d = ap (map commands_seen) d ∙ ap (λ x. x.commands) (seen-lists C R None None)
 
-    pub default-sound : (n : ℕ) (D : List (Chain (code.Command A))) (S : List (Chain Part)) (q : Part) → D ≡ C ++ record { link = None; own = [] } ∷ [] → IsExtended R S finished q current → IsLive log h →
+    pub default-sound : (n : ℕ) (D : List (Chain (code.Command A))) (S : List (Chain Part)) (q : Part) → D ≡ C ++ record { link = None; own = [] } ∷ [] → IsExtended R S finished q current → HasEntriesOf log h →
         IsSound C R n → IsSound D S n
     default-sound n D S q d e l k = record {
       links = subst (λ y. IsChained y) (sym d) (chained-more C (record { link = None; own = [] }) k.links (λ q e. absurd (let z : ⊥ = cc in z)));
       round_links = chained-extended R S finished q current k.round_links (finished_within l) e;
       grounded = subst (λ y. IsGrounded (record { commands = y; rounds = map rounds_seen S }) n) (sym (ap (map commands_seen) d ∙ ap (λ x. x.commands) (seen-lists C R None None)))
           (default-grounded (log_of C R) (record { current = current; finished = finished }) (map rounds_seen S) q (first_round_link (link_to finished e.0)) (step-of-rounds C R S finished q current e)
-          (λ rs k. linked_rounds C R finished e.0 rs e.1 k) n k.grounded (live_held l));
+          (λ rs k. linked_rounds C R finished e.0 rs e.1 k) n k.grounded (entries_held l));
     }
 
     -- building
-    pub build-grounded : (n : ℕ) → IsSound C R n → IsLive log h → IsPartGrounded (log_of C R) current n
-    build-grounded n s l = grounded-part (log_of C R) n s.grounded current (live_held l).0
+    pub build-grounded : (n : ℕ) → IsSound C R n → HasEntriesOf log h → IsPartGrounded (log_of C R) current n
+    build-grounded n s l = grounded-part (log_of C R) n s.grounded current (entries_held l).0
 
     pub build-returns : (D : List (Chain (code.Command A))) (S : List (Chain Part)) → D ≡ C → S ≡ R → {E : Type 0} (r : Result (Bindings A) E) →
         IfOk r (λ b. (cs : Commands) → PartGives (log_of D S) no_commands current cs → bound_by b ≡ run cs []) →
@@ -142,13 +142,22 @@ module _ {A : Type 0} (C : List (Chain (code.Command A))) (R : List (Chain Part)
         (subst (λ x. PartGives (log_of x S) no_commands current a.current) (sym d) (subst (λ y. PartGives (log_of C y) no_commands current a.current) (sym e) (account_held a m).current))
 
     -- each live handle has an account
-    pub account-there : (n : ℕ) → IsSound C R n → IsLive log h → (a : Account) × IsAccount log h a
+    pub account-there : (n : ℕ) → IsSound C R n → HasEntriesOf log h → (a : Account) × IsAccount log h a
     account-there n s l =
-        let p = grounded-part (log_of C R) n s.grounded current (live_held l).0 in
-        let q = grounded-rounds-part (log_of C R) n s.grounded finished (live_held l).1 in
+        let p = grounded-part (log_of C R) n s.grounded current (entries_held l).0 in
+        let q = grounded-rounds-part (log_of C R) n s.grounded finished (entries_held l).1 in
         let a : Account = record { finished = q.0; current = p.0 } in
         let k : IsAccount (log_of C R) (record { current = current; finished = finished }) a = record { current = p.1; finished = q.1 } in
         (a, subst (λ x. IsAccount x h a) seen (subst (λ x. IsAccount (log_of C R) x a) view k))
+
+    -- each list of the log is there
+    pub live-now : (current.list < length C) × (finished.list < length R) → IsLive log h
+    live-now l = subst (λ x. IsLive x h) seen (subst (IsLive (log_of C R)) view
+        (let a = l.0 in let b = length-mapped commands_seen C in omega (arith, a, b), let a = l.1 in let b = length-mapped rounds_seen R in omega (arith, a, b)))
+
+    pub live-before : IsLive log h → (current.list < length C) × (finished.list < length R)
+    live-before l = let k = subst (λ x. IsLive x (record { current = current; finished = finished })) (sym seen) (subst (IsLive log) (sym view) l) in
+        (let a = k.0 in let b = length-mapped commands_seen C in omega (arith, a, b), let a = k.1 in let b = length-mapped rounds_seen R in omega (arith, a, b))
 
     -- where it is at the end, its numbers are the lengths of its lists
     pub lengths : IsAtEnd log h → (current.first ≡ current_len log h) × (finished.first ≡ finished_len log h)
@@ -172,13 +181,17 @@ module _ {A : Type 0} (C : List (Chain (code.Command A))) (R : List (Chain Part)
     )
 
     -- a copy
-    pub copy-sound : (n : ℕ) (l : Chain (code.Command A)) (r : Chain Part) → IsSound C R n → IsLive log h → slice_get C current.list ≡ Some l → slice_get R finished.list ≡ Some r →
+    pub copy-sound : (n : ℕ) (l : Chain (code.Command A)) (r : Chain Part) → IsSound C R n → HasEntriesOf log h → slice_get C current.list ≡ Some l → slice_get R finished.list ≡ Some r →
         IsSound (C ++ record { link = link_to current l; own = [] } ∷ []) (R ++ record { link = link_to finished r; own = [] } ∷ []) n
-    copy-sound n l r s live a b = sound-copy C R n (record { current = current; finished = finished }) l r s (live_held live) a b
+    copy-sound n l r s live a b = sound-copy C R n (record { current = current; finished = finished }) l r s (entries_held live) a b
 
     pub copy-gives : (l : Chain (code.Command A)) (r : Chain Part) → slice_get C current.list ≡ Some l → slice_get R finished.list ≡ Some r → (a : Account) → IsAccount log h a →
         Gives (log_of C R) no_commands (first_link (link_to current l)) a.current × GivesRounds (log_of C R) no_command_rounds (first_round_link (link_to finished r)) a.finished
     copy-gives l r s t a k = let m = account_held a k in (linked C R current l a.current s m.current, linked_rounds C R finished r a.finished t m.finished)
+
+-- the order of a log, as clients see it
+pub order-seen : {A : Type 0} (C : List (Chain (code.Command A))) (R : List (Chain Part)) (log : Log) (n : ℕ) → log_of C R ≡ log → IsSound C R n → HasOrder log
+order-seen C R log n seen s = subst HasOrder seen s.grounded.ordered
 
 -- a link is few entries
 pub link-few : (k : Option Part) → link_len k ≤ 3

@@ -1,14 +1,12 @@
 -- Counts that stop at a bound.
-use Rattle.std.specs.Prelude.{◌≡◌, ◌+◌, ◌<◌, ◌≤◌, ◌⊎◌, ℕ, min, List, [], ◌∷◌, length, map, drop, refl}
+use Rattle.std.specs.Prelude.{◌≡◌, ◌+◌, ◌<◌, ◌≤◌, ◌⊎◌, ℕ, min, List, ◌∷◌, length, drop}
 use Rattle.std.proofs.Common.{ap, sym, ◌∙◌, arith, inl, inr, get_or}
 use Rattle.std.proofs.Math.Nat.{min-eq_left, min-eq_right}
 use Rattle.std.proofs.lemmas.Bool.{cases_lt}
 use Rattle.std.proofs.lemmas.List.{drop_more, drop_all}
-use Rattle.mbe_semantics.specs.Syntax.Op.{Name}
-use Rattle.mbe_semantics.specs.Bindings.Environment.{Environment, binding_count, binding_counts, binding_total}
+use Rattle.mbe_semantics.specs.Bindings.Environment.{binding_count, binding_counts}
 use Rattle.mbe_log.specs.declared.bindings.Binding.{Binding}
 use Rattle.mbe_log.specs.BindingViews.{value_seen, values_seen}
-use Rattle.mbe_log.proofs.BindingLemmas.{values_of}
 
 -- what stops early stops all the same
 pub stopped : (most c b r : ℕ) → min (min (c + min b most) most + r) most ≡ min (c + (b + r)) most

@@ -6,5 +6,6 @@ pub mod ClientLemmas
 pub mod CountLemmas
 pub mod CodeLemmas
 pub mod LogLemmas
+pub mod OrderLemmas
 pub mod SoundLemmas
 pub mod StepLemmas

@@ -5,6 +5,7 @@ use Rattle.mbe_semantics.specs.declared.log.Part.{Part}
 use Rattle.mbe_semantics.specs.Bindings.Account.{Command, Commands, CommandRounds, command, Entry, RoundEntry, Log, IsIn, Gives, GivesRounds, PartGives, PartGivesRounds, gives_nothing, gives_binding, gives_empty, gives_skip, gives_missing, gives_nested, gives_link, gives_no_rounds, gives_round, gives_linked_rounds, part_gives, part_gives_rounds}
 use Rattle.mbe_log.specs.Shared.{IsKept, appended}
 use Rattle.mbe_log.specs.Sound.{GivesCommand}
+use Rattle.mbe_log.proofs.ChainLemmas.{in_range}
 
 -- ---- lists
 
@@ -72,6 +73,23 @@ same_or_not (suc i) (suc j) = go (same_or_not i j)
     go (inl e) = inl (ap suc e)
     go (inr n) = inr (λ h. n (omega (arith, h)))
 
+-- what is in a list of lists where one has one entry more
+pub get-appended : {E : Type 0} (ess : List (List E)) (i j : ℕ) (e : E) (fs : List E) → slice_get (appended ess i e) j ≡ Some fs →
+    (slice_get ess j ≡ Some fs) ⊎ ((es : List E) × (slice_get ess j ≡ Some es) × (i ≡ j) × (fs ≡ es ++ e ∷ []))
+get-appended {E} ess i j e fs h = go (same_or_not i j)
+  where
+    j_there : j < length ess
+    j_there = let k = in_range (appended ess i e) j fs h in let l = length-appended ess i e in omega (arith, k, l)
+
+    go : (i ≡ j) ⊎ (i ≢ j) → (slice_get ess j ≡ Some fs) ⊎ ((es : List E) × (slice_get ess j ≡ Some es) × (i ≡ j) × (fs ≡ es ++ e ∷ []))
+    go (inl k) =
+        let t = there ess j j_there in
+        let u : slice_get (appended ess i e) j ≡ Some (t.0 ++ e ∷ []) =
+        subst (λ x. slice_get (appended ess i e) x ≡ Some (t.0 ++ e ∷ [])) k (appended-same ess i e t.0 (subst (λ x. slice_get ess x ≡ Some t.0) (sym k) t.1)) in
+        let v : fs ≡ t.0 ++ e ∷ [] = cc in
+        inr (t.0, t.1, k, v)
+    go (inr n) = inl (sym (appended-other ess i j e n) ∙ h)
+
 -- ---- a log that has more
 
 -- each list begins with what it was
@@ -91,8 +109,16 @@ more-entry {E} ess i e = record { more = λ j es h. go j es h (same_or_not i j) 
     go j es h (inl k) = (e ∷ [], subst (λ x. slice_get (appended ess i e) x ≡ Some (es ++ e ∷ [])) k (appended-same ess i e es (subst (λ x. slice_get ess x ≡ Some es) (sym k) h)))
     go j es h (inr n) = ([], appended-other ess i j e n ∙ h ∙ ap Some (sym (append-nil es)))
 
-in-more : {E : Type 0} {old new : List (List E)} → HasMore old new → (p : Part) → IsIn old p → IsIn new p
+pub in-more : {E : Type 0} {old new : List (List E)} → HasMore old new → (p : Part) → IsIn old p → IsIn new p
 in-more m p i = let k = m.more p.list i.0 i.1 in (i.0 ++ k.0, k.1, let l = length-append i.0 k.0 in let b = i.2 in omega (arith, l, b))
+
+-- no list goes
+longer : {E : Type 0} {old new : List (List E)} → HasMore old new → length old ≤ length new
+longer {E} {old} {new} m = go (length old) (omega arith)
+  where
+    go : (n : ℕ) → n ≤ length old → n ≤ length new
+    go zero h = omega arith
+    go (suc n) h = let t = there old n (omega (arith, h)) in let k = m.more n t.0 t.1 in let a = in_range new n (t.0 ++ k.0) k.1 in omega (arith, a)
 
 module _ (old new : Log) (c : HasMore old.commands new.commands) (r : HasMore old.rounds new.rounds) where
   mutual
@@ -125,7 +151,8 @@ module _ (old new : Log) (c : HasMore old.commands new.commands) (r : HasMore ol
   -- all handles are as they were
   pub kept : IsKept old new
   kept = record {
-    stays = λ k l. (in-more c k.current l.0, in-more r k.finished l.1);
+    stays = λ k l. (let a = l.0 in let b = longer c in omega (arith, a, b), let a = l.1 in let b = longer r in omega (arith, a, b));
+    entries = λ k l. (in-more c k.current l.0, in-more r k.finished l.1);
     others = λ k a h. record { current = part h.current; finished = part_rounds h.finished };
   }
 

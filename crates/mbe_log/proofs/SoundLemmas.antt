@@ -6,13 +6,29 @@ use Rattle.mbe_semantics.specs.declared.log.Part.{Part}
 use Rattle.mbe_log.specs.declared.log.Command as code
 use Rattle.mbe_log.specs.Chain.{Chain, IsChained, IsWithin, IsExtended, chain_len, link_len, link_in, own_in, link_or, link_to, longer, forked}
 use Rattle.mbe_log.specs.Entries.{commands_seen, rounds_seen, first_link, first_round_link, entry_seen, log_of}
-use Rattle.mbe_semantics.specs.Bindings.Account.{Command, Commands, CommandRounds, no_commands, no_command_rounds, Entry, RoundEntry, Log, Handle, IsLive, Gives, GivesRounds, PartGives, PartGivesRounds, gives_nothing, gives_link, gives_no_rounds, gives_linked_rounds, part_gives, part_gives_rounds}
+use Rattle.mbe_semantics.specs.Bindings.Account.{Command, Commands, CommandRounds, no_commands, no_command_rounds, Entry, RoundEntry, Log, Handle, HasEntriesOf, Gives, GivesRounds, PartGives, PartGivesRounds, gives_nothing, gives_link, gives_no_rounds, gives_linked_rounds, part_gives, part_gives_rounds}
 use Rattle.mbe_log.specs.Shared.{appended, IsPlain}
 use Rattle.mbe_log.specs.Sound.{depth, command_depth, rounds_depth, IsGrounded, IsSound, GivesCommand}
 use Rattle.mbe_log.proofs.ChainLemmas.{in_range, link_some}
 use Rattle.mbe_log.proofs.LogLemmas.{get-front, get-more}
 use Rattle.mbe_log.proofs.BuildLemmas.{take-none, commands_len, rounds_len, map-get, is_within, is_rounds_within}
 use Rattle.mbe_log.proofs.CallLemmas.{with_lists, grounded-lists, grounded-part, grounded-rounds-part, IsStep}
+
+-- ---- no lists
+
+pub sound-none : {A : Type 0} → IsSound {A = A} [] [] 0
+sound-none {A} = record {
+  links = λ i l p h e. absurd (let z : ⊥ = cc in z);
+  round_links = λ i l p h e. absurd (let z : ⊥ = cc in z);
+  grounded = record {
+    commands = λ i es h. absurd (let z : ⊥ = cc in z);
+    rounds = λ i es h. absurd (let z : ⊥ = cc in z);
+    ordered = (
+      record { commands = λ i j. 0; rounds = λ i j. 0 },
+      record { commands = λ i j es e h k. absurd (let z : ⊥ = cc in z); rounds = λ i j es e h k. absurd (let z : ⊥ = cc in z) },
+    );
+  };
+}
 
 -- ---- links
 
@@ -103,7 +119,7 @@ module _ {A : Type 0} (C : List (Chain (code.Command A))) (R : List (Chain Part)
   sound-empty n s = sound-lists n None None s (λ p h. absurd (let e : ⊥ = cc in e)) (λ p h. absurd (let e : ⊥ = cc in e))
       no_commands (gives_nothing no_commands) (omega arith) no_command_rounds (gives_no_rounds no_command_rounds) (omega arith)
 
-  pub sound-copy : (n : ℕ) (h : Handle) (l : Chain (code.Command A)) (r : Chain Part) → IsSound C R n → IsLive (log_of C R) h → slice_get C h.current.list ≡ Some l → slice_get R h.finished.list ≡ Some r →
+  pub sound-copy : (n : ℕ) (h : Handle) (l : Chain (code.Command A)) (r : Chain Part) → IsSound C R n → HasEntriesOf (log_of C R) h → slice_get C h.current.list ≡ Some l → slice_get R h.finished.list ≡ Some r →
       IsSound (C ++ record { link = link_to h.current l; own = [] } ∷ []) (R ++ record { link = link_to h.finished r; own = [] } ∷ []) n
   sound-copy n h l r s live a b =
       let c = grounded-part (log_of C R) n s.grounded h.current live.0 in

@@ -1,7 +1,7 @@
 -- What a call does to the accounts of a log.
 use Rattle.std.specs.Prelude.{◌≡◌, ◌+◌, ℕ, zero, suc, List, [], ◌∷◌, ◌++◌, length, slice_get, Option, Some, None}
 use Rattle.mbe_semantics.specs.declared.log.Part.{Part}
-use Rattle.mbe_semantics.specs.Bindings.Account.{Account, Entry, RoundEntry, Log, Handle, IsLive, AreApart, IsAccount}
+use Rattle.mbe_semantics.specs.Bindings.Account.{Account, Entry, RoundEntry, Log, Handle, IsLive, HasEntriesOf, AreApart, IsAccount}
 
 -- the part is all of its list
 abbrev pub IsWhole : {E : Type 0} → List (List E) → Part → Type 0
@@ -11,14 +11,16 @@ IsWhole {E} lists part = (es : List E) × (slice_get lists part.list ≡ Some es
 abbrev pub IsAtEnd : Log → Handle → Type 0
 IsAtEnd log h = IsWhole log.commands h.current × IsWhole log.rounds h.finished
 
--- What was live stays so, with the same account.
+-- What was live stays so, with its entries and its account.
 pub record IsKept (old new : Log) : Type 0 where
   pub stays : (k : Handle) → IsLive old k → IsLive new k
+  pub entries : (k : Handle) → HasEntriesOf old k → HasEntriesOf new k
   pub others : (k : Handle) (a : Account) → IsAccount old k a → IsAccount new k a
 
 -- A handle is new: it is live, and apart from those that were. Nothing changes for them.
 pub record IsGiven (old new : Log) (given : Handle) : Type 0 where
   pub live : IsLive new given
+  pub entries : HasEntriesOf new given
   pub ends : IsAtEnd new given
   pub apart : (k : Handle) → IsLive old k → AreApart given k
   pub kept : IsKept old new
@@ -28,6 +30,7 @@ pub record IsGiven (old new : Log) (given : Handle) : Type 0 where
 -- Those apart from the handle stay apart from it, and at the end of their lists.
 pub record IsChanged (old new : Log) (before after : Handle) (turned : Account → Account) : Type 0 where
   pub live : IsLive new after
+  pub entries : HasEntriesOf new after
   pub account : (a : Account) → IsAccount old before a → IsAccount new after (turned a)
   pub ends : IsAtEnd old before → IsAtEnd new after
   pub apart : (k : Handle) → IsLive old k → AreApart before k → AreApart after k

@@ -1,9 +1,10 @@
--- What is true of a log at all times: each list gives commands, with no more levels than nested commands were written.
+-- What is true of a log at all times: each list gives commands, with no more levels than nested commands were written, and
+-- each entry stands for earlier ones alone.
 use Rattle.std.specs.Prelude.{◌≡◌, ◌≤◌, ℕ, suc, max, List, slice_get, Some}
 use Rattle.mbe_semantics.specs.declared.log.Part.{Part}
 use Rattle.mbe_log.specs.declared.log.Command as code
 use Rattle.mbe_log.specs.Chain.{Chain, IsChained}
-use Rattle.mbe_semantics.specs.Bindings.Account.{Command, Commands, CommandRounds, no_commands, command, no_command_rounds, command_round, Entry, RoundEntry, Log, Gives, GivesRounds, PartGives, PartGivesRounds}
+use Rattle.mbe_semantics.specs.Bindings.Account.{Command, Commands, CommandRounds, no_commands, command, no_command_rounds, command_round, Entry, RoundEntry, Log, Order, IsOrdered, Gives, GivesRounds, PartGives, PartGivesRounds}
 use Rattle.mbe_log.specs.Entries.{log_of}
 
 -- how many levels of nested commands there are
@@ -23,10 +24,15 @@ abbrev mutual
   rounds_depth no_command_rounds = 0
   rounds_depth (command_round rs cs) = max (rounds_depth rs) (depth cs)
 
--- each list gives commands, or rounds
+-- its entries have an order of writing
+abbrev pub HasOrder : Log → Type 0
+HasOrder log = (order : Order) × IsOrdered log order
+
+-- each list gives commands, or rounds, and the entries have an order
 pub record IsGrounded (log : Log) (most : ℕ) : Type 0 where
   pub commands : (i : ℕ) (es : List Entry) → slice_get log.commands i ≡ Some es → (cs : Commands) × Gives log no_commands es cs × (depth cs ≤ most)
   pub rounds : (i : ℕ) (es : List RoundEntry) → slice_get log.rounds i ≡ Some es → (rs : CommandRounds) × GivesRounds log no_command_rounds es rs × (rounds_depth rs ≤ most)
+  pub ordered : HasOrder log
 
 pub record IsSound {A : Type 0} (commands : List (Chain (code.Command A))) (rounds : List (Chain Part)) (most : ℕ) : Type 0 where
   pub links : IsChained commands

@@ -21,6 +21,7 @@
 // Building follows the links of a list by a loop, and recurses only into nested commands.
 ghost use Rattle.std.specs.Prelude.{◌≡◌, ◌↔◌, ◌≤◌, [], IsTrue, IfOk, OnOk, OnErr};
 ghost use Rattle.mbe_semantics.specs.Bindings.Account.{Account, Commands, CommandRounds, IsLive};
+ghost use Rattle.mbe_semantics.specs.Bindings.Account.{HasEntriesOf, Order, IsOrdered};
 ghost use Rattle.mbe_semantics.specs.Bindings.Account.{IsAccount, no_account, no_lists, pushed};
 ghost use Rattle.mbe_semantics.specs.Bindings.Account.{pushed_nested, pushed_default, run};
 ghost use Rattle.mbe_semantics.specs.Bindings.Account.{run_command, run_rounds, no_commands};
@@ -178,7 +179,7 @@ impl<'a, A: Allocator + Copy> BindingLog<'a, A> {
 
     /// A handle with an equal account. `AllocError` if out of memory.
     pub fn copy(&mut self, handle: &Handle) -> Result<Handle, AllocError>
-        requires { IsLive self.old handle.now }
+        requires { HasEntriesOf self.old handle.now }
         ensures given { IfOk result (λ h. IsGiven self.old self.new h) }
         ensures account { IfOk result (λ h. (a : Account)
             → IsAccount self.old handle.now a → IsAccount self.new h a) }
@@ -219,7 +220,7 @@ impl<'a, A: Allocator + Copy> BindingLog<'a, A> {
         name: &Symbol<A>,
         fragment: Fragment<'a, A>,
     ) -> Result<(), AllocError>
-        requires { IsLive self.old handle.old }
+        requires { HasEntriesOf self.old handle.old }
         ensures ok { OnOk result (IsChanged self.old self.new handle.old handle.new
             (pushed (Written.binds name.now (fragment_seen fragment.entry)))) }
         ensures written { OnOk result (WritesOne self.old handle.old handle.new) }
@@ -231,7 +232,7 @@ impl<'a, A: Allocator + Copy> BindingLog<'a, A> {
 
     /// The name is bound to a fragment that took nothing. `AllocError` if out of memory.
     pub fn push_optional(&mut self, handle: &mut Handle, name: &Symbol<A>) -> Result<(), AllocError>
-        requires { IsLive self.old handle.old }
+        requires { HasEntriesOf self.old handle.old }
         ensures ok { OnOk result (IsChanged self.old self.new handle.old handle.new
             (pushed (Written.binds_nothing name.now))) }
         ensures written { OnOk result (WritesOne self.old handle.old handle.new) }
@@ -243,7 +244,7 @@ impl<'a, A: Allocator + Copy> BindingLog<'a, A> {
 
     /// The name is in a repetition that had no rounds. `AllocError` if out of memory.
     pub fn push_empty(&mut self, handle: &mut Handle, name: &Symbol<A>) -> Result<(), AllocError>
-        requires { IsLive self.old handle.old }
+        requires { HasEntriesOf self.old handle.old }
         ensures ok { OnOk result (IsChanged self.old self.new handle.old handle.new
             (pushed (Written.skips name.now))) }
         ensures written { OnOk result (WritesOne self.old handle.old handle.new) }
@@ -260,7 +261,7 @@ impl<'a, A: Allocator + Copy> BindingLog<'a, A> {
         name: &Symbol<A>,
         kind: MetaVarKind,
     ) -> Result<(), AllocError>
-        requires { IsLive self.old handle.old }
+        requires { HasEntriesOf self.old handle.old }
         ensures ok { OnOk result (IsChanged self.old self.new handle.old handle.new
             (pushed (Written.misses name.now kind))) }
         ensures written { OnOk result (WritesOne self.old handle.old handle.new) }
@@ -272,7 +273,7 @@ impl<'a, A: Allocator + Copy> BindingLog<'a, A> {
 
     // One command more after the handle's current ones, which isn't nested.
     fn push(&mut self, handle: &mut Handle, command: Command<'a, A>) -> Result<(), AllocError>
-        requires live { IsLive self.old handle.old }
+        requires entries { HasEntriesOf self.old handle.old }
         requires plain { IsPlain (entry_seen command) }
         ensures ok { OnOk result ((c : Written) → GivesCommand self.old (entry_seen command.entry) c
             → IsChanged self.old self.new handle.old handle.new (pushed c)) }
@@ -286,8 +287,8 @@ impl<'a, A: Allocator + Copy> BindingLog<'a, A> {
 
     /// The child's finished rounds, and its current commands as the last round, as they are now. `AllocError` if out of memory.
     pub fn push_nested(&mut self, parent: &mut Handle, child: &Handle) -> Result<(), AllocError>
-        requires parent { IsLive self.old parent.old }
-        requires child { IsLive self.old child.now }
+        requires parent { HasEntriesOf self.old parent.old }
+        requires child { HasEntriesOf self.old child.now }
         ensures ok { OnOk result ((b : Account) → IsAccount self.old child.now b
             → IsChanged self.old self.new parent.old parent.new (λ a. pushed_nested a b)) }
         ensures written { OnOk result (WritesOne self.old parent.old parent.new) }
@@ -309,7 +310,7 @@ impl<'a, A: Allocator + Copy> BindingLog<'a, A> {
 
     /// The current commands are a finished round now, and an empty list begins. `AllocError` if out of memory.
     pub fn push_default(&mut self, handle: &mut Handle) -> Result<(), AllocError>
-        requires { IsLive self.old handle.old }
+        requires { HasEntriesOf self.old handle.old }
         ensures ok { OnOk result (IsChanged self.old self.new handle.old handle.new
             pushed_default) }
         ensures written { OnOk result (WritesRound self.old handle.old handle.new) }
@@ -328,7 +329,7 @@ impl<'a, A: Allocator + Copy> BindingLog<'a, A> {
 
     /// The environment of the current commands. `AllocError` if out of memory.
     pub fn build(&self, handle: &Handle) -> Result<Bindings<'a, A>, AllocError>
-        requires { IsLive self.now handle.now }
+        requires { HasEntriesOf self.now handle.now }
         ensures { IfOk result (λ b. (a : Account)
             → IsAccount self.now handle.now a → bound_by b ≡ run a.current []) }
     {
@@ -343,17 +344,32 @@ impl<'a, A: Allocator + Copy> BindingLog<'a, A> {
 }
 
 impl<'a, A: Allocator> BindingLog<'a, A> {
-    /// Whether both lists of the handle exist in this log, with as many entries.
+    /// Whether both lists of the handle exist in this log.
     pub fn is_live(&self, handle: &Handle) -> bool
         ensures { IsTrue result ↔ IsLive self.now handle.now }
     {
+        handle.current.list < self.commands.len() && handle.finished.list < self.rounds.len()
+    }
+
+    /// Whether both lists of the handle exist in this log, with as many entries as the handle says: what `copy`, the pushes,
+    /// `build` and `entries_of` ask for. So it is with a handle of this log.
+    pub fn has_entries_of(&self, handle: &Handle) -> bool
+        ensures { IsTrue result ↔ HasEntriesOf self.now handle.now }
+    {
         is_within(&self.commands, handle.current) && is_within(&self.rounds, handle.finished)
+    }
+
+    /// Runs nothing: the entries of a log have an order of writing, in which each stands for earlier ones alone.
+    pub fn keeps_order(&self)
+        ensures { (order : Order) × IsOrdered self.now order }
+    {
+        let _ = &self.alloc;
     }
 
     /// How many entries of its current list are the handle's, and of its list of finished rounds: all, if nothing else was
     /// pushed there.
     pub fn entries_of(&self, handle: &Handle) -> (usize, usize)
-        requires { IsLive self.now handle.now }
+        requires { HasEntriesOf self.now handle.now }
         ensures current { result.0 ≡ handle.now.current.first }
         ensures finished { result.1 ≡ handle.now.finished.first }
         ensures lengths { IsAtEnd self.now handle.now

@@ -1,5 +1,5 @@
 // Calls of a log as values, and what bindings are as text.
-ghost use Rattle.mbe_semantics.specs.Bindings.Account.{IsLive};
+ghost use Rattle.mbe_semantics.specs.Bindings.Account.{HasEntriesOf};
 
 use mbe_log::bindings::{Binding, Bindings};
 use mbe_log::fragment::Fragment;
@@ -89,7 +89,7 @@ fn copy<A: Allocator + Copy>(book: &mut Book<'_, A>, at: usize) -> Result<bool, 
     let Some(handle) = book.handles.get(at) else {
         return Ok(false);
     };
-    if !book.log.is_live(handle) {
+    if !book.log.has_entries_of(handle) {
         return Ok(false);
     }
     let copy = book.log.copy(handle)?;
@@ -104,7 +104,7 @@ fn push<'a, A: Allocator + Copy>(
     name: &Symbol<A>,
     tree: TokenTreesView<'a, A>,
 ) -> Result<bool, AllocError> {
-    if !log.is_live(handle) {
+    if !log.has_entries_of(handle) {
         return Ok(false);
     }
     match what {
@@ -128,7 +128,7 @@ fn nest<A: Allocator + Copy>(
     let Some(parent) = book.handles.get_mut(parent) else {
         return Ok(false);
     };
-    if !book.log.is_live(parent) || !book.log.is_live(&child) {
+    if !book.log.has_entries_of(parent) || !book.log.has_entries_of(&child) {
         return Ok(false);
     }
     book.log.push_nested(parent, &child)?;
@@ -139,7 +139,7 @@ fn finish<A: Allocator + Copy>(
     log: &mut BindingLog<'_, A>,
     handle: &mut Handle,
 ) -> Result<bool, AllocError> {
-    if !log.is_live(handle) {
+    if !log.has_entries_of(handle) {
         return Ok(false);
     }
     log.push_default(handle)?;
@@ -166,7 +166,7 @@ pub fn show_built<A: Allocator + Copy>(
     names: &[Symbol<A>],
     text: &mut String<A>,
 ) -> Result<(), AllocError> {
-    if !log.is_live(handle) {
+    if !log.has_entries_of(handle) {
         return Ok(());
     }
     show_all(&log.build(handle)?, names, text)

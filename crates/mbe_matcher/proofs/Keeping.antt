@@ -50,7 +50,7 @@ both_each P (Some x) None b = absurd b
 -- ---- positions
 
 pub kept_not : (log : Log) → IsKept log log
-kept_not log = record { stays = λ k h. h; others = λ k a h. h }
+kept_not log = record { stays = λ k h. h; entries = λ k h. h; others = λ k a h. h }
 
 pub keeps_not : {A : Type 0} (log : Log) (outers : List (Outer A)) → Keeps log log outers outers
 keeps_not log outers = record { log = kept_not log; outers = grows_not outers }

@@ -8,14 +8,14 @@ use Rattle.mbe_semantics.specs.Syntax.Op.{Ops}
 use Rattle.mbe_semantics.specs.Syntax.Nullable.{Checked}
 use Rattle.mbe_semantics.specs.Readings.Input.{Input, input_of}
 use Rattle.mbe_semantics.specs.Readings.Verdict.{Verdict, one_reading, ambiguous, stuck, IsVerdict, verdict_at, stop_of}
-use Rattle.mbe_semantics.specs.Bindings.Account.{Commands, no_account, Log, Handle, IsLive}
+use Rattle.mbe_semantics.specs.Bindings.Account.{Commands, no_account, Log, Handle, HasEntriesOf}
 use Rattle.mbe_semantics.specs.Laws.Lawful.{Lawful}
 use Rattle.mbe_semantics.specs.Matching.Dots.{dots}
 use Rattle.mbe_semantics.specs.Matching.Outline.{Outline, outline, Advance, advance}
 use Rattle.mbe_semantics.specs.Matching.Settled.{clash_with, clash, after_of, first_width}
 use Rattle.mbe_bounds.specs.Loop.Kept.{kept_moves, kept_ends}
 use Rattle.mbe_bounds.proofs.Loop.TurnedPlaces.{ComesTo, turned_start, turned_clash, turned_none, turned_end, turned_binds, turned_next}
-use Rattle.mbe_log.proofs.ClientLemmas.{live}
+use Rattle.mbe_log.proofs.ClientLemmas.{has_entries}
 use Rattle.mbe_matcher.specs.declared.places.Stop.{Stop}
 use Rattle.mbe_matcher.specs.declared.places.Stop.TheVariants as told
 use Rattle.mbe_matcher.specs.declared.position.Outer.{Outer}
@@ -192,12 +192,12 @@ module _ {A : Type 0} (g : Grammar) (pattern : Ops) (argument : Forest) (lawful 
   pub next : None ≡ stop_at q (flat_len argument) ws hs → Next
   next e = next_by (q == flat_len argument) (is_clash ws) refl e
 
--- who binds is live
-pub live_stop : (g : Grammar) (pattern : Ops) (argument : Forest) (log : Log) (s : Stop) → IfSome (reading_in s) (Binds g pattern argument log) → IfSome (reading_in s) (IsLive log)
-live_stop g pattern argument log (told.OneReading h) b = live log h b.2.0 b.2.1
-live_stop g pattern argument log told.ManyReadings b = tt
-live_stop g pattern argument log (told.Ambiguous p) b = tt
-live_stop g pattern argument log (told.Stuck p) b = tt
+-- who binds has its entries
+pub stop_has_entries : (g : Grammar) (pattern : Ops) (argument : Forest) (log : Log) (s : Stop) → IfSome (reading_in s) (Binds g pattern argument log) → IfSome (reading_in s) (HasEntriesOf log)
+stop_has_entries g pattern argument log (told.OneReading h) b = has_entries log h b.2.0 b.2.1
+stop_has_entries g pattern argument log told.ManyReadings b = tt
+stop_has_entries g pattern argument log (told.Ambiguous p) b = tt
+stop_has_entries g pattern argument log (told.Stuck p) b = tt
 
 -- ---- the first place, and the stack of each
 

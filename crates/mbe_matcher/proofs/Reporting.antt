@@ -1,6 +1,6 @@
 -- What is reported stays in a later log.
 use Rattle.std.proofs.Common.{Option, Some, None, List, [], ◌∷◌}
-use Rattle.mbe_semantics.specs.Bindings.Account.{Commands, Log, Handle, IsLive}
+use Rattle.mbe_semantics.specs.Bindings.Account.{Commands, Log, Handle, HasEntriesOf}
 use Rattle.mbe_log.specs.Accounts.{Every}
 use Rattle.mbe_log.specs.Shared.{IsKept}
 use Rattle.mbe_log.proofs.ClientLemmas as client
@@ -14,10 +14,10 @@ report_keeps {A} old new r k h = go r.last h
   where
     go : (l : Option (Last A)) → IsLast old l → IsLast new l
     go None e = tt
-    go (Some l) e = k.stays l.handle e
+    go (Some l) e = k.entries l.handle e
 
--- who has an account is live
-pub ends_live : (log : Log) (hs : List Handle) (cs : List Commands) → Each (Holds log) hs cs → Every (IsLive log) hs
-ends_live log [] cs e = tt
-ends_live log (h ∷ hs) [] e = absurd e
-ends_live log (h ∷ hs) (c ∷ cs) e = (client.live log h e.0.0 e.0.1, ends_live log hs cs e.1)
+-- who has an account has its entries
+pub ends_have_entries : (log : Log) (hs : List Handle) (cs : List Commands) → Each (Holds log) hs cs → Every (HasEntriesOf log) hs
+ends_have_entries log [] cs e = tt
+ends_have_entries log (h ∷ hs) [] e = absurd e
+ends_have_entries log (h ∷ hs) (c ∷ cs) e = (client.has_entries log h e.0.0 e.0.1, ends_have_entries log hs cs e.1)

@@ -2,7 +2,7 @@
 use Rattle.std.proofs.Common.{◌≡◌, List, [], ◌∷◌, ◌++◌, refl, sym, ap, subst, ◌∙◌}
 use Rattle.std.specs.Prelude.{⊤, Result, Ok, Err, OnOk}
 use Rattle.mbe_semantics.specs.Syntax.Op.{Name, Op, Ops, no_ops, op, names_of_op, names_of}
-use Rattle.mbe_semantics.specs.Bindings.Account.{Commands, command, Command, Account, Log, Handle, IsAccount, IsLive, skip_commands, pushed}
+use Rattle.mbe_semantics.specs.Bindings.Account.{Commands, command, Command, Account, Log, Handle, IsAccount, HasEntriesOf, skip_commands, pushed}
 use Rattle.mbe_semantics.specs.Matching.Outline.{skipped}
 use Rattle.mbe_log.specs.Shared.{IsKept, IsChanged}
 use Rattle.mbe_log.proofs.ClientLemmas.{kept-on}
@@ -18,17 +18,17 @@ skipped_first o os a = ap (λ (cs : Commands). record { finished = a.finished; c
 
 -- Some of the ops are skipped: whoever skips the others too has skipped all.
 pub record SkipsUpTo (old new : Log) (before after : Handle) (all left : Ops) : Type 0 where
-  pub live : IsLive new after
+  pub entries : HasEntriesOf new after
   pub account : (a : Account) → IsAccount old before a → (b : Account) × IsAccount new after b × (skipped (names_of left) b ≡ skipped (names_of all) a)
   pub kept : IsKept old new
 
-pub skips_none : (log : Log) (h : Handle) (all : Ops) → IsLive log h → SkipsUpTo log log h h all all
-skips_none log h all l = record { live = l; account = λ a i. (a, i, refl); kept = kept_not log }
+pub skips_none : (log : Log) (h : Handle) (all : Ops) → HasEntriesOf log h → SkipsUpTo log log h h all all
+skips_none log h all l = record { entries = l; account = λ a i. (a, i, refl); kept = kept_not log }
 
 pub skips_one : (old mid new : Log) (before between after : Handle) (all left rest : Ops) (o : Op) → left ≡ op o rest → SkipsUpTo old mid before between all left →
     IsRewritten mid new between after (skipped (names_of_op o)) → SkipsUpTo old new before after all rest
 skips_one old mid new before between after all left rest o e s r = record {
-  live = r.live;
+  entries = r.entries;
   account = λ a i. go a (s.account a i);
   kept = kept-on old mid new s.kept r.kept;
 }
@@ -39,19 +39,19 @@ skips_one old mid new before between after all left rest o e s r = record {
 
 pub skips_all : (old new : Log) (before after : Handle) (all left : Ops) → left ≡ no_ops → SkipsUpTo old new before after all left →
     IsRewritten old new before after (skipped (names_of all))
-skips_all old new before after all left e s = record { live = s.live; account = λ a i. go a (s.account a i); kept = s.kept }
+skips_all old new before after all left e s = record { entries = s.entries; account = λ a i. go a (s.account a i); kept = s.kept }
   where
     go : (a : Account) → (b : Account) × IsAccount new after b × (skipped (names_of left) b ≡ skipped (names_of all) a) → IsAccount new after (skipped (names_of all) a)
     go a (b, i, h) = subst (IsAccount new after) (ap (λ os. skipped (names_of os) b) (sym e) ∙ h) i
 
 -- nothing is skipped
-pub rewritten_not : (log : Log) (h : Handle) → IsLive log h → IsRewritten log log h h (skipped [])
-rewritten_not log h l = record { live = l; account = λ a i. i; kept = kept_not log }
+pub rewritten_not : (log : Log) (h : Handle) → HasEntriesOf log h → IsRewritten log log h h (skipped [])
+rewritten_not log h l = record { entries = l; account = λ a i. i; kept = kept_not log }
 
 -- one name is skipped
 pub rewritten_by : (old new : Log) (before after : Handle) (name : Name) → IsChanged old new before after (pushed (Command.skips name)) →
     IsRewritten old new before after (skipped (name ∷ []))
-rewritten_by old new before after name c = record { live = c.live; account = c.account; kept = c.kept }
+rewritten_by old new before after name c = record { entries = c.entries; account = c.account; kept = c.kept }
 
 pub rewritten_ok : {E : Type 0} (r : Result ⊤ E) (old new : Log) (before after : Handle) (name : Name) → OnOk r (IsChanged old new before after (pushed (Command.skips name))) →
     OnOk r (IsRewritten old new before after (skipped (name ∷ [])))

@@ -20,7 +20,7 @@ use Rattle.mbe_semantics.specs.Readings.Input.{Input, input_of, length_of, fragm
 use Rattle.mbe_semantics.specs.Readings.Steps.{if_none, skip_of, again_of}
 use Rattle.mbe_semantics.proofs.InputLemmas.{length_from}
 use Rattle.mbe_semantics.proofs.MoveLemmas.{separator_moves}
-use Rattle.mbe_semantics.specs.Bindings.Account.{Account, no_account, Command, pushed, pushed_default, pushed_nested, Log, Handle, IsAccount, IsLive}
+use Rattle.mbe_semantics.specs.Bindings.Account.{Account, no_account, Command, pushed, pushed_default, pushed_nested, Log, Handle, IsAccount, HasEntriesOf}
 use Rattle.mbe_semantics.specs.Matching.Dots.{op_dots, dots, edges_behind}
 use Rattle.mbe_semantics.specs.Matching.Outline.{Edge, gate, edge, Outline, outline, advance, skipped, empty_by, over_advance, empty_bound, bound_advance, if_some_advance, round_advance, when_advance}
 use Rattle.mbe_log.specs.Shared.{IsKept, IsChanged}
@@ -62,8 +62,8 @@ module _ {A : Type 0} (log : Log) (outers : List (Outer A)) where
   as_outline P p os (outline rest a up) s e f =
       subst (λ x. P (outline x a up)) (sym e ∙ s.dot) (f a up (subst (λ x. Stands log outers p x a up) (sym s.dot ∙ e) s))
 
-  pub is_live : (p : Position A) → IsPosition log outers p → IsLive log p.handle
-  is_live p (outline rest a up, s) = client.live log p.handle a s.account
+  pub has_entries : (p : Position A) → IsPosition log outers p → HasEntriesOf log p.handle
+  has_entries p (outline rest a up, s) = client.has_entries log p.handle a s.account
 
   pub has_account : (p : Position A) → IsPosition log outers p → (a : Account) × IsAccount log p.handle a
   has_account p (outline rest a up, s) = (a, s.account)
@@ -244,9 +244,9 @@ module _ {A : Type 0} (log : Log) (outers : List (Outer A)) where
   pub has_within : (p : Position A) (n : ℕ) → IsPosition log outers p → p.up ≡ Some n → n < length outers
   has_within p n (outline rest a up, s) e = is_within p.up up n s.around e
 
-  pub outside_live : (p : Position A) (n : ℕ) (o : Outer A) (r : Rounds A) → IsPosition log outers p → p.up ≡ Some n → slice_get outers n ≡ Some o → o.rounds ≡ Some r → IsLive log r.outside
-  outside_live p n o r (outline rest a up, s) e at is =
-      let w = in_rounds p.up up n o r s.around e at is in client.live log r.outside w.outside w.rounds.account
+  pub outside_has_entries : (p : Position A) (n : ℕ) (o : Outer A) (r : Rounds A) → IsPosition log outers p → p.up ≡ Some n → slice_get outers n ≡ Some o → o.rounds ≡ Some r → HasEntriesOf log r.outside
+  outside_has_entries p n o r (outline rest a up, s) e at is =
+      let w = in_rounds p.up up n o r s.around e at is in client.has_entries log r.outside w.outside w.rounds.account
 
 -- one outer item more
 pub last_outer : {A : Type 0} (outers all : List (Outer A)) (o : Outer A) (n : ℕ) → all ≡ outers ++ o ∷ [] → n ≡ length outers → slice_get all n ≡ Some o

@@ -35,7 +35,7 @@ ghost use Rattle.std.specs.Prelude.{◌≡◌, ◌↔◌, IsNone, IsSome, IfOk, 
 ghost use Rattle.mbe_tt.specs.Views.View.{trees};
 ghost use Rattle.mbe_semantics.specs.Syntax.Nullable.{Checked};
 ghost use Rattle.mbe_semantics.specs.Readings.Verdict.{IsVerdict, unmatched, one_reading};
-ghost use Rattle.mbe_semantics.specs.Bindings.Account.{Log, IsLive};
+ghost use Rattle.mbe_semantics.specs.Bindings.Account.{Log, HasEntriesOf};
 ghost use Rattle.mbe_errors.specs.ErrorViews.{errors_of};
 ghost use Rattle.mbe_log.specs.Shared.{IsKept};
 ghost use Rattle.mbe_ops.specs.Views.{template_of};
@@ -95,7 +95,7 @@ pub fn match_argument<'a, A: Allocator + Copy, G: FragmentGrammar>(
     ensures binds { IfOk result (λ m. verdict_seen m.verdict ≡ one_reading
         → Binds (G.grammar grammar.now) (template_of pattern.now) (trees argument.entry)
         log.new m.bindings) }
-    ensures live { IfOk result (λ m. IsLive log.new m.bindings) }
+    ensures entries { IfOk result (λ m. HasEntriesOf log.new m.bindings) }
     ensures err { IfOk result (λ m. IsNone (errors_of m.err)
         ↔ (verdict_seen m.verdict ≡ one_reading)) }
     ensures kept { OnOk result (IsKept log.old log.new) }
@@ -144,7 +144,7 @@ fn failed<'a, A: Allocator + Copy, G: FragmentGrammar>(
     requires { IsReport log.old reached.report }
     ensures verdict { IfOk result (λ m. verdict_seen m.verdict ≡ verdict_in reached.entry.stop) }
     ensures unmatched { IfOk result (λ m. m.unmatched ≡ reached.entry.unmatched) }
-    ensures live { IfOk result (λ m. IsLive log.new m.bindings) }
+    ensures entries { IfOk result (λ m. HasEntriesOf log.new m.bindings) }
     ensures err { IfOk result (λ m. IsSome (errors_of m.err)) }
     ensures kept { (first : Log) → IsKept first log.old → OnOk result (IsKept first log.new) }
 {

@@ -4,7 +4,7 @@ ghost use Rattle.mbe_tt.specs.Trees.Tree.{flat_len, rest_at};
 ghost use Rattle.mbe_tt.specs.Views.View.{trees};
 ghost use Rattle.mbe_semantics.specs.Syntax.Nullable.{Checked};
 ghost use Rattle.mbe_semantics.specs.Readings.Verdict.{IsVerdict, unmatched};
-ghost use Rattle.mbe_semantics.specs.Bindings.Account.{IsLive};
+ghost use Rattle.mbe_semantics.specs.Bindings.Account.{HasEntriesOf};
 ghost use Rattle.mbe_semantics.specs.Matching.Dots.{dots};
 ghost use Rattle.mbe_log.specs.Shared.{IsKept};
 ghost use Rattle.mbe_ops.specs.Views.{template_of};
@@ -172,7 +172,7 @@ pub(crate) fn reach<'a, A: Allocator + Copy, G: FragmentGrammar>(
         ≡ unmatched (trees argument.entry) (verdict_in r.stop)) }
     ensures binds { IfOk result (λ r. IfSome (reading_in r.stop)
         (Binds (G.grammar grammar.now) (template_of pattern.now) (trees argument.entry) log.new)) }
-    ensures live { IfOk result (λ r. IfSome (reading_in r.stop) (IsLive log.new)) }
+    ensures entries { IfOk result (λ r. IfSome (reading_in r.stop) (HasEntriesOf log.new)) }
     ensures kept { OnOk result (IsKept log.old log.new) }
     ensures report { IfOk result (λ r. IsReport log.new r.report) }
 {

@@ -3,7 +3,7 @@
 ghost use Rattle.std.specs.Prelude.{◌≡◌, [], ◌++◌, IfOk, IfSome, OnOk, Some, option_map};
 ghost use Rattle.std.specs.String.{string_bytes};
 ghost use Rattle.mbe_tt.specs.declared.span.Span.{Span};
-ghost use Rattle.mbe_semantics.specs.Bindings.Account.{Account, IsAccount, IsLive, pushed};
+ghost use Rattle.mbe_semantics.specs.Bindings.Account.{Account, IsAccount, HasEntriesOf, pushed};
 ghost use Rattle.mbe_semantics.specs.Expansion.Failing.{noted, unlike, unlike_puncts, puncts_text, entry_of, kind_text, is_refused, failing_front, failing_variable, failing, bound_if_some, bad_front, failing_command};
 ghost use Rattle.mbe_errors.specs.ErrorViews.{error_of, errors_of, kind_of};
 ghost use Rattle.mbe_ops.specs.Views.{op_of};
@@ -178,7 +178,7 @@ pub(crate) fn bind_failing<'a, A: Allocator + Copy, G: FragmentGrammar>(
     kind: MetaVarKind,
     here: &TtIter<'a, A>,
 ) -> Result<(), AllocError>
-    requires { IsLive log.old handle.old }
+    requires { HasEntriesOf log.old handle.old }
     ensures { OnOk result (IsRewritten log.old log.new handle.old handle.new
         (pushed (failing_command (G.grammar grammar.now) name.now kind here.now))) }
 {
@@ -254,7 +254,7 @@ impl<'a, A: Allocator> Report<'a, A> {
         handle: Handle,
         has_step: bool,
     )
-        ensures { (log : Log) → IsLive log handle → IsReport log self.old → IsReport log self.new }
+        ensures { (log : Log) → HasEntriesOf log handle → IsReport log self.old → IsReport log self.new }
     {
         let Some((op, _rest)) = dot.split_first() else {
             return;
@@ -278,7 +278,7 @@ impl<'a, A: Allocator> Report<'a, A> {
 
     // All positions of the place were looked at. Those at the pattern's end have bound this.
     pub(crate) fn after_place(&mut self, ends: &[Handle])
-        ensures { (log : Log) → Every (IsLive log) ends.now → IsReport log self.old
+        ensures { (log : Log) → Every (HasEntriesOf log) ends.now → IsReport log self.old
             → IsReport log self.new }
     {
         if let Some(end) = ends.first()
@@ -325,7 +325,7 @@ impl<'a, A: Allocator + Copy> Report<'a, A> {
         log: &mut BindingLog<'a, A>,
     ) -> Result<Handle, AllocError>
         requires { IsReport log.old self }
-        ensures live { IfOk result (λ h. IsLive log.new h) }
+        ensures entries { IfOk result (λ h. HasEntriesOf log.new h) }
         ensures kept { OnOk result (IsKept log.old log.new) }
     {
         let Some(last) = self.last else {

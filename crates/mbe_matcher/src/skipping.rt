@@ -1,6 +1,6 @@
 // What a repetition without rounds leaves: its names bound to nothing, and its dots skipped.
 ghost use Rattle.std.specs.Prelude.{◌≡◌, OnOk, IfSome};
-ghost use Rattle.mbe_semantics.specs.Bindings.Account.{IsLive};
+ghost use Rattle.mbe_semantics.specs.Bindings.Account.{HasEntriesOf};
 ghost use Rattle.mbe_semantics.specs.Syntax.Op.{names_of, names_of_op};
 ghost use Rattle.mbe_semantics.specs.Matching.Dots.{dots, op_dots};
 ghost use Rattle.mbe_semantics.specs.Matching.Outline.{skipped};
@@ -18,7 +18,7 @@ pub(crate) fn skip_names<A: Allocator + Copy>(
     ops: &[Op<A>],
     handle: &mut Handle,
 ) -> Result<(), AllocError>
-    requires { IsLive log.old handle.old }
+    requires { HasEntriesOf log.old handle.old }
     ensures { OnOk result (IsRewritten log.old log.new handle.old handle.new
         (skipped (names_of (ops_of ops.now)))) }
 {
@@ -35,7 +35,7 @@ fn skip_op<A: Allocator + Copy>(
     op: &Op<A>,
     handle: &mut Handle,
 ) -> Result<(), AllocError>
-    requires { IsLive log.old handle.old }
+    requires { HasEntriesOf log.old handle.old }
     ensures { OnOk result (IsRewritten log.old log.new handle.old handle.new
         (skipped (names_of_op (op_of op.now)))) }
 {

@@ -1,6 +1,6 @@
 // The steps of a position at one place.
 ghost use Rattle.std.specs.Prelude.{◌≡◌, ◌≤◌, ◌+◌, IfOk, Some, None, option_map};
-ghost use Rattle.mbe_semantics.specs.Bindings.Account.{Account, IsAccount, IsLive};
+ghost use Rattle.mbe_semantics.specs.Bindings.Account.{Account, IsAccount, HasEntriesOf};
 ghost use Rattle.mbe_semantics.specs.Syntax.Op.{op as op_then, group, variable, repetition, no_ops};
 ghost use Rattle.mbe_semantics.specs.Matching.Dots.{dots};
 ghost use Rattle.mbe_tt.specs.declared.span.Span.{Span};
@@ -204,7 +204,7 @@ fn variable_steps<'a, A: Allocator + Copy, G: FragmentGrammar>(
     rest: &'a [Op<A>],
     position: Position<'a, A>,
 ) -> Result<Steps<'a, A>, AllocError>
-    requires live { IsLive log.old position.handle }
+    requires entries { HasEntriesOf log.old position.handle }
     requires dot { (span : Span) × (ops_of position.dot.now
         ≡ op_then (variable name.now kind span) (ops_of rest.now)) }
     requires number { 1 ≤ position.number }
@@ -236,7 +236,7 @@ fn repetition_steps<'a, A: Allocator + Copy>(
     rest: &'a [Op<A>],
     position: Position<'a, A>,
 ) -> Result<Steps<'a, A>, AllocError>
-    requires live { IsLive log.old position.handle }
+    requires entries { HasEntriesOf log.old position.handle }
     requires dot { ops_of position.dot.now ≡ op_then (repetition (ops_of body.now)
         (option_map (λ s. separator_seen s.now) separator) kind) (ops_of rest.now) }
     requires number { 1 + dots (ops_of body.now) ≤ position.number }
@@ -275,7 +275,7 @@ fn skipped<'a, A: Allocator + Copy>(
     rest: &'a [Op<A>],
     before: &Position<'a, A>,
 ) -> Result<Option<Position<'a, A>>, AllocError>
-    requires live { IsLive log.old before.now.handle }
+    requires entries { HasEntriesOf log.old before.now.handle }
     requires number { 1 + dots (ops_of body.now) ≤ before.now.number }
     ensures { IfOk result (IsSkip kind (ops_of body.now) (ops_of rest.now)
         log.old log.new before.now) }
@@ -341,7 +341,7 @@ fn round_steps<'a, A: Allocator + Copy>(
     position: Position<'a, A>,
 ) -> Result<Steps<'a, A>, AllocError>
     requires account { (a : Account) × IsAccount log.old position.handle a }
-    requires outside { IsLive log.old rounds.now.outside }
+    requires outside { HasEntriesOf log.old rounds.now.outside }
     requires dot { ops_of position.dot.now ≡ no_ops }
     requires number { 1 ≤ position.number }
     ensures { GivesRoundSteps source.now log.old log.new

@@ -163,7 +163,7 @@ fn is_bound(
     let Some(handle) = book.handles.get(row.handle) else {
         return Ok(false);
     };
-    if !book.log.is_live(handle) || book.log.entries_of(handle) != row.entries {
+    if !book.log.has_entries_of(handle) || book.log.entries_of(handle) != row.entries {
         return Ok(false);
     }
     Ok(built(alloc, &book.log, handle, names)?.as_str() == row.binds)
@@ -192,7 +192,7 @@ fn push_all(
     names: &[Symbol],
 ) -> Result<bool, AllocError> {
     for name in names {
-        if !log.is_live(handle) {
+        if !log.has_entries_of(handle) {
             return Ok(false);
         }
         log.push_optional(handle, name)?;
@@ -202,7 +202,7 @@ fn push_all(
 
 // Whether the handle is live, and how many names it binds then.
 fn binds(log: &BindingLog<'_>, handle: &Handle, count: usize) -> Result<bool, AllocError> {
-    if !log.is_live(handle) {
+    if !log.has_entries_of(handle) {
         return Ok(false);
     }
     Ok(log.build(handle)?.len() == count)
@@ -210,14 +210,14 @@ fn binds(log: &BindingLog<'_>, handle: &Handle, count: usize) -> Result<bool, Al
 
 // Whether the handle is live, and has few entries.
 fn is_short(log: &BindingLog<'_>, handle: &Handle) -> bool {
-    log.is_live(handle) && matches!(log.entries_of(handle), (0..=3, 0..=3))
+    log.has_entries_of(handle) && matches!(log.entries_of(handle), (0..=3, 0..=3))
 }
 
 // Whether a handle of the first thousand names has a short copy, which doesn't see what is pushed after it.
 fn is_copied(log: &mut BindingLog<'_>, names: &[Symbol]) -> Result<bool, AllocError> {
     let (front, last) = names.split_at(names.len().min(1_000));
     let mut handle = log.alloc()?;
-    if !push_all(log, &mut handle, front)? || !log.is_live(&handle) {
+    if !push_all(log, &mut handle, front)? || !log.has_entries_of(&handle) {
         return Ok(false);
     }
     let copy = log.copy(&handle)?;

@@ -173,9 +173,13 @@ pub record Handle : Type 0 where
 abbrev pub IsIn : {E : Type 0} → List (List E) → Part → Type 0
 IsIn {E} lists part = (es : List E) × (slice_get lists part.list ≡ Some es) × (part.first ≤ length es)
 
--- both its parts are in the log
+-- both its lists are in the log
 abbrev pub IsLive : Log → Handle → Type 0
-IsLive log h = IsIn log.commands h.current × IsIn log.rounds h.finished
+IsLive log h = (h.current.list < length log.commands) × (h.finished.list < length log.rounds)
+
+-- both its lists are in the log, with as many entries as the handle says
+abbrev pub HasEntriesOf : Log → Handle → Type 0
+HasEntriesOf log h = IsIn log.commands h.current × IsIn log.rounds h.finished
 
 -- two handles have no list in common
 abbrev pub AreApart : Handle → Handle → Type 0

@@ -28,7 +28,7 @@ use Rattle.mbe_semantics.specs.Bindings.Environment.{Value, fragment, Environmen
 use Rattle.mbe_semantics.specs.Writing.Rounds.{Path, rounds_of, kept_rounds, finite, followed, level}
 use Rattle.mbe_semantics.specs.Writing.Substitution.{faults, op_faults, separator_trees, AreRounds, Writes, Substitutes}
 use Rattle.mbe_semantics.specs.Expansion.Expansion.{IsExpansion}
-use Rattle.mbe_semantics.specs.Bindings.Account.{Commands, CommandRounds, Account, Entry, RoundEntry, Log, Order, Handle, IsLive, Gives, GivesRounds, IsOrdered, IsAccount, run, commands_of}
+use Rattle.mbe_semantics.specs.Bindings.Account.{Commands, CommandRounds, Account, Entry, RoundEntry, Log, Order, Handle, HasEntriesOf, Gives, GivesRounds, IsOrdered, IsAccount, run, commands_of}
 
 -- two readings of a pattern without a repetition are equal
 abbrev pub OneReading : Type 0
@@ -286,9 +286,9 @@ abbrev pub CommandsBindAlike : Type 0
 CommandsBindAlike = (g : Grammar) (pattern : Ops) (argument : Forest) (is : Items) → IsReading g pattern argument is →
     run (commands_of is) [] ≡ environment_of is
 
--- where each entry stands for earlier ones alone, each live handle has an account
+-- where each entry stands for earlier ones alone, a handle whose entries are there has an account
 abbrev pub LiveHaveAccounts : Type 0
-LiveHaveAccounts = (log : Log) (order : Order) (h : Handle) → IsOrdered log order → IsLive log h → (a : Account) × IsAccount log h a
+LiveHaveAccounts = (log : Log) (order : Order) (h : Handle) → IsOrdered log order → HasEntriesOf log h → (a : Account) × IsAccount log h a
 
 -- the account of a handle is one
 abbrev pub OneAccount : Type 0

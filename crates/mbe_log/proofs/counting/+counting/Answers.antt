@@ -1,4 +1,4 @@
-use Rattle.std.proofs.Common.{◌≡◌, ℕ, ◌+◌, ◌≤◌, min, ap, sym, ◌∙◌, rules, arith, refl, drop}
+use Rattle.std.proofs.Common.{◌≡◌, ℕ, ◌+◌, min, ap, sym, ◌∙◌, arith, drop}
 use Rattle.std.proofs.Math.Nat.{min-eq_left}
 use Rattle.mbe_semantics.specs.Bindings.Environment.{binding_count, binding_counts}
 use Rattle.mbe_log.specs.BindingViews.{value_seen, values_seen}

@@ -3,13 +3,13 @@ use Rattle.mbe_log.proofs.ClientLemmas.{all_accounts, kept-on}
 use Rattle.mbe_log_tests.proofs.uses.split.Goals as goal
 
 pub push_empty-requires-2 : goal.push_empty-requires-2
-push_empty-requires-2 g c = c.in_ok-second.ensures.given.kept.stays c.push_empty.new.handle c.in_ok-push_empty.ensures.ok.live
+push_empty-requires-2 g c = c.in_ok-second.ensures.given.kept.entries c.push_empty.new.handle c.in_ok-push_empty.ensures.ok.entries
 
 pub push_optional-requires : goal.push_optional-requires
-push_optional-requires g c = c.in_ok-push_empty-2.ensures.ok.kept.stays c.in_ok-second.second c.in_ok-second.ensures.given.live
+push_optional-requires g c = c.in_ok-push_empty-2.ensures.ok.kept.entries c.in_ok-second.second c.in_ok-second.ensures.given.entries
 
 pub push_nested-requires-clause-child : goal.push_nested-requires-clause-child
-push_nested-requires-clause-child g c = c.in_ok-outer.ensures.given.kept.stays c.push_optional.new.handle c.in_ok-push_optional.ensures.ok.live
+push_nested-requires-clause-child g c = c.in_ok-outer.ensures.given.kept.entries c.push_optional.new.handle c.in_ok-push_optional.ensures.ok.entries
 
 pub push_empty-requires-3 : goal.push_empty-requires-3
 push_empty-requires-3 g c =
@@ -19,7 +19,7 @@ push_empty-requires-3 g c =
     (c.in_ok-second.ensures.account one (c.in_ok-push_empty.ensures.ok.account no_account c.in_ok-first.ensures.account)) in
     let second6 = c.in_ok-outer.ensures.given.kept.others c.push_optional.new.handle three (c.in_ok-push_optional.ensures.ok.account one second4) in
     let nested = c.in_ok-push_nested.ensures.ok three second6 in
-    nested.kept.stays c.push_optional.new.handle (c.in_ok-outer.ensures.given.kept.stays c.push_optional.new.handle c.in_ok-push_optional.ensures.ok.live)
+    nested.kept.entries c.push_optional.new.handle (c.in_ok-outer.ensures.given.kept.entries c.push_optional.new.handle c.in_ok-push_optional.ensures.ok.entries)
 
 pub build-requires : goal.build-requires
 build-requires g c =
@@ -29,7 +29,7 @@ build-requires g c =
     (c.in_ok-second.ensures.account one (c.in_ok-push_empty.ensures.ok.account no_account c.in_ok-first.ensures.account)) in
     let second6 = c.in_ok-outer.ensures.given.kept.others c.push_optional.new.handle three (c.in_ok-push_optional.ensures.ok.account one second4) in
     let nested = c.in_ok-push_nested.ensures.ok three second6 in
-    c.in_ok-push_empty-3.ensures.ok.kept.stays c.push_nested.new.parent nested.live
+    c.in_ok-push_empty-3.ensures.ok.kept.entries c.push_nested.new.parent nested.entries
 
 pub returns-clause-binds : goal.returns-clause-binds
 returns-clause-binds g c =

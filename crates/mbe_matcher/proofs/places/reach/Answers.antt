@@ -16,7 +16,7 @@ use Rattle.mbe_bounds.proofs.Loop.TurnedPlaces.{ComesTo}
 use Rattle.mbe_matcher.specs.declared.position.Waiting.{Waiting}
 use Rattle.mbe_matcher.specs.Positions.{Each, Shows, IsLeft}
 use Rattle.mbe_matcher.specs.Matched.{position_after, stop_at, verdict_in, reading_in, Binds}
-use Rattle.mbe_matcher.proofs.MatchEnds.{right_stop, stop_place, binds_stop, next, live_stop, come_first, stack_of, shown_after}
+use Rattle.mbe_matcher.proofs.MatchEnds.{right_stop, stop_place, binds_stop, next, stop_has_entries, come_first, stack_of, shown_after}
 use Rattle.mbe_matcher.proofs.places.reach.Goals as goal
 
 pub at_start-requires : goal.at_start-requires
@@ -127,8 +127,8 @@ returns-in-Some-clause-binds g c =
     let b = binds_stop h pat (trees s.whole) w c.requires s.place inv.comes.0 come s.within log outers ws hs st c.in-Some.stop e only in
     subst (λ x. IfSome (reading_in c.in-Some.stop) (Binds h pat (trees x) log)) inv.whole b
 
-pub returns-in-Some-clause-live : goal.returns-in-Some-clause-live
-returns-in-Some-clause-live g c =
+pub returns-in-Some-clause-entries : goal.returns-in-Some-clause-entries
+returns-in-Some-clause-entries g c =
     let h = g.G.FragmentGrammar.grammar c.args.grammar.now in
     let s = c.loop-source.source in
     let i = input_of h (trees s.whole) in
@@ -150,7 +150,7 @@ returns-in-Some-clause-live g c =
     c.in-Some.ensures.stop ∙ ap (λ l. stop_at s.place len l c.deref-in-loop-source-2.result.now) waits ∙ ap (stop_at s.place len ws) ends in
     let only = subst (λ l. IfSome (reading_in c.in-Some.stop) (λ h. l ≡ h ∷ [])) ends c.in-Some.ensures.reading in
     let b = binds_stop h pat (trees s.whole) w c.requires s.place inv.comes.0 come s.within log outers ws hs st c.in-Some.stop e only in
-    live_stop h pat (trees s.whole) log c.in-Some.stop b
+    stop_has_entries h pat (trees s.whole) log c.in-Some.stop b
 
 pub returns-in-Some-clause-kept : goal.returns-in-Some-clause-kept
 returns-in-Some-clause-kept g c = kept-on c.args.log.now c.loop-source.log c.settle.new.log c.loop-source.invariant.kept c.in_ok-settle.ensures.kept.log

@@ -10,9 +10,9 @@ use Rattle.mbe_matcher.specs.Counts.{AreCounted, vacancies}
 use Rattle.mbe_matcher.proofs.Counting.{vacancies_most}
 use Rattle.mbe_matcher.proofs.Keeping.{keeps_not, keeps_on}
 use Rattle.mbe_matcher.proofs.Settling.{walked_start, popped_shown, popped_number, walked_drop, walked_take, walked_end, steps_few, few_on, stack_falls, nothing}
-use Rattle.mbe_semantics.specs.Bindings.Account.{IsLive}
-use Rattle.mbe_matcher.proofs.StepLemmas.{is_live}
-use Rattle.mbe_matcher.proofs.Reporting.{report_keeps, ends_live}
+use Rattle.mbe_semantics.specs.Bindings.Account.{HasEntriesOf}
+use Rattle.mbe_matcher.proofs.StepLemmas.{has_entries}
+use Rattle.mbe_matcher.proofs.Reporting.{report_keeps, ends_have_entries}
 use Rattle.mbe_matcher.proofs.settle.settle.Goals as goal
 
 pub loop-position-init : goal.loop-position-init
@@ -121,8 +121,8 @@ loop-position-preserved g c =
     let is = popped_shown i st.pattern (trees s.whole) s.place (kept i (dots st.pattern) s.place (reverse st.spots)) met c.loop-position.log c.loop-position.state.outers.items c.pop.new.self.items
     c.loop-position.todo.items c.in-Some.position c.loop-position.settled.waiting.items c.loop-position.settled.ends.items c.in-Some.ensures.items (inv.walked.2 st) in
     let keeping = (c.in_ok-found.ensures is.0 is.1).kept in
-    let live = is_live c.loop-position.log c.loop-position.state.outers.items c.in-Some.position is in
-    let held : IsLive c.steps.new.log c.again-handle.result = rw c.again-handle.ensures (keeping.log.stays c.in-Some.position.handle live) in
+    let there = has_entries c.loop-position.log c.loop-position.state.outers.items c.in-Some.position is in
+    let held : HasEntriesOf c.steps.new.log c.again-handle.result = rw c.again-handle.ensures (keeping.log.entries c.in-Some.position.handle there) in
     record {
       report = λ r. c.looked_at.ensures c.steps.new.log held (report_keeps c.loop-position.log c.steps.new.log c.loop-position.state.report keeping.log (inv.report r));
       keeps = keeps_on c.args.log.now c.loop-position.log c.steps.new.log c.args.state.now.outers.items c.loop-position.state.outers.items c.steps.new.outers.items inv.keeps keeping;
@@ -159,4 +159,4 @@ returns-clause-report g c = λ r.
     let st = c.requires.stack in
     let all = walked_end i s.place (length c.args.state.now.counts.marks.items) c.args.log.now c.loop-position.log c.args.state.now.outers.items c.loop-position.state.outers.items (rest_at (trees s.whole) s.place)
     c.args.todo.now.items c.loop-position.todo.items inv.walked.0 c.loop-position.settled.waiting.items c.loop-position.settled.ends.items st (nothing c.loop-position.todo.items (omega (arith, c.in_default.ensures.cases.0, c.loop-position.todo.ok.0))) (inv.walked.2 st) in
-    c.after_place.ensures c.loop-position.log (rw c.deref.ensures.value (ends_live c.loop-position.log c.loop-position.settled.ends.items _ all.ended)) (inv.report r)
+    c.after_place.ensures c.loop-position.log (rw c.deref.ensures.value (ends_have_entries c.loop-position.log c.loop-position.settled.ends.items _ all.ended)) (inv.report r)

@@ -23,7 +23,7 @@ skip_op-skip_names-requires-in-Repeat g t c κs within =
 pub skip_names-skip_op-requires : goal.skip_names-skip_op-requires
 skip_names-skip_op-requires g t c κs within =
     let lighter = op_no_heavier c.args.ops.now c.loop-op.op-index c.op-item.result c.loop-op-test.true c.op-item.is in
-    (omega (arith, c.decreases, lighter), (within, c.loop-op.invariant.live))
+    (omega (arith, c.decreases, lighter), (within, c.loop-op.invariant.entries))
 
 pub skip_op-returns-in-Subtree : goal.skip_op-returns-in-Subtree
 skip_op-returns-in-Subtree g t c = rw (c.in-Subtree.is, view-subtree) (rw c.deref.ensures.value at c.skip_names.ensures)
@@ -35,7 +35,7 @@ pub skip_op-returns-in-Var : goal.skip_op-returns-in-Var
 skip_op-returns-in-Var g t c = rw (c.in-Var.is, view-var) (rewritten_ok c.push_empty.result _ _ _ _ _ c.push_empty.ensures.ok)
 
 pub skip_names-loop-op-init : goal.skip_names-loop-op-init
-skip_names-loop-op-init g t c = record { live = c.requires; so_far = skips_none _ _ _ c.requires }
+skip_names-loop-op-init g t c = record { entries = c.requires; so_far = skips_none _ _ _ c.requires }
 
 pub skip_names-loop-op-preserved : goal.skip_names-loop-op-preserved
 skip_names-loop-op-preserved g t c =
@@ -44,7 +44,7 @@ skip_names-loop-op-preserved g t c =
     let next = drop_more c.args.ops.now i c.op-item.result c.loop-op-test.true in
     let split : drop i c.args.ops.now ≡ c.op-item.result ∷ left = next ∙ ap (λ x. x ∷ left) (sym c.op-item.is) in
     let more = skips_one _ _ _ _ _ _ _ _ (ops_of left) (op_of c.op-item.result) (ap ops_of split) c.loop-op.invariant.so_far c.in_ok-skip_op.ensures in
-    record { live = more.live; so_far = more }
+    record { entries = more.entries; so_far = more }
 
 pub skip_names-returns : goal.skip_names-returns
 skip_names-returns g t c =

@@ -1,5 +1,5 @@
 use Rattle.std.proofs.Common.{◌+◌, ◌*◌, drop}
-use Rattle.mbe_semantics.specs.Bindings.Account.{IsLive}
+use Rattle.mbe_semantics.specs.Bindings.Account.{HasEntriesOf}
 use Rattle.mbe_ops.specs.Views.{op_of, ops_of}
 use Rattle.mbe_ops.proofs.EqualityLemmas.{op_weight, ops_weight}
 use Rattle.mbe_matcher.proofs.SkipLemmas.{SkipsUpTo}
@@ -7,7 +7,7 @@ use Rattle.mbe_matcher.proofs.skipping.+skipping.Given as goal
 
 abbrev pub invariant-skip_names-loop-op : goal.invariant-skip_names-loop-op
 invariant-skip_names-loop-op g l = record {
-  live : IsLive l.log l.handle;
+  entries : HasEntriesOf l.log l.handle;
   so_far : SkipsUpTo l.fn.log l.log l.fn.handle l.handle (ops_of l.fn.ops) (ops_of (drop l.op-index l.ops));
 }
 

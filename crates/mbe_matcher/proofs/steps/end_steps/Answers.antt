@@ -8,7 +8,7 @@ use Rattle.mbe_matcher.specs.declared.position.Position.{Position}
 use Rattle.mbe_matcher.specs.declared.position.Steps.{Steps}
 use Rattle.mbe_matcher.specs.Positions.{AreSteps, over_steps}
 use Rattle.mbe_matcher.proofs.Keeping.{keeps_not}
-use Rattle.mbe_matcher.proofs.StepLemmas.{as_outline, none_steps, all_read, not_closed, closed, has_account, has_number, has_within, outside_live, in_group}
+use Rattle.mbe_matcher.proofs.StepLemmas.{as_outline, none_steps, all_read, not_closed, closed, has_account, has_number, has_within, outside_has_entries, in_group}
 use Rattle.mbe_matcher.proofs.steps.end_steps.Goals as goal
 
 pub returns-in_default : goal.returns-in_default
@@ -37,7 +37,7 @@ round_steps-requires-clause-outside g c =
     let k = has_within c.args.log.now c.args.outers.now c.args.position c.in-Some.open c.requires.stands c.in-Some.is in
     let at : slice_get c.args.outers.now c.in-Some.open ≡ Some c.index-outers-open.result =
     slice_get-get_or c.args.outers.now c.in-Some.open c.index-outers-open.result k ∙ ap Some (sym c.index-outers-open.is) in
-    outside_live c.args.log.now c.args.outers.now c.args.position c.in-Some.open c.index-outers-open.result c.in-Some-rounds.rounds c.requires.stands c.in-Some.is at c.in-Some-rounds.is
+    outside_has_entries c.args.log.now c.args.outers.now c.args.position c.in-Some.open c.index-outers-open.result c.in-Some-rounds.rounds c.requires.stands c.in-Some.is at c.in-Some-rounds.is
 
 pub round_steps-requires-clause-number : goal.round_steps-requires-clause-number
 round_steps-requires-clause-number g c = has_number c.args.log.now c.args.outers.now c.args.position c.requires.stands

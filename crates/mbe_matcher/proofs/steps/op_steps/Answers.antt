@@ -4,11 +4,11 @@ use Rattle.mbe_ops.specs.Views.{op_of, ops_of, separator_seen}
 use Rattle.mbe_ops.proofs.OpViews.{view-var, view-subtree, view-repeat, view-literal, view-punct, view-ident, view-ignore, view-index, view-len, view-count, view-concat}
 use Rattle.mbe_matcher.specs.Positions.{IsPlain}
 use Rattle.mbe_matcher.proofs.Keeping.{keeps_not}
-use Rattle.mbe_matcher.proofs.StepLemmas.{is_live, has_number, has_more, separator_same}
+use Rattle.mbe_matcher.proofs.StepLemmas.{has_entries, has_number, has_more, separator_same}
 use Rattle.mbe_matcher.proofs.steps.op_steps.Goals as goal
 
-pub variable_steps-requires-clause-live : goal.variable_steps-requires-clause-live
-variable_steps-requires-clause-live g c = is_live c.args.log.now c.args.outers.now.items c.args.position c.requires.stands
+pub variable_steps-requires-clause-entries : goal.variable_steps-requires-clause-entries
+variable_steps-requires-clause-entries g c = has_entries c.args.log.now c.args.outers.now.items c.args.position c.requires.stands
 
 pub variable_steps-requires-clause-dot : goal.variable_steps-requires-clause-dot
 variable_steps-requires-clause-dot g c = (
@@ -28,8 +28,8 @@ group_steps-requires-clause-dot g c =
 pub group_steps-requires-clause-number : goal.group_steps-requires-clause-number
 group_steps-requires-clause-number g c = has_number c.args.log.now c.args.outers.now.items c.args.position c.requires.stands
 
-pub repetition_steps-requires-clause-live : goal.repetition_steps-requires-clause-live
-repetition_steps-requires-clause-live g c = is_live c.args.log.now c.args.outers.now.items c.args.position c.requires.stands
+pub repetition_steps-requires-clause-entries : goal.repetition_steps-requires-clause-entries
+repetition_steps-requires-clause-entries g c = has_entries c.args.log.now c.args.outers.now.items c.args.position c.requires.stands
 
 pub repetition_steps-requires-clause-dot : goal.repetition_steps-requires-clause-dot
 repetition_steps-requires-clause-dot g c =

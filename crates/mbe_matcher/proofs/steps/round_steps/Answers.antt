@@ -5,7 +5,7 @@ use Rattle.mbe_semantics.specs.Readings.Input.{input_of}
 use Rattle.mbe_matcher.specs.declared.position.Position.{Position}
 use Rattle.mbe_matcher.specs.declared.position.Steps.{Steps}
 use Rattle.mbe_matcher.specs.Positions.{AreSteps, over_steps}
-use Rattle.mbe_log.proofs.ClientLemmas.{live}
+use Rattle.mbe_log.proofs.ClientLemmas.{has_entries}
 use Rattle.mbe_matcher.proofs.StepLemmas.{as_outline, in_rounds, round_done, round_more}
 use Rattle.mbe_matcher.proofs.steps.round_steps.Goals as goal
 
@@ -13,7 +13,7 @@ pub push_nested-requires-clause-parent : goal.push_nested-requires-clause-parent
 push_nested-requires-clause-parent g c = rw c.again-outside.ensures c.requires.outside
 
 pub push_nested-requires-clause-child : goal.push_nested-requires-clause-child
-push_nested-requires-clause-child g c = let a = c.requires.account in live c.args.log.now c.args.position.handle a.0 a.1
+push_nested-requires-clause-child g c = let a = c.requires.account in has_entries c.args.log.now c.args.position.handle a.0 a.1
 
 pub returns-in_default : goal.returns-in_default
 returns-in_default g c = λ h outers at o s.
@@ -35,7 +35,7 @@ returns-in_default g c = λ h outers at o s.
 pub push_default-requires : goal.push_default-requires
 push_default-requires g c =
     let a = c.requires.account in
-    live c.push_nested.new.self c.args.position.handle a.0 ((c.in_ok-push_nested.ensures.ok a.0 a.1).kept.others c.args.position.handle a.0 a.1)
+    has_entries c.push_nested.new.self c.args.position.handle a.0 ((c.in_ok-push_nested.ensures.ok a.0 a.1).kept.others c.args.position.handle a.0 a.1)
 
 pub returns : goal.returns
 returns g c = λ h outers at o s.
