@@ -88,6 +88,24 @@ lint 'rule 0: stuck at 2' '((a b)) => {}' '(a c)'
 lint 'rule 0: ambiguous at 0' '($($a:ident)* $b:ident) => {}' 'x'
 lint '' '' 'a'
 
+# nest OPENING TEXT CLOSING: the text, a million levels deep.
+nest() {
+    yes "$1" | head -n 1000000 | tr -d '\n'
+    printf '%s' "$2"
+    yes "$3" | head -n 1000000 | tr -d '\n'
+}
+
+(printf '(' && nest '(' '$x:ident' ')' && printf ') => {}') >groups.def
+(printf '(' && nest '$(' '$x:ident' ')+' && printf ') => {}') >repetitions.def
+(printf '() => {' && nest '(' 'a' ')' && printf '}') >written-groups.def
+(printf '() => {' && nest '$(' '$x' ')*' && printf '}') >written-repetitions.def
+nest '(' 'a' ')' >groups.arg
+for definition in groups repetitions written-groups written-repetitions; do
+    check 5 'out of memory' $definition.def good.arg
+done
+printf '($t:tt) => {}' >tree.def
+check 0 '' tree.def groups.arg
+
 # A device that takes nothing.
 if [ -e /dev/full ]; then
     said=$("$program" good.def good.arg 2>&1 >/dev/full)

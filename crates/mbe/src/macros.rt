@@ -64,7 +64,8 @@ impl<A: Allocator + Copy> DeclarativeMacro<A> {
     /// A rule is an optional `unsafe`, an optional `attr` or `derive` with a group after it, the pattern's group, `=>`, and
     /// the template's group. The macro keeps the rules before the first fault, and its `err` is that fault. Where a
     /// pattern that was kept has a repetition without separator whose body can read nothing, `err` is
-    /// `RepetitionEmptyTokenTree` instead of any other. `AllocError` if out of memory.
+    /// `RepetitionEmptyTokenTree` instead of any other. `AllocError` if out of memory, and where more than `NESTING_LIMIT`
+    /// groups and repetitions of a pattern or a template are in one another.
     ///
     /// The grammar is that of the Rust Reference ("Macros By Example") as rust-analyzer reads it; that a stray token after
     /// a rule is always reported, and that every repetition without separator that can read nothing is refused, is this

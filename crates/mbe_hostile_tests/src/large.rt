@@ -90,14 +90,14 @@ fn long_chains_are_one_fragment(rt: HostRuntime) -> Result<(), Fail> {
     Ok(())
 }
 
-// A check that looked at each repetition's body again from each repetition around it would take 13 seconds.
+// A check that looked at each body twice from the repetition around it would never end.
 #[test]
 fn nested_repetitions_that_can_be_empty_are_refused_at_once(rt: HostRuntime) -> Result<(), Fail> {
     let alloc = rt.alloc();
     let body = "$v:vis ".repeat(alloc, 100)?;
     let level = format!(in alloc; "$({body}")?;
-    let openings = level.as_str().repeat(alloc, 4_000)?;
-    let closings = ")*".repeat(alloc, 4_000)?;
+    let openings = level.as_str().repeat(alloc, 256)?;
+    let closings = ")*".repeat(alloc, 256)?;
     let definition = format!(in alloc; "({openings}{closings}) => {{}}")?;
     let start = Instant::now(&rt)?;
     assert!(rt; prints(alloc, (definition.as_str(), ""), (2, "")));

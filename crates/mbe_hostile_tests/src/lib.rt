@@ -13,6 +13,8 @@ mod large;
 #[cfg(test)]
 mod machine;
 #[cfg(test)]
+mod nesting;
+#[cfg(test)]
 mod reading;
 #[cfg(test)]
 mod requests;

@@ -1,5 +1,5 @@
 // Reads patterns and templates into ops.
-ghost use Rattle.std.specs.Prelude.{◌≡◌, ◌<◌, ◌≤◌, [], ◌∷◌, codes, option_map, Some, Ok, Err, IfOk, IfErr, IfSome, IfNone, OnOk};
+ghost use Rattle.std.specs.Prelude.{◌≡◌, ◌<◌, ◌≤◌, ◌+◌, [], ◌∷◌, codes, option_map, Some, Ok, Err, IfOk, IfErr, IfSome, IfNone, OnOk};
 ghost use Rattle.mbe_tt.specs.Trees.Tree.{Forest, Leaf_tree, flat_len, first, is_truth, leaf as leaf_before};
 ghost use Rattle.mbe_tt.specs.Trees.Leaf.{ident as ident_leaf, punct as punct_leaf};
 ghost use Rattle.mbe_tt.specs.Views.Shown.{ident_of, literal_of, leaf_of};
@@ -37,14 +37,37 @@ pub enum Mode {
     Template,
 }
 
+/// How many groups and repetitions of a pattern or a template may be in one another.
+///
+/// What reads, checks, copies, compares, drops, matches or writes a definition, and what builds or drops what it binds,
+/// calls itself once for each of them. With so many they fit the machine's stack, so reading is out of memory beyond them.
+pub const NESTING_LIMIT: usize = 256;
+
 /// Reads all the trees. `edition` is asked what `pat` and `expr` mean, by the context of the
-/// specifier's own span.
-#[cycle(template)]
+/// specifier's own span. It is out of memory, too, beyond `NESTING_LIMIT`.
 pub fn parse_template<A: Allocator + Copy, E: Copy + Fn(SyntaxContext) -> Edition>(
     alloc: A,
     edition: E,
     src: TtIter<'_, A>,
     mode: Mode,
+) -> Result<MetaTemplate<A>, ReadError>
+    requires { MayAsk (E.pre edition) }
+    ensures ops { IfOk result (λ t. Template (E.post edition) (mode_of mode)
+        src.entry (template_of t)) }
+    ensures fault { IfErr result (λ e. Stops e (λ f. TemplateFault (E.post edition)
+        (mode_of mode) f src.entry)) }
+{
+    template_within(alloc, edition, src, mode, NESTING_LIMIT)
+}
+
+// Reads all the trees, of which no more than so many are in one another.
+#[cycle(template)]
+fn template_within<A: Allocator + Copy, E: Copy + Fn(SyntaxContext) -> Edition>(
+    alloc: A,
+    edition: E,
+    src: TtIter<'_, A>,
+    mode: Mode,
+    levels: usize,
 ) -> Result<MetaTemplate<A>, ReadError>
     requires { MayAsk (E.pre edition) }
     ensures ops { IfOk result (λ t. Template (E.post edition) (mode_of mode)
@@ -65,18 +88,25 @@ pub fn parse_template<A: Allocator + Copy, E: Copy + Fn(SyntaxContext) -> Editio
                 ops.push(Op::Literal(literal.clone()?))?;
             }
             TtElement::Leaf(Leaf::Punct(punct)) => {
-                let op = op_at_punct(alloc, edition, *punct, &mut src, mode)?;
+                let op = op_at_punct(alloc, edition, *punct, &mut src, mode, levels)?;
                 ops.push(op)?;
             }
             TtElement::Subtree(subtree, inside) => {
                 let _group = src.next();
-                let tokens = parse_template(alloc, edition, inside, mode)?;
+                let tokens = template_within(alloc, edition, inside, mode, entered(levels)?)?;
                 let delimiter = subtree.delimiter;
                 ops.push(Op::Subtree { tokens, delimiter })?;
             }
         }
     }
     Ok(MetaTemplate(fitted(alloc, ops)?))
+}
+
+// How many levels may be inside one of so many. Out of memory if there is none.
+fn entered(levels: usize) -> Result<usize, AllocError>
+    ensures { IfOk result (λ inside. inside + 1 ≡ levels) }
+{
+    levels.checked_sub(1).ok_or(AllocError)
 }
 
 // The ops in a block of their size, where the one they are in has room for more than half as many again: there may be fewer
@@ -102,6 +132,7 @@ fn op_at_punct<A: Allocator + Copy, E: Copy + Fn(SyntaxContext) -> Edition>(
     punct: Punct,
     src: &mut TtIter<'_, A>,
     mode: Mode,
+    levels: usize,
 ) -> Result<Op<A>, ReadError>
     requires answers { MayAsk (E.pre edition) }
     requires peeked { first src.old ≡ Some (Leaf_tree (punct_leaf punct)) }
@@ -113,7 +144,7 @@ fn op_at_punct<A: Allocator + Copy, E: Copy + Fn(SyntaxContext) -> Edition>(
 {
     if punct.char == '$' {
         let _dollar = src.next();
-        return behind_dollar(alloc, edition, punct, src, mode);
+        return behind_dollar(alloc, edition, punct, src, mode, levels);
     }
     let Ok(puncts) = src.expect_glued_punct() else {
         unreachable!()
@@ -130,6 +161,7 @@ fn behind_dollar<A: Allocator + Copy, E: Copy + Fn(SyntaxContext) -> Edition>(
     dollar: Punct,
     src: &mut TtIter<'_, A>,
     mode: Mode,
+    levels: usize,
 ) -> Result<Op<A>, ReadError>
     requires { MayAsk (E.pre edition) }
     ensures op { IfOk result (λ o. AtHead (E.post edition) (mode_of mode)
@@ -143,7 +175,7 @@ fn behind_dollar<A: Allocator + Copy, E: Copy + Fn(SyntaxContext) -> Edition>(
     };
     match second {
         TtElement::Subtree(subtree, inside) => match subtree.delimiter.kind {
-            DelimiterKind::Parenthesis => repetition(alloc, edition, inside, src, mode),
+            DelimiterKind::Parenthesis => repetition(alloc, edition, inside, src, mode, levels),
             DelimiterKind::Brace => expression_behind_dollar(alloc, inside, mode),
             DelimiterKind::Bracket | DelimiterKind::Invisible => {
                 Err(ReadError::Fault(SyntaxFault::ExpectedRepetition))
@@ -162,6 +194,7 @@ fn repetition<A: Allocator + Copy, E: Copy + Fn(SyntaxContext) -> Edition>(
     body: TtIter<'_, A>,
     src: &mut TtIter<'_, A>,
     mode: Mode,
+    levels: usize,
 ) -> Result<Op<A>, ReadError>
     requires { MayAsk (E.pre edition) }
     ensures op { IfOk result (λ o. AtHead (E.post edition) (mode_of mode)
@@ -171,7 +204,7 @@ fn repetition<A: Allocator + Copy, E: Copy + Fn(SyntaxContext) -> Edition>(
     ensures no_longer { OnOk result (flat_len src.new ≤ flat_len src.old) }
 {
     let (separator, kind) = parse_repeat(src)?;
-    let tokens = parse_template(alloc, edition, body, mode)?;
+    let tokens = template_within(alloc, edition, body, mode, entered(levels)?)?;
     let separator = Between::new(alloc, separator)?;
     Ok(Op::Repeat {
         tokens,

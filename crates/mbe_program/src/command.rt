@@ -10,7 +10,7 @@ use crate::program::{Outcome, run};
 use crate::reports::Report;
 use crate::settings::Options;
 use std::alloc::Global;
-use std::io::BufWriter;
+use std::io::{BufWriter, Read};
 use std::rt::{Env, Files};
 use std::{env, fs, io};
 
@@ -56,6 +56,15 @@ fn unread<'a>(error: &io::Error, name: &'a str) -> Report<'a, Global>
     }
 }
 
+// The text of the file of that name, if it is shorter than 2^32 bytes. No more than these are read of any file, so that
+// one which never ends is refused too.
+fn short_text<R: Files + AllocGlobal>(rt: &R, name: &str) -> io::Result<String>
+    ensures short { IfOk result (λ text. string_len text < 2 ^ 32) }
+{
+    let file = fs::open(rt, name)?;
+    short(io::read_to_string(rt.alloc(), file.take(1 << 32))?)
+}
+
 // The text of that file of the run (0 is the definition, 1 the argument), or the line on why there is none.
 fn read<'a, R: Files + AllocGlobal>(
     rt: &R,
@@ -66,11 +75,7 @@ fn read<'a, R: Files + AllocGlobal>(
     ensures named { IfErr result (CannotBeRead (name_of options.now file)) }
 {
     let name = options.name_of(file);
-    let text = match fs::read_to_string(rt, name) {
-        Ok(text) => short(text),
-        Err(error) => Err(error),
-    };
-    match text {
+    match short_text(rt, name) {
         Ok(text) => Ok(text),
         Err(error) => Err(unread(&error, name)),
     }

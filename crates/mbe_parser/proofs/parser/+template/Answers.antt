@@ -14,8 +14,8 @@ use Rattle.mbe_ops.proofs.Fragments.{puncts_longer}
 use Rattle.mbe_parser.proofs.ReaderLemmas as lemmas
 use Rattle.mbe_parser.proofs.parser.+template.Goals as goal
 
-pub parse_template-trees-preserved-in_ok-push-in-Leaf-Ident : goal.parse_template-trees-preserved-in_ok-push-in-Leaf-Ident
-parse_template-trees-preserved-in_ok-push-in-Leaf-Ident g t c =
+pub template_within-trees-preserved-in_ok-push-in-Leaf-Ident : goal.template_within-trees-preserved-in_ok-push-in-Leaf-Ident
+template_within-trees-preserved-in_ok-push-in-Leaf-Ident g t c =
     let l = c.trees in
     let i = c.in_ok-clone-in-Leaf-Ident.field-0 in
     let left = c.next-word.new.self in
@@ -29,13 +29,13 @@ parse_template-trees-preserved-in_ok-push-in-Leaf-Ident g t c =
       smaller = omega (arith, ap flat_len at, l.invariant.smaller);
     }
 
-pub parse_template-trees-smaller-in_ok-push-in-Leaf-Ident : goal.parse_template-trees-smaller-in_ok-push-in-Leaf-Ident
-parse_template-trees-smaller-in_ok-push-in-Leaf-Ident g t c =
+pub template_within-trees-smaller-in_ok-push-in-Leaf-Ident : goal.template_within-trees-smaller-in_ok-push-in-Leaf-Ident
+template_within-trees-smaller-in_ok-push-in-Leaf-Ident g t c =
     let front : Some (Leaf_tree (leaves.ident (ident_of c.in_ok-clone-in-Leaf-Ident.field-0))) ≡ first c.trees.src = search rules in
     omega (arith, ap flat_len (first_tree c.trees.src c.next-word.new.self _ front c.next-word.ensures.rest))
 
-pub parse_template-trees-preserved-in_ok-push-in-Leaf-Literal : goal.parse_template-trees-preserved-in_ok-push-in-Leaf-Literal
-parse_template-trees-preserved-in_ok-push-in-Leaf-Literal g t c =
+pub template_within-trees-preserved-in_ok-push-in-Leaf-Literal : goal.template_within-trees-preserved-in_ok-push-in-Leaf-Literal
+template_within-trees-preserved-in_ok-push-in-Leaf-Literal g t c =
     let l = c.trees in
     let i = c.in_ok-clone-in-Leaf-Literal.field-0 in
     let left = c.next-literal.new.self in
@@ -49,25 +49,25 @@ parse_template-trees-preserved-in_ok-push-in-Leaf-Literal g t c =
       smaller = omega (arith, ap flat_len at, l.invariant.smaller);
     }
 
-pub parse_template-trees-smaller-in_ok-push-in-Leaf-Literal : goal.parse_template-trees-smaller-in_ok-push-in-Leaf-Literal
-parse_template-trees-smaller-in_ok-push-in-Leaf-Literal g t c =
+pub template_within-trees-smaller-in_ok-push-in-Leaf-Literal : goal.template_within-trees-smaller-in_ok-push-in-Leaf-Literal
+template_within-trees-smaller-in_ok-push-in-Leaf-Literal g t c =
     let front : Some (Leaf_tree (leaves.literal (literal_of c.in_ok-clone-in-Leaf-Literal.field-0))) ≡ first c.trees.src = search rules in
     omega (arith, ap flat_len (first_tree c.trees.src c.next-literal.new.self _ front c.next-literal.ensures.rest))
 
-pub parse_template-returns-clause-ops : goal.parse_template-returns-clause-ops
-parse_template-returns-clause-ops g t c =
+pub template_within-returns-clause-ops : goal.template_within-returns-clause-ops
+template_within-returns-clause-ops g t c =
     let empty : c.trees.src ≡ none = first_none c.trees.src c.in_default.ensures in
     let whole = c.trees.invariant.more no_ops (nothing c.trees.src (ap (head (mode_of c.args.mode)) empty)) in
     rw (view-template, c.in_ok-fitted.ensures, ← lemmas.with_front-all c.trees.ops.items) whole
 
-pub parse_template-returns-in_err-op-in-Leaf-Punct-clause-fault : goal.parse_template-returns-in_err-op-in-Leaf-Punct-clause-fault
-parse_template-returns-in_err-op-in-Leaf-Punct-clause-fault g t c =
+pub template_within-returns-in_err-op-in-Leaf-Punct-clause-fault : goal.template_within-returns-in_err-op-in-Leaf-Punct-clause-fault
+template_within-returns-in_err-op-in-Leaf-Punct-clause-fault g t c =
     let e = c.in_err-op-in-Leaf-Punct in
     let p = err_from_is_err_and c.from_residual-in_err-op-in-Leaf-Punct.result c.from_residual-in_err-op-in-Leaf-Punct.ensures.1 in
     rw (p.1, p.2) (lemmas.later_fault _ e.field-0.0 (mode_of c.args.mode) c.args.src c.trees.src c.trees.invariant.fault e.ensures.fault)
 
-pub parse_template-trees-preserved-in_ok-push-in-Leaf-Punct : goal.parse_template-trees-preserved-in_ok-push-in-Leaf-Punct
-parse_template-trees-preserved-in_ok-push-in-Leaf-Punct g t c =
+pub template_within-trees-preserved-in_ok-push-in-Leaf-Punct : goal.template_within-trees-preserved-in_ok-push-in-Leaf-Punct
+template_within-trees-preserved-in_ok-push-in-Leaf-Punct g t c =
     let l = c.trees in
     let o = c.in_ok-op-in-Leaf-Punct.op in
     let reads = c.in_ok-op-in-Leaf-Punct.ensures.op in
@@ -77,14 +77,14 @@ parse_template-trees-preserved-in_ok-push-in-Leaf-Punct g t c =
       smaller = omega (arith, c.in_ok-op-in-Leaf-Punct.ensures.shorter, l.invariant.smaller);
     }
 
-pub parse_template-parse_template-requires : goal.parse_template-parse_template-requires
-parse_template-parse_template-requires g t c κs within =
+pub template_within-template_within-requires : goal.template_within-template_within-requires
+template_within-template_within-requires g t c κs within =
     let front : Some (Group_tree c.in-Subtree.subtree.now.delimiter c.in-Subtree.inside) ≡ first c.trees.src = search rules in
     let longer = ap flat_len (first_tree c.trees.src c.next-group.new.self _ front c.next-group.ensures.rest) in
     (omega (arith, longer, c.trees.invariant.smaller, c.decreases), (within.0, (within.1, c.requires)))
 
-pub parse_template-returns-in_err-tokens-in-Subtree-clause-fault : goal.parse_template-returns-in_err-tokens-in-Subtree-clause-fault
-parse_template-returns-in_err-tokens-in-Subtree-clause-fault g t c =
+pub template_within-returns-in_err-tokens-in-Subtree-clause-fault : goal.template_within-returns-in_err-tokens-in-Subtree-clause-fault
+template_within-returns-in_err-tokens-in-Subtree-clause-fault g t c =
     let e = c.in_err-tokens-in-Subtree in
     let p = err_from_is_err_and c.from_residual-in_err-tokens-in-Subtree.result c.from_residual-in_err-tokens-in-Subtree.ensures.1 in
     let front : Some (Group_tree c.in-Subtree.subtree.now.delimiter c.in-Subtree.inside) ≡ first c.trees.src = search rules in
@@ -92,14 +92,14 @@ parse_template-returns-in_err-tokens-in-Subtree-clause-fault g t c =
     let here = lemmas.group_fault _ e.field-0.0 (mode_of c.args.mode) c.trees.src c.in-Subtree.inside c.next-group.new.self c.in-Subtree.subtree.now.delimiter at e.ensures.fault in
     rw (p.1, p.2) (lemmas.later_fault _ e.field-0.0 (mode_of c.args.mode) c.args.src c.trees.src c.trees.invariant.fault here)
 
-pub parse_template-trees-smaller : goal.parse_template-trees-smaller
-parse_template-trees-smaller g t c =
+pub template_within-trees-smaller : goal.template_within-trees-smaller
+template_within-trees-smaller g t c =
     let front : Some (Group_tree c.in-Subtree.subtree.now.delimiter c.in-Subtree.inside) ≡ first c.trees.src = search rules in
     let longer = ap flat_len (first_tree c.trees.src c.next-group.new.self _ front c.next-group.ensures.rest) in
     omega (arith, longer)
 
-pub parse_template-trees-preserved : goal.parse_template-trees-preserved
-parse_template-trees-preserved g t c =
+pub template_within-trees-preserved : goal.template_within-trees-preserved
+template_within-trees-preserved g t c =
     let l = c.trees in
     let left = c.next-group.new.self in
     let front : Some (Group_tree c.in-Subtree.subtree.now.delimiter c.in-Subtree.inside) ≡ first l.src = search rules in

@@ -6,14 +6,14 @@ use Rattle.mbe_parser.specs.Reader.{mode_of}
 use Rattle.mbe_parser.proofs.ReaderLemmas.{with_front}
 use Rattle.mbe_parser.proofs.parser.+template.Given as goal
 
-abbrev pub decreases-parse_template : goal.decreases-parse_template
-decreases-parse_template g l = 2 * flat_len l.src + 1
+abbrev pub decreases-template_within : goal.decreases-template_within
+decreases-template_within g l = 2 * flat_len l.src + 1
 
 abbrev pub decreases-op_at_punct : goal.decreases-op_at_punct
 decreases-op_at_punct g l = 2 * flat_len l.src.now
 
-abbrev pub invariant-parse_template-trees : goal.invariant-parse_template-trees
-invariant-parse_template-trees g l = record {
+abbrev pub invariant-template_within-trees : goal.invariant-template_within-trees
+invariant-template_within-trees g l = record {
   more : (os : Ops) → Template (λ ctx e. g.E.Fn.post l.edition (ctx, tt) e) (mode_of l.mode) l.src os
       → Template (λ ctx e. g.E.Fn.post l.edition (ctx, tt) e) (mode_of l.mode) l.fn.src (with_front l.ops.items os);
   fault : (f : Fault) → TemplateFault (λ ctx e. g.E.Fn.post l.edition (ctx, tt) e) (mode_of l.mode) f l.src
@@ -21,8 +21,8 @@ invariant-parse_template-trees g l = record {
   smaller : flat_len l.src ≤ flat_len l.fn.src;
 }
 
-abbrev pub decreases-parse_template-trees : goal.decreases-parse_template-trees
-decreases-parse_template-trees g l = flat_len l.src
+abbrev pub decreases-template_within-trees : goal.decreases-template_within-trees
+decreases-template_within-trees g l = flat_len l.src
 
 abbrev pub decreases-behind_dollar : goal.decreases-behind_dollar
 decreases-behind_dollar g l = 2 * flat_len l.src.now
