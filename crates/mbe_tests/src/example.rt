@@ -29,6 +29,9 @@ pub fn print_expanded<W: Write>(
     let call_site = argument.top_subtree().delimiter.opening;
     let style = MacroCallStyle::FnLike;
     let expanded = defined.expand(alloc, &SampleGrammar, &argument, |s| s, style, call_site)?;
+    if let Some(error) = expanded.err {
+        bail!("{error}");
+    }
     print_tree(&expanded.value.0, out)?;
     Ok(())
 }
@@ -39,8 +42,8 @@ mod tests {
     use std::process::Abort;
     use std::test::Fail;
 
-    // Rules, an argument, and what is printed; nothing where the definition has a fault.
-    static PRINTED: [(&str, &str, &str); 3] = [
+    // Rules, an argument, and what is printed; nothing where the definition or the call has an error.
+    static PRINTED: [(&str, &str, &str); 4] = [
         (
             "($x:ident = $t:tt;) => { pair ($t) $x }",
             "a = 1;",
@@ -51,7 +54,8 @@ mod tests {
   IDENT   a 1@0..1
 ",
         ),
-        ("(b) => {}", "a", "SUBTREE $$ 1@0..1 1@0..1\n"),
+        ("(a) => {}", "a", "SUBTREE $$ 1@0..1 1@0..1\n"),
+        ("(b) => {}", "a", ""),
         ("($x:ident) => {$x} x", "a", ""),
     ];
 

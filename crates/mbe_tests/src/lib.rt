@@ -22,6 +22,8 @@ mod macro2;
 #[cfg(test)]
 mod matching;
 #[cfg(test)]
+mod places;
+#[cfg(test)]
 mod recovery;
 #[cfg(test)]
 mod refusals;
