@@ -45,7 +45,7 @@ module _ {T : Type 0} (lists : List (Chain T)) where
   left-falls part l None ch h n = omega arith
   left-falls part l (Some q) ch h n = let k = (ch part.list l q h (link_some l.link part.first q (sym n))).0 in omega (arith, k)
 
-  same_list : (part : Part) (l : Chain T) → IsWithin lists part → l ≡ get_or lists part.list l → slice_get lists part.list ≡ Some l
+  pub same_list : (part : Part) (l : Chain T) → IsWithin lists part → l ≡ get_or lists part.list l → slice_get lists part.list ≡ Some l
   same_list part l w e = w.1 ∙ ap Some (sym (e ∙ got lists part.list w.0 l w.1))
 
   pub collected-step-at : (start part : Part) (l : Chain T) (found more : List T) (here next : Option Part) → IsChained lists → here ≡ Some part →
@@ -116,3 +116,17 @@ module _ {T : Type 0} (lists : List (Chain T)) where
 pub down-one : (at n : ℕ) → 0 < n → places_down at n ≡ record { list = at; first = n - 1 } ∷ places_down at (n - 1)
 down-one at zero h = absurd (omega (arith, h))
 down-one at (suc n) h = let m : n ≡ suc n - 1 = omega arith in ap (λ j. record { list = at; first = j } ∷ places_down at j) m
+
+-- ---- a part of one entry
+
+take_none : {T : Type 0} (own : List T) → [] ≡ take 0 own
+take_none [] = refl
+take_none (y ∷ own) = refl
+
+first_alone : {T : Type 0} (own : List T) (x : T) → slice_get own 0 ≡ Some x → x ∷ [] ≡ take 1 own
+first_alone [] x e = cc
+first_alone (y ∷ own) x e = let k : x ≡ y = cc in ap (λ z. z ∷ []) k ∙ ap (λ t. y ∷ t) (take_none own)
+
+pub only_entry : {T : Type 0} (lists : List (Chain T)) (part : Part) (l : Chain T) (x : T) → slice_get lists part.list ≡ Some l →
+    link_in l.link part.first ≡ None → own_in l.link part.first ≡ 1 → slice_get l.own 0 ≡ Some x → Flat lists part (x ∷ [])
+only_entry lists part l x s h o e = ends part l (x ∷ []) s h (first_alone l.own x e ∙ ap (λ n. take n l.own) (sym o))

@@ -3,11 +3,14 @@ use Rattle.std.specs.Prelude.{◌≡◌, ◌<◌, ◌≤◌, ◌+◌, ℕ, suc, 
 use Rattle.std.proofs.Common.{arith, sym, ap, subst, ◌∙◌, get_or}
 use Rattle.mbe_semantics.specs.declared.log.Part.{Part}
 use Rattle.mbe_log.specs.declared.log.Command as code
-use Rattle.mbe_log.specs.Chain.{Chain, own_of, entry_at, ArePlaces}
+use Rattle.mbe_log.specs.Chain.{Chain, Flat, own_of, entry_at, ArePlaces}
 use Rattle.mbe_log.specs.Entries.{entry_seen, log_of}
-use Rattle.mbe_semantics.specs.Bindings.Environment.{Environment}
-use Rattle.mbe_semantics.specs.Bindings.Account.{Command, Commands, CommandRounds, no_commands, command, no_command_rounds, command_round, RoundEntry, Gives, GivesRounds, PartGives, PartGivesRounds, run, run_command, run_rounds, round_count, add_round_in}
-use Rattle.mbe_log.specs.Building.{IsBuiltSoFar, AreBoundSoFar}
+use Rattle.mbe_semantics.specs.Bindings.Environment.{Environment, fragment, value_of}
+use Rattle.mbe_semantics.specs.Bindings.Account.{Command, Commands, CommandRounds, no_commands, command, no_command_rounds, command_round, RoundEntry, Gives, GivesRounds, PartGives, PartGivesRounds, run, run_command, run_rounds, round_count, add_round_in, grown_in}
+use Rattle.mbe_semantics.specs.Syntax.Op.{Name}
+use Rattle.mbe_log.specs.declared.fragment.Fragment.{Fragment}
+use Rattle.mbe_log.specs.BindingViews.{fragment_seen}
+use Rattle.mbe_log.specs.Building.{BindsRound, IsBuiltSoFar, AreBoundSoFar}
 use Rattle.mbe_log.specs.Sound.{GivesCommand, IsPartGrounded, IsCommandGrounded, AreRoundsGrounded}
 use Rattle.mbe_log.proofs.ChainLemmas.{got, in_range}
 use Rattle.mbe_log.proofs.LogLemmas.{there}
@@ -103,25 +106,39 @@ module _ {A : Type 0} (C : List (Chain (code.Command A))) (R : List (Chain Part)
         let k = next_round a.0 (ap (map (entry_at R)) same ∙ a.2) g.0 (flat_rounds C R a.1 no_command_rounds g.0 g.2) in
         (k.1, k.2, let u = deeper_rounds k.3 in let v = g.4 in omega (arith, u, v))
 
-    pub bound-step : (after round : Environment) → ((cs : Commands) → PartGives (log_of C R) no_commands x cs → round ≡ run cs []) → after ≡ add_round_in i round env →
-        AreBoundSoFar C R items (i + 1) before after
-    bound-step after round r s = λ xs m rs h.
+    pub bound-step : (after : Environment) → BindsRound C R x i env after → AreBoundSoFar C R items (i + 1) before after
+    bound-step after s = λ xs m rs h.
         let k = next_round xs m rs h in
         let j : suc i ≡ i + 1 = omega arith in (
           command_round k.0 k.1,
           subst (λ n. GivesRounds (log_of C R) (command_round k.0 k.1) (map RoundEntry.finishes (drop n xs)) rs) j k.3,
           ap suc k.4 ∙ j,
-          s ∙ ap (λ n. add_round_in n round env) (sym k.4) ∙ ap (λ e. add_round_in (round_count k.0) e env) (r k.1 k.2) ∙ ap (add_round_in (round_count k.0) (run k.1 [])) k.5,
+          s k.1 k.2 ∙ ap (λ n. add_round_in n (run k.1 []) env) (sym k.4) ∙ ap (add_round_in (round_count k.0) (run k.1 [])) k.5,
         )
 
-  pub bound-end : (before env after round : Environment) (finished last : Part) (found : List Part) → AreBoundSoFar C R items i before env → ArePlaces R finished found → items ≡ found →
-      length items ≤ i → i ≡ length found → ((cs : Commands) → PartGives (log_of C R) no_commands last cs → round ≡ run cs []) → after ≡ add_round_in (length found) round env →
+  pub bound-end : (before env after : Environment) (finished last : Part) (found : List Part) → AreBoundSoFar C R items i before env → ArePlaces R finished found →
+      items ≡ found → length items ≤ i → i ≡ length found → BindsRound C R last (length found) env after →
       (rs : CommandRounds) (ds : Commands) → PartGivesRounds (log_of C R) no_command_rounds finished rs → PartGives (log_of C R) no_commands last ds →
       after ≡ run_rounds (command_round rs ds) before
-  bound-end before env after round finished last found bound a same long count r s rs ds p q =
+  bound-end before env after finished last found bound a same long count s rs ds p q =
       let m : map (entry_at R) items ≡ map Some a.0 = ap (map (entry_at R)) same ∙ a.2 in
       let b = bound a.0 m rs (flat_rounds C R a.1 no_command_rounds rs p) in
       let n : length a.0 ≤ i = (let u = length-mapped (entry_at R) items in let v = length-mapped Some a.0 in let w = ap length m in omega (arith, u, v, w, long)) in
       let e : b.0 ≡ rs = rounds_end_of (subst (λ ys. GivesRounds (log_of C R) b.0 (map RoundEntry.finishes ys) rs) (drop-end a.0 i n) b.1) in
-      s ∙ ap (λ n. add_round_in n round env) (sym count ∙ sym b.2 ∙ ap round_count e) ∙ ap (λ v. add_round_in (round_count rs) v env) (r ds q)
+      s ds q ∙ ap (λ n. add_round_in n (run ds []) env) (sym count ∙ sym b.2 ∙ ap round_count e)
       ∙ ap (add_round_in (round_count rs) (run ds [])) (b.3 ∙ ap (λ t. run_rounds t before) e)
+
+-- a round of one variable: its list gets that value
+pub bound_alone : {A : Type 0} (C : List (Chain (code.Command A))) (R : List (Chain Part)) (part : Part) (number : ℕ) (before after : Environment)
+    (name : Name) (x : Fragment A) → Flat C part (code.TheVariants.Fragment name x ∷ []) →
+    after ≡ grown_in number before name (fragment (fragment_seen x)) (value_of before name) → BindsRound C R part number before after
+bound_alone C R part number before after name x flat s cs p =
+    let k = command_head (code.TheVariants.Fragment name x) (flat_gives C R flat no_commands cs p) in
+    let e : command no_commands (Command.binds name (fragment_seen x)) ≡ cs = subst (λ c. command no_commands c ≡ cs) k.1 (end_of k.2) in
+    s ∙ ap (λ ds. add_round_in number (run ds []) before) e
+
+-- a round that is built by itself
+pub bound_apart : {A : Type 0} (C : List (Chain (code.Command A))) (R : List (Chain Part)) (part : Part) (number : ℕ) (before after round : Environment) →
+    ((cs : Commands) → PartGives (log_of C R) no_commands part cs → round ≡ run cs []) → after ≡ add_round_in number round before →
+    BindsRound C R part number before after
+bound_apart C R part number before after round r s cs p = s ∙ ap (λ e. add_round_in number e before) (r cs p)

@@ -1,11 +1,16 @@
--- How far building has come.
+-- What a round binds, and how far building has come.
 use Rattle.std.specs.Prelude.{◌≡◌, ℕ, List, [], map, drop, Some}
 use Rattle.mbe_semantics.specs.declared.log.Part.{Part}
 use Rattle.mbe_log.specs.declared.log.Command as code
 use Rattle.mbe_log.specs.Chain.{Chain, entry_at}
 use Rattle.mbe_log.specs.Entries.{entry_seen, log_of}
 use Rattle.mbe_semantics.specs.Bindings.Environment.{Environment}
-use Rattle.mbe_semantics.specs.Bindings.Account.{Commands, CommandRounds, no_commands, no_command_rounds, RoundEntry, Gives, GivesRounds, run, run_rounds, round_count}
+use Rattle.mbe_semantics.specs.Bindings.Account.{Commands, CommandRounds, no_commands, no_command_rounds, RoundEntry, Gives, GivesRounds, PartGives, add_round_in, run, run_rounds, round_count}
+
+-- the round of this number binds what its part of the log says, by itself
+abbrev pub BindsRound : {A : Type 0} → List (Chain (code.Command A)) → List (Chain Part) → Part → ℕ → Environment → Environment → Type 0
+BindsRound commands rounds part number before after = (cs : Commands) → PartGives (log_of commands rounds) no_commands part cs →
+    after ≡ add_round_in number (run cs []) before
 
 module _ {A : Type 0} (commands : List (Chain (code.Command A))) (rounds : List (Chain Part)) (places : List Part) (i : ℕ) where
   -- the first i commands have bound this

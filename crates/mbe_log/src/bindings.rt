@@ -134,24 +134,24 @@ impl<'a, A: Allocator + Copy> Bindings<'a, A> {
             ≡ add_round_in number (bound_by round.entry) (bound_by self.old)) }
     {
         for (name, value) in round.inner {
-            self.grow(alloc, number, name, value)?;
+            self.grow(alloc, number, &name, value)?;
         }
         Ok(())
     }
 
     // One value more of a list. A name that has no list yet gets one, and any other value stays.
-    fn grow(
+    pub(crate) fn grow(
         &mut self,
         alloc: A,
         number: usize,
-        name: Symbol<A>,
+        name: &Symbol<A>,
         value: Binding<'a, A>,
     ) -> Result<(), AllocError>
         ensures { OnOk result (bound_by self.new
-            ≡ grown_in number (bound_by self.old) name (value_seen value.entry)
-            (value_of (bound_by self.old) name)) }
+            ≡ grown_in number (bound_by self.old) name.now (value_seen value.entry)
+            (value_of (bound_by self.old) name.now)) }
     {
-        match self.inner.get_mut(&name) {
+        match self.inner.get_mut(name) {
             Some(found) => {
                 grow_value(alloc, found, number, value)?;
                 Ok(())
@@ -159,7 +159,7 @@ impl<'a, A: Allocator + Copy> Bindings<'a, A> {
             None => {
                 let mut list = Binding::Nested(Vec::new(alloc));
                 grow_value(alloc, &mut list, number, value)?;
-                self.put(name, list)?;
+                self.put(name.clone()?, list)?;
                 Ok(())
             }
         }

@@ -1,8 +1,8 @@
 // A list that may begin with the first entries of another.
 ghost use Rattle.std.specs.Prelude.{◌≡◌, ◌↔◌, IsTrue, ◌<◌, [], ◌∷◌, ◌++◌, length, slice_get, Some};
-ghost use Rattle.std.specs.Prelude.{None, IfOk, OnOk, OnErr};
+ghost use Rattle.std.specs.Prelude.{None, IfOk, OnOk, OnErr, IfSome};
 ghost use Rattle.mbe_log.specs.Chain.{chain_len, link_to, link_in, own_in, IsChained, IsWithin};
-ghost use Rattle.mbe_log.specs.Chain.{IsExtended, ArePlaces, places_down};
+ghost use Rattle.mbe_log.specs.Chain.{IsExtended, ArePlaces, Flat, places_down};
 
 use mbe_semantics::log::Part;
 use std::alloc::{AllocError, Allocator, Global};
@@ -132,6 +132,18 @@ pub(crate) fn extend<T: Drop, A: Allocator + Copy>(
         list: part.list,
         first,
     })
+}
+
+/// The entry of a part that has one alone, of its own.
+pub(crate) fn only<T, A: Allocator>(lists: &[Linked<T, A>], part: Part) -> Option<&T>
+    requires { IsWithin lists.now part }
+    ensures { IfSome result (λ entry. Flat lists.now part (entry.now ∷ [])) }
+{
+    let list = &lists[part.list];
+    match list.cut(part.first) {
+        (None, 1) => Some(list.own_at(0)),
+        _ => None,
+    }
 }
 
 /// Where the entries of a part are, if each link is replaced by the entries that it stands for. A place is a list and an

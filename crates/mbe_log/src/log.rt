@@ -35,10 +35,11 @@ ghost use Rattle.mbe_log.specs.Chain.{IsChained};
 ghost use Rattle.mbe_log.specs.Entries.{entry_seen, log_of};
 ghost use Rattle.mbe_log.specs.Sound.{GivesCommand, IsPartGrounded, IsCommandGrounded};
 ghost use Rattle.mbe_log.specs.Sound.{AreRoundsGrounded};
+ghost use Rattle.mbe_log.specs.Building.{BindsRound};
 ghost use Rattle.mbe_log.specs.BindingViews.{fragment_seen};
 
 use crate::bindings::{Binding, Bindings};
-use crate::chain::{Linked, extend, is_within, places};
+use crate::chain::{Linked, extend, is_within, only, places};
 use crate::fragment::Fragment;
 use mbe_semantics::kinds::MetaVarKind;
 use mbe_semantics::log::Part;
@@ -471,10 +472,35 @@ fn bind_rounds<'a, A: Allocator + Copy>(
     let found = places(alloc, rounds, finished)?;
     for (number, place) in found.iter().enumerate() {
         let part = *rounds[place.list].own_at(place.first);
-        let round = build_part(alloc, commands, rounds, part, depth)?;
-        bindings.add_round(alloc, number, round)?;
+        bind_round(alloc, commands, rounds, part, depth, number, bindings)?;
     }
-    let round = build_part(alloc, commands, rounds, last, depth)?;
-    bindings.add_round(alloc, found.len(), round)?;
+    bind_round(alloc, commands, rounds, last, depth, found.len(), bindings)?;
+    Ok(())
+}
+
+// What the round of this number binds by itself, in the lists of its names.
+#[cycle(building)]
+fn bind_round<'a, A: Allocator + Copy>(
+    alloc: A,
+    commands: &[Linked<Command<'a, A>, A>],
+    rounds: &[Linked<Part, A>],
+    part: Part,
+    depth: usize,
+    number: usize,
+    bindings: &mut Bindings<'a, A>,
+) -> Result<(), AllocError>
+    requires links { IsChained commands.now }
+    requires round_links { IsChained rounds.now }
+    requires grounded { IsPartGrounded (log_of commands.now rounds.now) part depth }
+    ensures { OnOk result (BindsRound commands.now rounds.now part number
+        (bound_by bindings.old) (bound_by bindings.new)) }
+{
+    // Most rounds bind one variable, which needs no map of its own.
+    if let Some(Command::Fragment(name, fragment)) = only(commands, part) {
+        bindings.grow(alloc, number, name, Binding::Fragment(fragment.try_clone()?))?;
+        return Ok(());
+    }
+    let round = build_part(alloc, commands, rounds, part, depth)?;
+    bindings.add_round(alloc, number, round)?;
     Ok(())
 }

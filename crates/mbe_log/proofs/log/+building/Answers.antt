@@ -1,10 +1,13 @@
-use Rattle.std.proofs.Common.{◌≡◌, ◌<◌, ◌≤◌, length, refl, arith, rules}
-use Rattle.mbe_semantics.specs.Bindings.Account.{no_commands, no_command_rounds}
+use Rattle.std.proofs.Common.{◌≡◌, ◌<◌, ◌≤◌, ◌∙◌, [], ◌∷◌, length, refl, ap, subst, arith, rules}
+use Rattle.mbe_semantics.specs.Bindings.Account.{no_commands, no_command_rounds, add_round_in, grown_in, run}
+use Rattle.mbe_semantics.specs.Bindings.Environment.{fragment, value_of}
+use Rattle.mbe_log.specs.Chain.{Flat}
+use Rattle.mbe_log.proofs.BindingLemmas.{seen-fragment}
 use Rattle.mbe_log.specs.BindingViews.{bound_by}
 use Rattle.mbe_log.specs.Entries.{entry_seen, log_of}
 use Rattle.mbe_log.specs.Sound.{IsPartGrounded, IsCommandGrounded}
 use Rattle.mbe_log.proofs.BuildLemmas.{is_within, is_rounds_within}
-use Rattle.mbe_log.proofs.StepLemmas.{list_there, own_in_list, same_entry, grounded_command, built-step, built-end, grounded_round, bound-step, bound-end}
+use Rattle.mbe_log.proofs.StepLemmas.{list_there, own_in_list, same_entry, bound_alone, bound_apart, grounded_command, built-step, built-end, grounded_round, bound-step, bound-end}
 use Rattle.mbe_log.proofs.log.+building.Goals as goal
 
 pub build_part-places-requires-clause-within : goal.build_part-places-requires-clause-within
@@ -69,8 +72,8 @@ bind_rounds-own_at-part-requires g t c =
     own_in_list c.args.rounds.now c.args.finished c.in_ok-found.found.items c.deref-place-items.result.now c.in_ok-found.ensures c.deref-place-items.ensures.value
     c.loop-number.number _ c.index-rounds-place.result short c.index-rounds-place.is
 
-pub bind_rounds-build_part-requires : goal.bind_rounds-build_part-requires
-bind_rounds-build_part-requires g t c =
+pub bind_rounds-bind_round-requires : goal.bind_rounds-bind_round-requires
+bind_rounds-bind_round-requires g t c =
     let short : c.loop-number.number < length c.deref-place-items.result.now = search rules in
     let grounded : IsPartGrounded (log_of c.args.commands.now c.args.rounds.now) c.own_at-part.result.now c.args.depth =
     grounded_round c.args.commands.now c.args.rounds.now c.deref-place-items.result.now c.loop-number.number (bound_by c.args.bindings.now)
@@ -87,15 +90,16 @@ bind_rounds-loop-number-preserved g t c =
     (bound_by c.loop-number.bindings) c.own_at-part.result.now c.loop-number.invariant
     (same_entry c.args.rounds.now c.args.finished c.in_ok-found.found.items c.deref-place-items.result.now c.in_ok-found.ensures c.deref-place-items.ensures.value
     c.loop-number.number _ c.index-rounds-place.result c.own_at-part.result.now short c.index-rounds-place.is c.own_at-part.ensures)
-    (bound_by c.add_round.new.self) (bound_by c.in_ok-round.round) c.in_ok-round.ensures c.in_ok-add_round.ensures
+    (bound_by c.bind_round.new.bindings) c.in_ok-bind_round.ensures
 
 pub bind_rounds-returns : goal.bind_rounds-returns
 bind_rounds-returns g t c =
     let long : length c.deref-place-items.result.now ≤ c.loop-number.number = search rules in
     let count : c.loop-number.number ≡ length c.in_ok-found.found.items = search rules in
     bound-end c.args.commands.now c.args.rounds.now c.deref-place-items.result.now c.loop-number.number (bound_by c.args.bindings.now)
-    (bound_by c.loop-number.bindings) (bound_by c.add_round-2.new.self) (bound_by c.in_ok-round-2.round) c.args.finished c.args.last c.in_ok-found.found.items
-    c.loop-number.invariant c.in_ok-found.ensures c.deref-place-items.ensures.value long count c.in_ok-round-2.ensures (search rules)
+    (bound_by c.loop-number.bindings) (bound_by c.bind_round-2.new.bindings) c.args.finished c.args.last c.in_ok-found.found.items
+    c.loop-number.invariant c.in_ok-found.ensures c.deref-place-items.ensures.value long count
+    (λ cs p. c.in_ok-bind_round-2.ensures cs p ∙ ap (λ n. add_round_in n (run cs []) (bound_by c.loop-number.bindings)) (search rules))
 
 pub build_part-offset_bounds-commands-place : goal.build_part-offset_bounds-commands-place
 build_part-offset_bounds-commands-place g t c =
@@ -108,3 +112,19 @@ bind_rounds-offset_bounds-rounds-place g t c =
     let short : c.loop-number.number < length c.deref-place-items.result.now = search rules in
     let k = list_there c.args.rounds.now c.args.finished c.in_ok-found.found.items c.deref-place-items.result.now c.in_ok-found.ensures c.deref-place-items.ensures.value
     c.loop-number.number (record { list = 0; first = 0 }) short in omega (arith, k)
+
+pub bind_round-only-requires : goal.bind_round-only-requires
+bind_round-only-requires g t c = is_within c.args.commands.now c.args.rounds.now c.requires.grounded.1
+
+pub bind_round-returns-in-Some-Fragment : goal.bind_round-returns-in-Some-Fragment
+bind_round-returns-in-Some-Fragment g t c =
+    bound_alone c.args.commands.now c.args.rounds.now c.args.part c.args.number (bound_by c.args.bindings.now) (bound_by c.grow.new.self)
+    c.in-Some-Fragment.name c.in-Some-Fragment.fragment
+    (subst (λ e. Flat c.args.commands.now c.args.part (e ∷ [])) c.in-Some-Fragment.field-0-is c.in-Some-Fragment.ensures)
+    (c.in_ok-grow.ensures ∙ ap (λ v. grown_in c.args.number (bound_by c.args.bindings.now) c.in-Some-Fragment.name v
+      (value_of (bound_by c.args.bindings.now) c.in-Some-Fragment.name)) (seen-fragment _ ∙ ap fragment c.in_ok-try_clone.ensures))
+
+pub bind_round-returns : goal.bind_round-returns
+bind_round-returns g t c =
+    bound_apart c.args.commands.now c.args.rounds.now c.args.part c.args.number (bound_by c.args.bindings.now) (bound_by c.add_round.new.self)
+    (bound_by c.in_ok-round.round) c.in_ok-round.ensures c.in_ok-add_round.ensures

@@ -4,13 +4,16 @@ use Rattle.mbe_log.specs.Building.{IsBuiltSoFar, AreBoundSoFar}
 use Rattle.mbe_log.proofs.log.+building.Given as goal
 
 abbrev pub decreases-build_part : goal.decreases-build_part
-decreases-build_part g l = 3 * l.depth + 3
+decreases-build_part g l = 4 * l.depth + 3
 
 abbrev pub decreases-bind_command : goal.decreases-bind_command
-decreases-bind_command g l = 3 * l.depth + 2
+decreases-bind_command g l = 4 * l.depth + 2
 
 abbrev pub decreases-bind_rounds : goal.decreases-bind_rounds
-decreases-bind_rounds g l = 3 * l.depth + 4
+decreases-bind_rounds g l = 4 * l.depth + 5
+
+abbrev pub decreases-bind_round : goal.decreases-bind_round
+decreases-bind_round g l = 4 * l.depth + 4
 
 abbrev pub invariant-build_part-loop-place : goal.invariant-build_part-loop-place
 invariant-build_part-loop-place g l = IsBuiltSoFar l.commands l.rounds l.place-items l.place-index (bound_by l.bindings)
