@@ -193,14 +193,13 @@ impl<'t> Scanner<'t> {
         ensures within { IfErr result (λ fault. fault.offset ≤ self.old.total) }
     {
         'parts: loop {
-            if self.rest.starts_with("//") {
-                self.line_comment();
-            } else if self.rest.starts_with("/*") {
-                self.block_comment()?;
-            } else if let Some(' ' | '\t' | '\r' | '\n') = self.peek() {
-                self.bump();
-            } else {
-                return Ok(());
+            match self.peek() {
+                Some(' ' | '\t' | '\r' | '\n') => {
+                    self.bump();
+                }
+                Some('/') if self.rest.starts_with("//") => self.line_comment(),
+                Some('/') if self.rest.starts_with("/*") => self.block_comment()?,
+                _ => return Ok(()),
             }
         }
     }
@@ -503,12 +502,15 @@ impl<'t> Scanner<'t> {
 
     // A punct is joint where the next one begins right here. The `/` of a comment is none.
     fn spacing(&self) -> Spacing {
-        let is_comment = self.rest.starts_with("//") || self.rest.starts_with("/*");
-        if !is_comment && self.rest.starts_with(is_punct) {
-            Spacing::Joint
-        } else {
-            Spacing::Alone
+        match self.peek() {
+            Some('/') if self.is_at_comment() => Spacing::Alone,
+            Some(char) if is_punct(char) => Spacing::Joint,
+            _ => Spacing::Alone,
         }
+    }
+
+    fn is_at_comment(&self) -> bool {
+        self.rest.starts_with("//") || self.rest.starts_with("/*")
     }
 
     // Passes a punct, or one side of a group. Another character is a fault.
@@ -545,7 +547,7 @@ impl<'t> Scanner<'t> {
             → IfOk result (λ l. self.old.rest.now ≡ lexeme_text l ++ self.new.rest.now) }
         ensures within { IfErr result (λ fault. fault.offset ≤ self.old.total) }
     {
-        if self.is_at_raw() {
+        if char == 'r' && self.is_at_raw() {
             self.raw_identifier()
         } else if starts_identifier(char) {
             self.identifier()
