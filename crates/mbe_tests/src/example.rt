@@ -29,7 +29,7 @@ pub fn print_expanded<W: Write>(
     let call_site = argument.top_subtree().delimiter.opening;
     let style = MacroCallStyle::FnLike;
     let expanded = defined.expand(alloc, &SampleGrammar, &argument, |s| s, style, call_site)?;
-    if let Some(error) = expanded.err {
+    if let Some(error) = &expanded.err {
         bail!("{error}");
     }
     print_tree(&expanded.value.0, out)?;
