@@ -3,6 +3,7 @@
 #![tactic(auto)]
 
 pub mod node;
+pub mod reading;
 mod step;
 pub mod table;
 mod taking;
