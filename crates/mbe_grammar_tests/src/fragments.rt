@@ -13,7 +13,7 @@ use std::process::Abort;
 use std::test::Fail;
 
 // The trees of a text.
-fn trees(rt: &impl Abort, alloc: Global, text: &str) -> Result<TopSubtree, LexError> {
+pub fn trees(rt: &impl Abort, alloc: Global, text: &str) -> Result<TopSubtree, LexError> {
     assert!(rt; text.len() < 100_000_000);
     lex(alloc, text, 0)
 }

@@ -4,5 +4,7 @@
 #[cfg(test)]
 mod chains;
 #[cfg(test)]
+mod forms;
+#[cfg(test)]
 mod fragments;
 pub mod one_token;

@@ -20,6 +20,8 @@ mod grammar;
 #[cfg(test)]
 mod macro2;
 #[cfg(test)]
+mod marking;
+#[cfg(test)]
 mod matching;
 #[cfg(test)]
 mod places;

@@ -1,4 +1,5 @@
 use crate::calls::{Book, Call, What, make, names, new_book, show_built};
+use mbe_log::log::BindingLog;
 use mbe_tt::span::{DelimSpan, Span};
 use mbe_tt::symbol::Symbol;
 use mbe_tt::tt::{TokenTreesView, TopSubtree};
@@ -116,4 +117,24 @@ fn a_refused_call_changes_no_handle(rt: HostRuntime) {
 #[test]
 fn a_refused_build_can_be_asked_again(rt: HostRuntime) {
     assert!(rt; first_unrefused(rt.alloc(), true).unwrap_or(0) > 16);
+}
+
+// How many entries the last of so many handles has, each of which has bound a name.
+fn last_of_many(alloc: Global, count: usize) -> Result<(usize, usize), AllocError> {
+    let name = Symbol::intern(alloc, "x")?;
+    let mut log = BindingLog::new(alloc);
+    for _handle in 0..count {
+        let mut handle = log.alloc()?;
+        log.push_empty(&mut handle, &name)?;
+    }
+    let mut last = log.alloc()?;
+    log.push_empty(&mut last, &name)?;
+    log.push_default(&mut last)?;
+    Ok(log.entries_of(&last))
+}
+
+#[test]
+fn a_log_has_a_million_lists(rt: HostRuntime) -> Result<(), AllocError> {
+    assert_eq!(rt; last_of_many(rt.alloc(), 500_000)?, (0, 1));
+    Ok(())
 }

@@ -1,0 +1,64 @@
+// On which spans a marker is called: those of what the template writes itself, once for each time that it is written.
+use crate::grammar::NOTHING;
+use crate::runs::{assert_checked, defined};
+use crate::tokens::at;
+use crate::trees::lexed;
+use mbe::MacroCallStyle;
+use mbe_tt::span::Span;
+use std::alloc::Global;
+use std::cell::Cell;
+use std::process::Abort;
+use std::test::Fail;
+
+// A definition, an argument, whether there is an error, and how often the marker is called.
+type Row = (&'static str, &'static str, bool, u32);
+
+static ROWS: [Row; 8] = [
+    ("(a) => {}", "a", false, 0),
+    ("(a) => {X 1 + (Y)}", "a", false, 6),
+    ("($x:ident) => {$x X}", "a", false, 1),
+    ("($($x:ident)*) => {$($x X),*}", "a b c", false, 3),
+    (
+        "($x:ident) => {${concat(X, $x)} ${count($x)}}",
+        "a",
+        false,
+        1,
+    ),
+    // In place of what is missing too.
+    ("($x:ident) => {$x X}", "1", true, 2),
+    ("(a) => {X}; (a 1 b) => {Y Z}", "a 1", true, 2),
+    // Two rules are tried, and the first of them is recovered.
+    ("(a) => {X $($y)+}; (a) => {Y Z $($y)+}", "a", true, 3),
+];
+
+// How often a marker was called on spans of the definition, and of others.
+fn calls(
+    rt: &impl Abort,
+    alloc: Global,
+    definition: &str,
+    argument: &str,
+) -> Result<(bool, u32, u32), Fail> {
+    let rules = defined(alloc, definition)?;
+    assert_checked(rt, &rules);
+    let argument = lexed(alloc, 1, argument)?;
+    let own = Cell::new(0u32);
+    let others = Cell::new(0u32);
+    let marker = |span: Span| {
+        let calls = if span.file == 0 { &own } else { &others };
+        calls.set(calls.get().saturating_add(1));
+        span
+    };
+    let style = MacroCallStyle::FnLike;
+    let call_site = at(2, 40, 44);
+    let expansion = rules.expand(alloc, &NOTHING, &argument, marker, style, call_site)?;
+    Ok((expansion.err.is_some(), own.get(), others.get()))
+}
+
+#[test]
+fn a_marker_is_called_on_the_spans_of_the_template(rt: HostRuntime) -> Result<(), Fail> {
+    for &(definition, argument, fails, count) in &ROWS {
+        let found = calls(&rt, rt.alloc(), definition, argument)?;
+        assert!(rt; found == (fails, count, 0), "{definition} on {argument}");
+    }
+    Ok(())
+}
