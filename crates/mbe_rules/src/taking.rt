@@ -74,6 +74,7 @@ fn take_node<'t, A: Allocator>(
 
 // A group of a kind whose whole content is a rule.
 #[cycle(take)]
+#[inline(never)]
 fn inside<'t, A: Allocator>(
     table: &RuleTable<'_>,
     depth: u32,
@@ -97,6 +98,7 @@ fn inside<'t, A: Allocator>(
 
 // A rule as often as it fits, and no oftener than there are flat tokens.
 #[cycle(take)]
+#[inline(never)]
 fn repeated<'t, A: Allocator>(
     table: &RuleTable<'_>,
     depth: u32,

@@ -1,4 +1,5 @@
-// What is asked of the trees at the front.
+// What is asked of the trees at the front. Each kind of terminal has a function of its own, which isn't inlined, so that a rule's frame
+// on the stack is small: a call of `take` clears it.
 ghost use Rattle.std.specs.Prelude.{◌≡◌, map};
 ghost use Rattle.std.specs.List.{list_any};
 ghost use Rattle.std.specs.Str.{bytes_eq};
@@ -19,6 +20,7 @@ use mbe_tt::tt::{DelimiterKind, Ident, IdentIsRaw, Leaf, Punct, TokenTreesView, 
 use std::alloc::Allocator;
 
 /// The trees after what a terminal takes.
+#[inline(never)]
 pub fn terminal<'t, A: Allocator>(
     table: &RuleTable<'_>,
     what: Terminal<'_>,
@@ -42,6 +44,7 @@ pub fn terminal<'t, A: Allocator>(
     }
 }
 
+#[inline(never)]
 fn word<'t, A: Allocator>(tokens: TokenTreesView<'t, A>, texts: &[&str]) -> Step<'t, A>
     ensures { seen result ≡ or_absent
         (after_one (is_one_of (map (λ t. t.now) texts.now)) (trees tokens.entry)) }
@@ -68,6 +71,7 @@ fn is_text_of(text: &str, texts: &[&str]) -> bool
     texts.iter().any(|t| text == *t)
 }
 
+#[inline(never)]
 fn identifier<'t, A: Allocator>(tokens: TokenTreesView<'t, A>) -> Step<'t, A>
     ensures { seen result ≡ or_absent (after_one is_identifier (trees tokens.entry)) }
 {
@@ -78,6 +82,7 @@ fn identifier<'t, A: Allocator>(tokens: TokenTreesView<'t, A>) -> Step<'t, A>
     }
 }
 
+#[inline(never)]
 fn name<'t, A: Allocator>(table: &RuleTable<'_>, tokens: TokenTreesView<'t, A>) -> Step<'t, A>
     ensures { seen result ≡ or_absent (after_one (is_name table.now) (trees tokens.entry)) }
 {
@@ -99,6 +104,7 @@ fn is_keyword<A: Allocator>(table: &RuleTable<'_>, ident: &Ident<A>) -> bool
     }
 }
 
+#[inline(never)]
 fn literal<'t, A: Allocator>(tokens: TokenTreesView<'t, A>) -> Step<'t, A>
     ensures { seen result ≡ or_absent (after_one is_literal (trees tokens.entry)) }
 {
@@ -109,6 +115,7 @@ fn literal<'t, A: Allocator>(tokens: TokenTreesView<'t, A>) -> Step<'t, A>
     }
 }
 
+#[inline(never)]
 fn any<'t, A: Allocator>(tokens: TokenTreesView<'t, A>) -> Step<'t, A>
     ensures { seen result ≡ or_absent (after_one is_any (trees tokens.entry)) }
 {
@@ -119,6 +126,7 @@ fn any<'t, A: Allocator>(tokens: TokenTreesView<'t, A>) -> Step<'t, A>
     }
 }
 
+#[inline(never)]
 fn end<'t, A: Allocator>(tokens: TokenTreesView<'t, A>) -> Step<'t, A>
     ensures { seen result ≡ at_end (trees tokens.entry) }
 {
@@ -129,6 +137,7 @@ fn end<'t, A: Allocator>(tokens: TokenTreesView<'t, A>) -> Step<'t, A>
     }
 }
 
+#[inline(never)]
 fn since<'t, A: Allocator>(
     table: &RuleTable<'_>,
     edition: Edition,
@@ -142,6 +151,7 @@ fn since<'t, A: Allocator>(
     }
 }
 
+#[inline(never)]
 fn sign<'t, A: Allocator>(tokens: TokenTreesView<'t, A>, char: char) -> Step<'t, A>
     ensures { seen result ≡ or_absent (after_one (is_punct char) (trees tokens.entry)) }
 {
@@ -152,6 +162,7 @@ fn sign<'t, A: Allocator>(tokens: TokenTreesView<'t, A>, char: char) -> Step<'t,
     }
 }
 
+#[inline(never)]
 fn group<'t, A: Allocator>(tokens: TokenTreesView<'t, A>, kinds: &[DelimiterKind]) -> Step<'t, A>
     ensures { seen result ≡ or_absent (after_one (is_group kinds.now) (trees tokens.entry)) }
 {
@@ -168,6 +179,7 @@ fn is_kind_of(kind: DelimiterKind, kinds: &[DelimiterKind]) -> bool
     kinds.iter().any(|k| kind == *k)
 }
 
+#[inline(never)]
 fn operator<'t, A: Allocator>(tokens: TokenTreesView<'t, A>, texts: &[&str]) -> Step<'t, A>
     ensures { seen result ≡ or_absent
         (after_operator (map (λ t. t.now) texts.now) (trees tokens.entry)) }

@@ -1,0 +1,258 @@
+// Tables that are read from texts, and where a text is no grammar.
+use mbe_rules::node::{Node, Terminal};
+use mbe_rules::reading::fault::RuleFault;
+use mbe_rules::reading::rules::Rules;
+use mbe_text::lexer::lex;
+use mbe_tt::grammar::{FragmentGrammar, Front, PrefixEntryPoint};
+use mbe_tt::span::Edition;
+use mbe_tt::tt::DelimiterKind;
+use std::alloc::{AllocError, Global};
+use std::process::Abort;
+use std::test::Fail;
+
+// Texts, and their nodes: first those of the rules' names.
+static NODES: [(&str, &[Node<'static>]); 12] = [
+    ("", &[]),
+    ("# nothing", &[]),
+    ("a = NAME", &[Node::Part(1), Node::Terminal(Terminal::Name)]),
+    (
+        "a = b b b = IDENT",
+        &[
+            Node::Part(4),
+            Node::Part(5),
+            Node::Part(1),
+            Node::Part(1),
+            Node::Then(2, 3),
+            Node::Terminal(Terminal::Identifier),
+        ],
+    ),
+    (
+        "a = \"x\" | '->' | `<`",
+        &[
+            Node::Part(5),
+            Node::Terminal(Terminal::Word("x")),
+            Node::Terminal(Terminal::Operator("->")),
+            Node::Or(1, 2),
+            Node::Terminal(Terminal::Sign('<')),
+            Node::Or(3, 4),
+        ],
+    ),
+    (
+        "a = ANY? END*",
+        &[
+            Node::Part(5),
+            Node::Terminal(Terminal::Any),
+            Node::Maybe(1),
+            Node::Terminal(Terminal::End),
+            Node::Repeated(3),
+            Node::Then(2, 4),
+        ],
+    ),
+    (
+        "a = LITERAL+",
+        &[
+            Node::Part(3),
+            Node::Terminal(Terminal::Literal),
+            Node::Repeated(1),
+            Node::Then(1, 2),
+        ],
+    ),
+    (
+        "a = &a ~a! a",
+        &[
+            Node::Part(8),
+            Node::Part(0),
+            Node::Ahead(1),
+            Node::Part(0),
+            Node::Needed(3),
+            Node::NotAhead(4),
+            Node::Then(2, 5),
+            Node::Part(0),
+            Node::Then(6, 7),
+        ],
+    ),
+    (
+        "a = (a | b) b\nb = PAREN",
+        &[
+            Node::Part(7),
+            Node::Part(8),
+            Node::Part(0),
+            Node::Part(1),
+            Node::Or(2, 3),
+            Node::Part(4),
+            Node::Part(1),
+            Node::Then(5, 6),
+            Node::Terminal(Terminal::Group(&[DelimiterKind::Parenthesis])),
+        ],
+    ),
+    (
+        "a = PAREN[a] # BRACE[b]",
+        &[
+            Node::Part(2),
+            Node::Part(0),
+            Node::Inside(DelimiterKind::Parenthesis, 1),
+        ],
+    ),
+    (
+        "a=BRACKET[`#`\n]|VISIBLE",
+        &[
+            Node::Part(4),
+            Node::Terminal(Terminal::Sign('#')),
+            Node::Inside(DelimiterKind::Bracket, 1),
+            Node::Terminal(Terminal::Group(&[
+                DelimiterKind::Parenthesis,
+                DelimiterKind::Brace,
+                DelimiterKind::Bracket,
+            ])),
+            Node::Or(2, 3),
+        ],
+    ),
+    (
+        "a = SINCE_2024 (BRACE)!",
+        &[
+            Node::Part(5),
+            Node::Terminal(Terminal::Since(Edition::Edition2024)),
+            Node::Terminal(Terminal::Group(&[DelimiterKind::Brace])),
+            Node::Part(2),
+            Node::Needed(3),
+            Node::Then(1, 4),
+        ],
+    ),
+];
+
+#[test]
+fn texts_are_tables(rt: HostRuntime) -> Result<(), Fail> {
+    for (text, nodes) in &NODES {
+        let Ok(rules) = Rules::read(rt.alloc(), *text) else {
+            return Err(Fail::from("refused"));
+        };
+        let table = rules.table(Edition::Edition2021, &[]);
+        assert!(rt; table.nodes == *nodes, "{text}");
+    }
+    Ok(())
+}
+
+// Texts that are no grammar, with the place and the reason.
+static FAULTS: [(&str, &str); 24] = [
+    ("a = NAME\n\nb = type", "3:5: no rule is named \"type\""),
+    ("a = (é | type)", "1:6: no word of a grammar begins here"),
+    ("a = \"é\" | type", "1:11: no rule is named \"type\""),
+    ("NAME", "1:1: a name and a `=` have to stand before this"),
+    (
+        "\n  | a = a",
+        "2:3: a name and a `=` have to stand before this",
+    ),
+    ("a =\nb = NAME", "2:1: a rule is missing here"),
+    ("a = NAME | # b\n", "1:12: a rule is missing here"),
+    ("a = | NAME", "1:5: a rule is missing here"),
+    ("a = ()", "1:6: a rule is missing here"),
+    ("a = PAREN[]", "1:11: a rule is missing here"),
+    ("a = & | a", "1:7: a rule is missing here"),
+    ("a = &&a", "1:6: a rule is missing here"),
+    ("a = a & )", "1:9: a rule is missing here"),
+    ("a = ?", "1:5: no rule stands before this"),
+    ("a = a | *", "1:9: no rule stands before this"),
+    ("a = (a\nb = a", "1:5: nothing closes this"),
+    ("a = BRACE[(a)", "1:5: nothing closes this"),
+    ("a = a)", "1:6: nothing opens this"),
+    ("a = (a]", "1:7: nothing opens this"),
+    ("a = \"b\n\"", "1:5: nothing closes this"),
+    ("a = ''", "1:5: an empty text"),
+    ("a = `bc`", "1:5: one character and a \"`\" have to follow"),
+    ("a = a\na = a", "2:1: a rule before is named \"a\""),
+    (
+        "KEYWORDS_2018 = \"a\" b",
+        "1:21: keywords are words in `\"`",
+    ),
+];
+
+#[test]
+fn faults_have_places(rt: HostRuntime) -> Result<(), Fail> {
+    for (text, want) in &FAULTS {
+        let Err(fault) = Rules::read(rt.alloc(), *text) else {
+            return Err(Fail::from("read"));
+        };
+        let shown = fault.to_string(rt.alloc())?;
+        assert_eq!(rt; shown.as_str(), *want, "{text}");
+    }
+    Ok(())
+}
+
+// What a program writes of a file that is no grammar.
+fn message(alloc: Global, file: &str, fault: RuleFault<'_>) -> Result<String, AllocError> {
+    format!(in alloc; "{file}:{fault}")
+}
+
+#[test]
+fn messages_name_the_file(rt: HostRuntime) -> Result<(), Fail> {
+    let Err(fault) = Rules::read(rt.alloc(), "ty = tie\n\ntie = type") else {
+        return Err(Fail::from("read"));
+    };
+    let text = message(rt.alloc(), "grammar.txt", fault)?;
+    assert_eq!(rt; text.as_str(), "grammar.txt:3:7: no rule is named \"type\"");
+    Ok(())
+}
+
+// A grammar of sums, whose operands are names, literals and sums in parentheses.
+const SUMS: &str = "
+    # What `$e:expr` takes.
+    expr = operand ('+' operand!)*
+    operand = NAME | LITERAL | PAREN[expr]
+    KEYWORDS_2015 = \"let\" \"fn\"
+    KEYWORDS_2024 = \"gen\"
+";
+
+// Texts, and how many flat tokens the grammar takes of each; none is a fault.
+static TAKEN: [(&str, Option<usize>); 8] = [
+    ("a", Some(1)),
+    ("a + 1 b", Some(3)),
+    ("(a + b) + c;", Some(7)),
+    ("(a b)", None),
+    ("a +", None),
+    ("let", None),
+    ("r#let", Some(1)),
+    ("gen", Some(1)),
+];
+
+fn assert_takes(
+    rt: &impl Abort,
+    alloc: Global,
+    (rules, text): (&Rules<'_>, &str),
+    want: Option<usize>,
+) -> Result<(), Fail> {
+    assert!(rt; text.len() < 100_000_000);
+    let Ok(tree) = lex(alloc, text, 0) else {
+        return Err(Fail::from("not lexed"));
+    };
+    let table = rules.table(Edition::Edition2021, &[]);
+    let front = table.parse(PrefixEntryPoint::Expr, tree.iter().remaining())?;
+    let want = Front {
+        count: want.unwrap_or(0),
+        fault: want.is_none(),
+    };
+    assert_eq!(rt; front, want, "{text}");
+    Ok(())
+}
+
+#[test]
+fn a_grammar_of_sums(rt: HostRuntime) -> Result<(), Fail> {
+    let Ok(rules) = Rules::read(rt.alloc(), SUMS) else {
+        return Err(Fail::from("refused"));
+    };
+    for (text, want) in &TAKEN {
+        assert_takes(&rt, rt.alloc(), (&rules, text), *want)?;
+    }
+    let table = rules.table(Edition::Edition2024, &[]);
+    assert!(rt; table.is_keyword("gen"));
+    assert!(rt; !table.is_keyword("r#gen"));
+    let none = Front {
+        count: 0,
+        fault: true,
+    };
+    let Ok(tree) = lex(rt.alloc(), "a", 0) else {
+        return Err(Fail::from("not lexed"));
+    };
+    let front = table.parse(PrefixEntryPoint::Ty, tree.iter().remaining())?;
+    assert_eq!(rt; front, none);
+    Ok(())
+}
