@@ -819,6 +819,21 @@ fn is_taken(
     Ok(front == wanted(rt, alloc, text)?)
 }
 
+// The first text of which something else is taken.
+fn first_mistaken(
+    rt: &impl Abort,
+    alloc: Global,
+    entry: PrefixEntryPoint,
+    texts: &[&'static str],
+) -> Result<Option<&'static str>, Fail> {
+    for text in texts {
+        if !is_taken(rt, alloc, entry, text)? {
+            return Ok(Some(text));
+        }
+    }
+    Ok(None)
+}
+
 #[test]
 fn each_form_is_taken(rt: HostRuntime) -> Result<(), Fail> {
     let tables: [(PrefixEntryPoint, &[&str]); 19] = [
@@ -843,48 +858,52 @@ fn each_form_is_taken(rt: HostRuntime) -> Result<(), Fail> {
         (PrefixEntryPoint::Vis, &VISIBILITIES),
     ];
     for (entry, texts) in tables {
-        for text in texts {
-            assert!(rt; is_taken(&rt, rt.alloc(), entry, text)?, "{text}");
-        }
+        assert_eq!(rt; first_mistaken(&rt, rt.alloc(), entry, texts)?, None);
     }
     Ok(())
 }
 
-// With the word or puncts between two operands, and with none after it.
-fn is_operator(
+// The first that isn't taken so between two operands, and with none after it. In the forms it is `+`.
+fn first_unlike(
     rt: &impl Abort,
     alloc: Global,
-    operator: &str,
+    operators: &[&'static str],
     (both, one): (&str, &str),
-) -> Result<bool, Fail> {
-    let both = both.replace(alloc, "+", operator)?;
-    let one = one.replace(alloc, "+", operator)?;
+) -> Result<Option<&'static str>, Fail> {
     let entry = PrefixEntryPoint::Expr;
-    Ok(is_taken(rt, alloc, entry, both.as_str())? && is_taken(rt, alloc, entry, one.as_str())?)
+    for operator in operators {
+        let both = both.replace(alloc, "+", operator)?;
+        let one = one.replace(alloc, "+", operator)?;
+        if !is_taken(rt, alloc, entry, both.as_str())?
+            || !is_taken(rt, alloc, entry, one.as_str())?
+        {
+            return Ok(Some(operator));
+        }
+    }
+    Ok(None)
 }
 
 #[test]
 fn operators_join_two_operands(rt: HostRuntime) -> Result<(), Fail> {
-    for operator in &OPERATORS {
-        let forms = ("a + b§ c", "a +");
-        assert!(rt;
-            is_operator(&rt, rt.alloc(), operator, forms)?,
-            "{operator}"
-        );
-    }
-    for other in &NO_OPERATORS {
-        let forms = ("a§ + b c", "a§ +");
-        assert!(rt; is_operator(&rt, rt.alloc(), other, forms)?, "{other}");
-    }
+    let joined = ("a + b§ c", "a +");
+    assert_eq!(rt; first_unlike(&rt, rt.alloc(), &OPERATORS, joined)?, None);
+    let apart = ("a§ + b c", "a§ +");
+    assert_eq!(rt; first_unlike(&rt, rt.alloc(), &NO_OPERATORS, apart)?, None);
     Ok(())
+}
+
+// The first text that is a keyword where it isn't to be one, or the other way round.
+fn first_misnamed(texts: &[&'static str], is_keyword: bool) -> Option<&'static str> {
+    for text in texts {
+        if SampleGrammar.is_keyword(text) != is_keyword {
+            return Some(text);
+        }
+    }
+    None
 }
 
 #[test]
 fn keywords_are_those_of_the_reference(rt: HostRuntime) {
-    for text in &KEYWORDS {
-        assert!(rt; SampleGrammar.is_keyword(text), "{text}");
-    }
-    for text in &NO_KEYWORDS {
-        assert!(rt; !SampleGrammar.is_keyword(text), "{text}");
-    }
+    assert_eq!(rt; first_misnamed(&KEYWORDS, true), None);
+    assert_eq!(rt; first_misnamed(&NO_KEYWORDS, false), None);
 }
