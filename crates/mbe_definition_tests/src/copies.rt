@@ -68,7 +68,13 @@ const EVERY_FORM: &str =
     $(i)* $(k)and* $crate) => {$a $j [c] 1 + $($d $e);* $($g)? ${ignore($a)} ${index()} ${len(1)} ${count($d)} ${count($e, 1)} \
     ${concat(a, $a, 1)} $$ $crate $}; () => {}; x";
 
-static COPIED: [&str; 3] = [EVERY_FORM, "", "($()*) => {}; ($x) => {}"];
+// With a fault, without rules, with a refusal, and with rules alone.
+static COPIED: [&str; 4] = [
+    EVERY_FORM,
+    "",
+    "($()*) => {}; ($x) => {}",
+    "attr(x) ($a:ident) => {$a}; ($($b:tt),*) => {[$($b)*]}",
+];
 
 fn are_alike(one: &DeclarativeMacro, two: &DeclarativeMacro) -> bool {
     *one == *two

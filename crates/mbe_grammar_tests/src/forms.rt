@@ -1,4 +1,4 @@
-// Each form of the sample grammar, what isn't one, the operators and the keywords, by the rules of `specs/SampleGrammar`.
+// Each form of the sample grammar, what isn't one, and the operators, by the rules of `specs/SampleGrammar`.
 use crate::fragments::trees;
 use mbe_grammar::SampleGrammar;
 use mbe_tt::grammar::{FragmentGrammar, Front, PrefixEntryPoint};
@@ -762,36 +762,6 @@ static NO_OPERATORS: [&str; 15] = [
     "=>", "->", "<-", "..", "..=", "...", ":", ";", ",", "!", "@", "#", "$", "as", "~",
 ];
 
-// The strict and the reserved words of the Rust Reference, in edition 2024.
-static KEYWORDS: [&str; 52] = [
-    "abstract", "as", "async", "await", "become", "box", "break", "const", "continue", "crate",
-    "do", "dyn", "else", "enum", "extern", "false", "final", "fn", "for", "gen", "if", "impl",
-    "in", "let", "loop", "macro", "match", "mod", "move", "mut", "override", "priv", "pub", "ref",
-    "return", "self", "Self", "static", "struct", "super", "trait", "true", "try", "type",
-    "typeof", "unsafe", "unsized", "use", "virtual", "where", "while", "yield",
-];
-
-// Words that are keywords in some places alone, and other texts.
-static NO_KEYWORDS: [&str; 17] = [
-    "union",
-    "auto",
-    "default",
-    "macro_rules",
-    "raw",
-    "safe",
-    "Let",
-    "SELF",
-    "fns",
-    "f",
-    "r#fn",
-    "'static",
-    "i32",
-    "str",
-    "a",
-    "",
-    "_",
-];
-
 // How many flat tokens of the text are to be taken.
 fn wanted(rt: &impl Abort, alloc: Global, text: &str) -> Result<Front, Fail> {
     let Some((taken, _)) = text.split_once("§") else {
@@ -819,6 +789,21 @@ fn is_taken(
     Ok(front == wanted(rt, alloc, text)?)
 }
 
+// The first text of which something else is taken.
+fn first_mistaken(
+    rt: &impl Abort,
+    alloc: Global,
+    entry: PrefixEntryPoint,
+    texts: &[&'static str],
+) -> Result<Option<&'static str>, Fail> {
+    for text in texts {
+        if !is_taken(rt, alloc, entry, text)? {
+            return Ok(Some(text));
+        }
+    }
+    Ok(None)
+}
+
 #[test]
 fn each_form_is_taken(rt: HostRuntime) -> Result<(), Fail> {
     let tables: [(PrefixEntryPoint, &[&str]); 19] = [
@@ -843,48 +828,36 @@ fn each_form_is_taken(rt: HostRuntime) -> Result<(), Fail> {
         (PrefixEntryPoint::Vis, &VISIBILITIES),
     ];
     for (entry, texts) in tables {
-        for text in texts {
-            assert!(rt; is_taken(&rt, rt.alloc(), entry, text)?, "{text}");
-        }
+        assert_eq!(rt; first_mistaken(&rt, rt.alloc(), entry, texts)?, None);
     }
     Ok(())
 }
 
-// With the word or puncts between two operands, and with none after it.
-fn is_operator(
+// The first that isn't taken so between two operands, and with none after it. In the forms it is `+`.
+fn first_unlike(
     rt: &impl Abort,
     alloc: Global,
-    operator: &str,
+    operators: &[&'static str],
     (both, one): (&str, &str),
-) -> Result<bool, Fail> {
-    let both = both.replace(alloc, "+", operator)?;
-    let one = one.replace(alloc, "+", operator)?;
+) -> Result<Option<&'static str>, Fail> {
     let entry = PrefixEntryPoint::Expr;
-    Ok(is_taken(rt, alloc, entry, both.as_str())? && is_taken(rt, alloc, entry, one.as_str())?)
+    for operator in operators {
+        let both = both.replace(alloc, "+", operator)?;
+        let one = one.replace(alloc, "+", operator)?;
+        if !is_taken(rt, alloc, entry, both.as_str())?
+            || !is_taken(rt, alloc, entry, one.as_str())?
+        {
+            return Ok(Some(operator));
+        }
+    }
+    Ok(None)
 }
 
 #[test]
 fn operators_join_two_operands(rt: HostRuntime) -> Result<(), Fail> {
-    for operator in &OPERATORS {
-        let forms = ("a + b§ c", "a +");
-        assert!(rt;
-            is_operator(&rt, rt.alloc(), operator, forms)?,
-            "{operator}"
-        );
-    }
-    for other in &NO_OPERATORS {
-        let forms = ("a§ + b c", "a§ +");
-        assert!(rt; is_operator(&rt, rt.alloc(), other, forms)?, "{other}");
-    }
+    let joined = ("a + b§ c", "a +");
+    assert_eq!(rt; first_unlike(&rt, rt.alloc(), &OPERATORS, joined)?, None);
+    let apart = ("a§ + b c", "a§ +");
+    assert_eq!(rt; first_unlike(&rt, rt.alloc(), &NO_OPERATORS, apart)?, None);
     Ok(())
-}
-
-#[test]
-fn keywords_are_those_of_the_reference(rt: HostRuntime) {
-    for text in &KEYWORDS {
-        assert!(rt; SampleGrammar.is_keyword(text), "{text}");
-    }
-    for text in &NO_KEYWORDS {
-        assert!(rt; !SampleGrammar.is_keyword(text), "{text}");
-    }
 }

@@ -248,23 +248,3 @@ fn invisible_groups(rt: HostRuntime) -> Result<(), Fail> {
     }
     Ok(())
 }
-
-static KEYWORDS: [(&str, bool); 9] = [
-    ("abstract", true),
-    ("gen", true),
-    ("Self", true),
-    ("yield", true),
-    ("union", false),
-    ("fns", false),
-    ("f", false),
-    ("", false),
-    ("_", false),
-];
-
-#[test]
-fn keywords(rt: HostRuntime) -> Result<(), Fail> {
-    for (text, want) in &KEYWORDS {
-        assert_eq!(rt; SampleGrammar.is_keyword(text), *want, "{text}");
-    }
-    Ok(())
-}

@@ -7,4 +7,6 @@ mod chains;
 mod forms;
 #[cfg(test)]
 mod fragments;
+#[cfg(test)]
+mod keywords;
 pub mod one_token;
