@@ -7,7 +7,7 @@ A PATH is a file or a folder of Rust files, as /usr/src/rustc-1.63.0 of Debian's
 each block statements, each parameter list parameters, and so on: tools/rust-src/inside.peg says what the groups hold, where
 crates/mbe_rust/rust.peg has a group only. The contents of macro calls and definitions aren't looked at. A line is printed for each file
 that isn't read whole, and then the numbers. With --judge rustc is asked about these files, and those that it refuses are only
-counted; the status is 1 if a file is left that rustc parses (`rustc -Zparse-crate-root-only`).
+counted; the status is 1 if a file is left that rustc parses (`rustc -Zparse-crate-root-only`) and that isn't in `KNOWN`.
 
 The edition is that of the file's line `// edition:YEAR`, else 2015 below a folder `test`, else 2021; `compile-flags` may have it too.
 
@@ -23,8 +23,19 @@ import tempfile
 from concurrent.futures import ThreadPoolExecutor
 
 TOP = os.path.dirname(os.path.dirname(os.path.abspath(__file__)))
+# Files of Debian's package that rustc's parser reads and the table doesn't, and why.
+KNOWN = {
+    "super-fast-paren-parsing.rs": "deeper than the table's rules may be",
+    "issue-93775.rs": "deeper than the table's rules may be",
+    "associated-type-projection-from-multiple-supertraits.rs": "`where A = B`",
+    "equality-bound.rs": "`where A = B`",
+    "missing-bounds.rs": "`where A = B`",
+    "where-equality-constraints.rs": "`where A = B`",
+    "obsolete-syntax-impl-for-dotdot.rs": "`impl A for ..`",
+    "index-float.rs": "`a.0. 0`",
+}
 TOKEN = re.compile(r'''
-    (?P<blank>\s+|//[^\n]*)
+    (?P<blank>[\s\u200e\u200f]+|//[^\n]*)
   | (?P<comment>/\*)
   | (?P<raw>(?:b|c)?r(?P<hashes>\#*)".*?"(?P=hashes)(?:[^\W\d]\w*)?)
   | (?P<text>(?:b|c)?"(?:[^"\\]|\\.)*"(?:[^\W\d]\w*)?)
@@ -127,7 +138,7 @@ def main():
     files, texts = [], []
     for file in files_of(paths):
         try:
-            with open(file, encoding="utf-8") as it:
+            with open(file, encoding="utf-8", newline="") as it:
                 text = it.read()
         except (UnicodeDecodeError, OSError):
             continue
@@ -140,11 +151,12 @@ def main():
         with ThreadPoolExecutor(2) as pool:
             parsed = pool.map(lambda number: is_parsed(files[number], texts[number][0]), missed)
             refused = {number for number, ok in zip(missed, parsed) if not ok}
-    left = [number for number in missed if number not in refused]
+    known = {number for number in missed if os.path.basename(files[number]) in KNOWN}
+    left = [number for number in missed if number not in refused | known]
     for number in left:
         print(f"{files[number]}, edition {texts[number][0]}")
     print(f"{len(files)} files, {sum(len(flat) for _, flat in texts)} bytes as they are read; {len(files) - len(missed)} are items to the end, "
-          f"{len(refused)} are refused by rustc too, {len(left)} are left")
+          f"{len(refused)} are refused by rustc too, {len(known - refused)} are known, {len(left)} are left")
     sys.exit(1 if left else 0)
 
 
