@@ -497,7 +497,12 @@ fn bind_round<'a, A: Allocator + Copy>(
 {
     // Most rounds bind one variable, which needs no map of its own.
     if let Some(Command::Fragment(name, fragment)) = only(commands, part) {
-        bindings.grow(alloc, number, name, Binding::Fragment(fragment.try_clone()?))?;
+        bindings.grow(
+            alloc,
+            number,
+            name,
+            Binding::Fragment(fragment.try_clone()?),
+        )?;
         return Ok(());
     }
     let round = build_part(alloc, commands, rounds, part, depth)?;

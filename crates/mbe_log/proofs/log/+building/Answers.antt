@@ -122,7 +122,7 @@ bind_round-returns-in-Some-Fragment g t c =
     c.in-Some-Fragment.name c.in-Some-Fragment.fragment
     (subst (λ e. Flat c.args.commands.now c.args.part (e ∷ [])) c.in-Some-Fragment.field-0-is c.in-Some-Fragment.ensures)
     (c.in_ok-grow.ensures ∙ ap (λ v. grown_in c.args.number (bound_by c.args.bindings.now) c.in-Some-Fragment.name v
-      (value_of (bound_by c.args.bindings.now) c.in-Some-Fragment.name)) (seen-fragment _ ∙ ap fragment c.in_ok-try_clone.ensures))
+    (value_of (bound_by c.args.bindings.now) c.in-Some-Fragment.name)) (seen-fragment _ ∙ ap fragment c.in_ok-try_clone.ensures))
 
 pub bind_round-returns : goal.bind_round-returns
 bind_round-returns g t c =
