@@ -1,0 +1,10 @@
+// Grammars of fragments that are tables: rules as data, and one reader of them. Any table is a lawful grammar, so that nobody has
+// to prove anything of his own.
+#![tactic(auto)]
+
+pub mod node;
+mod step;
+pub mod table;
+mod taking;
+mod terminals;
+pub mod sample;
