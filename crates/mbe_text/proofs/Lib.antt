@@ -1,3 +1,4 @@
+pub mod CharacterLemmas
 pub mod Lines
 pub mod Made
 pub mod Printed

@@ -7,6 +7,7 @@ ghost use Rattle.mbe_tt.specs.Trees.Literals.{opening, closing};
 ghost use Rattle.mbe_text.specs.Ends.{IsRest, Begins};
 ghost use Rattle.mbe_text.specs.Tokens.{bytes_of, token_item, item_text, lexeme_text};
 
+use crate::characters::{Class, before};
 use mbe_tt::span::{Span, SyntaxContext};
 use mbe_tt::tt::{DelimiterKind, IdentIsRaw, LitKind, Spacing};
 use unicode_ident::{is_xid_continue, is_xid_start};
@@ -108,14 +109,6 @@ fn is_punct(char: char) -> bool {
             | '%'
             | '^'
     )
-}
-
-// What a text has before this rest of it.
-fn before<'t>(text: &'t str, rest: &str) -> &'t str
-    requires { length rest.now ≤ length text.now }
-    ensures { IsRest text.now rest.now → text.now ≡ result.now ++ rest.now }
-{
-    text.get(..text.len() - rest.len()).unwrap_or("")
 }
 
 // Whether an identifier of this text and what follows it would begin a prefixed or raw string, or a byte literal.
