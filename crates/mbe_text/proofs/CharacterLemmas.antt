@@ -2,6 +2,7 @@
 use Rattle.std.proofs.Common.{◌≡◌, ◌≢◌, ℕ, ◌+◌, ◌<◌, ◌≤◌, ◌-◌, ◌==◌, Bool, true, false, ◌&&◌, List, [], ◌∷◌, ◌++◌, length, take, drop, refl, sym, ap, ◌∙◌, arith, subst, MatchBool, None, chars, encode_utf8_all, IsUtf8, IsAscii, IsTrue, encode_utf8, length-append, get_or, suc, zero}
 use Rattle.std.specs.Str.Pattern.{HasPrefixMatch, FindsTextPrefix}
 use Rattle.std.proofs.lemmas.Str.{chars-append, encodes-chars, encodes-append, length-encode, len_utf8_bounds, chars-IsAscii, IsUtf8-take, IsCharBoundary-from_drop}
+use Rattle.std.proofs.lemmas.Bool.{false≢true}
 use Rattle.std.proofs.lemmas.Bool.Decides.{nat_tests}
 use Rattle.std.proofs.Math.Seq.{take-append_seam, drop-append_seam}
 use Rattle.mbe_text.specs.declared.characters.Class.{Class}
@@ -18,6 +19,12 @@ shorter text after c e =
 pub end_after : (whole text after : List ℕ) (c : ℕ) → IsEnd whole text → text ≡ encode_utf8 c ++ after → IsEnd whole after
 end_after whole text after c h e =
     (omega (arith, h.0, shorter text after c e), rest_after whole text (encode_utf8 c) after h.1 e)
+
+pub is_rest : (text after : List ℕ) (c : ℕ) → text ≡ encode_utf8 c ++ after → IsRest text after
+is_rest text after c e =
+    let none : 0 ≡ length text - length text = omega arith in
+    let same : IsRest text text = ap (λ (n : ℕ). drop n text) none in
+    rest_after text text (encode_utf8 c) after same e
 
 pub past_such : (k : Class) (c : ℕ) (cs all : List ℕ) → has k c ≡ true → all ≡ c ∷ cs → past k cs ≡ past k all
 past_such k c cs all h e = rw (e, h) refl
@@ -79,3 +86,7 @@ before_is text rest got ut ur e =
 pub got_bytes_before : (text rest got : List ℕ) → IsUtf8 text → IsUtf8 rest → (IsRest text rest → text ≡ got ++ rest)
     → IsRest text rest → got ≡ bytes_before (chars text) (chars rest)
 got_bytes_before text rest got ut ur h p = before_is text rest got ut ur (h p)
+
+pub front_fits : (r : Bool) (n s : List ℕ) → MatchBool r (HasPrefixMatch (FindsTextPrefix n) s) (FindsTextPrefix n s None) → IsTrue r → length n ≤ length s
+front_fits true n s h t = let k = h.1.0 in let l = h.2.0 in omega (arith, k, l)
+front_fits false n s h t = absurd (false≢true t)

@@ -18,11 +18,14 @@ read_literal total kind text cs = elim (past_suffix cs) [
 
 -- ---- numbers
 
--- what is left after a `.` and the digits behind it, unless that is a range or a field
+-- a `.`, which isn't of a range or before a field's name
+abbrev pub begins_fraction : List ℕ → Bool
+begins_fraction cs =
+    begins_with (codes ".") cs && not (begins_with (codes ".") (drop 1 cs)) && not (begins IdentStart (drop 1 cs))
+
+-- what is left after a fraction
 abbrev pub past_fraction : List ℕ → Option (List ℕ)
-past_fraction cs =
-    if begins_with (codes ".") cs && not (begins_with (codes ".") (drop 1 cs) || begins IdentStart (drop 1 cs))
-    then Some (past Digit (drop 1 cs)) else None
+past_fraction cs = if begins_fraction cs then Some (past Digit (drop 1 cs)) else None
 
 -- what is left after an exponent, whose first digit is no `_`
 abbrev pub past_exponent : List ℕ → Option (List ℕ)

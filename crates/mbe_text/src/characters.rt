@@ -1,5 +1,5 @@
 // The characters of a text: kinds of them, and what is left of a text after some.
-ghost use Rattle.std.specs.Prelude.{◌≡◌, ◌++◌, [], ◌∷◌, ◌+◌, ◌≤◌, length, chars, encode_utf8, MatchOption, IfSome, IsTrue, Some, None};
+ghost use Rattle.std.specs.Prelude.{◌≡◌, ◌++◌, [], ◌∷◌, ◌+◌, ◌<◌, ◌≤◌, length, chars, encode_utf8, MatchOption, IfSome, IsTrue, Some, None};
 ghost use Rattle.mbe_text.specs.Characters as spec;
 ghost use Rattle.mbe_text.specs.declared.characters.Class.TheVariants.{Punct};
 ghost use Rattle.mbe_text.specs.Ends.{IsEnd, IsRest};
@@ -60,6 +60,8 @@ pub(crate) fn split_first(text: &str) -> Option<(char, &str)>
         (λ p. chars text.now ≡ p.0 ∷ chars p.1.now) }
     ensures bytes { MatchOption result (text.now ≡ [])
         (λ p. text.now ≡ encode_utf8 p.0 ++ p.1.now) }
+    ensures shorter { IfSome result (λ p. length p.1.now < length text.now) }
+    ensures end { IfSome result (λ p. IsRest text.now p.1.now) }
 {
     let mut chars = text.chars();
     let char = chars.next()?;
@@ -68,7 +70,8 @@ pub(crate) fn split_first(text: &str) -> Option<(char, &str)>
 
 // Whether the first character is of this kind.
 pub(crate) fn begins(text: &str, class: Class) -> bool
-    ensures { result ≡ spec.begins class (chars text.now) }
+    ensures exact { result ≡ spec.begins class (chars text.now) }
+    ensures some { IsTrue result → 0 < length text.now }
 {
     match split_first(text) {
         Some((char, _)) => class.has(char),
@@ -105,7 +108,8 @@ pub(crate) fn past(text: &str, class: Class) -> &str
 // Whether the first characters are those of this front.
 pub(crate) fn begins_with(text: &str, front: &str) -> bool
     requires { IsTrue (spec.are_ascii front.now) }
-    ensures { result ≡ spec.begins_with front.now (chars text.now) }
+    ensures exact { result ≡ spec.begins_with front.now (chars text.now) }
+    ensures some { IsTrue result → length front.now ≤ length text.now }
 {
     text.starts_with(front)
 }

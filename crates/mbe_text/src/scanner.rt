@@ -1,16 +1,19 @@
 // The tokens of a text, one after another.
 ghost use Rattle.std.specs.Prelude.{◌≡◌, ◌↔◌, ◌<◌, ◌≤◌, ◌+◌, ◌^◌, length, IsSome, IfSome, IfNone};
 ghost use Rattle.std.specs.Prelude.{ℕ, true, List, [], ◌++◌, ◌∷◌, IfOk, IfErr};
-ghost use Rattle.std.specs.Prelude.{encode_utf8, slice_range};
+ghost use Rattle.std.specs.Prelude.{encode_utf8, slice_range, chars, drop, Some, None, MatchOption, MatchResult, is_some, unwrap_or};
 ghost use Rattle.std.specs.Str.{IsUtf8};
 ghost use Rattle.mbe_tt.specs.Trees.Literals.{opening, closing};
 ghost use Rattle.mbe_text.specs.Ends.{IsRest, Begins};
+ghost use Rattle.mbe_text.specs.Characters as characters;
+ghost use Rattle.mbe_text.specs.Words as words;
+ghost use Rattle.mbe_text.specs.Literals as literals;
+ghost use Rattle.mbe_text.specs.declared.characters.Class.TheVariants.{InLine};
 ghost use Rattle.mbe_text.specs.Tokens.{bytes_of, token_item, item_text, lexeme_text};
 
-use crate::characters::{Class, before};
+use crate::characters::{Class, before, begins, begins_with, offset, past, past_one, split_first};
 use mbe_tt::span::{Span, SyntaxContext};
 use mbe_tt::tt::{DelimiterKind, IdentIsRaw, LitKind, Spacing};
-use unicode_ident::{is_xid_continue, is_xid_start};
 
 /// Text that isn't lexed, by the byte at which what is wrong begins.
 #[derive(Clone, Copy, Debug, PartialEq, Eq)]
@@ -73,53 +76,21 @@ pub struct Scanner<'t> {
     ghost left: { IsRest text.now rest.now },
 }
 
-fn starts_identifier(char: char) -> bool {
-    is_xid_start(char) || char == '_'
-}
-
-fn is_digit(char: char) -> bool {
-    matches!(char, '0'..='9' | '_')
-}
-
-fn is_hex_digit(char: char) -> bool {
-    matches!(char, '0'..='9' | 'a'..='f' | 'A'..='F' | '_')
-}
-
-fn is_punct(char: char) -> bool {
-    matches!(
-        char,
-        '=' | '<'
-            | '>'
-            | '!'
-            | '&'
-            | '|'
-            | '~'
-            | '@'
-            | '.'
-            | ','
-            | ';'
-            | ':'
-            | '#'
-            | '$'
-            | '?'
-            | '+'
-            | '-'
-            | '*'
-            | '/'
-            | '%'
-            | '^'
-    )
-}
-
 // Whether an identifier of this text and what follows it would begin a prefixed or raw string, or a byte literal.
 // Those aren't lexed.
-fn begins_literal(name: &str, rest: &str) -> bool {
-    match name {
-        _ if rest.starts_with('"') => true,
-        "b" => rest.starts_with('\''),
-        "r" | "br" | "cr" => rest.starts_with('#') && rest.trim_start_matches('#').starts_with('"'),
-        _ => false,
-    }
+fn begins_literal(name: &str, rest: &str) -> bool
+    ensures { result ≡ words.begins_literal name.now (chars rest.now) }
+{
+    begins_with(rest, "\"")
+        || (name == "b" && begins_with(rest, "'"))
+        || ((name == "r" || name == "br" || name == "cr") && begins_hashes(rest))
+}
+
+// Whether a raw string goes on here, after its first letters.
+fn begins_hashes(rest: &str) -> bool
+    ensures { result ≡ words.begins_hashes (chars rest.now) }
+{
+    begins(rest, Class::Hash) && begins_with(past(rest, Class::Hash), "\"")
 }
 
 impl<'t> Scanner<'t> {
@@ -143,16 +114,20 @@ impl<'t> Scanner<'t> {
 
     /// The number of bytes consumed.
     pub fn offset(&self) -> u32
-        ensures { result + length self.now.rest.now ≡ self.now.total }
+        ensures bytes { result + length self.now.rest.now ≡ self.now.total }
+        ensures exact { result ≡ characters.offset self.now.total (chars self.now.rest.now) }
     {
-        self.total - self.rest.len() as u32
+        offset(self.total, self.rest)
     }
 
     fn peek(&self) -> Option<char>
         ensures some { IsSome result ↔ 0 < length self.now.rest.now }
         ensures begins { IfSome result (λ c. Begins c self.now.rest.now) }
+        ensures exact { MatchOption result (chars self.now.rest.now ≡ [])
+            (λ c. (rest : List ℕ) × (chars self.now.rest.now ≡ c ∷ rest)) }
     {
-        self.rest.chars().next()
+        let (char, _) = split_first(self.rest)?;
+        Some(char)
     }
 
     // Passes one character.
@@ -162,22 +137,22 @@ impl<'t> Scanner<'t> {
         ensures past { Advances self.old self.new }
         ensures whole { IfSome result (λ c.
             self.old.rest.now ≡ encode_utf8 c ++ self.new.rest.now) }
+        ensures rest { chars self.new.rest.now ≡ drop 1 (chars self.old.rest.now) }
+        ensures exact { MatchOption result (chars self.old.rest.now ≡ [])
+            (λ c. chars self.old.rest.now ≡ c ∷ chars self.new.rest.now) }
     {
-        let mut chars = self.rest.chars();
-        let char = chars.next();
-        self.rest = chars.as_str();
-        char
+        let (char, rest) = split_first(self.rest)?;
+        self.rest = rest;
+        Some(char)
     }
 
-    // Passes the characters up to one that isn't such.
-    fn pass<F: Fn(char) -> bool + Copy>(&mut self, is_such: F)
-        requires { F.IsAlwaysCallable is_such }
-        ensures { GoesOn self.old self.new }
+    // Passes the characters of a kind that come first.
+    fn pass(&mut self, class: Class)
+        ensures on { GoesOn self.old self.new }
+        ensures exact { chars self.new.rest.now
+            ≡ characters.past class (chars self.old.rest.now) }
     {
-        let text = self.rest;
-        let end = text.find(|c| !is_such(c)).unwrap_or(text.len());
-        let (_, rest) = text.split_at(end);
-        self.rest = rest;
+        self.rest = past(self.rest, class);
     }
 
     // Passes white space and comments.
@@ -186,24 +161,28 @@ impl<'t> Scanner<'t> {
         ensures within { IfErr result (λ fault. fault.offset ≤ self.old.total) }
     {
         'parts: loop {
-            match self.peek() {
-                Some(' ' | '\t' | '\r' | '\n') => {
-                    self.bump();
-                }
-                Some('/') if self.rest.starts_with("//") => self.line_comment(),
-                Some('/') if self.rest.starts_with("/*") => self.block_comment()?,
-                _ => return Ok(()),
+            if begins(self.rest, Class::Blank) {
+                self.bump();
+            } else if begins_with(self.rest, "//") {
+                self.line_comment();
+            } else if begins_with(self.rest, "/*") {
+                self.block_comment()?;
+            } else {
+                return Ok(());
             }
         }
     }
 
-    // Passes what is left of a line.
+    // Passes the two characters that begin a comment, and what is left of the line.
     fn line_comment(&mut self)
         ensures on { GoesOn self.old self.new }
         ensures past { Advances self.old self.new }
+        ensures exact { chars self.new.rest.now
+            ≡ characters.past InLine (drop 2 (chars self.old.rest.now)) }
     {
         self.bump();
-        self.pass(|c| c != '\n');
+        self.bump();
+        self.pass(Class::InLine);
     }
 
     // Passes a block comment, with those inside it.
@@ -213,7 +192,9 @@ impl<'t> Scanner<'t> {
         ensures within { IfErr result (λ fault. fault.offset ≤ self.old.total) }
     {
         let start = self.offset();
-        let mut depth = 0u32;
+        self.bump();
+        self.bump();
+        let mut depth = 1u32;
         'chars: while let Some(char) = self.bump() {
             match (char, self.peek()) {
                 ('/', Some('*')) => {
@@ -238,10 +219,13 @@ impl<'t> Scanner<'t> {
         ensures on { GoesOn self.old self.new }
         ensures past { Advances self.old self.new }
         ensures whole { self.old.rest.now ≡ result.now ++ self.new.rest.now }
+        ensures rest { chars self.new.rest.now ≡ words.past_word (chars self.old.rest.now) }
+        ensures exact { result.now
+            ≡ characters.bytes_before (chars self.old.rest.now) (chars self.new.rest.now) }
     {
         let text = self.rest;
         self.bump();
-        self.pass(is_xid_continue);
+        self.pass(Class::IdentContinue);
         before(text, self.rest)
     }
 
@@ -250,7 +234,7 @@ impl<'t> Scanner<'t> {
         ensures { result ≡ true → (text : List ℕ) × (self.now.rest.now ≡ 114 ∷ (35 ∷ text)) }
     {
         match self.rest.strip_prefix("r#") {
-            Some(name) => name.starts_with(starts_identifier),
+            Some(name) => begins(name, Class::IdentStart),
             None => false,
         }
     }
@@ -268,7 +252,7 @@ impl<'t> Scanner<'t> {
         self.bump();
         self.bump();
         let name = self.word();
-        if self.rest.starts_with('"') {
+        if begins_with(self.rest, "\"") {
             return Err(LexFault { offset: start });
         }
         Ok(Lexeme::Ident {
@@ -308,7 +292,7 @@ impl<'t> Scanner<'t> {
         ensures within { IfErr result (λ fault. fault.offset ≤ self.old.total) }
     {
         let start = self.offset();
-        if !self.rest.starts_with(starts_identifier) {
+        if !begins(self.rest, Class::IdentStart) {
             return Ok(("", 0));
         }
         let name = self.word();
@@ -395,7 +379,7 @@ impl<'t> Scanner<'t> {
     {
         let start = self.offset();
         self.bump();
-        if !self.rest.starts_with(starts_identifier) {
+        if !begins(self.rest, Class::IdentStart) {
             return Err(LexFault { offset: start });
         }
         Ok(Lexeme::Punct {
@@ -422,30 +406,44 @@ impl<'t> Scanner<'t> {
 
     // Passes a `.` and the digits after it, where that is no range and no field.
     fn fraction(&mut self) -> bool
-        ensures { GoesOn self.old self.new }
+        ensures on { GoesOn self.old self.new }
+        ensures exact { result ≡ is_some (literals.past_fraction (chars self.old.rest.now)) }
+        ensures rest { chars self.new.rest.now
+            ≡ unwrap_or (literals.past_fraction (chars self.old.rest.now)) (chars self.old.rest.now) }
     {
-        let Some(rest) = self.rest.strip_prefix('.') else {
-            return false;
-        };
-        if rest.starts_with(|c| c == '.' || starts_identifier(c)) {
+        if !self.is_at_fraction() {
             return false;
         }
-        self.rest = rest.trim_start_matches(is_digit);
+        self.bump();
+        self.pass(Class::Digit);
         true
+    }
+
+    // Whether a `.` stands here, and no range and no field.
+    fn is_at_fraction(&self) -> bool
+        ensures { result ≡ literals.begins_fraction (chars self.now.rest.now) }
+    {
+        match split_first(self.rest) {
+            Some(('.', rest)) => !begins_with(rest, ".") && !begins(rest, Class::IdentStart),
+            _ => false,
+        }
     }
 
     // Passes an exponent that has a digit.
     fn exponent(&mut self) -> bool
-        ensures { GoesOn self.old self.new }
+        ensures on { GoesOn self.old self.new }
+        ensures exact { result ≡ is_some (literals.past_exponent (chars self.old.rest.now)) }
+        ensures rest { chars self.new.rest.now
+            ≡ unwrap_or (literals.past_exponent (chars self.old.rest.now)) (chars self.old.rest.now) }
     {
-        let Some(rest) = self.rest.strip_prefix(|c| c == 'e' || c == 'E') else {
+        let Some(rest) = past_one(self.rest, Class::Exponent) else {
             return false;
         };
-        let digits = rest.strip_prefix(|c| c == '+' || c == '-').unwrap_or(rest);
-        if !digits.starts_with(|c: char| c.is_ascii_digit()) {
+        let digits = past_one(rest, Class::Sign).unwrap_or(rest);
+        if !begins(digits, Class::Decimal) {
             return false;
         }
-        self.rest = digits.trim_start_matches(is_digit);
+        self.rest = past(digits, Class::Digit);
         true
     }
 
@@ -454,21 +452,35 @@ impl<'t> Scanner<'t> {
         ensures on { GoesOn self.old self.new }
         ensures past { Advances self.old self.new }
         ensures unquoted { (opening result ≡ []) × (closing result ≡ []) }
+        ensures exact { result ≡ (literals.past_number (chars self.old.rest.now)).0 }
+        ensures rest { chars self.new.rest.now
+            ≡ (literals.past_number (chars self.old.rest.now)).1 }
     {
-        let first = self.bump();
-        match (first, self.peek()) {
-            (Some('0'), Some('x')) => {
-                self.bump();
-                self.pass(is_hex_digit);
-                return LitKind::Integer;
-            }
-            (Some('0'), Some('o' | 'b')) => {
-                self.bump();
-                self.pass(is_digit);
-                return LitKind::Integer;
-            }
-            _ => self.pass(is_digit),
+        let is_hex = begins_with(self.rest, "0x");
+        let is_other = begins_with(self.rest, "0o") || begins_with(self.rest, "0b");
+        self.bump();
+        if is_hex {
+            self.bump();
+            self.pass(Class::HexDigit);
+            LitKind::Integer
+        } else if is_other {
+            self.bump();
+            self.pass(Class::Digit);
+            LitKind::Integer
+        } else {
+            self.pass(Class::Digit);
+            self.decimal()
         }
+    }
+
+    // Passes the fraction and the exponent of a number in base ten.
+    fn decimal(&mut self) -> LitKind
+        ensures on { GoesOn self.old self.new }
+        ensures unquoted { (opening result ≡ []) × (closing result ≡ []) }
+        ensures exact { result ≡ (literals.past_decimal (chars self.old.rest.now)).0 }
+        ensures rest { chars self.new.rest.now
+            ≡ (literals.past_decimal (chars self.old.rest.now)).1 }
+    {
         let has_fraction = self.fraction();
         let has_exponent = self.exponent();
         if has_fraction || has_exponent {
@@ -497,13 +509,13 @@ impl<'t> Scanner<'t> {
     fn spacing(&self) -> Spacing {
         match self.peek() {
             Some('/') if self.is_at_comment() => Spacing::Alone,
-            Some(char) if is_punct(char) => Spacing::Joint,
+            Some(char) if Class::Punct.has(char) => Spacing::Joint,
             _ => Spacing::Alone,
         }
     }
 
     fn is_at_comment(&self) -> bool {
-        self.rest.starts_with("//") || self.rest.starts_with("/*")
+        begins_with(self.rest, "//") || begins_with(self.rest, "/*")
     }
 
     // Passes a punct, or one side of a group. Another character is a fault.
@@ -523,7 +535,7 @@ impl<'t> Scanner<'t> {
             Some(')') => Ok(Lexeme::Close(DelimiterKind::Parenthesis)),
             Some(']') => Ok(Lexeme::Close(DelimiterKind::Bracket)),
             Some('}') => Ok(Lexeme::Close(DelimiterKind::Brace)),
-            Some(char) if is_punct(char) => Ok(Lexeme::Punct {
+            Some(char) if Class::Punct.has(char) => Ok(Lexeme::Punct {
                 char,
                 spacing: self.spacing(),
             }),
@@ -542,9 +554,9 @@ impl<'t> Scanner<'t> {
     {
         if char == 'r' && self.is_at_raw() {
             self.raw_identifier()
-        } else if starts_identifier(char) {
+        } else if Class::IdentStart.has(char) {
             self.identifier()
-        } else if char.is_ascii_digit() {
+        } else if Class::Decimal.has(char) {
             self.number()
         } else if char == '"' {
             self.string('"', LitKind::Str)
