@@ -1,6 +1,6 @@
 -- What is left of a text, in characters and in bytes.
-use Rattle.std.proofs.Common.{◌≡◌, ◌≢◌, ℕ, ◌+◌, ◌<◌, ◌≤◌, ◌-◌, ◌==◌, Bool, true, false, ◌&&◌, List, [], ◌∷◌, ◌++◌, length, take, drop, refl, sym, ap, ◌∙◌, arith, subst, MatchBool, None, chars, encode_utf8_all, IsUtf8, IsAscii, IsTrue, encode_utf8, length-append, get_or, suc, zero}
-use Rattle.std.specs.Str.Pattern.{HasPrefixMatch, FindsTextPrefix}
+use Rattle.std.proofs.Common.{◌≡◌, ◌≢◌, ℕ, ◌+◌, ◌<◌, ◌≤◌, ◌-◌, ◌==◌, Bool, true, false, ◌&&◌, List, [], ◌∷◌, ◌++◌, length, take, drop, refl, sym, ap, ◌∙◌, arith, subst, MatchBool, MatchOption, Option, Some, None, IfSome, Bor, chars, encode_utf8_all, IsUtf8, IsAscii, IsTrue, encode_utf8, length-append, get_or, suc, zero}
+use Rattle.std.specs.Str.Pattern.{HasPrefixMatch, FindsTextPrefix, StripsPrefix}
 use Rattle.std.proofs.lemmas.Str.{chars-append, encodes-chars, encodes-append, length-encode, len_utf8_bounds, chars-IsAscii, IsUtf8-take, IsCharBoundary-from_drop}
 use Rattle.std.proofs.lemmas.Bool.{false≢true}
 use Rattle.std.proofs.lemmas.Bool.Decides.{nat_tests}
@@ -90,3 +90,29 @@ got_bytes_before text rest got ut ur h p = before_is text rest got ut ur (h p)
 pub front_fits : (r : Bool) (n s : List ℕ) → MatchBool r (HasPrefixMatch (FindsTextPrefix n) s) (FindsTextPrefix n s None) → IsTrue r → length n ≤ length s
 front_fits true n s h t = let k = h.1.0 in let l = h.2.0 in omega (arith, k, l)
 front_fits false n s h t = absurd (false≢true t)
+
+-- ---- a front that is passed
+
+front_and : (n s rest : List ℕ) → IsTrue (are_ascii n) → IsUtf8 n → s ≡ n ++ rest → (begins_with n (chars s) ≡ true) × (chars rest ≡ drop (length n) (chars s))
+front_and n s rest small un e =
+    let all : chars s ≡ n ++ chars rest =
+        ap chars e ∙ (chars-append n rest un ∙ ap (λ (l : List ℕ). l ++ chars rest) (chars-IsAscii n (is_ascii n small))) in
+    (ap (begins_with n) all ∙ begins_with-append n (chars rest),
+    sym (ap (λ (l : List ℕ). drop (length n) l) all ∙ drop-append_seam n (chars rest)))
+
+pub stripped_whole : (o : Option (Bor (List ℕ))) (n s : List ℕ)
+    → MatchOption o (FindsTextPrefix n s None) (λ x. StripsPrefix (FindsTextPrefix n) s x.now) → IfSome o (λ x. s ≡ n ++ x.now)
+stripped_whole None n s h = tt
+stripped_whole (Some x) n s h = h.1.1 ∙ ap (λ (l : List ℕ). n ++ l) (sym h.2)
+
+pub stripped : (o : Option (Bor (List ℕ))) (n s : List ℕ) → IsTrue (are_ascii n) → IsUtf8 n → IsUtf8 s
+    → MatchOption o (FindsTextPrefix n s None) (λ x. StripsPrefix (FindsTextPrefix n) s x.now)
+    → MatchOption o (begins_with n (chars s) ≡ false) (λ x. (begins_with n (chars s) ≡ true) × (chars x.now ≡ drop (length n) (chars s)))
+stripped None n s small un us h = sym (starts_with_front false n s small un us h)
+stripped (Some x) n s small un us h = front_and n s x.now small un (stripped_whole (Some x) n s h)
+
+-- ---- two that are passed one after the other
+
+pub drop_two : (cs mid rest : List ℕ) → mid ≡ drop 1 cs → rest ≡ drop 1 mid → rest ≡ drop 2 cs
+drop_two [] mid rest e f = rw (f, e) refl
+drop_two (c ∷ cs) mid rest e f = rw (f, e) refl

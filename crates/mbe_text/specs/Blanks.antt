@@ -1,6 +1,7 @@
 -- White space and comments, which are passed before a token.
-use Rattle.std.specs.Prelude.{ℕ, zero, suc, ◌==◌, ◌&&◌, if◌then◌else◌, Option, Some, None, List, [], ◌∷◌, drop, codes, Result, Ok, Err}
+use Rattle.std.specs.Prelude.{ℕ, zero, suc, ◌==◌, ◌&&◌, if◌then◌else◌, Option, Some, None, List, [], ◌∷◌, length, drop, codes, ◌≡◌, Result, Ok, Err, MatchResult}
 use Rattle.mbe_text.specs.declared.characters.Class.TheVariants.{Blank, InLine}
+use Rattle.mbe_text.specs.declared.scanner.LexFault.{LexFault}
 use Rattle.mbe_text.specs.Characters.{begins, begins_with, past, offset}
 
 -- What is left after so many ends of block comments, and after one more for each comment that begins on the way. None if there
@@ -24,3 +25,12 @@ past_blanks total (suc n) cs =
     else if begins_with (codes "/*") cs then
         elim (past_comments 1 (drop 2 cs)) [ None ↦ Err (offset total cs) | Some rest ↦ past_blanks total n rest ]
     else Ok cs
+
+-- of what a call passed and what it left
+abbrev pub PassesBlock : ℕ → List ℕ → Result (Unit {0}) LexFault → List ℕ → Type 0
+PassesBlock total cs result rest = MatchResult result (λ _. past_comments 1 (drop 2 cs) ≡ Some rest)
+    (λ fault. (past_comments 1 (drop 2 cs) ≡ None) × (fault.offset ≡ offset total cs))
+
+abbrev pub PassesBlanks : ℕ → List ℕ → Result (Unit {0}) LexFault → List ℕ → Type 0
+PassesBlanks total cs result rest = MatchResult result (λ _. past_blanks total (length cs) cs ≡ Ok rest)
+    (λ fault. past_blanks total (length cs) cs ≡ Err fault.offset)

@@ -34,6 +34,9 @@ read_raw total cs =
     let rest = past_word (drop 2 cs) in
     if begins_with (codes "\"") rest then Err (offset total cs) else Ok (identifier (bytes_before (drop 2 cs) rest) raw.Yes, rest)
 
+abbrev pub read_identifier : ℕ → List ℕ → Read
+read_identifier total cs = if begins_raw cs then read_raw total cs else read_word total cs
+
 -- What is left after a suffix, which may be empty. None if it has more than 255 bytes, or would begin a string.
 abbrev pub past_suffix : List ℕ → Option (List ℕ)
 past_suffix cs =

@@ -1,5 +1,5 @@
 // The characters of a text: kinds of them, and what is left of a text after some.
-ghost use Rattle.std.specs.Prelude.{◌≡◌, ◌++◌, [], ◌∷◌, ◌+◌, ◌<◌, ◌≤◌, length, chars, encode_utf8, MatchOption, IfSome, IsTrue, Some, None};
+ghost use Rattle.std.specs.Prelude.{◌≡◌, ◌++◌, [], ◌∷◌, ◌+◌, ◌<◌, ◌≤◌, length, chars, encode_utf8, MatchOption, IfSome, IsTrue, true, false, drop, Some, None};
 ghost use Rattle.mbe_text.specs.Characters as spec;
 ghost use Rattle.mbe_text.specs.declared.characters.Class.TheVariants.{Punct};
 ghost use Rattle.mbe_text.specs.Ends.{IsEnd, IsRest};
@@ -112,6 +112,17 @@ pub(crate) fn begins_with(text: &str, front: &str) -> bool
     ensures some { IsTrue result → length front.now ≤ length text.now }
 {
     text.starts_with(front)
+}
+
+// What is left after this front, where it comes first.
+pub(crate) fn past_front<'t>(text: &'t str, front: &str) -> Option<&'t str>
+    requires { IsTrue (spec.are_ascii front.now) }
+    ensures exact { MatchOption result (spec.begins_with front.now (chars text.now) ≡ false)
+        (λ rest. (spec.begins_with front.now (chars text.now) ≡ true)
+        × (chars rest.now ≡ drop (length front.now) (chars text.now))) }
+    ensures whole { IfSome result (λ rest. text.now ≡ front.now ++ rest.now) }
+{
+    text.strip_prefix(front)
 }
 
 // What a text has before this rest of it.

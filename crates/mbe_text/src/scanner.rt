@@ -1,17 +1,23 @@
 // The tokens of a text, one after another.
 ghost use Rattle.std.specs.Prelude.{◌≡◌, ◌↔◌, ◌<◌, ◌≤◌, ◌+◌, ◌^◌, length, IsSome, IfSome, IfNone};
 ghost use Rattle.std.specs.Prelude.{ℕ, true, List, [], ◌++◌, ◌∷◌, IfOk, IfErr};
-ghost use Rattle.std.specs.Prelude.{encode_utf8, slice_range, chars, drop, Some, None, MatchOption, MatchResult, is_some, unwrap_or};
+ghost use Rattle.std.specs.Prelude.{encode_utf8, slice_range, chars, drop, Some, None, MatchOption, MatchResult, false, ◌==◌, ◌&&◌, IsTrue, is_some, unwrap_or};
 ghost use Rattle.std.specs.Str.{IsUtf8};
 ghost use Rattle.mbe_tt.specs.Trees.Literals.{opening, closing};
 ghost use Rattle.mbe_text.specs.Ends.{IsRest, Begins};
 ghost use Rattle.mbe_text.specs.Characters as characters;
+ghost use Rattle.mbe_text.specs.Characters.{bytes_before};
+ghost use Rattle.mbe_text.specs.Division as division;
+ghost use Rattle.mbe_text.specs.Shapes.{Gives};
+ghost use Rattle.mbe_text.specs.Blanks.{PassesBlock, PassesBlanks};
 ghost use Rattle.mbe_text.specs.Words as words;
 ghost use Rattle.mbe_text.specs.Literals as literals;
 ghost use Rattle.mbe_text.specs.declared.characters.Class.TheVariants.{InLine};
 ghost use Rattle.mbe_text.specs.Tokens.{bytes_of, token_item, item_text, lexeme_text};
 
-use crate::characters::{Class, before, begins, begins_with, offset, past, past_one, split_first};
+use crate::characters::{
+    Class, before, begins, begins_with, offset, past, past_front, past_one, split_first,
+};
 use mbe_tt::span::{Span, SyntaxContext};
 use mbe_tt::tt::{DelimiterKind, IdentIsRaw, LitKind, Spacing};
 
@@ -73,6 +79,7 @@ pub struct Scanner<'t> {
     rest: &'t str,
     ghost within: { length rest.now ≤ total },
     ghost whole: { total ≡ length text.now },
+    ghost small: { total < 2 ^ 32 },
     ghost left: { IsRest text.now rest.now },
 }
 
@@ -84,6 +91,18 @@ fn begins_literal(name: &str, rest: &str) -> bool
     begins_with(rest, "\"")
         || (name == "b" && begins_with(rest, "'"))
         || ((name == "r" || name == "br" || name == "cr") && begins_hashes(rest))
+}
+
+// Whether a char is behind a `'`, and not a lifetime: a `\`, or a character and another `'`. That character is no `'` and no line
+// feed.
+fn is_char(behind: &str) -> bool
+    ensures { result ≡ literals.is_char (chars behind.now) }
+{
+    match split_first(behind) {
+        Some(('\\', _)) => true,
+        Some(('\'' | '\n', _)) | None => false,
+        Some((_, rest)) => begins_with(rest, "'"),
+    }
 }
 
 // Whether a raw string goes on here, after its first letters.
@@ -158,6 +177,8 @@ impl<'t> Scanner<'t> {
     // Passes white space and comments.
     fn trivia(&mut self) -> Result<(), LexFault>
         ensures on { GoesOn self.old self.new }
+        ensures exact { PassesBlanks self.old.total (chars self.old.rest.now)
+            result (chars self.new.rest.now) }
         ensures within { IfErr result (λ fault. fault.offset ≤ self.old.total) }
     {
         'parts: loop {
@@ -189,6 +210,8 @@ impl<'t> Scanner<'t> {
     fn block_comment(&mut self) -> Result<(), LexFault>
         ensures on { GoesOn self.old self.new }
         ensures past { Advances self.old self.new }
+        ensures exact { PassesBlock self.old.total (chars self.old.rest.now)
+            result (chars self.new.rest.now) }
         ensures within { IfErr result (λ fault. fault.offset ≤ self.old.total) }
     {
         let start = self.offset();
@@ -196,22 +219,28 @@ impl<'t> Scanner<'t> {
         self.bump();
         let mut depth = 1u32;
         'chars: while let Some(char) = self.bump() {
-            match (char, self.peek()) {
-                ('/', Some('*')) => {
-                    self.bump();
-                    depth = depth.saturating_add(1);
+            if self.is_second(char, '/', "*") {
+                self.bump();
+                depth = depth.saturating_add(1);
+            } else if self.is_second(char, '*', "/") {
+                self.bump();
+                depth = depth.saturating_sub(1);
+                if depth == 0 {
+                    return Ok(());
                 }
-                ('*', Some('/')) => {
-                    self.bump();
-                    depth = depth.saturating_sub(1);
-                    if depth == 0 {
-                        return Ok(());
-                    }
-                }
-                _ => {}
             }
         }
         Err(LexFault { offset: start })
+    }
+
+    // Whether the character that was passed is this first one, and the second stands here.
+    fn is_second(&self, passed: char, first: char, second: &str) -> bool
+        requires { IsTrue (characters.are_ascii second.now) }
+        ensures exact { result
+            ≡ (passed == first && characters.begins_with second.now (chars self.now.rest.now)) }
+        ensures some { IsTrue result → length second.now ≤ length self.now.rest.now }
+    {
+        passed == first && begins_with(self.rest, second)
     }
 
     // Passes an identifier without a `r#`, whose first character stands here.
@@ -231,9 +260,11 @@ impl<'t> Scanner<'t> {
 
     // Whether a raw identifier stands here.
     fn is_at_raw(&self) -> bool
-        ensures { result ≡ true → (text : List ℕ) × (self.now.rest.now ≡ 114 ∷ (35 ∷ text)) }
+        ensures begins { result ≡ true
+            → (text : List ℕ) × (self.now.rest.now ≡ 114 ∷ (35 ∷ text)) }
+        ensures exact { result ≡ words.begins_raw (chars self.now.rest.now) }
     {
-        match self.rest.strip_prefix("r#") {
+        match past_front(self.rest, "r#") {
             Some(name) => begins(name, Class::IdentStart),
             None => false,
         }
@@ -246,6 +277,8 @@ impl<'t> Scanner<'t> {
         ensures past { Advances self.old self.new }
         ensures reads { ((text : List ℕ) × (self.old.rest.now ≡ 114 ∷ (35 ∷ text)))
             → IfOk result (λ l. self.old.rest.now ≡ lexeme_text l ++ self.new.rest.now) }
+        ensures exact { Gives (words.read_raw self.old.total (chars self.old.rest.now))
+            result (chars self.new.rest.now) }
         ensures within { IfErr result (λ fault. fault.offset ≤ self.old.total) }
     {
         let start = self.offset();
@@ -265,6 +298,8 @@ impl<'t> Scanner<'t> {
     fn identifier(&mut self) -> Result<Lexeme<'t>, LexFault>
         requires { 0 < length self.old.rest.now }
         ensures on { GoesOn self.old self.new }
+        ensures exact { Gives (words.read_word self.old.total (chars self.old.rest.now))
+            result (chars self.new.rest.now) }
         ensures past { Advances self.old self.new }
         ensures reads { IfOk result (λ l.
             self.old.rest.now ≡ lexeme_text l ++ self.new.rest.now) }
@@ -281,6 +316,24 @@ impl<'t> Scanner<'t> {
         })
     }
 
+    // Passes an identifier, raw or not.
+    fn any_identifier(&mut self) -> Result<Lexeme<'t>, LexFault>
+        requires { 0 < length self.old.rest.now }
+        ensures on { GoesOn self.old self.new }
+        ensures past { Advances self.old self.new }
+        ensures reads { IfOk result (λ l.
+            self.old.rest.now ≡ lexeme_text l ++ self.new.rest.now) }
+        ensures within { IfErr result (λ fault. fault.offset ≤ self.old.total) }
+        ensures exact { Gives (words.read_identifier self.old.total (chars self.old.rest.now))
+            result (chars self.new.rest.now) }
+    {
+        if self.is_at_raw() {
+            self.raw_identifier()
+        } else {
+            self.identifier()
+        }
+    }
+
     // Passes the identifier that is the suffix of a literal, where one stands here, and returns it with its length in
     // bytes, which is at most 255. One that would begin a prefixed string is a fault, as it is elsewhere. A suffix is
     // never raw.
@@ -289,6 +342,11 @@ impl<'t> Scanner<'t> {
         ensures whole { IfOk result (λ r. self.old.rest.now ≡ r.0.now ++ self.new.rest.now) }
         ensures len { IfOk result (λ r. r.1 ≡ length r.0.now) }
         ensures utf8 { IfOk result (λ r. IsUtf8 r.0.now) }
+        ensures exact { MatchResult result
+            (λ r. (words.past_suffix (chars self.old.rest.now) ≡ Some (chars self.new.rest.now))
+            × (r.0.now ≡ bytes_before (chars self.old.rest.now) (chars self.new.rest.now)))
+            (λ fault. (words.past_suffix (chars self.old.rest.now) ≡ None)
+            × (fault.offset ≡ characters.offset self.old.total (chars self.old.rest.now))) }
         ensures within { IfErr result (λ fault. fault.offset ≤ self.old.total) }
     {
         let start = self.offset();
@@ -308,6 +366,9 @@ impl<'t> Scanner<'t> {
         ensures reads { IfOk result (λ l. (suffix : List ℕ)
             × (self.old.rest.now ≡ suffix ++ self.new.rest.now)
             × (lexeme_text l ≡ opening kind ++ (text.now ++ (closing kind ++ suffix)))) }
+        ensures exact { Gives
+            (literals.read_literal self.old.total kind text.now (chars self.old.rest.now))
+            result (chars self.new.rest.now) }
         ensures within { IfErr result (λ fault. fault.offset ≤ self.old.total) }
     {
         let (suffix, suffix_len) = self.suffix()?;
@@ -324,6 +385,11 @@ impl<'t> Scanner<'t> {
         ensures on { GoesOn self.old self.new }
         ensures whole { IfSome result (λ text.
             self.old.rest.now ≡ text.now ++ (encode_utf8 end ++ self.new.rest.now)) }
+        ensures exact { MatchOption result
+            (literals.from_quote end false (chars self.old.rest.now) ≡ None)
+            (λ text. (literals.from_quote end false (chars self.old.rest.now)
+            ≡ Some (end ∷ chars self.new.rest.now))
+            × (text.now ≡ bytes_before (chars self.old.rest.now) (end ∷ chars self.new.rest.now))) }
     {
         let text = self.rest;
         'chars: loop {
@@ -347,6 +413,9 @@ impl<'t> Scanner<'t> {
             → opening kind ≡ encode_utf8 quote → closing kind ≡ encode_utf8 quote
             → IfOk result (λ l. self.old.rest.now ≡ lexeme_text l ++ self.new.rest.now) }
         ensures within { IfErr result (λ fault. fault.offset ≤ self.old.total) }
+        ensures exact { Gives
+            (literals.read_quoted self.old.total kind quote (chars self.old.rest.now))
+            result (chars self.new.rest.now) }
     {
         let start = self.offset();
         self.bump();
@@ -356,15 +425,13 @@ impl<'t> Scanner<'t> {
         self.literal(text, kind)
     }
 
-    // Whether the `'` that stands here begins a char: after it stands a `\`, or a character and another `'`. That
-    // character is no `'` and no line feed.
-    fn is_at_char(&self) -> bool {
-        let mut chars = self.rest.chars();
-        let _quote = chars.next();
-        match chars.next() {
-            Some('\\') => true,
-            Some('\'' | '\n') | None => false,
-            Some(_) => chars.next() == Some('\''),
+    // Whether the `'` that stands here begins a char.
+    fn is_at_char(&self) -> bool
+        ensures { result ≡ literals.is_char (drop 1 (chars self.now.rest.now)) }
+    {
+        match split_first(self.rest) {
+            Some((_, behind)) => is_char(behind),
+            None => false,
         }
     }
 
@@ -376,6 +443,8 @@ impl<'t> Scanner<'t> {
         ensures reads { Begins 39 self.old.rest.now
             → IfOk result (λ l. self.old.rest.now ≡ lexeme_text l ++ self.new.rest.now) }
         ensures within { IfErr result (λ fault. fault.offset ≤ self.old.total) }
+        ensures exact { Gives (literals.read_lifetime self.old.total (chars self.old.rest.now))
+            result (chars self.new.rest.now) }
     {
         let start = self.offset();
         self.bump();
@@ -396,6 +465,8 @@ impl<'t> Scanner<'t> {
         ensures reads { Begins 39 self.old.rest.now
             → IfOk result (λ l. self.old.rest.now ≡ lexeme_text l ++ self.new.rest.now) }
         ensures within { IfErr result (λ fault. fault.offset ≤ self.old.total) }
+        ensures exact { Gives (literals.read_quote self.old.total (chars self.old.rest.now))
+            result (chars self.new.rest.now) }
     {
         if self.is_at_char() {
             self.string('\'', LitKind::Char)
@@ -498,6 +569,8 @@ impl<'t> Scanner<'t> {
         ensures reads { IfOk result (λ l.
             self.old.rest.now ≡ lexeme_text l ++ self.new.rest.now) }
         ensures within { IfErr result (λ fault. fault.offset ≤ self.old.total) }
+        ensures exact { Gives (literals.read_number self.old.total (chars self.old.rest.now))
+            result (chars self.new.rest.now) }
     {
         let text = self.rest;
         let kind = self.digits();
@@ -506,15 +579,19 @@ impl<'t> Scanner<'t> {
     }
 
     // A punct is joint where the next one begins right here. The `/` of a comment is none.
-    fn spacing(&self) -> Spacing {
-        match self.peek() {
-            Some('/') if self.is_at_comment() => Spacing::Alone,
-            Some(char) if Class::Punct.has(char) => Spacing::Joint,
-            _ => Spacing::Alone,
+    fn spacing(&self) -> Spacing
+        ensures { result ≡ division.spacing_before (chars self.now.rest.now) }
+    {
+        if begins(self.rest, Class::Punct) && !self.is_at_comment() {
+            Spacing::Joint
+        } else {
+            Spacing::Alone
         }
     }
 
-    fn is_at_comment(&self) -> bool {
+    fn is_at_comment(&self) -> bool
+        ensures { result ≡ division.begins_comment (chars self.now.rest.now) }
+    {
         begins_with(self.rest, "//") || begins_with(self.rest, "/*")
     }
 
@@ -526,6 +603,8 @@ impl<'t> Scanner<'t> {
         ensures reads { IfOk result (λ l.
             self.old.rest.now ≡ lexeme_text l ++ self.new.rest.now) }
         ensures within { IfErr result (λ fault. fault.offset ≤ self.old.total) }
+        ensures exact { Gives (division.read_sign self.old.total (chars self.old.rest.now))
+            result (chars self.new.rest.now) }
     {
         let start = self.offset();
         match self.bump() {
@@ -551,11 +630,12 @@ impl<'t> Scanner<'t> {
         ensures reads { Begins char self.old.rest.now
             → IfOk result (λ l. self.old.rest.now ≡ lexeme_text l ++ self.new.rest.now) }
         ensures within { IfErr result (λ fault. fault.offset ≤ self.old.total) }
+        ensures exact { (rest : List ℕ) → chars self.old.rest.now ≡ char ∷ rest
+            → Gives (division.read_shape self.old.total (chars self.old.rest.now))
+            result (chars self.new.rest.now) }
     {
-        if char == 'r' && self.is_at_raw() {
-            self.raw_identifier()
-        } else if Class::IdentStart.has(char) {
-            self.identifier()
+        if Class::IdentStart.has(char) {
+            self.any_identifier()
         } else if Class::Decimal.has(char) {
             self.number()
         } else if char == '"' {
@@ -585,6 +665,9 @@ impl<'t> Scanner<'t> {
         ensures spelled { IfOk result (λ token. IfSome token (λ t.
             slice_range self.old.text.now t.span.start t.span.end ≡ item_text (token_item t))) }
         ensures within { IfErr result (λ fault. fault.offset ≤ self.old.total) }
+        ensures exact { division.IsNext self.old.file self.old.total
+            (division.next_token self.old.total (chars self.old.rest.now))
+            result (chars self.new.rest.now) }
     {
         self.trivia()?;
         let start = self.offset();
