@@ -1,5 +1,5 @@
 -- How blanks and comments are passed, one after another.
-use Rattle.std.proofs.Common.{◌≡◌, ◌≢◌, ℕ, zero, suc, ◌+◌, ◌-◌, ◌<◌, ◌≤◌, ◌==◌, ◌&&◌, Bool, true, false, List, [], ◌∷◌, length, drop, codes, Option, Some, None, Result, Ok, Err, refl, sym, ap, ◌∙◌, arith, length-drop, add-one, if◌then◌else◌, true≢false}
+use Rattle.std.proofs.Common.{◌≡◌, ℕ, zero, suc, ◌+◌, ◌-◌, ◌<◌, ◌≤◌, ◌==◌, ◌&&◌, Bool, true, false, List, [], ◌∷◌, length, drop, codes, Option, Some, None, Ok, Err, refl, sym, ap, ◌∙◌, arith, length-drop, add-one, if◌then◌else◌, true≢false}
 use Rattle.mbe_text.specs.declared.characters.Class.{Class}
 use Rattle.mbe_text.specs.declared.characters.Class.TheVariants.{Blank, InLine}
 use Rattle.mbe_text.specs.Characters.{has, begins, begins_with, past, offset}
@@ -69,9 +69,9 @@ counts total from (c ∷ cs) p =
 past_shorter : (k : Class) (cs : List ℕ) → length (past k cs) ≤ length cs
 past_shorter k [] = omega arith
 past_shorter k (c ∷ cs) = elim (has k c) as (λ b. length (if b then past k cs else c ∷ cs) ≤ length (c ∷ cs)) [
-      true ↦ omega (arith, past_shorter k cs)
-    | false ↦ omega arith
-  ]
+  | true ↦ omega (arith, past_shorter k cs)
+  | false ↦ omega arith
+]
 
 one_of_three : (a b : Bool) (x y z : Option (List ℕ)) (rest : List ℕ) (n : ℕ) → (x ≡ Some rest → length rest ≤ n) → (y ≡ Some rest → length rest ≤ n)
     → (z ≡ Some rest → length rest ≤ n) → (if a then x else if b then y else z) ≡ Some rest → length rest ≤ n

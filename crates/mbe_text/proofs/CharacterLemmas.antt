@@ -1,5 +1,5 @@
 -- What is left of a text, in characters and in bytes.
-use Rattle.std.proofs.Common.{◌≡◌, ◌≢◌, ℕ, ◌+◌, ◌<◌, ◌≤◌, ◌-◌, ◌==◌, Bool, true, false, ◌&&◌, List, [], ◌∷◌, ◌++◌, length, take, drop, refl, sym, ap, ◌∙◌, arith, subst, MatchBool, MatchOption, Option, Some, None, IfSome, Bor, chars, encode_utf8_all, IsUtf8, IsAscii, IsTrue, encode_utf8, length-append, get_or, suc, zero}
+use Rattle.std.proofs.Common.{◌≡◌, ℕ, ◌<◌, ◌≤◌, ◌-◌, Bool, true, false, List, [], ◌∷◌, ◌++◌, length, take, drop, refl, sym, ap, ◌∙◌, arith, subst, MatchBool, MatchOption, Option, Some, None, IfSome, Bor, chars, encode_utf8_all, IsUtf8, IsAscii, IsTrue, encode_utf8, length-append, get_or, suc, zero}
 use Rattle.std.specs.Str.Pattern.{HasPrefixMatch, FindsTextPrefix, StripsPrefix}
 use Rattle.std.proofs.lemmas.Str.{chars-append, encodes-chars, encodes-append, length-encode, len_utf8_bounds, chars-IsAscii, IsUtf8-take, IsCharBoundary-from_drop}
 use Rattle.std.proofs.lemmas.Bool.{false≢true}
@@ -51,16 +51,16 @@ starts_with_chars true n s un us h =
     sym (ap (begins_with (chars n)) (ap chars h.1.1 ∙ chars-append n (drop h.0 s) un) ∙ begins_with-append (chars n) (chars (drop h.0 s)))
 starts_with_chars false n s un us h =
     is_false (begins_with (chars n) (chars s)) (λ b.
-        let cut = drop (length (chars n)) (chars s) in
-        h (encode_utf8_all cut) (sym (encodes-chars s us) ∙ (ap encode_utf8_all (begins_with-is (chars n) (chars s) b)
-        ∙ (encodes-append (chars n) cut ∙ ap (λ (l : List ℕ). l ++ encode_utf8_all cut) (encodes-chars n un)))))
+    let cut = drop (length (chars n)) (chars s) in
+    h (encode_utf8_all cut) (sym (encodes-chars s us) ∙ (ap encode_utf8_all (begins_with-is (chars n) (chars s) b)
+    ∙ (encodes-append (chars n) cut ∙ ap (λ (l : List ℕ). l ++ encode_utf8_all cut) (encodes-chars n un)))))
 
 is_ascii : (cs : List ℕ) → IsTrue (are_ascii cs) → IsAscii cs
 is_ascii [] h = λ i. omega arith
 is_ascii (c ∷ cs) h = λ i. elim i as (λ j. get_or (c ∷ cs) j 0 < 128) [
-      zero ↦ grind (arith, nat_tests, h)
-    | suc k ↦ is_ascii cs (grind (arith, nat_tests, h)) k
-  ]
+  | zero ↦ grind (arith, nat_tests, h)
+  | suc k ↦ is_ascii cs (grind (arith, nat_tests, h)) k
+]
 
 -- the first characters are those of a front, where the first bytes are
 pub starts_with_front : (r : Bool) (n s : List ℕ) → IsTrue (are_ascii n) → IsUtf8 n → IsUtf8 s
@@ -76,12 +76,12 @@ before_is text rest got ut ur e =
     let own : take (length got) text ≡ got = ap (λ (l : List ℕ). take (length got) l) e ∙ take-append_seam got rest in
     let after : drop (length got) text ≡ rest = ap (λ (l : List ℕ). drop (length got) l) e ∙ drop-append_seam got rest in
     let u : IsUtf8 got = subst IsUtf8 own (IsUtf8-take text (length got) ut
-        (IsCharBoundary-from_drop text (length got) le (subst IsUtf8 (sym after) ur))) in
+    (IsCharBoundary-from_drop text (length got) le (subst IsUtf8 (sym after) ur))) in
     let all : chars text ≡ chars got ++ chars rest = ap chars e ∙ chars-append got rest u in
     let n : length (chars text) - length (chars rest) ≡ length (chars got) =
-        omega (arith, ap (λ (l : List ℕ). length l) all, length-append (chars got) (chars rest)) in
+    omega (arith, ap (λ (l : List ℕ). length l) all, length-append (chars got) (chars rest)) in
     sym (ap encode_utf8_all (ap (λ (k : ℕ). take k (chars text)) n
-        ∙ (ap (λ (l : List ℕ). take (length (chars got)) l) all ∙ take-append_seam (chars got) (chars rest))) ∙ encodes-chars got u)
+    ∙ (ap (λ (l : List ℕ). take (length (chars got)) l) all ∙ take-append_seam (chars got) (chars rest))) ∙ encodes-chars got u)
 
 pub got_bytes_before : (text rest got : List ℕ) → IsUtf8 text → IsUtf8 rest → (IsRest text rest → text ≡ got ++ rest)
     → IsRest text rest → got ≡ bytes_before (chars text) (chars rest)
@@ -96,9 +96,10 @@ front_fits false n s h t = absurd (false≢true t)
 front_and : (n s rest : List ℕ) → IsTrue (are_ascii n) → IsUtf8 n → s ≡ n ++ rest → (begins_with n (chars s) ≡ true) × (chars rest ≡ drop (length n) (chars s))
 front_and n s rest small un e =
     let all : chars s ≡ n ++ chars rest =
-        ap chars e ∙ (chars-append n rest un ∙ ap (λ (l : List ℕ). l ++ chars rest) (chars-IsAscii n (is_ascii n small))) in
-    (ap (begins_with n) all ∙ begins_with-append n (chars rest),
-    sym (ap (λ (l : List ℕ). drop (length n) l) all ∙ drop-append_seam n (chars rest)))
+    ap chars e ∙ (chars-append n rest un ∙ ap (λ (l : List ℕ). l ++ chars rest) (chars-IsAscii n (is_ascii n small))) in (
+      ap (begins_with n) all ∙ begins_with-append n (chars rest),
+      sym (ap (λ (l : List ℕ). drop (length n) l) all ∙ drop-append_seam n (chars rest)),
+    )
 
 pub stripped_whole : (o : Option (Bor (List ℕ))) (n s : List ℕ)
     → MatchOption o (FindsTextPrefix n s None) (λ x. StripsPrefix (FindsTextPrefix n) s x.now) → IfSome o (λ x. s ≡ n ++ x.now)

@@ -55,11 +55,13 @@ pub is_next : (file total : ℕ) (cs left : List ℕ) (c : ℕ) (after : List �
     → span ≡ bytes_of file start end → start ≡ offset total left → end ≡ offset total rest
     → IsNext file total (next_token total cs) (Ok (Some (record { lexeme = l; span = span }))) rest
 is_next file total cs left c after l rest span start end e f g is s t =
-    let taken : Taken = record { shape = shape_of l; from = c ∷ after; rest = rest } in
-    (taken, next_some total cs left c after (shape_of l) rest e f g,
-    item_of_shape span l ∙ ap (λ (p : Span). item_of p (shape_of l)) (is ∙ (ap (λ (n : ℕ). bytes_of file n end) (s ∙ ap (offset total) f)
-    ∙ ap (λ (n : ℕ). bytes_of file (offset total (c ∷ after)) n) t)),
-    refl)
+    let taken : Taken = record { shape = shape_of l; from = c ∷ after; rest = rest } in (
+      taken,
+      next_some total cs left c after (shape_of l) rest e f g,
+      item_of_shape span l ∙ ap (λ (p : Span). item_of p (shape_of l)) (is ∙ (ap (λ (n : ℕ). bytes_of file n end) (s ∙ ap (offset total) f)
+          ∙ ap (λ (n : ℕ). bytes_of file (offset total (c ∷ after)) n) t)),
+      refl,
+    )
 
 -- ---- one token more of a whole text
 
@@ -159,7 +161,7 @@ reached_more file text left left' b c file' total' t p f n next shorter adds =
     let taken : Taken = next.0 in
     let is : next_token total (chars left) ≡ Ok (Some taken) = ap (λ (k : ℕ). next_token k (chars left)) (sym n) ∙ next.1 in
     let item : token_item t ≡ item_taken file total taken =
-        next.2 ∙ (ap (λ (k : ℕ). item_taken k total' taken) f ∙ ap (λ (k : ℕ). item_taken file k taken) n) in
+    next.2 ∙ (ap (λ (k : ℕ). item_taken k total' taken) f ∙ ap (λ (k : ℕ). item_taken file k taken) n) in
     let after : after_item (item_taken file total taken) b ≡ Some c = ap (λ (x : Item). after_item x b) (sym item) ∙ added (token_item t) b c adds in
     let fits = p.fits in
     let m : p.n ≡ suc (p.n - 1) = omega (arith, fits, shorter) in
@@ -179,12 +181,12 @@ reached_astray file text left left' b file' total' t p f n next shorter astray =
     let taken : Taken = next.0 in
     let is : next_token total (chars left) ≡ Ok (Some taken) = ap (λ (k : ℕ). next_token k (chars left)) (sym n) ∙ next.1 in
     let item : token_item t ≡ item_taken file total taken =
-        next.2 ∙ (ap (λ (k : ℕ). item_taken k total' taken) f ∙ ap (λ (k : ℕ). item_taken file k taken) n) in
+    next.2 ∙ (ap (λ (k : ℕ). item_taken k total' taken) f ∙ ap (λ (k : ℕ). item_taken file k taken) n) in
     let after : after_item (item_taken file total taken) b ≡ None = ap (λ (x : Item). after_item x b) (sym item) ∙ refused (token_item t) b astray in
     let fits = p.fits in
     let m : p.n ≡ suc (p.n - 1) = omega (arith, fits, shorter) in
     let start : (item_span (token_item t)).start ≡ offset total taken.from =
-        ap (λ (x : Item). (item_span x).start) item ∙ ap (λ (s : Span). s.start) (span_of_shape (span_of_taken file total taken) taken.shape) in
+    ap (λ (x : Item). (item_span x).start) item ∙ ap (λ (s : Span). s.start) (span_of_shape (span_of_taken file total taken) taken.shape) in
     p.same ∙ (ap (λ (k : ℕ). levels_of file total k b (chars left)) m ∙ (levels_astray file total (p.n - 1) b (chars left) taken is after ∙ ap Err (sym start)))
 
 -- no token

@@ -1,5 +1,5 @@
 -- What calls one after another read.
-use Rattle.std.proofs.Common.{◌≡◌, ℕ, List, ◌∷◌, length, drop, Result, Option, Some, None, refl, sym, ap, ◌∙◌, subst, false, ◌+◌, ◌-◌, ◌≤◌, arith, drop-drop, add_comm}
+use Rattle.std.proofs.Common.{◌≡◌, ℕ, List, ◌∷◌, length, drop, Result, Some, refl, sym, ap, ◌∙◌, subst, false, ◌+◌, ◌-◌, ◌≤◌, arith, drop-drop, add_comm}
 use Rattle.mbe_tt.specs.declared.tt.LitKind.{LitKind}
 use Rattle.mbe_text.specs.declared.scanner.LexFault.{LexFault}
 use Rattle.mbe_text.specs.declared.scanner.Lexeme.{Lexeme}
@@ -29,8 +29,8 @@ pub quoted_read : (total total' : ℕ) (kind : LitKind) (quote : ℕ) (text cs i
 quoted_read total total' kind quote text cs inside mid rest r e i q t g =
     let found : from_quote quote false (drop 1 cs) ≡ Some (quote ∷ mid) = ap (from_quote quote false) (sym i) ∙ q in
     let same : read_literal total' kind text mid ≡ read_quoted total kind quote cs =
-        same_literal total' total kind kind text (bytes_before (drop 1 cs) (quote ∷ mid)) mid mid e refl
-        (t ∙ ap (λ (l : List ℕ). bytes_before l (quote ∷ mid)) i) refl ∙ rw (found, read_quoted) refl in
+    same_literal total' total kind kind text (bytes_before (drop 1 cs) (quote ∷ mid)) mid mid e refl
+    (t ∙ ap (λ (l : List ℕ). bytes_before l (quote ∷ mid)) i) refl ∙ rw (found, read_quoted) refl in
     same_read _ _ r rest same g
 
 -- of two rests of a text the shorter is a rest of the longer

@@ -23,7 +23,7 @@ past_blanks total (suc n) cs =
     if begins Blank cs then past_blanks total n (drop 1 cs)
     else if begins_with (codes "//") cs then past_blanks total n (past InLine (drop 2 cs))
     else if begins_with (codes "/*") cs then
-        elim (past_comments 1 (drop 2 cs)) [ None ↦ Err (offset total cs) | Some rest ↦ past_blanks total n rest ]
+    elim (past_comments 1 (drop 2 cs)) [ None ↦ Err (offset total cs) | Some rest ↦ past_blanks total n rest ]
     else Ok cs
 
 -- of what a call passed and what it left

@@ -1,5 +1,5 @@
 -- How a text is divided into tokens, and what they make.
-use Rattle.std.specs.Prelude.{◌≡◌, ⊤, ℕ, zero, suc, ◌==◌, not, ◌&&◌, ◌||◌, if◌then◌else◌, Bool, false, Option, Some, None, List, [], ◌∷◌, length, chars, codes, Result, Ok, Err, MatchResult}
+use Rattle.std.specs.Prelude.{◌≡◌, ⊤, ℕ, zero, suc, ◌==◌, not, ◌&&◌, ◌||◌, if◌then◌else◌, Bool, false, Option, Some, None, List, [], ◌∷◌, length, chars, codes, Result, Ok, Err}
 use Rattle.mbe_tt.specs.Buffers.Building.{Levels, put, closed, kind_inside}
 use Rattle.mbe_tt.specs.Trees.Top.{Top}
 use Rattle.mbe_tt.specs.Trees.Tree.{none, one_leaf, is_same_kind}
@@ -40,9 +40,9 @@ side c =
 abbrev pub read_sign : ℕ → List ℕ → Read
 read_sign total [] = Err total
 read_sign total (c ∷ rest) = elim (side c) [
-      Some shape ↦ Ok (shape, rest)
-    | None ↦ if has classes.Punct c then Ok (punct_of c (spacing_before rest), rest) else Err (offset total (c ∷ rest))
-  ]
+  | Some shape ↦ Ok (shape, rest)
+  | None ↦ if has classes.Punct c then Ok (punct_of c (spacing_before rest), rest) else Err (offset total (c ∷ rest))
+]
 
 -- the token that stands here
 abbrev pub read_shape : ℕ → List ℕ → Read
@@ -64,13 +64,13 @@ pub record Taken : Type 0 where
 -- what stands behind white space and comments: the next token, nothing at the end, or the byte at fault
 abbrev pub next_token : ℕ → List ℕ → Result (Option Taken) ℕ
 next_token total cs = elim (past_blanks total (length cs) cs) [
-      Err fault ↦ Err fault
-    | Ok [] ↦ Ok None
-    | Ok (c ∷ from) ↦ elim (read_shape total (c ∷ from)) [
-          Err fault ↦ Err fault
-        | Ok read ↦ Ok (Some (record { shape = read.0; from = c ∷ from; rest = read.1 }))
-      ]
+  | Err fault ↦ Err fault
+  | Ok [] ↦ Ok None
+  | Ok (c ∷ from) ↦ elim (read_shape total (c ∷ from)) [
+    | Err fault ↦ Err fault
+    | Ok read ↦ Ok (Some (record { shape = read.0; from = c ∷ from; rest = read.1 }))
   ]
+]
 
 -- where a token stands, and what it is there
 abbrev pub span_of_taken : ℕ → ℕ → Taken → Span
@@ -104,22 +104,22 @@ after_item (close_item kind span) levels = if is_inside kind (kind_inside levels
 abbrev pub levels_of : ℕ → ℕ → ℕ → Levels → List ℕ → Result Levels ℕ
 levels_of file total zero levels cs = Ok levels
 levels_of file total (suc n) levels cs = elim (next_token total cs) [
-      Err fault ↦ Err fault
-    | Ok None ↦ Ok levels
-    | Ok (Some t) ↦ elim (after_item (item_taken file total t) levels) [
-          None ↦ Err (offset total t.from)
-        | Some after ↦ levels_of file total n after t.rest
-      ]
+  | Err fault ↦ Err fault
+  | Ok None ↦ Ok levels
+  | Ok (Some t) ↦ elim (after_item (item_taken file total t) levels) [
+    | None ↦ Err (offset total t.from)
+    | Some after ↦ levels_of file total n after t.rest
   ]
+]
 
 -- the trees of a file's text, or the byte at fault
 abbrev pub trees_of : ℕ → List ℕ → Result Top ℕ
 trees_of file text =
     let total = length text in
     elim (levels_of file total total (whole file total) (chars text)) [
-          Err fault ↦ Err fault
-        | Ok levels ↦ Ok (ended (bytes_of file total total) levels)
-      ]
+      | Err fault ↦ Err fault
+      | Ok levels ↦ Ok (ended (bytes_of file total total) levels)
+    ]
 
 -- that is what a call returned, unless it was out of memory
 abbrev pub Lexes : Result Top ℕ → Result Top LexError → Type 0

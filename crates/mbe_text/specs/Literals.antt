@@ -1,8 +1,8 @@
 -- Literals and lifetimes: numbers, strings, chars.
-use Rattle.std.specs.Prelude.{ℕ, ◌==◌, not, ◌&&◌, ◌||◌, if◌then◌else◌, Bool, true, false, is_some, unwrap_or, Option, Some, None, List, [], ◌∷◌, length, drop, codes, option_and_then, Result, Ok, Err}
+use Rattle.std.specs.Prelude.{ℕ, ◌==◌, not, ◌&&◌, ◌||◌, if◌then◌else◌, Bool, true, false, is_some, unwrap_or, Option, Some, None, List, [], ◌∷◌, length, drop, codes, option_and_then, Ok, Err}
 use Rattle.std.specs.Char.{char_set_contains}
 use Rattle.mbe_tt.specs.declared.tt.LitKind.{LitKind}
-use Rattle.mbe_tt.specs.declared.tt.LitKind.TheVariants.{Char, Integer, Float, Str}
+use Rattle.mbe_tt.specs.declared.tt.LitKind.TheVariants.{Char, Integer, Float}
 use Rattle.mbe_tt.specs.declared.tt.Spacing.TheVariants.{Joint}
 use Rattle.mbe_text.specs.declared.characters.Class.TheVariants.{IdentStart, Decimal, Digit, HexDigit, Exponent, Sign}
 use Rattle.mbe_text.specs.Characters.{begins, begins_with, past, past_one, bytes_before, offset}
@@ -12,9 +12,9 @@ use Rattle.mbe_text.specs.Words.{past_suffix}
 -- a literal of that text, whose suffix and what is after it are left
 abbrev pub read_literal : ℕ → LitKind → List ℕ → List ℕ → Read
 read_literal total kind text cs = elim (past_suffix cs) [
-      None ↦ Err (offset total cs)
-    | Some rest ↦ Ok (literal_of text (bytes_before cs rest) (length (bytes_before cs rest)) kind, rest)
-  ]
+  | None ↦ Err (offset total cs)
+  | Some rest ↦ Ok (literal_of text (bytes_before cs rest) (length (bytes_before cs rest)) kind, rest)
+]
 
 -- ---- numbers
 
@@ -61,9 +61,9 @@ from_quote quote false (c ∷ cs) = if c == quote then Some (c ∷ cs) else from
 -- a string, or a char, between two of that quote
 abbrev pub read_quoted : ℕ → LitKind → ℕ → List ℕ → Read
 read_quoted total kind quote cs = elim (from_quote quote false (drop 1 cs)) [
-      None ↦ Err (offset total cs)
-    | Some end ↦ read_literal total kind (bytes_before (drop 1 cs) end) (drop 1 end)
-  ]
+  | None ↦ Err (offset total cs)
+  | Some end ↦ read_literal total kind (bytes_before (drop 1 cs) end) (drop 1 end)
+]
 
 -- what is behind a `'` is a char's: a `\`, or a character and another `'`, where that character is no `'` and no line feed
 abbrev pub is_char : List ℕ → Bool

@@ -1,5 +1,5 @@
 -- Identifiers, and the suffixes of literals.
-use Rattle.std.specs.Prelude.{ℕ, ◌==◌, not, ◌&&◌, ◌||◌, nat_le, if◌then◌else◌, Bool, Option, Some, None, List, [], ◌∷◌, length, drop, codes, bytes_eq, Result, Ok, Err}
+use Rattle.std.specs.Prelude.{ℕ, not, ◌&&◌, ◌||◌, nat_le, if◌then◌else◌, Bool, Option, Some, None, List, length, drop, codes, bytes_eq, Ok, Err}
 use Rattle.mbe_tt.specs.declared.tt.IdentIsRaw.TheVariants as raw
 use Rattle.mbe_text.specs.declared.characters.Class.TheVariants.{IdentStart, IdentContinue, Hash}
 use Rattle.mbe_text.specs.Characters.{begins, begins_with, past, bytes_before, offset}
@@ -43,5 +43,5 @@ past_suffix cs =
     let rest = past_word cs in
     let suffix = bytes_before cs rest in
     if begins IdentStart cs then
-        if nat_le (length suffix) 255 && not (begins_literal suffix rest) then Some rest else None
+    if nat_le (length suffix) 255 && not (begins_literal suffix rest) then Some rest else None
     else Some cs

@@ -59,7 +59,7 @@ returns-in_err-add-clause-exact g c =
 pub returns-clause-exact : goal.returns-clause-exact
 returns-clause-exact g c =
     let next = subst (λ (o : Option Token). IsNext c.tokens.scanner.file c.tokens.scanner.total
-        (next_token c.tokens.scanner.total (chars c.tokens.scanner.rest.now)) (Ok o) (chars c.token.new.self.rest.now)) c.in_default.is
-        c.in_ok-token.ensures.exact in
+    (next_token c.tokens.scanner.total (chars c.tokens.scanner.rest.now)) (Ok o) (chars c.token.new.self.rest.now)) c.in_default.is
+    c.in_ok-token.ensures.exact in
     trees_lexed c.args.file c.args.text.now _ _ _ (reached_last _ _ _ _ _ c.tokens.invariant.reached c.tokens.invariant.total next.0)
     c.file_span-2.ensures.whole c.finish.ensures

@@ -1,4 +1,4 @@
-use Rattle.std.proofs.Common.{refl, sym, ap, ◌∙◌, arith, ◌≡◌, ℕ, List, ◌+◌, ◌-◌, ◌<◌, ◌≤◌, length, rules, chars}
+use Rattle.std.proofs.Common.{sym, ap, ◌∙◌, arith, ◌≡◌, ℕ, ◌+◌, ◌-◌, ◌<◌, length, rules, chars}
 use Rattle.mbe_text.specs.Blanks.{past_comments}
 use Rattle.mbe_text.proofs.CharacterLemmas.{shorter, drop_two}
 use Rattle.mbe_text.proofs.BlankLemmas.{comment_opens, comment_closes, comment_goes_on}
@@ -62,11 +62,11 @@ returns-then-depth-eq0-clause-exact c =
     let less = c.saturating_sub-depth.ensures in
     let none = c.if-depth-eq0.true in
     let start = drop_two (chars c.args.self.now.rest.now) (chars c.bump.new.self.rest.now) (chars c.bump-2.new.self.rest.now)
-        c.bump.ensures.rest c.bump-2.ensures.rest in
+    c.bump.ensures.rest c.bump-2.ensures.rest in
     let closing : past_comments (c.chars.depth - 1) (chars c.bump-then-is_second-2.new.self.rest.now)
-        ≡ past_comments c.chars.depth (chars c.chars.self.rest.now) =
-        comment_closes c.chars.depth c.in-Some.char (chars c.chars.self.rest.now) (chars c.bump-in-chars.new.self.rest.now) _
-        w.inside c.in-Some.ensures.exact (sym c.is_second.ensures.exact ∙ c.if-is_second.false)
-        (sym c.is_second-else-is_second.ensures.exact ∙ c.if-is_second-2.true) c.bump-then-is_second-2.ensures.rest in
+    ≡ past_comments c.chars.depth (chars c.chars.self.rest.now) =
+    comment_closes c.chars.depth c.in-Some.char (chars c.chars.self.rest.now) (chars c.bump-in-chars.new.self.rest.now) _
+    w.inside c.in-Some.ensures.exact (sym c.is_second.ensures.exact ∙ c.if-is_second.false)
+    (sym c.is_second-else-is_second.ensures.exact ∙ c.if-is_second-2.true) c.bump-then-is_second-2.ensures.rest in
     ap (past_comments 1) (sym start) ∙ (sym w.exact ∙ (sym closing
     ∙ ap (λ (n : ℕ). past_comments n (chars c.bump-then-is_second-2.new.self.rest.now)) (sym less ∙ none)))

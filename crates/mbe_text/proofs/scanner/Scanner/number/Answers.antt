@@ -12,7 +12,7 @@ returns-clause-exact c =
     let within = old.within in
     let whole = old.whole in
     let rest : IsRest old.rest.now new.rest.now = rest_of_rest old.text.now old.rest.now new.rest.now old.left
-        (subst (λ (t : List ℕ). IsRest t new.rest.now) digits.on.2 new.left) on (omega (arith, within, whole)) in
+    (subst (λ (t : List ℕ). IsRest t new.rest.now) digits.on.2 new.left) on (omega (arith, within, whole)) in
     number_read old.total new.total c.digits-kind.result c.before-digits.result.now
     (chars old.rest.now) (chars new.rest.now) (chars c.literal.new.self.rest.now) c.literal.result
     digits.on.1 digits.exact digits.rest (c.before-digits.ensures.exact rest) c.literal.ensures.exact

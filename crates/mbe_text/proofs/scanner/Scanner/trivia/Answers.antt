@@ -1,4 +1,4 @@
-use Rattle.std.proofs.Common.{refl, sym, ap, ◌∙◌, rules, chars, ℕ, Err}
+use Rattle.std.proofs.Common.{sym, ap, ◌∙◌, rules, chars, ℕ, Err}
 use Rattle.std.proofs.lemmas.Result.{err_from_is_err_and}
 use Rattle.mbe_text.specs.Characters.{offset}
 use Rattle.mbe_text.proofs.BlankLemmas.{passes_line, passes_block, passes_last, passes_fault}
