@@ -1,6 +1,6 @@
 -- A walk has each op once, and an iterator gives a walk.
-use Rattle.std.specs.Prelude.{◌≡◌, List, [], ◌∷◌, ◌++◌, map, Option, Some, None, refl}
-use Rattle.std.proofs.Common.{ap}
+use Rattle.std.specs.Prelude.{◌≤◌, ℕ, ◌≡◌, List, [], ◌∷◌, ◌++◌, map, Option, Some, None, refl}
+use Rattle.std.proofs.Common.{arith, ap, sym, ◌∙◌}
 use Rattle.mbe_tt.specs.declared.tt.Delimiter.{Delimiter}
 use Rattle.mbe_semantics.specs.Syntax.Op.{Ops, no_ops, op}
 use Rattle.std.specs.Iterator.{Drains}
@@ -8,7 +8,8 @@ use Rattle.std.proofs.lemmas.Iterator.{items_from_drains}
 use Rattle.std.proofs.lemmas.Iterator.Consumers.{YieldsList-from_first}
 use Rattle.mbe_ops.specs.declared.walk.OpDelimited.{OpDelimited}
 use Rattle.mbe_ops.specs.declared.walk.OpDelimitedIter.{OpDelimitedIter}
-use Rattle.mbe_ops.specs.Walk.{closing_stop, stops_of, walk, ops_in, stop_of, stops_left, GivesNext, EachOpOnce}
+use Rattle.mbe_ops.proofs.EqualityLemmas.{ops_weight}
+use Rattle.mbe_ops.specs.Walk.{Stop, opening_stop, op_stop, closing_stop, stops_of, walk, ops_in, stop_of, stops_left, GivesNext, EachOpOnce}
 
 -- of ops between an opening and a closing, or of ops alone
 pub ops_before : (os : Ops) (d : Delimiter) → ops_in (stops_of os ++ closing_stop d ∷ []) ≡ os
@@ -34,3 +35,32 @@ each_op_once around os = record {
   all = λ w given e d. given_is w around os given e d;
   once = ops_of_walk around os;
 }
+
+-- ---- loops over an iterator
+
+-- how much there is to go down into among the stops
+abbrev pub stops_weight : List Stop → ℕ
+stops_weight stops = ops_weight (ops_in stops)
+
+-- of a walk over a body
+pub weight_of_walk : {A : Type 0} (w : OpDelimitedIter A) (around : Option Delimiter) (os : Ops) → stops_left w ≡ walk around os
+    → stops_weight (stops_left w) ≡ ops_weight os
+weight_of_walk w around os e = ap stops_weight e ∙ ap ops_weight (ops_of_walk around os)
+
+-- neither what comes first nor what is left behind it has more
+pub first_no_heavier : (s : Stop) (rest : List Stop) → stops_weight (s ∷ []) ≤ stops_weight (s ∷ rest)
+first_no_heavier (opening_stop d) rest = omega arith
+first_no_heavier (op_stop o) rest = omega arith
+first_no_heavier (closing_stop d) rest = omega arith
+
+behind_no_heavier : (s : Stop) (rest : List Stop) → stops_weight rest ≤ stops_weight (s ∷ rest)
+behind_no_heavier (opening_stop d) rest = omega arith
+behind_no_heavier (op_stop o) rest = omega arith
+behind_no_heavier (closing_stop d) rest = omega arith
+
+pub rest_no_heavier : (s : Stop) (all left rest : List Stop) → left ≡ s ∷ rest → stops_weight left ≤ stops_weight all
+    → stops_weight rest ≤ stops_weight all
+rest_no_heavier s all left rest e h =
+    let less = behind_no_heavier s rest in
+    let same = ap stops_weight e in
+    omega (arith, less, same, h)
