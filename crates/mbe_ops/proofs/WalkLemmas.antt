@@ -1,12 +1,15 @@
 -- A walk has each op once, and an iterator gives a walk.
 use Rattle.std.specs.Prelude.{◌≤◌, ℕ, ◌≡◌, List, [], ◌∷◌, ◌++◌, map, Option, Some, None, refl}
-use Rattle.std.proofs.Common.{arith, ap, sym, ◌∙◌}
+use Rattle.std.proofs.Common.{◌⊎◌, inl, inr, Bor, arith, ap, sym, ◌∙◌}
 use Rattle.mbe_tt.specs.declared.tt.Delimiter.{Delimiter}
 use Rattle.mbe_semantics.specs.Syntax.Op.{Ops, no_ops, op}
 use Rattle.std.specs.Iterator.{Drains}
 use Rattle.std.proofs.lemmas.Iterator.{items_from_drains}
 use Rattle.std.proofs.lemmas.Iterator.Consumers.{YieldsList-from_first}
+use Rattle.mbe_ops.specs.Views.{op_of}
+use Rattle.mbe_ops.specs.declared.ops.Op as code
 use Rattle.mbe_ops.specs.declared.walk.OpDelimited.{OpDelimited}
+use Rattle.mbe_ops.specs.declared.walk.OpDelimited.TheVariants as found
 use Rattle.mbe_ops.specs.declared.walk.OpDelimitedIter.{OpDelimitedIter}
 use Rattle.mbe_ops.proofs.EqualityLemmas.{ops_weight}
 use Rattle.mbe_ops.specs.Walk.{Stop, opening_stop, op_stop, closing_stop, stops_of, walk, ops_in, stop_of, stops_left, GivesNext, EachOpOnce}
@@ -64,3 +67,18 @@ rest_no_heavier s all left rest e h =
     let less = behind_no_heavier s rest in
     let same = ap stops_weight e in
     omega (arith, less, same, h)
+
+-- what is first is an op, or it is an opening or a closing
+pub op_first : {A : Type 0} (s : OpDelimited A) (o : Bor (code.Op A)) (left rest : List Stop) → left ≡ stop_of s ∷ rest → s ≡ found.Op o
+    → ops_in left ≡ op (op_of o.now) (ops_in rest)
+op_first s o left rest e f = ap ops_in e ∙ ap (λ x. ops_in (stop_of x ∷ rest)) f
+
+pub no_op_first : {A : Type 0} (s : OpDelimited A) (left rest : List Stop) → left ≡ stop_of s ∷ rest
+    → ((d : Delimiter) × (s ≡ found.Open d)) ⊎ ((d : Delimiter) × (s ≡ found.Close d)) → ops_in left ≡ ops_in rest
+no_op_first s left rest e (inl (d, f)) = ap ops_in e ∙ ap (λ x. ops_in (stop_of x ∷ rest)) f
+no_op_first s left rest e (inr (d, f)) = ap ops_in e ∙ ap (λ x. ops_in (stop_of x ∷ rest)) f
+
+-- before the first turn
+pub ops_at_first : {A : Type 0} (w v : OpDelimitedIter A) (around : Option Delimiter) (os : Ops) → w ≡ v → stops_left v ≡ walk around os
+    → ops_in (stops_left w) ≡ os
+ops_at_first w v around os same e = ap (λ x. ops_in (stops_left x)) same ∙ (ap ops_in e ∙ ops_of_walk around os)
