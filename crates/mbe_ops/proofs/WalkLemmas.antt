@@ -1,9 +1,9 @@
 -- A walk has each op once, and an iterator gives a walk.
 use Rattle.std.specs.Prelude.{◌≤◌, ℕ, ◌≡◌, List, [], ◌∷◌, ◌++◌, map, Option, Some, None, refl}
-use Rattle.std.proofs.Common.{◌⊎◌, inl, inr, Bor, arith, ap, sym, ◌∙◌}
+use Rattle.std.proofs.Common.{◌⊎◌, inl, inr, Bor, arith, ap, ◌∙◌}
 use Rattle.mbe_tt.specs.declared.tt.Delimiter.{Delimiter}
 use Rattle.mbe_semantics.specs.Syntax.Op.{Ops, no_ops, op}
-use Rattle.std.specs.Iterator.{Drains}
+use Rattle.std.specs.Iterator.{YieldsFirstBy, Drains}
 use Rattle.std.proofs.lemmas.Iterator.{items_from_drains}
 use Rattle.std.proofs.lemmas.Iterator.Consumers.{YieldsList-from_first}
 use Rattle.mbe_ops.specs.Views.{op_of}
@@ -12,7 +12,7 @@ use Rattle.mbe_ops.specs.declared.walk.OpDelimited.{OpDelimited}
 use Rattle.mbe_ops.specs.declared.walk.OpDelimited.TheVariants as found
 use Rattle.mbe_ops.specs.declared.walk.OpDelimitedIter.{OpDelimitedIter}
 use Rattle.mbe_ops.proofs.EqualityLemmas.{ops_weight}
-use Rattle.mbe_ops.specs.Walk.{Stop, opening_stop, op_stop, closing_stop, stops_of, walk, ops_in, stop_of, stops_left, GivesNext, EachOpOnce}
+use Rattle.mbe_ops.specs.Walk.{Stop, opening_stop, op_stop, closing_stop, stops_of, walk, ops_in, stop_of, stops_left, EachOpOnce}
 
 -- of ops between an opening and a closing, or of ops alone
 pub ops_before : (os : Ops) (d : Delimiter) → ops_in (stops_of os ++ closing_stop d ∷ []) ≡ os
@@ -29,11 +29,11 @@ ops_of_walk (Some d) os = ops_before os d
 
 -- all that an iterator gives
 given_is : {A : Type 0} (w : OpDelimitedIter A) (around : Option Delimiter) (os : Ops) (given : List (OpDelimited A))
-    → stops_left w ≡ walk around os → Drains GivesNext w given → map stop_of given ≡ walk around os
+    → stops_left w ≡ walk around os → Drains (YieldsFirstBy stop_of stops_left) w given → map stop_of given ≡ walk around os
 given_is w around os given e d =
     items_from_drains given (d.1.0, d.1.1, λ _. (d.0, d.1.2)) (YieldsList-from_first stop_of stops_left (walk around os) e)
 
-pub each_op_once : {A : Type 0} (around : Option Delimiter) (os : Ops) → EachOpOnce A around os
+pub each_op_once : {A : Type 0} (around : Option Delimiter) (os : Ops) → EachOpOnce {A = A} (YieldsFirstBy stop_of stops_left) around os
 each_op_once around os = record {
   all = λ w given e d. given_is w around os given e d;
   once = ops_of_walk around os;

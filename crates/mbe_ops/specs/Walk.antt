@@ -1,7 +1,7 @@
 -- A walk over ops: over those of a whole pattern or of a repetition's body, or over a group's, between its opening and its
 -- closing.
 use Rattle.std.specs.Prelude.{◌≡◌, List, [], ◌∷◌, ◌++◌, map, Option, Some, None}
-use Rattle.std.specs.Iterator.{YieldsFirstBy, Drains}
+use Rattle.std.specs.Iterator.{Drains}
 use Rattle.mbe_tt.specs.declared.tt.Delimiter.{Delimiter}
 use Rattle.mbe_semantics.specs.Syntax.Op.{Op, Ops, no_ops, op}
 use Rattle.mbe_ops.specs.Views.{op_of, ops_of}
@@ -46,10 +46,6 @@ behind (Some d) = closing_stop d ∷ []
 abbrev pub stops_left : {A : Type 0} → OpDelimitedIter A → List Stop
 stops_left w = before w.opening (stops_of (ops_of w.ops.now) ++ behind w.closing)
 
--- one turn of an iterator: the first of what it has left, or `None` if nothing is
-abbrev pub GivesNext : {A : Type 0} → OpDelimitedIter A → Option (OpDelimited A) → OpDelimitedIter A → Type 0
-GivesNext = YieldsFirstBy stop_of stops_left
-
 -- ---- the law
 
 -- the ops among what a walk comes to
@@ -59,9 +55,10 @@ ops_in (op_stop o ∷ stops) = op o (ops_in stops)
 ops_in (opening_stop d ∷ stops) = ops_in stops
 ops_in (closing_stop d ∷ stops) = ops_in stops
 
--- An iterator over ops gives, from its beginning to its end, the walk over them; and in this walk there is each of the ops
--- once, in order.
-pub record EachOpOnce (A : Type 0) (around : Option Delimiter) (os : Ops) : Type 0 where
-  pub all : (w : OpDelimitedIter A) (given : List (OpDelimited A)) → stops_left w ≡ walk around os → Drains GivesNext w given →
+-- By the turns of an iterator over ops: from the walk's beginning to its end it gives what the walk comes to, and no more;
+-- and among that is each of the ops once, in order.
+pub record EachOpOnce {A : Type 0} (Turns : OpDelimitedIter A → Option (OpDelimited A) → OpDelimitedIter A → Type 0)
+    (around : Option Delimiter) (os : Ops) : Type 0 where
+  pub all : (w : OpDelimitedIter A) (given : List (OpDelimited A)) → stops_left w ≡ walk around os → Drains Turns w given →
       map stop_of given ≡ walk around os
   pub once : ops_in (walk around os) ≡ os

@@ -1,7 +1,7 @@
 // An iterator over the ops of a pattern or a template, or over those of a group with its opening and closing. The names
 // follow rust-analyzer's.
 ghost use Rattle.std.specs.Prelude.{◌≡◌, Some, None};
-ghost use Rattle.std.specs.Iterator.{item_count};
+ghost use Rattle.std.specs.Iterator.{YieldsFirstBy, item_count};
 ghost use Rattle.mbe_ops.specs.Views.{ops_of, template_of};
 ghost use Rattle.mbe_ops.specs.Walk.{walk, stops_left};
 
@@ -61,11 +61,11 @@ impl<A: Allocator> MetaTemplate<A> {
 
 /// The opening and the closing, where there are any, and each op between them once, in order; then the iterator ends.
 impl<'a, A: Allocator> Iterator for OpDelimitedIter<'a, A> {
-    ghost use Rattle.mbe_ops.specs.Walk.{GivesNext};
+    ghost use Rattle.mbe_ops.specs.Walk.{stop_of};
 
     type Item = OpDelimited<'a, A>;
 
-    ghost next_gives = { GivesNext };
+    ghost next_gives = { YieldsFirstBy stop_of stops_left };
 
     ghost remaining = { item_count stops_left };
 
