@@ -11,7 +11,7 @@ use Rattle.mbe_parser.specs.declared.rules.Rule as written
 use Rattle.mbe_semantics.specs.Syntax.Op.{Ops, no_ops, op}
 use Rattle.mbe_semantics.specs.Syntax.Definition.{Rule}
 use Rattle.mbe_semantics.specs.Syntax.Nullable.{is_nullable, is_nullable_op, is_refused, is_refused_op, is_unseparated}
-use Rattle.mbe_ops.specs.Views.{op_of, ops_of, separator_seen}
+use Rattle.mbe_ops.specs.Views.{separator_seen}
 use Rattle.mbe_parser.specs.RuleViews.{rule_of, rules_seen}
 
 -- ---- over ops

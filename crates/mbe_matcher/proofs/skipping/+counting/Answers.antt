@@ -1,10 +1,10 @@
-use Rattle.std.proofs.Common.{◌+◌, ap, sym, ◌∙◌, arith}
+use Rattle.std.proofs.Common.{ap, ◌∙◌, arith}
 use Rattle.std.specs.Prelude.{None}
 use Rattle.mbe_semantics.specs.Matching.Dots.{dots}
 use Rattle.mbe_ops.specs.Views.{op_of, ops_of}
-use Rattle.mbe_ops.specs.Walk.{stop_of, stops_left, ops_in}
+use Rattle.mbe_ops.specs.Walk.{stops_left, ops_in}
 use Rattle.mbe_ops.proofs.EqualityLemmas.{op_weight, ops_weight}
-use Rattle.mbe_ops.proofs.WalkLemmas.{op_first, no_op_first, ops_at_first, rest_no_heavier}
+use Rattle.mbe_ops.proofs.WalkLemmas.{op_first, no_op_first, ops_at_first}
 use Rattle.mbe_ops.proofs.OpViews.{view-open, view-open_repeat, view-subtree, view-repeat}
 use Rattle.mbe_matcher.proofs.skipping.+counting.Goals as goal
 

@@ -1,12 +1,12 @@
-use Rattle.std.proofs.Common.{◌+◌, [], ◌∷◌, ap, sym, ◌∙◌, arith}
-use Rattle.std.specs.Prelude.{◌&&◌, ◌||◌, not, false, Some, None}
+use Rattle.std.proofs.Common.{[], ◌∷◌, ap, sym, ◌∙◌, arith}
+use Rattle.std.specs.Prelude.{◌&&◌, ◌||◌, false, Some, None}
 use Rattle.std.proofs.Math.Bool.{and-true, and-false, or-false}
-use Rattle.mbe_semantics.specs.Syntax.Nullable.{is_nullable, is_nullable_op, is_refused, is_refused_op, may_skip}
-use Rattle.mbe_ops.specs.Views.{op_of, ops_of, template_of}
-use Rattle.mbe_ops.specs.Walk.{stop_of, stops_left, walk}
-use Rattle.mbe_ops.proofs.EqualityLemmas.{op_weight, ops_weight}
+use Rattle.mbe_semantics.specs.Syntax.Nullable.{is_nullable_op, is_refused_op, may_skip}
+use Rattle.mbe_ops.specs.Views.{op_of, template_of}
+use Rattle.mbe_ops.specs.Walk.{stop_of, stops_left}
+use Rattle.mbe_ops.proofs.EqualityLemmas.{op_weight}
 use Rattle.mbe_ops.proofs.WalkLemmas.{stops_weight, weight_of_walk, first_no_heavier, rest_no_heavier}
-use Rattle.mbe_ops.proofs.OpViews.{view-subtree, view-repeat, view-open, view-open_repeat}
+use Rattle.mbe_ops.proofs.OpViews.{view-subtree, view-repeat}
 use Rattle.mbe_parser.specs.Refusal.{can_read_nothing, some_refused}
 use Rattle.mbe_parser.proofs.RefusalLemmas.{next_nullable, next_refused, nothing_read, refused_inside, separated_if}
 use Rattle.mbe_parser.proofs.validate.+refusal.Goals as goal

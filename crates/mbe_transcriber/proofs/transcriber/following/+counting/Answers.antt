@@ -1,4 +1,4 @@
-use Rattle.std.proofs.Common.{◌+◌, ap, sym, ◌∙◌, arith}
+use Rattle.std.proofs.Common.{ap, sym, ◌∙◌, arith}
 use Rattle.std.specs.Prelude.{option_map, filter_map, None}
 use Rattle.mbe_transcriber.specs.Counting.{shortest, shorter, extent_seen}
 use Rattle.mbe_semantics.specs.Syntax.Op.{uses_of, uses_of_op}
