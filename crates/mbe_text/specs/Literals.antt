@@ -72,7 +72,8 @@ is_char (c ∷ cs) = c == 92 || (not (char_set_contains (codes "'\n") c) && begi
 
 -- the `'` of a lifetime, whose identifier is the next token
 abbrev pub read_lifetime : ℕ → List ℕ → Read
-read_lifetime total cs = if begins IdentStart (drop 1 cs) then Ok (punct_of 39 Joint, drop 1 cs) else Err (offset total cs)
+read_lifetime total cs =
+    if begins IdentStart (drop 1 cs) then Ok (punct_of 39 Joint, drop 1 cs) else Err (offset total cs)
 
 abbrev pub read_quote : ℕ → List ℕ → Read
 read_quote total cs = if is_char (drop 1 cs) then read_quoted total Char 39 cs else read_lifetime total cs

@@ -23,7 +23,8 @@ begins_literal name rest =
 abbrev pub read_word : ℕ → List ℕ → Read
 read_word total cs =
     let rest = past_word cs in
-    if begins_literal (bytes_before cs rest) rest then Err (offset total cs) else Ok (identifier (bytes_before cs rest) raw.No, rest)
+    if begins_literal (bytes_before cs rest) rest then Err (offset total cs) else Ok
+    (identifier (bytes_before cs rest) raw.No, rest)
 
 abbrev pub begins_raw : List ℕ → Bool
 begins_raw cs = begins_with (codes "r#") cs && begins IdentStart (drop 2 cs)
@@ -32,7 +33,8 @@ begins_raw cs = begins_with (codes "r#") cs && begins IdentStart (drop 2 cs)
 abbrev pub read_raw : ℕ → List ℕ → Read
 read_raw total cs =
     let rest = past_word (drop 2 cs) in
-    if begins_with (codes "\"") rest then Err (offset total cs) else Ok (identifier (bytes_before (drop 2 cs) rest) raw.Yes, rest)
+    if begins_with (codes "\"") rest then Err (offset total cs) else Ok
+    (identifier (bytes_before (drop 2 cs) rest) raw.Yes, rest)
 
 abbrev pub read_identifier : ℕ → List ℕ → Read
 read_identifier total cs = if begins_raw cs then read_raw total cs else read_word total cs
