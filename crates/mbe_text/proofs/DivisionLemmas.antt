@@ -22,23 +22,7 @@ use Rattle.mbe_text.specs.Tokens.{Item, leaf_item, open_item, close_item, bytes_
 
 -- ---- the next token
 
-pub next_fault : (total : ℕ) (cs : List ℕ) (fault : ℕ) → past_blanks total (length cs) cs ≡ Err fault
-    → next_token total cs ≡ Err fault
-next_fault total cs fault e = rw (e, next_token) refl
-
-pub next_none : (total : ℕ) (cs left : List ℕ) → past_blanks total (length cs) cs ≡ Ok left → left ≡ []
-    → next_token total cs ≡ Ok None
-next_none total cs left e f = let p : past_blanks total (length cs) cs ≡ Ok [] = e ∙ ap Ok f in rw (p, next_token) refl
-
-pub next_bad : (total : ℕ) (cs left : List ℕ) (c : ℕ) (after : List ℕ) (fault : ℕ)
-    → past_blanks total (length cs) cs ≡ Ok left → left ≡ c ∷ after
-    → read_shape total left ≡ Err fault → next_token total cs ≡ Err fault
-next_bad total cs left c after fault e f g =
-    let p : past_blanks total (length cs) cs ≡ Ok (c ∷ after) = e ∙ ap Ok f in
-    let q : read_shape total (c ∷ after) ≡ Err fault = ap (read_shape total) (sym f) ∙ g in
-    rw (p, next_token, q) refl
-
-pub next_some : (total : ℕ) (cs left : List ℕ) (c : ℕ) (after : List ℕ) (shape : Shape) (rest : List ℕ)
+next_some : (total : ℕ) (cs left : List ℕ) (c : ℕ) (after : List ℕ) (shape : Shape) (rest : List ℕ)
     → past_blanks total (length cs) cs ≡ Ok left
     → left ≡ c ∷ after → read_shape total left ≡ Ok (shape, rest)
     → next_token total cs ≡ Ok (Some (record { shape = shape; from = c ∷ after; rest = rest }))

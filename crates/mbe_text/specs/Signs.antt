@@ -12,7 +12,7 @@ use Rattle.mbe_text.specs.Shapes.{Shape, Read, punct_of, opening, closing}
 abbrev pub spacing_before : List ℕ → Spacing
 spacing_before rest = if begins classes.Punct rest && not (begins_comment rest) then Joint else Alone
 
--- a side of a group
+-- a side of a group: ( ) [ ] { }
 abbrev pub side : ℕ → Option Shape
 side c =
     if c == 40 then Some (opening Parenthesis) else if c == 41 then Some (closing Parenthesis)
