@@ -14,8 +14,8 @@ abbrev pub invariant-shortest-loop-stop : goal.invariant-shortest-loop-stop
 invariant-shortest-loop-stop g l = record {
   lighter : stops_weight (stops_left l.stop-iterator) ≤ ops_weight (ops_of l.ops);
   least : shortest (filter_map (extent_under (bound_by l.bindings) l.path) (uses_of (ops_of l.ops)))
-  ≡ shorter (option_map extent_seen l.least)
-  (shortest (filter_map (extent_under (bound_by l.bindings) l.path) (uses_of (ops_in (stops_left l.stop-iterator)))));
+      ≡ shorter (option_map extent_seen l.least)
+      (shortest (filter_map (extent_under (bound_by l.bindings) l.path) (uses_of (ops_in (stops_left l.stop-iterator)))));
 }
 
 abbrev pub decreases-shortest : goal.decreases-shortest
