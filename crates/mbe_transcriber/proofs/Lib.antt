@@ -5,3 +5,4 @@ pub mod VariableLemmas
 pub mod PathLemmas
 pub mod JoinLemmas
 pub mod AgreeLemmas
+pub mod FaultLemmas

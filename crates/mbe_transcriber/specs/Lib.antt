@@ -1,3 +1,4 @@
 pub mod Writing
 pub mod Counting
 pub mod FaultViews
+pub mod Faults

@@ -19,6 +19,8 @@ ghost use Rattle.mbe_log.specs.BindingViews.{bound_by};
 ghost use Rattle.mbe_transcriber.specs.Writing.{Appends, AreMarked, IsMarkedLiteral, IsMarkedIdent};
 ghost use Rattle.mbe_transcriber.specs.Writing.{IsWritten, AreWritten, IsVariableWritten, IsParted};
 ghost use Rattle.mbe_transcriber.specs.Writing.{Wrote};
+ghost use Rattle.mbe_transcriber.specs.FaultViews.{error_of_fault};
+ghost use Rattle.mbe_transcriber.specs.Faults.{at, variable_fault, op_fault, first_fault};
 
 mod expressions;
 mod fault;
@@ -65,6 +67,8 @@ pub fn transcribe<A: Allocator + Copy, G: FragmentGrammar, M: Fn(Span) -> Span +
     requires marks { MayMark (M.pre marker) }
     ensures fault { IfOk result (λ r.
         is_some r.err ≡ faults (bound_by bindings.now) [] (template_of template.now)) }
+    ensures first { IfOk result (λ r. errors_of r.err
+        ≡ first_fault call_site (bound_by bindings.now) [] (template_of template.now)) }
     ensures substitution { IfOk result (λ r.
         faults (bound_by bindings.now) [] (template_of template.now) ≡ false
         → IsSubstitution (G.grammar grammar.now) (M.post marker) call_site (bound_by bindings.now)
@@ -106,10 +110,13 @@ fn expand_ops<'t, A: Allocator + Copy, G: FragmentGrammar, M: Fn(Span) -> Span +
 ) -> Result<Option<WritingFault<'t, A>>, AllocError>
     requires marks { MayMark (M.pre ctx.now.marker) }
     requires some_group { 0 < length builder.old }
-    ensures { IfOk result (λ fault. Wrote (is_some fault)
+    ensures wrote { IfOk result (λ fault. Wrote (is_some fault)
         (faults (bound_by ctx.now.bindings.now) path.now (ops_of ops.now))
         (AreWritten (G.grammar ctx.now.grammar.now) (M.post ctx.now.marker) ctx.now.call_site
         (bound_by ctx.now.bindings.now) path.now (ops_of ops.now)) builder.old builder.new) }
+    ensures first { IfOk result (λ fault. option_map error_of_fault fault
+        ≡ first_fault ctx.now.call_site (bound_by ctx.now.bindings.now) path.now
+        (ops_of ops.now)) }
 {
     let mut first = None;
     for op in ops {
@@ -129,10 +136,12 @@ fn expand_op<'t, A: Allocator + Copy, G: FragmentGrammar, M: Fn(Span) -> Span + 
 ) -> Result<Option<WritingFault<'t, A>>, AllocError>
     requires marks { MayMark (M.pre ctx.now.marker) }
     requires some_group { 0 < length builder.old }
-    ensures { IfOk result (λ fault. Wrote (is_some fault)
+    ensures wrote { IfOk result (λ fault. Wrote (is_some fault)
         (op_faults (bound_by ctx.now.bindings.now) path.now (op_of op.now))
         (IsWritten (G.grammar ctx.now.grammar.now) (M.post ctx.now.marker) ctx.now.call_site
         (bound_by ctx.now.bindings.now) path.now (op_of op.now)) builder.old builder.new) }
+    ensures first { IfOk result (λ fault. option_map error_of_fault fault
+        ≡ op_fault ctx.now.call_site (bound_by ctx.now.bindings.now) path.now (op_of op.now)) }
 {
     match op {
         Op::Literal(literal) => write_literal(literal, ctx.marker, builder).and(Ok(None)),
@@ -166,11 +175,14 @@ fn expand_group<'t, A: Allocator + Copy, G: FragmentGrammar, M: Fn(Span) -> Span
 ) -> Result<Option<WritingFault<'t, A>>, AllocError>
     requires marks { MayMark (M.pre ctx.now.marker) }
     requires some_group { 0 < length builder.old }
-    ensures { IfOk result (λ fault. Wrote (is_some fault)
+    ensures wrote { IfOk result (λ fault. Wrote (is_some fault)
         (op_faults (bound_by ctx.now.bindings.now) path.now (group delimiter (ops_of body.now)))
         (IsWritten (G.grammar ctx.now.grammar.now) (M.post ctx.now.marker) ctx.now.call_site
         (bound_by ctx.now.bindings.now) path.now (group delimiter (ops_of body.now)))
         builder.old builder.new) }
+    ensures first { IfOk result (λ fault. option_map error_of_fault fault
+        ≡ op_fault ctx.now.call_site (bound_by ctx.now.bindings.now) path.now
+        (group delimiter (ops_of body.now))) }
 {
     builder.open(delimiter.kind, mark(delimiter.opening, ctx.marker))?;
     let fault = expand_ops(ctx, body, path, builder)?;
@@ -191,12 +203,16 @@ fn expand_repeat<'t, A: Allocator + Copy, G: FragmentGrammar, M: Fn(Span) -> Spa
 ) -> Result<Option<WritingFault<'t, A>>, AllocError>
     requires marks { MayMark (M.pre ctx.now.marker) }
     requires some_group { 0 < length builder.old }
-    ensures { let whole = repetition (ops_of body.now)
+    ensures wrote { let whole = repetition (ops_of body.now)
         (option_map (λ s. separator_seen s.now) separator.entry) kind in
         IfOk result (λ fault. Wrote (is_some fault)
         (op_faults (bound_by ctx.now.bindings.now) path.now whole)
         (IsWritten (G.grammar ctx.now.grammar.now) (M.post ctx.now.marker) ctx.now.call_site
         (bound_by ctx.now.bindings.now) path.now whole) builder.old builder.new) }
+    ensures first { let whole = repetition (ops_of body.now)
+        (option_map (λ s. separator_seen s.now) separator.entry) kind in
+        IfOk result (λ fault. option_map error_of_fault fault
+        ≡ op_fault ctx.now.call_site (bound_by ctx.now.bindings.now) path.now whole) }
 {
     let rounds = match kept_rounds(kind, rounds_of(ctx.bindings, path, body)) {
         Ok(rounds) => rounds,
@@ -289,10 +305,12 @@ fn write_var<'t, A: Allocator + Copy, G, M: Fn(Span) -> Span + Copy>(
 ) -> Result<Option<WritingFault<'t, A>>, AllocError>
     requires marks { MayMark (M.pre ctx.now.marker) }
     requires some_group { 0 < length builder.old }
-    ensures { IfOk result (λ fault. Wrote (is_some fault)
+    ensures wrote { IfOk result (λ fault. Wrote (is_some fault)
         (variable_faults (bound_by ctx.now.bindings.now) path.now name.now)
         (IsVariableWritten (M.post ctx.now.marker) ctx.now.call_site
         (bound_by ctx.now.bindings.now) path.now name.now id) builder.old builder.new) }
+    ensures first { IfOk result (λ fault. option_map error_of_fault fault
+        ≡ option_map (at id) (variable_fault (bound_by ctx.now.bindings.now) path.now name.now)) }
 {
     let Some(binding) = ctx.bindings.get(name) else {
         write_unbound(name, id, builder)?;
