@@ -1,8 +1,7 @@
 -- The first fault, part by part.
 use Rattle.std.proofs.Common.{◌≡◌, ℕ, ◌+◌, Option, Some, None, refl, ap, sym, ◌∙◌, add-one}
 use Rattle.std.specs.Option.{option_or}
-use Rattle.std.specs.Result.{result_and}
-use Rattle.std.specs.Prelude.{Result, Ok, Err, IfOk, option_map}
+use Rattle.std.specs.Prelude.{option_map}
 use Rattle.mbe_tt.specs.declared.span.Span.{Span}
 use Rattle.mbe_semantics.specs.declared.kinds.RepeatKind.{RepeatKind}
 use Rattle.mbe_semantics.specs.Syntax.Op.{Separator, Op, Ops, op, no_ops, repetition}
@@ -22,12 +21,6 @@ or_end (Some x) = refl
 seen_or : {X Y : Type 0} (f : X → Y) (a b : Option X) → option_map f (option_or a b) ≡ option_or (option_map f a) (option_map f b)
 seen_or f None b = refl
 seen_or f (Some x) b = refl
-
--- a call that meets no fault, where a fault or none is wanted
-pub none_met : {T E F : Type 0} {seen : F → ExpandError} (made : Result T E) (all : Result (Option F) E) → all ≡ result_and made (Ok None)
-    → IfOk all (λ fault. option_map seen fault ≡ None)
-none_met (Ok x) all e = rw e refl
-none_met (Err x) all e = rw e tt
 
 module _ {X : Type 0} (seen : X → ExpandError) (site : Span) (env : Environment) (path : Path) where
   -- ---- ops one after the other
