@@ -6,3 +6,4 @@ pub mod PathLemmas
 pub mod JoinLemmas
 pub mod AgreeLemmas
 pub mod FaultLemmas
+pub mod LeftLemmas

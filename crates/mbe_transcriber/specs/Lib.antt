@@ -2,3 +2,4 @@ pub mod Writing
 pub mod Counting
 pub mod FaultViews
 pub mod Faults
+pub mod Beside

@@ -3,8 +3,8 @@
 // A repetition counts its rounds first, by the lists that its variables are bound to; then each round is written straight
 // into the builder, with the path of rounds that it is in. A fault stops nothing: the first is kept, and what follows is
 // written as far as it goes, since an editor shows the tree beside the error.
-ghost use Rattle.std.specs.Prelude.{◌≡◌, ◌<◌, Some, false, [], is_some, length, option_map, IfOk};
-ghost use Rattle.std.specs.Prelude.{OnOk};
+ghost use Rattle.std.specs.Prelude.{◌≡◌, ◌<◌, Some, true, false, [], is_some, length, option_map};
+ghost use Rattle.std.specs.Prelude.{IfOk, OnOk};
 ghost use Rattle.mbe_tt.specs.Buffers.Building.{put};
 ghost use Rattle.mbe_tt.specs.Views.Shown.{literal_of, ident_of};
 ghost use Rattle.mbe_tt.specs.Trees.Top.{top_group};
@@ -19,6 +19,7 @@ ghost use Rattle.mbe_log.specs.BindingViews.{bound_by};
 ghost use Rattle.mbe_transcriber.specs.Writing.{Appends, AreMarked, IsMarkedLiteral, IsMarkedIdent};
 ghost use Rattle.mbe_transcriber.specs.Writing.{IsWritten, AreWritten, IsVariableWritten, IsParted};
 ghost use Rattle.mbe_transcriber.specs.Writing.{Wrote};
+ghost use Rattle.mbe_transcriber.specs.Beside.{IsLeft, AreLeft, IsWhatIsLeft};
 ghost use Rattle.mbe_transcriber.specs.FaultViews.{error_of_fault};
 ghost use Rattle.mbe_transcriber.specs.Faults.{at, variable_fault, op_fault, first_fault};
 
@@ -69,6 +70,9 @@ pub fn transcribe<A: Allocator + Copy, G: FragmentGrammar, M: Fn(Span) -> Span +
         is_some r.err ≡ faults (bound_by bindings.now) [] (template_of template.now)) }
     ensures first { IfOk result (λ r. errors_of r.err
         ≡ first_fault call_site (bound_by bindings.now) [] (template_of template.now)) }
+    ensures left { IfOk result (λ r.
+        IsWhatIsLeft (G.grammar grammar.now) (M.post marker) call_site (bound_by bindings.now)
+        (template_of template.now) (top_group r.value)) }
     ensures substitution { IfOk result (λ r.
         faults (bound_by bindings.now) [] (template_of template.now) ≡ false
         → IsSubstitution (G.grammar grammar.now) (M.post marker) call_site (bound_by bindings.now)
@@ -117,6 +121,9 @@ fn expand_ops<'t, A: Allocator + Copy, G: FragmentGrammar, M: Fn(Span) -> Span +
     ensures first { IfOk result (λ fault. option_map error_of_fault fault
         ≡ first_fault ctx.now.call_site (bound_by ctx.now.bindings.now) path.now
         (ops_of ops.now)) }
+    ensures left { IfOk result (λ _. Appends
+        (AreLeft (G.grammar ctx.now.grammar.now) (M.post ctx.now.marker) ctx.now.call_site
+        (bound_by ctx.now.bindings.now) path.now (ops_of ops.now)) builder.old builder.new) }
 {
     let mut first = None;
     for op in ops {
@@ -142,6 +149,9 @@ fn expand_op<'t, A: Allocator + Copy, G: FragmentGrammar, M: Fn(Span) -> Span + 
         (bound_by ctx.now.bindings.now) path.now (op_of op.now)) builder.old builder.new) }
     ensures first { IfOk result (λ fault. option_map error_of_fault fault
         ≡ op_fault ctx.now.call_site (bound_by ctx.now.bindings.now) path.now (op_of op.now)) }
+    ensures left { IfOk result (λ _. Appends
+        (IsLeft (G.grammar ctx.now.grammar.now) (M.post ctx.now.marker) ctx.now.call_site
+        (bound_by ctx.now.bindings.now) path.now (op_of op.now)) builder.old builder.new) }
 {
     match op {
         Op::Literal(literal) => write_literal(literal, ctx.marker, builder).and(Ok(None)),
@@ -183,6 +193,10 @@ fn expand_group<'t, A: Allocator + Copy, G: FragmentGrammar, M: Fn(Span) -> Span
     ensures first { IfOk result (λ fault. option_map error_of_fault fault
         ≡ op_fault ctx.now.call_site (bound_by ctx.now.bindings.now) path.now
         (group delimiter (ops_of body.now))) }
+    ensures left { IfOk result (λ _. Appends
+        (IsLeft (G.grammar ctx.now.grammar.now) (M.post ctx.now.marker) ctx.now.call_site
+        (bound_by ctx.now.bindings.now) path.now (group delimiter (ops_of body.now)))
+        builder.old builder.new) }
 {
     builder.open(delimiter.kind, mark(delimiter.opening, ctx.marker))?;
     let fault = expand_ops(ctx, body, path, builder)?;
@@ -213,6 +227,11 @@ fn expand_repeat<'t, A: Allocator + Copy, G: FragmentGrammar, M: Fn(Span) -> Spa
         (option_map (λ s. separator_seen s.now) separator.entry) kind in
         IfOk result (λ fault. option_map error_of_fault fault
         ≡ op_fault ctx.now.call_site (bound_by ctx.now.bindings.now) path.now whole) }
+    ensures left { let whole = repetition (ops_of body.now)
+        (option_map (λ s. separator_seen s.now) separator.entry) kind in
+        IfOk result (λ _. Appends
+        (IsLeft (G.grammar ctx.now.grammar.now) (M.post ctx.now.marker) ctx.now.call_site
+        (bound_by ctx.now.bindings.now) path.now whole) builder.old builder.new) }
 {
     let rounds = match kept_rounds(kind, rounds_of(ctx.bindings, path, body)) {
         Ok(rounds) => rounds,
@@ -311,6 +330,7 @@ fn write_var<'t, A: Allocator + Copy, G, M: Fn(Span) -> Span + Copy>(
         (bound_by ctx.now.bindings.now) path.now name.now id) builder.old builder.new) }
     ensures first { IfOk result (λ fault. option_map error_of_fault fault
         ≡ option_map (at id) (variable_fault (bound_by ctx.now.bindings.now) path.now name.now)) }
+    ensures unchanged { IfOk result (λ fault. is_some fault ≡ true → builder.new ≡ builder.old) }
 {
     let Some(binding) = ctx.bindings.get(name) else {
         write_unbound(name, id, builder)?;

@@ -23,6 +23,7 @@ ghost use Rattle.mbe_transcriber.specs.Writing.{IsJoined};
 ghost use Rattle.std.specs.Result.{result_err};
 ghost use Rattle.mbe_semantics.specs.Syntax.Op as Expression;
 ghost use Rattle.mbe_semantics.specs.Bindings.Environment.{value_of};
+ghost use Rattle.mbe_transcriber.specs.Beside.{name_left};
 ghost use Rattle.mbe_transcriber.specs.FaultViews.{kind_of_fault, error_of_fault};
 ghost use Rattle.mbe_transcriber.specs.Faults.{at, bound_fault, count_fault, needed_fault};
 ghost use Rattle.mbe_transcriber.specs.Faults.{element_fault, expression_fault, first_of, joined};
@@ -77,6 +78,7 @@ pub(crate) fn write_count<'t, A: Allocator + Copy, G, M>(
     ensures first { IfOk result (λ fault. option_map error_of_fault fault
         ≡ expression_fault ctx.now.call_site (bound_by ctx.now.bindings.now) path.now
         (Expression.count name.now depth)) }
+    ensures unchanged { IfOk result (λ fault. is_some fault ≡ true → builder.new ≡ builder.old) }
 {
     match count(ctx.bindings, name, depth, path) {
         Ok(number) => {
@@ -172,6 +174,10 @@ pub(crate) fn write_concat<'t, A: Allocator + Copy, G: FragmentGrammar, M: Fn(Sp
     ensures first { IfOk result (λ fault. option_map error_of_fault fault
         ≡ expression_fault ctx.now.call_site (bound_by ctx.now.bindings.now) path.now
         (Expression.concat (elements_seen elements.now) span)) }
+    ensures left { IfOk result (λ _. Appends
+        (IsConcatWritten (G.grammar ctx.now.grammar.now) (M.post ctx.now.marker) span (Some
+        (name_left (joined (bound_by ctx.now.bindings.now) path.now (elements_seen elements.now)))))
+        builder.old builder.new) }
 {
     let (text, fault) = joined_text(ctx, elements, path)?;
     if is_identifier(text.as_str()) {

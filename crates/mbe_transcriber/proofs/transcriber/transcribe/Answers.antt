@@ -8,6 +8,7 @@ use Rattle.mbe_tt.specs.Trees.Tree.{Forest, none}
 use Rattle.mbe_semantics.specs.Writing.Substitution.{faults}
 use Rattle.mbe_ops.specs.Views.{template_of}
 use Rattle.mbe_log.specs.BindingViews.{bound_by}
+use Rattle.mbe_transcriber.proofs.LeftLemmas.{left_whole}
 use Rattle.mbe_transcriber.proofs.WroteLemmas.{wrote_whole}
 use Rattle.mbe_transcriber.proofs.transcriber.transcribe.Goals as goal
 use Rattle.mbe_transcriber.proofs.transcriber.transcribe.Goals.{in-Some+in_ok-error-in-Some, in-None}
@@ -34,3 +35,10 @@ returns-clause-first g c =
     let same : errors_of c.match-branch-3.err ≡ option_map error_of_fault c.in_ok-fault.field-0 =
     elim c.match-branch-3.branch [ in-Some+in_ok-error-in-Some w ↦ search rules | in-None w ↦ search rules ] in
     same ∙ told
+
+pub returns-clause-left : goal.returns-clause-left
+returns-clause-left g c =
+    left_whole (g.G.FragmentGrammar.grammar c.args.grammar.now) (λ s t. g.M.Fn.post c.args.marker (s, tt) t) c.args.call_site
+    (bound_by c.args.bindings.now) (template_of c.args.template.now) c.in_ok-builder.builder c.expand_ops.new.builder c.build.result
+    (c.in_ok-builder.ensures ∙ ap (λ (d : Delimiter). let x : Delimiter × Forest = (d, none) in x ∷ []) c.invisible_spanned.ensures)
+    (rw (← c.deref.ensures.value) c.in_ok-fault.ensures.left) c.build.ensures
