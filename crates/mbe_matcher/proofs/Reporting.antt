@@ -1,6 +1,9 @@
 -- What is reported stays in a later log.
-use Rattle.std.proofs.Common.{◌≡◌, ◌∙◌, ◌++◌, ◌⊎◌, inl, inr, true, Option, Some, None, option_to_list, List, [], ◌∷◌, refl, sym, ap, subst, append-nil}
+use Rattle.std.proofs.Common.{◌≡◌, ◌∙◌, ◌++◌, ◌⊎◌, inl, inr, ℕ, Bool, true, false, Option, Some, None, option_to_list, List, [], ◌∷◌, refl, sym, ap, subst, append-nil, length, arith}
+use Rattle.std.specs.Prelude.{is_some, not, if◌then◌else◌}
 use Rattle.mbe_tt.specs.Trees.Tree.{Forest}
+use Rattle.mbe_semantics.specs.Syntax.Op.{Op, Ops, no_ops, op}
+use Rattle.mbe_semantics.specs.Matching.Outline.{Outline, outline}
 use Rattle.mbe_semantics.specs.Bindings.Account.{Commands, Log, Handle, HasEntriesOf}
 use Rattle.mbe_log.specs.Accounts.{Every}
 use Rattle.mbe_log.specs.Shared.{IsKept}
@@ -9,7 +12,7 @@ use Rattle.mbe_matcher.specs.declared.report.Report.{Report}
 use Rattle.mbe_matcher.specs.declared.report.Last.{Last}
 use Rattle.mbe_matcher.specs.declared.report.Misfit as kept
 use Rattle.mbe_matcher.specs.Positions.{Each, Both, Holds}
-use Rattle.mbe_matcher.specs.Failures.{Misfit, Source, failed, ended, Notes, is_any, or_first, last_of, source_of, noted_with, misfit_unless}
+use Rattle.mbe_matcher.specs.Failures.{Misfit, Source, failed, ended, Notes, is_any, or_first, last_of, source_of, noted_with, is_noted, misfit_unless, ops_left, bound_by}
 use Rattle.mbe_matcher.specs.Reports.{IsLast, IsReport, IsMisfit, IsSource, IsReportOf}
 
 pub report_keeps : {A : Type 0} (old new : Log) (r : Report A) → IsKept old new → IsReport old r → IsReport new r
@@ -55,24 +58,81 @@ pub any_snoc : {A : Type 0} (xs : List A) (x : A) → is_any (xs ++ x ∷ []) �
 any_snoc [] x = refl
 any_snoc (y ∷ ys) x = refl
 
+-- the first stays, or comes where there was none
+pub first_more : {X Y : Type 0} (R : X → Y → Type 0) (old new : Option X) (o : Option Y) (ms : List Y) (m : Y) → Both R old (or_first o ms) →
+    ((is_some old ≡ false) × ((x : X) × (new ≡ Some x) × R x m)) ⊎ ((is_some old ≡ true) × (new ≡ old)) → Both R new (or_first o (ms ++ m ∷ []))
+first_more R None new o ms m b (inl (e, (x, is, r))) = subst (λ n. Both R n (or_first o (ms ++ m ∷ []))) (sym is) (first_comes R x o ms m b r)
+first_more R (Some y) new o ms m b (inl (e, (x, is, r))) = let f : true ≡ false = e in cc
+first_more R None new o ms m b (inr (e, is)) = let f : false ≡ true = e in cc
+first_more R (Some y) new o ms m b (inr (e, is)) = subst (λ n. Both R n (or_first o (ms ++ m ∷ []))) (sym is) (first_stays R y o ms m b)
+
+abbrev pub first_in : {A : Type 0} → Report A → Option (kept.Misfit A)
+first_in r = r.first
+
+-- the first that failed is that, or was there before
+abbrev pub First : {A : Type 0} → Forest → Report A → Report A → Misfit → Type 0
+First {A} f old new s =
+    ((is_some old.first ≡ false) × ((x : kept.Misfit A) × (new.first ≡ Some x) × IsMisfit f x s)) ⊎ ((is_some old.first ≡ true) × (new.first ≡ old.first))
+
 -- a position more failed
-pub misfit_more : {A : Type 0} (log : Log) (f : Forest) (old new : Report A) (first m : kept.Misfit A) (h : Handle) (ms : List Misfit) (s : Misfit) (before : Notes) →
-    IsReportOf log f old ms before → new.first ≡ Some first → (old.first ≡ Some first) ⊎ ((old.first ≡ None) × IsMisfit f first s) →
+pub misfit_more : {A : Type 0} (log : Log) (f : Forest) (old new : Report A) (m : kept.Misfit A) (h : Handle) (ms : List Misfit) (s : Misfit) (before : Notes) →
+    IsReportOf log f old ms before → First f old new s →
     new.last ≡ Some (record { handle = h; misfit = Some m }) → IsMisfit f m s → Holds log h s.bound → new.failed_here ≡ true →
     IsReportOf log f new (ms ++ s ∷ []) before
-misfit_more {A} log f old new first m h ms s before r e from l is held here = record {
-  first = subst (λ o. Both (IsMisfit f) o (or_first before.first (ms ++ s ∷ []))) (sym e) (came from);
+misfit_more {A} log f old new m h ms s before r from l is held here = record {
+  first = first_more (IsMisfit f) old.first new.first before.first ms s r.first from;
   last = subst (λ o. Both (IsSource log f) o (source_of (ms ++ s ∷ []) [] before.last)) (sym l)
       (subst (λ o. Both (IsSource log f) (Some (record { handle = h; misfit = Some m })) o) (sym (source_snoc ms s [] before.last)) ((m, refl, is), held));
   here = here ∙ sym (any_snoc ms s);
 }
-  where
-    came : (old.first ≡ Some first) ⊎ ((old.first ≡ None) × IsMisfit f first s) → Both (IsMisfit f) (Some first) (or_first before.first (ms ++ s ∷ []))
-    came (inl was) = first_stays (IsMisfit f) first before.first ms s (subst (λ o. Both (IsMisfit f) o (or_first before.first ms)) was r.first)
-    came (inr (was, fits)) = first_comes (IsMisfit f) first before.first ms s (subst (λ o. Both (IsMisfit f) o (or_first before.first ms)) was r.first) fits
 
 -- none failed more
 pub misfit_none : {A : Type 0} (log : Log) (f : Forest) (r : Report A) (ms : List Misfit) (o : Option Misfit) (before : Notes) → o ≡ None →
     IsReportOf log f r ms before → IsReportOf log f r (ms ++ option_to_list o) before
 misfit_none log f r ms o before e is =
     subst (λ l. IsReportOf log f r l before) (sym (ap (λ x. ms ++ option_to_list x) e ∙ append-nil ms)) is
+
+-- ---- which positions fail
+
+pub no_ops_misfit : (b : Bool) (q : ℕ) (o : Outline) → ops_left o ≡ no_ops → misfit_unless b q o ≡ None
+no_ops_misfit b q (outline no_ops a up) e = refl
+no_ops_misfit b q (outline (op x r) a up) e = let f : op x r ≡ no_ops = e in cc
+
+pub step_misfit : (q : ℕ) (o : Outline) → misfit_unless true q o ≡ None
+step_misfit q (outline no_ops a up) = refl
+step_misfit q (outline (op x r) a up) = refl
+
+pub plain_misfit : (b : Bool) (q : ℕ) (o : Outline) (x : Op) (r : Ops) → ops_left o ≡ op x r → is_noted x ≡ false → misfit_unless b q o ≡ None
+plain_misfit true q o x r e n = step_misfit q o
+plain_misfit false q (outline os a up) x r e n =
+    ap (λ l. misfit_unless false q (outline l a up)) e ∙ ap (λ t. if not t then None else Some (record { op = x; place = q; bound = a.current })) n
+
+pub noted_misfit : (q : ℕ) (o : Outline) (x : Op) (r : Ops) → ops_left o ≡ op x r → is_noted x ≡ true →
+    misfit_unless false q o ≡ Some (record { op = x; place = q; bound = bound_by o })
+noted_misfit q (outline os a up) x r e n =
+    ap (λ l. misfit_unless false q (outline l a up)) e ∙ ap (λ t. if not t then None else Some (record { op = x; place = q; bound = a.current })) n
+
+-- ---- after a place
+
+pub place_noted : {A : Type 0} (log : Log) (f : Forest) (old new : Report A) (ms : List Misfit) (cs : List Commands) (before : Notes) → IsReportOf log f old ms before →
+    new.first ≡ old.first → Both (IsSource log f) new.last (source_of ms cs before.last) → new.failed_here ≡ false → IsReportOf log f new [] (noted_with ms cs before)
+place_noted log f old new ms cs before r e last here = record {
+  first = subst (λ o. Both (IsMisfit f) o (or_first (or_first before.first ms) [])) (sym e)
+      (subst (λ o. Both (IsMisfit f) old.first o) (sym (or_first_nil (or_first before.first ms))) r.first);
+  last = last;
+  here = here;
+}
+
+-- the last stays where one failed, or nothing ends
+pub last_failed : (ms : List Misfit) (cs : List Commands) (before : Option Source) → is_any ms ≡ true → source_of ms [] before ≡ source_of ms cs before
+last_failed [] cs before e = let f : false ≡ true = e in cc
+last_failed (m ∷ ms) cs before e = refl
+
+pub none_failed : (A : Type 0) (log : Log) (f : Forest) (ms : List Misfit) (c : Commands) (cs : List Commands) (before : Option Source) (h : Handle) → is_any ms ≡ false → Holds log h c →
+    Both (IsSource {A = A} log f) (Some (record { handle = h; misfit = None })) (source_of ms (c ∷ cs) before)
+none_failed A log f [] c cs before h e held = (refl, held)
+none_failed A log f (m ∷ ms) c cs before h e held = let g : true ≡ false = e in cc
+
+pub no_item : {A : Type 0} (xs : List A) → length xs ≡ 0 → xs ≡ []
+no_item [] e = refl
+no_item (x ∷ xs) e = absurd (omega (arith, e))
