@@ -1,10 +1,13 @@
 -- What is reported stays in a later log.
 use Rattle.std.proofs.Common.{◌≡◌, ◌∙◌, ◌++◌, ◌⊎◌, inl, inr, ℕ, Bool, true, false, Option, Some, None, option_to_list, List, [], ◌∷◌, refl, sym, ap, subst, append-nil, length, arith}
-use Rattle.std.specs.Prelude.{is_some, not, if◌then◌else◌}
-use Rattle.mbe_tt.specs.Trees.Tree.{Forest}
+use Rattle.std.specs.Prelude.{is_some, not, if◌then◌else◌, unwrap_or, slice_get}
+use Rattle.std.proofs.lemmas.Option.{none-some}
+use Rattle.mbe_tt.specs.Trees.Tree.{Forest, rest_at}
+use Rattle.mbe_tt.specs.Fragments.Grammar.{Grammar}
+use Rattle.mbe_ops.specs.Views.{op_of}
 use Rattle.mbe_semantics.specs.Syntax.Op.{Op, Ops, no_ops, op}
 use Rattle.mbe_semantics.specs.Matching.Outline.{Outline, outline}
-use Rattle.mbe_semantics.specs.Bindings.Account.{Commands, Log, Handle, HasEntriesOf}
+use Rattle.mbe_semantics.specs.Bindings.Account.{Commands, no_commands, Log, Handle, HasEntriesOf}
 use Rattle.mbe_log.specs.Accounts.{Every}
 use Rattle.mbe_log.specs.Shared.{IsKept}
 use Rattle.mbe_log.proofs.ClientLemmas as client
@@ -12,7 +15,7 @@ use Rattle.mbe_matcher.specs.declared.report.Report.{Report}
 use Rattle.mbe_matcher.specs.declared.report.Last.{Last}
 use Rattle.mbe_matcher.specs.declared.report.Misfit as kept
 use Rattle.mbe_matcher.specs.Positions.{Each, Both, Holds}
-use Rattle.mbe_matcher.specs.Failures.{Misfit, Source, failed, ended, Notes, is_any, or_first, last_of, source_of, noted_with, is_noted, misfit_unless, ops_left, bound_by}
+use Rattle.mbe_matcher.specs.Failures.{Misfit, Source, failed, ended, Notes, is_any, or_first, last_of, source_of, noted_with, is_noted, misfit_unless, ops_left, bound_by, bound_at, commands_of_notes}
 use Rattle.mbe_matcher.specs.Reports.{IsLast, IsReport, IsMisfit, IsSource, IsReportOf}
 
 pub report_keeps : {A : Type 0} (old new : Log) (r : Report A) → IsKept old new → IsReport old r → IsReport new r
@@ -136,3 +139,41 @@ none_failed A log f (m ∷ ms) c cs before h e held = let g : true ≡ false = e
 pub no_item : {A : Type 0} (xs : List A) → length xs ≡ 0 → xs ≡ []
 no_item [] e = refl
 no_item (x ∷ xs) e = absurd (omega (arith, e))
+
+-- ---- the positions at the pattern's end
+
+pub none_ended : (log : Log) (hs : List Handle) (cs : List Commands) → Each (Holds log) hs cs → None ≡ slice_get hs 0 → cs ≡ []
+none_ended log [] [] e s = refl
+none_ended log [] (c ∷ cs) e s = absurd e
+none_ended log (h ∷ hs) cs e s = absurd (none-some h s)
+
+pub end_noted : (A : Type 0) (log : Log) (f : Forest) (ms : List Misfit) (cs : List Commands) (before : Option Source) (hs : List Handle) (h k : Handle) → Each (Holds log) hs cs →
+    Some h ≡ slice_get hs 0 → k ≡ h → is_any ms ≡ false → Both (IsSource {A = A} log f) (Some (record { handle = k; misfit = None })) (source_of ms cs before)
+end_noted A log f ms cs before [] h k e s i n = absurd (none-some h (sym s))
+end_noted A log f ms [] before (j ∷ hs) h k e s i n = absurd e
+end_noted A log f ms (c ∷ cs) before (j ∷ hs) h k e s i n =
+    let same : h ≡ j = ap (λ o. unwrap_or o h) s in
+    none_failed A log f ms c cs before k n (subst (λ x. Holds log x c) (sym (i ∙ same)) e.0)
+
+-- ---- what is reported
+
+-- the source of a report
+pub no_source : (A : Type 0) (log : Log) (g : Grammar) (f : Forest) (o : Option Source) → Both (IsSource {A = A} log f) None o → commands_of_notes g f o ≡ no_commands
+no_source A log g f None b = refl
+no_source A log g f (Some s) b = absurd b
+
+pub end_source : {A : Type 0} (log : Log) (g : Grammar) (f : Forest) (o : Option Source) (l : Last A) → Both (IsSource log f) (Some l) o → l.misfit ≡ None →
+    Holds log l.handle (commands_of_notes g f o)
+end_source log g f None l b e = absurd b
+end_source log g f (Some (ended cs)) l b e = b.1
+end_source log g f (Some (failed s)) l b e = absurd (none-some b.0.0 (sym e ∙ b.0.1))
+
+-- an op at which a position failed, with what it had bound
+pub misfit_source : {A : Type 0} (log : Log) (g : Grammar) (f : Forest) (o : Option Source) (l : Last A) (m : kept.Misfit A) → Both (IsSource log f) (Some l) o → l.misfit ≡ Some m →
+    (cs : Commands) × Holds log l.handle cs × (commands_of_notes g f o ≡ bound_at g (op_of m.op.now) m.here cs)
+misfit_source log g f None l m b e = absurd b
+misfit_source log g f (Some (ended cs)) l m b e = absurd (none-some m (sym b.0 ∙ e))
+misfit_source log g f (Some (failed s)) l m b e =
+    let same : b.0.0 ≡ m = ap (λ o. unwrap_or o m) (sym b.0.1 ∙ e) in
+    let is : IsMisfit f m s = subst (λ x. IsMisfit f x s) same b.0.2 in
+    (s.bound, b.1, ap (λ x. bound_at g x (rest_at f s.place) s.bound) (sym is.op) ∙ ap (λ h. bound_at g (op_of m.op.now) h s.bound) (sym is.here))

@@ -302,15 +302,17 @@ impl<'a, A: Allocator> Report<'a, A> {
             (before : Notes) → Each (Holds log) ends.now cs → IsReportOf log f self.old ms before
             → IsReportOf log f self.new [] (noted_with ms cs before) }
     {
-        if let Some(end) = ends.first()
-            && !self.failed_here
-        {
-            self.last = Some(Last {
-                handle: again(end),
-                misfit: None,
-            });
+        if self.failed_here {
+            self.failed_here = false;
+            return;
         }
-        self.failed_here = false;
+        let Some(end) = ends.first() else {
+            return;
+        };
+        self.last = Some(Last {
+            handle: again(end),
+            misfit: None,
+        });
     }
 }
 
@@ -319,8 +321,25 @@ impl<'a, A: Allocator + Copy> Report<'a, A> {
     ghost use Rattle.mbe_semantics.specs.Bindings.Account.{Log};
     ghost use Rattle.mbe_log.specs.Shared.{IsKept};
     ghost use Rattle.mbe_matcher.specs.Positions.{Holds};
-    ghost use Rattle.mbe_matcher.specs.Failures.{Notes, error_of_notes, commands_of_notes};
+    ghost use Rattle.mbe_matcher.specs.Failures.{Notes, noted_error, error_of_notes, commands_of_notes};
     ghost use Rattle.mbe_matcher.specs.Reports.{IsReport, IsReportOf};
+
+    // The first error that was noted.
+    fn first_error<G: FragmentGrammar>(
+        &self,
+        alloc: A,
+        grammar: &G,
+        around: DelimSpan,
+    ) -> Result<Option<ExpandError<A>>, AllocError>
+        ensures { (log : Log) (f : Forest) (notes : Notes) → IsReportOf log f self.now [] notes
+            → IfOk result (λ e. errors_of e
+            ≡ noted_error (G.grammar grammar.now) f around notes.first) }
+    {
+        let Some(misfit) = &self.first else {
+            return Ok(None);
+        };
+        failing(alloc, grammar, misfit.op, &misfit.here, around)
+    }
 
     // The first error that was noted; where none was, that of the stop, at the argument's opening.
     pub(crate) fn error<G: FragmentGrammar>(
@@ -334,9 +353,7 @@ impl<'a, A: Allocator + Copy> Report<'a, A> {
             → IfOk result (λ e. error_of e
             ≡ error_of_notes (G.grammar grammar.now) f around is_at_end notes) }
     {
-        if let Some(misfit) = &self.first
-            && let Some(error) = failing(alloc, grammar, misfit.op, &misfit.here, around)?
-        {
+        if let Some(error) = self.first_error(alloc, grammar, around)? {
             return Ok(error);
         }
         let kind = if is_at_end {
@@ -356,7 +373,7 @@ impl<'a, A: Allocator + Copy> Report<'a, A> {
         requires { IsReport log.old self }
         ensures entries { IfOk result (λ h. HasEntriesOf log.new h) }
         ensures kept { OnOk result (IsKept log.old log.new) }
-        ensures notes { (f : Forest) (notes : Notes) → IsReportOf log.old f self [] notes
+        ensures notes { (f : Forest) (notes : Notes) → IsReportOf log.old f self.entry [] notes
             → IfOk result (λ h. Holds log.new h
             (commands_of_notes (G.grammar grammar.now) f notes.last)) }
     {
