@@ -1,21 +1,24 @@
 -- What is reported stays in a later log.
 use Rattle.std.proofs.Common.{◌≡◌, ◌∙◌, ◌++◌, ◌⊎◌, inl, inr, ℕ, Bool, true, false, Option, Some, None, option_to_list, List, [], ◌∷◌, refl, sym, ap, subst, append-nil, length, arith}
-use Rattle.std.specs.Prelude.{is_some, not, if◌then◌else◌, unwrap_or, slice_get}
+use Rattle.std.specs.Prelude.{◌||◌, is_some, not, if◌then◌else◌, unwrap_or, slice_get}
 use Rattle.std.proofs.lemmas.Option.{none-some}
 use Rattle.mbe_tt.specs.Trees.Tree.{Forest, rest_at}
-use Rattle.mbe_tt.specs.Fragments.Grammar.{Grammar}
-use Rattle.mbe_ops.specs.Views.{op_of}
+use Rattle.mbe_semantics.specs.Readings.Input.{Input}
+use Rattle.mbe_ops.specs.Views.{ops_of}
 use Rattle.mbe_semantics.specs.Syntax.Op.{Op, Ops, no_ops, op}
-use Rattle.mbe_semantics.specs.Matching.Outline.{Outline, outline}
-use Rattle.mbe_semantics.specs.Bindings.Account.{Commands, no_commands, Log, Handle, HasEntriesOf}
+use Rattle.mbe_semantics.specs.Matching.Outline.{Outline, outline, idle_of, next_of, finished_of}
+use Rattle.mbe_semantics.specs.Bindings.Account.{Commands, Log, Handle, HasEntriesOf}
 use Rattle.mbe_log.specs.Accounts.{Every}
 use Rattle.mbe_log.specs.Shared.{IsKept}
 use Rattle.mbe_log.proofs.ClientLemmas as client
 use Rattle.mbe_matcher.specs.declared.report.Report.{Report}
 use Rattle.mbe_matcher.specs.declared.report.Last.{Last}
 use Rattle.mbe_matcher.specs.declared.report.Misfit as kept
-use Rattle.mbe_matcher.specs.Positions.{Each, Both, Holds}
-use Rattle.mbe_matcher.specs.Failures.{Misfit, Source, failed, ended, Notes, is_any, or_first, last_of, source_of, noted_with, is_noted, misfit_unless, ops_left, bound_by, bound_at, commands_of_notes}
+use Rattle.mbe_matcher.specs.declared.position.Outer.{Outer}
+use Rattle.mbe_matcher.specs.declared.position.Position.{Position}
+use Rattle.mbe_matcher.specs.declared.position.Steps.{Steps}
+use Rattle.mbe_matcher.specs.Positions.{Each, Both, Shows, LeadsTo, Holds, AreStepsNow}
+use Rattle.mbe_matcher.specs.Failures.{Misfit, Source, failed, ended, Notes, is_any, has_step, or_first, last_of, source_of, noted_with, is_noted, misfit_unless, ops_left, bound_by}
 use Rattle.mbe_matcher.specs.Reports.{IsLast, IsReport, IsMisfit, IsSource, IsReportOf}
 
 pub report_keeps : {A : Type 0} (old new : Log) (r : Report A) → IsKept old new → IsReport old r → IsReport new r
@@ -155,25 +158,57 @@ end_noted A log f ms (c ∷ cs) before (j ∷ hs) h k e s i n =
     let same : h ≡ j = ap (λ o. unwrap_or o h) s in
     none_failed A log f ms c cs before k n (subst (λ x. Holds log x c) (sym (i ∙ same)) e.0)
 
--- ---- what is reported
+-- ---- in a later log
 
--- the source of a report
-pub no_source : (A : Type 0) (log : Log) (g : Grammar) (f : Forest) (o : Option Source) → Both (IsSource {A = A} log f) None o → commands_of_notes g f o ≡ no_commands
-no_source A log g f None b = refl
-no_source A log g f (Some s) b = absurd b
+both_weaker : {X Y : Type 0} (P Q : X → Y → Type 0) → ((x : X) (y : Y) → P x y → Q x y) → (x : Option X) (y : Option Y) → Both P x y → Both Q x y
+both_weaker P Q h None None b = tt
+both_weaker P Q h (Some x) (Some y) b = h x y b
+both_weaker P Q h None (Some y) b = absurd b
+both_weaker P Q h (Some x) None b = absurd b
 
-pub end_source : {A : Type 0} (log : Log) (g : Grammar) (f : Forest) (o : Option Source) (l : Last A) → Both (IsSource log f) (Some l) o → l.misfit ≡ None →
-    Holds log l.handle (commands_of_notes g f o)
-end_source log g f None l b e = absurd b
-end_source log g f (Some (ended cs)) l b e = b.1
-end_source log g f (Some (failed s)) l b e = absurd (none-some b.0.0 (sym e ∙ b.0.1))
+holds_on : (old new : Log) (h : Handle) (cs : Commands) → IsKept old new → Holds old h cs → Holds new h cs
+holds_on old new h cs k (a, i, e) = (a, k.others h a i, e)
 
--- an op at which a position failed, with what it had bound
-pub misfit_source : {A : Type 0} (log : Log) (g : Grammar) (f : Forest) (o : Option Source) (l : Last A) (m : kept.Misfit A) → Both (IsSource log f) (Some l) o → l.misfit ≡ Some m →
-    (cs : Commands) × Holds log l.handle cs × (commands_of_notes g f o ≡ bound_at g (op_of m.op.now) m.here cs)
-misfit_source log g f None l m b e = absurd b
-misfit_source log g f (Some (ended cs)) l m b e = absurd (none-some m (sym b.0 ∙ e))
-misfit_source log g f (Some (failed s)) l m b e =
-    let same : b.0.0 ≡ m = ap (λ o. unwrap_or o m) (sym b.0.1 ∙ e) in
-    let is : IsMisfit f m s = subst (λ x. IsMisfit f x s) same b.0.2 in
-    (s.bound, b.1, ap (λ x. bound_at g x (rest_at f s.place) s.bound) (sym is.op) ∙ ap (λ h. bound_at g (op_of m.op.now) h s.bound) (sym is.here))
+source_keeps : {A : Type 0} (old new : Log) (f : Forest) → IsKept old new → (l : Last A) (s : Source) → IsSource old f l s → IsSource new f l s
+source_keeps old new f k l (failed s) (m, held) = (m, holds_on old new l.handle s.bound k held)
+source_keeps old new f k l (ended cs) (m, held) = (m, holds_on old new l.handle cs k held)
+
+pub notes_keep : {A : Type 0} (old new : Log) (f : Forest) (r : Report A) (ms : List Misfit) (before : Notes) → IsKept old new → IsReportOf old f r ms before → IsReportOf new f r ms before
+notes_keep old new f r ms before k is = record {
+  first = is.first;
+  last = both_weaker (IsSource old f) (IsSource new f) (source_keeps old new f k) r.last (source_of ms [] before.last) is.last;
+  here = is.here;
+}
+
+-- ---- the position that an outline shows
+
+pub shown_ops : {A : Type 0} (log : Log) (outers : List (Outer A)) (p : Position A) (o : Outline) → Shows log outers p o → ops_of p.dot.now ≡ ops_left o
+shown_ops log outers p (outline rest a up) s = s.dot
+
+pub shown_bound : {A : Type 0} (old new : Log) (outers : List (Outer A)) (p : Position A) (o : Outline) → IsKept old new → Shows old outers p o → Holds new p.handle (bound_by o)
+shown_bound old new outers p (outline rest a up) k s = (a, k.others p.handle a s.account, refl)
+
+any_same : {X Y : Type 0} (R : X → Y → Type 0) (a b : Option X) (ys : List Y) (more : Bool) → Each R (option_to_list a ++ option_to_list b) ys →
+    (is_some a || (is_some b || more)) ≡ (is_any ys || more)
+any_same R None None [] more h = refl
+any_same R None None (y ∷ ys) more h = absurd h
+any_same R None (Some x) [] more h = absurd h
+any_same R None (Some x) (y ∷ ys) more h = refl
+any_same R (Some w) b [] more h = absurd h
+any_same R (Some w) b (y ∷ ys) more h = refl
+
+some_same : {X Y : Type 0} (R : X → Y → Type 0) (x : Option X) (y : Option Y) → Both R x y → is_some x ≡ is_some y
+some_same R None None b = refl
+some_same R (Some x) (Some y) b = refl
+some_same R None (Some y) b = absurd b
+some_same R (Some x) None b = absurd b
+
+abbrev pub is_step : {A : Type 0} → Steps A → Bool
+is_step s = is_some s.first || (is_some s.second || (is_some s.next || is_some s.done))
+
+pub step_same : {A : Type 0} (i : Input) (argument : Forest) (q : ℕ) (log : Log) (outers : List (Outer A)) (o : Outline) (s : Steps A) → AreStepsNow i argument q log outers o s →
+    is_step s ≡ has_step i q o
+step_same i argument q log outers o s st =
+    any_same (Shows log outers) s.first s.second (idle_of i q o) (is_some s.next || is_some s.done) st.idle
+    ∙ ap (λ b. is_any (idle_of i q o) || (b || is_some s.done)) (some_same (LeadsTo log outers (rest_at argument q)) s.next (next_of i q o) st.next)
+    ∙ ap (λ b. is_any (idle_of i q o) || (is_some (next_of i q o) || b)) (some_same (Holds log) s.done (finished_of o) st.done)

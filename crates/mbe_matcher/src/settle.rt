@@ -4,7 +4,7 @@ ghost use Rattle.mbe_semantics.specs.Bindings.Account.{Log};
 ghost use Rattle.mbe_matcher.specs.Counts.{AreBlankFrom};
 ghost use Rattle.mbe_matcher.specs.States.{KeepsState};
 ghost use Rattle.mbe_matcher.specs.Matched.{IsStackAt, AreSettledAt, dots_in};
-ghost use Rattle.mbe_matcher.specs.Reports.{IsReport, ReportStays};
+ghost use Rattle.mbe_matcher.specs.Reports.{IsReport, ReportStays, NotesPlace};
 
 use crate::counts::Counts;
 use crate::position::{Outer, Todo, Waiting};
@@ -101,6 +101,10 @@ pub(crate) fn settle<'a, A: Allocator + Copy, G: FragmentGrammar>(
     ensures size { OnOk result (dots_in state.new ≡ dots_in state.old) }
     ensures done { OnOk result (todo.new.items ≡ []) }
     ensures report { OnOk result (ReportStays log.old log.new state.old.report state.new.report) }
+    ensures notes { (s : IsStackAt (G.grammar grammar.now) source.now
+        log.old state.old todo.old.items) → OnOk result
+        (NotesPlace (G.grammar grammar.now) source.now s.pattern s.spots
+        log.old log.new state.old state.new) }
 {
     settled.waiting.clear();
     settled.ends.clear();
