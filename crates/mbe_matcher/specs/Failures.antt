@@ -14,8 +14,8 @@ use Rattle.mbe_semantics.specs.Expansion.Error.{ExpandErrorKind, ExpandError, un
 use Rattle.mbe_semantics.specs.Expansion.Failing.{failing, failing_command}
 use Rattle.mbe_semantics.specs.Matching.Dots.{dots}
 use Rattle.mbe_semantics.specs.Matching.Held.{held, moves_of, targets, clashing}
-use Rattle.mbe_semantics.specs.Matching.Outline.{Outline, outline, Advance, advance, erase, idle_of, next_of, finished_of}
-use Rattle.mbe_semantics.specs.Matching.Settled.{after_of, clash}
+use Rattle.mbe_semantics.specs.Matching.Outline.{Outline, outline, erase, idle_of, next_of, finished_of}
+use Rattle.mbe_semantics.specs.Matching.Settled.{after_of, clash, first_width}
 use Rattle.mbe_bounds.specs.Loop.Kept.{kept, kept_moves}
 
 -- there is a member
@@ -156,9 +156,9 @@ pub record Reports (g : Grammar) (pattern : Ops) (argument : Forest) (around : D
 -- The same of what the program's stack stands for, the last on top.
 pub data FollowsWith (i : Input) (pattern : Ops) : ℕ → List Outline → Notes → Type 0 where
   follows_start : FollowsWith i pattern 0 (erase (start pattern) ∷ []) no_notes
-  follows_next : (q m n : ℕ) (f : Bool) (o : Outline) (moves : List Advance) (spots : List Outline) (before : Notes) →
-      FollowsWith i pattern q spots before → kept_moves i (dots pattern) q (reverse spots) ≡ advance n f o ∷ moves → clash (advance n f o ∷ moves) ≡ false → m ≡ q + n →
-      FollowsWith i pattern m (map after_of (advance n f o ∷ moves)) (noted_at i q (kept i (dots pattern) q (reverse spots)) before)
+  follows_next : (q m n : ℕ) (spots : List Outline) (before : Notes) → FollowsWith i pattern q spots before →
+      first_width (kept_moves i (dots pattern) q (reverse spots)) ≡ Some n → clash (kept_moves i (dots pattern) q (reverse spots)) ≡ false → m ≡ q + n →
+      FollowsWith i pattern m (map after_of (kept_moves i (dots pattern) q (reverse spots))) (noted_at i q (kept i (dots pattern) q (reverse spots)) before)
 
 abbrev pub AreFollowedNotes : Input → Ops → ℕ → Notes → Type 0
 AreFollowedNotes i pattern q notes =

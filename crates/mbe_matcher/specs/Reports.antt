@@ -1,5 +1,5 @@
 -- What positions report on the way.
-use Rattle.std.specs.Prelude.{◌≡◌, Option, Some, None, List, [], reverse}
+use Rattle.std.specs.Prelude.{ℕ, ◌≡◌, Option, Some, None, List, [], reverse}
 use Rattle.mbe_tt.specs.Trees.Tree.{Forest, rest_at}
 use Rattle.mbe_semantics.specs.Bindings.Account.{Log, HasEntriesOf}
 use Rattle.mbe_tt.specs.Views.View.{trees}
@@ -16,7 +16,7 @@ use Rattle.mbe_matcher.specs.declared.report.Misfit as kept
 use Rattle.mbe_matcher.specs.declared.report.Report.{Report}
 use Rattle.mbe_matcher.specs.declared.report.Last.{Last}
 use Rattle.mbe_matcher.specs.Positions.{Both, Holds}
-use Rattle.mbe_matcher.specs.Failures.{Misfit, Source, failed, ended, Notes, is_any, or_first, source_of, noted_at}
+use Rattle.mbe_matcher.specs.Failures.{Misfit, Source, failed, ended, Notes, is_any, or_first, source_of, noted_at, AreFollowedNotes}
 
 -- what is to be reported of the bindings is in the log
 abbrev pub IsLast : {A : Type 0} → Log → Option (Last A) → Type 0
@@ -54,3 +54,7 @@ NotesPlace g source pattern spots old new before after =
     (notes : Notes) → IsReportOf old (trees source.whole) before.report [] notes →
     IsReportOf new (trees source.whole) after.report []
     (noted_at (input_of g (trees source.whole)) source.place (kept_at (input_of g (trees source.whole)) (dots pattern) source.place (reverse spots)) notes)
+
+-- a report of what was noted up to the place, with the positions that are followed
+abbrev pub IsReportAt : {A : Type 0} → Grammar → Ops → Forest → Log → ℕ → Report A → Type 0
+IsReportAt g pattern argument log q r = (notes : Notes) × AreFollowedNotes (input_of g argument) pattern q notes × IsReportOf log argument r [] notes

@@ -4,7 +4,9 @@ ghost use Rattle.mbe_semantics.specs.Bindings.Account.{Log};
 ghost use Rattle.mbe_matcher.specs.Counts.{AreBlankFrom};
 ghost use Rattle.mbe_matcher.specs.States.{KeepsState};
 ghost use Rattle.mbe_matcher.specs.Matched.{IsStackAt, AreSettledAt, dots_in};
-ghost use Rattle.mbe_matcher.specs.Reports.{IsReport, ReportStays, NotesPlace};
+ghost use Rattle.mbe_matcher.specs.Reports.{IsReport, IsReportOf, ReportStays, NotesPlace};
+ghost use Rattle.mbe_matcher.specs.Failures.{no_notes};
+ghost use Rattle.mbe_tt.specs.Trees.Tree.{Forest};
 
 use crate::counts::Counts;
 use crate::position::{Outer, Todo, Waiting};
@@ -54,6 +56,8 @@ impl<'a, A: Allocator + Copy> State<'a, A> {
         ensures size { IfOk result (λ s. dots_in s ≡ dots) }
         ensures blank { IfOk result (λ s. AreBlankFrom s.counts.marks.items 0) }
         ensures report { (log : Log) → IfOk result (λ s. IsReport log s.report) }
+        ensures notes { (log : Log) (f : Forest)
+            → IfOk result (λ s. IsReportOf log f s.report [] no_notes) }
     {
         Ok(State {
             outers: Vec::new(alloc),
