@@ -1,0 +1,13 @@
+// Expands the calls of macros that Rust files define.
+#![tactic(auto)]
+
+mod arguments;
+mod command;
+mod messages;
+
+use crate::command::run_command;
+use std::process::ExitCode;
+
+fn main(rt: HostRuntime) -> ExitCode {
+    ExitCode::from(run_command(&rt))
+}
