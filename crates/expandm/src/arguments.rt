@@ -50,7 +50,7 @@ fn take(settings: &mut Settings, wanted: Wanted, word: &str) -> Option<Wanted> {
 }
 
 /// What the words ask for; `None` if they aren't right.
-pub fn asked<'w, A: Allocator + Copy>(
+pub fn read_words<'w, A: Allocator + Copy>(
     alloc: A,
     words: &'w [String<A>],
 ) -> Result<Option<Asked<'w, A>>, AllocError> {

@@ -1,5 +1,5 @@
 // A run of the program.
-use crate::arguments::{Asked, USAGE, asked};
+use crate::arguments::{Asked, USAGE, read_words};
 use crate::messages::shown;
 use mbe_expanding::expander::Expander;
 use mbe_expanding::files::SourceFile;
@@ -36,7 +36,7 @@ fn run<R: Env + Files + Print + Eprint + AllocGlobal>(rt: &R) -> io::Result<u8> 
     for word in env::args(rt)?.skip(1) {
         words.push(word)?;
     }
-    let Some(asked) = asked(rt.alloc(), words.as_slice())? else {
+    let Some(asked) = read_words(rt.alloc(), words.as_slice())? else {
         eprintln!(rt; "{USAGE}")?;
         return Ok(WRONG);
     };

@@ -33,6 +33,17 @@ enum Before {
     Other,
 }
 
+// How an expansion stands in place of its call.
+#[derive(Clone, Copy, Debug, Drop, PartialEq, Eq)]
+struct Fit {
+    // An expression of several trees beside an operator is put in parentheses.
+    is_wrapped: bool,
+    // A call by braces that is a statement gets a `;` where it becomes an expression.
+    gets_semicolon: bool,
+    // The `;` after a call goes with it where the call becomes items, nothing, or something with a `;` of its own.
+    takes_semicolon: bool,
+}
+
 /// Expands the calls of files.
 #[derive(Drop)]
 pub struct Expander<'g, A: Allocator + Copy = Global> {
@@ -76,17 +87,65 @@ fn are_items<A: Allocator + Copy>(
     Ok(iter.is_empty())
 }
 
-// Whether the trees end as a statement does: by a `;`, or by braces.
-fn ends_statement<A: Allocator>(trees: TokenTreesView<'_, A>) -> bool {
-    let mut ends = true;
+// How trees end.
+#[derive(Clone, Copy, Debug, Drop, PartialEq, Eq)]
+enum Ending {
+    // There are none.
+    Empty,
+    Semicolon,
+    Braces,
+    Other,
+}
+
+fn end_of<A: Allocator>(trees: TokenTreesView<'_, A>) -> Ending {
+    let mut end = Ending::Empty;
     for tree in trees.iter() {
-        ends = match tree {
-            TtElement::Leaf(Leaf::Punct(punct)) => punct.char == ';',
-            TtElement::Leaf(_) => false,
-            TtElement::Subtree(group, _) => group.delimiter.kind == DelimiterKind::Brace,
+        end = match tree {
+            TtElement::Leaf(Leaf::Punct(punct)) if punct.char == ';' => Ending::Semicolon,
+            TtElement::Subtree(group, _) if group.delimiter.kind == DelimiterKind::Brace => {
+                Ending::Braces
+            }
+            TtElement::Leaf(_) | TtElement::Subtree(..) => Ending::Other,
         };
     }
-    ends
+    end
+}
+
+// The trees without the last one, which is no group.
+fn without_last<A: Allocator>(trees: TokenTreesView<'_, A>) -> TokenTreesView<'_, A> {
+    let mut cursor = trees.cursor();
+    for _ in 1..trees.flat_len() {
+        cursor.bump_or_end();
+    }
+    if cursor.is_root() {
+        cursor.crossed()
+    } else {
+        trees
+    }
+}
+
+// The trees of an expansion. Where no statement begins, a `;` at their end goes, as rustc passes over it.
+fn as_part<A: Allocator>(trees: TokenTreesView<'_, A>, last: Before) -> TokenTreesView<'_, A> {
+    if last != Before::Statement && end_of(trees) == Ending::Semicolon {
+        without_last(trees)
+    } else {
+        trees
+    }
+}
+
+fn semicolon<A: Allocator>(span: Span) -> Leaf<A> {
+    Leaf::Punct(Punct {
+        char: ';',
+        spacing: Spacing::Alone,
+        span,
+    })
+}
+
+// What stands after a `;`.
+fn after_semicolon<A: Allocator>(trees: TokenTreesView<'_, A>) -> TokenTreesView<'_, A> {
+    let mut iter = trees.iter();
+    let _semicolon = iter.expect_char(';');
+    iter.remaining()
 }
 
 // What the tree at the front is to what stands after it.
@@ -442,10 +501,34 @@ impl<'g, A: Allocator + Copy> Expander<'g, A> {
         Ok(call.rest)
     }
 
+    // How these trees stand in place of a call.
+    fn fit(
+        &self,
+        trees: TokenTreesView<'_, A>,
+        call: Call<'_, A>,
+        last: Before,
+    ) -> Result<Fit, AllocError> {
+        let end = end_of(trees);
+        let close = call.group.delimiter.close;
+        let is_statement = last == Before::Statement;
+        let is_operand = last == Before::Operator || binds(call.rest);
+        let by_braces = call.group.delimiter.kind == DelimiterKind::Brace;
+        let is_followed = is_statement && call.rest.iter().expect_char(';').is_ok();
+        Ok(Fit {
+            is_wrapped: is_operand
+                && trees.len() > 1
+                && is_whole(&self.grammar, PrefixEntryPoint::Expr, trees)?,
+            gets_semicolon: is_statement
+                && end == Ending::Other
+                && by_braces
+                && !goes_on(call.rest),
+            takes_semicolon: is_followed
+                && (end == Ending::Semicolon
+                    || are_items(self.alloc, &self.grammar, trees, close)?),
+        })
+    }
+
     // Writes an expansion in place of its call, and returns what is left after that.
-    //
-    // An expression of several trees beside an operator is put in parentheses. A `;` after a call that becomes items, or nothing,
-    // goes with it; and a call by braces that is a statement gets one where what it becomes doesn't end a statement.
     #[cycle(writing)]
     #[tactic(auto, using(crate::proofs::GroupLemmas::length_put, crate::proofs::GroupLemmas::length_closed))]
     fn write_expansion<'t>(
@@ -460,36 +543,24 @@ impl<'g, A: Allocator + Copy> Expander<'g, A> {
         requires some { 0 < length builder.old }
         ensures groups { OnOk result (length builder.new ≡ length builder.old) }
     {
-        let trees = tree.iter().remaining();
         let delimiter = call.group.delimiter;
-        let is_operand = last == Before::Operator || binds(call.rest);
-        let is_wrapped = is_operand
-            && trees.len() > 1
-            && is_whole(&self.grammar, PrefixEntryPoint::Expr, trees)?;
-        if is_wrapped {
+        let trees = as_part(tree.iter().remaining(), last);
+        let fit = self.fit(trees, call, last)?;
+        if fit.is_wrapped {
             builder.open(DelimiterKind::Parenthesis, delimiter.opening)?;
         }
         self.write(builder, trees, depth, levels)?;
-        if is_wrapped {
+        if fit.is_wrapped {
             builder.close(delimiter.close);
         }
-        let is_statement = delimiter.kind == DelimiterKind::Brace
-            && last == Before::Statement
-            && !goes_on(call.rest);
-        if is_statement && !ends_statement(trees) {
-            builder.push(Leaf::Punct(Punct {
-                char: ';',
-                spacing: Spacing::Alone,
-                span: delimiter.close,
-            }))?;
+        if fit.gets_semicolon {
+            builder.push(semicolon(delimiter.close))?;
         }
-        let mut after = call.rest.iter();
-        if after.expect_char(';').is_ok()
-            && are_items(self.alloc, &self.grammar, trees, delimiter.close)?
-        {
-            return Ok(after.remaining());
-        }
-        Ok(call.rest)
+        Ok(if fit.takes_semicolon {
+            after_semicolon(call.rest)
+        } else {
+            call.rest
+        })
     }
 
     /// What stands in place of the calls of a file's trees, in the order of its text.

@@ -1,5 +1,8 @@
-// Trees as Rust text, with white space that keeps tokens apart, a line for each statement, and four spaces for each brace around it.
-use mbe_tt::span::Span;
+// Trees as Rust text, a line for each statement, with four spaces for each brace around it.
+//
+// Tokens that stand side by side in one file do so here. Any other two are kept apart by a space, where they would run together or
+// where people write one; puncts that are taken together stay together.
+use mbe_tt::span::{Span, SyntaxContext};
 use mbe_tt::tt::{DelimiterKind, Ident, IdentIsRaw, Leaf, Literal, Punct, Spacing, TokenTreesView, TtElement};
 use std::alloc::{AllocError, Allocator, Global};
 
@@ -10,8 +13,8 @@ enum Last {
     Word,
     Keyword,
     Literal,
-    // A punct that is joint to what stands after it in its text, which ends there.
-    Joint(char, Span),
+    // A punct that is joint to what stands after it in its text.
+    Joint(char),
     Alone(char),
     // The second `:` of a `::`.
     Colons,
@@ -29,10 +32,19 @@ const KEYWORDS: &[&str] = &[
     "struct", "trait", "type", "unsafe", "use", "where", "while", "yield",
 ];
 
-// Whether a punct stands right after a place in its text, or both were made at one place.
-fn goes_on(last: Span, next: Span) -> bool {
-    last.file == next.file && (last.end == next.start || last == next)
+// Whether a token stands right after another one in their file.
+fn is_beside(last: Span, next: Span) -> bool {
+    last.file == next.file && last.end == next.start && last.start < last.end
 }
+
+// Beside nothing.
+const NOWHERE: Span = Span {
+    file: 0,
+    ast: 0,
+    start: 0,
+    end: 0,
+    ctx: SyntaxContext(0),
+};
 
 /// Text that is written token by token.
 #[derive(Drop)]
@@ -40,6 +52,8 @@ pub struct Writer<A: Allocator = Global> {
     alloc: A,
     text: String<A>,
     last: Last,
+    // Where that is.
+    place: Span,
     // How many braces are open.
     depth: usize,
 }
@@ -51,6 +65,7 @@ impl<A: Allocator + Copy> Writer<A> {
             alloc,
             text: String::new(alloc),
             last: Last::Start,
+            place: NOWHERE,
             depth,
         }
     }
@@ -63,19 +78,19 @@ impl<A: Allocator + Copy> Writer<A> {
 
     /// Writes the trees.
     pub fn trees(&mut self, trees: TokenTreesView<'_, A>) -> Result<(), AllocError> {
-        let mut kinds = Vec::new(self.alloc);
+        let mut delimiters = Vec::new(self.alloc);
         let mut cursor = trees.cursor();
         for _ in 0..trees.flat_len() {
             match cursor.token_tree() {
                 Some(TtElement::Leaf(leaf)) => self.leaf(leaf)?,
                 Some(TtElement::Subtree(group, _inside)) => {
-                    let kind = group.delimiter.kind;
-                    self.open(kind)?;
-                    kinds.push(kind)?;
+                    let delimiter = group.delimiter;
+                    self.open(delimiter.kind, delimiter.opening)?;
+                    delimiters.push(delimiter)?;
                 }
                 None => {
-                    if let Some(kind) = kinds.pop() {
-                        self.close(kind)?;
+                    if let Some(delimiter) = delimiters.pop() {
+                        self.close(delimiter.kind, delimiter.close)?;
                     }
                 }
             }
@@ -100,8 +115,9 @@ impl<A: Allocator + Copy> Writer<A> {
         Ok(())
     }
 
-    fn space(&mut self, is_wanted: bool) -> Result<(), AllocError> {
-        if is_wanted {
+    // Writes a space before a token at that place, unless the last one is beside it.
+    fn space(&mut self, is_wanted: bool, place: Span) -> Result<(), AllocError> {
+        if is_wanted && !is_beside(self.place, place) {
             self.text.push(' ')?;
         }
         Ok(())
@@ -126,11 +142,11 @@ impl<A: Allocator + Copy> Writer<A> {
         let goes_on = text == "else" || text == "as";
         if !self.begin(!goes_on)? {
             let is_apart = match self.last {
-                Last::Start | Last::Open | Last::Colons | Last::Joint('\'', _) => false,
-                Last::Alone(c) | Last::Joint(c, _) => !matches!(c, '.' | '#' | '$' | '\''),
+                Last::Start | Last::Open | Last::Colons => false,
+                Last::Alone(c) | Last::Joint(c) => !matches!(c, '.' | '#' | '$' | '\''),
                 _ => true,
             };
-            self.space(is_apart)?;
+            self.space(is_apart, ident.span)?;
         }
         if ident.is_raw == IdentIsRaw::Yes {
             self.text.push_str("r#")?;
@@ -141,6 +157,7 @@ impl<A: Allocator + Copy> Writer<A> {
         } else {
             Last::Word
         };
+        self.place = ident.span;
         Ok(())
     }
 
@@ -148,14 +165,15 @@ impl<A: Allocator + Copy> Writer<A> {
         if !self.begin(true)? {
             let is_apart = match self.last {
                 Last::Start | Last::Open => false,
-                Last::Alone(c) | Last::Joint(c, _) => !matches!(c, '.' | '#'),
+                Last::Alone(c) | Last::Joint(c) => !matches!(c, '.' | '#'),
                 _ => true,
             };
-            self.space(is_apart)?;
+            self.space(is_apart, literal.span)?;
         }
         let text = format!(in self.alloc; "{literal}")?;
         self.text.push_str(text.as_str())?;
         self.last = Last::Literal;
+        self.place = literal.span;
         Ok(())
     }
 
@@ -165,8 +183,9 @@ impl<A: Allocator + Copy> Writer<A> {
         let begins_path = char == ':' && punct.spacing == Spacing::Joint;
         match self.last {
             Last::Start | Last::Open => false,
-            // A separator is joint to what the definition has after it, which isn't what is written after it.
-            Last::Joint(_, place) => !goes_on(place, punct.span),
+            // A separator is joint to what the definition has after it, which isn't what is written after it. Two puncts of one
+            // place were made together, as the `::` of a path.
+            Last::Joint(_) => self.place != punct.span,
             Last::Alone(_) => !matches!(char, ',' | ';'),
             Last::Colons => char != '<',
             Last::Word => !matches!(char, ',' | ';' | '?' | '.' | ':' | '!') && !begins_path,
@@ -181,12 +200,13 @@ impl<A: Allocator + Copy> Writer<A> {
         let begins = char == '#' || char == '\'';
         if !self.begin(begins)? {
             let is_apart = self.is_apart(punct);
-            self.space(is_apart)?;
+            self.space(is_apart, punct.span)?;
         }
         self.text.push(char)?;
-        let is_second = matches!(self.last, Last::Joint(':', _));
+        let is_second = self.last == Last::Joint(':');
+        self.place = punct.span;
         self.last = match punct.spacing {
-            Spacing::Joint => Last::Joint(char, punct.span),
+            Spacing::Joint => Last::Joint(char),
             Spacing::Alone if char == ';' => Last::Semicolon,
             Spacing::Alone if char == ':' && is_second => Last::Colons,
             Spacing::Alone => Last::Alone(char),
@@ -194,7 +214,7 @@ impl<A: Allocator + Copy> Writer<A> {
         Ok(())
     }
 
-    fn open(&mut self, kind: DelimiterKind) -> Result<(), AllocError> {
+    fn open(&mut self, kind: DelimiterKind, place: Span) -> Result<(), AllocError> {
         let sign = match kind {
             DelimiterKind::Parenthesis => '(',
             DelimiterKind::Bracket => '[',
@@ -204,13 +224,14 @@ impl<A: Allocator + Copy> Writer<A> {
         let is_brace = kind == DelimiterKind::Brace;
         let breaks = self.begin(false)?;
         let is_apart = match self.last {
-            Last::Start | Last::Open | Last::Joint(..) | Last::OpenBrace => false,
+            Last::Start | Last::Open | Last::Joint(_) | Last::OpenBrace => false,
             Last::Word | Last::Close => is_brace,
             Last::Alone(c) => is_brace || !matches!(c, '!' | '#' | '.'),
             _ => true,
         };
-        self.space(is_apart && !breaks)?;
+        self.space(is_apart && !breaks, place)?;
         self.text.push(sign)?;
+        self.place = place;
         self.last = Last::Open;
         if is_brace {
             self.depth = self.depth.saturating_add(1);
@@ -219,7 +240,7 @@ impl<A: Allocator + Copy> Writer<A> {
         Ok(())
     }
 
-    fn close(&mut self, kind: DelimiterKind) -> Result<(), AllocError> {
+    fn close(&mut self, kind: DelimiterKind, place: Span) -> Result<(), AllocError> {
         let (sign, last) = match kind {
             DelimiterKind::Parenthesis => (')', Last::Close),
             DelimiterKind::Bracket => (']', Last::Close),
@@ -233,6 +254,7 @@ impl<A: Allocator + Copy> Writer<A> {
             }
         }
         self.text.push(sign)?;
+        self.place = place;
         self.last = last;
         Ok(())
     }
