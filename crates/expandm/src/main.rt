@@ -1,11 +1,7 @@
 // Expands the calls of macros that Rust files define.
 #![tactic(auto)]
 
-mod arguments;
-mod command;
-mod messages;
-
-use crate::command::run_command;
+use mbe_expandm::command::run_command;
 use std::process::ExitCode;
 
 fn main(rt: HostRuntime) -> ExitCode {
