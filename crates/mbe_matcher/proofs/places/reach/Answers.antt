@@ -35,7 +35,7 @@ loop-source-init g c =
     let all : c.in_ok-dots.dots ≡ dots pat =
     subst (λ r. IfSome r (λ n. n ≡ dots (ops_of c.deref.result.now))) c.in_ok-dots.ensures.ok_part c.dots_of.ensures ∙ ap (λ l. dots (ops_of l)) c.deref.ensures.value in
     let first = come_first (input_of h (trees s.whole)) pat (flat_len (trees s.whole)) c.at_start.new.log c.in_ok-state.state.outers.items c.push.new.self.items s.place p c.new-source.ensures.place one
-          c.in_ok-position.ensures.start in
+    c.in_ok-position.ensures.start in
     record {
       comes = (first.0, first.1, first.2, no_notes, first.3, c.in_ok-state.ensures.notes c.at_start.new.log (trees s.whole));
       whole = c.new-source.ensures.whole;

@@ -86,11 +86,11 @@ loop-position-preserved-then-not-takes g c =
         subst (λ b. AreCounted c.takes.new.self.marks.items s.place (cons_if b c.in-Some.position.number met)) c.if-not-takes.true counted.1,
         λ st. (
           walked_drop i st.pattern (trees s.whole) s.place (kept i (dots st.pattern) s.place (reverse st.spots)) met c.loop-position.log c.loop-position.state.outers.items
-            c.pop.new.self.items c.loop-position.todo.items c.in-Some.position c.loop-position.settled.waiting.items c.loop-position.settled.ends.items c.in-Some.ensures.items (inv.walked.2 st).0
-            (sym counted.0 ∙ c.if-not-takes.true),
+              c.pop.new.self.items c.loop-position.todo.items c.in-Some.position c.loop-position.settled.waiting.items c.loop-position.settled.ends.items c.in-Some.ensures.items (inv.walked.2 st).0
+              (sym counted.0 ∙ c.if-not-takes.true),
           λ n r. report_drop i st.pattern (trees s.whole) s.place (kept i (dots st.pattern) s.place (reverse st.spots)) met c.loop-position.log c.loop-position.state.outers.items
-            c.pop.new.self.items c.loop-position.todo.items c.in-Some.position c.loop-position.settled.waiting.items c.loop-position.settled.ends.items c.in-Some.ensures.items (inv.walked.2 st).0
-            (sym counted.0 ∙ c.if-not-takes.true) (trees s.whole) c.loop-position.state.report n ((inv.walked.2 st).1 n r),
+              c.pop.new.self.items c.loop-position.todo.items c.in-Some.position c.loop-position.settled.waiting.items c.loop-position.settled.ends.items c.in-Some.ensures.items (inv.walked.2 st).0
+              (sym counted.0 ∙ c.if-not-takes.true) (trees s.whole) c.loop-position.state.report n ((inv.walked.2 st).1 n r),
         ),
       );
     }
@@ -152,13 +152,13 @@ loop-position-preserved g c =
         subst (λ b. AreCounted c.takes.new.self.marks.items s.place (cons_if b c.in-Some.position.number met)) taken counted.1,
         λ st. (
           walked_take i st.pattern (trees s.whole) s.place (kept i (dots st.pattern) s.place (reverse st.spots)) met c.loop-position.log c.loop-position.state.outers.items
-            c.pop.new.self.items c.loop-position.todo.items c.in-Some.position c.loop-position.settled.waiting.items c.loop-position.settled.ends.items c.in-Some.ensures.items (inv.walked.2 st).0
-            c.steps.new.log c.steps.new.outers.items f c.push_some-in-Some.new.values.items c.push_some-in-Some-2.new.values.items c.push_some-in-Some-3.new.values.items
-            c.in_ok-found.ensures pushed c.in_ok-push_some-3.ensures c.in_ok-push_some-4.ensures (sym counted.0 ∙ taken),
+              c.pop.new.self.items c.loop-position.todo.items c.in-Some.position c.loop-position.settled.waiting.items c.loop-position.settled.ends.items c.in-Some.ensures.items (inv.walked.2 st).0
+              c.steps.new.log c.steps.new.outers.items f c.push_some-in-Some.new.values.items c.push_some-in-Some-2.new.values.items c.push_some-in-Some-3.new.values.items
+              c.in_ok-found.ensures pushed c.in_ok-push_some-3.ensures c.in_ok-push_some-4.ensures (sym counted.0 ∙ taken),
           λ n r. report_take i st.pattern (trees s.whole) s.place (kept i (dots st.pattern) s.place (reverse st.spots)) met c.loop-position.log c.loop-position.state.outers.items
-            c.pop.new.self.items c.loop-position.todo.items c.in-Some.position c.loop-position.settled.waiting.items c.loop-position.settled.ends.items c.in-Some.ensures.items (inv.walked.2 st).0
-            c.steps.new.log c.steps.new.outers.items f c.push_some-in-Some.new.values.items c.push_some-in-Some-2.new.values.items c.push_some-in-Some-3.new.values.items
-            c.in_ok-found.ensures pushed c.in_ok-push_some-3.ensures c.in_ok-push_some-4.ensures (sym counted.0 ∙ taken) (trees s.whole) c.loop-position.state.report c.looked_at.new.self n c.is_some.result c.again-handle.result c.is_some.ensures c.again-handle.ensures c.looked_at.ensures.notes ((inv.walked.2 st).1 n r),
+              c.pop.new.self.items c.loop-position.todo.items c.in-Some.position c.loop-position.settled.waiting.items c.loop-position.settled.ends.items c.in-Some.ensures.items (inv.walked.2 st).0
+              c.steps.new.log c.steps.new.outers.items f c.push_some-in-Some.new.values.items c.push_some-in-Some-2.new.values.items c.push_some-in-Some-3.new.values.items
+              c.in_ok-found.ensures pushed c.in_ok-push_some-3.ensures c.in_ok-push_some-4.ensures (sym counted.0 ∙ taken) (trees s.whole) c.loop-position.state.report c.looked_at.new.self n c.is_some.result c.again-handle.result c.is_some.ensures c.again-handle.ensures c.looked_at.ensures.notes ((inv.walked.2 st).1 n r),
         ),
       );
     }

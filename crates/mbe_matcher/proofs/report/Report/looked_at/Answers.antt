@@ -22,9 +22,9 @@ returns-then-has_step-clause-notes g c = λ log o ms before at held r.
     let q = c.args.source.now.place in
     let first : ops_left o ≡ op_then (op_of c.in-Some.op.now) (ops_of c.in-Some._rest.now) = sym at ∙ ap ops_of c.in-Some.ensures.cases.0 in
     let none : misfit_unless c.args.has_step q o ≡ None = elim c.then-has_step.branch [
-      then-has_step-via-then-has_step w ↦ ap (λ b. misfit_unless b q o) w.if-has_step.true ∙ step_misfit q o
-    | then-has_step-via-else-has_step+then-not-is_noted w ↦
-      plain_misfit c.args.has_step q o (op_of c.in-Some.op.now) (ops_of c.in-Some._rest.now) first (sym w.is_noted.ensures ∙ w.if-not-is_noted.true)
+      | then-has_step-via-then-has_step w ↦ ap (λ b. misfit_unless b q o) w.if-has_step.true ∙ step_misfit q o
+      | then-has_step-via-else-has_step+then-not-is_noted w ↦
+          plain_misfit c.args.has_step q o (op_of c.in-Some.op.now) (ops_of c.in-Some._rest.now) first (sym w.is_noted.ensures ∙ w.if-not-is_noted.true)
     ] in
     misfit_none log (trees c.args.source.now.whole) c.args.self.now ms (misfit_unless c.args.has_step q o) before none r
 
@@ -41,8 +41,8 @@ returns-clause-notes g c = λ log o ms before at held r.
     let here : IsMisfit f m s = record { op = refl; here = c.here-2.ensures } in
     let new : Report g.row.A.Denot = record { first = c.if-is_none.self.first; last = Some (record { handle = c.args.handle; misfit = Some m }); failed_here = true } in
     let from : First f c.args.self.now new s = elim c.if-is_none.branch [
-      then-is_none w ↦ inl (w.if-is_none.ensures, (record { op = c.in-Some.op; here = w.here.result }, ap first_in w.self-is, record { op = refl; here = w.here.ensures }))
-    | else-is_none w ↦ inr (w.if-is_none.ensures, ap first_in w.self-is)
+      | then-is_none w ↦ inl (w.if-is_none.ensures, (record { op = c.in-Some.op; here = w.here.result }, ap first_in w.self-is, record { op = refl; here = w.here.ensures }))
+      | else-is_none w ↦ inr (w.if-is_none.ensures, ap first_in w.self-is)
     ] in
     subst (λ x. IsReportOf log f new (ms ++ option_to_list x) before) (sym one)
     (misfit_more log f c.args.self.now new m c.args.handle ms s before r from refl here held refl)
