@@ -1,7 +1,7 @@
 // Laws about the definitions. They run nothing.
 ghost use Rattle.mbe_semantics.specs.Laws.Laws.{OneReading, ReadingsEnd, BeginningsEndInside};
 ghost use Rattle.mbe_semantics.specs.Laws.Laws.{NeverAmbiguous, WordsNeverAmbiguous};
-ghost use Rattle.mbe_semantics.specs.Laws.Laws.{RoundsHaveValues, EachOpOnce, OneAccount};
+ghost use Rattle.mbe_semantics.specs.Laws.Laws.{RoundsHaveValues, OneAccount};
 ghost use Rattle.mbe_semantics.specs.Laws.Laws.{ListsFitOnce, LiveHaveAccounts, EntriesFollow};
 ghost use Rattle.mbe_semantics.specs.Laws.Laws.{CommandsBindAlike, OneVerdict, HasOneVerdict};
 ghost use Rattle.mbe_semantics.specs.Laws.Laws.{LawfulInputs, MatcherLaw, RunsAreRight};
@@ -34,11 +34,6 @@ pub fn words_never_ambiguous()
 /// In a kept round each name of the body leads to a value, if it leads to one outside.
 pub fn rounds_have_values()
     ensures { RoundsHaveValues }
-{}
-
-/// Ops one by one are the ops, each once and in order.
-pub fn each_op_once()
-    ensures { EachOpOnce }
 {}
 
 /// A handle of a log has one account at most.

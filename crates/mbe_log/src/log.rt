@@ -45,6 +45,7 @@ use mbe_semantics::kinds::MetaVarKind;
 use mbe_semantics::log::Part;
 use mbe_tt::symbol::Symbol;
 use std::alloc::{AllocError, Allocator, Global};
+use std::default::MadeWith;
 use std::fmt;
 use std::marker::Model;
 
@@ -67,6 +68,17 @@ impl Model for Handle {
     ghost view = { λ h. record { current = h.current; finished = h.finished } };
 
     ghost inverse = { λ h. record { current = h.current; finished = h.finished } };
+}
+
+/// A handle that no log gave: it fills the places of a `SmallVec` that nothing is in.
+impl<A: Copy> MadeWith<A> for Handle {
+    fn made_with(_alloc: A) -> Handle {
+        let nothing = Part { list: 0, first: 0 };
+        Handle {
+            current: nothing,
+            finished: nothing,
+        }
+    }
 }
 
 /// The same entries once more. A push to one of the two leaves the other as it is.

@@ -185,9 +185,9 @@ walked_end i q size old log before outers here first todo met ws hs s e w =
 
 -- ---- how many there are
 
-pub nothing : {X : Type 0} (xs : List X) → length xs ≡ 0 → xs ≡ []
-nothing [] e = refl
-nothing (x ∷ xs) e = absurd (omega (arith, e))
+pub popped_all : {X : Type 0} (xs : List X) → (0 < length xs → false ≡ true) → xs ≡ []
+popped_all [] h = refl
+popped_all (x ∷ xs) h = let e : false ≡ true = h (omega arith) in cc
 
 some_few : {X : Type 0} (x : Option X) → length (option_to_list x) ≤ 1
 some_few None = omega arith

@@ -25,6 +25,11 @@ pub record SkipsUpTo (old new : Log) (before after : Handle) (all left : Ops) : 
 pub skips_none : (log : Log) (h : Handle) (all : Ops) → HasEntriesOf log h → SkipsUpTo log log h h all all
 skips_none log h all l = record { entries = l; account = λ a i. (a, i, refl); kept = kept_not log }
 
+-- the ops that are left may be put otherwise
+pub skips_as : (old new : Log) (before after : Handle) (all left rest : Ops) → left ≡ rest → SkipsUpTo old new before after all left →
+    SkipsUpTo old new before after all rest
+skips_as old new before after all left rest e s = subst (SkipsUpTo old new before after all) e s
+
 pub skips_one : (old mid new : Log) (before between after : Handle) (all left rest : Ops) (o : Op) → left ≡ op o rest → SkipsUpTo old mid before between all left →
     IsRewritten mid new between after (skipped (names_of_op o)) → SkipsUpTo old new before after all rest
 skips_one old mid new before between after all left rest o e s r = record {

@@ -12,7 +12,7 @@ ghost use Rattle.mbe_matcher.specs.Positions.{IsLeft};
 ghost use Rattle.mbe_matcher.specs.Reports.{IsReport};
 ghost use Rattle.mbe_matcher.specs.Matched.{IsAtStart, is_clash, clashes_with, position_after, ends_as, stop_at, verdict_in, reading_in, Binds};
 
-use crate::position::{Position, Waiting};
+use crate::position::{Position, Todo, Waiting};
 use crate::report::Report;
 use crate::settle::{Settled, State, settle};
 use crate::skipping::dots_of;
@@ -92,14 +92,13 @@ fn after_step<'a, A: Allocator>(
 
 // The positions after their steps, in the same order: the stack at the next place.
 fn come<'a, A: Allocator>(
-    waiting: &mut Vec<Waiting<'a, A>, A>,
-    todo: &mut Vec<Position<'a, A>, A>,
+    waiting: &[Waiting<'a, A>],
+    todo: &mut Todo<'a, '_, A>,
 ) -> Result<(), AllocError>
-    ensures { OnOk result (todo.new.items
-        ≡ todo.old.items ++ map position_after waiting.old.items) }
+    ensures { OnOk result (todo.new.items ≡ todo.old.items ++ map position_after waiting.now) }
 {
-    for position in waiting.drain(..) {
-        todo.push(position.after)?;
+    for position in waiting {
+        todo.push(position.after.again())?;
     }
     Ok(())
 }
@@ -178,10 +177,10 @@ pub(crate) fn reach<'a, A: Allocator + Copy, G: FragmentGrammar>(
 {
     let dots = dots_of(&pattern.0).ok_or(AllocError)?;
     let mut state = State::new(alloc, dots)?;
-    let mut todo = Vec::new(alloc);
+    let mut todo = Todo::new(&alloc);
     let position = at_start(pattern, dots, log)?;
     todo.push(position)?;
-    let mut settled = Settled::new(alloc);
+    let mut settled = Settled::new(&alloc);
     let mut source = Source::new(alloc, argument);
     loop {
         settle(grammar, &source, log, &mut state, &mut todo, &mut settled)?;
@@ -194,6 +193,6 @@ pub(crate) fn reach<'a, A: Allocator + Copy, G: FragmentGrammar>(
             });
         }
         source = after_step(source, &settled.waiting[0])?;
-        come(&mut settled.waiting, &mut todo)?;
+        come(&settled.waiting, &mut todo)?;
     }
 }

@@ -1,9 +1,13 @@
 // Positions in a pattern, and their steps.
-use mbe_log::log::Handle;
+ghost use Rattle.std.specs.Prelude.{◌≡◌};
+
+use mbe_log::log::{Handle, again};
 use mbe_ops::ops::{Op, Separator};
 use mbe_semantics::kinds::RepeatKind;
 use mbe_tt::tt::TtIter;
+use smallvec::SmallVec;
 use std::alloc::{Allocator, Global};
+use std::default::MadeWith;
 
 // A dot of a pattern, with what was bound on the way to it.
 #[derive(Drop)]
@@ -16,6 +20,36 @@ pub(crate) struct Position<'a, A: Allocator = Global> {
     pub(crate) up: Option<usize>,
     pub(crate) handle: Handle,
 }
+
+impl<'a, A: Allocator> Position<'a, A> {
+    // The same position once more.
+    pub(crate) fn again(&self) -> Position<'a, A>
+        ensures { result ≡ self.now }
+    {
+        Position {
+            dot: self.dot,
+            number: self.number,
+            up: self.up,
+            handle: again(&self.handle),
+        }
+    }
+}
+
+// Before no op: it fills the places of a `SmallVec` that nothing is in.
+impl<'a, A: Allocator, B: Copy> MadeWith<B> for Position<'a, A> {
+    fn made_with(alloc: B) -> Position<'a, A> {
+        Position {
+            dot: &[],
+            number: 0,
+            up: None,
+            handle: Handle::made_with(alloc),
+        }
+    }
+}
+
+// Positions that are still to be followed at a place, the last on top. The allocator is borrowed:
+// nothing is known of its size, so no proof would say that memory holds a list with it inside.
+pub(crate) type Todo<'a, 's, A> = SmallVec<Position<'a, A>, 4, &'s A>;
 
 // An open group or repetition. Positions share it, and it never changes.
 #[derive(Drop)]
@@ -47,6 +81,16 @@ pub(crate) struct Waiting<'a, A: Allocator = Global> {
     // What is left of the argument's innermost group after a fragment, if it goes on by one.
     pub(crate) beyond: Option<TtIter<'a, A>>,
     pub(crate) after: Position<'a, A>,
+}
+
+impl<'a, A: Allocator, B: Copy> MadeWith<B> for Waiting<'a, A> {
+    fn made_with(alloc: B) -> Waiting<'a, A> {
+        Waiting {
+            width: 0,
+            beyond: None,
+            after: Position::made_with(alloc),
+        }
+    }
 }
 
 // The steps of a position at one place.

@@ -7,32 +7,34 @@ ghost use Rattle.mbe_matcher.specs.Matched.{IsStackAt, AreSettledAt, dots_in};
 ghost use Rattle.mbe_matcher.specs.Reports.{IsReport, ReportStays};
 
 use crate::counts::Counts;
-use crate::position::{Outer, Position, Waiting};
+use crate::position::{Outer, Todo, Waiting};
 use crate::report::Report;
 use crate::source::Source;
 use crate::steps::steps;
 use mbe_log::log::{BindingLog, Handle, again};
 use mbe_tt::grammar::FragmentGrammar;
+use smallvec::SmallVec;
 use std::alloc::{AllocError, Allocator, Global};
+use std::default::MadeWith;
 
 // What comes of the positions at a place.
 #[derive(Drop)]
-pub(crate) struct Settled<'a, A: Allocator = Global> {
+pub(crate) struct Settled<'a, 's, A: Allocator = Global> {
     // Those that go on over tokens, in the order in which they began to wait.
-    pub(crate) waiting: Vec<Waiting<'a, A>, A>,
+    pub(crate) waiting: SmallVec<Waiting<'a, A>, 2, &'s A>,
     // What is bound by those at the pattern's end.
-    pub(crate) ends: Vec<Handle, A>,
+    pub(crate) ends: SmallVec<Handle, 2, &'s A>,
 }
 
-impl<'a, A: Allocator + Copy> Settled<'a, A> {
+impl<'a, 's, A: Allocator> Settled<'a, 's, A> {
     // Nothing yet.
-    pub(crate) fn new(alloc: A) -> Settled<'a, A>
+    pub(crate) fn new(alloc: &'s A) -> Settled<'a, 's, A>
         ensures waiting { result.waiting.items ≡ [] }
         ensures ends { result.ends.items ≡ [] }
     {
         Settled {
-            waiting: Vec::new(alloc),
-            ends: Vec::new(alloc),
+            waiting: SmallVec::new(alloc),
+            ends: SmallVec::new(alloc),
         }
     }
 }
@@ -62,8 +64,8 @@ impl<'a, A: Allocator + Copy> State<'a, A> {
 }
 
 // The value at the end, if there is one.
-fn push_some<T: Drop, A: Allocator>(
-    values: &mut Vec<T, A>,
+fn push_some<T: MadeWith<A> + Drop, const N: usize, A: Allocator + Copy>(
+    values: &mut SmallVec<T, N, A>,
     value: Option<T>,
 ) -> Result<(), AllocError>
     ensures { OnOk result (values.new.items ≡ values.old.items ++ option_to_list value) }
@@ -83,8 +85,8 @@ pub(crate) fn settle<'a, A: Allocator + Copy, G: FragmentGrammar>(
     source: &Source<'a, A>,
     log: &mut BindingLog<'a, A>,
     state: &mut State<'a, A>,
-    todo: &mut Vec<Position<'a, A>, A>,
-    settled: &mut Settled<'a, A>,
+    todo: &mut Todo<'a, '_, A>,
+    settled: &mut Settled<'a, '_, A>,
 ) -> Result<(), AllocError>
     requires stack { IsStackAt (G.grammar grammar.now) source.now log.old state.old todo.old.items }
     requires blank { AreBlankFrom state.old.counts.marks.items source.now.place }

@@ -9,6 +9,7 @@ ghost use Rattle.mbe_matcher.specs.Rewriting.{IsRewritten};
 
 use mbe_log::log::{BindingLog, Handle};
 use mbe_ops::ops::Op;
+use mbe_ops::walk::{OpDelimited, OpDelimitedIter};
 use std::alloc::{AllocError, Allocator};
 
 // All variables in the ops are skipped.
@@ -22,8 +23,11 @@ pub(crate) fn skip_names<A: Allocator + Copy>(
     ensures { OnOk result (IsRewritten log.old log.new handle.old handle.new
         (skipped (names_of (ops_of ops.now)))) }
 {
-    for op in ops {
-        skip_op(log, op, handle)?;
+    for stop in OpDelimitedIter::new(ops) {
+        match stop {
+            OpDelimited::Op(op) => skip_op(log, op, handle)?,
+            OpDelimited::Open(_) | OpDelimited::Close(_) => {}
+        }
     }
     Ok(())
 }
@@ -58,9 +62,11 @@ pub(crate) fn dots_of<A: Allocator>(ops: &[Op<A>]) -> Option<usize>
     ensures { IfSome result (λ n. n ≡ dots (ops_of ops.now)) }
 {
     let mut count = 1usize;
-    for op in ops {
-        let inside = op_dots_of(op)?;
-        count = count.checked_add(1)?.checked_add(inside)?;
+    for stop in OpDelimitedIter::new(ops) {
+        count = match stop {
+            OpDelimited::Op(op) => count.checked_add(1)?.checked_add(op_dots_of(op)?)?,
+            OpDelimited::Open(_) | OpDelimited::Close(_) => count,
+        };
     }
     Some(count)
 }

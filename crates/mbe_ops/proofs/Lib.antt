@@ -1,3 +1,4 @@
 pub mod EqualityLemmas
 pub mod Fragments
 pub mod OpViews
+pub mod WalkLemmas

@@ -2,3 +2,4 @@ pub mod Codes
 pub mod Equality
 pub mod Held
 pub mod Views
+pub mod Walk

@@ -4,6 +4,8 @@
 mod copies;
 mod equal;
 pub mod held;
+pub mod laws;
 pub mod ops;
+pub mod walk;
 
 pub use crate::equal::same_templates;

@@ -1,26 +1,20 @@
 -- How the check of empty repetitions goes over ops, and over rules.
-use Rattle.std.specs.Prelude.{◌≡◌, ◌<◌, ◌≤◌, ◌+◌, ◌&&◌, ◌||◌, ℕ, Bool, true, false, not, is_some, List, length, get_or, drop, Option, Some, None, option_map, refl}
+use Rattle.std.specs.Prelude.{[], ◌∷◌, ◌++◌, ◌≡◌, ◌<◌, ◌≤◌, ◌+◌, ◌&&◌, ◌||◌, ℕ, Bool, true, false, not, is_some, List, length, get_or, drop, Option, Some, None, option_map, refl}
 use Rattle.std.proofs.Common.{ap, sym, ◌∙◌}
 use Rattle.std.specs.List.{list_any}
 use Rattle.std.proofs.lemmas.List.{drop_more, drop_all}
-use Rattle.mbe_ops.specs.declared.ops.Op as code
+use Rattle.mbe_tt.specs.declared.tt.Delimiter.{Delimiter}
+use Rattle.mbe_ops.specs.Walk.{Stop, closing_stop, stops_of, walk}
+use Rattle.mbe_parser.specs.Refusal.{is_nullable_stop, is_refused_stop, can_read_nothing, some_refused}
 use Rattle.mbe_ops.specs.declared.ops.Separator.{Separator}
 use Rattle.mbe_parser.specs.declared.rules.Rule as written
-use Rattle.mbe_semantics.specs.Syntax.Op.{Op, Ops, no_ops, op}
+use Rattle.mbe_semantics.specs.Syntax.Op.{Ops, no_ops, op}
 use Rattle.mbe_semantics.specs.Syntax.Definition.{Rule}
 use Rattle.mbe_semantics.specs.Syntax.Nullable.{is_nullable, is_nullable_op, is_refused, is_refused_op, is_unseparated}
-use Rattle.mbe_ops.specs.Views.{op_of, ops_of, separator_seen}
+use Rattle.mbe_ops.specs.Views.{separator_seen}
 use Rattle.mbe_parser.specs.RuleViews.{rule_of, rules_seen}
 
 -- ---- over ops
-
--- the next op, and those after it
-pub next_op : {A : Type 0} (xs : List (code.Op A)) (i : ℕ) (x : code.Op A) → i < length xs → x ≡ get_or xs i x
-    → ops_of (drop i xs) ≡ op (op_of x) (ops_of (drop (i + 1) xs))
-next_op xs i x h e = ap ops_of (drop_more xs i x h) ∙ ap (λ y. op (op_of y) (ops_of (drop (i + 1) xs))) (sym e)
-
-pub no_op_left : {A : Type 0} (xs : List (code.Op A)) (i : ℕ) → length xs ≤ i → ops_of (drop i xs) ≡ no_ops
-no_op_left xs i h = ap ops_of (drop_all i xs h)
 
 or_false : (a b : Bool) → a ≡ false → (a || b) ≡ b
 or_false a b e = ap (λ (c : Bool). c || b) e
@@ -36,19 +30,39 @@ or_assoc : (a b c : Bool) → ((a || b) || c) ≡ (a || (b || c))
 or_assoc true b c = refl
 or_assoc false b c = refl
 
--- the ops that were read, and then those that are left, can read nothing
-pub next_nullable : (all so_far here now : Bool) (o : Op) (os left : Ops) → left ≡ op o os → here ≡ is_nullable_op o → now ≡ (so_far && here)
-    → all ≡ (so_far && is_nullable left) → all ≡ (now && is_nullable os)
-next_nullable all so_far here now o os left l h n e =
-    e ∙ (ap (λ r. so_far && is_nullable r) l
-    ∙ (sym (and_assoc so_far (is_nullable_op o) (is_nullable os)) ∙ sym (ap (λ b. b && is_nullable os) (n ∙ ap (λ b. so_far && b) h))))
+-- what was read, and then what is left, can read nothing
+pub next_nullable : (all so_far here now : Bool) (s : Stop) (left rest : List Stop) → left ≡ s ∷ rest → here ≡ is_nullable_stop s
+    → now ≡ (so_far && here) → all ≡ (so_far && can_read_nothing left) → all ≡ (now && can_read_nothing rest)
+next_nullable all so_far here now s left rest l h n e =
+    e ∙ (ap (λ r. so_far && can_read_nothing r) l
+    ∙ (sym (and_assoc so_far (is_nullable_stop s) (can_read_nothing rest))
+    ∙ sym (ap (λ b. b && can_read_nothing rest) (n ∙ ap (λ b. so_far && b) h))))
 
 -- the same of a refused repetition
-pub next_refused : (all so_far here now : Bool) (o : Op) (os left : Ops) → left ≡ op o os → here ≡ is_refused_op o → now ≡ (so_far || here)
-    → all ≡ (so_far || is_refused left) → all ≡ (now || is_refused os)
-next_refused all so_far here now o os left l h n e =
-    e ∙ (ap (λ r. so_far || is_refused r) l
-    ∙ (sym (or_assoc so_far (is_refused_op o) (is_refused os)) ∙ sym (ap (λ b. b || is_refused os) (n ∙ ap (λ b. so_far || b) h))))
+pub next_refused : (all so_far here now : Bool) (s : Stop) (left rest : List Stop) → left ≡ s ∷ rest → here ≡ is_refused_stop s
+    → now ≡ (so_far || here) → all ≡ (so_far || some_refused left) → all ≡ (now || some_refused rest)
+next_refused all so_far here now s left rest l h n e =
+    e ∙ (ap (λ r. so_far || some_refused r) l
+    ∙ (sym (or_assoc so_far (is_refused_stop s) (some_refused rest))
+    ∙ sym (ap (λ b. b || some_refused rest) (n ∙ ap (λ b. so_far || b) h))))
+
+-- a body can read nothing if its ops can
+pub nothing_read : (os : Ops) → can_read_nothing (walk None os) ≡ is_nullable os
+nothing_read no_ops = refl
+nothing_read (op o os) = ap (λ b. is_nullable_op o && b) (nothing_read os)
+
+-- and what is refused is among the ops, also between an opening and a closing
+refused_before : (os : Ops) (d : Delimiter) → some_refused (stops_of os ++ closing_stop d ∷ []) ≡ is_refused os
+refused_before no_ops d = refl
+refused_before (op o os) d = ap (λ b. is_refused_op o || b) (refused_before os d)
+
+refused_alone : (os : Ops) → some_refused (stops_of os) ≡ is_refused os
+refused_alone no_ops = refl
+refused_alone (op o os) = ap (λ b. is_refused_op o || b) (refused_alone os)
+
+pub refused_inside : (around : Option Delimiter) (os : Ops) → some_refused (walk around os) ≡ is_refused os
+refused_inside None os = refused_alone os
+refused_inside (Some d) os = refused_before os d
 
 -- ---- one repetition
 

@@ -1,12 +1,15 @@
 // The check of empty repetitions: one pass, from the inside out.
 ghost use Rattle.std.specs.Prelude.{◌≡◌, true, false, not, ◌&&◌, ◌||◌};
 ghost use Rattle.std.specs.List.{list_any};
-ghost use Rattle.mbe_semantics.specs.Syntax.Nullable.{is_nullable_op, is_nullable, is_refused_op, is_refused, may_skip, is_vis};
-ghost use Rattle.mbe_ops.specs.Views.{op_of, ops_of};
+ghost use Rattle.mbe_semantics.specs.Syntax.Nullable.{is_nullable_op, is_refused_op, is_refused, may_skip, is_vis};
+ghost use Rattle.mbe_ops.specs.Views.{op_of};
+ghost use Rattle.mbe_ops.specs.Walk.{stop_of, stops_left};
+ghost use Rattle.mbe_parser.specs.Refusal.{is_nullable_stop, is_refused_stop, can_read_nothing, some_refused};
 ghost use Rattle.mbe_parser.specs.RuleViews.{rules_seen};
 
 use crate::rules::Rule;
 use mbe_ops::ops::Op;
+use mbe_ops::walk::{OpDelimited, OpDelimitedIter};
 use mbe_semantics::kinds::{MetaVarKind, RepeatKind};
 use std::alloc::Allocator;
 
@@ -16,7 +19,7 @@ pub fn refuses_some<A: Allocator>(rules: &[Rule<A>]) -> bool
     ensures { result ≡ list_any (λ r. is_refused r.reads) (rules_seen rules.now) }
 {
     for rule in rules {
-        if checked(&rule.lhs.0).refused {
+        if checked(rule.lhs.iter()).refused {
             return true;
         }
     }
@@ -61,23 +64,37 @@ impl Found {
 }
 
 #[cycle(refusal)]
-fn checked<A: Allocator>(ops: &[Op<A>]) -> Found
-    ensures empty { result.empty ≡ is_nullable (ops_of ops.now) }
-    ensures refused { result.refused ≡ is_refused (ops_of ops.now) }
+fn checked<A: Allocator>(stops: OpDelimitedIter<'_, A>) -> Found
+    ensures empty { result.empty ≡ can_read_nothing (stops_left stops.entry) }
+    ensures refused { result.refused ≡ some_refused (stops_left stops.entry) }
 {
     let mut found = Found {
         empty: true,
         refused: false,
     };
-    for op in ops {
+    for stop in stops {
         // Most ops are tokens.
-        if is_token(op) {
+        if is_token(stop) {
             found.empty = false;
         } else {
-            found = found.followed_by(checked_op(op));
+            found = found.followed_by(checked_stop(stop));
         }
     }
     found
+}
+
+#[cycle(refusal)]
+fn checked_stop<A: Allocator>(stop: OpDelimited<'_, A>) -> Found
+    ensures empty { result.empty ≡ is_nullable_stop (stop_of stop.entry) }
+    ensures refused { result.refused ≡ is_refused_stop (stop_of stop.entry) }
+{
+    match stop {
+        OpDelimited::Op(op) => checked_op(op),
+        OpDelimited::Open(_) | OpDelimited::Close(_) => Found {
+            empty: false,
+            refused: false,
+        },
+    }
 }
 
 #[cycle(refusal)]
@@ -90,15 +107,12 @@ fn checked_op<A: Allocator>(op: &Op<A>) -> Found
             empty: may_take_nothing(*kind),
             refused: false,
         },
-        Op::Subtree { tokens, .. } => Found {
-            empty: false,
-            refused: checked(&tokens.0).refused,
-        },
+        Op::Subtree { tokens, delimiter } => checked(tokens.iter_delimited(*delimiter)),
         Op::Repeat {
             tokens,
             kind,
             separator,
-        } => checked(&tokens.0).repeated(*kind, separator.is_some()),
+        } => checked(tokens.iter()).repeated(*kind, separator.is_some()),
         _ => Found {
             empty: false,
             refused: false,
@@ -106,12 +120,15 @@ fn checked_op<A: Allocator>(op: &Op<A>) -> Found
     }
 }
 
-// Whether the op reads one token, always.
-fn is_token<A: Allocator>(op: &Op<A>) -> bool
-    ensures solid { result ≡ true → is_nullable_op (op_of op.now) ≡ false }
-    ensures lawful { result ≡ true → is_refused_op (op_of op.now) ≡ false }
+// Whether it reads one token, always.
+fn is_token<A: Allocator>(stop: OpDelimited<'_, A>) -> bool
+    ensures solid { result ≡ true → is_nullable_stop (stop_of stop.entry) ≡ false }
+    ensures lawful { result ≡ true → is_refused_stop (stop_of stop.entry) ≡ false }
 {
-    matches!(op, Op::Ident(_) | Op::Literal(_) | Op::Punct(_))
+    match stop {
+        OpDelimited::Op(op) => matches!(op, Op::Ident(_) | Op::Literal(_) | Op::Punct(_)),
+        OpDelimited::Open(_) | OpDelimited::Close(_) => true,
+    }
 }
 
 fn may_take_nothing(kind: Option<MetaVarKind>) -> bool

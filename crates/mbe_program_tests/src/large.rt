@@ -111,13 +111,41 @@ fn a_repetition_writes_65535_rounds(rt: HostRuntime) -> Result<(), Fail> {
     Ok(())
 }
 
-// A pattern and a template of 2,500 words each. The template's first word is at byte 1 + 4,999 + 6.
+// A pattern and a template of 6,000 words each. The template's first word is at byte 1 + 11,999 + 6.
 #[test]
 fn a_long_rule_is_read_and_written(rt: HostRuntime) -> Result<(), Fail> {
-    let argument = words(rt.alloc(), 2500)?;
+    let argument = words(rt.alloc(), 6000)?;
     let definition = format!(in rt.alloc(); "({argument}) => {{{argument}}}")?;
-    let trees = lines(rt.alloc(), 2500, (0, 5006))?;
+    let trees = lines(rt.alloc(), 6000, (0, 12_006))?;
     let texts = (definition.as_str(), argument.as_str());
     assert!(rt; is_row(rt.alloc(), EDITION, texts, ("", 0, trees.as_str()))?);
+    Ok(())
+}
+
+// The names of a variable and of the argument, of 100,000 letters each.
+#[test]
+fn long_names_are_bound_and_joined(rt: HostRuntime) -> Result<(), Fail> {
+    let alloc = rt.alloc();
+    let name = "x".repeat(alloc, 100_000)?;
+    let argument = "a".repeat(alloc, 100_000)?;
+    let definition = format!(in alloc; "(${name}:ident) => {{${{concat(b, ${name})}}}}")?;
+    let trees = format!(in alloc; "  IDENT   b{argument} 0@100016..100022\n")?;
+    let texts = (definition.as_str(), argument.as_str());
+    assert!(rt; is_row(alloc, EDITION, texts, ("", 0, trees.as_str()))?);
+    Ok(())
+}
+
+// A thousand rules that don't fit, and one that may.
+#[test]
+fn the_rule_after_a_thousand_is_tried(rt: HostRuntime) -> Result<(), Fail> {
+    let alloc = rt.alloc();
+    let rules = "(b) => {};".repeat(alloc, 1000)?;
+    let definition = format!(in alloc; "{rules}(a) => {{c}}")?;
+    let trees = "  IDENT   c 0@10008..10009\n";
+    let texts = (definition.as_str(), "a");
+    assert!(rt; is_row(alloc, EDITION, texts, ("", 1000, trees))?);
+    let error = "unexpected token in input at 1@0..1";
+    let texts = (definition.as_str(), "c");
+    assert!(rt; is_row(alloc, EDITION, texts, (error, 0, ""))?);
     Ok(())
 }

@@ -169,7 +169,7 @@ static ERRORS: [Row; 14] = [
 ];
 
 // What is bound by the position that failed last.
-static REPORTED: [Row; 2] = [
+static REPORTED: [Row; 3] = [
     (
         ("($x:ident b) => {[$x]}", "p q"),
         "unexpected token in input at 1@2..3",
@@ -186,6 +186,17 @@ static REPORTED: [Row; 2] = [
     PUNCH   $ [alone] 0@34..35
     IDENT   x 0@34..35
   SUBTREE [] 0@37..38 0@44..45
+",
+    ),
+    // Two fail at the 1. The one in the later repetition is looked at first, so its error is reported; the other one's
+    // variable is missing.
+    (
+        ("($(a $x:ident)? $(a $y:lifetime)?) => {$x $y}", "a 1"),
+        "expected lifetime at 1@2..3",
+        0,
+        "  IDENT   missing 0@40..41
+  PUNCH   $ [alone] 0@43..44
+  IDENT   y 0@43..44
 ",
     ),
 ];

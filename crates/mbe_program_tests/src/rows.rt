@@ -377,7 +377,7 @@ static ROUNDS: [Row; 14] = [
 ];
 
 // A name that comes twice: the last binding, and rounds after rounds.
-static REPEATED_NAMES: [Row; 4] = [
+static REPEATED_NAMES: [Row; 6] = [
     (
         ("($x:ident $($x:ident)*) => {$x}", "a b c"),
         "",
@@ -404,6 +404,26 @@ static REPEATED_NAMES: [Row; 4] = [
         "",
         0,
         "",
+    ),
+    // Within a round too it is the last.
+    (
+        ("($($x:ident $x:ident),*) => {$($x)*}", "a b, c d"),
+        "",
+        0,
+        "  IDENT   b 1@2..3
+  IDENT   d 1@7..8
+",
+    ),
+    (
+        (
+            "($($($x:ident)* : $x:ident;)*) => {$($x)*}",
+            "a b : c; : d;",
+        ),
+        "",
+        0,
+        "  IDENT   c 1@6..7
+  IDENT   d 1@11..12
+",
     ),
 ];
 
@@ -582,7 +602,7 @@ static STOPS: [Row; 10] = [
     ),
 ];
 
-static FAULTS: [Row; 11] = [
+static FAULTS: [Row; 12] = [
     // What comes before and after a repetition past its limit is kept.
     (
         ("($x:ident) => {a $($x)* b}", "a"),
@@ -606,6 +626,19 @@ static FAULTS: [Row; 11] = [
         0,
         "  SUBTREE [] 0@26..27 0@29..30
   IDENT   b 0@33..34
+",
+    ),
+    // All rounds are written, though each faults.
+    (
+        ("($($($x:ident)*;)*) => {$(Y $x Z)*}", "a ; ; ;"),
+        "expected simple binding, found nested binding `x` at 0@29..30",
+        0,
+        "  IDENT   Y 0@26..27
+  IDENT   Z 0@31..32
+  IDENT   Y 0@26..27
+  IDENT   Z 0@31..32
+  IDENT   Y 0@26..27
+  IDENT   Z 0@31..32
 ",
     ),
     (

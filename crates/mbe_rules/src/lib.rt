@@ -3,7 +3,6 @@
 #![tactic(auto)]
 
 pub mod node;
-pub mod reading;
 mod step;
 pub mod table;
 mod taking;

@@ -1,7 +1,7 @@
 // Tables that are read from texts, and where a text is no grammar.
 use mbe_rules::node::{Node, Terminal};
-use mbe_rules::reading::fault::RuleFault;
-use mbe_rules::reading::rules::Rules;
+use mbe_rules_text::fault::RuleFault;
+use mbe_rules_text::rules::Rules;
 use mbe_text::lexer::lex;
 use mbe_tt::grammar::{FragmentGrammar, Front, PrefixEntryPoint};
 use mbe_tt::span::Edition;

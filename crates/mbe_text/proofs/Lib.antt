@@ -1,4 +1,8 @@
+pub mod BlankLemmas
+pub mod CharacterLemmas
+pub mod DivisionLemmas
 pub mod Lines
+pub mod LiteralLemmas
 pub mod Made
 pub mod Printed
 pub mod Reading

@@ -1,5 +1,5 @@
 -- What a scanner reads, one piece after another.
-use Rattle.std.proofs.Common.{◌≡◌, ℕ, ◌+◌, ◌-◌, ◌<◌, ◌≤◌, true, false, List, [], ◌∷◌, ◌++◌, length, take, drop, Option, Some, None, IsSome, IfSome, Result, Ok, Err, refl, sym, ap, ◌∙◌, arith, subst, append_assoc, take-append-drop, length-append, length-drop, drop-drop, Bor, nat_lt}
+use Rattle.std.proofs.Common.{◌≡◌, ℕ, ◌+◌, ◌-◌, ◌<◌, ◌≤◌, true, false, List, ◌∷◌, ◌++◌, length, take, drop, Option, Some, None, IsSome, IfSome, Result, Ok, Err, refl, sym, ap, ◌∙◌, arith, subst, append_assoc, take-append-drop, length-append, length-drop, drop-drop, Bor, nat_lt}
 use Rattle.std.specs.Prelude.{◌↔◌, MatchOption, unwrap_or, IfOk, encode_utf8, slice_range}
 use Rattle.std.specs.Str.{IsUtf8, IsCharBoundary}
 use Rattle.std.specs.Str.Pattern.{GetsRange}
@@ -11,7 +11,7 @@ use Rattle.mbe_tt.specs.Trees.Literals.{is_cut, text_len, literal_output, openin
 use Rattle.mbe_tt.specs.declared.span.Span.{Span}
 use Rattle.mbe_tt.specs.declared.tt.LitKind.{LitKind}
 use Rattle.mbe_text.specs.declared.scanner.Lexeme.{Lexeme}
-use Rattle.mbe_text.specs.Ends.{IsRest, Begins}
+use Rattle.mbe_text.specs.Ends.{IsRest}
 use Rattle.mbe_text.specs.declared.scanner.Lexeme.TheVariants.{Ident, Literal, Punct, Open, Close}
 use Rattle.mbe_text.specs.Tokens.{lexeme_item, item_text, lexeme_text}
 

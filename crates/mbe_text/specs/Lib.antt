@@ -1,5 +1,11 @@
+pub mod Blanks
+pub mod Characters
+pub mod Division
 pub mod Ends
+pub mod Literals
 pub mod Printing
 pub mod Scanning
+pub mod Shapes
 pub mod Tokens
+pub mod Words
 pub mod Writing

@@ -1,6 +1,7 @@
 // The token trees of a text.
 ghost use Rattle.std.specs.Prelude.{◌≡◌, ◌<◌, ◌+◌, ◌^◌, ◌++◌, length, IfOk, IfErr, OnOk};
 ghost use Rattle.mbe_text.specs.Scanning.{FaultsWithin};
+ghost use Rattle.mbe_text.specs.Division.{Lexes, trees_of};
 ghost use Rattle.mbe_text.specs.Tokens.{Adds, IsAstray, FaultsAt, IsMade, ended, token_item, close_item};
 
 use crate::scanner::{LexFault, Lexeme, Scanner, Token, file_span};
@@ -153,6 +154,7 @@ pub fn lex<A: Allocator + Copy>(alloc: A, text: &str, file: u32) -> Result<TopSu
     requires { length text.now < 2 ^ 32 }
     ensures made { IfOk result (IsMade file text.now) }
     ensures within { IfErr result (FaultsWithin (length text.now)) }
+    ensures exact { Lexes (trees_of file text.now) result }
 {
     lex_in(&mut SymbolTable::new(alloc), text, file)
 }
@@ -167,6 +169,7 @@ pub fn lex_in<A: Allocator + Copy>(
     requires { length text.now < 2 ^ 32 }
     ensures made { IfOk result (IsMade file text.now) }
     ensures within { IfErr result (FaultsWithin (length text.now)) }
+    ensures exact { Lexes (trees_of file text.now) result }
 {
     let len = text.len() as u32;
     let mut scanner = Scanner::new(text, file);

@@ -1,15 +1,25 @@
 // The tokens of a text, one after another.
 ghost use Rattle.std.specs.Prelude.{◌≡◌, ◌↔◌, ◌<◌, ◌≤◌, ◌+◌, ◌^◌, length, IsSome, IfSome, IfNone};
 ghost use Rattle.std.specs.Prelude.{ℕ, true, List, [], ◌++◌, ◌∷◌, IfOk, IfErr};
-ghost use Rattle.std.specs.Prelude.{encode_utf8, slice_range};
+ghost use Rattle.std.specs.Prelude.{encode_utf8, slice_range, chars, drop, Some, None, MatchOption, MatchResult, false, ◌==◌, ◌&&◌, IsTrue, is_some, unwrap_or};
 ghost use Rattle.std.specs.Str.{IsUtf8};
 ghost use Rattle.mbe_tt.specs.Trees.Literals.{opening, closing};
 ghost use Rattle.mbe_text.specs.Ends.{IsRest, Begins};
+ghost use Rattle.mbe_text.specs.Characters as characters;
+ghost use Rattle.mbe_text.specs.Characters.{bytes_before};
+ghost use Rattle.mbe_text.specs.Division as division;
+ghost use Rattle.mbe_text.specs.Shapes.{Gives};
+ghost use Rattle.mbe_text.specs.Blanks.{PassesBlock, PassesBlanks};
+ghost use Rattle.mbe_text.specs.Words as words;
+ghost use Rattle.mbe_text.specs.Literals as literals;
+ghost use Rattle.mbe_text.specs.declared.characters.Class.TheVariants.{InLine};
 ghost use Rattle.mbe_text.specs.Tokens.{bytes_of, token_item, item_text, lexeme_text};
 
+use crate::characters::{
+    Class, before, begins, begins_with, offset, past, past_front, past_one, split_first,
+};
 use mbe_tt::span::{Span, SyntaxContext};
 use mbe_tt::tt::{DelimiterKind, IdentIsRaw, LitKind, Spacing};
-use unicode_ident::{is_xid_continue, is_xid_start};
 
 /// Text that isn't lexed, by the byte at which what is wrong begins.
 #[derive(Clone, Copy, Debug, PartialEq, Eq)]
@@ -69,64 +79,37 @@ pub struct Scanner<'t> {
     rest: &'t str,
     ghost within: { length rest.now ≤ total },
     ghost whole: { total ≡ length text.now },
+    ghost small: { total < 2 ^ 32 },
     ghost left: { IsRest text.now rest.now },
-}
-
-fn starts_identifier(char: char) -> bool {
-    is_xid_start(char) || char == '_'
-}
-
-fn is_digit(char: char) -> bool {
-    matches!(char, '0'..='9' | '_')
-}
-
-fn is_hex_digit(char: char) -> bool {
-    matches!(char, '0'..='9' | 'a'..='f' | 'A'..='F' | '_')
-}
-
-fn is_punct(char: char) -> bool {
-    matches!(
-        char,
-        '=' | '<'
-            | '>'
-            | '!'
-            | '&'
-            | '|'
-            | '~'
-            | '@'
-            | '.'
-            | ','
-            | ';'
-            | ':'
-            | '#'
-            | '$'
-            | '?'
-            | '+'
-            | '-'
-            | '*'
-            | '/'
-            | '%'
-            | '^'
-    )
-}
-
-// What a text has before this rest of it.
-fn before<'t>(text: &'t str, rest: &str) -> &'t str
-    requires { length rest.now ≤ length text.now }
-    ensures { IsRest text.now rest.now → text.now ≡ result.now ++ rest.now }
-{
-    text.get(..text.len() - rest.len()).unwrap_or("")
 }
 
 // Whether an identifier of this text and what follows it would begin a prefixed or raw string, or a byte literal.
 // Those aren't lexed.
-fn begins_literal(name: &str, rest: &str) -> bool {
-    match name {
-        _ if rest.starts_with('"') => true,
-        "b" => rest.starts_with('\''),
-        "r" | "br" | "cr" => rest.starts_with('#') && rest.trim_start_matches('#').starts_with('"'),
-        _ => false,
+fn begins_literal(name: &str, rest: &str) -> bool
+    ensures { result ≡ words.begins_literal name.now (chars rest.now) }
+{
+    begins_with(rest, "\"")
+        || (name == "b" && begins_with(rest, "'"))
+        || ((name == "r" || name == "br" || name == "cr") && begins_hashes(rest))
+}
+
+// Whether a char is behind a `'`, and not a lifetime: a `\`, or a character and another `'`. That character is no `'` and no line
+// feed.
+fn is_char(behind: &str) -> bool
+    ensures { result ≡ literals.is_char (chars behind.now) }
+{
+    match split_first(behind) {
+        Some(('\\', _)) => true,
+        Some(('\'' | '\n', _)) | None => false,
+        Some((_, rest)) => begins_with(rest, "'"),
     }
+}
+
+// Whether a raw string goes on here, after its first letters.
+fn begins_hashes(rest: &str) -> bool
+    ensures { result ≡ words.begins_hashes (chars rest.now) }
+{
+    begins(rest, Class::Hash) && begins_with(past(rest, Class::Hash), "\"")
 }
 
 impl<'t> Scanner<'t> {
@@ -150,16 +133,20 @@ impl<'t> Scanner<'t> {
 
     /// The number of bytes consumed.
     pub fn offset(&self) -> u32
-        ensures { result + length self.now.rest.now ≡ self.now.total }
+        ensures bytes { result + length self.now.rest.now ≡ self.now.total }
+        ensures exact { result ≡ characters.offset self.now.total (chars self.now.rest.now) }
     {
-        self.total - self.rest.len() as u32
+        offset(self.total, self.rest)
     }
 
     fn peek(&self) -> Option<char>
         ensures some { IsSome result ↔ 0 < length self.now.rest.now }
         ensures begins { IfSome result (λ c. Begins c self.now.rest.now) }
+        ensures exact { MatchOption result (chars self.now.rest.now ≡ [])
+            (λ c. (rest : List ℕ) × (chars self.now.rest.now ≡ c ∷ rest)) }
     {
-        self.rest.chars().next()
+        let (char, _) = split_first(self.rest)?;
+        Some(char)
     }
 
     // Passes one character.
@@ -169,75 +156,91 @@ impl<'t> Scanner<'t> {
         ensures past { Advances self.old self.new }
         ensures whole { IfSome result (λ c.
             self.old.rest.now ≡ encode_utf8 c ++ self.new.rest.now) }
+        ensures rest { chars self.new.rest.now ≡ drop 1 (chars self.old.rest.now) }
+        ensures exact { MatchOption result (chars self.old.rest.now ≡ [])
+            (λ c. chars self.old.rest.now ≡ c ∷ chars self.new.rest.now) }
     {
-        let mut chars = self.rest.chars();
-        let char = chars.next();
-        self.rest = chars.as_str();
-        char
+        let (char, rest) = split_first(self.rest)?;
+        self.rest = rest;
+        Some(char)
     }
 
-    // Passes the characters up to one that isn't such.
-    fn pass<F: Fn(char) -> bool + Copy>(&mut self, is_such: F)
-        requires { F.IsAlwaysCallable is_such }
-        ensures { GoesOn self.old self.new }
+    // Passes the characters of a kind that come first.
+    fn pass(&mut self, class: Class)
+        ensures on { GoesOn self.old self.new }
+        ensures exact { chars self.new.rest.now
+            ≡ characters.past class (chars self.old.rest.now) }
     {
-        let text = self.rest;
-        let end = text.find(|c| !is_such(c)).unwrap_or(text.len());
-        let (_, rest) = text.split_at(end);
-        self.rest = rest;
+        self.rest = past(self.rest, class);
     }
 
     // Passes white space and comments.
     fn trivia(&mut self) -> Result<(), LexFault>
         ensures on { GoesOn self.old self.new }
+        ensures exact { PassesBlanks self.old.total (chars self.old.rest.now)
+            result (chars self.new.rest.now) }
         ensures within { IfErr result (λ fault. fault.offset ≤ self.old.total) }
     {
         'parts: loop {
-            match self.peek() {
-                Some(' ' | '\t' | '\r' | '\n') => {
-                    self.bump();
-                }
-                Some('/') if self.rest.starts_with("//") => self.line_comment(),
-                Some('/') if self.rest.starts_with("/*") => self.block_comment()?,
-                _ => return Ok(()),
+            if begins(self.rest, Class::Blank) {
+                self.bump();
+            } else if begins_with(self.rest, "//") {
+                self.line_comment();
+            } else if begins_with(self.rest, "/*") {
+                self.block_comment()?;
+            } else {
+                return Ok(());
             }
         }
     }
 
-    // Passes what is left of a line.
+    // Passes the two characters that begin a comment, and what is left of the line.
     fn line_comment(&mut self)
         ensures on { GoesOn self.old self.new }
         ensures past { Advances self.old self.new }
+        ensures exact { chars self.new.rest.now
+            ≡ characters.past InLine (drop 2 (chars self.old.rest.now)) }
     {
         self.bump();
-        self.pass(|c| c != '\n');
+        self.bump();
+        self.pass(Class::InLine);
     }
 
     // Passes a block comment, with those inside it.
     fn block_comment(&mut self) -> Result<(), LexFault>
         ensures on { GoesOn self.old self.new }
         ensures past { Advances self.old self.new }
+        ensures exact { PassesBlock self.old.total (chars self.old.rest.now)
+            result (chars self.new.rest.now) }
         ensures within { IfErr result (λ fault. fault.offset ≤ self.old.total) }
     {
         let start = self.offset();
-        let mut depth = 0u32;
+        self.bump();
+        self.bump();
+        let mut depth = 1u32;
         'chars: while let Some(char) = self.bump() {
-            match (char, self.peek()) {
-                ('/', Some('*')) => {
-                    self.bump();
-                    depth = depth.saturating_add(1);
+            if self.is_second(char, '/', "*") {
+                self.bump();
+                depth = depth.saturating_add(1);
+            } else if self.is_second(char, '*', "/") {
+                self.bump();
+                depth = depth.saturating_sub(1);
+                if depth == 0 {
+                    return Ok(());
                 }
-                ('*', Some('/')) => {
-                    self.bump();
-                    depth = depth.saturating_sub(1);
-                    if depth == 0 {
-                        return Ok(());
-                    }
-                }
-                _ => {}
             }
         }
         Err(LexFault { offset: start })
+    }
+
+    // Whether the character that was passed is this first one, and the second stands here.
+    fn is_second(&self, passed: char, first: char, second: &str) -> bool
+        requires { IsTrue (characters.are_ascii second.now) }
+        ensures exact { result
+            ≡ (passed == first && characters.begins_with second.now (chars self.now.rest.now)) }
+        ensures some { IsTrue result → length second.now ≤ length self.now.rest.now }
+    {
+        passed == first && begins_with(self.rest, second)
     }
 
     // Passes an identifier without a `r#`, whose first character stands here.
@@ -245,19 +248,24 @@ impl<'t> Scanner<'t> {
         ensures on { GoesOn self.old self.new }
         ensures past { Advances self.old self.new }
         ensures whole { self.old.rest.now ≡ result.now ++ self.new.rest.now }
+        ensures rest { chars self.new.rest.now ≡ words.past_word (chars self.old.rest.now) }
+        ensures exact { result.now
+            ≡ characters.bytes_before (chars self.old.rest.now) (chars self.new.rest.now) }
     {
         let text = self.rest;
         self.bump();
-        self.pass(is_xid_continue);
+        self.pass(Class::IdentContinue);
         before(text, self.rest)
     }
 
     // Whether a raw identifier stands here.
     fn is_at_raw(&self) -> bool
-        ensures { result ≡ true → (text : List ℕ) × (self.now.rest.now ≡ 114 ∷ (35 ∷ text)) }
+        ensures begins { result ≡ true
+            → (text : List ℕ) × (self.now.rest.now ≡ 114 ∷ (35 ∷ text)) }
+        ensures exact { result ≡ words.begins_raw (chars self.now.rest.now) }
     {
-        match self.rest.strip_prefix("r#") {
-            Some(name) => name.starts_with(starts_identifier),
+        match past_front(self.rest, "r#") {
+            Some(name) => begins(name, Class::IdentStart),
             None => false,
         }
     }
@@ -269,13 +277,15 @@ impl<'t> Scanner<'t> {
         ensures past { Advances self.old self.new }
         ensures reads { ((text : List ℕ) × (self.old.rest.now ≡ 114 ∷ (35 ∷ text)))
             → IfOk result (λ l. self.old.rest.now ≡ lexeme_text l ++ self.new.rest.now) }
+        ensures exact { Gives (words.read_raw self.old.total (chars self.old.rest.now))
+            result (chars self.new.rest.now) }
         ensures within { IfErr result (λ fault. fault.offset ≤ self.old.total) }
     {
         let start = self.offset();
         self.bump();
         self.bump();
         let name = self.word();
-        if self.rest.starts_with('"') {
+        if begins_with(self.rest, "\"") {
             return Err(LexFault { offset: start });
         }
         Ok(Lexeme::Ident {
@@ -288,6 +298,8 @@ impl<'t> Scanner<'t> {
     fn identifier(&mut self) -> Result<Lexeme<'t>, LexFault>
         requires { 0 < length self.old.rest.now }
         ensures on { GoesOn self.old self.new }
+        ensures exact { Gives (words.read_word self.old.total (chars self.old.rest.now))
+            result (chars self.new.rest.now) }
         ensures past { Advances self.old self.new }
         ensures reads { IfOk result (λ l.
             self.old.rest.now ≡ lexeme_text l ++ self.new.rest.now) }
@@ -304,6 +316,24 @@ impl<'t> Scanner<'t> {
         })
     }
 
+    // Passes an identifier, raw or not.
+    fn any_identifier(&mut self) -> Result<Lexeme<'t>, LexFault>
+        requires { 0 < length self.old.rest.now }
+        ensures on { GoesOn self.old self.new }
+        ensures past { Advances self.old self.new }
+        ensures reads { IfOk result (λ l.
+            self.old.rest.now ≡ lexeme_text l ++ self.new.rest.now) }
+        ensures within { IfErr result (λ fault. fault.offset ≤ self.old.total) }
+        ensures exact { Gives (words.read_identifier self.old.total (chars self.old.rest.now))
+            result (chars self.new.rest.now) }
+    {
+        if self.is_at_raw() {
+            self.raw_identifier()
+        } else {
+            self.identifier()
+        }
+    }
+
     // Passes the identifier that is the suffix of a literal, where one stands here, and returns it with its length in
     // bytes, which is at most 255. One that would begin a prefixed string is a fault, as it is elsewhere. A suffix is
     // never raw.
@@ -312,10 +342,15 @@ impl<'t> Scanner<'t> {
         ensures whole { IfOk result (λ r. self.old.rest.now ≡ r.0.now ++ self.new.rest.now) }
         ensures len { IfOk result (λ r. r.1 ≡ length r.0.now) }
         ensures utf8 { IfOk result (λ r. IsUtf8 r.0.now) }
+        ensures exact { MatchResult result
+            (λ r. (words.past_suffix (chars self.old.rest.now) ≡ Some (chars self.new.rest.now))
+            × (r.0.now ≡ bytes_before (chars self.old.rest.now) (chars self.new.rest.now)))
+            (λ fault. (words.past_suffix (chars self.old.rest.now) ≡ None)
+            × (fault.offset ≡ characters.offset self.old.total (chars self.old.rest.now))) }
         ensures within { IfErr result (λ fault. fault.offset ≤ self.old.total) }
     {
         let start = self.offset();
-        if !self.rest.starts_with(starts_identifier) {
+        if !begins(self.rest, Class::IdentStart) {
             return Ok(("", 0));
         }
         let name = self.word();
@@ -331,6 +366,9 @@ impl<'t> Scanner<'t> {
         ensures reads { IfOk result (λ l. (suffix : List ℕ)
             × (self.old.rest.now ≡ suffix ++ self.new.rest.now)
             × (lexeme_text l ≡ opening kind ++ (text.now ++ (closing kind ++ suffix)))) }
+        ensures exact { Gives
+            (literals.read_literal self.old.total kind text.now (chars self.old.rest.now))
+            result (chars self.new.rest.now) }
         ensures within { IfErr result (λ fault. fault.offset ≤ self.old.total) }
     {
         let (suffix, suffix_len) = self.suffix()?;
@@ -347,6 +385,11 @@ impl<'t> Scanner<'t> {
         ensures on { GoesOn self.old self.new }
         ensures whole { IfSome result (λ text.
             self.old.rest.now ≡ text.now ++ (encode_utf8 end ++ self.new.rest.now)) }
+        ensures exact { MatchOption result
+            (literals.from_quote end false (chars self.old.rest.now) ≡ None)
+            (λ text. (literals.from_quote end false (chars self.old.rest.now)
+            ≡ Some (end ∷ chars self.new.rest.now))
+            × (text.now ≡ bytes_before (chars self.old.rest.now) (end ∷ chars self.new.rest.now))) }
     {
         let text = self.rest;
         'chars: loop {
@@ -370,6 +413,9 @@ impl<'t> Scanner<'t> {
             → opening kind ≡ encode_utf8 quote → closing kind ≡ encode_utf8 quote
             → IfOk result (λ l. self.old.rest.now ≡ lexeme_text l ++ self.new.rest.now) }
         ensures within { IfErr result (λ fault. fault.offset ≤ self.old.total) }
+        ensures exact { Gives
+            (literals.read_quoted self.old.total kind quote (chars self.old.rest.now))
+            result (chars self.new.rest.now) }
     {
         let start = self.offset();
         self.bump();
@@ -379,15 +425,13 @@ impl<'t> Scanner<'t> {
         self.literal(text, kind)
     }
 
-    // Whether the `'` that stands here begins a char: after it stands a `\`, or a character and another `'`. That
-    // character is no `'` and no line feed.
-    fn is_at_char(&self) -> bool {
-        let mut chars = self.rest.chars();
-        let _quote = chars.next();
-        match chars.next() {
-            Some('\\') => true,
-            Some('\'' | '\n') | None => false,
-            Some(_) => chars.next() == Some('\''),
+    // Whether the `'` that stands here begins a char.
+    fn is_at_char(&self) -> bool
+        ensures { result ≡ literals.is_char (drop 1 (chars self.now.rest.now)) }
+    {
+        match split_first(self.rest) {
+            Some((_, behind)) => is_char(behind),
+            None => false,
         }
     }
 
@@ -399,10 +443,12 @@ impl<'t> Scanner<'t> {
         ensures reads { Begins 39 self.old.rest.now
             → IfOk result (λ l. self.old.rest.now ≡ lexeme_text l ++ self.new.rest.now) }
         ensures within { IfErr result (λ fault. fault.offset ≤ self.old.total) }
+        ensures exact { Gives (literals.read_lifetime self.old.total (chars self.old.rest.now))
+            result (chars self.new.rest.now) }
     {
         let start = self.offset();
         self.bump();
-        if !self.rest.starts_with(starts_identifier) {
+        if !begins(self.rest, Class::IdentStart) {
             return Err(LexFault { offset: start });
         }
         Ok(Lexeme::Punct {
@@ -419,6 +465,8 @@ impl<'t> Scanner<'t> {
         ensures reads { Begins 39 self.old.rest.now
             → IfOk result (λ l. self.old.rest.now ≡ lexeme_text l ++ self.new.rest.now) }
         ensures within { IfErr result (λ fault. fault.offset ≤ self.old.total) }
+        ensures exact { Gives (literals.read_quote self.old.total (chars self.old.rest.now))
+            result (chars self.new.rest.now) }
     {
         if self.is_at_char() {
             self.string('\'', LitKind::Char)
@@ -429,30 +477,44 @@ impl<'t> Scanner<'t> {
 
     // Passes a `.` and the digits after it, where that is no range and no field.
     fn fraction(&mut self) -> bool
-        ensures { GoesOn self.old self.new }
+        ensures on { GoesOn self.old self.new }
+        ensures exact { result ≡ is_some (literals.past_fraction (chars self.old.rest.now)) }
+        ensures rest { chars self.new.rest.now
+            ≡ unwrap_or (literals.past_fraction (chars self.old.rest.now)) (chars self.old.rest.now) }
     {
-        let Some(rest) = self.rest.strip_prefix('.') else {
-            return false;
-        };
-        if rest.starts_with(|c| c == '.' || starts_identifier(c)) {
+        if !self.is_at_fraction() {
             return false;
         }
-        self.rest = rest.trim_start_matches(is_digit);
+        self.bump();
+        self.pass(Class::Digit);
         true
+    }
+
+    // Whether a `.` stands here, and no range and no field.
+    fn is_at_fraction(&self) -> bool
+        ensures { result ≡ literals.begins_fraction (chars self.now.rest.now) }
+    {
+        match split_first(self.rest) {
+            Some(('.', rest)) => !begins_with(rest, ".") && !begins(rest, Class::IdentStart),
+            _ => false,
+        }
     }
 
     // Passes an exponent that has a digit.
     fn exponent(&mut self) -> bool
-        ensures { GoesOn self.old self.new }
+        ensures on { GoesOn self.old self.new }
+        ensures exact { result ≡ is_some (literals.past_exponent (chars self.old.rest.now)) }
+        ensures rest { chars self.new.rest.now
+            ≡ unwrap_or (literals.past_exponent (chars self.old.rest.now)) (chars self.old.rest.now) }
     {
-        let Some(rest) = self.rest.strip_prefix(|c| c == 'e' || c == 'E') else {
+        let Some(rest) = past_one(self.rest, Class::Exponent) else {
             return false;
         };
-        let digits = rest.strip_prefix(|c| c == '+' || c == '-').unwrap_or(rest);
-        if !digits.starts_with(|c: char| c.is_ascii_digit()) {
+        let digits = past_one(rest, Class::Sign).unwrap_or(rest);
+        if !begins(digits, Class::Decimal) {
             return false;
         }
-        self.rest = digits.trim_start_matches(is_digit);
+        self.rest = past(digits, Class::Digit);
         true
     }
 
@@ -461,21 +523,35 @@ impl<'t> Scanner<'t> {
         ensures on { GoesOn self.old self.new }
         ensures past { Advances self.old self.new }
         ensures unquoted { (opening result ≡ []) × (closing result ≡ []) }
+        ensures exact { result ≡ (literals.past_number (chars self.old.rest.now)).0 }
+        ensures rest { chars self.new.rest.now
+            ≡ (literals.past_number (chars self.old.rest.now)).1 }
     {
-        let first = self.bump();
-        match (first, self.peek()) {
-            (Some('0'), Some('x')) => {
-                self.bump();
-                self.pass(is_hex_digit);
-                return LitKind::Integer;
-            }
-            (Some('0'), Some('o' | 'b')) => {
-                self.bump();
-                self.pass(is_digit);
-                return LitKind::Integer;
-            }
-            _ => self.pass(is_digit),
+        let is_hex = begins_with(self.rest, "0x");
+        let is_other = begins_with(self.rest, "0o") || begins_with(self.rest, "0b");
+        self.bump();
+        if is_hex {
+            self.bump();
+            self.pass(Class::HexDigit);
+            LitKind::Integer
+        } else if is_other {
+            self.bump();
+            self.pass(Class::Digit);
+            LitKind::Integer
+        } else {
+            self.pass(Class::Digit);
+            self.decimal()
         }
+    }
+
+    // Passes the fraction and the exponent of a number in base ten.
+    fn decimal(&mut self) -> LitKind
+        ensures on { GoesOn self.old self.new }
+        ensures unquoted { (opening result ≡ []) × (closing result ≡ []) }
+        ensures exact { result ≡ (literals.past_decimal (chars self.old.rest.now)).0 }
+        ensures rest { chars self.new.rest.now
+            ≡ (literals.past_decimal (chars self.old.rest.now)).1 }
+    {
         let has_fraction = self.fraction();
         let has_exponent = self.exponent();
         if has_fraction || has_exponent {
@@ -493,6 +569,8 @@ impl<'t> Scanner<'t> {
         ensures reads { IfOk result (λ l.
             self.old.rest.now ≡ lexeme_text l ++ self.new.rest.now) }
         ensures within { IfErr result (λ fault. fault.offset ≤ self.old.total) }
+        ensures exact { Gives (literals.read_number self.old.total (chars self.old.rest.now))
+            result (chars self.new.rest.now) }
     {
         let text = self.rest;
         let kind = self.digits();
@@ -501,16 +579,20 @@ impl<'t> Scanner<'t> {
     }
 
     // A punct is joint where the next one begins right here. The `/` of a comment is none.
-    fn spacing(&self) -> Spacing {
-        match self.peek() {
-            Some('/') if self.is_at_comment() => Spacing::Alone,
-            Some(char) if is_punct(char) => Spacing::Joint,
-            _ => Spacing::Alone,
+    fn spacing(&self) -> Spacing
+        ensures { result ≡ division.spacing_before (chars self.now.rest.now) }
+    {
+        if begins(self.rest, Class::Punct) && !self.is_at_comment() {
+            Spacing::Joint
+        } else {
+            Spacing::Alone
         }
     }
 
-    fn is_at_comment(&self) -> bool {
-        self.rest.starts_with("//") || self.rest.starts_with("/*")
+    fn is_at_comment(&self) -> bool
+        ensures { result ≡ division.begins_comment (chars self.now.rest.now) }
+    {
+        begins_with(self.rest, "//") || begins_with(self.rest, "/*")
     }
 
     // Passes a punct, or one side of a group. Another character is a fault.
@@ -521,6 +603,8 @@ impl<'t> Scanner<'t> {
         ensures reads { IfOk result (λ l.
             self.old.rest.now ≡ lexeme_text l ++ self.new.rest.now) }
         ensures within { IfErr result (λ fault. fault.offset ≤ self.old.total) }
+        ensures exact { Gives (division.read_sign self.old.total (chars self.old.rest.now))
+            result (chars self.new.rest.now) }
     {
         let start = self.offset();
         match self.bump() {
@@ -530,7 +614,7 @@ impl<'t> Scanner<'t> {
             Some(')') => Ok(Lexeme::Close(DelimiterKind::Parenthesis)),
             Some(']') => Ok(Lexeme::Close(DelimiterKind::Bracket)),
             Some('}') => Ok(Lexeme::Close(DelimiterKind::Brace)),
-            Some(char) if is_punct(char) => Ok(Lexeme::Punct {
+            Some(char) if Class::Punct.has(char) => Ok(Lexeme::Punct {
                 char,
                 spacing: self.spacing(),
             }),
@@ -546,12 +630,13 @@ impl<'t> Scanner<'t> {
         ensures reads { Begins char self.old.rest.now
             → IfOk result (λ l. self.old.rest.now ≡ lexeme_text l ++ self.new.rest.now) }
         ensures within { IfErr result (λ fault. fault.offset ≤ self.old.total) }
+        ensures exact { (rest : List ℕ) → chars self.old.rest.now ≡ char ∷ rest
+            → Gives (division.read_shape self.old.total (chars self.old.rest.now))
+            result (chars self.new.rest.now) }
     {
-        if char == 'r' && self.is_at_raw() {
-            self.raw_identifier()
-        } else if starts_identifier(char) {
-            self.identifier()
-        } else if char.is_ascii_digit() {
+        if Class::IdentStart.has(char) {
+            self.any_identifier()
+        } else if Class::Decimal.has(char) {
             self.number()
         } else if char == '"' {
             self.string('"', LitKind::Str)
@@ -580,6 +665,9 @@ impl<'t> Scanner<'t> {
         ensures spelled { IfOk result (λ token. IfSome token (λ t.
             slice_range self.old.text.now t.span.start t.span.end ≡ item_text (token_item t))) }
         ensures within { IfErr result (λ fault. fault.offset ≤ self.old.total) }
+        ensures exact { division.IsNext self.old.file self.old.total
+            (division.next_token self.old.total (chars self.old.rest.now))
+            result (chars self.new.rest.now) }
     {
         self.trivia()?;
         let start = self.offset();

@@ -11,3 +11,5 @@ mod rounds;
 mod rows;
 #[cfg(test)]
 mod trees;
+#[cfg(test)]
+mod walks;

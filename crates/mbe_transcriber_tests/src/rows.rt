@@ -22,8 +22,8 @@ pub struct Row {
     pub reported: &'static str,
 }
 
-// The ops of a template. A template of these tests has no fault.
-fn template_of<A: Allocator + Copy>(
+/// The ops of a template. A template of these tests has no fault.
+pub fn template_of<A: Allocator + Copy>(
     alloc: A,
     trees: &TopSubtree<A>,
 ) -> Result<MetaTemplate<A>, AllocError> {

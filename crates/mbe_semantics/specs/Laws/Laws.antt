@@ -174,22 +174,6 @@ RoundsHaveValues = (env : Environment) (path : Path) (body : Ops) (repeat : Repe
     kept_rounds repeat env path body ≡ finite n → i < n → IsUsed name (uses_of body) → followed env path name ≡ Some w →
     (v : Value) × (followed env (level i n path) name ≡ Some v)
 
--- ---- iteration
-
--- the ops as a list
-abbrev pub ops_of : Ops → List Op
-ops_of no_ops = []
-ops_of (op o os) = o ∷ ops_of os
-
--- a list of ops
-abbrev pub ops_from : List Op → Ops
-ops_from [] = no_ops
-ops_from (o ∷ os) = op o (ops_from os)
-
--- the ops one by one are the ops, each once and in order
-abbrev pub EachOpOnce : Type 0
-EachOpOnce = (os : Ops) → ops_from (ops_of os) ≡ os
-
 -- ---- hygiene
 
 -- it is one of the spans

@@ -17,6 +17,7 @@ use crate::transcriber::fault::{FaultKind, WritingFault};
 use mbe_log::bindings::{Binding, Bindings};
 use mbe_log::fragment::Fragment;
 use mbe_ops::ops::{ConcatMetaVarExprElem, Op};
+use mbe_ops::walk::{OpDelimited, OpDelimitedIter};
 use mbe_semantics::kinds::{MetaVarKind, RepeatKind};
 use mbe_semantics::rounds::Level;
 use mbe_tt::span::Span;
@@ -233,8 +234,11 @@ fn shortest<A: Allocator>(
         (uses_of (ops_of ops.now))) }
 {
     let mut least = None;
-    for op in ops {
-        least = shorter(least, shortest_of_op(bindings, path, op));
+    for stop in OpDelimitedIter::new(ops) {
+        match stop {
+            OpDelimited::Op(op) => least = shorter(least, shortest_of_op(bindings, path, op)),
+            OpDelimited::Open(_) | OpDelimited::Close(_) => {}
+        }
     }
     least
 }

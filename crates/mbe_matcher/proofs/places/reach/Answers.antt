@@ -29,7 +29,7 @@ loop-source-init g c =
     let s = c.new-source.result in
     let pat = template_of c.args.pattern.now in
     let p = c.in_ok-position.position in
-    let one = c.in_ok-push.ensures.items ∙ ap (λ l. l ++ p ∷ []) c.new-todo.ensures.items in
+    let one = c.in_ok-push.ensures.ok ∙ ap (λ l. l ++ p ∷ []) c.new-todo.ensures.items in
     let all : c.in_ok-dots.dots ≡ dots pat =
     subst (λ r. IfSome r (λ n. n ≡ dots (ops_of c.deref.result.now))) c.in_ok-dots.ensures.ok_part c.dots_of.ensures ∙ ap (λ l. dots (ops_of l)) c.deref.ensures.value in
     record {
@@ -42,8 +42,8 @@ loop-source-init g c =
       report = c.in_ok-state.ensures.report c.at_start.new.log;
     }
 
-pub settle-requires-clause-stack : goal.settle-requires-clause-stack
-settle-requires-clause-stack g c =
+pub settle-requires : goal.settle-requires
+settle-requires g c =
     let h = g.G.FragmentGrammar.grammar c.args.grammar.now in
     let s = c.loop-source.source in
     let i = input_of h (trees s.whole) in
@@ -52,7 +52,8 @@ settle-requires-clause-stack g c =
     let w = lawful_input h (trees s.whole) (g.met.G.FragmentGrammar.lawful c.args.grammar.now) in
     let inv = c.loop-source.invariant in
     let come = inv.comes.2 w c.requires in
-    stack_of i pat len w c.requires s.place (length c.loop-source.state.counts.marks.items) c.loop-source.log c.loop-source.state.outers.items c.loop-source.todo.items inv.comes.0 (sym inv.size) come inv.comes.1
+    let stack = stack_of i pat len w c.requires s.place (length c.loop-source.state.counts.marks.items) c.loop-source.log c.loop-source.state.outers.items c.loop-source.todo.items inv.comes.0 (sym inv.size) come inv.comes.1 in
+    (omega arith, (omega arith, (stack, inv.blank)))
 
 pub returns-in-Some-clause-verdict : goal.returns-in-Some-clause-verdict
 returns-in-Some-clause-verdict g c =
@@ -70,8 +71,8 @@ returns-in-Some-clause-verdict g c =
     let hs = c.settle.new.settled.ends.items in
     let log = c.settle.new.log in
     let outers = c.settle.new.state.outers.items in
-    let waits = c.deref-in-loop-source.ensures.value in
-    let ends = c.deref-in-loop-source-2.ensures.value in
+    let waits = c.deref-in-loop-source.ensures in
+    let ends = c.deref-in-loop-source-2.ensures in
     let v = verdict_in c.in-Some.stop in
     let e : Some v ≡ stop_at s.place len ws hs =
     c.in-Some.ensures.stop ∙ ap (λ l. stop_at s.place len l c.deref-in-loop-source-2.result.now) waits ∙ ap (stop_at s.place len ws) ends in
@@ -93,8 +94,8 @@ returns-in-Some-clause-unmatched g c =
     let hs = c.settle.new.settled.ends.items in
     let log = c.settle.new.log in
     let outers = c.settle.new.state.outers.items in
-    let waits = c.deref-in-loop-source.ensures.value in
-    let ends = c.deref-in-loop-source-2.ensures.value in
+    let waits = c.deref-in-loop-source.ensures in
+    let ends = c.deref-in-loop-source-2.ensures in
     let v = verdict_in c.in-Some.stop in
     let e : Some v ≡ stop_at s.place len ws hs =
     c.in-Some.ensures.stop ∙ ap (λ l. stop_at s.place len l c.deref-in-loop-source-2.result.now) waits ∙ ap (stop_at s.place len ws) ends in
@@ -118,8 +119,8 @@ returns-in-Some-clause-binds g c =
     let hs = c.settle.new.settled.ends.items in
     let log = c.settle.new.log in
     let outers = c.settle.new.state.outers.items in
-    let waits = c.deref-in-loop-source.ensures.value in
-    let ends = c.deref-in-loop-source-2.ensures.value in
+    let waits = c.deref-in-loop-source.ensures in
+    let ends = c.deref-in-loop-source-2.ensures in
     let v = verdict_in c.in-Some.stop in
     let e : Some v ≡ stop_at s.place len ws hs =
     c.in-Some.ensures.stop ∙ ap (λ l. stop_at s.place len l c.deref-in-loop-source-2.result.now) waits ∙ ap (stop_at s.place len ws) ends in
@@ -143,8 +144,8 @@ returns-in-Some-clause-entries g c =
     let hs = c.settle.new.settled.ends.items in
     let log = c.settle.new.log in
     let outers = c.settle.new.state.outers.items in
-    let waits = c.deref-in-loop-source.ensures.value in
-    let ends = c.deref-in-loop-source-2.ensures.value in
+    let waits = c.deref-in-loop-source.ensures in
+    let ends = c.deref-in-loop-source-2.ensures in
     let v = verdict_in c.in-Some.stop in
     let e : Some v ≡ stop_at s.place len ws hs =
     c.in-Some.ensures.stop ∙ ap (λ l. stop_at s.place len l c.deref-in-loop-source-2.result.now) waits ∙ ap (stop_at s.place len ws) ends in
@@ -155,8 +156,8 @@ returns-in-Some-clause-entries g c =
 pub returns-in-Some-clause-kept : goal.returns-in-Some-clause-kept
 returns-in-Some-clause-kept g c = kept-on c.args.log.now c.loop-source.log c.settle.new.log c.loop-source.invariant.kept c.in_ok-settle.ensures.kept.log
 
-pub index-requires : goal.index-requires
-index-requires g c =
+pub bounds-deref-0 : goal.bounds-deref-0
+bounds-deref-0 g c =
     let h = g.G.FragmentGrammar.grammar c.args.grammar.now in
     let s = c.loop-source.source in
     let i = input_of h (trees s.whole) in
@@ -171,12 +172,12 @@ index-requires g c =
     let hs = c.settle.new.settled.ends.items in
     let log = c.settle.new.log in
     let outers = c.settle.new.state.outers.items in
-    let waits = c.deref-in-loop-source.ensures.value in
-    let ends = c.deref-in-loop-source-2.ensures.value in
+    let waits = c.deref-in-loop-source.ensures in
+    let ends = c.deref-in-loop-source-2.ensures in
     let e : None ≡ stop_at s.place len ws hs =
     c.in_default.ensures.stop ∙ ap (λ l. stop_at s.place len l c.deref-in-loop-source-2.result.now) waits ∙ ap (stop_at s.place len ws) ends in
     let n = next h pat (trees s.whole) w c.requires s.place inv.comes.0 come s.within log outers ws hs st e in
-    let some : length ws ≡ length (n.first ∷ n.rest) = ap length n.is in
+    let some : length c.deref-in-loop-source-3.result.now ≡ length (n.first ∷ n.rest) = ap length (c.deref-in-loop-source-3.ensures ∙ n.is) in
     omega (arith, some)
 
 pub after_step-requires-clause-fits : goal.after_step-requires-clause-fits
@@ -195,12 +196,12 @@ after_step-requires-clause-fits g c =
     let hs = c.settle.new.settled.ends.items in
     let log = c.settle.new.log in
     let outers = c.settle.new.state.outers.items in
-    let waits = c.deref-in-loop-source.ensures.value in
-    let ends = c.deref-in-loop-source-2.ensures.value in
+    let waits = c.deref-in-loop-source.ensures in
+    let ends = c.deref-in-loop-source-2.ensures in
     let e : None ≡ stop_at s.place len ws hs =
     c.in_default.ensures.stop ∙ ap (λ l. stop_at s.place len l c.deref-in-loop-source-2.result.now) waits ∙ ap (stop_at s.place len ws) ends in
     let n = next h pat (trees s.whole) w c.requires s.place inv.comes.0 come s.within log outers ws hs st e in
-    let first : c.index.result.now ≡ n.first = c.index.ensures ∙ ap (λ l. get_or l 0 c.index.result.now) n.is in
+    let first : c.index-deref-0.result ≡ n.first = c.index-deref-0.is ∙ ap (λ l. get_or l 0 c.index-deref-0.result) (c.deref-in-loop-source-3.ensures ∙ n.is) in
     let wide = ap (λ (x : Waiting g.row.A.Denot). x.width) first in
     let fits = n.fits in
     omega (arith, wide, fits)
@@ -221,12 +222,12 @@ after_step-requires-clause-left g c =
     let hs = c.settle.new.settled.ends.items in
     let log = c.settle.new.log in
     let outers = c.settle.new.state.outers.items in
-    let waits = c.deref-in-loop-source.ensures.value in
-    let ends = c.deref-in-loop-source-2.ensures.value in
+    let waits = c.deref-in-loop-source.ensures in
+    let ends = c.deref-in-loop-source-2.ensures in
     let e : None ≡ stop_at s.place len ws hs =
     c.in_default.ensures.stop ∙ ap (λ l. stop_at s.place len l c.deref-in-loop-source-2.result.now) waits ∙ ap (stop_at s.place len ws) ends in
     let n = next h pat (trees s.whole) w c.requires s.place inv.comes.0 come s.within log outers ws hs st e in
-    let first : c.index.result.now ≡ n.first = c.index.ensures ∙ ap (λ l. get_or l 0 c.index.result.now) n.is in
+    let first : c.index-deref-0.result ≡ n.first = c.index-deref-0.is ∙ ap (λ l. get_or l 0 c.index-deref-0.result) (c.deref-in-loop-source-3.ensures ∙ n.is) in
     subst (λ (x : Waiting g.row.A.Denot). IsLeft (rest_at (trees s.whole) s.place) x.width x.beyond) (sym first) n.left
 
 pub loop-source-smaller : goal.loop-source-smaller
@@ -245,12 +246,12 @@ loop-source-smaller g c =
     let hs = c.settle.new.settled.ends.items in
     let log = c.settle.new.log in
     let outers = c.settle.new.state.outers.items in
-    let waits = c.deref-in-loop-source.ensures.value in
-    let ends = c.deref-in-loop-source-2.ensures.value in
+    let waits = c.deref-in-loop-source.ensures in
+    let ends = c.deref-in-loop-source-2.ensures in
     let e : None ≡ stop_at s.place len ws hs =
     c.in_default.ensures.stop ∙ ap (λ l. stop_at s.place len l c.deref-in-loop-source-2.result.now) waits ∙ ap (stop_at s.place len ws) ends in
     let n = next h pat (trees s.whole) w c.requires s.place inv.comes.0 come s.within log outers ws hs st e in
-    let first : c.index.result.now ≡ n.first = c.index.ensures ∙ ap (λ l. get_or l 0 c.index.result.now) n.is in
+    let first : c.index-deref-0.result ≡ n.first = c.index-deref-0.is ∙ ap (λ l. get_or l 0 c.index-deref-0.result) (c.deref-in-loop-source-3.ensures ∙ n.is) in
     let wide = ap (λ (x : Waiting g.row.A.Denot). x.width) first in
     let fits = n.fits in
     let some = n.some in
@@ -274,17 +275,18 @@ loop-source-preserved g c =
     let hs = c.settle.new.settled.ends.items in
     let log = c.settle.new.log in
     let outers = c.settle.new.state.outers.items in
-    let waits = c.deref-in-loop-source.ensures.value in
-    let ends = c.deref-in-loop-source-2.ensures.value in
+    let waits = c.deref-in-loop-source.ensures in
+    let ends = c.deref-in-loop-source-2.ensures in
     let e : None ≡ stop_at s.place len ws hs =
     c.in_default.ensures.stop ∙ ap (λ l. stop_at s.place len l c.deref-in-loop-source-2.result.now) waits ∙ ap (stop_at s.place len ws) ends in
     let n = next h pat (trees s.whole) w c.requires s.place inv.comes.0 come s.within log outers ws hs st e in
-    let first : c.index.result.now ≡ n.first = c.index.ensures ∙ ap (λ l. get_or l 0 c.index.result.now) n.is in
+    let first : c.index-deref-0.result ≡ n.first = c.index-deref-0.is ∙ ap (λ l. get_or l 0 c.index-deref-0.result) (c.deref-in-loop-source-3.ensures ∙ n.is) in
     let wide = ap (λ (x : Waiting g.row.A.Denot). x.width) first in
     let some = n.some in
     let at : c.in_ok-source.source.place ≡ s.place + n.first.width = c.in_ok-source.ensures.place ∙ ap (λ k. s.place + k) wide in
     let new = map after_of (kept_moves i (dots pat) s.place (reverse inv.comes.0)) in
-    let arrived : c.come.new.todo.items ≡ map position_after ws = c.in_ok-come.ensures ∙ ap (λ l. l ++ map position_after ws) c.in_ok-settle.ensures.done in
+    let arrived : c.come.new.todo.items ≡ map position_after ws =
+    c.in_ok-come.ensures ∙ ap (λ l. c.settle.new.todo.items ++ map position_after l) c.deref-in-loop-source-4.ensures ∙ ap (λ l. l ++ map position_after ws) c.in_ok-settle.ensures.done in
     record {
       comes = (
         new,
@@ -293,7 +295,7 @@ loop-source-preserved g c =
             (sym c.in_ok-source.ensures.whole)
             (λ lawful checked.
             let n = next h pat (trees s.whole) lawful checked s.place inv.comes.0 (inv.comes.2 lawful checked) s.within log outers ws hs st e in
-            let first : c.index.result.now ≡ n.first = c.index.ensures ∙ ap (λ l. get_or l 0 c.index.result.now) n.is in
+            let first : c.index-deref-0.result ≡ n.first = c.index-deref-0.is ∙ ap (λ l. get_or l 0 c.index-deref-0.result) (c.deref-in-loop-source-3.ensures ∙ n.is) in
             let there : c.in_ok-source.source.place ≡ s.place + n.first.width = c.in_ok-source.ensures.place ∙ ap (λ (x : Waiting g.row.A.Denot). s.place + x.width) first in
             subst (λ k. ComesTo (input_of h (trees s.whole)) pat (flat_len (trees s.whole)) lawful checked k new) (sym there) n.comes_next),
       );

@@ -9,7 +9,7 @@ use Rattle.mbe_matcher.specs.declared.counts.Counts.{Counts}
 use Rattle.mbe_matcher.specs.Counts.{AreCounted, vacancies}
 use Rattle.mbe_matcher.proofs.Counting.{vacancies_most}
 use Rattle.mbe_matcher.proofs.Keeping.{keeps_not, keeps_on}
-use Rattle.mbe_matcher.proofs.Settling.{walked_start, popped_shown, popped_number, walked_drop, walked_take, walked_end, steps_few, few_on, stack_falls, nothing}
+use Rattle.mbe_matcher.proofs.Settling.{walked_start, popped_shown, popped_number, walked_drop, walked_take, walked_end, steps_few, few_on, stack_falls, popped_all}
 use Rattle.mbe_semantics.specs.Bindings.Account.{HasEntriesOf}
 use Rattle.mbe_matcher.proofs.StepLemmas.{has_entries}
 use Rattle.mbe_matcher.proofs.Reporting.{report_keeps, ends_have_entries}
@@ -149,7 +149,7 @@ returns-clause-settled g c = λ st.
     let i = input_of (g.G.FragmentGrammar.grammar c.args.grammar.now) (trees s.whole) in
     let inv = c.loop-position.invariant in
     walked_end i s.place (length c.args.state.now.counts.marks.items) c.args.log.now c.loop-position.log c.args.state.now.outers.items c.loop-position.state.outers.items (rest_at (trees s.whole) s.place)
-    c.args.todo.now.items c.loop-position.todo.items inv.walked.0 c.loop-position.settled.waiting.items c.loop-position.settled.ends.items st (nothing c.loop-position.todo.items (omega (arith, c.in_default.ensures.cases.0, c.loop-position.todo.ok.0))) (inv.walked.2 st)
+    c.args.todo.now.items c.loop-position.todo.items inv.walked.0 c.loop-position.settled.waiting.items c.loop-position.settled.ends.items st (popped_all c.loop-position.todo.items c.in_default.ensures.variant.1) (inv.walked.2 st)
 
 pub returns-clause-report : goal.returns-clause-report
 returns-clause-report g c = λ r.
@@ -158,5 +158,5 @@ returns-clause-report g c = λ r.
     let inv = c.loop-position.invariant in
     let st = c.requires.stack in
     let all = walked_end i s.place (length c.args.state.now.counts.marks.items) c.args.log.now c.loop-position.log c.args.state.now.outers.items c.loop-position.state.outers.items (rest_at (trees s.whole) s.place)
-    c.args.todo.now.items c.loop-position.todo.items inv.walked.0 c.loop-position.settled.waiting.items c.loop-position.settled.ends.items st (nothing c.loop-position.todo.items (omega (arith, c.in_default.ensures.cases.0, c.loop-position.todo.ok.0))) (inv.walked.2 st) in
-    c.after_place.ensures c.loop-position.log (rw c.deref.ensures.value (ends_have_entries c.loop-position.log c.loop-position.settled.ends.items _ all.ended)) (inv.report r)
+    c.args.todo.now.items c.loop-position.todo.items inv.walked.0 c.loop-position.settled.waiting.items c.loop-position.settled.ends.items st (popped_all c.loop-position.todo.items c.in_default.ensures.variant.1) (inv.walked.2 st) in
+    c.after_place.ensures c.loop-position.log (rw c.deref.ensures (ends_have_entries c.loop-position.log c.loop-position.settled.ends.items _ all.ended)) (inv.report r)

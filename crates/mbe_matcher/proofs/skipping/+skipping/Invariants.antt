@@ -1,14 +1,17 @@
-use Rattle.std.proofs.Common.{◌+◌, ◌*◌, drop}
+use Rattle.std.proofs.Common.{◌+◌, ◌*◌, ◌≤◌}
 use Rattle.mbe_semantics.specs.Bindings.Account.{HasEntriesOf}
 use Rattle.mbe_ops.specs.Views.{op_of, ops_of}
+use Rattle.mbe_ops.specs.Walk.{stops_left, ops_in}
 use Rattle.mbe_ops.proofs.EqualityLemmas.{op_weight, ops_weight}
+use Rattle.mbe_ops.proofs.WalkLemmas.{stops_weight}
 use Rattle.mbe_matcher.proofs.SkipLemmas.{SkipsUpTo}
 use Rattle.mbe_matcher.proofs.skipping.+skipping.Given as goal
 
-abbrev pub invariant-skip_names-loop-op : goal.invariant-skip_names-loop-op
-invariant-skip_names-loop-op g l = record {
+abbrev pub invariant-skip_names-loop-stop : goal.invariant-skip_names-loop-stop
+invariant-skip_names-loop-stop g l = record {
   entries : HasEntriesOf l.log l.handle;
-  so_far : SkipsUpTo l.fn.log l.log l.fn.handle l.handle (ops_of l.fn.ops) (ops_of (drop l.op-index l.ops));
+  lighter : stops_weight (stops_left l.stop-iterator) ≤ ops_weight (ops_of l.fn.ops);
+  so_far : SkipsUpTo l.fn.log l.log l.fn.handle l.handle (ops_of l.fn.ops) (ops_in (stops_left l.stop-iterator));
 }
 
 abbrev pub decreases-skip_names : goal.decreases-skip_names

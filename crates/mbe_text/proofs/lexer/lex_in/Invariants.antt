@@ -1,4 +1,5 @@
 use Rattle.std.proofs.Common.{◌≡◌, length}
+use Rattle.mbe_text.proofs.DivisionLemmas.{Reaches}
 use Rattle.mbe_text.proofs.Made.{Lexed}
 use Rattle.mbe_text.proofs.lexer.lex_in.Given as goal
 
@@ -8,6 +9,7 @@ invariant-tokens g l = record {
   file : l.scanner.file ≡ l.fn.file;
   text : l.scanner.text.now ≡ l.fn.text;
   lexed : Lexed l.fn.file l.fn.text (length l.scanner.rest.now) l.builder;
+  reached : Reaches l.fn.file l.fn.text l.scanner.rest.now l.builder;
 }
 
 abbrev pub decreases-tokens : goal.decreases-tokens

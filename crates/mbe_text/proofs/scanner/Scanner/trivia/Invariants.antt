@@ -1,9 +1,13 @@
-use Rattle.std.proofs.Common.{length}
+use Rattle.std.proofs.Common.{chars, length}
 use Rattle.mbe_text.specs.Scanning.{GoesOn}
+use Rattle.mbe_text.proofs.BlankLemmas.{Passes}
 use Rattle.mbe_text.proofs.scanner.Scanner.trivia.Given as goal
 
 abbrev pub invariant-parts : goal.invariant-parts
-invariant-parts l = GoesOn l.initial.self l.self
+invariant-parts l = record {
+  on : GoesOn l.initial.self l.self;
+  exact : Passes l.initial.self.total (chars l.initial.self.rest.now) (chars l.self.rest.now);
+}
 
 abbrev pub decreases-parts : goal.decreases-parts
 decreases-parts l = length l.self.rest.now

@@ -1,33 +1,61 @@
-use Rattle.std.proofs.Common.{◌+◌, drop, ap, sym, ◌∙◌, arith}
-use Rattle.std.specs.Prelude.{option_map, filter_map}
+use Rattle.std.proofs.Common.{ap, sym, ◌∙◌, arith}
+use Rattle.std.specs.Prelude.{option_map, filter_map, None}
 use Rattle.mbe_transcriber.specs.Counting.{shortest, shorter, extent_seen}
 use Rattle.mbe_semantics.specs.Syntax.Op.{uses_of, uses_of_op}
 use Rattle.mbe_semantics.specs.Writing.Rounds.{extent_under}
 use Rattle.mbe_ops.specs.Views.{ops_of, op_of}
+use Rattle.mbe_ops.specs.Walk.{stops_left, ops_in}
 use Rattle.mbe_log.specs.BindingViews.{bound_by}
-use Rattle.mbe_ops.proofs.EqualityLemmas.{op_no_heavier}
+use Rattle.mbe_ops.proofs.EqualityLemmas.{ops_weight}
+use Rattle.mbe_ops.proofs.WalkLemmas.{op_first, no_op_first, ops_at_first}
 use Rattle.mbe_ops.proofs.OpViews.{view-open}
-use Rattle.mbe_transcriber.proofs.FollowLemmas.{shortest_next, shortest_end, ops_split, ops_over, view-body}
+use Rattle.mbe_transcriber.proofs.FollowLemmas.{shortest_next, shortest_end, view-body}
 use Rattle.mbe_transcriber.proofs.transcriber.following.+counting.Goals as goal
 
 pub shortest-shortest_of_op-requires : goal.shortest-shortest_of_op-requires
 shortest-shortest_of_op-requires g t c κs within =
-    let lighter = op_no_heavier c.args.ops.now c.loop-op.op-index c.op-item.result c.loop-op-test.true c.op-item.is in
-    (omega (arith, c.decreases, lighter), within)
+    let here = op_first c.in-Some.stop c.in-Op.op _ (stops_left c.next.new.self) c.in-Some.ensures.steps c.in-Op.is in
+    let weight = ap ops_weight here in
+    (omega (arith, c.decreases, weight, c.loop-stop.invariant.lighter), within)
 
-pub shortest-loop-op-preserved : goal.shortest-loop-op-preserved
-shortest-loop-op-preserved g t c =
+pub shortest-loop-stop-init : goal.shortest-loop-stop-init
+shortest-loop-stop-init g t c =
     let f = extent_under (bound_by c.args.bindings.now) c.args.path.now in
-    shortest_next f (op_of c.op-item.result) (ops_of (drop (c.loop-op.op-index + 1) c.args.ops.now)) (ops_of c.args.ops.now) _ _ _
-    (c.loop-op.invariant ∙ ap (λ os. shorter (option_map extent_seen c.loop-op.least) (shortest (filter_map f (uses_of os))))
-    (ops_split c.args.ops.now c.loop-op.op-index c.op-item.result c.loop-op-test.true c.op-item.is))
-    c.shortest_of_op.ensures c.shorter-least.ensures
+    let whole = ops_at_first _ _ None (ops_of c.args.ops.now) c.into_iter-stop-iterator.ensures.into_iter_gives c.new-stop-items.ensures in
+    let weight = ap ops_weight whole in
+    record { lighter = omega (arith, weight); least = sym (ap (λ os. shortest (filter_map f (uses_of os))) whole) }
+
+pub shortest-loop-stop-preserved-in-Op : goal.shortest-loop-stop-preserved-in-Op
+shortest-loop-stop-preserved-in-Op g t c =
+    let f = extent_under (bound_by c.args.bindings.now) c.args.path.now in
+    let left = ops_in (stops_left c.next.new.self) in
+    let here = op_first c.in-Some.stop c.in-Op.op _ (stops_left c.next.new.self) c.in-Some.ensures.steps c.in-Op.is in
+    let weight = ap ops_weight here in
+    let before = c.loop-stop in
+    record {
+      lighter = omega (arith, weight, before.invariant.lighter);
+      least = shortest_next f (op_of c.in-Op.op.now) left (ops_of c.args.ops.now) _ _ _
+          (before.invariant.least ∙ ap (λ os. shorter (option_map extent_seen before.least) (shortest (filter_map f (uses_of os)))) here)
+          c.shortest_of_op.ensures c.shorter-least.ensures;
+    }
+
+pub shortest-loop-stop-preserved : goal.shortest-loop-stop-preserved
+shortest-loop-stop-preserved g t c =
+    let f = extent_under (bound_by c.args.bindings.now) c.args.path.now in
+    let here = no_op_first c.in-Some.stop _ (stops_left c.next.new.self) c.in-Some.ensures.steps c.in-Open.is in
+    let weight = ap ops_weight here in
+    let before = c.loop-stop in
+    record {
+      lighter = omega (arith, weight, before.invariant.lighter);
+      least = before.invariant.least ∙ ap (λ os. shorter (option_map extent_seen before.least) (shortest (filter_map f (uses_of os)))) here;
+    }
 
 pub shortest-returns : goal.shortest-returns
 shortest-returns g t c =
     let f = extent_under (bound_by c.args.bindings.now) c.args.path.now in
-    shortest_end f (ops_of c.args.ops.now) _ (c.loop-op.invariant ∙ ap (λ os. shorter (option_map extent_seen c.loop-op.least) (shortest (filter_map f (uses_of os))))
-    (ops_over c.args.ops.now c.loop-op.op-index c.loop-op-test.false))
+    let none_left = ap ops_in c.in-None.ensures.steps.0 in
+    shortest_end f (ops_of c.args.ops.now) _
+    (c.loop-stop.invariant.least ∙ ap (λ os. shorter (option_map extent_seen c.loop-stop.least) (shortest (filter_map f (uses_of os)))) none_left)
 
 pub shortest_of_op-returns-in-Subtree : goal.shortest_of_op-returns-in-Subtree
 shortest_of_op-returns-in-Subtree g t c =

@@ -1,5 +1,5 @@
 // Tokens of a grammar's text.
-use crate::reading::fault::{Place, Reason, RuleFault};
+use crate::fault::{Place, Reason, RuleFault};
 use mbe_tt::tt::DelimiterKind;
 
 /// A token of a grammar's text.

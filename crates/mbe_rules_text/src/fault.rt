@@ -81,7 +81,7 @@ impl Display for RuleFault<'_> {
 impl Error for RuleFault<'_> {}
 
 impl From<AllocError> for RuleFault<'_> {
-    ghost use Rattle.mbe_rules.specs.declared.reading.fault.RuleFault.TheVariants.{OutOfMemory};
+    ghost use Rattle.mbe_rules_text.specs.declared.fault.RuleFault.TheVariants.{OutOfMemory};
 
     ghost from_gives = { λ _ fault. fault ≡ OutOfMemory };
 

@@ -1,10 +1,10 @@
 // A grammar's text as a table of rules.
 ghost use Rattle.std.specs.Prelude.{◌≡◌};
 
-use crate::node::{Keyword, Node, Terminal};
-use crate::reading::fault::{Reason, RuleFault};
-use crate::reading::scanner::{Spot, Token};
-use crate::table::{RuleTable, Starts};
+use crate::fault::{Reason, RuleFault};
+use crate::scanner::{Spot, Token};
+use mbe_rules::node::{Keyword, Node, Terminal};
+use mbe_rules::table::{RuleTable, Starts};
 use mbe_tt::span::Edition;
 use mbe_tt::tt::DelimiterKind;
 use std::alloc::{AllocError, Allocator, Global};

@@ -1,4 +1,0 @@
-// Grammars that are read from texts.
-pub mod fault;
-pub mod rules;
-mod scanner;

@@ -1,0 +1,33 @@
+use Rattle.std.proofs.Common.{sym, ap, ◌∙◌, rules, chars, ℕ, Err}
+use Rattle.std.proofs.lemmas.Result.{err_from_is_err_and}
+use Rattle.mbe_text.specs.Characters.{offset}
+use Rattle.mbe_text.proofs.BlankLemmas.{passes_line, passes_block, passes_last, passes_fault}
+use Rattle.mbe_text.proofs.scanner.Scanner.trivia.Goals as goal
+
+pub parts-preserved-then-begins_with : goal.parts-preserved-then-begins_with
+parts-preserved-then-begins_with c = record {
+  on = search rules;
+  exact = passes_line _ _ _ _ c.parts.invariant.exact (sym c.begins.ensures.exact ∙ c.if-begins.false)
+      (sym c.begins_with.ensures.exact ∙ c.if-begins_with.true) c.line_comment.ensures.exact;
+}
+
+pub parts-preserved : goal.parts-preserved
+parts-preserved c = record {
+  on = search rules;
+  exact = passes_block _ _ _ _ c.parts.invariant.exact (sym c.begins.ensures.exact ∙ c.if-begins.false)
+      (sym c.begins_with.ensures.exact ∙ c.if-begins_with.false) (sym c.begins_with-else-begins_with.ensures.exact ∙ c.if-begins_with-2.true)
+      c.in_ok-block_comment.ensures.exact;
+}
+
+pub returns-in_err-block_comment-clause-exact : goal.returns-in_err-block_comment-clause-exact
+returns-in_err-block_comment-clause-exact c =
+    let p = err_from_is_err_and c.from_residual.result c.from_residual.ensures.1 in
+    let fault = c.in_err-block_comment.ensures.exact in
+    rw (p.1, p.2) (passes_fault _ _ _ c.parts.invariant.exact (sym c.begins.ensures.exact ∙ c.if-begins.false)
+    (sym c.begins_with.ensures.exact ∙ c.if-begins_with.false) (sym c.begins_with-else-begins_with.ensures.exact ∙ c.if-begins_with-2.true) fault.0
+    ∙ ap Err (ap (λ (n : ℕ). offset n (chars c.parts.self.rest.now)) (sym c.parts.invariant.on.1) ∙ sym fault.1))
+
+pub returns-else-begins_with-2-clause-exact : goal.returns-else-begins_with-2-clause-exact
+returns-else-begins_with-2-clause-exact c =
+    passes_last _ _ _ c.parts.invariant.exact (sym c.begins.ensures.exact ∙ c.if-begins.false)
+    (sym c.begins_with.ensures.exact ∙ c.if-begins_with.false) (sym c.begins_with-else-begins_with.ensures.exact ∙ c.if-begins_with-2.false)

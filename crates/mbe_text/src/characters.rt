@@ -1,0 +1,164 @@
+// The characters of a text: kinds of them, and what is left of a text after some.
+ghost use Rattle.std.specs.Prelude.{◌≡◌, ◌++◌, [], ◌∷◌, ◌+◌, ◌<◌, ◌≤◌, length, chars, encode_utf8, MatchOption, IfSome, IsTrue, true, false, drop, Some, None};
+ghost use Rattle.mbe_text.specs.Characters as spec;
+ghost use Rattle.mbe_text.specs.declared.characters.Class.TheVariants.{Punct};
+ghost use Rattle.mbe_text.specs.Ends.{IsEnd, IsRest};
+
+use unicode_ident::{is_xid_continue, is_xid_start};
+
+/// A kind of characters.
+#[derive(Clone, Copy)]
+pub(crate) enum Class {
+    Blank,
+    // of a line
+    InLine,
+    IdentStart,
+    IdentContinue,
+    Decimal,
+    // decimal, or `_`
+    Digit,
+    HexDigit,
+    Exponent,
+    Sign,
+    Punct,
+    Hash,
+}
+
+impl Class {
+    // Whether the character is of this kind.
+    pub(crate) fn has(self, char: char) -> bool
+        ensures { result ≡ spec.has self char }
+    {
+        match self {
+            Class::Blank => matches!(char, ' ' | '\t' | '\r' | '\n'),
+            Class::InLine => char != '\n',
+            Class::IdentStart => is_xid_start(char) || char == '_',
+            Class::IdentContinue => is_xid_continue(char),
+            Class::Decimal => char.is_ascii_digit(),
+            Class::Digit => char.is_ascii_digit() || char == '_',
+            Class::HexDigit => char.is_ascii_hexdigit() || char == '_',
+            Class::Exponent => matches!(char, 'e' | 'E'),
+            Class::Sign => matches!(char, '+' | '-'),
+            Class::Punct => is_punct(char),
+            Class::Hash => char == '#',
+        }
+    }
+}
+
+fn is_punct(char: char) -> bool
+    ensures { result ≡ spec.has Punct char }
+{
+    matches!(
+        char,
+        '=' | '<'
+            | '>'
+            | '!'
+            | '&'
+            | '|'
+            | '~'
+            | '@'
+            | '.'
+            | ','
+            | ';'
+            | ':'
+            | '#'
+            | '$'
+            | '?'
+            | '+'
+            | '-'
+            | '*'
+            | '/'
+            | '%'
+            | '^'
+    )
+}
+
+// The first character, and what is left after it.
+pub(crate) fn split_first(text: &str) -> Option<(char, &str)>
+    ensures chars { MatchOption result (chars text.now ≡ [])
+        (λ p. chars text.now ≡ p.0 ∷ chars p.1.now) }
+    ensures bytes { MatchOption result (text.now ≡ [])
+        (λ p. text.now ≡ encode_utf8 p.0 ++ p.1.now) }
+    ensures shorter { IfSome result (λ p. length p.1.now < length text.now) }
+    ensures end { IfSome result (λ p. IsRest text.now p.1.now) }
+{
+    let mut chars = text.chars();
+    let char = chars.next()?;
+    Some((char, chars.as_str()))
+}
+
+// Whether the first character is of this kind.
+pub(crate) fn begins(text: &str, class: Class) -> bool
+    ensures exact { result ≡ spec.begins class (chars text.now) }
+    ensures some { IsTrue result → 0 < length text.now }
+{
+    match split_first(text) {
+        Some((char, _)) => class.has(char),
+        None => false,
+    }
+}
+
+// What is left after one character of this kind, where it comes first.
+pub(crate) fn past_one(text: &str, class: Class) -> Option<&str>
+    ensures exact { MatchOption result (spec.past_one class (chars text.now) ≡ None)
+        (λ rest. spec.past_one class (chars text.now) ≡ Some (chars rest.now)) }
+    ensures end { IfSome result (λ rest. IsEnd text.now rest.now) }
+{
+    match split_first(text) {
+        Some((char, rest)) if class.has(char) => Some(rest),
+        _ => None,
+    }
+}
+
+// What is left after all characters of this kind that come first.
+pub(crate) fn past(text: &str, class: Class) -> &str
+    ensures exact { chars result.now ≡ spec.past class (chars text.now) }
+    ensures end { IsEnd text.now result.now }
+{
+    let mut rest = text;
+    'chars: loop {
+        match split_first(rest) {
+            Some((char, after)) if class.has(char) => rest = after,
+            _ => return rest,
+        }
+    }
+}
+
+// Whether the first characters are those of this front.
+pub(crate) fn begins_with(text: &str, front: &str) -> bool
+    requires { IsTrue (spec.are_ascii front.now) }
+    ensures exact { result ≡ spec.begins_with front.now (chars text.now) }
+    ensures some { IsTrue result → length front.now ≤ length text.now }
+{
+    text.starts_with(front)
+}
+
+// What is left after this front, where it comes first.
+pub(crate) fn past_front<'t>(text: &'t str, front: &str) -> Option<&'t str>
+    requires { IsTrue (spec.are_ascii front.now) }
+    ensures exact { MatchOption result (spec.begins_with front.now (chars text.now) ≡ false)
+        (λ rest. (spec.begins_with front.now (chars text.now) ≡ true)
+        × (chars rest.now ≡ drop (length front.now) (chars text.now))) }
+    ensures whole { IfSome result (λ rest. text.now ≡ front.now ++ rest.now) }
+{
+    text.strip_prefix(front)
+}
+
+// What a text has before this rest of it.
+pub(crate) fn before<'t>(text: &'t str, rest: &str) -> &'t str
+    requires { length rest.now ≤ length text.now }
+    ensures whole { IsRest text.now rest.now → text.now ≡ result.now ++ rest.now }
+    ensures exact { IsRest text.now rest.now
+        → result.now ≡ spec.bytes_before (chars text.now) (chars rest.now) }
+{
+    text.get(..text.len() - rest.len()).unwrap_or("")
+}
+
+// The byte at which this rest of a text begins, where the text has so many.
+pub(crate) fn offset(total: u32, rest: &str) -> u32
+    requires { length rest.now ≤ total }
+    ensures bytes { result + length rest.now ≡ total }
+    ensures exact { result ≡ spec.offset total (chars rest.now) }
+{
+    total - rest.len() as u32
+}
