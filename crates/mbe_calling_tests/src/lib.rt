@@ -22,6 +22,8 @@ mod rustc;
 #[cfg(test)]
 mod small;
 #[cfg(test)]
+mod tables;
+#[cfg(test)]
 mod texts;
 #[cfg(test)]
 mod walks;

@@ -22,6 +22,7 @@ use Rattle.mbe_matcher.specs.declared.position.Outer.{Outer}
 use Rattle.mbe_matcher.specs.declared.position.Position.{Position}
 use Rattle.mbe_matcher.specs.declared.position.Waiting.{Waiting}
 use Rattle.mbe_matcher.specs.Positions.{Each, IsLeft, Shows, LeadsTo, Holds}
+use Rattle.mbe_matcher.specs.Failures.{no_notes, FollowsWith, follows_start}
 use Rattle.mbe_matcher.specs.Matched.{IsStack, IsAtStart, AreSettled, clashes_with, is_clash, width_first, position_after, ends_as, stuck_at, stop_at, verdict_in, reading_in, Binds}
 
 -- ---- the positions that go on
@@ -165,6 +166,8 @@ module _ {A : Type 0} (g : Grammar) (pattern : Ops) (argument : Forest) (lawful 
     pub is : ws ≡ first ∷ rest
     pub left : IsLeft (rest_at argument q) first.width first.beyond
     pub comes_next : ComesTo (input_of g argument) pattern (flat_len argument) lawful checked (q + first.width) (map after_of (kept_moves (input_of g argument) (dots pattern) q (reverse spots)))
+    pub goes_over : first_width (kept_moves (input_of g argument) (dots pattern) q (reverse spots)) ≡ Some first.width
+    pub agrees : clash (kept_moves (input_of g argument) (dots pattern) q (reverse spots)) ≡ false
     pub some : 0 < first.width
     pub fits : q + first.width ≤ flat_len argument
 
@@ -172,14 +175,17 @@ module _ {A : Type 0} (g : Grammar) (pattern : Ops) (argument : Forest) (lawful 
   next_of_list [] e d f = cc
   next_of_list (x ∷ xs) e d f =
       let goes = kept_moves (input_of g argument) (dots pattern) q (reverse spots) in
-      let r = turned_next (input_of g argument) pattern (flat_len argument) lawful checked q spots comes x.width (map after_of goes)
-      (same_width log outers (rest_at argument q) ws goes st.goes_on ∙ ap width_first e) (same_clash log outers (rest_at argument q) ws goes st.goes_on ∙ d) refl in
+      let over = same_width log outers (rest_at argument q) ws goes st.goes_on ∙ ap width_first e in
+      let agree = same_clash log outers (rest_at argument q) ws goes st.goes_on ∙ d in
+      let r = turned_next (input_of g argument) pattern (flat_len argument) lawful checked q spots comes x.width (map after_of goes) over agree refl in
       record {
         first = x;
         rest = xs;
         is = e;
         left = first_left log outers (rest_at argument q) x xs goes (subst (λ l. Each (LeadsTo log outers (rest_at argument q)) l goes) e st.goes_on);
         comes_next = r.0;
+        goes_over = over;
+        agrees = agree;
         some = r.1;
         fits = r.2;
       }
@@ -204,10 +210,12 @@ stop_has_entries g pattern argument log (told.Stuck p) b = tt
 pub come_first : {A : Type 0} (i : Input) (pattern : Ops) (len : ℕ) (log : Log) (outers : List (Outer A)) (todo : List (Position A)) (q : ℕ) (p : Position A) → q ≡ 0 → todo ≡ p ∷ [] →
     IsAtStart log pattern p →
     (spots : List Outline) × Each (Shows log outers) todo spots × ((lawful : Lawful i len) (checked : Checked pattern) → ComesTo i pattern len lawful checked q spots)
+    × FollowsWith i pattern q spots no_notes
 come_first i pattern len log outers todo q p z e start = (
   outline pattern no_account [] ∷ [],
   subst (λ l. Each (Shows log outers) l (outline pattern no_account [] ∷ [])) (sym e) (start outers, tt),
   λ lawful checked. subst (λ k. ComesTo i pattern len lawful checked k (outline pattern no_account [] ∷ [])) (sym z) (turned_start i pattern len lawful checked (outline pattern no_account []) refl),
+  subst (λ k. FollowsWith i pattern k (outline pattern no_account [] ∷ []) no_notes) (sym z) follows_start,
 )
 
 abbrev pub stack_of : {A : Type 0} (i : Input) (pattern : Ops) (len : ℕ) (lawful : Lawful i len) (checked : Checked pattern) (q size : ℕ) (log : Log) (outers : List (Outer A)) (todo : List (Position A))

@@ -1,5 +1,5 @@
 -- The loop over the stack of positions at a place.
-use Rattle.std.proofs.Common.{ℕ, ◌+◌, ◌≡◌, ◌<◌, ◌≤◌, true, false, Option, Some, None, option_to_list, List, [], ◌∷◌, ◌++◌, length, reverse, append_assoc, refl, sym, ap, subst, ◌∙◌, arith, length-append}
+use Rattle.std.proofs.Common.{ℕ, Bool, ◌+◌, ◌≡◌, ◌<◌, ◌≤◌, true, false, Option, Some, None, option_to_list, List, [], ◌∷◌, ◌++◌, length, reverse, append_assoc, refl, sym, ap, subst, ◌∙◌, arith, length-append}
 use Rattle.std.specs.Prelude.{nat_lt}
 use Rattle.std.specs.List.{filter_map, cons_option}
 use Rattle.std.proofs.lemmas.Bool.{ltb-true, ltb-false}
@@ -19,6 +19,11 @@ use Rattle.mbe_matcher.specs.declared.position.Steps.{Steps}
 use Rattle.mbe_matcher.specs.declared.position.Waiting.{Waiting}
 use Rattle.mbe_matcher.specs.Positions.{Each, Both, Shows, IsPosition, LeadsTo, Holds, AreSteps}
 use Rattle.mbe_matcher.specs.Matched.{IsStack, AreSettled}
+use Rattle.mbe_matcher.specs.declared.report.Report.{Report}
+use Rattle.mbe_matcher.specs.Failures.{Misfit, Notes, misfit, misfit_unless, ops_left, bound_by}
+use Rattle.mbe_matcher.specs.Reports.{IsReportOf}
+use Rattle.mbe_ops.specs.Views.{ops_of}
+use Rattle.mbe_matcher.proofs.Reporting.{notes_keep, shown_ops, shown_bound, is_step, step_same}
 use Rattle.mbe_matcher.proofs.Keeping.{each_weaker, each_append, both_each, shows_keep, leads_keep, holds_keep}
 
 -- ---- lists, member by member
@@ -82,6 +87,12 @@ walked_start i q size log outers here todo ws hs s e f = record {
   ended = subst (λ l. Each (Holds log) l []) (sym f) tt;
 }
 
+pub report_start : {A : Type 0} (i : Input) (q size : ℕ) (log : Log) (outers : List (Outer A)) (here : Forest) (todo : List (Position A)) (ws : List (Waiting A)) (hs : List Handle)
+    (s : IsStack i q size log outers todo) (e : ws ≡ []) (g : hs ≡ []) (f : Forest) (r : Report A) (n : Notes) → IsReportOf log f r [] n →
+    IsReportOf log f r (filter_map (misfit i q) (walked_start i q size log outers here todo ws hs s e g).out) n
+unfolding walked_start
+report_start i q size log outers here todo ws hs s e g f r n is = is
+
 one_step : {X Y : Type 0} (f : X → Option Y) (x : X) → filter_map f (x ∷ []) ≡ option_to_list (f x)
 one_step {Y = Y} f x = at (f x)
   where
@@ -128,6 +139,11 @@ module _ {A : Type 0} (i : Input) (pattern : Ops) (argument : Forest) (q : ℕ) 
     ended = w.ended;
   }
 
+  pub report_drop : (few : nat_lt (times p.number met) 2 ≡ false) (f : Forest) (r : Report A) (n : Notes) → IsReportOf log f r (filter_map (misfit i q) w.out) n →
+      IsReportOf log f r (filter_map (misfit i q) (walked_drop few).out) n
+  unfolding walked_drop
+  report_drop few f r n is = is
+
   -- else its steps are followed
   module _ (new : Log) (after : List (Outer A)) (s : Steps A) (todo' : List (Position A)) (ws' : List (Waiting A)) (hs' : List Handle)
       (gives : (o : Outline) → Shows log outers p o → AreSteps i argument q log new outers after o s)
@@ -169,15 +185,34 @@ module _ {A : Type 0} (i : Input) (pattern : Ops) (argument : Forest) (q : ℕ) 
       ended = ended;
     }
 
+    -- and it is noted where it fails
+    pub report_take : (few : nat_lt (times p.number met) 2 ≡ true) (f : Forest) (r r' : Report A) (n : Notes) (b : Bool) (h : Handle) → b ≡ is_step s → h ≡ p.handle →
+        ((l : Log) (x : Outline) (ms : List Misfit) (m : Notes) → ops_of p.dot.now ≡ ops_left x → Holds l h (bound_by x) → IsReportOf l f r ms m →
+        IsReportOf l f r' (ms ++ option_to_list (misfit_unless b q x)) m) →
+        IsReportOf log f r (filter_map (misfit i q) w.out) n → IsReportOf new f r' (filter_map (misfit i q) (walked_take few).out) n
+    unfolding walked_take
+    report_take few f r r' n b h e same looked is =
+        let ms = filter_map (misfit i q) w.out in
+        let one = one_step (misfit i q) popped.last ∙ ap (λ x. option_to_list (misfit_unless x q popped.last)) (sym (e ∙ step_same i argument q new after popped.last s st.now)) in
+        subst (λ l. IsReportOf new f r' l n) (sym (filter_map-append (misfit i q) w.out (popped.last ∷ []) ∙ ap (λ l. ms ++ l) one))
+        (looked new popped.last ms n (shown_ops log outers p popped.last popped.lasts)
+        (subst (λ x. Holds new x (bound_by popped.last)) (sym same) (shown_bound log new outers p popped.last st.kept.log popped.lasts))
+        (notes_keep log new f r ms n st.kept.log is))
+
+pub walked_done : {A : Type 0} (i : Input) (q size : ℕ) (old log : Log) (before outers : List (Outer A)) (here : Forest) (first todo : List (Position A)) (met : List ℕ)
+    (ws : List (Waiting A)) (hs : List Handle) (s : IsStack i q size old before first) → todo ≡ [] →
+    (w : Walked i s.pattern q (kept i (dots s.pattern) q (reverse s.spots)) met log outers here todo ws hs) → w.out ≡ kept i (dots s.pattern) q (reverse s.spots)
+walked_done i q size old log before outers here first todo met ws hs s e w =
+    let none : w.stack ≡ [] = each_none (Shows log outers) w.stack (subst (λ l. Each (Shows log outers) l w.stack) e w.shown) in
+    turned_done i s.pattern q (kept i (dots s.pattern) q (reverse s.spots)) met w.out
+    (subst (λ l. KeepsTo i s.pattern q (kept i (dots s.pattern) q (reverse s.spots)) l met w.out) none w.keeps)
+
 pub walked_end : {A : Type 0} (i : Input) (q size : ℕ) (old log : Log) (before outers : List (Outer A)) (here : Forest) (first todo : List (Position A)) (met : List ℕ)
     (ws : List (Waiting A)) (hs : List Handle) (s : IsStack i q size old before first) → todo ≡ [] →
     Walked i s.pattern q (kept i (dots s.pattern) q (reverse s.spots)) met log outers here todo ws hs →
     AreSettled i q s.pattern s.spots log outers here ws hs
 walked_end i q size old log before outers here first todo met ws hs s e w =
-    let none : w.stack ≡ [] = each_none (Shows log outers) w.stack (subst (λ l. Each (Shows log outers) l w.stack) e w.shown) in
-    let done : w.out ≡ kept i (dots s.pattern) q (reverse s.spots) =
-    turned_done i s.pattern q (kept i (dots s.pattern) q (reverse s.spots)) met w.out
-    (subst (λ l. KeepsTo i s.pattern q (kept i (dots s.pattern) q (reverse s.spots)) l met w.out) none w.keeps) in
+    let done = walked_done i q size old log before outers here first todo met ws hs s e w in
     record {
       goes_on = subst (λ l. Each (LeadsTo log outers here) ws (filter_map (next_of i q) l)) done w.goes_on;
       ended = subst (λ l. Each (Holds log) hs (filter_map finished_of l)) done w.ended;

@@ -1,8 +1,22 @@
 -- What positions report on the way.
-use Rattle.std.specs.Prelude.{Option, Some, None}
+use Rattle.std.specs.Prelude.{ℕ, ◌≡◌, Option, Some, None, List, [], reverse}
+use Rattle.mbe_tt.specs.Trees.Tree.{Forest, rest_at}
 use Rattle.mbe_semantics.specs.Bindings.Account.{Log, HasEntriesOf}
+use Rattle.mbe_tt.specs.Views.View.{trees}
+use Rattle.mbe_tt.specs.Fragments.Grammar.{Grammar}
+use Rattle.mbe_semantics.specs.Syntax.Op.{Ops}
+use Rattle.mbe_semantics.specs.Readings.Input.{input_of}
+use Rattle.mbe_semantics.specs.Matching.Dots.{dots}
+use Rattle.mbe_semantics.specs.Matching.Outline.{Outline}
+use Rattle.mbe_bounds.specs.Loop.Kept.{kept as kept_at}
+use Rattle.mbe_ops.specs.Views.{op_of}
+use Rattle.mbe_matcher.specs.declared.source.Source.{Source as Argument}
+use Rattle.mbe_matcher.specs.declared.settle.State.{State}
+use Rattle.mbe_matcher.specs.declared.report.Misfit as kept
 use Rattle.mbe_matcher.specs.declared.report.Report.{Report}
 use Rattle.mbe_matcher.specs.declared.report.Last.{Last}
+use Rattle.mbe_matcher.specs.Positions.{Both, Holds}
+use Rattle.mbe_matcher.specs.Failures.{Misfit, Source, failed, ended, Notes, is_any, or_first, source_of, noted_at, AreFollowedNotes}
 
 -- what is to be reported of the bindings is in the log
 abbrev pub IsLast : {A : Type 0} → Log → Option (Last A) → Type 0
@@ -15,3 +29,32 @@ IsReport log r = IsLast log r.last
 -- a report of the one log is after it one of the other
 abbrev pub ReportStays : {A : Type 0} → Log → Log → Report A → Report A → Type 0
 ReportStays old new before after = IsReport old before → IsReport new after
+
+-- ---- what it stands for
+
+-- this op, and the trees at this place
+pub record IsMisfit {A : Type 0} (argument : Forest) (m : kept.Misfit A) (s : Misfit) : Type 0 where
+  pub op : op_of m.op.now ≡ s.op
+  pub here : m.here ≡ rest_at argument s.place
+
+-- what was bound there, or at the pattern's end
+abbrev pub IsSource : {A : Type 0} → Log → Forest → Last A → Source → Type 0
+IsSource {A} log argument l (failed s) = ((m : kept.Misfit A) × (l.misfit ≡ Some m) × IsMisfit argument m s) × Holds log l.handle s.bound
+IsSource log argument l (ended cs) = (l.misfit ≡ None) × Holds log l.handle cs
+
+-- these failed at the place, and this was noted before
+pub record IsReportOf {A : Type 0} (log : Log) (argument : Forest) (r : Report A) (ms : List Misfit) (before : Notes) : Type 0 where
+  pub first : Both (IsMisfit argument) r.first (or_first before.first ms)
+  pub last : Both (IsSource log argument) r.last (source_of ms [] before.last)
+  pub here : r.failed_here ≡ is_any ms
+
+-- The place of the source is noted, with the positions that are followed there.
+abbrev pub NotesPlace : {A : Type 0} → Grammar → Argument A → Ops → List Outline → Log → Log → State A → State A → Type 0
+NotesPlace g source pattern spots old new before after =
+    (notes : Notes) → IsReportOf old (trees source.whole) before.report [] notes →
+    IsReportOf new (trees source.whole) after.report []
+    (noted_at (input_of g (trees source.whole)) source.place (kept_at (input_of g (trees source.whole)) (dots pattern) source.place (reverse spots)) notes)
+
+-- a report of what was noted up to the place, with the positions that are followed
+abbrev pub IsReportAt : {A : Type 0} → Grammar → Ops → Forest → Log → ℕ → Report A → Type 0
+IsReportAt g pattern argument log q r = (notes : Notes) × AreFollowedNotes (input_of g argument) pattern q notes × IsReportOf log argument r [] notes

@@ -1,5 +1,5 @@
 // Positions in a pattern, and their steps.
-ghost use Rattle.std.specs.Prelude.{◌≡◌};
+ghost use Rattle.std.specs.Prelude.{◌≡◌, ◌||◌, is_some};
 
 use mbe_log::log::{Handle, again};
 use mbe_ops::ops::{Op, Separator};
@@ -107,7 +107,10 @@ pub(crate) struct Steps<'a, A: Allocator = Global> {
 
 impl<'a, A: Allocator> Steps<'a, A> {
     // Whether there is a step, or the pattern's end.
-    pub(crate) fn is_some(&self) -> bool {
+    pub(crate) fn is_some(&self) -> bool
+        ensures { result ≡ (is_some self.now.first || (is_some self.now.second
+            || (is_some self.now.next || is_some self.now.done))) }
+    {
         self.first.is_some() || self.second.is_some() || self.next.is_some() || self.done.is_some()
     }
 }

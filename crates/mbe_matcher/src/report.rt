@@ -8,6 +8,7 @@ ghost use Rattle.mbe_semantics.specs.Expansion.Failing.{noted, unlike, unlike_pu
 ghost use Rattle.mbe_errors.specs.ErrorViews.{error_of, errors_of, kind_of};
 ghost use Rattle.mbe_ops.specs.Views.{op_of};
 ghost use Rattle.mbe_matcher.specs.Rewriting.{IsRewritten};
+ghost use Rattle.mbe_matcher.specs.Failures.{is_noted};
 
 use crate::eat::begins_refused;
 use crate::fragment::{eat_front, expect_fragment};
@@ -223,7 +224,10 @@ pub(crate) struct Report<'a, A: Allocator = Global> {
 
 // Whether an error is noted where the op doesn't fit. At a group and at a variable of an unknown
 // kind none is.
-fn is_noted<A: Allocator>(op: &Op<A>) -> bool {
+#[tactic(auto, using(mbe_ops::proofs::OpViews::views))]
+fn is_noted<A: Allocator>(op: &Op<A>) -> bool
+    ensures { result ≡ is_noted (op_of op.now) }
+{
     matches!(
         op,
         Op::Literal(_) | Op::Ident(_) | Op::Punct(_) | Op::Var { kind: Some(_), .. }
@@ -231,13 +235,21 @@ fn is_noted<A: Allocator>(op: &Op<A>) -> bool {
 }
 
 impl<'a, A: Allocator> Report<'a, A> {
-    ghost use Rattle.mbe_semantics.specs.Bindings.Account.{Log};
-    ghost use Rattle.mbe_matcher.specs.Reports.{IsReport};
+    ghost use Rattle.std.specs.Prelude.{List, option_to_list};
+    ghost use Rattle.mbe_tt.specs.Trees.Tree.{Forest};
+    ghost use Rattle.mbe_tt.specs.Views.View.{trees};
+    ghost use Rattle.mbe_semantics.specs.Bindings.Account.{Log, Commands};
+    ghost use Rattle.mbe_semantics.specs.Matching.Outline.{Outline};
+    ghost use Rattle.mbe_ops.specs.Views.{ops_of};
     ghost use Rattle.mbe_log.specs.Accounts.{Every};
+    ghost use Rattle.mbe_matcher.specs.Positions.{Each, Holds};
+    ghost use Rattle.mbe_matcher.specs.Failures.{Misfit as Misfits, Notes, no_notes, noted_with, misfit_unless, ops_left, bound_by};
+    ghost use Rattle.mbe_matcher.specs.Reports.{IsReport, IsReportOf};
 
     // Nothing is reported.
     pub(crate) fn new() -> Report<'a, A>
-        ensures { (log : Log) → IsReport log result }
+        ensures entries { (log : Log) → IsReport log result }
+        ensures notes { (log : Log) (f : Forest) → IsReportOf log f result [] no_notes }
     {
         Report {
             first: None,
@@ -254,7 +266,13 @@ impl<'a, A: Allocator> Report<'a, A> {
         handle: Handle,
         has_step: bool,
     )
-        ensures { (log : Log) → HasEntriesOf log handle → IsReport log self.old → IsReport log self.new }
+        ensures entries { (log : Log) → HasEntriesOf log handle
+            → IsReport log self.old → IsReport log self.new }
+        ensures notes { (log : Log) (o : Outline) (ms : List Misfits) (before : Notes)
+            → ops_of dot.now ≡ ops_left o → Holds log handle (bound_by o)
+            → IsReportOf log (trees source.now.whole) self.old ms before
+            → IsReportOf log (trees source.now.whole) self.new
+            (ms ++ option_to_list (misfit_unless has_step source.now.place o)) before }
     {
         let Some((op, _rest)) = dot.split_first() else {
             return;
@@ -278,24 +296,50 @@ impl<'a, A: Allocator> Report<'a, A> {
 
     // All positions of the place were looked at. Those at the pattern's end have bound this.
     pub(crate) fn after_place(&mut self, ends: &[Handle])
-        ensures { (log : Log) → Every (HasEntriesOf log) ends.now → IsReport log self.old
+        ensures entries { (log : Log) → Every (HasEntriesOf log) ends.now → IsReport log self.old
             → IsReport log self.new }
+        ensures notes { (log : Log) (f : Forest) (ms : List Misfits) (cs : List Commands)
+            (before : Notes) → Each (Holds log) ends.now cs → IsReportOf log f self.old ms before
+            → IsReportOf log f self.new [] (noted_with ms cs before) }
     {
-        if let Some(end) = ends.first()
-            && !self.failed_here
-        {
-            self.last = Some(Last {
-                handle: again(end),
-                misfit: None,
-            });
+        if self.failed_here {
+            self.failed_here = false;
+            return;
         }
-        self.failed_here = false;
+        let Some(end) = ends.first() else {
+            return;
+        };
+        self.last = Some(Last {
+            handle: again(end),
+            misfit: None,
+        });
     }
 }
 
 impl<'a, A: Allocator + Copy> Report<'a, A> {
+    ghost use Rattle.mbe_tt.specs.Trees.Tree.{Forest};
+    ghost use Rattle.mbe_semantics.specs.Bindings.Account.{Log};
     ghost use Rattle.mbe_log.specs.Shared.{IsKept};
-    ghost use Rattle.mbe_matcher.specs.Reports.{IsReport};
+    ghost use Rattle.mbe_matcher.specs.Positions.{Holds};
+    ghost use Rattle.mbe_matcher.specs.Failures.{Notes, noted_error, error_of_notes, commands_of_notes};
+    ghost use Rattle.mbe_matcher.specs.Reports.{IsReport, IsReportOf};
+
+    // The first error that was noted.
+    fn first_error<G: FragmentGrammar>(
+        &self,
+        alloc: A,
+        grammar: &G,
+        around: DelimSpan,
+    ) -> Result<Option<ExpandError<A>>, AllocError>
+        ensures { (log : Log) (f : Forest) (notes : Notes) → IsReportOf log f self.now [] notes
+            → IfOk result (λ e. errors_of e
+            ≡ noted_error (G.grammar grammar.now) f around notes.first) }
+    {
+        let Some(misfit) = &self.first else {
+            return Ok(None);
+        };
+        failing(alloc, grammar, misfit.op, &misfit.here, around)
+    }
 
     // The first error that was noted; where none was, that of the stop, at the argument's opening.
     pub(crate) fn error<G: FragmentGrammar>(
@@ -304,10 +348,12 @@ impl<'a, A: Allocator + Copy> Report<'a, A> {
         grammar: &G,
         around: DelimSpan,
         is_at_end: bool,
-    ) -> Result<ExpandError<A>, AllocError> {
-        if let Some(misfit) = &self.first
-            && let Some(error) = failing(alloc, grammar, misfit.op, &misfit.here, around)?
-        {
+    ) -> Result<ExpandError<A>, AllocError>
+        ensures { (log : Log) (f : Forest) (notes : Notes) → IsReportOf log f self.now [] notes
+            → IfOk result (λ e. error_of e
+            ≡ error_of_notes (G.grammar grammar.now) f around is_at_end notes) }
+    {
+        if let Some(error) = self.first_error(alloc, grammar, around)? {
             return Ok(error);
         }
         let kind = if is_at_end {
@@ -327,6 +373,9 @@ impl<'a, A: Allocator + Copy> Report<'a, A> {
         requires { IsReport log.old self }
         ensures entries { IfOk result (λ h. HasEntriesOf log.new h) }
         ensures kept { OnOk result (IsKept log.old log.new) }
+        ensures notes { (f : Forest) (notes : Notes) → IsReportOf log.old f self.entry [] notes
+            → IfOk result (λ h. Holds log.new h
+            (commands_of_notes (G.grammar grammar.now) f notes.last)) }
     {
         let Some(last) = self.last else {
             return log.alloc();

@@ -4,7 +4,9 @@ ghost use Rattle.mbe_semantics.specs.Bindings.Account.{Log};
 ghost use Rattle.mbe_matcher.specs.Counts.{AreBlankFrom};
 ghost use Rattle.mbe_matcher.specs.States.{KeepsState};
 ghost use Rattle.mbe_matcher.specs.Matched.{IsStackAt, AreSettledAt, dots_in};
-ghost use Rattle.mbe_matcher.specs.Reports.{IsReport, ReportStays};
+ghost use Rattle.mbe_matcher.specs.Reports.{IsReport, IsReportOf, ReportStays, NotesPlace};
+ghost use Rattle.mbe_matcher.specs.Failures.{no_notes};
+ghost use Rattle.mbe_tt.specs.Trees.Tree.{Forest};
 
 use crate::counts::Counts;
 use crate::position::{Outer, Todo, Waiting};
@@ -54,6 +56,8 @@ impl<'a, A: Allocator + Copy> State<'a, A> {
         ensures size { IfOk result (λ s. dots_in s ≡ dots) }
         ensures blank { IfOk result (λ s. AreBlankFrom s.counts.marks.items 0) }
         ensures report { (log : Log) → IfOk result (λ s. IsReport log s.report) }
+        ensures notes { (log : Log) (f : Forest)
+            → IfOk result (λ s. IsReportOf log f s.report [] no_notes) }
     {
         Ok(State {
             outers: Vec::new(alloc),
@@ -101,6 +105,10 @@ pub(crate) fn settle<'a, A: Allocator + Copy, G: FragmentGrammar>(
     ensures size { OnOk result (dots_in state.new ≡ dots_in state.old) }
     ensures done { OnOk result (todo.new.items ≡ []) }
     ensures report { OnOk result (ReportStays log.old log.new state.old.report state.new.report) }
+    ensures notes { (s : IsStackAt (G.grammar grammar.now) source.now
+        log.old state.old todo.old.items) → OnOk result
+        (NotesPlace (G.grammar grammar.now) source.now s.pattern s.spots
+        log.old log.new state.old state.new) }
 {
     settled.waiting.clear();
     settled.ends.clear();

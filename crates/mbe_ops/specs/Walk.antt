@@ -1,5 +1,5 @@
--- A walk over ops: over those of a whole pattern or of a repetition's body, or over a group's, between its opening and its
--- closing.
+-- A walk over ops: over those of a whole pattern or of a repetition's body, or over a group's, between its opening and
+-- its closing.
 use Rattle.std.specs.Prelude.{◌≡◌, List, [], ◌∷◌, ◌++◌, map, Option, Some, None}
 use Rattle.std.specs.Iterator.{Drains}
 use Rattle.mbe_tt.specs.declared.tt.Delimiter.{Delimiter}
@@ -55,8 +55,8 @@ ops_in (op_stop o ∷ stops) = op o (ops_in stops)
 ops_in (opening_stop d ∷ stops) = ops_in stops
 ops_in (closing_stop d ∷ stops) = ops_in stops
 
--- By the turns of an iterator over ops: from the walk's beginning to its end it gives what the walk comes to, and no more;
--- and among that is each of the ops once, in order.
+-- By the turns of an iterator over ops: from the walk's beginning to its end it gives what the walk comes to, and no
+-- more; and among that is each of the ops once, in order.
 pub record EachOpOnce {A : Type 0} (Turns : OpDelimitedIter A → Option (OpDelimited A) → OpDelimitedIter A → Type 0)
     (around : Option Delimiter) (os : Ops) : Type 0 where
   pub all : (w : OpDelimitedIter A) (given : List (OpDelimited A)) → stops_left w ≡ walk around os → Drains Turns w given →

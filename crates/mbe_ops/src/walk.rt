@@ -1,5 +1,5 @@
-// An iterator over the ops of a pattern or a template, or over those of a group with its opening and closing. The names
-// follow rust-analyzer's.
+// An iterator over the ops of a pattern or a template, or over those of a group with its opening and closing. The
+// names follow rust-analyzer's.
 ghost use Rattle.std.specs.Prelude.{◌≡◌, Some, None};
 ghost use Rattle.std.specs.Iterator.{YieldsFirstBy, item_count};
 ghost use Rattle.mbe_ops.specs.Views.{ops_of, template_of};
@@ -17,8 +17,8 @@ pub enum OpDelimited<'a, A: Allocator = Global> {
     Close(Delimiter),
 }
 
-/// An iterator over ops, which are between an opening and a closing if they are a group's, also of an invisible one. A copy
-/// has the same left. Clauses see what is left by `stops_left`.
+/// An iterator over ops, which are between an opening and a closing if they are a group's, also of an invisible one.
+/// A copy has the same left. Clauses see what is left by `stops_left`.
 #[derive_where(Clone, Copy, Debug)]
 pub struct OpDelimitedIter<'a, A: Allocator = Global> {
     opening: Option<Delimiter>,

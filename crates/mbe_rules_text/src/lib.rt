@@ -1,6 +1,10 @@
 // Grammars of fragments that are read from texts: a text's rules as a table for the engine of `mbe_rules`.
 #![tactic(auto)]
 
+mod choice;
 pub mod fault;
+mod names;
+mod reader;
 pub mod rules;
-mod scanner;
+mod token;
+mod words;

@@ -12,7 +12,8 @@ both true true v h = h
 both true false v h = h
 both false b v h = h
 
-pub comment_opens : (depth c : ℕ) (cs mid after : List ℕ) → 0 < depth → cs ≡ c ∷ mid → (c == 47 && begins_with (codes "*") mid) ≡ true
+pub comment_opens : (depth c : ℕ) (cs mid after : List ℕ) → 0 < depth → cs ≡ c ∷ mid
+    → (c == 47 && begins_with (codes "*") mid) ≡ true
     → after ≡ drop 1 mid → past_comments (depth + 1) after ≡ past_comments depth cs
 comment_opens zero c cs mid after h e b a = absurd (omega arith)
 comment_opens (suc n) c cs [] after h e b a = absurd (grind arith)
@@ -20,8 +21,10 @@ comment_opens (suc n) c cs (d ∷ ds) after h e b a =
     let two : (c == 47 && d == 42) ≡ true = both (c == 47) (d == 42) true b in
     rw (e, a, two, add-one) refl
 
-pub comment_closes : (depth c : ℕ) (cs mid after : List ℕ) → 0 < depth → cs ≡ c ∷ mid → (c == 47 && begins_with (codes "*") mid) ≡ false
-    → (c == 42 && begins_with (codes "/") mid) ≡ true → after ≡ drop 1 mid → past_comments (depth - 1) after ≡ past_comments depth cs
+pub comment_closes : (depth c : ℕ) (cs mid after : List ℕ) → 0 < depth → cs ≡ c ∷ mid
+    → (c == 47 && begins_with (codes "*") mid) ≡ false
+    → (c == 42 && begins_with (codes "/") mid) ≡ true → after ≡ drop 1 mid
+    → past_comments (depth - 1) after ≡ past_comments depth cs
 comment_closes zero c cs mid after h e o b a = absurd (omega arith)
 comment_closes (suc n) c cs [] after h e o b a = absurd (grind arith)
 comment_closes (suc n) c cs (d ∷ ds) after h e o b a =
@@ -30,7 +33,8 @@ comment_closes (suc n) c cs (d ∷ ds) after h e o b a =
     let m : suc n - 1 ≡ n = omega arith in
     rw (e, a, one, two, m) refl
 
-pub comment_goes_on : (depth c : ℕ) (cs mid : List ℕ) → 0 < depth → cs ≡ c ∷ mid → (c == 47 && begins_with (codes "*") mid) ≡ false
+pub comment_goes_on : (depth c : ℕ) (cs mid : List ℕ) → 0 < depth → cs ≡ c ∷ mid
+    → (c == 47 && begins_with (codes "*") mid) ≡ false
     → (c == 42 && begins_with (codes "/") mid) ≡ false → past_comments depth mid ≡ past_comments depth cs
 comment_goes_on zero c cs mid h e o b = absurd (omega arith)
 comment_goes_on (suc n) c cs [] h e o b = rw e refl
@@ -61,10 +65,16 @@ blanks_end total zero = refl
 blanks_end total (suc n) = refl
 
 counts : (total : ℕ) (from cs : List ℕ) → Passes total from cs → Counts total from cs
-counts total from [] p = record { n = 0; fits = omega arith; same = p.same ∙ (blanks_end total p.n ∙ sym (blanks_end total 1)) }
+counts total from [] p =
+    record { n = 0; fits = omega arith; same = p.same ∙ (blanks_end total p.n ∙ sym (blanks_end total 1)) }
 counts total from (c ∷ cs) p =
     let e : p.n ≡ suc (p.n - 1) = let f = p.fits in omega (arith, f) in
-    record { n = p.n - 1; fits = let f = p.fits in omega (arith, f); same = p.same ∙ ap (λ (k : ℕ). past_blanks total k (c ∷ cs)) e }
+    record {
+      n = p.n - 1;
+      fits = let f = p.fits in omega (arith, f);
+      same = p.same
+          ∙ ap (λ (k : ℕ). past_blanks total k (c ∷ cs)) e;
+    }
 
 past_shorter : (k : Class) (cs : List ℕ) → length (past k cs) ≤ length cs
 past_shorter k [] = omega arith
@@ -73,7 +83,8 @@ past_shorter k (c ∷ cs) = elim (has k c) as (λ b. length (if b then past k cs
   | false ↦ omega arith
 ]
 
-one_of_three : (a b : Bool) (x y z : Option (List ℕ)) (rest : List ℕ) (n : ℕ) → (x ≡ Some rest → length rest ≤ n) → (y ≡ Some rest → length rest ≤ n)
+one_of_three : (a b : Bool) (x y z : Option (List ℕ)) (rest : List ℕ) (n : ℕ) → (x ≡ Some rest → length rest ≤ n)
+    → (y ≡ Some rest → length rest ≤ n)
     → (z ≡ Some rest → length rest ≤ n) → (if a then x else if b then y else z) ≡ Some rest → length rest ≤ n
 one_of_three true b x y z rest n f g h e = f e
 one_of_three false true x y z rest n f g h e = g e
@@ -85,10 +96,12 @@ comments_shorter (suc depth) [] rest e = cc
 comments_shorter (suc depth) (c ∷ []) rest e = cc
 comments_shorter (suc depth) (c ∷ (d ∷ cs)) rest e =
     one_of_three (c == 47 && d == 42) (c == 42 && d == 47) _ _ _ rest (length (c ∷ (d ∷ cs)))
-    (λ h. omega (arith, comments_shorter (suc (suc depth)) cs rest h)) (λ h. omega (arith, comments_shorter depth cs rest h))
+    (λ h. omega (arith, comments_shorter (suc (suc depth)) cs rest h))
+    (λ h. omega (arith, comments_shorter depth cs rest h))
     (λ h. omega (arith, comments_shorter (suc depth) (d ∷ cs) rest h)) e
 
-pub passes_blank : (total : ℕ) (from cs after : List ℕ) → Passes total from cs → begins Blank cs ≡ true → after ≡ drop 1 cs → Passes total from after
+pub passes_blank : (total : ℕ) (from cs after : List ℕ) → Passes total from cs → begins Blank cs ≡ true
+    → after ≡ drop 1 cs → Passes total from after
 passes_blank total from [] after p b e = absurd (true≢false (sym b))
 passes_blank total from (c ∷ cs) after p b e =
     let q = counts total from (c ∷ cs) p in
@@ -98,18 +111,21 @@ passes_blank total from (c ∷ cs) after p b e =
       same = q.same ∙ rw (b, e) refl;
     }
 
-pub passes_line : (total : ℕ) (from cs after : List ℕ) → Passes total from cs → begins Blank cs ≡ false → begins_with (codes "//") cs ≡ true
+pub passes_line : (total : ℕ) (from cs after : List ℕ) → Passes total from cs → begins Blank cs ≡ false
+    → begins_with (codes "//") cs ≡ true
     → after ≡ past InLine (drop 2 cs) → Passes total from after
 passes_line total from [] after p b l e = absurd (true≢false (sym l))
 passes_line total from (c ∷ cs) after p b l e =
     let q = counts total from (c ∷ cs) p in
     record {
       n = q.n;
-      fits = let f = q.fits in omega (arith, f, ap (λ (l : List ℕ). length l) e, past_shorter InLine (drop 2 (c ∷ cs)), length-drop 1 cs);
+      fits = let f = q.fits in omega
+          (arith, f, ap (λ (l : List ℕ). length l) e, past_shorter InLine (drop 2 (c ∷ cs)), length-drop 1 cs);
       same = q.same ∙ rw (b, l, e) refl;
     }
 
-pub passes_block : (total : ℕ) (from cs after : List ℕ) → Passes total from cs → begins Blank cs ≡ false → begins_with (codes "//") cs ≡ false
+pub passes_block : (total : ℕ) (from cs after : List ℕ) → Passes total from cs → begins Blank cs ≡ false
+    → begins_with (codes "//") cs ≡ false
     → begins_with (codes "/*") cs ≡ true → past_comments 1 (drop 2 cs) ≡ Some after → Passes total from after
 passes_block total from [] after p b l k e = absurd (true≢false (sym k))
 passes_block total from (c ∷ cs) after p b l k e =
@@ -120,14 +136,17 @@ passes_block total from (c ∷ cs) after p b l k e =
       same = q.same ∙ rw (b, l, k, e) refl;
     }
 
-pub passes_last : (total : ℕ) (from cs : List ℕ) → Passes total from cs → begins Blank cs ≡ false → begins_with (codes "//") cs ≡ false
+pub passes_last : (total : ℕ) (from cs : List ℕ) → Passes total from cs → begins Blank cs ≡ false
+    → begins_with (codes "//") cs ≡ false
     → begins_with (codes "/*") cs ≡ false → past_blanks total (length from) from ≡ Ok cs
 passes_last total from cs p b l k =
     let q = counts total from cs p in
     q.same ∙ rw (b, l, k) refl
 
-pub passes_fault : (total : ℕ) (from cs : List ℕ) → Passes total from cs → begins Blank cs ≡ false → begins_with (codes "//") cs ≡ false
-    → begins_with (codes "/*") cs ≡ true → past_comments 1 (drop 2 cs) ≡ None → past_blanks total (length from) from ≡ Err (offset total cs)
+pub passes_fault : (total : ℕ) (from cs : List ℕ) → Passes total from cs → begins Blank cs ≡ false
+    → begins_with (codes "//") cs ≡ false
+    → begins_with (codes "/*") cs ≡ true → past_comments 1 (drop 2 cs) ≡ None
+    → past_blanks total (length from) from ≡ Err (offset total cs)
 passes_fault total from cs p b l k e =
     let q = counts total from cs p in
     q.same ∙ rw (b, l, k, e) refl

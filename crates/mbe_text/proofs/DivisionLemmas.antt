@@ -16,25 +16,14 @@ use Rattle.mbe_text.specs.declared.scanner.Lexeme.TheVariants.{Ident, Literal, P
 use Rattle.mbe_text.specs.Characters.{offset}
 use Rattle.mbe_text.specs.Blanks.{past_blanks}
 use Rattle.mbe_text.specs.Shapes.{Shape, identifier, literal_of, punct_of, opening, closing, item_of, shape_of}
-use Rattle.mbe_text.specs.Division.{Taken, read_shape, next_token, span_of_taken, item_taken, IsNext, is_inside, after_item, levels_of, trees_of, Lexes}
+use Rattle.mbe_text.specs.Division.{Taken, next_token, span_of_taken, item_taken, IsNext, is_inside, after_item, levels_of, levels_at_end, trees_of, Lexes}
+use Rattle.mbe_text.specs.Dialect.{read_shape}
 use Rattle.mbe_text.specs.Tokens.{Item, leaf_item, open_item, close_item, bytes_of, lexeme_item, token_item, item_span, Adds, IsAstray, FaultsAt, whole, ended}
 
 -- ---- the next token
 
-pub next_fault : (total : ℕ) (cs : List ℕ) (fault : ℕ) → past_blanks total (length cs) cs ≡ Err fault → next_token total cs ≡ Err fault
-next_fault total cs fault e = rw (e, next_token) refl
-
-pub next_none : (total : ℕ) (cs left : List ℕ) → past_blanks total (length cs) cs ≡ Ok left → left ≡ [] → next_token total cs ≡ Ok None
-next_none total cs left e f = let p : past_blanks total (length cs) cs ≡ Ok [] = e ∙ ap Ok f in rw (p, next_token) refl
-
-pub next_bad : (total : ℕ) (cs left : List ℕ) (c : ℕ) (after : List ℕ) (fault : ℕ) → past_blanks total (length cs) cs ≡ Ok left → left ≡ c ∷ after
-    → read_shape total left ≡ Err fault → next_token total cs ≡ Err fault
-next_bad total cs left c after fault e f g =
-    let p : past_blanks total (length cs) cs ≡ Ok (c ∷ after) = e ∙ ap Ok f in
-    let q : read_shape total (c ∷ after) ≡ Err fault = ap (read_shape total) (sym f) ∙ g in
-    rw (p, next_token, q) refl
-
-pub next_some : (total : ℕ) (cs left : List ℕ) (c : ℕ) (after : List ℕ) (shape : Shape) (rest : List ℕ) → past_blanks total (length cs) cs ≡ Ok left
+next_some : (total : ℕ) (cs left : List ℕ) (c : ℕ) (after : List ℕ) (shape : Shape) (rest : List ℕ)
+    → past_blanks total (length cs) cs ≡ Ok left
     → left ≡ c ∷ after → read_shape total left ≡ Ok (shape, rest)
     → next_token total cs ≡ Ok (Some (record { shape = shape; from = c ∷ after; rest = rest }))
 next_some total cs left c after shape rest e f g =
@@ -50,7 +39,8 @@ item_of_shape span (Open kind) = refl
 item_of_shape span (Close kind) = refl
 
 -- what a call returns that reads a token behind blanks
-pub is_next : (file total : ℕ) (cs left : List ℕ) (c : ℕ) (after : List ℕ) (l : Lexeme) (rest : List ℕ) (span : Span) (start end : ℕ)
+pub is_next : (file total : ℕ) (cs left : List ℕ) (c : ℕ) (after : List ℕ) (l : Lexeme) (rest : List ℕ) (span : Span)
+    (start end : ℕ)
     → past_blanks total (length cs) cs ≡ Ok left → left ≡ c ∷ after → read_shape total left ≡ Ok (shape_of l, rest)
     → span ≡ bytes_of file start end → start ≡ offset total left → end ≡ offset total rest
     → IsNext file total (next_token total cs) (Ok (Some (record { lexeme = l; span = span }))) rest
@@ -58,7 +48,8 @@ is_next file total cs left c after l rest span start end e f g is s t =
     let taken : Taken = record { shape = shape_of l; from = c ∷ after; rest = rest } in (
       taken,
       next_some total cs left c after (shape_of l) rest e f g,
-      item_of_shape span l ∙ ap (λ (p : Span). item_of p (shape_of l)) (is ∙ (ap (λ (n : ℕ). bytes_of file n end) (s ∙ ap (offset total) f)
+      item_of_shape span l ∙ ap (λ (p : Span). item_of p (shape_of l))
+          (is ∙ (ap (λ (n : ℕ). bytes_of file n end) (s ∙ ap (offset total) f)
           ∙ ap (λ (n : ℕ). bytes_of file (offset total (c ∷ after)) n) t)),
       refl,
     )
@@ -122,10 +113,11 @@ span_of_shape span (closing kind) = refl
 pub record Reaches (file : ℕ) (text left : List ℕ) (levels : Levels) : Type 0 where
   pub n : ℕ
   pub fits : length left ≤ n
-  pub same : levels_of file (length text) (length text) (whole file (length text)) (chars text) ≡ levels_of file (length text) n levels (chars left)
+  pub same : levels_at_end file text ≡ levels_of file (length text) n levels (chars left)
 
 pub reached_first : (file : ℕ) (text left : List ℕ) (span : Span) (d : Delimiter) (b : Levels) → b ≡ (d, none) ∷ []
-    → d ≡ record { opening = span; close = span; kind = Invisible } → span ≡ bytes_of file 0 (length text) → left ≡ text → Reaches file text left b
+    → d ≡ record { opening = span; close = span; kind = Invisible } → span ≡ bytes_of file 0 (length text)
+    → left ≡ text → Reaches file text left b
 reached_first file text left span d b e opens is all =
     let delimiter : Span → Delimiter = λ s. record { opening = s; close = s; kind = Invisible } in
     let levels : Delimiter → Levels = λ k. (k, none) ∷ [] in
@@ -137,62 +129,78 @@ reached_first file text left span d b e opens is all =
           ∙ ap (λ (l : List ℕ). levels_of file n n b (chars l)) (sym all);
     }
 
-levels_step : (file total m : ℕ) (b c : Levels) (cs : List ℕ) (t : Taken) → next_token total cs ≡ Ok (Some t) → after_item (item_taken file total t) b ≡ Some c
+levels_step : (file total m : ℕ) (b c : Levels) (cs : List ℕ) (t : Taken) → next_token total cs ≡ Ok (Some t)
+    → after_item (item_taken file total t) b ≡ Some c
     → levels_of file total (suc m) b cs ≡ levels_of file total m c t.rest
 levels_step file total m b c cs t e f = rw (e, levels_of, f) refl
 
-levels_astray : (file total m : ℕ) (b : Levels) (cs : List ℕ) (t : Taken) → next_token total cs ≡ Ok (Some t) → after_item (item_taken file total t) b ≡ None
+levels_astray : (file total m : ℕ) (b : Levels) (cs : List ℕ) (t : Taken) → next_token total cs ≡ Ok (Some t)
+    → after_item (item_taken file total t) b ≡ None
     → levels_of file total (suc m) b cs ≡ Err (offset total t.from)
 levels_astray file total m b cs t e f = rw (e, levels_of, f) refl
 
-levels_fault : (file total m : ℕ) (b : Levels) (cs : List ℕ) (fault : ℕ) → next_token total cs ≡ Err fault → levels_of file total (suc m) b cs ≡ Err fault
+levels_fault : (file total m : ℕ) (b : Levels) (cs : List ℕ) (fault : ℕ) → next_token total cs ≡ Err fault
+    → levels_of file total (suc m) b cs ≡ Err fault
 levels_fault file total m b cs fault e = rw (e, levels_of) refl
 
-levels_last : (file total m : ℕ) (b : Levels) (cs : List ℕ) → next_token total cs ≡ Ok None → levels_of file total m b cs ≡ Ok b
+levels_last : (file total m : ℕ) (b : Levels) (cs : List ℕ) → next_token total cs ≡ Ok None
+    → levels_of file total m b cs ≡ Ok b
 levels_last file total zero b cs e = refl
 levels_last file total (suc m) b cs e = rw (e, levels_of) refl
 
 -- a token, which was added
-pub reached_more : (file : ℕ) (text left left' : List ℕ) (b c : Levels) (file' total' : ℕ) (t : Token) → Reaches file text left b → file' ≡ file → total' ≡ length text
-    → IsNext file' total' (next_token total' (chars left)) (Ok (Some t)) (chars left') → length left' < length left → Adds (token_item t) b c
+pub reached_more : (file : ℕ) (text left left' : List ℕ) (b c : Levels) (file' total' : ℕ) (t : Token)
+    → Reaches file text left b → file' ≡ file → total' ≡ length text
+    → IsNext file' total' (next_token total' (chars left)) (Ok (Some t)) (chars left') → length left' < length left
+    → Adds (token_item t) b c
     → Reaches file text left' c
 reached_more file text left left' b c file' total' t p f n next shorter adds =
     let total = length text in
     let taken : Taken = next.0 in
-    let is : next_token total (chars left) ≡ Ok (Some taken) = ap (λ (k : ℕ). next_token k (chars left)) (sym n) ∙ next.1 in
+    let is : next_token total (chars left) ≡ Ok (Some taken) = ap (λ (k : ℕ). next_token k (chars left)) (sym n)
+    ∙ next.1 in
     let item : token_item t ≡ item_taken file total taken =
     next.2 ∙ (ap (λ (k : ℕ). item_taken k total' taken) f ∙ ap (λ (k : ℕ). item_taken file k taken) n) in
-    let after : after_item (item_taken file total taken) b ≡ Some c = ap (λ (x : Item). after_item x b) (sym item) ∙ added (token_item t) b c adds in
+    let after : after_item (item_taken file total taken) b ≡ Some c = ap (λ (x : Item). after_item x b) (sym item)
+    ∙ added (token_item t) b c adds in
     let fits = p.fits in
     let m : p.n ≡ suc (p.n - 1) = omega (arith, fits, shorter) in
     record {
       n = p.n - 1;
       fits = omega (arith, fits, shorter);
-      same = p.same ∙ (ap (λ (k : ℕ). levels_of file total k b (chars left)) m ∙ (levels_step file total (p.n - 1) b c (chars left) taken is after
+      same = p.same ∙ (ap (λ (k : ℕ). levels_of file total k b (chars left)) m
+          ∙ (levels_step file total (p.n - 1) b c (chars left) taken is after
           ∙ ap (λ (l : List ℕ). levels_of file total (p.n - 1) c l) (sym next.3)));
     }
 
 -- a closing that doesn't fit
-pub reached_astray : (file : ℕ) (text left left' : List ℕ) (b : Levels) (file' total' : ℕ) (t : Token) → Reaches file text left b → file' ≡ file → total' ≡ length text
-    → IsNext file' total' (next_token total' (chars left)) (Ok (Some t)) (chars left') → length left' < length left → IsAstray (token_item t) b
-    → levels_of file (length text) (length text) (whole file (length text)) (chars text) ≡ Err (item_span (token_item t)).start
+pub reached_astray : (file : ℕ) (text left left' : List ℕ) (b : Levels) (file' total' : ℕ) (t : Token)
+    → Reaches file text left b → file' ≡ file → total' ≡ length text
+    → IsNext file' total' (next_token total' (chars left)) (Ok (Some t)) (chars left') → length left' < length left
+    → IsAstray (token_item t) b
+    → levels_at_end file text ≡ Err (item_span (token_item t)).start
 reached_astray file text left left' b file' total' t p f n next shorter astray =
     let total = length text in
     let taken : Taken = next.0 in
-    let is : next_token total (chars left) ≡ Ok (Some taken) = ap (λ (k : ℕ). next_token k (chars left)) (sym n) ∙ next.1 in
+    let is : next_token total (chars left) ≡ Ok (Some taken) = ap (λ (k : ℕ). next_token k (chars left)) (sym n)
+    ∙ next.1 in
     let item : token_item t ≡ item_taken file total taken =
     next.2 ∙ (ap (λ (k : ℕ). item_taken k total' taken) f ∙ ap (λ (k : ℕ). item_taken file k taken) n) in
-    let after : after_item (item_taken file total taken) b ≡ None = ap (λ (x : Item). after_item x b) (sym item) ∙ refused (token_item t) b astray in
+    let after : after_item (item_taken file total taken) b ≡ None = ap (λ (x : Item). after_item x b) (sym item)
+    ∙ refused (token_item t) b astray in
     let fits = p.fits in
     let m : p.n ≡ suc (p.n - 1) = omega (arith, fits, shorter) in
     let start : (item_span (token_item t)).start ≡ offset total taken.from =
-    ap (λ (x : Item). (item_span x).start) item ∙ ap (λ (s : Span). s.start) (span_of_shape (span_of_taken file total taken) taken.shape) in
-    p.same ∙ (ap (λ (k : ℕ). levels_of file total k b (chars left)) m ∙ (levels_astray file total (p.n - 1) b (chars left) taken is after ∙ ap Err (sym start)))
+    ap (λ (x : Item). (item_span x).start) item
+    ∙ ap (λ (s : Span). s.start) (span_of_shape (span_of_taken file total taken) taken.shape) in
+    p.same ∙ (ap (λ (k : ℕ). levels_of file total k b (chars left)) m
+    ∙ (levels_astray file total (p.n - 1) b (chars left) taken is after ∙ ap Err (sym start)))
 
 -- no token
-pub reached_fault : (file : ℕ) (text left : List ℕ) (b : Levels) (total' fault : ℕ) → Reaches file text left b → total' ≡ length text
+pub reached_fault : (file : ℕ) (text left : List ℕ) (b : Levels) (total' fault : ℕ) → Reaches file text left b
+    → total' ≡ length text
     → next_token total' (chars left) ≡ Err fault
-    → levels_of file (length text) (length text) (whole file (length text)) (chars text) ≡ Err fault
+    → levels_at_end file text ≡ Err fault
 reached_fault file text left b total' fault p n next =
     let total = length text in
     let is : next_token total (chars left) ≡ Err fault = ap (λ (k : ℕ). next_token k (chars left)) (sym n) ∙ next in
@@ -205,23 +213,25 @@ reached_fault file text left b total' fault p n next =
     fault_of (suc m) left h e = levels_fault file (length text) m b (chars left) fault e
 
 -- the end
-pub reached_last : (file : ℕ) (text left : List ℕ) (b : Levels) (total' : ℕ) → Reaches file text left b → total' ≡ length text
+pub reached_last : (file : ℕ) (text left : List ℕ) (b : Levels) (total' : ℕ) → Reaches file text left b
+    → total' ≡ length text
     → next_token total' (chars left) ≡ Ok None
-    → levels_of file (length text) (length text) (whole file (length text)) (chars text) ≡ Ok b
+    → levels_at_end file text ≡ Ok b
 reached_last file text left b total' p n is =
     p.same ∙ levels_last file (length text) p.n b (chars left) (ap (λ (k : ℕ). next_token k (chars left)) (sym n) ∙ is)
 
 pub trees_lexed : (file : ℕ) (text : List ℕ) (b : Levels) (span : Span) (t : Top)
-    → levels_of file (length text) (length text) (whole file (length text)) (chars text) ≡ Ok b
+    → levels_at_end file text ≡ Ok b
     → span ≡ bytes_of file (length text) (length text) → t ≡ ended span b → trees_of file text ≡ Ok t
 trees_lexed file text b span t e is h = rw (e, trees_of) (ap Ok (sym (h ∙ ap (λ (s : Span). ended s b) is)))
 
 pub trees_fault : (file : ℕ) (text : List ℕ) (fault : ℕ)
-    → levels_of file (length text) (length text) (whole file (length text)) (chars text) ≡ Err fault → trees_of file text ≡ Err fault
+    → levels_at_end file text ≡ Err fault → trees_of file text ≡ Err fault
 trees_fault file text fault e = rw (e, trees_of) refl
 
 -- a token isn't added
-pub lexes_refused : (lexed : Result Top ℕ) (x : Item) (b : Levels) (e : LexError) → FaultsAt x b e → (IsAstray x b → lexed ≡ Err (item_span x).start)
+pub lexes_refused : (lexed : Result Top ℕ) (x : Item) (b : Levels) (e : LexError) → FaultsAt x b e
+    → (IsAstray x b → lexed ≡ Err (item_span x).start)
     → Lexes lexed (Err e)
 lexes_refused lexed x b (errors.Fault offset) p h = h p.1 ∙ ap Err (sym p.0)
 lexes_refused lexed x b errors.OutOfMemory p h = tt

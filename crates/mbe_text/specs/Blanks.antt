@@ -1,32 +1,34 @@
 -- White space and comments, which are passed before a token.
-use Rattle.std.specs.Prelude.{ℕ, zero, suc, ◌==◌, ◌&&◌, if◌then◌else◌, Option, Some, None, List, [], ◌∷◌, length, drop, codes, ◌≡◌, Result, Ok, Err, MatchResult}
+use Rattle.std.specs.Prelude.{ℕ, zero, suc, ◌==◌, not, ◌&&◌, ◌||◌, Bool, if◌then◌else◌, Option, Some, None, List, [], ◌∷◌, length, drop, codes, ◌≡◌, Result, Ok, Err, MatchResult}
 use Rattle.mbe_text.specs.declared.characters.Class.TheVariants.{Blank, InLine}
 use Rattle.mbe_text.specs.declared.scanner.LexFault.{LexFault}
-use Rattle.mbe_text.specs.Characters.{begins, begins_with, past, offset}
+use Rattle.mbe_text.specs.Characters.{begins, begins_with, past, offset, slash, star}
 
--- What is left after so many ends of block comments, and after one more for each comment that begins on the way. None if there
--- aren't so many. Two characters begin or end a comment, and neither is one of another such two.
+-- What is left after so many ends of block comments, and one more for each comment that begins on the way. None if there aren't
+-- so many. Two characters begin or end a comment, and neither is one of another such two.
 abbrev pub past_comments : ℕ → List ℕ → Option (List ℕ)
 past_comments zero cs = Some cs
 past_comments (suc depth) [] = None
 past_comments (suc depth) (c ∷ []) = None
 past_comments (suc depth) (c ∷ (d ∷ cs)) =
-    if c == 47 && d == 42 then past_comments (suc (suc depth)) cs
-    else if c == 42 && d == 47 then past_comments depth cs
+    if c == slash && d == star then past_comments (suc (suc depth)) cs
+    else if c == star && d == slash then past_comments depth cs
     else past_comments (suc depth) (d ∷ cs)
 
--- What is left after white space and comments; a block comment without an end is at fault where it begins. The second number is that
--- of the characters at least.
+-- What is left after white space and comments; a block comment without an end is at fault where it begins. The second number is
+-- that of the characters at least.
 abbrev pub past_blanks : ℕ → ℕ → List ℕ → Result (List ℕ) ℕ
 past_blanks total zero cs = Ok cs
 past_blanks total (suc n) cs =
     if begins Blank cs then past_blanks total n (drop 1 cs)
     else if begins_with (codes "//") cs then past_blanks total n (past InLine (drop 2 cs))
-    else if begins_with (codes "/*") cs then
-    elim (past_comments 1 (drop 2 cs)) [ None ↦ Err (offset total cs) | Some rest ↦ past_blanks total n rest ]
-    else Ok cs
+    else if not (begins_with (codes "/*") cs) then Ok cs
+    else elim (past_comments 1 (drop 2 cs)) [ None ↦ Err (offset total cs) | Some rest ↦ past_blanks total n rest ]
 
--- of what a call passed and what it left
+abbrev pub begins_comment : List ℕ → Bool
+begins_comment cs = begins_with (codes "//") cs || begins_with (codes "/*") cs
+
+-- what a call passed and what it left, of a block comment that stands there, and of blanks
 abbrev pub PassesBlock : ℕ → List ℕ → Result (Unit {0}) LexFault → List ℕ → Type 0
 PassesBlock total cs result rest = MatchResult result (λ _. past_comments 1 (drop 2 cs) ≡ Some rest)
     (λ fault. (past_comments 1 (drop 2 cs) ≡ None) × (fault.offset ≡ offset total cs))

@@ -5,15 +5,34 @@ use Rattle.unicode_ident.specs.Ident.{is_xid_start, is_xid_continue}
 use Rattle.mbe_text.specs.declared.characters.Class.{Class}
 use Rattle.mbe_text.specs.declared.characters.Class.TheVariants.{Blank, InLine, IdentStart, IdentContinue, Decimal, Digit, HexDigit, Exponent, Sign, Punct, Hash}
 
+-- some characters by their codes
+abbrev pub quotation_mark : ℕ
+quotation_mark = 34
+
+abbrev pub apostrophe : ℕ
+apostrophe = 39
+
+abbrev pub star : ℕ
+star = 42
+
+abbrev pub slash : ℕ
+slash = 47
+
+abbrev pub backslash : ℕ
+backslash = 92
+
+abbrev pub low_line : ℕ
+low_line = 95
+
 -- what a character is
 abbrev pub has : Class → ℕ → Bool
 has Blank c = char_set_contains (codes " \t\r\n") c
 has InLine c = not (char_set_contains (codes "\n") c)
-has IdentStart c = is_xid_start c || c == 95
+has IdentStart c = is_xid_start c || c == low_line
 has IdentContinue c = is_xid_continue c
 has Decimal c = is_ascii_digit c
-has Digit c = is_ascii_digit c || c == 95
-has HexDigit c = is_ascii_hexdigit c || c == 95
+has Digit c = is_ascii_digit c || c == low_line
+has HexDigit c = is_ascii_hexdigit c || c == low_line
 has Exponent c = char_set_contains (codes "eE") c
 has Sign c = char_set_contains (codes "+-") c
 has Punct c = char_set_contains (codes "=<>!&|~@.,;:#$?+-*/%^") c

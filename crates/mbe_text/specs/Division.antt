@@ -1,59 +1,19 @@
--- How a text is divided into tokens, and what they make.
-use Rattle.std.specs.Prelude.{◌≡◌, ⊤, ℕ, zero, suc, ◌==◌, not, ◌&&◌, ◌||◌, if◌then◌else◌, Bool, false, Option, Some, None, List, [], ◌∷◌, length, chars, codes, Result, Ok, Err}
+-- How a text is divided into tokens, and the trees that they make.
+use Rattle.std.specs.Prelude.{◌≡◌, ⊤, ℕ, zero, suc, if◌then◌else◌, Bool, false, Option, Some, None, List, [], ◌∷◌, length, chars, Result, Ok, Err}
 use Rattle.mbe_tt.specs.Buffers.Building.{Levels, put, closed, kind_inside}
 use Rattle.mbe_tt.specs.Trees.Top.{Top}
 use Rattle.mbe_tt.specs.Trees.Tree.{none, one_leaf, is_same_kind}
 use Rattle.mbe_tt.specs.declared.span.Span.{Span}
 use Rattle.mbe_tt.specs.declared.tt.DelimiterKind.{DelimiterKind}
-use Rattle.mbe_tt.specs.declared.tt.DelimiterKind.TheVariants.{Parenthesis, Brace, Bracket}
-use Rattle.mbe_tt.specs.declared.tt.LitKind.TheVariants.{Str}
-use Rattle.mbe_tt.specs.declared.tt.Spacing.{Spacing}
-use Rattle.mbe_tt.specs.declared.tt.Spacing.TheVariants.{Alone, Joint}
-use Rattle.mbe_text.specs.declared.characters.Class.TheVariants as classes
 use Rattle.mbe_text.specs.declared.lexer.LexError.{LexError}
 use Rattle.mbe_text.specs.declared.lexer.LexError.TheVariants as errors
 use Rattle.mbe_text.specs.declared.scanner.LexFault.{LexFault}
 use Rattle.mbe_text.specs.declared.scanner.Token.{Token}
-use Rattle.mbe_text.specs.Characters.{begins, begins_with, has, offset}
+use Rattle.mbe_text.specs.Characters.{offset}
 use Rattle.mbe_text.specs.Blanks.{past_blanks}
-use Rattle.mbe_text.specs.Shapes.{Shape, Read, punct_of, opening, closing, item_of}
-use Rattle.mbe_text.specs.Words.{read_identifier}
-use Rattle.mbe_text.specs.Literals.{read_number, read_quoted, read_quote}
+use Rattle.mbe_text.specs.Shapes.{Shape, item_of}
+use Rattle.mbe_text.specs.Dialect.{read_shape}
 use Rattle.mbe_text.specs.Tokens.{Item, leaf_item, open_item, close_item, token_item, bytes_of, whole, ended}
-
-abbrev pub begins_comment : List ℕ → Bool
-begins_comment cs = begins_with (codes "//") cs || begins_with (codes "/*") cs
-
--- a punct is joint where the next one begins right behind it; the `/` of a comment is none
-abbrev pub spacing_before : List ℕ → Spacing
-spacing_before rest = if begins classes.Punct rest && not (begins_comment rest) then Joint else Alone
-
--- a side of a group
-abbrev pub side : ℕ → Option Shape
-side c =
-    if c == 40 then Some (opening Parenthesis) else if c == 41 then Some (closing Parenthesis)
-    else if c == 91 then Some (opening Bracket) else if c == 93 then Some (closing Bracket)
-    else if c == 123 then Some (opening Brace) else if c == 125 then Some (closing Brace)
-    else None
-
--- a side of a group, or a punct
-abbrev pub read_sign : ℕ → List ℕ → Read
-read_sign total [] = Err total
-read_sign total (c ∷ rest) = elim (side c) [
-  | Some shape ↦ Ok (shape, rest)
-  | None ↦ if has classes.Punct c then Ok (punct_of c (spacing_before rest), rest) else Err (offset total (c ∷ rest))
-]
-
--- the token that stands here
-abbrev pub read_shape : ℕ → List ℕ → Read
-read_shape total cs =
-    if begins classes.IdentStart cs then read_identifier total cs
-    else if begins classes.Decimal cs then read_number total cs
-    else if begins_with (codes "\"") cs then read_quoted total Str 34 cs
-    else if begins_with (codes "'") cs then read_quote total cs
-    else read_sign total cs
-
--- ---- the whole text
 
 -- a token, with the text from its first character on and what is left after it
 pub record Taken : Type 0 where
@@ -93,14 +53,16 @@ abbrev pub is_inside : DelimiterKind → Option DelimiterKind → Bool
 is_inside kind None = false
 is_inside kind (Some inside) = is_same_kind inside kind
 
--- The groups that are open after a token, of which it is a leaf or a side. None where it is a closing that isn't of the innermost group's kind.
+-- The groups that are open after a token, which is a leaf or a side of one. None where it is a closing that isn't of the innermost
+-- group's kind.
 abbrev pub after_item : Item → Levels → Option Levels
 after_item (leaf_item l) levels = Some (put (one_leaf l) levels)
 after_item (open_item kind span) levels = Some ((record { opening = span; close = span; kind = kind }, none) ∷ levels)
-after_item (close_item kind span) levels = if is_inside kind (kind_inside levels) then Some (closed span levels) else None
+after_item (close_item kind span) levels =
+    if is_inside kind (kind_inside levels) then Some (closed span levels) else None
 
--- The groups that are open at the end, or the first byte at fault: where no token is, or a closing that doesn't fit. The third number is
--- that of the bytes at least.
+-- The groups that are open at the end, or the first byte at fault: where no token is, or a closing that doesn't fit. The third
+-- number is that of the bytes at least.
 abbrev pub levels_of : ℕ → ℕ → ℕ → Levels → List ℕ → Result Levels ℕ
 levels_of file total zero levels cs = Ok levels
 levels_of file total (suc n) levels cs = elim (next_token total cs) [
@@ -112,14 +74,16 @@ levels_of file total (suc n) levels cs = elim (next_token total cs) [
   ]
 ]
 
--- the trees of a file's text, or the byte at fault
+-- the same of the whole text of a file, as bytes
+abbrev pub levels_at_end : ℕ → List ℕ → Result Levels ℕ
+levels_at_end file text = levels_of file (length text) (length text) (whole file (length text)) (chars text)
+
+-- the trees of a file's text, where the groups that are open at the end are closed there, or the byte at fault
 abbrev pub trees_of : ℕ → List ℕ → Result Top ℕ
-trees_of file text =
-    let total = length text in
-    elim (levels_of file total total (whole file total) (chars text)) [
-      | Err fault ↦ Err fault
-      | Ok levels ↦ Ok (ended (bytes_of file total total) levels)
-    ]
+trees_of file text = elim (levels_at_end file text) [
+  | Err fault ↦ Err fault
+  | Ok levels ↦ Ok (ended (bytes_of file (length text) (length text)) levels)
+]
 
 -- that is what a call returned, unless it was out of memory
 abbrev pub Lexes : Result Top ℕ → Result Top LexError → Type 0

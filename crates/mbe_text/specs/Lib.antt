@@ -1,11 +1,13 @@
 pub mod Blanks
 pub mod Characters
+pub mod Dialect
 pub mod Division
 pub mod Ends
 pub mod Literals
 pub mod Printing
 pub mod Scanning
 pub mod Shapes
+pub mod Signs
 pub mod Tokens
 pub mod Words
 pub mod Writing

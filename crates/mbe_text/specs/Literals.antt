@@ -5,7 +5,7 @@ use Rattle.mbe_tt.specs.declared.tt.LitKind.{LitKind}
 use Rattle.mbe_tt.specs.declared.tt.LitKind.TheVariants.{Char, Integer, Float}
 use Rattle.mbe_tt.specs.declared.tt.Spacing.TheVariants.{Joint}
 use Rattle.mbe_text.specs.declared.characters.Class.TheVariants.{IdentStart, Decimal, Digit, HexDigit, Exponent, Sign}
-use Rattle.mbe_text.specs.Characters.{begins, begins_with, past, past_one, bytes_before, offset}
+use Rattle.mbe_text.specs.Characters.{begins, begins_with, past, past_one, bytes_before, offset, apostrophe, backslash}
 use Rattle.mbe_text.specs.Shapes.{Read, literal_of, punct_of}
 use Rattle.mbe_text.specs.Words.{past_suffix}
 
@@ -56,7 +56,7 @@ read_number total cs = read_literal total (past_number cs).0 (bytes_before cs (p
 abbrev pub from_quote : ℕ → Bool → List ℕ → Option (List ℕ)
 from_quote quote escaped [] = None
 from_quote quote true (c ∷ cs) = from_quote quote false cs
-from_quote quote false (c ∷ cs) = if c == quote then Some (c ∷ cs) else from_quote quote (c == 92) cs
+from_quote quote false (c ∷ cs) = if c == quote then Some (c ∷ cs) else from_quote quote (c == backslash) cs
 
 -- a string, or a char, between two of that quote
 abbrev pub read_quoted : ℕ → LitKind → ℕ → List ℕ → Read
@@ -68,11 +68,12 @@ read_quoted total kind quote cs = elim (from_quote quote false (drop 1 cs)) [
 -- what is behind a `'` is a char's: a `\`, or a character and another `'`, where that character is no `'` and no line feed
 abbrev pub is_char : List ℕ → Bool
 is_char [] = false
-is_char (c ∷ cs) = c == 92 || (not (char_set_contains (codes "'\n") c) && begins_with (codes "'") cs)
+is_char (c ∷ cs) = c == backslash || (not (char_set_contains (codes "'\n") c) && begins_with (codes "'") cs)
 
 -- the `'` of a lifetime, whose identifier is the next token
 abbrev pub read_lifetime : ℕ → List ℕ → Read
-read_lifetime total cs = if begins IdentStart (drop 1 cs) then Ok (punct_of 39 Joint, drop 1 cs) else Err (offset total cs)
+read_lifetime total cs =
+    if begins IdentStart (drop 1 cs) then Ok (punct_of apostrophe Joint, drop 1 cs) else Err (offset total cs)
 
 abbrev pub read_quote : ℕ → List ℕ → Read
-read_quote total cs = if is_char (drop 1 cs) then read_quoted total Char 39 cs else read_lifetime total cs
+read_quote total cs = if is_char (drop 1 cs) then read_quoted total Char apostrophe cs else read_lifetime total cs

@@ -5,11 +5,11 @@ use Rattle.mbe_text.specs.declared.characters.Class.TheVariants.{IdentStart, Ide
 use Rattle.mbe_text.specs.Characters.{begins, begins_with, past, bytes_before, offset}
 use Rattle.mbe_text.specs.Shapes.{Read, identifier}
 
--- what is left after an identifier without a `r#`
+-- what is left after an identifier without a `r#`, whose first character isn't looked at
 abbrev pub past_word : List ℕ → List ℕ
 past_word cs = past IdentContinue (drop 1 cs)
 
--- a raw string goes on with these: its `#`, and a quote
+-- as a raw string goes on: `#`s and a quote
 abbrev pub begins_hashes : List ℕ → Bool
 begins_hashes rest = begins Hash rest && begins_with (codes "\"") (past Hash rest)
 
@@ -20,19 +20,22 @@ begins_literal name rest =
     || (bytes_eq name (codes "b") && begins_with (codes "'") rest)
     || ((bytes_eq name (codes "r") || bytes_eq name (codes "br") || bytes_eq name (codes "cr")) && begins_hashes rest)
 
+-- an identifier without a `r#`
 abbrev pub read_word : ℕ → List ℕ → Read
 read_word total cs =
     let rest = past_word cs in
-    if begins_literal (bytes_before cs rest) rest then Err (offset total cs) else Ok (identifier (bytes_before cs rest) raw.No, rest)
+    let name = bytes_before cs rest in
+    if begins_literal name rest then Err (offset total cs) else Ok (identifier name raw.No, rest)
 
 abbrev pub begins_raw : List ℕ → Bool
 begins_raw cs = begins_with (codes "r#") cs && begins IdentStart (drop 2 cs)
 
--- an identifier with its `r#`
+-- one with its `r#`
 abbrev pub read_raw : ℕ → List ℕ → Read
 read_raw total cs =
     let rest = past_word (drop 2 cs) in
-    if begins_with (codes "\"") rest then Err (offset total cs) else Ok (identifier (bytes_before (drop 2 cs) rest) raw.Yes, rest)
+    let name = bytes_before (drop 2 cs) rest in
+    if begins_with (codes "\"") rest then Err (offset total cs) else Ok (identifier name raw.Yes, rest)
 
 abbrev pub read_identifier : ℕ → List ℕ → Read
 read_identifier total cs = if begins_raw cs then read_raw total cs else read_word total cs
@@ -42,6 +45,6 @@ abbrev pub past_suffix : List ℕ → Option (List ℕ)
 past_suffix cs =
     let rest = past_word cs in
     let suffix = bytes_before cs rest in
-    if begins IdentStart cs then
-    if nat_le (length suffix) 255 && not (begins_literal suffix rest) then Some rest else None
-    else Some cs
+    if not (begins IdentStart cs) then Some cs
+    else if nat_le (length suffix) 255 && not (begins_literal suffix rest) then Some rest
+    else None

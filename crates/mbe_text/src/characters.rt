@@ -6,18 +6,19 @@ ghost use Rattle.mbe_text.specs.Ends.{IsEnd, IsRest};
 
 use unicode_ident::{is_xid_continue, is_xid_start};
 
-/// A kind of characters.
+// A kind of characters.
 #[derive(Clone, Copy)]
 pub(crate) enum Class {
     Blank,
-    // of a line
+    // Any but a line feed.
     InLine,
     IdentStart,
     IdentContinue,
     Decimal,
-    // decimal, or `_`
+    // Of a number, where `_` is one too.
     Digit,
     HexDigit,
+    // What begins an exponent.
     Exponent,
     Sign,
     Punct,

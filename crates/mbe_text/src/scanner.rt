@@ -7,9 +7,11 @@ ghost use Rattle.mbe_tt.specs.Trees.Literals.{opening, closing};
 ghost use Rattle.mbe_text.specs.Ends.{IsRest, Begins};
 ghost use Rattle.mbe_text.specs.Characters as characters;
 ghost use Rattle.mbe_text.specs.Characters.{bytes_before};
-ghost use Rattle.mbe_text.specs.Division as division;
+ghost use Rattle.mbe_text.specs.Dialect.{read_shape};
+ghost use Rattle.mbe_text.specs.Division.{IsNext, next_token};
+ghost use Rattle.mbe_text.specs.Signs as signs;
 ghost use Rattle.mbe_text.specs.Shapes.{Gives};
-ghost use Rattle.mbe_text.specs.Blanks.{PassesBlock, PassesBlanks};
+ghost use Rattle.mbe_text.specs.Blanks.{PassesBlock, PassesBlanks, begins_comment};
 ghost use Rattle.mbe_text.specs.Words as words;
 ghost use Rattle.mbe_text.specs.Literals as literals;
 ghost use Rattle.mbe_text.specs.declared.characters.Class.TheVariants.{InLine};
@@ -580,7 +582,7 @@ impl<'t> Scanner<'t> {
 
     // A punct is joint where the next one begins right here. The `/` of a comment is none.
     fn spacing(&self) -> Spacing
-        ensures { result ≡ division.spacing_before (chars self.now.rest.now) }
+        ensures { result ≡ signs.spacing_before (chars self.now.rest.now) }
     {
         if begins(self.rest, Class::Punct) && !self.is_at_comment() {
             Spacing::Joint
@@ -590,7 +592,7 @@ impl<'t> Scanner<'t> {
     }
 
     fn is_at_comment(&self) -> bool
-        ensures { result ≡ division.begins_comment (chars self.now.rest.now) }
+        ensures { result ≡ begins_comment (chars self.now.rest.now) }
     {
         begins_with(self.rest, "//") || begins_with(self.rest, "/*")
     }
@@ -603,7 +605,7 @@ impl<'t> Scanner<'t> {
         ensures reads { IfOk result (λ l.
             self.old.rest.now ≡ lexeme_text l ++ self.new.rest.now) }
         ensures within { IfErr result (λ fault. fault.offset ≤ self.old.total) }
-        ensures exact { Gives (division.read_sign self.old.total (chars self.old.rest.now))
+        ensures exact { Gives (signs.read_sign self.old.total (chars self.old.rest.now))
             result (chars self.new.rest.now) }
     {
         let start = self.offset();
@@ -631,7 +633,7 @@ impl<'t> Scanner<'t> {
             → IfOk result (λ l. self.old.rest.now ≡ lexeme_text l ++ self.new.rest.now) }
         ensures within { IfErr result (λ fault. fault.offset ≤ self.old.total) }
         ensures exact { (rest : List ℕ) → chars self.old.rest.now ≡ char ∷ rest
-            → Gives (division.read_shape self.old.total (chars self.old.rest.now))
+            → Gives (read_shape self.old.total (chars self.old.rest.now))
             result (chars self.new.rest.now) }
     {
         if Class::IdentStart.has(char) {
@@ -665,8 +667,8 @@ impl<'t> Scanner<'t> {
         ensures spelled { IfOk result (λ token. IfSome token (λ t.
             slice_range self.old.text.now t.span.start t.span.end ≡ item_text (token_item t))) }
         ensures within { IfErr result (λ fault. fault.offset ≤ self.old.total) }
-        ensures exact { division.IsNext self.old.file self.old.total
-            (division.next_token self.old.total (chars self.old.rest.now))
+        ensures exact { IsNext self.old.file self.old.total
+            (next_token self.old.total (chars self.old.rest.now))
             result (chars self.new.rest.now) }
     {
         self.trivia()?;

@@ -129,7 +129,7 @@ fn assert_fault(rt: &impl Abort, alloc: Global, text: &str, want: u32) -> Result
 
 // Texts with their tokens: a literal is its kind and its text, with `|` before a suffix, a punct its char and its spacing.
 // After each are its bytes, and after an opening those of the closing too.
-static TOKENS: [(&str, &str); 84] = [
+static TOKENS: [(&str, &str); 97] = [
     // White space and comments are passed over, block comments nest, and one without an end is at fault where it begins.
     (" \t\r\n", ""),
     ("a//b\nc", "a 0..1, c 5..6"),
@@ -137,12 +137,18 @@ static TOKENS: [(&str, &str); 84] = [
     ("//!a\n///b\n/** c */d", "d 18..19"),
     ("/*/**/*/a", "a 8..9"),
     ("/**/a", "a 4..5"),
+    ("/***/a", "a 5..6"),
+    ("/*// */a", "a 7..8"),
+    ("/*/*/**/*/*/a", "a 12..13"),
+    ("//a\rb\nc", "c 6..7"),
     ("a/b", "a 0..1, / alone 1..2, b 2..3"),
     ("a*/b", "a 0..1, * joint 1..2, / alone 2..3, b 3..4"),
     // Identifiers are as long as they can be. One that would begin a prefixed string or a byte literal is a fault.
     ("_ _1 é1", "_ 0..1, _1 2..4, é1 5..8"),
     ("a-b", "a 0..1, - alone 1..2, b 2..3"),
+    ("e\u{301}", "e\u{301} 0..3"),
     ("r#a r#_ r#é1", "r#a 0..3, r#_ 4..7, r#é1 8..13"),
+    ("r#crate", "r#crate 0..7"),
     ("r#", "r 0..1, # alone 1..2"),
     ("r#1", "r 0..1, # alone 1..2, Integer 1 2..3"),
     ("r# a", "r 0..1, # alone 1..2, a 3..4"),
@@ -151,9 +157,11 @@ static TOKENS: [(&str, &str); 84] = [
     ("a#\"b\"", "a 0..1, # alone 1..2, Str b 2..5"),
     ("b 'a'", "b 0..1, Char a 2..5"),
     ("br'a'", "br 0..2, Char a 2..5"),
+    ("c'a'", "c 0..1, Char a 1..4"),
     // A string ends at the next quote that no `\` takes with it.
     ("\"a\"", "Str a 0..3"),
     ("\"\"", "Str  0..2"),
+    ("\"a\nb\"", "Str a\nb 0..5"),
     ("\"a\\\"b\"", "Str a\\\"b 0..6"),
     ("\"\\\\\"", "Str \\\\ 0..4"),
     ("\"//é\" b", "Str //é 0..6, b 7..8"),
@@ -164,6 +172,8 @@ static TOKENS: [(&str, &str); 84] = [
     ("'ab'c'", "' joint 0..1, ab 1..3, Char c 3..6"),
     ("'é'", "Char é 0..4"),
     ("'\\''", "Char \\' 0..4"),
+    ("'\\\\'", "Char \\\\ 0..4"),
+    ("'\t'", "Char \t 0..3"),
     ("'\\n'", "Char \\n 0..4"),
     ("'\\u{61}'", "Char \\u{61} 0..8"),
     ("'\\ab'", "Char \\ab 0..5"),
@@ -188,6 +198,7 @@ static TOKENS: [(&str, &str); 84] = [
         "Integer 0|X1 0..3, Integer 0|B1 4..7, Integer 0|O7 8..11",
     ),
     ("0x1.5", "Integer 0x1 0..3, . alone 3..4, Integer 5 4..5"),
+    ("0b1.5", "Integer 0b1 0..3, . alone 3..4, Integer 5 4..5"),
     ("0x1e+5", "Integer 0x1e 0..4, + alone 4..5, Integer 5 5..6"),
     (".1", ". alone 0..1, Integer 1 1..2"),
     // A number is a float where a fraction or an exponent is taken.
@@ -212,6 +223,7 @@ static TOKENS: [(&str, &str); 84] = [
     ("1.0e", "Float 1.0|e 0..4"),
     ("1e 1e_5", "Integer 1|e 0..2, Integer 1|e_5 3..7"),
     ("1e+", "Integer 1|e 0..2, + alone 2..3"),
+    ("1e+_5", "Integer 1|e 0..2, + alone 2..3, _5 3..5"),
     ("1e+x", "Integer 1|e 0..2, + alone 2..3, x 3..4"),
     // An identifier directly after a literal is its suffix.
     ("1u8 1_é", "Integer 1|u8 0..3, Integer 1_|é 4..8"),
@@ -235,19 +247,26 @@ static TOKENS: [(&str, &str); 84] = [
     ("+//\n+", "+ alone 0..1, + alone 4..5"),
     ("+/ /", "+ joint 0..1, / alone 1..2, / alone 3..4"),
     ("+'a", "+ alone 0..1, ' joint 1..2, a 2..3"),
+    ("+'a'", "+ alone 0..1, Char a 1..4"),
     ("+(+", "+ alone 0..1, ( 1..2 3..3, + alone 2..3, end"),
     ("+\"\"", "+ alone 0..1, Str  1..3"),
     (";+;", "; joint 0..1, + joint 1..2, ; alone 2..3"),
 ];
 
 // Texts that aren't lexed, with the byte at fault.
-static FAULTS: [(&str, u32); 41] = [
+static FAULTS: [(&str, u32); 52] = [
     // White space and comments are passed over, block comments nest, and one without an end is at fault where it begins.
     ("a /* b", 2),
     ("a /* /* */", 2),
     ("/*/", 0),
+    ("/**", 0),
+    ("/*//*/a", 0),
+    ("a\u{b}b", 1),
     ("a\u{c}b", 1),
+    ("a\u{85}b", 1),
     ("a\u{a0}b", 1),
+    ("a\u{2028}b", 1),
+    ("\u{feff}a", 0),
     // Identifiers are as long as they can be. One that would begin a prefixed string or a byte literal is a fault.
     ("a\"b\"", 0),
     ("x r#a\"b\"", 2),
@@ -258,6 +277,7 @@ static FAULTS: [(&str, u32); 41] = [
     ("b'a'", 0),
     ("x b'", 2),
     ("u8\"\"", 0),
+    ("ⓐ", 0),
     // A string ends at the next quote that no `\` takes with it.
     ("\"abc", 0),
     ("a \"b\\\"", 2),
@@ -275,8 +295,10 @@ static FAULTS: [(&str, u32); 41] = [
     ("' a", 0),
     ("'a\"b\"", 1),
     ("'ab'", 3),
+    ("'e\u{301}'", 4),
     // Integers in four bases.
     ("٣", 0),
+    ("1٣", 1),
     // An identifier directly after a literal is its suffix.
     ("1u8\"a\"", 1),
     ("'a'b'c'", 3),
@@ -286,6 +308,8 @@ static FAULTS: [(&str, u32); 41] = [
     ("{ ( }", 4),
     ("é }", 3),
     ("(a))", 3),
+    (") `", 0),
+    ("` )", 0),
     // A punct is joint where the next token begins directly after it and is a punct; any other character is a fault.
     ("a `", 2),
     ("\\", 0),

@@ -21,6 +21,8 @@ use Rattle.mbe_semantics.specs.Syntax.Op.{Name, Op, Ops, op, no_ops, repetition,
 use Rattle.mbe_semantics.specs.Bindings.Environment.{Environment, value_of, Value, fragment, list, empty, missing}
 use Rattle.mbe_semantics.specs.declared.rounds.Level.{Level}
 use Rattle.mbe_semantics.specs.Writing.Rounds.{member, value_count, follow, reach, Path, level_at, value_total, totals, Extent, finite, endless, lesser, least_extent, extent_over, extent_of, extent_under}
+use Rattle.mbe_transcriber.specs.Faults.{lost, lost_in}
+use Rattle.mbe_transcriber.specs.declared.transcriber.following.Lost.TheVariants.{NoValue}
 use Rattle.mbe_transcriber.specs.Counting.{shorter, shortest, use_seen}
 use Rattle.mbe_log.specs.BindingViews.{value_seen, values_seen, fragment_seen}
 use Rattle.mbe_ops.specs.Views.{op_of, ops_of, separator_seen}
@@ -63,6 +65,12 @@ module _ {A : Type 0} (vs : List (Binding A)) (l : Level) (path : Path) where
   pub follow_lost : slice_get vs l.index ≡ None → follow (l ∷ path) (list (values_seen vs)) ≡ None
   follow_lost e = ap (option_and_then (follow path)) (member_seen vs l.index ∙ ap (option_map value_seen) e)
 
+  pub lost_member : (b : Binding A) → slice_get vs l.index ≡ Some b → lost (l ∷ path) (list (values_seen vs)) ≡ lost path (value_seen b)
+  lost_member b e = ap (lost_in (lost path)) (member_seen vs l.index ∙ ap (option_map value_seen) e)
+
+  pub lost_past : slice_get vs l.index ≡ None → lost (l ∷ path) (list (values_seen vs)) ≡ Some NoValue
+  lost_past e = ap (lost_in (lost path)) (member_seen vs l.index ∙ ap (option_map value_seen) e)
+
   pub reach_member : (b : Binding A) → slice_get vs l.index ≡ Some b → reach (l ∷ path) (list (values_seen vs)) ≡ reach path (value_seen b)
   reach_member b e = ap (option_and_then (reach path)) (member_seen vs l.index ∙ ap (option_map value_seen) e)
 
@@ -83,6 +91,16 @@ module _ {A : Type 0} (path inner : Path) (l : Level) (b : Binding A) (vs : Vec 
   pub follow_stop : length xs ≤ l.index → follow path (value_seen b) ≡ None
   follow_stop h =
       ap (λ x. follow x (value_seen b)) p ∙ (ap (λ x. follow (l ∷ inner) (value_seen x)) q ∙ (ap (follow (l ∷ inner)) (view-nested vs) ∙ follow_lost vs.items l inner (past h)))
+
+  lost_inside : lost path (value_seen b) ≡ lost (l ∷ inner) (list (values_seen vs.items))
+  lost_inside =
+      ap (λ x. lost x (value_seen b)) p ∙ (ap (λ x. lost (l ∷ inner) (value_seen x)) q ∙ ap (lost (l ∷ inner)) (view-nested vs))
+
+  pub lost_on : (v : Binding A) → l.index < length xs → v ≡ get_or xs l.index v → lost path (value_seen b) ≡ lost inner (value_seen v)
+  lost_on v h e = lost_inside ∙ lost_member vs.items l inner v (found v h e)
+
+  pub lost_stop : length xs ≤ l.index → lost path (value_seen b) ≡ Some NoValue
+  lost_stop h = lost_inside ∙ lost_past vs.items l inner (past h)
 
   pub reach_on : (v : Binding A) → l.index < length xs → v ≡ get_or xs l.index v → reach path (value_seen b) ≡ reach inner (value_seen v)
   reach_on v h e =

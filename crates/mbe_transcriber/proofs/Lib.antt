@@ -5,3 +5,5 @@ pub mod VariableLemmas
 pub mod PathLemmas
 pub mod JoinLemmas
 pub mod AgreeLemmas
+pub mod FaultLemmas
+pub mod LeftLemmas

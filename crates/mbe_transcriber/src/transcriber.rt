@@ -3,8 +3,8 @@
 // A repetition counts its rounds first, by the lists that its variables are bound to; then each round is written straight
 // into the builder, with the path of rounds that it is in. A fault stops nothing: the first is kept, and what follows is
 // written as far as it goes, since an editor shows the tree beside the error.
-ghost use Rattle.std.specs.Prelude.{◌≡◌, ◌<◌, Some, false, [], is_some, length, option_map, IfOk};
-ghost use Rattle.std.specs.Prelude.{OnOk};
+ghost use Rattle.std.specs.Prelude.{◌≡◌, ◌<◌, Some, true, false, [], is_some, length, option_map};
+ghost use Rattle.std.specs.Prelude.{IfOk, OnOk};
 ghost use Rattle.mbe_tt.specs.Buffers.Building.{put};
 ghost use Rattle.mbe_tt.specs.Views.Shown.{literal_of, ident_of};
 ghost use Rattle.mbe_tt.specs.Trees.Top.{top_group};
@@ -19,6 +19,9 @@ ghost use Rattle.mbe_log.specs.BindingViews.{bound_by};
 ghost use Rattle.mbe_transcriber.specs.Writing.{Appends, AreMarked, IsMarkedLiteral, IsMarkedIdent};
 ghost use Rattle.mbe_transcriber.specs.Writing.{IsWritten, AreWritten, IsVariableWritten, IsParted};
 ghost use Rattle.mbe_transcriber.specs.Writing.{Wrote};
+ghost use Rattle.mbe_transcriber.specs.Beside.{IsLeft, AreLeft, IsWhatIsLeft};
+ghost use Rattle.mbe_transcriber.specs.FaultViews.{error_of_fault};
+ghost use Rattle.mbe_transcriber.specs.Faults.{at, variable_fault, op_fault, first_fault};
 
 mod expressions;
 mod fault;
@@ -65,6 +68,11 @@ pub fn transcribe<A: Allocator + Copy, G: FragmentGrammar, M: Fn(Span) -> Span +
     requires marks { MayMark (M.pre marker) }
     ensures fault { IfOk result (λ r.
         is_some r.err ≡ faults (bound_by bindings.now) [] (template_of template.now)) }
+    ensures first { IfOk result (λ r. errors_of r.err
+        ≡ first_fault call_site (bound_by bindings.now) [] (template_of template.now)) }
+    ensures left { IfOk result (λ r.
+        IsWhatIsLeft (G.grammar grammar.now) (M.post marker) call_site (bound_by bindings.now)
+        (template_of template.now) (top_group r.value)) }
     ensures substitution { IfOk result (λ r.
         faults (bound_by bindings.now) [] (template_of template.now) ≡ false
         → IsSubstitution (G.grammar grammar.now) (M.post marker) call_site (bound_by bindings.now)
@@ -106,9 +114,15 @@ fn expand_ops<'t, A: Allocator + Copy, G: FragmentGrammar, M: Fn(Span) -> Span +
 ) -> Result<Option<WritingFault<'t, A>>, AllocError>
     requires marks { MayMark (M.pre ctx.now.marker) }
     requires some_group { 0 < length builder.old }
-    ensures { IfOk result (λ fault. Wrote (is_some fault)
+    ensures wrote { IfOk result (λ fault. Wrote (is_some fault)
         (faults (bound_by ctx.now.bindings.now) path.now (ops_of ops.now))
         (AreWritten (G.grammar ctx.now.grammar.now) (M.post ctx.now.marker) ctx.now.call_site
+        (bound_by ctx.now.bindings.now) path.now (ops_of ops.now)) builder.old builder.new) }
+    ensures first { IfOk result (λ fault. option_map error_of_fault fault
+        ≡ first_fault ctx.now.call_site (bound_by ctx.now.bindings.now) path.now
+        (ops_of ops.now)) }
+    ensures left { IfOk result (λ _. Appends
+        (AreLeft (G.grammar ctx.now.grammar.now) (M.post ctx.now.marker) ctx.now.call_site
         (bound_by ctx.now.bindings.now) path.now (ops_of ops.now)) builder.old builder.new) }
 {
     let mut first = None;
@@ -129,9 +143,14 @@ fn expand_op<'t, A: Allocator + Copy, G: FragmentGrammar, M: Fn(Span) -> Span + 
 ) -> Result<Option<WritingFault<'t, A>>, AllocError>
     requires marks { MayMark (M.pre ctx.now.marker) }
     requires some_group { 0 < length builder.old }
-    ensures { IfOk result (λ fault. Wrote (is_some fault)
+    ensures wrote { IfOk result (λ fault. Wrote (is_some fault)
         (op_faults (bound_by ctx.now.bindings.now) path.now (op_of op.now))
         (IsWritten (G.grammar ctx.now.grammar.now) (M.post ctx.now.marker) ctx.now.call_site
+        (bound_by ctx.now.bindings.now) path.now (op_of op.now)) builder.old builder.new) }
+    ensures first { IfOk result (λ fault. option_map error_of_fault fault
+        ≡ op_fault ctx.now.call_site (bound_by ctx.now.bindings.now) path.now (op_of op.now)) }
+    ensures left { IfOk result (λ _. Appends
+        (IsLeft (G.grammar ctx.now.grammar.now) (M.post ctx.now.marker) ctx.now.call_site
         (bound_by ctx.now.bindings.now) path.now (op_of op.now)) builder.old builder.new) }
 {
     match op {
@@ -166,9 +185,16 @@ fn expand_group<'t, A: Allocator + Copy, G: FragmentGrammar, M: Fn(Span) -> Span
 ) -> Result<Option<WritingFault<'t, A>>, AllocError>
     requires marks { MayMark (M.pre ctx.now.marker) }
     requires some_group { 0 < length builder.old }
-    ensures { IfOk result (λ fault. Wrote (is_some fault)
+    ensures wrote { IfOk result (λ fault. Wrote (is_some fault)
         (op_faults (bound_by ctx.now.bindings.now) path.now (group delimiter (ops_of body.now)))
         (IsWritten (G.grammar ctx.now.grammar.now) (M.post ctx.now.marker) ctx.now.call_site
+        (bound_by ctx.now.bindings.now) path.now (group delimiter (ops_of body.now)))
+        builder.old builder.new) }
+    ensures first { IfOk result (λ fault. option_map error_of_fault fault
+        ≡ op_fault ctx.now.call_site (bound_by ctx.now.bindings.now) path.now
+        (group delimiter (ops_of body.now))) }
+    ensures left { IfOk result (λ _. Appends
+        (IsLeft (G.grammar ctx.now.grammar.now) (M.post ctx.now.marker) ctx.now.call_site
         (bound_by ctx.now.bindings.now) path.now (group delimiter (ops_of body.now)))
         builder.old builder.new) }
 {
@@ -191,11 +217,20 @@ fn expand_repeat<'t, A: Allocator + Copy, G: FragmentGrammar, M: Fn(Span) -> Spa
 ) -> Result<Option<WritingFault<'t, A>>, AllocError>
     requires marks { MayMark (M.pre ctx.now.marker) }
     requires some_group { 0 < length builder.old }
-    ensures { let whole = repetition (ops_of body.now)
+    ensures wrote { let whole = repetition (ops_of body.now)
         (option_map (λ s. separator_seen s.now) separator.entry) kind in
         IfOk result (λ fault. Wrote (is_some fault)
         (op_faults (bound_by ctx.now.bindings.now) path.now whole)
         (IsWritten (G.grammar ctx.now.grammar.now) (M.post ctx.now.marker) ctx.now.call_site
+        (bound_by ctx.now.bindings.now) path.now whole) builder.old builder.new) }
+    ensures first { let whole = repetition (ops_of body.now)
+        (option_map (λ s. separator_seen s.now) separator.entry) kind in
+        IfOk result (λ fault. option_map error_of_fault fault
+        ≡ op_fault ctx.now.call_site (bound_by ctx.now.bindings.now) path.now whole) }
+    ensures left { let whole = repetition (ops_of body.now)
+        (option_map (λ s. separator_seen s.now) separator.entry) kind in
+        IfOk result (λ _. Appends
+        (IsLeft (G.grammar ctx.now.grammar.now) (M.post ctx.now.marker) ctx.now.call_site
         (bound_by ctx.now.bindings.now) path.now whole) builder.old builder.new) }
 {
     let rounds = match kept_rounds(kind, rounds_of(ctx.bindings, path, body)) {
@@ -289,10 +324,13 @@ fn write_var<'t, A: Allocator + Copy, G, M: Fn(Span) -> Span + Copy>(
 ) -> Result<Option<WritingFault<'t, A>>, AllocError>
     requires marks { MayMark (M.pre ctx.now.marker) }
     requires some_group { 0 < length builder.old }
-    ensures { IfOk result (λ fault. Wrote (is_some fault)
+    ensures wrote { IfOk result (λ fault. Wrote (is_some fault)
         (variable_faults (bound_by ctx.now.bindings.now) path.now name.now)
         (IsVariableWritten (M.post ctx.now.marker) ctx.now.call_site
         (bound_by ctx.now.bindings.now) path.now name.now id) builder.old builder.new) }
+    ensures first { IfOk result (λ fault. option_map error_of_fault fault
+        ≡ option_map (at id) (variable_fault (bound_by ctx.now.bindings.now) path.now name.now)) }
+    ensures unchanged { IfOk result (λ fault. is_some fault ≡ true → builder.new ≡ builder.old) }
 {
     let Some(binding) = ctx.bindings.get(name) else {
         write_unbound(name, id, builder)?;

@@ -20,6 +20,13 @@ ghost use Rattle.mbe_log.specs.BindingViews.{bound_by, fragment_seen};
 ghost use Rattle.mbe_ops.specs.Views.{element_seen, elements_seen};
 ghost use Rattle.mbe_transcriber.specs.Writing.{Appends, Wrote, IsNumber, IsConcatWritten};
 ghost use Rattle.mbe_transcriber.specs.Writing.{IsJoined};
+ghost use Rattle.std.specs.Result.{result_err};
+ghost use Rattle.mbe_semantics.specs.Syntax.Op as Expression;
+ghost use Rattle.mbe_semantics.specs.Bindings.Environment.{value_of};
+ghost use Rattle.mbe_transcriber.specs.Beside.{name_left};
+ghost use Rattle.mbe_transcriber.specs.FaultViews.{kind_of_fault, error_of_fault};
+ghost use Rattle.mbe_transcriber.specs.Faults.{at, bound_fault, count_fault, needed_fault};
+ghost use Rattle.mbe_transcriber.specs.Faults.{element_fault, expression_fault, first_of, joined};
 
 use crate::transcriber::fault::{FaultKind, WritingFault};
 use crate::transcriber::following::{Lost, Simple, follow, simple_at, value_total};
@@ -64,10 +71,14 @@ pub(crate) fn write_count<'t, A: Allocator + Copy, G, M>(
     path: &[Level],
     builder: &mut TopSubtreeBuilder<A>,
 ) -> Result<Option<WritingFault<'t, A>>, AllocError>
-    ensures { IfOk result (λ fault. Wrote (is_some fault)
+    ensures wrote { IfOk result (λ fault. Wrote (is_some fault)
         (not (is_counted depth (followed (bound_by ctx.now.bindings.now) path.now name.now)))
         (IsNumber (total_of depth (followed (bound_by ctx.now.bindings.now) path.now name.now))
         ctx.now.call_site) builder.old builder.new) }
+    ensures first { IfOk result (λ fault. option_map error_of_fault fault
+        ≡ expression_fault ctx.now.call_site (bound_by ctx.now.bindings.now) path.now
+        (Expression.count name.now depth)) }
+    ensures unchanged { IfOk result (λ fault. is_some fault ≡ true → builder.new ≡ builder.old) }
 {
     match count(ctx.bindings, name, depth, path) {
         Ok(number) => {
@@ -88,8 +99,10 @@ pub(crate) fn find_ignored<'t, A: Allocator>(
     id: Span,
     path: &[Level],
 ) -> Option<WritingFault<'t, A>>
-    ensures { is_some result
+    ensures told { is_some result
         ≡ not (is_simple (followed (bound_by bindings.now) path.now name.now)) }
+    ensures fault { option_map error_of_fault result
+        ≡ option_map (at id) (needed_fault (bound_by bindings.now) path.now name.now) }
 {
     simple_of(bindings, name, id, path).err()
 }
@@ -105,6 +118,8 @@ fn simple_of<'b, 't, 'a, A: Allocator>(
         ≡ Some (simple_value s)) }
     ensures lost { IfErr result (λ _.
         is_simple (followed (bound_by bindings.now) path.now name.now) ≡ false) }
+    ensures fault { option_map error_of_fault (result_err result)
+        ≡ option_map (at span) (needed_fault (bound_by bindings.now) path.now name.now) }
 {
     match bindings.get(name) {
         Some(binding) => simple_at(binding, name, span, path),
@@ -127,6 +142,9 @@ fn count<'t, A: Allocator>(
         × (n ≡ total_of depth (followed (bound_by bindings.now) path.now name.now))) }
     ensures lost { IfErr result
         (λ _. is_counted depth (followed (bound_by bindings.now) path.now name.now) ≡ false) }
+    ensures fault { option_map kind_of_fault (result_err result)
+        ≡ bound_fault name.now (count_fault name.now depth path.now)
+        (value_of (bound_by bindings.now) name.now) }
 {
     let Some(binding) = bindings.get(name) else {
         return Err(FaultKind::Unresolved(name));
@@ -147,11 +165,18 @@ pub(crate) fn write_concat<'t, A: Allocator + Copy, G: FragmentGrammar, M: Fn(Sp
     builder: &mut TopSubtreeBuilder<A>,
 ) -> Result<Option<WritingFault<'t, A>>, AllocError>
     requires { MayMark (M.pre ctx.now.marker) }
-    ensures { IfOk result (λ fault. Wrote (is_some fault)
+    ensures wrote { IfOk result (λ fault. Wrote (is_some fault)
         (is_none (concat_text
         (bound_by ctx.now.bindings.now) path.now (elements_seen elements.now)))
         (IsConcatWritten (G.grammar ctx.now.grammar.now) (M.post ctx.now.marker) span
         (concat_text (bound_by ctx.now.bindings.now) path.now (elements_seen elements.now)))
+        builder.old builder.new) }
+    ensures first { IfOk result (λ fault. option_map error_of_fault fault
+        ≡ expression_fault ctx.now.call_site (bound_by ctx.now.bindings.now) path.now
+        (Expression.concat (elements_seen elements.now) span)) }
+    ensures left { IfOk result (λ _. Appends
+        (IsConcatWritten (G.grammar ctx.now.grammar.now) (M.post ctx.now.marker) span (Some
+        (name_left (joined (bound_by ctx.now.bindings.now) path.now (elements_seen elements.now)))))
         builder.old builder.new) }
 {
     let (text, fault) = joined_text(ctx, elements, path)?;
@@ -196,8 +221,13 @@ fn joined_text<'t, A: Allocator + Copy, G, M>(
     elements: &'t [ConcatMetaVarExprElem<A>],
     path: &[Level],
 ) -> Result<(String<A>, Option<WritingFault<'t, A>>), AllocError>
-    ensures { IfOk result (λ r. IsJoined (string_bytes r.0) (is_some r.1)
+    ensures all { IfOk result (λ r. IsJoined (string_bytes r.0) (is_some r.1)
         (spec.joined_text (bound_by ctx.now.bindings.now) path.now (elements_seen elements.now))) }
+    ensures text { IfOk result (λ r. string_bytes r.0
+        ≡ joined (bound_by ctx.now.bindings.now) path.now (elements_seen elements.now)) }
+    ensures fault { IfOk result (λ r. option_map error_of_fault r.1
+        ≡ first_of (element_fault (bound_by ctx.now.bindings.now) path.now)
+        (elements_seen elements.now)) }
 {
     let mut text = String::new(ctx.alloc);
     let mut fault = None;
@@ -220,6 +250,8 @@ fn element_text<'b, 't: 'b, A: Allocator>(
         (bound_by bindings.now) path.now (element_seen element.now) ≡ Some text.now) }
     ensures lost { IfErr result (λ _. text_of_element
         (bound_by bindings.now) path.now (element_seen element.now) ≡ None) }
+    ensures fault { option_map error_of_fault (result_err result)
+        ≡ element_fault (bound_by bindings.now) path.now (element_seen element.now) }
 {
     let variable = match element {
         ConcatMetaVarExprElem::Ident(ident) => return Ok(ident.sym.as_str()),

@@ -1,9 +1,11 @@
 // Where a name leads in the rounds that a template is in, and how many rounds a repetition writes.
 ghost use Rattle.std.specs.Prelude.{◌≡◌, ◌≤◌, ◌^◌, ℕ, Some, None, true, false, filter_map};
 ghost use Rattle.std.specs.Prelude.{option_map, IfOk, IfErr, MatchOption};
-ghost use Rattle.std.specs.Result.{result_ok};
+ghost use Rattle.std.specs.Result.{result_ok, result_err};
 ghost use Rattle.mbe_transcriber.specs.Counting.{shortest, shorter, extent_seen, use_seen};
 ghost use Rattle.mbe_transcriber.specs.Counting.{simple_value};
+ghost use Rattle.mbe_transcriber.specs.FaultViews.{kind_of_fault, error_of_fault};
+ghost use Rattle.mbe_transcriber.specs.Faults.{at, lost, simple_fault, extent_fault};
 ghost use Rattle.mbe_semantics.specs.Syntax.Op.{uses_of, uses_of_op, uses_of_elements};
 ghost use Rattle.mbe_semantics.specs.Writing.Rounds as spec;
 ghost use Rattle.mbe_semantics.specs.Writing.Rounds.{follow, reach, kept, finite, level_at};
@@ -62,8 +64,9 @@ pub(crate) fn follow<'b, 'a, A: Allocator>(
     binding: &'b Binding<'a, A>,
     path: &[Level],
 ) -> Result<&'b Binding<'a, A>, Lost>
-    ensures { option_map (λ b. value_seen b.now) (result_ok result)
+    ensures value { option_map (λ b. value_seen b.now) (result_ok result)
         ≡ follow path.now (value_seen binding.now) }
+    ensures lost { result_err result ≡ lost path.now (value_seen binding.now) }
 {
     let Some((level, inner)) = path.split_first() else {
         return Ok(binding);
@@ -108,6 +111,8 @@ pub(crate) fn simple_at<'b, 't, 'a, A: Allocator>(
         ≡ Some (simple_value s)) }
     ensures lost { IfErr result (λ _.
         is_simple (follow path.now (value_seen binding.now)) ≡ false) }
+    ensures fault { option_map error_of_fault (result_err result) ≡ option_map (at span)
+        (simple_fault name.now path.now (value_seen binding.now)) }
 {
     let kind = match follow(binding, path) {
         Ok(Binding::Fragment(fragment)) => return Ok(Simple::Fragment(fragment)),
@@ -308,6 +313,8 @@ pub(crate) fn kept_rounds<'t, A: Allocator>(
         × (extent_faults kind (finite n) ≡ false)) }
     ensures refused { IfErr result (λ _.
         extent_faults kind (kept kind (extent_seen extent)) ≡ true) }
+    ensures fault { option_map kind_of_fault (result_err result)
+        ≡ extent_fault kind (kept kind (extent_seen extent)) }
 {
     match (kind, extent) {
         (RepeatKind::ZeroOrOne, Extent::Endless) => Ok(1),

@@ -1,9 +1,9 @@
-use Rattle.std.proofs.Common.{◌≡◌, ◌+◌, ◌∙◌, ◌++◌, ◌∷◌, ℕ, Some, None, [], length, map, reverse, get_or, sym, ap, subst, arith}
+use Rattle.std.proofs.Common.{◌≡◌, ◌+◌, ◌∙◌, ◌++◌, ◌∷◌, ℕ, Some, None, [], length, map, reverse, get_or, refl, sym, ap, subst, arith}
 use Rattle.std.specs.Prelude.{IfSome}
 use Rattle.mbe_tt.specs.Views.View.{trees}
 use Rattle.mbe_tt.specs.Trees.Tree.{flat_len, tree_count, rest_at}
 use Rattle.mbe_semantics.specs.Readings.Input.{input_of}
-use Rattle.mbe_semantics.specs.Readings.Verdict.{IsVerdict, unmatched}
+use Rattle.mbe_semantics.specs.Readings.Verdict.{IsVerdict, stop_of, unmatched}
 use Rattle.mbe_semantics.specs.Laws.Lawful.{Lawful}
 use Rattle.mbe_semantics.specs.Matching.Dots.{dots}
 use Rattle.mbe_semantics.specs.Matching.Settled.{after_of}
@@ -11,10 +11,12 @@ use Rattle.mbe_semantics.specs.Syntax.Nullable.{Checked}
 use Rattle.mbe_semantics.proofs.InputLemmas.{lawful_input}
 use Rattle.mbe_ops.specs.Views.{ops_of, template_of}
 use Rattle.mbe_log.proofs.ClientLemmas.{kept-on}
-use Rattle.mbe_bounds.specs.Loop.Kept.{kept_moves}
+use Rattle.mbe_bounds.specs.Loop.Kept.{kept, kept_moves}
 use Rattle.mbe_bounds.proofs.Loop.TurnedPlaces.{ComesTo}
 use Rattle.mbe_matcher.specs.declared.position.Waiting.{Waiting}
 use Rattle.mbe_matcher.specs.Positions.{Each, Shows, IsLeft}
+use Rattle.mbe_matcher.specs.Failures.{no_notes, noted_at, FollowsWith, follows_next, AreFollowedNotes}
+use Rattle.mbe_matcher.specs.Reports.{IsReportOf, IsReportAt}
 use Rattle.mbe_matcher.specs.Matched.{position_after, stop_at, verdict_in, reading_in, Binds}
 use Rattle.mbe_matcher.proofs.MatchEnds.{right_stop, stop_place, binds_stop, next, stop_has_entries, come_first, stack_of, shown_after}
 use Rattle.mbe_matcher.proofs.places.reach.Goals as goal
@@ -32,9 +34,10 @@ loop-source-init g c =
     let one = c.in_ok-push.ensures.ok ∙ ap (λ l. l ++ p ∷ []) c.new-todo.ensures.items in
     let all : c.in_ok-dots.dots ≡ dots pat =
     subst (λ r. IfSome r (λ n. n ≡ dots (ops_of c.deref.result.now))) c.in_ok-dots.ensures.ok_part c.dots_of.ensures ∙ ap (λ l. dots (ops_of l)) c.deref.ensures.value in
+    let first = come_first (input_of h (trees s.whole)) pat (flat_len (trees s.whole)) c.at_start.new.log c.in_ok-state.state.outers.items c.push.new.self.items s.place p c.new-source.ensures.place one
+    c.in_ok-position.ensures.start in
     record {
-      comes = come_first (input_of h (trees s.whole)) pat (flat_len (trees s.whole)) c.at_start.new.log c.in_ok-state.state.outers.items c.push.new.self.items s.place p c.new-source.ensures.place one
-          c.in_ok-position.ensures.start;
+      comes = (first.0, first.1, first.2, no_notes, first.3, c.in_ok-state.ensures.notes c.at_start.new.log (trees s.whole));
       whole = c.new-source.ensures.whole;
       blank = λ q l. c.in_ok-state.ensures.blank q (omega arith);
       size = c.in_ok-state.ensures.size ∙ all;
@@ -285,6 +288,7 @@ loop-source-preserved g c =
     let some = n.some in
     let at : c.in_ok-source.source.place ≡ s.place + n.first.width = c.in_ok-source.ensures.place ∙ ap (λ k. s.place + k) wide in
     let new = map after_of (kept_moves i (dots pat) s.place (reverse inv.comes.0)) in
+    let noted = noted_at i s.place (kept i (dots pat) s.place (reverse inv.comes.0)) inv.comes.3 in
     let arrived : c.come.new.todo.items ≡ map position_after ws =
     c.in_ok-come.ensures ∙ ap (λ l. c.settle.new.todo.items ++ map position_after l) c.deref-in-loop-source-4.ensures ∙ ap (λ l. l ++ map position_after ws) c.in_ok-settle.ensures.done in
     record {
@@ -298,6 +302,10 @@ loop-source-preserved g c =
             let first : c.index-deref-0.result ≡ n.first = c.index-deref-0.is ∙ ap (λ l. get_or l 0 c.index-deref-0.result) (c.deref-in-loop-source-3.ensures ∙ n.is) in
             let there : c.in_ok-source.source.place ≡ s.place + n.first.width = c.in_ok-source.ensures.place ∙ ap (λ (x : Waiting g.row.A.Denot). s.place + x.width) first in
             subst (λ k. ComesTo (input_of h (trees s.whole)) pat (flat_len (trees s.whole)) lawful checked k new) (sym there) n.comes_next),
+        noted,
+        subst (λ x. FollowsWith (input_of h (trees x)) pat c.in_ok-source.source.place new noted) (sym c.in_ok-source.ensures.whole)
+            (follows_next s.place c.in_ok-source.source.place n.first.width inv.comes.0 inv.comes.3 inv.comes.4 n.goes_over n.agrees at),
+        subst (λ x. IsReportOf log (trees x) c.settle.new.state.report [] noted) (sym c.in_ok-source.ensures.whole) (c.in_ok-settle.ensures.notes stack inv.comes.3 inv.comes.5),
       );
       whole = c.in_ok-source.ensures.whole ∙ inv.whole;
       blank = λ q l. c.in_ok-settle.ensures.blank q (omega (arith, l, at, some));
@@ -308,3 +316,29 @@ loop-source-preserved g c =
 
 pub returns-in-Some-clause-report : goal.returns-in-Some-clause-report
 returns-in-Some-clause-report g c = c.in_ok-settle.ensures.report c.loop-source.invariant.report
+
+pub returns-in-Some-clause-notes : goal.returns-in-Some-clause-notes
+returns-in-Some-clause-notes g c =
+    let h = g.G.FragmentGrammar.grammar c.args.grammar.now in
+    let s = c.loop-source.source in
+    let i = input_of h (trees s.whole) in
+    let len = flat_len (trees s.whole) in
+    let pat = template_of c.args.pattern.now in
+    let w = lawful_input h (trees s.whole) (g.met.G.FragmentGrammar.lawful c.args.grammar.now) in
+    let inv = c.loop-source.invariant in
+    let come = inv.comes.2 w c.requires in
+    let stack = stack_of i pat len w c.requires s.place (length c.loop-source.state.counts.marks.items) c.loop-source.log c.loop-source.state.outers.items c.loop-source.todo.items inv.comes.0 (sym inv.size) come inv.comes.1 in
+    let st = c.in_ok-settle.ensures.settled stack in
+    let ws = c.settle.new.settled.waiting.items in
+    let hs = c.settle.new.settled.ends.items in
+    let log = c.settle.new.log in
+    let outers = c.settle.new.state.outers.items in
+    let waits = c.deref-in-loop-source.ensures in
+    let ends = c.deref-in-loop-source-2.ensures in
+    let v = verdict_in c.in-Some.stop in
+    let e : Some v ≡ stop_at s.place len ws hs =
+    c.in-Some.ensures.stop ∙ ap (λ l. stop_at s.place len l c.deref-in-loop-source-2.result.now) waits ∙ ap (stop_at s.place len ws) ends in
+    let stop = stop_place h pat (trees s.whole) w c.requires s.place inv.comes.0 come s.within log outers ws hs st v e in
+    let noted = noted_at i s.place (kept i (dots pat) s.place (reverse inv.comes.0)) inv.comes.3 in
+    let are = subst (λ k. AreFollowedNotes i pat k noted) (sym stop) (inv.comes.0, inv.comes.3, inv.comes.4, refl) in
+    subst (λ x. IsReportAt h pat (trees x) log (stop_of (trees x) v) c.settle.new.state.report) inv.whole (noted, are, c.in_ok-settle.ensures.notes stack inv.comes.3 inv.comes.5)

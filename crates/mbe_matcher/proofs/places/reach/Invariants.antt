@@ -1,4 +1,4 @@
-use Rattle.std.proofs.Common.{◌≡◌, ◌-◌, List, length}
+use Rattle.std.proofs.Common.{◌≡◌, ◌-◌, List, [], length}
 use Rattle.mbe_tt.specs.Views.View.{trees}
 use Rattle.mbe_tt.specs.Trees.Tree.{flat_len}
 use Rattle.mbe_semantics.specs.Laws.Lawful.{Lawful}
@@ -11,7 +11,8 @@ use Rattle.mbe_ops.specs.Views.{template_of}
 use Rattle.mbe_bounds.proofs.Loop.TurnedPlaces.{ComesTo}
 use Rattle.mbe_matcher.specs.Counts.{AreBlankFrom}
 use Rattle.mbe_matcher.specs.Positions.{Each, Shows}
-use Rattle.mbe_matcher.specs.Reports.{IsReport}
+use Rattle.mbe_matcher.specs.Failures.{Notes, FollowsWith}
+use Rattle.mbe_matcher.specs.Reports.{IsReport, IsReportOf}
 use Rattle.mbe_matcher.proofs.places.reach.Given as goal
 
 abbrev pub invariant-loop-source : goal.invariant-loop-source
@@ -19,7 +20,9 @@ invariant-loop-source g l = record {
   report : IsReport l.log l.state.report;
   comes : (spots : List Outline) × Each (Shows l.log l.state.outers.items) l.todo.items spots
       × ((lawful : Lawful (input_of (g.G.FragmentGrammar.grammar l.grammar) (trees l.source.whole)) (flat_len (trees l.source.whole))) (checked : Checked (template_of l.pattern)) →
-      ComesTo (input_of (g.G.FragmentGrammar.grammar l.grammar) (trees l.source.whole)) (template_of l.pattern) (flat_len (trees l.source.whole)) lawful checked l.source.place spots);
+      ComesTo (input_of (g.G.FragmentGrammar.grammar l.grammar) (trees l.source.whole)) (template_of l.pattern) (flat_len (trees l.source.whole)) lawful checked l.source.place spots)
+      × (before : Notes) × FollowsWith (input_of (g.G.FragmentGrammar.grammar l.grammar) (trees l.source.whole)) (template_of l.pattern) l.source.place spots before
+      × IsReportOf l.log (trees l.source.whole) l.state.report [] before;
   whole : l.source.whole ≡ l.argument;
   blank : AreBlankFrom l.state.counts.marks.items l.source.place;
   size : length l.state.counts.marks.items ≡ dots (template_of l.pattern);

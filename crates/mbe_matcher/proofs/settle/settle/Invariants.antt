@@ -1,4 +1,5 @@
-use Rattle.std.proofs.Common.{◌≡◌, ◌+◌, ◌≤◌, ℕ, List, length, reverse}
+use Rattle.std.proofs.Common.{◌≡◌, ◌+◌, ◌≤◌, ℕ, List, [], length, reverse}
+use Rattle.std.specs.List.{filter_map}
 use Rattle.mbe_tt.specs.Trees.Tree.{rest_at}
 use Rattle.mbe_tt.specs.Views.View.{trees}
 use Rattle.mbe_semantics.specs.Matching.Dots.{dots}
@@ -7,7 +8,8 @@ use Rattle.mbe_bounds.specs.Loop.Kept.{kept}
 use Rattle.mbe_matcher.specs.Counts.{AreCounted, AreBlankFrom, vacancies}
 use Rattle.mbe_matcher.specs.Positions.{Keeps}
 use Rattle.mbe_matcher.specs.Matched.{IsStack}
-use Rattle.mbe_matcher.specs.Reports.{IsReport}
+use Rattle.mbe_matcher.specs.Failures.{Notes, misfit}
+use Rattle.mbe_matcher.specs.Reports.{IsReport, IsReportOf}
 use Rattle.mbe_matcher.proofs.Settling.{Walked}
 use Rattle.mbe_matcher.proofs.settle.settle.Given as goal
 
@@ -21,9 +23,11 @@ invariant-loop-position g l = record {
       ≤ length l.fn.state.counts.marks.items + length l.fn.state.counts.marks.items;
   walked : (met : List ℕ) × AreCounted l.state.counts.marks.items l.source.place met
       × ((s : IsStack (input_of (g.G.FragmentGrammar.grammar l.grammar) (trees l.source.whole)) l.source.place (length l.fn.state.counts.marks.items) l.fn.log l.fn.state.outers.items l.fn.todo.items) →
-      Walked (input_of (g.G.FragmentGrammar.grammar l.grammar) (trees l.source.whole)) s.pattern l.source.place
+      (w : Walked (input_of (g.G.FragmentGrammar.grammar l.grammar) (trees l.source.whole)) s.pattern l.source.place
       (kept (input_of (g.G.FragmentGrammar.grammar l.grammar) (trees l.source.whole)) (dots s.pattern) l.source.place (reverse s.spots))
-      met l.log l.state.outers.items (rest_at (trees l.source.whole) l.source.place) l.todo.items l.settled.waiting.items l.settled.ends.items);
+      met l.log l.state.outers.items (rest_at (trees l.source.whole) l.source.place) l.todo.items l.settled.waiting.items l.settled.ends.items)
+      × ((n : Notes) → IsReportOf l.fn.log (trees l.source.whole) l.fn.state.report [] n →
+      IsReportOf l.log (trees l.source.whole) l.state.report (filter_map (misfit (input_of (g.G.FragmentGrammar.grammar l.grammar) (trees l.source.whole)) l.source.place) w.out) n));
 }
 
 abbrev pub decreases-loop-position : goal.decreases-loop-position

@@ -12,5 +12,6 @@ chars-preserved c =
     record {
       utf8 = IsUtf8-past_char c.chars.rest.now c.in-Some.after.now c.in-Some.char c.chars.invariant.utf8 next.bytes;
       exact = past_such c.args.class c.in-Some.char _ _ (sym c.if-has.ensures) next.chars ∙ c.chars.invariant.exact;
-      end = end_after c.args.text.now c.chars.rest.now c.in-Some.after.now c.in-Some.char c.chars.invariant.end next.bytes;
+      end = end_after c.args.text.now c.chars.rest.now c.in-Some.after.now c.in-Some.char c.chars.invariant.end
+          next.bytes;
     }

@@ -13,15 +13,19 @@ chars-preserved-then-is_second c =
     let within = c.bump-2.new.self.within in
     let small = c.bump-2.new.self.small in
     let few = w.few in
-    let sum : c.saturating_add-depth.result ≡ c.chars.depth + 1 = omega (arith, c.saturating_add-depth.ensures, one, two, within, small, few) in
-    let fewer : length c.bump-then-is_second.new.self.rest.now < length c.bump-in-chars.new.self.rest.now = past (omega (arith, two)) in
+    let sum : c.saturating_add-depth.result ≡ c.chars.depth + 1 =
+    omega (arith, c.saturating_add-depth.ensures, one, two, within, small, few) in
+    let fewer : length c.bump-then-is_second.new.self.rest.now < length c.bump-in-chars.new.self.rest.now =
+    past (omega (arith, two)) in
     record {
       on = search rules;
       inside = omega (arith, sum);
       few = omega (arith, sum, one, fewer, few);
       exact = ap (λ (n : ℕ). past_comments n (chars c.bump-then-is_second.new.self.rest.now)) sum
-          ∙ (comment_opens c.chars.depth c.in-Some.char (chars c.chars.self.rest.now) (chars c.bump-in-chars.new.self.rest.now) _
-          w.inside c.in-Some.ensures.exact (sym c.is_second.ensures.exact ∙ c.if-is_second.true) c.bump-then-is_second.ensures.rest ∙ w.exact);
+          ∙ (comment_opens c.chars.depth c.in-Some.char (chars c.chars.self.rest.now)
+          (chars c.bump-in-chars.new.self.rest.now) _
+          w.inside c.in-Some.ensures.exact (sym c.is_second.ensures.exact ∙ c.if-is_second.true)
+          c.bump-then-is_second.ensures.rest ∙ w.exact);
     }
 
 pub chars-preserved : goal.chars-preserved
@@ -33,7 +37,8 @@ chars-preserved c =
       on = search rules;
       inside = w.inside;
       few = omega (arith, one, few);
-      exact = comment_goes_on c.chars.depth c.in-Some.char (chars c.chars.self.rest.now) (chars c.bump-in-chars.new.self.rest.now)
+      exact = comment_goes_on c.chars.depth c.in-Some.char (chars c.chars.self.rest.now)
+          (chars c.bump-in-chars.new.self.rest.now)
           w.inside c.in-Some.ensures.exact (sym c.is_second.ensures.exact ∙ c.if-is_second.false)
           (sym c.is_second-else-is_second.ensures.exact ∙ c.if-is_second-2.false) ∙ w.exact;
     }
@@ -51,9 +56,11 @@ chars-preserved-else-depth-eq0 c =
       inside = omega (arith, none);
       few = omega (arith, less, one, on.3, few);
       exact = ap (λ (n : ℕ). past_comments n (chars c.bump-then-is_second-2.new.self.rest.now)) less
-          ∙ (comment_closes c.chars.depth c.in-Some.char (chars c.chars.self.rest.now) (chars c.bump-in-chars.new.self.rest.now) _
+          ∙ (comment_closes c.chars.depth c.in-Some.char (chars c.chars.self.rest.now)
+          (chars c.bump-in-chars.new.self.rest.now) _
           w.inside c.in-Some.ensures.exact (sym c.is_second.ensures.exact ∙ c.if-is_second.false)
-          (sym c.is_second-else-is_second.ensures.exact ∙ c.if-is_second-2.true) c.bump-then-is_second-2.ensures.rest ∙ w.exact);
+          (sym c.is_second-else-is_second.ensures.exact ∙ c.if-is_second-2.true) c.bump-then-is_second-2.ensures.rest
+          ∙ w.exact);
     }
 
 pub returns-then-depth-eq0-clause-exact : goal.returns-then-depth-eq0-clause-exact
@@ -61,11 +68,13 @@ returns-then-depth-eq0-clause-exact c =
     let w = c.chars.invariant in
     let less = c.saturating_sub-depth.ensures in
     let none = c.if-depth-eq0.true in
-    let start = drop_two (chars c.args.self.now.rest.now) (chars c.bump.new.self.rest.now) (chars c.bump-2.new.self.rest.now)
+    let start = drop_two (chars c.args.self.now.rest.now) (chars c.bump.new.self.rest.now)
+    (chars c.bump-2.new.self.rest.now)
     c.bump.ensures.rest c.bump-2.ensures.rest in
     let closing : past_comments (c.chars.depth - 1) (chars c.bump-then-is_second-2.new.self.rest.now)
     ≡ past_comments c.chars.depth (chars c.chars.self.rest.now) =
-    comment_closes c.chars.depth c.in-Some.char (chars c.chars.self.rest.now) (chars c.bump-in-chars.new.self.rest.now) _
+    comment_closes c.chars.depth c.in-Some.char (chars c.chars.self.rest.now) (chars c.bump-in-chars.new.self.rest.now)
+    _
     w.inside c.in-Some.ensures.exact (sym c.is_second.ensures.exact ∙ c.if-is_second.false)
     (sym c.is_second-else-is_second.ensures.exact ∙ c.if-is_second-2.true) c.bump-then-is_second-2.ensures.rest in
     ap (past_comments 1) (sym start) ∙ (sym w.exact ∙ (sym closing

@@ -20,6 +20,8 @@ returns-clause-reads c = λ b opens closes.
 pub returns-clause-exact : goal.returns-clause-exact
 returns-clause-exact c =
     quoted_read c.args.self.now.total c.quoted.new.self.total c.args.kind c.args.quote c.in-Some.text.now
-    (chars c.args.self.now.rest.now) (chars c.bump.new.self.rest.now) (chars c.quoted.new.self.rest.now) (chars c.literal.new.self.rest.now)
-    c.literal.result (c.quoted.ensures.on.1 ∙ c.bump.ensures.on.1) c.bump.ensures.rest c.in-Some.ensures.exact.0 c.in-Some.ensures.exact.1
+    (chars c.args.self.now.rest.now) (chars c.bump.new.self.rest.now) (chars c.quoted.new.self.rest.now)
+    (chars c.literal.new.self.rest.now)
+    c.literal.result (c.quoted.ensures.on.1 ∙ c.bump.ensures.on.1) c.bump.ensures.rest c.in-Some.ensures.exact.0
+    c.in-Some.ensures.exact.1
     c.literal.ensures.exact

@@ -15,7 +15,8 @@ pub parts-preserved : goal.parts-preserved
 parts-preserved c = record {
   on = search rules;
   exact = passes_block _ _ _ _ c.parts.invariant.exact (sym c.begins.ensures.exact ∙ c.if-begins.false)
-      (sym c.begins_with.ensures.exact ∙ c.if-begins_with.false) (sym c.begins_with-else-begins_with.ensures.exact ∙ c.if-begins_with-2.true)
+      (sym c.begins_with.ensures.exact ∙ c.if-begins_with.false)
+      (sym c.begins_with-else-begins_with.ensures.exact ∙ c.if-begins_with-2.true)
       c.in_ok-block_comment.ensures.exact;
 }
 
@@ -24,10 +25,12 @@ returns-in_err-block_comment-clause-exact c =
     let p = err_from_is_err_and c.from_residual.result c.from_residual.ensures.1 in
     let fault = c.in_err-block_comment.ensures.exact in
     rw (p.1, p.2) (passes_fault _ _ _ c.parts.invariant.exact (sym c.begins.ensures.exact ∙ c.if-begins.false)
-    (sym c.begins_with.ensures.exact ∙ c.if-begins_with.false) (sym c.begins_with-else-begins_with.ensures.exact ∙ c.if-begins_with-2.true) fault.0
+    (sym c.begins_with.ensures.exact ∙ c.if-begins_with.false)
+    (sym c.begins_with-else-begins_with.ensures.exact ∙ c.if-begins_with-2.true) fault.0
     ∙ ap Err (ap (λ (n : ℕ). offset n (chars c.parts.self.rest.now)) (sym c.parts.invariant.on.1) ∙ sym fault.1))
 
 pub returns-else-begins_with-2-clause-exact : goal.returns-else-begins_with-2-clause-exact
 returns-else-begins_with-2-clause-exact c =
     passes_last _ _ _ c.parts.invariant.exact (sym c.begins.ensures.exact ∙ c.if-begins.false)
-    (sym c.begins_with.ensures.exact ∙ c.if-begins_with.false) (sym c.begins_with-else-begins_with.ensures.exact ∙ c.if-begins_with-2.false)
+    (sym c.begins_with.ensures.exact ∙ c.if-begins_with.false)
+    (sym c.begins_with-else-begins_with.ensures.exact ∙ c.if-begins_with-2.false)

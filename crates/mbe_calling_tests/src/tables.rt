@@ -1,0 +1,65 @@
+// A grammar as a table.
+ghost use Rattle.std.specs.Prelude.{◌<◌, ◌^◌, length};
+
+use mbe_rules::node::{Keyword, Node, Terminal};
+use mbe_rules::table::{RuleTable, Starts};
+use mbe_text::lexer::{LexError, lex};
+use mbe_tt::grammar::{FragmentGrammar, PrefixEntryPoint};
+use mbe_tt::span::Edition;
+use std::alloc::Global;
+
+// A position without a node: a fragment that begins there faults.
+const NOWHERE: usize = 6;
+
+/// What `$e:expr` takes is a sum of names, as `a + b`.
+pub const SUMS: RuleTable<'static> = RuleTable {
+    nodes: &[
+        Node::Then(1, 2),
+        Node::Terminal(Terminal::Name),
+        Node::Repeated(3),
+        Node::Then(4, 5),
+        Node::Terminal(Terminal::Operator("+")),
+        Node::Needed(1),
+    ],
+    keywords: &[Keyword {
+        text: "let",
+        since: Edition::Edition2015,
+    }],
+    starts: Starts {
+        path: NOWHERE,
+        expr: 0,
+        ty: NOWHERE,
+        pat_top: NOWHERE,
+        pat: NOWHERE,
+        stmt: NOWHERE,
+        block: NOWHERE,
+        meta: NOWHERE,
+        item: NOWHERE,
+        vis: NOWHERE,
+    },
+    edition: Edition::Edition2021,
+    editions: &[],
+};
+
+/// How many tokens of a text are a sum, where it begins with one.
+pub fn sum_of(alloc: Global, text: &str) -> Result<Option<usize>, LexError>
+    requires { length text.now < 2 ^ 32 }
+{
+    let tree = lex(alloc, text, 0)?;
+    let front = SUMS.parse(PrefixEntryPoint::Expr, tree.iter().remaining())?;
+    Ok((!front.fault).then_some(front.count))
+}
+
+mod tests {
+    use super::sum_of;
+    use mbe_text::lexer::LexError;
+
+    #[test]
+    fn sums_are_taken(rt: HostRuntime) -> Result<(), LexError> {
+        assert!(rt; sum_of(rt.alloc(), "a + b c")? == Some(3));
+        assert!(rt; sum_of(rt.alloc(), "a c")? == Some(1));
+        assert!(rt; sum_of(rt.alloc(), "a + ;")?.is_none());
+        assert!(rt; sum_of(rt.alloc(), "let")?.is_none());
+        Ok(())
+    }
+}

@@ -1,0 +1,148 @@
+-- The first fault of a template, where it is and in which words it is reported (as in rust-analyzer).
+use Rattle.std.specs.Prelude.{ℕ, zero, suc, ◌^◌, nat_lt, if◌then◌else◌, List, [], ◌∷◌, ◌++◌, Option, Some, None, option_map, option_and_then, codes, chars}
+use Rattle.std.specs.Option.{option_or}
+use Rattle.mbe_tt.specs.declared.span.Span.{Span}
+use Rattle.mbe_semantics.specs.declared.kinds.RepeatKind.{RepeatKind}
+use Rattle.mbe_semantics.specs.declared.kinds.RepeatKind.TheVariants.{ZeroOrOne, OneOrMore}
+use Rattle.mbe_semantics.specs.Syntax.Op as ops
+use Rattle.mbe_semantics.specs.Syntax.Op.{Name, Element, variable_element, Expression, ignore, count, concat, Op, Ops, no_ops, op}
+use Rattle.mbe_semantics.specs.Bindings.Environment.{Value, fragment, list, empty, missing, Environment, value_of}
+use Rattle.mbe_semantics.specs.Expansion.Error.{ExpandErrorKind, binding_error, unresolved_binding, limit_exceeded, unexpected_token, ExpandError}
+use Rattle.mbe_semantics.specs.Writing.Rounds.{Path, member, follow, Extent, finite, endless, kept_rounds, level}
+use Rattle.mbe_semantics.specs.Writing.Concat.{text_of_element, are_identifier_chars}
+use Rattle.mbe_semantics.specs.Writing.Substitution.{total_of}
+use Rattle.mbe_transcriber.specs.declared.transcriber.following.Lost.{Lost}
+use Rattle.mbe_transcriber.specs.declared.transcriber.following.Lost.TheVariants as lost_by
+use Rattle.mbe_transcriber.specs.FaultViews.{about_binding}
+
+-- an error with that span
+abbrev pub at : Span → ExpandErrorKind → ExpandError
+at s k = record { span = s; kind = k }
+
+-- ---- names
+
+-- of a list that is too short, and else of its value in the round
+abbrev pub lost_in : (Value → Option Lost) → Option Value → Option Lost
+lost_in inner None = Some lost_by.NoValue
+lost_in inner (Some v) = inner v
+
+-- why a path leads to nothing: a repetition was skipped, or a list has no value for its round
+abbrev pub lost : Path → Value → Option Lost
+lost [] v = None
+lost (l ∷ path) (fragment x) = None
+lost (l ∷ path) (missing kind) = None
+lost (l ∷ path) empty = Some lost_by.Empty
+lost (l ∷ path) (list vs) = lost_in (lost path) (member vs l.index)
+
+abbrev pub lost_kind : Name → Lost → ExpandErrorKind
+lost_kind name lost_by.Empty = about_binding (codes "could not find empty") name
+lost_kind name lost_by.NoValue = about_binding (codes "could not find nested") name
+
+-- of what a path leads to, where that is no single value
+abbrev pub plural : Name → Option Value → Option ExpandErrorKind
+plural name (Some (list vs)) = Some (about_binding (codes "expected simple binding, found nested") name)
+plural name (Some empty) = Some (about_binding (codes "expected simple binding, found empty") name)
+plural name _ = None
+
+-- of a value that has to be a single one in the rounds of the path
+abbrev pub simple_fault : Name → Path → Value → Option ExpandErrorKind
+simple_fault name path v = option_or (option_map (lost_kind name) (lost path v)) (plural name (follow path v))
+
+-- a number that 64 bits don't hold
+abbrev pub number_fault : ℕ → Option ExpandErrorKind
+number_fault n = if nat_lt n (2 ^ 64) then None else Some limit_exceeded
+
+-- of a value that is counted
+abbrev pub count_fault : Name → ℕ → Path → Value → Option ExpandErrorKind
+count_fault name depth path v = option_or (option_map (lost_kind name) (lost path v)) (number_fault (total_of depth (follow path v)))
+
+-- of a name that has to be bound
+abbrev pub bound_fault : Name → (Value → Option ExpandErrorKind) → Option Value → Option ExpandErrorKind
+bound_fault name fault None = Some (unresolved_binding name)
+bound_fault name fault (Some v) = fault v
+
+-- ---- lists of parts
+
+-- the first that there is
+abbrev pub first_of : {A B : Type 0} → (A → Option B) → List A → Option B
+first_of f [] = None
+first_of f (x ∷ xs) = option_or (f x) (first_of f xs)
+
+-- the first of those with a number below
+abbrev pub first_below : {B : Type 0} → (ℕ → Option B) → ℕ → Option B
+first_below f zero = None
+first_below f (suc n) = option_or (first_below f n) (f n)
+
+-- the first of all rounds
+abbrev pub first_round : {B : Type 0} → (ℕ → ℕ → Option B) → Extent → Option B
+first_round f endless = None
+first_round f (finite n) = first_below (λ i. f i n) n
+
+-- too many rounds, or none where one has to be
+abbrev pub extent_fault : RepeatKind → Extent → Option ExpandErrorKind
+extent_fault ZeroOrOne e = None
+extent_fault repeat endless = Some limit_exceeded
+extent_fault OneOrMore (finite zero) = Some unexpected_token
+extent_fault repeat (finite n) = if nat_lt n 65536 then None else Some limit_exceeded
+
+-- ---- identifiers that are joined
+
+-- of an element without a text
+abbrev pub text_fault : Option (List ℕ) → Option ExpandErrorKind
+text_fault None = Some (binding_error (codes "metavariables of `${concat(..)}` must be of type `ident`, `literal` or `tt`"))
+text_fault (Some text) = None
+
+-- the text, or none
+abbrev pub or_none : Option (List ℕ) → List ℕ
+or_none None = []
+or_none (Some text) = text
+
+-- the texts that the elements have, joined
+abbrev pub joined : Environment → Path → List Element → List ℕ
+joined env path [] = []
+joined env path (e ∷ es) = or_none (text_of_element env path e) ++ joined env path es
+
+-- of a text that is no identifier
+abbrev pub identifier_fault : List ℕ → Option ExpandErrorKind
+identifier_fault text =
+    if are_identifier_chars (chars text) then None
+    else Some (binding_error (codes "`${concat(..)}` is not generating a valid identifier"))
+
+-- ---- templates
+
+module _ (env : Environment) where
+  -- a variable that is bound to nothing is written as it is
+  abbrev pub variable_fault : Path → Name → Option ExpandErrorKind
+  variable_fault path name = option_and_then (simple_fault name path) (value_of env name)
+
+  abbrev pub needed_fault : Path → Name → Option ExpandErrorKind
+  needed_fault path name = bound_fault name (simple_fault name path) (value_of env name)
+
+  abbrev pub element_fault : Path → Element → Option ExpandError
+  element_fault path (variable_element i) =
+      option_map (at i.span) (option_or (needed_fault path i.sym) (text_fault (text_of_element env path (variable_element i))))
+  element_fault path _ = None
+
+module _ (call_site : Span) (env : Environment) where
+  abbrev pub expression_fault : Path → Expression → Option ExpandError
+  expression_fault path (ignore name span) = option_map (at span) (needed_fault env path name)
+  expression_fault path (count name depth) =
+      option_map (at call_site) (bound_fault name (count_fault name depth path) (value_of env name))
+  expression_fault path (concat elements span) =
+      option_or (first_of (element_fault env path) elements) (option_map (at span) (identifier_fault (joined env path elements)))
+  expression_fault path _ = None
+
+  abbrev mutual
+    pub op_fault : Path → Op → Option ExpandError
+    op_fault path (ops.group d body) = first_fault path body
+    op_fault path (ops.variable name kind span) = option_map (at span) (variable_fault env path name)
+    op_fault path (ops.repetition body separator repeat) =
+        option_or (option_map (at call_site) (extent_fault repeat (kept_rounds repeat env path body)))
+        (first_round (λ i n. first_fault (level i n path) body) (kept_rounds repeat env path body))
+    op_fault path (ops.expression e) = expression_fault path e
+    op_fault path (ops.token t) = None
+
+    -- the first fault of the ops in the rounds of the path, if there is one
+    pub first_fault : Path → Ops → Option ExpandError
+    first_fault path no_ops = None
+    first_fault path (op o os) = option_or (op_fault path o) (first_fault path os)
