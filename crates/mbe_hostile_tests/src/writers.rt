@@ -1,4 +1,4 @@
-// Writers that fail at each of their calls, take a little at a time, or hold back what isn't flushed.
+// Writers that fail at each of their calls, take a little at a time, take nothing more, or hold back what isn't flushed.
 use crate::rows::{ROWS, Row, ran};
 use std::alloc::{AllocError, Global};
 use std::io;
@@ -90,4 +90,43 @@ fn a_writer_that_fails_is_reported(rt: HostRuntime) -> Result<(), Fail> {
         assert!(rt; number > (writes as u64).saturating_add(1), "{}", row.0);
     }
     Ok(())
+}
+
+/// A writer that has room for so many bytes, and takes none after them.
+#[derive(Drop)]
+struct Full {
+    written: Vec<u8>,
+    room: usize,
+}
+
+impl Write for Full {
+    fn write(&mut self, buf: &[u8]) -> io::Result<usize> {
+        let count = buf.len().min(self.room);
+        self.written.extend_from_slice(&buf[..count])?;
+        self.room = self.room.saturating_sub(count);
+        Ok(count)
+    }
+
+    fn flush(&mut self) -> io::Result<()> {
+        Ok(())
+    }
+}
+
+// Whether a run can't write where there is no room for all, and what has room is written.
+fn is_full(alloc: Global, &(def, arg, _, want): &Row, room: usize) -> bool {
+    let mut out = Full {
+        written: Vec::new(alloc),
+        room,
+    };
+    let outcome = ran(alloc, (def, arg), &mut out);
+    outcome.status() == 3 && out.room == 0 && want.as_bytes().starts_with(out.written.as_slice())
+}
+
+#[test]
+fn a_writer_that_takes_no_byte_is_reported(rt: HostRuntime) {
+    for row in &ROWS {
+        for room in 0..row.3.len() {
+            assert!(rt; is_full(rt.alloc(), row, room), "{} {room}", row.0);
+        }
+    }
 }

@@ -12,7 +12,8 @@ use std::io::{BufWriter, Write};
 
 // The words of each run. The file `missing` isn't there, `.` is a folder, nobody can read the first bytes of `/proc/self/mem`,
 // and `latin` isn't UTF-8.
-static RUNS: [&str; 22] = [
+static RUNS: [&str; 23] = [
+    "first.def first.arg",
     "good.def good.arg",
     "good.def good.arg 2015",
     "good.def other.arg",
