@@ -5,8 +5,8 @@ use Rattle.mbe.proofs.ChoiceLemmas.{contains_first}
 use Rattle.mbe.proofs.ClosestLemmas.{at_place, closest, ok_both, ok_three}
 use Rattle.mbe.proofs.expander.expand_rules.Goals as goal
 
-pub returns-clause-expands-in-Expanded : goal.returns-clause-expands-in-Expanded
-returns-clause-expands-in-Expanded g c =
+pub returns-in-Expanded-clause-expands : goal.returns-in-Expanded-clause-expands
+returns-in-Expanded-clause-expands g c =
     let h = g.G.FragmentGrammar.grammar c.args.grammar.now in
     let it = rw c.in-Expanded.is at c.in_ok-choice.ensures in
     let (r, a, first, written) = it.1 in
@@ -17,11 +17,8 @@ returns-clause-expands-in-Expanded g c =
       no_rule = λ nobody. absurd (nobody (r, contains_first h c.args.call_style c.args.input.now.1 first, a.styled));
     }
 
-pub returns-clause-recovers-in-Expanded : goal.returns-clause-recovers-in-Expanded
-returns-clause-recovers-in-Expanded g c = λ e x s. absurd (none-some e x)
-
-pub returns-clause-expands-in-Closest : goal.returns-clause-expands-in-Closest
-returns-clause-expands-in-Closest g c =
+pub returns-in-Closest-clause-expands : goal.returns-in-Closest-clause-expands
+returns-in-Closest-clause-expands g c =
     let h = g.G.FragmentGrammar.grammar c.args.grammar.now in
     let it = rw c.in-Closest.is at c.in_ok-choice.ensures in
     let rs = rules_seen c.args.rules.now in
@@ -34,27 +31,9 @@ returns-clause-expands-in-Closest g c =
     })
     c.recovered.ensures.index (c.recovered.ensures.recovered c.args.input.now it.2)
 
-pub returns-clause-recovers-in-Closest : goal.returns-clause-recovers-in-Closest
-returns-clause-recovers-in-Closest g c =
+pub returns-in-Closest-clause-recovers : goal.returns-in-Closest-clause-recovers
+returns-in-Closest-clause-recovers g c =
     let it = rw c.in-Closest.is at c.in_ok-choice.ensures in
     ok_both c.recovered.result _ _ _
     (λ x index given e y s. record { place = c.in-Closest.candidate.idx; rule = _; nearest = it.1; named = index; recovered = given })
     c.recovered.ensures.index (c.recovered.ensures.recovered c.args.input.now it.2)
-
-pub returns-clause-expands-in-NoRule : goal.returns-clause-expands-in-NoRule
-returns-clause-expands-in-NoRule g c =
-    let it = rw c.in-NoRule.is at c.in_ok-choice.ensures in
-    ok_three c.no_rule.result _ _ _ _
-    (λ x tree index err. record {
-      sound = λ n. absurd (true≢false (ap is_some (sym err) ∙ n));
-      complete = λ s k a. absurd (it (s, k, a.styled));
-      recovers = λ e y s. absurd (it s);
-      no_rule = λ other. (tree, index, err);
-    })
-    c.no_rule.ensures.tree c.no_rule.ensures.index c.no_rule.ensures.err
-
-pub returns-clause-recovers-in-NoRule : goal.returns-clause-recovers-in-NoRule
-returns-clause-recovers-in-NoRule g c =
-    let it = rw c.in-NoRule.is at c.in_ok-choice.ensures in
-    ok_three c.no_rule.result _ _ _ _ (λ x tree index err e y s. absurd (it s))
-    c.no_rule.ensures.tree c.no_rule.ensures.index c.no_rule.ensures.err
