@@ -63,8 +63,8 @@ abbrev pub IsReportAt : {A : Type 0} → Grammar → Ops → Forest → Log → 
 IsReportAt g pattern argument log q r = (notes : Notes) × AreFollowedNotes (input_of g argument) pattern q notes × IsReportOf log argument r [] notes
 
 -- What a match without an only reading returns, beside its verdict: why, and what was bound, as the positions that are followed have it.
-pub record IsReported (g : Grammar) (pattern : Ops) (argument : Forest) (around : DelimSpan) (log : Log) (v : Verdict) (err : Option ExpandError) (h : Handle) : Type 0 where
+pub record IsReported (g : Grammar) (pattern : Ops) (argument : Forest) (around : DelimSpan) (log : Log) (v : Verdict) (err : ExpandError) (h : Handle) : Type 0 where
   pub notes : Notes
   pub noted : AreFollowedNotes (input_of g argument) pattern (stop_of argument v) notes
-  pub error : err ≡ Some (error_of_notes g argument around (stop_of argument v == flat_len argument) notes)
+  pub error : err ≡ error_of_notes g argument around (stop_of argument v == flat_len argument) notes
   pub bindings : Holds log h (commands_of_notes g argument notes.last)
