@@ -2,7 +2,6 @@
 use Rattle.std.specs.Prelude.{◌≡◌, ◌≢◌, ◌⊎◌, ◌-◌, ◌^◌, ℕ, Bool, true, false, min, [], Option, Some}
 use Rattle.std.proofs.Common.{ap, sym, subst, ◌∙◌, refl, inl, inr}
 use Rattle.std.proofs.lemmas.Bool.{true≢false}
-use Rattle.std.proofs.lemmas.Option.{same_Some}
 use Rattle.mbe_tt.specs.declared.span.Span.{Span}
 use Rattle.mbe_tt.specs.declared.span.DelimSpan.{DelimSpan}
 use Rattle.mbe_tt.specs.Trees.Tree.{Forest}
@@ -33,10 +32,10 @@ fits_alone g r argument (stuck q) (calm, nothing, at, most) is f = absurd (nothi
 module _ (g : Grammar) (call_site : Span) (input : Top) (r : Rule) where
   -- what a match returns that fails is what the rule comes to
   pub unfit_of : (v : Verdict) → IsVerdict g r.reads input.1 v → v ≢ one_reading → (argument : Forest) → argument ≡ input.1 → (around : DelimSpan) → around ≡ spans_of input.0
-      → (log : Log) (h : Handle) (err : ExpandError) → IsReported g r.reads argument around log v (Some err) h
+      → (log : Log) (h : Handle) (err : ExpandError) → IsReported g r.reads argument around log v err h
       → (env : Environment) → ((a : Account) → IsAccount log h a → env ≡ run a.current []) → IsUnfit g call_site input r err env
   unfit_of v right many argument same around spans log h err reported env built =
-      let told = subst (λ d. IsReported g r.reads input.1 d log v (Some err) h) spans (subst (λ f. IsReported g r.reads f around log v (Some err) h) same reported) in
+      let told = subst (λ d. IsReported g r.reads input.1 d log v err h) spans (subst (λ f. IsReported g r.reads f around log v err h) same reported) in
       let (a, account, holds) = told.bindings in
       record {
         verdict = v;
@@ -44,7 +43,7 @@ module _ (g : Grammar) (call_site : Span) (input : Top) (r : Rule) where
         unfit = many;
         notes = told.notes;
         noted = told.noted;
-        error = same_Some _ _ told.error;
+        error = told.error;
         bound = built a account ∙ ap (λ cs. run cs []) holds;
       }
 

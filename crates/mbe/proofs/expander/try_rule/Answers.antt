@@ -30,7 +30,7 @@ returns-in-Some g c =
     let right = subst (λ f. IsVerdict h (template_of c.args.rule.now.lhs) f v) same m.verdict in
     let left = c.nearness_of-nearness.ensures.left ∙ m.unmatched ∙ ap (λ f. unmatched f v) same in
     let many : v ≢ one_reading = λ one. true≢false (sym (ap (λ e. is_some (errors_of e)) c.in-Some.is) ∙ m.err.1 one) in
-    let reported : IsReported h r.reads (trees c.remaining-argument.result) c.delim_span-around.result c.match_argument.new.log v (Some (error_of c.in-Some.err)) c.in_ok-matched.matched.bindings = ? in
+    let reported = rw c.in-Some.is at m.reports in
     let u = unfit_of h c.args.call_site c.args.input.now r v right many _ same _ (search rules) _ _ _ reported (bound_by c.in_ok-bindings.bindings) c.in_ok-bindings.ensures in
     let both = unfit h c.args.call_site c.args.input.now r v right _ left _ _ many u c.nearness_of-nearness.ensures.bound in
     (both.0, both.1, u)
