@@ -1,10 +1,11 @@
 -- The closest of the rules that were tried so far.
-use Rattle.std.specs.Prelude.{◌≡◌, ◌<◌, ◌≤◌, ◌+◌, ◌-◌, ◌^◌, ◌⊎◌, ℕ, zero, suc, Bool, true, false, ◌||◌, ◌&&◌, nat_lt, nat_eq, if◌then◌else◌, min, List, [], ◌∷◌, slice_get, slice_index_or, length, Contains, Option, Some, None, option_map, Result, Ok, Err, IfOk, IsTrue, refl}
+use Rattle.std.specs.Prelude.{◌≡◌, ◌<◌, ◌≤◌, ◌+◌, ◌-◌, ◌^◌, ◌⊎◌, ℕ, zero, suc, Bool, true, false, ◌||◌, ◌&&◌, nat_lt, nat_eq, if◌then◌else◌, min, List, [], ◌∷◌, slice_get, slice_index_or, length, Contains, Option, Some, None, option_map, Result, Ok, Err, IfOk, IfSome, IsTrue, refl}
 use Rattle.std.specs.List.{list_any}
 use Rattle.std.proofs.Common.{ap, sym, subst, ◌∙◌, arith, inl, inr}
 use Rattle.std.proofs.lemmas.Bool.{cases_lt, cases_Bool, ltb-true, ltb-false, eqb-true, eqb-false, eq-eqb, ne_eqb, or_parts, and_cases, and_parts, or_cases}
 use Rattle.std.proofs.lemmas.Option.{none-some, same_Some}
-use Rattle.mbe_tt.specs.Trees.Tree.{Forest}
+use Rattle.mbe_tt.specs.declared.span.Span.{Span}
+use Rattle.mbe_tt.specs.Trees.Top.{Top}
 use Rattle.mbe_tt.specs.Fragments.Grammar.{Grammar}
 use Rattle.mbe_semantics.specs.declared.macro_call_style.MacroCallStyle.{MacroCallStyle}
 use Rattle.mbe_semantics.specs.Syntax.Definition.{Rule}
@@ -15,9 +16,12 @@ use Rattle.mbe_semantics.specs.Readings.Verdict.{Verdict, IsVerdict, unmatched}
 use Rattle.mbe_semantics.specs.Bindings.Environment.{environment_of, binding_total}
 use Rattle.mbe_semantics.specs.Expansion.Macro.{Macro, TellsRefusal, IsChecked}
 use Rattle.mbe_semantics.specs.Expansion.Recovery.{HasStyle, IsStyledAt, GoesBefore, IsClosest}
+use Rattle.mbe_parser.specs.RuleViews.{rule_of}
 use Rattle.mbe.specs.declared.expander.Candidate.{Candidate}
 use Rattle.mbe.specs.declared.expander.Nearness.{Nearness}
-use Rattle.mbe.specs.Choice.{AreChecked, candidate_seen, is_nearer, nearer_of, IsNearness}
+use Rattle.mbe.specs.Recovering.{ComesNear, IsNearest}
+use Rattle.mbe.specs.Choice.{AreChecked, candidate_seen, is_nearer, nearer_of, IsNearness, IsRemains, IsCandidate}
+use Rattle.mbe.proofs.TriedLemmas.{bound_as_fit}
 
 -- a number of each place, with another one at one place
 abbrev put : (ℕ → ℕ) → ℕ → ℕ → ℕ → ℕ
@@ -51,19 +55,20 @@ placed [] m r l e = absurd (omega (arith, l))
 placed (x ∷ xs) zero r l e = ap Some e
 placed (x ∷ xs) (suc m) r l e = placed xs m r (omega (arith, l)) e
 
-module _ (g : Grammar) (style : MacroCallStyle) (argument : Forest) (rs : List Rule) where
+-- the same by other names of the numbers
+moved : (g : Grammar) (call_site : Span) (input : Top) (r : Rule) (left bound other more : ℕ) → left ≡ other → bound ≡ more
+    → ComesNear g call_site input r other more → ComesNear g call_site input r left bound
+moved g call_site input r left bound other more e f x = rw (e, f) x
+
+module _ (g : Grammar) (call_site : Span) (input : Top) (style : MacroCallStyle) (rs : List Rule) where
   -- the closest of the first so many rules, by its place and how near it comes
   pub record IsClosestSoFar (k n : ℕ) (near : Nearness) : Type 0 where
     pub left : ℕ → ℕ
     pub bound : ℕ → ℕ
-    pub rule : Rule
     pub before : n < k
-    pub styled : IsStyledAt rs style n rule
     pub its_left : left n ≡ near.unmatched
     pub its_bound : bound n ≡ near.bound
-    pub unmatched_trees : (m : ℕ) (r : Rule) → m < k → IsStyledAt rs style m r → (v : Verdict) × IsVerdict g r.reads argument v × (left m ≡ unmatched argument v)
-    pub bindings : (m : ℕ) (r : Rule) (is : Items) → m < k → IsStyledAt rs style m r → Fits g r.reads argument is →
-        bound m ≡ min (binding_total (environment_of is)) (2 ^ 64 - 1)
+    pub near_all : (m : ℕ) (r : Rule) → m < k → IsStyledAt rs style m r → ComesNear g call_site input r (left m) (bound m)
     pub first : (m : ℕ) (r : Rule) → m < k → IsStyledAt rs style m r → GoesBefore left bound n m
 
   -- it is known, if some of them is of the style
@@ -92,50 +97,33 @@ module _ (g : Grammar) (style : MacroCallStyle) (argument : Forest) (rs : List R
     so_far_skipped (Some (n, near)) h other = record {
       left = h.left;
       bound = h.bound;
-      rule = h.rule;
       before = let b = h.before in omega (arith, b);
-      styled = h.styled;
       its_left = h.its_left;
       its_bound = h.its_bound;
-      unmatched_trees = one_more (λ m s. (v : Verdict) × IsVerdict g s.reads argument v × (h.left m ≡ unmatched argument v)) h.unmatched_trees (λ e. absurd (other e));
-      bindings = λ m s is l a f. one_more (λ i t. Fits g t.reads argument is → h.bound i ≡ min (binding_total (environment_of is)) (2 ^ 64 - 1)) (λ i t b c d. h.bindings i t is b c d)
-          (λ e. absurd (other e)) m s l a f;
+      near_all = one_more (λ m s. ComesNear g call_site input s (h.left m) (h.bound m)) h.near_all (λ e. absurd (other e));
       first = one_more (λ m s. GoesBefore h.left h.bound n m) h.first (λ e. absurd (other e));
     }
 
-    module _ (own : r.style ≡ style) (near : Nearness) (is_near : IsNearness g argument r near) where
+    module _ (near : Nearness) (is_near : IsNearness g call_site input r near) where
       pub so_far_first : IsSoFar k None → IsSoFar (k + 1) (Some (k, near))
       so_far_first h = record {
         left = λ m. near.unmatched;
         bound = λ m. near.bound;
-        rule = r;
         before = omega arith;
-        styled = (here, own);
         its_left = refl;
         its_bound = refl;
-        unmatched_trees = one_more (λ m s. (v : Verdict) × IsVerdict g s.reads argument v × (near.unmatched ≡ unmatched argument v)) (λ m s l a. absurd (h m s l a)) (λ e. is_near.left);
-        bindings = λ m s is l a f. one_more (λ i t. Fits g t.reads argument is → near.bound ≡ min (binding_total (environment_of is)) (2 ^ 64 - 1)) (λ i t b c d. absurd (h i t b c))
-            (λ e. is_near.bound is) m s l a f;
+        near_all = one_more (λ m s. ComesNear g call_site input s near.unmatched near.bound) (λ m s l a. absurd (h m s l a)) (λ e. is_near);
         first = one_more (λ m s. GoesBefore (λ i. near.unmatched) (λ i. near.bound) k m) (λ m s l a. absurd (h m s l a)) (λ e. inr (refl, inr (refl, omega arith)));
       }
 
       module _ (n : ℕ) (best : Nearness) (h : IsClosestSoFar k n best) where
-        left : ℕ → ℕ
-        left = put h.left k near.unmatched
-
-        bound : ℕ → ℕ
-        bound = put h.bound k near.bound
-
-        left_all : (m : ℕ) (s : Rule) → m < k + 1 → IsStyledAt rs style m s → (v : Verdict) × IsVerdict g s.reads argument v × (put h.left k near.unmatched m ≡ unmatched argument v)
-        left_all = one_more (λ m s. (v : Verdict) × IsVerdict g s.reads argument v × (put h.left k near.unmatched m ≡ unmatched argument v))
-            (λ m s l a. let u = h.unmatched_trees m s l a in (u.0, u.1, put_before h.left k near.unmatched m l ∙ u.2))
-            (λ e. (is_near.left.0, is_near.left.1, put_here h.left k near.unmatched ∙ is_near.left.2))
-
-        bound_all : (m : ℕ) (s : Rule) (is : Items) → m < k + 1 → IsStyledAt rs style m s → Fits g s.reads argument is
-            → put h.bound k near.bound m ≡ min (binding_total (environment_of is)) (2 ^ 64 - 1)
-        bound_all m s is l a = one_more (λ i t. Fits g t.reads argument is → put h.bound k near.bound i ≡ min (binding_total (environment_of is)) (2 ^ 64 - 1))
-            (λ i t b c d. put_before h.bound k near.bound i b ∙ h.bindings i t is b c d)
-            (λ e d. put_here h.bound k near.bound ∙ is_near.bound is d) m s l a
+        all_near : (m : ℕ) (s : Rule) → m < k + 1 → IsStyledAt rs style m s
+            → ComesNear g call_site input s (put h.left k near.unmatched m) (put h.bound k near.bound m)
+        all_near = one_more (λ m s. ComesNear g call_site input s (put h.left k near.unmatched m) (put h.bound k near.bound m))
+            (λ m s l a. moved g call_site input s (put h.left k near.unmatched m) (put h.bound k near.bound m) (h.left m) (h.bound m)
+            (put_before h.left k near.unmatched m l) (put_before h.bound k near.bound m l) (h.near_all m s l a))
+            (λ e. moved g call_site input r (put h.left k near.unmatched k) (put h.bound k near.bound k) near.unmatched near.bound
+            (put_here h.left k near.unmatched) (put_here h.bound k near.bound) is_near)
 
         -- the order by the numbers as they were put
         order : (i m a b c d : ℕ) → put h.left k near.unmatched i ≡ a → put h.left k near.unmatched m ≡ b → put h.bound k near.bound i ≡ c → put h.bound k near.bound m ≡ d
@@ -184,13 +172,10 @@ module _ (g : Grammar) (style : MacroCallStyle) (argument : Forest) (rs : List R
         so_far_kept far = record {
           left = put h.left k near.unmatched;
           bound = put h.bound k near.bound;
-          rule = h.rule;
           before = let b = h.before in omega (arith, b);
-          styled = h.styled;
           its_left = was_left;
           its_bound = was_bound;
-          unmatched_trees = left_all;
-          bindings = bound_all;
+          near_all = all_near;
           first = one_more (λ m s. GoesBefore (put h.left k near.unmatched) (put h.bound k near.bound) n m)
               (λ m s l a. order n m best.unmatched (h.left m) best.bound (h.bound m) was_left (put_before h.left k near.unmatched m l) was_bound (put_before h.bound k near.bound m l) (known m s l a))
               (λ e. order n k best.unmatched near.unmatched best.bound near.bound was_left (put_here h.left k near.unmatched) was_bound (put_here h.bound k near.bound) (not_nearer far));
@@ -220,13 +205,10 @@ module _ (g : Grammar) (style : MacroCallStyle) (argument : Forest) (rs : List R
         so_far_nearer closer = record {
           left = put h.left k near.unmatched;
           bound = put h.bound k near.bound;
-          rule = r;
           before = omega arith;
-          styled = (here, own);
           its_left = put_here h.left k near.unmatched;
           its_bound = put_here h.bound k near.bound;
-          unmatched_trees = left_all;
-          bindings = bound_all;
+          near_all = all_near;
           first = one_more (λ m s. GoesBefore (put h.left k near.unmatched) (put h.bound k near.bound) k m)
               (λ m s l a. order k m near.unmatched (h.left m) near.bound (h.bound m) (put_here h.left k near.unmatched) (put_before h.left k near.unmatched m l) (put_here h.bound k near.bound)
               (put_before h.bound k near.bound m l) (nearer_goes closer m (h.left m) (h.bound m) (known m s l a)))
@@ -235,35 +217,61 @@ module _ (g : Grammar) (style : MacroCallStyle) (argument : Forest) (rs : List R
         }
 
   -- the nearer of the best and one more
-  pub so_far_tried : {A : Type 0} (k : ℕ) (r : Rule) → slice_get rs k ≡ Some r → r.style ≡ style → (best : Option (Candidate A)) (next : Candidate A) → next.idx ≡ k
-      → IsNearness g argument r next.nearness → IsSoFar k (option_map candidate_seen best) → IsSoFar (k + 1) (Some (candidate_seen (nearer_of best next)))
-  so_far_tried k r here own None next e near h =
-      subst (λ i. IsSoFar (k + 1) (Some (i, next.nearness))) (sym e) (so_far_first k r here own next.nearness near h)
-  so_far_tried k r here own (Some best) next e near h = go (cases_Bool (is_nearer next.nearness best.nearness))
+  pub so_far_tried : {A : Type 0} (k : ℕ) (r : Rule) → slice_get rs k ≡ Some r → (best : Option (Candidate A)) (next : Candidate A) → next.idx ≡ k
+      → IsNearness g call_site input r next.nearness → IsSoFar k (option_map candidate_seen best) → IsSoFar (k + 1) (Some (candidate_seen (nearer_of best next)))
+  so_far_tried k r here None next e near h =
+      subst (λ i. IsSoFar (k + 1) (Some (i, next.nearness))) (sym e) (so_far_first k r here next.nearness near h)
+  so_far_tried k r here (Some best) next e near h = go (cases_Bool (is_nearer next.nearness best.nearness))
     where
       go : (is_nearer next.nearness best.nearness ≡ true) ⊎ (is_nearer next.nearness best.nearness ≡ false) → IsSoFar (k + 1) (Some (candidate_seen (nearer_of (Some best) next)))
-      go (inl t) = rw t (subst (λ i. IsSoFar (k + 1) (Some (i, next.nearness))) (sym e) (so_far_nearer k r here own next.nearness near best.idx best.nearness h t))
-      go (inr f) = rw f (so_far_kept k r here own next.nearness near best.idx best.nearness h f)
+      go (inl t) = rw t (subst (λ i. IsSoFar (k + 1) (Some (i, next.nearness))) (sym e) (so_far_nearer k r here next.nearness near best.idx best.nearness h t))
+      go (inr f) = rw f (so_far_kept k r here next.nearness near best.idx best.nearness h f)
 
   -- after all rules it is the closest of them
-  pub closest : (k n : ℕ) (near : Nearness) → length rs ≤ k → IsSoFar k (Some (n, near)) → IsClosest g style argument rs n
-  closest k n near all h = record {
+  pub nearest : (k n : ℕ) (near : Nearness) (r : Rule) → length rs ≤ k → IsStyledAt rs style n r → IsSoFar k (Some (n, near))
+      → IsNearest g call_site input style rs n r
+  nearest k n near r all at h = record {
     left = h.left;
     bound = h.bound;
-    rule = h.rule;
-    styled = h.styled;
-    unmatched_trees = λ m r a. let l = within rs m r a.0 in h.unmatched_trees m r (omega (arith, l, all)) a;
-    bindings = λ m r is a f. let l = within rs m r a.0 in h.bindings m r is (omega (arith, l, all)) a f;
-    first = λ m r a. let l = within rs m r a.0 in h.first m r (omega (arith, l, all)) a;
+    styled = at;
+    near = λ m s a. let l = within rs m s a.0 in h.near_all m s (omega (arith, l, all)) a;
+    first = λ m s a. let l = within rs m s a.0 in h.first m s (omega (arith, l, all)) a;
   }
 
-  -- the closest one is of the style
-  pub has_style : (k n : ℕ) (near : Nearness) → IsSoFar k (Some (n, near)) → HasStyle rs style
-  has_style k n near h = (h.rule, at_place rs n h.rule h.styled.0, h.styled.1)
+  -- what is bound is that of the only reading, where there is one
+  pub closest : (n : ℕ) (r : Rule) → IsNearest g call_site input style rs n r → IsClosest g style input.1 rs n
+  closest n r h = record {
+    left = h.left;
+    bound = h.bound;
+    rule = r;
+    styled = h.styled;
+    unmatched_trees = λ m s a. (h.near m s a).trees;
+    bindings = λ m s is a f. bound_as_fit g call_site input s (h.left m) (h.bound m) (h.near m s a) is f;
+    first = h.first;
+  }
 
-  -- without one, none is
+  -- without one of the style, there is none
   pub no_style : (k : ℕ) → length rs ≤ k → IsSoFar k None → HasStyle rs style → ⊥
   no_style k all h (r, c, e) = let l = c.1 in h c.0 r (omega (arith, l, all)) (placed rs c.0 r c.1 c.2, e)
+
+-- ---- the candidate that is kept
+
+pub kept_tried : {A : Type 0} (P : Candidate A → Type 0) (best : Option (Candidate A)) (next : Candidate A) → IfSome best P → P next → P (nearer_of best next)
+kept_tried P None next h p = p
+kept_tried P (Some best) next h p = go (cases_Bool (is_nearer next.nearness best.nearness))
+  where
+    go : (is_nearer next.nearness best.nearness ≡ true) ⊎ (is_nearer next.nearness best.nearness ≡ false) → P (nearer_of (Some best) next)
+    go (inl t) = rw t p
+    go (inr f) = rw f h
+
+-- a rule that was tried, as a candidate
+pub candidate : {A : Type 0} (g : Grammar) (Marks : Span → Span → Type 0) (call_site : Span) (input : Top) (style : MacroCallStyle) (rs : List Rule) (k : ℕ) (r : Rule)
+    → slice_get rs k ≡ Some r → (c : Candidate A) → r.style ≡ style → IsRemains g Marks call_site input r c.remains → rule_of c.rule.now ≡ r → c.idx ≡ k
+    → IsCandidate g Marks call_site input style rs c
+candidate g Marks call_site input style rs k r here c own left same at = record {
+  styled = (ap (slice_get rs) at ∙ here ∙ ap Some (sym same), ap (λ (x : Rule). x.style) same ∙ own);
+  remains = subst (λ x. IsRemains g Marks call_site input x c.remains) (sym same) left;
+}
 
 -- ---- checked rules
 

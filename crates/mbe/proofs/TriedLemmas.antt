@@ -1,51 +1,83 @@
 -- What the verdict on a rule's pattern and its substitution say of the rule.
-use Rattle.std.specs.Prelude.{◌≡◌, ◌-◌, ◌^◌, Bool, true, false, min, []}
-use Rattle.std.proofs.Common.{ap, sym, subst, ◌∙◌, refl}
+use Rattle.std.specs.Prelude.{◌≡◌, ◌≢◌, ◌⊎◌, ◌-◌, ◌^◌, ℕ, Bool, true, false, min, [], Option, Some}
+use Rattle.std.proofs.Common.{ap, sym, subst, ◌∙◌, refl, inl, inr}
 use Rattle.std.proofs.lemmas.Bool.{true≢false}
 use Rattle.mbe_tt.specs.declared.span.Span.{Span}
+use Rattle.mbe_tt.specs.declared.span.DelimSpan.{DelimSpan}
 use Rattle.mbe_tt.specs.Trees.Tree.{Forest}
+use Rattle.mbe_tt.specs.Trees.Top.{Top}
 use Rattle.mbe_tt.specs.Fragments.Grammar.{Grammar}
 use Rattle.mbe_semantics.specs.Syntax.Definition.{Rule}
 use Rattle.mbe_semantics.specs.Readings.Item.{Items}
 use Rattle.mbe_semantics.specs.Readings.Ambiguity.{Fits}
 use Rattle.mbe_semantics.specs.Readings.Verdict.{Verdict, one_reading, many_readings, ambiguous, stuck, IsVerdict, unmatched}
+use Rattle.mbe_semantics.specs.Bindings.Account.{Log, Handle, Account, IsAccount, run}
 use Rattle.mbe_semantics.specs.Bindings.Environment.{Environment, environment_of, binding_total}
 use Rattle.mbe_semantics.specs.Writing.Substitution.{faults, IsSubstitution}
+use Rattle.mbe_semantics.specs.Expansion.Error.{ExpandError}
 use Rattle.mbe_semantics.specs.Expansion.Expansion.{Applies}
+use Rattle.mbe_transcriber.specs.Faults.{first_fault}
+use Rattle.mbe_matcher.specs.Reports.{IsReported}
 use Rattle.mbe.specs.declared.expander.Nearness.{Nearness}
+use Rattle.mbe.specs.Recovering.{spans_of, IsUnfit, IsFaulty, ComesNear}
 use Rattle.mbe.specs.Choice.{IsNearness}
 
-module _ (g : Grammar) (r : Rule) (argument : Forest) where
-  -- a pattern that fits has one reading by every right verdict
-  fits_alone : (v : Verdict) → IsVerdict g r.reads argument v → (is : Items) → Fits g r.reads argument is → v ≡ one_reading
-  fits_alone one_reading right is f = refl
-  fits_alone many_readings (calm, (js, ks, j, k, differ)) is f = absurd (differ (f.1.1 js j ∙ sym (f.1.1 ks k)))
-  fits_alone (ambiguous q) (a, least) is f = absurd (f.0 q a)
-  fits_alone (stuck q) (calm, nothing, at, most) is f = absurd (nothing is f.1.0)
+-- a pattern that fits has one reading by every right verdict
+fits_alone : (g : Grammar) (r : Rule) (argument : Forest) (v : Verdict) → IsVerdict g r.reads argument v → (is : Items) → Fits g r.reads argument is → v ≡ one_reading
+fits_alone g r argument one_reading right is f = refl
+fits_alone g r argument many_readings (calm, (js, ks, j, k, differ)) is f = absurd (differ (f.1.1 js j ∙ sym (f.1.1 ks k)))
+fits_alone g r argument (ambiguous q) (a, least) is f = absurd (f.0 q a)
+fits_alone g r argument (stuck q) (calm, nothing, at, most) is f = absurd (nothing is f.1.0)
 
-  module _ (v : Verdict) (right : IsVerdict g r.reads argument v) (near : Nearness) (left : near.unmatched ≡ unmatched argument v) where
-    pub unfit : (v ≡ one_reading → ⊥) → (Applies g r.style argument r → ⊥) × IsNearness g argument r near
-    unfit many = (
-      λ a. many (fits_alone v right a.items a.fits),
-      record { left = (v, right, left); bound = λ is f. absurd (many (fits_alone v right is f)) },
-    )
-
-    pub faulty : (is : Items) → Fits g r.reads argument is → (env : Environment) → env ≡ environment_of is → near.bound ≡ min (binding_total env) (2 ^ 64 - 1)
-        → faults env [] r.writes ≡ true → (Applies g r.style argument r → ⊥) × IsNearness g argument r near
-    faulty is fits env bound count fault = (
-      λ a.
-          let same : environment_of a.items ≡ env = ap environment_of (fits.1.1 a.items a.fits.1.0) ∙ sym bound in
-          true≢false (sym (ap (λ e. faults e [] r.writes) same ∙ fault) ∙ a.faultless),
+module _ (g : Grammar) (call_site : Span) (input : Top) (r : Rule) where
+  -- what a match returns that fails is what the rule comes to
+  pub unfit_of : (v : Verdict) → IsVerdict g r.reads input.1 v → v ≢ one_reading → (argument : Forest) → argument ≡ input.1 → (around : DelimSpan) → around ≡ spans_of input.0
+      → (log : Log) (h : Handle) (err : ExpandError) → IsReported g r.reads argument around log v err h
+      → (env : Environment) → ((a : Account) → IsAccount log h a → env ≡ run a.current []) → IsUnfit g call_site input r err env
+  unfit_of v right many argument same around spans log h err reported env built =
+      let told = subst (λ d. IsReported g r.reads input.1 d log v err h) spans (subst (λ f. IsReported g r.reads f around log v err h) same reported) in
+      let (a, account, holds) = told.bindings in
       record {
-        left = (v, right, left);
-        bound = λ js f. count ∙ ap (λ e. min (binding_total e) (2 ^ 64 - 1)) (bound ∙ sym (ap environment_of (fits.1.1 js f.1.0)));
-      },
+        verdict = v;
+        judged = right;
+        unfit = many;
+        notes = told.notes;
+        noted = told.noted;
+        error = told.error;
+        bound = built a account ∙ ap (λ cs. run cs []) holds;
+      }
+
+  module _ (v : Verdict) (right : IsVerdict g r.reads input.1 v) (near : Nearness) (left : near.unmatched ≡ unmatched input.1 v) where
+    pub unfit : (err : ExpandError) (env : Environment) → v ≢ one_reading → IsUnfit g call_site input r err env → near.bound ≡ min (binding_total env) (2 ^ 64 - 1)
+        → (Applies g r.style input.1 r → ⊥) × IsNearness g call_site input r near
+    unfit err env many u count = (
+      λ a. many (fits_alone g r input.1 v right a.items a.fits),
+      record { trees = (v, right, left); bindings = (err, env, inl u, count) },
     )
 
-  pub applied : (Marks : Span → Span → Type 0) (call_site : Span) (out : Forest) (is : Items) → Fits g r.reads argument is → (env : Environment) → env ≡ environment_of is
+    pub faulty : (err : ExpandError) (env : Environment) → (f : IsFaulty g call_site input r err env) → near.bound ≡ min (binding_total env) (2 ^ 64 - 1)
+        → faults env [] r.writes ≡ true → (Applies g r.style input.1 r → ⊥) × IsNearness g call_site input r near
+    faulty err env f count fault = (
+      λ a.
+          let same : environment_of a.items ≡ env = ap environment_of (f.fits.1.1 a.items a.fits.1.0) ∙ sym f.bound in
+          true≢false (sym (ap (λ e. faults e [] r.writes) same ∙ fault) ∙ a.faultless),
+      record { trees = (v, right, left); bindings = (err, env, inr f, count) },
+    )
+
+  -- of a rule that fits, what is bound is that of its reading
+  pub bound_as_fit : (left bound : ℕ) → ComesNear g call_site input r left bound → (is : Items) → Fits g r.reads input.1 is
+      → bound ≡ min (binding_total (environment_of is)) (2 ^ 64 - 1)
+  bound_as_fit left bound near is fits = go near.bindings
+    where
+      go : (err : ExpandError) × (env : Environment) × (IsUnfit g call_site input r err env ⊎ IsFaulty g call_site input r err env)
+          × (bound ≡ min (binding_total env) (2 ^ 64 - 1)) → bound ≡ min (binding_total (environment_of is)) (2 ^ 64 - 1)
+      go (err, env, inl u, count) = absurd (u.unfit (fits_alone g r input.1 u.verdict u.judged is fits))
+      go (err, env, inr f, count) = count ∙ ap (λ e. min (binding_total e) (2 ^ 64 - 1)) (f.bound ∙ sym (ap environment_of (f.fits.1.1 is fits.1.0)))
+
+  pub applied : (Marks : Span → Span → Type 0) (out : Forest) (is : Items) → Fits g r.reads input.1 is → (env : Environment) → env ≡ environment_of is
       → faults env [] r.writes ≡ false → IsSubstitution g Marks call_site env r.writes out
-      → (a : Applies g r.style argument r) × IsSubstitution g Marks call_site (environment_of a.items) r.writes out
-  applied Marks call_site out is fits env bound faultless written = (
+      → (a : Applies g r.style input.1 r) × IsSubstitution g Marks call_site (environment_of a.items) r.writes out
+  applied Marks out is fits env bound faultless written = (
     record { styled = refl; items = is; fits = fits; faultless = ap (λ e. faults e [] r.writes) (sym bound) ∙ faultless },
     subst (λ e. IsSubstitution g Marks call_site e r.writes out) bound written,
   )

@@ -1,6 +1,6 @@
 // The choice of the rule.
 ghost use Rattle.std.specs.Prelude.{◌≡◌, ◌-◌, ◌^◌, min, IfOk, Some, None, IsSome};
-ghost use Rattle.mbe_tt.specs.Trees.Top.{top_group};
+ghost use Rattle.mbe_tt.specs.Trees.Top.{Top, top_group};
 ghost use Rattle.mbe_semantics.specs.Expansion.Macro.{Expands, arm_of, empty_tree};
 ghost use Rattle.mbe_semantics.specs.Expansion.Error.{no_matching_rule};
 ghost use Rattle.mbe_semantics.specs.Laws.Marking.{MayMark};
@@ -10,7 +10,8 @@ ghost use Rattle.mbe_ops.specs.Views.{template_of};
 ghost use Rattle.mbe_parser.specs.RuleViews.{rule_of, rules_seen};
 ghost use Rattle.mbe_semantics.specs.Bindings.Environment.{binding_total};
 ghost use Rattle.mbe_log.specs.BindingViews.{bound_by};
-ghost use Rattle.mbe.specs.Choice.{AreChecked, IsTried, IsConsidered, IsChosen, is_nearer, nearer_of};
+ghost use Rattle.mbe.specs.Choice.{AreChecked, IsTried, IsConsidered, IsChosen, IsRemains, is_nearer, nearer_of};
+ghost use Rattle.mbe.specs.Recovering.{IsRecovered, Recovers};
 
 use mbe_errors::error::{ExpandError, ExpandErrorKind};
 use mbe_errors::value_result::{ExpandResult, MatchedArmIndex, ValueResult};
@@ -95,8 +96,11 @@ pub(crate) fn expand_rules<A: Allocator + Copy, G: FragmentGrammar, M: Fn(Span) 
 ) -> Result<ExpandResult<(TopSubtree<A>, MatchedArmIndex), A>, AllocError>
     requires checked { AreChecked (rules_seen rules.now) }
     requires may_mark { MayMark (M.pre marker) }
-    ensures { IfOk result (λ r. Expands (G.grammar grammar.now) (M.post marker)
+    ensures expands { IfOk result (λ r. Expands (G.grammar grammar.now) (M.post marker)
         (rules_seen rules.now) call_style input.now.1 call_site
+        (top_group r.value.0) r.value.1 (errors_of r.err)) }
+    ensures recovers { IfOk result (λ r. Recovers (G.grammar grammar.now) call_site input.now
+        (M.post marker) (rules_seen rules.now) call_style
         (top_group r.value.0) r.value.1 (errors_of r.err)) }
 {
     let choice = choose(alloc, grammar, rules, input, marker, call_style, call_site)?;
@@ -123,7 +127,7 @@ fn choose<'a, A: Allocator + Copy, G: FragmentGrammar, M: Fn(Span) -> Span + Cop
     requires checked { AreChecked (rules_seen rules.now) }
     requires may_mark { MayMark (M.pre marker) }
     ensures { IfOk result (IsChosen (G.grammar grammar.now) (M.post marker) call_style call_site
-        input.now.1 (rules_seen rules.now)) }
+        input.now (rules_seen rules.now)) }
 {
     let mut nearest: Option<Candidate<'_, A>> = None;
     for (idx, rule) in rules.iter().enumerate() {
@@ -160,7 +164,7 @@ fn consider<'a, A: Allocator + Copy, G: FragmentGrammar, M: Fn(Span) -> Span + C
     requires checked { Checked (template_of rule.now.lhs) }
     requires may_mark { MayMark (M.pre marker) }
     ensures { IfOk result (IsConsidered (G.grammar grammar.now) (M.post marker) call_style
-        call_site input.now.1 idx (rule_of rule.now)) }
+        call_site input.now idx (rule_of rule.now)) }
 {
     if rule.style != call_style {
         return Ok(Considered::OtherStyle);
@@ -212,7 +216,7 @@ fn try_rule<'a, A: Allocator + Copy, G: FragmentGrammar, M: Fn(Span) -> Span + C
 ) -> Result<Tried<'a, A>, AllocError>
     requires checked { Checked (template_of rule.now.lhs) }
     requires may_mark { MayMark (M.pre marker) }
-    ensures { IfOk result (IsTried (G.grammar grammar.now) (M.post marker) call_site input.now.1
+    ensures { IfOk result (IsTried (G.grammar grammar.now) (M.post marker) call_site input.now
         (rule_of rule.now)) }
 {
     let mut log = BindingLog::new(alloc);
@@ -259,7 +263,10 @@ fn recovered<A: Allocator + Copy, G: FragmentGrammar, M: Fn(Span) -> Span + Copy
 ) -> Result<ExpandResult<(TopSubtree<A>, MatchedArmIndex), A>, AllocError>
     requires { MayMark (M.pre marker) }
     ensures index { IfOk result (λ r. r.value.1 ≡ arm_of candidate.entry.idx) }
-    ensures err { IfOk result (λ r. IsSome (errors_of r.err)) }
+    ensures recovered { let rule = rule_of candidate.entry.rule.now in
+        (input : Top) → IsRemains (G.grammar grammar.now) (M.post marker) call_site input rule
+        candidate.entry.remains → IfOk result (λ r. IsRecovered (G.grammar grammar.now) call_site
+        input (M.post marker) rule (top_group r.value.0) (errors_of r.err)) }
 {
     let Candidate {
         idx,

@@ -7,6 +7,7 @@ ghost use Rattle.mbe_errors.specs.ErrorViews.{parse_error_of, errors_of};
 ghost use Rattle.mbe_semantics.specs.Expansion.Macro.{style_bits, TellsRefusal, IsChecked, Expands};
 ghost use Rattle.mbe_matcher.specs.Matched.{verdict_seen};
 ghost use Rattle.mbe.specs.Explaining.{Explains};
+ghost use Rattle.mbe.specs.Recovering.{Recovers};
 ghost use Rattle.mbe.specs.Styles.{bits_of};
 ghost use Rattle.mbe_tt.specs.Trees.Top.{top_group};
 ghost use Rattle.mbe_semantics.specs.Laws.Marking.{MayMark, MayAsk};
@@ -178,6 +179,9 @@ impl<A: Allocator + Copy> DeclarativeMacro<A> {
         requires may_mark { MayMark (M.pre marker) }
         ensures expands { IfOk result (λ r. Expands (G.grammar grammar.now) (M.post marker)
             (macro_of self.now).rules call_style tt.now.1 call_site
+            (top_group r.value.0) r.value.1 (errors_of r.err)) }
+        ensures recovers { IfOk result (λ r. Recovers (G.grammar grammar.now) call_site tt.now
+            (M.post marker) (macro_of self.now).rules call_style
             (top_group r.value.0) r.value.1 (errors_of r.err)) }
     {
         expand_rules(

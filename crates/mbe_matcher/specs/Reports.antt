@@ -1,7 +1,10 @@
 -- What positions report on the way.
-use Rattle.std.specs.Prelude.{ℕ, ◌≡◌, Option, Some, None, List, [], reverse}
-use Rattle.mbe_tt.specs.Trees.Tree.{Forest, rest_at}
-use Rattle.mbe_semantics.specs.Bindings.Account.{Log, HasEntriesOf}
+use Rattle.std.specs.Prelude.{ℕ, ◌≡◌, ◌==◌, Option, Some, None, List, [], reverse}
+use Rattle.mbe_tt.specs.declared.span.DelimSpan.{DelimSpan}
+use Rattle.mbe_tt.specs.Trees.Tree.{Forest, flat_len, rest_at}
+use Rattle.mbe_semantics.specs.Bindings.Account.{Log, Handle, HasEntriesOf}
+use Rattle.mbe_semantics.specs.Expansion.Error.{ExpandError}
+use Rattle.mbe_semantics.specs.Readings.Verdict.{Verdict, stop_of}
 use Rattle.mbe_tt.specs.Views.View.{trees}
 use Rattle.mbe_tt.specs.Fragments.Grammar.{Grammar}
 use Rattle.mbe_semantics.specs.Syntax.Op.{Ops}
@@ -16,7 +19,7 @@ use Rattle.mbe_matcher.specs.declared.report.Misfit as kept
 use Rattle.mbe_matcher.specs.declared.report.Report.{Report}
 use Rattle.mbe_matcher.specs.declared.report.Last.{Last}
 use Rattle.mbe_matcher.specs.Positions.{Both, Holds}
-use Rattle.mbe_matcher.specs.Failures.{Misfit, Source, failed, ended, Notes, is_any, or_first, source_of, noted_at, AreFollowedNotes}
+use Rattle.mbe_matcher.specs.Failures.{Misfit, Source, failed, ended, Notes, is_any, or_first, source_of, noted_at, AreFollowedNotes, error_of_notes, commands_of_notes}
 
 -- what is to be reported of the bindings is in the log
 abbrev pub IsLast : {A : Type 0} → Log → Option (Last A) → Type 0
@@ -58,3 +61,10 @@ NotesPlace g source pattern spots old new before after =
 -- a report of what was noted up to the place, with the positions that are followed
 abbrev pub IsReportAt : {A : Type 0} → Grammar → Ops → Forest → Log → ℕ → Report A → Type 0
 IsReportAt g pattern argument log q r = (notes : Notes) × AreFollowedNotes (input_of g argument) pattern q notes × IsReportOf log argument r [] notes
+
+-- What a match without an only reading returns, beside its verdict: why, and what was bound, as the positions that are followed have it.
+pub record IsReported (g : Grammar) (pattern : Ops) (argument : Forest) (around : DelimSpan) (log : Log) (v : Verdict) (err : ExpandError) (h : Handle) : Type 0 where
+  pub notes : Notes
+  pub noted : AreFollowedNotes (input_of g argument) pattern (stop_of argument v) notes
+  pub error : err ≡ error_of_notes g argument around (stop_of argument v == flat_len argument) notes
+  pub bindings : Holds log h (commands_of_notes g argument notes.last)

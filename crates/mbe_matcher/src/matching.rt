@@ -31,16 +31,18 @@
 //         2          q           4   4, over `q` by fragment
 //         3          ;        3  2   2, over `;`
 //         4                      1   none: the pattern ends, and so does the argument: one reading
-ghost use Rattle.std.specs.Prelude.{◌≡◌, ◌↔◌, IsNone, IsSome, IfOk, OnOk};
+ghost use Rattle.std.specs.Prelude.{◌≡◌, ◌==◌, ◌↔◌, IsNone, IsSome, IfOk, IfSome, OnOk};
+ghost use Rattle.mbe_tt.specs.Trees.Tree.{Forest, flat_len};
 ghost use Rattle.mbe_tt.specs.Views.View.{trees};
+ghost use Rattle.mbe_semantics.specs.Syntax.Op.{Ops};
 ghost use Rattle.mbe_semantics.specs.Syntax.Nullable.{Checked};
-ghost use Rattle.mbe_semantics.specs.Readings.Verdict.{IsVerdict, unmatched, one_reading};
+ghost use Rattle.mbe_semantics.specs.Readings.Verdict.{IsVerdict, stop_of, unmatched, one_reading};
 ghost use Rattle.mbe_semantics.specs.Bindings.Account.{Log, HasEntriesOf};
 ghost use Rattle.mbe_errors.specs.ErrorViews.{errors_of};
 ghost use Rattle.mbe_log.specs.Shared.{IsKept};
 ghost use Rattle.mbe_ops.specs.Views.{template_of};
 ghost use Rattle.mbe_matcher.specs.Matched.{verdict_seen, verdict_in, Binds};
-ghost use Rattle.mbe_matcher.specs.Reports.{IsReport};
+ghost use Rattle.mbe_matcher.specs.Reports.{IsReport, IsReportAt, IsReported};
 
 use crate::places::{Reached, Stop, reach};
 use mbe_errors::error::ExpandError;
@@ -98,6 +100,9 @@ pub fn match_argument<'a, A: Allocator + Copy, G: FragmentGrammar>(
     ensures entries { IfOk result (λ m. HasEntriesOf log.new m.bindings) }
     ensures err { IfOk result (λ m. IsNone (errors_of m.err)
         ↔ (verdict_seen m.verdict ≡ one_reading)) }
+    ensures reports { IfOk result (λ m. IfSome (errors_of m.err)
+        (λ e. IsReported (G.grammar grammar.now) (template_of pattern.now) (trees argument.entry)
+        around log.new (verdict_seen m.verdict) e m.bindings)) }
     ensures kept { OnOk result (IsKept log.old log.new) }
 {
     let reached = reach(alloc, grammar, pattern, argument, log)?;
@@ -124,11 +129,13 @@ fn verdict_of(stop: &Stop) -> Verdict
 }
 
 // Whether the positions stop at the end of an argument of so many flat tokens.
-fn is_at_end(stop: &Stop, length: usize) -> bool {
+fn is_at_end(stop: &Stop, length: usize) -> bool
+    ensures { (f : Forest) → flat_len f ≡ length
+        → result ≡ (stop_of f (verdict_in stop.now) == flat_len f) }
+{
     match stop {
         Stop::OneReading(_) | Stop::ManyReadings => true,
-        Stop::Ambiguous(_) => false,
-        Stop::Stuck(place) => *place == length,
+        Stop::Ambiguous(place) | Stop::Stuck(place) => *place == length,
     }
 }
 
@@ -147,6 +154,11 @@ fn failed<'a, A: Allocator + Copy, G: FragmentGrammar>(
     ensures entries { IfOk result (λ m. HasEntriesOf log.new m.bindings) }
     ensures err { IfOk result (λ m. IsSome (errors_of m.err)) }
     ensures kept { (first : Log) → IsKept first log.old → OnOk result (IsKept first log.new) }
+    ensures reports { (pattern : Ops) (f : Forest) → flat_len f ≡ length
+        → IsReportAt (G.grammar grammar.now) pattern f log.old
+        (stop_of f (verdict_in reached.entry.stop)) reached.entry.report
+        → IfOk result (λ m. IfSome (errors_of m.err) (λ e. IsReported (G.grammar grammar.now)
+        pattern f around log.new (verdict_in reached.entry.stop) e m.bindings)) }
 {
     let Reached {
         stop,

@@ -1,5 +1,14 @@
+use Rattle.std.proofs.Common.{◌∙◌, ap}
 use Rattle.mbe_log.proofs.ClientLemmas.{kept-on}
+use Rattle.mbe_matcher.specs.Failures.{error_of_notes}
 use Rattle.mbe_matcher.proofs.matching.failed.Goals as goal
 
 pub returns-clause-kept : goal.returns-clause-kept
 returns-clause-kept g c = λ first k. kept-on first c.args.log.now c.bindings.new.log k c.in_ok-bindings.ensures.kept
+
+pub returns-clause-reports : goal.returns-clause-reports
+returns-clause-reports g c = λ pattern f at is.
+    let h = g.G.FragmentGrammar.grammar c.args.grammar.now in
+    let error = c.in_ok-err.ensures c.args.log.now f is.0 is.2 in
+    let at_end = ap (λ b. error_of_notes h f c.args.around b is.0) (c.is_at_end.ensures f at) in
+    record { notes = is.0; noted = is.1; error = error ∙ at_end; bindings = c.in_ok-bindings.ensures.notes f is.0 is.2 }

@@ -1,11 +1,12 @@
 use Rattle.std.proofs.Common.{◌≡◌, ◌∙◌, sym, ap, subst}
-use Rattle.std.specs.Prelude.{IsSome, IsNone, ◌↔◌}
+use Rattle.std.specs.Prelude.{IsSome, IsNone, IfSome, ◌↔◌}
 use Rattle.std.proofs.lemmas.Result.{IfOk-weaker}
 use Rattle.mbe_tt.specs.Views.View.{trees}
 use Rattle.mbe_semantics.specs.Readings.Verdict.{IsVerdict, unmatched, one_reading}
 use Rattle.mbe_errors.specs.ErrorViews.{errors_of}
 use Rattle.mbe_ops.specs.Views.{template_of}
 use Rattle.mbe_matcher.specs.Matched.{verdict_in, verdict_seen, Binds}
+use Rattle.mbe_matcher.specs.Reports.{IsReported}
 use Rattle.mbe_matcher.proofs.MatchEnds.{no_reading, both_ok}
 use Rattle.mbe_matcher.proofs.matching.match_argument.Goals as goal
 
@@ -39,3 +40,14 @@ returns-clause-err g c =
 
 pub returns-clause-kept : goal.returns-clause-kept
 returns-clause-kept g c = c.failed.ensures.kept c.args.log.now c.in_ok-reached.ensures.kept
+
+pub returns-clause-reports : goal.returns-clause-reports
+returns-clause-reports g c =
+    let v = verdict_in c.in_ok-reached.reached.stop in
+    let h = g.G.FragmentGrammar.grammar c.args.grammar.now in
+    let pat = template_of c.args.pattern.now in
+    let f = trees c.args.argument in
+    both_ok c.failed.result (λ m. verdict_seen m.verdict ≡ v) (λ m. IfSome (errors_of m.err) (λ e. IsReported h pat f c.args.around c.failed.new.log v e m.bindings))
+    (λ m. IfSome (errors_of m.err) (λ e. IsReported h pat f c.args.around c.failed.new.log (verdict_seen m.verdict) e m.bindings))
+    (λ m is r. subst (λ w. IfSome (errors_of m.err) (λ e. IsReported h pat f c.args.around c.failed.new.log w e m.bindings)) (sym is) r)
+    c.failed.ensures.verdict (c.failed.ensures.reports pat f (sym c.flat_len.ensures) c.in_ok-reached.ensures.notes)
