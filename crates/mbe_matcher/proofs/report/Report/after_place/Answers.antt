@@ -1,4 +1,4 @@
-use Rattle.std.proofs.Common.{◌≡◌, ◌∙◌, false, None, Some, refl, sym, subst}
+use Rattle.std.proofs.Common.{◌∙◌, false, None, Some, refl, sym, subst}
 use Rattle.mbe_matcher.specs.declared.report.Report.{Report}
 use Rattle.mbe_matcher.specs.Positions.{Both}
 use Rattle.mbe_matcher.specs.Failures.{source_of}

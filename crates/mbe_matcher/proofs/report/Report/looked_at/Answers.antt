@@ -1,5 +1,4 @@
-use Rattle.std.proofs.Common.{◌≡◌, ◌∙◌, ◌++◌, inl, inr, true, false, Some, None, option_to_list, refl, sym, ap, subst}
-use Rattle.std.specs.Prelude.{not}
+use Rattle.std.proofs.Common.{◌≡◌, ◌∙◌, ◌++◌, inl, inr, true, Some, None, option_to_list, refl, sym, ap, subst}
 use Rattle.mbe_tt.specs.Views.View.{trees}
 use Rattle.mbe_semantics.specs.Syntax.Op.{op as op_then}
 use Rattle.mbe_ops.specs.Views.{op_of, ops_of}
