@@ -1,4 +1,4 @@
--- What is reported stays in a later log.
+-- What a report stands for, and that it does in a later log.
 use Rattle.std.proofs.Common.{◌≡◌, ◌∙◌, ◌++◌, ◌⊎◌, inl, inr, ℕ, Bool, true, false, Option, Some, None, option_to_list, List, [], ◌∷◌, refl, sym, ap, subst, append-nil, length, arith}
 use Rattle.std.specs.Prelude.{◌||◌, is_some, not, if◌then◌else◌, unwrap_or, slice_get}
 use Rattle.std.proofs.lemmas.Option.{none-some}
@@ -7,8 +7,7 @@ use Rattle.mbe_semantics.specs.Readings.Input.{Input}
 use Rattle.mbe_ops.specs.Views.{ops_of}
 use Rattle.mbe_semantics.specs.Syntax.Op.{Op, Ops, no_ops, op}
 use Rattle.mbe_semantics.specs.Matching.Outline.{Outline, outline, idle_of, next_of, finished_of}
-use Rattle.mbe_semantics.specs.Bindings.Account.{Commands, Log, Handle, HasEntriesOf}
-use Rattle.mbe_log.specs.Accounts.{Every}
+use Rattle.mbe_semantics.specs.Bindings.Account.{Commands, Log, Handle}
 use Rattle.mbe_log.specs.Shared.{IsKept}
 use Rattle.mbe_log.proofs.ClientLemmas as client
 use Rattle.mbe_matcher.specs.declared.report.Report.{Report}
@@ -20,19 +19,6 @@ use Rattle.mbe_matcher.specs.declared.position.Steps.{Steps}
 use Rattle.mbe_matcher.specs.Positions.{Each, Both, Shows, LeadsTo, Holds, AreStepsNow}
 use Rattle.mbe_matcher.specs.Failures.{Misfit, Source, failed, ended, Notes, is_any, has_step, or_first, last_of, source_of, noted_with, is_noted, misfit_unless, ops_left, bound_by}
 use Rattle.mbe_matcher.specs.Reports.{IsLast, IsReport, IsMisfit, IsSource, IsReportOf}
-
-pub report_keeps : {A : Type 0} (old new : Log) (r : Report A) → IsKept old new → IsReport old r → IsReport new r
-report_keeps {A} old new r k h = go r.last h
-  where
-    go : (l : Option (Last A)) → IsLast old l → IsLast new l
-    go None e = tt
-    go (Some l) e = k.entries l.handle e
-
--- who has an account has its entries
-pub ends_have_entries : (log : Log) (hs : List Handle) (cs : List Commands) → Each (Holds log) hs cs → Every (HasEntriesOf log) hs
-ends_have_entries log [] cs e = tt
-ends_have_entries log (h ∷ hs) [] e = absurd e
-ends_have_entries log (h ∷ hs) (c ∷ cs) e = (client.has_entries log h e.0.0 e.0.1, ends_have_entries log hs cs e.1)
 
 -- ---- what it stands for
 
@@ -212,3 +198,13 @@ step_same i argument q log outers o s st =
     any_same (Shows log outers) s.first s.second (idle_of i q o) (is_some s.next || is_some s.done) st.idle
     ∙ ap (λ b. is_any (idle_of i q o) || (b || is_some s.done)) (some_same (LeadsTo log outers (rest_at argument q)) s.next (next_of i q o) st.next)
     ∙ ap (λ b. is_any (idle_of i q o) || (is_some (next_of i q o) || b)) (some_same (Holds log) s.done (finished_of o) st.done)
+
+-- what a report is of is in the log
+pub report_entries : {A : Type 0} (log : Log) (f : Forest) (r : Report A) (ms : List Misfit) (before : Notes) → IsReportOf log f r ms before → IsReport log r
+report_entries {A} log f r ms before is = go r.last (source_of ms [] before.last) is.last
+  where
+    go : (l : Option (Last A)) (s : Option Source) → Both (IsSource log f) l s → IsLast log l
+    go None s b = tt
+    go (Some l) None b = absurd b
+    go (Some l) (Some (failed m)) b = client.has_entries log l.handle b.1.0 b.1.1
+    go (Some l) (Some (ended cs)) b = client.has_entries log l.handle b.1.0 b.1.1

@@ -14,11 +14,13 @@ use Rattle.mbe_semantics.specs.Matching.Outline.{Outline}
 use Rattle.mbe_bounds.specs.Loop.Kept.{kept as kept_at}
 use Rattle.mbe_ops.specs.Views.{op_of}
 use Rattle.mbe_matcher.specs.declared.source.Source.{Source as Argument}
+use Rattle.mbe_matcher.specs.declared.settle.Settled.{Settled}
 use Rattle.mbe_matcher.specs.declared.settle.State.{State}
 use Rattle.mbe_matcher.specs.declared.report.Misfit as kept
 use Rattle.mbe_matcher.specs.declared.report.Report.{Report}
 use Rattle.mbe_matcher.specs.declared.report.Last.{Last}
 use Rattle.mbe_matcher.specs.Positions.{Both, Holds}
+use Rattle.mbe_matcher.specs.Matched.{AreSettledAt}
 use Rattle.mbe_matcher.specs.Failures.{Misfit, Source, failed, ended, Notes, is_any, or_first, source_of, noted_at, AreFollowedNotes, error_of_notes, commands_of_notes}
 
 -- what is to be reported of the bindings is in the log
@@ -28,10 +30,6 @@ IsLast log (Some l) = HasEntriesOf log l.handle
 
 abbrev pub IsReport : {A : Type 0} → Log → Report A → Type 0
 IsReport log r = IsLast log r.last
-
--- a report of the one log is after it one of the other
-abbrev pub ReportStays : {A : Type 0} → Log → Log → Report A → Report A → Type 0
-ReportStays old new before after = IsReport old before → IsReport new after
 
 -- ---- what it stands for
 
@@ -57,6 +55,11 @@ NotesPlace g source pattern spots old new before after =
     (notes : Notes) → IsReportOf old (trees source.whole) before.report [] notes →
     IsReportOf new (trees source.whole) after.report []
     (noted_at (input_of g (trees source.whole)) source.place (kept_at (input_of g (trees source.whole)) (dots pattern) source.place (reverse spots)) notes)
+
+-- The steps of the positions are followed, two of each dot, and the place is noted.
+pub record Settles {A : Type 0} (g : Grammar) (source : Argument A) (pattern : Ops) (spots : List Outline) (old new : Log) (before after : State A) (settled : Settled A) : Type 0 where
+  pub steps : AreSettledAt g source pattern spots new after settled
+  pub notes : NotesPlace g source pattern spots old new before after
 
 -- a report of what was noted up to the place, with the positions that are followed
 abbrev pub IsReportAt : {A : Type 0} → Grammar → Ops → Forest → Log → ℕ → Report A → Type 0

@@ -4,12 +4,11 @@ ghost use Rattle.mbe_tt.specs.Trees.Tree.{flat_len, rest_at};
 ghost use Rattle.mbe_tt.specs.Views.View.{trees};
 ghost use Rattle.mbe_semantics.specs.Syntax.Nullable.{Checked};
 ghost use Rattle.mbe_semantics.specs.Readings.Verdict.{IsVerdict, stop_of, unmatched};
-ghost use Rattle.mbe_semantics.specs.Bindings.Account.{HasEntriesOf};
 ghost use Rattle.mbe_semantics.specs.Matching.Dots.{dots};
 ghost use Rattle.mbe_log.specs.Shared.{IsKept};
 ghost use Rattle.mbe_ops.specs.Views.{template_of};
 ghost use Rattle.mbe_matcher.specs.Positions.{IsLeft};
-ghost use Rattle.mbe_matcher.specs.Reports.{IsReport, IsReportAt};
+ghost use Rattle.mbe_matcher.specs.Reports.{IsReportAt};
 ghost use Rattle.mbe_matcher.specs.Matched.{IsAtStart, is_clash, clashes_with, position_after, ends_as, stop_at, verdict_in, reading_in, Binds};
 
 use crate::position::{Position, Todo, Waiting};
@@ -171,9 +170,7 @@ pub(crate) fn reach<'a, A: Allocator + Copy, G: FragmentGrammar>(
         ≡ unmatched (trees argument.entry) (verdict_in r.stop)) }
     ensures binds { IfOk result (λ r. IfSome (reading_in r.stop)
         (Binds (G.grammar grammar.now) (template_of pattern.now) (trees argument.entry) log.new)) }
-    ensures entries { IfOk result (λ r. IfSome (reading_in r.stop) (HasEntriesOf log.new)) }
     ensures kept { OnOk result (IsKept log.old log.new) }
-    ensures report { IfOk result (λ r. IsReport log.new r.report) }
     ensures notes { IfOk result (λ r. IsReportAt (G.grammar grammar.now) (template_of pattern.now)
         (trees argument.entry) log.new (stop_of (trees argument.entry) (verdict_in r.stop)) r.report) }
 {

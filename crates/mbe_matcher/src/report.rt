@@ -241,15 +241,13 @@ impl<'a, A: Allocator> Report<'a, A> {
     ghost use Rattle.mbe_semantics.specs.Bindings.Account.{Log, Commands};
     ghost use Rattle.mbe_semantics.specs.Matching.Outline.{Outline};
     ghost use Rattle.mbe_ops.specs.Views.{ops_of};
-    ghost use Rattle.mbe_log.specs.Accounts.{Every};
     ghost use Rattle.mbe_matcher.specs.Positions.{Each, Holds};
     ghost use Rattle.mbe_matcher.specs.Failures.{Misfit as Misfits, Notes, no_notes, noted_with, misfit_unless, ops_left, bound_by};
-    ghost use Rattle.mbe_matcher.specs.Reports.{IsReport, IsReportOf};
+    ghost use Rattle.mbe_matcher.specs.Reports.{IsReportOf};
 
     // Nothing is reported.
     pub(crate) fn new() -> Report<'a, A>
-        ensures entries { (log : Log) → IsReport log result }
-        ensures notes { (log : Log) (f : Forest) → IsReportOf log f result [] no_notes }
+        ensures { (log : Log) (f : Forest) → IsReportOf log f result [] no_notes }
     {
         Report {
             first: None,
@@ -266,9 +264,7 @@ impl<'a, A: Allocator> Report<'a, A> {
         handle: Handle,
         has_step: bool,
     )
-        ensures entries { (log : Log) → HasEntriesOf log handle
-            → IsReport log self.old → IsReport log self.new }
-        ensures notes { (log : Log) (o : Outline) (ms : List Misfits) (before : Notes)
+        ensures { (log : Log) (o : Outline) (ms : List Misfits) (before : Notes)
             → ops_of dot.now ≡ ops_left o → Holds log handle (bound_by o)
             → IsReportOf log (trees source.now.whole) self.old ms before
             → IsReportOf log (trees source.now.whole) self.new
@@ -296,9 +292,7 @@ impl<'a, A: Allocator> Report<'a, A> {
 
     // All positions of the place were looked at. Those at the pattern's end have bound this.
     pub(crate) fn after_place(&mut self, ends: &[Handle])
-        ensures entries { (log : Log) → Every (HasEntriesOf log) ends.now → IsReport log self.old
-            → IsReport log self.new }
-        ensures notes { (log : Log) (f : Forest) (ms : List Misfits) (cs : List Commands)
+        ensures { (log : Log) (f : Forest) (ms : List Misfits) (cs : List Commands)
             (before : Notes) → Each (Holds log) ends.now cs → IsReportOf log f self.old ms before
             → IsReportOf log f self.new [] (noted_with ms cs before) }
     {

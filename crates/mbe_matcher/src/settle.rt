@@ -3,8 +3,8 @@ ghost use Rattle.std.specs.Prelude.{◌≡◌, ◌+◌, ◌++◌, ◌≤◌, [],
 ghost use Rattle.mbe_semantics.specs.Bindings.Account.{Log};
 ghost use Rattle.mbe_matcher.specs.Counts.{AreBlankFrom};
 ghost use Rattle.mbe_matcher.specs.States.{KeepsState};
-ghost use Rattle.mbe_matcher.specs.Matched.{IsStackAt, AreSettledAt, dots_in};
-ghost use Rattle.mbe_matcher.specs.Reports.{IsReport, IsReportOf, ReportStays, NotesPlace};
+ghost use Rattle.mbe_matcher.specs.Matched.{IsStackAt, dots_in};
+ghost use Rattle.mbe_matcher.specs.Reports.{IsReportOf, Settles};
 ghost use Rattle.mbe_matcher.specs.Failures.{no_notes};
 ghost use Rattle.mbe_tt.specs.Trees.Tree.{Forest};
 
@@ -55,7 +55,6 @@ impl<'a, A: Allocator + Copy> State<'a, A> {
     pub(crate) fn new(alloc: A, dots: usize) -> Result<State<'a, A>, AllocError>
         ensures size { IfOk result (λ s. dots_in s ≡ dots) }
         ensures blank { IfOk result (λ s. AreBlankFrom s.counts.marks.items 0) }
-        ensures report { (log : Log) → IfOk result (λ s. IsReport log s.report) }
         ensures notes { (log : Log) (f : Forest)
             → IfOk result (λ s. IsReportOf log f s.report [] no_notes) }
     {
@@ -96,19 +95,14 @@ pub(crate) fn settle<'a, A: Allocator + Copy, G: FragmentGrammar>(
     requires blank { AreBlankFrom state.old.counts.marks.items source.now.place }
     ensures settled { (s : IsStackAt (G.grammar grammar.now) source.now
         log.old state.old todo.old.items) → OnOk result
-        (AreSettledAt (G.grammar grammar.now) source.now s.pattern s.spots
-        log.new state.new settled.new) }
+        (Settles (G.grammar grammar.now) source.now s.pattern s.spots
+        log.old log.new state.old state.new settled.new) }
     ensures few { OnOk result (length settled.new.waiting.items + length settled.new.ends.items
         ≤ dots_in state.old + dots_in state.old) }
     ensures kept { OnOk result (KeepsState log.old log.new state.old state.new) }
     ensures blank { OnOk result (AreBlankFrom state.new.counts.marks.items (source.now.place + 1)) }
     ensures size { OnOk result (dots_in state.new ≡ dots_in state.old) }
     ensures done { OnOk result (todo.new.items ≡ []) }
-    ensures report { OnOk result (ReportStays log.old log.new state.old.report state.new.report) }
-    ensures notes { (s : IsStackAt (G.grammar grammar.now) source.now
-        log.old state.old todo.old.items) → OnOk result
-        (NotesPlace (G.grammar grammar.now) source.now s.pattern s.spots
-        log.old log.new state.old state.new) }
 {
     settled.waiting.clear();
     settled.ends.clear();

@@ -1,17 +1,28 @@
-use Rattle.std.proofs.Common.{◌≡◌, ◌∙◌, sym, ap, subst}
+use Rattle.std.proofs.Common.{◌≡◌, ◌∙◌, [], sym, ap, subst}
 use Rattle.std.specs.Prelude.{IsSome, IsNone, IfSome, ◌↔◌}
 use Rattle.std.proofs.lemmas.Result.{IfOk-weaker}
 use Rattle.mbe_tt.specs.Views.View.{trees}
 use Rattle.mbe_semantics.specs.Readings.Verdict.{IsVerdict, unmatched, one_reading}
+use Rattle.mbe_semantics.specs.Bindings.Account.{HasEntriesOf}
 use Rattle.mbe_errors.specs.ErrorViews.{errors_of}
 use Rattle.mbe_ops.specs.Views.{template_of}
-use Rattle.mbe_matcher.specs.Matched.{verdict_in, verdict_seen, Binds}
+use Rattle.mbe_matcher.specs.Matched.{verdict_in, verdict_seen, reading_in, Binds}
 use Rattle.mbe_matcher.specs.Reports.{IsReported}
-use Rattle.mbe_matcher.proofs.MatchEnds.{no_reading, both_ok}
+use Rattle.mbe_matcher.proofs.MatchEnds.{no_reading, both_ok, stop_has_entries}
+use Rattle.mbe_matcher.proofs.Reporting.{report_entries}
 use Rattle.mbe_matcher.proofs.matching.match_argument.Goals as goal
 
 pub failed-requires : goal.failed-requires
-failed-requires g c = c.in_ok-reached.ensures.report
+failed-requires g c =
+    let is = c.in_ok-reached.ensures.notes in
+    report_entries c.reach.new.log (trees c.args.argument) c.in_ok-reached.reached.report [] is.0 is.2
+
+pub returns-in-OneReading-clause-entries : goal.returns-in-OneReading-clause-entries
+returns-in-OneReading-clause-entries g c =
+    let log = c.reach.new.log in
+    let there = stop_has_entries (g.G.FragmentGrammar.grammar c.args.grammar.now) (template_of c.args.pattern.now) (trees c.args.argument) log c.in_ok-reached.reached.stop c.in_ok-reached.ensures.binds in
+    let held : HasEntriesOf log c.in-OneReading.bindings = subst (λ s. IfSome (reading_in s) (HasEntriesOf log)) c.in-OneReading.is there in
+    rw c.again.ensures held
 
 pub returns-clause-verdict : goal.returns-clause-verdict
 returns-clause-verdict g c =

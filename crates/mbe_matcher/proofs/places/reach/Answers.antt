@@ -18,7 +18,7 @@ use Rattle.mbe_matcher.specs.Positions.{Each, Shows, IsLeft}
 use Rattle.mbe_matcher.specs.Failures.{no_notes, noted_at, FollowsWith, follows_next, AreFollowedNotes}
 use Rattle.mbe_matcher.specs.Reports.{IsReportOf, IsReportAt}
 use Rattle.mbe_matcher.specs.Matched.{position_after, stop_at, verdict_in, reading_in, Binds}
-use Rattle.mbe_matcher.proofs.MatchEnds.{right_stop, stop_place, binds_stop, next, stop_has_entries, come_first, stack_of, shown_after}
+use Rattle.mbe_matcher.proofs.MatchEnds.{right_stop, stop_place, binds_stop, next, come_first, stack_of, shown_after}
 use Rattle.mbe_matcher.proofs.places.reach.Goals as goal
 
 pub at_start-requires : goal.at_start-requires
@@ -42,7 +42,6 @@ loop-source-init g c =
       blank = λ q l. c.in_ok-state.ensures.blank q (omega arith);
       size = c.in_ok-state.ensures.size ∙ all;
       kept = c.in_ok-position.ensures.kept;
-      report = c.in_ok-state.ensures.report c.at_start.new.log;
     }
 
 pub settle-requires : goal.settle-requires
@@ -69,7 +68,7 @@ returns-in-Some-clause-verdict g c =
     let inv = c.loop-source.invariant in
     let come = inv.comes.2 w c.requires in
     let stack = stack_of i pat len w c.requires s.place (length c.loop-source.state.counts.marks.items) c.loop-source.log c.loop-source.state.outers.items c.loop-source.todo.items inv.comes.0 (sym inv.size) come inv.comes.1 in
-    let st = c.in_ok-settle.ensures.settled stack in
+    let st = (c.in_ok-settle.ensures.settled stack).steps in
     let ws = c.settle.new.settled.waiting.items in
     let hs = c.settle.new.settled.ends.items in
     let log = c.settle.new.log in
@@ -92,7 +91,7 @@ returns-in-Some-clause-unmatched g c =
     let inv = c.loop-source.invariant in
     let come = inv.comes.2 w c.requires in
     let stack = stack_of i pat len w c.requires s.place (length c.loop-source.state.counts.marks.items) c.loop-source.log c.loop-source.state.outers.items c.loop-source.todo.items inv.comes.0 (sym inv.size) come inv.comes.1 in
-    let st = c.in_ok-settle.ensures.settled stack in
+    let st = (c.in_ok-settle.ensures.settled stack).steps in
     let ws = c.settle.new.settled.waiting.items in
     let hs = c.settle.new.settled.ends.items in
     let log = c.settle.new.log in
@@ -117,7 +116,7 @@ returns-in-Some-clause-binds g c =
     let inv = c.loop-source.invariant in
     let come = inv.comes.2 w c.requires in
     let stack = stack_of i pat len w c.requires s.place (length c.loop-source.state.counts.marks.items) c.loop-source.log c.loop-source.state.outers.items c.loop-source.todo.items inv.comes.0 (sym inv.size) come inv.comes.1 in
-    let st = c.in_ok-settle.ensures.settled stack in
+    let st = (c.in_ok-settle.ensures.settled stack).steps in
     let ws = c.settle.new.settled.waiting.items in
     let hs = c.settle.new.settled.ends.items in
     let log = c.settle.new.log in
@@ -130,31 +129,6 @@ returns-in-Some-clause-binds g c =
     let only = subst (λ l. IfSome (reading_in c.in-Some.stop) (λ h. l ≡ h ∷ [])) ends c.in-Some.ensures.reading in
     let b = binds_stop h pat (trees s.whole) w c.requires s.place inv.comes.0 come s.within log outers ws hs st c.in-Some.stop e only in
     subst (λ x. IfSome (reading_in c.in-Some.stop) (Binds h pat (trees x) log)) inv.whole b
-
-pub returns-in-Some-clause-entries : goal.returns-in-Some-clause-entries
-returns-in-Some-clause-entries g c =
-    let h = g.G.FragmentGrammar.grammar c.args.grammar.now in
-    let s = c.loop-source.source in
-    let i = input_of h (trees s.whole) in
-    let len = flat_len (trees s.whole) in
-    let pat = template_of c.args.pattern.now in
-    let w = lawful_input h (trees s.whole) (g.met.G.FragmentGrammar.lawful c.args.grammar.now) in
-    let inv = c.loop-source.invariant in
-    let come = inv.comes.2 w c.requires in
-    let stack = stack_of i pat len w c.requires s.place (length c.loop-source.state.counts.marks.items) c.loop-source.log c.loop-source.state.outers.items c.loop-source.todo.items inv.comes.0 (sym inv.size) come inv.comes.1 in
-    let st = c.in_ok-settle.ensures.settled stack in
-    let ws = c.settle.new.settled.waiting.items in
-    let hs = c.settle.new.settled.ends.items in
-    let log = c.settle.new.log in
-    let outers = c.settle.new.state.outers.items in
-    let waits = c.deref-in-loop-source.ensures in
-    let ends = c.deref-in-loop-source-2.ensures in
-    let v = verdict_in c.in-Some.stop in
-    let e : Some v ≡ stop_at s.place len ws hs =
-    c.in-Some.ensures.stop ∙ ap (λ l. stop_at s.place len l c.deref-in-loop-source-2.result.now) waits ∙ ap (stop_at s.place len ws) ends in
-    let only = subst (λ l. IfSome (reading_in c.in-Some.stop) (λ h. l ≡ h ∷ [])) ends c.in-Some.ensures.reading in
-    let b = binds_stop h pat (trees s.whole) w c.requires s.place inv.comes.0 come s.within log outers ws hs st c.in-Some.stop e only in
-    stop_has_entries h pat (trees s.whole) log c.in-Some.stop b
 
 pub returns-in-Some-clause-kept : goal.returns-in-Some-clause-kept
 returns-in-Some-clause-kept g c = kept-on c.args.log.now c.loop-source.log c.settle.new.log c.loop-source.invariant.kept c.in_ok-settle.ensures.kept.log
@@ -170,7 +144,7 @@ bounds-deref-0 g c =
     let inv = c.loop-source.invariant in
     let come = inv.comes.2 w c.requires in
     let stack = stack_of i pat len w c.requires s.place (length c.loop-source.state.counts.marks.items) c.loop-source.log c.loop-source.state.outers.items c.loop-source.todo.items inv.comes.0 (sym inv.size) come inv.comes.1 in
-    let st = c.in_ok-settle.ensures.settled stack in
+    let st = (c.in_ok-settle.ensures.settled stack).steps in
     let ws = c.settle.new.settled.waiting.items in
     let hs = c.settle.new.settled.ends.items in
     let log = c.settle.new.log in
@@ -194,7 +168,7 @@ after_step-requires-clause-fits g c =
     let inv = c.loop-source.invariant in
     let come = inv.comes.2 w c.requires in
     let stack = stack_of i pat len w c.requires s.place (length c.loop-source.state.counts.marks.items) c.loop-source.log c.loop-source.state.outers.items c.loop-source.todo.items inv.comes.0 (sym inv.size) come inv.comes.1 in
-    let st = c.in_ok-settle.ensures.settled stack in
+    let st = (c.in_ok-settle.ensures.settled stack).steps in
     let ws = c.settle.new.settled.waiting.items in
     let hs = c.settle.new.settled.ends.items in
     let log = c.settle.new.log in
@@ -220,7 +194,7 @@ after_step-requires-clause-left g c =
     let inv = c.loop-source.invariant in
     let come = inv.comes.2 w c.requires in
     let stack = stack_of i pat len w c.requires s.place (length c.loop-source.state.counts.marks.items) c.loop-source.log c.loop-source.state.outers.items c.loop-source.todo.items inv.comes.0 (sym inv.size) come inv.comes.1 in
-    let st = c.in_ok-settle.ensures.settled stack in
+    let st = (c.in_ok-settle.ensures.settled stack).steps in
     let ws = c.settle.new.settled.waiting.items in
     let hs = c.settle.new.settled.ends.items in
     let log = c.settle.new.log in
@@ -244,7 +218,7 @@ loop-source-smaller g c =
     let inv = c.loop-source.invariant in
     let come = inv.comes.2 w c.requires in
     let stack = stack_of i pat len w c.requires s.place (length c.loop-source.state.counts.marks.items) c.loop-source.log c.loop-source.state.outers.items c.loop-source.todo.items inv.comes.0 (sym inv.size) come inv.comes.1 in
-    let st = c.in_ok-settle.ensures.settled stack in
+    let st = (c.in_ok-settle.ensures.settled stack).steps in
     let ws = c.settle.new.settled.waiting.items in
     let hs = c.settle.new.settled.ends.items in
     let log = c.settle.new.log in
@@ -273,7 +247,7 @@ loop-source-preserved g c =
     let inv = c.loop-source.invariant in
     let come = inv.comes.2 w c.requires in
     let stack = stack_of i pat len w c.requires s.place (length c.loop-source.state.counts.marks.items) c.loop-source.log c.loop-source.state.outers.items c.loop-source.todo.items inv.comes.0 (sym inv.size) come inv.comes.1 in
-    let st = c.in_ok-settle.ensures.settled stack in
+    let st = (c.in_ok-settle.ensures.settled stack).steps in
     let ws = c.settle.new.settled.waiting.items in
     let hs = c.settle.new.settled.ends.items in
     let log = c.settle.new.log in
@@ -305,17 +279,13 @@ loop-source-preserved g c =
         noted,
         subst (λ x. FollowsWith (input_of h (trees x)) pat c.in_ok-source.source.place new noted) (sym c.in_ok-source.ensures.whole)
             (follows_next s.place c.in_ok-source.source.place n.first.width inv.comes.0 inv.comes.3 inv.comes.4 n.goes_over n.agrees at),
-        subst (λ x. IsReportOf log (trees x) c.settle.new.state.report [] noted) (sym c.in_ok-source.ensures.whole) (c.in_ok-settle.ensures.notes stack inv.comes.3 inv.comes.5),
+        subst (λ x. IsReportOf log (trees x) c.settle.new.state.report [] noted) (sym c.in_ok-source.ensures.whole) ((c.in_ok-settle.ensures.settled stack).notes inv.comes.3 inv.comes.5),
       );
       whole = c.in_ok-source.ensures.whole ∙ inv.whole;
       blank = λ q l. c.in_ok-settle.ensures.blank q (omega (arith, l, at, some));
       size = c.in_ok-settle.ensures.size ∙ inv.size;
       kept = kept-on c.args.log.now c.loop-source.log log inv.kept c.in_ok-settle.ensures.kept.log;
-      report = c.in_ok-settle.ensures.report inv.report;
     }
-
-pub returns-in-Some-clause-report : goal.returns-in-Some-clause-report
-returns-in-Some-clause-report g c = c.in_ok-settle.ensures.report c.loop-source.invariant.report
 
 pub returns-in-Some-clause-notes : goal.returns-in-Some-clause-notes
 returns-in-Some-clause-notes g c =
@@ -328,7 +298,7 @@ returns-in-Some-clause-notes g c =
     let inv = c.loop-source.invariant in
     let come = inv.comes.2 w c.requires in
     let stack = stack_of i pat len w c.requires s.place (length c.loop-source.state.counts.marks.items) c.loop-source.log c.loop-source.state.outers.items c.loop-source.todo.items inv.comes.0 (sym inv.size) come inv.comes.1 in
-    let st = c.in_ok-settle.ensures.settled stack in
+    let st = (c.in_ok-settle.ensures.settled stack).steps in
     let ws = c.settle.new.settled.waiting.items in
     let hs = c.settle.new.settled.ends.items in
     let log = c.settle.new.log in
@@ -341,4 +311,4 @@ returns-in-Some-clause-notes g c =
     let stop = stop_place h pat (trees s.whole) w c.requires s.place inv.comes.0 come s.within log outers ws hs st v e in
     let noted = noted_at i s.place (kept i (dots pat) s.place (reverse inv.comes.0)) inv.comes.3 in
     let are = subst (λ k. AreFollowedNotes i pat k noted) (sym stop) (inv.comes.0, inv.comes.3, inv.comes.4, refl) in
-    subst (λ x. IsReportAt h pat (trees x) log (stop_of (trees x) v) c.settle.new.state.report) inv.whole (noted, are, c.in_ok-settle.ensures.notes stack inv.comes.3 inv.comes.5)
+    subst (λ x. IsReportAt h pat (trees x) log (stop_of (trees x) v) c.settle.new.state.report) inv.whole (noted, are, (c.in_ok-settle.ensures.settled stack).notes inv.comes.3 inv.comes.5)

@@ -12,12 +12,11 @@ use Rattle.mbe_bounds.proofs.Loop.TurnedPlaces.{ComesTo}
 use Rattle.mbe_matcher.specs.Counts.{AreBlankFrom}
 use Rattle.mbe_matcher.specs.Positions.{Each, Shows}
 use Rattle.mbe_matcher.specs.Failures.{Notes, FollowsWith}
-use Rattle.mbe_matcher.specs.Reports.{IsReport, IsReportOf}
+use Rattle.mbe_matcher.specs.Reports.{IsReportOf}
 use Rattle.mbe_matcher.proofs.places.reach.Given as goal
 
 abbrev pub invariant-loop-source : goal.invariant-loop-source
 invariant-loop-source g l = record {
-  report : IsReport l.log l.state.report;
   comes : (spots : List Outline) × Each (Shows l.log l.state.outers.items) l.todo.items spots
       × ((lawful : Lawful (input_of (g.G.FragmentGrammar.grammar l.grammar) (trees l.source.whole)) (flat_len (trees l.source.whole))) (checked : Checked (template_of l.pattern)) →
       ComesTo (input_of (g.G.FragmentGrammar.grammar l.grammar) (trees l.source.whole)) (template_of l.pattern) (flat_len (trees l.source.whole)) lawful checked l.source.place spots)

@@ -11,13 +11,10 @@ use Rattle.mbe_matcher.proofs.Counting.{vacancies_most}
 use Rattle.mbe_matcher.proofs.Keeping.{keeps_not, keeps_on}
 use Rattle.mbe_matcher.proofs.Settling.{walked_start, popped_shown, popped_number, walked_drop, walked_take, walked_end, walked_done, report_start, report_drop, report_take, steps_few, few_on, stack_falls, popped_all}
 use Rattle.std.specs.List.{filter_map}
-use Rattle.mbe_semantics.specs.Bindings.Account.{HasEntriesOf}
 use Rattle.mbe_semantics.specs.Matching.Outline.{finished_of}
 use Rattle.mbe_matcher.specs.Positions.{Each, Holds}
 use Rattle.mbe_matcher.specs.Failures.{misfit}
 use Rattle.mbe_matcher.specs.Reports.{IsReportOf}
-use Rattle.mbe_matcher.proofs.StepLemmas.{has_entries}
-use Rattle.mbe_matcher.proofs.Reporting.{report_keeps, ends_have_entries}
 use Rattle.mbe_matcher.proofs.settle.settle.Goals as goal
 
 pub loop-position-init : goal.loop-position-init
@@ -28,7 +25,6 @@ loop-position-init g c =
     let no_ends = ap length c.clear-2.ensures.items in
     let most = vacancies_most s.place c.args.state.now.counts.marks.items in
     record {
-      report = λ r. r;
       keeps = keeps_not c.args.log.now c.args.state.now.outers.items;
       blank = λ q l. c.requires.blank q (omega arith);
       size = refl;
@@ -75,7 +71,6 @@ loop-position-preserved-then-not-takes g c =
     let counted = c.takes.ensures.counted met inv.walked.1 in
     let same : c.takes.new.self.marks.items ≡ c.loop-position.state.counts.marks.items = ap (λ (x : Counts g.row.A.Denot). x.marks.items) (c.takes.ensures.stays c.if-not-takes.true) in
     record {
-      report = inv.report;
       keeps = inv.keeps;
       blank = c.takes.ensures.blank inv.blank;
       size = c.takes.ensures.size ∙ inv.size;
@@ -135,10 +130,7 @@ loop-position-preserved g c =
     let is = popped_shown i st.pattern (trees s.whole) s.place (kept i (dots st.pattern) s.place (reverse st.spots)) met c.loop-position.log c.loop-position.state.outers.items c.pop.new.self.items
     c.loop-position.todo.items c.in-Some.position c.loop-position.settled.waiting.items c.loop-position.settled.ends.items c.in-Some.ensures.items (inv.walked.2 st).0 in
     let keeping = (c.in_ok-found.ensures is.0 is.1).kept in
-    let there = has_entries c.loop-position.log c.loop-position.state.outers.items c.in-Some.position is in
-    let held : HasEntriesOf c.steps.new.log c.again-handle.result = rw c.again-handle.ensures (keeping.log.entries c.in-Some.position.handle there) in
     record {
-      report = λ r. c.looked_at.ensures.entries c.steps.new.log held (report_keeps c.loop-position.log c.steps.new.log c.loop-position.state.report keeping.log (inv.report r));
       keeps = keeps_on c.args.log.now c.loop-position.log c.steps.new.log c.args.state.now.outers.items c.loop-position.state.outers.items c.steps.new.outers.items inv.keeps keeping;
       blank = c.takes.ensures.blank inv.blank;
       size = c.takes.ensures.size ∙ inv.size;
@@ -158,7 +150,7 @@ loop-position-preserved g c =
           λ n r. report_take i st.pattern (trees s.whole) s.place (kept i (dots st.pattern) s.place (reverse st.spots)) met c.loop-position.log c.loop-position.state.outers.items
               c.pop.new.self.items c.loop-position.todo.items c.in-Some.position c.loop-position.settled.waiting.items c.loop-position.settled.ends.items c.in-Some.ensures.items (inv.walked.2 st).0
               c.steps.new.log c.steps.new.outers.items f c.push_some-in-Some.new.values.items c.push_some-in-Some-2.new.values.items c.push_some-in-Some-3.new.values.items
-              c.in_ok-found.ensures pushed c.in_ok-push_some-3.ensures c.in_ok-push_some-4.ensures (sym counted.0 ∙ taken) (trees s.whole) c.loop-position.state.report c.looked_at.new.self n c.is_some.result c.again-handle.result c.is_some.ensures c.again-handle.ensures c.looked_at.ensures.notes ((inv.walked.2 st).1 n r),
+              c.in_ok-found.ensures pushed c.in_ok-push_some-3.ensures c.in_ok-push_some-4.ensures (sym counted.0 ∙ taken) (trees s.whole) c.loop-position.state.report c.looked_at.new.self n c.is_some.result c.again-handle.result c.is_some.ensures c.again-handle.ensures c.looked_at.ensures ((inv.walked.2 st).1 n r),
         ),
       );
     }
@@ -168,29 +160,16 @@ returns-clause-settled g c = λ st.
     let s = c.args.source.now in
     let i = input_of (g.G.FragmentGrammar.grammar c.args.grammar.now) (trees s.whole) in
     let inv = c.loop-position.invariant in
-    walked_end i s.place (length c.args.state.now.counts.marks.items) c.args.log.now c.loop-position.log c.args.state.now.outers.items c.loop-position.state.outers.items (rest_at (trees s.whole) s.place)
-    c.args.todo.now.items c.loop-position.todo.items inv.walked.0 c.loop-position.settled.waiting.items c.loop-position.settled.ends.items st (popped_all c.loop-position.todo.items c.in_default.ensures.variant.1) (inv.walked.2 st).0
-
-pub returns-clause-report : goal.returns-clause-report
-returns-clause-report g c = λ r.
-    let s = c.args.source.now in
-    let i = input_of (g.G.FragmentGrammar.grammar c.args.grammar.now) (trees s.whole) in
-    let inv = c.loop-position.invariant in
-    let st = c.requires.stack in
-    let all = walked_end i s.place (length c.args.state.now.counts.marks.items) c.args.log.now c.loop-position.log c.args.state.now.outers.items c.loop-position.state.outers.items (rest_at (trees s.whole) s.place)
-    c.args.todo.now.items c.loop-position.todo.items inv.walked.0 c.loop-position.settled.waiting.items c.loop-position.settled.ends.items st (popped_all c.loop-position.todo.items c.in_default.ensures.variant.1) (inv.walked.2 st).0 in
-    c.after_place.ensures.entries c.loop-position.log (rw c.deref.ensures (ends_have_entries c.loop-position.log c.loop-position.settled.ends.items _ all.ended)) (inv.report r)
-
-pub returns-clause-notes : goal.returns-clause-notes
-returns-clause-notes g c = λ st n r.
-    let s = c.args.source.now in
-    let i = input_of (g.G.FragmentGrammar.grammar c.args.grammar.now) (trees s.whole) in
-    let inv = c.loop-position.invariant in
     let w = (inv.walked.2 st).0 in
     let all = kept i (dots st.pattern) s.place (reverse st.spots) in
+    let size = length c.args.state.now.counts.marks.items in
     let empty = popped_all c.loop-position.todo.items c.in_default.ensures.variant.1 in
-    let done = walked_done i s.place (length c.args.state.now.counts.marks.items) c.args.log.now c.loop-position.log c.args.state.now.outers.items c.loop-position.state.outers.items (rest_at (trees s.whole) s.place)
+    let done = walked_done i s.place size c.args.log.now c.loop-position.log c.args.state.now.outers.items c.loop-position.state.outers.items (rest_at (trees s.whole) s.place)
     c.args.todo.now.items c.loop-position.todo.items inv.walked.0 c.loop-position.settled.waiting.items c.loop-position.settled.ends.items st empty w in
     let ended = subst (λ l. Each (Holds c.loop-position.log) c.loop-position.settled.ends.items (filter_map finished_of l)) done w.ended in
-    let noted = subst (λ l. IsReportOf c.loop-position.log (trees s.whole) c.loop-position.state.report (filter_map (misfit i s.place) l) n) done ((inv.walked.2 st).1 n r) in
-    c.after_place.ensures.notes c.loop-position.log (trees s.whole) (filter_map (misfit i s.place) all) (filter_map finished_of all) n (rw c.deref.ensures ended) noted
+    record {
+      steps = walked_end i s.place size c.args.log.now c.loop-position.log c.args.state.now.outers.items c.loop-position.state.outers.items (rest_at (trees s.whole) s.place)
+          c.args.todo.now.items c.loop-position.todo.items inv.walked.0 c.loop-position.settled.waiting.items c.loop-position.settled.ends.items st empty w;
+      notes = λ n r. c.after_place.ensures c.loop-position.log (trees s.whole) (filter_map (misfit i s.place) all) (filter_map finished_of all) n (rw c.deref.ensures ended)
+          (subst (λ l. IsReportOf c.loop-position.log (trees s.whole) c.loop-position.state.report (filter_map (misfit i s.place) l) n) done ((inv.walked.2 st).1 n r));
+    }

@@ -9,13 +9,12 @@ use Rattle.mbe_matcher.specs.Counts.{AreCounted, AreBlankFrom, vacancies}
 use Rattle.mbe_matcher.specs.Positions.{Keeps}
 use Rattle.mbe_matcher.specs.Matched.{IsStack}
 use Rattle.mbe_matcher.specs.Failures.{Notes, misfit}
-use Rattle.mbe_matcher.specs.Reports.{IsReport, IsReportOf}
+use Rattle.mbe_matcher.specs.Reports.{IsReportOf}
 use Rattle.mbe_matcher.proofs.Settling.{Walked}
 use Rattle.mbe_matcher.proofs.settle.settle.Given as goal
 
 abbrev pub invariant-loop-position : goal.invariant-loop-position
 invariant-loop-position g l = record {
-  report : IsReport l.fn.log l.fn.state.report → IsReport l.log l.state.report;
   keeps : Keeps l.fn.log l.log l.fn.state.outers.items l.state.outers.items;
   blank : AreBlankFrom l.state.counts.marks.items (l.source.place + 1);
   size : length l.state.counts.marks.items ≡ length l.fn.state.counts.marks.items;

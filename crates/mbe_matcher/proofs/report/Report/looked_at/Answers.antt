@@ -1,5 +1,4 @@
-use Rattle.std.proofs.Common.{◌≡◌, ◌∙◌, ◌++◌, inl, inr, true, false, Some, None, option_to_list, refl, sym, ap, subst}
-use Rattle.std.specs.Prelude.{not}
+use Rattle.std.proofs.Common.{◌≡◌, ◌∙◌, ◌++◌, inl, inr, true, Some, None, option_to_list, refl, sym, ap, subst}
 use Rattle.mbe_tt.specs.Views.View.{trees}
 use Rattle.mbe_semantics.specs.Syntax.Op.{op as op_then}
 use Rattle.mbe_ops.specs.Views.{op_of, ops_of}
@@ -11,14 +10,14 @@ use Rattle.mbe_matcher.proofs.Reporting.{misfit_more, misfit_none, no_ops_misfit
 use Rattle.mbe_matcher.proofs.report.Report.looked_at.Goals.{then-has_step-via-then-has_step, then-has_step-via-else-has_step+then-not-is_noted, then-is_none, else-is_none}
 use Rattle.mbe_matcher.proofs.report.Report.looked_at.Goals as goal
 
-pub returns-in_default-clause-notes : goal.returns-in_default-clause-notes
-returns-in_default-clause-notes g c = λ log o ms before at held r.
+pub returns-in_default : goal.returns-in_default
+returns-in_default g c = λ log o ms before at held r.
     let q = c.args.source.now.place in
     let none = ap ops_of (no_item c.args.dot.now c.in_default.ensures.cases) in
     misfit_none log (trees c.args.source.now.whole) c.args.self.now ms (misfit_unless c.args.has_step q o) before (no_ops_misfit c.args.has_step q o (sym at ∙ none)) r
 
-pub returns-then-has_step-clause-notes : goal.returns-then-has_step-clause-notes
-returns-then-has_step-clause-notes g c = λ log o ms before at held r.
+pub returns-then-has_step : goal.returns-then-has_step
+returns-then-has_step g c = λ log o ms before at held r.
     let q = c.args.source.now.place in
     let first : ops_left o ≡ op_then (op_of c.in-Some.op.now) (ops_of c.in-Some._rest.now) = sym at ∙ ap ops_of c.in-Some.ensures.cases.0 in
     let none : misfit_unless c.args.has_step q o ≡ None = elim c.then-has_step.branch [
@@ -28,8 +27,8 @@ returns-then-has_step-clause-notes g c = λ log o ms before at held r.
     ] in
     misfit_none log (trees c.args.source.now.whole) c.args.self.now ms (misfit_unless c.args.has_step q o) before none r
 
-pub returns-clause-notes : goal.returns-clause-notes
-returns-clause-notes g c = λ log o ms before at held r.
+pub returns : goal.returns
+returns g c = λ log o ms before at held r.
     let q = c.args.source.now.place in
     let first : ops_left o ≡ op_then (op_of c.in-Some.op.now) (ops_of c.in-Some._rest.now) = sym at ∙ ap ops_of c.in-Some.ensures.cases.0 in
     let s : Misfit = record { op = op_of c.in-Some.op.now; place = q; bound = bound_by o } in
