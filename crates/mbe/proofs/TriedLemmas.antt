@@ -23,7 +23,7 @@ use Rattle.mbe.specs.Recovering.{spans_of, IsUnfit, IsFaulty, ComesNear}
 use Rattle.mbe.specs.Choice.{IsNearness}
 
 -- a pattern that fits has one reading by every right verdict
-fits_alone : (g : Grammar) (r : Rule) (argument : Forest) (v : Verdict) → IsVerdict g r.reads argument v → (is : Items) → Fits g r.reads argument is → v ≡ one_reading
+pub fits_alone : (g : Grammar) (r : Rule) (argument : Forest) (v : Verdict) → IsVerdict g r.reads argument v → (is : Items) → Fits g r.reads argument is → v ≡ one_reading
 fits_alone g r argument one_reading right is f = refl
 fits_alone g r argument many_readings (calm, (js, ks, j, k, differ)) is f = absurd (differ (f.1.1 js j ∙ sym (f.1.1 ks k)))
 fits_alone g r argument (ambiguous q) (a, least) is f = absurd (f.0 q a)

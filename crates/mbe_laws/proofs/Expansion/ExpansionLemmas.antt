@@ -41,12 +41,12 @@ module _ (g : Grammar) (Marks : Span → Span → Type 0) (call_site : Span) (fn
         d ∙ ap (λ x. leaf (punct (record p { span = x })) rest) (fn p.span s t m n)
         ∙ ap (leaf (punct (record p { span = t }))) (puncts_same ps rest more w v) ∙ sym e
 
-    token_same : (t : Token) (out other : Forest) → IsMarked g Marks call_site env t out → IsMarked g Marks call_site env t other → out ≡ other
+    pub token_same : (t : Token) (out other : Forest) → IsMarked g Marks call_site env t out → IsMarked g Marks call_site env t other → out ≡ other
     token_same (ops.literal l) out other (s, m, d) (t, n, e) = d ∙ ap (λ x. leaf (literal (record l { span = x })) none) (fn l.span s t m n) ∙ sym e
     token_same (ops.ident i) out other (s, m, d) (t, n, e) = d ∙ ap (λ x. leaf (ident (record i { span = x })) none) (fn i.span s t m n) ∙ sym e
     token_same (ops.puncts ps) out other w v = puncts_same ps out other w v
 
-    variable_same : (name : Name) (span : Span) (v w : Option Value) (out other : Forest) → IsVariable g Marks call_site env name span v w out →
+    pub variable_same : (name : Name) (span : Span) (v w : Option Value) (out other : Forest) → IsVariable g Marks call_site env name span v w out →
         IsVariable g Marks call_site env name span v w other → out ≡ other
     variable_same name span None w out other d e = d ∙ sym e
     variable_same name span (Some v) None out other d e = absurd d
@@ -55,12 +55,12 @@ module _ (g : Grammar) (Marks : Span → Span → Type 0) (call_site : Span) (fn
     variable_same name span (Some v) (Some (list vs)) out other d e = absurd d
     variable_same name span (Some v) (Some empty) out other d e = absurd d
 
-    concat_same : (span : Span) (text : Option (List ℕ)) (out other : Forest) → IsConcat g Marks call_site env span text out → IsConcat g Marks call_site env span text other → out ≡ other
+    pub concat_same : (span : Span) (text : Option (List ℕ)) (out other : Forest) → IsConcat g Marks call_site env span text out → IsConcat g Marks call_site env span text other → out ≡ other
     concat_same span None out other d e = absurd d
     concat_same span (Some text) out other (s, m, d) (t, n, e) =
         d ∙ ap (λ x. leaf (ident (record { sym = text; is_raw = rawness (g.is_keyword text); span = x })) none) (fn span s t m n) ∙ sym e
 
-    expression_same : (path : Path) (x : Expression) (out other : Forest) → IsExpression g Marks call_site env path x out → IsExpression g Marks call_site env path x other → out ≡ other
+    pub expression_same : (path : Path) (x : Expression) (out other : Forest) → IsExpression g Marks call_site env path x out → IsExpression g Marks call_site env path x other → out ≡ other
     expression_same path (ignore name span) out other d e = d ∙ sym e
     expression_same path (count name depth) out other d e = d ∙ sym e
     expression_same path (index depth) out other d e = d ∙ sym e

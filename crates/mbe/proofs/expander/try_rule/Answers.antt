@@ -54,14 +54,17 @@ returns-in-Some-err g c =
     sym c.in_ok-written.ensures.first ∙ ap errors_of c.in-Some-err.is in
     let f : IsFaulty h c.args.call_site c.args.input.now r (error_of c.in-Some-err.fault) (bound_by c.in_ok-bindings.bindings) =
     record { items = binds.0; fits = binds.1; bound = bound; fault = first } in
-    let both = faulty h c.args.call_site c.args.input.now r v right _ left _ _ f c.nearness_of-nearness.ensures.bound fault in
-    (both.0, both.1, record {
-      error = error_of c.in-Some-err.fault;
-      env = bound_by c.in_ok-bindings.bindings;
-      reported = refl;
-      fails = inr f;
-      left = c.in_ok-written.ensures.left;
-    })
+    let both = faulty h c.args.call_site c.args.input.now r v right _ left _ _ f c.nearness_of-nearness.ensures.bound fault in (
+      both.0,
+      both.1,
+      record {
+        error = error_of c.in-Some-err.fault;
+        env = bound_by c.in_ok-bindings.bindings;
+        reported = refl;
+        fails = inr f;
+        left = c.in_ok-written.ensures.left;
+      },
+    )
 
 pub returns : goal.returns
 returns g c =

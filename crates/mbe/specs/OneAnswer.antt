@@ -1,0 +1,25 @@
+-- A call has one answer.
+use Rattle.std.specs.Prelude.{◌≡◌, ℕ, List, Option}
+use Rattle.mbe_tt.specs.declared.span.Span.{Span}
+use Rattle.mbe_tt.specs.Trees.Tree.{Forest}
+use Rattle.mbe_tt.specs.Trees.Top.{Top}
+use Rattle.mbe_tt.specs.Fragments.Grammar.{Grammar, IsLawful}
+use Rattle.mbe_semantics.specs.declared.macro_call_style.MacroCallStyle.{MacroCallStyle}
+use Rattle.mbe_semantics.specs.Syntax.Definition.{Rule}
+use Rattle.mbe_semantics.specs.Expansion.Error.{ExpandError}
+use Rattle.mbe_semantics.specs.Expansion.Macro.{Expands}
+use Rattle.mbe_semantics.specs.Laws.Laws.{HasOneAnswer}
+use Rattle.mbe.specs.Recovering.{Recovers}
+
+-- what `expand` promises: the tree, the place of its rule, and the error or none
+pub record IsAnswer (g : Grammar) (Marks : Span → Span → Type 0) (rs : List Rule) (style : MacroCallStyle) (input : Top) (call_site : Span)
+    (out : Forest) (index : Option ℕ) (err : Option ExpandError) : Type 0 where
+  pub expands : Expands g Marks rs style input.1 call_site out index err
+  pub recovers : Recovers g call_site input Marks rs style out index err
+
+-- Where the marker returns one span for each, a call has one answer at most: one tree, one place, and one error or none.
+abbrev pub OneAnswer : (Span → Span → Type 0) → Type 0
+OneAnswer Marks = HasOneAnswer Marks → (g : Grammar) (rs : List Rule) (style : MacroCallStyle) (input : Top) (call_site : Span)
+    (out other : Forest) (index place : Option ℕ) (err reported : Option ExpandError) → IsLawful g →
+    IsAnswer g Marks rs style input call_site out index err → IsAnswer g Marks rs style input call_site other place reported →
+    (out ≡ other) × (index ≡ place) × (err ≡ reported)
