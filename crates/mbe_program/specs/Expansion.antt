@@ -1,5 +1,5 @@
 -- What a run makes of both texts, and what it writes.
-use Rattle.std.specs.Prelude.{◌≡◌, ⊤, ℕ, List, length, Option, Some, None}
+use Rattle.std.specs.Prelude.{◌≡◌, ⊤, ℕ, List, length, Option, Some, None, Result, Ok, Err}
 use Rattle.std.specs.Io.KnownBytes.{Appends}
 use Rattle.mbe_tt.specs.declared.span.Edition.{Edition}
 use Rattle.mbe_tt.specs.declared.span.Span.{Span}
@@ -14,6 +14,7 @@ use Rattle.mbe_semantics.specs.Expansion.Macro.{Expands}
 use Rattle.mbe_semantics.specs.Expansion.ReadAs.{IsReadAs}
 use Rattle.mbe_semantics.specs.declared.macro_call_style.MacroCallStyle.TheVariants.{FnLike}
 use Rattle.mbe_text.specs.Tokens.{IsMade, bytes_of}
+use Rattle.mbe_text.specs.Division.{trees_of}
 use Rattle.mbe_text.specs.Writing.{Takes}
 use Rattle.mbe_program.specs.Printed.{printed}
 use Rattle.mbe_program.specs.declared.program.Outcome.{Outcome}
@@ -44,29 +45,44 @@ IsRefused edition definition outcome = ⊥
 
 -- ---- from texts
 
--- The answer to a call with these texts: trees that tokens of the texts make have it, with all bytes of the
--- argument as call site. The definition is file 0, and the argument file 1.
+-- The trees of both texts, the definition as file 0 and the argument as file 1; or the first fault, by its file and its byte.
+abbrev pub both_trees : List ℕ → List ℕ → Result (Top × Top) (ℕ × ℕ)
+both_trees def_text arg_text = elim (trees_of 0 def_text) [
+  | Err offset ↦ Err (0, offset)
+  | Ok definition ↦ elim (trees_of 1 arg_text) [ Err offset ↦ Err (1, offset) | Ok argument ↦ Ok (definition, argument) ]
+]
+
+-- These are the trees of both texts, which their tokens make as they are spelled there.
+pub record AreTrees (def_text arg_text : List ℕ) (definition argument : Top) : Type 0 where
+  pub divided : both_trees def_text arg_text ≡ Ok (definition, argument)
+  pub defined : IsMade 0 def_text definition
+  pub given : IsMade 1 arg_text argument
+
+-- The answer to a call with these texts: their trees have it, with all bytes of the argument as call site.
 pub record ExpandsTexts (edition : Edition) (def_text arg_text : List ℕ) (out : Forest) (index : Option ℕ) (err : Option ExpandError) : Type 0 where
   pub definition : Top
   pub argument : Top
-  pub defined : IsMade 0 def_text definition
-  pub given : IsMade 1 arg_text argument
+  pub trees : AreTrees def_text arg_text definition argument
   pub expands : ExpandsTrees edition definition.1 argument.1 (bytes_of 1 0 (length arg_text)) out index err
 
--- a text isn't lexed, or there is no memory
-abbrev pub IsUnlexed : {A : Type 0} → Outcome A → Type 0
-IsUnlexed (CannotLex file offset) = ⊤
-IsUnlexed OutOfMemory = ⊤
-IsUnlexed outcome = ⊥
+-- that byte of the text of a file is at fault, or there is no memory
+abbrev pub IsAtFault : {A : Type 0} → ℕ → List ℕ → Outcome A → Type 0
+IsAtFault file text (CannotLex f offset) = (f ≡ file) × (trees_of file text ≡ Err offset)
+IsAtFault file text OutOfMemory = ⊤
+IsAtFault file text outcome = ⊥
 
--- There is no expansion of the texts: one isn't lexed, there is no memory, or trees that tokens of the definition make have
--- that fault.
-abbrev pub IsUnexpanded : {A : Type 0} → Edition → List ℕ → Outcome A → Type 0
-IsUnexpanded edition def_text (Refused error) =
-    (definition : Top) × IsMade 0 def_text definition × IsRefused edition definition.1 (Refused error)
-IsUnexpanded edition def_text (CannotLex file offset) = ⊤
-IsUnexpanded edition def_text OutOfMemory = ⊤
-IsUnexpanded edition def_text outcome = ⊥
+-- The texts have no trees: that byte of that file is the first at fault, or there is no memory.
+abbrev pub IsUnlexed : {A : Type 0} → List ℕ → List ℕ → Outcome A → Type 0
+IsUnlexed def_text arg_text (CannotLex file offset) = both_trees def_text arg_text ≡ Err (file, offset)
+IsUnlexed def_text arg_text OutOfMemory = ⊤
+IsUnlexed def_text arg_text outcome = ⊥
+
+-- There is no expansion of the texts: the definition's trees have that fault, that byte of that file is the first at fault, or
+-- there is no memory.
+abbrev pub IsUnexpanded : {A : Type 0} → Edition → List ℕ → List ℕ → Outcome A → Type 0
+IsUnexpanded edition def_text arg_text (Refused error) =
+    (definition : Top) × (argument : Top) × AreTrees def_text arg_text definition argument × IsRefused edition definition.1 (Refused error)
+IsUnexpanded edition def_text arg_text outcome = IsUnlexed def_text arg_text outcome
 
 -- Where the answer has no error, a run ends as `Expanded`, and where it has one, as `Faulted`; either way what is printed of it
 -- is written. If a write fails, a prefix of that is written. Without an answer nothing is. No such run lints.
@@ -81,4 +97,4 @@ EndsAs edition def_text arg_text before after CannotWrite =
     (out : Forest) × (index : Option ℕ) × (err : Option ExpandError) × (left : List ℕ)
     × ExpandsTexts edition def_text arg_text out index err × Takes before after (printed out index err) left
 EndsAs edition def_text arg_text before after Linted = ⊥
-EndsAs edition def_text arg_text before after outcome = IsUnexpanded edition def_text outcome × (after ≡ before)
+EndsAs edition def_text arg_text before after outcome = IsUnexpanded edition def_text arg_text outcome × (after ≡ before)

@@ -10,11 +10,10 @@ use Rattle.mbe_grammar.specs.SampleGrammar.{sample}
 use Rattle.mbe_semantics.specs.Syntax.Definition.{Rule}
 use Rattle.mbe_semantics.specs.Readings.Verdict.{Verdict, one_reading, many_readings, ambiguous, stuck, IsVerdict}
 use Rattle.mbe_semantics.specs.Expansion.ReadAs.{IsReadAs}
-use Rattle.mbe_text.specs.Tokens.{IsMade}
 use Rattle.mbe_text.specs.Writing.{Takes}
 use Rattle.mbe_program.specs.declared.program.Outcome.{Outcome}
 use Rattle.mbe_program.specs.declared.program.Outcome.TheVariants.{Expanded, Linted, Faulted, CannotWrite}
-use Rattle.mbe_program.specs.Expansion.{IsEdition, IsUnexpanded}
+use Rattle.mbe_program.specs.Expansion.{IsEdition, AreTrees, IsUnexpanded}
 
 -- ---- verdicts
 
@@ -52,9 +51,9 @@ lines_from rule (v ∷ vs) = (line_of rule v ++ codes "\n") ++ lines_from (suc r
 
 -- ---- a run
 
--- These are the verdicts for trees that tokens of the texts make.
+-- These are the verdicts for the trees of the texts.
 abbrev pub ExplainsTexts : Edition → List ℕ → List ℕ → List Verdict → Type 0
-ExplainsTexts edition def_text arg_text verdicts = (definition : Top) × (argument : Top) × IsMade 0 def_text definition × IsMade 1 arg_text argument
+ExplainsTexts edition def_text arg_text verdicts = (definition : Top) × (argument : Top) × AreTrees def_text arg_text definition argument
     × ExplainsTrees edition definition.1 argument.1 verdicts
 
 -- A run that lints ends as `Linted`, and has written a line for each verdict. If a write fails, a prefix of those is written.
@@ -67,4 +66,4 @@ Lints edition def_text arg_text before after CannotWrite =
     × Takes before after (lines_from 0 verdicts) left
 Lints edition def_text arg_text before after Expanded = ⊥
 Lints edition def_text arg_text before after Faulted = ⊥
-Lints edition def_text arg_text before after outcome = IsUnexpanded edition def_text outcome × (after ≡ before)
+Lints edition def_text arg_text before after outcome = IsUnexpanded edition def_text arg_text outcome × (after ≡ before)

@@ -1,13 +1,14 @@
 // A run, from both texts to what is written.
-ghost use Rattle.std.specs.Prelude.{◌≡◌, ◌<◌, ◌^◌, ◌⊎◌, length, map, true, false, None, IfErr, IfOk};
+ghost use Rattle.std.specs.Prelude.{◌≡◌, ◌<◌, ◌^◌, ◌⊎◌, length, map, true, false, None, Ok, IfErr, IfOk};
 ghost use Rattle.mbe_tt.specs.Trees.Top.{top_group};
 ghost use Rattle.mbe_errors.specs.ErrorViews.{errors_of};
 ghost use Rattle.mbe_semantics.specs.Expansion.ReadAs.{IsReadAs};
 ghost use Rattle.mbe.specs.Matched.{verdict_seen};
 ghost use Rattle.mbe.specs.MacroViews.{macro_of};
 ghost use Rattle.mbe_text.specs.Tokens.{IsMade};
-ghost use Rattle.mbe_program.specs.Expansion.{ExpandsTrees, IsRefused, ExpandsTexts, EndsAs, IsUnexpanded, IsUnlexed};
-ghost use Rattle.mbe_program.specs.Expansion.{IsEdition};
+ghost use Rattle.mbe_text.specs.Division.{trees_of};
+ghost use Rattle.mbe_program.specs.Expansion.{AreTrees, ExpandsTrees, IsRefused, ExpandsTexts, EndsAs};
+ghost use Rattle.mbe_program.specs.Expansion.{IsAtFault, IsEdition, IsUnexpanded, IsUnlexed};
 ghost use Rattle.mbe_program.specs.Linting.{ExplainsTexts, Lints};
 ghost use Rattle.mbe_program.specs.Outcomes.{FaultsIn, IsSilent, status_of};
 
@@ -66,6 +67,7 @@ impl<A: Allocator> From<AllocError> for Outcome<A> {
     }
 }
 
+// The trees of a file's text, or the byte at fault.
 fn lexed<A: Allocator + Copy>(
     table: &mut SymbolTable<A>,
     text: &str,
@@ -73,7 +75,8 @@ fn lexed<A: Allocator + Copy>(
 ) -> Result<TopSubtree<A>, Outcome<A>>
     requires { length text.now < 2 ^ 32 }
     ensures made { IfOk result (IsMade file text.now) }
-    ensures unlexed { IfErr result IsUnlexed }
+    ensures divided { IfOk result (λ trees. trees_of file text.now ≡ Ok trees) }
+    ensures fault { IfErr result (IsAtFault file text.now) }
     ensures within { IfErr result (FaultsIn file (length text.now)) }
 {
     match lex_in(table, text, file) {
@@ -84,6 +87,7 @@ fn lexed<A: Allocator + Copy>(
 }
 
 // The trees of both texts, or the first fault; the definition is lexed first. A text that both have is kept once.
+#[tactic(auto, using(crate::proofs::OutcomeLemmas::are_trees, crate::proofs::OutcomeLemmas::definition_at_fault, crate::proofs::OutcomeLemmas::argument_at_fault))]
 fn both_lexed<A: Allocator + Copy>(
     alloc: A,
     def: &str,
@@ -91,8 +95,8 @@ fn both_lexed<A: Allocator + Copy>(
 ) -> Result<(TopSubtree<A>, TopSubtree<A>), Outcome<A>>
     requires def { length def.now < 2 ^ 32 }
     requires arg { length arg.now < 2 ^ 32 }
-    ensures made { IfOk result (λ r. IsMade 0 def.now r.0 × IsMade 1 arg.now r.1) }
-    ensures unlexed { IfErr result IsUnlexed }
+    ensures trees { IfOk result (λ r. AreTrees def.now arg.now r.0 r.1) }
+    ensures unlexed { IfErr result (IsUnlexed def.now arg.now) }
     ensures within { IfErr result (λ outcome.
         FaultsIn 0 (length def.now) outcome ⊎ FaultsIn 1 (length arg.now) outcome) }
 {
@@ -158,7 +162,7 @@ fn texts_expansion<A: Allocator + Copy>(
     requires arg { length arg.now < 2 ^ 32 }
     ensures expands { IfOk result (λ r. ExpandsTexts edition def.now arg.now
         (top_group r.value.0) r.value.1 (errors_of r.err)) }
-    ensures unexpanded { IfErr result (IsUnexpanded edition def.now) }
+    ensures unexpanded { IfErr result (IsUnexpanded edition def.now arg.now) }
     ensures within { IfErr result (λ outcome.
         FaultsIn 0 (length def.now) outcome ⊎ FaultsIn 1 (length arg.now) outcome) }
 {
@@ -179,7 +183,7 @@ fn texts_verdicts<A: Allocator + Copy>(
     requires arg { length arg.now < 2 ^ 32 }
     ensures explains { IfOk result (λ verdicts. ExplainsTexts edition def.now arg.now
         (map verdict_seen verdicts.items)) }
-    ensures unexpanded { IfErr result (IsUnexpanded edition def.now) }
+    ensures unexpanded { IfErr result (IsUnexpanded edition def.now arg.now) }
     ensures within { IfErr result (λ outcome.
         FaultsIn 0 (length def.now) outcome ⊎ FaultsIn 1 (length arg.now) outcome) }
 {
@@ -251,7 +255,8 @@ fn linted<A: Allocator + Copy, W: Write>(
 /// error, if there is one, the rule used and the tree, and flushes. With `lint` it expands nothing, and writes a line for each rule of the
 /// definition, of every style: how it reads the argument.
 ///
-/// Nothing is written if a text isn't lexed, the definition is refused or memory runs out. If a write fails, the outcome says
+/// Nothing is written if a text isn't lexed, the definition is refused or memory runs out. Where a text isn't lexed, the outcome
+/// names the file and the byte at fault, of the definition before the argument. If a write fails, the outcome says
 /// so, and what was written is a prefix.
 pub fn run<A: Allocator + Copy, W: Write>(
     alloc: A,
