@@ -9,3 +9,4 @@ pub mod Counting
 pub mod Settling
 pub mod MatchEnds
 pub mod Reporting
+pub mod TwoEnds

@@ -1,0 +1,9 @@
+// What a match that doesn't fit reports is found by a second pass over the first and the last
+// position of each dot. Laws run nothing.
+ghost use Rattle.mbe_matcher.specs.TwoEnds.{SecondPassLaw};
+
+/// Up to the place where a match stops, the first and the last position of each dot note what all
+/// positions do.
+pub fn second_pass()
+    ensures { SecondPassLaw }
+{}
