@@ -40,12 +40,11 @@ use Rattle.mbe_matcher.specs.TwoEnds.{back_source, ends_noted, ends_noted_at, En
 
 -- ---- heads of lists
 
-pub head : {A : Type 0} → List A → Option A
+abbrev pub head : {A : Type 0} → List A → Option A
 head [] = None
 head (x ∷ xs) = Some x
 
 head_some : {A : Type 0} (xs : List A) (x : A) → head xs ≡ Some x → (ys : List A) × (xs ≡ x ∷ ys)
-unfolding head
 head_some [] x e = cc
 head_some (y ∷ ys) x e = (ys, let f : y ≡ x = cc in ap (λ z. z ∷ ys) f)
 
@@ -55,13 +54,12 @@ module _ {B : Type 0} (f : Beginning → Option B) where
   given x = is_some (f x)
 
   heads : (xs : List Beginning) → head (filter_map f xs) ≡ option_and_then f (first_that given xs)
-  unfolding head given
+  unfolding given
   heads [] = refl
   heads (x ∷ xs) = go (f x) refl (heads xs)
     where
       go : (o : Option B) → f x ≡ o → head (filter_map f xs) ≡ option_and_then f (first_that given xs) →
           head (cons_option o (filter_map f xs)) ≡ option_and_then f (first_if (is_some o) x (first_that given xs))
-      unfolding head
       go None e r = r
       go (Some b) e r = sym e
 
@@ -102,20 +100,17 @@ filter_through f g [] = refl
 filter_through f g (x ∷ xs) = ap (cons_option (f (g x))) (filter_through f g xs)
 
 head_append : {A : Type 0} (xs ys : List A) (x : A) → head xs ≡ Some x → head (xs ++ ys) ≡ Some x
-unfolding head
 head_append [] ys x e = cc
 head_append (z ∷ xs) ys x e = e
 
 -- the last is the head of the list turned round
 head_reverse : {A : Type 0} (x : A) (xs : List A) → head (reverse (x ∷ xs)) ≡ Some (last_of x xs)
-unfolding head
 head_reverse x [] = refl
 head_reverse x (y ∷ ys) = ap head (reverse-append (x ∷ []) (y ∷ ys)) ∙ head_append (reverse (y ∷ ys)) (x ∷ []) (last_of y ys) (head_reverse y ys)
 
 -- ---- what is noted asks for heads alone
 
 first_heads : {A : Type 0} (o : Option A) (xs ys : List A) → head xs ≡ head ys → or_first o xs ≡ or_first o ys
-unfolding head
 first_heads (Some x) xs ys e = refl
 first_heads None [] [] e = refl
 first_heads None [] (y ∷ ys) e = e
@@ -123,7 +118,6 @@ first_heads None (x ∷ xs) [] e = e
 first_heads None (x ∷ xs) (y ∷ ys) e = e
 
 back_heads : (ms ns : List Misfit) (cs ds : List Commands) (before : Option Source) → head ms ≡ head ns → head cs ≡ head ds → back_source ms cs before ≡ back_source ns ds before
-unfolding head
 back_heads [] [] [] [] b e f = refl
 back_heads [] [] [] (d ∷ ds) b e f = cc
 back_heads [] [] (c ∷ cs) [] b e f = cc
@@ -133,7 +127,6 @@ back_heads (m ∷ ms) [] cs ds b e f = cc
 back_heads (m ∷ ms) (n ∷ ns) cs ds b e f = let h : m ≡ n = cc in ap (λ x. Some (failed x)) h
 
 back_first : (ms : List Misfit) (m : Misfit) (cs : List Commands) (before : Option Source) → head ms ≡ Some m → back_source ms cs before ≡ Some (failed m)
-unfolding head
 back_first [] m cs b e = cc
 back_first (n ∷ ns) m cs b e = let h : n ≡ m = cc in ap (λ x. Some (failed x)) h
 
