@@ -35,8 +35,9 @@ use Rattle.mbe_bounds.proofs.Orders.Spare.{turning}
 use Rattle.mbe_bounds.proofs.Orders.DropLemmas.{whole-inv}
 use Rattle.mbe_bounds.proofs.Reports.EndLemmas.{ends_are_kept}
 use Rattle.mbe_bounds.proofs.Reports.BackwardLemmas.{both_ways, swap_law}
-use Rattle.mbe_matcher.specs.Failures.{Misfit, Source, failed, ended, Notes, no_notes, is_any, has_step, is_noted, or_first, last_of, source_of, misfit, misfit_unless, noted_at, ComesWith, at_start, at_next, AreNotes}
-use Rattle.mbe_matcher.specs.TwoEnds.{back_source, ends_noted, ends_noted_at, EndsCome, ends_start, ends_next, AreEndNotes, SecondPassLaw}
+use Rattle.mbe_matcher.specs.Failures.{Misfit, Source, failed, ended, Notes, no_notes, is_any, has_step, is_noted, or_first, last_of, source_of, misfit, misfit_unless, noted_with, noted_at, ComesWith, at_start, at_next, AreNotes}
+use Rattle.mbe_matcher.proofs.Reporting.{source_snoc}
+use Rattle.mbe_matcher.specs.TwoEnds.{only_first, ends_noted, ends_noted_at, EndsCome, ends_start, ends_next, AreEndNotes, SecondPassLaw}
 
 -- ---- heads of lists
 
@@ -117,24 +118,30 @@ first_heads None [] (y ∷ ys) e = e
 first_heads None (x ∷ xs) [] e = e
 first_heads None (x ∷ xs) (y ∷ ys) e = e
 
-back_heads : (ms ns : List Misfit) (cs ds : List Commands) (before : Option Source) → head ms ≡ head ns → head cs ≡ head ds → back_source ms cs before ≡ back_source ns ds before
-back_heads [] [] [] [] b e f = refl
-back_heads [] [] [] (d ∷ ds) b e f = cc
-back_heads [] [] (c ∷ cs) [] b e f = cc
-back_heads [] [] (c ∷ cs) (d ∷ ds) b e f = let h : c ≡ d = cc in ap (λ x. Some (ended x)) h
-back_heads [] (n ∷ ns) cs ds b e f = cc
-back_heads (m ∷ ms) [] cs ds b e f = cc
-back_heads (m ∷ ms) (n ∷ ns) cs ds b e f = let h : m ≡ n = cc in ap (λ x. Some (failed x)) h
+end_heads : (cs ds : List Commands) (before : Option Source) → head ds ≡ head cs → source_of [] ds before ≡ source_of [] cs before
+end_heads [] [] b e = refl
+end_heads [] (d ∷ ds) b e = cc
+end_heads (c ∷ cs) [] b e = cc
+end_heads (c ∷ cs) (d ∷ ds) b e = let f : d ≡ c = cc in ap (λ x. Some (ended x)) f
 
-back_first : (ms : List Misfit) (m : Misfit) (cs : List Commands) (before : Option Source) → head ms ≡ Some m → back_source ms cs before ≡ Some (failed m)
-back_first [] m cs b e = cc
-back_first (n ∷ ns) m cs b e = let h : n ≡ m = cc in ap (λ x. Some (failed x)) h
+no_head : {A : Type 0} (xs : List A) → head xs ≡ None → xs ≡ []
+no_head [] e = refl
+no_head (x ∷ xs) e = cc
 
--- that of the list turned round is that of the list
-back_reverse : (ms : List Misfit) (cs : List Commands) (before : Option Source) → back_source (reverse ms) cs before ≡ source_of ms cs before
-back_reverse [] [] b = refl
-back_reverse [] (c ∷ cs) b = refl
-back_reverse (m ∷ ms) cs b = back_first (reverse (m ∷ ms)) (last_of m ms) cs b (head_reverse m ms)
+same_notes : (a b : Option Misfit) (c d : Option Source) → a ≡ b → c ≡ d → (let n : Notes = record { first = a; last = c } in n) ≡ record { first = b; last = d }
+same_notes a b c d e f = rw (e, f) refl
+
+-- of the first that fails and the last that does comes what comes of all that do
+notes_heads : (ms fs ls : List Misfit) (cs ds : List Commands) (before : Notes) → head fs ≡ head ms → head ls ≡ head (reverse ms) → head ds ≡ head cs →
+    noted_with (fs ++ only_first ls) ds before ≡ noted_with ms cs before
+notes_heads [] fs ls cs ds before e f h =
+    ap (λ l. noted_with (l ++ only_first ls) ds before) (no_head fs e) ∙ ap (λ l. noted_with (only_first l) ds before) (no_head ls f)
+    ∙ same_notes (or_first before.first []) (or_first before.first []) (source_of [] ds before.last) (source_of [] cs before.last) refl (end_heads cs ds before.last h)
+notes_heads (m ∷ ms) fs ls cs ds before e f h =
+    let r : (rest : List Misfit) × (ls ≡ last_of m ms ∷ rest) = head_some ls (last_of m ms) (f ∙ head_reverse m ms) in
+    same_notes (or_first before.first (fs ++ only_first ls)) (or_first before.first (m ∷ ms)) (source_of (fs ++ only_first ls) ds before.last) (Some (failed (last_of m ms)))
+    (first_heads before.first (fs ++ only_first ls) (m ∷ ms) (head_append fs (only_first ls) m e))
+    (ap (λ l. source_of (fs ++ only_first l) ds before.last) r.1 ∙ source_snoc fs (last_of m ms) ds before.last)
 
 -- ---- what asks for the dot alone
 
@@ -268,13 +275,9 @@ module _ (i : Input) (pattern : Ops) (q : ℕ) (ys : List Beginning) (begins : (
 
   -- the ends note what all do
   pub ends_note : (before : Notes) → ends_noted i q (map erase (firsts ys)) (map erase (reverse (lasts ys))) before ≡ noted_at i q (map erase ys) before
-  ends_note before = notes_by (first_heads before.first (filter_map (misfit i q) (map erase (firsts ys))) (filter_map (misfit i q) (map erase ys)) first_misfits)
-      (back_heads (filter_map (misfit i q) (map erase (reverse (lasts ys)))) (reverse (filter_map (misfit i q) (map erase ys)))
-      (filter_map finished_of (map erase (firsts ys))) (filter_map finished_of (map erase ys)) before.last last_misfits first_ends
-      ∙ back_reverse (filter_map (misfit i q) (map erase ys)) (filter_map finished_of (map erase ys)) before.last)
-    where
-      notes_by : {a b : Option Misfit} {c d : Option Source} → a ≡ b → c ≡ d → (let n : Notes = record { first = a; last = c } in n) ≡ record { first = b; last = d }
-      notes_by e f = rw (e, f) refl
+  ends_note before =
+      notes_heads (filter_map (misfit i q) (map erase ys)) (filter_map (misfit i q) (map erase (firsts ys))) (filter_map (misfit i q) (map erase (reverse (lasts ys))))
+      (filter_map finished_of (map erase ys)) (filter_map finished_of (map erase (firsts ys))) before first_misfits last_misfits first_ends
 
   -- the first that goes on is that of the first of each dot
   pub first_move : head (moves_of i q (firsts ys)) ≡ head (moves_of i q ys)

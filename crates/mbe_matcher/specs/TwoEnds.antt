@@ -2,7 +2,7 @@
 -- At a place, the first that fails is among the first of each dot, and so is the first at the pattern's end. The last that fails is among
 -- the last. Both lists are walks that enter each dot once, so that the pass is linear. What waits comes back turned round, so the first at
 -- the next place come from the last here, and the last there from the first here.
-use Rattle.std.specs.Prelude.{ℕ, ◌+◌, ◌≡◌, ◌≤◌, ◌↔◌, Bool, Option, Some, None, List, [], ◌∷◌, map}
+use Rattle.std.specs.Prelude.{ℕ, ◌+◌, ◌≡◌, ◌≤◌, ◌↔◌, Bool, List, [], ◌∷◌, ◌++◌, map}
 use Rattle.std.specs.List.{filter_map}
 use Rattle.mbe_tt.specs.Trees.Tree.{Forest}
 use Rattle.mbe_tt.specs.Fragments.Grammar.{Grammar, IsLawful}
@@ -12,25 +12,22 @@ use Rattle.mbe_semantics.specs.Readings.Input.{Input, input_of}
 use Rattle.mbe_semantics.specs.Readings.Reading.{Beginning, start}
 use Rattle.mbe_semantics.specs.Readings.Steps.{Move, move}
 use Rattle.mbe_semantics.specs.Readings.Verdict.{Verdict, IsVerdict, stop_of}
-use Rattle.mbe_semantics.specs.Bindings.Account.{Commands}
 use Rattle.mbe_semantics.specs.Matching.Dots.{dots}
 use Rattle.mbe_semantics.specs.Matching.Held.{moves_of, targets}
 use Rattle.mbe_semantics.specs.Matching.Outline.{Outline, erase, finished_of}
 use Rattle.mbe_bounds.specs.Reports.Backward.{held_first, held_back}
-use Rattle.mbe_matcher.specs.Failures.{Misfit, Source, failed, ended, Notes, no_notes, or_first, misfit, AreNotes}
+use Rattle.mbe_matcher.specs.Failures.{Notes, no_notes, misfit, noted_with, AreNotes}
 
--- of those that fail at a place, the last first; of what is bound at the pattern's end; and of the places before
-abbrev pub back_source : List Misfit → List Commands → Option Source → Option Source
-back_source [] [] before = before
-back_source [] (cs ∷ more) before = Some (ended cs)
-back_source (m ∷ ms) ends before = Some (failed m)
+-- the first member alone
+abbrev pub only_first : {A : Type 0} → List A → List A
+only_first [] = []
+only_first (x ∷ xs) = x ∷ []
 
--- what these note there: the first of each dot in order, and the last of each, the last first
+-- What these note there: the first of each dot in order, and the last of each, the last first. Those that fail among the first are looked
+-- at, and after them the last that fails.
 abbrev pub ends_noted : Input → ℕ → List Outline → List Outline → Notes → Notes
-ends_noted i q firsts lasts before = record {
-  first = or_first before.first (filter_map (misfit i q) firsts);
-  last = back_source (filter_map (misfit i q) lasts) (filter_map finished_of firsts) before.last;
-}
+ends_noted i q firsts lasts before =
+    noted_with (filter_map (misfit i q) firsts ++ only_first (filter_map (misfit i q) lasts)) (filter_map finished_of firsts) before
 
 -- what is held of what comes to a place for the one walk, and for the other, and what is noted of it
 abbrev pub ends_noted_at : Input → Ops → ℕ → List Beginning → List Beginning → Notes → Notes
