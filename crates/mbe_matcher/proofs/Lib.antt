@@ -10,3 +10,4 @@ pub mod Settling
 pub mod MatchEnds
 pub mod Reporting
 pub mod TwoEnds
+pub mod KeptEnds

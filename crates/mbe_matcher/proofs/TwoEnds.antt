@@ -45,7 +45,7 @@ abbrev pub head : {A : Type 0} → List A → Option A
 head [] = None
 head (x ∷ xs) = Some x
 
-head_some : {A : Type 0} (xs : List A) (x : A) → head xs ≡ Some x → (ys : List A) × (xs ≡ x ∷ ys)
+pub head_some : {A : Type 0} (xs : List A) (x : A) → head xs ≡ Some x → (ys : List A) × (xs ≡ x ∷ ys)
 head_some [] x e = cc
 head_some (y ∷ ys) x e = (ys, let f : y ≡ x = cc in ap (λ z. z ∷ ys) f)
 
@@ -296,25 +296,25 @@ module _ (g : Grammar) (pattern : Ops) (argument : Forest) (w : IsLawful g) (che
   whole at_start = whole_start
   whole (at_next q m n f y ms xs before h e c k) = whole_next q m n f y ms xs (whole h) e c k
 
-  known : {q : ℕ} {xs : List Beginning} {before : Notes} → ComesWith i pattern q xs before → Inv i pattern q xs
+  pub known : {q : ℕ} {xs : List Beginning} {before : Notes} → ComesWith i pattern q xs before → Inv i pattern q xs
   known h = whole-inv i pattern (flat_len argument) lawful checked turn_round turning (whole h)
 
-  here : {q : ℕ} {xs : List Beginning} {before : Notes} → ComesWith i pattern q xs before → (y : Beginning) → In y (held i q xs) → At i pattern q y
+  pub here : {q : ℕ} {xs : List Beginning} {before : Notes} → ComesWith i pattern q xs before → (y : Beginning) → In y (held i q xs) → At i pattern q y
   here {q} {xs} h y m = held-sound i pattern (flat_len argument) lawful checked q xs (known h) y m
 
   -- the walks hold the ends of what is held there
-  abbrev Ends : ℕ → List Beginning → List Beginning → List Beginning → Type 0
+  abbrev pub Ends : ℕ → List Beginning → List Beginning → List Beginning → Type 0
   Ends q xs fs bs =
       (held_first i (dots pattern) q fs ≡ firsts (held i q xs)) × (held_back i (dots pattern) q bs ≡ reverse (lasts (held i q xs)))
 
-  ends_at_start : Ends 0 (start pattern ∷ []) (start pattern ∷ []) (start pattern ∷ [])
+  pub ends_at_start : Ends 0 (start pattern ∷ []) (start pattern ∷ []) (start pattern ∷ [])
   ends_at_start =
       let b : BothWays g pattern argument 0 (start pattern ∷ []) =
       both_ways g pattern argument w checked 0 (start pattern ∷ []) (inv-start i pattern (flat_len argument) lawful checked).sound in
       (b.forward, b.backward)
 
   -- they note the same
-  ends_same : (q : ℕ) (xs fs bs : List Beginning) (before : Notes) → ComesWith i pattern q xs before → Ends q xs fs bs →
+  pub ends_same : (q : ℕ) (xs fs bs : List Beginning) (before : Notes) → ComesWith i pattern q xs before → Ends q xs fs bs →
       ends_noted_at i pattern q fs bs before ≡ noted_at i q (map erase (held i q xs)) before
   ends_same q xs fs bs before h e =
       ap (λ l. ends_noted i q (map erase l) (map erase (held_back i (dots pattern) q bs)) before) e.0
@@ -322,13 +322,21 @@ module _ (g : Grammar) (pattern : Ops) (argument : Forest) (w : IsLawful g) (che
       ∙ ends_note i pattern q (held i q xs) (λ y m. (here h y m).0) before
 
   -- the same goes on first
-  same_move : (q : ℕ) (xs fs bs : List Beginning) (before : Notes) → ComesWith i pattern q xs before → Ends q xs fs bs →
+  pub same_move : (q : ℕ) (xs fs bs : List Beginning) (before : Notes) → ComesWith i pattern q xs before → Ends q xs fs bs →
       head (moves_of i q (held_first i (dots pattern) q fs)) ≡ head (moves_of i q (held i q xs))
   same_move q xs fs bs before h e =
       ap (λ l. head (moves_of i q l)) e.0 ∙ first_move i pattern q (held i q xs) (λ y m. (here h y m).0)
 
+  -- where they lead
+  pub led : (q m n : ℕ) (f : Bool) (y : Beginning) (ms : List Move) (xs : List Beginning) (before : Notes) →
+      ComesWith i pattern q xs before → moves_of i q (held i q xs) ≡ move n f y ∷ ms → clashing (move n f y ∷ ms) ≡ false → m ≡ q + n →
+      (z : Beginning) → In z (targets (moves_of i q (held i q xs))) → At i pattern m z
+  led q m n f y ms xs before h is c k z a =
+      let v : Inv i pattern (q + n) (targets (move n f y ∷ ms)) = inv-next i pattern (flat_len argument) lawful checked q xs (known h) n f y ms is c in
+      subst (λ p. At i pattern p z) (sym k) (v.sound z (subst (λ l. In z (targets l)) is a))
+
   -- at the next place
-  ends_go : (q m n : ℕ) (f : Bool) (y : Beginning) (ms : List Move) (xs fs bs : List Beginning) (before : Notes) →
+  pub ends_go : (q m n : ℕ) (f : Bool) (y : Beginning) (ms : List Move) (xs fs bs : List Beginning) (before : Notes) →
       ComesWith i pattern q xs before → Ends q xs fs bs → moves_of i q (held i q xs) ≡ move n f y ∷ ms → clashing (move n f y ∷ ms) ≡ false → m ≡ q + n →
       Ends m (reverse (targets (move n f y ∷ ms)))
       (targets (moves_of i q (held_back i (dots pattern) q bs))) (targets (moves_of i q (held_first i (dots pattern) q fs)))
@@ -339,13 +347,8 @@ module _ (g : Grammar) (pattern : Ops) (argument : Forest) (w : IsLawful g) (che
       turns : turned i q (held i q xs) ≡ reverse (targets (move n f y ∷ ms))
       turns = ap (λ l. reverse (targets l)) is
 
-      there : (z : Beginning) → In z (targets (moves_of i q (held i q xs))) → At i pattern m z
-      there z a =
-          let v : Inv i pattern (q + n) (targets (move n f y ∷ ms)) = inv-next i pattern (flat_len argument) lawful checked q xs (known h) n f y ms is c in
-          subst (λ p. At i pattern p z) (sym k) (v.sound z (subst (λ l. In z (targets l)) is a))
-
       s : Swap g pattern argument q m (held i q xs)
-      s = swap_law g pattern argument w checked q m (held i q xs) (here h) there
+      s = swap_law g pattern argument w checked q m (held i q xs) (here h) (led q m n f y ms xs before h is c k)
 
   -- ---- where all come, the ends do
 
@@ -377,7 +380,7 @@ module _ (g : Grammar) (pattern : Ops) (argument : Forest) (w : IsLawful g) (che
   calm_before (ambiguous p) is q l a = is.1 q l a
   calm_before (stuck p) is q l a = is.0 q a
 
-  calm_moves : (v : Verdict) → IsVerdict g pattern argument v → (q : ℕ) (xs : List Beginning) → Inv i pattern q xs → q < stop_of argument v →
+  pub calm_moves : (v : Verdict) → IsVerdict g pattern argument v → (q : ℕ) (xs : List Beginning) → Inv i pattern q xs → q < stop_of argument v →
       (b : Bool) → clashing (moves_of i q (held i q xs)) ≡ b → b ≡ false
   calm_moves v is q xs known l false e = refl
   calm_moves v is q xs known l true e = absurd (calm_before v is q l (right-ambiguous i pattern (flat_len argument) lawful checked q xs known e).0)

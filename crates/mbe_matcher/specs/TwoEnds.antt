@@ -2,7 +2,7 @@
 -- At a place, the first that fails is among the first of each dot, and so is the first at the pattern's end. The last that fails is among
 -- the last. Both lists are walks that enter each dot once, so that the pass is linear. What waits comes back turned round, so the first at
 -- the next place come from the last here, and the last there from the first here.
-use Rattle.std.specs.Prelude.{ℕ, ◌+◌, ◌≡◌, ◌≤◌, ◌↔◌, Bool, List, [], ◌∷◌, ◌++◌, map}
+use Rattle.std.specs.Prelude.{ℕ, ◌+◌, ◌≡◌, ◌≤◌, ◌↔◌, suc, Bool, Some, List, [], ◌∷◌, ◌++◌, map, length, reverse}
 use Rattle.std.specs.List.{filter_map}
 use Rattle.mbe_tt.specs.Trees.Tree.{Forest}
 use Rattle.mbe_tt.specs.Fragments.Grammar.{Grammar, IsLawful}
@@ -12,10 +12,12 @@ use Rattle.mbe_semantics.specs.Readings.Input.{Input, input_of}
 use Rattle.mbe_semantics.specs.Readings.Reading.{Beginning, start}
 use Rattle.mbe_semantics.specs.Readings.Steps.{Move, move}
 use Rattle.mbe_semantics.specs.Readings.Verdict.{Verdict, IsVerdict, stop_of}
-use Rattle.mbe_semantics.specs.Matching.Dots.{dots}
+use Rattle.mbe_semantics.specs.Matching.Dots.{dots, outline_number}
 use Rattle.mbe_semantics.specs.Matching.Held.{moves_of, targets}
-use Rattle.mbe_semantics.specs.Matching.Outline.{Outline, erase, finished_of}
-use Rattle.mbe_bounds.specs.Reports.Backward.{held_first, held_back}
+use Rattle.mbe_semantics.specs.Matching.Outline.{Outline, Advance, erase, idle_of, next_of, finished_of}
+use Rattle.mbe_semantics.specs.Matching.Settled.{after_of, first_width}
+use Rattle.mbe_bounds.specs.Bounded.TwoEach.{walk, turns}
+use Rattle.mbe_bounds.specs.Reports.Backward.{visit_turns, held_first, held_back}
 use Rattle.mbe_matcher.specs.Failures.{Notes, no_notes, misfit, noted_with, AreNotes}
 
 -- the first member alone
@@ -52,3 +54,61 @@ abbrev pub SecondPassLaw : Type 0
 SecondPassLaw = (g : Grammar) (pattern : Ops) (argument : Forest) → IsLawful g → Checked pattern → (v : Verdict) → IsVerdict g pattern argument v →
     (q : ℕ) → q ≤ stop_of argument v → (notes : Notes) →
     AreNotes (input_of g argument) pattern q notes ↔ AreEndNotes (input_of g argument) pattern q notes
+
+-- ---- the same of outlines, as the program keeps them
+
+-- an outline is entered, and left after all that comes of it
+pub data Visit : Type 0 where
+  enter : Outline → Visit
+  leave : Outline → Visit
+
+-- the last step first, and after all its steps the outline itself
+abbrev pub visits_of : Input → ℕ → Visit → List Visit
+visits_of i q (enter o) = map enter (reverse (idle_of i q o)) ++ (leave o ∷ [])
+visits_of i q (leave o) = []
+
+-- each dot is entered once, and left once
+abbrev pub key_of : Visit → ℕ
+key_of (enter o) = outline_number o + outline_number o
+key_of (leave o) = suc (outline_number o + outline_number o)
+
+abbrev pub left_of : List Visit → List Outline
+left_of [] = []
+left_of (enter o ∷ vs) = left_of vs
+left_of (leave o ∷ vs) = o ∷ left_of vs
+
+-- the first of each dot, in order
+abbrev pub kept_first : Input → ℕ → ℕ → List Outline → List Outline
+kept_first i d q os = walk (idle_of i q) outline_number 1 (turns (length os) d) [] os
+
+-- the last of each dot, the last first
+abbrev pub kept_back : Input → ℕ → ℕ → List Outline → List Outline
+kept_back i d q os = left_of (walk (visits_of i q) key_of 1 (visit_turns (length os) d) [] (map enter os))
+
+-- their steps over tokens
+abbrev pub first_moves : Input → ℕ → ℕ → List Outline → List Advance
+first_moves i d q os = filter_map (next_of i q) (kept_first i d q os)
+
+abbrev pub back_moves : Input → ℕ → ℕ → List Outline → List Advance
+back_moves i d q os = filter_map (next_of i q) (kept_back i d q os)
+
+-- what is noted there
+abbrev pub kept_noted : Input → Ops → ℕ → List Outline → List Outline → Notes → Notes
+kept_noted i pattern q os ps before = ends_noted i q (kept_first i (dots pattern) q os) (kept_back i (dots pattern) q ps) before
+
+-- what comes to the places for each of the two walks
+pub data EndsFollow (i : Input) (pattern : Ops) : ℕ → List Outline → List Outline → Notes → Type 0 where
+  follow_start : EndsFollow i pattern 0 (erase (start pattern) ∷ []) (erase (start pattern) ∷ []) no_notes
+  follow_next : (q m n : ℕ) (os ps : List Outline) (before : Notes) → EndsFollow i pattern q os ps before →
+      first_width (first_moves i (dots pattern) q os) ≡ Some n → m ≡ q + n →
+      EndsFollow i pattern m (map after_of (back_moves i (dots pattern) q ps)) (map after_of (first_moves i (dots pattern) q os)) (kept_noted i pattern q os ps before)
+
+abbrev pub AreKeptNotes : Input → Ops → ℕ → Notes → Type 0
+AreKeptNotes i pattern q notes =
+    (os : List Outline) × (ps : List Outline) × (before : Notes) × EndsFollow i pattern q os ps before × (notes ≡ kept_noted i pattern q os ps before)
+
+-- Up to the place where the match stops the outlines note what all beginnings do.
+abbrev pub KeptPassLaw : Type 0
+KeptPassLaw = (g : Grammar) (pattern : Ops) (argument : Forest) → IsLawful g → Checked pattern → (v : Verdict) → IsVerdict g pattern argument v →
+    (q : ℕ) → q ≤ stop_of argument v → (notes : Notes) →
+    AreNotes (input_of g argument) pattern q notes ↔ AreKeptNotes (input_of g argument) pattern q notes

@@ -1,9 +1,14 @@
 // What a match that doesn't fit reports is found by a second pass over the first and the last
 // position of each dot. Laws run nothing.
-ghost use Rattle.mbe_matcher.specs.TwoEnds.{SecondPassLaw};
+ghost use Rattle.mbe_matcher.specs.TwoEnds.{SecondPassLaw, KeptPassLaw};
 
 /// Up to the place where a match stops, the first and the last position of each dot note what all
 /// positions do.
 pub fn second_pass()
     ensures { SecondPassLaw }
+{}
+
+/// So do their outlines, which a program keeps.
+pub fn kept_pass()
+    ensures { KeptPassLaw }
 {}
