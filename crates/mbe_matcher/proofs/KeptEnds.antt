@@ -260,17 +260,17 @@ module _ (g : Grammar) (pattern : Ops) (argument : Forest) (w : IsLawful g) (che
 
   pub followed : {q : ℕ} {xs : List Beginning} {before : Notes} → ComesWith i pattern q xs before → Followed q xs before
   unfolding pass_start pass_next
-  followed at_start = (erase (start pattern) ∷ [], erase (start pattern) ∷ [], follow_start, pass_start, refl)
+  followed at_start = (erase (start pattern) ∷ [], erase (start pattern) ∷ [], follow_start, (pass_start, refl))
   followed (at_next q m n f y ms xs before h e c k) = go (followed h)
     where
       go : Followed q xs before → Followed m (reverse (targets (move n f y ∷ ms))) (noted_at i q (map erase (held i q xs)) before)
-      go (os, ps, follow, p, same) =
+      go (os, ps, follow, (p, same)) =
           let e' : moves_of i q (held i q p.xs) ≡ move n f y ∷ ms = ap (λ l. moves_of i q (held i q l)) same ∙ e in
           subst (λ t. Followed m (reverse (targets (move n f y ∷ ms))) t)
           (pass_notes q os ps before p ∙ ap (λ l. noted_at i q (map erase (held i q l)) before) same)
           (map after_of (back_moves i d q ps), map after_of (first_moves i d q os),
           follow_next q m n os ps before follow (pass_width q os ps before p n f y ms e') k,
-          pass_next q os ps before p m n f y ms e' c k, refl)
+          (pass_next q os ps before p m n f y ms e' c k, refl))
 
   -- ---- where these come up to the stop, all do
 
