@@ -11,3 +11,4 @@ pub mod MatchEnds
 pub mod Reporting
 pub mod TwoEnds
 pub mod KeptEnds
+pub mod StopPlaces

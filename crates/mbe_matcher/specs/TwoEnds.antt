@@ -2,7 +2,7 @@
 -- At a place, the first that fails is among the first of each dot, and so is the first at the pattern's end. The last that fails is among
 -- the last. Both lists are walks that enter each dot once, so that the pass is linear. What waits comes back turned round, so the first at
 -- the next place come from the last here, and the last there from the first here.
-use Rattle.std.specs.Prelude.{ℕ, ◌+◌, ◌≡◌, ◌≤◌, ◌↔◌, suc, Bool, Some, List, [], ◌∷◌, ◌++◌, map, length, reverse}
+use Rattle.std.specs.Prelude.{ℕ, ◌+◌, ◌≡◌, ◌<◌, ◌≤◌, ◌↔◌, suc, Bool, Some, List, [], ◌∷◌, ◌++◌, map, length, reverse}
 use Rattle.std.specs.List.{filter_map}
 use Rattle.mbe_tt.specs.Trees.Tree.{Forest}
 use Rattle.mbe_tt.specs.Fragments.Grammar.{Grammar, IsLawful}
@@ -112,3 +112,15 @@ abbrev pub KeptPassLaw : Type 0
 KeptPassLaw = (g : Grammar) (pattern : Ops) (argument : Forest) → IsLawful g → Checked pattern → (v : Verdict) → IsVerdict g pattern argument v →
     (q : ℕ) → q ≤ stop_of argument v → (notes : Notes) →
     AreNotes (input_of g argument) pattern q notes ↔ AreKeptNotes (input_of g argument) pattern q notes
+
+-- Before the stop the first of each dot go on over tokens, and not past it.
+pub record GoesToStop (i : Input) (pattern : Ops) (stop q : ℕ) (os : List Outline) : Type 0 where
+  pub width : ℕ
+  pub is : first_width (first_moves i (dots pattern) q os) ≡ Some width
+  pub some : 0 < width
+  pub within : q + width ≤ stop
+
+abbrev pub KeptPassGoesOn : Type 0
+KeptPassGoesOn = (g : Grammar) (pattern : Ops) (argument : Forest) → IsLawful g → Checked pattern → (v : Verdict) → IsVerdict g pattern argument v →
+    (q : ℕ) (os ps : List Outline) (before : Notes) → EndsFollow (input_of g argument) pattern q os ps before → q < stop_of argument v →
+    GoesToStop (input_of g argument) pattern (stop_of argument v) q os
