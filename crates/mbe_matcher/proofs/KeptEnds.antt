@@ -1,6 +1,6 @@
 -- The outlines of the two ends note what all beginnings do.
 use Rattle.std.proofs.Common.{ℕ, zero, suc, ◌+◌, ◌≡◌, ◌<◌, ◌≤◌, ◌⊎◌, inl, inr, Some, Bool, true, false, List, [], ◌∷◌, ◌++◌, map, length, reverse, refl, sym, ◌∙◌, ap, subst, arith}
-use Rattle.std.specs.Prelude.{nat_lt, ◌↔◌}
+use Rattle.std.specs.Prelude.{nat_lt}
 use Rattle.std.specs.List.{filter_map}
 use Rattle.std.proofs.lemmas.List.{reverse-append, map-append}
 use Rattle.mbe_tt.specs.Trees.Tree.{Forest, flat_len}
@@ -14,7 +14,7 @@ use Rattle.mbe_semantics.specs.Readings.Verdict.{Verdict, IsVerdict, stop_of}
 use Rattle.mbe_semantics.specs.Matching.Lists.{In}
 use Rattle.mbe_semantics.specs.Matching.Dots.{dots, number_of, outline_number}
 use Rattle.mbe_semantics.specs.Matching.Held.{held, moves_of, targets, clashing}
-use Rattle.mbe_semantics.specs.Matching.Outline.{Outline, Advance, erase, erase_move, idle_of, next_of}
+use Rattle.mbe_semantics.specs.Matching.Outline.{Outline, erase, erase_move, idle_of, next_of}
 use Rattle.mbe_semantics.specs.Matching.Settled.{after_of, first_width}
 use Rattle.mbe_semantics.proofs.InputLemmas.{lawful_input}
 use Rattle.mbe_laws.proofs.Matching.Forest.{in_either}
@@ -267,10 +267,12 @@ module _ (g : Grammar) (pattern : Ops) (argument : Forest) (w : IsLawful g) (che
       go (os, ps, follow, (p, same)) =
           let e' : moves_of i q (held i q p.xs) ≡ move n f y ∷ ms = ap (λ l. moves_of i q (held i q l)) same ∙ e in
           subst (λ t. Followed m (reverse (targets (move n f y ∷ ms))) t)
-          (pass_notes q os ps before p ∙ ap (λ l. noted_at i q (map erase (held i q l)) before) same)
-          (map after_of (back_moves i d q ps), map after_of (first_moves i d q os),
-          follow_next q m n os ps before follow (pass_width q os ps before p n f y ms e') k,
-          (pass_next q os ps before p m n f y ms e' c k, refl))
+          (pass_notes q os ps before p ∙ ap (λ l. noted_at i q (map erase (held i q l)) before) same) (
+            map after_of (back_moves i d q ps),
+            map after_of (first_moves i d q os),
+            follow_next q m n os ps before follow (pass_width q os ps before p n f y ms e') k,
+            (pass_next q os ps before p m n f y ms e' c k, refl),
+          )
 
   -- ---- where these come up to the stop, all do
 

@@ -3,7 +3,7 @@ use Rattle.std.proofs.Common.{ℕ, ◌+◌, ◌≡◌, ◌<◌, ◌≤◌, ◌�
 use Rattle.std.specs.Prelude.{nat_lt}
 use Rattle.std.proofs.lemmas.Bool.{ltb-true, ltb-false}
 use Rattle.mbe_tt.specs.Trees.Tree.{Forest, flat_len}
-use Rattle.mbe_tt.specs.Fragments.Grammar.{Grammar, IsLawful}
+use Rattle.mbe_tt.specs.Fragments.Grammar.{Grammar}
 use Rattle.mbe_semantics.specs.Syntax.Op.{Ops, no_ops}
 use Rattle.mbe_semantics.specs.Syntax.Nullable.{Checked}
 use Rattle.mbe_semantics.specs.Laws.Lawful.{Lawful}
@@ -15,15 +15,13 @@ use Rattle.mbe_semantics.specs.Readings.Verdict.{Verdict, one_reading, many_read
 use Rattle.mbe_semantics.specs.Matching.Lists.{In}
 use Rattle.mbe_semantics.specs.Matching.Story.{story, steps}
 use Rattle.mbe_semantics.specs.Matching.Held.{held, moves_of, clashing}
-use Rattle.mbe_semantics.specs.Matching.Outline.{Outline}
 use Rattle.mbe_semantics.proofs.InputLemmas.{lawful_input}
 use Rattle.mbe_semantics.proofs.Parents.{Moves, From, parents}
 use Rattle.mbe_laws.proofs.Matching.Moves.{next-takes}
 use Rattle.mbe_laws.proofs.Matching.Clashes.{in_filter, calm_with}
 use Rattle.mbe_laws.proofs.Matching.Law.{Inv, by_steps, held-all, moves_steps, idles_steps}
 use Rattle.mbe_laws.proofs.Matching.Advance.{last-place, some_width}
-use Rattle.mbe_matcher.specs.Failures.{Notes}
-use Rattle.mbe_matcher.specs.TwoEnds.{EndsFollow, GoesToStop, KeptPassGoesOn}
+use Rattle.mbe_matcher.specs.TwoEnds.{GoesToStop, KeptPassGoesOn}
 use Rattle.mbe_matcher.proofs.TwoEnds.{known, calm_moves}
 use Rattle.mbe_matcher.proofs.KeptEnds.{Pass, passes, pass_width}
 

@@ -1,9 +1,9 @@
 -- The first and the last beginning of each dot note what all beginnings do.
-use Rattle.std.proofs.Common.{ℕ, zero, suc, ◌+◌, ◌≡◌, ◌<◌, ◌≤◌, ◌⊎◌, inl, inr, Option, Some, None, Bool, true, false, List, [], ◌∷◌, ◌++◌, map, reverse, refl, sym, ◌∙◌, ap, subst, arith, ◌||◌}
-use Rattle.std.specs.Prelude.{is_some, not, if◌then◌else◌, ◌↔◌}
+use Rattle.std.proofs.Common.{ℕ, zero, suc, ◌+◌, ◌≡◌, ◌<◌, ◌≤◌, inl, Option, Some, None, Bool, true, false, List, [], ◌∷◌, ◌++◌, map, reverse, refl, sym, ◌∙◌, ap, subst, arith, ◌||◌}
+use Rattle.std.specs.Prelude.{is_some, not, if◌then◌else◌}
 use Rattle.std.specs.List.{filter_map, cons_option}
 use Rattle.std.specs.Option.{option_and_then}
-use Rattle.std.proofs.lemmas.List.{reverse-append, reverse-reverse}
+use Rattle.std.proofs.lemmas.List.{reverse-append}
 use Rattle.mbe_tt.specs.Trees.Tree.{Forest, flat_len}
 use Rattle.mbe_tt.specs.Fragments.Grammar.{Grammar, IsLawful}
 use Rattle.mbe_semantics.specs.declared.kinds.RepeatKind.{RepeatKind}
@@ -11,17 +11,17 @@ use Rattle.mbe_semantics.specs.declared.kinds.RepeatKind.TheVariants.{ZeroOrMore
 use Rattle.mbe_semantics.specs.Syntax.Op.{Op, token, group, variable, repetition, expression, Ops, no_ops, op, Separator, Name}
 use Rattle.mbe_semantics.specs.Syntax.Nullable.{Checked}
 use Rattle.mbe_semantics.specs.Laws.Lawful.{Lawful}
-use Rattle.mbe_semantics.specs.Readings.Item.{Item, matched, bound, Fragment, Items, no_items, Rounds, no_rounds}
+use Rattle.mbe_semantics.specs.Readings.Item.{Fragment, Items, no_items, Rounds, no_rounds}
 use Rattle.mbe_semantics.specs.Readings.Input.{Input, input_of}
 use Rattle.mbe_semantics.specs.Readings.Reading.{Frame, inside, within, Beginning, dot, Begins, At, start}
 use Rattle.mbe_semantics.specs.Readings.Steps.{Move, move, next, when, if_none, if_some, over_of, round_move, separator_move, matched_by, bound_as}
-use Rattle.mbe_semantics.specs.Readings.Verdict.{Verdict, one_reading, many_readings, ambiguous, stuck, Right, IsVerdict, stop_of}
+use Rattle.mbe_semantics.specs.Readings.Verdict.{Verdict, one_reading, many_readings, ambiguous, stuck, IsVerdict, stop_of}
 use Rattle.mbe_semantics.specs.Readings.Ambiguity.{Ambiguous}
 use Rattle.mbe_semantics.specs.Bindings.Account.{Account, Commands, binds, pushed}
 use Rattle.mbe_semantics.specs.Matching.Lists.{In}
 use Rattle.mbe_semantics.specs.Matching.Dots.{dots}
 use Rattle.mbe_semantics.specs.Matching.Held.{held, moves_of, targets, clashing}
-use Rattle.mbe_semantics.specs.Matching.Outline.{Edge, gate, edge, Outline, outline, Advance, advance, erase, edges_of, base_of, written, empty_by, empty_bound, if_some_advance, over_advance, bound_advance, when_advance, finished_of}
+use Rattle.mbe_semantics.specs.Matching.Outline.{Edge, gate, Outline, outline, Advance, advance, erase, edges_of, base_of, written, empty_by, empty_bound, if_some_advance, over_advance, bound_advance, when_advance, finished_of}
 use Rattle.mbe_semantics.proofs.InputLemmas.{lawful_input}
 use Rattle.mbe_laws.proofs.Matching.Clashes.{from_filter}
 use Rattle.mbe_laws.proofs.Matching.Moves.{next-takes}
@@ -29,13 +29,13 @@ use Rattle.mbe_laws.proofs.Matching.Law.{Inv, held-sound}
 use Rattle.mbe_laws.proofs.Matching.Advance.{inv-start, inv-next, right-ambiguous}
 use Rattle.mbe_bounds.specs.Bounded.Dots.{dot_of, blank}
 use Rattle.mbe_bounds.specs.Orders.Order.{ComesWhole, whole_start, whole_next, turn_round}
-use Rattle.mbe_bounds.specs.Reports.Ends.{firsts, lasts, first_if, first_that, turned, EndsAreKept}
+use Rattle.mbe_bounds.specs.Reports.Ends.{firsts, lasts, first_if, first_that, turned}
 use Rattle.mbe_bounds.specs.Reports.Backward.{held_first, held_back, BothWays, Swap}
 use Rattle.mbe_bounds.proofs.Orders.Spare.{turning}
 use Rattle.mbe_bounds.proofs.Orders.DropLemmas.{whole-inv}
 use Rattle.mbe_bounds.proofs.Reports.EndLemmas.{ends_are_kept}
 use Rattle.mbe_bounds.proofs.Reports.BackwardLemmas.{both_ways, swap_law}
-use Rattle.mbe_matcher.specs.Failures.{Misfit, Source, failed, ended, Notes, no_notes, is_any, has_step, is_noted, or_first, last_of, source_of, misfit, misfit_unless, noted_with, noted_at, ComesWith, at_start, at_next, AreNotes}
+use Rattle.mbe_matcher.specs.Failures.{Misfit, Source, failed, ended, Notes, is_any, has_step, is_noted, or_first, last_of, source_of, misfit, misfit_unless, noted_with, noted_at, ComesWith, at_start, at_next, AreNotes}
 use Rattle.mbe_matcher.proofs.Reporting.{source_snoc}
 use Rattle.mbe_matcher.specs.TwoEnds.{only_first, ends_noted, ends_noted_at, EndsCome, ends_start, ends_next, AreEndNotes, SecondPassLaw}
 
@@ -340,9 +340,10 @@ module _ (g : Grammar) (pattern : Ops) (argument : Forest) (w : IsLawful g) (che
       ComesWith i pattern q xs before → Ends q xs fs bs → moves_of i q (held i q xs) ≡ move n f y ∷ ms → clashing (move n f y ∷ ms) ≡ false → m ≡ q + n →
       Ends m (reverse (targets (move n f y ∷ ms)))
       (targets (moves_of i q (held_back i (dots pattern) q bs))) (targets (moves_of i q (held_first i (dots pattern) q fs)))
-  ends_go q m n f y ms xs fs bs before h e is c k =
-      (ap (λ l. held_first i (dots pattern) m (targets (moves_of i q l))) e.1 ∙ s.first ∙ ap (λ l. firsts (held i m l)) turns,
-      ap (λ l. held_back i (dots pattern) m (targets (moves_of i q l))) e.0 ∙ s.last ∙ ap (λ l. reverse (lasts (held i m l))) turns)
+  ends_go q m n f y ms xs fs bs before h e is c k = (
+    ap (λ l. held_first i (dots pattern) m (targets (moves_of i q l))) e.1 ∙ s.first ∙ ap (λ l. firsts (held i m l)) turns,
+    ap (λ l. held_back i (dots pattern) m (targets (moves_of i q l))) e.0 ∙ s.last ∙ ap (λ l. reverse (lasts (held i m l))) turns,
+  )
     where
       turns : turned i q (held i q xs) ≡ reverse (targets (move n f y ∷ ms))
       turns = ap (λ l. reverse (targets l)) is
@@ -362,11 +363,13 @@ module _ (g : Grammar) (pattern : Ops) (argument : Forest) (w : IsLawful g) (che
       go : Followed q xs before → Followed m (reverse (targets (move n f y ∷ ms))) (noted_at i q (map erase (held i q xs)) before)
       go (fs, bs, come, ends) =
           let l : (ns : List Move) × (moves_of i q (held_first i (dots pattern) q fs) ≡ move n f y ∷ ns) =
-          head_some (moves_of i q (held_first i (dots pattern) q fs)) (move n f y) (same_move q xs fs bs before h ends ∙ ap head e) in
-          (targets (moves_of i q (held_back i (dots pattern) q bs)), targets (moves_of i q (held_first i (dots pattern) q fs)),
-          subst (λ t. EndsCome i pattern m (targets (moves_of i q (held_back i (dots pattern) q bs))) (targets (moves_of i q (held_first i (dots pattern) q fs))) t)
-          (ends_same q xs fs bs before h ends) (ends_next q m n f y l.0 fs bs before come l.1 k),
-          ends_go q m n f y ms xs fs bs before h ends e c k)
+          head_some (moves_of i q (held_first i (dots pattern) q fs)) (move n f y) (same_move q xs fs bs before h ends ∙ ap head e) in (
+            targets (moves_of i q (held_back i (dots pattern) q bs)),
+            targets (moves_of i q (held_first i (dots pattern) q fs)),
+            subst (λ t. EndsCome i pattern m (targets (moves_of i q (held_back i (dots pattern) q bs))) (targets (moves_of i q (held_first i (dots pattern) q fs))) t)
+                (ends_same q xs fs bs before h ends) (ends_next q m n f y l.0 fs bs before come l.1 k),
+            ends_go q m n f y ms xs fs bs before h ends e c k,
+          )
 
   -- ---- where the ends come up to the stop, all do
 
@@ -407,11 +410,12 @@ module _ (g : Grammar) (pattern : Ops) (argument : Forest) (w : IsLawful g) (che
               head_some (moves_of i q (held i q xs)) (move n f y) (sym (same_move q xs fs bs before come ends) ∙ ap head e) in
               let c : clashing (moves_of i q (held i q xs)) ≡ false =
               calm_moves v is q xs (known come) (let p = some in omega (arith, p, k, l)) (clashing (moves_of i q (held i q xs))) refl in
-              let d : clashing (move n f y ∷ t.0) ≡ false = sym (ap clashing t.1) ∙ c in
-              (reverse (targets (move n f y ∷ t.0)),
-              subst (λ u. ComesWith i pattern m (reverse (targets (move n f y ∷ t.0))) u) (sym (ends_same q xs fs bs before come ends))
-              (at_next q m n f y t.0 xs before come t.1 d k),
-              ends_go q m n f y t.0 xs fs bs before come ends t.1 d k)
+              let d : clashing (move n f y ∷ t.0) ≡ false = sym (ap clashing t.1) ∙ c in (
+                reverse (targets (move n f y ∷ t.0)),
+                subst (λ u. ComesWith i pattern m (reverse (targets (move n f y ∷ t.0))) u) (sym (ends_same q xs fs bs before come ends))
+                    (at_next q m n f y t.0 xs before come t.1 d k),
+                ends_go q m n f y t.0 xs fs bs before come ends t.1 d k,
+              )
 
 pub second_pass : SecondPassLaw
 second_pass g pattern argument w checked v is q l notes = (there, back)
