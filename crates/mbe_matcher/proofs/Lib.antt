@@ -9,3 +9,6 @@ pub mod Counting
 pub mod Settling
 pub mod MatchEnds
 pub mod Reporting
+pub mod TwoEnds
+pub mod KeptEnds
+pub mod StopPlaces

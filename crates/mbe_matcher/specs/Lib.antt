@@ -6,3 +6,4 @@ pub mod Failures
 pub mod Reports
 pub mod Counts
 pub mod States
+pub mod TwoEnds

@@ -5,6 +5,7 @@ mod counts;
 mod eat;
 pub mod fragment;
 mod fronts;
+pub mod laws;
 pub mod matching;
 mod places;
 mod position;
