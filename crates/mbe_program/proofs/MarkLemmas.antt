@@ -13,10 +13,15 @@ use Rattle.mbe_semantics.specs.Bindings.Environment.{Value, fragment, missing, E
 use Rattle.mbe_semantics.specs.Writing.Rounds.{Path, followed, Extent, finite, endless, kept_rounds, level}
 use Rattle.mbe_semantics.specs.Writing.Concat.{concat_text}
 use Rattle.mbe_semantics.specs.Writing.Written.{IsParenthesized, IsWrittenAs}
-use Rattle.mbe_semantics.specs.Writing.Substitution.{AreRounds, AreKeptRounds, separator_trees, AreMarkedPuncts, IsMarked, IsVariable, IsConcat, IsExpression, Writes, Substitutes, IsSubstitution}
+use Rattle.mbe_semantics.specs.Writing.Substitution.{faults, AreRounds, AreKeptRounds, separator_trees, AreMarkedPuncts, IsMarked, IsVariable, IsConcat, IsExpression, Writes, Substitutes, IsSubstitution}
 use Rattle.mbe_semantics.specs.Expansion.Error.{ExpandError}
 use Rattle.mbe_semantics.specs.Expansion.Expansion.{IsExpansion}
 use Rattle.mbe_semantics.specs.Expansion.Macro.{Expands}
+use Rattle.mbe_tt.specs.Trees.Top.{Top}
+use Rattle.mbe_transcriber.specs.Faults.{variable_fault, extent_fault, joined}
+use Rattle.mbe_transcriber.specs.Beside.{unless, name_left, AreRoundsLeft, AreAllRoundsLeft, LeavesExpression, Leaves, LeaveAll, IsWhatIsLeft}
+use Rattle.mbe.specs.Recovering.{Recovers}
+use Rattle.mbe.specs.OneAnswer.{IsAnswer}
 use Rattle.mbe_program.specs.Expansion.{IsItself}
 
 -- rounds are written so where each round is
@@ -103,8 +108,81 @@ module _ (g : Grammar) {A B : Span → Span → Type 0} (more : (s t : Span) →
     no_rule = h.no_rule;
   }
 
+  -- ---- beside a fault
+
+  unless_left : {F : Type 0} (o : Option F) (P Q : Forest → Type 0) → ((out : Forest) → P out → Q out) → (out : Forest) → unless o P out → unless o Q out
+  unless_left (Some f) P Q each out h = h
+  unless_left None P Q each out h = each out h
+
+  rounds_left : (separator : Forest) (faulty : ℕ → Bool) (round other : ℕ → Forest → Type 0) → ((i : ℕ) (out : Forest) → round i out → other i out)
+      → (n : ℕ) (out : Forest) → AreRoundsLeft separator faulty round n out → AreRoundsLeft separator faulty other n out
+  rounds_left separator faulty round other each zero out h = h
+  rounds_left separator faulty round other each (suc n) out (before, last, earlier, here, e) =
+      (before, last, rounds_left separator faulty round other each n before earlier, each n last here, e)
+
+  all_rounds_left : (separator : Forest) (faulty : ℕ → ℕ → Bool) (round other : ℕ → ℕ → Forest → Type 0) → ((i n : ℕ) (out : Forest) → round i n out → other i n out)
+      → (e : Extent) (out : Forest) → AreAllRoundsLeft separator faulty round e out → AreAllRoundsLeft separator faulty other e out
+  all_rounds_left separator faulty round other each endless out h = h
+  all_rounds_left separator faulty round other each (finite n) out h =
+      rounds_left separator (λ i. faulty i n) (λ i. round i n) (λ i. other i n) (λ i. each i n) n out h
+
+  module _ (env : Environment) where
+    expression_left : (path : Path) (e : Expression) (out : Forest) → LeavesExpression g A call_site env path e out → LeavesExpression g B call_site env path e out
+    expression_left path (count name depth) out h = h
+    expression_left path (concat elements span) out h = concat_written env span (Some (name_left (joined env path elements))) out h
+    expression_left path (ignore name span) out h = h
+    expression_left path (index depth) out h = h
+    expression_left path (len depth) out h = h
+
+    mutual
+      op_left : (path : Path) (o : Op) (out : Forest) → Leaves g A call_site env path o out → Leaves g B call_site env path o out
+      op_left path (ops.token t) out h = token_written env t out h
+      op_left path (ops.group d body) out (opening, close, inside, a, b, h, e) =
+          (opening, close, inside, more d.opening opening a, more d.close close b, ops_left path body inside h, e)
+      op_left path (ops.variable name kind span) out h =
+          unless_left (variable_fault env path name) (IsVariable g A call_site env name span (value_of env name) (followed env path name))
+          (IsVariable g B call_site env name span (value_of env name) (followed env path name))
+          (variable_written env name span (value_of env name) (followed env path name)) out h
+      op_left path (ops.repetition body separator repeat) out h =
+          unless_left (extent_fault repeat (kept_rounds repeat env path body))
+          (AreAllRoundsLeft (separator_trees separator) (λ i n. faults env (level i n path) body) (λ i n. LeaveAll g A call_site env (level i n path) body)
+          (kept_rounds repeat env path body))
+          (AreAllRoundsLeft (separator_trees separator) (λ i n. faults env (level i n path) body) (λ i n. LeaveAll g B call_site env (level i n path) body)
+          (kept_rounds repeat env path body))
+          (all_rounds_left (separator_trees separator) (λ i n. faults env (level i n path) body) (λ i n. LeaveAll g A call_site env (level i n path) body)
+          (λ i n. LeaveAll g B call_site env (level i n path) body) (λ i n. ops_left (level i n path) body) (kept_rounds repeat env path body)) out h
+      op_left path (ops.expression e) out h = expression_left path e out h
+
+      ops_left : (path : Path) (os : Ops) (out : Forest) → LeaveAll g A call_site env path os out → LeaveAll g B call_site env path os out
+      ops_left path no_ops out h = h
+      ops_left path (op o os) out (first, rest, a, b, e) = (first, rest, op_left path o first a, ops_left path os rest b, e)
+
+    what_is_left : (os : Ops) (out : Forest) → IsWhatIsLeft g A call_site env os out → IsWhatIsLeft g B call_site env os out
+    what_is_left os out (inside, h, e) = (inside, ops_left [] os inside h, e)
+
+  recovered_so : (rules : List Rule) (style : MacroCallStyle) (input : Top) (out : Forest) (i : Option ℕ) (err : Option ExpandError)
+      → Recovers g call_site input A rules style out i err → Recovers g call_site input B rules style out i err
+  recovered_so rules style input out i err h = λ e is own.
+      let r = h e is own in
+      record {
+        place = r.place;
+        rule = r.rule;
+        nearest = r.nearest;
+        named = r.named;
+        recovered = record {
+          error = r.recovered.error;
+          env = r.recovered.env;
+          reported = r.recovered.reported;
+          fails = r.recovered.fails;
+          left = what_is_left r.recovered.env r.rule.writes out r.recovered.left;
+        };
+      }
+
 -- so it is written with each span as it is, where no other mark is returned
-pub expands_unmarked : {A : Span → Span → Type 0} (g : Grammar) (rules : List Rule) (style : MacroCallStyle) (argument : Forest) (call_site : Span) (out : Forest) (i : Option ℕ)
-    (err : Option ExpandError) → Expands g A rules style argument call_site out i err → ((s t : Span) → A s t → t ≡ s)
-    → Expands g IsItself rules style argument call_site out i err
-expands_unmarked g rules style argument call_site out i err h only = expands_so g only call_site rules style argument out i err h
+pub answers_unmarked : {A : Span → Span → Type 0} (g : Grammar) (rules : List Rule) (style : MacroCallStyle) (input : Top) (call_site : Span) (out : Forest) (i : Option ℕ)
+    (err : Option ExpandError) → IsAnswer g A rules style input call_site out i err → ((s t : Span) → A s t → t ≡ s)
+    → IsAnswer g IsItself rules style input call_site out i err
+answers_unmarked g rules style input call_site out i err h only = record {
+  expands = expands_so g only call_site rules style input.1 out i err h.expands;
+  recovers = recovered_so g only call_site rules style input out i err h.recovers;
+}

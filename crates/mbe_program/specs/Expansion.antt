@@ -10,9 +10,9 @@ use Rattle.mbe_grammar.specs.SampleGrammar.{sample}
 use Rattle.mbe_semantics.specs.Syntax.Definition.{Rule}
 use Rattle.mbe_semantics.specs.Expansion.Error.{ExpandError}
 use Rattle.mbe_errors.specs.ErrorViews.{parse_error_of}
-use Rattle.mbe_semantics.specs.Expansion.Macro.{Expands}
 use Rattle.mbe_semantics.specs.Expansion.ReadAs.{IsReadAs}
 use Rattle.mbe_semantics.specs.declared.macro_call_style.MacroCallStyle.TheVariants.{FnLike}
+use Rattle.mbe.specs.OneAnswer.{IsAnswer}
 use Rattle.mbe_text.specs.Tokens.{IsMade, bytes_of}
 use Rattle.mbe_text.specs.Division.{trees_of}
 use Rattle.mbe_text.specs.Writing.{Takes}
@@ -28,13 +28,13 @@ IsEdition edition context answer = answer ≡ edition
 abbrev pub IsItself : Span → Span → Type 0
 IsItself span marked = marked ≡ span
 
--- The result of a call whose argument these trees are, by the macro that the grammar of definitions reads from the definition
--- in that edition, which reports no fault.
-pub record ExpandsTrees (edition : Edition) (definition argument : Forest) (call_site : Span)
+-- The answer to a call with this argument, by the macro that the grammar of definitions reads from the definition in that
+-- edition, which reports no fault.
+pub record ExpandsTrees (edition : Edition) (definition : Forest) (argument : Top) (call_site : Span)
     (out : Forest) (index : Option ℕ) (err : Option ExpandError) : Type 0 where
   pub rules : List Rule
   pub read : IsReadAs (IsEdition edition) definition (record { rules = rules; err = None })
-  pub expands : Expands sample IsItself rules FnLike argument call_site out index err
+  pub answers : IsAnswer sample IsItself rules FnLike argument call_site out index err
 
 -- There is no expansion: the definition has that fault in that edition, or there is no memory.
 abbrev pub IsRefused : {A : Type 0} → Edition → Forest → Outcome A → Type 0
@@ -63,7 +63,7 @@ pub record ExpandsTexts (edition : Edition) (def_text arg_text : List ℕ) (out 
   pub definition : Top
   pub argument : Top
   pub trees : AreTrees def_text arg_text definition argument
-  pub expands : ExpandsTrees edition definition.1 argument.1 (bytes_of 1 0 (length arg_text)) out index err
+  pub expands : ExpandsTrees edition definition.1 argument (bytes_of 1 0 (length arg_text)) out index err
 
 -- that byte of the text of a file is at fault, or there is no memory
 abbrev pub IsAtFault : {A : Type 0} → ℕ → List ℕ → Outcome A → Type 0

@@ -134,7 +134,7 @@ fn expansion<A: Allocator + Copy>(
     edition: Edition,
     call_site: Span,
 ) -> Result<Expansion<A>, Outcome<A>>
-    ensures expands { IfOk result (λ r. ExpandsTrees edition definition.now.1 argument.now.1
+    ensures expands { IfOk result (λ r. ExpandsTrees edition definition.now.1 argument.now
         call_site (top_group r.value.0) r.value.1 (errors_of r.err)) }
     ensures refused { IfErr result (IsRefused edition definition.now.1) }
 {
