@@ -1,5 +1,5 @@
 -- As long as no third position of a dot was dropped, the stack stands for all beginnings that come to the place, and what is noted is theirs.
-use Rattle.std.proofs.Common.{ℕ, ◌+◌, ◌≡◌, Some, Bool, false, List, [], ◌∷◌, ◌++◌, map, reverse, refl, sym, ◌∙◌, ap, subst}
+use Rattle.std.proofs.Common.{ℕ, ◌+◌, ◌≡◌, Some, Bool, false, List, [], ◌∷◌, ◌++◌, map, reverse, sym, ◌∙◌, ap, subst}
 use Rattle.std.specs.List.{filter_map}
 use Rattle.std.proofs.lemmas.List.{reverse-append, reverse-reverse}
 use Rattle.mbe_semantics.specs.Syntax.Op.{Ops}

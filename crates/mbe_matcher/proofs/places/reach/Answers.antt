@@ -3,7 +3,7 @@ use Rattle.std.specs.Prelude.{IfSome}
 use Rattle.mbe_tt.specs.Views.View.{trees}
 use Rattle.mbe_tt.specs.Trees.Tree.{flat_len, tree_count, rest_at}
 use Rattle.mbe_semantics.specs.Readings.Input.{input_of}
-use Rattle.mbe_semantics.specs.Readings.Verdict.{IsVerdict, stop_of, unmatched}
+use Rattle.mbe_semantics.specs.Readings.Verdict.{IsVerdict, unmatched}
 use Rattle.mbe_semantics.specs.Laws.Lawful.{Lawful}
 use Rattle.mbe_semantics.specs.Matching.Dots.{dots}
 use Rattle.mbe_semantics.specs.Matching.Settled.{after_of}
@@ -291,11 +291,11 @@ loop-source-preserved g c =
             (follows_next s.place c.in_ok-source.source.place n.first.width inv.comes.0 inv.comes.3 inv.comes.4 n.goes_over n.agrees at),
         subst (λ x. IsReportOf log (trees x) c.settle.new.state.report [] noted) (sym c.in_ok-source.ensures.whole) ((c.in_ok-settle.ensures.settled stack).notes inv.comes.3 inv.comes.5),
         λ clean.
-        let follows = (c.in_ok-settle.ensures.settled stack).all clean in
-        let was = inv.comes.6 follows.0 in
-        let all = follows.1 c.requires was.xs (whole_sound i pat len w c.requires s.place inv.comes.0 inv.comes.3 was) was.same in
-        subst (λ x. WholeWith (input_of h (trees x)) pat c.in_ok-source.source.place new noted) (sym c.in_ok-source.ensures.whole)
-        (whole_after i pat len w c.requires s.place inv.comes.0 inv.comes.3 was all c.in_ok-source.source.place n.first.width n.goes_over n.agrees at),
+            let follows = (c.in_ok-settle.ensures.settled stack).all clean in
+            let was = inv.comes.6 follows.0 in
+            let all = follows.1 c.requires was.xs (whole_sound i pat len w c.requires s.place inv.comes.0 inv.comes.3 was) was.same in
+            subst (λ x. WholeWith (input_of h (trees x)) pat c.in_ok-source.source.place new noted) (sym c.in_ok-source.ensures.whole)
+            (whole_after i pat len w c.requires s.place inv.comes.0 inv.comes.3 was all c.in_ok-source.source.place n.first.width n.goes_over n.agrees at),
       );
       whole = c.in_ok-source.ensures.whole ∙ inv.whole;
       blank = λ q l. c.in_ok-settle.ensures.blank q (omega (arith, l, at, some));

@@ -39,8 +39,11 @@ loop-position-init g c =
               c.args.todo.now.items c.clear.new.self.items c.clear-2.new.self.items st c.clear.ensures.items c.clear-2.ensures.items,
           λ n r. report_start i s.place (length c.args.state.now.counts.marks.items) c.args.log.now c.args.state.now.outers.items (rest_at (trees s.whole) s.place)
               c.args.todo.now.items c.clear.new.self.items c.clear-2.new.self.items st c.clear.ensures.items c.clear-2.ensures.items (trees s.whole) c.args.state.now.report n r,
-          λ clean. (clean, fills_begin i s.place (length c.args.state.now.counts.marks.items) c.args.log.now c.args.state.now.outers.items (rest_at (trees s.whole) s.place)
-              c.args.todo.now.items c.clear.new.self.items c.clear-2.new.self.items st c.clear.ensures.items c.clear-2.ensures.items (flat_len (trees s.whole)) lawful),
+          λ clean. (
+            clean,
+            fills_begin i s.place (length c.args.state.now.counts.marks.items) c.args.log.now c.args.state.now.outers.items (rest_at (trees s.whole) s.place)
+                c.args.todo.now.items c.clear.new.self.items c.clear-2.new.self.items st c.clear.ensures.items c.clear-2.ensures.items (flat_len (trees s.whole)) lawful,
+          ),
         ),
       );
     }
@@ -158,13 +161,13 @@ loop-position-preserved g c =
               c.steps.new.log c.steps.new.outers.items f c.push_some-in-Some.new.values.items c.push_some-in-Some-2.new.values.items c.push_some-in-Some-3.new.values.items
               c.in_ok-found.ensures pushed c.in_ok-push_some-3.ensures c.in_ok-push_some-4.ensures (sym counted.0 ∙ taken) (trees s.whole) c.loop-position.state.report c.looked_at.new.self n c.is_some.result c.again-handle.result c.is_some.ensures c.again-handle.ensures c.looked_at.ensures ((inv.walked.2 st).1 n r),
           λ clean.
-          let was = (inv.walked.2 st).2 clean in (
-            was.0,
-            fills_next i st.pattern (trees s.whole) s.place (kept i (dots st.pattern) s.place (reverse st.spots)) met c.loop-position.log c.loop-position.state.outers.items
-                c.pop.new.self.items c.loop-position.todo.items c.in-Some.position c.loop-position.settled.waiting.items c.loop-position.settled.ends.items c.in-Some.ensures.items (inv.walked.2 st).0
-                c.steps.new.log c.steps.new.outers.items f c.push_some-in-Some.new.values.items c.push_some-in-Some-2.new.values.items c.push_some-in-Some-3.new.values.items
-                c.in_ok-found.ensures pushed c.in_ok-push_some-3.ensures c.in_ok-push_some-4.ensures (sym counted.0 ∙ taken) st.spots (flat_len (trees s.whole)) lawful was.1,
-          ),
+              let was = (inv.walked.2 st).2 clean in (
+                was.0,
+                fills_next i st.pattern (trees s.whole) s.place (kept i (dots st.pattern) s.place (reverse st.spots)) met c.loop-position.log c.loop-position.state.outers.items
+                    c.pop.new.self.items c.loop-position.todo.items c.in-Some.position c.loop-position.settled.waiting.items c.loop-position.settled.ends.items c.in-Some.ensures.items (inv.walked.2 st).0
+                    c.steps.new.log c.steps.new.outers.items f c.push_some-in-Some.new.values.items c.push_some-in-Some-2.new.values.items c.push_some-in-Some-3.new.values.items
+                    c.in_ok-found.ensures pushed c.in_ok-push_some-3.ensures c.in_ok-push_some-4.ensures (sym counted.0 ∙ taken) st.spots (flat_len (trees s.whole)) lawful was.1,
+              ),
         ),
       );
     }
