@@ -6,6 +6,7 @@ pub mod Widths
 pub mod SkipLemmas
 pub mod StepLemmas
 pub mod Counting
+pub mod Whole
 pub mod Settling
 pub mod MatchEnds
 pub mod Reporting

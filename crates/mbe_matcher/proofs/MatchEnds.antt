@@ -23,6 +23,7 @@ use Rattle.mbe_matcher.specs.declared.position.Position.{Position}
 use Rattle.mbe_matcher.specs.declared.position.Waiting.{Waiting}
 use Rattle.mbe_matcher.specs.Positions.{Each, IsLeft, Shows, LeadsTo, Holds}
 use Rattle.mbe_matcher.specs.Failures.{no_notes, FollowsWith, follows_start}
+use Rattle.mbe_matcher.proofs.Whole.{WholeWith, whole_first}
 use Rattle.mbe_matcher.specs.Matched.{IsStack, IsAtStart, AreSettled, clashes_with, is_clash, width_first, position_after, ends_as, stuck_at, stop_at, verdict_in, reading_in, Binds}
 
 -- ---- the positions that go on
@@ -210,12 +211,13 @@ stop_has_entries g pattern argument log (told.Stuck p) b = tt
 pub come_first : {A : Type 0} (i : Input) (pattern : Ops) (len : ℕ) (log : Log) (outers : List (Outer A)) (todo : List (Position A)) (q : ℕ) (p : Position A) → q ≡ 0 → todo ≡ p ∷ [] →
     IsAtStart log pattern p →
     (spots : List Outline) × Each (Shows log outers) todo spots × ((lawful : Lawful i len) (checked : Checked pattern) → ComesTo i pattern len lawful checked q spots)
-    × FollowsWith i pattern q spots no_notes
+    × FollowsWith i pattern q spots no_notes × WholeWith i pattern q spots no_notes
 come_first i pattern len log outers todo q p z e start = (
   outline pattern no_account [] ∷ [],
   subst (λ l. Each (Shows log outers) l (outline pattern no_account [] ∷ [])) (sym e) (start outers, tt),
   λ lawful checked. subst (λ k. ComesTo i pattern len lawful checked k (outline pattern no_account [] ∷ [])) (sym z) (turned_start i pattern len lawful checked (outline pattern no_account []) refl),
   subst (λ k. FollowsWith i pattern k (outline pattern no_account [] ∷ []) no_notes) (sym z) follows_start,
+  whole_first i pattern q (outline pattern no_account []) z refl,
 )
 
 abbrev pub stack_of : {A : Type 0} (i : Input) (pattern : Ops) (len : ℕ) (lawful : Lawful i len) (checked : Checked pattern) (q size : ℕ) (log : Log) (outers : List (Outer A)) (todo : List (Position A))

@@ -1,5 +1,5 @@
 -- The loop over the stack of positions at a place.
-use Rattle.std.proofs.Common.{ℕ, Bool, ◌+◌, ◌≡◌, ◌<◌, ◌≤◌, true, false, Option, Some, None, option_to_list, List, [], ◌∷◌, ◌++◌, length, reverse, append_assoc, refl, sym, ap, subst, ◌∙◌, arith, length-append}
+use Rattle.std.proofs.Common.{ℕ, Bool, ◌+◌, ◌≡◌, ◌<◌, ◌≤◌, true, false, Option, Some, None, option_to_list, List, [], ◌∷◌, ◌++◌, length, map, reverse, append_assoc, refl, sym, ap, subst, ◌∙◌, arith, length-append}
 use Rattle.std.specs.Prelude.{nat_lt}
 use Rattle.std.specs.List.{filter_map, cons_option}
 use Rattle.std.proofs.lemmas.Bool.{ltb-true, ltb-false}
@@ -7,9 +7,14 @@ use Rattle.std.proofs.lemmas.List.Elements.{filter_map-append}
 use Rattle.mbe_tt.specs.Trees.Tree.{Forest, rest_at}
 use Rattle.mbe_semantics.specs.Readings.Input.{Input}
 use Rattle.mbe_semantics.specs.Syntax.Op.{Ops, no_ops, op}
+use Rattle.mbe_semantics.specs.Syntax.Nullable.{Checked}
+use Rattle.mbe_semantics.specs.Readings.Reading.{Beginning, At}
+use Rattle.mbe_semantics.specs.Laws.Lawful.{Lawful}
+use Rattle.mbe_semantics.specs.Matching.Lists.{In}
+use Rattle.mbe_semantics.specs.Matching.Held.{held}
 use Rattle.mbe_semantics.specs.Bindings.Account.{Log, Handle}
 use Rattle.mbe_semantics.specs.Matching.Dots.{dots, outline_number}
-use Rattle.mbe_semantics.specs.Matching.Outline.{Outline, outline, idle_of, next_of, finished_of}
+use Rattle.mbe_semantics.specs.Matching.Outline.{Outline, outline, erase, idle_of, next_of, finished_of}
 use Rattle.mbe_bounds.specs.Bounded.TwoEach.{times}
 use Rattle.mbe_bounds.specs.Loop.Kept.{kept}
 use Rattle.mbe_bounds.proofs.Loop.TurnedLoop.{KeepsTo, turned_keeps, turned_done, turned_number, turned_drop, turned_take}
@@ -23,6 +28,7 @@ use Rattle.mbe_matcher.specs.declared.report.Report.{Report}
 use Rattle.mbe_matcher.specs.Failures.{Misfit, Notes, misfit, misfit_unless, ops_left, bound_by}
 use Rattle.mbe_matcher.specs.Reports.{IsReportOf}
 use Rattle.mbe_ops.specs.Views.{ops_of}
+use Rattle.mbe_matcher.proofs.Whole.{FillsAll, fills_first, fills_more, fills_whole}
 use Rattle.mbe_matcher.proofs.Reporting.{notes_keep, shown_ops, shown_bound, is_step, step_same}
 use Rattle.mbe_matcher.proofs.Keeping.{each_weaker, each_append, both_each, shows_keep, leads_keep, holds_keep}
 
@@ -92,6 +98,12 @@ pub report_start : {A : Type 0} (i : Input) (q size : ℕ) (log : Log) (outers :
     IsReportOf log f r (filter_map (misfit i q) (walked_start i q size log outers here todo ws hs s e g).out) n
 unfolding walked_start
 report_start i q size log outers here todo ws hs s e g f r n is = is
+
+pub fills_begin : {A : Type 0} (i : Input) (q size : ℕ) (log : Log) (outers : List (Outer A)) (here : Forest) (todo : List (Position A)) (ws : List (Waiting A)) (hs : List Handle)
+    (s : IsStack i q size log outers todo) (e : ws ≡ []) (g : hs ≡ []) (len : ℕ) → Lawful i len →
+    FillsAll i s.pattern q s.spots (walked_start i q size log outers here todo ws hs s e g).stack (walked_start i q size log outers here todo ws hs s e g).out
+unfolding walked_start
+fills_begin i q size log outers here todo ws hs s e g len lawful = fills_first i s.pattern q len lawful s.spots
 
 one_step : {X Y : Type 0} (f : X → Option Y) (x : X) → filter_map f (x ∷ []) ≡ option_to_list (f x)
 one_step {Y = Y} f x = at (f x)
@@ -199,6 +211,11 @@ module _ {A : Type 0} (i : Input) (pattern : Ops) (argument : Forest) (q : ℕ) 
         (subst (λ x. Holds new x (bound_by popped.last)) (sym same) (shown_bound log new outers p popped.last st.kept.log popped.lasts))
         (notes_keep log new f r ms n st.kept.log is))
 
+    pub fills_next : (few : nat_lt (times p.number met) 2 ≡ true) (spots : List Outline) (len : ℕ) → Lawful i len → FillsAll i pattern q spots w.stack w.out →
+        FillsAll i pattern q spots (walked_take few).stack (walked_take few).out
+    unfolding walked_take
+    fills_next few spots len lawful fills = fills_more i pattern q len lawful spots w.stack popped.front w.out popped.last popped.is fills
+
 pub walked_done : {A : Type 0} (i : Input) (q size : ℕ) (old log : Log) (before outers : List (Outer A)) (here : Forest) (first todo : List (Position A)) (met : List ℕ)
     (ws : List (Waiting A)) (hs : List Handle) (s : IsStack i q size old before first) → todo ≡ [] →
     (w : Walked i s.pattern q (kept i (dots s.pattern) q (reverse s.spots)) met log outers here todo ws hs) → w.out ≡ kept i (dots s.pattern) q (reverse s.spots)
@@ -217,6 +234,16 @@ walked_end i q size old log before outers here first todo met ws hs s e w =
       goes_on = subst (λ l. Each (LeadsTo log outers here) ws (filter_map (next_of i q) l)) done w.goes_on;
       ended = subst (λ l. Each (Holds log) hs (filter_map finished_of l)) done w.ended;
     }
+
+pub fills_done : {A : Type 0} (i : Input) (q size : ℕ) (old log : Log) (before outers : List (Outer A)) (here : Forest) (first todo : List (Position A)) (met : List ℕ)
+    (ws : List (Waiting A)) (hs : List Handle) (s : IsStack i q size old before first) → todo ≡ [] →
+    (w : Walked i s.pattern q (kept i (dots s.pattern) q (reverse s.spots)) met log outers here todo ws hs) (len : ℕ) → Lawful i len → FillsAll i s.pattern q s.spots w.stack w.out →
+    Checked s.pattern → (xs : List Beginning) → ((x : Beginning) → In x xs → At i s.pattern q x) → map erase xs ≡ reverse s.spots →
+    kept i (dots s.pattern) q (reverse s.spots) ≡ map erase (held i q xs)
+fills_done i q size old log before outers here first todo met ws hs s e w len lawful fills =
+    fills_whole i s.pattern q len lawful s.spots w.stack w.out (kept i (dots s.pattern) q (reverse s.spots))
+    (each_none (Shows log outers) w.stack (subst (λ l. Each (Shows log outers) l w.stack) e w.shown))
+    (walked_done i q size old log before outers here first todo met ws hs s e w) fills
 
 -- ---- how many there are
 

@@ -1,8 +1,8 @@
 -- What positions report on the way.
-use Rattle.std.specs.Prelude.{ℕ, ◌≡◌, ◌==◌, Option, Some, None, List, [], reverse}
+use Rattle.std.specs.Prelude.{ℕ, ◌≡◌, ◌==◌, Option, Some, None, false, List, [], map, reverse}
 use Rattle.mbe_tt.specs.declared.span.DelimSpan.{DelimSpan}
 use Rattle.mbe_tt.specs.Trees.Tree.{Forest, flat_len, rest_at}
-use Rattle.mbe_semantics.specs.Bindings.Account.{Log, Handle, HasEntriesOf}
+use Rattle.mbe_semantics.specs.Bindings.Account.{Commands, Log, Handle, HasEntriesOf}
 use Rattle.mbe_semantics.specs.Expansion.Error.{ExpandError}
 use Rattle.mbe_semantics.specs.Readings.Verdict.{Verdict, stop_of}
 use Rattle.mbe_tt.specs.Views.View.{trees}
@@ -10,18 +10,23 @@ use Rattle.mbe_tt.specs.Fragments.Grammar.{Grammar}
 use Rattle.mbe_semantics.specs.Syntax.Op.{Ops}
 use Rattle.mbe_semantics.specs.Readings.Input.{input_of}
 use Rattle.mbe_semantics.specs.Matching.Dots.{dots}
-use Rattle.mbe_semantics.specs.Matching.Outline.{Outline}
+use Rattle.mbe_semantics.specs.Syntax.Nullable.{Checked}
+use Rattle.mbe_semantics.specs.Readings.Reading.{Beginning, At}
+use Rattle.mbe_semantics.specs.Matching.Held.{held}
+use Rattle.mbe_semantics.specs.Matching.Lists.{In}
+use Rattle.mbe_semantics.specs.Matching.Outline.{Outline, erase}
 use Rattle.mbe_bounds.specs.Loop.Kept.{kept as kept_at}
 use Rattle.mbe_ops.specs.Views.{op_of}
 use Rattle.mbe_matcher.specs.declared.source.Source.{Source as Argument}
+use Rattle.mbe_matcher.specs.declared.places.Reached.{Reached}
 use Rattle.mbe_matcher.specs.declared.settle.Settled.{Settled}
 use Rattle.mbe_matcher.specs.declared.settle.State.{State}
 use Rattle.mbe_matcher.specs.declared.report.Misfit as kept
 use Rattle.mbe_matcher.specs.declared.report.Report.{Report}
 use Rattle.mbe_matcher.specs.declared.report.Last.{Last}
 use Rattle.mbe_matcher.specs.Positions.{Both, Holds}
-use Rattle.mbe_matcher.specs.Matched.{AreSettledAt}
-use Rattle.mbe_matcher.specs.Failures.{Misfit, Source, failed, ended, Notes, is_any, or_first, source_of, noted_at, AreFollowedNotes, error_of_notes, commands_of_notes}
+use Rattle.mbe_matcher.specs.Matched.{AreSettledAt, verdict_in}
+use Rattle.mbe_matcher.specs.Failures.{Misfit, Source, failed, ended, Notes, is_any, or_first, source_of, noted_at, AreNotes, AreFollowedNotes, Reports, error_of_notes, commands_of_notes}
 
 -- what is to be reported of the bindings is in the log
 abbrev pub IsLast : {A : Type 0} → Log → Option (Last A) → Type 0
@@ -56,14 +61,26 @@ NotesPlace g source pattern spots old new before after =
     IsReportOf new (trees source.whole) after.report []
     (noted_at (input_of g (trees source.whole)) source.place (kept_at (input_of g (trees source.whole)) (dots pattern) source.place (reverse spots)) notes)
 
+-- All positions are followed there: those that are dropped are none.
+abbrev pub FollowsAll : {A : Type 0} → Grammar → Argument A → Ops → List Outline → Type 0
+FollowsAll g source pattern spots =
+    Checked pattern → (xs : List Beginning) → ((x : Beginning) → In x xs → At (input_of g (trees source.whole)) pattern source.place x) → map erase xs ≡ reverse spots →
+    kept_at (input_of g (trees source.whole)) (dots pattern) source.place (reverse spots) ≡ map erase (held (input_of g (trees source.whole)) source.place xs)
+
 -- The steps of the positions are followed, two of each dot, and the place is noted.
 pub record Settles {A : Type 0} (g : Grammar) (source : Argument A) (pattern : Ops) (spots : List Outline) (old new : Log) (before after : State A) (settled : Settled A) : Type 0 where
   pub steps : AreSettledAt g source pattern spots new after settled
   pub notes : NotesPlace g source pattern spots old new before after
+  pub all : after.has_dropped ≡ false → (before.has_dropped ≡ false) × FollowsAll g source pattern spots
 
 -- a report of what was noted up to the place, with the positions that are followed
 abbrev pub IsReportAt : {A : Type 0} → Grammar → Ops → Forest → Log → ℕ → Report A → Type 0
 IsReportAt g pattern argument log q r = (notes : Notes) × AreFollowedNotes (input_of g argument) pattern q notes × IsReportOf log argument r [] notes
+
+-- The report where the positions stop. If no third position of a dot was dropped, it is that of all beginnings.
+pub record IsReportIn {A : Type 0} (g : Grammar) (pattern : Ops) (argument : Forest) (log : Log) (r : Reached A) : Type 0 where
+  pub followed : IsReportAt g pattern argument log (stop_of argument (verdict_in r.stop)) r.report
+  pub all : r.has_dropped ≡ false → AreNotes (input_of g argument) pattern (stop_of argument (verdict_in r.stop)) followed.0
 
 -- What a match without an only reading returns, beside its verdict: why, and what was bound, as the positions that are followed have it.
 pub record IsReported (g : Grammar) (pattern : Ops) (argument : Forest) (around : DelimSpan) (log : Log) (v : Verdict) (err : ExpandError) (h : Handle) : Type 0 where
@@ -71,3 +88,7 @@ pub record IsReported (g : Grammar) (pattern : Ops) (argument : Forest) (around 
   pub noted : AreFollowedNotes (input_of g argument) pattern (stop_of argument v) notes
   pub error : err ≡ error_of_notes g argument around (stop_of argument v == flat_len argument) notes
   pub bindings : Holds log h (commands_of_notes g argument notes.last)
+
+-- the same, as all beginnings have it
+abbrev pub IsReportedOfAll : Grammar → Ops → Forest → DelimSpan → Log → Verdict → ExpandError → Handle → Type 0
+IsReportedOfAll g pattern argument around log v err h = (bound : Commands) × Holds log h bound × Reports g pattern argument around v err bound

@@ -31,7 +31,7 @@
 //         2          q           4   4, over `q` by fragment
 //         3          ;        3  2   2, over `;`
 //         4                      1   none: the pattern ends, and so does the argument: one reading
-ghost use Rattle.std.specs.Prelude.{◌≡◌, ◌==◌, ◌↔◌, IsNone, IsSome, IfOk, IfSome, OnOk};
+ghost use Rattle.std.specs.Prelude.{◌≡◌, ◌==◌, ◌↔◌, false, IsNone, IsSome, IfOk, IfSome, OnOk};
 ghost use Rattle.mbe_tt.specs.Trees.Tree.{Forest, flat_len};
 ghost use Rattle.mbe_tt.specs.Views.View.{trees};
 ghost use Rattle.mbe_semantics.specs.Syntax.Op.{Ops};
@@ -42,7 +42,7 @@ ghost use Rattle.mbe_errors.specs.ErrorViews.{errors_of};
 ghost use Rattle.mbe_log.specs.Shared.{IsKept};
 ghost use Rattle.mbe_ops.specs.Views.{template_of};
 ghost use Rattle.mbe_matcher.specs.Matched.{verdict_seen, verdict_in, Binds};
-ghost use Rattle.mbe_matcher.specs.Reports.{IsReport, IsReportAt, IsReported};
+ghost use Rattle.mbe_matcher.specs.Reports.{IsReport, IsReportIn, IsReported, IsReportedOfAll};
 
 use crate::places::{Reached, Stop, reach};
 use mbe_errors::error::ExpandError;
@@ -155,15 +155,20 @@ fn failed<'a, A: Allocator + Copy, G: FragmentGrammar>(
     ensures err { IfOk result (λ m. IsSome (errors_of m.err)) }
     ensures kept { (first : Log) → IsKept first log.old → OnOk result (IsKept first log.new) }
     ensures reports { (pattern : Ops) (f : Forest) → flat_len f ≡ length
-        → IsReportAt (G.grammar grammar.now) pattern f log.old
-        (stop_of f (verdict_in reached.entry.stop)) reached.entry.report
+        → IsReportIn (G.grammar grammar.now) pattern f log.old reached.entry
         → IfOk result (λ m. IfSome (errors_of m.err) (λ e. IsReported (G.grammar grammar.now)
+        pattern f around log.new (verdict_in reached.entry.stop) e m.bindings)) }
+    ensures all { (pattern : Ops) (f : Forest) → flat_len f ≡ length
+        → IsReportIn (G.grammar grammar.now) pattern f log.old reached.entry
+        → reached.entry.has_dropped ≡ false
+        → IfOk result (λ m. IfSome (errors_of m.err) (λ e. IsReportedOfAll (G.grammar grammar.now)
         pattern f around log.new (verdict_in reached.entry.stop) e m.bindings)) }
 {
     let Reached {
         stop,
         unmatched,
         report,
+        has_dropped: _,
     } = reached;
     let err = report.error(alloc, grammar, around, is_at_end(&stop, length))?;
     let bindings = report.bindings(grammar, log)?;

@@ -3,12 +3,12 @@ ghost use Rattle.std.specs.Prelude.{◌≡◌, ◌+◌, ◌≤◌, ◌∷◌, �
 ghost use Rattle.mbe_tt.specs.Trees.Tree.{flat_len, rest_at};
 ghost use Rattle.mbe_tt.specs.Views.View.{trees};
 ghost use Rattle.mbe_semantics.specs.Syntax.Nullable.{Checked};
-ghost use Rattle.mbe_semantics.specs.Readings.Verdict.{IsVerdict, stop_of, unmatched};
+ghost use Rattle.mbe_semantics.specs.Readings.Verdict.{IsVerdict, unmatched};
 ghost use Rattle.mbe_semantics.specs.Matching.Dots.{dots};
 ghost use Rattle.mbe_log.specs.Shared.{IsKept};
 ghost use Rattle.mbe_ops.specs.Views.{template_of};
 ghost use Rattle.mbe_matcher.specs.Positions.{IsLeft};
-ghost use Rattle.mbe_matcher.specs.Reports.{IsReportAt};
+ghost use Rattle.mbe_matcher.specs.Reports.{IsReportIn};
 ghost use Rattle.mbe_matcher.specs.Matched.{IsAtStart, is_clash, clashes_with, position_after, ends_as, stop_at, verdict_in, reading_in, Binds};
 
 use crate::position::{Position, Todo, Waiting};
@@ -41,6 +41,8 @@ pub(crate) struct Reached<'a, A: Allocator = Global> {
     pub(crate) stop: Stop,
     pub(crate) unmatched: usize,
     pub(crate) report: Report<'a, A>,
+    // Whether a third position of a dot was dropped.
+    pub(crate) has_dropped: bool,
 }
 
 // Whether one goes on by fragment, or over another number of flat tokens than that.
@@ -171,8 +173,8 @@ pub(crate) fn reach<'a, A: Allocator + Copy, G: FragmentGrammar>(
     ensures binds { IfOk result (λ r. IfSome (reading_in r.stop)
         (Binds (G.grammar grammar.now) (template_of pattern.now) (trees argument.entry) log.new)) }
     ensures kept { OnOk result (IsKept log.old log.new) }
-    ensures notes { IfOk result (λ r. IsReportAt (G.grammar grammar.now) (template_of pattern.now)
-        (trees argument.entry) log.new (stop_of (trees argument.entry) (verdict_in r.stop)) r.report) }
+    ensures notes { IfOk result (IsReportIn (G.grammar grammar.now) (template_of pattern.now)
+        (trees argument.entry) log.new) }
 {
     let dots = dots_of(&pattern.0).ok_or(AllocError)?;
     let mut state = State::new(alloc, dots)?;
@@ -184,11 +186,11 @@ pub(crate) fn reach<'a, A: Allocator + Copy, G: FragmentGrammar>(
     loop {
         settle(grammar, &source, log, &mut state, &mut todo, &mut settled)?;
         if let Some(stop) = stopped(&source, &settled.waiting, &settled.ends) {
-            let unmatched = source.trees_left();
             return Ok(Reached {
                 stop,
-                unmatched,
+                unmatched: source.trees_left(),
                 report: state.report,
+                has_dropped: state.has_dropped,
             });
         }
         source = after_step(source, &settled.waiting[0])?;

@@ -1,5 +1,5 @@
 // All steps at one place over no flat token.
-ghost use Rattle.std.specs.Prelude.{◌≡◌, ◌+◌, ◌++◌, ◌≤◌, [], length, option_to_list, IfOk, OnOk};
+ghost use Rattle.std.specs.Prelude.{◌≡◌, ◌+◌, ◌++◌, ◌≤◌, [], false, length, option_to_list, IfOk, OnOk};
 ghost use Rattle.mbe_semantics.specs.Bindings.Account.{Log};
 ghost use Rattle.mbe_matcher.specs.Counts.{AreBlankFrom};
 ghost use Rattle.mbe_matcher.specs.States.{KeepsState};
@@ -48,6 +48,9 @@ pub(crate) struct State<'a, A: Allocator = Global> {
     pub(crate) outers: Vec<Outer<'a, A>, A>,
     pub(crate) counts: Counts<A>,
     pub(crate) report: Report<'a, A>,
+    // Whether a third position of a dot was dropped at some place. Until then the positions that are
+    // followed are all that there are.
+    pub(crate) has_dropped: bool,
 }
 
 impl<'a, A: Allocator + Copy> State<'a, A> {
@@ -57,11 +60,13 @@ impl<'a, A: Allocator + Copy> State<'a, A> {
         ensures blank { IfOk result (λ s. AreBlankFrom s.counts.marks.items 0) }
         ensures notes { (log : Log) (f : Forest)
             → IfOk result (λ s. IsReportOf log f s.report [] no_notes) }
+        ensures dropped { IfOk result (λ s. s.has_dropped ≡ false) }
     {
         Ok(State {
             outers: Vec::new(alloc),
             counts: Counts::new(alloc, dots)?,
             report: Report::new(),
+            has_dropped: false,
         })
     }
 }
@@ -94,9 +99,8 @@ pub(crate) fn settle<'a, A: Allocator + Copy, G: FragmentGrammar>(
     requires stack { IsStackAt (G.grammar grammar.now) source.now log.old state.old todo.old.items }
     requires blank { AreBlankFrom state.old.counts.marks.items source.now.place }
     ensures settled { (s : IsStackAt (G.grammar grammar.now) source.now
-        log.old state.old todo.old.items) → OnOk result
-        (Settles (G.grammar grammar.now) source.now s.pattern s.spots
-        log.old log.new state.old state.new settled.new) }
+        log.old state.old todo.old.items) → OnOk result (Settles (G.grammar grammar.now)
+        source.now s.pattern s.spots log.old log.new state.old state.new settled.new) }
     ensures few { OnOk result (length settled.new.waiting.items + length settled.new.ends.items
         ≤ dots_in state.old + dots_in state.old) }
     ensures kept { OnOk result (KeepsState log.old log.new state.old state.new) }
@@ -108,6 +112,7 @@ pub(crate) fn settle<'a, A: Allocator + Copy, G: FragmentGrammar>(
     settled.ends.clear();
     while let Some(position) = todo.pop() {
         if !state.counts.takes(position.number, source.place) {
+            state.has_dropped = true;
             continue;
         }
         let dot = position.dot;

@@ -15,7 +15,7 @@ use Rattle.mbe_matcher.proofs.matching.match_argument.Goals as goal
 pub failed-requires : goal.failed-requires
 failed-requires g c =
     let is = c.in_ok-reached.ensures.notes in
-    report_entries c.reach.new.log (trees c.args.argument) c.in_ok-reached.reached.report [] is.0 is.2
+    report_entries c.reach.new.log (trees c.args.argument) c.in_ok-reached.reached.report [] is.followed.0 is.followed.2
 
 pub returns-in-OneReading-clause-entries : goal.returns-in-OneReading-clause-entries
 returns-in-OneReading-clause-entries g c =

@@ -3,7 +3,7 @@ use Rattle.std.specs.Prelude.{IfSome}
 use Rattle.mbe_tt.specs.Views.View.{trees}
 use Rattle.mbe_tt.specs.Trees.Tree.{flat_len, tree_count, rest_at}
 use Rattle.mbe_semantics.specs.Readings.Input.{input_of}
-use Rattle.mbe_semantics.specs.Readings.Verdict.{IsVerdict, stop_of, unmatched}
+use Rattle.mbe_semantics.specs.Readings.Verdict.{IsVerdict, unmatched}
 use Rattle.mbe_semantics.specs.Laws.Lawful.{Lawful}
 use Rattle.mbe_semantics.specs.Matching.Dots.{dots}
 use Rattle.mbe_semantics.specs.Matching.Settled.{after_of}
@@ -13,12 +13,14 @@ use Rattle.mbe_ops.specs.Views.{ops_of, template_of}
 use Rattle.mbe_log.proofs.ClientLemmas.{kept-on}
 use Rattle.mbe_bounds.specs.Loop.Kept.{kept, kept_moves}
 use Rattle.mbe_bounds.proofs.Loop.TurnedPlaces.{ComesTo}
+use Rattle.mbe_matcher.specs.declared.places.Reached.{Reached}
 use Rattle.mbe_matcher.specs.declared.position.Waiting.{Waiting}
 use Rattle.mbe_matcher.specs.Positions.{Each, Shows, IsLeft}
-use Rattle.mbe_matcher.specs.Failures.{no_notes, noted_at, FollowsWith, follows_next, AreFollowedNotes}
-use Rattle.mbe_matcher.specs.Reports.{IsReportOf, IsReportAt}
+use Rattle.mbe_matcher.specs.Failures.{no_notes, noted_at, FollowsWith, follows_next, AreNotes, AreFollowedNotes}
+use Rattle.mbe_matcher.specs.Reports.{IsReportOf, IsReportIn}
 use Rattle.mbe_matcher.specs.Matched.{position_after, stop_at, verdict_in, reading_in, Binds}
 use Rattle.mbe_matcher.proofs.MatchEnds.{right_stop, stop_place, binds_stop, next, come_first, stack_of, shown_after}
+use Rattle.mbe_matcher.proofs.Whole.{WholeWith, whole_sound, whole_notes, whole_after}
 use Rattle.mbe_matcher.proofs.places.reach.Goals as goal
 
 pub at_start-requires : goal.at_start-requires
@@ -37,7 +39,15 @@ loop-source-init g c =
     let first = come_first (input_of h (trees s.whole)) pat (flat_len (trees s.whole)) c.at_start.new.log c.in_ok-state.state.outers.items c.push.new.self.items s.place p c.new-source.ensures.place one
     c.in_ok-position.ensures.start in
     record {
-      comes = (first.0, first.1, first.2, no_notes, first.3, c.in_ok-state.ensures.notes c.at_start.new.log (trees s.whole));
+      comes = (
+        first.0,
+        first.1,
+        first.2,
+        no_notes,
+        first.3,
+        c.in_ok-state.ensures.notes c.at_start.new.log (trees s.whole),
+        λ clean. first.4,
+      );
       whole = c.new-source.ensures.whole;
       blank = λ q l. c.in_ok-state.ensures.blank q (omega arith);
       size = c.in_ok-state.ensures.size ∙ all;
@@ -102,8 +112,8 @@ returns-in-Some-clause-unmatched g c =
     let e : Some v ≡ stop_at s.place len ws hs =
     c.in-Some.ensures.stop ∙ ap (λ l. stop_at s.place len l c.deref-in-loop-source-2.result.now) waits ∙ ap (stop_at s.place len ws) ends in
     let stop = stop_place h pat (trees s.whole) w c.requires s.place inv.comes.0 come s.within log outers ws hs st v e in
-    subst (λ x. c.trees_left-unmatched.result ≡ unmatched (trees x) v) inv.whole
-    (c.trees_left-unmatched.ensures ∙ ap (λ (n : ℕ). tree_count (rest_at (trees s.whole) n)) (sym stop))
+    subst (λ x. c.trees_left.result ≡ unmatched (trees x) v) inv.whole
+    (c.trees_left.ensures ∙ ap (λ (n : ℕ). tree_count (rest_at (trees s.whole) n)) (sym stop))
 
 pub returns-in-Some-clause-binds : goal.returns-in-Some-clause-binds
 returns-in-Some-clause-binds g c =
@@ -280,6 +290,12 @@ loop-source-preserved g c =
         subst (λ x. FollowsWith (input_of h (trees x)) pat c.in_ok-source.source.place new noted) (sym c.in_ok-source.ensures.whole)
             (follows_next s.place c.in_ok-source.source.place n.first.width inv.comes.0 inv.comes.3 inv.comes.4 n.goes_over n.agrees at),
         subst (λ x. IsReportOf log (trees x) c.settle.new.state.report [] noted) (sym c.in_ok-source.ensures.whole) ((c.in_ok-settle.ensures.settled stack).notes inv.comes.3 inv.comes.5),
+        λ clean.
+            let follows = (c.in_ok-settle.ensures.settled stack).all clean in
+            let was = inv.comes.6 follows.0 in
+            let all = follows.1 c.requires was.xs (whole_sound i pat len w c.requires s.place inv.comes.0 inv.comes.3 was) was.same in
+            subst (λ x. WholeWith (input_of h (trees x)) pat c.in_ok-source.source.place new noted) (sym c.in_ok-source.ensures.whole)
+            (whole_after i pat len w c.requires s.place inv.comes.0 inv.comes.3 was all c.in_ok-source.source.place n.first.width n.goes_over n.agrees at),
       );
       whole = c.in_ok-source.ensures.whole ∙ inv.whole;
       blank = λ q l. c.in_ok-settle.ensures.blank q (omega (arith, l, at, some));
@@ -311,4 +327,14 @@ returns-in-Some-clause-notes g c =
     let stop = stop_place h pat (trees s.whole) w c.requires s.place inv.comes.0 come s.within log outers ws hs st v e in
     let noted = noted_at i s.place (kept i (dots pat) s.place (reverse inv.comes.0)) inv.comes.3 in
     let are = subst (λ k. AreFollowedNotes i pat k noted) (sym stop) (inv.comes.0, inv.comes.3, inv.comes.4, refl) in
-    subst (λ x. IsReportAt h pat (trees x) log (stop_of (trees x) v) c.settle.new.state.report) inv.whole (noted, are, (c.in_ok-settle.ensures.settled stack).notes inv.comes.3 inv.comes.5)
+    let settled = c.in_ok-settle.ensures.settled stack in
+    let reached : Reached g.row.A.Denot = record { stop = c.in-Some.stop; unmatched = c.trees_left.result; report = c.settle.new.state.report; has_dropped = c.settle.new.state.has_dropped } in
+    subst (λ x. IsReportIn h pat (trees x) log reached) inv.whole
+    (record {
+      followed = (noted, are, settled.notes inv.comes.3 inv.comes.5);
+      all = λ clean.
+          let follows = settled.all clean in
+          let was = inv.comes.6 follows.0 in
+          let all = follows.1 c.requires was.xs (whole_sound i pat len w c.requires s.place inv.comes.0 inv.comes.3 was) was.same in
+          subst (λ k. AreNotes i pat k noted) (sym stop) (whole_notes i pat len w c.requires s.place inv.comes.0 inv.comes.3 was all);
+    })

@@ -1,4 +1,4 @@
-use Rattle.std.proofs.Common.{◌≡◌, ◌-◌, List, [], length}
+use Rattle.std.proofs.Common.{◌≡◌, ◌-◌, false, List, [], length}
 use Rattle.mbe_tt.specs.Views.View.{trees}
 use Rattle.mbe_tt.specs.Trees.Tree.{flat_len}
 use Rattle.mbe_semantics.specs.Laws.Lawful.{Lawful}
@@ -13,6 +13,7 @@ use Rattle.mbe_matcher.specs.Counts.{AreBlankFrom}
 use Rattle.mbe_matcher.specs.Positions.{Each, Shows}
 use Rattle.mbe_matcher.specs.Failures.{Notes, FollowsWith}
 use Rattle.mbe_matcher.specs.Reports.{IsReportOf}
+use Rattle.mbe_matcher.proofs.Whole.{WholeWith}
 use Rattle.mbe_matcher.proofs.places.reach.Given as goal
 
 abbrev pub invariant-loop-source : goal.invariant-loop-source
@@ -21,7 +22,8 @@ invariant-loop-source g l = record {
       × ((lawful : Lawful (input_of (g.G.FragmentGrammar.grammar l.grammar) (trees l.source.whole)) (flat_len (trees l.source.whole))) (checked : Checked (template_of l.pattern)) →
       ComesTo (input_of (g.G.FragmentGrammar.grammar l.grammar) (trees l.source.whole)) (template_of l.pattern) (flat_len (trees l.source.whole)) lawful checked l.source.place spots)
       × (before : Notes) × FollowsWith (input_of (g.G.FragmentGrammar.grammar l.grammar) (trees l.source.whole)) (template_of l.pattern) l.source.place spots before
-      × IsReportOf l.log (trees l.source.whole) l.state.report [] before;
+      × IsReportOf l.log (trees l.source.whole) l.state.report [] before
+      × (l.state.has_dropped ≡ false → WholeWith (input_of (g.G.FragmentGrammar.grammar l.grammar) (trees l.source.whole)) (template_of l.pattern) l.source.place spots before);
   whole : l.source.whole ≡ l.argument;
   blank : AreBlankFrom l.state.counts.marks.items l.source.place;
   size : length l.state.counts.marks.items ≡ dots (template_of l.pattern);

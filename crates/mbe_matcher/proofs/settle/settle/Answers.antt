@@ -1,15 +1,16 @@
-use Rattle.std.proofs.Common.{◌≡◌, ◌+◌, ◌≤◌, ◌++◌, ◌∷◌, ◌∙◌, [], length, reverse, option_to_list, length-append, refl, sym, ap, subst, arith}
-use Rattle.mbe_tt.specs.Trees.Tree.{rest_at}
+use Rattle.std.proofs.Common.{◌≡◌, ◌+◌, ◌≤◌, ◌++◌, ◌∷◌, ◌∙◌, true, false, [], length, reverse, option_to_list, length-append, refl, sym, ap, subst, arith}
+use Rattle.mbe_tt.specs.Trees.Tree.{flat_len, rest_at}
 use Rattle.mbe_tt.specs.Views.View.{trees}
 use Rattle.mbe_semantics.specs.Matching.Dots.{dots}
 use Rattle.mbe_semantics.specs.Readings.Input.{input_of}
+use Rattle.mbe_semantics.proofs.InputLemmas.{lawful_input}
 use Rattle.mbe_bounds.specs.Bounded.TwoEach.{cons_if}
 use Rattle.mbe_bounds.specs.Loop.Kept.{kept}
 use Rattle.mbe_matcher.specs.declared.counts.Counts.{Counts}
 use Rattle.mbe_matcher.specs.Counts.{AreCounted, vacancies}
 use Rattle.mbe_matcher.proofs.Counting.{vacancies_most}
 use Rattle.mbe_matcher.proofs.Keeping.{keeps_not, keeps_on}
-use Rattle.mbe_matcher.proofs.Settling.{walked_start, popped_shown, popped_number, walked_drop, walked_take, walked_end, walked_done, report_start, report_drop, report_take, steps_few, few_on, stack_falls, popped_all}
+use Rattle.mbe_matcher.proofs.Settling.{walked_start, popped_shown, popped_number, walked_drop, walked_take, walked_end, walked_done, report_start, report_drop, report_take, fills_begin, fills_next, fills_done, steps_few, few_on, stack_falls, popped_all}
 use Rattle.std.specs.List.{filter_map}
 use Rattle.mbe_semantics.specs.Matching.Outline.{finished_of}
 use Rattle.mbe_matcher.specs.Positions.{Each, Holds}
@@ -24,6 +25,7 @@ loop-position-init g c =
     let none = ap length c.clear.ensures.items in
     let no_ends = ap length c.clear-2.ensures.items in
     let most = vacancies_most s.place c.args.state.now.counts.marks.items in
+    let lawful = lawful_input (g.G.FragmentGrammar.grammar c.args.grammar.now) (trees s.whole) (g.met.G.FragmentGrammar.lawful c.args.grammar.now) in
     record {
       keeps = keeps_not c.args.log.now c.args.state.now.outers.items;
       blank = λ q l. c.requires.blank q (omega arith);
@@ -37,6 +39,11 @@ loop-position-init g c =
               c.args.todo.now.items c.clear.new.self.items c.clear-2.new.self.items st c.clear.ensures.items c.clear-2.ensures.items,
           λ n r. report_start i s.place (length c.args.state.now.counts.marks.items) c.args.log.now c.args.state.now.outers.items (rest_at (trees s.whole) s.place)
               c.args.todo.now.items c.clear.new.self.items c.clear-2.new.self.items st c.clear.ensures.items c.clear-2.ensures.items (trees s.whole) c.args.state.now.report n r,
+          λ clean. (
+            clean,
+            fills_begin i s.place (length c.args.state.now.counts.marks.items) c.args.log.now c.args.state.now.outers.items (rest_at (trees s.whole) s.place)
+                c.args.todo.now.items c.clear.new.self.items c.clear-2.new.self.items st c.clear.ensures.items c.clear-2.ensures.items (flat_len (trees s.whole)) lawful,
+          ),
         ),
       );
     }
@@ -86,6 +93,7 @@ loop-position-preserved-then-not-takes g c =
           λ n r. report_drop i st.pattern (trees s.whole) s.place (kept i (dots st.pattern) s.place (reverse st.spots)) met c.loop-position.log c.loop-position.state.outers.items
               c.pop.new.self.items c.loop-position.todo.items c.in-Some.position c.loop-position.settled.waiting.items c.loop-position.settled.ends.items c.in-Some.ensures.items (inv.walked.2 st).0
               (sym counted.0 ∙ c.if-not-takes.true) (trees s.whole) c.loop-position.state.report n ((inv.walked.2 st).1 n r),
+          λ clean. let no : true ≡ false = clean in cc,
         ),
       );
     }
@@ -125,6 +133,7 @@ loop-position-preserved g c =
     let met = inv.walked.0 in
     let counted = c.takes.ensures.counted met inv.walked.1 in
     let taken = c.if-not-takes.false in
+    let lawful = lawful_input (g.G.FragmentGrammar.grammar c.args.grammar.now) (trees s.whole) (g.met.G.FragmentGrammar.lawful c.args.grammar.now) in
     let pushed = c.in_ok-push_some-2.ensures ∙ ap (λ l. l ++ option_to_list f.first) c.in_ok-push_some.ensures in
     let st = c.requires.stack in
     let is = popped_shown i st.pattern (trees s.whole) s.place (kept i (dots st.pattern) s.place (reverse st.spots)) met c.loop-position.log c.loop-position.state.outers.items c.pop.new.self.items
@@ -151,6 +160,14 @@ loop-position-preserved g c =
               c.pop.new.self.items c.loop-position.todo.items c.in-Some.position c.loop-position.settled.waiting.items c.loop-position.settled.ends.items c.in-Some.ensures.items (inv.walked.2 st).0
               c.steps.new.log c.steps.new.outers.items f c.push_some-in-Some.new.values.items c.push_some-in-Some-2.new.values.items c.push_some-in-Some-3.new.values.items
               c.in_ok-found.ensures pushed c.in_ok-push_some-3.ensures c.in_ok-push_some-4.ensures (sym counted.0 ∙ taken) (trees s.whole) c.loop-position.state.report c.looked_at.new.self n c.is_some.result c.again-handle.result c.is_some.ensures c.again-handle.ensures c.looked_at.ensures ((inv.walked.2 st).1 n r),
+          λ clean.
+              let was = (inv.walked.2 st).2 clean in (
+                was.0,
+                fills_next i st.pattern (trees s.whole) s.place (kept i (dots st.pattern) s.place (reverse st.spots)) met c.loop-position.log c.loop-position.state.outers.items
+                    c.pop.new.self.items c.loop-position.todo.items c.in-Some.position c.loop-position.settled.waiting.items c.loop-position.settled.ends.items c.in-Some.ensures.items (inv.walked.2 st).0
+                    c.steps.new.log c.steps.new.outers.items f c.push_some-in-Some.new.values.items c.push_some-in-Some-2.new.values.items c.push_some-in-Some-3.new.values.items
+                    c.in_ok-found.ensures pushed c.in_ok-push_some-3.ensures c.in_ok-push_some-4.ensures (sym counted.0 ∙ taken) st.spots (flat_len (trees s.whole)) lawful was.1,
+              ),
         ),
       );
     }
@@ -172,4 +189,11 @@ returns-clause-settled g c = λ st.
           c.args.todo.now.items c.loop-position.todo.items inv.walked.0 c.loop-position.settled.waiting.items c.loop-position.settled.ends.items st empty w;
       notes = λ n r. c.after_place.ensures c.loop-position.log (trees s.whole) (filter_map (misfit i s.place) all) (filter_map finished_of all) n (rw c.deref.ensures ended)
           (subst (λ l. IsReportOf c.loop-position.log (trees s.whole) c.loop-position.state.report (filter_map (misfit i s.place) l) n) done ((inv.walked.2 st).1 n r));
+      all = λ clean.
+          let was = (inv.walked.2 st).2 clean in (
+            was.0,
+            fills_done i s.place size c.args.log.now c.loop-position.log c.args.state.now.outers.items c.loop-position.state.outers.items (rest_at (trees s.whole) s.place)
+                c.args.todo.now.items c.loop-position.todo.items inv.walked.0 c.loop-position.settled.waiting.items c.loop-position.settled.ends.items st empty w
+                (flat_len (trees s.whole)) (lawful_input (g.G.FragmentGrammar.grammar c.args.grammar.now) (trees s.whole) (g.met.G.FragmentGrammar.lawful c.args.grammar.now)) was.1,
+          );
     }

@@ -1,4 +1,4 @@
-use Rattle.std.proofs.Common.{◌≡◌, ◌+◌, ◌≤◌, ℕ, List, [], length, reverse}
+use Rattle.std.proofs.Common.{◌≡◌, ◌+◌, ◌≤◌, ℕ, false, List, [], length, reverse}
 use Rattle.std.specs.List.{filter_map}
 use Rattle.mbe_tt.specs.Trees.Tree.{rest_at}
 use Rattle.mbe_tt.specs.Views.View.{trees}
@@ -11,6 +11,7 @@ use Rattle.mbe_matcher.specs.Matched.{IsStack}
 use Rattle.mbe_matcher.specs.Failures.{Notes, misfit}
 use Rattle.mbe_matcher.specs.Reports.{IsReportOf}
 use Rattle.mbe_matcher.proofs.Settling.{Walked}
+use Rattle.mbe_matcher.proofs.Whole.{FillsAll}
 use Rattle.mbe_matcher.proofs.settle.settle.Given as goal
 
 abbrev pub invariant-loop-position : goal.invariant-loop-position
@@ -26,7 +27,9 @@ invariant-loop-position g l = record {
       (kept (input_of (g.G.FragmentGrammar.grammar l.grammar) (trees l.source.whole)) (dots s.pattern) l.source.place (reverse s.spots))
       met l.log l.state.outers.items (rest_at (trees l.source.whole) l.source.place) l.todo.items l.settled.waiting.items l.settled.ends.items)
       × ((n : Notes) → IsReportOf l.fn.log (trees l.source.whole) l.fn.state.report [] n →
-      IsReportOf l.log (trees l.source.whole) l.state.report (filter_map (misfit (input_of (g.G.FragmentGrammar.grammar l.grammar) (trees l.source.whole)) l.source.place) w.out) n));
+      IsReportOf l.log (trees l.source.whole) l.state.report (filter_map (misfit (input_of (g.G.FragmentGrammar.grammar l.grammar) (trees l.source.whole)) l.source.place) w.out) n)
+      × (l.state.has_dropped ≡ false → (l.fn.state.has_dropped ≡ false)
+      × FillsAll (input_of (g.G.FragmentGrammar.grammar l.grammar) (trees l.source.whole)) s.pattern l.source.place s.spots w.stack w.out));
 }
 
 abbrev pub decreases-loop-position : goal.decreases-loop-position
