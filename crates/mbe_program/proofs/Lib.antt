@@ -1,3 +1,4 @@
+pub mod Both
 pub mod EditionLemmas
 pub mod LintLemmas
 pub mod MarkLemmas

@@ -1,5 +1,5 @@
 -- How a run ends without an expansion, and what a writer that is flushed holds.
-use Rattle.std.proofs.Common.{◌≡◌, ℕ, List, [], ◌++◌, Option, Result, Ok, Err, IsOk, IsErr, refl, subst, ap}
+use Rattle.std.proofs.Common.{◌≡◌, ℕ, List, [], ◌++◌, Option, Result, Ok, Err, IsOk, IsErr, subst, ap}
 use Rattle.std.proofs.lemmas.Bool.{false≢true}
 use Rattle.std.specs.Io.KnownBytes.{Appends, Keeps}
 use Rattle.std.proofs.KnownBytes.{Appends-kept}
@@ -7,44 +7,14 @@ use Rattle.mbe_tt.specs.declared.span.Edition.{Edition}
 use Rattle.mbe_tt.specs.Trees.Tree.{Forest}
 use Rattle.mbe_tt.specs.Trees.Top.{Top}
 use Rattle.mbe_text.specs.Printing.{lines}
-use Rattle.mbe_text.specs.Tokens.{IsMade}
-use Rattle.mbe_text.specs.Division.{trees_of}
 use Rattle.mbe_text.specs.Writing.{Takes, Writes}
 use Rattle.mbe_text.proofs.Taken.{takes_whole}
 use Rattle.mbe_program.specs.declared.program.Outcome.{Outcome}
 use Rattle.mbe_program.specs.declared.program.Outcome.TheVariants.{Expanded, Linted, Faulted, Refused, CannotLex, CannotWrite, OutOfMemory}
 use Rattle.mbe_semantics.specs.Expansion.Error.{ExpandError}
 use Rattle.mbe_program.specs.Printed.{head, printed}
-use Rattle.mbe_program.specs.Expansion.{AreTrees, both_trees, EndsAs, IsAtFault, IsRefused, IsUnexpanded, IsUnlexed}
+use Rattle.mbe_program.specs.Expansion.{AreTrees, EndsAs, IsRefused, IsUnexpanded, IsUnlexed}
 use Rattle.mbe_program.specs.Linting.{Lints}
-
--- both texts have trees
-pub are_trees : (def_text arg_text : List ℕ) (definition argument : Top) → IsMade 0 def_text definition → IsMade 1 arg_text argument
-    → trees_of 0 def_text ≡ Ok definition → trees_of 1 arg_text ≡ Ok argument → AreTrees def_text arg_text definition argument
-are_trees def_text arg_text definition argument defined given d e =
-    record { divided = (rw (both_trees, d, e) refl); defined = defined; given = given }
-
--- the definition's text is at fault
-pub definition_at_fault : {A : Type 0} (def_text arg_text : List ℕ) (outcome : Outcome A)
-    → IsAtFault 0 def_text outcome → IsUnlexed def_text arg_text outcome
-definition_at_fault def_text arg_text Expanded h = absurd h
-definition_at_fault def_text arg_text Linted h = absurd h
-definition_at_fault def_text arg_text Faulted h = absurd h
-definition_at_fault def_text arg_text (Refused error) h = absurd h
-definition_at_fault def_text arg_text (CannotLex file offset) (is, e) = rw (is, both_trees, e) refl
-definition_at_fault def_text arg_text CannotWrite h = absurd h
-definition_at_fault def_text arg_text OutOfMemory h = tt
-
--- the argument's text is, and the definition's isn't
-pub argument_at_fault : {A : Type 0} (def_text arg_text : List ℕ) (definition : Top) (outcome : Outcome A) → trees_of 0 def_text ≡ Ok definition
-    → IsAtFault 1 arg_text outcome → IsUnlexed def_text arg_text outcome
-argument_at_fault def_text arg_text definition Expanded d h = absurd h
-argument_at_fault def_text arg_text definition Linted d h = absurd h
-argument_at_fault def_text arg_text definition Faulted d h = absurd h
-argument_at_fault def_text arg_text definition (Refused error) d h = absurd h
-argument_at_fault def_text arg_text definition (CannotLex file offset) d (is, e) = rw is (rw (both_trees, d, e) refl)
-argument_at_fault def_text arg_text definition CannotWrite d h = absurd h
-argument_at_fault def_text arg_text definition OutOfMemory d h = tt
 
 -- a text isn't lexed
 pub unlexed : {A : Type 0} (edition : Edition) (def_text arg_text : List ℕ) (outcome : Outcome A)

@@ -87,7 +87,7 @@ fn lexed<A: Allocator + Copy>(
 }
 
 // The trees of both texts, or the first fault; the definition is lexed first. A text that both have is kept once.
-#[tactic(auto, using(crate::proofs::OutcomeLemmas::are_trees, crate::proofs::OutcomeLemmas::definition_at_fault, crate::proofs::OutcomeLemmas::argument_at_fault))]
+#[tactic(auto, using(crate::proofs::Both::trees, crate::proofs::Both::first_fault, crate::proofs::Both::second_fault))]
 fn both_lexed<A: Allocator + Copy>(
     alloc: A,
     def: &str,
@@ -252,11 +252,11 @@ fn linted<A: Allocator + Copy, W: Write>(
 }
 
 /// Expands the text of an argument by the text of a definition, in which every token is of that edition, and writes the
-/// error, if there is one, the rule used and the tree, and flushes. With `lint` it expands nothing, and writes a line for each rule of the
-/// definition, of every style: how it reads the argument.
+/// error, if there is one, the rule used and the tree, and flushes. With `lint` it expands nothing, and writes a line for
+/// each rule of the definition, of every style: how it reads the argument.
 ///
-/// Nothing is written if a text isn't lexed, the definition is refused or memory runs out. Where a text isn't lexed, the outcome
-/// names the file and the byte at fault, of the definition before the argument. If a write fails, the outcome says
+/// Nothing is written if a text isn't lexed, the definition is refused or memory runs out. Where a text isn't lexed, the
+/// outcome has the file and the byte at fault, of the definition before the argument. If a write fails, the outcome says
 /// so, and what was written is a prefix.
 pub fn run<A: Allocator + Copy, W: Write>(
     alloc: A,
