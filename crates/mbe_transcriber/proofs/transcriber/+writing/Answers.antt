@@ -79,9 +79,9 @@ expand_op-returns-in-Concat-clause-wrote g t c =
 pub expand_ops-loop-op-preserved : goal.expand_ops-loop-op-preserved
 expand_ops-loop-op-preserved g t c = record {
   wrote = lemmas.sofar_step _ _ _ _ _ (is_some c.loop-op.first) (is_some c.in_ok-fault.fault) (is_some c.or-first.result) (ops_of c.args.ops.now) (ops_of (drop c.loop-op.op-index c.args.ops.now))
-    (op_of c.op-item.result) (ops_of (drop (c.loop-op.op-index + 1) c.args.ops.now)) _ _ _
-    (ops_split c.args.ops.now c.loop-op.op-index c.op-item.result c.loop-op-test.true c.op-item.is)
-    (ap is_some c.or-first.ensures ∙ or_either c.loop-op.first c.in_ok-fault.fault) c.loop-op.invariant.wrote c.in_ok-fault.ensures.wrote;
+      (op_of c.op-item.result) (ops_of (drop (c.loop-op.op-index + 1) c.args.ops.now)) _ _ _
+      (ops_split c.args.ops.now c.loop-op.op-index c.op-item.result c.loop-op-test.true c.op-item.is)
+      (ap is_some c.or-first.ensures ∙ or_either c.loop-op.first c.in_ok-fault.fault) c.loop-op.invariant.wrote c.in_ok-fault.ensures.wrote;
   first = firsts.ops_step error_of_fault c.args.ctx.now.call_site (bound_by c.args.ctx.now.bindings.now) c.args.path.now (ops_of c.args.ops.now)
       (ops_of (drop c.loop-op.op-index c.args.ops.now)) (ops_of (drop (c.loop-op.op-index + 1) c.args.ops.now)) (op_of c.op-item.result)
       c.loop-op.first c.in_ok-fault.fault c.or-first.result

@@ -30,7 +30,7 @@ returns-clause-substitution g c =
 pub returns-clause-first : goal.returns-clause-first
 returns-clause-first g c =
     let told : option_map error_of_fault c.in_ok-fault.field-0
-        ≡ first_fault c.args.call_site (bound_by c.args.bindings.now) [] (template_of c.args.template.now) =
+    ≡ first_fault c.args.call_site (bound_by c.args.bindings.now) [] (template_of c.args.template.now) =
     rw (← c.deref.ensures.value) c.in_ok-fault.ensures.first in
     let same : errors_of c.match-branch-3.err ≡ option_map error_of_fault c.in_ok-fault.field-0 =
     elim c.match-branch-3.branch [ in-Some+in_ok-error-in-Some w ↦ search rules | in-None w ↦ search rules ] in
