@@ -2,7 +2,7 @@
 ghost use Rattle.mbe_semantics.specs.Laws.Laws.{OneReading, ReadingsEnd, BeginningsEndInside};
 ghost use Rattle.mbe_semantics.specs.Laws.Laws.{NeverAmbiguous, WordsNeverAmbiguous};
 ghost use Rattle.mbe_semantics.specs.Laws.Laws.{RoundsHaveValues, OneAccount};
-ghost use Rattle.mbe_semantics.specs.Laws.Laws.{ListsFitOnce, LiveHaveAccounts, EntriesFollow};
+ghost use Rattle.mbe_semantics.specs.Laws.Laws.{ListsFitOnce, EntriesHaveAccounts, EntriesFollow};
 ghost use Rattle.mbe_semantics.specs.Laws.Laws.{CommandsBindAlike, OneVerdict, HasOneVerdict};
 ghost use Rattle.mbe_semantics.specs.Laws.Laws.{LawfulInputs, MatcherLaw, RunsAreRight};
 
@@ -52,9 +52,9 @@ pub fn entries_follow()
     ensures { EntriesFollow }
 {}
 
-/// Each live handle of a log whose entries stand for earlier ones has an account.
-pub fn live_have_accounts()
-    ensures { LiveHaveAccounts }
+/// In a log whose entries stand for earlier ones alone, each handle whose entries are there has an account.
+pub fn entries_have_accounts()
+    ensures { EntriesHaveAccounts }
 {}
 
 /// A pattern and an argument have one verdict at most.

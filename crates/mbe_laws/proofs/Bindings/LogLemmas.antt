@@ -3,7 +3,7 @@ use Rattle.std.specs.Prelude.{◌≡◌, ◌<◌, ◌≤◌, ◌+◌, ℕ, zero,
 use Rattle.std.proofs.Common.{arith}
 use Rattle.mbe_semantics.specs.declared.log.Part.{Part}
 use Rattle.mbe_semantics.specs.Bindings.Account.{Command, Commands, CommandRounds, no_commands, command, no_command_rounds, command_round, Entry, RoundEntry, Log, Order, Gives, GivesRounds, PartGives, PartGivesRounds, gives_nothing, gives_binding, gives_empty, gives_skip, gives_missing, gives_nested, gives_link, gives_no_rounds, gives_round, gives_linked_rounds, part_gives, part_gives_rounds, IsBelow, AreRoundsBelow, StandsForLower, RoundStandsForLower, IsOrdered}
-use Rattle.mbe_semantics.specs.Laws.Laws.{LiveHaveAccounts, EntriesFollow}
+use Rattle.mbe_semantics.specs.Laws.Laws.{EntriesHaveAccounts, EntriesFollow}
 
 module _ (log : Log) (order : Order) where
   -- each entry has a number below n, and stands for lower ones
@@ -103,8 +103,8 @@ above number (suc m) = let p = above (λ j. number (suc j)) m in (1 + number 0 +
     go p zero h = omega arith
     go p (suc j) h = let a = p.1 j (omega (arith, h)) in omega (arith, a)
 
-pub live_have_accounts : LiveHaveAccounts
-live_have_accounts log order h o l =
+pub entries_have_accounts : EntriesHaveAccounts
+entries_have_accounts log order h o l =
     let b = above (order.commands h.current.list) h.current.first in
     let d = above (order.rounds h.finished.list) h.finished.first in
     let p = part_some log order o b.0 b.0 h.current (omega arith) (both_give log order o b.0).0 (l.0, b.1) no_commands in

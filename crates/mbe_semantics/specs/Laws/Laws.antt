@@ -271,8 +271,8 @@ CommandsBindAlike = (g : Grammar) (pattern : Ops) (argument : Forest) (is : Item
     run (commands_of is) [] ≡ environment_of is
 
 -- where each entry stands for earlier ones alone, a handle whose entries are there has an account
-abbrev pub LiveHaveAccounts : Type 0
-LiveHaveAccounts = (log : Log) (order : Order) (h : Handle) → IsOrdered log order → HasEntriesOf log h → (a : Account) × IsAccount log h a
+abbrev pub EntriesHaveAccounts : Type 0
+EntriesHaveAccounts = (log : Log) (order : Order) (h : Handle) → IsOrdered log order → HasEntriesOf log h → (a : Account) × IsAccount log h a
 
 -- the account of a handle is one
 abbrev pub OneAccount : Type 0
