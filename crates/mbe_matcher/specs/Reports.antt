@@ -15,6 +15,7 @@ use Rattle.mbe_semantics.specs.Readings.Reading.{Beginning, At}
 use Rattle.mbe_semantics.specs.Matching.Held.{held}
 use Rattle.mbe_semantics.specs.Matching.Lists.{In}
 use Rattle.mbe_semantics.specs.Matching.Outline.{Outline, erase}
+use Rattle.mbe_bounds.specs.Orders.Order.{AtMostTwo}
 use Rattle.mbe_bounds.specs.Loop.Kept.{kept as kept_at}
 use Rattle.mbe_ops.specs.Views.{op_of}
 use Rattle.mbe_matcher.specs.declared.source.Source.{Source as Argument}
@@ -92,3 +93,7 @@ pub record IsReported (g : Grammar) (pattern : Ops) (argument : Forest) (around 
 -- the same, as all beginnings have it
 abbrev pub IsReportedOfAll : Grammar → Ops → Forest → DelimSpan → Log → Verdict → ExpandError → Handle → Type 0
 IsReportedOfAll g pattern argument around log v err h = (bound : Commands) × Holds log h bound × Reports g pattern argument around v err bound
+
+-- at no place three beginnings of one dot meet
+abbrev pub MeetsFew : Grammar → Ops → Forest → Type 0
+MeetsFew g pattern argument = (q : ℕ) → AtMostTwo (input_of g argument) pattern q

@@ -42,7 +42,7 @@ ghost use Rattle.mbe_errors.specs.ErrorViews.{errors_of};
 ghost use Rattle.mbe_log.specs.Shared.{IsKept};
 ghost use Rattle.mbe_ops.specs.Views.{template_of};
 ghost use Rattle.mbe_matcher.specs.Matched.{verdict_seen, verdict_in, Binds};
-ghost use Rattle.mbe_matcher.specs.Reports.{IsReport, IsReportIn, IsReported, IsReportedOfAll};
+ghost use Rattle.mbe_matcher.specs.Reports.{IsReport, IsReportIn, IsReported, IsReportedOfAll, MeetsFew};
 
 use crate::places::{Reached, Stop, reach};
 use mbe_errors::error::ExpandError;
@@ -103,6 +103,10 @@ pub fn match_argument<'a, A: Allocator + Copy, G: FragmentGrammar>(
     ensures reports { IfOk result (λ m. IfSome (errors_of m.err)
         (λ e. IsReported (G.grammar grammar.now) (template_of pattern.now) (trees argument.entry)
         around log.new (verdict_seen m.verdict) e m.bindings)) }
+    ensures all { MeetsFew (G.grammar grammar.now) (template_of pattern.now) (trees argument.entry)
+        → IfOk result (λ m. IfSome (errors_of m.err) (λ e. IsReportedOfAll (G.grammar grammar.now)
+        (template_of pattern.now) (trees argument.entry) around log.new
+        (verdict_seen m.verdict) e m.bindings)) }
     ensures kept { OnOk result (IsKept log.old log.new) }
 {
     let reached = reach(alloc, grammar, pattern, argument, log)?;

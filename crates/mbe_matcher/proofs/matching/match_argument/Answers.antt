@@ -7,8 +7,9 @@ use Rattle.mbe_semantics.specs.Bindings.Account.{HasEntriesOf}
 use Rattle.mbe_errors.specs.ErrorViews.{errors_of}
 use Rattle.mbe_ops.specs.Views.{template_of}
 use Rattle.mbe_matcher.specs.Matched.{verdict_in, verdict_seen, reading_in, Binds}
-use Rattle.mbe_matcher.specs.Reports.{IsReported}
-use Rattle.mbe_matcher.proofs.MatchEnds.{no_reading, both_ok, stop_has_entries}
+use Rattle.mbe_matcher.specs.Reports.{IsReported, IsReportedOfAll}
+use Rattle.mbe_matcher.proofs.MatchEnds.{no_reading, both_ok, some_weaker, stop_has_entries}
+use Rattle.mbe_matcher.proofs.Whole.{all_reported}
 use Rattle.mbe_matcher.proofs.Reporting.{report_entries}
 use Rattle.mbe_matcher.proofs.matching.match_argument.Goals as goal
 
@@ -61,4 +62,18 @@ returns-clause-reports g c =
     both_ok c.failed.result (λ m. verdict_seen m.verdict ≡ v) (λ m. IfSome (errors_of m.err) (λ e. IsReported h pat f c.args.around c.failed.new.log v e m.bindings))
     (λ m. IfSome (errors_of m.err) (λ e. IsReported h pat f c.args.around c.failed.new.log (verdict_seen m.verdict) e m.bindings))
     (λ m is r. subst (λ w. IfSome (errors_of m.err) (λ e. IsReported h pat f c.args.around c.failed.new.log w e m.bindings)) (sym is) r)
+    c.failed.ensures.verdict (c.failed.ensures.reports pat f (sym c.flat_len.ensures) c.in_ok-reached.ensures.notes)
+
+pub returns-clause-all : goal.returns-clause-all
+returns-clause-all g c = λ few.
+    let v = verdict_in c.in_ok-reached.reached.stop in
+    let h = g.G.FragmentGrammar.grammar c.args.grammar.now in
+    let pat = template_of c.args.pattern.now in
+    let f = trees c.args.argument in
+    let log = c.failed.new.log in
+    both_ok c.failed.result (λ m. verdict_seen m.verdict ≡ v) (λ m. IfSome (errors_of m.err) (λ e. IsReported h pat f c.args.around log v e m.bindings))
+    (λ m. IfSome (errors_of m.err) (λ e. IsReportedOfAll h pat f c.args.around log (verdict_seen m.verdict) e m.bindings))
+    (λ m is r. some_weaker (errors_of m.err) (λ e. IsReported h pat f c.args.around log v e m.bindings) (λ e. IsReportedOfAll h pat f c.args.around log (verdict_seen m.verdict) e m.bindings)
+    (λ e it. subst (λ w. IsReportedOfAll h pat f c.args.around log w e m.bindings) (sym is)
+    (all_reported h pat f (g.met.G.FragmentGrammar.lawful c.args.grammar.now) c.requires few c.args.around log v e m.bindings it)) r)
     c.failed.ensures.verdict (c.failed.ensures.reports pat f (sym c.flat_len.ensures) c.in_ok-reached.ensures.notes)
