@@ -1,0 +1,5 @@
+pub mod Beside
+pub mod Fronts
+pub mod Replacements
+pub mod Shown
+pub mod Splicing

@@ -1,0 +1,92 @@
+// Trees as Rust text.
+use mbe_rust_text::writing::Writer;
+use mbe_text::lexer::lex;
+use std::alloc::Global;
+use std::process::Abort;
+use std::test::Fail;
+
+// Writes the trees of these texts, with a `~` between two, each as one of a file of its own.
+fn write(
+    rt: &impl Abort,
+    alloc: Global,
+    writer: &mut Writer,
+    files: u32,
+    texts: &str,
+) -> Result<(), Fail> {
+    let mut file = files;
+    for text in texts.split('~') {
+        assert!(rt; text.len() < 100_000_000);
+        let Ok(tree) = lex(alloc, text, file) else {
+            return Err(Fail::from("not lexed"));
+        };
+        writer.trees(tree.iter().remaining())?;
+        file = file.wrapping_add(1);
+    }
+    Ok(())
+}
+
+// Texts of several files, with a `~` between two, and what their trees are as one text. Tokens that stand side by side in a file do so
+// here; any other two that would be read as one, or as others, are kept apart.
+static ROWS: [(&str, &str); 22] = [
+    ("", ""),
+    ("a::b(c)[0].d!", "a::b(c)[0].d!"),
+    ("a~b", "a b"),
+    ("a~1", "a 1"),
+    ("1~2", "1 2"),
+    ("a~'b", "a 'b"),
+    ("&~&a", "& &a"),
+    ("&&a", "&&a"),
+    ("1~.~(2)", "1 .(2)"),
+    ("1.a", "1.a"),
+    ("0..1", "0..1"),
+    ("a~.~b~,~c", "a.b, c"),
+    ("-~1", "- 1"),
+    ("a~=~b~;~c", "a = b;\nc"),
+    ("if~(a)~{b}", "if (a) {\n    b\n}"),
+    ("{a}~else~{b}", "{\n    a\n} else {\n    b\n}"),
+    ("{a}~b", "{\n    a\n}\nb"),
+    ("{}", "{}"),
+    ("a~::~b", "a::b"),
+    ("$~crate", "$crate"),
+    ("r#if~\"b\"", "r#if \"b\""),
+    ("a~!~(b)", "a!(b)"),
+];
+
+#[test]
+fn tokens_are_kept_apart(rt: HostRuntime) -> Result<(), Fail> {
+    for (texts, want) in &ROWS {
+        let mut writer = Writer::new(rt.alloc(), 0);
+        write(&rt, rt.alloc(), &mut writer, 0, texts)?;
+        let text = writer.into_text();
+        assert_eq!(rt; text.as_str(), *want, "{texts:.99}");
+    }
+    Ok(())
+}
+
+// `1.a` is three tokens, of which the first two, before a group of another file, would be the number `1.`.
+#[test]
+fn a_number_before_a_dot(rt: HostRuntime) -> Result<(), Fail> {
+    let Ok(tree) = lex(rt.alloc(), "1.a", 0) else {
+        return Err(Fail::from("not lexed"));
+    };
+    let mut writer = Writer::new(rt.alloc(), 0);
+    let mut iter = tree.iter();
+    for _ in 0..2 {
+        if let Some(tree) = iter.next_as_view() {
+            writer.trees(tree)?;
+        }
+    }
+    write(&rt, rt.alloc(), &mut writer, 1, "(2)")?;
+    let text = writer.into_text();
+    assert_eq!(rt; text.as_str(), "1 .(2)");
+    Ok(())
+}
+
+#[test]
+fn lines_are_indented(rt: HostRuntime) -> Result<(), Fail> {
+    let mut writer = Writer::new(rt.alloc(), 1);
+    write(&rt, rt.alloc(), &mut writer, 0, "a;~{b; c}")?;
+    let text = writer.into_text();
+    assert_eq!(rt; text.as_str(), "a;\n    {\n        b;\n        c\n    }");
+    Ok(())
+}
