@@ -1,13 +1,14 @@
 #!/usr/bin/env python3
 """Compares `mbex` with the original on random definitions and arguments with repetitions. Outside the gate:
 
-    python3 tools/compare.py MBEX ORIGINAL [COUNT] [SEED]
+    python3 tools/compare.py [--failing] MBEX ORIGINAL [COUNT] [SEED]
 
 MBEX is the program that `rt run` leaves in crates/mbex/out, ORIGINAL a program with the same face over the Rust crate. It makes
 COUNT definitions (by default 5,000), each with an argument that some rule of it may read or nearly reads, runs both programs on
 them, and prints each difference: the definition, the argument, what either wrote, and the differences that
-docs/DIFFERENCES.md has for what the definition uses, `NONE` where it has none. The last line counts them. The exit status is 0
-if each difference has such a line.
+docs/DIFFERENCES.md has for what the definition uses, `NONE` where it has none. With `--failing` the patterns have parts side by
+side that may be left out or come again and begin alike, so that several beginnings of one dot meet, and COUNT calls are made
+that fail with the original. The last line counts the differences. The exit status is 0 if each has such a line.
 """
 import os
 import random
@@ -113,6 +114,29 @@ class Maker:
         return patterns, templates, self.spoiled(self.random.choice(samples)())
 
 
+class Meeting(Maker):
+    """Definitions in whose matches several beginnings of one dot meet, with arguments that most rules don't fit."""
+
+    BODIES = ["a", "a", "a b", "a {}:ident", "a {}:ident", "{}:ident", "{}:tt", "{}:literal", "a {}:tt"]
+
+    def variables(self, body):
+        """The body with a name for each variable."""
+        while "{}" in body:
+            name = f"{self.random.choice(NAMES)}{len(self.names)}"
+            self.names[name] = "ident"
+            body = body.replace("{}", f"${name}", 1)
+        return body
+
+    def pattern(self, depth):
+        parts = []
+        for _ in range(self.random.randint(2, 5)):
+            separator = self.random.choice(["", "", "", "", ","])
+            parts.append(f"$({self.variables(self.random.choice(self.BODIES))}){separator}{self.random.choice('??**+')}")
+        parts.append(self.variables(self.random.choice(["", "b", "b b", "; {}:literal", "a", "1"])))
+        words = ["a", "a", "a", "b", "c", "1", ";", ","]
+        return " ".join(parts), lambda: " ".join(self.random.choice(words) for _ in range(self.random.randint(1, 7)))
+
+
 # What docs/DIFFERENCES.md says of patterns and of templates that use this.
 EXPLAINED_PATTERNS = [
     (r"\)(,|;|=>|b|1|'a|true|;;)\?", "a separator after the round of a `?` is tried"),
@@ -144,19 +168,36 @@ def ran(program, folder):
     return it.stdout + it.stderr, it.returncode
 
 
+def cases(maker, count, is_counted, ran_both):
+    """The first so many cases that count, each with what both programs made of it."""
+    number = 0
+    while number < count:
+        patterns, templates, argument = maker.case()
+        definition = "; ".join(f"({it[0]}) => {{{it[1]}}}" for it in zip(patterns, templates))
+        ours, theirs = ran_both(definition, argument)
+        if is_counted(theirs):
+            yield number, patterns, templates, argument, definition, ours, theirs
+            number += 1
+
+
 def main():
-    mbex, original = (os.path.abspath(it) for it in sys.argv[1:3])
-    count = int(sys.argv[3]) if len(sys.argv) > 3 else 5000
-    seed = int(sys.argv[4]) if len(sys.argv) > 4 else 1
-    maker, differ, unexplained, statuses = Maker(seed), 0, 0, {}
+    words = [it for it in sys.argv[1:] if it != "--failing"]
+    failing = len(words) + 1 < len(sys.argv)
+    mbex, original = (os.path.abspath(it) for it in words[:2])
+    count = int(words[2]) if len(words) > 2 else 5000
+    seed = int(words[3]) if len(words) > 3 else 1
+    maker, differ, unexplained, statuses = (Meeting if failing else Maker)(seed), 0, 0, {}
     with tempfile.TemporaryDirectory(prefix="compare-") as folder:
-        for number in range(count):
-            patterns, templates, argument = maker.case()
-            definition = "; ".join(f"({it[0]}) => {{{it[1]}}}" for it in zip(patterns, templates))
+
+        def ran_both(definition, argument):
             for name, text in (("d", definition), ("a", argument)):
                 with open(f"{folder}/{name}", "w", encoding="utf-8") as it:
                     it.write(text)
-            ours, theirs = ran(mbex, folder), ran(original, folder)
+            return ran(mbex, folder), ran(original, folder)
+
+        for number, patterns, templates, argument, definition, ours, theirs in cases(
+            maker, count, lambda theirs: not failing or theirs[1] == 1, ran_both
+        ):
             statuses[ours[1]] = statuses.get(ours[1], 0) + 1
             if ours == theirs:
                 continue
