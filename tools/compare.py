@@ -115,26 +115,41 @@ class Maker:
 
 
 class Meeting(Maker):
-    """Definitions in whose matches several beginnings of one dot meet, with arguments that most rules don't fit."""
+    """Definitions in whose matches several beginnings of one dot meet, which bind different things, with arguments that few rules fit."""
 
-    BODIES = ["a", "a", "a b", "a {}:ident", "a {}:ident", "{}:ident", "{}:tt", "{}:literal", "a {}:tt"]
-
-    def variables(self, body):
-        """The body with a name for each variable."""
-        while "{}" in body:
-            name = f"{self.random.choice(NAMES)}{len(self.names)}"
-            self.names[name] = "ident"
-            body = body.replace("{}", f"${name}", 1)
-        return body
+    PIECES = ["$(a)*"] * 4 + ["$(a $(: $N:ident)?)*"] * 4 + ["$(a : $N:ident)*", "$(a)?", "$(a),*", "$(a $(a)?)*"]
+    WORDS = ["a", "a", "a", "a", "a : p", "a : q"]
+    ENDS = ["c d", "d", "c c", "", "c"]
 
     def pattern(self, depth):
-        parts = []
-        for _ in range(self.random.randint(2, 5)):
-            separator = self.random.choice(["", "", "", "", ","])
-            parts.append(f"$({self.variables(self.random.choice(self.BODIES))}){separator}{self.random.choice('??**+')}")
-        parts.append(self.variables(self.random.choice(["", "b", "b b", "; {}:literal", "a", "1"])))
-        words = ["a", "a", "a", "b", "c", "1", ";", ","]
-        return " ".join(parts), lambda: " ".join(self.random.choice(words) for _ in range(self.random.randint(1, 7)))
+        self.names = {}
+        pieces = []
+        for number in range(self.random.randint(2, 4)):
+            piece = self.random.choice(self.PIECES)
+            if "$N" in piece:
+                name = NAMES[number % len(NAMES)]
+                self.names[name] = 2 if "?)*" in piece else 1
+                piece = piece.replace("$N", f"${name}")
+            pieces.append(piece)
+        if self.random.random() < 0.6:
+            pieces.append("c")
+        return " ".join(pieces), self.words
+
+    def words(self):
+        words = [self.random.choice(self.WORDS) for _ in range(self.random.randint(3, 7))]
+        return " ".join(words + [self.random.choice(self.ENDS)])
+
+    def template(self, depth):
+        """Each variable with all that it is bound to, in a group for each outer round."""
+        written = {1: "[$($%)*]", 2: "$([$($%)*])*"}
+        return " ".join(written[depth].replace("%", name) for name, depth in self.names.items())
+
+    def case(self):
+        patterns, templates, sample = [], [], self.words
+        for number in range(self.random.choice([1, 2, 2, 3])):
+            patterns.append(self.pattern(2)[0])
+            templates.append(f"R{number} " + self.template(2))
+        return patterns, templates, sample()
 
 
 # What docs/DIFFERENCES.md says of patterns and of templates that use this.
