@@ -213,8 +213,8 @@ unfoldable pub postfix : Place → ℕ → Reading → Step
 postfix place mark r = repeats place mark r.choice.item r
 
 -- `&` and `~`
-unfoldable pub test : Place → Test → Reading → Step
-test place what r = do
+unfoldable pub look_ahead : Place → Test → Reading → Step
+look_ahead place what r = do
   s ← end_item place r
   Ok (with_choice (record s.choice { test = Some what }) s)
 
@@ -277,8 +277,8 @@ define place text r = do
 abbrev pub marked : Place → ℕ → Reading → Step
 marked place c r =
     if c == 40 then Ok (opened place openings.Parenthesis r)
-    else if c == 38 then test place Fits r
-    else if c == 126 then test place Misses r
+    else if c == 38 then look_ahead place Fits r
+    else if c == 126 then look_ahead place Misses r
     else if c == 124 then alternative place r
     else if c == 41 then close place 41 r
     else if c == 93 then close place 93 r

@@ -177,10 +177,10 @@ impl<'t, A: Allocator + Copy> Reader<'t, A> {
     }
 
     // `&` and `~`.
-    #[tactic(auto, using(crate::proofs::StepLemmas::steps), unfolding(crate::specs::Text::test))]
+    #[tactic(auto, using(crate::proofs::StepLemmas::steps), unfolding(crate::specs::Text::look_ahead))]
     fn test(&mut self, place: Place, test: Test) -> Result<(), RuleFault<'t>>
         ensures { IsRead (λ _. reading_seen self.new) result
-            (spec.test place test (reading_seen self.old)) }
+            (spec.look_ahead place test (reading_seen self.old)) }
     {
         self.end_item(place)?;
         self.choice.test = Some(test);
