@@ -44,7 +44,7 @@ is_attr FnLike = false
 is_attr Attr = true
 is_attr Derive = false
 
-same_style : (s t : MacroCallStyle) → (s ≡ t) ⊎ (s ≢ t)
+pub same_style : (s t : MacroCallStyle) → (s ≡ t) ⊎ (s ≢ t)
 unfolding is_fn_like is_attr
 same_style FnLike FnLike = inl refl
 same_style FnLike Attr = inr (λ e. true≢false (ap is_fn_like e))

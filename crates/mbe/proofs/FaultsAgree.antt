@@ -63,7 +63,7 @@ count_some : {L : Type 0} (kind : L → ExpandErrorKind) (depth : ℕ) (l : Opti
 count_some kind depth l v (inl (e, w, d)) = rw (e, d) (some_unless (nat_lt (value_total depth w) (2 ^ 64)) _)
 count_some kind depth l v (inr (k, e, d)) = rw (e, d) refl
 
-variable_some : (name : Name) (path : Path) (o : Option Value)
+pub variable_some : (name : Name) (path : Path) (o : Option Value)
     → is_some (option_and_then (simple_fault name path) o) ≡ (if is_none o then false else not (is_simple (option_and_then (follow path) o)))
 variable_some name path None = refl
 variable_some name path (Some v) = simple_some (lost_kind name) name (lost path v) (follow path v) (leads path v)

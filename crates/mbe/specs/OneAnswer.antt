@@ -15,6 +15,7 @@ use Rattle.mbe_semantics.specs.Writing.Substitution.{faults}
 use Rattle.mbe_semantics.specs.Laws.Laws.{HasOneAnswer}
 use Rattle.mbe_transcriber.specs.Faults.{first_fault}
 use Rattle.mbe.specs.Recovering.{Recovers}
+use Rattle.mbe.specs.Choice.{AreChecked}
 
 -- what `expand` promises: the tree, the place of its rule, and the error or none
 pub record IsAnswer (g : Grammar) (Marks : Span → Span → Type 0) (rs : List Rule) (style : MacroCallStyle) (input : Top) (call_site : Span)
@@ -32,3 +33,12 @@ OneAnswer Marks = HasOneAnswer Marks → (g : Grammar) (rs : List Rule) (style :
 -- A template faults, in the rounds of a path, exactly where it has a first fault.
 abbrev pub FaultsAgree : Type 0
 FaultsAgree = (call_site : Span) (env : Environment) (path : Path) (os : Ops) → is_some (first_fault call_site env path os) ≡ faults env path os
+
+-- the marker returns a span for each
+abbrev pub HasSomeSpan : (Span → Span → Type 0) → Type 0
+HasSomeSpan Marks = (s : Span) → (t : Span) × Marks s t
+
+-- Then a call of checked rules has an answer.
+abbrev pub HasAnswer : (Span → Span → Type 0) → Type 0
+HasAnswer Marks = HasSomeSpan Marks → (g : Grammar) (rs : List Rule) (style : MacroCallStyle) (input : Top) (call_site : Span) → IsLawful g → AreChecked rs →
+    (out : Forest) × (index : Option ℕ) × (err : Option ExpandError) × IsAnswer g Marks rs style input call_site out index err
