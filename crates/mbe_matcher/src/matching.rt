@@ -42,6 +42,7 @@ ghost use Rattle.mbe_ops.specs.Views.{template_of};
 ghost use Rattle.mbe_matcher.specs.Matched.{verdict_seen, verdict_in, Binds};
 ghost use Rattle.mbe_matcher.specs.Reports.{IsReport};
 
+use crate::ends::report_up_to;
 use crate::places::{Reached, Stop, reach};
 use mbe_errors::error::ExpandError;
 use mbe_log::log::{BindingLog, Handle, again};
@@ -109,6 +110,9 @@ pub fn match_argument<'a, A: Allocator + Copy, G: FragmentGrammar>(
             err: None,
         });
     }
+    let mut reached = reached;
+    let stop = place_of(&reached.stop, argument.flat_len());
+    reached.report = report_up_to(alloc, grammar, pattern, argument, stop, log)?;
     failed(alloc, grammar, reached, argument.flat_len(), around, log)
 }
 
@@ -120,6 +124,14 @@ fn verdict_of(stop: &Stop) -> Verdict
         Stop::ManyReadings => Verdict::ManyReadings,
         Stop::Ambiguous(place) => Verdict::Ambiguous(*place),
         Stop::Stuck(place) => Verdict::Stuck(*place),
+    }
+}
+
+// The place where the positions stop, in an argument of so many flat tokens.
+fn place_of(stop: &Stop, length: usize) -> usize {
+    match stop {
+        Stop::OneReading(_) | Stop::ManyReadings => length,
+        Stop::Ambiguous(place) | Stop::Stuck(place) => *place,
     }
 }
 

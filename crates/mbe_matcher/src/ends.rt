@@ -1,0 +1,269 @@
+// What a match that doesn't fit reports, by a second pass over the argument.
+//
+// The first pass follows two positions of each dot, which is enough for the verdict. A report is of
+// all positions, in the order in which they are looked at: the first error that one noted, and what
+// the last one had bound that failed at the last place where one did (or the first at the pattern's
+// end, if none failed there). What a position can still do depends on its dot alone. So at each
+// place the first position of each dot tells the first that fails, and the last of each dot the
+// last. The pass follows both, up to the place where the first pass stopped:
+//
+// - the first of each dot, in order: a stack, as in the first pass, where each dot is followed once;
+// - the last of each dot, the last first: the same steps the other way round. A position is entered
+//   when it is popped: it is pushed again, to be left, and its steps upon it, the last on top. It is
+//   looked at when it is left, after all that comes of it. Each dot is entered once.
+//
+// What waits comes back turned round. So the first at the next place come from the last here, and
+// the last there from the first here: the two change roles. On `$(a)* $(a)?` and `a`, with a dot
+// 6 before the first repetition, 5 and 4 in it, 3 before the second, 2 and 1 ..
+//
+//     place   first of each dot   waiting   last of each dot, the last first   waiting
+use crate::met::Met;
+use crate::places::{after_step, at_start};
+use crate::position::{Outer, Position, Waiting};
+use crate::report::{Report, is_noted};
+use crate::skipping::dots_of;
+use crate::source::Source;
+use crate::steps::steps;
+use mbe_log::log::{BindingLog, Handle, again};
+use mbe_ops::ops::{MetaTemplate, Op};
+use mbe_tt::grammar::FragmentGrammar;
+use mbe_tt::tt::TokenTreesView;
+use std::alloc::{AllocError, Allocator, Global};
+
+// A position that fails: the ops that are left, and what it had bound.
+#[derive(Drop)]
+struct Failed<'a, A: Allocator = Global> {
+    dot: &'a [Op<A>],
+    handle: Handle,
+}
+
+// What a position leaves: the step over tokens, and itself, if it fails.
+#[derive(Drop)]
+struct Left<'a, A: Allocator = Global> {
+    next: Option<Waiting<'a, A>>,
+    failed: Option<Failed<'a, A>>,
+}
+
+#[derive(Drop)]
+enum Visit<'a, A: Allocator = Global> {
+    Enter(Position<'a, A>),
+    Leave(Left<'a, A>),
+}
+
+// What comes of the first position of each dot.
+#[derive(Drop)]
+struct Firsts<'a, A: Allocator = Global> {
+    waiting: Vec<Waiting<'a, A>, A>,
+    // What is bound by those at the pattern's end.
+    ends: Vec<Handle, A>,
+}
+
+// What comes of the last of each dot, the last first.
+#[derive(Drop)]
+struct Lasts<'a, A: Allocator = Global> {
+    waiting: Vec<Waiting<'a, A>, A>,
+    // The last that fails.
+    failed: Option<Failed<'a, A>>,
+}
+
+// What the pass keeps from place to place, beside the log.
+#[derive(Drop)]
+struct Pass<'a, A: Allocator = Global> {
+    outers: Vec<Outer<'a, A>, A>,
+    first_met: Met<A>,
+    last_met: Met<A>,
+    report: Report<'a, A>,
+}
+
+impl<'a, A: Allocator + Copy> Pass<'a, A> {
+    // At the start of a pattern with so many dots.
+    fn new(alloc: A, dots: usize) -> Result<Pass<'a, A>, AllocError> {
+        Ok(Pass {
+            outers: Vec::new(alloc),
+            first_met: Met::new(alloc, dots)?,
+            last_met: Met::new(alloc, dots)?,
+            report: Report::new(),
+        })
+    }
+
+    // The place is done. The last position that fails there is looked at after the first ones.
+    fn after_place(
+        &mut self,
+        source: &Source<'a, A>,
+        last: Option<Failed<'a, A>>,
+        ends: &[Handle],
+    ) {
+        if let Some(failed) = last {
+            self.report
+                .looked_at(source, failed.dot, failed.handle, false);
+        }
+        self.report.after_place(ends);
+    }
+}
+
+fn push_some<T: Drop, A: Allocator + Copy>(
+    values: &mut Vec<T, A>,
+    value: Option<T>,
+) -> Result<(), AllocError> {
+    let Some(value) = value else {
+        return Ok(());
+    };
+    values.push(value)?;
+    Ok(())
+}
+
+// Follows the first position of each dot.
+fn first_of_each<'a, A: Allocator + Copy, G: FragmentGrammar>(
+    alloc: A,
+    grammar: &G,
+    source: &Source<'a, A>,
+    log: &mut BindingLog<'a, A>,
+    pass: &mut Pass<'a, A>,
+    stack: Vec<Position<'a, A>, A>,
+) -> Result<Firsts<'a, A>, AllocError> {
+    let mut todo = stack;
+    let mut waiting = Vec::new(alloc);
+    let mut ends = Vec::new(alloc);
+    while let Some(position) = todo.pop() {
+        if !pass.first_met.takes(position.number, source.place) {
+            continue;
+        }
+        let dot = position.dot;
+        let handle = again(&position.handle);
+        let found = steps(grammar, source, log, &mut pass.outers, position)?;
+        pass.report.looked_at(source, dot, handle, found.is_some());
+        push_some(&mut todo, found.second)?;
+        push_some(&mut todo, found.first)?;
+        push_some(&mut waiting, found.next)?;
+        push_some(&mut ends, found.done)?;
+    }
+    Ok(Firsts { waiting, ends })
+}
+
+// The position, if it fails.
+fn if_failed<'a, A: Allocator>(
+    dot: &'a [Op<A>],
+    handle: Handle,
+    has_step: bool,
+) -> Option<Failed<'a, A>> {
+    let (op, _rest) = dot.split_first()?;
+    if has_step || !is_noted(op) {
+        return None;
+    }
+    Some(Failed { dot, handle })
+}
+
+// Enters a position: its steps, the last on top, and under them what it leaves.
+fn enter<'a, A: Allocator + Copy, G: FragmentGrammar>(
+    grammar: &G,
+    source: &Source<'a, A>,
+    log: &mut BindingLog<'a, A>,
+    outers: &mut Vec<Outer<'a, A>, A>,
+    position: Position<'a, A>,
+    todo: &mut Vec<Visit<'a, A>, A>,
+) -> Result<(), AllocError> {
+    let dot = position.dot;
+    let handle = again(&position.handle);
+    let found = steps(grammar, source, log, outers, position)?;
+    let left = Left {
+        failed: if_failed(dot, handle, found.is_some()),
+        next: found.next,
+    };
+    todo.push(Visit::Leave(left))?;
+    if let Some(first) = found.first {
+        todo.push(Visit::Enter(first))?;
+    }
+    if let Some(second) = found.second {
+        todo.push(Visit::Enter(second))?;
+    }
+    Ok(())
+}
+
+// Follows the last position of each dot, the last first.
+fn last_of_each<'a, A: Allocator + Copy, G: FragmentGrammar>(
+    alloc: A,
+    grammar: &G,
+    source: &Source<'a, A>,
+    log: &mut BindingLog<'a, A>,
+    pass: &mut Pass<'a, A>,
+    stack: Vec<Visit<'a, A>, A>,
+) -> Result<Lasts<'a, A>, AllocError> {
+    let mut todo = stack;
+    let mut waiting = Vec::new(alloc);
+    let mut last = None;
+    while let Some(visit) = todo.pop() {
+        match visit {
+            Visit::Enter(position) => {
+                if pass.last_met.takes(position.number, source.place) {
+                    enter(grammar, source, log, &mut pass.outers, position, &mut todo)?;
+                }
+            }
+            Visit::Leave(left) => {
+                push_some(&mut waiting, left.next)?;
+                if last.is_none() {
+                    last = left.failed;
+                }
+            }
+        }
+    }
+    Ok(Lasts {
+        waiting,
+        failed: last,
+    })
+}
+
+// The positions after their steps, the first on top.
+fn come_first<'a, A: Allocator + Copy>(
+    alloc: A,
+    waiting: Vec<Waiting<'a, A>, A>,
+) -> Result<Vec<Position<'a, A>, A>, AllocError> {
+    let mut waiting = waiting;
+    let mut stack = Vec::new(alloc);
+    while let Some(step) = waiting.pop() {
+        stack.push(step.after)?;
+    }
+    Ok(stack)
+}
+
+// The same, to be entered.
+fn come_last<'a, A: Allocator + Copy>(
+    alloc: A,
+    waiting: Vec<Waiting<'a, A>, A>,
+) -> Result<Vec<Visit<'a, A>, A>, AllocError> {
+    let mut waiting = waiting;
+    let mut stack = Vec::new(alloc);
+    while let Some(step) = waiting.pop() {
+        stack.push(Visit::Enter(step.after))?;
+    }
+    Ok(stack)
+}
+
+// What the positions report, where all are looked at, up to the place where the match stops.
+pub(crate) fn report_up_to<'a, A: Allocator + Copy, G: FragmentGrammar>(
+    alloc: A,
+    grammar: &G,
+    pattern: &'a MetaTemplate<A>,
+    argument: TokenTreesView<'a, A>,
+    stop: usize,
+    log: &mut BindingLog<'a, A>,
+) -> Result<Report<'a, A>, AllocError> {
+    let dots = dots_of(&pattern.0).ok_or(AllocError)?;
+    let mut pass = Pass::new(alloc, dots)?;
+    let position = at_start(pattern, dots, log)?;
+    let mut firsts = Vec::new(alloc);
+    firsts.push(position.again())?;
+    let mut lasts = Vec::new(alloc);
+    lasts.push(Visit::Enter(position))?;
+    let mut source = Source::new(alloc, argument);
+    loop {
+        let first = first_of_each(alloc, grammar, &source, log, &mut pass, firsts)?;
+        let last = last_of_each(alloc, grammar, &source, log, &mut pass, lasts)?;
+        pass.after_place(&source, last.failed, &first.ends);
+        if source.place == stop {
+            return Ok(pass.report);
+        }
+        source = after_step(source, &first.waiting[0])?;
+        firsts = come_first(alloc, last.waiting)?;
+        lasts = come_last(alloc, first.waiting)?;
+    }
+}
