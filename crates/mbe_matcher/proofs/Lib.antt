@@ -12,3 +12,4 @@ pub mod Reporting
 pub mod TwoEnds
 pub mod KeptEnds
 pub mod StopPlaces
+pub mod Meeting

@@ -7,3 +7,4 @@ pub mod Reports
 pub mod Counts
 pub mod States
 pub mod TwoEnds
+pub mod Met
