@@ -13,3 +13,4 @@ pub mod TwoEnds
 pub mod KeptEnds
 pub mod StopPlaces
 pub mod Meeting
+pub mod Walking
