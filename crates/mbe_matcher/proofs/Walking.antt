@@ -258,9 +258,9 @@ module _ (i : Input) (pattern : Ops) (q : ℕ) where
     walk (visits_of i q) key_of 1 (visit_turns (length os) (dots pattern)) [] (map enter os),
     refl,
     walks_start backward (visit_turns (length os) (dots pattern)) (map enter os) (entered_good os g)
-    (let e : steps_for 3 (room key_of 1 (suc (dots pattern + dots pattern)) []) ≡ suc (dots pattern + dots pattern) + suc (dots pattern + dots pattern) + suc (dots pattern + dots pattern) =
-    ap (steps_for 3) (room_ones key_of (suc (dots pattern + dots pattern))) ∙ steps_three (suc (dots pattern + dots pattern)) in
-    let l : length (map enter os) ≡ length os = len_map enter os in omega (arith, e, l)),
+        (let e : steps_for 3 (room key_of 1 (suc (dots pattern + dots pattern)) []) ≡ suc (dots pattern + dots pattern) + suc (dots pattern + dots pattern) + suc (dots pattern + dots pattern) =
+        ap (steps_for 3) (room_ones key_of (suc (dots pattern + dots pattern))) ∙ steps_three (suc (dots pattern + dots pattern)) in
+        let l : length (map enter os) ≡ length os = len_map enter os in omega (arith, e, l)),
   )
 
 -- ---- each dot is left once, since it is entered once
@@ -360,7 +360,7 @@ module _ (i : Input) (q : ℕ) (seen met : List ℕ) (o : Outline) (vs : List Vi
       left : ToLeave ((outline_number o + outline_number o) ∷ seen) (outline_number o ∷ met) (leave o ∷ vs)
       left = (
         times_other (suc (outline_number o + outline_number o)) (outline_number o + outline_number o) seen (λ f. not_odd (outline_number o) (outline_number o) (sym f))
-        ∙ fresh (times (suc (outline_number o + outline_number o)) seen) refl,
+            ∙ fresh (times (suc (outline_number o + outline_number o)) seen) refl,
         (let a : times (outline_number o) (outline_number o ∷ met) ≡ suc (times (outline_number o) met) = times_same (outline_number o) (outline_number o) met refl in omega (arith, a)),
         none_leaves vs e.to_leave z,
         still_to_leave vs e.to_leave,

@@ -8,3 +8,4 @@ pub mod Counts
 pub mod States
 pub mod TwoEnds
 pub mod Met
+pub mod EndsMatched

@@ -17,6 +17,13 @@
 // 6 before the first repetition, 5 and 4 in it, 3 before the second, 2 and 1 ..
 //
 //     place   first of each dot   waiting   last of each dot, the last first   waiting
+ghost use Rattle.std.specs.Prelude.{◌≡◌, ◌+◌, ◌++◌, [], length, option_to_list, IfOk, OnOk};
+ghost use Rattle.mbe_tt.specs.Fragments.Grammar.{Grammar};
+ghost use Rattle.mbe_matcher.specs.Met.{AreUnmetFrom};
+ghost use Rattle.mbe_matcher.specs.Positions.{Keeps};
+ghost use Rattle.mbe_matcher.specs.Reports.{ReportStays};
+ghost use Rattle.mbe_matcher.specs.EndsMatched.{IsFirstStackAt, AreFirstsAt, NotesFirsts};
+
 use crate::met::Met;
 use crate::places::{after_step, at_start};
 use crate::position::{Outer, Position, Waiting};
@@ -104,7 +111,9 @@ impl<'a, A: Allocator + Copy> Pass<'a, A> {
 fn push_some<T: Drop, A: Allocator + Copy>(
     values: &mut Vec<T, A>,
     value: Option<T>,
-) -> Result<(), AllocError> {
+) -> Result<(), AllocError>
+    ensures { OnOk result (values.new.items ≡ values.old.items ++ option_to_list value) }
+{
     let Some(value) = value else {
         return Ok(());
     };
@@ -120,7 +129,27 @@ fn first_of_each<'a, A: Allocator + Copy, G: FragmentGrammar>(
     log: &mut BindingLog<'a, A>,
     pass: &mut Pass<'a, A>,
     stack: Vec<Position<'a, A>, A>,
-) -> Result<Firsts<'a, A>, AllocError> {
+) -> Result<Firsts<'a, A>, AllocError>
+    requires stack { IsFirstStackAt (G.grammar grammar.now) source.now
+        log.old pass.old stack.items }
+    requires unmet { AreUnmetFrom pass.old.first_met.places.items source.now.place }
+    ensures firsts { (s : IsFirstStackAt (G.grammar grammar.now) source.now
+        log.old pass.old stack.entry.items) → IfOk result
+        (AreFirstsAt (G.grammar grammar.now) source.now s.pattern s.outlines log.new pass.new) }
+    ensures notes { (s : IsFirstStackAt (G.grammar grammar.now) source.now
+        log.old pass.old stack.entry.items) → OnOk result
+        (NotesFirsts (G.grammar grammar.now) source.now s.pattern s.outlines
+        log.old log.new pass.old pass.new) }
+    ensures kept { OnOk result
+        (Keeps log.old log.new pass.old.outers.items pass.new.outers.items) }
+    ensures unmet { OnOk result
+        (AreUnmetFrom pass.new.first_met.places.items (source.now.place + 1)) }
+    ensures size { OnOk result (length pass.new.first_met.places.items
+        ≡ length pass.old.first_met.places.items) }
+    ensures other { OnOk result (pass.new.last_met ≡ pass.old.last_met) }
+    ensures report { OnOk result
+        (ReportStays log.old log.new pass.old.report pass.new.report) }
+{
     let mut todo = stack;
     let mut waiting = Vec::new(alloc);
     let mut ends = Vec::new(alloc);
