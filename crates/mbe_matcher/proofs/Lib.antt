@@ -14,3 +14,4 @@ pub mod KeptEnds
 pub mod StopPlaces
 pub mod Meeting
 pub mod Walking
+pub mod FirstWalk

@@ -20,6 +20,7 @@ use Rattle.mbe_bounds.proofs.Dots.Walk.{steps_for, len_append}
 use Rattle.mbe_bounds.proofs.Dots.Dots.{number-within}
 use Rattle.mbe_bounds.proofs.Run.BoundedRun.{idle_short}
 use Rattle.mbe_bounds.proofs.Loop.BoundedPlaces.{same_number}
+use Rattle.mbe_matcher.specs.EndsMatched.{IsHere}
 use Rattle.mbe_matcher.specs.TwoEnds.{Visit, enter, leave, visits_of, key_of, left_of, kept_first, kept_back}
 
 steps_grow : (c r t : ℕ) → r ≤ t → steps_for c r ≤ steps_for c t
@@ -117,10 +118,6 @@ module _ {A : Type 0} (w : Ways A) where
         }
 
 -- ---- outlines
-
--- the outline of a beginning that ends here
-abbrev pub IsHere : Input → Ops → ℕ → Outline → Type 0
-IsHere i pattern q o = (x : Beginning) × At i pattern q x × (erase x ≡ o)
 
 from_map : (f : Beginning → Outline) (o : Outline) (xs : List Beginning) → In o (map f xs) → (x : Beginning) × In x xs × (o ≡ f x)
 from_map f o [] m = absurd m
