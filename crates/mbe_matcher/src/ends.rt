@@ -13,10 +13,17 @@
 //   looked at when it is left, after all that comes of it. Each dot is entered once.
 //
 // What waits comes back turned round. So the first at the next place come from the last here, and
-// the last there from the first here: the two change roles. On `$(a)* $(a)?` and `a`, with a dot
-// 6 before the first repetition, 5 and 4 in it, 3 before the second, 2 and 1 ..
+// the last there from the first here: the two change roles. On `$(a)* $(a)* c` and `a a`, with dot
+// 8 before all, 7 and 6 in the first round, 5 after it, 4 and 3 in the second, 2 before `c`, and 1
+// at the end:
 //
-//     place   first of each dot   waiting   last of each dot, the last first   waiting
+//     place   the first of each   waiting   the last of each, the last first   waiting
+//         0   8 7 5 4 2               7 4   2 4 5 7 8                              4 7
+//         1   3 4 2 6 7 5             4 7   2 4 5 7 6 3                            4 7
+//         2   3 4 2 6 7 5                   2 4 3 5 7 6
+//
+// At place 2 three positions of dot 4 meet, and of dot 2. The first 4 fails first, and the last 2
+// fails last.
 ghost use Rattle.std.specs.Prelude.{◌≡◌, ◌+◌, ◌++◌, [], length, option_to_list, IfOk, OnOk};
 ghost use Rattle.mbe_tt.specs.Fragments.Grammar.{Grammar};
 ghost use Rattle.mbe_matcher.specs.Met.{AreUnmetFrom};
