@@ -15,3 +15,4 @@ pub mod StopPlaces
 pub mod Meeting
 pub mod Walking
 pub mod FirstWalk
+pub mod LastWalk

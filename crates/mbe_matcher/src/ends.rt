@@ -24,12 +24,17 @@
 //
 // At place 2 three positions of dot 4 meet, and of dot 2. The first 4 fails first, and the last 2
 // fails last.
-ghost use Rattle.std.specs.Prelude.{◌≡◌, ◌+◌, ◌++◌, [], length, option_to_list, IfOk, OnOk};
+ghost use Rattle.std.specs.Prelude.{ℕ, ◌≡◌, ◌+◌, ◌++◌, [], map, reverse, length, option_to_list, IfOk, OnOk};
 ghost use Rattle.mbe_tt.specs.Fragments.Grammar.{Grammar};
 ghost use Rattle.mbe_matcher.specs.Met.{AreUnmetFrom};
-ghost use Rattle.mbe_matcher.specs.Positions.{Keeps};
+ghost use Rattle.mbe_matcher.specs.Positions.{IsPosition, Holds, Keeps};
+ghost use Rattle.mbe_matcher.specs.Matched.{position_after};
 ghost use Rattle.mbe_matcher.specs.Reports.{ReportStays};
-ghost use Rattle.mbe_matcher.specs.EndsMatched.{IsFirstStackAt, AreFirstsAt, NotesFirsts};
+ghost use Rattle.mbe_semantics.specs.Bindings.Account.{Log};
+ghost use Rattle.mbe_semantics.specs.Matching.Outline.{Outline};
+ghost use Rattle.mbe_ops.specs.Views.{ops_of};
+ghost use Rattle.mbe_matcher.specs.Failures.{ops_left, bound_by};
+ghost use Rattle.mbe_matcher.specs.EndsMatched.{IsFirstStackAt, AreFirstsAt, NotesFirsts, FailsBy, GivesEntered, IsLastStackAt, AreLastsAt, visit_after};
 
 use crate::met::Met;
 use crate::places::{after_step, at_start};
@@ -181,8 +186,13 @@ fn if_failed<'a, A: Allocator>(
     dot: &'a [Op<A>],
     handle: Handle,
     has_step: bool,
-) -> Option<Failed<'a, A>> {
-    let (op, _rest) = dot.split_first()?;
+) -> Option<Failed<'a, A>>
+    ensures { (log : Log) (q : ℕ) (o : Outline) → ops_of dot.now ≡ ops_left o
+        → Holds log handle.entry (bound_by o) → FailsBy has_step q log result o }
+{
+    let Some((op, _rest)) = dot.split_first() else {
+        return None;
+    };
     if has_step || !is_noted(op) {
         return None;
     }
@@ -197,7 +207,11 @@ fn enter<'a, A: Allocator + Copy, G: FragmentGrammar>(
     outers: &mut Vec<Outer<'a, A>, A>,
     position: Position<'a, A>,
     todo: &mut Vec<Visit<'a, A>, A>,
-) -> Result<(), AllocError> {
+) -> Result<(), AllocError>
+    requires { IsPosition log.old outers.old.items position }
+    ensures { OnOk result (GivesEntered (G.grammar grammar.now) source.now log.old log.new
+        outers.old.items outers.new.items position.entry todo.old.items todo.new.items) }
+{
     let dot = position.dot;
     let handle = again(&position.handle);
     let found = steps(grammar, source, log, outers, position)?;
@@ -223,7 +237,22 @@ fn last_of_each<'a, A: Allocator + Copy, G: FragmentGrammar>(
     log: &mut BindingLog<'a, A>,
     pass: &mut Pass<'a, A>,
     stack: Vec<Visit<'a, A>, A>,
-) -> Result<Lasts<'a, A>, AllocError> {
+) -> Result<Lasts<'a, A>, AllocError>
+    requires stack { IsLastStackAt (G.grammar grammar.now) source.now
+        log.old pass.old stack.items }
+    requires unmet { AreUnmetFrom pass.old.last_met.places.items source.now.place }
+    ensures lasts { (s : IsLastStackAt (G.grammar grammar.now) source.now
+        log.old pass.old stack.entry.items) → IfOk result
+        (AreLastsAt (G.grammar grammar.now) source.now s.pattern s.outlines log.new pass.new) }
+    ensures kept { OnOk result
+        (Keeps log.old log.new pass.old.outers.items pass.new.outers.items) }
+    ensures unmet { OnOk result
+        (AreUnmetFrom pass.new.last_met.places.items (source.now.place + 1)) }
+    ensures size { OnOk result (length pass.new.last_met.places.items
+        ≡ length pass.old.last_met.places.items) }
+    ensures other { OnOk result (pass.new.first_met ≡ pass.old.first_met) }
+    ensures report { OnOk result (pass.new.report ≡ pass.old.report) }
+{
     let mut todo = stack;
     let mut waiting = Vec::new(alloc);
     let mut last = None;
@@ -252,7 +281,9 @@ fn last_of_each<'a, A: Allocator + Copy, G: FragmentGrammar>(
 fn come_first<'a, A: Allocator + Copy>(
     alloc: A,
     waiting: Vec<Waiting<'a, A>, A>,
-) -> Result<Vec<Position<'a, A>, A>, AllocError> {
+) -> Result<Vec<Position<'a, A>, A>, AllocError>
+    ensures { IfOk result (λ s. s.items ≡ reverse (map position_after waiting.entry.items)) }
+{
     let mut waiting = waiting;
     let mut stack = Vec::new(alloc);
     while let Some(step) = waiting.pop() {
@@ -265,7 +296,9 @@ fn come_first<'a, A: Allocator + Copy>(
 fn come_last<'a, A: Allocator + Copy>(
     alloc: A,
     waiting: Vec<Waiting<'a, A>, A>,
-) -> Result<Vec<Visit<'a, A>, A>, AllocError> {
+) -> Result<Vec<Visit<'a, A>, A>, AllocError>
+    ensures { IfOk result (λ s. s.items ≡ reverse (map visit_after waiting.entry.items)) }
+{
     let mut waiting = waiting;
     let mut stack = Vec::new(alloc);
     while let Some(step) = waiting.pop() {
