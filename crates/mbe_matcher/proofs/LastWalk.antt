@@ -3,12 +3,12 @@ use Rattle.std.proofs.Common.{ℕ, Bool, ◌+◌, ◌≡◌, ◌<◌, ◌≤◌,
 use Rattle.std.specs.Prelude.{nat_lt, is_some}
 use Rattle.std.specs.List.{filter_map}
 use Rattle.std.proofs.lemmas.Bool.{ltb-true, ltb-false}
-use Rattle.std.proofs.lemmas.List.{reverse-append, reverse-reverse}
+use Rattle.std.proofs.lemmas.List.{reverse-append, reverse-reverse, map-append}
 use Rattle.std.proofs.lemmas.List.Elements.{filter_map-append}
 use Rattle.mbe_tt.specs.Trees.Tree.{Forest, rest_at}
 use Rattle.mbe_semantics.specs.Readings.Input.{Input}
 use Rattle.mbe_semantics.specs.Syntax.Op.{Ops}
-use Rattle.mbe_semantics.specs.Bindings.Account.{Log}
+use Rattle.mbe_semantics.specs.Bindings.Account.{Log, Handle}
 use Rattle.mbe_semantics.specs.Matching.Dots.{dots, outline_number}
 use Rattle.mbe_semantics.specs.Matching.Outline.{Outline, idle_of, next_of}
 use Rattle.mbe_bounds.specs.Bounded.TwoEach.{times}
@@ -19,13 +19,15 @@ use Rattle.mbe_matcher.specs.declared.ends.Visit as declared
 use Rattle.mbe_matcher.specs.declared.ends.Visit.TheVariants as told
 use Rattle.mbe_matcher.specs.declared.position.Outer.{Outer}
 use Rattle.mbe_matcher.specs.declared.position.Position.{Position}
+use Rattle.mbe_matcher.specs.declared.position.Steps.{Steps}
 use Rattle.mbe_matcher.specs.declared.position.Waiting.{Waiting}
-use Rattle.mbe_matcher.specs.Positions.{Each, Both, Shows, IsPosition, LeadsTo, Holds, Keeps}
+use Rattle.mbe_matcher.specs.Positions.{Each, Both, Shows, IsPosition, LeadsTo, Holds, AreSteps, Keeps}
 use Rattle.mbe_matcher.specs.Failures.{Misfit, has_step, misfit, ops_left, bound_by}
 use Rattle.mbe_matcher.specs.TwoEnds.{Visit, enter, leave, visits_of, key_of, left_of, only_first, kept_back}
-use Rattle.mbe_matcher.specs.EndsMatched.{FailsBy, Leaves, VisitShows, IsLastStack, Enters, FirstFails, AreLasts}
+use Rattle.mbe_matcher.specs.EndsMatched.{to_enter, FailsBy, Leaves, VisitShows, IsLastStack, Enters, FirstFails, AreLasts}
 use Rattle.mbe_matcher.proofs.Keeping.{each_weaker, each_append, both_each, shows_keep, leads_keep, holds_keep}
 use Rattle.mbe_matcher.proofs.KeptEnds.{map_reverse}
+use Rattle.mbe_matcher.proofs.Reporting.{is_step, step_same, shown_ops, shown_bound}
 use Rattle.mbe_matcher.proofs.Settling.{Last, last_of, each_none, one_step, shown_number}
 use Rattle.mbe_matcher.proofs.Walking.{Walks, walks_end, walks_good, walks_drop, walks_take, here_number, backward, backward_start, GoodVisit, Entered, entered_start, entered_drop, entered_take, leaves_now, entered_leave}
 
@@ -58,6 +60,33 @@ module _ {A : Type 0} (i : Input) (here : Forest) (q : ℕ) (old new : Log) (bef
   first_keeps None os h = h
   first_keeps (Some f) os h = (h.0, h.1, h.2, h.3, holds_keep old new before after k f.handle (bound_by h.0) h.4, h.5)
 
+-- ---- what is entered
+
+pub enters : {A : Type 0} (i : Input) (argument : Forest) (q : ℕ) (old new : Log) (before after : List (Outer A)) (p : Position A) (s : Steps A) (o : Outline) → Shows old before p o →
+    AreSteps i argument q old new before after o s → (f : Option (Failed A)) (b : Bool) (h : Handle) → b ≡ is_step s → h ≡ p.handle →
+    ((log : Log) (r : ℕ) (u : Outline) → ops_of p.dot.now ≡ ops_left u → Holds log h (bound_by u) → FailsBy b r log f u) →
+    (todo one two three : List (declared.Visit A)) → one ≡ todo ++ told.Leave (record { next = s.next; failed = f }) ∷ [] →
+    two ≡ one ++ map to_enter (option_to_list s.first) → three ≡ two ++ map to_enter (option_to_list s.second) →
+    Enters i (rest_at argument q) q old new before after o todo three
+enters {A} i argument q old new before after p s o shows st f b h e same fails todo one two three c d k = record {
+  left = left;
+  steps = option_to_list s.first ++ option_to_list s.second;
+  are = k ∙ ap (λ l. l ++ map to_enter (option_to_list s.second)) (d ∙ ap (λ l. l ++ map to_enter (option_to_list s.first)) c)
+      ∙ append_assoc (todo ++ told.Leave left ∷ []) (map to_enter (option_to_list s.first)) (map to_enter (option_to_list s.second))
+      ∙ append_assoc todo (told.Leave left ∷ []) (map to_enter (option_to_list s.first) ++ map to_enter (option_to_list s.second))
+      ∙ ap (λ l. todo ++ told.Leave left ∷ l) (sym (map-append to_enter (option_to_list s.first) (option_to_list s.second)));
+  shown = st.now.idle;
+  leaves = record {
+    next = st.now.next;
+    failed = subst (λ x. FailsBy x q new f o) (e ∙ step_same i argument q new after o s st.now)
+        (fails new q o (shown_ops old before p o shows) (subst (λ x. Holds new x (bound_by o)) (sym same) (shown_bound old new before p o st.kept.log shows)));
+  };
+  kept = st.kept;
+}
+  where
+    left : Left A
+    left = record { next = s.next; failed = f }
+
 -- ---- what was left
 
 left_append : (vs us : List Visit) → left_of (vs ++ us) ≡ left_of vs ++ left_of us
@@ -81,9 +110,14 @@ module _ {A : Type 0} (i : Input) (q : ℕ) (log : Log) (os : List Outline) (o :
   pub fails_next : (f : Option (Failed A)) → FirstFails {A = A} i q log None os → FailsBy (has_step i q o) q log f o → FirstFails i q log f (os ++ o ∷ [])
   fails_next None h e = more ∙ ap (λ l. l ++ option_to_list (misfit i q o)) h ∙ ap option_to_list e
   fails_next (Some f) h e =
-      let r : (m : Misfit) × (misfit i q o ≡ Some m) = some_misfit (misfit i q o) e.0 in
-      (o, r.0, r.1, e.1, e.2,
-      ap only_first (more ∙ ap (λ l. l ++ option_to_list (misfit i q o)) h ∙ ap option_to_list r.1))
+      let r : (m : Misfit) × (misfit i q o ≡ Some m) = some_misfit (misfit i q o) e.0 in (
+        o,
+        r.0,
+        r.1,
+        e.1,
+        e.2,
+        ap only_first (more ∙ ap (λ l. l ++ option_to_list (misfit i q o)) h ∙ ap option_to_list r.1),
+      )
 
   -- or it was another
   pub fails_still : (f : Failed A) → FirstFails i q log (Some f) os → FirstFails i q log (Some f) (os ++ o ∷ [])
@@ -110,17 +144,20 @@ AreVisits i pattern q os all = left_of all ≡ kept_back i (dots pattern) q os
 pub last_start : {A : Type 0} (i : Input) (here : Forest) (q size : ℕ) (log : Log) (outers : List (Outer A)) (todo : List (declared.Visit A)) (ws : List (Waiting A))
     (s : IsLastStack i here q size log outers todo) → ws ≡ [] → (all : List Visit) × AreVisits i s.pattern q s.outlines all × LastWalked i s.pattern q all [] log outers here todo ws None
 last_start i here q size log outers todo ws s e =
-    let r = backward_start i s.pattern q s.outlines s.are_here in
-    (r.0, r.1, record {
-      seen = [];
-      stack = reverse (map enter s.outlines);
-      out = [];
-      walks = subst (λ l. Walks (backward i s.pattern q) r.0 l [] []) (sym (reverse-reverse (map enter s.outlines))) r.2;
-      entered = subst (Entered [] []) (sym (reverse-reverse (map enter s.outlines))) (entered_start s.outlines);
-      shown = s.shown;
-      goes_on = subst (λ l. Each (LeadsTo log outers here) l []) (sym e) tt;
-      fails = refl;
-    })
+    let r = backward_start i s.pattern q s.outlines s.are_here in (
+      r.0,
+      r.1,
+      record {
+        seen = [];
+        stack = reverse (map enter s.outlines);
+        out = [];
+        walks = subst (λ l. Walks (backward i s.pattern q) r.0 l [] []) (sym (reverse-reverse (map enter s.outlines))) r.2;
+        entered = subst (Entered [] []) (sym (reverse-reverse (map enter s.outlines))) (entered_start s.outlines);
+        shown = s.shown;
+        goes_on = subst (λ l. Each (LeadsTo log outers here) l []) (sym e) tt;
+        fails = refl;
+      },
+    )
 
 module _ {A : Type 0} (i : Input) (pattern : Ops) (here : Forest) (q : ℕ) (all : List Visit) (met : List ℕ) (log : Log) (outers : List (Outer A))
     (rest todo : List (declared.Visit A)) (ws : List (Waiting A)) (failed : Option (Failed A)) where
@@ -176,7 +213,7 @@ module _ {A : Type 0} (i : Input) (pattern : Ops) (here : Forest) (q : ℕ) (all
       e : Enters i here q log new outers after entering.0 rest todo'
       e = gives entering.0 entering.2
 
-      each_entered : (ps : List (Position A)) (os : List Outline) → Each (Shows new after) ps os → Each (VisitShows i here q new after) (map told.Enter ps) (map enter os)
+      each_entered : (ps : List (Position A)) (os : List Outline) → Each (Shows new after) ps os → Each (VisitShows i here q new after) (map to_enter ps) (map enter os)
       each_entered [] [] h = tt
       each_entered [] (o ∷ os) h = absurd h
       each_entered (x ∷ ps) [] h = absurd h
@@ -205,7 +242,7 @@ module _ {A : Type 0} (i : Input) (pattern : Ops) (here : Forest) (q : ℕ) (all
                 (subst (Entered (key_of (enter entering.0) ∷ w.seen) (outline_number entering.0 ∷ met)) turned
                 (entered_take i q w.seen met entering.0 (reverse popped.front) entered (omega (arith, a))));
             shown = subst (λ l. Each (VisitShows i here q new after) l (popped.front ++ leave entering.0 ∷ map enter (idle_of i q entering.0))) (sym e.are)
-                (each_append (VisitShows i here q new after) rest (told.Leave e.left ∷ map told.Enter e.steps) popped.front (leave entering.0 ∷ map enter (idle_of i q entering.0))
+                (each_append (VisitShows i here q new after) rest (told.Leave e.left ∷ map to_enter e.steps) popped.front (leave entering.0 ∷ map enter (idle_of i q entering.0))
                 (each_weaker (VisitShows i here q log outers) (VisitShows i here q new after) (visits_keep i here q log new outers after e.kept) rest popped.front popped.fronts)
                 (e.leaves, each_entered e.steps (idle_of i q entering.0) e.shown));
             goes_on = subst (λ l. Each (LeadsTo new after here) ws (filter_map (next_of i q) l)) (sym same_left)

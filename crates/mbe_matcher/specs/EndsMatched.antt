@@ -7,6 +7,7 @@ use Rattle.mbe_tt.specs.Fragments.Grammar.{Grammar}
 use Rattle.mbe_semantics.specs.Syntax.Op.{Ops}
 use Rattle.mbe_semantics.specs.Readings.Input.{Input, input_of}
 use Rattle.mbe_semantics.specs.Readings.Reading.{Beginning, At}
+use Rattle.mbe_semantics.specs.Readings.Verdict.{Verdict, IsVerdict, stop_of}
 use Rattle.mbe_semantics.specs.Bindings.Account.{Log, Handle}
 use Rattle.mbe_semantics.specs.Matching.Lists.{In}
 use Rattle.mbe_semantics.specs.Matching.Dots.{dots}
@@ -15,6 +16,7 @@ use Rattle.mbe_ops.specs.Views.{ops_of}
 use Rattle.mbe_matcher.specs.declared.position.Outer.{Outer}
 use Rattle.mbe_matcher.specs.declared.position.Position.{Position}
 use Rattle.mbe_matcher.specs.declared.position.Waiting.{Waiting}
+use Rattle.mbe_matcher.specs.declared.report.Report.{Report}
 use Rattle.mbe_matcher.specs.declared.source.Source.{Source}
 use Rattle.mbe_matcher.specs.declared.ends.Failed.{Failed}
 use Rattle.mbe_matcher.specs.declared.ends.Firsts.{Firsts}
@@ -24,7 +26,7 @@ use Rattle.mbe_matcher.specs.declared.ends.Pass.{Pass}
 use Rattle.mbe_matcher.specs.declared.ends.Visit as declared
 use Rattle.mbe_matcher.specs.declared.ends.Visit.TheVariants as told
 use Rattle.mbe_matcher.specs.Positions.{Each, Both, Shows, LeadsTo, Holds, Keeps}
-use Rattle.mbe_matcher.specs.Failures.{Misfit, Notes, has_step, misfit, misfit_unless, ops_left, bound_by}
+use Rattle.mbe_matcher.specs.Failures.{Misfit, Notes, AreNotes, has_step, misfit, misfit_unless, ops_left, bound_by}
 use Rattle.mbe_matcher.specs.Reports.{IsReportOf}
 use Rattle.mbe_matcher.specs.TwoEnds.{Visit, enter, leave, only_first, kept_first, first_moves, kept_back, back_moves}
 
@@ -87,11 +89,15 @@ pub record IsLastStack {A : Type 0} (i : Input) (here : Forest) (place size : �
   pub are_here : (o : Outline) → In o outlines → IsHere i pattern place o
   pub shown : Each (VisitShows i here place log outers) stack (reverse (map enter outlines))
 
+-- the position, to be entered
+abbrev pub to_enter : {A : Type 0} → Position A → declared.Visit A
+to_enter p = told.Enter p
+
 -- what entering an outline pushes: what it leaves, and upon it its steps
 pub record Enters {A : Type 0} (i : Input) (here : Forest) (q : ℕ) (old new : Log) (before after : List (Outer A)) (o : Outline) (todo pushed : List (declared.Visit A)) : Type 0 where
   pub left : Left A
   pub steps : List (Position A)
-  pub are : pushed ≡ todo ++ (told.Leave left ∷ map told.Enter steps)
+  pub are : pushed ≡ todo ++ (told.Leave left ∷ map to_enter steps)
   pub shown : Each (Shows new after) steps (idle_of i q o)
   pub leaves : Leaves i here q new after left o
   pub kept : Keeps old new before after
@@ -123,4 +129,14 @@ AreLastsAt g source pattern os log pass lasts =
 
 -- a step's position, to be entered
 abbrev pub visit_after : {A : Type 0} → Waiting A → declared.Visit A
-visit_after w = told.Enter w.after
+visit_after w = to_enter w.after
+
+-- ---- the whole pass
+
+-- a report of what all beginnings note up to the place
+abbrev pub IsFullReport : {A : Type 0} → Grammar → Ops → Forest → Log → ℕ → Report A → Type 0
+IsFullReport g pattern argument log q r = (notes : Notes) × AreNotes (input_of g argument) pattern q notes × IsReportOf log argument r [] notes
+
+-- the place where the match stops
+abbrev pub IsStop : Grammar → Ops → Forest → ℕ → Type 0
+IsStop g pattern argument q = (v : Verdict) × IsVerdict g pattern argument v × (q ≡ stop_of argument v)

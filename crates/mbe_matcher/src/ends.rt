@@ -26,15 +26,17 @@
 // fails last.
 ghost use Rattle.std.specs.Prelude.{ℕ, ◌≡◌, ◌+◌, ◌++◌, [], map, reverse, length, option_to_list, IfOk, OnOk};
 ghost use Rattle.mbe_tt.specs.Fragments.Grammar.{Grammar};
+ghost use Rattle.mbe_tt.specs.Views.View.{trees};
+ghost use Rattle.mbe_semantics.specs.Syntax.Nullable.{Checked};
+ghost use Rattle.mbe_log.specs.Shared.{IsKept};
 ghost use Rattle.mbe_matcher.specs.Met.{AreUnmetFrom};
 ghost use Rattle.mbe_matcher.specs.Positions.{IsPosition, Holds, Keeps};
 ghost use Rattle.mbe_matcher.specs.Matched.{position_after};
-ghost use Rattle.mbe_matcher.specs.Reports.{ReportStays};
 ghost use Rattle.mbe_semantics.specs.Bindings.Account.{Log};
 ghost use Rattle.mbe_semantics.specs.Matching.Outline.{Outline};
-ghost use Rattle.mbe_ops.specs.Views.{ops_of};
+ghost use Rattle.mbe_ops.specs.Views.{ops_of, template_of};
 ghost use Rattle.mbe_matcher.specs.Failures.{ops_left, bound_by};
-ghost use Rattle.mbe_matcher.specs.EndsMatched.{IsFirstStackAt, AreFirstsAt, NotesFirsts, FailsBy, GivesEntered, IsLastStackAt, AreLastsAt, visit_after};
+ghost use Rattle.mbe_matcher.specs.EndsMatched.{IsFirstStackAt, AreFirstsAt, NotesFirsts, FailsBy, GivesEntered, to_enter, FirstFails, IsStop, IsFullReport, IsLastStackAt, AreLastsAt, visit_after};
 
 use crate::met::Met;
 use crate::places::{after_step, at_start};
@@ -95,8 +97,25 @@ struct Pass<'a, A: Allocator = Global> {
 }
 
 impl<'a, A: Allocator + Copy> Pass<'a, A> {
+    ghost use Rattle.std.specs.Prelude.{List};
+    ghost use Rattle.std.specs.List.{filter_map};
+    ghost use Rattle.mbe_tt.specs.Trees.Tree.{Forest};
+    ghost use Rattle.mbe_semantics.specs.Readings.Input.{Input};
+    ghost use Rattle.mbe_semantics.specs.Bindings.Account.{Commands};
+    ghost use Rattle.mbe_matcher.specs.Positions.{Each};
+    ghost use Rattle.mbe_matcher.specs.Failures.{Misfit as Misfits, Notes, no_notes, misfit, noted_with};
+    ghost use Rattle.mbe_matcher.specs.Reports.{IsReportOf};
+    ghost use Rattle.mbe_matcher.specs.TwoEnds.{only_first};
+
     // At the start of a pattern with so many dots.
-    fn new(alloc: A, dots: usize) -> Result<Pass<'a, A>, AllocError> {
+    fn new(alloc: A, dots: usize) -> Result<Pass<'a, A>, AllocError>
+        ensures first_size { IfOk result (λ p. length p.first_met.places.items ≡ dots) }
+        ensures last_size { IfOk result (λ p. length p.last_met.places.items ≡ dots) }
+        ensures first_unmet { IfOk result (λ p. AreUnmetFrom p.first_met.places.items 0) }
+        ensures last_unmet { IfOk result (λ p. AreUnmetFrom p.last_met.places.items 0) }
+        ensures notes { (log : Log) (f : Forest)
+            → IfOk result (λ p. IsReportOf log f p.report [] no_notes) }
+    {
         Ok(Pass {
             outers: Vec::new(alloc),
             first_met: Met::new(alloc, dots)?,
@@ -106,12 +125,17 @@ impl<'a, A: Allocator + Copy> Pass<'a, A> {
     }
 
     // The place is done. The last position that fails there is looked at after the first ones.
-    fn after_place(
-        &mut self,
-        source: &Source<'a, A>,
-        last: Option<Failed<'a, A>>,
-        ends: &[Handle],
-    ) {
+    fn after_place(&mut self, source: &Source<'a, A>, last: Option<Failed<'a, A>>, ends: &[Handle])
+        ensures notes { (i : Input) (log : Log) (ms : List Misfits) (os : List Outline)
+            (cs : List Commands) (before : Notes)
+            → FirstFails i source.now.place log last.entry os → Each (Holds log) ends.now cs
+            → IsReportOf log (trees source.now.whole) self.old.report ms before
+            → IsReportOf log (trees source.now.whole) self.new.report [] (noted_with
+            (ms ++ only_first (filter_map (misfit i source.now.place) os)) cs before) }
+        ensures outers { self.new.outers ≡ self.old.outers }
+        ensures first_met { self.new.first_met ≡ self.old.first_met }
+        ensures last_met { self.new.last_met ≡ self.old.last_met }
+    {
         if let Some(failed) = last {
             self.report
                 .looked_at(source, failed.dot, failed.handle, false);
@@ -159,8 +183,6 @@ fn first_of_each<'a, A: Allocator + Copy, G: FragmentGrammar>(
     ensures size { OnOk result (length pass.new.first_met.places.items
         ≡ length pass.old.first_met.places.items) }
     ensures other { OnOk result (pass.new.last_met ≡ pass.old.last_met) }
-    ensures report { OnOk result
-        (ReportStays log.old log.new pass.old.report pass.new.report) }
 {
     let mut todo = stack;
     let mut waiting = Vec::new(alloc);
@@ -199,6 +221,21 @@ fn if_failed<'a, A: Allocator>(
     Some(Failed { dot, handle })
 }
 
+// The position on top, to be entered, if there is one.
+fn push_entered<'a, A: Allocator + Copy>(
+    todo: &mut Vec<Visit<'a, A>, A>,
+    position: Option<Position<'a, A>>,
+) -> Result<(), AllocError>
+    ensures { OnOk result (todo.new.items
+        ≡ todo.old.items ++ map to_enter (option_to_list position)) }
+{
+    let Some(position) = position else {
+        return Ok(());
+    };
+    todo.push(Visit::Enter(position))?;
+    Ok(())
+}
+
 // Enters a position: its steps, the last on top, and under them what it leaves.
 fn enter<'a, A: Allocator + Copy, G: FragmentGrammar>(
     grammar: &G,
@@ -220,13 +257,8 @@ fn enter<'a, A: Allocator + Copy, G: FragmentGrammar>(
         next: found.next,
     };
     todo.push(Visit::Leave(left))?;
-    if let Some(first) = found.first {
-        todo.push(Visit::Enter(first))?;
-    }
-    if let Some(second) = found.second {
-        todo.push(Visit::Enter(second))?;
-    }
-    Ok(())
+    push_entered(todo, found.first)?;
+    push_entered(todo, found.second)
 }
 
 // Follows the last position of each dot, the last first.
@@ -315,7 +347,14 @@ pub(crate) fn report_up_to<'a, A: Allocator + Copy, G: FragmentGrammar>(
     argument: TokenTreesView<'a, A>,
     stop: usize,
     log: &mut BindingLog<'a, A>,
-) -> Result<Report<'a, A>, AllocError> {
+) -> Result<Report<'a, A>, AllocError>
+    requires checked { Checked (template_of pattern.now) }
+    requires stop { IsStop (G.grammar grammar.now) (template_of pattern.now)
+        (trees argument) stop }
+    ensures report { IfOk result (IsFullReport (G.grammar grammar.now) (template_of pattern.now)
+        (trees argument.entry) log.new stop) }
+    ensures kept { OnOk result (IsKept log.old log.new) }
+{
     let dots = dots_of(&pattern.0).ok_or(AllocError)?;
     let mut pass = Pass::new(alloc, dots)?;
     let position = at_start(pattern, dots, log)?;

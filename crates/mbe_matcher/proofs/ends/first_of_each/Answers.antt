@@ -1,7 +1,6 @@
 use Rattle.std.proofs.Common.{◌≡◌, ◌+◌, ◌≤◌, ◌++◌, ◌∷◌, ◌∙◌, [], length, option_to_list, length-append, refl, sym, ap, subst, arith}
 use Rattle.mbe_tt.specs.Trees.Tree.{rest_at}
 use Rattle.mbe_tt.specs.Views.View.{trees}
-use Rattle.mbe_semantics.specs.Bindings.Account.{HasEntriesOf}
 use Rattle.mbe_semantics.specs.Matching.Dots.{dots}
 use Rattle.mbe_semantics.specs.Readings.Input.{input_of}
 use Rattle.mbe_bounds.specs.Bounded.TwoEach.{cons_if}
@@ -12,9 +11,7 @@ use Rattle.mbe_matcher.specs.Failures.{misfit}
 use Rattle.mbe_matcher.specs.Reports.{IsReportOf}
 use Rattle.mbe_matcher.specs.TwoEnds.{kept_first}
 use Rattle.mbe_matcher.proofs.Keeping.{keeps_not, keeps_on}
-use Rattle.mbe_matcher.proofs.Reporting.{report_keeps}
 use Rattle.mbe_matcher.proofs.Settling.{stack_falls, popped_all}
-use Rattle.mbe_matcher.proofs.StepLemmas.{has_entries}
 use Rattle.mbe_matcher.proofs.FirstWalk.{first_start, noted_start, first_shown, first_number, first_drop, noted_drop, first_take, noted_take, first_done, first_end}
 use Rattle.mbe_matcher.proofs.ends.first_of_each.Goals as goal
 
@@ -23,7 +20,6 @@ loop-position-init g c =
     let s = c.args.source.now in
     let i = input_of (g.G.FragmentGrammar.grammar c.args.grammar.now) (trees s.whole) in
     record {
-      report = λ r. r;
       keeps = keeps_not c.args.log.now c.args.pass.now.outers.items;
       unmet = λ q l. c.requires.unmet q (omega arith);
       size = refl;
@@ -78,7 +74,6 @@ loop-position-preserved-then-not-takes g c =
     let met = inv.walked.0 in
     let counted = c.takes.ensures.counted met inv.walked.1 in
     record {
-      report = inv.report;
       keeps = inv.keeps;
       unmet = c.takes.ensures.unmet inv.unmet;
       size = c.takes.ensures.size ∙ inv.size;
@@ -128,10 +123,7 @@ loop-position-preserved g c =
     let is = first_shown i st.pattern (trees s.whole) s.place (kept_first i (dots st.pattern) s.place st.outlines) met c.loop-position.log c.loop-position.pass.outers.items c.pop.new.self.items
     c.loop-position.todo.items c.in-Some.position c.loop-position.waiting.items c.loop-position.ends.items c.in-Some.ensures.items (inv.walked.2 st).0 in
     let keeping = (c.in_ok-found.ensures is.0 is.1).kept in
-    let there = has_entries c.loop-position.log c.loop-position.pass.outers.items c.in-Some.position is in
-    let held : HasEntriesOf c.steps.new.log c.again-handle.result = rw c.again-handle.ensures (keeping.log.entries c.in-Some.position.handle there) in
     record {
-      report = λ r. c.looked_at.ensures.entries c.steps.new.log held (report_keeps c.loop-position.log c.steps.new.log c.loop-position.pass.report keeping.log (inv.report r));
       keeps = keeps_on c.args.log.now c.loop-position.log c.steps.new.log c.args.pass.now.outers.items c.loop-position.pass.outers.items c.steps.new.outers.items inv.keeps keeping;
       unmet = c.takes.ensures.unmet inv.unmet;
       size = c.takes.ensures.size ∙ inv.size;

@@ -7,7 +7,7 @@ use Rattle.mbe_semantics.specs.Readings.Input.{input_of}
 use Rattle.mbe_matcher.specs.Met.{AreMet, AreUnmetFrom, unmet}
 use Rattle.mbe_matcher.specs.Positions.{Keeps}
 use Rattle.mbe_matcher.specs.Failures.{Notes, misfit}
-use Rattle.mbe_matcher.specs.Reports.{IsReport, IsReportOf}
+use Rattle.mbe_matcher.specs.Reports.{IsReportOf}
 use Rattle.mbe_matcher.specs.TwoEnds.{kept_first}
 use Rattle.mbe_matcher.specs.EndsMatched.{IsFirstStack}
 use Rattle.mbe_matcher.proofs.FirstWalk.{FirstWalked}
@@ -15,7 +15,6 @@ use Rattle.mbe_matcher.proofs.ends.first_of_each.Given as goal
 
 abbrev pub invariant-loop-position : goal.invariant-loop-position
 invariant-loop-position g l = record {
-  report : IsReport l.fn.log l.fn.pass.report → IsReport l.log l.pass.report;
   keeps : Keeps l.fn.log l.log l.fn.pass.outers.items l.pass.outers.items;
   unmet : AreUnmetFrom l.pass.first_met.places.items (l.source.place + 1);
   size : length l.pass.first_met.places.items ≡ length l.fn.pass.first_met.places.items;
