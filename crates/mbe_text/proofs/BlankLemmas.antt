@@ -1,8 +1,8 @@
 -- How blanks and comments are passed, one after another.
-use Rattle.std.proofs.Common.{◌≡◌, ℕ, zero, suc, ◌+◌, ◌-◌, ◌<◌, ◌≤◌, ◌==◌, ◌&&◌, Bool, true, false, List, [], ◌∷◌, length, drop, codes, Option, Some, None, Ok, Err, refl, sym, ap, ◌∙◌, arith, length-drop, add-one, if◌then◌else◌, true≢false}
+use Rattle.std.proofs.Common.{◌≡◌, ℕ, zero, suc, ◌+◌, ◌-◌, ◌<◌, ◌≤◌, ◌==◌, ◌&&◌, Bool, true, false, List, [], ◌∷◌, length, drop, codes, Option, Some, None, Ok, Err, refl, sym, ap, ◌∙◌, arith, length-drop, add-one, if◌then◌else◌}
 use Rattle.mbe_text.specs.declared.characters.Class.{Class}
 use Rattle.mbe_text.specs.declared.characters.Class.TheVariants.{Blank, InLine}
-use Rattle.mbe_text.specs.Characters.{has, begins, begins_with, past, offset}
+use Rattle.mbe_text.specs.Characters.{has, begins_with, past, offset, slash}
 use Rattle.mbe_text.specs.Blanks.{past_comments, past_blanks}
 
 -- ---- block comments
@@ -100,53 +100,65 @@ comments_shorter (suc depth) (c ∷ (d ∷ cs)) rest e =
     (λ h. omega (arith, comments_shorter depth cs rest h))
     (λ h. omega (arith, comments_shorter (suc depth) (d ∷ cs) rest h)) e
 
-pub passes_blank : (total : ℕ) (from cs after : List ℕ) → Passes total from cs → begins Blank cs ≡ true
-    → after ≡ drop 1 cs → Passes total from after
-passes_blank total from [] after p b e = absurd (true≢false (sym b))
-passes_blank total from (c ∷ cs) after p b e =
-    let q = counts total from (c ∷ cs) p in
-    record {
-      n = q.n;
-      fits = let f = q.fits in omega (arith, f, ap (λ (l : List ℕ). length l) e);
-      same = q.same ∙ rw (b, e) refl;
-    }
+-- nothing is left
+pub passes_end : (total : ℕ) (from cs : List ℕ) → Passes total from cs → cs ≡ [] → past_blanks total (length from) from ≡ Ok cs
+passes_end total from cs p e =
+    p.same ∙ ap (past_blanks total p.n) e ∙ blanks_end total p.n ∙ ap Ok (sym e)
 
-pub passes_line : (total : ℕ) (from cs after : List ℕ) → Passes total from cs → begins Blank cs ≡ false
-    → begins_with (codes "//") cs ≡ true
-    → after ≡ past InLine (drop 2 cs) → Passes total from after
-passes_line total from [] after p b l e = absurd (true≢false (sym l))
-passes_line total from (c ∷ cs) after p b l e =
-    let q = counts total from (c ∷ cs) p in
-    record {
-      n = q.n;
-      fits = let f = q.fits in omega
-          (arith, f, ap (λ (l : List ℕ). length l) e, past_shorter InLine (drop 2 (c ∷ cs)), length-drop 1 cs);
-      same = q.same ∙ rw (b, l, e) refl;
-    }
+module _ (total : ℕ) (from cs mid : List ℕ) (c : ℕ) (p : Passes total from cs) (e : cs ≡ c ∷ mid) where
+  first : (n : ℕ) → past_blanks total n cs ≡ past_blanks total n (c ∷ mid)
+  first n = ap (past_blanks total n) e
 
-pub passes_block : (total : ℕ) (from cs after : List ℕ) → Passes total from cs → begins Blank cs ≡ false
-    → begins_with (codes "//") cs ≡ false
-    → begins_with (codes "/*") cs ≡ true → past_comments 1 (drop 2 cs) ≡ Some after → Passes total from after
-passes_block total from [] after p b l k e = absurd (true≢false (sym k))
-passes_block total from (c ∷ cs) after p b l k e =
-    let q = counts total from (c ∷ cs) p in
-    record {
-      n = q.n;
-      fits = let f = q.fits in omega (arith, f, comments_shorter 1 (drop 2 (c ∷ cs)) after e, length-drop 1 cs);
-      same = q.same ∙ rw (b, l, k, e) refl;
-    }
+  shorter : length cs ≡ suc (length mid)
+  shorter = ap (λ (l : List ℕ). length l) e
 
-pub passes_last : (total : ℕ) (from cs : List ℕ) → Passes total from cs → begins Blank cs ≡ false
-    → begins_with (codes "//") cs ≡ false
-    → begins_with (codes "/*") cs ≡ false → past_blanks total (length from) from ≡ Ok cs
-passes_last total from cs p b l k =
-    let q = counts total from cs p in
-    q.same ∙ rw (b, l, k) refl
+  pub passes_blank : has Blank c ≡ true → Passes total from mid
+  passes_blank b =
+      let q = counts total from cs p in
+      record {
+        n = q.n;
+        fits = let f = q.fits in omega (arith, f, shorter);
+        same = q.same ∙ (first (suc q.n) ∙ rw b refl);
+      }
 
-pub passes_fault : (total : ℕ) (from cs : List ℕ) → Passes total from cs → begins Blank cs ≡ false
-    → begins_with (codes "//") cs ≡ false
-    → begins_with (codes "/*") cs ≡ true → past_comments 1 (drop 2 cs) ≡ None
-    → past_blanks total (length from) from ≡ Err (offset total cs)
-passes_fault total from cs p b l k e =
-    let q = counts total from cs p in
-    q.same ∙ rw (b, l, k, e) refl
+  pub passes_other : has Blank c ≡ false → (c == slash) ≡ false → past_blanks total (length from) from ≡ Ok cs
+  passes_other b s =
+      let q = counts total from cs p in
+      q.same ∙ (first (suc q.n) ∙ (rw (b, s) refl ∙ ap Ok (sym e)))
+
+  pub passes_line : (after : List ℕ) → has Blank c ≡ false → (c == slash) ≡ true → begins_with (codes "/") mid ≡ true
+      → after ≡ past InLine (drop 2 cs) → Passes total from after
+  passes_line after b s l h =
+      let q = counts total from cs p in
+      let a : after ≡ past InLine (drop 1 mid) = h ∙ ap (λ (l : List ℕ). past InLine (drop 2 l)) e in
+      record {
+        n = q.n;
+        fits = let f = q.fits in omega
+            (arith, f, shorter, ap (λ (l : List ℕ). length l) a, past_shorter InLine (drop 1 mid), length-drop 1 mid);
+        same = q.same ∙ (first (suc q.n) ∙ rw (b, s, l, a) refl);
+      }
+
+  pub passes_block : (after : List ℕ) → has Blank c ≡ false → (c == slash) ≡ true → begins_with (codes "/") mid ≡ false
+      → begins_with (codes "*") mid ≡ true → past_comments 1 (drop 2 cs) ≡ Some after → Passes total from after
+  passes_block after b s l k h =
+      let q = counts total from cs p in
+      let a : past_comments 1 (drop 1 mid) ≡ Some after = ap (λ (l : List ℕ). past_comments 1 (drop 2 l)) (sym e) ∙ h in
+      record {
+        n = q.n;
+        fits = let f = q.fits in omega (arith, f, shorter, comments_shorter 1 (drop 1 mid) after a, length-drop 1 mid);
+        same = q.same ∙ (first (suc q.n) ∙ rw (b, s, l, k, a) refl);
+      }
+
+  pub passes_last : has Blank c ≡ false → (c == slash) ≡ true → begins_with (codes "/") mid ≡ false
+      → begins_with (codes "*") mid ≡ false → past_blanks total (length from) from ≡ Ok cs
+  passes_last b s l k =
+      let q = counts total from cs p in
+      q.same ∙ (first (suc q.n) ∙ (rw (b, s, l, k) refl ∙ ap Ok (sym e)))
+
+  pub passes_fault : has Blank c ≡ false → (c == slash) ≡ true → begins_with (codes "/") mid ≡ false
+      → begins_with (codes "*") mid ≡ true → past_comments 1 (drop 2 cs) ≡ None
+      → past_blanks total (length from) from ≡ Err (offset total cs)
+  passes_fault b s l k h =
+      let q = counts total from cs p in
+      let a : past_comments 1 (drop 1 mid) ≡ None = ap (λ (l : List ℕ). past_comments 1 (drop 2 l)) (sym e) ∙ h in
+      q.same ∙ (first (suc q.n) ∙ (rw (b, s, l, k, a) refl ∙ ap (λ (l : List ℕ). Err (offset total l)) (sym e)))

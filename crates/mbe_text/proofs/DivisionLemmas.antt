@@ -18,7 +18,7 @@ use Rattle.mbe_text.specs.Blanks.{past_blanks}
 use Rattle.mbe_text.specs.Shapes.{Shape, identifier, literal_of, punct_of, opening, closing, item_of, shape_of}
 use Rattle.mbe_text.specs.Division.{Taken, next_token, span_of_taken, item_taken, IsNext, is_inside, after_item, levels_of, levels_at_end, trees_of, Lexes}
 use Rattle.mbe_text.specs.Dialect.{read_shape}
-use Rattle.mbe_text.specs.Tokens.{Item, leaf_item, open_item, close_item, bytes_of, lexeme_item, token_item, item_span, Adds, IsAstray, FaultsAt, whole, ended}
+use Rattle.mbe_text.specs.Tokens.{Item, leaf_item, open_item, close_item, bytes_of, lexeme_item, token_item, item_span, Adds, IsAstray, FaultsAt, ended}
 
 -- ---- the next token
 

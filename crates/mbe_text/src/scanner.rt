@@ -184,11 +184,16 @@ impl<'t> Scanner<'t> {
         ensures within { IfErr result (λ fault. fault.offset ≤ self.old.total) }
     {
         'parts: loop {
-            if begins(self.rest, Class::Blank) {
-                self.bump();
-            } else if begins_with(self.rest, "//") {
+            let Some((char, after)) = split_first(self.rest) else {
+                return Ok(());
+            };
+            if Class::Blank.has(char) {
+                self.rest = after;
+            } else if char != '/' {
+                return Ok(());
+            } else if begins_with(after, "/") {
                 self.line_comment();
-            } else if begins_with(self.rest, "/*") {
+            } else if begins_with(after, "*") {
                 self.block_comment()?;
             } else {
                 return Ok(());
