@@ -1,9 +1,11 @@
 // The token trees of a text.
 ghost use Rattle.std.specs.Prelude.{◌≡◌, ◌<◌, ◌+◌, ◌^◌, ◌++◌, length, IfOk, IfErr, OnOk};
+ghost use Rattle.mbe_text.specs.declared.dialect.Dialect.TheVariants.{Sample};
 ghost use Rattle.mbe_text.specs.Scanning.{FaultsWithin};
 ghost use Rattle.mbe_text.specs.Division.{Lexes, trees_of};
 ghost use Rattle.mbe_text.specs.Tokens.{Adds, IsAstray, FaultsAt, IsMade, ended, token_item, close_item};
 
+use crate::dialect::Dialect;
 use crate::scanner::{LexFault, Lexeme, Scanner, Token, file_span};
 use crate::symbols::SymbolTable;
 use mbe_tt::span::Span;
@@ -148,13 +150,12 @@ fn joined<A: Allocator + Copy>(
 /// Each closing closes a group of its own kind, and another is a fault, as is what isn't a token. Groups that are open at the end
 /// are closed there.
 ///
-/// The tokens are the project's own choice, near to Rust's: doc comments are comments, and prefixed strings, raw strings
-/// and byte literals are faults. It asks that the text is shorter than 2^32 bytes, as spans count them in 32 bits.
+/// The tokens are those of the sample dialect (`Dialect::Sample`). It asks that the text is shorter than 2^32 bytes, as spans count them in 32 bits.
 pub fn lex<A: Allocator + Copy>(alloc: A, text: &str, file: u32) -> Result<TopSubtree<A>, LexError>
     requires { length text.now < 2 ^ 32 }
     ensures made { IfOk result (IsMade file text.now) }
     ensures within { IfErr result (FaultsWithin (length text.now)) }
-    ensures exact { Lexes (trees_of file text.now) result }
+    ensures exact { Lexes (trees_of Sample file text.now) result }
 {
     lex_in(&mut SymbolTable::new(alloc), text, file)
 }
@@ -169,10 +170,25 @@ pub fn lex_in<A: Allocator + Copy>(
     requires { length text.now < 2 ^ 32 }
     ensures made { IfOk result (IsMade file text.now) }
     ensures within { IfErr result (FaultsWithin (length text.now)) }
-    ensures exact { Lexes (trees_of file text.now) result }
+    ensures exact { Lexes (trees_of Sample file text.now) result }
+{
+    lex_as(Dialect::Sample, table, text, file)
+}
+
+/// The same in that dialect.
+pub fn lex_as<A: Allocator + Copy>(
+    dialect: Dialect,
+    table: &mut SymbolTable<A>,
+    text: &str,
+    file: u32,
+) -> Result<TopSubtree<A>, LexError>
+    requires { length text.now < 2 ^ 32 }
+    ensures made { IfOk result (IsMade file text.now) }
+    ensures within { IfErr result (FaultsWithin (length text.now)) }
+    ensures exact { Lexes (trees_of dialect file text.now) result }
 {
     let len = text.len() as u32;
-    let mut scanner = Scanner::new(text, file);
+    let mut scanner = Scanner::new(dialect, text, file);
     let whole = Delimiter::invisible_spanned(file_span(file, 0, len));
     let mut builder = TopSubtreeBuilder::new(table.alloc(), whole)?;
     'tokens: while let Some(token) = scanner.token()? {

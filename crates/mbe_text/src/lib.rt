@@ -2,6 +2,7 @@
 #![tactic(auto)]
 
 mod characters;
+pub mod dialect;
 pub mod lexer;
 pub mod output;
 pub mod printing;

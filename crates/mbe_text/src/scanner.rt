@@ -7,11 +7,11 @@ ghost use Rattle.mbe_tt.specs.Trees.Literals.{opening, closing};
 ghost use Rattle.mbe_text.specs.Ends.{IsRest, Begins};
 ghost use Rattle.mbe_text.specs.Characters as characters;
 ghost use Rattle.mbe_text.specs.Characters.{bytes_before};
-ghost use Rattle.mbe_text.specs.Dialect.{read_shape};
+ghost use Rattle.mbe_text.specs.Dialect.{read_sample, read_shape};
 ghost use Rattle.mbe_text.specs.Division.{IsNext, next_token};
 ghost use Rattle.mbe_text.specs.Signs as signs;
 ghost use Rattle.mbe_text.specs.Shapes.{Gives};
-ghost use Rattle.mbe_text.specs.Blanks.{PassesBlock, PassesBlanks, begins_comment};
+ghost use Rattle.mbe_text.specs.Blanks.{PassesBlock, PassesBlanks, begins_comment, blank};
 ghost use Rattle.mbe_text.specs.Words as words;
 ghost use Rattle.mbe_text.specs.Literals as literals;
 ghost use Rattle.mbe_text.specs.declared.characters.Class.TheVariants.{InLine};
@@ -20,6 +20,7 @@ ghost use Rattle.mbe_text.specs.Tokens.{bytes_of, token_item, item_text, lexeme_
 use crate::characters::{
     Class, before, begins, begins_with, offset, past, past_front, past_one, split_first,
 };
+use crate::dialect::Dialect;
 use mbe_tt::span::{Span, SyntaxContext};
 use mbe_tt::tt::{DelimiterKind, IdentIsRaw, LitKind, Spacing};
 
@@ -75,6 +76,7 @@ pub fn file_span(file: u32, start: u32, end: u32) -> Span
 /// The rest of a text that is read token by token, and how long the whole was.
 #[derive(Drop)]
 pub struct Scanner<'t> {
+    dialect: Dialect,
     file: u32,
     total: u32,
     text: &'t str,
@@ -118,14 +120,16 @@ impl<'t> Scanner<'t> {
     ghost use Rattle.mbe_text.specs.Scanning.{GoesOn, Advances};
 
     /// Before the first byte of a file's text.
-    pub fn new(text: &'t str, file: u32) -> Scanner<'t>
+    pub fn new(dialect: Dialect, text: &'t str, file: u32) -> Scanner<'t>
         requires { length text.now < 2 ^ 32 }
+        ensures dialect { result.dialect ≡ dialect }
         ensures file { result.file ≡ file }
         ensures rest { result.rest.now ≡ text.now }
         ensures total { result.total ≡ length text.now }
         ensures text { result.text.now ≡ text.now }
     {
         Scanner {
+            dialect,
             file,
             total: text.len() as u32,
             text,
@@ -176,10 +180,16 @@ impl<'t> Scanner<'t> {
         self.rest = past(self.rest, class);
     }
 
+    fn is_blank(&self, char: char) -> bool
+        ensures { result ≡ characters.has (blank self.now.dialect) char }
+    {
+        self.dialect.blank().has(char)
+    }
+
     // Passes white space and comments.
     fn trivia(&mut self) -> Result<(), LexFault>
         ensures on { GoesOn self.old self.new }
-        ensures exact { PassesBlanks self.old.total (chars self.old.rest.now)
+        ensures exact { PassesBlanks self.old.dialect self.old.total (chars self.old.rest.now)
             result (chars self.new.rest.now) }
         ensures within { IfErr result (λ fault. fault.offset ≤ self.old.total) }
     {
@@ -187,7 +197,7 @@ impl<'t> Scanner<'t> {
             let Some((char, after)) = split_first(self.rest) else {
                 return Ok(());
             };
-            if Class::Blank.has(char) {
+            if self.is_blank(char) {
                 self.rest = after;
             } else if char != '/' {
                 return Ok(());
@@ -629,8 +639,8 @@ impl<'t> Scanner<'t> {
         }
     }
 
-    // Passes the token that begins with this character, which stands here.
-    fn lexeme(&mut self, char: char) -> Result<Lexeme<'t>, LexFault>
+    // Passes the token of the sample dialect that begins with this character, which stands here.
+    fn sample_lexeme(&mut self, char: char) -> Result<Lexeme<'t>, LexFault>
         requires { 0 < length self.old.rest.now }
         ensures on { GoesOn self.old self.new }
         ensures past { Advances self.old self.new }
@@ -638,7 +648,7 @@ impl<'t> Scanner<'t> {
             → IfOk result (λ l. self.old.rest.now ≡ lexeme_text l ++ self.new.rest.now) }
         ensures within { IfErr result (λ fault. fault.offset ≤ self.old.total) }
         ensures exact { (rest : List ℕ) → chars self.old.rest.now ≡ char ∷ rest
-            → Gives (read_shape self.old.total (chars self.old.rest.now))
+            → Gives (read_sample self.old.total (chars self.old.rest.now))
             result (chars self.new.rest.now) }
     {
         if Class::IdentStart.has(char) {
@@ -651,6 +661,23 @@ impl<'t> Scanner<'t> {
             self.quote()
         } else {
             self.sign()
+        }
+    }
+
+    // Passes the token that begins with this character, which stands here.
+    fn lexeme(&mut self, char: char) -> Result<Lexeme<'t>, LexFault>
+        requires { 0 < length self.old.rest.now }
+        ensures on { GoesOn self.old self.new }
+        ensures past { Advances self.old self.new }
+        ensures reads { Begins char self.old.rest.now
+            → IfOk result (λ l. self.old.rest.now ≡ lexeme_text l ++ self.new.rest.now) }
+        ensures within { IfErr result (λ fault. fault.offset ≤ self.old.total) }
+        ensures exact { (rest : List ℕ) → chars self.old.rest.now ≡ char ∷ rest
+            → Gives (read_shape self.old.dialect self.old.total (chars self.old.rest.now))
+            result (chars self.new.rest.now) }
+    {
+        match self.dialect {
+            Dialect::Sample => self.sample_lexeme(char),
         }
     }
 
@@ -673,7 +700,7 @@ impl<'t> Scanner<'t> {
             slice_range self.old.text.now t.span.start t.span.end ≡ item_text (token_item t))) }
         ensures within { IfErr result (λ fault. fault.offset ≤ self.old.total) }
         ensures exact { IsNext self.old.file self.old.total
-            (next_token self.old.total (chars self.old.rest.now))
+            (next_token self.old.dialect self.old.total (chars self.old.rest.now))
             result (chars self.new.rest.now) }
     {
         self.trivia()?;

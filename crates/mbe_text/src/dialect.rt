@@ -1,0 +1,24 @@
+// Which tokens texts have.
+ghost use Rattle.std.specs.Prelude.{◌≡◌};
+ghost use Rattle.mbe_text.specs.Blanks as spec;
+
+use crate::characters::Class;
+
+/// Which tokens a text has.
+#[derive(Clone, Copy, Debug, PartialEq, Eq)]
+pub enum Dialect {
+    /// The project's own choice, near to Rust's: doc comments are comments, and prefixed strings, raw strings and byte
+    /// literals are faults.
+    Sample,
+}
+
+impl Dialect {
+    // White space.
+    pub(crate) fn blank(self) -> Class
+        ensures { result ≡ spec.blank self }
+    {
+        match self {
+            Dialect::Sample => Class::Blank,
+        }
+    }
+}
