@@ -82,7 +82,10 @@ fn lexed<A: Allocator + Copy>(
 {
     match lex_in(table, text, file) {
         Ok(tree) => Ok(tree),
-        Err(LexError::Fault(offset)) => Err(Outcome::CannotLex { file, offset }),
+        Err(LexError::Fault(fault)) => Err(Outcome::CannotLex {
+            file,
+            offset: fault.offset,
+        }),
         Err(LexError::OutOfMemory) => Err(Outcome::OutOfMemory),
     }
 }

@@ -21,13 +21,16 @@ use crate::characters::{
     Class, before, begins, begins_with, offset, past, past_front, past_one, split_first,
 };
 use crate::dialect::Dialect;
-use mbe_tt::span::{Span, SyntaxContext};
+use crate::rust::{begins_doc, read_rust};
+use crate::wrong::Wrong;
+use mbe_tt::span::{Edition, Span, SyntaxContext};
 use mbe_tt::tt::{DelimiterKind, IdentIsRaw, LitKind, Spacing};
 
 /// Text that isn't lexed, by the byte at which what is wrong begins.
 #[derive(Clone, Copy, Debug, PartialEq, Eq)]
 pub struct LexFault {
     pub offset: u32,
+    pub wrong: Wrong,
 }
 
 /// What a token is. Texts are those of the source.
@@ -49,6 +52,16 @@ pub enum Lexeme<'t> {
     },
     Open(DelimiterKind),
     Close(DelimiterKind),
+    /// A lifetime of the Rust dialect, without its `'` and its `r#`.
+    Lifetime {
+        name: &'t str,
+        is_raw: IdentIsRaw,
+    },
+    /// A doc comment of the Rust dialect.
+    Doc {
+        text: &'t str,
+        is_inner: bool,
+    },
 }
 
 /// A token, and where it is in the text.
@@ -128,13 +141,17 @@ impl<'t> Scanner<'t> {
         ensures total { result.total ≡ length text.now }
         ensures text { result.text.now ≡ text.now }
     {
-        Scanner {
+        let mut scanner = Scanner {
             dialect,
             file,
             total: text.len() as u32,
             text,
             rest: text,
+        };
+        if dialect != Dialect::Sample {
+            scanner.head();
         }
+        scanner
     }
 
     /// The number of bytes consumed.
@@ -180,6 +197,14 @@ impl<'t> Scanner<'t> {
         self.rest = past(self.rest, class);
     }
 
+    // Whether a comment stands here that is a token.
+    fn is_at_doc(&self) -> bool {
+        match self.dialect {
+            Dialect::Sample => false,
+            Dialect::Rust(_) => begins_doc(self.rest),
+        }
+    }
+
     fn is_blank(&self, char: char) -> bool
         ensures { result ≡ characters.has (blank self.now.dialect) char }
     {
@@ -199,7 +224,7 @@ impl<'t> Scanner<'t> {
             };
             if self.is_blank(char) {
                 self.rest = after;
-            } else if char != '/' {
+            } else if char != '/' || self.is_at_doc() {
                 return Ok(());
             } else if begins_with(after, "/") {
                 self.line_comment();
@@ -247,7 +272,10 @@ impl<'t> Scanner<'t> {
                 }
             }
         }
-        Err(LexFault { offset: start })
+        Err(LexFault {
+            offset: start,
+            wrong: Wrong::OpenComment,
+        })
     }
 
     // Whether the character that was passed is this first one, and the second stands here.
@@ -303,7 +331,10 @@ impl<'t> Scanner<'t> {
         self.bump();
         let name = self.word();
         if begins_with(self.rest, "\"") {
-            return Err(LexFault { offset: start });
+            return Err(LexFault {
+                offset: start,
+                wrong: Wrong::Prefix,
+            });
         }
         Ok(Lexeme::Ident {
             name,
@@ -325,7 +356,10 @@ impl<'t> Scanner<'t> {
         let start = self.offset();
         let name = self.word();
         if begins_literal(name, self.rest) {
-            return Err(LexFault { offset: start });
+            return Err(LexFault {
+                offset: start,
+                wrong: Wrong::Prefix,
+            });
         }
         Ok(Lexeme::Ident {
             name,
@@ -373,7 +407,10 @@ impl<'t> Scanner<'t> {
         let name = self.word();
         match u8::try_from(name.len()) {
             Ok(len) if !begins_literal(name, self.rest) => Ok((name, len)),
-            _ => Err(LexFault { offset: start }),
+            _ => Err(LexFault {
+                offset: start,
+                wrong: Wrong::LongSuffix,
+            }),
         }
     }
 
@@ -437,7 +474,10 @@ impl<'t> Scanner<'t> {
         let start = self.offset();
         self.bump();
         let Some(text) = self.quoted(quote) else {
-            return Err(LexFault { offset: start });
+            return Err(LexFault {
+                offset: start,
+                wrong: Wrong::OpenString,
+            });
         };
         self.literal(text, kind)
     }
@@ -466,7 +506,10 @@ impl<'t> Scanner<'t> {
         let start = self.offset();
         self.bump();
         if !begins(self.rest, Class::IdentStart) {
-            return Err(LexFault { offset: start });
+            return Err(LexFault {
+                offset: start,
+                wrong: Wrong::Start,
+            });
         }
         Ok(Lexeme::Punct {
             char: '\'',
@@ -635,7 +678,10 @@ impl<'t> Scanner<'t> {
                 char,
                 spacing: self.spacing(),
             }),
-            _ => Err(LexFault { offset: start }),
+            _ => Err(LexFault {
+                offset: start,
+                wrong: Wrong::Start,
+            }),
         }
     }
 
@@ -664,6 +710,37 @@ impl<'t> Scanner<'t> {
         }
     }
 
+    // Passes the token of Rust that stands here.
+    fn rust_lexeme(&mut self, edition: Edition) -> Result<Lexeme<'t>, LexFault> {
+        match read_rust(edition, self.rest) {
+            Some(Ok((lexeme, rest))) => {
+                self.rest = rest;
+                Ok(lexeme)
+            }
+            Some(Err(fault)) => Err(LexFault {
+                offset: offset(self.total, fault.at),
+                wrong: fault.wrong,
+            }),
+            None => self.sign(),
+        }
+    }
+
+    // Passes what may stand before the first token of a file of Rust: a byte order mark, and a line that begins with `#!` and
+    // whose next token is no `[`.
+    fn head(&mut self) {
+        let text = self.rest.strip_prefix('\u{feff}').unwrap_or(self.rest);
+        self.rest = text;
+        let Some(line) = past_front(text, "#!") else {
+            return;
+        };
+        self.rest = line;
+        if self.trivia().is_ok() && begins_with(self.rest, "[") {
+            self.rest = text;
+        } else {
+            self.rest = past(line, Class::InLine);
+        }
+    }
+
     // Passes the token that begins with this character, which stands here.
     fn lexeme(&mut self, char: char) -> Result<Lexeme<'t>, LexFault>
         requires { 0 < length self.old.rest.now }
@@ -678,6 +755,7 @@ impl<'t> Scanner<'t> {
     {
         match self.dialect {
             Dialect::Sample => self.sample_lexeme(char),
+            Dialect::Rust(edition) => self.rust_lexeme(edition),
         }
     }
 

@@ -6,4 +6,6 @@ mod lexing;
 #[cfg(test)]
 mod printing;
 #[cfg(test)]
+mod rust;
+#[cfg(test)]
 mod symbols;
