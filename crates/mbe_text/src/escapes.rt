@@ -148,8 +148,8 @@ fn past_one<'t>(
 ) -> Result<&'t str, Fault<'t>> {
     match char {
         '\\' => past_escape(text, after, quoted),
+        '\n' | '\r' | '\t' | '\'' if quoted.is_single() => fault(Wrong::CharToEscape, text),
         '\r' => fault(Wrong::BareReturn, text),
-        '\n' | '\t' | '\'' if quoted.is_single() => fault(Wrong::CharToEscape, text),
         '\0' if quoted == Quoted::CStr => fault(Wrong::Nul, text),
         _ if quoted.is_bytes() && !char.is_ascii() => fault(Wrong::NonAscii, text),
         _ => Ok(after),

@@ -96,23 +96,25 @@ fn inside<'t, T>(
     }
 }
 
-// A string, which goes on after its first quote.
-fn string<'t>(text: &'t str, body: &'t str, kind: LitKind, quoted: Quoted) -> Read<'t> {
+// A string, whose first quote stands here, after its first letters.
+fn string<'t>(quote: &'t str, kind: LitKind, quoted: Quoted) -> Read<'t> {
+    let body = past_front(quote, "\"").unwrap_or(quote);
     let Some((content, rest)) = string_text(body) else {
-        return fault(Wrong::OpenString, text);
+        return fault(Wrong::OpenString, quote);
     };
     inside(body, content, check_string(content, quoted))?;
     literal(kind, content, rest)
 }
 
-// A char or a byte, which goes on after its first quote.
-fn char<'t>(text: &'t str, body: &'t str, kind: LitKind, quoted: Quoted) -> Read<'t> {
+// A char or a byte, whose first quote stands here, after its first letter.
+fn char<'t>(text: &'t str, quote: &'t str, kind: LitKind, quoted: Quoted) -> Read<'t> {
+    let body = past_front(quote, "'").unwrap_or(quote);
     let Some((content, rest)) = char_text(body) else {
         let wrong = match quoted {
             Quoted::Byte => Wrong::OpenByte,
             _ => Wrong::OpenChar,
         };
-        return fault(wrong, text);
+        return fault(wrong, quote);
     };
     if !inside(body, content, check_char(content, quoted))? {
         return fault(Wrong::SeveralChars, text);
@@ -162,31 +164,21 @@ fn read_r<'t>(edition: Edition, text: &'t str, behind: &'t str) -> Read<'t> {
 
 // What begins with a `b`.
 fn read_b<'t>(edition: Edition, text: &'t str, behind: &'t str) -> Read<'t> {
-    if let Some(body) = past_front(behind, "'") {
-        char(text, body, LitKind::Byte, Quoted::Byte)
-    } else if let Some(body) = past_front(behind, "\"") {
-        string(text, body, LitKind::ByteStr, Quoted::ByteStr)
-    } else if let Some(body) = past_front(behind, "r")
-        && begins_raw(body)
-    {
-        raw(text, body, Quoted::ByteStr)
-    } else {
-        identifier(edition, text)
+    match split_first(behind) {
+        Some(('\'', _)) => char(text, behind, LitKind::Byte, Quoted::Byte),
+        Some(('"', _)) => string(behind, LitKind::ByteStr, Quoted::ByteStr),
+        Some(('r', hashes)) if begins_raw(hashes) => raw(text, hashes, Quoted::ByteStr),
+        _ => identifier(edition, text),
     }
 }
 
 // What begins with a `c`: a C string since 2021.
 fn read_c<'t>(edition: Edition, text: &'t str, behind: &'t str) -> Read<'t> {
-    if !edition.at_least_2021() {
-        identifier(edition, text)
-    } else if let Some(body) = past_front(behind, "\"") {
-        string(text, body, LitKind::CStr, Quoted::CStr)
-    } else if let Some(body) = past_front(behind, "r")
-        && begins_raw(body)
-    {
-        raw(text, body, Quoted::CStr)
-    } else {
-        identifier(edition, text)
+    match split_first(behind) {
+        _ if !edition.at_least_2021() => identifier(edition, text),
+        Some(('"', _)) => string(behind, LitKind::CStr, Quoted::CStr),
+        Some(('r', hashes)) if begins_raw(hashes) => raw(text, hashes, Quoted::CStr),
+        _ => identifier(edition, text),
     }
 }
 
@@ -237,7 +229,7 @@ fn begins_lifetime(behind: &str) -> bool {
 // What begins with a `'`.
 fn read_quote<'t>(edition: Edition, text: &'t str, behind: &'t str) -> Read<'t> {
     if !begins_lifetime(behind) {
-        return char(text, behind, LitKind::Char, Quoted::Char);
+        return char(text, text, LitKind::Char, Quoted::Char);
     }
     match past_front(behind, "r#") {
         Some(name) if edition.at_least_2021() && begins(name, Class::IdentStart) => {
@@ -442,7 +434,7 @@ pub(crate) fn read_rust<'t>(edition: Edition, text: &'t str) -> Option<Read<'t>>
         'c' => Some(read_c(edition, text, behind)),
         _ if Class::IdentStart.has(first) => Some(identifier(edition, text)),
         _ if Class::Decimal.has(first) => Some(number(text)),
-        '"' => Some(string(text, behind, LitKind::Str, Quoted::Str)),
+        '"' => Some(string(text, LitKind::Str, Quoted::Str)),
         '\'' => Some(read_quote(edition, text, behind)),
         '#' => Some(Err(read_hash(edition, text, behind)?)),
         '/' if begins_doc(text) => Some(doc(text)),
