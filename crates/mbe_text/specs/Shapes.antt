@@ -16,6 +16,8 @@ pub data Shape : Type 0 where
   identifier : (name : List ℕ) → IdentIsRaw → Shape
   literal_of : (text suffix : List ℕ) (suffix_len : ℕ) → LitKind → Shape
   punct_of : (char : ℕ) → Spacing → Shape
+  lifetime_of : (name : List ℕ) → IdentIsRaw → Shape
+  doc_of : (text : List ℕ) (is_inner : Bool) → Shape
   opening : DelimiterKind → Shape
   closing : DelimiterKind → Shape
 
