@@ -108,11 +108,11 @@ raw_string q from cs =
     else elim (from_raw_end hashes (drop 1 body)) [
       | None ↦ Err (wrong.OpenRawString, from)
       | Some end ↦
-        if not (nat_le (length hashes) 255) then Err (wrong.RawStringHashes, from)
-        else elim (check_raw q (front (drop 1 body) end)) [
-          | Err at ↦ Err (within (drop 1 body) (front (drop 1 body) end) at)
-          | Ok u ↦ literal (raw_kind q (length hashes)) (bytes_before (drop 1 body) end) (drop (suc (length hashes)) end)
-        ]
+          if not (nat_le (length hashes) 255) then Err (wrong.RawStringHashes, from)
+          else elim (check_raw q (front (drop 1 body) end)) [
+            | Err at ↦ Err (within (drop 1 body) (front (drop 1 body) end) at)
+            | Ok u ↦ literal (raw_kind q (length hashes)) (bytes_before (drop 1 body) end) (drop (suc (length hashes)) end)
+          ]
     ]
 
 abbrev pub begins_raw_string : List ℕ → Bool
@@ -207,7 +207,7 @@ abbrev pub past_exponent : List ℕ → List ℕ → Result (Option (List ℕ)) 
 past_exponent from cs = elim (past_one Exponent cs) [
   | None ↦ Ok None
   | Some rest ↦ let digits = unwrap_or (past_one Sign rest) rest in
-    if has_digit ten digits then Ok (Some (past Digit digits)) else Err (wrong.Exponent, from)
+      if has_digit ten digits then Ok (Some (past Digit digits)) else Err (wrong.Exponent, from)
 ]
 
 -- the same of a fraction, which an exponent may follow only after a digit of its own, or of an exponent without a fraction
@@ -249,7 +249,7 @@ number cs =
     else elim (past_fraction cs rest) [
       | Err at ↦ Err at
       | Ok (Some after) ↦
-        if is_ten base then literal kinds.Float (bytes_before cs after) after else Err (wrong.FloatBase, cs)
+          if is_ten base then literal kinds.Float (bytes_before cs after) after else Err (wrong.FloatBase, cs)
       | Ok None ↦ elim (large_digit base digits) [
         | Some at ↦ Err (wrong.Digit, at)
         | None ↦ literal kinds.Integer (bytes_before cs rest) rest

@@ -8,4 +8,6 @@ mod printing;
 #[cfg(test)]
 mod rust;
 #[cfg(test)]
+mod rust_rows;
+#[cfg(test)]
 mod symbols;

@@ -1,4 +1,5 @@
 // The tokens of whole Rust: texts with what rustc makes of them, or its message and the byte at fault.
+use crate::rust_rows::RANDOM;
 use mbe_text::dialect::Dialect;
 use mbe_text::lexer::{LexError, lex_as};
 use mbe_text::symbols::SymbolTable;
@@ -41,7 +42,7 @@ fn push_trees(tree: &TopSubtree, line: &mut String) -> Result<(), Fail> {
                     DelimiterKind::Invisible => "$ ",
                 },
             )?,
-            None => line.push_str("end ")?,
+            None => line.push_str("] ")?,
         }
         cursor.bump_or_end();
     }
@@ -199,13 +200,9 @@ static ROWS: &[Row] = &[
     ),
     (Edition2024, "###\"x\"###", "invalid string literal at 0"),
     (Edition2021, "## #\"x\"#", "## # \"x\" # "),
-    (Edition2021, "/** a */ x", "# [ doc = r\" a \" end x "),
-    (
-        Edition2021,
-        "/// a \"# b",
-        "# [ doc = r##\" a \"# b\"## end ",
-    ),
-    (Edition2021, "//! a", "#! [ doc = r\" a\" end "),
+    (Edition2021, "/** a */ x", "# [ doc = r\" a \" ] x "),
+    (Edition2021, "/// a \"# b", "# [ doc = r##\" a \"# b\"## ] "),
+    (Edition2021, "//! a", "#! [ doc = r\" a\" ] "),
     (Edition2021, "/**/ /***/ //// a", ""),
     (
         Edition2021,
@@ -227,8 +224,8 @@ static ROWS: &[Row] = &[
         "(a",
         "this file contains an unclosed delimiter at 2",
     ),
-    (Edition2021, "#! /bin/sh\n#![a]", "#! [ a end "),
-    (Edition2021, "#! /* a */ [a]", "#! [ a end "),
+    (Edition2021, "#! /bin/sh\n#![a]", "#! [ a ] "),
+    (Edition2021, "#! /* a */ [a]", "#! [ a ] "),
     (Edition2021, "\u{feff}a", "a "),
 ];
 
@@ -237,6 +234,31 @@ fn rows(rt: HostRuntime) -> Result<(), Fail> {
     for (edition, text, want) in ROWS {
         let line = shown(rt.alloc(), *edition, text)?;
         assert_eq!(rt; line.as_str(), *want, "{text}");
+    }
+    Ok(())
+}
+
+// The line without its white space, where it has tokens.
+fn squeezed(alloc: Global, line: &str) -> Result<String, Fail> {
+    let mut squeezed = String::from_str(alloc, "ok ")?;
+    for char in line.chars() {
+        if !char.is_whitespace() {
+            squeezed.push(char)?;
+        }
+    }
+    Ok(squeezed)
+}
+
+#[test]
+fn random_texts(rt: HostRuntime) -> Result<(), Fail> {
+    for (edition, text, want) in RANDOM {
+        let line = shown(rt.alloc(), *edition, text)?;
+        if want.starts_with("ok ") {
+            let line = squeezed(rt.alloc(), line.as_str())?;
+            assert_eq!(rt; line.as_str(), *want, "{text:?}");
+        } else {
+            assert_eq!(rt; line.as_str(), *want, "{text:?}");
+        }
     }
     Ok(())
 }
