@@ -1,12 +1,15 @@
 -- What stands between the quotes of Rust's literals: characters and escapes, one after another.
-use Rattle.std.specs.Prelude.{ℕ, suc, ◌==◌, ◌+◌, ◌*◌, nat_lt, not, ◌&&◌, ◌||◌, Bool, true, false, if◌then◌else◌, Option, Some, None, List, [], ◌∷◌, codes, Result, Ok, Err, zero}
+use Rattle.std.specs.Borrow.{Bor}
+use Rattle.std.specs.Prelude.{◌≡◌, ⊤, chars, ℕ, suc, ◌==◌, ◌+◌, ◌*◌, nat_lt, not, ◌&&◌, ◌||◌, Bool, true, false, if◌then◌else◌, Option, Some, None, List, [], ◌∷◌, codes, Result, Ok, Err, zero}
 use Rattle.std.specs.Char.{digit_value, char_set_contains}
 use Rattle.mbe_text.specs.declared.characters.Class.TheVariants.{Blank}
 use Rattle.mbe_text.specs.declared.escapes.Quoted.{Quoted}
 use Rattle.mbe_text.specs.declared.escapes.Quoted.TheVariants.{Char, Byte, Str, ByteStr, CStr}
+use Rattle.mbe_text.specs.declared.wrong.Fault.{Fault}
 use Rattle.mbe_text.specs.declared.wrong.Wrong.{Wrong}
 use Rattle.mbe_text.specs.declared.wrong.Wrong.TheVariants as wrong
 use Rattle.mbe_text.specs.Characters.{past, backslash, low_line}
+use Rattle.mbe_text.specs.Ends.{IsEnd}
 
 -- What is wrong, and the text from there on.
 abbrev pub At : Type 0
@@ -15,6 +18,29 @@ At = Wrong × List ℕ
 -- what is left after a character or an escape
 abbrev pub Left : Type 0
 Left = Result (List ℕ) At
+
+-- what a call found wrong
+abbrev pub fault_seen : Fault → At
+fault_seen fault = (fault.wrong, chars fault.at.now)
+
+-- that is what a call left or found wrong
+abbrev pub Leaves : Left → Result (Bor (List ℕ)) Fault → Type 0
+Leaves left (Ok rest) = left ≡ Ok (chars rest.now)
+Leaves left (Err fault) = left ≡ Err (fault_seen fault)
+
+-- both are ends of a text
+abbrev pub LeavesEnd : List ℕ → Result (Bor (List ℕ)) Fault → Type 0
+LeavesEnd text (Ok rest) = IsEnd text rest.now
+LeavesEnd text (Err fault) = IsEnd text fault.at.now
+
+-- that is what a call found wrong
+abbrev pub Checks : Result (Unit {0}) At → Result (Unit {0}) Fault → Type 0
+Checks checked (Ok u) = checked ≡ Ok tt
+Checks checked (Err fault) = checked ≡ Err (fault_seen fault)
+
+abbrev pub ChecksEnd : List ℕ → Result (Unit {0}) Fault → Type 0
+ChecksEnd text (Ok u) = ⊤
+ChecksEnd text (Err fault) = IsEnd text fault.at.now
 
 -- of one character
 abbrev pub is_single : Quoted → Bool

@@ -1,5 +1,6 @@
 -- Whole Rust: which token stands at a text, after white space and comments.
-use Rattle.std.specs.Prelude.{ℕ, ◌==◌, ◌-◌, not, ◌&&◌, ◌||◌, nat_le, if◌then◌else◌, Bool, true, false, Option, Some, None, List, [], ◌∷◌, length, drop, take, codes, encode_utf8_all, bytes_eq, option_map, Result, Ok, Err, suc, unwrap_or}
+use Rattle.std.specs.Borrow.{Bor}
+use Rattle.std.specs.Prelude.{◌≡◌, chars, ℕ, ◌==◌, ◌-◌, not, ◌&&◌, ◌||◌, nat_le, if◌then◌else◌, Bool, true, false, Option, Some, None, List, [], ◌∷◌, length, drop, take, codes, encode_utf8_all, bytes_eq, option_map, Result, Ok, Err, suc, unwrap_or}
 use Rattle.std.specs.Char.{char_set_contains}
 use Rattle.mbe_tt.specs.Trees.Editions.{at_least_2021}
 use Rattle.mbe_tt.specs.declared.span.Edition.{Edition}
@@ -12,18 +13,31 @@ use Rattle.mbe_text.specs.declared.characters.Class.{Class}
 use Rattle.mbe_text.specs.declared.characters.Class.TheVariants.{IdentStart, Decimal, Digit, HexDigit, Exponent, Sign, Hash, InLine}
 use Rattle.mbe_text.specs.declared.escapes.Quoted.{Quoted}
 use Rattle.mbe_text.specs.declared.escapes.Quoted.TheVariants.{Char, Byte, Str, ByteStr, CStr}
+use Rattle.mbe_text.specs.declared.scanner.Lexeme.{Lexeme}
+use Rattle.mbe_text.specs.declared.wrong.Fault.{Fault}
 use Rattle.mbe_text.specs.declared.wrong.Wrong.{Wrong}
 use Rattle.mbe_text.specs.declared.wrong.Wrong.TheVariants as wrong
 use Rattle.mbe_text.specs.Characters.{has, begins, begins_with, past, past_one, bytes_before, low_line}
 use Rattle.mbe_text.specs.Blanks.{past_comments}
-use Rattle.mbe_text.specs.Escapes.{At, is_bytes, check_string, check_raw, check_char}
+use Rattle.mbe_text.specs.Escapes.{At, fault_seen, is_bytes, check_string, check_raw, check_char}
+use Rattle.mbe_text.specs.Ends.{IsEnd}
 use Rattle.mbe_text.specs.Extents.{from_string_end, from_raw_end, from_char_end}
-use Rattle.mbe_text.specs.Shapes.{Shape, identifier, literal_of, lifetime_of, doc_of}
+use Rattle.mbe_text.specs.Shapes.{Shape, identifier, literal_of, lifetime_of, doc_of, shape_of}
 use Rattle.mbe_text.specs.Words.{past_word}
 
 -- A token, and what is left after it; or what is wrong, and the text from there on.
 abbrev pub Token : Type 0
 Token = Result (Shape × List ℕ) At
+
+-- that is what a call read, and what it left
+abbrev pub Reads : Token → Result (Lexeme × Bor (List ℕ)) Fault → Type 0
+Reads token (Ok (l, rest)) = token ≡ Ok (shape_of l, chars rest.now)
+Reads token (Err fault) = token ≡ Err (fault_seen fault)
+
+-- both are ends of a text
+abbrev pub ReadsEnd : List ℕ → Result (Lexeme × Bor (List ℕ)) Fault → Type 0
+ReadsEnd text (Ok (l, rest)) = IsEnd text rest.now
+ReadsEnd text (Err fault) = IsEnd text fault.at.now
 
 -- ---- words
 

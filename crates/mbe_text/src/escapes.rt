@@ -1,4 +1,10 @@
 // What stands between the quotes of Rust's literals: characters and escapes, one after another.
+ghost use Rattle.std.specs.Prelude.{◌≡◌, ◌∷◌, ◌||◌, length, chars, true, false, MatchOption};
+ghost use Rattle.std.specs.Char.{digit_value};
+ghost use Rattle.mbe_text.specs.Ends.{IsEnd};
+ghost use Rattle.mbe_text.specs.Escapes as spec;
+ghost use Rattle.mbe_text.specs.Escapes.{Leaves, LeavesEnd, Checks, ChecksEnd};
+
 use crate::characters::{Class, before, begins_with, past, past_front, split_first};
 use crate::wrong::{Fault, Wrong};
 
@@ -14,16 +20,22 @@ pub(crate) enum Quoted {
 
 impl Quoted {
     // Whether it is of one character.
-    pub(crate) fn is_single(self) -> bool {
+    pub(crate) fn is_single(self) -> bool
+        ensures { result ≡ spec.is_single self }
+    {
         matches!(self, Quoted::Char | Quoted::Byte)
     }
 
     // Whether it is of bytes, and so has ASCII characters and no `\u`.
-    fn is_bytes(self) -> bool {
+    fn is_bytes(self) -> bool
+        ensures { result ≡ spec.is_bytes self }
+    {
         matches!(self, Quoted::Byte | Quoted::ByteStr)
     }
 
-    fn has_large_hex(self) -> bool {
+    fn has_large_hex(self) -> bool
+        ensures { result ≡ (spec.is_bytes self || spec.is_c self) }
+    {
         matches!(self, Quoted::Byte | Quoted::ByteStr | Quoted::CStr)
     }
 }
@@ -33,12 +45,18 @@ fn fault<T>(wrong: Wrong, at: &str) -> Result<T, Fault<'_>> {
 }
 
 // A digit in base sixteen.
-fn hex_value(char: char) -> Option<u32> {
+fn hex_value(char: char) -> Option<u32>
+    ensures { MatchOption result (spec.is_hex char ≡ false)
+        (λ n. (spec.is_hex char ≡ true) × (n ≡ digit_value char)) }
+{
     char.to_digit(16)
 }
 
 // What is after the two digits of a `\x` that begins at `from`.
-fn past_hex<'t>(from: &'t str, text: &'t str, quoted: Quoted) -> Result<&'t str, Fault<'t>> {
+fn past_hex<'t>(from: &'t str, text: &'t str, quoted: Quoted) -> Result<&'t str, Fault<'t>>
+    ensures exact { Leaves (spec.past_hex quoted (chars from.now) (chars text.now)) result }
+    ensures end { IsEnd from.now text.now → LeavesEnd from.now result }
+{
     let Some((high, rest)) = split_first(text) else {
         return fault(Wrong::ShortHexEscape, from);
     };
@@ -66,7 +84,11 @@ fn past_digits<'t>(
     text: &'t str,
     first: u32,
     quoted: Quoted,
-) -> Result<&'t str, Fault<'t>> {
+) -> Result<&'t str, Fault<'t>>
+    ensures exact { Leaves
+        (spec.past_digits quoted (chars from.now) first 1 (chars text.now)) result }
+    ensures end { IsEnd from.now text.now → LeavesEnd from.now result }
+{
     let mut value = first;
     let mut count = 1u32;
     let mut rest = text;
@@ -95,7 +117,11 @@ fn past_value<'t>(
     value: u32,
     count: u32,
     quoted: Quoted,
-) -> Result<&'t str, Fault<'t>> {
+) -> Result<&'t str, Fault<'t>>
+    ensures exact { Leaves
+        (spec.past_value quoted (chars from.now) value count (chars after.now)) result }
+    ensures end { IsEnd from.now after.now → LeavesEnd from.now result }
+{
     if count > 6 {
         fault(Wrong::LongUnicodeEscape, from)
     } else if quoted.is_bytes() {
@@ -110,7 +136,10 @@ fn past_value<'t>(
 }
 
 // What is after a `\u` that begins at `from`.
-fn past_unicode<'t>(from: &'t str, text: &'t str, quoted: Quoted) -> Result<&'t str, Fault<'t>> {
+fn past_unicode<'t>(from: &'t str, text: &'t str, quoted: Quoted) -> Result<&'t str, Fault<'t>>
+    ensures exact { Leaves (spec.past_unicode quoted (chars from.now) (chars text.now)) result }
+    ensures end { IsEnd from.now text.now → LeavesEnd from.now result }
+{
     let Some(inside) = past_front(text, "{") else {
         return fault(Wrong::UnicodeEscapeBrace, from);
     };
@@ -126,7 +155,10 @@ fn past_unicode<'t>(from: &'t str, text: &'t str, quoted: Quoted) -> Result<&'t 
 }
 
 // What is after the escape that begins at `from`, after its `\`.
-fn past_escape<'t>(from: &'t str, text: &'t str, quoted: Quoted) -> Result<&'t str, Fault<'t>> {
+fn past_escape<'t>(from: &'t str, text: &'t str, quoted: Quoted) -> Result<&'t str, Fault<'t>>
+    ensures exact { Leaves (spec.past_escape quoted (chars from.now) (chars text.now)) result }
+    ensures end { IsEnd from.now text.now → LeavesEnd from.now result }
+{
     match split_first(text) {
         Some(('n' | 'r' | 't' | '\\' | '\'' | '"', rest)) => Ok(rest),
         Some(('0', _)) if quoted == Quoted::CStr => fault(Wrong::Nul, from),
@@ -145,7 +177,11 @@ fn past_one<'t>(
     char: char,
     after: &'t str,
     quoted: Quoted,
-) -> Result<&'t str, Fault<'t>> {
+) -> Result<&'t str, Fault<'t>>
+    ensures exact { chars text.now ≡ char ∷ chars after.now
+        → Leaves (spec.past_unit quoted char (chars after.now)) result }
+    ensures end { IsEnd text.now after.now → LeavesEnd text.now result }
+{
     match char {
         '\\' => past_escape(text, after, quoted),
         '\n' | '\r' | '\t' | '\'' if quoted.is_single() => fault(Wrong::CharToEscape, text),
@@ -157,7 +193,10 @@ fn past_one<'t>(
 }
 
 // Whether a string may have this text between its quotes.
-pub(crate) fn check_string(text: &str, quoted: Quoted) -> Result<(), Fault<'_>> {
+pub(crate) fn check_string(text: &str, quoted: Quoted) -> Result<(), Fault<'_>>
+    ensures exact { Checks (spec.check_string quoted (length (chars text.now)) (chars text.now)) result }
+    ensures end { ChecksEnd text.now result }
+{
     let mut rest = text;
     'parts: while let Some((char, after)) = split_first(rest) {
         rest = past_one(rest, char, after, quoted)?;
@@ -175,7 +214,10 @@ pub(crate) fn check_char(text: &str, quoted: Quoted) -> Result<bool, Fault<'_>> 
 }
 
 // Whether a raw string may have this text between its quotes.
-pub(crate) fn check_raw(text: &str, quoted: Quoted) -> Result<(), Fault<'_>> {
+pub(crate) fn check_raw(text: &str, quoted: Quoted) -> Result<(), Fault<'_>>
+    ensures exact { Checks (spec.check_raw quoted (chars text.now)) result }
+    ensures end { ChecksEnd text.now result }
+{
     let mut rest = text;
     'chars: while let Some((char, after)) = split_first(rest) {
         if char != '\\' {

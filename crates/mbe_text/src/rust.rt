@@ -3,6 +3,11 @@
 //
 // A trace of `br#"a"#u8 'x`: `br` and a `#` begin a raw string, of which `raw` passes `#"a"#`, and `literal` the suffix `u8`. After
 // the space, `'` and an `x` without a `'` after it are a lifetime.
+ghost use Rattle.std.specs.Prelude.{◌≡◌, chars, codes, drop, true};
+ghost use Rattle.mbe_text.specs.Characters.{begins_with};
+ghost use Rattle.mbe_text.specs.Rust as spec;
+ghost use Rattle.mbe_text.specs.Rust.{Reads, ReadsEnd};
+
 use crate::characters::{
     Class, before, begins, begins_with, past, past_front, past_one, split_first,
 };
@@ -47,12 +52,17 @@ fn literal<'t>(kind: LitKind, text: &'t str, rest: &'t str) -> Read<'t> {
 }
 
 // Whether a name may have a `r#` before it.
-fn may_be_raw(name: &str) -> bool {
+fn may_be_raw(name: &str) -> bool
+    ensures { result ≡ spec.may_be_raw name.now }
+{
     !matches!(name, "_" | "crate" | "self" | "super" | "Self")
 }
 
 // A raw identifier, whose name stands after its `r#`.
-fn raw_identifier<'t>(text: &'t str, behind: &'t str) -> Read<'t> {
+fn raw_identifier<'t>(text: &'t str, behind: &'t str) -> Read<'t>
+    ensures exact { begins_with (codes "r#") (chars text.now) ≡ true → chars behind.now ≡ drop 2 (chars text.now)
+        → Reads (spec.raw_identifier (chars text.now)) result }
+{
     let rest = past_word(behind);
     let name = before(behind, rest);
     if !may_be_raw(name) {
@@ -66,7 +76,10 @@ fn raw_identifier<'t>(text: &'t str, behind: &'t str) -> Read<'t> {
 }
 
 // An identifier without a `r#`. Since 2021 it is no prefix of what no literal has.
-fn identifier(edition: Edition, text: &str) -> Read<'_> {
+fn identifier(edition: Edition, text: &str) -> Read<'_>
+    ensures exact { Reads (spec.plain_identifier edition (chars text.now)) result }
+    ensures end { ReadsEnd text.now result }
+{
     let rest = past_word(text);
     let is_prefix = begins_with(rest, "#") || begins_with(rest, "\"") || begins_with(rest, "'");
     if is_prefix && edition.at_least_2021() {
@@ -149,7 +162,9 @@ fn raw<'t>(text: &'t str, behind: &'t str, quoted: Quoted) -> Read<'t> {
 }
 
 // Whether a raw string goes on here, or is meant to, after its first letters.
-fn begins_raw(behind: &str) -> bool {
+fn begins_raw(behind: &str) -> bool
+    ensures { result ≡ spec.begins_raw_string (chars behind.now) }
+{
     begins_with(behind, "\"") || begins_with(behind, "#")
 }
 
@@ -217,7 +232,9 @@ fn plain_lifetime<'t>(edition: Edition, text: &'t str, behind: &'t str) -> Read<
 }
 
 // Whether a lifetime goes on here after its `'`, or is meant to, and not a char.
-fn begins_lifetime(behind: &str) -> bool {
+fn begins_lifetime(behind: &str) -> bool
+    ensures { result ≡ spec.begins_lifetime (chars behind.now) }
+{
     match split_first(behind) {
         Some((first, after)) => {
             (Class::IdentStart.has(first) || Class::Decimal.has(first)) && !begins_with(after, "'")
@@ -329,7 +346,10 @@ fn large_digit(base: Base, digits: &str) -> Option<&str> {
 }
 
 // A number.
-fn number(text: &str) -> Read<'_> {
+fn number(text: &str) -> Read<'_>
+    ensures exact { Reads (spec.number (chars text.now)) result }
+    ensures end { ReadsEnd text.now result }
+{
     let (base, digits) = base_of(text);
     if !has_digit(base, digits) {
         return fault(Wrong::NoDigits, text);
@@ -370,7 +390,9 @@ pub(crate) fn past_block(text: &str) -> Option<&str> {
 }
 
 // Whether a doc comment stands here: `///` or `//!`, `/**` or `/*!`, but none of `////`, `/***` and `/**/`.
-pub(crate) fn begins_doc(text: &str) -> bool {
+pub(crate) fn begins_doc(text: &str) -> bool
+    ensures { result ≡ spec.begins_doc (chars text.now) }
+{
     let is_line = begins_with(text, "///") && !begins_with(text, "////");
     let is_block = begins_with(text, "/**")
         && !begins_with(text, "/***")
@@ -391,7 +413,9 @@ fn doc_text(text: &str) -> Option<(&str, &str)> {
 }
 
 // A doc comment, which has no carriage return.
-fn doc(text: &str) -> Read<'_> {
+fn doc(text: &str) -> Read<'_>
+    ensures exact { spec.begins_doc (chars text.now) ≡ true → Reads (spec.doc (chars text.now)) result }
+{
     let Some((content, rest)) = doc_text(text) else {
         return fault(Wrong::OpenComment, text);
     };
