@@ -1,0 +1,4 @@
+// Trees as Rust text.
+#![tactic(auto)]
+
+pub mod writing;
