@@ -6,11 +6,11 @@
 // defines, those that no rule fits, and those beyond the limits; of the latter two a note says so.
 ghost use Rattle.std.specs.Prelude.{◌≡◌, ◌<◌, length, IsSome, IsTrue, IfOk, OnOk};
 
-use crate::calls::{Call, Defined, Front, attribute_at, binds, front_of, is_standard};
+use mbe_calls::calls::{Call, Defined, Front, attribute_at, binds, front_of, is_standard};
 use crate::notes::{Level, Note};
 use crate::scope::{Scope, buffer_of};
 use crate::settings::Settings;
-use crate::splicing::Replacement;
+use mbe_calls::splicing::Replacement;
 use mbe::{ExpandError, ExpandResult, MacroCallStyle, MatchedArmIndex, ValueResult, expect_fragment};
 use mbe_rules::table::RuleTable;
 use mbe_rust_text::writing::Writer;

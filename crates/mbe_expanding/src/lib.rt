@@ -1,10 +1,8 @@
 // Macros of Rust files: where they are defined and called, and what their calls expand to.
 #![tactic(auto)]
 
-pub mod calls;
 pub mod expander;
 pub mod files;
 pub mod notes;
 pub mod scope;
 pub mod settings;
-pub mod splicing;

@@ -1,5 +1,5 @@
 // Which definition a call names.
-use crate::calls::{Defined, Form};
+use mbe_calls::calls::{Defined, Form};
 use mbe::DeclarativeMacro;
 use mbe_tt::span::Edition;
 use mbe_tt::tt::{Delimiter, TokenTreesView, TopSubtree, TopSubtreeBuilder};

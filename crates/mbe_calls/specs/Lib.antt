@@ -1,0 +1,4 @@
+pub mod Fronts
+pub mod Replacements
+pub mod Shown
+pub mod Splicing
