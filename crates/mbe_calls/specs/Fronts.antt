@@ -1,5 +1,6 @@
 -- What stands at the front of trees: a definition of a macro, a call of one, or any other tree.
-use Rattle.std.specs.Prelude.{ℕ, zero, suc, Bool, true, false, not, ◌||◌, if◌then◌else◌, String, codes, List, [], ◌∷◌, map, Option, Some, None, option_map, option_and_then, is_some, unwrap_or}
+use Prim.Native.String.{String}
+use Rattle.std.specs.Prelude.{ℕ, zero, suc, Bool, true, false, not, ◌==◌, if◌then◌else◌, codes, List, [], ◌∷◌, map, Option, Some, None, option_map, option_and_then, unwrap_or}
 use Rattle.std.specs.List.{list_any}
 use Rattle.mbe_tt.specs.Trees.Leaf.{Ident, is_text}
 use Rattle.mbe_tt.specs.Trees.Tree.{Forest, Tree, first, rest_of, first_span, flat_len, front_punct, front_ident, front_group}
@@ -40,13 +41,17 @@ unfoldable pub longer : ℕ → Path → Option Path
 longer zero path = Some path
 longer (suc n) path = goes_on (longer n) path (after_colons path.rest)
 
--- as long as it goes
+-- as long as it goes: each name more takes trees
 abbrev pub longest : Path → Option Path
 longest path = longer (flat_len path.rest) path
 
--- the path at the front, if one is there
+-- the path at the front, if one is there; it may begin with a `::`
+abbrev pub path_from : Forest → Option Forest → Option Path
+path_from f None = option_and_then longest (path_to false f)
+path_from f (Some after) = option_and_then longest (path_to true after)
+
 abbrev pub path_of : Forest → Option Path
-path_of f = option_and_then longest (path_to (is_some (after_colons f)) (unwrap_or (after_colons f) f))
+path_of f = path_from f (after_colons f)
 
 -- ---- calls
 

@@ -1,4 +1,15 @@
 // Calls and definitions of macros at the front of trees.
+ghost use Rattle.std.specs.Prelude.{◌≡◌, Some, length, option_map};
+ghost use Rattle.std.specs.List.{list_any};
+ghost use Rattle.std.specs.Str.{bytes_eq};
+ghost use Rattle.mbe_tt.specs.Views.View.{trees};
+ghost use Rattle.mbe_tt.specs.Views.Shown.{ident_of};
+ghost use Rattle.mbe_calls.specs.Fronts.{is_nameable, is_visible, after_char, after_colons, path_to};
+ghost use Rattle.mbe_calls.specs.Fronts.{longest, path_of, call_with, call_by, call_of};
+ghost use Rattle.mbe_calls.specs.Fronts.{after_rules, rules_with, rules_of, template_with, body_with};
+ghost use Rattle.mbe_calls.specs.Fronts.{item_with, item_of, defined_by, definition_of, front};
+ghost use Rattle.mbe_calls.specs.Shown.{path_shown, call_shown, defined_shown, front_shown};
+
 use mbe_tt::tt::{DelimiterKind, Ident, IdentIsRaw, Leaf, Subtree, TokenTreesView, TtElement, TtIter};
 use mbe_tt::span::Span;
 use std::alloc::{Allocator, Global};
@@ -96,54 +107,127 @@ const KEYWORDS: &[&str] = &[
 
 /// Whether calls in the argument of that macro are calls, where no file defines it.
 pub fn is_standard(name: &str) -> bool {
-    STANDARD.iter().any(|standard| *standard == name)
+    is_text_of(name, STANDARD)
 }
 
-fn names_macro<A: Allocator>(ident: &Ident<A>) -> bool {
-    let text = ident.sym.as_str();
-    ident.is_raw == IdentIsRaw::Yes || !KEYWORDS.iter().any(|keyword| *keyword == text)
+fn is_text_of(text: &str, texts: &[&str]) -> bool
+    ensures { result ≡ list_any (λ t. bytes_eq text.now t.now) texts.now }
+{
+    texts.iter().any(|t| text == *t)
 }
 
-// Consumes a `::`, where one stands here.
-fn skip_colons<A: Allocator>(iter: &mut TtIter<'_, A>) -> bool {
-    let mut ahead = iter.remaining().iter();
-    if ahead.expect_char(':').is_ok() && ahead.expect_char(':').is_ok() {
-        *iter = ahead;
-        return true;
+// Whether a macro may be called by that name.
+fn is_nameable<A: Allocator>(name: &Ident<A>) -> bool
+    ensures { result ≡ is_nameable name.now.is_raw name.now.sym }
+{
+    match name.is_raw {
+        IdentIsRaw::Yes => true,
+        IdentIsRaw::No => !is_text_of(name.sym.as_str(), KEYWORDS),
     }
-    false
 }
 
-// Consumes a path of names, and returns the last one, with whether there is more than that.
-fn path<'t, A: Allocator>(iter: &mut TtIter<'t, A>) -> Option<(&'t Ident<A>, bool)> {
-    let mut is_path = skip_colons(iter);
-    let mut name = iter.expect_ident().ok()?;
-    let most = iter.remaining().flat_len();
-    for _ in 0..most {
-        if !skip_colons(iter) {
-            return Some((name, is_path));
+// What stands after a punct of that char.
+fn after_char<'t, A: Allocator>(
+    tokens: TokenTreesView<'t, A>,
+    char: char,
+) -> Option<TokenTreesView<'t, A>>
+    ensures { option_map trees result ≡ after_char char (trees tokens.entry) }
+{
+    let mut iter = tokens.iter();
+    let punct = iter.expect_single_punct().ok()?;
+    if punct.char == char {
+        Some(iter.remaining())
+    } else {
+        None
+    }
+}
+
+// What stands after a `::`.
+fn after_colons<'t, A: Allocator>(tokens: TokenTreesView<'t, A>) -> Option<TokenTreesView<'t, A>>
+    ensures { option_map trees result ≡ after_colons (trees tokens.entry) }
+{
+    let rest = after_char(tokens, ':')?;
+    after_char(rest, ':')
+}
+
+// A path of names.
+#[derive(Drop)]
+#[derive_where(Clone, Copy)]
+struct Path<'t, A: Allocator = Global> {
+    // The last one.
+    name: &'t Ident<A>,
+    // Whether the path has more.
+    is_path: bool,
+    // What stands after it.
+    rest: TokenTreesView<'t, A>,
+}
+
+// The path that ends with the name at the front.
+fn path_to<'t, A: Allocator>(is_path: bool, tokens: TokenTreesView<'t, A>) -> Option<Path<'t, A>>
+    ensures { option_map path_shown result ≡ path_to is_path (trees tokens.entry) }
+{
+    let mut iter = tokens.iter();
+    let name = iter.expect_ident().ok()?;
+    Some(Path {
+        name,
+        is_path,
+        rest: iter.remaining(),
+    })
+}
+
+// A path with the names that go on with it.
+fn longest<'t, A: Allocator>(path: Path<'t, A>) -> Option<Path<'t, A>>
+    ensures { option_map path_shown result ≡ longest (path_shown path.entry) }
+{
+    let mut longer = path;
+    let mut left = path.rest.flat_len();
+    'names: while left > 0 {
+        left -= 1;
+        match after_colons(longer.rest) {
+            None => return Some(longer),
+            Some(after) => longer = path_to(true, after)?,
         }
-        is_path = true;
-        name = iter.expect_ident().ok()?;
     }
-    Some((name, is_path))
+    Some(longer)
 }
 
-fn call_at<'t, A: Allocator>(trees: TokenTreesView<'t, A>) -> Option<Call<'t, A>> {
-    let mut iter = trees.iter();
-    let start = iter.next_span()?;
-    let (name, is_path) = path(&mut iter)?;
-    if !names_macro(name) {
-        return None;
+// The path at the front.
+fn path_of<'t, A: Allocator>(tokens: TokenTreesView<'t, A>) -> Option<Path<'t, A>>
+    ensures { option_map path_shown result ≡ path_of (trees tokens.entry) }
+{
+    let path = match after_colons(tokens) {
+        None => path_to(false, tokens)?,
+        Some(after) => path_to(true, after)?,
+    };
+    longest(path)
+}
+
+fn is_visible(kind: DelimiterKind) -> bool
+    ensures { result ≡ is_visible kind }
+{
+    match kind {
+        DelimiterKind::Invisible => false,
+        DelimiterKind::Parenthesis | DelimiterKind::Brace | DelimiterKind::Bracket => true,
     }
-    iter.expect_char('!').ok()?;
+}
+
+// The call by a path with the group at the front of these trees.
+fn call_with<'t, A: Allocator>(
+    start: Span,
+    path: Path<'t, A>,
+    tokens: TokenTreesView<'t, A>,
+) -> Option<Call<'t, A>>
+    ensures { option_map call_shown result
+        ≡ call_with start (path_shown path.entry) (trees tokens.entry) }
+{
+    let mut iter = tokens.iter();
     let (group, content) = iter.expect_subtree().ok()?;
-    if group.delimiter.kind == DelimiterKind::Invisible {
+    if !is_visible(group.delimiter.kind) {
         return None;
     }
     Some(Call {
-        name,
-        is_path,
+        name: path.name,
+        is_path: path.is_path,
         group,
         argument: content.remaining(),
         rest: iter.remaining(),
@@ -151,66 +235,175 @@ fn call_at<'t, A: Allocator>(trees: TokenTreesView<'t, A>) -> Option<Call<'t, A>
     })
 }
 
-// What follows `macro_rules`.
-fn macro_rules<'t, A: Allocator>(mut iter: TtIter<'t, A>) -> Option<Defined<'t, A>> {
-    iter.expect_char('!').ok()?;
-    let name = iter.expect_ident().ok()?;
-    let (group, content) = iter.expect_subtree().ok()?;
-    if group.delimiter.kind != DelimiterKind::Brace {
-        let _semicolon = iter.expect_char(';');
+// The call by a path.
+fn call_by<'t, A: Allocator>(start: Span, path: Path<'t, A>) -> Option<Call<'t, A>>
+    ensures { option_map call_shown result ≡ call_by start (path_shown path.entry) }
+{
+    if !is_nameable(path.name) {
+        return None;
     }
+    let group = after_char(path.rest, '!')?;
+    call_with(start, path, group)
+}
+
+// The call at the front.
+fn call_of<'t, A: Allocator>(tokens: TokenTreesView<'t, A>) -> Option<Call<'t, A>>
+    ensures { option_map call_shown result ≡ call_of (trees tokens.entry) }
+{
+    let start = tokens.iter().next_span()?;
+    let path = path_of(tokens)?;
+    call_by(start, path)
+}
+
+// What follows the group of rules: a `;` belongs to it, but after braces.
+fn after_rules<'t, A: Allocator>(
+    kind: DelimiterKind,
+    tokens: TokenTreesView<'t, A>,
+) -> TokenTreesView<'t, A>
+    ensures { trees result ≡ after_rules kind (trees tokens.entry) }
+{
+    match kind {
+        DelimiterKind::Brace => tokens,
+        DelimiterKind::Parenthesis | DelimiterKind::Bracket | DelimiterKind::Invisible => {
+            after_char(tokens, ';').unwrap_or(tokens)
+        }
+    }
+}
+
+// The definition of that name by the rules at the front.
+fn rules_with<'t, A: Allocator>(
+    name: &'t Ident<A>,
+    tokens: TokenTreesView<'t, A>,
+) -> Option<Defined<'t, A>>
+    ensures { option_map defined_shown result
+        ≡ rules_with (ident_of name.now) (trees tokens.entry) }
+{
+    let mut iter = tokens.iter();
+    let (group, content) = iter.expect_subtree().ok()?;
     Some(Defined {
         name,
         form: Form::Rules,
         group,
         rules: content.remaining(),
+        rest: after_rules(group.delimiter.kind, iter.remaining()),
+    })
+}
+
+// What follows `macro_rules`.
+fn rules_of<'t, A: Allocator>(tokens: TokenTreesView<'t, A>) -> Option<Defined<'t, A>>
+    ensures { option_map defined_shown result ≡ rules_of (trees tokens.entry) }
+{
+    let mut iter = after_char(tokens, '!')?.iter();
+    let name = iter.expect_ident().ok()?;
+    rules_with(name, iter.remaining())
+}
+
+// The definition by a pattern and the template at the front.
+fn template_with<'t, A: Allocator>(
+    name: &'t Ident<A>,
+    group: &'t Subtree,
+    pattern: TokenTreesView<'t, A>,
+    tokens: TokenTreesView<'t, A>,
+) -> Option<Defined<'t, A>>
+    ensures { option_map defined_shown result ≡ template_with (ident_of name.now)
+        group.now.delimiter (trees pattern.entry) (trees tokens.entry) }
+{
+    let mut iter = tokens.iter();
+    let (body, template) = iter.expect_subtree().ok()?;
+    Some(Defined {
+        name,
+        form: Form::Arguments(group, pattern),
+        group: body,
+        rules: template.remaining(),
         rest: iter.remaining(),
     })
+}
+
+// The definition by a group, and what follows it.
+fn body_with<'t, A: Allocator>(
+    name: &'t Ident<A>,
+    group: &'t Subtree,
+    inside: TokenTreesView<'t, A>,
+    tokens: TokenTreesView<'t, A>,
+) -> Option<Defined<'t, A>>
+    ensures { option_map defined_shown result ≡ body_with (ident_of name.now)
+        group.now.delimiter.kind group.now.delimiter (trees inside.entry) (trees tokens.entry) }
+{
+    match group.delimiter.kind {
+        DelimiterKind::Brace => Some(Defined {
+            name,
+            form: Form::Body,
+            group,
+            rules: inside,
+            rest: tokens,
+        }),
+        DelimiterKind::Parenthesis | DelimiterKind::Bracket | DelimiterKind::Invisible => {
+            template_with(name, group, inside, tokens)
+        }
+    }
+}
+
+// The definition of that name by the group at the front.
+fn item_with<'t, A: Allocator>(
+    name: &'t Ident<A>,
+    tokens: TokenTreesView<'t, A>,
+) -> Option<Defined<'t, A>>
+    ensures { option_map defined_shown result
+        ≡ item_with (ident_of name.now) (trees tokens.entry) }
+{
+    let mut iter = tokens.iter();
+    let (group, inside) = iter.expect_subtree().ok()?;
+    body_with(name, group, inside.remaining(), iter.remaining())
 }
 
 // What follows `macro`.
-fn macro_item<'t, A: Allocator>(mut iter: TtIter<'t, A>) -> Option<Defined<'t, A>> {
+fn item_of<'t, A: Allocator>(tokens: TokenTreesView<'t, A>) -> Option<Defined<'t, A>>
+    ensures { option_map defined_shown result ≡ item_of (trees tokens.entry) }
+{
+    let mut iter = tokens.iter();
     let name = iter.expect_ident().ok()?;
-    let (first, content) = iter.expect_subtree().ok()?;
-    let content = content.remaining();
-    let (form, group, rules) = match first.delimiter.kind {
-        DelimiterKind::Brace => (Form::Body, first, content),
-        _ => {
-            let (group, body) = iter.expect_subtree().ok()?;
-            (Form::Arguments(first, content), group, body.remaining())
-        }
-    };
-    Some(Defined {
-        name,
-        form,
-        group,
-        rules,
-        rest: iter.remaining(),
-    })
+    item_with(name, iter.remaining())
 }
 
-fn definition_at<'t, A: Allocator>(trees: TokenTreesView<'t, A>) -> Option<Defined<'t, A>> {
-    let mut iter = trees.iter();
-    let word = iter.expect_ident().ok()?;
-    if word.is_raw == IdentIsRaw::Yes {
-        return None;
+// What follows that word.
+fn defined_by<'t, A: Allocator>(
+    word: &str,
+    tokens: TokenTreesView<'t, A>,
+) -> Option<Defined<'t, A>>
+    ensures { option_map defined_shown result ≡ defined_by word.now (trees tokens.entry) }
+{
+    if word == "macro_rules" {
+        rules_of(tokens)
+    } else if word == "macro" {
+        item_of(tokens)
+    } else {
+        None
     }
-    match word.sym.as_str() {
-        "macro_rules" => macro_rules(iter),
-        "macro" => macro_item(iter),
-        _ => None,
+}
+
+// The definition at the front.
+fn definition_of<'t, A: Allocator>(tokens: TokenTreesView<'t, A>) -> Option<Defined<'t, A>>
+    ensures { option_map defined_shown result ≡ definition_of (trees tokens.entry) }
+{
+    let mut iter = tokens.iter();
+    let word = iter.expect_ident().ok()?;
+    match word.is_raw {
+        IdentIsRaw::Yes => None,
+        IdentIsRaw::No => defined_by(word.sym.as_str(), iter.remaining()),
     }
 }
 
 /// What stands at the front of these trees.
-pub fn front_of<'t, A: Allocator>(trees: TokenTreesView<'t, A>) -> Front<'t, A> {
-    if let Some(defined) = definition_at(trees) {
+pub fn front_of<'t, A: Allocator>(tokens: TokenTreesView<'t, A>) -> Front<'t, A>
+    ensures { front_shown result ≡ front (trees tokens.entry) }
+{
+    if let Some(defined) = definition_of(tokens) {
         return Front::Definition(defined);
     }
-    if let Some(call) = call_at(trees) {
+    if let Some(call) = call_of(tokens) {
         return Front::Call(call);
     }
-    let mut iter = trees.iter();
+    let mut iter = tokens.iter();
     match iter.next() {
         Some(tree) => Front::Tree(tree, iter.remaining()),
         None => Front::End,

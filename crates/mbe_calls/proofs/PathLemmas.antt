@@ -1,0 +1,36 @@
+-- A path, one name on.
+use Rattle.std.proofs.Common.{◌≡◌, ℕ, suc, ◌-◌, ◌<◌, true, Option, Some, None, refl, ap, sym, ◌∙◌, arith}
+use Rattle.std.specs.Prelude.{option_and_then}
+use Rattle.mbe_tt.specs.Trees.Tree.{Forest}
+use Rattle.mbe_calls.specs.Fronts.{Path, after_colons, path_to, goes_on, longer}
+
+longer_suc : (n : ℕ) (path : Path) → longer (suc n) path ≡ goes_on (longer n) path (after_colons path.rest)
+unfolding longer
+longer_suc n path = refl
+
+one_more : (n : ℕ) → 0 < n → n ≡ suc (n - 1)
+one_more n h = omega (arith, h)
+
+longer_by : (n : ℕ) (path : Path) (after : Option Forest) → 0 < n → after ≡ after_colons path.rest
+    → goes_on (longer (n - 1)) path after ≡ longer n path
+longer_by n path after h e =
+    ap (goes_on (longer (n - 1)) path) e ∙ (sym (longer_suc (n - 1) path) ∙ sym (ap (λ k. longer k path) (one_more n h)))
+
+-- nothing goes on with it
+pub stops : (n : ℕ) (path : Path) → 0 < n → None ≡ after_colons path.rest → Some path ≡ longer n path
+stops n path h e = longer_by n path None h e
+
+-- no name follows
+pub breaks : (n : ℕ) (path : Path) (after : Forest) → 0 < n → Some after ≡ after_colons path.rest → None ≡ path_to true after
+    → None ≡ longer n path
+breaks n path after h e p = ap (option_and_then (longer (n - 1))) p ∙ longer_by n path (Some after) h e
+
+-- a name follows
+pub goes : (n : ℕ) (path : Path) (after : Forest) (next : Path) → 0 < n → Some after ≡ after_colons path.rest
+    → Some next ≡ path_to true after → longer (n - 1) next ≡ longer n path
+goes n path after next h e p = ap (option_and_then (longer (n - 1))) p ∙ longer_by n path (Some after) h e
+
+-- no trees are left
+pub ends : (n : ℕ) (path : Path) → n ≡ 0 → Some path ≡ longer n path
+unfolding longer
+ends n path e = rw e refl
