@@ -1,3 +1,4 @@
+pub mod Beside
 pub mod Fronts
 pub mod Replacements
 pub mod Shown

@@ -5,6 +5,7 @@ ghost use Rattle.std.specs.Str.{bytes_eq};
 ghost use Rattle.mbe_tt.specs.Views.View.{trees};
 ghost use Rattle.mbe_tt.specs.Views.Shown.{ident_of};
 ghost use Rattle.mbe_calls.specs.Fronts.{is_nameable, is_visible, after_char, after_colons, path_to};
+ghost use Rattle.mbe_calls.specs.Beside.{is_standard, attribute_of, name_in, is_operator, binds};
 ghost use Rattle.mbe_calls.specs.Fronts.{longest, path_of, call_with, call_by, call_of};
 ghost use Rattle.mbe_calls.specs.Fronts.{after_rules, rules_with, rules_of, template_with, body_with};
 ghost use Rattle.mbe_calls.specs.Fronts.{item_with, item_of, defined_by, definition_of, front};
@@ -106,7 +107,9 @@ const KEYWORDS: &[&str] = &[
 ];
 
 /// Whether calls in the argument of that macro are calls, where no file defines it.
-pub fn is_standard(name: &str) -> bool {
+pub fn is_standard(name: &str) -> bool
+    ensures { result ≡ is_standard name.now }
+{
     is_text_of(name, STANDARD)
 }
 
@@ -411,26 +414,51 @@ pub fn front_of<'t, A: Allocator>(tokens: TokenTreesView<'t, A>) -> Front<'t, A>
 }
 
 /// The name of the attribute `#[name ..]` that stands at the front.
-pub fn attribute_at<'t, A: Allocator>(trees: TokenTreesView<'t, A>) -> Option<&'t str> {
-    let mut iter = trees.iter();
-    iter.expect_char('#').ok()?;
-    let (group, mut content) = iter.expect_subtree().ok()?;
-    if group.delimiter.kind != DelimiterKind::Bracket {
-        return None;
+pub fn attribute_at<'t, A: Allocator>(tokens: TokenTreesView<'t, A>) -> Option<&'t str>
+    ensures { option_map (λ s. s.now) result ≡ attribute_of (trees tokens.entry) }
+{
+    let mut iter = after_char(tokens, '#')?.iter();
+    let (group, content) = iter.expect_subtree().ok()?;
+    name_in(group.delimiter.kind, content.remaining())
+}
+
+// The name at the front of what brackets hold.
+fn name_in<'t, A: Allocator>(
+    kind: DelimiterKind,
+    content: TokenTreesView<'t, A>,
+) -> Option<&'t str>
+    ensures { option_map (λ s. s.now) result ≡ name_in kind (trees content.entry) }
+{
+    match kind {
+        DelimiterKind::Bracket => {
+            let name = content.iter().expect_ident().ok()?;
+            Some(name.sym.as_str())
+        }
+        DelimiterKind::Parenthesis | DelimiterKind::Brace | DelimiterKind::Invisible => None,
     }
-    Some(content.expect_ident().ok()?.sym.as_str())
 }
 
 /// Whether an operator stands at the front, which would take a part of what stands beside it as its operand.
-pub fn binds<A: Allocator>(trees: TokenTreesView<'_, A>) -> bool {
-    let mut iter = trees.iter();
+pub fn binds<A: Allocator>(tokens: TokenTreesView<'_, A>) -> bool
+    ensures { result ≡ binds (trees tokens.entry) }
+{
+    let mut iter = tokens.iter();
     match iter.next() {
-        Some(TtElement::Leaf(Leaf::Punct(punct))) => match punct.char {
-            '+' | '-' | '*' | '/' | '%' | '^' | '&' | '|' | '<' | '>' | '.' | '?' | '!' => true,
-            '=' => iter.expect_char('=').is_ok(),
-            _ => false,
-        },
+        Some(TtElement::Leaf(Leaf::Punct(punct))) => {
+            is_operator(punct.char)
+                || (punct.char == '=' && after_char(iter.remaining(), '=').is_some())
+        }
         Some(TtElement::Leaf(Leaf::Ident(ident))) => ident.sym.as_str() == "as",
-        _ => false,
+        Some(TtElement::Leaf(Leaf::Literal(_)) | TtElement::Subtree(..)) | None => false,
     }
+}
+
+// Whether an operator begins with that char, but for `==`.
+fn is_operator(char: char) -> bool
+    ensures { result ≡ is_operator char }
+{
+    matches!(
+        char,
+        '+' | '-' | '*' | '/' | '%' | '^' | '&' | '|' | '<' | '>' | '.' | '?' | '!'
+    )
 }
