@@ -1,4 +1,5 @@
 // Trees as Rust text.
 #![tactic(auto)]
 
+mod gaps;
 pub mod writing;

@@ -2,260 +2,237 @@
 //
 // Tokens that stand side by side in one file do so here. Any other two are kept apart by a space, where they would run together or
 // where people write one; puncts that are taken together stay together.
-use mbe_tt::span::{Span, SyntaxContext};
-use mbe_tt::tt::{DelimiterKind, Ident, IdentIsRaw, Leaf, Literal, Punct, Spacing, TokenTreesView, TtElement};
+ghost use Rattle.std.specs.Prelude.{◌≡◌, ◌++◌, OnOk, Some};
+ghost use Rattle.std.specs.String.{string_bytes};
+ghost use Rattle.mbe_tt.specs.Views.Shown.{ident_of, literal_of, leaf_of};
+ghost use Rattle.mbe_tt.specs.Views.View.{trees};
+ghost use Rattle.mbe_rust_text.specs.Gaps.{gap_text, indent};
+ghost use Rattle.mbe_rust_text.specs.Shown.{state_of};
+ghost use Rattle.mbe_rust_text.specs.Writing as spec;
+
+use crate::gaps::{Gap, Last, between, goes_on, is_before, is_beside, is_same_place, last_punct, last_word};
+use mbe_tt::span::Span;
+use mbe_tt::tt::{
+    Delimiter, DelimiterKind, Ident, IdentIsRaw, Leaf, Literal, Punct, TokenTreesView, TtElement, TtIter,
+};
 use std::alloc::{AllocError, Allocator, Global};
 
-// What was written last.
-#[derive(Clone, Copy, Debug, Drop, PartialEq, Eq)]
-enum Last {
-    Start,
-    Word,
-    Keyword,
-    Literal,
-    // A punct that is joint to what stands after it in its text.
-    Joint(char),
-    Alone(char),
-    // The second `:` of a `::`.
-    Colons,
-    Open,
-    OpenBrace,
-    Close,
-    CloseBrace,
-    Semicolon,
-}
-
-// Words that a space follows.
-const KEYWORDS: &[&str] = &[
-    "as", "async", "await", "break", "const", "dyn", "else", "enum", "extern", "fn", "for", "if",
-    "impl", "in", "let", "loop", "match", "mod", "move", "mut", "pub", "ref", "return", "static",
-    "struct", "trait", "type", "unsafe", "use", "where", "while", "yield",
-];
-
-// Whether a token stands right after another one in their file.
-fn is_beside(last: Span, next: Span) -> bool {
-    last.file == next.file && last.end == next.start && last.start < last.end
-}
-
-// Beside nothing.
-const NOWHERE: Span = Span {
-    file: 0,
-    ast: 0,
-    start: 0,
-    end: 0,
-    ctx: SyntaxContext(0),
-};
-
-/// Text that is written token by token.
+/// Text that is written token by token. Clauses see it by `state_of`.
 #[derive(Drop)]
 pub struct Writer<A: Allocator = Global> {
     alloc: A,
     text: String<A>,
     last: Last,
     // Where that is.
-    place: Span,
+    place: Option<Span>,
     // How many braces are open.
     depth: usize,
 }
 
+
+
+
 impl<A: Allocator + Copy> Writer<A> {
     /// Writes nothing yet. Its lines begin with four spaces for each of `depth`.
-    pub fn new(alloc: A, depth: usize) -> Writer<A> {
+    pub fn new(alloc: A, depth: usize) -> Writer<A>
+        ensures { state_of result ≡ spec.start depth }
+    {
         Writer {
             alloc,
             text: String::new(alloc),
             last: Last::Start,
-            place: NOWHERE,
+            place: None,
             depth,
         }
     }
 
     /// What was written.
-    pub fn into_text(self) -> String<A> {
+    pub fn into_text(self) -> String<A>
+        ensures { string_bytes result ≡ (state_of self).text }
+    {
         let Writer { text, .. } = self;
         text
     }
 
-    /// Writes the trees.
-    pub fn trees(&mut self, trees: TokenTreesView<'_, A>) -> Result<(), AllocError> {
-        let mut delimiters = Vec::new(self.alloc);
-        let mut cursor = trees.cursor();
-        for _ in 0..trees.flat_len() {
-            match cursor.token_tree() {
-                Some(TtElement::Leaf(leaf)) => self.leaf(leaf)?,
-                Some(TtElement::Subtree(group, _inside)) => {
-                    let delimiter = group.delimiter;
-                    self.open(delimiter.kind, delimiter.opening)?;
-                    delimiters.push(delimiter)?;
-                }
-                None => {
-                    if let Some(delimiter) = delimiters.pop() {
-                        self.close(delimiter.kind, delimiter.close)?;
-                    }
-                }
+    // Writes a gap.
+    fn space(&mut self, gap: Gap) -> Result<(), AllocError>
+        ensures { OnOk result (state_of self.new ≡ record (state_of self.old) {
+          text = (state_of self.old).text ++ gap_text gap (state_of self.old).depth;
+        }) }
+    {
+        match gap {
+            Gap::Nothing => Ok(()),
+            Gap::Space => self.text.push_str(" "),
+            Gap::Line => {
+                self.text.push_str("\n")?;
+                indent(&mut self.text, self.depth)
             }
-            cursor.bump_or_end();
         }
+    }
+
+    // Writes a gap and a token.
+    fn token(&mut self, gap: Gap, text: &str, last: Last, place: Span) -> Result<(), AllocError>
+        ensures { OnOk result (state_of self.new
+            ≡ spec.token gap text.now last place (state_of self.old)) }
+    {
+        self.space(gap)?;
+        self.text.push_str(text)?;
+        self.last = last;
+        self.place = Some(place);
         Ok(())
     }
 
-    fn leaf(&mut self, leaf: &Leaf<A>) -> Result<(), AllocError> {
+    fn leaf(&mut self, leaf: &Leaf<A>, next: Option<Span>) -> Result<(), AllocError>
+        ensures { OnOk result (state_of self.new
+            ≡ spec.a_leaf (state_of self.old) (leaf_of leaf.now) next) }
+    {
         match leaf {
             Leaf::Ident(ident) => self.word(ident),
             Leaf::Literal(literal) => self.literal(literal),
-            Leaf::Punct(punct) => self.punct(punct),
+            Leaf::Punct(punct) => self.punct(*punct, next),
         }
     }
 
-    fn line(&mut self) -> Result<(), AllocError> {
-        self.text.push('\n')?;
-        for _ in 0..self.depth {
-            self.text.push_str("    ")?;
-        }
-        Ok(())
-    }
-
-    // Writes a space before a token at that place, unless the last one is beside it.
-    fn space(&mut self, is_wanted: bool, place: Span) -> Result<(), AllocError> {
-        if is_wanted && !is_beside(self.place, place) {
-            self.text.push(' ')?;
-        }
-        Ok(())
-    }
-
-    // Begins a line where the last token ends one. After a `}` that depends on the next token.
-    fn begin(&mut self, ends_brace: bool) -> Result<bool, AllocError> {
-        let breaks = match self.last {
-            Last::OpenBrace | Last::Semicolon => true,
-            Last::CloseBrace => ends_brace,
-            _ => false,
+    fn word(&mut self, ident: &Ident<A>) -> Result<(), AllocError>
+        ensures { OnOk result (state_of self.new
+            ≡ spec.word (state_of self.old) (ident_of ident.now)) }
+    {
+        let name = name_text(ident.sym.as_str());
+        let gap = between(
+            self.last.ends_line(!goes_on(name)),
+            self.last.is_word_apart(),
+            is_beside(self.place, ident.span),
+        );
+        let text = match ident.is_raw {
+            IdentIsRaw::No => String::from_str(self.alloc, name)?,
+            IdentIsRaw::Yes => format!(in self.alloc; "r#{name}")?,
         };
-        if breaks {
-            self.line()?;
-        }
-        Ok(breaks)
+        self.token(gap, text.as_str(), last_word(name), ident.span)
     }
 
-    fn word(&mut self, ident: &Ident<A>) -> Result<(), AllocError> {
-        let name = ident.sym.as_str();
-        let text = if name == "$crate" { "crate" } else { name };
-        let goes_on = text == "else" || text == "as";
-        if !self.begin(!goes_on)? {
-            let is_apart = match self.last {
-                Last::Start | Last::Open | Last::Colons => false,
-                Last::Alone(c) | Last::Joint(c) => !matches!(c, '.' | '#' | '$' | '\''),
-                _ => true,
-            };
-            self.space(is_apart, ident.span)?;
-        }
-        if ident.is_raw == IdentIsRaw::Yes {
-            self.text.push_str("r#")?;
-        }
-        self.text.push_str(text)?;
-        self.last = if KEYWORDS.iter().any(|w| *w == text) {
-            Last::Keyword
-        } else {
-            Last::Word
-        };
-        self.place = ident.span;
-        Ok(())
-    }
-
-    fn literal(&mut self, literal: &Literal<A>) -> Result<(), AllocError> {
-        if !self.begin(true)? {
-            let is_apart = match self.last {
-                Last::Start | Last::Open => false,
-                Last::Alone(c) | Last::Joint(c) => !matches!(c, '.' | '#'),
-                _ => true,
-            };
-            self.space(is_apart, literal.span)?;
-        }
+    fn literal(&mut self, literal: &Literal<A>) -> Result<(), AllocError>
+        ensures { OnOk result (state_of self.new
+            ≡ spec.a_literal (state_of self.old) (literal_of literal.now)) }
+    {
+        let gap = between(
+            self.last.ends_line(true),
+            self.last.is_literal_apart(),
+            is_beside(self.place, literal.span),
+        );
         let text = format!(in self.alloc; "{literal}")?;
-        self.text.push_str(text.as_str())?;
-        self.last = Last::Literal;
-        self.place = literal.span;
-        Ok(())
+        self.token(gap, text.as_str(), Last::Literal, literal.span)
     }
 
-    // Whether white space stands before that punct.
-    fn is_apart(&self, punct: &Punct) -> bool {
-        let char = punct.char;
-        let begins_path = char == ':' && punct.spacing == Spacing::Joint;
-        match self.last {
-            Last::Start | Last::Open => false,
-            // A separator is joint to what the definition has after it, which isn't what is written after it. Two puncts of one
-            // place were made together, as the `::` of a path.
-            Last::Joint(_) => self.place != punct.span,
-            Last::Alone(_) => !matches!(char, ',' | ';'),
-            Last::Colons => char != '<',
-            Last::Word => !matches!(char, ',' | ';' | '?' | '.' | ':' | '!') && !begins_path,
-            Last::Close | Last::CloseBrace => !matches!(char, ',' | ';' | '?' | '.'),
-            Last::Literal => !matches!(char, ',' | ';' | '?'),
-            _ => true,
-        }
+    fn punct(&mut self, punct: Punct, next: Option<Span>) -> Result<(), AllocError>
+        ensures { OnOk result (state_of self.new ≡ spec.a_punct (state_of self.old) punct next) }
+    {
+        let Punct {
+            char,
+            spacing,
+            span,
+        } = punct;
+        let beside_last = is_beside(self.place, span);
+        let gap = between(
+            self.last.ends_line(matches!(char, '#' | '\'')),
+            self.last.is_punct_apart(is_same_place(self.place, span), char),
+            self.last.stays(char, beside_last, is_before(span, next)),
+        );
+        let last = last_punct(spacing, char, self.last.is_colon());
+        let mut text = String::new(self.alloc);
+        text.push(char)?;
+        self.token(gap, text.as_str(), last, span)
     }
 
-    fn punct(&mut self, punct: &Punct) -> Result<(), AllocError> {
-        let char = punct.char;
-        let begins = char == '#' || char == '\'';
-        if !self.begin(begins)? {
-            let is_apart = self.is_apart(punct);
-            self.space(is_apart, punct.span)?;
-        }
-        self.text.push(char)?;
-        let is_second = self.last == Last::Joint(':');
-        self.place = punct.span;
-        self.last = match punct.spacing {
-            Spacing::Joint => Last::Joint(char),
-            Spacing::Alone if char == ';' => Last::Semicolon,
-            Spacing::Alone if char == ':' && is_second => Last::Colons,
-            Spacing::Alone => Last::Alone(char),
-        };
-        Ok(())
+    fn opening_gap(&self, is_brace: bool, place: Span) -> Gap
+        ensures { result ≡ spec.opening_gap (state_of self.now) is_brace place }
+    {
+        between(
+            self.last.ends_line(false),
+            self.last.is_opening_apart(is_brace),
+            is_beside(self.place, place),
+        )
     }
 
-    fn open(&mut self, kind: DelimiterKind, place: Span) -> Result<(), AllocError> {
-        let sign = match kind {
-            DelimiterKind::Parenthesis => '(',
-            DelimiterKind::Bracket => '[',
-            DelimiterKind::Brace => '{',
-            DelimiterKind::Invisible => return Ok(()),
-        };
-        let is_brace = kind == DelimiterKind::Brace;
-        let breaks = self.begin(false)?;
-        let is_apart = match self.last {
-            Last::Start | Last::Open | Last::Joint(_) | Last::OpenBrace => false,
-            Last::Word | Last::Close => is_brace,
-            Last::Alone(c) => is_brace || !matches!(c, '!' | '#' | '.'),
-            _ => true,
-        };
-        self.space(is_apart && !breaks, place)?;
-        self.text.push(sign)?;
-        self.place = place;
-        self.last = Last::Open;
-        if is_brace {
-            self.depth = self.depth.saturating_add(1);
-            self.last = Last::OpenBrace;
-        }
-        Ok(())
-    }
-
-    fn close(&mut self, kind: DelimiterKind, place: Span) -> Result<(), AllocError> {
-        let (sign, last) = match kind {
-            DelimiterKind::Parenthesis => (')', Last::Close),
-            DelimiterKind::Bracket => (']', Last::Close),
-            DelimiterKind::Brace => ('}', Last::CloseBrace),
-            DelimiterKind::Invisible => return Ok(()),
-        };
-        if kind == DelimiterKind::Brace {
-            self.depth = self.depth.saturating_sub(1);
-            if self.last != Last::OpenBrace {
-                self.line()?;
+    fn open(&mut self, kind: DelimiterKind, place: Span) -> Result<(), AllocError>
+        ensures { OnOk result (state_of self.new ≡ spec.opened (state_of self.old) kind place) }
+    {
+        match kind {
+            DelimiterKind::Invisible => Ok(()),
+            DelimiterKind::Parenthesis => {
+                let gap = self.opening_gap(false, place);
+                self.token(gap, "(", Last::Open, place)
+            }
+            DelimiterKind::Bracket => {
+                let gap = self.opening_gap(false, place);
+                self.token(gap, "[", Last::Open, place)
+            }
+            DelimiterKind::Brace => {
+                let gap = self.opening_gap(true, place);
+                self.token(gap, "{", Last::OpenBrace, place)?;
+                self.depth = self.depth.saturating_add(1);
+                Ok(())
             }
         }
-        self.text.push(sign)?;
-        self.place = place;
-        self.last = last;
-        Ok(())
     }
+
+    fn close(&mut self, kind: DelimiterKind, place: Span) -> Result<(), AllocError>
+        ensures { OnOk result (state_of self.new ≡ spec.closed (state_of self.old) kind place) }
+    {
+        match kind {
+            DelimiterKind::Invisible => Ok(()),
+            DelimiterKind::Parenthesis => self.token(Gap::Nothing, ")", Last::Close, place),
+            DelimiterKind::Bracket => self.token(Gap::Nothing, "]", Last::Close, place),
+            DelimiterKind::Brace => {
+                self.depth = self.depth.saturating_sub(1);
+                let gap = between(!self.last.is_open_brace(), false, false);
+                self.token(gap, "}", Last::CloseBrace, place)
+            }
+        }
+    }
+
+    /// Writes the trees.
+    pub fn trees(&mut self, tokens: TokenTreesView<'_, A>) -> Result<(), AllocError>
+        ensures { OnOk result (state_of self.new
+            ≡ spec.written (trees tokens.entry) (state_of self.old)) }
+    {
+        let mut around = Vec::new(self.alloc);
+        let mut iter = tokens.iter();
+        'tokens: loop {
+            match iter.next() {
+                Some(TtElement::Leaf(leaf)) => self.leaf(leaf, iter.next_span())?,
+                Some(TtElement::Subtree(group, inside)) => {
+                    let delimiter = group.delimiter;
+                    self.open(delimiter.kind, delimiter.opening)?;
+                    around.push((delimiter, iter))?;
+                    iter = inside;
+                }
+                None => match around.pop() {
+                    None => return Ok(()),
+                    Some((delimiter, rest)) => {
+                        self.close(delimiter.kind, delimiter.close)?;
+                        iter = rest;
+                    }
+                },
+            }
+        }
+    }
+}
+
+// `$crate` is written as `crate`.
+fn name_text(name: &str) -> &str
+    ensures { result.now ≡ spec.name_text name.now }
+{
+    if name == "$crate" { "crate" } else { name }
+}
+
+// Writes so many times four spaces.
+fn indent<A: Allocator>(text: &mut String<A>, depth: usize) -> Result<(), AllocError>
+    ensures { OnOk result (string_bytes text.new ≡ string_bytes text.old ++ indent depth) }
+{
+    let mut left = depth;
+    'spaces: while left > 0 {
+        left -= 1;
+        text.push_str("    ")?;
+    }
+    Ok(())
 }

@@ -1,0 +1,2 @@
+pub mod IndentLemmas
+pub mod WalkLemmas

@@ -1,0 +1,116 @@
+-- What trees are as Rust text: a fold over their tokens, with what was written last.
+use Rattle.std.specs.Prelude.{ℕ, ◌+◌, ◌-◌, ◌^◌, Bool, true, false, ◌&&◌, ◌||◌, ◌==◌, not, min, if◌then◌else◌, codes, List, [], ◌∷◌, ◌++◌, Option, Some, None, option_map}
+use Rattle.std.specs.Char.{encode_utf8}
+use Rattle.mbe_tt.specs.declared.span.Span.{Span}
+use Rattle.mbe_tt.specs.declared.tt.Punct.{Punct}
+use Rattle.mbe_tt.specs.declared.tt.Delimiter.{Delimiter}
+use Rattle.mbe_tt.specs.declared.tt.DelimiterKind.{DelimiterKind}
+use Rattle.mbe_tt.specs.declared.tt.DelimiterKind.TheVariants.{Parenthesis, Brace, Bracket, Invisible}
+use Rattle.mbe_tt.specs.Trees.Leaf.{Leaf, Ident, Literal, literal, punct, ident, is_text}
+use Rattle.mbe_tt.specs.Trees.Literals.{raw_prefix, literal_output}
+use Rattle.mbe_tt.specs.Trees.Tree.{Forest, none, leaf, group, first, first_span}
+use Rattle.mbe_rust_text.specs.declared.gaps.Last.{Last}
+use Rattle.mbe_rust_text.specs.declared.gaps.Last.TheVariants as last
+use Rattle.mbe_rust_text.specs.declared.gaps.Gap.{Gap}
+use Rattle.mbe_rust_text.specs.Gaps.{gap, gap_text, is_beside, is_same_place, is_before, ends_line, last_word, is_word_apart, goes_on, is_literal_apart, is_punct_apart, stays, is_colon, last_punct, is_one_of, is_opening_apart, is_open_brace}
+
+-- what was written, what it ends with and where that is, and how many braces are open
+pub record State : Type 0 where
+  pub text : List ℕ
+  pub last : Last
+  pub place : Option Span
+  pub depth : ℕ
+
+-- a gap and a token more
+abbrev pub token : Gap → List ℕ → Last → Span → State → State
+token g t l p s = record { text = s.text ++ (gap_text g s.depth ++ t); last = l; place = Some p; depth = s.depth }
+
+-- ---- words
+
+-- `$crate` is written as `crate`, which is right within one crate
+abbrev pub name_text : List ℕ → List ℕ
+name_text sym = if is_text sym (codes "$crate") then codes "crate" else sym
+
+abbrev pub word_gap : State → List ℕ → Span → Gap
+word_gap s name place = gap (ends_line s.last (not (goes_on name))) (is_word_apart s.last) (is_beside s.place place)
+
+abbrev pub word : State → Ident → State
+word s i = token (word_gap s (name_text i.sym) i.span) (raw_prefix i.is_raw ++ name_text i.sym) (last_word (name_text i.sym)) i.span s
+
+-- ---- literals
+
+abbrev pub literal_gap : State → Span → Gap
+literal_gap s place = gap (ends_line s.last true) (is_literal_apart s.last) (is_beside s.place place)
+
+abbrev pub a_literal : State → Literal → State
+a_literal s l = token (literal_gap s l.span) (literal_output l) last.Literal l.span s
+
+-- ---- puncts
+
+-- `next` is where the tree after it begins
+abbrev pub punct_gap : State → Punct → Option Span → Gap
+punct_gap s p next =
+    gap (ends_line s.last (is_one_of p.char (codes "#'")))
+    (is_punct_apart s.last (is_same_place s.place p.span) p.char)
+    (stays s.last p.char (is_beside s.place p.span) (is_before p.span next))
+
+abbrev pub a_punct : State → Punct → Option Span → State
+a_punct s p next = token (punct_gap s p next) (encode_utf8 p.char) (last_punct p.spacing p.char (is_colon s.last)) p.span s
+
+abbrev pub a_leaf : State → Leaf → Option Span → State
+a_leaf s (ident i) next = word s i
+a_leaf s (literal l) next = a_literal s l
+a_leaf s (punct p) next = a_punct s p next
+
+-- ---- groups
+
+abbrev pub opening_gap : State → Bool → Span → Gap
+opening_gap s is_brace place = gap (ends_line s.last false) (is_opening_apart s.last is_brace) (is_beside s.place place)
+
+-- one brace more, as far as a number of 64 bits counts
+abbrev pub deeper : State → State
+deeper s = record s { depth = min (s.depth + 1) (2 ^ 64 - 1) }
+
+abbrev pub shallower : State → State
+shallower s = record s { depth = s.depth - 1 }
+
+abbrev pub opened : State → DelimiterKind → Span → State
+opened s Parenthesis place = token (opening_gap s false place) (codes "(") last.Open place s
+opened s Bracket place = token (opening_gap s false place) (codes "[") last.Open place s
+opened s Brace place = deeper (token (opening_gap s true place) (codes "{") last.OpenBrace place s)
+opened s Invisible place = s
+
+-- a `}` begins a line, unless it follows its `{`
+abbrev pub brace_gap : State → Gap
+brace_gap s = gap (not (is_open_brace s.last)) false false
+
+abbrev pub closed : State → DelimiterKind → Span → State
+closed s Parenthesis place = token (gap false false false) (codes ")") last.Close place s
+closed s Bracket place = token (gap false false false) (codes "]") last.Close place s
+closed s Brace place = token (brace_gap s) (codes "}") last.CloseBrace place (shallower s)
+closed s Invisible place = s
+
+-- ---- trees
+
+-- where the next tree begins
+abbrev pub next_span : Forest → Option Span
+next_span f = option_map first_span (first f)
+
+-- with these trees more
+unfoldable pub written : Forest → State → State
+written none s = s
+written (leaf l rest) s = written rest (a_leaf s l (next_span rest))
+written (group d inside rest) s = written rest (closed (written inside (opened s d.kind d.opening)) d.kind d.close)
+
+-- the same, then the closing and the trees that follow it, of each group around, from the innermost
+unfoldable pub written_around : List (Delimiter × Forest) → State → State
+written_around [] s = s
+written_around (g ∷ around) s = written_around around (written g.1 (closed s g.0.kind g.0.close))
+
+-- nothing, where so many braces are open
+abbrev pub start : ℕ → State
+start depth = record { text = []; last = last.Start; place = None; depth = depth }
+
+-- these trees as Rust text
+abbrev pub text_of : ℕ → Forest → List ℕ
+text_of depth f = (written f (start depth)).text
