@@ -3,7 +3,7 @@ use Rattle.std.proofs.Common.{◌≡◌, ℕ, suc, ◌+◌, ◌<◌, true, false
 use Rattle.std.specs.Prelude.{slice_range}
 use Rattle.mbe_calls.specs.Replacements.{part_of}
 use Rattle.mbe_calls.specs.declared.splicing.Replacement.{Replacement}
-use Rattle.mbe_calls.specs.Splicing.{Part, is_next, spliced_from, spliced, Adds}
+use Rattle.mbe_calls.specs.Splicing.{Part, is_next, spliced_from, Adds}
 
 -- a replacement that is made
 pub adds_part : (text done more : List ℕ) (part : Part) (at : ℕ) → is_next text at part ≡ true

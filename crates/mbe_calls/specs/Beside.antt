@@ -3,7 +3,7 @@ use Prim.Native.String.{String}
 use Rattle.std.specs.Prelude.{ℕ, Bool, false, ◌||◌, ◌&&◌, ◌==◌, codes, List, [], ◌∷◌, map, Option, None, option_map, option_and_then, is_some}
 use Rattle.std.specs.List.{list_any}
 use Rattle.mbe_tt.specs.Trees.Leaf.{Leaf, punct, literal, ident, is_text}
-use Rattle.mbe_tt.specs.Trees.Tree.{Forest, none, leaf, group, rest_of, front_ident, front_group}
+use Rattle.mbe_tt.specs.Trees.Tree.{Forest, none, leaf, group, front_ident, front_group}
 use Rattle.mbe_tt.specs.declared.tt.DelimiterKind.{DelimiterKind}
 use Rattle.mbe_tt.specs.declared.tt.DelimiterKind.TheVariants.{Parenthesis, Brace, Bracket, Invisible}
 use Rattle.mbe_calls.specs.Fronts.{after_char}

@@ -87,7 +87,13 @@ is_visible Bracket = true
 abbrev pub call_with : Span → Path → Forest → Option Call
 call_with start path f =
     option_and_then (λ g. if is_visible g.0.kind then Some (record {
-      name = path.name; is_path = path.is_path; delimiter = g.0; argument = g.1; rest = rest_of f; start = start }) else None) (front_group f)
+      name = path.name;
+      is_path = path.is_path;
+      delimiter = g.0;
+      argument = g.1;
+      rest = rest_of f;
+      start = start;
+    }) else None) (front_group f)
 
 -- the call by a path: a name that may be one, a `!`, and a group
 abbrev pub call_by : Span → Path → Option Call

@@ -16,7 +16,13 @@ path_shown p = record { name = ident_of p.name.now; is_path = p.is_path; rest = 
 
 abbrev pub call_shown : {A : Type 0} → Call A → spec.Call
 call_shown c = record {
-  name = ident_of c.name.now; is_path = c.is_path; delimiter = c.group.now.delimiter; argument = trees c.argument; rest = trees c.rest; start = c.start }
+  name = ident_of c.name.now;
+  is_path = c.is_path;
+  delimiter = c.group.now.delimiter;
+  argument = trees c.argument;
+  rest = trees c.rest;
+  start = c.start;
+}
 
 abbrev pub form_shown : {A : Type 0} → Form A → spec.Form
 form_shown f.Rules = spec.Rules
@@ -25,7 +31,12 @@ form_shown (f.Arguments s pattern) = spec.Arguments s.now.delimiter (trees patte
 
 abbrev pub defined_shown : {A : Type 0} → Defined A → spec.Defined
 defined_shown d = record {
-  name = ident_of d.name.now; form = form_shown d.form; delimiter = d.group.now.delimiter; rules = trees d.rules; rest = trees d.rest }
+  name = ident_of d.name.now;
+  form = form_shown d.form;
+  delimiter = d.group.now.delimiter;
+  rules = trees d.rules;
+  rest = trees d.rest;
+}
 
 abbrev pub front_shown : {A : Type 0} → Front A → spec.Front
 front_shown (g.Definition d) = spec.Definition (defined_shown d)

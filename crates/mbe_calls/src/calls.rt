@@ -11,8 +11,10 @@ ghost use Rattle.mbe_calls.specs.Fronts.{after_rules, rules_with, rules_of, temp
 ghost use Rattle.mbe_calls.specs.Fronts.{item_with, item_of, defined_by, definition_of, front};
 ghost use Rattle.mbe_calls.specs.Shown.{path_shown, call_shown, defined_shown, front_shown};
 
-use mbe_tt::tt::{DelimiterKind, Ident, IdentIsRaw, Leaf, Subtree, TokenTreesView, TtElement, TtIter};
 use mbe_tt::span::Span;
+use mbe_tt::tt::{
+    DelimiterKind, Ident, IdentIsRaw, Leaf, Subtree, TokenTreesView, TtElement, TtIter,
+};
 use std::alloc::{Allocator, Global};
 
 /// A call: a path, a `!`, and a group.
@@ -369,10 +371,7 @@ fn item_of<'t, A: Allocator>(tokens: TokenTreesView<'t, A>) -> Option<Defined<'t
 }
 
 // What follows that word.
-fn defined_by<'t, A: Allocator>(
-    word: &str,
-    tokens: TokenTreesView<'t, A>,
-) -> Option<Defined<'t, A>>
+fn defined_by<'t, A: Allocator>(word: &str, tokens: TokenTreesView<'t, A>) -> Option<Defined<'t, A>>
     ensures { option_map defined_shown result ≡ defined_by word.now (trees tokens.entry) }
 {
     if word == "macro_rules" {
@@ -423,10 +422,7 @@ pub fn attribute_at<'t, A: Allocator>(tokens: TokenTreesView<'t, A>) -> Option<&
 }
 
 // The name at the front of what brackets hold.
-fn name_in<'t, A: Allocator>(
-    kind: DelimiterKind,
-    content: TokenTreesView<'t, A>,
-) -> Option<&'t str>
+fn name_in<'t, A: Allocator>(kind: DelimiterKind, content: TokenTreesView<'t, A>) -> Option<&'t str>
     ensures { option_map (λ s. s.now) result ≡ name_in kind (trees content.entry) }
 {
     match kind {

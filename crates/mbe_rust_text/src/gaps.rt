@@ -256,11 +256,8 @@ impl Last {
             Last::Start | Last::Open | Last::Joint(_) | Last::OpenBrace => false,
             Last::Word | Last::Close => is_brace,
             Last::Alone(c) => is_brace || !matches!(c, '!' | '#' | '.'),
-            Last::Keyword
-            | Last::Literal
-            | Last::Colons
-            | Last::CloseBrace
-            | Last::Semicolon => true,
+            Last::Keyword | Last::Literal | Last::Colons | Last::CloseBrace | Last::Semicolon =>
+                true,
         }
     }
 

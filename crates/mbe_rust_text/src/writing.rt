@@ -10,10 +10,13 @@ ghost use Rattle.mbe_rust_text.specs.Gaps.{gap_text, indent};
 ghost use Rattle.mbe_rust_text.specs.Shown.{state_of};
 ghost use Rattle.mbe_rust_text.specs.Writing as spec;
 
-use crate::gaps::{Gap, Last, between, goes_on, is_before, is_beside, is_same_place, last_punct, last_word};
+use crate::gaps::{
+    Gap, Last, between, goes_on, is_before, is_beside, is_same_place, last_punct, last_word,
+};
 use mbe_tt::span::Span;
 use mbe_tt::tt::{
-    Delimiter, DelimiterKind, Ident, IdentIsRaw, Leaf, Literal, Punct, TokenTreesView, TtElement, TtIter,
+    Delimiter, DelimiterKind, Ident, IdentIsRaw, Leaf, Literal, Punct, TokenTreesView, TtElement,
+    TtIter,
 };
 use std::alloc::{AllocError, Allocator, Global};
 
@@ -28,9 +31,6 @@ pub struct Writer<A: Allocator = Global> {
     // How many braces are open.
     depth: usize,
 }
-
-
-
 
 impl<A: Allocator + Copy> Writer<A> {
     /// Writes nothing yet. Its lines begin with four spaces for each of `depth`.
@@ -134,7 +134,8 @@ impl<A: Allocator + Copy> Writer<A> {
         let beside_last = is_beside(self.place, span);
         let gap = between(
             self.last.ends_line(matches!(char, '#' | '\'')),
-            self.last.is_punct_apart(is_same_place(self.place, span), char),
+            self.last
+                .is_punct_apart(is_same_place(self.place, span), char),
             self.last.stays(char, beside_last, is_before(span, next)),
         );
         let last = last_punct(spacing, char, self.last.is_colon());

@@ -12,6 +12,6 @@ loop-replacement-init g c = record {
 pub loop-replacement-preserved : goal.loop-replacement-preserved
 loop-replacement-preserved g c = record {
   whole = adds_next _ _ _ _ c.args.replacements.now c.loop-replacement.replacement-index _ _ c.replacement-item.result
-    (omega arith) c.replacement-item.is (search rules) c.loop-replacement.invariant.whole;
+      (omega arith) c.replacement-item.is (search rules) c.loop-replacement.invariant.whole;
   cut = search rules;
 }
