@@ -1,32 +1,28 @@
 // Trees as Rust text.
 use mbe_rust_text::writing::Writer;
 use mbe_text::lexer::lex;
-use mbe_tt::span::Span;
-use mbe_tt::tt::{Delimiter, TokenTreesView, TopSubtree, TopSubtreeBuilder};
-use std::alloc::{AllocError, Global};
+use std::alloc::Global;
 use std::process::Abort;
 use std::test::Fail;
 
-// The trees of all these texts, each of a file of its own, in one buffer.
-fn side_by_side(rt: &impl Abort, alloc: Global, texts: &str) -> Result<TopSubtree, Fail> {
-    let around = Delimiter::invisible_spanned(Span::default());
-    let mut builder = TopSubtreeBuilder::new(alloc, around)?;
-    let mut file = 0u32;
+// Writes the trees of these texts, with a `~` between two, each as one of a file of its own.
+fn write(
+    rt: &impl Abort,
+    alloc: Global,
+    writer: &mut Writer,
+    files: u32,
+    texts: &str,
+) -> Result<(), Fail> {
+    let mut file = files;
     for text in texts.split('~') {
         assert!(rt; text.len() < 100_000_000);
         let Ok(tree) = lex(alloc, text, file) else {
             return Err(Fail::from("not lexed"));
         };
-        builder.extend_with_tt(tree.iter().remaining())?;
+        writer.trees(tree.iter().remaining())?;
         file = file.wrapping_add(1);
     }
-    Ok(builder.build())
-}
-
-fn text_of(alloc: Global, trees: TokenTreesView<'_>, depth: usize) -> Result<String, AllocError> {
-    let mut writer = Writer::new(alloc, depth);
-    writer.trees(trees)?;
-    Ok(writer.into_text())
+    Ok(())
 }
 
 // Texts of several files, with a `~` between two, and what their trees are as one text. Tokens that stand side by side in a file do so
@@ -59,8 +55,9 @@ static ROWS: [(&str, &str); 22] = [
 #[test]
 fn tokens_are_kept_apart(rt: HostRuntime) -> Result<(), Fail> {
     for (texts, want) in &ROWS {
-        let tree = side_by_side(&rt, rt.alloc(), texts)?;
-        let text = text_of(rt.alloc(), tree.iter().remaining(), 0)?;
+        let mut writer = Writer::new(rt.alloc(), 0);
+        write(&rt, rt.alloc(), &mut writer, 0, texts)?;
+        let text = writer.into_text();
         assert_eq!(rt; text.as_str(), *want, "{texts:.99}");
     }
     Ok(())
@@ -69,27 +66,27 @@ fn tokens_are_kept_apart(rt: HostRuntime) -> Result<(), Fail> {
 // `1.a` is three tokens, of which the first two, before a group of another file, would be the number `1.`.
 #[test]
 fn a_number_before_a_dot(rt: HostRuntime) -> Result<(), Fail> {
-    let number = side_by_side(&rt, rt.alloc(), "1.a")?;
-    let group = side_by_side(&rt, rt.alloc(), "~(2)")?;
-    let around = Delimiter::invisible_spanned(Span::default());
-    let mut builder = TopSubtreeBuilder::new(rt.alloc(), around)?;
-    let mut iter = number.iter();
+    let Ok(tree) = lex(rt.alloc(), "1.a", 0) else {
+        return Err(Fail::from("not lexed"));
+    };
+    let mut writer = Writer::new(rt.alloc(), 0);
+    let mut iter = tree.iter();
     for _ in 0..2 {
         if let Some(tree) = iter.next_as_view() {
-            builder.extend_with_tt(tree)?;
+            writer.trees(tree)?;
         }
     }
-    builder.extend_with_tt(group.iter().remaining())?;
-    let tree = builder.build();
-    let text = text_of(rt.alloc(), tree.iter().remaining(), 0)?;
+    write(&rt, rt.alloc(), &mut writer, 1, "(2)")?;
+    let text = writer.into_text();
     assert_eq!(rt; text.as_str(), "1 .(2)");
     Ok(())
 }
 
 #[test]
 fn lines_are_indented(rt: HostRuntime) -> Result<(), Fail> {
-    let tree = side_by_side(&rt, rt.alloc(), "a;~{b; c}")?;
-    let text = text_of(rt.alloc(), tree.iter().remaining(), 1)?;
+    let mut writer = Writer::new(rt.alloc(), 1);
+    write(&rt, rt.alloc(), &mut writer, 0, "a;~{b; c}")?;
+    let text = writer.into_text();
     assert_eq!(rt; text.as_str(), "a;\n    {\n        b;\n        c\n    }");
     Ok(())
 }
