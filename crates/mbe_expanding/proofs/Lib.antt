@@ -1,1 +1,3 @@
+pub mod BelowLemmas
 pub mod GroupLemmas
+pub mod ItemLemmas

@@ -242,8 +242,7 @@ impl<'g, A: Allocator + Copy> Expander<'g, A> {
             match front_of(rest) {
                 Front::End => return Ok(()),
                 Front::Definition(defined) => {
-                    let number = self.read(defined, is_exported || is_top)?;
-                    self.scope.place(defined, number)?;
+                    let _number = self.read(defined, is_exported || is_top)?;
                     rest = defined.rest;
                     is_exported = false;
                 }

@@ -1,10 +1,17 @@
 // Which definition a call names.
-use mbe_calls::calls::{Defined, Form};
+ghost use Rattle.std.specs.Prelude.{◌≡◌, ◌∷◌, [], length, IfOk, OnOk, option_map, false};
+ghost use Rattle.mbe_tt.specs.Views.View.{trees};
+ghost use Rattle.mbe.specs.MacroViews.{macro_of};
+ghost use Rattle.mbe_calls.specs.Shown.{defined_shown, form_shown};
+ghost use Rattle.mbe_expanding.specs.Scopes as spec;
+ghost use Rattle.mbe_expanding.specs.Scopes.{IsRead, IsReadIn, is_found, is_placed, with_shown, with_left};
+ghost use Rattle.mbe_expanding.specs.Shown.{definition_of, scope_of};
+
 use mbe::DeclarativeMacro;
-use mbe_tt::span::Edition;
+use mbe_calls::calls::{Defined, Form};
+use mbe_tt::span::{Edition, Span};
 use mbe_tt::tt::{Delimiter, TokenTreesView, TopSubtree, TopSubtreeBuilder};
 use std::alloc::{AllocError, Allocator, Global};
-use std::collections::BTreeMap;
 
 /// A macro that a file or an expansion defines.
 #[derive(Drop)]
@@ -13,17 +20,17 @@ pub struct Definition<A: Allocator = Global> {
     rules: DeclarativeMacro<A>,
     // Whether it is found by a path, and from other files.
     is_wide: bool,
+    // Where its name stands.
+    place: Span,
 }
 
 /// The macros that were read, and those of them that a name finds at present: what stands before it in the text, in
-/// the groups around it.
+/// the groups around it. Clauses see it by `scope_of`.
 #[derive(Drop)]
 pub struct Scope<A: Allocator + Copy = Global> {
     alloc: A,
-    edition: Edition,
+    pub edition: Edition,
     definitions: Vec<Definition<A>, A>,
-    // By the file and the first byte of its name.
-    places: BTreeMap<(u32, u32), usize, A>,
     visible: Vec<usize, A>,
 }
 
@@ -31,22 +38,13 @@ pub struct Scope<A: Allocator + Copy = Global> {
 pub fn buffer_of<A: Allocator + Copy>(
     alloc: A,
     delimiter: Delimiter,
-    trees: TokenTreesView<'_, A>,
-) -> Result<TopSubtree<A>, AllocError> {
+    tokens: TokenTreesView<'_, A>,
+) -> Result<TopSubtree<A>, AllocError>
+    ensures { IfOk result (λ tree. tree ≡ (delimiter, trees tokens.entry)) }
+{
     let mut builder = TopSubtreeBuilder::new(alloc, delimiter)?;
-    builder.extend_with_tt(trees)?;
+    builder.extend_with_tt(tokens)?;
     Ok(builder.build())
-}
-
-// What a definition's pattern is, where it has but one.
-fn arguments_of<A: Allocator + Copy>(
-    alloc: A,
-    form: Form<'_, A>,
-) -> Result<Option<TopSubtree<A>>, AllocError> {
-    match form {
-        Form::Rules | Form::Body => Ok(None),
-        Form::Arguments(group, pattern) => Ok(Some(buffer_of(alloc, group.delimiter, pattern)?)),
-    }
 }
 
 // The rules of a definition.
@@ -54,24 +52,44 @@ fn rules_of<A: Allocator + Copy>(
     alloc: A,
     edition: Edition,
     defined: Defined<'_, A>,
-) -> Result<DeclarativeMacro<A>, AllocError> {
+) -> Result<DeclarativeMacro<A>, AllocError>
+    ensures { IfOk result (λ m. IsReadIn edition (form_shown defined.entry.form)
+        (defined_shown defined.entry) (macro_of m)) }
+{
     let body = buffer_of(alloc, defined.group.delimiter, defined.rules)?;
-    if let Form::Rules = defined.form {
-        return DeclarativeMacro::parse_macro_rules(alloc, &body, |_context| edition);
+    match defined.form {
+        Form::Rules => DeclarativeMacro::parse_macro_rules(alloc, &body, |_context| edition),
+        Form::Body => DeclarativeMacro::parse_macro2(alloc, None, &body, |_context| edition),
+        Form::Arguments(group, pattern) => {
+            let pattern = buffer_of(alloc, group.delimiter, pattern)?;
+            DeclarativeMacro::parse_macro2(alloc, Some(&pattern), &body, |_context| edition)
+        }
     }
-    let arguments = arguments_of(alloc, defined.form)?;
-    DeclarativeMacro::parse_macro2(alloc, arguments.as_ref(), &body, |_context| edition)
 }
 
 impl<A: Allocator + Copy> Scope<A> {
     /// No macro yet. Definitions are read as those of that edition.
-    pub fn new(alloc: A, edition: Edition) -> Scope<A> {
+    pub fn new(alloc: A, edition: Edition) -> Scope<A>
+        ensures scope { scope_of result ≡ record { definitions = []; visible = [] } }
+        ensures edition { result.edition ≡ edition }
+    {
         Scope {
             alloc,
             edition,
             definitions: Vec::new(alloc),
-            places: BTreeMap::new(alloc),
             visible: Vec::new(alloc),
+        }
+    }
+
+    // What is wrong with a definition of that name.
+    fn fault_of(
+        &self,
+        name: &str,
+        rules: &DeclarativeMacro<A>,
+    ) -> Result<Option<String<A>>, AllocError> {
+        match rules.err() {
+            Some(error) => Ok(Some(format!(in self.alloc; "macro `{name}`: {error}")?)),
+            None => Ok(None),
         }
     }
 
@@ -80,82 +98,151 @@ impl<A: Allocator + Copy> Scope<A> {
         &mut self,
         defined: Defined<'_, A>,
         is_wide: bool,
-    ) -> Result<(usize, Option<String<A>>), AllocError> {
+    ) -> Result<(usize, Option<String<A>>), AllocError>
+        ensures read { OnOk result (IsRead self.old.edition (defined_shown defined.entry) is_wide
+            (scope_of self.old) (scope_of self.new)) }
+        ensures number { IfOk result (λ r. r.0 ≡ length (scope_of self.old).definitions) }
+        ensures edition { OnOk result (self.new.edition ≡ self.old.edition) }
+    {
         let rules = rules_of(self.alloc, self.edition, defined)?;
-        let name = defined.name.sym.as_str();
-        let fault = match rules.err() {
-            Some(error) => Some(format!(in self.alloc; "macro `{name}`: {error}")?),
-            None => None,
-        };
+        let fault = self.fault_of(defined.name.sym.as_str(), &rules)?;
         let number = self.definitions.len();
-        let name = String::from_str(self.alloc, name)?;
+        let name = String::from_str(self.alloc, defined.name.sym.as_str())?;
         self.definitions.push(Definition {
             name,
             rules,
             is_wide,
+            place: defined.name.span,
         })?;
         Ok((number, fault))
     }
 
-    /// Keeps a definition's number by its place in a file.
-    pub fn place(&mut self, defined: Defined<'_, A>, number: usize) -> Result<(), AllocError> {
-        let span = defined.name.span;
-        let _before = self.places.insert((span.file, span.start), number)?;
-        Ok(())
+    // The definition of that number.
+    fn definition(&self, number: usize) -> Option<&Definition<A>>
+        ensures { option_map (λ d. definition_of d.now) result
+            ≡ spec.definition_at (scope_of self.now) number }
+    {
+        self.definitions.get(number)
     }
 
     /// The number of the definition that was read at that place in a file.
-    pub fn placed(&self, defined: Defined<'_, A>) -> Option<usize> {
-        let span = defined.name.span;
-        self.places.get(&(span.file, span.start)).copied()
-    }
-
-    /// From here on, names find that definition.
-    pub fn show(&mut self, number: usize) -> Result<(), AllocError> {
-        self.visible.push(number)?;
-        Ok(())
-    }
-
-    /// What `leave` needs at the end of a group that begins here.
-    pub fn enter(&self) -> usize {
-        self.visible.len()
-    }
-
-    /// From here on, names don't find what a group defined.
-    pub fn leave(&mut self, mark: usize) {
-        self.visible.truncate(mark);
-    }
-
-    // The last definition of that name among these.
-    fn last<'s>(&'s self, name: &str, only_wide: bool) -> Option<&'s Definition<A>> {
-        self.definitions
-            .iter()
-            .rev()
-            .find(|d| (d.is_wide || !only_wide) && d.name.as_str() == name)
-    }
-
-    fn last_visible<'s>(&'s self, name: &str) -> Option<&'s Definition<A>> {
-        for number in self.visible.iter().rev() {
-            if let Some(definition) = self.definitions.get(*number)
-                && definition.name.as_str() == name
-            {
-                return Some(definition);
+    pub fn placed(&self, defined: Defined<'_, A>) -> Option<usize>
+        ensures { result ≡ spec.placed (scope_of self.now) (defined_shown defined.entry).name.span }
+    {
+        let place = defined.name.span;
+        let mut left = self.definitions.len();
+        'numbers: while left > 0 {
+            left -= 1;
+            if self.is_placed(left, place) {
+                return Some(left);
             }
         }
         None
     }
 
-    /// The rules that a call names: for a name, those of the last definition that it finds; for a path, and for a name that finds none,
-    /// those of the last wide one.
-    pub fn find<'s>(&'s self, name: &str, is_path: bool) -> Option<&'s DeclarativeMacro<A>> {
-        let near = if is_path {
-            None
-        } else {
-            self.last_visible(name)
-        };
-        match near {
-            Some(definition) => Some(&definition.rules),
-            None => Some(&self.last(name, true)?.rules),
+    // Whether the name of that definition stands there.
+    fn is_placed(&self, number: usize, place: Span) -> bool
+        ensures { result ≡ is_placed place (spec.definition_at (scope_of self.now) number) }
+    {
+        match self.definition(number) {
+            Some(found) => found.place.file == place.file && found.place.start == place.start,
+            None => false,
         }
+    }
+
+    /// From here on, names find that definition.
+    pub fn show(&mut self, number: usize) -> Result<(), AllocError>
+        ensures shown { OnOk result (scope_of self.new ≡ with_shown number (scope_of self.old)) }
+        ensures edition { OnOk result (self.new.edition ≡ self.old.edition) }
+    {
+        self.visible.push(number)?;
+        Ok(())
+    }
+
+    /// What `leave` needs at the end of a group that begins here.
+    pub fn enter(&self) -> usize
+        ensures { result ≡ length (scope_of self.now).visible }
+    {
+        self.visible.len()
+    }
+
+    /// From here on, names don't find what a group defined.
+    pub fn leave(&mut self, mark: usize)
+        ensures left { scope_of self.new ≡ with_left mark (scope_of self.old) }
+        ensures edition { self.new.edition ≡ self.old.edition }
+    {
+        self.visible.truncate(mark);
+    }
+
+    // Whether that definition has the name, and is wide where it has to be.
+    fn is_found(&self, number: usize, name: &str, only_wide: bool) -> bool
+        ensures { result ≡ is_found name.now only_wide
+            (spec.definition_at (scope_of self.now) number) }
+    {
+        match self.definition(number) {
+            Some(found) => (found.is_wide || !only_wide) && found.name.as_str() == name,
+            None => false,
+        }
+    }
+
+    // Whether the definition that is visible in that place has the name.
+    fn is_seen(&self, place: usize, name: &str) -> bool
+        ensures { result ≡ is_found name.now false (spec.seen_at (scope_of self.now) place) }
+    {
+        match self.visible.get(place) {
+            Some(number) => self.is_found(*number, name, false),
+            None => false,
+        }
+    }
+
+    // The number of the last wide definition of that name.
+    fn wide(&self, name: &str) -> Option<usize>
+        ensures { result ≡ spec.wide (scope_of self.now) name.now }
+    {
+        let mut left = self.definitions.len();
+        'numbers: while left > 0 {
+            left -= 1;
+            if self.is_found(left, name, true) {
+                return Some(left);
+            }
+        }
+        None
+    }
+
+    // The number of the last visible definition of that name.
+    fn near(&self, name: &str) -> Option<usize>
+        ensures { result ≡ spec.near (scope_of self.now) name.now }
+    {
+        let mut left = self.visible.len();
+        'places: while left > 0 {
+            left -= 1;
+            if self.is_seen(left, name) {
+                return self.visible.get(left).copied();
+            }
+        }
+        None
+    }
+
+    /// The number of the definition that a call names: for a name, the last one that it finds; for a path, and for a name that
+    /// finds none, the last wide one.
+    pub fn lookup(&self, name: &str, is_path: bool) -> Option<usize>
+        ensures { result ≡ spec.lookup (scope_of self.now) name.now is_path }
+    {
+        if is_path {
+            return self.wide(name);
+        }
+        match self.near(name) {
+            Some(number) => Some(number),
+            None => self.wide(name),
+        }
+    }
+
+    /// What the macro that a call names says.
+    pub fn find<'s>(&'s self, name: &str, is_path: bool) -> Option<&'s DeclarativeMacro<A>>
+        ensures { option_map (λ m. macro_of m.now) result
+            ≡ spec.rules_found (scope_of self.now) name.now is_path }
+    {
+        let number = self.lookup(name, is_path)?;
+        Some(&self.definition(number)?.rules)
     }
 }
