@@ -18,7 +18,7 @@ abbrev pub unless : {F : Type 0} → Option F → (Forest → Type 0) → Forest
 unless (Some fault) P out = out ≡ none
 unless None P out = P out
 
--- What is written before a round: the separator, but not before the first, nor behind one that faults.
+-- What is written before a round: the separator, but not before the first, nor after one that faults.
 abbrev pub parting : Forest → (ℕ → Bool) → ℕ → Forest
 parting separator faulty zero = none
 parting separator faulty (suc n) = if faulty n then none else separator
