@@ -27,11 +27,6 @@ TOP = os.path.dirname(os.path.dirname(os.path.abspath(__file__)))
 KNOWN = {
     "super-fast-paren-parsing.rs": "deeper than the table's rules may be",
     "issue-93775.rs": "deeper than the table's rules may be",
-    "associated-type-projection-from-multiple-supertraits.rs": "`where A = B`",
-    "equality-bound.rs": "`where A = B`",
-    "missing-bounds.rs": "`where A = B`",
-    "where-equality-constraints.rs": "`where A = B`",
-    "obsolete-syntax-impl-for-dotdot.rs": "`impl A for ..`",
     "index-float.rs": "`a.0. 0`",
 }
 TOKEN = re.compile(r'''

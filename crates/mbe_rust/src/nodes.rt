@@ -116,9 +116,11 @@ pub const NODES: &[Node<'static>] = &[
     Node::Needed(PATTERN_TOP), // needed_pattern_top
     Node::Needed(RANGE_END), // needed_range_end
     Node::Needed(TERM), // needed_term
+    Node::Needed(TYPE), // needed_type
     Node::Needed(TYPE_ONE), // needed_type_one
     Node::Needed(TYPE_SEGMENT), // needed_type_segment
     Node::NotAhead(OPERATOR_MINUS_MORE), // no_operator_minus_more
+    Node::NotAhead(SIGN_PLUS), // no_sign_plus
     Node::Terminal(Terminal::Group(&[DelimiterKind::Parenthesis])), // tuple_types
     Node::Terminal(Terminal::Group(&[DelimiterKind::Parenthesis])), // pointer_parameters
     Node::Terminal(Terminal::Group(&[DelimiterKind::Bracket])), // array_type
@@ -167,14 +169,13 @@ pub const NODES: &[Node<'static>] = &[
     Node::Repeated(ANGLE_REST + 2),
     Node::Then(GENERIC_ARG, ANGLE_REST + 3),
     Node::Or(SIGN_COMMA, AHEAD_SIGN_MORE),
-    Node::Or(GENERIC_ARG + 1, GENERIC_ARG + 3), // generic_arg
-    Node::Then(LIFETIME, GENERIC_ARG + 2),
-    Node::NotAhead(SIGN_PLUS),
-    Node::Or(CONST_ARG, GENERIC_ARG + 4),
-    Node::Then(TYPE, GENERIC_ARG + 5),
-    Node::Maybe(GENERIC_ARG + 6),
-    Node::Or(GENERIC_ARG + 7, GENERIC_ARG + 9),
-    Node::Then(SIGN_EQUAL, GENERIC_ARG + 8),
+    Node::Or(GENERIC_ARG + 1, GENERIC_ARG + 2), // generic_arg
+    Node::Then(LIFETIME, NO_SIGN_PLUS),
+    Node::Or(CONST_ARG, GENERIC_ARG + 3),
+    Node::Then(TYPE, GENERIC_ARG + 4),
+    Node::Maybe(GENERIC_ARG + 5),
+    Node::Or(GENERIC_ARG + 6, GENERIC_ARG + 8),
+    Node::Then(SIGN_EQUAL, GENERIC_ARG + 7),
     Node::Or(CONST_ARG, TYPE),
     Node::Then(OPERATOR_COLON, MAYBE_BOUNDS),
     Node::Or(CONST_ARG + 1, CONST_ARG + 2), // const_arg
@@ -323,12 +324,17 @@ pub const NODES: &[Node<'static>] = &[
     Node::Then(WHERE_BOUND, SIGN_COMMA),
     Node::Maybe(WHERE_BOUND),
     Node::Then(MANY_ATTRIBUTE, WHERE_BOUND + 1), // where_bound
-    Node::Or(WHERE_BOUND + 2, WHERE_BOUND + 4),
+    Node::Or(WHERE_BOUND + 2, WHERE_BOUND + 6),
     Node::Then(LIFETIME, WHERE_BOUND + 3),
+    Node::Then(NO_SIGN_PLUS, WHERE_BOUND + 4),
+    Node::Then(WHERE_BOUND + 5, MAYBE_BOUNDS),
+    Node::Needed(OPERATOR_COLON),
+    Node::Then(MAYBE_FOR_LIFETIMES, WHERE_BOUND + 7),
+    Node::Then(TYPE, WHERE_BOUND + 8),
+    Node::Or(WHERE_BOUND + 9, WHERE_BOUND + 10),
     Node::Then(OPERATOR_COLON, MAYBE_BOUNDS),
-    Node::Then(MAYBE_FOR_LIFETIMES, WHERE_BOUND + 5),
-    Node::Then(TYPE, WHERE_BOUND + 6),
-    Node::Then(OPERATOR_COLON, MAYBE_BOUNDS),
+    Node::Then(WHERE_BOUND + 11, NEEDED_TYPE),
+    Node::Terminal(Terminal::Operators(&["=", "=="])),
     Node::Then(OPERATOR_HASH, ATTRIBUTE_GROUP), // attribute
     Node::Then(PAT_TOP_FRAGMENT + 1, PATTERN_TOP), // pat_top_fragment
     Node::NotAhead(PAT_TOP_FRAGMENT + 2),
@@ -628,14 +634,13 @@ pub const NODES: &[Node<'static>] = &[
     Node::Then(LET + 5, LET + 7),
     Node::Needed(LET + 6),
     Node::NotAhead(OPERATOR_BAR),
-    Node::Then(LET + 8, LET + 11),
+    Node::Then(LET + 8, LET + 10),
     Node::Maybe(LET + 9),
-    Node::Then(OPERATOR_COLON, LET + 10),
-    Node::Needed(TYPE),
-    Node::Maybe(LET + 12),
-    Node::Then(SIGN_EQUAL, LET + 13),
-    Node::Then(NEEDED_EXPR, LET + 14),
-    Node::Maybe(LET + 15),
+    Node::Then(OPERATOR_COLON, NEEDED_TYPE),
+    Node::Maybe(LET + 11),
+    Node::Then(SIGN_EQUAL, LET + 12),
+    Node::Then(NEEDED_EXPR, LET + 13),
+    Node::Maybe(LET + 14),
     Node::Then(WORD_ELSE, NEEDED_BLOCK),
     Node::Or(ITEM_BEGIN, ITEM_WORD + 1), // item_word
     Node::Or(ITEM_MARK, ITEM_WORD + 2),
@@ -801,9 +806,10 @@ pub const NODES: &[Node<'static>] = &[
     Node::Then(OPERATOR_BANG, IMPL_REST + 4),
     Node::NotAhead(BRACE),
     Node::Then(TYPE, IMPL_REST + 6),
-    Node::Then(IMPL_REST + 7, IMPL_REST + 9),
+    Node::Then(IMPL_REST + 7, IMPL_REST + 10),
     Node::Maybe(IMPL_REST + 8),
-    Node::Then(WORD_FOR, TYPE),
+    Node::Then(WORD_FOR, IMPL_REST + 9),
+    Node::Or(OPERATOR_DOT_DOT, TYPE),
     Node::Then(MAYBE_WHERE_CLAUSE, ITEMS_GROUP),
     Node::Then(WORD_EXTERN, EXTERN_CRATE + 1), // extern_crate
     Node::Then(WORD_CRATE, EXTERN_CRATE + 2),

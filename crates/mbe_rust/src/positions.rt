@@ -222,328 +222,332 @@ pub const NEEDED_RANGE_END: usize = 109;
 
 pub const NEEDED_TERM: usize = 110;
 
-pub const NEEDED_TYPE_ONE: usize = 111;
+pub const NEEDED_TYPE: usize = 111;
 
-pub const NEEDED_TYPE_SEGMENT: usize = 112;
+pub const NEEDED_TYPE_ONE: usize = 112;
 
-pub const NO_OPERATOR_MINUS_MORE: usize = 113;
+pub const NEEDED_TYPE_SEGMENT: usize = 113;
 
-pub const TUPLE_TYPES: usize = 114;
+pub const NO_OPERATOR_MINUS_MORE: usize = 114;
 
-pub const POINTER_PARAMETERS: usize = 115;
+pub const NO_SIGN_PLUS: usize = 115;
 
-pub const ARRAY_TYPE: usize = 116;
+pub const TUPLE_TYPES: usize = 116;
 
-pub const ATTRIBUTE_GROUP: usize = 117;
+pub const POINTER_PARAMETERS: usize = 117;
 
-pub const UNSAFE_META: usize = 118;
+pub const ARRAY_TYPE: usize = 118;
 
-pub const TUPLE_PATTERN: usize = 119;
+pub const ATTRIBUTE_GROUP: usize = 119;
 
-pub const SLICE_PATTERN: usize = 120;
+pub const UNSAFE_META: usize = 120;
 
-pub const STRUCT_PATTERN: usize = 121;
+pub const TUPLE_PATTERN: usize = 121;
 
-pub const ARGUMENTS: usize = 122;
+pub const SLICE_PATTERN: usize = 122;
 
-pub const ARRAY: usize = 123;
+pub const STRUCT_PATTERN: usize = 123;
 
-pub const INDEX: usize = 124;
+pub const ARGUMENTS: usize = 124;
 
-pub const STRUCT_LITERAL: usize = 125;
+pub const ARRAY: usize = 125;
 
-pub const ARMS: usize = 126;
+pub const INDEX: usize = 126;
 
-pub const BRACES: usize = 127;
+pub const STRUCT_LITERAL: usize = 127;
 
-pub const MACRO_ARGUMENT: usize = 128;
+pub const ARMS: usize = 128;
 
-pub const MACRO_BRACES: usize = 129;
+pub const BRACES: usize = 129;
 
-pub const MACRO_OTHER: usize = 130;
+pub const MACRO_ARGUMENT: usize = 130;
 
-pub const ITEMS_GROUP: usize = 131;
+pub const MACRO_BRACES: usize = 131;
 
-pub const FOREIGN_ITEMS: usize = 132;
+pub const MACRO_OTHER: usize = 132;
 
-pub const TUPLE_FIELDS: usize = 133;
+pub const ITEMS_GROUP: usize = 133;
 
-pub const FIELDS: usize = 134;
+pub const FOREIGN_ITEMS: usize = 134;
 
-pub const VARIANTS: usize = 135;
+pub const TUPLE_FIELDS: usize = 135;
 
-pub const PARAMETERS: usize = 136;
+pub const FIELDS: usize = 136;
 
-pub const USE_GROUP: usize = 137;
+pub const VARIANTS: usize = 137;
 
-pub const LIFETIME: usize = 138;
+pub const PARAMETERS: usize = 138;
 
-pub const SEGMENT_NAME: usize = 139;
+pub const USE_GROUP: usize = 139;
 
-pub const PATH_SEP: usize = 141;
+pub const LIFETIME: usize = 140;
 
-pub const MOD_PATH: usize = 144;
+pub const SEGMENT_NAME: usize = 141;
 
-pub const LESS: usize = 149;
+pub const PATH_SEP: usize = 143;
 
-pub const ANGLE: usize = 152;
+pub const MOD_PATH: usize = 146;
 
-pub const ANGLE_REST: usize = 154;
+pub const LESS: usize = 151;
 
-pub const GENERIC_ARG: usize = 158;
+pub const ANGLE: usize = 154;
 
-pub const CONST_ARG: usize = 168;
+pub const ANGLE_REST: usize = 156;
 
-pub const FN_SUGAR: usize = 172;
+pub const GENERIC_ARG: usize = 160;
 
-pub const PATH_ARGS: usize = 173;
+pub const CONST_ARG: usize = 169;
 
-pub const TURBOFISH: usize = 174;
+pub const FN_SUGAR: usize = 173;
 
-pub const TYPE_SEGMENT: usize = 178;
+pub const PATH_ARGS: usize = 174;
 
-pub const TYPE_PATH: usize = 181;
+pub const TURBOFISH: usize = 175;
 
-pub const EXPR_SEGMENT: usize = 186;
+pub const TYPE_SEGMENT: usize = 179;
 
-pub const EXPR_PATH: usize = 188;
+pub const TYPE_PATH: usize = 182;
 
-pub const QSELF: usize = 199;
+pub const EXPR_SEGMENT: usize = 187;
 
-pub const MACRO_END: usize = 205;
+pub const EXPR_PATH: usize = 189;
 
-pub const TYPE: usize = 207;
+pub const QSELF: usize = 200;
 
-pub const TYPE_ONE: usize = 210;
+pub const MACRO_END: usize = 206;
 
-pub const TYPE_PREFIX: usize = 212;
+pub const TYPE: usize = 208;
 
-pub const PINNED: usize = 219;
+pub const TYPE_ONE: usize = 211;
 
-pub const TYPE_BASE: usize = 221;
+pub const TYPE_PREFIX: usize = 213;
 
-pub const TYPE_WORD: usize = 235;
+pub const PINNED: usize = 220;
 
-pub const DYN_2015: usize = 243;
+pub const TYPE_BASE: usize = 222;
 
-pub const FN_POINTER: usize = 249;
+pub const TYPE_WORD: usize = 236;
 
-pub const ABI: usize = 255;
+pub const DYN_2015: usize = 244;
 
-pub const RETURN_TYPE: usize = 256;
+pub const FN_POINTER: usize = 250;
 
-pub const UNSAFE_BINDER: usize = 257;
+pub const ABI: usize = 256;
 
-pub const BARE_BOUNDS: usize = 259;
+pub const RETURN_TYPE: usize = 257;
 
-pub const BOUNDS: usize = 263;
+pub const UNSAFE_BINDER: usize = 258;
 
-pub const BOUND: usize = 266;
+pub const BARE_BOUNDS: usize = 260;
 
-pub const PAREN_BOUND: usize = 274;
+pub const BOUNDS: usize = 264;
 
-pub const BOUND_MARK: usize = 275;
+pub const BOUND: usize = 267;
 
-pub const FOR_LIFETIMES: usize = 283;
+pub const PAREN_BOUND: usize = 275;
 
-pub const GENERIC_PARAMS: usize = 284;
+pub const BOUND_MARK: usize = 276;
 
-pub const GENERIC_PARAM: usize = 289;
+pub const FOR_LIFETIMES: usize = 284;
 
-pub const CONST_PARAM: usize = 301;
+pub const GENERIC_PARAMS: usize = 285;
 
-pub const WHERE_CLAUSE: usize = 308;
+pub const GENERIC_PARAM: usize = 290;
 
-pub const WHERE_BOUND: usize = 313;
+pub const CONST_PARAM: usize = 302;
 
-pub const ATTRIBUTE: usize = 320;
+pub const WHERE_CLAUSE: usize = 309;
 
-pub const PAT_TOP_FRAGMENT: usize = 321;
+pub const WHERE_BOUND: usize = 314;
 
-pub const PAT_FRAGMENT: usize = 324;
+pub const ATTRIBUTE: usize = 326;
 
-pub const PATTERN_TOP: usize = 327;
+pub const PAT_TOP_FRAGMENT: usize = 327;
 
-pub const PATTERN: usize = 332;
+pub const PAT_FRAGMENT: usize = 330;
 
-pub const PATTERN_PREFIX: usize = 334;
+pub const PATTERN_TOP: usize = 333;
 
-pub const PATTERN_BASE: usize = 338;
+pub const PATTERN: usize = 338;
 
-pub const PATH_PATTERN: usize = 344;
+pub const PATTERN_PREFIX: usize = 340;
 
-pub const OTHER_PATTERN: usize = 349;
+pub const PATTERN_BASE: usize = 344;
 
-pub const AT_PATTERN: usize = 357;
+pub const PATH_PATTERN: usize = 350;
 
-pub const BINDING_MODE: usize = 358;
+pub const OTHER_PATTERN: usize = 355;
 
-pub const PATTERN_LITERAL: usize = 365;
+pub const AT_PATTERN: usize = 363;
 
-pub const RANGE_TAIL: usize = 368;
+pub const BINDING_MODE: usize = 364;
 
-pub const RANGE_TO: usize = 372;
+pub const PATTERN_LITERAL: usize = 371;
 
-pub const RANGE_END: usize = 375;
+pub const RANGE_TAIL: usize = 374;
 
-pub const EXPR_FRAGMENT: usize = 376;
+pub const RANGE_TO: usize = 378;
 
-pub const EXPR: usize = 379;
+pub const RANGE_END: usize = 381;
 
-pub const ASSIGNMENT: usize = 386;
+pub const EXPR_FRAGMENT: usize = 382;
 
-pub const RANGE: usize = 387;
+pub const EXPR: usize = 385;
 
-pub const TERM: usize = 392;
+pub const ASSIGNMENT: usize = 392;
 
-pub const BINARY: usize = 394;
+pub const RANGE: usize = 393;
 
-pub const OPERATOR: usize = 399;
+pub const TERM: usize = 398;
 
-pub const ARITHMETIC: usize = 400;
+pub const BINARY: usize = 400;
 
-pub const COMPARISON: usize = 401;
+pub const OPERATOR: usize = 405;
 
-pub const UNARY: usize = 402;
+pub const ARITHMETIC: usize = 406;
 
-pub const PREFIX: usize = 406;
+pub const COMPARISON: usize = 407;
 
-pub const POSTFIX: usize = 415;
+pub const UNARY: usize = 408;
 
-pub const MEMBER: usize = 420;
+pub const PREFIX: usize = 412;
 
-pub const ATOM: usize = 430;
+pub const POSTFIX: usize = 421;
 
-pub const PLAIN_ATOM: usize = 439;
+pub const MEMBER: usize = 426;
 
-pub const CLOSURE_BODY: usize = 449;
+pub const ATOM: usize = 436;
 
-pub const CLOSURE_HEAD: usize = 450;
+pub const PLAIN_ATOM: usize = 445;
 
-pub const CLOSURE_WORD: usize = 452;
+pub const CLOSURE_BODY: usize = 455;
 
-pub const CLOSURE_PARAMS: usize = 458;
+pub const CLOSURE_HEAD: usize = 456;
 
-pub const CLOSURE_PARAM: usize = 464;
+pub const CLOSURE_WORD: usize = 458;
 
-pub const JUMP: usize = 468;
+pub const CLOSURE_PARAMS: usize = 464;
 
-pub const VALUE: usize = 477;
+pub const CLOSURE_PARAM: usize = 470;
 
-pub const OWN_BLOCK: usize = 478;
+pub const JUMP: usize = 474;
 
-pub const CAPTURE: usize = 489;
+pub const VALUE: usize = 483;
 
-pub const START: usize = 490;
+pub const OWN_BLOCK: usize = 484;
 
-pub const START_HEAD: usize = 491;
+pub const CAPTURE: usize = 495;
 
-pub const START_WORD: usize = 497;
+pub const START: usize = 496;
 
-pub const PATH_WORD: usize = 501;
+pub const START_HEAD: usize = 497;
 
-pub const FLOW_WORD: usize = 502;
+pub const START_WORD: usize = 503;
 
-pub const BLOCK_WORD: usize = 503;
+pub const PATH_WORD: usize = 507;
 
-pub const START_SIGN: usize = 504;
+pub const FLOW_WORD: usize = 508;
 
-pub const HEAD: usize = 505;
+pub const BLOCK_WORD: usize = 509;
 
-pub const HEAD_RANGE: usize = 512;
+pub const START_SIGN: usize = 510;
 
-pub const HEAD_TERM: usize = 517;
+pub const HEAD: usize = 511;
 
-pub const HEAD_BINARY: usize = 519;
+pub const HEAD_RANGE: usize = 518;
 
-pub const HEAD_UNARY: usize = 524;
+pub const HEAD_TERM: usize = 523;
 
-pub const HEAD_ATOM: usize = 532;
+pub const HEAD_BINARY: usize = 525;
 
-pub const HEAD_CLOSURE_BODY: usize = 540;
+pub const HEAD_UNARY: usize = 530;
 
-pub const HEAD_VALUE: usize = 541;
+pub const HEAD_ATOM: usize = 538;
 
-pub const BLOCK_LIKE: usize = 542;
+pub const HEAD_CLOSURE_BODY: usize = 546;
 
-pub const LABEL: usize = 555;
+pub const HEAD_VALUE: usize = 547;
 
-pub const LOOP: usize = 556;
+pub const BLOCK_LIKE: usize = 548;
 
-pub const IF: usize = 571;
+pub const LABEL: usize = 561;
 
-pub const MATCH: usize = 581;
+pub const LOOP: usize = 562;
 
-pub const STMT: usize = 583;
+pub const IF: usize = 577;
 
-pub const OWN_STMT: usize = 594;
+pub const MATCH: usize = 587;
 
-pub const LET: usize = 600;
+pub const STMT: usize = 589;
 
-pub const ITEM_WORD: usize = 616;
+pub const OWN_STMT: usize = 600;
 
-pub const ITEM_BEGIN: usize = 619;
+pub const LET: usize = 606;
 
-pub const ITEM_MARK: usize = 620;
+pub const ITEM_WORD: usize = 621;
 
-pub const BLOCK: usize = 621;
+pub const ITEM_BEGIN: usize = 624;
 
-pub const META: usize = 622;
+pub const ITEM_MARK: usize = 625;
 
-pub const VIS: usize = 628;
+pub const BLOCK: usize = 626;
 
-pub const SCOPE: usize = 631;
+pub const META: usize = 627;
 
-pub const ITEM: usize = 637;
+pub const VIS: usize = 633;
 
-pub const ITEM_KIND: usize = 646;
+pub const SCOPE: usize = 636;
 
-pub const TYPE_ITEM: usize = 649;
+pub const ITEM: usize = 642;
 
-pub const OTHER_ITEM: usize = 654;
+pub const ITEM_KIND: usize = 651;
 
-pub const USE: usize = 660;
+pub const TYPE_ITEM: usize = 654;
 
-pub const USE_TREE: usize = 666;
+pub const OTHER_ITEM: usize = 659;
 
-pub const MODULE: usize = 676;
+pub const USE: usize = 665;
 
-pub const STRUCT: usize = 680;
+pub const USE_TREE: usize = 671;
 
-pub const UNION: usize = 688;
+pub const MODULE: usize = 681;
 
-pub const ENUM: usize = 692;
+pub const STRUCT: usize = 685;
 
-pub const ALIAS: usize = 696;
+pub const UNION: usize = 693;
 
-pub const CONSTANT: usize = 707;
+pub const ENUM: usize = 697;
 
-pub const STATIC: usize = 717;
+pub const ALIAS: usize = 701;
 
-pub const FUNCTION: usize = 728;
+pub const CONSTANT: usize = 712;
 
-pub const FN_MARKS: usize = 737;
+pub const STATIC: usize = 722;
 
-pub const FN_RETURN: usize = 749;
+pub const FUNCTION: usize = 733;
 
-pub const TRAIT: usize = 750;
+pub const FN_MARKS: usize = 742;
 
-pub const TRAIT_ALIAS: usize = 758;
+pub const FN_RETURN: usize = 754;
 
-pub const TRAIT_REST: usize = 761;
+pub const TRAIT: usize = 755;
 
-pub const IMPLEMENTATION: usize = 765;
+pub const TRAIT_ALIAS: usize = 763;
 
-pub const IMPL_REST: usize = 770;
+pub const TRAIT_REST: usize = 766;
 
-pub const EXTERN_CRATE: usize = 780;
+pub const IMPLEMENTATION: usize = 770;
 
-pub const FOREIGN: usize = 788;
+pub const IMPL_REST: usize = 775;
 
-pub const RULES: usize = 791;
+pub const EXTERN_CRATE: usize = 786;
 
-pub const MACRO: usize = 795;
+pub const FOREIGN: usize = 794;
 
-pub const ITEM_CALL: usize = 799;
+pub const RULES: usize = 797;
 
-pub const MACRO_REST: usize = 801;
+pub const MACRO: usize = 801;
+
+pub const ITEM_CALL: usize = 805;
+
+pub const MACRO_REST: usize = 807;
