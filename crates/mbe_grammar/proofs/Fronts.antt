@@ -1,9 +1,9 @@
 -- What the first tree decides: which rules don't stand there.
-use Rattle.std.proofs.Common.{◌≡◌, ℕ, Bool, true, false, not, List, [], ◌∷◌, take, Option, Some, None, Ok, Err, ◌⊎◌, inl, inr, refl}
+use Rattle.std.proofs.Common.{◌≡◌, ℕ, Bool, true, false, not, List, [], ◌∷◌, take, Option, Some, None, Ok, Err, ◌⊎◌, inl, inr, refl, sym}
 use Rattle.std.specs.Prelude.{◌==◌, ◌||◌, if◌then◌else◌}
 use Rattle.std.specs.List.{list_any, list_all}
 use Rattle.std.specs.Str.{bytes_eq}
-use Rattle.std.proofs.lemmas.Bool.{eqb-true, or_cases, and_parts, not-true, or_left, or_right}
+use Rattle.std.proofs.lemmas.Bool.{false≢true, eqb-true, or_cases, and_parts, not-true, or_left, or_right}
 use Rattle.std.proofs.lemmas.Slice.Eq.{bytes_eq-Decides}
 use Rattle.mbe_tt.specs.Trees.Leaf.{punct, literal, ident, is_text}
 use Rattle.mbe_tt.specs.Trees.Tree.{Forest, none, leaf, group, Tree, Leaf_tree, Group_tree}
@@ -13,7 +13,7 @@ use Rattle.mbe_tt.specs.declared.tt.IdentIsRaw.{IdentIsRaw}
 use Rattle.mbe_tt.specs.declared.tt.IdentIsRaw.TheVariants.{No, Yes}
 use Rattle.mbe_tt.specs.declared.tt.DelimiterKind.{DelimiterKind}
 use Rattle.mbe_grammar.specs.declared.step.Miss.TheVariants.{Absent, Fault}
-use Rattle.mbe_grammar.specs.Rule.{Step, ◌>>=◌, or_else, or_miss, behind_one, behind_puncts}
+use Rattle.mbe_grammar.specs.Rule.{Step, ◌>>=◌, or_else, or_miss, behind_one, behind_puncts, may_begin}
 use Rattle.mbe_grammar.specs.SingleTrees.{is_word, is_one_of, is_name, is_literal, is_punct, is_group}
 
 -- the first tree passes the test
@@ -51,6 +51,14 @@ puncts_absent p char chars apart (group d inside rest) h = refl
 puncts_absent p char chars apart (leaf (literal x) rest) h = refl
 puncts_absent p char chars apart (leaf (ident i) rest) h = refl
 puncts_absent p char chars apart (leaf (punct q) rest) h = if_false _ _ (glue_other q rest char chars (apart (Leaf_tree (punct q)) h))
+
+pub absent_unless : (chars : List ℕ) (f : Forest) → may_begin chars f ≡ false → behind_puncts (chars ∷ []) f ≡ None
+absent_unless [] f e = absurd (false≢true (sym e))
+absent_unless (char ∷ chars) none e = refl
+absent_unless (char ∷ chars) (group d inside rest) e = refl
+absent_unless (char ∷ chars) (leaf (literal x) rest) e = refl
+absent_unless (char ∷ chars) (leaf (ident i) rest) e = refl
+absent_unless (char ∷ chars) (leaf (punct p) rest) e = if_false _ _ (glue_other p rest char chars e)
 
 -- ---- words
 

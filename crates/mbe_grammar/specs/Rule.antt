@@ -1,6 +1,6 @@
 -- What the rules of a grammar take from the front of trees. They are those of a parsing expression grammar over whole trees: an alternative
 -- is taken where none before it fits, and a repetition takes all that it can. One thing is more: a rule may fault, and then the whole does.
-use Rattle.std.specs.Prelude.{ℕ, zero, suc, ◌+◌, ◌-◌, ◌*◌, ◌==◌, Bool, true, false, not, ◌&&◌, ◌||◌, if◌then◌else◌, List, Option, Some, None, option_and_then, length, Result, Ok, Err}
+use Rattle.std.specs.Prelude.{ℕ, zero, suc, ◌+◌, ◌-◌, ◌*◌, ◌==◌, Bool, true, false, not, ◌&&◌, ◌||◌, if◌then◌else◌, List, [], ◌∷◌, Option, Some, None, option_and_then, length, Result, Ok, Err}
 use Rattle.std.specs.List.{list_any}
 use Rattle.std.specs.Str.{bytes_eq}
 use Rattle.mbe_tt.specs.Trees.Tree.{Forest, none, leaf, group, Tree, Leaf_tree, Group_tree, skip, flat_len}
@@ -90,6 +90,15 @@ behind_one p (group d inside rest) = if p (Group_tree d inside) then Some rest e
 abbrev pub behind_puncts : List (List ℕ) → Forest → Option Forest
 behind_puncts texts f =
     option_and_then (λ ps. if list_any (bytes_eq (chars_of ps)) texts then Some (skip (length (glue f)) f) else None) (glued f)
+
+-- the first tree is a punct of the first of these chars, if there are any
+abbrev pub may_begin : List ℕ → Forest → Bool
+may_begin [] f = true
+may_begin (c ∷ cs) none = false
+may_begin (c ∷ cs) (leaf (ident i) rest) = false
+may_begin (c ∷ cs) (leaf (literal l) rest) = false
+may_begin (c ∷ cs) (leaf (punct p) rest) = p.char == c
+may_begin (c ∷ cs) (group d inside rest) = false
 
 -- the trees after the first that passes the test
 abbrev pub behind_first : (Tree → Bool) → Forest → Option Forest

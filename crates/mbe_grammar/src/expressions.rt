@@ -16,7 +16,7 @@ use crate::patterns::mut_reference;
 use crate::step::{Miss, Step, ahead, maybe, not_ahead};
 use crate::tokens::{group, literal, name, no_punct, puncts, sign, word};
 use crate::types::{PathStyle, lifetime, path, turbofish};
-use mbe_tt::tt::{DelimiterKind, Punct, TokenTreesView};
+use mbe_tt::tt::{DelimiterKind, Leaf, Punct, TokenTreesView, TtElement};
 use std::alloc::Allocator;
 
 /// The kinds of groups that aren't invisible.
@@ -71,6 +71,9 @@ fn operator<'t, A: Allocator>(tokens: TokenTreesView<'t, A>) -> Step<'t, A>
     ensures { seen result ≡ takes Operator (trees tokens.entry) }
 {
     let mut iter = tokens.iter();
+    let Some(TtElement::Leaf(Leaf::Punct(_))) = iter.peek() else {
+        return Err(Miss::Absent);
+    };
     match iter.expect_glued_punct() {
         Ok(glued) if is_operator(glued.as_slice()) => Ok(iter.remaining()),
         _ => Err(Miss::Absent),

@@ -5,7 +5,7 @@ ghost use Rattle.std.specs.Str.{bytes_eq};
 ghost use Rattle.mbe_tt.specs.Trees.Glue.{chars_of};
 ghost use Rattle.mbe_tt.specs.Trees.Tree.{flat_len, is_same_kind};
 ghost use Rattle.mbe_tt.specs.Views.View.{trees};
-ghost use Rattle.mbe_grammar.specs.Rule.{or_miss, behind_one, behind_puncts, behind_angle};
+ghost use Rattle.mbe_grammar.specs.Rule.{or_miss, behind_one, behind_puncts, behind_angle, may_begin};
 ghost use Rattle.mbe_grammar.specs.SingleTrees.{is_word, is_one_of, is_name, is_identifier, is_literal, is_no_punct, is_punct, is_group};
 ghost use Rattle.mbe_grammar.specs.Steps.{seen};
 
@@ -120,14 +120,31 @@ fn is_kind_of(kind: DelimiterKind, kinds: &[DelimiterKind]) -> bool
 }
 
 /// The trees after the puncts that are taken together, if they have those chars.
+#[tactic(auto, using(crate::proofs::Fronts::absent_unless))]
 pub fn puncts<'t, A: Allocator>(tokens: TokenTreesView<'t, A>, chars: &[char]) -> Step<'t, A>
     ensures { seen result ≡ or_miss Miss.Absent
         (behind_puncts (chars.now ∷ []) (trees tokens.entry)) }
 {
+    if !may_begin(tokens, chars) {
+        return Err(Miss::Absent);
+    }
     let mut iter = tokens.iter();
     match iter.expect_glued_punct() {
         Ok(glued) if have_chars(glued.as_slice(), chars) => Ok(iter.remaining()),
         _ => Err(Miss::Absent),
+    }
+}
+
+// Whether the first tree is a punct of the first of those chars, if there are any. Seldom so, and cheaper than to take puncts together.
+fn may_begin<A: Allocator>(tokens: TokenTreesView<'_, A>, chars: &[char]) -> bool
+    ensures { result ≡ may_begin chars.now (trees tokens.entry) }
+{
+    let Some(char) = chars.first() else {
+        return true;
+    };
+    match tokens.iter().peek() {
+        Some(TtElement::Leaf(Leaf::Punct(punct))) => punct.char == *char,
+        _ => false,
     }
 }
 

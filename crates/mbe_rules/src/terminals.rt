@@ -185,6 +185,9 @@ fn operator<'t, A: Allocator>(tokens: TokenTreesView<'t, A>, texts: &[&str]) -> 
         (after_operator (map (λ t. t.now) texts.now) (trees tokens.entry)) }
 {
     let mut iter = tokens.iter();
+    let Some(TtElement::Leaf(Leaf::Punct(_))) = iter.peek() else {
+        return Err(Miss::Absent);
+    };
     match iter.expect_glued_punct() {
         Ok(glued) if are_one_of(glued.as_slice(), texts) => Ok(iter.remaining()),
         _ => Err(Miss::Absent),
