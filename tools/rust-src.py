@@ -27,7 +27,6 @@ TOP = os.path.dirname(os.path.dirname(os.path.abspath(__file__)))
 KNOWN = {
     "super-fast-paren-parsing.rs": "deeper than the table's rules may be",
     "issue-93775.rs": "deeper than the table's rules may be",
-    "index-float.rs": "`a.0. 0`",
 }
 TOKEN = re.compile(r'''
     (?P<blank>[\s\u200e\u200f]+|//[^\n]*)

@@ -1,11 +1,13 @@
 -- Tests of single trees.
-use Rattle.std.specs.Prelude.{ℕ, Bool, true, false, not, ◌&&◌, ◌==◌, List}
-use Rattle.std.specs.List.{list_any}
+use Rattle.std.specs.Prelude.{ℕ, nat_eq, Bool, true, false, not, ◌&&◌, ◌==◌, List, codes}
+use Rattle.std.specs.List.{list_any, ends_with}
 use Rattle.mbe_tt.specs.Trees.Tree.{Tree, Leaf_tree, Group_tree, is_same_kind}
-use Rattle.mbe_tt.specs.Trees.Leaf.{Leaf, Ident, literal, punct, ident, is_text, is_underscore}
+use Rattle.mbe_tt.specs.Trees.Leaf.{Leaf, Ident, Literal, literal, punct, ident, is_text, is_underscore}
 use Rattle.mbe_tt.specs.declared.tt.IdentIsRaw.{IdentIsRaw}
 use Rattle.mbe_tt.specs.declared.tt.IdentIsRaw.TheVariants.{No, Yes}
 use Rattle.mbe_tt.specs.declared.tt.DelimiterKind.{DelimiterKind}
+use Rattle.mbe_tt.specs.declared.tt.LitKind.{LitKind}
+use Rattle.mbe_tt.specs.declared.tt.LitKind.TheVariants.{Byte, Char, Integer, Float, Str, StrRaw, ByteStr, ByteStrRaw, CStr, CStrRaw, Err}
 use Rattle.mbe_rules.specs.Editions.{edition_of, is_keyword_in}
 use Rattle.mbe_rules.specs.declared.table.RuleTable.{RuleTable}
 
@@ -54,6 +56,29 @@ is_literal (Leaf_tree (ident i)) = false
 is_literal (Leaf_tree (punct p)) = false
 is_literal (Leaf_tree (literal x)) = true
 is_literal (Group_tree d inside) = false
+
+abbrev pub is_float : LitKind → Bool
+is_float Float = true
+is_float Integer = false
+is_float Char = false
+is_float Byte = false
+is_float Str = false
+is_float (StrRaw n) = false
+is_float ByteStr = false
+is_float (ByteStrRaw n) = false
+is_float CStr = false
+is_float (CStrRaw n) = false
+is_float Err = false
+
+-- a number that ends with a `.`
+abbrev pub has_point : Literal → Bool
+has_point l = is_float l.kind && ends_with nat_eq l.text_and_suffix (codes ".")
+
+abbrev pub is_pointed : Tree → Bool
+is_pointed (Leaf_tree (literal l)) = has_point l
+is_pointed (Leaf_tree (ident i)) = false
+is_pointed (Leaf_tree (punct p)) = false
+is_pointed (Group_tree d inside) = false
 
 abbrev pub is_any : Tree → Bool
 is_any t = true

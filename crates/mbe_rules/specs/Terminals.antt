@@ -6,7 +6,7 @@ use Rattle.mbe_tt.specs.Trees.Tree.{Forest, none, leaf, group, Tree, Leaf_tree, 
 use Rattle.mbe_tt.specs.Trees.Glue.{glue, glued, chars_of}
 use Rattle.mbe_tt.specs.declared.span.Edition.{Edition}
 use Rattle.mbe_rules.specs.Editions.{is_since, edition_of}
-use Rattle.mbe_rules.specs.SingleTrees.{is_one_of, is_identifier, is_name, is_literal, is_any, is_punct, is_group}
+use Rattle.mbe_rules.specs.SingleTrees.{is_one_of, is_identifier, is_name, is_literal, is_pointed, is_any, is_punct, is_group}
 use Rattle.mbe_rules.specs.declared.node.Terminal.{Terminal}
 use Rattle.mbe_rules.specs.declared.node.Terminal.TheVariants as terminals
 use Rattle.mbe_rules.specs.declared.step.Miss.{Miss}
@@ -56,6 +56,7 @@ terminal table (terminals.Group kinds) f = or_absent (after_one (is_group kinds.
 terminal table terminals.Name f = or_absent (after_one (is_name table) f)
 terminal table terminals.Identifier f = or_absent (after_one is_identifier f)
 terminal table terminals.Literal f = or_absent (after_one is_literal f)
+terminal table terminals.Pointed f = or_absent (after_one is_pointed f)
 terminal table terminals.Any f = or_absent (after_one is_any f)
 terminal table terminals.End f = at_end f
 terminal table (terminals.Since edition) f = if_since table edition f

@@ -24,6 +24,8 @@ pub enum Terminal<'g> {
     Identifier,
     /// A literal. `true` and `false` are words.
     Literal,
+    /// A number that ends with a `.`, as `0.`: in Rust a field and the point before the next one.
+    Pointed,
     /// Any tree.
     Any,
     /// Nothing, at the end.

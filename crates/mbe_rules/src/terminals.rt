@@ -6,17 +6,19 @@ ghost use Rattle.std.specs.Str.{bytes_eq};
 ghost use Rattle.mbe_tt.specs.Trees.Glue.{chars_of};
 ghost use Rattle.mbe_tt.specs.Trees.Tree.{is_same_kind};
 ghost use Rattle.mbe_tt.specs.Views.View.{trees};
-ghost use Rattle.mbe_tt.specs.Views.Shown.{ident_of};
+ghost use Rattle.mbe_tt.specs.Views.Shown.{ident_of, literal_of};
 ghost use Rattle.mbe_rules.specs.Terminals as spec;
 ghost use Rattle.mbe_rules.specs.Terminals.{or_absent, after_one, after_operator, at_end, if_since};
-ghost use Rattle.mbe_rules.specs.SingleTrees.{is_word, is_one_of, is_name, is_keyword, is_identifier, is_literal, is_any, is_punct, is_group};
+ghost use Rattle.mbe_rules.specs.SingleTrees.{is_word, is_one_of, is_name, is_keyword, is_identifier, is_literal, is_pointed, has_point, is_any, is_punct, is_group};
 ghost use Rattle.mbe_rules.specs.Steps.{seen};
 
 use crate::node::Terminal;
 use crate::step::{Miss, Step};
 use crate::table::{RuleTable, is_since};
 use mbe_tt::span::Edition;
-use mbe_tt::tt::{DelimiterKind, Ident, IdentIsRaw, Leaf, Punct, TokenTreesView, TtElement};
+use mbe_tt::tt::{
+    DelimiterKind, Ident, IdentIsRaw, Leaf, LitKind, Literal, Punct, TokenTreesView, TtElement,
+};
 use std::alloc::Allocator;
 
 /// The trees after what a terminal takes.
@@ -38,6 +40,7 @@ pub fn terminal<'t, A: Allocator>(
         Terminal::Name => name(table, tokens),
         Terminal::Identifier => identifier(tokens),
         Terminal::Literal => literal(tokens),
+        Terminal::Pointed => pointed(tokens),
         Terminal::Any => any(tokens),
         Terminal::End => end(tokens),
         Terminal::Since(edition) => since(table, edition, tokens),
@@ -113,6 +116,24 @@ fn literal<'t, A: Allocator>(tokens: TokenTreesView<'t, A>) -> Step<'t, A>
         Some(TtElement::Leaf(Leaf::Literal(_))) => Ok(iter.remaining()),
         _ => Err(Miss::Absent),
     }
+}
+
+#[inline(never)]
+fn pointed<'t, A: Allocator>(tokens: TokenTreesView<'t, A>) -> Step<'t, A>
+    ensures { seen result ≡ or_absent (after_one is_pointed (trees tokens.entry)) }
+{
+    let mut iter = tokens.iter();
+    match iter.next() {
+        Some(TtElement::Leaf(Leaf::Literal(it))) if has_point(it) => Ok(iter.remaining()),
+        _ => Err(Miss::Absent),
+    }
+}
+
+fn has_point<A: Allocator>(it: &Literal<A>) -> bool
+    ensures { result ≡ has_point (literal_of it.now) }
+{
+    let text = it.text_and_suffix.as_str().as_bytes();
+    matches!(it.kind, LitKind::Float) && text.ends_with(b".")
 }
 
 #[inline(never)]

@@ -11,7 +11,7 @@ use std::process::Abort;
 use std::test::Fail;
 
 // Texts, and their nodes: first those of the rules' names.
-static NODES: [(&str, &[Node<'static>]); 12] = [
+static NODES: [(&str, &[Node<'static>]); 13] = [
     ("", &[]),
     ("# nothing", &[]),
     ("a = NAME", &[Node::Part(1), Node::Terminal(Terminal::Name)]),
@@ -56,6 +56,10 @@ static NODES: [(&str, &[Node<'static>]); 12] = [
             Node::Repeated(1),
             Node::Then(1, 2),
         ],
+    ),
+    (
+        "a = POINTED",
+        &[Node::Part(1), Node::Terminal(Terminal::Pointed)],
     ),
     (
         "a = &a ~a! a",

@@ -67,7 +67,9 @@ const LESS: usize = 27;
 
 const NESTED_MAYBE: usize = 28;
 
-static NODES: [Node<'static>; 29] = [
+const POINTED: usize = 29;
+
+static NODES: [Node<'static>; 30] = [
     Node::Then(TERM, MORE),
     Node::Or(NAME, LITERAL),
     Node::Repeated(PLUS_TERM),
@@ -97,6 +99,7 @@ static NODES: [Node<'static>; 29] = [
     Node::Part(NESTED_MAYBE),
     Node::Terminal(Terminal::Sign('<')),
     Node::Maybe(NESTED),
+    Node::Terminal(Terminal::Pointed),
 ];
 
 static KEYWORDS: [Keyword<'static>; 2] = [
@@ -152,7 +155,7 @@ fn assert_takes(
 }
 
 // Rules, texts, and how many flat tokens are taken in the edition of 2021; none is a fault.
-static TAKEN: [(usize, &str, Option<usize>); 24] = [
+static TAKEN: [(usize, &str, Option<usize>); 29] = [
     (SUM, "a", Some(1)),
     (SUM, "a + 1 + b c", Some(5)),
     (SUM, "a += 1", None),
@@ -177,6 +180,11 @@ static TAKEN: [(usize, &str, Option<usize>); 24] = [
     (ARROW, "= > a", None),
     (NO_NAME_NEXT, "let", Some(1)),
     (NO_NAME_NEXT, "a", None),
+    (POINTED, "1. a", Some(1)),
+    (POINTED, "1.0", None),
+    (POINTED, "1", None),
+    (POINTED, "\".\"", None),
+    (POINTED, ".", None),
 ];
 
 #[test]

@@ -176,6 +176,7 @@ terminal_named name =
     if bytes_eq name (codes "NAME") then Some terminals.Name
     else if bytes_eq name (codes "IDENT") then Some terminals.Identifier
     else if bytes_eq name (codes "LITERAL") then Some terminals.Literal
+    else if bytes_eq name (codes "POINTED") then Some terminals.Pointed
     else if bytes_eq name (codes "ANY") then Some terminals.Any
     else if bytes_eq name (codes "END") then Some terminals.End
     else if bytes_eq name (codes "PAREN") then Some (group (Parenthesis ∷ []))

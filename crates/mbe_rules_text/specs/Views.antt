@@ -57,6 +57,7 @@ plain_terminal (terminals.Group kinds) = terminals.Group (borrowed kinds.now)
 plain_terminal terminals.Name = terminals.Name
 plain_terminal terminals.Identifier = terminals.Identifier
 plain_terminal terminals.Literal = terminals.Literal
+plain_terminal terminals.Pointed = terminals.Pointed
 plain_terminal terminals.Any = terminals.Any
 plain_terminal terminals.End = terminals.End
 plain_terminal (terminals.Since edition) = terminals.Since edition

@@ -33,6 +33,7 @@ fn terminal_of<'t>(name: &str) -> Option<Terminal<'t>>
         "NAME" => Some(Terminal::Name),
         "IDENT" => Some(Terminal::Identifier),
         "LITERAL" => Some(Terminal::Literal),
+        "POINTED" => Some(Terminal::Pointed),
         "ANY" => Some(Terminal::Any),
         "END" => Some(Terminal::End),
         "PAREN" => Some(Terminal::Group(&[DelimiterKind::Parenthesis])),

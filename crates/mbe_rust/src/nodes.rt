@@ -28,6 +28,7 @@ pub const NODES: &[Node<'static>] = &[
     Node::Terminal(Terminal::Operator("*")), // operator_star
     Node::Terminal(Terminal::Operator("~")), // operator_tilde
     Node::Terminal(Terminal::Group(&[DelimiterKind::Parenthesis])), // paren
+    Node::Terminal(Terminal::Pointed), // pointed
     Node::Terminal(Terminal::Sign('&')), // sign_and
     Node::Terminal(Terminal::Sign('|')), // sign_bar
     Node::Terminal(Terminal::Sign(',')), // sign_comma
@@ -435,8 +436,10 @@ pub const NODES: &[Node<'static>] = &[
     Node::Terminal(Terminal::Words(&["raw", "pin"])),
     Node::Terminal(Terminal::Words(&["const", "mut"])),
     Node::Or(OPERATOR_QUESTION, POSTFIX + 1), // postfix
-    Node::Or(POSTFIX + 2, POSTFIX + 4),
+    Node::Or(POSTFIX + 2, POSTFIX + 6),
     Node::Then(OPERATOR_DOT, POSTFIX + 3),
+    Node::Then(POSTFIX + 4, POSTFIX + 5),
+    Node::Repeated(POINTED),
     Node::Needed(MEMBER),
     Node::Or(ARGUMENTS, INDEX),
     Node::Or(MEMBER + 1, MEMBER + 6), // member
