@@ -1,34 +1,38 @@
 -- The second pass, from place to place.
-use Rattle.std.proofs.Common.{ℕ, ◌+◌, ◌≡◌, ◌≤◌, inl, inr, Some, None, List, [], ◌∷◌, ◌++◌, map, reverse, refl, sym, ap, subst, ◌∙◌}
+use Rattle.std.proofs.Common.{ℕ, ◌+◌, ◌≡◌, ◌<◌, ◌≤◌, inl, inr, Option, Some, None, List, [], ◌∷◌, ◌++◌, map, reverse, refl, sym, ap, subst, ◌∙◌, arith}
+use Rattle.std.specs.List.{filter_map}
 use Rattle.std.proofs.lemmas.List.{reverse-append}
-use Rattle.mbe_tt.specs.Trees.Tree.{Forest, rest_at}
+use Rattle.mbe_tt.specs.Trees.Tree.{Forest, flat_len, rest_at}
 use Rattle.mbe_tt.specs.Fragments.Grammar.{Grammar, IsLawful}
 use Rattle.mbe_semantics.specs.Syntax.Op.{Ops}
 use Rattle.mbe_semantics.specs.Syntax.Nullable.{Checked}
 use Rattle.mbe_semantics.specs.Readings.Input.{Input, input_of}
 use Rattle.mbe_semantics.specs.Readings.Reading.{Beginning, At}
 use Rattle.mbe_semantics.specs.Readings.Verdict.{Verdict, IsVerdict, stop_of}
-use Rattle.mbe_semantics.specs.Bindings.Account.{Log, no_account}
+use Rattle.mbe_semantics.specs.Bindings.Account.{Commands, Log, Handle, no_account}
 use Rattle.mbe_semantics.specs.Matching.Lists.{In}
 use Rattle.mbe_semantics.specs.Matching.Dots.{dots}
-use Rattle.mbe_semantics.specs.Matching.Outline.{Outline, outline, Advance, advance, erase}
+use Rattle.mbe_semantics.specs.Matching.Outline.{Outline, outline, Advance, advance, erase, finished_of}
 use Rattle.mbe_semantics.specs.Matching.Settled.{after_of, first_width}
+use Rattle.mbe_matcher.specs.declared.ends.Failed.{Failed}
 use Rattle.mbe_matcher.specs.declared.ends.Visit as declared
 use Rattle.mbe_matcher.specs.declared.ends.Visit.TheVariants as told
 use Rattle.mbe_matcher.specs.declared.position.Outer.{Outer}
 use Rattle.mbe_matcher.specs.declared.position.Position.{Position}
 use Rattle.mbe_matcher.specs.declared.position.Waiting.{Waiting}
 use Rattle.mbe_matcher.specs.declared.report.Report.{Report}
-use Rattle.mbe_matcher.specs.Positions.{Each, IsLeft, Shows, LeadsTo, Keeps}
-use Rattle.mbe_matcher.specs.Failures.{Notes, no_notes, AreNotes}
+use Rattle.mbe_matcher.specs.Positions.{Each, IsLeft, Shows, LeadsTo, Holds, Keeps}
+use Rattle.mbe_matcher.specs.Failures.{Misfit, Notes, no_notes, misfit, noted_with, AreNotes}
 use Rattle.mbe_matcher.specs.Reports.{IsReportOf}
 use Rattle.mbe_matcher.specs.Matched.{IsAtStart, position_after}
-use Rattle.mbe_matcher.specs.TwoEnds.{enter, first_moves, back_moves, kept_noted, EndsFollow, follow_start, follow_next}
-use Rattle.mbe_matcher.specs.EndsMatched.{IsHere, VisitShows, IsFirstStack, IsLastStack, visit_after}
-use Rattle.mbe_matcher.proofs.Keeping.{each_weaker, each_append, leads_keep}
+use Rattle.mbe_matcher.specs.TwoEnds.{enter, only_first, kept_first, kept_back, first_moves, back_moves, kept_noted, EndsFollow, follow_start, follow_next}
+use Rattle.mbe_matcher.specs.EndsMatched.{IsHere, VisitShows, IsFirstStack, IsLastStack, AreFirsts, AreLasts, FirstFails, visit_after}
+use Rattle.mbe_matcher.proofs.Keeping.{each_weaker, each_append, leads_keep, holds_keep}
 use Rattle.mbe_matcher.proofs.KeptEnds.{Pass, passes, kept_pass}
 use Rattle.mbe_matcher.proofs.LastWalk.{visits_keep}
 use Rattle.mbe_matcher.proofs.MatchEnds.{same_width, shown_after, first_left}
+use Rattle.mbe_matcher.proofs.Reporting.{notes_keep}
+use Rattle.mbe_matcher.proofs.StopPlaces.{goes_on, stop_within}
 
 each_reverse : {X Y : Type 0} (R : X → Y → Type 0) (xs : List X) (ys : List Y) → Each R xs ys → Each R (reverse xs) (reverse ys)
 each_reverse R [] [] e = tt
@@ -117,6 +121,51 @@ module _ {A : Type 0} (log : Log) (outers : List (Outer A)) (here : Forest) wher
   entered_after i there q [] (a ∷ goes) e = absurd e
   entered_after i there q (w ∷ ws) [] e = absurd e
   entered_after i there q (w ∷ ws) (advance m g o ∷ goes) e = (e.0.after, entered_after i there q ws goes e.1)
+
+-- the first step of those that go on before the stop
+pub record Goes {A : Type 0} (i : Input) (pattern : Ops) (here : Forest) (q len stop : ℕ) (os : List Outline) (ws : List (Waiting A)) : Type 0 where
+  pub first : Waiting A
+  pub rest : List (Waiting A)
+  pub is : ws ≡ first ∷ rest
+  pub wide : first_width (first_moves i (dots pattern) q os) ≡ Some first.width
+  pub left : IsLeft here first.width first.beyond
+  pub some : 0 < first.width
+  pub within : q + first.width ≤ stop
+  pub fits : q + first.width ≤ len
+
+pub goes : {A : Type 0} (g : Grammar) (pattern : Ops) (argument : Forest) (lawful : IsLawful g) (checked : Checked pattern) (v : Verdict) (is : IsVerdict g pattern argument v)
+    (q : ℕ) (os ps : List Outline) (before : Notes) (log : Log) (outers : List (Outer A)) (ws : List (Waiting A)) (hs : List Handle) → EndsFollow (input_of g argument) pattern q os ps before →
+    q < stop_of argument v → AreFirsts (input_of g argument) q pattern os log outers (rest_at argument q) ws hs →
+    Goes (input_of g argument) pattern (rest_at argument q) q (flat_len argument) (stop_of argument v) os ws
+goes g pattern argument lawful checked v is q os ps before log outers ws hs follows l f =
+    let t = goes_on g pattern argument lawful checked v is q os ps before follows l in
+    let r = first_step log outers (rest_at argument q) ws (first_moves (input_of g argument) (dots pattern) q os) t.width f.goes_on t.is in
+    let stop : stop_of argument v ≤ flat_len argument = stop_within g pattern argument lawful checked v is in
+    let within : q + r.0.width ≤ stop_of argument v = subst (λ n. q + n ≤ stop_of argument v) (sym r.3) t.within in
+    record {
+      first = r.0;
+      rest = r.1;
+      is = r.2;
+      wide = t.is ∙ ap (λ n. Some n) (sym r.3);
+      left = r.4;
+      some = subst (λ n. 0 < n) (sym r.3) t.some;
+      within = within;
+      fits = omega (arith, stop, within);
+    }
+
+-- the place is noted
+pub pass_notes : {A : Type 0} (i : Input) (argument : Forest) (pattern : Ops) (q : ℕ) (os ps : List Outline) (before : Notes) (between log : Log) (middle outers : List (Outer A))
+    (fw lw : List (Waiting A)) (ends hs : List Handle) (failed : Option (Failed A)) (one two three : Report A) → AreFirsts i q pattern os between middle (rest_at argument q) fw ends →
+    AreLasts i q pattern ps log outers (rest_at argument q) lw failed → Keeps between log middle outers → hs ≡ ends → two ≡ one →
+    IsReportOf between argument one (filter_map (misfit i q) (kept_first i (dots pattern) q os)) before →
+    ((ms : List Misfit) (us : List Outline) (cs : List Commands) → FirstFails i q log failed us → Each (Holds log) hs cs → IsReportOf log argument two ms before →
+    IsReportOf log argument three [] (noted_with (ms ++ only_first (filter_map (misfit i q) us)) cs before)) → IsReportOf log argument three [] (kept_noted i pattern q os ps before)
+pass_notes i argument pattern q os ps before between log middle outers fw lw ends hs failed one two three f l k e same noted place =
+    place (filter_map (misfit i q) (kept_first i (dots pattern) q os)) (kept_back i (dots pattern) q ps) (filter_map finished_of (kept_first i (dots pattern) q os)) l.fails
+    (subst (λ t. Each (Holds log) t (filter_map finished_of (kept_first i (dots pattern) q os))) (sym e)
+    (each_weaker (Holds between) (Holds log) (λ x y h. holds_keep between log middle outers k x y h) ends (filter_map finished_of (kept_first i (dots pattern) q os)) f.ended))
+    (subst (λ r. IsReportOf log argument r (filter_map (misfit i q) (kept_first i (dots pattern) q os)) before) (sym same)
+    (notes_keep between log argument one (filter_map (misfit i q) (kept_first i (dots pattern) q os)) before k.log noted))
 
 pub pass_goes : {A : Type 0} (i : Input) (argument : Forest) (pattern : Ops) (q m n : ℕ) (os ps : List Outline) (before : Notes) (between log : Log) (middle outers : List (Outer A))
     (firsts lasts : List (Waiting A)) (stack : List (Position A)) (visits : List (declared.Visit A)) (r : Report A) → EndsFollow i pattern q os ps before → Keeps between log middle outers →

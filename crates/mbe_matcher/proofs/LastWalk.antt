@@ -1,6 +1,7 @@
 -- The loop over the last position of each dot, the last first.
 use Rattle.std.proofs.Common.{ℕ, Bool, ◌+◌, ◌≡◌, ◌<◌, ◌≤◌, true, false, Option, Some, None, option_to_list, List, [], ◌∷◌, ◌++◌, map, reverse, length, length-append, append_assoc, append-nil, refl, sym, ap, subst, ◌∙◌, arith}
-use Rattle.std.specs.Prelude.{nat_lt, is_some, option_or}
+use Rattle.std.specs.Prelude.{nat_lt, is_some}
+use Rattle.std.specs.Option.{option_or}
 use Rattle.std.specs.List.{filter_map}
 use Rattle.std.proofs.lemmas.Bool.{ltb-true, ltb-false}
 use Rattle.std.proofs.lemmas.List.{reverse-append, reverse-reverse, map-append, length-map}
@@ -21,14 +22,16 @@ use Rattle.mbe_matcher.specs.declared.position.Outer.{Outer}
 use Rattle.mbe_matcher.specs.declared.position.Position.{Position}
 use Rattle.mbe_matcher.specs.declared.position.Steps.{Steps}
 use Rattle.mbe_matcher.specs.declared.position.Waiting.{Waiting}
+use Rattle.mbe_matcher.specs.declared.report.Report.{Report}
 use Rattle.mbe_matcher.specs.Positions.{Each, Both, Shows, IsPosition, LeadsTo, Holds, AreSteps, Keeps}
-use Rattle.mbe_matcher.specs.Failures.{Misfit, has_step, misfit, ops_left, bound_by}
+use Rattle.mbe_matcher.specs.Failures.{Misfit, Notes, has_step, misfit, misfit_unless, ops_left, bound_by}
+use Rattle.mbe_matcher.specs.Reports.{IsReportOf}
 use Rattle.mbe_matcher.specs.TwoEnds.{Visit, enter, leave, visits_of, key_of, left_of, only_first, kept_back}
 use Rattle.mbe_matcher.specs.EndsMatched.{to_enter, FailsBy, Leaves, VisitShows, IsLastStack, Enters, FirstFails, AreLasts}
 use Rattle.mbe_matcher.proofs.Keeping.{each_weaker, each_append, both_each, shows_keep, leads_keep, holds_keep}
 use Rattle.mbe_matcher.proofs.KeptEnds.{map_reverse}
 use Rattle.mbe_matcher.proofs.MatchEnds.{each_length}
-use Rattle.mbe_matcher.proofs.Reporting.{is_step, step_same, shown_ops, shown_bound}
+use Rattle.mbe_matcher.proofs.Reporting.{is_step, step_same, shown_ops, shown_bound, misfit_fails}
 use Rattle.mbe_matcher.proofs.Settling.{Last, last_of, each_none, one_step, shown_number}
 use Rattle.mbe_matcher.proofs.Walking.{Walks, walks_end, walks_good, walks_drop, walks_take, here_few, here_number, backward, backward_start, GoodVisit, Entered, entered_start, entered_drop, entered_take, leaves_now, entered_leave}
 
@@ -99,17 +102,18 @@ only_first_append : {X : Type 0} (xs ys : List X) (x : X) → only_first xs ≡ 
 only_first_append [] ys x e = cc
 only_first_append (y ∷ xs) ys x e = e
 
-module _ {A : Type 0} (i : Input) (q : ℕ) (log : Log) (os : List Outline) (o : Outline) where
+some_misfit : (x : Option Misfit) → is_some x ≡ true → (m : Misfit) × (x ≡ Some m)
+some_misfit None e = cc
+some_misfit (Some m) e = (m, refl)
+
+module _ (i : Input) (q : ℕ) (os : List Outline) (o : Outline) where
   more : filter_map (misfit i q) (os ++ o ∷ []) ≡ filter_map (misfit i q) os ++ option_to_list (misfit i q o)
   more = filter_map-append (misfit i q) os (o ∷ []) ∙ ap (λ l. filter_map (misfit i q) os ++ l) (one_step (misfit i q) o)
 
-  some_misfit : (x : Option Misfit) → is_some x ≡ true → (m : Misfit) × (x ≡ Some m)
-  some_misfit None e = cc
-  some_misfit (Some m) e = (m, refl)
-
+module _ {A : Type 0} (i : Input) (q : ℕ) (log : Log) (os : List Outline) (o : Outline) where
   -- the first that fails may be this one
   pub fails_next : (f : Option (Failed A)) → FirstFails {A = A} i q log None os → FailsBy (has_step i q o) q log f o → FirstFails i q log f (os ++ o ∷ [])
-  fails_next None h e = more ∙ ap (λ l. l ++ option_to_list (misfit i q o)) h ∙ ap option_to_list e
+  fails_next None h e = more i q os o ∙ ap (λ l. l ++ option_to_list (misfit i q o)) h ∙ ap option_to_list e
   fails_next (Some f) h e =
       let r : (m : Misfit) × (misfit i q o ≡ Some m) = some_misfit (misfit i q o) e.0 in (
         o,
@@ -117,12 +121,25 @@ module _ {A : Type 0} (i : Input) (q : ℕ) (log : Log) (os : List Outline) (o :
         r.1,
         e.1,
         e.2,
-        ap only_first (more ∙ ap (λ l. l ++ option_to_list (misfit i q o)) h ∙ ap option_to_list r.1),
+        ap only_first (more i q os o ∙ ap (λ l. l ++ option_to_list (misfit i q o)) h ∙ ap option_to_list r.1),
       )
 
   -- or it was another
   pub fails_still : (f : Failed A) → FirstFails i q log (Some f) os → FirstFails i q log (Some f) (os ++ o ∷ [])
-  fails_still f h = (h.0, h.1, h.2, h.3, h.4, ap only_first more ∙ only_first_append (filter_map (misfit i q) os) (option_to_list (misfit i q o)) h.1 h.5)
+  fails_still f h = (h.0, h.1, h.2, h.3, h.4, ap only_first (more i q os o) ∙ only_first_append (filter_map (misfit i q) os) (option_to_list (misfit i q o)) h.1 h.5)
+
+-- it is looked at after the place's first ones
+pub look_last : {A : Type 0} (i : Input) (q : ℕ) (log : Log) (os : List Outline) (fails : Failed A) (f : Forest) (old new : Report A) (ms : List Misfit) (before : Notes) →
+    FirstFails i q log (Some fails) os → ((l : Log) (x : Outline) (ks : List Misfit) (n : Notes) → ops_of fails.dot.now ≡ ops_left x → Holds l fails.handle (bound_by x) →
+    IsReportOf l f old ks n → IsReportOf l f new (ks ++ option_to_list (misfit_unless false q x)) n) →
+    IsReportOf log f old ms before → IsReportOf log f new (ms ++ only_first (filter_map (misfit i q) os)) before
+look_last i q log os fails f old new ms before (o, m, e, ops, holds, only) looked is =
+    subst (λ l. IsReportOf log f new (ms ++ l) before) (ap option_to_list (misfit_fails (has_step i q o) q o m e) ∙ sym only) (looked log o ms before ops holds is)
+
+pub look_none : {A : Type 0} (i : Input) (q : ℕ) (log : Log) (os : List Outline) (f : Forest) (r : Report A) (ms : List Misfit) (before : Notes) → FirstFails {A = A} i q log None os →
+    IsReportOf log f r ms before → IsReportOf log f r (ms ++ only_first (filter_map (misfit i q) os)) before
+look_none i q log os f r ms before none is =
+    subst (λ l. IsReportOf log f r l before) (sym (append-nil ms) ∙ ap (λ l. ms ++ only_first l) (sym none)) is
 
 -- ---- what the loop keeps
 

@@ -176,7 +176,7 @@ module _ (i : Input) (pattern : Ops) (q : ℕ) where
 
   -- ---- visits
 
-  pub GoodVisit : Visit → Type 0
+  unfoldable pub GoodVisit : Visit → Type 0
   GoodVisit (enter o) = IsHere i pattern q o
   GoodVisit (leave o) = IsHere i pattern q o
 

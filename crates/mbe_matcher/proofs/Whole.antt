@@ -29,8 +29,7 @@ use Rattle.mbe_bounds.proofs.Orders.DropLemmas.{whole-inv, drops_law}
 use Rattle.mbe_bounds.proofs.Loop.BoundedPlaces.{erase_held, erase_moves, clash_alike, after_alike, width_alike}
 use Rattle.mbe_bounds.proofs.Loop.TurnedPlaces.{map_reverse}
 use Rattle.mbe_bounds.proofs.Loop.FlagLoop.{Fills, fills_start, fills_take, fills_end}
-use Rattle.mbe_matcher.specs.Failures.{Notes, no_notes, noted_at, ComesWith, at_start, at_next, AreNotes, FollowsWith, follows_start, follows_next, AreFollowedNotes, commands_of_notes}
-use Rattle.mbe_matcher.specs.Reports.{IsReported, IsReportedOfAll}
+use Rattle.mbe_matcher.specs.Failures.{Notes, no_notes, noted_at, ComesWith, at_start, at_next, AreNotes}
 
 -- ---- at a place
 

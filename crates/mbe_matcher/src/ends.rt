@@ -211,7 +211,7 @@ fn if_failed<'a, A: Allocator>(
     has_step: bool,
 ) -> Option<Failed<'a, A>>
     ensures { (log : Log) (q : ℕ) (o : Outline) → ops_of dot.now ≡ ops_left o
-        → Holds log handle.entry (bound_by o) → FailsBy has_step q log result o }
+        → Holds log handle (bound_by o) → FailsBy has_step q log result o }
 {
     let Some((op, _rest)) = dot.split_first() else {
         return None;
@@ -228,7 +228,7 @@ fn push_entered<'a, A: Allocator + Copy>(
     position: Option<Position<'a, A>>,
 ) -> Result<(), AllocError>
     ensures { OnOk result (todo.new.items
-        ≡ todo.old.items ++ map to_enter (option_to_list position)) }
+        ≡ todo.old.items ++ map to_enter (option_to_list position.entry)) }
 {
     let Some(position) = position else {
         return Ok(());
@@ -259,16 +259,17 @@ fn enter<'a, A: Allocator + Copy, G: FragmentGrammar>(
     };
     todo.push(Visit::Leave(left))?;
     push_entered(todo, found.first)?;
-    push_entered(todo, found.second)
+    push_entered(todo, found.second)?;
+    Ok(())
 }
 
 impl<'a, A: Allocator + Copy> Lasts<'a, A> {
-    ghost use Rattle.std.specs.Prelude.{option_or};
+    ghost use Rattle.std.specs.Option.{option_or};
 
     // A position is left, after those that are behind it.
     fn leave(&mut self, left: Left<'a, A>) -> Result<(), AllocError>
         ensures waiting { OnOk result (self.new.waiting.items
-            ≡ self.old.waiting.items ++ option_to_list left.next) }
+            ≡ self.old.waiting.items ++ option_to_list left.entry.next) }
         ensures failed { OnOk result (self.new.failed
             ≡ option_or self.old.failed left.entry.failed) }
     {

@@ -1,4 +1,4 @@
-use Rattle.std.proofs.Common.{◌≡◌, ◌++◌, ◌∷◌, ◌∙◌, [], map, reverse, sym, ap, append_assoc, append-nil}
+use Rattle.std.proofs.Common.{◌≡◌, ◌++◌, ◌∷◌, ◌∙◌, [], ◌<◌, map, reverse, length, sym, ap, append_assoc, append-nil, arith}
 use Rattle.std.proofs.lemmas.List.{reverse-append}
 use Rattle.mbe_matcher.specs.EndsMatched.{visit_after}
 use Rattle.mbe_matcher.proofs.Settling.{popped_all}
@@ -14,10 +14,11 @@ loop-step-preserved g c =
     (
       step ∷ inv.0,
       inv.1 ∙ ap (λ l. l ++ inv.0) c.in-Some.ensures.items ∙ append_assoc c.pop.new.self.items (step ∷ []) inv.0,
-      c.in_ok-push.ensures.ok ∙ ap (λ l. l ++ visit_after step ∷ []) inv.2 ∙ sym (reverse-append (visit_after step ∷ []) (map visit_after inv.0)),
+      c.in_ok-push.ensures.items ∙ ap (λ l. l ++ visit_after step ∷ []) inv.2 ∙ sym (reverse-append (visit_after step ∷ []) (map visit_after inv.0)),
     )
 
 pub returns : goal.returns
 returns g c =
     let inv = c.loop-step.invariant in
-    inv.2 ∙ ap (λ l. reverse (map visit_after l)) (sym (inv.1 ∙ ap (λ l. l ++ inv.0) (popped_all c.loop-step.waiting.items c.in_default.ensures.variant.1)))
+    let waiting = c.loop-step.waiting in
+    inv.2 ∙ ap (λ l. reverse (map visit_after l)) (sym (inv.1 ∙ ap (λ l. l ++ inv.0) (popped_all waiting.items (λ (l : 0 < length waiting.items). c.in_default.ensures.variant.1 (omega (arith, l, waiting.ok.0))))))

@@ -10,4 +10,4 @@ returns g c = λ o shows.
     let f = c.in_ok-found.found in
     enters i (trees s.whole) s.place c.args.log.now c.steps.new.log c.args.outers.now.items c.steps.new.outers.items c.args.position f o shows (c.in_ok-found.ensures o shows)
     c.if_failed.result c.is_some.result c.again-handle.result c.is_some.ensures c.again-handle.ensures c.if_failed.ensures
-    c.args.todo.now.items c.push.new.self.items c.push_entered.new.todo.items c.push_entered-2.new.todo.items c.in_ok-push.ensures.ok c.in_ok-push_entered.ensures c.push_entered-2.ensures.ok
+    c.args.todo.now.items c.push.new.self.items c.push_entered.new.todo.items c.push_entered-2.new.todo.items c.in_ok-push.ensures.items c.in_ok-push_entered.ensures c.in_ok-push_entered-2.ensures

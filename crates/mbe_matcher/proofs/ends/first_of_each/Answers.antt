@@ -1,4 +1,4 @@
-use Rattle.std.proofs.Common.{◌≡◌, ◌+◌, ◌≤◌, ◌++◌, ◌∷◌, ◌∙◌, [], length, option_to_list, length-append, refl, sym, ap, subst, arith}
+use Rattle.std.proofs.Common.{◌≡◌, ◌+◌, ◌<◌, ◌≤◌, ◌++◌, ◌∷◌, ◌∙◌, [], length, option_to_list, length-append, refl, sym, ap, subst, arith}
 use Rattle.mbe_tt.specs.Trees.Tree.{rest_at}
 use Rattle.mbe_tt.specs.Views.View.{trees}
 use Rattle.mbe_semantics.specs.Matching.Dots.{dots}
@@ -139,25 +139,27 @@ loop-position-preserved g c =
           λ n r. noted_take i st.pattern (trees s.whole) s.place (kept_first i (dots st.pattern) s.place st.outlines) met c.loop-position.log c.loop-position.pass.outers.items
               c.pop.new.self.items c.loop-position.todo.items c.in-Some.position c.loop-position.waiting.items c.loop-position.ends.items c.in-Some.ensures.items (inv.walked.2 st).0
               c.steps.new.log c.steps.new.outers.items f c.push_some-in-Some.new.values.items c.push_some-in-Some-2.new.values.items c.push_some-in-Some-3.new.values.items
-              c.in_ok-found.ensures pushed c.in_ok-push_some-3.ensures c.in_ok-push_some-4.ensures (sym counted.0 ∙ taken) (trees s.whole) c.loop-position.pass.report c.looked_at.new.self n c.is_some.result c.again-handle.result c.is_some.ensures c.again-handle.ensures c.looked_at.ensures.notes ((inv.walked.2 st).1 n r),
+              c.in_ok-found.ensures pushed c.in_ok-push_some-3.ensures c.in_ok-push_some-4.ensures (sym counted.0 ∙ taken) (trees s.whole) c.loop-position.pass.report c.looked_at.new.self n c.is_some.result c.again-handle.result c.is_some.ensures c.again-handle.ensures c.looked_at.ensures ((inv.walked.2 st).1 n r),
         ),
       );
     }
 
 pub returns-clause-firsts : goal.returns-clause-firsts
 returns-clause-firsts g c = λ st.
+    let todo = c.loop-position.todo in
     let s = c.args.source.now in
     let i = input_of (g.G.FragmentGrammar.grammar c.args.grammar.now) (trees s.whole) in
     let inv = c.loop-position.invariant in
     first_end i st.pattern s.place st.outlines c.loop-position.log c.loop-position.pass.outers.items (rest_at (trees s.whole) s.place)
-    c.loop-position.todo.items inv.walked.0 c.loop-position.waiting.items c.loop-position.ends.items (popped_all c.loop-position.todo.items c.in_default.ensures.variant.1) (inv.walked.2 st).0
+    c.loop-position.todo.items inv.walked.0 c.loop-position.waiting.items c.loop-position.ends.items (popped_all todo.items (λ (l : 0 < length todo.items). c.in_default.ensures.variant.1 (omega (arith, l, todo.ok.0)))) (inv.walked.2 st).0
 
 pub returns-clause-notes : goal.returns-clause-notes
 returns-clause-notes g c = λ st n r.
+    let todo = c.loop-position.todo in
     let s = c.args.source.now in
     let i = input_of (g.G.FragmentGrammar.grammar c.args.grammar.now) (trees s.whole) in
     let inv = c.loop-position.invariant in
     let w = (inv.walked.2 st).0 in
     let done = first_done i st.pattern s.place (kept_first i (dots st.pattern) s.place st.outlines) c.loop-position.log c.loop-position.pass.outers.items (rest_at (trees s.whole) s.place)
-    c.loop-position.todo.items inv.walked.0 c.loop-position.waiting.items c.loop-position.ends.items (popped_all c.loop-position.todo.items c.in_default.ensures.variant.1) w in
+    c.loop-position.todo.items inv.walked.0 c.loop-position.waiting.items c.loop-position.ends.items (popped_all todo.items (λ (l : 0 < length todo.items). c.in_default.ensures.variant.1 (omega (arith, l, todo.ok.0)))) w in
     subst (λ l. IsReportOf c.loop-position.log (trees s.whole) c.loop-position.pass.report (filter_map (misfit i s.place) l) n) done ((inv.walked.2 st).1 n r)
