@@ -1,5 +1,5 @@
 -- The loop over the first position of each dot.
-use Rattle.std.proofs.Common.{ℕ, Bool, ◌+◌, ◌≡◌, ◌<◌, ◌≤◌, true, false, Option, option_to_list, List, [], ◌∷◌, ◌++◌, reverse, append_assoc, refl, sym, ap, subst, ◌∙◌}
+use Rattle.std.proofs.Common.{ℕ, Bool, ◌≡◌, ◌<◌, ◌≤◌, true, false, option_to_list, List, [], ◌∷◌, ◌++◌, reverse, append_assoc, sym, ap, subst, ◌∙◌}
 use Rattle.std.specs.Prelude.{nat_lt}
 use Rattle.std.specs.List.{filter_map}
 use Rattle.std.proofs.lemmas.Bool.{ltb-true, ltb-false}

@@ -1,17 +1,10 @@
 -- As long as no third position of a dot was dropped, the stack stands for all beginnings that come to the place, and what is noted is theirs.
-use Rattle.std.proofs.Common.{ℕ, ◌+◌, ◌≡◌, Some, Bool, false, List, [], ◌∷◌, ◌++◌, map, reverse, refl, sym, ◌∙◌, ap, subst}
+use Rattle.std.proofs.Common.{ℕ, ◌+◌, ◌≡◌, Some, Bool, false, List, [], ◌∷◌, ◌++◌, map, reverse, sym, ◌∙◌, ap, subst}
 use Rattle.std.specs.List.{filter_map}
 use Rattle.std.proofs.lemmas.List.{reverse-append, reverse-reverse}
-use Rattle.mbe_tt.specs.declared.span.DelimSpan.{DelimSpan}
-use Rattle.mbe_tt.specs.Trees.Tree.{Forest, flat_len}
-use Rattle.mbe_tt.specs.Fragments.Grammar.{Grammar, IsLawful}
 use Rattle.mbe_semantics.specs.Syntax.Op.{Ops}
 use Rattle.mbe_semantics.specs.Syntax.Nullable.{Checked}
-use Rattle.mbe_semantics.specs.Readings.Input.{Input, input_of}
-use Rattle.mbe_semantics.specs.Readings.Verdict.{Verdict, stop_of}
-use Rattle.mbe_semantics.specs.Bindings.Account.{Log, Handle}
-use Rattle.mbe_semantics.specs.Expansion.Error.{ExpandError}
-use Rattle.mbe_semantics.proofs.InputLemmas.{lawful_input}
+use Rattle.mbe_semantics.specs.Readings.Input.{Input}
 use Rattle.mbe_semantics.specs.Readings.Reading.{Beginning, At, start}
 use Rattle.mbe_semantics.specs.Readings.Steps.{Move, move}
 use Rattle.mbe_semantics.specs.Laws.Lawful.{Lawful}
@@ -21,12 +14,11 @@ use Rattle.mbe_semantics.specs.Matching.Held.{held, moves_of, targets, clashing}
 use Rattle.mbe_semantics.specs.Matching.Outline.{Outline, erase, erase_move, idle_of, next_of}
 use Rattle.mbe_semantics.specs.Matching.Settled.{clash, after_of, first_width}
 use Rattle.mbe_laws.proofs.Matching.Law.{Inv, held-sound}
-use Rattle.mbe_bounds.specs.Bounded.TwoEach.{held_two_each}
 use Rattle.mbe_bounds.specs.Loop.Kept.{kept, kept_moves}
-use Rattle.mbe_bounds.specs.Orders.Order.{ComesWhole, whole_start, whole_next, turn_round, AtMostTwo}
+use Rattle.mbe_bounds.specs.Orders.Order.{ComesWhole, whole_start, whole_next, turn_round}
 use Rattle.mbe_bounds.proofs.Orders.Spare.{turning}
-use Rattle.mbe_bounds.proofs.Orders.DropLemmas.{whole-inv, drops_law}
-use Rattle.mbe_bounds.proofs.Loop.BoundedPlaces.{erase_held, erase_moves, clash_alike, after_alike, width_alike}
+use Rattle.mbe_bounds.proofs.Orders.DropLemmas.{whole-inv}
+use Rattle.mbe_bounds.proofs.Loop.BoundedPlaces.{erase_moves, clash_alike, after_alike, width_alike}
 use Rattle.mbe_bounds.proofs.Loop.TurnedPlaces.{map_reverse}
 use Rattle.mbe_bounds.proofs.Loop.FlagLoop.{Fills, fills_start, fills_take, fills_end}
 use Rattle.mbe_matcher.specs.Failures.{Notes, no_notes, noted_at, ComesWith, at_start, at_next, AreNotes}

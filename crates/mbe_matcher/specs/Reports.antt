@@ -1,7 +1,7 @@
 -- What positions report on the way.
-use Rattle.std.specs.Prelude.{ℕ, ◌≡◌, ◌==◌, Option, Some, None, false, List, [], map, reverse}
+use Rattle.std.specs.Prelude.{ℕ, ◌≡◌, Option, Some, None, false, List, [], map, reverse}
 use Rattle.mbe_tt.specs.declared.span.DelimSpan.{DelimSpan}
-use Rattle.mbe_tt.specs.Trees.Tree.{Forest, flat_len, rest_at}
+use Rattle.mbe_tt.specs.Trees.Tree.{Forest, rest_at}
 use Rattle.mbe_semantics.specs.Bindings.Account.{Commands, Log, Handle, HasEntriesOf}
 use Rattle.mbe_semantics.specs.Expansion.Error.{ExpandError}
 use Rattle.mbe_semantics.specs.Readings.Verdict.{Verdict, stop_of}

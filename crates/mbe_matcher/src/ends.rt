@@ -4,8 +4,8 @@
 // all positions, in the order in which they are looked at: the first error that one noted, and what
 // the last one had bound that failed at the last place where one did (or the first at the pattern's
 // end, if none failed there). What a position can still do depends on its dot alone. So at each
-// place the first position of each dot tells the first that fails, and the last of each dot the
-// last. The pass follows both, up to the place where the first pass stopped:
+// place the first that fails is the first of its dot, and the last that fails the last of its dot.
+// The pass follows both, up to the place where the first pass stopped:
 //
 // - the first of each dot, in order: a stack, as in the first pass, where each dot is followed once;
 // - the last of each dot, the last first: the same steps the other way round. A position is entered
@@ -266,7 +266,7 @@ fn enter<'a, A: Allocator + Copy, G: FragmentGrammar>(
 impl<'a, A: Allocator + Copy> Lasts<'a, A> {
     ghost use Rattle.std.specs.Option.{option_or};
 
-    // A position is left, after those that are behind it.
+    // A position is left, after all that comes of it.
     fn leave(&mut self, left: Left<'a, A>) -> Result<(), AllocError>
         ensures waiting { OnOk result (self.new.waiting.items
             ≡ self.old.waiting.items ++ option_to_list left.entry.next) }
@@ -356,7 +356,7 @@ fn come_last<'a, A: Allocator + Copy>(
     Ok(stack)
 }
 
-// What the positions report, where all are looked at, up to the place where the match stops.
+// What all positions report, up to the place where the match stops.
 pub(crate) fn report_up_to<'a, A: Allocator + Copy, G: FragmentGrammar>(
     alloc: A,
     grammar: &G,

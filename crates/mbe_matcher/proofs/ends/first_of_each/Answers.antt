@@ -1,4 +1,4 @@
-use Rattle.std.proofs.Common.{◌≡◌, ◌+◌, ◌<◌, ◌≤◌, ◌++◌, ◌∷◌, ◌∙◌, [], length, option_to_list, length-append, refl, sym, ap, subst, arith}
+use Rattle.std.proofs.Common.{◌≡◌, ◌+◌, ◌<◌, ◌++◌, ◌∷◌, ◌∙◌, [], length, option_to_list, length-append, refl, sym, ap, subst, arith}
 use Rattle.mbe_tt.specs.Trees.Tree.{rest_at}
 use Rattle.mbe_tt.specs.Views.View.{trees}
 use Rattle.mbe_semantics.specs.Matching.Dots.{dots}

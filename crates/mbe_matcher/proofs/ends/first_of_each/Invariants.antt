@@ -1,4 +1,4 @@
-use Rattle.std.proofs.Common.{◌≡◌, ◌+◌, ◌≤◌, ℕ, List, [], length}
+use Rattle.std.proofs.Common.{◌≡◌, ◌+◌, ℕ, List, [], length}
 use Rattle.std.specs.List.{filter_map}
 use Rattle.mbe_tt.specs.Trees.Tree.{rest_at}
 use Rattle.mbe_tt.specs.Views.View.{trees}

@@ -1,6 +1,6 @@
-use Rattle.std.proofs.Common.{◌≡◌, ◌+◌, ◌∙◌, ◌∷◌, ◌++◌, ◌<◌, ◌≤◌, List, [], Some, length, get_or, refl, sym, ap, subst, arith}
+use Rattle.std.proofs.Common.{◌≡◌, ◌+◌, ◌∙◌, ◌∷◌, ◌++◌, ◌<◌, ◌≤◌, [], length, get_or, sym, ap, subst, arith}
 use Rattle.std.specs.Prelude.{IfSome}
-use Rattle.mbe_tt.specs.Trees.Tree.{flat_len, rest_at}
+use Rattle.mbe_tt.specs.Trees.Tree.{rest_at}
 use Rattle.mbe_tt.specs.Views.View.{trees}
 use Rattle.mbe_semantics.specs.Matching.Dots.{dots}
 use Rattle.mbe_semantics.specs.Readings.Input.{input_of}
@@ -14,7 +14,7 @@ use Rattle.mbe_matcher.specs.Met.{AreUnmetFrom}
 use Rattle.mbe_matcher.specs.Positions.{IsLeft}
 use Rattle.mbe_matcher.specs.Reports.{IsFullReport}
 use Rattle.mbe_matcher.specs.TwoEnds.{kept_noted}
-use Rattle.mbe_matcher.proofs.EndsPass.{PassAt, pass_begins, first_stack, last_stack, noted_at_stop, Goes, goes, pass_notes, pass_goes}
+use Rattle.mbe_matcher.proofs.EndsPass.{PassAt, pass_begins, first_stack, last_stack, noted_at_stop, goes, pass_notes, pass_goes}
 use Rattle.mbe_matcher.proofs.ends.report_up_to.Goals as goal
 
 pub loop-source-init : goal.loop-source-init

@@ -1,5 +1,4 @@
 use Rattle.std.proofs.Common.{◌∙◌, ◌==◌, refl, sym, ap}
-use Rattle.mbe_tt.specs.Trees.Tree.{flat_len}
 use Rattle.mbe_semantics.specs.Readings.Verdict.{stop_of}
 use Rattle.mbe_log.proofs.ClientLemmas.{kept-on}
 use Rattle.mbe_matcher.specs.Failures.{error_of_notes, commands_of_notes}

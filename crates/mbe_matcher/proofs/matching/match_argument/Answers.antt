@@ -16,7 +16,7 @@ use Rattle.mbe_matcher.proofs.matching.match_argument.Goals as goal
 pub failed-requires : goal.failed-requires
 failed-requires g c =
     let is = c.in_ok-reached-2.ensures.report in
-    report_entries c.with_all_reported-reached.new.log (trees c.args.argument) c.in_ok-reached-2.reached.report [] is.0 is.2
+    report_entries c.with_all_reported.new.log (trees c.args.argument) c.in_ok-reached-2.reached.report [] is.0 is.2
 
 pub returns-in-OneReading-clause-entries : goal.returns-in-OneReading-clause-entries
 returns-in-OneReading-clause-entries g c =
@@ -57,7 +57,7 @@ returns-clause-err g c =
 
 pub returns-clause-kept : goal.returns-clause-kept
 returns-clause-kept g c =
-    c.failed.ensures.kept c.args.log.now (kept-on c.args.log.now c.reach.new.log c.with_all_reported-reached.new.log c.in_ok-reached.ensures.kept c.in_ok-reached-2.ensures.kept)
+    c.failed.ensures.kept c.args.log.now (kept-on c.args.log.now c.reach.new.log c.with_all_reported.new.log c.in_ok-reached.ensures.kept c.in_ok-reached-2.ensures.kept)
 
 pub returns-clause-reports : goal.returns-clause-reports
 returns-clause-reports g c =

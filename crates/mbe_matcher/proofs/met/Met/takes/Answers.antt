@@ -1,4 +1,4 @@
-use Rattle.std.proofs.Common.{◌+◌, ◌-◌, arith}
+use Rattle.std.proofs.Common.{◌-◌, arith}
 use Rattle.mbe_matcher.proofs.Meeting.{unmet_set}
 use Rattle.mbe_matcher.proofs.met.Met.takes.Goals as goal
 
