@@ -12,7 +12,7 @@ use Rattle.mbe_semantics.specs.declared.macro_call_style.MacroCallStyle.TheVaria
 use Rattle.mbe_semantics.specs.Syntax.Definition.{Rule}
 use Rattle.mbe_semantics.specs.Readings.Input.{input_of}
 use Rattle.mbe_semantics.specs.Readings.Verdict.{Verdict, stop_of, unmatched}
-use Rattle.mbe_semantics.specs.Bindings.Account.{run}
+use Rattle.mbe_semantics.specs.Bindings.Account.{Commands, run}
 use Rattle.mbe_semantics.specs.Bindings.Environment.{Environment, environment_of, binding_total}
 use Rattle.mbe_semantics.specs.Expansion.Error.{ExpandError}
 use Rattle.mbe_semantics.specs.Expansion.Expansion.{Applies, IsExpansion}
@@ -22,7 +22,7 @@ use Rattle.mbe_semantics.specs.Laws.Laws.{HasOneAnswer}
 use Rattle.mbe_semantics.proofs.InputLemmas.{lawful_inputs}
 use Rattle.mbe_laws.proofs.Matching.RunLemmas.{one_verdict}
 use Rattle.mbe_laws.proofs.Expansion.ExpansionLemmas.{one_expansion}
-use Rattle.mbe_matcher.specs.Failures.{Notes, AreFollowedNotes, error_of_notes, commands_of_notes}
+use Rattle.mbe_matcher.specs.Failures.{Notes, AreNotes, Reports, error_of_notes, commands_of_notes}
 use Rattle.mbe_transcriber.specs.Faults.{first_fault}
 use Rattle.mbe_transcriber.specs.Beside.{IsWhatIsLeft}
 use Rattle.mbe.specs.Recovering.{spans_of, IsUnfit, IsFaulty, FailsWith, ComesNear, IsNearest, IsRecovered, IsRecovery}
@@ -44,7 +44,7 @@ is_attr FnLike = false
 is_attr Attr = true
 is_attr Derive = false
 
-same_style : (s t : MacroCallStyle) → (s ≡ t) ⊎ (s ≢ t)
+pub same_style : (s t : MacroCallStyle) → (s ≡ t) ⊎ (s ≢ t)
 unfolding is_fn_like is_attr
 same_style FnLike FnLike = inl refl
 same_style FnLike Attr = inr (λ e. true≢false (ap is_fn_like e))
@@ -76,17 +76,23 @@ has_style (x ∷ rs) style = go (same_style x.style style) (has_style rs style)
 -- ---- a rule that doesn't apply
 
 module _ (g : Grammar) (lawful : IsLawful g) (call_site : Span) (input : Top) where
+  reports_same : (r : Rule) (v w : Verdict) → v ≡ w → (err other : ExpandError) (bound held : Commands) → Reports g r.reads input.1 (spans_of input.0) v err bound
+      → Reports g r.reads input.1 (spans_of input.0) w other held → (err ≡ other) × (bound ≡ held)
+  reports_same r v w same err other bound held a b =
+      let at : stop_of input.1 v ≡ stop_of input.1 w = ap (stop_of input.1) same in
+      let notes : a.notes ≡ b.notes = notes_once (input_of g input.1) (flat_len input.1) (lawful_inputs g input.1 lawful) r.reads (stop_of input.1 w) a.notes b.notes
+      (subst (λ q. AreNotes (input_of g input.1) r.reads q a.notes) at a.noted) b.noted in (
+        a.error ∙ ap (λ q. error_of_notes g input.1 (spans_of input.0) (q == flat_len input.1) a.notes) at
+        ∙ ap (error_of_notes g input.1 (spans_of input.0) (stop_of input.1 w == flat_len input.1)) notes ∙ sym b.error,
+        a.bindings ∙ ap (λ (n : Notes). commands_of_notes g input.1 n.last) notes ∙ sym b.bindings,
+      )
+
   unfit_same : (r : Rule) (err other : ExpandError) (env more : Environment) → IsUnfit g call_site input r err env → IsUnfit g call_site input r other more
       → (err ≡ other) × (env ≡ more)
   unfit_same r err other env more u v =
       let same : u.verdict ≡ v.verdict = one_verdict g r.reads input.1 u.verdict v.verdict u.judged v.judged in
-      let at : stop_of input.1 u.verdict ≡ stop_of input.1 v.verdict = ap (stop_of input.1) same in
-      let notes : u.notes ≡ v.notes = notes_once (input_of g input.1) (flat_len input.1) (lawful_inputs g input.1 lawful) r.reads (stop_of input.1 v.verdict) u.notes v.notes
-      (subst (λ q. AreFollowedNotes (input_of g input.1) r.reads q u.notes) at u.noted) v.noted in (
-        u.error ∙ ap (λ q. error_of_notes g input.1 (spans_of input.0) (q == flat_len input.1) u.notes) at
-            ∙ ap (error_of_notes g input.1 (spans_of input.0) (stop_of input.1 v.verdict == flat_len input.1)) notes ∙ sym v.error,
-        u.bound ∙ ap (λ (n : Notes). run (commands_of_notes g input.1 n.last) []) notes ∙ sym v.bound,
-      )
+      let reported = reports_same r u.verdict v.verdict same err other u.commands v.commands u.reported v.reported in
+      (reported.0, u.bound ∙ ap (λ cs. run cs []) reported.1 ∙ sym v.bound)
 
   faulty_same : (r : Rule) (err other : ExpandError) (env more : Environment) → IsFaulty g call_site input r err env → IsFaulty g call_site input r other more
       → (err ≡ other) × (env ≡ more)

@@ -1,97 +1,54 @@
--- What is noted up to a place, of the positions that are followed, is one thing: from each place they go on to one other.
-use Rattle.std.specs.Prelude.{◌≡◌, ◌<◌, ◌≤◌, ◌+◌, ◌⊎◌, ℕ, zero, suc, Bool, true, false, List, [], ◌∷◌, map, reverse, Option, Some, None, refl}
+-- What all beginnings note up to a place is one thing: from each place a match goes on to one other.
+use Rattle.std.specs.Prelude.{◌≡◌, ◌<◌, ◌≤◌, ◌+◌, ◌⊎◌, ℕ, Bool, List, [], ◌∷◌, map, reverse, Option, Some, None, refl}
 use Rattle.std.specs.List.{filter_map}
 use Rattle.std.proofs.Common.{ap, sym, subst, ◌∙◌, arith, inl, inr}
 use Rattle.std.proofs.lemmas.Bool.{cases_lt}
 use Rattle.std.proofs.lemmas.Option.{none-some, same_Some}
-use Rattle.mbe_semantics.specs.declared.kinds.RepeatKind.{RepeatKind}
-use Rattle.mbe_semantics.specs.declared.kinds.RepeatKind.TheVariants.{ZeroOrMore, OneOrMore, ZeroOrOne}
-use Rattle.mbe_semantics.specs.Syntax.Op.{Name, Separator, token, group, variable, repetition, expression, Ops, no_ops, op}
-use Rattle.mbe_semantics.specs.Readings.Item.{Fragment}
+use Rattle.mbe_semantics.specs.Syntax.Op.{Ops}
 use Rattle.mbe_semantics.specs.Readings.Input.{Input}
-use Rattle.mbe_semantics.specs.Bindings.Account.{Account, binds, pushed}
+use Rattle.mbe_semantics.specs.Readings.Reading.{Beginning, start}
+use Rattle.mbe_semantics.specs.Readings.Steps.{Move, move, next}
 use Rattle.mbe_semantics.specs.Laws.Lawful.{Lawful}
-use Rattle.mbe_semantics.specs.Matching.Dots.{dots}
-use Rattle.mbe_semantics.specs.Readings.Reading.{start}
-use Rattle.mbe_semantics.specs.Matching.Outline.{Edge, gate, edge, Outline, outline, erase, Advance, advance, next_of, when_advance, if_some_advance, over_advance, bound_advance, round_advance, separator_advance}
-use Rattle.mbe_semantics.specs.Matching.Settled.{after_of, first_width}
-use Rattle.mbe_bounds.specs.Loop.Kept.{kept, kept_moves}
-use Rattle.mbe_matcher.specs.Failures.{Notes, no_notes, noted_at, FollowsWith, follows_start, follows_next, AreFollowedNotes}
-use Rattle.mbe_tt.specs.Trees.Tree.{flat_len}
+use Rattle.mbe_semantics.specs.Matching.Held.{held, moves_of, targets}
+use Rattle.mbe_semantics.specs.Matching.Outline.{erase}
+use Rattle.mbe_laws.proofs.Matching.Moves.{next-takes}
+use Rattle.mbe_matcher.specs.Failures.{Notes, no_notes, noted_at, ComesWith, at_start, at_next, AreNotes}
 
--- a step over tokens, if it is one, is over some
-abbrev IsOverSome : Option Advance → Type 0
-IsOverSome None = Unit {0}
-IsOverSome (Some (advance n f x)) = 0 < n
-
-when_some : (b : Bool) (x : Outline) → IsOverSome (when_advance b (advance 1 false x))
-when_some true x = omega arith
-when_some false x = tt
-
-if_some : (f : Bool) (n : ℕ) (x : Outline) → IsOverSome (if_some_advance f n x)
-if_some f zero x = tt
-if_some f (suc n) x = omega arith
-
-over_some : (w : Option ℕ) (x : Outline) → IsOverSome (over_advance w x)
-over_some None x = tt
-over_some (Some n) x = if_some false n x
-
-bound_some : (name : Name) (w : Option Fragment) (rest : Ops) (e : Account) (up : List Edge) → IsOverSome (bound_advance name w rest e up)
-bound_some name None rest e up = tt
-bound_some name (Some x) rest e up = if_some true (flat_len x.trees) (outline rest (pushed (binds name x) e) up)
-
-round_some : (k : RepeatKind) (w : Option ℕ) (q : ℕ) (b : Ops) (s : Option Separator) (rest : Ops) (o e : Account) (up : List Edge) → ((n : ℕ) → w ≡ Some n → 0 < n)
-    → IsOverSome (round_advance k w q b s rest o e up)
-round_some k None q b s rest o e up h = tt
-round_some ZeroOrMore (Some w) q b s rest o e up h = h w refl
-round_some OneOrMore (Some w) q b s rest o e up h = h w refl
-round_some ZeroOrOne (Some w) q b s rest o e up h = tt
+-- how far the first move goes
+abbrev first_over : List Move → Option ℕ
+first_over [] = None
+first_over (move n f y ∷ ms) = Some n
 
 module _ (i : Input) (length : ℕ) (lawful : Lawful i length) where
-  separator_some : (q : ℕ) (s : Option Separator) (k : RepeatKind) (b rest : Ops) (o e : Account) (up : List Edge) → IsOverSome (separator_advance i q s k b rest o e up)
-  separator_some q None k b rest o e up = tt
-  separator_some q (Some s) k b rest o e up = round_some k (i.separator_at s q) q b (Some s) rest o e up (λ n w. lawful.separator_some s q n w)
-
-  next_some : (q : ℕ) (o : Outline) → IsOverSome (next_of i q o)
-  next_some q (outline no_ops e []) = tt
-  next_some q (outline no_ops e (gate rest ∷ up)) = when_some (i.closes_at q) (outline rest e up)
-  next_some q (outline no_ops e (edge b s k rest p outer ∷ up)) = separator_some q s k b rest outer e up
-  next_some q (outline (op (token t) rest) e up) = over_some (i.token_at t q) (outline rest e up)
-  next_some q (outline (op (variable name kind span) rest) e up) = bound_some name (i.fragment_at kind q) rest e up
-  next_some q (outline (op (expression x) rest) e up) = tt
-  next_some q (outline (op (group d b) rest) e up) = when_some (i.opens_at d.kind q) (outline b e (gate rest ∷ up))
-  next_some q (outline (op (repetition b s k) rest) e up) = tt
-
-  first_some : (q n : ℕ) (os : List Outline) → first_width (filter_map (next_of i q) os) ≡ Some n → 0 < n
+  first_some : (q n : ℕ) (ys : List Beginning) → first_over (filter_map (next i q) ys) ≡ Some n → 0 < n
   first_some q n [] w = absurd (none-some n w)
-  first_some q n (o ∷ os) w = go (next_of i q o) refl (first_some q n os)
+  first_some q n (y ∷ ys) w = go (next i q y) refl (first_some q n ys)
     where
-      go : (m : Option Advance) → next_of i q o ≡ m → (first_width (filter_map (next_of i q) os) ≡ Some n → 0 < n) → 0 < n
+      go : (m : Option Move) → next i q y ≡ m → (first_over (filter_map (next i q) ys) ≡ Some n → 0 < n) → 0 < n
       go None e others = others (rw e at w)
-      go (Some (advance m f x)) e others =
+      go (Some (move m f z)) e others =
           let same : m ≡ n = same_Some m n (rw e at w) in
-          subst (λ (k : ℕ). 0 < k) same (subst IsOverSome e (next_some q o))
+          subst (λ (k : ℕ). 0 < k) same (next-takes i length q m f y z lawful e).0
 
   module _ (pattern : Ops) where
-    -- how far the positions of a stack go
-    abbrev width : ℕ → List Outline → Option ℕ
-    width q spots = first_width (kept_moves i (dots pattern) q (reverse spots))
+    -- how far the beginnings go that come to a place
+    abbrev width : ℕ → List Beginning → Option ℕ
+    width q xs = first_over (moves_of i q (held i q xs))
 
-    some_width : (q n : ℕ) (spots : List Outline) → width q spots ≡ Some n → 0 < n
-    some_width q n spots w = first_some q n (kept i (dots pattern) q (reverse spots)) w
+    some_width : (q n : ℕ) (xs : List Beginning) → width q xs ≡ Some n → 0 < n
+    some_width q n xs w = first_some q n (held i q xs) w
 
-    same_width : (q r n m : ℕ) (xs ys : List Outline) → q ≡ r → xs ≡ ys → width q xs ≡ Some n → width r ys ≡ Some m → n ≡ m
+    same_width : (q r n m : ℕ) (xs ys : List Beginning) → q ≡ r → xs ≡ ys → width q xs ≡ Some n → width r ys ≡ Some m → n ≡ m
     same_width q r n m xs ys at same v w = same_Some n m (sym v ∙ ap (λ p. width p xs) at ∙ ap (width r) same ∙ w)
 
-    same_after : (q r : ℕ) (xs ys : List Outline) → q ≡ r → xs ≡ ys → map after_of (kept_moves i (dots pattern) q (reverse xs)) ≡ map after_of (kept_moves i (dots pattern) r (reverse ys))
-    same_after q r xs ys at same =
-        ap (λ p. map after_of (kept_moves i (dots pattern) p (reverse xs))) at ∙ ap (λ zs. map after_of (kept_moves i (dots pattern) r (reverse zs))) same
+    same_moves : (q r : ℕ) (xs ys : List Beginning) → q ≡ r → xs ≡ ys → moves_of i q (held i q xs) ≡ moves_of i r (held i r ys)
+    same_moves q r xs ys at same = ap (λ p. moves_of i p (held i p xs)) at ∙ ap (λ zs. moves_of i r (held i r zs)) same
 
-    pub same_noted : (q r : ℕ) (xs ys : List Outline) (b c : Notes) → q ≡ r → xs ≡ ys → b ≡ c
-        → noted_at i q (kept i (dots pattern) q (reverse xs)) b ≡ noted_at i r (kept i (dots pattern) r (reverse ys)) c
+    pub same_noted : (q r : ℕ) (xs ys : List Beginning) (b c : Notes) → q ≡ r → xs ≡ ys → b ≡ c
+        → noted_at i q (map erase (held i q xs)) b ≡ noted_at i r (map erase (held i r ys)) c
     same_noted q r xs ys b c at same before =
-        ap (λ p. noted_at i p (kept i (dots pattern) p (reverse xs)) b) at ∙ ap (λ zs. noted_at i r (kept i (dots pattern) r (reverse zs)) b) same
-        ∙ ap (noted_at i r (kept i (dots pattern) r (reverse ys))) before
+        ap (λ p. noted_at i p (map erase (held i p xs)) b) at ∙ ap (λ zs. noted_at i r (map erase (held i r zs)) b) same
+        ∙ ap (noted_at i r (map erase (held i r ys))) before
 
     three : (q r : ℕ) → (q ≡ r) ⊎ ((q < r) ⊎ (r < q))
     three q r = go (cases_lt q r) (cases_lt r q)
@@ -101,82 +58,86 @@ module _ (i : Input) (length : ℕ) (lawful : Lawful i length) where
         go (inr l) (inl k) = inr (inr k)
         go (inr l) (inr k) = inl (omega (arith, l, k))
 
-    -- at one place the two stacks, and what was noted before, are the same
-    abbrev Same : ℕ → ℕ → List Outline → List Outline → Notes → Notes → Type 0
+    -- at one place what comes there, and what was noted before, are the same
+    abbrev Same : ℕ → ℕ → List Beginning → List Beginning → Notes → Notes → Type 0
     Same q r xs ys b c = q ≡ r → (xs ≡ ys) × (b ≡ c)
 
     -- what is at an earlier place goes on to the later one, or to one before it
-    abbrev GoesTo : ℕ → ℕ → List Outline → Type 0
+    abbrev GoesTo : ℕ → ℕ → List Beginning → Type 0
     GoesTo q r xs = q < r → (n : ℕ) → width q xs ≡ Some n → q + n ≤ r
 
-    step_same : (q r n p m o : ℕ) (xs ys : List Outline) (b c : Notes) → width q xs ≡ Some n → width r ys ≡ Some p → m ≡ q + n → o ≡ r + p → m ≡ o
-        → Same q r xs ys b c → GoesTo q r xs → GoesTo r q ys → (q ≡ r) ⊎ ((q < r) ⊎ (r < q))
-        → (map after_of (kept_moves i (dots pattern) q (reverse xs)) ≡ map after_of (kept_moves i (dots pattern) r (reverse ys)))
-        × (noted_at i q (kept i (dots pattern) q (reverse xs)) b ≡ noted_at i r (kept i (dots pattern) r (reverse ys)) c)
-    step_same q r n p m o xs ys b c w v d e at same before after (inl s) = let x = same s in (same_after q r xs ys s x.0, same_noted q r xs ys b c s x.0 x.1)
-    step_same q r n p m o xs ys b c w v d e at same before after (inr (inl l)) =
+    -- what goes on to one place does so from one place
+    one_before : (q r n p m o : ℕ) (xs ys : List Beginning) (b c : Notes) → width q xs ≡ Some n → width r ys ≡ Some p → m ≡ q + n → o ≡ r + p → m ≡ o
+        → GoesTo q r xs → GoesTo r q ys → (q ≡ r) ⊎ ((q < r) ⊎ (r < q)) → q ≡ r
+    one_before q r n p m o xs ys b c w v d e at before after (inl s) = s
+    one_before q r n p m o xs ys b c w v d e at before after (inr (inl l)) =
         let x = before l n w in let y = some_width r p ys v in absurd (omega (arith, x, y, d, e, at))
-    step_same q r n p m o xs ys b c w v d e at same before after (inr (inr l)) =
+    one_before q r n p m o xs ys b c w v d e at before after (inr (inr l)) =
         let x = after l p v in let y = some_width q n xs w in absurd (omega (arith, x, y, d, e, at))
 
     -- of a later place m, which comes after r
-    step_goes : (q r n p m : ℕ) (xs ys : List Outline) (b c : Notes) → q < m → width q xs ≡ Some n → width r ys ≡ Some p → m ≡ r + p
+    step_goes : (q r n p m : ℕ) (xs ys : List Beginning) (b c : Notes) → q < m → width q xs ≡ Some n → width r ys ≡ Some p → m ≡ r + p
         → Same q r xs ys b c → GoesTo q r xs → GoesTo r q ys → (q ≡ r) ⊎ ((q < r) ⊎ (r < q)) → q + n ≤ m
     step_goes q r n p m xs ys b c l w v e same before after (inl s) = let x = same_width q r n p xs ys s (same s).0 w v in omega (arith, x, s, e)
     step_goes q r n p m xs ys b c l w v e same before after (inr (inl k)) = let x = before k n w in omega (arith, x, e)
     step_goes q r n p m xs ys b c l w v e same before after (inr (inr k)) = let x = after k p v in absurd (omega (arith, x, e, l))
 
-    flipped : (q r : ℕ) (xs ys : List Outline) (b c : Notes) → Same q r xs ys b c → Same r q ys xs c b
+    flipped : (q r : ℕ) (xs ys : List Beginning) (b c : Notes) → Same q r xs ys b c → Same r q ys xs c b
     flipped q r xs ys b c same s = let x = same (sym s) in (sym x.0, sym x.1)
 
-    -- two stacks at their places, and what was noted before each
-    record Compared (q r : ℕ) (xs ys : List Outline) (b c : Notes) : Type 0 where
+    -- what comes to two places, and what was noted before each
+    record Compared (q r : ℕ) (xs ys : List Beginning) (b c : Notes) : Type 0 where
       pub same : Same q r xs ys b c
       pub before : GoesTo q r xs
       pub after : GoesTo r q ys
 
-    abbrev next_stack : ℕ → List Outline → List Outline
-    next_stack q xs = map after_of (kept_moves i (dots pattern) q (reverse xs))
+    abbrev next_notes : ℕ → List Beginning → Notes → Notes
+    next_notes q xs b = noted_at i q (map erase (held i q xs)) b
 
-    abbrev next_notes : ℕ → List Outline → Notes → Notes
-    next_notes q xs b = noted_at i q (kept i (dots pattern) q (reverse xs)) b
-
-    with_start : {r : ℕ} {ys : List Outline} {c : Notes} → FollowsWith i pattern r ys c → Compared 0 r (erase (start pattern) ∷ []) ys no_notes c
-    with_start follows_start = record { same = λ at. (refl, refl); before = λ l n w. absurd (omega (arith, l)); after = λ l n w. absurd (omega (arith, l)) }
-    with_start (follows_next r m n ys c g w k d) =
+    with_start : {r : ℕ} {ys : List Beginning} {c : Notes} → ComesWith i pattern r ys c → Compared 0 r (start pattern ∷ []) ys no_notes c
+    with_start at_start = record { same = λ at. (refl, refl); before = λ l n w. absurd (omega (arith, l)); after = λ l n w. absurd (omega (arith, l)) }
+    with_start (at_next r m n f y ms ys c g w k d) =
         let h = with_start g in
+        let v : width r ys ≡ Some n = ap first_over w in
         record {
-          same = λ at. let l = some_width r n ys w in absurd (omega (arith, l, d, at));
-          before = λ l p v. step_goes 0 r p n m (erase (start pattern) ∷ []) ys no_notes c l v w d h.same h.before h.after (three 0 r);
-          after = λ l p v. absurd (omega (arith, l));
+          same = λ at. let l = some_width r n ys v in absurd (omega (arith, l, d, at));
+          before = λ l p u. step_goes 0 r p n m (start pattern ∷ []) ys no_notes c l u v d h.same h.before h.after (three 0 r);
+          after = λ l p u. absurd (omega (arith, l));
         }
 
-    with_next : {r : ℕ} {ys : List Outline} {c : Notes} (q m n : ℕ) (xs : List Outline) (b : Notes) → width q xs ≡ Some n → m ≡ q + n
-        → ((s : ℕ) (zs : List Outline) (a : Notes) → FollowsWith i pattern s zs a → Compared q s xs zs b a)
-        → FollowsWith i pattern r ys c → Compared m r (next_stack q xs) ys (next_notes q xs b) c
-    with_next q m n xs b w d old follows_start =
-        let h = old 0 (erase (start pattern) ∷ []) no_notes follows_start in
+    with_next : {r : ℕ} {ys : List Beginning} {c : Notes} (q m n : ℕ) (xs : List Beginning) (b : Notes) (ns : List Move) → moves_of i q (held i q xs) ≡ ns
+        → first_over ns ≡ Some n → m ≡ q + n
+        → ((s : ℕ) (zs : List Beginning) (a : Notes) → ComesWith i pattern s zs a → Compared q s xs zs b a)
+        → ComesWith i pattern r ys c → Compared m r (reverse (targets ns)) ys (next_notes q xs b) c
+    with_next q m n xs b ns t u d old at_start =
+        let h = old 0 (start pattern ∷ []) no_notes at_start in
+        let w : width q xs ≡ Some n = ap first_over t ∙ u in
         record {
           same = λ at. let l = some_width q n xs w in absurd (omega (arith, l, d, at));
           before = λ l p v. absurd (omega (arith, l));
-          after = λ l p v. step_goes 0 q p n m (erase (start pattern) ∷ []) xs no_notes b l v w d
-              (flipped q 0 xs (erase (start pattern) ∷ []) b no_notes h.same) h.after h.before (three 0 q);
+          after = λ l p v. step_goes 0 q p n m (start pattern ∷ []) xs no_notes b l v w d
+              (flipped q 0 xs (start pattern ∷ []) b no_notes h.same) h.after h.before (three 0 q);
         }
-    with_next q m n xs b w d old (follows_next r o p ys c g v j e) =
+    with_next q m n xs b ns t u d old (at_next r o p f y ms ys c g z k e) =
         let h = old r ys c g in
-        let later = with_next q m n xs b w d old g in
-        let other = old o (next_stack r ys) (next_notes r ys c) (follows_next r o p ys c g v j e) in
+        let later = with_next q m n xs b ns t u d old g in
+        let other = old o (reverse (targets (move p f y ∷ ms))) (next_notes r ys c) (at_next r o p f y ms ys c g z k e) in
+        let w : width q xs ≡ Some n = ap first_over t ∙ u in
+        let v : width r ys ≡ Some p = ap first_over z in
         record {
-          same = λ at. step_same q r n p m o xs ys b c w v d e at h.same h.before h.after (three q r);
-          before = λ l a u. step_goes m r a p o (next_stack q xs) ys (next_notes q xs b) c l u v e later.same later.before later.after (three m r);
-          after = λ l a u. step_goes o q a n m (next_stack r ys) xs (next_notes r ys c) b l u w d
-              (flipped q o xs (next_stack r ys) b (next_notes r ys c) other.same) other.after other.before (three o q);
+          same = λ at.
+              let s : q ≡ r = one_before q r n p m o xs ys b c w v d e at h.before h.after (three q r) in
+              let both = h.same s in
+              (ap (λ (js : List Move). reverse (targets js)) (sym t ∙ same_moves q r xs ys s both.0 ∙ z), same_noted q r xs ys b c s both.0 both.1);
+          before = λ l a j. step_goes m r a p o (reverse (targets ns)) ys (next_notes q xs b) c l j v e later.same later.before later.after (three m r);
+          after = λ l a j. step_goes o q a n m (reverse (targets (move p f y ∷ ms))) xs (next_notes r ys c) b l j w d
+              (flipped q o xs (reverse (targets (move p f y ∷ ms))) b (next_notes r ys c) other.same) other.after other.before (three o q);
         }
 
-    compared : {q : ℕ} {xs : List Outline} {b : Notes} → FollowsWith i pattern q xs b → (r : ℕ) (ys : List Outline) (c : Notes) → FollowsWith i pattern r ys c
+    compared : {q : ℕ} {xs : List Beginning} {b : Notes} → ComesWith i pattern q xs b → (r : ℕ) (ys : List Beginning) (c : Notes) → ComesWith i pattern r ys c
         → Compared q r xs ys b c
-    compared follows_start r ys c g = with_start g
-    compared (follows_next q m n xs b f w k d) r ys c g = with_next q m n xs b w d (compared f) g
+    compared at_start r ys c g = with_start g
+    compared (at_next q m n f y ms xs b h w k d) r ys c g = with_next q m n xs b (move n f y ∷ ms) w refl d (compared h) g
 
-    pub notes_once : (q : ℕ) (x y : Notes) → AreFollowedNotes i pattern q x → AreFollowedNotes i pattern q y → x ≡ y
+    pub notes_once : (q : ℕ) (x y : Notes) → AreNotes i pattern q x → AreNotes i pattern q y → x ≡ y
     notes_once q x y (xs, b, f, e) (ys, c, g, d) = let s = (compared f q ys c g).same refl in e ∙ same_noted q q xs ys b c refl s.0 s.1 ∙ sym d

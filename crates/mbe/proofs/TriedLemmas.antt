@@ -17,6 +17,7 @@ use Rattle.mbe_semantics.specs.Writing.Substitution.{faults, IsSubstitution}
 use Rattle.mbe_semantics.specs.Expansion.Error.{ExpandError}
 use Rattle.mbe_semantics.specs.Expansion.Expansion.{Applies}
 use Rattle.mbe_transcriber.specs.Faults.{first_fault}
+use Rattle.mbe_matcher.specs.Failures.{Reports}
 use Rattle.mbe_matcher.specs.Reports.{IsReported}
 use Rattle.mbe.specs.declared.expander.Nearness.{Nearness}
 use Rattle.mbe.specs.Recovering.{spans_of, IsUnfit, IsFaulty, ComesNear}
@@ -34,18 +35,14 @@ module _ (g : Grammar) (call_site : Span) (input : Top) (r : Rule) where
   pub unfit_of : (v : Verdict) → IsVerdict g r.reads input.1 v → v ≢ one_reading → (argument : Forest) → argument ≡ input.1 → (around : DelimSpan) → around ≡ spans_of input.0
       → (log : Log) (h : Handle) (err : ExpandError) → IsReported g r.reads argument around log v err h
       → (env : Environment) → ((a : Account) → IsAccount log h a → env ≡ run a.current []) → IsUnfit g call_site input r err env
-  unfit_of v right many argument same around spans log h err reported env built =
-      let told = subst (λ d. IsReported g r.reads input.1 d log v err h) spans (subst (λ f. IsReported g r.reads f around log v err h) same reported) in
-      let (a, account, holds) = told.bindings in
-      record {
-        verdict = v;
-        judged = right;
-        unfit = many;
-        notes = told.notes;
-        noted = told.noted;
-        error = told.error;
-        bound = built a account ∙ ap (λ cs. run cs []) holds;
-      }
+  unfit_of v right many argument same around spans log h err (commands, (a, account, holds), reported) env built = record {
+    verdict = v;
+    judged = right;
+    unfit = many;
+    commands = commands;
+    reported = subst (λ d. Reports g r.reads input.1 d v err commands) spans (subst (λ f. Reports g r.reads f around v err commands) same reported);
+    bound = built a account ∙ ap (λ cs. run cs []) holds;
+  }
 
   module _ (v : Verdict) (right : IsVerdict g r.reads input.1 v) (near : Nearness) (left : near.unmatched ≡ unmatched input.1 v) where
     pub unfit : (err : ExpandError) (env : Environment) → v ≢ one_reading → IsUnfit g call_site input r err env → near.bound ≡ min (binding_total env) (2 ^ 64 - 1)

@@ -1,5 +1,5 @@
 -- A call has one answer.
-use Rattle.std.specs.Prelude.{◌≡◌, ℕ, List, Option}
+use Rattle.std.specs.Prelude.{◌≡◌, ℕ, List, Option, is_some}
 use Rattle.mbe_tt.specs.declared.span.Span.{Span}
 use Rattle.mbe_tt.specs.Trees.Tree.{Forest}
 use Rattle.mbe_tt.specs.Trees.Top.{Top}
@@ -8,8 +8,14 @@ use Rattle.mbe_semantics.specs.declared.macro_call_style.MacroCallStyle.{MacroCa
 use Rattle.mbe_semantics.specs.Syntax.Definition.{Rule}
 use Rattle.mbe_semantics.specs.Expansion.Error.{ExpandError}
 use Rattle.mbe_semantics.specs.Expansion.Macro.{Expands}
+use Rattle.mbe_semantics.specs.Syntax.Op.{Ops}
+use Rattle.mbe_semantics.specs.Bindings.Environment.{Environment}
+use Rattle.mbe_semantics.specs.Writing.Rounds.{Path}
+use Rattle.mbe_semantics.specs.Writing.Substitution.{faults}
 use Rattle.mbe_semantics.specs.Laws.Laws.{HasOneAnswer}
+use Rattle.mbe_transcriber.specs.Faults.{first_fault}
 use Rattle.mbe.specs.Recovering.{Recovers}
+use Rattle.mbe.specs.Choice.{AreChecked}
 
 -- what `expand` promises: the tree, the place of its rule, and the error or none
 pub record IsAnswer (g : Grammar) (Marks : Span → Span → Type 0) (rs : List Rule) (style : MacroCallStyle) (input : Top) (call_site : Span)
@@ -23,3 +29,16 @@ OneAnswer Marks = HasOneAnswer Marks → (g : Grammar) (rs : List Rule) (style :
     (out other : Forest) (index place : Option ℕ) (err reported : Option ExpandError) → IsLawful g →
     IsAnswer g Marks rs style input call_site out index err → IsAnswer g Marks rs style input call_site other place reported →
     (out ≡ other) × (index ≡ place) × (err ≡ reported)
+
+-- A template faults, in the rounds of a path, exactly where it has a first fault.
+abbrev pub FaultsAgree : Type 0
+FaultsAgree = (call_site : Span) (env : Environment) (path : Path) (os : Ops) → is_some (first_fault call_site env path os) ≡ faults env path os
+
+-- the marker returns a span for each
+abbrev pub HasSomeSpan : (Span → Span → Type 0) → Type 0
+HasSomeSpan Marks = (s : Span) → (t : Span) × Marks s t
+
+-- Then a call of checked rules has an answer.
+abbrev pub HasAnswer : (Span → Span → Type 0) → Type 0
+HasAnswer Marks = HasSomeSpan Marks → (g : Grammar) (rs : List Rule) (style : MacroCallStyle) (input : Top) (call_site : Span) → IsLawful g → AreChecked rs →
+    (out : Forest) × (index : Option ℕ) × (err : Option ExpandError) × IsAnswer g Marks rs style input call_site out index err

@@ -1,23 +1,22 @@
 -- What a call comes to where no rule applies: which rule is the closest, why it doesn't apply, and what is written of it (as in rust-analyzer).
-use Rattle.std.specs.Prelude.{◌≡◌, ◌≢◌, ◌⊎◌, ◌==◌, ◌-◌, ◌^◌, ℕ, min, List, [], Option, Some}
+use Rattle.std.specs.Prelude.{◌≡◌, ◌≢◌, ◌⊎◌, ◌-◌, ◌^◌, ℕ, min, List, [], Option, Some}
 use Rattle.mbe_tt.specs.declared.span.Span.{Span}
 use Rattle.mbe_tt.specs.declared.span.DelimSpan.{DelimSpan}
 use Rattle.mbe_tt.specs.declared.tt.Delimiter.{Delimiter}
-use Rattle.mbe_tt.specs.Trees.Tree.{Forest, flat_len}
+use Rattle.mbe_tt.specs.Trees.Tree.{Forest}
 use Rattle.mbe_tt.specs.Trees.Top.{Top}
 use Rattle.mbe_tt.specs.Fragments.Grammar.{Grammar}
 use Rattle.mbe_semantics.specs.declared.macro_call_style.MacroCallStyle.{MacroCallStyle}
 use Rattle.mbe_semantics.specs.Syntax.Definition.{Rule}
 use Rattle.mbe_semantics.specs.Readings.Item.{Items}
-use Rattle.mbe_semantics.specs.Readings.Input.{input_of}
 use Rattle.mbe_semantics.specs.Readings.Ambiguity.{Fits}
-use Rattle.mbe_semantics.specs.Readings.Verdict.{Verdict, one_reading, IsVerdict, stop_of, unmatched}
-use Rattle.mbe_semantics.specs.Bindings.Account.{run}
+use Rattle.mbe_semantics.specs.Readings.Verdict.{Verdict, one_reading, IsVerdict, unmatched}
+use Rattle.mbe_semantics.specs.Bindings.Account.{Commands, run}
 use Rattle.mbe_semantics.specs.Bindings.Environment.{Environment, environment_of, binding_total}
 use Rattle.mbe_semantics.specs.Expansion.Error.{ExpandError}
 use Rattle.mbe_semantics.specs.Expansion.Macro.{arm_of}
 use Rattle.mbe_semantics.specs.Expansion.Recovery.{HasStyle, IsStyledAt, GoesBefore}
-use Rattle.mbe_matcher.specs.Failures.{Notes, AreFollowedNotes, error_of_notes, commands_of_notes}
+use Rattle.mbe_matcher.specs.Failures.{Reports}
 use Rattle.mbe_transcriber.specs.Faults.{first_fault}
 use Rattle.mbe_transcriber.specs.Beside.{IsWhatIsLeft}
 
@@ -26,15 +25,14 @@ abbrev pub spans_of : Delimiter → DelimSpan
 spans_of d = record { opening = d.opening; close = d.close }
 
 module _ (g : Grammar) (call_site : Span) (input : Top) where
-  -- The rule's match fails: what it notes up to the place where it stops gives the error, and what is bound.
+  -- The rule's match fails: what it reports is the error, and what is bound.
   pub record IsUnfit (r : Rule) (err : ExpandError) (env : Environment) : Type 0 where
     pub verdict : Verdict
     pub judged : IsVerdict g r.reads input.1 verdict
     pub unfit : verdict ≢ one_reading
-    pub notes : Notes
-    pub noted : AreFollowedNotes (input_of g input.1) r.reads (stop_of input.1 verdict) notes
-    pub error : err ≡ error_of_notes g input.1 (spans_of input.0) (stop_of input.1 verdict == flat_len input.1) notes
-    pub bound : env ≡ run (commands_of_notes g input.1 notes.last) []
+    pub commands : Commands
+    pub reported : Reports g r.reads input.1 (spans_of input.0) verdict err commands
+    pub bound : env ≡ run commands []
 
   -- The rule fits, but its template faults: its first fault is the error.
   pub record IsFaulty (r : Rule) (err : ExpandError) (env : Environment) : Type 0 where

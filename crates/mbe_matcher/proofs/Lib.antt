@@ -13,3 +13,8 @@ pub mod Reporting
 pub mod TwoEnds
 pub mod KeptEnds
 pub mod StopPlaces
+pub mod Meeting
+pub mod Walking
+pub mod FirstWalk
+pub mod LastWalk
+pub mod EndsPass

@@ -22,7 +22,7 @@ use Rattle.mbe_matcher.specs.declared.position.Outer.{Outer}
 use Rattle.mbe_matcher.specs.declared.position.Position.{Position}
 use Rattle.mbe_matcher.specs.declared.position.Waiting.{Waiting}
 use Rattle.mbe_matcher.specs.Positions.{Each, IsLeft, Shows, LeadsTo, Holds}
-use Rattle.mbe_matcher.specs.Failures.{no_notes, FollowsWith, follows_start}
+use Rattle.mbe_matcher.specs.Failures.{no_notes}
 use Rattle.mbe_matcher.proofs.Whole.{WholeWith, whole_first}
 use Rattle.mbe_matcher.specs.Matched.{IsStack, IsAtStart, AreSettled, clashes_with, is_clash, width_first, position_after, ends_as, stuck_at, stop_at, verdict_in, reading_in, Binds}
 
@@ -61,7 +61,7 @@ module _ {A : Type 0} (log : Log) (outers : List (Outer A)) (here : Forest) wher
   first_left w ws [] e = absurd e
   first_left w ws (advance m g o ∷ goes) e = e.0.left
 
-each_length : {X Y : Type 0} (R : X → Y → Type 0) (xs : List X) (ys : List Y) → Each R xs ys → length xs ≡ length ys
+pub each_length : {X Y : Type 0} (R : X → Y → Type 0) (xs : List X) (ys : List Y) → Each R xs ys → length xs ≡ length ys
 each_length R [] [] e = refl
 each_length R [] (y ∷ ys) e = absurd e
 each_length R (x ∷ xs) [] e = absurd e
@@ -211,12 +211,11 @@ stop_has_entries g pattern argument log (told.Stuck p) b = tt
 pub come_first : {A : Type 0} (i : Input) (pattern : Ops) (len : ℕ) (log : Log) (outers : List (Outer A)) (todo : List (Position A)) (q : ℕ) (p : Position A) → q ≡ 0 → todo ≡ p ∷ [] →
     IsAtStart log pattern p →
     (spots : List Outline) × Each (Shows log outers) todo spots × ((lawful : Lawful i len) (checked : Checked pattern) → ComesTo i pattern len lawful checked q spots)
-    × FollowsWith i pattern q spots no_notes × WholeWith i pattern q spots no_notes
+    × WholeWith i pattern q spots no_notes
 come_first i pattern len log outers todo q p z e start = (
   outline pattern no_account [] ∷ [],
   subst (λ l. Each (Shows log outers) l (outline pattern no_account [] ∷ [])) (sym e) (start outers, tt),
   λ lawful checked. subst (λ k. ComesTo i pattern len lawful checked k (outline pattern no_account [] ∷ [])) (sym z) (turned_start i pattern len lawful checked (outline pattern no_account []) refl),
-  subst (λ k. FollowsWith i pattern k (outline pattern no_account [] ∷ []) no_notes) (sym z) follows_start,
   whole_first i pattern q (outline pattern no_account []) z refl,
 )
 

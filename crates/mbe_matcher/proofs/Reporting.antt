@@ -94,6 +94,11 @@ pub step_misfit : (q : ℕ) (o : Outline) → misfit_unless true q o ≡ None
 step_misfit q (outline no_ops a up) = refl
 step_misfit q (outline (op x r) a up) = refl
 
+-- what fails has no step
+pub misfit_fails : (b : Bool) (q : ℕ) (o : Outline) (m : Misfit) → misfit_unless b q o ≡ Some m → misfit_unless false q o ≡ Some m
+misfit_fails true q o m e = let no : None ≡ Some m = sym (step_misfit q o) ∙ e in cc
+misfit_fails false q o m e = e
+
 pub plain_misfit : (b : Bool) (q : ℕ) (o : Outline) (x : Op) (r : Ops) → ops_left o ≡ op x r → is_noted x ≡ false → misfit_unless b q o ≡ None
 plain_misfit true q o x r e n = step_misfit q o
 plain_misfit false q (outline os a up) x r e n =

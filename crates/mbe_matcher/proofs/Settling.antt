@@ -42,7 +42,7 @@ pub record Last {X Y : Type 0} (R : X → Y → Type 0) (xs : List X) (x : X) (y
   pub fronts : Each R xs front
   pub lasts : R x last
 
-last_of : {X Y : Type 0} (R : X → Y → Type 0) (xs : List X) (x : X) (ys : List Y) → Each R (xs ++ x ∷ []) ys → Last R xs x ys
+pub last_of : {X Y : Type 0} (R : X → Y → Type 0) (xs : List X) (x : X) (ys : List Y) → Each R (xs ++ x ∷ []) ys → Last R xs x ys
 last_of R [] x [] a = elim a [ ]
 last_of R [] x (y ∷ []) a = record { front = []; last = y; is = refl; fronts = tt; lasts = a.0 }
 last_of R [] x (y ∷ z ∷ ys) a = elim a.1 [ ]
@@ -52,7 +52,7 @@ last_of R (w ∷ xs) x (y ∷ ys) a =
     record { front = y ∷ r.front; last = r.last; is = ap (λ l. y ∷ l) r.is; fronts = (a.0, r.fronts); lasts = r.lasts }
 
 -- pushed the other way round
-each_turned : {X Y : Type 0} (R : X → Y → Type 0) (a b : Option X) (ys : List Y) → Each R (option_to_list a ++ option_to_list b) ys → Each R (option_to_list b ++ option_to_list a) (reverse ys)
+pub each_turned : {X Y : Type 0} (R : X → Y → Type 0) (a b : Option X) (ys : List Y) → Each R (option_to_list a ++ option_to_list b) ys → Each R (option_to_list b ++ option_to_list a) (reverse ys)
 each_turned R None None [] h = tt
 each_turned R None None (y ∷ ys) h = elim h [ ]
 each_turned R (Some x) None [] h = elim h [ ]
@@ -66,7 +66,7 @@ each_turned R (Some w) (Some x) (y ∷ []) h = elim h.1 [ ]
 each_turned R (Some w) (Some x) (y ∷ z ∷ []) h = (h.1.0, (h.0, tt))
 each_turned R (Some w) (Some x) (y ∷ z ∷ v ∷ ys) h = elim h.1.1 [ ]
 
-each_none : {X Y : Type 0} (R : X → Y → Type 0) (ys : List Y) → Each R [] ys → ys ≡ []
+pub each_none : {X Y : Type 0} (R : X → Y → Type 0) (ys : List Y) → Each R [] ys → ys ≡ []
 each_none R [] a = refl
 each_none R (y ∷ ys) a = elim a [ ]
 
@@ -105,14 +105,14 @@ pub fills_begin : {A : Type 0} (i : Input) (q size : ℕ) (log : Log) (outers : 
 unfolding walked_start
 fills_begin i q size log outers here todo ws hs s e g len lawful = fills_first i s.pattern q len lawful s.spots
 
-one_step : {X Y : Type 0} (f : X → Option Y) (x : X) → filter_map f (x ∷ []) ≡ option_to_list (f x)
+pub one_step : {X Y : Type 0} (f : X → Option Y) (x : X) → filter_map f (x ∷ []) ≡ option_to_list (f x)
 one_step {Y = Y} f x = at (f x)
   where
     at : (y : Option Y) → cons_option y [] ≡ option_to_list y
     at None = refl
     at (Some y) = refl
 
-shown_number : {A : Type 0} (log : Log) (outers : List (Outer A)) (p : Position A) (o : Outline) → Shows log outers p o → p.number ≡ outline_number o
+pub shown_number : {A : Type 0} (log : Log) (outers : List (Outer A)) (p : Position A) (o : Outline) → Shows log outers p o → p.number ≡ outline_number o
 shown_number log outers p (outline rest a up) s = s.number
 
 module _ {A : Type 0} (i : Input) (pattern : Ops) (argument : Forest) (q : ℕ) (all : List Outline) (met : List ℕ) (log : Log) (outers : List (Outer A))

@@ -3,7 +3,7 @@ use Rattle.std.proofs.Common.{ℕ, ◌+◌, ◌≡◌, ◌<◌, ◌≤◌, ◌�
 use Rattle.std.specs.Prelude.{nat_lt}
 use Rattle.std.proofs.lemmas.Bool.{ltb-true, ltb-false}
 use Rattle.mbe_tt.specs.Trees.Tree.{Forest, flat_len}
-use Rattle.mbe_tt.specs.Fragments.Grammar.{Grammar}
+use Rattle.mbe_tt.specs.Fragments.Grammar.{Grammar, IsLawful}
 use Rattle.mbe_semantics.specs.Syntax.Op.{Ops, no_ops}
 use Rattle.mbe_semantics.specs.Syntax.Nullable.{Checked}
 use Rattle.mbe_semantics.specs.Laws.Lawful.{Lawful}
@@ -71,6 +71,27 @@ at_stop g pattern argument many_readings is = read (is.1.0) (is.1.2)
     read is r = let w : items_width is ≡ flat_len argument = r.1 in (dot no_ops is [], ((tt, r.0), omega (arith, w)))
 at_stop g pattern argument (ambiguous p) is = let a = is.0 in (a.one, a.one_at)
 at_stop g pattern argument (stuck p) is = is.2
+
+-- a beginning ends in the argument
+place_within : (i : Input) (pattern : Ops) (len : ℕ) (lawful : Lawful i len) → Checked pattern → (y : Beginning) → Begins i pattern y → place y ≤ len
+place_within i pattern len lawful checked = by_steps i pattern len lawful checked (λ y. Begins i pattern y → place y ≤ len) (λ y ih b. turn y ih (parents i pattern y b))
+  where
+    turn : (y : Beginning) → ((x : Beginning) → steps (story x) < steps (story y) → Begins i pattern x → place x ≤ len) → ((y ≡ start pattern) ⊎ From i pattern y) → place y ≤ len
+    turn y ih (inl p) = let d : place y ≡ 0 = ap place p in omega (arith, d)
+    turn y ih (inr (x, b, inl s)) =
+        let d : place y ≡ place x = s.1 in
+        let l : place x ≤ len = ih x (idles_steps i pattern len lawful checked x y s) b in omega (arith, d, l)
+    turn y ih (inr (x, b, inr m)) =
+        let t : (0 < m.0) × (place x + m.0 ≤ len) = next-takes i len (place x) m.0 m.1 x y lawful m.2 in
+        let t1 = t.1 in
+        let d : place y ≡ place x + m.0 = m.3 in omega (arith, t1, d)
+
+pub stop_within : (g : Grammar) (pattern : Ops) (argument : Forest) → IsLawful g → Checked pattern → (v : Verdict) → IsVerdict g pattern argument v → stop_of argument v ≤ flat_len argument
+stop_within g pattern argument w checked v is =
+    let s : (x : Beginning) × At (input_of g argument) pattern (stop_of argument v) x = at_stop g pattern argument v is in
+    let far : place s.0 ≡ stop_of argument v = s.1.1 in
+    let l : place s.0 ≤ flat_len argument = place_within (input_of g argument) pattern (flat_len argument) (lawful_input g argument w) checked s.0 s.1.0 in
+    omega (arith, far, l)
 
 pub goes_on : KeptPassGoesOn
 goes_on g pattern argument w checked v is q os ps before h l = go (moves_of i q (held i q p.xs)) refl

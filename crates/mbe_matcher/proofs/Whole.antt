@@ -1,17 +1,10 @@
 -- As long as no third position of a dot was dropped, the stack stands for all beginnings that come to the place, and what is noted is theirs.
-use Rattle.std.proofs.Common.{ℕ, ◌+◌, ◌≡◌, Some, Bool, false, List, [], ◌∷◌, ◌++◌, map, reverse, refl, sym, ◌∙◌, ap, subst}
+use Rattle.std.proofs.Common.{ℕ, ◌+◌, ◌≡◌, Some, Bool, false, List, [], ◌∷◌, ◌++◌, map, reverse, sym, ◌∙◌, ap, subst}
 use Rattle.std.specs.List.{filter_map}
 use Rattle.std.proofs.lemmas.List.{reverse-append, reverse-reverse}
-use Rattle.mbe_tt.specs.declared.span.DelimSpan.{DelimSpan}
-use Rattle.mbe_tt.specs.Trees.Tree.{Forest, flat_len}
-use Rattle.mbe_tt.specs.Fragments.Grammar.{Grammar, IsLawful}
 use Rattle.mbe_semantics.specs.Syntax.Op.{Ops}
 use Rattle.mbe_semantics.specs.Syntax.Nullable.{Checked}
-use Rattle.mbe_semantics.specs.Readings.Input.{Input, input_of}
-use Rattle.mbe_semantics.specs.Readings.Verdict.{Verdict, stop_of}
-use Rattle.mbe_semantics.specs.Bindings.Account.{Log, Handle}
-use Rattle.mbe_semantics.specs.Expansion.Error.{ExpandError}
-use Rattle.mbe_semantics.proofs.InputLemmas.{lawful_input}
+use Rattle.mbe_semantics.specs.Readings.Input.{Input}
 use Rattle.mbe_semantics.specs.Readings.Reading.{Beginning, At, start}
 use Rattle.mbe_semantics.specs.Readings.Steps.{Move, move}
 use Rattle.mbe_semantics.specs.Laws.Lawful.{Lawful}
@@ -21,16 +14,14 @@ use Rattle.mbe_semantics.specs.Matching.Held.{held, moves_of, targets, clashing}
 use Rattle.mbe_semantics.specs.Matching.Outline.{Outline, erase, erase_move, idle_of, next_of}
 use Rattle.mbe_semantics.specs.Matching.Settled.{clash, after_of, first_width}
 use Rattle.mbe_laws.proofs.Matching.Law.{Inv, held-sound}
-use Rattle.mbe_bounds.specs.Bounded.TwoEach.{held_two_each}
 use Rattle.mbe_bounds.specs.Loop.Kept.{kept, kept_moves}
-use Rattle.mbe_bounds.specs.Orders.Order.{ComesWhole, whole_start, whole_next, turn_round, AtMostTwo}
+use Rattle.mbe_bounds.specs.Orders.Order.{ComesWhole, whole_start, whole_next, turn_round}
 use Rattle.mbe_bounds.proofs.Orders.Spare.{turning}
-use Rattle.mbe_bounds.proofs.Orders.DropLemmas.{whole-inv, drops_law}
-use Rattle.mbe_bounds.proofs.Loop.BoundedPlaces.{erase_held, erase_moves, clash_alike, after_alike, width_alike}
+use Rattle.mbe_bounds.proofs.Orders.DropLemmas.{whole-inv}
+use Rattle.mbe_bounds.proofs.Loop.BoundedPlaces.{erase_moves, clash_alike, after_alike, width_alike}
 use Rattle.mbe_bounds.proofs.Loop.TurnedPlaces.{map_reverse}
 use Rattle.mbe_bounds.proofs.Loop.FlagLoop.{Fills, fills_start, fills_take, fills_end}
-use Rattle.mbe_matcher.specs.Failures.{Notes, no_notes, noted_at, ComesWith, at_start, at_next, AreNotes, FollowsWith, follows_start, follows_next, AreFollowedNotes, commands_of_notes}
-use Rattle.mbe_matcher.specs.Reports.{IsReported, IsReportedOfAll}
+use Rattle.mbe_matcher.specs.Failures.{Notes, no_notes, noted_at, ComesWith, at_start, at_next, AreNotes}
 
 -- ---- at a place
 
@@ -107,40 +98,3 @@ module _ (i : Input) (pattern : Ops) (len : ℕ) (lawful : Lawful i len) (checke
               map_reverse erase (targets (move n f y ∷ ms))
               ∙ ap reverse (sym (after_alike (move n f y ∷ ms)) ∙ ap (λ l. map after_of (map erase_move l)) (sym d) ∙ ap (map after_of) (sym moves));
         }
-
--- ---- where no three of one dot meet, none is dropped
-
-module _ (g : Grammar) (pattern : Ops) (argument : Forest) (lawful : IsLawful g) (checked : Checked pattern)
-    (few : (p : ℕ) → AtMostTwo (input_of g argument) pattern p) where
-  in_whole : Lawful (input_of g argument) (flat_len argument)
-  in_whole = lawful_input g argument lawful
-
-  kept_whole : (q : ℕ) (spots : List Outline) (before : Notes) (w : WholeWith (input_of g argument) pattern q spots before) →
-      kept (input_of g argument) (dots pattern) q (reverse spots) ≡ map erase (held (input_of g argument) q w.xs)
-  kept_whole q spots before w =
-      let drops = drops_law turn_round turning g pattern argument lawful checked q (λ p l. few p) in
-      let comes = drops.whole w.xs (comes_whole (input_of g argument) pattern q w.xs before w.comes) in
-      let all : held_two_each (input_of g argument) (dots pattern) q w.xs ≡ held (input_of g argument) q w.xs = (drops.bounded w.xs comes).all (few q) in
-      ap (kept (input_of g argument) (dots pattern) q) (sym w.same)
-      ∙ sym (erase_held (input_of g argument) pattern q (dots pattern) w.xs (whole_sound (input_of g argument) pattern (flat_len argument) in_whole checked q spots before w))
-      ∙ ap (map erase) all
-
-  follows_whole : (q : ℕ) (spots : List Outline) (before : Notes) → FollowsWith (input_of g argument) pattern q spots before → WholeWith (input_of g argument) pattern q spots before
-  follows_whole _ _ _ follows_start = whole_first (input_of g argument) pattern 0 (erase (start pattern)) refl refl
-  follows_whole _ _ _ (follows_next q m n spots before f over calm at) =
-      let w = follows_whole q spots before f in
-      whole_after (input_of g argument) pattern (flat_len argument) in_whole checked q spots before w (kept_whole q spots before w) m n over calm at
-
-  pub all_notes : (q : ℕ) (notes : Notes) → AreFollowedNotes (input_of g argument) pattern q notes → AreNotes (input_of g argument) pattern q notes
-  all_notes q notes (spots, before, f, is) =
-      let w = follows_whole q spots before f in
-      subst (AreNotes (input_of g argument) pattern q) (sym is)
-      (whole_notes (input_of g argument) pattern (flat_len argument) in_whole checked q spots before w (kept_whole q spots before w))
-
-  pub all_reported : (around : DelimSpan) (log : Log) (v : Verdict) (err : ExpandError) (h : Handle) → IsReported g pattern argument around log v err h →
-      IsReportedOfAll g pattern argument around log v err h
-  all_reported around log v err h r = (
-    commands_of_notes g argument r.notes.last,
-    r.bindings,
-    record { notes = r.notes; noted = all_notes (stop_of argument v) r.notes r.noted; error = r.error; bindings = refl },
-  )

@@ -12,11 +12,8 @@ use Rattle.mbe_semantics.specs.Readings.Verdict.{Verdict, stop_of}
 use Rattle.mbe_semantics.specs.Bindings.Account.{Commands, no_commands, command}
 use Rattle.mbe_semantics.specs.Expansion.Error.{ExpandErrorKind, ExpandError, unexpected_token, leftover_tokens}
 use Rattle.mbe_semantics.specs.Expansion.Failing.{failing, failing_command}
-use Rattle.mbe_semantics.specs.Matching.Dots.{dots}
 use Rattle.mbe_semantics.specs.Matching.Held.{held, moves_of, targets, clashing}
 use Rattle.mbe_semantics.specs.Matching.Outline.{Outline, outline, erase, idle_of, next_of, finished_of}
-use Rattle.mbe_semantics.specs.Matching.Settled.{after_of, clash, first_width}
-use Rattle.mbe_bounds.specs.Loop.Kept.{kept, kept_moves}
 
 -- there is a member
 abbrev pub is_any : {A : Type 0} → List A → Bool
@@ -150,16 +147,3 @@ pub record Reports (g : Grammar) (pattern : Ops) (argument : Forest) (around : D
   pub noted : AreNotes (input_of g argument) pattern (stop_of argument v) notes
   pub error : err ≡ error_of_notes g argument around (stop_of argument v == flat_len argument) notes
   pub bindings : bound ≡ commands_of_notes g argument notes.last
-
--- ---- over the positions that are followed, two of each dot
-
--- The same of what the program's stack stands for, the last on top.
-pub data FollowsWith (i : Input) (pattern : Ops) : ℕ → List Outline → Notes → Type 0 where
-  follows_start : FollowsWith i pattern 0 (erase (start pattern) ∷ []) no_notes
-  follows_next : (q m n : ℕ) (spots : List Outline) (before : Notes) → FollowsWith i pattern q spots before →
-      first_width (kept_moves i (dots pattern) q (reverse spots)) ≡ Some n → clash (kept_moves i (dots pattern) q (reverse spots)) ≡ false → m ≡ q + n →
-      FollowsWith i pattern m (map after_of (kept_moves i (dots pattern) q (reverse spots))) (noted_at i q (kept i (dots pattern) q (reverse spots)) before)
-
-abbrev pub AreFollowedNotes : Input → Ops → ℕ → Notes → Type 0
-AreFollowedNotes i pattern q notes =
-    (spots : List Outline) × (before : Notes) × FollowsWith i pattern q spots before × (notes ≡ noted_at i q (kept i (dots pattern) q (reverse spots)) before)

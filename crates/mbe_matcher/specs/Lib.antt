@@ -7,3 +7,5 @@ pub mod Reports
 pub mod Counts
 pub mod States
 pub mod TwoEnds
+pub mod Met
+pub mod EndsMatched

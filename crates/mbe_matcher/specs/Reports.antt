@@ -1,7 +1,7 @@
 -- What positions report on the way.
-use Rattle.std.specs.Prelude.{ℕ, ◌≡◌, ◌==◌, Option, Some, None, false, List, [], map, reverse}
+use Rattle.std.specs.Prelude.{ℕ, ◌≡◌, Option, Some, None, false, List, [], map, reverse}
 use Rattle.mbe_tt.specs.declared.span.DelimSpan.{DelimSpan}
-use Rattle.mbe_tt.specs.Trees.Tree.{Forest, flat_len, rest_at}
+use Rattle.mbe_tt.specs.Trees.Tree.{Forest, rest_at}
 use Rattle.mbe_semantics.specs.Bindings.Account.{Commands, Log, Handle, HasEntriesOf}
 use Rattle.mbe_semantics.specs.Expansion.Error.{ExpandError}
 use Rattle.mbe_semantics.specs.Readings.Verdict.{Verdict, stop_of}
@@ -15,7 +15,6 @@ use Rattle.mbe_semantics.specs.Readings.Reading.{Beginning, At}
 use Rattle.mbe_semantics.specs.Matching.Held.{held}
 use Rattle.mbe_semantics.specs.Matching.Lists.{In}
 use Rattle.mbe_semantics.specs.Matching.Outline.{Outline, erase}
-use Rattle.mbe_bounds.specs.Orders.Order.{AtMostTwo}
 use Rattle.mbe_bounds.specs.Loop.Kept.{kept as kept_at}
 use Rattle.mbe_ops.specs.Views.{op_of}
 use Rattle.mbe_matcher.specs.declared.source.Source.{Source as Argument}
@@ -27,7 +26,7 @@ use Rattle.mbe_matcher.specs.declared.report.Report.{Report}
 use Rattle.mbe_matcher.specs.declared.report.Last.{Last}
 use Rattle.mbe_matcher.specs.Positions.{Both, Holds}
 use Rattle.mbe_matcher.specs.Matched.{AreSettledAt, verdict_in}
-use Rattle.mbe_matcher.specs.Failures.{Misfit, Source, failed, ended, Notes, is_any, or_first, source_of, noted_at, AreNotes, AreFollowedNotes, Reports, error_of_notes, commands_of_notes}
+use Rattle.mbe_matcher.specs.Failures.{Misfit, Source, failed, ended, Notes, is_any, or_first, source_of, noted_at, AreNotes, Reports}
 
 -- what is to be reported of the bindings is in the log
 abbrev pub IsLast : {A : Type 0} → Log → Option (Last A) → Type 0
@@ -74,26 +73,14 @@ pub record Settles {A : Type 0} (g : Grammar) (source : Argument A) (pattern : O
   pub notes : NotesPlace g source pattern spots old new before after
   pub all : after.has_dropped ≡ false → (before.has_dropped ≡ false) × FollowsAll g source pattern spots
 
--- a report of what was noted up to the place, with the positions that are followed
-abbrev pub IsReportAt : {A : Type 0} → Grammar → Ops → Forest → Log → ℕ → Report A → Type 0
-IsReportAt g pattern argument log q r = (notes : Notes) × AreFollowedNotes (input_of g argument) pattern q notes × IsReportOf log argument r [] notes
+-- a report of what all beginnings note up to the place
+abbrev pub IsFullReport : {A : Type 0} → Grammar → Ops → Forest → Log → ℕ → Report A → Type 0
+IsFullReport g pattern argument log q r = (notes : Notes) × AreNotes (input_of g argument) pattern q notes × IsReportOf log argument r [] notes
 
--- The report where the positions stop. If no third position of a dot was dropped, it is that of all beginnings.
-pub record IsReportIn {A : Type 0} (g : Grammar) (pattern : Ops) (argument : Forest) (log : Log) (r : Reached A) : Type 0 where
-  pub followed : IsReportAt g pattern argument log (stop_of argument (verdict_in r.stop)) r.report
-  pub all : r.has_dropped ≡ false → AreNotes (input_of g argument) pattern (stop_of argument (verdict_in r.stop)) followed.0
+-- The report where the positions stop, if no third position of a dot was dropped.
+abbrev pub IsReportIn : {A : Type 0} → Grammar → Ops → Forest → Log → Reached A → Type 0
+IsReportIn g pattern argument log r = r.has_dropped ≡ false → IsFullReport g pattern argument log (stop_of argument (verdict_in r.stop)) r.report
 
--- What a match without an only reading returns, beside its verdict: why, and what was bound, as the positions that are followed have it.
-pub record IsReported (g : Grammar) (pattern : Ops) (argument : Forest) (around : DelimSpan) (log : Log) (v : Verdict) (err : ExpandError) (h : Handle) : Type 0 where
-  pub notes : Notes
-  pub noted : AreFollowedNotes (input_of g argument) pattern (stop_of argument v) notes
-  pub error : err ≡ error_of_notes g argument around (stop_of argument v == flat_len argument) notes
-  pub bindings : Holds log h (commands_of_notes g argument notes.last)
-
--- the same, as all beginnings have it
-abbrev pub IsReportedOfAll : Grammar → Ops → Forest → DelimSpan → Log → Verdict → ExpandError → Handle → Type 0
-IsReportedOfAll g pattern argument around log v err h = (bound : Commands) × Holds log h bound × Reports g pattern argument around v err bound
-
--- at no place three beginnings of one dot meet
-abbrev pub MeetsFew : Grammar → Ops → Forest → Type 0
-MeetsFew g pattern argument = (q : ℕ) → AtMostTwo (input_of g argument) pattern q
+-- What a match without an only reading returns, beside its verdict: why, and what was bound.
+abbrev pub IsReported : Grammar → Ops → Forest → DelimSpan → Log → Verdict → ExpandError → Handle → Type 0
+IsReported g pattern argument around log v err h = (bound : Commands) × Holds log h bound × Reports g pattern argument around v err bound

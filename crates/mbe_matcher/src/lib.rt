@@ -3,10 +3,12 @@
 
 mod counts;
 mod eat;
+mod ends;
 pub mod fragment;
 mod fronts;
 pub mod laws;
 pub mod matching;
+mod met;
 mod places;
 mod position;
 mod report;

@@ -31,7 +31,7 @@
 //         2          q           4   4, over `q` by fragment
 //         3          ;        3  2   2, over `;`
 //         4                      1   none: the pattern ends, and so does the argument: one reading
-ghost use Rattle.std.specs.Prelude.{◌≡◌, ◌==◌, ◌↔◌, false, IsNone, IsSome, IfOk, IfSome, OnOk};
+ghost use Rattle.std.specs.Prelude.{◌≡◌, ◌↔◌, IsNone, IsSome, IfOk, IfSome, OnOk};
 ghost use Rattle.mbe_tt.specs.Trees.Tree.{Forest, flat_len};
 ghost use Rattle.mbe_tt.specs.Views.View.{trees};
 ghost use Rattle.mbe_semantics.specs.Syntax.Op.{Ops};
@@ -42,8 +42,9 @@ ghost use Rattle.mbe_errors.specs.ErrorViews.{errors_of};
 ghost use Rattle.mbe_log.specs.Shared.{IsKept};
 ghost use Rattle.mbe_ops.specs.Views.{template_of};
 ghost use Rattle.mbe_matcher.specs.Matched.{verdict_seen, verdict_in, Binds};
-ghost use Rattle.mbe_matcher.specs.Reports.{IsReport, IsReportIn, IsReported, IsReportedOfAll, MeetsFew};
+ghost use Rattle.mbe_matcher.specs.Reports.{IsReport, IsFullReport, IsReportIn, IsReported};
 
+use crate::ends::report_up_to;
 use crate::places::{Reached, Stop, reach};
 use mbe_errors::error::ExpandError;
 use mbe_log::log::{BindingLog, Handle, again};
@@ -103,10 +104,6 @@ pub fn match_argument<'a, A: Allocator + Copy, G: FragmentGrammar>(
     ensures reports { IfOk result (λ m. IfSome (errors_of m.err)
         (λ e. IsReported (G.grammar grammar.now) (template_of pattern.now) (trees argument.entry)
         around log.new (verdict_seen m.verdict) e m.bindings)) }
-    ensures all { MeetsFew (G.grammar grammar.now) (template_of pattern.now) (trees argument.entry)
-        → IfOk result (λ m. IfSome (errors_of m.err) (λ e. IsReportedOfAll (G.grammar grammar.now)
-        (template_of pattern.now) (trees argument.entry) around log.new
-        (verdict_seen m.verdict) e m.bindings)) }
     ensures kept { OnOk result (IsKept log.old log.new) }
 {
     let reached = reach(alloc, grammar, pattern, argument, log)?;
@@ -118,6 +115,7 @@ pub fn match_argument<'a, A: Allocator + Copy, G: FragmentGrammar>(
             err: None,
         });
     }
+    let reached = with_all_reported(alloc, grammar, pattern, argument, reached, log)?;
     failed(alloc, grammar, reached, argument.flat_len(), around, log)
 }
 
@@ -132,15 +130,46 @@ fn verdict_of(stop: &Stop) -> Verdict
     }
 }
 
-// Whether the positions stop at the end of an argument of so many flat tokens.
-fn is_at_end(stop: &Stop, length: usize) -> bool
-    ensures { (f : Forest) → flat_len f ≡ length
-        → result ≡ (stop_of f (verdict_in stop.now) == flat_len f) }
+// The place where the positions stop, in an argument of so many flat tokens.
+fn place_of(stop: &Stop, length: usize) -> usize
+    ensures { (f : Forest) → flat_len f ≡ length → result ≡ stop_of f (verdict_in stop.now) }
 {
     match stop {
-        Stop::OneReading(_) | Stop::ManyReadings => true,
-        Stop::Ambiguous(place) | Stop::Stuck(place) => *place == length,
+        Stop::OneReading(_) | Stop::ManyReadings => length,
+        Stop::Ambiguous(place) | Stop::Stuck(place) => *place,
     }
+}
+
+// What was reached, with a report of all positions. Where the first pass dropped one, a second pass
+// finds it.
+fn with_all_reported<'a, A: Allocator + Copy, G: FragmentGrammar>(
+    alloc: A,
+    grammar: &G,
+    pattern: &'a MetaTemplate<A>,
+    argument: TokenTreesView<'a, A>,
+    reached: Reached<'a, A>,
+    log: &mut BindingLog<'a, A>,
+) -> Result<Reached<'a, A>, AllocError>
+    requires checked { Checked (template_of pattern.now) }
+    requires verdict { IsVerdict (G.grammar grammar.now) (template_of pattern.now)
+        (trees argument) (verdict_in reached.stop) }
+    requires notes { IsReportIn (G.grammar grammar.now) (template_of pattern.now)
+        (trees argument) log.old reached }
+    ensures stop { IfOk result (λ r. r.stop ≡ reached.entry.stop) }
+    ensures unmatched { IfOk result (λ r. r.unmatched ≡ reached.entry.unmatched) }
+    ensures report { IfOk result (λ r. IsFullReport (G.grammar grammar.now)
+        (template_of pattern.now) (trees argument.entry) log.new
+        (stop_of (trees argument.entry) (verdict_in r.stop)) r.report) }
+    ensures kept { OnOk result (IsKept log.old log.new) }
+{
+    if !reached.has_dropped {
+        return Ok(reached);
+    }
+    let stop = place_of(&reached.stop, argument.flat_len());
+    let report = report_up_to(alloc, grammar, pattern, argument, stop, log)?;
+    let mut reached = reached;
+    reached.report = report;
+    Ok(reached)
 }
 
 // A match of an argument of so many flat tokens, without an only reading.
@@ -159,13 +188,9 @@ fn failed<'a, A: Allocator + Copy, G: FragmentGrammar>(
     ensures err { IfOk result (λ m. IsSome (errors_of m.err)) }
     ensures kept { (first : Log) → IsKept first log.old → OnOk result (IsKept first log.new) }
     ensures reports { (pattern : Ops) (f : Forest) → flat_len f ≡ length
-        → IsReportIn (G.grammar grammar.now) pattern f log.old reached.entry
+        → IsFullReport (G.grammar grammar.now) pattern f log.old
+        (stop_of f (verdict_in reached.entry.stop)) reached.entry.report
         → IfOk result (λ m. IfSome (errors_of m.err) (λ e. IsReported (G.grammar grammar.now)
-        pattern f around log.new (verdict_in reached.entry.stop) e m.bindings)) }
-    ensures all { (pattern : Ops) (f : Forest) → flat_len f ≡ length
-        → IsReportIn (G.grammar grammar.now) pattern f log.old reached.entry
-        → reached.entry.has_dropped ≡ false
-        → IfOk result (λ m. IfSome (errors_of m.err) (λ e. IsReportedOfAll (G.grammar grammar.now)
         pattern f around log.new (verdict_in reached.entry.stop) e m.bindings)) }
 {
     let Reached {
@@ -174,7 +199,8 @@ fn failed<'a, A: Allocator + Copy, G: FragmentGrammar>(
         report,
         has_dropped: _,
     } = reached;
-    let err = report.error(alloc, grammar, around, is_at_end(&stop, length))?;
+    let is_at_end = place_of(&stop, length) == length;
+    let err = report.error(alloc, grammar, around, is_at_end)?;
     let bindings = report.bindings(grammar, log)?;
     Ok(Match {
         verdict: verdict_of(&stop),

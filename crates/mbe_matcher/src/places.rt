@@ -75,7 +75,7 @@ fn is_ambiguous<A: Allocator>(waiting: &[Waiting<'_, A>]) -> bool
 }
 
 // The place after a step. After a fragment it is reached at once.
-fn after_step<'a, A: Allocator>(
+pub(crate) fn after_step<'a, A: Allocator>(
     source: Source<'a, A>,
     step: &Waiting<'a, A>,
 ) -> Result<Source<'a, A>, AllocError>
@@ -139,7 +139,7 @@ fn stopped<A: Allocator>(
 }
 
 // The position before the first op of a pattern with so many dots.
-fn at_start<'a, A: Allocator + Copy>(
+pub(crate) fn at_start<'a, A: Allocator + Copy>(
     pattern: &'a MetaTemplate<A>,
     number: usize,
     log: &mut BindingLog<'a, A>,

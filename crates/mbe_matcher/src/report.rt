@@ -225,7 +225,7 @@ pub(crate) struct Report<'a, A: Allocator = Global> {
 // Whether an error is noted where the op doesn't fit. At a group and at a variable of an unknown
 // kind none is.
 #[tactic(auto, using(mbe_ops::proofs::OpViews::views))]
-fn is_noted<A: Allocator>(op: &Op<A>) -> bool
+pub(crate) fn is_noted<A: Allocator>(op: &Op<A>) -> bool
     ensures { result ≡ is_noted (op_of op.now) }
 {
     matches!(

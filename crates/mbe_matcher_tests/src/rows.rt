@@ -12,6 +12,8 @@ enum Want {
     Stops(Verdict, usize),
     /// There is one reading, which binds so many names, and this one to that.
     Binds(usize, &'static str, &'static str),
+    /// There is no only reading, and what is reported binds this name to that.
+    Reports(&'static str, &'static str),
 }
 
 impl Want {
@@ -19,7 +21,7 @@ impl Want {
     fn name(&self) -> &'static str {
         match *self {
             Want::Stops(_, _) => "",
-            Want::Binds(_, name, _) => name,
+            Want::Binds(_, name, _) | Want::Reports(name, _) => name,
         }
     }
 
@@ -32,6 +34,9 @@ impl Want {
                 outcome.verdict == Verdict::OneReading
                     && outcome.names == names
                     && outcome.bound.as_str() == bound
+            }
+            Want::Reports(_, bound) => {
+                outcome.verdict != Verdict::OneReading && outcome.bound.as_str() == bound
             }
         }
     }
@@ -135,6 +140,32 @@ static AMBIGUITIES: [Row; 2] = [
 #[test]
 fn two_ways_to_go_on_by_a_fragment_are_ambiguous(rt: HostRuntime) -> Result<(), Fail> {
     assert_all(&rt, rt.alloc(), &AMBIGUITIES)
+}
+
+// Three positions or more meet before each of the repetitions. At the pattern's end the first of
+// them is reported, and where `a` fails the last.
+static REPORTS: [Row; 4] = [
+    Row {
+        texts: ("$(a)* $(a $(: $x:ident)?)* c", "a a a a c d"),
+        want: Want::Reports("x", "[----]"),
+    },
+    Row {
+        texts: ("$(a)* $(a $(: $x:ident)?)* c", "a a a"),
+        want: Want::Reports("x", "[--]"),
+    },
+    Row {
+        texts: ("$(a $(: $x:ident)?)* $(a)* c", "a a : p a a a c d"),
+        want: Want::Reports("x", "[-[p]-]"),
+    },
+    Row {
+        texts: ("$(a $(: $x:ident)?)* $(a)* c", "a a a"),
+        want: Want::Reports("x", "[-]"),
+    },
+];
+
+#[test]
+fn where_positions_meet_the_first_or_the_last_is_reported(rt: HostRuntime) -> Result<(), Fail> {
+    assert_all(&rt, rt.alloc(), &REPORTS)
 }
 
 static BINDINGS: [Row; 8] = [

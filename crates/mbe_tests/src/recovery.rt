@@ -12,7 +12,15 @@ type Row = ((usize, bool), &'static str, &'static str, Recovered);
 
 const EXPRESSION: &str = "($e:expr) => {[$e]}";
 
-static RECOVERED: [Row; 6] = [
+static RECOVERED: [Row; 7] = [
+    // Several positions meet at the end of either pattern. By the first of them the first rule binds
+    // most.
+    (
+        (1, false),
+        "($(a)* $(a $(: $y:ident)?)* c) => {R0}; ($(a $(: $x:ident)?)* $(a)* c) => {R1}",
+        "a a a a c d",
+        (0, &[(Word("R0"), 0, 35, 37)], ("unexpected token", 0, 1)),
+    ),
     // At the quote one prefix goes on over one token, and one over two.
     (
         (1, false),

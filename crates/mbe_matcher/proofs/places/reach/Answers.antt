@@ -1,4 +1,4 @@
-use Rattle.std.proofs.Common.{◌≡◌, ◌+◌, ◌∙◌, ◌++◌, ◌∷◌, ℕ, Some, None, [], length, map, reverse, get_or, refl, sym, ap, subst, arith}
+use Rattle.std.proofs.Common.{◌≡◌, ◌+◌, ◌∙◌, ◌++◌, ◌∷◌, ℕ, Some, None, [], length, map, reverse, get_or, sym, ap, subst, arith}
 use Rattle.std.specs.Prelude.{IfSome}
 use Rattle.mbe_tt.specs.Views.View.{trees}
 use Rattle.mbe_tt.specs.Trees.Tree.{flat_len, tree_count, rest_at}
@@ -16,7 +16,7 @@ use Rattle.mbe_bounds.proofs.Loop.TurnedPlaces.{ComesTo}
 use Rattle.mbe_matcher.specs.declared.places.Reached.{Reached}
 use Rattle.mbe_matcher.specs.declared.position.Waiting.{Waiting}
 use Rattle.mbe_matcher.specs.Positions.{Each, Shows, IsLeft}
-use Rattle.mbe_matcher.specs.Failures.{no_notes, noted_at, FollowsWith, follows_next, AreNotes, AreFollowedNotes}
+use Rattle.mbe_matcher.specs.Failures.{no_notes, noted_at, AreNotes}
 use Rattle.mbe_matcher.specs.Reports.{IsReportOf, IsReportIn}
 use Rattle.mbe_matcher.specs.Matched.{position_after, stop_at, verdict_in, reading_in, Binds}
 use Rattle.mbe_matcher.proofs.MatchEnds.{right_stop, stop_place, binds_stop, next, come_first, stack_of, shown_after}
@@ -44,9 +44,8 @@ loop-source-init g c =
         first.1,
         first.2,
         no_notes,
-        first.3,
         c.in_ok-state.ensures.notes c.at_start.new.log (trees s.whole),
-        λ clean. first.4,
+        λ clean. first.3,
       );
       whole = c.new-source.ensures.whole;
       blank = λ q l. c.in_ok-state.ensures.blank q (omega arith);
@@ -287,12 +286,10 @@ loop-source-preserved g c =
             let there : c.in_ok-source.source.place ≡ s.place + n.first.width = c.in_ok-source.ensures.place ∙ ap (λ (x : Waiting g.row.A.Denot). s.place + x.width) first in
             subst (λ k. ComesTo (input_of h (trees s.whole)) pat (flat_len (trees s.whole)) lawful checked k new) (sym there) n.comes_next),
         noted,
-        subst (λ x. FollowsWith (input_of h (trees x)) pat c.in_ok-source.source.place new noted) (sym c.in_ok-source.ensures.whole)
-            (follows_next s.place c.in_ok-source.source.place n.first.width inv.comes.0 inv.comes.3 inv.comes.4 n.goes_over n.agrees at),
-        subst (λ x. IsReportOf log (trees x) c.settle.new.state.report [] noted) (sym c.in_ok-source.ensures.whole) ((c.in_ok-settle.ensures.settled stack).notes inv.comes.3 inv.comes.5),
+        subst (λ x. IsReportOf log (trees x) c.settle.new.state.report [] noted) (sym c.in_ok-source.ensures.whole) ((c.in_ok-settle.ensures.settled stack).notes inv.comes.3 inv.comes.4),
         λ clean.
             let follows = (c.in_ok-settle.ensures.settled stack).all clean in
-            let was = inv.comes.6 follows.0 in
+            let was = inv.comes.5 follows.0 in
             let all = follows.1 c.requires was.xs (whole_sound i pat len w c.requires s.place inv.comes.0 inv.comes.3 was) was.same in
             subst (λ x. WholeWith (input_of h (trees x)) pat c.in_ok-source.source.place new noted) (sym c.in_ok-source.ensures.whole)
             (whole_after i pat len w c.requires s.place inv.comes.0 inv.comes.3 was all c.in_ok-source.source.place n.first.width n.goes_over n.agrees at),
@@ -326,15 +323,13 @@ returns-in-Some-clause-notes g c =
     c.in-Some.ensures.stop ∙ ap (λ l. stop_at s.place len l c.deref-in-loop-source-2.result.now) waits ∙ ap (stop_at s.place len ws) ends in
     let stop = stop_place h pat (trees s.whole) w c.requires s.place inv.comes.0 come s.within log outers ws hs st v e in
     let noted = noted_at i s.place (kept i (dots pat) s.place (reverse inv.comes.0)) inv.comes.3 in
-    let are = subst (λ k. AreFollowedNotes i pat k noted) (sym stop) (inv.comes.0, inv.comes.3, inv.comes.4, refl) in
     let settled = c.in_ok-settle.ensures.settled stack in
     let reached : Reached g.row.A.Denot = record { stop = c.in-Some.stop; unmatched = c.trees_left.result; report = c.settle.new.state.report; has_dropped = c.settle.new.state.has_dropped } in
-    subst (λ x. IsReportIn h pat (trees x) log reached) inv.whole
-    (record {
-      followed = (noted, are, settled.notes inv.comes.3 inv.comes.5);
-      all = λ clean.
-          let follows = settled.all clean in
-          let was = inv.comes.6 follows.0 in
-          let all = follows.1 c.requires was.xs (whole_sound i pat len w c.requires s.place inv.comes.0 inv.comes.3 was) was.same in
-          subst (λ k. AreNotes i pat k noted) (sym stop) (whole_notes i pat len w c.requires s.place inv.comes.0 inv.comes.3 was all);
-    })
+    subst (λ x. IsReportIn h pat (trees x) log reached) inv.whole (λ clean.
+    let follows = settled.all clean in
+    let was = inv.comes.5 follows.0 in
+    let all = follows.1 c.requires was.xs (whole_sound i pat len w c.requires s.place inv.comes.0 inv.comes.3 was) was.same in (
+      noted,
+      subst (λ k. AreNotes i pat k noted) (sym stop) (whole_notes i pat len w c.requires s.place inv.comes.0 inv.comes.3 was all),
+      settled.notes inv.comes.3 inv.comes.4,
+    ))

@@ -11,7 +11,7 @@ use Rattle.mbe_ops.specs.Views.{template_of}
 use Rattle.mbe_bounds.proofs.Loop.TurnedPlaces.{ComesTo}
 use Rattle.mbe_matcher.specs.Counts.{AreBlankFrom}
 use Rattle.mbe_matcher.specs.Positions.{Each, Shows}
-use Rattle.mbe_matcher.specs.Failures.{Notes, FollowsWith}
+use Rattle.mbe_matcher.specs.Failures.{Notes}
 use Rattle.mbe_matcher.specs.Reports.{IsReportOf}
 use Rattle.mbe_matcher.proofs.Whole.{WholeWith}
 use Rattle.mbe_matcher.proofs.places.reach.Given as goal
@@ -21,8 +21,7 @@ invariant-loop-source g l = record {
   comes : (spots : List Outline) × Each (Shows l.log l.state.outers.items) l.todo.items spots
       × ((lawful : Lawful (input_of (g.G.FragmentGrammar.grammar l.grammar) (trees l.source.whole)) (flat_len (trees l.source.whole))) (checked : Checked (template_of l.pattern)) →
       ComesTo (input_of (g.G.FragmentGrammar.grammar l.grammar) (trees l.source.whole)) (template_of l.pattern) (flat_len (trees l.source.whole)) lawful checked l.source.place spots)
-      × (before : Notes) × FollowsWith (input_of (g.G.FragmentGrammar.grammar l.grammar) (trees l.source.whole)) (template_of l.pattern) l.source.place spots before
-      × IsReportOf l.log (trees l.source.whole) l.state.report [] before
+      × (before : Notes) × IsReportOf l.log (trees l.source.whole) l.state.report [] before
       × (l.state.has_dropped ≡ false → WholeWith (input_of (g.G.FragmentGrammar.grammar l.grammar) (trees l.source.whole)) (template_of l.pattern) l.source.place spots before);
   whole : l.source.whole ≡ l.argument;
   blank : AreBlankFrom l.state.counts.marks.items l.source.place;

@@ -1,0 +1,11 @@
+use Rattle.std.proofs.Common.{◌≡◌, ◌++◌, List, map, reverse, length}
+use Rattle.mbe_matcher.specs.declared.position.Waiting.{Waiting}
+use Rattle.mbe_matcher.specs.EndsMatched.{visit_after}
+use Rattle.mbe_matcher.proofs.ends.come_last.Given as goal
+
+abbrev pub invariant-loop-step : goal.invariant-loop-step
+invariant-loop-step g l =
+    (popped : List (Waiting g.row.A.Denot)) × (l.fn.waiting.items ≡ l.waiting.items ++ popped) × (l.stack.items ≡ reverse (map visit_after popped))
+
+abbrev pub decreases-loop-step : goal.decreases-loop-step
+decreases-loop-step g l = length l.waiting.items
