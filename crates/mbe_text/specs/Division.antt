@@ -5,6 +5,7 @@ use Rattle.mbe_tt.specs.Trees.Top.{Top}
 use Rattle.mbe_tt.specs.Trees.Tree.{none, one_leaf, is_same_kind}
 use Rattle.mbe_tt.specs.declared.span.Span.{Span}
 use Rattle.mbe_tt.specs.declared.tt.DelimiterKind.{DelimiterKind}
+use Rattle.mbe_text.specs.declared.dialect.Dialect.{Dialect}
 use Rattle.mbe_text.specs.declared.lexer.LexError.{LexError}
 use Rattle.mbe_text.specs.declared.lexer.LexError.TheVariants as errors
 use Rattle.mbe_text.specs.declared.scanner.LexFault.{LexFault}
@@ -22,11 +23,11 @@ pub record Taken : Type 0 where
   pub rest : List ℕ
 
 -- what stands behind white space and comments: the next token, nothing at the end, or the byte at fault
-abbrev pub next_token : ℕ → List ℕ → Result (Option Taken) ℕ
-next_token total cs = elim (past_blanks total (length cs) cs) [
+abbrev pub next_token : Dialect → ℕ → List ℕ → Result (Option Taken) ℕ
+next_token dialect total cs = elim (past_blanks dialect total (length cs) cs) [
   | Err fault ↦ Err fault
   | Ok [] ↦ Ok None
-  | Ok (c ∷ from) ↦ elim (read_shape total (c ∷ from)) [
+  | Ok (c ∷ from) ↦ elim (read_shape dialect total (c ∷ from)) [
     | Err fault ↦ Err fault
     | Ok read ↦ Ok (Some (record { shape = read.0; from = c ∷ from; rest = read.1 }))
   ]
@@ -63,24 +64,24 @@ after_item (close_item kind span) levels =
 
 -- The groups that are open at the end, or the first byte at fault: where no token is, or a closing that doesn't fit. The third
 -- number is that of the bytes at least.
-abbrev pub levels_of : ℕ → ℕ → ℕ → Levels → List ℕ → Result Levels ℕ
-levels_of file total zero levels cs = Ok levels
-levels_of file total (suc n) levels cs = elim (next_token total cs) [
+abbrev pub levels_of : Dialect → ℕ → ℕ → ℕ → Levels → List ℕ → Result Levels ℕ
+levels_of dialect file total zero levels cs = Ok levels
+levels_of dialect file total (suc n) levels cs = elim (next_token dialect total cs) [
   | Err fault ↦ Err fault
   | Ok None ↦ Ok levels
   | Ok (Some t) ↦ elim (after_item (item_taken file total t) levels) [
     | None ↦ Err (offset total t.from)
-    | Some after ↦ levels_of file total n after t.rest
+    | Some after ↦ levels_of dialect file total n after t.rest
   ]
 ]
 
 -- the same of the whole text of a file, as bytes
-abbrev pub levels_at_end : ℕ → List ℕ → Result Levels ℕ
-levels_at_end file text = levels_of file (length text) (length text) (whole file (length text)) (chars text)
+abbrev pub levels_at_end : Dialect → ℕ → List ℕ → Result Levels ℕ
+levels_at_end dialect file text = levels_of dialect file (length text) (length text) (whole file (length text)) (chars text)
 
 -- the trees of a file's text, where the groups that are open at the end are closed there, or the byte at fault
-abbrev pub trees_of : ℕ → List ℕ → Result Top ℕ
-trees_of file text = elim (levels_at_end file text) [
+abbrev pub trees_of : Dialect → ℕ → List ℕ → Result Top ℕ
+trees_of dialect file text = elim (levels_at_end dialect file text) [
   | Err fault ↦ Err fault
   | Ok levels ↦ Ok (ended (bytes_of file (length text) (length text)) levels)
 ]

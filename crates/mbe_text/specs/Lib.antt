@@ -3,8 +3,11 @@ pub mod Characters
 pub mod Dialect
 pub mod Division
 pub mod Ends
+pub mod Escapes
+pub mod Extents
 pub mod Literals
 pub mod Printing
+pub mod Rust
 pub mod Scanning
 pub mod Shapes
 pub mod Signs

@@ -8,7 +8,7 @@ use Rattle.mbe_tt.specs.declared.tt.LitKind.{LitKind}
 use Rattle.mbe_tt.specs.declared.tt.Spacing.{Spacing}
 use Rattle.mbe_text.specs.declared.scanner.LexFault.{LexFault}
 use Rattle.mbe_text.specs.declared.scanner.Lexeme.{Lexeme}
-use Rattle.mbe_text.specs.declared.scanner.Lexeme.TheVariants.{Ident, Literal, Punct, Open, Close}
+use Rattle.mbe_text.specs.declared.scanner.Lexeme.TheVariants.{Ident, Literal, Punct, Open, Close, Lifetime, Doc}
 use Rattle.mbe_text.specs.Tokens.{Item, leaf_item, open_item, close_item}
 
 -- texts are bytes
@@ -16,6 +16,8 @@ pub data Shape : Type 0 where
   identifier : (name : List ℕ) → IdentIsRaw → Shape
   literal_of : (text suffix : List ℕ) (suffix_len : ℕ) → LitKind → Shape
   punct_of : (char : ℕ) → Spacing → Shape
+  lifetime_of : (name : List ℕ) → IdentIsRaw → Shape
+  doc_of : (text : List ℕ) (is_inner : Bool) → Shape
   opening : DelimiterKind → Shape
   closing : DelimiterKind → Shape
 
@@ -39,6 +41,8 @@ shape_of (Literal text suffix suffix_len kind) = literal_of text.now suffix.now 
 shape_of (Punct char spacing) = punct_of char spacing
 shape_of (Open kind) = opening kind
 shape_of (Close kind) = closing kind
+shape_of (Lifetime name is_raw) = lifetime_of name.now is_raw
+shape_of (Doc text is_inner) = doc_of text.now is_inner
 
 -- that is what a call read, and what it left
 abbrev pub Gives : Read → Result Lexeme LexFault → List ℕ → Type 0

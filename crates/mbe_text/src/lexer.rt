@@ -1,15 +1,19 @@
 // The token trees of a text.
 ghost use Rattle.std.specs.Prelude.{◌≡◌, ◌<◌, ◌+◌, ◌^◌, ◌++◌, length, IfOk, IfErr, OnOk};
+ghost use Rattle.mbe_text.specs.declared.dialect.Dialect.TheVariants.{Sample};
 ghost use Rattle.mbe_text.specs.Scanning.{FaultsWithin};
 ghost use Rattle.mbe_text.specs.Division.{Lexes, trees_of};
 ghost use Rattle.mbe_text.specs.Tokens.{Adds, IsAstray, FaultsAt, IsMade, ended, token_item, close_item};
 
+use crate::dialect::Dialect;
 use crate::scanner::{LexFault, Lexeme, Scanner, Token, file_span};
 use crate::symbols::SymbolTable;
+use crate::wrong::Wrong;
 use mbe_tt::span::Span;
 use mbe_tt::symbol::Symbol;
 use mbe_tt::tt::{
-    Delimiter, DelimiterKind, Ident, Leaf, Literal, Punct, TopSubtree, TopSubtreeBuilder,
+    Delimiter, DelimiterKind, Ident, IdentIsRaw, Leaf, LitKind, Literal, Punct, Spacing,
+    TopSubtree, TopSubtreeBuilder,
 };
 use std::alloc::{AllocError, AllocFailed, Allocator};
 use std::error::Error;
@@ -19,7 +23,7 @@ use std::fmt;
 #[derive(Debug, Drop, PartialEq, Eq)]
 pub enum LexError {
     /// From this byte on the text is no token, or is a closing without its opening.
-    Fault(u32),
+    Fault(LexFault),
     OutOfMemory,
 }
 
@@ -31,7 +35,10 @@ impl fmt::Display for LexError {
 
     fn fmt<W: fmt::Write>(&self, f: &mut fmt::Formatter<W>) -> fmt::Result {
         match self {
-            LexError::Fault(offset) => write!(f, "cannot lex at {offset}"),
+            LexError::Fault(fault) => {
+                let offset = fault.offset;
+                write!(f, "cannot lex at {offset}")
+            }
             LexError::OutOfMemory => write!(f, "out of memory"),
         }
     }
@@ -45,7 +52,7 @@ impl From<LexFault> for LexError {
     ghost from_gives = { λ fault error. error ≡ errors.Fault fault.offset };
 
     fn from(fault: LexFault) -> LexError {
-        LexError::Fault(fault.offset)
+        LexError::Fault(fault)
     }
 }
 
@@ -70,6 +77,8 @@ fn add<A: Allocator + Copy>(
 {
     let span = token.span;
     match token.lexeme {
+        Lexeme::Lifetime { name, is_raw } => add_lifetime(builder, table, name, is_raw, span),
+        Lexeme::Doc { text, is_inner } => add_doc(builder, table, text, is_inner, span),
         Lexeme::Open(kind) => Ok(builder.open(kind, span)?),
         Lexeme::Close(kind) => Ok(close(builder, kind, span)?),
         Lexeme::Punct { char, spacing } => Ok(builder.push(Leaf::Punct(Punct {
@@ -98,6 +107,95 @@ fn add<A: Allocator + Copy>(
     }
 }
 
+// Adds a lifetime: a joint `'`, and the identifier after it.
+fn add_lifetime<A: Allocator + Copy>(
+    builder: &mut TopSubtreeBuilder<A>,
+    table: &mut SymbolTable<A>,
+    name: &str,
+    is_raw: IdentIsRaw,
+    span: Span,
+) -> Result<(), LexError> {
+    let middle = span.start.saturating_add(1);
+    let sym = table.intern(name)?;
+    builder.push(Leaf::Punct(Punct {
+        char: '\'',
+        spacing: Spacing::Joint,
+        span: file_span(span.file, span.start, middle),
+    }))?;
+    Ok(builder.push(Leaf::Ident(Ident {
+        sym,
+        is_raw,
+        span: file_span(span.file, middle, span.end),
+    }))?)
+}
+
+// Adds a punct with nothing right after it.
+fn add_punct<A: Allocator>(
+    builder: &mut TopSubtreeBuilder<A>,
+    char: char,
+    spacing: Spacing,
+    span: Span,
+) -> Result<(), LexError> {
+    Ok(builder.push(Leaf::Punct(Punct {
+        char,
+        spacing,
+        span,
+    }))?)
+}
+
+// Adds a doc comment as the attribute `#[doc = r".."]`, or `#![doc = r".."]` where it is of what is around it. All of its tokens
+// have the comment's span.
+fn add_doc<A: Allocator + Copy>(
+    builder: &mut TopSubtreeBuilder<A>,
+    table: &mut SymbolTable<A>,
+    text: &str,
+    is_inner: bool,
+    span: Span,
+) -> Result<(), LexError> {
+    add_punct(
+        builder,
+        '#',
+        if is_inner {
+            Spacing::Joint
+        } else {
+            Spacing::Alone
+        },
+        span,
+    )?;
+    if is_inner {
+        add_punct(builder, '!', Spacing::Alone, span)?;
+    }
+    builder.open(DelimiterKind::Bracket, span)?;
+    builder.push(Leaf::Ident(Ident {
+        sym: table.intern("doc")?,
+        is_raw: IdentIsRaw::No,
+        span,
+    }))?;
+    add_punct(builder, '=', Spacing::Alone, span)?;
+    builder.push(Leaf::Literal(Literal {
+        text_and_suffix: table.intern(text)?,
+        suffix_len: 0,
+        kind: LitKind::StrRaw(hashes_around(text)),
+        span,
+    }))?;
+    Ok(close(builder, DelimiterKind::Bracket, span)?)
+}
+
+// How many `#` a raw string of this text needs: one more than follow any `"` in it.
+fn hashes_around(text: &str) -> u8 {
+    let mut most = 0u8;
+    let mut count = 0u8;
+    for char in text.chars() {
+        count = match char {
+            '"' => 1,
+            '#' if count > 0 => count.saturating_add(1),
+            _ => 0,
+        };
+        most = most.max(count);
+    }
+    most
+}
+
 // Closes the innermost open group, if it is of that kind.
 fn close<A: Allocator>(
     builder: &mut TopSubtreeBuilder<A>,
@@ -113,7 +211,10 @@ fn close<A: Allocator>(
             builder.close(span);
             Ok(())
         }
-        _ => Err(LexFault { offset: span.start }),
+        _ => Err(LexFault {
+            offset: span.start,
+            wrong: Wrong::Closing,
+        }),
     }
 }
 
@@ -148,13 +249,12 @@ fn joined<A: Allocator + Copy>(
 /// Each closing closes a group of its own kind, and another is a fault, as is what isn't a token. Groups that are open at the end
 /// are closed there.
 ///
-/// The tokens are the project's own choice, near to Rust's: doc comments are comments, and prefixed strings, raw strings
-/// and byte literals are faults. It asks that the text is shorter than 2^32 bytes, as spans count them in 32 bits.
+/// The tokens are those of the sample dialect (`Dialect::Sample`). It asks that the text is shorter than 2^32 bytes, as spans count them in 32 bits.
 pub fn lex<A: Allocator + Copy>(alloc: A, text: &str, file: u32) -> Result<TopSubtree<A>, LexError>
     requires { length text.now < 2 ^ 32 }
     ensures made { IfOk result (IsMade file text.now) }
     ensures within { IfErr result (FaultsWithin (length text.now)) }
-    ensures exact { Lexes (trees_of file text.now) result }
+    ensures exact { Lexes (trees_of Sample file text.now) result }
 {
     lex_in(&mut SymbolTable::new(alloc), text, file)
 }
@@ -169,14 +269,35 @@ pub fn lex_in<A: Allocator + Copy>(
     requires { length text.now < 2 ^ 32 }
     ensures made { IfOk result (IsMade file text.now) }
     ensures within { IfErr result (FaultsWithin (length text.now)) }
-    ensures exact { Lexes (trees_of file text.now) result }
+    ensures exact { Lexes (trees_of Sample file text.now) result }
+{
+    lex_as(Dialect::Sample, table, text, file)
+}
+
+/// The same in that dialect.
+pub fn lex_as<A: Allocator + Copy>(
+    dialect: Dialect,
+    table: &mut SymbolTable<A>,
+    text: &str,
+    file: u32,
+) -> Result<TopSubtree<A>, LexError>
+    requires { length text.now < 2 ^ 32 }
+    ensures made { IfOk result (IsMade file text.now) }
+    ensures within { IfErr result (FaultsWithin (length text.now)) }
+    ensures exact { Lexes (trees_of dialect file text.now) result }
 {
     let len = text.len() as u32;
-    let mut scanner = Scanner::new(text, file);
+    let mut scanner = Scanner::new(dialect, text, file);
     let whole = Delimiter::invisible_spanned(file_span(file, 0, len));
     let mut builder = TopSubtreeBuilder::new(table.alloc(), whole)?;
     'tokens: while let Some(token) = scanner.token()? {
         add(&mut builder, table, token)?;
+    }
+    if dialect != Dialect::Sample && builder.open_kind().is_some() {
+        return Err(LexError::Fault(LexFault {
+            offset: len,
+            wrong: Wrong::Open,
+        }));
     }
     Ok(finish(builder, file_span(file, len, len)))
 }

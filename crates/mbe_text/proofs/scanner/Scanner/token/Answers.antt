@@ -36,7 +36,7 @@ returns-clause-exact c =
     let rest = chars c.lexeme.new.self.rest.now in
     let same = c.in_ok-trivia.ensures.on.1 in
     let first = c.in-Some.ensures.exact in
-    is_next old.file old.total (chars old.rest.now) left c.in-Some.char first.0 c.in_ok-lexeme.lexeme rest
+    is_next old.dialect old.file old.total (chars old.rest.now) left c.in-Some.char first.0 c.in_ok-lexeme.lexeme rest
     c.file_span-span.result _ _
     c.in_ok-trivia.ensures.exact first.1
     (ap (λ (n : ℕ). read_shape n left) (sym same) ∙ c.in_ok-lexeme.ensures.exact first.0 first.1)
