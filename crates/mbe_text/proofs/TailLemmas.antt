@@ -1,18 +1,22 @@
 -- What the readers leave is what is left of the text after some characters.
-use Rattle.std.proofs.Common.{◌≡◌, ℕ, zero, suc, ◌==◌, ◌+◌, ◌-◌, ◌*◌, ◌≤◌, min, not, ◌&&◌, ◌||◌, nat_lt, Bool, true, false, List, [], ◌∷◌, ◌++◌, length, take, drop, refl, sym, ap, ◌∙◌, arith, subst, if◌then◌else◌, Ok, Err, rules, chars, encode_utf8_all, IsUtf8, Bor, Result, IfOk, IfErr, codes}
-use Rattle.std.proofs.Common.{length-append, append_assoc, drop-drop}
-use Rattle.std.proofs.lemmas.Str.{chars-append}
-use Rattle.std.proofs.Math.Seq.{take-append_seam, drop-append_seam}
+use Rattle.std.proofs.Common.{◌≡◌, ℕ, zero, suc, ◌==◌, ◌+◌, ◌-◌, ◌<◌, ◌≤◌, not, ◌&&◌, ◌||◌, nat_lt, Bool, true, false, List, [], ◌∷◌, ◌++◌, length, take, drop, refl, sym, ap, ◌∙◌, arith, subst, if◌then◌else◌, Ok, Err, chars, encode_utf8_all, IsUtf8, Bor, IfOk, codes}
+use Rattle.std.proofs.Common.{length-append, append_assoc, drop-drop, length-drop, Option, Some, None}
+use Rattle.std.specs.Prelude.{unwrap_or}
+use Rattle.std.specs.Str.{IsCharBoundary}
+use Rattle.std.specs.Str.Pattern.{GetsRange}
+use Rattle.mbe_text.proofs.Reading.{before_rest}
+use Rattle.std.proofs.lemmas.Str.{chars-append, encode_ascii, IsUtf8-append, IsCharBoundary-from_drop, IsCharBoundary-end}
+use Rattle.std.proofs.lemmas.Bool.Decides.{nat_tests}
+use Rattle.std.proofs.Math.Seq.{take-append_seam, drop-append_seam, take-length}
 use Rattle.mbe_text.specs.Ends.{IsEnd}
 use Rattle.mbe_text.specs.Extents.{front}
 use Rattle.std.specs.Char.{digit_value, char_set_contains}
 use Rattle.mbe_text.specs.declared.characters.Class.{Class}
-use Rattle.mbe_text.specs.declared.characters.Class.TheVariants.{Blank}
+use Rattle.mbe_text.specs.declared.characters.Class.TheVariants.{Blank, Hash}
 use Rattle.mbe_text.specs.declared.escapes.Quoted.{Quoted}
-use Rattle.mbe_text.specs.declared.wrong.Fault.{Fault}
 use Rattle.mbe_text.specs.declared.wrong.Wrong.{Wrong}
-use Rattle.mbe_text.specs.Characters.{has, past, low_line, backslash}
-use Rattle.mbe_text.specs.Escapes.{Left, is_hex, is_c, is_bytes, is_single, is_scalar, left_seen, past_second, past_hex, past_value, past_digits, past_braces, past_unicode, past_escape, past_plain, past_unit, check_string}
+use Rattle.mbe_text.specs.Characters.{has, past, are_ascii, bytes_before, low_line, backslash}
+use Rattle.mbe_text.specs.Escapes.{Left, is_hex, is_c, is_bytes, is_single, is_scalar, past_second, past_hex, past_value, past_digits, past_braces, past_unicode, past_escape, past_plain, past_unit, check_string}
 
 -- what is left of a text after some characters
 pub record Tail (cs rest : List ℕ) : Type 0 where
@@ -41,14 +45,21 @@ past_tail k (c ∷ cs) = elim (has k c) as (λ b. Tail (c ∷ cs) (if b then pas
   | false ↦ here (c ∷ cs)
 ]
 
+pub end_here : (a : List ℕ) → IsEnd a a
+end_here a =
+    let none : 0 ≡ length a - length a = omega arith in
+    (omega arith, ap (λ (n : ℕ). drop n a) none)
+
 -- an end of an end
 pub end_on : (a b c : List ℕ) → IsEnd a b → IsEnd b c → IsEnd a c
 end_on a b c p q =
     let h = p.0 in
     let k = q.0 in
-    let n : (length a - length b) + (length b - length c) ≡ length a - length c = omega arith in
-    (omega arith, q.1 ∙ (ap (λ (l : List ℕ). drop (length b - length c) l) p.1
-    ∙ (drop-drop (length b - length c) (length a - length b) a ∙ ap (λ (m : ℕ). drop m a) n)))
+    let n : (length a - length b) + (length b - length c) ≡ length a - length c = omega arith in (
+      omega arith,
+      q.1 ∙ (ap (λ (l : List ℕ). drop (length b - length c) l) p.1
+          ∙ (drop-drop (length b - length c) (length a - length b) a ∙ ap (λ (m : ℕ). drop m a) n)),
+    )
 
 -- ---- escapes
 
@@ -155,3 +166,66 @@ front_chars text end content u v w e =
     omega (arith, ap (λ (l : List ℕ). length l) all, length-append (chars content) (chars end)) in
     sym (ap (λ (k : ℕ). take k (chars text)) n
     ∙ (ap (λ (l : List ℕ). take (length (chars content)) l) all ∙ take-append_seam (chars content) (chars end)))
+
+-- ---- the `#` of a raw string
+
+hash_small : (c : ℕ) → has Hash c ≡ true → nat_lt c 128 ≡ true
+hash_small c h = grind (arith, nat_tests)
+
+hashes_step : (c : ℕ) (cs : List ℕ) (b : Bool) → has Hash c ≡ b → are_ascii (front cs (past Hash cs)) ≡ true
+    → are_ascii (front (c ∷ cs) (if b then past Hash cs else c ∷ cs)) ≡ true
+hashes_step c cs true h i =
+    let t = past_tail Hash cs in
+    let n : length (c ∷ cs) - length (past Hash cs) ≡ suc (length cs - length (past Hash cs)) =
+    omega (arith, ap (λ (l : List ℕ). length l) t.is, length-append t.own (past Hash cs)) in
+    ap (λ (k : ℕ). are_ascii (take k (c ∷ cs))) n ∙ rw (hash_small c h) i
+hashes_step c cs false h i =
+    let n : length (c ∷ cs) - length (c ∷ cs) ≡ 0 = omega arith in
+    ap (λ (k : ℕ). are_ascii (take k (c ∷ cs))) n
+
+hashes_small : (cs : List ℕ) → are_ascii (front cs (past Hash cs)) ≡ true
+hashes_small [] = refl
+hashes_small (c ∷ cs) = hashes_step c cs (has Hash c) refl (hashes_small cs)
+
+encodes_small : (cs : List ℕ) → are_ascii cs ≡ true → encode_utf8_all cs ≡ cs
+encodes_small [] h = refl
+encodes_small (c ∷ cs) h =
+    let small : c < 128 = grind (arith, nat_tests) in
+    let rest : are_ascii cs ≡ true = grind (arith, nat_tests) in
+    rw (encode_ascii c small, encodes_small cs rest) refl
+
+pub hashes_ascii : (text rest own : List ℕ) → rest ≡ past Hash text → own ≡ bytes_before text rest → are_ascii own ≡ true
+hashes_ascii text rest own e f =
+    let same : own ≡ front text (past Hash text) = f ∙ (ap (bytes_before text) e ∙ encodes_small (front text (past Hash text)) (hashes_small text)) in
+    ap are_ascii same ∙ hashes_small text
+
+-- ---- a fault between quotes
+
+got_rest : (body : List ℕ) (start j : ℕ) (got other : Bor (List ℕ)) (r : Option (Bor (List ℕ))) → IsUtf8 body
+    → start ≤ length body → j ≡ length body → IsUtf8 (drop start body) → GetsRange body start j r → got ≡ unwrap_or r other
+    → (rest : List ℕ) → drop start body ≡ rest → chars got.now ≡ chars rest
+got_rest body start j got other None u le k text g h rest e =
+    absurd (g (omega (arith, le, k)) (IsCharBoundary-from_drop body start le text)
+    (subst (IsCharBoundary body) (sym k) (IsCharBoundary-end body)))
+got_rest body start j got other (Some x) u le k text g h rest e =
+    let l : j - start ≡ length (drop start body) = omega (arith, k, length-drop start body) in
+    ap (λ (b : Bor (List ℕ)). chars b.now) h ∙ ap chars (g.0 ∙ (ap (λ (m : ℕ). take m (drop start body)) l
+    ∙ (take-length (drop start body) ∙ e)))
+
+-- the bytes from where a fault stands in what is before an end
+pub got_inside : (body end at content : List ℕ) (start j : ℕ) (got other : Bor (List ℕ)) (r : Option (Bor (List ℕ)))
+    → IsUtf8 body → IsUtf8 end → IsUtf8 at → start ≡ length body - length end - length at → j ≡ length body
+    → GetsRange body start j r → got ≡ unwrap_or r other → body ≡ content ++ end → IsEnd content at
+    → chars got.now ≡ chars at ++ chars end
+got_inside body end at content start j got other r u v w s k g h e p =
+    let own : List ℕ = take (length content - length at) content in
+    let parts : content ≡ own ++ at = before_rest content at p.1 in
+    let whole : body ≡ own ++ (at ++ end) = e ∙ (ap (λ (l : List ℕ). l ++ end) parts ∙ append_assoc own at end) in
+    let a = ap (λ (l : List ℕ). length l) parts in
+    let b = ap (λ (l : List ℕ). length l) e in
+    let n : start ≡ length own = omega (arith, a, b, length-append own at, length-append content end) in
+    let rest : drop start body ≡ at ++ end =
+    ap (λ (m : ℕ). drop m body) n ∙ (ap (λ (l : List ℕ). drop (length own) l) whole ∙ drop-append_seam own (at ++ end)) in
+    let text : IsUtf8 (drop start body) = subst IsUtf8 (sym rest) (IsUtf8-append at end w v) in
+    let le : start ≤ length body = omega arith in
+    got_rest body start j got other r u le k text g h (at ++ end) rest ∙ chars-append at end w

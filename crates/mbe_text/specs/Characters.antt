@@ -3,7 +3,7 @@ use Rattle.std.specs.Prelude.{ℕ, ◌==◌, ◌-◌, nat_lt, Bool, true, false,
 use Rattle.std.specs.Char.{is_ascii_digit, is_ascii_hexdigit, char_set_contains}
 use Rattle.unicode_ident.specs.Ident.{is_xid_start, is_xid_continue}
 use Rattle.mbe_text.specs.declared.characters.Class.{Class}
-use Rattle.mbe_text.specs.declared.characters.Class.TheVariants.{Blank, InLine, IdentStart, IdentContinue, Decimal, Digit, HexDigit, Exponent, Sign, Punct, Hash}
+use Rattle.mbe_text.specs.declared.characters.Class.TheVariants.{Blank, Space, InLine, IdentStart, IdentContinue, Decimal, Digit, HexDigit, Exponent, Sign, Punct, Hash}
 
 -- some characters by their codes
 abbrev pub quotation_mark : ℕ
@@ -24,9 +24,14 @@ backslash = 92
 abbrev pub low_line : ℕ
 low_line = 95
 
+-- Unicode's white space of patterns, which is Rust's
+abbrev pub pattern_white_space : List ℕ
+pattern_white_space = 9 ∷ (10 ∷ (11 ∷ (12 ∷ (13 ∷ (32 ∷ (133 ∷ (8206 ∷ (8207 ∷ (8232 ∷ (8233 ∷ []))))))))))
+
 -- what a character is
 abbrev pub has : Class → ℕ → Bool
 has Blank c = char_set_contains (codes " \t\r\n") c
+has Space c = char_set_contains pattern_white_space c
 has InLine c = not (char_set_contains (codes "\n") c)
 has IdentStart c = is_xid_start c || c == low_line
 has IdentContinue c = is_xid_continue c

@@ -1,10 +1,9 @@
 -- Whole Rust: which token stands at a text, after white space and comments.
 use Rattle.std.specs.Borrow.{Bor}
-use Rattle.std.specs.Prelude.{chars, ℕ, ◌==◌, not, ◌&&◌, ◌||◌, nat_le, if◌then◌else◌, Bool, true, false, Option, Some, None, List, [], ◌∷◌, ◌++◌, length, drop, codes, encode_utf8_all, bytes_eq, Result, Ok, Err, ◌+◌, unwrap_or}
+use Rattle.std.specs.Prelude.{chars, ℕ, ◌==◌, not, ◌&&◌, ◌||◌, nat_le, if◌then◌else◌, Bool, true, false, Option, Some, None, List, [], ◌∷◌, ◌++◌, length, drop, codes, bytes_eq, Result, Ok, Err, ◌+◌, unwrap_or}
 use Rattle.std.specs.Char.{char_set_contains}
 use Rattle.mbe_tt.specs.Trees.Editions.{at_least_2021, at_least_2024}
 use Rattle.mbe_tt.specs.declared.span.Edition.{Edition}
-use Rattle.mbe_tt.specs.declared.tt.IdentIsRaw.{IdentIsRaw}
 use Rattle.mbe_tt.specs.declared.tt.IdentIsRaw.TheVariants as raw
 use Rattle.mbe_tt.specs.declared.tt.LitKind.{LitKind}
 use Rattle.mbe_tt.specs.declared.tt.LitKind.TheVariants as kinds
@@ -347,7 +346,7 @@ doc_until inner body end rest = elim (from_return (front body end)) [
 ]
 
 abbrev pub block_doc : List ℕ → Token
-block_doc cs = elim (from_comment_end 0 (drop 3 cs)) [
+block_doc cs = elim (from_comment_end false 0 (drop 3 cs)) [
   | None ↦ Err (wrong.OpenComment, cs)
   | Some end ↦ doc_until (is_inner cs) (drop 3 cs) end (drop 2 end)
 ]

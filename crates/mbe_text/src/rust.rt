@@ -3,7 +3,7 @@
 //
 // A trace of `br#"a"#u8 'x`: `br` and a `#` begin a raw string, of which `raw` passes `#"a"#`, and `literal` the suffix `u8`. After
 // the space, `'` and an `x` without a `'` after it are a lifetime.
-ghost use Rattle.std.specs.Prelude.{◌≡◌, ◌+◌, ◌<◌, ◌≤◌, ◌++◌, chars, drop, length, List, ℕ, Ok, IfOk, IfErr, IfSome, IsTrue};
+ghost use Rattle.std.specs.Prelude.{◌≡◌, ◌+◌, ◌<◌, ◌≤◌, ◌++◌, chars, drop, length, List, ℕ, Ok, IfOk, IfErr, IfSome, IsTrue, false};
 ghost use Rattle.mbe_text.specs.Characters.{bytes_before, are_ascii};
 ghost use Rattle.mbe_text.specs.Characters as characters;
 ghost use Rattle.mbe_text.specs.declared.characters.Class.TheVariants as classes;
@@ -13,7 +13,14 @@ ghost use Rattle.mbe_text.specs.Escapes.{fault_seen};
 ghost use Rattle.mbe_text.specs.Extents as extents;
 ghost use Rattle.mbe_text.specs.Rust as spec;
 ghost use Rattle.mbe_text.specs.Rust.{
-    token_seen, seen, read_stop, read_left, maybe_seen, passed_seen, passed_stop, passed_left,
+  token_seen,
+  seen,
+  read_stop,
+  read_left,
+  maybe_seen,
+  passed_seen,
+  passed_stop,
+  passed_left,
 };
 
 use crate::characters::{Class, begins, begins_with, past, past_front, past_one, split_first};
@@ -118,15 +125,15 @@ fn identifier(edition: Edition, text: &str) -> Read<'_>
 // ---- quotes
 
 // A fault of what stands between quotes, in the text that goes on after it to this end.
-fn inside<'t>(body: &'t str, end: &str, it: Fault<'_>) -> Fault<'t>
-    requires { length it.at.entry.now + length end.now ≤ length body.now }
-    ensures exact { (content : List ℕ) → body.now ≡ content ++ end.now → IsEnd content it.at.now
-        → fault_seen result ≡ spec.within (chars end.now) (fault_seen it) }
+fn inside<'t>(body: &'t str, end: &str, wrong: Wrong, at: &str) -> Fault<'t>
+    requires { length at.now + length end.now ≤ length body.now }
+    ensures exact { (content : List ℕ) → body.now ≡ content ++ end.now → IsEnd content at.now
+        → fault_seen result ≡ spec.within (chars end.now) (wrong, chars at.now) }
     ensures end { IsEnd body.now result.at.now }
 {
-    let start = body.len() - end.len() - it.at.len();
+    let start = body.len() - end.len() - at.len();
     Fault {
-        wrong: it.wrong,
+        wrong,
         at: body.get(start..).unwrap_or(""),
     }
 }
@@ -141,7 +148,7 @@ fn string_until<'t>(kind: LitKind, quoted: Quoted, body: &'t str, end: &'t str) 
     let content = front(body, end);
     match check_string(content, quoted) {
         Ok(()) => literal(kind, content, tail(end)),
-        Err(it) => Err(inside(body, end, it)),
+        Err(it) => Err(inside(body, end, it.wrong, it.at)),
     }
 }
 
@@ -178,7 +185,7 @@ fn char_until<'t>(
             Some(_) => fault!(SeveralChars, text),
             None => literal(kind, content, tail(end)),
         },
-        Err(it) => Err(inside(body, end, it)),
+        Err(it) => Err(inside(body, end, it.wrong, it.at)),
     }
 }
 
@@ -187,6 +194,7 @@ fn char<'t>(kind: LitKind, quoted: Quoted, text: &'t str, quote: &'t str) -> Rea
     ensures exact { token_seen result ≡ spec.char kind quoted (chars text.now) (chars quote.now) }
     ensures end { IsEnd text.now quote.now → IsEnd text.now (read_stop result) }
     ensures past { 0 < length quote.now → length (read_left result) < length quote.now }
+    ensures rest { length (read_left result) ≤ length quote.now }
 {
     let body = tail(quote);
     match char_end(body) {
@@ -208,13 +216,7 @@ fn raw_kind(quoted: Quoted, hashes: u8) -> LitKind
 }
 
 // A raw string between its quotes, and what is after its last `#`.
-fn raw_until<'t>(
-    quoted: Quoted,
-    hashes: u8,
-    body: &'t str,
-    end: &'t str,
-    rest: &'t str,
-) -> Read<'t>
+fn raw_until<'t>(quoted: Quoted, hashes: u8, body: &'t str, end: &'t str, rest: &'t str) -> Read<'t>
     requires end { IsEnd body.now end.now }
     requires rest { chars rest.now ≡ drop (hashes + 1) (chars end.now) }
     ensures exact { token_seen result ≡ spec.raw_until quoted hashes (chars body.now) (chars end.now) }
@@ -224,7 +226,7 @@ fn raw_until<'t>(
     let content = front(body, end);
     match check_raw(content, quoted) {
         Ok(()) => literal(raw_kind(quoted, hashes), content, rest),
-        Err(it) => Err(inside(body, end, it)),
+        Err(it) => Err(inside(body, end, it.wrong, it.at)),
     }
 }
 
@@ -598,7 +600,7 @@ fn number(text: &str) -> Read<'_>
 
 // From the `*/` on that ends a block comment, whose text stands here.
 fn comment_end(text: &str) -> Option<&str>
-    ensures exact { maybe_seen result ≡ extents.from_comment_end 0 (chars text.now) }
+    ensures exact { maybe_seen result ≡ extents.from_comment_end false 0 (chars text.now) }
     ensures end { IfSome result (λ end. IsEnd text.now end.now) }
 {
     let mut rest = text;
@@ -608,14 +610,13 @@ fn comment_end(text: &str) -> Option<&str>
         if begins_with(rest, "/*") {
             depth += 1;
             rest = tail(after);
-        } else if begins_with(rest, "*/") {
-            if depth == 0 {
-                return Some(rest);
-            }
+        } else if !begins_with(rest, "*/") {
+            rest = after;
+        } else if depth == 0 {
+            return Some(rest);
+        } else {
             depth -= 1;
             rest = tail(after);
-        } else {
-            rest = after;
         }
     }
 }
@@ -656,14 +657,7 @@ fn doc_until<'t>(is_inner: bool, body: &'t str, end: &'t str, rest: &'t str) -> 
 {
     let text = front(body, end);
     match from_return(text) {
-        Some(at) => Err(inside(
-            body,
-            end,
-            Fault {
-                wrong: Wrong::BareReturn,
-                at,
-            },
-        )),
+        Some(at) => Err(inside(body, end, Wrong::BareReturn, at)),
         None => Ok((Lexeme::Doc { text, is_inner }, rest)),
     }
 }

@@ -1,4 +1,3 @@
-use Rattle.std.proofs.Common.{sym, ap, ◌∙◌}
 use Rattle.mbe_text.proofs.TailLemmas.{front_chars}
 use Rattle.mbe_text.proofs.escapes.front.Goals as goal
 

@@ -1,4 +1,4 @@
-use Rattle.std.proofs.Common.{◌≡◌, ◌+◌, ◌≤◌, chars, length}
+use Rattle.std.proofs.Common.{◌≡◌, ◌+◌, ◌≤◌, false, chars, length}
 use denote.Text.{Utf8}
 use denote.Shadow.{shadow}
 use Rattle.mbe_text.specs.Ends.{IsEnd}
@@ -8,7 +8,7 @@ use Rattle.mbe_text.proofs.rust.comment_end.Given as goal
 abbrev pub invariant-chars : goal.invariant-chars
 invariant-chars l = record {
   utf8 : shadow (Utf8 l.rest);
-  exact : from_comment_end l.depth (chars l.rest) ≡ from_comment_end 0 (chars l.text);
+  exact : from_comment_end false l.depth (chars l.rest) ≡ from_comment_end false 0 (chars l.text);
   end : IsEnd l.text l.rest;
   few : l.depth + length l.rest ≤ length l.text;
 }

@@ -1,7 +1,6 @@
 use Rattle.std.proofs.Common.{◌≡◌, chars, length}
 use denote.Text.{Utf8}
 use denote.Shadow.{shadow}
-use Rattle.mbe_text.specs.Ends.{IsEnd}
 use Rattle.mbe_text.specs.Rust as spec
 use Rattle.mbe_text.proofs.rust.has_digit.Given as goal
 
