@@ -1,6 +1,7 @@
 // Text to trees, and trees to text.
 ghost use Rattle.std.specs.Prelude.{◌<◌, ◌^◌, length};
 
+use mbe_text::dialect::Dialect;
 use mbe_text::lexer::{LexError, lex, lex_in};
 use mbe_text::printing::print_tree;
 use mbe_text::scanner::{LexFault, Scanner};
@@ -47,7 +48,7 @@ pub fn trees_of(
 pub fn end_of_second(text: &str) -> Result<u32, LexFault>
     requires { length text.now < 2 ^ 32 }
 {
-    let mut scanner = Scanner::new(text, 7);
+    let mut scanner = Scanner::new(Dialect::Sample, text, 7);
     scanner.token()?;
     scanner.token()?;
     Ok(scanner.offset())

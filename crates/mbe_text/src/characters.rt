@@ -10,6 +10,8 @@ use unicode_ident::{is_xid_continue, is_xid_start};
 #[derive(Clone, Copy)]
 pub(crate) enum Class {
     Blank,
+    // White space of Rust: Unicode's `Pattern_White_Space`.
+    Space,
     // Any but a line feed.
     InLine,
     IdentStart,
@@ -32,6 +34,7 @@ impl Class {
     {
         match self {
             Class::Blank => matches!(char, ' ' | '\t' | '\r' | '\n'),
+            Class::Space => is_space(char),
             Class::InLine => char != '\n',
             Class::IdentStart => is_xid_start(char) || char == '_',
             Class::IdentContinue => is_xid_continue(char),
@@ -44,6 +47,22 @@ impl Class {
             Class::Hash => char == '#',
         }
     }
+}
+
+fn is_space(char: char) -> bool {
+    matches!(
+        char,
+        ' ' | '\t'
+            | '\n'
+            | '\u{b}'
+            | '\u{c}'
+            | '\r'
+            | '\u{85}'
+            | '\u{200e}'
+            | '\u{200f}'
+            | '\u{2028}'
+            | '\u{2029}'
+    )
 }
 
 fn is_punct(char: char) -> bool
