@@ -64,9 +64,13 @@ pub record Counts (dialect : Dialect) (total : ℕ) (from cs : List ℕ) : Type 
   pub fits : length cs ≤ suc n
   pub same : past_blanks dialect total (length from) from ≡ past_blanks dialect total (suc n) cs
 
+same_both_ways : {A : Type 0} (b : Bool) (x : A) → (if b then x else x) ≡ x
+same_both_ways true x = refl
+same_both_ways false x = refl
+
 blanks_end : (dialect : Dialect) (total n : ℕ) → past_blanks dialect total n [] ≡ Ok []
 blanks_end dialect total zero = refl
-blanks_end dialect total (suc n) = refl
+blanks_end dialect total (suc n) = same_both_ways (is_doc dialect []) (Ok [])
 
 counts : (dialect : Dialect) (total : ℕ) (from cs : List ℕ) → Passes dialect total from cs → Counts dialect total from cs
 counts dialect total from [] p =
@@ -112,10 +116,6 @@ blank_there dialect dialect' c r v d e is = ap (λ (k : Dialect). has (blank k) 
 pub doc_there : (dialect dialect' : Dialect) (cs : List ℕ) (r v : Bool) → dialect' ≡ dialect → r ≡ is_doc dialect' cs → r ≡ v
     → is_doc dialect cs ≡ v
 doc_there dialect dialect' cs r v d e is = ap (λ (k : Dialect). is_doc k cs) (sym d) ∙ (sym e ∙ is)
-
-same_both_ways : {A : Type 0} (b : Bool) (x : A) → (if b then x else x) ≡ x
-same_both_ways true x = refl
-same_both_ways false x = refl
 
 -- nothing is left
 pub passes_end : (dialect : Dialect) (total : ℕ) (from cs : List ℕ) → Passes dialect total from cs → cs ≡ [] → past_blanks dialect total (length from) from ≡ Ok cs

@@ -190,7 +190,7 @@ reached_more dialect file text left left' b c dialect' file' total' t p same f n
           ∙ ap (λ (l : List ℕ). levels_of dialect file total (p.n - 1) c l) (sym next.3)));
     }
 
-closing_at : ℕ → Result Levels LexFault
+abbrev closing_at : ℕ → Result Levels LexFault
 closing_at n = let fault : LexFault = record { offset = n; wrong = wrong.Closing } in Err fault
 
 -- a closing that doesn't fit
@@ -214,7 +214,7 @@ reached_astray dialect file text left left' b dialect' file' total' t p same f n
     ap (λ (x : Item). (item_span x).start) item
     ∙ ap (λ (s : Span). s.start) (span_of_shape (span_of_taken file total taken) taken.shape) in
     p.same ∙ (ap (λ (k : ℕ). levels_of dialect file total k b (chars left)) m
-    ∙ (levels_astray dialect file total (p.n - 1) b (chars left) taken is after ∙ ap (λ (n : ℕ). closing_at n) (sym start)))
+    ∙ (levels_astray dialect file total (p.n - 1) b (chars left) taken is after ∙ ap closing_at (sym start)))
 
 -- no token
 pub reached_fault : (dialect : Dialect) (file : ℕ) (text left : List ℕ) (b : Levels) (dialect' : Dialect) (total' : ℕ) (fault : LexFault) → Reaches dialect file text left b
@@ -247,7 +247,7 @@ trees_lexed dialect file text b span t e closed is h = rw (e, trees_of, closed) 
 
 pub trees_unclosed : (dialect : Dialect) (file : ℕ) (text : List ℕ) (b : Levels) → levels_at_end dialect file text ≡ Ok b
     → is_unclosed dialect b ≡ true → trees_of dialect file text ≡ Err (record { offset = length text; wrong = wrong.Open })
-trees_unclosed dialect file text b e open = rw (e, trees_of, open) refl
+trees_unclosed dialect file text b e more = rw (e, trees_of, more) refl
 
 pub trees_fault : (dialect : Dialect) (file : ℕ) (text : List ℕ) (fault : LexFault)
     → levels_at_end dialect file text ≡ Err fault → trees_of dialect file text ≡ Err fault

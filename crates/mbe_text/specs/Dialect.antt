@@ -1,5 +1,5 @@
 -- Which token stands at a text: a table of cases for each dialect. Another dialect would have other cases of the same parts.
-use Rattle.std.specs.Prelude.{ℕ, if◌then◌else◌, List, codes, Some, None, Ok, Err}
+use Rattle.std.specs.Prelude.{ℕ, if◌then◌else◌, List, codes, Option, Some, None, Ok, Err}
 use Rattle.mbe_tt.specs.declared.tt.LitKind.TheVariants.{Str}
 use Rattle.mbe_text.specs.declared.characters.Class.TheVariants.{IdentStart, Decimal}
 use Rattle.mbe_text.specs.declared.dialect.Dialect.{Dialect}
@@ -21,13 +21,14 @@ read_sample total cs =
     else if begins_with (codes "'") cs then read_quote total cs
     else read_sign total cs
 
--- the same token, with its fault by the byte
-abbrev pub placed : ℕ → rust.Token → Read
-placed total (Ok read) = Ok read
-placed total (Err at) = Err (fault_at at.0 total at.1)
+-- that token with its fault by the byte, or else a sign
+abbrev pub or_sign : ℕ → List ℕ → Option rust.Token → Read
+or_sign total cs None = read_sign total cs
+or_sign total cs (Some (Ok read)) = Ok read
+or_sign total cs (Some (Err at)) = Err (fault_at at.0 total at.1)
 
 abbrev pub read_rust : Edition → ℕ → List ℕ → Read
-read_rust edition total cs = elim (rust.read_rust edition cs) [ None ↦ read_sign total cs | Some token ↦ placed total token ]
+read_rust edition total cs = or_sign total cs (rust.read_rust edition cs)
 
 abbrev pub read_shape : Dialect → ℕ → List ℕ → Read
 read_shape Sample total cs = read_sample total cs

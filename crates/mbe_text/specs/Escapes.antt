@@ -1,6 +1,6 @@
 -- What stands between the quotes of Rust's literals: characters and escapes, one after another.
 use Rattle.std.specs.Borrow.{Bor}
-use Rattle.std.specs.Prelude.{◌≡◌, ⊤, chars, ℕ, suc, ◌==◌, ◌+◌, ◌*◌, nat_lt, not, ◌&&◌, ◌||◌, Bool, true, false, if◌then◌else◌, Option, Some, None, List, [], ◌∷◌, codes, Result, Ok, Err, zero}
+use Rattle.std.specs.Prelude.{chars, ℕ, zero, suc, ◌==◌, ◌+◌, ◌-◌, ◌*◌, min, nat_lt, not, ◌&&◌, ◌||◌, Bool, true, false, if◌then◌else◌, List, [], ◌∷◌, length, codes, Result, Ok, Err}
 use Rattle.std.specs.Char.{digit_value, char_set_contains}
 use Rattle.mbe_text.specs.declared.characters.Class.TheVariants.{Blank}
 use Rattle.mbe_text.specs.declared.escapes.Quoted.{Quoted}
@@ -9,7 +9,6 @@ use Rattle.mbe_text.specs.declared.wrong.Fault.{Fault}
 use Rattle.mbe_text.specs.declared.wrong.Wrong.{Wrong}
 use Rattle.mbe_text.specs.declared.wrong.Wrong.TheVariants as wrong
 use Rattle.mbe_text.specs.Characters.{past, backslash, low_line}
-use Rattle.mbe_text.specs.Ends.{IsEnd}
 
 -- What is wrong, and the text from there on.
 abbrev pub At : Type 0
@@ -19,28 +18,21 @@ At = Wrong × List ℕ
 abbrev pub Left : Type 0
 Left = Result (List ℕ) At
 
--- what a call found wrong
+-- a text is right
+abbrev pub Checked : Type 0
+Checked = Result (Unit {0}) At
+
+-- what calls return, as characters
 abbrev pub fault_seen : Fault → At
 fault_seen fault = (fault.wrong, chars fault.at.now)
 
--- that is what a call left or found wrong
-abbrev pub Leaves : Left → Result (Bor (List ℕ)) Fault → Type 0
-Leaves left (Ok rest) = left ≡ Ok (chars rest.now)
-Leaves left (Err fault) = left ≡ Err (fault_seen fault)
+abbrev pub left_seen : Result (Bor (List ℕ)) Fault → Left
+left_seen (Ok rest) = Ok (chars rest.now)
+left_seen (Err fault) = Err (fault_seen fault)
 
--- both are ends of a text
-abbrev pub LeavesEnd : List ℕ → Result (Bor (List ℕ)) Fault → Type 0
-LeavesEnd text (Ok rest) = IsEnd text rest.now
-LeavesEnd text (Err fault) = IsEnd text fault.at.now
-
--- that is what a call found wrong
-abbrev pub Checks : Result (Unit {0}) At → Result (Unit {0}) Fault → Type 0
-Checks checked (Ok u) = checked ≡ Ok tt
-Checks checked (Err fault) = checked ≡ Err (fault_seen fault)
-
-abbrev pub ChecksEnd : List ℕ → Result (Unit {0}) Fault → Type 0
-ChecksEnd text (Ok u) = ⊤
-ChecksEnd text (Err fault) = IsEnd text fault.at.now
+abbrev pub checked_seen : Result (Unit {0}) Fault → Checked
+checked_seen (Ok _) = Ok tt
+checked_seen (Err fault) = Err (fault_seen fault)
 
 -- of one character
 abbrev pub is_single : Quoted → Bool
@@ -70,16 +62,20 @@ is_hex c = nat_lt (digit_value c) 16
 
 -- ---- escapes, each from what is after its letters on; `from` begins with its `\`
 
+-- the second digit of a `\x`, after one of that value
+abbrev pub past_second : Quoted → List ℕ → ℕ → List ℕ → Left
+past_second q from high [] = Err (wrong.ShortHexEscape, from)
+past_second q from high (c ∷ cs) =
+    if not (is_hex c) then Err (wrong.HexEscapeDigit, c ∷ cs)
+    else if nat_lt 7 high && not (is_bytes q || is_c q) then Err (wrong.LargeHexEscape, from)
+    else if is_c q && (high == 0 && digit_value c == 0) then Err (wrong.Nul, from)
+    else Ok cs
+
 -- `\x`, and two digits
 abbrev pub past_hex : Quoted → List ℕ → List ℕ → Left
 past_hex q from [] = Err (wrong.ShortHexEscape, from)
-past_hex q from (c ∷ []) = if is_hex c then Err (wrong.ShortHexEscape, from) else Err (wrong.HexEscapeDigit, c ∷ [])
-past_hex q from (c ∷ (d ∷ cs)) =
-    if not (is_hex c) then Err (wrong.HexEscapeDigit, c ∷ (d ∷ cs))
-    else if not (is_hex d) then Err (wrong.HexEscapeDigit, d ∷ cs)
-    else if nat_lt 7 (digit_value c) && not (is_bytes q || is_c q) then Err (wrong.LargeHexEscape, from)
-    else if is_c q && (digit_value c == 0 && digit_value d == 0) then Err (wrong.Nul, from)
-    else Ok cs
+past_hex q from (c ∷ cs) =
+    if is_hex c then past_second q from (digit_value c) cs else Err (wrong.HexEscapeDigit, c ∷ cs)
 
 -- a code that a character has
 abbrev pub is_scalar : ℕ → Bool
@@ -94,13 +90,14 @@ past_value q from value count cs =
     else if is_c q && value == 0 then Err (wrong.Nul, from)
     else Ok cs
 
--- its digits after the first ones, of that value and number, and its `}`
+-- Its digits after the first ones, of that value and number, and its `}`. A value is counted up to the least that no character
+-- has, and digits up to seven.
 abbrev pub past_digits : Quoted → List ℕ → ℕ → ℕ → List ℕ → Left
 past_digits q from value count [] = Err (wrong.OpenUnicodeEscape, from)
 past_digits q from value count (c ∷ cs) =
     if char_set_contains (codes "}") c then past_value q from value count cs
     else if c == low_line then past_digits q from value count cs
-    else if is_hex c then past_digits q from (value * 16 + digit_value c) (suc count) cs
+    else if is_hex c then past_digits q from (min (value * 16 + digit_value c) 1114112) (min (count + 1) 7) cs
     else Err (wrong.UnicodeEscapeDigit, c ∷ cs)
 
 -- its first digit
@@ -143,16 +140,17 @@ past_plain q c cs =
 abbrev pub past_unit : Quoted → ℕ → List ℕ → Left
 past_unit q c cs = if c == backslash then past_escape q (c ∷ cs) cs else past_plain q c cs
 
--- A string's text is right, or what is wrong first. The first number is that of the characters at least.
-abbrev pub check_string : Quoted → ℕ → List ℕ → Result (Unit {0}) At
-check_string q n [] = Ok tt
-check_string q zero (c ∷ cs) = Ok tt
-check_string q (suc n) (c ∷ cs) = elim (past_unit q c cs) [ Err at ↦ Err at | Ok rest ↦ check_string q n rest ]
+-- A string's text is right, or what is wrong first. The number says how many characters an escape has taken already.
+abbrev pub check_string : Quoted → ℕ → List ℕ → Checked
+check_string q taken [] = Ok tt
+check_string q (suc taken) (c ∷ cs) = check_string q taken cs
+check_string q zero (c ∷ cs) = elim (past_unit q c cs) [ Err at ↦ Err at | Ok rest ↦ check_string q (length cs - length rest) cs ]
 
 -- a raw string's, where a `\` is a character too
-abbrev pub check_raw : Quoted → List ℕ → Result (Unit {0}) At
+abbrev pub check_raw : Quoted → List ℕ → Checked
 check_raw q [] = Ok tt
-check_raw q (c ∷ cs) = elim (if c == backslash then Ok cs else past_plain q c cs) [ Err at ↦ Err at | Ok rest ↦ check_raw q cs ]
+check_raw q (c ∷ cs) =
+    if c == backslash then check_raw q cs else elim (past_plain q c cs) [ Err at ↦ Err at | Ok rest ↦ check_raw q cs ]
 
 -- what is left in a char's text after its first character, or what is wrong
 abbrev pub check_char : Quoted → List ℕ → Left

@@ -1,7 +1,11 @@
--- Where what stands between quotes ends, whatever is in it; and where comments do.
-use Rattle.std.specs.Prelude.{ℕ, ◌==◌, not, ◌&&◌, ◌||◌, true, false, if◌then◌else◌, Bool, Option, Some, None, List, [], ◌∷◌, length, drop, codes}
+-- Where what stands between quotes ends, whatever is in it; and where block comments do.
+use Rattle.std.specs.Prelude.{ℕ, zero, suc, ◌==◌, not, ◌&&◌, ◌||◌, true, false, if◌then◌else◌, Bool, Option, Some, None, List, [], ◌∷◌, length, take, ◌-◌, codes}
 use Rattle.std.specs.Char.{char_set_contains}
-use Rattle.mbe_text.specs.Characters.{begins_with, apostrophe, backslash, quotation_mark, slash}
+use Rattle.mbe_text.specs.Characters.{begins_with, apostrophe, backslash, quotation_mark, slash, star}
+
+-- what a text has before this end of it
+abbrev pub front : List ℕ → List ℕ → List ℕ
+front cs end = take (length cs - length end) cs
 
 -- From the quote that ends a string on. A `\` takes a `\` or a quote with it; the flag says whether the first character is taken
 -- so.
@@ -33,3 +37,16 @@ abbrev pub from_char_end : List ℕ → Option (List ℕ)
 from_char_end [] = None
 from_char_end (c ∷ cs) =
     if not (c == backslash) && begins_with (codes "'") cs then Some cs else from_later_quote false (c ∷ cs)
+
+-- From the `*/` on that ends so many block comments and one more, and those that begin on the way; None if there aren't so many.
+abbrev pub from_comment_end : ℕ → List ℕ → Option (List ℕ)
+from_comment_end depth [] = None
+from_comment_end depth (c ∷ []) = None
+from_comment_end zero (c ∷ (d ∷ cs)) =
+    if c == slash && d == star then from_comment_end 1 cs
+    else if c == star && d == slash then Some (c ∷ (d ∷ cs))
+    else from_comment_end zero (d ∷ cs)
+from_comment_end (suc depth) (c ∷ (d ∷ cs)) =
+    if c == slash && d == star then from_comment_end (suc (suc depth)) cs
+    else if c == star && d == slash then from_comment_end depth cs
+    else from_comment_end (suc depth) (d ∷ cs)

@@ -53,21 +53,28 @@ abbrev pub most_guards : ℕ → List ℕ → ℕ
 most_guards guards [] = 0
 most_guards guards (byte ∷ bytes) = let now = guards_after guards byte in max now (most_guards now bytes)
 
+-- a raw string with so many `#`
+abbrev pub raw_string_leaf : Span → List ℕ → ℕ → Leaf
+raw_string_leaf span text hashes = literal (record { text_and_suffix = text; suffix_len = 0; kind = StrRaw hashes; span = span })
+
 -- `doc = r".."`, where the raw string has as many `#` as its text needs
 abbrev pub doc_setting : Span → List ℕ → Forest
 doc_setting span text =
     leaf (ident_leaf span (codes "doc") raw.No) (leaf (punct_leaf span equals_sign Alone)
-    (leaf (literal (record { text_and_suffix = text; suffix_len = 0; kind = StrRaw (most_guards 0 text); span = span })) none))
+    (leaf (raw_string_leaf span text (most_guards 0 text)) none))
 
 -- `[doc = r".."]`
 abbrev pub doc_group : Span → List ℕ → Forest
 doc_group span text = group (record { opening = span; close = span; kind = Bracket }) (doc_setting span text) none
 
+-- `#`, or `#!` of what is around it
+abbrev pub doc_marks : Span → Bool → Forest
+doc_marks span false = leaf (punct_leaf span number_sign Alone) none
+doc_marks span true = leaf (punct_leaf span number_sign Joint) (leaf (punct_leaf span exclamation_mark Alone) none)
+
 -- A doc comment: `#[doc = r".."]`, or `#![doc = r".."]` of what is around it. Each token has the comment's span.
 abbrev pub doc_trees : Span → List ℕ → Bool → Forest
-doc_trees span text false = leaf (punct_leaf span number_sign Alone) (doc_group span text)
-doc_trees span text true =
-    leaf (punct_leaf span number_sign Joint) (leaf (punct_leaf span exclamation_mark Alone) (doc_group span text))
+doc_trees span text is_inner = append (doc_marks span is_inner) (doc_group span text)
 
 -- ---- tokens
 

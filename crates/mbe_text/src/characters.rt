@@ -1,7 +1,7 @@
 // The characters of a text: kinds of them, and what is left of a text after some.
 ghost use Rattle.std.specs.Prelude.{◌≡◌, ◌++◌, [], ◌∷◌, ◌+◌, ◌<◌, ◌≤◌, length, chars, encode_utf8, MatchOption, IfSome, IsTrue, true, false, drop, Some, None};
 ghost use Rattle.mbe_text.specs.Characters as spec;
-ghost use Rattle.mbe_text.specs.declared.characters.Class.TheVariants.{Punct};
+ghost use Rattle.mbe_text.specs.declared.characters.Class.TheVariants.{Punct, Space};
 ghost use Rattle.mbe_text.specs.Ends.{IsEnd, IsRest};
 
 use unicode_ident::{is_xid_continue, is_xid_start};
@@ -49,7 +49,9 @@ impl Class {
     }
 }
 
-fn is_space(char: char) -> bool {
+fn is_space(char: char) -> bool
+    ensures { result ≡ spec.has Space char }
+{
     matches!(
         char,
         ' ' | '\t'

@@ -1,12 +1,15 @@
-// What stands between the quotes of Rust's literals: characters and escapes, one after another.
-ghost use Rattle.std.specs.Prelude.{◌≡◌, ◌∷◌, ◌||◌, length, chars, true, false, MatchOption};
+// What stands between the quotes of Rust's literals: where it ends, and whether its characters and escapes are right.
+ghost use Rattle.std.specs.Prelude.{◌≡◌, ◌∷◌, ◌++◌, ◌+◌, ◌≤◌, List, ℕ, length, drop, chars, true, false, None, Some, MatchOption, IfSome, IfOk, IfErr, IsTrue};
 ghost use Rattle.std.specs.Char.{digit_value};
+ghost use Rattle.mbe_text.specs.Characters.{bytes_before, are_ascii};
+ghost use Rattle.mbe_text.specs.Words as words;
 ghost use Rattle.mbe_text.specs.Ends.{IsEnd};
 ghost use Rattle.mbe_text.specs.Escapes as spec;
-ghost use Rattle.mbe_text.specs.Escapes.{Leaves, LeavesEnd, Checks, ChecksEnd};
+ghost use Rattle.mbe_text.specs.Escapes.{left_seen, checked_seen};
+ghost use Rattle.mbe_text.specs.Extents as extents;
 
 use crate::characters::{Class, before, begins_with, past, past_front, split_first};
-use crate::wrong::{Fault, Wrong};
+use crate::wrong::{Fault, Wrong, fault};
 
 // The literals that have escapes.
 #[derive(Clone, Copy, PartialEq, Eq)]
@@ -27,22 +30,40 @@ impl Quoted {
     }
 
     // Whether it is of bytes, and so has ASCII characters and no `\u`.
-    fn is_bytes(self) -> bool
+    pub(crate) fn is_bytes(self) -> bool
         ensures { result ≡ spec.is_bytes self }
     {
         matches!(self, Quoted::Byte | Quoted::ByteStr)
     }
 
-    fn has_large_hex(self) -> bool
-        ensures { result ≡ (spec.is_bytes self || spec.is_c self) }
+    // Whether it is a C string, which has no null character.
+    fn is_c(self) -> bool
+        ensures { result ≡ spec.is_c self }
     {
-        matches!(self, Quoted::Byte | Quoted::ByteStr | Quoted::CStr)
+        matches!(self, Quoted::CStr)
     }
 }
 
-fn fault<T>(wrong: Wrong, at: &str) -> Result<T, Fault<'_>> {
-    Err(Fault { wrong, at })
+// What is left after the first character, if there is one.
+pub(crate) fn tail(text: &str) -> &str
+    ensures exact { chars result.now ≡ drop 1 (chars text.now) }
+    ensures end { IsEnd text.now result.now }
+{
+    match split_first(text) {
+        Some((_, rest)) => rest,
+        None => text,
+    }
 }
+
+// What is left after an identifier, whose first character isn't looked at.
+pub(crate) fn past_word(text: &str) -> &str
+    ensures exact { chars result.now ≡ words.past_word (chars text.now) }
+    ensures end { IsEnd text.now result.now }
+{
+    past(tail(text), Class::IdentContinue)
+}
+
+// ---- escapes
 
 // A digit in base sixteen.
 fn hex_value(char: char) -> Option<u32>
@@ -52,238 +73,304 @@ fn hex_value(char: char) -> Option<u32>
     char.to_digit(16)
 }
 
-// What is after the two digits of a `\x` that begins at `from`.
-fn past_hex<'t>(from: &'t str, text: &'t str, quoted: Quoted) -> Result<&'t str, Fault<'t>>
-    ensures exact { Leaves (spec.past_hex quoted (chars from.now) (chars text.now)) result }
-    ensures end { IsEnd from.now text.now → LeavesEnd from.now result }
+// What is after the second digit of a `\x` that begins at `from`, after one of that value.
+fn past_second<'t>(
+    from: &'t str,
+    text: &'t str,
+    high: u32,
+    quoted: Quoted,
+) -> Result<&'t str, Fault<'t>>
+    ensures { left_seen result ≡ spec.past_second quoted (chars from.now) high (chars text.now) }
 {
-    let Some((high, rest)) = split_first(text) else {
-        return fault(Wrong::ShortHexEscape, from);
+    let Some((char, rest)) = split_first(text) else {
+        return fault!(ShortHexEscape, from);
     };
-    let Some(high) = hex_value(high) else {
-        return fault(Wrong::HexEscapeDigit, text);
+    let Some(low) = hex_value(char) else {
+        return fault!(HexEscapeDigit, text);
     };
-    let Some((low, after)) = split_first(rest) else {
-        return fault(Wrong::ShortHexEscape, from);
-    };
-    let Some(low) = hex_value(low) else {
-        return fault(Wrong::HexEscapeDigit, rest);
-    };
-    if high > 7 && !quoted.has_large_hex() {
-        return fault(Wrong::LargeHexEscape, from);
+    if high > 7 && !(quoted.is_bytes() || quoted.is_c()) {
+        fault!(LargeHexEscape, from)
+    } else if quoted.is_c() && high == 0 && low == 0 {
+        fault!(Nul, from)
+    } else {
+        Ok(rest)
     }
-    if high == 0 && low == 0 && quoted == Quoted::CStr {
-        return fault(Wrong::Nul, from);
-    }
-    Ok(after)
 }
 
-// What is after the digits and the `}` of a `\u{` that begins at `from`, after its first digit, which has this value.
+// What is after the two digits of a `\x` that begins at `from`.
+fn past_hex<'t>(from: &'t str, text: &'t str, quoted: Quoted) -> Result<&'t str, Fault<'t>>
+    ensures { left_seen result ≡ spec.past_hex quoted (chars from.now) (chars text.now) }
+{
+    let Some((char, rest)) = split_first(text) else {
+        return fault!(ShortHexEscape, from);
+    };
+    match hex_value(char) {
+        Some(high) => past_second(from, rest, high, quoted),
+        None => fault!(HexEscapeDigit, text),
+    }
+}
+
+// What is after the `}` of a `\u{` that begins at `from`, with that value and so many digits.
+fn past_value<'t>(
+    from: &'t str,
+    text: &'t str,
+    value: u32,
+    count: u32,
+    quoted: Quoted,
+) -> Result<&'t str, Fault<'t>>
+    ensures { left_seen result
+        ≡ spec.past_value quoted (chars from.now) value count (chars text.now) }
+{
+    if count > 6 {
+        fault!(LongUnicodeEscape, from)
+    } else if quoted.is_bytes() {
+        fault!(UnicodeEscapeInBytes, from)
+    } else if char::from_u32(value).is_none() {
+        fault!(UnicodeEscapeValue, from)
+    } else if quoted.is_c() && value == 0 {
+        fault!(Nul, from)
+    } else {
+        Ok(text)
+    }
+}
+
+// What is after the digits and the `}` of a `\u{` that begins at `from`, after its first digit, which has that value.
 fn past_digits<'t>(
     from: &'t str,
     text: &'t str,
     first: u32,
     quoted: Quoted,
 ) -> Result<&'t str, Fault<'t>>
-    ensures exact { Leaves
-        (spec.past_digits quoted (chars from.now) first 1 (chars text.now)) result }
-    ensures end { IsEnd from.now text.now → LeavesEnd from.now result }
+    requires { first ≤ 15 }
+    ensures { left_seen result ≡ spec.past_digits quoted (chars from.now) first 1 (chars text.now) }
 {
     let mut value = first;
     let mut count = 1u32;
     let mut rest = text;
     'digits: loop {
         let Some((char, after)) = split_first(rest) else {
-            return fault(Wrong::OpenUnicodeEscape, from);
+            return fault!(OpenUnicodeEscape, from);
         };
         if char == '}' {
             return past_value(from, after, value, count, quoted);
         }
         if char != '_' {
             let Some(digit) = hex_value(char) else {
-                return fault(Wrong::UnicodeEscapeDigit, rest);
+                return fault!(UnicodeEscapeDigit, rest);
             };
-            count = count.saturating_add(1);
-            value = value.saturating_mul(16).saturating_add(digit);
+            value = (value * 16 + digit).min(0x11_0000);
+            count = (count + 1).min(7);
         }
         rest = after;
     }
 }
 
-// The same after the `}`.
-fn past_value<'t>(
-    from: &'t str,
-    after: &'t str,
-    value: u32,
-    count: u32,
-    quoted: Quoted,
-) -> Result<&'t str, Fault<'t>>
-    ensures exact { Leaves
-        (spec.past_value quoted (chars from.now) value count (chars after.now)) result }
-    ensures end { IsEnd from.now after.now → LeavesEnd from.now result }
+// What is after a `\u{` that begins at `from`.
+fn past_braces<'t>(from: &'t str, text: &'t str, quoted: Quoted) -> Result<&'t str, Fault<'t>>
+    ensures { left_seen result ≡ spec.past_braces quoted (chars from.now) (chars text.now) }
 {
-    if count > 6 {
-        fault(Wrong::LongUnicodeEscape, from)
-    } else if quoted.is_bytes() {
-        fault(Wrong::UnicodeEscapeInBytes, from)
-    } else if char::from_u32(value).is_none() {
-        fault(Wrong::UnicodeEscapeValue, from)
-    } else if value == 0 && quoted == Quoted::CStr {
-        fault(Wrong::Nul, from)
-    } else {
-        Ok(after)
+    let Some((char, rest)) = split_first(text) else {
+        return fault!(OpenUnicodeEscape, from);
+    };
+    if char == '_' {
+        return fault!(UnicodeEscapeStart, text);
+    }
+    if char == '}' {
+        return fault!(EmptyUnicodeEscape, from);
+    }
+    match hex_value(char) {
+        Some(first) => past_digits(from, rest, first, quoted),
+        None => fault!(UnicodeEscapeDigit, text),
     }
 }
 
 // What is after a `\u` that begins at `from`.
 fn past_unicode<'t>(from: &'t str, text: &'t str, quoted: Quoted) -> Result<&'t str, Fault<'t>>
-    ensures exact { Leaves (spec.past_unicode quoted (chars from.now) (chars text.now)) result }
-    ensures end { IsEnd from.now text.now → LeavesEnd from.now result }
+    ensures { left_seen result ≡ spec.past_unicode quoted (chars from.now) (chars text.now) }
 {
-    let Some(inside) = past_front(text, "{") else {
-        return fault(Wrong::UnicodeEscapeBrace, from);
-    };
-    match split_first(inside) {
-        None => fault(Wrong::OpenUnicodeEscape, from),
-        Some(('_', _)) => fault(Wrong::UnicodeEscapeStart, inside),
-        Some(('}', _)) => fault(Wrong::EmptyUnicodeEscape, from),
-        Some((char, rest)) => match hex_value(char) {
-            Some(first) => past_digits(from, rest, first, quoted),
-            None => fault(Wrong::UnicodeEscapeDigit, inside),
-        },
+    match split_first(text) {
+        Some(('{', rest)) => past_braces(from, rest, quoted),
+        _ => fault!(UnicodeEscapeBrace, from),
     }
 }
 
 // What is after the escape that begins at `from`, after its `\`.
 fn past_escape<'t>(from: &'t str, text: &'t str, quoted: Quoted) -> Result<&'t str, Fault<'t>>
-    ensures exact { Leaves (spec.past_escape quoted (chars from.now) (chars text.now)) result }
-    ensures end { IsEnd from.now text.now → LeavesEnd from.now result }
+    ensures { left_seen result ≡ spec.past_escape quoted (chars from.now) (chars text.now) }
 {
-    match split_first(text) {
-        Some(('n' | 'r' | 't' | '\\' | '\'' | '"', rest)) => Ok(rest),
-        Some(('0', _)) if quoted == Quoted::CStr => fault(Wrong::Nul, from),
-        Some(('0', rest)) => Ok(rest),
-        Some(('x', rest)) => past_hex(from, rest, quoted),
-        Some(('u', rest)) => past_unicode(from, rest, quoted),
-        Some(('\n', rest)) if !quoted.is_single() => Ok(past(rest, Class::Blank)),
-        Some(_) => fault(Wrong::Escape, text),
-        None => fault(Wrong::Escape, from),
+    let Some((char, rest)) = split_first(text) else {
+        return fault!(Escape, from);
+    };
+    match char {
+        'n' | 'r' | 't' | '\\' | '\'' | '"' => Ok(rest),
+        '0' if quoted.is_c() => fault!(Nul, from),
+        '0' => Ok(rest),
+        'x' => past_hex(from, rest, quoted),
+        'u' => past_unicode(from, rest, quoted),
+        '\n' if !quoted.is_single() => Ok(past(rest, Class::Blank)),
+        _ => fault!(Escape, text),
     }
 }
 
-// What is after the character or escape that stands here.
-fn past_one<'t>(
+// ---- characters
+
+// What is after this character, which is no escape and stands here.
+fn past_plain<'t>(
     text: &'t str,
     char: char,
     after: &'t str,
     quoted: Quoted,
 ) -> Result<&'t str, Fault<'t>>
-    ensures exact { chars text.now ≡ char ∷ chars after.now
-        → Leaves (spec.past_unit quoted char (chars after.now)) result }
-    ensures end { IsEnd text.now after.now → LeavesEnd text.now result }
+    requires { chars text.now ≡ char ∷ chars after.now }
+    ensures { left_seen result ≡ spec.past_plain quoted char (chars after.now) }
 {
-    match char {
-        '\\' => past_escape(text, after, quoted),
-        '\n' | '\r' | '\t' | '\'' if quoted.is_single() => fault(Wrong::CharToEscape, text),
-        '\r' => fault(Wrong::BareReturn, text),
-        '\0' if quoted == Quoted::CStr => fault(Wrong::Nul, text),
-        _ if quoted.is_bytes() && !char.is_ascii() => fault(Wrong::NonAscii, text),
-        _ => Ok(after),
+    if quoted.is_single() && matches!(char, '\n' | '\r' | '\t' | '\'') {
+        fault!(CharToEscape, text)
+    } else if char == '\r' {
+        fault!(BareReturn, text)
+    } else if quoted.is_c() && char == '\0' {
+        fault!(Nul, text)
+    } else if quoted.is_bytes() && !char.is_ascii() {
+        fault!(NonAscii, text)
+    } else {
+        Ok(after)
+    }
+}
+
+// What is after the escape that stands here, or this character.
+fn past_unit<'t>(
+    text: &'t str,
+    char: char,
+    after: &'t str,
+    quoted: Quoted,
+) -> Result<&'t str, Fault<'t>>
+    requires { chars text.now ≡ char ∷ chars after.now }
+    ensures exact { left_seen result ≡ spec.past_unit quoted char (chars after.now) }
+    ensures end { IfOk result (λ rest. IsEnd after.now rest.now) }
+    ensures place { IfErr result (λ fault. IsEnd text.now fault.at.now) }
+{
+    if char == '\\' {
+        past_escape(text, after, quoted)
+    } else {
+        past_plain(text, char, after, quoted)
     }
 }
 
 // Whether a string may have this text between its quotes.
 pub(crate) fn check_string(text: &str, quoted: Quoted) -> Result<(), Fault<'_>>
-    ensures exact { Checks (spec.check_string quoted (length (chars text.now)) (chars text.now)) result }
-    ensures end { ChecksEnd text.now result }
+    ensures exact { checked_seen result ≡ spec.check_string quoted 0 (chars text.now) }
+    ensures place { IfErr result (λ fault. IsEnd text.now fault.at.now) }
 {
     let mut rest = text;
     'parts: while let Some((char, after)) = split_first(rest) {
-        rest = past_one(rest, char, after, quoted)?;
+        rest = past_unit(rest, char, after, quoted)?;
     }
     Ok(())
 }
 
-// Whether a char or byte has one character or escape between its quotes, and no more.
-pub(crate) fn check_char(text: &str, quoted: Quoted) -> Result<bool, Fault<'_>> {
-    let Some((char, after)) = split_first(text) else {
-        return fault(Wrong::EmptyChar, text);
-    };
-    let rest = past_one(text, char, after, quoted)?;
-    Ok(rest.is_empty())
+// What is left in the text of a char or a byte after its first character or escape.
+pub(crate) fn check_char(text: &str, quoted: Quoted) -> Result<&str, Fault<'_>>
+    ensures exact { left_seen result ≡ spec.check_char quoted (chars text.now) }
+    ensures place { IfErr result (λ fault. IsEnd text.now fault.at.now) }
+{
+    match split_first(text) {
+        Some((char, after)) => past_unit(text, char, after, quoted),
+        None => fault!(EmptyChar, text),
+    }
 }
 
 // Whether a raw string may have this text between its quotes.
 pub(crate) fn check_raw(text: &str, quoted: Quoted) -> Result<(), Fault<'_>>
-    ensures exact { Checks (spec.check_raw quoted (chars text.now)) result }
-    ensures end { ChecksEnd text.now result }
+    ensures exact { checked_seen result ≡ spec.check_raw quoted (chars text.now) }
+    ensures place { IfErr result (λ fault. IsEnd text.now fault.at.now) }
 {
     let mut rest = text;
     'chars: while let Some((char, after)) = split_first(rest) {
         if char != '\\' {
-            past_one(rest, char, after, quoted)?;
+            past_plain(rest, char, after, quoted)?;
         }
         rest = after;
     }
     Ok(())
 }
 
-// The text of a char or byte up to its second quote, after its first, and what is after both.
-pub(crate) fn char_text(text: &str) -> Option<(&str, &str)> {
-    if let Some((first, after)) = split_first(text)
-        && first != '\\'
-        && begins_with(after, "'")
-    {
-        let (_, rest) = split_first(after)?;
-        return Some((before(text, after), rest));
-    }
+// ---- ends
+
+// What a text has before this end of it.
+pub(crate) fn front<'t>(text: &'t str, end: &str) -> &'t str
+    requires { IsEnd text.now end.now }
+    ensures bytes { result.now ≡ bytes_before (chars text.now) (chars end.now) }
+    ensures exact { chars result.now ≡ extents.front (chars text.now) (chars end.now) }
+    ensures whole { text.now ≡ result.now ++ end.now }
+{
+    before(text, end)
+}
+
+// From the quote that ends a char or a byte of more or less than one character on.
+fn later_quote(text: &str) -> Option<&str>
+    ensures exact { MatchOption result (extents.from_later_quote false (chars text.now) ≡ None)
+        (λ end. extents.from_later_quote false (chars text.now) ≡ Some (chars end.now)) }
+    ensures end { IfSome result (λ end. IsEnd text.now end.now) }
+{
     let mut rest = text;
     'chars: loop {
         let (char, after) = split_first(rest)?;
-        match char {
-            '\'' => return Some((before(text, rest), after)),
-            '/' => return None,
-            '\n' if !begins_with(after, "'") => return None,
-            '\\' => rest = split_first(after)?.1,
-            _ => rest = after,
+        if char == '\'' {
+            return Some(rest);
         }
+        if char == '/' || (char == '\n' && !begins_with(after, "'")) {
+            return None;
+        }
+        rest = if char == '\\' { tail(after) } else { after };
     }
 }
 
-// The text of a string up to its second quote, after its first, and what is after both.
-pub(crate) fn string_text(text: &str) -> Option<(&str, &str)> {
+// From the quote that ends a char or a byte on, after its first quote.
+pub(crate) fn char_end(text: &str) -> Option<&str>
+    ensures exact { MatchOption result (extents.from_char_end (chars text.now) ≡ None)
+        (λ end. extents.from_char_end (chars text.now) ≡ Some (chars end.now)) }
+    ensures end { IfSome result (λ end. IsEnd text.now end.now) }
+{
+    match split_first(text) {
+        Some((char, after)) if char != '\\' && begins_with(after, "'") => Some(after),
+        _ => later_quote(text),
+    }
+}
+
+// From the quote that ends a string on, after its first quote.
+pub(crate) fn string_end(text: &str) -> Option<&str>
+    ensures exact { MatchOption result (extents.from_string_end false (chars text.now) ≡ None)
+        (λ end. extents.from_string_end false (chars text.now) ≡ Some (chars end.now)) }
+    ensures end { IfSome result (λ end. IsEnd text.now end.now) }
+{
     let mut rest = text;
     'chars: loop {
         let (char, after) = split_first(rest)?;
         if char == '"' {
-            return Some((before(text, rest), after));
+            return Some(rest);
         }
-        rest = if char == '\\' && (begins_with(after, "\\") || begins_with(after, "\"")) {
-            split_first(after)?.1
-        } else {
-            after
-        };
+        let takes = char == '\\' && (begins_with(after, "\\") || begins_with(after, "\""));
+        rest = if takes { tail(after) } else { after };
     }
 }
 
-// The text of a raw string after its first quote, which these `#` precede, and what is after the same `#` behind its last.
-pub(crate) fn raw_text<'t>(text: &'t str, hashes: &str) -> Option<(&'t str, &'t str)> {
+// From the quote that ends a raw string on, after its first quote, which these `#` precede; and what is after them again.
+pub(crate) fn raw_end<'t>(text: &'t str, hashes: &str) -> Option<(&'t str, &'t str)>
+    requires { IsTrue (are_ascii hashes.now) }
+    ensures exact { MatchOption result (extents.from_raw_end hashes.now (chars text.now) ≡ None)
+        (λ p. extents.from_raw_end hashes.now (chars text.now) ≡ Some (chars p.0.now)) }
+    ensures rest { IfSome result (λ p.
+        chars p.1.now ≡ drop (length hashes.now + 1) (chars p.0.now)) }
+    ensures end { IfSome result (λ p. IsEnd text.now p.0.now) }
+{
     let mut rest = text;
     'chars: loop {
         let (char, after) = split_first(rest)?;
         if char == '"'
-            && let Some(behind) = after.strip_prefix(hashes)
+            && let Some(behind) = past_front(after, hashes)
         {
-            return Some((before(text, rest), behind));
+            return Some((rest, behind));
         }
         rest = after;
-    }
-}
-
-// What is after an identifier, whose first character isn't looked at.
-pub(crate) fn past_word(text: &str) -> &str {
-    match split_first(text) {
-        Some((_, rest)) => past(rest, Class::IdentContinue),
-        None => text,
     }
 }

@@ -3,10 +3,12 @@ ghost use Rattle.std.specs.Prelude.{◌≡◌, ◌<◌, ◌+◌, ◌^◌, ◌++�
 ghost use Rattle.mbe_text.specs.declared.dialect.Dialect.TheVariants.{Sample};
 ghost use Rattle.mbe_text.specs.Scanning.{FaultsWithin};
 ghost use Rattle.mbe_text.specs.Division.{Lexes, trees_of};
+ghost use Rattle.mbe_text.specs.Division as division;
 ghost use Rattle.mbe_text.specs.Tokens.{Adds, IsAstray, FaultsAt, IsMade, ended, token_item, close_item};
-ghost use Rattle.mbe_text.specs.Tokens.{closing_fault, doc_group, doc_trees, lifetime_trees, most_guards, punct_leaf};
+ghost use Rattle.mbe_text.specs.Tokens.{closing_fault, doc_group, doc_marks, doc_trees, lifetime_trees, most_guards, punct_leaf};
 ghost use Rattle.mbe_text.specs.Tokens as spec;
 ghost use Rattle.mbe_tt.specs.Buffers.Building.{put};
+ghost use Rattle.mbe_tt.specs.Views.Shown.{leaf_of};
 
 use crate::dialect::Dialect;
 use crate::scanner::{LexFault, Lexeme, Scanner, Token, file_span};
@@ -75,7 +77,8 @@ fn add<A: Allocator + Copy>(
     table: &mut SymbolTable<A>,
     token: Token<'_>,
 ) -> Result<(), LexError>
-    requires { token.span.start < token.span.end }
+    requires some_byte { token.span.start < token.span.end }
+    requires some_group { 0 < length builder.old }
     ensures ok { OnOk result (Adds (token_item token.entry) builder.old builder.new) }
     ensures err { IfErr result (FaultsAt (token_item token.entry) builder.old) }
 {
@@ -152,15 +155,26 @@ fn add_doc<A: Allocator + Copy>(
     is_inner: bool,
     span: Span,
 ) -> Result<(), AllocError>
+    requires { 0 < length builder.old }
     ensures { OnOk result (builder.new ≡ put (doc_trees span text.now is_inner) builder.old) }
 {
-    if is_inner {
-        builder.push(punct('#', Spacing::Joint, span))?;
-        builder.push(punct('!', Spacing::Alone, span))?;
-    } else {
-        builder.push(punct('#', Spacing::Alone, span))?;
-    }
+    add_doc_marks(builder, is_inner, span)?;
     add_doc_group(builder, table, text, span)
+}
+
+// The `#`, or `#!`, of it.
+fn add_doc_marks<A: Allocator>(
+    builder: &mut TopSubtreeBuilder<A>,
+    is_inner: bool,
+    span: Span,
+) -> Result<(), AllocError>
+    ensures { OnOk result (builder.new ≡ put (doc_marks span is_inner) builder.old) }
+{
+    if !is_inner {
+        return builder.push(punct('#', Spacing::Alone, span));
+    }
+    builder.push(punct('#', Spacing::Joint, span))?;
+    builder.push(punct('!', Spacing::Alone, span))
 }
 
 // The `[doc = r".."]` of it.
@@ -170,6 +184,7 @@ fn add_doc_group<A: Allocator + Copy>(
     text: &str,
     span: Span,
 ) -> Result<(), AllocError>
+    requires { 0 < length builder.old }
     ensures { OnOk result (builder.new ≡ put (doc_group span text.now) builder.old) }
 {
     let name = table.intern("doc")?;
@@ -245,6 +260,13 @@ fn close<A: Allocator>(
             wrong: Wrong::Closing,
         }),
     }
+}
+
+// Whether a group is open that the dialect closes before the end.
+fn is_unclosed<A: Allocator>(dialect: Dialect, builder: &TopSubtreeBuilder<A>) -> bool
+    ensures { result ≡ division.is_unclosed dialect builder.now }
+{
+    dialect.closes_groups() && builder.open_kind().is_some()
 }
 
 // The trees, with each open group closed with this span.
@@ -324,7 +346,7 @@ pub fn lex_as<A: Allocator + Copy>(
     'tokens: while let Some(token) = scanner.token()? {
         add(&mut builder, table, token)?;
     }
-    if dialect.closes_groups() && builder.open_kind().is_some() {
+    if is_unclosed(dialect, &builder) {
         return Err(LexError::Fault(LexFault {
             offset: len,
             wrong: Wrong::Open,

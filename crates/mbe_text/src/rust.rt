@@ -3,44 +3,55 @@
 //
 // A trace of `br#"a"#u8 'x`: `br` and a `#` begin a raw string, of which `raw` passes `#"a"#`, and `literal` the suffix `u8`. After
 // the space, `'` and an `x` without a `'` after it are a lifetime.
-ghost use Rattle.std.specs.Prelude.{◌≡◌, ◌<◌, chars, codes, drop, length, true, Some, None, MatchOption, IfSome, IfOk};
-ghost use Rattle.mbe_text.specs.Characters.{begins_with};
+ghost use Rattle.std.specs.Prelude.{◌≡◌, ◌+◌, ◌<◌, ◌≤◌, ◌++◌, chars, drop, length, List, ℕ, Ok, IfOk, IfErr, IfSome, IsTrue};
+ghost use Rattle.mbe_text.specs.Characters.{bytes_before, are_ascii};
+ghost use Rattle.mbe_text.specs.Characters as characters;
+ghost use Rattle.mbe_text.specs.declared.characters.Class.TheVariants as classes;
+ghost use Rattle.mbe_text.specs.Shapes.{lifetime_of};
+ghost use Rattle.mbe_text.specs.Ends.{IsEnd};
+ghost use Rattle.mbe_text.specs.Escapes.{fault_seen};
+ghost use Rattle.mbe_text.specs.Extents as extents;
 ghost use Rattle.mbe_text.specs.Rust as spec;
-ghost use Rattle.mbe_text.specs.Rust.{Reads, ReadsEnd};
+ghost use Rattle.mbe_text.specs.Rust.{token_seen, seen, maybe_seen, passed_seen};
 
-use crate::characters::{
-    Class, before, begins, begins_with, past, past_front, past_one, split_first,
-};
+use crate::characters::{Class, begins, begins_with, past, past_front, past_one, split_first};
 use crate::escapes::{
-    Quoted, char_text, check_char, check_raw, check_string, past_word, raw_text, string_text,
+    Quoted, char_end, check_char, check_raw, check_string, front, past_word, raw_end, string_end,
+    tail,
 };
 use crate::scanner::Lexeme;
-use crate::wrong::{Fault, Wrong};
+use crate::wrong::{Fault, Wrong, fault};
 use mbe_tt::span::Edition;
 use mbe_tt::tt::{IdentIsRaw, LitKind};
 
 // A token, and what is left after it.
 pub(crate) type Read<'t> = Result<(Lexeme<'t>, &'t str), Fault<'t>>;
 
-fn fault<T>(wrong: Wrong, at: &str) -> Result<T, Fault<'_>> {
-    Err(Fault { wrong, at })
-}
-
 // ---- words
 
-// A literal of that text, with the suffix that stands at the rest.
-fn literal<'t>(kind: LitKind, text: &'t str, rest: &'t str) -> Read<'t> {
-    let after = if begins(rest, Class::IdentStart) {
-        past_word(rest)
+// What is after the suffix that stands here, which may be empty.
+fn past_suffix(text: &str) -> &str
+    ensures exact { chars result.now ≡ spec.past_suffix (chars text.now) }
+    ensures end { IsEnd text.now result.now }
+{
+    if begins(text, Class::IdentStart) {
+        past_word(text)
     } else {
-        rest
-    };
-    let suffix = before(rest, after);
+        text
+    }
+}
+
+// A literal of that text, with the suffix that stands at the rest.
+fn literal<'t>(kind: LitKind, text: &'t str, rest: &'t str) -> Read<'t>
+    ensures { token_seen result ≡ spec.literal kind text.now (chars rest.now) }
+{
+    let after = past_suffix(rest);
+    let suffix = front(rest, after);
     if suffix == "_" {
-        return fault(Wrong::UnderscoreSuffix, rest);
+        return fault!(UnderscoreSuffix, rest);
     }
     let Ok(suffix_len) = u8::try_from(suffix.len()) else {
-        return fault(Wrong::LongSuffix, rest);
+        return fault!(LongSuffix, rest);
     };
     let lexeme = Lexeme::Literal {
         text,
@@ -55,18 +66,17 @@ fn literal<'t>(kind: LitKind, text: &'t str, rest: &'t str) -> Read<'t> {
 fn may_be_raw(name: &str) -> bool
     ensures { result ≡ spec.may_be_raw name.now }
 {
-    !matches!(name, "_" | "crate" | "self" | "super" | "Self")
+    !(name == "_" || name == "crate" || name == "self" || name == "super" || name == "Self")
 }
 
 // A raw identifier, whose name stands after its `r#`.
 fn raw_identifier<'t>(text: &'t str, behind: &'t str) -> Read<'t>
-    ensures exact { begins_with (codes "r#") (chars text.now) ≡ true → chars behind.now ≡ drop 2 (chars text.now)
-        → Reads (spec.raw_identifier (chars text.now)) result }
+    ensures { token_seen result ≡ spec.raw_identifier (chars text.now) (chars behind.now) }
 {
     let rest = past_word(behind);
-    let name = before(behind, rest);
+    let name = front(behind, rest);
     if !may_be_raw(name) {
-        return fault(Wrong::RawName, text);
+        return fault!(RawName, text);
     }
     let lexeme = Lexeme::Ident {
         name,
@@ -75,18 +85,23 @@ fn raw_identifier<'t>(text: &'t str, behind: &'t str) -> Read<'t>
     Ok((lexeme, rest))
 }
 
+// Whether what stands here may not be right after an identifier since 2021.
+fn begins_reserved(rest: &str) -> bool
+    ensures { result ≡ spec.begins_reserved (chars rest.now) }
+{
+    begins_with(rest, "#") || begins_with(rest, "\"") || begins_with(rest, "'")
+}
+
 // An identifier without a `r#`. Since 2021 it is no prefix of what no literal has.
 fn identifier(edition: Edition, text: &str) -> Read<'_>
-    ensures exact { Reads (spec.plain_identifier edition (chars text.now)) result }
-    ensures end { ReadsEnd text.now result }
+    ensures { token_seen result ≡ spec.plain_identifier edition (chars text.now) }
 {
     let rest = past_word(text);
-    let is_prefix = begins_with(rest, "#") || begins_with(rest, "\"") || begins_with(rest, "'");
-    if is_prefix && edition.at_least_2021() {
-        return fault(Wrong::Prefix, text);
+    if edition.at_least_2021() && begins_reserved(rest) {
+        return fault!(Prefix, text);
     }
     let lexeme = Lexeme::Ident {
-        name: before(text, rest),
+        name: front(text, rest),
         is_raw: IdentIsRaw::No,
     };
     Ok((lexeme, rest))
@@ -94,49 +109,80 @@ fn identifier(edition: Edition, text: &str) -> Read<'_>
 
 // ---- quotes
 
-// The result for what stands between quotes, where a fault is in the text that goes on after it.
-fn inside<'t, T>(
-    body: &'t str,
-    content: &str,
-    checked: Result<T, Fault<'t>>,
-) -> Result<T, Fault<'t>> {
-    match checked {
-        Ok(it) => Ok(it),
-        Err(it) => {
-            let start = content.len().saturating_sub(it.at.len());
-            fault(it.wrong, body.get(start..).unwrap_or(""))
-        }
+// A fault of what stands between quotes, in the text that goes on after it to this end.
+fn inside<'t>(body: &'t str, end: &str, it: Fault<'_>) -> Fault<'t>
+    requires { length it.at.entry.now + length end.now ≤ length body.now }
+    ensures { (content : List ℕ) → body.now ≡ content ++ end.now → IsEnd content it.at.now
+        → fault_seen result ≡ spec.within (chars end.now) (fault_seen it) }
+{
+    let start = body.len() - end.len() - it.at.len();
+    Fault {
+        wrong: it.wrong,
+        at: body.get(start..).unwrap_or(""),
+    }
+}
+
+// A string between its quotes, and what is after that.
+fn string_until<'t>(kind: LitKind, quoted: Quoted, body: &'t str, end: &'t str) -> Read<'t>
+    requires { IsEnd body.now end.now }
+    ensures { token_seen result ≡ spec.string_until kind quoted (chars body.now) (chars end.now) }
+{
+    let content = front(body, end);
+    match check_string(content, quoted) {
+        Ok(()) => literal(kind, content, tail(end)),
+        Err(it) => Err(inside(body, end, it)),
     }
 }
 
 // A string, whose first quote stands here, after its first letters.
-fn string<'t>(quote: &'t str, kind: LitKind, quoted: Quoted) -> Read<'t> {
-    let body = past_front(quote, "\"").unwrap_or(quote);
-    let Some((content, rest)) = string_text(body) else {
-        return fault(Wrong::OpenString, quote);
-    };
-    inside(body, content, check_string(content, quoted))?;
-    literal(kind, content, rest)
+fn string<'t>(kind: LitKind, quoted: Quoted, quote: &'t str) -> Read<'t>
+    ensures { token_seen result ≡ spec.string kind quoted (chars quote.now) }
+{
+    let body = tail(quote);
+    match string_end(body) {
+        Some(end) => string_until(kind, quoted, body, end),
+        None => fault!(OpenString, quote),
+    }
+}
+
+// A char or a byte between its quotes, and what is after that.
+fn char_until<'t>(
+    kind: LitKind,
+    quoted: Quoted,
+    text: &'t str,
+    body: &'t str,
+    end: &'t str,
+) -> Read<'t>
+    requires { IsEnd body.now end.now }
+    ensures { token_seen result
+        ≡ spec.char_until kind quoted (chars text.now) (chars body.now) (chars end.now) }
+{
+    let content = front(body, end);
+    match check_char(content, quoted) {
+        Ok(more) => match split_first(more) {
+            Some(_) => fault!(SeveralChars, text),
+            None => literal(kind, content, tail(end)),
+        },
+        Err(it) => Err(inside(body, end, it)),
+    }
 }
 
 // A char or a byte, whose first quote stands here, after its first letter.
-fn char<'t>(text: &'t str, quote: &'t str, kind: LitKind, quoted: Quoted) -> Read<'t> {
-    let body = past_front(quote, "'").unwrap_or(quote);
-    let Some((content, rest)) = char_text(body) else {
-        let wrong = match quoted {
-            Quoted::Byte => Wrong::OpenByte,
-            _ => Wrong::OpenChar,
-        };
-        return fault(wrong, quote);
-    };
-    if !inside(body, content, check_char(content, quoted))? {
-        return fault(Wrong::SeveralChars, text);
+fn char<'t>(kind: LitKind, quoted: Quoted, text: &'t str, quote: &'t str) -> Read<'t>
+    ensures { token_seen result ≡ spec.char kind quoted (chars text.now) (chars quote.now) }
+{
+    let body = tail(quote);
+    match char_end(body) {
+        Some(end) => char_until(kind, quoted, text, body, end),
+        None if quoted.is_bytes() => fault!(OpenByte, quote),
+        None => fault!(OpenChar, quote),
     }
-    literal(kind, content, rest)
 }
 
 // What a raw string is, by its first letters and its number of `#`.
-fn raw_kind(quoted: Quoted, hashes: u8) -> LitKind {
+fn raw_kind(quoted: Quoted, hashes: u8) -> LitKind
+    ensures { result ≡ spec.raw_kind quoted hashes }
+{
     match quoted {
         Quoted::ByteStr => LitKind::ByteStrRaw(hashes),
         Quoted::CStr => LitKind::CStrRaw(hashes),
@@ -144,21 +190,60 @@ fn raw_kind(quoted: Quoted, hashes: u8) -> LitKind {
     }
 }
 
+// A raw string between its quotes, and what is after its last `#`.
+fn raw_until<'t>(
+    quoted: Quoted,
+    hashes: u8,
+    body: &'t str,
+    end: &'t str,
+    rest: &'t str,
+) -> Read<'t>
+    requires end { IsEnd body.now end.now }
+    requires rest { chars rest.now ≡ drop (hashes + 1) (chars end.now) }
+    ensures { token_seen result ≡ spec.raw_until quoted hashes (chars body.now) (chars end.now) }
+{
+    let content = front(body, end);
+    match check_raw(content, quoted) {
+        Ok(()) => literal(raw_kind(quoted, hashes), content, rest),
+        Err(it) => Err(inside(body, end, it)),
+    }
+}
+
+// A raw string after its first quote, which these `#` precede.
+fn raw_body<'t>(quoted: Quoted, text: &'t str, hashes: &str, body: &'t str) -> Read<'t>
+    requires { IsTrue (are_ascii hashes.now) }
+    ensures { token_seen result
+        ≡ spec.raw_body quoted (chars text.now) hashes.now (chars body.now) }
+{
+    let Some((end, rest)) = raw_end(body, hashes) else {
+        return fault!(OpenRawString, text);
+    };
+    match u8::try_from(hashes.len()) {
+        Ok(number) => raw_until(quoted, number, body, end, rest),
+        Err(_) => fault!(RawStringHashes, text),
+    }
+}
+
+// The `#` that stand here.
+fn hashes(text: &str) -> (&str, &str)
+    ensures bytes { result.0.now ≡ bytes_before (chars text.now) (chars result.1.now) }
+    ensures rest { chars result.1.now ≡ characters.past classes.Hash (chars text.now) }
+    ensures ascii { IsTrue (are_ascii result.0.now) }
+{
+    let rest = past(text, Class::Hash);
+    (front(text, rest), rest)
+}
+
 // A raw string, which goes on with its `#` after its first letters.
-fn raw<'t>(text: &'t str, behind: &'t str, quoted: Quoted) -> Read<'t> {
-    let after = past(behind, Class::Hash);
-    let Some(body) = past_front(after, "\"") else {
-        return fault(Wrong::RawStringStart, text);
-    };
-    let hashes = before(behind, after);
-    let Some((content, rest)) = raw_text(body, hashes) else {
-        return fault(Wrong::OpenRawString, text);
-    };
-    let Ok(number) = u8::try_from(hashes.len()) else {
-        return fault(Wrong::RawStringHashes, text);
-    };
-    inside(body, content, check_raw(content, quoted))?;
-    literal(raw_kind(quoted, number), content, rest)
+fn raw<'t>(quoted: Quoted, text: &'t str, behind: &'t str) -> Read<'t>
+    ensures { token_seen result ≡ spec.raw_string quoted (chars text.now) (chars behind.now) }
+{
+    let (hashes, quote) = hashes(behind);
+    if begins_with(quote, "\"") {
+        raw_body(quoted, text, hashes, tail(quote))
+    } else {
+        fault!(RawStringStart, text)
+    }
 }
 
 // Whether a raw string goes on here, or is meant to, after its first letters.
@@ -169,65 +254,104 @@ fn begins_raw(behind: &str) -> bool
 }
 
 // What begins with a `r`.
-fn read_r<'t>(edition: Edition, text: &'t str, behind: &'t str) -> Read<'t> {
-    match past_front(behind, "#") {
+fn read_r(edition: Edition, text: &str) -> Read<'_>
+    ensures { token_seen result ≡ spec.read_r edition (chars text.now) }
+{
+    let behind = tail(text);
+    match past_front(text, "r#") {
         Some(name) if begins(name, Class::IdentStart) => raw_identifier(text, name),
-        _ if begins_raw(behind) => raw(text, behind, Quoted::Str),
+        _ if begins_raw(behind) => raw(Quoted::Str, text, behind),
         _ => identifier(edition, text),
     }
 }
 
 // What begins with a `b`.
-fn read_b<'t>(edition: Edition, text: &'t str, behind: &'t str) -> Read<'t> {
-    match split_first(behind) {
-        Some(('\'', _)) => char(text, behind, LitKind::Byte, Quoted::Byte),
-        Some(('"', _)) => string(behind, LitKind::ByteStr, Quoted::ByteStr),
-        Some(('r', hashes)) if begins_raw(hashes) => raw(text, hashes, Quoted::ByteStr),
+fn read_b(edition: Edition, text: &str) -> Read<'_>
+    ensures { token_seen result ≡ spec.read_b edition (chars text.now) }
+{
+    if begins_with(text, "b'") {
+        return char(LitKind::Byte, Quoted::Byte, text, tail(text));
+    }
+    if begins_with(text, "b\"") {
+        return string(LitKind::ByteStr, Quoted::ByteStr, tail(text));
+    }
+    match past_front(text, "br") {
+        Some(hashes) if begins_raw(hashes) => raw(Quoted::ByteStr, text, hashes),
         _ => identifier(edition, text),
     }
 }
 
 // What begins with a `c`: a C string since 2021.
-fn read_c<'t>(edition: Edition, text: &'t str, behind: &'t str) -> Read<'t> {
-    match split_first(behind) {
-        _ if !edition.at_least_2021() => identifier(edition, text),
-        Some(('"', _)) => string(behind, LitKind::CStr, Quoted::CStr),
-        Some(('r', hashes)) if begins_raw(hashes) => raw(text, hashes, Quoted::CStr),
+fn read_c(edition: Edition, text: &str) -> Read<'_>
+    ensures { token_seen result ≡ spec.read_c edition (chars text.now) }
+{
+    if !edition.at_least_2021() {
+        return identifier(edition, text);
+    }
+    if begins_with(text, "c\"") {
+        return string(LitKind::CStr, Quoted::CStr, tail(text));
+    }
+    match past_front(text, "cr") {
+        Some(hashes) if begins_raw(hashes) => raw(Quoted::CStr, text, hashes),
         _ => identifier(edition, text),
     }
 }
 
 // ---- lifetimes
 
-// A lifetime of that name.
-fn lifetime<'t>(name: &'t str, is_raw: IdentIsRaw, rest: &'t str) -> Read<'t> {
+// A lifetime of the name up to this rest.
+fn named<'t>(name: &'t str, is_raw: IdentIsRaw, rest: &'t str) -> Read<'t>
+    ensures { token_seen result ≡ Ok (lifetime_of name.now is_raw, chars rest.now) }
+{
     Ok((Lexeme::Lifetime { name, is_raw }, rest))
 }
 
 // A lifetime with a `r#`, whose name stands after it.
-fn raw_lifetime<'t>(text: &'t str, behind: &'t str) -> Read<'t> {
+fn raw_lifetime<'t>(text: &'t str, behind: &'t str) -> Read<'t>
+    ensures { token_seen result ≡ spec.raw_lifetime (chars text.now) (chars behind.now) }
+{
     let rest = past_word(behind);
-    let name = before(behind, rest);
+    let name = front(behind, rest);
     if begins_with(rest, "'") {
-        return fault(Wrong::SeveralChars, text);
+        return fault!(SeveralChars, text);
     }
     if !may_be_raw(name) {
-        return fault(Wrong::RawName, text);
+        return fault!(RawName, text);
     }
-    lifetime(name, IdentIsRaw::Yes, rest)
+    named(name, IdentIsRaw::Yes, rest)
 }
 
 // A lifetime without a `r#`, whose name stands after the `'`.
-fn plain_lifetime<'t>(edition: Edition, text: &'t str, behind: &'t str) -> Read<'t> {
+fn plain_lifetime<'t>(edition: Edition, text: &'t str, behind: &'t str) -> Read<'t>
+    ensures { token_seen result
+        ≡ spec.plain_lifetime edition (chars text.now) (chars behind.now) }
+{
     let rest = past_word(behind);
     if begins_with(rest, "'") {
-        fault(Wrong::SeveralChars, text)
+        fault!(SeveralChars, text)
     } else if begins(behind, Class::Decimal) {
-        fault(Wrong::LifetimeDigit, text)
-    } else if begins_with(rest, "#") && edition.at_least_2021() {
-        fault(Wrong::Prefix, text)
+        fault!(LifetimeDigit, text)
+    } else if edition.at_least_2021() && begins_with(rest, "#") {
+        fault!(Prefix, text)
     } else {
-        lifetime(before(behind, rest), IdentIsRaw::No, rest)
+        named(front(behind, rest), IdentIsRaw::No, rest)
+    }
+}
+
+// A lifetime. Before 2021 `'r#a` is the lifetime `'r`, and more after it.
+fn lifetime(edition: Edition, text: &str) -> Read<'_>
+    ensures { token_seen result ≡ spec.lifetime edition (chars text.now) }
+{
+    let behind = tail(text);
+    match past_front(text, "'r#") {
+        Some(name) if begins(name, Class::IdentStart) => {
+            if edition.at_least_2021() {
+                return raw_lifetime(text, name);
+            }
+            let rest = tail(behind);
+            named(front(behind, rest), IdentIsRaw::No, rest)
+        }
+        _ => plain_lifetime(edition, text, behind),
     }
 }
 
@@ -244,20 +368,13 @@ fn begins_lifetime(behind: &str) -> bool
 }
 
 // What begins with a `'`.
-fn read_quote<'t>(edition: Edition, text: &'t str, behind: &'t str) -> Read<'t> {
-    if !begins_lifetime(behind) {
-        return char(text, text, LitKind::Char, Quoted::Char);
-    }
-    match past_front(behind, "r#") {
-        Some(name) if edition.at_least_2021() && begins(name, Class::IdentStart) => {
-            raw_lifetime(text, name)
-        }
-        // (before 2021 `'r#a` is the lifetime `'r`)
-        Some(name) if begins(name, Class::IdentStart) => {
-            let (_, rest) = split_first(behind).unwrap_or(('r', behind));
-            lifetime(before(behind, rest), IdentIsRaw::No, rest)
-        }
-        _ => plain_lifetime(edition, text, behind),
+fn read_quote(edition: Edition, text: &str) -> Read<'_>
+    ensures { token_seen result ≡ spec.read_quote edition (chars text.now) }
+{
+    if begins_lifetime(tail(text)) {
+        lifetime(edition, text)
+    } else {
+        char(LitKind::Char, Quoted::Char, text, text)
     }
 }
 
@@ -265,14 +382,41 @@ fn read_quote<'t>(edition: Edition, text: &'t str, behind: &'t str) -> Read<'t> 
 
 // The base that a number begins with.
 #[derive(Clone, Copy, PartialEq, Eq)]
-enum Base {
+pub(crate) enum Base {
     Two,
     Eight,
     Ten,
     Sixteen,
 }
 
-fn base_of(text: &str) -> (Base, &str) {
+impl Base {
+    // The digits that are passed. One that is too large is at fault later.
+    fn digit(self) -> Class
+        ensures { result ≡ spec.digit_of self }
+    {
+        match self {
+            Base::Sixteen => Class::HexDigit,
+            _ => Class::Digit,
+        }
+    }
+
+    // Whether such a digit is too large.
+    fn is_below(self, char: char) -> bool
+        ensures { result ≡ spec.is_too_large self char }
+    {
+        match self {
+            Base::Two => matches!(char, '2'..='9'),
+            Base::Eight => matches!(char, '8' | '9'),
+            _ => false,
+        }
+    }
+}
+
+// The base of the number that stands here, and its digits.
+fn base_of(text: &str) -> (Base, &str)
+    ensures base { result.0 ≡ (spec.base_of (chars text.now)).0 }
+    ensures rest { chars result.1.now ≡ (spec.base_of (chars text.now)).1 }
+{
     if let Some(rest) = past_front(text, "0b") {
         (Base::Two, rest)
     } else if let Some(rest) = past_front(text, "0o") {
@@ -284,107 +428,143 @@ fn base_of(text: &str) -> (Base, &str) {
     }
 }
 
-// What is after the digits of that base, and of any `_` among them. In base two and eight all decimal digits are passed, and
-// those that are too large are looked at later.
-fn past_digits(base: Base, text: &str) -> &str {
-    match base {
-        Base::Sixteen => past(text, Class::HexDigit),
-        _ => past(text, Class::Digit),
-    }
-}
-
 // Whether a number has a digit here, and not only `_`.
-fn has_digit(base: Base, text: &str) -> bool {
+fn has_digit(base: Base, text: &str) -> bool
+    ensures { result ≡ spec.has_digit base (chars text.now) }
+{
     let mut rest = text;
-    'digits: while let Some(after) = past_front(rest, "_") {
-        rest = after;
-    }
-    match split_first(rest) {
-        Some((char, _)) if base == Base::Sixteen => char.is_ascii_hexdigit(),
-        Some((char, _)) => Class::Decimal.has(char),
-        None => false,
+    'digits: loop {
+        match split_first(rest) {
+            Some(('_', after)) => rest = after,
+            Some((char, _)) => return base.digit().has(char),
+            None => return false,
+        }
     }
 }
 
 // What is after the exponent that stands here, where one does; a fault without a digit.
-fn past_exponent<'t>(text: &'t str, rest: &'t str) -> Result<Option<&'t str>, Fault<'t>> {
+fn past_exponent<'t>(text: &'t str, rest: &'t str) -> Result<Option<&'t str>, Fault<'t>>
+    ensures exact { passed_seen result ≡ spec.past_exponent (chars text.now) (chars rest.now) }
+    ensures end { IfOk result (λ after. IfSome after (λ a. IsEnd rest.now a.now)) }
+{
     let Some(behind) = past_one(rest, Class::Exponent) else {
         return Ok(None);
     };
     let digits = past_one(behind, Class::Sign).unwrap_or(behind);
     if !has_digit(Base::Ten, digits) {
-        return fault(Wrong::Exponent, text);
+        return fault!(Exponent, text);
     }
     Ok(Some(past(digits, Class::Digit)))
 }
 
-// What is after the fraction and the exponent that stand here, where one of them does. An exponent is after a fraction's digits.
-fn past_fraction<'t>(text: &'t str, rest: &'t str) -> Result<Option<&'t str>, Fault<'t>> {
-    match past_front(rest, ".") {
-        Some(behind) if begins_with(behind, ".") || begins(behind, Class::IdentStart) => Ok(None),
-        Some(behind) if begins(behind, Class::Decimal) => {
-            let after = past(behind, Class::Digit);
-            Ok(Some(past_exponent(text, after)?.unwrap_or(after)))
-        }
-        Some(behind) => Ok(Some(behind)),
-        None => past_exponent(text, rest),
+// What is after the digits of a fraction, and after the exponent that may follow them.
+fn past_digits<'t>(text: &'t str, digits: &'t str) -> Result<Option<&'t str>, Fault<'t>>
+    ensures exact { passed_seen result ≡ spec.past_digits (chars text.now) (chars digits.now) }
+    ensures end { IfOk result (λ after. IfSome after (λ a. IsEnd digits.now a.now)) }
+{
+    let rest = past(digits, Class::Digit);
+    match past_exponent(text, rest) {
+        Ok(after) => Ok(Some(after.unwrap_or(rest))),
+        Err(it) => Err(it),
     }
 }
 
-// The first digit of a number that is too large for its base, with what is after it.
-fn large_digit(base: Base, digits: &str) -> Option<&str> {
+// What is after the fraction and the exponent that stand here, where one of them does. An exponent is after a fraction's digits.
+fn past_fraction<'t>(text: &'t str, rest: &'t str) -> Result<Option<&'t str>, Fault<'t>>
+    ensures exact { passed_seen result ≡ spec.past_fraction (chars text.now) (chars rest.now) }
+    ensures end { IfOk result (λ after. IfSome after (λ a. IsEnd rest.now a.now)) }
+{
+    if !begins_with(rest, ".") {
+        return past_exponent(text, rest);
+    }
+    let behind = tail(rest);
+    if begins_with(behind, ".") || begins(behind, Class::IdentStart) {
+        Ok(None)
+    } else if begins(behind, Class::Decimal) {
+        past_digits(text, behind)
+    } else {
+        Ok(Some(behind))
+    }
+}
+
+// From the first digit of a number on that is too large for its base.
+fn large_digit(base: Base, digits: &str) -> Option<&str>
+    ensures { maybe_seen result ≡ spec.large_digit base (chars digits.now) }
+{
     let mut rest = digits;
     'digits: loop {
         let (char, after) = split_first(rest)?;
-        match char {
-            '2'..='9' if base == Base::Two => return Some(rest),
-            '8' | '9' if base == Base::Eight => return Some(rest),
-            _ if Class::Digit.has(char) => rest = after,
-            _ => return None,
+        if base.is_below(char) {
+            return Some(rest);
         }
+        if !Class::Digit.has(char) {
+            return None;
+        }
+        rest = after;
+    }
+}
+
+// A float up to this rest, where its suffix stands.
+fn float<'t>(base: Base, text: &'t str, rest: &'t str) -> Read<'t>
+    requires { IsEnd text.now rest.now }
+    ensures { token_seen result ≡ spec.float base (chars text.now) (chars rest.now) }
+{
+    match base {
+        Base::Ten => literal(LitKind::Float, front(text, rest), rest),
+        _ => fault!(FloatBase, text),
+    }
+}
+
+// An integer of these digits up to this rest, where its suffix stands.
+fn integer<'t>(base: Base, text: &'t str, digits: &'t str, rest: &'t str) -> Read<'t>
+    requires { IsEnd text.now rest.now }
+    ensures { token_seen result
+        ≡ spec.integer base (chars text.now) (chars digits.now) (chars rest.now) }
+{
+    match large_digit(base, digits) {
+        Some(at) => fault!(Digit, at),
+        None => literal(LitKind::Integer, front(text, rest), rest),
     }
 }
 
 // A number.
 fn number(text: &str) -> Read<'_>
-    ensures exact { Reads (spec.number (chars text.now)) result }
-    ensures end { ReadsEnd text.now result }
+    ensures { token_seen result ≡ spec.number (chars text.now) }
 {
     let (base, digits) = base_of(text);
     if !has_digit(base, digits) {
-        return fault(Wrong::NoDigits, text);
+        return fault!(NoDigits, text);
     }
-    let rest = past_digits(base, digits);
-    if let Some(after) = past_fraction(text, rest)? {
-        return match base {
-            Base::Ten => literal(LitKind::Float, before(text, after), after),
-            _ => fault(Wrong::FloatBase, text),
-        };
+    let rest = past(digits, base.digit());
+    match past_fraction(text, rest) {
+        Ok(Some(after)) => float(base, text, after),
+        Ok(None) => integer(base, text, digits, rest),
+        Err(it) => Err(it),
     }
-    if let Some(at) = large_digit(base, digits) {
-        return fault(Wrong::Digit, at);
-    }
-    literal(LitKind::Integer, before(text, rest), rest)
 }
 
 // ---- comments
 
-// What is after the block comment that begins here, with those inside it.
-pub(crate) fn past_block(text: &str) -> Option<&str> {
-    let mut rest = past_front(text, "/*")?;
-    let mut depth = 0u32;
+// From the `*/` on that ends a block comment, whose text stands here.
+fn comment_end(text: &str) -> Option<&str>
+    ensures exact { maybe_seen result ≡ extents.from_comment_end 0 (chars text.now) }
+    ensures end { IfSome result (λ end. IsEnd text.now end.now) }
+{
+    let mut rest = text;
+    let mut depth = 0u64;
     'chars: loop {
-        let (char, after) = split_first(rest)?;
-        rest = after;
-        if char == '/' && begins_with(after, "*") {
-            depth = depth.saturating_add(1);
-            rest = split_first(after)?.1;
-        } else if char == '*' && begins_with(after, "/") {
-            rest = split_first(after)?.1;
+        let (_, after) = split_first(rest)?;
+        if begins_with(rest, "/*") {
+            depth += 1;
+            rest = tail(after);
+        } else if begins_with(rest, "*/") {
             if depth == 0 {
                 return Some(rest);
             }
-            depth = depth.saturating_sub(1);
+            depth -= 1;
+            rest = tail(after);
+        } else {
+            rest = after;
         }
     }
 }
@@ -393,81 +573,113 @@ pub(crate) fn past_block(text: &str) -> Option<&str> {
 pub(crate) fn begins_doc(text: &str) -> bool
     ensures { result ≡ spec.begins_doc (chars text.now) }
 {
-    let is_line = begins_with(text, "///") && !begins_with(text, "////");
-    let is_block = begins_with(text, "/**")
-        && !begins_with(text, "/***")
-        && !begins_with(text, "/**/");
-    is_line || is_block || begins_with(text, "//!") || begins_with(text, "/*!")
+    (begins_with(text, "///") && !begins_with(text, "////"))
+        || begins_with(text, "//!")
+        || (begins_with(text, "/**") && !(begins_with(text, "/***") || begins_with(text, "/**/")))
+        || begins_with(text, "/*!")
 }
 
-// The text of the doc comment that stands here, and what is after the comment; `None` without its end.
-fn doc_text(text: &str) -> Option<(&str, &str)> {
-    let body = text.get(3..).unwrap_or("");
-    if begins_with(text, "//") {
-        let rest = past(body, Class::InLine);
-        return Some((before(body, rest), rest));
-    }
-    let rest = past_block(text)?;
-    let inside = before(body, rest);
-    Some((inside.strip_suffix("*/").unwrap_or(inside), rest))
-}
-
-// A doc comment, which has no carriage return.
-fn doc(text: &str) -> Read<'_>
-    ensures exact { spec.begins_doc (chars text.now) ≡ true → Reads (spec.doc (chars text.now)) result }
+// From the first carriage return on.
+fn from_return(text: &str) -> Option<&str>
+    ensures exact { maybe_seen result ≡ spec.from_return (chars text.now) }
+    ensures end { IfSome result (λ at. IsEnd text.now at.now) }
 {
-    let Some((content, rest)) = doc_text(text) else {
-        return fault(Wrong::OpenComment, text);
-    };
-    let body = text.get(3..).unwrap_or("");
-    if let Some(at) = content.find('\r') {
-        return fault(Wrong::BareReturn, body.get(at..).unwrap_or(""));
+    let mut rest = text;
+    'chars: loop {
+        let (char, after) = split_first(rest)?;
+        if char == '\r' {
+            return Some(rest);
+        }
+        rest = after;
     }
+}
+
+// A doc comment whose text ends there, which has no carriage return, and what is after the comment.
+fn doc_until<'t>(is_inner: bool, body: &'t str, end: &'t str, rest: &'t str) -> Read<'t>
+    requires { IsEnd body.now end.now }
+    ensures { token_seen result
+        ≡ spec.doc_until is_inner (chars body.now) (chars end.now) (chars rest.now) }
+{
+    let text = front(body, end);
+    match from_return(text) {
+        Some(at) => Err(inside(
+            body,
+            end,
+            Fault {
+                wrong: Wrong::BareReturn,
+                at,
+            },
+        )),
+        None => Ok((Lexeme::Doc { text, is_inner }, rest)),
+    }
+}
+
+// A doc comment.
+fn doc(text: &str) -> Read<'_>
+    ensures { token_seen result ≡ spec.doc (chars text.now) }
+{
     let is_inner = begins_with(text, "//!") || begins_with(text, "/*!");
-    let lexeme = Lexeme::Doc {
-        text: content,
-        is_inner,
-    };
-    Ok((lexeme, rest))
+    let body = tail(tail(tail(text)));
+    if begins_with(text, "//") {
+        let end = past(body, Class::InLine);
+        return doc_until(is_inner, body, end, end);
+    }
+    match comment_end(body) {
+        Some(end) => doc_until(is_inner, body, end, tail(tail(end))),
+        None => fault!(OpenComment, text),
+    }
 }
 
 // ---- the table
 
-// What begins with a `#`: since 2024 neither a second `#` nor a string is right after it.
-fn read_hash<'t>(edition: Edition, text: &'t str, behind: &'t str) -> Option<Fault<'t>> {
-    let after = past(behind, Class::Hash);
-    let is_guarded = begins_with(behind, "#") || begins_with(behind, "\"");
-    if edition != Edition::Edition2024 || !is_guarded {
-        return None;
-    }
-    let (wrong, at) = match past_front(after, "\"") {
-        None => (Wrong::Hashes, text),
-        Some(body) if string_text(body).is_none() => (Wrong::OpenString, after),
-        Some(_) => (Wrong::GuardedString, text),
-    };
-    Some(Fault { wrong, at })
+// Whether this `#` is right before another or right before a string, which it isn't since 2024.
+fn is_guard(edition: Edition, text: &str) -> bool
+    ensures { result ≡ spec.is_guard edition (chars text.now) }
+{
+    edition.at_least_2024() && (begins_with(text, "##") || begins_with(text, "#\""))
 }
 
-/// The token of Rust that begins a text, whose first character is this, and what is left after it; `None` for a sign, which is
-/// read as in each dialect.
-pub(crate) fn read_rust<'t>(edition: Edition, text: &'t str) -> Option<Read<'t>>
-    ensures exact { MatchOption result (spec.read_rust edition (chars text.now) ≡ None)
-        (λ read. (token : spec.Token) × (spec.read_rust edition (chars text.now) ≡ Some token)
-        × Reads token read) }
-    ensures end { IfSome result (ReadsEnd text.now) }
-    ensures past { IfSome result (λ read. IfOk read (λ r. length r.1.now < length text.now)) }
+// What is wrong then.
+fn guarded(text: &str) -> Fault<'_>
+    ensures { fault_seen result ≡ spec.guarded (chars text.now) }
 {
-    let (first, behind) = split_first(text)?;
-    match first {
-        'r' => Some(read_r(edition, text, behind)),
-        'b' => Some(read_b(edition, text, behind)),
-        'c' => Some(read_c(edition, text, behind)),
-        _ if Class::IdentStart.has(first) => Some(identifier(edition, text)),
-        _ if Class::Decimal.has(first) => Some(number(text)),
-        '"' => Some(string(text, LitKind::Str, Quoted::Str)),
-        '\'' => Some(read_quote(edition, text, behind)),
-        '#' => Some(Err(read_hash(edition, text, behind)?)),
-        '/' if begins_doc(text) => Some(doc(text)),
-        _ => None,
+    let quote = past(text, Class::Hash);
+    let (wrong, at) = if !begins_with(quote, "\"") {
+        (Wrong::Hashes, text)
+    } else if string_end(tail(quote)).is_none() {
+        (Wrong::OpenString, quote)
+    } else {
+        (Wrong::GuardedString, text)
+    };
+    Fault { wrong, at }
+}
+
+/// The token of Rust that begins a text, and what is left after it; `None` for a sign, which is read as in each dialect.
+pub(crate) fn read_rust(edition: Edition, text: &str) -> Option<Read<'_>>
+    ensures exact { seen result ≡ spec.read_rust edition (chars text.now) }
+    ensures end { IfSome result (λ read. IfOk read (λ p. IsEnd text.now p.1.now)) }
+    ensures past { IfSome result (λ read. IfOk read (λ p. length p.1.now < length text.now)) }
+    ensures place { IfSome result (λ read. IfErr read (λ fault. IsEnd text.now fault.at.now)) }
+{
+    if begins_with(text, "r") {
+        Some(read_r(edition, text))
+    } else if begins_with(text, "b") {
+        Some(read_b(edition, text))
+    } else if begins_with(text, "c") {
+        Some(read_c(edition, text))
+    } else if begins(text, Class::IdentStart) {
+        Some(identifier(edition, text))
+    } else if begins(text, Class::Decimal) {
+        Some(number(text))
+    } else if begins_with(text, "\"") {
+        Some(string(LitKind::Str, Quoted::Str, text))
+    } else if begins_with(text, "'") {
+        Some(read_quote(edition, text))
+    } else if is_guard(edition, text) {
+        Some(Err(guarded(text)))
+    } else if begins_doc(text) {
+        Some(doc(text))
+    } else {
+        None
     }
 }

@@ -727,7 +727,7 @@ impl<'t> Scanner<'t> {
     fn rust_lexeme(&mut self, edition: Edition) -> Result<Lexeme<'t>, LexFault>
         requires { 0 < length self.old.rest.now }
         ensures on { GoesOn self.old self.new }
-        ensures past { Advances self.old self.new }
+        ensures past { IfOk result (λ _. Advances self.old self.new) }
         ensures within { IfErr result (λ fault. fault.offset ≤ self.old.total) }
         ensures exact { Gives
             (dialects.read_rust edition self.old.total (chars self.old.rest.now))
@@ -796,7 +796,7 @@ impl<'t> Scanner<'t> {
     fn lexeme(&mut self, char: char) -> Result<Lexeme<'t>, LexFault>
         requires { 0 < length self.old.rest.now }
         ensures on { GoesOn self.old self.new }
-        ensures past { Advances self.old self.new }
+        ensures past { IfOk result (λ _. Advances self.old self.new) }
         ensures reads { self.old.dialect ≡ Sample → Begins char self.old.rest.now
             → IfOk result (λ l. self.old.rest.now ≡ lexeme_text l ++ self.new.rest.now) }
         ensures within { IfErr result (λ fault. fault.offset ≤ self.old.total) }

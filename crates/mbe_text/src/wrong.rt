@@ -127,3 +127,12 @@ pub(crate) struct Fault<'t> {
     pub wrong: Wrong,
     pub at: &'t str,
 }
+
+// The result where that is wrong from there on.
+macro_rules! fault {
+    ($wrong:ident, $at:expr) => {
+        Err(Fault { wrong: Wrong::$wrong, at: $at })
+    };
+}
+
+pub(crate) use fault;
