@@ -146,6 +146,9 @@ fn scanned<'t>(text: &'t str, token: scanner::Token<'t>) -> Lexeme<'t> {
         },
         scanner::Lexeme::Open(kind) => Lexeme::Open(kind),
         scanner::Lexeme::Close(_) => Lexeme::Close,
+        // (of the Rust dialect alone)
+        scanner::Lexeme::Lifetime { name, .. } => Lexeme::Word(name),
+        scanner::Lexeme::Doc { text, .. } => Lexeme::Text(text),
     }
 }
 

@@ -101,6 +101,15 @@ trees_of dialect file text = elim (levels_at_end dialect file text) [
       else Ok (ended (bytes_of file (length text) (length text)) levels)
 ]
 
+-- the trees, or the byte at fault alone
+abbrev pub by_byte : Result Top LexFault → Result Top ℕ
+by_byte (Ok trees) = Ok trees
+by_byte (Err fault) = Err fault.offset
+
+-- those of the sample dialect
+abbrev pub sample_trees : ℕ → List ℕ → Result Top ℕ
+sample_trees file text = by_byte (trees_of Sample file text)
+
 -- that is what a call returned, unless it was out of memory
 abbrev pub Lexes : Result Top LexFault → Result Top LexError → Type 0
 Lexes lexed (Ok trees) = lexed ≡ Ok trees
