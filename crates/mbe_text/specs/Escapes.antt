@@ -34,6 +34,16 @@ abbrev pub checked_seen : Result (Unit {0}) Fault → Checked
 checked_seen (Ok _) = Ok tt
 checked_seen (Err fault) = Err (fault_seen fault)
 
+-- the text at which such a call stopped, where it found something wrong too
+abbrev pub stop : Result (Bor (List ℕ)) Fault → List ℕ
+stop (Ok rest) = rest.now
+stop (Err fault) = fault.at.now
+
+-- what it left, if anything
+abbrev pub left : Result (Bor (List ℕ)) Fault → List ℕ
+left (Ok rest) = rest.now
+left (Err _) = []
+
 -- of one character
 abbrev pub is_single : Quoted → Bool
 is_single Char = true

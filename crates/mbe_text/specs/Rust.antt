@@ -33,6 +33,16 @@ abbrev pub token_seen : Result (Lexeme × Bor (List ℕ)) Fault → Token
 token_seen (Ok read) = Ok (shape_of read.0, chars read.1.now)
 token_seen (Err fault) = Err (fault_seen fault)
 
+-- the text at which such a call stopped, where it found something wrong too
+abbrev pub read_stop : Result (Lexeme × Bor (List ℕ)) Fault → List ℕ
+read_stop (Ok read) = read.1.now
+read_stop (Err fault) = fault.at.now
+
+-- what it left, if anything
+abbrev pub read_left : Result (Lexeme × Bor (List ℕ)) Fault → List ℕ
+read_left (Ok read) = read.1.now
+read_left (Err _) = []
+
 abbrev pub seen : Option (Result (Lexeme × Bor (List ℕ)) Fault) → Option Token
 seen None = None
 seen (Some read) = Some (token_seen read)
@@ -44,6 +54,17 @@ maybe_seen (Some rest) = Some (chars rest.now)
 abbrev pub passed_seen : Result (Option (Bor (List ℕ))) Fault → Result (Option (List ℕ)) At
 passed_seen (Ok rest) = Ok (maybe_seen rest)
 passed_seen (Err fault) = Err (fault_seen fault)
+
+-- the same two of a call that may pass nothing, and then leaves that text
+abbrev pub passed_stop : List ℕ → Result (Option (Bor (List ℕ))) Fault → List ℕ
+passed_stop text (Ok None) = text
+passed_stop text (Ok (Some rest)) = rest.now
+passed_stop text (Err fault) = fault.at.now
+
+abbrev pub passed_left : Result (Option (Bor (List ℕ))) Fault → List ℕ
+passed_left (Ok None) = []
+passed_left (Ok (Some rest)) = rest.now
+passed_left (Err _) = []
 
 -- ---- words
 
@@ -291,7 +312,7 @@ integer base cs digits rest = elim (large_digit base digits) [
 
 abbrev pub number_of : Base → List ℕ → List ℕ → Token
 number_of base cs digits =
-    let rest = past (digit_of base) digits in
+    let rest = past (digit_of base) (drop 1 digits) in
     if not (has_digit base digits) then Err (wrong.NoDigits, cs)
     else elim (past_fraction cs rest) [
       | Err at ↦ Err at

@@ -1,11 +1,12 @@
 // What stands between the quotes of Rust's literals: where it ends, and whether its characters and escapes are right.
-ghost use Rattle.std.specs.Prelude.{◌≡◌, ◌∷◌, ◌++◌, ◌+◌, ◌≤◌, List, ℕ, length, drop, chars, true, false, None, Some, MatchOption, IfSome, IfOk, IfErr, IsTrue};
+ghost use Rattle.std.specs.Prelude.{◌≡◌, ◌∷◌, ◌++◌, ◌+◌, ◌<◌, ◌≤◌, List, ℕ, length, drop, chars, true, false, None, Some, MatchOption, IfSome, IfOk, IfErr, IsTrue};
 ghost use Rattle.std.specs.Char.{digit_value};
+ghost use Rattle.std.specs.Str.{IsUtf8};
 ghost use Rattle.mbe_text.specs.Characters.{bytes_before, are_ascii};
 ghost use Rattle.mbe_text.specs.Words as words;
 ghost use Rattle.mbe_text.specs.Ends.{IsEnd};
 ghost use Rattle.mbe_text.specs.Escapes as spec;
-ghost use Rattle.mbe_text.specs.Escapes.{left_seen, checked_seen};
+ghost use Rattle.mbe_text.specs.Escapes.{left_seen, checked_seen, stop, left};
 ghost use Rattle.mbe_text.specs.Extents as extents;
 
 use crate::characters::{Class, before, begins_with, past, past_front, split_first};
@@ -48,6 +49,7 @@ impl Quoted {
 pub(crate) fn tail(text: &str) -> &str
     ensures exact { chars result.now ≡ drop 1 (chars text.now) }
     ensures end { IsEnd text.now result.now }
+    ensures past { 0 < length text.now → length result.now < length text.now }
 {
     match split_first(text) {
         Some((_, rest)) => rest,
@@ -59,6 +61,7 @@ pub(crate) fn tail(text: &str) -> &str
 pub(crate) fn past_word(text: &str) -> &str
     ensures exact { chars result.now ≡ words.past_word (chars text.now) }
     ensures end { IsEnd text.now result.now }
+    ensures past { 0 < length text.now → length result.now < length text.now }
 {
     past(tail(text), Class::IdentContinue)
 }
@@ -80,7 +83,10 @@ fn past_second<'t>(
     high: u32,
     quoted: Quoted,
 ) -> Result<&'t str, Fault<'t>>
-    ensures { left_seen result ≡ spec.past_second quoted (chars from.now) high (chars text.now) }
+    ensures exact { left_seen result ≡ spec.past_second quoted (chars from.now) high (chars text.now) }
+    ensures end { IsEnd from.now text.now → IsEnd from.now (stop result) }
+    ensures rest { length (left result) ≤ length text.now }
+    ensures text { IsUtf8 (left result) }
 {
     let Some((char, rest)) = split_first(text) else {
         return fault!(ShortHexEscape, from);
@@ -99,7 +105,10 @@ fn past_second<'t>(
 
 // What is after the two digits of a `\x` that begins at `from`.
 fn past_hex<'t>(from: &'t str, text: &'t str, quoted: Quoted) -> Result<&'t str, Fault<'t>>
-    ensures { left_seen result ≡ spec.past_hex quoted (chars from.now) (chars text.now) }
+    ensures exact { left_seen result ≡ spec.past_hex quoted (chars from.now) (chars text.now) }
+    ensures end { IsEnd from.now text.now → IsEnd from.now (stop result) }
+    ensures rest { length (left result) ≤ length text.now }
+    ensures text { IsUtf8 (left result) }
 {
     let Some((char, rest)) = split_first(text) else {
         return fault!(ShortHexEscape, from);
@@ -118,8 +127,11 @@ fn past_value<'t>(
     count: u32,
     quoted: Quoted,
 ) -> Result<&'t str, Fault<'t>>
-    ensures { left_seen result
+    ensures exact { left_seen result
         ≡ spec.past_value quoted (chars from.now) value count (chars text.now) }
+    ensures end { IsEnd from.now text.now → IsEnd from.now (stop result) }
+    ensures rest { length (left result) ≤ length text.now }
+    ensures text { IsUtf8 (left result) }
 {
     if count > 6 {
         fault!(LongUnicodeEscape, from)
@@ -142,7 +154,10 @@ fn past_digits<'t>(
     quoted: Quoted,
 ) -> Result<&'t str, Fault<'t>>
     requires { first ≤ 15 }
-    ensures { left_seen result ≡ spec.past_digits quoted (chars from.now) first 1 (chars text.now) }
+    ensures exact { left_seen result ≡ spec.past_digits quoted (chars from.now) first 1 (chars text.now) }
+    ensures end { IsEnd from.now text.now → IsEnd from.now (stop result) }
+    ensures rest { length (left result) ≤ length text.now }
+    ensures text { IsUtf8 (left result) }
 {
     let mut value = first;
     let mut count = 1u32;
@@ -167,7 +182,10 @@ fn past_digits<'t>(
 
 // What is after a `\u{` that begins at `from`.
 fn past_braces<'t>(from: &'t str, text: &'t str, quoted: Quoted) -> Result<&'t str, Fault<'t>>
-    ensures { left_seen result ≡ spec.past_braces quoted (chars from.now) (chars text.now) }
+    ensures exact { left_seen result ≡ spec.past_braces quoted (chars from.now) (chars text.now) }
+    ensures end { IsEnd from.now text.now → IsEnd from.now (stop result) }
+    ensures rest { length (left result) ≤ length text.now }
+    ensures text { IsUtf8 (left result) }
 {
     let Some((char, rest)) = split_first(text) else {
         return fault!(OpenUnicodeEscape, from);
@@ -186,7 +204,10 @@ fn past_braces<'t>(from: &'t str, text: &'t str, quoted: Quoted) -> Result<&'t s
 
 // What is after a `\u` that begins at `from`.
 fn past_unicode<'t>(from: &'t str, text: &'t str, quoted: Quoted) -> Result<&'t str, Fault<'t>>
-    ensures { left_seen result ≡ spec.past_unicode quoted (chars from.now) (chars text.now) }
+    ensures exact { left_seen result ≡ spec.past_unicode quoted (chars from.now) (chars text.now) }
+    ensures end { IsEnd from.now text.now → IsEnd from.now (stop result) }
+    ensures rest { length (left result) ≤ length text.now }
+    ensures text { IsUtf8 (left result) }
 {
     match split_first(text) {
         Some(('{', rest)) => past_braces(from, rest, quoted),
@@ -196,7 +217,10 @@ fn past_unicode<'t>(from: &'t str, text: &'t str, quoted: Quoted) -> Result<&'t 
 
 // What is after the escape that begins at `from`, after its `\`.
 fn past_escape<'t>(from: &'t str, text: &'t str, quoted: Quoted) -> Result<&'t str, Fault<'t>>
-    ensures { left_seen result ≡ spec.past_escape quoted (chars from.now) (chars text.now) }
+    ensures exact { left_seen result ≡ spec.past_escape quoted (chars from.now) (chars text.now) }
+    ensures end { IsEnd from.now text.now → IsEnd from.now (stop result) }
+    ensures rest { length (left result) ≤ length text.now }
+    ensures text { IsUtf8 (left result) }
 {
     let Some((char, rest)) = split_first(text) else {
         return fault!(Escape, from);
@@ -222,7 +246,10 @@ fn past_plain<'t>(
     quoted: Quoted,
 ) -> Result<&'t str, Fault<'t>>
     requires { chars text.now ≡ char ∷ chars after.now }
-    ensures { left_seen result ≡ spec.past_plain quoted char (chars after.now) }
+    ensures exact { left_seen result ≡ spec.past_plain quoted char (chars after.now) }
+    ensures end { IsEnd text.now after.now → IsEnd text.now (stop result) }
+    ensures rest { length (left result) ≤ length after.now }
+    ensures text { IsUtf8 (left result) }
 {
     if quoted.is_single() && matches!(char, '\n' | '\r' | '\t' | '\'') {
         fault!(CharToEscape, text)
@@ -246,8 +273,9 @@ fn past_unit<'t>(
 ) -> Result<&'t str, Fault<'t>>
     requires { chars text.now ≡ char ∷ chars after.now }
     ensures exact { left_seen result ≡ spec.past_unit quoted char (chars after.now) }
-    ensures end { IfOk result (λ rest. IsEnd after.now rest.now) }
-    ensures place { IfErr result (λ fault. IsEnd text.now fault.at.now) }
+    ensures end { IsEnd text.now after.now → IsEnd text.now (stop result) }
+    ensures rest { length (left result) ≤ length after.now }
+    ensures text { IsUtf8 (left result) }
 {
     if char == '\\' {
         past_escape(text, after, quoted)
@@ -271,7 +299,7 @@ pub(crate) fn check_string(text: &str, quoted: Quoted) -> Result<(), Fault<'_>>
 // What is left in the text of a char or a byte after its first character or escape.
 pub(crate) fn check_char(text: &str, quoted: Quoted) -> Result<&str, Fault<'_>>
     ensures exact { left_seen result ≡ spec.check_char quoted (chars text.now) }
-    ensures place { IfErr result (λ fault. IsEnd text.now fault.at.now) }
+    ensures end { IsEnd text.now (stop result) }
 {
     match split_first(text) {
         Some((char, after)) => past_unit(text, char, after, quoted),
@@ -362,6 +390,7 @@ pub(crate) fn raw_end<'t>(text: &'t str, hashes: &str) -> Option<(&'t str, &'t s
     ensures rest { IfSome result (λ p.
         chars p.1.now ≡ drop (length hashes.now + 1) (chars p.0.now)) }
     ensures end { IfSome result (λ p. IsEnd text.now p.0.now) }
+    ensures after { IfSome result (λ p. IsEnd text.now p.1.now) }
 {
     let mut rest = text;
     'chars: loop {

@@ -12,7 +12,9 @@ ghost use Rattle.mbe_text.specs.Ends.{IsEnd};
 ghost use Rattle.mbe_text.specs.Escapes.{fault_seen};
 ghost use Rattle.mbe_text.specs.Extents as extents;
 ghost use Rattle.mbe_text.specs.Rust as spec;
-ghost use Rattle.mbe_text.specs.Rust.{token_seen, seen, maybe_seen, passed_seen};
+ghost use Rattle.mbe_text.specs.Rust.{
+    token_seen, seen, read_stop, read_left, maybe_seen, passed_seen, passed_stop, passed_left,
+};
 
 use crate::characters::{Class, begins, begins_with, past, past_front, past_one, split_first};
 use crate::escapes::{
@@ -43,7 +45,9 @@ fn past_suffix(text: &str) -> &str
 
 // A literal of that text, with the suffix that stands at the rest.
 fn literal<'t>(kind: LitKind, text: &'t str, rest: &'t str) -> Read<'t>
-    ensures { token_seen result ≡ spec.literal kind text.now (chars rest.now) }
+    ensures exact { token_seen result ≡ spec.literal kind text.now (chars rest.now) }
+    ensures end { IsEnd rest.now (read_stop result) }
+    ensures rest { length (read_left result) ≤ length rest.now }
 {
     let after = past_suffix(rest);
     let suffix = front(rest, after);
@@ -71,7 +75,9 @@ fn may_be_raw(name: &str) -> bool
 
 // A raw identifier, whose name stands after its `r#`.
 fn raw_identifier<'t>(text: &'t str, behind: &'t str) -> Read<'t>
-    ensures { token_seen result ≡ spec.raw_identifier (chars text.now) (chars behind.now) }
+    ensures exact { token_seen result ≡ spec.raw_identifier (chars text.now) (chars behind.now) }
+    ensures end { IsEnd text.now behind.now → IsEnd text.now (read_stop result) }
+    ensures rest { length (read_left result) ≤ length behind.now }
 {
     let rest = past_word(behind);
     let name = front(behind, rest);
@@ -94,7 +100,9 @@ fn begins_reserved(rest: &str) -> bool
 
 // An identifier without a `r#`. Since 2021 it is no prefix of what no literal has.
 fn identifier(edition: Edition, text: &str) -> Read<'_>
-    ensures { token_seen result ≡ spec.plain_identifier edition (chars text.now) }
+    ensures exact { token_seen result ≡ spec.plain_identifier edition (chars text.now) }
+    ensures end { IsEnd text.now (read_stop result) }
+    ensures past { 0 < length text.now → length (read_left result) < length text.now }
 {
     let rest = past_word(text);
     if edition.at_least_2021() && begins_reserved(rest) {
@@ -112,8 +120,9 @@ fn identifier(edition: Edition, text: &str) -> Read<'_>
 // A fault of what stands between quotes, in the text that goes on after it to this end.
 fn inside<'t>(body: &'t str, end: &str, it: Fault<'_>) -> Fault<'t>
     requires { length it.at.entry.now + length end.now ≤ length body.now }
-    ensures { (content : List ℕ) → body.now ≡ content ++ end.now → IsEnd content it.at.now
+    ensures exact { (content : List ℕ) → body.now ≡ content ++ end.now → IsEnd content it.at.now
         → fault_seen result ≡ spec.within (chars end.now) (fault_seen it) }
+    ensures end { IsEnd body.now result.at.now }
 {
     let start = body.len() - end.len() - it.at.len();
     Fault {
@@ -125,7 +134,9 @@ fn inside<'t>(body: &'t str, end: &str, it: Fault<'_>) -> Fault<'t>
 // A string between its quotes, and what is after that.
 fn string_until<'t>(kind: LitKind, quoted: Quoted, body: &'t str, end: &'t str) -> Read<'t>
     requires { IsEnd body.now end.now }
-    ensures { token_seen result ≡ spec.string_until kind quoted (chars body.now) (chars end.now) }
+    ensures exact { token_seen result ≡ spec.string_until kind quoted (chars body.now) (chars end.now) }
+    ensures end { IsEnd body.now (read_stop result) }
+    ensures rest { length (read_left result) ≤ length end.now }
 {
     let content = front(body, end);
     match check_string(content, quoted) {
@@ -136,7 +147,9 @@ fn string_until<'t>(kind: LitKind, quoted: Quoted, body: &'t str, end: &'t str) 
 
 // A string, whose first quote stands here, after its first letters.
 fn string<'t>(kind: LitKind, quoted: Quoted, quote: &'t str) -> Read<'t>
-    ensures { token_seen result ≡ spec.string kind quoted (chars quote.now) }
+    ensures exact { token_seen result ≡ spec.string kind quoted (chars quote.now) }
+    ensures end { IsEnd quote.now (read_stop result) }
+    ensures past { 0 < length quote.now → length (read_left result) < length quote.now }
 {
     let body = tail(quote);
     match string_end(body) {
@@ -154,8 +167,10 @@ fn char_until<'t>(
     end: &'t str,
 ) -> Read<'t>
     requires { IsEnd body.now end.now }
-    ensures { token_seen result
+    ensures exact { token_seen result
         ≡ spec.char_until kind quoted (chars text.now) (chars body.now) (chars end.now) }
+    ensures end { IsEnd text.now body.now → IsEnd text.now (read_stop result) }
+    ensures rest { length (read_left result) ≤ length end.now }
 {
     let content = front(body, end);
     match check_char(content, quoted) {
@@ -169,7 +184,9 @@ fn char_until<'t>(
 
 // A char or a byte, whose first quote stands here, after its first letter.
 fn char<'t>(kind: LitKind, quoted: Quoted, text: &'t str, quote: &'t str) -> Read<'t>
-    ensures { token_seen result ≡ spec.char kind quoted (chars text.now) (chars quote.now) }
+    ensures exact { token_seen result ≡ spec.char kind quoted (chars text.now) (chars quote.now) }
+    ensures end { IsEnd text.now quote.now → IsEnd text.now (read_stop result) }
+    ensures past { 0 < length quote.now → length (read_left result) < length quote.now }
 {
     let body = tail(quote);
     match char_end(body) {
@@ -200,7 +217,9 @@ fn raw_until<'t>(
 ) -> Read<'t>
     requires end { IsEnd body.now end.now }
     requires rest { chars rest.now ≡ drop (hashes + 1) (chars end.now) }
-    ensures { token_seen result ≡ spec.raw_until quoted hashes (chars body.now) (chars end.now) }
+    ensures exact { token_seen result ≡ spec.raw_until quoted hashes (chars body.now) (chars end.now) }
+    ensures end { IsEnd body.now rest.now → IsEnd body.now (read_stop result) }
+    ensures left { length (read_left result) ≤ length rest.now }
 {
     let content = front(body, end);
     match check_raw(content, quoted) {
@@ -212,8 +231,10 @@ fn raw_until<'t>(
 // A raw string after its first quote, which these `#` precede.
 fn raw_body<'t>(quoted: Quoted, text: &'t str, hashes: &str, body: &'t str) -> Read<'t>
     requires { IsTrue (are_ascii hashes.now) }
-    ensures { token_seen result
+    ensures exact { token_seen result
         ≡ spec.raw_body quoted (chars text.now) hashes.now (chars body.now) }
+    ensures end { IsEnd text.now body.now → IsEnd text.now (read_stop result) }
+    ensures rest { length (read_left result) ≤ length body.now }
 {
     let Some((end, rest)) = raw_end(body, hashes) else {
         return fault!(OpenRawString, text);
@@ -229,6 +250,7 @@ fn hashes(text: &str) -> (&str, &str)
     ensures bytes { result.0.now ≡ bytes_before (chars text.now) (chars result.1.now) }
     ensures rest { chars result.1.now ≡ characters.past classes.Hash (chars text.now) }
     ensures ascii { IsTrue (are_ascii result.0.now) }
+    ensures end { IsEnd text.now result.1.now }
 {
     let rest = past(text, Class::Hash);
     (front(text, rest), rest)
@@ -236,7 +258,9 @@ fn hashes(text: &str) -> (&str, &str)
 
 // A raw string, which goes on with its `#` after its first letters.
 fn raw<'t>(quoted: Quoted, text: &'t str, behind: &'t str) -> Read<'t>
-    ensures { token_seen result ≡ spec.raw_string quoted (chars text.now) (chars behind.now) }
+    ensures exact { token_seen result ≡ spec.raw_string quoted (chars text.now) (chars behind.now) }
+    ensures end { IsEnd text.now behind.now → IsEnd text.now (read_stop result) }
+    ensures rest { length (read_left result) ≤ length behind.now }
 {
     let (hashes, quote) = hashes(behind);
     if begins_with(quote, "\"") {
@@ -255,7 +279,9 @@ fn begins_raw(behind: &str) -> bool
 
 // What begins with a `r`.
 fn read_r(edition: Edition, text: &str) -> Read<'_>
-    ensures { token_seen result ≡ spec.read_r edition (chars text.now) }
+    ensures exact { token_seen result ≡ spec.read_r edition (chars text.now) }
+    ensures end { IsEnd text.now (read_stop result) }
+    ensures past { 0 < length text.now → length (read_left result) < length text.now }
 {
     let behind = tail(text);
     match past_front(text, "r#") {
@@ -267,7 +293,9 @@ fn read_r(edition: Edition, text: &str) -> Read<'_>
 
 // What begins with a `b`.
 fn read_b(edition: Edition, text: &str) -> Read<'_>
-    ensures { token_seen result ≡ spec.read_b edition (chars text.now) }
+    ensures exact { token_seen result ≡ spec.read_b edition (chars text.now) }
+    ensures end { IsEnd text.now (read_stop result) }
+    ensures past { 0 < length text.now → length (read_left result) < length text.now }
 {
     if begins_with(text, "b'") {
         return char(LitKind::Byte, Quoted::Byte, text, tail(text));
@@ -283,7 +311,9 @@ fn read_b(edition: Edition, text: &str) -> Read<'_>
 
 // What begins with a `c`: a C string since 2021.
 fn read_c(edition: Edition, text: &str) -> Read<'_>
-    ensures { token_seen result ≡ spec.read_c edition (chars text.now) }
+    ensures exact { token_seen result ≡ spec.read_c edition (chars text.now) }
+    ensures end { IsEnd text.now (read_stop result) }
+    ensures past { 0 < length text.now → length (read_left result) < length text.now }
 {
     if !edition.at_least_2021() {
         return identifier(edition, text);
@@ -301,14 +331,18 @@ fn read_c(edition: Edition, text: &str) -> Read<'_>
 
 // A lifetime of the name up to this rest.
 fn named<'t>(name: &'t str, is_raw: IdentIsRaw, rest: &'t str) -> Read<'t>
-    ensures { token_seen result ≡ Ok (lifetime_of name.now is_raw, chars rest.now) }
+    ensures exact { token_seen result ≡ Ok (lifetime_of name.now is_raw, chars rest.now) }
+    ensures end { read_stop result ≡ rest.now }
+    ensures rest { read_left result ≡ rest.now }
 {
     Ok((Lexeme::Lifetime { name, is_raw }, rest))
 }
 
 // A lifetime with a `r#`, whose name stands after it.
 fn raw_lifetime<'t>(text: &'t str, behind: &'t str) -> Read<'t>
-    ensures { token_seen result ≡ spec.raw_lifetime (chars text.now) (chars behind.now) }
+    ensures exact { token_seen result ≡ spec.raw_lifetime (chars text.now) (chars behind.now) }
+    ensures end { IsEnd text.now behind.now → IsEnd text.now (read_stop result) }
+    ensures rest { length (read_left result) ≤ length behind.now }
 {
     let rest = past_word(behind);
     let name = front(behind, rest);
@@ -323,8 +357,10 @@ fn raw_lifetime<'t>(text: &'t str, behind: &'t str) -> Read<'t>
 
 // A lifetime without a `r#`, whose name stands after the `'`.
 fn plain_lifetime<'t>(edition: Edition, text: &'t str, behind: &'t str) -> Read<'t>
-    ensures { token_seen result
+    ensures exact { token_seen result
         ≡ spec.plain_lifetime edition (chars text.now) (chars behind.now) }
+    ensures end { IsEnd text.now behind.now → IsEnd text.now (read_stop result) }
+    ensures rest { length (read_left result) ≤ length behind.now }
 {
     let rest = past_word(behind);
     if begins_with(rest, "'") {
@@ -340,7 +376,9 @@ fn plain_lifetime<'t>(edition: Edition, text: &'t str, behind: &'t str) -> Read<
 
 // A lifetime. Before 2021 `'r#a` is the lifetime `'r`, and more after it.
 fn lifetime(edition: Edition, text: &str) -> Read<'_>
-    ensures { token_seen result ≡ spec.lifetime edition (chars text.now) }
+    ensures exact { token_seen result ≡ spec.lifetime edition (chars text.now) }
+    ensures end { IsEnd text.now (read_stop result) }
+    ensures past { 0 < length text.now → length (read_left result) < length text.now }
 {
     let behind = tail(text);
     match past_front(text, "'r#") {
@@ -369,7 +407,9 @@ fn begins_lifetime(behind: &str) -> bool
 
 // What begins with a `'`.
 fn read_quote(edition: Edition, text: &str) -> Read<'_>
-    ensures { token_seen result ≡ spec.read_quote edition (chars text.now) }
+    ensures exact { token_seen result ≡ spec.read_quote edition (chars text.now) }
+    ensures end { IsEnd text.now (read_stop result) }
+    ensures past { 0 < length text.now → length (read_left result) < length text.now }
 {
     if begins_lifetime(tail(text)) {
         lifetime(edition, text)
@@ -416,6 +456,7 @@ impl Base {
 fn base_of(text: &str) -> (Base, &str)
     ensures base { result.0 ≡ (spec.base_of (chars text.now)).0 }
     ensures rest { chars result.1.now ≡ (spec.base_of (chars text.now)).1 }
+    ensures end { IsEnd text.now result.1.now }
 {
     if let Some(rest) = past_front(text, "0b") {
         (Base::Two, rest)
@@ -445,7 +486,8 @@ fn has_digit(base: Base, text: &str) -> bool
 // What is after the exponent that stands here, where one does; a fault without a digit.
 fn past_exponent<'t>(text: &'t str, rest: &'t str) -> Result<Option<&'t str>, Fault<'t>>
     ensures exact { passed_seen result ≡ spec.past_exponent (chars text.now) (chars rest.now) }
-    ensures end { IfOk result (λ after. IfSome after (λ a. IsEnd rest.now a.now)) }
+    ensures end { IsEnd text.now rest.now → IsEnd text.now (passed_stop text.now result) }
+    ensures rest { length (passed_left result) ≤ length rest.now }
 {
     let Some(behind) = past_one(rest, Class::Exponent) else {
         return Ok(None);
@@ -460,7 +502,8 @@ fn past_exponent<'t>(text: &'t str, rest: &'t str) -> Result<Option<&'t str>, Fa
 // What is after the digits of a fraction, and after the exponent that may follow them.
 fn past_digits<'t>(text: &'t str, digits: &'t str) -> Result<Option<&'t str>, Fault<'t>>
     ensures exact { passed_seen result ≡ spec.past_digits (chars text.now) (chars digits.now) }
-    ensures end { IfOk result (λ after. IfSome after (λ a. IsEnd digits.now a.now)) }
+    ensures end { IsEnd text.now digits.now → IsEnd text.now (passed_stop text.now result) }
+    ensures rest { length (passed_left result) ≤ length digits.now }
 {
     let rest = past(digits, Class::Digit);
     match past_exponent(text, rest) {
@@ -472,7 +515,8 @@ fn past_digits<'t>(text: &'t str, digits: &'t str) -> Result<Option<&'t str>, Fa
 // What is after the fraction and the exponent that stand here, where one of them does. An exponent is after a fraction's digits.
 fn past_fraction<'t>(text: &'t str, rest: &'t str) -> Result<Option<&'t str>, Fault<'t>>
     ensures exact { passed_seen result ≡ spec.past_fraction (chars text.now) (chars rest.now) }
-    ensures end { IfOk result (λ after. IfSome after (λ a. IsEnd rest.now a.now)) }
+    ensures end { IsEnd text.now rest.now → IsEnd text.now (passed_stop text.now result) }
+    ensures rest { length (passed_left result) ≤ length rest.now }
 {
     if !begins_with(rest, ".") {
         return past_exponent(text, rest);
@@ -489,7 +533,8 @@ fn past_fraction<'t>(text: &'t str, rest: &'t str) -> Result<Option<&'t str>, Fa
 
 // From the first digit of a number on that is too large for its base.
 fn large_digit(base: Base, digits: &str) -> Option<&str>
-    ensures { maybe_seen result ≡ spec.large_digit base (chars digits.now) }
+    ensures exact { maybe_seen result ≡ spec.large_digit base (chars digits.now) }
+    ensures end { IfSome result (λ at. IsEnd digits.now at.now) }
 {
     let mut rest = digits;
     'digits: loop {
@@ -507,7 +552,9 @@ fn large_digit(base: Base, digits: &str) -> Option<&str>
 // A float up to this rest, where its suffix stands.
 fn float<'t>(base: Base, text: &'t str, rest: &'t str) -> Read<'t>
     requires { IsEnd text.now rest.now }
-    ensures { token_seen result ≡ spec.float base (chars text.now) (chars rest.now) }
+    ensures exact { token_seen result ≡ spec.float base (chars text.now) (chars rest.now) }
+    ensures end { IsEnd text.now (read_stop result) }
+    ensures rest { length (read_left result) ≤ length rest.now }
 {
     match base {
         Base::Ten => literal(LitKind::Float, front(text, rest), rest),
@@ -518,8 +565,10 @@ fn float<'t>(base: Base, text: &'t str, rest: &'t str) -> Read<'t>
 // An integer of these digits up to this rest, where its suffix stands.
 fn integer<'t>(base: Base, text: &'t str, digits: &'t str, rest: &'t str) -> Read<'t>
     requires { IsEnd text.now rest.now }
-    ensures { token_seen result
+    ensures exact { token_seen result
         ≡ spec.integer base (chars text.now) (chars digits.now) (chars rest.now) }
+    ensures end { IsEnd text.now digits.now → IsEnd text.now (read_stop result) }
+    ensures rest { length (read_left result) ≤ length rest.now }
 {
     match large_digit(base, digits) {
         Some(at) => fault!(Digit, at),
@@ -529,13 +578,15 @@ fn integer<'t>(base: Base, text: &'t str, digits: &'t str, rest: &'t str) -> Rea
 
 // A number.
 fn number(text: &str) -> Read<'_>
-    ensures { token_seen result ≡ spec.number (chars text.now) }
+    ensures exact { token_seen result ≡ spec.number (chars text.now) }
+    ensures end { IsEnd text.now (read_stop result) }
+    ensures past { 0 < length text.now → length (read_left result) < length text.now }
 {
     let (base, digits) = base_of(text);
     if !has_digit(base, digits) {
         return fault!(NoDigits, text);
     }
-    let rest = past(digits, base.digit());
+    let rest = past(tail(digits), base.digit());
     match past_fraction(text, rest) {
         Ok(Some(after)) => float(base, text, after),
         Ok(None) => integer(base, text, digits, rest),
@@ -571,7 +622,8 @@ fn comment_end(text: &str) -> Option<&str>
 
 // Whether a doc comment stands here: `///` or `//!`, `/**` or `/*!`, but none of `////`, `/***` and `/**/`.
 pub(crate) fn begins_doc(text: &str) -> bool
-    ensures { result ≡ spec.begins_doc (chars text.now) }
+    ensures exact { result ≡ spec.begins_doc (chars text.now) }
+    ensures some { IsTrue result → 0 < length text.now }
 {
     (begins_with(text, "///") && !begins_with(text, "////"))
         || begins_with(text, "//!")
@@ -597,8 +649,10 @@ fn from_return(text: &str) -> Option<&str>
 // A doc comment whose text ends there, which has no carriage return, and what is after the comment.
 fn doc_until<'t>(is_inner: bool, body: &'t str, end: &'t str, rest: &'t str) -> Read<'t>
     requires { IsEnd body.now end.now }
-    ensures { token_seen result
+    ensures exact { token_seen result
         ≡ spec.doc_until is_inner (chars body.now) (chars end.now) (chars rest.now) }
+    ensures end { IsEnd body.now rest.now → IsEnd body.now (read_stop result) }
+    ensures left { length (read_left result) ≤ length rest.now }
 {
     let text = front(body, end);
     match from_return(text) {
@@ -616,7 +670,9 @@ fn doc_until<'t>(is_inner: bool, body: &'t str, end: &'t str, rest: &'t str) -> 
 
 // A doc comment.
 fn doc(text: &str) -> Read<'_>
-    ensures { token_seen result ≡ spec.doc (chars text.now) }
+    ensures exact { token_seen result ≡ spec.doc (chars text.now) }
+    ensures end { IsEnd text.now (read_stop result) }
+    ensures past { 0 < length text.now → length (read_left result) < length text.now }
 {
     let is_inner = begins_with(text, "//!") || begins_with(text, "/*!");
     let body = tail(tail(tail(text)));
@@ -634,14 +690,16 @@ fn doc(text: &str) -> Read<'_>
 
 // Whether this `#` is right before another or right before a string, which it isn't since 2024.
 fn is_guard(edition: Edition, text: &str) -> bool
-    ensures { result ≡ spec.is_guard edition (chars text.now) }
+    ensures exact { result ≡ spec.is_guard edition (chars text.now) }
+    ensures some { IsTrue result → 0 < length text.now }
 {
     edition.at_least_2024() && (begins_with(text, "##") || begins_with(text, "#\""))
 }
 
 // What is wrong then.
 fn guarded(text: &str) -> Fault<'_>
-    ensures { fault_seen result ≡ spec.guarded (chars text.now) }
+    ensures exact { fault_seen result ≡ spec.guarded (chars text.now) }
+    ensures end { IsEnd text.now result.at.now }
 {
     let quote = past(text, Class::Hash);
     let (wrong, at) = if !begins_with(quote, "\"") {
@@ -657,9 +715,8 @@ fn guarded(text: &str) -> Fault<'_>
 /// The token of Rust that begins a text, and what is left after it; `None` for a sign, which is read as in each dialect.
 pub(crate) fn read_rust(edition: Edition, text: &str) -> Option<Read<'_>>
     ensures exact { seen result ≡ spec.read_rust edition (chars text.now) }
-    ensures end { IfSome result (λ read. IfOk read (λ p. IsEnd text.now p.1.now)) }
-    ensures past { IfSome result (λ read. IfOk read (λ p. length p.1.now < length text.now)) }
-    ensures place { IfSome result (λ read. IfErr read (λ fault. IsEnd text.now fault.at.now)) }
+    ensures end { IfSome result (λ read. IsEnd text.now (read_stop read)) }
+    ensures past { IfSome result (λ read. length (read_left read) < length text.now) }
 {
     if begins_with(text, "r") {
         Some(read_r(edition, text))
