@@ -7,4 +7,5 @@ pub mod LiteralLemmas
 pub mod Made
 pub mod Printed
 pub mod Reading
+pub mod TailLemmas
 pub mod Taken
