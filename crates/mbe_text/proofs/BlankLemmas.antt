@@ -3,8 +3,11 @@ use Rattle.std.proofs.Common.{◌≡◌, ℕ, zero, suc, ◌+◌, ◌-◌, ◌<�
 use Rattle.mbe_text.specs.declared.characters.Class.{Class}
 use Rattle.mbe_text.specs.declared.characters.Class.TheVariants.{InLine}
 use Rattle.mbe_text.specs.declared.dialect.Dialect.{Dialect}
-use Rattle.mbe_text.specs.Characters.{has, begins_with, past, offset, slash}
-use Rattle.mbe_text.specs.Blanks.{blank, past_comments, past_blanks}
+use Rattle.mbe_text.specs.declared.wrong.Wrong.TheVariants as wrong
+use Rattle.mbe_text.specs.Characters.{has, begins_with, past, slash}
+use Rattle.mbe_text.specs.Blanks.{blank, past_comments}
+use Rattle.mbe_text.specs.Faults.{fault_at}
+use Rattle.mbe_text.specs.Trivia.{is_doc, past_blanks}
 
 -- ---- block comments
 
@@ -61,9 +64,13 @@ pub record Counts (dialect : Dialect) (total : ℕ) (from cs : List ℕ) : Type 
   pub fits : length cs ≤ suc n
   pub same : past_blanks dialect total (length from) from ≡ past_blanks dialect total (suc n) cs
 
+same_both_ways : {A : Type 0} (b : Bool) (x : A) → (if b then x else x) ≡ x
+same_both_ways true x = refl
+same_both_ways false x = refl
+
 blanks_end : (dialect : Dialect) (total n : ℕ) → past_blanks dialect total n [] ≡ Ok []
 blanks_end dialect total zero = refl
-blanks_end dialect total (suc n) = refl
+blanks_end dialect total (suc n) = same_both_ways (is_doc dialect []) (Ok [])
 
 counts : (dialect : Dialect) (total : ℕ) (from cs : List ℕ) → Passes dialect total from cs → Counts dialect total from cs
 counts dialect total from [] p =
@@ -101,6 +108,15 @@ comments_shorter (suc depth) (c ∷ (d ∷ cs)) rest e =
     (λ h. omega (arith, comments_shorter depth cs rest h))
     (λ h. omega (arith, comments_shorter (suc depth) (d ∷ cs) rest h)) e
 
+-- what a call says of a scanner's dialect, which is still that of the text
+pub blank_there : (dialect dialect' : Dialect) (c : ℕ) (r v : Bool) → dialect' ≡ dialect → r ≡ has (blank dialect') c → r ≡ v
+    → has (blank dialect) c ≡ v
+blank_there dialect dialect' c r v d e is = ap (λ (k : Dialect). has (blank k) c) (sym d) ∙ (sym e ∙ is)
+
+pub doc_there : (dialect dialect' : Dialect) (cs : List ℕ) (r v : Bool) → dialect' ≡ dialect → r ≡ is_doc dialect' cs → r ≡ v
+    → is_doc dialect cs ≡ v
+doc_there dialect dialect' cs r v d e is = ap (λ (k : Dialect). is_doc k cs) (sym d) ∙ (sym e ∙ is)
+
 -- nothing is left
 pub passes_end : (dialect : Dialect) (total : ℕ) (from cs : List ℕ) → Passes dialect total from cs → cs ≡ [] → past_blanks dialect total (length from) from ≡ Ok cs
 passes_end dialect total from cs p e =
@@ -112,6 +128,9 @@ module _ (dialect : Dialect) (total : ℕ) (from cs mid : List ℕ) (c : ℕ) (p
 
   shorter : length cs ≡ suc (length mid)
   shorter = ap (λ (l : List ℕ). length l) e
+
+  doc : (v : Bool) → is_doc dialect cs ≡ v → is_doc dialect (c ∷ mid) ≡ v
+  doc v d = ap (is_doc dialect) (sym e) ∙ d
 
   pub passes_blank : has (blank dialect) c ≡ true → Passes dialect total from mid
   passes_blank b =
@@ -125,41 +144,46 @@ module _ (dialect : Dialect) (total : ℕ) (from cs mid : List ℕ) (c : ℕ) (p
   pub passes_other : has (blank dialect) c ≡ false → (c == slash) ≡ false → past_blanks dialect total (length from) from ≡ Ok cs
   passes_other b s =
       let q = counts dialect total from cs p in
-      q.same ∙ (first (suc q.n) ∙ (rw (b, s) refl ∙ ap Ok (sym e)))
+      q.same ∙ (first (suc q.n) ∙ (rw (b, s) (same_both_ways (is_doc dialect (c ∷ mid)) (Ok (c ∷ mid))) ∙ ap Ok (sym e)))
 
-  pub passes_line : (after : List ℕ) → has (blank dialect) c ≡ false → (c == slash) ≡ true → begins_with (codes "/") mid ≡ true
+  pub passes_doc : has (blank dialect) c ≡ false → is_doc dialect cs ≡ true → past_blanks dialect total (length from) from ≡ Ok cs
+  passes_doc b d =
+      let q = counts dialect total from cs p in
+      q.same ∙ (first (suc q.n) ∙ (rw (b, doc true d) refl ∙ ap Ok (sym e)))
+
+  pub passes_line : (after : List ℕ) → has (blank dialect) c ≡ false → is_doc dialect cs ≡ false → (c == slash) ≡ true → begins_with (codes "/") mid ≡ true
       → after ≡ past InLine (drop 2 cs) → Passes dialect total from after
-  passes_line after b s l h =
+  passes_line after b d s l h =
       let q = counts dialect total from cs p in
       let a : after ≡ past InLine (drop 1 mid) = h ∙ ap (λ (l : List ℕ). past InLine (drop 2 l)) e in
       record {
         n = q.n;
         fits = let f = q.fits in omega
             (arith, f, shorter, ap (λ (l : List ℕ). length l) a, past_shorter InLine (drop 1 mid), length-drop 1 mid);
-        same = q.same ∙ (first (suc q.n) ∙ rw (b, s, l, a) refl);
+        same = q.same ∙ (first (suc q.n) ∙ rw (b, doc false d, s, l, a) refl);
       }
 
-  pub passes_block : (after : List ℕ) → has (blank dialect) c ≡ false → (c == slash) ≡ true → begins_with (codes "/") mid ≡ false
+  pub passes_block : (after : List ℕ) → has (blank dialect) c ≡ false → is_doc dialect cs ≡ false → (c == slash) ≡ true → begins_with (codes "/") mid ≡ false
       → begins_with (codes "*") mid ≡ true → past_comments 1 (drop 2 cs) ≡ Some after → Passes dialect total from after
-  passes_block after b s l k h =
+  passes_block after b d s l k h =
       let q = counts dialect total from cs p in
       let a : past_comments 1 (drop 1 mid) ≡ Some after = ap (λ (l : List ℕ). past_comments 1 (drop 2 l)) (sym e) ∙ h in
       record {
         n = q.n;
         fits = let f = q.fits in omega (arith, f, shorter, comments_shorter 1 (drop 1 mid) after a, length-drop 1 mid);
-        same = q.same ∙ (first (suc q.n) ∙ rw (b, s, l, k, a) refl);
+        same = q.same ∙ (first (suc q.n) ∙ rw (b, doc false d, s, l, k, a) refl);
       }
 
-  pub passes_last : has (blank dialect) c ≡ false → (c == slash) ≡ true → begins_with (codes "/") mid ≡ false
+  pub passes_last : has (blank dialect) c ≡ false → is_doc dialect cs ≡ false → (c == slash) ≡ true → begins_with (codes "/") mid ≡ false
       → begins_with (codes "*") mid ≡ false → past_blanks dialect total (length from) from ≡ Ok cs
-  passes_last b s l k =
+  passes_last b d s l k =
       let q = counts dialect total from cs p in
-      q.same ∙ (first (suc q.n) ∙ (rw (b, s, l, k) refl ∙ ap Ok (sym e)))
+      q.same ∙ (first (suc q.n) ∙ (rw (b, doc false d, s, l, k) refl ∙ ap Ok (sym e)))
 
-  pub passes_fault : has (blank dialect) c ≡ false → (c == slash) ≡ true → begins_with (codes "/") mid ≡ false
+  pub passes_fault : has (blank dialect) c ≡ false → is_doc dialect cs ≡ false → (c == slash) ≡ true → begins_with (codes "/") mid ≡ false
       → begins_with (codes "*") mid ≡ true → past_comments 1 (drop 2 cs) ≡ None
-      → past_blanks dialect total (length from) from ≡ Err (offset total cs)
-  passes_fault b s l k h =
+      → past_blanks dialect total (length from) from ≡ Err (fault_at wrong.OpenComment total cs)
+  passes_fault b d s l k h =
       let q = counts dialect total from cs p in
       let a : past_comments 1 (drop 1 mid) ≡ None = ap (λ (l : List ℕ). past_comments 1 (drop 2 l)) (sym e) ∙ h in
-      q.same ∙ (first (suc q.n) ∙ (rw (b, s, l, k, a) refl ∙ ap (λ (l : List ℕ). Err (offset total l)) (sym e)))
+      q.same ∙ (first (suc q.n) ∙ (rw (b, doc false d, s, l, k, a) refl ∙ ap (λ (l : List ℕ). Err (fault_at wrong.OpenComment total l)) (sym e)))

@@ -1,3 +1,4 @@
+pub mod Attributes
 pub mod BlankLemmas
 pub mod CharacterLemmas
 pub mod DivisionLemmas

@@ -5,6 +5,7 @@ pub mod Division
 pub mod Ends
 pub mod Escapes
 pub mod Extents
+pub mod Faults
 pub mod Literals
 pub mod Printing
 pub mod Rust
@@ -12,5 +13,6 @@ pub mod Scanning
 pub mod Shapes
 pub mod Signs
 pub mod Tokens
+pub mod Trivia
 pub mod Words
 pub mod Writing

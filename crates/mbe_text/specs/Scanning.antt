@@ -16,5 +16,5 @@ Advances old new = 0 < length old.rest.now → length new.rest.now < length old.
 
 -- what is wrong begins in a text of that length, or at its end
 abbrev pub FaultsWithin : ℕ → LexError → Type 0
-FaultsWithin len (Fault offset) = offset ≤ len
+FaultsWithin len (Fault fault) = fault.offset ≤ len
 FaultsWithin len OutOfMemory = ⊤

@@ -1,6 +1,7 @@
 // Which tokens texts have.
 ghost use Rattle.std.specs.Prelude.{◌≡◌};
 ghost use Rattle.mbe_text.specs.Blanks as spec;
+ghost use Rattle.mbe_text.specs.Division.{closes_groups};
 
 use crate::characters::Class;
 use mbe_tt::span::Edition;
@@ -24,6 +25,16 @@ impl Dialect {
         match self {
             Dialect::Sample => Class::Blank,
             Dialect::Rust(_) => Class::Space,
+        }
+    }
+
+    // Whether each group is closed before the end.
+    pub(crate) fn closes_groups(self) -> bool
+        ensures { result ≡ closes_groups self }
+    {
+        match self {
+            Dialect::Sample => false,
+            Dialect::Rust(_) => true,
         }
     }
 }

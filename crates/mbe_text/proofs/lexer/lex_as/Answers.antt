@@ -1,9 +1,11 @@
-use Rattle.std.proofs.Common.{ap, ◌∙◌, length, List, ℕ, subst, chars, is_some, Ok, Option}
+use Rattle.std.proofs.Common.{ap, ◌∙◌, length, List, ℕ, subst, chars, is_some, sym, Ok, Option, arith}
 use Rattle.std.proofs.lemmas.Result.{err_from_is_err_and}
 use Rattle.mbe_text.specs.Division.{IsNext, next_token, trees_of}
 use Rattle.mbe_text.specs.Tokens.{token_item}
 use Rattle.mbe_text.specs.declared.scanner.Token.{Token}
-use Rattle.mbe_text.proofs.DivisionLemmas.{reached_first, reached_more, reached_astray, reached_fault, reached_last, trees_lexed, trees_fault, lexes_refused}
+use Rattle.mbe_text.proofs.DivisionLemmas.{reached_first, reached_more, reached_astray, reached_fault, reached_last, trees_lexed, trees_unclosed, trees_fault, lexes_refused}
+use Rattle.mbe_tt.specs.Buffers.Building.{Levels}
+use Rattle.mbe_text.proofs.Attributes.{adds_some}
 use Rattle.mbe_text.proofs.Made.{lexed_first, lexed_more, lexed_last}
 use Rattle.mbe_text.proofs.lexer.lex_as.Goals as goal
 
@@ -13,10 +15,13 @@ tokens-init g c = record {
   total = c.new-scanner.ensures.total;
   file = c.new-scanner.ensures.file;
   text = c.new-scanner.ensures.text;
-  lexed = lexed_first _ _ _ _ _ _ c.in_ok-builder.ensures c.invisible_spanned-whole.ensures c.file_span.ensures.whole
-      (ap (λ (l : List ℕ). length l) c.new-scanner.ensures.rest);
+  some = omega (arith, ap (λ (b : Levels). length b) c.in_ok-builder.ensures);
+  lexed = λ sample. lexed_first _ _ _ _ _ _ c.in_ok-builder.ensures c.invisible_spanned-whole.ensures
+      c.file_span.ensures.whole
+      (ap (λ (l : List ℕ). length l) (c.new-scanner.ensures.sample sample));
   reached = reached_first _ _ _ _ _ _ _ c.in_ok-builder.ensures c.invisible_spanned-whole.ensures
       c.file_span.ensures.whole
+      (let total = c.new-scanner.ensures.total in let within = c.new-scanner.result.within in omega (arith, total, within))
       c.new-scanner.ensures.rest;
 }
 
@@ -28,10 +33,11 @@ tokens-preserved g c =
       total = token.on.1 ∙ c.tokens.invariant.total;
       file = token.on.0 ∙ c.tokens.invariant.file;
       text = token.on.2 ∙ c.tokens.invariant.text;
-      lexed = lexed_more _ _ c.tokens.scanner.file c.tokens.scanner.text.now c.tokens.scanner.total _ _ _ _ _
-          c.in-Some.token c.tokens.invariant.lexed
+      some = adds_some (token_item c.in-Some.token) c.tokens.builder _ c.tokens.invariant.some c.in_ok-add.ensures.ok;
+      lexed = λ sample. lexed_more _ _ c.tokens.scanner.file c.tokens.scanner.text.now c.tokens.scanner.total _ _ _ _ _
+          c.in-Some.token (c.tokens.invariant.lexed sample)
           c.tokens.invariant.file c.tokens.invariant.text c.tokens.invariant.total c.in-Some.is
-          token.span token.behind token.some token.up_to token.spelled c.in_ok-add.ensures.ok;
+          token.span token.behind token.some token.up_to (token.spelled (c.tokens.invariant.dialect ∙ sample)) c.in_ok-add.ensures.ok;
       reached = reached_more _ _ _ _ _ _ _ c.tokens.scanner.dialect c.tokens.scanner.file c.tokens.scanner.total c.in-Some.token
           c.tokens.invariant.reached c.tokens.invariant.dialect
           c.tokens.invariant.file c.tokens.invariant.total
@@ -42,8 +48,8 @@ tokens-preserved g c =
     }
 
 pub returns-clause-made : goal.returns-clause-made
-returns-clause-made g c =
-    lexed_last _ _ _ _ _ _ c.tokens.invariant.lexed c.file_span-2.ensures.whole c.finish.ensures
+returns-clause-made g c = λ sample.
+    lexed_last _ _ _ _ _ _ (c.tokens.invariant.lexed sample) c.file_span-2.ensures.whole c.finish.ensures
 
 pub returns-in_err-token-clause-exact : goal.returns-in_err-token-clause-exact
 returns-in_err-token-clause-exact g c =
@@ -74,4 +80,15 @@ returns-clause-exact g c =
     c.in_ok-token.ensures.exact in
     trees_lexed c.args.dialect c.args.file c.args.text.now _ _ _
     (reached_last _ _ _ _ _ _ _ c.tokens.invariant.reached c.tokens.invariant.dialect c.tokens.invariant.total next.0)
+    (sym c.is_unclosed.ensures ∙ c.if-is_unclosed.false)
     c.file_span-2.ensures.whole c.finish.ensures
+
+pub returns-then-is_unclosed-clause-exact : goal.returns-then-is_unclosed-clause-exact
+returns-then-is_unclosed-clause-exact g c =
+    let next = subst (λ (o : Option Token). IsNext c.tokens.scanner.file c.tokens.scanner.total
+    (next_token c.tokens.scanner.dialect c.tokens.scanner.total (chars c.tokens.scanner.rest.now)) (Ok o) (chars c.token.new.self.rest.now))
+    c.in_default.is
+    c.in_ok-token.ensures.exact in
+    trees_unclosed c.args.dialect c.args.file c.args.text.now _
+    (reached_last _ _ _ _ _ _ _ c.tokens.invariant.reached c.tokens.invariant.dialect c.tokens.invariant.total next.0)
+    (sym c.is_unclosed.ensures ∙ c.if-is_unclosed.true)

@@ -1,4 +1,5 @@
-use Rattle.std.proofs.Common.{◌≡◌, length}
+use Rattle.std.proofs.Common.{◌≡◌, ◌<◌, length}
+use Rattle.mbe_text.specs.declared.dialect.Dialect.TheVariants.{Sample}
 use Rattle.mbe_text.proofs.DivisionLemmas.{Reaches}
 use Rattle.mbe_text.proofs.Made.{Lexed}
 use Rattle.mbe_text.proofs.lexer.lex_as.Given as goal
@@ -9,7 +10,8 @@ invariant-tokens g l = record {
   total : l.scanner.total ≡ length l.fn.text;
   file : l.scanner.file ≡ l.fn.file;
   text : l.scanner.text.now ≡ l.fn.text;
-  lexed : Lexed l.fn.file l.fn.text (length l.scanner.rest.now) l.builder;
+  some : 0 < length l.builder;
+  lexed : l.fn.dialect ≡ Sample → Lexed l.fn.file l.fn.text (length l.scanner.rest.now) l.builder;
   reached : Reaches l.fn.dialect l.fn.file l.fn.text l.scanner.rest.now l.builder;
 }
 
