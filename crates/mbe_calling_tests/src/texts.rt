@@ -1,6 +1,7 @@
 // Text to trees, and trees to text.
 ghost use Rattle.std.specs.Prelude.{◌<◌, ◌^◌, length};
 
+use mbe_text::dialect::Dialect;
 use mbe_text::lexer::{LexError, lex, lex_in};
 use mbe_text::printing::print_tree;
 use mbe_text::scanner::{LexFault, Scanner};
@@ -23,7 +24,7 @@ pub fn fault_of(alloc: Global, text: &str) -> Option<u32>
     requires { length text.now < 2 ^ 32 }
 {
     match lex(alloc, text, 7) {
-        Err(LexError::Fault(offset)) => Some(offset),
+        Err(LexError::Fault(fault)) => Some(fault.offset),
         Ok(_) | Err(LexError::OutOfMemory) => None,
     }
 }
@@ -47,7 +48,7 @@ pub fn trees_of(
 pub fn end_of_second(text: &str) -> Result<u32, LexFault>
     requires { length text.now < 2 ^ 32 }
 {
-    let mut scanner = Scanner::new(text, 7);
+    let mut scanner = Scanner::new(Dialect::Sample, text, 7);
     scanner.token()?;
     scanner.token()?;
     Ok(scanner.offset())
@@ -58,6 +59,7 @@ mod tests {
     use mbe_text::lexer::LexError;
     use mbe_text::scanner::LexFault;
     use mbe_text::symbols::SymbolTable;
+    use mbe_text::wrong::Wrong;
     use mbe_tt::symbol::Symbol;
     use std::alloc::{AllocError, Global};
 
@@ -81,7 +83,11 @@ mod tests {
         assert!(rt; fault_of(rt.alloc(), "a += (1u8]") == Some(9));
         assert!(rt; fault_of(rt.alloc(), "a += (1u8)").is_none());
         assert!(rt; end_of_second("a += (1u8)") == Ok(3) && end_of_second("a é §") == Ok(4));
-        assert!(rt; end_of_second("a §") == Err(LexFault { offset: 2 }));
+        let fault = LexFault {
+            offset: 2,
+            wrong: Wrong::Start,
+        };
+        assert!(rt; end_of_second("a §") == Err(fault));
     }
 
     fn trees_differ(alloc: Global) -> Result<bool, LexError> {

@@ -1,6 +1,8 @@
 // Reads definitions from texts, and compares what is shown of them.
 use mbe::DeclarativeMacro;
 use mbe_text::lexer::{LexError, lex};
+use mbe_text::scanner::LexFault;
+use mbe_text::wrong::Wrong;
 use mbe_tt::span::Edition;
 use std::alloc::Global;
 use std::fmt::Display;
@@ -8,7 +10,10 @@ use std::fmt::Display;
 /// The macro of a text, which is file 0, in edition 2024.
 pub fn read(alloc: Global, text: &str) -> Result<DeclarativeMacro, LexError> {
     if text.len() > u32::MAX as usize {
-        return Err(LexError::Fault(u32::MAX));
+        return Err(LexError::Fault(LexFault {
+            offset: u32::MAX,
+            wrong: Wrong::Start,
+        }));
     }
     let definition = lex(alloc, text, 0)?;
     let edition = |_context| Edition::Edition2024;

@@ -2,14 +2,14 @@
 use Rattle.std.proofs.Common.{◌≡◌, ℕ, List, Ok, refl}
 use Rattle.mbe_tt.specs.Trees.Top.{Top}
 use Rattle.mbe_text.specs.Tokens.{IsMade}
-use Rattle.mbe_text.specs.Division.{trees_of}
+use Rattle.mbe_text.specs.Division.{sample_trees}
 use Rattle.mbe_program.specs.declared.program.Outcome.{Outcome}
 use Rattle.mbe_program.specs.declared.program.Outcome.TheVariants.{Expanded, Linted, Faulted, Refused, CannotLex, CannotWrite, OutOfMemory}
 use Rattle.mbe_program.specs.Expansion.{AreTrees, both_trees, IsAtFault, IsUnlexed}
 
 -- both texts have trees
 pub trees : (def_text arg_text : List ℕ) (definition argument : Top) → IsMade 0 def_text definition → IsMade 1 arg_text argument
-    → trees_of 0 def_text ≡ Ok definition → trees_of 1 arg_text ≡ Ok argument → AreTrees def_text arg_text definition argument
+    → sample_trees 0 def_text ≡ Ok definition → sample_trees 1 arg_text ≡ Ok argument → AreTrees def_text arg_text definition argument
 trees def_text arg_text definition argument defined given d e =
     record { divided = (rw (both_trees, d, e) refl); defined = defined; given = given }
 
@@ -25,7 +25,7 @@ first_fault def_text arg_text CannotWrite h = absurd h
 first_fault def_text arg_text OutOfMemory h = tt
 
 -- the argument's text is, and the definition's isn't
-pub second_fault : {A : Type 0} (def_text arg_text : List ℕ) (definition : Top) (outcome : Outcome A) → trees_of 0 def_text ≡ Ok definition
+pub second_fault : {A : Type 0} (def_text arg_text : List ℕ) (definition : Top) (outcome : Outcome A) → sample_trees 0 def_text ≡ Ok definition
     → IsAtFault 1 arg_text outcome → IsUnlexed def_text arg_text outcome
 second_fault def_text arg_text definition Expanded d h = absurd h
 second_fault def_text arg_text definition Linted d h = absurd h

@@ -14,7 +14,7 @@ use Rattle.mbe_semantics.specs.Expansion.ReadAs.{IsReadAs}
 use Rattle.mbe_semantics.specs.declared.macro_call_style.MacroCallStyle.TheVariants.{FnLike}
 use Rattle.mbe.specs.OneAnswer.{IsAnswer}
 use Rattle.mbe_text.specs.Tokens.{IsMade, bytes_of}
-use Rattle.mbe_text.specs.Division.{trees_of}
+use Rattle.mbe_text.specs.Division.{sample_trees}
 use Rattle.mbe_text.specs.Writing.{Takes}
 use Rattle.mbe_program.specs.Printed.{printed}
 use Rattle.mbe_program.specs.declared.program.Outcome.{Outcome}
@@ -47,9 +47,9 @@ IsRefused edition definition outcome = ⊥
 
 -- The trees of both texts, the definition as file 0 and the argument as file 1; or the first fault, by its file and its byte.
 abbrev pub both_trees : List ℕ → List ℕ → Result (Top × Top) (ℕ × ℕ)
-both_trees def_text arg_text = elim (trees_of 0 def_text) [
+both_trees def_text arg_text = elim (sample_trees 0 def_text) [
   | Err offset ↦ Err (0, offset)
-  | Ok definition ↦ elim (trees_of 1 arg_text) [ Err offset ↦ Err (1, offset) | Ok argument ↦ Ok (definition, argument) ]
+  | Ok definition ↦ elim (sample_trees 1 arg_text) [ Err offset ↦ Err (1, offset) | Ok argument ↦ Ok (definition, argument) ]
 ]
 
 -- These are the trees of both texts, which their tokens make as they are spelled there.
@@ -67,7 +67,7 @@ pub record ExpandsTexts (edition : Edition) (def_text arg_text : List ℕ) (out 
 
 -- that byte of the text of a file is at fault, or there is no memory
 abbrev pub IsAtFault : {A : Type 0} → ℕ → List ℕ → Outcome A → Type 0
-IsAtFault file text (CannotLex f offset) = (f ≡ file) × (trees_of file text ≡ Err offset)
+IsAtFault file text (CannotLex f offset) = (f ≡ file) × (sample_trees file text ≡ Err offset)
 IsAtFault file text OutOfMemory = ⊤
 IsAtFault file text outcome = ⊥
 

@@ -6,7 +6,7 @@ ghost use Rattle.mbe_semantics.specs.Expansion.ReadAs.{IsReadAs};
 ghost use Rattle.mbe.specs.Matched.{verdict_seen};
 ghost use Rattle.mbe.specs.MacroViews.{macro_of};
 ghost use Rattle.mbe_text.specs.Tokens.{IsMade};
-ghost use Rattle.mbe_text.specs.Division.{trees_of};
+ghost use Rattle.mbe_text.specs.Division.{sample_trees};
 ghost use Rattle.mbe_program.specs.Expansion.{AreTrees, ExpandsTrees, IsRefused, ExpandsTexts, EndsAs};
 ghost use Rattle.mbe_program.specs.Expansion.{IsAtFault, IsEdition, IsUnexpanded, IsUnlexed};
 ghost use Rattle.mbe_program.specs.Linting.{ExplainsTexts, Lints};
@@ -75,13 +75,16 @@ fn lexed<A: Allocator + Copy>(
 ) -> Result<TopSubtree<A>, Outcome<A>>
     requires { length text.now < 2 ^ 32 }
     ensures made { IfOk result (IsMade file text.now) }
-    ensures divided { IfOk result (λ trees. trees_of file text.now ≡ Ok trees) }
+    ensures divided { IfOk result (λ trees. sample_trees file text.now ≡ Ok trees) }
     ensures fault { IfErr result (IsAtFault file text.now) }
     ensures within { IfErr result (FaultsIn file (length text.now)) }
 {
     match lex_in(table, text, file) {
         Ok(tree) => Ok(tree),
-        Err(LexError::Fault(offset)) => Err(Outcome::CannotLex { file, offset }),
+        Err(LexError::Fault(fault)) => Err(Outcome::CannotLex {
+            file,
+            offset: fault.offset,
+        }),
         Err(LexError::OutOfMemory) => Err(Outcome::OutOfMemory),
     }
 }

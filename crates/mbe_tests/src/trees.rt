@@ -2,6 +2,7 @@
 ghost use Rattle.std.specs.Prelude.{◌<◌, length};
 
 use crate::tokens::{Lexeme, Token, at};
+use mbe_text::dialect::Dialect;
 use mbe_text::lexer::{LexError, lex};
 use mbe_text::scanner;
 use mbe_text::scanner::{Scanner, file_span};
@@ -145,6 +146,9 @@ fn scanned<'t>(text: &'t str, token: scanner::Token<'t>) -> Lexeme<'t> {
         },
         scanner::Lexeme::Open(kind) => Lexeme::Open(kind),
         scanner::Lexeme::Close(_) => Lexeme::Close,
+        // (of the Rust dialect alone)
+        scanner::Lexeme::Lifetime { name, .. } => Lexeme::Word(name),
+        scanner::Lexeme::Doc { text, .. } => Lexeme::Text(text),
     }
 }
 
@@ -162,7 +166,7 @@ fn with_quotes<A: Allocator + Copy>(
     let end = marked.len() as u32;
     let whole = Delimiter::invisible_spanned(file_span(file, 0, end));
     let mut builder = TopSubtreeBuilder::new(alloc, whole)?;
-    let mut scanner = Scanner::new(marked.as_str(), file);
+    let mut scanner = Scanner::new(Dialect::Sample, marked.as_str(), file);
     'tokens: loop {
         match scanner.token() {
             Ok(Some(token)) => {

@@ -1,9 +1,13 @@
 -- How blanks and comments are passed, one after another.
-use Rattle.std.proofs.Common.{◌≡◌, ℕ, zero, suc, ◌+◌, ◌-◌, ◌<◌, ◌≤◌, ◌==◌, ◌&&◌, Bool, true, false, List, [], ◌∷◌, length, drop, codes, Option, Some, None, Ok, Err, refl, sym, ap, ◌∙◌, arith, length-drop, add-one, if◌then◌else◌, true≢false}
+use Rattle.std.proofs.Common.{◌≡◌, ℕ, zero, suc, ◌+◌, ◌-◌, ◌<◌, ◌≤◌, ◌==◌, ◌&&◌, Bool, true, false, List, [], ◌∷◌, length, drop, codes, Option, Some, None, Ok, Err, refl, sym, ap, ◌∙◌, arith, length-drop, add-one, if◌then◌else◌}
 use Rattle.mbe_text.specs.declared.characters.Class.{Class}
-use Rattle.mbe_text.specs.declared.characters.Class.TheVariants.{Blank, InLine}
-use Rattle.mbe_text.specs.Characters.{has, begins, begins_with, past, offset}
-use Rattle.mbe_text.specs.Blanks.{past_comments, past_blanks}
+use Rattle.mbe_text.specs.declared.characters.Class.TheVariants.{InLine}
+use Rattle.mbe_text.specs.declared.dialect.Dialect.{Dialect}
+use Rattle.mbe_text.specs.declared.wrong.Wrong.TheVariants as wrong
+use Rattle.mbe_text.specs.Characters.{has, begins_with, past, slash}
+use Rattle.mbe_text.specs.Blanks.{blank, past_comments}
+use Rattle.mbe_text.specs.Faults.{fault_at}
+use Rattle.mbe_text.specs.Trivia.{is_doc, past_blanks}
 
 -- ---- block comments
 
@@ -46,34 +50,38 @@ comment_goes_on (suc n) c cs (d ∷ ds) h e o b =
 -- ---- blanks
 
 -- what is passed from the one on is passed from the other on
-pub record Passes (total : ℕ) (from cs : List ℕ) : Type 0 where
+pub record Passes (dialect : Dialect) (total : ℕ) (from cs : List ℕ) : Type 0 where
   pub n : ℕ
   pub fits : length cs ≤ n
-  pub same : past_blanks total (length from) from ≡ past_blanks total n cs
+  pub same : past_blanks dialect total (length from) from ≡ past_blanks dialect total n cs
 
-pub passes_none : (total : ℕ) (cs : List ℕ) → Passes total cs cs
-passes_none total cs = record { n = length cs; fits = omega arith; same = refl }
+pub passes_none : (dialect : Dialect) (total : ℕ) (cs : List ℕ) → Passes dialect total cs cs
+passes_none dialect total cs = record { n = length cs; fits = omega arith; same = refl }
 
 -- with one to count down for what is left, unless nothing is
-pub record Counts (total : ℕ) (from cs : List ℕ) : Type 0 where
+pub record Counts (dialect : Dialect) (total : ℕ) (from cs : List ℕ) : Type 0 where
   pub n : ℕ
   pub fits : length cs ≤ suc n
-  pub same : past_blanks total (length from) from ≡ past_blanks total (suc n) cs
+  pub same : past_blanks dialect total (length from) from ≡ past_blanks dialect total (suc n) cs
 
-blanks_end : (total n : ℕ) → past_blanks total n [] ≡ Ok []
-blanks_end total zero = refl
-blanks_end total (suc n) = refl
+same_both_ways : {A : Type 0} (b : Bool) (x : A) → (if b then x else x) ≡ x
+same_both_ways true x = refl
+same_both_ways false x = refl
 
-counts : (total : ℕ) (from cs : List ℕ) → Passes total from cs → Counts total from cs
-counts total from [] p =
-    record { n = 0; fits = omega arith; same = p.same ∙ (blanks_end total p.n ∙ sym (blanks_end total 1)) }
-counts total from (c ∷ cs) p =
+blanks_end : (dialect : Dialect) (total n : ℕ) → past_blanks dialect total n [] ≡ Ok []
+blanks_end dialect total zero = refl
+blanks_end dialect total (suc n) = same_both_ways (is_doc dialect []) (Ok [])
+
+counts : (dialect : Dialect) (total : ℕ) (from cs : List ℕ) → Passes dialect total from cs → Counts dialect total from cs
+counts dialect total from [] p =
+    record { n = 0; fits = omega arith; same = p.same ∙ (blanks_end dialect total p.n ∙ sym (blanks_end dialect total 1)) }
+counts dialect total from (c ∷ cs) p =
     let e : p.n ≡ suc (p.n - 1) = let f = p.fits in omega (arith, f) in
     record {
       n = p.n - 1;
       fits = let f = p.fits in omega (arith, f);
       same = p.same
-          ∙ ap (λ (k : ℕ). past_blanks total k (c ∷ cs)) e;
+          ∙ ap (λ (k : ℕ). past_blanks dialect total k (c ∷ cs)) e;
     }
 
 past_shorter : (k : Class) (cs : List ℕ) → length (past k cs) ≤ length cs
@@ -100,53 +108,82 @@ comments_shorter (suc depth) (c ∷ (d ∷ cs)) rest e =
     (λ h. omega (arith, comments_shorter depth cs rest h))
     (λ h. omega (arith, comments_shorter (suc depth) (d ∷ cs) rest h)) e
 
-pub passes_blank : (total : ℕ) (from cs after : List ℕ) → Passes total from cs → begins Blank cs ≡ true
-    → after ≡ drop 1 cs → Passes total from after
-passes_blank total from [] after p b e = absurd (true≢false (sym b))
-passes_blank total from (c ∷ cs) after p b e =
-    let q = counts total from (c ∷ cs) p in
-    record {
-      n = q.n;
-      fits = let f = q.fits in omega (arith, f, ap (λ (l : List ℕ). length l) e);
-      same = q.same ∙ rw (b, e) refl;
-    }
+-- what a call says of a scanner's dialect, which is still that of the text
+pub blank_there : (dialect dialect' : Dialect) (c : ℕ) (r v : Bool) → dialect' ≡ dialect → r ≡ has (blank dialect') c → r ≡ v
+    → has (blank dialect) c ≡ v
+blank_there dialect dialect' c r v d e is = ap (λ (k : Dialect). has (blank k) c) (sym d) ∙ (sym e ∙ is)
 
-pub passes_line : (total : ℕ) (from cs after : List ℕ) → Passes total from cs → begins Blank cs ≡ false
-    → begins_with (codes "//") cs ≡ true
-    → after ≡ past InLine (drop 2 cs) → Passes total from after
-passes_line total from [] after p b l e = absurd (true≢false (sym l))
-passes_line total from (c ∷ cs) after p b l e =
-    let q = counts total from (c ∷ cs) p in
-    record {
-      n = q.n;
-      fits = let f = q.fits in omega
-          (arith, f, ap (λ (l : List ℕ). length l) e, past_shorter InLine (drop 2 (c ∷ cs)), length-drop 1 cs);
-      same = q.same ∙ rw (b, l, e) refl;
-    }
+pub doc_there : (dialect dialect' : Dialect) (cs : List ℕ) (r v : Bool) → dialect' ≡ dialect → r ≡ is_doc dialect' cs → r ≡ v
+    → is_doc dialect cs ≡ v
+doc_there dialect dialect' cs r v d e is = ap (λ (k : Dialect). is_doc k cs) (sym d) ∙ (sym e ∙ is)
 
-pub passes_block : (total : ℕ) (from cs after : List ℕ) → Passes total from cs → begins Blank cs ≡ false
-    → begins_with (codes "//") cs ≡ false
-    → begins_with (codes "/*") cs ≡ true → past_comments 1 (drop 2 cs) ≡ Some after → Passes total from after
-passes_block total from [] after p b l k e = absurd (true≢false (sym k))
-passes_block total from (c ∷ cs) after p b l k e =
-    let q = counts total from (c ∷ cs) p in
-    record {
-      n = q.n;
-      fits = let f = q.fits in omega (arith, f, comments_shorter 1 (drop 2 (c ∷ cs)) after e, length-drop 1 cs);
-      same = q.same ∙ rw (b, l, k, e) refl;
-    }
+-- nothing is left
+pub passes_end : (dialect : Dialect) (total : ℕ) (from cs : List ℕ) → Passes dialect total from cs → cs ≡ [] → past_blanks dialect total (length from) from ≡ Ok cs
+passes_end dialect total from cs p e =
+    p.same ∙ ap (past_blanks dialect total p.n) e ∙ blanks_end dialect total p.n ∙ ap Ok (sym e)
 
-pub passes_last : (total : ℕ) (from cs : List ℕ) → Passes total from cs → begins Blank cs ≡ false
-    → begins_with (codes "//") cs ≡ false
-    → begins_with (codes "/*") cs ≡ false → past_blanks total (length from) from ≡ Ok cs
-passes_last total from cs p b l k =
-    let q = counts total from cs p in
-    q.same ∙ rw (b, l, k) refl
+module _ (dialect : Dialect) (total : ℕ) (from cs mid : List ℕ) (c : ℕ) (p : Passes dialect total from cs) (e : cs ≡ c ∷ mid) where
+  first : (n : ℕ) → past_blanks dialect total n cs ≡ past_blanks dialect total n (c ∷ mid)
+  first n = ap (past_blanks dialect total n) e
 
-pub passes_fault : (total : ℕ) (from cs : List ℕ) → Passes total from cs → begins Blank cs ≡ false
-    → begins_with (codes "//") cs ≡ false
-    → begins_with (codes "/*") cs ≡ true → past_comments 1 (drop 2 cs) ≡ None
-    → past_blanks total (length from) from ≡ Err (offset total cs)
-passes_fault total from cs p b l k e =
-    let q = counts total from cs p in
-    q.same ∙ rw (b, l, k, e) refl
+  shorter : length cs ≡ suc (length mid)
+  shorter = ap (λ (l : List ℕ). length l) e
+
+  doc : (v : Bool) → is_doc dialect cs ≡ v → is_doc dialect (c ∷ mid) ≡ v
+  doc v d = ap (is_doc dialect) (sym e) ∙ d
+
+  pub passes_blank : has (blank dialect) c ≡ true → Passes dialect total from mid
+  passes_blank b =
+      let q = counts dialect total from cs p in
+      record {
+        n = q.n;
+        fits = let f = q.fits in omega (arith, f, shorter);
+        same = q.same ∙ (first (suc q.n) ∙ rw b refl);
+      }
+
+  pub passes_other : has (blank dialect) c ≡ false → (c == slash) ≡ false → past_blanks dialect total (length from) from ≡ Ok cs
+  passes_other b s =
+      let q = counts dialect total from cs p in
+      q.same ∙ (first (suc q.n) ∙ (rw (b, s) (same_both_ways (is_doc dialect (c ∷ mid)) (Ok (c ∷ mid))) ∙ ap Ok (sym e)))
+
+  pub passes_doc : has (blank dialect) c ≡ false → is_doc dialect cs ≡ true → past_blanks dialect total (length from) from ≡ Ok cs
+  passes_doc b d =
+      let q = counts dialect total from cs p in
+      q.same ∙ (first (suc q.n) ∙ (rw (b, doc true d) refl ∙ ap Ok (sym e)))
+
+  pub passes_line : (after : List ℕ) → has (blank dialect) c ≡ false → is_doc dialect cs ≡ false → (c == slash) ≡ true → begins_with (codes "/") mid ≡ true
+      → after ≡ past InLine (drop 2 cs) → Passes dialect total from after
+  passes_line after b d s l h =
+      let q = counts dialect total from cs p in
+      let a : after ≡ past InLine (drop 1 mid) = h ∙ ap (λ (l : List ℕ). past InLine (drop 2 l)) e in
+      record {
+        n = q.n;
+        fits = let f = q.fits in omega
+            (arith, f, shorter, ap (λ (l : List ℕ). length l) a, past_shorter InLine (drop 1 mid), length-drop 1 mid);
+        same = q.same ∙ (first (suc q.n) ∙ rw (b, doc false d, s, l, a) refl);
+      }
+
+  pub passes_block : (after : List ℕ) → has (blank dialect) c ≡ false → is_doc dialect cs ≡ false → (c == slash) ≡ true → begins_with (codes "/") mid ≡ false
+      → begins_with (codes "*") mid ≡ true → past_comments 1 (drop 2 cs) ≡ Some after → Passes dialect total from after
+  passes_block after b d s l k h =
+      let q = counts dialect total from cs p in
+      let a : past_comments 1 (drop 1 mid) ≡ Some after = ap (λ (l : List ℕ). past_comments 1 (drop 2 l)) (sym e) ∙ h in
+      record {
+        n = q.n;
+        fits = let f = q.fits in omega (arith, f, shorter, comments_shorter 1 (drop 1 mid) after a, length-drop 1 mid);
+        same = q.same ∙ (first (suc q.n) ∙ rw (b, doc false d, s, l, k, a) refl);
+      }
+
+  pub passes_last : has (blank dialect) c ≡ false → is_doc dialect cs ≡ false → (c == slash) ≡ true → begins_with (codes "/") mid ≡ false
+      → begins_with (codes "*") mid ≡ false → past_blanks dialect total (length from) from ≡ Ok cs
+  passes_last b d s l k =
+      let q = counts dialect total from cs p in
+      q.same ∙ (first (suc q.n) ∙ (rw (b, doc false d, s, l, k) refl ∙ ap Ok (sym e)))
+
+  pub passes_fault : has (blank dialect) c ≡ false → is_doc dialect cs ≡ false → (c == slash) ≡ true → begins_with (codes "/") mid ≡ false
+      → begins_with (codes "*") mid ≡ true → past_comments 1 (drop 2 cs) ≡ None
+      → past_blanks dialect total (length from) from ≡ Err (fault_at wrong.OpenComment total cs)
+  passes_fault b d s l k h =
+      let q = counts dialect total from cs p in
+      let a : past_comments 1 (drop 1 mid) ≡ None = ap (λ (l : List ℕ). past_comments 1 (drop 2 l)) (sym e) ∙ h in
+      q.same ∙ (first (suc q.n) ∙ (rw (b, doc false d, s, l, k, a) refl ∙ ap (λ (l : List ℕ). Err (fault_at wrong.OpenComment total l)) (sym e)))

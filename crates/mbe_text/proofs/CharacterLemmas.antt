@@ -123,6 +123,17 @@ pub stripped_whole : (o : Option (Bor (List ℕ))) (n s : List ℕ)
 stripped_whole None n s h = tt
 stripped_whole (Some x) n s h = h.1.1 ∙ ap (λ (l : List ℕ). n ++ l) (sym h.2)
 
+-- what is after a front is an end
+end_of : (text own rest : List ℕ) → text ≡ own ++ rest → IsEnd text rest
+end_of text own rest e =
+    let none : 0 ≡ length text - length text = omega arith in
+    let same : IsRest text text = ap (λ (n : ℕ). drop n text) none in
+    (omega (arith, ap (λ (l : List ℕ). length l) e, length-append own rest), rest_after text text own rest same e)
+
+pub front_end : (o : Option (Bor (List ℕ))) (n s : List ℕ) → IfSome o (λ x. s ≡ n ++ x.now) → IfSome o (λ x. IsEnd s x.now)
+front_end None n s h = tt
+front_end (Some x) n s h = end_of s n x.now h
+
 pub stripped : (o : Option (Bor (List ℕ))) (n s : List ℕ) → IsTrue (are_ascii n) → IsUtf8 n → IsUtf8 s
     → MatchOption o (FindsTextPrefix n s None) (λ x. StripsPrefix (FindsTextPrefix n) s x.now)
     → MatchOption o (begins_with n (chars s) ≡ false)

@@ -8,46 +8,52 @@ use Rattle.mbe_tt.specs.declared.span.Span.{Span}
 use Rattle.mbe_tt.specs.declared.tt.Delimiter.{Delimiter}
 use Rattle.mbe_tt.specs.declared.tt.DelimiterKind.{DelimiterKind}
 use Rattle.mbe_tt.specs.declared.tt.DelimiterKind.TheVariants.{Parenthesis, Brace, Bracket, Invisible}
+use Rattle.mbe_text.specs.declared.dialect.Dialect.{Dialect}
 use Rattle.mbe_text.specs.declared.lexer.LexError.{LexError}
 use Rattle.mbe_text.specs.declared.lexer.LexError.TheVariants as errors
 use Rattle.mbe_text.specs.declared.scanner.Token.{Token}
 use Rattle.mbe_text.specs.declared.scanner.Lexeme.{Lexeme}
-use Rattle.mbe_text.specs.declared.scanner.Lexeme.TheVariants.{Ident, Literal, Punct, Open, Close}
+use Rattle.mbe_text.specs.declared.scanner.Lexeme.TheVariants.{Ident, Literal, Punct, Open, Close, Lifetime, Doc}
 use Rattle.mbe_text.specs.Characters.{offset}
-use Rattle.mbe_text.specs.Blanks.{past_blanks}
-use Rattle.mbe_text.specs.Shapes.{Shape, identifier, literal_of, punct_of, opening, closing, item_of, shape_of}
-use Rattle.mbe_text.specs.Division.{Taken, next_token, span_of_taken, item_taken, IsNext, is_inside, after_item, levels_of, levels_at_end, trees_of, Lexes}
+use Rattle.mbe_text.specs.Faults.{fault_at}
+use Rattle.mbe_text.specs.Trivia.{past_blanks, after_head}
+use Rattle.mbe_text.specs.declared.scanner.LexFault.{LexFault}
+use Rattle.mbe_text.specs.declared.wrong.Wrong.TheVariants as wrong
+use Rattle.mbe_text.specs.Shapes.{Shape, identifier, literal_of, punct_of, lifetime_of, doc_of, opening, closing, item_of, shape_of}
+use Rattle.mbe_text.specs.Division.{Taken, next_token, span_of_taken, item_taken, IsNext, is_inside, after_item, is_unclosed, levels_of, levels_at_end, trees_of, Lexes}
 use Rattle.mbe_text.specs.Dialect.{read_shape}
-use Rattle.mbe_text.specs.Tokens.{Item, leaf_item, open_item, close_item, bytes_of, lexeme_item, token_item, item_span, Adds, IsAstray, FaultsAt, whole, ended}
+use Rattle.mbe_text.specs.Tokens.{Item, leaf_item, trees_item, open_item, close_item, closing_fault, bytes_of, lexeme_item, token_item, item_span, Adds, IsAstray, FaultsAt, ended}
 
 -- ---- the next token
 
-next_some : (total : ℕ) (cs left : List ℕ) (c : ℕ) (after : List ℕ) (shape : Shape) (rest : List ℕ)
-    → past_blanks total (length cs) cs ≡ Ok left
-    → left ≡ c ∷ after → read_shape total left ≡ Ok (shape, rest)
-    → next_token total cs ≡ Ok (Some (record { shape = shape; from = c ∷ after; rest = rest }))
-next_some total cs left c after shape rest e f g =
-    let p : past_blanks total (length cs) cs ≡ Ok (c ∷ after) = e ∙ ap Ok f in
-    let q : read_shape total (c ∷ after) ≡ Ok (shape, rest) = ap (read_shape total) (sym f) ∙ g in
+next_some : (dialect : Dialect) (total : ℕ) (cs left : List ℕ) (c : ℕ) (after : List ℕ) (shape : Shape) (rest : List ℕ)
+    → past_blanks dialect total (length cs) cs ≡ Ok left
+    → left ≡ c ∷ after → read_shape dialect total left ≡ Ok (shape, rest)
+    → next_token dialect total cs ≡ Ok (Some (record { shape = shape; from = c ∷ after; rest = rest }))
+next_some dialect total cs left c after shape rest e f g =
+    let p : past_blanks dialect total (length cs) cs ≡ Ok (c ∷ after) = e ∙ ap Ok f in
+    let q : read_shape dialect total (c ∷ after) ≡ Ok (shape, rest) = ap (read_shape dialect total) (sym f) ∙ g in
     rw (p, next_token, q) refl
 
 item_of_shape : (span : Span) (l : Lexeme) → lexeme_item span l ≡ item_of span (shape_of l)
 item_of_shape span (Ident name is_raw) = refl
 item_of_shape span (Literal text suffix suffix_len kind) = refl
 item_of_shape span (Punct char spacing) = refl
+item_of_shape span (Lifetime name is_raw) = refl
+item_of_shape span (Doc text is_inner) = refl
 item_of_shape span (Open kind) = refl
 item_of_shape span (Close kind) = refl
 
 -- what a call returns that reads a token behind blanks
-pub is_next : (file total : ℕ) (cs left : List ℕ) (c : ℕ) (after : List ℕ) (l : Lexeme) (rest : List ℕ) (span : Span)
+pub is_next : (dialect : Dialect) (file total : ℕ) (cs left : List ℕ) (c : ℕ) (after : List ℕ) (l : Lexeme) (rest : List ℕ) (span : Span)
     (start end : ℕ)
-    → past_blanks total (length cs) cs ≡ Ok left → left ≡ c ∷ after → read_shape total left ≡ Ok (shape_of l, rest)
+    → past_blanks dialect total (length cs) cs ≡ Ok left → left ≡ c ∷ after → read_shape dialect total left ≡ Ok (shape_of l, rest)
     → span ≡ bytes_of file start end → start ≡ offset total left → end ≡ offset total rest
-    → IsNext file total (next_token total cs) (Ok (Some (record { lexeme = l; span = span }))) rest
-is_next file total cs left c after l rest span start end e f g is s t =
+    → IsNext file total (next_token dialect total cs) (Ok (Some (record { lexeme = l; span = span }))) rest
+is_next dialect file total cs left c after l rest span start end e f g is s t =
     let taken : Taken = record { shape = shape_of l; from = c ∷ after; rest = rest } in (
       taken,
-      next_some total cs left c after (shape_of l) rest e f g,
+      next_some dialect total cs left c after (shape_of l) rest e f g,
       item_of_shape span l ∙ ap (λ (p : Span). item_of p (shape_of l))
           (is ∙ (ap (λ (n : ℕ). bytes_of file n end) (s ∙ ap (offset total) f)
           ∙ ap (λ (n : ℕ). bytes_of file (offset total (c ∷ after)) n) t)),
@@ -56,9 +62,15 @@ is_next file total cs left c after l rest span start end e f g is s t =
 
 -- ---- one token more of a whole text
 
-nothing_faults : (total fault : ℕ) → next_token total (chars []) ≡ Err fault → ⊥
-nothing_faults total fault e =
-    let n : next_token total (chars []) ≡ Ok None = ap (next_token total) chars-nil ∙ refl in cc
+-- of the same dialect, and of a text that is as long
+asked : {dialect dialect' : Dialect} {total total' : ℕ} (cs : List ℕ) → dialect' ≡ dialect → total' ≡ total
+    → next_token dialect total cs ≡ next_token dialect' total' cs
+asked {dialect} {dialect'} {total} {total'} cs d n =
+    ap (λ (k : Dialect). next_token k total cs) (sym d) ∙ ap (λ (k : ℕ). next_token dialect' k cs) (sym n)
+
+nothing_faults : (dialect : Dialect) (total : ℕ) (fault : LexFault) → next_token dialect total (chars []) ≡ Err fault → ⊥
+nothing_faults dialect total fault e =
+    let n : next_token dialect total (chars []) ≡ Ok None = ap (next_token dialect total) chars-nil ∙ refl in cc
 
 same_kind_self : (k : DelimiterKind) → is_same_kind k k ≡ true
 same_kind_self Parenthesis = refl
@@ -90,6 +102,7 @@ not_inside kind (Some j) h = other_kind j kind h
 
 added : (x : Item) (old new : Levels) → Adds x old new → after_item x old ≡ Some new
 added (leaf_item l) old new h = ap Some (sym h)
+added (trees_item span trees) old new h = ap Some (sym h)
 added (open_item kind span) old new h = ap Some (sym h)
 added (close_item kind span) old new h =
     let b : is_inside kind (kind_inside old) ≡ true = ap (is_inside kind) h.0 ∙ same_kind_self kind in
@@ -97,6 +110,7 @@ added (close_item kind span) old new h =
 
 refused : (x : Item) (old : Levels) → IsAstray x old → after_item x old ≡ None
 refused (leaf_item l) old h = absurd h
+refused (trees_item span trees) old h = absurd h
 refused (open_item kind span) old h = absurd h
 refused (close_item kind span) old h =
     let b : is_inside kind (kind_inside old) ≡ false = not_inside kind (kind_inside old) h in
@@ -106,59 +120,62 @@ span_of_shape : (span : Span) (shape : Shape) → item_span (item_of span shape)
 span_of_shape span (identifier name is_raw) = refl
 span_of_shape span (literal_of text suffix suffix_len kind) = refl
 span_of_shape span (punct_of char spacing) = refl
+span_of_shape span (lifetime_of name is_raw) = refl
+span_of_shape span (doc_of text is_inner) = refl
 span_of_shape span (opening kind) = refl
 span_of_shape span (closing kind) = refl
 
 -- the tokens so far, of a text of which those bytes are left
-pub record Reaches (file : ℕ) (text left : List ℕ) (levels : Levels) : Type 0 where
+pub record Reaches (dialect : Dialect) (file : ℕ) (text left : List ℕ) (levels : Levels) : Type 0 where
   pub n : ℕ
   pub fits : length left ≤ n
-  pub same : levels_at_end file text ≡ levels_of file (length text) n levels (chars left)
+  pub same : levels_at_end dialect file text ≡ levels_of dialect file (length text) n levels (chars left)
 
-pub reached_first : (file : ℕ) (text left : List ℕ) (span : Span) (d : Delimiter) (b : Levels) → b ≡ (d, none) ∷ []
+pub reached_first : (dialect : Dialect) (file : ℕ) (text left : List ℕ) (span : Span) (d : Delimiter) (b : Levels) → b ≡ (d, none) ∷ []
     → d ≡ record { opening = span; close = span; kind = Invisible } → span ≡ bytes_of file 0 (length text)
-    → left ≡ text → Reaches file text left b
-reached_first file text left span d b e opens is all =
+    → length left ≤ length text → chars left ≡ after_head dialect (length text) (chars text) → Reaches dialect file text left b
+reached_first dialect file text left span d b e opens is fits head =
     let delimiter : Span → Delimiter = λ s. record { opening = s; close = s; kind = Invisible } in
     let levels : Delimiter → Levels = λ k. (k, none) ∷ [] in
     let n = length text in
     record {
       n = n;
-      fits = omega (arith, ap (λ (l : List ℕ). length l) all);
-      same = ap (λ (b : Levels). levels_of file n n b (chars text)) (sym (e ∙ ap levels (opens ∙ ap delimiter is)))
-          ∙ ap (λ (l : List ℕ). levels_of file n n b (chars l)) (sym all);
+      fits = fits;
+      same = ap (λ (b : Levels). levels_of dialect file n n b (after_head dialect n (chars text)))
+          (sym (e ∙ ap levels (opens ∙ ap delimiter is)))
+          ∙ ap (λ (cs : List ℕ). levels_of dialect file n n b cs) (sym head);
     }
 
-levels_step : (file total m : ℕ) (b c : Levels) (cs : List ℕ) (t : Taken) → next_token total cs ≡ Ok (Some t)
+levels_step : (dialect : Dialect) (file total m : ℕ) (b c : Levels) (cs : List ℕ) (t : Taken) → next_token dialect total cs ≡ Ok (Some t)
     → after_item (item_taken file total t) b ≡ Some c
-    → levels_of file total (suc m) b cs ≡ levels_of file total m c t.rest
-levels_step file total m b c cs t e f = rw (e, levels_of, f) refl
+    → levels_of dialect file total (suc m) b cs ≡ levels_of dialect file total m c t.rest
+levels_step dialect file total m b c cs t e f = rw (e, levels_of, f) refl
 
-levels_astray : (file total m : ℕ) (b : Levels) (cs : List ℕ) (t : Taken) → next_token total cs ≡ Ok (Some t)
+levels_astray : (dialect : Dialect) (file total m : ℕ) (b : Levels) (cs : List ℕ) (t : Taken) → next_token dialect total cs ≡ Ok (Some t)
     → after_item (item_taken file total t) b ≡ None
-    → levels_of file total (suc m) b cs ≡ Err (offset total t.from)
-levels_astray file total m b cs t e f = rw (e, levels_of, f) refl
+    → levels_of dialect file total (suc m) b cs ≡ Err (fault_at wrong.Closing total t.from)
+levels_astray dialect file total m b cs t e f = rw (e, levels_of, f) refl
 
-levels_fault : (file total m : ℕ) (b : Levels) (cs : List ℕ) (fault : ℕ) → next_token total cs ≡ Err fault
-    → levels_of file total (suc m) b cs ≡ Err fault
-levels_fault file total m b cs fault e = rw (e, levels_of) refl
+levels_fault : (dialect : Dialect) (file total m : ℕ) (b : Levels) (cs : List ℕ) (fault : LexFault) → next_token dialect total cs ≡ Err fault
+    → levels_of dialect file total (suc m) b cs ≡ Err fault
+levels_fault dialect file total m b cs fault e = rw (e, levels_of) refl
 
-levels_last : (file total m : ℕ) (b : Levels) (cs : List ℕ) → next_token total cs ≡ Ok None
-    → levels_of file total m b cs ≡ Ok b
-levels_last file total zero b cs e = refl
-levels_last file total (suc m) b cs e = rw (e, levels_of) refl
+levels_last : (dialect : Dialect) (file total m : ℕ) (b : Levels) (cs : List ℕ) → next_token dialect total cs ≡ Ok None
+    → levels_of dialect file total m b cs ≡ Ok b
+levels_last dialect file total zero b cs e = refl
+levels_last dialect file total (suc m) b cs e = rw (e, levels_of) refl
 
 -- a token, which was added
-pub reached_more : (file : ℕ) (text left left' : List ℕ) (b c : Levels) (file' total' : ℕ) (t : Token)
-    → Reaches file text left b → file' ≡ file → total' ≡ length text
-    → IsNext file' total' (next_token total' (chars left)) (Ok (Some t)) (chars left') → length left' < length left
+pub reached_more : (dialect : Dialect) (file : ℕ) (text left left' : List ℕ) (b c : Levels) (dialect' : Dialect) (file' total' : ℕ) (t : Token)
+    → Reaches dialect file text left b → dialect' ≡ dialect → file' ≡ file → total' ≡ length text
+    → IsNext file' total' (next_token dialect' total' (chars left)) (Ok (Some t)) (chars left') → length left' < length left
     → Adds (token_item t) b c
-    → Reaches file text left' c
-reached_more file text left left' b c file' total' t p f n next shorter adds =
+    → Reaches dialect file text left' c
+reached_more dialect file text left left' b c dialect' file' total' t p same f n next shorter adds =
     let total = length text in
     let taken : Taken = next.0 in
-    let is : next_token total (chars left) ≡ Ok (Some taken) = ap (λ (k : ℕ). next_token k (chars left)) (sym n)
-    ∙ next.1 in
+    let is : next_token dialect total (chars left) ≡ Ok (Some taken) =
+    asked (chars left) same n ∙ next.1 in
     let item : token_item t ≡ item_taken file total taken =
     next.2 ∙ (ap (λ (k : ℕ). item_taken k total' taken) f ∙ ap (λ (k : ℕ). item_taken file k taken) n) in
     let after : after_item (item_taken file total taken) b ≡ Some c = ap (λ (x : Item). after_item x b) (sym item)
@@ -168,22 +185,25 @@ reached_more file text left left' b c file' total' t p f n next shorter adds =
     record {
       n = p.n - 1;
       fits = omega (arith, fits, shorter);
-      same = p.same ∙ (ap (λ (k : ℕ). levels_of file total k b (chars left)) m
-          ∙ (levels_step file total (p.n - 1) b c (chars left) taken is after
-          ∙ ap (λ (l : List ℕ). levels_of file total (p.n - 1) c l) (sym next.3)));
+      same = p.same ∙ (ap (λ (k : ℕ). levels_of dialect file total k b (chars left)) m
+          ∙ (levels_step dialect file total (p.n - 1) b c (chars left) taken is after
+          ∙ ap (λ (l : List ℕ). levels_of dialect file total (p.n - 1) c l) (sym next.3)));
     }
 
+abbrev closing_at : ℕ → Result Levels LexFault
+closing_at n = let fault : LexFault = record { offset = n; wrong = wrong.Closing } in Err fault
+
 -- a closing that doesn't fit
-pub reached_astray : (file : ℕ) (text left left' : List ℕ) (b : Levels) (file' total' : ℕ) (t : Token)
-    → Reaches file text left b → file' ≡ file → total' ≡ length text
-    → IsNext file' total' (next_token total' (chars left)) (Ok (Some t)) (chars left') → length left' < length left
+pub reached_astray : (dialect : Dialect) (file : ℕ) (text left left' : List ℕ) (b : Levels) (dialect' : Dialect) (file' total' : ℕ) (t : Token)
+    → Reaches dialect file text left b → dialect' ≡ dialect → file' ≡ file → total' ≡ length text
+    → IsNext file' total' (next_token dialect' total' (chars left)) (Ok (Some t)) (chars left') → length left' < length left
     → IsAstray (token_item t) b
-    → levels_at_end file text ≡ Err (item_span (token_item t)).start
-reached_astray file text left left' b file' total' t p f n next shorter astray =
+    → levels_at_end dialect file text ≡ Err (closing_fault (token_item t))
+reached_astray dialect file text left left' b dialect' file' total' t p same f n next shorter astray =
     let total = length text in
     let taken : Taken = next.0 in
-    let is : next_token total (chars left) ≡ Ok (Some taken) = ap (λ (k : ℕ). next_token k (chars left)) (sym n)
-    ∙ next.1 in
+    let is : next_token dialect total (chars left) ≡ Ok (Some taken) =
+    asked (chars left) same n ∙ next.1 in
     let item : token_item t ≡ item_taken file total taken =
     next.2 ∙ (ap (λ (k : ℕ). item_taken k total' taken) f ∙ ap (λ (k : ℕ). item_taken file k taken) n) in
     let after : after_item (item_taken file total taken) b ≡ None = ap (λ (x : Item). after_item x b) (sym item)
@@ -193,45 +213,49 @@ reached_astray file text left left' b file' total' t p f n next shorter astray =
     let start : (item_span (token_item t)).start ≡ offset total taken.from =
     ap (λ (x : Item). (item_span x).start) item
     ∙ ap (λ (s : Span). s.start) (span_of_shape (span_of_taken file total taken) taken.shape) in
-    p.same ∙ (ap (λ (k : ℕ). levels_of file total k b (chars left)) m
-    ∙ (levels_astray file total (p.n - 1) b (chars left) taken is after ∙ ap Err (sym start)))
+    p.same ∙ (ap (λ (k : ℕ). levels_of dialect file total k b (chars left)) m
+    ∙ (levels_astray dialect file total (p.n - 1) b (chars left) taken is after ∙ ap closing_at (sym start)))
 
 -- no token
-pub reached_fault : (file : ℕ) (text left : List ℕ) (b : Levels) (total' fault : ℕ) → Reaches file text left b
-    → total' ≡ length text
-    → next_token total' (chars left) ≡ Err fault
-    → levels_at_end file text ≡ Err fault
-reached_fault file text left b total' fault p n next =
+pub reached_fault : (dialect : Dialect) (file : ℕ) (text left : List ℕ) (b : Levels) (dialect' : Dialect) (total' : ℕ) (fault : LexFault) → Reaches dialect file text left b
+    → dialect' ≡ dialect → total' ≡ length text
+    → next_token dialect' total' (chars left) ≡ Err fault
+    → levels_at_end dialect file text ≡ Err fault
+reached_fault dialect file text left b dialect' total' fault p same n next =
     let total = length text in
-    let is : next_token total (chars left) ≡ Err fault = ap (λ (k : ℕ). next_token k (chars left)) (sym n) ∙ next in
+    let is : next_token dialect total (chars left) ≡ Err fault = asked (chars left) same n ∙ next in
     p.same ∙ fault_of p.n left p.fits is
   where
-    fault_of : (m : ℕ) (left : List ℕ) → length left ≤ m → next_token (length text) (chars left) ≡ Err fault
-        → levels_of file (length text) m b (chars left) ≡ Err fault
-    fault_of zero [] h e = absurd (nothing_faults (length text) fault e)
+    fault_of : (m : ℕ) (left : List ℕ) → length left ≤ m → next_token dialect (length text) (chars left) ≡ Err fault
+        → levels_of dialect file (length text) m b (chars left) ≡ Err fault
+    fault_of zero [] h e = absurd (nothing_faults dialect (length text) fault e)
     fault_of zero (c ∷ cs) h e = absurd (omega arith)
-    fault_of (suc m) left h e = levels_fault file (length text) m b (chars left) fault e
+    fault_of (suc m) left h e = levels_fault dialect file (length text) m b (chars left) fault e
 
 -- the end
-pub reached_last : (file : ℕ) (text left : List ℕ) (b : Levels) (total' : ℕ) → Reaches file text left b
-    → total' ≡ length text
-    → next_token total' (chars left) ≡ Ok None
-    → levels_at_end file text ≡ Ok b
-reached_last file text left b total' p n is =
-    p.same ∙ levels_last file (length text) p.n b (chars left) (ap (λ (k : ℕ). next_token k (chars left)) (sym n) ∙ is)
+pub reached_last : (dialect : Dialect) (file : ℕ) (text left : List ℕ) (b : Levels) (dialect' : Dialect) (total' : ℕ) → Reaches dialect file text left b
+    → dialect' ≡ dialect → total' ≡ length text
+    → next_token dialect' total' (chars left) ≡ Ok None
+    → levels_at_end dialect file text ≡ Ok b
+reached_last dialect file text left b dialect' total' p same n is =
+    p.same ∙ levels_last dialect file (length text) p.n b (chars left) (asked (chars left) same n ∙ is)
 
-pub trees_lexed : (file : ℕ) (text : List ℕ) (b : Levels) (span : Span) (t : Top)
-    → levels_at_end file text ≡ Ok b
-    → span ≡ bytes_of file (length text) (length text) → t ≡ ended span b → trees_of file text ≡ Ok t
-trees_lexed file text b span t e is h = rw (e, trees_of) (ap Ok (sym (h ∙ ap (λ (s : Span). ended s b) is)))
+pub trees_lexed : (dialect : Dialect) (file : ℕ) (text : List ℕ) (b : Levels) (span : Span) (t : Top)
+    → levels_at_end dialect file text ≡ Ok b → is_unclosed dialect b ≡ false
+    → span ≡ bytes_of file (length text) (length text) → t ≡ ended span b → trees_of dialect file text ≡ Ok t
+trees_lexed dialect file text b span t e closed is h = rw (e, trees_of, closed) (ap Ok (sym (h ∙ ap (λ (s : Span). ended s b) is)))
 
-pub trees_fault : (file : ℕ) (text : List ℕ) (fault : ℕ)
-    → levels_at_end file text ≡ Err fault → trees_of file text ≡ Err fault
-trees_fault file text fault e = rw (e, trees_of) refl
+pub trees_unclosed : (dialect : Dialect) (file : ℕ) (text : List ℕ) (b : Levels) → levels_at_end dialect file text ≡ Ok b
+    → is_unclosed dialect b ≡ true → trees_of dialect file text ≡ Err (record { offset = length text; wrong = wrong.Open })
+trees_unclosed dialect file text b e more = rw (e, trees_of, more) refl
+
+pub trees_fault : (dialect : Dialect) (file : ℕ) (text : List ℕ) (fault : LexFault)
+    → levels_at_end dialect file text ≡ Err fault → trees_of dialect file text ≡ Err fault
+trees_fault dialect file text fault e = rw (e, trees_of) refl
 
 -- a token isn't added
-pub lexes_refused : (lexed : Result Top ℕ) (x : Item) (b : Levels) (e : LexError) → FaultsAt x b e
-    → (IsAstray x b → lexed ≡ Err (item_span x).start)
+pub lexes_refused : (lexed : Result Top LexFault) (x : Item) (b : Levels) (e : LexError) → FaultsAt x b e
+    → (IsAstray x b → lexed ≡ Err (closing_fault x))
     → Lexes lexed (Err e)
-lexes_refused lexed x b (errors.Fault offset) p h = h p.1 ∙ ap Err (sym p.0)
+lexes_refused lexed x b (errors.Fault fault) p h = h p.1 ∙ ap Err (sym p.0)
 lexes_refused lexed x b errors.OutOfMemory p h = tt

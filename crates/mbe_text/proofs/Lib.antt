@@ -1,3 +1,4 @@
+pub mod Attributes
 pub mod BlankLemmas
 pub mod CharacterLemmas
 pub mod DivisionLemmas
@@ -6,4 +7,5 @@ pub mod LiteralLemmas
 pub mod Made
 pub mod Printed
 pub mod Reading
+pub mod TailLemmas
 pub mod Taken

@@ -9,10 +9,11 @@ use Rattle.mbe_tt.specs.declared.tt.Delimiter.{Delimiter}
 use Rattle.mbe_tt.specs.declared.tt.DelimiterKind.TheVariants.{Invisible}
 use Rattle.mbe_text.specs.declared.scanner.Token.{Token}
 use Rattle.mbe_text.specs.declared.scanner.Lexeme.{Lexeme}
-use Rattle.mbe_text.specs.declared.scanner.Lexeme.TheVariants.{Ident, Literal, Punct, Open, Close}
+use Rattle.mbe_text.specs.declared.scanner.Lexeme.TheVariants.{Ident, Literal, Punct, Open, Close, Lifetime, Doc}
 use Rattle.mbe_text.specs.declared.lexer.LexError.{LexError}
 use Rattle.mbe_text.specs.declared.lexer.LexError.TheVariants as errors
 use Rattle.mbe_text.specs.Scanning.{FaultsWithin}
+use Rattle.mbe_text.specs.declared.scanner.LexFault.{LexFault}
 use Rattle.mbe_text.specs.Tokens.{Item, item_span, item_text, token_item, lexeme_item, Adds, FaultsAt, Makes, ended, AreInOrder, AreSpelled, bytes_of, whole, IsMade}
 
 makes_more : (a b c : Levels) (xs : List Item) (x : Item) → Makes a xs b → Adds x b c → Makes a (xs ++ x ∷ []) c
@@ -36,11 +37,15 @@ span_of_lexeme : (span : Span) (l : Lexeme) → item_span (lexeme_item span l) �
 span_of_lexeme span (Ident name is_raw) = refl
 span_of_lexeme span (Literal text suffix suffix_len kind) = refl
 span_of_lexeme span (Punct char spacing) = refl
+span_of_lexeme span (Lifetime name is_raw) = refl
+span_of_lexeme span (Doc text is_inner) = refl
 span_of_lexeme span (Open kind) = refl
 span_of_lexeme span (Close kind) = refl
 
 pub faults_within : (t : Token) (old : Levels) (len : ℕ) (e : LexError) → FaultsAt (token_item t) old e → t.span.start ≤ len → FaultsWithin len e
-faults_within t old len (errors.Fault offset) p h = omega (arith, p.0, ap (λ (s : Span). s.start) (span_of_lexeme t.span t.lexeme))
+faults_within t old len (errors.Fault fault) p h =
+    let start : fault.offset ≡ (item_span (token_item t)).start = ap (λ (f : LexFault). f.offset) p.0 in
+    omega (arith, start, ap (λ (s : Span). s.start) (span_of_lexeme t.span t.lexeme))
 faults_within t old len errors.OutOfMemory p h = p
 
 -- the tokens so far, of a text of which so much is left

@@ -12,7 +12,7 @@ use Rattle.mbe_tt.specs.declared.span.Span.{Span}
 use Rattle.mbe_tt.specs.declared.tt.LitKind.{LitKind}
 use Rattle.mbe_text.specs.declared.scanner.Lexeme.{Lexeme}
 use Rattle.mbe_text.specs.Ends.{IsRest}
-use Rattle.mbe_text.specs.declared.scanner.Lexeme.TheVariants.{Ident, Literal, Punct, Open, Close}
+use Rattle.mbe_text.specs.declared.scanner.Lexeme.TheVariants.{Ident, Literal, Punct, Open, Close, Lifetime, Doc}
 use Rattle.mbe_text.specs.Tokens.{lexeme_item, item_text, lexeme_text}
 
 -- ---- what is left of a text
@@ -109,5 +109,7 @@ pub text_of_lexeme : (span : Span) (l : Lexeme) → lexeme_text l ≡ item_text 
 text_of_lexeme span (Ident name is_raw) = refl
 text_of_lexeme span (Literal text suffix suffix_len kind) = refl
 text_of_lexeme span (Punct char spacing) = refl
+text_of_lexeme span (Lifetime name is_raw) = refl
+text_of_lexeme span (Doc text is_inner) = refl
 text_of_lexeme span (Open kind) = refl
 text_of_lexeme span (Close kind) = refl

@@ -3,11 +3,17 @@ use Rattle.std.specs.Prelude.{ℕ, ◌==◌, ◌-◌, nat_lt, Bool, true, false,
 use Rattle.std.specs.Char.{is_ascii_digit, is_ascii_hexdigit, char_set_contains}
 use Rattle.unicode_ident.specs.Ident.{is_xid_start, is_xid_continue}
 use Rattle.mbe_text.specs.declared.characters.Class.{Class}
-use Rattle.mbe_text.specs.declared.characters.Class.TheVariants.{Blank, InLine, IdentStart, IdentContinue, Decimal, Digit, HexDigit, Exponent, Sign, Punct, Hash}
+use Rattle.mbe_text.specs.declared.characters.Class.TheVariants.{Blank, Space, InLine, IdentStart, IdentContinue, Decimal, Digit, HexDigit, Exponent, Sign, Punct, Hash}
 
 -- some characters by their codes
 abbrev pub quotation_mark : ℕ
 quotation_mark = 34
+
+abbrev pub exclamation_mark : ℕ
+exclamation_mark = 33
+
+abbrev pub number_sign : ℕ
+number_sign = 35
 
 abbrev pub apostrophe : ℕ
 apostrophe = 39
@@ -18,15 +24,23 @@ star = 42
 abbrev pub slash : ℕ
 slash = 47
 
+abbrev pub equals_sign : ℕ
+equals_sign = 61
+
 abbrev pub backslash : ℕ
 backslash = 92
 
 abbrev pub low_line : ℕ
 low_line = 95
 
+-- white space of Rust, which is Unicode's `Pattern_White_Space`
+abbrev pub is_space : ℕ → Bool
+is_space c = char_set_contains (codes " \t\n\r") c || char_set_contains (11 ∷ (12 ∷ (133 ∷ (8206 ∷ (8207 ∷ (8232 ∷ (8233 ∷ []))))))) c
+
 -- what a character is
 abbrev pub has : Class → ℕ → Bool
 has Blank c = char_set_contains (codes " \t\r\n") c
+has Space c = is_space c
 has InLine c = not (char_set_contains (codes "\n") c)
 has IdentStart c = is_xid_start c || c == low_line
 has IdentContinue c = is_xid_continue c

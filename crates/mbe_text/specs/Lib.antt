@@ -3,11 +3,16 @@ pub mod Characters
 pub mod Dialect
 pub mod Division
 pub mod Ends
+pub mod Escapes
+pub mod Extents
+pub mod Faults
 pub mod Literals
 pub mod Printing
+pub mod Rust
 pub mod Scanning
 pub mod Shapes
 pub mod Signs
 pub mod Tokens
+pub mod Trivia
 pub mod Words
 pub mod Writing

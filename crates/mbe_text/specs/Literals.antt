@@ -5,15 +5,17 @@ use Rattle.mbe_tt.specs.declared.tt.LitKind.{LitKind}
 use Rattle.mbe_tt.specs.declared.tt.LitKind.TheVariants.{Char, Integer, Float}
 use Rattle.mbe_tt.specs.declared.tt.Spacing.TheVariants.{Joint}
 use Rattle.mbe_text.specs.declared.characters.Class.TheVariants.{IdentStart, Decimal, Digit, HexDigit, Exponent, Sign}
-use Rattle.mbe_text.specs.Characters.{begins, begins_with, past, past_one, bytes_before, offset, apostrophe, backslash}
+use Rattle.mbe_text.specs.Characters.{begins, begins_with, past, past_one, bytes_before, apostrophe, backslash}
+use Rattle.mbe_text.specs.Faults.{fault_at}
+use Rattle.mbe_text.specs.declared.wrong.Wrong.TheVariants as wrong
 use Rattle.mbe_text.specs.Shapes.{Read, literal_of, punct_of}
 use Rattle.mbe_text.specs.Words.{past_suffix}
 
 -- a literal of that text, whose suffix and what is after it are left
 abbrev pub read_literal : ℕ → LitKind → List ℕ → List ℕ → Read
 read_literal total kind text cs = elim (past_suffix cs) [
-  | None ↦ Err (offset total cs)
-  | Some rest ↦ Ok (literal_of text (bytes_before cs rest) (length (bytes_before cs rest)) kind, rest)
+  | Err why ↦ Err (fault_at why total cs)
+  | Ok rest ↦ Ok (literal_of text (bytes_before cs rest) (length (bytes_before cs rest)) kind, rest)
 ]
 
 -- ---- numbers
@@ -61,7 +63,7 @@ from_quote quote false (c ∷ cs) = if c == quote then Some (c ∷ cs) else from
 -- a string, or a char, between two of that quote
 abbrev pub read_quoted : ℕ → LitKind → ℕ → List ℕ → Read
 read_quoted total kind quote cs = elim (from_quote quote false (drop 1 cs)) [
-  | None ↦ Err (offset total cs)
+  | None ↦ Err (fault_at wrong.OpenString total cs)
   | Some end ↦ read_literal total kind (bytes_before (drop 1 cs) end) (drop 1 end)
 ]
 
@@ -73,7 +75,7 @@ is_char (c ∷ cs) = c == backslash || (not (char_set_contains (codes "'\n") c) 
 -- the `'` of a lifetime, whose identifier is the next token
 abbrev pub read_lifetime : ℕ → List ℕ → Read
 read_lifetime total cs =
-    if begins IdentStart (drop 1 cs) then Ok (punct_of apostrophe Joint, drop 1 cs) else Err (offset total cs)
+    if begins IdentStart (drop 1 cs) then Ok (punct_of apostrophe Joint, drop 1 cs) else Err (fault_at wrong.Start total cs)
 
 abbrev pub read_quote : ℕ → List ℕ → Read
 read_quote total cs = if is_char (drop 1 cs) then read_quoted total Char apostrophe cs else read_lifetime total cs

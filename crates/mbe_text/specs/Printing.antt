@@ -96,7 +96,7 @@ depth_after (Some (Group_tree d inside)) depth = depth + 1
 
 -- why a text isn't lexed
 abbrev pub lex_error_text : LexError → List ℕ
-lex_error_text (Fault offset) = codes "cannot lex at " ++ decimal offset
+lex_error_text (Fault fault) = codes "cannot lex at " ++ decimal fault.offset
 lex_error_text OutOfMemory = codes "out of memory"
 
 -- the lines of a whole buffer

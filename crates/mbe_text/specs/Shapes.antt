@@ -1,5 +1,5 @@
 -- What a token is, wherever it stands.
-use Rattle.std.specs.Prelude.{◌≡◌, ℕ, List, ◌++◌, Result, Ok, Err}
+use Rattle.std.specs.Prelude.{◌≡◌, ℕ, Bool, List, ◌++◌, Result, Ok, Err}
 use Rattle.mbe_tt.specs.declared.span.Span.{Span}
 use Rattle.mbe_tt.specs.Trees.Leaf.{literal, punct, ident}
 use Rattle.mbe_tt.specs.declared.tt.DelimiterKind.{DelimiterKind}
@@ -8,14 +8,16 @@ use Rattle.mbe_tt.specs.declared.tt.LitKind.{LitKind}
 use Rattle.mbe_tt.specs.declared.tt.Spacing.{Spacing}
 use Rattle.mbe_text.specs.declared.scanner.LexFault.{LexFault}
 use Rattle.mbe_text.specs.declared.scanner.Lexeme.{Lexeme}
-use Rattle.mbe_text.specs.declared.scanner.Lexeme.TheVariants.{Ident, Literal, Punct, Open, Close}
-use Rattle.mbe_text.specs.Tokens.{Item, leaf_item, open_item, close_item}
+use Rattle.mbe_text.specs.declared.scanner.Lexeme.TheVariants.{Ident, Literal, Punct, Open, Close, Lifetime, Doc}
+use Rattle.mbe_text.specs.Tokens.{Item, leaf_item, open_item, close_item, trees_item, lifetime_trees, doc_trees}
 
 -- texts are bytes
 pub data Shape : Type 0 where
   identifier : (name : List ℕ) → IdentIsRaw → Shape
   literal_of : (text suffix : List ℕ) (suffix_len : ℕ) → LitKind → Shape
   punct_of : (char : ℕ) → Spacing → Shape
+  lifetime_of : (name : List ℕ) → IdentIsRaw → Shape
+  doc_of : (text : List ℕ) (is_inner : Bool) → Shape
   opening : DelimiterKind → Shape
   closing : DelimiterKind → Shape
 
@@ -25,12 +27,14 @@ item_of span (identifier name is_raw) = leaf_item (ident (record { sym = name; i
 item_of span (literal_of text suffix suffix_len kind) =
     leaf_item (literal (record { text_and_suffix = text ++ suffix; suffix_len = suffix_len; kind = kind; span = span }))
 item_of span (punct_of char spacing) = leaf_item (punct (record { char = char; spacing = spacing; span = span }))
+item_of span (lifetime_of name is_raw) = trees_item span (lifetime_trees span name is_raw)
+item_of span (doc_of text is_inner) = trees_item span (doc_trees span text is_inner)
 item_of span (opening kind) = open_item kind span
 item_of span (closing kind) = close_item kind span
 
--- What is read from the front of a text: a token and what is left after it, or the byte at fault.
+-- What is read from the front of a text: a token and what is left after it, or the fault.
 abbrev pub Read : Type 0
-Read = Result (Shape × List ℕ) ℕ
+Read = Result (Shape × List ℕ) LexFault
 
 -- the shape of a lexeme
 abbrev pub shape_of : Lexeme → Shape
@@ -39,8 +43,10 @@ shape_of (Literal text suffix suffix_len kind) = literal_of text.now suffix.now 
 shape_of (Punct char spacing) = punct_of char spacing
 shape_of (Open kind) = opening kind
 shape_of (Close kind) = closing kind
+shape_of (Lifetime name is_raw) = lifetime_of name.now is_raw
+shape_of (Doc text is_inner) = doc_of text.now is_inner
 
 -- that is what a call read, and what it left
 abbrev pub Gives : Read → Result Lexeme LexFault → List ℕ → Type 0
 Gives read (Ok l) rest = read ≡ Ok (shape_of l, rest)
-Gives read (Err fault) rest = read ≡ Err fault.offset
+Gives read (Err fault) rest = read ≡ Err fault

@@ -4,7 +4,9 @@ use Rattle.mbe_tt.specs.declared.tt.DelimiterKind.TheVariants.{Parenthesis, Brac
 use Rattle.mbe_tt.specs.declared.tt.Spacing.{Spacing}
 use Rattle.mbe_tt.specs.declared.tt.Spacing.TheVariants.{Alone, Joint}
 use Rattle.mbe_text.specs.declared.characters.Class.TheVariants as classes
-use Rattle.mbe_text.specs.Characters.{begins, has, offset}
+use Rattle.mbe_text.specs.Characters.{begins, has}
+use Rattle.mbe_text.specs.Faults.{fault_at}
+use Rattle.mbe_text.specs.declared.wrong.Wrong.TheVariants as wrong
 use Rattle.mbe_text.specs.Blanks.{begins_comment}
 use Rattle.mbe_text.specs.Shapes.{Shape, Read, punct_of, opening, closing}
 
@@ -22,8 +24,8 @@ side c =
 
 -- a side of a group, or a punct
 abbrev pub read_sign : ℕ → List ℕ → Read
-read_sign total [] = Err total
+read_sign total [] = Err (fault_at wrong.Start total [])
 read_sign total (c ∷ rest) = elim (side c) [
   | Some shape ↦ Ok (shape, rest)
-  | None ↦ if has classes.Punct c then Ok (punct_of c (spacing_before rest), rest) else Err (offset total (c ∷ rest))
+  | None ↦ if has classes.Punct c then Ok (punct_of c (spacing_before rest), rest) else Err (fault_at wrong.Start total (c ∷ rest))
 ]

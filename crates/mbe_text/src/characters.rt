@@ -1,7 +1,7 @@
 // The characters of a text: kinds of them, and what is left of a text after some.
 ghost use Rattle.std.specs.Prelude.{◌≡◌, ◌++◌, [], ◌∷◌, ◌+◌, ◌<◌, ◌≤◌, length, chars, encode_utf8, MatchOption, IfSome, IsTrue, true, false, drop, Some, None};
 ghost use Rattle.mbe_text.specs.Characters as spec;
-ghost use Rattle.mbe_text.specs.declared.characters.Class.TheVariants.{Punct};
+ghost use Rattle.mbe_text.specs.declared.characters.Class.TheVariants.{Punct, Space};
 ghost use Rattle.mbe_text.specs.Ends.{IsEnd, IsRest};
 
 use unicode_ident::{is_xid_continue, is_xid_start};
@@ -10,6 +10,8 @@ use unicode_ident::{is_xid_continue, is_xid_start};
 #[derive(Clone, Copy)]
 pub(crate) enum Class {
     Blank,
+    // White space of Rust: Unicode's `Pattern_White_Space`.
+    Space,
     // Any but a line feed.
     InLine,
     IdentStart,
@@ -32,6 +34,7 @@ impl Class {
     {
         match self {
             Class::Blank => matches!(char, ' ' | '\t' | '\r' | '\n'),
+            Class::Space => is_space(char),
             Class::InLine => char != '\n',
             Class::IdentStart => is_xid_start(char) || char == '_',
             Class::IdentContinue => is_xid_continue(char),
@@ -44,6 +47,24 @@ impl Class {
             Class::Hash => char == '#',
         }
     }
+}
+
+fn is_space(char: char) -> bool
+    ensures { result ≡ spec.has Space char }
+{
+    matches!(
+        char,
+        ' ' | '\t'
+            | '\n'
+            | '\u{b}'
+            | '\u{c}'
+            | '\r'
+            | '\u{85}'
+            | '\u{200e}'
+            | '\u{200f}'
+            | '\u{2028}'
+            | '\u{2029}'
+    )
 }
 
 fn is_punct(char: char) -> bool
@@ -141,6 +162,7 @@ pub(crate) fn past_front<'t>(text: &'t str, front: &str) -> Option<&'t str>
         (λ rest. (spec.begins_with front.now (chars text.now) ≡ true)
         × (chars rest.now ≡ drop (length front.now) (chars text.now))) }
     ensures whole { IfSome result (λ rest. text.now ≡ front.now ++ rest.now) }
+    ensures end { IfSome result (λ rest. IsEnd text.now rest.now) }
 {
     text.strip_prefix(front)
 }

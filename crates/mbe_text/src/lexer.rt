@@ -1,15 +1,24 @@
 // The token trees of a text.
 ghost use Rattle.std.specs.Prelude.{◌≡◌, ◌<◌, ◌+◌, ◌^◌, ◌++◌, length, IfOk, IfErr, OnOk};
+ghost use Rattle.mbe_text.specs.declared.dialect.Dialect.TheVariants.{Sample};
 ghost use Rattle.mbe_text.specs.Scanning.{FaultsWithin};
 ghost use Rattle.mbe_text.specs.Division.{Lexes, trees_of};
+ghost use Rattle.mbe_text.specs.Division as division;
 ghost use Rattle.mbe_text.specs.Tokens.{Adds, IsAstray, FaultsAt, IsMade, ended, token_item, close_item};
+ghost use Rattle.mbe_text.specs.Tokens.{closing_fault, doc_group, doc_marks, doc_trees, lifetime_trees, most_guards, punct_leaf};
+ghost use Rattle.mbe_text.specs.Tokens as spec;
+ghost use Rattle.mbe_tt.specs.Buffers.Building.{put};
+ghost use Rattle.mbe_tt.specs.Views.Shown.{leaf_of};
 
+use crate::dialect::Dialect;
 use crate::scanner::{LexFault, Lexeme, Scanner, Token, file_span};
 use crate::symbols::SymbolTable;
+use crate::wrong::Wrong;
 use mbe_tt::span::Span;
 use mbe_tt::symbol::Symbol;
 use mbe_tt::tt::{
-    Delimiter, DelimiterKind, Ident, Leaf, Literal, Punct, TopSubtree, TopSubtreeBuilder,
+    Delimiter, DelimiterKind, Ident, IdentIsRaw, Leaf, LitKind, Literal, Punct, Spacing,
+    TopSubtree, TopSubtreeBuilder,
 };
 use std::alloc::{AllocError, AllocFailed, Allocator};
 use std::error::Error;
@@ -18,8 +27,8 @@ use std::fmt;
 /// Why a text has no token trees.
 #[derive(Debug, Drop, PartialEq, Eq)]
 pub enum LexError {
-    /// From this byte on the text is no token, or is a closing without its opening.
-    Fault(u32),
+    /// At a byte the text is no token or is a closing without its opening; or, in the Rust dialect, a group is open at the end.
+    Fault(LexFault),
     OutOfMemory,
 }
 
@@ -31,7 +40,10 @@ impl fmt::Display for LexError {
 
     fn fmt<W: fmt::Write>(&self, f: &mut fmt::Formatter<W>) -> fmt::Result {
         match self {
-            LexError::Fault(offset) => write!(f, "cannot lex at {offset}"),
+            LexError::Fault(fault) => {
+                let offset = fault.offset;
+                write!(f, "cannot lex at {offset}")
+            }
             LexError::OutOfMemory => write!(f, "out of memory"),
         }
     }
@@ -42,10 +54,10 @@ impl Error for LexError {}
 impl From<LexFault> for LexError {
     ghost use Rattle.mbe_text.specs.declared.lexer.LexError.TheVariants as errors;
 
-    ghost from_gives = { λ fault error. error ≡ errors.Fault fault.offset };
+    ghost from_gives = { λ fault error. error ≡ errors.Fault fault };
 
     fn from(fault: LexFault) -> LexError {
-        LexError::Fault(fault.offset)
+        LexError::Fault(fault)
     }
 }
 
@@ -65,11 +77,15 @@ fn add<A: Allocator + Copy>(
     table: &mut SymbolTable<A>,
     token: Token<'_>,
 ) -> Result<(), LexError>
+    requires some_byte { token.span.start < token.span.end }
+    requires some_group { 0 < length builder.old }
     ensures ok { OnOk result (Adds (token_item token.entry) builder.old builder.new) }
     ensures err { IfErr result (FaultsAt (token_item token.entry) builder.old) }
 {
     let span = token.span;
     match token.lexeme {
+        Lexeme::Lifetime { name, is_raw } => Ok(add_lifetime(builder, table, name, is_raw, span)?),
+        Lexeme::Doc { text, is_inner } => Ok(add_doc(builder, table, text, is_inner, span)?),
         Lexeme::Open(kind) => Ok(builder.open(kind, span)?),
         Lexeme::Close(kind) => Ok(close(builder, kind, span)?),
         Lexeme::Punct { char, spacing } => Ok(builder.push(Leaf::Punct(Punct {
@@ -98,6 +114,132 @@ fn add<A: Allocator + Copy>(
     }
 }
 
+// Adds a lifetime: a joint `'`, and the identifier right after it.
+fn add_lifetime<A: Allocator + Copy>(
+    builder: &mut TopSubtreeBuilder<A>,
+    table: &mut SymbolTable<A>,
+    name: &str,
+    is_raw: IdentIsRaw,
+    span: Span,
+) -> Result<(), AllocError>
+    requires { span.start < span.end }
+    ensures { OnOk result
+        (builder.new ≡ put (lifetime_trees span name.now is_raw) builder.old) }
+{
+    let middle = span.start + 1;
+    let sym = table.intern(name)?;
+    builder.push(Leaf::Punct(Punct {
+        char: '\'',
+        spacing: Spacing::Joint,
+        span: Span {
+            end: middle,
+            ..span
+        },
+    }))?;
+    builder.push(Leaf::Ident(Ident {
+        sym,
+        is_raw,
+        span: Span {
+            start: middle,
+            ..span
+        },
+    }))
+}
+
+// Adds a doc comment as the attribute `#[doc = r".."]`, or `#![doc = r".."]` where it is of what is around it, as rustc does. All of
+// its tokens have the comment's span.
+fn add_doc<A: Allocator + Copy>(
+    builder: &mut TopSubtreeBuilder<A>,
+    table: &mut SymbolTable<A>,
+    text: &str,
+    is_inner: bool,
+    span: Span,
+) -> Result<(), AllocError>
+    requires { 0 < length builder.old }
+    ensures { OnOk result (builder.new ≡ put (doc_trees span text.now is_inner) builder.old) }
+{
+    add_doc_marks(builder, is_inner, span)?;
+    add_doc_group(builder, table, text, span)
+}
+
+// The `#`, or `#!`, of it.
+fn add_doc_marks<A: Allocator>(
+    builder: &mut TopSubtreeBuilder<A>,
+    is_inner: bool,
+    span: Span,
+) -> Result<(), AllocError>
+    ensures { OnOk result (builder.new ≡ put (doc_marks span is_inner) builder.old) }
+{
+    if !is_inner {
+        return builder.push(punct('#', Spacing::Alone, span));
+    }
+    builder.push(punct('#', Spacing::Joint, span))?;
+    builder.push(punct('!', Spacing::Alone, span))
+}
+
+// The `[doc = r".."]` of it.
+fn add_doc_group<A: Allocator + Copy>(
+    builder: &mut TopSubtreeBuilder<A>,
+    table: &mut SymbolTable<A>,
+    text: &str,
+    span: Span,
+) -> Result<(), AllocError>
+    requires { 0 < length builder.old }
+    ensures { OnOk result (builder.new ≡ put (doc_group span text.now) builder.old) }
+{
+    let name = table.intern("doc")?;
+    let text_and_suffix = table.intern(text)?;
+    builder.open(DelimiterKind::Bracket, span)?;
+    builder.push(Leaf::Ident(Ident {
+        sym: name,
+        is_raw: IdentIsRaw::No,
+        span,
+    }))?;
+    builder.push(punct('=', Spacing::Alone, span))?;
+    builder.push(Leaf::Literal(Literal {
+        text_and_suffix,
+        suffix_len: 0,
+        kind: LitKind::StrRaw(hashes_around(text)),
+        span,
+    }))?;
+    builder.close(span);
+    Ok(())
+}
+
+fn punct<A: Allocator>(char: char, spacing: Spacing, span: Span) -> Leaf<A>
+    ensures { leaf_of result ≡ punct_leaf span char spacing }
+{
+    Leaf::Punct(Punct {
+        char,
+        spacing,
+        span,
+    })
+}
+
+// How many `#` a raw string of this text needs: one more than follow any `"` in it, and at most 255.
+fn hashes_around(text: &str) -> u8
+    ensures { result ≡ most_guards 0 text.now }
+{
+    let mut most = 0u8;
+    let mut guards = 0u8;
+    'bytes: for byte in text.as_bytes() {
+        guards = guards_after(guards, *byte);
+        most = most.max(guards);
+    }
+    most
+}
+
+// How many `"` and `#` stand in a row after one byte more, from a `"` on.
+fn guards_after(guards: u8, byte: u8) -> u8
+    ensures { result ≡ spec.guards_after guards byte }
+{
+    match byte {
+        b'"' => 1,
+        b'#' if guards > 0 => guards.saturating_add(1),
+        _ => 0,
+    }
+}
+
 // Closes the innermost open group, if it is of that kind.
 fn close<A: Allocator>(
     builder: &mut TopSubtreeBuilder<A>,
@@ -105,7 +247,7 @@ fn close<A: Allocator>(
     span: Span,
 ) -> Result<(), LexFault>
     ensures ok { OnOk result (Adds (close_item kind span) builder.old builder.new) }
-    ensures err { IfErr result (λ fault. (fault.offset ≡ span.start)
+    ensures err { IfErr result (λ fault. (fault ≡ closing_fault (close_item kind span))
         × IsAstray (close_item kind span) builder.old) }
 {
     match builder.open_kind() {
@@ -113,8 +255,18 @@ fn close<A: Allocator>(
             builder.close(span);
             Ok(())
         }
-        _ => Err(LexFault { offset: span.start }),
+        _ => Err(LexFault {
+            offset: span.start,
+            wrong: Wrong::Closing,
+        }),
     }
+}
+
+// Whether a group is open that the dialect closes before the end.
+fn is_unclosed<A: Allocator>(dialect: Dialect, builder: &TopSubtreeBuilder<A>) -> bool
+    ensures { result ≡ division.is_unclosed dialect builder.now }
+{
+    dialect.closes_groups() && builder.open_kind().is_some()
 }
 
 // The trees, with each open group closed with this span.
@@ -148,13 +300,12 @@ fn joined<A: Allocator + Copy>(
 /// Each closing closes a group of its own kind, and another is a fault, as is what isn't a token. Groups that are open at the end
 /// are closed there.
 ///
-/// The tokens are the project's own choice, near to Rust's: doc comments are comments, and prefixed strings, raw strings
-/// and byte literals are faults. It asks that the text is shorter than 2^32 bytes, as spans count them in 32 bits.
+/// The tokens are those of the sample dialect (`Dialect::Sample`). It asks that the text is shorter than 2^32 bytes, as spans count them in 32 bits.
 pub fn lex<A: Allocator + Copy>(alloc: A, text: &str, file: u32) -> Result<TopSubtree<A>, LexError>
     requires { length text.now < 2 ^ 32 }
     ensures made { IfOk result (IsMade file text.now) }
     ensures within { IfErr result (FaultsWithin (length text.now)) }
-    ensures exact { Lexes (trees_of file text.now) result }
+    ensures exact { Lexes (trees_of Sample file text.now) result }
 {
     lex_in(&mut SymbolTable::new(alloc), text, file)
 }
@@ -169,14 +320,37 @@ pub fn lex_in<A: Allocator + Copy>(
     requires { length text.now < 2 ^ 32 }
     ensures made { IfOk result (IsMade file text.now) }
     ensures within { IfErr result (FaultsWithin (length text.now)) }
-    ensures exact { Lexes (trees_of file text.now) result }
+    ensures exact { Lexes (trees_of Sample file text.now) result }
+{
+    lex_as(Dialect::Sample, table, text, file)
+}
+
+/// The same in that dialect. Where it is `Dialect::Rust`, the tokens are those of the Rust Reference as rustc's lexer reads them, a
+/// lifetime is a joint `'` and an identifier, a doc comment is the attribute that it stands for, and a group that is open at the end
+/// is a fault there. A fault says what is wrong, as rustc does.
+pub fn lex_as<A: Allocator + Copy>(
+    dialect: Dialect,
+    table: &mut SymbolTable<A>,
+    text: &str,
+    file: u32,
+) -> Result<TopSubtree<A>, LexError>
+    requires { length text.now < 2 ^ 32 }
+    ensures made { dialect ≡ Sample → IfOk result (IsMade file text.now) }
+    ensures within { IfErr result (FaultsWithin (length text.now)) }
+    ensures exact { Lexes (trees_of dialect file text.now) result }
 {
     let len = text.len() as u32;
-    let mut scanner = Scanner::new(text, file);
+    let mut scanner = Scanner::new(dialect, text, file);
     let whole = Delimiter::invisible_spanned(file_span(file, 0, len));
     let mut builder = TopSubtreeBuilder::new(table.alloc(), whole)?;
     'tokens: while let Some(token) = scanner.token()? {
         add(&mut builder, table, token)?;
+    }
+    if is_unclosed(dialect, &builder) {
+        return Err(LexError::Fault(LexFault {
+            offset: len,
+            wrong: Wrong::Open,
+        }));
     }
     Ok(finish(builder, file_span(file, len, len)))
 }

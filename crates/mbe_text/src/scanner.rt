@@ -1,17 +1,21 @@
 // The tokens of a text, one after another.
 ghost use Rattle.std.specs.Prelude.{◌≡◌, ◌↔◌, ◌<◌, ◌≤◌, ◌+◌, ◌^◌, length, IsSome, IfSome, IfNone};
 ghost use Rattle.std.specs.Prelude.{ℕ, true, List, [], ◌++◌, ◌∷◌, IfOk, IfErr};
-ghost use Rattle.std.specs.Prelude.{encode_utf8, slice_range, chars, drop, Some, None, MatchOption, MatchResult, false, ◌==◌, ◌&&◌, IsTrue, is_some, unwrap_or};
+ghost use Rattle.std.specs.Prelude.{encode_utf8, slice_range, chars, drop, Some, None, Ok, Err, MatchOption, MatchResult, false, ◌==◌, ◌&&◌, IsTrue, is_some, unwrap_or};
 ghost use Rattle.std.specs.Str.{IsUtf8};
 ghost use Rattle.mbe_tt.specs.Trees.Literals.{opening, closing};
 ghost use Rattle.mbe_text.specs.Ends.{IsRest, Begins};
 ghost use Rattle.mbe_text.specs.Characters as characters;
 ghost use Rattle.mbe_text.specs.Characters.{bytes_before};
-ghost use Rattle.mbe_text.specs.Dialect.{read_shape};
+ghost use Rattle.mbe_text.specs.Dialect.{read_sample, read_shape};
+ghost use Rattle.mbe_text.specs.Dialect as dialects;
 ghost use Rattle.mbe_text.specs.Division.{IsNext, next_token};
 ghost use Rattle.mbe_text.specs.Signs as signs;
 ghost use Rattle.mbe_text.specs.Shapes.{Gives};
-ghost use Rattle.mbe_text.specs.Blanks.{PassesBlock, PassesBlanks, begins_comment};
+ghost use Rattle.mbe_text.specs.Blanks.{PassesBlock, begins_comment, blank};
+ghost use Rattle.mbe_text.specs.Trivia.{PassesBlanks, after_head, is_doc, past_mark, past_shebang};
+ghost use Rattle.mbe_text.specs.Faults.{fault_at};
+ghost use Rattle.mbe_text.specs.declared.dialect.Dialect.TheVariants.{Sample};
 ghost use Rattle.mbe_text.specs.Words as words;
 ghost use Rattle.mbe_text.specs.Literals as literals;
 ghost use Rattle.mbe_text.specs.declared.characters.Class.TheVariants.{InLine};
@@ -20,13 +24,19 @@ ghost use Rattle.mbe_text.specs.Tokens.{bytes_of, token_item, item_text, lexeme_
 use crate::characters::{
     Class, before, begins, begins_with, offset, past, past_front, past_one, split_first,
 };
-use mbe_tt::span::{Span, SyntaxContext};
+use crate::dialect::Dialect;
+use crate::rust::{begins_doc, read_rust};
+use crate::wrong::Wrong;
+use mbe_tt::span::{Edition, Span, SyntaxContext};
 use mbe_tt::tt::{DelimiterKind, IdentIsRaw, LitKind, Spacing};
 
-/// Text that isn't lexed, by the byte at which what is wrong begins.
+/// Text that isn't lexed.
 #[derive(Clone, Copy, Debug, PartialEq, Eq)]
 pub struct LexFault {
+    /// The byte at which what is wrong begins.
     pub offset: u32,
+    /// What is wrong there.
+    pub wrong: Wrong,
 }
 
 /// What a token is. Texts are those of the source.
@@ -48,6 +58,16 @@ pub enum Lexeme<'t> {
     },
     Open(DelimiterKind),
     Close(DelimiterKind),
+    /// A lifetime of the Rust dialect, without its `'` and its `r#`.
+    Lifetime {
+        name: &'t str,
+        is_raw: IdentIsRaw,
+    },
+    /// A doc comment of the Rust dialect.
+    Doc {
+        text: &'t str,
+        is_inner: bool,
+    },
 }
 
 /// A token, and where it is in the text.
@@ -75,6 +95,7 @@ pub fn file_span(file: u32, start: u32, end: u32) -> Span
 /// The rest of a text that is read token by token, and how long the whole was.
 #[derive(Drop)]
 pub struct Scanner<'t> {
+    dialect: Dialect,
     file: u32,
     total: u32,
     text: &'t str,
@@ -117,20 +138,27 @@ fn begins_hashes(rest: &str) -> bool
 impl<'t> Scanner<'t> {
     ghost use Rattle.mbe_text.specs.Scanning.{GoesOn, Advances};
 
-    /// Before the first byte of a file's text.
-    pub fn new(text: &'t str, file: u32) -> Scanner<'t>
+    /// At the start of a file's text. A byte order mark and a `#!` line are passed in the Rust dialect, as the Rust Reference says
+    /// of input: the line is passed unless its next token is the `[` of an attribute.
+    pub fn new(dialect: Dialect, text: &'t str, file: u32) -> Scanner<'t>
         requires { length text.now < 2 ^ 32 }
+        ensures dialect { result.dialect ≡ dialect }
         ensures file { result.file ≡ file }
-        ensures rest { result.rest.now ≡ text.now }
+        ensures rest { chars result.rest.now
+            ≡ after_head dialect (length text.now) (chars text.now) }
+        ensures sample { dialect ≡ Sample → result.rest.now ≡ text.now }
         ensures total { result.total ≡ length text.now }
         ensures text { result.text.now ≡ text.now }
     {
-        Scanner {
+        let mut scanner = Scanner {
+            dialect,
             file,
             total: text.len() as u32,
             text,
             rest: text,
-        }
+        };
+        scanner.head();
+        scanner
     }
 
     /// The number of bytes consumed.
@@ -176,19 +204,42 @@ impl<'t> Scanner<'t> {
         self.rest = past(self.rest, class);
     }
 
+    // Whether a comment stands here that is a token.
+    fn is_at_doc(&self) -> bool
+        ensures { result ≡ is_doc self.now.dialect (chars self.now.rest.now) }
+    {
+        match self.dialect {
+            Dialect::Sample => false,
+            Dialect::Rust(_) => begins_doc(self.rest),
+        }
+    }
+
+    fn is_blank(&self, char: char) -> bool
+        ensures { result ≡ characters.has (blank self.now.dialect) char }
+    {
+        self.dialect.blank().has(char)
+    }
+
     // Passes white space and comments.
     fn trivia(&mut self) -> Result<(), LexFault>
         ensures on { GoesOn self.old self.new }
-        ensures exact { PassesBlanks self.old.total (chars self.old.rest.now)
+        ensures exact { PassesBlanks self.old.dialect self.old.total (chars self.old.rest.now)
             result (chars self.new.rest.now) }
         ensures within { IfErr result (λ fault. fault.offset ≤ self.old.total) }
     {
         'parts: loop {
-            if begins(self.rest, Class::Blank) {
-                self.bump();
-            } else if begins_with(self.rest, "//") {
+            let Some((char, after)) = split_first(self.rest) else {
+                return Ok(());
+            };
+            if self.is_blank(char) {
+                self.rest = after;
+            } else if char != '/' {
+                return Ok(());
+            } else if self.is_at_doc() {
+                return Ok(());
+            } else if begins_with(after, "/") {
                 self.line_comment();
-            } else if begins_with(self.rest, "/*") {
+            } else if begins_with(after, "*") {
                 self.block_comment()?;
             } else {
                 return Ok(());
@@ -232,7 +283,10 @@ impl<'t> Scanner<'t> {
                 }
             }
         }
-        Err(LexFault { offset: start })
+        Err(LexFault {
+            offset: start,
+            wrong: Wrong::OpenComment,
+        })
     }
 
     // Whether the character that was passed is this first one, and the second stands here.
@@ -288,7 +342,10 @@ impl<'t> Scanner<'t> {
         self.bump();
         let name = self.word();
         if begins_with(self.rest, "\"") {
-            return Err(LexFault { offset: start });
+            return Err(LexFault {
+                offset: start,
+                wrong: Wrong::Prefix,
+            });
         }
         Ok(Lexeme::Ident {
             name,
@@ -310,7 +367,10 @@ impl<'t> Scanner<'t> {
         let start = self.offset();
         let name = self.word();
         if begins_literal(name, self.rest) {
-            return Err(LexFault { offset: start });
+            return Err(LexFault {
+                offset: start,
+                wrong: Wrong::Prefix,
+            });
         }
         Ok(Lexeme::Ident {
             name,
@@ -345,10 +405,10 @@ impl<'t> Scanner<'t> {
         ensures len { IfOk result (λ r. r.1 ≡ length r.0.now) }
         ensures utf8 { IfOk result (λ r. IsUtf8 r.0.now) }
         ensures exact { MatchResult result
-            (λ r. (words.past_suffix (chars self.old.rest.now) ≡ Some (chars self.new.rest.now))
+            (λ r. (words.past_suffix (chars self.old.rest.now) ≡ Ok (chars self.new.rest.now))
             × (r.0.now ≡ bytes_before (chars self.old.rest.now) (chars self.new.rest.now)))
-            (λ fault. (words.past_suffix (chars self.old.rest.now) ≡ None)
-            × (fault.offset ≡ characters.offset self.old.total (chars self.old.rest.now))) }
+            (λ fault. (words.past_suffix (chars self.old.rest.now) ≡ Err fault.wrong)
+            × (fault ≡ fault_at fault.wrong self.old.total (chars self.old.rest.now))) }
         ensures within { IfErr result (λ fault. fault.offset ≤ self.old.total) }
     {
         let start = self.offset();
@@ -356,10 +416,15 @@ impl<'t> Scanner<'t> {
             return Ok(("", 0));
         }
         let name = self.word();
-        match u8::try_from(name.len()) {
-            Ok(len) if !begins_literal(name, self.rest) => Ok((name, len)),
-            _ => Err(LexFault { offset: start }),
-        }
+        let wrong = match u8::try_from(name.len()) {
+            Ok(len) if !begins_literal(name, self.rest) => return Ok((name, len)),
+            Ok(_) => Wrong::Prefix,
+            Err(_) => Wrong::LongSuffix,
+        };
+        Err(LexFault {
+            offset: start,
+            wrong,
+        })
     }
 
     // A literal of this text, with the suffix that stands here.
@@ -422,7 +487,10 @@ impl<'t> Scanner<'t> {
         let start = self.offset();
         self.bump();
         let Some(text) = self.quoted(quote) else {
-            return Err(LexFault { offset: start });
+            return Err(LexFault {
+                offset: start,
+                wrong: Wrong::OpenString,
+            });
         };
         self.literal(text, kind)
     }
@@ -451,7 +519,10 @@ impl<'t> Scanner<'t> {
         let start = self.offset();
         self.bump();
         if !begins(self.rest, Class::IdentStart) {
-            return Err(LexFault { offset: start });
+            return Err(LexFault {
+                offset: start,
+                wrong: Wrong::Start,
+            });
         }
         Ok(Lexeme::Punct {
             char: '\'',
@@ -620,12 +691,15 @@ impl<'t> Scanner<'t> {
                 char,
                 spacing: self.spacing(),
             }),
-            _ => Err(LexFault { offset: start }),
+            _ => Err(LexFault {
+                offset: start,
+                wrong: Wrong::Start,
+            }),
         }
     }
 
-    // Passes the token that begins with this character, which stands here.
-    fn lexeme(&mut self, char: char) -> Result<Lexeme<'t>, LexFault>
+    // Passes the token of the sample dialect that begins with this character, which stands here.
+    fn sample_lexeme(&mut self, char: char) -> Result<Lexeme<'t>, LexFault>
         requires { 0 < length self.old.rest.now }
         ensures on { GoesOn self.old self.new }
         ensures past { Advances self.old self.new }
@@ -633,7 +707,7 @@ impl<'t> Scanner<'t> {
             → IfOk result (λ l. self.old.rest.now ≡ lexeme_text l ++ self.new.rest.now) }
         ensures within { IfErr result (λ fault. fault.offset ≤ self.old.total) }
         ensures exact { (rest : List ℕ) → chars self.old.rest.now ≡ char ∷ rest
-            → Gives (read_shape self.old.total (chars self.old.rest.now))
+            → Gives (read_sample self.old.total (chars self.old.rest.now))
             result (chars self.new.rest.now) }
     {
         if Class::IdentStart.has(char) {
@@ -646,6 +720,93 @@ impl<'t> Scanner<'t> {
             self.quote()
         } else {
             self.sign()
+        }
+    }
+
+    // Passes the token of Rust that stands here.
+    fn rust_lexeme(&mut self, edition: Edition) -> Result<Lexeme<'t>, LexFault>
+        requires { 0 < length self.old.rest.now }
+        ensures on { GoesOn self.old self.new }
+        ensures past { IfOk result (λ _. Advances self.old self.new) }
+        ensures within { IfErr result (λ fault. fault.offset ≤ self.old.total) }
+        ensures exact { Gives
+            (dialects.read_rust edition self.old.total (chars self.old.rest.now))
+            result (chars self.new.rest.now) }
+    {
+        match read_rust(edition, self.rest) {
+            Some(Ok((lexeme, rest))) => {
+                self.rest = rest;
+                Ok(lexeme)
+            }
+            Some(Err(fault)) => Err(LexFault {
+                offset: offset(self.total, fault.at),
+                wrong: fault.wrong,
+            }),
+            None => self.sign(),
+        }
+    }
+
+    // Passes what may stand before the first token of a file.
+    fn head(&mut self)
+        ensures on { GoesOn self.old self.new }
+        ensures sample { self.old.dialect ≡ Sample → self.new.rest.now ≡ self.old.rest.now }
+        ensures exact { chars self.new.rest.now
+            ≡ after_head self.old.dialect self.old.total (chars self.old.rest.now) }
+    {
+        match self.dialect {
+            Dialect::Sample => {}
+            Dialect::Rust(_) => {
+                self.mark();
+                self.shebang();
+            }
+        }
+    }
+
+    // Passes a byte order mark.
+    fn mark(&mut self)
+        ensures on { GoesOn self.old self.new }
+        ensures exact { chars self.new.rest.now ≡ past_mark (chars self.old.rest.now) }
+    {
+        if let Some(('\u{feff}', rest)) = split_first(self.rest) {
+            self.rest = rest;
+        }
+    }
+
+    // Passes a line that begins with `#!`, unless an attribute's `[` stands after white space and comments.
+    fn shebang(&mut self)
+        ensures on { GoesOn self.old self.new }
+        ensures exact { chars self.new.rest.now
+            ≡ past_shebang self.old.dialect self.old.total (chars self.old.rest.now) }
+    {
+        let text = self.rest;
+        if !begins_with(text, "#!") {
+            return;
+        }
+        self.bump();
+        self.bump();
+        let line = self.rest;
+        if self.trivia().is_ok() && begins_with(self.rest, "[") {
+            self.rest = text;
+        } else {
+            self.rest = past(line, Class::InLine);
+        }
+    }
+
+    // Passes the token that begins with this character, which stands here.
+    fn lexeme(&mut self, char: char) -> Result<Lexeme<'t>, LexFault>
+        requires { 0 < length self.old.rest.now }
+        ensures on { GoesOn self.old self.new }
+        ensures past { IfOk result (λ _. Advances self.old self.new) }
+        ensures reads { self.old.dialect ≡ Sample → Begins char self.old.rest.now
+            → IfOk result (λ l. self.old.rest.now ≡ lexeme_text l ++ self.new.rest.now) }
+        ensures within { IfErr result (λ fault. fault.offset ≤ self.old.total) }
+        ensures exact { (rest : List ℕ) → chars self.old.rest.now ≡ char ∷ rest
+            → Gives (read_shape self.old.dialect self.old.total (chars self.old.rest.now))
+            result (chars self.new.rest.now) }
+    {
+        match self.dialect {
+            Dialect::Sample => self.sample_lexeme(char),
+            Dialect::Rust(edition) => self.rust_lexeme(edition),
         }
     }
 
@@ -664,11 +825,11 @@ impl<'t> Scanner<'t> {
         ensures some { IfOk result (λ token. IfSome token (λ t. t.span.start < t.span.end)) }
         ensures up_to { IfOk result (λ token. IfSome token (λ t.
             t.span.end + length self.new.rest.now ≡ self.old.total)) }
-        ensures spelled { IfOk result (λ token. IfSome token (λ t.
+        ensures spelled { self.old.dialect ≡ Sample → IfOk result (λ token. IfSome token (λ t.
             slice_range self.old.text.now t.span.start t.span.end ≡ item_text (token_item t))) }
         ensures within { IfErr result (λ fault. fault.offset ≤ self.old.total) }
         ensures exact { IsNext self.old.file self.old.total
-            (next_token self.old.total (chars self.old.rest.now))
+            (next_token self.old.dialect self.old.total (chars self.old.rest.now))
             result (chars self.new.rest.now) }
     {
         self.trivia()?;

@@ -121,7 +121,7 @@ fn assert_tokens(rt: &impl Abort, alloc: Global, text: &str, want: &str) -> Resu
 // Whether the text is at fault at this byte.
 fn assert_fault(rt: &impl Abort, alloc: Global, text: &str, want: u32) -> Result<(), Fail> {
     match trees(rt, alloc, text) {
-        Err(LexError::Fault(offset)) => assert_eq!(rt; offset, want, "{text}"),
+        Err(LexError::Fault(fault)) => assert_eq!(rt; fault.offset, want, "{text}"),
         _ => return Err(Fail::from("lexed")),
     }
     Ok(())

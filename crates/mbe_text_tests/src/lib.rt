@@ -6,4 +6,8 @@ mod lexing;
 #[cfg(test)]
 mod printing;
 #[cfg(test)]
+mod rust;
+#[cfg(test)]
+mod rust_rows;
+#[cfg(test)]
 mod symbols;

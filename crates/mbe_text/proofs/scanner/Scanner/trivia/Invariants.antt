@@ -6,7 +6,7 @@ use Rattle.mbe_text.proofs.scanner.Scanner.trivia.Given as goal
 abbrev pub invariant-parts : goal.invariant-parts
 invariant-parts l = record {
   on : GoesOn l.initial.self l.self;
-  exact : Passes l.initial.self.total (chars l.initial.self.rest.now) (chars l.self.rest.now);
+  exact : Passes l.initial.self.dialect l.initial.self.total (chars l.initial.self.rest.now) (chars l.self.rest.now);
 }
 
 abbrev pub decreases-parts : goal.decreases-parts

@@ -1,0 +1,13 @@
+use Rattle.std.proofs.Common.{◌∙◌, arith}
+use Rattle.mbe_text.proofs.TailLemmas.{string_on, end_on}
+use Rattle.mbe_text.proofs.escapes.check_string.Goals as goal
+
+pub parts-preserved : goal.parts-preserved
+parts-preserved c =
+    let next = c.in_ok-rest.ensures in
+    let step = c.in-Some.ensures in
+    record {
+      utf8 = next.text;
+      exact = string_on _ _ _ _ _ step.chars next.exact ∙ c.parts.invariant.exact;
+      end = end_on _ _ _ c.parts.invariant.end (next.end (omega (arith, step.shorter), step.end));
+    }

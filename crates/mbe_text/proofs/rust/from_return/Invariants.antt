@@ -1,0 +1,16 @@
+use Rattle.std.proofs.Common.{◌≡◌, chars, length}
+use denote.Text.{Utf8}
+use denote.Shadow.{shadow}
+use Rattle.mbe_text.specs.Ends.{IsEnd}
+use Rattle.mbe_text.specs.Rust as spec
+use Rattle.mbe_text.proofs.rust.from_return.Given as goal
+
+abbrev pub invariant-chars : goal.invariant-chars
+invariant-chars l = record {
+  utf8 : shadow (Utf8 l.rest);
+  exact : spec.from_return (chars l.rest) ≡ spec.from_return (chars l.text);
+  end : IsEnd l.text l.rest;
+}
+
+abbrev pub decreases-chars : goal.decreases-chars
+decreases-chars l = length l.rest
