@@ -100,13 +100,16 @@ module _ (g : Grammar) (lawful : IsLawful g) (call_site : Span) (input : Top) wh
 
     reports_exist : (err : ExpandError) × (bound : Commands) × Reports g pattern input.1 (spans_of input.0) v err bound
     reports_exist =
-        let (notes, kept) = kept_notes (stop_of input.1 v) 0 _ _ _ follow_start (omega arith) (omega arith) in
-        (_, _, record {
-          notes = notes;
-          noted = (kept_pass g pattern input.1 lawful checked v right (stop_of input.1 v) (omega arith) notes).1 kept;
-          error = refl;
-          bindings = refl;
-        })
+        let (notes, kept) = kept_notes (stop_of input.1 v) 0 _ _ _ follow_start (omega arith) (omega arith) in (
+          _,
+          _,
+          record {
+            notes = notes;
+            noted = (kept_pass g pattern input.1 lawful checked v right (stop_of input.1 v) (omega arith) notes).1 kept;
+            error = refl;
+            bindings = refl;
+          },
+        )
 
   -- ---- one rule
 
@@ -219,48 +222,60 @@ module _ (g : Grammar) (lawful : IsLawful g) (call_site : Span) (input : Top) wh
 
       expanded : Found → Answer
       expanded (n, r, a, first) =
-          let (out, w) = substitution_exists g Marks call_site some (environment_of a.items) r.writes a.faultless in
-          (out, arm_of n, None, record {
-            expands = record {
-              sound = λ e. (n, (r, a, first, w), refl);
-              complete = λ s c b. refl;
+          let (out, w) = substitution_exists g Marks call_site some (environment_of a.items) r.writes a.faultless in (
+            out,
+            arm_of n,
+            None,
+            record {
+              expands = record {
+                sound = λ e. (n, (r, a, first, w), refl);
+                complete = λ s c b. refl;
+                recovers = λ e x s. absurd (none-some e x);
+                no_rule = λ nobody. absurd (nobody (r, contains_first g style input.1 first, a.styled));
+              };
               recovers = λ e x s. absurd (none-some e x);
-              no_rule = λ nobody. absurd (nobody (r, contains_first g style input.1 first, a.styled));
-            };
-            recovers = λ e x s. absurd (none-some e x);
-          })
+            },
+          )
 
       recovered : Tried (length rs) → Answer
       recovered (none, None, far, kept) =
-          let nobody : HasStyle rs style → ⊥ = no_style g call_site input style rs (length rs) (omega arith) far in
-          (empty_tree call_site, None, Some (record { span = call_site; kind = no_matching_rule }), record {
-            expands = record {
-              sound = λ e. absurd (true≢false e);
-              complete = λ s c a. absurd (nobody (s, c, a.styled));
+          let nobody : HasStyle rs style → ⊥ = no_style g call_site input style rs (length rs) (omega arith) far in (
+            empty_tree call_site,
+            None,
+            Some (record { span = call_site; kind = no_matching_rule }),
+            record {
+              expands = record {
+                sound = λ e. absurd (true≢false e);
+                complete = λ s c a. absurd (nobody (s, c, a.styled));
+                recovers = λ e x h. absurd (nobody h);
+                no_rule = λ other. (refl, refl, refl);
+              };
               recovers = λ e x h. absurd (nobody h);
-              no_rule = λ other. (refl, refl, refl);
-            };
-            recovers = λ e x h. absurd (nobody h);
-          })
+            },
+          )
       recovered (none, Some (n, near), far, (r, at, err, env, fails)) =
           let (out, left) = left_exists g Marks call_site some env r.writes in
           let near_all = nearest g call_site input style rs (length rs) n near r (omega arith) at far in
-          let nobody : NoneApplies g style input.1 rs = subst (NoneApplies g style input.1) (take_all rs) none in
-          (out, arm_of n, Some err, record {
-            expands = record {
-              sound = λ e. absurd (true≢false e);
-              complete = λ s c a. absurd (none_contained g style input.1 rs s nobody c a);
-              recovers = λ e x h. (n, closest g call_site input style rs n r near_all, refl);
-              no_rule = λ other. absurd (other (r, at_place rs n r at.0, at.1));
-            };
-            recovers = λ e x h. record {
-              place = n;
-              rule = r;
-              nearest = near_all;
-              named = refl;
-              recovered = record { error = err; env = env; reported = refl; fails = fails; left = left };
-            };
-          })
+          let nobody : NoneApplies g style input.1 rs = subst (NoneApplies g style input.1) (take_all rs) none in (
+            out,
+            arm_of n,
+            Some err,
+            record {
+              expands = record {
+                sound = λ e. absurd (true≢false e);
+                complete = λ s c a. absurd (none_contained g style input.1 rs s nobody c a);
+                recovers = λ e x h. (n, closest g call_site input style rs n r near_all, refl);
+                no_rule = λ other. absurd (other (r, at_place rs n r at.0, at.1));
+              };
+              recovers = λ e x h. record {
+                place = n;
+                rule = r;
+                nearest = near_all;
+                named = refl;
+                recovered = record { error = err; env = env; reported = refl; fails = fails; left = left };
+              };
+            },
+          )
 
       answered : Found ⊎ Tried (length rs) → Answer
       answered (inl found) = expanded found

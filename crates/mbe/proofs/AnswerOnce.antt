@@ -83,7 +83,7 @@ module _ (g : Grammar) (lawful : IsLawful g) (call_site : Span) (input : Top) wh
       let notes : a.notes ≡ b.notes = notes_once (input_of g input.1) (flat_len input.1) (lawful_inputs g input.1 lawful) r.reads (stop_of input.1 w) a.notes b.notes
       (subst (λ q. AreNotes (input_of g input.1) r.reads q a.notes) at a.noted) b.noted in (
         a.error ∙ ap (λ q. error_of_notes g input.1 (spans_of input.0) (q == flat_len input.1) a.notes) at
-        ∙ ap (error_of_notes g input.1 (spans_of input.0) (stop_of input.1 w == flat_len input.1)) notes ∙ sym b.error,
+            ∙ ap (error_of_notes g input.1 (spans_of input.0) (stop_of input.1 w == flat_len input.1)) notes ∙ sym b.error,
         a.bindings ∙ ap (λ (n : Notes). commands_of_notes g input.1 n.last) notes ∙ sym b.bindings,
       )
 

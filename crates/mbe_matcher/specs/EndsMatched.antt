@@ -1,5 +1,5 @@
 -- What the lists of the second pass stand for.
-use Rattle.std.specs.Prelude.{ℕ, ◌≡◌, Bool, true, is_some, Option, Some, None, List, [], ◌∷◌, ◌++◌, map, length, reverse}
+use Rattle.std.specs.Prelude.{ℕ, ◌≡◌, ◌+◌, Bool, true, is_some, Option, Some, None, List, [], ◌∷◌, ◌++◌, map, length, reverse}
 use Rattle.std.specs.List.{filter_map}
 use Rattle.mbe_tt.specs.Trees.Tree.{Forest, rest_at}
 use Rattle.mbe_tt.specs.Views.View.{trees}
@@ -13,6 +13,7 @@ use Rattle.mbe_semantics.specs.Matching.Lists.{In}
 use Rattle.mbe_semantics.specs.Matching.Dots.{dots}
 use Rattle.mbe_semantics.specs.Matching.Outline.{Outline, erase, idle_of, next_of, finished_of}
 use Rattle.mbe_ops.specs.Views.{ops_of}
+use Rattle.mbe_matcher.specs.declared.met.Met.{Met}
 use Rattle.mbe_matcher.specs.declared.position.Outer.{Outer}
 use Rattle.mbe_matcher.specs.declared.position.Position.{Position}
 use Rattle.mbe_matcher.specs.declared.position.Waiting.{Waiting}
@@ -24,6 +25,7 @@ use Rattle.mbe_matcher.specs.declared.ends.Left.{Left}
 use Rattle.mbe_matcher.specs.declared.ends.Pass.{Pass}
 use Rattle.mbe_matcher.specs.declared.ends.Visit as declared
 use Rattle.mbe_matcher.specs.declared.ends.Visit.TheVariants as told
+use Rattle.mbe_matcher.specs.Met.{AreUnmetFrom}
 use Rattle.mbe_matcher.specs.Positions.{Each, Both, Shows, LeadsTo, Holds, Keeps}
 use Rattle.mbe_matcher.specs.Failures.{Misfit, Notes, has_step, misfit, misfit_unless, ops_left, bound_by}
 use Rattle.mbe_matcher.specs.Reports.{IsReportOf}
@@ -61,6 +63,18 @@ NotesFirsts g source pattern os old new before after =
     (notes : Notes) → IsReportOf old (trees source.whole) before.report [] notes →
     IsReportOf new (trees source.whole) after.report
     (filter_map (misfit (input_of g (trees source.whole)) source.place) (kept_first (input_of g (trees source.whole)) (dots pattern) source.place os)) notes
+
+-- no dot is met at a place after this one
+abbrev pub AreUnmetAfter : {A : Type 0} → Met A → ℕ → Type 0
+AreUnmetAfter met place = AreUnmetFrom met.places.items (place + 1)
+
+-- both are of as many dots
+abbrev pub AreAsMany : {A : Type 0} → Met A → Met A → Type 0
+AreAsMany new old = length new.places.items ≡ length old.places.items
+
+-- what is in the log and the outer items stays
+abbrev pub PassKeeps : {A : Type 0} → Log → Log → Pass A → Pass A → Type 0
+PassKeeps old new before after = Keeps old new before.outers.items after.outers.items
 
 -- ---- the last of each dot
 

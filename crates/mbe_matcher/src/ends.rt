@@ -24,20 +24,20 @@
 //
 // At place 2 three positions of dot 4 meet, and of dot 2. The first 4 fails first, and the last 2
 // fails last.
-ghost use Rattle.std.specs.Prelude.{ℕ, ◌≡◌, ◌+◌, ◌++◌, [], map, reverse, length, option_to_list, IfOk, OnOk};
+ghost use Rattle.std.specs.Prelude.{ℕ, ◌≡◌, ◌++◌, [], map, reverse, length, option_to_list, IfOk, OnOk};
 ghost use Rattle.mbe_tt.specs.Fragments.Grammar.{Grammar};
 ghost use Rattle.mbe_tt.specs.Views.View.{trees};
 ghost use Rattle.mbe_semantics.specs.Syntax.Nullable.{Checked};
 ghost use Rattle.mbe_log.specs.Shared.{IsKept};
 ghost use Rattle.mbe_matcher.specs.Met.{AreUnmetFrom};
-ghost use Rattle.mbe_matcher.specs.Positions.{IsPosition, Holds, Keeps};
+ghost use Rattle.mbe_matcher.specs.Positions.{IsPosition, Holds};
 ghost use Rattle.mbe_matcher.specs.Matched.{position_after};
 ghost use Rattle.mbe_semantics.specs.Bindings.Account.{Log};
 ghost use Rattle.mbe_semantics.specs.Matching.Outline.{Outline};
 ghost use Rattle.mbe_ops.specs.Views.{ops_of, template_of};
 ghost use Rattle.mbe_matcher.specs.Failures.{ops_left, bound_by};
 ghost use Rattle.mbe_matcher.specs.Reports.{IsFullReport};
-ghost use Rattle.mbe_matcher.specs.EndsMatched.{IsFirstStackAt, AreFirstsAt, NotesFirsts, FailsBy, GivesEntered, to_enter, FirstFails, IsStop, IsLastStackAt, AreLastsAt, visit_after};
+ghost use Rattle.mbe_matcher.specs.EndsMatched.{IsFirstStackAt, AreFirstsAt, NotesFirsts, FailsBy, GivesEntered, to_enter, FirstFails, IsStop, IsLastStackAt, AreLastsAt, visit_after, AreUnmetAfter, AreAsMany, PassKeeps};
 
 use crate::met::Met;
 use crate::places::{after_step, at_start};
@@ -177,12 +177,9 @@ fn first_of_each<'a, A: Allocator + Copy, G: FragmentGrammar>(
         log.old pass.old stack.entry.items) → OnOk result
         (NotesFirsts (G.grammar grammar.now) source.now s.pattern s.outlines
         log.old log.new pass.old pass.new) }
-    ensures kept { OnOk result
-        (Keeps log.old log.new pass.old.outers.items pass.new.outers.items) }
-    ensures unmet { OnOk result
-        (AreUnmetFrom pass.new.first_met.places.items (source.now.place + 1)) }
-    ensures size { OnOk result (length pass.new.first_met.places.items
-        ≡ length pass.old.first_met.places.items) }
+    ensures kept { OnOk result (PassKeeps log.old log.new pass.old pass.new) }
+    ensures unmet { OnOk result (AreUnmetAfter pass.new.first_met source.now.place) }
+    ensures size { OnOk result (AreAsMany pass.new.first_met pass.old.first_met) }
     ensures other { OnOk result (pass.new.last_met ≡ pass.old.last_met) }
 {
     let mut todo = stack;
@@ -296,12 +293,9 @@ fn last_of_each<'a, A: Allocator + Copy, G: FragmentGrammar>(
     ensures lasts { (s : IsLastStackAt (G.grammar grammar.now) source.now
         log.old pass.old stack.entry.items) → IfOk result
         (AreLastsAt (G.grammar grammar.now) source.now s.pattern s.outlines log.new pass.new) }
-    ensures kept { OnOk result
-        (Keeps log.old log.new pass.old.outers.items pass.new.outers.items) }
-    ensures unmet { OnOk result
-        (AreUnmetFrom pass.new.last_met.places.items (source.now.place + 1)) }
-    ensures size { OnOk result (length pass.new.last_met.places.items
-        ≡ length pass.old.last_met.places.items) }
+    ensures kept { OnOk result (PassKeeps log.old log.new pass.old pass.new) }
+    ensures unmet { OnOk result (AreUnmetAfter pass.new.last_met source.now.place) }
+    ensures size { OnOk result (AreAsMany pass.new.last_met pass.old.last_met) }
     ensures other { OnOk result (pass.new.first_met ≡ pass.old.first_met) }
     ensures report { OnOk result (pass.new.report ≡ pass.old.report) }
 {

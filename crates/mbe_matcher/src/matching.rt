@@ -21,9 +21,10 @@
 // What a position can still do depends on its dot alone, so at each place two of a dot are looked
 // at and any more are dropped: one shows that the dot is reached, a second that there are two
 // readings. So the work at a place is bounded by the number of dots, and a match is linear in the
-// argument. A dot's number says how many dots follow it up to the pattern's end, itself counted: in
-// `$($x:ident),* ;` that is 5 before the repetition, 4 before `$x`, 3 after it, 2 before `;` and 1
-// at the end. On `p, q ;`:
+// argument. What one that fails reports is of all positions: if any was dropped, a second pass
+// finds it (`ends`). A dot's number says how many dots follow it up to the pattern's end, itself
+// counted: in `$($x:ident),* ;` that is 5 before the repetition, 4 before `$x`, 3 after it, 2
+// before `;` and 1 at the end. On `p, q ;`:
 //
 //     place   in front   looked at   waiting
 //         0          p     5  4  2   4, over `p` by fragment
