@@ -30,12 +30,16 @@ pub one : (c : ℕ) (cs rest : List ℕ) → Tail cs rest → Tail (c ∷ cs) re
 one c cs rest t = record { own = c ∷ t.own; is = ap (λ (l : List ℕ). c ∷ l) t.is }
 
 pub on : (a b c : List ℕ) → Tail a b → Tail b c → Tail a c
-on a b c s t = record { own = s.own ++ t.own; is = s.is ∙ (ap (λ (l : List ℕ). s.own ++ l) t.is ∙ sym (append_assoc s.own t.own c)) }
+on a b c s t = record {
+  own = s.own ++ t.own;
+  is = s.is ∙ (ap (λ (l : List ℕ). s.own ++ l) t.is ∙ sym (append_assoc s.own t.own c));
+}
 
 -- so many characters are before it
 pub tail_is : (cs rest : List ℕ) → Tail cs rest → drop (length cs - length rest) cs ≡ rest
 tail_is cs rest t =
-    let n : length cs - length rest ≡ length t.own = omega (arith, ap (λ (l : List ℕ). length l) t.is, length-append t.own rest) in
+    let n : length cs - length rest ≡ length t.own =
+    omega (arith, ap (λ (l : List ℕ). length l) t.is, length-append t.own rest) in
     ap (λ (k : ℕ). drop k cs) n ∙ (ap (λ (l : List ℕ). drop (length t.own) l) t.is ∙ drop-append_seam t.own rest)
 
 pub past_tail : (k : Class) (cs : List ℕ) → Tail cs (past k cs)
@@ -77,7 +81,8 @@ more : {from cs : List ℕ} {x : Left} (c : ℕ) → LeftEnds from cs x → Left
 more c (left t) = left (one c _ _ t)
 more c (place t) = place t
 
-second_ends : (q : Quoted) (from : List ℕ) (high : ℕ) (cs : List ℕ) → Tail from cs → LeftEnds from cs (past_second q from high cs)
+second_ends : (q : Quoted) (from : List ℕ) (high : ℕ) (cs : List ℕ) → Tail from cs
+    → LeftEnds from cs (past_second q from high cs)
 second_ends q from high [] t = place (here from)
 second_ends q from high (c ∷ cs) t =
     left_if (not (is_hex c)) (place t) (left_if (nat_lt 7 high && not (is_bytes q || is_c q)) (place (here from))
@@ -88,7 +93,8 @@ hex_ends q from [] t = place (here from)
 hex_ends q from (c ∷ cs) t =
     left_if (is_hex c) (more c (second_ends q from (digit_value c) cs (on _ _ _ t (one c cs cs (here cs))))) (place t)
 
-value_ends : (q : Quoted) (from : List ℕ) (value count : ℕ) (cs : List ℕ) → LeftEnds from cs (past_value q from value count cs)
+value_ends : (q : Quoted) (from : List ℕ) (value count : ℕ) (cs : List ℕ)
+    → LeftEnds from cs (past_value q from value count cs)
 value_ends q from value count cs =
     left_if (nat_lt 6 count) (place (here from)) (left_if (is_bytes q) (place (here from))
     (left_if (not (is_scalar value)) (place (here from))
@@ -124,7 +130,8 @@ escape_ends q from (c ∷ cs) t =
     (left_if (char_set_contains (codes "0") c) (left_if (is_c q) (place (here from)) next)
     (left_if (char_set_contains (codes "x") c) (more c (hex_ends q from cs s))
     (left_if (char_set_contains (codes "u") c) (more c (unicode_ends q from cs s))
-    (left_if (char_set_contains (codes "\n") c && not (is_single q)) (left (one c cs _ (past_tail Blank cs))) (place t)))))
+    (left_if (char_set_contains (codes "\n") c && not (is_single q)) (left (one c cs _ (past_tail Blank cs)))
+    (place t)))))
 
 pub plain_ends : (q : Quoted) (c : ℕ) (cs : List ℕ) → LeftEnds (c ∷ cs) cs (past_plain q c cs)
 plain_ends q c cs =
@@ -152,7 +159,9 @@ skipped q (suc n) (c ∷ cs) = skipped q n cs
 pub string_on : (q : Quoted) (c : ℕ) (text cs rest : List ℕ) → text ≡ c ∷ cs → Ok rest ≡ past_unit q c cs
     → check_string q 0 rest ≡ check_string q 0 text
 string_on q c text cs rest e f =
-    let t : Tail cs rest = subst (λ (l : Left). IfOk l (λ (r : List ℕ). Tail cs r)) (sym f) (ok_tail (c ∷ cs) cs (past_unit q c cs) (unit_ends q c cs)) in
+    let t : Tail cs rest =
+    subst (λ (l : Left). IfOk l (λ (r : List ℕ). Tail cs r)) (sym f)
+    (ok_tail (c ∷ cs) cs (past_unit q c cs) (unit_ends q c cs)) in
     let skip = skipped q (length cs - length rest) cs in
     sym (ap (check_string q 0) e ∙ (rw (← f, check_string) (skip ∙ ap (check_string q 0) (tail_is cs rest t))))
 
@@ -194,15 +203,18 @@ encodes_small (c ∷ cs) h =
     let rest : are_ascii cs ≡ true = grind (arith, nat_tests) in
     rw (encode_ascii c small, encodes_small cs rest) refl
 
-pub hashes_ascii : (text rest own : List ℕ) → rest ≡ past Hash text → own ≡ bytes_before text rest → are_ascii own ≡ true
+pub hashes_ascii : (text rest own : List ℕ) → rest ≡ past Hash text → own ≡ bytes_before text rest
+    → are_ascii own ≡ true
 hashes_ascii text rest own e f =
-    let same : own ≡ front text (past Hash text) = f ∙ (ap (bytes_before text) e ∙ encodes_small (front text (past Hash text)) (hashes_small text)) in
+    let same : own ≡ front text (past Hash text) =
+    f ∙ (ap (bytes_before text) e ∙ encodes_small (front text (past Hash text)) (hashes_small text)) in
     ap are_ascii same ∙ hashes_small text
 
 -- ---- a fault between quotes
 
 got_rest : (body : List ℕ) (start j : ℕ) (got other : Bor (List ℕ)) (r : Option (Bor (List ℕ))) → IsUtf8 body
-    → start ≤ length body → j ≡ length body → IsUtf8 (drop start body) → GetsRange body start j r → got ≡ unwrap_or r other
+    → start ≤ length body → j ≡ length body → IsUtf8 (drop start body) → GetsRange body start j r
+    → got ≡ unwrap_or r other
     → (rest : List ℕ) → drop start body ≡ rest → chars got.now ≡ chars rest
 got_rest body start j got other None u le k text g h rest e =
     absurd (g (omega (arith, le, k)) (IsCharBoundary-from_drop body start le text)
@@ -225,7 +237,8 @@ got_inside body end at content start j got other r u v w s k g h e p =
     let b = ap (λ (l : List ℕ). length l) e in
     let n : start ≡ length own = omega (arith, a, b, length-append own at, length-append content end) in
     let rest : drop start body ≡ at ++ end =
-    ap (λ (m : ℕ). drop m body) n ∙ (ap (λ (l : List ℕ). drop (length own) l) whole ∙ drop-append_seam own (at ++ end)) in
+    ap (λ (m : ℕ). drop m body) n
+    ∙ (ap (λ (l : List ℕ). drop (length own) l) whole ∙ drop-append_seam own (at ++ end)) in
     let text : IsUtf8 (drop start body) = subst IsUtf8 (sym rest) (IsUtf8-append at end w v) in
     let le : start ≤ length body = omega arith in
     got_rest body start j got other r u le k text g h (at ++ end) rest ∙ chars-append at end w
