@@ -1,5 +1,5 @@
 -- What is added of a lifetime and of a doc comment, one piece after another.
-use Rattle.std.proofs.Common.{◌≡◌, ◌+◌, ◌<◌, List, [], ◌∷◌, length, Result, Ok, Err, OnOk, refl, sym, ap, ◌∙◌, arith}
+use Rattle.std.proofs.Common.{◌≡◌, ◌<◌, [], ◌∷◌, length, Result, Ok, Err, OnOk, refl, sym, ap, ◌∙◌, arith}
 use Rattle.mbe_tt.specs.Buffers.Building.{Levels, put, closed}
 use Rattle.mbe_tt.specs.Trees.Leaf.{Leaf}
 use Rattle.mbe_tt.specs.Trees.Tree.{Forest, none, leaf, group, append, one_leaf}

@@ -25,7 +25,7 @@ pub record Taken : Type 0 where
   pub from : List ℕ
   pub rest : List ℕ
 
--- what stands behind white space and comments: the next token, nothing at the end, or the fault
+-- what stands after white space and comments: the next token, nothing at the end, or the fault
 abbrev pub next_token : Dialect → ℕ → List ℕ → Result (Option Taken) LexFault
 next_token dialect total cs = elim (past_blanks dialect total (length cs) cs) [
   | Err fault ↦ Err fault

@@ -41,7 +41,7 @@ abbrev pub past_mark : List ℕ → List ℕ
 past_mark [] = []
 past_mark (c ∷ cs) = if c == 0xFEFF then cs else c ∷ cs
 
--- an attribute's `[` stands behind white space and comments
+-- an attribute's `[` stands after white space and comments
 abbrev pub is_attribute : Dialect → ℕ → List ℕ → Bool
 is_attribute dialect total cs = elim (past_blanks dialect total (length cs) cs) [
   | Err fault ↦ false

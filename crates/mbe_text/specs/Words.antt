@@ -1,5 +1,5 @@
 -- Identifiers, and the suffixes of literals.
-use Rattle.std.specs.Prelude.{ℕ, not, ◌&&◌, ◌||◌, nat_le, if◌then◌else◌, Bool, Option, Some, None, List, length, drop, codes, bytes_eq, Result, Ok, Err}
+use Rattle.std.specs.Prelude.{ℕ, not, ◌&&◌, ◌||◌, nat_le, if◌then◌else◌, Bool, List, length, drop, codes, bytes_eq, Result, Ok, Err}
 use Rattle.mbe_tt.specs.declared.tt.IdentIsRaw.TheVariants as raw
 use Rattle.mbe_text.specs.declared.characters.Class.TheVariants.{IdentStart, IdentContinue, Hash}
 use Rattle.mbe_text.specs.Characters.{begins, begins_with, past, bytes_before}

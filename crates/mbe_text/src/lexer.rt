@@ -296,11 +296,10 @@ fn joined<A: Allocator + Copy>(
     table.intern(whole.as_str())
 }
 
-/// The token trees of a file's text, inside an invisible group whose both spans are the whole text. Spans count bytes.
-/// Each closing closes a group of its own kind, and another is a fault, as is what isn't a token. Groups that are open at the end
-/// are closed there.
-///
-/// The tokens are those of the sample dialect (`Dialect::Sample`). It asks that the text is shorter than 2^32 bytes, as spans count them in 32 bits.
+/// The token trees of a file's text in the sample dialect, inside an invisible group whose both spans are the whole text. Spans
+/// count bytes, in 32 bits: the text is to be shorter than 2^32 bytes. Each closing closes a group of its own kind, and another is
+/// a fault, as is what isn't a token. Groups that are open at the end are closed there. What the tokens are is this project's choice
+/// (`Dialect::Sample`).
 pub fn lex<A: Allocator + Copy>(alloc: A, text: &str, file: u32) -> Result<TopSubtree<A>, LexError>
     requires { length text.now < 2 ^ 32 }
     ensures made { IfOk result (IsMade file text.now) }
@@ -322,15 +321,33 @@ pub fn lex_in<A: Allocator + Copy>(
     ensures within { IfErr result (FaultsWithin (length text.now)) }
     ensures exact { Lexes (trees_of Sample file text.now) result }
 {
-    lex_as(Dialect::Sample, table, text, file)
+    lex_as_in(table, Dialect::Sample, text, file)
 }
 
-/// The same in that dialect. Where it is `Dialect::Rust`, the tokens are those of the Rust Reference as rustc's lexer reads them, a
-/// lifetime is a joint `'` and an identifier, a doc comment is the attribute that it stands for, and a group that is open at the end
-/// is a fault there. A fault says what is wrong, as rustc does.
+/// The token trees of a file's text in that dialect, as `lex` has them in the sample dialect.
+///
+/// In `Dialect::Rust` the tokens are those of the Rust Reference ("Lexical structure"), as rustc's lexer reads them. A byte order mark
+/// and a `#!` line are passed. A lifetime is two leaves, a joint `'` and an identifier; a doc comment is the attribute that it stands
+/// for, `#[doc = r".."]` or `#![doc = r".."]`, each of whose tokens has the comment's span. A group that is open at the end is a fault
+/// there. A fault is the first one, at the byte and for the reason that rustc gives.
 pub fn lex_as<A: Allocator + Copy>(
+    alloc: A,
     dialect: Dialect,
+    text: &str,
+    file: u32,
+) -> Result<TopSubtree<A>, LexError>
+    requires { length text.now < 2 ^ 32 }
+    ensures made { dialect ≡ Sample → IfOk result (IsMade file text.now) }
+    ensures within { IfErr result (FaultsWithin (length text.now)) }
+    ensures exact { Lexes (trees_of dialect file text.now) result }
+{
+    lex_as_in(&mut SymbolTable::new(alloc), dialect, text, file)
+}
+
+/// The same, with symbols from that table and in memory of its allocator.
+pub fn lex_as_in<A: Allocator + Copy>(
     table: &mut SymbolTable<A>,
+    dialect: Dialect,
     text: &str,
     file: u32,
 ) -> Result<TopSubtree<A>, LexError>

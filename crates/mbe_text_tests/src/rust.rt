@@ -2,7 +2,6 @@
 use crate::rust_rows::RANDOM;
 use mbe_text::dialect::Dialect;
 use mbe_text::lexer::{LexError, lex_as};
-use mbe_text::symbols::SymbolTable;
 use mbe_tt::span::Edition;
 use mbe_tt::span::Edition::{Edition2018, Edition2021, Edition2024};
 use mbe_tt::tt::{DelimiterKind, Leaf, Spacing, TopSubtree, TtElement};
@@ -52,12 +51,7 @@ fn push_trees(tree: &TopSubtree, line: &mut String) -> Result<(), Fail> {
 // The tokens of a text, or its fault.
 fn shown(alloc: Global, edition: Edition, text: &str) -> Result<String, Fail> {
     let mut line = String::new(alloc);
-    match lex_as(
-        Dialect::Rust(edition),
-        &mut SymbolTable::new(alloc),
-        text,
-        0,
-    ) {
+    match lex_as(alloc, Dialect::Rust(edition), text, 0) {
         Ok(tree) => push_trees(&tree, &mut line)?,
         Err(LexError::Fault(fault)) => {
             let offset = fault.offset;

@@ -1,6 +1,4 @@
-use Rattle.std.proofs.Common.{◌≡◌, ◌+◌, List, ℕ, ap}
-use Rattle.mbe_tt.specs.Trees.Tree.{Forest, none, leaf}
-use Rattle.mbe_text.specs.Characters.{apostrophe}
+use Rattle.std.proofs.Common.{List, ℕ, ap}
 use Rattle.mbe_text.specs.Tokens.{lifetime_trees}
 use Rattle.mbe_text.proofs.Attributes.{puts_both}
 use Rattle.mbe_text.proofs.lexer.add_lifetime.Goals as goal

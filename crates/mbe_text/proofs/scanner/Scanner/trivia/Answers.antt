@@ -1,6 +1,5 @@
-use Rattle.std.proofs.Common.{◌≡◌, ◌==◌, sym, ap, ◌∙◌, rules, chars, ℕ, true, Err}
+use Rattle.std.proofs.Common.{sym, ap, ◌∙◌, rules, chars, ℕ, Err}
 use Rattle.std.proofs.lemmas.Result.{err_from_is_err_and}
-use Rattle.mbe_text.specs.Characters.{slash}
 use Rattle.mbe_text.specs.Faults.{fault_at}
 use Rattle.mbe_text.specs.declared.wrong.Wrong.TheVariants as wrong
 use Rattle.mbe_text.proofs.BlankLemmas.{blank_there, doc_there, passes_end, passes_blank, passes_other, passes_doc, passes_line, passes_block, passes_last, passes_fault}

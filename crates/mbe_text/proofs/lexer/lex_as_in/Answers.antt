@@ -7,7 +7,7 @@ use Rattle.mbe_text.proofs.DivisionLemmas.{reached_first, reached_more, reached_
 use Rattle.mbe_tt.specs.Buffers.Building.{Levels}
 use Rattle.mbe_text.proofs.Attributes.{adds_some}
 use Rattle.mbe_text.proofs.Made.{lexed_first, lexed_more, lexed_last}
-use Rattle.mbe_text.proofs.lexer.lex_as.Goals as goal
+use Rattle.mbe_text.proofs.lexer.lex_as_in.Goals as goal
 
 pub tokens-init : goal.tokens-init
 tokens-init g c = record {

@@ -2,7 +2,7 @@ use Rattle.std.proofs.Common.{◌≡◌, ◌<◌, length}
 use Rattle.mbe_text.specs.declared.dialect.Dialect.TheVariants.{Sample}
 use Rattle.mbe_text.proofs.DivisionLemmas.{Reaches}
 use Rattle.mbe_text.proofs.Made.{Lexed}
-use Rattle.mbe_text.proofs.lexer.lex_as.Given as goal
+use Rattle.mbe_text.proofs.lexer.lex_as_in.Given as goal
 
 abbrev pub invariant-tokens : goal.invariant-tokens
 invariant-tokens g l = record {
