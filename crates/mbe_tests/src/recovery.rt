@@ -19,7 +19,11 @@ static RECOVERED: [Row; 7] = [
         (1, false),
         "($(a)* $(a $(: $y:ident)?)* c) => {R0}; ($(a $(: $x:ident)?)* $(a)* c) => {R1}",
         "a a a a c d",
-        (0, &[(Word("R0"), 0, 35, 37)], ("unexpected token in input", 0, 1)),
+        (
+            0,
+            &[(Word("R0"), 0, 35, 37)],
+            ("unexpected token in input", 0, 1),
+        ),
     ),
     // At the quote one prefix goes on over one token, and one over two.
     (
