@@ -3,8 +3,8 @@
 
     python3 tools/rust-tokens.py SEED COUNT > crates/mbe_text_tests/src/rust_rows.rt
 
-A row is an edition, a text, and its tokens without white space, or the first fault and its byte: rustc's message in the words of
-`Wrong`. Texts that rustc reads otherwise before it looks for tokens, since they begin with `#!` or have a carriage return before
+There is a table for each edition, of texts, each followed by its tokens without white space, or by the first fault and its byte: rustc's
+message in the words of `Wrong`. Texts that rustc reads otherwise before it looks for tokens, since they begin with `#!` or have a carriage return before
 a line feed, are left out. Needs rustc; it isn't part of the gate.
 """
 import json
@@ -18,6 +18,8 @@ from concurrent.futures import ThreadPoolExecutor
 
 PARTS = r"""r b c br cr ' " ' " # # \ \n \x41 \x \x8f \u{41} \u{d800} \0 \q a k 0 1 8 e E . _ 0x 0b 0o / * ! é - + // /* */ /// /** //! r# crate
 u8 'a 'b' b' c" """.split() + [" ", " ", "\n", "\r", "\t"]
+
+EDITIONS = ["2018", "2021", "2024"]
 
 # rustc's words, and those of `Wrong` where they are others
 MESSAGES = {
@@ -110,17 +112,16 @@ def main():
     while len(texts) < int(sys.argv[2]):
         text = "".join(random.choice(PARTS) for _ in range(random.randint(1, 6)))
         if not text.startswith("#!") and "\r\n" not in text:
-            texts.append((text, random.choice(["2018", "2021", "2024"])))
+            texts.append((text, random.choice(EDITIONS)))
     with ThreadPoolExecutor(3) as pool:
         wants = list(pool.map(judged, texts))
-    print("// Random texts with what rustc makes of them, from `tools/rust-tokens.py`.")
-    print("use mbe_tt::span::Edition;")
-    print("use mbe_tt::span::Edition::{Edition2018, Edition2021, Edition2024};\n")
-    print("pub(crate) static RANDOM: &[(Edition, &str, &str)] = &[")
-    for (text, edition), want in zip(texts, wants):
-        if want:
-            print(f"    (Edition{edition}, {quoted(text)}, {quoted(want)}),")
-    print("];")
+    print("// Random texts of an edition, each with what rustc makes of it, from `tools/rust-tokens.py`.")
+    for edition in EDITIONS:
+        print(f"\npub(crate) static RANDOM_{edition}: &[&str] = &[")
+        for (text, of), want in zip(texts, wants):
+            if of == edition and want:
+                print(f"    {quoted(text)}, {quoted(want)},")
+        print("];")
 
 
 if __name__ == "__main__":

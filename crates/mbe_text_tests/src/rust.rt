@@ -1,11 +1,12 @@
 // The tokens of whole Rust: texts with what rustc makes of them, or its message and the byte at fault.
-use crate::rust_rows::RANDOM;
+use crate::rust_rows::{RANDOM_2018, RANDOM_2021, RANDOM_2024};
 use mbe_text::dialect::Dialect;
 use mbe_text::lexer::{LexError, lex_as};
 use mbe_tt::span::Edition;
 use mbe_tt::span::Edition::{Edition2018, Edition2021, Edition2024};
 use mbe_tt::tt::{DelimiterKind, Leaf, Spacing, TopSubtree, TtElement};
 use std::alloc::Global;
+use std::process::Abort;
 use std::test::Fail;
 
 // A text of an edition, and its tokens with a space after each that isn't joint, or rustc's message and the first byte of what it
@@ -49,7 +50,8 @@ fn push_trees(tree: &TopSubtree, line: &mut String) -> Result<(), Fail> {
 }
 
 // The tokens of a text, or its fault.
-fn shown(alloc: Global, edition: Edition, text: &str) -> Result<String, Fail> {
+fn shown(rt: &impl Abort, alloc: Global, edition: Edition, text: &str) -> Result<String, Fail> {
+    assert!(rt; text.len() < 1000);
     let mut line = String::new(alloc);
     match lex_as(alloc, Dialect::Rust(edition), text, 0) {
         Ok(tree) => push_trees(&tree, &mut line)?,
@@ -226,7 +228,7 @@ static ROWS: &[Row] = &[
 #[test]
 fn rows(rt: HostRuntime) -> Result<(), Fail> {
     for (edition, text, want) in ROWS {
-        let line = shown(rt.alloc(), *edition, text)?;
+        let line = shown(&rt, rt.alloc(), *edition, text)?;
         assert_eq!(rt; line.as_str(), *want, "{text}");
     }
     Ok(())
@@ -243,16 +245,38 @@ fn squeezed(alloc: Global, line: &str) -> Result<String, Fail> {
     Ok(squeezed)
 }
 
-#[test]
-fn random_texts(rt: HostRuntime) -> Result<(), Fail> {
-    for (edition, text, want) in RANDOM {
-        let line = shown(rt.alloc(), *edition, text)?;
-        if want.starts_with("ok ") {
-            let line = squeezed(rt.alloc(), line.as_str())?;
-            assert_eq!(rt; line.as_str(), *want, "{text:?}");
-        } else {
+// Each text, and after it what rustc makes of it.
+fn assert_all(
+    rt: &impl Abort,
+    alloc: Global,
+    edition: Edition,
+    texts: &[&str],
+) -> Result<(), Fail> {
+    for pair in texts.chunks(2) {
+        if let [text, want] = pair {
+            let line = shown(rt, alloc, edition, text)?;
+            let line = if want.starts_with("ok ") {
+                squeezed(alloc, line.as_str())?
+            } else {
+                line
+            };
             assert_eq!(rt; line.as_str(), *want, "{text:?}");
         }
     }
     Ok(())
+}
+
+#[test]
+fn random_texts_of_2018(rt: HostRuntime) -> Result<(), Fail> {
+    assert_all(&rt, rt.alloc(), Edition2018, RANDOM_2018)
+}
+
+#[test]
+fn random_texts_of_2021(rt: HostRuntime) -> Result<(), Fail> {
+    assert_all(&rt, rt.alloc(), Edition2021, RANDOM_2021)
+}
+
+#[test]
+fn random_texts_of_2024(rt: HostRuntime) -> Result<(), Fail> {
+    assert_all(&rt, rt.alloc(), Edition2024, RANDOM_2024)
 }
