@@ -1,0 +1,4 @@
+// Stands in for the lexer of whole Rust until `mbe_text` has it.
+#![tactic(auto)]
+
+pub mod lexing;
