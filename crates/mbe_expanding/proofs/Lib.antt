@@ -6,3 +6,5 @@ pub mod FrontLemmas
 pub mod GroupLemmas
 pub mod ItemLemmas
 pub mod MarkLemmas
+pub mod StepLemmas
+pub mod WriteLemmas

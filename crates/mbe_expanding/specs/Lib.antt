@@ -1,3 +1,4 @@
+pub mod Becoming
 pub mod Calls
 pub mod Fitting
 pub mod Scopes
