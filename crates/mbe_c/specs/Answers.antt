@@ -1,7 +1,5 @@
 -- What a caller is given.
-use Rattle.std.specs.Prelude.{◌≡◌, ◌≤◌, ◌-◌, ◌^◌, ℕ, List, [], length, take, map, Option, Some, None, ⊥}
-use Rattle.std.specs.String.{String, string_bytes}
-use Rattle.std.specs.Alloc.Global.{Global}
+use Rattle.std.specs.Prelude.{◌≡◌, ◌≤◌, ◌-◌, ◌^◌, ℕ, List, [], length, take, map, Option, Some, None}
 use Rattle.mbe_tt.specs.Trees.Tree.{Forest}
 use Rattle.mbe_semantics.specs.Expansion.Error.{ExpandError, text_of_kind, text_of_fault}
 use Rattle.mbe_semantics.specs.Readings.Verdict as seen
@@ -51,9 +49,6 @@ form_text forms.Rust out = (written out (start 0)).text
 abbrev pub message : Option ExpandError → List ℕ
 message None = []
 message (Some e) = text_of_kind e.kind
-
-abbrev pub IsMessage : Option ExpandError → String Global → Type 0
-IsMessage err text = string_bytes text ≡ message err
 
 -- an answer with the place of the error, if there is one
 abbrev pub placed : Option ExpandError → Answer → Answer

@@ -1,6 +1,6 @@
 -- How a call ends.
 use Rattle.std.specs.Prelude.{◌≡◌, ℕ, List, Option, Some, None, ◌⊎◌}
-use Rattle.std.specs.Alloc.Global.{Global}
+use Rattle.std.specs.Global.{Global}
 use Rattle.mbe_tt.specs.Trees.Tree.{Forest}
 use Rattle.mbe_semantics.specs.Expansion.Error.{ExpandError}
 use Rattle.mbe_semantics.specs.Readings.Verdict as seen

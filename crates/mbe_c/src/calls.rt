@@ -122,6 +122,7 @@ pub(crate) fn expansion(
 }
 
 // The verdict on the argument of each rule, in order.
+#[tactic(auto, using(mbe_program::proofs::LintLemmas::one_verdict_more, mbe_program::proofs::LintLemmas::all_verdicts))]
 fn trees_verdicts<G: FragmentGrammar>(
     alloc: Global,
     grammar: &G,

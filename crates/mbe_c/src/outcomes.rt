@@ -1,5 +1,6 @@
 // What a caller is given of a call.
 ghost use Rattle.std.specs.Prelude.{◌≡◌, ◌⊎◌, length, map, option_map, IfOk};
+ghost use Rattle.std.specs.String.{string_bytes};
 ghost use Rattle.mbe_tt.specs.Trees.Top.{top_group};
 ghost use Rattle.mbe_errors.specs.ErrorViews.{error_of, errors_of};
 ghost use Rattle.mbe.specs.Matched.{verdict_seen};
@@ -81,7 +82,8 @@ fn lines_of(alloc: Global, tree: &TopSubtree) -> Result<Vec<u8>, AllocError>
 
 // The text of an error, or nothing without one.
 fn message_of(alloc: Global, error: Option<&ExpandError>) -> Result<String, AllocError>
-    ensures { IfOk result (λ text. spec.IsMessage (option_map (λ e. error_of e.now) error.entry) text) }
+    ensures { IfOk result (λ text. string_bytes text
+        ≡ spec.message (option_map (λ e. error_of e.now) error.entry)) }
 {
     match error {
         Some(error) => {
