@@ -39,7 +39,7 @@ fn call_of<'a>(def: &'a [u8], arg: &'a [u8], settings: &Settings) -> Result<Call
 fn expand_call(alloc: Global, call: Call<'_>, text: &mut [u8], message: &mut [u8]) -> Answer
     requires def { length call.def.now < 2 ^ 32 }
     requires arg { length call.arg.now < 2 ^ 32 }
-    ensures { Ends call.asked call.def.now call.arg.now text.new message.new result }
+    ensures { Ends call.entry.asked call.entry.def.now call.entry.arg.now text.new message.new result }
 {
     let given = match expansion(alloc, call.def, call.arg, call.asked) {
         Ok(expansion) => give_expansion(alloc, call.asked.form, &expansion, text, message),
@@ -60,7 +60,7 @@ fn explain_call(
 ) -> Answer
     requires def { length call.def.now < 2 ^ 32 }
     requires arg { length call.arg.now < 2 ^ 32 }
-    ensures { EndsExplained call.asked call.def.now call.arg.now room.new message.new result }
+    ensures { EndsExplained call.entry.asked call.entry.def.now call.entry.arg.now room.new message.new result }
 {
     let given = match verdicts(alloc, call.def, call.arg, call.asked) {
         Ok(verdicts) => give_explanation(alloc, verdicts.as_slice(), room),
