@@ -213,7 +213,7 @@ fn rules_take_by_edition(rt: HostRuntime) -> Result<(), Fail> {
     Ok(())
 }
 
-// A hundred thousand times a link, by a rule: many more than `DEPTH`.
+// A million times a link, by a rule: many more than `DEPTH`.
 fn assert_takes_long(
     rt: &impl Abort,
     alloc: Global,
@@ -221,14 +221,14 @@ fn assert_takes_long(
     want: Option<usize>,
 ) -> Result<(), Fail> {
     assert!(rt; link.len() < 100);
-    let text = link.repeat(alloc, 100_000)?;
+    let text = link.repeat(alloc, 1_000_000)?;
     let table = table(rule, Edition::Edition2021);
     assert_takes(rt, alloc, (table, text.as_str()), want)
 }
 
 #[test]
 fn many_prefixes(rt: HostRuntime) -> Result<(), Fail> {
-    assert_takes_long(&rt, rt.alloc(), (MINUSES, "-"), Some(100_000))
+    assert_takes_long(&rt, rt.alloc(), (MINUSES, "-"), Some(1_000_000))
 }
 
 #[test]
@@ -238,5 +238,5 @@ fn many_angles(rt: HostRuntime) -> Result<(), Fail> {
 
 #[test]
 fn many_braces(rt: HostRuntime) -> Result<(), Fail> {
-    assert_takes_long(&rt, rt.alloc(), (ANY, "{"), Some(200_000))
+    assert_takes_long(&rt, rt.alloc(), (ANY, "{"), Some(2_000_000))
 }
