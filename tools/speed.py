@@ -3,6 +3,8 @@
 
     python3 tools/speed.py MBEX ORIGINAL [--case WORD].. [--size N].. [--requests] [--times]
     python3 tools/speed.py MBEX ORIGINAL --reading [--size N]..
+    python3 tools/speed.py MBEX ORIGINAL --calls [--case WORD]..
+    python3 tools/speed.py MBEX ORIGINAL --optional [--size N]..
 
 MBEX is the program that `rt run` leaves in crates/mbex/out, ORIGINAL a program with the same face over the Rust crate. Each run
 lexes both texts, reads the definition, expands, and prints. It writes a table in Markdown: for each case and size the
@@ -14,6 +16,12 @@ same.
 
 With --reading the table is of reading a definition alone, with checking and dropping it: a run in which no rule has the style of the
 call, so that none is matched, less a run that only lexes the same text. A token is a flat token of the pattern.
+
+With --calls the table is of calls that fail and calls that fit: millions of instructions of a whole run, and of matching and writing alone,
+which is what the run takes more than one in which no rule has the style of the call. ORIGINAL may be an older `mbex`.
+
+With --optional the table is of N times `$(a)?` on N times `a`: the most memory of a run in megabytes, and its seconds. A program that
+doesn't end with an answer has "none".
 """
 import argparse
 import os
@@ -23,6 +31,7 @@ import tempfile
 import time
 
 SIZES = (2_000, 20_000, 65_535)
+OPTIONAL_SIZES = (10, 14, 18, 500, 1_000, 2_000, 4_000)
 
 
 def words(count, name="a"):
@@ -114,6 +123,27 @@ PATTERNS = {
 }
 
 
+# Calls that fail, where three beginnings of a dot meet and where none do, and calls that fit: what meets, the pattern, the argument.
+CALLS = {
+    "fails: `$(a)* $(a)* c` on 20,000 `a`": ("three", "$(a)* $(a)* c", "a " * 20_000),
+    "fails: `$(a)* $(a)* $(a)* $(a)* c` on 20,000 `a`": ("three", "$(a)* $(a)* $(a)* $(a)* c", "a " * 20_000),
+    "fails: `$(a)* $(a)*` on 20,000 `a`": ("three", "$(a)* $(a)*", "a " * 20_000),
+    "fails: `$($(a)* $(a)* c),*` on 5,000 times `a a a c,` and `a d`": ("three", "$($(a)* $(a)* c),*", "a a a c, " * 5_000 + "a d"),
+    "fails: 300 times `$(a)?` on 300 `a` and `b`": ("three", "$(a)? " * 300, "a " * 300 + "b"),
+    "fails: `$($x:ident),*` on 20,000 names and `, 1`": ("two", "$($x:ident),*", ",".join(words(20_000)) + ", 1"),
+    "fails: `$($k:ident = $v:expr;)*` on 20,000 and `x =`": ("two", "$($k:ident = $v:expr;)*", expressions(20_000)[1] + " x ="),
+    "fails: `{ $($f:ident : $t:ty),* }` on 20,000 fields and `f`": (
+        "two",
+        "{ $($f:ident : $t:ty),* }",
+        "{ " + "".join(f"{it} : u8, " for it in words(20_000)) + "f }",
+    ),
+    "fits: `$($x:ident),*` on 20,000 names": ("two", "$($x:ident),*", ",".join(words(20_000))),
+    "fits: `$($k:ident = $v:expr;)*` on 20,000": ("two", "$($k:ident = $v:expr;)*", expressions(20_000)[1]),
+    "fits: `$(a)* $(b)*` on 10,000 of each": ("two", "$(a)* $(b)*", "a " * 10_000 + "b " * 10_000),
+    "fits: 300 times `$(a)?` on 300 `a`": ("three", "$(a)? " * 300, "a " * 300),
+}
+
+
 def flat_tokens(text):
     """Words, and each other char but spaces; a `$` before a word is one of its own."""
     return len(re.findall(r"\w+|[^\w\s]", text))
@@ -149,15 +179,20 @@ def printed(command):
     return subprocess.run(command, capture_output=True, check=False).stdout
 
 
+def command_of(folder, program, rule, argument):
+    """Writes both texts into the folder, for a run of the program on them."""
+    for name, text in (("def", rule), ("arg", argument)):
+        with open(f"{folder}/{name}", "w", encoding="utf-8") as it:
+            it.write(text)
+    return [program, f"{folder}/def", f"{folder}/arg"]
+
+
 def readings(both, sizes):
     """The table of reading alone: instructions and memory of reading a pattern, a token of it."""
     folder = tempfile.mkdtemp()
 
     def run(program, rule, argument):
-        for name, text in (("def", rule), ("arg", argument)):
-            with open(f"{folder}/{name}", "w", encoding="utf-8") as it:
-                it.write(text)
-        command = [program, f"{folder}/def", f"{folder}/arg"]
+        command = command_of(folder, program, rule, argument)
         return instructions(command), peak(command)
 
     print("| Pattern | Size | Instructions a token of reading | Original's | Ratio | Bytes a token of reading | Original's |")
@@ -175,6 +210,44 @@ def readings(both, sizes):
             print("| " + " | ".join(row) + " |", flush=True)
 
 
+def calls(both, asked):
+    """The table of calls that fail and calls that fit."""
+    folder = tempfile.mkdtemp()
+
+    def run(program, rule, argument):
+        return instructions(command_of(folder, program, rule, argument)) / 1e6
+
+    print("| Call | Beginnings of a dot that meet | Whole run, millions | Original's | Ratio | Matching and writing | Original's | Ratio |")
+    print("|---|---|---|---|---|---|---|---|")
+    for name, (beginnings, pattern, argument) in CALLS.items():
+        if asked and not any(word in name for word in asked):
+            continue
+        whole = [run(it, f"({pattern}) => {{}}", argument) for it in both]
+        unmatched = [run(it, f"attr() ({pattern}) => {{}}", argument) for it in both]
+        alone = [more - less for more, less in zip(whole, unmatched)]
+        row = [name, beginnings]
+        for ours, others in (whole, alone):
+            row += [f"{ours:,.1f}", f"{others:,.1f}", f"{ours / others:.2f}"]
+        print("| " + " | ".join(row) + " |", flush=True)
+
+
+def optional(both, sizes):
+    """The table of patterns of optional tokens, each of which may take any of the argument's."""
+    folder = tempfile.mkdtemp()
+
+    def run(program, rule, argument):
+        command = ["/usr/bin/time", "-f", "%M %U", *command_of(folder, program, rule, argument)]
+        it = subprocess.run(command, stdout=subprocess.DEVNULL, stderr=subprocess.PIPE, check=False)
+        memory, seconds = it.stderr.split()[-2:]
+        return ["none" if it.returncode else f"{int(memory) / 1024:,.0f}", seconds.decode()]
+
+    print("| n | Megabytes | Seconds | Original's megabytes | Original's seconds |")
+    print("|---|---|---|---|---|")
+    for size in sizes:
+        taken = [value for it in both for value in run(it, f"({'$(a)? ' * size}) => {{}}", "a " * size)]
+        print("| " + " | ".join([f"{size:,}", *taken]) + " |", flush=True)
+
+
 def main():
     parser = argparse.ArgumentParser()
     parser.add_argument("mbex")
@@ -184,18 +257,23 @@ def main():
     parser.add_argument("--requests", action="store_true")
     parser.add_argument("--times", action="store_true")
     parser.add_argument("--reading", action="store_true")
+    parser.add_argument("--calls", action="store_true")
+    parser.add_argument("--optional", action="store_true")
     asked = parser.parse_args()
     both = [os.path.abspath(asked.mbex), os.path.abspath(asked.original)]
     if asked.reading:
         readings(both, asked.size or SIZES)
         return
+    if asked.calls:
+        calls(both, asked.case)
+        return
+    if asked.optional:
+        optional(both, asked.size or OPTIONAL_SIZES)
+        return
     folder = tempfile.mkdtemp()
 
     def files(rule, argument):
-        for name, text in (("def", rule), ("arg", argument)):
-            with open(f"{folder}/{name}", "w", encoding="utf-8") as it:
-                it.write(text)
-        return [[program, f"{folder}/def", f"{folder}/arg"] for program in both]
+        return [command_of(folder, program, rule, argument) for program in both]
 
     empty = files("() => {}", "")
     least = [peak(it) for it in empty]
