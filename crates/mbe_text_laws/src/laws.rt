@@ -1,0 +1,23 @@
+// Laws of the text that a `Writer` writes, as `lex_as` reads it. They run nothing.
+ghost use Rattle.mbe_text_laws.specs.Gaps.{GapsAreBlank, GapsAreInBytes, GapsPartPuncts, PunctsJoin};
+
+/// What a writer puts between two tokens is no part of a token, and hides none: the next token of a text with a gap before it is the next
+/// token of that text.
+pub fn gaps_are_blank()
+    ensures { GapsAreBlank }
+{}
+
+/// As bytes, a gap before a text is the gap's characters and then those of the text.
+pub fn gaps_are_in_bytes()
+    ensures { GapsAreInBytes }
+{}
+
+/// A punct that a space or a new line follows is alone, whatever the gap precedes.
+pub fn gaps_part_puncts()
+    ensures { GapsPartPuncts }
+{}
+
+/// A punct that another one follows with no gap is joint, unless that one begins a comment.
+pub fn puncts_join()
+    ensures { PunctsJoin }
+{}
