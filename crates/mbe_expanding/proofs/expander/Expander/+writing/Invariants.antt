@@ -1,0 +1,29 @@
+use Rattle.std.proofs.Common.{◌≡◌, ◌+◌, ◌*◌, length}
+use Rattle.mbe_expanding.proofs.expander.Expander.+writing.Given as goal
+
+abbrev pub decreases-write : goal.decreases-write
+decreases-write g l = 6 * l.levels + 5
+
+abbrev pub decreases-write_call : goal.decreases-write_call
+decreases-write_call g l = 6 * l.levels + 4
+
+abbrev pub decreases-write_expansion : goal.decreases-write_expansion
+decreases-write_expansion g l = 6 * l.levels + 3
+
+abbrev pub decreases-write_wrapped : goal.decreases-write_wrapped
+decreases-write_wrapped g l = 6 * l.levels + 2
+
+abbrev pub decreases-write_kept : goal.decreases-write_kept
+decreases-write_kept g l = 6 * l.levels + 3
+
+abbrev pub decreases-write_tree : goal.decreases-write_tree
+decreases-write_tree g l = 6 * l.levels + 3
+
+abbrev pub decreases-write_group : goal.decreases-write_group
+decreases-write_group g l = 6 * l.levels + 2
+
+abbrev pub decreases-write_inside : goal.decreases-write_inside
+decreases-write_inside g l = 6 * l.levels + 1
+
+abbrev pub invariant-write-loop : goal.invariant-write-loop
+invariant-write-loop g l = length l.builder ≡ length l.initial.builder

@@ -1,0 +1,85 @@
+-- What a call becomes, or why it stays.
+use Rattle.std.specs.Prelude.{◌≡◌, ◌≢◌, ◌⊎◌, ◌<◌, ◌-◌, ℕ, zero, Bool, true, false, Option, Some, None}
+use Rattle.mbe_tt.specs.declared.span.Edition.{Edition}
+use Rattle.mbe_tt.specs.declared.span.Span.{Span}
+use Rattle.mbe_tt.specs.declared.tt.DelimiterKind.{DelimiterKind}
+use Rattle.mbe_tt.specs.declared.tt.DelimiterKind.TheVariants.{Parenthesis, Brace, Bracket, Invisible}
+use Rattle.mbe_tt.specs.Fragments.Grammar.{Grammar}
+use Rattle.mbe_tt.specs.Trees.Top.{Top, top_group}
+use Rattle.mbe_semantics.specs.Expansion.Macro.{Macro, Expands}
+use Rattle.mbe_semantics.specs.Expansion.Error.{ExpandError}
+use Rattle.mbe_semantics.specs.declared.macro_call_style.MacroCallStyle.TheVariants.{FnLike}
+use Rattle.mbe_calls.specs.Fronts.{Call}
+use Rattle.mbe_expanding.specs.Scopes.{Scope, rules_found, with_left}
+
+-- what stays the same on the way: the grammar of fragments, and the edition that definitions are read in
+pub record Setting : Type 0 where
+  pub grammar : Grammar
+  pub edition : Edition
+
+-- what changes: the definitions, and how many calls may still be expanded
+pub record State : Type 0 where
+  pub scope : Scope
+  pub fuel : ℕ
+
+-- one call less may be expanded
+abbrev pub spent : State → State
+spent s = record s { fuel = s.fuel - 1 }
+
+-- tokens of a definition keep their spans
+abbrev pub IsItself : Span → Span → Type 0
+IsItself span marked = marked ≡ span
+
+-- the macro that a call names
+abbrev pub named : State → Call → Option Macro
+named s c = rules_found s.scope c.name.sym c.is_path
+
+-- what the rules make of a call's argument
+abbrev pub Makes : Setting → Call → Macro → Top → Option ExpandError → Type 0
+Makes e c m tree err = (index : Option ℕ) × Expands e.grammar IsItself m.rules FnLike c.argument c.name.span (top_group tree) index err
+
+-- whether the limits allow one call more, so deep in others
+abbrev pub Allows : ℕ → State → State → Bool → Type 0
+Allows depth s t true = (0 < depth) × (0 < s.fuel) × (t ≡ spent s)
+Allows depth s t false = ((depth ≡ 0) ⊎ (s.fuel ≡ 0)) × (t ≡ s)
+
+-- the macro that a call names has a fault, or no rule of it applies
+pub data Refuses (e : Setting) (c : Call) (s : State) : Type 0 where
+  by_definition : (m : Macro) → named s c ≡ Some m → m.err ≢ None → Refuses e c s
+  by_rules : (m : Macro) (tree : Top) (err : ExpandError) → named s c ≡ Some m → Makes e c m tree (Some err) → Refuses e c s
+
+-- Why a call stays: it stands in too many groups and calls, no macro is found, a limit is reached, or it is refused.
+pub data Stays (e : Setting) (c : Call) (depth : ℕ) (s : State) : ℕ → State → Type 0 where
+  too_many : Stays e c depth s zero s
+  not_found : (levels : ℕ) → named s c ≡ None → Stays e c depth s levels s
+  limited : (levels : ℕ) (t : State) → Allows depth s t false → Stays e c depth s levels t
+  refused : (levels : ℕ) → 0 < depth → 0 < s.fuel → Refuses e c s → Stays e c depth s levels (spent s)
+
+-- The macro that a call names is found and has no fault, a rule applies and makes this tree, and no limit is reached.
+pub record IsReplaced (e : Setting) (c : Call) (levels depth : ℕ) (s : State) (tree : Top) : Type 0 where
+  pub rules : Macro
+  pub found : named s c ≡ Some rules
+  pub faultless : rules.err ≡ None
+  pub makes : Makes e c rules tree None
+  pub level_left : 0 < levels
+  pub depth_left : 0 < depth
+  pub fuel_left : 0 < s.fuel
+
+-- what comes of the rules that a call names: their tree, or nothing where they refuse it
+abbrev pub Applies : Setting → Call → State → Option Top → Type 0
+Applies e c s None = Refuses e c s
+Applies e c s (Some tree) = (m : Macro) × (named s c ≡ Some m) × (m.err ≡ None) × Makes e c m tree None
+
+-- the tree that is to stand in place of a call, or nothing where the call stays
+abbrev pub Tries : Setting → Call → ℕ → ℕ → State → State → Option Top → Type 0
+Tries e c levels depth s t None = Stays e c depth s levels t
+Tries e c levels depth s t (Some tree) = IsReplaced e c levels depth s tree × (t ≡ spent s)
+
+-- ---- groups
+
+-- after a group's braces only so many definitions stay visible, as before it
+abbrev pub after_group : DelimiterKind → ℕ → State → State
+after_group Brace mark s = record s { scope = with_left mark s.scope }
+after_group Parenthesis mark s = s
+after_group Bracket mark s = s
+after_group Invisible mark s = s

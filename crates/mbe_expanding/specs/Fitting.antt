@@ -1,0 +1,30 @@
+-- How an expansion stands in place of its call.
+use Rattle.std.specs.Prelude.{◌≡◌, Some}
+use Rattle.mbe_tt.specs.Trees.Leaf.{Leaf, punct}
+use Rattle.mbe_tt.specs.Trees.Tree.{Forest, none, leaf, group, append, rest_of, front_char}
+use Rattle.mbe_tt.specs.declared.span.Span.{Span}
+use Rattle.mbe_tt.specs.declared.tt.Spacing.TheVariants.{Alone}
+
+-- nothing but a `;`
+abbrev pub IsSemicolon : Forest → Type 0
+IsSemicolon f = (front_char f ≡ Some 59) × (rest_of f ≡ none)
+
+-- the trees of an expansion that stand for the call: all, or all but a `;` at their end
+pub data IsPart (tree : Forest) : Forest → Type 0 where
+  all_of_it : IsPart tree tree
+  but_semicolon : (part end : Forest) → tree ≡ append part end → IsSemicolon end → IsPart tree part
+
+-- a `;` that stands there
+abbrev pub semicolon : Span → Leaf
+semicolon span = punct (record { char = 59; spacing = Alone; span = span })
+
+-- what is left after a call: what follows it, or that but for a `;` at its front
+pub data IsLeft (rest : Forest) : Forest → Type 0 where
+  what_follows : IsLeft rest rest
+  after_semicolon : front_char rest ≡ Some 59 → IsLeft rest (rest_of rest)
+
+-- the trees from the first group on
+abbrev pub from_group : Forest → Forest
+from_group none = none
+from_group (leaf l rest) = from_group rest
+from_group (group d inside rest) = group d inside rest

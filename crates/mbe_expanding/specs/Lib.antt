@@ -1,0 +1,4 @@
+pub mod Calls
+pub mod Fitting
+pub mod Scopes
+pub mod Shown

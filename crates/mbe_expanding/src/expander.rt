@@ -1,0 +1,260 @@
+// What the calls of files and of expansions expand to.
+//
+// Trees are gone through from the front. A definition is read, and names find it from there up to the end of the group around
+// it. A call of a macro that is found is replaced by its expansion, whose calls are expanded in turn, as far as the
+// settings say; any other tree stays. So the trees that come out have no call left but those of macros that no file
+// defines, those that no rule fits, and those beyond the limits; of the latter two a note says so.
+ghost use Rattle.std.specs.Prelude.{◌≡◌, IsSome, IfOk, OnOk, length, option_map};
+ghost use Rattle.std.specs.String.{string_bytes};
+ghost use Rattle.mbe_tt.specs.Views.View.{trees};
+ghost use Rattle.mbe.specs.MacroViews.{macro_of};
+ghost use Rattle.mbe_calls.specs.Shown.{call_shown, defined_shown};
+ghost use Rattle.mbe_rust_text.specs.Writing as text;
+ghost use Rattle.mbe_expanding.specs.Calls.{Allows, Applies, Tries, named};
+ghost use Rattle.mbe_expanding.specs.Scopes.{IsRead};
+ghost use Rattle.mbe_expanding.specs.Shown.{scope_of, setting_of, state_of};
+
+mod replacing;
+mod writing;
+
+use crate::notes::{Level, Note};
+use crate::scope::{Scope, buffer_of};
+use crate::settings::Settings;
+use mbe::{DeclarativeMacro, ExpandError, MacroCallStyle, ValueResult};
+use mbe_calls::calls::{Call, Defined, Front, attribute_at, front_of};
+use mbe_rules::table::RuleTable;
+use mbe_rust_text::writing::Writer;
+use mbe_tt::span::Span;
+use mbe_tt::tt::{DelimiterKind, TokenTreesView, TopSubtree, TtElement};
+use std::alloc::{AllocError, Allocator, Global};
+
+/// How many groups and calls may stand in one another where calls are looked for.
+pub const LEVELS: u32 = 1000;
+
+/// Expands the calls of files. Clauses see it by `setting_of` and `state_of`.
+#[derive(Drop)]
+pub struct Expander<'g, A: Allocator + Copy = Global> {
+    alloc: A,
+    settings: Settings,
+    grammar: RuleTable<'g>,
+    scope: Scope<A>,
+    // How many calls may still be expanded.
+    fuel: u32,
+    pub notes: Vec<Note<A>, A>,
+}
+
+impl<'g, A: Allocator + Copy> Expander<'g, A> {
+    /// Knows no macro yet.
+    pub fn new(alloc: A, grammar: RuleTable<'g>, settings: Settings) -> Expander<'g, A> {
+        Expander {
+            alloc,
+            settings,
+            grammar,
+            scope: Scope::new(alloc, settings.edition),
+            fuel: settings.fuel,
+            notes: Vec::new(alloc),
+        }
+    }
+
+    fn note(&mut self, level: Level, span: Span, message: String<A>) -> Result<(), AllocError>
+        ensures setting { OnOk result (setting_of self.new ≡ setting_of self.old) }
+        ensures state { OnOk result (state_of self.new ≡ state_of self.old) }
+    {
+        self.notes.push(Note {
+            level,
+            span,
+            message,
+        })?;
+        Ok(())
+    }
+
+    // Reads a definition, and notes what is wrong with it.
+    fn read(&mut self, defined: Defined<'_, A>, is_wide: bool) -> Result<usize, AllocError>
+        ensures read { OnOk result (IsRead (setting_of self.old).edition
+            (defined_shown defined.entry) is_wide
+            (scope_of self.old.scope) (scope_of self.new.scope)) }
+        ensures number { IfOk result (λ n. n ≡ length (scope_of self.old.scope).definitions) }
+        ensures setting { OnOk result (setting_of self.new ≡ setting_of self.old) }
+        ensures fuel { OnOk result (self.new.fuel ≡ self.old.fuel) }
+    {
+        let (number, fault) = self.scope.read(defined, is_wide)?;
+        if let Some(message) = fault {
+            self.note(Level::Error, defined.name.span, message)?;
+        }
+        Ok(number)
+    }
+
+    /// Reads the definitions of a file, so that paths find those that are exported or in no group, wherever the call is.
+    pub fn define(&mut self, tokens: TokenTreesView<'_, A>) -> Result<(), AllocError> {
+        self.define_in(tokens, true, LEVELS)
+    }
+
+    fn define_in(
+        &mut self,
+        tokens: TokenTreesView<'_, A>,
+        is_top: bool,
+        levels: u32,
+    ) -> Result<(), AllocError> {
+        let mut rest = tokens;
+        let mut is_exported = false;
+        let mut is_used = false;
+        for _ in 0..tokens.flat_len() {
+            match front_of(rest) {
+                Front::End => return Ok(()),
+                Front::Definition(defined) => {
+                    let _number = self.read(defined, is_exported || is_top)?;
+                    rest = defined.rest;
+                    is_exported = false;
+                }
+                Front::Call(call) => rest = call.rest,
+                Front::Tree(tree, after) => {
+                    match attribute_at(rest) {
+                        Some("macro_export") => is_exported = true,
+                        Some("macro_use") => is_used = true,
+                        _ => {}
+                    }
+                    if let TtElement::Subtree(group, inside) = tree
+                        && levels > 0
+                    {
+                        let is_top = is_top && is_used;
+                        self.define_in(inside.remaining(), is_top, levels - 1)?;
+                        if group.delimiter.kind == DelimiterKind::Brace {
+                            is_exported = false;
+                            is_used = false;
+                        }
+                    }
+                    rest = after;
+                }
+            }
+        }
+        Ok(())
+    }
+
+    // What the macro that a call names says.
+    fn rules<'s>(&'s self, call: Call<'_, A>) -> Option<&'s DeclarativeMacro<A>>
+        ensures { option_map (λ m. macro_of m.now) result
+            ≡ named (state_of self.now) (call_shown call.entry) }
+    {
+        self.scope.find(call.name.sym.as_str(), call.is_path)
+    }
+
+    // Whether the limits allow one more call of that name, which a note says otherwise.
+    fn may_expand(&mut self, call: Call<'_, A>, depth: u32) -> Result<bool, AllocError>
+        ensures allows { IfOk result (Allows depth (state_of self.old) (state_of self.new)) }
+        ensures setting { OnOk result (setting_of self.new ≡ setting_of self.old) }
+    {
+        let name = call.name.sym.as_str();
+        if depth == 0 {
+            // `--once` has this limit, and is no error.
+            if self.settings.depth > 1 {
+                let limit = self.settings.depth;
+                let message = format!(in self.alloc;
+                    "recursion limit of {limit} reached while expanding `{name}!`"
+                )?;
+                self.note(Level::Error, call.name.span, message)?;
+            }
+            return Ok(false);
+        }
+        if self.fuel == 0 {
+            let limit = self.settings.fuel;
+            let message = format!(in self.alloc; "more than {limit} calls, at `{name}!`")?;
+            self.note(Level::Error, call.name.span, message)?;
+            return Ok(false);
+        }
+        self.fuel -= 1;
+        Ok(true)
+    }
+
+    // What a call expands to, if its macro is found, a rule fits, and the limits allow it.
+    fn expansion(
+        &mut self,
+        call: Call<'_, A>,
+        depth: u32,
+        levels: u32,
+    ) -> Result<Option<TopSubtree<A>>, AllocError>
+        ensures tries { IfOk result (Tries (setting_of self.old) (call_shown call.entry)
+            levels depth (state_of self.old) (state_of self.new)) }
+        ensures setting { OnOk result (setting_of self.new ≡ setting_of self.old) }
+    {
+        if levels == 0 {
+            return Ok(None);
+        }
+        if self.rules(call).is_none() {
+            return Ok(None);
+        }
+        if !self.may_expand(call, depth)? {
+            return Ok(None);
+        }
+        self.applied(call)
+    }
+
+    // What the rules that a call names make of its argument; nothing where they have a fault, or none fits, as a note says.
+    fn applied(&mut self, call: Call<'_, A>) -> Result<Option<TopSubtree<A>>, AllocError>
+        requires found { IsSome (named (state_of self.old) (call_shown call)) }
+        ensures applies { IfOk result (Applies (setting_of self.old) (call_shown call.entry)
+            (state_of self.old)) }
+        ensures setting { OnOk result (setting_of self.new ≡ setting_of self.old) }
+        ensures state { OnOk result (state_of self.new ≡ state_of self.old) }
+    {
+        let Some(rules) = self.rules(call) else {
+            return Ok(None);
+        };
+        if rules.err().is_some() {
+            return Ok(None);
+        }
+        let argument = buffer_of(self.alloc, call.group.delimiter, call.argument)?;
+        let ValueResult { value, err } = rules.expand(
+            self.alloc,
+            &self.grammar,
+            &argument,
+            |span| span,
+            MacroCallStyle::FnLike,
+            call.name.span,
+        )?;
+        if let Some(error) = err {
+            self.note_fault(call, &error)?;
+            return Ok(None);
+        }
+        let (tree, _rule) = value;
+        self.note_step(call, &tree)?;
+        Ok(Some(tree))
+    }
+
+    // Notes why a call has no expansion.
+    fn note_fault(&mut self, call: Call<'_, A>, error: &ExpandError<A>) -> Result<(), AllocError>
+        ensures setting { OnOk result (setting_of self.new ≡ setting_of self.old) }
+        ensures state { OnOk result (state_of self.new ≡ state_of self.old) }
+    {
+        let name = call.name.sym.as_str();
+        let (span, kind) = &*error.inner;
+        let message = format!(in self.alloc; "{kind} in the call of `{name}!`")?;
+        self.note(Level::Error, *span, message)
+    }
+
+    // Notes what a call expands to, if steps are traced.
+    fn note_step(&mut self, call: Call<'_, A>, tree: &TopSubtree<A>) -> Result<(), AllocError>
+        ensures setting { OnOk result (setting_of self.new ≡ setting_of self.old) }
+        ensures state { OnOk result (state_of self.new ≡ state_of self.old) }
+    {
+        if !self.settings.is_traced {
+            return Ok(());
+        }
+        let name = call.name.sym.as_str();
+        let text = text_of(self.alloc, tree.iter().remaining(), 0)?;
+        let message = format!(in self.alloc; "`{name}!` expands to `{text}`")?;
+        self.note(Level::Note, call.name.span, message)
+    }
+}
+
+// The text of these trees, with so many braces around it.
+fn text_of<A: Allocator + Copy>(
+    alloc: A,
+    tokens: TokenTreesView<'_, A>,
+    depth: usize,
+) -> Result<String<A>, AllocError>
+    ensures { IfOk result (λ s. string_bytes s ≡ text.text_of depth (trees tokens.entry)) }
+{
+    let mut writer = Writer::new(alloc, depth);
+    writer.trees(tokens)?;
+    Ok(writer.into_text())
+}

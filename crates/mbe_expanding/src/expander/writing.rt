@@ -1,0 +1,284 @@
+// Trees with their calls expanded.
+ghost use Rattle.std.specs.Prelude.{◌≡◌, ◌<◌, length, IfOk, OnOk};
+ghost use Rattle.mbe_tt.specs.Views.View.{trees};
+ghost use Rattle.mbe_calls.specs.Fronts.{ACall, Definition, front};
+ghost use Rattle.mbe_calls.specs.Shown.{call_shown, defined_shown};
+ghost use Rattle.mbe_expanding.specs.Calls.{after_group};
+ghost use Rattle.mbe_expanding.specs.Fitting.{IsLeft};
+ghost use Rattle.mbe_expanding.specs.Shown.{setting_of, state_of};
+
+use crate::expander::Expander;
+use crate::fits::{
+    Before, fit_of, from_group, left_after, left_by, left_by_call, part_of, semicolon, up_to,
+};
+use mbe_calls::calls::{Call, Defined, Front, front_of, is_standard};
+use mbe_tt::tt::{
+    Delimiter, DelimiterKind, TokenTreesView, TopSubtree, TopSubtreeBuilder, TtElement,
+};
+use std::alloc::{AllocError, Allocator};
+
+impl<A: Allocator + Copy> Expander<'_, A> {
+    // Writes trees with their calls expanded.
+    #[cycle(writing)]
+    #[tactic(auto, using(crate::proofs::GroupLemmas::length_put, crate::proofs::GroupLemmas::length_closed))]
+    pub(crate) fn write(
+        &mut self,
+        builder: &mut TopSubtreeBuilder<A>,
+        tokens: TokenTreesView<'_, A>,
+        depth: u32,
+        levels: u32,
+    ) -> Result<(), AllocError>
+        requires some { 0 < length builder.old }
+        ensures groups { OnOk result (length builder.new ≡ length builder.old) }
+    {
+        let mut rest = tokens;
+        let mut last = Before::Statement;
+        for _ in 0..tokens.flat_len() {
+            match front_of(rest) {
+                Front::End => return Ok(()),
+                Front::Definition(defined) => {
+                    self.write_definition(builder, rest, defined)?;
+                    rest = defined.rest;
+                    last = Before::Statement;
+                }
+                Front::Call(call) => {
+                    rest = self.write_call(builder, rest, call, last, depth, levels)?;
+                    last = left_by_call(call, rest);
+                }
+                Front::Tree(tree, after) => {
+                    self.write_tree(builder, tree, depth, levels)?;
+                    last = left_by(rest);
+                    rest = after;
+                }
+            }
+        }
+        Ok(())
+    }
+
+    // Writes a definition as it is, and reads it.
+    #[tactic(auto, using(crate::proofs::GroupLemmas::length_put))]
+    fn write_definition(
+        &mut self,
+        builder: &mut TopSubtreeBuilder<A>,
+        tokens: TokenTreesView<'_, A>,
+        defined: Defined<'_, A>,
+    ) -> Result<(), AllocError>
+        requires front { front (trees tokens) ≡ Definition (defined_shown defined) }
+        requires some { 0 < length builder.old }
+        ensures groups { OnOk result (length builder.new ≡ length builder.old) }
+    {
+        let number = self.read(defined, false)?;
+        self.scope.show(number)?;
+        builder.extend_with_tt(up_to(tokens, defined.rest))
+    }
+
+    // Writes a tree with the calls in it expanded.
+    #[cycle(writing)]
+    #[tactic(auto, using(crate::proofs::GroupLemmas::length_put, crate::proofs::GroupLemmas::length_closed))]
+    fn write_tree(
+        &mut self,
+        builder: &mut TopSubtreeBuilder<A>,
+        tree: TtElement<'_, A>,
+        depth: u32,
+        levels: u32,
+    ) -> Result<(), AllocError>
+        requires some { 0 < length builder.old }
+        ensures groups { OnOk result (length builder.new ≡ length builder.old) }
+    {
+        match tree {
+            TtElement::Leaf(leaf) => builder.push(leaf.clone()?),
+            TtElement::Subtree(group, inside) => {
+                self.write_group(builder, group.delimiter, inside.remaining(), depth, levels)
+            }
+        }
+    }
+
+    // Writes a group with the calls in it expanded.
+    #[cycle(writing)]
+    #[tactic(auto, using(crate::proofs::GroupLemmas::length_put, crate::proofs::GroupLemmas::length_closed))]
+    fn write_group(
+        &mut self,
+        builder: &mut TopSubtreeBuilder<A>,
+        delimiter: Delimiter,
+        inside: TokenTreesView<'_, A>,
+        depth: u32,
+        levels: u32,
+    ) -> Result<(), AllocError>
+        requires some { 0 < length builder.old }
+        ensures groups { OnOk result (length builder.new ≡ length builder.old) }
+    {
+        let mark = self.scope.enter();
+        builder.open(delimiter.kind, delimiter.opening)?;
+        self.write_inside(builder, inside, depth, levels)?;
+        builder.close(delimiter.close);
+        self.leave(delimiter.kind, mark);
+        Ok(())
+    }
+
+    // Writes what stands in a group or an expansion; as it is, if that is too deep.
+    #[cycle(writing)]
+    #[tactic(auto, using(crate::proofs::GroupLemmas::length_put, crate::proofs::GroupLemmas::length_closed))]
+    fn write_inside(
+        &mut self,
+        builder: &mut TopSubtreeBuilder<A>,
+        tokens: TokenTreesView<'_, A>,
+        depth: u32,
+        levels: u32,
+    ) -> Result<(), AllocError>
+        requires some { 0 < length builder.old }
+        ensures groups { OnOk result (length builder.new ≡ length builder.old) }
+    {
+        if levels == 0 {
+            return builder.extend_with_tt(tokens);
+        }
+        self.write(builder, tokens, depth, levels - 1)
+    }
+
+    // Writes what a call becomes, and returns what is left after it.
+    #[cycle(writing)]
+    #[tactic(auto, using(crate::proofs::GroupLemmas::length_put, crate::proofs::GroupLemmas::length_closed))]
+    fn write_call<'t>(
+        &mut self,
+        builder: &mut TopSubtreeBuilder<A>,
+        tokens: TokenTreesView<'t, A>,
+        call: Call<'t, A>,
+        last: Before,
+        depth: u32,
+        levels: u32,
+    ) -> Result<TokenTreesView<'t, A>, AllocError>
+        requires front { front (trees tokens) ≡ ACall (call_shown call) }
+        requires some { 0 < length builder.old }
+        ensures groups { OnOk result (length builder.new ≡ length builder.old) }
+    {
+        match self.expansion(call, depth, levels)? {
+            Some(tree) => { self.write_expansion(builder, &tree, call, last, depth - 1, levels) }
+            None => {
+                self.write_kept(builder, tokens, call, depth, levels)?;
+                Ok(call.rest)
+            }
+        }
+    }
+
+    // Writes a call that stays. In the argument of a macro of the standard library calls are expanded.
+    #[cycle(writing)]
+    #[tactic(auto, using(crate::proofs::GroupLemmas::length_put, crate::proofs::GroupLemmas::length_closed))]
+    fn write_kept(
+        &mut self,
+        builder: &mut TopSubtreeBuilder<A>,
+        tokens: TokenTreesView<'_, A>,
+        call: Call<'_, A>,
+        depth: u32,
+        levels: u32,
+    ) -> Result<(), AllocError>
+        requires front { front (trees tokens) ≡ ACall (call_shown call) }
+        requires some { 0 < length builder.old }
+        ensures groups { OnOk result (length builder.new ≡ length builder.old) }
+    {
+        if !is_standard(call.name.sym.as_str()) {
+            return copy_call(builder, tokens, call);
+        }
+        copy_head(builder, tokens, call)?;
+        self.write_group(builder, call.group.delimiter, call.argument, depth, levels)
+    }
+
+    // Writes an expansion in place of its call, and returns what is left after that.
+    #[cycle(writing)]
+    #[tactic(auto, using(crate::proofs::GroupLemmas::length_put, crate::proofs::GroupLemmas::length_closed))]
+    pub(crate) fn write_expansion<'t>(
+        &mut self,
+        builder: &mut TopSubtreeBuilder<A>,
+        tree: &TopSubtree<A>,
+        call: Call<'t, A>,
+        last: Before,
+        depth: u32,
+        levels: u32,
+    ) -> Result<TokenTreesView<'t, A>, AllocError>
+        requires some { 0 < length builder.old }
+        ensures left { IfOk result (λ rest. IsLeft (trees call.entry.rest) (trees rest)) }
+        ensures groups { OnOk result (length builder.new ≡ length builder.old) }
+    {
+        let delimiter = call.group.delimiter;
+        let part = part_of(tree.iter().remaining(), last);
+        let fit = fit_of(self.alloc, &self.grammar, part, call, last)?;
+        self.write_wrapped(builder, delimiter, fit.is_wrapped, part, depth, levels)?;
+        end(builder, delimiter, fit.gets_semicolon)?;
+        Ok(left_after(call.rest, fit.takes_semicolon))
+    }
+
+    // Writes the trees of an expansion, perhaps in parentheses.
+    #[cycle(writing)]
+    #[tactic(auto, using(crate::proofs::GroupLemmas::length_put, crate::proofs::GroupLemmas::length_closed))]
+    fn write_wrapped(
+        &mut self,
+        builder: &mut TopSubtreeBuilder<A>,
+        delimiter: Delimiter,
+        is_wrapped: bool,
+        tokens: TokenTreesView<'_, A>,
+        depth: u32,
+        levels: u32,
+    ) -> Result<(), AllocError>
+        requires some { 0 < length builder.old }
+        ensures groups { OnOk result (length builder.new ≡ length builder.old) }
+    {
+        if !is_wrapped {
+            return self.write_inside(builder, tokens, depth, levels);
+        }
+        builder.open(DelimiterKind::Parenthesis, delimiter.opening)?;
+        self.write_inside(builder, tokens, depth, levels)?;
+        builder.close(delimiter.close);
+        Ok(())
+    }
+
+    // From here on, names don't find what a group of braces defined.
+    pub(crate) fn leave(&mut self, kind: DelimiterKind, mark: usize)
+        ensures state { state_of self.new ≡ after_group kind mark (state_of self.old) }
+        ensures setting { setting_of self.new ≡ setting_of self.old }
+    {
+        match kind {
+            DelimiterKind::Brace => self.scope.leave(mark),
+            DelimiterKind::Parenthesis | DelimiterKind::Bracket | DelimiterKind::Invisible => {}
+        }
+    }
+}
+
+// Writes a call as it is.
+#[tactic(auto, using(crate::proofs::GroupLemmas::length_put))]
+fn copy_call<A: Allocator>(
+    builder: &mut TopSubtreeBuilder<A>,
+    tokens: TokenTreesView<'_, A>,
+    call: Call<'_, A>,
+) -> Result<(), AllocError>
+    requires front { front (trees tokens) ≡ ACall (call_shown call) }
+    ensures groups { OnOk result (length builder.new ≡ length builder.old) }
+{
+    builder.extend_with_tt(up_to(tokens, call.rest))
+}
+
+// Writes what stands before the group of a call.
+#[tactic(auto, using(crate::proofs::GroupLemmas::length_put))]
+fn copy_head<A: Allocator>(
+    builder: &mut TopSubtreeBuilder<A>,
+    tokens: TokenTreesView<'_, A>,
+    call: Call<'_, A>,
+) -> Result<(), AllocError>
+    requires front { front (trees tokens) ≡ ACall (call_shown call) }
+    ensures groups { OnOk result (length builder.new ≡ length builder.old) }
+{
+    builder.extend_with_tt(up_to(tokens, from_group(tokens)))
+}
+
+// Writes a `;` at the end of an expansion, if it gets one.
+#[tactic(auto, using(crate::proofs::GroupLemmas::length_put))]
+fn end<A: Allocator>(
+    builder: &mut TopSubtreeBuilder<A>,
+    delimiter: Delimiter,
+    gets_semicolon: bool,
+) -> Result<(), AllocError>
+    ensures groups { OnOk result (length builder.new ≡ length builder.old) }
+{
+    if gets_semicolon {
+        builder.push(semicolon(delimiter.close))
+    } else {
+        Ok(())
+    }
+}

@@ -1,0 +1,8 @@
+// Macros of Rust files: where they are defined and called, and what their calls expand to.
+#![tactic(auto)]
+
+pub mod expander;
+mod fits;
+pub mod notes;
+pub mod scope;
+pub mod settings;

@@ -1,0 +1,281 @@
+// Which definition a call names.
+ghost use Rattle.std.specs.Prelude.{◌≡◌, ◌∷◌, [], length, IfOk, OnOk, option_map, false};
+ghost use Rattle.std.specs.List.{slice_get};
+ghost use Rattle.mbe_tt.specs.Views.View.{trees};
+ghost use Rattle.mbe.specs.MacroViews.{macro_of};
+ghost use Rattle.mbe_calls.specs.Shown.{defined_shown, form_shown};
+ghost use Rattle.mbe_expanding.specs.Scopes as spec;
+ghost use Rattle.mbe_semantics.specs.Expansion.ReadAs.{IsReadAs, IsReadAsMacro};
+ghost use Rattle.mbe_expanding.specs.Scopes.{IsEdition, IsRead, IsReadIn, is_found, is_placed, with_shown, with_left};
+ghost use Rattle.mbe_expanding.specs.Shown.{definition_of, scope_of};
+
+use mbe::DeclarativeMacro;
+use mbe_calls::calls::{Defined, Form};
+use mbe_tt::span::{Edition, Span};
+use mbe_tt::tt::{Delimiter, TokenTreesView, TopSubtree, TopSubtreeBuilder};
+use std::alloc::{AllocError, Allocator, Global};
+
+/// A macro that a file or an expansion defines.
+#[derive(Drop)]
+pub struct Definition<A: Allocator = Global> {
+    name: String<A>,
+    rules: DeclarativeMacro<A>,
+    // Whether it is found by a path, and from other files.
+    is_wide: bool,
+    // Where its name stands.
+    place: Span,
+}
+
+/// The macros that were read, and those of them that a name finds at present: what stands before it in the text, in
+/// the groups around it. Clauses see it by `scope_of`.
+#[derive(Drop)]
+pub struct Scope<A: Allocator + Copy = Global> {
+    alloc: A,
+    pub edition: Edition,
+    definitions: Vec<Definition<A>, A>,
+    visible: Vec<usize, A>,
+}
+
+// The number in that place, where there is one.
+fn number_at(numbers: &[usize], place: usize) -> Option<usize>
+    ensures { result ≡ slice_get numbers.now place }
+{
+    numbers.get(place).copied()
+}
+
+/// A buffer of these trees in a group of that delimiter.
+pub fn buffer_of<A: Allocator + Copy>(
+    alloc: A,
+    delimiter: Delimiter,
+    tokens: TokenTreesView<'_, A>,
+) -> Result<TopSubtree<A>, AllocError>
+    ensures { IfOk result (λ tree. tree ≡ (delimiter, trees tokens.entry)) }
+{
+    let mut builder = TopSubtreeBuilder::new(alloc, delimiter)?;
+    builder.extend_with_tt(tokens)?;
+    Ok(builder.build())
+}
+
+// The rules of a `macro_rules!` definition.
+fn rules_in<A: Allocator + Copy>(
+    alloc: A,
+    edition: Edition,
+    body: &TopSubtree<A>,
+) -> Result<DeclarativeMacro<A>, AllocError>
+    ensures { IfOk result (λ m. IsReadAs (IsEdition edition) body.now.1 (macro_of m)) }
+{
+    DeclarativeMacro::parse_macro_rules(alloc, body, |_context| edition)
+}
+
+// The rules of a `macro` definition.
+fn macro_in<A: Allocator + Copy>(
+    alloc: A,
+    edition: Edition,
+    arguments: Option<TopSubtree<A>>,
+    body: &TopSubtree<A>,
+) -> Result<DeclarativeMacro<A>, AllocError>
+    ensures { IfOk result (λ m. IsReadAsMacro (IsEdition edition)
+        (option_map (λ t. t.1) arguments) body.now.1 (macro_of m)) }
+{
+    DeclarativeMacro::parse_macro2(alloc, arguments.as_ref(), body, |_context| edition)
+}
+
+// The rules of a definition.
+fn rules_of<A: Allocator + Copy>(
+    alloc: A,
+    edition: Edition,
+    defined: Defined<'_, A>,
+) -> Result<DeclarativeMacro<A>, AllocError>
+    ensures { IfOk result (λ m. IsReadIn edition (form_shown defined.entry.form)
+        (defined_shown defined.entry) (macro_of m)) }
+{
+    let body = buffer_of(alloc, defined.group.delimiter, defined.rules)?;
+    match defined.form {
+        Form::Rules => rules_in(alloc, edition, &body),
+        Form::Body => macro_in(alloc, edition, None, &body),
+        Form::Arguments(group, pattern) => {
+            let pattern = buffer_of(alloc, group.delimiter, pattern)?;
+            macro_in(alloc, edition, Some(pattern), &body)
+        }
+    }
+}
+
+impl<A: Allocator + Copy> Scope<A> {
+    /// No macro yet. Definitions are read as those of that edition.
+    pub fn new(alloc: A, edition: Edition) -> Scope<A>
+        ensures scope { scope_of result ≡ record { definitions = []; visible = [] } }
+        ensures edition { result.edition ≡ edition }
+    {
+        Scope {
+            alloc,
+            edition,
+            definitions: Vec::new(alloc),
+            visible: Vec::new(alloc),
+        }
+    }
+
+    // What is wrong with a definition of that name.
+    fn fault_of(
+        &self,
+        name: &str,
+        rules: &DeclarativeMacro<A>,
+    ) -> Result<Option<String<A>>, AllocError> {
+        match rules.err() {
+            Some(error) => Ok(Some(format!(in self.alloc; "macro `{name}`: {error}")?)),
+            None => Ok(None),
+        }
+    }
+
+    /// Reads a definition, which no name finds yet. It returns its number, and what is wrong with it.
+    pub fn read(
+        &mut self,
+        defined: Defined<'_, A>,
+        is_wide: bool,
+    ) -> Result<(usize, Option<String<A>>), AllocError>
+        ensures read { OnOk result (IsRead self.old.edition (defined_shown defined.entry) is_wide
+            (scope_of self.old) (scope_of self.new)) }
+        ensures number { IfOk result (λ r. r.0 ≡ length (scope_of self.old).definitions) }
+        ensures edition { OnOk result (self.new.edition ≡ self.old.edition) }
+    {
+        let rules = rules_of(self.alloc, self.edition, defined)?;
+        let fault = self.fault_of(defined.name.sym.as_str(), &rules)?;
+        let number = self.definitions.len();
+        let name = String::from_str(self.alloc, defined.name.sym.as_str())?;
+        self.definitions.push(Definition {
+            name,
+            rules,
+            is_wide,
+            place: defined.name.span,
+        })?;
+        Ok((number, fault))
+    }
+
+    // The definition of that number.
+    fn definition(&self, number: usize) -> Option<&Definition<A>>
+        ensures { option_map (λ d. definition_of d.now) result
+            ≡ spec.definition_at (scope_of self.now) number }
+    {
+        self.definitions.get(number)
+    }
+
+    /// The number of the definition that was read at that place in a file.
+    pub fn placed(&self, defined: Defined<'_, A>) -> Option<usize>
+        ensures { result ≡ spec.placed (scope_of self.now) (defined_shown defined.entry).name.span }
+    {
+        let place = defined.name.span;
+        let mut left = self.definitions.len();
+        'numbers: while left > 0 {
+            left -= 1;
+            if self.is_placed(left, place) {
+                return Some(left);
+            }
+        }
+        None
+    }
+
+    // Whether the name of that definition stands there.
+    fn is_placed(&self, number: usize, place: Span) -> bool
+        ensures { result ≡ is_placed place (spec.definition_at (scope_of self.now) number) }
+    {
+        match self.definition(number) {
+            Some(found) => found.place.file == place.file && found.place.start == place.start,
+            None => false,
+        }
+    }
+
+    /// From here on, names find that definition.
+    pub fn show(&mut self, number: usize) -> Result<(), AllocError>
+        ensures shown { OnOk result (scope_of self.new ≡ with_shown number (scope_of self.old)) }
+        ensures edition { OnOk result (self.new.edition ≡ self.old.edition) }
+    {
+        self.visible.push(number)?;
+        Ok(())
+    }
+
+    /// What `leave` needs at the end of a group that begins here.
+    pub fn enter(&self) -> usize
+        ensures { result ≡ length (scope_of self.now).visible }
+    {
+        self.visible.len()
+    }
+
+    /// From here on, names don't find what a group defined.
+    pub fn leave(&mut self, mark: usize)
+        ensures left { scope_of self.new ≡ with_left mark (scope_of self.old) }
+        ensures edition { self.new.edition ≡ self.old.edition }
+    {
+        self.visible.truncate(mark);
+    }
+
+    // Whether that definition has the name, and is wide where it has to be.
+    fn is_found(&self, number: usize, name: &str, only_wide: bool) -> bool
+        ensures { result ≡ is_found name.now only_wide
+            (spec.definition_at (scope_of self.now) number) }
+    {
+        match self.definition(number) {
+            Some(found) => (found.is_wide || !only_wide) && found.name.as_str() == name,
+            None => false,
+        }
+    }
+
+    // Whether the definition that is visible in that place has the name.
+    fn is_seen(&self, place: usize, name: &str) -> bool
+        ensures { result ≡ is_found name.now false (spec.seen_at (scope_of self.now) place) }
+    {
+        match self.visible.get(place) {
+            Some(number) => self.is_found(*number, name, false),
+            None => false,
+        }
+    }
+
+    // The number of the last wide definition of that name.
+    fn wide(&self, name: &str) -> Option<usize>
+        ensures { result ≡ spec.wide (scope_of self.now) name.now }
+    {
+        let mut left = self.definitions.len();
+        'numbers: while left > 0 {
+            left -= 1;
+            if self.is_found(left, name, true) {
+                return Some(left);
+            }
+        }
+        None
+    }
+
+    // The number of the last visible definition of that name.
+    fn near(&self, name: &str) -> Option<usize>
+        ensures { result ≡ spec.near (scope_of self.now) name.now }
+    {
+        let mut left = self.visible.len();
+        'places: while left > 0 {
+            left -= 1;
+            if self.is_seen(left, name) {
+                return number_at(self.visible.as_slice(), left);
+            }
+        }
+        None
+    }
+
+    /// The number of the definition that a call names: for a name, the last one that it finds; for a path, and for a name that
+    /// finds none, the last wide one.
+    pub fn lookup(&self, name: &str, is_path: bool) -> Option<usize>
+        ensures { result ≡ spec.lookup (scope_of self.now) name.now is_path }
+    {
+        if is_path {
+            return self.wide(name);
+        }
+        match self.near(name) {
+            Some(number) => Some(number),
+            None => self.wide(name),
+        }
+    }
+
+    /// What the macro that a call names says.
+    pub fn find<'s>(&'s self, name: &str, is_path: bool) -> Option<&'s DeclarativeMacro<A>>
+        ensures { option_map (λ m. macro_of m.now) result
+            ≡ spec.rules_found (scope_of self.now) name.now is_path }
+    {
+        let number = self.lookup(name, is_path)?;
+        Some(&self.definition(number)?.rules)
+    }
+}

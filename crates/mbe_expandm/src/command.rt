@@ -1,0 +1,215 @@
+// A run of the program.
+use crate::arguments::{Asked, Options, USAGE, VERSION, read_words};
+use crate::files::{SourceFile, source_file};
+use crate::limits::recursion_limit;
+use crate::messages::message;
+use crate::places::{Position, place_of};
+use mbe_expanding::expander::Expander;
+use mbe_expanding::notes::{Level, Note};
+use mbe_calls::splicing::Replacement;
+use mbe_rust::fragments::rust_rules;
+use mbe_text::symbols::SymbolTable;
+use std::alloc::{AllocError, Global};
+use std::io::{self, Read};
+use std::rt::{Env, Files};
+use std::{env, fs};
+
+/// All known calls are expanded.
+pub const DONE: u8 = 0;
+
+/// Some call isn't expanded, or some definition or file is refused.
+pub const ERRORS: u8 = 1;
+
+/// Words or files that aren't right.
+pub const WRONG: u8 = 2;
+
+/// Runs on the words after the program's name, and returns the exit status.
+pub fn run_command<R: Env + Files + Input + Print + Eprint + AllocGlobal>(rt: &R) -> u8 {
+    match run(rt) {
+        Ok(status) => status,
+        Err(error) => {
+            let _ = eprintln!(rt; "error: {error}");
+            WRONG
+        }
+    }
+}
+
+fn run<R: Env + Files + Input + Print + Eprint + AllocGlobal>(rt: &R) -> io::Result<u8> {
+    let mut words = Vec::new(rt.alloc());
+    for word in env::args(rt)?.skip(1) {
+        words.push(word)?;
+    }
+    match read_words(rt.alloc(), words.as_slice())? {
+        Asked::Run(options) => run_files(rt, &options),
+        Asked::Help => {
+            println!(rt; "{USAGE}")?;
+            Ok(DONE)
+        }
+        Asked::Version => {
+            println!(rt; "{VERSION}")?;
+            Ok(DONE)
+        }
+        Asked::Wrong(word) => {
+            eprintln!(rt; "error: unexpected argument `{word}`\n\n{USAGE}")?;
+            Ok(WRONG)
+        }
+        Asked::Missing(word) => {
+            eprintln!(rt; "error: a value is missing after `{word}`\n\n{USAGE}")?;
+            Ok(WRONG)
+        }
+        Asked::NoFile => {
+            eprintln!(rt; "error: no file is named\n\n{USAGE}")?;
+            Ok(WRONG)
+        }
+    }
+}
+
+// The text of the file of that name, if it is shorter than 2^32 bytes.
+fn text_of<R: Files + Input + AllocGlobal>(rt: &R, name: &str) -> io::Result<String> {
+    let text = if name == "-" {
+        io::read_to_string(rt.alloc(), rt.reader().take(1 << 32))?
+    } else {
+        io::read_to_string(rt.alloc(), fs::open(rt, name)?.take(1 << 32))?
+    };
+    if text.len() > u32::MAX as usize {
+        return Err(io::Error::from(io::ErrorKind::FileTooLarge));
+    }
+    Ok(text)
+}
+
+fn run_files<R: Files + Input + Print + Eprint + AllocGlobal>(
+    rt: &R,
+    options: &Options<'_>,
+) -> io::Result<u8> {
+    let mut texts = Vec::new(rt.alloc());
+    for name in &options.names {
+        match text_of(rt, *name) {
+            Ok(text) => texts.push(text)?,
+            Err(error) => {
+                eprintln!(rt; "error: couldn't read `{name}`: {error}")?;
+                return Ok(WRONG);
+            }
+        }
+    }
+    expand(rt, options, texts.as_slice())
+}
+
+fn expand<R: Files + Print + Eprint + AllocGlobal>(
+    rt: &R,
+    options: &Options<'_>,
+    texts: &[String],
+) -> io::Result<u8> {
+    let alloc = rt.alloc();
+    let mut symbols = SymbolTable::new(alloc);
+    let mut files = Vec::new(alloc);
+    let mut notes = Vec::new(alloc);
+    for (number, text) in texts.iter().enumerate() {
+        let name = options.names.get(number).copied().unwrap_or("");
+        let number = u32::try_from(number).unwrap_or(u32::MAX);
+        let edition = options.edition;
+        let text = text.as_str();
+        let file = source_file(alloc, &mut symbols, &mut notes, edition, name, text, number)?;
+        files.push(file)?;
+    }
+    let grammar = rust_rules(options.edition, &[]);
+    let settings = options.settings(limit_of(&files));
+    let mut expander = Expander::new(alloc, grammar, settings);
+    for file in &files {
+        if let Some(tree) = &file.tree {
+            expander.define(tree.iter().remaining())?;
+        }
+    }
+    write_files(rt, options, &mut expander, &files)?;
+    let has_errors = say(rt, &files, &notes)? | say(rt, &files, &expander.notes)?;
+    Ok(if has_errors { ERRORS } else { DONE })
+}
+
+// The limit of depth that the first file sets that sets one.
+fn limit_of(files: &[SourceFile<'_>]) -> Option<u32> {
+    for file in files {
+        if let Some(tree) = &file.tree
+            && let Some(limit) = recursion_limit(tree.iter().remaining())
+        {
+            return Some(limit);
+        }
+    }
+    None
+}
+
+// Prints the last file with its calls expanded, or writes each into the folder that is asked for.
+fn write_files<R: Files + Print + AllocGlobal>(
+    rt: &R,
+    options: &Options<'_>,
+    expander: &mut Expander<'_>,
+    files: &[SourceFile<'_>],
+) -> io::Result<()> {
+    let Some(folder) = options.write else {
+        if let Some(file) = files.last() {
+            print!(rt; "{}", expanded(rt.alloc(), options.call, expander, file)?)?;
+        }
+        return Ok(());
+    };
+    for file in files {
+        let text = expanded(rt.alloc(), options.call, expander, file)?;
+        let name = file.name.rsplit_once('/').map_or(file.name, |(_, name)| name);
+        let path = format!(in rt.alloc(); "{folder}/{name}")?;
+        fs::write(rt, path.as_str(), text.as_str())?;
+    }
+    Ok(())
+}
+
+// A file's text with its calls expanded, or what the call at that position becomes.
+fn expanded(
+    alloc: Global,
+    call: Option<Position>,
+    expander: &mut Expander<'_>,
+    file: &SourceFile<'_>,
+) -> Result<String, AllocError> {
+    let Some(tree) = &file.tree else {
+        return String::from_str(alloc, file.text);
+    };
+    let tokens = tree.iter().remaining();
+    match call {
+        None => expander.expanded(file.text, tokens),
+        Some(position) => {
+            let replacements = expander.replacements(file.text, tokens)?;
+            becomes(alloc, position, file.text, replacements.as_slice())
+        }
+    }
+}
+
+// What the calls at that position become, a line for each.
+fn becomes(
+    alloc: Global,
+    position: Position,
+    text: &str,
+    replacements: &[Replacement],
+) -> Result<String, AllocError> {
+    let mut found = String::new(alloc);
+    for replacement in replacements {
+        if position.is_at(place_of(text, replacement.start)) {
+            found.push_str(replacement.text.as_str())?;
+            found.push('\n')?;
+        }
+    }
+    Ok(found)
+}
+
+// Says the notes on standard error, and returns whether there is an error among them.
+fn say<R: Eprint + AllocGlobal>(
+    rt: &R,
+    files: &[SourceFile<'_>],
+    notes: &[Note],
+) -> io::Result<bool> {
+    let mut has_errors = false;
+    for note in notes {
+        let (name, text) = match files.get(note.span.file as usize) {
+            Some(file) => (file.name, file.text),
+            None => ("", ""),
+        };
+        let text = message(rt.alloc(), note, name, text)?;
+        eprint!(rt; "{text}")?;
+        has_errors |= note.level == Level::Error;
+    }
+    Ok(has_errors)
+}
