@@ -4,9 +4,9 @@ use crate::files::{SourceFile, source_file};
 use crate::limits::recursion_limit;
 use crate::messages::message;
 use crate::places::{Position, place_of};
+use mbe_calls::splicing::{Replacement, splice};
 use mbe_expanding::expander::Expander;
 use mbe_expanding::notes::{Level, Note};
-use mbe_calls::splicing::Replacement;
 use mbe_rust::fragments::rust_rules;
 use mbe_text::symbols::SymbolTable;
 use std::alloc::{AllocError, Global};
@@ -119,9 +119,13 @@ fn expand<R: Files + Print + Eprint + AllocGlobal>(
             expander.define(tree.iter().remaining())?;
         }
     }
-    write_files(rt, options, &mut expander, &files)?;
+    let is_written = write_files(rt, options, &mut expander, &files)?;
     let has_errors = say(rt, &files, &notes)? | say(rt, &files, &expander.notes)?;
-    Ok(if has_errors { ERRORS } else { DONE })
+    Ok(match is_written {
+        false => WRONG,
+        true if has_errors => ERRORS,
+        true => DONE,
+    })
 }
 
 // The limit of depth that the first file sets that sets one.
@@ -136,29 +140,36 @@ fn limit_of(files: &[SourceFile<'_>]) -> Option<u32> {
     None
 }
 
-// Prints the last file with its calls expanded, or writes each into the folder that is asked for.
-fn write_files<R: Files + Print + AllocGlobal>(
+// Prints the last file with its calls expanded, or writes each into the folder that is asked for; and returns whether they
+// are written.
+fn write_files<R: Files + Print + Eprint + AllocGlobal>(
     rt: &R,
     options: &Options<'_>,
     expander: &mut Expander<'_>,
     files: &[SourceFile<'_>],
-) -> io::Result<()> {
+) -> io::Result<bool> {
     let Some(folder) = options.write else {
         if let Some(file) = files.last() {
             print!(rt; "{}", expanded(rt.alloc(), options.call, expander, file)?)?;
         }
-        return Ok(());
+        return Ok(true);
     };
     for file in files {
         let text = expanded(rt.alloc(), options.call, expander, file)?;
-        let name = file.name.rsplit_once('/').map_or(file.name, |(_, name)| name);
+        let name = file
+            .name
+            .rsplit_once('/')
+            .map_or(file.name, |(_, name)| name);
         let path = format!(in rt.alloc(); "{folder}/{name}")?;
-        fs::write(rt, path.as_str(), text.as_str())?;
+        if let Err(error) = fs::write(rt, path.as_str(), text.as_str()) {
+            eprintln!(rt; "error: couldn't write `{path}`: {error}")?;
+            return Ok(false);
+        }
     }
-    Ok(())
+    Ok(true)
 }
 
-// A file's text with its calls expanded, or what the call at that position becomes.
+// A file's text with its calls expanded, or what the calls at that position become. A text without trees stays.
 fn expanded(
     alloc: Global,
     call: Option<Position>,
@@ -168,13 +179,14 @@ fn expanded(
     let Some(tree) = &file.tree else {
         return String::from_str(alloc, file.text);
     };
-    let tokens = tree.iter().remaining();
+    let lines = file.lines.text.as_str();
+    let replacements = expander.replacements(lines, tree.iter().remaining())?;
     match call {
-        None => expander.expanded(file.text, tokens),
-        Some(position) => {
-            let replacements = expander.replacements(file.text, tokens)?;
-            becomes(alloc, position, file.text, replacements.as_slice())
+        None => {
+            let placed = file.lines.placed(alloc, replacements.as_slice())?;
+            splice(alloc, file.text, placed.as_slice())
         }
+        Some(position) => becomes(alloc, position, lines, replacements.as_slice()),
     }
 }
 
@@ -204,7 +216,7 @@ fn say<R: Eprint + AllocGlobal>(
     let mut has_errors = false;
     for note in notes {
         let (name, text) = match files.get(note.span.file as usize) {
-            Some(file) => (file.name, file.text),
+            Some(file) => (file.name, file.lines.text.as_str()),
             None => ("", ""),
         };
         let text = message(rt.alloc(), note, name, text)?;

@@ -5,5 +5,6 @@ pub mod arguments;
 pub mod command;
 pub mod files;
 pub mod limits;
+pub mod lines;
 pub mod messages;
 pub mod places;

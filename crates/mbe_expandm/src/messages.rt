@@ -4,7 +4,11 @@ use mbe_expanding::notes::{Level, Note};
 use std::alloc::{AllocError, Allocator};
 
 // White space as wide as the first so many characters of a line.
-fn margin<A: Allocator + Copy>(alloc: A, line: &str, count: usize) -> Result<String<A>, AllocError> {
+fn margin<A: Allocator + Copy>(
+    alloc: A,
+    line: &str,
+    count: usize,
+) -> Result<String<A>, AllocError> {
     let mut margin = String::new(alloc);
     for char in line.chars().take(count) {
         margin.push(if char == '\t' { '\t' } else { ' ' })?;

@@ -46,7 +46,12 @@ pub fn place_of(text: &str, offset: usize) -> Place<'_> {
     let rest = text.get(start..).unwrap_or("");
     Place {
         line: before.matches('\n').count().saturating_add(1),
-        column: before.get(start..).unwrap_or("").chars().count().saturating_add(1),
+        column: before
+            .get(start..)
+            .unwrap_or("")
+            .chars()
+            .count()
+            .saturating_add(1),
         text: rest.split_once('\n').map_or(rest, |(line, _)| line),
     }
 }
