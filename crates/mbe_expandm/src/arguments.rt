@@ -1,4 +1,7 @@
 // The words after the program's name.
+ghost use Rattle.std.specs.Prelude.{◌≡◌, unwrap_or, option_or};
+ghost use Rattle.mbe_expandm.specs.Words.{edition_of};
+
 use crate::places::Position;
 use mbe_expanding::settings::Settings;
 use mbe_tt::span::Edition;
@@ -75,7 +78,9 @@ fn valued_option(word: &str) -> Option<Valued> {
     }
 }
 
-fn edition(word: &str) -> Option<Edition> {
+fn edition(word: &str) -> Option<Edition>
+    ensures { result ≡ edition_of word.now }
+{
     match word {
         "2015" => Some(Edition::Edition2015),
         "2018" => Some(Edition::Edition2018),
@@ -99,7 +104,12 @@ impl<'w, A: Allocator + Copy> Options<'w, A> {
     }
 
     /// How far calls are expanded, where the files set that limit of depth, or none.
-    pub fn settings(&self, limit: Option<u32>) -> Settings {
+    pub fn settings(&self, limit: Option<u32>) -> Settings
+        ensures edition { result.edition ≡ self.now.edition }
+        ensures fuel { result.fuel ≡ self.now.fuel }
+        ensures traced { result.is_traced ≡ self.now.is_traced }
+        ensures depth { result.depth ≡ unwrap_or (option_or self.now.depth limit) 128 }
+    {
         Settings {
             edition: self.edition,
             depth: self.depth.or(limit).unwrap_or(DEPTH),

@@ -1,15 +1,16 @@
 // A run of the program.
+ghost use Rattle.std.specs.Prelude.{◌≡◌};
+ghost use Rattle.mbe_expandm.specs.Statuses.{status_of};
+
 use crate::arguments::{Asked, Options, USAGE, VERSION, read_words};
+use crate::expansions::expanded;
 use crate::files::{SourceFile, source_file};
 use crate::limits::recursion_limit;
 use crate::messages::message;
-use crate::places::{Position, place_of};
-use mbe_calls::splicing::{Replacement, splice};
 use mbe_expanding::expander::Expander;
 use mbe_expanding::notes::{Level, Note};
 use mbe_rust::fragments::rust_rules;
 use mbe_text::symbols::SymbolTable;
-use std::alloc::{AllocError, Global};
 use std::io::{self, Read};
 use std::rt::{Env, Files};
 use std::{env, fs};
@@ -22,6 +23,17 @@ pub const ERRORS: u8 = 1;
 
 /// Words or files that aren't right.
 pub const WRONG: u8 = 2;
+
+// The status of a run that did or didn't write what it had to, with errors or without.
+fn status(is_written: bool, has_errors: bool) -> u8
+    ensures { result ≡ status_of is_written has_errors }
+{
+    match is_written {
+        false => WRONG,
+        true if has_errors => ERRORS,
+        true => DONE,
+    }
+}
 
 /// Runs on the words after the program's name, and returns the exit status.
 pub fn run_command<R: Env + Files + Input + Print + Eprint + AllocGlobal>(rt: &R) -> u8 {
@@ -121,11 +133,7 @@ fn expand<R: Files + Print + Eprint + AllocGlobal>(
     }
     let is_written = write_files(rt, options, &mut expander, &files)?;
     let has_errors = say(rt, &files, &notes)? | say(rt, &files, &expander.notes)?;
-    Ok(match is_written {
-        false => WRONG,
-        true if has_errors => ERRORS,
-        true => DONE,
-    })
+    Ok(status(is_written, has_errors))
 }
 
 // The limit of depth that the first file sets that sets one.
@@ -167,44 +175,6 @@ fn write_files<R: Files + Print + Eprint + AllocGlobal>(
         }
     }
     Ok(true)
-}
-
-// A file's text with its calls expanded, or what the calls at that position become. A text without trees stays.
-fn expanded(
-    alloc: Global,
-    call: Option<Position>,
-    expander: &mut Expander<'_>,
-    file: &SourceFile<'_>,
-) -> Result<String, AllocError> {
-    let Some(tree) = &file.tree else {
-        return String::from_str(alloc, file.text);
-    };
-    let lines = file.lines.text.as_str();
-    let replacements = expander.replacements(lines, tree.iter().remaining())?;
-    match call {
-        None => {
-            let placed = file.lines.placed(alloc, replacements.as_slice())?;
-            splice(alloc, file.text, placed.as_slice())
-        }
-        Some(position) => becomes(alloc, position, lines, replacements.as_slice()),
-    }
-}
-
-// What the calls at that position become, a line for each.
-fn becomes(
-    alloc: Global,
-    position: Position,
-    text: &str,
-    replacements: &[Replacement],
-) -> Result<String, AllocError> {
-    let mut found = String::new(alloc);
-    for replacement in replacements {
-        if position.is_at(place_of(text, replacement.start)) {
-            found.push_str(replacement.text.as_str())?;
-            found.push('\n')?;
-        }
-    }
-    Ok(found)
 }
 
 // Says the notes on standard error, and returns whether there is an error among them.

@@ -3,6 +3,7 @@
 
 pub mod arguments;
 pub mod command;
+pub mod expansions;
 pub mod files;
 pub mod limits;
 pub mod lines;

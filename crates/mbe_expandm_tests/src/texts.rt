@@ -1,6 +1,7 @@
 // What a file's text becomes.
 use mbe_expanding::expander::Expander;
 use mbe_expanding::settings::Settings;
+use mbe_expandm::expansions;
 use mbe_expandm::files::source_file;
 use mbe_rust::fragments::rust_rules;
 use mbe_text::symbols::SymbolTable;
@@ -9,7 +10,11 @@ use std::alloc::{AllocError, Global};
 use std::test::Fail;
 
 // The text with its calls expanded, and how many notes there are.
-fn expanded(alloc: Global, text: &str, depth: u32) -> Result<(String, usize), AllocError> {
+pub(crate) fn expanded(
+    alloc: Global,
+    text: &str,
+    depth: u32,
+) -> Result<(String, usize), AllocError> {
     let edition = Edition::Edition2021;
     let mut symbols = SymbolTable::new(alloc);
     let mut notes = Vec::new(alloc);
@@ -21,13 +26,11 @@ fn expanded(alloc: Global, text: &str, depth: u32) -> Result<(String, usize), Al
         is_traced: false,
     };
     let mut expander = Expander::new(alloc, rust_rules(edition, &[]), settings);
-    let Some(tree) = &file.tree else {
-        return Ok((String::from_str(alloc, text)?, notes.len()));
-    };
-    let tokens = tree.iter().remaining();
-    expander.define(tokens)?;
-    let text = expander.expanded(text, tokens)?;
-    Ok((text, expander.notes.len()))
+    if let Some(tree) = &file.tree {
+        expander.define(tree.iter().remaining())?;
+    }
+    let text = expansions::expanded(alloc, None, &mut expander, &file)?;
+    Ok((text, expander.notes.len().saturating_add(notes.len())))
 }
 
 const M: &str = "macro_rules! m { () => { m!(1) }; (1) => { 1 } }\n";
@@ -43,8 +46,18 @@ static ROWS: [(&str, u32, &str, usize); 12] = [
     ("x = n!(m!());", 9, "x = n!(m!());", 0),
     ("x = vec![m!(), 2];", 9, "x = vec![1, 2];", 0),
     ("x = a::m!();", 9, "x = 1;", 0),
-    ("{ macro_rules! n { () => { 2 } } n!() } n!()", 9, "{ macro_rules! n { () => { 2 } } 2 } n!()", 0),
-    ("macro_rules! d { () => { d!() } } d!()", 3, "macro_rules! d { () => { d!() } } d!()", 1),
+    (
+        "{ macro_rules! n { () => { 2 } } n!() } n!()",
+        9,
+        "{ macro_rules! n { () => { 2 } } 2 } n!()",
+        0,
+    ),
+    (
+        "macro_rules! d { () => { d!() } } d!()",
+        3,
+        "macro_rules! d { () => { d!() } } d!()",
+        1,
+    ),
     ("\"", 9, "\"", 1),
 ];
 
