@@ -1,11 +1,11 @@
 #!/usr/bin/env python3
 """Expands programs that run, and asks rustc whether what comes out compiles and does the same. From the top of the repository:
 
-    python3 tools/expandm-runs.py [--keep FOLDER] PATH..
+    python3 tools/expandm-runs.py [--keep FOLDER] [--program EXPANDM] PATH..
 
 A PATH is a Rust file or a folder of them, as /usr/src/rustc-1.63.0/src/test/ui/macros of Debian's package rust-src. A file counts that rustc compiles
-by itself and whose program ends with status 0; one that needs other files, or a feature, is left out. Each is expanded by expandm (built by
-`rt try`, without proof), compiled once more and run. A line is printed for each that differs, with the reason, and then the numbers. FOLDER
+by itself and whose program ends with status 0; one that needs other files, or a feature, is left out. Each is expanded by that EXPANDM, or by one
+built by `rt try`, without proof; compiled once more and run. A line is printed for each that differs, with the reason, and then the numbers. FOLDER
 keeps the expanded files. The edition is that of the file's line `// edition:YEAR`, else 2015.
 """
 import os
@@ -47,8 +47,15 @@ def outcome(source, year, folder):
     return (ran.returncode, ran.stdout), ran.stderr.decode(errors="replace")
 
 
-def expanded(folder, year, names):
-    """The text of each file that expandm writes, by name."""
+def expanded(folder, year, names, program):
+    """The text of each file that expandm writes, by name, and what it reports."""
+    if program:
+        found, said = {}, ""
+        for name in names:
+            ran = subprocess.run([program, "--edition", year, os.path.join(folder, name)], capture_output=True)
+            found[name] = ran.stdout.decode(errors="replace")
+            said += ran.stderr.decode(errors="replace")
+        return found, said
     ran = subprocess.run(["rt", "try", "--cases", folder, "--", "--edition", year, "{}"], capture_output=True, cwd=f"{TOP}/crates/expandm")
     text = ran.stdout.decode(errors="replace")
     parts = re.split(r"^== (.*)\n", text, flags=re.M)
@@ -56,7 +63,7 @@ def expanded(folder, year, names):
     return {name: found.get(name) for name in names}, ran.stderr.decode(errors="replace")
 
 
-def main(paths, keep):
+def main(paths, keep, program):
     work = keep or tempfile.mkdtemp()
     os.makedirs(work, exist_ok=True)
     tried = {}
@@ -78,7 +85,7 @@ def main(paths, keep):
         for path in paths:
             with open(os.path.join(cases, os.path.basename(path)), "w", encoding="utf-8") as it:
                 it.write(tried[path][1])
-        texts, said = expanded(cases, year, [os.path.basename(path) for path in paths])
+        texts, said = expanded(cases, year, [os.path.basename(path) for path in paths], program)
         with open(os.path.join(work, f"said{year}.txt"), "w", encoding="utf-8") as it:
             it.write(said)
         after = []
@@ -101,7 +108,7 @@ def main(paths, keep):
 
 if __name__ == "__main__":
     args = sys.argv[1:]
-    keep = None
-    if args[:1] == ["--keep"]:
-        keep, args = args[1], args[2:]
-    sys.exit(main(args, keep))
+    options = {}
+    while args[:1] and args[0] in ("--keep", "--program"):
+        options[args[0]], args = args[1], args[2:]
+    sys.exit(main(args, options.get("--keep"), options.get("--program")))

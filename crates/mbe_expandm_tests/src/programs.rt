@@ -28,7 +28,7 @@ static ROWS: [(&str, &str, &str); 18] = [
     (
         "m { ($l:lifetime) => { $l: loop { break $l; } }; }",
         "m!('a);",
-        "'a: loop {\n    break 'a;\n}",
+        "'a: loop {\n    break 'a;\n};",
     ),
     (
         "m { ($l:literal) => { -$l }; }",
