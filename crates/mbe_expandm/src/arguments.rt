@@ -1,0 +1,174 @@
+// The words after the program's name.
+ghost use Rattle.std.specs.Prelude.{◌≡◌, unwrap_or, option_or};
+ghost use Rattle.mbe_expandm.specs.Words.{edition_of};
+
+use crate::places::Position;
+use mbe_expanding::settings::Settings;
+use mbe_tt::span::Edition;
+use std::alloc::{AllocError, Allocator, Global};
+
+pub const VERSION: &str = "expandm 0.1.0";
+
+/// How deep calls are expanded in others, where neither the words nor the files say it.
+pub const DEPTH: u32 = 128;
+
+pub const USAGE: &str = "usage: expandm [OPTIONS] FILE.rs ..
+
+Prints the last file, with its calls of macros that the files define expanded. `-` is standard input.
+
+options:
+  --once            expand each call once, and no call in what it becomes
+  --depth N         expand calls that are N deep in others at most (128, or as
+                    `#![recursion_limit = \"N\"]` says)
+  --fuel N          expand N calls at most (100000)
+  --call LINE[:COL] print only what the call there becomes
+  --write DIR       write each file into DIR
+  --edition YEAR    2015, 2018, 2021 (unless another is given) or 2024
+  --trace           report each step
+  --help            print this text
+  --version         print the version";
+
+/// What a run is to do.
+#[derive(Drop)]
+pub struct Options<'w, A: Allocator = Global> {
+    pub edition: Edition,
+    /// How deep calls are expanded in others, if the words say it.
+    pub depth: Option<u32>,
+    /// How many calls are expanded in all.
+    pub fuel: u32,
+    /// Whether each step is reported.
+    pub is_traced: bool,
+    pub names: Vec<&'w str, A>,
+    pub call: Option<Position>,
+    pub write: Option<&'w str>,
+}
+
+/// What the words ask for.
+#[derive(Drop)]
+pub enum Asked<'w, A: Allocator = Global> {
+    Run(Options<'w, A>),
+    Help,
+    Version,
+    /// This word isn't right.
+    Wrong(&'w str),
+    /// A word is missing after this one.
+    Missing(&'w str),
+    /// No file is named.
+    NoFile,
+}
+
+// An option whose value is the next word.
+#[derive(Clone, Copy, Debug, Drop, PartialEq, Eq)]
+enum Valued {
+    Depth,
+    Fuel,
+    Call,
+    Write,
+    Edition,
+}
+
+fn valued_option(word: &str) -> Option<Valued> {
+    match word {
+        "--depth" => Some(Valued::Depth),
+        "--fuel" => Some(Valued::Fuel),
+        "--call" => Some(Valued::Call),
+        "--write" => Some(Valued::Write),
+        "--edition" => Some(Valued::Edition),
+        _ => None,
+    }
+}
+
+fn edition(word: &str) -> Option<Edition>
+    ensures { result ≡ edition_of word.now }
+{
+    match word {
+        "2015" => Some(Edition::Edition2015),
+        "2018" => Some(Edition::Edition2018),
+        "2021" => Some(Edition::Edition2021),
+        "2024" => Some(Edition::Edition2024),
+        _ => None,
+    }
+}
+
+impl<'w, A: Allocator + Copy> Options<'w, A> {
+    fn new(alloc: A) -> Options<'w, A> {
+        Options {
+            edition: Edition::Edition2021,
+            depth: None,
+            fuel: 100_000,
+            is_traced: false,
+            names: Vec::new(alloc),
+            call: None,
+            write: None,
+        }
+    }
+
+    /// How far calls are expanded, where the files set that limit of depth, or none.
+    pub fn settings(&self, limit: Option<u32>) -> Settings
+        ensures edition { result.edition ≡ self.now.edition }
+        ensures fuel { result.fuel ≡ self.now.fuel }
+        ensures traced { result.is_traced ≡ self.now.is_traced }
+        ensures depth { result.depth ≡ unwrap_or (option_or self.now.depth limit) 128 }
+    {
+        Settings {
+            edition: self.edition,
+            depth: self.depth.or(limit).unwrap_or(DEPTH),
+            fuel: self.fuel,
+            is_traced: self.is_traced,
+        }
+    }
+
+    // Takes the value of an option; `None` if it isn't right.
+    fn take(&mut self, option: Valued, word: &'w str) -> Option<()> {
+        match option {
+            Valued::Depth => self.depth = Some(word.parse::<u32>().ok()?),
+            Valued::Fuel => self.fuel = word.parse::<u32>().ok()?,
+            Valued::Call => self.call = Some(Position::read(word)?),
+            Valued::Write => self.write = Some(word),
+            Valued::Edition => self.edition = edition(word)?,
+        }
+        Some(())
+    }
+
+    // Takes an option without a value; `None` if there is none of this name.
+    fn switch(&mut self, word: &str) -> Option<()> {
+        match word {
+            "--once" => self.depth = Some(1),
+            "--trace" => self.is_traced = true,
+            _ => return None,
+        }
+        Some(())
+    }
+}
+
+/// What the words ask for.
+pub fn read_words<'w, A: Allocator + Copy>(
+    alloc: A,
+    words: &'w [String<A>],
+) -> Result<Asked<'w, A>, AllocError> {
+    let mut options = Options::new(alloc);
+    let mut wanted = None;
+    for word in words {
+        let word = word.as_str();
+        if let Some((option, _)) = wanted.take() {
+            if options.take(option, word).is_none() {
+                return Ok(Asked::Wrong(word));
+            }
+        } else if word == "--help" {
+            return Ok(Asked::Help);
+        } else if word == "--version" {
+            return Ok(Asked::Version);
+        } else if let Some(option) = valued_option(word) {
+            wanted = Some((option, word));
+        } else if !word.starts_with("--") {
+            options.names.push(word)?;
+        } else if options.switch(word).is_none() {
+            return Ok(Asked::Wrong(word));
+        }
+    }
+    Ok(match wanted {
+        Some((_, word)) => Asked::Missing(word),
+        None if options.names.is_empty() => Asked::NoFile,
+        None => Asked::Run(options),
+    })
+}

@@ -1,0 +1,49 @@
+// What files become.
+ghost use Rattle.std.specs.Prelude.{◌≡◌, None, IfOk};
+ghost use Rattle.std.specs.String.{string_bytes};
+
+use crate::files::SourceFile;
+use crate::places::{Position, place_of};
+use mbe_calls::splicing::{Replacement, splice};
+use mbe_expanding::expander::Expander;
+use std::alloc::{AllocError, Global};
+
+/// A file's text with its calls expanded, or only what the calls at that position become. A text that isn't Rust stays as it is.
+pub fn expanded(
+    alloc: Global,
+    call: Option<Position>,
+    expander: &mut Expander<'_>,
+    file: &SourceFile<'_>,
+) -> Result<String, AllocError>
+    ensures kept { file.now.tree ≡ None → IfOk result (λ s. string_bytes s ≡ file.now.text.now) }
+{
+    let Some(tree) = &file.tree else {
+        return String::from_str(alloc, file.text);
+    };
+    let lines = file.lines.text.as_str();
+    let replacements = expander.replacements(lines, tree.iter().remaining())?;
+    match call {
+        None => {
+            let placed = file.lines.placed(alloc, replacements.as_slice())?;
+            splice(alloc, file.text, placed.as_slice())
+        }
+        Some(position) => becomes(alloc, position, lines, replacements.as_slice()),
+    }
+}
+
+// What the calls at that position become, a line for each.
+fn becomes(
+    alloc: Global,
+    position: Position,
+    text: &str,
+    replacements: &[Replacement],
+) -> Result<String, AllocError> {
+    let mut found = String::new(alloc);
+    for replacement in replacements {
+        if position.is_at(place_of(text, replacement.start)) {
+            found.push_str(replacement.text.as_str())?;
+            found.push('\n')?;
+        }
+    }
+    Ok(found)
+}

@@ -1,0 +1,75 @@
+// Files with their trees.
+use crate::lines::Lines;
+use mbe_expanding::notes::{Level, Note};
+use mbe_text::dialect::Dialect;
+use mbe_text::lexer::{LexError, lex_as_in};
+use mbe_text::scanner::file_span;
+use mbe_text::symbols::SymbolTable;
+use mbe_tt::span::Edition;
+use mbe_tt::tt::TopSubtree;
+use std::alloc::{AllocError, Allocator, Global};
+
+/// A file: its name, its text, the text's lines, and the trees of these, if they have any.
+#[derive(Drop)]
+pub struct SourceFile<'f, A: Allocator = Global> {
+    pub name: &'f str,
+    pub text: &'f str,
+    /// Spans are places in these.
+    pub lines: Lines<A>,
+    pub tree: Option<TopSubtree<A>>,
+}
+
+// The error that a text isn't Rust, as a message says.
+fn fault(alloc: Global, file: u32, offset: u32, message: &str) -> Result<Note, AllocError> {
+    Ok(Note {
+        level: Level::Error,
+        span: file_span(file, offset, offset),
+        message: String::from_str(alloc, message)?,
+    })
+}
+
+// The trees of a text, or where it isn't Rust and why.
+fn lexed(
+    alloc: Global,
+    symbols: &mut SymbolTable<Global>,
+    edition: Edition,
+    text: &str,
+    file: u32,
+) -> Result<Result<TopSubtree, Note>, AllocError> {
+    if text.len() > u32::MAX as usize {
+        return Ok(Err(fault(alloc, file, 0, "a file of 2^32 bytes or more")?));
+    }
+    match lex_as_in(symbols, Dialect::Rust(edition), text, file) {
+        Ok(tree) => Ok(Ok(tree)),
+        Err(LexError::Fault(found)) => {
+            Ok(Err(fault(alloc, file, found.offset, found.wrong.message())?))
+        }
+        Err(LexError::OutOfMemory) => Err(AllocError),
+    }
+}
+
+/// The file of that number with its trees. Where its text isn't Rust, it has none, and a note says why.
+pub fn source_file<'f>(
+    alloc: Global,
+    symbols: &mut SymbolTable<Global>,
+    notes: &mut Vec<Note>,
+    edition: Edition,
+    name: &'f str,
+    text: &'f str,
+    file: u32,
+) -> Result<SourceFile<'f>, AllocError> {
+    let lines = Lines::of(alloc, text)?;
+    let tree = match lexed(alloc, symbols, edition, lines.text.as_str(), file)? {
+        Ok(tree) => Some(tree),
+        Err(note) => {
+            notes.push(note)?;
+            None
+        }
+    };
+    Ok(SourceFile {
+        name,
+        text,
+        lines,
+        tree,
+    })
+}

@@ -1,0 +1,11 @@
+// The program `expandm` without its `main`: what its words ask for, a run from files to what is printed, and what is said of them.
+#![tactic(auto)]
+
+pub mod arguments;
+pub mod command;
+pub mod expansions;
+pub mod files;
+pub mod limits;
+pub mod lines;
+pub mod messages;
+pub mod places;

@@ -1,0 +1,57 @@
+// Places in texts by line and column.
+
+/// A line of a text, counted from 1, and perhaps a column, counted in characters from 1.
+#[derive(Clone, Copy, Debug, Drop, PartialEq, Eq)]
+pub struct Position {
+    pub line: usize,
+    pub column: Option<usize>,
+}
+
+impl Position {
+    /// `LINE` or `LINE:COL`, in decimal; `None` for any other text.
+    pub fn read(text: &str) -> Option<Position> {
+        match text.split_once(':') {
+            None => Some(Position {
+                line: text.parse::<usize>().ok()?,
+                column: None,
+            }),
+            Some((line, column)) => Some(Position {
+                line: line.parse::<usize>().ok()?,
+                column: Some(column.parse::<usize>().ok()?),
+            }),
+        }
+    }
+
+    /// Whether a byte of a text is on that line, and in that column if there is one.
+    pub fn is_at(self, found: Place<'_>) -> bool {
+        found.line == self.line && self.column.is_none_or(|column| column == found.column)
+    }
+}
+
+/// A byte of a text by its line and column, both counted from 1, with the line. A column counts characters.
+#[derive(Clone, Copy, Debug, Drop)]
+pub struct Place<'t> {
+    pub line: usize,
+    pub column: usize,
+    pub text: &'t str,
+}
+
+/// Where that byte is; the text's end if it is beyond.
+pub fn place_of(text: &str, offset: usize) -> Place<'_> {
+    let before = text.get(..offset).unwrap_or(text);
+    let start = match before.rsplit_once('\n') {
+        Some((lines, _)) => lines.len().saturating_add(1),
+        None => 0,
+    };
+    let rest = text.get(start..).unwrap_or("");
+    Place {
+        line: before.matches('\n').count().saturating_add(1),
+        column: before
+            .get(start..)
+            .unwrap_or("")
+            .chars()
+            .count()
+            .saturating_add(1),
+        text: rest.split_once('\n').map_or(rest, |(line, _)| line),
+    }
+}

@@ -1,0 +1,9 @@
+// The tests of `expandm`: its words, the places that it names, and what files become.
+#![tactic(auto)]
+
+#[cfg(test)]
+mod programs;
+#[cfg(test)]
+mod texts;
+#[cfg(test)]
+mod words;

@@ -1,0 +1,74 @@
+// What a file's text becomes.
+use mbe_expanding::expander::Expander;
+use mbe_expanding::settings::Settings;
+use mbe_expandm::expansions;
+use mbe_expandm::files::source_file;
+use mbe_rust::fragments::rust_rules;
+use mbe_text::symbols::SymbolTable;
+use mbe_tt::span::Edition;
+use std::alloc::{AllocError, Global};
+use std::test::Fail;
+
+// The text with its calls expanded, and how many notes there are.
+pub(crate) fn expanded(
+    alloc: Global,
+    text: &str,
+    depth: u32,
+) -> Result<(String, usize), AllocError> {
+    let edition = Edition::Edition2021;
+    let mut symbols = SymbolTable::new(alloc);
+    let mut notes = Vec::new(alloc);
+    let file = source_file(alloc, &mut symbols, &mut notes, edition, "a.rs", text, 0)?;
+    let settings = Settings {
+        edition,
+        depth,
+        fuel: 100,
+        is_traced: false,
+    };
+    let mut expander = Expander::new(alloc, rust_rules(edition, &[]), settings);
+    if let Some(tree) = &file.tree {
+        expander.define(tree.iter().remaining())?;
+    }
+    let text = expansions::expanded(alloc, None, &mut expander, &file)?;
+    Ok((text, expander.notes.len().saturating_add(notes.len())))
+}
+
+const M: &str = "macro_rules! m { () => { m!(1) }; (1) => { 1 } }\n";
+
+// What follows the definition of `m`, how deep its calls are expanded, what it becomes, and how many notes there are.
+static ROWS: [(&str, u32, &str, usize); 12] = [
+    ("", 9, "", 0),
+    ("f(m);  // m!()", 9, "f(m);  // m!()", 0),
+    ("x = m!();", 9, "x = 1;", 0),
+    ("x = m!();", 1, "x = m!(1);", 0),
+    ("x = m!() ; y = m![1]", 9, "x = 1 ; y = 1", 0),
+    ("x = m!(2);", 9, "x = m!(2);", 1),
+    ("x = n!(m!());", 9, "x = n!(m!());", 0),
+    ("x = vec![m!(), 2];", 9, "x = vec![1, 2];", 0),
+    ("x = a::m!();", 9, "x = 1;", 0),
+    (
+        "{ macro_rules! n { () => { 2 } } n!() } n!()",
+        9,
+        "{ macro_rules! n { () => { 2 } } 2 } n!()",
+        0,
+    ),
+    (
+        "macro_rules! d { () => { d!() } } d!()",
+        3,
+        "macro_rules! d { () => { d!() } } d!()",
+        1,
+    ),
+    ("\"", 9, "\"", 1),
+];
+
+#[test]
+fn texts_are_expanded(rt: HostRuntime) -> Result<(), Fail> {
+    for (rest, depth, want, notes) in &ROWS {
+        let text = format!(in rt.alloc(); "{M}{rest}")?;
+        let want = format!(in rt.alloc(); "{M}{want}")?;
+        let (found, said) = expanded(rt.alloc(), text.as_str(), *depth)?;
+        assert_eq!(rt; found.as_str(), want.as_str());
+        assert_eq!(rt; said, *notes);
+    }
+    Ok(())
+}

@@ -1,0 +1,51 @@
+// What the words ask for.
+use mbe_expandm::arguments::{Asked, read_words};
+use std::alloc::{AllocError, Global};
+use std::test::Fail;
+
+// What these words ask for, by its name.
+fn asked(alloc: Global, text: &str) -> Result<&'static str, AllocError> {
+    let mut words = Vec::new(alloc);
+    for word in text.split_whitespace() {
+        words.push(String::from_str(alloc, word)?)?;
+    }
+    Ok(match read_words(alloc, words.as_slice())? {
+        Asked::Run(_) => "run",
+        Asked::Help => "help",
+        Asked::Version => "version",
+        Asked::Wrong(_) => "wrong",
+        Asked::Missing(_) => "missing",
+        Asked::NoFile => "no file",
+    })
+}
+
+static ROWS: [(&str, &str); 20] = [
+    ("", "no file"),
+    ("a.rs", "run"),
+    ("-", "run"),
+    ("--once a.rs b.rs", "run"),
+    ("a.rs --depth 3 --fuel 0", "run"),
+    ("--depth", "missing"),
+    ("a.rs --depth -1", "wrong"),
+    ("a.rs --depth 4294967296", "wrong"),
+    ("--call 3 a.rs", "run"),
+    ("--call 3:7 a.rs", "run"),
+    ("--call 3: a.rs", "wrong"),
+    ("--call x a.rs", "wrong"),
+    ("--edition 2018 a.rs", "run"),
+    ("--edition 2019 a.rs", "wrong"),
+    ("--write out a.rs", "run"),
+    ("--write", "missing"),
+    ("--trace", "no file"),
+    ("--often a.rs", "wrong"),
+    ("a.rs --help", "help"),
+    ("--version", "version"),
+];
+
+#[test]
+fn words_are_read(rt: HostRuntime) -> Result<(), Fail> {
+    for (words, want) in &ROWS {
+        assert_eq!(rt; asked(rt.alloc(), words)?, *want);
+    }
+    Ok(())
+}
