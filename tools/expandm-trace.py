@@ -1,23 +1,21 @@
 #!/usr/bin/env python3
 """Compares what expandm makes of each call with what rustc makes of it. From the top of the repository:
 
-    python3 tools/expandm-trace.py [--keep FOLDER] [--limit N] PATH..
+    python3 tools/expandm-trace.py --program EXPANDM PATH..
 
 A PATH is a Rust file or a folder of them. rustc says each step of a file's calls under `-Z trace-macros` (with `RUSTC_BOOTSTRAP=1`), also where the
 file doesn't compile by itself; expandm says what each call becomes under `--once --trace`. For each call of the file itself (none of an
 expansion) of a macro that the file defines, the first step of both is divided into tokens and compared, without parentheses: `$e:expr` stands in
-them here, and in an invisible group there. A line is printed for each call that differs, and then the numbers. FOLDER keeps what was
-compared. The edition is that of the line `// edition:YEAR`, else 2021. expandm is built by `rt try`, without proof.
+them here, and in an invisible group there. Both sides for each call that differs are printed, and then the numbers. The edition is that of the line
+`// edition:YEAR`, else 2021.
 """
 import json
 import os
 import re
 import subprocess
 import sys
-import tempfile
 from concurrent.futures import ThreadPoolExecutor
 
-TOP = os.path.dirname(os.path.dirname(os.path.abspath(__file__)))
 TOKEN = re.compile(r'''
     //[^\n]*|/\*.*?\*/
   | (?P<raw>(?:b|c)?r(?P<hashes>\#*)".*?"(?P=hashes))
@@ -29,10 +27,25 @@ TOKEN = re.compile(r'''
 ''', re.X | re.S)
 
 
+DOC = re.compile(r"///(?!/)(.*)|//!(.*)|/\*\*(?![*/])(.*)\*/|/\*!(.*)\*/", re.S)
+RAW = re.compile(r'r(#*)"(.*)"\1', re.S)
+
+
 def tokens(text):
-    """The tokens of a text without comments and parentheses."""
-    found = [it.group(0) for it in TOKEN.finditer(text)]
-    return [it for it in found if not it.startswith(("//", "/*")) and it not in "()"]
+    """The tokens of a text without comments and parentheses; docs as attributes, and raw strings without their signs."""
+    found = []
+    for it in TOKEN.finditer(text):
+        token = it.group(0)
+        doc, raw = DOC.fullmatch(token), RAW.fullmatch(token)
+        if doc:
+            inner = "!" if token[2] == "!" else ""
+            said = next(part for part in doc.groups() if part is not None)
+            found += ["#", *inner, "[", "doc", "=", f"raw {said}", "]"]
+        elif raw:
+            found.append(f"raw {raw.group(2)}")
+        elif token not in "()" and not token.startswith(("//", "/*")):
+            found.append(token)
+    return found
 
 
 def files(paths):
@@ -70,12 +83,41 @@ def traced(path, year):
     return found
 
 
-def expanded(folder, year):
-    """What expandm makes of each call, by the name of the file, and the line and column of the name that is called."""
-    words = ["rt", "try", "--cases", folder, "--", "--once", "--trace", "--edition", year, "{}"]
-    ran = subprocess.run(words, capture_output=True, cwd=f"{TOP}/crates/expandm")
-    return ran.stdout.decode(errors="replace") + ran.stderr.decode(errors="replace")
+STEP = re.compile(r"^[^\n]*?:(\d+):(\d+): note: `[^`\n]*!` expands to `(.*?)`\n *\d+ \| [^\n]*\n +\| [ \t]*\^$", re.M | re.S)
+
+
+def expanded(program, path, year):
+    """What expandm makes of each call of the file, by the line and column of the name that is called."""
+    words = [program, "--once", "--trace", "--edition", year, path]
+    ran = subprocess.run(words, capture_output=True, timeout=120)
+    said = ran.stderr.decode(errors="replace")
+    return {(int(line), int(column)): text for line, column, text in STEP.findall(said)}
+
+
+def compared(program, path):
+    """The calls of a file that both expand, those of them that differ, and how many only rustc does of a macro of the file."""
+    with open(path, encoding="utf-8", errors="replace") as it:
+        text = it.read()
+    if "macro_rules" not in text:
+        return 0, []
+    year = edition(text)
+    theirs = traced(path, year)
+    ours = expanded(program, path, year) if theirs else {}
+    both = sorted(theirs.keys() & ours.keys())
+    return len(both), [(path, at, theirs[at], ours[at]) for at in both if tokens(theirs[at]) != tokens(ours[at])]
+
+
+def main(program, paths):
+    with ThreadPoolExecutor(3) as pool:
+        results = list(pool.map(lambda path: compared(program, path), files(paths)))
+    differ = [it for _, found in results for it in found]
+    for path, (line, column), theirs, ours in differ:
+        print(f"{path}:{line}:{column}\n  rustc:   {theirs}\n  expandm: {ours}")
+    print(f"{sum(count for count, _ in results)} calls in {sum(1 for count, _ in results if count)} files, {len(differ)} differ")
+    return 1 if differ else 0
 
 
 if __name__ == "__main__":
-    print(__doc__)
+    if sys.argv[1:2] != ["--program"] or len(sys.argv) < 4:
+        sys.exit(__doc__)
+    sys.exit(main(sys.argv[2], sys.argv[3:]))

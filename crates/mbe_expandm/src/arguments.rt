@@ -1,5 +1,6 @@
 // The words after the program's name.
-ghost use Rattle.std.specs.Prelude.{◌≡◌, unwrap_or, option_or};
+ghost use Rattle.std.specs.Prelude.{◌≡◌, unwrap_or};
+ghost use Rattle.std.specs.Option.{option_or};
 ghost use Rattle.mbe_expandm.specs.Words.{edition_of};
 
 use crate::places::Position;
