@@ -89,7 +89,11 @@ STEP = re.compile(r"^[^\n]*?:(\d+):(\d+): note: `[^`\n]*!` expands to `(.*?)`\n 
 def expanded(program, path, year):
     """What expandm makes of each call of the file, by the line and column of the name that is called."""
     words = [program, "--once", "--trace", "--edition", year, path]
-    ran = subprocess.run(words, capture_output=True, timeout=120)
+    try:
+        ran = subprocess.run(words, capture_output=True, timeout=120)
+    except subprocess.TimeoutExpired:
+        print(f"{path}: expandm takes more than two minutes", file=sys.stderr)
+        return {}
     said = ran.stderr.decode(errors="replace")
     return {(int(line), int(column)): text for line, column, text in STEP.findall(said)}
 
