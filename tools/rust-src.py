@@ -12,8 +12,8 @@ counted; the status is 1 if a file is left that rustc parses (`rustc -Zparse-cra
 The edition is that of the file's line `// edition:YEAR`, else 2015 below a folder `test`, else 2021; `compile-flags` may have it too.
 
 Before a text is handed to the program (tools/rust-src/mbe_rust_src, proved and built by `rt run`), this script divides it into tokens and
-rewrites those that the lexer of `mbe_text` doesn't have: each literal, whatever its prefix, quotes and suffix, becomes the literal `0`, and a
-comment, also one of documentation, a blank. A shebang and a BOM go. So trees keep their shape, and a text stays on one line.
+rewrites those that the lexer of `mbe_text` doesn't have: each literal, whatever its prefix, quotes and suffix, becomes the literal `0`, or `0.` where
+it ends with a point, and a comment, also one of documentation, a blank. A shebang and a BOM go. So trees keep their shape, and a text stays on one line.
 """
 import os
 import re
@@ -56,6 +56,8 @@ def flattened(text):
             out.append(" ")
         elif kind in ("word", "sign"):
             out.append(token.group(0))
+        elif kind == "number" and token.group(0).endswith("."):
+            out.append(" 0. ")
         else:
             out.append(" 0 ")
     return "".join(out)
