@@ -6,8 +6,8 @@
 A PATH is a Rust file or a folder of them. rustc says each step of a file's calls under `-Z trace-macros` (with `RUSTC_BOOTSTRAP=1`), also where the
 file doesn't compile by itself; expandm says what each call becomes under `--once --trace`. For each call of the file itself (none of an
 expansion) of a macro that the file defines, the first step of both is divided into tokens and compared, without parentheses: `$e:expr` stands in
-them here, and in an invisible group there. Both sides for each call that differs are printed, and then the numbers. The edition is that of the line
-`// edition:YEAR`, else 2021.
+them here, and in an invisible group there; nor by the `$` of `$crate`. Both sides for each call that differs are printed, and then the numbers: also of the
+calls that differ only since rustc prints two words as one (`mutself`). The edition is that of the line `// edition:YEAR`, else 2021.
 """
 import json
 import os
@@ -45,7 +45,7 @@ def tokens(text):
             found.append(f"raw {raw.group(2)}")
         elif token not in "()" and not token.startswith(("//", "/*")):
             found.append(token)
-    return found
+    return [it for at, it in enumerate(found) if it != "$" or found[at + 1:at + 2] != ["crate"]]
 
 
 def files(paths):
@@ -99,25 +99,28 @@ def expanded(program, path, year):
 
 
 def compared(program, path):
-    """The calls of a file that both expand, those of them that differ, and how many only rustc does of a macro of the file."""
+    """How many calls of a file both expand, how many of them only rustc prints with words as one, and those that differ."""
     with open(path, encoding="utf-8", errors="replace") as it:
         text = it.read()
     if "macro_rules" not in text:
-        return 0, []
+        return 0, 0, []
     year = edition(text)
     theirs = traced(path, year)
     ours = expanded(program, path, year) if theirs else {}
     both = sorted(theirs.keys() & ours.keys())
-    return len(both), [(path, at, theirs[at], ours[at]) for at in both if tokens(theirs[at]) != tokens(ours[at])]
+    differ = [at for at in both if tokens(theirs[at]) != tokens(ours[at])]
+    words = [at for at in differ if "".join(tokens(theirs[at])) == "".join(tokens(ours[at]))]
+    return len(both), len(words), [(path, at, theirs[at], ours[at]) for at in differ if at not in words]
 
 
 def main(program, paths):
     with ThreadPoolExecutor(3) as pool:
         results = list(pool.map(lambda path: compared(program, path), files(paths)))
-    differ = [it for _, found in results for it in found]
+    differ = [it for _, _, found in results for it in found]
     for path, (line, column), theirs, ours in differ:
         print(f"{path}:{line}:{column}\n  rustc:   {theirs}\n  expandm: {ours}")
-    print(f"{sum(count for count, _ in results)} calls in {sum(1 for count, _ in results if count)} files, {len(differ)} differ")
+    calls, words = sum(it[0] for it in results), sum(it[1] for it in results)
+    print(f"{calls} calls in {sum(1 for it in results if it[0])} files, {words} that rustc prints with two words as one, {len(differ)} differ")
     return 1 if differ else 0
 
 
