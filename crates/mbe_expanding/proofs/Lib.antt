@@ -6,3 +6,6 @@ pub mod FrontLemmas
 pub mod GroupLemmas
 pub mod ItemLemmas
 pub mod MarkLemmas
+pub mod ReplaceLemmas
+pub mod StepLemmas
+pub mod WriteLemmas

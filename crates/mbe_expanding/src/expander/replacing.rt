@@ -1,4 +1,18 @@
 // What stands in place of the calls of a file.
+ghost use Rattle.std.specs.Prelude.{◌≡◌, ℕ, IfOk, OnOk, map};
+ghost use Rattle.std.specs.List.{All};
+ghost use Rattle.std.specs.String.{string_bytes};
+ghost use Rattle.mbe_tt.specs.Trees.Tree as forest;
+ghost use Rattle.mbe_tt.specs.Trees.Tree.{Forest};
+ghost use Rattle.mbe_tt.specs.Views.Element.{element_tree};
+ghost use Rattle.mbe_tt.specs.Views.View.{trees};
+ghost use Rattle.mbe_calls.specs.Fronts.{ACall, front};
+ghost use Rattle.mbe_calls.specs.Replacements.{part_of};
+ghost use Rattle.mbe_calls.specs.Shown.{call_shown};
+ghost use Rattle.mbe_expanding.specs.Fitting.{IsLeft};
+ghost use Rattle.mbe_expanding.specs.Replacing.{Adds, IsExpanded, IsOfCall, IsWritten, last_span};
+ghost use Rattle.mbe_expanding.specs.Shown.{setting_of, state_of};
+
 use crate::expander::{Expander, LEVELS, text_of};
 use crate::fits::{Before, left_by, left_by_call};
 use mbe_calls::calls::{Call, Defined, Front, attribute_at, front_of, is_standard};
@@ -12,7 +26,11 @@ impl<A: Allocator + Copy> Expander<'_, A> {
         &mut self,
         text: &str,
         tokens: TokenTreesView<'_, A>,
-    ) -> Result<String<A>, AllocError> {
+    ) -> Result<String<A>, AllocError>
+        ensures expanded { IfOk result (λ s. IsExpanded (setting_of self.old)
+            (trees tokens.entry) text.now (string_bytes s)) }
+        ensures setting { OnOk result (setting_of self.new ≡ setting_of self.old) }
+    {
         let replacements = self.replacements(text, tokens)?;
         splice(self.alloc, text, replacements.as_slice())
     }
@@ -22,7 +40,11 @@ impl<A: Allocator + Copy> Expander<'_, A> {
         &mut self,
         text: &str,
         tokens: TokenTreesView<'_, A>,
-    ) -> Result<Vec<Replacement<A>, A>, AllocError> {
+    ) -> Result<Vec<Replacement<A>, A>, AllocError>
+        ensures each { IfOk result (λ r. All (IsOfCall (setting_of self.old) (trees tokens.entry))
+            (map part_of r.items)) }
+        ensures setting { OnOk result (setting_of self.new ≡ setting_of self.old) }
+    {
         let mut replacements = Vec::new(self.alloc);
         let mark = self.scope.enter();
         self.replace_in(&mut replacements, text, tokens, LEVELS)?;
@@ -31,7 +53,9 @@ impl<A: Allocator + Copy> Expander<'_, A> {
     }
 
     // From here on, names find that definition of the file.
-    fn show(&mut self, defined: Defined<'_, A>) -> Result<(), AllocError> {
+    fn show(&mut self, defined: Defined<'_, A>) -> Result<(), AllocError>
+        ensures setting { OnOk result (setting_of self.new ≡ setting_of self.old) }
+    {
         match self.scope.placed(defined) {
             Some(number) => self.scope.show(number),
             None => Ok(()),
@@ -39,7 +63,9 @@ impl<A: Allocator + Copy> Expander<'_, A> {
     }
 
     // From here on, names find the `macro` items among these trees, wherever they stand.
-    fn show_items(&mut self, tokens: TokenTreesView<'_, A>) -> Result<(), AllocError> {
+    fn show_items(&mut self, tokens: TokenTreesView<'_, A>) -> Result<(), AllocError>
+        ensures setting { OnOk result (setting_of self.new ≡ setting_of self.old) }
+    {
         let mut rest = tokens;
         for _ in 0..tokens.flat_len() {
             rest = match front_of(rest) {
@@ -64,7 +90,11 @@ impl<A: Allocator + Copy> Expander<'_, A> {
         text: &str,
         tokens: TokenTreesView<'_, A>,
         levels: u32,
-    ) -> Result<(), AllocError> {
+    ) -> Result<(), AllocError>
+        ensures adds { OnOk result (Adds (setting_of self.old) (trees tokens.entry)
+            (map part_of replacements.old.items) (map part_of replacements.new.items)) }
+        ensures setting { OnOk result (setting_of self.new ≡ setting_of self.old) }
+    {
         self.show_items(tokens)?;
         let mut rest = tokens;
         let mut last = Before::Statement;
@@ -103,7 +133,12 @@ impl<A: Allocator + Copy> Expander<'_, A> {
         tree: TtElement<'_, A>,
         is_used: bool,
         levels: u32,
-    ) -> Result<(), AllocError> {
+    ) -> Result<(), AllocError>
+        ensures adds { OnOk result ((rest : Forest) →
+            Adds (setting_of self.old) (forest.tree (element_tree tree.entry) rest)
+            (map part_of replacements.old.items) (map part_of replacements.new.items)) }
+        ensures setting { OnOk result (setting_of self.new ≡ setting_of self.old) }
+    {
         if let TtElement::Subtree(group, inside) = tree
             && levels > 0
         {
@@ -125,7 +160,13 @@ impl<A: Allocator + Copy> Expander<'_, A> {
         call: Call<'t, A>,
         last: Before,
         levels: u32,
-    ) -> Result<TokenTreesView<'t, A>, AllocError> {
+    ) -> Result<TokenTreesView<'t, A>, AllocError>
+        ensures adds { OnOk result ((f : Forest) → front f ≡ ACall (call_shown call.entry) →
+            Adds (setting_of self.old) f
+            (map part_of replacements.old.items) (map part_of replacements.new.items)) }
+        ensures left { IfOk result (λ rest. IsLeft (trees call.entry.rest) (trees rest)) }
+        ensures setting { OnOk result (setting_of self.new ≡ setting_of self.old) }
+    {
         let depth = self.settings.depth;
         match self.expansion(call, depth, levels)? {
             Some(tree) => {
@@ -158,7 +199,16 @@ impl<A: Allocator + Copy> Expander<'_, A> {
         last: Before,
         depth: u32,
         levels: u32,
-    ) -> Result<(Replacement<A>, TokenTreesView<'t, A>), AllocError> {
+    ) -> Result<(Replacement<A>, TokenTreesView<'t, A>), AllocError>
+        ensures starts { IfOk result (λ r. r.0.start ≡ call.entry.start.start) }
+        ensures ends { IfOk result (λ r. r.0.end
+            ≡ (last_span (call_shown call.entry) (trees r.1)).end) }
+        ensures written { IfOk result (λ r. IsWritten (setting_of self.old) levels depth
+            (call_shown call.entry) tree.now.1 (state_of self.old) (state_of self.new)
+            (string_bytes r.0.text)) }
+        ensures left { IfOk result (λ r. IsLeft (trees call.entry.rest) (trees r.1)) }
+        ensures setting { OnOk result (setting_of self.new ≡ setting_of self.old) }
+    {
         let around = Delimiter::invisible_spanned(call.name.span);
         let mut builder = TopSubtreeBuilder::new(self.alloc, around)?;
         let rest = self.write_expansion(&mut builder, tree, call, last, depth, levels)?;
@@ -179,7 +229,9 @@ impl<A: Allocator + Copy> Expander<'_, A> {
 }
 
 // Where a call ends: with its group, or with the `;` after it where that goes with it.
-fn end_of<A: Allocator>(call: Call<'_, A>, rest: TokenTreesView<'_, A>) -> usize {
+fn end_of<A: Allocator>(call: Call<'_, A>, rest: TokenTreesView<'_, A>) -> usize
+    ensures { result ≡ (last_span (call_shown call.entry) (trees rest.entry)).end }
+{
     let close = call.group.delimiter.close;
     let last = if rest.flat_len() < call.rest.flat_len() {
         call.rest.iter().next_span().unwrap_or(close)

@@ -1,4 +1,8 @@
-use Rattle.std.proofs.Common.{◌+◌, ◌*◌}
+use Rattle.std.proofs.Common.{◌≡◌, ◌+◌, ◌*◌, map}
+use Rattle.mbe_tt.specs.Views.View.{trees}
+use Rattle.mbe_calls.specs.Replacements.{part_of}
+use Rattle.mbe_expanding.specs.Replacing.{IsIn, Adds}
+use Rattle.mbe_expanding.specs.Shown.{setting_of}
 use Rattle.mbe_expanding.proofs.expander.Expander.+replacing.Given as goal
 
 abbrev pub decreases-replace_in : goal.decreases-replace_in
@@ -9,3 +13,8 @@ decreases-replace_call g l = 2 * l.levels
 
 abbrev pub decreases-replace_tree : goal.decreases-replace_tree
 decreases-replace_tree g l = 2 * l.levels
+
+abbrev pub invariant-replace_in-loop : goal.invariant-replace_in-loop
+invariant-replace_in-loop g l =
+    (setting_of l.self ≡ setting_of l.initial.self) × IsIn (trees l.fn.tokens) (trees l.rest)
+    × Adds (setting_of l.initial.self) (trees l.fn.tokens) (map part_of l.initial.replacements.items) (map part_of l.replacements.items)
