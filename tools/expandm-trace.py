@@ -14,6 +14,7 @@ import os
 import re
 import subprocess
 import sys
+import tempfile
 from concurrent.futures import ThreadPoolExecutor
 
 TOKEN = re.compile(r'''
@@ -63,11 +64,14 @@ def edition(text):
 
 def traced(path, year):
     """What rustc makes of each call, by its line and column."""
-    words = ["rustc", "-Ztrace-macros", "--edition", year, "--crate-type", "lib", "--error-format=json", "--emit=metadata", "-o", "/dev/null", path]
-    try:
-        ran = subprocess.run(words, capture_output=True, text=True, timeout=120, env={**os.environ, "RUSTC_BOOTSTRAP": "1"}, errors="replace")
-    except subprocess.TimeoutExpired:
-        return {}
+    words = ["rustc", "-Ztrace-macros", "--edition", year, "--crate-type", "lib", "--error-format=json", "--emit=metadata", path]
+    env = {**os.environ, "RUSTC_BOOTSTRAP": "1"}
+    # rustc puts a file of its own in the place of what is named after -o, also of a device, so that has to be in a folder of ours.
+    with tempfile.TemporaryDirectory() as folder:
+        try:
+            ran = subprocess.run([*words, "-o", f"{folder}/o"], capture_output=True, text=True, timeout=120, env=env, errors="replace")
+        except subprocess.TimeoutExpired:
+            return {}
     found = {}
     for line in ran.stderr.split("\n"):
         if not line.startswith("{"):
