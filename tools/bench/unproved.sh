@@ -5,8 +5,8 @@
 #
 # `rt try` gives clang a module with a check wherever a proof would be asked for, and compiles it for a sanitizer that valgrind can't run.
 # Here a folder of links to the kit has, in clang's place, a script that keeps the module and stops; then the checks are taken out (with
-# CHECKS=kept they stay), and the kit's clang and linker make the program. It is near the gate's program, not the same: its
-# functions are inlined otherwise. So compare only programs that are both made by this script.
+# CHECKS=kept they stay), the hints on inlining are put in, and the kit's clang and linker make the program. It is near the
+# gate's program, not the same: what has no hint is inlined otherwise. So compare only programs that are both made by this script.
 set -eu
 checkout=$(realpath "$1")
 program=$(realpath "$2")
@@ -32,6 +32,7 @@ target=x86_64-unknown-linux-gnu
 clang="$kit/toolchain/bin/clang --target=$target --sysroot=$kit/toolchain -march=x86-64 --no-default-config"
 $clang -x ir "$work/kept.bc" -S -emit-llvm -Xclang -disable-llvm-passes -O3 -o "$work/kept.ll" 2>"$work/log"
 sed -i 's/ sanitize_address / /' "$work/kept.ll"
+python3 "$(dirname "$0")/hints.py" "$work/kept.ll" "$checkout/crates" "$kit/rattle"
 [ "${CHECKS:-}" = kept ] || sed -i -e '/^ *call void @llvm.trap()/d' -e '/^ *call void @"rattle-llvm-checks::/d' "$work/kept.ll"
 $clang -mllvm -no-trap-after-noreturn -mllvm -trap-unreachable -mllvm -no-x86-call-frame-opt -mllvm -disable-machine-licm \
     -mllvm -disable-postra-machine-licm -mllvm -sink-common-insts=false -ffunction-sections -fdata-sections -fPIE -O3 \

@@ -30,6 +30,7 @@ impl<T, A: Allocator> Model for Linked<T, A> {
 
 impl<T, A: Allocator> Linked<T, A> {
     /// A list that may begin with a link.
+    #[inline(always)]
     pub(crate) fn linked(alloc: A, link: Option<Part>) -> Linked<T, A>
         ensures { result ≡ record { link = link; own = [] } }
     {
@@ -40,6 +41,7 @@ impl<T, A: Allocator> Linked<T, A> {
     }
 
     /// The link that another list begins with to have a part of this one. A part that has only the link gives that link.
+    #[inline(always)]
     pub(crate) fn link_to(&self, part: Part) -> Option<Part>
         ensures { result ≡ link_to part self.now }
     {
@@ -48,6 +50,7 @@ impl<T, A: Allocator> Linked<T, A> {
     }
 
     /// How many entries it has.
+    #[inline(always)]
     pub(crate) fn len(&self) -> usize
         ensures { result ≡ chain_len self.now }
     {
@@ -58,6 +61,7 @@ impl<T, A: Allocator> Linked<T, A> {
     }
 
     /// The link among the first so many entries, and how many others are among them.
+    #[inline(always)]
     fn cut(&self, first: usize) -> (Option<Part>, usize)
         ensures link { result.0 ≡ link_in self.now.link first }
         ensures own { result.1 ≡ own_in self.now.link first }
@@ -70,6 +74,7 @@ impl<T, A: Allocator> Linked<T, A> {
     }
 
     /// The entry of its own at the index.
+    #[inline(always)]
     pub(crate) fn own_at(&self, index: usize) -> &T
         requires { index < length self.now.own }
         ensures { slice_get self.now.own index ≡ Some result.now }
@@ -80,6 +85,7 @@ impl<T, A: Allocator> Linked<T, A> {
 
 impl<T: Drop, A: Allocator> Linked<T, A> {
     /// One entry more at the end. `AllocError` if out of memory.
+    #[inline(always)]
     pub(crate) fn push(&mut self, entry: T) -> Result<(), AllocError>
         ensures ok { OnOk result (self.new ≡ record self.old { own = self.old.own ++ entry ∷ [] }) }
         ensures err { OnErr result (self.new ≡ self.old) }
@@ -105,6 +111,7 @@ pub(crate) fn is_within<T, A: Allocator>(lists: &[Linked<T, A>], part: Part) -> 
 
 /// The part with one entry more: in its own list where it goes up to the end of that, else in a new list that links to the
 /// part. `AllocError` if out of memory.
+#[inline]
 pub(crate) fn extend<T: Drop, A: Allocator + Copy>(
     alloc: A,
     lists: &mut Vec<Linked<T, A>, A>,

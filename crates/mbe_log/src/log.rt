@@ -82,6 +82,7 @@ impl<A: Copy> MadeWith<A> for Handle {
 }
 
 /// The same entries once more. A push to one of the two leaves the other as it is.
+#[inline(always)]
 pub fn again(handle: &Handle) -> Handle
     ensures { result ≡ handle.now }
 {
@@ -165,6 +166,7 @@ impl<'a, A: Allocator + Copy> BindingLog<'a, A> {
     }
 
     /// A handle with an empty account. `AllocError` if out of memory.
+    #[inline]
     pub fn alloc(&mut self) -> Result<Handle, AllocError>
         ensures given { IfOk result (λ h. IsGiven self.old self.new h) }
         ensures account { IfOk result (λ h. IsAccount self.new h no_account) }
@@ -227,6 +229,7 @@ impl<'a, A: Allocator + Copy> BindingLog<'a, A> {
     }
 
     /// The name is bound to the fragment. `AllocError` if out of memory.
+    #[inline(always)]
     pub fn push_fragment(
         &mut self,
         handle: &mut Handle,
@@ -244,6 +247,7 @@ impl<'a, A: Allocator + Copy> BindingLog<'a, A> {
     }
 
     /// The name is bound to a fragment that took nothing. `AllocError` if out of memory.
+    #[inline(always)]
     pub fn push_optional(&mut self, handle: &mut Handle, name: &Symbol<A>) -> Result<(), AllocError>
         requires { HasEntriesOf self.old handle.old }
         ensures ok { OnOk result (IsChanged self.old self.new handle.old handle.new
@@ -256,6 +260,7 @@ impl<'a, A: Allocator + Copy> BindingLog<'a, A> {
     }
 
     /// The name is in a repetition that had no rounds. `AllocError` if out of memory.
+    #[inline(always)]
     pub fn push_empty(&mut self, handle: &mut Handle, name: &Symbol<A>) -> Result<(), AllocError>
         requires { HasEntriesOf self.old handle.old }
         ensures ok { OnOk result (IsChanged self.old self.new handle.old handle.new
@@ -268,6 +273,7 @@ impl<'a, A: Allocator + Copy> BindingLog<'a, A> {
     }
 
     /// Nothing fits the name, so the match failed there. `AllocError` if out of memory.
+    #[inline(always)]
     pub fn push_missing(
         &mut self,
         handle: &mut Handle,
@@ -285,6 +291,7 @@ impl<'a, A: Allocator + Copy> BindingLog<'a, A> {
     }
 
     // One command more after the handle's current ones, which isn't nested.
+    #[inline(always)]
     fn push(&mut self, handle: &mut Handle, command: Command<'a, A>) -> Result<(), AllocError>
         requires entries { HasEntriesOf self.old handle.old }
         requires plain { IsPlain (entry_seen command) }
@@ -299,6 +306,7 @@ impl<'a, A: Allocator + Copy> BindingLog<'a, A> {
     }
 
     /// The child's finished rounds, and its current commands as the last round, as they are now. `AllocError` if out of memory.
+    #[inline]
     pub fn push_nested(&mut self, parent: &mut Handle, child: &Handle) -> Result<(), AllocError>
         requires parent { HasEntriesOf self.old parent.old }
         requires child { HasEntriesOf self.old child.now }
@@ -322,6 +330,7 @@ impl<'a, A: Allocator + Copy> BindingLog<'a, A> {
     }
 
     /// The current commands are a finished round now, and an empty list begins. `AllocError` if out of memory.
+    #[inline]
     pub fn push_default(&mut self, handle: &mut Handle) -> Result<(), AllocError>
         requires { HasEntriesOf self.old handle.old }
         ensures ok { OnOk result (IsChanged self.old self.new handle.old handle.new

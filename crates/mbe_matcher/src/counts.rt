@@ -42,6 +42,7 @@ impl<A: Allocator> Counts<A> {
     }
 
     // Whether the dot was met at most once at the place; it is met there once more, then.
+    #[inline(always)]
     pub(crate) fn takes(&mut self, number: usize, place: usize) -> bool
         requires some { 0 < number }
         requires within { number ≤ length self.old.marks.items }

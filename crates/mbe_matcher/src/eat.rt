@@ -28,6 +28,7 @@ pub(crate) fn eat_literal<A: Allocator>(literal: &Literal<A>, src: &mut TtIter<'
 }
 
 // An identifier of the same text, raw or not.
+#[inline(always)]
 pub(crate) fn eat_ident<A: Allocator>(ident: &Ident<A>, src: &mut TtIter<'_, A>) -> bool
     ensures { HasPassed result (ident_text_front ident.now.sym src.old) src.new }
 {
@@ -38,6 +39,7 @@ pub(crate) fn eat_ident<A: Allocator>(ident: &Ident<A>, src: &mut TtIter<'_, A>)
 }
 
 // Puncts that are together and have just these chars.
+#[inline(always)]
 pub(crate) fn eat_puncts<A: Allocator>(puncts: &[Punct], src: &mut TtIter<'_, A>) -> bool
     ensures { HasPassed result (puncts_front (chars_of puncts.now) src.old) src.new }
 {
@@ -48,6 +50,7 @@ pub(crate) fn eat_puncts<A: Allocator>(puncts: &[Punct], src: &mut TtIter<'_, A>
 }
 
 // What a variable of the kind takes in front. An unknown kind takes nothing.
+#[inline(always)]
 pub(crate) fn eat_fragment<'a, A: Allocator, G: FragmentGrammar>(
     grammar: &G,
     kind: Option<MetaVarKind>,
@@ -118,6 +121,7 @@ fn is_refused_word<A: Allocator>(kind: ExprKind, ident: &Ident<A>) -> bool
 }
 
 // An identifier other than `_`.
+#[inline(always)]
 fn eat_any_ident<'a, A: Allocator>(src: &mut TtIter<'a, A>) -> Option<TokenTreesView<'a, A>>
     ensures { IsTaken result (ident_front src.old) src.new }
 {
@@ -153,6 +157,7 @@ fn eat_signed_literal<'a, A: Allocator>(src: &mut TtIter<'a, A>) -> Option<Token
 }
 
 // A lifetime where `'` comes first, and else puncts that are together, or one tree.
+#[inline(always)]
 fn eat_tree<'a, A: Allocator>(src: &mut TtIter<'a, A>) -> Option<TokenTreesView<'a, A>>
     ensures { IsTaken result (tree_front src.old) src.new }
 {

@@ -88,7 +88,7 @@ struct Lasts<'a, A: Allocator = Global> {
     failed: Option<Failed<'a, A>>,
 }
 
-// What the pass keeps from place to place, beside the log.
+// What the pass keeps from place to place, beside the log and its lists.
 #[derive(Drop)]
 struct Pass<'a, A: Allocator = Global> {
     outers: Vec<Outer<'a, A>, A>,
@@ -145,6 +145,7 @@ impl<'a, A: Allocator + Copy> Pass<'a, A> {
     }
 }
 
+#[inline(always)]
 fn push_some<T: Drop, A: Allocator + Copy>(
     values: &mut Vec<T, A>,
     value: Option<T>,
@@ -158,33 +159,46 @@ fn push_some<T: Drop, A: Allocator + Copy>(
     Ok(())
 }
 
-// Follows the first position of each dot.
+impl<'a, A: Allocator + Copy> Firsts<'a, A> {
+    // Nothing yet.
+    fn new(alloc: A) -> Firsts<'a, A>
+        ensures waiting { result.waiting.items ≡ [] }
+        ensures ends { result.ends.items ≡ [] }
+    {
+        Firsts {
+            waiting: Vec::new(alloc),
+            ends: Vec::new(alloc),
+        }
+    }
+}
+
+// Follows the first position of each dot. What came of an earlier place is overwritten.
 fn first_of_each<'a, A: Allocator + Copy, G: FragmentGrammar>(
-    alloc: A,
     grammar: &G,
     source: &Source<'a, A>,
     log: &mut BindingLog<'a, A>,
     pass: &mut Pass<'a, A>,
-    stack: Vec<Position<'a, A>, A>,
-) -> Result<Firsts<'a, A>, AllocError>
+    todo: &mut Vec<Position<'a, A>, A>,
+    firsts: &mut Firsts<'a, A>,
+) -> Result<(), AllocError>
     requires stack { IsFirstStackAt (G.grammar grammar.now) source.now
-        log.old pass.old stack.items }
+        log.old pass.old todo.old.items }
     requires unmet { AreUnmetFrom pass.old.first_met.places.items source.now.place }
     ensures firsts { (s : IsFirstStackAt (G.grammar grammar.now) source.now
-        log.old pass.old stack.entry.items) → IfOk result
-        (AreFirstsAt (G.grammar grammar.now) source.now s.pattern s.outlines log.new pass.new) }
+        log.old pass.old todo.old.items) → OnOk result (AreFirstsAt (G.grammar grammar.now)
+        source.now s.pattern s.outlines log.new pass.new firsts.new) }
     ensures notes { (s : IsFirstStackAt (G.grammar grammar.now) source.now
-        log.old pass.old stack.entry.items) → OnOk result
+        log.old pass.old todo.old.items) → OnOk result
         (NotesFirsts (G.grammar grammar.now) source.now s.pattern s.outlines
         log.old log.new pass.old pass.new) }
     ensures kept { OnOk result (PassKeeps log.old log.new pass.old pass.new) }
     ensures unmet { OnOk result (AreUnmetAfter pass.new.first_met source.now.place) }
     ensures size { OnOk result (AreAsMany pass.new.first_met pass.old.first_met) }
     ensures other { OnOk result (pass.new.last_met ≡ pass.old.last_met) }
+    ensures done { OnOk result (todo.new.items ≡ []) }
 {
-    let mut todo = stack;
-    let mut waiting = Vec::new(alloc);
-    let mut ends = Vec::new(alloc);
+    firsts.waiting.clear();
+    firsts.ends.clear();
     while let Some(position) = todo.pop() {
         if !pass.first_met.takes(position.number, source.place) {
             continue;
@@ -193,15 +207,16 @@ fn first_of_each<'a, A: Allocator + Copy, G: FragmentGrammar>(
         let handle = again(&position.handle);
         let found = steps(grammar, source, log, &mut pass.outers, position)?;
         pass.report.looked_at(source, dot, handle, found.is_some());
-        push_some(&mut todo, found.second)?;
-        push_some(&mut todo, found.first)?;
-        push_some(&mut waiting, found.next)?;
-        push_some(&mut ends, found.done)?;
+        push_some(todo, found.second)?;
+        push_some(todo, found.first)?;
+        push_some(&mut firsts.waiting, found.next)?;
+        push_some(&mut firsts.ends, found.done)?;
     }
-    Ok(Firsts { waiting, ends })
+    Ok(())
 }
 
 // The position, if it fails.
+#[inline(always)]
 fn if_failed<'a, A: Allocator>(
     dot: &'a [Op<A>],
     handle: Handle,
@@ -220,6 +235,7 @@ fn if_failed<'a, A: Allocator>(
 }
 
 // The position on top, to be entered, if there is one.
+#[inline(always)]
 fn push_entered<'a, A: Allocator + Copy>(
     todo: &mut Vec<Visit<'a, A>, A>,
     position: Option<Position<'a, A>>,
@@ -235,6 +251,7 @@ fn push_entered<'a, A: Allocator + Copy>(
 }
 
 // Enters a position: its steps, the last on top, and under them what it leaves.
+#[inline(always)]
 fn enter<'a, A: Allocator + Copy, G: FragmentGrammar>(
     grammar: &G,
     source: &Source<'a, A>,
@@ -261,9 +278,22 @@ fn enter<'a, A: Allocator + Copy, G: FragmentGrammar>(
 }
 
 impl<'a, A: Allocator + Copy> Lasts<'a, A> {
+    ghost use Rattle.std.specs.Prelude.{None};
     ghost use Rattle.std.specs.Option.{option_or};
 
+    // Nothing yet.
+    fn new(alloc: A) -> Lasts<'a, A>
+        ensures waiting { result.waiting.items ≡ [] }
+        ensures failed { result.failed ≡ None }
+    {
+        Lasts {
+            waiting: Vec::new(alloc),
+            failed: None,
+        }
+    }
+
     // A position is left, after all that comes of it.
+    #[inline(always)]
     fn leave(&mut self, left: Left<'a, A>) -> Result<(), AllocError>
         ensures waiting { OnOk result (self.new.waiting.items
             ≡ self.old.waiting.items ++ option_to_list left.entry.next) }
@@ -278,32 +308,31 @@ impl<'a, A: Allocator + Copy> Lasts<'a, A> {
     }
 }
 
-// Follows the last position of each dot, the last first.
+// Follows the last position of each dot, the last first. What came of an earlier place is
+// overwritten.
 fn last_of_each<'a, A: Allocator + Copy, G: FragmentGrammar>(
-    alloc: A,
     grammar: &G,
     source: &Source<'a, A>,
     log: &mut BindingLog<'a, A>,
     pass: &mut Pass<'a, A>,
-    stack: Vec<Visit<'a, A>, A>,
-) -> Result<Lasts<'a, A>, AllocError>
+    todo: &mut Vec<Visit<'a, A>, A>,
+    lasts: &mut Lasts<'a, A>,
+) -> Result<(), AllocError>
     requires stack { IsLastStackAt (G.grammar grammar.now) source.now
-        log.old pass.old stack.items }
+        log.old pass.old todo.old.items }
     requires unmet { AreUnmetFrom pass.old.last_met.places.items source.now.place }
     ensures lasts { (s : IsLastStackAt (G.grammar grammar.now) source.now
-        log.old pass.old stack.entry.items) → IfOk result
-        (AreLastsAt (G.grammar grammar.now) source.now s.pattern s.outlines log.new pass.new) }
+        log.old pass.old todo.old.items) → OnOk result (AreLastsAt (G.grammar grammar.now)
+        source.now s.pattern s.outlines log.new pass.new lasts.new) }
     ensures kept { OnOk result (PassKeeps log.old log.new pass.old pass.new) }
     ensures unmet { OnOk result (AreUnmetAfter pass.new.last_met source.now.place) }
     ensures size { OnOk result (AreAsMany pass.new.last_met pass.old.last_met) }
     ensures other { OnOk result (pass.new.first_met ≡ pass.old.first_met) }
     ensures report { OnOk result (pass.new.report ≡ pass.old.report) }
+    ensures done { OnOk result (todo.new.items ≡ []) }
 {
-    let mut todo = stack;
-    let mut lasts = Lasts {
-        waiting: Vec::new(alloc),
-        failed: None,
-    };
+    lasts.waiting.clear();
+    lasts.failed = None;
     while let Some(visit) = todo.pop() {
         let position = match visit {
             Visit::Enter(position) => position,
@@ -315,39 +344,37 @@ fn last_of_each<'a, A: Allocator + Copy, G: FragmentGrammar>(
         if !pass.last_met.takes(position.number, source.place) {
             continue;
         }
-        enter(grammar, source, log, &mut pass.outers, position, &mut todo)?;
+        enter(grammar, source, log, &mut pass.outers, position, todo)?;
     }
-    Ok(lasts)
+    Ok(())
 }
 
-// The positions after their steps, the first on top.
-fn come_first<'a, A: Allocator + Copy>(
-    alloc: A,
-    waiting: Vec<Waiting<'a, A>, A>,
-) -> Result<Vec<Position<'a, A>, A>, AllocError>
-    ensures { IfOk result (λ s. s.items ≡ reverse (map position_after waiting.entry.items)) }
+// The positions after their steps, the first on top. The steps are used up.
+fn come_first<'a, A: Allocator>(
+    waiting: &mut Vec<Waiting<'a, A>, A>,
+    stack: &mut Vec<Position<'a, A>, A>,
+) -> Result<(), AllocError>
+    ensures { OnOk result (stack.new.items
+        ≡ stack.old.items ++ reverse (map position_after waiting.old.items)) }
 {
-    let mut waiting = waiting;
-    let mut stack = Vec::new(alloc);
     while let Some(step) = waiting.pop() {
         stack.push(step.after)?;
     }
-    Ok(stack)
+    Ok(())
 }
 
 // The same, to be entered.
-fn come_last<'a, A: Allocator + Copy>(
-    alloc: A,
-    waiting: Vec<Waiting<'a, A>, A>,
-) -> Result<Vec<Visit<'a, A>, A>, AllocError>
-    ensures { IfOk result (λ s. s.items ≡ reverse (map visit_after waiting.entry.items)) }
+fn come_last<'a, A: Allocator>(
+    waiting: &mut Vec<Waiting<'a, A>, A>,
+    stack: &mut Vec<Visit<'a, A>, A>,
+) -> Result<(), AllocError>
+    ensures { OnOk result (stack.new.items
+        ≡ stack.old.items ++ reverse (map visit_after waiting.old.items)) }
 {
-    let mut waiting = waiting;
-    let mut stack = Vec::new(alloc);
     while let Some(step) = waiting.pop() {
         stack.push(Visit::Enter(step.after))?;
     }
-    Ok(stack)
+    Ok(())
 }
 
 // What all positions report, up to the place where the match stops.
@@ -373,16 +400,18 @@ pub(crate) fn report_up_to<'a, A: Allocator + Copy, G: FragmentGrammar>(
     firsts.push(position.again())?;
     let mut lasts = Vec::new(alloc);
     lasts.push(Visit::Enter(position))?;
+    let mut first = Firsts::new(alloc);
+    let mut last = Lasts::new(alloc);
     let mut source = Source::new(alloc, argument);
     loop {
-        let first = first_of_each(alloc, grammar, &source, log, &mut pass, firsts)?;
-        let last = last_of_each(alloc, grammar, &source, log, &mut pass, lasts)?;
-        pass.after_place(&source, last.failed, &first.ends);
+        first_of_each(grammar, &source, log, &mut pass, &mut firsts, &mut first)?;
+        last_of_each(grammar, &source, log, &mut pass, &mut lasts, &mut last)?;
+        pass.after_place(&source, last.failed.take(), &first.ends);
         if source.place == stop {
             return Ok(pass.report);
         }
         source = after_step(source, &first.waiting[0])?;
-        firsts = come_first(alloc, last.waiting)?;
-        lasts = come_last(alloc, first.waiting)?;
+        come_first(&mut last.waiting, &mut firsts)?;
+        come_last(&mut first.waiting, &mut lasts)?;
     }
 }

@@ -17,6 +17,7 @@ use mbe_tt::tt::{DelimiterKind, Ident, Leaf, Literal, Punct, TtIter};
 use std::alloc::Allocator;
 
 // An iterator at the same place.
+#[inline(always)]
 fn fork<'a, A: Allocator>(src: &TtIter<'a, A>) -> TtIter<'a, A>
     ensures { result ≡ src.now }
 {
@@ -24,6 +25,7 @@ fn fork<'a, A: Allocator>(src: &TtIter<'a, A>) -> TtIter<'a, A>
 }
 
 // The flat tokens from `before` to `after`, if they were consumed.
+#[inline(always)]
 fn width_to<A: Allocator>(
     passed: bool,
     before: &TtIter<'_, A>,
@@ -40,6 +42,7 @@ fn width_to<A: Allocator>(
 
 // The width of an op that is a token.
 #[tactic(auto, using(mbe_ops::proofs::OpViews::views))]
+#[inline(always)]
 pub(crate) fn token_width<A: Allocator>(op: &Op<A>, src: &TtIter<'_, A>) -> Option<usize>
     ensures { result ≡ op_width (op_of op.now) src.now }
 {
@@ -57,6 +60,7 @@ pub(crate) fn token_width<A: Allocator>(op: &Op<A>, src: &TtIter<'_, A>) -> Opti
 }
 
 // The width of a literal of the same text and suffix.
+#[inline(always)]
 fn literal_width<A: Allocator>(literal: &Literal<A>, src: &TtIter<'_, A>) -> Option<usize>
     ensures { result ≡ length_of (literal_text_front literal.now.text_and_suffix src.now) }
 {
@@ -66,6 +70,7 @@ fn literal_width<A: Allocator>(literal: &Literal<A>, src: &TtIter<'_, A>) -> Opt
 }
 
 // The width of an identifier of the same text.
+#[inline(always)]
 fn ident_width<A: Allocator>(ident: &Ident<A>, src: &TtIter<'_, A>) -> Option<usize>
     ensures { result ≡ length_of (ident_text_front ident.now.sym src.now) }
 {
@@ -75,6 +80,7 @@ fn ident_width<A: Allocator>(ident: &Ident<A>, src: &TtIter<'_, A>) -> Option<us
 }
 
 // The width of puncts that are together and have just these chars.
+#[inline(always)]
 fn puncts_width<A: Allocator>(puncts: &[Punct], src: &TtIter<'_, A>) -> Option<usize>
     ensures { result ≡ length_of (puncts_front (chars_of puncts.now) src.now) }
 {
@@ -84,6 +90,7 @@ fn puncts_width<A: Allocator>(puncts: &[Punct], src: &TtIter<'_, A>) -> Option<u
 }
 
 // The width of a separator.
+#[inline(always)]
 fn separator_width<A: Allocator>(separator: &Separator<A>, src: &TtIter<'_, A>) -> Option<usize>
     ensures { result ≡ length_of (separator_front (separator_seen separator.now) src.now) }
 {
@@ -93,6 +100,7 @@ fn separator_width<A: Allocator>(separator: &Separator<A>, src: &TtIter<'_, A>) 
 }
 
 // Consumes a separator.
+#[inline(always)]
 fn eat_separator<A: Allocator>(separator: &Separator<A>, src: &mut TtIter<'_, A>) -> bool
     ensures { HasPassed result (separator_front (separator_seen separator.now) src.old) src.new }
 {
@@ -137,6 +145,7 @@ fn eat_lifetime_of<A: Allocator>(ident: &Ident<A>, src: &mut TtIter<'_, A>) -> b
 }
 
 // Whether a group of the kind comes first.
+#[inline(always)]
 pub(crate) fn opens<A: Allocator>(kind: DelimiterKind, src: &TtIter<'_, A>) -> bool
     ensures { result ≡ is_opening kind src.now }
 {
@@ -149,6 +158,7 @@ pub(crate) fn opens<A: Allocator>(kind: DelimiterKind, src: &TtIter<'_, A>) -> b
 
 // The width of what is between a round and the next one of a repetition, if a next one may
 // begin here.
+#[inline(always)]
 pub(crate) fn between_width<A: Allocator>(
     kind: RepeatKind,
     separator: Option<&Separator<A>>,

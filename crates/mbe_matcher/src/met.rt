@@ -12,6 +12,7 @@ pub(crate) struct Met<A: Allocator = Global> {
     places: Vec<Option<usize>, A>,
 }
 
+#[inline(always)]
 fn is_met(last: Option<usize>, place: usize) -> bool
     ensures { result ≡ is_met place last }
 {
@@ -33,6 +34,7 @@ impl<A: Allocator> Met<A> {
     }
 
     // Whether the dot wasn't met at the place yet; it is met there, then.
+    #[inline(always)]
     pub(crate) fn takes(&mut self, number: usize, place: usize) -> bool
         requires some { 0 < number }
         requires within { number ≤ length self.old.places.items }

@@ -46,6 +46,7 @@ pub(crate) struct Reached<'a, A: Allocator = Global> {
 }
 
 // Whether one goes on by fragment, or over another number of flat tokens than that.
+#[inline(always)]
 fn differs<A: Allocator>(width: usize, by_fragment: bool, other: &Waiting<'_, A>) -> bool
     ensures { result ≡ (by_fragment || is_some other.now.beyond
         || not (nat_eq width other.now.width)) }
@@ -53,6 +54,7 @@ fn differs<A: Allocator>(width: usize, by_fragment: bool, other: &Waiting<'_, A>
     by_fragment || other.beyond.is_some() || width != other.width
 }
 
+#[inline(always)]
 fn clashes_with<A: Allocator>(width: usize, by_fragment: bool, others: &[Waiting<'_, A>]) -> bool
     ensures { result ≡ clashes_with width by_fragment others.now }
 {
@@ -65,6 +67,7 @@ fn clashes_with<A: Allocator>(width: usize, by_fragment: bool, others: &[Waiting
 }
 
 // Whether two of the positions are a local ambiguity.
+#[inline(always)]
 fn is_ambiguous<A: Allocator>(waiting: &[Waiting<'_, A>]) -> bool
     ensures { result ≡ is_clash waiting.now }
 {
@@ -75,6 +78,7 @@ fn is_ambiguous<A: Allocator>(waiting: &[Waiting<'_, A>]) -> bool
 }
 
 // The place after a step. After a fragment it is reached at once.
+#[inline(always)]
 pub(crate) fn after_step<'a, A: Allocator>(
     source: Source<'a, A>,
     step: &Waiting<'a, A>,
@@ -92,6 +96,7 @@ pub(crate) fn after_step<'a, A: Allocator>(
 }
 
 // The positions after their steps, in the same order: the stack at the next place.
+#[inline(always)]
 fn come<'a, A: Allocator>(
     waiting: &[Waiting<'a, A>],
     todo: &mut Todo<'a, '_, A>,
@@ -117,6 +122,7 @@ fn at_end(place: usize, ends: &[Handle]) -> Stop
 }
 
 // Why the positions stop here, if they do: the argument ends, two of them clash, or none goes on.
+#[inline(always)]
 fn stopped<A: Allocator>(
     source: &Source<'_, A>,
     waiting: &[Waiting<'_, A>],

@@ -23,6 +23,7 @@ pub(crate) struct Position<'a, A: Allocator = Global> {
 
 impl<'a, A: Allocator> Position<'a, A> {
     // The same position once more.
+    #[inline(always)]
     pub(crate) fn again(&self) -> Position<'a, A>
         ensures { result ≡ self.now }
     {
@@ -107,6 +108,7 @@ pub(crate) struct Steps<'a, A: Allocator = Global> {
 
 impl<'a, A: Allocator> Steps<'a, A> {
     // Whether there is a step, or the pattern's end.
+    #[inline(always)]
     pub(crate) fn is_some(&self) -> bool
         ensures { result ≡ (is_some self.now.first || (is_some self.now.second
             || (is_some self.now.next || is_some self.now.done))) }

@@ -225,6 +225,7 @@ pub(crate) struct Report<'a, A: Allocator = Global> {
 // Whether an error is noted where the op doesn't fit. At a group and at a variable of an unknown
 // kind none is.
 #[tactic(auto, using(mbe_ops::proofs::OpViews::views))]
+#[inline(always)]
 pub(crate) fn is_noted<A: Allocator>(op: &Op<A>) -> bool
     ensures { result ≡ is_noted (op_of op.now) }
 {
@@ -257,6 +258,7 @@ impl<'a, A: Allocator> Report<'a, A> {
     }
 
     // A position before these ops was looked at, which failed if it has no step at the place.
+    #[inline(always)]
     pub(crate) fn looked_at(
         &mut self,
         source: &Source<'a, A>,

@@ -72,6 +72,7 @@ impl<'a, A: Allocator + Copy> State<'a, A> {
 }
 
 // The value at the end, if there is one.
+#[inline(always)]
 fn push_some<T: MadeWith<A> + Drop, const N: usize, A: Allocator + Copy>(
     values: &mut SmallVec<T, N, A>,
     value: Option<T>,

@@ -36,6 +36,7 @@ impl<'a, A: Allocator> Source<'a, A> {
     }
 
     // The trees from the place to the end of the innermost group.
+    #[inline(always)]
     pub(crate) fn here(&self) -> TtIter<'a, A>
         ensures { result ≡ rest_at (trees self.now.whole) self.now.place }
     {
@@ -50,6 +51,7 @@ impl<'a, A: Allocator> Source<'a, A> {
     }
 
     // Whether the whole argument is passed.
+    #[inline(always)]
     pub(crate) fn is_at_end(&self) -> bool
         ensures { IsTrue result ↔ (self.now.place ≡ flat_len (trees self.now.whole)) }
     {
@@ -57,6 +59,7 @@ impl<'a, A: Allocator> Source<'a, A> {
     }
 
     // Whether a group of the argument ends here.
+    #[inline(always)]
     pub(crate) fn closes(&self) -> bool
         ensures { result ≡ nat_lt self.now.place (flat_len (trees self.now.whole))
             && is_none (rest_at (trees self.now.whole) self.now.place) }
@@ -85,6 +88,7 @@ impl<'a, A: Allocator> Source<'a, A> {
     }
 
     // The place after one flat token: a leaf, an opening or a closing.
+    #[inline(always)]
     fn bumped(self) -> Result<Source<'a, A>, AllocError>
         requires { self.place < flat_len (trees self.whole) }
         ensures whole { IfOk result (λ s. s.whole ≡ self.entry.whole) }
@@ -114,6 +118,7 @@ impl<'a, A: Allocator> Source<'a, A> {
     }
 
     // The place after so many flat tokens.
+    #[inline(always)]
     pub(crate) fn passed(self, width: usize) -> Result<Source<'a, A>, AllocError>
         requires { self.place + width ≤ flat_len (trees self.whole) }
         ensures whole { IfOk result (λ s. s.whole ≡ self.entry.whole) }
@@ -128,6 +133,7 @@ impl<'a, A: Allocator> Source<'a, A> {
 
     // The place after whole trees of so many flat tokens, in one step. `beyond` is what is left
     // after them.
+    #[inline(always)]
     pub(crate) fn jumped(self, width: usize, beyond: TtIter<'a, A>) -> Source<'a, A>
         requires fits { self.place + width ≤ flat_len (trees self.whole) }
         requires beyond { IsBehind (rest_at (trees self.whole) self.place) width beyond }

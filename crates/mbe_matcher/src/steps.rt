@@ -23,6 +23,7 @@ use mbe_tt::tt::{Delimiter, TtIter};
 use std::alloc::{AllocError, Allocator};
 
 // All steps of the position at the source's place.
+#[inline(always)]
 pub(crate) fn steps<'a, A: Allocator + Copy, G: FragmentGrammar>(
     grammar: &G,
     source: &Source<'a, A>,
@@ -42,6 +43,7 @@ pub(crate) fn steps<'a, A: Allocator + Copy, G: FragmentGrammar>(
 
 // The steps before an op. `rest` are the ops after it.
 #[tactic(auto, using(mbe_ops::proofs::OpViews::views))]
+#[inline(always)]
 fn op_steps<'a, A: Allocator + Copy, G: FragmentGrammar>(
     grammar: &G,
     source: &Source<'a, A>,
@@ -81,6 +83,7 @@ fn op_steps<'a, A: Allocator + Copy, G: FragmentGrammar>(
     }
 }
 
+#[inline(always)]
 fn no_steps<'a, A: Allocator>() -> Steps<'a, A>
     ensures { result ≡ record { first = None; second = None; next = None; done = None } }
 {
@@ -93,6 +96,7 @@ fn no_steps<'a, A: Allocator>() -> Steps<'a, A>
 }
 
 // Those over no flat token alone.
+#[inline(always)]
 fn idle<'a, A: Allocator>(
     first: Option<Position<'a, A>>,
     second: Option<Position<'a, A>>,
@@ -110,6 +114,7 @@ fn idle<'a, A: Allocator>(
 
 // Over that many flat tokens, or none. `beyond` is what is left after them, where they are a
 // fragment.
+#[inline(always)]
 fn over<'a, A: Allocator>(
     width: usize,
     beyond: Option<TtIter<'a, A>>,
@@ -139,6 +144,7 @@ fn over<'a, A: Allocator>(
 }
 
 // Over a token of the pattern.
+#[inline(always)]
 fn plain_steps<'a, A: Allocator>(
     source: &Source<'a, A>,
     op: &Op<A>,
@@ -163,6 +169,7 @@ fn plain_steps<'a, A: Allocator>(
 }
 
 // Into a group.
+#[inline(always)]
 fn group_steps<'a, A: Allocator + Copy>(
     source: &Source<'a, A>,
     outers: &mut Vec<Outer<'a, A>, A>,
@@ -195,6 +202,7 @@ fn group_steps<'a, A: Allocator + Copy>(
 }
 
 // Over what a variable of the kind takes.
+#[inline(always)]
 fn variable_steps<'a, A: Allocator + Copy, G: FragmentGrammar>(
     grammar: &G,
     source: &Source<'a, A>,
@@ -227,6 +235,7 @@ fn variable_steps<'a, A: Allocator + Copy, G: FragmentGrammar>(
 }
 
 // Into a repetition, and past it.
+#[inline(always)]
 fn repetition_steps<'a, A: Allocator + Copy>(
     log: &mut BindingLog<'a, A>,
     outers: &mut Vec<Outer<'a, A>, A>,
@@ -268,6 +277,7 @@ fn repetition_steps<'a, A: Allocator + Copy>(
 }
 
 // Past a repetition, where it may have no round.
+#[inline(always)]
 fn skipped<'a, A: Allocator + Copy>(
     log: &mut BindingLog<'a, A>,
     body: &'a [Op<A>],
@@ -297,6 +307,7 @@ fn skipped<'a, A: Allocator + Copy>(
 }
 
 // The steps at the end of what is open.
+#[inline(always)]
 fn end_steps<'a, A: Allocator + Copy>(
     source: &Source<'a, A>,
     log: &mut BindingLog<'a, A>,
@@ -333,6 +344,7 @@ fn end_steps<'a, A: Allocator + Copy>(
 }
 
 // Out of a repetition, and into another round.
+#[inline(always)]
 fn round_steps<'a, A: Allocator + Copy>(
     source: &Source<'a, A>,
     log: &mut BindingLog<'a, A>,

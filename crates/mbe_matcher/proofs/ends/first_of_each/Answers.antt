@@ -29,9 +29,9 @@ loop-position-init g c =
         c.requires.unmet s.place (omega arith),
         λ st. (
           first_start i s.place (length c.args.pass.now.first_met.places.items) c.args.log.now c.args.pass.now.outers.items (rest_at (trees s.whole) s.place)
-              c.args.stack.items c.new-waiting.result.items c.new-ends.result.items st c.new-waiting.ensures.items c.new-ends.ensures.items,
+              c.args.todo.now.items c.clear.new.self.items c.clear-2.new.self.items st c.clear.ensures.items c.clear-2.ensures.items,
           λ n r. noted_start i s.place (length c.args.pass.now.first_met.places.items) c.args.log.now c.args.pass.now.outers.items (rest_at (trees s.whole) s.place)
-              c.args.stack.items c.new-waiting.result.items c.new-ends.result.items st c.new-waiting.ensures.items c.new-ends.ensures.items (trees s.whole) c.args.pass.now.report n r,
+              c.args.todo.now.items c.clear.new.self.items c.clear-2.new.self.items st c.clear.ensures.items c.clear-2.ensures.items (trees s.whole) c.args.pass.now.report n r,
         ),
       );
     }
@@ -43,7 +43,7 @@ takes-requires-clause-some g c =
     let st = c.requires.stack in
     let inv = c.loop-position.invariant in
     (first_number i st.pattern (trees s.whole) s.place (kept_first i (dots st.pattern) s.place st.outlines) inv.walked.0 c.loop-position.log c.loop-position.pass.outers.items c.pop.new.self.items
-    c.loop-position.todo.items c.in-Some.position c.loop-position.waiting.items c.loop-position.ends.items c.in-Some.ensures.items (inv.walked.2 st).0).0
+    c.loop-position.todo.items c.in-Some.position c.loop-position.firsts.waiting.items c.loop-position.firsts.ends.items c.in-Some.ensures.items (inv.walked.2 st).0).0
 
 pub takes-requires-clause-within : goal.takes-requires-clause-within
 takes-requires-clause-within g c =
@@ -52,7 +52,7 @@ takes-requires-clause-within g c =
     let st = c.requires.stack in
     let inv = c.loop-position.invariant in
     let n = (first_number i st.pattern (trees s.whole) s.place (kept_first i (dots st.pattern) s.place st.outlines) inv.walked.0 c.loop-position.log c.loop-position.pass.outers.items c.pop.new.self.items
-    c.loop-position.todo.items c.in-Some.position c.loop-position.waiting.items c.loop-position.ends.items c.in-Some.ensures.items (inv.walked.2 st).0).1 in
+    c.loop-position.todo.items c.in-Some.position c.loop-position.firsts.waiting.items c.loop-position.firsts.ends.items c.in-Some.ensures.items (inv.walked.2 st).0).1 in
     let size = inv.size in
     let all = st.size_is in
     omega (arith, n, size, all)
@@ -83,10 +83,10 @@ loop-position-preserved-then-not-takes g c =
         subst (λ b. AreMet c.takes.new.self.places.items s.place (cons_if b c.in-Some.position.number met)) c.if-not-takes.true counted.1,
         λ st. (
           first_drop i st.pattern (trees s.whole) s.place (kept_first i (dots st.pattern) s.place st.outlines) met c.loop-position.log c.loop-position.pass.outers.items
-              c.pop.new.self.items c.loop-position.todo.items c.in-Some.position c.loop-position.waiting.items c.loop-position.ends.items c.in-Some.ensures.items (inv.walked.2 st).0
+              c.pop.new.self.items c.loop-position.todo.items c.in-Some.position c.loop-position.firsts.waiting.items c.loop-position.firsts.ends.items c.in-Some.ensures.items (inv.walked.2 st).0
               (sym counted.0 ∙ c.if-not-takes.true),
           λ n r. noted_drop i st.pattern (trees s.whole) s.place (kept_first i (dots st.pattern) s.place st.outlines) met c.loop-position.log c.loop-position.pass.outers.items
-              c.pop.new.self.items c.loop-position.todo.items c.in-Some.position c.loop-position.waiting.items c.loop-position.ends.items c.in-Some.ensures.items (inv.walked.2 st).0
+              c.pop.new.self.items c.loop-position.todo.items c.in-Some.position c.loop-position.firsts.waiting.items c.loop-position.firsts.ends.items c.in-Some.ensures.items (inv.walked.2 st).0
               (sym counted.0 ∙ c.if-not-takes.true) (trees s.whole) c.loop-position.pass.report n ((inv.walked.2 st).1 n r),
         ),
       );
@@ -99,7 +99,7 @@ steps-requires g c =
     let st = c.requires.stack in
     let inv = c.loop-position.invariant in
     first_shown i st.pattern (trees s.whole) s.place (kept_first i (dots st.pattern) s.place st.outlines) inv.walked.0 c.loop-position.log c.loop-position.pass.outers.items c.pop.new.self.items
-    c.loop-position.todo.items c.in-Some.position c.loop-position.waiting.items c.loop-position.ends.items c.in-Some.ensures.items (inv.walked.2 st).0
+    c.loop-position.todo.items c.in-Some.position c.loop-position.firsts.waiting.items c.loop-position.firsts.ends.items c.in-Some.ensures.items (inv.walked.2 st).0
 
 pub loop-position-smaller : goal.loop-position-smaller
 loop-position-smaller g c =
@@ -121,7 +121,7 @@ loop-position-preserved g c =
     let pushed = c.in_ok-push_some-2.ensures ∙ ap (λ l. l ++ option_to_list f.first) c.in_ok-push_some.ensures in
     let st = c.requires.stack in
     let is = first_shown i st.pattern (trees s.whole) s.place (kept_first i (dots st.pattern) s.place st.outlines) met c.loop-position.log c.loop-position.pass.outers.items c.pop.new.self.items
-    c.loop-position.todo.items c.in-Some.position c.loop-position.waiting.items c.loop-position.ends.items c.in-Some.ensures.items (inv.walked.2 st).0 in
+    c.loop-position.todo.items c.in-Some.position c.loop-position.firsts.waiting.items c.loop-position.firsts.ends.items c.in-Some.ensures.items (inv.walked.2 st).0 in
     let keeping = (c.in_ok-found.ensures is.0 is.1).kept in
     record {
       keeps = keeps_on c.args.log.now c.loop-position.log c.steps.new.log c.args.pass.now.outers.items c.loop-position.pass.outers.items c.steps.new.outers.items inv.keeps keeping;
@@ -133,11 +133,11 @@ loop-position-preserved g c =
         subst (λ b. AreMet c.takes.new.self.places.items s.place (cons_if b c.in-Some.position.number met)) taken counted.1,
         λ st. (
           first_take i st.pattern (trees s.whole) s.place (kept_first i (dots st.pattern) s.place st.outlines) met c.loop-position.log c.loop-position.pass.outers.items
-              c.pop.new.self.items c.loop-position.todo.items c.in-Some.position c.loop-position.waiting.items c.loop-position.ends.items c.in-Some.ensures.items (inv.walked.2 st).0
+              c.pop.new.self.items c.loop-position.todo.items c.in-Some.position c.loop-position.firsts.waiting.items c.loop-position.firsts.ends.items c.in-Some.ensures.items (inv.walked.2 st).0
               c.steps.new.log c.steps.new.outers.items f c.push_some-in-Some.new.values.items c.push_some-in-Some-2.new.values.items c.push_some-in-Some-3.new.values.items
               c.in_ok-found.ensures pushed c.in_ok-push_some-3.ensures c.in_ok-push_some-4.ensures (sym counted.0 ∙ taken),
           λ n r. noted_take i st.pattern (trees s.whole) s.place (kept_first i (dots st.pattern) s.place st.outlines) met c.loop-position.log c.loop-position.pass.outers.items
-              c.pop.new.self.items c.loop-position.todo.items c.in-Some.position c.loop-position.waiting.items c.loop-position.ends.items c.in-Some.ensures.items (inv.walked.2 st).0
+              c.pop.new.self.items c.loop-position.todo.items c.in-Some.position c.loop-position.firsts.waiting.items c.loop-position.firsts.ends.items c.in-Some.ensures.items (inv.walked.2 st).0
               c.steps.new.log c.steps.new.outers.items f c.push_some-in-Some.new.values.items c.push_some-in-Some-2.new.values.items c.push_some-in-Some-3.new.values.items
               c.in_ok-found.ensures pushed c.in_ok-push_some-3.ensures c.in_ok-push_some-4.ensures (sym counted.0 ∙ taken) (trees s.whole) c.loop-position.pass.report c.looked_at.new.self n c.is_some.result c.again-handle.result c.is_some.ensures c.again-handle.ensures c.looked_at.ensures ((inv.walked.2 st).1 n r),
         ),
@@ -151,7 +151,7 @@ returns-clause-firsts g c = λ st.
     let i = input_of (g.G.FragmentGrammar.grammar c.args.grammar.now) (trees s.whole) in
     let inv = c.loop-position.invariant in
     first_end i st.pattern s.place st.outlines c.loop-position.log c.loop-position.pass.outers.items (rest_at (trees s.whole) s.place)
-    c.loop-position.todo.items inv.walked.0 c.loop-position.waiting.items c.loop-position.ends.items (popped_all todo.items (λ (l : 0 < length todo.items). c.in_default.ensures.variant.1 (omega (arith, l, todo.ok.0)))) (inv.walked.2 st).0
+    c.loop-position.todo.items inv.walked.0 c.loop-position.firsts.waiting.items c.loop-position.firsts.ends.items (popped_all todo.items (λ (l : 0 < length todo.items). c.in_default.ensures.variant.1 (omega (arith, l, todo.ok.0)))) (inv.walked.2 st).0
 
 pub returns-clause-notes : goal.returns-clause-notes
 returns-clause-notes g c = λ st n r.
@@ -161,5 +161,5 @@ returns-clause-notes g c = λ st n r.
     let inv = c.loop-position.invariant in
     let w = (inv.walked.2 st).0 in
     let done = first_done i st.pattern s.place (kept_first i (dots st.pattern) s.place st.outlines) c.loop-position.log c.loop-position.pass.outers.items (rest_at (trees s.whole) s.place)
-    c.loop-position.todo.items inv.walked.0 c.loop-position.waiting.items c.loop-position.ends.items (popped_all todo.items (λ (l : 0 < length todo.items). c.in_default.ensures.variant.1 (omega (arith, l, todo.ok.0)))) w in
+    c.loop-position.todo.items inv.walked.0 c.loop-position.firsts.waiting.items c.loop-position.firsts.ends.items (popped_all todo.items (λ (l : 0 < length todo.items). c.in_default.ensures.variant.1 (omega (arith, l, todo.ok.0)))) w in
     subst (λ l. IsReportOf c.loop-position.log (trees s.whole) c.loop-position.pass.report (filter_map (misfit i s.place) l) n) done ((inv.walked.2 st).1 n r)

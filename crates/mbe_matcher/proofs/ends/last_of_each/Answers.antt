@@ -23,7 +23,7 @@ loop-visit-init g c =
         [],
         c.requires.unmet s.place (omega arith),
         λ st. last_start i (rest_at (trees s.whole) s.place) s.place (length c.args.pass.now.last_met.places.items) c.args.log.now c.args.pass.now.outers.items
-            c.args.stack.items c.new.result.items st c.new.ensures.items,
+            c.args.todo.now.items c.clear.new.self.items st c.clear.ensures.items,
       );
     }
 

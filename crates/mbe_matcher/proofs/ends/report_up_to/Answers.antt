@@ -1,4 +1,4 @@
-use Rattle.std.proofs.Common.{◌≡◌, ◌+◌, ◌∙◌, ◌∷◌, ◌++◌, ◌<◌, ◌≤◌, [], length, get_or, sym, ap, subst, arith}
+use Rattle.std.proofs.Common.{◌≡◌, ◌+◌, ◌∙◌, ◌∷◌, ◌++◌, ◌<◌, ◌≤◌, [], map, reverse, length, get_or, sym, ap, subst, arith}
 use Rattle.std.specs.Prelude.{IfSome}
 use Rattle.mbe_tt.specs.Trees.Tree.{rest_at}
 use Rattle.mbe_tt.specs.Views.View.{trees}
@@ -13,7 +13,9 @@ use Rattle.mbe_matcher.specs.declared.position.Waiting.{Waiting}
 use Rattle.mbe_matcher.specs.Met.{AreUnmetFrom}
 use Rattle.mbe_matcher.specs.Positions.{IsLeft}
 use Rattle.mbe_matcher.specs.Reports.{IsFullReport}
+use Rattle.mbe_matcher.specs.Matched.{position_after}
 use Rattle.mbe_matcher.specs.TwoEnds.{kept_noted}
+use Rattle.mbe_matcher.specs.EndsMatched.{visit_after, FirstFails}
 use Rattle.mbe_matcher.proofs.EndsPass.{PassAt, pass_begins, first_stack, last_stack, noted_at_stop, goes, pass_notes, pass_goes}
 use Rattle.mbe_matcher.proofs.ends.report_up_to.Goals as goal
 
@@ -70,14 +72,14 @@ last_of_each-requires-clause-stack g c =
     let is = subst (λ x. IsVerdict h pat (trees x) v) (sym inv.whole) c.requires.stop.1 in
     let at = c.requires.stop.2 ∙ ap (λ x. stop_of (trees x) v) (sym inv.whole) in
     let within = subst (λ k. s.place ≤ k) at inv.within in
-    let size = ap (λ (m : Met g.row.A.Denot). length m.places.items) c.in_ok-first.ensures.other ∙ inv.last_size in
+    let size = ap (λ (m : Met g.row.A.Denot). length m.places.items) c.in_ok-first_of_each.ensures.other ∙ inv.last_size in
     let ls = last_stack h pat f lawful c.requires.checked v is s.place within c.loop-source.log c.loop-source.pass.outers.items c.loop-source.firsts.items c.loop-source.lasts.items
-    c.loop-source.pass.report inv.comes (length c.first_of_each.new.pass.last_met.places.items) (sym size) c.first_of_each.new.log c.first_of_each.new.pass.outers.items c.in_ok-first.ensures.kept in
+    c.loop-source.pass.report inv.comes (length c.first_of_each.new.pass.last_met.places.items) (sym size) c.first_of_each.new.log c.first_of_each.new.pass.outers.items c.in_ok-first_of_each.ensures.kept in
     ls
 
 pub last_of_each-requires-clause-unmet : goal.last_of_each-requires-clause-unmet
 last_of_each-requires-clause-unmet g c =
-    subst (λ (m : Met g.row.A.Denot). AreUnmetFrom m.places.items c.loop-source.source.place) (sym c.in_ok-first.ensures.other) c.loop-source.invariant.last_unmet
+    subst (λ (m : Met g.row.A.Denot). AreUnmetFrom m.places.items c.loop-source.source.place) (sym c.in_ok-first_of_each.ensures.other) c.loop-source.invariant.last_unmet
 
 pub returns-then-source-stop-clause-report : goal.returns-then-source-stop-clause-report
 returns-then-source-stop-clause-report g c =
@@ -94,16 +96,17 @@ returns-then-source-stop-clause-report g c =
     let within = subst (λ k. s.place ≤ k) at inv.within in
     let fs = first_stack h pat f lawful c.requires.checked v is s.place within c.loop-source.log c.loop-source.pass.outers.items c.loop-source.firsts.items c.loop-source.lasts.items
     c.loop-source.pass.report inv.comes (length c.loop-source.pass.first_met.places.items) (sym inv.first_size) in
-    let size = ap (λ (m : Met g.row.A.Denot). length m.places.items) c.in_ok-first.ensures.other ∙ inv.last_size in
+    let size = ap (λ (m : Met g.row.A.Denot). length m.places.items) c.in_ok-first_of_each.ensures.other ∙ inv.last_size in
     let ls = last_stack h pat f lawful c.requires.checked v is s.place within c.loop-source.log c.loop-source.pass.outers.items c.loop-source.firsts.items c.loop-source.lasts.items
-    c.loop-source.pass.report inv.comes (length c.first_of_each.new.pass.last_met.places.items) (sym size) c.first_of_each.new.log c.first_of_each.new.pass.outers.items c.in_ok-first.ensures.kept in
-    let firsts = c.in_ok-first.ensures.firsts fs in
-    let lasts = c.in_ok-last.ensures.lasts ls in
-    let k = c.in_ok-last.ensures.kept in
+    c.loop-source.pass.report inv.comes (length c.first_of_each.new.pass.last_met.places.items) (sym size) c.first_of_each.new.log c.first_of_each.new.pass.outers.items c.in_ok-first_of_each.ensures.kept in
+    let firsts = c.in_ok-first_of_each.ensures.firsts fs in
+    let lasts = c.in_ok-last_of_each.ensures.lasts ls in
+    let k = c.in_ok-last_of_each.ensures.kept in
     let noted = pass_notes i f pat s.place inv.comes.os inv.comes.ps inv.comes.before c.first_of_each.new.log c.last_of_each.new.log c.first_of_each.new.pass.outers.items c.last_of_each.new.pass.outers.items
-    c.in_ok-first.first.waiting.items c.in_ok-last.last.waiting.items c.in_ok-first.first.ends.items c.deref-in-loop-source.result.now c.in_ok-last.last.failed
-    c.first_of_each.new.pass.report c.last_of_each.new.pass.report c.after_place.new.self.report firsts lasts k c.deref-in-loop-source.ensures.value c.in_ok-last.ensures.report
-    (c.in_ok-first.ensures.notes fs inv.comes.before inv.comes.notes) (λ ms us cs. c.after_place.ensures.notes i c.last_of_each.new.log ms us cs inv.comes.before) in
+    c.first_of_each.new.firsts.waiting.items c.last_of_each.new.lasts.waiting.items c.first_of_each.new.firsts.ends.items c.deref-in-loop-source.result.now c.last_of_each.new.lasts.failed
+    c.first_of_each.new.pass.report c.last_of_each.new.pass.report c.after_place.new.self.report firsts lasts k c.deref-in-loop-source.ensures.value c.in_ok-last_of_each.ensures.report
+    (c.in_ok-first_of_each.ensures.notes fs inv.comes.before inv.comes.notes) (λ ms us cs fails. c.after_place.ensures.notes i c.last_of_each.new.log ms us cs inv.comes.before
+    (subst (λ x. FirstFails i s.place c.last_of_each.new.log x us) (sym c.take.ensures.value) fails)) in
     let all = noted_at_stop h pat f lawful c.requires.checked v is s.place within c.loop-source.log c.loop-source.pass.outers.items c.loop-source.firsts.items c.loop-source.lasts.items
     c.loop-source.pass.report inv.comes in
     let full : IsFullReport h pat f c.last_of_each.new.log s.place c.after_place.new.self.report = (kept_noted i pat s.place inv.comes.os inv.comes.ps inv.comes.before, all, noted) in
@@ -113,7 +116,7 @@ returns-then-source-stop-clause-report g c =
 pub returns-then-source-stop-clause-kept : goal.returns-then-source-stop-clause-kept
 returns-then-source-stop-clause-kept g c =
     kept-on c.args.log.now c.loop-source.log c.last_of_each.new.log c.loop-source.invariant.kept
-    (kept-on c.loop-source.log c.first_of_each.new.log c.last_of_each.new.log c.in_ok-first.ensures.kept.log c.in_ok-last.ensures.kept.log)
+    (kept-on c.loop-source.log c.first_of_each.new.log c.last_of_each.new.log c.in_ok-first_of_each.ensures.kept.log c.in_ok-last_of_each.ensures.kept.log)
 
 pub index-requires : goal.index-requires
 index-requires g c =
@@ -133,9 +136,9 @@ index-requires g c =
     let before : s.place < stop_of f v =
     (let far = c.if-source-stop.false in let near = inv.within in let same = at in omega (arith, far, near, same)) in
     let t = goes h pat f lawful c.requires.checked v is s.place inv.comes.os inv.comes.ps inv.comes.before c.first_of_each.new.log c.first_of_each.new.pass.outers.items
-    c.in_ok-first.first.waiting.items c.in_ok-first.first.ends.items inv.comes.follows before (c.in_ok-first.ensures.firsts fs) in
-    let some : length c.in_ok-first.first.waiting.items ≡ length (t.first ∷ t.rest) = ap length t.is in
-    omega (arith, some, c.in_ok-first.first.waiting.ok.0)
+    c.first_of_each.new.firsts.waiting.items c.first_of_each.new.firsts.ends.items inv.comes.follows before (c.in_ok-first_of_each.ensures.firsts fs) in
+    let some : length c.first_of_each.new.firsts.waiting.items ≡ length (t.first ∷ t.rest) = ap length t.is in
+    omega (arith, some, c.first_of_each.new.firsts.waiting.ok.0)
 
 pub after_step-requires-clause-fits : goal.after_step-requires-clause-fits
 after_step-requires-clause-fits g c =
@@ -155,7 +158,7 @@ after_step-requires-clause-fits g c =
     let before : s.place < stop_of f v =
     (let far = c.if-source-stop.false in let near = inv.within in let same = at in omega (arith, far, near, same)) in
     let t = goes h pat f lawful c.requires.checked v is s.place inv.comes.os inv.comes.ps inv.comes.before c.first_of_each.new.log c.first_of_each.new.pass.outers.items
-    c.in_ok-first.first.waiting.items c.in_ok-first.first.ends.items inv.comes.follows before (c.in_ok-first.ensures.firsts fs) in
+    c.first_of_each.new.firsts.waiting.items c.first_of_each.new.firsts.ends.items inv.comes.follows before (c.in_ok-first_of_each.ensures.firsts fs) in
     let first : c.index.result.now ≡ t.first = c.index.ensures ∙ ap (λ l. get_or l 0 c.index.result.now) t.is in
     let wide = ap (λ (x : Waiting g.row.A.Denot). x.width) first in
     let fits = t.fits in
@@ -179,7 +182,7 @@ after_step-requires-clause-left g c =
     let before : s.place < stop_of f v =
     (let far = c.if-source-stop.false in let near = inv.within in let same = at in omega (arith, far, near, same)) in
     let t = goes h pat f lawful c.requires.checked v is s.place inv.comes.os inv.comes.ps inv.comes.before c.first_of_each.new.log c.first_of_each.new.pass.outers.items
-    c.in_ok-first.first.waiting.items c.in_ok-first.first.ends.items inv.comes.follows before (c.in_ok-first.ensures.firsts fs) in
+    c.first_of_each.new.firsts.waiting.items c.first_of_each.new.firsts.ends.items inv.comes.follows before (c.in_ok-first_of_each.ensures.firsts fs) in
     let first : c.index.result.now ≡ t.first = c.index.ensures ∙ ap (λ l. get_or l 0 c.index.result.now) t.is in
     subst (λ (x : Waiting g.row.A.Denot). IsLeft (rest_at f s.place) x.width x.beyond) (sym first) t.left
 
@@ -201,7 +204,7 @@ loop-source-smaller g c =
     let before : s.place < stop_of f v =
     (let far = c.if-source-stop.false in let near = inv.within in let same = at in omega (arith, far, near, same)) in
     let t = goes h pat f lawful c.requires.checked v is s.place inv.comes.os inv.comes.ps inv.comes.before c.first_of_each.new.log c.first_of_each.new.pass.outers.items
-    c.in_ok-first.first.waiting.items c.in_ok-first.first.ends.items inv.comes.follows before (c.in_ok-first.ensures.firsts fs) in
+    c.first_of_each.new.firsts.waiting.items c.first_of_each.new.firsts.ends.items inv.comes.follows before (c.in_ok-first_of_each.ensures.firsts fs) in
     let first : c.index.result.now ≡ t.first = c.index.ensures ∙ ap (λ l. get_or l 0 c.index.result.now) t.is in
     let wide = ap (λ (x : Waiting g.row.A.Denot). x.width) first in
     let some = t.some in
@@ -224,38 +227,41 @@ loop-source-preserved g c =
     let within = subst (λ k. s.place ≤ k) at inv.within in
     let fs = first_stack h pat f lawful c.requires.checked v is s.place within c.loop-source.log c.loop-source.pass.outers.items c.loop-source.firsts.items c.loop-source.lasts.items
     c.loop-source.pass.report inv.comes (length c.loop-source.pass.first_met.places.items) (sym inv.first_size) in
-    let size = ap (λ (m : Met g.row.A.Denot). length m.places.items) c.in_ok-first.ensures.other ∙ inv.last_size in
+    let size = ap (λ (m : Met g.row.A.Denot). length m.places.items) c.in_ok-first_of_each.ensures.other ∙ inv.last_size in
     let ls = last_stack h pat f lawful c.requires.checked v is s.place within c.loop-source.log c.loop-source.pass.outers.items c.loop-source.firsts.items c.loop-source.lasts.items
-    c.loop-source.pass.report inv.comes (length c.first_of_each.new.pass.last_met.places.items) (sym size) c.first_of_each.new.log c.first_of_each.new.pass.outers.items c.in_ok-first.ensures.kept in
-    let firsts = c.in_ok-first.ensures.firsts fs in
-    let lasts = c.in_ok-last.ensures.lasts ls in
-    let k = c.in_ok-last.ensures.kept in
+    c.loop-source.pass.report inv.comes (length c.first_of_each.new.pass.last_met.places.items) (sym size) c.first_of_each.new.log c.first_of_each.new.pass.outers.items c.in_ok-first_of_each.ensures.kept in
+    let firsts = c.in_ok-first_of_each.ensures.firsts fs in
+    let lasts = c.in_ok-last_of_each.ensures.lasts ls in
+    let k = c.in_ok-last_of_each.ensures.kept in
     let noted = pass_notes i f pat s.place inv.comes.os inv.comes.ps inv.comes.before c.first_of_each.new.log c.last_of_each.new.log c.first_of_each.new.pass.outers.items c.last_of_each.new.pass.outers.items
-    c.in_ok-first.first.waiting.items c.in_ok-last.last.waiting.items c.in_ok-first.first.ends.items c.deref-in-loop-source.result.now c.in_ok-last.last.failed
-    c.first_of_each.new.pass.report c.last_of_each.new.pass.report c.after_place.new.self.report firsts lasts k c.deref-in-loop-source.ensures.value c.in_ok-last.ensures.report
-    (c.in_ok-first.ensures.notes fs inv.comes.before inv.comes.notes) (λ ms us cs. c.after_place.ensures.notes i c.last_of_each.new.log ms us cs inv.comes.before) in
+    c.first_of_each.new.firsts.waiting.items c.last_of_each.new.lasts.waiting.items c.first_of_each.new.firsts.ends.items c.deref-in-loop-source.result.now c.last_of_each.new.lasts.failed
+    c.first_of_each.new.pass.report c.last_of_each.new.pass.report c.after_place.new.self.report firsts lasts k c.deref-in-loop-source.ensures.value c.in_ok-last_of_each.ensures.report
+    (c.in_ok-first_of_each.ensures.notes fs inv.comes.before inv.comes.notes) (λ ms us cs fails. c.after_place.ensures.notes i c.last_of_each.new.log ms us cs inv.comes.before
+    (subst (λ x. FirstFails i s.place c.last_of_each.new.log x us) (sym c.take.ensures.value) fails)) in
     let before : s.place < stop_of f v =
     (let far = c.if-source-stop.false in let near = inv.within in let same = at in omega (arith, far, near, same)) in
     let t = goes h pat f lawful c.requires.checked v is s.place inv.comes.os inv.comes.ps inv.comes.before c.first_of_each.new.log c.first_of_each.new.pass.outers.items
-    c.in_ok-first.first.waiting.items c.in_ok-first.first.ends.items inv.comes.follows before (c.in_ok-first.ensures.firsts fs) in
+    c.first_of_each.new.firsts.waiting.items c.first_of_each.new.firsts.ends.items inv.comes.follows before (c.in_ok-first_of_each.ensures.firsts fs) in
     let first : c.index.result.now ≡ t.first = c.index.ensures ∙ ap (λ l. get_or l 0 c.index.result.now) t.is in
     let wide = ap (λ (x : Waiting g.row.A.Denot). x.width) first in
     let there : c.in_ok-source.source.place ≡ s.place + t.first.width = c.in_ok-source.ensures.place ∙ ap (λ n. s.place + n) wide in
     let some = t.some in
     let near = t.within in
+    let come_firsts = c.in_ok-come_first.ensures ∙ ap (λ l. l ++ reverse (map position_after c.last_of_each.new.lasts.waiting.items)) c.in_ok-first_of_each.ensures.done in
+    let come_lasts = c.in_ok-come_last.ensures ∙ ap (λ l. l ++ reverse (map visit_after c.first_of_each.new.firsts.waiting.items)) c.in_ok-last_of_each.ensures.done in
     let comes = pass_goes i f pat s.place c.in_ok-source.source.place t.first.width inv.comes.os inv.comes.ps inv.comes.before c.first_of_each.new.log c.last_of_each.new.log
-    c.first_of_each.new.pass.outers.items c.last_of_each.new.pass.outers.items c.in_ok-first.first.waiting.items c.in_ok-last.last.waiting.items
-    c.in_ok-firsts.firsts.items c.in_ok-lasts.lasts.items c.after_place.new.self.report inv.comes.follows k firsts.goes_on lasts.goes_on c.in_ok-firsts.ensures c.in_ok-lasts.ensures t.wide there noted in
-    let first_met = c.after_place.ensures.first_met ∙ c.in_ok-last.ensures.other in
+    c.first_of_each.new.pass.outers.items c.last_of_each.new.pass.outers.items c.first_of_each.new.firsts.waiting.items c.last_of_each.new.lasts.waiting.items
+    c.come_first.new.stack.items c.come_last.new.stack.items c.after_place.new.self.report inv.comes.follows k firsts.goes_on lasts.goes_on come_firsts come_lasts t.wide there noted in
+    let first_met = c.after_place.ensures.first_met ∙ c.in_ok-last_of_each.ensures.other in
     record {
       comes = subst (λ x. PassAt (input_of h (trees x)) (trees x) pat c.in_ok-source.source.place c.last_of_each.new.log c.after_place.new.self.outers.items
-          c.in_ok-firsts.firsts.items c.in_ok-lasts.lasts.items c.after_place.new.self.report) (sym c.in_ok-source.ensures.whole) (rw c.after_place.ensures.outers comes);
+          c.come_first.new.stack.items c.come_last.new.stack.items c.after_place.new.self.report) (sym c.in_ok-source.ensures.whole) (rw c.after_place.ensures.outers comes);
       whole = c.in_ok-source.ensures.whole ∙ inv.whole;
       within = omega (arith, there, near, at);
-      first_size = ap (λ (m : Met g.row.A.Denot). length m.places.items) first_met ∙ c.in_ok-first.ensures.size ∙ inv.first_size;
-      last_size = ap (λ (m : Met g.row.A.Denot). length m.places.items) c.after_place.ensures.last_met ∙ c.in_ok-last.ensures.size ∙ size;
-      first_unmet = λ q l. subst (λ (m : Met g.row.A.Denot). AreUnmetFrom m.places.items (s.place + 1)) (sym first_met) c.in_ok-first.ensures.unmet q (omega (arith, l, there, some));
-      last_unmet = λ q l. subst (λ (m : Met g.row.A.Denot). AreUnmetFrom m.places.items (s.place + 1)) (sym c.after_place.ensures.last_met) c.in_ok-last.ensures.unmet q (omega (arith, l, there, some));
+      first_size = ap (λ (m : Met g.row.A.Denot). length m.places.items) first_met ∙ c.in_ok-first_of_each.ensures.size ∙ inv.first_size;
+      last_size = ap (λ (m : Met g.row.A.Denot). length m.places.items) c.after_place.ensures.last_met ∙ c.in_ok-last_of_each.ensures.size ∙ size;
+      first_unmet = λ q l. subst (λ (m : Met g.row.A.Denot). AreUnmetFrom m.places.items (s.place + 1)) (sym first_met) c.in_ok-first_of_each.ensures.unmet q (omega (arith, l, there, some));
+      last_unmet = λ q l. subst (λ (m : Met g.row.A.Denot). AreUnmetFrom m.places.items (s.place + 1)) (sym c.after_place.ensures.last_met) c.in_ok-last_of_each.ensures.unmet q (omega (arith, l, there, some));
       kept = kept-on c.args.log.now c.loop-source.log c.last_of_each.new.log inv.kept
-          (kept-on c.loop-source.log c.first_of_each.new.log c.last_of_each.new.log c.in_ok-first.ensures.kept.log c.in_ok-last.ensures.kept.log);
+          (kept-on c.loop-source.log c.first_of_each.new.log c.last_of_each.new.log c.in_ok-first_of_each.ensures.kept.log c.in_ok-last_of_each.ensures.kept.log);
     }
