@@ -72,6 +72,21 @@ keywords =
 abbrev pub last_word : List ℕ → Last
 last_word text = if list_any (is_text text) (map codes keywords) then Keyword else Word
 
+-- Tokens that would be read as one, or as others, are never side by side. A word would go on with a word or a literal.
+abbrev pub joins_word : Last → Bool
+joins_word Word = true
+joins_word Keyword = true
+joins_word Literal = true
+joins_word Start = false
+joins_word (Joint c) = false
+joins_word (Alone c) = false
+joins_word Colons = false
+joins_word Open = false
+joins_word OpenBrace = false
+joins_word Close = false
+joins_word CloseBrace = false
+joins_word Semicolon = false
+
 -- whether a word is kept apart from what was written last
 abbrev pub is_word_apart : Last → Bool
 is_word_apart Start = false
@@ -96,8 +111,8 @@ goes_on text = is_text text (codes "else") || is_text text (codes "as")
 abbrev pub is_literal_apart : Last → Bool
 is_literal_apart Start = false
 is_literal_apart Open = false
-is_literal_apart (Alone c) = not (is_one_of c (codes ".#"))
-is_literal_apart (Joint c) = not (is_one_of c (codes ".#"))
+is_literal_apart (Alone c) = not (c == 46)
+is_literal_apart (Joint c) = not (c == 46)
 is_literal_apart Word = true
 is_literal_apart Keyword = true
 is_literal_apart Literal = true
@@ -107,48 +122,64 @@ is_literal_apart Close = true
 is_literal_apart CloseBrace = true
 is_literal_apart Semicolon = true
 
+-- a literal would go on with a word or a literal too, and a `#` right before a string guards it
+abbrev pub joins_literal : Last → Bool
+joins_literal Word = true
+joins_literal Keyword = true
+joins_literal Literal = true
+joins_literal (Joint c) = c == 35
+joins_literal (Alone c) = c == 35
+joins_literal Start = false
+joins_literal Colons = false
+joins_literal Open = false
+joins_literal OpenBrace = false
+joins_literal Close = false
+joins_literal CloseBrace = false
+joins_literal Semicolon = false
+
 -- ---- puncts
 
--- Whether a punct is kept apart from what was written last. A separator is joint to what the definition has after it, which isn't what is
--- written after it; two puncts of one place were made together, as the `::` of a path.
-abbrev pub is_punct_apart : Last → Bool → ℕ → Bool
-is_punct_apart Start one_place char = false
-is_punct_apart Open one_place char = false
-is_punct_apart (Joint c) one_place char = not one_place
-is_punct_apart (Alone c) one_place char = not (is_one_of char (codes ",;"))
-is_punct_apart Colons one_place char = not (char == 60)
-is_punct_apart Word one_place char = not (is_one_of char (codes ",;?.:!"))
-is_punct_apart Close one_place char = not (is_one_of char (codes ",;?."))
-is_punct_apart CloseBrace one_place char = not (is_one_of char (codes ",;?."))
-is_punct_apart Literal one_place char = not (is_one_of char (codes ",;?"))
-is_punct_apart Keyword one_place char = true
-is_punct_apart OpenBrace one_place char = true
-is_punct_apart Semicolon one_place char = true
+abbrev pub is_joint : Spacing → Bool
+is_joint spacing.Joint = true
+is_joint spacing.Alone = false
 
--- whether what was written last is a literal
-abbrev pub is_literal : Last → Bool
-is_literal Literal = true
-is_literal Start = false
-is_literal Word = false
-is_literal Keyword = false
-is_literal (Joint c) = false
-is_literal (Alone c) = false
-is_literal Colons = false
-is_literal Open = false
-is_literal OpenBrace = false
-is_literal Close = false
-is_literal CloseBrace = false
-is_literal Semicolon = false
+-- Whether a punct is kept apart from what was written last. A separator is joint to what the definition has after it, which isn't what is
+-- written after it; two puncts of one place were made together, as the `::` of a path. A `#` that is joint may begin a file as `#!` does.
+abbrev pub is_punct_apart : Last → Bool → ℕ → Spacing → Bool
+is_punct_apart Start one_place char spacing = is_joint spacing && char == 35
+is_punct_apart Open one_place char spacing = false
+is_punct_apart (Joint c) one_place char spacing = not one_place
+is_punct_apart (Alone c) one_place char spacing = true
+is_punct_apart Colons one_place char spacing = true
+is_punct_apart Word one_place char spacing = not (is_one_of char (codes ",;?.:!"))
+is_punct_apart Close one_place char spacing = not (is_one_of char (codes ",;?."))
+is_punct_apart CloseBrace one_place char spacing = not (is_one_of char (codes ",;?."))
+is_punct_apart Literal one_place char spacing = not (is_one_of char (codes ",;?"))
+is_punct_apart Keyword one_place char spacing = true
+is_punct_apart OpenBrace one_place char spacing = true
+is_punct_apart Semicolon one_place char spacing = true
 
 -- whether a token at that place is side by side with the one after it
 abbrev pub is_before : Span → Option Span → Bool
 is_before place None = false
 is_before place (Some next) = are_beside place next
 
--- Whether a punct stays with what it stands beside. A `.` stays with a number only where the token after it does too: `1.` alone is another
--- number.
-abbrev pub stays : Last → ℕ → Bool → Bool → Bool
-stays last char beside_last beside_next = beside_last && (beside_next || not (is_literal last && char == 46))
+-- Whether a punct stays with what it stands beside. A word is kept apart from a `#` or a `'`, since it would be a prefix. A `.` stays with a
+-- number only where the token after it does too: `1.` alone is another number. A punct that is alone is joint to no other, but a `'`
+-- begins a lifetime.
+abbrev pub stays_with : Last → ℕ → Bool → Bool
+stays_with Word char beside_next = not (is_one_of char (codes "#'"))
+stays_with Keyword char beside_next = not (is_one_of char (codes "#'"))
+stays_with Literal char beside_next = beside_next || not (char == 46)
+stays_with (Alone c) char beside_next = char == 39
+stays_with Colons char beside_next = char == 39
+stays_with Semicolon char beside_next = char == 39
+stays_with Start char beside_next = true
+stays_with (Joint c) char beside_next = true
+stays_with Open char beside_next = true
+stays_with OpenBrace char beside_next = true
+stays_with Close char beside_next = true
+stays_with CloseBrace char beside_next = true
 
 -- whether a `:` after it makes a `::`
 abbrev pub is_colon : Last → Bool

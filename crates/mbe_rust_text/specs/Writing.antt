@@ -1,5 +1,5 @@
 -- What trees are as Rust text: a fold over their tokens, with what was written last.
-use Rattle.std.specs.Prelude.{ℕ, ◌+◌, ◌-◌, ◌^◌, Bool, true, false, not, min, if◌then◌else◌, codes, List, [], ◌∷◌, ◌++◌, Option, Some, None, option_map}
+use Rattle.std.specs.Prelude.{ℕ, ◌+◌, ◌-◌, ◌^◌, Bool, true, false, not, min, ◌&&◌, if◌then◌else◌, codes, List, [], ◌∷◌, ◌++◌, Option, Some, None, option_map}
 use Rattle.std.specs.Char.{encode_utf8}
 use Rattle.mbe_tt.specs.declared.span.Span.{Span}
 use Rattle.mbe_tt.specs.declared.tt.Punct.{Punct}
@@ -12,7 +12,7 @@ use Rattle.mbe_tt.specs.Trees.Tree.{Forest, none, leaf, group, first, first_span
 use Rattle.mbe_rust_text.specs.declared.gaps.Last.{Last}
 use Rattle.mbe_rust_text.specs.declared.gaps.Last.TheVariants as last
 use Rattle.mbe_rust_text.specs.declared.gaps.Gap.{Gap}
-use Rattle.mbe_rust_text.specs.Gaps.{gap, gap_text, is_beside, is_same_place, is_before, ends_line, last_word, is_word_apart, goes_on, is_literal_apart, is_punct_apart, stays, is_colon, last_punct, is_one_of, is_opening_apart, is_open_brace}
+use Rattle.mbe_rust_text.specs.Gaps.{gap, gap_text, is_beside, is_same_place, is_before, ends_line, last_word, is_word_apart, goes_on, is_literal_apart, is_punct_apart, stays_with, joins_word, joins_literal, is_colon, last_punct, is_one_of, is_opening_apart, is_open_brace}
 
 -- what was written, what it ends with and where that is, and how many braces are open
 pub record State : Type 0 where
@@ -32,7 +32,7 @@ abbrev pub name_text : List ℕ → List ℕ
 name_text sym = if is_text sym (codes "$crate") then codes "crate" else sym
 
 abbrev pub word_gap : State → List ℕ → Span → Gap
-word_gap s name place = gap (ends_line s.last (not (goes_on name))) (is_word_apart s.last) (is_beside s.place place)
+word_gap s name place = gap (ends_line s.last (not (goes_on name))) (is_word_apart s.last) (is_beside s.place place && not (joins_word s.last))
 
 abbrev pub word : State → Ident → State
 word s i = token (word_gap s (name_text i.sym) i.span) (raw_prefix i.is_raw ++ name_text i.sym) (last_word (name_text i.sym)) i.span s
@@ -40,7 +40,7 @@ word s i = token (word_gap s (name_text i.sym) i.span) (raw_prefix i.is_raw ++ n
 -- ---- literals
 
 abbrev pub literal_gap : State → Span → Gap
-literal_gap s place = gap (ends_line s.last true) (is_literal_apart s.last) (is_beside s.place place)
+literal_gap s place = gap (ends_line s.last true) (is_literal_apart s.last) (is_beside s.place place && not (joins_literal s.last))
 
 abbrev pub a_literal : State → Literal → State
 a_literal s l = token (literal_gap s l.span) (literal_output l) last.Literal l.span s
@@ -51,8 +51,8 @@ a_literal s l = token (literal_gap s l.span) (literal_output l) last.Literal l.s
 abbrev pub punct_gap : State → Punct → Option Span → Gap
 punct_gap s p next =
     gap (ends_line s.last (is_one_of p.char (codes "#'")))
-    (is_punct_apart s.last (is_same_place s.place p.span) p.char)
-    (stays s.last p.char (is_beside s.place p.span) (is_before p.span next))
+    (is_punct_apart s.last (is_same_place s.place p.span) p.char p.spacing)
+    (is_beside s.place p.span && stays_with s.last p.char (is_before p.span next))
 
 abbrev pub a_punct : State → Punct → Option Span → State
 a_punct s p next = token (punct_gap s p next) (encode_utf8 p.char) (last_punct p.spacing p.char (is_colon s.last)) p.span s

@@ -132,6 +132,15 @@ pub(crate) fn last_punct(spacing: Spacing, char: char, after_colon: bool) -> Las
     }
 }
 
+fn is_joint(spacing: Spacing) -> bool
+    ensures { result ≡ spec.is_joint spacing }
+{
+    match spacing {
+        Spacing::Joint => true,
+        Spacing::Alone => false,
+    }
+}
+
 impl Last {
     // Whether a line ends there. After a `}` that depends on what follows.
     pub(crate) fn ends_line(self, ends_brace: bool) -> bool
@@ -149,6 +158,41 @@ impl Last {
             | Last::Colons
             | Last::Open
             | Last::Close => false,
+        }
+    }
+
+    // A word or a literal goes on with a word, whatever was between them in a file.
+    pub(crate) fn joins_word(self) -> bool
+        ensures { result ≡ spec.joins_word self }
+    {
+        match self {
+            Last::Word | Last::Keyword | Last::Literal => true,
+            Last::Start
+            | Last::Joint(_)
+            | Last::Alone(_)
+            | Last::Colons
+            | Last::Open
+            | Last::OpenBrace
+            | Last::Close
+            | Last::CloseBrace
+            | Last::Semicolon => false,
+        }
+    }
+
+    // They go on with a literal too, and a `#` right before a string guards it.
+    pub(crate) fn joins_literal(self) -> bool
+        ensures { result ≡ spec.joins_literal self }
+    {
+        match self {
+            Last::Word | Last::Keyword | Last::Literal => true,
+            Last::Alone(c) | Last::Joint(c) => c == '#',
+            Last::Start
+            | Last::Colons
+            | Last::Open
+            | Last::OpenBrace
+            | Last::Close
+            | Last::CloseBrace
+            | Last::Semicolon => false,
         }
     }
 
@@ -173,7 +217,7 @@ impl Last {
     {
         match self {
             Last::Start | Last::Open => false,
-            Last::Alone(c) | Last::Joint(c) => !matches!(c, '.' | '#'),
+            Last::Alone(c) | Last::Joint(c) => c != '.',
             Last::Word
             | Last::Keyword
             | Last::Literal
@@ -185,16 +229,17 @@ impl Last {
         }
     }
 
-    // A separator is joint to what the definition has after it, which isn't what is written after it. Two puncts of one
-    // place were made together, as the `::` of a path.
-    pub(crate) fn is_punct_apart(self, one_place: bool, char: char) -> bool
-        ensures { result ≡ spec.is_punct_apart self one_place char }
+    // A separator is joint to what the definition has after it, which isn't what is written after
+    // it. Two puncts of one place were made together, as the `::` of a path. A text that begins with
+    // a joint `#` could be read as one with a shebang.
+    pub(crate) fn is_punct_apart(self, one_place: bool, char: char, spacing: Spacing) -> bool
+        ensures { result ≡ spec.is_punct_apart self one_place char spacing }
     {
         match self {
-            Last::Start | Last::Open => false,
+            Last::Start => is_joint(spacing) && char == '#',
+            Last::Open => false,
             Last::Joint(_) => !one_place,
-            Last::Alone(_) => !matches!(char, ',' | ';'),
-            Last::Colons => char != '<',
+            Last::Alone(_) | Last::Colons => true,
             Last::Word => !matches!(char, ',' | ';' | '?' | '.' | ':' | '!'),
             Last::Close | Last::CloseBrace => !matches!(char, ',' | ';' | '?' | '.'),
             Last::Literal => !matches!(char, ',' | ';' | '?'),
@@ -202,31 +247,23 @@ impl Last {
         }
     }
 
-    fn is_literal(self) -> bool
-        ensures { result ≡ spec.is_literal self }
+    // Whether a punct stays with what it stands beside. A word would be a prefix of a `#` or a `'`.
+    // A `.` stays with a number only where the token after it does too: `1.` alone is another
+    // number. A punct that is alone is joint to no other, but a `'` begins a lifetime.
+    pub(crate) fn stays_with(self, char: char, beside_next: bool) -> bool
+        ensures { result ≡ spec.stays_with self char beside_next }
     {
         match self {
-            Last::Literal => true,
+            Last::Word | Last::Keyword => !matches!(char, '#' | '\''),
+            Last::Literal => beside_next || char != '.',
+            Last::Alone(_) | Last::Colons | Last::Semicolon => char == '\'',
             Last::Start
-            | Last::Word
-            | Last::Keyword
             | Last::Joint(_)
-            | Last::Alone(_)
-            | Last::Colons
             | Last::Open
             | Last::OpenBrace
             | Last::Close
-            | Last::CloseBrace
-            | Last::Semicolon => false,
+            | Last::CloseBrace => true,
         }
-    }
-
-    // Whether a punct stays with what it stands beside. A `.` stays with a number only where the token after it does too: `1.` alone
-    // is another number.
-    pub(crate) fn stays(self, char: char, beside_last: bool, beside_next: bool) -> bool
-        ensures { result ≡ spec.stays self char beside_last beside_next }
-    {
-        beside_last && (beside_next || !(self.is_literal() && char == '.'))
     }
 
     // Whether a `:` after it makes a `::`.

@@ -1,7 +1,7 @@
 // Trees as Rust text, a line for each statement, with four spaces for each brace around it.
 //
-// Tokens that stand side by side in one file do so here. Any other two are kept apart by a space, where they would run together or
-// where people write one; puncts that are taken together stay together.
+// Tokens that stand side by side in one file do so here, unless they would run together. Any other two are kept apart by a space, where
+// they would run together or where people write one; puncts that are taken together stay together.
 ghost use Rattle.std.specs.Prelude.{◌≡◌, ◌++◌, OnOk, Some};
 ghost use Rattle.std.specs.String.{string_bytes};
 ghost use Rattle.mbe_tt.specs.Views.Shown.{ident_of, literal_of, leaf_of};
@@ -101,7 +101,7 @@ impl<A: Allocator + Copy> Writer<A> {
         let gap = between(
             self.last.ends_line(!goes_on(name)),
             self.last.is_word_apart(),
-            is_beside(self.place, ident.span),
+            is_beside(self.place, ident.span) && !self.last.joins_word(),
         );
         let text = match ident.is_raw {
             IdentIsRaw::No => String::from_str(self.alloc, name)?,
@@ -117,7 +117,7 @@ impl<A: Allocator + Copy> Writer<A> {
         let gap = between(
             self.last.ends_line(true),
             self.last.is_literal_apart(),
-            is_beside(self.place, literal.span),
+            is_beside(self.place, literal.span) && !self.last.joins_literal(),
         );
         let text = format!(in self.alloc; "{literal}")?;
         self.token(gap, text.as_str(), Last::Literal, literal.span)
@@ -131,12 +131,12 @@ impl<A: Allocator + Copy> Writer<A> {
             spacing,
             span,
         } = punct;
-        let beside_last = is_beside(self.place, span);
+        let one_place = is_same_place(self.place, span);
+        let beside_next = is_before(span, next);
         let gap = between(
             self.last.ends_line(matches!(char, '#' | '\'')),
-            self.last
-                .is_punct_apart(is_same_place(self.place, span), char),
-            self.last.stays(char, beside_last, is_before(span, next)),
+            self.last.is_punct_apart(one_place, char, spacing),
+            is_beside(self.place, span) && self.last.stays_with(char, beside_next),
         );
         let last = last_punct(spacing, char, self.last.is_colon());
         let mut text = String::new(self.alloc);

@@ -1,1 +1,10 @@
+pub mod BackLemmas
+pub mod BareLemmas
+pub mod EndLemmas
+pub mod FollowLemmas
 pub mod GapLemmas
+pub mod NextLemmas
+pub mod QuoteLemmas
+pub mod ReadLemmas
+pub mod StepLemmas
+pub mod TextLemmas

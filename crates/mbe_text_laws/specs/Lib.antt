@@ -1,1 +1,3 @@
+pub mod Back
 pub mod Gaps
+pub mod Rust

@@ -1,5 +1,6 @@
 // Laws of the text that a `Writer` writes, as `lex_as` reads it. They run nothing.
 ghost use Rattle.mbe_text_laws.specs.Gaps.{GapsAreBlank, GapsAreInBytes, GapsPartPuncts, PunctsJoin};
+ghost use Rattle.mbe_text_laws.specs.Back.{StringsAreRead, TreesComeBack};
 
 /// What a writer puts between two tokens is no part of a token, and hides none: the next token of a text with a gap before it is the next
 /// token of that text.
@@ -20,4 +21,17 @@ pub fn gaps_part_puncts()
 /// A punct that another one follows with no gap is joint, unless that one begins a comment.
 pub fn puncts_join()
     ensures { PunctsJoin }
+{}
+
+/// What is written for trees of Rust is read as these trees, without spans: by the definition of
+/// what `lex_as` returns, in each edition, and whatever the indentation. Which trees are Rust's is
+/// `IsRust`.
+pub fn trees_come_back()
+    ensures { TreesComeBack }
+{}
+
+/// A string, byte string or C string that is read whole by itself is read whole before whatever
+/// can't go on with its suffix, and before the `.` of a field: so it is a literal of `IsRust`.
+pub fn strings_are_read()
+    ensures { StringsAreRead }
 {}

@@ -1,0 +1,515 @@
+-- What is written for trees of Rust is read as these trees.
+use Rattle.std.proofs.Common.{◌≡◌, ℕ, zero, suc, ◌==◌, ◌<◌, ◌≤◌, not, ◌&&◌, if◌then◌else◌, Bool, true, false, List, [], ◌∷◌, ◌++◌, length, refl, sym, ap, ◌∙◌, arith, codes, Option, Some, None, Ok, IsUtf8, chars, encode_utf8, subst, append-nil, length-append}
+use Rattle.std.proofs.lemmas.Bool.Decides.{nat_tests}
+use Rattle.std.proofs.lemmas.Str.{chars-append, chars-nil, IsUtf8-append}
+use Rattle.mbe_tt.specs.Buffers.Building.{Levels, put, closed, kind_inside}
+use Rattle.mbe_tt.specs.Trees.Leaf.{Leaf, Ident, Literal, literal, punct, ident}
+use Rattle.mbe_tt.specs.Trees.Literals.{raw_prefix, literal_output}
+use Rattle.mbe_tt.specs.Trees.Tree.{Forest, none, leaf, one_leaf, FlatToken, token, opening, closing, flat, is_same_kind}
+use Rattle.mbe_tt.specs.Trees.Top.{no_span}
+use Rattle.mbe_tt.specs.declared.span.Edition.{Edition}
+use Rattle.mbe_tt.specs.declared.span.Span.{Span}
+use Rattle.mbe_tt.specs.declared.tt.Delimiter.{Delimiter}
+use Rattle.mbe_tt.specs.declared.tt.Punct.{Punct}
+use Rattle.mbe_tt.specs.declared.tt.Spacing.{Spacing}
+use Rattle.mbe_tt.specs.declared.tt.Spacing.TheVariants.{Alone, Joint}
+use Rattle.mbe_tt.specs.declared.tt.IdentIsRaw.{IdentIsRaw}
+use Rattle.mbe_tt.specs.declared.tt.IdentIsRaw.TheVariants.{Yes, No}
+use Rattle.mbe_tt.specs.declared.tt.DelimiterKind.{DelimiterKind}
+use Rattle.mbe_tt.specs.declared.tt.DelimiterKind.TheVariants.{Parenthesis, Brace, Bracket, Invisible}
+use Rattle.mbe_rust_text.specs.Gaps.{is_one_of, is_joint}
+use Rattle.mbe_rust_text.specs.Writing.{State, start, word, a_literal, a_punct, name_text}
+use Rattle.mbe_text.specs.declared.dialect.Dialect.{Dialect}
+use Rattle.mbe_text.specs.declared.dialect.Dialect.TheVariants.{Rust}
+use Rattle.mbe_text.specs.Division.{Taken, next_token, item_taken, after_item, levels_of, levels_at_end, trees_of, is_inside, span_of_taken}
+use Rattle.mbe_text.specs.Characters.{begins_with}
+use Rattle.mbe_text.specs.Shapes.{Shape, identifier, literal_of, lifetime_of, punct_of}
+use Rattle.mbe_text.specs.Shapes as shape
+use Rattle.mbe_text.specs.Tokens.{opening_text, closing_text, lifetime_trees, whole, bytes_of}
+use Rattle.mbe_text.specs.Trivia.{after_head}
+use Rattle.mbe_text_laws.specs.Back.{TreesComeBack, bare, bare_leaf, bare_delimiter}
+use Rattle.mbe_text_laws.specs.Rust.{is_start, begins_literal, may_be_lifetime, IsLifetime, AreRust, IsIdent, IsSign, IsPunct, next_place}
+use Rattle.mbe_text_laws.proofs.EndLemmas.{punct_small, begins_gap, mark_not_start, start_not_hash}
+use Rattle.mbe_text_laws.proofs.StepLemmas.{taken}
+use Rattle.mbe_text_laws.proofs.TextLemmas.{spelled, after, ahead, left, the_gap, gap_depth, gap_of, gap_chars, gap_is_blank, text_of_is, word_text, ascii_utf8}
+use Rattle.mbe_text_laws.proofs.FollowLemmas.{letters, is_side, sign_small, follows, fronted, word_front, ends_alone, alone_ends, alone_like, is_sign, punct_is, opening_is, closing_is, word_like, word_ends}
+use Rattle.mbe_text_laws.proofs.NextLemmas.{punct_before, literal_before, no_line}
+use Rattle.mbe_text_laws.proofs.ReadLemmas.{Reads, reads_same, word_reads, lifetime_reads, literal_reads, punct_reads, opening_reads, closing_reads}
+use Rattle.mbe_text_laws.proofs.BareLemmas.{bare_levels, bare_put, bare_closed, bare_kind, step, made, Fit, made_flat, fit_flat, put_more}
+
+-- ---- bytes and characters
+
+raw_utf8 : (r : IdentIsRaw) (name : List ℕ) → IsUtf8 name → IsUtf8 (raw_prefix r ++ name)
+raw_utf8 No name h = h
+raw_utf8 Yes name h =
+    IsUtf8-append (114 ∷ (35 ∷ [])) name (IsUtf8-append (114 ∷ []) (35 ∷ []) (ascii_utf8 114 (omega arith))
+    (ascii_utf8 35 (omega arith))) h
+
+ident_utf8 : (i : Ident) → IsIdent i → IsUtf8 (raw_prefix i.is_raw ++ name_text i.sym)
+ident_utf8 i h = subst (λ (x : List ℕ). IsUtf8 (raw_prefix i.is_raw ++ x)) (sym (word_text i.sym h.0))
+    (raw_utf8 i.is_raw i.sym h.0.0)
+
+utf8_of : (e : Edition) (t : FlatToken) (ts : List FlatToken) → AreRust e (t ∷ ts) → IsUtf8 (spelled t)
+utf8_of e (token (ident i)) ts h = ident_utf8 i h.0
+utf8_of e (token (literal l)) ts h = h.0.0.utf8
+utf8_of e (token (punct p)) ts h = (is_sign e p ts h.0).utf8
+utf8_of e (opening d) ts h = (opening_is d.kind h.0).is.utf8
+utf8_of e (closing d) ts h = (closing_is d.kind h.0).is.utf8
+
+later : (e : Edition) (t : FlatToken) (ts : List FlatToken) → AreRust e (t ∷ ts) → AreRust e ts
+later e (token l) ts h = h.1
+later e (opening d) ts h = h.1
+later e (closing d) ts h = h.1
+
+pub chars_left : (e : Edition) (ts : List FlatToken) (s : State) → AreRust e ts → chars (left ts s) ≡ ahead ts s
+chars_left e [] s h = chars-nil
+chars_left e (t ∷ ts) s h =
+    gap_chars (the_gap t ts s) (gap_depth t s) (spelled t ++ left ts (after t ts s))
+    ∙ ap (λ (x : List ℕ). gap_of (the_gap t ts s) (gap_depth t s) ++ x) (chars-append (spelled t) (left ts
+    (after t ts s)) (utf8_of e t ts h)
+    ∙ ap (λ (x : List ℕ). chars (spelled t) ++ x) (chars_left e ts (after t ts s) (later e t ts h)))
+
+-- ---- one token is read
+
+read_after : (e : Edition) (total : ℕ) (t : FlatToken) (ts : List FlatToken) (s : State) (shape : Shape) (rest : List ℕ)
+    → Reads e total (chars (spelled t) ++ ahead ts (after t ts s)) shape rest
+    → Reads e total (ahead (t ∷ ts) s) shape rest
+read_after e total t ts s shape rest r = record {
+  from = r.from;
+  is = gap_is_blank (Rust e) total (gap_depth t s) (the_gap t ts s) (chars (spelled t) ++ ahead ts (after t ts s))
+      ∙ r.is;
+}
+
+reads_ident : (e : Edition) (total : ℕ) (i : Ident) (ts : List FlatToken) (s : State) → IsIdent i → AreRust e ts
+    → Reads e total (ahead (token (ident i) ∷ ts) s) (identifier i.sym i.is_raw) (ahead ts (word s i))
+reads_ident e total i ts s h r =
+    let rest = ahead ts (word s i) in
+    read_after e total (token (ident i)) ts s (identifier i.sym i.is_raw) rest
+    (reads_same e total (chars (raw_prefix i.is_raw ++ name_text i.sym) ++ rest) (chars
+    (raw_prefix i.is_raw ++ i.sym) ++ rest) rest (identifier i.sym i.is_raw)
+    (ap (λ (x : List ℕ). chars (raw_prefix i.is_raw ++ x) ++ rest) (word_text i.sym h.0))
+    (word_reads e total i.is_raw i.sym rest h.0 h.1 (word_ends e ts (word s i) (word_like s i) r)))
+
+reads_lifetime : (e : Edition) (total c : ℕ) (place : Span) (i : Ident) (ts : List FlatToken) (s : State)
+    → (c == 39) ≡ true → IsIdent i
+    → may_be_lifetime e i.is_raw ≡ true → AreRust e ts
+    → Reads e total (ahead (token (punct (record { char = c; spacing = Joint; span = place })) ∷ (token
+    (ident i) ∷ ts)) s) (lifetime_of i.sym i.is_raw)
+    (ahead ts (word (a_punct s (record { char = c; spacing = Joint; span = place }) (Some i.span)) i))
+reads_lifetime e total c place i ts s h w m r =
+    let p : Punct = record { char = c; spacing = Joint; span = place } in
+    let state = a_punct s p (Some i.span) in
+    let rest = ahead ts (word state i) in
+    let g = the_gap (token (ident i)) ts state in
+    let small : c < 128 = grind (arith, nat_tests, h) in
+    let is39 : c ≡ 39 = grind (arith, nat_tests, h) in
+    let near : not (is_one_of c (codes ".#$'")) ≡ false = grind (arith, nat_tests, h) in
+    let gone : ahead (token (ident i) ∷ ts) state ≡ chars (raw_prefix i.is_raw ++ name_text i.sym) ++ rest =
+    no_line g.line g.apart g.beside s.depth (chars (raw_prefix i.is_raw ++ name_text i.sym) ++ rest) refl near in
+    let text : chars (encode_utf8 c) ++ ahead (token (ident i) ∷ ts) state ≡ 39 ∷ (chars
+    (raw_prefix i.is_raw ++ i.sym) ++ rest) =
+    ap (λ (x : List ℕ). x ++ ahead (token (ident i) ∷ ts) state) (punct_is c small).one
+    ∙ (ap (λ (x : ℕ). x ∷ ahead (token (ident i) ∷ ts) state) is39
+    ∙ (ap (λ (x : List ℕ). 39 ∷ x) gone
+    ∙ ap (λ (x : List ℕ). 39 ∷ (chars (raw_prefix i.is_raw ++ x) ++ rest)) (word_text i.sym w.0))) in
+    read_after e total (token (punct p)) (token (ident i) ∷ ts) s (lifetime_of i.sym i.is_raw) rest
+    (reads_same e total (chars (encode_utf8 c) ++ ahead (token (ident i) ∷ ts) state) (39 ∷ (chars
+    (raw_prefix i.is_raw ++ i.sym) ++ rest)) rest
+    (lifetime_of i.sym i.is_raw) text
+    (lifetime_reads e total i.is_raw i.sym rest w.0 w.1 m (word_ends e ts (word state i) (word_like state i) r)))
+
+reads_sign : (e : Edition) (total c : ℕ) (sp : Spacing) (place : Span) (ts : List FlatToken) (s : State)
+    → IsSign false e (record { char = c; spacing = sp; span = place }) ts → AreRust e ts
+    → Reads e total (ahead (token (punct (record { char = c; spacing = sp; span = place })) ∷ ts) s) (punct_of c sp)
+    (ahead ts (a_punct s (record { char = c; spacing = sp; span = place }) (next_place ts)))
+reads_sign e total c sp place ts s h r =
+    let p : Punct = record { char = c; spacing = sp; span = place } in
+    let rest = ahead ts (a_punct s p (next_place ts)) in
+    read_after e total (token (punct p)) ts s (punct_of c sp) rest
+    (reads_same e total (chars (encode_utf8 c) ++ rest) (c ∷ rest) rest (punct_of c sp)
+    (ap (λ (x : List ℕ). x ++ rest) (punct_is c (punct_small c h.0)).one)
+    (punct_reads e total c sp rest h.0 (punct_before e c sp place s ts h r)))
+
+-- ---- all of them are
+
+-- what is made of the tokens of a text
+pub record Comes (e : Edition) (file total n : ℕ) (levels : Levels) (cs : List ℕ) (want : Levels) : Type 0 where
+  pub levels_at_end : Levels
+  pub read : levels_of (Rust e) file total n levels cs ≡ Ok levels_at_end
+  pub same : bare_levels levels_at_end ≡ want
+
+one_step : (d : Dialect) (file total n : ℕ) (levels new : Levels) (cs : List ℕ) (t : Taken)
+    → next_token d total cs ≡ Ok (Some t)
+    → after_item (item_taken file total t) levels ≡ Some new → levels_of d file total
+    (suc n) levels cs ≡ levels_of d file total n new t.rest
+one_step d file total n levels new cs t h k = rw (levels_of, h, k) refl
+
+comes_on : (e : Edition) (file total n : ℕ) (levels new : Levels) (cs rest : List ℕ) (shape : Shape) (want : Levels)
+    (r : Reads e total cs shape rest)
+    → after_item (item_taken file total (taken shape r.from rest)) levels ≡ Some new
+    → Comes e file total n new rest want → Comes e file total (suc n) levels cs want
+comes_on e file total n levels new cs rest shape want r a c = record {
+  levels_at_end = c.levels_at_end;
+  read = one_step (Rust e) file total n levels new cs (taken shape r.from rest) r.is a ∙ c.read;
+  same = c.same;
+}
+
+at_end : (e : Edition) (file total n : ℕ) (levels : Levels) → levels_of (Rust e) file total n levels [] ≡ Ok levels
+at_end e file total zero levels = refl
+at_end e file total (suc n) levels = refl
+
+same_kind : (k : DelimiterKind) → is_same_kind k k ≡ true
+same_kind Parenthesis = refl
+same_kind Brace = refl
+same_kind Bracket = refl
+same_kind Invisible = refl
+
+closes : (k : DelimiterKind) (span : Span) (levels : Levels) → kind_inside levels ≡ Some k
+    → (if is_inside k (kind_inside levels) then Some (closed span levels) else None) ≡ Some (closed span levels)
+closes k span levels h =
+    ap (λ (o : Option DelimiterKind). if is_inside k o then Some (closed span levels) else None) h
+    ∙ ap (λ (b : Bool). if b then Some (closed span levels) else None) (same_kind k)
+
+-- a punct that is no `'`
+sign_comes : (e : Edition) (file total n c : ℕ) (sp : Spacing) (place : Span) (ts : List FlatToken) (s : State)
+    (levels want : Levels)
+    → IsSign false e (record { char = c; spacing = sp; span = place }) ts → AreRust e ts → bare_levels levels ≡ want
+    → ((new : Levels) → bare_levels new ≡ step (token (punct (record { char = c; spacing = sp; span = place }))) want
+    → Comes e file total n new (ahead ts (a_punct s (record { char = c; spacing = sp; span = place }) (next_place ts)))
+    (made ts (step (token (punct (record { char = c; spacing = sp; span = place }))) want)))
+    → Comes e file total (suc n) levels (ahead (token (punct (record { char = c; spacing = sp; span = place })) ∷ ts) s)
+    (made (token (punct (record { char = c; spacing = sp; span = place })) ∷ ts) want)
+sign_comes e file total n c sp place ts s levels want h r same go =
+    let p : Punct = record { char = c; spacing = sp; span = place } in
+    let rest = ahead ts (a_punct s p (next_place ts)) in
+    let read = reads_sign e total c sp place ts s h r in
+    let span = span_of_taken file total (taken (punct_of c sp) read.from rest) in
+    let one : Forest = one_leaf (punct (record { char = c; spacing = sp; span = span })) in
+    comes_on e file total n levels (put one levels) (ahead (token (punct p) ∷ ts) s) rest (punct_of c sp) (made
+    (token (punct p) ∷ ts) want) read refl
+    (go (put one levels) (bare_put one levels ∙ ap (put (one_leaf (bare_leaf (punct p)))) same))
+
+-- a lifetime
+lifetime_comes : (e : Edition) (file total n c : ℕ) (sp : Spacing) (place : Span) (i : Ident) (ts : List FlatToken)
+    (s : State) (levels want : Levels)
+    → (c == 39) ≡ true → IsLifetime e sp (token (ident i) ∷ ts) → IsIdent i → AreRust e ts → bare_levels levels ≡ want
+    → ((new : Levels) → bare_levels new ≡ step (token (ident i)) (step (token (punct
+    (record { char = c; spacing = sp; span = place }))) want)
+    → Comes e file total n new (ahead ts (word (a_punct s (record { char = c; spacing = sp; span = place })
+    (Some i.span)) i))
+    (made ts (step (token (ident i)) (step (token (punct (record { char = c; spacing = sp; span = place }))) want))))
+    → Comes e file total (suc n) levels (ahead (token (punct (record { char = c; spacing = sp; span = place })) ∷
+    (token (ident i) ∷ ts)) s)
+    (made (token (punct (record { char = c; spacing = sp; span = place })) ∷ (token (ident i) ∷ ts)) want)
+lifetime_comes e file total n c Alone place i ts s levels want h l w r same go = absurd (l)
+lifetime_comes e file total n c Joint place i ts s levels want h l w r same go =
+    let p : Punct = record { char = c; spacing = Joint; span = place } in
+    let rest = ahead ts (word (a_punct s p (Some i.span)) i) in
+    let read = reads_lifetime e total c place i ts s h w l r in
+    let shape = lifetime_of i.sym i.is_raw in
+    let span = span_of_taken file total (taken shape read.from rest) in
+    let two : Forest = lifetime_trees span i.sym i.is_raw in
+    let is39 : c ≡ 39 = grind (arith, nat_tests, h) in
+    let mine : Leaf = bare_leaf (ident i) in
+    comes_on e file total n levels (put two levels) (ahead (token (punct p) ∷ (token (ident i) ∷ ts)) s) rest shape
+    (made (token (punct p) ∷ (token (ident i) ∷ ts)) want) read refl
+    (go (put two levels) (bare_put two levels
+    ∙ (ap (put (leaf (bare_leaf (punct (record { char = 39; spacing = Joint; span = place }))) (leaf mine none))) same
+    ∙ (ap (λ (x : ℕ). put (leaf (bare_leaf (punct (record { char = x; spacing = Joint; span = place })))
+    (leaf mine none)) want) (sym is39)
+    ∙ sym (put_more (one_leaf (bare_leaf (punct p))) (one_leaf mine) want)))))
+
+-- a name follows a `'`
+abbrev names : List FlatToken → Bool
+names [] = false
+names (token (ident i) ∷ ts) = true
+names (token (literal l) ∷ ts) = false
+names (token (punct p) ∷ ts) = false
+names (opening d ∷ ts) = false
+names (closing d ∷ ts) = false
+
+no_lifetime : (e : Edition) (sp : Spacing) (ts : List FlatToken) → names ts ≡ false → IsLifetime e sp ts → ⊥
+no_lifetime e Alone ts h l = l
+no_lifetime e Joint [] h l = l
+no_lifetime e Joint (token (ident i) ∷ ts) h l = absurd (cc)
+no_lifetime e Joint (token (literal m) ∷ ts) h l = l
+no_lifetime e Joint (token (punct p) ∷ ts) h l = l
+no_lifetime e Joint (opening d ∷ ts) h l = l
+no_lifetime e Joint (closing d ∷ ts) h l = l
+
+is_no_tick : (e : Edition) (p : Punct) (ts : List FlatToken) (b : Bool) → names ts ≡ false → IsSign b e p ts
+    → IsSign false e p ts
+is_no_tick e p ts true h s = absurd (no_lifetime e p.spacing ts h s)
+is_no_tick e p ts false h s = s
+
+come : (e : Edition) (file total n : ℕ) (ts : List FlatToken) (s : State) (levels want : Levels) → AreRust e ts
+    → Fit ts want → bare_levels levels ≡ want
+    → length ts ≤ n → Comes e file total n levels (ahead ts s) (made ts want)
+come e file total n [] s levels want h f same le = record {
+  levels_at_end = levels;
+  read = at_end e file total n
+      levels;
+  same = same;
+}
+come e file total zero (t ∷ ts) s levels want h f same le = absurd (omega (arith, le))
+come e file total (suc n) (token (ident i) ∷ ts) s levels want h f same le =
+    let rest = ahead ts (word s i) in
+    let r = reads_ident e total i ts s h.0 h.1 in
+    let span = span_of_taken file total (taken (identifier i.sym i.is_raw) r.from rest) in
+    let one : Forest = one_leaf (ident (record { sym = i.sym; is_raw = i.is_raw; span = span })) in
+    comes_on e file total n levels (put one levels) (ahead (token (ident i) ∷ ts) s) rest
+    (identifier i.sym i.is_raw) (made (token (ident i) ∷ ts) want) r refl
+    (come e file total n ts (word s i) (put one levels) (step (token (ident i)) want) h.1 f
+    (bare_put one levels ∙ ap (put (one_leaf (bare_leaf (ident i)))) same) (omega (arith, le)))
+come e file total (suc n) (token (literal l) ∷ ts) s levels want h f same le =
+    let rest = ahead ts (a_literal s l) in
+    let b = literal_before e l s ts h.0.0 h.0.1 h.1 in
+    let shape = literal_of b.text b.suffix l.suffix_len l.kind in
+    let r = read_after e total (token (literal l)) ts s shape rest (literal_reads e total l rest h.0.0 b) in
+    let span = span_of_taken file total (taken shape r.from rest) in
+    let read : Literal = record {
+      text_and_suffix = b.text ++ b.suffix;
+      suffix_len = l.suffix_len;
+      kind = l.kind;
+      span = span;
+    } in
+    let one : Forest = one_leaf (literal read) in
+    let is : bare_leaf (literal read) ≡ bare_leaf (literal l) =
+    ap (λ (x : List ℕ). bare_leaf (literal (record l { text_and_suffix = x }))) b.parts in
+    comes_on e file total n levels (put one levels) (ahead (token (literal l) ∷ ts) s) rest shape (made (token
+    (literal l) ∷ ts) want) r refl
+    (come e file total n ts (a_literal s l) (put one levels) (step (token (literal l)) want) h.1 f
+    (bare_put one levels ∙ (ap (λ (x : Leaf). put (one_leaf x) (bare_levels levels)) is
+    ∙ ap (put (one_leaf (bare_leaf (literal l)))) same)) (omega (arith, le)))
+come e file total (suc n) (opening d ∷ ts) s levels want h f same le =
+    let rest = ahead ts (after (opening d) ts s) in
+    let r = read_after e total (opening d) ts s (shape.opening d.kind) rest (opening_reads e total d.kind rest h.0) in
+    let span = span_of_taken file total (taken (shape.opening d.kind) r.from rest) in
+    let new : Levels = (record { opening = span; close = span; kind = d.kind }, none) ∷ levels in
+    comes_on e file total n levels new (ahead (opening d ∷ ts) s) rest (shape.opening d.kind) (made
+    (opening d ∷ ts) want) r refl
+    (come e file total n ts (after (opening d) ts s) new (step (opening d) want) h.1 f
+    (ap (λ (x : Levels). (bare_delimiter d, none) ∷ x) same) (omega (arith, le)))
+come e file total (suc n) (closing d ∷ ts) s levels want h f same le =
+    let rest = ahead ts (after (closing d) ts s) in
+    let r = read_after e total (closing d) ts s (shape.closing d.kind) rest (closing_reads e total d.kind rest h.0) in
+    let span = span_of_taken file total (taken (shape.closing d.kind) r.from rest) in
+    let new : Levels = closed span levels in
+    let inside : kind_inside levels ≡ Some d.kind = sym (bare_kind levels) ∙ (ap kind_inside same ∙ f.0) in
+    comes_on e file total n levels new (ahead (closing d ∷ ts) s) rest (shape.closing d.kind) (made
+    (closing d ∷ ts) want) r (closes d.kind span levels inside)
+    (come e file total n ts (after (closing d) ts s) new (step (closing d) want) h.1 f.1
+    (bare_closed span levels ∙ ap (closed no_span) same) (omega (arith, le)))
+come e file total (suc n) (token (punct p) ∷ []) s levels want h f same le =
+    sign_comes e file total n p.char p.spacing p.span ([]) s levels want (is_no_tick e p ([])
+    (p.char == 39) refl h.0) h.1 same
+    (λ new q. come e file total n ([]) (a_punct s p (next_place ([]))) new (step (token (punct p)) want) h.1 f q
+    (omega (arith, le)))
+come e file total (suc n) (token (punct p) ∷ (token (literal l) ∷ ts)) s levels want h f same le =
+    sign_comes e file total n p.char p.spacing p.span ((token (literal l) ∷ ts)) s levels want (is_no_tick e p
+    ((token (literal l) ∷ ts)) (p.char == 39) refl h.0) h.1 same
+    (λ new q. come e file total n ((token (literal l) ∷ ts)) (a_punct s p (next_place ((token
+    (literal l) ∷ ts)))) new (step (token (punct p)) want) h.1 f q (omega (arith, le)))
+come e file total (suc n) (token (punct p) ∷ (token (punct o) ∷ ts)) s levels want h f same le =
+    sign_comes e file total n p.char p.spacing p.span ((token (punct o) ∷ ts)) s levels want (is_no_tick e p ((token
+    (punct o) ∷ ts)) (p.char == 39) refl h.0) h.1 same
+    (λ new q. come e file total n ((token (punct o) ∷ ts)) (a_punct s p (next_place ((token (punct o) ∷ ts)))) new
+    (step (token (punct p)) want) h.1 f q (omega (arith, le)))
+come e file total (suc n) (token (punct p) ∷ (opening d ∷ ts)) s levels want h f same le =
+    sign_comes e file total n p.char p.spacing p.span ((opening d ∷ ts)) s levels want (is_no_tick e p
+    ((opening d ∷ ts)) (p.char == 39) refl h.0) h.1 same
+    (λ new q. come e file total n ((opening d ∷ ts)) (a_punct s p (next_place ((opening d ∷ ts)))) new (step (token
+    (punct p)) want) h.1 f q (omega (arith, le)))
+come e file total (suc n) (token (punct p) ∷ (closing d ∷ ts)) s levels want h f same le =
+    sign_comes e file total n p.char p.spacing p.span ((closing d ∷ ts)) s levels want (is_no_tick e p
+    ((closing d ∷ ts)) (p.char == 39) refl h.0) h.1 same
+    (λ new q. come e file total n ((closing d ∷ ts)) (a_punct s p (next_place ((closing d ∷ ts)))) new (step (token
+    (punct p)) want) h.1 f q (omega (arith, le)))
+come e file total (suc n) (token (punct p) ∷ (token (ident i) ∷ ts)) s levels want h f same le =
+    either (p.char == 39) refl h.0
+    (λ t l. lifetime_comes e file total n p.char p.spacing p.span i ts s levels want t l h.1.0 h.1.1 same
+    (λ new q. come e file total n ts (word (a_punct s p (Some i.span)) i) new (step (token (ident i)) (step (token
+    (punct p)) want)) h.1.1 f q (omega (arith, le))))
+    (λ l. sign_comes e file total n p.char p.spacing p.span (token (ident i) ∷ ts) s levels want l h.1 same
+    (λ new q. come e file total n (token (ident i) ∷ ts) (a_punct s p (Some i.span)) new (step (token
+    (punct p)) want) h.1 f q (omega (arith, le))))
+  where
+    either : (b : Bool) → (p.char == 39) ≡ b → IsSign b e p (token (ident i) ∷ ts)
+        → ((p.char == 39) ≡ true → IsLifetime e p.spacing (token (ident i) ∷ ts)
+        → Comes e file total (suc n) levels (ahead (token (punct p) ∷ (token (ident i) ∷ ts)) s) (made (token
+        (punct p) ∷ (token (ident i) ∷ ts)) want))
+        → (IsSign false e p (token (ident i) ∷ ts)
+        → Comes e file total (suc n) levels (ahead (token (punct p) ∷ (token (ident i) ∷ ts)) s) (made (token
+        (punct p) ∷ (token (ident i) ∷ ts)) want))
+        → Comes e file total (suc n) levels (ahead (token (punct p) ∷ (token (ident i) ∷ ts)) s) (made (token
+        (punct p) ∷ (token (ident i) ∷ ts)) want)
+    either true t l tick other = tick t l
+    either false t l tick other = other l
+
+-- ---- a whole text
+
+nonempty : (text : List ℕ) (c : ℕ) (cs : List ℕ) → chars text ≡ c ∷ cs → 0 < length text
+nonempty [] c cs h = absurd (let z : [] ≡ c ∷ cs = sym chars-nil ∙ h in cc)
+nonempty (b ∷ bs) c cs h = omega arith
+
+literal_some : (text cs : List ℕ) → chars text ≡ cs → begins_literal cs ≡ true → 0 < length text
+literal_some text [] h f = absurd (cc)
+literal_some text (c ∷ cs) h f = nonempty text c cs h
+
+raw_longer : (r : IdentIsRaw) (name : List ℕ) → 0 < length name → 0 < length (raw_prefix r ++ name)
+raw_longer No name h = h
+raw_longer Yes name h = omega arith
+
+word_some : (i : Ident) → IsIdent i → 0 < length (raw_prefix i.is_raw ++ name_text i.sym)
+word_some i h =
+    let a = letters i.sym h.0 in
+    subst (λ (x : List ℕ). 0 < length (raw_prefix i.is_raw ++ x)) (sym (word_text i.sym h.0))
+    (raw_longer i.is_raw i.sym (nonempty i.sym a.first a.more a.are))
+
+some_of : (e : Edition) (t : FlatToken) (ts : List FlatToken) → AreRust e (t ∷ ts) → 0 < length (spelled t)
+some_of e (token (ident i)) ts h = word_some i h.0
+some_of e (token (literal l)) ts h = literal_some (literal_output l) (chars (literal_output l)) refl h.0.0.front
+some_of e (token (punct p)) ts h = nonempty (encode_utf8 p.char) p.char [] (is_sign e p ts h.0).one
+some_of e (opening d) ts h = let o = opening_is d.kind h.0 in nonempty (opening_text d.kind) o.char [] o.is.one
+some_of e (closing d) ts h = let o = closing_is d.kind h.0 in nonempty (closing_text d.kind) o.char [] o.is.one
+
+-- each token has a byte
+as_long : (e : Edition) (ts : List FlatToken) (s : State) → AreRust e ts → length ts ≤ length (left ts s)
+as_long e [] s h = omega arith
+as_long e (t ∷ ts) s h =
+    let l = later e t ts h in
+    omega (
+      arith,
+      length-append (gap_of (the_gap t ts s) (gap_depth t s)) (spelled t ++ left ts (after t ts s)),
+      length-append (spelled t) (left ts (after t ts s)),
+      some_of e t ts h,
+      as_long e ts (after t ts s) l,
+    )
+
+-- neither a byte order mark nor a shebang begins the text
+abbrev has_no_head : List ℕ → Bool
+has_no_head [] = true
+has_no_head (c ∷ cs) = not (c == 65279) && not (c == 35 && begins_with (codes "!") cs)
+
+gap_no_head : (cs : List ℕ) → begins_gap cs ≡ true → has_no_head cs ≡ true
+gap_no_head [] h = refl
+gap_no_head (c ∷ cs) h = grind (arith, nat_tests, h)
+
+start_no_head : (c : ℕ) (cs : List ℕ) → is_start c ≡ true → has_no_head (c ∷ cs) ≡ true
+start_no_head c cs h = rw (mark_not_start c h, start_not_hash c h) refl
+
+literal_no_head : (text rest : List ℕ) → begins_literal text ≡ true → has_no_head (text ++ rest) ≡ true
+literal_no_head [] rest h = absurd (cc)
+literal_no_head (c ∷ cs) rest h = by_start (is_start c) refl h
+  where
+    by_start : (b : Bool) → is_start c ≡ b → begins_literal (c ∷ []) ≡ true → has_no_head (c ∷ (cs ++ rest)) ≡ true
+    by_start true e f = start_no_head c (cs ++ rest) e
+    by_start false e f = grind (arith, nat_tests, e, f)
+
+side_no_head : (c : ℕ) (cs : List ℕ) → is_side c ≡ true → has_no_head (c ∷ cs) ≡ true
+side_no_head c cs h = grind (arith, nat_tests, h)
+
+sign_no_head : (c : ℕ) (cs : List ℕ) → c < 128 → (c == 35) ≡ false → has_no_head (c ∷ cs) ≡ true
+sign_no_head c cs small h = grind (arith, nat_tests, h)
+
+alone_no_head : (c : ℕ) (cs : List ℕ) → c < 128 → ends_alone c cs ≡ true → has_no_head (c ∷ cs) ≡ true
+alone_no_head c [] small h = grind (arith, nat_tests)
+alone_no_head c (d ∷ cs) small h = grind (arith, nat_tests, h)
+
+-- a joint `#` is apart from the text's start
+hash_at_start : (c : ℕ) → (c == 35) ≡ true → ((true && c == 35) && not (false && true)) ≡ false → ⊥
+hash_at_start c h k = grind (arith, nat_tests, h, k)
+
+punct_no_head : (e : Edition) (depth c : ℕ) (sp : Spacing) (place : Span) (ts : List FlatToken) (hash : Bool)
+    → (c == 35) ≡ hash → c < 128
+    → IsPunct e (record { char = c; spacing = sp; span = place }) ts → AreRust e ts
+    → (is_joint sp && c == 35 && not (false && true)) ≡ false
+    → has_no_head (c ∷ ahead ts (a_punct (start depth) (record { char = c; spacing = sp; span = place })
+    (next_place ts))) ≡ true
+punct_no_head e depth c sp place ts false d small h r k =
+    sign_no_head c (ahead ts (a_punct (start depth) (record { char = c; spacing = sp; span = place })
+    (next_place ts))) small d
+punct_no_head e depth c Joint place ts true d small h r k = absurd (grind (arith, nat_tests, d, k))
+punct_no_head e depth c Alone place ts true d small h r k =
+    let state = a_punct (start depth) (record { char = c; spacing = Alone; span = place }) (next_place ts) in
+    alone_no_head c (ahead ts state) small (alone_ends e c ts state (alone_like c place (next_place ts)
+    (start depth)) r)
+
+no_head : (e : Edition) (ts : List FlatToken) (depth : ℕ) → AreRust e ts → has_no_head (ahead ts (start depth)) ≡ true
+no_head e [] depth h = refl
+no_head e (token (ident i) ∷ ts) depth h =
+    follows has_no_head (token (ident i)) ts (start depth) gap_no_head
+    (λ k. word_front has_no_head i (ahead ts (after (token (ident i)) ts (start depth))) h.0 start_no_head)
+no_head e (token (literal l) ∷ ts) depth h =
+    follows has_no_head (token (literal l)) ts (start depth) gap_no_head
+    (λ k. literal_no_head (chars (literal_output l)) (ahead ts (after (token (literal l)) ts
+    (start depth))) h.0.0.front)
+no_head e (token (punct p) ∷ ts) depth h =
+    follows has_no_head (token (punct p)) ts (start depth) gap_no_head
+    (λ k. fronted has_no_head p.char (encode_utf8 p.char) (ahead ts (after (token (punct p)) ts (start depth)))
+    (is_sign e p ts h.0)
+    (punct_no_head e depth p.char p.spacing p.span ts (p.char == 35) refl (sign_small e p ts
+    (p.char == 39) refl h.0) h.0 h.1 k))
+no_head e (opening d ∷ ts) depth h =
+    let o = opening_is d.kind h.0 in
+    follows has_no_head (opening d) ts (start depth) gap_no_head
+    (λ k. fronted has_no_head o.char (opening_text d.kind) (ahead ts (after (opening d) ts (start depth))) o.is
+    (side_no_head o.char (ahead ts (after (opening d) ts (start depth))) o.side))
+no_head e (closing d ∷ ts) depth h =
+    let o = closing_is d.kind h.0 in
+    follows has_no_head (closing d) ts (start depth) gap_no_head
+    (λ k. fronted has_no_head o.char (closing_text d.kind) (ahead ts (after (closing d) ts (start depth))) o.is
+    (side_no_head o.char (ahead ts (after (closing d) ts (start depth))) o.side))
+
+head_gone : (e : Edition) (total : ℕ) (cs : List ℕ) → has_no_head cs ≡ true → after_head (Rust e) total cs ≡ cs
+head_gone e total [] h = refl
+head_gone e total (c ∷ cs) h =
+    let mark : (c == 65279) ≡ false = grind (arith, nat_tests, h) in
+    let bang : (c == 35 && begins_with (codes "!") cs) ≡ false = grind (arith, nat_tests, h) in
+    rw (mark, bang) refl
+
+abbrev inside_of : Levels → Forest
+inside_of [] = none
+inside_of (g ∷ outer) = g.1
+
+one_level : (levels : Levels) (d : Delimiter) (f : Forest) → bare_levels levels ≡ (d, f) ∷ []
+    → (g : Delimiter × Forest) × (levels ≡ g ∷ []) × (bare g.1 ≡ f)
+one_level [] d f h = absurd (cc)
+one_level (g ∷ []) d f h = (g, refl, ap inside_of h)
+one_level (g ∷ (k ∷ outer)) d f h = absurd (cc)
+
+whole_trees : (e : Edition) (file : ℕ) (text : List ℕ) (levels : Levels) (g : Delimiter × Forest)
+    → levels_at_end (Rust e) file text ≡ Ok levels
+    → levels ≡ g ∷ [] → trees_of (Rust e) file text ≡ Ok g
+whole_trees e file text levels g h k = rw (trees_of, h, k) refl
+
+pub trees_come_back : TreesComeBack
+trees_come_back e file depth f h =
+    let ts = flat f in
+    let text = left ts (start depth) in
+    let total = length text in
+    let began : Levels = whole file total in
+    let want : Levels = bare_levels began in
+    let fits : Fit (ts ++ []) want = fit_flat f [] (
+      bare_delimiter
+          (record { opening = bytes_of file 0 total; close = bytes_of file 0 total; kind = Invisible }),
+      none,
+    ) [] tt in
+    let fit : Fit ts want = subst (λ (x : List FlatToken). Fit x want) (append-nil ts) fits in
+    let c = come e file total total ts (start depth) began want h fit refl (as_long e ts (start depth) h) in
+    let shown : chars text ≡ ahead ts (start depth) = chars_left e ts (start depth) h in
+    let begun : after_head (Rust e) total (chars text) ≡ ahead ts (start depth) =
+    ap (after_head (Rust e) total) shown ∙ head_gone e total (ahead ts (start depth)) (no_head e ts depth h) in
+    let read : levels_at_end (Rust e) file text ≡ Ok c.levels_at_end =
+    ap (λ (x : List ℕ). levels_of (Rust e) file total total began x) begun ∙ c.read in
+    let all : made ts want ≡ put (bare f) want = ap (λ (x : List FlatToken). made x want) (sym (append-nil ts))
+    ∙ made_flat f [] want in
+    let one = one_level c.levels_at_end (bare_delimiter
+    (record { opening = bytes_of file 0 total; close = bytes_of file 0 total; kind = Invisible })) (bare f)
+    (c.same ∙ all) in
+    record {
+      top = one.0;
+      read = ap (trees_of (Rust e) file) (text_of_is depth f)
+          ∙ whole_trees e file text c.levels_at_end one.0 read one.1;
+      same = one.2;
+    }

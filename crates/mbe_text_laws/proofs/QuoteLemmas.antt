@@ -1,0 +1,355 @@
+-- A literal in quotes that is read by itself is read before whatever doesn't go on with its suffix.
+use Rattle.std.proofs.Common.{◌≡◌, ℕ, ◌==◌, ◌-◌, ◌<◌, ◌&&◌, ◌||◌, if◌then◌else◌, Bool, true, false, List, [], ◌∷◌, ◌++◌, length, take, refl, sym, ap, ◌∙◌, arith, codes, Option, Some, None, Ok, Err, append_assoc, append-nil, length-append, encode_utf8_all}
+use Rattle.std.specs.Prelude.{nat_le, bytes_eq}
+use Rattle.std.proofs.lemmas.Bool.Decides.{nat_tests}
+use Rattle.std.proofs.Math.Seq.{take-append_seam}
+use Rattle.unicode_ident.specs.Ident.{is_xid_start, is_xid_continue}
+use Rattle.unicode_ident.proofs.IdentLemmas.{is_xid_start-is_xid_continue, is_xid_continue-ascii}
+use Rattle.unicode_ident.proofs.Computing.{unicode_ident}
+use Rattle.std.proofs.Common.{chars}
+use Rattle.std.proofs.lemmas.Str.{chars-append}
+use Rattle.mbe_tt.specs.Trees.Leaf.{Literal}
+use Rattle.mbe_tt.specs.Trees.Literals as marks
+use Rattle.mbe_tt.specs.declared.span.Edition.{Edition}
+use Rattle.mbe_tt.specs.declared.span.Edition.TheVariants.{Edition2015, Edition2018, Edition2021, Edition2024}
+use Rattle.mbe_tt.specs.declared.tt.LitKind.{LitKind}
+use Rattle.mbe_tt.specs.declared.tt.LitKind.TheVariants as kinds
+use Rattle.mbe_text.specs.Characters.{begins_with, bytes_before}
+use Rattle.mbe_text.specs.declared.wrong.Wrong.TheVariants as wrong
+use Rattle.mbe_text.specs.Escapes.{At, Checked, check_string}
+use Rattle.mbe_text.specs.Extents.{front, from_string_end}
+use Rattle.mbe_text.specs.Rust.{Token, read_rust, literal, past_suffix, string, string_until, within}
+use Rattle.mbe_text.specs.Shapes.{Shape, identifier, literal_of, punct_of, lifetime_of, doc_of, opening, closing}
+use Rattle.mbe_text.specs.Words.{past_word}
+use Rattle.mbe_text_laws.specs.Back.{StringsAreRead, is_string}
+use Rattle.mbe_text_laws.specs.Rust.{is_start, continues_word, begins_literal, begins_field, ends_literal, IsReadBefore}
+use Rattle.mbe_text_laws.proofs.TextLemmas.{ascii_utf8, ascii_chars}
+use Rattle.mbe_text_laws.proofs.StepLemmas.{past_all, bytes_front}
+
+-- ---- suffixes
+
+start_continues : (c : ℕ) (b : Bool) → is_xid_start c ≡ b → is_start c ≡ true → is_xid_continue c ≡ true
+start_continues c true e h = is_xid_start-is_xid_continue c e
+start_continues c false e h =
+    let low : c < 128 = grind (arith, nat_tests, e, h) in
+    let a = is_xid_continue-ascii c low in grind (arith, nat_tests, a, e, h)
+
+not_start_of : (c : ℕ) (b : Bool) → is_start c ≡ b → is_xid_continue c ≡ false → is_start c ≡ false
+not_start_of c false e h = e
+not_start_of c true e h = absurd (let z : true ≡ false = sym (start_continues c (is_xid_start c) refl e) ∙ h in cc)
+
+suffix_of : (d : ℕ) (ds rest : List ℕ) (b : Bool) → is_start d ≡ b → past_suffix (d ∷ ds) ≡ []
+    → continues_word rest ≡ false
+    → past_suffix (d ∷ (ds ++ rest)) ≡ rest
+suffix_of d ds rest true e p h =
+    let q : past_word (0 ∷ ds) ≡ [] = sym (ap (λ (b : Bool). if b then past_word (0 ∷ ds) else d ∷ ds) e)
+    ∙ p in rw e (past_all ds rest q h)
+suffix_of d ds rest false e p h =
+    absurd (let z : d ∷ ds ≡ [] = sym (ap (λ (b : Bool). if b then past_word (0 ∷ ds) else d ∷ ds) e) ∙ p in cc)
+
+suffix_on : (ds rest : List ℕ) → past_suffix ds ≡ [] → continues_word rest ≡ false → past_suffix (ds ++ rest) ≡ rest
+suffix_on [] [] p h = refl
+suffix_on [] (c ∷ cs) p h = rw (not_start_of c (is_start c) refl h) refl
+suffix_on (d ∷ ds) rest p h = suffix_of d ds rest (is_start d) refl p h
+
+-- a token where neither is wrong
+abbrev pick : Bool → Bool → At → Token → At → Token
+pick low fits x t y = if low then Err x else if fits then t else Err y
+
+picked : (low fits : Bool) (x y : At) (t : Token) (r : Shape × List ℕ) → pick low fits x t y ≡ Ok r
+    → (low ≡ false) × (fits ≡ true) × (t ≡ Ok r)
+picked true fits x y t r h = absurd (cc)
+picked false true x y t r h = (refl, refl, h)
+picked false false x y t r h = absurd (cc)
+
+abbrev left_of : Token → List ℕ
+left_of (Ok r) = r.1
+left_of (Err at) = []
+
+abbrev shape_of : Shape → Token → Shape
+shape_of s (Ok r) = r.0
+shape_of s (Err at) = s
+
+pub literal_on : (kind : LitKind) (text ds rest : List ℕ) (shape : Shape) → literal kind text ds ≡ Ok (shape, [])
+    → continues_word rest ≡ false
+    → literal kind text (ds ++ rest) ≡ Ok (shape, rest)
+literal_on kind text ds rest shape h k =
+    let suffix = bytes_before ds (past_suffix ds) in
+    let s = picked (bytes_eq suffix (codes "_")) (nat_le (length suffix) 255) (wrong.UnderscoreSuffix, ds)
+    (wrong.LongSuffix, ds)
+    (Ok (literal_of text suffix (length suffix) kind, past_suffix ds)) (shape, []) h in
+    let none : past_suffix ds ≡ [] = ap left_of s.2 in
+    let shaped : literal_of text suffix (length suffix) kind ≡ shape = ap (shape_of shape) s.2 in
+    let left : past_suffix (ds ++ rest) ≡ rest = suffix_on ds rest none k in
+    let same : bytes_before (ds ++ rest) rest ≡ suffix =
+    bytes_front ds rest ∙ sym (ap (bytes_before ds) none ∙ (ap (λ (x : List ℕ). bytes_before x []) (sym
+    (append-nil ds)) ∙ bytes_front ds [])) in
+    rw (literal, left, same, s.0, s.1) (ap (λ (x : Shape). Ok (x, rest)) shaped)
+
+-- ---- strings
+
+-- the quote that ends a string is found in whatever follows it too
+pub record Found (find : List ℕ → Option (List ℕ)) (cs end : List ℕ) : Type 0 where
+  pub own : List ℕ
+  pub quote : ℕ
+  pub more : List ℕ
+  pub ends : end ≡ quote ∷ more
+  pub is : cs ≡ own ++ (quote ∷ more)
+  pub on : (rest : List ℕ) → find (cs ++ rest) ≡ Some (quote ∷ (more ++ rest))
+
+found_more : (find later : List ℕ → Option (List ℕ)) (c : ℕ) (cs end : List ℕ) → ((rest : List ℕ)
+    → find (c ∷ (cs ++ rest)) ≡ later (cs ++ rest))
+    → Found later cs end → Found find (c ∷ cs) end
+found_more find later c cs end same f = record {
+  own = c ∷ f.own;
+  quote = f.quote;
+  more = f.more;
+  ends = f.ends;
+  is = ap (λ (x : List ℕ). c ∷ x) f.is;
+  on = λ rest. same rest ∙ f.on rest;
+}
+
+abbrev takes : ℕ → List ℕ → Bool
+takes c cs = c == 92 && (begins_with (codes "\\") cs || begins_with (codes "\"") cs)
+
+string_found_at : (b : Bool) (c : ℕ) (cs end : List ℕ) → (c == 34) ≡ b
+    → ((taken : Bool) → from_string_end taken cs ≡ Some end → Found (from_string_end taken) cs end)
+    → from_string_end false (c ∷ cs) ≡ Some end → Found (from_string_end false) (c ∷ cs) end
+string_found_at true c cs end e go h = record {
+  own = [];
+  quote = c;
+  more = cs;
+  ends = let z : Some (c ∷ cs) ≡ Some end = sym (ap (λ (b : Bool). if b then Some (c ∷ cs) else from_string_end
+      (takes c cs) cs) e) ∙ h in cc;
+  is = refl;
+  on = λ rest. rw e refl;
+}
+string_found_at false c [] end e go h =
+    absurd (let z : None ≡ Some end = sym (ap (λ (b : Bool). if b then Some (c ∷ []) else from_string_end
+    (takes c []) []) e ∙ no_more (takes c [])) ∙ h in cc)
+  where
+    no_more : (t : Bool) → from_string_end t [] ≡ None
+    no_more true = refl
+    no_more false = refl
+string_found_at false c (d ∷ ds) end e go h =
+    found_more (from_string_end false) (from_string_end (takes c (d ∷ ds))) c (d ∷ ds) end (λ rest. rw e refl)
+    (go (takes c (d ∷ ds)) (sym (ap (λ (b : Bool). if b then Some (c ∷ (d ∷ ds)) else from_string_end (takes c
+    (d ∷ ds)) (d ∷ ds)) e) ∙ h))
+
+string_found : (cs end : List ℕ) (taken : Bool) → from_string_end taken cs ≡ Some end
+    → Found (from_string_end taken) cs end
+string_found [] end true h = absurd (cc)
+string_found [] end false h = absurd (cc)
+string_found (c ∷ cs) end true h = found_more (from_string_end true) (from_string_end false) c cs end (λ rest. refl)
+    (string_found cs end false h)
+string_found (c ∷ cs) end false h = string_found_at (c == 34) c cs end refl (string_found cs end) h
+
+-- what a check finds is the same, and then the literal
+abbrev checked : Checked → List ℕ → Token → Token
+checked (Ok u) end t = t
+checked (Err at) end t = Err (within end at)
+
+checked_is : (c : Checked) (end : List ℕ) (t : Token) (r : Shape × List ℕ) → checked c end t ≡ Ok r
+    → (t ≡ Ok r) × ((d : List ℕ) (u : Token) → checked c d u ≡ u)
+checked_is (Ok u) end t r h = (h, λ d v. refl)
+checked_is (Err at) end t r h = absurd (cc)
+
+front_of : (own end : List ℕ) → front (own ++ end) end ≡ own
+front_of own end =
+    let n : length (own ++ end) - length end ≡ length own = omega (arith, length-append own end) in
+    ap (λ (k : ℕ). take k (own ++ end)) n ∙ take-append_seam own end
+
+until_same : (x : Checked) (end : List ℕ) (t : Token) → (elim x as (λ y. Token) [
+  | Ok u ↦ t
+  | Err at ↦ Err
+      (within end at)
+]) ≡ checked x end t
+until_same (Ok u) end t = refl
+until_same (Err at) end t = refl
+
+until_is : (kind : LitKind) (q : _) (own : List ℕ) (c : ℕ) (more : List ℕ)
+    → string_until kind q (own ++ (c ∷ more)) (c ∷ more) ≡ checked (check_string q 0 own) (c ∷ more) (literal kind
+    (encode_utf8_all own) more)
+until_is kind q own c more =
+    until_same (check_string q 0 (front (own ++ (c ∷ more)) (c ∷ more))) (c ∷ more) (literal kind (bytes_before
+    (own ++ (c ∷ more)) (c ∷ more)) more)
+    ∙ (ap (λ (x : List ℕ). checked (check_string q 0 x) (c ∷ more) (literal kind (bytes_before (own ++ (c ∷ more))
+    (c ∷ more)) more)) (front_of own (c ∷ more))
+    ∙ ap (λ (x : List ℕ). checked (check_string q 0 own) (c ∷ more) (literal kind x more)) (bytes_front own (c ∷ more)))
+
+unended : (kind : LitKind) (q : _) (c : ℕ) (cs : List ℕ) → from_string_end false cs ≡ None
+    → string kind q (c ∷ cs) ≡ Err (wrong.OpenString, c ∷ cs)
+unended kind q c cs e = rw (string, e) refl
+
+string_at : (kind : LitKind) (q : _) (c : ℕ) (cs rest : List ℕ) (shape : Shape) (o : Option (List ℕ))
+    → from_string_end false cs ≡ o
+    → string kind q (c ∷ cs) ≡ Ok (shape, []) → continues_word rest ≡ false
+    → string kind q (c ∷ (cs ++ rest)) ≡ Ok (shape, rest)
+string_at kind q c cs rest shape None e h k = absurd (let z : Err (wrong.OpenString, c ∷ cs) ≡ Ok (shape, []) = sym
+    (unended kind q c cs e) ∙ h in cc)
+string_at kind q c cs rest shape (Some end) e h k =
+    let f = string_found cs end false e in
+    let before : string kind q (c ∷ cs) ≡ string_until kind q cs end = rw (string, e) refl in
+    let ends : string_until kind q cs end ≡ string_until kind q (f.own ++ (f.quote ∷ f.more)) (f.quote ∷ f.more) =
+    ap (string_until kind q cs) f.ends ∙ ap (λ (x : List ℕ). string_until kind q x (f.quote ∷ f.more)) f.is in
+    let was : checked (check_string q 0 f.own) (f.quote ∷ f.more) (literal kind (encode_utf8_all f.own) f.more) ≡ Ok
+    (shape, []) =
+    sym (before ∙ (ends ∙ until_is kind q f.own f.quote f.more)) ∙ h in
+    let is = checked_is (check_string q 0 f.own) (f.quote ∷ f.more) (literal kind (encode_utf8_all f.own) f.more)
+    (shape, []) was in
+    let on : from_string_end false (cs ++ rest) ≡ Some (f.quote ∷ (f.more ++ rest)) = f.on rest in
+    let after : string kind q (c ∷ (cs ++ rest)) ≡ string_until kind q (cs ++ rest) (f.quote ∷
+    (f.more ++ rest)) = rw (string, on) refl in
+    let whole : cs ++ rest ≡ f.own ++ (f.quote ∷ (f.more ++ rest)) =
+    ap (λ (x : List ℕ). x ++ rest) f.is ∙ append_assoc f.own (f.quote ∷ f.more) rest in
+    after ∙ (ap (λ (x : List ℕ). string_until kind q x (f.quote ∷ (f.more ++ rest))) whole
+    ∙ (until_is kind q f.own f.quote (f.more ++ rest)
+    ∙ (is.1 (f.quote ∷ (f.more ++ rest)) (literal kind (encode_utf8_all f.own) (f.more ++ rest))
+    ∙ literal_on kind (encode_utf8_all f.own) f.more rest shape is.0 k)))
+
+pub string_on : (kind : LitKind) (q : _) (c : ℕ) (cs rest : List ℕ) (shape : Shape)
+    → string kind q (c ∷ cs) ≡ Ok (shape, [])
+    → continues_word rest ≡ false → string kind q (c ∷ (cs ++ rest)) ≡ Ok (shape, rest)
+string_on kind q c cs rest shape h k = string_at kind q c cs rest shape (from_string_end false cs) refl h k
+
+-- ---- what a string begins with
+
+abbrev token_of : Token → Option Token → Token
+token_of other (Some t) = t
+token_of other None = other
+
+string_some : (kind : LitKind) (q : _) (c : ℕ) (cs rest : List ℕ) (shape : Shape)
+    → Some (string kind q (c ∷ cs)) ≡ Some (Ok (shape, []))
+    → continues_word rest ≡ false → Some (string kind q (c ∷ (cs ++ rest))) ≡ Some (Ok (shape, rest))
+string_some kind q c cs rest shape h k = ap Some (string_on kind q c cs rest shape (ap (token_of (Ok (shape, []))) h) k)
+
+str_case : (e : Edition) (cs rest : List ℕ) (shape : Shape) → read_rust e (34 ∷ cs) ≡ Some (Ok (shape, []))
+    → continues_word rest ≡ false
+    → read_rust e (34 ∷ (cs ++ rest)) ≡ Some (Ok (shape, rest))
+unfolding unicode_ident
+str_case e cs rest shape h k = search (string_some, h, k)
+
+byte_case : (e : Edition) (cs rest : List ℕ) (shape : Shape) → read_rust e (98 ∷ (34 ∷ cs)) ≡ Some (Ok (shape, []))
+    → continues_word rest ≡ false
+    → read_rust e (98 ∷ (34 ∷ (cs ++ rest))) ≡ Some (Ok (shape, rest))
+byte_case e cs rest shape h k = search (string_some, h, k)
+
+-- before 2021 a `c` before a quote is an identifier
+abbrev is_name : Shape → Bool
+is_name (identifier name raw) = true
+is_name (literal_of text suffix n kind) = false
+is_name (punct_of c sp) = false
+is_name (lifetime_of name raw) = false
+is_name (doc_of text inner) = false
+is_name (opening k) = false
+is_name (closing k) = false
+
+abbrev is_identifier : Token → Bool
+is_identifier (Ok r) = is_name r.0
+is_identifier (Err at) = false
+
+c_case : (e : Edition) (cs rest : List ℕ) (text suffix : List ℕ) (n : ℕ) (kind : LitKind)
+    → read_rust e (99 ∷ (34 ∷ cs)) ≡ Some (Ok (literal_of text suffix n kind, [])) → continues_word rest ≡ false
+    → read_rust e (99 ∷ (34 ∷ (cs ++ rest))) ≡ Some (Ok (literal_of text suffix n kind, rest))
+c_case Edition2015 cs rest text suffix n kind h k =
+    absurd (let z : true ≡ false = ap (λ (o : Option Token). is_identifier (token_of (Err
+    (wrong.OpenString, [])) o)) h in cc)
+c_case Edition2018 cs rest text suffix n kind h k =
+    absurd (let z : true ≡ false = ap (λ (o : Option Token). is_identifier (token_of (Err
+    (wrong.OpenString, [])) o)) h in cc)
+c_case Edition2021 cs rest text suffix n kind h k = search (string_some, h, k)
+c_case Edition2024 cs rest text suffix n kind h k = search (string_some, h, k)
+
+-- ---- literals
+
+one_char : (c : ℕ) (b : List ℕ) → c < 128 → chars (c ∷ b) ≡ c ∷ chars b
+one_char c b small = chars-append (c ∷ []) b (ascii_utf8 c small)
+    ∙ ap (λ (x : List ℕ). x ++ chars b) (ascii_chars c small)
+
+two_chars : (c d : ℕ) (b : List ℕ) → c < 128 → d < 128 → chars (c ∷ (d ∷ b)) ≡ c ∷ (d ∷ chars b)
+two_chars c d b m n = one_char c (d ∷ b) m ∙ ap (λ (x : List ℕ). c ∷ x) (one_char d b n)
+
+-- a text that is read by itself is read before that rest, and begins as literals do
+record Extends (e : Edition) (text rest : List ℕ) (shape : Shape) : Type 0 where
+  begun : begins_literal (chars text) ≡ true
+  read : read_rust e (chars text ++ rest) ≡ Some (Ok (shape, rest))
+
+extends : (e : Edition) (text cs rest : List ℕ) (shape : Shape) → chars text ≡ cs → begins_literal cs ≡ true
+    → (read_rust e cs ≡ Some (Ok (shape, [])) → read_rust e (cs ++ rest) ≡ Some (Ok (shape, rest)))
+    → read_rust e (chars text ++ []) ≡ Some (Ok (shape, [])) → Extends e text rest shape
+extends e text cs rest shape is f go h = record {
+  begun = ap begins_literal is ∙ f;
+  read = ap (λ (x : List ℕ). read_rust e (x ++ rest)) is
+      ∙ go (sym (ap (read_rust e) (append-nil (chars text) ∙ is)) ∙ h);
+}
+
+letter_begins : (c : ℕ) (cs : List ℕ) → is_start c ≡ true → begins_literal (c ∷ cs) ≡ true
+letter_begins c cs h = rw h refl
+
+b_is_start : is_start 98 ≡ true
+unfolding unicode_ident
+b_is_start = refl
+
+c_is_start : is_start 99 ≡ true
+unfolding unicode_ident
+c_is_start = refl
+
+quote_begins : (cs : List ℕ) → begins_literal (34 ∷ cs) ≡ true
+unfolding unicode_ident
+quote_begins cs = refl
+
+string_extends : (e : Edition) (k : LitKind) (b rest text suffix : List ℕ) (n : ℕ) (kind : LitKind)
+    → is_string k ≡ true → continues_word rest ≡ false
+    → read_rust e (chars (marks.opening k ++ b) ++ []) ≡ Some (Ok (literal_of text suffix n kind, []))
+    → Extends e (marks.opening k ++ b) rest (literal_of text suffix n kind)
+string_extends e kinds.Str b rest text suffix n kind i k h =
+    extends e (34 ∷ b) (34 ∷ chars b) rest (literal_of text suffix n kind) (one_char 34 b (omega arith))
+    (quote_begins (chars b))
+    (λ r. str_case e (chars b) rest (literal_of text suffix n kind) r k) h
+string_extends e kinds.ByteStr b rest text suffix n kind i k h =
+    extends e (98 ∷ (34 ∷ b)) (98 ∷ (34 ∷ chars b)) rest (literal_of text suffix n kind) (two_chars 98 34 b
+    (omega arith) (omega arith))
+    (letter_begins 98 (34 ∷ chars b) b_is_start) (λ r. byte_case e (chars b) rest (literal_of text suffix n kind) r k) h
+string_extends e kinds.CStr b rest text suffix n kind i k h =
+    extends e (99 ∷ (34 ∷ b)) (99 ∷ (34 ∷ chars b)) rest (literal_of text suffix n kind) (two_chars 99 34 b
+    (omega arith) (omega arith))
+    (letter_begins 99 (34 ∷ chars b) c_is_start) (λ r. c_case e (chars b) rest text suffix n kind r k) h
+string_extends e kinds.Byte b rest text suffix n kind i k h = absurd (cc)
+string_extends e kinds.Char b rest text suffix n kind i k h = absurd (cc)
+string_extends e kinds.Integer b rest text suffix n kind i k h = absurd (cc)
+string_extends e kinds.Float b rest text suffix n kind i k h = absurd (cc)
+string_extends e (kinds.StrRaw m) b rest text suffix n kind i k h = absurd (cc)
+string_extends e (kinds.ByteStrRaw m) b rest text suffix n kind i k h = absurd (cc)
+string_extends e (kinds.CStrRaw m) b rest text suffix n kind i k h = absurd (cc)
+string_extends e kinds.Err b rest text suffix n kind i k h = absurd (cc)
+
+before_of : (e : Edition) (l : Literal) (rest : List ℕ) → is_string l.kind ≡ true → IsReadBefore e l []
+    → continues_word rest ≡ false → IsReadBefore e l rest
+before_of e l rest i b k = record {
+  text = b.text;
+  suffix = b.suffix;
+  parts = b.parts;
+  read = (string_extends e l.kind (marks.literal_text l ++
+      (marks.closing l.kind ++ marks.literal_suffix l)) rest b.text b.suffix l.suffix_len l.kind i k b.read).read;
+}
+
+ended : (rest : List ℕ) → ends_literal rest ≡ true → continues_word rest ≡ false
+ended [] h = refl
+ended (c ∷ cs) h = grind (arith, nat_tests, h)
+
+field_ended : (rest : List ℕ) → begins_field rest ≡ true → continues_word rest ≡ false
+field_ended [] h = refl
+field_ended (c ∷ cs) h =
+    let dot : c ≡ 46 = grind (arith, nat_tests, h) in
+    ap is_xid_continue dot ∙ is_xid_continue-ascii 46 (omega arith)
+
+pub strings_are_read : StringsAreRead
+strings_are_read e l i u b = (
+  record {
+    utf8 = u;
+    front = (string_extends e l.kind (marks.literal_text l ++
+        (marks.closing l.kind ++ marks.literal_suffix l)) [] b.text b.suffix l.suffix_len l.kind i refl b.read).begun;
+    whole = λ rest h. before_of e l rest i b (ended rest h);
+  },
+  λ rest h. before_of e l rest i b (field_ended rest h),
+)

@@ -1,0 +1,208 @@
+-- The text that is written, token by token, as bytes and as characters.
+use Rattle.std.proofs.Common.{◌≡◌, ℕ, zero, suc, ◌-◌, ◌<◌, not, ◌&&◌, Bool, true, false, List, [], ◌∷◌, ◌++◌, refl, sym, ap, ◌∙◌, arith, codes, Option, None, IsUtf8, IsAscii, get_or, chars, encode_utf8, append_assoc, append-nil}
+use Rattle.std.proofs.lemmas.Str.{chars-append, chars-IsAscii, IsUtf8-from_ascii}
+use Rattle.std.proofs.lemmas.Slice.Eq.{bytes_eq-Decides}
+use Rattle.mbe_tt.specs.declared.span.Span.{Span}
+use Rattle.mbe_tt.specs.declared.tt.Delimiter.{Delimiter}
+use Rattle.mbe_tt.specs.declared.tt.Punct.{Punct}
+use Rattle.mbe_tt.specs.declared.tt.DelimiterKind.{DelimiterKind}
+use Rattle.mbe_tt.specs.declared.tt.DelimiterKind.TheVariants.{Parenthesis, Brace, Bracket, Invisible}
+use Rattle.mbe_tt.specs.Trees.Leaf.{literal, punct, ident, is_text}
+use Rattle.mbe_tt.specs.Trees.Literals.{raw_prefix, literal_output}
+use Rattle.mbe_tt.specs.Trees.Tree.{Forest, none, leaf, group, FlatToken, token, opening, closing, flat}
+use Rattle.mbe_rust_text.specs.Gaps.{ends_line, goes_on, is_word_apart, joins_word, is_literal_apart, joins_literal, is_punct_apart, stays_with, is_opening_apart, is_open_brace, is_beside, is_same_place, is_before, is_one_of}
+use Rattle.mbe_rust_text.specs.Writing.{State, a_leaf, opened, closed, name_text, next_span, written, start, text_of}
+use Rattle.mbe_text.specs.declared.dialect.Dialect.{Dialect}
+use Rattle.mbe_text.specs.Division.{next_token}
+use Rattle.mbe_text.specs.Tokens.{opening_text, closing_text}
+use Rattle.mbe_text_laws.specs.Rust.{IsWord, next_place, is_start, begins_word}
+use Rattle.mbe_text_laws.specs.Gaps.{before}
+use Rattle.mbe_text_laws.proofs.GapLemmas.{gaps_are_blank, gaps_are_in_bytes}
+use Rattle.mbe_text_laws.proofs.EndLemmas.{start_not_dollar}
+
+-- ---- one token
+
+-- what decides a gap: whether a line begins, whether the tokens are to be apart, and whether they stay side by side
+pub record Reasons : Type 0 where
+  pub line : Bool
+  pub apart : Bool
+  pub beside : Bool
+
+abbrev pub gap_of : Reasons → ℕ → List ℕ
+gap_of r depth = before r.line r.apart r.beside depth
+
+abbrev pub reasons : Bool → Bool → Bool → Reasons
+reasons l a b = record { line = l; apart = a; beside = b }
+
+abbrev pub no_gap : Reasons
+no_gap = reasons false false false
+
+abbrev pub word_reasons : State → List ℕ → Span → Reasons
+word_reasons s name place =
+    reasons (ends_line s.last (not (goes_on name))) (is_word_apart s.last) (is_beside s.place place && not
+    (joins_word s.last))
+
+abbrev pub literal_reasons : State → Span → Reasons
+literal_reasons s place =
+    reasons (ends_line s.last true) (is_literal_apart s.last) (is_beside s.place place && not (joins_literal s.last))
+
+abbrev pub punct_reasons : State → Punct → Option Span → Reasons
+punct_reasons s p next =
+    reasons (ends_line s.last (is_one_of p.char (codes "#'")))
+    (is_punct_apart s.last (is_same_place s.place p.span) p.char p.spacing)
+    (is_beside s.place p.span && stays_with s.last p.char (is_before p.span next))
+
+abbrev pub side_reasons : State → Bool → Span → Reasons
+side_reasons s is_brace place = reasons (ends_line s.last false) (is_opening_apart s.last is_brace)
+    (is_beside s.place place)
+
+abbrev pub open_gap : State → DelimiterKind → Span → Reasons
+open_gap s Parenthesis place = side_reasons s false place
+open_gap s Bracket place = side_reasons s false place
+open_gap s Brace place = side_reasons s true place
+open_gap s Invisible place = no_gap
+
+abbrev pub close_gap : State → DelimiterKind → Reasons
+close_gap s Brace = reasons (not (is_open_brace s.last)) false false
+close_gap s Parenthesis = no_gap
+close_gap s Bracket = no_gap
+close_gap s Invisible = no_gap
+
+abbrev pub close_depth : State → DelimiterKind → ℕ
+close_depth s Brace = s.depth - 1
+close_depth s Parenthesis = s.depth
+close_depth s Bracket = s.depth
+close_depth s Invisible = s.depth
+
+abbrev pub the_gap : FlatToken → List FlatToken → State → Reasons
+the_gap (token (ident i)) ts s = word_reasons s (name_text i.sym) i.span
+the_gap (token (literal l)) ts s = literal_reasons s l.span
+the_gap (token (punct p)) ts s = punct_reasons s p (next_place ts)
+the_gap (opening d) ts s = open_gap s d.kind d.opening
+the_gap (closing d) ts s = close_gap s d.kind
+
+abbrev pub gap_depth : FlatToken → State → ℕ
+gap_depth (token l) s = s.depth
+gap_depth (opening d) s = s.depth
+gap_depth (closing d) s = close_depth s d.kind
+
+abbrev pub spelled : FlatToken → List ℕ
+spelled (token (ident i)) = raw_prefix i.is_raw ++ name_text i.sym
+spelled (token (literal l)) = literal_output l
+spelled (token (punct p)) = encode_utf8 p.char
+spelled (opening d) = opening_text d.kind
+spelled (closing d) = closing_text d.kind
+
+abbrev pub after : FlatToken → List FlatToken → State → State
+after (token l) ts s = a_leaf s l (next_place ts)
+after (opening d) ts s = opened s d.kind d.opening
+after (closing d) ts s = closed s d.kind d.close
+
+-- ---- many
+
+-- what is written after these tokens
+abbrev pub write : List FlatToken → State → State
+write [] s = s
+write (t ∷ ts) s = write ts (after t ts s)
+
+-- what they add, as bytes and as characters
+abbrev pub left : List FlatToken → State → List ℕ
+left [] s = []
+left (t ∷ ts) s = gap_of (the_gap t ts s) (gap_depth t s) ++ (spelled t ++ left ts (after t ts s))
+
+abbrev pub ahead : List FlatToken → State → List ℕ
+ahead [] s = []
+ahead (t ∷ ts) s = gap_of (the_gap t ts s) (gap_depth t s) ++ (chars (spelled t) ++ ahead ts (after t ts s))
+
+opened_adds : (d : Delimiter) (kind : DelimiterKind) (s : State)
+    → (opened s kind d.opening).text ≡ s.text ++ (gap_of (open_gap s kind d.opening) s.depth ++ opening_text kind)
+opened_adds d Parenthesis s = refl
+opened_adds d Bracket s = refl
+opened_adds d Brace s = refl
+opened_adds d Invisible s = sym (append-nil s.text)
+
+closed_adds : (d : Delimiter) (kind : DelimiterKind) (s : State)
+    → (closed s kind d.close).text ≡ s.text ++ (gap_of (close_gap s kind) (close_depth s kind) ++ closing_text kind)
+closed_adds d Parenthesis s = refl
+closed_adds d Bracket s = refl
+closed_adds d Brace s = refl
+closed_adds d Invisible s = sym (append-nil s.text)
+
+adds : (t : FlatToken) (ts : List FlatToken) (s : State)
+    → (after t ts s).text ≡ s.text ++ (gap_of (the_gap t ts s) (gap_depth t s) ++ spelled t)
+adds (token (ident i)) ts s = refl
+adds (token (literal l)) ts s = refl
+adds (token (punct p)) ts s = refl
+adds (opening d) ts s = opened_adds d d.kind s
+adds (closing d) ts s = closed_adds d d.kind s
+
+pub text_left : (ts : List FlatToken) (s : State) → (write ts s).text ≡ s.text ++ left ts s
+text_left [] s = sym (append-nil s.text)
+text_left (t ∷ ts) s =
+    text_left ts (after t ts s)
+    ∙ (ap (λ (x : List ℕ). x ++ left ts (after t ts s)) (adds t ts s)
+    ∙ (append_assoc s.text (gap_of (the_gap t ts s) (gap_depth t s) ++ spelled t) (left ts (after t ts s))
+    ∙ ap (λ (x : List ℕ). s.text ++ x) (append_assoc (gap_of (the_gap t ts s) (gap_depth t s)) (spelled t) (left ts
+    (after t ts s)))))
+
+-- ---- trees are written by their flat tokens
+
+first_place : (f : Forest) (ts : List FlatToken) → None ≡ next_place ts → next_place (flat f ++ ts) ≡ next_span f
+first_place none ts h = sym h
+first_place (leaf l rest) ts h = refl
+first_place (group d inside rest) ts h = refl
+
+pub written_flat : (f : Forest) (ts : List FlatToken) (s : State) → None ≡ next_place ts
+    → write (flat f ++ ts) s ≡ write ts (written f s)
+unfolding written
+written_flat none ts s h = refl
+written_flat (leaf l rest) ts s h =
+    ap (λ (p : Option Span). write (flat rest ++ ts) (a_leaf s l p)) (first_place rest ts h)
+    ∙ written_flat rest ts (a_leaf s l (next_span rest)) h
+written_flat (group d inside rest) ts s h =
+    ap (λ (x : List FlatToken). write x (opened s d.kind d.opening)) (append_assoc (flat inside)
+    (closing d ∷ flat rest) ts)
+    ∙ (written_flat inside (closing d ∷ (flat rest ++ ts)) (opened s d.kind d.opening) refl
+    ∙ written_flat rest ts (closed (written inside (opened s d.kind d.opening)) d.kind d.close) h)
+
+pub text_of_is : (depth : ℕ) (f : Forest) → text_of depth f ≡ left (flat f) (start depth)
+text_of_is depth f =
+    sym (ap (λ (s : State). s.text) (sym (ap (λ (x : List FlatToken). write x (start depth)) (append-nil (flat f)))
+    ∙ written_flat f [] (start depth) refl))
+    ∙ text_left (flat f) (start depth)
+
+-- ---- characters
+
+pub gap_chars : (r : Reasons) (depth : ℕ) (text : List ℕ) → chars
+    (gap_of r depth ++ text) ≡ gap_of r depth ++ chars text
+gap_chars r depth text = gaps_are_in_bytes depth r.line r.apart r.beside text
+
+pub gap_is_blank : (dialect : Dialect) (total depth : ℕ) (r : Reasons) (cs : List ℕ)
+    → next_token dialect total (gap_of r depth ++ cs) ≡ next_token dialect total cs
+gap_is_blank dialect total depth r cs = gaps_are_blank dialect total depth r.line r.apart r.beside cs
+
+-- ---- what tokens are spelled with
+
+one_ascii : (c : ℕ) → c < 128 → IsAscii (c ∷ [])
+one_ascii c small = λ i. elim i as (λ j. get_or (c ∷ []) j 0 < 128) [ zero ↦ small | suc k ↦ omega arith ]
+
+pub ascii_utf8 : (c : ℕ) → c < 128 → IsUtf8 (c ∷ [])
+ascii_utf8 c small = IsUtf8-from_ascii (c ∷ []) (one_ascii c small)
+
+pub ascii_chars : (c : ℕ) → c < 128 → chars (c ∷ []) ≡ c ∷ []
+ascii_chars c small = chars-IsAscii (c ∷ []) (one_ascii c small)
+
+-- a word's text isn't `$crate`
+word_of : (name : List ℕ) (b : Bool) → is_text name (codes "$crate") ≡ b → IsWord name → name_text name ≡ name
+word_of name false e w = rw e refl
+word_of name true e w = absurd (
+    let same : name ≡ codes "$crate" = (bytes_eq-Decides name (codes "$crate")).0 e in
+    let front : chars (codes "$crate") ≡ 36 ∷ chars (codes "crate") =
+    chars-append (36 ∷ []) (codes "crate") (ascii_utf8 36 (omega arith))
+    ∙ ap (λ (x : List ℕ). x ++ chars (codes "crate")) (ascii_chars 36 (omega arith)) in
+    let no : is_start 36 ≡ true = sym (ap begins_word front) ∙ (ap (λ (x : List ℕ). begins_word (chars x))
+    (sym same) ∙ w.1) in
+    let z : false ≡ true = sym start_not_dollar ∙ no in cc)
+
+pub word_text : (name : List ℕ) → IsWord name → name_text name ≡ name
+word_text name w = word_of name (is_text name (codes "$crate")) refl w
