@@ -34,7 +34,7 @@ pub const LEVELS: u32 = 1000;
 /// Expands the calls of files. Clauses see it by `setting_of` and `state_of`.
 #[derive(Drop)]
 pub struct Expander<'g, A: Allocator + Copy = Global> {
-    alloc: A,
+    pub(crate) alloc: A,
     settings: Settings,
     grammar: RuleTable<'g>,
     scope: Scope<A>,
@@ -217,6 +217,7 @@ impl<'g, A: Allocator + Copy> Expander<'g, A> {
         }
         let (tree, _rule) = value;
         self.note_step(call, &tree)?;
+        self.note_captures(call, &tree)?;
         Ok(Some(tree))
     }
 

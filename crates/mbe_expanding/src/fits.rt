@@ -17,8 +17,14 @@ use std::alloc::{AllocError, Allocator};
 // What stands before a tree in its group.
 #[derive(Clone, Copy, Debug, Drop, PartialEq, Eq)]
 pub(crate) enum Before {
-    // Nothing, a `;` or braces: a statement may begin here.
+    // A `;`, braces, an attribute, or nothing in braces: a statement may begin here.
     Statement,
+    // The `#` of an attribute of a statement, or its `!`.
+    Hash,
+    // A `=` right before the next punct, which is the end of no `==`, `<=`, `>=` or `!=`.
+    Equals,
+    // A `<`, `>` or `!` right before the next punct, which a `=` makes another operator.
+    Comparison,
     Operator,
     Other,
 }
@@ -26,8 +32,8 @@ pub(crate) enum Before {
 // How an expansion stands in place of its call.
 #[derive(Clone, Copy, Debug, Drop, PartialEq, Eq)]
 pub(crate) struct Fit {
-    // An expression of several trees beside an operator is put in parentheses.
-    pub(crate) is_wrapped: bool,
+    // An expression of several trees beside an operator is put in parentheses, and statements in braces where an expression stands.
+    pub(crate) wrap: Option<DelimiterKind>,
     // A call by braces that is a statement gets a `;` where it becomes an expression.
     pub(crate) gets_semicolon: bool,
     // The `;` after a call goes with it where the call becomes items, nothing, or something with a `;` of its own.
@@ -117,7 +123,8 @@ pub(crate) fn part_of<A: Allocator>(
 {
     match last {
         Before::Statement => tokens,
-        Before::Operator | Before::Other => without_semicolon(tokens),
+        Before::Hash | Before::Equals | Before::Comparison | Before::Operator | Before::Other =>
+            without_semicolon(tokens),
     }
 }
 
@@ -149,14 +156,44 @@ pub(crate) fn left_after<A: Allocator>(
     }
 }
 
-// What the tree at the front is to what stands after it.
-pub(crate) fn left_by<A: Allocator>(tokens: TokenTreesView<'_, A>) -> Before {
+// What stands before the first tree of a group of that kind. Statements stand in braces, and what has no delimiters may be some.
+pub(crate) fn begins_in(kind: DelimiterKind) -> Before {
+    match kind {
+        DelimiterKind::Brace | DelimiterKind::Invisible => Before::Statement,
+        DelimiterKind::Parenthesis | DelimiterKind::Bracket => Before::Other,
+    }
+}
+
+// What the tree at the front is to what stands after it, where that stands before it.
+pub(crate) fn left_by<A: Allocator>(tokens: TokenTreesView<'_, A>, last: Before) -> Before {
     match tokens.iter().next() {
-        Some(TtElement::Leaf(Leaf::Punct(punct))) if punct.char == ';' => Before::Statement,
-        Some(TtElement::Subtree(group, _)) if group.delimiter.kind == DelimiterKind::Brace => {
-            Before::Statement
+        Some(TtElement::Leaf(Leaf::Punct(punct))) => {
+            left_by_punct(punct.char, punct.spacing == Spacing::Joint, last)
         }
+        Some(TtElement::Subtree(group, _)) => match group.delimiter.kind {
+            DelimiterKind::Brace => Before::Statement,
+            DelimiterKind::Bracket if last == Before::Hash => Before::Statement,
+            DelimiterKind::Parenthesis | DelimiterKind::Bracket | DelimiterKind::Invisible => {
+                Before::Other
+            }
+        },
         _ if binds(tokens) => Before::Operator,
+        _ => Before::Other,
+    }
+}
+
+// What a punct is to what stands after it.
+fn left_by_punct(char: char, is_joint: bool, last: Before) -> Before {
+    match (char, last) {
+        (';', _) => Before::Statement,
+        ('#', Before::Statement) | ('!', Before::Hash) => Before::Hash,
+        ('=', Before::Equals | Before::Comparison) => Before::Operator,
+        ('=', _) if is_joint => Before::Equals,
+        // The end of `=>`.
+        ('>', Before::Equals) => Before::Other,
+        ('<' | '>' | '!', _) if is_joint => Before::Comparison,
+        ('+' | '-' | '*' | '/' | '%' | '^' | '&' | '|' | '.' | '?' | '<' | '>' | '!', _) =>
+            Before::Operator,
         _ => Before::Other,
     }
 }
@@ -179,6 +216,35 @@ fn goes_on<A: Allocator>(rest: TokenTreesView<'_, A>) -> bool {
         }
         Some(_) => false,
         None => true,
+    }
+}
+
+// Whether the argument list of a call, or an index, stands at the front.
+fn applies<A: Allocator>(rest: TokenTreesView<'_, A>) -> bool {
+    match rest.iter().next() {
+        Some(TtElement::Subtree(group, _)) => matches!(
+            group.delimiter.kind,
+            DelimiterKind::Parenthesis | DelimiterKind::Bracket
+        ),
+        Some(TtElement::Leaf(_)) | None => false,
+    }
+}
+
+// Whether what a call becomes is an operand of what stands after it. A call by braces that is a statement is one only of `.` and `?`.
+fn is_operand_of<A: Allocator>(call: Call<'_, A>, last: Before) -> bool {
+    if last == Before::Statement && call.group.delimiter.kind == DelimiterKind::Brace {
+        let mut iter = call.rest.iter();
+        return iter.expect_char('.').is_ok() || iter.expect_char('?').is_ok();
+    }
+    binds(call.rest) || applies(call.rest)
+}
+
+// What stands before the expansion of a call: an operand is no statement, whatever stands before it.
+pub(crate) fn beside<A: Allocator>(call: Call<'_, A>, last: Before) -> Before {
+    if is_operand_of(call, last) {
+        Before::Operator
+    } else {
+        last
     }
 }
 
@@ -213,6 +279,54 @@ fn are_items<A: Allocator + Copy>(
     Ok(iter.is_empty())
 }
 
+// Whether a `;` stands among the trees.
+fn has_semicolon<A: Allocator>(tokens: TokenTreesView<'_, A>) -> bool {
+    for tree in tokens.iter() {
+        if let TtElement::Leaf(Leaf::Punct(punct)) = tree
+            && punct.char == ';'
+        {
+            return true;
+        }
+    }
+    false
+}
+
+// Whether there is nothing but braces.
+fn is_block<A: Allocator>(tokens: TokenTreesView<'_, A>) -> bool {
+    match tokens.iter().next() {
+        Some(TtElement::Subtree(group, _)) => {
+            group.delimiter.kind == DelimiterKind::Brace && tokens.len() == 1
+        }
+        Some(TtElement::Leaf(_)) | None => false,
+    }
+}
+
+// What these trees are put in, in place of a call before which `last` stands.
+fn wrap_of<A: Allocator + Copy>(
+    alloc: A,
+    grammar: &RuleTable<'_>,
+    tokens: TokenTreesView<'_, A>,
+    call: Call<'_, A>,
+    last: Before,
+) -> Result<Option<DelimiterKind>, AllocError> {
+    let here = beside(call, last);
+    if here == Before::Statement {
+        return Ok(None);
+    }
+    if tokens.len() <= 1 {
+        // As the first tree of a statement, braces are all of it.
+        let is_cut = last == Before::Statement && is_block(tokens);
+        return Ok(is_cut.then_some(DelimiterKind::Parenthesis));
+    }
+    if is_whole(grammar, PrefixEntryPoint::Expr, tokens)? {
+        let is_operand = matches!(here, Before::Operator | Before::Comparison);
+        return Ok(is_operand.then_some(DelimiterKind::Parenthesis));
+    }
+    let around = call.group.delimiter.close;
+    let are_statements = has_semicolon(tokens) || are_items(alloc, grammar, tokens, around)?;
+    Ok(are_statements.then_some(DelimiterKind::Brace))
+}
+
 // How these trees stand in place of a call.
 pub(crate) fn fit_of<A: Allocator + Copy>(
     alloc: A,
@@ -224,13 +338,10 @@ pub(crate) fn fit_of<A: Allocator + Copy>(
     let end = end_of(tokens);
     let close = call.group.delimiter.close;
     let is_statement = last == Before::Statement;
-    let is_operand = last == Before::Operator || binds(call.rest);
     let by_braces = call.group.delimiter.kind == DelimiterKind::Brace;
     let is_followed = is_statement && call.rest.iter().expect_char(';').is_ok();
     Ok(Fit {
-        is_wrapped: is_operand
-            && tokens.len() > 1
-            && is_whole(grammar, PrefixEntryPoint::Expr, tokens)?,
+        wrap: wrap_of(alloc, grammar, tokens, call, last)?,
         gets_semicolon: is_statement && end == Ending::Other && by_braces && !goes_on(call.rest),
         takes_semicolon: is_followed
             && (end == Ending::Semicolon || are_items(alloc, grammar, tokens, close)?),

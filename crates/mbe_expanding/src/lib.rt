@@ -1,6 +1,7 @@
 // Macros of Rust files: where they are defined and called, and what their calls expand to.
 #![tactic(auto)]
 
+mod captures;
 pub mod expander;
 mod fits;
 pub mod notes;

@@ -27,7 +27,7 @@ fn write(
 
 // Texts of several files, with a `~` between two, and what their trees are as one text. Tokens that stand side by side in a file do so
 // here; any other two that would be read as one, or as others, are kept apart.
-static ROWS: [(&str, &str); 22] = [
+static ROWS: [(&str, &str); 32] = [
     ("", ""),
     ("a::b(c)[0].d!", "a::b(c)[0].d!"),
     ("a~b", "a b"),
@@ -50,6 +50,16 @@ static ROWS: [(&str, &str); 22] = [
     ("$~crate", "$crate"),
     ("r#if~\"b\"", "r#if \"b\""),
     ("a~!~(b)", "a!(b)"),
+    ("Vec<T> , a", "Vec<T> , a"),
+    ("Vec<T>, a", "Vec<T>, a"),
+    ("Vec<T> ;", "Vec<T> ;"),
+    ("a:: <b>", "a:: <b>"),
+    ("a::<b>", "a::<b>"),
+    ("#!~[a]", " #![a]"),
+    ("#~[a]", "#[a]"),
+    ("#~\"a\"", "# \"a\""),
+    ("a#b", "a #b"),
+    ("a'b", "a 'b"),
 ];
 
 #[test]

@@ -7,6 +7,7 @@ use crate::expansions::expanded;
 use crate::files::{SourceFile, source_file};
 use crate::limits::recursion_limit;
 use crate::messages::message;
+use crate::places::NOWHERE;
 use mbe_expanding::expander::Expander;
 use mbe_expanding::notes::{Level, Note};
 use mbe_rust::fragments::rust_rules;
@@ -185,11 +186,11 @@ fn say<R: Eprint + AllocGlobal>(
 ) -> io::Result<bool> {
     let mut has_errors = false;
     for note in notes {
-        let (name, text) = match files.get(note.span.file as usize) {
-            Some(file) => (file.name, file.lines.text.as_str()),
-            None => ("", ""),
+        let (name, place) = match files.get(note.span.file as usize) {
+            Some(file) => (file.name, file.lines.place_of(note.span.start as usize)),
+            None => ("", NOWHERE),
         };
-        let text = message(rt.alloc(), note, name, text)?;
+        let text = message(rt.alloc(), note, name, place)?;
         eprint!(rt; "{text}")?;
         has_errors |= note.level == Level::Error;
     }

@@ -3,7 +3,8 @@ ghost use Rattle.std.specs.Prelude.{◌≡◌, None, IfOk};
 ghost use Rattle.std.specs.String.{string_bytes};
 
 use crate::files::SourceFile;
-use crate::places::{Position, place_of};
+use crate::lines::Lines;
+use crate::places::Position;
 use mbe_calls::splicing::{Replacement, splice};
 use mbe_expanding::expander::Expander;
 use std::alloc::{AllocError, Global};
@@ -20,14 +21,14 @@ pub fn expanded(
     let Some(tree) = &file.tree else {
         return String::from_str(alloc, file.text);
     };
-    let lines = file.lines.text.as_str();
-    let replacements = expander.replacements(lines, tree.iter().remaining())?;
+    let text = file.lines.text.as_str();
+    let replacements = expander.replacements(text, tree.iter().remaining())?;
     match call {
         None => {
             let placed = file.lines.placed(alloc, replacements.as_slice())?;
             splice(alloc, file.text, placed.as_slice())
         }
-        Some(position) => becomes(alloc, position, lines, replacements.as_slice()),
+        Some(position) => becomes(alloc, position, &file.lines, replacements.as_slice()),
     }
 }
 
@@ -35,12 +36,12 @@ pub fn expanded(
 fn becomes(
     alloc: Global,
     position: Position,
-    text: &str,
+    lines: &Lines,
     replacements: &[Replacement],
 ) -> Result<String, AllocError> {
     let mut found = String::new(alloc);
     for replacement in replacements {
-        if position.is_at(place_of(text, replacement.start)) {
+        if position.is_at(lines.place_of(replacement.start)) {
             found.push_str(replacement.text.as_str())?;
             found.push('\n')?;
         }

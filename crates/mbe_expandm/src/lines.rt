@@ -1,4 +1,10 @@
 // Lines of a text. rustc takes a carriage return and a line feed for a line feed alone before it looks for tokens; so do these.
+ghost use Rattle.std.specs.Prelude.{◌≡◌, ◌≤◌, IfOk, length, count_by, min};
+ghost use Rattle.std.specs.String.{string_bytes};
+ghost use Rattle.mbe_expandm.specs.Places.{AreBefore, IsPlace, begins_character};
+ghost use Rattle.mbe_expandm.specs.Places.{end_of, feeds_from, start_of};
+
+use crate::places::Place;
 use mbe_calls::splicing::Replacement;
 use std::alloc::{AllocError, Allocator, Global};
 
@@ -8,6 +14,33 @@ pub struct Lines<A: Allocator = Global> {
     pub text: String<A>,
     // The line feeds that had a carriage return before them, by bytes of `text`, in order.
     returns: Vec<usize, A>,
+    // All line feeds, by bytes of `text`.
+    feeds: Vec<usize, A>,
+    ghost table: { feeds.items ≡ feeds_from 0 (string_bytes text) },
+}
+
+// Where the line feeds of a text are.
+#[tactic(auto, using(crate::proofs::FeedLemmas::one_more, crate::proofs::FeedLemmas::none_more, crate::proofs::FeedLemmas::feeds_none))]
+fn feeds_of<A: Allocator>(alloc: A, text: &str) -> Result<Vec<usize, A>, AllocError>
+    ensures { IfOk result (λ v. v.items ≡ feeds_from 0 text.now) }
+{
+    let mut feeds = Vec::new(alloc);
+    for (at, byte) in text.as_bytes().iter().enumerate() {
+        if *byte == b'\n' {
+            feeds.push(at)?;
+        }
+    }
+    Ok(feeds)
+}
+
+// How many characters begin in these bytes.
+fn characters(bytes: &[u8]) -> usize
+    ensures { result ≡ count_by begins_character bytes.now }
+{
+    bytes
+        .iter()
+        .filter(|byte| **byte < 128 || **byte >= 192)
+        .count()
 }
 
 impl<A: Allocator + Copy> Lines<A> {
@@ -17,9 +50,12 @@ impl<A: Allocator + Copy> Lines<A> {
         for (count, (at, _)) in text.match_indices("\r\n").enumerate() {
             returns.push(at.saturating_sub(count))?;
         }
+        let text = text.replace(alloc, "\r\n", "\n")?;
+        let feeds = feeds_of(alloc, text.as_str())?;
         Ok(Lines {
-            text: text.replace(alloc, "\r\n", "\n")?,
+            text,
             returns,
+            feeds,
         })
     }
 
@@ -52,5 +88,50 @@ impl<A: Allocator + Copy> Lines<A> {
             })?;
         }
         Ok(placed)
+    }
+
+    // How many line feeds stand before a byte.
+    fn before(&self, at: usize) -> usize
+        ensures { AreBefore self.now.feeds.items at result }
+    {
+        self.feeds
+            .as_slice()
+            .partition_point(|feed: &usize| -> bool { *feed < at })
+    }
+
+    // Where the line begins that has so many line feeds before it.
+    fn start(&self, before: usize) -> usize
+        requires { before ≤ length self.now.feeds.items }
+        ensures { result ≡ start_of self.now.feeds.items before }
+    {
+        match before {
+            0 => 0,
+            _ => self.feeds[before - 1] + 1,
+        }
+    }
+
+    // Where that line ends.
+    fn end(&self, before: usize) -> usize
+        ensures { let text = string_bytes self.now.text in
+            result ≡ end_of self.now.feeds.items before (length text) }
+    {
+        self.feeds.get(before).copied().unwrap_or(self.text.len())
+    }
+
+    /// Where a byte of the text is; its end, if the byte is beyond.
+    pub fn place_of(&self, offset: usize) -> Place<'_>
+        ensures { let text = string_bytes self.now.text in
+            IsPlace text (min offset (length text)) result.line result.column result.text.now }
+    {
+        let text = self.text.as_str();
+        let at = offset.min(text.len());
+        let before = self.before(at);
+        let start = self.start(before);
+        let end = self.end(before);
+        Place {
+            line: before + 1,
+            column: characters(&text.as_bytes()[start..at]) + 1,
+            text: &text[start..end],
+        }
     }
 }

@@ -1,5 +1,5 @@
 // Notes as text, in rustc's style: the place, the message, the line, and a caret under the place.
-use crate::places::place_of;
+use crate::places::Place;
 use mbe_expanding::notes::{Level, Note};
 use std::alloc::{AllocError, Allocator};
 
@@ -16,14 +16,13 @@ fn margin<A: Allocator + Copy>(
     Ok(margin)
 }
 
-/// A note on a file of that name and text.
+/// A note on a place in a file of that name.
 pub fn message<A: Allocator + Copy>(
     alloc: A,
     note: &Note<A>,
     name: &str,
-    text: &str,
+    place: Place<'_>,
 ) -> Result<String<A>, AllocError> {
-    let place = place_of(text, note.span.start as usize);
     let (number, column, line) = (place.line, place.column, place.text);
     let level = match note.level {
         Level::Error => "error",

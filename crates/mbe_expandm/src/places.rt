@@ -36,22 +36,9 @@ pub struct Place<'t> {
     pub text: &'t str,
 }
 
-/// Where that byte is; the text's end if it is beyond.
-pub fn place_of(text: &str, offset: usize) -> Place<'_> {
-    let before = text.get(..offset).unwrap_or(text);
-    let start = match before.rsplit_once('\n') {
-        Some((lines, _)) => lines.len().saturating_add(1),
-        None => 0,
-    };
-    let rest = text.get(start..).unwrap_or("");
-    Place {
-        line: before.matches('\n').count().saturating_add(1),
-        column: before
-            .get(start..)
-            .unwrap_or("")
-            .chars()
-            .count()
-            .saturating_add(1),
-        text: rest.split_once('\n').map_or(rest, |(line, _)| line),
-    }
-}
+/// The place of what is in no file.
+pub const NOWHERE: Place<'static> = Place {
+    line: 1,
+    column: 1,
+    text: "",
+};

@@ -1,6 +1,6 @@
 // Programs with each kind of fragment, with repetitions, and with calls in calls. What they become was worked out by hand, by the
 // rules of macros; where the text has white space is the writer's choice.
-use crate::texts::expanded;
+use crate::texts::all_become;
 use std::test::Fail;
 
 // A definition, what stands after it, and what that becomes.
@@ -95,12 +95,5 @@ static ROWS: [(&str, &str, &str); 18] = [
 
 #[test]
 fn programs_are_expanded(rt: HostRuntime) -> Result<(), Fail> {
-    for (rules, rest, want) in &ROWS {
-        let text = format!(in rt.alloc(); "macro_rules! {rules}\n{rest}")?;
-        let want = format!(in rt.alloc(); "macro_rules! {rules}\n{want}")?;
-        let (found, said) = expanded(rt.alloc(), text.as_str(), 9)?;
-        assert_eq!(rt; found.as_str(), want.as_str());
-        assert_eq!(rt; said, 0);
-    }
-    Ok(())
+    all_become(&rt, rt.alloc(), &ROWS)
 }

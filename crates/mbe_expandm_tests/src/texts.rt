@@ -1,5 +1,6 @@
 // What a file's text becomes.
 use mbe_expanding::expander::Expander;
+use mbe_expanding::notes::Note;
 use mbe_expanding::settings::Settings;
 use mbe_expandm::expansions;
 use mbe_expandm::files::source_file;
@@ -7,14 +8,11 @@ use mbe_rust::fragments::rust_rules;
 use mbe_text::symbols::SymbolTable;
 use mbe_tt::span::Edition;
 use std::alloc::{AllocError, Global};
+use std::process::Abort;
 use std::test::Fail;
 
-// The text with its calls expanded, and how many notes there are.
-pub(crate) fn expanded(
-    alloc: Global,
-    text: &str,
-    depth: u32,
-) -> Result<(String, usize), AllocError> {
+// The text with its calls expanded, and what is said of them.
+fn run(alloc: Global, text: &str, depth: u32) -> Result<(String, Vec<Note>), AllocError> {
     let edition = Edition::Edition2021;
     let mut symbols = SymbolTable::new(alloc);
     let mut notes = Vec::new(alloc);
@@ -30,7 +28,56 @@ pub(crate) fn expanded(
         expander.define(tree.iter().remaining())?;
     }
     let text = expansions::expanded(alloc, None, &mut expander, &file)?;
-    Ok((text, expander.notes.len().saturating_add(notes.len())))
+    for note in expander.notes {
+        notes.push(note)?;
+    }
+    Ok((text, notes))
+}
+
+// The text with its calls expanded, and how many notes there are.
+pub(crate) fn expanded(
+    alloc: Global,
+    text: &str,
+    depth: u32,
+) -> Result<(String, usize), AllocError> {
+    let (text, notes) = run(alloc, text, depth)?;
+    Ok((text, notes.len()))
+}
+
+// The notes on a text's expansions, each with the line, from 0, and the byte of it where it is, and what it says but for where.
+pub(crate) fn noted(alloc: Global, text: &str) -> Result<String, AllocError> {
+    let (_, notes) = run(alloc, text, 9)?;
+    let mut said = String::new(alloc);
+    for note in &notes {
+        let before = text.get(..note.span.start as usize).unwrap_or("");
+        let (line, byte) = match before.rsplit_once('\n') {
+            Some((_, last)) => (1, last.len()),
+            None => (0, before.len()),
+        };
+        let message = note
+            .message
+            .as_str()
+            .trim_start_matches("in the expansion of `m!` ");
+        let note = format!(in alloc; "{line}:{byte} {message}; ")?;
+        said.push_str(note.as_str())?;
+    }
+    Ok(said)
+}
+
+// Each definition, with what stands after it, becomes what the row says, and nothing is noted.
+pub(crate) fn all_become(
+    rt: &impl Abort,
+    alloc: Global,
+    rows: &[(&str, &str, &str)],
+) -> Result<(), Fail> {
+    for (rules, rest, want) in rows {
+        let text = format!(in alloc; "macro_rules! {rules}\n{rest}")?;
+        let want = format!(in alloc; "macro_rules! {rules}\n{want}")?;
+        let (found, said) = expanded(alloc, text.as_str(), 9)?;
+        assert_eq!(rt; found.as_str(), want.as_str());
+        assert_eq!(rt; said, 0);
+    }
+    Ok(())
 }
 
 const M: &str = "macro_rules! m { () => { m!(1) }; (1) => { 1 } }\n";

@@ -1,6 +1,6 @@
 // What stands in place of the calls of a file.
 use crate::expander::{Expander, LEVELS, text_of};
-use crate::fits::{Before, left_by, left_by_call};
+use crate::fits::{Before, begins_in, left_by, left_by_call};
 use mbe_calls::calls::{Call, Defined, Front, attribute_at, front_of, is_standard};
 use mbe_calls::splicing::{Replacement, splice};
 use mbe_tt::tt::{Delimiter, TokenTreesView, TopSubtree, TopSubtreeBuilder, TtElement};
@@ -25,7 +25,7 @@ impl<A: Allocator + Copy> Expander<'_, A> {
     ) -> Result<Vec<Replacement<A>, A>, AllocError> {
         let mut replacements = Vec::new(self.alloc);
         let mark = self.scope.enter();
-        self.replace_in(&mut replacements, text, tokens, LEVELS)?;
+        self.replace_in(&mut replacements, text, tokens, Before::Statement, LEVELS)?;
         self.scope.leave(mark);
         Ok(replacements)
     }
@@ -63,11 +63,12 @@ impl<A: Allocator + Copy> Expander<'_, A> {
         replacements: &mut Vec<Replacement<A>, A>,
         text: &str,
         tokens: TokenTreesView<'_, A>,
+        last: Before,
         levels: u32,
     ) -> Result<(), AllocError> {
         self.show_items(tokens)?;
         let mut rest = tokens;
-        let mut last = Before::Statement;
+        let mut last = last;
         let mut is_used = false;
         for _ in 0..tokens.flat_len() {
             match front_of(rest) {
@@ -86,7 +87,7 @@ impl<A: Allocator + Copy> Expander<'_, A> {
                 Front::Tree(tree, after) => {
                     is_used = is_used || attribute_at(rest) == Some("macro_use");
                     self.replace_tree(replacements, text, tree, is_used, levels)?;
-                    last = left_by(rest);
+                    last = left_by(rest, last);
                     is_used = is_used && last != Before::Statement;
                     rest = after;
                 }
@@ -108,7 +109,8 @@ impl<A: Allocator + Copy> Expander<'_, A> {
             && levels > 0
         {
             let mark = self.scope.enter();
-            self.replace_in(replacements, text, inside.remaining(), levels - 1)?;
+            let last = begins_in(group.delimiter.kind);
+            self.replace_in(replacements, text, inside.remaining(), last, levels - 1)?;
             if !is_used {
                 self.leave(group.delimiter.kind, mark);
             }
@@ -142,7 +144,8 @@ impl<A: Allocator + Copy> Expander<'_, A> {
             }
             None => {
                 if levels > 0 && is_standard(call.name.sym.as_str()) {
-                    self.replace_in(replacements, text, call.argument, levels - 1)?;
+                    let last = Before::Other;
+                    self.replace_in(replacements, text, call.argument, last, levels - 1)?;
                 }
                 Ok(call.rest)
             }

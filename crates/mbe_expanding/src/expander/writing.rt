@@ -9,7 +9,8 @@ ghost use Rattle.mbe_expanding.specs.Shown.{setting_of, state_of};
 
 use crate::expander::Expander;
 use crate::fits::{
-    Before, fit_of, from_group, left_after, left_by, left_by_call, part_of, semicolon, up_to,
+    Before, begins_in, beside, fit_of, from_group, left_after, left_by, left_by_call, part_of,
+    semicolon, up_to,
 };
 use mbe_calls::calls::{Call, Defined, Front, front_of, is_standard};
 use mbe_tt::tt::{
@@ -18,13 +19,14 @@ use mbe_tt::tt::{
 use std::alloc::{AllocError, Allocator};
 
 impl<A: Allocator + Copy> Expander<'_, A> {
-    // Writes trees with their calls expanded.
+    // Writes trees with their calls expanded, where `last` stands before them.
     #[cycle(writing)]
     #[tactic(auto, using(crate::proofs::GroupLemmas::length_put, crate::proofs::GroupLemmas::length_closed))]
     pub(crate) fn write(
         &mut self,
         builder: &mut TopSubtreeBuilder<A>,
         tokens: TokenTreesView<'_, A>,
+        last: Before,
         depth: u32,
         levels: u32,
     ) -> Result<(), AllocError>
@@ -32,7 +34,7 @@ impl<A: Allocator + Copy> Expander<'_, A> {
         ensures groups { OnOk result (length builder.new ≡ length builder.old) }
     {
         let mut rest = tokens;
-        let mut last = Before::Statement;
+        let mut last = last;
         for _ in 0..tokens.flat_len() {
             match front_of(rest) {
                 Front::End => return Ok(()),
@@ -47,7 +49,7 @@ impl<A: Allocator + Copy> Expander<'_, A> {
                 }
                 Front::Tree(tree, after) => {
                     self.write_tree(builder, tree, depth, levels)?;
-                    last = left_by(rest);
+                    last = left_by(rest, last);
                     rest = after;
                 }
             }
@@ -109,7 +111,7 @@ impl<A: Allocator + Copy> Expander<'_, A> {
     {
         let mark = self.scope.enter();
         builder.open(delimiter.kind, delimiter.opening)?;
-        self.write_inside(builder, inside, depth, levels)?;
+        self.write_inside(builder, inside, begins_in(delimiter.kind), depth, levels)?;
         builder.close(delimiter.close);
         self.leave(delimiter.kind, mark);
         Ok(())
@@ -122,6 +124,7 @@ impl<A: Allocator + Copy> Expander<'_, A> {
         &mut self,
         builder: &mut TopSubtreeBuilder<A>,
         tokens: TokenTreesView<'_, A>,
+        last: Before,
         depth: u32,
         levels: u32,
     ) -> Result<(), AllocError>
@@ -131,7 +134,7 @@ impl<A: Allocator + Copy> Expander<'_, A> {
         if levels == 0 {
             return builder.extend_with_tt(tokens);
         }
-        self.write(builder, tokens, depth, levels - 1)
+        self.write(builder, tokens, last, depth, levels - 1)
     }
 
     // Writes what a call becomes, and returns what is left after it.
@@ -198,33 +201,35 @@ impl<A: Allocator + Copy> Expander<'_, A> {
         ensures groups { OnOk result (length builder.new ≡ length builder.old) }
     {
         let delimiter = call.group.delimiter;
-        let part = part_of(tree.iter().remaining(), last);
+        let here = beside(call, last);
+        let part = part_of(tree.iter().remaining(), here);
         let fit = fit_of(self.alloc, &self.grammar, part, call, last)?;
-        self.write_wrapped(builder, delimiter, fit.is_wrapped, part, depth, levels)?;
+        self.write_wrapped(builder, delimiter, fit.wrap, part, here, depth, levels)?;
         end(builder, delimiter, fit.gets_semicolon)?;
         Ok(left_after(call.rest, fit.takes_semicolon))
     }
 
-    // Writes the trees of an expansion, perhaps in parentheses.
+    // Writes the trees of an expansion, perhaps in a group of that kind.
     #[cycle(writing)]
     #[tactic(auto, using(crate::proofs::GroupLemmas::length_put, crate::proofs::GroupLemmas::length_closed))]
     fn write_wrapped(
         &mut self,
         builder: &mut TopSubtreeBuilder<A>,
         delimiter: Delimiter,
-        is_wrapped: bool,
+        wrap: Option<DelimiterKind>,
         tokens: TokenTreesView<'_, A>,
+        last: Before,
         depth: u32,
         levels: u32,
     ) -> Result<(), AllocError>
         requires some { 0 < length builder.old }
         ensures groups { OnOk result (length builder.new ≡ length builder.old) }
     {
-        if !is_wrapped {
-            return self.write_inside(builder, tokens, depth, levels);
-        }
-        builder.open(DelimiterKind::Parenthesis, delimiter.opening)?;
-        self.write_inside(builder, tokens, depth, levels)?;
+        let Some(kind) = wrap else {
+            return self.write_inside(builder, tokens, last, depth, levels);
+        };
+        builder.open(kind, delimiter.opening)?;
+        self.write_inside(builder, tokens, begins_in(kind), depth, levels)?;
         builder.close(delimiter.close);
         Ok(())
     }
