@@ -1,0 +1,230 @@
+/* Tests of the calls from C: a line for each that fails, and `N passed, M failed`. It compiles as C99 and as C++. */
+#include "../mbe.h"
+
+#include <stdio.h>
+#include <stdlib.h>
+#include <string.h>
+
+static int passed, failed;
+
+static void check(int holds, const char *name) {
+    if (holds) { passed++; return; }
+    failed++;
+    printf("failed: %s\n", name);
+}
+
+static mbe_token tokens[4096];
+static char text[65536], message[1024];
+static mbe_reply reply;
+
+static mbe_input words(const char *s) {
+    mbe_input input = {s, strlen(s), NULL, 0};
+    return input;
+}
+
+static mbe_output room(void) {
+    mbe_output out = {tokens, 4096, text, sizeof text, message, sizeof message};
+    return out;
+}
+
+static mbe_request asked(uint32_t form) {
+    mbe_request request;
+    memset(&request, 0, sizeof request);
+    request.edition = 2024;
+    request.form = form;
+    return request;
+}
+
+static int text_is(const char *s) { return reply.text == strlen(s) && memcmp(text, s, reply.text) == 0; }
+
+static int message_is(const char *s) { return reply.message == strlen(s) && memcmp(message, s, reply.message) == 0; }
+
+/* Rows of docs: a definition, an argument, the expansion as Rust text, and the index of the rule. */
+static const struct { const char *definition, *argument, *expansion; uint32_t rule; } rows[] = {
+    {"($x:ident) => {$x $x}", "a", "a a", 0},
+    {"($($x:ident),*) => {[$($x);*]}", "a, b, c", "[a; b; c]", 0},
+    {"() => {none}; ($e:expr) => {one}", "1 + 2", "one", 1},
+    {"() => {none}; ($e:expr) => {one}", "", "none", 0},
+    {"(a $x:tt) => {$x}", "a (b c)", "(b c)", 0},
+    {"($x:literal) => {$x}", "1u8", "1u8", 0},
+};
+
+static void expansions(void) {
+    mbe_request request = asked(MBE_RUST);
+    for (size_t i = 0; i < sizeof rows / sizeof *rows; i++) {
+        mbe_status status = mbe_expand(&request, NULL, 0, words(rows[i].definition), words(rows[i].argument), room(), &reply);
+        check(status == MBE_DONE && text_is(rows[i].expansion), rows[i].definition);
+        check(reply.has_rule == 1 && reply.rule == rows[i].rule, "the rule");
+    }
+}
+
+static void faults(void) {
+    mbe_request request = asked(MBE_TOKENS);
+    check(mbe_expand(&request, NULL, 0, words("(a) => {b}"), words("c"), room(), &reply) == MBE_FAULTED, "no rule fits");
+    check(message_is("unexpected token in input") && reply.span.file == 1 && reply.span.start == 0 && reply.span.end == 1, "its span");
+    check(mbe_expand(&request, NULL, 0, words("($x) => {}"), words("c"), room(), &reply) == MBE_REFUSED, "a refused definition");
+    check(message_is("missing fragment specifier"), "why it is refused");
+    check(mbe_expand(&request, NULL, 0, words("(a) => {b}"), words(")"), room(), &reply) == MBE_NO_TOKENS, "no tokens");
+    check(reply.part == MBE_ARGUMENT && reply.place == 0, "where there are none");
+    check(mbe_expand(&request, NULL, 0, words("\xff"), words(""), room(), &reply) == MBE_NOT_UTF8, "a text that is not UTF-8");
+    check(reply.part == MBE_DEFINITION, "which one");
+    request.edition = 2019;
+    check(mbe_expand(&request, NULL, 0, words(""), words(""), room(), &reply) == MBE_BAD_NUMBER, "an unknown edition");
+    request = asked(3);
+    check(mbe_expand(&request, NULL, 0, words(""), words(""), room(), &reply) == MBE_BAD_NUMBER, "an unknown form");
+    request = asked(0);
+    request.grammar = 7;
+    check(mbe_expand(&request, NULL, 0, words(""), words(""), room(), &reply) == MBE_BAD_NUMBER, "an unknown grammar");
+    request = asked(0);
+    request.argument_is_flat = 2;
+    check(mbe_expand(&request, NULL, 0, words(""), words(""), room(), &reply) == MBE_BAD_NUMBER, "an unknown sort of input");
+    request = asked(0);
+    request.style = UINT32_MAX;
+    check(mbe_explain(&request, NULL, 0, words(""), words(""), NULL, 0, NULL, 0, &reply) == MBE_BAD_NUMBER, "an unknown style");
+}
+
+static void nulls(void) {
+    mbe_request request = asked(0);
+    mbe_input none = {NULL, 0, NULL, 0}, one = {NULL, 1, NULL, 0}, flat = {NULL, 0, NULL, 1};
+    mbe_output no_room = {NULL, 0, NULL, 0, NULL, 0}, bad = {NULL, 1, NULL, 0, NULL, 0};
+    check(mbe_expand(&request, NULL, 0, none, none, room(), &reply) == MBE_FAULTED && message_is("no rule matches input tokens"),
+        "empty ranges at null");
+    check(mbe_expand(&request, NULL, 0, one, none, room(), &reply) == MBE_NULL_POINTER, "a null text");
+    check(mbe_expand(&request, NULL, 0, none, flat, room(), &reply) == MBE_NULL_POINTER, "null tokens");
+    check(mbe_expand(&request, NULL, 2, none, none, room(), &reply) == MBE_NULL_POINTER, "a null grammar");
+    check(mbe_expand(&request, NULL, 0, none, none, bad, &reply) == MBE_NULL_POINTER, "a null buffer");
+    check(mbe_expand(NULL, NULL, 0, none, none, room(), &reply) == MBE_NULL_POINTER, "no request");
+    check(mbe_expand(&request, NULL, 0, none, none, room(), NULL) == MBE_NULL_POINTER, "no reply");
+    check(mbe_explain(&request, NULL, 0, none, none, NULL, 1, NULL, 0, &reply) == MBE_NULL_POINTER, "null verdicts");
+    check(mbe_convert(&request, one, room(), &reply) == MBE_NULL_POINTER, "a null text to convert");
+    check(mbe_define(&request, one, NULL, 0, &reply) == MBE_NULL_POINTER, "a null definition");
+    check(mbe_grammar(NULL, 1, NULL, 0, &reply) == MBE_NULL_POINTER, "a null grammar to check");
+    check(mbe_expand(&request, NULL, 0, words("() => {a}"), none, no_room, &reply) == MBE_NO_ROOM, "no room");
+    check(reply.tokens == 3 && reply.text == 1, "how much is needed");
+}
+
+static void flat_tokens(void) {
+    static const struct { const char *name; uint32_t kind, sort, character; size_t offset, len; const char *why; } bad[] = {
+        {"no kind", 0, 0, 0, 0, 0, "a token of no kind"},
+        {"a kind too many", 6, 0, 0, 0, 0, "a token of no kind"},
+        {"no raw", MBE_IDENT, 2, 0, 0, 1, "a token of no sort"},
+        {"no literal", MBE_LITERAL, 11, 0, 0, 1, "a token of no sort"},
+        {"no delimiter", MBE_OPENING, 4, 0, 0, 0, "a token of no sort"},
+        {"no char", MBE_PUNCT, 0, 0xd800, 0, 0, "a punct that is no char"},
+        {"past the end", MBE_IDENT, 0, 0, 3, 1, "a text that is out of bounds"},
+        {"a length that wraps", MBE_IDENT, 0, 0, 1, SIZE_MAX, "a text that is out of bounds"},
+        {"half a char", MBE_IDENT, 0, 0, 0, 1, "a text that is not UTF-8"},
+        {"a closing", MBE_CLOSING, MBE_BRACE, 0, 0, 0, "a closing without its opening"},
+        {"an opening", MBE_OPENING, MBE_BRACE, 0, 0, 0, "a group that is not closed"},
+    };
+    mbe_request request = asked(MBE_TOKENS);
+    mbe_token given[3];
+    memset(given, 0, sizeof given);
+    given[0].kind = MBE_OPENING;
+    given[2].kind = MBE_CLOSING;
+    mbe_input input = {"\xc3\xa9", 2, given, 3};
+    request.argument_is_flat = 1;
+    for (size_t i = 0; i < sizeof bad / sizeof *bad; i++) {
+        given[1].kind = bad[i].kind;
+        given[1].sort = bad[i].sort;
+        given[1].character = bad[i].character;
+        given[1].offset = bad[i].offset;
+        given[1].len = bad[i].len;
+        check(mbe_convert(&request, input, room(), &reply) == MBE_NO_TREES && message_is(bad[i].why), bad[i].name);
+    }
+    input.token_len = 1;
+    check(mbe_convert(&request, input, room(), &reply) == MBE_NO_TREES && message_is("tokens that are not one group"), "one token");
+    input.token_len = 0;
+    check(mbe_convert(&request, input, room(), &reply) == MBE_NO_TREES, "no token");
+}
+
+/* A text to tokens, and these to lines: the same as at once. */
+static void round_trips(void) {
+    static const char *const texts[] = {"", "a", "r#fn x", "(a [b {c}]) + 1u8 \"s\\n\"", "a..=b, 'c'", "\xc3\xa9"};
+    static mbe_token first[256];
+    static char first_text[1024], lines[65536];
+    for (size_t i = 0; i < sizeof texts / sizeof *texts; i++) {
+        mbe_request request = asked(MBE_TOKENS);
+        mbe_output out = {first, 256, first_text, sizeof first_text, message, sizeof message};
+        check(mbe_convert(&request, words(texts[i]), out, &reply) == MBE_DONE, texts[i]);
+        mbe_input flat = {first_text, reply.text, first, reply.tokens};
+        request.form = MBE_LINES;
+        check(mbe_convert(&request, words(texts[i]), room(), &reply) == MBE_DONE, "lines of a text");
+        size_t len = reply.text;
+        memcpy(lines, text, len);
+        request.argument_is_flat = 1;
+        check(mbe_convert(&request, flat, room(), &reply) == MBE_DONE && reply.text == len && memcmp(lines, text, len) == 0, "lines of tokens");
+        request.form = MBE_TOKENS;
+        check(mbe_convert(&request, flat, room(), &reply) == MBE_DONE && reply.tokens == flat.token_len
+            && memcmp(tokens, first, reply.tokens * sizeof *tokens) == 0, "tokens of tokens");
+    }
+}
+
+static void verdicts(void) {
+    mbe_verdict found[4];
+    mbe_request request = asked(0);
+    check(mbe_explain(&request, NULL, 0, words("(a) => {}; ($x:tt) => {}; ($($x:ident)* $y:ident) => {}"), words("b"), found, 4,
+        message, sizeof message, &reply) == MBE_DONE && reply.tokens == 3, "three verdicts");
+    check(found[0].kind == MBE_STUCK && found[0].place == 0, "stuck");
+    check(found[1].kind == MBE_ONE_READING, "one reading");
+    check(found[2].kind == MBE_AMBIGUOUS && found[2].place == 0, "ambiguous");
+    check(mbe_explain(&request, NULL, 0, words("(a) => {}"), words("a"), found, 0, NULL, 0, &reply) == MBE_NO_ROOM && reply.tokens == 1,
+        "no room for verdicts");
+    check(mbe_explain(&request, NULL, 0, words("(a"), words("a"), found, 4, message, sizeof message, &reply) == MBE_REFUSED, "verdicts on none");
+}
+
+static void grammars(void) {
+    const char *sums = "expr = operand ('+' operand!)*\noperand = NAME";
+    mbe_request request = asked(MBE_RUST);
+    request.grammar = MBE_GRAMMAR_TEXT;
+    check(mbe_expand(&request, sums, strlen(sums), words("($e:expr) => {$e}"), words("a + b"), room(), &reply) == MBE_DONE, "a grammar of sums");
+    check(mbe_expand(&request, "expr = ", 7, words("() => {}"), words(""), room(), &reply) == MBE_NO_GRAMMAR && reply.part == MBE_GRAMMAR,
+        "no grammar");
+    check(mbe_grammar(sums, strlen(sums), message, sizeof message, &reply) == MBE_DONE, "a grammar");
+    check(mbe_grammar("a = b", 5, message, sizeof message, &reply) == MBE_NO_GRAMMAR && reply.place == 1 && reply.column == 5,
+        "where a rule is missing");
+    check(mbe_grammar("\xff", 1, message, sizeof message, &reply) == MBE_NOT_UTF8, "a grammar that is not UTF-8");
+    request = asked(MBE_RUST);
+    request.grammar = MBE_GRAMMAR_RUST;
+    request.dialect = MBE_DIALECT_RUST;
+    check(mbe_expand(&request, NULL, 0, words("($t:ty) => {$t}"), words("Vec<&'a str>"), room(), &reply) == MBE_DONE
+        && text_is("Vec<&'a str>"), "whole Rust");
+    check(mbe_define(&request, words("() => {}; (a) => {}"), message, sizeof message, &reply) == MBE_DONE && reply.place == 2, "two rules");
+    check(mbe_define(&request, words("() =>"), message, sizeof message, &reply) == MBE_REFUSED, "no definition");
+}
+
+/* Bytes of no meaning, as texts, tokens and numbers. */
+static void nonsense(void) {
+    static unsigned char bytes[2048];
+    uint64_t state = 88172645463325252u;
+    int known = 1;
+    for (int round = 0; round < 2000; round++) {
+        for (size_t i = 0; i < sizeof bytes; i++) {
+            state ^= state << 13; state ^= state >> 7; state ^= state << 17;
+            bytes[i] = (unsigned char)(round % 2 ? state : state % 6);
+        }
+        mbe_request request;
+        memcpy(&request, bytes, sizeof request);
+        if (round % 4) { request = asked(bytes[0] % 3); request.definition_is_flat = request.argument_is_flat = 1; }
+        static mbe_token given[16];
+        memcpy(given, bytes, sizeof given);
+        mbe_input input = {(const char *)bytes, bytes[0] % 100u, given, bytes[1] % 16u};
+        known &= mbe_expand(&request, (const char *)bytes, bytes[2], input, input, room(), &reply) <= MBE_NO_ROOM;
+        known &= mbe_convert(&request, input, room(), &reply) <= MBE_NO_ROOM;
+    }
+    check(known, "bytes of no meaning");
+}
+
+int main(void) {
+    check(mbe_version() == MBE_VERSION, "the version");
+    expansions();
+    faults();
+    nulls();
+    flat_tokens();
+    round_trips();
+    verdicts();
+    grammars();
+    nonsense();
+    printf("%d passed, %d failed\n", passed, failed);
+    return failed != 0;
+}

@@ -1,0 +1,58 @@
+"""The calls from Python: a line for each that fails, and `N passed, M failed`."""
+import sys
+
+import mbe
+
+ROWS = [
+    ("($x:ident) => {$x $x}", "a", b"a a", 0),
+    ("($($x:ident),*) => {[$($x);*]}", "a, b, c", b"[a; b; c]", 0),
+    ("() => {none}; ($e:expr) => {one}", "1 + 2", b"one", 1),
+    ("() => {none}; ($e:expr) => {one}", "", b"none", 0),
+    ("(a $x:tt) => {$x}", "a (b c)", b"(b c)", 0),
+    ("($x:literal) => {$x}", "1u8", b"1u8", 0),
+]
+passed = failed = 0
+
+
+def check(found: object, wanted: object) -> None:
+    global passed, failed
+    if found == wanted:
+        passed += 1
+    else:
+        failed += 1
+        print(f"failed: {found!r} for {wanted!r}")
+
+
+def error(call, *words, **named):
+    try:
+        call(*words, **named)
+    except mbe.Error as wrong:
+        return wrong
+    return None
+
+
+for definition, argument, expansion, rule in ROWS:
+    found = mbe.Macro(definition).expand(argument, form="rust")
+    check((found.trees.text, found.rule, found.fault), (expansion, rule, None))
+fault = mbe.Macro("(a) => {b}").expand("c").fault
+check((fault[0], fault[1].file, fault[1].start, fault[1].end), ("unexpected token in input", 1, 0, 1))
+wrong = error(mbe.Macro, "($x) => {}")
+check((wrong.status, wrong.message), ("refused", "missing fragment specifier"))
+wrong = error(mbe.Macro("() => {}").expand, "a )")
+check((wrong.status, wrong.part, wrong.place), ("no tokens", "argument", 2))
+check(error(mbe.Macro("() => {}").expand, b"\xff").status, "not UTF-8")
+check(error(mbe.Macro, "() => {}", edition=2019).status, "bad number")
+check(mbe.Macro("(a) => {}; ($x:tt) => {}; ($($x:ident)* $y:ident) => {}").explain("b"), [("stuck", 0), ("one", 0), ("ambiguous", 0)])
+trees = mbe.convert("a (1u8 +)")
+check([text for _, text in trees.leaves()], ["a", "1u8", "+"])
+check(mbe.convert(trees, form="lines"), mbe.convert("a (1u8 +)", form="lines"))
+check(mbe.Macro("($($x:tt)*) => {$($x)*}").expand(trees, form="rust").trees.text, b"a(1u8 +)")
+check(error(mbe.convert, mbe.Trees(trees.tokens[:3], trees.text)).status, "no trees")
+check(len(list(mbe.Macro("($($x:ident)*) => {$($x)*}").expand("a " * 3000).trees.leaves())), 3000)
+sums = "expr = operand ('+' operand!)*\noperand = NAME"
+check(mbe.Macro("($e:expr) => {$e}", grammar=sums).expand("a + b").fault, None)
+wrong = error(mbe.check_grammar, "a = b")
+check((wrong.status, wrong.place, wrong.column), ("no grammar", 1, 5))
+check(mbe.Macro("($t:ty) => {$t}", dialect="rust", grammar="rust").expand("Vec<&'a str>", form="rust").trees.text, b"Vec<&'a str>")
+print(f"{passed} passed, {failed} failed")
+sys.exit(failed != 0)

@@ -1,0 +1,227 @@
+//! What `bindings/c/mbe.h` declares, and a safe call for each export.
+
+use std::os::raw::c_char;
+
+/// Where a token is: `mbe_span`.
+#[repr(C)]
+#[derive(Clone, Copy, Debug, Default, PartialEq, Eq, Hash)]
+pub struct Span {
+    /// The file's number, the caller's.
+    pub file: u32,
+    /// The item's number, the caller's.
+    pub ast: u32,
+    /// The first byte.
+    pub start: u32,
+    /// The byte after the last.
+    pub end: u32,
+    /// The hygiene context.
+    pub context: u32,
+}
+
+/// A leaf, an opening or a closing: `mbe_token`, which explains the numbers.
+#[repr(C)]
+#[derive(Clone, Copy, Debug, Default, PartialEq, Eq, Hash)]
+pub struct Token {
+    /// 1 an identifier, 2 a punct, 3 a literal, 4 an opening, 5 a closing.
+    pub kind: u32,
+    /// Which of its kind.
+    pub sort: u32,
+    /// Of a punct, its char.
+    pub character: u32,
+    /// Of a raw string, how many `#`.
+    pub hashes: u32,
+    /// Of a literal, how many bytes its suffix has.
+    pub suffix_len: u32,
+    /// Where it is.
+    pub span: Span,
+    /// Where its text begins, in the text beside the tokens.
+    pub offset: usize,
+    /// How many bytes that has; of an opening how many tokens are inside.
+    pub len: usize,
+}
+
+#[repr(C)]
+#[derive(Clone, Copy, Debug, Default)]
+pub(crate) struct Verdict {
+    pub kind: usize,
+    pub place: usize,
+}
+
+#[repr(C)]
+#[derive(Clone, Copy, Debug, Default)]
+pub(crate) struct Request {
+    pub edition: u32,
+    pub dialect: u32,
+    pub grammar: u32,
+    pub style: u32,
+    pub form: u32,
+    pub definition_is_flat: u32,
+    pub argument_is_flat: u32,
+    pub call_site: Span,
+}
+
+#[repr(C)]
+#[derive(Clone, Copy, Debug, Default)]
+pub(crate) struct Reply {
+    pub status: u32,
+    pub part: u32,
+    pub has_rule: u32,
+    pub rule: u32,
+    pub span: Span,
+    pub column: u32,
+    pub place: usize,
+    pub tokens: usize,
+    pub text: usize,
+    pub message: usize,
+}
+
+extern "C" {
+    fn mbe_c_version() -> u32;
+    fn mbe_c_expand(
+        request: *const Request,
+        grammar: *const c_char, grammar_len: usize,
+        definition: *const c_char, definition_len: usize,
+        definition_tokens: *const Token, definition_token_len: usize,
+        argument: *const c_char, argument_len: usize,
+        argument_tokens: *const Token, argument_token_len: usize,
+        tokens: *mut Token, token_room: usize,
+        text: *mut c_char, text_room: usize,
+        message: *mut c_char, message_room: usize,
+        reply: *mut Reply,
+    ) -> u32;
+    fn mbe_c_explain(
+        request: *const Request,
+        grammar: *const c_char, grammar_len: usize,
+        definition: *const c_char, definition_len: usize,
+        definition_tokens: *const Token, definition_token_len: usize,
+        argument: *const c_char, argument_len: usize,
+        argument_tokens: *const Token, argument_token_len: usize,
+        verdicts: *mut Verdict, verdict_room: usize,
+        message: *mut c_char, message_room: usize,
+        reply: *mut Reply,
+    ) -> u32;
+    fn mbe_c_convert(
+        request: *const Request,
+        input: *const c_char, input_len: usize,
+        input_tokens: *const Token, input_token_len: usize,
+        tokens: *mut Token, token_room: usize,
+        text: *mut c_char, text_room: usize,
+        message: *mut c_char, message_room: usize,
+        reply: *mut Reply,
+    ) -> u32;
+    fn mbe_c_define(
+        request: *const Request,
+        definition: *const c_char, definition_len: usize,
+        definition_tokens: *const Token, definition_token_len: usize,
+        message: *mut c_char, message_room: usize,
+        reply: *mut Reply,
+    ) -> u32;
+    fn mbe_c_grammar(
+        grammar: *const c_char, grammar_len: usize,
+        message: *mut c_char, message_room: usize,
+        reply: *mut Reply,
+    ) -> u32;
+}
+
+/// Memory for an answer.
+#[derive(Default)]
+pub(crate) struct Buffers {
+    pub tokens: Vec<Token>,
+    pub verdicts: Vec<Verdict>,
+    pub text: Vec<u8>,
+    pub message: Vec<u8>,
+}
+
+/// A text or flat tokens with theirs.
+#[derive(Clone, Copy)]
+pub(crate) struct Bytes<'a> {
+    pub text: &'a [u8],
+    pub tokens: &'a [Token],
+}
+
+// SAFETY, of each call below: the declarations above are those of `mbe.h`; each pointer with its length is that of one slice, which is
+// borrowed for the call; what is written is borrowed mutably, so overlaps nothing; a slice's pointer is never null, and all of its
+// elements are numbers.
+
+pub(crate) fn version() -> u32 {
+    unsafe { mbe_c_version() }
+}
+
+pub(crate) fn expand(request: &Request, grammar: &[u8], definition: Bytes, argument: Bytes, out: &mut Buffers) -> Reply {
+    let mut reply = Reply::default();
+    unsafe {
+        mbe_c_expand(
+            request,
+            grammar.as_ptr().cast(), grammar.len(),
+            definition.text.as_ptr().cast(), definition.text.len(),
+            definition.tokens.as_ptr(), definition.tokens.len(),
+            argument.text.as_ptr().cast(), argument.text.len(),
+            argument.tokens.as_ptr(), argument.tokens.len(),
+            out.tokens.as_mut_ptr(), out.tokens.len(),
+            out.text.as_mut_ptr().cast(), out.text.len(),
+            out.message.as_mut_ptr().cast(), out.message.len(),
+            &mut reply,
+        )
+    };
+    reply
+}
+
+pub(crate) fn explain(request: &Request, grammar: &[u8], definition: Bytes, argument: Bytes, out: &mut Buffers) -> Reply {
+    let mut reply = Reply::default();
+    unsafe {
+        mbe_c_explain(
+            request,
+            grammar.as_ptr().cast(), grammar.len(),
+            definition.text.as_ptr().cast(), definition.text.len(),
+            definition.tokens.as_ptr(), definition.tokens.len(),
+            argument.text.as_ptr().cast(), argument.text.len(),
+            argument.tokens.as_ptr(), argument.tokens.len(),
+            out.verdicts.as_mut_ptr(), out.verdicts.len(),
+            out.message.as_mut_ptr().cast(), out.message.len(),
+            &mut reply,
+        )
+    };
+    reply
+}
+
+pub(crate) fn convert(request: &Request, input: Bytes, out: &mut Buffers) -> Reply {
+    let mut reply = Reply::default();
+    unsafe {
+        mbe_c_convert(
+            request,
+            input.text.as_ptr().cast(), input.text.len(),
+            input.tokens.as_ptr(), input.tokens.len(),
+            out.tokens.as_mut_ptr(), out.tokens.len(),
+            out.text.as_mut_ptr().cast(), out.text.len(),
+            out.message.as_mut_ptr().cast(), out.message.len(),
+            &mut reply,
+        )
+    };
+    reply
+}
+
+pub(crate) fn define(request: &Request, definition: Bytes, out: &mut Buffers) -> Reply {
+    let mut reply = Reply::default();
+    unsafe {
+        mbe_c_define(
+            request,
+            definition.text.as_ptr().cast(), definition.text.len(),
+            definition.tokens.as_ptr(), definition.tokens.len(),
+            out.message.as_mut_ptr().cast(), out.message.len(),
+            &mut reply,
+        )
+    };
+    reply
+}
+
+pub(crate) fn grammar(text: &[u8], out: &mut Buffers) -> Reply {
+    let mut reply = Reply::default();
+    unsafe {
+        mbe_c_grammar(
+            text.as_ptr().cast(), text.len(),
+            out.message.as_mut_ptr().cast(), out.message.len(),
+            &mut reply,
+        )
+    };
+    reply
+}

@@ -1,0 +1,80 @@
+//! The crate's calls, in safe code.
+#![forbid(unsafe_code)]
+
+use mbe_rs::{Dialect, Edition, Form, Grammar, Input, Macro, Reading, Span, Status, check_grammar, convert, version};
+
+const ROWS: &[(&str, &str, &str, u32)] = &[
+    ("($x:ident) => {$x $x}", "a", "a a", 0),
+    ("($($x:ident),*) => {[$($x);*]}", "a, b, c", "[a; b; c]", 0),
+    ("() => {none}; ($e:expr) => {one}", "1 + 2", "one", 1),
+    ("() => {none}; ($e:expr) => {one}", "", "none", 0),
+    ("(a $x:tt) => {$x}", "a (b c)", "(b c)", 0),
+    ("($x:literal) => {$x}", "1u8", "1u8", 0),
+];
+
+fn sample(definition: &str) -> Macro<'static> {
+    Macro::new(Input::Text(definition.as_bytes()), Edition::E2024, Dialect::Sample, Grammar::Sample).expect("a definition")
+}
+
+#[test]
+fn rows() {
+    assert_eq!(version(), 1);
+    for (definition, argument, expansion, rule) in ROWS {
+        let found = sample(definition).expand(Input::Text(argument.as_bytes()), Form::Rust, Span::default()).expect(definition);
+        assert_eq!(String::from_utf8_lossy(&found.trees.text), *expansion);
+        assert_eq!((found.rule, found.fault), (Some(*rule), None));
+    }
+}
+
+#[test]
+fn faults() {
+    let found = sample("(a) => {b}").expand(Input::Text(b"c"), Form::Tokens, Span::default()).expect("an expansion");
+    let fault = found.fault.expect("a fault");
+    assert_eq!((fault.message.as_str(), fault.span.file, fault.span.start, fault.span.end), ("unexpected token in input", 1, 0, 1));
+    let refused = Macro::new(Input::Text(b"($x) => {}"), Edition::E2015, Dialect::Sample, Grammar::Sample).unwrap_err();
+    assert_eq!((refused.status, refused.message.as_str()), (Status::Refused, "missing fragment specifier"));
+    let unlexed = sample("() => {}").expand(Input::Text(b"a )"), Form::Tokens, Span::default()).unwrap_err();
+    assert_eq!((unlexed.status, unlexed.place), (Status::NoTokens, 2));
+    assert_eq!(sample("() => {}").expand(Input::Text(b"\xff"), Form::Tokens, Span::default()).unwrap_err().status, Status::NotUtf8);
+}
+
+#[test]
+fn verdicts() {
+    let found: Vec<Reading> = sample("(a) => {}; ($x:tt) => {}; ($($x:ident)* $y:ident) => {}")
+        .explain(Input::Text(b"b")).expect("verdicts").map(|v| v.reading).collect();
+    assert_eq!(found, [Reading::Stuck(0), Reading::One, Reading::Ambiguous(0)]);
+}
+
+#[test]
+fn flat() {
+    let trees = convert(Input::Text(b"a (1u8 +)"), Edition::E2024, Dialect::Sample, Form::Tokens).expect("trees");
+    let leaves: Vec<String> = trees.leaves().map(|(_, text)| text).collect();
+    assert_eq!(leaves, ["a", "1u8", "+"]);
+    let again = convert(Input::Flat(&trees), Edition::E2024, Dialect::Sample, Form::Tokens).expect("trees");
+    assert_eq!(again, trees);
+    let mut astray = trees.clone();
+    astray.tokens.truncate(3);
+    assert_eq!(convert(Input::Flat(&astray), Edition::E2024, Dialect::Sample, Form::Lines).unwrap_err().status, Status::NoTrees);
+    let expanded = sample("($($x:tt)*) => {$($x)*}").expand(Input::Flat(&trees), Form::Rust, Span::default()).expect("an expansion");
+    assert_eq!(String::from_utf8_lossy(&expanded.trees.text), "a(1u8 +)");
+}
+
+#[test]
+fn long_answers_get_room() {
+    let many = "a ".repeat(3000);
+    let found = sample("($($x:ident)*) => {$($x)*}").expand(Input::Text(many.as_bytes()), Form::Tokens, Span::default()).expect("an expansion");
+    assert_eq!(found.trees.leaves().count(), 3000);
+}
+
+#[test]
+fn grammars() {
+    let sums = "expr = operand ('+' operand!)*\noperand = NAME";
+    let by = Macro::new(Input::Text(b"($e:expr) => {$e}"), Edition::E2021, Dialect::Sample, Grammar::Text(sums)).expect("a definition");
+    assert_eq!(by.rules(), 1);
+    assert!(by.expand(Input::Text(b"a + b"), Form::Rust, Span::default()).expect("an expansion").fault.is_none());
+    let fault = check_grammar("a = b").unwrap_err();
+    assert_eq!((fault.status, fault.place, fault.column), (Status::NoGrammar, 1, 5));
+    let rust = Macro::new(Input::Text(b"($t:ty) => {$t}"), Edition::E2024, Dialect::Rust, Grammar::Rust).expect("a definition");
+    let found = rust.expand(Input::Text(b"Vec<&'a str>"), Form::Rust, Span::default()).expect("an expansion");
+    assert_eq!(String::from_utf8_lossy(&found.trees.text), "Vec<&'a str>");
+}

@@ -1,0 +1,299 @@
+// The expander for C, and for all that calls C: each export calls a function of `mbe_replies`, and copies its answer into memory of
+// the caller. No call keeps anything: what it allocates is freed when it returns. `bindings/c/mbe.h` declares them.
+#![tactic(auto)]
+
+ghost use Rattle.std.specs.Prelude.{◌≡◌, ◌<◌, ◌≤◌, ◌++◌, length, take, drop, if◌then◌else◌, nat_le};
+ghost use Rattle.mbe_replies.specs.Answers.{status_number};
+ghost use Rattle.mbe_c.specs.Copies as spec;
+
+use mbe_flat::token::{FlatSpan, FlatToken, flat_span};
+use mbe_replies::answer::{Answer, Part, Status};
+use mbe_replies::calls::{
+    FlatVerdict, Input, Request, check_grammar, convert, define, expand, explain,
+};
+use std::alloc::{Allocator, Global};
+
+/// What is said of an answer, in numbers.
+#[repr(C)]
+#[derive(Clone, Copy, Debug, Default, Drop, PartialEq, Eq)]
+pub struct Reply {
+    /// `Status::number`.
+    pub status: u32,
+    /// The part at fault, `Part::number`.
+    pub part: u32,
+    /// 1 where there is a rule, else 0.
+    pub has_rule: u32,
+    /// The index of the rule that was used, or that fits best.
+    pub rule: u32,
+    /// Where the error of an expansion is.
+    pub span: FlatSpan,
+    /// Of `NoGrammar` the column, of which what is above 32 bits is 2^32 - 1.
+    pub column: u32,
+    /// Of `NoTokens` the byte, of `NoTrees` the token, of `NoGrammar` the line; of `mbe_c_define` the number of rules.
+    pub place: usize,
+    /// How many tokens, or verdicts, there are, which may be more than the buffer has room for.
+    pub tokens: usize,
+    /// How many bytes the text has.
+    pub text: usize,
+    /// How many bytes the message has. Where the buffer has no room for them all, none is written.
+    pub message: usize,
+}
+
+/// The number of this interface, which changes with each struct and export.
+#[unsafe(no_mangle)]
+pub extern "C" fn mbe_c_version() -> u32
+    ensures { result ≡ 1 }
+{
+    1
+}
+
+// Copies the bytes to the front, if there is room for them all; else nothing.
+fn put_bytes(from: &[u8], to: &mut [u8]) -> bool
+    ensures fits { result ≡ nat_le (length from.now) (length to.old) }
+    ensures copied { to.new ≡ spec.copied from.now to.old }
+{
+    if from.len() > to.len() {
+        return false;
+    }
+    let (front, _rest) = to.split_at_mut(from.len());
+    front.copy_from_slice(from);
+    true
+}
+
+// The same of tokens.
+fn put_tokens(from: &[FlatToken], to: &mut [FlatToken]) -> bool
+    ensures fits { result ≡ nat_le (length from.now) (length to.old) }
+    ensures copied { to.new ≡ spec.copied from.now to.old }
+{
+    if from.len() > to.len() {
+        return false;
+    }
+    let (front, _rest) = to.split_at_mut(from.len());
+    front.copy_from_slice(from);
+    true
+}
+
+// The same of verdicts.
+fn put_verdicts(from: &[FlatVerdict], to: &mut [FlatVerdict]) -> bool
+    ensures fits { result ≡ nat_le (length from.now) (length to.old) }
+    ensures copied { to.new ≡ spec.copied from.now to.old }
+{
+    if from.len() > to.len() {
+        return false;
+    }
+    let (front, _rest) = to.split_at_mut(from.len());
+    front.copy_from_slice(from);
+    true
+}
+
+// What is said of an answer.
+fn reply_of<A: Allocator>(answer: &Answer<A>) -> Reply
+    ensures status { result.status ≡ status_number answer.now.status }
+{
+    let mut reply = Reply::default();
+    reply.status = answer.status.number();
+    reply.part = answer.part.number();
+    if let Some(rule) = answer.rule {
+        reply.has_rule = 1;
+        reply.rule = rule;
+    }
+    reply.span = flat_span(answer.span);
+    reply.column = if answer.column > u32::MAX as usize {
+        u32::MAX
+    } else {
+        answer.column as u32
+    };
+    reply.place = answer.place;
+    reply.tokens = answer.tokens.len();
+    reply.text = answer.text.len();
+    reply.message = answer.message.len();
+    reply
+}
+
+// Copies an answer into memory of the caller, and returns its status.
+fn give<A: Allocator>(
+    answer: &Answer<A>,
+    tokens: &mut [FlatToken],
+    text: &mut [u8],
+    message: &mut [u8],
+    reply: &mut Reply,
+) -> u32
+    ensures result { result ≡ reply.new.status }
+    ensures tokens { tokens.new ≡ spec.copied answer.now.tokens.items tokens.old }
+    ensures text { text.new ≡ spec.copied answer.now.text.items text.old }
+    ensures status { reply.new.status ≡ spec.status_given answer.now.status
+        (nat_le (length answer.now.tokens.items) (length tokens.old))
+        (nat_le (length answer.now.text.items) (length text.old)) }
+{
+    *reply = reply_of(answer);
+    let tokens_fit = put_tokens(&answer.tokens, tokens);
+    let text_fits = put_bytes(&answer.text, text);
+    let _message_fits = put_bytes(answer.message.as_bytes(), message);
+    if !tokens_fit || !text_fits {
+        reply.status = Status::NoRoom.number();
+    }
+    reply.status
+}
+
+/// Expands an argument by a definition (`mbe_replies::calls::expand`). The status comes back, and is in the reply too.
+#[unsafe(no_mangle)]
+pub extern "C" fn mbe_c_expand(
+    alloc: Global,
+    request: &Request,
+    grammar: &[u8],
+    definition: &[u8],
+    definition_tokens: &[FlatToken],
+    argument: &[u8],
+    argument_tokens: &[FlatToken],
+    tokens: &mut [FlatToken],
+    text: &mut [u8],
+    message: &mut [u8],
+    reply: &mut Reply,
+) -> u32
+    ensures result { result ≡ reply.new.status }
+{
+    let definition = Input {
+        text: definition,
+        tokens: definition_tokens,
+        is_flat: request.definition_is_flat,
+        part: Part::Definition,
+        file: 0,
+    };
+    let argument = Input {
+        text: argument,
+        tokens: argument_tokens,
+        is_flat: request.argument_is_flat,
+        part: Part::Argument,
+        file: 1,
+    };
+    let answer = expand(alloc, request, grammar, definition, argument);
+    give(&answer, tokens, text, message, reply)
+}
+
+/// The verdict on an argument of each rule of a definition (`mbe_replies::calls::explain`). `reply.tokens` is how many there are.
+#[unsafe(no_mangle)]
+pub extern "C" fn mbe_c_explain(
+    alloc: Global,
+    request: &Request,
+    grammar: &[u8],
+    definition: &[u8],
+    definition_tokens: &[FlatToken],
+    argument: &[u8],
+    argument_tokens: &[FlatToken],
+    verdicts: &mut [FlatVerdict],
+    message: &mut [u8],
+    reply: &mut Reply,
+) -> u32
+    ensures result { result ≡ reply.new.status }
+{
+    let definition = Input {
+        text: definition,
+        tokens: definition_tokens,
+        is_flat: request.definition_is_flat,
+        part: Part::Definition,
+        file: 0,
+    };
+    let argument = Input {
+        text: argument,
+        tokens: argument_tokens,
+        is_flat: request.argument_is_flat,
+        part: Part::Argument,
+        file: 1,
+    };
+    match explain(alloc, request, grammar, definition, argument) {
+        Err(answer) => give(&answer, &mut [], &mut [], message, reply),
+        Ok(found) => give_verdicts(alloc, &found, verdicts, reply),
+    }
+}
+
+// Copies verdicts into memory of the caller, and returns the status.
+fn give_verdicts<A: Allocator + Copy>(
+    alloc: A,
+    found: &[FlatVerdict],
+    verdicts: &mut [FlatVerdict],
+    reply: &mut Reply,
+) -> u32
+    ensures result { result ≡ reply.new.status }
+    ensures verdicts { verdicts.new ≡ spec.copied found.now verdicts.old }
+    ensures count { reply.new.tokens ≡ length found.now }
+{
+    *reply = reply_of(&Answer::empty(alloc, Status::Done, Part::None));
+    reply.tokens = found.len();
+    if !put_verdicts(found, verdicts) {
+        reply.status = Status::NoRoom.number();
+    }
+    reply.status
+}
+
+/// The trees of an input in another form (`mbe_replies::calls::convert`): a text to flat tokens, flat tokens to a text.
+#[unsafe(no_mangle)]
+pub extern "C" fn mbe_c_convert(
+    alloc: Global,
+    request: &Request,
+    input: &[u8],
+    input_tokens: &[FlatToken],
+    tokens: &mut [FlatToken],
+    text: &mut [u8],
+    message: &mut [u8],
+    reply: &mut Reply,
+) -> u32
+    ensures result { result ≡ reply.new.status }
+{
+    let input = Input {
+        text: input,
+        tokens: input_tokens,
+        is_flat: request.argument_is_flat,
+        part: Part::Argument,
+        file: 1,
+    };
+    let answer = convert(alloc, request, input);
+    give(&answer, tokens, text, message, reply)
+}
+
+/// Whether a definition is one (`mbe_replies::calls::define`); `reply.place` is the number of its rules.
+#[unsafe(no_mangle)]
+pub extern "C" fn mbe_c_define(
+    alloc: Global,
+    request: &Request,
+    definition: &[u8],
+    definition_tokens: &[FlatToken],
+    message: &mut [u8],
+    reply: &mut Reply,
+) -> u32
+    ensures result { result ≡ reply.new.status }
+{
+    let definition = Input {
+        text: definition,
+        tokens: definition_tokens,
+        is_flat: request.definition_is_flat,
+        part: Part::Definition,
+        file: 0,
+    };
+    match define(alloc, request, definition) {
+        Err(answer) => give(&answer, &mut [], &mut [], message, reply),
+        Ok(rules) => {
+            *reply = reply_of(&Answer::empty(alloc, Status::Done, Part::None));
+            reply.place = rules;
+            reply.status
+        }
+    }
+}
+
+/// Whether a text is a grammar of fragments (`mbe_replies::calls::check_grammar`).
+#[unsafe(no_mangle)]
+pub extern "C" fn mbe_c_grammar(
+    alloc: Global,
+    grammar: &[u8],
+    message: &mut [u8],
+    reply: &mut Reply,
+) -> u32
+    ensures result { result ≡ reply.new.status }
+{
+    match check_grammar(alloc, grammar) {
+        Err(answer) => give(&answer, &mut [], &mut [], message, reply),
+        Ok(()) => {
+            *reply = reply_of(&Answer::empty(alloc, Status::Done, Part::None));
+            reply.status
+        }
+    }
+}

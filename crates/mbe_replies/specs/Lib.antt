@@ -1,0 +1,4 @@
+pub mod Asked
+pub mod Expanding
+pub mod Answers
+pub mod Calls
