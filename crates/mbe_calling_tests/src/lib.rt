@@ -26,6 +26,8 @@ mod tables;
 #[cfg(test)]
 mod texts;
 #[cfg(test)]
+mod theorem;
+#[cfg(test)]
 mod walks;
 #[cfg(test)]
 mod writing;
