@@ -1,0 +1,10 @@
+# Completion of expandm for fish.
+complete -c expandm -l once -d 'expand each call once, and no call in what it becomes'
+complete -c expandm -l depth -x -d 'expand calls that are so deep in others at most'
+complete -c expandm -l fuel -x -d 'expand so many calls at most'
+complete -c expandm -l call -x -d 'print only what the call there becomes'
+complete -c expandm -l write -x -a '(__fish_complete_directories)' -d 'write each file into a directory'
+complete -c expandm -l edition -x -a '2015 2018 2021 2024' -d 'the edition of the files'
+complete -c expandm -l trace -d 'report each step'
+complete -c expandm -l help -d 'print the options'
+complete -c expandm -l version -d 'print the version'

@@ -1,0 +1,2 @@
+# Completion of mbex for fish.
+complete -c mbex -l lint -d 'print how each rule reads the argument'
