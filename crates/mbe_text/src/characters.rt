@@ -29,6 +29,7 @@ pub(crate) enum Class {
 
 impl Class {
     // Whether the character is of this kind.
+    #[inline(always)]
     pub(crate) fn has(self, char: char) -> bool
         ensures { result ≡ spec.has self char }
     {
@@ -67,6 +68,7 @@ fn is_space(char: char) -> bool
     )
 }
 
+#[inline(always)]
 fn is_punct(char: char) -> bool
     ensures { result ≡ spec.has Punct char }
 {
@@ -96,6 +98,7 @@ fn is_punct(char: char) -> bool
 }
 
 // The first character, and what is left after it.
+#[inline(always)]
 pub(crate) fn split_first(text: &str) -> Option<(char, &str)>
     ensures chars { MatchOption result (chars text.now ≡ [])
         (λ p. chars text.now ≡ p.0 ∷ chars p.1.now) }
@@ -110,6 +113,7 @@ pub(crate) fn split_first(text: &str) -> Option<(char, &str)>
 }
 
 // Whether the first character is of this kind.
+#[inline(always)]
 pub(crate) fn begins(text: &str, class: Class) -> bool
     ensures exact { result ≡ spec.begins class (chars text.now) }
     ensures some { IsTrue result → 0 < length text.now }
@@ -121,6 +125,7 @@ pub(crate) fn begins(text: &str, class: Class) -> bool
 }
 
 // What is left after one character of this kind, where it comes first.
+#[inline(always)]
 pub(crate) fn past_one(text: &str, class: Class) -> Option<&str>
     ensures exact { MatchOption result (spec.past_one class (chars text.now) ≡ None)
         (λ rest. spec.past_one class (chars text.now) ≡ Some (chars rest.now)) }
@@ -133,6 +138,7 @@ pub(crate) fn past_one(text: &str, class: Class) -> Option<&str>
 }
 
 // What is left after all characters of this kind that come first.
+#[inline(always)]
 pub(crate) fn past(text: &str, class: Class) -> &str
     ensures exact { chars result.now ≡ spec.past class (chars text.now) }
     ensures end { IsEnd text.now result.now }
@@ -147,6 +153,7 @@ pub(crate) fn past(text: &str, class: Class) -> &str
 }
 
 // Whether the first characters are those of this front.
+#[inline(always)]
 pub(crate) fn begins_with(text: &str, front: &str) -> bool
     requires { IsTrue (spec.are_ascii front.now) }
     ensures exact { result ≡ spec.begins_with front.now (chars text.now) }
@@ -168,6 +175,7 @@ pub(crate) fn past_front<'t>(text: &'t str, front: &str) -> Option<&'t str>
 }
 
 // What a text has before this rest of it.
+#[inline(always)]
 pub(crate) fn before<'t>(text: &'t str, rest: &str) -> &'t str
     requires { length rest.now ≤ length text.now }
     ensures whole { IsRest text.now rest.now → text.now ≡ result.now ++ rest.now }
@@ -178,6 +186,7 @@ pub(crate) fn before<'t>(text: &'t str, rest: &str) -> &'t str
 }
 
 // The byte at which this rest of a text begins, where the text has so many.
+#[inline(always)]
 pub(crate) fn offset(total: u32, rest: &str) -> u32
     requires { length rest.now ≤ total }
     ensures bytes { result + length rest.now ≡ total }

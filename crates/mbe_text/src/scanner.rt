@@ -108,12 +108,16 @@ pub struct Scanner<'t> {
 
 // Whether an identifier of this text and what follows it would begin a prefixed or raw string, or a byte literal.
 // Those aren't lexed.
+#[inline(always)]
 fn begins_literal(name: &str, rest: &str) -> bool
     ensures { result ≡ words.begins_literal name.now (chars rest.now) }
 {
-    begins_with(rest, "\"")
-        || (name == "b" && begins_with(rest, "'"))
-        || ((name == "r" || name == "br" || name == "cr") && begins_hashes(rest))
+    match split_first(rest) {
+        Some(('"', _)) => true,
+        Some(('\'', _)) => name == "b",
+        Some(('#', _)) => (name == "r" || name == "br" || name == "cr") && begins_hashes(rest),
+        _ => false,
+    }
 }
 
 // Whether a char is behind a `'`, and not a lifetime: a `\`, or a character and another `'`. That character is no `'` and no line
@@ -162,6 +166,7 @@ impl<'t> Scanner<'t> {
     }
 
     /// The number of bytes consumed.
+    #[inline(always)]
     pub fn offset(&self) -> u32
         ensures bytes { result + length self.now.rest.now ≡ self.now.total }
         ensures exact { result ≡ characters.offset self.now.total (chars self.now.rest.now) }
@@ -169,6 +174,7 @@ impl<'t> Scanner<'t> {
         offset(self.total, self.rest)
     }
 
+    #[inline(always)]
     fn peek(&self) -> Option<char>
         ensures some { IsSome result ↔ 0 < length self.now.rest.now }
         ensures begins { IfSome result (λ c. Begins c self.now.rest.now) }
@@ -180,6 +186,7 @@ impl<'t> Scanner<'t> {
     }
 
     // Passes one character.
+    #[inline(always)]
     fn bump(&mut self) -> Option<char>
         ensures some { IsSome result ↔ 0 < length self.old.rest.now }
         ensures on { GoesOn self.old self.new }
@@ -196,6 +203,7 @@ impl<'t> Scanner<'t> {
     }
 
     // Passes the characters of a kind that come first.
+    #[inline(always)]
     fn pass(&mut self, class: Class)
         ensures on { GoesOn self.old self.new }
         ensures exact { chars self.new.rest.now
@@ -205,6 +213,7 @@ impl<'t> Scanner<'t> {
     }
 
     // Whether a comment stands here that is a token.
+    #[inline(always)]
     fn is_at_doc(&self) -> bool
         ensures { result ≡ is_doc self.now.dialect (chars self.now.rest.now) }
     {
@@ -214,6 +223,7 @@ impl<'t> Scanner<'t> {
         }
     }
 
+    #[inline(always)]
     fn is_blank(&self, char: char) -> bool
         ensures { result ≡ characters.has (blank self.now.dialect) char }
     {
@@ -300,6 +310,7 @@ impl<'t> Scanner<'t> {
     }
 
     // Passes an identifier without a `r#`, whose first character stands here.
+    #[inline(always)]
     fn word(&mut self) -> &'t str
         ensures on { GoesOn self.old self.new }
         ensures past { Advances self.old self.new }
@@ -315,6 +326,7 @@ impl<'t> Scanner<'t> {
     }
 
     // Whether a raw identifier stands here.
+    #[inline(always)]
     fn is_at_raw(&self) -> bool
         ensures begins { result ≡ true
             → (text : List ℕ) × (self.now.rest.now ≡ 114 ∷ (35 ∷ text)) }
@@ -354,6 +366,7 @@ impl<'t> Scanner<'t> {
     }
 
     // Passes an identifier that isn't raw.
+    #[inline(always)]
     fn identifier(&mut self) -> Result<Lexeme<'t>, LexFault>
         requires { 0 < length self.old.rest.now }
         ensures on { GoesOn self.old self.new }
@@ -379,6 +392,7 @@ impl<'t> Scanner<'t> {
     }
 
     // Passes an identifier, raw or not.
+    #[inline(always)]
     fn any_identifier(&mut self) -> Result<Lexeme<'t>, LexFault>
         requires { 0 < length self.old.rest.now }
         ensures on { GoesOn self.old self.new }
@@ -652,6 +666,7 @@ impl<'t> Scanner<'t> {
     }
 
     // A punct is joint where the next one begins right here. The `/` of a comment is none.
+    #[inline(always)]
     fn spacing(&self) -> Spacing
         ensures { result ≡ signs.spacing_before (chars self.now.rest.now) }
     {
@@ -662,6 +677,7 @@ impl<'t> Scanner<'t> {
         }
     }
 
+    #[inline(always)]
     fn is_at_comment(&self) -> bool
         ensures { result ≡ begins_comment (chars self.now.rest.now) }
     {
@@ -669,6 +685,7 @@ impl<'t> Scanner<'t> {
     }
 
     // Passes a punct, or one side of a group. Another character is a fault.
+    #[inline(always)]
     fn sign(&mut self) -> Result<Lexeme<'t>, LexFault>
         requires { 0 < length self.old.rest.now }
         ensures on { GoesOn self.old self.new }
@@ -699,6 +716,7 @@ impl<'t> Scanner<'t> {
     }
 
     // Passes the token of the sample dialect that begins with this character, which stands here.
+    #[inline(always)]
     fn sample_lexeme(&mut self, char: char) -> Result<Lexeme<'t>, LexFault>
         requires { 0 < length self.old.rest.now }
         ensures on { GoesOn self.old self.new }
@@ -793,6 +811,7 @@ impl<'t> Scanner<'t> {
     }
 
     // Passes the token that begins with this character, which stands here.
+    #[inline(always)]
     fn lexeme(&mut self, char: char) -> Result<Lexeme<'t>, LexFault>
         requires { 0 < length self.old.rest.now }
         ensures on { GoesOn self.old self.new }
