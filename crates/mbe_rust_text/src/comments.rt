@@ -1,5 +1,6 @@
 // Doc comments among trees: the attributes `#[doc = r".."]` and `#![doc = r".."]` that the lexer makes of `/// ..` and `//! ..`.
 ghost use Rattle.std.specs.Prelude.{◌≡◌, option_map};
+ghost use Rattle.std.specs.List.{list_any};
 ghost use Rattle.mbe_tt.specs.Trees.Tree.{rest_of, skip};
 ghost use Rattle.mbe_tt.specs.Views.Shown.{ident_of, literal_of};
 ghost use Rattle.mbe_tt.specs.Views.View.{trees};
@@ -23,11 +24,16 @@ pub(crate) struct Comment<'t> {
 }
 
 // Whether no line ends in the text, and it would be a doc comment's: `////` is none.
-fn is_line(is_inner: bool, text: &str) -> bool
+fn is_line(is_inner: bool, text: &[u8]) -> bool
     ensures { result ≡ spec.is_line is_inner text.now }
 {
-    !text.as_bytes().iter().any(|b| *b == b'\n' || *b == b'\r')
-        && (is_inner || !begins_with_slash(text.as_bytes()))
+    !has_line_end(text) && (is_inner || !begins_with_slash(text))
+}
+
+fn has_line_end(text: &[u8]) -> bool
+    ensures { result ≡ list_any spec.is_line_end text.now }
+{
+    text.iter().any(|byte| *byte == b'\n' || *byte == b'\r')
 }
 
 fn begins_with_slash(text: &[u8]) -> bool
@@ -83,7 +89,7 @@ fn comment_set<'t, A: Allocator>(
         ≡ spec.comment_set is_inner (ident_of name.now) equals.now (literal_of literal.now) }
 {
     let text = literal.text_and_suffix.as_str();
-    if is_setting(name, equals, literal) && is_line(is_inner, text) {
+    if is_setting(name, equals, literal) && is_line(is_inner, text.as_bytes()) {
         Some(Comment { is_inner, text })
     } else {
         None

@@ -118,6 +118,9 @@ if_none : (b : Bool) (o : Option Comment) (c : Comment) → (if not b then None 
 if_none true o c h = (refl, h)
 if_none false o c h = absurd (cc)
 
+some_same : (x y : Comment) → Some x ≡ Some y → x ≡ y
+some_same x y h = cc
+
 both : (a b : Bool) → (a && b) ≡ true → (a ≡ true) × (b ≡ true)
 both true b h = (refl, h)
 both false b h = absurd (cc)
@@ -173,9 +176,9 @@ Setting P b =
 set_case : (P : List FlatToken → Comment → Type 0) (b : Bool) (ts : List FlatToken) (c : Comment) → Setting P b
     → set_flat b ts ≡ Some c → P ts c
 set_case P b (token (ident i) ∷ (token (punct q) ∷ (token (literal l) ∷ (closing e ∷ ts)))) c k h =
-    let t = if_some _ _ c h in
-    let u = both _ _ t.0 in
-    let is : set_of b l ≡ c = cc in
+    let t = if_some (is_setting i q l && is_line b l.text_and_suffix) (Some (set_of b l)) c h in
+    let u = both (is_setting i q l) (is_line b l.text_and_suffix) t.0 in
+    let is = some_same (set_of b l) c t.1 in
     subst (λ x. P (token (ident i) ∷ (token (punct q) ∷ (token (literal l) ∷ (closing e ∷ ts)))) x) is
     (k i q l e ts (setting_is i q l u.0) u.1)
 set_case P b ts c k h = absurd (cc)
@@ -198,8 +201,8 @@ hash_case : (P : List FlatToken → Comment → Type 0) (ts : List FlatToken) (c
     → Setting (λ us. P (token (punct q) ∷ (opening d ∷ us))) true)
     → hash_flat ts ≡ Some c → P ts c
 hash_case P (token (punct q) ∷ ts) c k h =
-    let t = if_some _ _ c h in
-    let u = both _ _ t.0 in
+    let t = if_some (q.char == 33 && not (is_joint q.spacing)) (brackets_flat true ts) c h in
+    let u = both (q.char == 33) (not (is_joint q.spacing)) t.0 in
     brackets_case (λ us. P (token (punct q) ∷ us)) true ts c
     (λ d n. k q d (is_same q.char 33 u.0) (is_alone q.spacing u.1) n) t.1
 hash_case P ts c k h = absurd (cc)
@@ -228,11 +231,11 @@ comment_case P p ts s c outer inner h =
 
 -- only a `#` begins one
 pub no_comment_at : (p : Punct) (ts : List FlatToken) (s : State) → (p.char == 35) ≡ false → comment_next p ts s ≡ None
-no_comment_at p ts s h = rw h (same (may_precede_comment s.last))
+no_comment_at p ts s h = rw h (same (may_precede_comment s.last) None)
   where
-    same : (b : Bool) → (if b then None else None {A = Comment}) ≡ None
-    same true = refl
-    same false = refl
+    same : (b : Bool) (o : Option Comment) → (if b then o else o) ≡ o
+    same true o = refl
+    same false o = refl
 
 -- how many tokens the first trees are
 abbrev pub flat_count : ℕ → Forest → ℕ
@@ -243,8 +246,8 @@ flat_count (suc n) (group d inside rest) = suc (flat_len inside + suc (flat_coun
 
 inside_len : (b : Bool) (f : Forest) (c : Comment) → comment_inside b f ≡ Some c → (flat_len f ≡ 3) × (c.is_inner ≡ b)
 inside_len b (leaf (ident i) (leaf (punct q) (leaf (literal l) none))) c h =
-    let t = if_some _ (Some (set_of b l)) c h in
-    let same : set_of b l ≡ c = cc in (omega arith, sym (ap (λ (x : Comment). x.is_inner) same))
+    let t = if_some (is_setting i q l && is_line b l.text_and_suffix) (Some (set_of b l)) c h in
+    let same = some_same (set_of b l) c t.1 in (omega arith, sym (ap (λ (x : Comment). x.is_inner) same))
 inside_len b f c h = absurd (cc)
 
 brackets_count : (b : Bool) (f : Forest) (c : Comment) → in_brackets b f ≡ Some c → (flat_count 1 f ≡ 5) × (c.is_inner ≡ b)
@@ -255,7 +258,7 @@ brackets_count b f c h = absurd (cc)
 
 hash_count : (f : Forest) (c : Comment) → after_hash f ≡ Some c → (flat_count 2 f ≡ 6) × (c.is_inner ≡ true)
 hash_count (leaf (punct q) rest) c h =
-    let t = if_some _ (in_brackets true rest) c h in
+    let t = if_some (q.char == 33 && not (is_joint q.spacing)) (in_brackets true rest) c h in
     let n = brackets_count true rest c t.1 in (ap suc n.0, n.1)
 hash_count f c h = absurd (cc)
 

@@ -25,7 +25,7 @@ use Rattle.mbe_text_laws.specs.Gaps.{before, is_punct}
 use Rattle.mbe_text_laws.specs.Rust.{next_place, AreRust, IsWord, IsIdent, IsSign, IsPunct, is_start, begins_word, begins_literal}
 use Rattle.mbe_text_laws.proofs.EndLemmas.{begins_gap, ends_word, ends_punct, gap_ends_word, punct_not_continue, punct_not_start, punct_small, r_is_start, is_not, quotes_not_start}
 use Rattle.mbe_text_laws.proofs.CommentLemmas.{comment_next, more_tokens}
-use Rattle.mbe_text_laws.proofs.TextLemmas.{spelled, after, ahead, next_written, the_gap, ascii_utf8, ascii_chars, word_text}
+use Rattle.mbe_text_laws.proofs.TextLemmas.{spelled, after, ahead, next_written, token_or_comment, the_gap, gap_of, ascii_utf8, ascii_chars, word_text}
 
 -- ---- what a token begins with
 
@@ -111,6 +111,11 @@ follows P t ts s g k =
     let w = next_written t ts s in
     gapped P w.gap.line w.gap.apart w.gap.beside w.depth (chars w.text ++ ahead w.more ts w.state) g k
 
+on_a_line : (P : List ℕ → Bool) (started : Bool) (depth : ℕ) (cs : List ℕ) → ((xs : List ℕ) → begins_gap xs ≡ true → P xs ≡ true)
+    → started ≡ false → P (before (not started) false false depth ++ cs) ≡ true
+on_a_line P true depth cs g h = absurd (cc)
+on_a_line P false depth cs g h = g (10 ∷ (indent depth ++ cs)) refl
+
 -- A comment begins a line, but at the start of one.
 pub follows_punct : (P : List ℕ → Bool) (p : Punct) (ts : List FlatToken) (s : State) → ((xs : List ℕ)
     → begins_gap xs ≡ true → P xs ≡ true)
@@ -120,14 +125,19 @@ pub follows_punct : (P : List ℕ → Bool) (p : Punct) (ts : List FlatToken) (s
     → P (ahead 0 (token (punct p) ∷ ts) s) ≡ true
 follows_punct P p ts s g begun k = by (comment_next p ts s) refl
   where
+    here : Option Comment → Type 0
+    here o =
+        P (gap_of (token_or_comment o (token (punct p)) ts s).gap (token_or_comment o (token (punct p)) ts s).depth
+        ++ (chars (token_or_comment o (token (punct p)) ts s).text ++ ahead
+        (token_or_comment o (token (punct p)) ts s).more ts (token_or_comment o (token (punct p)) ts s).state)) ≡ true
     by : (o : Option Comment) → comment_next p ts s ≡ o → P (ahead 0 (token (punct p) ∷ ts) s) ≡ true
     by None e =
         let t = the_gap (token (punct p)) ts s in
-        rw e (gapped P t.line t.apart t.beside s.depth (chars (encode_utf8 p.char) ++ ahead 0 ts
+        subst here (sym e) (gapped P t.line t.apart t.beside s.depth (chars (encode_utf8 p.char) ++ ahead 0 ts
         (after (token (punct p)) ts s)) g k)
     by (Some c) e =
-        rw (e, begun) (g (10 ∷ (indent s.depth ++ (chars (comment_text c s.depth) ++ ahead (more_tokens c.is_inner) ts
-        (a_comment s c)))) refl)
+        subst here (sym e) (on_a_line P (is_line_start s.last) s.depth (chars (comment_text c s.depth) ++ ahead
+        (more_tokens c.is_inner) ts (a_comment s c)) g begun)
 
 -- tokens that are to be apart and may not stay side by side are kept apart
 pub never : (a b c : Bool) → a ≡ true → c ≡ false → (a && not (b && c)) ≡ false → ⊥

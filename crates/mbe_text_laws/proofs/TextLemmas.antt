@@ -1,5 +1,5 @@
 -- The text that is written, token by token, as bytes and as characters.
-use Rattle.std.proofs.Common.{◌≡◌, ℕ, zero, suc, ◌-◌, ◌<◌, not, ◌&&◌, Bool, true, false, List, [], ◌∷◌, ◌++◌, refl, sym, ap, ◌∙◌, arith, codes, Option, Some, None, IsUtf8, IsAscii, get_or, chars, encode_utf8, append_assoc, append-nil}
+use Rattle.std.proofs.Common.{◌≡◌, ℕ, zero, suc, ◌+◌, ◌-◌, ◌<◌, not, ◌&&◌, Bool, true, false, List, [], ◌∷◌, ◌++◌, refl, sym, ap, ◌∙◌, arith, codes, Option, Some, None, IsUtf8, IsAscii, get_or, chars, encode_utf8, append_assoc, append-nil}
 use Rattle.std.proofs.lemmas.Str.{chars-append, chars-IsAscii, IsUtf8-from_ascii}
 use Rattle.std.proofs.lemmas.Slice.Eq.{bytes_eq-Decides}
 use Rattle.mbe_tt.specs.declared.span.Span.{Span}
@@ -18,6 +18,7 @@ use Rattle.mbe_text.specs.Division.{next_token}
 use Rattle.mbe_text.specs.Tokens.{opening_text, closing_text}
 use Rattle.mbe_text_laws.specs.Rust.{IsWord, next_place, is_start, begins_word}
 use Rattle.mbe_text_laws.specs.Gaps.{before}
+use Rattle.mbe_rust_text.proofs.WalkLemmas.{leaf_written, comment_written}
 use Rattle.mbe_text_laws.proofs.CommentLemmas.{comment_next, more_tokens, flat_count, comment_same, comment_count}
 use Rattle.mbe_text_laws.proofs.GapLemmas.{gaps_are_blank, gaps_are_in_bytes}
 use Rattle.mbe_text_laws.proofs.EndLemmas.{start_not_dollar}
@@ -231,13 +232,18 @@ written_punct : (p : Punct) (rest : Forest) (ts : List FlatToken) (s : State) (o
     → comment_next p (flat rest ++ ts) s ≡ o → next_comment s (leaf (punct p) rest) ≡ o
     → ((n : ℕ) (t : State) → write (flat_count n rest) (flat rest ++ ts) t ≡ write 0 ts (written_after n rest t))
     → write 0 (token (punct p) ∷ (flat rest ++ ts)) s ≡ write 0 ts (written_after 0 (leaf (punct p) rest) s)
-unfolding written_after
 written_punct p rest ts s None h e f go =
-    rw (e, f) (ap (λ (n : Option Span). write 0 (flat rest ++ ts) (a_leaf s (punct p) n)) (first_place rest ts h)
-    ∙ go 0 (a_leaf s (punct p) (next_span rest)))
+    let t = token (punct p) in
+    let more = flat rest ++ ts in
+    ap (λ (o : Option Comment). write (token_or_comment o t more s).more more (token_or_comment o t more s).state) e
+    ∙ (ap (λ (n : Option Span). write 0 more (a_leaf s (punct p) n)) (first_place rest ts h)
+    ∙ (go 0 (a_leaf s (punct p) (next_span rest)) ∙ ap (write 0 ts) (sym (leaf_written (punct p) rest s f))))
 written_punct p rest ts s (Some c) h e f go =
-    rw (e, f) (ap (λ (k : ℕ). write k (flat rest ++ ts) (a_comment s c)) (sym (comment_count p rest s c f))
-    ∙ go (more_trees c.is_inner) (a_comment s c))
+    let t = token (punct p) in
+    let more = flat rest ++ ts in
+    ap (λ (o : Option Comment). write (token_or_comment o t more s).more more (token_or_comment o t more s).state) e
+    ∙ (ap (λ (k : ℕ). write k more (a_comment s c)) (sym (comment_count p rest s c f))
+    ∙ (go (more_trees c.is_inner) (a_comment s c) ∙ ap (write 0 ts) (sym (comment_written (punct p) rest s c f))))
 
 pub written_flat : (n : ℕ) (f : Forest) (ts : List FlatToken) (s : State) → None ≡ next_place ts
     → write (flat_count n f) (flat f ++ ts) s ≡ write 0 ts (written_after n f s)
