@@ -51,7 +51,7 @@ end_step (group e content rest) s h = absurd (cc)
 passed : (n : ℕ) (f : Forest) (s : State) → written_after n f s ≡ written (skip n f) s
 unfolding written_after
 passed zero f s = refl
-passed (suc n) none s = sym (passed n none s) ∙ refl
+passed (suc n) none s = passed n none s
 passed (suc n) (leaf l rest) s = passed n rest s
 passed (suc n) (group d inside rest) s = passed n rest s
 

@@ -5,7 +5,7 @@ use Rattle.std.proofs.lemmas.Str.{chars-append, chars-nil, IsUtf8-append}
 use Rattle.mbe_tt.specs.Buffers.Building.{Levels, put, closed, kind_inside}
 use Rattle.mbe_tt.specs.Trees.Leaf.{Leaf, Ident, Literal, literal, punct, ident}
 use Rattle.mbe_tt.specs.Trees.Literals.{raw_prefix, literal_output}
-use Rattle.mbe_tt.specs.Trees.Tree.{Forest, none, leaf, one_leaf, FlatToken, token, opening, closing, flat, is_same_kind}
+use Rattle.mbe_tt.specs.Trees.Tree.{Forest, none, leaf, group, one_leaf, FlatToken, token, opening, closing, flat, is_same_kind}
 use Rattle.mbe_tt.specs.Trees.Top.{no_span}
 use Rattle.mbe_tt.specs.declared.span.Edition.{Edition}
 use Rattle.mbe_tt.specs.declared.span.Span.{Span}
@@ -110,8 +110,8 @@ punct_after : (e : Edition) (total : ℕ) (p : Punct) (ts : List FlatToken) (s :
     → comment_next p ts s ≡ None
     → Reads e total (chars (encode_utf8 p.char) ++ ahead 0 ts (after (token (punct p)) ts s)) shape rest
     → Reads e total (ahead 0 (token (punct p) ∷ ts) s) shape rest
-punct_after e total p ts s shape rest none r =
-    read_after e total (token (punct p)) ts s shape rest (rw none r)
+punct_after e total p ts s shape rest plain r =
+    read_after e total (token (punct p)) ts s shape rest (rw plain r)
 
 reads_ident : (e : Edition) (total : ℕ) (i : Ident) (ts : List FlatToken) (s : State) → IsIdent i → AreRust e ts
     → Reads e total (ahead 0 (token (ident i) ∷ ts) s) (identifier i.sym i.is_raw) (ahead 0 ts (word s i))
@@ -160,10 +160,10 @@ reads_sign : (e : Edition) (total c : ℕ) (sp : Spacing) (place : Span) (ts : L
     → comment_next (record { char = c; spacing = sp; span = place }) ts s ≡ None
     → Reads e total (ahead 0 (token (punct (record { char = c; spacing = sp; span = place })) ∷ ts) s) (punct_of c sp)
     (ahead 0 ts (a_punct s (record { char = c; spacing = sp; span = place }) (next_place ts)))
-reads_sign e total c sp place ts s h r none =
+reads_sign e total c sp place ts s h r plain =
     let p : Punct = record { char = c; spacing = sp; span = place } in
     let rest = ahead 0 ts (a_punct s p (next_place ts)) in
-    punct_after e total p ts s (punct_of c sp) rest none
+    punct_after e total p ts s (punct_of c sp) rest plain
     (reads_same e total (chars (encode_utf8 c) ++ rest) (c ∷ rest) rest (punct_of c sp)
     (ap (λ (x : List ℕ). x ++ rest) (punct_is c (punct_small c h.0)).one)
     (punct_reads e total c sp rest h.0 (punct_before e c sp place s ts h r)))
@@ -218,10 +218,10 @@ sign_comes : (e : Edition) (file total n c : ℕ) (sp : Spacing) (place : Span) 
     (made ts (step (token (punct (record { char = c; spacing = sp; span = place }))) want)))
     → Comes e file total (suc n) levels (ahead 0 (token (punct (record { char = c; spacing = sp; span = place })) ∷ ts) s)
     (made (token (punct (record { char = c; spacing = sp; span = place })) ∷ ts) want)
-sign_comes e file total n c sp place ts s levels want h r same none go =
+sign_comes e file total n c sp place ts s levels want h r same plain go =
     let p : Punct = record { char = c; spacing = sp; span = place } in
     let rest = ahead 0 ts (a_punct s p (next_place ts)) in
-    let read = reads_sign e total c sp place ts s h r none in
+    let read = reads_sign e total c sp place ts s h r plain in
     let span = span_of_taken file total (taken (punct_of c sp) read.from rest) in
     let one : Forest = one_leaf (punct (record { char = c; spacing = sp; span = span })) in
     comes_on e file total n levels (put one levels) (ahead 0 (token (punct p) ∷ ts) s) rest (punct_of c sp) (made
@@ -300,25 +300,25 @@ no_name_comes : (e : Edition) (file total n : ℕ) (go : Come e file total n) (p
     → AreRust e (token (punct p) ∷ ts) → Fit (token (punct p) ∷ ts) want → bare_levels levels ≡ want
     → comment_next p ts s ≡ None → count 0 ts (after (token (punct p)) ts s) ≤ n → names ts ≡ false
     → ComesAt e file total n p ts s levels want
-no_name_comes e file total n go p ts s levels want h f same none le no =
-    sign_comes e file total n p.char p.spacing p.span ts s levels want (is_no_tick e p ts (p.char == 39) no h.0) h.1 same none
+no_name_comes e file total n go p ts s levels want h f same plain le unnamed =
+    sign_comes e file total n p.char p.spacing p.span ts s levels want (is_no_tick e p ts (p.char == 39) unnamed h.0) h.1 same plain
     (λ new q. go ts (a_punct s p (next_place ts)) new (step (token (punct p)) want) h.1 f q le)
 
 sign_or_lifetime : (e : Edition) (file total n : ℕ) (go : Come e file total n) (p : Punct) (ts : List FlatToken) (s : State)
     (levels want : Levels)
     → AreRust e (token (punct p) ∷ ts) → Fit (token (punct p) ∷ ts) want → bare_levels levels ≡ want
     → comment_next p ts s ≡ None → count 0 ts (after (token (punct p)) ts s) ≤ n → ComesAt e file total n p ts s levels want
-sign_or_lifetime e file total n go p [] s levels want h f same none le =
-    no_name_comes e file total n go p [] s levels want h f same none le refl
-sign_or_lifetime e file total n go p (token (literal l) ∷ ts) s levels want h f same none le =
-    no_name_comes e file total n go p (token (literal l) ∷ ts) s levels want h f same none le refl
-sign_or_lifetime e file total n go p (token (punct o) ∷ ts) s levels want h f same none le =
-    no_name_comes e file total n go p (token (punct o) ∷ ts) s levels want h f same none le refl
-sign_or_lifetime e file total n go p (opening d ∷ ts) s levels want h f same none le =
-    no_name_comes e file total n go p (opening d ∷ ts) s levels want h f same none le refl
-sign_or_lifetime e file total n go p (closing d ∷ ts) s levels want h f same none le =
-    no_name_comes e file total n go p (closing d ∷ ts) s levels want h f same none le refl
-sign_or_lifetime e file total n go p (token (ident i) ∷ ts) s levels want h f same none le = by (p.char == 39) refl h.0
+sign_or_lifetime e file total n go p [] s levels want h f same plain le =
+    no_name_comes e file total n go p [] s levels want h f same plain le refl
+sign_or_lifetime e file total n go p (token (literal l) ∷ ts) s levels want h f same plain le =
+    no_name_comes e file total n go p (token (literal l) ∷ ts) s levels want h f same plain le refl
+sign_or_lifetime e file total n go p (token (punct o) ∷ ts) s levels want h f same plain le =
+    no_name_comes e file total n go p (token (punct o) ∷ ts) s levels want h f same plain le refl
+sign_or_lifetime e file total n go p (opening d ∷ ts) s levels want h f same plain le =
+    no_name_comes e file total n go p (opening d ∷ ts) s levels want h f same plain le refl
+sign_or_lifetime e file total n go p (closing d ∷ ts) s levels want h f same plain le =
+    no_name_comes e file total n go p (closing d ∷ ts) s levels want h f same plain le refl
+sign_or_lifetime e file total n go p (token (ident i) ∷ ts) s levels want h f same plain le = by (p.char == 39) refl h.0
   where
     by : (b : Bool) → (p.char == 39) ≡ b → IsSign b e p (token (ident i) ∷ ts)
         → ComesAt e file total n p (token (ident i) ∷ ts) s levels want
@@ -327,7 +327,7 @@ sign_or_lifetime e file total n go p (token (ident i) ∷ ts) s levels want h f 
         (λ new q. go ts (word (a_punct s p (Some i.span)) i) new (step (token (ident i)) (step (token (punct p)) want)) h.1.1 f q
         (omega (arith, le)))
     by false t l =
-        sign_comes e file total n p.char p.spacing p.span (token (ident i) ∷ ts) s levels want l h.1 same none
+        sign_comes e file total n p.char p.spacing p.span (token (ident i) ∷ ts) s levels want l h.1 same plain
         (λ new q. go (token (ident i) ∷ ts) (a_punct s p (Some i.span)) new (step (token (punct p)) want) h.1 f q le)
 
 -- ---- a comment
@@ -410,7 +410,7 @@ gap_comes e file total n depth levels want cs c = record {
   where
     passed : (k : ℕ) → levels_of (Rust e) file total k levels (line_gap depth ++ cs) ≡ levels_of (Rust e) file total k levels cs
     passed zero = refl
-    passed (suc k) = rw (gap_is_blank (Rust e) total depth (reasons true false false) cs) refl
+    passed (suc k) = rw (levels_of, gap_is_blank (Rust e) total depth (reasons true false false) cs) refl
 
 comment_comes : (e : Edition) (file total n : ℕ) (go : Come e file total n) (p : Punct) (ts : List FlatToken) (s : State)
     (levels want : Levels) (c : Comment)

@@ -1,5 +1,5 @@
 -- A doc comment of one line is read.
-use Rattle.std.proofs.Common.{◌≡◌, ℕ, zero, suc, ◌==◌, ◌-◌, ◌<◌, not, ◌&&◌, ◌||◌, Bool, true, false, List, [], ◌∷◌, ◌++◌, length, take, refl, sym, ap, ◌∙◌, arith, codes, Option, Some, None, Ok, IsUtf8, IsAscii, chars, encode_utf8_all, subst, append_assoc, append-nil, length-append}
+use Rattle.std.proofs.Common.{◌≡◌, ℕ, zero, suc, ◌==◌, ◌-◌, ◌<◌, not, ◌&&◌, ◌||◌, Bool, true, false, List, [], ◌∷◌, ◌++◌, length, take, refl, sym, ap, ◌∙◌, arith, codes, Option, Some, None, Ok, IsUtf8, IsAscii, chars, encode_utf8, encode_utf8_all, subst, append_assoc, append-nil, length-append}
 use Rattle.std.specs.Prelude.{replicate}
 use Rattle.std.specs.List.{list_any}
 use Rattle.std.proofs.lemmas.Bool.Decides.{nat_tests}
@@ -45,10 +45,8 @@ char_no_end : (c : ℕ) (rest : List ℕ) (b : Bool) → is_line_end c ≡ b →
     → (is_line_end c ≡ false) × (ends (encode_utf8_all rest) ≡ false)
 char_no_end c rest true e h = absurd (let z : true ≡ false = sym (end_is_byte c rest e) ∙ h in cc)
 char_no_end c rest false e h =
-    (e, or_right _ _ (sym (list_any-append is_line_end (encode_utf8_all (c ∷ [])) (encode_utf8_all rest)) ∙ h2))
-  where
-    h2 : ends (encode_utf8_all (c ∷ []) ++ encode_utf8_all rest) ≡ false
-    h2 = ap (λ (x : List ℕ). ends (x ++ encode_utf8_all rest)) (append-nil _) ∙ h
+    (e, or_right (ends (encode_utf8 c)) (ends (encode_utf8_all rest))
+    (sym (list_any-append is_line_end (encode_utf8 c) (encode_utf8_all rest)) ∙ h))
 
 -- no character ends the line where no byte does
 no_end : (cs : List ℕ) → ends (encode_utf8_all cs) ≡ false → ends cs ≡ false
@@ -102,8 +100,10 @@ doc_reads e total b cs tail h k =
 -- ---- bytes
 
 marks_are_ascii : (b : Bool) → IsAscii (comment_marks b)
-marks_are_ascii true = one_more 47 _ (omega arith) (one_more 47 _ (omega arith) (one_more 33 [] (omega arith) nothing_is_ascii))
-marks_are_ascii false = one_more 47 _ (omega arith) (one_more 47 _ (omega arith) (one_more 47 [] (omega arith) nothing_is_ascii))
+marks_are_ascii true =
+    one_more 47 (47 ∷ (33 ∷ [])) (omega arith) (one_more 47 (33 ∷ []) (omega arith) (one_more 33 [] (omega arith) nothing_is_ascii))
+marks_are_ascii false =
+    one_more 47 (47 ∷ (47 ∷ [])) (omega arith) (one_more 47 (47 ∷ []) (omega arith) (one_more 47 [] (omega arith) nothing_is_ascii))
 
 marks_are : (b : Bool) → chars (comment_marks b) ≡ 47 ∷ (47 ∷ (last_mark b ∷ []))
 marks_are true = chars-IsAscii (comment_marks true) (marks_are_ascii true)
