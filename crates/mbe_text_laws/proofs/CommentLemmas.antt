@@ -12,11 +12,11 @@ use Rattle.mbe_tt.specs.declared.tt.DelimiterKind.TheVariants.{Parenthesis, Brac
 use Rattle.mbe_tt.specs.declared.tt.IdentIsRaw.{IdentIsRaw}
 use Rattle.mbe_tt.specs.declared.tt.IdentIsRaw.TheVariants.{No, Yes}
 use Rattle.mbe_tt.specs.declared.tt.LitKind.{LitKind}
-use Rattle.mbe_tt.specs.declared.tt.LitKind.TheVariants.{Byte, Char, Integer, Float, Str, StrRaw, ByteStr, ByteStrRaw, CStr, CStrRaw, Err}
-use Rattle.mbe_tt.specs.Trees.Leaf.{Ident, Literal, literal, punct, ident, is_text}
+use Rattle.mbe_tt.specs.declared.tt.LitKind.TheVariants.{StrRaw}
+use Rattle.mbe_tt.specs.Trees.Leaf.{Ident, Literal, literal, punct, ident}
 use Rattle.mbe_tt.specs.Trees.Tree.{Forest, none, leaf, group, FlatToken, token, opening, closing, flat, flat_len}
-use Rattle.mbe_rust_text.specs.Gaps.{is_joint, is_same_place, may_precede_comment}
-use Rattle.mbe_rust_text.specs.Comments.{Comment, is_line, is_plain, is_raw_string, is_setting, comment_set, comment_inside, is_bracket, in_brackets, after_hash, after_punct, comment_of, more_trees}
+use Rattle.mbe_rust_text.specs.Gaps.{is_joint, may_precede_comment}
+use Rattle.mbe_rust_text.specs.Comments.{Comment, is_line, is_plain, is_raw_string, is_setting, comment_set, comment_inside, is_bracket, in_brackets, after_hash, after_punct, more_trees}
 use Rattle.mbe_rust_text.specs.Writing.{State, next_comment}
 use Rattle.mbe_text.specs.Tokens.{most_guards}
 use Rattle.mbe_text_laws.specs.Rust.{next_place}

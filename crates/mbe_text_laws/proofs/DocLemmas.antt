@@ -1,5 +1,5 @@
 -- A doc comment of one line is read.
-use Rattle.std.proofs.Common.{◌≡◌, ℕ, zero, suc, ◌==◌, ◌-◌, ◌<◌, not, ◌&&◌, ◌||◌, Bool, true, false, List, [], ◌∷◌, ◌++◌, length, take, refl, sym, ap, ◌∙◌, arith, codes, Option, Some, None, Ok, IsUtf8, IsAscii, chars, encode_utf8, encode_utf8_all, subst, append_assoc, append-nil, length-append}
+use Rattle.std.proofs.Common.{◌≡◌, ℕ, zero, suc, ◌==◌, ◌<◌, not, ◌&&◌, ◌||◌, Bool, true, false, List, [], ◌∷◌, ◌++◌, length, refl, sym, ap, ◌∙◌, arith, Option, Some, Ok, IsUtf8, IsAscii, chars, encode_utf8, encode_utf8_all, subst, append_assoc, append-nil}
 use Rattle.std.specs.Prelude.{replicate}
 use Rattle.std.specs.List.{list_any}
 use Rattle.std.proofs.lemmas.Bool.Decides.{nat_tests}
@@ -19,7 +19,7 @@ use Rattle.mbe_rust_text.specs.Writing.{comment_marks, comment_text}
 use Rattle.mbe_text.specs.declared.dialect.Dialect.TheVariants.{Rust}
 use Rattle.mbe_text.specs.Dialect.{or_sign}
 use Rattle.mbe_text.specs.Rust.{Token, read_rust, is_guard, begins_doc}
-use Rattle.mbe_text.specs.Shapes.{Shape, doc_of}
+use Rattle.mbe_text.specs.Shapes.{doc_of}
 use Rattle.mbe_text.specs.Trivia.{past_blanks}
 use Rattle.mbe_text.proofs.LineDocs.{last_mark, line_doc_is}
 use Rattle.mbe_text.proofs.Reading.{literal_written}

@@ -25,7 +25,7 @@ use Rattle.mbe_text_laws.specs.Gaps.{before, is_punct}
 use Rattle.mbe_text_laws.specs.Rust.{next_place, AreRust, IsWord, IsIdent, IsSign, IsPunct, is_start, begins_word, begins_literal}
 use Rattle.mbe_text_laws.proofs.EndLemmas.{begins_gap, ends_word, ends_punct, gap_ends_word, punct_not_continue, punct_not_start, punct_small, r_is_start, is_not, quotes_not_start}
 use Rattle.mbe_text_laws.proofs.CommentLemmas.{comment_next, more_tokens}
-use Rattle.mbe_text_laws.proofs.TextLemmas.{spelled, after, ahead, next_written, token_or_comment, the_gap, gap_of, ascii_utf8, ascii_chars, word_text}
+use Rattle.mbe_text_laws.proofs.TextLemmas.{after, ahead, next_written, token_or_comment, the_gap, gap_of, ascii_utf8, ascii_chars, word_text}
 
 -- ---- what a token begins with
 
