@@ -196,7 +196,7 @@ impl<A: Allocator + Copy> Writer<A> {
     // Writes a doc comment, on a line of its own.
     fn comment(&mut self, comment: Comment<'_>) -> Result<(), AllocError>
         ensures { OnOk result (state_of self.new
-            ≡ spec.a_comment (state_of self.old) (comment_shown comment)) }
+            ≡ spec.a_comment (state_of self.old) (comment_shown comment.entry)) }
     {
         let gap = between(!self.last.is_line_start(), false, false);
         self.space(gap)?;

@@ -7,10 +7,11 @@ use Rattle.mbe_rust_text.proofs.writing.Writer.trees.Goals as goal
 pub tokens-init : goal.tokens-init
 tokens-init g c = begins _ _ _ _ c.new-around.ensures.items c.iter-iter.ensures
 
-pub tokens-preserved-in-Continue-1 : goal.tokens-preserved-in-Continue-1
-tokens-preserved-in-Continue-1 g c =
-    leaf_on c.tokens.around.items c.tokens.iter _ (leaf_of c.in-Some-Leaf.leaf.now) _ _ _ c.next.ensures.rest (search rules) (search rules)
-    c.tokens.invariant
+pub tokens-preserved-in-Some : goal.tokens-preserved-in-Some
+tokens-preserved-in-Some g c = ?
+
+pub tokens-preserved-in-Continue-branch-2 : goal.tokens-preserved-in-Continue-branch-2
+tokens-preserved-in-Continue-branch-2 g c = ?
 
 pub tokens-preserved-in-Some-Subtree : goal.tokens-preserved-in-Some-Subtree
 tokens-preserved-in-Some-Subtree g c =
