@@ -1,5 +1,5 @@
 -- One token more of a walk over trees: what is still to be written, and how much that is.
-use Rattle.std.proofs.Common.{◌≡◌, ℕ, zero, suc, ◌+◌, ◌<◌, ◌≤◌, List, [], ◌∷◌, ◌++◌, reverse, Some, None, refl, ap, sym, ◌∙◌, arith}
+use Rattle.std.proofs.Common.{◌≡◌, ℕ, zero, suc, ◌+◌, ◌<◌, ◌≤◌, List, [], ◌∷◌, ◌++◌, reverse, Option, Some, None, refl, ap, sym, ◌∙◌, arith}
 use Rattle.std.proofs.lemmas.List.{reverse-append}
 use Rattle.mbe_tt.specs.Trees.Leaf.{Leaf}
 use Rattle.mbe_tt.specs.Trees.Tree.{Forest, none, leaf, group, Leaf_tree, Group_tree, first, rest_of, skip, flat_len}
@@ -46,6 +46,10 @@ unfolding written_after
 end_step none s h = refl
 end_step (leaf m rest) s h = absurd (cc)
 end_step (group e content rest) s h = absurd (cc)
+
+-- what is next of trees is what was found at a view of them
+pub found : (s : State) (f view : Forest) (o n : Option Comment) → view ≡ f → o ≡ next_comment s view → o ≡ n → next_comment s f ≡ n
+found s f view o n v h e = ap (next_comment s) (sym v) ∙ (sym h ∙ e)
 
 -- trees that are written already are passed
 passed : (n : ℕ) (f : Forest) (s : State) → written_after n f s ≡ written (skip n f) s

@@ -450,6 +450,7 @@ punct_comes e file total n go p ts s levels want h f same le = by (comment_next 
         let k : suc (count (token_or_comment o (token (punct p)) ts s).more ts (token_or_comment o (token (punct p)) ts s).state) ≤ suc n =
         subst (λ (x : Option Comment). suc (count (token_or_comment x (token (punct p)) ts s).more ts
         (token_or_comment x (token (punct p)) ts s).state) ≤ suc n) m le in omega (arith, k)
+
     by : (o : Option Comment) → comment_next p ts s ≡ o → ComesAt e file total n p ts s levels want
     by None m = sign_or_lifetime e file total n go p ts s levels want h f same m (few None m)
     by (Some c) m = comment_comes e file total n go p ts s levels want c h.1 f same m (few (Some c) m)

@@ -44,9 +44,11 @@ end_is_byte c rest h =
 char_no_end : (c : ℕ) (rest : List ℕ) (b : Bool) → is_line_end c ≡ b → ends (encode_utf8_all (c ∷ rest)) ≡ false
     → (is_line_end c ≡ false) × (ends (encode_utf8_all rest) ≡ false)
 char_no_end c rest true e h = absurd (let z : true ≡ false = sym (end_is_byte c rest e) ∙ h in cc)
-char_no_end c rest false e h =
-    (e, or_right (ends (encode_utf8 c)) (ends (encode_utf8_all rest))
-    (sym (list_any-append is_line_end (encode_utf8 c) (encode_utf8_all rest)) ∙ h))
+char_no_end c rest false e h = (
+  e,
+  or_right (ends (encode_utf8 c)) (ends (encode_utf8_all rest))
+      (sym (list_any-append is_line_end (encode_utf8 c) (encode_utf8_all rest)) ∙ h),
+)
 
 -- no character ends the line where no byte does
 no_end : (cs : List ℕ) → ends (encode_utf8_all cs) ≡ false → ends cs ≡ false

@@ -130,6 +130,7 @@ follows_punct P p ts s g begun k = by (comment_next p ts s) refl
         P (gap_of (token_or_comment o (token (punct p)) ts s).gap (token_or_comment o (token (punct p)) ts s).depth
         ++ (chars (token_or_comment o (token (punct p)) ts s).text ++ ahead
         (token_or_comment o (token (punct p)) ts s).more ts (token_or_comment o (token (punct p)) ts s).state)) ≡ true
+
     by : (o : Option Comment) → comment_next p ts s ≡ o → P (ahead 0 (token (punct p) ∷ ts) s) ≡ true
     by None e =
         let t = the_gap (token (punct p)) ts s in
