@@ -1,6 +1,8 @@
 // Trees as Rust text.
 use mbe_rust_text::writing::Writer;
-use mbe_text::lexer::lex;
+use mbe_text::dialect::Dialect;
+use mbe_text::lexer::{lex, lex_as};
+use mbe_tt::span::Edition;
 use std::alloc::Global;
 use std::process::Abort;
 use std::test::Fail;
@@ -10,13 +12,14 @@ fn write(
     rt: &impl Abort,
     alloc: Global,
     writer: &mut Writer,
+    dialect: Dialect,
     files: u32,
     texts: &str,
 ) -> Result<(), Fail> {
     let mut file = files;
     for text in texts.split('~') {
         assert!(rt; text.len() < 100_000_000);
-        let Ok(tree) = lex(alloc, text, file) else {
+        let Ok(tree) = lex_as(alloc, dialect, text, file) else {
             return Err(Fail::from("not lexed"));
         };
         writer.trees(tree.iter().remaining())?;
@@ -62,15 +65,53 @@ static ROWS: [(&str, &str); 32] = [
     ("a'b", "a 'b"),
 ];
 
-#[test]
-fn tokens_are_kept_apart(rt: HostRuntime) -> Result<(), Fail> {
-    for (texts, want) in &ROWS {
-        let mut writer = Writer::new(rt.alloc(), 0);
-        write(&rt, rt.alloc(), &mut writer, 0, texts)?;
+// Doc comments of one line stay; one of several lines, and an attribute that somebody wrote, are attributes.
+static COMMENTS: [(&str, &str); 14] = [
+    ("/// a", "/// a\n"),
+    ("///\nb", "///\nb"),
+    ("/// a\nb", "/// a\nb"),
+    ("//! a\n//!/b\nc", "//! a\n//!/b\nc"),
+    ("/// a \"# b\nc", "/// a \"# b\nc"),
+    ("/** a */ b", "/// a \nb"),
+    ("/** a\nb */ c", "#[doc = r\" a\nb \"] c"),
+    ("#[doc = r\" a\"] b", "#[doc = r\" a\"] b"),
+    ("a; /// b\nc", "a;\n/// b\nc"),
+    ("{ /// a\nb }", "{\n    /// a\n    b\n}"),
+    ("(/// a\nb)", "(\n/// a\nb)"),
+    ("+/// a\nb", "+\n/// a\nb"),
+    ("/// a\n~b", "/// a\nb"),
+    ("a~/// b\n", "a\n/// b\n"),
+];
+
+// Each row's texts as one text.
+fn are_written(
+    rt: &impl Abort,
+    alloc: Global,
+    dialect: Dialect,
+    rows: &[(&str, &str)],
+) -> Result<(), Fail> {
+    for (texts, want) in rows {
+        let mut writer = Writer::new(alloc, 0);
+        write(rt, alloc, &mut writer, dialect, 0, texts)?;
         let text = writer.into_text();
         assert_eq!(rt; text.as_str(), *want, "{texts:.99}");
     }
     Ok(())
+}
+
+#[test]
+fn tokens_are_kept_apart(rt: HostRuntime) -> Result<(), Fail> {
+    are_written(&rt, rt.alloc(), Dialect::Sample, &ROWS)
+}
+
+#[test]
+fn comments_are_comments(rt: HostRuntime) -> Result<(), Fail> {
+    are_written(
+        &rt,
+        rt.alloc(),
+        Dialect::Rust(Edition::Edition2021),
+        &COMMENTS,
+    )
 }
 
 // `1.a` is three tokens, of which the first two, before a group of another file, would be the number `1.`.
@@ -86,7 +127,7 @@ fn a_number_before_a_dot(rt: HostRuntime) -> Result<(), Fail> {
             writer.trees(tree)?;
         }
     }
-    write(&rt, rt.alloc(), &mut writer, 1, "(2)")?;
+    write(&rt, rt.alloc(), &mut writer, Dialect::Sample, 1, "(2)")?;
     let text = writer.into_text();
     assert_eq!(rt; text.as_str(), "1 .(2)");
     Ok(())
@@ -95,7 +136,14 @@ fn a_number_before_a_dot(rt: HostRuntime) -> Result<(), Fail> {
 #[test]
 fn lines_are_indented(rt: HostRuntime) -> Result<(), Fail> {
     let mut writer = Writer::new(rt.alloc(), 1);
-    write(&rt, rt.alloc(), &mut writer, 0, "a;~{b; c}")?;
+    write(
+        &rt,
+        rt.alloc(),
+        &mut writer,
+        Dialect::Sample,
+        0,
+        "a;~{b; c}",
+    )?;
     let text = writer.into_text();
     assert_eq!(rt; text.as_str(), "a;\n    {\n        b;\n        c\n    }");
     Ok(())

@@ -232,3 +232,35 @@ is_open_brace Open = false
 is_open_brace Close = false
 is_open_brace CloseBrace = false
 is_open_brace Semicolon = false
+
+-- ---- doc comments
+
+-- whether a line begins there
+abbrev pub is_line_start : Last → Bool
+is_line_start Start = true
+is_line_start Word = false
+is_line_start Keyword = false
+is_line_start Literal = false
+is_line_start (Joint c) = false
+is_line_start (Alone c) = false
+is_line_start Colons = false
+is_line_start Open = false
+is_line_start OpenBrace = false
+is_line_start Close = false
+is_line_start CloseBrace = false
+is_line_start Semicolon = false
+
+-- whether a comment may be next: before one a joint punct would be alone
+abbrev pub may_precede_comment : Last → Bool
+may_precede_comment (Joint c) = false
+may_precede_comment Start = true
+may_precede_comment Word = true
+may_precede_comment Keyword = true
+may_precede_comment Literal = true
+may_precede_comment (Alone c) = true
+may_precede_comment Colons = true
+may_precede_comment Open = true
+may_precede_comment OpenBrace = true
+may_precede_comment Close = true
+may_precede_comment CloseBrace = true
+may_precede_comment Semicolon = true

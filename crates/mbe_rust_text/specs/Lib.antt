@@ -1,3 +1,4 @@
+pub mod Comments
 pub mod Gaps
 pub mod Shown
 pub mod Writing

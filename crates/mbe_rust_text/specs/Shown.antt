@@ -1,7 +1,12 @@
 -- What a writer shows, whatever memory holds its text.
 use Rattle.std.specs.String.{string_bytes}
+use Rattle.mbe_rust_text.specs.Comments as spec
 use Rattle.mbe_rust_text.specs.Writing.{State}
+use Rattle.mbe_rust_text.specs.declared.comments.Comment.{Comment}
 use Rattle.mbe_rust_text.specs.declared.writing.Writer.{Writer}
 
 abbrev pub state_of : {A : Type 0} → Writer A → State
 state_of w = record { text = string_bytes w.text; last = w.last; place = w.place; depth = w.depth }
+
+abbrev pub comment_shown : Comment → spec.Comment
+comment_shown c = record { is_inner = c.is_inner; text = c.text.now }

@@ -1,5 +1,5 @@
 -- What trees are as Rust text: a fold over their tokens, with what was written last.
-use Rattle.std.specs.Prelude.{ℕ, ◌+◌, ◌-◌, ◌^◌, Bool, true, false, not, min, ◌&&◌, if◌then◌else◌, codes, List, [], ◌∷◌, ◌++◌, Option, Some, None, option_map}
+use Rattle.std.specs.Prelude.{ℕ, zero, suc, ◌+◌, ◌-◌, ◌^◌, Bool, true, false, not, min, ◌&&◌, if◌then◌else◌, codes, List, [], ◌∷◌, ◌++◌, Option, Some, None, option_map, option_and_then}
 use Rattle.std.specs.Char.{encode_utf8}
 use Rattle.mbe_tt.specs.declared.span.Span.{Span}
 use Rattle.mbe_tt.specs.declared.tt.Punct.{Punct}
@@ -12,7 +12,9 @@ use Rattle.mbe_tt.specs.Trees.Tree.{Forest, none, leaf, group, first, first_span
 use Rattle.mbe_rust_text.specs.declared.gaps.Last.{Last}
 use Rattle.mbe_rust_text.specs.declared.gaps.Last.TheVariants as last
 use Rattle.mbe_rust_text.specs.declared.gaps.Gap.{Gap}
-use Rattle.mbe_rust_text.specs.Gaps.{gap, gap_text, is_beside, is_same_place, is_before, ends_line, last_word, is_word_apart, goes_on, is_literal_apart, is_punct_apart, stays_with, joins_word, joins_literal, is_colon, last_punct, is_one_of, is_opening_apart, is_open_brace}
+use Rattle.mbe_rust_text.specs.declared.gaps.Gap.TheVariants as gaps
+use Rattle.mbe_rust_text.specs.Gaps.{gap, gap_text, is_beside, is_same_place, is_before, ends_line, last_word, is_word_apart, goes_on, is_literal_apart, is_punct_apart, stays_with, joins_word, joins_literal, is_colon, last_punct, is_one_of, is_opening_apart, is_open_brace, is_line_start, may_precede_comment}
+use Rattle.mbe_rust_text.specs.Comments.{Comment, comment_of, more_trees}
 
 -- what was written, what it ends with and where that is, and how many braces are open
 pub record State : Type 0 where
@@ -90,17 +92,52 @@ closed s Bracket place = token (gap false false false) (codes "]") last.Close pl
 closed s Brace place = token (brace_gap s) (codes "}") last.CloseBrace place (shallower s)
 closed s Invisible place = s
 
+-- ---- doc comments
+
+abbrev pub comment_gap : State → Gap
+comment_gap s = gap (not (is_line_start s.last)) false false
+
+abbrev pub comment_marks : Bool → List ℕ
+comment_marks false = codes "///"
+comment_marks true = codes "//!"
+
+-- on a line of its own
+abbrev pub comment_text : Comment → ℕ → List ℕ
+comment_text c depth = comment_marks c.is_inner ++ (c.text ++ gap_text gaps.Line depth)
+
+abbrev pub a_comment : State → Comment → State
+a_comment s c = record {
+  text = s.text ++ (gap_text (comment_gap s) s.depth ++ comment_text c s.depth);
+  last = last.Start;
+  place = None;
+  depth = s.depth;
+}
+
+-- the one that is next, if one is
+abbrev pub next_comment : State → Forest → Option Comment
+next_comment s f = option_and_then (λ c. if may_precede_comment s.last then Some c else None) (comment_of f)
+
 -- ---- trees
 
 -- where the next tree begins
 abbrev pub next_span : Forest → Option Span
 next_span f = option_map first_span (first f)
 
+-- with these trees more, but for the first so many, which are written already
+unfoldable pub written_after : ℕ → Forest → State → State
+written_after n none s = s
+written_after (suc n) (leaf l rest) s = written_after n rest s
+written_after (suc n) (group d inside rest) s = written_after n rest s
+written_after zero (leaf l rest) s = elim (next_comment s (leaf l rest)) [
+  | Some c ↦ written_after (more_trees c.is_inner) rest (a_comment s c)
+  | None ↦ written_after zero rest (a_leaf s l (next_span rest))
+]
+written_after zero (group d inside rest) s =
+    written_after zero rest (closed (written_after zero inside (opened s d.kind d.opening)) d.kind d.close)
+
 -- with these trees more
-unfoldable pub written : Forest → State → State
-written none s = s
-written (leaf l rest) s = written rest (a_leaf s l (next_span rest))
-written (group d inside rest) s = written rest (closed (written inside (opened s d.kind d.opening)) d.kind d.close)
+abbrev pub written : Forest → State → State
+written f s = written_after 0 f s
 
 -- the same, then the closing and the trees that follow it, of each group around, from the innermost
 unfoldable pub written_around : List (Delimiter × Forest) → State → State

@@ -10,6 +10,7 @@ use mbe_tt::tt::Spacing;
 // What was written last.
 #[derive(Clone, Copy, Debug, Drop, PartialEq, Eq)]
 pub(crate) enum Last {
+    // Nothing, or a line that a comment ended.
     Start,
     Word,
     Keyword,
@@ -132,7 +133,7 @@ pub(crate) fn last_punct(spacing: Spacing, char: char, after_colon: bool) -> Las
     }
 }
 
-fn is_joint(spacing: Spacing) -> bool
+pub(crate) fn is_joint(spacing: Spacing) -> bool
     ensures { result ≡ spec.is_joint spacing }
 {
     match spacing {
@@ -314,6 +315,46 @@ impl Last {
             | Last::Close
             | Last::CloseBrace
             | Last::Semicolon => false,
+        }
+    }
+
+    // Whether a line begins there.
+    pub(crate) fn is_line_start(self) -> bool
+        ensures { result ≡ spec.is_line_start self }
+    {
+        match self {
+            Last::Start => true,
+            Last::Word
+            | Last::Keyword
+            | Last::Literal
+            | Last::Joint(_)
+            | Last::Alone(_)
+            | Last::Colons
+            | Last::Open
+            | Last::OpenBrace
+            | Last::Close
+            | Last::CloseBrace
+            | Last::Semicolon => false,
+        }
+    }
+
+    // Whether a comment may be next: before one a joint punct would be alone.
+    pub(crate) fn may_precede_comment(self) -> bool
+        ensures { result ≡ spec.may_precede_comment self }
+    {
+        match self {
+            Last::Joint(_) => false,
+            Last::Start
+            | Last::Word
+            | Last::Keyword
+            | Last::Literal
+            | Last::Alone(_)
+            | Last::Colons
+            | Last::Open
+            | Last::OpenBrace
+            | Last::Close
+            | Last::CloseBrace
+            | Last::Semicolon => true,
         }
     }
 }

@@ -1,5 +1,6 @@
 // Trees as Rust text.
 #![tactic(auto)]
 
+mod comments;
 mod gaps;
 pub mod writing;

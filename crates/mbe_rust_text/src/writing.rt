@@ -1,15 +1,17 @@
 // Trees as Rust text, a line for each statement, with four spaces for each brace around it.
 //
 // Tokens that stand side by side in one file do so here, unless they would run together. Any other two are kept apart by a space, where
-// they would run together or where people write one; puncts that are taken together stay together.
-ghost use Rattle.std.specs.Prelude.{◌≡◌, ◌++◌, OnOk, Some};
+// they would run together or where people write one; puncts that are taken together stay together. Doc comments of one line are written
+// as such.
+ghost use Rattle.std.specs.Prelude.{◌≡◌, ◌++◌, option_map, OnOk, Some};
 ghost use Rattle.std.specs.String.{string_bytes};
 ghost use Rattle.mbe_tt.specs.Views.Shown.{ident_of, literal_of, leaf_of};
 ghost use Rattle.mbe_tt.specs.Views.View.{trees};
 ghost use Rattle.mbe_rust_text.specs.Gaps.{gap_text, indent};
-ghost use Rattle.mbe_rust_text.specs.Shown.{state_of};
+ghost use Rattle.mbe_rust_text.specs.Shown.{comment_shown, state_of};
 ghost use Rattle.mbe_rust_text.specs.Writing as spec;
 
+use crate::comments::{Comment, comment_of, past_comment};
 use crate::gaps::{
     Gap, Last, between, goes_on, is_before, is_beside, is_same_place, last_punct, last_word,
 };
@@ -191,7 +193,35 @@ impl<A: Allocator + Copy> Writer<A> {
         }
     }
 
-    /// Writes the trees.
+    // Writes a doc comment, on a line of its own.
+    fn comment(&mut self, comment: Comment<'_>) -> Result<(), AllocError>
+        ensures { OnOk result (state_of self.new
+            ≡ spec.a_comment (state_of self.old) (comment_shown comment.entry)) }
+    {
+        let gap = between(!self.last.is_line_start(), false, false);
+        self.space(gap)?;
+        self.text.push_str(comment_marks(comment.is_inner))?;
+        self.text.push_str(comment.text)?;
+        self.space(Gap::Line)?;
+        self.last = Last::Start;
+        self.place = None;
+        Ok(())
+    }
+
+    // The doc comment that is next, if one is.
+    fn next_comment<'t>(&self, tokens: TokenTreesView<'t, A>) -> Option<Comment<'t>>
+        ensures { option_map comment_shown result
+            ≡ spec.next_comment (state_of self.now) (trees tokens.entry) }
+    {
+        let comment = comment_of(tokens)?;
+        if self.last.may_precede_comment() {
+            Some(comment)
+        } else {
+            None
+        }
+    }
+
+    /// Writes the trees. What the lexer makes of a doc comment of one line is written as that.
     pub fn trees(&mut self, tokens: TokenTreesView<'_, A>) -> Result<(), AllocError>
         ensures { OnOk result (state_of self.new
             ≡ spec.written (trees tokens.entry) (state_of self.old)) }
@@ -199,6 +229,11 @@ impl<A: Allocator + Copy> Writer<A> {
         let mut around = Vec::new(self.alloc);
         let mut iter = tokens.iter();
         'tokens: loop {
+            if let Some(comment) = self.next_comment(iter.remaining()) {
+                self.comment(comment)?;
+                iter = past_comment(comment.is_inner, iter.remaining()).iter();
+                continue 'tokens;
+            }
             match iter.next() {
                 Some(TtElement::Leaf(leaf)) => self.leaf(leaf, iter.next_span())?,
                 Some(TtElement::Subtree(group, inside)) => {
@@ -217,6 +252,12 @@ impl<A: Allocator + Copy> Writer<A> {
             }
         }
     }
+}
+
+fn comment_marks(is_inner: bool) -> &'static str
+    ensures { result.now ≡ spec.comment_marks is_inner }
+{
+    if is_inner { "//!" } else { "///" }
 }
 
 // `$crate` is written as `crate`.

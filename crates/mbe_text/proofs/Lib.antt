@@ -2,6 +2,7 @@ pub mod Attributes
 pub mod BlankLemmas
 pub mod CharacterLemmas
 pub mod DivisionLemmas
+pub mod LineDocs
 pub mod Lines
 pub mod LiteralLemmas
 pub mod Made

@@ -216,8 +216,9 @@ fn punct<A: Allocator>(char: char, spacing: Spacing, span: Span) -> Leaf<A>
     })
 }
 
-// How many `#` a raw string of this text needs: one more than follow any `"` in it, and at most 255.
-fn hashes_around(text: &str) -> u8
+/// How many `#` the raw string of a doc comment with this text has: one more than follow any `"` in it, and at most 255. None where it
+/// has no `"`.
+pub fn hashes_around(text: &str) -> u8
     ensures { result ≡ most_guards 0 text.now }
 {
     let mut most = 0u8;

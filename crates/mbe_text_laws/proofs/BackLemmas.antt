@@ -5,7 +5,7 @@ use Rattle.std.proofs.lemmas.Str.{chars-append, chars-nil, IsUtf8-append}
 use Rattle.mbe_tt.specs.Buffers.Building.{Levels, put, closed, kind_inside}
 use Rattle.mbe_tt.specs.Trees.Leaf.{Leaf, Ident, Literal, literal, punct, ident}
 use Rattle.mbe_tt.specs.Trees.Literals.{raw_prefix, literal_output}
-use Rattle.mbe_tt.specs.Trees.Tree.{Forest, none, leaf, one_leaf, FlatToken, token, opening, closing, flat, is_same_kind}
+use Rattle.mbe_tt.specs.Trees.Tree.{Forest, none, leaf, group, one_leaf, FlatToken, token, opening, closing, flat, is_same_kind}
 use Rattle.mbe_tt.specs.Trees.Top.{no_span}
 use Rattle.mbe_tt.specs.declared.span.Edition.{Edition}
 use Rattle.mbe_tt.specs.declared.span.Span.{Span}
@@ -17,21 +17,24 @@ use Rattle.mbe_tt.specs.declared.tt.IdentIsRaw.{IdentIsRaw}
 use Rattle.mbe_tt.specs.declared.tt.IdentIsRaw.TheVariants.{Yes, No}
 use Rattle.mbe_tt.specs.declared.tt.DelimiterKind.{DelimiterKind}
 use Rattle.mbe_tt.specs.declared.tt.DelimiterKind.TheVariants.{Parenthesis, Brace, Bracket, Invisible}
+use Rattle.mbe_rust_text.specs.Comments.{Comment, is_line}
 use Rattle.mbe_rust_text.specs.Gaps.{is_one_of, is_joint}
-use Rattle.mbe_rust_text.specs.Writing.{State, start, word, a_literal, a_punct, name_text}
+use Rattle.mbe_rust_text.specs.Writing.{State, start, word, a_literal, a_punct, a_comment, comment_marks, comment_text, name_text}
 use Rattle.mbe_text.specs.declared.dialect.Dialect.{Dialect}
 use Rattle.mbe_text.specs.declared.dialect.Dialect.TheVariants.{Rust}
 use Rattle.mbe_text.specs.Division.{Taken, next_token, item_taken, after_item, levels_of, levels_at_end, trees_of, is_inside, span_of_taken}
 use Rattle.mbe_text.specs.Characters.{begins_with}
-use Rattle.mbe_text.specs.Shapes.{Shape, identifier, literal_of, lifetime_of, punct_of}
+use Rattle.mbe_text.specs.Shapes.{Shape, identifier, literal_of, lifetime_of, punct_of, doc_of}
 use Rattle.mbe_text.specs.Shapes as shape
-use Rattle.mbe_text.specs.Tokens.{opening_text, closing_text, lifetime_trees, whole, bytes_of}
+use Rattle.mbe_text.specs.Tokens.{opening_text, closing_text, lifetime_trees, doc_trees, doc_group, most_guards, whole, bytes_of}
 use Rattle.mbe_text.specs.Trivia.{after_head}
 use Rattle.mbe_text_laws.specs.Back.{TreesComeBack, bare, bare_leaf, bare_delimiter}
 use Rattle.mbe_text_laws.specs.Rust.{is_start, begins_literal, may_be_lifetime, IsLifetime, AreRust, IsIdent, IsSign, IsPunct, next_place}
 use Rattle.mbe_text_laws.proofs.EndLemmas.{punct_small, begins_gap, mark_not_start, start_not_hash}
 use Rattle.mbe_text_laws.proofs.StepLemmas.{taken}
-use Rattle.mbe_text_laws.proofs.TextLemmas.{spelled, after, ahead, left, the_gap, gap_depth, gap_of, gap_chars, gap_is_blank, text_of_is, word_text, ascii_utf8}
+use Rattle.mbe_text_laws.proofs.CommentLemmas.{comment_next, comment_case, more_tokens, no_comment_at, IsSetting}
+use Rattle.mbe_text_laws.proofs.DocLemmas.{comment_utf8, comment_chars, comment_reads, raw_text_utf8, line_gap}
+use Rattle.mbe_text_laws.proofs.TextLemmas.{spelled, after, ahead, left, count, next_written, token_or_comment, reasons, the_gap, gap_of, gap_chars, gap_is_blank, text_of_is, word_text, ascii_utf8}
 use Rattle.mbe_text_laws.proofs.FollowLemmas.{letters, is_side, sign_small, follows, fronted, word_front, ends_alone, alone_ends, alone_like, is_sign, punct_is, opening_is, closing_is, word_like, word_ends}
 use Rattle.mbe_text_laws.proofs.NextLemmas.{punct_before, literal_before, no_line}
 use Rattle.mbe_text_laws.proofs.ReadLemmas.{Reads, reads_same, word_reads, lifetime_reads, literal_reads, punct_reads, opening_reads, closing_reads}
@@ -61,71 +64,106 @@ later e (token l) ts h = h.1
 later e (opening d) ts h = h.1
 later e (closing d) ts h = h.1
 
-pub chars_left : (e : Edition) (ts : List FlatToken) (s : State) → AreRust e ts → chars (left ts s) ≡ ahead ts s
-chars_left e [] s h = chars-nil
-chars_left e (t ∷ ts) s h =
-    gap_chars (the_gap t ts s) (gap_depth t s) (spelled t ++ left ts (after t ts s))
-    ∙ ap (λ (x : List ℕ). gap_of (the_gap t ts s) (gap_depth t s) ++ x) (chars-append (spelled t) (left ts
-    (after t ts s)) (utf8_of e t ts h)
-    ∙ ap (λ (x : List ℕ). chars (spelled t) ++ x) (chars_left e ts (after t ts s) (later e t ts h)))
+-- a comment's text
+text_utf8 : (e : Edition) (p : Punct) (ts : List FlatToken) (s : State) (c : Comment) → AreRust e ts
+    → comment_next p ts s ≡ Some c → IsUtf8 c.text
+text_utf8 e p ts s c h m =
+    comment_case (λ us x. AreRust e us → IsUtf8 x.text) p ts s c
+    (λ d n v k i q l end us is line r. raw_text_utf8 l (most_guards 0 l.text_and_suffix) is.no_suffix is.raw r.1.1.1.0.0.utf8)
+    (λ o d n v m w k i q l end us is line r. raw_text_utf8 l (most_guards 0 l.text_and_suffix) is.no_suffix is.raw r.1.1.1.1.0.0.utf8)
+    m h
+
+written_utf8 : (e : Edition) (t : FlatToken) (ts : List FlatToken) (s : State) → AreRust e (t ∷ ts)
+    → IsUtf8 (next_written t ts s).text
+written_utf8 e (token (ident i)) ts s h = utf8_of e (token (ident i)) ts h
+written_utf8 e (token (literal l)) ts s h = utf8_of e (token (literal l)) ts h
+written_utf8 e (opening d) ts s h = utf8_of e (opening d) ts h
+written_utf8 e (closing d) ts s h = utf8_of e (closing d) ts h
+written_utf8 e (token (punct p)) ts s h = by (comment_next p ts s) refl
+  where
+    by : (o : Option Comment) → comment_next p ts s ≡ o → IsUtf8 (token_or_comment o (token (punct p)) ts s).text
+    by None m = utf8_of e (token (punct p)) ts h
+    by (Some c) m = comment_utf8 c s.depth (text_utf8 e p ts s c h.1 m)
+
+pub chars_left : (e : Edition) (n : ℕ) (ts : List FlatToken) (s : State) → AreRust e ts → chars (left n ts s) ≡ ahead n ts s
+chars_left e n [] s h = chars-nil
+chars_left e (suc n) (t ∷ ts) s h = chars_left e n ts s (later e t ts h)
+chars_left e zero (t ∷ ts) s h =
+    let w = next_written t ts s in
+    gap_chars w.gap w.depth (w.text ++ left w.more ts w.state)
+    ∙ ap (λ (x : List ℕ). gap_of w.gap w.depth ++ x) (chars-append w.text (left w.more ts w.state) (written_utf8 e t ts s h)
+    ∙ ap (λ (x : List ℕ). chars w.text ++ x) (chars_left e w.more ts w.state (later e t ts h)))
 
 -- ---- one token is read
 
 read_after : (e : Edition) (total : ℕ) (t : FlatToken) (ts : List FlatToken) (s : State) (shape : Shape) (rest : List ℕ)
-    → Reads e total (chars (spelled t) ++ ahead ts (after t ts s)) shape rest
-    → Reads e total (ahead (t ∷ ts) s) shape rest
-read_after e total t ts s shape rest r = record {
-  from = r.from;
-  is = gap_is_blank (Rust e) total (gap_depth t s) (the_gap t ts s) (chars (spelled t) ++ ahead ts (after t ts s))
-      ∙ r.is;
-}
+    → Reads e total (chars (next_written t ts s).text ++ ahead (next_written t ts s).more ts (next_written t ts s).state) shape rest
+    → Reads e total (ahead 0 (t ∷ ts) s) shape rest
+read_after e total t ts s shape rest r =
+    let w = next_written t ts s in record {
+      from = r.from;
+      is = gap_is_blank (Rust e) total w.depth w.gap (chars w.text ++ ahead w.more ts w.state) ∙ r.is;
+    }
+
+-- a punct that begins no comment
+punct_after : (e : Edition) (total : ℕ) (p : Punct) (ts : List FlatToken) (s : State) (shape : Shape) (rest : List ℕ)
+    → comment_next p ts s ≡ None
+    → Reads e total (chars (encode_utf8 p.char) ++ ahead 0 ts (after (token (punct p)) ts s)) shape rest
+    → Reads e total (ahead 0 (token (punct p) ∷ ts) s) shape rest
+punct_after e total p ts s shape rest plain r =
+    read_after e total (token (punct p)) ts s shape rest (rw plain r)
 
 reads_ident : (e : Edition) (total : ℕ) (i : Ident) (ts : List FlatToken) (s : State) → IsIdent i → AreRust e ts
-    → Reads e total (ahead (token (ident i) ∷ ts) s) (identifier i.sym i.is_raw) (ahead ts (word s i))
+    → Reads e total (ahead 0 (token (ident i) ∷ ts) s) (identifier i.sym i.is_raw) (ahead 0 ts (word s i))
 reads_ident e total i ts s h r =
-    let rest = ahead ts (word s i) in
+    let rest = ahead 0 ts (word s i) in
     read_after e total (token (ident i)) ts s (identifier i.sym i.is_raw) rest
     (reads_same e total (chars (raw_prefix i.is_raw ++ name_text i.sym) ++ rest) (chars
     (raw_prefix i.is_raw ++ i.sym) ++ rest) rest (identifier i.sym i.is_raw)
     (ap (λ (x : List ℕ). chars (raw_prefix i.is_raw ++ x) ++ rest) (word_text i.sym h.0))
     (word_reads e total i.is_raw i.sym rest h.0 h.1 (word_ends e ts (word s i) (word_like s i) r)))
 
+tick_no_hash : (c : ℕ) → (c == 39) ≡ true → (c == 35) ≡ false
+tick_no_hash c h = grind (arith, nat_tests, h)
+
 reads_lifetime : (e : Edition) (total c : ℕ) (place : Span) (i : Ident) (ts : List FlatToken) (s : State)
     → (c == 39) ≡ true → IsIdent i
     → may_be_lifetime e i.is_raw ≡ true → AreRust e ts
-    → Reads e total (ahead (token (punct (record { char = c; spacing = Joint; span = place })) ∷ (token
+    → Reads e total (ahead 0 (token (punct (record { char = c; spacing = Joint; span = place })) ∷ (token
     (ident i) ∷ ts)) s) (lifetime_of i.sym i.is_raw)
-    (ahead ts (word (a_punct s (record { char = c; spacing = Joint; span = place }) (Some i.span)) i))
+    (ahead 0 ts (word (a_punct s (record { char = c; spacing = Joint; span = place }) (Some i.span)) i))
 reads_lifetime e total c place i ts s h w m r =
     let p : Punct = record { char = c; spacing = Joint; span = place } in
     let state = a_punct s p (Some i.span) in
-    let rest = ahead ts (word state i) in
+    let rest = ahead 0 ts (word state i) in
     let g = the_gap (token (ident i)) ts state in
     let small : c < 128 = grind (arith, nat_tests, h) in
     let is39 : c ≡ 39 = grind (arith, nat_tests, h) in
     let near : not (is_one_of c (codes ".#$'")) ≡ false = grind (arith, nat_tests, h) in
-    let gone : ahead (token (ident i) ∷ ts) state ≡ chars (raw_prefix i.is_raw ++ name_text i.sym) ++ rest =
+    let gone : ahead 0 (token (ident i) ∷ ts) state ≡ chars (raw_prefix i.is_raw ++ name_text i.sym) ++ rest =
     no_line g.line g.apart g.beside s.depth (chars (raw_prefix i.is_raw ++ name_text i.sym) ++ rest) refl near in
-    let text : chars (encode_utf8 c) ++ ahead (token (ident i) ∷ ts) state ≡ 39 ∷ (chars
+    let text : chars (encode_utf8 c) ++ ahead 0 (token (ident i) ∷ ts) state ≡ 39 ∷ (chars
     (raw_prefix i.is_raw ++ i.sym) ++ rest) =
-    ap (λ (x : List ℕ). x ++ ahead (token (ident i) ∷ ts) state) (punct_is c small).one
-    ∙ (ap (λ (x : ℕ). x ∷ ahead (token (ident i) ∷ ts) state) is39
+    ap (λ (x : List ℕ). x ++ ahead 0 (token (ident i) ∷ ts) state) (punct_is c small).one
+    ∙ (ap (λ (x : ℕ). x ∷ ahead 0 (token (ident i) ∷ ts) state) is39
     ∙ (ap (λ (x : List ℕ). 39 ∷ x) gone
     ∙ ap (λ (x : List ℕ). 39 ∷ (chars (raw_prefix i.is_raw ++ x) ++ rest)) (word_text i.sym w.0))) in
-    read_after e total (token (punct p)) (token (ident i) ∷ ts) s (lifetime_of i.sym i.is_raw) rest
-    (reads_same e total (chars (encode_utf8 c) ++ ahead (token (ident i) ∷ ts) state) (39 ∷ (chars
+    punct_after e total p (token (ident i) ∷ ts) s (lifetime_of i.sym i.is_raw) rest
+    (no_comment_at p (token (ident i) ∷ ts) s (tick_no_hash c h))
+    (reads_same e total (chars (encode_utf8 c) ++ ahead 0 (token (ident i) ∷ ts) state) (39 ∷ (chars
     (raw_prefix i.is_raw ++ i.sym) ++ rest)) rest
     (lifetime_of i.sym i.is_raw) text
     (lifetime_reads e total i.is_raw i.sym rest w.0 w.1 m (word_ends e ts (word state i) (word_like state i) r)))
 
 reads_sign : (e : Edition) (total c : ℕ) (sp : Spacing) (place : Span) (ts : List FlatToken) (s : State)
     → IsSign false e (record { char = c; spacing = sp; span = place }) ts → AreRust e ts
-    → Reads e total (ahead (token (punct (record { char = c; spacing = sp; span = place })) ∷ ts) s) (punct_of c sp)
-    (ahead ts (a_punct s (record { char = c; spacing = sp; span = place }) (next_place ts)))
-reads_sign e total c sp place ts s h r =
+    → comment_next (record { char = c; spacing = sp; span = place }) ts s ≡ None
+    → Reads e total (ahead 0 (token (punct (record { char = c; spacing = sp; span = place })) ∷ ts) s) (punct_of c sp)
+    (ahead 0 ts (a_punct s (record { char = c; spacing = sp; span = place }) (next_place ts)))
+reads_sign e total c sp place ts s h r plain =
     let p : Punct = record { char = c; spacing = sp; span = place } in
-    let rest = ahead ts (a_punct s p (next_place ts)) in
-    read_after e total (token (punct p)) ts s (punct_of c sp) rest
+    let rest = ahead 0 ts (a_punct s p (next_place ts)) in
+    punct_after e total p ts s (punct_of c sp) rest plain
     (reads_same e total (chars (encode_utf8 c) ++ rest) (c ∷ rest) rest (punct_of c sp)
     (ap (λ (x : List ℕ). x ++ rest) (punct_is c (punct_small c h.0)).one)
     (punct_reads e total c sp rest h.0 (punct_before e c sp place s ts h r)))
@@ -174,18 +212,19 @@ closes k span levels h =
 sign_comes : (e : Edition) (file total n c : ℕ) (sp : Spacing) (place : Span) (ts : List FlatToken) (s : State)
     (levels want : Levels)
     → IsSign false e (record { char = c; spacing = sp; span = place }) ts → AreRust e ts → bare_levels levels ≡ want
+    → comment_next (record { char = c; spacing = sp; span = place }) ts s ≡ None
     → ((new : Levels) → bare_levels new ≡ step (token (punct (record { char = c; spacing = sp; span = place }))) want
-    → Comes e file total n new (ahead ts (a_punct s (record { char = c; spacing = sp; span = place }) (next_place ts)))
+    → Comes e file total n new (ahead 0 ts (a_punct s (record { char = c; spacing = sp; span = place }) (next_place ts)))
     (made ts (step (token (punct (record { char = c; spacing = sp; span = place }))) want)))
-    → Comes e file total (suc n) levels (ahead (token (punct (record { char = c; spacing = sp; span = place })) ∷ ts) s)
+    → Comes e file total (suc n) levels (ahead 0 (token (punct (record { char = c; spacing = sp; span = place })) ∷ ts) s)
     (made (token (punct (record { char = c; spacing = sp; span = place })) ∷ ts) want)
-sign_comes e file total n c sp place ts s levels want h r same go =
+sign_comes e file total n c sp place ts s levels want h r same plain go =
     let p : Punct = record { char = c; spacing = sp; span = place } in
-    let rest = ahead ts (a_punct s p (next_place ts)) in
-    let read = reads_sign e total c sp place ts s h r in
+    let rest = ahead 0 ts (a_punct s p (next_place ts)) in
+    let read = reads_sign e total c sp place ts s h r plain in
     let span = span_of_taken file total (taken (punct_of c sp) read.from rest) in
     let one : Forest = one_leaf (punct (record { char = c; spacing = sp; span = span })) in
-    comes_on e file total n levels (put one levels) (ahead (token (punct p) ∷ ts) s) rest (punct_of c sp) (made
+    comes_on e file total n levels (put one levels) (ahead 0 (token (punct p) ∷ ts) s) rest (punct_of c sp) (made
     (token (punct p) ∷ ts) want) read refl
     (go (put one levels) (bare_put one levels ∙ ap (put (one_leaf (bare_leaf (punct p)))) same))
 
@@ -195,23 +234,23 @@ lifetime_comes : (e : Edition) (file total n c : ℕ) (sp : Spacing) (place : Sp
     → (c == 39) ≡ true → IsLifetime e sp (token (ident i) ∷ ts) → IsIdent i → AreRust e ts → bare_levels levels ≡ want
     → ((new : Levels) → bare_levels new ≡ step (token (ident i)) (step (token (punct
     (record { char = c; spacing = sp; span = place }))) want)
-    → Comes e file total n new (ahead ts (word (a_punct s (record { char = c; spacing = sp; span = place })
+    → Comes e file total n new (ahead 0 ts (word (a_punct s (record { char = c; spacing = sp; span = place })
     (Some i.span)) i))
     (made ts (step (token (ident i)) (step (token (punct (record { char = c; spacing = sp; span = place }))) want))))
-    → Comes e file total (suc n) levels (ahead (token (punct (record { char = c; spacing = sp; span = place })) ∷
+    → Comes e file total (suc n) levels (ahead 0 (token (punct (record { char = c; spacing = sp; span = place })) ∷
     (token (ident i) ∷ ts)) s)
     (made (token (punct (record { char = c; spacing = sp; span = place })) ∷ (token (ident i) ∷ ts)) want)
 lifetime_comes e file total n c Alone place i ts s levels want h l w r same go = absurd (l)
 lifetime_comes e file total n c Joint place i ts s levels want h l w r same go =
     let p : Punct = record { char = c; spacing = Joint; span = place } in
-    let rest = ahead ts (word (a_punct s p (Some i.span)) i) in
+    let rest = ahead 0 ts (word (a_punct s p (Some i.span)) i) in
     let read = reads_lifetime e total c place i ts s h w l r in
     let shape = lifetime_of i.sym i.is_raw in
     let span = span_of_taken file total (taken shape read.from rest) in
     let two : Forest = lifetime_trees span i.sym i.is_raw in
     let is39 : c ≡ 39 = grind (arith, nat_tests, h) in
     let mine : Leaf = bare_leaf (ident i) in
-    comes_on e file total n levels (put two levels) (ahead (token (punct p) ∷ (token (ident i) ∷ ts)) s) rest shape
+    comes_on e file total n levels (put two levels) (ahead 0 (token (punct p) ∷ (token (ident i) ∷ ts)) s) rest shape
     (made (token (punct p) ∷ (token (ident i) ∷ ts)) want) read refl
     (go (put two levels) (bare_put two levels
     ∙ (ap (put (leaf (bare_leaf (punct (record { char = 39; spacing = Joint; span = place }))) (leaf mine none))) same
@@ -242,9 +281,181 @@ is_no_tick : (e : Edition) (p : Punct) (ts : List FlatToken) (b : Bool) → name
 is_no_tick e p ts true h s = absurd (no_lifetime e p.spacing ts h s)
 is_no_tick e p ts false h s = s
 
-come : (e : Edition) (file total n : ℕ) (ts : List FlatToken) (s : State) (levels want : Levels) → AreRust e ts
-    → Fit ts want → bare_levels levels ≡ want
-    → length ts ≤ n → Comes e file total n levels (ahead ts s) (made ts want)
+-- so many steps make these tokens
+abbrev Come : Edition → ℕ → ℕ → ℕ → Type 0
+Come e file total n =
+    (ts : List FlatToken) (s : State) (levels want : Levels) → AreRust e ts → Fit ts want → bare_levels levels ≡ want
+    → count 0 ts s ≤ n → Comes e file total n levels (ahead 0 ts s) (made ts want)
+
+-- the same of tokens that begin with a punct
+abbrev ComesAt : Edition → ℕ → ℕ → ℕ → Punct → List FlatToken → State → Levels → Levels → Type 0
+ComesAt e file total n p ts s levels want =
+    Comes e file total (suc n) levels (ahead 0 (token (punct p) ∷ ts) s) (made (token (punct p) ∷ ts) want)
+
+-- ---- a punct
+
+-- where no name follows it
+no_name_comes : (e : Edition) (file total n : ℕ) (go : Come e file total n) (p : Punct) (ts : List FlatToken) (s : State)
+    (levels want : Levels)
+    → AreRust e (token (punct p) ∷ ts) → Fit (token (punct p) ∷ ts) want → bare_levels levels ≡ want
+    → comment_next p ts s ≡ None → count 0 ts (after (token (punct p)) ts s) ≤ n → names ts ≡ false
+    → ComesAt e file total n p ts s levels want
+no_name_comes e file total n go p ts s levels want h f same plain le unnamed =
+    sign_comes e file total n p.char p.spacing p.span ts s levels want (is_no_tick e p ts (p.char == 39) unnamed h.0) h.1 same plain
+    (λ new q. go ts (a_punct s p (next_place ts)) new (step (token (punct p)) want) h.1 f q le)
+
+sign_or_lifetime : (e : Edition) (file total n : ℕ) (go : Come e file total n) (p : Punct) (ts : List FlatToken) (s : State)
+    (levels want : Levels)
+    → AreRust e (token (punct p) ∷ ts) → Fit (token (punct p) ∷ ts) want → bare_levels levels ≡ want
+    → comment_next p ts s ≡ None → count 0 ts (after (token (punct p)) ts s) ≤ n → ComesAt e file total n p ts s levels want
+sign_or_lifetime e file total n go p [] s levels want h f same plain le =
+    no_name_comes e file total n go p [] s levels want h f same plain le refl
+sign_or_lifetime e file total n go p (token (literal l) ∷ ts) s levels want h f same plain le =
+    no_name_comes e file total n go p (token (literal l) ∷ ts) s levels want h f same plain le refl
+sign_or_lifetime e file total n go p (token (punct o) ∷ ts) s levels want h f same plain le =
+    no_name_comes e file total n go p (token (punct o) ∷ ts) s levels want h f same plain le refl
+sign_or_lifetime e file total n go p (opening d ∷ ts) s levels want h f same plain le =
+    no_name_comes e file total n go p (opening d ∷ ts) s levels want h f same plain le refl
+sign_or_lifetime e file total n go p (closing d ∷ ts) s levels want h f same plain le =
+    no_name_comes e file total n go p (closing d ∷ ts) s levels want h f same plain le refl
+sign_or_lifetime e file total n go p (token (ident i) ∷ ts) s levels want h f same plain le = by (p.char == 39) refl h.0
+  where
+    by : (b : Bool) → (p.char == 39) ≡ b → IsSign b e p (token (ident i) ∷ ts)
+        → ComesAt e file total n p (token (ident i) ∷ ts) s levels want
+    by true t l =
+        lifetime_comes e file total n p.char p.spacing p.span i ts s levels want t l h.1.0 h.1.1 same
+        (λ new q. go ts (word (a_punct s p (Some i.span)) i) new (step (token (ident i)) (step (token (punct p)) want)) h.1.1 f q
+        (omega (arith, le)))
+    by false t l =
+        sign_comes e file total n p.char p.spacing p.span (token (ident i) ∷ ts) s levels want l h.1 same plain
+        (λ new q. go (token (ident i) ∷ ts) (a_punct s p (Some i.span)) new (step (token (punct p)) want) h.1 f q le)
+
+-- ---- a comment
+
+-- the tokens of a comment make what the lexer makes of it
+record CommentMakes (e : Edition) (ts : List FlatToken) (c : Comment) (levels want : Levels) : Type 0 where
+  pub rest : List FlatToken
+  pub rust : AreRust e rest
+  pub utf8 : IsUtf8 c.text
+  pub line : is_line c.is_inner c.text ≡ true
+  pub new : Levels
+  pub fit : Fit rest new
+  pub made_is : levels ≡ made rest new
+  pub new_is : new ≡ put (bare (doc_trees no_span c.text c.is_inner)) want
+  pub ahead_is : (s : State) → ahead (more_tokens c.is_inner) ts s ≡ ahead 0 rest s
+  pub count_is : (s : State) → count (more_tokens c.is_inner) ts s ≡ count 0 rest s
+
+-- trees of these tokens
+abbrev bare_punct : ℕ → Spacing → Leaf
+bare_punct c sp = punct (record { char = c; spacing = sp; span = no_span })
+
+abbrev bare_group : DelimiterKind → Ident → Punct → Literal → Forest
+bare_group k i q l =
+    group (record { opening = no_span; close = no_span; kind = k })
+    (leaf (bare_leaf (ident i)) (leaf (bare_leaf (punct q)) (leaf (bare_leaf (literal l)) none))) none
+
+bare_group_is : (k : DelimiterKind) (i : Ident) (q : Punct) (l : Literal) → k ≡ Bracket → IsSetting i q l
+    → bare_group k i q l ≡ bare (doc_group no_span l.text_and_suffix)
+bare_group_is k i q l b is =
+    rw (b, is.doc, is.plain, is.equals, is.alone, is.no_suffix, is.raw) refl
+
+outer_makes : (e : Edition) (p : Punct) (ts : List FlatToken) (s : State) (c : Comment) (want : Levels)
+    → AreRust e ts → Fit (token (punct p) ∷ ts) want → comment_next p ts s ≡ Some c
+    → CommentMakes e ts c (made (token (punct p) ∷ ts) want) want
+outer_makes e p ts s c want r f m =
+    comment_case (λ us x. AreRust e us → Fit (token (punct p) ∷ us) want
+    → CommentMakes e us x (made (token (punct p) ∷ us) want) want) p ts s c
+    (λ d hash alone k i q l end us is line rust fit.
+    let own : Forest = leaf (punct p) (group d (leaf (ident i) (leaf (punct q) (leaf (literal l) none))) none) in record {
+      rest = us;
+      rust = rust.1.1.1.1.1;
+      utf8 = raw_text_utf8 l (most_guards 0 l.text_and_suffix) is.no_suffix is.raw rust.1.1.1.0.0.utf8;
+      line = line;
+      new = made (flat own) want;
+      fit = fit.1;
+      made_is = refl;
+      new_is = made_flat own [] want ∙ ap (λ (x : Forest). put x want) (rw (hash, alone)
+          (ap (leaf (bare_punct 35 Alone)) (bare_group_is d.kind i q l k is)));
+      ahead_is = λ t. refl;
+      count_is = λ t. refl;
+    })
+    (λ o d hash joint bang alone k i q l end us is line rust fit.
+    let own : Forest = leaf (punct p) (leaf (punct o) (group d (leaf (ident i) (leaf (punct q) (leaf (literal l) none))) none)) in record {
+      rest = us;
+      rust = rust.1.1.1.1.1.1;
+      utf8 = raw_text_utf8 l (most_guards 0 l.text_and_suffix) is.no_suffix is.raw rust.1.1.1.1.0.0.utf8;
+      line = line;
+      new = made (flat own) want;
+      fit = fit.1;
+      made_is = refl;
+      new_is = made_flat own [] want ∙ ap (λ (x : Forest). put x want) (rw (hash, joint, bang, alone)
+          (ap (λ (x : Forest). leaf (bare_punct 35 Joint) (leaf (bare_punct 33 Alone) x)) (bare_group_is d.kind i q l k is)));
+      ahead_is = λ t. refl;
+      count_is = λ t. refl;
+    })
+    m r f
+
+bare_doc : (b : Bool) (span : Span) (text : List ℕ) → bare (doc_trees span text b) ≡ bare (doc_trees no_span text b)
+bare_doc true span text = refl
+bare_doc false span text = refl
+
+-- blanks make nothing
+gap_comes : (e : Edition) (file total n depth : ℕ) (levels want : Levels) (cs : List ℕ) → Comes e file total n levels cs want
+    → Comes e file total n levels (line_gap depth ++ cs) want
+gap_comes e file total n depth levels want cs c = record {
+  levels_at_end = c.levels_at_end;
+  read = passed n ∙ c.read;
+  same = c.same;
+}
+  where
+    passed : (k : ℕ) → levels_of (Rust e) file total k levels (line_gap depth ++ cs) ≡ levels_of (Rust e) file total k levels cs
+    passed zero = refl
+    passed (suc k) = rw (levels_of, gap_is_blank (Rust e) total depth (reasons true false false) cs) refl
+
+comment_comes : (e : Edition) (file total n : ℕ) (go : Come e file total n) (p : Punct) (ts : List FlatToken) (s : State)
+    (levels want : Levels) (c : Comment)
+    → AreRust e ts → Fit (token (punct p) ∷ ts) want → bare_levels levels ≡ want
+    → comment_next p ts s ≡ Some c → count (more_tokens c.is_inner) ts (a_comment s c) ≤ n
+    → ComesAt e file total n p ts s levels want
+comment_comes e file total n go p ts s levels want c r f same m le =
+    let k = outer_makes e p ts s c want r f m in
+    let state = a_comment s c in
+    let more = ahead (more_tokens c.is_inner) ts state in
+    let rest : List ℕ = line_gap s.depth ++ more in
+    let shape = doc_of c.text c.is_inner in
+    let read = read_after e total (token (punct p)) ts s shape rest (rw m (comment_reads e total c s.depth more k.utf8 k.line)) in
+    let span = span_of_taken file total (taken shape read.from rest) in
+    let trees : Forest = doc_trees span c.text c.is_inner in
+    let new_is : bare_levels (put trees levels) ≡ k.new =
+    bare_put trees levels ∙ (ap (λ (x : Levels). put (bare trees) x) same
+    ∙ (ap (λ (x : Forest). put x want) (bare_doc c.is_inner span c.text) ∙ sym k.new_is)) in
+    let few : count 0 k.rest state ≤ n = subst (λ (x : ℕ). x ≤ n) (k.count_is state) le in
+    let later = go k.rest state (put trees levels) k.new k.rust k.fit new_is few in
+    let here : Comes e file total n (put trees levels) more (made (token (punct p) ∷ ts) want) =
+    subst (λ (x : List ℕ). Comes e file total n (put trees levels) x (made (token (punct p) ∷ ts) want)) (sym (k.ahead_is state))
+    (subst (λ (x : Levels). Comes e file total n (put trees levels) (ahead 0 k.rest state) x) (sym k.made_is) later) in
+    comes_on e file total n levels (put trees levels) (ahead 0 (token (punct p) ∷ ts) s) rest shape
+    (made (token (punct p) ∷ ts) want) read refl
+    (gap_comes e file total n s.depth (put trees levels) (made (token (punct p) ∷ ts) want) more here)
+
+punct_comes : (e : Edition) (file total n : ℕ) (go : Come e file total n) (p : Punct) (ts : List FlatToken) (s : State)
+    (levels want : Levels)
+    → AreRust e (token (punct p) ∷ ts) → Fit (token (punct p) ∷ ts) want → bare_levels levels ≡ want
+    → count 0 (token (punct p) ∷ ts) s ≤ suc n → ComesAt e file total n p ts s levels want
+punct_comes e file total n go p ts s levels want h f same le = by (comment_next p ts s) refl
+  where
+    few : (o : Option Comment) → comment_next p ts s ≡ o
+        → count (token_or_comment o (token (punct p)) ts s).more ts (token_or_comment o (token (punct p)) ts s).state ≤ n
+    few o m =
+        let k : suc (count (token_or_comment o (token (punct p)) ts s).more ts (token_or_comment o (token (punct p)) ts s).state) ≤ suc n =
+        subst (λ (x : Option Comment). suc (count (token_or_comment x (token (punct p)) ts s).more ts
+        (token_or_comment x (token (punct p)) ts s).state) ≤ suc n) m le in omega (arith, k)
+
+    by : (o : Option Comment) → comment_next p ts s ≡ o → ComesAt e file total n p ts s levels want
+    by None m = sign_or_lifetime e file total n go p ts s levels want h f same m (few None m)
+    by (Some c) m = comment_comes e file total n go p ts s levels want c h.1 f same m (few (Some c) m)
+
+come : (e : Edition) (file total n : ℕ) → Come e file total n
 come e file total n [] s levels want h f same le = record {
   levels_at_end = levels;
   read = at_end e file total n
@@ -253,16 +464,16 @@ come e file total n [] s levels want h f same le = record {
 }
 come e file total zero (t ∷ ts) s levels want h f same le = absurd (omega (arith, le))
 come e file total (suc n) (token (ident i) ∷ ts) s levels want h f same le =
-    let rest = ahead ts (word s i) in
+    let rest = ahead 0 ts (word s i) in
     let r = reads_ident e total i ts s h.0 h.1 in
     let span = span_of_taken file total (taken (identifier i.sym i.is_raw) r.from rest) in
     let one : Forest = one_leaf (ident (record { sym = i.sym; is_raw = i.is_raw; span = span })) in
-    comes_on e file total n levels (put one levels) (ahead (token (ident i) ∷ ts) s) rest
+    comes_on e file total n levels (put one levels) (ahead 0 (token (ident i) ∷ ts) s) rest
     (identifier i.sym i.is_raw) (made (token (ident i) ∷ ts) want) r refl
     (come e file total n ts (word s i) (put one levels) (step (token (ident i)) want) h.1 f
     (bare_put one levels ∙ ap (put (one_leaf (bare_leaf (ident i)))) same) (omega (arith, le)))
 come e file total (suc n) (token (literal l) ∷ ts) s levels want h f same le =
-    let rest = ahead ts (a_literal s l) in
+    let rest = ahead 0 ts (a_literal s l) in
     let b = literal_before e l s ts h.0.0 h.0.1 h.1 in
     let shape = literal_of b.text b.suffix l.suffix_len l.kind in
     let r = read_after e total (token (literal l)) ts s shape rest (literal_reads e total l rest h.0.0 b) in
@@ -276,75 +487,32 @@ come e file total (suc n) (token (literal l) ∷ ts) s levels want h f same le =
     let one : Forest = one_leaf (literal read) in
     let is : bare_leaf (literal read) ≡ bare_leaf (literal l) =
     ap (λ (x : List ℕ). bare_leaf (literal (record l { text_and_suffix = x }))) b.parts in
-    comes_on e file total n levels (put one levels) (ahead (token (literal l) ∷ ts) s) rest shape (made (token
+    comes_on e file total n levels (put one levels) (ahead 0 (token (literal l) ∷ ts) s) rest shape (made (token
     (literal l) ∷ ts) want) r refl
     (come e file total n ts (a_literal s l) (put one levels) (step (token (literal l)) want) h.1 f
     (bare_put one levels ∙ (ap (λ (x : Leaf). put (one_leaf x) (bare_levels levels)) is
     ∙ ap (put (one_leaf (bare_leaf (literal l)))) same)) (omega (arith, le)))
 come e file total (suc n) (opening d ∷ ts) s levels want h f same le =
-    let rest = ahead ts (after (opening d) ts s) in
+    let rest = ahead 0 ts (after (opening d) ts s) in
     let r = read_after e total (opening d) ts s (shape.opening d.kind) rest (opening_reads e total d.kind rest h.0) in
     let span = span_of_taken file total (taken (shape.opening d.kind) r.from rest) in
     let new : Levels = (record { opening = span; close = span; kind = d.kind }, none) ∷ levels in
-    comes_on e file total n levels new (ahead (opening d ∷ ts) s) rest (shape.opening d.kind) (made
+    comes_on e file total n levels new (ahead 0 (opening d ∷ ts) s) rest (shape.opening d.kind) (made
     (opening d ∷ ts) want) r refl
     (come e file total n ts (after (opening d) ts s) new (step (opening d) want) h.1 f
     (ap (λ (x : Levels). (bare_delimiter d, none) ∷ x) same) (omega (arith, le)))
 come e file total (suc n) (closing d ∷ ts) s levels want h f same le =
-    let rest = ahead ts (after (closing d) ts s) in
+    let rest = ahead 0 ts (after (closing d) ts s) in
     let r = read_after e total (closing d) ts s (shape.closing d.kind) rest (closing_reads e total d.kind rest h.0) in
     let span = span_of_taken file total (taken (shape.closing d.kind) r.from rest) in
     let new : Levels = closed span levels in
     let inside : kind_inside levels ≡ Some d.kind = sym (bare_kind levels) ∙ (ap kind_inside same ∙ f.0) in
-    comes_on e file total n levels new (ahead (closing d ∷ ts) s) rest (shape.closing d.kind) (made
+    comes_on e file total n levels new (ahead 0 (closing d ∷ ts) s) rest (shape.closing d.kind) (made
     (closing d ∷ ts) want) r (closes d.kind span levels inside)
     (come e file total n ts (after (closing d) ts s) new (step (closing d) want) h.1 f.1
     (bare_closed span levels ∙ ap (closed no_span) same) (omega (arith, le)))
-come e file total (suc n) (token (punct p) ∷ []) s levels want h f same le =
-    sign_comes e file total n p.char p.spacing p.span ([]) s levels want (is_no_tick e p ([])
-    (p.char == 39) refl h.0) h.1 same
-    (λ new q. come e file total n ([]) (a_punct s p (next_place ([]))) new (step (token (punct p)) want) h.1 f q
-    (omega (arith, le)))
-come e file total (suc n) (token (punct p) ∷ (token (literal l) ∷ ts)) s levels want h f same le =
-    sign_comes e file total n p.char p.spacing p.span ((token (literal l) ∷ ts)) s levels want (is_no_tick e p
-    ((token (literal l) ∷ ts)) (p.char == 39) refl h.0) h.1 same
-    (λ new q. come e file total n ((token (literal l) ∷ ts)) (a_punct s p (next_place ((token
-    (literal l) ∷ ts)))) new (step (token (punct p)) want) h.1 f q (omega (arith, le)))
-come e file total (suc n) (token (punct p) ∷ (token (punct o) ∷ ts)) s levels want h f same le =
-    sign_comes e file total n p.char p.spacing p.span ((token (punct o) ∷ ts)) s levels want (is_no_tick e p ((token
-    (punct o) ∷ ts)) (p.char == 39) refl h.0) h.1 same
-    (λ new q. come e file total n ((token (punct o) ∷ ts)) (a_punct s p (next_place ((token (punct o) ∷ ts)))) new
-    (step (token (punct p)) want) h.1 f q (omega (arith, le)))
-come e file total (suc n) (token (punct p) ∷ (opening d ∷ ts)) s levels want h f same le =
-    sign_comes e file total n p.char p.spacing p.span ((opening d ∷ ts)) s levels want (is_no_tick e p
-    ((opening d ∷ ts)) (p.char == 39) refl h.0) h.1 same
-    (λ new q. come e file total n ((opening d ∷ ts)) (a_punct s p (next_place ((opening d ∷ ts)))) new (step (token
-    (punct p)) want) h.1 f q (omega (arith, le)))
-come e file total (suc n) (token (punct p) ∷ (closing d ∷ ts)) s levels want h f same le =
-    sign_comes e file total n p.char p.spacing p.span ((closing d ∷ ts)) s levels want (is_no_tick e p
-    ((closing d ∷ ts)) (p.char == 39) refl h.0) h.1 same
-    (λ new q. come e file total n ((closing d ∷ ts)) (a_punct s p (next_place ((closing d ∷ ts)))) new (step (token
-    (punct p)) want) h.1 f q (omega (arith, le)))
-come e file total (suc n) (token (punct p) ∷ (token (ident i) ∷ ts)) s levels want h f same le =
-    either (p.char == 39) refl h.0
-    (λ t l. lifetime_comes e file total n p.char p.spacing p.span i ts s levels want t l h.1.0 h.1.1 same
-    (λ new q. come e file total n ts (word (a_punct s p (Some i.span)) i) new (step (token (ident i)) (step (token
-    (punct p)) want)) h.1.1 f q (omega (arith, le))))
-    (λ l. sign_comes e file total n p.char p.spacing p.span (token (ident i) ∷ ts) s levels want l h.1 same
-    (λ new q. come e file total n (token (ident i) ∷ ts) (a_punct s p (Some i.span)) new (step (token
-    (punct p)) want) h.1 f q (omega (arith, le))))
-  where
-    either : (b : Bool) → (p.char == 39) ≡ b → IsSign b e p (token (ident i) ∷ ts)
-        → ((p.char == 39) ≡ true → IsLifetime e p.spacing (token (ident i) ∷ ts)
-        → Comes e file total (suc n) levels (ahead (token (punct p) ∷ (token (ident i) ∷ ts)) s) (made (token
-        (punct p) ∷ (token (ident i) ∷ ts)) want))
-        → (IsSign false e p (token (ident i) ∷ ts)
-        → Comes e file total (suc n) levels (ahead (token (punct p) ∷ (token (ident i) ∷ ts)) s) (made (token
-        (punct p) ∷ (token (ident i) ∷ ts)) want))
-        → Comes e file total (suc n) levels (ahead (token (punct p) ∷ (token (ident i) ∷ ts)) s) (made (token
-        (punct p) ∷ (token (ident i) ∷ ts)) want)
-    either true t l tick other = tick t l
-    either false t l tick other = other l
+come e file total (suc n) (token (punct p) ∷ ts) s levels want h f same le =
+    punct_comes e file total n (λ us t new all. come e file total n us t new all) p ts s levels want h f same le
 
 -- ---- a whole text
 
@@ -373,17 +541,36 @@ some_of e (token (punct p)) ts h = nonempty (encode_utf8 p.char) p.char [] (is_s
 some_of e (opening d) ts h = let o = opening_is d.kind h.0 in nonempty (opening_text d.kind) o.char [] o.is.one
 some_of e (closing d) ts h = let o = closing_is d.kind h.0 in nonempty (closing_text d.kind) o.char [] o.is.one
 
--- each token has a byte
-as_long : (e : Edition) (ts : List FlatToken) (s : State) → AreRust e ts → length ts ≤ length (left ts s)
-as_long e [] s h = omega arith
-as_long e (t ∷ ts) s h =
-    let l = later e t ts h in
+comment_some : (c : Comment) (depth : ℕ) → 0 < length (comment_text c depth)
+comment_some c depth = elim c.is_inner as (λ b. 0 < length (comment_marks b ++ (c.text ++ line_gap depth))) [
+  | true ↦ omega arith
+  | false ↦ omega arith
+]
+
+written_some : (e : Edition) (t : FlatToken) (ts : List FlatToken) (s : State) → AreRust e (t ∷ ts)
+    → 0 < length (next_written t ts s).text
+written_some e (token (ident i)) ts s h = some_of e (token (ident i)) ts h
+written_some e (token (literal l)) ts s h = some_of e (token (literal l)) ts h
+written_some e (opening d) ts s h = some_of e (opening d) ts h
+written_some e (closing d) ts s h = some_of e (closing d) ts h
+written_some e (token (punct p)) ts s h = by (comment_next p ts s)
+  where
+    by : (o : Option Comment) → 0 < length (token_or_comment o (token (punct p)) ts s).text
+    by None = some_of e (token (punct p)) ts h
+    by (Some c) = comment_some c s.depth
+
+-- each token or comment has a byte
+as_long : (e : Edition) (n : ℕ) (ts : List FlatToken) (s : State) → AreRust e ts → count n ts s ≤ length (left n ts s)
+as_long e n [] s h = omega arith
+as_long e (suc n) (t ∷ ts) s h = as_long e n ts s (later e t ts h)
+as_long e zero (t ∷ ts) s h =
+    let w = next_written t ts s in
     omega (
       arith,
-      length-append (gap_of (the_gap t ts s) (gap_depth t s)) (spelled t ++ left ts (after t ts s)),
-      length-append (spelled t) (left ts (after t ts s)),
-      some_of e t ts h,
-      as_long e ts (after t ts s) l,
+      length-append (gap_of w.gap w.depth) (w.text ++ left w.more ts w.state),
+      length-append w.text (left w.more ts w.state),
+      written_some e t ts s h,
+      as_long e w.more ts w.state (later e t ts h),
     )
 
 -- neither a byte order mark nor a shebang begins the text
@@ -424,42 +611,53 @@ punct_no_head : (e : Edition) (depth c : ℕ) (sp : Spacing) (place : Span) (ts 
     → (c == 35) ≡ hash → c < 128
     → IsPunct e (record { char = c; spacing = sp; span = place }) ts → AreRust e ts
     → (is_joint sp && c == 35 && not (false && true)) ≡ false
-    → has_no_head (c ∷ ahead ts (a_punct (start depth) (record { char = c; spacing = sp; span = place })
+    → has_no_head (c ∷ ahead 0 ts (a_punct (start depth) (record { char = c; spacing = sp; span = place })
     (next_place ts))) ≡ true
 punct_no_head e depth c sp place ts false d small h r k =
-    sign_no_head c (ahead ts (a_punct (start depth) (record { char = c; spacing = sp; span = place })
+    sign_no_head c (ahead 0 ts (a_punct (start depth) (record { char = c; spacing = sp; span = place })
     (next_place ts))) small d
 punct_no_head e depth c Joint place ts true d small h r k = absurd (grind (arith, nat_tests, d, k))
 punct_no_head e depth c Alone place ts true d small h r k =
     let state = a_punct (start depth) (record { char = c; spacing = Alone; span = place }) (next_place ts) in
-    alone_no_head c (ahead ts state) small (alone_ends e c ts state (alone_like c place (next_place ts)
+    alone_no_head c (ahead 0 ts state) small (alone_ends e c ts state (alone_like c place (next_place ts)
     (start depth)) r)
 
-no_head : (e : Edition) (ts : List FlatToken) (depth : ℕ) → AreRust e ts → has_no_head (ahead ts (start depth)) ≡ true
+no_head : (e : Edition) (ts : List FlatToken) (depth : ℕ) → AreRust e ts → has_no_head (ahead 0 ts (start depth)) ≡ true
 no_head e [] depth h = refl
 no_head e (token (ident i) ∷ ts) depth h =
     follows has_no_head (token (ident i)) ts (start depth) gap_no_head
-    (λ k. word_front has_no_head i (ahead ts (after (token (ident i)) ts (start depth))) h.0 start_no_head)
+    (λ k. word_front has_no_head i (ahead 0 ts (after (token (ident i)) ts (start depth))) h.0 start_no_head)
 no_head e (token (literal l) ∷ ts) depth h =
     follows has_no_head (token (literal l)) ts (start depth) gap_no_head
-    (λ k. literal_no_head (chars (literal_output l)) (ahead ts (after (token (literal l)) ts
+    (λ k. literal_no_head (chars (literal_output l)) (ahead 0 ts (after (token (literal l)) ts
     (start depth))) h.0.0.front)
 no_head e (token (punct p) ∷ ts) depth h =
-    follows has_no_head (token (punct p)) ts (start depth) gap_no_head
-    (λ k. fronted has_no_head p.char (encode_utf8 p.char) (ahead ts (after (token (punct p)) ts (start depth)))
-    (is_sign e p ts h.0)
-    (punct_no_head e depth p.char p.spacing p.span ts (p.char == 35) refl (sign_small e p ts
-    (p.char == 39) refl h.0) h.0 h.1 k))
+    follows has_no_head (token (punct p)) ts (start depth) gap_no_head (by (comment_next p ts (start depth)) refl)
+  where
+    by : (o : Option Comment) → comment_next p ts (start depth) ≡ o
+        → ((token_or_comment o (token (punct p)) ts (start depth)).gap.apart && not
+        (token_or_comment o (token (punct p)) ts (start depth)).gap.beside) ≡ false
+        → has_no_head (chars (token_or_comment o (token (punct p)) ts (start depth)).text
+        ++ ahead (token_or_comment o (token (punct p)) ts (start depth)).more ts
+        (token_or_comment o (token (punct p)) ts (start depth)).state) ≡ true
+    by None m k =
+        fronted has_no_head p.char (encode_utf8 p.char) (ahead 0 ts (after (token (punct p)) ts (start depth)))
+        (is_sign e p ts h.0)
+        (punct_no_head e depth p.char p.spacing p.span ts (p.char == 35) refl (sign_small e p ts
+        (p.char == 39) refl h.0) h.0 h.1 k)
+    by (Some c) m k =
+        ap has_no_head (comment_chars c depth (ahead (more_tokens c.is_inner) ts (a_comment (start depth) c))
+        (text_utf8 e p ts (start depth) c h.1 m))
 no_head e (opening d ∷ ts) depth h =
     let o = opening_is d.kind h.0 in
     follows has_no_head (opening d) ts (start depth) gap_no_head
-    (λ k. fronted has_no_head o.char (opening_text d.kind) (ahead ts (after (opening d) ts (start depth))) o.is
-    (side_no_head o.char (ahead ts (after (opening d) ts (start depth))) o.side))
+    (λ k. fronted has_no_head o.char (opening_text d.kind) (ahead 0 ts (after (opening d) ts (start depth))) o.is
+    (side_no_head o.char (ahead 0 ts (after (opening d) ts (start depth))) o.side))
 no_head e (closing d ∷ ts) depth h =
     let o = closing_is d.kind h.0 in
     follows has_no_head (closing d) ts (start depth) gap_no_head
-    (λ k. fronted has_no_head o.char (closing_text d.kind) (ahead ts (after (closing d) ts (start depth))) o.is
-    (side_no_head o.char (ahead ts (after (closing d) ts (start depth))) o.side))
+    (λ k. fronted has_no_head o.char (closing_text d.kind) (ahead 0 ts (after (closing d) ts (start depth))) o.is
+    (side_no_head o.char (ahead 0 ts (after (closing d) ts (start depth))) o.side))
 
 head_gone : (e : Edition) (total : ℕ) (cs : List ℕ) → has_no_head cs ≡ true → after_head (Rust e) total cs ≡ cs
 head_gone e total [] h = refl
@@ -486,7 +684,7 @@ whole_trees e file text levels g h k = rw (trees_of, h, k) refl
 pub trees_come_back : TreesComeBack
 trees_come_back e file depth f h =
     let ts = flat f in
-    let text = left ts (start depth) in
+    let text = left 0 ts (start depth) in
     let total = length text in
     let began : Levels = whole file total in
     let want : Levels = bare_levels began in
@@ -496,10 +694,10 @@ trees_come_back e file depth f h =
       none,
     ) [] tt in
     let fit : Fit ts want = subst (λ (x : List FlatToken). Fit x want) (append-nil ts) fits in
-    let c = come e file total total ts (start depth) began want h fit refl (as_long e ts (start depth) h) in
-    let shown : chars text ≡ ahead ts (start depth) = chars_left e ts (start depth) h in
-    let begun : after_head (Rust e) total (chars text) ≡ ahead ts (start depth) =
-    ap (after_head (Rust e) total) shown ∙ head_gone e total (ahead ts (start depth)) (no_head e ts depth h) in
+    let c = come e file total total ts (start depth) began want h fit refl (as_long e 0 ts (start depth) h) in
+    let shown : chars text ≡ ahead 0 ts (start depth) = chars_left e 0 ts (start depth) h in
+    let begun : after_head (Rust e) total (chars text) ≡ ahead 0 ts (start depth) =
+    ap (after_head (Rust e) total) shown ∙ head_gone e total (ahead 0 ts (start depth)) (no_head e ts depth h) in
     let read : levels_at_end (Rust e) file text ≡ Ok c.levels_at_end =
     ap (λ (x : List ℕ). levels_of (Rust e) file total total began x) begun ∙ c.read in
     let all : made ts want ≡ put (bare f) want = ap (λ (x : List FlatToken). made x want) (sym (append-nil ts))

@@ -1,5 +1,5 @@
 -- What a token is written before ends it.
-use Rattle.std.proofs.Common.{◌≡◌, ◌≢◌, ℕ, ◌==◌, ◌<◌, not, ◌&&◌, Bool, true, false, List, [], ◌∷◌, ◌++◌, refl, sym, ap, ◌∙◌, arith, codes, Option, IsUtf8, chars, encode_utf8, subst}
+use Rattle.std.proofs.Common.{◌≡◌, ◌≢◌, ℕ, ◌==◌, ◌<◌, not, ◌&&◌, Bool, true, false, List, [], ◌∷◌, ◌++◌, refl, sym, ap, ◌∙◌, arith, codes, Option, Some, None, IsUtf8, chars, encode_utf8, subst}
 use Rattle.std.proofs.lemmas.Bool.Decides.{nat_tests}
 use Rattle.std.proofs.lemmas.Str.{chars-append, IsUtf8-append, encode_ascii}
 use Rattle.std.specs.List.{list_any}
@@ -15,15 +15,17 @@ use Rattle.mbe_tt.specs.declared.tt.IdentIsRaw.TheVariants.{Yes, No}
 use Rattle.mbe_tt.specs.Trees.Leaf.{Ident, literal, punct, ident, is_text}
 use Rattle.mbe_tt.specs.Trees.Literals.{raw_prefix, literal_output}
 use Rattle.mbe_tt.specs.Trees.Tree.{FlatToken, token, opening, closing}
-use Rattle.mbe_rust_text.specs.Gaps.{is_word_apart, joins_word, is_literal_apart, joins_literal, is_punct_apart, stays_with, is_one_of, keywords, indent, is_beside, is_before, is_same_place, is_colon}
-use Rattle.mbe_rust_text.specs.Writing.{State, word, a_punct, name_text}
+use Rattle.mbe_rust_text.specs.Gaps.{is_word_apart, joins_word, is_literal_apart, joins_literal, is_punct_apart, stays_with, is_one_of, keywords, indent, is_beside, is_before, is_same_place, is_colon, is_line_start}
+use Rattle.mbe_rust_text.specs.Comments.{Comment}
+use Rattle.mbe_rust_text.specs.Writing.{State, word, a_punct, a_comment, comment_text, name_text}
 use Rattle.mbe_tt.specs.declared.span.Span.{Span}
 use Rattle.mbe_text.specs.Characters.{begins_with}
 use Rattle.mbe_text.specs.Tokens.{opening_text, closing_text}
 use Rattle.mbe_text_laws.specs.Gaps.{before, is_punct}
 use Rattle.mbe_text_laws.specs.Rust.{next_place, AreRust, IsWord, IsIdent, IsSign, IsPunct, is_start, begins_word, begins_literal}
 use Rattle.mbe_text_laws.proofs.EndLemmas.{begins_gap, ends_word, ends_punct, gap_ends_word, punct_not_continue, punct_not_start, punct_small, r_is_start, is_not, quotes_not_start}
-use Rattle.mbe_text_laws.proofs.TextLemmas.{spelled, after, ahead, gap_depth, the_gap, ascii_utf8, ascii_chars, word_text}
+use Rattle.mbe_text_laws.proofs.CommentLemmas.{comment_next, more_tokens}
+use Rattle.mbe_text_laws.proofs.TextLemmas.{after, ahead, next_written, token_or_comment, the_gap, gap_of, ascii_utf8, ascii_chars, word_text}
 
 -- ---- what a token begins with
 
@@ -102,12 +104,41 @@ gapped P false false beside depth cs g k = k refl
 -- a property of gaps is one of a text if it is one of the next token's where no gap is before it
 pub follows : (P : List ℕ → Bool) (t : FlatToken) (ts : List FlatToken) (s : State) → ((xs : List ℕ)
     → begins_gap xs ≡ true → P xs ≡ true)
-    → (((the_gap t ts s).apart && not (the_gap t ts s).beside) ≡ false
-    → P (chars (spelled t) ++ ahead ts (after t ts s)) ≡ true)
-    → P (ahead (t ∷ ts) s) ≡ true
+    → (((next_written t ts s).gap.apart && not (next_written t ts s).gap.beside) ≡ false
+    → P (chars (next_written t ts s).text ++ ahead (next_written t ts s).more ts (next_written t ts s).state) ≡ true)
+    → P (ahead 0 (t ∷ ts) s) ≡ true
 follows P t ts s g k =
-    gapped P (the_gap t ts s).line (the_gap t ts s).apart (the_gap t ts s).beside (gap_depth t s) (chars
-    (spelled t) ++ ahead ts (after t ts s)) g k
+    let w = next_written t ts s in
+    gapped P w.gap.line w.gap.apart w.gap.beside w.depth (chars w.text ++ ahead w.more ts w.state) g k
+
+on_a_line : (P : List ℕ → Bool) (started : Bool) (depth : ℕ) (cs : List ℕ) → ((xs : List ℕ) → begins_gap xs ≡ true → P xs ≡ true)
+    → started ≡ false → P (before (not started) false false depth ++ cs) ≡ true
+on_a_line P true depth cs g h = absurd (cc)
+on_a_line P false depth cs g h = g (10 ∷ (indent depth ++ cs)) refl
+
+-- A comment begins a line, but at the start of one.
+pub follows_punct : (P : List ℕ → Bool) (p : Punct) (ts : List FlatToken) (s : State) → ((xs : List ℕ)
+    → begins_gap xs ≡ true → P xs ≡ true)
+    → is_line_start s.last ≡ false
+    → (((the_gap (token (punct p)) ts s).apart && not (the_gap (token (punct p)) ts s).beside) ≡ false
+    → P (chars (encode_utf8 p.char) ++ ahead 0 ts (after (token (punct p)) ts s)) ≡ true)
+    → P (ahead 0 (token (punct p) ∷ ts) s) ≡ true
+follows_punct P p ts s g begun k = by (comment_next p ts s) refl
+  where
+    here : Option Comment → Type 0
+    here o =
+        P (gap_of (token_or_comment o (token (punct p)) ts s).gap (token_or_comment o (token (punct p)) ts s).depth
+        ++ (chars (token_or_comment o (token (punct p)) ts s).text ++ ahead
+        (token_or_comment o (token (punct p)) ts s).more ts (token_or_comment o (token (punct p)) ts s).state)) ≡ true
+
+    by : (o : Option Comment) → comment_next p ts s ≡ o → P (ahead 0 (token (punct p) ∷ ts) s) ≡ true
+    by None e =
+        let t = the_gap (token (punct p)) ts s in
+        subst here (sym e) (gapped P t.line t.apart t.beside s.depth (chars (encode_utf8 p.char) ++ ahead 0 ts
+        (after (token (punct p)) ts s)) g k)
+    by (Some c) e =
+        subst here (sym e) (on_a_line P (is_line_start s.last) s.depth (chars (comment_text c s.depth) ++ ahead
+        (more_tokens c.is_inner) ts (a_comment s c)) g begun)
 
 -- tokens that are to be apart and may not stay side by side are kept apart
 pub never : (a b c : Bool) → a ≡ true → c ≡ false → (a && not (b && c)) ≡ false → ⊥
@@ -126,6 +157,7 @@ pub record WordLike (s : State) : Type 0 where
   pub puncts : (one_place : Bool) (c : ℕ) (sp : Spacing) → is_one_of c (codes "#'") ≡ true
       → is_punct_apart s.last one_place c sp ≡ true
   pub stay : (c : ℕ) (b : Bool) → is_one_of c (codes "#'") ≡ true → stays_with s.last c b ≡ false
+  pub begun : is_line_start s.last ≡ false
 
 marks : (c : ℕ) → is_one_of c (codes "#'") ≡ true → not (is_one_of c (codes ",;?.:!")) ≡ true
 marks c h = grind (arith, nat_tests, h)
@@ -139,6 +171,7 @@ word_like_of s i true e = record {
   joined_literals = rw e refl;
   puncts = λ o c sp h. rw e refl;
   stay = λ c b h. rw e (rw h refl);
+  begun = rw e refl;
 }
 word_like_of s i false e = record {
   words = rw e refl;
@@ -147,6 +180,7 @@ word_like_of s i false e = record {
   joined_literals = rw e refl;
   puncts = λ o c sp h. rw e (marks c h);
   stay = λ c b h. rw e (rw h refl);
+  begun = rw e refl;
 }
 
 pub word_like : (s : State) (i : Ident) → WordLike (word s i)
@@ -187,27 +221,27 @@ word_before_punct e s p ts rest o b side false m w h k =
     (punct_ends_word p.char rest (mark_is e p ts (p.char == 39) refl h m) m)
 
 pub word_ends : (e : Edition) (ts : List FlatToken) (s : State) → WordLike s → AreRust e ts
-    → ends_word (ahead ts s) ≡ true
+    → ends_word (ahead 0 ts s) ≡ true
 word_ends e [] s w h = refl
 word_ends e (token (ident i) ∷ ts) s w h =
     follows ends_word (token (ident i)) ts s gap_ends_word (λ k. absurd (never _ _ _ w.words w.joined_words k))
 word_ends e (token (literal l) ∷ ts) s w h =
     follows ends_word (token (literal l)) ts s gap_ends_word (λ k. absurd (never _ _ _ w.literals w.joined_literals k))
 word_ends e (token (punct p) ∷ ts) s w h =
-    follows ends_word (token (punct p)) ts s gap_ends_word (λ k.
-    word_before_punct e s p ts (ahead ts (after (token (punct p)) ts s)) (is_same_place s.place p.span)
+    follows_punct ends_word p ts s gap_ends_word w.begun (λ k.
+    word_before_punct e s p ts (ahead 0 ts (after (token (punct p)) ts s)) (is_same_place s.place p.span)
     (is_beside s.place p.span)
     (is_before p.span (next_place ts)) (is_one_of p.char (codes "#'")) refl w h.0 k)
 word_ends e (opening d ∷ ts) s w h =
     let o = opening_is d.kind h.0 in
-    follows ends_word (opening d) ts s gap_ends_word (λ k. fronted ends_word o.char (opening_text d.kind) (ahead ts
+    follows ends_word (opening d) ts s gap_ends_word (λ k. fronted ends_word o.char (opening_text d.kind) (ahead 0 ts
     (after (opening d) ts s)) o.is
-    (side_ends_word o.char (ahead ts (after (opening d) ts s)) o.side))
+    (side_ends_word o.char (ahead 0 ts (after (opening d) ts s)) o.side))
 word_ends e (closing d ∷ ts) s w h =
     let o = closing_is d.kind h.0 in
-    follows ends_word (closing d) ts s gap_ends_word (λ k. fronted ends_word o.char (closing_text d.kind) (ahead ts
+    follows ends_word (closing d) ts s gap_ends_word (λ k. fronted ends_word o.char (closing_text d.kind) (ahead 0 ts
     (after (closing d) ts s)) o.is
-    (side_ends_word o.char (ahead ts (after (closing d) ts s)) o.side))
+    (side_ends_word o.char (ahead 0 ts (after (closing d) ts s)) o.side))
 
 -- ---- after a punct that is alone
 
@@ -220,6 +254,7 @@ pub record AloneLike (c : ℕ) (s : State) : Type 0 where
   pub stay : (d : ℕ) (b : Bool) → stays_with s.last d b ≡ (d == 39)
   pub literals : (c == 35) ≡ true → is_literal_apart s.last ≡ true
   pub joined_literals : (c == 35) ≡ true → not (joins_literal s.last) ≡ false
+  pub begun : is_line_start s.last ≡ false
 
 hash_is_alone : (c : ℕ) → (c == 35) ≡ true → ((c == 59) ≡ false) × ((c == 58) ≡ false) × (not (c == 46) ≡ true)
 hash_is_alone c h = (grind (arith, nat_tests, h), grind (arith, nat_tests, h), grind (arith, nat_tests, h))
@@ -233,6 +268,7 @@ alone_like_of c place next s true colons e f = record {
   stay = λ d b. rw e refl;
   literals = λ h. absurd (let z : true ≡ false = sym e ∙ (hash_is_alone c h).0 in cc);
   joined_literals = λ h. absurd (let z : true ≡ false = sym e ∙ (hash_is_alone c h).0 in cc);
+  begun = rw e refl;
 }
 alone_like_of c place next s false true e f = record {
   puncts = λ o d sp. rw (e, f) refl;
@@ -241,12 +277,14 @@ alone_like_of c place next s false true e f = record {
       (hash_is_alone c h).1 in cc);
   joined_literals = λ h. absurd (let z : true ≡ false = sym f ∙ ap (λ (b : Bool). b && is_colon s.last)
       (hash_is_alone c h).1 in cc);
+  begun = rw (e, f) refl;
 }
 alone_like_of c place next s false false e f = record {
   puncts = λ o d sp. rw (e, f) refl;
   stay = λ d b. rw (e, f) refl;
   literals = λ h. rw (e, f) (hash_is_alone c h).2;
   joined_literals = λ h. rw (e, f) (ap not h);
+  begun = rw (e, f) refl;
 }
 
 pub alone_like : (c : ℕ) (place : Span) (next : Option Span) (s : State)
@@ -314,27 +352,27 @@ word_front P i rest w k = elim i.is_raw as (λ r. P (chars (raw_prefix r ++ name
 ]
 
 pub alone_ends : (e : Edition) (c : ℕ) (ts : List FlatToken) (s : State) → AloneLike c s → AreRust e ts
-    → ends_alone c (ahead ts s) ≡ true
+    → ends_alone c (ahead 0 ts s) ≡ true
 alone_ends e c [] s w h = gap_ends_alone c [] refl
 alone_ends e c (token (ident i) ∷ ts) s w h =
     follows (ends_alone c) (token (ident i)) ts s (gap_ends_alone c) (λ k.
-    word_front (ends_alone c) i (ahead ts (after (token (ident i)) ts s)) h.0 (start_ends_alone c))
+    word_front (ends_alone c) i (ahead 0 ts (after (token (ident i)) ts s)) h.0 (start_ends_alone c))
 alone_ends e c (token (literal l) ∷ ts) s w h =
     follows (ends_alone c) (token (literal l)) ts s (gap_ends_alone c) (λ k.
-    alone_before_literal c (c == 35) s (chars (literal_output l)) (ahead ts (after (token (literal l)) ts s))
+    alone_before_literal c (c == 35) s (chars (literal_output l)) (ahead 0 ts (after (token (literal l)) ts s))
     (is_beside s.place l.span) refl w h.0.0.front k)
 alone_ends e c (token (punct p) ∷ ts) s w h =
-    follows (ends_alone c) (token (punct p)) ts s (gap_ends_alone c) (λ k.
-    alone_before_punct e c s p ts (ahead ts (after (token (punct p)) ts s)) (is_same_place s.place p.span)
+    follows_punct (ends_alone c) p ts s (gap_ends_alone c) w.begun (λ k.
+    alone_before_punct e c s p ts (ahead 0 ts (after (token (punct p)) ts s)) (is_same_place s.place p.span)
     (is_beside s.place p.span)
     (is_before p.span (next_place ts)) (p.char == 39) refl w h.0 k)
 alone_ends e c (opening d ∷ ts) s w h =
     let o = opening_is d.kind h.0 in
     follows (ends_alone c) (opening d) ts s (gap_ends_alone c) (λ k. fronted (ends_alone c) o.char
-    (opening_text d.kind) (ahead ts (after (opening d) ts s)) o.is
-    (side_ends_alone c o.char (ahead ts (after (opening d) ts s)) o.side))
+    (opening_text d.kind) (ahead 0 ts (after (opening d) ts s)) o.is
+    (side_ends_alone c o.char (ahead 0 ts (after (opening d) ts s)) o.side))
 alone_ends e c (closing d ∷ ts) s w h =
     let o = closing_is d.kind h.0 in
     follows (ends_alone c) (closing d) ts s (gap_ends_alone c) (λ k. fronted (ends_alone c) o.char
-    (closing_text d.kind) (ahead ts (after (closing d) ts s)) o.is
-    (side_ends_alone c o.char (ahead ts (after (closing d) ts s)) o.side))
+    (closing_text d.kind) (ahead 0 ts (after (closing d) ts s)) o.is
+    (side_ends_alone c o.char (ahead 0 ts (after (closing d) ts s)) o.side))

@@ -59,10 +59,10 @@ gaps_are_blank dialect total depth line apart beside cs =
 
 -- ---- bytes
 
-nothing_is_ascii : IsAscii []
+pub nothing_is_ascii : IsAscii []
 nothing_is_ascii = λ i. omega arith
 
-one_more : (c : ℕ) (cs : List ℕ) → c < 128 → IsAscii cs → IsAscii (c ∷ cs)
+pub one_more : (c : ℕ) (cs : List ℕ) → c < 128 → IsAscii cs → IsAscii (c ∷ cs)
 one_more c cs small h = λ i. elim i as (λ j. get_or (c ∷ cs) j 0 < 128) [ zero ↦ small | suc k ↦ h k ]
 
 one_space : (cs : List ℕ) → IsAscii cs → IsAscii (32 ∷ cs)
@@ -75,7 +75,7 @@ indent_is_ascii (suc depth) =
     let cs = indent depth in
     one_space (32 ∷ (32 ∷ (32 ∷ cs))) (one_space (32 ∷ (32 ∷ cs)) (one_space (32 ∷ cs) (one_space cs (indent_is_ascii depth))))
 
-gap_is_ascii : (depth : ℕ) (line apart beside : Bool) → IsAscii (before line apart beside depth)
+pub gap_is_ascii : (depth : ℕ) (line apart beside : Bool) → IsAscii (before line apart beside depth)
 gap_is_ascii depth true apart beside = one_more 10 (indent depth) (omega arith) (indent_is_ascii depth)
 gap_is_ascii depth false true true = nothing_is_ascii
 gap_is_ascii depth false true false = one_space [] nothing_is_ascii

@@ -1,5 +1,7 @@
 pub mod BackLemmas
 pub mod BareLemmas
+pub mod CommentLemmas
+pub mod DocLemmas
 pub mod EndLemmas
 pub mod FollowLemmas
 pub mod GapLemmas

@@ -21,8 +21,9 @@ use Rattle.mbe_text.specs.Tokens.{opening_text, closing_text}
 use Rattle.mbe_text_laws.specs.Gaps.{before, is_punct}
 use Rattle.mbe_text_laws.specs.Rust.{next_place, AreRust, IsSign, IsPunct, IsBeforeDot, IsLiteral, IsReadBefore, goes_on, make_another, is_start, begins_word, begins_field, ends_literal}
 use Rattle.mbe_text_laws.proofs.EndLemmas.{gap_ends_literal, punct_not_continue}
-use Rattle.mbe_text_laws.proofs.TextLemmas.{spelled, after, ahead, the_gap}
-use Rattle.mbe_text_laws.proofs.FollowLemmas.{is_sign, is_side, opening_is, closing_is, follows, fronted, never, ends_alone, alone_like, alone_ends, word_front}
+use Rattle.mbe_text_laws.proofs.CommentLemmas.{no_comment_at}
+use Rattle.mbe_text_laws.proofs.TextLemmas.{spelled, after, ahead, the_gap, gap_of}
+use Rattle.mbe_text_laws.proofs.FollowLemmas.{is_sign, is_side, opening_is, closing_is, follows, follows_punct, fronted, never, ends_alone, alone_like, alone_ends, word_front}
 
 -- ---- puncts
 
@@ -79,11 +80,11 @@ not_a_tick c h = grind (arith, nat_tests, h)
 
 pub punct_before : (e : Edition) (c : ℕ) (sp : Spacing) (place : Span) (s : State) (ts : List FlatToken)
     → IsSign false e (record { char = c; spacing = sp; span = place }) ts
-    → AreRust e ts → IsPunctBefore e c sp (ahead ts (a_punct s (record { char = c; spacing = sp; span = place })
+    → AreRust e ts → IsPunctBefore e c sp (ahead 0 ts (a_punct s (record { char = c; spacing = sp; span = place })
     (next_place ts)))
 punct_before e c Alone place s ts h r =
     let state = a_punct s (record { char = c; spacing = Alone; span = place }) (next_place ts) in
-    alone_before e c (ahead ts state) (alone_ends e c ts state (alone_like c place (next_place ts) s) r)
+    alone_before e c (ahead 0 ts state) (alone_ends e c ts state (alone_like c place (next_place ts) s) r)
 punct_before e c Joint place s [] h r = absurd (h.1)
 punct_before e c Joint place s (token (ident i) ∷ ts) h r = absurd (h.1)
 punct_before e c Joint place s (token (literal l) ∷ ts) h r = absurd (h.1)
@@ -93,9 +94,9 @@ punct_before e c Joint place s (token (punct q) ∷ ts) h r =
     let state = a_punct s (record { char = c; spacing = Joint; span = place }) (Some q.span) in
     let j = h.1 in
     let sign : IsSign false e q ts = subst (λ (b : Bool). IsSign b e q ts) (not_a_tick q.char j.0) r.0 in
-    let more = ahead ts (after (token (punct q)) ts state) in
+    let more = ahead 0 ts (after (token (punct q)) ts state) in
     let next = punct_before e q.char q.spacing q.span state ts sign r.1 in
-    let text : ahead (token (punct q) ∷ ts) state ≡ q.char ∷ more =
+    let text : ahead 0 (token (punct q) ∷ ts) state ≡ q.char ∷ more =
     no_gap_between (is_same_place (Some place) q.span) (are_beside place q.span) s.depth (chars
     (encode_utf8 q.char) ++ more) j.1
     ∙ ap (λ (x : List ℕ). x ++ more) (is_sign e q ts r.0).one in
@@ -134,8 +135,9 @@ dot_together false side depth cs h = absurd (cc)
 
 dot_is : (c : ℕ) → (c == 46) ≡ true → (c == 59 ≡ false) × (c == 58 ≡ false) × (not (is_one_of c
     (codes ",;?")) ≡ true) × (not (is_one_of c (codes ".#$'")) ≡ false)
-    × ((c == 39) ≡ false)
+    × ((c == 39) ≡ false) × ((c == 35) ≡ false)
 dot_is c h = (
+  grind (arith, nat_tests, h),
   grind (arith, nat_tests, h),
   grind (arith, nat_tests, h),
   grind (arith, nat_tests, h),
@@ -166,10 +168,10 @@ no_line false false beside depth cs h k = refl
 field_next : (e : Edition) (c : ℕ) (sp : Spacing) (place : Span) (s : State) (ts : List FlatToken)
     → (c == 46) ≡ true → goes_on sp ts ≡ true
     → IsSign false e (record { char = c; spacing = sp; span = place }) ts → AreRust e ts
-    → goes (ahead ts (a_punct s (record { char = c; spacing = sp; span = place }) (next_place ts))) ≡ true
+    → goes (ahead 0 ts (a_punct s (record { char = c; spacing = sp; span = place }) (next_place ts))) ≡ true
 field_next e c Joint place s (token (punct q) ∷ ts) d g h r =
     let state = a_punct s (record { char = c; spacing = Joint; span = place }) (Some q.span) in
-    let more = ahead ts (after (token (punct q)) ts state) in
+    let more = ahead 0 ts (after (token (punct q)) ts state) in
     ap goes (no_gap_between (is_same_place (Some place) q.span) (are_beside place q.span) s.depth (chars
     (encode_utf8 q.char) ++ more) h.1.1
     ∙ ap (λ (x : List ℕ). x ++ more) (is_sign e q ts r.0).one) ∙ dot_goes q.char more g
@@ -181,7 +183,7 @@ field_next e c Joint place s (closing k ∷ ts) d g h r = absurd (cc)
 field_next e c Alone place s (token (ident i) ∷ ts) d g h r =
     let state = a_punct s (record { char = c; spacing = Alone; span = place }) (Some i.span) in
     let t = the_gap (token (ident i)) ts state in
-    let more = ahead ts (after (token (ident i)) ts state) in
+    let more = ahead 0 ts (after (token (ident i)) ts state) in
     let is = dot_is c d in
     ap goes (no_line t.line t.apart t.beside s.depth (chars (spelled (token (ident i))) ++ more) (rw
     (is.0, is.1) refl) (rw (is.0, is.1) is.3))
@@ -205,21 +207,29 @@ dot_no_gap c b side depth cs d n =
     ap (λ (x : Bool). before false x (b && (side || not (c == 46))) depth ++ cs) (dot_is c d).2
     ∙ (ap (λ (x : Bool). before false true (b && (side || not x)) depth ++ cs) d ∙ dot_together b side depth cs n)
 
+-- a punct other than `#` begins no comment
+token_ahead : (p : Punct) (ts : List FlatToken) (s : State) → (p.char == 35) ≡ false
+    → ahead 0 (token (punct p) ∷ ts) s
+    ≡ gap_of (the_gap (token (punct p)) ts s) s.depth ++ (chars (encode_utf8 p.char) ++ ahead 0 ts
+    (after (token (punct p)) ts s))
+token_ahead p ts s h = rw (no_comment_at p ts s h) refl
+
 literal_dot : (e : Edition) (l : Literal) (p : Punct) (s : State) (ts : List FlatToken) (stays : Bool)
     → (p.char == 46) ≡ true
     → (are_beside l.span p.span && is_before p.span (next_place ts)) ≡ stays
     → IsLiteral e l → IsBeforeDot e l (token (punct p) ∷ ts) → AreRust e (token (punct p) ∷ ts)
-    → IsReadBefore e l (ahead (token (punct p) ∷ ts) (a_literal s l))
+    → IsReadBefore e l (ahead 0 (token (punct p) ∷ ts) (a_literal s l))
 literal_dot e l p s ts false d n lit dot r =
-    lit.whole (ahead (token (punct p) ∷ ts) (a_literal s l))
-    (follows ends_literal (token (punct p)) ts (a_literal s l) gap_ends_literal
+    lit.whole (ahead 0 (token (punct p) ∷ ts) (a_literal s l))
+    (follows_punct ends_literal p ts (a_literal s l) gap_ends_literal refl
     (λ k. absurd (dot_gap p.char (are_beside l.span p.span) (is_before p.span (next_place ts)) d n k)))
 literal_dot e l p s ts true d n lit dot r =
     let both = dot (ap (λ (x : Bool). x && (are_beside l.span p.span && is_before p.span (next_place ts))) d ∙ n) in
     let sign : IsSign false e p ts = subst (λ (b : Bool). IsSign b e p ts) (dot_is p.char d).4 r.0 in
-    let more = ahead ts (after (token (punct p)) ts (a_literal s l)) in
-    let text : ahead (token (punct p) ∷ ts) (a_literal s l) ≡ p.char ∷ more =
-    dot_no_gap p.char (are_beside l.span p.span) (is_before p.span (next_place ts)) s.depth (chars
+    let more = ahead 0 ts (after (token (punct p)) ts (a_literal s l)) in
+    let text : ahead 0 (token (punct p) ∷ ts) (a_literal s l) ≡ p.char ∷ more =
+    token_ahead p ts (a_literal s l) (dot_is p.char d).5
+    ∙ dot_no_gap p.char (are_beside l.span p.span) (is_before p.span (next_place ts)) s.depth (chars
     (encode_utf8 p.char) ++ more) d n
     ∙ ap (λ (x : List ℕ). x ++ more) (is_sign e p ts r.0).one in
     let field : begins_field (p.char ∷ more) ≡ true =
@@ -230,40 +240,40 @@ literal_dot e l p s ts true d n lit dot r =
 literal_punct : (e : Edition) (l : Literal) (p : Punct) (s : State) (ts : List FlatToken) (is_dot : Bool)
     → (p.char == 46) ≡ is_dot
     → IsLiteral e l → IsBeforeDot e l (token (punct p) ∷ ts) → AreRust e (token (punct p) ∷ ts)
-    → IsReadBefore e l (ahead (token (punct p) ∷ ts) (a_literal s l))
+    → IsReadBefore e l (ahead 0 (token (punct p) ∷ ts) (a_literal s l))
 literal_punct e l p s ts true d lit dot r =
     literal_dot e l p s ts (are_beside l.span p.span && is_before p.span (next_place ts)) d refl lit dot r
 literal_punct e l p s ts false d lit dot r =
-    let more = ahead ts (after (token (punct p)) ts (a_literal s l)) in
-    lit.whole (ahead (token (punct p) ∷ ts) (a_literal s l))
-    (follows ends_literal (token (punct p)) ts (a_literal s l) gap_ends_literal
+    let more = ahead 0 ts (after (token (punct p)) ts (a_literal s l)) in
+    lit.whole (ahead 0 (token (punct p) ∷ ts) (a_literal s l))
+    (follows_punct ends_literal p ts (a_literal s l) gap_ends_literal refl
     (λ k. fronted ends_literal p.char (encode_utf8 p.char) more (is_sign e p ts r.0)
     (punct_ends_literal e p ts more r.0 d)))
 
 pub literal_before : (e : Edition) (l : Literal) (s : State) (ts : List FlatToken) → IsLiteral e l
     → IsBeforeDot e l ts → AreRust e ts
-    → IsReadBefore e l (ahead ts (a_literal s l))
+    → IsReadBefore e l (ahead 0 ts (a_literal s l))
 literal_before e l s [] lit dot r = lit.whole [] refl
 literal_before e l s (token (ident i) ∷ ts) lit dot r =
-    lit.whole (ahead (token (ident i) ∷ ts) (a_literal s l))
+    lit.whole (ahead 0 (token (ident i) ∷ ts) (a_literal s l))
     (follows ends_literal (token (ident i)) ts (a_literal s l) gap_ends_literal (λ k. absurd (never true (is_beside
     (Some l.span) i.span) false refl refl k)))
 literal_before e l s (token (literal m) ∷ ts) lit dot r =
-    lit.whole (ahead (token (literal m) ∷ ts) (a_literal s l))
+    lit.whole (ahead 0 (token (literal m) ∷ ts) (a_literal s l))
     (follows ends_literal (token (literal m)) ts (a_literal s l) gap_ends_literal (λ k. absurd (never true
     (is_beside (Some l.span) m.span) false refl refl k)))
 literal_before e l s (token (punct p) ∷ ts) lit dot r = literal_punct e l p s ts (p.char == 46) refl lit dot r
 literal_before e l s (opening d ∷ ts) lit dot r =
     let o = opening_is d.kind r.0 in
-    let more = ahead ts (after (opening d) ts (a_literal s l)) in
-    lit.whole (ahead (opening d ∷ ts) (a_literal s l)) (follows ends_literal (opening d) ts
+    let more = ahead 0 ts (after (opening d) ts (a_literal s l)) in
+    lit.whole (ahead 0 (opening d ∷ ts) (a_literal s l)) (follows ends_literal (opening d) ts
     (a_literal s l) gap_ends_literal
     (λ k. fronted ends_literal o.char (opening_text d.kind) more o.is (side_ends_literal o.char more
     (side_small o.char o.side) o.side)))
 literal_before e l s (closing d ∷ ts) lit dot r =
     let o = closing_is d.kind r.0 in
-    let more = ahead ts (after (closing d) ts (a_literal s l)) in
-    lit.whole (ahead (closing d ∷ ts) (a_literal s l)) (follows ends_literal (closing d) ts
+    let more = ahead 0 ts (after (closing d) ts (a_literal s l)) in
+    lit.whole (ahead 0 (closing d ∷ ts) (a_literal s l)) (follows ends_literal (closing d) ts
     (a_literal s l) gap_ends_literal
     (λ k. fronted ends_literal o.char (closing_text d.kind) more o.is (side_ends_literal o.char more
     (side_small o.char o.side) o.side)))

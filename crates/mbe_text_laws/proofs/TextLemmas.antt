@@ -1,5 +1,5 @@
 -- The text that is written, token by token, as bytes and as characters.
-use Rattle.std.proofs.Common.{◌≡◌, ℕ, zero, suc, ◌-◌, ◌<◌, not, ◌&&◌, Bool, true, false, List, [], ◌∷◌, ◌++◌, refl, sym, ap, ◌∙◌, arith, codes, Option, None, IsUtf8, IsAscii, get_or, chars, encode_utf8, append_assoc, append-nil}
+use Rattle.std.proofs.Common.{◌≡◌, ℕ, zero, suc, ◌+◌, ◌-◌, ◌<◌, not, ◌&&◌, Bool, true, false, List, [], ◌∷◌, ◌++◌, refl, sym, ap, ◌∙◌, arith, codes, Option, Some, None, IsUtf8, IsAscii, get_or, chars, encode_utf8, append_assoc, append-nil}
 use Rattle.std.proofs.lemmas.Str.{chars-append, chars-IsAscii, IsUtf8-from_ascii}
 use Rattle.std.proofs.lemmas.Slice.Eq.{bytes_eq-Decides}
 use Rattle.mbe_tt.specs.declared.span.Span.{Span}
@@ -9,14 +9,17 @@ use Rattle.mbe_tt.specs.declared.tt.DelimiterKind.{DelimiterKind}
 use Rattle.mbe_tt.specs.declared.tt.DelimiterKind.TheVariants.{Parenthesis, Brace, Bracket, Invisible}
 use Rattle.mbe_tt.specs.Trees.Leaf.{literal, punct, ident, is_text}
 use Rattle.mbe_tt.specs.Trees.Literals.{raw_prefix, literal_output}
-use Rattle.mbe_tt.specs.Trees.Tree.{Forest, none, leaf, group, FlatToken, token, opening, closing, flat}
-use Rattle.mbe_rust_text.specs.Gaps.{ends_line, goes_on, is_word_apart, joins_word, is_literal_apart, joins_literal, is_punct_apart, stays_with, is_opening_apart, is_open_brace, is_beside, is_same_place, is_before, is_one_of}
-use Rattle.mbe_rust_text.specs.Writing.{State, a_leaf, opened, closed, name_text, next_span, written, start, text_of}
+use Rattle.mbe_tt.specs.Trees.Tree.{Forest, none, leaf, group, FlatToken, token, opening, closing, flat, flat_len}
+use Rattle.mbe_rust_text.specs.Gaps.{ends_line, goes_on, is_word_apart, joins_word, is_literal_apart, joins_literal, is_punct_apart, stays_with, is_opening_apart, is_open_brace, is_beside, is_same_place, is_before, is_one_of, is_line_start}
+use Rattle.mbe_rust_text.specs.Comments.{Comment, more_trees}
+use Rattle.mbe_rust_text.specs.Writing.{State, a_leaf, opened, closed, name_text, next_span, next_comment, a_comment, comment_text, written_after, start, text_of}
 use Rattle.mbe_text.specs.declared.dialect.Dialect.{Dialect}
 use Rattle.mbe_text.specs.Division.{next_token}
 use Rattle.mbe_text.specs.Tokens.{opening_text, closing_text}
 use Rattle.mbe_text_laws.specs.Rust.{IsWord, next_place, is_start, begins_word}
 use Rattle.mbe_text_laws.specs.Gaps.{before}
+use Rattle.mbe_rust_text.proofs.WalkLemmas.{leaf_written, comment_written}
+use Rattle.mbe_text_laws.proofs.CommentLemmas.{comment_next, more_tokens, flat_count, comment_same, comment_count}
 use Rattle.mbe_text_laws.proofs.GapLemmas.{gaps_are_blank, gaps_are_in_bytes}
 use Rattle.mbe_text_laws.proofs.EndLemmas.{start_not_dollar}
 
@@ -98,21 +101,65 @@ after (token l) ts s = a_leaf s l (next_place ts)
 after (opening d) ts s = opened s d.kind d.opening
 after (closing d) ts s = closed s d.kind d.close
 
+-- ---- a token or a comment
+
+-- what is written next: a gap and a text, the state after them, and how many flat tokens it is after the first
+pub record Written : Type 0 where
+  pub gap : Reasons
+  pub depth : ℕ
+  pub text : List ℕ
+  pub state : State
+  pub more : ℕ
+
+abbrev pub a_token : FlatToken → List FlatToken → State → Written
+a_token t ts s = record { gap = the_gap t ts s; depth = gap_depth t s; text = spelled t; state = after t ts s; more = 0 }
+
+abbrev pub line_reasons : State → Reasons
+line_reasons s = reasons (not (is_line_start s.last)) false false
+
+abbrev pub token_or_comment : Option Comment → FlatToken → List FlatToken → State → Written
+token_or_comment None t ts s = a_token t ts s
+token_or_comment (Some c) t ts s = record {
+  gap = line_reasons s;
+  depth = s.depth;
+  text = comment_text c s.depth;
+  state = a_comment s c;
+  more = more_tokens c.is_inner;
+}
+
+abbrev pub next_written : FlatToken → List FlatToken → State → Written
+next_written (token (punct p)) ts s = token_or_comment (comment_next p ts s) (token (punct p)) ts s
+next_written (token (ident i)) ts s = a_token (token (ident i)) ts s
+next_written (token (literal l)) ts s = a_token (token (literal l)) ts s
+next_written (opening d) ts s = a_token (opening d) ts s
+next_written (closing d) ts s = a_token (closing d) ts s
+
 -- ---- many
 
--- what is written after these tokens
-abbrev pub write : List FlatToken → State → State
-write [] s = s
-write (t ∷ ts) s = write ts (after t ts s)
+-- what is written after these tokens, but for the first so many
+abbrev pub write : ℕ → List FlatToken → State → State
+write n [] s = s
+write (suc n) (t ∷ ts) s = write n ts s
+write zero (t ∷ ts) s = write (next_written t ts s).more ts (next_written t ts s).state
 
 -- what they add, as bytes and as characters
-abbrev pub left : List FlatToken → State → List ℕ
-left [] s = []
-left (t ∷ ts) s = gap_of (the_gap t ts s) (gap_depth t s) ++ (spelled t ++ left ts (after t ts s))
+abbrev pub left : ℕ → List FlatToken → State → List ℕ
+left n [] s = []
+left (suc n) (t ∷ ts) s = left n ts s
+left zero (t ∷ ts) s =
+    let w = next_written t ts s in gap_of w.gap w.depth ++ (w.text ++ left w.more ts w.state)
 
-abbrev pub ahead : List FlatToken → State → List ℕ
-ahead [] s = []
-ahead (t ∷ ts) s = gap_of (the_gap t ts s) (gap_depth t s) ++ (chars (spelled t) ++ ahead ts (after t ts s))
+abbrev pub ahead : ℕ → List FlatToken → State → List ℕ
+ahead n [] s = []
+ahead (suc n) (t ∷ ts) s = ahead n ts s
+ahead zero (t ∷ ts) s =
+    let w = next_written t ts s in gap_of w.gap w.depth ++ (chars w.text ++ ahead w.more ts w.state)
+
+-- how many tokens and comments they are
+abbrev pub count : ℕ → List FlatToken → State → ℕ
+count n [] s = 0
+count (suc n) (t ∷ ts) s = count n ts s
+count zero (t ∷ ts) s = suc (count (next_written t ts s).more ts (next_written t ts s).state)
 
 opened_adds : (d : Delimiter) (kind : DelimiterKind) (s : State)
     → (opened s kind d.opening).text ≡ s.text ++ (gap_of (open_gap s kind d.opening) s.depth ++ opening_text kind)
@@ -136,14 +183,29 @@ adds (token (punct p)) ts s = refl
 adds (opening d) ts s = opened_adds d d.kind s
 adds (closing d) ts s = closed_adds d d.kind s
 
-pub text_left : (ts : List FlatToken) (s : State) → (write ts s).text ≡ s.text ++ left ts s
-text_left [] s = sym (append-nil s.text)
-text_left (t ∷ ts) s =
-    text_left ts (after t ts s)
-    ∙ (ap (λ (x : List ℕ). x ++ left ts (after t ts s)) (adds t ts s)
-    ∙ (append_assoc s.text (gap_of (the_gap t ts s) (gap_depth t s) ++ spelled t) (left ts (after t ts s))
-    ∙ ap (λ (x : List ℕ). s.text ++ x) (append_assoc (gap_of (the_gap t ts s) (gap_depth t s)) (spelled t) (left ts
-    (after t ts s)))))
+abbrev Adds : Written → State → Type 0
+Adds w s = w.state.text ≡ s.text ++ (gap_of w.gap w.depth ++ w.text)
+
+comment_adds : (o : Option Comment) (t : FlatToken) (ts : List FlatToken) (s : State) → Adds (token_or_comment o t ts s) s
+comment_adds None t ts s = adds t ts s
+comment_adds (Some c) t ts s = refl
+
+next_adds : (t : FlatToken) (ts : List FlatToken) (s : State) → Adds (next_written t ts s) s
+next_adds (token (ident i)) ts s = adds (token (ident i)) ts s
+next_adds (token (literal l)) ts s = adds (token (literal l)) ts s
+next_adds (token (punct p)) ts s = comment_adds (comment_next p ts s) (token (punct p)) ts s
+next_adds (opening d) ts s = adds (opening d) ts s
+next_adds (closing d) ts s = adds (closing d) ts s
+
+pub text_left : (n : ℕ) (ts : List FlatToken) (s : State) → (write n ts s).text ≡ s.text ++ left n ts s
+text_left n [] s = sym (append-nil s.text)
+text_left (suc n) (t ∷ ts) s = text_left n ts s
+text_left zero (t ∷ ts) s =
+    let w = next_written t ts s in
+    text_left w.more ts w.state
+    ∙ (ap (λ (x : List ℕ). x ++ left w.more ts w.state) (next_adds t ts s)
+    ∙ (append_assoc s.text (gap_of w.gap w.depth ++ w.text) (left w.more ts w.state)
+    ∙ ap (λ (x : List ℕ). s.text ++ x) (append_assoc (gap_of w.gap w.depth) w.text (left w.more ts w.state))))
 
 -- ---- trees are written by their flat tokens
 
@@ -152,24 +214,67 @@ first_place none ts h = sym h
 first_place (leaf l rest) ts h = refl
 first_place (group d inside rest) ts h = refl
 
-pub written_flat : (f : Forest) (ts : List FlatToken) (s : State) → None ≡ next_place ts
-    → write (flat f ++ ts) s ≡ write ts (written f s)
-unfolding written
-written_flat none ts s h = refl
-written_flat (leaf l rest) ts s h =
-    ap (λ (p : Option Span). write (flat rest ++ ts) (a_leaf s l p)) (first_place rest ts h)
-    ∙ written_flat rest ts (a_leaf s l (next_span rest)) h
-written_flat (group d inside rest) ts s h =
-    ap (λ (x : List FlatToken). write x (opened s d.kind d.opening)) (append_assoc (flat inside)
-    (closing d ∷ flat rest) ts)
-    ∙ (written_flat inside (closing d ∷ (flat rest ++ ts)) (opened s d.kind d.opening) refl
-    ∙ written_flat rest ts (closed (written inside (opened s d.kind d.opening)) d.kind d.close) h)
+-- tokens that are passed
+passed : (f : Forest) (n : ℕ) (ts : List FlatToken) (s : State) → write (flat_len f + n) (flat f ++ ts) s ≡ write n ts s
+passed none n ts s = ap (λ (k : ℕ). write k ts s) (omega arith)
+passed (leaf l rest) n ts s =
+    let k : 1 + flat_len rest + n ≡ suc (flat_len rest + n) = omega arith in
+    ap (λ (m : ℕ). write m (token l ∷ (flat rest ++ ts)) s) k ∙ passed rest n ts s
+passed (group d inside rest) n ts s =
+    let k : 2 + flat_len inside + flat_len rest + n ≡ suc (flat_len inside + suc (flat_len rest + n)) = omega arith in
+    ap (λ (m : ℕ). write m (flat (group d inside rest) ++ ts) s) k
+    ∙ (ap (λ (x : List FlatToken). write (flat_len inside + suc (flat_len rest + n)) x s)
+    (append_assoc (flat inside) (closing d ∷ flat rest) ts)
+    ∙ (passed inside (suc (flat_len rest + n)) (closing d ∷ (flat rest ++ ts)) s ∙ passed rest n ts s))
 
-pub text_of_is : (depth : ℕ) (f : Forest) → text_of depth f ≡ left (flat f) (start depth)
+-- trees that begin with a punct, or with a comment
+written_punct : (p : Punct) (rest : Forest) (ts : List FlatToken) (s : State) (o : Option Comment) → None ≡ next_place ts
+    → comment_next p (flat rest ++ ts) s ≡ o → next_comment s (leaf (punct p) rest) ≡ o
+    → ((n : ℕ) (t : State) → write (flat_count n rest) (flat rest ++ ts) t ≡ write 0 ts (written_after n rest t))
+    → write 0 (token (punct p) ∷ (flat rest ++ ts)) s ≡ write 0 ts (written_after 0 (leaf (punct p) rest) s)
+written_punct p rest ts s None h e f go =
+    let t = token (punct p) in
+    let more = flat rest ++ ts in
+    ap (λ (o : Option Comment). write (token_or_comment o t more s).more more (token_or_comment o t more s).state) e
+    ∙ (ap (λ (n : Option Span). write 0 more (a_leaf s (punct p) n)) (first_place rest ts h)
+    ∙ (go 0 (a_leaf s (punct p) (next_span rest)) ∙ ap (write 0 ts) (sym (leaf_written (punct p) rest s f))))
+written_punct p rest ts s (Some c) h e f go =
+    let t = token (punct p) in
+    let more = flat rest ++ ts in
+    ap (λ (o : Option Comment). write (token_or_comment o t more s).more more (token_or_comment o t more s).state) e
+    ∙ (ap (λ (k : ℕ). write k more (a_comment s c)) (sym (comment_count p rest s c f))
+    ∙ (go (more_trees c.is_inner) (a_comment s c) ∙ ap (write 0 ts) (sym (comment_written (punct p) rest s c f))))
+
+pub written_flat : (n : ℕ) (f : Forest) (ts : List FlatToken) (s : State) → None ≡ next_place ts
+    → write (flat_count n f) (flat f ++ ts) s ≡ write 0 ts (written_after n f s)
+unfolding written_after
+written_flat zero none ts s h = refl
+written_flat (suc n) none ts s h = refl
+written_flat (suc n) (leaf l rest) ts s h = written_flat n rest ts s h
+written_flat (suc n) (group d inside rest) ts s h =
+    ap (λ (x : List FlatToken). write (flat_len inside + suc (flat_count n rest)) x s)
+    (append_assoc (flat inside) (closing d ∷ flat rest) ts)
+    ∙ (passed inside (suc (flat_count n rest)) (closing d ∷ (flat rest ++ ts)) s ∙ written_flat n rest ts s h)
+written_flat zero (leaf (ident i) rest) ts s h =
+    ap (λ (p : Option Span). write 0 (flat rest ++ ts) (a_leaf s (ident i) p)) (first_place rest ts h)
+    ∙ written_flat zero rest ts (a_leaf s (ident i) (next_span rest)) h
+written_flat zero (leaf (literal l) rest) ts s h =
+    ap (λ (p : Option Span). write 0 (flat rest ++ ts) (a_leaf s (literal l) p)) (first_place rest ts h)
+    ∙ written_flat zero rest ts (a_leaf s (literal l) (next_span rest)) h
+written_flat zero (leaf (punct p) rest) ts s h =
+    written_punct p rest ts s (next_comment s (leaf (punct p) rest)) h (comment_same p rest ts s h) refl
+    (λ n t. written_flat n rest ts t h)
+written_flat zero (group d inside rest) ts s h =
+    ap (λ (x : List FlatToken). write 0 x (opened s d.kind d.opening)) (append_assoc (flat inside)
+    (closing d ∷ flat rest) ts)
+    ∙ (written_flat zero inside (closing d ∷ (flat rest ++ ts)) (opened s d.kind d.opening) refl
+    ∙ written_flat zero rest ts (closed (written_after 0 inside (opened s d.kind d.opening)) d.kind d.close) h)
+
+pub text_of_is : (depth : ℕ) (f : Forest) → text_of depth f ≡ left 0 (flat f) (start depth)
 text_of_is depth f =
-    sym (ap (λ (s : State). s.text) (sym (ap (λ (x : List FlatToken). write x (start depth)) (append-nil (flat f)))
-    ∙ written_flat f [] (start depth) refl))
-    ∙ text_left (flat f) (start depth)
+    sym (ap (λ (s : State). s.text) (sym (ap (λ (x : List FlatToken). write 0 x (start depth)) (append-nil (flat f)))
+    ∙ written_flat 0 f [] (start depth) refl))
+    ∙ text_left 0 (flat f) (start depth)
 
 -- ---- characters
 

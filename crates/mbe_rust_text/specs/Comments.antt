@@ -1,0 +1,106 @@
+-- Doc comments among trees: the attributes `#[doc = r".."]` and `#![doc = r".."]` that the lexer makes of `/// ..` and `//! ..`.
+use Rattle.std.specs.Prelude.{ℕ, ◌==◌, Bool, true, false, not, ◌&&◌, ◌||◌, if◌then◌else◌, codes, List, [], ◌∷◌, Option, Some, None, option_and_then}
+use Rattle.std.specs.List.{list_any}
+use Rattle.mbe_tt.specs.declared.tt.Punct.{Punct}
+use Rattle.mbe_tt.specs.declared.tt.DelimiterKind.{DelimiterKind}
+use Rattle.mbe_tt.specs.declared.tt.DelimiterKind.TheVariants.{Parenthesis, Brace, Bracket, Invisible}
+use Rattle.mbe_tt.specs.declared.tt.IdentIsRaw.{IdentIsRaw}
+use Rattle.mbe_tt.specs.declared.tt.IdentIsRaw.TheVariants.{No, Yes}
+use Rattle.mbe_tt.specs.declared.tt.LitKind.{LitKind}
+use Rattle.mbe_tt.specs.declared.tt.LitKind.TheVariants.{Byte, Char, Integer, Float, Str, StrRaw, ByteStr, ByteStrRaw, CStr, CStrRaw, Err}
+use Rattle.mbe_tt.specs.Trees.Leaf.{Ident, Literal, literal, punct, ident, is_text}
+use Rattle.mbe_tt.specs.Trees.Tree.{Forest, none, leaf, group, rest_of, any_ident, front_punct, front_group}
+use Rattle.mbe_text.specs.Tokens.{most_guards}
+use Rattle.mbe_rust_text.specs.Gaps.{is_joint, is_same_place}
+
+-- a doc comment of one line: whether it is of what is around it, and its text after `///` or `//!`
+pub record Comment : Type 0 where
+  pub is_inner : Bool
+  pub text : List ℕ
+
+abbrev pub is_line_end : ℕ → Bool
+is_line_end byte = byte == 10 || byte == 13
+
+abbrev pub begins_with_slash : List ℕ → Bool
+begins_with_slash [] = false
+begins_with_slash (byte ∷ bytes) = byte == 47
+
+-- No line ends in the text. `////` is no doc comment.
+abbrev pub is_line : Bool → List ℕ → Bool
+is_line is_inner text = not (list_any is_line_end text) && (is_inner || not (begins_with_slash text))
+
+-- ---- `doc = r".."`
+
+abbrev pub is_plain : IdentIsRaw → Bool
+is_plain No = true
+is_plain Yes = false
+
+-- a raw string with so many `#`
+abbrev pub is_raw_string : ℕ → LitKind → Bool
+is_raw_string hashes (StrRaw n) = n == hashes
+is_raw_string hashes Byte = false
+is_raw_string hashes Char = false
+is_raw_string hashes Integer = false
+is_raw_string hashes Float = false
+is_raw_string hashes Str = false
+is_raw_string hashes ByteStr = false
+is_raw_string hashes (ByteStrRaw n) = false
+is_raw_string hashes CStr = false
+is_raw_string hashes (CStrRaw n) = false
+is_raw_string hashes Err = false
+
+-- tokens as the lexer makes them of a comment, with its span, whatever the spans of the `#` and the brackets around them
+abbrev pub is_setting : Ident → Punct → Literal → Bool
+is_setting name equals l =
+    (is_text name.sym (codes "doc") && is_plain name.is_raw) && (equals.char == 61 && not (is_joint equals.spacing))
+    && (l.suffix_len == 0 && is_raw_string (most_guards 0 l.text_and_suffix) l.kind)
+    && (is_same_place (Some name.span) equals.span && is_same_place (Some name.span) l.span)
+
+abbrev pub comment_set : Bool → Ident → Punct → Literal → Option Comment
+comment_set is_inner name equals l =
+    if is_setting name equals l && is_line is_inner l.text_and_suffix then Some (record { is_inner = is_inner; text = l.text_and_suffix })
+    else None
+
+-- the literal, where there is exactly that tree
+abbrev pub only_literal : Forest → Option Literal
+only_literal none = None
+only_literal (leaf (literal l) none) = Some l
+only_literal (leaf (literal l) (leaf m rest)) = None
+only_literal (leaf (literal l) (group d inside rest)) = None
+only_literal (leaf (punct p) rest) = None
+only_literal (leaf (ident i) rest) = None
+only_literal (group d inside rest) = None
+
+abbrev pub comment_inside : Bool → Forest → Option Comment
+comment_inside is_inner f =
+    option_and_then (λ name.
+    option_and_then (λ equals. option_and_then (comment_set is_inner name equals) (only_literal (rest_of (rest_of f)))) (front_punct (rest_of f)))
+    (any_ident f)
+
+-- ---- `#[..]` and `#![..]`
+
+abbrev pub is_bracket : DelimiterKind → Bool
+is_bracket Bracket = true
+is_bracket Parenthesis = false
+is_bracket Brace = false
+is_bracket Invisible = false
+
+abbrev pub in_brackets : Bool → Forest → Option Comment
+in_brackets is_inner f = option_and_then (λ g. if is_bracket g.0.kind then comment_inside is_inner g.1 else None) (front_group f)
+
+-- what follows a joint `#`
+abbrev pub after_hash : Forest → Option Comment
+after_hash f =
+    option_and_then (λ p. if p.char == 33 && not (is_joint p.spacing) then in_brackets true (rest_of f) else None) (front_punct f)
+
+abbrev pub after_punct : Punct → Forest → Option Comment
+after_punct p f = if not (p.char == 35) then None else if is_joint p.spacing then after_hash f else in_brackets false f
+
+-- the doc comment at the front of trees
+abbrev pub comment_of : Forest → Option Comment
+comment_of f = option_and_then (λ p. after_punct p (rest_of f)) (front_punct f)
+
+-- how many trees it is, after the first
+abbrev pub more_trees : Bool → ℕ
+more_trees false = 1
+more_trees true = 2

@@ -1,0 +1,181 @@
+// Doc comments among trees: the attributes `#[doc = r".."]` and `#![doc = r".."]` that the lexer makes of `/// ..` and `//! ..`.
+ghost use Rattle.std.specs.Prelude.{◌≡◌, option_map};
+ghost use Rattle.std.specs.List.{list_any};
+ghost use Rattle.mbe_tt.specs.Trees.Tree.{rest_of, skip};
+ghost use Rattle.mbe_tt.specs.Views.Shown.{ident_of, literal_of};
+ghost use Rattle.mbe_tt.specs.Views.View.{trees};
+ghost use Rattle.mbe_rust_text.specs.Comments as spec;
+ghost use Rattle.mbe_rust_text.specs.Shown.{comment_shown};
+
+use crate::gaps::{is_joint, is_same_place};
+use mbe_text::lexer::hashes_around;
+use mbe_tt::tt::{
+    DelimiterKind, Ident, IdentIsRaw, Leaf, LitKind, Literal, Punct, TokenTreesView, TtElement,
+};
+use std::alloc::Allocator;
+
+// A doc comment of one line.
+#[derive(Clone, Copy, Drop)]
+pub(crate) struct Comment<'t> {
+    // Whether it is of what is around it, and not of what follows.
+    pub(crate) is_inner: bool,
+    // After the `///` or `//!`.
+    pub(crate) text: &'t str,
+}
+
+// Whether no line ends in the text, and it would be a doc comment's: `////` is none.
+fn is_line(is_inner: bool, text: &[u8]) -> bool
+    ensures { result ≡ spec.is_line is_inner text.now }
+{
+    !has_line_end(text) && (is_inner || !begins_with_slash(text))
+}
+
+fn has_line_end(text: &[u8]) -> bool
+    ensures { result ≡ list_any spec.is_line_end text.now }
+{
+    text.iter().any(|byte| *byte == b'\n' || *byte == b'\r')
+}
+
+fn begins_with_slash(text: &[u8]) -> bool
+    ensures { result ≡ spec.begins_with_slash text.now }
+{
+    match text.first() {
+        Some(byte) => *byte == b'/',
+        None => false,
+    }
+}
+
+fn is_raw_string(hashes: u8, kind: LitKind) -> bool
+    ensures { result ≡ spec.is_raw_string hashes kind }
+{
+    match kind {
+        LitKind::StrRaw(n) => n == hashes,
+        _ => false,
+    }
+}
+
+// Whether these are `doc = r".."`, as the lexer makes them of a comment, with its span. The `#` and the brackets around them may be
+// of a template.
+fn is_setting<A: Allocator>(name: &Ident<A>, equals: &Punct, literal: &Literal<A>) -> bool
+    ensures { result ≡ spec.is_setting (ident_of name.now) equals.now (literal_of literal.now) }
+{
+    let place = Some(name.span);
+    (name.sym.as_str() == "doc" && is_plain(name.is_raw))
+        && (equals.char == '=' && !is_joint(equals.spacing))
+        && (literal.suffix_len == 0
+            && is_raw_string(
+                hashes_around(literal.text_and_suffix.as_str()),
+                literal.kind,
+            ))
+        && (is_same_place(place, equals.span) && is_same_place(place, literal.span))
+}
+
+fn is_plain(is_raw: IdentIsRaw) -> bool
+    ensures { result ≡ spec.is_plain is_raw }
+{
+    match is_raw {
+        IdentIsRaw::No => true,
+        IdentIsRaw::Yes => false,
+    }
+}
+
+fn comment_set<'t, A: Allocator>(
+    is_inner: bool,
+    name: &'t Ident<A>,
+    equals: &'t Punct,
+    literal: &'t Literal<A>,
+) -> Option<Comment<'t>>
+    ensures { option_map comment_shown result
+        ≡ spec.comment_set is_inner (ident_of name.now) equals.now (literal_of literal.now) }
+{
+    let text = literal.text_and_suffix.as_str();
+    if is_setting(name, equals, literal) && is_line(is_inner, text.as_bytes()) {
+        Some(Comment { is_inner, text })
+    } else {
+        None
+    }
+}
+
+// The literal, where there is exactly that tree.
+fn only_literal<'t, A: Allocator>(tokens: TokenTreesView<'t, A>) -> Option<&'t Literal<A>>
+    ensures { option_map (λ l. literal_of l.now) result ≡ spec.only_literal (trees tokens.entry) }
+{
+    let mut iter = tokens.iter();
+    match (iter.next(), iter.next()) {
+        (Some(TtElement::Leaf(Leaf::Literal(literal))), None) => Some(literal),
+        _ => None,
+    }
+}
+
+fn comment_inside<'t, A: Allocator>(
+    is_inner: bool,
+    tokens: TokenTreesView<'t, A>,
+) -> Option<Comment<'t>>
+    ensures { option_map comment_shown result
+        ≡ spec.comment_inside is_inner (trees tokens.entry) }
+{
+    let mut iter = tokens.iter();
+    let name = iter.expect_ident_or_underscore().ok()?;
+    let equals = iter.expect_single_punct().ok()?;
+    let literal = only_literal(iter.remaining())?;
+    comment_set(is_inner, name, equals, literal)
+}
+
+fn in_brackets<'t, A: Allocator>(
+    is_inner: bool,
+    tokens: TokenTreesView<'t, A>,
+) -> Option<Comment<'t>>
+    ensures { option_map comment_shown result ≡ spec.in_brackets is_inner (trees tokens.entry) }
+{
+    let mut iter = tokens.iter();
+    let (group, inside) = iter.expect_subtree().ok()?;
+    match group.delimiter.kind {
+        DelimiterKind::Bracket => comment_inside(is_inner, inside.remaining()),
+        DelimiterKind::Parenthesis | DelimiterKind::Brace | DelimiterKind::Invisible => None,
+    }
+}
+
+// What follows a joint `#`.
+fn after_hash<'t, A: Allocator>(tokens: TokenTreesView<'t, A>) -> Option<Comment<'t>>
+    ensures { option_map comment_shown result ≡ spec.after_hash (trees tokens.entry) }
+{
+    let mut iter = tokens.iter();
+    let bang = iter.expect_single_punct().ok()?;
+    if bang.char == '!' && !is_joint(bang.spacing) {
+        in_brackets(true, iter.remaining())
+    } else {
+        None
+    }
+}
+
+// The doc comment at the front.
+pub(crate) fn comment_of<'t, A: Allocator>(tokens: TokenTreesView<'t, A>) -> Option<Comment<'t>>
+    ensures { option_map comment_shown result ≡ spec.comment_of (trees tokens.entry) }
+{
+    let mut iter = tokens.iter();
+    let hash = iter.expect_single_punct().ok()?;
+    if hash.char != '#' {
+        return None;
+    }
+    if is_joint(hash.spacing) {
+        after_hash(iter.remaining())
+    } else {
+        in_brackets(false, iter.remaining())
+    }
+}
+
+// What is after a comment's trees.
+pub(crate) fn past_comment<'t, A: Allocator>(
+    is_inner: bool,
+    tokens: TokenTreesView<'t, A>,
+) -> TokenTreesView<'t, A>
+    ensures { trees result ≡ skip (spec.more_trees is_inner) (rest_of (trees tokens.entry)) }
+{
+    let mut iter = tokens.iter();
+    let _first = iter.next();
+    let _second = iter.next();
+    if is_inner {
+        let _third = iter.next();
+    }
+    iter.remaining()
+}
