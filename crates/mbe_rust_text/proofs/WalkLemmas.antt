@@ -48,7 +48,8 @@ end_step (leaf m rest) s h = absurd (cc)
 end_step (group e content rest) s h = absurd (cc)
 
 -- what is next of trees is what was found at a view of them
-pub found : (s : State) (f view : Forest) (o n : Option Comment) → view ≡ f → o ≡ next_comment s view → o ≡ n → next_comment s f ≡ n
+pub found : (s : State) (f view : Forest) (o n : Option Comment) → view ≡ f → o ≡ next_comment s view → o ≡ n
+    → next_comment s f ≡ n
 found s f view o n v h e = ap (next_comment s) (sym v) ∙ (sym h ∙ e)
 
 -- trees that are written already are passed
@@ -72,7 +73,8 @@ pub leaf_turn : (around : List (Delimiter × Forest)) (f : Forest) (l : Leaf) (s
     → written_around around (written f s) ≡ whole
     → written_around around (written (rest_of f) next) ≡ whole
 leaf_turn around f l s next whole h c n w =
-    ap (λ t. written_around around (written (rest_of f) t)) n ∙ (ap (written_around around) (sym (leaf_step f l s h c)) ∙ w)
+    ap (λ t. written_around around (written (rest_of f) t)) n
+    ∙ (ap (written_around around) (sym (leaf_step f l s h c)) ∙ w)
 
 pub comment_turn : (around : List (Delimiter × Forest)) (f after : Forest) (c : Comment) (s next whole : State)
     → next_comment s f ≡ Some c → next ≡ a_comment s c → after ≡ skip (more_trees c.is_inner) (rest_of f)

@@ -56,9 +56,11 @@ is_setting name equals l =
     && (l.suffix_len == 0 && is_raw_string (most_guards 0 l.text_and_suffix) l.kind)
     && (is_same_place (Some name.span) equals.span && is_same_place (Some name.span) l.span)
 
+-- the comment that these tokens set, if they are one's
 abbrev pub comment_set : Bool → Ident → Punct → Literal → Option Comment
 comment_set is_inner name equals l =
-    if is_setting name equals l && is_line is_inner l.text_and_suffix then Some (record { is_inner = is_inner; text = l.text_and_suffix })
+    if is_setting name equals l && is_line is_inner l.text_and_suffix
+    then Some (record { is_inner = is_inner; text = l.text_and_suffix })
     else None
 
 -- the literal, where there is exactly that tree
@@ -71,10 +73,11 @@ only_literal (leaf (punct p) rest) = None
 only_literal (leaf (ident i) rest) = None
 only_literal (group d inside rest) = None
 
+-- the comment that exactly three trees set
 abbrev pub comment_inside : Bool → Forest → Option Comment
 comment_inside is_inner f =
-    option_and_then (λ name.
-    option_and_then (λ equals. option_and_then (comment_set is_inner name equals) (only_literal (rest_of (rest_of f)))) (front_punct (rest_of f)))
+    option_and_then (λ name. option_and_then (λ equals.
+    option_and_then (comment_set is_inner name equals) (only_literal (rest_of (rest_of f)))) (front_punct (rest_of f)))
     (any_ident f)
 
 -- ---- `#[..]` and `#![..]`
@@ -85,14 +88,18 @@ is_bracket Parenthesis = false
 is_bracket Brace = false
 is_bracket Invisible = false
 
+-- the comment that a group in brackets sets
 abbrev pub in_brackets : Bool → Forest → Option Comment
-in_brackets is_inner f = option_and_then (λ g. if is_bracket g.0.kind then comment_inside is_inner g.1 else None) (front_group f)
+in_brackets is_inner f =
+    option_and_then (λ g. if is_bracket g.0.kind then comment_inside is_inner g.1 else None) (front_group f)
 
 -- what follows a joint `#`
 abbrev pub after_hash : Forest → Option Comment
 after_hash f =
-    option_and_then (λ p. if p.char == 33 && not (is_joint p.spacing) then in_brackets true (rest_of f) else None) (front_punct f)
+    option_and_then (λ p. if p.char == 33 && not (is_joint p.spacing) then in_brackets true (rest_of f) else None)
+    (front_punct f)
 
+-- what follows that punct
 abbrev pub after_punct : Punct → Forest → Option Comment
 after_punct p f = if not (p.char == 35) then None else if is_joint p.spacing then after_hash f else in_brackets false f
 

@@ -94,6 +94,7 @@ closed s Invisible place = s
 
 -- ---- doc comments
 
+-- a comment begins a line
 abbrev pub comment_gap : State → Gap
 comment_gap s = gap (not (is_line_start s.last)) false false
 

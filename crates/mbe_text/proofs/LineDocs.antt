@@ -55,8 +55,11 @@ until_is : (is_inner : Bool) (cs end : List ℕ) → has_line_end cs ≡ false
 until_is is_inner cs end h = rw (doc_until, front_is cs end, no_return cs h, bytes_are cs end) refl
 
 pub line_doc_is : (is_inner : Bool) (cs tail : List ℕ) → has_line_end cs ≡ false
-    → doc (47 ∷ (47 ∷ (last_mark is_inner ∷ (cs ++ (10 ∷ tail))))) ≡ Ok (doc_of (encode_utf8_all cs) is_inner, 10 ∷ tail)
+    → doc (47 ∷ (47 ∷ (last_mark is_inner ∷ (cs ++ (10 ∷ tail)))))
+    ≡ Ok (doc_of (encode_utf8_all cs) is_inner, 10 ∷ tail)
 line_doc_is true cs tail h =
-    ap (λ (end : List ℕ). doc_until true (cs ++ (10 ∷ tail)) end end) (past_line cs tail h) ∙ until_is true cs (10 ∷ tail) h
+    ap (λ (end : List ℕ). doc_until true (cs ++ (10 ∷ tail)) end end) (past_line cs tail h)
+    ∙ until_is true cs (10 ∷ tail) h
 line_doc_is false cs tail h =
-    ap (λ (end : List ℕ). doc_until false (cs ++ (10 ∷ tail)) end end) (past_line cs tail h) ∙ until_is false cs (10 ∷ tail) h
+    ap (λ (end : List ℕ). doc_until false (cs ++ (10 ∷ tail)) end end) (past_line cs tail h)
+    ∙ until_is false cs (10 ∷ tail) h

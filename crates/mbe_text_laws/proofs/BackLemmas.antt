@@ -69,8 +69,10 @@ text_utf8 : (e : Edition) (p : Punct) (ts : List FlatToken) (s : State) (c : Com
     → comment_next p ts s ≡ Some c → IsUtf8 c.text
 text_utf8 e p ts s c h m =
     comment_case (λ us x. AreRust e us → IsUtf8 x.text) p ts s c
-    (λ d n v k i q l end us is line r. raw_text_utf8 l (most_guards 0 l.text_and_suffix) is.no_suffix is.raw r.1.1.1.0.0.utf8)
-    (λ o d n v m w k i q l end us is line r. raw_text_utf8 l (most_guards 0 l.text_and_suffix) is.no_suffix is.raw r.1.1.1.1.0.0.utf8)
+    (λ d n v k i q l end us is line r. raw_text_utf8 l
+    (most_guards 0 l.text_and_suffix) is.no_suffix is.raw r.1.1.1.0.0.utf8)
+    (λ o d n v m w k i q l end us is line r. raw_text_utf8 l
+    (most_guards 0 l.text_and_suffix) is.no_suffix is.raw r.1.1.1.1.0.0.utf8)
     m h
 
 written_utf8 : (e : Edition) (t : FlatToken) (ts : List FlatToken) (s : State) → AreRust e (t ∷ ts)
@@ -85,19 +87,22 @@ written_utf8 e (token (punct p)) ts s h = by (comment_next p ts s) refl
     by None m = utf8_of e (token (punct p)) ts h
     by (Some c) m = comment_utf8 c s.depth (text_utf8 e p ts s c h.1 m)
 
-pub chars_left : (e : Edition) (n : ℕ) (ts : List FlatToken) (s : State) → AreRust e ts → chars (left n ts s) ≡ ahead n ts s
+pub chars_left : (e : Edition) (n : ℕ) (ts : List FlatToken) (s : State) → AreRust e ts
+    → chars (left n ts s) ≡ ahead n ts s
 chars_left e n [] s h = chars-nil
 chars_left e (suc n) (t ∷ ts) s h = chars_left e n ts s (later e t ts h)
 chars_left e zero (t ∷ ts) s h =
     let w = next_written t ts s in
     gap_chars w.gap w.depth (w.text ++ left w.more ts w.state)
-    ∙ ap (λ (x : List ℕ). gap_of w.gap w.depth ++ x) (chars-append w.text (left w.more ts w.state) (written_utf8 e t ts s h)
+    ∙ ap (λ (x : List ℕ). gap_of w.gap w.depth ++ x) (chars-append w.text (left w.more ts w.state)
+    (written_utf8 e t ts s h)
     ∙ ap (λ (x : List ℕ). chars w.text ++ x) (chars_left e w.more ts w.state (later e t ts h)))
 
 -- ---- one token is read
 
 read_after : (e : Edition) (total : ℕ) (t : FlatToken) (ts : List FlatToken) (s : State) (shape : Shape) (rest : List ℕ)
-    → Reads e total (chars (next_written t ts s).text ++ ahead (next_written t ts s).more ts (next_written t ts s).state) shape rest
+    → Reads e total (chars (next_written t ts s).text ++ ahead (next_written t ts s).more ts
+    (next_written t ts s).state) shape rest
     → Reads e total (ahead 0 (t ∷ ts) s) shape rest
 read_after e total t ts s shape rest r =
     let w = next_written t ts s in record {
@@ -214,9 +219,11 @@ sign_comes : (e : Edition) (file total n c : ℕ) (sp : Spacing) (place : Span) 
     → IsSign false e (record { char = c; spacing = sp; span = place }) ts → AreRust e ts → bare_levels levels ≡ want
     → comment_next (record { char = c; spacing = sp; span = place }) ts s ≡ None
     → ((new : Levels) → bare_levels new ≡ step (token (punct (record { char = c; spacing = sp; span = place }))) want
-    → Comes e file total n new (ahead 0 ts (a_punct s (record { char = c; spacing = sp; span = place }) (next_place ts)))
+    → Comes e file total n new (ahead 0 ts (a_punct s (record { char = c; spacing = sp; span = place })
+    (next_place ts)))
     (made ts (step (token (punct (record { char = c; spacing = sp; span = place }))) want)))
-    → Comes e file total (suc n) levels (ahead 0 (token (punct (record { char = c; spacing = sp; span = place })) ∷ ts) s)
+    → Comes e file total (suc n) levels (ahead 0 (token (punct
+    (record { char = c; spacing = sp; span = place })) ∷ ts) s)
     (made (token (punct (record { char = c; spacing = sp; span = place })) ∷ ts) want)
 sign_comes e file total n c sp place ts s levels want h r same plain go =
     let p : Punct = record { char = c; spacing = sp; span = place } in
@@ -295,19 +302,23 @@ ComesAt e file total n p ts s levels want =
 -- ---- a punct
 
 -- where no name follows it
-no_name_comes : (e : Edition) (file total n : ℕ) (go : Come e file total n) (p : Punct) (ts : List FlatToken) (s : State)
+no_name_comes : (e : Edition) (file total n : ℕ) (go : Come e file total n) (p : Punct) (ts : List FlatToken)
+    (s : State)
     (levels want : Levels)
     → AreRust e (token (punct p) ∷ ts) → Fit (token (punct p) ∷ ts) want → bare_levels levels ≡ want
     → comment_next p ts s ≡ None → count 0 ts (after (token (punct p)) ts s) ≤ n → names ts ≡ false
     → ComesAt e file total n p ts s levels want
 no_name_comes e file total n go p ts s levels want h f same plain le unnamed =
-    sign_comes e file total n p.char p.spacing p.span ts s levels want (is_no_tick e p ts (p.char == 39) unnamed h.0) h.1 same plain
+    sign_comes e file total n p.char p.spacing p.span ts s levels want (is_no_tick e p ts
+    (p.char == 39) unnamed h.0) h.1 same plain
     (λ new q. go ts (a_punct s p (next_place ts)) new (step (token (punct p)) want) h.1 f q le)
 
-sign_or_lifetime : (e : Edition) (file total n : ℕ) (go : Come e file total n) (p : Punct) (ts : List FlatToken) (s : State)
+sign_or_lifetime : (e : Edition) (file total n : ℕ) (go : Come e file total n) (p : Punct) (ts : List FlatToken)
+    (s : State)
     (levels want : Levels)
     → AreRust e (token (punct p) ∷ ts) → Fit (token (punct p) ∷ ts) want → bare_levels levels ≡ want
-    → comment_next p ts s ≡ None → count 0 ts (after (token (punct p)) ts s) ≤ n → ComesAt e file total n p ts s levels want
+    → comment_next p ts s ≡ None → count 0 ts (after (token (punct p)) ts s) ≤ n
+    → ComesAt e file total n p ts s levels want
 sign_or_lifetime e file total n go p [] s levels want h f same plain le =
     no_name_comes e file total n go p [] s levels want h f same plain le refl
 sign_or_lifetime e file total n go p (token (literal l) ∷ ts) s levels want h f same plain le =
@@ -324,7 +335,8 @@ sign_or_lifetime e file total n go p (token (ident i) ∷ ts) s levels want h f 
         → ComesAt e file total n p (token (ident i) ∷ ts) s levels want
     by true t l =
         lifetime_comes e file total n p.char p.spacing p.span i ts s levels want t l h.1.0 h.1.1 same
-        (λ new q. go ts (word (a_punct s p (Some i.span)) i) new (step (token (ident i)) (step (token (punct p)) want)) h.1.1 f q
+        (λ new q. go ts (word (a_punct s p (Some i.span)) i) new (step (token (ident i)) (step (token
+        (punct p)) want)) h.1.1 f q
         (omega (arith, le)))
     by false t l =
         sign_comes e file total n p.char p.spacing p.span (token (ident i) ∷ ts) s levels want l h.1 same plain
@@ -366,7 +378,8 @@ outer_makes e p ts s c want r f m =
     comment_case (λ us x. AreRust e us → Fit (token (punct p) ∷ us) want
     → CommentMakes e us x (made (token (punct p) ∷ us) want) want) p ts s c
     (λ d hash alone k i q l end us is line rust fit.
-    let own : Forest = leaf (punct p) (group d (leaf (ident i) (leaf (punct q) (leaf (literal l) none))) none) in record {
+    let own : Forest = leaf (punct p) (group d (leaf (ident i) (leaf (punct q) (leaf
+    (literal l) none))) none) in record {
       rest = us;
       rust = rust.1.1.1.1.1;
       utf8 = raw_text_utf8 l (most_guards 0 l.text_and_suffix) is.no_suffix is.raw rust.1.1.1.0.0.utf8;
@@ -380,7 +393,8 @@ outer_makes e p ts s c want r f m =
       count_is = λ t. refl;
     })
     (λ o d hash joint bang alone k i q l end us is line rust fit.
-    let own : Forest = leaf (punct p) (leaf (punct o) (group d (leaf (ident i) (leaf (punct q) (leaf (literal l) none))) none)) in record {
+    let own : Forest = leaf (punct p) (leaf (punct o) (group d (leaf (ident i) (leaf (punct q) (leaf
+    (literal l) none))) none)) in record {
       rest = us;
       rust = rust.1.1.1.1.1.1;
       utf8 = raw_text_utf8 l (most_guards 0 l.text_and_suffix) is.no_suffix is.raw rust.1.1.1.1.0.0.utf8;
@@ -389,7 +403,8 @@ outer_makes e p ts s c want r f m =
       fit = fit.1;
       made_is = refl;
       new_is = made_flat own [] want ∙ ap (λ (x : Forest). put x want) (rw (hash, joint, bang, alone)
-          (ap (λ (x : Forest). leaf (bare_punct 35 Joint) (leaf (bare_punct 33 Alone) x)) (bare_group_is d.kind i q l k is)));
+          (ap (λ (x : Forest). leaf (bare_punct 35 Joint) (leaf (bare_punct 33 Alone) x))
+          (bare_group_is d.kind i q l k is)));
       ahead_is = λ t. refl;
       count_is = λ t. refl;
     })
@@ -400,7 +415,8 @@ bare_doc true span text = refl
 bare_doc false span text = refl
 
 -- blanks make nothing
-gap_comes : (e : Edition) (file total n depth : ℕ) (levels want : Levels) (cs : List ℕ) → Comes e file total n levels cs want
+gap_comes : (e : Edition) (file total n depth : ℕ) (levels want : Levels) (cs : List ℕ)
+    → Comes e file total n levels cs want
     → Comes e file total n levels (line_gap depth ++ cs) want
 gap_comes e file total n depth levels want cs c = record {
   levels_at_end = c.levels_at_end;
@@ -408,11 +424,13 @@ gap_comes e file total n depth levels want cs c = record {
   same = c.same;
 }
   where
-    passed : (k : ℕ) → levels_of (Rust e) file total k levels (line_gap depth ++ cs) ≡ levels_of (Rust e) file total k levels cs
+    passed : (k : ℕ) → levels_of (Rust e) file total k levels (line_gap depth ++ cs)
+        ≡ levels_of (Rust e) file total k levels cs
     passed zero = refl
     passed (suc k) = rw (levels_of, gap_is_blank (Rust e) total depth (reasons true false false) cs) refl
 
-comment_comes : (e : Edition) (file total n : ℕ) (go : Come e file total n) (p : Punct) (ts : List FlatToken) (s : State)
+comment_comes : (e : Edition) (file total n : ℕ) (go : Come e file total n) (p : Punct) (ts : List FlatToken)
+    (s : State)
     (levels want : Levels) (c : Comment)
     → AreRust e ts → Fit (token (punct p) ∷ ts) want → bare_levels levels ≡ want
     → comment_next p ts s ≡ Some c → count (more_tokens c.is_inner) ts (a_comment s c) ≤ n
@@ -423,7 +441,8 @@ comment_comes e file total n go p ts s levels want c r f same m le =
     let more = ahead (more_tokens c.is_inner) ts state in
     let rest : List ℕ = line_gap s.depth ++ more in
     let shape = doc_of c.text c.is_inner in
-    let read = read_after e total (token (punct p)) ts s shape rest (rw m (comment_reads e total c s.depth more k.utf8 k.line)) in
+    let read = read_after e total (token (punct p)) ts s shape rest (rw m
+    (comment_reads e total c s.depth more k.utf8 k.line)) in
     let span = span_of_taken file total (taken shape read.from rest) in
     let trees : Forest = doc_trees span c.text c.is_inner in
     let new_is : bare_levels (put trees levels) ≡ k.new =
@@ -432,7 +451,8 @@ comment_comes e file total n go p ts s levels want c r f same m le =
     let few : count 0 k.rest state ≤ n = subst (λ (x : ℕ). x ≤ n) (k.count_is state) le in
     let later = go k.rest state (put trees levels) k.new k.rust k.fit new_is few in
     let here : Comes e file total n (put trees levels) more (made (token (punct p) ∷ ts) want) =
-    subst (λ (x : List ℕ). Comes e file total n (put trees levels) x (made (token (punct p) ∷ ts) want)) (sym (k.ahead_is state))
+    subst (λ (x : List ℕ). Comes e file total n (put trees levels) x (made (token (punct p) ∷ ts) want)) (sym
+    (k.ahead_is state))
     (subst (λ (x : Levels). Comes e file total n (put trees levels) (ahead 0 k.rest state) x) (sym k.made_is) later) in
     comes_on e file total n levels (put trees levels) (ahead 0 (token (punct p) ∷ ts) s) rest shape
     (made (token (punct p) ∷ ts) want) read refl
@@ -445,9 +465,11 @@ punct_comes : (e : Edition) (file total n : ℕ) (go : Come e file total n) (p :
 punct_comes e file total n go p ts s levels want h f same le = by (comment_next p ts s) refl
   where
     few : (o : Option Comment) → comment_next p ts s ≡ o
-        → count (token_or_comment o (token (punct p)) ts s).more ts (token_or_comment o (token (punct p)) ts s).state ≤ n
+        → count (token_or_comment o (token (punct p)) ts s).more ts (token_or_comment o (token
+        (punct p)) ts s).state ≤ n
     few o m =
-        let k : suc (count (token_or_comment o (token (punct p)) ts s).more ts (token_or_comment o (token (punct p)) ts s).state) ≤ suc n =
+        let k : suc (count (token_or_comment o (token (punct p)) ts s).more ts (token_or_comment o (token
+        (punct p)) ts s).state) ≤ suc n =
         subst (λ (x : Option Comment). suc (count (token_or_comment x (token (punct p)) ts s).more ts
         (token_or_comment x (token (punct p)) ts s).state) ≤ suc n) m le in omega (arith, k)
 

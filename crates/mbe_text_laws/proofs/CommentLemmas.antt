@@ -36,7 +36,8 @@ hash_flat (token (punct q) ∷ ts) = if q.char == 33 && not (is_joint q.spacing)
 hash_flat _ = None
 
 abbrev pub punct_flat : Punct → List FlatToken → Option Comment
-punct_flat p ts = if not (p.char == 35) then None else if is_joint p.spacing then hash_flat ts else brackets_flat false ts
+punct_flat p ts = if not (p.char == 35) then None else if is_joint p.spacing then hash_flat ts else brackets_flat
+    false ts
 
 -- the comment that begins with this punct, after what was written
 abbrev pub comment_next : Punct → List FlatToken → State → Option Comment
@@ -49,7 +50,8 @@ more_tokens true = 6
 
 -- ---- it is the comment at the front of trees
 
-set_same : (b : Bool) (d : Delimiter) (f : Forest) (ts : List FlatToken) → set_flat b (flat f ++ (closing d ∷ ts)) ≡ comment_inside b f
+set_same : (b : Bool) (d : Delimiter) (f : Forest) (ts : List FlatToken)
+    → set_flat b (flat f ++ (closing d ∷ ts)) ≡ comment_inside b f
 set_same b d none ts = refl
 set_same b d (leaf (literal l) r) ts = refl
 set_same b d (leaf (punct p) r) ts = refl
@@ -74,24 +76,29 @@ at_end P (token l ∷ ts) h a k = absurd (cc)
 at_end P (opening d ∷ ts) h a k = absurd (cc)
 at_end P (closing d ∷ ts) h a k = k d ts
 
-brackets_same : (b : Bool) (f : Forest) (ts : List FlatToken) → None ≡ next_place ts → brackets_flat b (flat f ++ ts) ≡ in_brackets b f
+brackets_same : (b : Bool) (f : Forest) (ts : List FlatToken) → None ≡ next_place ts
+    → brackets_flat b (flat f ++ ts) ≡ in_brackets b f
 brackets_same b none ts h = at_end (brackets_flat b) ts h refl (λ d us. refl)
 brackets_same b (leaf l r) ts h = refl
 brackets_same b (group d inside r) ts h =
-    ap (λ (x : List FlatToken). if is_bracket d.kind then set_flat b x else None) (append_assoc (flat inside) (closing d ∷ flat r) ts)
+    ap (λ (x : List FlatToken). if is_bracket d.kind then set_flat b x else None) (append_assoc (flat inside)
+    (closing d ∷ flat r) ts)
     ∙ ap (λ (o : Option Comment). if is_bracket d.kind then o else None) (set_same b d inside (flat r ++ ts))
 
 hash_same : (f : Forest) (ts : List FlatToken) → None ≡ next_place ts → hash_flat (flat f ++ ts) ≡ after_hash f
 hash_same none ts h = at_end hash_flat ts h refl (λ d us. refl)
 hash_same (leaf (punct q) r) ts h =
-    ap (λ (o : Option Comment). if q.char == 33 && not (is_joint q.spacing) then o else None) (brackets_same true r ts h)
+    ap (λ (o : Option Comment). if q.char == 33 && not (is_joint q.spacing) then o else None)
+    (brackets_same true r ts h)
 hash_same (leaf (literal l) r) ts h = refl
 hash_same (leaf (ident i) r) ts h = refl
 hash_same (group d inside r) ts h = refl
 
-punct_same : (p : Punct) (f : Forest) (ts : List FlatToken) → None ≡ next_place ts → punct_flat p (flat f ++ ts) ≡ after_punct p f
+punct_same : (p : Punct) (f : Forest) (ts : List FlatToken) → None ≡ next_place ts
+    → punct_flat p (flat f ++ ts) ≡ after_punct p f
 punct_same p f ts h =
-    ap (λ (o : Option Comment). if not (p.char == 35) then None else if is_joint p.spacing then o else brackets_flat false (flat f ++ ts))
+    ap (λ (o : Option Comment). if not (p.char == 35) then None else if is_joint p.spacing then o else brackets_flat
+    false (flat f ++ ts))
     (hash_same f ts h)
     ∙ ap (λ (o : Option Comment). if not (p.char == 35) then None else if is_joint p.spacing then after_hash f else o)
     (brackets_same false f ts h)
@@ -114,7 +121,8 @@ if_some : (b : Bool) (o : Option Comment) (c : Comment) → (if b then o else No
 if_some true o c h = (refl, h)
 if_some false o c h = absurd (cc)
 
-if_none : (b : Bool) (o : Option Comment) (c : Comment) → (if not b then None else o) ≡ Some c → (b ≡ true) × (o ≡ Some c)
+if_none : (b : Bool) (o : Option Comment) (c : Comment) → (if not b then None else o) ≡ Some c
+    → (b ≡ true) × (o ≡ Some c)
 if_none true o c h = (refl, h)
 if_none false o c h = absurd (cc)
 
@@ -170,7 +178,8 @@ set_of b l = record { is_inner = b; text = l.text_and_suffix }
 -- what holds of a comment's tokens
 abbrev pub Setting : (List FlatToken → Comment → Type 0) → Bool → Type 0
 Setting P b =
-    (i : Ident) (q : Punct) (l : Literal) (e : Delimiter) (ts : List FlatToken) → IsSetting i q l → is_line b l.text_and_suffix ≡ true
+    (i : Ident) (q : Punct) (l : Literal) (e : Delimiter) (ts : List FlatToken) → IsSetting i q l
+    → is_line b l.text_and_suffix ≡ true
     → P (token (ident i) ∷ (token (punct q) ∷ (token (literal l) ∷ (closing e ∷ ts)))) (set_of b l)
 
 set_case : (P : List FlatToken → Comment → Type 0) (b : Bool) (ts : List FlatToken) (c : Comment) → Setting P b
@@ -250,7 +259,8 @@ inside_len b (leaf (ident i) (leaf (punct q) (leaf (literal l) none))) c h =
     let same = some_same (set_of b l) c t.1 in (omega arith, sym (ap (λ (x : Comment). x.is_inner) same))
 inside_len b f c h = absurd (cc)
 
-brackets_count : (b : Bool) (f : Forest) (c : Comment) → in_brackets b f ≡ Some c → (flat_count 1 f ≡ 5) × (c.is_inner ≡ b)
+brackets_count : (b : Bool) (f : Forest) (c : Comment) → in_brackets b f ≡ Some c
+    → (flat_count 1 f ≡ 5) × (c.is_inner ≡ b)
 brackets_count b (group d inside rest) c h =
     let t = if_some (is_bracket d.kind) (comment_inside b inside) c h in
     let n = inside_len b inside c t.1 in (omega (arith, n.0), n.1)
@@ -271,7 +281,8 @@ punct_count p f c h = by p.spacing (if_none (p.char == 35) _ c h).1
     by Joint m = let n = hash_count f c m in rw (n.1) n.0
     by Alone m = let n = brackets_count false f c m in rw (n.1) n.0
 
-and_then_some : (b : Bool) (o : Option Comment) (c : Comment) → option_and_then (λ x. if b then Some x else None) o ≡ Some c
+and_then_some : (b : Bool) (o : Option Comment) (c : Comment)
+    → option_and_then (λ x. if b then Some x else None) o ≡ Some c
     → o ≡ Some c
 and_then_some b None c h = absurd (cc)
 and_then_some true (Some x) c h = h

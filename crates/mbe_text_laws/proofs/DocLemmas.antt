@@ -72,13 +72,15 @@ no_guard e cs = and_no (at_least_2024 e)
     and_no true = refl
     and_no false = refl
 
-is_a_doc : (b : Bool) (cs tail : List ℕ) → begins_right b cs ≡ true → begins_doc (47 ∷ (47 ∷ (last_mark b ∷ (cs ++ (10 ∷ tail))))) ≡ true
+is_a_doc : (b : Bool) (cs tail : List ℕ) → begins_right b cs ≡ true
+    → begins_doc (47 ∷ (47 ∷ (last_mark b ∷ (cs ++ (10 ∷ tail))))) ≡ true
 is_a_doc true cs tail h = refl
 is_a_doc false [] tail h = refl
 is_a_doc false (c ∷ cs) tail h = grind (arith, nat_tests, h)
 
 doc_read : (e : Edition) (b : Bool) (cs tail : List ℕ) → begins_right b cs ≡ true → ends cs ≡ false
-    → read_rust e (47 ∷ (47 ∷ (last_mark b ∷ (cs ++ (10 ∷ tail))))) ≡ Some (Ok (doc_of (encode_utf8_all cs) b, 10 ∷ tail))
+    → read_rust e (47 ∷ (47 ∷ (last_mark b ∷ (cs ++ (10 ∷ tail)))))
+    ≡ Some (Ok (doc_of (encode_utf8_all cs) b, 10 ∷ tail))
 doc_read e b cs tail h k =
     let all : List ℕ = 47 ∷ (last_mark b ∷ (cs ++ (10 ∷ tail))) in
     let guard = no_guard e all in
@@ -103,9 +105,11 @@ doc_reads e total b cs tail h k =
 
 marks_are_ascii : (b : Bool) → IsAscii (comment_marks b)
 marks_are_ascii true =
-    one_more 47 (47 ∷ (33 ∷ [])) (omega arith) (one_more 47 (33 ∷ []) (omega arith) (one_more 33 [] (omega arith) nothing_is_ascii))
+    one_more 47 (47 ∷ (33 ∷ [])) (omega arith) (one_more 47 (33 ∷ []) (omega arith) (one_more 33 []
+    (omega arith) nothing_is_ascii))
 marks_are_ascii false =
-    one_more 47 (47 ∷ (47 ∷ [])) (omega arith) (one_more 47 (47 ∷ []) (omega arith) (one_more 47 [] (omega arith) nothing_is_ascii))
+    one_more 47 (47 ∷ (47 ∷ [])) (omega arith) (one_more 47 (47 ∷ []) (omega arith) (one_more 47 []
+    (omega arith) nothing_is_ascii))
 
 marks_are : (b : Bool) → chars (comment_marks b) ≡ 47 ∷ (47 ∷ (last_mark b ∷ []))
 marks_are true = chars-IsAscii (comment_marks true) (marks_are_ascii true)
@@ -129,7 +133,8 @@ pub comment_chars : (c : Comment) (depth : ℕ) (rest : List ℕ) → IsUtf8 c.t
 comment_chars c depth rest h =
     let body : List ℕ = c.text ++ line_gap depth in
     ap (λ (x : List ℕ). x ++ rest)
-    (chars-append (comment_marks c.is_inner) body (IsUtf8-from_ascii (comment_marks c.is_inner) (marks_are_ascii c.is_inner))
+    (chars-append (comment_marks c.is_inner) body (IsUtf8-from_ascii (comment_marks c.is_inner)
+    (marks_are_ascii c.is_inner))
     ∙ (ap (λ (x : List ℕ). x ++ chars body) (marks_are c.is_inner)
     ∙ ap (λ (x : List ℕ). 47 ∷ (47 ∷ (last_mark c.is_inner ∷ x))) (chars-append c.text (line_gap depth) h
     ∙ ap (λ (x : List ℕ). chars c.text ++ x) (chars-IsAscii (line_gap depth) (line_is_ascii depth)))))
@@ -169,8 +174,10 @@ comment_reads e total c depth rest u h =
     let right : begins_right c.is_inner cs ≡ true =
     or_not c.is_inner (begins_with_slash c.text) (begins_with_slash cs)
     (λ f. slash_is_byte cs (ap begins_with_slash same ∙ f)) two.1 in
-    subst (λ (x : List ℕ). Reads e total (chars (comment_text c depth) ++ rest) (doc_of x c.is_inner) (line_gap depth ++ rest)) same
-    (reads_same e total (chars (comment_text c depth) ++ rest) (47 ∷ (47 ∷ (last_mark c.is_inner ∷ (cs ++ (line_gap depth ++ rest)))))
+    subst (λ (x : List ℕ). Reads e total (chars (comment_text c depth) ++ rest) (doc_of x c.is_inner)
+    (line_gap depth ++ rest)) same
+    (reads_same e total (chars (comment_text c depth) ++ rest) (47 ∷ (47 ∷ (last_mark c.is_inner ∷ (cs ++
+    (line_gap depth ++ rest)))))
     (line_gap depth ++ rest) (doc_of (encode_utf8_all cs) c.is_inner) (comment_chars c depth rest u)
     (doc_reads e total c.is_inner cs (indent depth ++ rest) right no))
 
@@ -193,7 +200,8 @@ before_utf8 text end u k =
     subst IsUtf8 (take-append_seam text end)
     (IsUtf8-take (text ++ end) (length text) u (IsCharBoundary-at_seam (text ++ end) text end refl k))
 
-raw_utf8_of : (n : ℕ) (text : List ℕ) → IsUtf8 (marks.opening (StrRaw n) ++ (text ++ (marks.closing (StrRaw n) ++ []))) → IsUtf8 text
+raw_utf8_of : (n : ℕ) (text : List ℕ) → IsUtf8 (marks.opening (StrRaw n) ++ (text ++ (marks.closing
+    (StrRaw n) ++ []))) → IsUtf8 text
 raw_utf8_of n text u =
     let close : List ℕ = 34 ∷ replicate n 35 in
     let one : IsUtf8 ((replicate n 35 ++ (34 ∷ [])) ++ (text ++ (close ++ []))) = after_one 114 _ (omega arith) u in
@@ -201,7 +209,8 @@ raw_utf8_of n text u =
     subst IsUtf8 (append_assoc (replicate n 35) (34 ∷ []) (text ++ (close ++ []))) one in
     let three = after_one 34 (text ++ (close ++ [])) (omega arith) (after_hashes n _ two) in
     let end : IsUtf8 (close ++ []) =
-    subst IsUtf8 (sym (append-nil close)) (IsUtf8-append (34 ∷ []) (replicate n 35) (ascii_utf8 34 (omega arith)) (hashes_utf8 n)) in
+    subst IsUtf8 (sym (append-nil close)) (IsUtf8-append (34 ∷ []) (replicate n 35) (ascii_utf8 34 (omega arith))
+    (hashes_utf8 n)) in
     before_utf8 text (close ++ []) three end
 
 raw_written : (l : Literal) (n : ℕ) → l.suffix_len ≡ 0 → l.kind ≡ StrRaw n

@@ -111,7 +111,8 @@ follows P t ts s g k =
     let w = next_written t ts s in
     gapped P w.gap.line w.gap.apart w.gap.beside w.depth (chars w.text ++ ahead w.more ts w.state) g k
 
-on_a_line : (P : List ℕ → Bool) (started : Bool) (depth : ℕ) (cs : List ℕ) → ((xs : List ℕ) → begins_gap xs ≡ true → P xs ≡ true)
+on_a_line : (P : List ℕ → Bool) (started : Bool) (depth : ℕ) (cs : List ℕ) → ((xs : List ℕ) → begins_gap xs ≡ true
+    → P xs ≡ true)
     → started ≡ false → P (before (not started) false false depth ++ cs) ≡ true
 on_a_line P true depth cs g h = absurd (cc)
 on_a_line P false depth cs g h = g (10 ∷ (indent depth ++ cs)) refl

@@ -112,7 +112,13 @@ pub record Written : Type 0 where
   pub more : ℕ
 
 abbrev pub a_token : FlatToken → List FlatToken → State → Written
-a_token t ts s = record { gap = the_gap t ts s; depth = gap_depth t s; text = spelled t; state = after t ts s; more = 0 }
+a_token t ts s = record {
+  gap = the_gap t ts s;
+  depth = gap_depth t s;
+  text = spelled t;
+  state = after t ts s;
+  more = 0;
+}
 
 abbrev pub line_reasons : State → Reasons
 line_reasons s = reasons (not (is_line_start s.last)) false false
@@ -186,7 +192,8 @@ adds (closing d) ts s = closed_adds d d.kind s
 abbrev Adds : Written → State → Type 0
 Adds w s = w.state.text ≡ s.text ++ (gap_of w.gap w.depth ++ w.text)
 
-comment_adds : (o : Option Comment) (t : FlatToken) (ts : List FlatToken) (s : State) → Adds (token_or_comment o t ts s) s
+comment_adds : (o : Option Comment) (t : FlatToken) (ts : List FlatToken) (s : State)
+    → Adds (token_or_comment o t ts s) s
 comment_adds None t ts s = adds t ts s
 comment_adds (Some c) t ts s = refl
 
@@ -228,7 +235,8 @@ passed (group d inside rest) n ts s =
     ∙ (passed inside (suc (flat_len rest + n)) (closing d ∷ (flat rest ++ ts)) s ∙ passed rest n ts s))
 
 -- trees that begin with a punct, or with a comment
-written_punct : (p : Punct) (rest : Forest) (ts : List FlatToken) (s : State) (o : Option Comment) → None ≡ next_place ts
+written_punct : (p : Punct) (rest : Forest) (ts : List FlatToken) (s : State) (o : Option Comment)
+    → None ≡ next_place ts
     → comment_next p (flat rest ++ ts) s ≡ o → next_comment s (leaf (punct p) rest) ≡ o
     → ((n : ℕ) (t : State) → write (flat_count n rest) (flat rest ++ ts) t ≡ write 0 ts (written_after n rest t))
     → write 0 (token (punct p) ∷ (flat rest ++ ts)) s ≡ write 0 ts (written_after 0 (leaf (punct p) rest) s)

@@ -13,17 +13,22 @@ tokens-init g c = begins _ _ _ _ c.new-around.ensures.items c.iter-iter.ensures
 pub tokens-preserved-in-Some : goal.tokens-preserved-in-Some
 tokens-preserved-in-Some g c =
     let comment = comment_shown c.in-Some.comment in
-    let past = c.past_comment.ensures ∙ ap (λ f. skip (more_trees comment.is_inner) (rest_of f)) c.remaining-in-Some.ensures in
-    comment_turn (reverse c.tokens.around.items) c.tokens.iter c.iter-iter-in-Some.result comment (state_of c.tokens.self)
+    let past = c.past_comment.ensures ∙ ap (λ f. skip (more_trees comment.is_inner)
+    (rest_of f)) c.remaining-in-Some.ensures in
+    comment_turn (reverse c.tokens.around.items) c.tokens.iter c.iter-iter-in-Some.result comment
+    (state_of c.tokens.self)
     (state_of c.comment.new.self) _
-    (found (state_of c.tokens.self) c.tokens.iter (trees c.remaining.result) (option_map comment_shown c.next_comment.result)
+    (found (state_of c.tokens.self) c.tokens.iter (trees c.remaining.result)
+    (option_map comment_shown c.next_comment.result)
     (Some comment) c.remaining.ensures c.next_comment.ensures (ap (option_map comment_shown) c.in-Some.is))
     (search rules) (c.iter-iter-in-Some.ensures ∙ past) c.tokens.invariant
 
 pub tokens-preserved-in-Continue-branch-2 : goal.tokens-preserved-in-Continue-branch-2
 tokens-preserved-in-Continue-branch-2 g c =
-    leaf_on c.tokens.around.items c.tokens.iter _ (leaf_of c.in-Some-Leaf.leaf.now) _ _ _ c.next.ensures.rest (search rules)
-    (found (state_of c.tokens.self) c.tokens.iter (trees c.remaining.result) (option_map comment_shown c.next_comment.result) None
+    leaf_on c.tokens.around.items c.tokens.iter _ (leaf_of c.in-Some-Leaf.leaf.now) _ _ _ c.next.ensures.rest
+    (search rules)
+    (found (state_of c.tokens.self) c.tokens.iter (trees c.remaining.result)
+    (option_map comment_shown c.next_comment.result) None
     c.remaining.ensures c.next_comment.ensures (ap (option_map comment_shown) c.in_default.is))
     (search rules) c.tokens.invariant
 
