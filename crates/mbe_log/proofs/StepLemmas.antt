@@ -1,5 +1,5 @@
 -- Building, step by step.
-use Rattle.std.specs.Prelude.{◌≡◌, ◌<◌, ◌≤◌, ◌+◌, ℕ, suc, List, [], ◌∷◌, length, map, drop, slice_get, Option, Some, None, refl}
+use Rattle.std.specs.Prelude.{◌≡◌, ◌<◌, ◌≤◌, ◌+◌, ℕ, suc, List, [], ◌∷◌, length, map, drop, slice_get, Option, Some, None, Result, Ok, Err, OnOk, refl}
 use Rattle.std.proofs.Common.{arith, sym, ap, subst, ◌∙◌, get_or}
 use Rattle.mbe_semantics.specs.declared.log.Part.{Part}
 use Rattle.mbe_log.specs.declared.log.Command as code
@@ -142,3 +142,9 @@ pub bound_apart : {A : Type 0} (C : List (Chain (code.Command A))) (R : List (Ch
     ((cs : Commands) → PartGives (log_of C R) no_commands part cs → round ≡ run cs []) → after ≡ add_round_in number round before →
     BindsRound C R part number before after
 bound_apart C R part number before after round r s cs p = s ∙ ap (λ e. add_round_in number e before) (r cs p)
+
+-- a command that only one is given by
+pub written_by : {R E : Type 0} (r : Result R E) (P : Command → Type 0) (c : Command) (before after : Environment) → OnOk r (after ≡ run_command c before) →
+    ((d : Command) → P d → d ≡ c) → OnOk r ((d : Command) → P d → after ≡ run_command d before)
+written_by (Ok x) P c before after h only = λ d p. h ∙ ap (λ e. run_command e before) (sym (only d p))
+written_by (Err e) P c before after h only = h

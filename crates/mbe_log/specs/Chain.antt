@@ -9,6 +9,16 @@ pub record Chain (T : Type 0) : Type 0 where
   pub link : Option Part
   pub own : List T
 
+-- the first entry and those after it; without a first one none
+abbrev pub own_entries : {T : Type 0} → Option T → List T → List T
+own_entries None more = []
+own_entries (Some x) more = x ∷ more
+
+-- there are more after a first entry alone
+abbrev pub AreAfter : {T : Type 0} → Option T → List T → Type 0
+AreAfter None more = more ≡ []
+AreAfter (Some x) more = Unit {0}
+
 abbrev pub part_code : Coded Part
 part_code = code_by (ℕ × ℕ) (coded× coded_ℕ coded_ℕ) (λ p. (p.list, p.first)) (λ p. record { list = p.0; first = p.1 }) (λ _. refl)
 

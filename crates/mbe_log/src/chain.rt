@@ -12,20 +12,23 @@ use std::marker::Model;
 #[derive(Drop)]
 pub(crate) struct Linked<T, A: Allocator = Global> {
     link: Option<Part>,
-    own: Vec<T, A>,
+    // Most lists keep one entry, which needs no memory beside the list's own.
+    first: Option<T>,
+    // Those after the first.
+    more: Vec<T, A>,
 }
 
 impl<T, A: Allocator> Model for Linked<T, A> {
     ghost use Rattle.std.specs.Prelude.{◌+◌, ◌<◌, ◌^◌, length};
-    ghost use Rattle.mbe_log.specs.Chain.{Chain, chain_code};
+    ghost use Rattle.mbe_log.specs.Chain.{Chain, chain_code, own_entries, AreAfter};
 
     ghost Value = { Chain T };
 
     ghost coded = { chain_code T.code };
 
-    ghost view = { λ l. record { link = l.link; own = l.own.items } };
+    ghost view = { λ l. record { link = l.link; own = own_entries l.first l.more.items } };
 
-    ghost invariant = { λ l. length l.own.items + 1 < 2 ^ 64 };
+    ghost invariant = { λ l. (length l.more.items + 2 < 2 ^ 64) × AreAfter l.first l.more.items };
 }
 
 impl<T, A: Allocator> Linked<T, A> {
@@ -36,7 +39,8 @@ impl<T, A: Allocator> Linked<T, A> {
     {
         Linked {
             link,
-            own: Vec::new(alloc),
+            first: None,
+            more: Vec::new(alloc),
         }
     }
 
@@ -55,8 +59,19 @@ impl<T, A: Allocator> Linked<T, A> {
         ensures { result ≡ chain_len self.now }
     {
         match self.link {
-            Some(_) => self.own.len() + 1,
-            None => self.own.len(),
+            Some(_) => self.own_len() + 1,
+            None => self.own_len(),
+        }
+    }
+
+    /// How many entries of its own it has.
+    #[inline(always)]
+    fn own_len(&self) -> usize
+        ensures { result ≡ length self.now.own }
+    {
+        match self.first {
+            Some(_) => self.more.len() + 1,
+            None => 0,
         }
     }
 
@@ -79,7 +94,10 @@ impl<T, A: Allocator> Linked<T, A> {
         requires { index < length self.now.own }
         ensures { slice_get self.now.own index ≡ Some result.now }
     {
-        &self.own[index]
+        match &self.first {
+            Some(first) if index == 0 => first,
+            _ => &self.more[index - 1],
+        }
     }
 }
 
@@ -90,14 +108,18 @@ impl<T: Drop, A: Allocator> Linked<T, A> {
         ensures ok { OnOk result (self.new ≡ record self.old { own = self.old.own ++ entry ∷ [] }) }
         ensures err { OnErr result (self.new ≡ self.old) }
     {
-        if self.own.len() >= usize::MAX - 1 {
+        if self.first.is_none() {
+            self.first = Some(entry);
+            return Ok(());
+        }
+        if self.more.len() >= usize::MAX - 2 {
             return Err(AllocError);
         }
-        // Most lists of a match keep one entry: the first takes room for itself alone.
-        if self.own.is_empty() {
-            self.own.reserve_exact(1)?;
+        // Few lists have a third entry: the second takes room for itself alone.
+        if self.more.is_empty() {
+            self.more.reserve_exact(1)?;
         }
-        self.own.push(entry)?;
+        self.more.push(entry)?;
         Ok(())
     }
 }

@@ -1,13 +1,14 @@
 use Rattle.std.proofs.Common.{◌≡◌, ◌<◌, ◌≤◌, ◌∙◌, [], ◌∷◌, length, refl, ap, subst, arith, rules}
-use Rattle.mbe_semantics.specs.Bindings.Account.{no_commands, no_command_rounds, add_round_in, grown_in, run}
+use Rattle.mbe_semantics.specs.Bindings.Account.{Command, no_commands, no_command_rounds, add_round_in, grown_in, run}
 use Rattle.mbe_semantics.specs.Bindings.Environment.{fragment, value_of}
 use Rattle.mbe_log.specs.Chain.{Flat}
-use Rattle.mbe_log.proofs.BindingLemmas.{seen-fragment}
-use Rattle.mbe_log.specs.BindingViews.{bound_by}
+use Rattle.mbe_log.proofs.BindingLemmas.{seen-fragment, seen-empty, seen-missing}
+use Rattle.mbe_log.specs.declared.fragment.Fragment.TheVariants.{Empty}
+use Rattle.mbe_log.specs.BindingViews.{bound_by, fragment_seen}
 use Rattle.mbe_log.specs.Entries.{entry_seen, log_of}
-use Rattle.mbe_log.specs.Sound.{IsPartGrounded, IsCommandGrounded}
+use Rattle.mbe_log.specs.Sound.{GivesCommand, IsPartGrounded, IsCommandGrounded}
 use Rattle.mbe_log.proofs.BuildLemmas.{is_within, is_rounds_within}
-use Rattle.mbe_log.proofs.StepLemmas.{list_there, own_in_list, same_entry, bound_alone, bound_apart, grounded_command, built-step, built-end, grounded_round, bound-step, bound-end}
+use Rattle.mbe_log.proofs.StepLemmas.{list_there, own_in_list, same_entry, bound_alone, bound_apart, grounded_command, built-step, built-end, grounded_round, bound-step, bound-end, written_by}
 use Rattle.mbe_log.proofs.log.+building.Goals as goal
 
 pub build_part-places-requires-clause-within : goal.build_part-places-requires-clause-within
@@ -128,3 +129,27 @@ pub bind_round-returns : goal.bind_round-returns
 bind_round-returns g t c =
     bound_apart c.args.commands.now c.args.rounds.now c.args.part c.args.number (bound_by c.args.bindings.now) (bound_by c.add_round.new.self)
     (bound_by c.in_ok-round.round) c.in_ok-round.ensures c.in_ok-add_round.ensures
+
+pub bind_command-returns-in_ok-try_clone-in-Fragment : goal.bind_command-returns-in_ok-try_clone-in-Fragment
+bind_command-returns-in_ok-try_clone-in-Fragment g t c =
+    written_by c.insert.result (GivesCommand (log_of c.args.commands.now c.args.rounds.now) (entry_seen c.args.command.now)) (Command.binds c.in-Fragment.name (fragment_seen c.in-Fragment.fragment))
+    (bound_by c.args.bindings.now) (bound_by c.insert.new.self) (rw c.in_ok-try_clone-in-Fragment.ensures at (rw (seen-fragment c.in_ok-try_clone-in-Fragment.field-0) at c.insert.ensures.ok))
+    (λ d p. subst (λ x. GivesCommand (log_of c.args.commands.now c.args.rounds.now) (entry_seen x) d) c.in-Fragment.is p)
+
+pub bind_command-returns-in-Optional : goal.bind_command-returns-in-Optional
+bind_command-returns-in-Optional g t c =
+    written_by c.insert-in-Optional.result (GivesCommand (log_of c.args.commands.now c.args.rounds.now) (entry_seen c.args.command.now)) (Command.binds_nothing c.in-Optional.name)
+    (bound_by c.args.bindings.now) (bound_by c.insert-in-Optional.new.self) (rw (seen-fragment {A = g.row.A.Denot} Empty) at c.insert-in-Optional.ensures.ok)
+    (λ d p. subst (λ x. GivesCommand (log_of c.args.commands.now c.args.rounds.now) (entry_seen x) d) c.in-Optional.is p)
+
+pub bind_command-returns-in-Empty : goal.bind_command-returns-in-Empty
+bind_command-returns-in-Empty g t c =
+    written_by c.insert-in-Empty.result (GivesCommand (log_of c.args.commands.now c.args.rounds.now) (entry_seen c.args.command.now)) (Command.skips c.in-Empty.name)
+    (bound_by c.args.bindings.now) (bound_by c.insert-in-Empty.new.self) (rw (seen-empty g.row.A.Denot) at c.insert-in-Empty.ensures.ok)
+    (λ d p. subst (λ x. GivesCommand (log_of c.args.commands.now c.args.rounds.now) (entry_seen x) d) c.in-Empty.is p)
+
+pub bind_command-returns-in-Missing : goal.bind_command-returns-in-Missing
+bind_command-returns-in-Missing g t c =
+    written_by c.insert-in-Missing.result (GivesCommand (log_of c.args.commands.now c.args.rounds.now) (entry_seen c.args.command.now)) (Command.misses c.in-Missing.name c.in-Missing.kind)
+    (bound_by c.args.bindings.now) (bound_by c.insert-in-Missing.new.self) (rw (seen-missing g.row.A.Denot c.in-Missing.kind) at c.insert-in-Missing.ensures.ok)
+    (λ d p. subst (λ x. GivesCommand (log_of c.args.commands.now c.args.rounds.now) (entry_seen x) d) c.in-Missing.is p)
