@@ -1,10 +1,12 @@
 -- For one who holds handles: what each call leaves of them, in one step for any number of them.
 use Rattle.std.specs.Prelude.{List, [], ◌∷◌}
-use Rattle.mbe_semantics.specs.Bindings.Account.{Account, Log, Handle, IsLive, HasEntriesOf, IsAccount, part_gives, part_gives_rounds, PartGives, PartGivesRounds, Commands, CommandRounds, IsIn}
+use Rattle.std.proofs.Common.{arith, sym, subst}
+use Rattle.mbe_semantics.specs.Bindings.Account.{Account, no_commands, no_command_rounds, Log, Handle, IsLive, HasEntriesOf, IsAccount, Gives, GivesRounds, gives_nothing, gives_no_rounds, part_gives, part_gives_rounds, PartGives, PartGivesRounds, Commands, CommandRounds, IsIn}
 use Rattle.mbe_semantics.specs.declared.log.Part.{Part}
-use Rattle.mbe_log.specs.Shared.{IsKept}
+use Rattle.mbe_log.specs.Shared.{IsKept, IsEmptied}
 use Rattle.mbe_log.specs.Accounts.{Every, Held, HasAccounts}
 use Rattle.mbe_log.proofs.ChainLemmas.{in_range}
+use Rattle.mbe_log.proofs.BuildLemmas.{take-none}
 
 pub in_of : (log : Log) {p : Part} {ds cs : Commands} → PartGives log ds p cs → IsIn log.commands p
 in_of log (part_gives ds p cs es i l h) = (es, i, l)
@@ -39,3 +41,19 @@ module _ (old new : Log) (k : IsKept old new) where
 -- one call after another
 pub kept-on : (old middle new : Log) → IsKept old middle → IsKept middle new → IsKept old new
 kept-on old middle new k l = record { stays = λ h a. l.stays h (k.stays h a); entries = λ h a. l.entries h (k.entries h a); others = λ h a b. l.others h a (k.others h a b) }
+
+-- ---- the first no entries of a handle's lists
+
+abbrev pub none_of : Handle → Handle
+none_of h = record { current = record h.current { first = 0 }; finished = record h.finished { first = 0 } }
+
+pub emptied-none : (h : Handle) → IsEmptied h (none_of h)
+emptied-none h = record {
+  entries = λ log i. ((i.0.0, i.0.1, omega arith), (i.1.0, i.1.1, omega arith));
+  account = λ log i. record {
+    current = part_gives no_commands (none_of h).current no_commands i.0.0 i.0.1 (omega arith)
+        (subst (λ es. Gives log no_commands es no_commands) (sym (take-none i.0.0)) (gives_nothing no_commands));
+    finished = part_gives_rounds no_command_rounds (none_of h).finished no_command_rounds i.1.0 i.1.1 (omega arith)
+        (subst (λ es. GivesRounds log no_command_rounds es no_command_rounds) (sym (take-none i.1.0)) (gives_no_rounds no_command_rounds));
+  };
+}

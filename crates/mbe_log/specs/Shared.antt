@@ -1,7 +1,7 @@
 -- What a call does to the accounts of a log.
 use Rattle.std.specs.Prelude.{◌≡◌, ◌+◌, ℕ, zero, suc, List, [], ◌∷◌, ◌++◌, length, slice_get, Option, Some, None}
 use Rattle.mbe_semantics.specs.declared.log.Part.{Part}
-use Rattle.mbe_semantics.specs.Bindings.Account.{Account, Entry, RoundEntry, Log, Handle, IsLive, HasEntriesOf, AreApart, IsAccount}
+use Rattle.mbe_semantics.specs.Bindings.Account.{Account, no_account, Entry, RoundEntry, Log, Handle, IsLive, HasEntriesOf, AreApart, IsAccount}
 
 -- the part is all of its list
 abbrev pub IsWhole : {E : Type 0} → List (List E) → Part → Type 0
@@ -16,6 +16,11 @@ pub record IsKept (old new : Log) : Type 0 where
   pub stays : (k : Handle) → IsLive old k → IsLive new k
   pub entries : (k : Handle) → HasEntriesOf old k → HasEntriesOf new k
   pub others : (k : Handle) (a : Account) → IsAccount old k a → IsAccount new k a
+
+-- A handle stands for nothing in each log where the other one has its entries.
+pub record IsEmptied (held given : Handle) : Type 0 where
+  pub entries : (log : Log) → HasEntriesOf log held → HasEntriesOf log given
+  pub account : (log : Log) → HasEntriesOf log held → IsAccount log given no_account
 
 -- A handle is new: it is live, and apart from those that were. Nothing changes for them.
 pub record IsGiven (old new : Log) (given : Handle) : Type 0 where

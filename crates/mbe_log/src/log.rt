@@ -29,7 +29,7 @@ ghost use Rattle.mbe_semantics.specs.Bindings.Account.{no_command_rounds, comman
 ghost use Rattle.mbe_semantics.specs.Bindings.Account.{PartGivesRounds, Command as Written};
 ghost use Rattle.mbe_semantics.specs.Bindings.Account.{HasOneListMore};
 ghost use Rattle.mbe_log.specs.Shared.{IsGiven, IsChanged, IsAtEnd, WritesOne, WritesRound};
-ghost use Rattle.mbe_log.specs.Shared.{current_len, finished_len, IsPlain};
+ghost use Rattle.mbe_log.specs.Shared.{current_len, finished_len, IsPlain, IsEmptied};
 ghost use Rattle.mbe_log.specs.BindingViews.{bound_by};
 ghost use Rattle.mbe_log.specs.Chain.{IsChained};
 ghost use Rattle.mbe_log.specs.Entries.{entry_seen, log_of};
@@ -89,6 +89,23 @@ pub fn again(handle: &Handle) -> Handle
     Handle {
         current: handle.current,
         finished: handle.finished,
+    }
+}
+
+/// None of the entries: nothing is bound, and no list is needed for it.
+#[inline(always)]
+pub fn emptied(handle: &Handle) -> Handle
+    ensures { IsEmptied handle.now result }
+{
+    Handle {
+        current: Part {
+            list: handle.current.list,
+            first: 0,
+        },
+        finished: Part {
+            list: handle.finished.list,
+            first: 0,
+        },
     }
 }
 

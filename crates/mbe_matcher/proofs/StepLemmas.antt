@@ -23,7 +23,7 @@ use Rattle.mbe_semantics.proofs.MoveLemmas.{separator_moves}
 use Rattle.mbe_semantics.specs.Bindings.Account.{Account, no_account, Command, pushed, pushed_default, pushed_nested, Log, Handle, IsAccount, HasEntriesOf}
 use Rattle.mbe_semantics.specs.Matching.Dots.{op_dots, dots, edges_behind}
 use Rattle.mbe_semantics.specs.Matching.Outline.{Edge, gate, edge, Outline, outline, advance, skipped, empty_by, over_advance, empty_bound, bound_advance, if_some_advance, round_advance, when_advance}
-use Rattle.mbe_log.specs.Shared.{IsKept, IsChanged}
+use Rattle.mbe_log.specs.Shared.{IsChanged}
 use Rattle.mbe_log.proofs.ClientLemmas as client
 use Rattle.mbe_ops.specs.declared.ops.Op as code
 use Rattle.mbe_ops.specs.declared.ops.Separator as between
@@ -272,20 +272,20 @@ module _ {A : Type 0} (outers all : List (Outer A)) (n : ℕ) (at : n ≡ length
             (group_open n o up (last_outer outers all o n e at) refl (edges_keep log log outers all (record { log = kept_not log; outers = (o ∷ [], e) }) s.around));
       }
 
-  pub repetition_entered : (i : Input) (argument : Forest) (q : ℕ) (old mid new : Log) (p : Position A) (rest : Ops) (a : Account) (up : List Edge)
+  pub repetition_entered : (i : Input) (argument : Forest) (q : ℕ) (old new : Log) (p : Position A) (rest : Ops) (a : Account) (up : List Edge)
       (body after : Bor (List (code.Op A))) (separator : Option (Bor (between.Separator A))) (k : RepeatKind) (second : Option (Position A)) (h : Handle) → ops_of after.now ≡ rest →
       Stands old outers p (op (repetition (ops_of body.now) (option_map (λ s. separator_seen s.now) separator) k) rest) a up →
-      IsSkip k (ops_of body.now) (ops_of after.now) old mid p second → IsKept mid new → IsAccount new h no_account →
+      IsSkip k (ops_of body.now) (ops_of after.now) old new p second → IsAccount new h no_account →
       (let r : Rounds A = record { body = body; separator = separator; kind = k; front = p.number - 1; outside = p.handle } in
       let o : Outer A = record { rounds = Some r; rest = after; up = p.up } in all ≡ outers ++ o ∷ []) →
       AreSteps i argument q old new outers all (outline (op (repetition (ops_of body.now) (option_map (λ s. separator_seen s.now) separator) k) rest) a up)
       (record { first = Some (record { dot = body; number = p.number - 1; up = Some n; handle = h }); second = second; next = None; done = None })
-  repetition_entered i argument q old mid new p rest a up body after separator k second h r s skip kept account e =
+  repetition_entered i argument q old new p rest a up body after separator k second h r s skip account e =
       let round : Rounds A = record { body = body; separator = separator; kind = k; front = p.number - 1; outside = p.handle } in
       let o : Outer A = record { rounds = Some round; rest = after; up = p.up } in
-      let keeps : Keeps old new outers all = record { log = client.kept-on old mid new skip.kept kept; outers = (o ∷ [], e) } in
+      let keeps : Keeps old new outers all = record { log = skip.kept; outers = (o ∷ [], e) } in
       let number = s.number in
-      let later : Keeps mid new outers all = record { log = kept; outers = (o ∷ [], e) } in
+      let later : Keeps new new outers all = record { log = kept_not new; outers = (o ∷ [], e) } in
       let opened : AreEdges new all (Some n) (edge_in round (ops_of after.now) q a ∷ up) =
       repetition_open n o round q a up (last_outer outers all o n e at) refl
       (record { account = keeps.log.others p.handle a s.account; front = (let m = ap dots r in omega (arith, number, m)) })
@@ -299,7 +299,7 @@ module _ {A : Type 0} (outers all : List (Outer A)) (n : ℕ) (at : n ≡ length
         around = subst (λ x. AreEdges new all (Some n) (edge_in round x q a ∷ up)) r opened;
       } in
       let past = skip.is outers a up s.around s.account (let m = ap dots r in omega (arith, number, m)) in
-      let beyond = each_weaker (Shows mid outers) (Shows new all) (shows_keep mid new outers all later) (option_to_list second) _ past in
+      let beyond = each_weaker (Shows new outers) (Shows new all) (shows_keep new new outers all later) (option_to_list second) _ past in
       record {
         now = record {
           idle = (into, subst (λ x. Each (Shows new all) (option_to_list second) (skip_of k (outline x (skipped (names_of (ops_of body.now)) a) up))) r beyond);

@@ -14,7 +14,7 @@ use crate::position::{Outer, Position, Rounds, Steps, Waiting};
 use crate::skipping::{dots_of, skip_names};
 use crate::source::Source;
 use mbe_log::fragment::of_kind;
-use mbe_log::log::{BindingLog, again};
+use mbe_log::log::{BindingLog, again, emptied};
 use mbe_ops::ops::{Op, Separator};
 use mbe_semantics::kinds::{MetaVarKind, RepeatKind};
 use mbe_tt::grammar::FragmentGrammar;
@@ -253,7 +253,7 @@ fn repetition_steps<'a, A: Allocator + Copy>(
         outers.old.items outers.new.items position.entry result }
 {
     let second = skipped(log, body, kind, rest, &position)?;
-    let handle = log.alloc()?;
+    let handle = emptied(&position.handle);
     let front = position.number - 1;
     let rounds = Rounds {
         body,
