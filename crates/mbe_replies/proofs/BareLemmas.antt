@@ -18,7 +18,7 @@ bare_as a b e (tokens, text) = (ap (λ (x : Answer). x.tokens) e ∙ tokens, ap 
 
 no_text-bare : (part : Part) (text : List ℕ) (a : Answer) → IsNoText part text a → IsBare a
 no_text-bare part text a (too_long long e) = bare_as a _ e (refl, refl)
-no_text-bare part text a (not_utf8 no e) = bare_as a _ e (refl, refl)
+no_text-bare part text a (not_utf8 invalid e) = bare_as a _ e (refl, refl)
 
 pub no_grammar-bare : (text : List ℕ) (a : Answer) → IsNoGrammar text a → IsBare a
 no_grammar-bare text a (no_text_of_grammar h) = no_text-bare _ text a h
@@ -42,12 +42,12 @@ no_result-bare s text definition a (no_macro g named h) = no_macro-bare _ _ a h
 
 pub no_answer-bare : (r : Request) (text : List ℕ) (definition argument : Source) (a : Answer)
     → IsNoAnswer r text definition argument a → IsBare a
-no_answer-bare r text definition argument a (unknown no e) = bare_as a _ e (refl, refl)
+no_answer-bare r text definition argument a (unknown none e) = bare_as a _ e (refl, refl)
 no_answer-bare r text definition argument a (no_definition s asked h) = no_trees-bare _ _ a h
 no_answer-bare r text definition argument a (no_argument s asked rules defined h) = no_trees-bare _ _ a h
 no_answer-bare r text definition argument a (no_result x h) = no_result-bare _ _ _ a h
 
 pub undefined-bare : (r : Request) (s : Source) (a : Answer) → IsUndefined r s a → IsBare a
-undefined-bare r s a (unknown_edition no e) = bare_as a _ e (refl, refl)
+undefined-bare r s a (unknown_edition none e) = bare_as a _ e (refl, refl)
 undefined-bare r s a (no_trees_of_definition x asked h) = no_trees-bare _ _ a h
 undefined-bare r s a (no_rules x asked trees given h) = no_macro-bare _ _ a h
