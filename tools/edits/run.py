@@ -56,7 +56,7 @@ def function_at(text, at):
     function, owner = None, ""
     for line in text[:at].split("\n") + [text[at:].split("\n")[0]]:
         is_impl = re.match(r"impl\b(?:<[^{]*?>)? (?:(?P<of>[\w:]+)(?:<.*?>)? for )?(?P<type>\w+)", line)
-        is_fn = re.match(r"( {4})?(?:pub(?:\(\w+\))? )?fn (\w+)", line)
+        is_fn = re.match(r"( {4})?(?:pub(?:\(\w+\))? )?(?:extern \"C\" )?fn (\w+)", line)
         if is_impl:
             owner = is_impl["type"] + (is_impl["of"] or "").split("::")[-1]
             function = None

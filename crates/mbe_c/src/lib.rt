@@ -2,8 +2,9 @@
 // the caller. No call keeps anything: what it allocates is freed when it returns. `bindings/c/mbe.h` declares them.
 #![tactic(auto)]
 
-ghost use Rattle.std.specs.Prelude.{◌≡◌, ◌<◌, ◌≤◌, ◌++◌, length, take, drop, if◌then◌else◌, nat_le};
-ghost use Rattle.mbe_replies.specs.Answers.{status_number};
+ghost use Rattle.std.specs.Prelude.{◌≡◌, ◌-◌, ◌^◌, length, min, nat_le};
+ghost use Rattle.mbe_replies.specs.Answers.{answer_of};
+ghost use Rattle.mbe_replies.specs.Calls.{argument_of, definition_of};
 ghost use Rattle.mbe_c.specs.Copies as spec;
 
 use mbe_flat::token::{FlatSpan, FlatToken, flat_span};
@@ -88,26 +89,34 @@ fn put_verdicts(from: &[FlatVerdict], to: &mut [FlatVerdict]) -> bool
 
 // What is said of an answer.
 fn reply_of<A: Allocator>(answer: &Answer<A>) -> Reply
-    ensures status { result.status ≡ status_number answer.now.status }
+    ensures { result ≡ spec.reply_to (answer_of answer.now) }
 {
-    let mut reply = Reply::default();
-    reply.status = answer.status.number();
-    reply.part = answer.part.number();
-    if let Some(rule) = answer.rule {
-        reply.has_rule = 1;
-        reply.rule = rule;
+    Reply {
+        status: answer.status.number(),
+        part: answer.part.number(),
+        has_rule: match answer.rule {
+            Some(_) => 1,
+            None => 0,
+        },
+        rule: answer.rule.unwrap_or(0),
+        span: flat_span(answer.span),
+        column: column_of(answer.column),
+        place: answer.place,
+        tokens: answer.tokens.len(),
+        text: answer.text.len(),
+        message: answer.message.len(),
     }
-    reply.span = flat_span(answer.span);
-    reply.column = if answer.column > u32::MAX as usize {
+}
+
+// A column in 32 bits, in which a greater one is 2^32 - 1.
+fn column_of(column: usize) -> u32
+    ensures { result ≡ min column (2 ^ 32 - 1) }
+{
+    if column > u32::MAX as usize {
         u32::MAX
     } else {
-        answer.column as u32
-    };
-    reply.place = answer.place;
-    reply.tokens = answer.tokens.len();
-    reply.text = answer.text.len();
-    reply.message = answer.message.len();
-    reply
+        column as u32
+    }
 }
 
 // Copies an answer into memory of the caller, and returns its status.
@@ -119,11 +128,9 @@ fn give<A: Allocator>(
     reply: &mut Reply,
 ) -> u32
     ensures result { result ≡ reply.new.status }
-    ensures tokens { tokens.new ≡ spec.copied answer.now.tokens.items tokens.old }
-    ensures text { text.new ≡ spec.copied answer.now.text.items text.old }
-    ensures status { reply.new.status ≡ spec.status_given answer.now.status
-        (nat_le (length answer.now.tokens.items) (length tokens.old))
-        (nat_le (length answer.now.text.items) (length text.old)) }
+    ensures gives { spec.Gives (answer_of answer.now)
+        (record { tokens = tokens.old; text = text.old; message = message.old })
+        (record { tokens = tokens.new; text = text.new; message = message.new }) reply.new }
 {
     *reply = reply_of(answer);
     let tokens_fit = put_tokens(&answer.tokens, tokens);
@@ -151,6 +158,11 @@ pub extern "C" fn mbe_c_expand(
     reply: &mut Reply,
 ) -> u32
     ensures result { result ≡ reply.new.status }
+    ensures expands { spec.GivesExpansion request.now grammar.now
+        (definition_of request.now definition.now definition_tokens.now)
+        (argument_of request.now argument.now argument_tokens.now)
+        (record { tokens = tokens.old; text = text.old; message = message.old })
+        (record { tokens = tokens.new; text = text.new; message = message.new }) reply.new }
 {
     let definition = Input {
         text: definition,
@@ -185,6 +197,10 @@ pub extern "C" fn mbe_c_explain(
     reply: &mut Reply,
 ) -> u32
     ensures result { result ≡ reply.new.status }
+    ensures explains { spec.GivesExplanation request.now grammar.now
+        (definition_of request.now definition.now definition_tokens.now)
+        (argument_of request.now argument.now argument_tokens.now)
+        verdicts.old verdicts.new message.old message.new reply.new }
 {
     let definition = Input {
         text: definition,
@@ -214,8 +230,7 @@ fn give_verdicts<A: Allocator + Copy>(
     reply: &mut Reply,
 ) -> u32
     ensures result { result ≡ reply.new.status }
-    ensures verdicts { verdicts.new ≡ spec.copied found.now verdicts.old }
-    ensures count { reply.new.tokens ≡ length found.now }
+    ensures gives { spec.GivesVerdicts found.now verdicts.old verdicts.new reply.new }
 {
     *reply = reply_of(&Answer::empty(alloc, Status::Done, Part::None));
     reply.tokens = found.len();
@@ -238,6 +253,10 @@ pub extern "C" fn mbe_c_convert(
     reply: &mut Reply,
 ) -> u32
     ensures result { result ≡ reply.new.status }
+    ensures converts { spec.GivesTrees request.now
+        (argument_of request.now input.now input_tokens.now)
+        (record { tokens = tokens.old; text = text.old; message = message.old })
+        (record { tokens = tokens.new; text = text.new; message = message.new }) reply.new }
 {
     let input = Input {
         text: input,
@@ -261,6 +280,9 @@ pub extern "C" fn mbe_c_define(
     reply: &mut Reply,
 ) -> u32
     ensures result { result ≡ reply.new.status }
+    ensures defines { spec.GivesCount request.now
+        (definition_of request.now definition.now definition_tokens.now)
+        message.old message.new reply.new }
 {
     let definition = Input {
         text: definition,
@@ -288,6 +310,7 @@ pub extern "C" fn mbe_c_grammar(
     reply: &mut Reply,
 ) -> u32
     ensures result { result ≡ reply.new.status }
+    ensures reads { spec.GivesGrammar grammar.now message.old message.new reply.new }
 {
     match check_grammar(alloc, grammar) {
         Err(answer) => give(&answer, &mut [], &mut [], message, reply),

@@ -1,1 +1,3 @@
+pub mod BareLemmas
+mod CallLemmas
 mod VerdictLemmas

@@ -1,5 +1,9 @@
 // The answer to a call, before it is copied into the caller's memory.
-ghost use Rattle.std.specs.Prelude.{◌≡◌, IfOk, length, [], None};
+ghost use Rattle.std.specs.Prelude.{◌≡◌, IfOk};
+ghost use Rattle.std.specs.String.{string_bytes};
+ghost use Rattle.mbe_semantics.specs.Expansion.Error.{text_of_kind};
+ghost use Rattle.mbe_errors.specs.ErrorViews.{error_of, parse_error_of};
+ghost use Rattle.mbe_replies.specs.Answers.{answer_of};
 ghost use Rattle.mbe_replies.specs.Answers as spec;
 
 use crate::expanding::Unread;
@@ -105,11 +109,7 @@ pub struct Answer<A: Allocator> {
 impl<A: Allocator + Copy> Answer<A> {
     /// An answer of that status with nothing in it.
     pub fn empty(alloc: A, status: Status, part: Part) -> Answer<A>
-        ensures status { result.status ≡ status }
-        ensures part { result.part ≡ part }
-        ensures tokens { result.tokens.items ≡ [] }
-        ensures text { result.text.items ≡ [] }
-        ensures rule { result.rule ≡ None }
+        ensures { answer_of result ≡ spec.empty status part }
     {
         Answer {
             status,
@@ -126,8 +126,7 @@ impl<A: Allocator + Copy> Answer<A> {
 
     /// An answer that a text isn't lexed.
     pub fn unlexed(alloc: A, part: Part, fault: LexFault) -> Answer<A>
-        ensures part { result.part ≡ part }
-        ensures status { spec.IsFailure result.status }
+        ensures { spec.IsOr (spec.IsUnlexed part fault) (answer_of result) }
     {
         let wrong = fault.wrong;
         let Ok(message) = format!(in alloc; "{wrong}") else {
@@ -141,8 +140,7 @@ impl<A: Allocator + Copy> Answer<A> {
 
     /// An answer that flat tokens aren't trees.
     pub fn untreed(alloc: A, part: Part, error: FlatError) -> Answer<A>
-        ensures part { result.part ≡ part }
-        ensures status { spec.IsFailure result.status }
+        ensures { spec.IsUntreedBy part error (answer_of result) }
     {
         let FlatError::Fault { index, wrong } = error else {
             return Answer::empty(alloc, Status::OutOfMemory, part);
@@ -158,7 +156,7 @@ impl<A: Allocator + Copy> Answer<A> {
 
     /// An answer that a grammar isn't one.
     pub fn ungrammatical(alloc: A, fault: RuleFault<'_>) -> Answer<A>
-        ensures status { spec.IsFailure result.status }
+        ensures { spec.IsUngrammaticalBy fault.entry (answer_of result) }
     {
         let RuleFault::At(place, reason) = fault else {
             return Answer::empty(alloc, Status::OutOfMemory, Part::Grammar);
@@ -175,7 +173,7 @@ impl<A: Allocator + Copy> Answer<A> {
 
     /// An answer that a definition has no macro.
     pub fn unread(alloc: A, error: &Unread<A>) -> Answer<A>
-        ensures status { spec.IsFailure result.status }
+        ensures { spec.IsUnreadBy error.now (answer_of result) }
     {
         match error {
             Unread::Refused(error) => Answer::refused(alloc, error),
@@ -185,7 +183,7 @@ impl<A: Allocator + Copy> Answer<A> {
 
     /// An answer that a definition isn't one.
     pub fn refused(alloc: A, error: &ParseError<A>) -> Answer<A>
-        ensures status { spec.IsFailure result.status }
+        ensures { spec.IsOr (spec.IsRefusal (parse_error_of error.now)) (answer_of result) }
     {
         let Ok(message) = format!(in alloc; "{error}") else {
             return Answer::empty(alloc, Status::OutOfMemory, Part::Definition);
@@ -217,13 +215,17 @@ pub fn words_of(wrong: Wrong) -> &'static str
 pub fn error_text<A: Allocator + Copy>(
     alloc: A,
     error: &ExpandError<A>,
-) -> Result<String<A>, AllocError> {
+) -> Result<String<A>, AllocError>
+    ensures { IfOk result (λ text. string_bytes text ≡ text_of_kind (error_of error.now).kind) }
+{
     let (_span, kind) = &*error.inner;
     format!(in alloc; "{kind}")
 }
 
 /// Where an expansion's error is.
-pub fn error_span<A: Allocator>(error: &ExpandError<A>) -> Span {
+pub fn error_span<A: Allocator>(error: &ExpandError<A>) -> Span
+    ensures { result ≡ (error_of error.now).span }
+{
     let (span, _kind) = &*error.inner;
     *span
 }

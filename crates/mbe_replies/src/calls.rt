@@ -1,11 +1,13 @@
 // The calls: what each answers.
-ghost use Rattle.std.specs.Prelude.{◌≡◌, ◌<◌, ◌^◌, length, Ok, Some, IfErr, IfOk, IfSome};
+ghost use Rattle.std.specs.Prelude.{◌≡◌, ◌⊎◌, map, Ok, IfErr, IfNone, IfOk, IfSome, OnOk};
+ghost use Rattle.mbe_errors.specs.ErrorViews.{errors_of};
 ghost use Rattle.mbe_matcher.specs.Matched.{verdict_seen};
-ghost use Rattle.mbe_text.specs.Division.{trees_of as lexes_as};
-ghost use Rattle.mbe_flat.specs.Numbers.{span_of};
-ghost use Rattle.mbe_flat.specs.Reading.{AreTrees};
-ghost use Rattle.mbe_replies.specs.Answers.{IsFailure};
-ghost use Rattle.mbe_replies.specs.Asked as numbers;
+ghost use Rattle.mbe_rules_text.specs.Text.{read_text};
+ghost use Rattle.mbe_rules_text.specs.Views.{rules_seen};
+ghost use Rattle.mbe_text.specs.Printing.{tree_text};
+ghost use Rattle.mbe_replies.specs.Answers.{answer_of, IsNoGrammar, IsNoText};
+ghost use Rattle.mbe_replies.specs.Answers as answers;
+ghost use Rattle.mbe_replies.specs.Calls.{AreSettings, AreTreesOf, HasNoTrees, IsText, source_of};
 ghost use Rattle.mbe_replies.specs.Calls as spec;
 
 use crate::answer::{Answer, Part, Status, error_span, error_text};
@@ -60,9 +62,9 @@ fn short_text<'a, A: Allocator + Copy>(
     text: &'a [u8],
     part: Part,
 ) -> Result<&'a str, Answer<A>>
-    ensures short { IfOk result (λ s. length s.now < 2 ^ 32) }
+    ensures text { IfOk result (λ s. IsText s.now) }
     ensures same { IfOk result (λ s. s.now ≡ text.now) }
-    ensures fails { IfErr result (λ answer. IsFailure answer.status) }
+    ensures fails { IfErr result (λ a. IsNoText part text.now (answer_of a)) }
 {
     if text.len() > u32::MAX as usize {
         return Err(Answer::empty(alloc, Status::TooLong, part));
@@ -79,9 +81,10 @@ fn lexed<A: Allocator + Copy>(
     dialect: Dialect,
     input: Input<'_>,
 ) -> Result<TopSubtree<A>, Answer<A>>
-    ensures lexes { IfOk result (λ tree. lexes_as dialect input.entry.file input.entry.text.now
-        ≡ Ok tree) }
-    ensures fails { IfErr result (λ answer. IsFailure answer.status) }
+    ensures lexes { input.entry.is_flat ≡ 0
+        → IfOk result (AreTreesOf dialect (source_of input.entry)) }
+    ensures fails { input.entry.is_flat ≡ 0
+        → IfErr result (λ a. HasNoTrees dialect (source_of input.entry) (answer_of a)) }
 {
     let text = short_text(alloc, input.text, input.part)?;
     match lex_as(alloc, dialect, text, input.file) {
@@ -92,9 +95,15 @@ fn lexed<A: Allocator + Copy>(
 }
 
 // The trees of flat tokens.
-fn treed<A: Allocator + Copy>(alloc: A, input: Input<'_>) -> Result<TopSubtree<A>, Answer<A>>
-    ensures reads { IfOk result (λ tree. AreTrees input.entry.text.now input.entry.tokens.now tree) }
-    ensures fails { IfErr result (λ answer. IsFailure answer.status) }
+fn treed<A: Allocator + Copy>(
+    alloc: A,
+    dialect: Dialect,
+    input: Input<'_>,
+) -> Result<TopSubtree<A>, Answer<A>>
+    ensures reads { input.entry.is_flat ≡ 1
+        → IfOk result (AreTreesOf dialect (source_of input.entry)) }
+    ensures fails { input.entry.is_flat ≡ 1
+        → IfErr result (λ a. HasNoTrees dialect (source_of input.entry) (answer_of a)) }
 {
     match trees_of(alloc, input.tokens, input.text) {
         Ok(tree) => Ok(tree),
@@ -108,16 +117,12 @@ fn trees<A: Allocator + Copy>(
     dialect: Dialect,
     input: Input<'_>,
 ) -> Result<TopSubtree<A>, Answer<A>>
-    ensures lexes { IfOk result (λ tree. input.entry.is_flat ≡ 0
-        → lexes_as dialect input.entry.file input.entry.text.now ≡ Ok tree) }
-    ensures reads { IfOk result (λ tree. input.entry.is_flat ≡ 1
-        → AreTrees input.entry.text.now input.entry.tokens.now tree) }
-    ensures known { IfOk result (λ _. input.entry.is_flat < 2) }
-    ensures fails { IfErr result (λ answer. IsFailure answer.status) }
+    ensures trees { IfOk result (AreTreesOf dialect (source_of input.entry)) }
+    ensures fails { IfErr result (λ a. HasNoTrees dialect (source_of input.entry) (answer_of a)) }
 {
     match input.is_flat {
         0 => lexed(alloc, dialect, input),
-        1 => treed(alloc, input),
+        1 => treed(alloc, dialect, input),
         _ => Err(Answer::empty(alloc, Status::Number, input.part)),
     }
 }
@@ -129,8 +134,8 @@ fn show<A: Allocator + Copy>(
     form: Form,
     tree: &TopSubtree<A>,
 ) -> Result<(), AllocError>
-    ensures status { answer.new.status ≡ answer.old.status }
-    ensures rule { answer.new.rule ≡ answer.old.rule }
+    ensures { OnOk result (answer_of answer.new
+        ≡ spec.with_tree form tree.now (answer_of answer.old)) }
 {
     match form {
         Form::Tokens => {
@@ -149,7 +154,9 @@ fn show<A: Allocator + Copy>(
 }
 
 // A tree as lines.
-fn lines<A: Allocator + Copy>(alloc: A, tree: &TopSubtree<A>) -> Result<Vec<u8, A>, AllocError> {
+fn lines<A: Allocator + Copy>(alloc: A, tree: &TopSubtree<A>) -> Result<Vec<u8, A>, AllocError>
+    ensures { IfOk result (λ text. text.items ≡ tree_text tree.now) }
+{
     let mut text = Vec::new(alloc);
     match print_tree(tree, &mut text) {
         Ok(()) => Ok(text),
@@ -158,7 +165,9 @@ fn lines<A: Allocator + Copy>(alloc: A, tree: &TopSubtree<A>) -> Result<Vec<u8, 
 }
 
 // The answer that shows a tree.
-fn shown<A: Allocator + Copy>(alloc: A, form: Form, tree: &TopSubtree<A>) -> Answer<A> {
+fn shown<A: Allocator + Copy>(alloc: A, form: Form, tree: &TopSubtree<A>) -> Answer<A>
+    ensures { answers.IsOr (λ a. a ≡ spec.tree_shown form tree.now) (answer_of result) }
+{
     let mut answer = Answer::empty(alloc, Status::Done, Part::None);
     match show(alloc, &mut answer, form, tree) {
         Ok(()) => answer,
@@ -171,7 +180,10 @@ fn expansion_shown<A: Allocator + Copy>(
     alloc: A,
     form: Form,
     expansion: &Expansion<A>,
-) -> Result<Answer<A>, AllocError> {
+) -> Result<Answer<A>, AllocError>
+    ensures { IfOk result (λ a. answer_of a ≡ spec.expansion_shown form expansion.now.value.0
+        expansion.now.value.1 (errors_of expansion.now.err)) }
+{
     let (tree, rule) = &expansion.value;
     let mut answer = Answer::empty(alloc, Status::Done, Part::None);
     if let Some(error) = &expansion.err {
@@ -184,25 +196,20 @@ fn expansion_shown<A: Allocator + Copy>(
     Ok(answer)
 }
 
-// What is asked of the numbers of a request.
+/// What the numbers of a request stand for.
 #[derive(Clone, Copy, Drop)]
-struct Settings {
-    edition: Edition,
-    dialect: Dialect,
-    grammar: GrammarKind,
-    style: MacroCallStyle,
-    form: Form,
-    call_site: Span,
+pub struct Settings {
+    pub edition: Edition,
+    pub dialect: Dialect,
+    pub grammar: GrammarKind,
+    pub style: MacroCallStyle,
+    pub form: Form,
+    pub call_site: Span,
 }
 
 fn settings_of(request: &Request) -> Option<Settings>
-    ensures edition { IfSome result (λ s. numbers.edition_of request.now.edition ≡ Some s.edition) }
-    ensures dialect { IfSome result (λ s. numbers.dialect_of request.now.dialect s.edition
-        ≡ Some s.dialect) }
-    ensures grammar { IfSome result (λ s. numbers.grammar_of request.now.grammar ≡ Some s.grammar) }
-    ensures style { IfSome result (λ s. numbers.style_of request.now.style ≡ Some s.style) }
-    ensures form { IfSome result (λ s. numbers.form_of request.now.form ≡ Some s.form) }
-    ensures site { IfSome result (λ s. s.call_site ≡ span_of request.now.call_site) }
+    ensures known { IfSome result (AreSettings request.now) }
+    ensures unknown { IfNone result (spec.IsUnknown request.now) }
 {
     let edition = edition_of(request.edition)?;
     Some(Settings {
@@ -222,7 +229,10 @@ fn expand_by<A: Allocator + Copy, G: FragmentGrammar>(
     grammar: &G,
     definition: &TopSubtree<A>,
     argument: &TopSubtree<A>,
-) -> Answer<A> {
+) -> Answer<A>
+    ensures { spec.IsExpansion asked (G.grammar grammar.now) definition.now argument.now
+        (answer_of result) ⊎ spec.IsNoMacro asked.edition definition.now.1 (answer_of result) }
+{
     let Settings {
         edition,
         style,
@@ -243,7 +253,9 @@ fn expand_by<A: Allocator + Copy, G: FragmentGrammar>(
 
 // The rules of the text of a grammar.
 fn read_rules<'t, A: Allocator + Copy>(alloc: A, text: &'t [u8]) -> Result<Rules<'t, A>, Answer<A>>
-    ensures fails { IfErr result (λ answer. IsFailure answer.status) }
+    ensures text { IfOk result (λ _. IsText text.now) }
+    ensures read { IfOk result (λ rules. read_text text.now ≡ Ok (rules_seen rules)) }
+    ensures fails { IfErr result (λ a. IsNoGrammar text.now (answer_of a)) }
 {
     let text = short_text(alloc, text, Part::Grammar)?;
     match Rules::read(alloc, text) {
@@ -259,7 +271,9 @@ fn expand_trees<A: Allocator + Copy>(
     grammar: &[u8],
     definition: &TopSubtree<A>,
     argument: &TopSubtree<A>,
-) -> Answer<A> {
+) -> Answer<A>
+    ensures { spec.ExpandsTrees asked grammar.now definition.now argument.now (answer_of result) }
+{
     match asked.grammar {
         GrammarKind::Sample => expand_by(alloc, asked, &SampleGrammar, definition, argument),
         GrammarKind::Rust => {
@@ -284,7 +298,10 @@ pub fn expand<A: Allocator + Copy>(
     grammar: &[u8],
     definition: Input<'_>,
     argument: Input<'_>,
-) -> Answer<A> {
+) -> Answer<A>
+    ensures { spec.Expands request.now grammar.now (source_of definition.entry)
+        (source_of argument.entry) (answer_of result) }
+{
     let Some(asked) = settings_of(request) else {
         return Answer::empty(alloc, Status::Number, Part::None);
     };
@@ -325,7 +342,10 @@ pub type Verdicts<A> = Result<Vec<FlatVerdict, A>, Answer<A>>;
 fn flat_verdicts<A: Allocator + Copy>(
     alloc: A,
     verdicts: &[Verdict],
-) -> Result<Vec<FlatVerdict, A>, AllocError> {
+) -> Result<Vec<FlatVerdict, A>, AllocError>
+    ensures { IfOk result (λ flat. flat.items
+        ≡ map (λ v. spec.flat_verdict (verdict_seen v)) verdicts.now) }
+{
     let mut flat = Vec::new(alloc);
     for verdict in verdicts {
         flat.push(flat_verdict(*verdict))?;
@@ -340,7 +360,12 @@ fn explain_by<A: Allocator + Copy, G: FragmentGrammar>(
     grammar: &G,
     definition: &TopSubtree<A>,
     argument: &TopSubtree<A>,
-) -> Verdicts<A> {
+) -> Verdicts<A>
+    ensures explains { IfOk result (λ found. spec.AreVerdictsOf asked (G.grammar grammar.now)
+        definition.now argument.now found.items) }
+    ensures refused { IfErr result (λ a. spec.IsNoMacro asked.edition definition.now.1
+        (answer_of a)) }
+{
     match verdicts_by(alloc, grammar, definition, argument, asked.edition) {
         Err(error) => Err(Answer::unread(alloc, &error)),
         Ok(verdicts) => match flat_verdicts(alloc, verdicts.as_slice()) {
@@ -357,7 +382,12 @@ fn explain_trees<A: Allocator + Copy>(
     grammar: &[u8],
     definition: &TopSubtree<A>,
     argument: &TopSubtree<A>,
-) -> Verdicts<A> {
+) -> Verdicts<A>
+    ensures explains { IfOk result (λ found. spec.ExplainsTrees asked grammar.now definition.now
+        argument.now found.items) }
+    ensures fails { IfErr result (λ a. spec.IsNoResult asked grammar.now definition.now
+        (answer_of a)) }
+{
     match asked.grammar {
         GrammarKind::Sample => explain_by(alloc, asked, &SampleGrammar, definition, argument),
         GrammarKind::Rust => {
@@ -380,7 +410,12 @@ pub fn explain<A: Allocator + Copy>(
     grammar: &[u8],
     definition: Input<'_>,
     argument: Input<'_>,
-) -> Verdicts<A> {
+) -> Verdicts<A>
+    ensures explains { IfOk result (λ found. spec.ShowsVerdicts request.now grammar.now
+        (source_of definition.entry) (source_of argument.entry) found.items) }
+    ensures fails { IfErr result (λ a. spec.IsNoAnswer request.now grammar.now
+        (source_of definition.entry) (source_of argument.entry) (answer_of a)) }
+{
     let Some(asked) = settings_of(request) else {
         return Err(Answer::empty(alloc, Status::Number, Part::None));
     };
@@ -390,7 +425,9 @@ pub fn explain<A: Allocator + Copy>(
 }
 
 /// The trees of an input, shown in the form that is asked for.
-pub fn convert<A: Allocator + Copy>(alloc: A, request: &Request, input: Input<'_>) -> Answer<A> {
+pub fn convert<A: Allocator + Copy>(alloc: A, request: &Request, input: Input<'_>) -> Answer<A>
+    ensures { spec.Converts request.now (source_of input.entry) (answer_of result) }
+{
     let Some(asked) = settings_of(request) else {
         return Answer::empty(alloc, Status::Number, Part::None);
     };
@@ -405,7 +442,12 @@ pub fn define<A: Allocator + Copy>(
     alloc: A,
     request: &Request,
     definition: Input<'_>,
-) -> Result<usize, Answer<A>> {
+) -> Result<usize, Answer<A>>
+    ensures defines { IfOk result (λ count. spec.Defines request.now (source_of definition.entry)
+        count) }
+    ensures fails { IfErr result (λ a. spec.IsUndefined request.now (source_of definition.entry)
+        (answer_of a)) }
+{
     let Some(asked) = settings_of(request) else {
         return Err(Answer::empty(alloc, Status::Number, Part::None));
     };
@@ -417,7 +459,10 @@ pub fn define<A: Allocator + Copy>(
 }
 
 /// Whether a text is a grammar: nothing, or why not.
-pub fn check_grammar<A: Allocator + Copy>(alloc: A, text: &[u8]) -> Result<(), Answer<A>> {
+pub fn check_grammar<A: Allocator + Copy>(alloc: A, text: &[u8]) -> Result<(), Answer<A>>
+    ensures reads { IfOk result (λ _. spec.IsGrammarText text.now) }
+    ensures fails { IfErr result (λ a. IsNoGrammar text.now (answer_of a)) }
+{
     let _rules = read_rules(alloc, text)?;
     Ok(())
 }
