@@ -22,6 +22,7 @@ fn run(alloc: Global, text: &str, depth: u32) -> Result<(String, Vec<Note>), All
         depth,
         fuel: 100,
         is_traced: false,
+        is_explained: false,
     };
     let mut expander = Expander::new(alloc, rust_rules(edition, &[]), settings);
     if let Some(tree) = &file.tree {
