@@ -19,7 +19,7 @@ use Rattle.mbe_matcher.specs.declared.position.Waiting.{Waiting}
 use Rattle.mbe_matcher.specs.declared.wanting.Step.{Step}
 use Rattle.mbe_matcher.specs.declared.wanting.Wanted as code
 use Rattle.mbe_matcher.specs.declared.wanting.Way.{Way}
-use Rattle.mbe_matcher.specs.Positions.{Each, Both, Shows, IsPosition, LeadsTo, AreSteps}
+use Rattle.mbe_matcher.specs.Positions.{Each, Both, Shows, IsPosition, LeadsTo, AreSteps, Keeps}
 use Rattle.mbe_matcher.specs.Matched.{IsStack}
 use Rattle.mbe_matcher.specs.Wanted.{wanted_seen, outline_wants, step_of_advance, outline_way, way_seen}
 use Rattle.mbe_matcher.proofs.Keeping.{each_weaker, each_append, shows_keep}
@@ -131,3 +131,15 @@ looking_end i q size old log before outers first todo met ways s e w =
     let none : w.stack ≡ [] = each_none (Shows log outers) w.stack (subst (λ l. Each (Shows log outers) l w.stack) e w.shown) in
     w.looked ∙ ap (map (outline_way i q)) (turned_done i s.pattern q (kept i (dots s.pattern) q (reverse s.spots)) met w.out
     (subst (λ l. KeepsTo i s.pattern q (kept i (dots s.pattern) q (reverse s.spots)) l met w.out) none w.keeps))
+
+-- a stack of copies, in the log and the outer items as they are later
+abbrev pub stack_kept : {A : Type 0} (i : Input) (q size : ℕ) (old new : Log) (before after : List (Outer A)) (todo stack : List (Position A)) →
+    IsStack i q size old before todo → Keeps old new before after → stack ≡ todo → IsStack i q size new after stack
+stack_kept i q size old new before after todo stack s kept same = record {
+  pattern = s.pattern;
+  size_is = s.size_is;
+  beginnings = s.beginnings;
+  spots = s.spots;
+  stack = s.stack;
+  shown = subst (λ l. Each (Shows new after) l s.spots) (sym same) (each_weaker (Shows old before) (Shows new after) (λ x y h. shows_keep old new before after kept x y h) todo s.spots s.shown);
+}

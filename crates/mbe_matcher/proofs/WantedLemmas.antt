@@ -15,7 +15,7 @@ use Rattle.mbe_semantics.specs.Readings.Input.{Input, input_of}
 use Rattle.mbe_semantics.specs.Readings.Item.{Items, Rounds}
 use Rattle.mbe_semantics.specs.Readings.Reading.{Frame, inside, within, Beginning, dot, place, At}
 use Rattle.mbe_semantics.specs.Readings.Steps.{Move, move, round_move, separator_move, next}
-use Rattle.mbe_semantics.specs.Readings.Verdict.{Verdict, ambiguous}
+use Rattle.mbe_semantics.specs.Readings.Verdict.{Verdict, ambiguous, stop_of}
 use Rattle.mbe_semantics.specs.Bindings.Account.{Log, Handle}
 use Rattle.mbe_semantics.specs.Matching.Dots.{dots}
 use Rattle.mbe_semantics.specs.Matching.Held.{held, moves_of, clashing_with, clashing}
@@ -37,7 +37,7 @@ use Rattle.mbe_matcher.specs.declared.position.Waiting.{Waiting}
 use Rattle.mbe_matcher.specs.declared.wanting.Step.{Step}
 use Rattle.mbe_matcher.specs.declared.wanting.Way.{Way}
 use Rattle.mbe_matcher.specs.Matched.{AreSettled, is_clash, ends_as, stuck_at, stop_at}
-use Rattle.mbe_matcher.specs.Wanted.{Wanted, ending, closing, separating, reading, before_round, wanted, IsWanted, AreClashing, WayOn, step_of_move, way_of, clashes, both, clash_with, clash_if, first_clash, outline_wants, step_of_advance, outline_way, way_seen, next_in, AreWays}
+use Rattle.mbe_matcher.specs.Wanted.{Wanted, ending, closing, separating, reading, before_round, wanted, IsWanted, AreClashing, WayOn, step_of_move, way_of, clashes, both, clash_with, clash_if, first_clash, outline_wants, step_of_advance, outline_way, way_seen, next_in, AreWays, AreWanted, ClashThere}
 use Rattle.mbe_matcher.proofs.MatchEnds.{same_clash}
 
 -- ---- outlines want what their beginnings do
@@ -192,7 +192,7 @@ module _ (i : Input) (pattern : Ops) (q : ℕ) where
         pair : (m : ℕ) (g : Bool) (v : Beginning) → next i q z ≡ Some (move m g v) → IsSome (both (wanted x) (wanted z))
         pair m g v e =
             let second = moved_wants i q z (move m g v) e in
-            subst (λ a. IsSome (both a (wanted z))) (sym first.1) (subst (λ b. IsSome (both (Some first.0) b)) (sym second.1) tt)
+            subst (λ a. IsSome (both a (wanted z))) (sym first.1) (subst (λ b. IsSome (both (Some first.0) b)) (sym second.1) refl)
 
         by : (m : ℕ) (g : Bool) (v : Beginning) → next i q z ≡ Some (move m g v) → (b : Bool) → (b || clashing_with n f (moves_of i q zs)) ≡ true →
             (clashing_with n f (moves_of i q zs) ≡ true → IsSome rest) → IsSome (if b then both (wanted x) (wanted z) else rest)
@@ -273,4 +273,20 @@ ways_are g pattern argument law lawful checked q spots c log outers ws hs st v s
           ∙ sym (clash_is i pattern (flat_len argument) lawful checked q (reverse spots) c)
           ∙ same_clash log outers (rest_at argument q) ws (kept_moves i (dots pattern) q (reverse spots)) st.goes_on
           ∙ stopped_clash q (flat_len argument) p ws hs (ap Some (sym d) ∙ stop);
+    }
+
+-- ---- what is reported
+
+pub are_wanted : {A : Type 0} (g : Grammar) (pattern : Ops) (argument : Forest) (v : Verdict) (ways : List (Way A)) → AreWays (input_of g argument) pattern (stop_of argument v) v ways →
+    AreWanted g pattern argument v (next_in (map way_seen ways))
+are_wanted g pattern argument v ways r = λ w. wanted_all (input_of g argument) pattern (stop_of argument v) v ways r w
+
+pub clash_there : {A : Type 0} (g : Grammar) (pattern : Ops) (argument : Forest) (v : Verdict) (ways : List (Way A)) → AreWays (input_of g argument) pattern (stop_of argument v) v ways →
+    ClashThere g pattern argument v (first_clash (map way_seen ways))
+clash_there g pattern argument v ways r =
+    let i = input_of g argument in
+    let q = stop_of argument v in
+    record {
+      two = subst (λ l. IfSome (first_clash l) (λ p. AreClashing i pattern q p.0 p.1)) (sym r.are) (clash_two i pattern q r.of r.here r.once);
+      some = λ p e. subst (λ l. IsSome (first_clash l)) (sym r.are) (clash_some i pattern q r.of r.here (r.clash p e));
     }

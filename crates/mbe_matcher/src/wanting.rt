@@ -145,7 +145,7 @@ fn next_after<'a, A: Allocator>(
 // The width of a step.
 fn step_of<A: Allocator>(waiting: Option<&Waiting<'_, A>>) -> Option<Step>
     ensures { result ≡ option_map (λ w. record {
-        width = w.now.width; by_fragment = is_some w.now.beyond }) waiting }
+        width = w.now.width; by_fragment = is_some w.now.beyond }) waiting.entry }
 {
     let waiting = waiting?;
     Some(Step {
@@ -270,13 +270,14 @@ fn clash_with<'a, A: Allocator>(
     others: &[Way<'a, A>],
 ) -> Option<(Wanted<'a, A>, Wanted<'a, A>)>
     ensures { option_map pair_seen result
-        ≡ clash_with step (option_map wanted_seen next) (map way_seen others.now) }
+        ≡ clash_with step (option_map wanted_seen next.entry) (map way_seen others.now) }
 {
-    match others {
-        [] => None,
-        [other, ..] if clashes(step, other.step) => next.zip(other.next),
-        [_, rest @ ..] => clash_with(step, next, rest),
+    for other in others {
+        if clashes(step, other.step) {
+            return next.zip(other.next);
+        }
     }
+    None
 }
 
 // What is next after two that clash.
