@@ -140,7 +140,7 @@ fn note_wanted<A: Allocator + Copy>(
             notes.push(Note {
                 level: Level::Note,
                 span,
-                message: format!(in alloc; "{} of {rule}", Shown(*one))?,
+                message: format!(in alloc; "{} in {rule}", Shown(*one))?,
             })?;
         }
     }

@@ -1,7 +1,7 @@
 // What a pattern wants, as it is written in a rule.
 use mbe_matcher::wanting::Wanted;
 use mbe_ops::ops::{Op, Separator};
-use mbe_semantics::kinds::{ExprKind, MetaVarKind};
+use mbe_semantics::kinds::MetaVarKind;
 use mbe_tt::span::Span;
 use mbe_tt::tt::{DelimiterKind, Punct};
 use std::alloc::{Allocator, Global};
@@ -23,8 +23,8 @@ pub fn specifier_of(kind: MetaVarKind) -> &'static str {
         MetaVarKind::Meta => "meta",
         MetaVarKind::Item => "item",
         MetaVarKind::Vis => "vis",
-        MetaVarKind::Expr(ExprKind::Expr) => "expr",
-        MetaVarKind::Expr(ExprKind::Expr2021) => "expr_2021",
+        // Which of its two names stands in the rule isn't kept.
+        MetaVarKind::Expr(_) => "expr",
         MetaVarKind::Ident => "ident",
         MetaVarKind::Tt => "tt",
         MetaVarKind::Lifetime => "lifetime",
