@@ -1,6 +1,7 @@
 -- The loop over the positions that are looked at where a match stops.
-use Rattle.std.proofs.Common.{ℕ, ◌≡◌, ◌<◌, ◌≤◌, true, false, Option, Some, None, option_map, option_to_list, List, [], ◌∷◌, ◌++◌, map, reverse, append_assoc, refl, sym, ap, subst, ◌∙◌}
+use Rattle.std.proofs.Common.{ℕ, ◌≡◌, ◌<◌, ◌≤◌, true, false, Option, Some, None, option_map, option_to_list, List, [], ◌∷◌, ◌++◌, map, reverse, append_assoc, Bor, refl, sym, ap, subst, ◌∙◌}
 use Rattle.std.specs.Prelude.{nat_lt, is_some}
+use Rattle.std.specs.Option.{option_copied}
 use Rattle.std.proofs.lemmas.Bool.{ltb-true, ltb-false}
 use Rattle.std.proofs.lemmas.List.{map-append}
 use Rattle.mbe_tt.specs.Trees.Tree.{Forest, rest_at}
@@ -28,6 +29,11 @@ use Rattle.mbe_matcher.proofs.Settling.{Last, last_of, each_turned, each_none, s
 -- the step that waits
 abbrev pub waits : {A : Type 0} → Option (Waiting A) → Option Step
 waits w = option_map (λ x. record { width = x.width; by_fragment = is_some x.beyond }) w
+
+pub waits_same : {A : Type 0} (r : Option (Bor (Waiting A))) (w : Option (Waiting A)) → option_copied r ≡ w →
+    option_map (λ x. (let s : Step = record { width = x.now.width; by_fragment = is_some x.now.beyond } in s)) r ≡ waits w
+waits_same None w e = ap waits e
+waits_same (Some x) w e = ap waits e
 
 same_step : {A : Type 0} (log : Log) (outers : List (Outer A)) (here : Forest) (w : Option (Waiting A)) (a : Option Advance) → Both (LeadsTo log outers here) w a → waits w ≡ step_of_advance a
 same_step log outers here None None b = refl

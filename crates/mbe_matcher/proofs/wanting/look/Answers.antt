@@ -6,9 +6,10 @@ use Rattle.mbe_bounds.specs.Bounded.TwoEach.{cons_if}
 use Rattle.mbe_bounds.specs.Loop.Kept.{kept}
 use Rattle.mbe_matcher.specs.declared.counts.Counts.{Counts}
 use Rattle.mbe_matcher.specs.Counts.{AreCounted, vacancies}
+use Rattle.mbe_matcher.specs.Positions.{IsPosition, Shows}
 use Rattle.mbe_matcher.proofs.Keeping.{keeps_not, keeps_on}
 use Rattle.mbe_matcher.proofs.Settling.{stack_falls, popped_all}
-use Rattle.mbe_matcher.proofs.Looking.{looking_start, looking_shown, looking_number, looking_drop, looking_take, looking_end}
+use Rattle.mbe_matcher.proofs.Looking.{waits_same, looking_start, looking_shown, looking_number, looking_drop, looking_take, looking_end}
 use Rattle.mbe_matcher.proofs.wanting.look.Goals as goal
 
 pub loop-position-init : goal.loop-position-init
@@ -29,7 +30,11 @@ pub next_after-next-requires : goal.next_after-next-requires
 next_after-next-requires g c =
     let s = c.args.source.now in
     let w = c.loop-position.invariant.walked.2 c.requires in
-    (c.loop-position.log, looking_shown _ _ (trees s.whole) _ _ _ _ _ c.pop.new.self.items _ c.in-Some.position _ c.in-Some.ensures.items w)
+    (
+      c.loop-position.log,
+      subst (λ os. IsPosition c.loop-position.log os c.in-Some.position) (sym c.deref.ensures.value)
+          (looking_shown _ _ (trees s.whole) _ _ _ _ _ c.pop.new.self.items _ c.in-Some.position _ c.in-Some.ensures.items w),
+    )
 
 pub takes-requires-clause-some : goal.takes-requires-clause-some
 takes-requires-clause-some g c =
@@ -102,7 +107,8 @@ loop-position-preserved g c =
         subst (λ b. AreCounted c.takes.new.self.marks.items s.place (cons_if b c.in-Some.position.number inv.walked.0)) taken counted.1,
         λ st. looking_take _ _ (trees s.whole) _ _ _ _ _ c.pop.new.self.items _ c.in-Some.position _ c.in-Some.ensures.items (inv.walked.2 st)
             c.steps.new.log c.steps.new.outers.items f c.push_some-in-Some.new.values.items c.push.new.self.items c.next_after-next.result c.step_of.result
-            c.in_ok-found.ensures ? ? pushed c.in_ok-push.ensures.ok (sym counted.0 ∙ taken),
+            c.in_ok-found.ensures (λ l o shown. c.next_after-next.ensures l o (subst (λ os. Shows l os c.in-Some.position o) (sym c.deref.ensures.value) shown))
+            (c.step_of.ensures ∙ waits_same _ _ c.as_ref.ensures.value) pushed c.in_ok-push.ensures.items (sym counted.0 ∙ taken),
       );
     }
 
