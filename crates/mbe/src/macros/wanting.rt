@@ -3,7 +3,7 @@ ghost use Rattle.std.specs.Prelude.{◌<◌, length, map, option_map, IfOk};
 ghost use Rattle.mbe_matcher.specs.Matched.{verdict_seen};
 ghost use Rattle.mbe_matcher.specs.Wanted.{wanted_seen, pair_seen};
 ghost use Rattle.mbe_semantics.specs.Expansion.Macro.{IsChecked};
-ghost use Rattle.mbe.specs.Explaining.{Explains, Wants, Clashes};
+ghost use Rattle.mbe.specs.Explaining.{Explains, WantsThere, ClashesThere};
 
 use crate::macros::DeclarativeMacro;
 use mbe_log::log::BindingLog;
@@ -35,10 +35,10 @@ impl<A: Allocator + Copy> DeclarativeMacro<A> {
         requires rule { rule < length (macro_of self.now).rules }
         ensures explains { IfOk result (λ w. Explains (G.grammar grammar.now)
             (macro_of self.now).rules tt.now.1 rule (verdict_seen w.verdict)) }
-        ensures wants { IfOk result (λ w. Wants (G.grammar grammar.now)
+        ensures wants { IfOk result (λ w. WantsThere (G.grammar grammar.now)
             (macro_of self.now).rules tt.now.1 rule (verdict_seen w.verdict)
             (map wanted_seen w.wanted.items)) }
-        ensures clashes { IfOk result (λ w. Clashes (G.grammar grammar.now)
+        ensures clashes { IfOk result (λ w. ClashesThere (G.grammar grammar.now)
             (macro_of self.now).rules tt.now.1 rule (verdict_seen w.verdict)
             (option_map pair_seen w.clash)) }
     {
