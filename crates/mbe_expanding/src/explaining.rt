@@ -52,7 +52,10 @@ fn each_once<'a, A: Allocator + Copy>(
 }
 
 // Their texts: `a`, `b` or `c`.
-fn listed<A: Allocator + Copy>(alloc: A, wanted: &[Wanted<'_, A>]) -> Result<String<A>, AllocError> {
+fn listed<A: Allocator + Copy>(
+    alloc: A,
+    wanted: &[Wanted<'_, A>],
+) -> Result<String<A>, AllocError> {
     let mut text = String::new(alloc);
     for (number, one) in wanted.iter().enumerate() {
         if number > 0 {
@@ -84,7 +87,10 @@ fn message_of<A: Allocator + Copy>(
         (Verdict::OneReading, _) => format!(in alloc; "{rule} fits"),
         (Verdict::ManyReadings, _) => format!(in alloc; "{rule} reads the call in several ways"),
         (Verdict::Ambiguous(_), Some((one, other))) if is_same(one, other) => {
-            format!(in alloc; "{rule} is ambiguous here: it goes on by {} in two ways", Shown(one))
+            format!(in alloc;
+                "{rule} is ambiguous here: it goes on by {} in two ways",
+                Shown(one)
+            )
         }
         (Verdict::Ambiguous(_), Some((one, other))) => {
             let (one, other) = (Shown(one), Shown(other));

@@ -32,7 +32,11 @@ static ROWS: [(&str, &str, &str); 11] = [
         "1:5 rule 1 of `m!` doesn't go on here: it wants `,` or `;`; \
             0:29 `,` in rule 1 of `m!`; 0:32 `;` in rule 1 of `m!`; ",
     ),
-    ("m { (a) => {} }", "m!(a b);", "1:5 rule 1 of `m!` ends here; "),
+    (
+        "m { (a) => {} }",
+        "m!(a b);",
+        "1:5 rule 1 of `m!` ends here; ",
+    ),
     (
         "m { ((a)) => {} }",
         "m!((a b));",

@@ -145,7 +145,9 @@ fn next_after<'a, A: Allocator>(
 // The width of a step.
 fn step_of<A: Allocator>(waiting: Option<&Waiting<'_, A>>) -> Option<Step>
     ensures { result ≡ option_map (λ w. record {
-        width = w.now.width; by_fragment = is_some w.now.beyond }) waiting.entry }
+      width = w.now.width;
+      by_fragment = is_some w.now.beyond;
+    }) waiting.entry }
 {
     let waiting = waiting?;
     Some(Step {

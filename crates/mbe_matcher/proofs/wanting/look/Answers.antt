@@ -29,8 +29,7 @@ loop-position-init g c =
 pub next_after-next-requires : goal.next_after-next-requires
 next_after-next-requires g c =
     let s = c.args.source.now in
-    let w = c.loop-position.invariant.walked.2 c.requires in
-    (
+    let w = c.loop-position.invariant.walked.2 c.requires in (
       c.loop-position.log,
       subst (λ os. IsPosition c.loop-position.log os c.in-Some.position) (sym c.deref.ensures.value)
           (looking_shown _ _ (trees s.whole) _ _ _ _ _ c.pop.new.self.items _ c.in-Some.position _ c.in-Some.ensures.items w),
