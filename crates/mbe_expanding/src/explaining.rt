@@ -1,7 +1,5 @@
 // Why the rules of a macro don't fit a call: where each stops, and what it wants there.
-ghost use Rattle.std.specs.Prelude.{◌≡◌, IsSome, OnOk};
-ghost use Rattle.mbe_calls.specs.Shown.{call_shown};
-ghost use Rattle.mbe_expanding.specs.Calls.{named};
+ghost use Rattle.std.specs.Prelude.{◌≡◌, OnOk};
 ghost use Rattle.mbe_expanding.specs.Shown.{setting_of, state_of};
 
 use crate::expander::Expander;

@@ -1,5 +1,5 @@
 -- Where a position of an argument is in its source text.
-use Rattle.std.specs.Prelude.{ℕ, zero, suc, ◌-◌, ◌==◌, nat_lt, if◌then◌else◌}
+use Rattle.std.specs.Prelude.{ℕ, zero, suc, ◌-◌, nat_lt, if◌then◌else◌}
 use Rattle.mbe_tt.specs.declared.span.Span.{Span}
 use Rattle.mbe_tt.specs.Trees.Leaf.{span_of}
 use Rattle.mbe_tt.specs.Trees.Tree.{Forest, none, leaf, group, flat_len}

@@ -1,5 +1,5 @@
 -- What is next after beginnings, and two of them that clash.
-use Rattle.std.proofs.Common.{ℕ, ◌≡◌, ◌⊎◌, inl, inr, Bool, true, false, ◌||◌, not, nat_eq, Option, Some, None, option_map, List, [], ◌∷◌, map, reverse, refl, sym, ap, subst, ◌∙◌, eqb-true}
+use Rattle.std.proofs.Common.{ℕ, ◌≡◌, inl, inr, Bool, true, false, ◌||◌, not, nat_eq, Option, Some, None, option_map, List, [], ◌∷◌, map, reverse, refl, sym, ap, subst, ◌∙◌}
 use Rattle.std.specs.Prelude.{◌↔◌, ◌==◌, if◌then◌else◌, IsSome, IfSome}
 use Rattle.std.specs.List.{filter_map, cons_option}
 use Rattle.std.proofs.lemmas.Bool.{eqb-false}
@@ -37,7 +37,7 @@ use Rattle.mbe_matcher.specs.declared.position.Waiting.{Waiting}
 use Rattle.mbe_matcher.specs.declared.wanting.Step.{Step}
 use Rattle.mbe_matcher.specs.declared.wanting.Way.{Way}
 use Rattle.mbe_matcher.specs.Matched.{AreSettled, is_clash, ends_as, stuck_at, stop_at}
-use Rattle.mbe_matcher.specs.Wanted.{Wanted, ending, closing, separating, reading, before_round, wanted, IsWanted, AreClashing, WayOn, step_of_move, way_of, clashes, both, clash_with, clash_if, first_clash, outline_wants, step_of_advance, outline_way, way_seen, next_in, AreWays, AreWanted, ClashThere}
+use Rattle.mbe_matcher.specs.Wanted.{Wanted, closing, separating, reading, before_round, wanted, IsWanted, AreClashing, WayOn, step_of_move, way_of, clashes, both, clash_with, clash_if, first_clash, outline_wants, step_of_advance, outline_way, way_seen, next_in, AreWays, AreWanted, ClashThere}
 use Rattle.mbe_matcher.proofs.MatchEnds.{same_clash}
 
 -- ---- outlines want what their beginnings do

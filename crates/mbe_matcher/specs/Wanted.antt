@@ -12,7 +12,7 @@ use Rattle.mbe_semantics.specs.Readings.Steps.{Move, move, next}
 use Rattle.mbe_semantics.specs.Readings.Verdict.{Verdict, ambiguous, stop_of}
 use Rattle.mbe_semantics.specs.Matching.Held.{moves_of, clashing}
 use Rattle.mbe_semantics.specs.Matching.Lists.{In, Distinct}
-use Rattle.mbe_semantics.specs.Matching.Outline.{Edge, gate, edge, Outline, outline, Advance, advance, next_of}
+use Rattle.mbe_semantics.specs.Matching.Outline.{gate, edge, Outline, outline, Advance, advance, next_of}
 use Rattle.mbe_semantics.specs.Matching.Story.{story}
 use Rattle.mbe_bounds.specs.Bounded.Dots.{dot_of}
 use Rattle.mbe_ops.specs.Views.{op_of, separator_seen}

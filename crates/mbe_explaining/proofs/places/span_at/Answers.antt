@@ -1,4 +1,4 @@
-use Rattle.std.proofs.Common.{◌≡◌, ◌∙◌, ◌+◌, ◌-◌, ◌<◌, ◌≤◌, Some, None, sym, ap, arith}
+use Rattle.std.proofs.Common.{◌≡◌, ◌∙◌, ◌+◌, ◌-◌, ◌<◌, ◌≤◌, Some, sym, ap, arith}
 use Rattle.mbe_tt.specs.Trees.Tree.{flat_len, first, rest_of, Leaf_tree, Group_tree}
 use Rattle.mbe_tt.specs.Views.Element.{element_tree}
 use Rattle.mbe_tt.specs.Views.Shown.{leaf_of}

@@ -1,6 +1,5 @@
 use Rattle.std.proofs.Common.{◌≡◌, ◌+◌, ◌++◌, ◌<◌, ◌∷◌, ◌∙◌, [], length, option_to_list, length-append, sym, ap, subst, arith}
 use Rattle.mbe_tt.specs.Views.View.{trees}
-use Rattle.mbe_semantics.specs.Matching.Dots.{dots}
 use Rattle.mbe_semantics.specs.Readings.Input.{input_of}
 use Rattle.mbe_bounds.specs.Bounded.TwoEach.{cons_if}
 use Rattle.mbe_bounds.specs.Loop.Kept.{kept}

@@ -1,4 +1,4 @@
-use Rattle.std.proofs.Common.{◌≡◌, ◌+◌, ◌∙◌, ◌++◌, ◌∷◌, ℕ, Some, None, [], length, map, reverse, get_or, sym, ap, subst, arith}
+use Rattle.std.proofs.Common.{◌≡◌, ◌+◌, ◌∙◌, ◌++◌, ◌∷◌, Some, None, [], length, map, reverse, get_or, sym, ap, subst, arith}
 use Rattle.std.specs.Prelude.{IfSome}
 use Rattle.mbe_tt.specs.Views.View.{trees}
 use Rattle.mbe_tt.specs.Trees.Tree.{flat_len, rest_at}
