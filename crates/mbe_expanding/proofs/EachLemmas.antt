@@ -1,20 +1,20 @@
 -- What follows from what stands in place of the calls of trees: each part is one of their calls', and there is none where no call is known.
 use Rattle.std.proofs.Common.{◌≡◌, ◌-◌, ℕ, zero, suc, Bool, true, false, List, [], ◌∷◌, ◌++◌, length, Option, Some, None, refl, ap, sym, subst, ◌∙◌}
-use Rattle.std.specs.Prelude.{◌||◌, ◌&&◌, not, ◌≢◌, if◌then◌else◌, option_map, option_and_then}
-use Rattle.std.specs.List.{All, list_any, slice_get}
+use Rattle.std.specs.Prelude.{◌||◌, ◌&&◌, not, if◌then◌else◌, option_map, option_and_then}
+use Rattle.std.specs.List.{All, slice_get}
 use Rattle.std.specs.Str.{bytes_eq}
 use Rattle.std.proofs.lemmas.List.Elements.{All-nil, All-cons, All-append}
-use Rattle.mbe_tt.specs.Trees.Tree.{Forest, Tree, Leaf_tree, Group_tree, none, leaf, group, tree, append, leaves, rest_of}
+use Rattle.mbe_tt.specs.Trees.Tree.{Forest, Tree, Leaf_tree, Group_tree, none, leaf, group, tree, leaves, rest_of}
 use Rattle.mbe_tt.specs.declared.tt.DelimiterKind.{DelimiterKind}
 use Rattle.mbe_tt.specs.declared.tt.DelimiterKind.TheVariants.{Parenthesis, Brace, Bracket, Invisible}
 use Rattle.mbe_calls.specs.Beside.{is_standard}
-use Rattle.mbe_calls.specs.Fronts.{Call, Defined, Definition, ACall, Other, front, is_item}
+use Rattle.mbe_calls.specs.Fronts.{Call, Defined, Definition, ACall, front, is_item}
 use Rattle.mbe_calls.specs.Splicing.{Part, spliced}
 use Rattle.mbe_expanding.specs.Becoming.{after_group}
-use Rattle.mbe_expanding.specs.Calls.{Setting, State, Stays, too_many, not_found, limited, refused, Refuses, by_definition, by_rules, IsReplaced, named, spent}
+use Rattle.mbe_expanding.specs.Calls.{Setting, State, Stays, too_many, not_found, limited, refused, named}
 use Rattle.mbe_expanding.specs.Fitting.{IsLeft, what_follows, after_semicolon}
-use Rattle.mbe_expanding.specs.Scopes.{Scope, Definition as AMacro, definition_at, is_found, last_below, wide, near, or_wide, lookup, rules_found, placed}
-use Rattle.mbe_expanding.specs.Replacing.{Parts, NoPart, ShowsItems, no_more, at_definition, at_call, at_tree, shown_at, shown, item_shown, rules_shown, LeavesGroup, is_left, is_used, PartsOfTree, PartsOfArgument, PartsOfCall, of_kept, of_replaced, FrontParts, of_definition, of_tree, of_call, AllParts, ends, goes_on, PartsIn, PartsWithin, PartsOfFile, IsIn, all_of_it, after_some, in_group, IsOfCall, NoneHas, NoneCalled}
+use Rattle.mbe_expanding.specs.Scopes.{Scope, Definition as AMacro, definition_at, is_found, last_below, wide, near, or_wide, lookup, placed}
+use Rattle.mbe_expanding.specs.Replacing.{Parts, ShowsItems, no_more, at_definition, at_call, at_tree, shown_at, shown, item_shown, LeavesGroup, is_left, is_used, PartsOfTree, PartsOfArgument, PartsOfCall, of_kept, of_replaced, FrontParts, of_definition, of_tree, of_call, AllParts, ends, goes_on, PartsIn, PartsWithin, PartsOfFile, IsIn, all_of_it, after_some, in_group, IsOfCall, NoneHas, NoneCalled}
 use Rattle.mbe_expanding.proofs.FrontLemmas.{Ahead, front_definition, front_call, front_tree, call_ahead}
 
 -- ---- trees in trees

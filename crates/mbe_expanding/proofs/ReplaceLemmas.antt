@@ -1,30 +1,25 @@
 -- What stands in place of calls, by what stands in place of those in their parts.
-use Rattle.std.proofs.Common.{◌≡◌, ◌<◌, ◌-◌, ℕ, zero, suc, Bool, true, false, List, [], ◌∷◌, ◌++◌, length, map, refl, ap, sym, subst, ◌∙◌}
+use Rattle.std.proofs.Common.{◌≡◌, ◌-◌, ℕ, suc, List, [], ◌∷◌, ◌++◌, length, map, refl, ap, sym, subst, ◌∙◌}
 use Rattle.std.specs.Prelude.{Option, Some, None}
 use Rattle.std.proofs.lemmas.List.{append_assoc, append-nil, map-append}
-use Rattle.mbe_tt.specs.Buffers.Building.{Levels, put}
 use Rattle.mbe_tt.specs.Trees.Top.{Top}
 use Rattle.mbe_tt.specs.declared.tt.Delimiter.{Delimiter}
 use Rattle.mbe_tt.specs.declared.tt.DelimiterKind.{DelimiterKind}
-use Rattle.mbe_rust_text.specs.Writing.{text_of}
-use Rattle.mbe_tt.specs.Trees.Tree.{Forest, Tree, Leaf_tree, Group_tree, none}
+use Rattle.mbe_tt.specs.Trees.Tree.{Forest, Tree, Group_tree, none}
 use Rattle.mbe_calls.specs.Beside.{is_standard}
 use Rattle.mbe_calls.specs.Fronts.{Call, Defined, Definition, ACall, Other, front}
 use Rattle.mbe_calls.specs.Splicing.{Part}
-use Rattle.mbe_expanding.specs.Becoming.{Becomes, StandsFor, Writes, after_group}
+use Rattle.mbe_expanding.specs.Becoming.{after_group}
 use Rattle.mbe_expanding.specs.Calls.{Setting, State, Tries}
 use Rattle.mbe_expanding.specs.Fitting.{IsLeft, what_follows}
 use Rattle.mbe_expanding.specs.Scopes.{with_left}
-use Rattle.mbe_expanding.specs.Replacing.{Parts, NoPart, ShowsItems, no_more, at_definition, at_call, at_tree, item_shown, rules_shown, LeavesGroup, is_left, PartsOfTree, PartsOfArgument, last_span, IsPartOf, PartsOfCall, of_kept, of_replaced, FrontParts, of_definition, of_tree, of_call, AllParts, ends, goes_on, PartsWithin, PartsOfFile, Adds}
+use Rattle.mbe_expanding.specs.Replacing.{Parts, ShowsItems, no_more, at_definition, at_call, at_tree, item_shown, rules_shown, LeavesGroup, is_left, PartsOfTree, PartsOfArgument, IsPartOf, PartsOfCall, of_kept, of_replaced, FrontParts, of_definition, of_tree, of_call, AllParts, ends, goes_on, PartsWithin, PartsOfFile, Adds}
 
 -- ---- items
 
 -- what is left to show, with what was shown, is all
 pub record Showing (f : Forest) (s : State) (rest : Forest) (t : State) : Type 0 where
   pub on : (u : State) → ShowsItems rest t u → ShowsItems f s u
-
-pub none_shown : (f rest : Forest) (s t : State) → rest ≡ f → t ≡ s → Showing f s rest t
-none_shown f rest s t r k = record { on = λ u h. subst (λ x. ShowsItems x s u) r (subst (λ x. ShowsItems rest x u) k h) }
 
 pub definition_shown : (f g : Forest) (d : Defined) (s t u : State) → Showing f s g t → front g ≡ Definition d → u ≡ item_shown d t → Showing f s d.rest u
 definition_shown f g d s t u k is h =
@@ -153,28 +148,6 @@ pub parts_left : (e : Setting) (levels : ℕ) (within : Parts) (c : Call) (s u :
     → PartsOfCall e levels within c s parts rest u → IsLeft c.rest rest
 parts_left e levels within c s v all left (of_kept parts t u h a) = what_follows
 parts_left e levels within c s v all left (of_replaced tree part rest u r p) = p.leaves
-
--- ---- texts
-
--- the trees of the innermost group
-abbrev innermost : Levels → Forest
-innermost [] = none
-innermost (g ∷ outer) = g.1
-
--- what was written into a buffer of its own
-pub part_written : (e : Setting) (levels depth n : ℕ) (c : Call) (f left : Forest) (s u : State) (k : Delimiter) (b now : Levels) (top : Top) (part : Part)
-    → b ≡ (k, none) ∷ [] → Writes (StandsFor (Becomes e levels depth) c.delimiter f s) b now u → now ≡ top ∷ [] → part.text ≡ text_of n top.1
-    → IsLeft c.rest left → part.start ≡ c.start.start → part.end ≡ (last_span c left).end → IsPartOf e levels depth c f s part left u
-part_written e levels depth n c f left s u k b now top part h w t is l start end =
-    let same : top ∷ [] ≡ (k, w.0) ∷ [] = sym t ∙ (w.2 ∙ ap (put w.0) h) in record {
-      out = w.0;
-      stands = w.1;
-      indentation = n;
-      written = is ∙ ap (text_of n) (ap innermost same);
-      leaves = l;
-      starts = start;
-      ends = end;
-    }
 
 -- ---- files
 

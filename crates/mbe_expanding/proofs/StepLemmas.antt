@@ -1,9 +1,9 @@
 -- What was written so far, and one step more.
-use Rattle.std.proofs.Common.{◌≡◌, ◌<◌, ◌+◌, ℕ, zero, suc, List, [], ◌∷◌, length, refl, ap, sym, subst, ◌∙◌, arith}
+use Rattle.std.proofs.Common.{◌≡◌, ℕ, suc, [], ◌∷◌, refl, ap, sym, subst, ◌∙◌}
 use Rattle.mbe_tt.specs.Buffers.Building.{Levels, put}
-use Rattle.mbe_tt.specs.Trees.Tree.{Forest, none, leaf, group, append}
+use Rattle.mbe_tt.specs.Trees.Tree.{Forest, none, append}
 use Rattle.mbe_tt.specs.Views.Entries.{append-none}
-use Rattle.mbe_expanding.specs.Becoming.{Change, Becomes, Step, Steps, ends, goes_on, Writes}
+use Rattle.mbe_expanding.specs.Becoming.{Becomes, Step, Steps, ends, goes_on, Writes}
 use Rattle.mbe_expanding.specs.Calls.{Setting, State}
 use Rattle.mbe_expanding.proofs.FrontLemmas.{append_append}
 

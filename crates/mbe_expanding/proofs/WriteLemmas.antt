@@ -1,22 +1,20 @@
 -- What is written into a builder, by what its parts write.
-use Rattle.std.proofs.Common.{◌≡◌, ◌<◌, ◌-◌, ℕ, zero, suc, Bool, true, false, List, [], ◌∷◌, length, refl, ap, sym, subst, ◌∙◌, arith}
+use Rattle.std.proofs.Common.{◌≡◌, ◌-◌, ℕ, Bool, true, false, ◌∷◌, length, refl, ap, sym, subst, ◌∙◌}
 use Rattle.std.specs.Prelude.{if◌then◌else◌, Option, Some, None, Result, Ok, Err, OnOk, IfOk, IfSome}
 use Rattle.mbe_tt.specs.Buffers.Building.{Levels, put, closed}
-use Rattle.mbe_tt.specs.Trees.Leaf.{Leaf}
-use Rattle.mbe_tt.specs.Trees.Tree.{Forest, Tree, Leaf_tree, none, leaf, group, append, leaves, one_leaf}
+use Rattle.mbe_tt.specs.Trees.Tree.{Forest, Tree, none, group, append, leaves, one_leaf}
 use Rattle.mbe_tt.specs.Trees.Top.{Top}
 use Rattle.mbe_tt.specs.declared.tt.Delimiter.{Delimiter}
 use Rattle.mbe_tt.specs.declared.tt.DelimiterKind.{DelimiterKind}
 use Rattle.mbe_tt.specs.declared.tt.DelimiterKind.TheVariants.{Parenthesis, Brace, Bracket, Invisible}
 use Rattle.mbe_calls.specs.Beside.{is_standard}
 use Rattle.mbe_calls.specs.Fronts.{Call, Defined, Definition, ACall, Other, front}
-use Rattle.mbe_expanding.specs.Becoming.{Change, Becomes, AsItIs, ChangesGroup, ChangesTree, ChangesWrapped, StandsFor, Reads, Keeps, ChangesCall, stays, is_replaced, Step, of_definition, of_tree, of_call, Writes, after_group, shows}
-use Rattle.mbe_expanding.specs.Calls.{Setting, State, Stays, IsReplaced, Tries, spent}
+use Rattle.mbe_expanding.specs.Becoming.{Change, Becomes, ChangesGroup, ChangesTree, ChangesWrapped, StandsFor, Reads, Keeps, ChangesCall, stays, is_replaced, of_definition, of_tree, of_call, Writes}
+use Rattle.mbe_expanding.specs.Calls.{Setting, State, Tries}
 use Rattle.mbe_expanding.specs.Fitting.{IsPart, IsWrapped, IsWrap, bare, in_parentheses, in_braces, as_it_is, with_semicolon, semicolon, IsLeft, what_follows, from_group}
 use Rattle.mbe_expanding.specs.Scopes.{Scope, IsRead, with_shown}
-use Rattle.mbe_expanding.proofs.BelowLemmas.{one_more}
 use Rattle.mbe_expanding.proofs.GroupLemmas.{length_put}
-use Rattle.mbe_expanding.proofs.FrontLemmas.{Ahead, AheadLeaves, front_definition, front_call, call_ahead}
+use Rattle.mbe_expanding.proofs.FrontLemmas.{front_definition, front_call, call_ahead}
 use Rattle.mbe_expanding.proofs.FitLemmas.{leaves_before}
 use Rattle.mbe_expanding.proofs.StepLemmas.{Done, step_done, put_put}
 
@@ -52,19 +50,6 @@ pub inside_kept : (e : Setting) (levels depth : ℕ) (f : Forest) (s u : State) 
 unfolding Becomes
 inside_kept e levels depth f s u b now l w k =
     subst (λ n. Writes (Becomes e n depth f s) b now u) (sym l) (f, (refl, k), w)
-
-pub inside_written : (e : Setting) (levels depth : ℕ) (f : Forest) (s u : State) (b now : Levels) → 0 < levels
-    → Writes (Becomes e (suc (levels - 1)) depth f s) b now u → Writes (Becomes e levels depth f s) b now u
-inside_written e levels depth f s u b now l w = subst (λ n. Writes (Becomes e n depth f s) b now u) (sym (one_more levels l)) w
-
-pub group_written : (inner : Change) (d : Delimiter) (inside : Forest) (s t u : State) (b opened mid now : Levels)
-    → opened ≡ (record { opening = d.opening; close = d.opening; kind = d.kind }, none) ∷ b → Writes (inner inside s) opened mid t
-    → now ≡ closed d.close mid → u ≡ after_group d.kind (length s.scope.visible) t → Writes (ChangesGroup inner d inside s) b now u
-group_written inner d inside s t u b opened mid now o w c after = (
-  group d w.0 none,
-  record { content = w.0; state = t; changes = w.1; is_group = refl; is_after = after },
-  c ∙ ap (closed d.close) (w.2 ∙ ap (put w.0) o),
-)
 
 pub wrapped_bare : (inner : Change) (d : Delimiter) (f : Forest) (s u : State) (b now : Levels) → Writes (inner f s) b now u
     → Writes (ChangesWrapped inner d f s) b now u

@@ -1,7 +1,6 @@
-use Rattle.std.proofs.Common.{rules, ◌≡◌, map, refl, ap, ◌∙◌}
+use Rattle.std.proofs.Common.{rules, map, refl, ap, ◌∙◌}
 use Rattle.mbe_tt.specs.Views.Element.{element_tree}
 use Rattle.mbe_tt.specs.Views.View.{trees}
-use Rattle.mbe_calls.specs.Beside.{is_standard}
 use Rattle.mbe_calls.specs.Replacements.{part_of}
 use Rattle.mbe_calls.specs.declared.calls.Front.TheVariants as v
 use Rattle.mbe_calls.specs.Shown.{call_shown, defined_shown, front_shown}

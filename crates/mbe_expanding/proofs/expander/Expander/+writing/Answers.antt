@@ -1,10 +1,10 @@
-use Rattle.std.proofs.Common.{rules, ◌≡◌, ◌<◌, ◌-◌, length, suc, refl, ◌∙◌, arith}
+use Rattle.std.proofs.Common.{rules, ◌-◌, refl, ◌∙◌}
 use Rattle.mbe_tt.specs.Views.Element.{element_tree}
 use Rattle.mbe_tt.specs.Views.View.{trees}
 use Rattle.mbe_calls.specs.Beside.{is_standard}
 use Rattle.mbe_calls.specs.declared.calls.Front.TheVariants as v
 use Rattle.mbe_calls.specs.Shown.{call_shown, defined_shown, front_shown}
-use Rattle.mbe_expanding.specs.Becoming.{Becomes, ChangesCall, ChangesTree, Reads}
+use Rattle.mbe_expanding.specs.Becoming.{Becomes}
 use Rattle.mbe_expanding.specs.Shown.{setting_of, state_of}
 use Rattle.mbe_expanding.proofs.FitLemmas.{call_less}
 use Rattle.mbe_expanding.proofs.FrontLemmas.{ahead_less, front_definition, front_end, front_is}

@@ -1,9 +1,6 @@
-use Rattle.std.proofs.Common.{◌≡◌, ℕ, ◌+◌, ◌*◌, ◌<◌, length, suc}
-use Rattle.mbe_tt.specs.Trees.Tree.{Forest, append, flat_len}
-use Rattle.mbe_tt.specs.Buffers.Building.{put}
+use Rattle.std.proofs.Common.{◌≡◌, ◌+◌, ◌*◌, length}
+use Rattle.mbe_tt.specs.Trees.Tree.{flat_len}
 use Rattle.mbe_tt.specs.Views.View.{trees}
-use Rattle.mbe_expanding.specs.Becoming.{Becomes}
-use Rattle.mbe_expanding.specs.Calls.{State}
 use Rattle.mbe_expanding.specs.Shown.{setting_of, state_of}
 use Rattle.mbe_expanding.proofs.StepLemmas.{Done}
 use Rattle.mbe_expanding.proofs.expander.Expander.+writing.Given as goal

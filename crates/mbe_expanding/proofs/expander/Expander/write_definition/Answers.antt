@@ -1,4 +1,3 @@
-use Rattle.std.proofs.Common.{rules}
 use Rattle.mbe_tt.specs.Views.View.{trees}
 use Rattle.mbe_calls.specs.Shown.{defined_shown}
 use Rattle.mbe_expanding.specs.Shown.{scope_of, setting_of, state_of}
