@@ -18,3 +18,5 @@ pub mod Walking
 pub mod FirstWalk
 pub mod LastWalk
 pub mod EndsPass
+pub mod WantedLemmas
+pub mod Looking

@@ -9,3 +9,4 @@ pub mod States
 pub mod TwoEnds
 pub mod Met
 pub mod EndsMatched
+pub mod Wanted

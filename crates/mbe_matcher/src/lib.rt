@@ -16,3 +16,4 @@ mod settle;
 mod skipping;
 mod source;
 mod steps;
+pub mod wanting;

@@ -120,7 +120,7 @@ pub fn match_argument<'a, A: Allocator + Copy, G: FragmentGrammar>(
     failed(alloc, grammar, reached, argument.flat_len(), around, log)
 }
 
-fn verdict_of(stop: &Stop) -> Verdict
+pub(crate) fn verdict_of(stop: &Stop) -> Verdict
     ensures { verdict_seen result ≡ verdict_in stop.now }
 {
     match stop {

@@ -97,7 +97,7 @@ pub(crate) fn after_step<'a, A: Allocator>(
 
 // The positions after their steps, in the same order: the stack at the next place.
 #[inline(always)]
-fn come<'a, A: Allocator>(
+pub(crate) fn come<'a, A: Allocator>(
     waiting: &[Waiting<'a, A>],
     todo: &mut Todo<'a, '_, A>,
 ) -> Result<(), AllocError>
@@ -123,7 +123,7 @@ fn at_end(place: usize, ends: &[Handle]) -> Stop
 
 // Why the positions stop here, if they do: the argument ends, two of them clash, or none goes on.
 #[inline(always)]
-fn stopped<A: Allocator>(
+pub(crate) fn stopped<A: Allocator>(
     source: &Source<'_, A>,
     waiting: &[Waiting<'_, A>],
     ends: &[Handle],

@@ -1,0 +1,40 @@
+use Rattle.std.proofs.Common.{◌≡◌, ◌<◌, ◌∙◌, map, option_map, subst}
+use Rattle.std.specs.Prelude.{Result, Ok, Err, IfOk}
+use Rattle.mbe_tt.specs.Views.View.{trees}
+use Rattle.mbe_semantics.specs.Readings.Verdict.{IsVerdict}
+use Rattle.mbe_ops.specs.Views.{template_of}
+use Rattle.mbe_parser.specs.RuleViews.{rule_of}
+use Rattle.mbe_matcher.specs.Matched.{verdict_seen}
+use Rattle.mbe_matcher.specs.Wanted.{AreWanted, ClashThere, wanted_seen, pair_seen}
+use Rattle.mbe.specs.MacroViews.{macro_of}
+use Rattle.mbe.proofs.ChoiceLemmas.{seen_at, length_seen}
+use Rattle.mbe.proofs.ClosestLemmas.{all_checked}
+use Rattle.mbe.proofs.macros.DeclarativeMacro.wants.Goals as goal
+
+pub wants_of-requires : goal.wants_of-requires
+wants_of-requires g c =
+    let items = c.args.self.now.rules.items in
+    let within = subst (λ n. c.args.rule < n) (length_seen rule_of items) c.requires.rule in
+    let here = seen_at rule_of items c.args.rule c.index-rule.result.now within c.index-rule.ensures in
+    all_checked (macro_of c.args.self.now) c.args.self.now.tells_refusal c.requires.checked c.args.rule (rule_of c.index-rule.result.now) here
+
+ok_to : {X E : Type 0} (r : Result X E) (P Q : X → Type 0) → ((x : X) → P x → Q x) → IfOk r P → IfOk r Q
+ok_to (Ok x) P Q f p = f x p
+ok_to (Err e) P Q f p = tt
+
+pub returns : goal.returns
+returns g c =
+    let items = c.args.self.now.rules.items in
+    let within = subst (λ n. c.args.rule < n) (length_seen rule_of items) c.requires.rule in
+    let here = seen_at rule_of items c.args.rule c.index-rule.result.now within c.index-rule.ensures in
+    let h = g.G.FragmentGrammar.grammar c.args.grammar.now in
+    let rule = rule_of c.index-rule.result.now in
+    let pat = template_of c.index-rule.result.now.lhs in
+    let same : trees c.remaining-argument.result ≡ c.args.tt.now.1 = c.remaining-argument.ensures ∙ c.iter.ensures in
+    let r = c.wants_of.result in
+    let e = c.wants_of.ensures in
+    record {
+      explains = ok_to r _ _ (λ w p. (rule, here, subst (λ f. IsVerdict h pat f (verdict_seen w.verdict)) same p)) e.verdict;
+      wants = ok_to r _ _ (λ w p. (rule, here, subst (λ f. AreWanted h pat f (verdict_seen w.verdict) (map wanted_seen w.wanted.items)) same p)) e.wanted;
+      clashes = ok_to r _ _ (λ w p. (rule, here, subst (λ f. ClashThere h pat f (verdict_seen w.verdict) (option_map pair_seen w.clash)) same p)) e.clash;
+    }

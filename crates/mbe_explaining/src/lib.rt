@@ -1,0 +1,5 @@
+// Why a rule doesn't fit a call: where a position of an argument is, and what a pattern wants there, as text.
+#![tactic(auto)]
+
+pub mod places;
+pub mod texts;
