@@ -1,9 +1,10 @@
 // What a match that doesn't fit reports (as in rust-analyzer): the first error that a position
 // noted, and what the last one had bound.
-ghost use Rattle.std.specs.Prelude.{◌≡◌, [], ◌++◌, IfOk, IfSome, OnOk, Some, option_map};
+ghost use Rattle.std.specs.Prelude.{ℕ, List, ◌≡◌, [], ◌++◌, if◌then◌else◌, IfOk, IfSome, OnOk, Some, option_map};
 ghost use Rattle.std.specs.String.{string_bytes};
 ghost use Rattle.mbe_tt.specs.declared.span.Span.{Span};
 ghost use Rattle.mbe_semantics.specs.Bindings.Account.{Account, IsAccount, HasEntriesOf, pushed};
+ghost use Rattle.mbe_semantics.specs.Expansion.Error.{binding_error, unexpected_token};
 ghost use Rattle.mbe_semantics.specs.Expansion.Failing.{noted, unlike, unlike_puncts, puncts_text, entry_of, kind_text, is_refused, failing_front, failing_variable, failing, bound_if_some, bad_front, failing_command};
 ghost use Rattle.mbe_errors.specs.ErrorViews.{error_of, errors_of, kind_of};
 ghost use Rattle.mbe_ops.specs.Views.{op_of};
@@ -37,26 +38,20 @@ fn noted<A: Allocator>(
     ExpandError::new(alloc, span, kind)
 }
 
-// In place of a literal or an identifier.
-fn unlike<A: Allocator>(text: String<A>, here: &TtIter<'_, A>) -> ExpandErrorKind<A>
-    ensures { kind_of result ≡ unlike (string_bytes text) here.now }
+// Whether the error in place of a literal or an identifier says what was expected.
+fn says_text<A: Allocator>(here: &TtIter<'_, A>) -> bool
+    ensures { (text : List ℕ) → unlike text here.now
+        ≡ (if result then binding_error text else unexpected_token) }
 {
-    match here.peek() {
-        Some(TtElement::Leaf(_)) => ExpandErrorKind::UnexpectedToken,
-        _ => ExpandErrorKind::BindingError(text),
-    }
+    !matches!(here.peek(), Some(TtElement::Leaf(_)))
 }
 
-// In place of puncts.
-fn unlike_puncts<A: Allocator>(text: String<A>, here: &TtIter<'_, A>) -> ExpandErrorKind<A>
-    ensures { kind_of result ≡ unlike_puncts (string_bytes text) here.now }
+// Whether the error in place of puncts says what was expected.
+fn says_puncts<A: Allocator>(here: &TtIter<'_, A>) -> bool
+    ensures { (text : List ℕ) → unlike_puncts text here.now
+        ≡ (if result then binding_error text else unexpected_token) }
 {
-    match here.peek() {
-        Some(TtElement::Leaf(Leaf::Punct(punct))) if punct.char != '\'' => {
-            ExpandErrorKind::BindingError(text)
-        }
-        _ => ExpandErrorKind::UnexpectedToken,
-    }
+    matches!(here.peek(), Some(TtElement::Leaf(Leaf::Punct(punct))) if punct.char != '\'')
 }
 
 // The chars of the puncts.
@@ -149,16 +144,28 @@ pub(crate) fn failing<A: Allocator + Copy, G: FragmentGrammar>(
 {
     match op {
         Op::Literal(literal) => {
-            let kind = unlike(format!(in alloc; "expected literal: `{literal}`")?, here);
+            let kind = if says_text(here) {
+                ExpandErrorKind::BindingError(format!(in alloc; "expected literal: `{literal}`")?)
+            } else {
+                ExpandErrorKind::UnexpectedToken
+            };
             Ok(Some(noted(alloc, kind, here, around)?))
         }
         Op::Ident(ident) => {
-            let kind = unlike(format!(in alloc; "expected ident: `{ident}`")?, here);
+            let kind = if says_text(here) {
+                ExpandErrorKind::BindingError(format!(in alloc; "expected ident: `{ident}`")?)
+            } else {
+                ExpandErrorKind::UnexpectedToken
+            };
             Ok(Some(noted(alloc, kind, here, around)?))
         }
         Op::Punct(puncts) => {
-            let chars = puncts_text(alloc, puncts.as_slice())?;
-            let kind = unlike_puncts(format!(in alloc; "expected punct: `{chars}`")?, here);
+            let kind = if says_puncts(here) {
+                let chars = puncts_text(alloc, puncts.as_slice())?;
+                ExpandErrorKind::BindingError(format!(in alloc; "expected punct: `{chars}`")?)
+            } else {
+                ExpandErrorKind::UnexpectedToken
+            };
             Ok(Some(noted(alloc, kind, here, around)?))
         }
         Op::Var {
