@@ -112,6 +112,12 @@ pub data Form : Type 0 where
   Body : Form
   Arguments : Delimiter → Forest → Form
 
+-- an item is found in all of its group, and `macro_rules!` only after it
+abbrev pub is_item : Form → Bool
+is_item Rules = false
+is_item Body = true
+is_item (Arguments d pattern) = true
+
 -- a definition: its name, its form, the group with its content, and what follows
 pub record Defined : Type 0 where
   pub name : Ident

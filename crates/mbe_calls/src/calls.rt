@@ -8,8 +8,8 @@ ghost use Rattle.mbe_calls.specs.Fronts.{is_nameable, is_visible, after_char, af
 ghost use Rattle.mbe_calls.specs.Beside.{is_standard, attribute_of, name_in, is_operator, binds};
 ghost use Rattle.mbe_calls.specs.Fronts.{longest, path_of, call_with, call_by, call_of};
 ghost use Rattle.mbe_calls.specs.Fronts.{after_rules, rules_with, rules_of, template_with, body_with};
-ghost use Rattle.mbe_calls.specs.Fronts.{item_with, item_of, defined_by, definition_of, front};
-ghost use Rattle.mbe_calls.specs.Shown.{path_shown, call_shown, defined_shown, front_shown};
+ghost use Rattle.mbe_calls.specs.Fronts.{item_with, item_of, defined_by, definition_of, front, is_item};
+ghost use Rattle.mbe_calls.specs.Shown.{path_shown, call_shown, defined_shown, front_shown, form_shown};
 
 use mbe_tt::span::Span;
 use mbe_tt::tt::{
@@ -59,7 +59,9 @@ pub struct Defined<'t, A: Allocator = Global> {
 
 impl<A: Allocator> Defined<'_, A> {
     /// Whether names find it everywhere in its group, as they find other items, and not only after it.
-    pub fn is_item(&self) -> bool {
+    pub fn is_item(&self) -> bool
+        ensures { result ≡ is_item (form_shown self.now.form) }
+    {
         !matches!(self.form, Form::Rules)
     }
 }

@@ -4,7 +4,7 @@ use Rattle.std.specs.Prelude.{if◌then◌else◌, option_and_then}
 use Rattle.std.specs.List.{slice_get}
 use Rattle.mbe_expanding.specs.Scopes.{last_below}
 
-one_more : (n : ℕ) → 0 < n → n ≡ suc (n - 1)
+pub one_more : (n : ℕ) → 0 < n → n ≡ suc (n - 1)
 one_more n h = omega (arith, h)
 
 below_suc : (p : ℕ → Bool) (n : ℕ) → last_below p (suc n) ≡ (if p n then Some n else last_below p n)

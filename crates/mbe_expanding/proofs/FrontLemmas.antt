@@ -311,3 +311,7 @@ front_end f e = end_by_front f (definition_of f) (call_of f) refl e
 pub tree_less : (f rest : Forest) (t : Tree) → f ≡ tree t rest → flat_len rest < flat_len f
 tree_less f rest (Leaf_tree l) e = let n = ap flat_len e in omega (arith, n)
 tree_less f rest (Group_tree d inside) e = let n = ap flat_len e in omega (arith, n)
+
+-- the front that a call shows
+pub front_is : {X : Type 0} (shown : X → Front) (r x : X) (f : Forest) → shown r ≡ front f → r ≡ x → front f ≡ shown x
+front_is shown r x f e h = sym e ∙ ap shown h

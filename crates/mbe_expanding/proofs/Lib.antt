@@ -1,8 +1,12 @@
 pub mod BelowLemmas
 pub mod CallLemmas
+pub mod EachLemmas
 pub mod EditionLemmas
 pub mod FitLemmas
 pub mod FrontLemmas
 pub mod GroupLemmas
 pub mod ItemLemmas
 pub mod MarkLemmas
+pub mod ReplaceLemmas
+pub mod StepLemmas
+pub mod WriteLemmas

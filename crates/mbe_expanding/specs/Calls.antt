@@ -2,20 +2,20 @@
 use Rattle.std.specs.Prelude.{◌≡◌, ◌≢◌, ◌⊎◌, ◌<◌, ◌-◌, ℕ, zero, Bool, true, false, Option, Some, None}
 use Rattle.mbe_tt.specs.declared.span.Edition.{Edition}
 use Rattle.mbe_tt.specs.declared.span.Span.{Span}
-use Rattle.mbe_tt.specs.declared.tt.DelimiterKind.{DelimiterKind}
-use Rattle.mbe_tt.specs.declared.tt.DelimiterKind.TheVariants.{Parenthesis, Brace, Bracket, Invisible}
 use Rattle.mbe_tt.specs.Fragments.Grammar.{Grammar}
 use Rattle.mbe_tt.specs.Trees.Top.{Top, top_group}
 use Rattle.mbe_semantics.specs.Expansion.Macro.{Macro, Expands}
 use Rattle.mbe_semantics.specs.Expansion.Error.{ExpandError}
 use Rattle.mbe_semantics.specs.declared.macro_call_style.MacroCallStyle.TheVariants.{FnLike}
 use Rattle.mbe_calls.specs.Fronts.{Call}
-use Rattle.mbe_expanding.specs.Scopes.{Scope, rules_found, with_left}
+use Rattle.mbe_expanding.specs.Scopes.{Scope, rules_found}
 
--- what stays the same on the way: the grammar of fragments, and the edition that definitions are read in
+-- what stays the same on the way: the grammar of fragments, the edition that definitions are read in, and how deep expansions
+-- may stand in one another
 pub record Setting : Type 0 where
   pub grammar : Grammar
   pub edition : Edition
+  pub depth : ℕ
 
 -- what changes: the definitions, and how many calls may still be expanded
 pub record State : Type 0 where
@@ -74,12 +74,3 @@ Applies e c s (Some tree) = (m : Macro) × (named s c ≡ Some m) × (m.err ≡ 
 abbrev pub Tries : Setting → Call → ℕ → ℕ → State → State → Option Top → Type 0
 Tries e c levels depth s t None = Stays e c depth s levels t
 Tries e c levels depth s t (Some tree) = IsReplaced e c levels depth s tree × (t ≡ spent s)
-
--- ---- groups
-
--- after a group's braces only so many definitions stay visible, as before it
-abbrev pub after_group : DelimiterKind → ℕ → State → State
-after_group Brace mark s = record s { scope = with_left mark s.scope }
-after_group Parenthesis mark s = s
-after_group Bracket mark s = s
-after_group Invisible mark s = s

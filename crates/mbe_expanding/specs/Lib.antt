@@ -1,4 +1,6 @@
+pub mod Becoming
 pub mod Calls
 pub mod Fitting
+pub mod Replacing
 pub mod Scopes
 pub mod Shown

@@ -16,7 +16,7 @@ abbrev pub scope_of : {A : Type 0} → Scope A → spec.Scope
 scope_of s = record { definitions = map definition_of s.definitions.items; visible = s.visible.items }
 
 abbrev pub setting_of : {A : Type 0} → Expander A → calls.Setting
-setting_of x = record { grammar = grammar_of x.grammar; edition = x.scope.edition }
+setting_of x = record { grammar = grammar_of x.grammar; edition = x.scope.edition; depth = x.settings.depth }
 
 abbrev pub state_of : {A : Type 0} → Expander A → calls.State
 state_of x = record { scope = scope_of x.scope; fuel = x.fuel }

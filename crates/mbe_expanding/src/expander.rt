@@ -4,11 +4,12 @@
 // it. A call of a macro that is found is replaced by its expansion, whose calls are expanded in turn, as far as the
 // settings say; any other tree stays. So the trees that come out have no call left but those of macros that no file
 // defines, those that no rule fits, and those beyond the limits; of the latter two a note says so.
-ghost use Rattle.std.specs.Prelude.{◌≡◌, IsSome, IfOk, OnOk, length, option_map};
+ghost use Rattle.std.specs.Prelude.{◌≡◌, [], IsSome, IfOk, OnOk, length, option_map};
 ghost use Rattle.std.specs.String.{string_bytes};
 ghost use Rattle.mbe_tt.specs.Views.View.{trees};
 ghost use Rattle.mbe.specs.MacroViews.{macro_of};
 ghost use Rattle.mbe_calls.specs.Shown.{call_shown, defined_shown};
+ghost use Rattle.mbe_rules.specs.Lawful.{grammar_of};
 ghost use Rattle.mbe_rust_text.specs.Writing as text;
 ghost use Rattle.mbe_expanding.specs.Calls.{Allows, Applies, Tries, named};
 ghost use Rattle.mbe_expanding.specs.Scopes.{IsRead};
@@ -45,7 +46,17 @@ pub struct Expander<'g, A: Allocator + Copy = Global> {
 
 impl<'g, A: Allocator + Copy> Expander<'g, A> {
     /// Knows no macro yet.
-    pub fn new(alloc: A, grammar: RuleTable<'g>, settings: Settings) -> Expander<'g, A> {
+    pub fn new(alloc: A, grammar: RuleTable<'g>, settings: Settings) -> Expander<'g, A>
+        ensures setting { setting_of result ≡ record {
+          grammar = grammar_of grammar.entry;
+          edition = settings.edition;
+          depth = settings.depth;
+        } }
+        ensures state { state_of result ≡ record {
+          scope = record { definitions = []; visible = [] };
+          fuel = settings.fuel;
+        } }
+    {
         Expander {
             alloc,
             settings,
@@ -85,7 +96,9 @@ impl<'g, A: Allocator + Copy> Expander<'g, A> {
     }
 
     /// Reads the definitions of a file, so that paths find those that are exported or in no group, wherever the call is.
-    pub fn define(&mut self, tokens: TokenTreesView<'_, A>) -> Result<(), AllocError> {
+    pub fn define(&mut self, tokens: TokenTreesView<'_, A>) -> Result<(), AllocError>
+        ensures setting { OnOk result (setting_of self.new ≡ setting_of self.old) }
+    {
         self.define_in(tokens, true, LEVELS)
     }
 
@@ -94,7 +107,9 @@ impl<'g, A: Allocator + Copy> Expander<'g, A> {
         tokens: TokenTreesView<'_, A>,
         is_top: bool,
         levels: u32,
-    ) -> Result<(), AllocError> {
+    ) -> Result<(), AllocError>
+        ensures setting { OnOk result (setting_of self.new ≡ setting_of self.old) }
+    {
         let mut rest = tokens;
         let mut is_exported = false;
         let mut is_used = false;

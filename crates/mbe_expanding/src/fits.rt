@@ -1,9 +1,9 @@
 // How an expansion stands in place of its call.
-ghost use Rattle.std.specs.Prelude.{◌≡◌, IsTrue};
+ghost use Rattle.std.specs.Prelude.{◌≡◌, IsTrue, IfOk, IfSome};
 ghost use Rattle.mbe_tt.specs.Trees.Tree.{Forest, append};
 ghost use Rattle.mbe_tt.specs.Views.Shown.{leaf_of};
 ghost use Rattle.mbe_tt.specs.Views.View.{trees};
-ghost use Rattle.mbe_expanding.specs.Fitting.{IsPart, IsSemicolon, IsLeft};
+ghost use Rattle.mbe_expanding.specs.Fitting.{IsPart, IsSemicolon, IsLeft, IsWrap};
 ghost use Rattle.mbe_expanding.specs.Fitting as spec;
 
 use mbe::expect_fragment;
@@ -302,13 +302,16 @@ fn is_block<A: Allocator>(tokens: TokenTreesView<'_, A>) -> bool {
 }
 
 // What these trees are put in, in place of a call before which `last` stands.
+#[tactic(auto, using(crate::proofs::FitLemmas::wrap_if))]
 fn wrap_of<A: Allocator + Copy>(
     alloc: A,
     grammar: &RuleTable<'_>,
     tokens: TokenTreesView<'_, A>,
     call: Call<'_, A>,
     last: Before,
-) -> Result<Option<DelimiterKind>, AllocError> {
+) -> Result<Option<DelimiterKind>, AllocError>
+    ensures { IfOk result (λ wrap. IfSome wrap IsWrap) }
+{
     let here = beside(call, last);
     if here == Before::Statement {
         return Ok(None);
@@ -334,7 +337,9 @@ pub(crate) fn fit_of<A: Allocator + Copy>(
     tokens: TokenTreesView<'_, A>,
     call: Call<'_, A>,
     last: Before,
-) -> Result<Fit, AllocError> {
+) -> Result<Fit, AllocError>
+    ensures { IfOk result (λ fit. IfSome fit.wrap IsWrap) }
+{
     let end = end_of(tokens);
     let close = call.group.delimiter.close;
     let is_statement = last == Before::Statement;

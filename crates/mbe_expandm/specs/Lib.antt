@@ -1,3 +1,4 @@
+pub mod Expansions
 pub mod Words
 pub mod Statuses
 pub mod Places

@@ -1,6 +1,9 @@
 // What files become.
-ghost use Rattle.std.specs.Prelude.{◌≡◌, None, IfOk};
+ghost use Rattle.std.specs.Prelude.{◌≡◌, None, IfOk, IfSome};
 ghost use Rattle.std.specs.String.{string_bytes};
+ghost use Rattle.mbe_expanding.specs.Replacing.{NoneCalled};
+ghost use Rattle.mbe_expanding.specs.Shown.{setting_of, state_of};
+ghost use Rattle.mbe_expandm.specs.Expansions.{IsFileExpanded};
 
 use crate::files::SourceFile;
 use crate::lines::Lines;
@@ -17,6 +20,11 @@ pub fn expanded(
     file: &SourceFile<'_>,
 ) -> Result<String, AllocError>
     ensures kept { file.now.tree ≡ None → IfOk result (λ s. string_bytes s ≡ file.now.text.now) }
+    ensures whole { IfSome file.now.tree (λ tree. call ≡ None → IfOk result (λ s.
+        IsFileExpanded (setting_of expander.old) tree.1 file.now.text.now (string_bytes s))) }
+    ensures unknown { IfSome file.now.tree (λ tree. call ≡ None
+        → NoneCalled (state_of expander.old).scope.definitions tree.1
+        → IfOk result (λ s. string_bytes s ≡ file.now.text.now)) }
 {
     let Some(tree) = &file.tree else {
         return String::from_str(alloc, file.text);

@@ -73,7 +73,9 @@ impl<A: Allocator + Copy> Lines<A> {
         &self,
         alloc: A,
         replacements: &[Replacement<A>],
-    ) -> Result<Vec<Replacement<A>, A>, AllocError> {
+    ) -> Result<Vec<Replacement<A>, A>, AllocError>
+        ensures { IfOk result (λ v. length v.items ≡ length replacements.now) }
+    {
         let mut placed = Vec::new(alloc);
         let end = if self.returns.is_empty() {
             "\n"

@@ -1,4 +1,18 @@
 // What stands in place of the calls of a file.
+ghost use Rattle.std.specs.Prelude.{◌≡◌, suc, [], IfOk, OnOk, map};
+ghost use Rattle.std.specs.List.{All};
+ghost use Rattle.std.specs.String.{string_bytes};
+ghost use Rattle.mbe_tt.specs.Views.Element.{element_tree};
+ghost use Rattle.mbe_tt.specs.Views.View.{trees};
+ghost use Rattle.mbe_calls.specs.Beside.{is_standard};
+ghost use Rattle.mbe_calls.specs.Replacements.{part_of};
+ghost use Rattle.mbe_calls.specs.Shown.{call_shown, defined_shown};
+ghost use Rattle.mbe_expanding.specs.Replacing.{Adds, IsExpanded, IsOfCall, IsPartOf, last_span};
+ghost use Rattle.mbe_expanding.specs.Replacing.{NoneCalled, PartsOfArgument, PartsOfCall};
+ghost use Rattle.mbe_expanding.specs.Replacing.{PartsOfFile, PartsOfTree, PartsWithin};
+ghost use Rattle.mbe_expanding.specs.Replacing.{ShowsItems, item_shown, rules_shown, shown};
+ghost use Rattle.mbe_expanding.specs.Shown.{setting_of, state_of};
+
 use crate::expander::{Expander, LEVELS, text_of};
 use crate::fits::{Before, begins_in, left_by, left_by_call};
 use mbe_calls::calls::{Call, Defined, Front, attribute_at, front_of, is_standard};
@@ -12,7 +26,15 @@ impl<A: Allocator + Copy> Expander<'_, A> {
         &mut self,
         text: &str,
         tokens: TokenTreesView<'_, A>,
-    ) -> Result<String<A>, AllocError> {
+    ) -> Result<String<A>, AllocError>
+        ensures expanded { IfOk result (λ s. IsExpanded (setting_of self.old) LEVELS
+            (trees tokens.entry) (state_of self.old) text.now (string_bytes s)
+            (state_of self.new)) }
+        ensures unknown { IfOk result (λ s.
+            NoneCalled (state_of self.old).scope.definitions (trees tokens.entry)
+            → string_bytes s ≡ text.now) }
+        ensures setting { OnOk result (setting_of self.new ≡ setting_of self.old) }
+    {
         let replacements = self.replacements(text, tokens)?;
         splice(self.alloc, text, replacements.as_slice())
     }
@@ -22,7 +44,16 @@ impl<A: Allocator + Copy> Expander<'_, A> {
         &mut self,
         text: &str,
         tokens: TokenTreesView<'_, A>,
-    ) -> Result<Vec<Replacement<A>, A>, AllocError> {
+    ) -> Result<Vec<Replacement<A>, A>, AllocError>
+        ensures parts { IfOk result (λ r. PartsOfFile (setting_of self.old) LEVELS
+            (trees tokens.entry) (state_of self.old) (map part_of r.items) (state_of self.new)) }
+        ensures each { IfOk result (λ r. All (IsOfCall (setting_of self.old) (trees tokens.entry))
+            (map part_of r.items)) }
+        ensures unknown { IfOk result (λ r.
+            NoneCalled (state_of self.old).scope.definitions (trees tokens.entry)
+            → map part_of r.items ≡ []) }
+        ensures setting { OnOk result (setting_of self.new ≡ setting_of self.old) }
+    {
         let mut replacements = Vec::new(self.alloc);
         let mark = self.scope.enter();
         self.replace_in(&mut replacements, text, tokens, Before::Statement, LEVELS)?;
@@ -31,32 +62,64 @@ impl<A: Allocator + Copy> Expander<'_, A> {
     }
 
     // From here on, names find that definition of the file.
-    fn show(&mut self, defined: Defined<'_, A>) -> Result<(), AllocError> {
+    fn show(&mut self, defined: Defined<'_, A>) -> Result<(), AllocError>
+        ensures shown { OnOk result (state_of self.new
+            ≡ shown (defined_shown defined.entry) (state_of self.old)) }
+        ensures setting { OnOk result (setting_of self.new ≡ setting_of self.old) }
+    {
         match self.scope.placed(defined) {
             Some(number) => self.scope.show(number),
             None => Ok(()),
         }
     }
 
-    // From here on, names find the `macro` items among these trees, wherever they stand.
-    fn show_items(&mut self, tokens: TokenTreesView<'_, A>) -> Result<(), AllocError> {
-        let mut rest = tokens;
-        for _ in 0..tokens.flat_len() {
-            rest = match front_of(rest) {
-                Front::End => return Ok(()),
-                Front::Definition(defined) => {
-                    if defined.is_item() {
-                        self.show(defined)?;
-                    }
-                    defined.rest
-                }
-                Front::Call(call) => call.rest,
-                Front::Tree(_, after) => after,
-            };
+    // From here on, names find that definition, if it is a `macro` item.
+    fn show_item(&mut self, defined: Defined<'_, A>) -> Result<(), AllocError>
+        ensures shown { OnOk result (state_of self.new
+            ≡ item_shown (defined_shown defined.entry) (state_of self.old)) }
+        ensures setting { OnOk result (setting_of self.new ≡ setting_of self.old) }
+    {
+        if defined.is_item() {
+            self.show(defined)
+        } else {
+            Ok(())
         }
-        Ok(())
     }
 
+    // From here on, names find that definition, if it is by `macro_rules!`.
+    fn show_rules(&mut self, defined: Defined<'_, A>) -> Result<(), AllocError>
+        ensures shown { OnOk result (state_of self.new
+            ≡ rules_shown (defined_shown defined.entry) (state_of self.old)) }
+        ensures setting { OnOk result (setting_of self.new ≡ setting_of self.old) }
+    {
+        if defined.is_item() {
+            Ok(())
+        } else {
+            self.show(defined)
+        }
+    }
+
+    // From here on, names find the `macro` items among these trees, wherever they stand.
+    fn show_items(&mut self, tokens: TokenTreesView<'_, A>) -> Result<(), AllocError>
+        ensures shows { OnOk result (ShowsItems (trees tokens.entry)
+            (state_of self.old) (state_of self.new)) }
+        ensures setting { OnOk result (setting_of self.new ≡ setting_of self.old) }
+    {
+        let mut rest = tokens;
+        'trees: loop {
+            match front_of(rest) {
+                Front::End => return Ok(()),
+                Front::Definition(defined) => {
+                    self.show_item(defined)?;
+                    rest = defined.rest;
+                }
+                Front::Call(call) => rest = call.rest,
+                Front::Tree(_, after) => rest = after,
+            }
+        }
+    }
+
+    // Keeps what stands in place of the calls of trees, where `last` stands before them.
     #[cycle(replacing)]
     fn replace_in(
         &mut self,
@@ -65,18 +128,23 @@ impl<A: Allocator + Copy> Expander<'_, A> {
         tokens: TokenTreesView<'_, A>,
         last: Before,
         levels: u32,
-    ) -> Result<(), AllocError> {
+    ) -> Result<(), AllocError>
+        ensures adds { OnOk result (Adds
+            (PartsWithin (setting_of self.old) (suc levels)
+            (trees tokens.entry) (state_of self.old))
+            (map part_of replacements.old.items) (map part_of replacements.new.items)
+            (state_of self.new)) }
+        ensures setting { OnOk result (setting_of self.new ≡ setting_of self.old) }
+    {
         self.show_items(tokens)?;
         let mut rest = tokens;
         let mut last = last;
         let mut is_used = false;
-        for _ in 0..tokens.flat_len() {
+        'trees: loop {
             match front_of(rest) {
                 Front::End => return Ok(()),
                 Front::Definition(defined) => {
-                    if !defined.is_item() {
-                        self.show(defined)?;
-                    }
+                    self.show_rules(defined)?;
                     rest = defined.rest;
                     last = Before::Statement;
                 }
@@ -85,17 +153,17 @@ impl<A: Allocator + Copy> Expander<'_, A> {
                     last = left_by_call(call, rest);
                 }
                 Front::Tree(tree, after) => {
-                    is_used = is_used || attribute_at(rest) == Some("macro_use");
+                    is_used |= attribute_at(rest) == Some("macro_use");
                     self.replace_tree(replacements, text, tree, is_used, levels)?;
                     last = left_by(rest, last);
-                    is_used = is_used && last != Before::Statement;
+                    is_used &= last != Before::Statement;
                     rest = after;
                 }
             }
         }
-        Ok(())
     }
 
+    // Keeps what stands in place of the calls in a tree.
     #[cycle(replacing)]
     fn replace_tree(
         &mut self,
@@ -104,18 +172,46 @@ impl<A: Allocator + Copy> Expander<'_, A> {
         tree: TtElement<'_, A>,
         is_used: bool,
         levels: u32,
-    ) -> Result<(), AllocError> {
-        if let TtElement::Subtree(group, inside) = tree
-            && levels > 0
-        {
-            let mark = self.scope.enter();
-            let last = begins_in(group.delimiter.kind);
-            self.replace_in(replacements, text, inside.remaining(), last, levels - 1)?;
-            if !is_used {
-                self.leave(group.delimiter.kind, mark);
-            }
+    ) -> Result<(), AllocError>
+        ensures adds { OnOk result (Adds
+            (PartsOfTree (PartsWithin (setting_of self.old) levels)
+            (element_tree tree.entry) (state_of self.old))
+            (map part_of replacements.old.items) (map part_of replacements.new.items)
+            (state_of self.new)) }
+        ensures setting { OnOk result (setting_of self.new ≡ setting_of self.old) }
+    {
+        let TtElement::Subtree(group, inside) = tree else {
+            return Ok(());
+        };
+        let mark = self.scope.enter();
+        let last = begins_in(group.delimiter.kind);
+        self.replace_inside(replacements, text, inside.remaining(), last, levels)?;
+        if !is_used {
+            self.leave(group.delimiter.kind, mark);
         }
         Ok(())
+    }
+
+    // Keeps what stands in place of the calls in a group; of none, if that is too deep.
+    #[cycle(replacing)]
+    fn replace_inside(
+        &mut self,
+        replacements: &mut Vec<Replacement<A>, A>,
+        text: &str,
+        tokens: TokenTreesView<'_, A>,
+        last: Before,
+        levels: u32,
+    ) -> Result<(), AllocError>
+        ensures adds { OnOk result (Adds
+            (PartsWithin (setting_of self.old) levels (trees tokens.entry) (state_of self.old))
+            (map part_of replacements.old.items) (map part_of replacements.new.items)
+            (state_of self.new)) }
+        ensures setting { OnOk result (setting_of self.new ≡ setting_of self.old) }
+    {
+        if levels == 0 {
+            return Ok(());
+        }
+        self.replace_in(replacements, text, tokens, last, levels - 1)
     }
 
     // Keeps what stands in place of a call, and returns what is left after that.
@@ -127,7 +223,15 @@ impl<A: Allocator + Copy> Expander<'_, A> {
         call: Call<'t, A>,
         last: Before,
         levels: u32,
-    ) -> Result<TokenTreesView<'t, A>, AllocError> {
+    ) -> Result<TokenTreesView<'t, A>, AllocError>
+        ensures adds { IfOk result (λ rest. Adds
+            (λ parts. PartsOfCall (setting_of self.old) levels
+            (PartsWithin (setting_of self.old) levels)
+            (call_shown call.entry) (state_of self.old) parts (trees rest))
+            (map part_of replacements.old.items) (map part_of replacements.new.items)
+            (state_of self.new)) }
+        ensures setting { OnOk result (setting_of self.new ≡ setting_of self.old) }
+    {
         let depth = self.settings.depth;
         match self.expansion(call, depth, levels)? {
             Some(tree) => {
@@ -143,13 +247,33 @@ impl<A: Allocator + Copy> Expander<'_, A> {
                 Ok(rest)
             }
             None => {
-                if levels > 0 && is_standard(call.name.sym.as_str()) {
-                    let last = Before::Other;
-                    self.replace_in(replacements, text, call.argument, last, levels - 1)?;
-                }
+                self.replace_argument(replacements, text, call, levels)?;
                 Ok(call.rest)
             }
         }
+    }
+
+    // Keeps what stands in place of the calls in the argument of a call that stays.
+    #[cycle(replacing)]
+    fn replace_argument(
+        &mut self,
+        replacements: &mut Vec<Replacement<A>, A>,
+        text: &str,
+        call: Call<'_, A>,
+        levels: u32,
+    ) -> Result<(), AllocError>
+        ensures adds { OnOk result (Adds
+            (PartsOfArgument (PartsWithin (setting_of self.old) levels)
+            (is_standard (call_shown call.entry).name.sym) (call_shown call.entry).argument
+            (state_of self.old))
+            (map part_of replacements.old.items) (map part_of replacements.new.items)
+            (state_of self.new)) }
+        ensures setting { OnOk result (setting_of self.new ≡ setting_of self.old) }
+    {
+        if !is_standard(call.name.sym.as_str()) {
+            return Ok(());
+        }
+        self.replace_inside(replacements, text, call.argument, Before::Other, levels)
     }
 
     // An expansion as text in place of its call, and what is left after that.
@@ -161,7 +285,12 @@ impl<A: Allocator + Copy> Expander<'_, A> {
         last: Before,
         depth: u32,
         levels: u32,
-    ) -> Result<(Replacement<A>, TokenTreesView<'t, A>), AllocError> {
+    ) -> Result<(Replacement<A>, TokenTreesView<'t, A>), AllocError>
+        ensures part { IfOk result (λ r. IsPartOf (setting_of self.old) levels depth
+            (call_shown call.entry) tree.now.1 (state_of self.old) (part_of r.0) (trees r.1)
+            (state_of self.new)) }
+        ensures setting { OnOk result (setting_of self.new ≡ setting_of self.old) }
+    {
         let around = Delimiter::invisible_spanned(call.name.span);
         let mut builder = TopSubtreeBuilder::new(self.alloc, around)?;
         let rest = self.write_expansion(&mut builder, tree, call, last, depth, levels)?;
@@ -182,7 +311,9 @@ impl<A: Allocator + Copy> Expander<'_, A> {
 }
 
 // Where a call ends: with its group, or with the `;` after it where that goes with it.
-fn end_of<A: Allocator>(call: Call<'_, A>, rest: TokenTreesView<'_, A>) -> usize {
+fn end_of<A: Allocator>(call: Call<'_, A>, rest: TokenTreesView<'_, A>) -> usize
+    ensures { result ≡ (last_span (call_shown call.entry) (trees rest.entry)).end }
+{
     let close = call.group.delimiter.close;
     let last = if rest.flat_len() < call.rest.flat_len() {
         call.rest.iter().next_span().unwrap_or(close)

@@ -1,10 +1,17 @@
 // Trees with their calls expanded.
-ghost use Rattle.std.specs.Prelude.{◌≡◌, ◌<◌, length, IfOk, OnOk};
+ghost use Rattle.std.specs.Prelude.{◌≡◌, ◌<◌, length, IfOk, IfSome, OnOk, suc, if◌then◌else◌};
+ghost use Rattle.mbe_tt.specs.Buffers.Building.{put};
+ghost use Rattle.mbe_tt.specs.Trees.Tree.{Forest, append, one_leaf};
+ghost use Rattle.mbe_tt.specs.Views.Element.{element_tree};
 ghost use Rattle.mbe_tt.specs.Views.View.{trees};
+ghost use Rattle.mbe_calls.specs.Beside.{is_standard};
 ghost use Rattle.mbe_calls.specs.Fronts.{ACall, Definition, front};
 ghost use Rattle.mbe_calls.specs.Shown.{call_shown, defined_shown};
-ghost use Rattle.mbe_expanding.specs.Calls.{after_group};
-ghost use Rattle.mbe_expanding.specs.Fitting.{IsLeft};
+ghost use Rattle.mbe_expanding.specs.Becoming.{Becomes, ChangesCall, ChangesGroup, ChangesTree};
+ghost use Rattle.mbe_expanding.specs.Becoming.{Reads, Keeps, StandsFor, ChangesWrapped, Writes};
+ghost use Rattle.mbe_expanding.specs.Becoming.{after_group};
+ghost use Rattle.mbe_expanding.specs.Fitting.{IsLeft, IsWrap};
+ghost use Rattle.mbe_expanding.specs.Fitting as spec;
 ghost use Rattle.mbe_expanding.specs.Shown.{setting_of, state_of};
 
 use crate::expander::Expander;
@@ -21,7 +28,6 @@ use std::alloc::{AllocError, Allocator};
 impl<A: Allocator + Copy> Expander<'_, A> {
     // Writes trees with their calls expanded, where `last` stands before them.
     #[cycle(writing)]
-    #[tactic(auto, using(crate::proofs::GroupLemmas::length_put, crate::proofs::GroupLemmas::length_closed))]
     pub(crate) fn write(
         &mut self,
         builder: &mut TopSubtreeBuilder<A>,
@@ -31,11 +37,15 @@ impl<A: Allocator + Copy> Expander<'_, A> {
         levels: u32,
     ) -> Result<(), AllocError>
         requires some { 0 < length builder.old }
-        ensures groups { OnOk result (length builder.new ≡ length builder.old) }
+        ensures writes { OnOk result (Writes
+            (Becomes (setting_of self.old) (suc levels) depth
+            (trees tokens.entry) (state_of self.old))
+            builder.old builder.new (state_of self.new)) }
+        ensures setting { OnOk result (setting_of self.new ≡ setting_of self.old) }
     {
         let mut rest = tokens;
         let mut last = last;
-        for _ in 0..tokens.flat_len() {
+        'trees: loop {
             match front_of(rest) {
                 Front::End => return Ok(()),
                 Front::Definition(defined) => {
@@ -54,11 +64,9 @@ impl<A: Allocator + Copy> Expander<'_, A> {
                 }
             }
         }
-        Ok(())
     }
 
     // Writes a definition as it is, and reads it.
-    #[tactic(auto, using(crate::proofs::GroupLemmas::length_put))]
     fn write_definition(
         &mut self,
         builder: &mut TopSubtreeBuilder<A>,
@@ -67,7 +75,11 @@ impl<A: Allocator + Copy> Expander<'_, A> {
     ) -> Result<(), AllocError>
         requires front { front (trees tokens) ≡ Definition (defined_shown defined) }
         requires some { 0 < length builder.old }
-        ensures groups { OnOk result (length builder.new ≡ length builder.old) }
+        ensures writes { OnOk result (Writes
+            (Reads (setting_of self.old) (trees tokens.entry)
+            (defined_shown defined.entry) (state_of self.old))
+            builder.old builder.new (state_of self.new)) }
+        ensures setting { OnOk result (setting_of self.new ≡ setting_of self.old) }
     {
         let number = self.read(defined, false)?;
         self.scope.show(number)?;
@@ -76,7 +88,6 @@ impl<A: Allocator + Copy> Expander<'_, A> {
 
     // Writes a tree with the calls in it expanded.
     #[cycle(writing)]
-    #[tactic(auto, using(crate::proofs::GroupLemmas::length_put, crate::proofs::GroupLemmas::length_closed))]
     fn write_tree(
         &mut self,
         builder: &mut TopSubtreeBuilder<A>,
@@ -85,7 +96,11 @@ impl<A: Allocator + Copy> Expander<'_, A> {
         levels: u32,
     ) -> Result<(), AllocError>
         requires some { 0 < length builder.old }
-        ensures groups { OnOk result (length builder.new ≡ length builder.old) }
+        ensures writes { OnOk result (Writes
+            (ChangesTree (Becomes (setting_of self.old) levels depth)
+            (element_tree tree.entry) (state_of self.old))
+            builder.old builder.new (state_of self.new)) }
+        ensures setting { OnOk result (setting_of self.new ≡ setting_of self.old) }
     {
         match tree {
             TtElement::Leaf(leaf) => builder.push(leaf.clone()?),
@@ -97,7 +112,6 @@ impl<A: Allocator + Copy> Expander<'_, A> {
 
     // Writes a group with the calls in it expanded.
     #[cycle(writing)]
-    #[tactic(auto, using(crate::proofs::GroupLemmas::length_put, crate::proofs::GroupLemmas::length_closed))]
     fn write_group(
         &mut self,
         builder: &mut TopSubtreeBuilder<A>,
@@ -107,7 +121,11 @@ impl<A: Allocator + Copy> Expander<'_, A> {
         levels: u32,
     ) -> Result<(), AllocError>
         requires some { 0 < length builder.old }
-        ensures groups { OnOk result (length builder.new ≡ length builder.old) }
+        ensures writes { OnOk result (Writes
+            (ChangesGroup (Becomes (setting_of self.old) levels depth)
+            delimiter (trees inside.entry) (state_of self.old))
+            builder.old builder.new (state_of self.new)) }
+        ensures setting { OnOk result (setting_of self.new ≡ setting_of self.old) }
     {
         let mark = self.scope.enter();
         builder.open(delimiter.kind, delimiter.opening)?;
@@ -119,7 +137,6 @@ impl<A: Allocator + Copy> Expander<'_, A> {
 
     // Writes what stands in a group or an expansion; as it is, if that is too deep.
     #[cycle(writing)]
-    #[tactic(auto, using(crate::proofs::GroupLemmas::length_put, crate::proofs::GroupLemmas::length_closed))]
     fn write_inside(
         &mut self,
         builder: &mut TopSubtreeBuilder<A>,
@@ -129,7 +146,11 @@ impl<A: Allocator + Copy> Expander<'_, A> {
         levels: u32,
     ) -> Result<(), AllocError>
         requires some { 0 < length builder.old }
-        ensures groups { OnOk result (length builder.new ≡ length builder.old) }
+        ensures writes { OnOk result (Writes
+            (Becomes (setting_of self.old) levels depth
+            (trees tokens.entry) (state_of self.old))
+            builder.old builder.new (state_of self.new)) }
+        ensures setting { OnOk result (setting_of self.new ≡ setting_of self.old) }
     {
         if levels == 0 {
             return builder.extend_with_tt(tokens);
@@ -139,7 +160,6 @@ impl<A: Allocator + Copy> Expander<'_, A> {
 
     // Writes what a call becomes, and returns what is left after it.
     #[cycle(writing)]
-    #[tactic(auto, using(crate::proofs::GroupLemmas::length_put, crate::proofs::GroupLemmas::length_closed))]
     fn write_call<'t>(
         &mut self,
         builder: &mut TopSubtreeBuilder<A>,
@@ -151,7 +171,12 @@ impl<A: Allocator + Copy> Expander<'_, A> {
     ) -> Result<TokenTreesView<'t, A>, AllocError>
         requires front { front (trees tokens) ≡ ACall (call_shown call) }
         requires some { 0 < length builder.old }
-        ensures groups { OnOk result (length builder.new ≡ length builder.old) }
+        ensures writes { IfOk result (λ rest. Writes
+            (λ out. ChangesCall (setting_of self.old) levels depth
+            (Becomes (setting_of self.old) levels)
+            (trees tokens.entry) (call_shown call.entry) (state_of self.old) out (trees rest))
+            builder.old builder.new (state_of self.new)) }
+        ensures setting { OnOk result (setting_of self.new ≡ setting_of self.old) }
     {
         match self.expansion(call, depth, levels)? {
             Some(tree) => { self.write_expansion(builder, &tree, call, last, depth - 1, levels) }
@@ -164,7 +189,6 @@ impl<A: Allocator + Copy> Expander<'_, A> {
 
     // Writes a call that stays. In the argument of a macro of the standard library calls are expanded.
     #[cycle(writing)]
-    #[tactic(auto, using(crate::proofs::GroupLemmas::length_put, crate::proofs::GroupLemmas::length_closed))]
     fn write_kept(
         &mut self,
         builder: &mut TopSubtreeBuilder<A>,
@@ -175,7 +199,12 @@ impl<A: Allocator + Copy> Expander<'_, A> {
     ) -> Result<(), AllocError>
         requires front { front (trees tokens) ≡ ACall (call_shown call) }
         requires some { 0 < length builder.old }
-        ensures groups { OnOk result (length builder.new ≡ length builder.old) }
+        ensures writes { OnOk result (Writes
+            (Keeps (Becomes (setting_of self.old) levels depth)
+            (is_standard (call_shown call.entry).name.sym) (trees tokens.entry)
+            (call_shown call.entry) (state_of self.old))
+            builder.old builder.new (state_of self.new)) }
+        ensures setting { OnOk result (setting_of self.new ≡ setting_of self.old) }
     {
         if !is_standard(call.name.sym.as_str()) {
             return copy_call(builder, tokens, call);
@@ -186,7 +215,6 @@ impl<A: Allocator + Copy> Expander<'_, A> {
 
     // Writes an expansion in place of its call, and returns what is left after that.
     #[cycle(writing)]
-    #[tactic(auto, using(crate::proofs::GroupLemmas::length_put, crate::proofs::GroupLemmas::length_closed))]
     pub(crate) fn write_expansion<'t>(
         &mut self,
         builder: &mut TopSubtreeBuilder<A>,
@@ -197,8 +225,12 @@ impl<A: Allocator + Copy> Expander<'_, A> {
         levels: u32,
     ) -> Result<TokenTreesView<'t, A>, AllocError>
         requires some { 0 < length builder.old }
+        ensures writes { OnOk result (Writes
+            (StandsFor (Becomes (setting_of self.old) levels depth)
+            (call_shown call.entry).delimiter tree.now.1 (state_of self.old))
+            builder.old builder.new (state_of self.new)) }
         ensures left { IfOk result (λ rest. IsLeft (trees call.entry.rest) (trees rest)) }
-        ensures groups { OnOk result (length builder.new ≡ length builder.old) }
+        ensures setting { OnOk result (setting_of self.new ≡ setting_of self.old) }
     {
         let delimiter = call.group.delimiter;
         let here = beside(call, last);
@@ -211,7 +243,6 @@ impl<A: Allocator + Copy> Expander<'_, A> {
 
     // Writes the trees of an expansion, perhaps in a group of that kind.
     #[cycle(writing)]
-    #[tactic(auto, using(crate::proofs::GroupLemmas::length_put, crate::proofs::GroupLemmas::length_closed))]
     fn write_wrapped(
         &mut self,
         builder: &mut TopSubtreeBuilder<A>,
@@ -223,7 +254,12 @@ impl<A: Allocator + Copy> Expander<'_, A> {
         levels: u32,
     ) -> Result<(), AllocError>
         requires some { 0 < length builder.old }
-        ensures groups { OnOk result (length builder.new ≡ length builder.old) }
+        requires wrap { IfSome wrap IsWrap }
+        ensures writes { OnOk result (Writes
+            (ChangesWrapped (Becomes (setting_of self.old) levels depth)
+            delimiter (trees tokens.entry) (state_of self.old))
+            builder.old builder.new (state_of self.new)) }
+        ensures setting { OnOk result (setting_of self.new ≡ setting_of self.old) }
     {
         let Some(kind) = wrap else {
             return self.write_inside(builder, tokens, last, depth, levels);
@@ -247,14 +283,14 @@ impl<A: Allocator + Copy> Expander<'_, A> {
 }
 
 // Writes a call as it is.
-#[tactic(auto, using(crate::proofs::GroupLemmas::length_put))]
 fn copy_call<A: Allocator>(
     builder: &mut TopSubtreeBuilder<A>,
     tokens: TokenTreesView<'_, A>,
     call: Call<'_, A>,
 ) -> Result<(), AllocError>
     requires front { front (trees tokens) ≡ ACall (call_shown call) }
-    ensures groups { OnOk result (length builder.new ≡ length builder.old) }
+    ensures { OnOk result ((kept : Forest) → trees tokens.entry ≡ append kept (trees call.entry.rest)
+        → builder.new ≡ put kept builder.old) }
 {
     builder.extend_with_tt(up_to(tokens, call.rest))
 }
@@ -267,19 +303,22 @@ fn copy_head<A: Allocator>(
     call: Call<'_, A>,
 ) -> Result<(), AllocError>
     requires front { front (trees tokens) ≡ ACall (call_shown call) }
+    ensures copied { OnOk result ((kept : Forest)
+        → trees tokens.entry ≡ append kept (spec.from_group (trees tokens.entry))
+        → builder.new ≡ put kept builder.old) }
     ensures groups { OnOk result (length builder.new ≡ length builder.old) }
 {
     builder.extend_with_tt(up_to(tokens, from_group(tokens)))
 }
 
 // Writes a `;` at the end of an expansion, if it gets one.
-#[tactic(auto, using(crate::proofs::GroupLemmas::length_put))]
 fn end<A: Allocator>(
     builder: &mut TopSubtreeBuilder<A>,
     delimiter: Delimiter,
     gets_semicolon: bool,
 ) -> Result<(), AllocError>
-    ensures groups { OnOk result (length builder.new ≡ length builder.old) }
+    ensures { OnOk result (builder.new ≡ (if gets_semicolon
+        then put (one_leaf (spec.semicolon delimiter.close)) builder.old else builder.old)) }
 {
     if gets_semicolon {
         builder.push(semicolon(delimiter.close))

@@ -1,4 +1,8 @@
 use Rattle.std.proofs.Common.{◌≡◌, ◌+◌, ◌*◌, length}
+use Rattle.mbe_tt.specs.Trees.Tree.{flat_len}
+use Rattle.mbe_tt.specs.Views.View.{trees}
+use Rattle.mbe_expanding.specs.Shown.{setting_of, state_of}
+use Rattle.mbe_expanding.proofs.StepLemmas.{Done}
 use Rattle.mbe_expanding.proofs.expander.Expander.+writing.Given as goal
 
 abbrev pub decreases-write : goal.decreases-write
@@ -25,5 +29,10 @@ decreases-write_group g l = 6 * l.levels + 2
 abbrev pub decreases-write_inside : goal.decreases-write_inside
 decreases-write_inside g l = 6 * l.levels + 1
 
-abbrev pub invariant-write-loop : goal.invariant-write-loop
-invariant-write-loop g l = length l.builder ≡ length l.initial.builder
+abbrev pub decreases-write-trees : goal.decreases-write-trees
+decreases-write-trees g l = flat_len (trees l.rest)
+
+abbrev pub invariant-write-trees : goal.invariant-write-trees
+invariant-write-trees g l =
+    Done (setting_of l.initial.self) l.fn.levels l.fn.depth (trees l.fn.tokens) (state_of l.initial.self) l.initial.builder (trees l.rest) (state_of l.self) l.builder
+    × (setting_of l.self ≡ setting_of l.initial.self) × (length l.builder ≡ length l.initial.builder)
