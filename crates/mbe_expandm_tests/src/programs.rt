@@ -33,7 +33,7 @@ static ROWS: [(&str, &str, &str); 18] = [
     (
         "m { ($l:literal) => { -$l }; }",
         "x = m!(1i8);",
-        "x = - 1i8;",
+        "x = -1i8;",
     ),
     (
         "m { ($(#[$m:meta])* $n:ident) => { $(#[$m])* struct $n; }; }",
@@ -59,7 +59,7 @@ static ROWS: [(&str, &str, &str); 18] = [
     (
         "m { ($t:ty) => { <$t>::new() }; }",
         "x = m!(Vec<u8>);",
-        "x = < Vec<u8> >::new();",
+        "x = <Vec<u8> >::new();",
     ),
     (
         "m { ($v:vis $n:ident) => { $v const $n: u8 = 9; }; }",

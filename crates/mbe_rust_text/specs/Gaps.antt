@@ -87,13 +87,17 @@ joins_word Close = false
 joins_word CloseBrace = false
 joins_word Semicolon = false
 
+-- puncts that belong to what is written right after them in a template, as in `&$x` or `Vec<$t>`
+abbrev pub is_prefix : ℕ → Bool
+is_prefix c = is_one_of c (codes "&*-!:<")
+
 -- whether a word is kept apart from what was written last
 abbrev pub is_word_apart : Last → Bool
 is_word_apart Start = false
 is_word_apart Open = false
 is_word_apart Colons = false
 is_word_apart (Alone c) = not (is_one_of c (codes ".#$'"))
-is_word_apart (Joint c) = not (is_one_of c (codes ".#$'"))
+is_word_apart (Joint c) = not (is_one_of c (codes ".#$'") || is_prefix c)
 is_word_apart Word = true
 is_word_apart Keyword = true
 is_word_apart Literal = true
@@ -112,7 +116,7 @@ abbrev pub is_literal_apart : Last → Bool
 is_literal_apart Start = false
 is_literal_apart Open = false
 is_literal_apart (Alone c) = not (c == 46)
-is_literal_apart (Joint c) = not (c == 46)
+is_literal_apart (Joint c) = not (c == 46 || is_prefix c)
 is_literal_apart Word = true
 is_literal_apart Keyword = true
 is_literal_apart Literal = true

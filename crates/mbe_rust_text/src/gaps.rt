@@ -133,6 +133,13 @@ pub(crate) fn last_punct(spacing: Spacing, char: char, after_colon: bool) -> Las
     }
 }
 
+// Puncts that belong to what is written right after them in a template, as in `&$x` or `Vec<$t>`.
+fn is_prefix(char: char) -> bool
+    ensures { result ≡ spec.is_prefix char }
+{
+    matches!(char, '&' | '*' | '-' | '!' | ':' | '<')
+}
+
 pub(crate) fn is_joint(spacing: Spacing) -> bool
     ensures { result ≡ spec.is_joint spacing }
 {
@@ -202,7 +209,8 @@ impl Last {
     {
         match self {
             Last::Start | Last::Open | Last::Colons => false,
-            Last::Alone(c) | Last::Joint(c) => !matches!(c, '.' | '#' | '$' | '\''),
+            Last::Alone(c) => !matches!(c, '.' | '#' | '$' | '\''),
+            Last::Joint(c) => !matches!(c, '.' | '#' | '$' | '\'') && !is_prefix(c),
             Last::Word
             | Last::Keyword
             | Last::Literal
@@ -218,7 +226,8 @@ impl Last {
     {
         match self {
             Last::Start | Last::Open => false,
-            Last::Alone(c) | Last::Joint(c) => c != '.',
+            Last::Alone(c) => c != '.',
+            Last::Joint(c) => c != '.' && !is_prefix(c),
             Last::Word
             | Last::Keyword
             | Last::Literal
