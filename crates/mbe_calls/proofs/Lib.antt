@@ -1,2 +1,3 @@
+pub mod PartingLemmas
 pub mod PathLemmas
 pub mod SplicingLemmas

@@ -1,5 +1,6 @@
 pub mod Beside
 pub mod Fronts
+pub mod Parting
 pub mod Replacements
 pub mod Shown
 pub mod Splicing

@@ -1,5 +1,6 @@
-// Calls and definitions of macros at the front of trees, and texts with some of their parts replaced.
+// Calls and definitions of macros at the front of trees, arguments of calls, and texts with some of their parts replaced.
 #![tactic(auto)]
 
 pub mod calls;
+pub mod parting;
 pub mod splicing;

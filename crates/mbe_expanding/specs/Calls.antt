@@ -8,6 +8,7 @@ use Rattle.mbe_semantics.specs.Expansion.Macro.{Macro, Expands}
 use Rattle.mbe_semantics.specs.Expansion.Error.{ExpandError}
 use Rattle.mbe_semantics.specs.declared.macro_call_style.MacroCallStyle.TheVariants.{FnLike}
 use Rattle.mbe_calls.specs.Fronts.{Call}
+use Rattle.mbe_calls.specs.Parting.{parted}
 use Rattle.mbe_expanding.specs.Scopes.{Scope, rules_found}
 
 -- what stays the same on the way: the grammar of fragments, the edition that definitions are read in, and how deep expansions
@@ -34,9 +35,9 @@ IsItself span marked = marked ≡ span
 abbrev pub named : State → Call → Option Macro
 named s c = rules_found s.scope c.name.sym c.is_path
 
--- what the rules make of a call's argument
+-- what the rules make of a call's argument, whose operators are those of its texts
 abbrev pub Makes : Setting → Call → Macro → Top → Option ExpandError → Type 0
-Makes e c m tree err = (index : Option ℕ) × Expands e.grammar IsItself m.rules FnLike c.argument c.name.span (top_group tree) index err
+Makes e c m tree err = (index : Option ℕ) × Expands e.grammar IsItself m.rules FnLike (parted c.argument) c.name.span (top_group tree) index err
 
 -- whether the limits allow one call more, so deep in others
 abbrev pub Allows : ℕ → State → State → Bool → Type 0

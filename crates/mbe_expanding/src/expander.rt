@@ -19,10 +19,11 @@ mod replacing;
 mod writing;
 
 use crate::notes::{Level, Note};
-use crate::scope::{Scope, buffer_of};
+use crate::scope::Scope;
 use crate::settings::Settings;
 use mbe::{DeclarativeMacro, ExpandError, MacroCallStyle, ValueResult};
 use mbe_calls::calls::{Call, Defined, Front, attribute_at, front_of};
+use mbe_calls::parting::parted_buffer;
 use mbe_rules::table::RuleTable;
 use mbe_rust_text::writing::Writer;
 use mbe_tt::span::Span;
@@ -217,7 +218,7 @@ impl<'g, A: Allocator + Copy> Expander<'g, A> {
         if rules.err().is_some() {
             return Ok(None);
         }
-        let argument = buffer_of(self.alloc, call.group.delimiter, call.argument)?;
+        let argument = parted_buffer(self.alloc, call.group.delimiter, call.argument)?;
         let ValueResult { value, err } = rules.expand(
             self.alloc,
             &self.grammar,

@@ -4,7 +4,7 @@ use crate::texts::all_become;
 use std::test::Fail;
 
 // A definition, what stands after it, and what that becomes.
-static ROWS: [(&str, &str, &str); 18] = [
+static ROWS: [(&str, &str, &str); 20] = [
     (
         "m { ($b:block) => { $b }; }",
         "fn f() -> u8 m!({ 1 })",
@@ -60,6 +60,16 @@ static ROWS: [(&str, &str, &str); 18] = [
         "m { ($t:ty) => { <$t>::new() }; }",
         "x = m!(Vec<u8>);",
         "x = <Vec<u8> >::new();",
+    ),
+    (
+        "m { ([$n:ident: $t:ty]) => { let $n: $t; }; ($n:ident $t:ty) => { m!([$n:$t]) }; }",
+        "m!(x ::a::B);",
+        "let x: ::a::B;",
+    ),
+    (
+        "m { (@ &&y) => { 2 }; (@ & &y) => { 3 }; (# $($t:tt)*) => { m!(@ &$($t)*) }; }",
+        "x = m!(# &y);",
+        "x = 3;",
     ),
     (
         "m { ($v:vis $n:ident) => { $v const $n: u8 = 9; }; }",

@@ -1,0 +1,91 @@
+-- What is left to be written, as the trees of an argument are written one after another.
+use Rattle.std.proofs.Common.{ℕ, zero, suc, ◌-◌, ◌≡◌, ◌<◌, [], ◌∷◌, length, Some, None, refl, ap, sym, ◌∙◌, arith}
+use Rattle.mbe_tt.specs.Buffers.Building.{Levels, put, closed}
+use Rattle.mbe_tt.specs.Trees.Leaf.{Leaf}
+use Rattle.mbe_tt.specs.Trees.Tree.{Forest, Tree, Leaf_tree, Group_tree, none, leaf, group, tree, append, first, rest_of, one_leaf, flat_len}
+use Rattle.mbe_tt.specs.declared.tt.Delimiter.{Delimiter}
+use Rattle.mbe_tt.proofs.Buffers.Built.{length-put}
+use Rattle.mbe_tt.proofs.Buffers.Grown.{put-none}
+use Rattle.mbe_calls.specs.Parting.{parted_by, parted_in, parted_leaf}
+
+-- what is written of some trees, once the others are, is what is to be written of all
+pub record Left (levels : ℕ) (f : Forest) (old : Levels) (rest : Forest) (now : Levels) : Type 0 where
+  pub same : put (parted_by (parted_in (levels - 1)) rest) now ≡ put (parted_in levels f) old
+  pub groups : length now ≡ length old
+
+same_some : {A : Type 0} (x y : A) → Some x ≡ Some y → x ≡ y
+same_some x y e = cc
+
+-- the first tree, and those after it
+whole : (f : Forest) (t : Tree) → first f ≡ Some t → f ≡ tree t (rest_of f)
+whole none t e = cc
+whole (leaf l rest) t e = ap (λ x. tree x rest) (same_some (Leaf_tree l) t e)
+whole (group d inside rest) t e = ap (λ x. tree x rest) (same_some (Group_tree d inside) t e)
+
+nothing : (f : Forest) → first f ≡ None → f ≡ none
+nothing none e = refl
+nothing (leaf l rest) e = cc
+nothing (group d inside rest) e = cc
+
+pub rest_less : (f : Forest) (t : Tree) → first f ≡ Some t → flat_len (rest_of f) < flat_len f
+rest_less none t e = cc
+rest_less (leaf l rest) t e = omega arith
+rest_less (group d inside rest) t e = omega arith
+
+after_one : (f : Forest) (t : Tree) (h : Forest) → append (append f (tree t none)) h ≡ append f (tree t h)
+after_one none (Leaf_tree l) h = refl
+after_one none (Group_tree d inside) h = refl
+after_one (leaf k rest) t h = ap (leaf k) (after_one rest t h)
+after_one (group d inside rest) t h = ap (group d inside) (after_one rest t h)
+
+put_one : (t : Tree) (h : Forest) (b : Levels) → put h (put (tree t none) b) ≡ put (tree t h) b
+put_one t h [] = refl
+put_one t h (g ∷ outer) = ap (λ (k : Forest). let x : Delimiter × Forest = (g.0, k) in x ∷ outer) (after_one g.1 t h)
+
+pub as_they_are : (levels : ℕ) (f : Forest) → levels ≡ 0 → parted_in levels f ≡ f
+unfolding parted_in
+as_they_are levels f e = ap (λ n. parted_in n f) e
+
+pub begins : (levels : ℕ) (f : Forest) (b : Levels) → 0 < levels → Left levels f b f b
+unfolding parted_in
+begins zero f b h = absurd (omega (arith, h))
+begins (suc n) f b h =
+    let one : suc n - 1 ≡ n = omega arith in
+    record { same = ap (λ k. put (parted_by (parted_in k) f) b) one; groups = refl }
+
+pub leaf_on : (levels : ℕ) (f rest : Forest) (old now next : Levels) (l k : Leaf) → Left levels f old rest now → first rest ≡ Some (Leaf_tree l)
+    → k ≡ parted_leaf l (rest_of rest) → next ≡ put (one_leaf k) now → Left levels f old (rest_of rest) next
+leaf_on levels f rest old now next l k h is parts e =
+    let inner = parted_in (levels - 1) in
+    let more = parted_by inner (rest_of rest) in
+    record {
+      same = ap (put more) e ∙ put_one (Leaf_tree k) more now ∙ ap (λ x. put (leaf x more) now) parts
+          ∙ ap (λ g. put (parted_by inner g) now) (sym (whole rest (Leaf_tree l) is)) ∙ h.same;
+      groups = ap length e ∙ length-put now (one_leaf k) ∙ h.groups;
+    }
+
+pub group_on : (levels : ℕ) (f rest inside : Forest) (d : Delimiter) (old now opened mid next : Levels) → Left levels f old rest now
+    → first rest ≡ Some (Group_tree d inside)
+    → opened ≡ (record { opening = d.opening; close = d.opening; kind = d.kind }, none) ∷ now
+    → mid ≡ put (parted_in (levels - 1) inside) opened → next ≡ closed d.close mid → Left levels f old (rest_of rest) next
+group_on levels f rest inside d old now opened mid next h is o m e =
+    let inner = parted_in (levels - 1) in
+    let more = parted_by inner (rest_of rest) in
+    let w : next ≡ put (group d (inner inside) none) now = e ∙ ap (closed d.close) (m ∙ ap (put (inner inside)) o) in
+    record {
+      same = ap (put more) w ∙ put_one (Group_tree d (inner inside)) more now
+          ∙ ap (λ g. put (parted_by inner g) now) (sym (whole rest (Group_tree d inside) is)) ∙ h.same;
+      groups = ap length w ∙ length-put now (group d (inner inside) none) ∙ h.groups;
+    }
+
+pub all_written : (levels : ℕ) (f rest : Forest) (old now : Levels) → Left levels f old rest now → first rest ≡ None
+    → now ≡ put (parted_in levels f) old
+all_written levels f rest old now h e =
+    put-none now ∙ ap (λ g. put (parted_by (parted_in (levels - 1)) g) now) (sym (nothing rest e)) ∙ h.same
+
+-- a group that is opened among some isn't the outermost one
+pub is_inside : (f : Forest) (old now opened mid : Levels) (x : Delimiter × Forest) → 0 < length old → length now ≡ length old → opened ≡ x ∷ now
+    → mid ≡ put f opened → 1 < length mid
+is_inside f old now opened mid x some groups o m =
+    let l = ap length m ∙ length-put opened f ∙ ap length o in
+    omega (arith, some, groups, l)
