@@ -62,7 +62,7 @@ static ROWS: [(&str, &str, &str); 20] = [
         "x = <Vec<u8> >::new();",
     ),
     (
-        "m { ([$n:ident: $t:ty]) => { let $n: $t; }; ($n:ident $t:ty) => { m!([$n:$t]) }; }",
+        "m { ([$n:ident: $t:ty]) => { let $n: $t; }; ($n:ident $t:ty) => { m!([$n:$t]); }; }",
         "m!(x ::a::B);",
         "let x: ::a::B;",
     ),
