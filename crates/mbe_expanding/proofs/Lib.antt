@@ -1,5 +1,6 @@
 pub mod BelowLemmas
 pub mod CallLemmas
+pub mod DefineLemmas
 pub mod EachLemmas
 pub mod EditionLemmas
 pub mod FitLemmas

@@ -15,6 +15,7 @@ ghost use Rattle.mbe_expanding.specs.Calls.{Allows, Applies, Tries, named};
 ghost use Rattle.mbe_expanding.specs.Scopes.{IsRead};
 ghost use Rattle.mbe_expanding.specs.Shown.{scope_of, setting_of, state_of};
 
+mod defining;
 mod replacing;
 mod writing;
 
@@ -22,12 +23,12 @@ use crate::notes::{Level, Note};
 use crate::scope::Scope;
 use crate::settings::Settings;
 use mbe::{DeclarativeMacro, ExpandError, MacroCallStyle, ValueResult};
-use mbe_calls::calls::{Call, Defined, Front, attribute_at, front_of};
+use mbe_calls::calls::{Call, Defined};
 use mbe_calls::parting::parted_buffer;
 use mbe_rules::table::RuleTable;
 use mbe_rust_text::writing::Writer;
 use mbe_tt::span::Span;
-use mbe_tt::tt::{DelimiterKind, TokenTreesView, TopSubtree, TtElement};
+use mbe_tt::tt::{TokenTreesView, TopSubtree};
 use std::alloc::{AllocError, Allocator, Global};
 
 /// How many groups and calls may stand in one another where calls are looked for.
@@ -94,56 +95,6 @@ impl<'g, A: Allocator + Copy> Expander<'g, A> {
             self.note(Level::Error, defined.name.span, message)?;
         }
         Ok(number)
-    }
-
-    /// Reads the definitions of a file, so that paths find those that are exported or in no group, wherever the call is.
-    pub fn define(&mut self, tokens: TokenTreesView<'_, A>) -> Result<(), AllocError>
-        ensures setting { OnOk result (setting_of self.new ≡ setting_of self.old) }
-    {
-        self.define_in(tokens, true, LEVELS)
-    }
-
-    fn define_in(
-        &mut self,
-        tokens: TokenTreesView<'_, A>,
-        is_top: bool,
-        levels: u32,
-    ) -> Result<(), AllocError>
-        ensures setting { OnOk result (setting_of self.new ≡ setting_of self.old) }
-    {
-        let mut rest = tokens;
-        let mut is_exported = false;
-        let mut is_used = false;
-        for _ in 0..tokens.flat_len() {
-            match front_of(rest) {
-                Front::End => return Ok(()),
-                Front::Definition(defined) => {
-                    let _number = self.read(defined, is_exported || is_top)?;
-                    rest = defined.rest;
-                    is_exported = false;
-                }
-                Front::Call(call) => rest = call.rest,
-                Front::Tree(tree, after) => {
-                    match attribute_at(rest) {
-                        Some("macro_export") => is_exported = true,
-                        Some("macro_use") => is_used = true,
-                        _ => {}
-                    }
-                    if let TtElement::Subtree(group, inside) = tree
-                        && levels > 0
-                    {
-                        let is_top = is_top && is_used;
-                        self.define_in(inside.remaining(), is_top, levels - 1)?;
-                        if group.delimiter.kind == DelimiterKind::Brace {
-                            is_exported = false;
-                            is_used = false;
-                        }
-                    }
-                    rest = after;
-                }
-            }
-        }
-        Ok(())
     }
 
     // What the macro that a call names says.

@@ -1,0 +1,69 @@
+-- The definitions of a file, in order, and which of them are wide.
+use Rattle.std.specs.Prelude.{◌≡◌, ℕ, zero, suc, Bool, true, false, ◌||◌, ◌&&◌, if◌then◌else◌, codes, List, Option, Some, None}
+use Rattle.mbe_tt.specs.Trees.Leaf.{is_text}
+use Rattle.mbe_tt.specs.Trees.Tree.{Forest, Tree, Leaf_tree, Group_tree, none}
+use Rattle.mbe_tt.specs.declared.span.Edition.{Edition}
+use Rattle.mbe_tt.specs.declared.tt.DelimiterKind.{DelimiterKind}
+use Rattle.mbe_tt.specs.declared.tt.DelimiterKind.TheVariants.{Parenthesis, Brace, Bracket, Invisible}
+use Rattle.mbe_calls.specs.Beside.{attribute_of}
+use Rattle.mbe_calls.specs.Fronts.{Call, Defined, Definition, ACall, Other, front}
+use Rattle.mbe_expanding.specs.Scopes.{Scope, IsRead}
+use Rattle.mbe_expanding.specs.declared.expander.defining.Marks.{Marks}
+
+-- ---- attributes before an item
+
+abbrev pub unmarked : Marks
+unmarked = record { is_exported = false; is_used = false }
+
+abbrev pub with_attribute : List ℕ → Marks → Marks
+with_attribute name m =
+    if is_text name (codes "macro_export") then record { is_exported = true; is_used = m.is_used }
+    else if is_text name (codes "macro_use") then record { is_exported = m.is_exported; is_used = true }
+    else m
+
+abbrev pub marked_by : Option (List ℕ) → Marks → Marks
+marked_by None m = m
+marked_by (Some name) m = with_attribute name m
+
+-- with the attribute at the front of these trees, if one is there
+abbrev pub marked : Forest → Marks → Marks
+marked f m = marked_by (attribute_of f) m
+
+-- braces end an item
+abbrev pub after_group : DelimiterKind → Marks → Marks
+after_group Brace m = unmarked
+after_group Parenthesis m = m
+after_group Bracket m = m
+after_group Invisible m = m
+
+abbrev pub after_tree : Tree → Marks → Marks
+after_tree (Leaf_tree l) m = m
+after_tree (Group_tree d inside) m = after_group d.kind m
+
+-- ---- definitions
+
+-- that trees make a scope of another, where the first says whether they stand in no group, but such as `#[macro_use]` is of
+abbrev pub Reading : Type 1
+Reading = Bool → Forest → Scope → Scope → Type 0
+
+abbrev pub DefinesTree : Reading → Bool → Tree → Scope → Scope → Type 0
+DefinesTree within is_top (Leaf_tree l) s t = t ≡ s
+DefinesTree within is_top (Group_tree d inside) s t = within is_top inside s t
+
+-- One front after another, with what stands before it. A definition is wide that is exported or in no group.
+pub data DefinesAll (edition : Edition) (within : Reading) (is_top : Bool) : Marks → Forest → Scope → Scope → Type 0 where
+  ends : (m : Marks) (s : Scope) → DefinesAll edition within is_top m none s s
+  at_definition : (m : Marks) (f : Forest) (d : Defined) (s t u : Scope) → front f ≡ Definition d
+      → IsRead edition d (m.is_exported || is_top) s t
+      → DefinesAll edition within is_top (record { is_exported = false; is_used = m.is_used }) d.rest t u
+      → DefinesAll edition within is_top m f s u
+  at_call : (m : Marks) (f : Forest) (c : Call) (s t : Scope) → front f ≡ ACall c → DefinesAll edition within is_top m c.rest s t
+      → DefinesAll edition within is_top m f s t
+  at_tree : (m : Marks) (f rest : Forest) (tree : Tree) (s t u : Scope) → front f ≡ Other tree rest
+      → DefinesTree within (is_top && (marked f m).is_used) tree s t
+      → DefinesAll edition within is_top (after_tree tree (marked f m)) rest t u → DefinesAll edition within is_top m f s u
+
+-- The definitions of trees are read, where so many groups may still stand in one another.
+unfoldable pub Defines : Edition → ℕ → Reading
+Defines edition zero is_top f s t = t ≡ s
+Defines edition (suc levels) is_top f s t = DefinesAll edition (Defines edition levels) is_top unmarked f s t

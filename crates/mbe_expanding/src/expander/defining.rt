@@ -1,0 +1,187 @@
+// The definitions of files.
+ghost use Rattle.std.specs.Prelude.{◌≡◌, ◌||◌, ◌&&◌, suc, false, true, OnOk};
+ghost use Rattle.mbe_tt.specs.Views.Element.{element_tree};
+ghost use Rattle.mbe_tt.specs.Views.View.{trees};
+ghost use Rattle.mbe_expanding.specs.Defining.{Defines, DefinesTree};
+ghost use Rattle.mbe_expanding.specs.Defining.{after_group, after_tree, marked, with_attribute};
+ghost use Rattle.mbe_expanding.specs.Shown.{scope_of, setting_of, state_of};
+
+use crate::expander::{Expander, LEVELS};
+use mbe_calls::calls::{Front, attribute_at, front_of};
+use mbe_tt::tt::{DelimiterKind, TokenTreesView, TtElement};
+use std::alloc::{AllocError, Allocator};
+
+// Whether `#[macro_export]` and `#[macro_use]` stand before a tree, since the last item ended.
+#[derive(Clone, Copy, Debug, Drop)]
+pub(crate) struct Marks {
+    is_exported: bool,
+    is_used: bool,
+}
+
+impl Marks {
+    fn none() -> Marks
+        ensures { result ≡ record { is_exported = false; is_used = false } }
+    {
+        Marks {
+            is_exported: false,
+            is_used: false,
+        }
+    }
+
+    // With the attribute of that name.
+    fn with_attribute(self, name: &str) -> Marks
+        ensures { result ≡ with_attribute name.now self }
+    {
+        match name {
+            "macro_export" => Marks {
+                is_exported: true,
+                is_used: self.is_used,
+            },
+            "macro_use" => Marks {
+                is_exported: self.is_exported,
+                is_used: true,
+            },
+            _ => self,
+        }
+    }
+
+    // With the attribute at the front of these trees, if one is there.
+    fn marked<A: Allocator>(self, tokens: TokenTreesView<'_, A>) -> Marks
+        ensures { result ≡ marked (trees tokens.entry) self }
+    {
+        match attribute_at(tokens) {
+            Some(name) => self.with_attribute(name),
+            None => self,
+        }
+    }
+
+    // After a tree, where braces end an item.
+    fn after<A: Allocator>(self, tree: &TtElement<'_, A>) -> Marks
+        ensures { result ≡ after_tree (element_tree tree.now) self }
+    {
+        match tree {
+            TtElement::Subtree(group, _) => self.after_group(group.delimiter.kind),
+            TtElement::Leaf(_) => self,
+        }
+    }
+
+    // After a group of that kind.
+    fn after_group(self, kind: DelimiterKind) -> Marks
+        ensures { result ≡ after_group kind self }
+    {
+        match kind {
+            DelimiterKind::Brace => Marks::none(),
+            DelimiterKind::Parenthesis | DelimiterKind::Bracket | DelimiterKind::Invisible => self,
+        }
+    }
+
+    // After a definition, which the export was of.
+    fn after_definition(self) -> Marks
+        ensures { result ≡ record { is_exported = false; is_used = self.is_used } }
+    {
+        Marks {
+            is_exported: false,
+            is_used: self.is_used,
+        }
+    }
+
+    // Whether paths find a definition that these stand before.
+    fn is_wide(self, is_top: bool) -> bool
+        ensures { result ≡ (self.is_exported || is_top) }
+    {
+        self.is_exported || is_top
+    }
+
+    // Whether a group that these stand before is as none around what it holds.
+    fn is_open(self, is_top: bool) -> bool
+        ensures { result ≡ (is_top && self.is_used) }
+    {
+        is_top && self.is_used
+    }
+}
+
+impl<A: Allocator + Copy> Expander<'_, A> {
+    /// Reads the definitions of a file, so that paths find those that are exported or in no group, wherever the call is.
+    pub fn define(&mut self, tokens: TokenTreesView<'_, A>) -> Result<(), AllocError>
+        ensures defines { OnOk result (Defines (setting_of self.old).edition (suc LEVELS) true
+            (trees tokens.entry) (state_of self.old).scope (state_of self.new).scope) }
+        ensures fuel { OnOk result ((state_of self.new).fuel ≡ (state_of self.old).fuel) }
+        ensures setting { OnOk result (setting_of self.new ≡ setting_of self.old) }
+    {
+        self.define_in(tokens, true, LEVELS)
+    }
+
+    // Reads the definitions among trees, where `is_top` says whether they stand in no group.
+    #[cycle(defining)]
+    fn define_in(
+        &mut self,
+        tokens: TokenTreesView<'_, A>,
+        is_top: bool,
+        levels: u32,
+    ) -> Result<(), AllocError>
+        ensures defines { OnOk result (Defines (setting_of self.old).edition (suc levels) is_top
+            (trees tokens.entry) (scope_of self.old.scope) (scope_of self.new.scope)) }
+        ensures fuel { OnOk result (self.new.fuel ≡ self.old.fuel) }
+        ensures setting { OnOk result (setting_of self.new ≡ setting_of self.old) }
+    {
+        let mut rest = tokens;
+        let mut marks = Marks::none();
+        'trees: loop {
+            match front_of(rest) {
+                Front::End => return Ok(()),
+                Front::Definition(defined) => {
+                    let _number = self.read(defined, marks.is_wide(is_top))?;
+                    marks = marks.after_definition();
+                    rest = defined.rest;
+                }
+                Front::Call(call) => rest = call.rest,
+                Front::Tree(tree, after) => {
+                    marks = marks.marked(rest);
+                    let is_open = marks.is_open(is_top);
+                    marks = marks.after(&tree);
+                    self.define_tree(tree, is_open, levels)?;
+                    rest = after;
+                }
+            }
+        }
+    }
+
+    // Reads the definitions in a tree.
+    #[cycle(defining)]
+    fn define_tree(
+        &mut self,
+        tree: TtElement<'_, A>,
+        is_top: bool,
+        levels: u32,
+    ) -> Result<(), AllocError>
+        ensures defines { OnOk result (DefinesTree
+            (Defines (setting_of self.old).edition levels) is_top (element_tree tree.entry)
+            (scope_of self.old.scope) (scope_of self.new.scope)) }
+        ensures fuel { OnOk result (self.new.fuel ≡ self.old.fuel) }
+        ensures setting { OnOk result (setting_of self.new ≡ setting_of self.old) }
+    {
+        let TtElement::Subtree(_group, inside) = tree else {
+            return Ok(());
+        };
+        self.define_inside(inside.remaining(), is_top, levels)
+    }
+
+    // Reads the definitions in a group; none, if that is too deep.
+    #[cycle(defining)]
+    fn define_inside(
+        &mut self,
+        tokens: TokenTreesView<'_, A>,
+        is_top: bool,
+        levels: u32,
+    ) -> Result<(), AllocError>
+        ensures defines { OnOk result (Defines (setting_of self.old).edition levels is_top
+            (trees tokens.entry) (scope_of self.old.scope) (scope_of self.new.scope)) }
+        ensures fuel { OnOk result (self.new.fuel ≡ self.old.fuel) }
+        ensures setting { OnOk result (setting_of self.new ≡ setting_of self.old) }
+    {
+        if levels == 0 {
+            return Ok(());
+        }
+        self.define_in(tokens, is_top, levels - 1)
+    }
+}
