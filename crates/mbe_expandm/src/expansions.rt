@@ -16,10 +16,7 @@ use std::io;
 use std::io::Write;
 
 /// Has the expander know the definitions of the files, in their order.
-pub fn define_files(
-    expander: &mut Expander<'_>,
-    files: &[SourceFile<'_>],
-) -> Result<(), AllocError>
+pub fn define_files(expander: &mut Expander<'_>, files: &[SourceFile<'_>]) -> Result<(), AllocError>
     ensures defines { OnOk result (DefinesFiles (setting_of expander.old).edition (suc LEVELS)
         (map (λ f. f.tree) files.now) (state_of expander.old).scope (state_of expander.new).scope) }
     ensures fuel { OnOk result ((state_of expander.new).fuel ≡ (state_of expander.old).fuel) }
@@ -47,11 +44,11 @@ pub fn write_expanded<W: Write>(
     ensures whole { IfSome file.now.tree (λ tree. call ≡ None
         → WritesOne (W.contents out.old) (W.contents out.new) result (λ s.
         IsFileExpanded (setting_of expander.old) LEVELS tree.1 (state_of expander.old)
-            file.now.text.now s (state_of expander.new))) }
+        file.now.text.now s (state_of expander.new))) }
     ensures unknown { IfSome file.now.tree (λ tree. call ≡ None
         → NoneCalled (state_of expander.old).scope.definitions tree.1
         → WritesOne (W.contents out.old) (W.contents out.new) result
-            (λ s. s ≡ file.now.text.now)) }
+        (λ s. s ≡ file.now.text.now)) }
 {
     let text = expanded(alloc, call, expander, file)?;
     write_whole(text.as_bytes(), out)
@@ -67,7 +64,7 @@ pub fn expanded(
     ensures kept { file.now.tree ≡ None → IfOk result (λ s. string_bytes s ≡ file.now.text.now) }
     ensures whole { IfSome file.now.tree (λ tree. call ≡ None → IfOk result (λ s.
         IsFileExpanded (setting_of expander.old) LEVELS tree.1 (state_of expander.old)
-            file.now.text.now (string_bytes s) (state_of expander.new))) }
+        file.now.text.now (string_bytes s) (state_of expander.new))) }
     ensures unknown { IfSome file.now.tree (λ tree. call ≡ None
         → NoneCalled (state_of expander.old).scope.definitions tree.1
         → IfOk result (λ s. string_bytes s ≡ file.now.text.now)) }

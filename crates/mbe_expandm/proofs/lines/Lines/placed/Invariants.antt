@@ -1,6 +1,5 @@
 use Rattle.std.proofs.Common.{◌≡◌, [], length, map, take}
 use Rattle.mbe_calls.specs.Replacements.{part_of}
-
 use Rattle.mbe_expandm.proofs.lines.Lines.placed.Given as goal
 
 abbrev pub invariant-loop-replacement : goal.invariant-loop-replacement
