@@ -1,4 +1,11 @@
 // Files with their trees.
+ghost use Rattle.std.specs.Prelude.{◌≡◌, [], false, Ok, IfErr, IfOk, IfSome};
+ghost use Rattle.std.specs.String.{string_bytes};
+ghost use Rattle.mbe_text.specs.Division.{trees_of};
+ghost use Rattle.mbe_text.specs.declared.dialect.Dialect.TheVariants.{Rust};
+ghost use Rattle.mbe_expandm.specs.Places.{has_returns};
+ghost use Rattle.mbe_expandm.specs.Shown.{returns_of};
+
 use crate::lines::Lines;
 use mbe_expanding::notes::{Level, Note};
 use mbe_text::dialect::Dialect;
@@ -17,6 +24,7 @@ pub struct SourceFile<'f, A: Allocator = Global> {
     /// Spans are places in these.
     pub lines: Lines<A>,
     pub tree: Option<TopSubtree<A>>,
+    ghost plain: { has_returns text.now ≡ false → returns_of lines ≡ [] },
 }
 
 // The error that a text isn't Rust, as a message says.
@@ -57,7 +65,13 @@ pub fn source_file<'f>(
     name: &'f str,
     text: &'f str,
     file: u32,
-) -> Result<SourceFile<'f>, AllocError> {
+) -> Result<SourceFile<'f>, AllocError>
+    ensures text { IfOk result (λ f. f.text.now ≡ text.now) }
+    ensures lines { has_returns text.now ≡ false
+        → IfOk result (λ f. string_bytes f.lines.text ≡ text.now) }
+    ensures trees { IfOk result (λ f. IfSome f.tree (λ tree.
+        trees_of (Rust edition) file (string_bytes f.lines.text) ≡ Ok tree)) }
+{
     let lines = Lines::of(alloc, text)?;
     let tree = match lexed(alloc, symbols, edition, lines.text.as_str(), file)? {
         Ok(tree) => Some(tree),
