@@ -14,12 +14,15 @@ use Rattle.mbe_expandm.specs.Places.{has_returns}
 
 -- ---- definitions
 
--- the definitions of files are read, one file after another; one that isn't Rust has none
+-- the definitions of a file are read; one that isn't Rust has none
+abbrev pub DefinesFile : Edition → ℕ → Option Top → Scope → Scope → Type 0
+DefinesFile edition levels None s u = u ≡ s
+DefinesFile edition levels (Some tree) s u = Defines edition levels true tree.1 s u
+
+-- those of files, one file after another
 abbrev pub DefinesFiles : Edition → ℕ → List (Option Top) → Scope → Scope → Type 0
 DefinesFiles edition levels [] s u = u ≡ s
-DefinesFiles edition levels (None ∷ files) s u = DefinesFiles edition levels files s u
-DefinesFiles edition levels (Some tree ∷ files) s u =
-    (t : Scope) × Defines edition levels true tree.1 s t × DefinesFiles edition levels files t u
+DefinesFiles edition levels (file ∷ files) s u = (t : Scope) × DefinesFile edition levels file s t × DefinesFiles edition levels files t u
 
 -- ---- texts
 

@@ -3,7 +3,7 @@ ghost use Rattle.std.specs.Prelude.{◌≡◌, None, IfOk, IfSome, OnOk, map, su
 ghost use Rattle.std.specs.String.{string_bytes};
 ghost use Rattle.mbe_expanding.specs.Replacing.{NoneCalled};
 ghost use Rattle.mbe_expanding.specs.Shown.{setting_of, state_of};
-ghost use Rattle.mbe_expandm.specs.Expansions.{DefinesFiles, IsFileExpanded, WritesOne};
+ghost use Rattle.mbe_expandm.specs.Expansions.{DefinesFile, DefinesFiles, IsFileExpanded, WritesOne};
 
 use crate::files::SourceFile;
 use crate::lines::Lines;
@@ -11,9 +11,23 @@ use crate::places::Position;
 use mbe_calls::splicing::{Replacement, splice};
 use mbe_expanding::expander::{Expander, LEVELS};
 use mbe_text::output::write_whole;
+use mbe_tt::tt::TopSubtree;
 use std::alloc::{AllocError, Global};
 use std::io;
 use std::io::Write;
+
+// Has the expander know the definitions of a file.
+fn define_file(expander: &mut Expander<'_>, file: &SourceFile<'_>) -> Result<(), AllocError>
+    ensures defines { OnOk result (DefinesFile (setting_of expander.old).edition (suc LEVELS)
+        file.now.tree (state_of expander.old).scope (state_of expander.new).scope) }
+    ensures fuel { OnOk result ((state_of expander.new).fuel ≡ (state_of expander.old).fuel) }
+    ensures setting { OnOk result (setting_of expander.new ≡ setting_of expander.old) }
+{
+    match &file.tree {
+        Some(tree) => expander.define(tree.iter().remaining()),
+        None => Ok(()),
+    }
+}
 
 /// Has the expander know the definitions of the files, in their order.
 pub fn define_files(expander: &mut Expander<'_>, files: &[SourceFile<'_>]) -> Result<(), AllocError>
@@ -23,9 +37,7 @@ pub fn define_files(expander: &mut Expander<'_>, files: &[SourceFile<'_>]) -> Re
     ensures setting { OnOk result (setting_of expander.new ≡ setting_of expander.old) }
 {
     for file in files {
-        if let Some(tree) = &file.tree {
-            expander.define(tree.iter().remaining())?;
-        }
+        define_file(expander, file)?;
     }
     Ok(())
 }
@@ -72,15 +84,31 @@ pub fn expanded(
     let Some(tree) = &file.tree else {
         return String::from_str(alloc, file.text);
     };
+    let Some(position) = call else {
+        return whole_text(alloc, expander, file, tree);
+    };
     let text = file.lines.text.as_str();
     let replacements = expander.replacements(text, tree.iter().remaining())?;
-    match call {
-        None => {
-            let placed = file.lines.placed(alloc, replacements.as_slice())?;
-            splice(alloc, file.text, placed.as_slice())
-        }
-        Some(position) => becomes(alloc, position, &file.lines, replacements.as_slice()),
-    }
+    becomes(alloc, position, &file.lines, replacements.as_slice())
+}
+
+// The text of a file of these trees with their calls expanded.
+fn whole_text(
+    alloc: Global,
+    expander: &mut Expander<'_>,
+    file: &SourceFile<'_>,
+    tree: &TopSubtree,
+) -> Result<String, AllocError>
+    ensures whole { IfOk result (λ s.
+        IsFileExpanded (setting_of expander.old) LEVELS tree.now.1 (state_of expander.old)
+        file.now.text.now (string_bytes s) (state_of expander.new)) }
+    ensures unknown { NoneCalled (state_of expander.old).scope.definitions tree.now.1
+        → IfOk result (λ s. string_bytes s ≡ file.now.text.now) }
+{
+    let text = file.lines.text.as_str();
+    let replacements = expander.replacements(text, tree.iter().remaining())?;
+    let placed = file.lines.placed(alloc, replacements.as_slice())?;
+    splice(alloc, file.text, placed.as_slice())
 }
 
 // What the calls at that position become, a line for each.

@@ -43,7 +43,10 @@ fn lexed(
     edition: Edition,
     text: &str,
     file: u32,
-) -> Result<Result<TopSubtree, Note>, AllocError> {
+) -> Result<Result<TopSubtree, Note>, AllocError>
+    ensures { IfOk result (λ found. IfOk found (λ tree.
+        trees_of (Rust edition) file text.now ≡ Ok tree)) }
+{
     if text.len() > u32::MAX as usize {
         return Ok(Err(fault(alloc, file, 0, "a file of 2^32 bytes or more")?));
     }
@@ -53,6 +56,27 @@ fn lexed(
             Ok(Err(fault(alloc, file, found.offset, found.wrong.message())?))
         }
         Err(LexError::OutOfMemory) => Err(AllocError),
+    }
+}
+
+// The trees of a text; or none where it isn't Rust, and a note says where and why.
+fn trees_in(
+    alloc: Global,
+    symbols: &mut SymbolTable<Global>,
+    notes: &mut Vec<Note>,
+    edition: Edition,
+    text: &str,
+    file: u32,
+) -> Result<Option<TopSubtree>, AllocError>
+    ensures { IfOk result (λ found. IfSome found (λ tree.
+        trees_of (Rust edition) file text.now ≡ Ok tree)) }
+{
+    match lexed(alloc, symbols, edition, text, file)? {
+        Ok(tree) => Ok(Some(tree)),
+        Err(note) => {
+            notes.push(note)?;
+            Ok(None)
+        }
     }
 }
 
@@ -73,13 +97,7 @@ pub fn source_file<'f>(
         trees_of (Rust edition) file (string_bytes f.lines.text) ≡ Ok tree)) }
 {
     let lines = Lines::of(alloc, text)?;
-    let tree = match lexed(alloc, symbols, edition, lines.text.as_str(), file)? {
-        Ok(tree) => Some(tree),
-        Err(note) => {
-            notes.push(note)?;
-            None
-        }
-    };
+    let tree = trees_in(alloc, symbols, notes, edition, lines.text.as_str(), file)?;
     Ok(SourceFile {
         name,
         text,

@@ -44,6 +44,13 @@ fn characters(bytes: &[u8]) -> usize
         .count()
 }
 
+// Whether there is a carriage return.
+fn has_returns(text: &str) -> bool
+    ensures { result ≡ has_returns text.now }
+{
+    text.as_bytes().iter().any(|byte| *byte == b'\r')
+}
+
 impl<A: Allocator + Copy> Lines<A> {
     /// The lines of that text.
     pub fn of(alloc: A, text: &str) -> Result<Lines<A>, AllocError>
@@ -52,7 +59,7 @@ impl<A: Allocator + Copy> Lines<A> {
         ensures returns { has_returns text.now ≡ false
             → IfOk result (λ lines. lines.returns.items ≡ []) }
     {
-        if !text.as_bytes().contains(&b'\r') {
+        if !has_returns(text) {
             return Lines::with(alloc, String::from_str(alloc, text)?, Vec::new(alloc));
         }
         let mut returns = Vec::new(alloc);
