@@ -2,3 +2,4 @@ pub mod Expansions
 pub mod Words
 pub mod Statuses
 pub mod Places
+pub mod Shown

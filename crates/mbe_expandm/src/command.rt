@@ -3,7 +3,7 @@ ghost use Rattle.std.specs.Prelude.{◌≡◌};
 ghost use Rattle.mbe_expandm.specs.Statuses.{status_of};
 
 use crate::arguments::{Asked, Options, USAGE, VERSION, read_words};
-use crate::expansions::expanded;
+use crate::expansions::{define_files, expanded, write_expanded};
 use crate::files::{SourceFile, source_file};
 use crate::limits::recursion_limit;
 use crate::messages::message;
@@ -127,11 +127,7 @@ fn expand<R: Files + Print + Eprint + AllocGlobal>(
     let grammar = rust_rules(options.edition, &[]);
     let settings = options.settings(limit_of(&files));
     let mut expander = Expander::new(alloc, grammar, settings);
-    for file in &files {
-        if let Some(tree) = &file.tree {
-            expander.define(tree.iter().remaining())?;
-        }
-    }
+    define_files(&mut expander, &files)?;
     let is_written = write_files(rt, options, &mut expander, &files)?;
     let has_errors = say(rt, &files, &notes)? | say(rt, &files, &expander.notes)?;
     Ok(status(is_written, has_errors))
@@ -159,7 +155,13 @@ fn write_files<R: Files + Print + Eprint + AllocGlobal>(
 ) -> io::Result<bool> {
     let Some(folder) = options.write else {
         if let Some(file) = files.last() {
-            print!(rt; "{}", expanded(rt.alloc(), options.call, expander, file)?)?;
+            write_expanded(
+                rt.alloc(),
+                options.call,
+                expander,
+                file,
+                &mut io::writer(rt),
+            )?;
         }
         return Ok(true);
     };

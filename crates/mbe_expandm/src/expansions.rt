@@ -1,16 +1,70 @@
 // What files become.
-ghost use Rattle.std.specs.Prelude.{◌≡◌, None, IfOk, IfSome};
+ghost use Rattle.std.specs.Prelude.{◌≡◌, None, IfOk, IfSome, OnOk, map, suc};
 ghost use Rattle.std.specs.String.{string_bytes};
 ghost use Rattle.mbe_expanding.specs.Replacing.{NoneCalled};
 ghost use Rattle.mbe_expanding.specs.Shown.{setting_of, state_of};
-ghost use Rattle.mbe_expandm.specs.Expansions.{IsFileExpanded};
+ghost use Rattle.mbe_expandm.specs.Expansions.{DefinesFile, DefinesFiles, IsFileExpanded, WritesOne};
 
 use crate::files::SourceFile;
 use crate::lines::Lines;
 use crate::places::Position;
 use mbe_calls::splicing::{Replacement, splice};
-use mbe_expanding::expander::Expander;
+use mbe_expanding::expander::{Expander, LEVELS};
+use mbe_text::output::write_whole;
+use mbe_tt::tt::TopSubtree;
 use std::alloc::{AllocError, Global};
+use std::io;
+use std::io::Write;
+
+// Has the expander know the definitions of a file.
+fn define_file(expander: &mut Expander<'_>, file: &SourceFile<'_>) -> Result<(), AllocError>
+    ensures defines { OnOk result (DefinesFile (setting_of expander.old).edition (suc LEVELS)
+        file.now.tree (state_of expander.old).scope (state_of expander.new).scope) }
+    ensures fuel { OnOk result ((state_of expander.new).fuel ≡ (state_of expander.old).fuel) }
+    ensures setting { OnOk result (setting_of expander.new ≡ setting_of expander.old) }
+{
+    match &file.tree {
+        Some(tree) => expander.define(tree.iter().remaining()),
+        None => Ok(()),
+    }
+}
+
+/// Has the expander know the definitions of the files, in their order.
+pub fn define_files(expander: &mut Expander<'_>, files: &[SourceFile<'_>]) -> Result<(), AllocError>
+    ensures defines { OnOk result (DefinesFiles (setting_of expander.old).edition (suc LEVELS)
+        (map (λ f. f.tree) files.now) (state_of expander.old).scope (state_of expander.new).scope) }
+    ensures fuel { OnOk result ((state_of expander.new).fuel ≡ (state_of expander.old).fuel) }
+    ensures setting { OnOk result (setting_of expander.new ≡ setting_of expander.old) }
+{
+    for file in files {
+        define_file(expander, file)?;
+    }
+    Ok(())
+}
+
+/// Writes a file's text with its calls expanded, or only what the calls at that position become. Nothing is written if memory
+/// runs out. If a write fails, what was written is a prefix.
+pub fn write_expanded<W: Write>(
+    alloc: Global,
+    call: Option<Position>,
+    expander: &mut Expander<'_>,
+    file: &SourceFile<'_>,
+    out: &mut W,
+) -> io::Result<()>
+    ensures kept { file.now.tree ≡ None → WritesOne (W.contents out.old) (W.contents out.new)
+        result (λ s. s ≡ file.now.text.now) }
+    ensures whole { IfSome file.now.tree (λ tree. call ≡ None
+        → WritesOne (W.contents out.old) (W.contents out.new) result (λ s.
+        IsFileExpanded (setting_of expander.old) LEVELS tree.1 (state_of expander.old)
+        file.now.text.now s (state_of expander.new))) }
+    ensures unknown { IfSome file.now.tree (λ tree. call ≡ None
+        → NoneCalled (state_of expander.old).scope.definitions tree.1
+        → WritesOne (W.contents out.old) (W.contents out.new) result
+        (λ s. s ≡ file.now.text.now)) }
+{
+    let text = expanded(alloc, call, expander, file)?;
+    write_whole(text.as_bytes(), out)
+}
 
 /// A file's text with its calls expanded, or only what the calls at that position become. A text that isn't Rust stays as it is.
 pub fn expanded(
@@ -21,7 +75,8 @@ pub fn expanded(
 ) -> Result<String, AllocError>
     ensures kept { file.now.tree ≡ None → IfOk result (λ s. string_bytes s ≡ file.now.text.now) }
     ensures whole { IfSome file.now.tree (λ tree. call ≡ None → IfOk result (λ s.
-        IsFileExpanded (setting_of expander.old) tree.1 file.now.text.now (string_bytes s))) }
+        IsFileExpanded (setting_of expander.old) LEVELS tree.1 (state_of expander.old)
+        file.now.text.now (string_bytes s) (state_of expander.new))) }
     ensures unknown { IfSome file.now.tree (λ tree. call ≡ None
         → NoneCalled (state_of expander.old).scope.definitions tree.1
         → IfOk result (λ s. string_bytes s ≡ file.now.text.now)) }
@@ -29,15 +84,31 @@ pub fn expanded(
     let Some(tree) = &file.tree else {
         return String::from_str(alloc, file.text);
     };
+    let Some(position) = call else {
+        return whole_text(alloc, expander, file, tree);
+    };
     let text = file.lines.text.as_str();
     let replacements = expander.replacements(text, tree.iter().remaining())?;
-    match call {
-        None => {
-            let placed = file.lines.placed(alloc, replacements.as_slice())?;
-            splice(alloc, file.text, placed.as_slice())
-        }
-        Some(position) => becomes(alloc, position, &file.lines, replacements.as_slice()),
-    }
+    becomes(alloc, position, &file.lines, replacements.as_slice())
+}
+
+// The text of a file of these trees with their calls expanded.
+fn whole_text(
+    alloc: Global,
+    expander: &mut Expander<'_>,
+    file: &SourceFile<'_>,
+    tree: &TopSubtree,
+) -> Result<String, AllocError>
+    ensures whole { IfOk result (λ s.
+        IsFileExpanded (setting_of expander.old) LEVELS tree.now.1 (state_of expander.old)
+        file.now.text.now (string_bytes s) (state_of expander.new)) }
+    ensures unknown { NoneCalled (state_of expander.old).scope.definitions tree.now.1
+        → IfOk result (λ s. string_bytes s ≡ file.now.text.now) }
+{
+    let text = file.lines.text.as_str();
+    let replacements = expander.replacements(text, tree.iter().remaining())?;
+    let placed = file.lines.placed(alloc, replacements.as_slice())?;
+    splice(alloc, file.text, placed.as_slice())
 }
 
 // What the calls at that position become, a line for each.

@@ -1,4 +1,11 @@
 // Files with their trees.
+ghost use Rattle.std.specs.Prelude.{◌≡◌, [], false, Ok, IfErr, IfOk, IfSome};
+ghost use Rattle.std.specs.String.{string_bytes};
+ghost use Rattle.mbe_text.specs.Division.{trees_of};
+ghost use Rattle.mbe_text.specs.declared.dialect.Dialect.TheVariants.{Rust};
+ghost use Rattle.mbe_expandm.specs.Places.{has_returns};
+ghost use Rattle.mbe_expandm.specs.Shown.{returns_of};
+
 use crate::lines::Lines;
 use mbe_expanding::notes::{Level, Note};
 use mbe_text::dialect::Dialect;
@@ -17,6 +24,7 @@ pub struct SourceFile<'f, A: Allocator = Global> {
     /// Spans are places in these.
     pub lines: Lines<A>,
     pub tree: Option<TopSubtree<A>>,
+    ghost plain: { has_returns text.now ≡ false → returns_of lines ≡ [] },
 }
 
 // The error that a text isn't Rust, as a message says.
@@ -35,7 +43,10 @@ fn lexed(
     edition: Edition,
     text: &str,
     file: u32,
-) -> Result<Result<TopSubtree, Note>, AllocError> {
+) -> Result<Result<TopSubtree, Note>, AllocError>
+    ensures { IfOk result (λ found. IfOk found (λ tree.
+        trees_of (Rust edition) file text.now ≡ Ok tree)) }
+{
     if text.len() > u32::MAX as usize {
         return Ok(Err(fault(alloc, file, 0, "a file of 2^32 bytes or more")?));
     }
@@ -48,6 +59,27 @@ fn lexed(
     }
 }
 
+// The trees of a text; or none where it isn't Rust, and a note says where and why.
+fn trees_in(
+    alloc: Global,
+    symbols: &mut SymbolTable<Global>,
+    notes: &mut Vec<Note>,
+    edition: Edition,
+    text: &str,
+    file: u32,
+) -> Result<Option<TopSubtree>, AllocError>
+    ensures { IfOk result (λ found. IfSome found (λ tree.
+        trees_of (Rust edition) file text.now ≡ Ok tree)) }
+{
+    match lexed(alloc, symbols, edition, text, file)? {
+        Ok(tree) => Ok(Some(tree)),
+        Err(note) => {
+            notes.push(note)?;
+            Ok(None)
+        }
+    }
+}
+
 /// The file of that number with its trees. Where its text isn't Rust, it has none, and a note says why.
 pub fn source_file<'f>(
     alloc: Global,
@@ -57,15 +89,15 @@ pub fn source_file<'f>(
     name: &'f str,
     text: &'f str,
     file: u32,
-) -> Result<SourceFile<'f>, AllocError> {
+) -> Result<SourceFile<'f>, AllocError>
+    ensures text { IfOk result (λ f. f.text.now ≡ text.now) }
+    ensures lines { has_returns text.now ≡ false
+        → IfOk result (λ f. string_bytes f.lines.text ≡ text.now) }
+    ensures trees { IfOk result (λ f. IfSome f.tree (λ tree.
+        trees_of (Rust edition) file (string_bytes f.lines.text) ≡ Ok tree)) }
+{
     let lines = Lines::of(alloc, text)?;
-    let tree = match lexed(alloc, symbols, edition, lines.text.as_str(), file)? {
-        Ok(tree) => Some(tree),
-        Err(note) => {
-            notes.push(note)?;
-            None
-        }
-    };
+    let tree = trees_in(alloc, symbols, notes, edition, lines.text.as_str(), file)?;
     Ok(SourceFile {
         name,
         text,

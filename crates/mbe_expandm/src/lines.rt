@@ -1,7 +1,8 @@
 // Lines of a text. rustc takes a carriage return and a line feed for a line feed alone before it looks for tokens; so do these.
-ghost use Rattle.std.specs.Prelude.{◌≡◌, ◌≤◌, IfOk, length, count_by, min};
+ghost use Rattle.std.specs.Prelude.{◌≡◌, ◌≤◌, IfOk, [], false, length, count_by, map, min};
 ghost use Rattle.std.specs.String.{string_bytes};
-ghost use Rattle.mbe_expandm.specs.Places.{AreBefore, IsPlace, begins_character};
+ghost use Rattle.mbe_calls.specs.Replacements.{part_of};
+ghost use Rattle.mbe_expandm.specs.Places.{AreBefore, IsPlace, begins_character, has_returns};
 ghost use Rattle.mbe_expandm.specs.Places.{end_of, feeds_from, start_of};
 
 use crate::places::Place;
@@ -43,14 +44,36 @@ fn characters(bytes: &[u8]) -> usize
         .count()
 }
 
+// Whether there is a carriage return.
+fn has_returns(text: &str) -> bool
+    ensures { result ≡ has_returns text.now }
+{
+    text.as_bytes().iter().any(|byte| *byte == b'\r')
+}
+
 impl<A: Allocator + Copy> Lines<A> {
     /// The lines of that text.
-    pub fn of(alloc: A, text: &str) -> Result<Lines<A>, AllocError> {
+    pub fn of(alloc: A, text: &str) -> Result<Lines<A>, AllocError>
+        ensures text { has_returns text.now ≡ false
+            → IfOk result (λ lines. string_bytes lines.text ≡ text.now) }
+        ensures returns { has_returns text.now ≡ false
+            → IfOk result (λ lines. lines.returns.items ≡ []) }
+    {
+        if !has_returns(text) {
+            return Lines::with(alloc, String::from_str(alloc, text)?, Vec::new(alloc));
+        }
         let mut returns = Vec::new(alloc);
         for (count, (at, _)) in text.match_indices("\r\n").enumerate() {
             returns.push(at.saturating_sub(count))?;
         }
-        let text = text.replace(alloc, "\r\n", "\n")?;
+        Lines::with(alloc, text.replace(alloc, "\r\n", "\n")?, returns)
+    }
+
+    // The lines of that text, where these line feeds had a carriage return before them.
+    fn with(alloc: A, text: String<A>, returns: Vec<usize, A>) -> Result<Lines<A>, AllocError>
+        ensures text { IfOk result (λ lines. lines.text ≡ text) }
+        ensures returns { IfOk result (λ lines. lines.returns ≡ returns) }
+    {
         let feeds = feeds_of(alloc, text.as_str())?;
         Ok(Lines {
             text,
@@ -60,12 +83,41 @@ impl<A: Allocator + Copy> Lines<A> {
     }
 
     // Where a byte of the lines is in the text that they are of. A line's end is before its carriage return.
-    fn place(&self, at: usize) -> usize {
+    fn place(&self, at: usize) -> usize
+        ensures { self.now.returns.items ≡ [] → result ≡ at }
+    {
         let before = self
             .returns
             .as_slice()
             .partition_point(|end: &usize| -> bool { *end < at });
         at.saturating_add(before)
+    }
+
+    // A text whose lines end as those of the text that the lines are of.
+    fn ended(&self, alloc: A, text: &str) -> Result<String<A>, AllocError>
+        ensures { self.now.returns.items ≡ [] → IfOk result (λ s. string_bytes s ≡ text.now) }
+    {
+        if self.returns.is_empty() {
+            String::from_str(alloc, text)
+        } else {
+            text.replace(alloc, "\n", "\r\n")
+        }
+    }
+
+    // What stands in place of the same part of the text that the lines are of.
+    fn placed_one(
+        &self,
+        alloc: A,
+        replacement: &Replacement<A>,
+    ) -> Result<Replacement<A>, AllocError>
+        ensures { self.now.returns.items ≡ []
+            → IfOk result (λ r. part_of r ≡ part_of replacement.now) }
+    {
+        Ok(Replacement {
+            start: self.place(replacement.start),
+            end: self.place(replacement.end),
+            text: self.ended(alloc, replacement.text.as_str())?,
+        })
     }
 
     /// What stands in place of the same parts of the text that the lines are of. Lines of that end as those of the text.
@@ -74,20 +126,13 @@ impl<A: Allocator + Copy> Lines<A> {
         alloc: A,
         replacements: &[Replacement<A>],
     ) -> Result<Vec<Replacement<A>, A>, AllocError>
-        ensures { IfOk result (λ v. length v.items ≡ length replacements.now) }
+        ensures count { IfOk result (λ v. length v.items ≡ length replacements.now) }
+        ensures same { self.now.returns.items ≡ []
+            → IfOk result (λ v. map part_of v.items ≡ map part_of replacements.now) }
     {
         let mut placed = Vec::new(alloc);
-        let end = if self.returns.is_empty() {
-            "\n"
-        } else {
-            "\r\n"
-        };
         for replacement in replacements {
-            placed.push(Replacement {
-                start: self.place(replacement.start),
-                end: self.place(replacement.end),
-                text: replacement.text.as_str().replace(alloc, "\n", end)?,
-            })?;
+            placed.push(self.placed_one(alloc, replacement)?)?;
         }
         Ok(placed)
     }

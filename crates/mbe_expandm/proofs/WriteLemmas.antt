@@ -1,0 +1,50 @@
+-- Files read one after another, and what a writer took.
+use Rattle.std.proofs.Common.{◌≡◌, ◌<◌, ℕ, zero, suc, List, [], ◌∷◌, length, map, take, false, Option, Result, Ok, Err, inr, refl, sym, subst, arith, ◌+◌}
+use Rattle.std.specs.Prelude.{get_or, IfOk}
+use Rattle.std.specs.List.{All}
+use Rattle.mbe_tt.specs.declared.span.Edition.{Edition}
+use Rattle.mbe_tt.specs.Trees.Top.{Top}
+use Rattle.mbe_tt.specs.Trees.Tree.{Forest}
+use Rattle.mbe_text.specs.Writing.{Writes}
+use Rattle.mbe_calls.specs.Splicing.{Part, spliced}
+use Rattle.mbe_expanding.specs.Calls.{Setting, State}
+use Rattle.mbe_expanding.specs.Replacing.{IsOfCall, PartsOfFile}
+use Rattle.mbe_expandm.specs.Places.{has_returns}
+use Rattle.mbe_expanding.specs.Defining.{Defines}
+use Rattle.mbe_expanding.specs.Scopes.{Scope}
+use Rattle.mbe_expandm.specs.Expansions.{DefinesFile, DefinesFiles, IsFileExpanded, WritesOne}
+
+-- ---- definitions
+
+one_more_file : {X : Type 0} (see : X → Option Top) (e : Edition) (levels : ℕ) (files : List X) (i : ℕ) (item : X) (s t u : Scope)
+    → i < length files → item ≡ get_or files i item → DefinesFiles e levels (map see (take i files)) s t → DefinesFile e levels (see item) t u
+    → DefinesFiles e levels (map see (take (suc i) files)) s u
+one_more_file see e levels [] i item s t u h is d o = absurd (omega (arith, h))
+one_more_file see e levels (x ∷ xs) zero item s t u h is d o =
+    (u, subst (λ y. DefinesFile e levels (see y) s u) is (subst (λ y. DefinesFile e levels (see item) y u) d o), refl)
+one_more_file see e levels (x ∷ xs) (suc i) item s t u h is d o =
+    (d.0, d.1, one_more_file see e levels xs i item d.0 t u (let k : i < length xs = omega (arith, h) in k) is d.2 o)
+
+pub one_more : {X : Type 0} (see : X → Option Top) (e d : Edition) (levels : ℕ) (files : List X) (i : ℕ) (item : X) (s t u : Scope)
+    → i < length files → item ≡ get_or files i item → DefinesFiles e levels (map see (take i files)) s t → e ≡ d → DefinesFile d levels (see item) t u
+    → DefinesFiles e levels (map see (take (i + 1) files)) s u
+one_more see e d levels files i item s t u h is before same o =
+    let n : suc i ≡ i + 1 = omega arith in
+    subst (λ n. DefinesFiles e levels (map see (take n files)) s u) n
+    (one_more_file see e levels files i item s t u h is before (subst (λ x. DefinesFile x levels (see item) t u) (sym same) o))
+
+-- ---- texts
+
+pub file_expanded : {X E : Type 0} (see : X → List ℕ) (r : Result X E) (e : Setting) (levels : ℕ) (trees : Forest) (s t : State) (text : List ℕ)
+    (parts placed : List Part) → PartsOfFile e levels trees s parts t → All (IsOfCall e trees) parts → length placed ≡ length parts
+    → (has_returns text ≡ false → placed ≡ parts) → IfOk r (λ x. see x ≡ spliced text placed)
+    → IfOk r (λ x. IsFileExpanded e levels trees s text (see x) t)
+file_expanded see (Ok x) e levels trees s t text parts placed of_file each count same is =
+    record { parts = parts; of_file = of_file; each = each; placed = placed; one_each = count; same = same; is = is }
+file_expanded see (Err x) e levels trees s t text parts placed of_file each count same is = is
+
+-- ---- what is written
+
+pub wrote : {T E : Type 0} (a b : Option (List ℕ)) (r : Result T E) (Is : List ℕ → Type 0) (bytes written : List ℕ) → Is bytes
+    → written ≡ bytes → Writes a b r written → WritesOne a b r Is
+wrote a b r Is bytes written is h w = inr (bytes, is, subst (Writes a b r) h w)
