@@ -1,5 +1,5 @@
 -- What is written for trees of Rust is read as these trees.
-use Rattle.std.proofs.Common.{◌≡◌, ℕ, zero, suc, ◌==◌, ◌<◌, ◌≤◌, not, ◌&&◌, if◌then◌else◌, Bool, true, false, List, [], ◌∷◌, ◌++◌, length, refl, sym, ap, ◌∙◌, arith, codes, Option, Some, None, Ok, IsUtf8, chars, encode_utf8, subst, append-nil, length-append}
+use Rattle.std.proofs.Common.{◌≡◌, ℕ, zero, suc, ◌==◌, ◌<◌, ◌≤◌, not, ◌&&◌, ◌||◌, if◌then◌else◌, Bool, true, false, List, [], ◌∷◌, ◌++◌, length, refl, sym, ap, ◌∙◌, arith, codes, Option, Some, None, Ok, IsUtf8, chars, encode_utf8, subst, append-nil, length-append}
 use Rattle.std.proofs.lemmas.Bool.Decides.{nat_tests}
 use Rattle.std.proofs.lemmas.Str.{chars-append, chars-nil, IsUtf8-append}
 use Rattle.mbe_tt.specs.Buffers.Building.{Levels, put, closed, kind_inside}
@@ -18,7 +18,7 @@ use Rattle.mbe_tt.specs.declared.tt.IdentIsRaw.TheVariants.{Yes, No}
 use Rattle.mbe_tt.specs.declared.tt.DelimiterKind.{DelimiterKind}
 use Rattle.mbe_tt.specs.declared.tt.DelimiterKind.TheVariants.{Parenthesis, Brace, Bracket, Invisible}
 use Rattle.mbe_rust_text.specs.Comments.{Comment, is_line}
-use Rattle.mbe_rust_text.specs.Gaps.{is_one_of, is_joint}
+use Rattle.mbe_rust_text.specs.Gaps.{is_one_of, is_joint, is_prefix}
 use Rattle.mbe_rust_text.specs.Writing.{State, start, word, a_literal, a_punct, a_comment, comment_marks, comment_text, name_text}
 use Rattle.mbe_text.specs.declared.dialect.Dialect.{Dialect}
 use Rattle.mbe_text.specs.declared.dialect.Dialect.TheVariants.{Rust}
@@ -144,7 +144,8 @@ reads_lifetime e total c place i ts s h w m r =
     let g = the_gap (token (ident i)) ts state in
     let small : c < 128 = grind (arith, nat_tests, h) in
     let is39 : c ≡ 39 = grind (arith, nat_tests, h) in
-    let near : not (is_one_of c (codes ".#$'")) ≡ false = grind (arith, nat_tests, h) in
+    let joins : is_one_of c (codes ".#$'") ≡ true = grind (arith, nat_tests, h) in
+    let near : not (is_one_of c (codes ".#$'") || is_prefix c) ≡ false = ap (λ b. not (b || is_prefix c)) joins in
     let gone : ahead 0 (token (ident i) ∷ ts) state ≡ chars (raw_prefix i.is_raw ++ name_text i.sym) ++ rest =
     no_line g.line g.apart g.beside s.depth (chars (raw_prefix i.is_raw ++ name_text i.sym) ++ rest) refl near in
     let text : chars (encode_utf8 c) ++ ahead 0 (token (ident i) ∷ ts) state ≡ 39 ∷ (chars
