@@ -18,6 +18,7 @@ ghost use Rattle.mbe_expanding.specs.Shown.{scope_of, setting_of, state_of};
 mod replacing;
 mod writing;
 
+use crate::explaining::Explanation;
 use crate::notes::{Level, Note};
 use crate::scope::{Scope, buffer_of};
 use crate::settings::Settings;
@@ -36,12 +37,14 @@ pub const LEVELS: u32 = 1000;
 #[derive(Drop)]
 pub struct Expander<'g, A: Allocator + Copy = Global> {
     pub(crate) alloc: A,
-    settings: Settings,
-    grammar: RuleTable<'g>,
+    pub(crate) settings: Settings,
+    pub(crate) grammar: RuleTable<'g>,
     scope: Scope<A>,
     // How many calls may still be expanded.
     fuel: u32,
     pub notes: Vec<Note<A>, A>,
+    /// What rules say of calls, if the settings ask for it.
+    pub explanations: Vec<Explanation<A>, A>,
 }
 
 impl<'g, A: Allocator + Copy> Expander<'g, A> {
@@ -64,6 +67,7 @@ impl<'g, A: Allocator + Copy> Expander<'g, A> {
             scope: Scope::new(alloc, settings.edition),
             fuel: settings.fuel,
             notes: Vec::new(alloc),
+            explanations: Vec::new(alloc),
         }
     }
 
@@ -146,7 +150,7 @@ impl<'g, A: Allocator + Copy> Expander<'g, A> {
     }
 
     // What the macro that a call names says.
-    fn rules<'s>(&'s self, call: Call<'_, A>) -> Option<&'s DeclarativeMacro<A>>
+    pub(crate) fn rules<'s>(&'s self, call: Call<'_, A>) -> Option<&'s DeclarativeMacro<A>>
         ensures { option_map (λ m. macro_of m.now) result
             ≡ named (state_of self.now) (call_shown call.entry) }
     {
@@ -228,11 +232,13 @@ impl<'g, A: Allocator + Copy> Expander<'g, A> {
         )?;
         if let Some(error) = err {
             self.note_fault(call, &error)?;
+            self.explain(call, &argument, false)?;
             return Ok(None);
         }
         let (tree, _rule) = value;
         self.note_step(call, &tree)?;
         self.note_captures(call, &tree)?;
+        self.explain(call, &argument, true)?;
         Ok(Some(tree))
     }
 

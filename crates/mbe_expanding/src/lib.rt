@@ -3,6 +3,7 @@
 
 mod captures;
 pub mod expander;
+pub mod explaining;
 mod fits;
 pub mod notes;
 pub mod scope;

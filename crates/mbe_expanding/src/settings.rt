@@ -11,4 +11,6 @@ pub struct Settings {
     pub fuel: u32,
     /// Whether each step is noted.
     pub is_traced: bool,
+    /// Whether what each rule says of a call is kept.
+    pub is_explained: bool,
 }

@@ -1,9 +1,9 @@
 // The words after the program's name.
 ghost use Rattle.std.specs.Prelude.{◌≡◌, unwrap_or};
 ghost use Rattle.std.specs.Option.{option_or};
-ghost use Rattle.mbe_expandm.specs.Words.{edition_of};
+ghost use Rattle.mbe_expandm.specs.Words.{edition_of, is_asked};
 
-use crate::places::Position;
+use crate::places::{Place, Position};
 use mbe_expanding::settings::Settings;
 use mbe_tt::span::Edition;
 use std::alloc::{AllocError, Allocator, Global};
@@ -26,8 +26,42 @@ options:
   --write DIR       write each file into DIR
   --edition YEAR    2015, 2018, 2021 (unless another is given) or 2024
   --trace           report each step
+  --explain [LINE[:COL]]
+                    say what each rule wants of the calls that no rule fits, or of
+                    those that begin there
   --help            print this text
   --version         print the version";
+
+/// Which calls are explained.
+#[derive(Clone, Copy, Debug, Drop, PartialEq, Eq)]
+pub enum Explain {
+    None,
+    /// Those that no rule fits.
+    Failed,
+    /// Those that begin there, whether a rule fits or not.
+    At(Position),
+}
+
+impl Explain {
+    /// Whether any is.
+    pub fn is_asked(self) -> bool
+        ensures { result ≡ is_asked self }
+    {
+        match self {
+            Explain::None => false,
+            Explain::Failed | Explain::At(_) => true,
+        }
+    }
+
+    /// Whether a call that begins at that place is, by whether it was expanded.
+    pub fn asks_for(self, is_expanded: bool, begins: Place<'_>) -> bool {
+        match self {
+            Explain::None => false,
+            Explain::Failed => !is_expanded,
+            Explain::At(position) => position.is_at(begins),
+        }
+    }
+}
 
 /// What a run is to do.
 #[derive(Drop)]
@@ -41,6 +75,8 @@ pub struct Options<'w, A: Allocator = Global> {
     pub is_traced: bool,
     pub names: Vec<&'w str, A>,
     pub call: Option<Position>,
+    /// Which calls are explained.
+    pub explain: Explain,
     pub write: Option<&'w str>,
 }
 
@@ -79,6 +115,14 @@ fn valued_option(word: &str) -> Option<Valued> {
     }
 }
 
+// The position that a word says right after `--explain`.
+fn explained_at(last: &str, word: &str) -> Option<Position> {
+    if last != "--explain" {
+        return None;
+    }
+    Position::read(word)
+}
+
 fn edition(word: &str) -> Option<Edition>
     ensures { result ≡ edition_of word.now }
 {
@@ -100,6 +144,7 @@ impl<'w, A: Allocator + Copy> Options<'w, A> {
             is_traced: false,
             names: Vec::new(alloc),
             call: None,
+            explain: Explain::None,
             write: None,
         }
     }
@@ -109,6 +154,7 @@ impl<'w, A: Allocator + Copy> Options<'w, A> {
         ensures edition { result.edition ≡ self.now.edition }
         ensures fuel { result.fuel ≡ self.now.fuel }
         ensures traced { result.is_traced ≡ self.now.is_traced }
+        ensures explained { result.is_explained ≡ is_asked self.now.explain }
         ensures depth { result.depth ≡ unwrap_or (option_or self.now.depth limit) 128 }
     {
         Settings {
@@ -116,6 +162,7 @@ impl<'w, A: Allocator + Copy> Options<'w, A> {
             depth: self.depth.or(limit).unwrap_or(DEPTH),
             fuel: self.fuel,
             is_traced: self.is_traced,
+            is_explained: self.explain.is_asked(),
         }
     }
 
@@ -136,6 +183,7 @@ impl<'w, A: Allocator + Copy> Options<'w, A> {
         match word {
             "--once" => self.depth = Some(1),
             "--trace" => self.is_traced = true,
+            "--explain" => self.explain = Explain::Failed,
             _ => return None,
         }
         Some(())
@@ -149,6 +197,7 @@ pub fn read_words<'w, A: Allocator + Copy>(
 ) -> Result<Asked<'w, A>, AllocError> {
     let mut options = Options::new(alloc);
     let mut wanted = None;
+    let mut last = "";
     for word in words {
         let word = word.as_str();
         if let Some((option, _)) = wanted.take() {
@@ -161,11 +210,14 @@ pub fn read_words<'w, A: Allocator + Copy>(
             return Ok(Asked::Version);
         } else if let Some(option) = valued_option(word) {
             wanted = Some((option, word));
+        } else if let Some(position) = explained_at(last, word) {
+            options.explain = Explain::At(position);
         } else if !word.starts_with("--") {
             options.names.push(word)?;
         } else if options.switch(word).is_none() {
             return Ok(Asked::Wrong(word));
         }
+        last = word;
     }
     Ok(match wanted {
         Some((_, word)) => Asked::Missing(word),

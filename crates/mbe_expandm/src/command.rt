@@ -6,10 +6,8 @@ use crate::arguments::{Asked, Options, USAGE, VERSION, read_words};
 use crate::expansions::expanded;
 use crate::files::{SourceFile, source_file};
 use crate::limits::recursion_limit;
-use crate::messages::message;
-use crate::places::NOWHERE;
+use crate::saying::{say_all, say_explained};
 use mbe_expanding::expander::Expander;
-use mbe_expanding::notes::{Level, Note};
 use mbe_rust::fragments::rust_rules;
 use mbe_text::symbols::SymbolTable;
 use std::io::{self, Read};
@@ -133,7 +131,9 @@ fn expand<R: Files + Print + Eprint + AllocGlobal>(
         }
     }
     let is_written = write_files(rt, options, &mut expander, &files)?;
-    let has_errors = say(rt, &files, &notes)? | say(rt, &files, &expander.notes)?;
+    let of_files = say_all(rt, &files, &notes)?;
+    let of_calls = say_explained(rt, options.explain, &files, &expander)?;
+    let has_errors = of_files || of_calls;
     Ok(status(is_written, has_errors))
 }
 
@@ -176,23 +176,4 @@ fn write_files<R: Files + Print + Eprint + AllocGlobal>(
         }
     }
     Ok(true)
-}
-
-// Says the notes on standard error, and returns whether there is an error among them.
-fn say<R: Eprint + AllocGlobal>(
-    rt: &R,
-    files: &[SourceFile<'_>],
-    notes: &[Note],
-) -> io::Result<bool> {
-    let mut has_errors = false;
-    for note in notes {
-        let (name, place) = match files.get(note.span.file as usize) {
-            Some(file) => (file.name, file.lines.place_of(note.span.start as usize)),
-            None => ("", NOWHERE),
-        };
-        let text = message(rt.alloc(), note, name, place)?;
-        eprint!(rt; "{text}")?;
-        has_errors |= note.level == Level::Error;
-    }
-    Ok(has_errors)
 }

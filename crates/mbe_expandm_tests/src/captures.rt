@@ -64,7 +64,7 @@ static ROWS: [(&str, &str, &str); 18] = [
 fn captures_are_noted(rt: HostRuntime) -> Result<(), Fail> {
     for (rules, call, want) in &ROWS {
         let text = format!(in rt.alloc(); "macro_rules! {rules}\n{call}")?;
-        assert_eq!(rt; noted(rt.alloc(), text.as_str())?.as_str(), *want);
+        assert_eq!(rt; noted(rt.alloc(), text.as_str(), false)?.as_str(), *want);
     }
     Ok(())
 }

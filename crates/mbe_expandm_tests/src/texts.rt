@@ -12,7 +12,12 @@ use std::process::Abort;
 use std::test::Fail;
 
 // The text with its calls expanded, and what is said of them.
-fn run(alloc: Global, text: &str, depth: u32) -> Result<(String, Vec<Note>), AllocError> {
+fn run(
+    alloc: Global,
+    text: &str,
+    depth: u32,
+    is_explained: bool,
+) -> Result<(String, Vec<Note>), AllocError> {
     let edition = Edition::Edition2021;
     let mut symbols = SymbolTable::new(alloc);
     let mut notes = Vec::new(alloc);
@@ -22,16 +27,30 @@ fn run(alloc: Global, text: &str, depth: u32) -> Result<(String, Vec<Note>), All
         depth,
         fuel: 100,
         is_traced: false,
+        is_explained,
     };
     let mut expander = Expander::new(alloc, rust_rules(edition, &[]), settings);
     if let Some(tree) = &file.tree {
         expander.define(tree.iter().remaining())?;
     }
     let text = expansions::expanded(alloc, None, &mut expander, &file)?;
-    for note in expander.notes {
-        notes.push(note)?;
+    if !is_explained {
+        for note in expander.notes {
+            notes.push(note)?;
+        }
+        return Ok((text, notes));
+    }
+    for explanation in expander.explanations {
+        push_all(&mut notes, explanation.notes)?;
     }
     Ok((text, notes))
+}
+
+fn push_all(notes: &mut Vec<Note>, more: Vec<Note>) -> Result<(), AllocError> {
+    for note in more {
+        notes.push(note)?;
+    }
+    Ok(())
 }
 
 // The text with its calls expanded, and how many notes there are.
@@ -40,13 +59,14 @@ pub(crate) fn expanded(
     text: &str,
     depth: u32,
 ) -> Result<(String, usize), AllocError> {
-    let (text, notes) = run(alloc, text, depth)?;
+    let (text, notes) = run(alloc, text, depth, false)?;
     Ok((text, notes.len()))
 }
 
-// The notes on a text's expansions, each with the line, from 0, and the byte of it where it is, and what it says but for where.
-pub(crate) fn noted(alloc: Global, text: &str) -> Result<String, AllocError> {
-    let (_, notes) = run(alloc, text, 9)?;
+// The notes on a text's expansions, or what rules say of its calls, each with the line, from 0, and the byte of it where it is, and
+// what it says but for where.
+pub(crate) fn noted(alloc: Global, text: &str, is_explained: bool) -> Result<String, AllocError> {
+    let (_, notes) = run(alloc, text, 9, is_explained)?;
     let mut said = String::new(alloc);
     for note in &notes {
         let before = text.get(..note.span.start as usize).unwrap_or("");
