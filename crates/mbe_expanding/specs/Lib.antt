@@ -1,5 +1,6 @@
 pub mod Becoming
 pub mod Calls
+pub mod Explained
 pub mod Fitting
 pub mod Replacing
 pub mod Scopes

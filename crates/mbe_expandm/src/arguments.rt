@@ -29,6 +29,7 @@ options:
   --explain [LINE[:COL]]
                     say what each rule wants of the calls that no rule fits, or of
                     those that begin there
+  --json            report as JSON, an object a line, in the form of rustc
   --help            print this text
   --version         print the version";
 
@@ -77,6 +78,8 @@ pub struct Options<'w, A: Allocator = Global> {
     pub call: Option<Position>,
     /// Which calls are explained.
     pub explain: Explain,
+    /// Whether reports are JSON.
+    pub is_json: bool,
     pub write: Option<&'w str>,
 }
 
@@ -145,6 +148,7 @@ impl<'w, A: Allocator + Copy> Options<'w, A> {
             names: Vec::new(alloc),
             call: None,
             explain: Explain::None,
+            is_json: false,
             write: None,
         }
     }
@@ -184,6 +188,7 @@ impl<'w, A: Allocator + Copy> Options<'w, A> {
             "--once" => self.depth = Some(1),
             "--trace" => self.is_traced = true,
             "--explain" => self.explain = Explain::Failed,
+            "--json" => self.is_json = true,
             _ => return None,
         }
         Some(())

@@ -6,7 +6,7 @@ use crate::arguments::{Asked, Options, USAGE, VERSION, read_words};
 use crate::expansions::expanded;
 use crate::files::{SourceFile, source_file};
 use crate::limits::recursion_limit;
-use crate::saying::{say_all, say_explained};
+use crate::saying::{Form, Speaker, say_error};
 use mbe_expanding::expander::Expander;
 use mbe_rust::fragments::rust_rules;
 use mbe_text::symbols::SymbolTable;
@@ -34,9 +34,12 @@ fn status(is_written: bool, has_errors: bool) -> u8
     }
 }
 
-/// Runs on the words after the program's name, and returns the exit status.
-pub fn run_command<R: Env + Files + Input + Print + Eprint + AllocGlobal>(rt: &R) -> u8 {
-    match run(rt) {
+/// Runs on the words after the program's name, and returns the exit status. Reports are coloured where standard error is a terminal.
+pub fn run_command<R: Env + Files + Input + Print + Eprint + AllocGlobal>(
+    rt: &R,
+    is_terminal: bool,
+) -> u8 {
+    match run(rt, is_terminal) {
         Ok(status) => status,
         Err(error) => {
             let _ = eprintln!(rt; "error: {error}");
@@ -45,13 +48,19 @@ pub fn run_command<R: Env + Files + Input + Print + Eprint + AllocGlobal>(rt: &R
     }
 }
 
-fn run<R: Env + Files + Input + Print + Eprint + AllocGlobal>(rt: &R) -> io::Result<u8> {
+fn run<R: Env + Files + Input + Print + Eprint + AllocGlobal>(
+    rt: &R,
+    is_terminal: bool,
+) -> io::Result<u8> {
     let mut words = Vec::new(rt.alloc());
     for word in env::args(rt)?.skip(1) {
         words.push(word)?;
     }
     match read_words(rt.alloc(), words.as_slice())? {
-        Asked::Run(options) => run_files(rt, &options),
+        Asked::Run(options) => {
+            let form = form_of(rt, options.is_json, is_terminal);
+            run_files(rt, &options, form)
+        }
         Asked::Help => {
             println!(rt; "{USAGE}")?;
             Ok(DONE)
@@ -88,26 +97,48 @@ fn text_of<R: Files + Input + AllocGlobal>(rt: &R, name: &str) -> io::Result<Str
     Ok(text)
 }
 
+// Whether `NO_COLOR` is set, to no empty text.
+fn is_without_colours<R: Env + AllocGlobal>(rt: &R) -> bool {
+    match env::var(rt, "NO_COLOR") {
+        Ok(value) => !value.is_empty(),
+        Err(_) => false,
+    }
+}
+
+// In which form reports are written.
+fn form_of<R: Env + AllocGlobal>(rt: &R, is_json: bool, is_terminal: bool) -> Form {
+    if is_json {
+        return Form::Json;
+    }
+    if is_terminal && !is_without_colours(rt) {
+        return Form::Colours;
+    }
+    Form::Text
+}
+
 fn run_files<R: Files + Input + Print + Eprint + AllocGlobal>(
     rt: &R,
     options: &Options<'_>,
+    form: Form,
 ) -> io::Result<u8> {
     let mut texts = Vec::new(rt.alloc());
     for name in &options.names {
         match text_of(rt, *name) {
             Ok(text) => texts.push(text)?,
             Err(error) => {
-                eprintln!(rt; "error: couldn't read `{name}`: {error}")?;
+                let message = format!(in rt.alloc(); "couldn't read `{name}`: {error}")?;
+                say_error(rt, form, message.as_str())?;
                 return Ok(WRONG);
             }
         }
     }
-    expand(rt, options, texts.as_slice())
+    expand(rt, options, form, texts.as_slice())
 }
 
 fn expand<R: Files + Print + Eprint + AllocGlobal>(
     rt: &R,
     options: &Options<'_>,
+    form: Form,
     texts: &[String],
 ) -> io::Result<u8> {
     let alloc = rt.alloc();
@@ -130,9 +161,13 @@ fn expand<R: Files + Print + Eprint + AllocGlobal>(
             expander.define(tree.iter().remaining())?;
         }
     }
-    let is_written = write_files(rt, options, &mut expander, &files)?;
-    let of_files = say_all(rt, &files, &notes)?;
-    let of_calls = say_explained(rt, options.explain, &files, &expander)?;
+    let speaker = Speaker {
+        files: files.as_slice(),
+        form,
+    };
+    let is_written = write_files(rt, options, speaker, &mut expander)?;
+    let of_files = speaker.say_all(rt, &notes)?;
+    let of_calls = speaker.say_explained(rt, options.explain, &expander)?;
     let has_errors = of_files || of_calls;
     Ok(status(is_written, has_errors))
 }
@@ -154,9 +189,10 @@ fn limit_of(files: &[SourceFile<'_>]) -> Option<u32> {
 fn write_files<R: Files + Print + Eprint + AllocGlobal>(
     rt: &R,
     options: &Options<'_>,
+    speaker: Speaker<'_>,
     expander: &mut Expander<'_>,
-    files: &[SourceFile<'_>],
 ) -> io::Result<bool> {
+    let files = speaker.files;
     let Some(folder) = options.write else {
         if let Some(file) = files.last() {
             print!(rt; "{}", expanded(rt.alloc(), options.call, expander, file)?)?;
@@ -171,7 +207,8 @@ fn write_files<R: Files + Print + Eprint + AllocGlobal>(
             .map_or(file.name, |(_, name)| name);
         let path = format!(in rt.alloc(); "{folder}/{name}")?;
         if let Err(error) = fs::write(rt, path.as_str(), text.as_str()) {
-            eprintln!(rt; "error: couldn't write `{path}`: {error}")?;
+            let message = format!(in rt.alloc(); "couldn't write `{path}`: {error}")?;
+            say_error(rt, speaker.form, message.as_str())?;
             return Ok(false);
         }
     }

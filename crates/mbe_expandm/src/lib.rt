@@ -7,6 +7,5 @@ pub mod expansions;
 pub mod files;
 pub mod limits;
 pub mod lines;
-pub mod messages;
 pub mod places;
 mod saying;

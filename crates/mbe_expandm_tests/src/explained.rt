@@ -35,7 +35,7 @@ static ROWS: [(&str, &str, &str); 11] = [
     (
         "m { (a) => {} }",
         "m!(a b);",
-        "1:5 rule 1 of `m!` ends here; ",
+        "1:5 rule 1 of `m!` doesn't go on here: it wants the end of the call; ",
     ),
     (
         "m { ((a)) => {} }",

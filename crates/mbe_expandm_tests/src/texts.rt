@@ -1,9 +1,10 @@
 // What a file's text becomes.
 use mbe_expanding::expander::Expander;
-use mbe_expanding::notes::Note;
+use mbe_expanding::notes::{Level, Note};
 use mbe_expanding::settings::Settings;
 use mbe_expandm::expansions;
 use mbe_expandm::files::source_file;
+use mbe_explaining::saying::{Said, message, named};
 use mbe_rust::fragments::rust_rules;
 use mbe_text::symbols::SymbolTable;
 use mbe_tt::span::Edition;
@@ -40,15 +41,36 @@ fn run(
         }
         return Ok((text, notes));
     }
-    for explanation in expander.explanations {
-        push_all(&mut notes, explanation.notes)?;
+    for explanation in &expander.explanations {
+        for (index, said) in explanation.rules.iter().enumerate() {
+            note_rule(alloc, &mut notes, index.saturating_add(1), said)?;
+        }
     }
     Ok((text, notes))
 }
 
-fn push_all(notes: &mut Vec<Note>, more: Vec<Note>) -> Result<(), AllocError> {
-    for note in more {
-        notes.push(note)?;
+// What a rule says, and where the parts of it are that it wants.
+fn note_rule(
+    alloc: Global,
+    notes: &mut Vec<Note>,
+    number: usize,
+    said: &Said,
+) -> Result<(), AllocError> {
+    let rule = format!(in alloc; "rule {number} of `m!`")?;
+    notes.push(Note {
+        level: Level::Note,
+        span: said.span,
+        message: message(alloc, rule.as_str(), said)?,
+    })?;
+    for part in named(alloc, said)? {
+        if let Some(span) = part.span {
+            let wanted = part.text.as_str();
+            notes.push(Note {
+                level: Level::Note,
+                span,
+                message: format!(in alloc; "{wanted} in {rule}")?,
+            })?;
+        }
     }
     Ok(())
 }
