@@ -1,49 +1,51 @@
--- What is said of a part of a file, as JSON.
-use Rattle.std.specs.Prelude.{ℕ, List, codes, ◌++◌, false, true}
-use Rattle.serde_json.specs.Data.{Data, number, unsigned, string, boolean, null, array, object, item, no_items, member, no_members}
+-- What is said of a part of a file, as JSON in the form of rustc.
+use Rattle.std.specs.Prelude.{ℕ, List, [], ◌++◌, codes, false}
+use Rattle.std.specs.Fmt.{decimal}
+use Rattle.serde_json.specs.Data.{string}
+use Rattle.serde_json.specs.Written.{compact_text}
 use Rattle.mbe_diagnostics.specs.declared.diagnostic.Level.{Level}
+use Rattle.mbe_diagnostics.specs.declared.diagnostic.Point.{Point}
 use Rattle.mbe_diagnostics.specs.declared.diagnostic.Diagnostic.{Diagnostic}
 use Rattle.mbe_diagnostics.specs.Diagnostics.{word, head, excerpt}
 
--- the line, and the columns of the part in it, from 1
-abbrev pub line_data : Diagnostic → Data
-line_data d = object (member (codes "highlight_end") (number (unsigned d.end.column)) (member (codes "highlight_start") (number (unsigned d.start.column)) (member (codes "text") (string d.line.now) no_members)))
+-- a text in quotes, with escapes
+abbrev pub text_json : List ℕ → List ℕ
+text_json text = compact_text (string text)
+
+-- a line, and the columns of a part in it, from 1
+abbrev pub line_json : List ℕ → ℕ → ℕ → List ℕ
+line_json line start end = codes "{\"text\":" ++ (text_json line ++ (codes ",\"highlight_start\":" ++ (decimal start ++ (codes ",\"highlight_end\":" ++ (decimal end ++ codes "}")))))
+
+-- bytes from 0, lines and columns from 1
+abbrev pub range_json : Point → Point → List ℕ
+range_json start end =
+    codes "\"byte_start\":" ++ (decimal start.byte ++ (codes ",\"byte_end\":" ++ (decimal end.byte
+    ++ (codes ",\"line_start\":" ++ (decimal start.line ++ (codes ",\"line_end\":" ++ (decimal end.line
+    ++ (codes ",\"column_start\":" ++ (decimal start.column ++ (codes ",\"column_end\":" ++ decimal end.column))))))))))
 
 -- the part of the file
-abbrev pub span_data : Diagnostic → Data
-span_data d = object (
-    member (codes "byte_end") (number (unsigned d.end.byte)) (
-    member (codes "byte_start") (number (unsigned d.start.byte)) (
-    member (codes "column_end") (number (unsigned d.end.column)) (
-    member (codes "column_start") (number (unsigned d.start.column)) (
-    member (codes "expansion") null (
-    member (codes "file_name") (string d.file.now) (
-    member (codes "is_primary") (boolean true) (
-    member (codes "label") null (
-    member (codes "line_end") (number (unsigned d.end.line)) (
-    member (codes "line_start") (number (unsigned d.start.line)) (
-    member (codes "suggested_replacement") null (
-    member (codes "suggestion_applicability") null (
-    member (codes "text") (array (item (line_data d) no_items)) no_members)))))))))))))
+abbrev pub span_json : Diagnostic → List ℕ
+span_json d =
+    codes "{\"file_name\":" ++ (text_json d.file.now ++ (codes "," ++ (range_json d.start d.end
+    ++ (codes ",\"is_primary\":true,\"text\":[" ++ (line_json d.line.now d.start.column d.end.column
+    ++ codes "],\"label\":null,\"suggested_replacement\":null,\"suggestion_applicability\":null,\"expansion\":null}")))))
 
--- what is said, in the form of rustc
-abbrev pub diagnostic_data : Diagnostic → Data
-diagnostic_data d = object (
-    member (codes "$message_type") (string (codes "diagnostic")) (
-    member (codes "children") (array no_items) (
-    member (codes "code") null (
-    member (codes "level") (string (word d.level)) (
-    member (codes "message") (string d.message.now) (
-    member (codes "rendered") (string (head d false ++ excerpt d)) (
-    member (codes "spans") (array (item (span_data d) no_items)) no_members)))))))
+unfoldable pub front_json : List ℕ → List ℕ → List ℕ
+front_json level message =
+    codes "{\"$message_type\":\"diagnostic\",\"message\":" ++ (text_json message
+    ++ (codes ",\"code\":null,\"level\":\"" ++ (level ++ codes "\"")))
+
+unfoldable pub back_json : List ℕ → List ℕ → List ℕ
+back_json spans rendered =
+    codes ",\"spans\":[" ++ (spans ++ (codes "],\"children\":[],\"rendered\":" ++ (text_json rendered ++ codes "}")))
+
+-- a message, its parts, and the whole as people read it
+abbrev pub object_json : Level → List ℕ → List ℕ → List ℕ → List ℕ
+object_json l message spans rendered = front_json (word l) message ++ back_json spans rendered
+
+abbrev pub json_line : Diagnostic → List ℕ
+json_line d = object_json d.level d.message.now (span_json d) (head d false ++ excerpt d)
 
 -- what is said of no part of a file
-abbrev pub plain_data : Level → List ℕ → Data
-plain_data l message = object (
-    member (codes "$message_type") (string (codes "diagnostic")) (
-    member (codes "children") (array no_items) (
-    member (codes "code") null (
-    member (codes "level") (string (word l)) (
-    member (codes "message") (string message) (
-    member (codes "rendered") (string (word l ++ (codes ": " ++ (message ++ codes "\n")))) (
-    member (codes "spans") (array no_items) no_members)))))))
+abbrev pub plain_line : Level → List ℕ → List ℕ
+plain_line l message = object_json l message [] (word l ++ (codes ": " ++ (message ++ codes "\n")))

@@ -1,96 +1,113 @@
 // What is said of a part of a file, as an object of JSON in the form of rustc's `--error-format=json`.
-ghost use Rattle.std.specs.Prelude.{◌≡◌, IfOk, true, false};
+ghost use Rattle.std.specs.Prelude.{◌≡◌, ◌++◌, [], IfOk, false};
 ghost use Rattle.std.specs.String.{string_bytes};
-ghost use Rattle.serde_json.specs.View.{view};
+ghost use Rattle.serde_json.specs.Data.{string};
 ghost use Rattle.serde_json.specs.Written.{compact_text};
+ghost use Rattle.mbe_diagnostics.specs.Diagnostics.{head, excerpt, word};
 ghost use Rattle.mbe_diagnostics.specs.Json as spec;
 
-use crate::diagnostic::{Diagnostic, Level};
+use crate::diagnostic::{Diagnostic, Level, Point};
 use crate::text::rendered;
-use serde_json::{Value, json};
+use serde_json::Value;
 use std::alloc::{AllocError, Global};
 
-// The line of a part, and the columns of the part in it.
-fn line_value(alloc: Global, said: &Diagnostic<'_>) -> Result<Value, AllocError>
-    ensures { IfOk result (λ v. view v ≡ spec.line_data said.now) }
+// A text as JSON.
+fn text_json(alloc: Global, text: &str) -> Result<String, AllocError>
+    ensures { IfOk result (λ t. string_bytes t ≡ spec.text_json text.now) }
 {
-    let (text, start, end) = (said.line, said.start.column as u64, said.end.column as u64);
-    json!(in alloc; {"highlight_end": end, "highlight_start": start, "text": text})
+    let value = Value::String(String::from_str(alloc, text)?);
+    value.to_string(alloc)
+}
+
+// A line, and the columns of a part in it.
+fn line_json(alloc: Global, line: &str, start: usize, end: usize) -> Result<String, AllocError>
+    ensures { IfOk result (λ t. string_bytes t ≡ spec.line_json line.now start end) }
+{
+    let line = text_json(alloc, line)?;
+    format!(in alloc; "{{\"text\":{line},\"highlight_start\":{start},\"highlight_end\":{end}}}")
+}
+
+// The bytes, lines and columns of a part.
+fn range_json(alloc: Global, start: Point, end: Point) -> Result<String, AllocError>
+    ensures { IfOk result (λ t. string_bytes t ≡ spec.range_json start end) }
+{
+    let (byte_start, line_start, column_start) = (start.byte, start.line, start.column);
+    let (byte_end, line_end, column_end) = (end.byte, end.line, end.column);
+    let bytes = format!(in alloc; "\"byte_start\":{byte_start},\"byte_end\":{byte_end}")?;
+    let lines = format!(in alloc; "\"line_start\":{line_start},\"line_end\":{line_end}")?;
+    format!(in alloc; "{bytes},{lines},\"column_start\":{column_start},\"column_end\":{column_end}")
 }
 
 // The part.
-fn span_value(alloc: Global, said: &Diagnostic<'_>) -> Result<Value, AllocError>
-    ensures { IfOk result (λ v. view v ≡ spec.span_data said.now) }
+fn span_json(alloc: Global, said: &Diagnostic<'_>) -> Result<String, AllocError>
+    ensures { IfOk result (λ t. string_bytes t ≡ spec.span_json said.now) }
 {
-    let file = said.file;
-    let (byte_start, byte_end) = (said.start.byte as u64, said.end.byte as u64);
-    let (line_start, line_end) = (said.start.line as u64, said.end.line as u64);
-    let (column_start, column_end) = (said.start.column as u64, said.end.column as u64);
-    let line = line_value(alloc, said)?;
-    json!(in alloc; {
-        "byte_end": byte_end,
-        "byte_start": byte_start,
-        "column_end": column_end,
-        "column_start": column_start,
-        "expansion": null,
-        "file_name": file,
-        "is_primary": true,
-        "label": null,
-        "line_end": line_end,
-        "line_start": line_start,
-        "suggested_replacement": null,
-        "suggestion_applicability": null,
-        "text": [line]
-    })
+    let file = text_json(alloc, said.file)?;
+    let range = range_json(alloc, said.start, said.end)?;
+    let line = line_json(alloc, said.line, said.start.column, said.end.column)?;
+    format!(in alloc;
+        "{{\"file_name\":{file},{range},\"is_primary\":true,\"text\":[{line}],\"label\":null,\
+            \"suggested_replacement\":null,\"suggestion_applicability\":null,\"expansion\":null}}"
+    )
 }
 
-fn value_of(alloc: Global, said: &Diagnostic<'_>) -> Result<Value, AllocError>
-    ensures { IfOk result (λ v. view v ≡ spec.diagnostic_data said.now) }
+// The first members of a message.
+#[tactic(auto, unfolding(crate::specs::Json::front_json))]
+fn front_json(alloc: Global, level: &str, message: &str) -> Result<String, AllocError>
+    ensures { IfOk result (λ t. string_bytes t ≡ spec.front_json level.now message.now) }
 {
-    let (level, message) = (said.level.word(), said.message);
-    let rendered = rendered(alloc, said, false)?;
-    let rendered = rendered.as_str();
-    let span = span_value(alloc, said)?;
-    json!(in alloc; {
-        "$message_type": "diagnostic",
-        "children": [],
-        "code": null,
-        "level": level,
-        "message": message,
-        "rendered": rendered,
-        "spans": [span]
-    })
+    let message = text_json(alloc, message)?;
+    format!(in alloc;
+        "{{\"$message_type\":\"diagnostic\",\"message\":{message},\"code\":null,\"level\":\"{level}\""
+    )
+}
+
+// The last members: the parts, and the whole as people read it.
+#[tactic(auto, unfolding(crate::specs::Json::back_json))]
+fn back_json(alloc: Global, spans: &str, rendered: &str) -> Result<String, AllocError>
+    ensures { IfOk result (λ t. string_bytes t ≡ spec.back_json spans.now rendered.now) }
+{
+    let rendered = text_json(alloc, rendered)?;
+    format!(in alloc; ",\"spans\":[{spans}],\"children\":[],\"rendered\":{rendered}}}")
+}
+
+// The object of a message, its parts, and the whole as people read it.
+fn object_json(
+    alloc: Global,
+    level: Level,
+    message: &str,
+    spans: &str,
+    rendered: &str,
+) -> Result<String, AllocError>
+    ensures { IfOk result (λ t. string_bytes t
+        ≡ spec.object_json level message.now spans.now rendered.now) }
+{
+    let mut object = front_json(alloc, level.word(), message)?;
+    let back = back_json(alloc, spans, rendered)?;
+    object.push_str(back.as_str())?;
+    Ok(object)
 }
 
 /// The object, in one line. `AllocError` if out of memory.
 pub fn json_line(alloc: Global, said: &Diagnostic<'_>) -> Result<String, AllocError>
-    ensures { IfOk result (λ s. string_bytes s ≡ compact_text (spec.diagnostic_data said.now)) }
+    ensures { IfOk result (λ t. string_bytes t ≡ spec.json_line said.now) }
 {
-    let value = value_of(alloc, said)?;
-    value.to_string(alloc)
+    let span = span_json(alloc, said)?;
+    let rendered = rendered(alloc, said, false)?;
+    object_json(
+        alloc,
+        said.level,
+        said.message,
+        span.as_str(),
+        rendered.as_str(),
+    )
 }
 
 /// The object of what is said of no part of a file, in one line. `AllocError` if out of memory.
 pub fn plain_line(alloc: Global, level: Level, message: &str) -> Result<String, AllocError>
-    ensures { IfOk result (λ s. string_bytes s ≡ compact_text (spec.plain_data level message.now)) }
+    ensures { IfOk result (λ t. string_bytes t ≡ spec.plain_line level message.now) }
 {
-    let value = plain_value(alloc, level, message)?;
-    value.to_string(alloc)
-}
-
-fn plain_value(alloc: Global, level: Level, message: &str) -> Result<Value, AllocError>
-    ensures { IfOk result (λ v. view v ≡ spec.plain_data level message.now) }
-{
-    let level = level.word();
-    let rendered = format!(in alloc; "{level}: {message}\n")?;
-    let rendered = rendered.as_str();
-    json!(in alloc; {
-        "$message_type": "diagnostic",
-        "children": [],
-        "code": null,
-        "level": level,
-        "message": message,
-        "rendered": rendered,
-        "spans": []
-    })
+    let word = level.word();
+    let rendered = format!(in alloc; "{word}: {message}\n")?;
+    object_json(alloc, level, message, "", rendered.as_str())
 }

@@ -237,6 +237,7 @@ impl<'g, A: Allocator + Copy> Expander<'g, A> {
         }
         let (tree, _rule) = value;
         self.note_step(call, &tree)?;
+        self.note_origins(call, &tree)?;
         self.note_captures(call, &tree)?;
         self.explain(call, &argument, true)?;
         Ok(Some(tree))
@@ -253,7 +254,7 @@ impl<'g, A: Allocator + Copy> Expander<'g, A> {
         self.note(Level::Error, *span, message)
     }
 
-    // Notes what a call expands to, if steps are traced.
+    // Notes what a call expands to, if steps are traced, in the words of rustc's `trace_macros`.
     fn note_step(&mut self, call: Call<'_, A>, tree: &TopSubtree<A>) -> Result<(), AllocError>
         ensures setting { OnOk result (setting_of self.new ≡ setting_of self.old) }
         ensures state { OnOk result (state_of self.new ≡ state_of self.old) }
@@ -262,8 +263,11 @@ impl<'g, A: Allocator + Copy> Expander<'g, A> {
             return Ok(());
         }
         let name = call.name.sym.as_str();
+        let text = text_of(self.alloc, call.argument, 0)?;
+        let message = format!(in self.alloc; "expanding `{name}! {{ {text} }}`")?;
+        self.note(Level::Note, call.name.span, message)?;
         let text = text_of(self.alloc, tree.iter().remaining(), 0)?;
-        let message = format!(in self.alloc; "`{name}!` expands to `{text}`")?;
+        let message = format!(in self.alloc; "to `{text}`")?;
         self.note(Level::Note, call.name.span, message)
     }
 }

@@ -6,5 +6,6 @@ pub mod expander;
 pub mod explaining;
 mod fits;
 pub mod notes;
+mod origins;
 pub mod scope;
 pub mod settings;

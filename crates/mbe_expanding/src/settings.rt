@@ -13,4 +13,6 @@ pub struct Settings {
     pub is_traced: bool,
     /// Whether what each rule says of a call is kept.
     pub is_explained: bool,
+    /// Whether it is noted where each token of an expansion is from.
+    pub is_origin_noted: bool,
 }

@@ -26,6 +26,8 @@ options:
   --write DIR       write each file into DIR
   --edition YEAR    2015, 2018, 2021 (unless another is given) or 2024
   --trace           report each step
+  --origin          report where each token of each expansion is from
+  --lint            report what is wrong with definitions alone, and print nothing
   --explain [LINE[:COL]]
                     say what each rule wants of the calls that no rule fits, or of
                     those that begin there
@@ -74,6 +76,10 @@ pub struct Options<'w, A: Allocator = Global> {
     pub fuel: u32,
     /// Whether each step is reported.
     pub is_traced: bool,
+    /// Whether it is reported where each token is from.
+    pub is_origin_noted: bool,
+    /// Whether definitions alone are looked at.
+    pub is_linted: bool,
     pub names: Vec<&'w str, A>,
     pub call: Option<Position>,
     /// Which calls are explained.
@@ -145,6 +151,8 @@ impl<'w, A: Allocator + Copy> Options<'w, A> {
             depth: None,
             fuel: 100_000,
             is_traced: false,
+            is_origin_noted: false,
+            is_linted: false,
             names: Vec::new(alloc),
             call: None,
             explain: Explain::None,
@@ -158,6 +166,7 @@ impl<'w, A: Allocator + Copy> Options<'w, A> {
         ensures edition { result.edition ≡ self.now.edition }
         ensures fuel { result.fuel ≡ self.now.fuel }
         ensures traced { result.is_traced ≡ self.now.is_traced }
+        ensures origin { result.is_origin_noted ≡ self.now.is_origin_noted }
         ensures explained { result.is_explained ≡ is_asked self.now.explain }
         ensures depth { result.depth ≡ unwrap_or (option_or self.now.depth limit) 128 }
     {
@@ -167,6 +176,7 @@ impl<'w, A: Allocator + Copy> Options<'w, A> {
             fuel: self.fuel,
             is_traced: self.is_traced,
             is_explained: self.explain.is_asked(),
+            is_origin_noted: self.is_origin_noted,
         }
     }
 
@@ -189,6 +199,8 @@ impl<'w, A: Allocator + Copy> Options<'w, A> {
             "--trace" => self.is_traced = true,
             "--explain" => self.explain = Explain::Failed,
             "--json" => self.is_json = true,
+            "--origin" => self.is_origin_noted = true,
+            "--lint" => self.is_linted = true,
             _ => return None,
         }
         Some(())

@@ -6,6 +6,7 @@ use crate::arguments::{Asked, Options, USAGE, VERSION, read_words};
 use crate::expansions::expanded;
 use crate::files::{SourceFile, source_file};
 use crate::limits::recursion_limit;
+use crate::lints::say_lints;
 use crate::saying::{Form, Speaker, say_error};
 use mbe_expanding::expander::Expander;
 use mbe_rust::fragments::rust_rules;
@@ -165,10 +166,11 @@ fn expand<R: Files + Print + Eprint + AllocGlobal>(
         files: files.as_slice(),
         form,
     };
-    let is_written = write_files(rt, options, speaker, &mut expander)?;
+    let is_written = options.is_linted || write_files(rt, options, speaker, &mut expander)?;
     let of_files = speaker.say_all(rt, &notes)?;
+    let of_lints = options.is_linted && say_lints(rt, speaker, options.edition)?;
     let of_calls = speaker.say_explained(rt, options.explain, &expander)?;
-    let has_errors = of_files || of_calls;
+    let has_errors = of_files || of_lints || of_calls;
     Ok(status(is_written, has_errors))
 }
 

@@ -7,5 +7,6 @@ pub mod expansions;
 pub mod files;
 pub mod limits;
 pub mod lines;
+mod lints;
 pub mod places;
 mod saying;

@@ -65,8 +65,8 @@ pub fn say_error<R: Eprint + AllocGlobal>(rt: &R, form: Form, message: &str) -> 
 }
 
 impl<'f> Speaker<'f> {
-    // Says something of a part of a file.
-    fn say_at<R: Eprint + AllocGlobal>(
+    /// Says something of a part of a file.
+    pub fn say_at<R: Eprint + AllocGlobal>(
         self,
         rt: &R,
         level: Level,

@@ -29,6 +29,7 @@ fn run(
         fuel: 100,
         is_traced: false,
         is_explained,
+        is_origin_noted: false,
     };
     let mut expander = Expander::new(alloc, rust_rules(edition, &[]), settings);
     if let Some(tree) = &file.tree {

@@ -164,7 +164,7 @@ clash_by true one other = one ++ codes " in two ways"
 clash_by false one other = one ++ (codes " and by " ++ other)
 
 -- how a rule goes on by both
-abbrev pub clash_text : Part × Part → List ℕ
+unfoldable pub clash_text : Part × Part → List ℕ
 clash_text p = clash_by (is_same_part p.0 p.1) p.0.text p.1.text
 
 abbrev pub message_by : List ℕ → Verdict → List Part → Option (Part × Part) → List ℕ

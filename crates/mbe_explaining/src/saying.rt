@@ -169,6 +169,7 @@ fn clash_by<A: Allocator>(
     }
 }
 
+#[tactic(auto, unfolding(crate::specs::Saying::clash_text))]
 fn clash_text<A: Allocator + Copy>(
     alloc: A,
     one: &Part<A>,
@@ -181,20 +182,30 @@ fn clash_text<A: Allocator + Copy>(
     clash_by(alloc, are_same, one.text.as_str(), other.text.as_str())
 }
 
-fn stuck_text<A: Allocator + Copy>(
-    alloc: A,
-    rule: &str,
-    wanted: &[Part<A>],
-) -> Result<String<A>, AllocError>
+// The texts of the parts in a list, each once.
+fn list_text<A: Allocator + Copy>(alloc: A, parts: &[Part<A>]) -> Result<String<A>, AllocError>
     ensures { IfOk result (λ text. string_bytes text
-        ≡ rule.now ++ (codes " doesn't go on here: it wants "
-        ++ spec.listed (spec.once [] (map part_seen wanted.now)))) }
+        ≡ spec.listed (spec.once [] (map part_seen parts.now))) }
 {
     let mut kept = Vec::new(alloc);
-    keep(&mut kept, wanted)?;
-    let mut text = format!(in alloc; "{rule} doesn't go on here: it wants ")?;
+    keep(&mut kept, parts)?;
+    let mut text = String::new(alloc);
     list(&mut text, kept.as_slice())?;
     Ok(text)
+}
+
+fn stuck_text<A: Allocator>(alloc: A, rule: &str, list: &str) -> Result<String<A>, AllocError>
+    ensures { IfOk result (λ text. string_bytes text
+        ≡ rule.now ++ (codes " doesn't go on here: it wants " ++ list.now)) }
+{
+    format!(in alloc; "{rule} doesn't go on here: it wants {list}")
+}
+
+fn ambiguous_text<A: Allocator>(alloc: A, rule: &str, clash: &str) -> Result<String<A>, AllocError>
+    ensures { IfOk result (λ text. string_bytes text
+        ≡ rule.now ++ (codes " is ambiguous here: it goes on by " ++ clash.now)) }
+{
+    format!(in alloc; "{rule} is ambiguous here: it goes on by {clash}")
 }
 
 /// What a rule says, in words; `rule` names it. `AllocError` if out of memory.
@@ -212,9 +223,12 @@ pub fn message<A: Allocator + Copy>(
         (Verdict::Ambiguous(_), None) => format!(in alloc; "{rule} is ambiguous here"),
         (Verdict::Ambiguous(_), Some((one, other))) => {
             let clash = clash_text(alloc, one, other)?;
-            format!(in alloc; "{rule} is ambiguous here: it goes on by {clash}")
+            ambiguous_text(alloc, rule, clash.as_str())
         }
-        (Verdict::Stuck(_), _) => stuck_text(alloc, rule, said.wanted.as_slice()),
+        (Verdict::Stuck(_), _) => {
+            let list = list_text(alloc, said.wanted.as_slice())?;
+            stuck_text(alloc, rule, list.as_str())
+        }
     }
 }
 

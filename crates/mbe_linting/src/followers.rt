@@ -70,7 +70,7 @@ pub fn may_follow<A: Allocator>(edition: Edition, specifier: &str, next: Next<'_
     }
     match specifier {
         "expr" | "expr_2021" | "stmt" => follows_expr(next),
-        "pat" => follows_pat(next, edition < Edition::Edition2021),
+        "pat" => follows_pat(next, !edition.at_least_2021()),
         "pat_param" => follows_pat(next, true),
         "path" | "ty" => follows_type(next),
         "vis" => follows_vis(next),
@@ -82,7 +82,7 @@ pub fn may_follow<A: Allocator>(edition: Edition, specifier: &str, next: Next<'_
 pub fn followers(edition: Edition, specifier: &str) -> Option<&'static str> {
     match specifier {
         "expr" | "expr_2021" | "stmt" => Some("`=>`, `,` or `;`"),
-        "pat" if edition >= Edition::Edition2021 => Some("`=>`, `,`, `=`, `if` or `in`"),
+        "pat" if edition.at_least_2021() => Some("`=>`, `,`, `=`, `if` or `in`"),
         "pat" | "pat_param" => Some("`=>`, `,`, `=`, `|`, `if` or `in`"),
         "path" | "ty" => { Some("`{`, `[`, `=>`, `,`, `>`, `=`, `:`, `;`, `|`, `as` or `where`") }
         "vis" => Some("`,`, an ident except `priv`, or a type"),
@@ -97,7 +97,7 @@ fn next_of<'t, A: Allocator>(piece: Piece<'t, A>) -> Option<Next<'t, A>> {
         Piece::Variable(_, None) => Some(Next::Variable("?")),
         Piece::Group(group, _) => Some(Next::Open(group.delimiter.kind)),
         Piece::Word(word) => Some(Next::Word(word)),
-        Piece::Mark(one, other) => Some(Next::Mark(one.char, other.map(|other| other.char))),
+        Piece::Mark(one, other) => Some(Next::Mark(one, other)),
         Piece::Literal(_) => Some(Next::Literal),
         Piece::End | Piece::Repetition(_) => None,
     }

@@ -267,7 +267,7 @@ fn lint_reached<A: Allocator + Copy>(
 }
 
 /// What is likely wrong with a definition whose rules are these trees, rule by rule. `AllocError` if out of memory.
-pub fn lint<A: Allocator + Copy>(
+pub fn lints_of<A: Allocator + Copy>(
     alloc: A,
     edition: Edition,
     rules: TokenTreesView<'_, A>,

@@ -1,8 +1,6 @@
 // What a pattern or a template is made of, as trees.
-ghost use Rattle.std.specs.Prelude.{◌≡◌};
-
 use mbe_tt::span::Span;
-use mbe_tt::tt::{DelimiterKind, Ident, Leaf, Punct, Subtree, TokenTreesView, TtElement, TtIter};
+use mbe_tt::tt::{DelimiterKind, Ident, Leaf, Subtree, TokenTreesView, TtElement, TtIter};
 use std::alloc::{Allocator, Global};
 
 /// What stands at the front of a pattern.
@@ -15,8 +13,8 @@ pub enum Piece<'t, A: Allocator = Global> {
     Repetition(Repetition<'t, A>),
     Group(&'t Subtree, TokenTreesView<'t, A>),
     Word(&'t Ident<A>),
-    /// A punct, and the next one if the two are glued.
-    Mark(Punct, Option<Punct>),
+    /// A punct's char, and that of the next one if the two are glued.
+    Mark(char, Option<char>),
     Literal(Span),
 }
 
@@ -57,7 +55,7 @@ fn after_separator<'t, A: Allocator>(
 }
 
 // A repetition of what a `$` stands before.
-fn repetition<'t, A: Allocator>(
+fn repeated<'t, A: Allocator>(
     inside: TokenTreesView<'t, A>,
     after: TokenTreesView<'t, A>,
 ) -> Option<(Repetition<'t, A>, TokenTreesView<'t, A>)> {
@@ -99,7 +97,7 @@ fn dollar<'t, A: Allocator>(
             if group.delimiter.kind != DelimiterKind::Parenthesis {
                 return None;
             }
-            let (repetition, rest) = repetition(inside.remaining(), iter.remaining())?;
+            let (repetition, rest) = repeated(inside.remaining(), iter.remaining())?;
             Some((Piece::Repetition(repetition), rest))
         }
         TtElement::Leaf(Leaf::Ident(name)) => {
@@ -120,7 +118,7 @@ fn dollar<'t, A: Allocator>(
 
 // What a punct is at the front of these, which stands before the others.
 fn mark<'t, A: Allocator>(
-    punct: Punct,
+    char: char,
     tokens: TokenTreesView<'t, A>,
     rest: TokenTreesView<'t, A>,
 ) -> (Piece<'t, A>, TokenTreesView<'t, A>) {
@@ -128,9 +126,10 @@ fn mark<'t, A: Allocator>(
     if let Ok(glued) = iter.expect_glued_punct()
         && let [_, second, ..] = glued.as_slice()
     {
-        return (Piece::Mark(punct, Some(*second)), iter.remaining());
+        let next = second.char;
+        return (Piece::Mark(char, Some(next)), iter.remaining());
     }
-    (Piece::Mark(punct, None), rest)
+    (Piece::Mark(char, None), rest)
 }
 
 /// What stands at the front of a pattern, or of a template, and what stands after that.
@@ -153,7 +152,8 @@ pub fn piece_at<'t, A: Allocator>(
             {
                 return found;
             }
-            mark(*punct, tokens, rest)
+            let char = punct.char;
+            mark(char, tokens, rest)
         }
     }
 }

@@ -104,7 +104,7 @@ fn begin_alike<A: Allocator>(
     }
 }
 
-fn is_dollar<A: Allocator>(tree: Option<TtElement<'_, A>>) -> bool {
+fn is_dollar<A: Allocator>(tree: &Option<TtElement<'_, A>>) -> bool {
     matches!(tree, Some(TtElement::Leaf(Leaf::Punct(punct))) if punct.char == '$')
 }
 
@@ -118,10 +118,11 @@ pub fn are_alike<A: Allocator>(one: TokenTreesView<'_, A>, other: TokenTreesView
     let mut after_dollar = false;
     for _ in 0..one.flat_len() {
         let tree = left.token_tree();
+        let at_dollar = is_dollar(&tree);
         if !begin_alike(tree, right.token_tree(), after_dollar) {
             return false;
         }
-        after_dollar = is_dollar(tree);
+        after_dollar = at_dollar;
         left.bump_or_end();
         right.bump_or_end();
     }

@@ -1,0 +1,5 @@
+// The tests of lints.
+#![tactic(auto)]
+
+#[cfg(test)]
+mod definitions;
