@@ -59,23 +59,22 @@ def by_rustc(path):
     return None
 
 
-def by_expandm(text, path):
+def by_expandm(text, name):
     """The messages of `expandm` on a file: those on the rules after an error, if there are some."""
-    found = re.findall(rf"^{re.escape(path)}:(\d+):(\d+): (\w+): (.*)$", text, re.M)
+    found = re.findall(rf"^(?:\S*/)?{re.escape(name)}:(\d+):(\d+): (\w+): (.*)$", text, re.M)
     on_rules = [it for it in found if re.match(r"rule \d+ of `m!` ", it[3])]
     return [(int(line), int(column), message) for line, column, _, message in on_rules or found]
 
 
-def run_expandm(folder, names, flag, program):
+def run_expandm(folder, flags, program):
+    """What `expandm` reports of each file of the folder, with that flag."""
     if program:
-        return {name: subprocess.run([program, flag, name], capture_output=True, text=True, cwd=folder).stderr for name in names}
-    said = {}
-    for name in names:
-        cases = tempfile.mkdtemp(dir=folder)
-        os.link(os.path.join(folder, name), os.path.join(cases, name))
-        ran = subprocess.run(["rt", "try", "--cases", cases, "--", flag, "{}"], capture_output=True, text=True, cwd=f"{TOP}/crates/expandm")
-        said[name] = ran.stdout + ran.stderr
-    return said
+        return "".join(subprocess.run([program, flag, name], capture_output=True, text=True, cwd=folder).stderr for name, flag in flags.items())
+    for name, flag in flags.items():
+        with open(os.path.join(folder, name + ".args"), "w", encoding="utf-8") as it:
+            it.write(flag + "\n")
+    ran = subprocess.run(["rt", "try", "--cases", folder, "--", "{}"], capture_output=True, text=True, cwd=f"{TOP}/crates/expandm")
+    return ran.stdout + ran.stderr
 
 
 def cell(text):
@@ -94,12 +93,10 @@ def main(write, program):
     for name, text in texts.items():
         with open(os.path.join(folder, name), "w", encoding="utf-8") as it:
             it.write(text)
-    calls = [name for name, row in zip(texts, ROWS) if row[1] is not None]
-    said = run_expandm(folder, calls, "--explain", program)
-    said |= run_expandm(folder, [name for name in texts if name not in calls], "--lint", program)
+    said = run_expandm(folder, {name: "--lint" if row[1] is None else "--explain" for name, row in zip(texts, ROWS)}, program)
     rows, silent = ["| Rules, and a call | `expandm` | rustc |", "|---|---|---|"], 0
     for name, (rules, argument) in zip(texts, ROWS):
-        ours = by_expandm(said[name], name)
+        ours = by_expandm(said, name)
         theirs = by_rustc(os.path.join(folder, name))
         silent += not ours
         shown = "; ".join(f"at `{token_at(texts[name], line, column)}`: {message}" for line, column, message in ours) or "nothing"
@@ -108,6 +105,7 @@ def main(write, program):
         rows.append(f"| `{cell(rules)}`{cell(call)} | {cell(shown)} | {cell(rustc)} |")
     table = "\n".join(rows) + "\n"
     if not write:
+        print(said, file=sys.stderr)
         print(table, end="")
         return silent
     path = f"{TOP}/docs/MACROS.md"
