@@ -1,4 +1,4 @@
-// What may follow a fragment (the Rust Reference, "Follow-set Ambiguity Restrictions").
+// What may follow a fragment: the Rust Reference, "Follow-set Ambiguity Restrictions", as far as rustc looks.
 use crate::pieces::{Piece, Repetition, piece_at};
 use mbe_tt::span::Edition;
 use mbe_tt::tt::{DelimiterKind, Ident, TokenTreesView};
@@ -158,18 +158,16 @@ fn add_after<'t, A: Allocator + Copy>(
     Ok(())
 }
 
-// What may come after the inside of a repetition that those may follow.
+// What may come after the inside of a repetition that those may follow: they, and a separator. As in rustc, a further round
+// without a separator isn't looked at.
 fn after_round<'t, A: Allocator + Copy>(
     alloc: A,
     repetition: Repetition<'t, A>,
     after: &[Next<'t, A>],
-    levels: u32,
 ) -> Result<Vec<Next<'t, A>, A>, AllocError> {
     let mut nexts = Vec::new(alloc);
     if repetition.has_separator {
         add_separator(&mut nexts, repetition)?;
-    } else if repetition.operator != '?' {
-        let _is_empty = add_first(&mut nexts, repetition.inside, levels)?;
     }
     for next in after {
         nexts.push(*next)?;
@@ -225,7 +223,7 @@ pub fn add_wrong<'t, A: Allocator + Copy>(
                 add_wrong(alloc, wrong, edition, inside, &close, levels - 1)?;
             }
             Piece::Repetition(repetition) => {
-                let after = after_round(alloc, repetition, nexts.as_slice(), levels)?;
+                let after = after_round(alloc, repetition, nexts.as_slice())?;
                 let inside = repetition.inside;
                 add_wrong(alloc, wrong, edition, inside, after.as_slice(), levels - 1)?;
             }

@@ -32,7 +32,7 @@ pub const SPECIFIERS: [&str; 15] = [
 /// Something that is likely wrong with a definition.
 #[derive(Drop)]
 pub struct Lint<A: Allocator = Global> {
-    /// Whether rustc refuses it too.
+    /// Whether rustc refuses the definition, or each expansion of the rule.
     pub is_error: bool,
     pub span: Span,
     pub message: String<A>,

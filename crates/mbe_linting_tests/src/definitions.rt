@@ -1,5 +1,5 @@
-// What is said of definitions alone. What rustc 1.95 refuses of these is marked `error`, and so do these rows; the byte is that of the
-// name, the specifier or the pattern that is meant.
+// What is said of definitions alone. rustc 1.95 refuses what is an `error` here, but for variables in too few repetitions, of which it refuses
+// each expansion, and takes the others. The byte is that of the name, the specifier or the pattern that is meant.
 use mbe_linting::linting::lints_of;
 use mbe_text::dialect::Dialect;
 use mbe_text::lexer::lex_as_in;
@@ -53,10 +53,7 @@ static ROWS: [(&str, &str); 24] = [
         "error 2 `$a:expr` may be followed by a fragment `tt`, but must be followed by `=>`, `,` or `;`; ",
     ),
     ("($a:expr => $b:tt) => { $a $b }", ""),
-    (
-        "($($a:expr)*) => { $($a)* }",
-        "error 4 `$a:expr` may be followed by a fragment `expr`, but must be followed by `=>`, `,` or `;`; ",
-    ),
+    ("($($a:expr)*) => { $($a)* }", ""),
     ("($($a:expr),*) => { $($a)* }", ""),
     ("($a:ty [$b:tt]) => { $a $b }", ""),
     (
