@@ -75,3 +75,18 @@ fn rules_say_what_they_want(rt: HostRuntime) -> Result<(), Fail> {
     }
     Ok(())
 }
+
+// The example of docs/EXPANDM.md.
+static PAIR: &str = "\
+macro_rules! pair { ($k:ident => $v:expr) => {}; ($k:ident = $v:expr) => {}; }
+fn main() { pair!(a -> 1); }
+";
+
+#[test]
+fn the_documented_rules_say_so(rt: HostRuntime) -> Result<(), Fail> {
+    let want =
+        "1:20 rule 1 of `m!` doesn't go on here: it wants `=>`; 0:30 `=>` in rule 1 of `m!`; \
+        1:20 rule 2 of `m!` doesn't go on here: it wants `=`; 0:59 `=` in rule 2 of `m!`; ";
+    assert_eq!(rt; noted(rt.alloc(), PAIR, true)?.as_str(), want);
+    Ok(())
+}
