@@ -40,7 +40,7 @@ abbrev pub head : Diagnostic → Bool → List ℕ
 head d is_coloured = d.file.now ++ (codes ":" ++ (decimal d.start.line ++ (codes ":" ++ (decimal d.start.column ++ (codes ": " ++ (level_text d.level is_coloured ++ (codes ": " ++ (d.message.now ++ codes "\n"))))))))
 
 -- a number in five columns, to the right
-abbrev pub in_five : ℕ → List ℕ
+unfoldable pub in_five : ℕ → List ℕ
 in_five n = repeat (5 - length (decimal n)) (codes " ") ++ decimal n
 
 -- the line, and a caret under the place

@@ -16,12 +16,18 @@ text_json text = compact_text (string text)
 abbrev pub line_json : List ℕ → ℕ → ℕ → List ℕ
 line_json line start end = codes "{\"text\":" ++ (text_json line ++ (codes ",\"highlight_start\":" ++ (decimal start ++ (codes ",\"highlight_end\":" ++ (decimal end ++ codes "}")))))
 
+-- where a part starts and ends, by one measure
+unfoldable pub bounds_json : List ℕ → ℕ → ℕ → List ℕ
+bounds_json measure start end =
+    codes "\"" ++ (measure ++ (codes "_start\":" ++ (decimal start
+    ++ (codes ",\"" ++ (measure ++ (codes "_end\":" ++ decimal end))))))
+
 -- bytes from 0, lines and columns from 1
 abbrev pub range_json : Point → Point → List ℕ
 range_json start end =
-    codes "\"byte_start\":" ++ (decimal start.byte ++ (codes ",\"byte_end\":" ++ (decimal end.byte
-    ++ (codes ",\"line_start\":" ++ (decimal start.line ++ (codes ",\"line_end\":" ++ (decimal end.line
-    ++ (codes ",\"column_start\":" ++ (decimal start.column ++ (codes ",\"column_end\":" ++ decimal end.column))))))))))
+    bounds_json (codes "byte") start.byte end.byte
+    ++ (codes "," ++ (bounds_json (codes "line") start.line end.line
+    ++ (codes "," ++ bounds_json (codes "column") start.column end.column)))
 
 -- the part of the file
 abbrev pub span_json : Diagnostic → List ℕ

@@ -27,15 +27,27 @@ fn line_json(alloc: Global, line: &str, start: usize, end: usize) -> Result<Stri
     format!(in alloc; "{{\"text\":{line},\"highlight_start\":{start},\"highlight_end\":{end}}}")
 }
 
+// Where a part starts and ends, by one measure: `byte`, `line` or `column`.
+#[tactic(auto, unfolding(crate::specs::Json::bounds_json))]
+fn bounds_json(
+    alloc: Global,
+    measure: &str,
+    start: usize,
+    end: usize,
+) -> Result<String, AllocError>
+    ensures { IfOk result (λ t. string_bytes t ≡ spec.bounds_json measure.now start end) }
+{
+    format!(in alloc; "\"{measure}_start\":{start},\"{measure}_end\":{end}")
+}
+
 // The bytes, lines and columns of a part.
 fn range_json(alloc: Global, start: Point, end: Point) -> Result<String, AllocError>
     ensures { IfOk result (λ t. string_bytes t ≡ spec.range_json start end) }
 {
-    let (byte_start, line_start, column_start) = (start.byte, start.line, start.column);
-    let (byte_end, line_end, column_end) = (end.byte, end.line, end.column);
-    let bytes = format!(in alloc; "\"byte_start\":{byte_start},\"byte_end\":{byte_end}")?;
-    let lines = format!(in alloc; "\"line_start\":{line_start},\"line_end\":{line_end}")?;
-    format!(in alloc; "{bytes},{lines},\"column_start\":{column_start},\"column_end\":{column_end}")
+    let bytes = bounds_json(alloc, "byte", start.byte, end.byte)?;
+    let lines = bounds_json(alloc, "line", start.line, end.line)?;
+    let columns = bounds_json(alloc, "column", start.column, end.column)?;
+    format!(in alloc; "{bytes},{lines},{columns}")
 }
 
 // The part.

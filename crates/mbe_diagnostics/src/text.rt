@@ -77,14 +77,25 @@ fn head<A: Allocator + Copy>(
     format!(in alloc; "{file}:{line}:{column}: {level}: {message}\n")
 }
 
+// A number in five columns, to the right.
+#[tactic(auto, unfolding(crate::specs::Diagnostics::in_five))]
+fn in_five<A: Allocator + Copy>(alloc: A, number: usize) -> Result<String<A>, AllocError>
+    ensures { IfOk result (λ t. string_bytes t ≡ spec.in_five number) }
+{
+    let digits = format!(in alloc; "{number}")?;
+    let mut text = " ".repeat(alloc, 5usize.saturating_sub(digits.len()))?;
+    text.push_str(digits.as_str())?;
+    Ok(text)
+}
+
 // The line of the file, and under it a caret.
 fn excerpt<A: Allocator + Copy>(alloc: A, said: &Diagnostic<'_>) -> Result<String<A>, AllocError>
     ensures { IfOk result (λ t. string_bytes t ≡ spec.excerpt said.now) }
 {
-    let number = said.start.line;
+    let number = in_five(alloc, said.start.line)?;
     let line = untabbed(alloc, said.line)?;
     let margin = margin(alloc, said.before)?;
-    format!(in alloc; "{number:>5} | {line}\n      | {margin}^\n")
+    format!(in alloc; "{number} | {line}\n      | {margin}^\n")
 }
 
 /// `FILE:LINE:COL: LEVEL: MESSAGE`, the line, and a caret under the place, each in a line. Tabs are four spaces. In colour the level
