@@ -37,7 +37,9 @@ level_text l true = colour l ++ (word l ++ (27 ∷ codes "[0m"))
 
 -- the place, the level and the message
 abbrev pub head : Diagnostic → Bool → List ℕ
-head d is_coloured = d.file.now ++ (codes ":" ++ (decimal d.start.line ++ (codes ":" ++ (decimal d.start.column ++ (codes ": " ++ (level_text d.level is_coloured ++ (codes ": " ++ (d.message.now ++ codes "\n"))))))))
+head d is_coloured =
+    d.file.now ++ (codes ":" ++ (decimal d.start.line ++ (codes ":" ++ (decimal d.start.column
+    ++ (codes ": " ++ (level_text d.level is_coloured ++ (codes ": " ++ (d.message.now ++ codes "\n"))))))))
 
 -- a number in five columns, to the right
 unfoldable pub in_five : ℕ → List ℕ
@@ -45,4 +47,6 @@ in_five n = repeat (5 - length (decimal n)) (codes " ") ++ decimal n
 
 -- the line, and a caret under the place
 abbrev pub excerpt : Diagnostic → List ℕ
-excerpt d = in_five d.start.line ++ (codes " | " ++ (untabbed (chars d.line.now) ++ (codes "\n      | " ++ (margin d.before.now ++ codes "^\n"))))
+excerpt d =
+    in_five d.start.line ++ (codes " | " ++ (untabbed (chars d.line.now)
+    ++ (codes "\n      | " ++ (margin d.before.now ++ codes "^\n"))))

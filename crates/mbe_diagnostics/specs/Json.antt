@@ -14,7 +14,9 @@ text_json text = compact_text (string text)
 
 -- a line, and the columns of a part in it, from 1
 abbrev pub line_json : List ℕ → ℕ → ℕ → List ℕ
-line_json line start end = codes "{\"text\":" ++ (text_json line ++ (codes ",\"highlight_start\":" ++ (decimal start ++ (codes ",\"highlight_end\":" ++ (decimal end ++ codes "}")))))
+line_json line start end =
+    codes "{\"text\":" ++ (text_json line ++ (codes ",\"highlight_start\":" ++ (decimal start
+    ++ (codes ",\"highlight_end\":" ++ (decimal end ++ codes "}")))))
 
 -- where a part starts and ends, by one measure
 unfoldable pub bounds_json : List ℕ → ℕ → ℕ → List ℕ

@@ -23,7 +23,7 @@ impl Level {
     }
 }
 
-/// A byte of a file, counted from 0, by its line and its column too, which are counted from 1. A column counts characters.
+/// A byte of a file, counted from 0, and its line and column, counted from 1. A column counts characters.
 #[derive(Clone, Copy, Debug, Drop)]
 pub struct Point {
     pub byte: usize,

@@ -29,12 +29,7 @@ fn line_json(alloc: Global, line: &str, start: usize, end: usize) -> Result<Stri
 
 // Where a part starts and ends, by one measure: `byte`, `line` or `column`.
 #[tactic(auto, unfolding(crate::specs::Json::bounds_json))]
-fn bounds_json(
-    alloc: Global,
-    measure: &str,
-    start: usize,
-    end: usize,
-) -> Result<String, AllocError>
+fn bounds_json(alloc: Global, measure: &str, start: usize, end: usize) -> Result<String, AllocError>
     ensures { IfOk result (λ t. string_bytes t ≡ spec.bounds_json measure.now start end) }
 {
     format!(in alloc; "\"{measure}_start\":{start},\"{measure}_end\":{end}")

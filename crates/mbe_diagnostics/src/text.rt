@@ -1,4 +1,5 @@
-// What is said of a part of a file, for people: the place, the message, the line, and a caret under the place, as rustc writes it.
+// What is said of a part of a file, for people, as rustc writes it: the place, the message, the line, and a caret
+// under the place.
 ghost use Rattle.std.specs.Prelude.{◌≡◌, ◌++◌, IfOk, OnOk, chars, codes, false};
 ghost use Rattle.std.specs.String.{string_bytes};
 ghost use Rattle.unicode_width.specs.Width.{str_width};
@@ -98,8 +99,8 @@ fn excerpt<A: Allocator + Copy>(alloc: A, said: &Diagnostic<'_>) -> Result<Strin
     format!(in alloc; "{number} | {line}\n      | {margin}^\n")
 }
 
-/// `FILE:LINE:COL: LEVEL: MESSAGE`, the line, and a caret under the place, each in a line. Tabs are four spaces. In colour the level
-/// stands between codes of a terminal. `AllocError` if out of memory.
+/// `FILE:LINE:COL: LEVEL: MESSAGE`, the line, and a caret under the place, each in a line. Tabs are four spaces.
+/// In colour the level is between a terminal's codes. `AllocError` if out of memory.
 pub fn rendered<A: Allocator + Copy>(
     alloc: A,
     said: &Diagnostic<'_>,

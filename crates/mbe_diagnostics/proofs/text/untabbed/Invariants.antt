@@ -4,4 +4,5 @@ use Rattle.mbe_diagnostics.specs.Diagnostics as spec
 use Rattle.mbe_diagnostics.proofs.text.untabbed.Given as goal
 
 abbrev pub invariant-loop-char : goal.invariant-loop-char
-invariant-loop-char g l = string_bytes l.shown ++ spec.untabbed (drop (length l.yielded) (chars l.text)) ≡ spec.untabbed (chars l.text)
+invariant-loop-char g l =
+    string_bytes l.shown ++ spec.untabbed (drop (length l.yielded) (chars l.text)) ≡ spec.untabbed (chars l.text)
