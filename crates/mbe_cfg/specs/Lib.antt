@@ -4,4 +4,5 @@ pub mod Fronts
 pub mod Predicates
 pub mod Settings
 pub mod Shown
+pub mod Tables
 pub mod Targets

@@ -1,5 +1,5 @@
 // Attributes: whether all the `cfg`s of an item hold, also those that `cfg_attr` adds.
-ghost use Rattle.std.specs.Prelude.{◌≡◌};
+ghost use Rattle.std.specs.Prelude.{◌≡◌, true};
 ghost use Rattle.mbe_tt.specs.Trees.Tree.{flat_len};
 ghost use Rattle.mbe_tt.specs.Views.View.{trees};
 ghost use Rattle.mbe_cfg.specs.Attributes as spec;

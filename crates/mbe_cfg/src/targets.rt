@@ -1,6 +1,6 @@
 // The options of targets, which `tools/cfg-tables` compares with those that rustc prints.
 ghost use Rattle.std.specs.Prelude.{◌≡◌};
-ghost use Rattle.mbe_cfg.specs.Targets.{options};
+ghost use Rattle.mbe_cfg.specs.Targets.{rows, options};
 
 use crate::settings::Cfg;
 
@@ -19,7 +19,7 @@ pub enum Target {
     Wasm32,
 }
 
-pub const X86_64_LINUX: &[Cfg<'static>] = &[
+const X86_64_LINUX: &[Cfg<'static>] = &[
     Cfg { name: "debug_assertions", value: None },
     Cfg { name: "panic", value: Some("unwind") },
     Cfg { name: "target_abi", value: Some("") },
@@ -41,7 +41,7 @@ pub const X86_64_LINUX: &[Cfg<'static>] = &[
     Cfg { name: "unix", value: None },
 ];
 
-pub const X86_64_WINDOWS: &[Cfg<'static>] = &[
+const X86_64_WINDOWS: &[Cfg<'static>] = &[
     Cfg { name: "debug_assertions", value: None },
     Cfg { name: "panic", value: Some("unwind") },
     Cfg { name: "target_abi", value: Some("") },
@@ -66,7 +66,7 @@ pub const X86_64_WINDOWS: &[Cfg<'static>] = &[
     Cfg { name: "windows", value: None },
 ];
 
-pub const X86_64_MAC: &[Cfg<'static>] = &[
+const X86_64_MAC: &[Cfg<'static>] = &[
     Cfg { name: "debug_assertions", value: None },
     Cfg { name: "panic", value: Some("unwind") },
     Cfg { name: "target_abi", value: Some("") },
@@ -93,7 +93,7 @@ pub const X86_64_MAC: &[Cfg<'static>] = &[
     Cfg { name: "unix", value: None },
 ];
 
-pub const AARCH64_MAC: &[Cfg<'static>] = &[
+const AARCH64_MAC: &[Cfg<'static>] = &[
     Cfg { name: "debug_assertions", value: None },
     Cfg { name: "panic", value: Some("unwind") },
     Cfg { name: "target_abi", value: Some("") },
@@ -141,7 +141,7 @@ pub const AARCH64_MAC: &[Cfg<'static>] = &[
     Cfg { name: "unix", value: None },
 ];
 
-pub const WASM32: &[Cfg<'static>] = &[
+const WASM32: &[Cfg<'static>] = &[
     Cfg { name: "debug_assertions", value: None },
     Cfg { name: "panic", value: Some("abort") },
     Cfg { name: "target_abi", value: Some("") },
@@ -168,7 +168,7 @@ pub const WASM32: &[Cfg<'static>] = &[
 impl Target {
     /// The target's options.
     pub fn options(self) -> &'static [Cfg<'static>]
-        ensures { result.now ≡ options self }
+        ensures { rows result.now ≡ options self }
     {
         match self {
             Target::X86_64Linux => X86_64_LINUX,
