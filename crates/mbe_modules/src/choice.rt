@@ -9,7 +9,7 @@ pub enum Choice {
     Beside,
     /// `x/mod.rs`
     Nested,
-    /// Both are there, which is an error: rustc's E0584.
+    /// Both are there, which is an error: rustc's E0761.
     Both,
     /// None is there: rustc's E0583.
     Missing,
