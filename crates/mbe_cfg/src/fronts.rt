@@ -85,7 +85,10 @@ pub fn bracketed<'t, A: Allocator>(tokens: TokenTreesView<'t, A>) -> Option<Grou
     ensures { option_map group_shown result ≡ bracketed (trees tokens.entry) }
 {
     let after = after_char(tokens, '#')?;
-    group_at(DelimiterKind::Bracket, after_char(after, '!').unwrap_or(after))
+    group_at(
+        DelimiterKind::Bracket,
+        after_char(after, '!').unwrap_or(after),
+    )
 }
 
 /// What is after the next comma; nothing, where none follows.

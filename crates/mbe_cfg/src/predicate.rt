@@ -12,7 +12,9 @@ use crate::fault::{Fault, Wrong};
 use crate::fronts::{Group, after_char, group_at, is_empty, place};
 use crate::settings::Settings;
 use mbe_tt::span::Span;
-use mbe_tt::tt::{DelimiterKind, Ident, IdentIsRaw, Leaf, LitKind, Literal, TokenTreesView, TtElement};
+use mbe_tt::tt::{
+    DelimiterKind, Ident, IdentIsRaw, Leaf, LitKind, Literal, TokenTreesView, TtElement,
+};
 use std::alloc::{Allocator, Global};
 
 /// How deep predicates, and attributes in `cfg_attr`, may be in one another. Deeper, it is a fault.
@@ -213,7 +215,10 @@ fn named<'t, A: Allocator>(
         (ident_of name.now) (trees tokens.entry) }
 {
     if let Some(holds) = constant(name.is_raw, name.sym.as_str()) {
-        return Ok(Told { holds, rest: tokens });
+        return Ok(Told {
+            holds,
+            rest: tokens,
+        });
     }
     match group_at(DelimiterKind::Parenthesis, tokens) {
         Some(group) => listed(settings, depth, name, group),

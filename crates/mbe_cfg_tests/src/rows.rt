@@ -63,7 +63,10 @@ static HOLD: [(&str, bool); 46] = [
     ("#[cfg(any(no, unix))]", true),
     ("#[cfg(any(no, not(yes)))]", false),
     ("#[cfg(r#all(no))]", false),
-    ("#[cfg(all(any(no, mode = \"fast\"), not(all(yes, no))))]", true),
+    (
+        "#[cfg(all(any(no, mode = \"fast\"), not(all(yes, no))))]",
+        true,
+    ),
     ("#[cfg(yes)] #[inline] #[cfg(no)]", false),
     ("#![cfg(no)]", false),
     ("#[cfg_attr(yes, cfg(no))]", false),
@@ -71,7 +74,10 @@ static HOLD: [(&str, bool); 46] = [
     ("#[cfg_attr(no, cfg(nonsense(no)))]", true),
     ("#[cfg_attr(yes,)]", true),
     ("#[cfg_attr(yes, inline, cfg(no))]", false),
-    ("#[cfg_attr(yes, cfg_attr(unix, doc = \"a, b\", cfg(no)))]", false),
+    (
+        "#[cfg_attr(yes, cfg_attr(unix, doc = \"a, b\", cfg(no)))]",
+        false,
+    ),
 ];
 
 // Attributes that have a fault, the byte where it is, and what it is.

@@ -39,12 +39,7 @@ impl<A: Allocator + Copy> Place<A> {
     }
 
     /// The place of the modules in an inline module `mod name { .. }`, with the text of its `#[path]`, if it has one.
-    pub fn inside(
-        &self,
-        alloc: A,
-        name: &str,
-        path: Option<&str>,
-    ) -> Result<Place<A>, AllocError>
+    pub fn inside(&self, alloc: A, name: &str, path: Option<&str>) -> Result<Place<A>, AllocError>
         ensures { IfOk result (λ p. place_shown p
             ≡ spec.inside (place_shown self.now) name.now (option_map (λ t. t.now) path.entry)) }
     {

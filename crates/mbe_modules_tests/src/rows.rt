@@ -23,7 +23,13 @@ static ROWS: [(&str, &str, &str, &str, &str); 16] = [
     ("src", "", "", "a=/foo.rs", "/foo.rs"),
     ("src", "b", "x", "a=other.rs", "src/b/x/other.rs"),
     ("src/a", "", "x", "a=other.rs", "src/a/x/other.rs"),
-    ("src", "b", "x=thread", "a", "src/thread/a.rs src/thread/a/mod.rs"),
+    (
+        "src",
+        "b",
+        "x=thread",
+        "a",
+        "src/thread/a.rs src/thread/a/mod.rs",
+    ),
     ("src", "", "x=thread y", "a=tls.rs", "src/thread/y/tls.rs"),
 ];
 

@@ -15,8 +15,8 @@ decreases-metas g l = 3 * l.depth + 1
 
 abbrev pub invariant-metas-metas : goal.invariant-metas-metas
 invariant-metas-metas g l =
-    metas (attribute l.settings.now l.depth l.close) l.left l.all (trees l.rest)
-    ≡ metas (attribute l.settings.now l.depth l.close) (flat_len (trees l.fn.tokens)) true (trees l.fn.tokens)
+    metas (attribute l.settings l.depth l.close) l.left l.all (trees l.rest)
+    ≡ metas (attribute l.settings l.depth l.close) (flat_len (trees l.fn.tokens)) true (trees l.fn.tokens)
 
 abbrev pub decreases-metas-metas : goal.decreases-metas-metas
 decreases-metas-metas g l = l.left

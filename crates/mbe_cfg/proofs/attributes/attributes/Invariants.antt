@@ -6,8 +6,8 @@ use Rattle.mbe_cfg.proofs.attributes.attributes.Given as goal
 
 abbrev pub invariant-attributes : goal.invariant-attributes
 invariant-attributes g l =
-    attributes l.settings.now l.left l.all (trees l.rest)
-    ≡ attributes l.settings.now (flat_len (trees l.fn.tokens)) true (trees l.fn.tokens)
+    attributes l.settings l.left l.all (trees l.rest)
+    ≡ attributes l.settings (flat_len (trees l.fn.tokens)) true (trees l.fn.tokens)
 
 abbrev pub decreases-attributes : goal.decreases-attributes
 decreases-attributes g l = l.left
