@@ -1,6 +1,6 @@
 -- What is at the front of trees: signs, and groups of a kind.
 use Rattle.std.specs.Prelude.{ℕ, Bool, false, ◌==◌, if◌then◌else◌, Option, Some, None, option_map, option_and_then, unwrap_or, is_none}
-use Rattle.mbe_tt.specs.Trees.Leaf.{Leaf, literal, punct, ident}
+use Rattle.mbe_tt.specs.Trees.Leaf.{literal, punct, ident}
 use Rattle.mbe_tt.specs.Trees.Tree.{Forest, none, leaf, group, Tree, Leaf_tree, Group_tree, first, rest_of, first_span, front_punct, front_group, is_same_kind}
 use Rattle.mbe_tt.specs.declared.span.Span.{Span}
 use Rattle.mbe_tt.specs.declared.tt.DelimiterKind.{DelimiterKind}
@@ -33,13 +33,14 @@ group_at kind f =
 abbrev pub bracketed : Forest → Option Group
 bracketed f = option_and_then (λ after. group_at Bracket (unwrap_or (after_char 33 after) after)) (after_char 35 f)
 
-abbrev pub is_comma : Leaf → Bool
-is_comma (punct p) = p.char == 44
-is_comma (literal l) = false
-is_comma (ident i) = false
+abbrev pub is_comma : Tree → Bool
+is_comma (Leaf_tree (punct p)) = p.char == 44
+is_comma (Leaf_tree (literal l)) = false
+is_comma (Leaf_tree (ident i)) = false
+is_comma (Group_tree d inside) = false
 
 -- what is after the next comma; nothing, where none follows
 abbrev pub after_next_comma : Forest → Forest
 after_next_comma none = none
-after_next_comma (leaf l rest) = if is_comma l then rest else after_next_comma rest
-after_next_comma (group d inside rest) = after_next_comma rest
+after_next_comma (leaf l rest) = if is_comma (Leaf_tree l) then rest else after_next_comma rest
+after_next_comma (group d inside rest) = if is_comma (Group_tree d inside) then rest else after_next_comma rest

@@ -1,5 +1,5 @@
 // Attributes: whether all the `cfg`s of an item hold, also those that `cfg_attr` adds.
-ghost use Rattle.std.specs.Prelude.{◌≡◌, true};
+ghost use Rattle.std.specs.Prelude.{◌≡◌, ◌&&◌, true};
 ghost use Rattle.mbe_tt.specs.Trees.Tree.{flat_len};
 ghost use Rattle.mbe_tt.specs.Views.View.{trees};
 ghost use Rattle.mbe_cfg.specs.Attributes as spec;
@@ -130,6 +130,13 @@ fn attribute<A: Allocator>(
     }
 }
 
+// Both of the two.
+fn both(one: bool, other: bool) -> bool
+    ensures { result ≡ (one && other) }
+{
+    one && other
+}
+
 // Whether all of these attributes do, which commas separate.
 #[cycle(attribute)]
 fn metas<A: Allocator>(
@@ -150,7 +157,7 @@ fn metas<A: Allocator>(
             return Ok(all);
         }
         let one = attribute(settings, depth, close, rest)?;
-        all = all && one;
+        all = both(all, one);
         rest = after_next_comma(rest);
     }
     Ok(all)
@@ -174,7 +181,7 @@ pub fn attributes<'t, A: Allocator>(
             return Ok(Told { holds: all, rest });
         };
         let one = attribute(settings, DEPTH, group.close, group.inside)?;
-        all = all && one;
+        all = both(all, one);
         rest = group.rest;
     }
     Ok(Told { holds: all, rest })

@@ -1,8 +1,10 @@
 // What is at the front of trees: signs, and groups of a kind.
 ghost use Rattle.std.specs.Prelude.{◌≡◌, option_map};
 ghost use Rattle.mbe_tt.specs.Trees.Tree.{is_same_kind};
+ghost use Rattle.mbe_tt.specs.Views.Element.{element_tree};
 ghost use Rattle.mbe_tt.specs.Views.View.{trees};
-ghost use Rattle.mbe_cfg.specs.Fronts.{place, is_empty, after_char, group_at, bracketed, after_next_comma};
+ghost use Rattle.mbe_cfg.specs.Fronts.{place, is_empty, after_char, group_at, bracketed};
+ghost use Rattle.mbe_cfg.specs.Fronts.{is_comma, after_next_comma};
 ghost use Rattle.mbe_cfg.specs.Shown.{group_shown};
 
 use mbe_tt::span::Span;
@@ -91,15 +93,23 @@ pub fn bracketed<'t, A: Allocator>(tokens: TokenTreesView<'t, A>) -> Option<Grou
     )
 }
 
+// Whether a tree is a comma.
+fn is_comma<A: Allocator>(tree: &TtElement<'_, A>) -> bool
+    ensures { result ≡ is_comma (element_tree tree.now) }
+{
+    match tree {
+        TtElement::Leaf(Leaf::Punct(punct)) => punct.char == ',',
+        _ => false,
+    }
+}
+
 /// What is after the next comma; nothing, where none follows.
 pub fn after_next_comma<'t, A: Allocator>(tokens: TokenTreesView<'t, A>) -> TokenTreesView<'t, A>
     ensures { trees result ≡ after_next_comma (trees tokens.entry) }
 {
     let mut iter = tokens.iter();
     'trees: while let Some(tree) = iter.next() {
-        if let TtElement::Leaf(Leaf::Punct(punct)) = tree
-            && punct.char == ','
-        {
+        if is_comma(&tree) {
             return iter.remaining();
         }
     }

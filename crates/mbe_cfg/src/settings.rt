@@ -1,5 +1,7 @@
 // The options under which predicates hold or not.
 ghost use Rattle.std.specs.Prelude.{◌≡◌, Some, None};
+ghost use Rattle.std.specs.List.{list_any};
+ghost use Rattle.std.specs.Str.{bytes_eq};
 ghost use Rattle.mbe_cfg.specs.Settings.{is_name, is_pair, is_set};
 
 /// One option: a name, as `unix`, or a name with a value, as `target_os = "linux"`.
@@ -35,13 +37,34 @@ fn is_pair(cfg: &Cfg<'_>, name: &str, value: &str) -> bool
     }
 }
 
+// Whether one of the options is that name.
+fn any_name(cfgs: &[Cfg<'_>], name: &str) -> bool
+    ensures { result ≡ list_any (is_name name.now) cfgs.now }
+{
+    cfgs.iter().any(|c| is_name(c, name))
+}
+
+// Whether one of the options is that name with that value.
+fn any_pair(cfgs: &[Cfg<'_>], name: &str, value: &str) -> bool
+    ensures { result ≡ list_any (is_pair name.now value.now) cfgs.now }
+{
+    cfgs.iter().any(|c| is_pair(c, name, value))
+}
+
+// Whether one of the features is that.
+fn any_feature(features: &[&str], value: &str) -> bool
+    ensures { result ≡ list_any (λ f. bytes_eq value.now f.now) features.now }
+{
+    features.iter().any(|f| value == *f)
+}
+
 impl Settings<'_> {
     /// Whether the name is set: by an option without a value, or `test` where tests are compiled.
     pub fn has_name(&self, name: &str) -> bool
         ensures { result ≡ is_set self.now name.now None }
     {
-        self.target.iter().any(|c| is_name(c, name))
-            || self.given.iter().any(|c| is_name(c, name))
+        any_name(self.target, name)
+            || any_name(self.given, name)
             || (self.test && name == "test")
     }
 
@@ -49,8 +72,8 @@ impl Settings<'_> {
     pub fn has_pair(&self, name: &str, value: &str) -> bool
         ensures { result ≡ is_set self.now name.now (Some value.now) }
     {
-        self.target.iter().any(|c| is_pair(c, name, value))
-            || self.given.iter().any(|c| is_pair(c, name, value))
-            || (name == "feature" && self.features.iter().any(|f| value == *f))
+        any_pair(self.target, name, value)
+            || any_pair(self.given, name, value)
+            || (name == "feature" && any_feature(self.features, value))
     }
 }
