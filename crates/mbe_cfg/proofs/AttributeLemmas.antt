@@ -1,5 +1,6 @@
 -- Attributes one level down, and lists one attribute on.
-use Rattle.std.proofs.Common.{◌≡◌, ℕ, suc, ◌-◌, ◌<◌, Bool, true, false, ◌&&◌, Option, Some, None, Result, Ok, Err, refl, ap, sym, ◌∙◌, if◌then◌else◌}
+use Rattle.std.proofs.Common.{◌≡◌, ℕ, suc, ◌-◌, ◌<◌, Bool, true, false, ◌&&◌, if◌then◌else◌, Option, Some, None}
+use Rattle.std.proofs.Common.{Result, Ok, Err, refl, ap, sym, ◌∙◌}
 use Rattle.mbe_tt.specs.Trees.Leaf.{Ident}
 use Rattle.mbe_tt.specs.Trees.Tree.{Forest, front_ident}
 use Rattle.mbe_tt.specs.declared.span.Span.{Span}
@@ -13,7 +14,8 @@ use Rattle.mbe_cfg.specs.Predicates.{Read, tells}
 use Rattle.mbe_cfg.specs.Attributes.{all_so_far, metas, by_name, attribute, go_on, next_one, attributes}
 use Rattle.mbe_cfg.proofs.PredicateLemmas.{one_more}
 
-attribute_suc : (s : Settings) (n : ℕ) (close : Span) (f : Forest) → attribute s (suc n) close f ≡ by_name s (attribute s n) f (front_ident f)
+attribute_suc : (s : Settings) (n : ℕ) (close : Span) (f : Forest)
+    → attribute s (suc n) close f ≡ by_name s (attribute s n) f (front_ident f)
 unfolding attribute
 attribute_suc s n close f = refl
 
@@ -47,15 +49,18 @@ metas_by : (inner : Forest → Result Bool Fault) (n : ℕ) (so_far : Bool) (f :
 metas_by inner n so_far f r h e m =
     ap (all_so_far (metas inner (n - 1)) so_far f) m
     ∙ (sym (ap (λ b. if b then Ok so_far else all_so_far (metas inner (n - 1)) so_far f (inner f)) e)
-    ∙ (sym (metas_suc inner (n - 1) so_far f) ∙ sym (ap (λ k. metas inner k so_far f) (one_more n h))))
+    ∙ (sym (metas_suc inner (n - 1) so_far f)
+    ∙ sym (ap (λ k. metas inner k so_far f) (one_more n h))))
 
 -- on to the next one
-pub metas_on : (inner : Forest → Result Bool Fault) (n : ℕ) (so_far : Bool) (f : Forest) (one all : Bool) (rest : Forest)
+pub metas_on : (inner : Forest → Result Bool Fault) (n : ℕ) (so_far : Bool) (f : Forest)
+    (one all : Bool) (rest : Forest)
     → 0 < n → is_empty f ≡ false → Ok one ≡ inner f → all ≡ (so_far && one) → rest ≡ after_next_comma f
     → metas inner (n - 1) all rest ≡ metas inner n so_far f
 metas_on inner n so_far f one all rest h e m both after =
     ap (λ b. metas inner (n - 1) b rest) both
-    ∙ (ap (metas inner (n - 1) (so_far && one)) after ∙ metas_by inner n so_far f (Ok one) h e m)
+    ∙ (ap (metas inner (n - 1) (so_far && one)) after
+    ∙ metas_by inner n so_far f (Ok one) h e m)
 
 pub metas_fail : (inner : Forest → Result Bool Fault) (n : ℕ) (so_far : Bool) (f : Forest) (fault : Fault)
     → 0 < n → is_empty f ≡ false → Err fault ≡ inner f → Err fault ≡ metas inner n so_far f
@@ -68,7 +73,8 @@ metas_end inner n so_far f h e =
     sym (ap (λ b. if b then Ok so_far else all_so_far (metas inner (n - 1)) so_far f (inner f)) e)
     ∙ (sym (metas_suc inner (n - 1) so_far f) ∙ sym (ap (λ k. metas inner k so_far f) (one_more n h)))
 
-pub metas_none : (inner : Forest → Result Bool Fault) (n : ℕ) (so_far : Bool) (f : Forest) → n ≡ 0 → Ok so_far ≡ metas inner n so_far f
+pub metas_none : (inner : Forest → Result Bool Fault) (n : ℕ) (so_far : Bool) (f : Forest)
+    → n ≡ 0 → Ok so_far ≡ metas inner n so_far f
 metas_none inner n so_far f e = sym (metas_zero inner so_far f) ∙ sym (ap (λ k. metas inner k so_far f) e)
 
 attributes_suc : (s : Settings) (n : ℕ) (so_far : Bool) (f : Forest)
@@ -101,12 +107,15 @@ attributes_on s n so_far f g one all h e m both =
     ap (λ b. attributes s (n - 1) b g.rest) both ∙ attributes_with s n so_far f g (Ok one) h e m
 
 pub attributes_fail : (s : Settings) (n : ℕ) (so_far : Bool) (f : Forest) (g : Group) (fault : Fault)
-    → 0 < n → Some g ≡ bracketed f → Err fault ≡ attribute s DEPTH g.close g.inside → Err fault ≡ attributes s n so_far f
+    → 0 < n → Some g ≡ bracketed f → Err fault ≡ attribute s DEPTH g.close g.inside
+    → Err fault ≡ attributes s n so_far f
 attributes_fail s n so_far f g fault h e m = attributes_with s n so_far f g (Err fault) h e m
 
 -- after the last one
-pub attributes_end : (s : Settings) (n : ℕ) (so_far : Bool) (f : Forest) → 0 < n → None ≡ bracketed f → tells so_far f ≡ attributes s n so_far f
+pub attributes_end : (s : Settings) (n : ℕ) (so_far : Bool) (f : Forest)
+    → 0 < n → None ≡ bracketed f → tells so_far f ≡ attributes s n so_far f
 attributes_end s n so_far f h e = attributes_by s n so_far f None h e
 
-pub attributes_none : (s : Settings) (n : ℕ) (so_far : Bool) (f : Forest) → n ≡ 0 → tells so_far f ≡ attributes s n so_far f
+pub attributes_none : (s : Settings) (n : ℕ) (so_far : Bool) (f : Forest)
+    → n ≡ 0 → tells so_far f ≡ attributes s n so_far f
 attributes_none s n so_far f e = sym (attributes_zero s so_far f) ∙ sym (ap (λ k. attributes s k so_far f) e)

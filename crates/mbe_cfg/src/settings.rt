@@ -63,9 +63,7 @@ impl Settings<'_> {
     pub fn has_name(&self, name: &str) -> bool
         ensures { result ≡ is_set self.now name.now None }
     {
-        any_name(self.target, name)
-            || any_name(self.given, name)
-            || (self.test && name == "test")
+        any_name(self.target, name) || any_name(self.given, name) || (self.test && name == "test")
     }
 
     /// Whether the name is set with that value: by an option, or as a feature.

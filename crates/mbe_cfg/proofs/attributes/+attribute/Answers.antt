@@ -9,7 +9,8 @@ use Rattle.mbe_cfg.proofs.attributes.+attribute.Goals as goal
 
 pub attribute-returns-then-depth-eq0 : goal.attribute-returns-then-depth-eq0
 attribute-returns-then-depth-eq0 g t c =
-    attribute_none c.args.settings.now c.args.depth c.args.close (trees c.args.tokens) _ c.if-depth-eq0.true (search rules)
+    attribute_none c.args.settings.now c.args.depth c.args.close (trees c.args.tokens) _
+    c.if-depth-eq0.true (search rules)
 
 pub attribute-returns-in_default : goal.attribute-returns-in_default
 attribute-returns-in_default g t c =
@@ -51,23 +52,28 @@ attribute-returns-in-Other g t c =
 pub metas-returns-then-is_empty : goal.metas-returns-then-is_empty
 metas-returns-then-is_empty g t c =
     let l = c.metas in
-    metas_end (attribute c.args.settings.now c.args.depth c.args.close) l.left l.all (trees l.rest)
+    let inner = attribute c.args.settings.now c.args.depth c.args.close in
+    metas_end inner l.left l.all (trees l.rest)
     (omega arith) (sym c.if-is_empty.ensures) ∙ l.invariant
 
 pub metas-returns-in_err-one : goal.metas-returns-in_err-one
 metas-returns-in_err-one g t c =
     let l = c.metas in
+    let inner = attribute c.args.settings.now c.args.depth c.args.close in
     let p = err_from_is_err_and c.from_residual.result c.from_residual.ensures.1 in
-    rw (p.1, p.2) (metas_fail (attribute c.args.settings.now c.args.depth c.args.close) l.left l.all (trees l.rest) _
+    rw (p.1, p.2) (metas_fail inner l.left l.all (trees l.rest) _
     (omega arith) (sym c.if-is_empty.ensures) c.in_err-one.ensures ∙ l.invariant)
 
 pub metas-metas-preserved : goal.metas-metas-preserved
 metas-metas-preserved g t c =
     let l = c.metas in
-    metas_on (attribute c.args.settings.now c.args.depth c.args.close) l.left l.all (trees l.rest) _ _ _
-    (omega arith) (sym c.if-is_empty.ensures) c.in_ok-one.ensures c.both.ensures c.after_next_comma.ensures ∙ l.invariant
+    let inner = attribute c.args.settings.now c.args.depth c.args.close in
+    metas_on inner l.left l.all (trees l.rest) _ _ _
+    (omega arith) (sym c.if-is_empty.ensures) c.in_ok-one.ensures c.both.ensures c.after_next_comma.ensures
+    ∙ l.invariant
 
 pub metas-returns : goal.metas-returns
 metas-returns g t c =
     let l = c.metas in
-    metas_none (attribute c.args.settings.now c.args.depth c.args.close) l.left l.all (trees l.rest) (omega arith) ∙ l.invariant
+    let inner = attribute c.args.settings.now c.args.depth c.args.close in
+    metas_none inner l.left l.all (trees l.rest) (omega arith) ∙ l.invariant

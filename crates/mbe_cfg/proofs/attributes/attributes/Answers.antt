@@ -14,8 +14,8 @@ pub returns-in_err-one : goal.returns-in_err-one
 returns-in_err-one g c =
     let l = c.attributes in
     let p = err_from_is_err_and c.from_residual.result c.from_residual.ensures.1 in
-    rw (p.1, p.2) (attributes_fail c.args.settings.now l.left l.all (trees l.rest) (group_shown c.in-Some.group) _ (omega arith)
-    c.in-Some.ensures c.in_err-one.ensures ∙ l.invariant)
+    rw (p.1, p.2) (attributes_fail c.args.settings.now l.left l.all (trees l.rest) (group_shown c.in-Some.group) _
+    (omega arith) c.in-Some.ensures c.in_err-one.ensures ∙ l.invariant)
 
 pub attributes-preserved : goal.attributes-preserved
 attributes-preserved g c =

@@ -25,7 +25,8 @@ decreases-item g l = 5 * l.depth + 1
 abbrev pub invariant-items-items : goal.invariant-items-items
 invariant-items-items g l =
     items (predicate l.settings l.depth l.close) l.every l.close l.left l.told.holds (trees l.told.rest)
-    ≡ items (predicate l.settings l.depth l.close) l.every l.close (flat_len (trees l.fn.tokens)) l.every (trees l.fn.tokens)
+    ≡ items (predicate l.settings l.depth l.close) l.every l.close (flat_len (trees l.fn.tokens)) l.every
+    (trees l.fn.tokens)
 
 abbrev pub decreases-items-items : goal.decreases-items-items
 decreases-items-items g l = l.left
