@@ -69,7 +69,7 @@ metas-metas-preserved g t c =
     let l = c.metas in
     let inner = attribute c.args.settings.now c.args.depth c.args.close in
     metas_on inner l.left l.all (trees l.rest) _ _ _
-    (omega arith) (sym c.if-is_empty.ensures) c.in_ok-one.ensures c.both.ensures c.after_next_comma.ensures
+    (omega arith) (sym c.if-is_empty.ensures) c.in_ok-one.ensures c.both-all.ensures c.after_next_comma-rest.ensures
     ∙ l.invariant
 
 pub metas-returns : goal.metas-returns

@@ -21,7 +21,7 @@ pub attributes-preserved : goal.attributes-preserved
 attributes-preserved g c =
     let l = c.attributes in
     attributes_on c.args.settings.now l.left l.all (trees l.rest) (group_shown c.in-Some.group) _ _ (omega arith)
-    c.in-Some.ensures c.in_ok-one.ensures c.both.ensures ∙ l.invariant
+    c.in-Some.ensures c.in_ok-one.ensures c.both-all.ensures ∙ l.invariant
 
 pub returns : goal.returns
 returns g c =
