@@ -10,7 +10,7 @@ use Rattle.mbe_cfg.specs.declared.predicate.TheConstants.{DEPTH}
 use Rattle.mbe_cfg.specs.declared.settings.Settings.{Settings}
 use Rattle.mbe_cfg.specs.Faults.{fails}
 use Rattle.mbe_cfg.specs.Fronts.{Group, place, is_empty, bracketed, after_next_comma}
-use Rattle.mbe_cfg.specs.Predicates.{Read, tells}
+use Rattle.mbe_cfg.specs.Predicates.{tells}
 use Rattle.mbe_cfg.specs.Attributes.{all_so_far, metas, by_name, attribute, go_on, next_one, attributes}
 use Rattle.mbe_cfg.proofs.PredicateLemmas.{one_more}
 

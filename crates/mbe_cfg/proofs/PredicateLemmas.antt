@@ -1,6 +1,6 @@
 -- Predicates one level down, and lists one predicate on.
 use Rattle.std.proofs.Common.{◌≡◌, ℕ, suc, ◌-◌, ◌<◌, Bool, true, false, if◌then◌else◌, Option}
-use Rattle.std.proofs.Common.{Result, Ok, Err, refl, ap, sym, ◌∙◌, arith}
+use Rattle.std.proofs.Common.{Ok, Err, refl, ap, sym, ◌∙◌, arith}
 use Rattle.mbe_tt.specs.Trees.Leaf.{Ident}
 use Rattle.mbe_tt.specs.Trees.Tree.{Forest, front_ident}
 use Rattle.mbe_tt.specs.declared.span.Span.{Span}
@@ -9,7 +9,7 @@ use Rattle.mbe_cfg.specs.declared.fault.Wrong.TheVariants as w
 use Rattle.mbe_cfg.specs.declared.settings.Settings.{Settings}
 use Rattle.mbe_cfg.specs.Faults.{fails}
 use Rattle.mbe_cfg.specs.Fronts.{place, is_empty}
-use Rattle.mbe_cfg.specs.Predicates.{Read, Told, tells, by_name, go_on, item, items, predicate}
+use Rattle.mbe_cfg.specs.Predicates.{Read, tells, by_name, go_on, item, items, predicate}
 
 pub one_more : (n : ℕ) → 0 < n → n ≡ suc (n - 1)
 one_more n h = omega (arith, h)
@@ -52,7 +52,7 @@ items_by : (inner : Forest → Read) (every : Bool) (close : Span) (n : ℕ) (so
 items_by inner every close n so_far f r h e m =
     ap (go_on (items inner every close (n - 1))) m
     ∙ (sym (ap (λ b. if b then Ok so_far else go_on (items inner every close (n - 1))
-        (item inner every close so_far f)) e)
+    (item inner every close so_far f)) e)
     ∙ (sym (items_suc inner every close (n - 1) so_far f)
     ∙ sym (ap (λ k. items inner every close k so_far f) (one_more n h))))
 
@@ -73,7 +73,7 @@ pub items_end : (inner : Forest → Read) (every : Bool) (close : Span) (n : ℕ
     → 0 < n → is_empty f ≡ true → Ok so_far ≡ items inner every close n so_far f
 items_end inner every close n so_far f h e =
     sym (ap (λ b. if b then Ok so_far else go_on (items inner every close (n - 1))
-        (item inner every close so_far f)) e)
+    (item inner every close so_far f)) e)
     ∙ (sym (items_suc inner every close (n - 1) so_far f)
     ∙ sym (ap (λ k. items inner every close k so_far f) (one_more n h)))
 

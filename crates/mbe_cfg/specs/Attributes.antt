@@ -12,7 +12,7 @@ use Rattle.mbe_cfg.specs.declared.predicate.TheConstants.{DEPTH}
 use Rattle.mbe_cfg.specs.declared.settings.Settings.{Settings}
 use Rattle.mbe_cfg.specs.Faults.{fails}
 use Rattle.mbe_cfg.specs.Fronts.{Group, place, is_empty, after_char, group_at, bracketed, after_next_comma}
-use Rattle.mbe_cfg.specs.Predicates.{Read, Told, tells, predicate, holds}
+use Rattle.mbe_cfg.specs.Predicates.{Read, tells, predicate, holds}
 
 abbrev pub sort_of : List ℕ → Sort
 sort_of name = if is_text name (codes "cfg") then o.Cfg else if is_text name (codes "cfg_attr") then o.CfgAttr else o.Other

@@ -1,8 +1,7 @@
 -- When an option is set.
-use Rattle.std.specs.Prelude.{ℕ, Bool, false, ◌&&◌, ◌||◌, List, map, codes, Option, Some, None, is_none}
+use Rattle.std.specs.Prelude.{ℕ, Bool, false, ◌&&◌, ◌||◌, List, codes, Option, Some, None, is_none}
 use Rattle.std.specs.List.{list_any}
 use Rattle.std.specs.Str.{bytes_eq}
-use Rattle.mbe_tt.specs.Trees.Leaf.{is_text}
 use Rattle.mbe_cfg.specs.declared.settings.Cfg.{Cfg}
 use Rattle.mbe_cfg.specs.declared.settings.Settings.{Settings}
 

@@ -1,5 +1,5 @@
 -- What the code's values show, whatever memory holds them.
-use Rattle.std.specs.Prelude.{ℕ, List, Result, Ok, Err}
+use Rattle.std.specs.Prelude.{Result, Ok, Err}
 use Rattle.mbe_tt.specs.Trees.Tree.{Forest}
 use Rattle.mbe_tt.specs.Views.View.{trees}
 use Rattle.mbe_tt.specs.declared.view.TokenTreesView.{TokenTreesView}
@@ -7,7 +7,6 @@ use Rattle.mbe_cfg.specs.declared.fault.Fault.{Fault}
 use Rattle.mbe_cfg.specs.declared.fronts.Group.{Group}
 use Rattle.mbe_cfg.specs.declared.predicate.Told.{Told}
 use Rattle.mbe_cfg.specs.Fronts as spec
-use Rattle.mbe_cfg.specs.Predicates as read
 use Rattle.mbe_cfg.specs.Predicates.{Read}
 
 abbrev pub group_shown : {A : Type 0} → Group A → spec.Group

@@ -22,7 +22,7 @@ predicate-returns-in-Ok g t c =
     let left : 0 < n = omega (arith, some) in
     let word : Some name ≡ front_ident f = c.in-Ok.ensures.value ∙ ap front_ident c.iter-iter.ensures in
     let after : trees c.remaining.result ≡ rest_of f =
-        c.remaining.ensures ∙ (c.in-Ok.ensures.rest ∙ ap rest_of c.iter-iter.ensures) in
+    c.remaining.ensures ∙ (c.in-Ok.ensures.rest ∙ ap rest_of c.iter-iter.ensures) in
     predicate_by s n c.args.close f (Some name) _ left word
     (c.named.ensures ∙ ap (named s (predicate s (n - 1)) c.args.close name) after)
 
