@@ -118,9 +118,17 @@ def convert(given: Input, form: str = "tokens", edition: int = 2024, dialect: st
     return Trees(tuple(tokens[:reply.tokens]), text.raw[:reply.text])
 
 
+def _lexed_definition(text: Input, edition: int, dialect: str) -> Trees:
+    """The flat tokens of a definition's text, each in file 0; `convert` lexes a text as file 1."""
+    trees = convert(text, "tokens", edition, dialect)
+    for token in trees.tokens:
+        token.span.file = 0
+    return trees
+
+
 class Macro:
-    """A definition: the rules of a `macro_rules!`. `grammar` is `sample`, `rust`, or the text of one. Without `check` it is first
-    read in a call."""
+    """A definition: the rules of a `macro_rules!`, lexed once and kept as flat tokens, of which each call reads its rules. `grammar`
+    is `sample`, `rust`, or the text of one. Without `check` it is kept as it is given, and first read in a call."""
 
     def __init__(self, definition: Input, edition: int = 2024, dialect: str = "sample", grammar: str = "sample",
                  check: bool = True) -> None:
@@ -135,6 +143,9 @@ class Macro:
             request = _Request(**self._request)
             reply, _ = _call(_LIB.mbe_c_define, [ctypes.byref(request), *self._definition], [ctypes.c_char])
             self.rules = reply.place
+            if not is_flat:
+                _, self._definition = _given(_lexed_definition(definition, edition, dialect))
+                self._request["definition_is_flat"] = 1
 
     def _asked(self, argument: Input, **more: object) -> list:
         is_flat, parts = _given(argument)

@@ -188,7 +188,15 @@ fn trees_of(reply: Reply, mut out: Buffers) -> Trees {
     Trees { tokens: out.tokens, text: out.text }
 }
 
-/// A definition that is one, by `Macro::new`, and what it is called with.
+// The flat tokens of a definition's text, each in file 0; `convert` lexes a text as file 1.
+fn lexed_definition(text: Input<'_>, edition: Edition, dialect: Dialect) -> Result<Trees, Error> {
+    let mut trees = convert(text, edition, dialect, Form::Tokens)?;
+    for token in &mut trees.tokens { token.span.file = 0; }
+    Ok(trees)
+}
+
+/// A definition that is one, by `Macro::new`, lexed once and kept as flat tokens, and what it is called with. Each call reads its
+/// rules from these tokens.
 #[derive(Clone, Debug)]
 pub struct Macro<'a> { definition: Trees, request: Request, grammar: &'a str, rules: usize }
 
@@ -198,15 +206,16 @@ impl<'a> Macro<'a> {
         let (number, grammar) = match grammar { Grammar::Sample => (0, ""), Grammar::Rust => (1, ""), Grammar::Text(text) => (2, text) };
         let mut request = Request { edition: year(edition), dialect: u32::from(dialect == Dialect::Rust), grammar: number, ..Request::default() };
         if number == 2 { check_grammar(grammar)?; }
+        let (given, is_flat) = bytes(definition);
+        request.definition_is_flat = is_flat;
+        let mut out = buffers();
+        let reply = with_room(&mut out, |out| sys::define(&request, given, out));
+        if reply.status != 0 { return Err(error_of(reply, &out)); }
         let definition = match definition {
             Input::Flat(trees) => trees.clone(),
-            // A definition is file 0, and what `convert` lexes is file 1, so a text is given once more as it is.
-            Input::Text(text) => Trees { tokens: Vec::new(), text: text.to_vec() },
+            Input::Text(_) => lexed_definition(definition, edition, dialect)?,
         };
-        request.definition_is_flat = u32::from(!definition.tokens.is_empty());
-        let mut out = buffers();
-        let reply = with_room(&mut out, |out| sys::define(&request, Bytes { text: &definition.text, tokens: &definition.tokens }, out));
-        if reply.status != 0 { return Err(error_of(reply, &out)); }
+        request.definition_is_flat = 1;
         Ok(Macro { definition, request, grammar, rules: reply.place })
     }
 

@@ -1,7 +1,7 @@
 //! The crate's calls, in safe code.
 #![forbid(unsafe_code)]
 
-use mbe_rs::{Dialect, Edition, Form, Grammar, Input, Macro, Reading, Span, Status, check_grammar, convert, version};
+use mbe_rs::{Dialect, Edition, Form, Grammar, Input, Macro, Part, Reading, Span, Status, Trees, check_grammar, convert, version};
 
 const ROWS: &[(&str, &str, &str, u32)] = &[
     ("($x:ident) => {$x $x}", "a", "a a", 0),
@@ -57,6 +57,18 @@ fn flat() {
     assert_eq!(convert(Input::Flat(&astray), Edition::E2024, Dialect::Sample, Form::Lines).unwrap_err().status, Status::NoTrees);
     let expanded = sample("($($x:tt)*) => {$($x)*}").expand(Input::Flat(&trees), Form::Rust, Span::default()).expect("an expansion");
     assert_eq!(String::from_utf8_lossy(&expanded.trees.text), "a(1u8 +)");
+}
+
+#[test]
+fn definitions_are_lexed_once() {
+    let from_text = sample("(a) => {b c}");
+    let found = from_text.expand(Input::Text(b"a"), Form::Tokens, Span::default()).expect("an expansion");
+    let spans: Vec<_> = found.trees.leaves().map(|(token, _)| (token.span.file, token.span.start, token.span.end)).collect();
+    assert_eq!(spans, [(0, 8, 9), (0, 10, 11)]);
+    let unlexed = Macro::new(Input::Text(b"() => {"), Edition::E2024, Dialect::Rust, Grammar::Rust).unwrap_err();
+    assert_eq!((unlexed.status, unlexed.part), (Status::NoTokens, Part::Definition));
+    let empty = Macro::new(Input::Flat(&Trees::default()), Edition::E2024, Dialect::Sample, Grammar::Sample).unwrap_err();
+    assert_eq!((empty.status, empty.part), (Status::NoTrees, Part::Definition));
 }
 
 #[test]
