@@ -20,3 +20,4 @@ pub mod LastWalk
 pub mod EndsPass
 pub mod WantedLemmas
 pub mod Looking
+pub mod Starts

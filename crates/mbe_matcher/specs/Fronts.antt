@@ -1,11 +1,16 @@
 -- What is in front of an iterator.
-use Rattle.std.specs.Prelude.{◌≡◌, ℕ, Bool, true, false, List, Option, Some, None}
+use Rattle.std.specs.Prelude.{◌≡◌, ℕ, Bool, true, false, ◌&&◌, not, is_some, List, Option, Some, None}
 use Rattle.std.specs.Str.{bytes_eq}
 use Rattle.mbe_tt.specs.Trees.Leaf.{Leaf, ident, literal, punct}
 use Rattle.mbe_tt.specs.Trees.Tree.{Forest, flat_len, append, Cut}
-use Rattle.mbe_semantics.specs.Syntax.Op.{Op, token}
+use Rattle.mbe_semantics.specs.Syntax.Op.{Op, token, group, variable, repetition, expression, Ops, no_ops, op}
 use Rattle.mbe_semantics.specs.Readings.Fit.{token_front}
-use Rattle.mbe_semantics.specs.Readings.Input.{length_of}
+use Rattle.mbe_semantics.specs.Readings.Input.{length_of, is_opening}
+use Rattle.mbe_semantics.specs.Fragments.Takes.{takes}
+use Rattle.mbe_tt.specs.Fragments.Grammar.{Grammar}
+use Rattle.mbe_tt.specs.declared.span.DelimSpan.{DelimSpan}
+use Rattle.mbe_semantics.specs.Expansion.Error.{ExpandError}
+use Rattle.mbe_semantics.specs.Expansion.Failing.{failing}
 use Rattle.mbe_semantics.specs.declared.kinds.RepeatKind.{RepeatKind}
 use Rattle.mbe_semantics.specs.declared.kinds.RepeatKind.TheVariants.{ZeroOrMore, OneOrMore, ZeroOrOne}
 
@@ -36,3 +41,38 @@ HasPassed true (Some c) left = left ≡ c.back
 HasPassed true None left = ⊥
 HasPassed false None left = Unit {0}
 HasPassed false (Some c) left = ⊥
+
+-- the op fits no trees that begin so
+abbrev pub IsUnlike : Grammar → Op → Forest → Type 0
+IsUnlike g (token t) f = token_front t f ≡ None
+IsUnlike g (variable name kind span) f = takes g kind f ≡ None
+IsUnlike g (group d b) f = is_opening d.kind f ≡ false
+IsUnlike g (repetition b s k) f = ⊥
+IsUnlike g (expression e) f = ⊥
+
+-- nor does the first of the ops
+abbrev pub BeginsUnlike : Grammar → Ops → Forest → Type 0
+BeginsUnlike g no_ops f = ⊥
+BeginsUnlike g (op o rest) f = IsUnlike g o f
+
+-- it is a token
+abbrev pub is_token : Op → Bool
+is_token (token t) = true
+is_token (variable name kind span) = false
+is_token (group d b) = false
+is_token (repetition b s k) = false
+is_token (expression e) = false
+
+-- a token that isn't in front
+abbrev pub is_other : Op → Forest → Bool
+is_other o f = is_token o && not (is_some (op_width o f))
+
+-- the pattern begins with a token with which the argument doesn't begin
+abbrev pub begins_otherwise : Ops → Forest → Bool
+begins_otherwise no_ops f = false
+begins_otherwise (op o rest) f = is_other o f
+
+-- the error of the first op, where it doesn't fit
+abbrev pub failing_first : Grammar → Ops → Forest → DelimSpan → Option ExpandError
+failing_first g no_ops f around = None
+failing_first g (op o rest) f around = failing g o f around

@@ -122,7 +122,9 @@ fn is_refused_word<A: Allocator>(kind: ExprKind, ident: &Ident<A>) -> bool
 
 // An identifier other than `_`.
 #[inline(always)]
-fn eat_any_ident<'a, A: Allocator>(src: &mut TtIter<'a, A>) -> Option<TokenTreesView<'a, A>>
+pub(crate) fn eat_any_ident<'a, A: Allocator>(
+    src: &mut TtIter<'a, A>,
+) -> Option<TokenTreesView<'a, A>>
     ensures { IsTaken result (ident_front src.old) src.new }
 {
     let savepoint = src.savepoint();
@@ -133,7 +135,9 @@ fn eat_any_ident<'a, A: Allocator>(src: &mut TtIter<'a, A>) -> Option<TokenTrees
 }
 
 // `'`, and an identifier or `_`.
-fn eat_lifetime<'a, A: Allocator>(src: &mut TtIter<'a, A>) -> Option<TokenTreesView<'a, A>>
+pub(crate) fn eat_lifetime<'a, A: Allocator>(
+    src: &mut TtIter<'a, A>,
+) -> Option<TokenTreesView<'a, A>>
     ensures { IsTaken result (lifetime_front src.old) src.new }
 {
     let savepoint = src.savepoint();
@@ -145,7 +149,9 @@ fn eat_lifetime<'a, A: Allocator>(src: &mut TtIter<'a, A>) -> Option<TokenTreesV
 }
 
 // A literal, `true` or `false`, with a `-` in front or without.
-fn eat_signed_literal<'a, A: Allocator>(src: &mut TtIter<'a, A>) -> Option<TokenTreesView<'a, A>>
+pub(crate) fn eat_signed_literal<'a, A: Allocator>(
+    src: &mut TtIter<'a, A>,
+) -> Option<TokenTreesView<'a, A>>
     ensures { IsTaken result (literal_front src.old) src.new }
 {
     let savepoint = src.savepoint();

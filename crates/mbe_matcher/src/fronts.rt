@@ -18,7 +18,7 @@ use std::alloc::Allocator;
 
 // An iterator at the same place.
 #[inline(always)]
-fn fork<'a, A: Allocator>(src: &TtIter<'a, A>) -> TtIter<'a, A>
+pub(crate) fn fork<'a, A: Allocator>(src: &TtIter<'a, A>) -> TtIter<'a, A>
     ensures { result ≡ src.now }
 {
     src.remaining().iter()

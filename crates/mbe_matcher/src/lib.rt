@@ -15,5 +15,6 @@ mod report;
 mod settle;
 mod skipping;
 mod source;
+pub mod start;
 mod steps;
 pub mod wanting;

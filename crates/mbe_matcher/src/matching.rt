@@ -46,7 +46,8 @@ ghost use Rattle.mbe_matcher.specs.Matched.{verdict_seen, verdict_in, Binds};
 ghost use Rattle.mbe_matcher.specs.Reports.{IsReport, IsFullReport, IsReportIn, IsReported};
 
 use crate::ends::report_up_to;
-use crate::places::{Reached, Stop, reach};
+use crate::places::{Reached, Stop};
+use crate::start::reach;
 use mbe_errors::error::ExpandError;
 use mbe_log::log::{BindingLog, Handle, again};
 use mbe_ops::ops::MetaTemplate;

@@ -164,7 +164,7 @@ pub(crate) fn at_start<'a, A: Allocator + Copy>(
 }
 
 // Follows the pattern's positions from place to place, as far as they go.
-pub(crate) fn reach<'a, A: Allocator + Copy, G: FragmentGrammar>(
+pub(crate) fn follow<'a, A: Allocator + Copy, G: FragmentGrammar>(
     alloc: A,
     grammar: &G,
     pattern: &'a MetaTemplate<A>,

@@ -14,7 +14,7 @@ use Rattle.mbe_matcher.specs.Positions.{Each, Shows}
 use Rattle.mbe_matcher.specs.Failures.{Notes}
 use Rattle.mbe_matcher.specs.Reports.{IsReportOf}
 use Rattle.mbe_matcher.proofs.Whole.{WholeWith}
-use Rattle.mbe_matcher.proofs.places.reach.Given as goal
+use Rattle.mbe_matcher.proofs.places.follow.Given as goal
 
 abbrev pub invariant-loop-source : goal.invariant-loop-source
 invariant-loop-source g l = record {

@@ -21,7 +21,7 @@ use Rattle.mbe_matcher.specs.Reports.{IsReportOf, IsReportIn}
 use Rattle.mbe_matcher.specs.Matched.{position_after, stop_at, verdict_in, reading_in, Binds}
 use Rattle.mbe_matcher.proofs.MatchEnds.{right_stop, stop_place, binds_stop, next, come_first, stack_of, shown_after}
 use Rattle.mbe_matcher.proofs.Whole.{WholeWith, whole_sound, whole_notes, whole_after}
-use Rattle.mbe_matcher.proofs.places.reach.Goals as goal
+use Rattle.mbe_matcher.proofs.places.follow.Goals as goal
 
 pub at_start-requires : goal.at_start-requires
 at_start-requires g c =
