@@ -1,14 +1,18 @@
 -- Files one after another: what they are, and what they become.
-use Rattle.std.proofs.Common.{◌≡◌, ◌<◌, ◌+◌, ℕ, List, [], ◌∷◌, ◌++◌, length, map, take, get_or, Option, Result, Ok, Err, true, false, ap, sym, ◌∙◌, subst}
+use Rattle.std.proofs.Common.{◌≡◌, ◌<◌, ◌+◌, ◌-◌, ℕ, suc, List, [], ◌∷◌, ◌++◌, length, map, take, get_or, Option, Some, None, Result, Ok, Err, true, false, inl, inr, refl, ap, sym, ◌∙◌, subst, arith}
 use Rattle.std.specs.Prelude.{IfOk}
-use Rattle.std.proofs.lemmas.List.{length-map, map-append, take_more}
+use Rattle.std.specs.List.{slice_get}
+use Rattle.std.proofs.lemmas.Grind.{common_steps}
+use Rattle.std.proofs.lemmas.Option.{slice_get-get_or}
+use Rattle.std.proofs.lemmas.List.{length-append, length-map, map-append, take_more}
 use Rattle.mbe_calls.specs.Splicing.{Part}
 use Rattle.mbe_tt.specs.Trees.Tree.{Forest}
 use Rattle.mbe_expanding.specs.Replacing.{PartsOfFile}
 use Rattle.mbe_expanding.specs.Calls.{Setting, State}
 use Rattle.mbe_expandm.specs.declared.places.Position.{Position}
 use Rattle.mbe_expandm.specs.Expansions as spec
-use Rattle.mbe_expandm.specs.Expansions.{FileBecomes, FilesBecome, IsCallExpanded, IsThere, TextsThere}
+use Rattle.mbe_expandm.specs.Expansions.{FileBecomes, FilesBecome, IfLast, IsCallExpanded, IsThere, TextsThere, WritesOne}
+use Rattle.mbe_expandm.specs.Runs.{IsBegun, IsPrinted}
 use Rattle.mbe_expandm.specs.Returns.{plain}
 use Rattle.mbe_expandm.specs.Sources as sources
 use Rattle.mbe_expandm.specs.Sources.{AreSources, IsSource, Source}
@@ -92,10 +96,55 @@ pub last_of : {X : Type 0} (x : X) (xs : List X) → (before : List X) × (last 
 last_of x [] = ([], x, refl)
 last_of x (y ∷ ys) = let found = last_of y ys in (x ∷ found.0, found.1, ap (λ zs. x ∷ zs) found.2)
 
+abbrev tail : {X : Type 0} → List X → List X
+tail [] = []
+tail (x ∷ xs) = xs
+
+abbrev front : {X : Type 0} → X → List X → X
+front d [] = d
+front d (x ∷ xs) = x
+
+abbrev got : {X : Type 0} → X → Option X → X
+got d None = d
+got d (Some x) = x
+
 pub is_last : {X Y : Type 0} (see : X → Y) (items : List X) (item : X) (before : List Y) (last : Y) → slice_get items (length items - 1) ≡ Some item
     → map see items ≡ before ++ last ∷ [] → see item ≡ last
-is_last see [] item before last get is = grind (arith, common_steps)
-is_last see (x ∷ []) item [] last get is = grind (arith, common_steps)
-is_last see (x ∷ []) item (b ∷ bs) last get is = grind (arith, common_steps)
-is_last see (x ∷ y ∷ ys) item [] last get is = grind (arith, common_steps)
-is_last see (x ∷ y ∷ ys) item (b ∷ bs) last get is = is_last see (y ∷ ys) item bs last get (ap tail is)
+is_last see [] item [] last get is = absurd (omega (arith, ap length is))
+is_last see [] item (b ∷ bs) last get is = absurd (omega (arith, ap length is))
+is_last see (x ∷ []) item [] last get is = ap see (sym (ap (got x) get)) ∙ ap (front (see x)) is
+is_last see (x ∷ []) item (b ∷ bs) last get is = absurd (omega (arith, ap length is, length-append bs (last ∷ [])))
+is_last see (x ∷ y ∷ ys) item [] last get is = absurd (omega (arith, ap length is))
+is_last see (x ∷ y ∷ ys) item (b ∷ bs) last get is =
+    let e : suc (length (y ∷ ys) - 1) ≡ length (x ∷ y ∷ ys) - 1 = omega arith in
+    is_last see (y ∷ ys) item bs last (ap (slice_get (x ∷ y ∷ ys)) e ∙ get) (ap tail is)
+
+pub no_last : {X Y : Type 0} (see : X → Y) (items : List X) (before : List Y) (last : Y) → slice_get items (length items - 1) ≡ None
+    → map see items ≡ before ++ last ∷ [] → ⊥
+no_last see [] before last get is = absurd (omega (arith, ap length is, length-append before (last ∷ [])))
+no_last see (x ∷ xs) before last get is =
+    let within : length (x ∷ xs) - 1 < length (x ∷ xs) = omega arith in
+    some_is_none (sym (slice_get-get_or (x ∷ xs) (length (x ∷ xs) - 1) x within) ∙ get)
+  where
+    some_is_none : {X : Type 0} {x : X} → Some x ≡ None → ⊥
+    some_is_none e = grind (arith, common_steps)
+
+pub printed : {T E : Type 0} (edition : Edition) (depth : Option ℕ) (fuel : ℕ) (call : Option Position) (texts : List (List ℕ)) (files : List Source)
+    (e : Setting) (s t : State) (before after : Option (List ℕ)) (r : Result T E) → IsBegun edition depth fuel texts files e s → 0 < length texts
+    → IfLast files (λ file. WritesOne before after r (λ out. FileBecomes e 1000 call file s out t))
+    → WritesOne before after r (IsPrinted edition depth fuel call texts)
+printed edition depth fuel call texts [] e s t before after r begun some last = absurd (omega (arith, some, ap length begun.texts_are))
+printed edition depth fuel call texts (file ∷ files) e s t before after r begun some last =
+    let split = last_of file files in
+    elim (last split.0 split.1 split.2) [
+      | inl none ↦ inl none
+      | inr one ↦ inr (one.0, record {
+        before = split.0;
+        last = split.1;
+        setting = e;
+        start = s;
+        end = t;
+        begins = subst (λ fs. IsBegun edition depth fuel texts fs e s) split.2 begun;
+        becomes = one.1;
+      }, one.2)
+    ]

@@ -1,5 +1,5 @@
 -- Files read one after another, and what a writer took.
-use Rattle.std.proofs.Common.{◌≡◌, ◌<◌, ℕ, zero, suc, List, [], ◌∷◌, length, map, take, false, Option, Result, Ok, Err, inr, refl, ap, ◌∙◌, sym, subst, arith, ◌+◌}
+use Rattle.std.proofs.Common.{◌≡◌, ◌<◌, ℕ, zero, suc, List, [], ◌∷◌, length, map, take, Option, Result, Ok, Err, inr, refl, ap, ◌∙◌, sym, subst, arith, ◌+◌}
 use Rattle.std.specs.Prelude.{get_or, IfOk}
 use Rattle.std.specs.List.{All}
 use Rattle.mbe_tt.specs.declared.span.Edition.{Edition}
@@ -10,7 +10,6 @@ use Rattle.mbe_calls.specs.Splicing.{Part, spliced}
 use Rattle.mbe_expanding.specs.Calls.{Setting, State}
 use Rattle.mbe_expanding.specs.Replacing.{IsOfCall, PartsOfFile}
 use Rattle.mbe_expandm.specs.Returns.{placed_part, returns}
-use Rattle.mbe_expanding.specs.Defining.{Defines}
 use Rattle.mbe_expanding.specs.Scopes.{Scope}
 use Rattle.mbe_expandm.specs.Expansions.{DefinesFile, DefinesFiles, IsFileExpanded, WritesOne}
 

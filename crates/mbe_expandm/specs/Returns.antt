@@ -1,5 +1,5 @@
 -- Carriage returns: a text with those taken out that stand before line feeds, and the places of its bytes in the text itself.
-use Rattle.std.specs.Prelude.{◌≡◌, ◌≤◌, ◌<◌, ◌+◌, ◌-◌, ◌^◌, ◌==◌, ◌&&◌, min, nat_lt, ℕ, Bool, false, List, [], ◌∷◌, length, count_by, if◌then◌else◌}
+use Rattle.std.specs.Prelude.{◌≤◌, ◌<◌, ◌+◌, ◌-◌, ◌^◌, ◌==◌, ◌&&◌, min, nat_lt, ℕ, Bool, false, List, [], ◌∷◌, length, count_by, if◌then◌else◌}
 use Rattle.std.specs.List.{slice_index}
 use Rattle.mbe_calls.specs.Splicing.{Part}
 use Rattle.mbe_expandm.specs.Places.{is_feed}

@@ -4,7 +4,7 @@ ghost use Rattle.std.specs.String.{string_bytes};
 ghost use Rattle.mbe_expanding.specs.Replacing.{NoneCalled};
 ghost use Rattle.mbe_expanding.specs.Shown.{setting_of, state_of};
 ghost use Rattle.mbe_calls.specs.Replacements.{part_of};
-ghost use Rattle.mbe_expandm.specs.Expansions.{DefinesFile, DefinesFiles, FileBecomes, FilesBecome};
+ghost use Rattle.mbe_expandm.specs.Expansions.{DefinesFile, DefinesFiles, FileBecomes, FilesBecome, IfLast};
 ghost use Rattle.mbe_expandm.specs.Expansions.{IsCallExpanded, IsFileExpanded, TextsThere, WritesOne};
 ghost use Rattle.mbe_expandm.specs.ShownFiles.{source_of};
 
@@ -64,6 +64,25 @@ pub fn write_expanded<W: Write>(
 {
     let text = expanded(alloc, call, expander, file)?;
     write_whole(text.as_bytes(), out)
+}
+
+/// Writes what the last of the files becomes, as `write_expanded` does; without files it writes nothing.
+pub fn write_last<W: Write>(
+    alloc: Global,
+    call: Option<Position>,
+    expander: &mut Expander<'_>,
+    files: &[SourceFile<'_>],
+    out: &mut W,
+) -> io::Result<()>
+    ensures { IfLast (map source_of files.now) (λ file.
+        WritesOne (W.contents out.old) (W.contents out.new) result (λ s.
+        FileBecomes (setting_of expander.old) LEVELS call file (state_of expander.old) s
+        (state_of expander.new))) }
+{
+    match files.last() {
+        Some(file) => write_expanded(alloc, call, expander, file, out),
+        None => Ok(()),
+    }
 }
 
 /// A file's text with its calls expanded, or only what the calls at that position become. A text that isn't Rust stays as it is.

@@ -3,18 +3,17 @@ ghost use Rattle.std.specs.Prelude.{◌≡◌, ◌<◌, ◌||◌, IfOk, OnErr, l
 ghost use Rattle.std.specs.List.{list_any};
 ghost use Rattle.std.specs.String.{string_bytes};
 ghost use Rattle.mbe_expanding.specs.Shown.{setting_of, state_of};
-ghost use Rattle.mbe_expandm.specs.Expansions.{FileBecomes, IfLast, WritesOne};
+ghost use Rattle.mbe_expandm.specs.Expansions.{WritesOne};
 ghost use Rattle.mbe_expandm.specs.Runs.{AreWritten, IsBegun, IsPrinted};
 ghost use Rattle.mbe_expandm.specs.ShownFiles.{source_of, sources_of, text_of};
 ghost use Rattle.mbe_expandm.specs.Sources.{AreSources};
 ghost use Rattle.mbe_expandm.specs.Statuses.{is_error, status_of};
 
 use crate::arguments::Options;
-use crate::expansions::{all_expanded, define_files, write_expanded};
+use crate::expansions::{all_expanded, define_files, write_last};
 use crate::files::{SourceFile, source_file};
 use crate::limits::recursion_limit;
-use crate::places::Position;
-use mbe_expanding::expander::{Expander, LEVELS};
+use mbe_expanding::expander::Expander;
 use mbe_expanding::notes::{Level, Note};
 use mbe_rust::fragments::rust_rules;
 use mbe_text::symbols::SymbolTable;
@@ -112,26 +111,6 @@ impl<'f> Session<'f> {
         })
     }
 
-    /// Writes what the last of the files becomes. If a write fails, what was written is a prefix of it; if there is no memory
-    /// for it, nothing is written. Without files it writes nothing.
-    pub fn print<W: Write>(
-        &mut self,
-        alloc: Global,
-        call: Option<Position>,
-        out: &mut W,
-    ) -> io::Result<()>
-        ensures { IfLast (sources_of self.old) (λ file.
-            WritesOne (W.contents out.old) (W.contents out.new) result (λ s.
-            FileBecomes (setting_of self.old.expander) LEVELS call file
-            (state_of self.old.expander) s (state_of self.new.expander))) }
-    {
-        let session = self;
-        match session.files.last() {
-            Some(file) => write_expanded(alloc, call, &mut session.expander, file, out),
-            None => Ok(()),
-        }
-    }
-
     /// The exit status of a run that did or didn't write what it had to.
     pub fn status(&self, is_written: bool) -> u8
         ensures { result ≡ status_of is_written (list_any is_error self.now.notes.items
@@ -160,7 +139,8 @@ pub fn print<'f, 'w, W: Write>(
         (map text_of texts.now))) }
 {
     let mut session = Session::begin(alloc, options, texts)?;
-    let written = session.print(alloc, options.call, out);
+    let of = &mut session;
+    let written = write_last(alloc, options.call, &mut of.expander, &of.files, out);
     Ok((session, written))
 }
 

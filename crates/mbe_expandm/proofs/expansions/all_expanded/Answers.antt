@@ -1,4 +1,4 @@
-use Rattle.std.proofs.Common.{refl, sym, ap, ◌∙◌}
+use Rattle.std.proofs.Common.{refl, sym, ◌∙◌}
 use Rattle.std.specs.String.{string_bytes}
 use Rattle.mbe_expanding.specs.Shown.{setting_of, state_of}
 use Rattle.mbe_expandm.specs.ShownFiles.{source_of}

@@ -1,4 +1,4 @@
-use Rattle.std.proofs.Common.{rules, ◌≡◌, ◌∙◌, ap, sym, subst, map, List, ℕ}
+use Rattle.std.proofs.Common.{rules, ◌≡◌, ◌∙◌, ap, subst, map, List, ℕ}
 use Rattle.std.specs.String.{string_bytes}
 use Rattle.std.specs.List.{All}
 use Rattle.mbe_tt.specs.Trees.Tree.{Forest}
