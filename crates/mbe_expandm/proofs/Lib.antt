@@ -1,3 +1,5 @@
 mod FeedLemmas
 mod PlaceLemmas
+mod ReturnLemmas
+mod SessionLemmas
 mod WriteLemmas

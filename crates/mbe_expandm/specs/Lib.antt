@@ -1,5 +1,9 @@
+pub mod Places
+pub mod Returns
+pub mod Sources
 pub mod Expansions
+pub mod Runs
 pub mod Words
 pub mod Statuses
-pub mod Places
 pub mod Shown
+pub mod ShownFiles

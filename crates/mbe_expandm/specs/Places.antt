@@ -1,18 +1,10 @@
 -- Lines and columns of a text's bytes.
 use Rattle.std.specs.Prelude.{zero, suc, get_or, ◌≡◌, ◌≢◌, ◌⊎◌, ◌≤◌, ◌<◌, ◌+◌, ◌-◌, ◌==◌, nat_lt, ℕ, Bool, not, ◌||◌, List, [], ◌∷◌, length, take, count_by, if◌then◌else◌}
-use Rattle.std.specs.List.{list_any, slice_index, slice_range}
+use Rattle.std.specs.List.{slice_index, slice_range}
 
 -- a line feed
 abbrev pub is_feed : ℕ → Bool
 is_feed byte = byte == 10
-
--- a carriage return
-abbrev pub is_return : ℕ → Bool
-is_return byte = byte == 13
-
--- whether there is one
-abbrev pub has_returns : List ℕ → Bool
-has_returns text = list_any is_return text
 
 -- a byte that begins a character
 abbrev pub begins_character : ℕ → Bool

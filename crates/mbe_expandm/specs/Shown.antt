@@ -1,4 +1,4 @@
--- What lines show.
+-- What lines show, whatever memory holds them.
 use Rattle.std.specs.Prelude.{ℕ, List}
 use Rattle.mbe_expandm.specs.declared.lines.Lines.{Lines}
 

@@ -1,40 +1,13 @@
-// A run of the program.
-ghost use Rattle.std.specs.Prelude.{◌≡◌};
-ghost use Rattle.mbe_expandm.specs.Statuses.{status_of};
-
+// A run of the program: its words, its files, its standard output and error.
 use crate::arguments::{Asked, Options, USAGE, VERSION, read_words};
-use crate::expansions::{define_files, expanded, write_expanded};
-use crate::files::{SourceFile, source_file};
-use crate::limits::recursion_limit;
+use crate::files::SourceFile;
 use crate::messages::message;
 use crate::places::NOWHERE;
-use mbe_expanding::expander::Expander;
-use mbe_expanding::notes::{Level, Note};
-use mbe_rust::fragments::rust_rules;
-use mbe_text::symbols::SymbolTable;
+use crate::sessions::{DONE, Named, Session, WRONG, print, write};
+use mbe_expanding::notes::Note;
 use std::io::{self, Read};
 use std::rt::{Env, Files};
 use std::{env, fs};
-
-/// All known calls are expanded.
-pub const DONE: u8 = 0;
-
-/// Some call isn't expanded, or some definition or file is refused.
-pub const ERRORS: u8 = 1;
-
-/// Words or files that aren't right.
-pub const WRONG: u8 = 2;
-
-// The status of a run that did or didn't write what it had to, with errors or without.
-fn status(is_written: bool, has_errors: bool) -> u8
-    ensures { result ≡ status_of is_written has_errors }
-{
-    match is_written {
-        false => WRONG,
-        true if has_errors => ERRORS,
-        true => DONE,
-    }
-}
 
 /// Runs on the words after the program's name, and returns the exit status.
 pub fn run_command<R: Env + Files + Input + Print + Eprint + AllocGlobal>(rt: &R) -> u8 {
@@ -97,96 +70,83 @@ fn run_files<R: Files + Input + Print + Eprint + AllocGlobal>(
     let mut texts = Vec::new(rt.alloc());
     for name in &options.names {
         match text_of(rt, *name) {
-            Ok(text) => texts.push(text)?,
+            Ok(text) => texts.push(Named { name: *name, text })?,
             Err(error) => {
                 eprintln!(rt; "error: couldn't read `{name}`: {error}")?;
                 return Ok(WRONG);
             }
         }
     }
-    expand(rt, options, texts.as_slice())
-}
-
-fn expand<R: Files + Print + Eprint + AllocGlobal>(
-    rt: &R,
-    options: &Options<'_>,
-    texts: &[String],
-) -> io::Result<u8> {
-    let alloc = rt.alloc();
-    let mut symbols = SymbolTable::new(alloc);
-    let mut files = Vec::new(alloc);
-    let mut notes = Vec::new(alloc);
-    for (number, text) in texts.iter().enumerate() {
-        let name = options.names.get(number).copied().unwrap_or("");
-        let number = u32::try_from(number).unwrap_or(u32::MAX);
-        let edition = options.edition;
-        let text = text.as_str();
-        let file = source_file(alloc, &mut symbols, &mut notes, edition, name, text, number)?;
-        files.push(file)?;
+    match options.write {
+        None => {
+            let out = &mut io::writer(rt);
+            let (session, written) = print(rt.alloc(), options, texts.as_slice(), out)?;
+            written?;
+            ended(rt, &session, true)
+        }
+        Some(folder) => write_files(rt, options, texts.as_slice(), folder),
     }
-    let grammar = rust_rules(options.edition, &[]);
-    let settings = options.settings(limit_of(&files));
-    let mut expander = Expander::new(alloc, grammar, settings);
-    define_files(&mut expander, &files)?;
-    let is_written = write_files(rt, options, &mut expander, &files)?;
-    let has_errors = say(rt, &files, &notes)? | say(rt, &files, &expander.notes)?;
-    Ok(status(is_written, has_errors))
 }
 
-// The limit of depth that the first file sets that sets one.
-fn limit_of(files: &[SourceFile<'_>]) -> Option<u32> {
-    for file in files {
-        if let Some(tree) = &file.tree
-            && let Some(limit) = recursion_limit(tree.iter().remaining())
+// Reports the notes of a run that did or didn't write what it had to, and returns its status.
+fn ended<R: Eprint + AllocGlobal>(
+    rt: &R,
+    session: &Session<'_>,
+    is_written: bool,
+) -> io::Result<u8> {
+    report(rt, &session.files, &session.notes)?;
+    report(rt, &session.files, &session.expander.notes)?;
+    Ok(session.status(is_written))
+}
+
+// The name of a file without the folders that it is in.
+fn last_name(name: &str) -> &str {
+    name.rsplit_once('/').map_or(name, |(_, last)| last)
+}
+
+// A name that two of the files have without their folders.
+fn shared_name<'t>(texts: &'t [Named<'_>]) -> Option<&'t str> {
+    for (at, named) in texts.iter().enumerate() {
+        let name = last_name(named.name);
+        if texts[..at]
+            .iter()
+            .any(|other| last_name(other.name) == name)
         {
-            return Some(limit);
+            return Some(name);
         }
     }
     None
 }
 
-// Prints the last file with its calls expanded, or writes each into the folder that is asked for; and returns whether they
-// are written.
-fn write_files<R: Files + Print + Eprint + AllocGlobal>(
+// Writes what each of the files becomes into that folder, under the name that the file has without the folders it is in.
+fn write_files<R: Files + Eprint + AllocGlobal>(
     rt: &R,
     options: &Options<'_>,
-    expander: &mut Expander<'_>,
-    files: &[SourceFile<'_>],
-) -> io::Result<bool> {
-    let Some(folder) = options.write else {
-        if let Some(file) = files.last() {
-            write_expanded(
-                rt.alloc(),
-                options.call,
-                expander,
-                file,
-                &mut io::writer(rt),
-            )?;
-        }
-        return Ok(true);
-    };
-    for file in files {
-        let text = expanded(rt.alloc(), options.call, expander, file)?;
-        let name = file
-            .name
-            .rsplit_once('/')
-            .map_or(file.name, |(_, name)| name);
+    texts: &[Named<'_>],
+    folder: &str,
+) -> io::Result<u8> {
+    if let Some(name) = shared_name(texts) {
+        eprintln!(rt; "error: two files would be written as `{folder}/{name}`")?;
+        return Ok(WRONG);
+    }
+    let (session, written) = write(rt.alloc(), options, texts)?;
+    for (file, text) in session.files.iter().zip(written.iter()) {
+        let name = last_name(file.name);
         let path = format!(in rt.alloc(); "{folder}/{name}")?;
         if let Err(error) = fs::write(rt, path.as_str(), text.as_str()) {
             eprintln!(rt; "error: couldn't write `{path}`: {error}")?;
-            return Ok(false);
+            return ended(rt, &session, false);
         }
     }
-    Ok(true)
+    ended(rt, &session, true)
 }
 
-// Says the notes on standard error, and returns whether there is an error among them.
-fn say<R: Eprint + AllocGlobal>(
+// Writes the notes to standard error.
+fn report<R: Eprint + AllocGlobal>(
     rt: &R,
     files: &[SourceFile<'_>],
     notes: &[Note],
-) -> io::Result<bool> {
-    let mut has_errors = false;
+) -> io::Result<()> {
     for note in notes {
         let (name, place) = match files.get(note.span.file as usize) {
             Some(file) => (file.name, file.lines.place_of(note.span.start as usize)),
@@ -194,7 +154,6 @@ fn say<R: Eprint + AllocGlobal>(
         };
         let text = message(rt.alloc(), note, name, place)?;
         eprint!(rt; "{text}")?;
-        has_errors |= note.level == Level::Error;
     }
-    Ok(has_errors)
+    Ok(())
 }

@@ -1,10 +1,11 @@
 // Files with their trees.
-ghost use Rattle.std.specs.Prelude.{◌≡◌, [], false, Ok, IfErr, IfOk, IfSome};
+ghost use Rattle.std.specs.Prelude.{◌≡◌, Ok, IfOk, MatchResult};
 ghost use Rattle.std.specs.String.{string_bytes};
+ghost use Rattle.mbe_expandm.specs.Returns.{plain, returns};
+ghost use Rattle.mbe_expandm.specs.Shown.{returns_of};
+ghost use Rattle.mbe_expandm.specs.Sources.{IsNoRust, IsTreeOf};
 ghost use Rattle.mbe_text.specs.Division.{trees_of};
 ghost use Rattle.mbe_text.specs.declared.dialect.Dialect.TheVariants.{Rust};
-ghost use Rattle.mbe_expandm.specs.Places.{has_returns};
-ghost use Rattle.mbe_expandm.specs.Shown.{returns_of};
 
 use crate::lines::Lines;
 use mbe_expanding::notes::{Level, Note};
@@ -24,7 +25,8 @@ pub struct SourceFile<'f, A: Allocator = Global> {
     /// Spans are places in these.
     pub lines: Lines<A>,
     pub tree: Option<TopSubtree<A>>,
-    ghost plain: { has_returns text.now ≡ false → returns_of lines ≡ [] },
+    ghost plain: { string_bytes lines.text ≡ plain text.now },
+    ghost returned: { returns_of lines ≡ returns text.now },
 }
 
 // The error that a text isn't Rust, as a message says.
@@ -44,8 +46,9 @@ fn lexed(
     text: &str,
     file: u32,
 ) -> Result<Result<TopSubtree, Note>, AllocError>
-    ensures { IfOk result (λ found. IfOk found (λ tree.
-        trees_of (Rust edition) file text.now ≡ Ok tree)) }
+    ensures { IfOk result (λ found. MatchResult found
+        (λ tree. trees_of (Rust edition) file text.now ≡ Ok tree)
+        (λ note. IsNoRust edition file text.now)) }
 {
     if text.len() > u32::MAX as usize {
         return Ok(Err(fault(alloc, file, 0, "a file of 2^32 bytes or more")?));
@@ -68,8 +71,7 @@ fn trees_in(
     text: &str,
     file: u32,
 ) -> Result<Option<TopSubtree>, AllocError>
-    ensures { IfOk result (λ found. IfSome found (λ tree.
-        trees_of (Rust edition) file text.now ≡ Ok tree)) }
+    ensures { IfOk result (IsTreeOf edition file text.now) }
 {
     match lexed(alloc, symbols, edition, text, file)? {
         Ok(tree) => Ok(Some(tree)),
@@ -91,10 +93,7 @@ pub fn source_file<'f>(
     file: u32,
 ) -> Result<SourceFile<'f>, AllocError>
     ensures text { IfOk result (λ f. f.text.now ≡ text.now) }
-    ensures lines { has_returns text.now ≡ false
-        → IfOk result (λ f. string_bytes f.lines.text ≡ text.now) }
-    ensures trees { IfOk result (λ f. IfSome f.tree (λ tree.
-        trees_of (Rust edition) file (string_bytes f.lines.text) ≡ Ok tree)) }
+    ensures trees { IfOk result (λ f. IsTreeOf edition file (plain text.now) f.tree) }
 {
     let lines = Lines::of(alloc, text)?;
     let tree = trees_in(alloc, symbols, notes, edition, lines.text.as_str(), file)?;

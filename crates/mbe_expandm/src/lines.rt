@@ -1,9 +1,12 @@
 // Lines of a text. rustc takes a carriage return and a line feed for a line feed alone before it looks for tokens; so do these.
-ghost use Rattle.std.specs.Prelude.{◌≡◌, ◌≤◌, IfOk, [], false, length, count_by, map, min};
+ghost use Rattle.std.specs.Prelude.{◌≡◌, ◌≤◌, ◌<◌, ◌+◌, IfOk, drop, length, count_by, map, min};
+ghost use Rattle.std.specs.List.{slice_index};
 ghost use Rattle.std.specs.String.{string_bytes};
 ghost use Rattle.mbe_calls.specs.Replacements.{part_of};
-ghost use Rattle.mbe_expandm.specs.Places.{AreBefore, IsPlace, begins_character, has_returns};
+ghost use Rattle.mbe_expandm.specs.Places.{AreBefore, IsPlace, begins_character};
 ghost use Rattle.mbe_expandm.specs.Places.{end_of, feeds_from, start_of};
+ghost use Rattle.mbe_expandm.specs.Returns.{Rises, ended_as, goes_with_feed};
+ghost use Rattle.mbe_expandm.specs.Returns.{place_in_text, placed_part, plain, returns};
 
 use crate::places::Place;
 use mbe_calls::splicing::Replacement;
@@ -18,6 +21,7 @@ pub struct Lines<A: Allocator = Global> {
     // All line feeds, by bytes of `text`.
     feeds: Vec<usize, A>,
     ghost table: { feeds.items ≡ feeds_from 0 (string_bytes text) },
+    ghost rising: { Rises returns.items },
 }
 
 // Where the line feeds of a text are.
@@ -44,36 +48,36 @@ fn characters(bytes: &[u8]) -> usize
         .count()
 }
 
-// Whether there is a carriage return.
-fn has_returns(text: &str) -> bool
-    ensures { result ≡ has_returns text.now }
+// Whether a carriage return stands there, right before a line feed.
+fn is_before_feed(bytes: &[u8], at: usize) -> bool
+    requires { at < length bytes.now }
+    ensures { result ≡ goes_with_feed (slice_index bytes.now at) (drop (at + 1) bytes.now) }
 {
-    text.as_bytes().iter().any(|byte| *byte == b'\r')
+    bytes[at] == b'\r' && bytes.get(at + 1) == Some(&b'\n')
+}
+
+// Where the line feeds that have a carriage return before them are, once these are taken out.
+#[tactic(auto, using(crate::proofs::ReturnLemmas::one_return, crate::proofs::ReturnLemmas::no_return, crate::proofs::ReturnLemmas::all_returns))]
+fn returns_of<A: Allocator>(alloc: A, text: &str) -> Result<Vec<usize, A>, AllocError>
+    ensures { IfOk result (λ v. v.items ≡ returns text.now) }
+{
+    let mut returns = Vec::new(alloc);
+    for at in 0..text.len() {
+        if is_before_feed(text.as_bytes(), at) {
+            returns.push(at - returns.len())?;
+        }
+    }
+    Ok(returns)
 }
 
 impl<A: Allocator + Copy> Lines<A> {
     /// The lines of that text.
     pub fn of(alloc: A, text: &str) -> Result<Lines<A>, AllocError>
-        ensures text { has_returns text.now ≡ false
-            → IfOk result (λ lines. string_bytes lines.text ≡ text.now) }
-        ensures returns { has_returns text.now ≡ false
-            → IfOk result (λ lines. lines.returns.items ≡ []) }
+        ensures text { IfOk result (λ lines. string_bytes lines.text ≡ plain text.now) }
+        ensures returns { IfOk result (λ lines. lines.returns.items ≡ returns text.now) }
     {
-        if !has_returns(text) {
-            return Lines::with(alloc, String::from_str(alloc, text)?, Vec::new(alloc));
-        }
-        let mut returns = Vec::new(alloc);
-        for (count, (at, _)) in text.match_indices("\r\n").enumerate() {
-            returns.push(at.saturating_sub(count))?;
-        }
-        Lines::with(alloc, text.replace(alloc, "\r\n", "\n")?, returns)
-    }
-
-    // The lines of that text, where these line feeds had a carriage return before them.
-    fn with(alloc: A, text: String<A>, returns: Vec<usize, A>) -> Result<Lines<A>, AllocError>
-        ensures text { IfOk result (λ lines. lines.text ≡ text) }
-        ensures returns { IfOk result (λ lines. lines.returns ≡ returns) }
-    {
+        let returns = returns_of(alloc, text)?;
+        let text = text.replace(alloc, "\r\n", "\n")?;
         let feeds = feeds_of(alloc, text.as_str())?;
         Ok(Lines {
             text,
@@ -84,7 +88,7 @@ impl<A: Allocator + Copy> Lines<A> {
 
     // Where a byte of the lines is in the text that they are of. A line's end is before its carriage return.
     fn place(&self, at: usize) -> usize
-        ensures { self.now.returns.items ≡ [] → result ≡ at }
+        ensures { result ≡ place_in_text self.now.returns.items at }
     {
         let before = self
             .returns
@@ -95,7 +99,7 @@ impl<A: Allocator + Copy> Lines<A> {
 
     // A text whose lines end as those of the text that the lines are of.
     fn ended(&self, alloc: A, text: &str) -> Result<String<A>, AllocError>
-        ensures { self.now.returns.items ≡ [] → IfOk result (λ s. string_bytes s ≡ text.now) }
+        ensures { IfOk result (λ s. string_bytes s ≡ ended_as self.now.returns.items text.now) }
     {
         if self.returns.is_empty() {
             String::from_str(alloc, text)
@@ -110,8 +114,8 @@ impl<A: Allocator + Copy> Lines<A> {
         alloc: A,
         replacement: &Replacement<A>,
     ) -> Result<Replacement<A>, AllocError>
-        ensures { self.now.returns.items ≡ []
-            → IfOk result (λ r. part_of r ≡ part_of replacement.now) }
+        ensures { IfOk result (λ r. part_of r
+            ≡ placed_part self.now.returns.items (part_of replacement.now)) }
     {
         Ok(Replacement {
             start: self.place(replacement.start),
@@ -126,9 +130,8 @@ impl<A: Allocator + Copy> Lines<A> {
         alloc: A,
         replacements: &[Replacement<A>],
     ) -> Result<Vec<Replacement<A>, A>, AllocError>
-        ensures count { IfOk result (λ v. length v.items ≡ length replacements.now) }
-        ensures same { self.now.returns.items ≡ []
-            → IfOk result (λ v. map part_of v.items ≡ map part_of replacements.now) }
+        ensures { IfOk result (λ v. map part_of v.items
+            ≡ map (placed_part self.now.returns.items) (map part_of replacements.now)) }
     {
         let mut placed = Vec::new(alloc);
         for replacement in replacements {

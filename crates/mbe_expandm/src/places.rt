@@ -1,4 +1,6 @@
 // Places in texts by line and column.
+ghost use Rattle.std.specs.Prelude.{◌≡◌};
+ghost use Rattle.mbe_expandm.specs.Expansions.{is_position};
 
 /// A line of a text, counted from 1, and perhaps a column, counted in characters from 1.
 #[derive(Clone, Copy, Debug, Drop, PartialEq, Eq)]
@@ -23,7 +25,9 @@ impl Position {
     }
 
     /// Whether a byte of a text is on that line, and in that column if there is one.
-    pub fn is_at(self, found: Place<'_>) -> bool {
+    pub fn is_at(self, found: Place<'_>) -> bool
+        ensures { result ≡ is_position self found.entry.line found.entry.column }
+    {
         found.line == self.line && self.column.is_none_or(|column| column == found.column)
     }
 }

@@ -1,4 +1,4 @@
-use Rattle.std.proofs.Common.{◌≡◌, suc, map, take}
+use Rattle.std.proofs.Common.{◌≡◌, map, take}
 use Rattle.mbe_expanding.specs.Shown.{setting_of, state_of}
 use Rattle.mbe_expandm.specs.Expansions.{DefinesFiles}
 use Rattle.mbe_expandm.proofs.expansions.define_files.Given as goal

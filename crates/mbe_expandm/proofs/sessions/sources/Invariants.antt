@@ -1,0 +1,10 @@
+use Rattle.std.proofs.Common.{◌≡◌, length, map, take}
+use Rattle.mbe_expandm.specs.ShownFiles.{source_of, text_of}
+use Rattle.mbe_expandm.specs.Sources.{AreSources}
+use Rattle.mbe_expandm.proofs.sessions.sources.Given as goal
+
+abbrev pub invariant-loop-number : goal.invariant-loop-number
+invariant-loop-number l =
+    (map (λ f. f.text.now) l.files.items ≡ map text_of (take l.number l.texts))
+    × AreSources l.fn.edition (map source_of l.files.items)
+    × (length l.files.items ≡ l.number)

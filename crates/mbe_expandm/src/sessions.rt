@@ -1,0 +1,160 @@
+// Runs on texts: files are read, the expander learns their definitions, and what files become is written.
+ghost use Rattle.std.specs.Prelude.{◌≡◌, ◌<◌, ◌||◌, IfOk, OnErr, length, map};
+ghost use Rattle.std.specs.List.{list_any};
+ghost use Rattle.std.specs.String.{string_bytes};
+ghost use Rattle.mbe_expanding.specs.Shown.{setting_of, state_of};
+ghost use Rattle.mbe_expandm.specs.Expansions.{WritesOne};
+ghost use Rattle.mbe_expandm.specs.Runs.{AreWritten, IsBegun, IsPrinted};
+ghost use Rattle.mbe_expandm.specs.ShownFiles.{source_of, sources_of, text_of};
+ghost use Rattle.mbe_expandm.specs.Sources.{AreSources};
+ghost use Rattle.mbe_expandm.specs.Statuses.{is_error, status_of};
+
+use crate::arguments::Options;
+use crate::expansions::{all_expanded, define_files, write_last};
+use crate::files::{SourceFile, source_file};
+use crate::limits::recursion_limit;
+use mbe_expanding::expander::Expander;
+use mbe_expanding::notes::{Level, Note};
+use mbe_rust::fragments::rust_rules;
+use mbe_text::symbols::SymbolTable;
+use mbe_tt::span::Edition;
+use std::alloc::{AllocError, Global};
+use std::io;
+use std::io::Write;
+
+/// All known calls are expanded.
+pub const DONE: u8 = 0;
+
+/// Some call isn't expanded, or some definition or file is refused.
+pub const ERRORS: u8 = 1;
+
+/// Words or files that aren't right.
+pub const WRONG: u8 = 2;
+
+/// A file's name and its text.
+#[derive(Drop)]
+pub struct Named<'w> {
+    pub name: &'w str,
+    pub text: String,
+}
+
+/// Files with their trees, an expander that knows their definitions, and what is to be reported of the files.
+#[derive(Drop)]
+pub struct Session<'f> {
+    pub files: Vec<SourceFile<'f>>,
+    pub expander: Expander<'static>,
+    pub notes: Vec<Note>,
+}
+
+// The files with their trees. A note says of each that isn't Rust where it isn't, and why.
+fn sources<'f, 'w>(
+    alloc: Global,
+    edition: Edition,
+    texts: &'f [Named<'w>],
+    notes: &mut Vec<Note>,
+) -> Result<Vec<SourceFile<'f>>, AllocError>
+    ensures texts { IfOk result (λ v. map (λ f. f.text.now) v.items ≡ map text_of texts.now) }
+    ensures read { IfOk result (λ v. AreSources edition (map source_of v.items)) }
+{
+    let mut symbols = SymbolTable::new(alloc);
+    let mut files = Vec::new(alloc);
+    for (number, named) in texts.iter().enumerate() {
+        let Ok(at) = u32::try_from(number) else {
+            return Err(AllocError);
+        };
+        let (name, text) = (named.name, named.text.as_str());
+        let file = source_file(alloc, &mut symbols, notes, edition, name, text, at)?;
+        files.push(file)?;
+    }
+    Ok(files)
+}
+
+// The limit of depth that the first file sets that sets one.
+fn limit_of(files: &[SourceFile<'_>]) -> Option<u32> {
+    for file in files {
+        if let Some(tree) = &file.tree
+            && let Some(limit) = recursion_limit(tree.iter().remaining())
+        {
+            return Some(limit);
+        }
+    }
+    None
+}
+
+// Whether one of the notes is of an error.
+fn has_errors(notes: &[Note]) -> bool
+    ensures { result ≡ list_any is_error notes.now }
+{
+    notes.iter().any(|note| matches!(note.level, Level::Error))
+}
+
+impl<'f> Session<'f> {
+    /// Reads the files and their definitions. `AllocError` if out of memory, or of numbers for files.
+    pub fn begin<'w>(
+        alloc: Global,
+        options: &Options<'_>,
+        texts: &'f [Named<'w>],
+    ) -> Result<Session<'f>, AllocError>
+        ensures { IfOk result (λ s. IsBegun options.now.edition options.now.depth options.now.fuel
+            (map text_of texts.now) (sources_of s) (setting_of s.expander) (state_of s.expander)) }
+    {
+        let mut notes = Vec::new(alloc);
+        let files = sources(alloc, options.edition, texts, &mut notes)?;
+        let grammar = rust_rules(options.edition, &[]);
+        let settings = options.settings(limit_of(&files));
+        let mut expander = Expander::new(alloc, grammar, settings);
+        define_files(&mut expander, &files)?;
+        Ok(Session {
+            files,
+            expander,
+            notes,
+        })
+    }
+
+    /// The exit status of a run that did or didn't write what it had to.
+    pub fn status(&self, is_written: bool) -> u8
+        ensures { result ≡ status_of is_written (list_any is_error self.now.notes.items
+            || list_any is_error self.now.expander.notes.items) }
+    {
+        match is_written {
+            false => WRONG,
+            true if has_errors(&self.notes) || has_errors(&self.expander.notes) => ERRORS,
+            true => DONE,
+        }
+    }
+}
+
+/// Reads files, writes what the last of them becomes, and returns how that ended. Where memory runs out before, nothing is
+/// written.
+pub fn print<'f, 'w, W: Write>(
+    alloc: Global,
+    options: &Options<'_>,
+    texts: &'f [Named<'w>],
+    out: &mut W,
+) -> Result<(Session<'f>, io::Result<()>), AllocError>
+    ensures nothing { OnErr result (W.contents out.new ≡ W.contents out.old) }
+    ensures printed { IfOk result (λ r. 0 < length texts.now
+        → WritesOne (W.contents out.old) (W.contents out.new) r.1
+        (IsPrinted options.now.edition options.now.depth options.now.fuel options.now.call
+        (map text_of texts.now))) }
+{
+    let mut session = Session::begin(alloc, options, texts)?;
+    let of = &mut session;
+    let written = write_last(alloc, options.call, &mut of.expander, &of.files, out);
+    Ok((session, written))
+}
+
+/// What each of the files becomes, in their order.
+pub fn write<'f, 'w>(
+    alloc: Global,
+    options: &Options<'_>,
+    texts: &'f [Named<'w>],
+) -> Result<(Session<'f>, Vec<String>), AllocError>
+    ensures { IfOk result (λ r. AreWritten options.now.edition options.now.depth
+        options.now.fuel options.now.call (map text_of texts.now) (map string_bytes r.1.items)) }
+{
+    let mut session = Session::begin(alloc, options, texts)?;
+    let of = &mut session;
+    let written = all_expanded(alloc, options.call, &mut of.expander, &of.files)?;
+    Ok((session, written))
+}
