@@ -8,6 +8,7 @@ use crate::files::{SourceFile, source_file};
 use crate::limits::recursion_limit;
 use crate::messages::message;
 use crate::places::NOWHERE;
+use crate::saying::{Form, add_reports, error_text, explained, form_of};
 use mbe_expanding::expander::Expander;
 use mbe_expanding::notes::{Level, Note};
 use mbe_rust::fragments::rust_rules;
@@ -36,9 +37,12 @@ fn status(is_written: bool, has_errors: bool) -> u8
     }
 }
 
-/// Runs on the words after the program's name, and returns the exit status.
-pub fn run_command<R: Env + Files + Input + Print + Eprint + AllocGlobal>(rt: &R) -> u8 {
-    match run(rt) {
+/// Runs on the words after the program's name, and returns the exit status. It is known whether standard error is a terminal.
+pub fn run_command<R: Env + Files + Input + Print + Eprint + AllocGlobal>(
+    rt: &R,
+    is_terminal: bool,
+) -> u8 {
+    match run(rt, is_terminal) {
         Ok(status) => status,
         Err(error) => {
             let _ = eprintln!(rt; "error: {error}");
@@ -47,13 +51,21 @@ pub fn run_command<R: Env + Files + Input + Print + Eprint + AllocGlobal>(rt: &R
     }
 }
 
-fn run<R: Env + Files + Input + Print + Eprint + AllocGlobal>(rt: &R) -> io::Result<u8> {
+fn run<R: Env + Files + Input + Print + Eprint + AllocGlobal>(
+    rt: &R,
+    is_terminal: bool,
+) -> io::Result<u8> {
     let mut words = Vec::new(rt.alloc());
     for word in env::args(rt)?.skip(1) {
         words.push(word)?;
     }
     match read_words(rt.alloc(), words.as_slice())? {
-        Asked::Run(options) => run_files(rt, &options),
+        Asked::Run(options) => {
+            let is_explained = options.explain.is_some();
+            let is_colourless = is_colourless(rt);
+            let form = form_of(options.is_json, is_explained, is_terminal, is_colourless);
+            run_files(rt, &options, form)
+        }
         Asked::Help => {
             println!(rt; "{USAGE}")?;
             Ok(DONE)
@@ -77,6 +89,20 @@ fn run<R: Env + Files + Input + Print + Eprint + AllocGlobal>(rt: &R) -> io::Res
     }
 }
 
+// Whether `NO_COLOR` is set, and not empty.
+fn is_colourless<R: Env + AllocGlobal>(rt: &R) -> bool {
+    match env::var(rt, "NO_COLOR") {
+        Ok(value) => !value.is_empty(),
+        Err(_) => false,
+    }
+}
+
+// Says an error that is of no file's text.
+fn say_error<R: Eprint + AllocGlobal>(rt: &R, form: Option<Form>, message: &str) -> io::Result<()> {
+    let text = error_text(rt.alloc(), form, message)?;
+    eprint!(rt; "{text}")
+}
+
 // The text of the file of that name, if it is shorter than 2^32 bytes.
 fn text_of<R: Files + Input + AllocGlobal>(rt: &R, name: &str) -> io::Result<String> {
     let text = if name == "-" {
@@ -93,23 +119,26 @@ fn text_of<R: Files + Input + AllocGlobal>(rt: &R, name: &str) -> io::Result<Str
 fn run_files<R: Files + Input + Print + Eprint + AllocGlobal>(
     rt: &R,
     options: &Options<'_>,
+    form: Option<Form>,
 ) -> io::Result<u8> {
     let mut texts = Vec::new(rt.alloc());
     for name in &options.names {
         match text_of(rt, *name) {
             Ok(text) => texts.push(text)?,
             Err(error) => {
-                eprintln!(rt; "error: couldn't read `{name}`: {error}")?;
+                let message = format!(in rt.alloc(); "couldn't read `{name}`: {error}")?;
+                say_error(rt, form, message.as_str())?;
                 return Ok(WRONG);
             }
         }
     }
-    expand(rt, options, texts.as_slice())
+    expand(rt, options, form, texts.as_slice())
 }
 
 fn expand<R: Files + Print + Eprint + AllocGlobal>(
     rt: &R,
     options: &Options<'_>,
+    form: Option<Form>,
     texts: &[String],
 ) -> io::Result<u8> {
     let alloc = rt.alloc();
@@ -125,11 +154,13 @@ fn expand<R: Files + Print + Eprint + AllocGlobal>(
         files.push(file)?;
     }
     let grammar = rust_rules(options.edition, &[]);
-    let settings = options.settings(limit_of(&files));
+    let settings = options.settings(limit_of(&files), explained(options.explain, &files));
     let mut expander = Expander::new(alloc, grammar, settings);
     define_files(&mut expander, &files)?;
-    let is_written = write_files(rt, options, &mut expander, &files)?;
-    let has_errors = say(rt, &files, &notes)? | say(rt, &files, &expander.notes)?;
+    let is_written = write_files(rt, options, form, &mut expander, &files)?;
+    say_all(rt, form, &files, &notes)?;
+    say_all(rt, form, &files, &expander.notes)?;
+    let has_errors = has_error(&notes) || has_error(&expander.notes);
     Ok(status(is_written, has_errors))
 }
 
@@ -150,6 +181,7 @@ fn limit_of(files: &[SourceFile<'_>]) -> Option<u32> {
 fn write_files<R: Files + Print + Eprint + AllocGlobal>(
     rt: &R,
     options: &Options<'_>,
+    form: Option<Form>,
     expander: &mut Expander<'_>,
     files: &[SourceFile<'_>],
 ) -> io::Result<bool> {
@@ -173,20 +205,40 @@ fn write_files<R: Files + Print + Eprint + AllocGlobal>(
             .map_or(file.name, |(_, name)| name);
         let path = format!(in rt.alloc(); "{folder}/{name}")?;
         if let Err(error) = fs::write(rt, path.as_str(), text.as_str()) {
-            eprintln!(rt; "error: couldn't write `{path}`: {error}")?;
+            let message = format!(in rt.alloc(); "couldn't write `{path}`: {error}")?;
+            say_error(rt, form, message.as_str())?;
             return Ok(false);
         }
     }
     Ok(true)
 }
 
-// Says the notes on standard error, and returns whether there is an error among them.
+// Whether there is an error among the notes.
+fn has_error(notes: &[Note]) -> bool {
+    notes.iter().any(|note| note.level == Level::Error)
+}
+
+// Says the notes on standard error, in that form.
+fn say_all<R: Eprint + AllocGlobal>(
+    rt: &R,
+    form: Option<Form>,
+    files: &[SourceFile<'_>],
+    notes: &[Note],
+) -> io::Result<()> {
+    let Some(form) = form else {
+        return say(rt, files, notes);
+    };
+    let mut text = String::new(rt.alloc());
+    add_reports(rt.alloc(), form, files, notes, &mut text)?;
+    eprint!(rt; "{text}")
+}
+
+// Says the notes on standard error, each with its place and its message in one line.
 fn say<R: Eprint + AllocGlobal>(
     rt: &R,
     files: &[SourceFile<'_>],
     notes: &[Note],
-) -> io::Result<bool> {
-    let mut has_errors = false;
+) -> io::Result<()> {
     for note in notes {
         let (name, place) = match files.get(note.span.file as usize) {
             Some(file) => (file.name, file.lines.place_of(note.span.start as usize)),
@@ -194,7 +246,6 @@ fn say<R: Eprint + AllocGlobal>(
         };
         let text = message(rt.alloc(), note, name, place)?;
         eprint!(rt; "{text}")?;
-        has_errors |= note.level == Level::Error;
     }
-    Ok(has_errors)
+    Ok(())
 }
