@@ -3,9 +3,9 @@
 
     python3 tools/mistakes.py [--write] [--program EXPANDM]
 
-Each row is a file with a definition and a call, or with a definition alone. `expandm --explain` runs on it, and `expandm --lint` where there is
-no call; by that EXPANDM, or by one built by `rt try`, without proof. The table has what each reports first, with the place. --write puts it
-into docs/MACROS.md, in place of the one there; else it is printed. The status is 1 if `expandm` says nothing of some row, or rustc does.
+Each row is a file with a definition and a call. `expandm --explain` runs on it, by that EXPANDM or by one built by `rt try`, without proof, and
+rustc. The table has what each reports first, with the place. --write puts it into docs/MACROS.md, in place of the one there; else it is printed.
+The status is 1 if `expandm` says nothing of some row.
 """
 import json
 import os
@@ -17,20 +17,16 @@ import tempfile
 TOP = os.path.dirname(os.path.dirname(os.path.abspath(__file__)))
 BEGIN, END = "<!-- tools/mistakes.py writes from here -->\n", "<!-- up to here -->\n"
 
-# Rules, and the argument of a call; None where there is no call.
+# Rules, and the argument of a call.
 ROWS = [
     ("($($x:expr),*) => { 0 }", "1, 2,"),
     ("({ $($f:ident: $t:ty),* }) => { 0 }", "{ x: u8, y }"),
     ("($($a:ident)* $b:ident) => { 0 }", "x y"),
-    ("($($x:ident)*) => { $x }", None),
-    ("($x) => { 0 }", None),
-    ("($c:idnt) => { 0 }", None),
+    ("($($x:ident)*) => { $x }", "a b"),
+    ("($x) => { 0 }", "1"),
+    ("($c:idnt) => { 0 }", "a"),
     ("($k:ident => $v:expr) => { 0 }; ($k:ident = $v:expr) => { 0 }", "a -> 1"),
     ("($($x:ident),* ; $y:ty) => { 0 }", "a b"),
-    ("($x:ident $x:ident) => { 0 }", None),
-    ("($a:expr $b:expr) => { 0 }", None),
-    ("($a:ty (b)) => { 0 }", None),
-    ("($a:pat | $b:pat) => { 0 }", None),
     ("(a) => { 0 }", "a b"),
     ("((a)) => { 0 }", "(a b)"),
     ("(a $x:ident) => { 0 }", "a"),
@@ -38,13 +34,16 @@ ROWS = [
     ("($l:lifetime) => { 0 }", "a"),
     ("($x:literal) => { 0 }", "x"),
     ("($(a)? $(a)? $x:ident) => { 0 }", "a b"),
-    ("($($t:tt)*) => { 0 }; (a) => { 1 }", None),
+    ("($($k:ident = $v:expr),+) => { 0 }", ""),
+    ("($($x:expr);*) => { 0 }", "1, 2"),
+    ("(fn $n:ident ($($a:ident: $t:ty),*)) => { 0 }", "fn f(a u8)"),
+    ("([$($x:expr),*]) => { 0 }", "(1, 2)"),
+    ("(@sum $x:expr) => { 0 }; ($($x:expr),*) => { 0 }", "@sun 1"),
 ]
 
 
 def source(rules, argument):
-    call = "" if argument is None else f" let _ = m!({argument});"
-    return f"macro_rules! m {{ {rules} }}\nfn main() {{{call} }}\n"
+    return f"macro_rules! m {{ {rules} }}\nfn main() {{ let _ = m!({argument}); }}\n"
 
 
 def by_rustc(path):
@@ -59,22 +58,28 @@ def by_rustc(path):
     return None
 
 
-def by_expandm(text, name):
-    """The messages of `expandm` on a file: those on the rules after an error, if there are some."""
-    found = re.findall(rf"^(?:\S*/)?{re.escape(name)}:(\d+):(\d+): (\w+): (.*)$", text, re.M)
-    on_rules = [it for it in found if re.match(r"rule \d+ of `m!` ", it[3])]
-    return [(int(line), int(column), message) for line, column, _, message in on_rules or found]
+def by_expandm(said):
+    """The messages of `expandm` on a file, each with its line and column: those on the rules that don't fit, or else the first one."""
+    found = re.findall(r"^\w+: (.*)\n *--> .*:(\d+):(\d+)$", said, re.M)
+    on_rules = [it for it in found if re.match(r"rule \d+ of `m!` (?!fits)", it[0])]
+    return [(int(line), int(column), message) for message, line, column in on_rules or found[:1]]
 
 
-def run_expandm(folder, flags, program):
-    """What `expandm` reports of each file of the folder, with that flag."""
+def run_expandm(folder, names, program):
+    """What `expandm --explain` reports of each file of the folder."""
     if program:
-        return "".join(subprocess.run([program, flag, name], capture_output=True, text=True, cwd=folder).stderr for name, flag in flags.items())
-    for name, flag in flags.items():
+        return {name: subprocess.run([program, "--explain", name], capture_output=True, text=True, cwd=folder).stderr for name in names}
+    for name in names:
         with open(os.path.join(folder, name + ".args"), "w", encoding="utf-8") as it:
-            it.write(flag + "\n")
+            it.write("--explain\n")
     ran = subprocess.run(["rt", "try", "--cases", folder, "--", "{}"], capture_output=True, text=True, cwd=f"{TOP}/crates/expandm")
-    return ran.stdout + ran.stderr
+    return cases(ran.stderr)
+
+
+def cases(said):
+    """What the program wrote on standard error, by case: each ends with a line of `rt try`."""
+    parts = re.split(r"^case=(\S+) .*\n", said, flags=re.M)
+    return dict(zip(parts[1::2], parts[::2]))
 
 
 def cell(text):
@@ -93,19 +98,17 @@ def main(write, program):
     for name, text in texts.items():
         with open(os.path.join(folder, name), "w", encoding="utf-8") as it:
             it.write(text)
-    said = run_expandm(folder, {name: "--lint" if row[1] is None else "--explain" for name, row in zip(texts, ROWS)}, program)
+    said = run_expandm(folder, list(texts), program)
     rows, silent = ["| Rules, and a call | `expandm` | rustc |", "|---|---|---|"], 0
     for name, (rules, argument) in zip(texts, ROWS):
-        ours = by_expandm(said, name)
+        ours = by_expandm(said.get(name, ""))
         theirs = by_rustc(os.path.join(folder, name))
         silent += not ours
         shown = "; ".join(f"at `{token_at(texts[name], line, column)}`: {message}" for line, column, message in ours) or "nothing"
         rustc = f"at `{token_at(texts[name], theirs[0], theirs[1])}`: {theirs[2]}" if theirs else "nothing"
-        call = "" if argument is None else f", `m!({argument})`"
-        rows.append(f"| `{cell(rules)}`{cell(call)} | {cell(shown)} | {cell(rustc)} |")
+        rows.append(f"| `{cell(rules)}`, `m!({cell(argument)})` | {cell(shown)} | {cell(rustc)} |")
     table = "\n".join(rows) + "\n"
     if not write:
-        print(said, file=sys.stderr)
         print(table, end="")
         return silent
     path = f"{TOP}/docs/MACROS.md"

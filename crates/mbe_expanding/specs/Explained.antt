@@ -1,5 +1,5 @@
 -- What the rules that a call names say of it.
-use Rattle.std.specs.Prelude.{◌≡◌, ◌++◌, ◌==◌, ◌&&◌, ◌+◌, ◌-◌, ◌^◌, nat_lt, min, ℕ, Bool, true, false, not, List, [], ◌∷◌, length, map, slice_get, codes, Option, Some, None, option_map, IfSome}
+use Rattle.std.specs.Prelude.{◌≡◌, ◌++◌, ◌==◌, ◌&&◌, ◌+◌, ◌-◌, ◌^◌, nat_lt, min, ℕ, Bool, true, false, not, List, [], ◌∷◌, length, map, codes, Option, Some, None, option_map, IfSome}
 use Rattle.std.specs.Fmt.{decimal}
 use Rattle.std.specs.String.{string_bytes}
 use Rattle.mbe_tt.specs.declared.span.Span.{Span}
@@ -34,14 +34,15 @@ pub record Says (g : Grammar) (rules : List Rule) (argument : Delimiter × Fores
   pub parts : said.wanted ≡ map part_of wants
   pub two : said.clash ≡ option_map pair_of pair
 
--- so many rules say so, from the first one on
-pub record FirstSay (g : Grammar) (rules : List Rule) (argument : Delimiter × Forest) (count : ℕ) (saids : List Said) : Type 0 where
-  pub each_one : length saids ≡ count
-  pub says : (index : ℕ) (said : Said) → slice_get saids index ≡ Some said → Says g rules argument index said
+-- rules say so, from the first one on
+pub data FirstSay (g : Grammar) (rules : List Rule) (argument : Delimiter × Forest) : List Said → Type 0 where
+  no_rule : FirstSay g rules argument []
+  one_more : (saids : List Said) (said : Said) → FirstSay g rules argument saids → Says g rules argument (length saids) said
+      → FirstSay g rules argument (saids ++ said ∷ [])
 
 -- all rules of the macro that a call names say so, where it has no fault
 abbrev pub RulesSay : Setting → Call → State → Delimiter × Forest → List Said → Type 0
-RulesSay e c s argument saids = IfSome (named s c) (λ m. m.err ≡ None → FirstSay e.grammar m.rules argument (length m.rules) saids)
+RulesSay e c s argument saids = IfSome (named s c) (λ m. m.err ≡ None → FirstSay e.grammar m.rules argument saids × (length saids ≡ length m.rules))
 
 -- ---- notes
 

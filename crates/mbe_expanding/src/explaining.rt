@@ -146,7 +146,8 @@ impl<'g, A: Allocator + Copy> Expander<'g, A> {
         }
         let saids = self.rules_say(call, argument)?;
         let name = call.name.sym.as_str();
-        note_rules(self.alloc, &mut self.notes, name, 1, saids.as_slice())
+        note_rules(self.alloc, &mut self.notes, name, 1, saids.as_slice())?;
+        Ok(())
     }
 
     // What each rule that a call names says.

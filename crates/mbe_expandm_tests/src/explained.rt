@@ -8,6 +8,7 @@ use mbe_expandm::saying::{Form, add_reports, explained};
 use mbe_rust::fragments::rust_rules;
 use mbe_text::symbols::SymbolTable;
 use mbe_tt::span::Edition;
+use serde_json::Value;
 use std::alloc::{AllocError, Global};
 use std::test::Fail;
 
@@ -182,5 +183,75 @@ fn the_documented_call_is_explained(rt: HostRuntime) -> Result<(), Fail> {
     assert_eq!(rt; notes_of(rt.alloc(), none.as_str())?.as_str(), "");
     let second = reported(rt.alloc(), PAIR, Form::Text, at(2, Some(28)))?;
     assert_eq!(rt; notes_of(rt.alloc(), second.as_str())?.as_str(), SECOND);
+    Ok(())
+}
+
+// Wide characters take two columns, tabs four.
+static WIDE: &str = "\
+error: unexpected token in input in the call of `m!`
+ --> a.rs:2:12
+  |
+2 |     x(\"\u{6f22}\", m!(b));
+  |                ^
+";
+
+#[test]
+fn carets_are_below_the_token(rt: HostRuntime) -> Result<(), Fail> {
+    let text = "macro_rules! m { (a) => {} }\n\tx(\"\u{6f22}\", m!(b));";
+    let reports = reported(rt.alloc(), text, Form::Text, at(9, None))?;
+    assert_eq!(rt; reports.as_str(), WIDE);
+    Ok(())
+}
+
+fn text_at<'v>(value: &'v Value, path: &str) -> &'v str {
+    value
+        .pointer(path)
+        .and_then(Value::as_str)
+        .unwrap_or("none")
+}
+
+fn number_at(value: &Value, path: &str) -> u64 {
+    value.pointer(path).and_then(Value::as_u64).unwrap_or(999)
+}
+
+// Whether an object says that, at that line, that column, and from that byte to that one.
+fn says(
+    alloc: Global,
+    object: &str,
+    message: &str,
+    place: (u64, u64, u64, u64),
+) -> Result<bool, Fail> {
+    let value = Value::from_str(alloc, object)?;
+    let found = (
+        number_at(&value, "/spans/0/line_start"),
+        number_at(&value, "/spans/0/column_start"),
+        number_at(&value, "/spans/0/byte_start"),
+        number_at(&value, "/spans/0/byte_end"),
+    );
+    Ok(text_at(&value, "/message") == message && found == place)
+}
+
+// A file whose lines end with carriage returns, too: bytes are those of the file as it is.
+static OBJECTS: [(&str, (u64, u64, u64, u64)); 3] = [
+    (
+        "unexpected token in input in the call of `m!`",
+        (2, 4, 33, 34),
+    ),
+    (
+        "rule 1 of `m!` doesn't go on here: it wants `a`",
+        (2, 4, 33, 34),
+    ),
+    ("`a` in rule 1 of `m!`", (1, 19, 18, 19)),
+];
+
+#[test]
+fn reports_are_objects(rt: HostRuntime) -> Result<(), Fail> {
+    let text = "macro_rules! m { (a) => {} }\r\nm!(b);";
+    let reports = reported(rt.alloc(), text, Form::Json, at(2, None))?;
+    let mut objects = reports.as_str().lines();
+    for (message, place) in &OBJECTS {
+        assert!(rt; says(rt.alloc(), objects.next().unwrap_or(""), message, *place)?);
+    }
+    assert!(rt; objects.next().is_none());
     Ok(())
 }
