@@ -84,8 +84,8 @@ fn cut(text: &str, column: usize) -> (&str, &str) {
 
 // A byte of the file's lines, at that place.
 fn point(file: &SourceFile<'_>, place: Place<'_>, byte: usize) -> Point
-    ensures line { result.line ≡ place.line }
-    ensures column { result.column ≡ place.column }
+    ensures line { result.line ≡ place.entry.line }
+    ensures column { result.column ≡ place.entry.column }
 {
     Point {
         byte: file.lines.place(byte),
@@ -206,10 +206,10 @@ pub fn add_reports(
     match notes {
         [] => Ok(()),
         [first, rest @ ..] => {
-            let said = diagnostic(files, first);
+            let said = diagnostic(&*files, first);
             let report = written(alloc, form, &said)?;
             text.push_str(report.as_str())?;
-            add_reports(alloc, form, files, rest, text)
+            add_reports(alloc, form, &*files, rest, text)
         }
     }
 }

@@ -1,9 +1,9 @@
-use Rattle.std.proofs.Common.{◌≡◌, ◌++◌, ◌+◌, ◌∙◌, ap, sym, subst, map, length, [], ◌∷◌, inl, rules}
+use Rattle.std.proofs.Common.{◌+◌, ◌∙◌, ap, sym, subst, map, length, [], ◌∷◌, inl, rules}
 use Rattle.std.proofs.lemmas.List.{length-map, length_push, map-append}
 use Rattle.std.proofs.lemmas.Option.{none-some}
 use Rattle.mbe.specs.MacroViews.{macro_of}
 use Rattle.mbe_rules.specs.Lawful.{grammar_of}
-use Rattle.mbe_explaining.specs.Saying.{Said, said_seen}
+use Rattle.mbe_explaining.specs.Saying.{said_seen}
 use Rattle.mbe_expanding.specs.Explained.{FirstSay, no_rule, one_more, Says}
 use Rattle.mbe_expanding.proofs.CallLemmas.{not_there}
 use Rattle.mbe_expanding.proofs.expander.Expander.rules_say.Goals as goal
