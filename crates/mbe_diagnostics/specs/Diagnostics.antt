@@ -57,7 +57,8 @@ carets part = repeat (max 1 (str_width false (chars (untabbed (chars part))))) (
 abbrev pub excerpt : Diagnostic → List ℕ
 excerpt d =
     gutter d.start.line ++ (codes " |\n" ++ (decimal d.start.line ++ (codes " | " ++ (untabbed (chars d.line.now)
-    ++ (codes "\n" ++ (gutter d.start.line ++ (codes " | " ++ (margin d.before.now ++ (carets d.part.now ++ codes "\n")))))))))
+    ++ (codes "\n" ++ (gutter d.start.line ++ (codes " | "
+    ++ (margin d.before.now ++ (carets d.part.now ++ codes "\n")))))))))
 
 -- the whole, as people read it
 abbrev pub text : Diagnostic → Bool → List ℕ

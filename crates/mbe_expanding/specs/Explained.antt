@@ -37,12 +37,13 @@ pub record Says (g : Grammar) (rules : List Rule) (argument : Delimiter × Fores
 -- rules say so, from the first one on
 pub data FirstSay (g : Grammar) (rules : List Rule) (argument : Delimiter × Forest) : List Said → Type 0 where
   no_rule : FirstSay g rules argument []
-  one_more : (saids : List Said) (said : Said) → FirstSay g rules argument saids → Says g rules argument (length saids) said
-      → FirstSay g rules argument (saids ++ said ∷ [])
+  one_more : (saids : List Said) (said : Said) → FirstSay g rules argument saids
+      → Says g rules argument (length saids) said → FirstSay g rules argument (saids ++ said ∷ [])
 
 -- all rules of the macro that a call names say so, where it has no fault
 abbrev pub RulesSay : Setting → Call → State → Delimiter × Forest → List Said → Type 0
-RulesSay e c s argument saids = IfSome (named s c) (λ m. m.err ≡ None → FirstSay e.grammar m.rules argument saids × (length saids ≡ length m.rules))
+RulesSay e c s argument saids =
+    IfSome (named s c) (λ m. m.err ≡ None → FirstSay e.grammar m.rules argument saids × (length saids ≡ length m.rules))
 
 -- ---- notes
 
@@ -89,7 +90,8 @@ rules_notes name number (s ∷ ss) = rule_notes (rule_name number name) s ++ rul
 abbrev pub asks_for : Explain → Span → Bool → Bool
 asks_for explain.Nothing call is_expanded = false
 asks_for explain.Failed call is_expanded = not is_expanded
-asks_for (explain.At file start end) call is_expanded = (call.file == file) && (not (nat_lt call.start start) && nat_lt call.start end)
+asks_for (explain.At file start end) call is_expanded =
+    (call.file == file) && (not (nat_lt call.start start) && nat_lt call.start end)
 
 -- what is noted after a call: what each rule says of it, the first rule as rule 1, if that is asked for
 abbrev pub NotesRules : Setting → Call → State → Delimiter × Forest → Bool → List Note → List Note → Type 0

@@ -130,7 +130,12 @@ abbrev pub parts_seen : {A : Type 0} → declared.Part A × declared.Part A → 
 parts_seen p = (part_seen p.0, part_seen p.1)
 
 abbrev pub said_seen : {A : Type 0} → code.Said A → Said
-said_seen s = record { verdict = verdict_seen s.verdict; place = s.span; wanted = map part_seen s.wanted.items; clash = option_map parts_seen s.clash }
+said_seen s = record {
+  verdict = verdict_seen s.verdict;
+  place = s.span;
+  wanted = map part_seen s.wanted.items;
+  clash = option_map parts_seen s.clash;
+}
 
 -- ---- messages
 
@@ -171,7 +176,8 @@ abbrev pub message_by : List ℕ → Verdict → List Part → Option (Part × P
 message_by rule one_reading wanted clash = rule ++ codes " fits"
 message_by rule many_readings wanted clash = rule ++ codes " reads the call in several ways"
 message_by rule (ambiguous place) wanted None = rule ++ codes " is ambiguous here"
-message_by rule (ambiguous place) wanted (Some pair) = rule ++ (codes " is ambiguous here: it goes on by " ++ clash_text pair)
+message_by rule (ambiguous place) wanted (Some pair) =
+    rule ++ (codes " is ambiguous here: it goes on by " ++ clash_text pair)
 message_by rule (stuck place) wanted clash = rule ++ (codes " doesn't go on here: it wants " ++ listed (once [] wanted))
 
 -- what a rule of that name says where its match stops

@@ -28,7 +28,8 @@ loop-index-preserved g c =
     let say = FirstSay h rs c.args.argument.now in
     let pushed = c.in_ok-push.ensures.items in
     let number = length-map items said_seen ∙ c.loop-index.invariant.1 in
-    let says = subst (λ n. Says h rs c.args.argument.now n (said_seen said)) (sym number) c.in_ok-what_rule_says.ensures.says in
+    let here = Says h rs c.args.argument.now in
+    let says = subst (λ n. here n (said_seen said)) (sym number) c.in_ok-what_rule_says.ensures.says in
     let more = one_more (map said_seen items) (said_seen said) c.loop-index.invariant.0 says in
     let seen = ap (map said_seen) pushed ∙ map-append said_seen items (said ∷ []) in
     (subst say (sym seen) more, ap length pushed ∙ length_push items said ∙ ap (λ n. n + 1) c.loop-index.invariant.1)

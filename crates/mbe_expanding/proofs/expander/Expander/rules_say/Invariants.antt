@@ -7,4 +7,5 @@ use Rattle.mbe_expanding.proofs.expander.Expander.rules_say.Given as goal
 
 abbrev pub invariant-loop-index : goal.invariant-loop-index
 invariant-loop-index g l =
-    FirstSay (grammar_of l.self.grammar) (macro_of l.rules).rules l.argument (map said_seen l.all.items) × (length l.all.items ≡ l.index)
+    FirstSay (grammar_of l.self.grammar) (macro_of l.rules).rules l.argument (map said_seen l.all.items)
+    × (length l.all.items ≡ l.index)
