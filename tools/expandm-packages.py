@@ -13,7 +13,7 @@ import subprocess
 import sys
 from collections import Counter
 
-STEP = re.compile(r": note: `[^`\n]*!` expands to")
+STEP = re.compile(r": note: to `")
 ERROR = re.compile(r":\d+:\d+: error: (.*)")
 
 

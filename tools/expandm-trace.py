@@ -87,7 +87,7 @@ def traced(path, year):
     return found
 
 
-STEP = re.compile(r"^[^\n]*?:(\d+):(\d+): note: `[^`\n]*!` expands to `(.*?)`\n *\d+ \| [^\n]*\n +\| [ \t]*\^$", re.M | re.S)
+STEP = re.compile(r"^[^\n]*?:(\d+):(\d+): note: to `(.*?)`\n *\d+ \| [^\n]*\n +\| [ \t]*\^$", re.M | re.S)
 
 
 def expanded(program, path, year):

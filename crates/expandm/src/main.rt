@@ -2,8 +2,9 @@
 #![tactic(auto)]
 
 use mbe_expandm::command::run_command;
+use std::io::IsTerminal;
 use std::process::ExitCode;
 
 fn main(rt: HostRuntime) -> ExitCode {
-    ExitCode::from(run_command(&rt))
+    ExitCode::from(run_command(&rt, rt.stderr().is_terminal()))
 }

@@ -3,7 +3,9 @@
 
 mod captures;
 pub mod expander;
+pub mod explaining;
 mod fits;
 pub mod notes;
+mod origins;
 pub mod scope;
 pub mod settings;

@@ -1,7 +1,35 @@
-// How far calls are expanded.
-use mbe_tt::span::Edition;
+// How far calls are expanded, and what is noted of them.
+ghost use Rattle.std.specs.Prelude.{◌≡◌};
+ghost use Rattle.mbe_expanding.specs.Explained.{asks_for};
 
-/// How far calls are expanded, and in which edition.
+use mbe_tt::span::{Edition, Span};
+
+/// Of which calls it is noted what each rule says.
+#[derive(Clone, Copy, Debug, Drop, PartialEq, Eq)]
+pub enum Explain {
+    Nothing,
+    /// Of those that no rule expands.
+    Failed,
+    /// Of those that begin from `start` on and before `end`, in bytes of a file.
+    At { file: u32, start: u32, end: u32 },
+}
+
+impl Explain {
+    /// Whether it is noted of a call that begins with that token.
+    pub fn asks_for(self, call: Span, is_expanded: bool) -> bool
+        ensures { result ≡ asks_for self call is_expanded }
+    {
+        match self {
+            Explain::Nothing => false,
+            Explain::Failed => !is_expanded,
+            Explain::At { file, start, end } => {
+                call.file == file && start <= call.start && call.start < end
+            }
+        }
+    }
+}
+
+/// How far calls are expanded, in which edition, and what is noted of them.
 #[derive(Clone, Copy, Debug, Drop, PartialEq, Eq)]
 pub struct Settings {
     pub edition: Edition,
@@ -11,4 +39,8 @@ pub struct Settings {
     pub fuel: u32,
     /// Whether each step is noted.
     pub is_traced: bool,
+    /// Whether it is noted where each token of an expansion is from.
+    pub is_origin_noted: bool,
+    /// Of which calls it is noted what each rule says.
+    pub explain: Explain,
 }

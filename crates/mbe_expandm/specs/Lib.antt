@@ -5,5 +5,6 @@ pub mod Expansions
 pub mod Runs
 pub mod Words
 pub mod Statuses
+pub mod Reports
 pub mod Shown
 pub mod ShownFiles

@@ -4,7 +4,7 @@ ghost use Rattle.std.specs.Option.{option_or};
 ghost use Rattle.mbe_expandm.specs.Words.{edition_of};
 
 use crate::places::Position;
-use mbe_expanding::settings::Settings;
+use mbe_expanding::settings::{Explain, Settings};
 use mbe_tt::span::Edition;
 use std::alloc::{AllocError, Allocator, Global};
 
@@ -26,6 +26,11 @@ options:
   --write DIR       write each file into DIR
   --edition YEAR    2015, 2018, 2021 (unless another is given) or 2024
   --trace           report each step
+  --origin          report where each token of each expansion is from
+  --explain [LINE[:COL]]
+                    report what each rule wants of the calls that no rule fits, or
+                    of the calls there
+  --json            report in JSON, an object a line, as rustc does
   --help            print this text
   --version         print the version";
 
@@ -39,6 +44,12 @@ pub struct Options<'w, A: Allocator = Global> {
     pub fuel: u32,
     /// Whether each step is reported.
     pub is_traced: bool,
+    /// Whether it is reported where each token of an expansion is from.
+    pub is_origin_noted: bool,
+    /// Which calls are explained: those of the last file that begin there; without a position, those that no rule expands.
+    pub explain: Option<Option<Position>>,
+    /// Whether reports are in JSON.
+    pub is_json: bool,
     pub names: Vec<&'w str, A>,
     pub call: Option<Position>,
     pub write: Option<&'w str>,
@@ -91,6 +102,14 @@ fn edition(word: &str) -> Option<Edition>
     }
 }
 
+// The position that a word says right after `--explain`.
+fn explained_at(last: &str, word: &str) -> Option<Position> {
+    match last {
+        "--explain" => Position::read(word),
+        _ => None,
+    }
+}
+
 impl<'w, A: Allocator + Copy> Options<'w, A> {
     fn new(alloc: A) -> Options<'w, A> {
         Options {
@@ -98,17 +117,22 @@ impl<'w, A: Allocator + Copy> Options<'w, A> {
             depth: None,
             fuel: 100_000,
             is_traced: false,
+            is_origin_noted: false,
+            explain: None,
+            is_json: false,
             names: Vec::new(alloc),
             call: None,
             write: None,
         }
     }
 
-    /// How far calls are expanded, where the files set that limit of depth, or none.
-    pub fn settings(&self, limit: Option<u32>) -> Settings
+    /// How far calls are expanded, where the files set that limit of depth, or none, and these are explained.
+    pub fn settings(&self, limit: Option<u32>, explain: Explain) -> Settings
         ensures edition { result.edition ≡ self.now.edition }
         ensures fuel { result.fuel ≡ self.now.fuel }
         ensures traced { result.is_traced ≡ self.now.is_traced }
+        ensures origin { result.is_origin_noted ≡ self.now.is_origin_noted }
+        ensures explain { result.explain ≡ explain }
         ensures depth { result.depth ≡ unwrap_or (option_or self.now.depth limit) 128 }
     {
         Settings {
@@ -116,6 +140,8 @@ impl<'w, A: Allocator + Copy> Options<'w, A> {
             depth: self.depth.or(limit).unwrap_or(DEPTH),
             fuel: self.fuel,
             is_traced: self.is_traced,
+            is_origin_noted: self.is_origin_noted,
+            explain,
         }
     }
 
@@ -136,6 +162,9 @@ impl<'w, A: Allocator + Copy> Options<'w, A> {
         match word {
             "--once" => self.depth = Some(1),
             "--trace" => self.is_traced = true,
+            "--origin" => self.is_origin_noted = true,
+            "--explain" => self.explain = Some(None),
+            "--json" => self.is_json = true,
             _ => return None,
         }
         Some(())
@@ -149,6 +178,7 @@ pub fn read_words<'w, A: Allocator + Copy>(
 ) -> Result<Asked<'w, A>, AllocError> {
     let mut options = Options::new(alloc);
     let mut wanted = None;
+    let mut last = "";
     for word in words {
         let word = word.as_str();
         if let Some((option, _)) = wanted.take() {
@@ -161,11 +191,14 @@ pub fn read_words<'w, A: Allocator + Copy>(
             return Ok(Asked::Version);
         } else if let Some(option) = valued_option(word) {
             wanted = Some((option, word));
+        } else if let Some(position) = explained_at(last, word) {
+            options.explain = Some(Some(position));
         } else if !word.starts_with("--") {
             options.names.push(word)?;
         } else if options.switch(word).is_none() {
             return Ok(Asked::Wrong(word));
         }
+        last = word;
     }
     Ok(match wanted {
         Some((_, word)) => Asked::Missing(word),

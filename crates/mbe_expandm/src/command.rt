@@ -3,15 +3,19 @@ use crate::arguments::{Asked, Options, USAGE, VERSION, read_words};
 use crate::files::SourceFile;
 use crate::messages::message;
 use crate::places::NOWHERE;
+use crate::saying::{Form, add_reports, error_text, form_of};
 use crate::sessions::{DONE, Named, Session, WRONG, print, write};
 use mbe_expanding::notes::Note;
 use std::io::{self, Read};
 use std::rt::{Env, Files};
 use std::{env, fs};
 
-/// Runs on the words after the program's name, and returns the exit status.
-pub fn run_command<R: Env + Files + Input + Print + Eprint + AllocGlobal>(rt: &R) -> u8 {
-    match run(rt) {
+/// Runs on the words after the program's name, and returns the exit status. It is known whether standard error is a terminal.
+pub fn run_command<R: Env + Files + Input + Print + Eprint + AllocGlobal>(
+    rt: &R,
+    is_terminal: bool,
+) -> u8 {
+    match run(rt, is_terminal) {
         Ok(status) => status,
         Err(error) => {
             let _ = eprintln!(rt; "error: {error}");
@@ -20,13 +24,21 @@ pub fn run_command<R: Env + Files + Input + Print + Eprint + AllocGlobal>(rt: &R
     }
 }
 
-fn run<R: Env + Files + Input + Print + Eprint + AllocGlobal>(rt: &R) -> io::Result<u8> {
+fn run<R: Env + Files + Input + Print + Eprint + AllocGlobal>(
+    rt: &R,
+    is_terminal: bool,
+) -> io::Result<u8> {
     let mut words = Vec::new(rt.alloc());
     for word in env::args(rt)?.skip(1) {
         words.push(word)?;
     }
     match read_words(rt.alloc(), words.as_slice())? {
-        Asked::Run(options) => run_files(rt, &options),
+        Asked::Run(options) => {
+            let is_explained = options.explain.is_some();
+            let is_colourless = is_colourless(rt);
+            let form = form_of(options.is_json, is_explained, is_terminal, is_colourless);
+            run_files(rt, &options, form)
+        }
         Asked::Help => {
             println!(rt; "{USAGE}")?;
             Ok(DONE)
@@ -50,6 +62,20 @@ fn run<R: Env + Files + Input + Print + Eprint + AllocGlobal>(rt: &R) -> io::Res
     }
 }
 
+// Whether `NO_COLOR` is set, and not empty.
+fn is_colourless<R: Env + AllocGlobal>(rt: &R) -> bool {
+    match env::var(rt, "NO_COLOR") {
+        Ok(value) => !value.is_empty(),
+        Err(_) => false,
+    }
+}
+
+// Reports an error that is of no file's text.
+fn say_error<R: Eprint + AllocGlobal>(rt: &R, form: Option<Form>, message: &str) -> io::Result<()> {
+    let text = error_text(rt.alloc(), form, message)?;
+    eprint!(rt; "{text}")
+}
+
 // The text of the file of that name, if it is shorter than 2^32 bytes.
 fn text_of<R: Files + Input + AllocGlobal>(rt: &R, name: &str) -> io::Result<String> {
     let text = if name == "-" {
@@ -66,13 +92,15 @@ fn text_of<R: Files + Input + AllocGlobal>(rt: &R, name: &str) -> io::Result<Str
 fn run_files<R: Files + Input + Print + Eprint + AllocGlobal>(
     rt: &R,
     options: &Options<'_>,
+    form: Option<Form>,
 ) -> io::Result<u8> {
     let mut texts = Vec::new(rt.alloc());
     for name in &options.names {
         match text_of(rt, *name) {
             Ok(text) => texts.push(Named { name: *name, text })?,
             Err(error) => {
-                eprintln!(rt; "error: couldn't read `{name}`: {error}")?;
+                let message = format!(in rt.alloc(); "couldn't read `{name}`: {error}")?;
+                say_error(rt, form, message.as_str())?;
                 return Ok(WRONG);
             }
         }
@@ -82,20 +110,21 @@ fn run_files<R: Files + Input + Print + Eprint + AllocGlobal>(
             let out = &mut io::writer(rt);
             let (session, written) = print(rt.alloc(), options, texts.as_slice(), out)?;
             written?;
-            ended(rt, &session, true)
+            ended(rt, form, &session, true)
         }
-        Some(folder) => write_files(rt, options, texts.as_slice(), folder),
+        Some(folder) => write_files(rt, options, form, texts.as_slice(), folder),
     }
 }
 
 // Reports the notes of a run that did or didn't write what it had to, and returns its status.
 fn ended<R: Eprint + AllocGlobal>(
     rt: &R,
+    form: Option<Form>,
     session: &Session<'_>,
     is_written: bool,
 ) -> io::Result<u8> {
-    report(rt, &session.files, &session.notes)?;
-    report(rt, &session.files, &session.expander.notes)?;
+    report(rt, form, &session.files, &session.notes)?;
+    report(rt, form, &session.files, &session.expander.notes)?;
     Ok(session.status(is_written))
 }
 
@@ -122,11 +151,13 @@ fn shared_name<'t>(texts: &'t [Named<'_>]) -> Option<&'t str> {
 fn write_files<R: Files + Eprint + AllocGlobal>(
     rt: &R,
     options: &Options<'_>,
+    form: Option<Form>,
     texts: &[Named<'_>],
     folder: &str,
 ) -> io::Result<u8> {
     if let Some(name) = shared_name(texts) {
-        eprintln!(rt; "error: two files would be written as `{folder}/{name}`")?;
+        let message = format!(in rt.alloc(); "two files would be written as `{folder}/{name}`")?;
+        say_error(rt, form, message.as_str())?;
         return Ok(WRONG);
     }
     let (session, written) = write(rt.alloc(), options, texts)?;
@@ -134,15 +165,31 @@ fn write_files<R: Files + Eprint + AllocGlobal>(
         let name = last_name(file.name);
         let path = format!(in rt.alloc(); "{folder}/{name}")?;
         if let Err(error) = fs::write(rt, path.as_str(), text.as_str()) {
-            eprintln!(rt; "error: couldn't write `{path}`: {error}")?;
-            return ended(rt, &session, false);
+            let message = format!(in rt.alloc(); "couldn't write `{path}`: {error}")?;
+            say_error(rt, form, message.as_str())?;
+            return ended(rt, form, &session, false);
         }
     }
-    ended(rt, &session, true)
+    ended(rt, form, &session, true)
 }
 
-// Writes the notes to standard error.
+// Writes the notes to standard error, in that form.
 fn report<R: Eprint + AllocGlobal>(
+    rt: &R,
+    form: Option<Form>,
+    files: &[SourceFile<'_>],
+    notes: &[Note],
+) -> io::Result<()> {
+    let Some(form) = form else {
+        return report_lines(rt, files, notes);
+    };
+    let mut text = String::new(rt.alloc());
+    add_reports(rt.alloc(), form, files, notes, &mut text)?;
+    eprint!(rt; "{text}")
+}
+
+// Writes the notes to standard error, each with its place and its message in one line.
+fn report_lines<R: Eprint + AllocGlobal>(
     rt: &R,
     files: &[SourceFile<'_>],
     notes: &[Note],

@@ -9,4 +9,5 @@ pub mod limits;
 pub mod lines;
 pub mod messages;
 pub mod places;
+pub mod saying;
 pub mod sessions;

@@ -24,6 +24,35 @@ impl Position {
         }
     }
 
+    /// From which byte to which a text is on that line, and in that column if there is one; from 0 to 0 if it isn't anywhere.
+    pub fn bytes_in(self, text: &str) -> (usize, usize) {
+        let mut start = 0usize;
+        for (number, line) in text.split('\n').enumerate() {
+            if number.saturating_add(1) == self.line {
+                return self.bytes_of(line, start);
+            }
+            start = start.saturating_add(line.len()).saturating_add(1);
+        }
+        (0, 0)
+    }
+
+    // The same of a line that starts there.
+    fn bytes_of(self, line: &str, start: usize) -> (usize, usize) {
+        let Some(column) = self.column else {
+            return (start, start.saturating_add(line.len()));
+        };
+        let Some(number) = column.checked_sub(1) else {
+            return (0, 0);
+        };
+        match line.char_indices().nth(number) {
+            Some((at, char)) => {
+                let from = start.saturating_add(at);
+                (from, from.saturating_add(char.len_utf8()))
+            }
+            None => (0, 0),
+        }
+    }
+
     /// Whether a byte of a text is on that line, and in that column if there is one.
     pub fn is_at(self, found: Place<'_>) -> bool
         ensures { result ≡ is_position self found.entry.line found.entry.column }

@@ -13,6 +13,7 @@ use crate::arguments::Options;
 use crate::expansions::{all_expanded, define_files, write_last};
 use crate::files::{SourceFile, source_file};
 use crate::limits::recursion_limit;
+use crate::saying::explained;
 use mbe_expanding::expander::Expander;
 use mbe_expanding::notes::{Level, Note};
 use mbe_rust::fragments::rust_rules;
@@ -101,7 +102,7 @@ impl<'f> Session<'f> {
         let mut notes = Vec::new(alloc);
         let files = sources(alloc, options.edition, texts, &mut notes)?;
         let grammar = rust_rules(options.edition, &[]);
-        let settings = options.settings(limit_of(&files));
+        let settings = options.settings(limit_of(&files), explained(options.explain, &files));
         let mut expander = Expander::new(alloc, grammar, settings);
         define_files(&mut expander, &files)?;
         Ok(Session {

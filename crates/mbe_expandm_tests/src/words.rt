@@ -19,7 +19,7 @@ fn asked(alloc: Global, text: &str) -> Result<&'static str, AllocError> {
     })
 }
 
-static ROWS: [(&str, &str); 20] = [
+static ROWS: [(&str, &str); 26] = [
     ("", "no file"),
     ("a.rs", "run"),
     ("-", "run"),
@@ -38,6 +38,12 @@ static ROWS: [(&str, &str); 20] = [
     ("--write", "missing"),
     ("--trace", "no file"),
     ("--often a.rs", "wrong"),
+    ("--origin a.rs", "run"),
+    ("--json a.rs", "run"),
+    ("--explain a.rs", "run"),
+    ("--explain 3:7 a.rs", "run"),
+    ("--explain 3", "no file"),
+    ("--explain --once", "no file"),
     ("a.rs --help", "help"),
     ("--version", "version"),
 ];

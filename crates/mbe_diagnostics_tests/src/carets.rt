@@ -1,0 +1,90 @@
+// Where the carets are. The columns are those of a terminal: two for a wide character, none for a mark, four for a tab, as rustc prints it.
+use mbe_diagnostics::diagnostic::{Diagnostic, Level, Point};
+use mbe_diagnostics::text::rendered;
+use std::alloc::Global;
+use std::test::Fail;
+
+// What the line has before the part, the part, and what is after it; how the line is shown; and what is below it.
+static ROWS: [(&str, &str, &str, &str, &str); 8] = [
+    ("", "x", "", "x", "^"),
+    ("ab ", "=>", " y", "ab => y", "   ^^"),
+    ("ab", "", "", "ab", "  ^"),
+    ("\u{6f22}\u{5b57} ", "x", "", "\u{6f22}\u{5b57} x", "     ^"),
+    ("a ", "\u{6f22}", ")", "a \u{6f22})", "  ^^"),
+    ("e\u{301} ", "x", "", "e\u{301} x", "  ^"),
+    ("\t\t", "x", "\ty", "        x    y", "        ^"),
+    (
+        "\"\u{1f44d}\u{1f3fd}\" ",
+        "x",
+        "",
+        "\"\u{1f44d}\u{1f3fd}\" x",
+        "     ^",
+    ),
+];
+
+fn said<'t>(
+    number: usize,
+    line: &'t str,
+    before: &'t str,
+    part: &'t str,
+    level: Level,
+) -> Diagnostic<'t> {
+    let point = Point {
+        byte: 0,
+        line: number,
+        column: 3,
+    };
+    Diagnostic {
+        level,
+        message: "here",
+        file: "a.rs",
+        start: point,
+        end: point,
+        line,
+        before,
+        part,
+    }
+}
+
+// Whether it is so in a line of that number, which is as wide as the space.
+fn is_shown(
+    alloc: Global,
+    number: usize,
+    space: &str,
+    row: &(&str, &str, &str, &str, &str),
+) -> Result<bool, Fail> {
+    let (before, part, after, line, carets) = *row;
+    let text = format!(in alloc; "{before}{part}{after}")?;
+    let said = said(number, text.as_str(), before, part, Level::Note);
+    let want = format!(in alloc;
+        "note: here\n{space}--> a.rs:{number}:3\n{space} |\n{number} | {line}\n{space} | {carets}\n"
+    )?;
+    Ok(rendered(alloc, &said, false)?.as_str() == want.as_str())
+}
+
+#[test]
+fn the_carets_are_below_the_part(rt: HostRuntime) -> Result<(), Fail> {
+    for row in &ROWS {
+        assert!(rt; is_shown(rt.alloc(), 7, " ", row)?);
+        assert!(rt; is_shown(rt.alloc(), 1024, "    ", row)?);
+    }
+    Ok(())
+}
+
+static LEVELS: [(Level, &str); 3] = [
+    (Level::Error, "\u{1b}[1;31merror"),
+    (Level::Warning, "\u{1b}[1;33mwarning"),
+    (Level::Note, "\u{1b}[1;32mnote"),
+];
+
+#[test]
+fn the_level_has_a_colour(rt: HostRuntime) -> Result<(), Fail> {
+    for (level, word) in &LEVELS {
+        let said = said(1, "x", "", "x", *level);
+        let want = format!(in rt.alloc();
+            "{word}\u{1b}[0m: here\n --> a.rs:1:3\n  |\n1 | x\n  | ^\n"
+        )?;
+        assert_eq!(rt; rendered(rt.alloc(), &said, true)?.as_str(), want.as_str());
+    }
+    Ok(())
+}

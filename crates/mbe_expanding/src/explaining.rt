@@ -1,0 +1,174 @@
+// What the rules of a macro say of a call: where each stops, and what it wants there.
+ghost use Rattle.std.specs.Prelude.{◌≡◌, ◌++◌, ◌<◌, IfOk, OnOk, length, map};
+ghost use Rattle.std.specs.String.{string_bytes};
+ghost use Rattle.mbe_semantics.specs.Expansion.Macro.{IsChecked};
+ghost use Rattle.mbe.specs.MacroViews.{macro_of};
+ghost use Rattle.mbe_calls.specs.Shown.{call_shown};
+ghost use Rattle.mbe_explaining.specs.Saying.{part_seen, said_seen};
+ghost use Rattle.mbe_expanding.specs.Explained as spec;
+ghost use Rattle.mbe_expanding.specs.Explained.{NotesRules, RulesSay, Says, asks_for, note_seen};
+ghost use Rattle.mbe_expanding.specs.Shown.{setting_of, state_of};
+
+use crate::expander::Expander;
+use crate::notes::{Level, Note};
+use mbe::DeclarativeMacro;
+use mbe_calls::calls::Call;
+use mbe_explaining::saying::{Said, message, named, says};
+use mbe_explaining::texts::Part;
+use mbe_tt::grammar::FragmentGrammar;
+use mbe_tt::tt::TopSubtree;
+use std::alloc::{AllocError, Allocator};
+
+/// What the rule with this index says of an argument: its verdict, where that is, all that it wants there, and of an ambiguity two
+/// parts that clash. `AllocError` if out of memory.
+pub fn what_rule_says<A: Allocator + Copy, G: FragmentGrammar>(
+    alloc: A,
+    grammar: &G,
+    rules: &DeclarativeMacro<A>,
+    argument: &TopSubtree<A>,
+    index: usize,
+) -> Result<Said<A>, AllocError>
+    requires checked { IsChecked (macro_of rules.now) }
+    requires rule { index < length (macro_of rules.now).rules }
+    ensures says { IfOk result (λ said. Says (G.grammar grammar.now) (macro_of rules.now).rules
+        argument.now index (said_seen said)) }
+{
+    let wants = rules.wants(alloc, grammar, argument, index)?;
+    let close = argument.top_subtree().delimiter.close;
+    says(alloc, &wants, argument.iter().remaining(), close)
+}
+
+// How a rule is called.
+fn rule_name<A: Allocator>(alloc: A, number: usize, name: &str) -> Result<String<A>, AllocError>
+    ensures { IfOk result (λ text. string_bytes text ≡ spec.rule_name number name.now) }
+{
+    format!(in alloc; "rule {number} of `{name}!`")
+}
+
+// Notes where a part of a rule is, if it is at a place.
+fn note_part<A: Allocator + Copy>(
+    alloc: A,
+    notes: &mut Vec<Note<A>, A>,
+    rule: &str,
+    part: &Part<A>,
+) -> Result<(), AllocError>
+    ensures { OnOk result (let part = part_seen part.now in map note_seen notes.new.items
+        ≡ map note_seen notes.old.items ++ spec.part_note rule.now part.text part.place) }
+{
+    let Some(span) = part.span else {
+        return Ok(());
+    };
+    let wanted = part.text.as_str();
+    notes.push(Note {
+        level: Level::Note,
+        span,
+        message: format!(in alloc; "{wanted} in {rule}")?,
+    })?;
+    Ok(())
+}
+
+// Notes where the parts of a rule are.
+fn note_parts<A: Allocator + Copy>(
+    alloc: A,
+    notes: &mut Vec<Note<A>, A>,
+    rule: &str,
+    parts: &[&Part<A>],
+) -> Result<(), AllocError>
+    ensures { OnOk result (map note_seen notes.new.items ≡ map note_seen notes.old.items
+        ++ spec.part_notes rule.now (map (λ p. part_seen p.now) parts.now)) }
+{
+    match parts {
+        [] => Ok(()),
+        [first, rest @ ..] => {
+            note_part(alloc, notes, rule, first)?;
+            note_parts(alloc, notes, rule, rest)
+        }
+    }
+}
+
+// Notes what a rule says, and where the parts of it are that this names.
+fn note_rule<A: Allocator + Copy>(
+    alloc: A,
+    notes: &mut Vec<Note<A>, A>,
+    rule: &str,
+    said: &Said<A>,
+) -> Result<(), AllocError>
+    ensures { OnOk result (map note_seen notes.new.items
+        ≡ map note_seen notes.old.items ++ spec.rule_notes rule.now (said_seen said.now)) }
+{
+    notes.push(Note {
+        level: Level::Note,
+        span: said.span,
+        message: message(alloc, rule, said)?,
+    })?;
+    let parts = named(alloc, said)?;
+    note_parts(alloc, notes, rule, parts.as_slice())
+}
+
+// Notes what rules say, the first of which has that number.
+fn note_rules<A: Allocator + Copy>(
+    alloc: A,
+    notes: &mut Vec<Note<A>, A>,
+    name: &str,
+    number: usize,
+    saids: &[Said<A>],
+) -> Result<(), AllocError>
+    ensures { OnOk result (map note_seen notes.new.items ≡ map note_seen notes.old.items
+        ++ spec.rules_notes name.now number (map said_seen saids.now)) }
+{
+    match saids {
+        [] => Ok(()),
+        [first, rest @ ..] => {
+            let rule = rule_name(alloc, number, name)?;
+            note_rule(alloc, notes, rule.as_str(), first)?;
+            note_rules(alloc, notes, name, number.saturating_add(1), rest)
+        }
+    }
+}
+
+impl<'g, A: Allocator + Copy> Expander<'g, A> {
+    // Notes what the rules that a call names say of its argument, if that is asked for.
+    pub(crate) fn explain(
+        &mut self,
+        call: Call<'_, A>,
+        argument: &TopSubtree<A>,
+        is_expanded: bool,
+    ) -> Result<(), AllocError>
+        ensures setting { OnOk result (setting_of self.new ≡ setting_of self.old) }
+        ensures state { OnOk result (state_of self.new ≡ state_of self.old) }
+        ensures notes { OnOk result (NotesRules (setting_of self.old) (call_shown call.entry)
+            (state_of self.old) argument.now
+            (asks_for self.old.settings.explain call.entry.start is_expanded)
+            (map note_seen self.old.notes.items) (map note_seen self.new.notes.items)) }
+    {
+        if !self.settings.explain.asks_for(call.start, is_expanded) {
+            return Ok(());
+        }
+        let saids = self.rules_say(call, argument)?;
+        let name = call.name.sym.as_str();
+        note_rules(self.alloc, &mut self.notes, name, 1, saids.as_slice())?;
+        Ok(())
+    }
+
+    // What each rule that a call names says.
+    fn rules_say(
+        &self,
+        call: Call<'_, A>,
+        argument: &TopSubtree<A>,
+    ) -> Result<Vec<Said<A>, A>, AllocError>
+        ensures { IfOk result (λ v. RulesSay (setting_of self.now) (call_shown call.entry)
+            (state_of self.now) argument.now (map said_seen v.items)) }
+    {
+        let mut all = Vec::new(self.alloc);
+        let Some(rules) = self.rules(call) else {
+            return Ok(all);
+        };
+        if rules.err().is_some() {
+            return Ok(all);
+        }
+        for index in 0..rules.num_rules() {
+            all.push(what_rule_says(self.alloc, &self.grammar, rules, argument, index)?)?;
+        }
+        Ok(all)
+    }
+}
