@@ -1,5 +1,5 @@
 -- Many arguments of one definition: the answers to them, one after another, and what a call leaves of them in memory of its caller.
-use Rattle.std.specs.Prelude.{◌≡◌, ◌⊎◌, ◌×◌, ◌+◌, ⊤, ⊥, ℕ, Bool, ◌&&◌, if◌then◌else◌, nat_le, List, [], ◌∷◌, ◌++◌, map, length, take, drop, Option, Some, None}
+use Rattle.std.specs.Prelude.{◌≡◌, ◌⊎◌, ◌+◌, ⊤, ⊥, ℕ, Bool, ◌&&◌, if◌then◌else◌, nat_le, List, [], ◌∷◌, ◌++◌, map, length, take, drop, Option, Some, None}
 use Rattle.std.specs.List.{flat_map}
 use Rattle.mbe_flat.specs.declared.token.FlatSpan.{FlatSpan}
 use Rattle.mbe_flat.specs.declared.token.FlatToken.{FlatToken}
@@ -83,6 +83,15 @@ answers_seen found = record {
 abbrev pub AreJoined : (Source → FlatSpan → Answer → Type 0) → Source → List Piece → Joined → Type 0
 AreJoined Answers all ps j = (as : List Answer) × AreAnswersAt Answers all ps as × (j ≡ joined as)
 
+-- the answers of `expand` to all pieces, each in a call at its own span
+abbrev pub AreExpansions : Request → List ℕ → Source → Source → List Piece → Joined → Type 0
+AreExpansions r grammar definition all ps j =
+    AreJoined (λ argument site a. Expands (asked_at r site) grammar definition argument a) all ps j
+
+-- no macro was read, or memory ran out
+abbrev pub IsNoExpansion : Request → List ℕ → Source → Answer → Type 0
+IsNoExpansion r grammar definition a = IsUnread r grammar definition a ⊎ IsOutOfMemory a
+
 -- ---- what is given
 
 abbrev pub has_room_for_all : Joined → List Reply → Buffers → Bool
@@ -106,9 +115,7 @@ pub record GivesAll (j : Joined) (old new : List Reply) (before after : Buffers)
 -- the answers of `expand` to each argument, in a call at its own span, or why no macro was read
 pub data GivesExpansions (r : Request) (grammar : List ℕ) (definition all : Source) (ps : List Piece) (old new : List Reply)
     (before after : Buffers) (reply : Reply) : Type 0 where
-  with_expansions : (j : Joined)
-      → AreJoined (λ argument site a. Expands (asked_at r site) grammar definition argument a) all ps j
-      → GivesAll j old new before after reply → GivesExpansions r grammar definition all ps old new before after reply
-  without_expansions : GivesFailure (λ a. IsUnread r grammar definition a ⊎ IsOutOfMemory a) before.message after.message reply
-      → new ≡ old → after.tokens ≡ before.tokens → after.text ≡ before.text
+  with_expansions : (j : Joined) → AreExpansions r grammar definition all ps j → GivesAll j old new before after reply
+      → GivesExpansions r grammar definition all ps old new before after reply
+  without_expansions : GivesFailure (IsNoExpansion r grammar definition) before.message after.message reply → new ≡ old → after.tokens ≡ before.tokens → after.text ≡ before.text
       → GivesExpansions r grammar definition all ps old new before after reply

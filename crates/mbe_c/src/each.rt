@@ -1,15 +1,15 @@
 // Many arguments of one definition, and the answers to them, one after another.
-ghost use Rattle.std.specs.Prelude.{◌≡◌, [], option_map, IfOk};
+ghost use Rattle.std.specs.Prelude.{◌≡◌, [], option_map, IfErr, IfOk};
 ghost use Rattle.mbe_replies.specs.Answers.{answer_of};
 ghost use Rattle.mbe_replies.specs.Calls.{source_of};
-ghost use Rattle.mbe_replies.specs.ReadOnce.{ExpandsBy};
+ghost use Rattle.mbe_replies.specs.ReadOnce.{AnswersBy};
 ghost use Rattle.mbe_c.specs.Each.{answers_seen};
 ghost use Rattle.mbe_c.specs.Each as spec;
 
 use crate::{Reply, reply_of};
 use mbe_flat::token::{FlatSpan, FlatToken};
 use mbe_replies::answer::{Answer, Part, Status};
-use mbe_replies::calls::Input;
+use mbe_replies::calls::{Input, Request};
 use mbe_replies::read_macro::ReadMacro;
 use std::alloc::{AllocError, Allocator};
 
@@ -100,7 +100,7 @@ fn expand_piece<A: Allocator + Copy>(
     all: Input<'_>,
     piece: Piece,
 ) -> Answer<A>
-    ensures { spec.IsAnswerAt (ExpandsBy rules.now) (source_of all.entry) piece (answer_of result) }
+    ensures { spec.IsAnswerAt (AnswersBy rules.now) (source_of all.entry) piece (answer_of result) }
 {
     match argument_at(all, piece) {
         Some(argument) => rules.expand(alloc, argument, piece.call_site),
@@ -108,14 +108,14 @@ fn expand_piece<A: Allocator + Copy>(
     }
 }
 
-/// The answers to many arguments.
-pub fn expand_pieces<A: Allocator + Copy>(
+// The answers to many arguments.
+fn expand_pieces<A: Allocator + Copy>(
     alloc: A,
     rules: &ReadMacro<'_, A>,
     all: Input<'_>,
     pieces: &[Piece],
 ) -> Result<Answers<A>, AllocError>
-    ensures { IfOk result (λ found. spec.AreJoined (ExpandsBy rules.now) (source_of all.entry)
+    ensures { IfOk result (λ found. spec.AreJoined (AnswersBy rules.now) (source_of all.entry)
         pieces.now (answers_seen found)) }
 {
     let mut answers = Answers::new(alloc);
@@ -123,4 +123,28 @@ pub fn expand_pieces<A: Allocator + Copy>(
         answers.add(&expand_piece(alloc, rules, all, *piece))?;
     }
     Ok(answers)
+}
+
+/// The answers to many arguments by a definition that is read once, and before any of them; or why it isn't read.
+pub fn expand_each<A: Allocator + Copy>(
+    alloc: A,
+    request: &Request,
+    grammar: &[u8],
+    definition: Input<'_>,
+    all: Input<'_>,
+    pieces: &[Piece],
+) -> Result<Answers<A>, Answer<A>>
+    ensures expands { IfOk result (λ found. spec.AreExpansions request.now grammar.now
+        (source_of definition.entry) (source_of all.entry) pieces.now (answers_seen found)) }
+    ensures fails { IfErr result (λ a. spec.IsNoExpansion request.now grammar.now
+        (source_of definition.entry) (answer_of a)) }
+{
+    let rules = match ReadMacro::read(alloc, request, grammar, definition) {
+        Ok(rules) => rules,
+        Err(answer) => return Err(answer),
+    };
+    match expand_pieces(alloc, &rules, all, pieces) {
+        Ok(answers) => Ok(answers),
+        Err(_) => Err(Answer::empty(alloc, Status::OutOfMemory, Part::None)),
+    }
 }

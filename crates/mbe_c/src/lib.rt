@@ -4,19 +4,18 @@
 
 ghost use Rattle.std.specs.Prelude.{◌≡◌, ◌-◌, ◌^◌, length, min, nat_le};
 ghost use Rattle.mbe_replies.specs.Answers.{answer_of};
-ghost use Rattle.mbe_replies.specs.Calls.{argument_of, definition_of, source_of};
+ghost use Rattle.mbe_replies.specs.Calls.{argument_of, definition_of};
 ghost use Rattle.mbe_c.specs.Copies as spec;
 ghost use Rattle.mbe_c.specs.Each.{answers_seen, GivesAll, GivesExpansions};
 
 mod each;
 
-use crate::each::{Answers, Piece, expand_pieces};
+use crate::each::{Answers, Piece, expand_each};
 use mbe_flat::token::{FlatSpan, FlatToken, flat_span};
 use mbe_replies::answer::{Answer, Part, Status};
 use mbe_replies::calls::{
     FlatVerdict, Input, Request, check_grammar, convert, define, expand, explain,
 };
-use mbe_replies::read_macro::ReadMacro;
 use std::alloc::{Allocator, Global};
 
 /// What is said of an answer, in numbers.
@@ -137,36 +136,6 @@ fn column_of(column: usize) -> u32
     }
 }
 
-// The definition of a request.
-fn definition_input<'a>(
-    request: &Request,
-    text: &'a [u8],
-    tokens: &'a [FlatToken],
-) -> Input<'a>
-    ensures { source_of result ≡ definition_of request.now text.now tokens.now }
-{
-    Input {
-        text,
-        tokens,
-        is_flat: request.definition_is_flat,
-        part: Part::Definition,
-        file: 0,
-    }
-}
-
-// The argument of a request, or its only input.
-fn argument_input<'a>(request: &Request, text: &'a [u8], tokens: &'a [FlatToken]) -> Input<'a>
-    ensures { source_of result ≡ argument_of request.now text.now tokens.now }
-{
-    Input {
-        text,
-        tokens,
-        is_flat: request.argument_is_flat,
-        part: Part::Argument,
-        file: 1,
-    }
-}
-
 // Copies an answer into memory of the caller, and returns its status.
 fn give<A: Allocator>(
     answer: &Answer<A>,
@@ -212,8 +181,20 @@ pub extern "C" fn mbe_c_expand(
         (record { tokens = tokens.old; text = text.old; message = message.old })
         (record { tokens = tokens.new; text = text.new; message = message.new }) reply.new }
 {
-    let definition = definition_input(request, definition, definition_tokens);
-    let argument = argument_input(request, argument, argument_tokens);
+    let definition = Input {
+        text: definition,
+        tokens: definition_tokens,
+        is_flat: request.definition_is_flat,
+        part: Part::Definition,
+        file: 0,
+    };
+    let argument = Input {
+        text: argument,
+        tokens: argument_tokens,
+        is_flat: request.argument_is_flat,
+        part: Part::Argument,
+        file: 1,
+    };
     let answer = expand(alloc, request, grammar, definition, argument);
     give(&answer, tokens, text, message, reply)
 }
@@ -245,20 +226,23 @@ pub extern "C" fn mbe_c_expand_each(
         (record { tokens = tokens.old; text = text.old; message = message.old })
         (record { tokens = tokens.new; text = text.new; message = message.new }) reply.new }
 {
-    let definition = definition_input(request, definition, definition_tokens);
-    let all = argument_input(request, arguments, argument_tokens);
-    match ReadMacro::read(alloc, request, grammar, definition) {
+    let definition = Input {
+        text: definition,
+        tokens: definition_tokens,
+        is_flat: request.definition_is_flat,
+        part: Part::Definition,
+        file: 0,
+    };
+    let all = Input {
+        text: arguments,
+        tokens: argument_tokens,
+        is_flat: request.argument_is_flat,
+        part: Part::Argument,
+        file: 1,
+    };
+    match expand_each(alloc, request, grammar, definition, all, pieces) {
         Err(answer) => give(&answer, &mut [], &mut [], message, reply),
-        Ok(rules) => match expand_pieces(alloc, &rules, all, pieces) {
-            Ok(answers) => give_answers(alloc, &answers, replies, tokens, text, message, reply),
-            Err(_) => give(
-                &Answer::empty(alloc, Status::OutOfMemory, Part::None),
-                &mut [],
-                &mut [],
-                message,
-                reply,
-            ),
-        },
+        Ok(found) => give_answers(alloc, &found, replies, tokens, text, message, reply),
     }
 }
 
@@ -282,8 +266,20 @@ pub extern "C" fn mbe_c_explain(
         (argument_of request.now argument.now argument_tokens.now)
         verdicts.old verdicts.new message.old message.new reply.new }
 {
-    let definition = definition_input(request, definition, definition_tokens);
-    let argument = argument_input(request, argument, argument_tokens);
+    let definition = Input {
+        text: definition,
+        tokens: definition_tokens,
+        is_flat: request.definition_is_flat,
+        part: Part::Definition,
+        file: 0,
+    };
+    let argument = Input {
+        text: argument,
+        tokens: argument_tokens,
+        is_flat: request.argument_is_flat,
+        part: Part::Argument,
+        file: 1,
+    };
     match explain(alloc, request, grammar, definition, argument) {
         Err(answer) => give(&answer, &mut [], &mut [], message, reply),
         Ok(found) => give_verdicts(alloc, &found, verdicts, reply),
@@ -356,7 +352,13 @@ pub extern "C" fn mbe_c_convert(
         (record { tokens = tokens.old; text = text.old; message = message.old })
         (record { tokens = tokens.new; text = text.new; message = message.new }) reply.new }
 {
-    let input = argument_input(request, input, input_tokens);
+    let input = Input {
+        text: input,
+        tokens: input_tokens,
+        is_flat: request.argument_is_flat,
+        part: Part::Argument,
+        file: 1,
+    };
     let answer = convert(alloc, request, input);
     give(&answer, tokens, text, message, reply)
 }
@@ -376,7 +378,13 @@ pub extern "C" fn mbe_c_define(
         (definition_of request.now definition.now definition_tokens.now)
         message.old message.new reply.new }
 {
-    let definition = definition_input(request, definition, definition_tokens);
+    let definition = Input {
+        text: definition,
+        tokens: definition_tokens,
+        is_flat: request.definition_is_flat,
+        part: Part::Definition,
+        file: 0,
+    };
     match define(alloc, request, definition) {
         Err(answer) => give(&answer, &mut [], &mut [], message, reply),
         Ok(rules) => {

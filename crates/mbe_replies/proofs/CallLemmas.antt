@@ -73,12 +73,6 @@ named_by : (s : Settings) (text : List ℕ) (kind : GrammarKind) (g : Grammar) �
     → IsGrammar s.edition text s.grammar g
 named_by s text kind g is named = subst (λ (k : GrammarKind). IsGrammar s.edition text k g) (sym is) named
 
-pub expands_by : (s : Settings) (text : List ℕ) (kind : GrammarKind) (g : Grammar) (definition argument : Top) (a : Answer) → s.grammar ≡ kind
-    → IsGrammar s.edition text kind g → IsExpansion s g definition argument a ⊎ IsNoMacro s.edition definition.1 a
-    → ExpandsTrees s text definition argument a
-expands_by s text kind g definition argument a is named (inl shows) = inl (g, named_by s text kind g is named, shows)
-expands_by s text kind g definition argument a is named (inr none) = inr (no_macro g (named_by s text kind g is named) none)
-
 pub no_result_by : (s : Settings) (text : List ℕ) (kind : GrammarKind) (g : Grammar) (definition : Top) (a : Answer) → s.grammar ≡ kind
     → IsGrammar s.edition text kind g → IsNoMacro s.edition definition.1 a → IsNoResult s text definition a
 no_result_by s text kind g definition a is named none = no_macro g (named_by s text kind g is named) none

@@ -1,5 +1,5 @@
 -- A definition that is read once: what was read of it, and what it makes of arguments.
-use Rattle.std.specs.Prelude.{◌≡◌, ◌×◌, ℕ, List, Option, None, Ok}
+use Rattle.std.specs.Prelude.{◌≡◌, ℕ, List, Option, None, Ok}
 use Rattle.mbe_tt.specs.declared.span.Span.{Span}
 use Rattle.mbe_tt.specs.Trees.Top.{Top, top_group}
 use Rattle.mbe_tt.specs.Fragments.Grammar.{Grammar}
@@ -12,7 +12,6 @@ use Rattle.mbe.specs.OneAnswer.{IsAnswer}
 use Rattle.mbe_flat.specs.declared.token.FlatSpan.{FlatSpan}
 use Rattle.mbe_replies.specs.declared.answer.Part.TheVariants as parts
 use Rattle.mbe_replies.specs.declared.answer.Status.TheVariants.{Number}
-use Rattle.mbe_replies.specs.declared.asked.GrammarKind.{GrammarKind}
 use Rattle.mbe_replies.specs.declared.asked.GrammarKind.TheVariants as grammars
 use Rattle.mbe_replies.specs.declared.calls.Request.{Request}
 use Rattle.mbe_replies.specs.declared.calls.Settings.{Settings}
@@ -20,20 +19,20 @@ use Rattle.mbe_replies.specs.declared.read_macro.Fragments.{Fragments}
 use Rattle.mbe_replies.specs.declared.read_macro.Fragments.TheVariants as fragments
 use Rattle.mbe_replies.specs.declared.read_macro.ReadMacro.{ReadMacro}
 use Rattle.mbe_replies.specs.Answers.{Answer, empty}
-use Rattle.mbe_replies.specs.Calls.{AreSettings, AreTreesOf, HasNoTrees, IsNoResult, IsText, IsUnknown, Expands, ExpandsTrees, Source, expansion_shown}
+use Rattle.mbe_replies.specs.Calls.{AreSettings, AreTreesOf, HasNoTrees, IsNoResult, IsRustTable, IsText, IsUnknown, Expands, ExpandsTrees, Source, expansion_shown}
 use Rattle.mbe_replies.specs.Expanding.{IsEdition, IsItself}
 
 -- ---- what was read
 
--- the grammar that was read is of that kind; it is the text's, if that is asked for
-abbrev pub AreFragments : {A : Type 0} → GrammarKind → List ℕ → Fragments A → Type 0
-AreFragments kind text fragments.Sample = kind ≡ grammars.Sample
-AreFragments kind text fragments.Rust = kind ≡ grammars.Rust
-AreFragments kind text (fragments.Text rules) = (kind ≡ grammars.Text) × IsText text × (read_text text ≡ Ok (rules_seen rules))
+-- the grammar that was read is the one that is asked for: Rust's table, or the rules of the text
+abbrev pub AreFragments : {A : Type 0} → Settings → List ℕ → Fragments A → Type 0
+AreFragments s text fragments.Sample = s.grammar ≡ grammars.Sample
+AreFragments s text (fragments.Rust table) = (s.grammar ≡ grammars.Rust) × IsRustTable s.edition table
+AreFragments s text (fragments.Text rules) = (s.grammar ≡ grammars.Text) × IsText text × (read_text text ≡ Ok (rules_seen rules))
 
 -- a macro was read of these trees, and the grammar that it asks for of that text
 abbrev pub IsMacroOf : {A : Type 0} → List ℕ → Top → ReadMacro A → Type 0
-IsMacroOf text definition m = AreFragments m.asked.grammar text m.fragments
+IsMacroOf text definition m = AreFragments m.asked text m.fragments
     × IsReadAs (IsEdition m.asked.edition) definition.1 (record { rules = (macro_of m.rules).rules; err = None })
 
 -- a macro was read for that request, of that definition and that text of a grammar
@@ -64,11 +63,11 @@ IsExpansionOf g m argument site a = (tree : Top) × (rule : Option ℕ) × (err 
     × (a ≡ expansion_shown m.asked.form tree rule err)
 
 -- the answer is that to a call with each text and each definition of trees that the macro may have been read of
-abbrev pub ExpandsTreesBy : {A : Type 0} → ReadMacro A → Top → Span → Answer → Type 0
-ExpandsTreesBy m argument site a =
+abbrev pub AnswersTreesBy : {A : Type 0} → ReadMacro A → Top → Span → Answer → Type 0
+AnswersTreesBy m argument site a =
     (text : List ℕ) (definition : Top) → IsMacroOf text definition m → ExpandsTrees (at_site m.asked site) text definition argument a
 
 -- the answer is that of `expand` to each request that the macro may have been read for, with that call site
-abbrev pub ExpandsBy : {A : Type 0} → ReadMacro A → Source → FlatSpan → Answer → Type 0
-ExpandsBy m argument site a =
+abbrev pub AnswersBy : {A : Type 0} → ReadMacro A → Source → FlatSpan → Answer → Type 0
+AnswersBy m argument site a =
     (r : Request) (text : List ℕ) (definition : Source) → IsMacro r text definition m → Expands (asked_at r site) text definition argument a

@@ -1,10 +1,9 @@
 // A definition that is read once, and expands many arguments.
-ghost use Rattle.std.specs.Prelude.{◌≡◌, ◌×◌, None, IfErr, IfOk};
+ghost use Rattle.std.specs.Prelude.{◌≡◌, None, IfErr, IfOk};
 ghost use Rattle.mbe.specs.MacroViews.{macro_of};
 ghost use Rattle.mbe_replies.specs.declared.asked.GrammarKind.TheVariants as grammars;
 ghost use Rattle.mbe_replies.specs.Answers.{answer_of, IsNoGrammar, IsOr};
 ghost use Rattle.mbe_replies.specs.Calls.{IsNoResult, source_of};
-ghost use Rattle.mbe_replies.specs.ReadOnce as spec;
 
 use crate::answer::{Answer, Part, Status};
 use crate::asked::GrammarKind;
@@ -13,6 +12,7 @@ use crate::expanding::{defined, expansion_by};
 use mbe::DeclarativeMacro;
 use mbe_flat::token::{FlatSpan, span_of};
 use mbe_grammar::SampleGrammar;
+use mbe_rules::table::RuleTable;
 use mbe_rules_text::rules::Rules;
 use mbe_rust::fragments::rust_rules;
 use mbe_tt::grammar::FragmentGrammar;
@@ -24,28 +24,29 @@ use std::alloc::{AllocError, Allocator};
 #[derive(Drop)]
 pub enum Fragments<'t, A: Allocator> {
     Sample,
-    Rust,
+    /// Rust's, of the edition that is asked for.
+    Rust(RuleTable<'t>),
     /// The rules of the text that is given.
     Text(Rules<'t, A>),
 }
 
-// Reads the grammar of that kind, from the text where it is to be one.
-fn fragments_of<'t, A: Allocator + Copy>(
-    alloc: A,
-    kind: GrammarKind,
-    text: &'t [u8],
-) -> Result<Fragments<'t, A>, Answer<A>>
-    ensures read { IfOk result (spec.AreFragments kind text.now) }
-    ensures asked { IfErr result (λ _. kind ≡ grammars.Text) }
-    ensures fails { IfErr result (λ a. IsNoGrammar text.now (answer_of a)) }
-{
-    match kind {
-        GrammarKind::Sample => Ok(Fragments::Sample),
-        GrammarKind::Rust => Ok(Fragments::Rust),
-        GrammarKind::Text => match read_rules(alloc, text) {
-            Ok(rules) => Ok(Fragments::Text(rules)),
-            Err(answer) => Err(answer),
-        },
+impl<'t, A: Allocator + Copy> Fragments<'t, A> {
+    ghost use Rattle.mbe_replies.specs.ReadOnce.{AreFragments};
+
+    // Reads the grammar that is asked for, from the text where it is to be one.
+    fn read(alloc: A, asked: Settings, text: &'t [u8]) -> Result<Fragments<'t, A>, Answer<A>>
+        ensures read { IfOk result (AreFragments asked text.now) }
+        ensures asked { IfErr result (λ _. asked.grammar ≡ grammars.Text) }
+        ensures fails { IfErr result (λ a. IsNoGrammar text.now (answer_of a)) }
+    {
+        match asked.grammar {
+            GrammarKind::Sample => Ok(Fragments::Sample),
+            GrammarKind::Rust => Ok(Fragments::Rust(rust_rules(asked.edition, &[]))),
+            GrammarKind::Text => match read_rules(alloc, text) {
+                Ok(rules) => Ok(Fragments::Text(rules)),
+                Err(answer) => Err(answer),
+            },
+        }
     }
 }
 
@@ -59,6 +60,8 @@ pub struct ReadMacro<'t, A: Allocator> {
 }
 
 impl<'t, A: Allocator + Copy> ReadMacro<'t, A> {
+    ghost use Rattle.mbe_replies.specs.ReadOnce as spec;
+
     /// Reads a definition of trees, after the text of the grammar where that is asked for.
     pub fn of_trees(
         alloc: A,
@@ -71,7 +74,7 @@ impl<'t, A: Allocator + Copy> ReadMacro<'t, A> {
         ensures fails { IfErr result (λ a. IsNoResult asked grammar.now definition.now
             (answer_of a)) }
     {
-        let fragments = match fragments_of(alloc, asked.grammar, grammar) {
+        let fragments = match Fragments::read(alloc, asked, grammar) {
             Ok(fragments) => fragments,
             Err(answer) => return Err(answer),
         };
@@ -126,17 +129,13 @@ impl<'t, A: Allocator + Copy> ReadMacro<'t, A> {
         argument: &TopSubtree<A>,
         call_site: Span,
     ) -> Answer<A>
-        ensures { spec.ExpandsTreesBy self.now argument.now call_site (answer_of result) }
+        ensures { spec.AnswersTreesBy self.now argument.now call_site (answer_of result) }
     {
-        let edition = self.asked.edition;
         match &self.fragments {
             Fragments::Sample => self.expand_by(alloc, &SampleGrammar, argument, call_site),
-            Fragments::Rust => {
-                let rules = rust_rules(edition, &[]);
-                self.expand_by(alloc, &rules, argument, call_site)
-            }
+            Fragments::Rust(table) => self.expand_by(alloc, table, argument, call_site),
             Fragments::Text(rules) => {
-                let table = rules.table(edition, &[]);
+                let table = rules.table(self.asked.edition, &[]);
                 self.expand_by(alloc, &table, argument, call_site)
             }
         }
@@ -167,7 +166,7 @@ impl<'t, A: Allocator + Copy> ReadMacro<'t, A> {
     /// Expands an argument, in a call at that span: the answer is that of `calls::expand` to the request that the definition was read
     /// for, with this call site.
     pub fn expand(&self, alloc: A, argument: Input<'_>, call_site: FlatSpan) -> Answer<A>
-        ensures { spec.ExpandsBy self.now (source_of argument.entry) call_site (answer_of result) }
+        ensures { spec.AnswersBy self.now (source_of argument.entry) call_site (answer_of result) }
     {
         match trees(alloc, self.asked.dialect, argument) {
             Ok(argument) => self.expand_trees(alloc, &argument, span_of(call_site)),
