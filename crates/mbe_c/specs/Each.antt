@@ -1,5 +1,5 @@
 -- Many arguments of one definition: the answers to them, one after another, and what a call leaves of them in memory of its caller.
-use Rattle.std.specs.Prelude.{◌≡◌, ◌⊎◌, ◌+◌, ⊤, ⊥, ℕ, Bool, ◌&&◌, if◌then◌else◌, nat_le, List, [], ◌∷◌, ◌++◌, map, length, take, drop, Option, Some, None}
+use Rattle.std.specs.Prelude.{◌≡◌, ◌⊎◌, ◌+◌, ⊤, ℕ, Bool, ◌&&◌, if◌then◌else◌, nat_le, List, [], ◌∷◌, ◌++◌, map, length, take, drop, Option, Some, None}
 use Rattle.std.specs.List.{flat_map}
 use Rattle.mbe_flat.specs.declared.token.FlatSpan.{FlatSpan}
 use Rattle.mbe_flat.specs.declared.token.FlatToken.{FlatToken}
@@ -43,8 +43,8 @@ IsAnswerAt Answers all p a = IsAnswerTo Answers p.call_site (argument_at all p) 
 -- one answer for each piece, in order
 abbrev pub AreAnswersAt : (Source → FlatSpan → Answer → Type 0) → Source → List Piece → List Answer → Type 0
 AreAnswersAt Answers all [] [] = ⊤
-AreAnswersAt Answers all (p ∷ ps) (a ∷ as) = IsAnswerAt Answers all p a × AreAnswersAt Answers all ps as
-AreAnswersAt Answers all [] (a ∷ as) = ⊥
+AreAnswersAt Answers all (p ∷ ps) (a ∷ xs) = IsAnswerAt Answers all p a × AreAnswersAt Answers all ps xs
+AreAnswersAt Answers all [] (a ∷ xs) = ⊥
 AreAnswersAt Answers all (p ∷ ps) [] = ⊥
 
 -- the replies of answers, and all that they show, one after another
@@ -55,11 +55,11 @@ pub record Joined : Type 0 where
   pub message : List ℕ
 
 abbrev pub joined : List Answer → Joined
-joined as = record {
-  replies = map reply_to as;
-  tokens = flat_map (λ (a : Answer). a.tokens) as;
-  text = flat_map (λ (a : Answer). a.text) as;
-  message = flat_map (λ (a : Answer). a.message) as;
+joined xs = record {
+  replies = map reply_to xs;
+  tokens = flat_map (λ (a : Answer). a.tokens) xs;
+  text = flat_map (λ (a : Answer). a.text) xs;
+  message = flat_map (λ (a : Answer). a.message) xs;
 }
 
 -- with one answer more
@@ -81,7 +81,7 @@ answers_seen found = record {
 
 -- the answers to all pieces
 abbrev pub AreJoined : (Source → FlatSpan → Answer → Type 0) → Source → List Piece → Joined → Type 0
-AreJoined Answers all ps j = (as : List Answer) × AreAnswersAt Answers all ps as × (j ≡ joined as)
+AreJoined Answers all ps j = (xs : List Answer) × AreAnswersAt Answers all ps xs × (j ≡ joined xs)
 
 -- the answers of `expand` to all pieces, each in a call at its own span
 abbrev pub AreExpansions : Request → List ℕ → Source → Source → List Piece → Joined → Type 0

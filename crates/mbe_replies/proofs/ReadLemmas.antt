@@ -47,13 +47,19 @@ unfolding table_of
 grammar_read s text fragments.Sample e = (sample, named s text grammars.Sample sample e refl)
 grammar_read s text (fragments.Rust table) (e, h) = (grammar_of table, named s text grammars.Rust (grammar_of table) e (table, h, refl))
 grammar_read s text (fragments.Text rules) (e, is_text, read) =
-    let t = table_of s.edition rules in
-    (grammar_of t, named s text grammars.Text (grammar_of t) e (t, record {
-      is_text = is_text;
-      read = read;
-      its_edition = refl;
-      no_others = refl;
-    }, refl))
+    let t = table_of s.edition rules in (
+      grammar_of t,
+      named s text grammars.Text (grammar_of t) e (
+        t,
+        record {
+          is_text = is_text;
+          read = read;
+          its_edition = refl;
+          no_others = refl;
+        },
+        refl,
+      ),
+    )
 
 -- ---- trees
 
@@ -61,13 +67,17 @@ grammar_read s text (fragments.Text rules) (e, is_text, read) =
 pub expands_trees : {A : Type 0} (m : ReadMacro A) (site : Span) (text : List ℕ) (g : Grammar) (definition argument : Top) (a : Answer)
     → IsGrammar m.asked.edition text m.asked.grammar g → IsMacroOf text definition m → IsOr (IsExpansionOf g m argument site) a
     → ExpandsTrees (at_site m.asked site) text definition argument a
-expands_trees m site text g definition argument a named is (inl (tree, rule, err, answers, shown)) = inl (g, named, record {
-  tree = tree;
-  rule = rule;
-  err = err;
-  expands = record { rules = (macro_of m.rules).rules; read = is.1; answers = answers };
-  shown = shown;
-})
+expands_trees m site text g definition argument a named is (inl (tree, rule, err, answers, shown)) = inl (
+  g,
+  named,
+  record {
+    tree = tree;
+    rule = rule;
+    err = err;
+    expands = record { rules = (macro_of m.rules).rules; read = is.1; answers = answers };
+    shown = shown;
+  },
+)
 expands_trees m site text g definition argument a named is (inr none) = inr (no_macro g named (no_memory_for_macro none))
 
 pub by_sample : {A : Type 0} (m : ReadMacro A) (site : Span) (argument : Top) (a : Answer) → m.fragments ≡ fragments.Sample

@@ -224,7 +224,10 @@ pub(crate) fn settings_of(request: &Request) -> Option<Settings>
 }
 
 // The rules of the text of a grammar.
-pub(crate) fn read_rules<'t, A: Allocator + Copy>(alloc: A, text: &'t [u8]) -> Result<Rules<'t, A>, Answer<A>>
+pub(crate) fn read_rules<'t, A: Allocator + Copy>(
+    alloc: A,
+    text: &'t [u8],
+) -> Result<Rules<'t, A>, Answer<A>>
     ensures text { IfOk result (λ _. IsText text.now) }
     ensures read { IfOk result (λ rules. read_text text.now ≡ Ok (rules_seen rules)) }
     ensures fails { IfErr result (λ a. IsNoGrammar text.now (answer_of a)) }

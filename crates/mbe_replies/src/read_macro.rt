@@ -123,12 +123,7 @@ impl<'t, A: Allocator + Copy> ReadMacro<'t, A> {
     }
 
     /// Expands an argument of trees, in a call at that span.
-    pub fn expand_trees(
-        &self,
-        alloc: A,
-        argument: &TopSubtree<A>,
-        call_site: Span,
-    ) -> Answer<A>
+    pub fn expand_trees(&self, alloc: A, argument: &TopSubtree<A>, call_site: Span) -> Answer<A>
         ensures { spec.AnswersTreesBy self.now argument.now call_site (answer_of result) }
     {
         match &self.fragments {

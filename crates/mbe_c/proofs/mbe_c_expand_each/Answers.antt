@@ -18,3 +18,6 @@ returns-in-Err-clause-expands c =
       gives_message a c.args.message.now c.give.new.message c.give.new.tokens c.give.new.text
           c.give.new.reply bare c.give.ensures.gives,
     ) refl refl refl
+
+pub returns-in-Ok-clause-expands : goal.returns-in-Ok-clause-expands
+returns-in-Ok-clause-expands c = with_expansions (answers_seen c.in-Ok.found) c.in-Ok.ensures.expands c.give_answers.ensures.gives
