@@ -32,34 +32,43 @@ joined_more xs a =
       sym (flat_map_more (λ (x : Answer). x.message) [] xs a),
     ) refl
 
-pub one_answer_more : (Answers : Source → FlatSpan → Answer → Type 0) (all : Source) (ps : List Piece) (n : ℕ) (other : Piece) (a : Answer)
-    (before after : Joined) → n < length ps → AreJoined Answers all (take n ps) before → IsAnswerAt Answers all (slice_index_or ps n other) a
+pub one_answer_more : (Answers : Source → FlatSpan → Answer → Type 0) (all : Source) (ps : List Piece) (n : ℕ)
+    (other : Piece) (a : Answer)
+    (before after : Joined) → n < length ps → AreJoined Answers all (take n ps) before
+    → IsAnswerAt Answers all (slice_index_or ps n other) a
     → after ≡ with_answer before a → AreJoined Answers all (take (n + 1) ps) after
 one_answer_more Answers all ps n other a before after l (xs, answers, e) is more = (
   xs ++ a ∷ [],
-  subst (λ (k : ℕ). AreAnswersAt Answers all (take k ps) (xs ++ a ∷ [])) (sym (add-one n)) (answers_at Answers all ps n xs other a l answers is),
+  subst (λ (k : ℕ). AreAnswersAt Answers all (take k ps) (xs ++ a ∷ [])) (sym (add-one n))
+      (answers_at Answers all ps n xs other a l answers is),
   more ∙ (subst (λ (j : Joined). with_answer before a ≡ with_answer j a) e refl ∙ joined_more xs a),
 )
 
 -- What a macro that was read answers is what `expand` answers to the request.
-module _ {A : Type 0} (m : ReadMacro A) (r : Request) (text : List ℕ) (definition : Source) (is : IsMacro r text definition m) where
+module _ {A : Type 0} (m : ReadMacro A) (r : Request) (text : List ℕ) (definition : Source)
+    (is : IsMacro r text definition m) where
   abbrev Allowed : Source → FlatSpan → Answer → Type 0
   Allowed argument site a = Expands (asked_at r site) text definition argument a
 
-  allowed : (site : FlatSpan) (found : Option Source) (a : Answer) → IsAnswerTo (AnswersBy m) site found a → IsAnswerTo Allowed site found a
+  allowed : (site : FlatSpan) (found : Option Source) (a : Answer) → IsAnswerTo (AnswersBy m) site found a
+      → IsAnswerTo Allowed site found a
   allowed site (Some argument) a h = h r text definition is
   allowed site None a h = h
 
-  all_allowed : (all : Source) (ps : List Piece) (xs : List Answer) → AreAnswersAt (AnswersBy m) all ps xs → AreAnswersAt Allowed all ps xs
+  all_allowed : (all : Source) (ps : List Piece) (xs : List Answer) → AreAnswersAt (AnswersBy m) all ps xs
+      → AreAnswersAt Allowed all ps xs
   all_allowed all [] [] h = h
   all_allowed all [] (a ∷ xs) h = absurd h
   all_allowed all (p ∷ ps) [] h = absurd h
-  all_allowed all (p ∷ ps) (a ∷ xs) (first, rest) = (allowed p.call_site (argument_at all p) a first, all_allowed all ps xs rest)
+  all_allowed all (p ∷ ps) (a ∷ xs) (first, rest) =
+      (allowed p.call_site (argument_at all p) a first, all_allowed all ps xs rest)
 
-  pub joined_allowed : (all : Source) (ps : List Piece) (j : Joined) → AreJoined (AnswersBy m) all ps j → AreJoined Allowed all ps j
+  pub joined_allowed : (all : Source) (ps : List Piece) (j : Joined) → AreJoined (AnswersBy m) all ps j
+      → AreJoined Allowed all ps j
   joined_allowed all ps j (xs, answers, e) = (xs, all_allowed all ps xs answers, e)
 
 -- an answer that there are none shows nothing
-pub no_expansion-bare : (r : Request) (text : List ℕ) (definition : Source) (a : Answer) → IsNoExpansion r text definition a → IsBare a
+pub no_expansion-bare : (r : Request) (text : List ℕ) (definition : Source) (a : Answer)
+    → IsNoExpansion r text definition a → IsBare a
 no_expansion-bare r text definition a (inl h) = unread-bare r text definition a h
 no_expansion-bare r text definition a (inr h) = out_of_memory-bare a h

@@ -20,4 +20,5 @@ returns-in-Err-clause-expands c =
     ) refl refl refl
 
 pub returns-in-Ok-clause-expands : goal.returns-in-Ok-clause-expands
-returns-in-Ok-clause-expands c = with_expansions (answers_seen c.in-Ok.found) c.in-Ok.ensures.expands c.give_answers.ensures.gives
+returns-in-Ok-clause-expands c = with_expansions (answers_seen c.in-Ok.found) c.in-Ok.ensures.expands
+    c.give_answers.ensures.gives

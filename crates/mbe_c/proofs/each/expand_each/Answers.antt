@@ -9,5 +9,6 @@ returns-in-Err-clause-fails g c = inl c.in-Err.ensures.fails
 
 pub returns-in-Ok-expand_pieces-clause-expands : goal.returns-in-Ok-expand_pieces-clause-expands
 returns-in-Ok-expand_pieces-clause-expands g c =
-    joined_allowed c.in-Ok.rules c.args.request.now c.args.grammar.now (source_of c.args.definition) c.in-Ok.ensures.read (source_of c.args.all)
+    joined_allowed c.in-Ok.rules c.args.request.now c.args.grammar.now (source_of c.args.definition)
+    c.in-Ok.ensures.read (source_of c.args.all)
     c.args.pieces.now (answers_seen c.in-Ok-expand_pieces.answers) c.in-Ok-expand_pieces.ensures

@@ -16,7 +16,8 @@ pub returns-in-Ok-of_trees : goal.returns-in-Ok-of_trees
 returns-in-Ok-of_trees g c =
     expands_read c.args.request.now c.args.grammar.now (source_of c.args.definition) (source_of c.args.argument)
     (answer_of c.expand_trees.result) c.in-Some.asked c.in-Some.ensures.known c.in-Ok.tree c.in-Ok.ensures.trees
-    c.in-Ok-trees.tree c.in-Ok-trees.ensures.trees c.in-Ok-of_trees.rules c.in-Ok-of_trees.ensures.asked c.in-Ok-of_trees.ensures.read
+    c.in-Ok-trees.tree c.in-Ok-trees.ensures.trees c.in-Ok-of_trees.rules c.in-Ok-of_trees.ensures.asked
+    c.in-Ok-of_trees.ensures.read
     c.expand_trees.ensures
 
 pub returns : goal.returns

@@ -10,4 +10,5 @@ returns-in-Ok g c =
 
 pub returns-in-Err : goal.returns-in-Err
 returns-in-Err g c =
-    expands_nothing c.args.self.now (source_of c.args.argument) c.args.call_site (answer_of c.in-Err.answer) c.in-Err.ensures.fails
+    expands_nothing c.args.self.now (source_of c.args.argument) c.args.call_site (answer_of c.in-Err.answer)
+    c.in-Err.ensures.fails
