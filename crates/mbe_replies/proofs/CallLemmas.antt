@@ -1,5 +1,5 @@
 -- What a call answers, from what its parts do.
-use Rattle.std.proofs.Common.{◌≡◌, ◌⊎◌, inl, inr, ℕ, List, map, Result, Ok, Err, IfOk, IfErr, subst, sym}
+use Rattle.std.proofs.Common.{◌≡◌, inl, inr, ℕ, List, map, Result, Ok, Err, IfOk, IfErr, subst, sym}
 use Rattle.mbe_tt.specs.declared.span.Edition.{Edition}
 use Rattle.mbe_tt.specs.Trees.Top.{Top}
 use Rattle.mbe_tt.specs.Trees.Tree.{Forest}
@@ -28,7 +28,7 @@ use Rattle.mbe_replies.specs.declared.calls.Request.{Request}
 use Rattle.mbe_replies.specs.declared.calls.Settings.{Settings}
 use Rattle.mbe_replies.specs.Answers.{Answer, IsOr, IsUnlexed, IsUntreedBy, IsUngrammaticalBy, IsUnreadBy, IsNoGrammar, fault_in_grammar, no_memory_for_grammar}
 use Rattle.mbe_replies.specs.Expanding.{IsRefused}
-use Rattle.mbe_replies.specs.Calls.{AreSettings, AreTreesOf, HasNoTrees, unlexed, untreed, no_memory_for_trees, IsNoMacro, refused, no_memory_for_macro, tree_shown, Converts, converted, no_memory_for_form, Source, Reads, IsGrammar, table_seen, IsExpansion, IsNoResult, no_macro, ExpandsTrees, Expands, ExplainsTrees, ShowsVerdicts, no_result}
+use Rattle.mbe_replies.specs.Calls.{AreSettings, AreTreesOf, HasNoTrees, unlexed, untreed, no_memory_for_trees, IsNoMacro, refused, no_memory_for_macro, tree_shown, Converts, converted, no_memory_for_form, Source, Reads, IsGrammar, table_seen, IsNoResult, no_macro, ExpandsTrees, Expands, ExplainsTrees, ShowsVerdicts, no_result}
 
 -- ---- failures
 

@@ -1,5 +1,5 @@
 // The calls: what each answers.
-ghost use Rattle.std.specs.Prelude.{◌≡◌, ◌⊎◌, map, Ok, IfErr, IfNone, IfOk, IfSome, OnOk};
+ghost use Rattle.std.specs.Prelude.{◌≡◌, map, Ok, IfErr, IfNone, IfOk, IfSome, OnOk};
 ghost use Rattle.mbe_errors.specs.ErrorViews.{errors_of};
 ghost use Rattle.mbe_matcher.specs.Matched.{verdict_seen};
 ghost use Rattle.mbe_rules_text.specs.Text.{read_text};
