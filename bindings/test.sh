@@ -38,6 +38,14 @@ if cc --version >/dev/null 2>&1; then
     { cc -std=c99 -g -fsanitize=address,undefined -o "$work/asan" "$here/c/tests/calls.c" "$MBE_LIB_DIR/libmbe_c.a" -lm &&
         "$work/asan"; } >"$work/log" 2>&1
     add
+    echo "C, each request for memory refused in turn"
+    { cc -std=c99 -Wall -Wextra -pedantic -Werror -Wl,--wrap=malloc,--wrap=realloc -o "$work/memory" "$here/c/tests/memory.c" \
+        "$MBE_LIB_DIR/libmbe_c.a" -lm && "$work/memory"; } >"$work/log" 2>&1
+    if valgrind --version >/dev/null 2>&1; then
+        valgrind -q --error-exitcode=9 --leak-check=full "$work/memory" >/dev/null 2>&1
+        [ $? = 9 ] && echo "0 passed, 1 failed" >>"$work/log"
+    fi
+    add
 else
     echo "skipped: C, since cc isn't there"
 fi

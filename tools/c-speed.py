@@ -1,12 +1,14 @@
 #!/usr/bin/env python3
-"""What a call through C costs beside one run of mbex, without the start of a process, in processor time.
+"""What a call through C costs beside one run of mbex, without the start of a process, in processor time or in instructions.
 
-    MBE_LIB_DIR=DIR python3 tools/c-speed.py MBEX DEF-FILE ARG-FILE [TIMES]
+    MBE_LIB_DIR=DIR python3 tools/c-speed.py [--instructions] MBEX DEF-FILE ARG-FILE [TIMES]
 
 It times TIMES calls of `mbe_expand` in one program (cc -O2), and TIMES runs of MBEX on the files, from which it takes as many runs of MBEX on an
-empty definition and argument. It prints both times of a call, and their ratio.
+empty definition and argument. It prints both times of a call, and their ratio. With `--instructions` it counts them by callgrind, which repeats whatever
+else the machine does: of TIMES calls after the first, of one run of MBEX, and of each argument more of `mbe_expand_each`.
 """
 import os
+import re
 import resource
 import subprocess
 import sys
@@ -32,10 +34,15 @@ int main(int n, char **words) {
     mbe_reply reply;
     struct timespec from, to;
     long times = atol(words[3]);
-    (void)n;
     d.text = read_file(words[1], &d.text_len);
     a.text = read_file(words[2], &a.text_len);
     request.call_site.end = (uint32_t)a.text_len;
+    if (n > 4) {
+        mbe_piece *pieces = calloc((size_t)times, sizeof *pieces);
+        mbe_reply *replies = calloc((size_t)times, sizeof *replies);
+        for (long i = 0; i < times; i++) { pieces[i].len = a.text_len; pieces[i].call_site = request.call_site; }
+        return mbe_expand_each(&request, NULL, 0, d, a, pieces, (size_t)times, replies, out, &reply) != MBE_DONE;
+    }
     clock_gettime(CLOCK_PROCESS_CPUTIME_ID, &from);
     for (long i = 0; i < times; i++) if (mbe_expand(&request, NULL, 0, d, a, out, &reply) > MBE_FAULTED) return 1;
     clock_gettime(CLOCK_PROCESS_CPUTIME_ID, &to);
@@ -52,17 +59,39 @@ def mean_of_runs(program, files, times):
     return (after.ru_utime + after.ru_stime - before.ru_utime - before.ru_stime) / times
 
 
+def instructions(*command):
+    it = subprocess.run(["valgrind", "--tool=callgrind", "--callgrind-out-file=/dev/null", *command], capture_output=True, check=False)
+    return int(re.search(rb"Collected : (\d+)", it.stderr)[1])
+
+
+def per_call(call, files, times, *each):
+    return (instructions(call, *files, str(times + 1), *each) - instructions(call, *files, "1", *each)) / times
+
+
+def count(call, program, files, empty, times):
+    """Instructions beyond those of an empty call, by `mbe_expand` and by mbex; those of the empty call; of one argument more of `mbe_expand_each`."""
+    nothing, called, each = per_call(call, empty, times), per_call(call, files, times), per_call(call, files, times, "each")
+    ran = instructions(program, *files) - instructions(program, *empty)
+    print(f"instructions: mbe_expand {called - nothing:.0f} more than the {nothing:.0f} of an empty call, mbex {ran}, ratio {(called - nothing) / ran:.3f}; "
+          f"an argument of mbe_expand_each {each:.0f}, ratio to a call {each / called:.3f}")
+
+
 def main():
-    program, definition, argument = sys.argv[1:4]
-    times = int(sys.argv[4]) if len(sys.argv) > 4 else 20
+    words = [it for it in sys.argv[1:] if it != "--instructions"]
+    program, definition, argument = words[:3]
+    times = int(words[3]) if len(words) > 3 else 20
     with tempfile.TemporaryDirectory() as folder:
         for name, text in (("call.c", PROGRAM), ("d", "() => {}"), ("a", "")):
             with open(f"{folder}/{name}", "w", encoding="utf-8") as it:
                 it.write(text)
         library = f"{os.environ['MBE_LIB_DIR']}/libmbe_c.a"
         subprocess.run(["cc", "-O2", "-I", f"{TOP}/bindings/c", "-o", f"{folder}/call", f"{folder}/call.c", library, "-lm"], check=True)
+        empty = [f"{folder}/d", f"{folder}/a"]
+        if "--instructions" in sys.argv:
+            count(f"{folder}/call", program, [definition, argument], empty, times)
+            return
         called = float(subprocess.run([f"{folder}/call", definition, argument, str(times)], check=True, stdout=subprocess.PIPE).stdout)
-        ran = mean_of_runs(program, [definition, argument], times) - mean_of_runs(program, [f"{folder}/d", f"{folder}/a"], times)
+        ran = mean_of_runs(program, [definition, argument], times) - mean_of_runs(program, empty, times)
     print(f"mbe_expand {called * 1e3:.3f} ms, mbex {ran * 1e3:.3f} ms, ratio {called / ran:.3f}")
 
 

@@ -2,7 +2,7 @@
  *
  * Each call takes what it reads as a pointer and a length, and writes into memory of the caller. It keeps nothing: there are no
  * handles and nothing is to be freed. A definition is kept by the caller, as its text or as flat tokens (`mbe_convert` lexes it once),
- * and is read in each call. A call may run on any thread, and any number at once, as long as no two write the same memory; it is
+ * and is read in each call; `mbe_expand_each` reads it once for many arguments. A call may run on any thread, and any number at once, as long as no two write the same memory; it is
  * not to be made from a signal handler. It takes memory from `malloc`, and frees it before it returns.
  *
  * No call fails on any bytes: what is wrong comes back as a status, with the part at fault, the place and a message. A pointer may be
@@ -23,7 +23,7 @@ extern "C" {
 #endif
 
 /* The version of this interface, which `mbe_version` returns where the library fits this file. */
-#define MBE_VERSION 1u
+#define MBE_VERSION 2u
 
 /* How a call ended. */
 typedef enum mbe_status {
@@ -115,6 +115,10 @@ typedef struct mbe_reply {
 /* An input: bytes of a text, or flat tokens and the bytes of theirs. */
 typedef struct mbe_input { const char *text; size_t text_len; const mbe_token *tokens; size_t token_len; } mbe_input;
 
+/* One of many arguments: `len` bytes of their text from `offset` on, `token_len` of their tokens from `token_offset` on, and the span of
+ * its call. Pieces may overlap; flat tokens of a piece are one group, whose texts are in the text of the piece. */
+typedef struct mbe_piece { size_t offset, len, token_offset, token_len; mbe_span call_site; } mbe_piece;
+
 /* Memory of the caller for an answer. */
 typedef struct mbe_output {
     mbe_token *tokens; size_t token_room;
@@ -129,6 +133,11 @@ uint32_t mbe_c_expand(const mbe_request *request, const char *grammar, size_t gr
     size_t definition_len, const mbe_token *definition_tokens, size_t definition_token_len, const char *argument,
     size_t argument_len, const mbe_token *argument_tokens, size_t argument_token_len, mbe_token *tokens, size_t token_room,
     char *text, size_t text_room, char *message, size_t message_room, mbe_reply *reply);
+uint32_t mbe_c_expand_each(const mbe_request *request, const char *grammar, size_t grammar_len, const char *definition,
+    size_t definition_len, const mbe_token *definition_tokens, size_t definition_token_len, const char *arguments,
+    size_t arguments_len, const mbe_token *argument_tokens, size_t argument_token_len, const mbe_piece *pieces, size_t piece_len,
+    mbe_reply *replies, size_t reply_room, mbe_token *tokens, size_t token_room, char *text, size_t text_room, char *message,
+    size_t message_room, mbe_reply *reply);
 uint32_t mbe_c_explain(const mbe_request *request, const char *grammar, size_t grammar_len, const char *definition,
     size_t definition_len, const mbe_token *definition_tokens, size_t definition_token_len, const char *argument,
     size_t argument_len, const mbe_token *argument_tokens, size_t argument_token_len, mbe_verdict *verdicts, size_t verdict_room,
@@ -173,6 +182,28 @@ static inline mbe_status mbe_expand(const mbe_request *request, const char *gram
         (const mbe_token *)mbe_or_empty(definition.tokens, &empty), definition.token_len,
         (const char *)mbe_or_empty(argument.text, &empty), argument.text_len,
         (const mbe_token *)mbe_or_empty(argument.tokens, &empty), argument.token_len,
+        (mbe_token *)mbe_or_empty(out.tokens, &empty), out.token_room, (char *)mbe_or_empty(out.text, &empty), out.text_room,
+        (char *)mbe_or_empty(out.message, &empty), out.message_room, reply);
+}
+
+/* Expands each of `count` arguments by the definition, which is read once. `pieces[i]` says which part of `arguments` the argument is, and
+ * the span of its call, which is not read from the request. `replies[i]` is what `mbe_expand` replies to it alone, but for room; a piece that
+ * is not within `arguments` is MBE_BAD_NUMBER of MBE_ARGUMENT. Answers come one after another: `replies[i].tokens`, `.text` and `.message`
+ * say how much of each buffer is the answer's own, after those before it.
+ *
+ * The status, and `*reply`, are of the whole. Where the definition or the grammar is not read they say why, and nothing is written of
+ * the arguments; else the status is MBE_DONE, whatever the answers are, or MBE_NO_ROOM, and `*reply` has the lengths of all together. */
+static inline mbe_status mbe_expand_each(const mbe_request *request, const char *grammar, size_t grammar_len, mbe_input definition,
+    mbe_input arguments, const mbe_piece *pieces, size_t count, mbe_reply *replies, mbe_output out, mbe_reply *reply) {
+    static union { mbe_token token; mbe_piece piece; mbe_reply reply; } empty;
+    if (!request || !reply || mbe_is_null(grammar, grammar_len) || mbe_null_input(&definition) || mbe_null_input(&arguments)
+        || mbe_is_null(pieces, count) || mbe_is_null(replies, count) || mbe_null_output(&out)) return MBE_NULL_POINTER;
+    return (mbe_status)mbe_c_expand_each(request, (const char *)mbe_or_empty(grammar, &empty), grammar_len,
+        (const char *)mbe_or_empty(definition.text, &empty), definition.text_len,
+        (const mbe_token *)mbe_or_empty(definition.tokens, &empty), definition.token_len,
+        (const char *)mbe_or_empty(arguments.text, &empty), arguments.text_len,
+        (const mbe_token *)mbe_or_empty(arguments.tokens, &empty), arguments.token_len,
+        (const mbe_piece *)mbe_or_empty(pieces, &empty), count, (mbe_reply *)mbe_or_empty(replies, &empty), count,
         (mbe_token *)mbe_or_empty(out.tokens, &empty), out.token_room, (char *)mbe_or_empty(out.text, &empty), out.text_room,
         (char *)mbe_or_empty(out.message, &empty), out.message_room, reply);
 }

@@ -5,9 +5,10 @@
 from __future__ import annotations
 
 import ctypes
+import itertools
 import os
 from dataclasses import dataclass
-from typing import Callable, Iterator, Optional, Union
+from typing import Callable, Iterator, Optional, Sequence, Union
 
 _LIB = ctypes.CDLL(os.environ.get("MBE_LIB", "libmbe_c.so"))
 STATUSES = ["done", "faulted", "refused", "bad number", "not UTF-8", "too long", "no tokens", "no trees", "no grammar",
@@ -33,6 +34,10 @@ class Token(ctypes.Structure):
 
 class _Verdict(ctypes.Structure):
     _fields_ = [("kind", SIZE), ("place", SIZE)]
+
+
+class _Piece(ctypes.Structure):
+    _fields_ = [*((name, SIZE) for name in ("offset", "len", "token_offset", "token_len")), ("call_site", Span)]
 
 
 class _Request(ctypes.Structure):
@@ -100,8 +105,16 @@ def _call(call: Callable[..., int], given: list, kinds: list) -> tuple[_Reply, l
         rooms = [max(n, room) for n, room in zip(needed, rooms)]
     message = buffers[-1].raw[:reply.message].decode()
     if reply.status > 1:
-        raise Error(STATUSES[reply.status], PARTS[reply.part], reply.place, reply.column, message)
+        raise _error(reply, message)
     return reply, [*buffers[:-1], message]
+
+
+def _error(reply: _Reply, message: str) -> Error:
+    return Error(STATUSES[reply.status], PARTS[reply.part], reply.place, reply.column, message)
+
+
+def _expansion(reply: _Reply, trees: Trees, message: str) -> Expansion:
+    return Expansion(trees, reply.rule if reply.has_rule else None, (message, reply.span) if reply.status == 1 else None)
 
 
 def check_grammar(text: str) -> None:
@@ -118,8 +131,29 @@ def convert(given: Input, form: str = "tokens", edition: int = 2024, dialect: st
     return Trees(tuple(tokens[:reply.tokens]), text.raw[:reply.text])
 
 
+def _split(replies: Sequence[_Reply], tokens: Sequence[Token], text: bytes, message: bytes) -> list[Union[Expansion, Error]]:
+    """The answers of these replies, which stand one after another."""
+    found: list[Union[Expansion, Error]] = []
+    token = byte = said = 0
+    for reply in replies:
+        words = message[said:said + reply.message].decode()
+        trees = Trees(tuple(tokens[token:token + reply.tokens]), text[byte:byte + reply.text])
+        found.append(_error(reply, words) if reply.status > 1 else _expansion(reply, trees, words))
+        token, byte, said = token + reply.tokens, byte + reply.text, said + reply.message
+    return found
+
+
+def _lexed_definition(text: Input, edition: int, dialect: str) -> Trees:
+    """The flat tokens of a definition's text, each in file 0; `convert` lexes a text as file 1."""
+    trees = convert(text, "tokens", edition, dialect)
+    for token in trees.tokens:
+        token.span.file = 0
+    return trees
+
+
 class Macro:
-    """A definition: the rules of a `macro_rules!`. `grammar` is `sample`, `rust`, or the text of one. Without `check` it is first
+    """A definition: the rules of a `macro_rules!`, lexed once and kept as flat tokens, of which each call reads its rules, and
+    `expand_each` once for many. `grammar` is `sample`, `rust`, or the text of one. Without `check` it is kept as it is given, and first
     read in a call."""
 
     def __init__(self, definition: Input, edition: int = 2024, dialect: str = "sample", grammar: str = "sample",
@@ -135,6 +169,9 @@ class Macro:
             request = _Request(**self._request)
             reply, _ = _call(_LIB.mbe_c_define, [ctypes.byref(request), *self._definition], [ctypes.c_char])
             self.rules = reply.place
+            if not is_flat:
+                _, self._definition = _given(_lexed_definition(definition, edition, dialect))
+                self._request["definition_is_flat"] = 1
 
     def _asked(self, argument: Input, **more: object) -> list:
         is_flat, parts = _given(argument)
@@ -145,8 +182,21 @@ class Macro:
         """Expands a call of that style at that span."""
         asked = self._asked(argument, form=FORMS[form], call_site=call_site, style=STYLES[style])
         reply, (tokens, text, message) = _call(_LIB.mbe_c_expand, asked, [Token, ctypes.c_char, ctypes.c_char])
-        trees = Trees(tuple(tokens[:reply.tokens]), text.raw[:reply.text])
-        return Expansion(trees, reply.rule if reply.has_rule else None, (message, reply.span) if reply.status == 1 else None)
+        return _expansion(reply, Trees(tuple(tokens[:reply.tokens]), text.raw[:reply.text]), message)
+
+    def expand_each(self, arguments: Sequence[Union[str, bytes]], form: str = "tokens", call_sites: Sequence[Span] = (),
+                    style: str = "fn") -> list[Union[Expansion, Error]]:
+        """Expands a call of that style for each text, at its span if there are any; the rules are read once for them all. What `expand`
+        raises of one is in its place."""
+        texts = [it.encode() if isinstance(it, str) else it for it in arguments]
+        starts = itertools.accumulate(map(len, texts), initial=0)
+        sites = call_sites or [Span()] * len(texts)
+        pieces = (_Piece * max(1, len(texts)))(*(_Piece(at, len(it), 0, 0, site) for at, (it, site) in zip(starts, zip(texts, sites, strict=True))))
+        replies = (_Reply * max(1, len(texts)))()
+        asked = self._asked(b"".join(texts), form=FORMS[form], style=STYLES[style])
+        size = SIZE(len(texts))
+        _, (tokens, text, message) = _call(_LIB.mbe_c_expand_each, [*asked, pieces, size, replies, size], [Token, ctypes.c_char, ctypes.c_char])
+        return _split(replies[:len(texts)], tokens, text.raw, message.encode())
 
     def explain(self, argument: Input) -> list[tuple[str, int]]:
         """How each rule, of every style, reads an argument: one reading, many, or where it is ambiguous or stuck."""

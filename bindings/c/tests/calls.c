@@ -58,6 +58,112 @@ static void expansions(void) {
     }
 }
 
+/* The rows of one definition at once, and what is wrong with pieces: each reply is that of `mbe_expand`, with what is needed. */
+static void many_arguments(void) {
+    static const char *const definition = "($x:ident) => {$x $x}; ($($x:ident),*) => {[$($x);*]}; ($x:literal) => {$x $x $x}";
+    static const char all[] = "a|b,c|1u8|+|)|\xff|";
+    static const struct { size_t offset, len; uint32_t status; const char *text; } wanted[] = {
+        {0, 1, MBE_DONE, "a a"}, {2, 3, MBE_DONE, "[b; c]"}, {6, 3, MBE_DONE, "1u8 1u8 1u8"}, {1, 0, MBE_DONE, "[]"},
+        {10, 1, MBE_FAULTED, NULL}, {12, 1, MBE_NO_TOKENS, ""}, {14, 1, MBE_NOT_UTF8, ""}, {15, 2, MBE_BAD_NUMBER, ""},
+        {SIZE_MAX, 1, MBE_BAD_NUMBER, ""}, {1, SIZE_MAX, MBE_BAD_NUMBER, ""}, {0, 1, MBE_DONE, "a a"},
+    };
+    enum { COUNT = sizeof wanted / sizeof *wanted };
+    static mbe_piece pieces[COUNT];
+    static mbe_reply replies[COUNT];
+    mbe_request request = asked(MBE_RUST);
+    mbe_input arguments = {all, sizeof all - 1, NULL, 0};
+    size_t at = 0, said = 0;
+    for (size_t i = 0; i < COUNT; i++) {
+        pieces[i].offset = wanted[i].offset;
+        pieces[i].len = wanted[i].len;
+        pieces[i].call_site.file = 7;
+        pieces[i].call_site.start = (uint32_t)i;
+    }
+    check(mbe_expand_each(&request, NULL, 0, words(definition), arguments, pieces, COUNT, replies, room(), &reply) == MBE_DONE, "many arguments");
+    check(reply.place == COUNT, "how many");
+    for (size_t i = 0; i < COUNT; i++) {
+        check(replies[i].status == wanted[i].status, "the status of one");
+        const char *its = wanted[i].text;
+        check(!its || (replies[i].text == strlen(its) && memcmp(text + at, its, replies[i].text) == 0), "the text of one");
+        at += replies[i].text;
+        said += replies[i].message;
+    }
+    check(at == reply.text && said == reply.message, "how much they are");
+    check(replies[1].has_rule == 1 && replies[1].rule == 1 && replies[2].rule == 2, "their rules");
+    check(replies[7].part == MBE_ARGUMENT && replies[5].part == MBE_ARGUMENT && replies[5].place == 0, "their parts");
+    memset(text, 1, 64);
+    mbe_output little = {NULL, 0, text, at - 1, NULL, 0};
+    check(mbe_expand_each(&request, NULL, 0, words(definition), arguments, pieces, COUNT, replies, little, &reply) == MBE_NO_ROOM
+        && reply.text == at && text[0] == 1 && text[at - 2] == 1, "one byte too few for all");
+    mbe_output exact = {NULL, 0, text, at, NULL, 0};
+    check(mbe_expand_each(&request, NULL, 0, words(definition), arguments, pieces, COUNT, replies, exact, &reply) == MBE_DONE
+        && reply.message == said, "as many bytes as needed, and no room for messages");
+    check(mbe_expand_each(&request, NULL, 0, words(definition), arguments, NULL, 0, NULL, exact, &reply) == MBE_DONE && reply.place == 0
+        && reply.text == 0, "no arguments");
+    check(mbe_c_expand_each(&request, "", 0, definition, strlen(definition), tokens, 0, all, sizeof all - 1, tokens, 0, pieces, COUNT, replies,
+        COUNT - 1, tokens, 4096, text, at, message, 0, &reply) == MBE_NO_ROOM && reply.place == COUNT, "one reply too few");
+}
+
+/* One argument of many is answered as it is alone, with its call site. */
+static void each_as_alone(void) {
+    static const char *const definition = "($($x:tt)*) => {$($x)*}; (a) => {b}";
+    static mbe_token lexed[64], alone[256];
+    static char lexed_text[64], alone_text[1024];
+    mbe_request request = asked(MBE_TOKENS);
+    mbe_output out = {lexed, 64, lexed_text, sizeof lexed_text, NULL, 0};
+    check(mbe_convert(&request, words("a (b 1u8)"), out, &reply) == MBE_DONE, "an argument to tokens");
+    mbe_input arguments = {lexed_text, reply.text, lexed, reply.tokens};
+    mbe_piece pieces[3] = {{0, reply.text, 0, reply.tokens, {9, 0, 3, 4, 0}}, {0, reply.text, 1, 3, {0, 0, 0, 0, 0}},
+        {0, reply.text, 2, 4, {9, 1, 5, 6, 2}}};
+    mbe_reply replies[3];
+    request.argument_is_flat = 1;
+    mbe_output one = {alone, 256, alone_text, sizeof alone_text, NULL, 0};
+    check(mbe_expand_each(&request, NULL, 0, words(definition), arguments, pieces, 3, replies, room(), &reply) == MBE_DONE, "flat arguments");
+    size_t token = 0, byte = 0;
+    for (int i = 0; i < 3; i++) {
+        mbe_input argument = {lexed_text + pieces[i].offset, pieces[i].len, lexed + pieces[i].token_offset, pieces[i].token_len};
+        mbe_reply its;
+        request.call_site = pieces[i].call_site;
+        mbe_status status = mbe_expand(&request, NULL, 0, words(definition), argument, one, &its);
+        check(status == replies[i].status && memcmp(&its, &replies[i], sizeof its) == 0, "a reply as alone");
+        check(memcmp(alone, tokens + token, its.tokens * sizeof *alone) == 0 && memcmp(alone_text, text + byte, its.text) == 0, "an answer as alone");
+        token += its.tokens;
+        byte += its.text;
+    }
+    check(replies[0].status == MBE_DONE && replies[1].status == MBE_NO_TREES && replies[2].status == MBE_DONE, "what they are");
+    check(tokens[0].span.file == 9 && tokens[0].span.start == 3, "the first site");
+}
+
+/* Where no macro is read nothing is written, but why. */
+static void unread_macros(void) {
+    mbe_request request = asked(MBE_RUST);
+    mbe_piece piece = {0, 1, 0, 0, {0, 0, 0, 0, 0}};
+    mbe_reply its, before;
+    memset(&its, 5, sizeof its);
+    before = its;
+    text[0] = 9;
+    check(mbe_expand_each(&request, NULL, 0, words("($x) => {}"), words("a"), &piece, 1, &its, room(), &reply) == MBE_REFUSED
+        && message_is("missing fragment specifier"), "a refused definition of many");
+    check(mbe_expand_each(&request, NULL, 0, words("\xff"), words("a"), &piece, 1, &its, room(), &reply) == MBE_NOT_UTF8
+        && reply.part == MBE_DEFINITION, "a definition of many that is not UTF-8");
+    check(mbe_expand_each(&request, NULL, 0, words("() => {)"), words("a"), &piece, 1, &its, room(), &reply) == MBE_NO_TOKENS
+        && reply.part == MBE_DEFINITION, "a definition of many that is not lexed");
+    request.grammar = MBE_GRAMMAR_TEXT;
+    check(mbe_expand_each(&request, "a =", 3, words("() => {}"), words("a"), &piece, 1, &its, room(), &reply) == MBE_NO_GRAMMAR, "no grammar of many");
+    request = asked(9);
+    check(mbe_expand_each(&request, NULL, 0, words(""), words("a"), &piece, 1, &its, room(), &reply) == MBE_BAD_NUMBER, "a bad number of many");
+    check(memcmp(&its, &before, sizeof its) == 0 && text[0] == 9, "nothing is written");
+    request = asked(MBE_RUST);
+    mbe_input one = {NULL, 1, NULL, 0};
+    mbe_output bad = {NULL, 1, NULL, 0, NULL, 0};
+    check(mbe_expand_each(&request, NULL, 0, words(""), one, &piece, 1, &its, room(), &reply) == MBE_NULL_POINTER, "null arguments");
+    check(mbe_expand_each(&request, NULL, 0, words(""), words("a"), NULL, 1, &its, room(), &reply) == MBE_NULL_POINTER, "null pieces");
+    check(mbe_expand_each(&request, NULL, 0, words(""), words("a"), &piece, 1, NULL, room(), &reply) == MBE_NULL_POINTER, "null replies");
+    check(mbe_expand_each(&request, NULL, 0, words(""), words("a"), &piece, 1, &its, bad, &reply) == MBE_NULL_POINTER, "a null buffer of many");
+    check(mbe_expand_each(NULL, NULL, 0, words(""), words("a"), &piece, 1, &its, room(), &reply) == MBE_NULL_POINTER, "no request of many");
+    check(mbe_expand_each(&request, NULL, 0, words(""), words("a"), &piece, 1, &its, room(), NULL) == MBE_NULL_POINTER, "no reply of many");
+}
+
 static void faults(void) {
     mbe_request request = asked(MBE_TOKENS);
     check(mbe_expand(&request, NULL, 0, words("(a) => {b}"), words("c"), room(), &reply) == MBE_FAULTED, "no rule fits");
@@ -211,6 +317,15 @@ static void nonsense(void) {
         mbe_input input = {(const char *)bytes, bytes[0] % 100u, given, bytes[1] % 16u};
         known &= mbe_expand(&request, (const char *)bytes, bytes[2], input, input, room(), &reply) <= MBE_NO_ROOM;
         known &= mbe_convert(&request, input, room(), &reply) <= MBE_NO_ROOM;
+        static mbe_piece pieces[4];
+        static mbe_reply replies[4];
+        memcpy(pieces, bytes + 1024, sizeof pieces);
+        pieces[0].offset = bytes[3] % 100u;
+        pieces[0].len = bytes[4] % 20u;
+        pieces[0].token_offset = bytes[5] % 16u;
+        pieces[0].token_len = bytes[6] % 8u;
+        known &= mbe_expand_each(&request, (const char *)bytes, bytes[2], round % 3 ? words("($($x:tt)*) => {$($x)*}") : input, input, pieces, 4,
+            replies, room(), &reply) <= MBE_NO_ROOM;
     }
     check(known, "bytes of no meaning");
 }
@@ -218,6 +333,9 @@ static void nonsense(void) {
 int main(void) {
     check(mbe_version() == MBE_VERSION, "the version");
     expansions();
+    many_arguments();
+    each_as_alone();
+    unread_macros();
     faults();
     nulls();
     flat_tokens();

@@ -1,4 +1,5 @@
 //! The safe layer: a definition that is kept, calls of it, and iterators over what they answer.
+#![forbid(unsafe_code)]
 
 use crate::sys::{self, Buffers, Bytes, Reply, Request, Span, Token};
 use std::fmt;
@@ -147,13 +148,14 @@ fn bytes<'a>(input: Input<'a>) -> (Bytes<'a>, u32) {
     }
 }
 
-fn error_of(reply: Reply, out: &Buffers) -> Error {
+fn error_of(reply: Reply, out: &Buffers) -> Error { error_with(reply, message_of(reply, out)) }
+
+fn error_with(reply: Reply, message: String) -> Error {
     let status = match reply.status {
         2 => Status::Refused, 3 => Status::BadNumber, 4 => Status::NotUtf8, 5 => Status::TooLong, 6 => Status::NoTokens,
         7 => Status::NoTrees, 8 => Status::NoGrammar, 9 => Status::OutOfMemory, n => Status::Other(n),
     };
     let part = match reply.part { 1 => Part::Definition, 2 => Part::Argument, 3 => Part::Grammar, _ => Part::None };
-    let message = message_of(reply, out);
     Error { status, part, place: reply.place, column: reply.column, message }
 }
 
@@ -188,7 +190,51 @@ fn trees_of(reply: Reply, mut out: Buffers) -> Trees {
     Trees { tokens: out.tokens, text: out.text }
 }
 
-/// A definition that is one, by `Macro::new`, and what it is called with.
+// What a reply says of an expansion with these trees and that message.
+fn expansion_of(reply: Reply, trees: Trees, message: String) -> Result<Expansion, Error> {
+    let fault = match reply.status {
+        0 => None,
+        1 => Some(Fault { message, span: reply.span }),
+        _ => return Err(error_with(reply, message)),
+    };
+    Ok(Expansion { trees, rule: (reply.has_rule == 1).then_some(reply.rule), fault })
+}
+
+// Arguments one after another, all of them texts or all of them flat tokens, and which of a list of calls they are.
+#[derive(Default)]
+struct Joined { text: Vec<u8>, tokens: Vec<Token>, pieces: Vec<sys::Piece>, calls: Vec<usize> }
+
+fn joined(calls: &[(Input<'_>, Span)], flat: u32) -> Joined {
+    let mut all = Joined::default();
+    for (index, &(input, call_site)) in calls.iter().enumerate() {
+        let (given, is_flat) = bytes(input);
+        if is_flat != flat { continue; }
+        all.calls.push(index);
+        all.pieces.push(sys::Piece {
+            offset: all.text.len(), len: given.text.len(), token_offset: all.tokens.len(), token_len: given.tokens.len(), call_site,
+        });
+        all.text.extend_from_slice(given.text);
+        all.tokens.extend_from_slice(given.tokens);
+    }
+    all
+}
+
+// The first `len` elements, which are then none of the rest.
+fn front<'a, T>(rest: &mut &'a [T], len: usize) -> &'a [T] {
+    let (front, behind) = rest.split_at(len.min(rest.len()));
+    *rest = behind;
+    front
+}
+
+// The flat tokens of a definition's text, each in file 0; `convert` lexes a text as file 1.
+fn lexed_definition(text: Input<'_>, edition: Edition, dialect: Dialect) -> Result<Trees, Error> {
+    let mut trees = convert(text, edition, dialect, Form::Tokens)?;
+    for token in &mut trees.tokens { token.span.file = 0; }
+    Ok(trees)
+}
+
+/// A definition that is one, by `Macro::new`, lexed once and kept as flat tokens, and what it is called with. Each call reads its
+/// rules from these tokens; `expand_each` reads them once.
 #[derive(Clone, Debug)]
 pub struct Macro<'a> { definition: Trees, request: Request, grammar: &'a str, rules: usize }
 
@@ -198,15 +244,16 @@ impl<'a> Macro<'a> {
         let (number, grammar) = match grammar { Grammar::Sample => (0, ""), Grammar::Rust => (1, ""), Grammar::Text(text) => (2, text) };
         let mut request = Request { edition: year(edition), dialect: u32::from(dialect == Dialect::Rust), grammar: number, ..Request::default() };
         if number == 2 { check_grammar(grammar)?; }
+        let (given, is_flat) = bytes(definition);
+        request.definition_is_flat = is_flat;
+        let mut out = buffers();
+        let reply = with_room(&mut out, |out| sys::define(&request, given, out));
+        if reply.status != 0 { return Err(error_of(reply, &out)); }
         let definition = match definition {
             Input::Flat(trees) => trees.clone(),
-            // A definition is file 0, and what `convert` lexes is file 1, so a text is given once more as it is.
-            Input::Text(text) => Trees { tokens: Vec::new(), text: text.to_vec() },
+            Input::Text(_) => lexed_definition(definition, edition, dialect)?,
         };
-        request.definition_is_flat = u32::from(!definition.tokens.is_empty());
-        let mut out = buffers();
-        let reply = with_room(&mut out, |out| sys::define(&request, Bytes { text: &definition.text, tokens: &definition.tokens }, out));
-        if reply.status != 0 { return Err(error_of(reply, &out)); }
+        request.definition_is_flat = 1;
         Ok(Macro { definition, request, grammar, rules: reply.place })
     }
 
@@ -221,12 +268,36 @@ impl<'a> Macro<'a> {
         let request = Request { form: form_number(form), argument_is_flat: is_flat, call_site, ..self.request };
         let mut out = buffers();
         let reply = with_room(&mut out, |out| sys::expand(&request, self.grammar.as_bytes(), self.definition(), argument, out));
-        let fault = match reply.status {
-            0 => None,
-            1 => Some(Fault { message: message_of(reply, &out), span: reply.span }),
-            _ => return Err(error_of(reply, &out)),
-        };
-        Ok(Expansion { trees: trees_of(reply, out), rule: (reply.has_rule == 1).then_some(reply.rule), fault })
+        let message = message_of(reply, &out);
+        expansion_of(reply, trees_of(reply, out), message)
+    }
+
+    /// Expands calls with these arguments, each at its span, and reads the rules once for them all; each is answered as by `expand`. The
+    /// error is of them all: `OutOfMemory`.
+    pub fn expand_each(&self, calls: &[(Input<'_>, Span)], form: Form) -> Result<Vec<Result<Expansion, Error>>, Error> {
+        let mut found = Vec::with_capacity(calls.len());
+        for is_flat in [0, 1] { self.expand_joined(&joined(calls, is_flat), form, is_flat, &mut found)?; }
+        found.sort_by_key(|(call, _)| *call);
+        Ok(found.into_iter().map(|(_, answer)| answer).collect())
+    }
+
+    // Adds the answers to these calls, each with its index.
+    fn expand_joined(&self, all: &Joined, form: Form, is_flat: u32, found: &mut Vec<(usize, Result<Expansion, Error>)>) -> Result<(), Error> {
+        if all.calls.is_empty() { return Ok(()); }
+        let request = Request { form: form_number(form), argument_is_flat: is_flat, ..self.request };
+        let arguments = Bytes { text: &all.text, tokens: &all.tokens };
+        let (mut out, mut replies) = (buffers(), vec![Reply::default(); all.calls.len()]);
+        let reply = with_room(&mut out, |out| {
+            sys::expand_each(&request, self.grammar.as_bytes(), self.definition(), arguments, &all.pieces, &mut replies, out)
+        });
+        if reply.status != 0 { return Err(error_of(reply, &out)); }
+        let (mut tokens, mut text, mut message) = (&out.tokens[..], &out.text[..], &out.message[..]);
+        for (&call, reply) in all.calls.iter().zip(replies) {
+            let trees = Trees { tokens: front(&mut tokens, reply.tokens).to_vec(), text: front(&mut text, reply.text).to_vec() };
+            let said = String::from_utf8_lossy(front(&mut message, reply.message)).into_owned();
+            found.push((call, expansion_of(reply, trees, said)));
+        }
+        Ok(())
     }
 
     /// How each rule, of every style, reads an argument.

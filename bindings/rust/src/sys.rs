@@ -75,6 +75,17 @@ pub(crate) struct Reply {
     pub message: usize,
 }
 
+/// One of many arguments: `mbe_piece`.
+#[repr(C)]
+#[derive(Clone, Copy, Debug, Default)]
+pub(crate) struct Piece {
+    pub offset: usize,
+    pub len: usize,
+    pub token_offset: usize,
+    pub token_len: usize,
+    pub call_site: Span,
+}
+
 extern "C" {
     fn mbe_c_version() -> u32;
     fn mbe_c_expand(
@@ -84,6 +95,20 @@ extern "C" {
         definition_tokens: *const Token, definition_token_len: usize,
         argument: *const c_char, argument_len: usize,
         argument_tokens: *const Token, argument_token_len: usize,
+        tokens: *mut Token, token_room: usize,
+        text: *mut c_char, text_room: usize,
+        message: *mut c_char, message_room: usize,
+        reply: *mut Reply,
+    ) -> u32;
+    fn mbe_c_expand_each(
+        request: *const Request,
+        grammar: *const c_char, grammar_len: usize,
+        definition: *const c_char, definition_len: usize,
+        definition_tokens: *const Token, definition_token_len: usize,
+        arguments: *const c_char, arguments_len: usize,
+        argument_tokens: *const Token, argument_token_len: usize,
+        pieces: *const Piece, piece_len: usize,
+        replies: *mut Reply, reply_room: usize,
         tokens: *mut Token, token_room: usize,
         text: *mut c_char, text_room: usize,
         message: *mut c_char, message_room: usize,
@@ -157,6 +182,29 @@ pub(crate) fn expand(request: &Request, grammar: &[u8], definition: Bytes, argum
             definition.tokens.as_ptr(), definition.tokens.len(),
             argument.text.as_ptr().cast(), argument.text.len(),
             argument.tokens.as_ptr(), argument.tokens.len(),
+            out.tokens.as_mut_ptr(), out.tokens.len(),
+            out.text.as_mut_ptr().cast(), out.text.len(),
+            out.message.as_mut_ptr().cast(), out.message.len(),
+            &mut reply,
+        )
+    };
+    reply
+}
+
+pub(crate) fn expand_each(
+    request: &Request, grammar: &[u8], definition: Bytes, arguments: Bytes, pieces: &[Piece], replies: &mut [Reply], out: &mut Buffers,
+) -> Reply {
+    let mut reply = Reply::default();
+    unsafe {
+        mbe_c_expand_each(
+            request,
+            grammar.as_ptr().cast(), grammar.len(),
+            definition.text.as_ptr().cast(), definition.text.len(),
+            definition.tokens.as_ptr(), definition.tokens.len(),
+            arguments.text.as_ptr().cast(), arguments.text.len(),
+            arguments.tokens.as_ptr(), arguments.tokens.len(),
+            pieces.as_ptr(), pieces.len(),
+            replies.as_mut_ptr(), replies.len(),
             out.tokens.as_mut_ptr(), out.tokens.len(),
             out.text.as_mut_ptr().cast(), out.text.len(),
             out.message.as_mut_ptr().cast(), out.message.len(),

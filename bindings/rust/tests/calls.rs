@@ -1,7 +1,7 @@
 //! The crate's calls, in safe code.
 #![forbid(unsafe_code)]
 
-use mbe_rs::{Dialect, Edition, Form, Grammar, Input, Macro, Reading, Span, Status, check_grammar, convert, version};
+use mbe_rs::{Dialect, Edition, Form, Grammar, Input, Macro, Part, Reading, Span, Status, Trees, check_grammar, convert, version};
 
 const ROWS: &[(&str, &str, &str, u32)] = &[
     ("($x:ident) => {$x $x}", "a", "a a", 0),
@@ -18,7 +18,7 @@ fn sample(definition: &str) -> Macro<'static> {
 
 #[test]
 fn rows() {
-    assert_eq!(version(), 1);
+    assert_eq!(version(), 2);
     for (definition, argument, expansion, rule) in ROWS {
         let found = sample(definition).expand(Input::Text(argument.as_bytes()), Form::Rust, Span::default()).expect(definition);
         assert_eq!(String::from_utf8_lossy(&found.trees.text), *expansion);
@@ -57,6 +57,44 @@ fn flat() {
     assert_eq!(convert(Input::Flat(&astray), Edition::E2024, Dialect::Sample, Form::Lines).unwrap_err().status, Status::NoTrees);
     let expanded = sample("($($x:tt)*) => {$($x)*}").expand(Input::Flat(&trees), Form::Rust, Span::default()).expect("an expansion");
     assert_eq!(String::from_utf8_lossy(&expanded.trees.text), "a(1u8 +)");
+}
+
+#[test]
+fn definitions_are_lexed_once() {
+    let from_text = sample("(a) => {b c}");
+    let found = from_text.expand(Input::Text(b"a"), Form::Tokens, Span::default()).expect("an expansion");
+    let spans: Vec<_> = found.trees.leaves().map(|(token, _)| (token.span.file, token.span.start, token.span.end)).collect();
+    assert_eq!(spans, [(0, 8, 9), (0, 10, 11)]);
+    let unlexed = Macro::new(Input::Text(b"() => {"), Edition::E2024, Dialect::Rust, Grammar::Rust).unwrap_err();
+    assert_eq!((unlexed.status, unlexed.part), (Status::NoTokens, Part::Definition));
+    let empty = Macro::new(Input::Flat(&Trees::default()), Edition::E2024, Dialect::Sample, Grammar::Sample).unwrap_err();
+    assert_eq!((empty.status, empty.part), (Status::NoTrees, Part::Definition));
+}
+
+#[test]
+fn many_calls_at_once() {
+    let twice = sample("($x:ident) => {$x $x}; ($x:literal) => {$x}");
+    let site = |file| Span { file, ..Span::default() };
+    let lexed = convert(Input::Text(b"b"), Edition::E2024, Dialect::Sample, Form::Tokens).expect("tokens");
+    let calls = [
+        (Input::Text(b"a"), site(3)), (Input::Flat(&lexed), site(4)), (Input::Text(b")"), site(5)), (Input::Text(b"1u8"), site(6)),
+        (Input::Text(b"+"), site(7)), (Input::Flat(&lexed), site(8)),
+    ];
+    for form in [Form::Rust, Form::Tokens, Form::Lines] {
+        let alone: Vec<_> = calls.iter().map(|&(argument, site)| twice.expand(argument, form, site)).collect();
+        assert_eq!(twice.expand_each(&calls, form), Ok(alone));
+    }
+    let found = twice.expand_each(&calls, Form::Rust).expect("answers");
+    let texts: Vec<_> = found.iter().map(|it| it.as_ref().map(|it| String::from_utf8_lossy(&it.trees.text).into_owned()).ok()).collect();
+    assert_eq!((texts[0].as_deref(), texts[1].as_deref(), texts[2].as_deref()), (Some("a a"), Some("b b"), None));
+    let wrong = found[2].as_ref().unwrap_err();
+    assert_eq!((wrong.status, wrong.part, wrong.place), (Status::NoTokens, Part::Argument, 0));
+    let fault = found[4].as_ref().expect("an expansion").fault.as_ref().expect("a fault");
+    assert_eq!(fault.message, "expected ident");
+    assert_eq!(twice.expand_each(&[], Form::Rust), Ok(Vec::new()));
+    let many: Vec<_> = (0..5000).map(|_| (Input::Text(b"word".as_slice()), Span::default())).collect();
+    let found = twice.expand_each(&many, Form::Rust).expect("answers");
+    assert!(found.len() == 5000 && found.iter().all(|it| it.as_ref().is_ok_and(|it| it.trees.text == b"word word")));
 }
 
 #[test]

@@ -1,1 +1,2 @@
+mod EachLemmas
 mod GivingLemmas

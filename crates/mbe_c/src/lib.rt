@@ -6,7 +6,11 @@ ghost use Rattle.std.specs.Prelude.{◌≡◌, ◌-◌, ◌^◌, length, min, na
 ghost use Rattle.mbe_replies.specs.Answers.{answer_of};
 ghost use Rattle.mbe_replies.specs.Calls.{argument_of, definition_of};
 ghost use Rattle.mbe_c.specs.Copies as spec;
+ghost use Rattle.mbe_c.specs.Each.{answers_seen, GivesAll, GivesExpansions};
 
+mod each;
+
+use crate::each::{Answers, Piece, expand_each};
 use mbe_flat::token::{FlatSpan, FlatToken, flat_span};
 use mbe_replies::answer::{Answer, Part, Status};
 use mbe_replies::calls::{
@@ -43,9 +47,9 @@ pub struct Reply {
 /// The number of this interface, which changes with each struct and export.
 #[unsafe(no_mangle)]
 pub extern "C" fn mbe_c_version() -> u32
-    ensures { result ≡ 1 }
+    ensures { result ≡ 2 }
 {
-    1
+    2
 }
 
 // Copies the bytes to the front, if there is room for them all; else nothing.
@@ -87,8 +91,21 @@ fn put_verdicts(from: &[FlatVerdict], to: &mut [FlatVerdict]) -> bool
     true
 }
 
+// The same of replies.
+fn put_replies(from: &[Reply], to: &mut [Reply]) -> bool
+    ensures fits { result ≡ nat_le (length from.now) (length to.old) }
+    ensures copied { to.new ≡ spec.copied from.now to.old }
+{
+    if from.len() > to.len() {
+        return false;
+    }
+    let (front, _rest) = to.split_at_mut(from.len());
+    front.copy_from_slice(from);
+    true
+}
+
 // What is said of an answer.
-fn reply_of<A: Allocator>(answer: &Answer<A>) -> Reply
+pub(crate) fn reply_of<A: Allocator>(answer: &Answer<A>) -> Reply
     ensures { result ≡ spec.reply_to (answer_of answer.now) }
 {
     Reply {
@@ -182,6 +199,53 @@ pub extern "C" fn mbe_c_expand(
     give(&answer, tokens, text, message, reply)
 }
 
+/// Expands each argument, in its piece of `arguments`, by a definition that is read once (`mbe_replies::read_macro`). The answers come
+/// one after another, and the reply of each says how much of the buffers is its own; `reply` is of them all, and `reply.place` is how many
+/// there are. Where no macro is read `reply` says why, and nothing is written of the arguments.
+#[unsafe(no_mangle)]
+pub extern "C" fn mbe_c_expand_each(
+    alloc: Global,
+    request: &Request,
+    grammar: &[u8],
+    definition: &[u8],
+    definition_tokens: &[FlatToken],
+    arguments: &[u8],
+    argument_tokens: &[FlatToken],
+    pieces: &[Piece],
+    replies: &mut [Reply],
+    tokens: &mut [FlatToken],
+    text: &mut [u8],
+    message: &mut [u8],
+    reply: &mut Reply,
+) -> u32
+    ensures result { result ≡ reply.new.status }
+    ensures expands { GivesExpansions request.now grammar.now
+        (definition_of request.now definition.now definition_tokens.now)
+        (argument_of request.now arguments.now argument_tokens.now) pieces.now
+        replies.old replies.new
+        (record { tokens = tokens.old; text = text.old; message = message.old })
+        (record { tokens = tokens.new; text = text.new; message = message.new }) reply.new }
+{
+    let definition = Input {
+        text: definition,
+        tokens: definition_tokens,
+        is_flat: request.definition_is_flat,
+        part: Part::Definition,
+        file: 0,
+    };
+    let all = Input {
+        text: arguments,
+        tokens: argument_tokens,
+        is_flat: request.argument_is_flat,
+        part: Part::Argument,
+        file: 1,
+    };
+    match expand_each(alloc, request, grammar, definition, all, pieces) {
+        Err(answer) => give(&answer, &mut [], &mut [], message, reply),
+        Ok(found) => give_answers(alloc, &found, replies, tokens, text, message, reply),
+    }
+}
+
 /// The verdict on an argument of each rule of a definition (`mbe_replies::calls::explain`). `reply.tokens` is how many there are.
 #[unsafe(no_mangle)]
 pub extern "C" fn mbe_c_explain(
@@ -235,6 +299,36 @@ fn give_verdicts<A: Allocator + Copy>(
     *reply = reply_of(&Answer::empty(alloc, Status::Done, Part::None));
     reply.tokens = found.len();
     if !put_verdicts(found, verdicts) {
+        reply.status = Status::NoRoom.number();
+    }
+    reply.status
+}
+
+// Copies answers into memory of the caller, and returns the status.
+fn give_answers<A: Allocator + Copy>(
+    alloc: A,
+    found: &Answers<A>,
+    replies: &mut [Reply],
+    tokens: &mut [FlatToken],
+    text: &mut [u8],
+    message: &mut [u8],
+    reply: &mut Reply,
+) -> u32
+    ensures result { result ≡ reply.new.status }
+    ensures gives { GivesAll (answers_seen found.now) replies.old replies.new
+        (record { tokens = tokens.old; text = text.old; message = message.old })
+        (record { tokens = tokens.new; text = text.new; message = message.new }) reply.new }
+{
+    *reply = reply_of(&Answer::empty(alloc, Status::Done, Part::None));
+    reply.place = found.replies.len();
+    reply.tokens = found.tokens.len();
+    reply.text = found.text.len();
+    reply.message = found.message.len();
+    let replies_fit = put_replies(&found.replies, replies);
+    let tokens_fit = put_tokens(&found.tokens, tokens);
+    let text_fits = put_bytes(&found.text, text);
+    let _message_fits = put_bytes(&found.message, message);
+    if !replies_fit || !tokens_fit || !text_fits {
         reply.status = Status::NoRoom.number();
     }
     reply.status

@@ -7,7 +7,8 @@ use Rattle.mbe_text.specs.declared.dialect.Dialect.{Dialect}
 use Rattle.mbe_replies.specs.declared.answer.Part.{Part}
 use Rattle.mbe_replies.specs.declared.calls.Request.{Request}
 use Rattle.mbe_replies.specs.declared.calls.Settings.{Settings}
-use Rattle.mbe_replies.specs.Answers.{Answer, IsNoText, too_long, not_utf8, IsNoGrammar, no_text_of_grammar, fault_in_grammar, no_memory_for_grammar}
+use Rattle.mbe_replies.specs.ReadOnce.{IsUnread, unknown_number, no_trees_to_read, no_macro_to_read}
+use Rattle.mbe_replies.specs.Answers.{Answer, IsOutOfMemory, IsNoText, too_long, not_utf8, IsNoGrammar, no_text_of_grammar, fault_in_grammar, no_memory_for_grammar}
 use Rattle.mbe_replies.specs.Calls.{Source, HasNoTrees, no_text_of_input, unlexed, untreed, neither, no_memory_for_trees, IsNoMacro, refused, no_memory_for_macro, IsNoResult, no_grammar, no_macro, IsNoAnswer, unknown, no_definition, no_argument, no_result, IsUndefined, unknown_edition, no_trees_of_definition, no_rules}
 
 abbrev pub IsBare : Answer → Type 0
@@ -51,3 +52,11 @@ pub undefined-bare : (r : Request) (s : Source) (a : Answer) → IsUndefined r s
 undefined-bare r s a (unknown_edition none e) = bare_as a _ e (refl, refl)
 undefined-bare r s a (no_trees_of_definition x asked h) = no_trees-bare _ _ a h
 undefined-bare r s a (no_rules x asked trees given h) = no_macro-bare _ _ a h
+
+pub unread-bare : (r : Request) (text : List ℕ) (s : Source) (a : Answer) → IsUnread r text s a → IsBare a
+unread-bare r text s a (unknown_number none e) = bare_as a _ e (refl, refl)
+unread-bare r text s a (no_trees_to_read x asked h) = no_trees-bare _ _ a h
+unread-bare r text s a (no_macro_to_read x asked rules defined h) = no_result-bare _ _ _ a h
+
+pub out_of_memory-bare : (a : Answer) → IsOutOfMemory a → IsBare a
+out_of_memory-bare a e = bare_as a _ e (refl, refl)

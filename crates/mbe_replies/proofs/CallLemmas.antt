@@ -1,5 +1,5 @@
 -- What a call answers, from what its parts do.
-use Rattle.std.proofs.Common.{◌≡◌, ◌⊎◌, inl, inr, ℕ, List, map, Result, Ok, Err, IfOk, IfErr, subst, sym}
+use Rattle.std.proofs.Common.{◌≡◌, inl, inr, ℕ, List, map, Result, Ok, Err, IfOk, IfErr, subst, sym}
 use Rattle.mbe_tt.specs.declared.span.Edition.{Edition}
 use Rattle.mbe_tt.specs.Trees.Top.{Top}
 use Rattle.mbe_tt.specs.Trees.Tree.{Forest}
@@ -28,7 +28,7 @@ use Rattle.mbe_replies.specs.declared.calls.Request.{Request}
 use Rattle.mbe_replies.specs.declared.calls.Settings.{Settings}
 use Rattle.mbe_replies.specs.Answers.{Answer, IsOr, IsUnlexed, IsUntreedBy, IsUngrammaticalBy, IsUnreadBy, IsNoGrammar, fault_in_grammar, no_memory_for_grammar}
 use Rattle.mbe_replies.specs.Expanding.{IsRefused}
-use Rattle.mbe_replies.specs.Calls.{AreSettings, AreTreesOf, HasNoTrees, unlexed, untreed, no_memory_for_trees, IsNoMacro, refused, no_memory_for_macro, tree_shown, Converts, converted, no_memory_for_form, Source, Reads, IsGrammar, table_seen, IsExpansion, IsNoResult, no_macro, ExpandsTrees, Expands, ExplainsTrees, ShowsVerdicts, no_result}
+use Rattle.mbe_replies.specs.Calls.{AreSettings, AreTreesOf, HasNoTrees, unlexed, untreed, no_memory_for_trees, IsNoMacro, refused, no_memory_for_macro, tree_shown, Converts, converted, no_memory_for_form, Source, Reads, IsGrammar, table_seen, IsNoResult, no_macro, ExpandsTrees, Expands, ExplainsTrees, ShowsVerdicts, no_result}
 
 -- ---- failures
 
@@ -72,12 +72,6 @@ table_read text nodes keywords starts t e n k s = rw (n, k, s) e
 named_by : (s : Settings) (text : List ℕ) (kind : GrammarKind) (g : Grammar) → s.grammar ≡ kind → IsGrammar s.edition text kind g
     → IsGrammar s.edition text s.grammar g
 named_by s text kind g is named = subst (λ (k : GrammarKind). IsGrammar s.edition text k g) (sym is) named
-
-pub expands_by : (s : Settings) (text : List ℕ) (kind : GrammarKind) (g : Grammar) (definition argument : Top) (a : Answer) → s.grammar ≡ kind
-    → IsGrammar s.edition text kind g → IsExpansion s g definition argument a ⊎ IsNoMacro s.edition definition.1 a
-    → ExpandsTrees s text definition argument a
-expands_by s text kind g definition argument a is named (inl shows) = inl (g, named_by s text kind g is named, shows)
-expands_by s text kind g definition argument a is named (inr none) = inr (no_macro g (named_by s text kind g is named) none)
 
 pub no_result_by : (s : Settings) (text : List ℕ) (kind : GrammarKind) (g : Grammar) (definition : Top) (a : Answer) → s.grammar ≡ kind
     → IsGrammar s.edition text kind g → IsNoMacro s.edition definition.1 a → IsNoResult s text definition a

@@ -1,3 +1,4 @@
 pub mod BareLemmas
 mod CallLemmas
+mod ReadLemmas
 mod VerdictLemmas

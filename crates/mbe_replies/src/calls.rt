@@ -1,5 +1,5 @@
 // The calls: what each answers.
-ghost use Rattle.std.specs.Prelude.{◌≡◌, ◌⊎◌, map, Ok, IfErr, IfNone, IfOk, IfSome, OnOk};
+ghost use Rattle.std.specs.Prelude.{◌≡◌, map, Ok, IfErr, IfNone, IfOk, IfSome, OnOk};
 ghost use Rattle.mbe_errors.specs.ErrorViews.{errors_of};
 ghost use Rattle.mbe_matcher.specs.Matched.{verdict_seen};
 ghost use Rattle.mbe_rules_text.specs.Text.{read_text};
@@ -12,7 +12,8 @@ ghost use Rattle.mbe_replies.specs.Calls as spec;
 
 use crate::answer::{Answer, Part, Status, error_span, error_text};
 use crate::asked::{Form, GrammarKind, dialect_of, edition_of, form_of, grammar_of, style_of};
-use crate::expanding::{Expansion, defined, expansion_by, verdicts_by};
+use crate::expanding::{Expansion, defined, verdicts_by};
+use crate::read_macro::ReadMacro;
 use mbe::{MacroCallStyle, Verdict};
 use mbe_flat::reading::trees_of;
 use mbe_flat::token::{FlatSpan, FlatToken, span_of};
@@ -112,7 +113,7 @@ fn treed<A: Allocator + Copy>(
 }
 
 // The trees of an input.
-fn trees<A: Allocator + Copy>(
+pub(crate) fn trees<A: Allocator + Copy>(
     alloc: A,
     dialect: Dialect,
     input: Input<'_>,
@@ -176,7 +177,7 @@ fn shown<A: Allocator + Copy>(alloc: A, form: Form, tree: &TopSubtree<A>) -> Ans
 }
 
 // The answer that shows an expansion.
-fn expansion_shown<A: Allocator + Copy>(
+pub(crate) fn expansion_shown<A: Allocator + Copy>(
     alloc: A,
     form: Form,
     expansion: &Expansion<A>,
@@ -207,7 +208,7 @@ pub struct Settings {
     pub call_site: Span,
 }
 
-fn settings_of(request: &Request) -> Option<Settings>
+pub(crate) fn settings_of(request: &Request) -> Option<Settings>
     ensures known { IfSome result (AreSettings request.now) }
     ensures unknown { IfNone result (spec.IsUnknown request.now) }
 {
@@ -222,37 +223,11 @@ fn settings_of(request: &Request) -> Option<Settings>
     })
 }
 
-// An expansion by that grammar.
-fn expand_by<A: Allocator + Copy, G: FragmentGrammar>(
-    alloc: A,
-    asked: Settings,
-    grammar: &G,
-    definition: &TopSubtree<A>,
-    argument: &TopSubtree<A>,
-) -> Answer<A>
-    ensures { spec.IsExpansion asked (G.grammar grammar.now) definition.now argument.now
-        (answer_of result) ⊎ spec.IsNoMacro asked.edition definition.now.1 (answer_of result) }
-{
-    let Settings {
-        edition,
-        style,
-        call_site,
-        form,
-        ..
-    } = asked;
-    match expansion_by(
-        alloc, grammar, definition, argument, edition, style, call_site,
-    ) {
-        Err(error) => Answer::unread(alloc, &error),
-        Ok(expansion) => match expansion_shown(alloc, form, &expansion) {
-            Ok(answer) => answer,
-            Err(_) => Answer::empty(alloc, Status::OutOfMemory, Part::None),
-        },
-    }
-}
-
 // The rules of the text of a grammar.
-fn read_rules<'t, A: Allocator + Copy>(alloc: A, text: &'t [u8]) -> Result<Rules<'t, A>, Answer<A>>
+pub(crate) fn read_rules<'t, A: Allocator + Copy>(
+    alloc: A,
+    text: &'t [u8],
+) -> Result<Rules<'t, A>, Answer<A>>
     ensures text { IfOk result (λ _. IsText text.now) }
     ensures read { IfOk result (λ rules. read_text text.now ≡ Ok (rules_seen rules)) }
     ensures fails { IfErr result (λ a. IsNoGrammar text.now (answer_of a)) }
@@ -261,32 +236,6 @@ fn read_rules<'t, A: Allocator + Copy>(alloc: A, text: &'t [u8]) -> Result<Rules
     match Rules::read(alloc, text) {
         Ok(rules) => Ok(rules),
         Err(fault) => Err(Answer::ungrammatical(alloc, fault)),
-    }
-}
-
-// Expands by the grammar that is asked for.
-fn expand_trees<A: Allocator + Copy>(
-    alloc: A,
-    asked: Settings,
-    grammar: &[u8],
-    definition: &TopSubtree<A>,
-    argument: &TopSubtree<A>,
-) -> Answer<A>
-    ensures { spec.ExpandsTrees asked grammar.now definition.now argument.now (answer_of result) }
-{
-    match asked.grammar {
-        GrammarKind::Sample => expand_by(alloc, asked, &SampleGrammar, definition, argument),
-        GrammarKind::Rust => {
-            let rules = rust_rules(asked.edition, &[]);
-            expand_by(alloc, asked, &rules, definition, argument)
-        }
-        GrammarKind::Text => match read_rules(alloc, grammar) {
-            Ok(rules) => {
-                let table = rules.table(asked.edition, &[]);
-                expand_by(alloc, asked, &table, definition, argument)
-            }
-            Err(answer) => answer,
-        },
     }
 }
 
@@ -313,7 +262,10 @@ pub fn expand<A: Allocator + Copy>(
         Ok(tree) => tree,
         Err(answer) => return answer,
     };
-    expand_trees(alloc, asked, grammar, &definition, &argument)
+    match ReadMacro::of_trees(alloc, asked, grammar, &definition) {
+        Ok(rules) => rules.expand_trees(alloc, &argument, asked.call_site),
+        Err(answer) => answer,
+    }
 }
 
 /// A verdict in numbers: 0 one reading, 1 several readings, 2 ambiguous at the place, 3 stuck at the place.

@@ -6,7 +6,8 @@ ghost use Rattle.mbe_semantics.specs.Expansion.Macro.{IsChecked};
 ghost use Rattle.mbe_semantics.specs.Expansion.ReadAs.{IsReadAs};
 ghost use Rattle.mbe_matcher.specs.Matched.{verdict_seen};
 ghost use Rattle.mbe.specs.MacroViews.{macro_of};
-ghost use Rattle.mbe_replies.specs.Expanding.{AreVerdicts, ExpandsBy, ExplainsBy, IsEdition, IsRefused};
+ghost use Rattle.mbe.specs.OneAnswer.{IsAnswer};
+ghost use Rattle.mbe_replies.specs.Expanding.{AreVerdicts, ExplainsBy, IsEdition, IsItself, IsRefused};
 
 use mbe::{DeclarativeMacro, ExpandResult, MacroCallStyle, MatchedArmIndex, ParseError, Verdict};
 use mbe_tt::grammar::FragmentGrammar;
@@ -53,22 +54,20 @@ pub fn defined<A: Allocator + Copy>(
     Ok(rules)
 }
 
-/// What a definition makes of an argument by that grammar, in which each span stays as it is; or why there is no expansion.
+/// What a macro without an error makes of an argument by that grammar, in which each span stays as it is.
 pub fn expansion_by<A: Allocator + Copy, G: FragmentGrammar>(
     alloc: A,
     grammar: &G,
-    definition: &TopSubtree<A>,
+    rules: &DeclarativeMacro<A>,
     argument: &TopSubtree<A>,
-    edition: Edition,
     style: MacroCallStyle,
     call_site: Span,
-) -> Result<Expansion<A>, Unread<A>>
-    ensures expands { IfOk result (λ r. ExpandsBy (G.grammar grammar.now) edition
-        definition.now.1 style argument.now call_site
+) -> Result<Expansion<A>, AllocError>
+    requires { (macro_of rules.now).err ≡ None }
+    ensures { IfOk result (λ r. IsAnswer (G.grammar grammar.now) IsItself
+        (macro_of rules.now).rules style argument.now call_site
         (top_group r.value.0) r.value.1 (errors_of r.err)) }
-    ensures refused { IfErr result (IsRefused edition definition.now.1) }
 {
-    let rules = defined(alloc, definition, edition)?;
     let expansion = rules.expand(alloc, grammar, argument, |span| span, style, call_site)?;
     Ok(expansion)
 }

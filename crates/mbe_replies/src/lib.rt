@@ -5,3 +5,4 @@ pub mod answer;
 pub mod asked;
 pub mod calls;
 pub mod expanding;
+pub mod read_macro;

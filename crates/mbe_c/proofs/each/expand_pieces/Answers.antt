@@ -1,0 +1,14 @@
+use Rattle.std.proofs.Common.{rules}
+use Rattle.mbe_replies.specs.Answers.{answer_of}
+use Rattle.mbe_replies.specs.Calls.{source_of}
+use Rattle.mbe_replies.specs.ReadOnce.{AnswersBy}
+use Rattle.mbe_c.specs.Each.{answers_seen}
+use Rattle.mbe_c.proofs.EachLemmas.{one_answer_more}
+use Rattle.mbe_c.proofs.each.expand_pieces.Goals as goal
+
+pub loop-piece-preserved : goal.loop-piece-preserved
+loop-piece-preserved g c =
+    one_answer_more (AnswersBy c.args.rules.now) (source_of c.args.all) c.args.pieces.now c.loop-piece.piece-index _
+    (answer_of c.expand_piece.result) (answers_seen c.loop-piece.answers) (answers_seen c.add.new.self) (search rules)
+    c.loop-piece.invariant
+    c.expand_piece.ensures c.in_ok-add.ensures

@@ -1,0 +1,150 @@
+// Many arguments of one definition, and the answers to them, one after another.
+ghost use Rattle.std.specs.Prelude.{◌≡◌, [], option_map, IfErr, IfOk};
+ghost use Rattle.mbe_replies.specs.Answers.{answer_of};
+ghost use Rattle.mbe_replies.specs.Calls.{source_of};
+ghost use Rattle.mbe_replies.specs.ReadOnce.{AnswersBy};
+ghost use Rattle.mbe_c.specs.Each.{answers_seen};
+ghost use Rattle.mbe_c.specs.Each as spec;
+
+use crate::{Reply, reply_of};
+use mbe_flat::token::{FlatSpan, FlatToken};
+use mbe_replies::answer::{Answer, Part, Status};
+use mbe_replies::calls::{Input, Request};
+use mbe_replies::read_macro::ReadMacro;
+use std::alloc::{AllocError, Allocator};
+
+/// An argument: which part of a text and of the tokens beside it, and the span of its call.
+#[repr(C)]
+#[derive(Clone, Copy, Debug, Default, Drop, PartialEq, Eq)]
+pub struct Piece {
+    pub offset: usize,
+    pub len: usize,
+    pub token_offset: usize,
+    pub token_len: usize,
+    pub call_site: FlatSpan,
+}
+
+/// Answers one after another: the reply of each, and the tokens, texts and messages of all.
+#[derive(Drop)]
+pub struct Answers<A: Allocator> {
+    pub replies: Vec<Reply, A>,
+    pub tokens: Vec<FlatToken, A>,
+    pub text: Vec<u8, A>,
+    pub message: Vec<u8, A>,
+}
+
+impl<A: Allocator + Copy> Answers<A> {
+    fn new(alloc: A) -> Answers<A>
+        ensures { answers_seen result ≡ spec.joined [] }
+    {
+        Answers {
+            replies: Vec::new(alloc),
+            tokens: Vec::new(alloc),
+            text: Vec::new(alloc),
+            message: Vec::new(alloc),
+        }
+    }
+
+    fn add(&mut self, answer: &Answer<A>) -> Result<(), AllocError>
+        ensures { IfOk result (λ _. answers_seen self.new
+            ≡ spec.with_answer (answers_seen self.old) (answer_of answer.now)) }
+    {
+        self.replies.push(reply_of(answer))?;
+        self.tokens.extend_from_slice(&answer.tokens)?;
+        self.text.extend_from_slice(&answer.text)?;
+        self.message.extend_from_slice(answer.message.as_bytes())
+    }
+}
+
+// Those bytes; `None` where they aren't within.
+fn bytes_at(bytes: &[u8], offset: usize, len: usize) -> Option<&[u8]>
+    ensures { option_map (λ part. part.now) result ≡ spec.part_at bytes.now offset len }
+{
+    if offset > bytes.len() || len > bytes.len() - offset {
+        return None;
+    }
+    let (_before, rest) = bytes.split_at(offset);
+    let (part, _after) = rest.split_at(len);
+    Some(part)
+}
+
+// Those tokens; `None` where they aren't within.
+fn tokens_at(tokens: &[FlatToken], offset: usize, len: usize) -> Option<&[FlatToken]>
+    ensures { option_map (λ part. part.now) result ≡ spec.part_at tokens.now offset len }
+{
+    if offset > tokens.len() || len > tokens.len() - offset {
+        return None;
+    }
+    let (_before, rest) = tokens.split_at(offset);
+    let (part, _after) = rest.split_at(len);
+    Some(part)
+}
+
+// One of many arguments; `None` where it isn't within them.
+fn argument_at<'a>(all: Input<'a>, piece: Piece) -> Option<Input<'a>>
+    ensures { option_map source_of result ≡ spec.argument_at (source_of all.entry) piece }
+{
+    let text = bytes_at(all.text, piece.offset, piece.len)?;
+    let tokens = tokens_at(all.tokens, piece.token_offset, piece.token_len)?;
+    Some(Input {
+        text,
+        tokens,
+        ..all
+    })
+}
+
+// The answer to one of many arguments.
+fn expand_piece<A: Allocator + Copy>(
+    alloc: A,
+    rules: &ReadMacro<'_, A>,
+    all: Input<'_>,
+    piece: Piece,
+) -> Answer<A>
+    ensures { spec.IsAnswerAt (AnswersBy rules.now) (source_of all.entry) piece (answer_of result) }
+{
+    match argument_at(all, piece) {
+        Some(argument) => rules.expand(alloc, argument, piece.call_site),
+        None => Answer::empty(alloc, Status::Number, Part::Argument),
+    }
+}
+
+// The answers to many arguments.
+fn expand_pieces<A: Allocator + Copy>(
+    alloc: A,
+    rules: &ReadMacro<'_, A>,
+    all: Input<'_>,
+    pieces: &[Piece],
+) -> Result<Answers<A>, AllocError>
+    ensures { IfOk result (λ found. spec.AreJoined (AnswersBy rules.now) (source_of all.entry)
+        pieces.now (answers_seen found)) }
+{
+    let mut answers = Answers::new(alloc);
+    for piece in pieces {
+        answers.add(&expand_piece(alloc, rules, all, *piece))?;
+    }
+    Ok(answers)
+}
+
+/// The answers to many arguments by a definition that is read once, and before any of them; or why it isn't read.
+pub fn expand_each<A: Allocator + Copy>(
+    alloc: A,
+    request: &Request,
+    grammar: &[u8],
+    definition: Input<'_>,
+    all: Input<'_>,
+    pieces: &[Piece],
+) -> Result<Answers<A>, Answer<A>>
+    ensures expands { IfOk result (λ found. spec.AreExpansions request.now grammar.now
+        (source_of definition.entry) (source_of all.entry) pieces.now (answers_seen found)) }
+    ensures fails { IfErr result (λ a. spec.IsNoExpansion request.now grammar.now
+        (source_of definition.entry) (answer_of a)) }
+{
+    let rules = match ReadMacro::read(alloc, request, grammar, definition) {
+        Ok(rules) => rules,
+        Err(answer) => return Err(answer),
+    };
+    match expand_pieces(alloc, &rules, all, pieces) {
+        Ok(answers) => Ok(answers),
+        Err(_) => Err(Answer::empty(alloc, Status::OutOfMemory, Part::None)),
+    }
+}
