@@ -138,13 +138,17 @@ printed edition depth fuel call texts (file ∷ files) e s t before after r begu
     let split = last_of file files in
     elim (last split.0 split.1 split.2) [
       | inl none ↦ inl none
-      | inr one ↦ inr (one.0, record {
-        before = split.0;
-        last = split.1;
-        setting = e;
-        start = s;
-        end = t;
-        begins = subst (λ fs. IsBegun edition depth fuel texts fs e s) split.2 begun;
-        becomes = one.1;
-      }, one.2)
+      | inr one ↦ inr (
+        one.0,
+        record {
+          before = split.0;
+          last = split.1;
+          setting = e;
+          start = s;
+          end = t;
+          begins = subst (λ fs. IsBegun edition depth fuel texts fs e s) split.2 begun;
+          becomes = one.1;
+        },
+        one.2,
+      )
     ]
