@@ -181,7 +181,7 @@ fn report<R: Eprint + AllocGlobal>(
     notes: &[Note],
 ) -> io::Result<()> {
     let Some(form) = form else {
-        return report_lines(rt, files, notes);
+        return report_in_lines(rt, files, notes);
     };
     let mut text = String::new(rt.alloc());
     add_reports(rt.alloc(), form, files, notes, &mut text)?;
@@ -189,7 +189,7 @@ fn report<R: Eprint + AllocGlobal>(
 }
 
 // Writes the notes to standard error, each with its place and its message in one line.
-fn report_lines<R: Eprint + AllocGlobal>(
+fn report_in_lines<R: Eprint + AllocGlobal>(
     rt: &R,
     files: &[SourceFile<'_>],
     notes: &[Note],

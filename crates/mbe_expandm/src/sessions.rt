@@ -102,7 +102,8 @@ impl<'f> Session<'f> {
         let mut notes = Vec::new(alloc);
         let files = sources(alloc, options.edition, texts, &mut notes)?;
         let grammar = rust_rules(options.edition, &[]);
-        let settings = options.settings(limit_of(&files), explained(options.explain, &files));
+        let explain = explained(options.explain, files.as_slice());
+        let settings = options.settings(limit_of(&files), explain);
         let mut expander = Expander::new(alloc, grammar, settings);
         define_files(&mut expander, &files)?;
         Ok(Session {
