@@ -3,6 +3,8 @@
 #
 #     sh tools/bench/unproved.sh CHECKOUT PROGRAM
 #
+# With CRATE=expandm ARGS=data/tour.rs it is `expandm`: ARGS are words for a run of the program, in its crate's folder.
+#
 # `rt try` gives clang a module with a check wherever a proof would be asked for, and compiles it for a sanitizer that valgrind can't run.
 # Here a folder of links to the kit has, in clang's place, a script that keeps the module and stops; then the checks are taken out (with
 # CHECKS=kept they stay), the hints on inlining are put in, and the kit's clang and linker make the program. It is near the
@@ -26,7 +28,7 @@ case "\$*" in *fsanitize=address*) cp module.bc "$work/kept.bc"; exit 1 ;; esac
 exec "$kit/toolchain/bin/clang" "\$@"
 END
 chmod +x "$work/kit/toolchain/bin/clang"
-(cd "$checkout/crates/mbex" && "$work/kit/bin/rt" try -- data/first.def data/first.arg >"$work/log" 2>&1) || true
+(cd "$checkout/crates/${CRATE:-mbex}" && "$work/kit/bin/rt" try -- ${ARGS:-data/first.def data/first.arg} >"$work/log" 2>&1) || true
 [ -e "$work/kept.bc" ] || { cat "$work/log" >&2; exit 1; }
 target=x86_64-unknown-linux-gnu
 clang="$kit/toolchain/bin/clang --target=$target --sysroot=$kit/toolchain -march=x86-64 --no-default-config"
