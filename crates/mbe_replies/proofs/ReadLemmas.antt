@@ -1,15 +1,18 @@
 -- What a macro that was read makes of arguments.
-use Rattle.std.proofs.Common.{◌≡◌, inl, inr, List, [], ℕ, subst, sym, refl}
+use Rattle.std.proofs.Common.{◌≡◌, inl, inr, List, [], ℕ, Option, Result, Ok, Err, subst, sym, refl}
+use Rattle.std.specs.Prelude.{IfOk}
 use Rattle.mbe_tt.specs.declared.span.Edition.{Edition}
 use Rattle.mbe_tt.specs.declared.span.Span.{Span}
-use Rattle.mbe_tt.specs.Trees.Top.{Top}
+use Rattle.mbe_tt.specs.Trees.Top.{Top, top_group}
 use Rattle.mbe_tt.specs.Fragments.Grammar.{Grammar}
 use Rattle.mbe_rules.specs.declared.table.RuleTable.{RuleTable}
 use Rattle.mbe_grammar.specs.SampleGrammar.{sample}
 use Rattle.mbe_rules.specs.Lawful.{grammar_of}
 use Rattle.mbe_rules_text.specs.Words.{borrowed}
 use Rattle.mbe_rules_text.specs.declared.rules.Rules.{Rules}
+use Rattle.mbe_semantics.specs.Expansion.Error.{ExpandError}
 use Rattle.mbe.specs.MacroViews.{macro_of}
+use Rattle.mbe.specs.OneAnswer.{IsAnswer}
 use Rattle.mbe_flat.specs.declared.token.FlatSpan.{FlatSpan}
 use Rattle.mbe_flat.specs.Numbers.{span_of}
 use Rattle.mbe_replies.specs.declared.asked.GrammarKind.{GrammarKind}
@@ -20,9 +23,20 @@ use Rattle.mbe_replies.specs.declared.read_macro.Fragments.{Fragments}
 use Rattle.mbe_replies.specs.declared.read_macro.Fragments.TheVariants as fragments
 use Rattle.mbe_replies.specs.declared.read_macro.ReadMacro.{ReadMacro}
 use Rattle.mbe_replies.specs.Answers.{Answer, IsOr}
-use Rattle.mbe_replies.specs.Calls.{AreSettings, AreTreesOf, HasNoTrees, IsGrammar, IsTableOf, no_argument, no_macro, no_memory_for_macro, Expands, ExpandsTrees, Source}
+use Rattle.mbe_replies.specs.Calls.{AreSettings, AreTreesOf, HasNoTrees, IsGrammar, IsTableOf, no_argument, no_macro, no_memory_for_macro, Expands, ExpandsTrees, Source, expansion_shown}
+use Rattle.mbe_replies.specs.Expanding.{IsItself}
 use Rattle.mbe_replies.specs.ReadOnce.{AreFragments, IsMacroOf, IsExpansionOf, AnswersBy, AnswersTreesBy, at_site, asked_at}
 use Rattle.mbe_replies.proofs.CallLemmas.{expands_both, table_read}
+
+-- ---- the answer
+
+-- an answer that shows an expansion, if there is memory for it
+pub shown_of : {X E A : Type 0} (see : X → Answer) (r : Result X E) (g : Grammar) (m : ReadMacro A) (argument : Top) (site : Span) (tree : Top)
+    (rule : Option ℕ) (err : Option ExpandError)
+    → IsAnswer g IsItself (macro_of m.rules).rules m.asked.style argument site (top_group tree) rule err
+    → IfOk r (λ x. see x ≡ expansion_shown m.asked.form tree rule err) → IfOk r (λ x. IsExpansionOf g m argument site (see x))
+shown_of see (Ok x) g m argument site tree rule err is shown = (tree, rule, err, is, shown)
+shown_of see (Err x) g m argument site tree rule err is shown = shown
 
 -- ---- the grammar that was read
 
