@@ -3,6 +3,7 @@ pub mod CallLemmas
 pub mod DefineLemmas
 pub mod EachLemmas
 pub mod EditionLemmas
+pub mod ExplainLemmas
 pub mod FitLemmas
 pub mod FrontLemmas
 pub mod GroupLemmas
