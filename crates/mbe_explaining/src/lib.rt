@@ -2,4 +2,5 @@
 #![tactic(auto)]
 
 pub mod places;
+pub mod saying;
 pub mod texts;

@@ -1,18 +1,32 @@
-// What a pattern wants, as it is written in a rule.
+// What a pattern wants, as it is written in a rule, and where it is there.
+ghost use Rattle.std.specs.Prelude.{◌≡◌, IfOk};
+ghost use Rattle.std.specs.String.{string_bytes};
+ghost use Rattle.mbe_matcher.specs.Wanted.{wanted_seen};
+ghost use Rattle.mbe_ops.specs.Views.{op_of, separator_seen};
+ghost use Rattle.mbe_semantics.specs.Expansion.Failing.{puncts_text};
+ghost use Rattle.mbe_explaining.specs.Saying as spec;
+ghost use Rattle.mbe_explaining.specs.Saying.{part_of, part_seen, quoted};
+
 use mbe_matcher::wanting::Wanted;
 use mbe_ops::ops::{Op, Separator};
 use mbe_semantics::kinds::MetaVarKind;
 use mbe_tt::span::Span;
 use mbe_tt::tt::{DelimiterKind, Punct};
-use std::alloc::{Allocator, Global};
-use std::fmt;
+use std::alloc::{AllocError, Allocator, Global};
 
-/// What is wanted, as text: a token in backquotes, a variable with its kind, the opening of a group, an end.
-#[derive_where(Clone, Copy)]
-pub struct Shown<'a, A: Allocator = Global>(pub Wanted<'a, A>);
+/// A part of a rule. Clauses see it by `part_seen`.
+#[derive(Drop)]
+pub struct Part<A: Allocator = Global> {
+    /// A token in backquotes, a variable with its kind, the opening of a group, an end.
+    pub text: String<A>,
+    /// Where it is in the rule: a variable's name, a token, an opening. An end has no place there.
+    pub span: Option<Span>,
+}
 
-/// The specifier of a kind, as `expr`.
-pub fn specifier_of(kind: MetaVarKind) -> &'static str {
+/// The specifier of a kind, as `expr`. Which of its two names stands in the rule isn't kept.
+pub fn specifier_of(kind: MetaVarKind) -> &'static str
+    ensures { result.now ≡ spec.specifier kind }
+{
     match kind {
         MetaVarKind::Path => "path",
         MetaVarKind::Ty => "ty",
@@ -23,7 +37,6 @@ pub fn specifier_of(kind: MetaVarKind) -> &'static str {
         MetaVarKind::Meta => "meta",
         MetaVarKind::Item => "item",
         MetaVarKind::Vis => "vis",
-        // Which of its two names stands in the rule isn't kept.
         MetaVarKind::Expr(_) => "expr",
         MetaVarKind::Ident => "ident",
         MetaVarKind::Tt => "tt",
@@ -32,7 +45,9 @@ pub fn specifier_of(kind: MetaVarKind) -> &'static str {
     }
 }
 
-fn opening_of(kind: DelimiterKind) -> &'static str {
+fn opening_of(kind: DelimiterKind) -> &'static str
+    ensures { result.now ≡ spec.opening kind }
+{
     match kind {
         DelimiterKind::Parenthesis => "`(`",
         DelimiterKind::Brace => "`{`",
@@ -41,74 +56,143 @@ fn opening_of(kind: DelimiterKind) -> &'static str {
     }
 }
 
-fn write_puncts<W: fmt::Write>(f: &mut fmt::Formatter<W>, puncts: &[Punct]) -> fmt::Result {
-    f.write_str("`")?;
+// The chars of the puncts.
+fn chars_of<A: Allocator>(alloc: A, puncts: &[Punct]) -> Result<String<A>, AllocError>
+    ensures { IfOk result (λ text. string_bytes text ≡ puncts_text puncts.now) }
+{
+    let mut text = String::new(alloc);
     for punct in puncts {
-        f.write_char(punct.char)?;
+        text.push(punct.char)?;
     }
-    f.write_str("`")
+    Ok(text)
 }
 
-fn write_op<A: Allocator, W: fmt::Write>(f: &mut fmt::Formatter<W>, op: &Op<A>) -> fmt::Result {
-    match op {
-        Op::Var { name, kind, .. } => {
-            let kind = kind.map_or("?", specifier_of);
-            write!(f, "`${}:{kind}`", name.as_str())
+fn puncts_quoted<A: Allocator + Copy>(alloc: A, puncts: &[Punct]) -> Result<String<A>, AllocError>
+    ensures { IfOk result (λ text. string_bytes text ≡ quoted (puncts_text puncts.now)) }
+{
+    let chars = chars_of(alloc, puncts)?;
+    format!(in alloc; "`{chars}`")
+}
+
+fn variable_text<A: Allocator>(
+    alloc: A,
+    name: &str,
+    kind: Option<MetaVarKind>,
+) -> Result<String<A>, AllocError>
+    ensures { IfOk result (λ text. string_bytes text ≡ spec.variable_text name.now kind) }
+{
+    match kind {
+        None => format!(in alloc; "`${name}:?`"),
+        Some(kind) => {
+            let specifier = specifier_of(kind);
+            format!(in alloc; "`${name}:{specifier}`")
         }
-        Op::Subtree { delimiter, .. } => f.write_str(opening_of(delimiter.kind)),
-        Op::Literal(literal) => write!(f, "`{literal}`"),
-        Op::Ident(ident) => write!(f, "`{ident}`"),
-        Op::Punct(puncts) => write_puncts(f, puncts.as_slice()),
-        // None of these is wanted by itself.
-        Op::Repeat { .. }
-        | Op::Ignore { .. }
+    }
+}
+
+#[tactic(auto, using(mbe_ops::proofs::OpViews::views))]
+fn op_text<A: Allocator + Copy>(alloc: A, op: &Op<A>) -> Result<String<A>, AllocError>
+    ensures { IfOk result (λ text. string_bytes text ≡ spec.op_text (op_of op.now)) }
+{
+    match op {
+        Op::Var { name, kind, .. } => variable_text(alloc, name.as_str(), *kind),
+        Op::Subtree { delimiter, .. } => String::from_str(alloc, opening_of(delimiter.kind)),
+        Op::Literal(literal) => format!(in alloc; "`{literal}`"),
+        Op::Ident(ident) => format!(in alloc; "`{ident}`"),
+        Op::Punct(puncts) => puncts_quoted(alloc, puncts.as_slice()),
+        Op::Repeat { .. } => Ok(String::new(alloc)),
+        Op::Ignore { .. }
         | Op::Index { .. }
         | Op::Len { .. }
         | Op::Count { .. }
-        | Op::Concat { .. } => Ok(()),
+        | Op::Concat { .. } => Ok(String::new(alloc)),
     }
 }
 
-fn write_separator<A: Allocator, W: fmt::Write>(
-    f: &mut fmt::Formatter<W>,
+fn separator_text<A: Allocator + Copy>(
+    alloc: A,
     separator: &Separator<A>,
-) -> fmt::Result {
+) -> Result<String<A>, AllocError>
+    ensures { IfOk result (λ text. string_bytes text
+        ≡ spec.separator_text (separator_seen separator.now)) }
+{
     match separator {
-        Separator::Literal(literal) => write!(f, "`{literal}`"),
-        Separator::Ident(ident) => write!(f, "`{ident}`"),
-        Separator::Puncts(puncts) => write_puncts(f, puncts.as_slice()),
-        Separator::Lifetime(_, ident) => write!(f, "`'{ident}`"),
+        Separator::Literal(literal) => format!(in alloc; "`{literal}`"),
+        Separator::Ident(ident) => format!(in alloc; "`{ident}`"),
+        Separator::Puncts(puncts) => puncts_quoted(alloc, puncts.as_slice()),
+        Separator::Lifetime(_, ident) => format!(in alloc; "`'{ident}`"),
     }
 }
 
-impl<A: Allocator> fmt::Display for Shown<'_, A> {
-    fn fmt<W: fmt::Write>(&self, f: &mut fmt::Formatter<W>) -> fmt::Result {
-        match self.0 {
-            Wanted::End => f.write_str("the end"),
-            Wanted::Closing => f.write_str("the end of the group"),
-            Wanted::Separator(separator) => write_separator(f, separator),
-            Wanted::Op(op) => write_op(f, op),
-        }
+fn text_of<A: Allocator + Copy>(alloc: A, wanted: Wanted<'_, A>) -> Result<String<A>, AllocError>
+    ensures { IfOk result (λ text. string_bytes text ≡ spec.text_of (wanted_seen wanted.entry)) }
+{
+    match wanted {
+        Wanted::End => String::from_str(alloc, "the end of the call"),
+        Wanted::Closing => String::from_str(alloc, "the end of the group"),
+        Wanted::Separator(separator) => separator_text(alloc, separator),
+        Wanted::Op(op) => op_text(alloc, op),
     }
 }
 
-fn span_of_puncts(puncts: &[Punct]) -> Option<Span> {
-    puncts.first().map(|punct| punct.span)
+fn first_span(puncts: &[Punct]) -> Option<Span>
+    ensures { result ≡ spec.first_place puncts.now }
+{
+    match puncts {
+        [] => None,
+        [first, ..] => Some(first.span),
+    }
 }
 
-/// Where it is in the rule: a variable's name, a token, an opening. The ends have no place of their own.
-pub fn span_of<A: Allocator>(wanted: Wanted<'_, A>) -> Option<Span> {
+fn separator_span<A: Allocator>(separator: &Separator<A>) -> Option<Span>
+    ensures { result ≡ spec.separator_place (separator_seen separator.now) }
+{
+    match separator {
+        Separator::Literal(literal) => Some(literal.span),
+        Separator::Ident(ident) => Some(ident.span),
+        Separator::Puncts(puncts) => first_span(puncts.as_slice()),
+        Separator::Lifetime(quote, _) => Some(quote.span),
+    }
+}
+
+#[tactic(auto, using(mbe_ops::proofs::OpViews::views))]
+fn op_span<A: Allocator>(op: &Op<A>) -> Option<Span>
+    ensures { result ≡ spec.op_place (op_of op.now) }
+{
+    match op {
+        Op::Var { id, .. } => Some(*id),
+        Op::Subtree { delimiter, .. } => Some(delimiter.opening),
+        Op::Literal(literal) => Some(literal.span),
+        Op::Ident(ident) => Some(ident.span),
+        Op::Punct(puncts) => first_span(puncts.as_slice()),
+        Op::Repeat { .. } => None,
+        Op::Ignore { .. }
+        | Op::Index { .. }
+        | Op::Len { .. }
+        | Op::Count { .. }
+        | Op::Concat { .. } => None,
+    }
+}
+
+fn span_of<A: Allocator>(wanted: Wanted<'_, A>) -> Option<Span>
+    ensures { result ≡ spec.place_of (wanted_seen wanted.entry) }
+{
     match wanted {
         Wanted::End | Wanted::Closing => None,
-        Wanted::Separator(Separator::Literal(literal)) => Some(literal.span),
-        Wanted::Separator(Separator::Ident(ident)) => Some(ident.span),
-        Wanted::Separator(Separator::Puncts(puncts)) => span_of_puncts(puncts.as_slice()),
-        Wanted::Separator(Separator::Lifetime(quote, _)) => Some(quote.span),
-        Wanted::Op(Op::Var { id, .. }) => Some(*id),
-        Wanted::Op(Op::Subtree { delimiter, .. }) => Some(delimiter.opening),
-        Wanted::Op(Op::Literal(literal)) => Some(literal.span),
-        Wanted::Op(Op::Ident(ident)) => Some(ident.span),
-        Wanted::Op(Op::Punct(puncts)) => span_of_puncts(puncts.as_slice()),
-        Wanted::Op(_) => None,
+        Wanted::Separator(separator) => separator_span(separator),
+        Wanted::Op(op) => op_span(op),
     }
+}
+
+/// What is wanted, as its text and its place in the rule. `AllocError` if out of memory.
+pub fn described<A: Allocator + Copy>(
+    alloc: A,
+    wanted: Wanted<'_, A>,
+) -> Result<Part<A>, AllocError>
+    ensures { IfOk result (λ part. part_seen part ≡ part_of (wanted_seen wanted.entry)) }
+{
+    Ok(Part {
+        text: text_of(alloc, wanted)?,
+        span: span_of(wanted),
+    })
 }

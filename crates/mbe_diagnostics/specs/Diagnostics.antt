@@ -1,0 +1,52 @@
+-- What is said of a part of a file, as text.
+use Rattle.std.specs.Prelude.{ℕ, ◌==◌, if◌then◌else◌, Bool, true, false, List, [], ◌∷◌, ◌++◌, codes, chars, length, ◌-◌}
+use Rattle.std.specs.List.{repeat}
+use Rattle.std.specs.Char.{encode_utf8}
+use Rattle.std.specs.Fmt.{decimal}
+use Rattle.unicode_width.specs.Width.{str_width}
+use Rattle.mbe_diagnostics.specs.declared.diagnostic.Level.{Level}
+use Rattle.mbe_diagnostics.specs.declared.diagnostic.Level.TheVariants.{Error, Warning, Note}
+use Rattle.mbe_diagnostics.specs.declared.diagnostic.Diagnostic.{Diagnostic}
+
+abbrev pub word : Level → List ℕ
+word Error = codes "error"
+word Warning = codes "warning"
+word Note = codes "note"
+
+-- a tab as four spaces
+abbrev pub shown_char : ℕ → List ℕ
+shown_char c = if c == 9 then codes "    " else encode_utf8 c
+
+abbrev pub untabbed : List ℕ → List ℕ
+untabbed [] = []
+untabbed (c ∷ cs) = shown_char c ++ untabbed cs
+
+-- as many spaces as the text has columns in a terminal
+abbrev pub margin : List ℕ → List ℕ
+margin text = repeat (str_width false (chars (untabbed (chars text)))) (codes " ")
+
+-- red, yellow or green, and bold
+abbrev pub colour : Level → List ℕ
+colour Error = 27 ∷ codes "[1;31m"
+colour Warning = 27 ∷ codes "[1;33m"
+colour Note = 27 ∷ codes "[1;32m"
+
+abbrev pub level_text : Level → Bool → List ℕ
+level_text l false = word l
+level_text l true = colour l ++ (word l ++ (27 ∷ codes "[0m"))
+
+-- the place, the level and the message
+abbrev pub head : Diagnostic → Bool → List ℕ
+head d is_coloured =
+    d.file.now ++ (codes ":" ++ (decimal d.start.line ++ (codes ":" ++ (decimal d.start.column
+    ++ (codes ": " ++ (level_text d.level is_coloured ++ (codes ": " ++ (d.message.now ++ codes "\n"))))))))
+
+-- a number in five columns, to the right
+unfoldable pub in_five : ℕ → List ℕ
+in_five n = repeat (5 - length (decimal n)) (codes " ") ++ decimal n
+
+-- the line, and a caret under the place
+abbrev pub excerpt : Diagnostic → List ℕ
+excerpt d =
+    in_five d.start.line ++ (codes " | " ++ (untabbed (chars d.line.now)
+    ++ (codes "\n      | " ++ (margin d.before.now ++ codes "^\n"))))

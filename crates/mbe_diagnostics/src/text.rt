@@ -1,0 +1,116 @@
+// What is said of a part of a file, for people, as rustc writes it: the place, the message, the line, and a caret
+// under the place.
+ghost use Rattle.std.specs.Prelude.{◌≡◌, ◌++◌, IfOk, OnOk, chars, codes, false};
+ghost use Rattle.std.specs.String.{string_bytes};
+ghost use Rattle.unicode_width.specs.Width.{str_width};
+ghost use Rattle.mbe_diagnostics.specs.Diagnostics as spec;
+
+use crate::diagnostic::{Diagnostic, Level};
+use std::alloc::{AllocError, Allocator};
+use unicode_width::UnicodeWidthStr;
+
+fn push_shown<A: Allocator>(text: &mut String<A>, char: char) -> Result<(), AllocError>
+    ensures { OnOk result (string_bytes text.new ≡ string_bytes text.old ++ spec.shown_char char) }
+{
+    match char {
+        '\t' => text.push_str("    "),
+        _ => text.push(char),
+    }
+}
+
+// The text with four spaces in place of each tab.
+fn untabbed<A: Allocator + Copy>(alloc: A, text: &str) -> Result<String<A>, AllocError>
+    ensures { IfOk result (λ t. string_bytes t ≡ spec.untabbed (chars text.now)) }
+{
+    let mut shown = String::new(alloc);
+    for char in text.chars() {
+        push_shown(&mut shown, char)?;
+    }
+    Ok(shown)
+}
+
+// White space as wide as a text in a terminal.
+fn margin<A: Allocator + Copy>(alloc: A, before: &str) -> Result<String<A>, AllocError>
+    ensures { IfOk result (λ t. string_bytes t ≡ spec.margin before.now) }
+{
+    let shown = untabbed(alloc, before)?;
+    " ".repeat(alloc, shown.as_str().width())
+}
+
+// What begins a colour, and what ends it.
+fn colour_of(level: Level) -> &'static str
+    ensures { result.now ≡ spec.colour level }
+{
+    match level {
+        Level::Error => "\u{1b}[1;31m",
+        Level::Warning => "\u{1b}[1;33m",
+        Level::Note => "\u{1b}[1;32m",
+    }
+}
+
+// The level, perhaps in its colour.
+fn level_text<A: Allocator + Copy>(
+    alloc: A,
+    level: Level,
+    is_coloured: bool,
+) -> Result<String<A>, AllocError>
+    ensures { IfOk result (λ t. string_bytes t ≡ spec.level_text level is_coloured) }
+{
+    let word = level.word();
+    if !is_coloured {
+        return String::from_str(alloc, word);
+    }
+    let colour = colour_of(level);
+    format!(in alloc; "{colour}{word}\u{1b}[0m")
+}
+
+// The line with the place and the message.
+fn head<A: Allocator + Copy>(
+    alloc: A,
+    said: &Diagnostic<'_>,
+    is_coloured: bool,
+) -> Result<String<A>, AllocError>
+    ensures { IfOk result (λ t. string_bytes t ≡ spec.head said.now is_coloured) }
+{
+    let level = level_text(alloc, said.level, is_coloured)?;
+    let (file, message) = (said.file, said.message);
+    let (line, column) = (said.start.line, said.start.column);
+    format!(in alloc; "{file}:{line}:{column}: {level}: {message}\n")
+}
+
+// A number in five columns, to the right.
+#[tactic(auto, unfolding(crate::specs::Diagnostics::in_five))]
+fn in_five<A: Allocator + Copy>(alloc: A, number: usize) -> Result<String<A>, AllocError>
+    ensures { IfOk result (λ t. string_bytes t ≡ spec.in_five number) }
+{
+    let digits = format!(in alloc; "{number}")?;
+    let mut text = " ".repeat(alloc, 5usize.saturating_sub(digits.len()))?;
+    text.push_str(digits.as_str())?;
+    Ok(text)
+}
+
+// The line of the file, and under it a caret.
+fn excerpt<A: Allocator + Copy>(alloc: A, said: &Diagnostic<'_>) -> Result<String<A>, AllocError>
+    ensures { IfOk result (λ t. string_bytes t ≡ spec.excerpt said.now) }
+{
+    let number = in_five(alloc, said.start.line)?;
+    let line = untabbed(alloc, said.line)?;
+    let margin = margin(alloc, said.before)?;
+    format!(in alloc; "{number} | {line}\n      | {margin}^\n")
+}
+
+/// `FILE:LINE:COL: LEVEL: MESSAGE`, the line, and a caret under the place, each in a line. Tabs are four spaces.
+/// In colour the level is between a terminal's codes. `AllocError` if out of memory.
+pub fn rendered<A: Allocator + Copy>(
+    alloc: A,
+    said: &Diagnostic<'_>,
+    is_coloured: bool,
+) -> Result<String<A>, AllocError>
+    ensures { IfOk result (λ t. string_bytes t
+        ≡ spec.head said.now is_coloured ++ spec.excerpt said.now) }
+{
+    let mut text = head(alloc, said, is_coloured)?;
+    let excerpt = excerpt(alloc, said)?;
+    text.push_str(excerpt.as_str())?;
+    Ok(text)
+}
