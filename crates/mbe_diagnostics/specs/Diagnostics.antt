@@ -1,5 +1,5 @@
 -- What is said of a part of a file, as text.
-use Rattle.std.specs.Prelude.{ℕ, ◌==◌, if◌then◌else◌, Bool, true, false, List, [], ◌∷◌, ◌++◌, codes, chars, length, ◌-◌}
+use Rattle.std.specs.Prelude.{ℕ, ◌==◌, if◌then◌else◌, Bool, true, false, List, [], ◌∷◌, ◌++◌, codes, chars, length, max}
 use Rattle.std.specs.List.{repeat}
 use Rattle.std.specs.Char.{encode_utf8}
 use Rattle.std.specs.Fmt.{decimal}
@@ -35,18 +35,30 @@ abbrev pub level_text : Level → Bool → List ℕ
 level_text l false = word l
 level_text l true = colour l ++ (word l ++ (27 ∷ codes "[0m"))
 
--- the place, the level and the message
+-- the level and the message
 abbrev pub head : Diagnostic → Bool → List ℕ
-head d is_coloured =
-    d.file.now ++ (codes ":" ++ (decimal d.start.line ++ (codes ":" ++ (decimal d.start.column
-    ++ (codes ": " ++ (level_text d.level is_coloured ++ (codes ": " ++ (d.message.now ++ codes "\n"))))))))
+head d is_coloured = level_text d.level is_coloured ++ (codes ": " ++ (d.message.now ++ codes "\n"))
 
--- a number in five columns, to the right
-unfoldable pub in_five : ℕ → List ℕ
-in_five n = repeat (5 - length (decimal n)) (codes " ") ++ decimal n
+-- as many spaces as a number has digits
+unfoldable pub gutter : ℕ → List ℕ
+gutter n = repeat (length (decimal n)) (codes " ")
 
--- the line, and a caret under the place
+-- where it is
+abbrev pub place : Diagnostic → List ℕ
+place d =
+    gutter d.start.line ++ (codes "--> " ++ (d.file.now ++ (codes ":" ++ (decimal d.start.line
+    ++ (codes ":" ++ (decimal d.start.column ++ codes "\n"))))))
+
+-- as many carets as a text has columns in a terminal, and one at least
+abbrev pub carets : List ℕ → List ℕ
+carets part = repeat (max 1 (str_width false (chars (untabbed (chars part))))) (codes "^")
+
+-- the line, and carets below the part
 abbrev pub excerpt : Diagnostic → List ℕ
 excerpt d =
-    in_five d.start.line ++ (codes " | " ++ (untabbed (chars d.line.now)
-    ++ (codes "\n      | " ++ (margin d.before.now ++ codes "^\n"))))
+    gutter d.start.line ++ (codes " |\n" ++ (decimal d.start.line ++ (codes " | " ++ (untabbed (chars d.line.now)
+    ++ (codes "\n" ++ (gutter d.start.line ++ (codes " | " ++ (margin d.before.now ++ (carets d.part.now ++ codes "\n")))))))))
+
+-- the whole, as people read it
+abbrev pub text : Diagnostic → Bool → List ℕ
+text d is_coloured = head d is_coloured ++ (place d ++ excerpt d)

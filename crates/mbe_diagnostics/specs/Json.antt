@@ -6,7 +6,7 @@ use Rattle.serde_json.specs.Written.{compact_text}
 use Rattle.mbe_diagnostics.specs.declared.diagnostic.Level.{Level}
 use Rattle.mbe_diagnostics.specs.declared.diagnostic.Point.{Point}
 use Rattle.mbe_diagnostics.specs.declared.diagnostic.Diagnostic.{Diagnostic}
-use Rattle.mbe_diagnostics.specs.Diagnostics.{word, head, excerpt}
+use Rattle.mbe_diagnostics.specs.Diagnostics.{word, text}
 
 -- a text in quotes, with escapes
 abbrev pub text_json : List ℕ → List ℕ
@@ -52,7 +52,7 @@ abbrev pub object_json : Level → List ℕ → List ℕ → List ℕ → List �
 object_json l message spans rendered = front_json (word l) message ++ back_json spans rendered
 
 abbrev pub json_line : Diagnostic → List ℕ
-json_line d = object_json d.level d.message.now (span_json d) (head d false ++ excerpt d)
+json_line d = object_json d.level d.message.now (span_json d) (text d false)
 
 -- what is said of no part of a file
 abbrev pub plain_line : Level → List ℕ → List ℕ

@@ -43,6 +43,8 @@ pub struct Diagnostic<'t> {
     pub end: Point,
     /// The line where the part starts.
     pub line: &'t str,
-    /// What stands in that line before the part.
+    /// What that line has before the part.
     pub before: &'t str,
+    /// As much of the part as is in that line.
+    pub part: &'t str,
 }

@@ -1,5 +1,5 @@
-// What is said of a part of a file, for people, as rustc writes it: the place, the message, the line, and a caret
-// under the place.
+// What is said of a part of a file, for people, as rustc writes it: the message, the place, the line, and carets below
+// the part.
 ghost use Rattle.std.specs.Prelude.{◌≡◌, ◌++◌, IfOk, OnOk, chars, codes, false};
 ghost use Rattle.std.specs.String.{string_bytes};
 ghost use Rattle.unicode_width.specs.Width.{str_width};
@@ -64,7 +64,24 @@ fn level_text<A: Allocator + Copy>(
     format!(in alloc; "{colour}{word}\u{1b}[0m")
 }
 
-// The line with the place and the message.
+// As many carets as a text has columns in a terminal, and one at least.
+fn carets<A: Allocator + Copy>(alloc: A, part: &str) -> Result<String<A>, AllocError>
+    ensures { IfOk result (λ t. string_bytes t ≡ spec.carets part.now) }
+{
+    let shown = untabbed(alloc, part)?;
+    "^".repeat(alloc, shown.as_str().width().max(1))
+}
+
+// As many spaces as a number has digits.
+#[tactic(auto, unfolding(crate::specs::Diagnostics::gutter))]
+fn gutter<A: Allocator + Copy>(alloc: A, number: usize) -> Result<String<A>, AllocError>
+    ensures { IfOk result (λ t. string_bytes t ≡ spec.gutter number) }
+{
+    let digits = format!(in alloc; "{number}")?;
+    " ".repeat(alloc, digits.len())
+}
+
+// The level and the message.
 fn head<A: Allocator + Copy>(
     alloc: A,
     said: &Diagnostic<'_>,
@@ -73,44 +90,45 @@ fn head<A: Allocator + Copy>(
     ensures { IfOk result (λ t. string_bytes t ≡ spec.head said.now is_coloured) }
 {
     let level = level_text(alloc, said.level, is_coloured)?;
-    let (file, message) = (said.file, said.message);
-    let (line, column) = (said.start.line, said.start.column);
-    format!(in alloc; "{file}:{line}:{column}: {level}: {message}\n")
+    let message = said.message;
+    format!(in alloc; "{level}: {message}\n")
 }
 
-// A number in five columns, to the right.
-#[tactic(auto, unfolding(crate::specs::Diagnostics::in_five))]
-fn in_five<A: Allocator + Copy>(alloc: A, number: usize) -> Result<String<A>, AllocError>
-    ensures { IfOk result (λ t. string_bytes t ≡ spec.in_five number) }
+// Where it is.
+fn place<A: Allocator + Copy>(alloc: A, said: &Diagnostic<'_>) -> Result<String<A>, AllocError>
+    ensures { IfOk result (λ t. string_bytes t ≡ spec.place said.now) }
 {
-    let digits = format!(in alloc; "{number}")?;
-    let mut text = " ".repeat(alloc, 5usize.saturating_sub(digits.len()))?;
-    text.push_str(digits.as_str())?;
-    Ok(text)
+    let gutter = gutter(alloc, said.start.line)?;
+    let file = said.file;
+    let (line, column) = (said.start.line, said.start.column);
+    format!(in alloc; "{gutter}--> {file}:{line}:{column}\n")
 }
 
-// The line of the file, and under it a caret.
+// The line of the file, and carets below the part.
 fn excerpt<A: Allocator + Copy>(alloc: A, said: &Diagnostic<'_>) -> Result<String<A>, AllocError>
     ensures { IfOk result (λ t. string_bytes t ≡ spec.excerpt said.now) }
 {
-    let number = in_five(alloc, said.start.line)?;
+    let number = said.start.line;
+    let gutter = gutter(alloc, number)?;
     let line = untabbed(alloc, said.line)?;
     let margin = margin(alloc, said.before)?;
-    format!(in alloc; "{number} | {line}\n      | {margin}^\n")
+    let carets = carets(alloc, said.part)?;
+    format!(in alloc; "{gutter} |\n{number} | {line}\n{gutter} | {margin}{carets}\n")
 }
 
-/// `FILE:LINE:COL: LEVEL: MESSAGE`, the line, and a caret under the place, each in a line. Tabs are four spaces.
-/// In colour the level is between a terminal's codes. `AllocError` if out of memory.
+/// The level and the message, the file with the line and the column, the line, and carets below the part, each in a line, as
+/// rustc writes them. Tabs are four spaces. In colour the level is between a terminal's codes. `AllocError` if out of memory.
 pub fn rendered<A: Allocator + Copy>(
     alloc: A,
     said: &Diagnostic<'_>,
     is_coloured: bool,
 ) -> Result<String<A>, AllocError>
-    ensures { IfOk result (λ t. string_bytes t
-        ≡ spec.head said.now is_coloured ++ spec.excerpt said.now) }
+    ensures { IfOk result (λ t. string_bytes t ≡ spec.text said.now is_coloured) }
 {
     let mut text = head(alloc, said, is_coloured)?;
+    let place = place(alloc, said)?;
     let excerpt = excerpt(alloc, said)?;
+    text.push_str(place.as_str())?;
     text.push_str(excerpt.as_str())?;
     Ok(text)
 }

@@ -1,69 +1,90 @@
-// Where the caret is. The columns are those of a terminal: two for a wide character, none for a mark, four for a tab, as rustc prints it.
+// Where the carets are. The columns are those of a terminal: two for a wide character, none for a mark, four for a tab, as rustc prints it.
 use mbe_diagnostics::diagnostic::{Diagnostic, Level, Point};
 use mbe_diagnostics::text::rendered;
+use std::alloc::Global;
 use std::test::Fail;
 
-// What stands before the place and after it, and the two lines of the excerpt.
-static ROWS: [(&str, &str, &str, &str); 6] = [
-    ("", "x", "    7 | x", "      | ^"),
-    ("ab ", "x", "    7 | ab x", "      |    ^"),
-    (
-        "\u{6f22}\u{5b57} ",
-        "x",
-        "    7 | \u{6f22}\u{5b57} x",
-        "      |      ^",
-    ),
-    ("e\u{301} ", "x", "    7 | e\u{301} x", "      |   ^"),
-    ("\t\t", "x", "    7 |         x", "      |         ^"),
+// What the line has before the part, the part, and what is after it; how the line is shown; and what is below it.
+static ROWS: [(&str, &str, &str, &str, &str); 8] = [
+    ("", "x", "", "x", "^"),
+    ("ab ", "=>", " y", "ab => y", "   ^^"),
+    ("ab", "", "", "ab", "  ^"),
+    ("\u{6f22}\u{5b57} ", "x", "", "\u{6f22}\u{5b57} x", "     ^"),
+    ("a ", "\u{6f22}", ")", "a \u{6f22})", "  ^^"),
+    ("e\u{301} ", "x", "", "e\u{301} x", "  ^"),
+    ("\t\t", "x", "\ty", "        x    y", "        ^"),
     (
         "\"\u{1f44d}\u{1f3fd}\" ",
         "x",
-        "    7 | \"\u{1f44d}\u{1f3fd}\" x",
-        "      |      ^",
+        "",
+        "\"\u{1f44d}\u{1f3fd}\" x",
+        "     ^",
     ),
 ];
 
+fn said<'t>(
+    number: usize,
+    line: &'t str,
+    before: &'t str,
+    part: &'t str,
+    level: Level,
+) -> Diagnostic<'t> {
+    let point = Point {
+        byte: 0,
+        line: number,
+        column: 3,
+    };
+    Diagnostic {
+        level,
+        message: "here",
+        file: "a.rs",
+        start: point,
+        end: point,
+        line,
+        before,
+        part,
+    }
+}
+
+// Whether it is so in a line of that number, which is as wide as the space.
+fn is_shown(
+    alloc: Global,
+    number: usize,
+    space: &str,
+    row: &(&str, &str, &str, &str, &str),
+) -> Result<bool, Fail> {
+    let (before, part, after, line, carets) = *row;
+    let text = format!(in alloc; "{before}{part}{after}")?;
+    let said = said(number, text.as_str(), before, part, Level::Note);
+    let want = format!(in alloc;
+        "note: here\n{space}--> a.rs:{number}:3\n{space} |\n{number} | {line}\n{space} | {carets}\n"
+    )?;
+    Ok(rendered(alloc, &said, false)?.as_str() == want.as_str())
+}
+
 #[test]
-fn the_caret_is_under_the_place(rt: HostRuntime) -> Result<(), Fail> {
-    for (before, after, line, caret) in &ROWS {
-        let text = format!(in rt.alloc(); "{before}{after}")?;
-        let point = Point {
-            byte: 0,
-            line: 7,
-            column: 3,
-        };
-        let said = Diagnostic {
-            level: Level::Note,
-            message: "here",
-            file: "a.rs",
-            start: point,
-            end: point,
-            line: text.as_str(),
-            before,
-        };
-        let want = format!(in rt.alloc(); "a.rs:7:3: note: here\n{line}\n{caret}\n")?;
-        assert_eq!(rt; rendered(rt.alloc(), &said, false)?.as_str(), want.as_str());
+fn the_carets_are_below_the_part(rt: HostRuntime) -> Result<(), Fail> {
+    for row in &ROWS {
+        assert!(rt; is_shown(rt.alloc(), 7, " ", row)?);
+        assert!(rt; is_shown(rt.alloc(), 1024, "    ", row)?);
     }
     Ok(())
 }
 
+static LEVELS: [(Level, &str); 3] = [
+    (Level::Error, "\u{1b}[1;31merror"),
+    (Level::Warning, "\u{1b}[1;33mwarning"),
+    (Level::Note, "\u{1b}[1;32mnote"),
+];
+
 #[test]
 fn the_level_has_a_colour(rt: HostRuntime) -> Result<(), Fail> {
-    let point = Point {
-        byte: 0,
-        line: 1,
-        column: 1,
-    };
-    let said = Diagnostic {
-        level: Level::Error,
-        message: "no",
-        file: "a.rs",
-        start: point,
-        end: point,
-        line: "x",
-        before: "",
-    };
-    let want = "a.rs:1:1: \u{1b}[1;31merror\u{1b}[0m: no\n    1 | x\n      | ^\n";
-    assert_eq!(rt; rendered(rt.alloc(), &said, true)?.as_str(), want);
+    for (level, word) in &LEVELS {
+        let said = said(1, "x", "", "x", *level);
+        let want = format!(in rt.alloc();
+            "{word}\u{1b}[0m: here\n --> a.rs:1:3\n  |\n1 | x\n  | ^\n"
+        )?;
+        assert_eq!(rt; rendered(rt.alloc(), &said, true)?.as_str(), want.as_str());
+    }
     Ok(())
 }

@@ -36,6 +36,7 @@ fn sample(alloc: Global) -> Result<Value, Fail> {
         end,
         line: "a b",
         before: "a ",
+        part: "b",
     };
     let line = json_line(alloc, &said)?;
     Ok(Value::from_str(alloc, line.as_str())?)
@@ -49,7 +50,7 @@ static TEXTS: [(&str, &str); 6] = [
     ("/spans/0/text/0/text", "a b"),
     (
         "/rendered",
-        "dir/a \"b\".rs:2:3: warning: it wants `\"` or `\\`,\n\u{6f22}\n    2 | a b\n      |   ^\n",
+        "warning: it wants `\"` or `\\`,\n\u{6f22}\n --> dir/a \"b\".rs:2:3\n  |\n2 | a b\n  |   ^\n",
     ),
 ];
 
