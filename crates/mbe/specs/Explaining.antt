@@ -1,9 +1,13 @@
 -- What is reported to a linter about one rule of a definition.
-use Rattle.std.specs.Prelude.{◌≡◌, ℕ, List, slice_get, Option, Some}
+use Rattle.std.specs.Prelude.{◌≡◌, ℕ, List, slice_get, Option, Some, None}
 use Rattle.mbe_tt.specs.Trees.Tree.{Forest}
 use Rattle.mbe_tt.specs.Fragments.Grammar.{Grammar}
+use Rattle.mbe_semantics.specs.Syntax.Op.{Ops}
 use Rattle.mbe_semantics.specs.Syntax.Definition.{Rule}
+use Rattle.mbe_semantics.specs.Readings.Item.{Items}
+use Rattle.mbe_semantics.specs.Readings.Ambiguity.{Fits}
 use Rattle.mbe_semantics.specs.Readings.Verdict.{Verdict, IsVerdict}
+use Rattle.mbe_semantics.specs.Bindings.Environment.{Environment, environment_of}
 use Rattle.mbe_matcher.specs.Wanted.{Wanted, AreWanted, ClashThere}
 
 -- the rule with this index reads the argument so
@@ -17,3 +21,13 @@ WantsThere g rules argument index v ws = (r : Rule) × (slice_get rules index �
 -- of a local ambiguity two of them that clash
 abbrev pub ClashesThere : Grammar → List Rule → Forest → ℕ → Verdict → Option (Wanted × Wanted) → Type 0
 ClashesThere g rules argument index v pair = (r : Rule) × (slice_get rules index ≡ Some r) × ClashThere g r.reads argument v pair
+
+-- the pattern of the rule with this index
+abbrev pub HasPattern : List Rule → ℕ → Ops → Type 0
+HasPattern rules index pattern = (r : Rule) × (slice_get rules index ≡ Some r) × (r.reads ≡ pattern)
+
+-- what the rule with this index binds where it fits the argument; none where it doesn't
+abbrev pub BindsThere : Grammar → List Rule → Forest → ℕ → Option Environment → Type 0
+BindsThere g rules argument index None = (r : Rule) × (slice_get rules index ≡ Some r) × ((is : Items) → Fits g r.reads argument is → ⊥)
+BindsThere g rules argument index (Some env) =
+    (r : Rule) × (slice_get rules index ≡ Some r) × ((is : Items) × Fits g r.reads argument is × (env ≡ environment_of is))

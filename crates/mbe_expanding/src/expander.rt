@@ -19,6 +19,7 @@ mod defining;
 mod replacing;
 mod writing;
 
+use crate::explaining::Explanation;
 use crate::notes::{Level, Note};
 use crate::scope::Scope;
 use crate::settings::Settings;
@@ -38,12 +39,14 @@ pub const LEVELS: u32 = 1000;
 #[derive(Drop)]
 pub struct Expander<'g, A: Allocator + Copy = Global> {
     pub(crate) alloc: A,
-    settings: Settings,
-    grammar: RuleTable<'g>,
+    pub(crate) settings: Settings,
+    pub(crate) grammar: RuleTable<'g>,
     scope: Scope<A>,
     // How many calls may still be expanded.
     fuel: u32,
     pub notes: Vec<Note<A>, A>,
+    /// What rules say of calls, as far as the settings ask for it.
+    pub explanations: Vec<Explanation<A>, A>,
 }
 
 impl<'g, A: Allocator + Copy> Expander<'g, A> {
@@ -66,6 +69,7 @@ impl<'g, A: Allocator + Copy> Expander<'g, A> {
             scope: Scope::new(alloc, settings.edition),
             fuel: settings.fuel,
             notes: Vec::new(alloc),
+            explanations: Vec::new(alloc),
         }
     }
 
@@ -98,7 +102,7 @@ impl<'g, A: Allocator + Copy> Expander<'g, A> {
     }
 
     // What the macro that a call names says.
-    fn rules<'s>(&'s self, call: Call<'_, A>) -> Option<&'s DeclarativeMacro<A>>
+    pub(crate) fn rules<'s>(&'s self, call: Call<'_, A>) -> Option<&'s DeclarativeMacro<A>>
         ensures { option_map (λ m. macro_of m.now) result
             ≡ named (state_of self.now) (call_shown call.entry) }
     {
@@ -180,11 +184,14 @@ impl<'g, A: Allocator + Copy> Expander<'g, A> {
         )?;
         if let Some(error) = err {
             self.note_fault(call, &error)?;
+            self.explain(call, &argument, false)?;
             return Ok(None);
         }
         let (tree, _rule) = value;
         self.note_step(call, &tree)?;
+        self.note_origins(call, &tree)?;
         self.note_captures(call, &tree)?;
+        self.explain(call, &argument, true)?;
         Ok(Some(tree))
     }
 
@@ -199,7 +206,7 @@ impl<'g, A: Allocator + Copy> Expander<'g, A> {
         self.note(Level::Error, *span, message)
     }
 
-    // Notes what a call expands to, if steps are traced.
+    // Notes what a call expands to, if steps are traced, in the words of rustc's `trace_macros`.
     fn note_step(&mut self, call: Call<'_, A>, tree: &TopSubtree<A>) -> Result<(), AllocError>
         ensures setting { OnOk result (setting_of self.new ≡ setting_of self.old) }
         ensures state { OnOk result (state_of self.new ≡ state_of self.old) }
@@ -208,14 +215,17 @@ impl<'g, A: Allocator + Copy> Expander<'g, A> {
             return Ok(());
         }
         let name = call.name.sym.as_str();
+        let text = text_of(self.alloc, call.argument, 0)?;
+        let message = format!(in self.alloc; "expanding `{name}! {{ {text} }}`")?;
+        self.note(Level::Note, call.name.span, message)?;
         let text = text_of(self.alloc, tree.iter().remaining(), 0)?;
-        let message = format!(in self.alloc; "`{name}!` expands to `{text}`")?;
+        let message = format!(in self.alloc; "to `{text}`")?;
         self.note(Level::Note, call.name.span, message)
     }
 }
 
 // The text of these trees, with so many braces around it.
-fn text_of<A: Allocator + Copy>(
+pub(crate) fn text_of<A: Allocator + Copy>(
     alloc: A,
     tokens: TokenTreesView<'_, A>,
     depth: usize,

@@ -1,4 +1,4 @@
-// What the rules of a macro say of a call: where each stops, and what it wants there.
+// What the rules of a macro say of a call: where each stops, and what it wants there; or what its variables take.
 ghost use Rattle.std.specs.Prelude.{◌≡◌, ◌<◌, IfOk, OnOk, length};
 ghost use Rattle.mbe_semantics.specs.Expansion.Macro.{IsChecked};
 ghost use Rattle.mbe.specs.MacroViews.{macro_of};
@@ -7,6 +7,7 @@ ghost use Rattle.mbe_expanding.specs.Explained.{Says};
 ghost use Rattle.mbe_expanding.specs.Shown.{setting_of, state_of};
 
 use crate::expander::Expander;
+use crate::taking::{Taken, taken_of};
 use mbe::DeclarativeMacro;
 use mbe_calls::calls::Call;
 use mbe_explaining::saying::{Said, says};
@@ -15,18 +16,24 @@ use mbe_tt::span::Span;
 use mbe_tt::tt::TopSubtree;
 use std::alloc::{AllocError, Allocator, Global};
 
+/// What a rule says of a call.
+#[derive(Drop)]
+pub struct RuleSays<A: Allocator = Global> {
+    pub said: Said<A>,
+    /// What its variables take, if it fits.
+    pub taken: Vec<Taken<A>, A>,
+}
+
 /// What the rules that a call names say of it.
 #[derive(Drop)]
 pub struct Explanation<A: Allocator = Global> {
     /// Where the macro's name is in the call.
     pub call: Span,
     pub name: String<A>,
-    /// Whether the call was expanded.
-    pub is_expanded: bool,
-    /// How many other notes there were before.
+    /// How many notes there were before.
     pub before: usize,
     /// What each rule says, from the first one on.
-    pub rules: Vec<Said<A>, A>,
+    pub rules: Vec<RuleSays<A>, A>,
 }
 
 /// What the rule with this index says of an argument: its verdict, where that is, all that it wants there, and of an ambiguity two
@@ -59,7 +66,7 @@ impl<'g, A: Allocator + Copy> Expander<'g, A> {
         ensures setting { OnOk result (setting_of self.new ≡ setting_of self.old) }
         ensures state { OnOk result (state_of self.new ≡ state_of self.old) }
     {
-        if !self.settings.is_explained {
+        if !self.settings.explain.asks_for(is_expanded) {
             return Ok(());
         }
         let rules = self.rules_say(call, argument)?;
@@ -67,7 +74,6 @@ impl<'g, A: Allocator + Copy> Expander<'g, A> {
         self.explanations.push(Explanation {
             call: call.name.span,
             name,
-            is_expanded,
             before: self.notes.len(),
             rules,
         })?;
@@ -79,17 +85,20 @@ impl<'g, A: Allocator + Copy> Expander<'g, A> {
         &self,
         call: Call<'_, A>,
         argument: &TopSubtree<A>,
-    ) -> Result<Vec<Said<A>, A>, AllocError> {
-        let mut saids = Vec::new(self.alloc);
+    ) -> Result<Vec<RuleSays<A>, A>, AllocError> {
+        let mut all = Vec::new(self.alloc);
         let Some(rules) = self.rules(call) else {
-            return Ok(saids);
+            return Ok(all);
         };
         if rules.err().is_some() {
-            return Ok(saids);
+            return Ok(all);
         }
         for index in 0..rules.num_rules() {
-            saids.push(what_rule_says(self.alloc, &self.grammar, rules, argument, index)?)?;
+            all.push(RuleSays {
+                said: what_rule_says(self.alloc, &self.grammar, rules, argument, index)?,
+                taken: taken_of(self.alloc, &self.grammar, rules, argument, index)?,
+            })?;
         }
-        Ok(saids)
+        Ok(all)
     }
 }

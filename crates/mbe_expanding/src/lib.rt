@@ -3,7 +3,10 @@
 
 mod captures;
 pub mod expander;
+pub mod explaining;
 mod fits;
 pub mod notes;
+mod origins;
 pub mod scope;
 pub mod settings;
+pub mod taking;

@@ -1,6 +1,9 @@
 -- What words name.
 use Rattle.std.specs.Prelude.{ℕ, List, Option, Some, None, codes, if◌then◌else◌, bytes_eq}
 use Rattle.mbe_tt.specs.declared.span.Edition.{Edition}
+use Rattle.mbe_expanding.specs.declared.settings.Explain.{Explain}
+use Rattle.mbe_expanding.specs.declared.settings.Explain.TheVariants.{Nothing, Failed, All}
+use Rattle.mbe_expandm.specs.declared.places.Position.{Position}
 use Rattle.mbe_tt.specs.declared.span.Edition.TheVariants.{Edition2015, Edition2018, Edition2021, Edition2024}
 
 -- the edition that a word names
@@ -11,3 +14,9 @@ edition_of word =
     else if bytes_eq word (codes "2021") then Some Edition2021
     else if bytes_eq word (codes "2024") then Some Edition2024
     else None
+
+-- of which calls it is kept what rules say: of none, of those that no rule expands, or of all, to find those at a position
+abbrev pub explained : Option (Option Position) → Explain
+explained None = Nothing
+explained (Some None) = Failed
+explained (Some (Some position)) = All

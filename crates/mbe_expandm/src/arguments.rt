@@ -1,10 +1,10 @@
 // The words after the program's name.
 ghost use Rattle.std.specs.Prelude.{◌≡◌, unwrap_or};
 ghost use Rattle.std.specs.Option.{option_or};
-ghost use Rattle.mbe_expandm.specs.Words.{edition_of};
+ghost use Rattle.mbe_expandm.specs.Words.{edition_of, explained};
 
 use crate::places::Position;
-use mbe_expanding::settings::Settings;
+use mbe_expanding::settings::{self, Settings};
 use mbe_tt::span::Edition;
 use std::alloc::{AllocError, Allocator, Global};
 
@@ -26,6 +26,11 @@ options:
   --write DIR       write each file into DIR
   --edition YEAR    2015, 2018, 2021 (unless another is given) or 2024
   --trace           report each step
+  --origin          report where each token of each expansion is from
+  --explain [LINE[:COL]]
+                    report what each rule wants of the calls that no rule fits, or
+                    of the calls there
+  --json            report in JSON, an object a line, as rustc does
   --help            print this text
   --version         print the version";
 
@@ -39,6 +44,12 @@ pub struct Options<'w, A: Allocator = Global> {
     pub fuel: u32,
     /// Whether each step is reported.
     pub is_traced: bool,
+    /// Whether it is reported where each token of an expansion is from.
+    pub is_origin_noted: bool,
+    /// Which calls are explained: those that begin there; without a position, those that no rule expands.
+    pub explain: Option<Option<Position>>,
+    /// Whether reports are in JSON.
+    pub is_json: bool,
     pub names: Vec<&'w str, A>,
     pub call: Option<Position>,
     pub write: Option<&'w str>,
@@ -91,6 +102,25 @@ fn edition(word: &str) -> Option<Edition>
     }
 }
 
+// Of which calls it is kept what rules say.
+fn explained(asked: Option<Option<Position>>) -> settings::Explain
+    ensures { result ≡ explained asked }
+{
+    match asked {
+        None => settings::Explain::Nothing,
+        Some(None) => settings::Explain::Failed,
+        Some(Some(_)) => settings::Explain::All,
+    }
+}
+
+// The position that a word says right after `--explain`.
+fn explained_at(last: &str, word: &str) -> Option<Position> {
+    match last {
+        "--explain" => Position::read(word),
+        _ => None,
+    }
+}
+
 impl<'w, A: Allocator + Copy> Options<'w, A> {
     fn new(alloc: A) -> Options<'w, A> {
         Options {
@@ -98,6 +128,9 @@ impl<'w, A: Allocator + Copy> Options<'w, A> {
             depth: None,
             fuel: 100_000,
             is_traced: false,
+            is_origin_noted: false,
+            explain: None,
+            is_json: false,
             names: Vec::new(alloc),
             call: None,
             write: None,
@@ -109,6 +142,8 @@ impl<'w, A: Allocator + Copy> Options<'w, A> {
         ensures edition { result.edition ≡ self.now.edition }
         ensures fuel { result.fuel ≡ self.now.fuel }
         ensures traced { result.is_traced ≡ self.now.is_traced }
+        ensures origin { result.is_origin_noted ≡ self.now.is_origin_noted }
+        ensures explained { result.explain ≡ explained self.now.explain }
         ensures depth { result.depth ≡ unwrap_or (option_or self.now.depth limit) 128 }
     {
         Settings {
@@ -116,6 +151,8 @@ impl<'w, A: Allocator + Copy> Options<'w, A> {
             depth: self.depth.or(limit).unwrap_or(DEPTH),
             fuel: self.fuel,
             is_traced: self.is_traced,
+            is_origin_noted: self.is_origin_noted,
+            explain: explained(self.explain),
         }
     }
 
@@ -136,6 +173,9 @@ impl<'w, A: Allocator + Copy> Options<'w, A> {
         match word {
             "--once" => self.depth = Some(1),
             "--trace" => self.is_traced = true,
+            "--origin" => self.is_origin_noted = true,
+            "--explain" => self.explain = Some(None),
+            "--json" => self.is_json = true,
             _ => return None,
         }
         Some(())
@@ -149,6 +189,7 @@ pub fn read_words<'w, A: Allocator + Copy>(
 ) -> Result<Asked<'w, A>, AllocError> {
     let mut options = Options::new(alloc);
     let mut wanted = None;
+    let mut last = "";
     for word in words {
         let word = word.as_str();
         if let Some((option, _)) = wanted.take() {
@@ -161,11 +202,14 @@ pub fn read_words<'w, A: Allocator + Copy>(
             return Ok(Asked::Version);
         } else if let Some(option) = valued_option(word) {
             wanted = Some((option, word));
+        } else if let Some(position) = explained_at(last, word) {
+            options.explain = Some(Some(position));
         } else if !word.starts_with("--") {
             options.names.push(word)?;
         } else if options.switch(word).is_none() {
             return Ok(Asked::Wrong(word));
         }
+        last = word;
     }
     Ok(match wanted {
         Some((_, word)) => Asked::Missing(word),

@@ -8,6 +8,7 @@ use crate::files::{SourceFile, source_file};
 use crate::limits::recursion_limit;
 use crate::messages::message;
 use crate::places::NOWHERE;
+use crate::saying::{form_of, reports_of};
 use mbe_expanding::expander::Expander;
 use mbe_expanding::notes::{Level, Note};
 use mbe_rust::fragments::rust_rules;
@@ -129,6 +130,19 @@ fn expand<R: Files + Print + Eprint + AllocGlobal>(
     let mut expander = Expander::new(alloc, grammar, settings);
     define_files(&mut expander, &files)?;
     let is_written = write_files(rt, options, &mut expander, &files)?;
+    if let Some(form) = form_of(options, false, false) {
+        let text = reports_of(
+            alloc,
+            form,
+            options.explain,
+            &files,
+            &notes,
+            &expander.notes,
+            &expander.explanations,
+        )?;
+        eprint!(rt; "{text}")?;
+        return Ok(DONE);
+    }
     let has_errors = say(rt, &files, &notes)? | say(rt, &files, &expander.notes)?;
     Ok(status(is_written, has_errors))
 }

@@ -9,3 +9,4 @@ pub mod limits;
 pub mod lines;
 pub mod messages;
 pub mod places;
+pub mod saying;

@@ -82,8 +82,8 @@ impl<A: Allocator + Copy> Lines<A> {
         })
     }
 
-    // Where a byte of the lines is in the text that they are of. A line's end is before its carriage return.
-    fn place(&self, at: usize) -> usize
+    /// Where a byte of the lines is in the text that they are of. A line's end is before its carriage return.
+    pub fn place(&self, at: usize) -> usize
         ensures { self.now.returns.items ≡ [] → result ≡ at }
     {
         let before = self

@@ -1,7 +1,7 @@
 // What a file's text becomes.
 use mbe_expanding::expander::Expander;
 use mbe_expanding::notes::Note;
-use mbe_expanding::settings::Settings;
+use mbe_expanding::settings::{Explain, Settings};
 use mbe_expandm::expansions;
 use mbe_expandm::files::source_file;
 use mbe_rust::fragments::rust_rules;
@@ -22,6 +22,8 @@ fn run(alloc: Global, text: &str, depth: u32) -> Result<(String, Vec<Note>), All
         depth,
         fuel: 100,
         is_traced: false,
+        is_origin_noted: false,
+        explain: Explain::Nothing,
     };
     let mut expander = Expander::new(alloc, rust_rules(edition, &[]), settings);
     if let Some(tree) = &file.tree {
