@@ -1,7 +1,6 @@
 //! The safe layer: a definition that is kept, calls of it, and iterators over what they answer.
-#![forbid(unsafe_code)]
 
-use crate::sys::{self, Buffers, Bytes, Reply, Request, Span, Token};
+use mbe_sys::{self as sys, Buffers, Bytes, Reply, Request, Span, Token};
 use std::fmt;
 
 /// An edition of Rust.
@@ -221,8 +220,8 @@ fn joined(calls: &[(Input<'_>, Span)], flat: u32) -> Joined {
 
 // The first `len` elements, which are then none of the rest.
 fn front<'a, T>(rest: &mut &'a [T], len: usize) -> &'a [T] {
-    let (front, behind) = rest.split_at(len.min(rest.len()));
-    *rest = behind;
+    let (front, after) = rest.split_at(len.min(rest.len()));
+    *rest = after;
     front
 }
 

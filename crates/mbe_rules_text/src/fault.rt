@@ -1,5 +1,5 @@
 // Why a text is no grammar, and where.
-ghost use Rattle.std.specs.Prelude.{◌≡◌};
+ghost use Rattle.std.specs.Prelude.{◌≡◌, Some};
 
 use std::alloc::AllocError;
 use std::error::Error;
@@ -48,6 +48,10 @@ pub enum RuleFault<'t> {
 }
 
 impl Display for Reason<'_> {
+    ghost use Rattle.mbe_rules_text.specs.Faults.{reason_text};
+
+    ghost output = { λ reason. Some (reason_text reason) };
+
     fn fmt<W: fmt::Write>(&self, f: &mut Formatter<W>) -> fmt::Result {
         match self {
             Reason::NoToken => f.write_str("no word of a grammar begins here"),
@@ -67,6 +71,10 @@ impl Display for Reason<'_> {
 
 /// `3:7: no rule is named "type"`: line, column and reason.
 impl Display for RuleFault<'_> {
+    ghost use Rattle.mbe_rules_text.specs.Faults.{fault_text};
+
+    ghost output = { λ fault. Some (fault_text fault) };
+
     fn fmt<W: fmt::Write>(&self, f: &mut Formatter<W>) -> fmt::Result {
         match self {
             RuleFault::At(place, reason) => {

@@ -1,4 +1,5 @@
-//! What `bindings/c/mbe.h` declares, and a safe call for each export.
+//! What `bindings/c/mbe.h` declares, and a safe call for each export: the only file with `unsafe`. `mbe_rs` is what programs use.
+#![warn(missing_docs)]
 
 use std::os::raw::c_char;
 
@@ -40,49 +41,77 @@ pub struct Token {
     pub len: usize,
 }
 
+/// How a rule reads an argument: `mbe_verdict`.
 #[repr(C)]
 #[derive(Clone, Copy, Debug, Default)]
-pub(crate) struct Verdict {
+pub struct Verdict {
+    /// 0 one reading, 1 many, 2 ambiguous, 3 stuck.
     pub kind: usize,
+    /// The tokens that were read before.
     pub place: usize,
 }
 
+/// What is asked: `mbe_request`, which explains the numbers.
 #[repr(C)]
 #[derive(Clone, Copy, Debug, Default)]
-pub(crate) struct Request {
+pub struct Request {
+    /// The year.
     pub edition: u32,
+    /// Which tokens texts have.
     pub dialect: u32,
+    /// What fragments are.
     pub grammar: u32,
+    /// How the macro is called.
     pub style: u32,
+    /// What is written of trees.
     pub form: u32,
+    /// 1 where the definition is flat tokens.
     pub definition_is_flat: u32,
+    /// 1 where the argument is flat tokens.
     pub argument_is_flat: u32,
+    /// Where the call is.
     pub call_site: Span,
 }
 
+/// What a call answers: `mbe_reply`, which explains the numbers.
 #[repr(C)]
 #[derive(Clone, Copy, Debug, Default)]
-pub(crate) struct Reply {
+pub struct Reply {
+    /// How it ended.
     pub status: u32,
+    /// The part at fault.
     pub part: u32,
+    /// 1 where `rule` is the index of one.
     pub has_rule: u32,
+    /// The rule that was used, or that fits best.
     pub rule: u32,
+    /// Where the error is.
     pub span: Span,
+    /// Of a grammar's fault, the column.
     pub column: u32,
+    /// The byte, the token or the line at fault; of a definition, how many rules it has.
     pub place: usize,
+    /// How many tokens, or verdicts, the answer has.
     pub tokens: usize,
+    /// How many bytes its text has.
     pub text: usize,
+    /// How many bytes its message has.
     pub message: usize,
 }
 
 /// One of many arguments: `mbe_piece`.
 #[repr(C)]
 #[derive(Clone, Copy, Debug, Default)]
-pub(crate) struct Piece {
+pub struct Piece {
+    /// Where its text begins, in that of all.
     pub offset: usize,
+    /// How many bytes that has.
     pub len: usize,
+    /// Where its tokens begin, among those of all.
     pub token_offset: usize,
+    /// How many these are.
     pub token_len: usize,
+    /// Where its call is.
     pub call_site: Span,
 }
 
@@ -150,29 +179,37 @@ extern "C" {
 
 /// Memory for an answer.
 #[derive(Default)]
-pub(crate) struct Buffers {
+pub struct Buffers {
+    /// For flat tokens.
     pub tokens: Vec<Token>,
+    /// For verdicts.
     pub verdicts: Vec<Verdict>,
+    /// For texts.
     pub text: Vec<u8>,
+    /// For what is wrong, in words.
     pub message: Vec<u8>,
 }
 
 /// A text or flat tokens with theirs.
 #[derive(Clone, Copy)]
-pub(crate) struct Bytes<'a> {
+pub struct Bytes<'a> {
+    /// The text, or that of the tokens.
     pub text: &'a [u8],
+    /// The tokens, or none.
     pub tokens: &'a [Token],
 }
 
-// SAFETY, of each call below: the declarations above are those of `mbe.h`; each pointer with its length is that of one slice, which is
+// SAFETY, of each call after this: the declarations above are those of `mbe.h`; each pointer with its length is that of one slice, which is
 // borrowed for the call; what is written is borrowed mutably, so overlaps nothing; a slice's pointer is never null, and all of its
 // elements are numbers.
 
-pub(crate) fn version() -> u32 {
+/// The version of the interface.
+pub fn version() -> u32 {
     unsafe { mbe_c_version() }
 }
 
-pub(crate) fn expand(request: &Request, grammar: &[u8], definition: Bytes, argument: Bytes, out: &mut Buffers) -> Reply {
+/// `mbe_expand`.
+pub fn expand(request: &Request, grammar: &[u8], definition: Bytes, argument: Bytes, out: &mut Buffers) -> Reply {
     let mut reply = Reply::default();
     unsafe {
         mbe_c_expand(
@@ -191,7 +228,8 @@ pub(crate) fn expand(request: &Request, grammar: &[u8], definition: Bytes, argum
     reply
 }
 
-pub(crate) fn expand_each(
+/// `mbe_expand_each`; `replies` has as many elements as `pieces`.
+pub fn expand_each(
     request: &Request, grammar: &[u8], definition: Bytes, arguments: Bytes, pieces: &[Piece], replies: &mut [Reply], out: &mut Buffers,
 ) -> Reply {
     let mut reply = Reply::default();
@@ -214,7 +252,8 @@ pub(crate) fn expand_each(
     reply
 }
 
-pub(crate) fn explain(request: &Request, grammar: &[u8], definition: Bytes, argument: Bytes, out: &mut Buffers) -> Reply {
+/// `mbe_explain`.
+pub fn explain(request: &Request, grammar: &[u8], definition: Bytes, argument: Bytes, out: &mut Buffers) -> Reply {
     let mut reply = Reply::default();
     unsafe {
         mbe_c_explain(
@@ -232,7 +271,8 @@ pub(crate) fn explain(request: &Request, grammar: &[u8], definition: Bytes, argu
     reply
 }
 
-pub(crate) fn convert(request: &Request, input: Bytes, out: &mut Buffers) -> Reply {
+/// `mbe_convert`.
+pub fn convert(request: &Request, input: Bytes, out: &mut Buffers) -> Reply {
     let mut reply = Reply::default();
     unsafe {
         mbe_c_convert(
@@ -248,7 +288,8 @@ pub(crate) fn convert(request: &Request, input: Bytes, out: &mut Buffers) -> Rep
     reply
 }
 
-pub(crate) fn define(request: &Request, definition: Bytes, out: &mut Buffers) -> Reply {
+/// `mbe_define`.
+pub fn define(request: &Request, definition: Bytes, out: &mut Buffers) -> Reply {
     let mut reply = Reply::default();
     unsafe {
         mbe_c_define(
@@ -262,7 +303,8 @@ pub(crate) fn define(request: &Request, definition: Bytes, out: &mut Buffers) ->
     reply
 }
 
-pub(crate) fn grammar(text: &[u8], out: &mut Buffers) -> Reply {
+/// `mbe_grammar`.
+pub fn grammar(text: &[u8], out: &mut Buffers) -> Reply {
     let mut reply = Reply::default();
     unsafe {
         mbe_c_grammar(
