@@ -16,7 +16,7 @@ use Rattle.mbe_semantics.specs.Matching.Outline.{Outline, outline, Advance, adva
 use Rattle.mbe_semantics.specs.Matching.Settled.{after_of, first_width}
 use Rattle.mbe_matcher.specs.declared.ends.Failed.{Failed}
 use Rattle.mbe_matcher.specs.declared.ends.Visit as declared
-use Rattle.mbe_matcher.specs.declared.ends.Visit.TheVariants as told
+use Rattle.mbe_matcher.specs.declared.ends.Visit.TheVariants as variants
 use Rattle.mbe_matcher.specs.declared.position.Outer.{Outer}
 use Rattle.mbe_matcher.specs.declared.position.Position.{Position}
 use Rattle.mbe_matcher.specs.declared.position.Waiting.{Waiting}
@@ -34,7 +34,8 @@ use Rattle.mbe_matcher.proofs.MatchEnds.{same_width, shown_after, first_left}
 use Rattle.mbe_matcher.proofs.Reporting.{notes_keep}
 use Rattle.mbe_matcher.proofs.StopPlaces.{goes_on, stop_within}
 
-each_reverse : {X Y : Type 0} (R : X → Y → Type 0) (xs : List X) (ys : List Y) → Each R xs ys → Each R (reverse xs) (reverse ys)
+each_reverse : {X Y : Type 0} (R : X → Y → Type 0) (xs : List X) (ys : List Y) → Each R xs ys
+    → Each R (reverse xs) (reverse ys)
 each_reverse R [] [] e = tt
 each_reverse R [] (y ∷ ys) e = absurd e
 each_reverse R (x ∷ xs) [] e = absurd e
@@ -44,13 +45,16 @@ each_reverse R (x ∷ xs) (y ∷ ys) e =
     (each_append R (reverse xs) (x ∷ []) (reverse ys) (y ∷ []) (each_reverse R xs ys e.1) (e.0, tt)))
 
 -- the outlines of beginnings that end here
-here_of : (i : Input) (pattern : Ops) (q : ℕ) (xs : List Beginning) → ((x : Beginning) → In x xs → At i pattern q x) → (o : Outline) → In o (map erase xs) → IsHere i pattern q o
+here_of : (i : Input) (pattern : Ops) (q : ℕ) (xs : List Beginning) → ((x : Beginning) → In x xs → At i pattern q x)
+    → (o : Outline) → In o (map erase xs) → IsHere i pattern q o
 here_of i pattern q [] a o m = absurd m
 here_of i pattern q (x ∷ xs) a o (inl e) = (x, a x (inl refl), sym e)
 here_of i pattern q (x ∷ xs) a o (inr m) = here_of i pattern q xs (λ y h. a y (inr h)) o m
 
 -- The stacks at a place stand for what comes there for each of the two walks.
-pub record PassAt {A : Type 0} (i : Input) (argument : Forest) (pattern : Ops) (q : ℕ) (log : Log) (outers : List (Outer A)) (firsts : List (Position A)) (lasts : List (declared.Visit A)) (r : Report A) : Type 0 where
+pub record PassAt {A : Type 0} (i : Input) (argument : Forest) (pattern : Ops) (q : ℕ) (log : Log)
+    (outers : List (Outer A)) (firsts : List (Position A)) (lasts : List (declared.Visit A))
+    (r : Report A) : Type 0 where
   pub os : List Outline
   pub ps : List Outline
   pub before : Notes
@@ -59,22 +63,29 @@ pub record PassAt {A : Type 0} (i : Input) (argument : Forest) (pattern : Ops) (
   pub last_shown : Each (VisitShows i (rest_at argument q) q log outers) lasts (reverse (map enter ps))
   pub notes : IsReportOf log argument r [] before
 
-pub pass_begins : {A : Type 0} (i : Input) (argument : Forest) (pattern : Ops) (q : ℕ) (log : Log) (outers : List (Outer A)) (firsts : List (Position A)) (lasts : List (declared.Visit A)) (r : Report A)
-    (p u : Position A) → q ≡ 0 → firsts ≡ u ∷ [] → u ≡ p → lasts ≡ told.Enter p ∷ [] → IsAtStart log pattern p → IsReportOf log argument r [] no_notes → PassAt i argument pattern q log outers firsts lasts r
+pub pass_begins : {A : Type 0} (i : Input) (argument : Forest) (pattern : Ops) (q : ℕ) (log : Log)
+    (outers : List (Outer A)) (firsts : List (Position A)) (lasts : List (declared.Visit A)) (r : Report A)
+    (p u : Position A) → q ≡ 0 → firsts ≡ u ∷ [] → u ≡ p → lasts ≡ variants.Enter p ∷ [] → IsAtStart log pattern p
+    → IsReportOf log argument r [] no_notes → PassAt i argument pattern q log outers firsts lasts r
 pass_begins i argument pattern q log outers firsts lasts r p u z e same d start notes = record {
   os = outline pattern no_account [] ∷ [];
   ps = outline pattern no_account [] ∷ [];
   before = no_notes;
-  follows = subst (λ k. EndsFollow i pattern k (outline pattern no_account [] ∷ []) (outline pattern no_account [] ∷ []) no_notes) (sym z) follow_start;
-  first_shown = subst (λ l. Each (Shows log outers) l (outline pattern no_account [] ∷ [])) (sym (e ∙ ap (λ x. x ∷ []) same)) (start outers, tt);
-  last_shown = subst (λ l. Each (VisitShows i (rest_at argument q) q log outers) l (enter (outline pattern no_account []) ∷ [])) (sym d) (start outers, tt);
+  follows = subst (λ k. EndsFollow i pattern k (outline pattern no_account [] ∷ []) (outline pattern no_account [] ∷ [])
+      no_notes) (sym z) follow_start;
+  first_shown = subst (λ l. Each (Shows log outers) l (outline pattern no_account [] ∷ []))
+      (sym (e ∙ ap (λ x. x ∷ []) same)) (start outers, tt);
+  last_shown = subst (λ l. Each (VisitShows i (rest_at argument q) q log outers) l
+      (enter (outline pattern no_account []) ∷ [])) (sym d) (start outers, tt);
   notes = notes;
 }
 
 -- ---- what the two walks are given
 
-module _ {A : Type 0} (g : Grammar) (pattern : Ops) (argument : Forest) (lawful : IsLawful g) (checked : Checked pattern) (v : Verdict) (is : IsVerdict g pattern argument v)
-    (q : ℕ) (within : q ≤ stop_of argument v) (log : Log) (outers : List (Outer A)) (firsts : List (Position A)) (lasts : List (declared.Visit A)) (r : Report A)
+module _ {A : Type 0} (g : Grammar) (pattern : Ops) (argument : Forest) (lawful : IsLawful g)
+    (checked : Checked pattern) (v : Verdict) (is : IsVerdict g pattern argument v)
+    (q : ℕ) (within : q ≤ stop_of argument v) (log : Log) (outers : List (Outer A)) (firsts : List (Position A))
+    (lasts : List (declared.Visit A)) (r : Report A)
     (w : PassAt (input_of g argument) argument pattern q log outers firsts lasts r) where
   pass : Pass g pattern argument lawful checked q w.os w.ps w.before
   pass = passes g pattern argument lawful checked v is w.follows within
@@ -85,37 +96,51 @@ module _ {A : Type 0} (g : Grammar) (pattern : Ops) (argument : Forest) (lawful 
   pub lasts_here : (o : Outline) → In o w.ps → IsHere (input_of g argument) pattern q o
   lasts_here o m = here_of (input_of g argument) pattern q pass.bs pass.bs_at o (subst (In o) (sym pass.lasts_are) m)
 
-  abbrev pub first_stack : (size : ℕ) → dots pattern ≡ size → IsFirstStack (input_of g argument) q size log outers firsts
-  first_stack size d = record { pattern = pattern; size_is = d; outlines = w.os; here = firsts_here; shown = w.first_shown }
+  abbrev pub first_stack : (size : ℕ) → dots pattern ≡ size
+      → IsFirstStack (input_of g argument) q size log outers firsts
+  first_stack size d = record {
+    pattern = pattern;
+    size_is = d;
+    outlines = w.os;
+    here = firsts_here;
+    shown = w.first_shown;
+  }
 
   -- after the walk over the first of each
-  abbrev pub last_stack : (size : ℕ) → dots pattern ≡ size → (new : Log) (after : List (Outer A)) → Keeps log new outers after →
+  abbrev pub last_stack : (size : ℕ) → dots pattern ≡ size → (new : Log) (after : List (Outer A))
+      → Keeps log new outers after →
       IsLastStack (input_of g argument) (rest_at argument q) q size new after lasts
   last_stack size d new after k = record {
     pattern = pattern;
     size_is = d;
     outlines = w.ps;
     are_here = lasts_here;
-    shown = each_weaker (VisitShows (input_of g argument) (rest_at argument q) q log outers) (VisitShows (input_of g argument) (rest_at argument q) q new after)
-        (visits_keep (input_of g argument) (rest_at argument q) q log new outers after k) lasts (reverse (map enter w.ps)) w.last_shown;
+    shown = each_weaker (VisitShows (input_of g argument) (rest_at argument q) q log outers)
+        (VisitShows (input_of g argument) (rest_at argument q) q new after)
+        (visits_keep (input_of g argument) (rest_at argument q) q log new outers after k) lasts
+        (reverse (map enter w.ps)) w.last_shown;
   }
 
   -- at the stop, what is noted is what all beginnings note
-  pub noted_at_stop : AreNotes (input_of g argument) pattern q (kept_noted (input_of g argument) pattern q w.os w.ps w.before)
-  noted_at_stop = (kept_pass g pattern argument lawful checked v is q within (kept_noted (input_of g argument) pattern q w.os w.ps w.before)).1 (w.os, w.ps, w.before, w.follows, refl)
+  pub noted_at_stop : AreNotes (input_of g argument) pattern q
+      (kept_noted (input_of g argument) pattern q w.os w.ps w.before)
+  noted_at_stop = (kept_pass g pattern argument lawful checked v is q within
+      (kept_noted (input_of g argument) pattern q w.os w.ps w.before)).1 (w.os, w.ps, w.before, w.follows, refl)
 
 -- ---- how it goes on
 
 module _ {A : Type 0} (log : Log) (outers : List (Outer A)) (here : Forest) where
   -- the first of the steps, which is this wide
-  pub first_step : (ws : List (Waiting A)) (goes : List Advance) (n : ℕ) → Each (LeadsTo log outers here) ws goes → first_width goes ≡ Some n →
+  pub first_step : (ws : List (Waiting A)) (goes : List Advance) (n : ℕ) → Each (LeadsTo log outers here) ws goes
+      → first_width goes ≡ Some n →
       (x : Waiting A) × (rest : List (Waiting A)) × (ws ≡ x ∷ rest) × (x.width ≡ n) × IsLeft here x.width x.beyond
   first_step [] goes n e f = let no : Some n ≡ None = sym f ∙ same_width log outers here [] goes e in cc
   first_step (x ∷ rest) goes n e f =
       let wide : Some x.width ≡ Some n = sym (same_width log outers here (x ∷ rest) goes e) ∙ f in
       (x, rest, refl, cc, first_left log outers here x rest goes e)
 
-  entered_after : (i : Input) (there : Forest) (q : ℕ) (ws : List (Waiting A)) (goes : List Advance) → Each (LeadsTo log outers here) ws goes →
+  entered_after : (i : Input) (there : Forest) (q : ℕ) (ws : List (Waiting A)) (goes : List Advance)
+      → Each (LeadsTo log outers here) ws goes →
       Each (VisitShows i there q log outers) (map visit_after ws) (map enter (map after_of goes))
   entered_after i there q [] [] e = tt
   entered_after i there q [] (a ∷ goes) e = absurd e
@@ -123,7 +148,8 @@ module _ {A : Type 0} (log : Log) (outers : List (Outer A)) (here : Forest) wher
   entered_after i there q (w ∷ ws) (advance m g o ∷ goes) e = (e.0.after, entered_after i there q ws goes e.1)
 
 -- the first step of those that go on before the stop
-pub record Goes {A : Type 0} (i : Input) (pattern : Ops) (here : Forest) (q len stop : ℕ) (os : List Outline) (ws : List (Waiting A)) : Type 0 where
+pub record Goes {A : Type 0} (i : Input) (pattern : Ops) (here : Forest) (q len stop : ℕ) (os : List Outline)
+    (ws : List (Waiting A)) : Type 0 where
   pub first : Waiting A
   pub rest : List (Waiting A)
   pub is : ws ≡ first ∷ rest
@@ -133,13 +159,16 @@ pub record Goes {A : Type 0} (i : Input) (pattern : Ops) (here : Forest) (q len 
   pub within : q + first.width ≤ stop
   pub fits : q + first.width ≤ len
 
-pub goes : {A : Type 0} (g : Grammar) (pattern : Ops) (argument : Forest) (lawful : IsLawful g) (checked : Checked pattern) (v : Verdict) (is : IsVerdict g pattern argument v)
-    (q : ℕ) (os ps : List Outline) (before : Notes) (log : Log) (outers : List (Outer A)) (ws : List (Waiting A)) (hs : List Handle) → EndsFollow (input_of g argument) pattern q os ps before →
+pub goes : {A : Type 0} (g : Grammar) (pattern : Ops) (argument : Forest) (lawful : IsLawful g)
+    (checked : Checked pattern) (v : Verdict) (is : IsVerdict g pattern argument v)
+    (q : ℕ) (os ps : List Outline) (before : Notes) (log : Log) (outers : List (Outer A)) (ws : List (Waiting A))
+    (hs : List Handle) → EndsFollow (input_of g argument) pattern q os ps before →
     q < stop_of argument v → AreFirsts (input_of g argument) q pattern os log outers (rest_at argument q) ws hs →
     Goes (input_of g argument) pattern (rest_at argument q) q (flat_len argument) (stop_of argument v) os ws
 goes g pattern argument lawful checked v is q os ps before log outers ws hs follows l f =
     let t = goes_on g pattern argument lawful checked v is q os ps before follows l in
-    let r = first_step log outers (rest_at argument q) ws (first_moves (input_of g argument) (dots pattern) q os) t.width f.goes_on t.is in
+    let r = first_step log outers (rest_at argument q) ws (first_moves (input_of g argument) (dots pattern) q os)
+    t.width f.goes_on t.is in
     let stop : stop_of argument v ≤ flat_len argument = stop_within g pattern argument lawful checked v is in
     let within : q + r.0.width ≤ stop_of argument v = subst (λ n. q + n ≤ stop_of argument v) (sym r.3) t.within in
     record {
@@ -154,36 +183,56 @@ goes g pattern argument lawful checked v is q os ps before log outers ws hs foll
     }
 
 -- the place is noted
-pub pass_notes : {A : Type 0} (i : Input) (argument : Forest) (pattern : Ops) (q : ℕ) (os ps : List Outline) (before : Notes) (between log : Log) (middle outers : List (Outer A))
-    (fw lw : List (Waiting A)) (ends hs : List Handle) (failed : Option (Failed A)) (one two three : Report A) → AreFirsts i q pattern os between middle (rest_at argument q) fw ends →
-    AreLasts i q pattern ps log outers (rest_at argument q) lw failed → Keeps between log middle outers → hs ≡ ends → two ≡ one →
+pub pass_notes : {A : Type 0} (i : Input) (argument : Forest) (pattern : Ops) (q : ℕ) (os ps : List Outline)
+    (before : Notes) (between log : Log) (middle outers : List (Outer A))
+    (fw lw : List (Waiting A)) (ends hs : List Handle) (failed : Option (Failed A)) (one two three : Report A)
+    → AreFirsts i q pattern os between middle (rest_at argument q) fw ends →
+    AreLasts i q pattern ps log outers (rest_at argument q) lw failed → Keeps between log middle outers → hs ≡ ends
+    → two ≡ one →
     IsReportOf between argument one (filter_map (misfit i q) (kept_first i (dots pattern) q os)) before →
-    ((ms : List Misfit) (us : List Outline) (cs : List Commands) → FirstFails i q log failed us → Each (Holds log) hs cs → IsReportOf log argument two ms before →
-    IsReportOf log argument three [] (noted_with (ms ++ only_first (filter_map (misfit i q) us)) cs before)) → IsReportOf log argument three [] (kept_noted i pattern q os ps before)
-pass_notes i argument pattern q os ps before between log middle outers fw lw ends hs failed one two three f l k e same noted place =
-    place (filter_map (misfit i q) (kept_first i (dots pattern) q os)) (kept_back i (dots pattern) q ps) (filter_map finished_of (kept_first i (dots pattern) q os)) l.fails
+    ((ms : List Misfit) (us : List Outline) (cs : List Commands) → FirstFails i q log failed us → Each (Holds log) hs cs
+    → IsReportOf log argument two ms before →
+    IsReportOf log argument three [] (noted_with (ms ++ only_first (filter_map (misfit i q) us)) cs before))
+    → IsReportOf log argument three [] (kept_noted i pattern q os ps before)
+pass_notes i argument pattern q os ps before between log middle outers fw lw ends hs failed one two three f l k e same
+    noted place =
+    place (filter_map (misfit i q) (kept_first i (dots pattern) q os)) (kept_back i (dots pattern) q ps)
+    (filter_map finished_of (kept_first i (dots pattern) q os)) l.fails
     (subst (λ t. Each (Holds log) t (filter_map finished_of (kept_first i (dots pattern) q os))) (sym e)
-    (each_weaker (Holds between) (Holds log) (λ x y h. holds_keep between log middle outers k x y h) ends (filter_map finished_of (kept_first i (dots pattern) q os)) f.ended))
-    (subst (λ r. IsReportOf log argument r (filter_map (misfit i q) (kept_first i (dots pattern) q os)) before) (sym same)
-    (notes_keep between log argument one (filter_map (misfit i q) (kept_first i (dots pattern) q os)) before k.log noted))
+    (each_weaker (Holds between) (Holds log) (λ x y h. holds_keep between log middle outers k x y h) ends
+    (filter_map finished_of (kept_first i (dots pattern) q os)) f.ended))
+    (subst (λ r. IsReportOf log argument r (filter_map (misfit i q) (kept_first i (dots pattern) q os)) before)
+    (sym same)
+    (notes_keep between log argument one (filter_map (misfit i q) (kept_first i (dots pattern) q os)) before k.log
+    noted))
 
-pub pass_goes : {A : Type 0} (i : Input) (argument : Forest) (pattern : Ops) (q m n : ℕ) (os ps : List Outline) (before : Notes) (between log : Log) (middle outers : List (Outer A))
-    (firsts lasts : List (Waiting A)) (stack : List (Position A)) (visits : List (declared.Visit A)) (r : Report A) → EndsFollow i pattern q os ps before → Keeps between log middle outers →
-    Each (LeadsTo between middle (rest_at argument q)) firsts (first_moves i (dots pattern) q os) → Each (LeadsTo log outers (rest_at argument q)) lasts (back_moves i (dots pattern) q ps) →
-    stack ≡ reverse (map position_after lasts) → visits ≡ reverse (map visit_after firsts) → first_width (first_moves i (dots pattern) q os) ≡ Some n → m ≡ q + n →
-    IsReportOf log argument r [] (kept_noted i pattern q os ps before) → PassAt i argument pattern m log outers stack visits r
-pass_goes i argument pattern q m n os ps before between log middle outers firsts lasts stack visits r follows k f l e d wide at notes = record {
-  os = map after_of (back_moves i (dots pattern) q ps);
-  ps = map after_of (first_moves i (dots pattern) q os);
-  before = kept_noted i pattern q os ps before;
-  follows = follow_next q m n os ps before follows wide at;
-  first_shown = subst (λ t. Each (Shows log outers) t (reverse (map after_of (back_moves i (dots pattern) q ps)))) (sym e)
-      (each_reverse (Shows log outers) (map position_after lasts) (map after_of (back_moves i (dots pattern) q ps))
-      (shown_after log outers (rest_at argument q) lasts (back_moves i (dots pattern) q ps) l));
-  last_shown = subst (λ t. Each (VisitShows i (rest_at argument m) m log outers) t (reverse (map enter (map after_of (first_moves i (dots pattern) q os))))) (sym d)
-      (each_reverse (VisitShows i (rest_at argument m) m log outers) (map visit_after firsts) (map enter (map after_of (first_moves i (dots pattern) q os)))
-      (entered_after log outers (rest_at argument q) i (rest_at argument m) m firsts (first_moves i (dots pattern) q os)
-      (each_weaker (LeadsTo between middle (rest_at argument q)) (LeadsTo log outers (rest_at argument q)) (λ x y h. leads_keep between log middle outers k (rest_at argument q) x y h)
-      firsts (first_moves i (dots pattern) q os) f)));
-  notes = notes;
-}
+pub pass_goes : {A : Type 0} (i : Input) (argument : Forest) (pattern : Ops) (q m n : ℕ) (os ps : List Outline)
+    (before : Notes) (between log : Log) (middle outers : List (Outer A))
+    (firsts lasts : List (Waiting A)) (stack : List (Position A)) (visits : List (declared.Visit A)) (r : Report A)
+    → EndsFollow i pattern q os ps before → Keeps between log middle outers →
+    Each (LeadsTo between middle (rest_at argument q)) firsts (first_moves i (dots pattern) q os)
+    → Each (LeadsTo log outers (rest_at argument q)) lasts (back_moves i (dots pattern) q ps) →
+    stack ≡ reverse (map position_after lasts) → visits ≡ reverse (map visit_after firsts)
+    → first_width (first_moves i (dots pattern) q os) ≡ Some n → m ≡ q + n →
+    IsReportOf log argument r [] (kept_noted i pattern q os ps before)
+    → PassAt i argument pattern m log outers stack visits r
+pass_goes i argument pattern q m n os ps before between log middle outers firsts lasts stack visits r follows k f l e d
+    wide at notes = record {
+      os = map after_of (back_moves i (dots pattern) q ps);
+      ps = map after_of (first_moves i (dots pattern) q os);
+      before = kept_noted i pattern q os ps before;
+      follows = follow_next q m n os ps before follows wide at;
+      first_shown = subst (λ t. Each (Shows log outers) t (reverse (map after_of (back_moves i (dots pattern) q ps))))
+          (sym e)
+          (each_reverse (Shows log outers) (map position_after lasts) (map after_of (back_moves i (dots pattern) q ps))
+          (shown_after log outers (rest_at argument q) lasts (back_moves i (dots pattern) q ps) l));
+      last_shown = subst (λ t. Each (VisitShows i (rest_at argument m) m log outers) t
+          (reverse (map enter (map after_of (first_moves i (dots pattern) q os))))) (sym d)
+          (each_reverse (VisitShows i (rest_at argument m) m log outers) (map visit_after firsts)
+          (map enter (map after_of (first_moves i (dots pattern) q os)))
+          (entered_after log outers (rest_at argument q) i (rest_at argument m) m firsts (first_moves i (dots pattern) q os)
+          (each_weaker (LeadsTo between middle (rest_at argument q)) (LeadsTo log outers (rest_at argument q))
+          (λ x y h. leads_keep between log middle outers k (rest_at argument q) x y h)
+          firsts (first_moves i (dots pattern) q os) f)));
+      notes = notes;
+    }

@@ -29,7 +29,8 @@ use Rattle.mbe_matcher.proofs.Settling.{Last, last_of, each_turned, each_none, o
 use Rattle.mbe_matcher.proofs.Walking.{Walks, walks_end, walks_good, walks_drop, walks_take, here_number, forward, forward_start}
 
 -- The outlines that are followed so far are `out`, and those of the stack are left.
-pub record FirstWalked {A : Type 0} (i : Input) (pattern : Ops) (q : ℕ) (all : List Outline) (met : List ℕ) (log : Log) (outers : List (Outer A)) (here : Forest)
+pub record FirstWalked {A : Type 0} (i : Input) (pattern : Ops) (q : ℕ) (all : List Outline) (met : List ℕ) (log : Log)
+    (outers : List (Outer A)) (here : Forest)
     (todo : List (Position A)) (ws : List (Waiting A)) (hs : List Handle) : Type 0 where
   pub stack : List Outline
   pub out : List Outline
@@ -38,25 +39,32 @@ pub record FirstWalked {A : Type 0} (i : Input) (pattern : Ops) (q : ℕ) (all :
   pub goes_on : Each (LeadsTo log outers here) ws (filter_map (next_of i q) out)
   pub ended : Each (Holds log) hs (filter_map finished_of out)
 
-pub first_start : {A : Type 0} (i : Input) (q size : ℕ) (log : Log) (outers : List (Outer A)) (here : Forest) (todo : List (Position A)) (ws : List (Waiting A)) (hs : List Handle)
-    (s : IsFirstStack i q size log outers todo) → ws ≡ [] → hs ≡ [] → FirstWalked i s.pattern q (kept_first i (dots s.pattern) q s.outlines) [] log outers here todo ws hs
+pub first_start : {A : Type 0} (i : Input) (q size : ℕ) (log : Log) (outers : List (Outer A)) (here : Forest)
+    (todo : List (Position A)) (ws : List (Waiting A)) (hs : List Handle)
+    (s : IsFirstStack i q size log outers todo) → ws ≡ [] → hs ≡ []
+    → FirstWalked i s.pattern q (kept_first i (dots s.pattern) q s.outlines) [] log outers here todo ws hs
 first_start i q size log outers here todo ws hs s e f = record {
   stack = reverse s.outlines;
   out = [];
-  walks = subst (λ l. Walks (forward i s.pattern q) (kept_first i (dots s.pattern) q s.outlines) l [] []) (sym (reverse-reverse s.outlines)) (forward_start i s.pattern q s.outlines s.here);
+  walks = subst (λ l. Walks (forward i s.pattern q) (kept_first i (dots s.pattern) q s.outlines) l [] [])
+      (sym (reverse-reverse s.outlines)) (forward_start i s.pattern q s.outlines s.here);
   shown = s.shown;
   goes_on = subst (λ l. Each (LeadsTo log outers here) l []) (sym e) tt;
   ended = subst (λ l. Each (Holds log) l []) (sym f) tt;
 }
 
-pub noted_start : {A : Type 0} (i : Input) (q size : ℕ) (log : Log) (outers : List (Outer A)) (here : Forest) (todo : List (Position A)) (ws : List (Waiting A)) (hs : List Handle)
-    (s : IsFirstStack i q size log outers todo) (e : ws ≡ []) (g : hs ≡ []) (f : Forest) (r : Report A) (n : Notes) → IsReportOf log f r [] n →
+pub noted_start : {A : Type 0} (i : Input) (q size : ℕ) (log : Log) (outers : List (Outer A)) (here : Forest)
+    (todo : List (Position A)) (ws : List (Waiting A)) (hs : List Handle)
+    (s : IsFirstStack i q size log outers todo) (e : ws ≡ []) (g : hs ≡ []) (f : Forest) (r : Report A) (n : Notes)
+    → IsReportOf log f r [] n →
     IsReportOf log f r (filter_map (misfit i q) (first_start i q size log outers here todo ws hs s e g).out) n
 unfolding first_start
 noted_start i q size log outers here todo ws hs s e g f r n is = is
 
-module _ {A : Type 0} (i : Input) (pattern : Ops) (argument : Forest) (q : ℕ) (all : List Outline) (met : List ℕ) (log : Log) (outers : List (Outer A))
-    (rest todo : List (Position A)) (p : Position A) (ws : List (Waiting A)) (hs : List Handle) (top : todo ≡ rest ++ p ∷ [])
+module _ {A : Type 0} (i : Input) (pattern : Ops) (argument : Forest) (q : ℕ) (all : List Outline) (met : List ℕ)
+    (log : Log) (outers : List (Outer A))
+    (rest todo : List (Position A)) (p : Position A) (ws : List (Waiting A)) (hs : List Handle)
+    (top : todo ≡ rest ++ p ∷ [])
     (w : FirstWalked i pattern q all met log outers (rest_at argument q) todo ws hs) where
   popped : Last (Shows log outers) rest p w.stack
   popped = last_of (Shows log outers) rest p w.stack (subst (λ l. Each (Shows log outers) l w.stack) top w.shown)
@@ -65,7 +73,8 @@ module _ {A : Type 0} (i : Input) (pattern : Ops) (argument : Forest) (q : ℕ) 
   first_shown = (popped.last, popped.lasts)
 
   walks : Walks (forward i pattern q) all (popped.last ∷ reverse popped.front) met w.out
-  walks = subst (λ l. Walks (forward i pattern q) all l met w.out) (ap reverse popped.is ∙ reverse-append popped.front (popped.last ∷ [])) w.walks
+  walks = subst (λ l. Walks (forward i pattern q) all l met w.out)
+      (ap reverse popped.is ∙ reverse-append popped.front (popped.last ∷ [])) w.walks
 
   number : p.number ≡ outline_number popped.last
   number = shown_number log outers p popped.last popped.lasts
@@ -73,86 +82,122 @@ module _ {A : Type 0} (i : Input) (pattern : Ops) (argument : Forest) (q : ℕ) 
   -- the number of the position is that of a dot
   pub first_number : (0 < p.number) × (p.number ≤ dots pattern)
   first_number = subst (λ n. (0 < n) × (n ≤ dots pattern)) (sym number)
-      (here_number i pattern q popped.last (walks_good (forward i pattern q) all met w.out popped.last (reverse popped.front) walks))
+      (here_number i pattern q popped.last (walks_good (forward i pattern q) all met w.out popped.last
+      (reverse popped.front) walks))
 
   -- met before
-  pub first_drop : nat_lt (times p.number met) 1 ≡ false → FirstWalked i pattern q all met log outers (rest_at argument q) rest ws hs
+  pub first_drop : nat_lt (times p.number met) 1 ≡ false
+      → FirstWalked i pattern q all met log outers (rest_at argument q) rest ws hs
   first_drop few = record {
     stack = popped.front;
     out = w.out;
-    walks = walks_drop (forward i pattern q) all met w.out popped.last (reverse popped.front) walks (subst (λ n. 1 ≤ times n met) number (ltb-false (times p.number met) 1 few));
+    walks = walks_drop (forward i pattern q) all met w.out popped.last (reverse popped.front) walks
+        (subst (λ n. 1 ≤ times n met) number (ltb-false (times p.number met) 1 few));
     shown = popped.fronts;
     goes_on = w.goes_on;
     ended = w.ended;
   }
 
-  pub noted_drop : (few : nat_lt (times p.number met) 1 ≡ false) (f : Forest) (r : Report A) (n : Notes) → IsReportOf log f r (filter_map (misfit i q) w.out) n →
+  pub noted_drop : (few : nat_lt (times p.number met) 1 ≡ false) (f : Forest) (r : Report A) (n : Notes)
+      → IsReportOf log f r (filter_map (misfit i q) w.out) n →
       IsReportOf log f r (filter_map (misfit i q) (first_drop few).out) n
   unfolding first_drop
   noted_drop few f r n is = is
 
   -- else its steps are followed
-  module _ (new : Log) (after : List (Outer A)) (s : Steps A) (todo' : List (Position A)) (ws' : List (Waiting A)) (hs' : List Handle)
+  module _ (new : Log) (after : List (Outer A)) (s : Steps A) (todo' : List (Position A)) (ws' : List (Waiting A))
+      (hs' : List Handle)
       (gives : (o : Outline) → Shows log outers p o → AreSteps i argument q log new outers after o s)
-      (pushed : todo' ≡ (rest ++ option_to_list s.second) ++ option_to_list s.first) (waits : ws' ≡ ws ++ option_to_list s.next) (ends : hs' ≡ hs ++ option_to_list s.done) where
+      (pushed : todo' ≡ (rest ++ option_to_list s.second) ++ option_to_list s.first)
+      (waits : ws' ≡ ws ++ option_to_list s.next) (ends : hs' ≡ hs ++ option_to_list s.done) where
     st : AreSteps i argument q log new outers after popped.last s
     st = gives popped.last popped.lasts
 
     shown : Each (Shows new after) todo' (popped.front ++ reverse (idle_of i q popped.last))
-    shown = subst (λ l. Each (Shows new after) l (popped.front ++ reverse (idle_of i q popped.last))) (sym (pushed ∙ append_assoc rest (option_to_list s.second) (option_to_list s.first)))
-        (each_append (Shows new after) rest (option_to_list s.second ++ option_to_list s.first) popped.front (reverse (idle_of i q popped.last))
-        (each_weaker (Shows log outers) (Shows new after) (λ x y h. shows_keep log new outers after st.kept x y h) rest popped.front popped.fronts)
+    shown = subst (λ l. Each (Shows new after) l (popped.front ++ reverse (idle_of i q popped.last)))
+        (sym (pushed ∙ append_assoc rest (option_to_list s.second) (option_to_list s.first)))
+        (each_append (Shows new after) rest (option_to_list s.second ++ option_to_list s.first) popped.front
+        (reverse (idle_of i q popped.last))
+        (each_weaker (Shows log outers) (Shows new after) (λ x y h. shows_keep log new outers after st.kept x y h) rest
+        popped.front popped.fronts)
         (each_turned (Shows new after) s.first s.second (idle_of i q popped.last) st.now.idle))
 
     goes_on : Each (LeadsTo new after (rest_at argument q)) ws' (filter_map (next_of i q) (w.out ++ popped.last ∷ []))
-    goes_on = subst (λ l. Each (LeadsTo new after (rest_at argument q)) l (filter_map (next_of i q) (w.out ++ popped.last ∷ []))) (sym waits)
-        (subst (Each (LeadsTo new after (rest_at argument q)) (ws ++ option_to_list s.next)) (sym (filter_map-append (next_of i q) w.out (popped.last ∷ []) ∙ ap (λ l. filter_map (next_of i q) w.out ++ l) (one_step (next_of i q) popped.last)))
-        (each_append (LeadsTo new after (rest_at argument q)) ws (option_to_list s.next) (filter_map (next_of i q) w.out) (option_to_list (next_of i q popped.last))
-        (each_weaker (LeadsTo log outers (rest_at argument q)) (LeadsTo new after (rest_at argument q)) (λ x y h. leads_keep log new outers after st.kept (rest_at argument q) x y h) ws (filter_map (next_of i q) w.out) w.goes_on)
+    goes_on = subst (λ l. Each (LeadsTo new after (rest_at argument q)) l
+        (filter_map (next_of i q) (w.out ++ popped.last ∷ []))) (sym waits)
+        (subst (Each (LeadsTo new after (rest_at argument q)) (ws ++ option_to_list s.next))
+        (sym (filter_map-append (next_of i q) w.out (popped.last ∷ [])
+        ∙ ap (λ l. filter_map (next_of i q) w.out ++ l) (one_step (next_of i q) popped.last)))
+        (each_append (LeadsTo new after (rest_at argument q)) ws (option_to_list s.next)
+        (filter_map (next_of i q) w.out) (option_to_list (next_of i q popped.last))
+        (each_weaker (LeadsTo log outers (rest_at argument q)) (LeadsTo new after (rest_at argument q))
+        (λ x y h. leads_keep log new outers after st.kept (rest_at argument q) x y h) ws
+        (filter_map (next_of i q) w.out) w.goes_on)
         (both_each (LeadsTo new after (rest_at argument q)) s.next (next_of i q popped.last) st.now.next)))
 
     ended : Each (Holds new) hs' (filter_map finished_of (w.out ++ popped.last ∷ []))
     ended = subst (λ l. Each (Holds new) l (filter_map finished_of (w.out ++ popped.last ∷ []))) (sym ends)
-        (subst (Each (Holds new) (hs ++ option_to_list s.done)) (sym (filter_map-append finished_of w.out (popped.last ∷ []) ∙ ap (λ l. filter_map finished_of w.out ++ l) (one_step finished_of popped.last)))
-        (each_append (Holds new) hs (option_to_list s.done) (filter_map finished_of w.out) (option_to_list (finished_of popped.last))
-        (each_weaker (Holds log) (Holds new) (λ x y h. holds_keep log new outers after st.kept x y h) hs (filter_map finished_of w.out) w.ended)
+        (subst (Each (Holds new) (hs ++ option_to_list s.done))
+        (sym (filter_map-append finished_of w.out (popped.last ∷ [])
+        ∙ ap (λ l. filter_map finished_of w.out ++ l) (one_step finished_of popped.last)))
+        (each_append (Holds new) hs (option_to_list s.done) (filter_map finished_of w.out)
+        (option_to_list (finished_of popped.last))
+        (each_weaker (Holds log) (Holds new) (λ x y h. holds_keep log new outers after st.kept x y h) hs
+        (filter_map finished_of w.out) w.ended)
         (both_each (Holds new) s.done (finished_of popped.last) st.now.done)))
 
-    pub first_take : nat_lt (times p.number met) 1 ≡ true → FirstWalked i pattern q all (p.number ∷ met) new after (rest_at argument q) todo' ws' hs'
+    pub first_take : nat_lt (times p.number met) 1 ≡ true
+        → FirstWalked i pattern q all (p.number ∷ met) new after (rest_at argument q) todo' ws' hs'
     first_take few = record {
       stack = popped.front ++ reverse (idle_of i q popped.last);
       out = w.out ++ popped.last ∷ [];
-      walks = subst (λ n. Walks (forward i pattern q) all (reverse (popped.front ++ reverse (idle_of i q popped.last))) (n ∷ met) (w.out ++ popped.last ∷ [])) (sym number)
+      walks = subst (λ n. Walks (forward i pattern q) all (reverse (popped.front ++ reverse (idle_of i q popped.last)))
+          (n ∷ met) (w.out ++ popped.last ∷ [])) (sym number)
           (subst (λ l. Walks (forward i pattern q) all l (outline_number popped.last ∷ met) (w.out ++ popped.last ∷ []))
-          (ap (λ l. l ++ reverse popped.front) (sym (reverse-reverse (idle_of i q popped.last))) ∙ sym (reverse-append popped.front (reverse (idle_of i q popped.last))))
-          (walks_take (forward i pattern q) all met w.out popped.last (reverse popped.front) walks (subst (λ n. times n met < 1) number (ltb-true (times p.number met) 1 few))));
+          (ap (λ l. l ++ reverse popped.front) (sym (reverse-reverse (idle_of i q popped.last)))
+          ∙ sym (reverse-append popped.front (reverse (idle_of i q popped.last))))
+          (walks_take (forward i pattern q) all met w.out popped.last (reverse popped.front) walks
+          (subst (λ n. times n met < 1) number (ltb-true (times p.number met) 1 few))));
       shown = shown;
       goes_on = goes_on;
       ended = ended;
     }
 
     -- and it is noted where it fails
-    pub noted_take : (few : nat_lt (times p.number met) 1 ≡ true) (f : Forest) (r r' : Report A) (n : Notes) (b : Bool) (h : Handle) → b ≡ is_step s → h ≡ p.handle →
-        ((l : Log) (x : Outline) (ms : List Misfit) (m : Notes) → ops_of p.dot.now ≡ ops_left x → Holds l h (bound_by x) → IsReportOf l f r ms m →
+    pub noted_take : (few : nat_lt (times p.number met) 1 ≡ true) (f : Forest) (r r' : Report A) (n : Notes) (b : Bool)
+        (h : Handle) → b ≡ is_step s → h ≡ p.handle →
+        ((l : Log) (x : Outline) (ms : List Misfit) (m : Notes) → ops_of p.dot.now ≡ ops_left x → Holds l h (bound_by x)
+        → IsReportOf l f r ms m →
         IsReportOf l f r' (ms ++ option_to_list (misfit_unless b q x)) m) →
-        IsReportOf log f r (filter_map (misfit i q) w.out) n → IsReportOf new f r' (filter_map (misfit i q) (first_take few).out) n
+        IsReportOf log f r (filter_map (misfit i q) w.out) n
+        → IsReportOf new f r' (filter_map (misfit i q) (first_take few).out) n
     unfolding first_take
     noted_take few f r r' n b h e same looked is =
         let ms = filter_map (misfit i q) w.out in
-        let one = one_step (misfit i q) popped.last ∙ ap (λ x. option_to_list (misfit_unless x q popped.last)) (sym (e ∙ step_same i argument q new after popped.last s st.now)) in
-        subst (λ l. IsReportOf new f r' l n) (sym (filter_map-append (misfit i q) w.out (popped.last ∷ []) ∙ ap (λ l. ms ++ l) one))
+        let one = one_step (misfit i q) popped.last
+        ∙ ap (λ x. option_to_list (misfit_unless x q popped.last))
+        (sym (e ∙ step_same i argument q new after popped.last s st.now)) in
+        subst (λ l. IsReportOf new f r' l n)
+        (sym (filter_map-append (misfit i q) w.out (popped.last ∷ []) ∙ ap (λ l. ms ++ l) one))
         (looked new popped.last ms n (shown_ops log outers p popped.last popped.lasts)
-        (subst (λ x. Holds new x (bound_by popped.last)) (sym same) (shown_bound log new outers p popped.last st.kept.log popped.lasts))
+        (subst (λ x. Holds new x (bound_by popped.last)) (sym same)
+        (shown_bound log new outers p popped.last st.kept.log popped.lasts))
         (notes_keep log new f r ms n st.kept.log is))
 
-pub first_done : {A : Type 0} (i : Input) (pattern : Ops) (q : ℕ) (all : List Outline) (log : Log) (outers : List (Outer A)) (here : Forest) (todo : List (Position A)) (met : List ℕ)
-    (ws : List (Waiting A)) (hs : List Handle) → todo ≡ [] → (w : FirstWalked i pattern q all met log outers here todo ws hs) → w.out ≡ all
+pub first_done : {A : Type 0} (i : Input) (pattern : Ops) (q : ℕ) (all : List Outline) (log : Log)
+    (outers : List (Outer A)) (here : Forest) (todo : List (Position A)) (met : List ℕ)
+    (ws : List (Waiting A)) (hs : List Handle) → todo ≡ []
+    → (w : FirstWalked i pattern q all met log outers here todo ws hs) → w.out ≡ all
 first_done i pattern q all log outers here todo met ws hs e w =
-    let none : w.stack ≡ [] = each_none (Shows log outers) w.stack (subst (λ l. Each (Shows log outers) l w.stack) e w.shown) in
-    walks_end (forward i pattern q) all met w.out (subst (λ l. Walks (forward i pattern q) all (reverse l) met w.out) none w.walks)
+    let none : w.stack ≡ [] = each_none (Shows log outers) w.stack
+    (subst (λ l. Each (Shows log outers) l w.stack) e w.shown) in
+    walks_end (forward i pattern q) all met w.out
+    (subst (λ l. Walks (forward i pattern q) all (reverse l) met w.out) none w.walks)
 
-pub first_end : {A : Type 0} (i : Input) (pattern : Ops) (q : ℕ) (os : List Outline) (log : Log) (outers : List (Outer A)) (here : Forest) (todo : List (Position A)) (met : List ℕ)
-    (ws : List (Waiting A)) (hs : List Handle) → todo ≡ [] → FirstWalked i pattern q (kept_first i (dots pattern) q os) met log outers here todo ws hs →
+pub first_end : {A : Type 0} (i : Input) (pattern : Ops) (q : ℕ) (os : List Outline) (log : Log)
+    (outers : List (Outer A)) (here : Forest) (todo : List (Position A)) (met : List ℕ)
+    (ws : List (Waiting A)) (hs : List Handle) → todo ≡ []
+    → FirstWalked i pattern q (kept_first i (dots pattern) q os) met log outers here todo ws hs →
     AreFirsts i q pattern os log outers here ws hs
 first_end i pattern q os log outers here todo met ws hs e w =
     let done = first_done i pattern q (kept_first i (dots pattern) q os) log outers here todo met ws hs e w in

@@ -25,23 +25,27 @@ got_more [] ys n x e = absurd (none-some x e)
 got_more (y ∷ xs) ys zero x e = e
 got_more (y ∷ xs) ys (suc n) x e = got_more xs ys n x e
 
-pub still_got : {X : Type 0} (old new : List X) (n : ℕ) (x : X) → Grows old new → slice_get old n ≡ Some x → slice_get new n ≡ Some x
+pub still_got : {X : Type 0} (old new : List X) (n : ℕ) (x : X) → Grows old new → slice_get old n ≡ Some x
+    → slice_get new n ≡ Some x
 still_got old new n x (more, e) h = ap (λ xs. slice_get xs n) e ∙ got_more old more n x h
 
 -- what is so of each is so in another way
-pub each_weaker : {X Y : Type 0} (P Q : X → Y → Type 0) → ((x : X) (y : Y) → P x y → Q x y) → (xs : List X) (ys : List Y) → Each P xs ys → Each Q xs ys
+pub each_weaker : {X Y : Type 0} (P Q : X → Y → Type 0) → ((x : X) (y : Y) → P x y → Q x y)
+    → (xs : List X) (ys : List Y) → Each P xs ys → Each Q xs ys
 each_weaker P Q h [] [] e = tt
 each_weaker P Q h [] (y ∷ ys) e = absurd e
 each_weaker P Q h (x ∷ xs) [] e = absurd e
 each_weaker P Q h (x ∷ xs) (y ∷ ys) e = (h x y e.0, each_weaker P Q h xs ys e.1)
 
-pub each_append : {X Y : Type 0} (P : X → Y → Type 0) (xs us : List X) (ys vs : List Y) → Each P xs ys → Each P us vs → Each P (xs ++ us) (ys ++ vs)
+pub each_append : {X Y : Type 0} (P : X → Y → Type 0) (xs us : List X) (ys vs : List Y) → Each P xs ys → Each P us vs
+    → Each P (xs ++ us) (ys ++ vs)
 each_append P [] us [] vs e f = f
 each_append P [] us (y ∷ ys) vs e f = absurd e
 each_append P (x ∷ xs) us [] vs e f = absurd e
 each_append P (x ∷ xs) us (y ∷ ys) vs e f = (e.0, each_append P xs us ys vs e.1 f)
 
-pub both_each : {X Y : Type 0} (P : X → Y → Type 0) (x : Option X) (y : Option Y) → Both P x y → Each P (option_to_list x) (option_to_list y)
+pub both_each : {X Y : Type 0} (P : X → Y → Type 0) (x : Option X) (y : Option Y) → Both P x y
+    → Each P (option_to_list x) (option_to_list y)
 both_each P None None b = tt
 both_each P (Some x) (Some y) b = (b, tt)
 both_each P None (Some y) b = absurd b
@@ -55,7 +59,8 @@ kept_not log = record { stays = λ k h. h; entries = λ k h. h; others = λ k a 
 pub keeps_not : {A : Type 0} (log : Log) (outers : List (Outer A)) → Keeps log log outers outers
 keeps_not log outers = record { log = kept_not log; outers = grows_not outers }
 
-pub keeps_on : {A : Type 0} (old middle new : Log) (before between after : List (Outer A)) → Keeps old middle before between → Keeps middle new between after → Keeps old new before after
+pub keeps_on : {A : Type 0} (old middle new : Log) (before between after : List (Outer A))
+    → Keeps old middle before between → Keeps middle new between after → Keeps old new before after
 keeps_on old middle new before between after k l =
     record { log = kept-on old middle new k.log l.log; outers = grows_on before between after k.outers l.outers }
 
@@ -64,13 +69,20 @@ module _ {A : Type 0} (old new : Log) (before after : List (Outer A)) (k : Keeps
   edges_keep none_open = none_open
   edges_keep (group_open n o es at r up) = group_open n o es (still_got before after n o k.outers at) r (edges_keep up)
   edges_keep (repetition_open n o r began a es at e rounds up) =
-      repetition_open n o r began a es (still_got before after n o k.outers at) e (record { account = k.log.others r.outside a rounds.account; front = rounds.front }) (edges_keep up)
+      repetition_open n o r began a es (still_got before after n o k.outers at) e
+      (record { account = k.log.others r.outside a rounds.account; front = rounds.front }) (edges_keep up)
 
   pub shows_keep : (p : Position A) (o : Outline) → Shows old before p o → Shows new after p o
   shows_keep p (outline rest a up) s =
-      record { dot = s.dot; number = s.number; account = k.log.others p.handle a s.account; around = edges_keep s.around }
+      record {
+        dot = s.dot;
+        number = s.number;
+        account = k.log.others p.handle a s.account;
+        around = edges_keep s.around;
+      }
 
-  pub leads_keep : (here : Forest) (w : Waiting A) (a : Advance) → LeadsTo old before here w a → LeadsTo new after here w a
+  pub leads_keep : (here : Forest) (w : Waiting A) (a : Advance) → LeadsTo old before here w a
+      → LeadsTo new after here w a
   leads_keep here w (advance n f o) l =
       record { width_is = l.width_is; fragment_is = l.fragment_is; left = l.left; after = shows_keep w.after o l.after }
 
@@ -78,7 +90,8 @@ module _ {A : Type 0} (old new : Log) (before after : List (Outer A)) (k : Keeps
   holds_keep h cs (a, i, e) = (a, k.log.others h a i, e)
 
 -- one outer item more
-pub keeps_more : {A : Type 0} (log : Log) (outers all : List (Outer A)) (o : Outer A) → all ≡ outers ++ o ∷ [] → Keeps log log outers all
+pub keeps_more : {A : Type 0} (log : Log) (outers all : List (Outer A)) (o : Outer A) → all ≡ outers ++ o ∷ []
+    → Keeps log log outers all
 keeps_more log outers all o e = record { log = kept_not log; outers = (o ∷ [], e) }
 
 -- no outer item more

@@ -43,11 +43,14 @@ length_map f (x ∷ xs) = ap suc (length_map f xs)
 pub map_reverse : {A B : Type 0} (f : A → B) (xs : List A) → map f (reverse xs) ≡ reverse (map f xs)
 map_reverse f [] = refl
 map_reverse f (x ∷ xs) =
-    ap (map f) (reverse-append (x ∷ []) xs) ∙ map-append f (reverse xs) (x ∷ []) ∙ ap (λ l. l ++ (f x ∷ [])) (map_reverse f xs)
+    ap (map f) (reverse-append (x ∷ []) xs) ∙ map-append f (reverse xs) (x ∷ [])
+    ∙ ap (λ l. l ++ (f x ∷ [])) (map_reverse f xs)
     ∙ sym (reverse-append (f x ∷ []) (map f xs))
 
-module _ {A B : Type 0} (h : A → B) (kids : A → List A) (key : A → ℕ) (kids' : B → List B) (key' : B → ℕ) (Good : A → Type 0)
-    (below : (x : A) → Good x → map h (kids x) ≡ kids' (h x)) (same : (x : A) → key' (h x) ≡ key x) (good : (x y : A) → Good x → In y (kids x) → Good y) where
+module _ {A B : Type 0} (h : A → B) (kids : A → List A) (key : A → ℕ) (kids' : B → List B) (key' : B → ℕ)
+    (Good : A → Type 0)
+    (below : (x : A) → Good x → map h (kids x) ≡ kids' (h x)) (same : (x : A) → key' (h x) ≡ key x)
+    (good : (x y : A) → Good x → In y (kids x) → Good y) where
   map_cons_if : (b : Bool) (x : A) (xs : List A) → map h (cons_if b x xs) ≡ cons_if b (h x) (map h xs)
   map_cons_if true x xs = refl
   map_cons_if false x xs = refl
@@ -60,7 +63,8 @@ module _ {A B : Type 0} (h : A → B) (kids : A → List A) (key : A → ℕ) (k
   in_append_if true x xs ys m = in_either x xs ys m
   in_append_if false x xs ys m = inr m
 
-  map_walk : (k n : ℕ) (seen : List ℕ) (xs : List A) → ((x : A) → In x xs → Good x) → map h (walk kids key k n seen xs) ≡ walk kids' key' k n seen (map h xs)
+  map_walk : (k n : ℕ) (seen : List ℕ) (xs : List A) → ((x : A) → In x xs → Good x)
+      → map h (walk kids key k n seen xs) ≡ walk kids' key' k n seen (map h xs)
   unfolding walk
   map_walk k zero seen xs a = refl
   map_walk k (suc n) seen [] a = refl
@@ -70,7 +74,8 @@ module _ {A B : Type 0} (h : A → B) (kids : A → List A) (key : A → ℕ) (k
       ∙ ap (λ l. cons_if few (h x) (walk kids' key' k n (cons_if few (key x) seen) l))
       (map_append_if few (kids x) xs ∙ ap (λ l. append_if few l (map h xs)) (below x (a x (inl refl))))
       ∙ ap (λ m. cons_if (nat_lt (times m seen) k) (h x)
-      (walk kids' key' k n (cons_if (nat_lt (times m seen) k) m seen) (append_if (nat_lt (times m seen) k) (kids' (h x)) (map h xs))))
+      (walk kids' key' k n (cons_if (nat_lt (times m seen) k) m seen)
+      (append_if (nat_lt (times m seen) k) (kids' (h x)) (map h xs))))
       (sym (same x))
     where
       few : Bool
@@ -96,7 +101,8 @@ shape_left [] = refl
 shape_left (back.enter x ∷ vs) = shape_left vs
 shape_left (back.leave x ∷ vs) = ap (λ l. erase x ∷ l) (shape_left vs)
 
-in_entered : (z x : Beginning) (xs : List Beginning) → In (back.enter z) (map back.enter xs ++ (back.leave x ∷ [])) → In z xs
+in_entered : (z x : Beginning) (xs : List Beginning) → In (back.enter z) (map back.enter xs ++ (back.leave x ∷ []))
+    → In z xs
 in_entered z x [] (inl e) = cc
 in_entered z x [] (inr h) = absurd h
 in_entered z x (y ∷ xs) (inl e) = inl (let f : z ≡ y = cc in f)
@@ -111,7 +117,9 @@ module _ (i : Input) (pattern : Ops) (q : ℕ) where
   unfolding GoodVisit shape
   visit_kids (back.enter x) a =
       map-append shape (map back.enter (reverse (idle i q x))) (back.leave x ∷ [])
-      ∙ ap (λ l. l ++ (leave (erase x) ∷ [])) (shape_entered (reverse (idle i q x)) ∙ ap (map enter) (map_reverse erase (idle i q x) ∙ ap reverse (erase_idle i q x a.1)))
+      ∙ ap (λ l. l ++ (leave (erase x) ∷ []))
+      (shape_entered (reverse (idle i q x))
+      ∙ ap (map enter) (map_reverse erase (idle i q x) ∙ ap reverse (erase_idle i q x a.1)))
   visit_kids (back.leave x) a = refl
 
   visit_key : (v : back.Visit) → key_of (shape v) ≡ visit_number v
@@ -121,29 +129,36 @@ module _ (i : Input) (pattern : Ops) (q : ℕ) where
 
   visit_good : (v w : back.Visit) → GoodVisit v → In w (visits i q v) → GoodVisit w
   unfolding GoodVisit
-  visit_good (back.enter x) (back.enter y) a m = idle-sound i pattern q x a y (from_reverse y (idle i q x) (in_entered y x (reverse (idle i q x)) m))
+  visit_good (back.enter x) (back.enter y) a m =
+      idle-sound i pattern q x a y (from_reverse y (idle i q x) (in_entered y x (reverse (idle i q x)) m))
   visit_good (back.enter x) (back.leave y) a m = tt
   visit_good (back.leave x) w a m = absurd m
 
-  all_good : (xs : List Beginning) → ((x : Beginning) → In x xs → At i pattern q x) → (v : back.Visit) → In v (map back.enter xs) → GoodVisit v
+  all_good : (xs : List Beginning) → ((x : Beginning) → In x xs → At i pattern q x) → (v : back.Visit)
+      → In v (map back.enter xs) → GoodVisit v
   unfolding GoodVisit
   all_good [] a v m = absurd m
   all_good (x ∷ xs) a v (inl e) = subst GoodVisit (sym e) (a x (inl refl))
   all_good (x ∷ xs) a v (inr m) = all_good xs (λ y h. a y (inr h)) v m
 
-  pub first_erased : (d : ℕ) (xs : List Beginning) → ((x : Beginning) → In x xs → At i pattern q x) → map erase (held_first i d q xs) ≡ kept_first i d q (map erase xs)
+  pub first_erased : (d : ℕ) (xs : List Beginning) → ((x : Beginning) → In x xs → At i pattern q x)
+      → map erase (held_first i d q xs) ≡ kept_first i d q (map erase xs)
   first_erased d xs a =
-      map_walk erase (idle i q) number_of (idle_of i q) outline_number (At i pattern q) (λ x b. erase_idle i q x b.1) same_number (λ x y b m. idle-sound i pattern q x b y m)
+      map_walk erase (idle i q) number_of (idle_of i q) outline_number (At i pattern q) (λ x b. erase_idle i q x b.1)
+      same_number (λ x y b m. idle-sound i pattern q x b y m)
       1 (turns (length xs) d) [] xs a
       ∙ ap (λ n. walk (idle_of i q) outline_number 1 (turns n d) [] (map erase xs)) (sym (length_map erase xs))
 
-  pub back_erased : (d : ℕ) (xs : List Beginning) → ((x : Beginning) → In x xs → At i pattern q x) → map erase (held_back i d q xs) ≡ kept_back i d q (map erase xs)
+  pub back_erased : (d : ℕ) (xs : List Beginning) → ((x : Beginning) → In x xs → At i pattern q x)
+      → map erase (held_back i d q xs) ≡ kept_back i d q (map erase xs)
   back_erased d xs a =
       shape_left (walk (visits i q) visit_number 1 (visit_turns (length xs) d) [] (map back.enter xs))
-      ∙ ap left_of (map_walk shape (visits i q) visit_number (visits_of i q) key_of GoodVisit visit_kids visit_key visit_good
+      ∙ ap left_of (map_walk shape (visits i q) visit_number (visits_of i q) key_of GoodVisit visit_kids visit_key
+      visit_good
       1 (visit_turns (length xs) d) [] (map back.enter xs) (all_good xs a)
       ∙ ap (walk (visits_of i q) key_of 1 (visit_turns (length xs) d) []) (shape_entered xs)
-      ∙ ap (λ n. walk (visits_of i q) key_of 1 (visit_turns n d) [] (map enter (map erase xs))) (sym (length_map erase xs)))
+      ∙ ap (λ n. walk (visits_of i q) key_of 1 (visit_turns n d) [] (map enter (map erase xs)))
+      (sym (length_map erase xs)))
 
 -- ---- what leads on
 
@@ -151,12 +166,15 @@ from_firsts : (x : Beginning) (ys : List Beginning) → In x (firsts ys) → In 
 from_firsts x ys h = from_sift number_of 1 [] ys x h
 
 from_lasts : (x : Beginning) (ys : List Beginning) → In x (reverse (lasts ys)) → In x ys
-from_lasts x ys h = from_reverse x ys (from_firsts x (reverse ys) (from_reverse x (firsts (reverse ys)) (from_reverse x (lasts ys) h)))
+from_lasts x ys h = from_reverse x ys (from_firsts x (reverse ys)
+    (from_reverse x (firsts (reverse ys)) (from_reverse x (lasts ys) h)))
 
-led_among : (i : Input) (q : ℕ) (us ys : List Beginning) → ((x : Beginning) → In x us → In x ys) → (z : Beginning) → In z (targets (moves_of i q us)) → In z (targets (moves_of i q ys))
+led_among : (i : Input) (q : ℕ) (us ys : List Beginning) → ((x : Beginning) → In x us → In x ys) → (z : Beginning)
+    → In z (targets (moves_of i q us)) → In z (targets (moves_of i q ys))
 led_among i q us ys f z m =
     let r : (k : ℕ) × (g : Bool) × In (move k g z) (moves_of i q us) = from_targets z (moves_of i q us) m in
-    let s : (x : Beginning) × In x us × (next i q x ≡ Some (move r.0 r.1 z)) = from_filter (next i q) (move r.0 r.1 z) us r.2 in
+    let s : (x : Beginning) × In x us × (next i q x ≡ Some (move r.0 r.1 z)) =
+    from_filter (next i q) (move r.0 r.1 z) us r.2 in
     in_targets r.0 r.1 z (moves_of i q ys) (in_filter (next i q) s.0 (move r.0 r.1 z) ys (f s.0 s.1) s.2)
 
 -- ---- from place to place
@@ -213,57 +231,72 @@ module _ (g : Grammar) (pattern : Ops) (argument : Forest) (w : IsLawful g) (che
     back_is = back_erased i pattern q d p.bs p.bs_at ∙ ap (kept_back i d q) p.lasts_are
 
     pub first_moves_are : first_moves i d q os ≡ map erase_move (moves_of i q (held_first i d q p.fs))
-    first_moves_are = ap (filter_map (next_of i q)) (sym first_is) ∙ erase_moves i pattern q (held_first i d q p.fs) (λ x m. at_here x (in_first x m))
+    first_moves_are = ap (filter_map (next_of i q)) (sym first_is)
+        ∙ erase_moves i pattern q (held_first i d q p.fs) (λ x m. at_here x (in_first x m))
 
     back_moves_are : back_moves i d q ps ≡ map erase_move (moves_of i q (held_back i d q p.bs))
-    back_moves_are = ap (filter_map (next_of i q)) (sym back_is) ∙ erase_moves i pattern q (held_back i d q p.bs) (λ x m. at_here x (in_back x m))
+    back_moves_are = ap (filter_map (next_of i q)) (sym back_is)
+        ∙ erase_moves i pattern q (held_back i d q p.bs) (λ x m. at_here x (in_back x m))
 
     -- they note the same
     pub pass_notes : kept_noted i pattern q os ps before ≡ noted_at i q (map erase (held i q p.xs)) before
     pass_notes =
-        sym (ap (λ l. ends_noted i q l (map erase (held_back i d q p.bs)) before) first_is ∙ ap (λ l. ends_noted i q (kept_first i d q os) l before) back_is)
+        sym (ap (λ l. ends_noted i q l (map erase (held_back i d q p.bs)) before) first_is
+        ∙ ap (λ l. ends_noted i q (kept_first i d q os) l before) back_is)
         ∙ ends_same g pattern argument w checked q p.xs p.fs p.bs before p.comes p.ends
 
-    pub pass_next : (m n : ℕ) (f : Bool) (y : Beginning) (ms : List Move) → moves_of i q (held i q p.xs) ≡ move n f y ∷ ms → clashing (move n f y ∷ ms) ≡ false → m ≡ q + n →
-        Pass m (map after_of (back_moves i d q ps)) (map after_of (first_moves i d q os)) (kept_noted i pattern q os ps before)
+    pub pass_next : (m n : ℕ) (f : Bool) (y : Beginning) (ms : List Move)
+        → moves_of i q (held i q p.xs) ≡ move n f y ∷ ms → clashing (move n f y ∷ ms) ≡ false → m ≡ q + n →
+        Pass m (map after_of (back_moves i d q ps)) (map after_of (first_moves i d q os))
+        (kept_noted i pattern q os ps before)
     pass_next m n f y ms e c k = record {
       xs = reverse (targets (move n f y ∷ ms));
       fs = targets (moves_of i q (held_back i d q p.bs));
       bs = targets (moves_of i q (held_first i d q p.fs));
-      comes = subst (λ t. ComesWith i pattern m (reverse (targets (move n f y ∷ ms))) t) (sym pass_notes) (at_next q m n f y ms p.xs before p.comes e c k);
+      comes = subst (λ t. ComesWith i pattern m (reverse (targets (move n f y ∷ ms))) t) (sym pass_notes)
+          (at_next q m n f y ms p.xs before p.comes e c k);
       ends = ends_go g pattern argument w checked q m n f y ms p.xs p.fs p.bs before p.comes p.ends e c k;
-      fs_at = λ z h. led g pattern argument w checked q m n f y ms p.xs before p.comes e c k z (led_among i q (held_back i d q p.bs) (held i q p.xs) in_back z h);
-      bs_at = λ z h. led g pattern argument w checked q m n f y ms p.xs before p.comes e c k z (led_among i q (held_first i d q p.fs) (held i q p.xs) in_first z h);
+      fs_at = λ z h. led g pattern argument w checked q m n f y ms p.xs before p.comes e c k z
+          (led_among i q (held_back i d q p.bs) (held i q p.xs) in_back z h);
+      bs_at = λ z h. led g pattern argument w checked q m n f y ms p.xs before p.comes e c k z
+          (led_among i q (held_first i d q p.fs) (held i q p.xs) in_first z h);
       firsts_are = sym (ap (map after_of) back_moves_are ∙ after_alike (moves_of i q (held_back i d q p.bs)));
       lasts_are = sym (ap (map after_of) first_moves_are ∙ after_alike (moves_of i q (held_first i d q p.fs)));
     }
 
     -- the first step over tokens is as wide
-    pub pass_width : (n : ℕ) (f : Bool) (y : Beginning) (ms : List Move) → moves_of i q (held i q p.xs) ≡ move n f y ∷ ms → first_width (first_moves i d q os) ≡ Some n
+    pub pass_width : (n : ℕ) (f : Bool) (y : Beginning) (ms : List Move)
+        → moves_of i q (held i q p.xs) ≡ move n f y ∷ ms → first_width (first_moves i d q os) ≡ Some n
     pass_width n f y ms e =
         let l : (ns : List Move) × (moves_of i q (held_first i d q p.fs) ≡ move n f y ∷ ns) =
-        head_some (moves_of i q (held_first i d q p.fs)) (move n f y) (same_move g pattern argument w checked q p.xs p.fs p.bs before p.comes p.ends ∙ ap head e) in
+        head_some (moves_of i q (held_first i d q p.fs)) (move n f y)
+        (same_move g pattern argument w checked q p.xs p.fs p.bs before p.comes p.ends ∙ ap head e) in
         ap first_width first_moves_are ∙ ap (λ ks. first_width (map erase_move ks)) l.1
 
-    pub pass_move : (n : ℕ) → first_width (first_moves i d q os) ≡ Some n → (f : Bool) × (y : Beginning) × (ms : List Move) × (moves_of i q (held i q p.xs) ≡ move n f y ∷ ms)
+    pub pass_move : (n : ℕ) → first_width (first_moves i d q os) ≡ Some n
+        → (f : Bool) × (y : Beginning) × (ms : List Move) × (moves_of i q (held i q p.xs) ≡ move n f y ∷ ms)
     pass_move n e =
-        let r : (f : Bool) × (y : Beginning) × (ks : List Move) × (moves_of i q (held_first i d q p.fs) ≡ move n f y ∷ ks) =
+        let r : (f : Bool) × (y : Beginning) × (ks : List Move)
+        × (moves_of i q (held_first i d q p.fs) ≡ move n f y ∷ ks) =
         width_alike n (moves_of i q (held_first i d q p.fs)) (ap first_width (sym first_moves_are) ∙ e) in
         let l : (ms : List Move) × (moves_of i q (held i q p.xs) ≡ move n r.0 r.1 ∷ ms) =
-        head_some (moves_of i q (held i q p.xs)) (move n r.0 r.1) (sym (same_move g pattern argument w checked q p.xs p.fs p.bs before p.comes p.ends) ∙ ap head r.3) in
+        head_some (moves_of i q (held i q p.xs)) (move n r.0 r.1)
+        (sym (same_move g pattern argument w checked q p.xs p.fs p.bs before p.comes p.ends) ∙ ap head r.3) in
         (r.0, r.1, l.0, l.1)
 
   -- ---- where all come, the outlines of the ends do
 
   abbrev Followed : ℕ → List Beginning → Notes → Type 0
-  Followed q xs before = (os : List Outline) × (ps : List Outline) × EndsFollow i pattern q os ps before × ((p : Pass q os ps before) × (p.xs ≡ xs))
+  Followed q xs before = (os : List Outline) × (ps : List Outline) × EndsFollow i pattern q os ps before
+      × ((p : Pass q os ps before) × (p.xs ≡ xs))
 
   pub followed : {q : ℕ} {xs : List Beginning} {before : Notes} → ComesWith i pattern q xs before → Followed q xs before
   unfolding pass_start pass_next
   followed at_start = (erase (start pattern) ∷ [], erase (start pattern) ∷ [], follow_start, (pass_start, refl))
   followed (at_next q m n f y ms xs before h e c k) = go (followed h)
     where
-      go : Followed q xs before → Followed m (reverse (targets (move n f y ∷ ms))) (noted_at i q (map erase (held i q xs)) before)
+      go : Followed q xs before → Followed m (reverse (targets (move n f y ∷ ms)))
+          (noted_at i q (map erase (held i q xs)) before)
       go (os, ps, follow, (p, same)) =
           let e' : moves_of i q (held i q p.xs) ≡ move n f y ∷ ms = ap (λ l. moves_of i q (held i q l)) same ∙ e in
           subst (λ t. Followed m (reverse (targets (move n f y ∷ ms))) t)
@@ -276,31 +309,41 @@ module _ (g : Grammar) (pattern : Ops) (argument : Forest) (w : IsLawful g) (che
 
   -- ---- where these come up to the stop, all do
 
-  pub passes : (v : Verdict) → IsVerdict g pattern argument v → {q : ℕ} {os ps : List Outline} {before : Notes} → EndsFollow i pattern q os ps before →
+  pub passes : (v : Verdict) → IsVerdict g pattern argument v → {q : ℕ} {os ps : List Outline} {before : Notes}
+      → EndsFollow i pattern q os ps before →
       q ≤ stop_of argument v → Pass q os ps before
   passes v is follow_start l = pass_start
   passes v is (follow_next q m n os ps before h e k) l = on (λ a. passes v is h a)
     where
       Next : Type 0
-      Next = Pass m (map after_of (back_moves i d q ps)) (map after_of (first_moves i d q os)) (kept_noted i pattern q os ps before)
+      Next = Pass m (map after_of (back_moves i d q ps)) (map after_of (first_moves i d q os))
+          (kept_noted i pattern q os ps before)
 
-      at : q < m → Pass q os ps before → Pass m (map after_of (back_moves i d q ps)) (map after_of (first_moves i d q os)) (kept_noted i pattern q os ps before)
+      at : q < m → Pass q os ps before → Pass m (map after_of (back_moves i d q ps))
+          (map after_of (first_moves i d q os)) (kept_noted i pattern q os ps before)
       at s p =
-          let r : (f : Bool) × (y : Beginning) × (ms : List Move) × (moves_of i q (held i q p.xs) ≡ move n f y ∷ ms) = pass_move q os ps before p n e in
+          let r : (f : Bool) × (y : Beginning) × (ms : List Move) × (moves_of i q (held i q p.xs) ≡ move n f y ∷ ms) =
+          pass_move q os ps before p n e in
           let c : clashing (moves_of i q (held i q p.xs)) ≡ false =
-          calm_moves g pattern argument w checked v is q p.xs (known g pattern argument w checked p.comes) (omega (arith, s, l)) (clashing (moves_of i q (held i q p.xs))) refl in
+          calm_moves g pattern argument w checked v is q p.xs (known g pattern argument w checked p.comes)
+          (omega (arith, s, l)) (clashing (moves_of i q (held i q p.xs))) refl in
           pass_next q os ps before p m n r.0 r.1 r.2 r.3 (ap clashing (sym r.3) ∙ c) k
 
       -- a step over tokens takes some
       some : Pass q os ps before → q < m
       some p =
-          let r : (f : Bool) × (y : Beginning) × (ms : List Move) × (moves_of i q (held i q p.xs) ≡ move n f y ∷ ms) = pass_move q os ps before p n e in
+          let r : (f : Bool) × (y : Beginning) × (ms : List Move) × (moves_of i q (held i q p.xs) ≡ move n f y ∷ ms) =
+          pass_move q os ps before p n e in
           let s : (z : Beginning) × In z (held i q p.xs) × (next i q z ≡ Some (move n r.0 r.1)) =
-          from_filter (next i q) (move n r.0 r.1) (held i q p.xs) (subst (λ t. In (move n r.0 r.1) t) (sym r.3) (inl refl)) in
-          let t : (0 < n) × (q + n ≤ flat_len argument) = next-takes i (flat_len argument) q n r.0 s.0 r.1 (lawful_input g argument w) s.2 in
+          from_filter (next i q) (move n r.0 r.1) (held i q p.xs)
+          (subst (λ t. In (move n r.0 r.1) t) (sym r.3) (inl refl)) in
+          let t : (0 < n) × (q + n ≤ flat_len argument) =
+          next-takes i (flat_len argument) q n r.0 s.0 r.1 (lawful_input g argument w) s.2 in
           let t0 = t.0 in omega (arith, t0, k)
 
-      on : (q ≤ stop_of argument v → Pass q os ps before) → Pass m (map after_of (back_moves i d q ps)) (map after_of (first_moves i d q os)) (kept_noted i pattern q os ps before)
+      on : (q ≤ stop_of argument v → Pass q os ps before)
+          → Pass m (map after_of (back_moves i d q ps)) (map after_of (first_moves i d q os))
+          (kept_noted i pattern q os ps before)
       on r = let p : Pass q os ps before = r (omega (arith, k, l)) in at (some p) p
 
 pub kept_pass : KeptPassLaw
@@ -308,8 +351,14 @@ kept_pass g pattern argument w checked v is q l notes = (there, back)
   where
     there : AreNotes (input_of g argument) pattern q notes → AreKeptNotes (input_of g argument) pattern q notes
     there (xs, before, come, e) =
-        let r = followed g pattern argument w checked come in
-        (r.0, r.1, before, r.2, e ∙ sym (pass_notes g pattern argument w checked q r.0 r.1 before r.3.0 ∙ ap (λ l. noted_at (input_of g argument) q (map erase (held (input_of g argument) q l)) before) r.3.1))
+        let r = followed g pattern argument w checked come in (
+          r.0,
+          r.1,
+          before,
+          r.2,
+          e ∙ sym (pass_notes g pattern argument w checked q r.0 r.1 before r.3.0
+              ∙ ap (λ l. noted_at (input_of g argument) q (map erase (held (input_of g argument) q l)) before) r.3.1),
+        )
 
     back : AreKeptNotes (input_of g argument) pattern q notes → AreNotes (input_of g argument) pattern q notes
     back (os, ps, before, come, e) =

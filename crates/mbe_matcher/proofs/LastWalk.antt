@@ -17,7 +17,7 @@ use Rattle.mbe_ops.specs.Views.{ops_of}
 use Rattle.mbe_matcher.specs.declared.ends.Failed.{Failed}
 use Rattle.mbe_matcher.specs.declared.ends.Left.{Left}
 use Rattle.mbe_matcher.specs.declared.ends.Visit as declared
-use Rattle.mbe_matcher.specs.declared.ends.Visit.TheVariants as told
+use Rattle.mbe_matcher.specs.declared.ends.Visit.TheVariants as variants
 use Rattle.mbe_matcher.specs.declared.position.Outer.{Outer}
 use Rattle.mbe_matcher.specs.declared.position.Position.{Position}
 use Rattle.mbe_matcher.specs.declared.position.Steps.{Steps}
@@ -37,28 +37,32 @@ use Rattle.mbe_matcher.proofs.Walking.{Walks, walks_end, walks_good, walks_drop,
 
 -- ---- in a later log
 
-both_weaker : {X Y : Type 0} (P Q : X → Y → Type 0) → ((x : X) (y : Y) → P x y → Q x y) → (x : Option X) (y : Option Y) → Both P x y → Both Q x y
+both_weaker : {X Y : Type 0} (P Q : X → Y → Type 0) → ((x : X) (y : Y) → P x y → Q x y) → (x : Option X) (y : Option Y)
+    → Both P x y → Both Q x y
 both_weaker P Q h None None b = tt
 both_weaker P Q h (Some x) (Some y) b = h x y b
 both_weaker P Q h None (Some y) b = absurd b
 both_weaker P Q h (Some x) None b = absurd b
 
-module _ {A : Type 0} (i : Input) (here : Forest) (q : ℕ) (old new : Log) (before after : List (Outer A)) (k : Keeps old new before after) where
+module _ {A : Type 0} (i : Input) (here : Forest) (q : ℕ) (old new : Log) (before after : List (Outer A))
+    (k : Keeps old new before after) where
   fails_keep : (b : Bool) (f : Option (Failed A)) (o : Outline) → FailsBy b q old f o → FailsBy b q new f o
   fails_keep b None o h = h
   fails_keep b (Some f) o h = (h.0, h.1, holds_keep old new before after k f.handle (bound_by o) h.2)
 
   leaves_keep : (l : Left A) (o : Outline) → Leaves i here q old before l o → Leaves i here q new after l o
   leaves_keep l o h = record {
-    next = both_weaker (LeadsTo old before here) (LeadsTo new after here) (λ x y m. leads_keep old new before after k here x y m) l.next (next_of i q o) h.next;
+    next = both_weaker (LeadsTo old before here) (LeadsTo new after here)
+        (λ x y m. leads_keep old new before after k here x y m) l.next (next_of i q o) h.next;
     failed = fails_keep (has_step i q o) l.failed o h.failed;
   }
 
-  pub visits_keep : (v : declared.Visit A) (u : Visit) → VisitShows i here q old before v u → VisitShows i here q new after v u
-  visits_keep (told.Enter p) (enter o) h = shows_keep old new before after k p o h
-  visits_keep (told.Leave l) (leave o) h = leaves_keep l o h
-  visits_keep (told.Enter p) (leave o) h = absurd h
-  visits_keep (told.Leave l) (enter o) h = absurd h
+  pub visits_keep : (v : declared.Visit A) (u : Visit) → VisitShows i here q old before v u
+      → VisitShows i here q new after v u
+  visits_keep (variants.Enter p) (enter o) h = shows_keep old new before after k p o h
+  visits_keep (variants.Leave l) (leave o) h = leaves_keep l o h
+  visits_keep (variants.Enter p) (leave o) h = absurd h
+  visits_keep (variants.Leave l) (enter o) h = absurd h
 
   first_keeps : (f : Option (Failed A)) (os : List Outline) → FirstFails i q old f os → FirstFails i q new f os
   first_keeps None os h = h
@@ -66,24 +70,33 @@ module _ {A : Type 0} (i : Input) (here : Forest) (q : ℕ) (old new : Log) (bef
 
 -- ---- what is entered
 
-pub enters : {A : Type 0} (i : Input) (argument : Forest) (q : ℕ) (old new : Log) (before after : List (Outer A)) (p : Position A) (s : Steps A) (o : Outline) → Shows old before p o →
-    AreSteps i argument q old new before after o s → (f : Option (Failed A)) (b : Bool) (h : Handle) → b ≡ is_step s → h ≡ p.handle →
-    ((log : Log) (r : ℕ) (u : Outline) → ops_of p.dot.now ≡ ops_left u → Holds log h (bound_by u) → FailsBy b r log f u) →
-    (todo one two three : List (declared.Visit A)) → one ≡ todo ++ told.Leave (record { next = s.next; failed = f }) ∷ [] →
+pub enters : {A : Type 0} (i : Input) (argument : Forest) (q : ℕ) (old new : Log) (before after : List (Outer A))
+    (p : Position A) (s : Steps A) (o : Outline) → Shows old before p o →
+    AreSteps i argument q old new before after o s → (f : Option (Failed A)) (b : Bool) (h : Handle) → b ≡ is_step s
+    → h ≡ p.handle →
+    ((log : Log) (r : ℕ) (u : Outline) → ops_of p.dot.now ≡ ops_left u → Holds log h (bound_by u) → FailsBy b r log f u)
+    →
+    (todo one two three : List (declared.Visit A))
+    → one ≡ todo ++ variants.Leave (record { next = s.next; failed = f }) ∷ [] →
     two ≡ one ++ map to_enter (option_to_list s.first) → three ≡ two ++ map to_enter (option_to_list s.second) →
     Enters i (rest_at argument q) q old new before after o todo three
 enters {A} i argument q old new before after p s o shows st f b h e same fails todo one two three c d k = record {
   left = left;
   steps = option_to_list s.first ++ option_to_list s.second;
-  are = k ∙ ap (λ l. l ++ map to_enter (option_to_list s.second)) (d ∙ ap (λ l. l ++ map to_enter (option_to_list s.first)) c)
-      ∙ append_assoc (todo ++ told.Leave left ∷ []) (map to_enter (option_to_list s.first)) (map to_enter (option_to_list s.second))
-      ∙ append_assoc todo (told.Leave left ∷ []) (map to_enter (option_to_list s.first) ++ map to_enter (option_to_list s.second))
-      ∙ ap (λ l. todo ++ told.Leave left ∷ l) (sym (map-append to_enter (option_to_list s.first) (option_to_list s.second)));
+  are = k ∙ ap (λ l. l ++ map to_enter (option_to_list s.second))
+      (d ∙ ap (λ l. l ++ map to_enter (option_to_list s.first)) c)
+      ∙ append_assoc (todo ++ variants.Leave left ∷ []) (map to_enter (option_to_list s.first))
+      (map to_enter (option_to_list s.second))
+      ∙ append_assoc todo (variants.Leave left ∷ [])
+      (map to_enter (option_to_list s.first) ++ map to_enter (option_to_list s.second))
+      ∙ ap (λ l. todo ++ variants.Leave left ∷ l)
+      (sym (map-append to_enter (option_to_list s.first) (option_to_list s.second)));
   shown = st.now.idle;
   leaves = record {
     next = st.now.next;
     failed = subst (λ x. FailsBy x q new f o) (e ∙ step_same i argument q new after o s st.now)
-        (fails new q o (shown_ops old before p o shows) (subst (λ x. Holds new x (bound_by o)) (sym same) (shown_bound old new before p o st.kept.log shows)));
+        (fails new q o (shown_ops old before p o shows)
+        (subst (λ x. Holds new x (bound_by o)) (sym same) (shown_bound old new before p o st.kept.log shows)));
   };
   kept = st.kept;
 }
@@ -108,11 +121,13 @@ some_misfit (Some m) e = (m, refl)
 
 module _ (i : Input) (q : ℕ) (os : List Outline) (o : Outline) where
   more : filter_map (misfit i q) (os ++ o ∷ []) ≡ filter_map (misfit i q) os ++ option_to_list (misfit i q o)
-  more = filter_map-append (misfit i q) os (o ∷ []) ∙ ap (λ l. filter_map (misfit i q) os ++ l) (one_step (misfit i q) o)
+  more = filter_map-append (misfit i q) os (o ∷ [])
+      ∙ ap (λ l. filter_map (misfit i q) os ++ l) (one_step (misfit i q) o)
 
 module _ {A : Type 0} (i : Input) (q : ℕ) (log : Log) (os : List Outline) (o : Outline) where
   -- the first that fails may be this one
-  pub fails_next : (f : Option (Failed A)) → FirstFails {A = A} i q log None os → FailsBy (has_step i q o) q log f o → FirstFails i q log f (os ++ o ∷ [])
+  pub fails_next : (f : Option (Failed A)) → FirstFails {A = A} i q log None os → FailsBy (has_step i q o) q log f o
+      → FirstFails i q log f (os ++ o ∷ [])
   fails_next None h e = more i q os o ∙ ap (λ l. l ++ option_to_list (misfit i q o)) h ∙ ap option_to_list e
   fails_next (Some f) h e =
       let r : (m : Misfit) × (misfit i q o ≡ Some m) = some_misfit (misfit i q o) e.0 in (
@@ -126,17 +141,29 @@ module _ {A : Type 0} (i : Input) (q : ℕ) (log : Log) (os : List Outline) (o :
 
   -- or it was another
   pub fails_still : (f : Failed A) → FirstFails i q log (Some f) os → FirstFails i q log (Some f) (os ++ o ∷ [])
-  fails_still f h = (h.0, h.1, h.2, h.3, h.4, ap only_first (more i q os o) ∙ only_first_append (filter_map (misfit i q) os) (option_to_list (misfit i q o)) h.1 h.5)
+  fails_still f h = (
+    h.0,
+    h.1,
+    h.2,
+    h.3,
+    h.4,
+    ap only_first (more i q os o)
+        ∙ only_first_append (filter_map (misfit i q) os) (option_to_list (misfit i q o)) h.1 h.5,
+  )
 
 -- it is looked at after the place's first ones
-pub look_last : {A : Type 0} (i : Input) (q : ℕ) (log : Log) (os : List Outline) (fails : Failed A) (f : Forest) (old new : Report A) (ms : List Misfit) (before : Notes) →
-    FirstFails i q log (Some fails) os → ((l : Log) (x : Outline) (ks : List Misfit) (n : Notes) → ops_of fails.dot.now ≡ ops_left x → Holds l fails.handle (bound_by x) →
+pub look_last : {A : Type 0} (i : Input) (q : ℕ) (log : Log) (os : List Outline) (fails : Failed A) (f : Forest)
+    (old new : Report A) (ms : List Misfit) (before : Notes) →
+    FirstFails i q log (Some fails) os → ((l : Log) (x : Outline) (ks : List Misfit) (n : Notes)
+    → ops_of fails.dot.now ≡ ops_left x → Holds l fails.handle (bound_by x) →
     IsReportOf l f old ks n → IsReportOf l f new (ks ++ option_to_list (misfit_unless false q x)) n) →
     IsReportOf log f old ms before → IsReportOf log f new (ms ++ only_first (filter_map (misfit i q) os)) before
 look_last i q log os fails f old new ms before (o, m, e, ops, holds, only) looked is =
-    subst (λ l. IsReportOf log f new (ms ++ l) before) (ap option_to_list (misfit_fails (has_step i q o) q o m e) ∙ sym only) (looked log o ms before ops holds is)
+    subst (λ l. IsReportOf log f new (ms ++ l) before)
+    (ap option_to_list (misfit_fails (has_step i q o) q o m e) ∙ sym only) (looked log o ms before ops holds is)
 
-pub look_none : {A : Type 0} (i : Input) (q : ℕ) (log : Log) (os : List Outline) (f : Forest) (r : Report A) (ms : List Misfit) (before : Notes) → FirstFails {A = A} i q log None os →
+pub look_none : {A : Type 0} (i : Input) (q : ℕ) (log : Log) (os : List Outline) (f : Forest) (r : Report A)
+    (ms : List Misfit) (before : Notes) → FirstFails {A = A} i q log None os →
     IsReportOf log f r ms before → IsReportOf log f r (ms ++ only_first (filter_map (misfit i q) os)) before
 look_none i q log os f r ms before none is =
     subst (λ l. IsReportOf log f r l before) (sym (append-nil ms) ∙ ap (λ l. ms ++ only_first l) (sym none)) is
@@ -144,7 +171,8 @@ look_none i q log os f r ms before none is =
 -- ---- what the loop keeps
 
 -- The visits that are done so far are `out`, and those of the stack are left.
-pub record LastWalked {A : Type 0} (i : Input) (pattern : Ops) (q : ℕ) (all : List Visit) (met : List ℕ) (log : Log) (outers : List (Outer A)) (here : Forest)
+pub record LastWalked {A : Type 0} (i : Input) (pattern : Ops) (q : ℕ) (all : List Visit) (met : List ℕ) (log : Log)
+    (outers : List (Outer A)) (here : Forest)
     (todo : List (declared.Visit A)) (ws : List (Waiting A)) (failed : Option (Failed A)) : Type 0 where
   pub seen : List ℕ
   pub stack : List Visit
@@ -159,8 +187,11 @@ pub record LastWalked {A : Type 0} (i : Input) (pattern : Ops) (q : ℕ) (all : 
 abbrev pub AreVisits : Input → Ops → ℕ → List Outline → List Visit → Type 0
 AreVisits i pattern q os all = left_of all ≡ kept_back i (dots pattern) q os
 
-pub last_start : {A : Type 0} (i : Input) (here : Forest) (q size : ℕ) (log : Log) (outers : List (Outer A)) (todo : List (declared.Visit A)) (ws : List (Waiting A))
-    (s : IsLastStack i here q size log outers todo) → ws ≡ [] → (all : List Visit) × AreVisits i s.pattern q s.outlines all × LastWalked i s.pattern q all [] log outers here todo ws None
+pub last_start : {A : Type 0} (i : Input) (here : Forest) (q size : ℕ) (log : Log) (outers : List (Outer A))
+    (todo : List (declared.Visit A)) (ws : List (Waiting A))
+    (s : IsLastStack i here q size log outers todo) → ws ≡ []
+    → (all : List Visit) × AreVisits i s.pattern q s.outlines all
+    × LastWalked i s.pattern q all [] log outers here todo ws None
 last_start i here q size log outers todo ws s e =
     let r = backward_start i s.pattern q s.outlines s.are_here in (
       r.0,
@@ -169,7 +200,8 @@ last_start i here q size log outers todo ws s e =
         seen = [];
         stack = reverse (map enter s.outlines);
         out = [];
-        walks = subst (λ l. Walks (backward i s.pattern q) r.0 l [] []) (sym (reverse-reverse (map enter s.outlines))) r.2;
+        walks = subst (λ l. Walks (backward i s.pattern q) r.0 l [] []) (sym (reverse-reverse (map enter s.outlines)))
+            r.2;
         entered = subst (Entered [] []) (sym (reverse-reverse (map enter s.outlines))) (entered_start s.outlines);
         shown = s.shown;
         goes_on = subst (λ l. Each (LeadsTo log outers here) l []) (sym e) tt;
@@ -177,13 +209,17 @@ last_start i here q size log outers todo ws s e =
       },
     )
 
-module _ {A : Type 0} (i : Input) (pattern : Ops) (here : Forest) (q : ℕ) (all : List Visit) (met : List ℕ) (log : Log) (outers : List (Outer A))
+module _ {A : Type 0} (i : Input) (pattern : Ops) (here : Forest) (q : ℕ) (all : List Visit) (met : List ℕ) (log : Log)
+    (outers : List (Outer A))
     (rest todo : List (declared.Visit A)) (ws : List (Waiting A)) (failed : Option (Failed A)) where
-  module _ (p : Position A) (top : todo ≡ rest ++ told.Enter p ∷ []) (w : LastWalked i pattern q all met log outers here todo ws failed) where
-    popped : Last (VisitShows i here q log outers) rest (told.Enter p) w.stack
-    popped = last_of (VisitShows i here q log outers) rest (told.Enter p) w.stack (subst (λ l. Each (VisitShows i here q log outers) l w.stack) top w.shown)
+  module _ (p : Position A) (top : todo ≡ rest ++ variants.Enter p ∷ [])
+      (w : LastWalked i pattern q all met log outers here todo ws failed) where
+    popped : Last (VisitShows i here q log outers) rest (variants.Enter p) w.stack
+    popped = last_of (VisitShows i here q log outers) rest (variants.Enter p) w.stack
+        (subst (λ l. Each (VisitShows i here q log outers) l w.stack) top w.shown)
 
-    is_enter : (v : Visit) → VisitShows i here q log outers (told.Enter p) v → (o : Outline) × (v ≡ enter o) × Shows log outers p o
+    is_enter : (v : Visit) → VisitShows i here q log outers (variants.Enter p) v
+        → (o : Outline) × (v ≡ enter o) × Shows log outers p o
     is_enter (enter o) h = (o, refl, h)
     is_enter (leave o) h = absurd h
 
@@ -194,7 +230,8 @@ module _ {A : Type 0} (i : Input) (pattern : Ops) (here : Forest) (q : ℕ) (all
     last_shown = (entering.0, entering.2)
 
     stack_is : reverse w.stack ≡ enter entering.0 ∷ reverse popped.front
-    stack_is = ap reverse popped.is ∙ reverse-append popped.front (popped.last ∷ []) ∙ ap (λ v. v ∷ reverse popped.front) entering.1
+    stack_is = ap reverse popped.is ∙ reverse-append popped.front (popped.last ∷ [])
+        ∙ ap (λ v. v ∷ reverse popped.front) entering.1
 
     walks : Walks (backward i pattern q) all (enter entering.0 ∷ reverse popped.front) w.seen w.out
     walks = subst (λ l. Walks (backward i pattern q) all l w.seen w.out) stack_is w.walks
@@ -208,18 +245,23 @@ module _ {A : Type 0} (i : Input) (pattern : Ops) (here : Forest) (q : ℕ) (all
     pub last_number : (0 < p.number) × (p.number ≤ dots pattern)
     unfolding GoodVisit
     last_number = subst (λ n. (0 < n) × (n ≤ dots pattern)) (sym number)
-        (here_number i pattern q entering.0 (walks_good (backward i pattern q) all w.seen w.out (enter entering.0) (reverse popped.front) walks))
+        (here_number i pattern q entering.0 (walks_good (backward i pattern q) all w.seen w.out (enter entering.0)
+        (reverse popped.front) walks))
 
     -- met before
-    pub last_drop : nat_lt (times p.number met) 1 ≡ false → LastWalked i pattern q all met log outers here rest ws failed
+    pub last_drop : nat_lt (times p.number met) 1 ≡ false
+        → LastWalked i pattern q all met log outers here rest ws failed
     last_drop few =
-        let a : 1 ≤ times (outline_number entering.0) met = subst (λ n. 1 ≤ times n met) number (ltb-false (times p.number met) 1 few) in
-        let b : times (outline_number entering.0 + outline_number entering.0) w.seen ≡ times (outline_number entering.0) met = entered.once (outline_number entering.0) in
+        let a : 1 ≤ times (outline_number entering.0) met =
+        subst (λ n. 1 ≤ times n met) number (ltb-false (times p.number met) 1 few) in
+        let b : times (outline_number entering.0 + outline_number entering.0) w.seen
+        ≡ times (outline_number entering.0) met = entered.once (outline_number entering.0) in
         record {
           seen = w.seen;
           stack = popped.front;
           out = w.out;
-          walks = walks_drop (backward i pattern q) all w.seen w.out (enter entering.0) (reverse popped.front) walks (omega (arith, a, b));
+          walks = walks_drop (backward i pattern q) all w.seen w.out (enter entering.0) (reverse popped.front) walks
+              (omega (arith, a, b));
           entered = entered_drop i q w.seen met entering.0 (reverse popped.front) entered;
           shown = popped.fronts;
           goes_on = w.goes_on;
@@ -227,20 +269,24 @@ module _ {A : Type 0} (i : Input) (pattern : Ops) (here : Forest) (q : ℕ) (all
         }
 
     -- else it is entered
-    module _ (new : Log) (after : List (Outer A)) (todo' : List (declared.Visit A)) (gives : (o : Outline) → Shows log outers p o → Enters i here q log new outers after o rest todo') where
+    module _ (new : Log) (after : List (Outer A)) (todo' : List (declared.Visit A))
+        (gives : (o : Outline) → Shows log outers p o → Enters i here q log new outers after o rest todo') where
       e : Enters i here q log new outers after entering.0 rest todo'
       e = gives entering.0 entering.2
 
-      each_entered : (ps : List (Position A)) (os : List Outline) → Each (Shows new after) ps os → Each (VisitShows i here q new after) (map to_enter ps) (map enter os)
+      each_entered : (ps : List (Position A)) (os : List Outline) → Each (Shows new after) ps os
+          → Each (VisitShows i here q new after) (map to_enter ps) (map enter os)
       each_entered [] [] h = tt
       each_entered [] (o ∷ os) h = absurd h
       each_entered (x ∷ ps) [] h = absurd h
       each_entered (x ∷ ps) (o ∷ os) h = (h.0, each_entered ps os h.1)
 
-      turned : visits_of i q (enter entering.0) ++ reverse popped.front ≡ reverse (popped.front ++ leave entering.0 ∷ map enter (idle_of i q entering.0))
+      turned : visits_of i q (enter entering.0) ++ reverse popped.front
+          ≡ reverse (popped.front ++ leave entering.0 ∷ map enter (idle_of i q entering.0))
       turned =
           ap (λ l. (l ++ leave entering.0 ∷ []) ++ reverse popped.front) (map_reverse enter (idle_of i q entering.0))
-          ∙ ap (λ l. l ++ reverse popped.front) (sym (reverse-append (leave entering.0 ∷ []) (map enter (idle_of i q entering.0))))
+          ∙ ap (λ l. l ++ reverse popped.front)
+          (sym (reverse-append (leave entering.0 ∷ []) (map enter (idle_of i q entering.0))))
           ∙ sym (reverse-append popped.front (leave entering.0 ∷ map enter (idle_of i q entering.0)))
 
       same_left : left_of (w.out ++ enter entering.0 ∷ []) ≡ left_of w.out
@@ -251,39 +297,58 @@ module _ {A : Type 0} (i : Input) (pattern : Ops) (here : Forest) (q : ℕ) (all
       unfolding GoodVisit
       last_few =
           let o = entering.0 in
-          let a : length todo' ≡ length rest + length (told.Leave e.left ∷ map to_enter e.steps) = ap length e.are ∙ length-append rest (told.Leave e.left ∷ map to_enter e.steps) in
+          let a : length todo' ≡ length rest + length (variants.Leave e.left ∷ map to_enter e.steps) =
+          ap length e.are ∙ length-append rest (variants.Leave e.left ∷ map to_enter e.steps) in
           let b : length (map to_enter e.steps) ≡ length e.steps = length-map e.steps to_enter in
-          let c : length e.steps ≡ length (idle_of i q o) = each_length (Shows new after) e.steps (idle_of i q o) e.shown in
-          let d : length (idle_of i q o) ≤ 2 = here_few i pattern q o (walks_good (backward i pattern q) all w.seen w.out (enter o) (reverse popped.front) walks) in
+          let c : length e.steps ≡ length (idle_of i q o) =
+          each_length (Shows new after) e.steps (idle_of i q o) e.shown in
+          let d : length (idle_of i q o) ≤ 2 =
+          here_few i pattern q o (walks_good (backward i pattern q) all w.seen w.out (enter o)
+          (reverse popped.front) walks) in
           omega (arith, a, b, c, d)
 
-      pub last_take : nat_lt (times p.number met) 1 ≡ true → LastWalked i pattern q all (p.number ∷ met) new after here todo' ws failed
+      pub last_take : nat_lt (times p.number met) 1 ≡ true
+          → LastWalked i pattern q all (p.number ∷ met) new after here todo' ws failed
       last_take few =
-          let a : times (outline_number entering.0) met < 1 = subst (λ n. times n met < 1) number (ltb-true (times p.number met) 1 few) in
-          let b : times (outline_number entering.0 + outline_number entering.0) w.seen ≡ times (outline_number entering.0) met = entered.once (outline_number entering.0) in
+          let a : times (outline_number entering.0) met < 1 =
+          subst (λ n. times n met < 1) number (ltb-true (times p.number met) 1 few) in
+          let b : times (outline_number entering.0 + outline_number entering.0) w.seen
+          ≡ times (outline_number entering.0) met = entered.once (outline_number entering.0) in
           record {
             seen = key_of (enter entering.0) ∷ w.seen;
             stack = popped.front ++ leave entering.0 ∷ map enter (idle_of i q entering.0);
             out = w.out ++ enter entering.0 ∷ [];
-            walks = subst (λ l. Walks (backward i pattern q) all l (key_of (enter entering.0) ∷ w.seen) (w.out ++ enter entering.0 ∷ [])) turned
-                (walks_take (backward i pattern q) all w.seen w.out (enter entering.0) (reverse popped.front) walks (omega (arith, a, b)));
-            entered = subst (λ n. Entered (key_of (enter entering.0) ∷ w.seen) (n ∷ met) (reverse (popped.front ++ leave entering.0 ∷ map enter (idle_of i q entering.0)))) (sym number)
+            walks = subst (λ l. Walks (backward i pattern q) all l (key_of (enter entering.0) ∷ w.seen)
+                (w.out ++ enter entering.0 ∷ [])) turned
+                (walks_take (backward i pattern q) all w.seen w.out (enter entering.0) (reverse popped.front) walks
+                (omega (arith, a, b)));
+            entered = subst (λ n. Entered (key_of (enter entering.0) ∷ w.seen) (n ∷ met)
+                (reverse (popped.front ++ leave entering.0 ∷ map enter (idle_of i q entering.0)))) (sym number)
                 (subst (Entered (key_of (enter entering.0) ∷ w.seen) (outline_number entering.0 ∷ met)) turned
                 (entered_take i q w.seen met entering.0 (reverse popped.front) entered (omega (arith, a))));
-            shown = subst (λ l. Each (VisitShows i here q new after) l (popped.front ++ leave entering.0 ∷ map enter (idle_of i q entering.0))) (sym e.are)
-                (each_append (VisitShows i here q new after) rest (told.Leave e.left ∷ map to_enter e.steps) popped.front (leave entering.0 ∷ map enter (idle_of i q entering.0))
-                (each_weaker (VisitShows i here q log outers) (VisitShows i here q new after) (visits_keep i here q log new outers after e.kept) rest popped.front popped.fronts)
+            shown = subst (λ l. Each (VisitShows i here q new after) l
+                (popped.front ++ leave entering.0 ∷ map enter (idle_of i q entering.0))) (sym e.are)
+                (each_append (VisitShows i here q new after) rest (variants.Leave e.left ∷ map to_enter e.steps)
+                popped.front (leave entering.0 ∷ map enter (idle_of i q entering.0))
+                (each_weaker (VisitShows i here q log outers) (VisitShows i here q new after)
+                (visits_keep i here q log new outers after e.kept) rest popped.front popped.fronts)
                 (e.leaves, each_entered e.steps (idle_of i q entering.0) e.shown));
             goes_on = subst (λ l. Each (LeadsTo new after here) ws (filter_map (next_of i q) l)) (sym same_left)
-                (each_weaker (LeadsTo log outers here) (LeadsTo new after here) (λ x y h. leads_keep log new outers after e.kept here x y h) ws (filter_map (next_of i q) (left_of w.out)) w.goes_on);
-            fails = subst (FirstFails i q new failed) (sym same_left) (first_keeps i here q log new outers after e.kept failed (left_of w.out) w.fails);
+                (each_weaker (LeadsTo log outers here) (LeadsTo new after here)
+                (λ x y h. leads_keep log new outers after e.kept here x y h) ws
+                (filter_map (next_of i q) (left_of w.out)) w.goes_on);
+            fails = subst (FirstFails i q new failed) (sym same_left)
+                (first_keeps i here q log new outers after e.kept failed (left_of w.out) w.fails);
           }
 
-  module _ (l : Left A) (top : todo ≡ rest ++ told.Leave l ∷ []) (w : LastWalked i pattern q all met log outers here todo ws failed) where
-    popped_left : Last (VisitShows i here q log outers) rest (told.Leave l) w.stack
-    popped_left = last_of (VisitShows i here q log outers) rest (told.Leave l) w.stack (subst (λ t. Each (VisitShows i here q log outers) t w.stack) top w.shown)
+  module _ (l : Left A) (top : todo ≡ rest ++ variants.Leave l ∷ [])
+      (w : LastWalked i pattern q all met log outers here todo ws failed) where
+    popped_left : Last (VisitShows i here q log outers) rest (variants.Leave l) w.stack
+    popped_left = last_of (VisitShows i here q log outers) rest (variants.Leave l) w.stack
+        (subst (λ t. Each (VisitShows i here q log outers) t w.stack) top w.shown)
 
-    is_leave : (v : Visit) → VisitShows i here q log outers (told.Leave l) v → (o : Outline) × (v ≡ leave o) × Leaves i here q log outers l o
+    is_leave : (v : Visit) → VisitShows i here q log outers (variants.Leave l) v
+        → (o : Outline) × (v ≡ leave o) × Leaves i here q log outers l o
     is_leave (enter o) h = absurd h
     is_leave (leave o) h = (o, refl, h)
 
@@ -291,7 +356,8 @@ module _ {A : Type 0} (i : Input) (pattern : Ops) (here : Forest) (q : ℕ) (all
     leaving = is_leave popped_left.last popped_left.lasts
 
     left_is : reverse w.stack ≡ leave leaving.0 ∷ reverse popped_left.front
-    left_is = ap reverse popped_left.is ∙ reverse-append popped_left.front (popped_left.last ∷ []) ∙ ap (λ v. v ∷ reverse popped_left.front) leaving.1
+    left_is = ap reverse popped_left.is ∙ reverse-append popped_left.front (popped_left.last ∷ [])
+        ∙ ap (λ v. v ∷ reverse popped_left.front) leaving.1
 
     walks_left : Walks (backward i pattern q) all (leave leaving.0 ∷ reverse popped_left.front) w.seen w.out
     walks_left = subst (λ t. Walks (backward i pattern q) all t w.seen w.out) left_is w.walks
@@ -303,50 +369,67 @@ module _ {A : Type 0} (i : Input) (pattern : Ops) (here : Forest) (q : ℕ) (all
     one_more = left_append w.out (leave leaving.0 ∷ [])
 
     -- what fails first, after this one
-    next_fails : (f : Option (Failed A)) → ((failed ≡ None) × (f ≡ l.failed)) → FirstFails i q log f (left_of w.out ++ leaving.0 ∷ [])
+    next_fails : (f : Option (Failed A)) → ((failed ≡ None) × (f ≡ l.failed))
+        → FirstFails i q log f (left_of w.out ++ leaving.0 ∷ [])
     next_fails f (n, e) = subst (λ x. FirstFails i q log x (left_of w.out ++ leaving.0 ∷ [])) (sym e)
-        (fails_next i q log (left_of w.out) leaving.0 l.failed (subst (λ x. FirstFails i q log x (left_of w.out)) n w.fails) leaving.2.failed)
+        (fails_next i q log (left_of w.out) leaving.0 l.failed
+        (subst (λ x. FirstFails i q log x (left_of w.out)) n w.fails) leaving.2.failed)
 
-    still_fails : (f : Option (Failed A)) → is_some failed ≡ true → f ≡ failed → FirstFails i q log f (left_of w.out ++ leaving.0 ∷ [])
-    still_fails f s e = subst (λ x. FirstFails i q log x (left_of w.out ++ leaving.0 ∷ [])) (sym e) (go failed s w.fails)
+    still_fails : (f : Option (Failed A)) → is_some failed ≡ true → f ≡ failed
+        → FirstFails i q log f (left_of w.out ++ leaving.0 ∷ [])
+    still_fails f s e = subst (λ x. FirstFails i q log x (left_of w.out ++ leaving.0 ∷ [])) (sym e)
+        (go failed s w.fails)
       where
-        go : (x : Option (Failed A)) → is_some x ≡ true → FirstFails i q log x (left_of w.out) → FirstFails i q log x (left_of w.out ++ leaving.0 ∷ [])
+        go : (x : Option (Failed A)) → is_some x ≡ true → FirstFails i q log x (left_of w.out)
+            → FirstFails i q log x (left_of w.out ++ leaving.0 ∷ [])
         go None n h = cc
         go (Some x) n h = fails_still i q log (left_of w.out) leaving.0 x h
 
-    left_on : (ws' : List (Waiting A)) (f : Option (Failed A)) → ws' ≡ ws ++ option_to_list l.next → FirstFails i q log f (left_of w.out ++ leaving.0 ∷ []) →
+    left_on : (ws' : List (Waiting A)) (f : Option (Failed A)) → ws' ≡ ws ++ option_to_list l.next
+        → FirstFails i q log f (left_of w.out ++ leaving.0 ∷ []) →
         LastWalked i pattern q all met log outers here rest ws' f
     left_on ws' f waits h = record {
       seen = key_of (leave leaving.0) ∷ w.seen;
       stack = popped_left.front;
       out = w.out ++ leave leaving.0 ∷ [];
-      walks = walks_take (backward i pattern q) all w.seen w.out (leave leaving.0) (reverse popped_left.front) walks_left
+      walks = walks_take (backward i pattern q) all w.seen w.out (leave leaving.0) (reverse popped_left.front)
+          walks_left
           (leaves_now i q w.seen met leaving.0 (reverse popped_left.front) entered_left);
       entered = entered_leave i q w.seen met leaving.0 (reverse popped_left.front) entered_left;
       shown = popped_left.fronts;
-      goes_on = subst (λ t. Each (LeadsTo log outers here) t (filter_map (next_of i q) (left_of (w.out ++ leave leaving.0 ∷ [])))) (sym waits)
+      goes_on = subst (λ t. Each (LeadsTo log outers here) t
+          (filter_map (next_of i q) (left_of (w.out ++ leave leaving.0 ∷ [])))) (sym waits)
           (subst (Each (LeadsTo log outers here) (ws ++ option_to_list l.next))
-          (sym (ap (filter_map (next_of i q)) one_more ∙ filter_map-append (next_of i q) (left_of w.out) (leaving.0 ∷ [])
+          (sym (ap (filter_map (next_of i q)) one_more
+          ∙ filter_map-append (next_of i q) (left_of w.out) (leaving.0 ∷ [])
           ∙ ap (λ t. filter_map (next_of i q) (left_of w.out) ++ t) (one_step (next_of i q) leaving.0)))
-          (each_append (LeadsTo log outers here) ws (option_to_list l.next) (filter_map (next_of i q) (left_of w.out)) (option_to_list (next_of i q leaving.0))
+          (each_append (LeadsTo log outers here) ws (option_to_list l.next) (filter_map (next_of i q) (left_of w.out))
+          (option_to_list (next_of i q leaving.0))
           w.goes_on (both_each (LeadsTo log outers here) l.next (next_of i q leaving.0) leaving.2.next)));
       fails = subst (FirstFails i q log f) (sym one_more) h;
     }
 
-    pub last_leave : (ws' : List (Waiting A)) (f : Option (Failed A)) → ws' ≡ ws ++ option_to_list l.next → f ≡ option_or failed l.failed → LastWalked i pattern q all met log outers here rest ws' f
+    pub last_leave : (ws' : List (Waiting A)) (f : Option (Failed A)) → ws' ≡ ws ++ option_to_list l.next
+        → f ≡ option_or failed l.failed → LastWalked i pattern q all met log outers here rest ws' f
     last_leave ws' f waits e = left_on ws' f waits (go failed refl e)
       where
-        go : (x : Option (Failed A)) → failed ≡ x → f ≡ option_or x l.failed → FirstFails i q log f (left_of w.out ++ leaving.0 ∷ [])
+        go : (x : Option (Failed A)) → failed ≡ x → f ≡ option_or x l.failed
+            → FirstFails i q log f (left_of w.out ++ leaving.0 ∷ [])
         go None n e = next_fails f (n, e)
         go (Some x) n e = still_fails f (ap is_some n) (e ∙ sym n)
 
-pub last_end : {A : Type 0} (i : Input) (pattern : Ops) (q : ℕ) (os : List Outline) (all : List Visit) (met : List ℕ) (log : Log) (outers : List (Outer A)) (here : Forest)
-    (todo : List (declared.Visit A)) (ws : List (Waiting A)) (failed : Option (Failed A)) → todo ≡ [] → AreVisits i pattern q os all →
+pub last_end : {A : Type 0} (i : Input) (pattern : Ops) (q : ℕ) (os : List Outline) (all : List Visit) (met : List ℕ)
+    (log : Log) (outers : List (Outer A)) (here : Forest)
+    (todo : List (declared.Visit A)) (ws : List (Waiting A)) (failed : Option (Failed A)) → todo ≡ []
+    → AreVisits i pattern q os all →
     LastWalked i pattern q all met log outers here todo ws failed → AreLasts i q pattern os log outers here ws failed
 last_end i pattern q os all met log outers here todo ws failed e is w =
-    let none : w.stack ≡ [] = each_none (VisitShows i here q log outers) w.stack (subst (λ l. Each (VisitShows i here q log outers) l w.stack) e w.shown) in
-    let done : w.out ≡ all = walks_end (backward i pattern q) all w.seen w.out (subst (λ l. Walks (backward i pattern q) all (reverse l) w.seen w.out) none w.walks) in
+    let none : w.stack ≡ [] = each_none (VisitShows i here q log outers) w.stack
+    (subst (λ l. Each (VisitShows i here q log outers) l w.stack) e w.shown) in
+    let done : w.out ≡ all = walks_end (backward i pattern q) all w.seen w.out
+    (subst (λ l. Walks (backward i pattern q) all (reverse l) w.seen w.out) none w.walks) in
     record {
-      goes_on = subst (λ l. Each (LeadsTo log outers here) ws (filter_map (next_of i q) l)) (ap left_of done ∙ is) w.goes_on;
+      goes_on = subst (λ l. Each (LeadsTo log outers here) ws (filter_map (next_of i q) l)) (ap left_of done ∙ is)
+          w.goes_on;
       fails = subst (FirstFails i q log failed) (ap left_of done ∙ is) w.fails;
     }

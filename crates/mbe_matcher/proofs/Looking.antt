@@ -31,11 +31,13 @@ abbrev pub waits : {A : Type 0} → Option (Waiting A) → Option Step
 waits w = option_map (λ x. record { width = x.width; by_fragment = is_some x.beyond }) w
 
 pub waits_same : {A : Type 0} (r : Option (Bor (Waiting A))) (w : Option (Waiting A)) → option_copied r ≡ w →
-    option_map (λ x. (let s : Step = record { width = x.now.width; by_fragment = is_some x.now.beyond } in s)) r ≡ waits w
+    option_map (λ x. (let s : Step = record { width = x.now.width; by_fragment = is_some x.now.beyond } in s)) r
+    ≡ waits w
 waits_same None w e = ap waits e
 waits_same (Some x) w e = ap waits e
 
-same_step : {A : Type 0} (log : Log) (outers : List (Outer A)) (here : Forest) (w : Option (Waiting A)) (a : Option Advance) → Both (LeadsTo log outers here) w a → waits w ≡ step_of_advance a
+same_step : {A : Type 0} (log : Log) (outers : List (Outer A)) (here : Forest) (w : Option (Waiting A))
+    (a : Option Advance) → Both (LeadsTo log outers here) w a → waits w ≡ step_of_advance a
 same_step log outers here None None b = refl
 same_step log outers here (Some w) None b = absurd b
 same_step log outers here None (Some a) b = absurd b
@@ -44,7 +46,8 @@ same_step log outers here (Some w) (Some (advance n f o)) b =
     ∙ ap (λ g. Some (let s : Step = record { width = n; by_fragment = g } in s)) b.fragment_is
 
 -- The outlines that are looked at so far are `out`, and those of the stack are left.
-pub record Looking {A : Type 0} (i : Input) (pattern : Ops) (q : ℕ) (all : List Outline) (met : List ℕ) (log : Log) (outers : List (Outer A))
+pub record Looking {A : Type 0} (i : Input) (pattern : Ops) (q : ℕ) (all : List Outline) (met : List ℕ) (log : Log)
+    (outers : List (Outer A))
     (todo : List (Position A)) (ways : List (Way A)) : Type 0 where
   pub stack : List Outline
   pub out : List Outline
@@ -52,8 +55,10 @@ pub record Looking {A : Type 0} (i : Input) (pattern : Ops) (q : ℕ) (all : Lis
   pub shown : Each (Shows log outers) todo stack
   pub looked : map way_seen ways ≡ map (outline_way i q) out
 
-pub looking_start : {A : Type 0} (i : Input) (q size : ℕ) (log : Log) (outers : List (Outer A)) (todo : List (Position A)) (ways : List (Way A))
-    (s : IsStack i q size log outers todo) → ways ≡ [] → Looking i s.pattern q (kept i (dots s.pattern) q (reverse s.spots)) [] log outers todo ways
+pub looking_start : {A : Type 0} (i : Input) (q size : ℕ) (log : Log) (outers : List (Outer A))
+    (todo : List (Position A)) (ways : List (Way A))
+    (s : IsStack i q size log outers todo) → ways ≡ []
+    → Looking i s.pattern q (kept i (dots s.pattern) q (reverse s.spots)) [] log outers todo ways
 looking_start i q size log outers todo ways s e = record {
   stack = s.spots;
   out = [];
@@ -62,7 +67,8 @@ looking_start i q size log outers todo ways s e = record {
   looked = ap (map way_seen) e;
 }
 
-module _ {A : Type 0} (i : Input) (pattern : Ops) (argument : Forest) (q : ℕ) (all : List Outline) (met : List ℕ) (log : Log) (outers : List (Outer A))
+module _ {A : Type 0} (i : Input) (pattern : Ops) (argument : Forest) (q : ℕ) (all : List Outline) (met : List ℕ)
+    (log : Log) (outers : List (Outer A))
     (rest todo : List (Position A)) (p : Position A) (ways : List (Way A)) (top : todo ≡ rest ++ p ∷ [])
     (w : Looking i pattern q all met log outers todo ways) where
   popped : Last (Shows log outers) rest p w.stack
@@ -79,7 +85,8 @@ module _ {A : Type 0} (i : Input) (pattern : Ops) (argument : Forest) (q : ℕ) 
 
   -- the number of the position is that of a dot
   pub looking_number : (0 < p.number) × (p.number ≤ dots pattern)
-  looking_number = subst (λ n. (0 < n) × (n ≤ dots pattern)) (sym number) (turned_number i pattern q all met w.out popped.last popped.front keeps)
+  looking_number = subst (λ n. (0 < n) × (n ≤ dots pattern)) (sym number)
+      (turned_number i pattern q all met w.out popped.last popped.front keeps)
 
   -- met twice before
   pub looking_drop : nat_lt (times p.number met) 2 ≡ false → Looking i pattern q all met log outers rest ways
@@ -93,16 +100,21 @@ module _ {A : Type 0} (i : Input) (pattern : Ops) (argument : Forest) (q : ℕ) 
   }
 
   -- else it is looked at, and its steps are followed
-  pub looking_take : (new : Log) (after : List (Outer A)) (s : Steps A) (todo' : List (Position A)) (ways' : List (Way A)) (next : Option (code.Wanted A)) (step : Option Step) →
+  pub looking_take : (new : Log) (after : List (Outer A)) (s : Steps A) (todo' : List (Position A))
+      (ways' : List (Way A)) (next : Option (code.Wanted A)) (step : Option Step) →
       ((o : Outline) → Shows log outers p o → AreSteps i argument q log new outers after o s) →
-      ((l : Log) (o : Outline) → Shows l outers p o → option_map wanted_seen next ≡ outline_wants o) → step ≡ waits s.next →
-      todo' ≡ (rest ++ option_to_list s.second) ++ option_to_list s.first → ways' ≡ ways ++ (record { next = next; step = step } ∷ []) →
+      ((l : Log) (o : Outline) → Shows l outers p o → option_map wanted_seen next ≡ outline_wants o)
+      → step ≡ waits s.next →
+      todo' ≡ (rest ++ option_to_list s.second) ++ option_to_list s.first
+      → ways' ≡ ways ++ (record { next = next; step = step } ∷ []) →
       nat_lt (times p.number met) 2 ≡ true → Looking i pattern q all (p.number ∷ met) new after todo' ways'
   looking_take new after s todo' ways' next step gives wants stepped pushed grown few = record {
     stack = popped.front ++ reverse (idle_of i q popped.last);
     out = w.out ++ popped.last ∷ [];
-    keeps = subst (λ n. KeepsTo i pattern q all (popped.front ++ reverse (idle_of i q popped.last)) (n ∷ met) (w.out ++ popped.last ∷ [])) (sym number)
-        (turned_take i pattern q all met w.out popped.last popped.front keeps (subst (λ n. times n met < 2) number (ltb-true (times p.number met) 2 few))).0;
+    keeps = subst (λ n. KeepsTo i pattern q all (popped.front ++ reverse (idle_of i q popped.last)) (n ∷ met)
+        (w.out ++ popped.last ∷ [])) (sym number)
+        (turned_take i pattern q all met w.out popped.last popped.front keeps
+        (subst (λ n. times n met < 2) number (ltb-true (times p.number met) 2 few))).0;
     shown = shown;
     looked = looked;
   }
@@ -111,9 +123,12 @@ module _ {A : Type 0} (i : Input) (pattern : Ops) (argument : Forest) (q : ℕ) 
       st = gives popped.last popped.lasts
 
       shown : Each (Shows new after) todo' (popped.front ++ reverse (idle_of i q popped.last))
-      shown = subst (λ l. Each (Shows new after) l (popped.front ++ reverse (idle_of i q popped.last))) (sym (pushed ∙ append_assoc rest (option_to_list s.second) (option_to_list s.first)))
-          (each_append (Shows new after) rest (option_to_list s.second ++ option_to_list s.first) popped.front (reverse (idle_of i q popped.last))
-          (each_weaker (Shows log outers) (Shows new after) (λ x y h. shows_keep log new outers after st.kept x y h) rest popped.front popped.fronts)
+      shown = subst (λ l. Each (Shows new after) l (popped.front ++ reverse (idle_of i q popped.last)))
+          (sym (pushed ∙ append_assoc rest (option_to_list s.second) (option_to_list s.first)))
+          (each_append (Shows new after) rest (option_to_list s.second ++ option_to_list s.first) popped.front
+          (reverse (idle_of i q popped.last))
+          (each_weaker (Shows log outers) (Shows new after) (λ x y h. shows_keep log new outers after st.kept x y h)
+          rest popped.front popped.fronts)
           (each_turned (Shows new after) s.first s.second (idle_of i q popped.last) st.now.idle))
 
       way : Way A
@@ -121,25 +136,33 @@ module _ {A : Type 0} (i : Input) (pattern : Ops) (argument : Forest) (q : ℕ) 
 
       same : way_seen way ≡ outline_way i q popped.last
       same =
-          ap (λ n. (let x : Rattle.mbe_matcher.specs.Wanted.WayOn = record { next = n; step = step } in x)) (wants log popped.last popped.lasts)
-          ∙ ap (λ t. (let x : Rattle.mbe_matcher.specs.Wanted.WayOn = record { next = outline_wants popped.last; step = t } in x))
+          ap (λ n. (let x : Rattle.mbe_matcher.specs.Wanted.WayOn = record { next = n; step = step } in x))
+          (wants log popped.last popped.lasts)
+          ∙ ap (λ t. (let x : Rattle.mbe_matcher.specs.Wanted.WayOn =
+          record { next = outline_wants popped.last; step = t } in x))
           (stepped ∙ same_step new after (rest_at argument q) s.next (next_of i q popped.last) st.now.next)
 
       looked : map way_seen ways' ≡ map (outline_way i q) (w.out ++ popped.last ∷ [])
       looked =
           ap (map way_seen) grown ∙ map-append way_seen ways (way ∷ []) ∙ ap (λ l. l ++ (way_seen way ∷ [])) w.looked
-          ∙ ap (λ x. map (outline_way i q) w.out ++ (x ∷ [])) same ∙ sym (map-append (outline_way i q) w.out (popped.last ∷ []))
+          ∙ ap (λ x. map (outline_way i q) w.out ++ (x ∷ [])) same
+          ∙ sym (map-append (outline_way i q) w.out (popped.last ∷ []))
 
-pub looking_end : {A : Type 0} (i : Input) (q size : ℕ) (old log : Log) (before outers : List (Outer A)) (first todo : List (Position A)) (met : List ℕ) (ways : List (Way A))
-    (s : IsStack i q size old before first) → todo ≡ [] → Looking i s.pattern q (kept i (dots s.pattern) q (reverse s.spots)) met log outers todo ways →
+pub looking_end : {A : Type 0} (i : Input) (q size : ℕ) (old log : Log) (before outers : List (Outer A))
+    (first todo : List (Position A)) (met : List ℕ) (ways : List (Way A))
+    (s : IsStack i q size old before first) → todo ≡ []
+    → Looking i s.pattern q (kept i (dots s.pattern) q (reverse s.spots)) met log outers todo ways →
     map way_seen ways ≡ map (outline_way i q) (kept i (dots s.pattern) q (reverse s.spots))
 looking_end i q size old log before outers first todo met ways s e w =
-    let none : w.stack ≡ [] = each_none (Shows log outers) w.stack (subst (λ l. Each (Shows log outers) l w.stack) e w.shown) in
-    w.looked ∙ ap (map (outline_way i q)) (turned_done i s.pattern q (kept i (dots s.pattern) q (reverse s.spots)) met w.out
+    let none : w.stack ≡ [] = each_none (Shows log outers) w.stack
+    (subst (λ l. Each (Shows log outers) l w.stack) e w.shown) in
+    w.looked ∙ ap (map (outline_way i q))
+    (turned_done i s.pattern q (kept i (dots s.pattern) q (reverse s.spots)) met w.out
     (subst (λ l. KeepsTo i s.pattern q (kept i (dots s.pattern) q (reverse s.spots)) l met w.out) none w.keeps))
 
 -- a stack of copies, in the log and the outer items as they are later
-abbrev pub stack_kept : {A : Type 0} (i : Input) (q size : ℕ) (old new : Log) (before after : List (Outer A)) (todo stack : List (Position A)) →
+abbrev pub stack_kept : {A : Type 0} (i : Input) (q size : ℕ) (old new : Log) (before after : List (Outer A))
+    (todo stack : List (Position A)) →
     IsStack i q size old before todo → Keeps old new before after → stack ≡ todo → IsStack i q size new after stack
 stack_kept i q size old new before after todo stack s kept same = record {
   pattern = s.pattern;
@@ -147,5 +170,7 @@ stack_kept i q size old new before after todo stack s kept same = record {
   beginnings = s.beginnings;
   spots = s.spots;
   stack = s.stack;
-  shown = subst (λ l. Each (Shows new after) l s.spots) (sym same) (each_weaker (Shows old before) (Shows new after) (λ x y h. shows_keep old new before after kept x y h) todo s.spots s.shown);
+  shown = subst (λ l. Each (Shows new after) l s.spots) (sym same)
+      (each_weaker (Shows old before) (Shows new after) (λ x y h. shows_keep old new before after kept x y h) todo
+      s.spots s.shown);
 }

@@ -42,7 +42,8 @@ last_snoc : {A : Type 0} (x : A) (xs : List A) (m : A) → last_of x (xs ++ m �
 last_snoc x [] m = refl
 last_snoc x (y ∷ ys) m = last_snoc y ys m
 
-pub source_snoc : (ms : List Misfit) (m : Misfit) (cs : List Commands) (before : Option Source) → source_of (ms ++ m ∷ []) cs before ≡ Some (failed m)
+pub source_snoc : (ms : List Misfit) (m : Misfit) (cs : List Commands) (before : Option Source)
+    → source_of (ms ++ m ∷ []) cs before ≡ Some (failed m)
 source_snoc [] m cs before = refl
 source_snoc (x ∷ xs) m cs before = ap (λ y. Some (failed y)) (last_snoc x xs m)
 
@@ -51,12 +52,16 @@ any_snoc [] x = refl
 any_snoc (y ∷ ys) x = refl
 
 -- the first stays, or comes where there was none
-pub first_more : {X Y : Type 0} (R : X → Y → Type 0) (old new : Option X) (o : Option Y) (ms : List Y) (m : Y) → Both R old (or_first o ms) →
-    ((is_some old ≡ false) × ((x : X) × (new ≡ Some x) × R x m)) ⊎ ((is_some old ≡ true) × (new ≡ old)) → Both R new (or_first o (ms ++ m ∷ []))
-first_more R None new o ms m b (inl (e, (x, is, r))) = subst (λ n. Both R n (or_first o (ms ++ m ∷ []))) (sym is) (first_comes R x o ms m b r)
+pub first_more : {X Y : Type 0} (R : X → Y → Type 0) (old new : Option X) (o : Option Y) (ms : List Y) (m : Y)
+    → Both R old (or_first o ms) →
+    ((is_some old ≡ false) × ((x : X) × (new ≡ Some x) × R x m)) ⊎ ((is_some old ≡ true) × (new ≡ old))
+    → Both R new (or_first o (ms ++ m ∷ []))
+first_more R None new o ms m b (inl (e, (x, is, r))) =
+    subst (λ n. Both R n (or_first o (ms ++ m ∷ []))) (sym is) (first_comes R x o ms m b r)
 first_more R (Some y) new o ms m b (inl (e, (x, is, r))) = let f : true ≡ false = e in cc
 first_more R None new o ms m b (inr (e, is)) = let f : false ≡ true = e in cc
-first_more R (Some y) new o ms m b (inr (e, is)) = subst (λ n. Both R n (or_first o (ms ++ m ∷ []))) (sym is) (first_stays R y o ms m b)
+first_more R (Some y) new o ms m b (inr (e, is)) =
+    subst (λ n. Both R n (or_first o (ms ++ m ∷ []))) (sym is) (first_stays R y o ms m b)
 
 abbrev pub first_in : {A : Type 0} → Report A → Option (kept.Misfit A)
 first_in r = r.first
@@ -64,22 +69,27 @@ first_in r = r.first
 -- the first that failed is that, or was there before
 abbrev pub First : {A : Type 0} → Forest → Report A → Report A → Misfit → Type 0
 First {A} f old new s =
-    ((is_some old.first ≡ false) × ((x : kept.Misfit A) × (new.first ≡ Some x) × IsMisfit f x s)) ⊎ ((is_some old.first ≡ true) × (new.first ≡ old.first))
+    ((is_some old.first ≡ false) × ((x : kept.Misfit A) × (new.first ≡ Some x) × IsMisfit f x s))
+    ⊎ ((is_some old.first ≡ true) × (new.first ≡ old.first))
 
 -- a position more failed
-pub misfit_more : {A : Type 0} (log : Log) (f : Forest) (old new : Report A) (m : kept.Misfit A) (h : Handle) (ms : List Misfit) (s : Misfit) (before : Notes) →
+pub misfit_more : {A : Type 0} (log : Log) (f : Forest) (old new : Report A) (m : kept.Misfit A) (h : Handle)
+    (ms : List Misfit) (s : Misfit) (before : Notes) →
     IsReportOf log f old ms before → First f old new s →
-    new.last ≡ Some (record { handle = h; misfit = Some m }) → IsMisfit f m s → Holds log h s.bound → new.failed_here ≡ true →
+    new.last ≡ Some (record { handle = h; misfit = Some m }) → IsMisfit f m s → Holds log h s.bound
+    → new.failed_here ≡ true →
     IsReportOf log f new (ms ++ s ∷ []) before
 misfit_more {A} log f old new m h ms s before r from l is held here = record {
   first = first_more (IsMisfit f) old.first new.first before.first ms s r.first from;
   last = subst (λ o. Both (IsSource log f) o (source_of (ms ++ s ∷ []) [] before.last)) (sym l)
-      (subst (λ o. Both (IsSource log f) (Some (record { handle = h; misfit = Some m })) o) (sym (source_snoc ms s [] before.last)) ((m, refl, is), held));
+      (subst (λ o. Both (IsSource log f) (Some (record { handle = h; misfit = Some m })) o)
+      (sym (source_snoc ms s [] before.last)) ((m, refl, is), held));
   here = here ∙ sym (any_snoc ms s);
 }
 
 -- none failed more
-pub misfit_none : {A : Type 0} (log : Log) (f : Forest) (r : Report A) (ms : List Misfit) (o : Option Misfit) (before : Notes) → o ≡ None →
+pub misfit_none : {A : Type 0} (log : Log) (f : Forest) (r : Report A) (ms : List Misfit) (o : Option Misfit)
+    (before : Notes) → o ≡ None →
     IsReportOf log f r ms before → IsReportOf log f r (ms ++ option_to_list o) before
 misfit_none log f r ms o before e is =
     subst (λ l. IsReportOf log f r l before) (sym (ap (λ x. ms ++ option_to_list x) e ∙ append-nil ms)) is
@@ -95,24 +105,30 @@ step_misfit q (outline no_ops a up) = refl
 step_misfit q (outline (op x r) a up) = refl
 
 -- what fails has no step
-pub misfit_fails : (b : Bool) (q : ℕ) (o : Outline) (m : Misfit) → misfit_unless b q o ≡ Some m → misfit_unless false q o ≡ Some m
+pub misfit_fails : (b : Bool) (q : ℕ) (o : Outline) (m : Misfit) → misfit_unless b q o ≡ Some m
+    → misfit_unless false q o ≡ Some m
 misfit_fails true q o m e = let no : None ≡ Some m = sym (step_misfit q o) ∙ e in cc
 misfit_fails false q o m e = e
 
-pub plain_misfit : (b : Bool) (q : ℕ) (o : Outline) (x : Op) (r : Ops) → ops_left o ≡ op x r → is_noted x ≡ false → misfit_unless b q o ≡ None
+pub plain_misfit : (b : Bool) (q : ℕ) (o : Outline) (x : Op) (r : Ops) → ops_left o ≡ op x r → is_noted x ≡ false
+    → misfit_unless b q o ≡ None
 plain_misfit true q o x r e n = step_misfit q o
 plain_misfit false q (outline os a up) x r e n =
-    ap (λ l. misfit_unless false q (outline l a up)) e ∙ ap (λ t. if not t then None else Some (record { op = x; place = q; bound = a.current })) n
+    ap (λ l. misfit_unless false q (outline l a up)) e
+    ∙ ap (λ t. if not t then None else Some (record { op = x; place = q; bound = a.current })) n
 
 pub noted_misfit : (q : ℕ) (o : Outline) (x : Op) (r : Ops) → ops_left o ≡ op x r → is_noted x ≡ true →
     misfit_unless false q o ≡ Some (record { op = x; place = q; bound = bound_by o })
 noted_misfit q (outline os a up) x r e n =
-    ap (λ l. misfit_unless false q (outline l a up)) e ∙ ap (λ t. if not t then None else Some (record { op = x; place = q; bound = a.current })) n
+    ap (λ l. misfit_unless false q (outline l a up)) e
+    ∙ ap (λ t. if not t then None else Some (record { op = x; place = q; bound = a.current })) n
 
 -- ---- after a place
 
-pub place_noted : {A : Type 0} (log : Log) (f : Forest) (old new : Report A) (ms : List Misfit) (cs : List Commands) (before : Notes) → IsReportOf log f old ms before →
-    new.first ≡ old.first → Both (IsSource log f) new.last (source_of ms cs before.last) → new.failed_here ≡ false → IsReportOf log f new [] (noted_with ms cs before)
+pub place_noted : {A : Type 0} (log : Log) (f : Forest) (old new : Report A) (ms : List Misfit) (cs : List Commands)
+    (before : Notes) → IsReportOf log f old ms before →
+    new.first ≡ old.first → Both (IsSource log f) new.last (source_of ms cs before.last) → new.failed_here ≡ false
+    → IsReportOf log f new [] (noted_with ms cs before)
 place_noted log f old new ms cs before r e last here = record {
   first = subst (λ o. Both (IsMisfit f) o (or_first (or_first before.first ms) [])) (sym e)
       (subst (λ o. Both (IsMisfit f) old.first o) (sym (or_first_nil (or_first before.first ms))) r.first);
@@ -121,11 +137,13 @@ place_noted log f old new ms cs before r e last here = record {
 }
 
 -- the last stays where one failed, or nothing ends
-pub last_failed : (ms : List Misfit) (cs : List Commands) (before : Option Source) → is_any ms ≡ true → source_of ms [] before ≡ source_of ms cs before
+pub last_failed : (ms : List Misfit) (cs : List Commands) (before : Option Source) → is_any ms ≡ true
+    → source_of ms [] before ≡ source_of ms cs before
 last_failed [] cs before e = let f : false ≡ true = e in cc
 last_failed (m ∷ ms) cs before e = refl
 
-pub none_failed : (A : Type 0) (log : Log) (f : Forest) (ms : List Misfit) (c : Commands) (cs : List Commands) (before : Option Source) (h : Handle) → is_any ms ≡ false → Holds log h c →
+pub none_failed : (A : Type 0) (log : Log) (f : Forest) (ms : List Misfit) (c : Commands) (cs : List Commands)
+    (before : Option Source) (h : Handle) → is_any ms ≡ false → Holds log h c →
     Both (IsSource {A = A} log f) (Some (record { handle = h; misfit = None })) (source_of ms (c ∷ cs) before)
 none_failed A log f [] c cs before h e held = (refl, held)
 none_failed A log f (m ∷ ms) c cs before h e held = let g : true ≡ false = e in cc
@@ -136,13 +154,16 @@ no_item (x ∷ xs) e = absurd (omega (arith, e))
 
 -- ---- the positions at the pattern's end
 
-pub none_ended : (log : Log) (hs : List Handle) (cs : List Commands) → Each (Holds log) hs cs → None ≡ slice_get hs 0 → cs ≡ []
+pub none_ended : (log : Log) (hs : List Handle) (cs : List Commands) → Each (Holds log) hs cs → None ≡ slice_get hs 0
+    → cs ≡ []
 none_ended log [] [] e s = refl
 none_ended log [] (c ∷ cs) e s = absurd e
 none_ended log (h ∷ hs) cs e s = absurd (none-some h s)
 
-pub end_noted : (A : Type 0) (log : Log) (f : Forest) (ms : List Misfit) (cs : List Commands) (before : Option Source) (hs : List Handle) (h k : Handle) → Each (Holds log) hs cs →
-    Some h ≡ slice_get hs 0 → k ≡ h → is_any ms ≡ false → Both (IsSource {A = A} log f) (Some (record { handle = k; misfit = None })) (source_of ms cs before)
+pub end_noted : (A : Type 0) (log : Log) (f : Forest) (ms : List Misfit) (cs : List Commands) (before : Option Source)
+    (hs : List Handle) (h k : Handle) → Each (Holds log) hs cs →
+    Some h ≡ slice_get hs 0 → k ≡ h → is_any ms ≡ false
+    → Both (IsSource {A = A} log f) (Some (record { handle = k; misfit = None })) (source_of ms cs before)
 end_noted A log f ms cs before [] h k e s i n = absurd (none-some h (sym s))
 end_noted A log f ms [] before (j ∷ hs) h k e s i n = absurd e
 end_noted A log f ms (c ∷ cs) before (j ∷ hs) h k e s i n =
@@ -151,7 +172,8 @@ end_noted A log f ms (c ∷ cs) before (j ∷ hs) h k e s i n =
 
 -- ---- in a later log
 
-both_weaker : {X Y : Type 0} (P Q : X → Y → Type 0) → ((x : X) (y : Y) → P x y → Q x y) → (x : Option X) (y : Option Y) → Both P x y → Both Q x y
+both_weaker : {X Y : Type 0} (P Q : X → Y → Type 0) → ((x : X) (y : Y) → P x y → Q x y) → (x : Option X) (y : Option Y)
+    → Both P x y → Both Q x y
 both_weaker P Q h None None b = tt
 both_weaker P Q h (Some x) (Some y) b = h x y b
 both_weaker P Q h None (Some y) b = absurd b
@@ -160,26 +182,32 @@ both_weaker P Q h (Some x) None b = absurd b
 holds_on : (old new : Log) (h : Handle) (cs : Commands) → IsKept old new → Holds old h cs → Holds new h cs
 holds_on old new h cs k (a, i, e) = (a, k.others h a i, e)
 
-source_keeps : {A : Type 0} (old new : Log) (f : Forest) → IsKept old new → (l : Last A) (s : Source) → IsSource old f l s → IsSource new f l s
+source_keeps : {A : Type 0} (old new : Log) (f : Forest) → IsKept old new → (l : Last A) (s : Source)
+    → IsSource old f l s → IsSource new f l s
 source_keeps old new f k l (failed s) (m, held) = (m, holds_on old new l.handle s.bound k held)
 source_keeps old new f k l (ended cs) (m, held) = (m, holds_on old new l.handle cs k held)
 
-pub notes_keep : {A : Type 0} (old new : Log) (f : Forest) (r : Report A) (ms : List Misfit) (before : Notes) → IsKept old new → IsReportOf old f r ms before → IsReportOf new f r ms before
+pub notes_keep : {A : Type 0} (old new : Log) (f : Forest) (r : Report A) (ms : List Misfit) (before : Notes)
+    → IsKept old new → IsReportOf old f r ms before → IsReportOf new f r ms before
 notes_keep old new f r ms before k is = record {
   first = is.first;
-  last = both_weaker (IsSource old f) (IsSource new f) (source_keeps old new f k) r.last (source_of ms [] before.last) is.last;
+  last = both_weaker (IsSource old f) (IsSource new f) (source_keeps old new f k) r.last (source_of ms [] before.last)
+      is.last;
   here = is.here;
 }
 
 -- ---- the position that an outline shows
 
-pub shown_ops : {A : Type 0} (log : Log) (outers : List (Outer A)) (p : Position A) (o : Outline) → Shows log outers p o → ops_of p.dot.now ≡ ops_left o
+pub shown_ops : {A : Type 0} (log : Log) (outers : List (Outer A)) (p : Position A) (o : Outline) → Shows log outers p o
+    → ops_of p.dot.now ≡ ops_left o
 shown_ops log outers p (outline rest a up) s = s.dot
 
-pub shown_bound : {A : Type 0} (old new : Log) (outers : List (Outer A)) (p : Position A) (o : Outline) → IsKept old new → Shows old outers p o → Holds new p.handle (bound_by o)
+pub shown_bound : {A : Type 0} (old new : Log) (outers : List (Outer A)) (p : Position A) (o : Outline) → IsKept old new
+    → Shows old outers p o → Holds new p.handle (bound_by o)
 shown_bound old new outers p (outline rest a up) k s = (a, k.others p.handle a s.account, refl)
 
-any_same : {X Y : Type 0} (R : X → Y → Type 0) (a b : Option X) (ys : List Y) (more : Bool) → Each R (option_to_list a ++ option_to_list b) ys →
+any_same : {X Y : Type 0} (R : X → Y → Type 0) (a b : Option X) (ys : List Y) (more : Bool)
+    → Each R (option_to_list a ++ option_to_list b) ys →
     (is_some a || (is_some b || more)) ≡ (is_any ys || more)
 any_same R None None [] more h = refl
 any_same R None None (y ∷ ys) more h = absurd h
@@ -197,15 +225,19 @@ some_same R (Some x) None b = absurd b
 abbrev pub is_step : {A : Type 0} → Steps A → Bool
 is_step s = is_some s.first || (is_some s.second || (is_some s.next || is_some s.done))
 
-pub step_same : {A : Type 0} (i : Input) (argument : Forest) (q : ℕ) (log : Log) (outers : List (Outer A)) (o : Outline) (s : Steps A) → AreStepsNow i argument q log outers o s →
+pub step_same : {A : Type 0} (i : Input) (argument : Forest) (q : ℕ) (log : Log) (outers : List (Outer A)) (o : Outline)
+    (s : Steps A) → AreStepsNow i argument q log outers o s →
     is_step s ≡ has_step i q o
 step_same i argument q log outers o s st =
     any_same (Shows log outers) s.first s.second (idle_of i q o) (is_some s.next || is_some s.done) st.idle
-    ∙ ap (λ b. is_any (idle_of i q o) || (b || is_some s.done)) (some_same (LeadsTo log outers (rest_at argument q)) s.next (next_of i q o) st.next)
-    ∙ ap (λ b. is_any (idle_of i q o) || (is_some (next_of i q o) || b)) (some_same (Holds log) s.done (finished_of o) st.done)
+    ∙ ap (λ b. is_any (idle_of i q o) || (b || is_some s.done))
+    (some_same (LeadsTo log outers (rest_at argument q)) s.next (next_of i q o) st.next)
+    ∙ ap (λ b. is_any (idle_of i q o) || (is_some (next_of i q o) || b))
+    (some_same (Holds log) s.done (finished_of o) st.done)
 
 -- what a report is of is in the log
-pub report_entries : {A : Type 0} (log : Log) (f : Forest) (r : Report A) (ms : List Misfit) (before : Notes) → IsReportOf log f r ms before → IsReport log r
+pub report_entries : {A : Type 0} (log : Log) (f : Forest) (r : Report A) (ms : List Misfit) (before : Notes)
+    → IsReportOf log f r ms before → IsReport log r
 report_entries {A} log f r ms before is = go r.last (source_of ms [] before.last) is.last
   where
     go : (l : Option (Last A)) (s : Option Source) → Both (IsSource log f) l s → IsLast log l

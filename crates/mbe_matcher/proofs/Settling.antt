@@ -42,7 +42,8 @@ pub record Last {X Y : Type 0} (R : X → Y → Type 0) (xs : List X) (x : X) (y
   pub fronts : Each R xs front
   pub lasts : R x last
 
-pub last_of : {X Y : Type 0} (R : X → Y → Type 0) (xs : List X) (x : X) (ys : List Y) → Each R (xs ++ x ∷ []) ys → Last R xs x ys
+pub last_of : {X Y : Type 0} (R : X → Y → Type 0) (xs : List X) (x : X) (ys : List Y) → Each R (xs ++ x ∷ []) ys
+    → Last R xs x ys
 last_of R [] x [] a = elim a [ ]
 last_of R [] x (y ∷ []) a = record { front = []; last = y; is = refl; fronts = tt; lasts = a.0 }
 last_of R [] x (y ∷ z ∷ ys) a = elim a.1 [ ]
@@ -52,7 +53,8 @@ last_of R (w ∷ xs) x (y ∷ ys) a =
     record { front = y ∷ r.front; last = r.last; is = ap (λ l. y ∷ l) r.is; fronts = (a.0, r.fronts); lasts = r.lasts }
 
 -- pushed the other way round
-pub each_turned : {X Y : Type 0} (R : X → Y → Type 0) (a b : Option X) (ys : List Y) → Each R (option_to_list a ++ option_to_list b) ys → Each R (option_to_list b ++ option_to_list a) (reverse ys)
+pub each_turned : {X Y : Type 0} (R : X → Y → Type 0) (a b : Option X) (ys : List Y)
+    → Each R (option_to_list a ++ option_to_list b) ys → Each R (option_to_list b ++ option_to_list a) (reverse ys)
 each_turned R None None [] h = tt
 each_turned R None None (y ∷ ys) h = elim h [ ]
 each_turned R (Some x) None [] h = elim h [ ]
@@ -73,7 +75,8 @@ each_none R (y ∷ ys) a = elim a [ ]
 -- ---- what the loop keeps
 
 -- The outlines that are followed so far are `out`, and those of the stack are left.
-pub record Walked {A : Type 0} (i : Input) (pattern : Ops) (q : ℕ) (all : List Outline) (met : List ℕ) (log : Log) (outers : List (Outer A)) (here : Forest)
+pub record Walked {A : Type 0} (i : Input) (pattern : Ops) (q : ℕ) (all : List Outline) (met : List ℕ) (log : Log)
+    (outers : List (Outer A)) (here : Forest)
     (todo : List (Position A)) (ws : List (Waiting A)) (hs : List Handle) : Type 0 where
   pub stack : List Outline
   pub out : List Outline
@@ -82,8 +85,10 @@ pub record Walked {A : Type 0} (i : Input) (pattern : Ops) (q : ℕ) (all : List
   pub goes_on : Each (LeadsTo log outers here) ws (filter_map (next_of i q) out)
   pub ended : Each (Holds log) hs (filter_map finished_of out)
 
-pub walked_start : {A : Type 0} (i : Input) (q size : ℕ) (log : Log) (outers : List (Outer A)) (here : Forest) (todo : List (Position A)) (ws : List (Waiting A)) (hs : List Handle)
-    (s : IsStack i q size log outers todo) → ws ≡ [] → hs ≡ [] → Walked i s.pattern q (kept i (dots s.pattern) q (reverse s.spots)) [] log outers here todo ws hs
+pub walked_start : {A : Type 0} (i : Input) (q size : ℕ) (log : Log) (outers : List (Outer A)) (here : Forest)
+    (todo : List (Position A)) (ws : List (Waiting A)) (hs : List Handle)
+    (s : IsStack i q size log outers todo) → ws ≡ [] → hs ≡ []
+    → Walked i s.pattern q (kept i (dots s.pattern) q (reverse s.spots)) [] log outers here todo ws hs
 walked_start i q size log outers here todo ws hs s e f = record {
   stack = s.spots;
   out = [];
@@ -93,15 +98,19 @@ walked_start i q size log outers here todo ws hs s e f = record {
   ended = subst (λ l. Each (Holds log) l []) (sym f) tt;
 }
 
-pub report_start : {A : Type 0} (i : Input) (q size : ℕ) (log : Log) (outers : List (Outer A)) (here : Forest) (todo : List (Position A)) (ws : List (Waiting A)) (hs : List Handle)
-    (s : IsStack i q size log outers todo) (e : ws ≡ []) (g : hs ≡ []) (f : Forest) (r : Report A) (n : Notes) → IsReportOf log f r [] n →
+pub report_start : {A : Type 0} (i : Input) (q size : ℕ) (log : Log) (outers : List (Outer A)) (here : Forest)
+    (todo : List (Position A)) (ws : List (Waiting A)) (hs : List Handle)
+    (s : IsStack i q size log outers todo) (e : ws ≡ []) (g : hs ≡ []) (f : Forest) (r : Report A) (n : Notes)
+    → IsReportOf log f r [] n →
     IsReportOf log f r (filter_map (misfit i q) (walked_start i q size log outers here todo ws hs s e g).out) n
 unfolding walked_start
 report_start i q size log outers here todo ws hs s e g f r n is = is
 
-pub fills_begin : {A : Type 0} (i : Input) (q size : ℕ) (log : Log) (outers : List (Outer A)) (here : Forest) (todo : List (Position A)) (ws : List (Waiting A)) (hs : List Handle)
+pub fills_begin : {A : Type 0} (i : Input) (q size : ℕ) (log : Log) (outers : List (Outer A)) (here : Forest)
+    (todo : List (Position A)) (ws : List (Waiting A)) (hs : List Handle)
     (s : IsStack i q size log outers todo) (e : ws ≡ []) (g : hs ≡ []) (len : ℕ) → Lawful i len →
-    FillsAll i s.pattern q s.spots (walked_start i q size log outers here todo ws hs s e g).stack (walked_start i q size log outers here todo ws hs s e g).out
+    FillsAll i s.pattern q s.spots (walked_start i q size log outers here todo ws hs s e g).stack
+    (walked_start i q size log outers here todo ws hs s e g).out
 unfolding walked_start
 fills_begin i q size log outers here todo ws hs s e g len lawful = fills_first i s.pattern q len lawful s.spots
 
@@ -112,11 +121,14 @@ one_step {Y = Y} f x = at (f x)
     at None = refl
     at (Some y) = refl
 
-pub shown_number : {A : Type 0} (log : Log) (outers : List (Outer A)) (p : Position A) (o : Outline) → Shows log outers p o → p.number ≡ outline_number o
+pub shown_number : {A : Type 0} (log : Log) (outers : List (Outer A)) (p : Position A) (o : Outline)
+    → Shows log outers p o → p.number ≡ outline_number o
 shown_number log outers p (outline rest a up) s = s.number
 
-module _ {A : Type 0} (i : Input) (pattern : Ops) (argument : Forest) (q : ℕ) (all : List Outline) (met : List ℕ) (log : Log) (outers : List (Outer A))
-    (rest todo : List (Position A)) (p : Position A) (ws : List (Waiting A)) (hs : List Handle) (top : todo ≡ rest ++ p ∷ [])
+module _ {A : Type 0} (i : Input) (pattern : Ops) (argument : Forest) (q : ℕ) (all : List Outline) (met : List ℕ)
+    (log : Log) (outers : List (Outer A))
+    (rest todo : List (Position A)) (p : Position A) (ws : List (Waiting A)) (hs : List Handle)
+    (top : todo ≡ rest ++ p ∷ [])
     (w : Walked i pattern q all met log outers (rest_at argument q) todo ws hs) where
   popped : Last (Shows log outers) rest p w.stack
   popped = last_of (Shows log outers) rest p w.stack (subst (λ l. Each (Shows log outers) l w.stack) top w.shown)
@@ -133,14 +145,16 @@ module _ {A : Type 0} (i : Input) (pattern : Ops) (argument : Forest) (q : ℕ) 
   -- the number of the position is that of a dot
   pub popped_number : (0 < p.number) × (p.number ≤ dots pattern)
   popped_number =
-      let n : (0 < outline_number popped.last) × (outline_number popped.last ≤ dots pattern) = turned_number i pattern q all met w.out popped.last popped.front keeps in
+      let n : (0 < outline_number popped.last) × (outline_number popped.last ≤ dots pattern) =
+      turned_number i pattern q all met w.out popped.last popped.front keeps in
       let a = n.0 in
       let b = n.1 in
       let e = number in
       (omega (arith, a, e), omega (arith, b, e))
 
   -- met twice before
-  pub walked_drop : nat_lt (times p.number met) 2 ≡ false → Walked i pattern q all met log outers (rest_at argument q) rest ws hs
+  pub walked_drop : nat_lt (times p.number met) 2 ≡ false
+      → Walked i pattern q all met log outers (rest_at argument q) rest ws hs
   walked_drop few = record {
     stack = popped.front;
     out = w.out;
@@ -151,15 +165,18 @@ module _ {A : Type 0} (i : Input) (pattern : Ops) (argument : Forest) (q : ℕ) 
     ended = w.ended;
   }
 
-  pub report_drop : (few : nat_lt (times p.number met) 2 ≡ false) (f : Forest) (r : Report A) (n : Notes) → IsReportOf log f r (filter_map (misfit i q) w.out) n →
+  pub report_drop : (few : nat_lt (times p.number met) 2 ≡ false) (f : Forest) (r : Report A) (n : Notes)
+      → IsReportOf log f r (filter_map (misfit i q) w.out) n →
       IsReportOf log f r (filter_map (misfit i q) (walked_drop few).out) n
   unfolding walked_drop
   report_drop few f r n is = is
 
   -- else its steps are followed
-  module _ (new : Log) (after : List (Outer A)) (s : Steps A) (todo' : List (Position A)) (ws' : List (Waiting A)) (hs' : List Handle)
+  module _ (new : Log) (after : List (Outer A)) (s : Steps A) (todo' : List (Position A)) (ws' : List (Waiting A))
+      (hs' : List Handle)
       (gives : (o : Outline) → Shows log outers p o → AreSteps i argument q log new outers after o s)
-      (pushed : todo' ≡ (rest ++ option_to_list s.second) ++ option_to_list s.first) (waits : ws' ≡ ws ++ option_to_list s.next) (ends : hs' ≡ hs ++ option_to_list s.done) where
+      (pushed : todo' ≡ (rest ++ option_to_list s.second) ++ option_to_list s.first)
+      (waits : ws' ≡ ws ++ option_to_list s.next) (ends : hs' ≡ hs ++ option_to_list s.done) where
     o : Outline
     o = popped.last
 
@@ -167,64 +184,93 @@ module _ {A : Type 0} (i : Input) (pattern : Ops) (argument : Forest) (q : ℕ) 
     st = gives popped.last popped.lasts
 
     shown : Each (Shows new after) todo' (popped.front ++ reverse (idle_of i q popped.last))
-    shown = subst (λ l. Each (Shows new after) l (popped.front ++ reverse (idle_of i q popped.last))) (sym (pushed ∙ append_assoc rest (option_to_list s.second) (option_to_list s.first)))
-        (each_append (Shows new after) rest (option_to_list s.second ++ option_to_list s.first) popped.front (reverse (idle_of i q popped.last))
-        (each_weaker (Shows log outers) (Shows new after) (λ x y h. shows_keep log new outers after st.kept x y h) rest popped.front popped.fronts)
+    shown = subst (λ l. Each (Shows new after) l (popped.front ++ reverse (idle_of i q popped.last)))
+        (sym (pushed ∙ append_assoc rest (option_to_list s.second) (option_to_list s.first)))
+        (each_append (Shows new after) rest (option_to_list s.second ++ option_to_list s.first) popped.front
+        (reverse (idle_of i q popped.last))
+        (each_weaker (Shows log outers) (Shows new after) (λ x y h. shows_keep log new outers after st.kept x y h) rest
+        popped.front popped.fronts)
         (each_turned (Shows new after) s.first s.second (idle_of i q popped.last) st.now.idle))
 
     goes_on : Each (LeadsTo new after (rest_at argument q)) ws' (filter_map (next_of i q) (w.out ++ popped.last ∷ []))
-    goes_on = subst (λ l. Each (LeadsTo new after (rest_at argument q)) l (filter_map (next_of i q) (w.out ++ popped.last ∷ []))) (sym waits)
-        (subst (Each (LeadsTo new after (rest_at argument q)) (ws ++ option_to_list s.next)) (sym (filter_map-append (next_of i q) w.out (popped.last ∷ []) ∙ ap (λ l. filter_map (next_of i q) w.out ++ l) (one_step (next_of i q) popped.last)))
-        (each_append (LeadsTo new after (rest_at argument q)) ws (option_to_list s.next) (filter_map (next_of i q) w.out) (option_to_list (next_of i q popped.last))
-        (each_weaker (LeadsTo log outers (rest_at argument q)) (LeadsTo new after (rest_at argument q)) (λ x y h. leads_keep log new outers after st.kept (rest_at argument q) x y h) ws (filter_map (next_of i q) w.out) w.goes_on)
+    goes_on = subst (λ l. Each (LeadsTo new after (rest_at argument q)) l
+        (filter_map (next_of i q) (w.out ++ popped.last ∷ []))) (sym waits)
+        (subst (Each (LeadsTo new after (rest_at argument q)) (ws ++ option_to_list s.next))
+        (sym (filter_map-append (next_of i q) w.out (popped.last ∷ [])
+        ∙ ap (λ l. filter_map (next_of i q) w.out ++ l) (one_step (next_of i q) popped.last)))
+        (each_append (LeadsTo new after (rest_at argument q)) ws (option_to_list s.next)
+        (filter_map (next_of i q) w.out) (option_to_list (next_of i q popped.last))
+        (each_weaker (LeadsTo log outers (rest_at argument q)) (LeadsTo new after (rest_at argument q))
+        (λ x y h. leads_keep log new outers after st.kept (rest_at argument q) x y h) ws
+        (filter_map (next_of i q) w.out) w.goes_on)
         (both_each (LeadsTo new after (rest_at argument q)) s.next (next_of i q popped.last) st.now.next)))
 
     ended : Each (Holds new) hs' (filter_map finished_of (w.out ++ popped.last ∷ []))
     ended = subst (λ l. Each (Holds new) l (filter_map finished_of (w.out ++ popped.last ∷ []))) (sym ends)
-        (subst (Each (Holds new) (hs ++ option_to_list s.done)) (sym (filter_map-append finished_of w.out (popped.last ∷ []) ∙ ap (λ l. filter_map finished_of w.out ++ l) (one_step finished_of popped.last)))
-        (each_append (Holds new) hs (option_to_list s.done) (filter_map finished_of w.out) (option_to_list (finished_of popped.last))
-        (each_weaker (Holds log) (Holds new) (λ x y h. holds_keep log new outers after st.kept x y h) hs (filter_map finished_of w.out) w.ended)
+        (subst (Each (Holds new) (hs ++ option_to_list s.done))
+        (sym (filter_map-append finished_of w.out (popped.last ∷ [])
+        ∙ ap (λ l. filter_map finished_of w.out ++ l) (one_step finished_of popped.last)))
+        (each_append (Holds new) hs (option_to_list s.done) (filter_map finished_of w.out)
+        (option_to_list (finished_of popped.last))
+        (each_weaker (Holds log) (Holds new) (λ x y h. holds_keep log new outers after st.kept x y h) hs
+        (filter_map finished_of w.out) w.ended)
         (both_each (Holds new) s.done (finished_of popped.last) st.now.done)))
 
-    pub walked_take : nat_lt (times p.number met) 2 ≡ true → Walked i pattern q all (p.number ∷ met) new after (rest_at argument q) todo' ws' hs'
+    pub walked_take : nat_lt (times p.number met) 2 ≡ true
+        → Walked i pattern q all (p.number ∷ met) new after (rest_at argument q) todo' ws' hs'
     walked_take few = record {
       stack = popped.front ++ reverse (idle_of i q popped.last);
       out = w.out ++ popped.last ∷ [];
-      keeps = subst (λ n. KeepsTo i pattern q all (popped.front ++ reverse (idle_of i q popped.last)) (n ∷ met) (w.out ++ popped.last ∷ [])) (sym number)
-          (turned_take i pattern q all met w.out popped.last popped.front keeps (subst (λ n. times n met < 2) number (ltb-true (times p.number met) 2 few))).0;
+      keeps = subst (λ n. KeepsTo i pattern q all (popped.front ++ reverse (idle_of i q popped.last)) (n ∷ met)
+          (w.out ++ popped.last ∷ [])) (sym number)
+          (turned_take i pattern q all met w.out popped.last popped.front keeps
+          (subst (λ n. times n met < 2) number (ltb-true (times p.number met) 2 few))).0;
       shown = shown;
       goes_on = goes_on;
       ended = ended;
     }
 
     -- and it is noted where it fails
-    pub report_take : (few : nat_lt (times p.number met) 2 ≡ true) (f : Forest) (r r' : Report A) (n : Notes) (b : Bool) (h : Handle) → b ≡ is_step s → h ≡ p.handle →
-        ((l : Log) (x : Outline) (ms : List Misfit) (m : Notes) → ops_of p.dot.now ≡ ops_left x → Holds l h (bound_by x) → IsReportOf l f r ms m →
+    pub report_take : (few : nat_lt (times p.number met) 2 ≡ true) (f : Forest) (r r' : Report A) (n : Notes) (b : Bool)
+        (h : Handle) → b ≡ is_step s → h ≡ p.handle →
+        ((l : Log) (x : Outline) (ms : List Misfit) (m : Notes) → ops_of p.dot.now ≡ ops_left x → Holds l h (bound_by x)
+        → IsReportOf l f r ms m →
         IsReportOf l f r' (ms ++ option_to_list (misfit_unless b q x)) m) →
-        IsReportOf log f r (filter_map (misfit i q) w.out) n → IsReportOf new f r' (filter_map (misfit i q) (walked_take few).out) n
+        IsReportOf log f r (filter_map (misfit i q) w.out) n
+        → IsReportOf new f r' (filter_map (misfit i q) (walked_take few).out) n
     unfolding walked_take
     report_take few f r r' n b h e same looked is =
         let ms = filter_map (misfit i q) w.out in
-        let one = one_step (misfit i q) popped.last ∙ ap (λ x. option_to_list (misfit_unless x q popped.last)) (sym (e ∙ step_same i argument q new after popped.last s st.now)) in
-        subst (λ l. IsReportOf new f r' l n) (sym (filter_map-append (misfit i q) w.out (popped.last ∷ []) ∙ ap (λ l. ms ++ l) one))
+        let one = one_step (misfit i q) popped.last
+        ∙ ap (λ x. option_to_list (misfit_unless x q popped.last))
+        (sym (e ∙ step_same i argument q new after popped.last s st.now)) in
+        subst (λ l. IsReportOf new f r' l n)
+        (sym (filter_map-append (misfit i q) w.out (popped.last ∷ []) ∙ ap (λ l. ms ++ l) one))
         (looked new popped.last ms n (shown_ops log outers p popped.last popped.lasts)
-        (subst (λ x. Holds new x (bound_by popped.last)) (sym same) (shown_bound log new outers p popped.last st.kept.log popped.lasts))
+        (subst (λ x. Holds new x (bound_by popped.last)) (sym same)
+        (shown_bound log new outers p popped.last st.kept.log popped.lasts))
         (notes_keep log new f r ms n st.kept.log is))
 
-    pub fills_next : (few : nat_lt (times p.number met) 2 ≡ true) (spots : List Outline) (len : ℕ) → Lawful i len → FillsAll i pattern q spots w.stack w.out →
+    pub fills_next : (few : nat_lt (times p.number met) 2 ≡ true) (spots : List Outline) (len : ℕ) → Lawful i len
+        → FillsAll i pattern q spots w.stack w.out →
         FillsAll i pattern q spots (walked_take few).stack (walked_take few).out
     unfolding walked_take
-    fills_next few spots len lawful fills = fills_more i pattern q len lawful spots w.stack popped.front w.out popped.last popped.is fills
+    fills_next few spots len lawful fills =
+        fills_more i pattern q len lawful spots w.stack popped.front w.out popped.last popped.is fills
 
-pub walked_done : {A : Type 0} (i : Input) (q size : ℕ) (old log : Log) (before outers : List (Outer A)) (here : Forest) (first todo : List (Position A)) (met : List ℕ)
+pub walked_done : {A : Type 0} (i : Input) (q size : ℕ) (old log : Log) (before outers : List (Outer A)) (here : Forest)
+    (first todo : List (Position A)) (met : List ℕ)
     (ws : List (Waiting A)) (hs : List Handle) (s : IsStack i q size old before first) → todo ≡ [] →
-    (w : Walked i s.pattern q (kept i (dots s.pattern) q (reverse s.spots)) met log outers here todo ws hs) → w.out ≡ kept i (dots s.pattern) q (reverse s.spots)
+    (w : Walked i s.pattern q (kept i (dots s.pattern) q (reverse s.spots)) met log outers here todo ws hs)
+    → w.out ≡ kept i (dots s.pattern) q (reverse s.spots)
 walked_done i q size old log before outers here first todo met ws hs s e w =
-    let none : w.stack ≡ [] = each_none (Shows log outers) w.stack (subst (λ l. Each (Shows log outers) l w.stack) e w.shown) in
+    let none : w.stack ≡ [] = each_none (Shows log outers) w.stack
+    (subst (λ l. Each (Shows log outers) l w.stack) e w.shown) in
     turned_done i s.pattern q (kept i (dots s.pattern) q (reverse s.spots)) met w.out
     (subst (λ l. KeepsTo i s.pattern q (kept i (dots s.pattern) q (reverse s.spots)) l met w.out) none w.keeps)
 
-pub walked_end : {A : Type 0} (i : Input) (q size : ℕ) (old log : Log) (before outers : List (Outer A)) (here : Forest) (first todo : List (Position A)) (met : List ℕ)
+pub walked_end : {A : Type 0} (i : Input) (q size : ℕ) (old log : Log) (before outers : List (Outer A)) (here : Forest)
+    (first todo : List (Position A)) (met : List ℕ)
     (ws : List (Waiting A)) (hs : List Handle) (s : IsStack i q size old before first) → todo ≡ [] →
     Walked i s.pattern q (kept i (dots s.pattern) q (reverse s.spots)) met log outers here todo ws hs →
     AreSettled i q s.pattern s.spots log outers here ws hs
@@ -235,10 +281,13 @@ walked_end i q size old log before outers here first todo met ws hs s e w =
       ended = subst (λ l. Each (Holds log) hs (filter_map finished_of l)) done w.ended;
     }
 
-pub fills_done : {A : Type 0} (i : Input) (q size : ℕ) (old log : Log) (before outers : List (Outer A)) (here : Forest) (first todo : List (Position A)) (met : List ℕ)
+pub fills_done : {A : Type 0} (i : Input) (q size : ℕ) (old log : Log) (before outers : List (Outer A)) (here : Forest)
+    (first todo : List (Position A)) (met : List ℕ)
     (ws : List (Waiting A)) (hs : List Handle) (s : IsStack i q size old before first) → todo ≡ [] →
-    (w : Walked i s.pattern q (kept i (dots s.pattern) q (reverse s.spots)) met log outers here todo ws hs) (len : ℕ) → Lawful i len → FillsAll i s.pattern q s.spots w.stack w.out →
-    Checked s.pattern → (xs : List Beginning) → ((x : Beginning) → In x xs → At i s.pattern q x) → map erase xs ≡ reverse s.spots →
+    (w : Walked i s.pattern q (kept i (dots s.pattern) q (reverse s.spots)) met log outers here todo ws hs) (len : ℕ)
+    → Lawful i len → FillsAll i s.pattern q s.spots w.stack w.out →
+    Checked s.pattern → (xs : List Beginning) → ((x : Beginning) → In x xs → At i s.pattern q x)
+    → map erase xs ≡ reverse s.spots →
     kept i (dots s.pattern) q (reverse s.spots) ≡ map erase (held i q xs)
 fills_done i q size old log before outers here first todo met ws hs s e w len lawful fills =
     fills_whole i s.pattern q len lawful s.spots w.stack w.out (kept i (dots s.pattern) q (reverse s.spots))
@@ -255,40 +304,53 @@ some_few : {X : Type 0} (x : Option X) → length (option_to_list x) ≤ 1
 some_few None = omega arith
 some_few (Some x) = omega arith
 
-both_few : {X Y : Type 0} (R : X → Y → Type 0) (x : Option X) (y : Option Y) → Both R x y → length (option_to_list x) ≡ length (option_to_list y)
+both_few : {X Y : Type 0} (R : X → Y → Type 0) (x : Option X) (y : Option Y) → Both R x y
+    → length (option_to_list x) ≡ length (option_to_list y)
 both_few R None None h = refl
 both_few R (Some x) (Some y) h = refl
 both_few R None (Some y) h = absurd h
 both_few R (Some x) None h = absurd h
 
 -- a position at the pattern's end goes on over no token
-one_way : (i : Input) (q : ℕ) (o : Outline) → length (option_to_list (next_of i q o)) + length (option_to_list (finished_of o)) ≤ 1
+one_way : (i : Input) (q : ℕ) (o : Outline)
+    → length (option_to_list (next_of i q o)) + length (option_to_list (finished_of o)) ≤ 1
 one_way i q (outline no_ops e []) = omega arith
-one_way i q (outline no_ops e (x ∷ up)) = let f : length (option_to_list (next_of i q (outline no_ops e (x ∷ up)))) ≤ 1 = some_few (next_of i q (outline no_ops e (x ∷ up))) in omega (arith, f)
-one_way i q (outline (op o rest) e up) = let f : length (option_to_list (next_of i q (outline (op o rest) e up))) ≤ 1 = some_few (next_of i q (outline (op o rest) e up)) in omega (arith, f)
+one_way i q (outline no_ops e (x ∷ up)) =
+    let f : length (option_to_list (next_of i q (outline no_ops e (x ∷ up)))) ≤ 1 =
+    some_few (next_of i q (outline no_ops e (x ∷ up))) in omega (arith, f)
+one_way i q (outline (op o rest) e up) = let f : length (option_to_list (next_of i q (outline (op o rest) e up))) ≤ 1 =
+    some_few (next_of i q (outline (op o rest) e up)) in omega (arith, f)
 
-pub steps_few : {A : Type 0} (i : Input) (argument : Forest) (q : ℕ) (log new : Log) (outers after : List (Outer A)) (p : Position A) (s : Steps A) → IsPosition log outers p →
-    ((o : Outline) → Shows log outers p o → AreSteps i argument q log new outers after o s) → length (option_to_list s.next) + length (option_to_list s.done) ≤ 1
+pub steps_few : {A : Type 0} (i : Input) (argument : Forest) (q : ℕ) (log new : Log) (outers after : List (Outer A))
+    (p : Position A) (s : Steps A) → IsPosition log outers p →
+    ((o : Outline) → Shows log outers p o → AreSteps i argument q log new outers after o s)
+    → length (option_to_list s.next) + length (option_to_list s.done) ≤ 1
 steps_few i argument q log new outers after p s is gives =
     let st = gives is.0 is.1 in
-    let a : length (option_to_list s.next) ≡ length (option_to_list (next_of i q is.0)) = both_few (LeadsTo new after (rest_at argument q)) s.next (next_of i q is.0) st.now.next in
-    let b : length (option_to_list s.done) ≡ length (option_to_list (finished_of is.0)) = both_few (Holds new) s.done (finished_of is.0) st.now.done in
+    let a : length (option_to_list s.next) ≡ length (option_to_list (next_of i q is.0)) =
+    both_few (LeadsTo new after (rest_at argument q)) s.next (next_of i q is.0) st.now.next in
+    let b : length (option_to_list s.done) ≡ length (option_to_list (finished_of is.0)) =
+    both_few (Holds new) s.done (finished_of is.0) st.now.done in
     let c = one_way i q is.0 in
     omega (arith, a, b, c)
 
-pub few_on : {W H : Type 0} (ws ws' : List W) (hs hs' : List H) (w : Option W) (h : Option H) (v v' n : ℕ) → ws' ≡ ws ++ option_to_list w → hs' ≡ hs ++ option_to_list h →
-    length (option_to_list w) + length (option_to_list h) ≤ 1 → v' < v → length ws + length hs + v ≤ n → length ws' + length hs' + v' ≤ n
+pub few_on : {W H : Type 0} (ws ws' : List W) (hs hs' : List H) (w : Option W) (h : Option H) (v v' n : ℕ)
+    → ws' ≡ ws ++ option_to_list w → hs' ≡ hs ++ option_to_list h →
+    length (option_to_list w) + length (option_to_list h) ≤ 1 → v' < v → length ws + length hs + v ≤ n
+    → length ws' + length hs' + v' ≤ n
 few_on ws ws' hs hs' w h v v' n e f one l few =
     let a : length ws' ≡ length ws + length (option_to_list w) = ap length e ∙ length-append ws (option_to_list w) in
     let b : length hs' ≡ length hs + length (option_to_list h) = ap length f ∙ length-append hs (option_to_list h) in
     omega (arith, a, b, one, l, few)
 
-pub stack_falls : {P : Type 0} (rest all all' : List P) (p : P) (first second : Option P) (v v' : ℕ) → all ≡ rest ++ p ∷ [] → all' ≡ (rest ++ option_to_list second) ++ option_to_list first →
+pub stack_falls : {P : Type 0} (rest all all' : List P) (p : P) (first second : Option P) (v v' : ℕ)
+    → all ≡ rest ++ p ∷ [] → all' ≡ (rest ++ option_to_list second) ++ option_to_list first →
     v' < v → length all' + (v' + v') < length all + (v + v)
 stack_falls rest all all' p first second v v' e f l =
     let a : length all ≡ length rest + 1 = ap length e ∙ length-append rest (p ∷ []) in
     let b : length all' ≡ length rest + length (option_to_list second) + length (option_to_list first) =
-    ap length f ∙ length-append (rest ++ option_to_list second) (option_to_list first) ∙ ap (λ n. n + length (option_to_list first)) (length-append rest (option_to_list second)) in
+    ap length f ∙ length-append (rest ++ option_to_list second) (option_to_list first)
+    ∙ ap (λ n. n + length (option_to_list first)) (length-append rest (option_to_list second)) in
     let c : length (option_to_list first) ≤ 1 = some_few first in
     let d : length (option_to_list second) ≤ 1 = some_few second in
     omega (arith, a, b, c, d, l)

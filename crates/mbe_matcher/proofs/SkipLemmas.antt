@@ -13,24 +13,29 @@ skip_more : (xs ys : List Name) (cs : Commands) → skip_commands (xs ++ ys) cs 
 skip_more [] ys cs = refl
 skip_more (x ∷ xs) ys cs = skip_more xs ys (command cs (Command.skips x))
 
-skipped_first : (o : Op) (os : Ops) (a : Account) → skipped (names_of (op o os)) a ≡ skipped (names_of os) (skipped (names_of_op o) a)
-skipped_first o os a = ap (λ (cs : Commands). record { finished = a.finished; current = cs }) (skip_more (names_of_op o) (names_of os) a.current)
+skipped_first : (o : Op) (os : Ops) (a : Account)
+    → skipped (names_of (op o os)) a ≡ skipped (names_of os) (skipped (names_of_op o) a)
+skipped_first o os a = ap (λ (cs : Commands). record { finished = a.finished; current = cs })
+    (skip_more (names_of_op o) (names_of os) a.current)
 
 -- Some of the ops are skipped: whoever skips the others too has skipped all.
 pub record SkipsUpTo (old new : Log) (before after : Handle) (all left : Ops) : Type 0 where
   pub entries : HasEntriesOf new after
-  pub account : (a : Account) → IsAccount old before a → (b : Account) × IsAccount new after b × (skipped (names_of left) b ≡ skipped (names_of all) a)
+  pub account : (a : Account) → IsAccount old before a
+      → (b : Account) × IsAccount new after b × (skipped (names_of left) b ≡ skipped (names_of all) a)
   pub kept : IsKept old new
 
 pub skips_none : (log : Log) (h : Handle) (all : Ops) → HasEntriesOf log h → SkipsUpTo log log h h all all
 skips_none log h all l = record { entries = l; account = λ a i. (a, i, refl); kept = kept_not log }
 
 -- the ops that are left may be put otherwise
-pub skips_as : (old new : Log) (before after : Handle) (all left rest : Ops) → left ≡ rest → SkipsUpTo old new before after all left →
+pub skips_as : (old new : Log) (before after : Handle) (all left rest : Ops) → left ≡ rest
+    → SkipsUpTo old new before after all left →
     SkipsUpTo old new before after all rest
 skips_as old new before after all left rest e s = subst (SkipsUpTo old new before after all) e s
 
-pub skips_one : (old mid new : Log) (before between after : Handle) (all left rest : Ops) (o : Op) → left ≡ op o rest → SkipsUpTo old mid before between all left →
+pub skips_one : (old mid new : Log) (before between after : Handle) (all left rest : Ops) (o : Op) → left ≡ op o rest
+    → SkipsUpTo old mid before between all left →
     IsRewritten mid new between after (skipped (names_of_op o)) → SkipsUpTo old new before after all rest
 skips_one old mid new before between after all left rest o e s r = record {
   entries = r.entries;
@@ -38,15 +43,24 @@ skips_one old mid new before between after all left rest o e s r = record {
   kept = kept-on old mid new s.kept r.kept;
 }
   where
-    go : (a : Account) → (b : Account) × IsAccount mid between b × (skipped (names_of left) b ≡ skipped (names_of all) a) →
+    go : (a : Account) → (b : Account) × IsAccount mid between b
+        × (skipped (names_of left) b ≡ skipped (names_of all) a) →
         (b : Account) × IsAccount new after b × (skipped (names_of rest) b ≡ skipped (names_of all) a)
-    go a (b, i, h) = (skipped (names_of_op o) b, r.account b i, sym (skipped_first o rest b) ∙ ap (λ os. skipped (names_of os) b) (sym e) ∙ h)
+    go a (b, i, h) = (
+      skipped (names_of_op o) b,
+      r.account b i,
+      sym (skipped_first o rest b)
+          ∙ ap (λ os. skipped (names_of os) b) (sym e) ∙ h,
+    )
 
-pub skips_all : (old new : Log) (before after : Handle) (all left : Ops) → left ≡ no_ops → SkipsUpTo old new before after all left →
+pub skips_all : (old new : Log) (before after : Handle) (all left : Ops) → left ≡ no_ops
+    → SkipsUpTo old new before after all left →
     IsRewritten old new before after (skipped (names_of all))
-skips_all old new before after all left e s = record { entries = s.entries; account = λ a i. go a (s.account a i); kept = s.kept }
+skips_all old new before after all left e s =
+    record { entries = s.entries; account = λ a i. go a (s.account a i); kept = s.kept }
   where
-    go : (a : Account) → (b : Account) × IsAccount new after b × (skipped (names_of left) b ≡ skipped (names_of all) a) → IsAccount new after (skipped (names_of all) a)
+    go : (a : Account) → (b : Account) × IsAccount new after b × (skipped (names_of left) b ≡ skipped (names_of all) a)
+        → IsAccount new after (skipped (names_of all) a)
     go a (b, i, h) = subst (IsAccount new after) (ap (λ os. skipped (names_of os) b) (sym e) ∙ h) i
 
 -- nothing is skipped
@@ -54,11 +68,13 @@ pub rewritten_not : (log : Log) (h : Handle) → HasEntriesOf log h → IsRewrit
 rewritten_not log h l = record { entries = l; account = λ a i. i; kept = kept_not log }
 
 -- one name is skipped
-pub rewritten_by : (old new : Log) (before after : Handle) (name : Name) → IsChanged old new before after (pushed (Command.skips name)) →
+pub rewritten_by : (old new : Log) (before after : Handle) (name : Name)
+    → IsChanged old new before after (pushed (Command.skips name)) →
     IsRewritten old new before after (skipped (name ∷ []))
 rewritten_by old new before after name c = record { entries = c.entries; account = c.account; kept = c.kept }
 
-pub rewritten_ok : {E : Type 0} (r : Result ⊤ E) (old new : Log) (before after : Handle) (name : Name) → OnOk r (IsChanged old new before after (pushed (Command.skips name))) →
+pub rewritten_ok : {E : Type 0} (r : Result ⊤ E) (old new : Log) (before after : Handle) (name : Name)
+    → OnOk r (IsChanged old new before after (pushed (Command.skips name))) →
     OnOk r (IsRewritten old new before after (skipped (name ∷ [])))
 rewritten_ok (Ok x) old new before after name c = rewritten_by old new before after name c
 rewritten_ok (Err x) old new before after name c = tt

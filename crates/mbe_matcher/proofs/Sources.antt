@@ -13,19 +13,23 @@ use Rattle.mbe_matcher.specs.Fronts.{IsBehind}
 use Rattle.mbe_semantics.specs.Readings.Input.{is_none}
 
 -- what is held innermost is what is left at the place
-pub here_is : (f : Forest) (n : ℕ) (here : Forest) (around : List Forest) → rests f n ≡ (here, around) → n ≤ flat_len f → here ≡ rest_at f n
+pub here_is : (f : Forest) (n : ℕ) (here : Forest) (around : List Forest) → rests f n ≡ (here, around) → n ≤ flat_len f
+    → here ≡ rest_at f n
 here_is f n here around e h = ap (λ (r : Forest × List Forest). r.0) (sym e) ∙ rest_at-walk f [] n h
 
 -- one flat token further
-one_further : (f : Forest) (n : ℕ) (here : Forest) (around : List Forest) → rests f n ≡ (here, around) → rests f (n + 1) ≡ step here around
+one_further : (f : Forest) (n : ℕ) (here : Forest) (around : List Forest) → rests f n ≡ (here, around)
+    → rests f (n + 1) ≡ step here around
 one_further f n here around e = walk-step n (f, []) ∙ ap (λ (r : Forest × List Forest). step r.0 r.1) e
 
-leaf_step : (here left : Forest) (around : List Forest) (l : Leaf) → Some (Leaf_tree l) ≡ first here → left ≡ rest_of here → step here around ≡ (left, around)
+leaf_step : (here left : Forest) (around : List Forest) (l : Leaf) → Some (Leaf_tree l) ≡ first here
+    → left ≡ rest_of here → step here around ≡ (left, around)
 leaf_step none left around l e r = absurd (none-some _ (sym e))
 leaf_step (leaf k rest) left around l e r = ap (λ (x : Forest). (x, around)) (sym r)
 leaf_step (group d inside rest) left around l e r = absurd (cc)
 
-group_step : (here left : Forest) (around : List Forest) (d : Delimiter) (inside : Forest) → Some (Group_tree d inside) ≡ first here → left ≡ rest_of here →
+group_step : (here left : Forest) (around : List Forest) (d : Delimiter) (inside : Forest)
+    → Some (Group_tree d inside) ≡ first here → left ≡ rest_of here →
     step here around ≡ (inside, left ∷ around)
 group_step none left around d inside e r = absurd (none-some _ (sym e))
 group_step (leaf k rest) left around d inside e r = absurd (cc)
@@ -33,7 +37,8 @@ group_step (group c within rest) left around d inside e r =
     let same : inside ≡ within = cc in
     ap (λ (x : Forest). (x, rest ∷ around)) (sym same) ∙ ap (λ (x : Forest). (inside, x ∷ around)) (sym r)
 
-end_step : (here : Forest) (around : List Forest) (r : Forest) → None ≡ first here → step here (r ∷ around) ≡ (r, around)
+end_step : (here : Forest) (around : List Forest) (r : Forest) → None ≡ first here
+    → step here (r ∷ around) ≡ (r, around)
 end_step none around r e = refl
 end_step (leaf k rest) around r e = absurd (none-some _ e)
 end_step (group d inside rest) around r e = absurd (none-some _ e)
@@ -48,23 +53,29 @@ no_items [] e = refl
 no_items (x ∷ xs) e = absurd (omega arith)
 
 -- after a leaf, an opening and a closing
-module _ (f : Forest) (n : ℕ) (here left : Forest) (around : List Forest) (stands : rests f n ≡ (here, reverse around)) (rest : left ≡ rest_of here) where
+module _ (f : Forest) (n : ℕ) (here left : Forest) (around : List Forest) (stands : rests f n ≡ (here, reverse around))
+    (rest : left ≡ rest_of here) where
   pub behind_leaf : (l : Leaf) → Some (Leaf_tree l) ≡ first here → rests f (n + 1) ≡ (left, reverse around)
   behind_leaf l e = one_further f n here (reverse around) stands ∙ leaf_step here left (reverse around) l e rest
 
-  pub behind_opening : (d : Delimiter) (inside : Forest) (after : List Forest) → Some (Group_tree d inside) ≡ first here → after ≡ around ++ left ∷ [] →
+  pub behind_opening : (d : Delimiter) (inside : Forest) (after : List Forest) → Some (Group_tree d inside) ≡ first here
+      → after ≡ around ++ left ∷ [] →
       rests f (n + 1) ≡ (inside, reverse after)
   behind_opening d inside after e a =
       one_further f n here (reverse around) stands ∙ group_step here left (reverse around) d inside e rest
       ∙ ap (λ (x : List Forest). (inside, x)) (sym (ap reverse a ∙ reverse-append around (left ∷ [])))
 
-  pub behind_closing : (outer : Forest) (after : List Forest) → None ≡ first here → around ≡ after ++ outer ∷ [] → rests f (n + 1) ≡ (outer, reverse after)
+  pub behind_closing : (outer : Forest) (after : List Forest) → None ≡ first here → around ≡ after ++ outer ∷ []
+      → rests f (n + 1) ≡ (outer, reverse after)
   behind_closing outer after e a =
-      one_further f n here (reverse around) stands ∙ ap (step here) (ap reverse a ∙ reverse-append after (outer ∷ [])) ∙ end_step here (reverse after) outer e
+      one_further f n here (reverse around) stands ∙ ap (step here) (ap reverse a ∙ reverse-append after (outer ∷ []))
+      ∙ end_step here (reverse after) outer e
 
-  pub behind_all : (after : List Forest) → None ≡ first here → length around ≡ 0 → length after ≡ 0 → rests f (n + 1) ≡ (left, reverse after)
+  pub behind_all : (after : List Forest) → None ≡ first here → length around ≡ 0 → length after ≡ 0
+      → rests f (n + 1) ≡ (left, reverse after)
   behind_all after e a b =
-      one_further f n here (reverse around) stands ∙ ap (λ (x : List Forest). step here (reverse x)) (no_items around a) ∙ last_step here left e rest
+      one_further f n here (reverse around) stands ∙ ap (λ (x : List Forest). step here (reverse x)) (no_items around a)
+      ∙ last_step here left e rest
       ∙ ap (λ (x : List Forest). (left, reverse x)) (sym (no_items after b))
 
 -- ---- where a group closes
@@ -74,7 +85,8 @@ none_is r none h = h.1 refl
 none_is r (leaf l rest) h = false_from_ne_true r (λ t. let e : leaf l rest ≡ none = h.0 t in absurd cc)
 none_is r (group d inside rest) h = false_from_ne_true r (λ t. let e : group d inside rest ≡ none = h.0 t in absurd cc)
 
-pub closes_here : (f here : Forest) (n : ℕ) (r : Bool) → here ≡ rest_at f n → n < flat_len f → IsTrue r ↔ (here ≡ none) → r ≡ (nat_lt n (flat_len f) && is_none (rest_at f n))
+pub closes_here : (f here : Forest) (n : ℕ) (r : Bool) → here ≡ rest_at f n → n < flat_len f → IsTrue r ↔ (here ≡ none)
+    → r ≡ (nat_lt n (flat_len f) && is_none (rest_at f n))
 closes_here f here n r e l h =
     none_is r here h ∙ ap is_none e ∙ ap (λ (b : Bool). b && is_none (rest_at f n)) (sym (lt-ltb n (flat_len f) l))
 
@@ -83,7 +95,8 @@ closes_not f n l = ap (λ (b : Bool). b && is_none (rest_at f n)) (sym (le-ltb n
 
 -- ---- after whole trees
 
-walk_past : (front beyond : Forest) (around : List Forest) (n m : ℕ) → n ≡ flat_len front + m → walk n (append front beyond, around) ≡ walk m (beyond, around)
+walk_past : (front beyond : Forest) (around : List Forest) (n m : ℕ) → n ≡ flat_len front + m
+    → walk n (append front beyond, around) ≡ walk m (beyond, around)
 walk_past none beyond around n m e = let h : n ≡ m = omega (arith, e) in ap (λ (k : ℕ). walk k (beyond, around)) h
 walk_past (leaf l rest) beyond around zero m e = absurd (omega (arith, e))
 walk_past (leaf l rest) beyond around (suc n) m e = walk_past rest beyond around n m (omega (arith, e))
@@ -98,7 +111,8 @@ walk_on zero m k r e = let h : k ≡ m = omega (arith, e) in ap (λ (x : ℕ). w
 walk_on (suc n) m zero r e = absurd (omega (arith, e))
 walk_on (suc n) m (suc k) r e = walk_on n m k (step r.0 r.1) (omega (arith, e))
 
-pub behind_trees : (f : Forest) (n width : ℕ) (here beyond : Forest) (around : List Forest) → rests f n ≡ (here, around) → IsBehind here width beyond →
+pub behind_trees : (f : Forest) (n width : ℕ) (here beyond : Forest) (around : List Forest) → rests f n ≡ (here, around)
+    → IsBehind here width beyond →
     rests f (n + width) ≡ (beyond, around)
 behind_trees f n width here beyond around e (front, a, l) =
     walk_on n width (n + width) (f, []) refl ∙ ap (walk width) e ∙ ap (λ (h : Forest). walk width (h, around)) (sym a)

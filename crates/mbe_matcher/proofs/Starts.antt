@@ -30,7 +30,7 @@ use Rattle.mbe_matcher.specs.declared.position.Outer.{Outer}
 use Rattle.mbe_matcher.specs.Fronts.{IsUnlike, BeginsUnlike, is_other, begins_otherwise, failing_first}
 use Rattle.mbe_matcher.specs.Positions.{Each, LeadsTo, Holds}
 use Rattle.mbe_matcher.specs.declared.places.Stop.{Stop}
-use Rattle.mbe_matcher.specs.declared.places.Stop.TheVariants as told
+use Rattle.mbe_matcher.specs.declared.places.Stop.TheVariants as variants
 use Rattle.mbe_matcher.specs.Matched.{AreSettled, verdict_in, reading_in}
 use Rattle.mbe_matcher.specs.Failures.{Misfit, Notes, no_notes, noted_at, noted_with, misfit, misfit_unless, has_step, is_any, AreNotes, stop_kind, Reports}
 use Rattle.mbe_matcher.proofs.MatchEnds.{right_stop}
@@ -52,15 +52,19 @@ module _ (g : Grammar) (f : Forest) (rest : Ops) (a : Account) (up : List Edge) 
 
   pub no_idle : (o : Op) → IsUnlike g o f → idle_of (input_of g f) 0 (outline (op o rest) a up) ≡ []
   no_idle (token t) u = ap (λ c. empty_by (length_of c) (outline rest a up)) (ap (token_front t) (rest_at-zero f) ∙ u)
-  no_idle (variable name kind span) u = ap (λ c. empty_bound name (fragment_of kind c) rest a up) (ap (takes g kind) (rest_at-zero f) ∙ u)
+  no_idle (variable name kind span) u = ap (λ c. empty_bound name (fragment_of kind c) rest a up)
+      (ap (takes g kind) (rest_at-zero f) ∙ u)
   no_idle (group d b) u = refl
   no_idle (repetition b s k) u = absurd u
   no_idle (expression e) u = absurd u
 
   pub no_next : (o : Op) → IsUnlike g o f → next_of (input_of g f) 0 (outline (op o rest) a up) ≡ None
-  no_next (token t) u = ap (λ c. over_advance (length_of c) (outline rest a up)) (ap (token_front t) (rest_at-zero f) ∙ u)
-  no_next (variable name kind span) u = ap (λ c. bound_advance name (fragment_of kind c) rest a up) (ap (takes g kind) (rest_at-zero f) ∙ u)
-  no_next (group d b) u = ap (λ t. when_advance t (advance 1 false (outline b a (gate rest ∷ up)))) (ap (is_opening d.kind) (rest_at-zero f) ∙ u)
+  no_next (token t) u = ap (λ c. over_advance (length_of c) (outline rest a up))
+      (ap (token_front t) (rest_at-zero f) ∙ u)
+  no_next (variable name kind span) u = ap (λ c. bound_advance name (fragment_of kind c) rest a up)
+      (ap (takes g kind) (rest_at-zero f) ∙ u)
+  no_next (group d b) u = ap (λ t. when_advance t (advance 1 false (outline b a (gate rest ∷ up))))
+      (ap (is_opening d.kind) (rest_at-zero f) ∙ u)
   no_next (repetition b s k) u = absurd u
   no_next (expression e) u = absurd u
 
@@ -74,7 +78,8 @@ stops_there false = refl
 
 -- ---- where the first op doesn't fit
 
-module _ (g : Grammar) (f : Forest) (law : IsLawful g) (o : Op) (rest : Ops) (checked : Checked (op o rest)) (unlike : IsUnlike g o f) where
+module _ (g : Grammar) (f : Forest) (law : IsLawful g) (o : Op) (rest : Ops) (checked : Checked (op o rest))
+    (unlike : IsUnlike g o f) where
   abbrev pattern : Ops
   pattern = op o rest
 
@@ -102,14 +107,16 @@ module _ (g : Grammar) (f : Forest) (law : IsLawful g) (o : Op) (rest : Ops) (ch
       let k = turned_keeps (input_of g f) (op o rest) 0 begun.xs (first ∷ []) sound begun.same in
       let t = (turned_take (input_of g f) (op o rest) 0 all [] [] first [] k (omega arith)).0 in
       turned_done (input_of g f) (op o rest) 0 all (outline_number first ∷ []) (first ∷ [])
-      (subst (λ l. KeepsTo (input_of g f) (op o rest) 0 all (reverse l) (outline_number first ∷ []) (first ∷ [])) idle_none t)
+      (subst (λ l. KeepsTo (input_of g f) (op o rest) 0 all (reverse l) (outline_number first ∷ []) (first ∷ []))
+      idle_none t)
 
   all_held : all ≡ map erase (held (input_of g f) 0 begun.xs)
   all_held =
       let s = fills_more (input_of g f) (op o rest) 0 (flat_len f) lawful (first ∷ []) (first ∷ []) [] [] first refl
       (fills_first (input_of g f) (op o rest) 0 (flat_len f) lawful (first ∷ [])) in
       fills_whole (input_of g f) (op o rest) 0 (flat_len f) lawful (first ∷ []) [] (first ∷ []) all refl first_alone
-      (subst (λ l. FillsAll (input_of g f) (op o rest) 0 (first ∷ []) (reverse l) (first ∷ [])) idle_none s) checked begun.xs sound begun.same
+      (subst (λ l. FillsAll (input_of g f) (op o rest) 0 (first ∷ []) (reverse l) (first ∷ [])) idle_none s) checked
+      begun.xs sound begun.same
 
   no_moves : [] ≡ kept_moves (input_of g f) (dots (op o rest)) 0 (reverse (first ∷ []))
   no_moves =
@@ -128,7 +135,8 @@ module _ (g : Grammar) (f : Forest) (law : IsLawful g) (o : Op) (rest : Ops) (ch
   pub stuck_verdict : IsVerdict g (op o rest) f (stuck 0)
   stuck_verdict =
       right_stop g (op o rest) f lawful checked 0 (first ∷ [])
-      (turned_start (input_of g f) (op o rest) (flat_len f) lawful checked first refl) (omega arith) no_lists [] [] [] settled
+      (turned_start (input_of g f) (op o rest) (flat_len f) lawful checked first refl) (omega arith) no_lists [] [] []
+      settled
       (stuck 0) (stops_there (0 == flat_len f))
 
   fails : has_step (input_of g f) 0 first ≡ false
@@ -141,18 +149,22 @@ module _ (g : Grammar) (f : Forest) (law : IsLawful g) (o : Op) (rest : Ops) (ch
 
   pub stuck_notes : AreNotes (input_of g f) (op o rest) 0 (noted_with (option_to_list failed_first) [] no_notes)
   stuck_notes =
-      let n = whole_notes (input_of g f) (op o rest) (flat_len f) lawful checked 0 (first ∷ []) no_notes begun all_held in
+      let n = whole_notes (input_of g f) (op o rest) (flat_len f) lawful checked 0 (first ∷ []) no_notes begun
+      all_held in
       let one = one_kept (misfit (input_of g f) 0) first failed_first (ap (λ b. misfit_unless b 0 first) fails) in
       subst (AreNotes (input_of g f) (op o rest) 0)
       (ap (λ l. noted_at (input_of g f) 0 l no_notes) (sym first_alone) ∙ ap (λ ms. noted_with ms [] no_notes) one) n
 
 -- the same of a pattern
-pub begins_stuck : (g : Grammar) (pattern : Ops) (f : Forest) → IsLawful g → Checked pattern → BeginsUnlike g pattern f → IsVerdict g pattern f (stuck 0)
+pub begins_stuck : (g : Grammar) (pattern : Ops) (f : Forest) → IsLawful g → Checked pattern → BeginsUnlike g pattern f
+    → IsVerdict g pattern f (stuck 0)
 begins_stuck g no_ops f law checked u = absurd u
 begins_stuck g (op o rest) f law checked u = stuck_verdict g f law o rest checked u
 
-pub begins_notes : (g : Grammar) (pattern : Ops) (f : Forest) → IsLawful g → Checked pattern → BeginsUnlike g pattern f →
-    AreNotes (input_of g f) pattern 0 (noted_with (option_to_list (misfit_unless false 0 (outline pattern no_account []))) [] no_notes)
+pub begins_notes : (g : Grammar) (pattern : Ops) (f : Forest) → IsLawful g → Checked pattern → BeginsUnlike g pattern f
+    →
+    AreNotes (input_of g f) pattern 0 (noted_with
+    (option_to_list (misfit_unless false 0 (outline pattern no_account []))) [] no_notes)
 begins_notes g no_ops f law checked u = absurd u
 begins_notes g (op o rest) f law checked u = stuck_notes g f law o rest checked u
 
@@ -165,12 +177,14 @@ other_unlike g (group d b) f e = cc
 other_unlike g (repetition b s k) f e = cc
 other_unlike g (expression x) f e = cc
 
-pub otherwise_unlike : (g : Grammar) (pattern : Ops) (f : Forest) → begins_otherwise pattern f ≡ true → BeginsUnlike g pattern f
+pub otherwise_unlike : (g : Grammar) (pattern : Ops) (f : Forest) → begins_otherwise pattern f ≡ true
+    → BeginsUnlike g pattern f
 otherwise_unlike g no_ops f e = cc
 otherwise_unlike g (op o rest) f e = other_unlike g o f e
 
 -- so the match is stuck at its start
-pub otherwise_stuck : (g : Grammar) (pattern : Ops) (f : Forest) → IsLawful g → Checked pattern → begins_otherwise pattern f ≡ true → IsVerdict g pattern f (stuck 0)
+pub otherwise_stuck : (g : Grammar) (pattern : Ops) (f : Forest) → IsLawful g → Checked pattern
+    → begins_otherwise pattern f ≡ true → IsVerdict g pattern f (stuck 0)
 otherwise_stuck g pattern f law checked e = begins_stuck g pattern f law checked (otherwise_unlike g pattern f e)
 
 token_fails : (g : Grammar) (t : Token) (f : Forest) (around : DelimSpan) → failing g (token t) f around ≡ None → ⊥
@@ -178,7 +192,8 @@ token_fails g (ops.literal l) f around e = cc
 token_fails g (ops.ident i) f around e = cc
 token_fails g (ops.puncts ps) f around e = cc
 
-pub otherwise_fails : (g : Grammar) (pattern : Ops) (f : Forest) (around : DelimSpan) → begins_otherwise pattern f ≡ true → failing_first g pattern f around ≡ None → ⊥
+pub otherwise_fails : (g : Grammar) (pattern : Ops) (f : Forest) (around : DelimSpan)
+    → begins_otherwise pattern f ≡ true → failing_first g pattern f around ≡ None → ⊥
 otherwise_fails g no_ops f around e n = cc
 otherwise_fails g (op (token t) rest) f around e n = token_fails g t f around n
 otherwise_fails g (op (variable name kind span) rest) f around e n = cc
@@ -187,13 +202,17 @@ otherwise_fails g (op (repetition b s k) rest) f around e n = cc
 otherwise_fails g (op (expression x) rest) f around e n = cc
 
 -- it is what the match reports, with nothing bound
-pub otherwise_reports : (g : Grammar) (pattern : Ops) (f : Forest) (around : DelimSpan) → IsLawful g → Checked pattern → begins_otherwise pattern f ≡ true →
-    (err : ExpandError) → failing_first g pattern f around ≡ Some err → Reports g pattern f around (stuck 0) err no_commands
+pub otherwise_reports : (g : Grammar) (pattern : Ops) (f : Forest) (around : DelimSpan) → IsLawful g → Checked pattern
+    → begins_otherwise pattern f ≡ true →
+    (err : ExpandError) → failing_first g pattern f around ≡ Some err
+    → Reports g pattern f around (stuck 0) err no_commands
 otherwise_reports g no_ops f around law checked e err n = cc
 otherwise_reports g (op (token t) rest) f around law checked e err n = record {
   notes = noted_with (option_to_list (misfit_unless false 0 (outline (op (token t) rest) no_account []))) [] no_notes;
   noted = begins_notes g (op (token t) rest) f law checked (otherwise_unlike g (op (token t) rest) f e);
-  error = sym (ap (λ x. unwrap_or x (let d : ExpandError = record { span = around.opening; kind = stop_kind (0 == flat_len f) } in d)) (ap (λ h. failing g (token t) h around) (rest_at-zero f) ∙ n));
+  error = sym (ap (λ x. unwrap_or x (let d : ExpandError =
+      record { span = around.opening; kind = stop_kind (0 == flat_len f) } in d))
+      (ap (λ h. failing g (token t) h around) (rest_at-zero f) ∙ n));
   bindings = refl;
 }
 otherwise_reports g (op (variable name kind span) rest) f around law checked e err n = cc
@@ -203,7 +222,7 @@ otherwise_reports g (op (expression x) rest) f around law checked e err n = cc
 
 -- where it is stuck there is no reading
 pub stuck_reads_nothing : (P : Handle → Type 0) (s : Stop) → verdict_in s ≡ stuck 0 → IfSome (reading_in s) P
-stuck_reads_nothing P (told.OneReading h) e = cc
-stuck_reads_nothing P told.ManyReadings e = tt
-stuck_reads_nothing P (told.Ambiguous q) e = tt
-stuck_reads_nothing P (told.Stuck q) e = tt
+stuck_reads_nothing P (variants.OneReading h) e = cc
+stuck_reads_nothing P variants.ManyReadings e = tt
+stuck_reads_nothing P (variants.Ambiguous q) e = tt
+stuck_reads_nothing P (variants.Stuck q) e = tt

@@ -25,12 +25,15 @@ use Rattle.mbe_matcher.specs.TwoEnds.{GoesToStop, KeptPassGoesOn}
 use Rattle.mbe_matcher.proofs.TwoEnds.{known, calm_moves}
 use Rattle.mbe_matcher.proofs.KeptEnds.{Pass, passes, pass_width}
 
-module _ (i : Input) (pattern : Ops) (len : ℕ) (lawful : Lawful i len) (checked : Checked pattern) (q : ℕ) (xs : List Beginning) (v : Inv i pattern q xs)
-    (n : ℕ) (f : Bool) (y0 : Beginning) (ms : List Move) (e : moves_of i q (held i q xs) ≡ move n f y0 ∷ ms) (c : clashing (move n f y0 ∷ ms) ≡ false) where
+module _ (i : Input) (pattern : Ops) (len : ℕ) (lawful : Lawful i len) (checked : Checked pattern) (q : ℕ)
+    (xs : List Beginning) (v : Inv i pattern q xs)
+    (n : ℕ) (f : Bool) (y0 : Beginning) (ms : List Move) (e : moves_of i q (held i q xs) ≡ move n f y0 ∷ ms)
+    (c : clashing (move n f y0 ∷ ms) ≡ false) where
   width : (x y : Beginning) → Begins i pattern x → place x ≡ q → (m : Moves i x y) → place y ≡ q + n
   width x y b p m =
       let h : In (move m.0 m.1 y) (moves_of i q (held i q xs)) =
-      in_filter (next i q) x (move m.0 m.1 y) (held i q xs) (held-all i pattern len lawful checked q xs v x (b, p)) (subst (λ r. next i r x ≡ Some (move m.0 m.1 y)) p m.2) in
+      in_filter (next i q) x (move m.0 m.1 y) (held i q xs) (held-all i pattern len lawful checked q xs v x (b, p))
+      (subst (λ r. next i r x ≡ Some (move m.0 m.1 y)) p m.2) in
       let w : n ≡ m.0 = same (subst (λ l. In (move m.0 m.1 y) l) e h) in
       let d : place y ≡ place x + m.0 = m.3 in
       omega (arith, w, d, p)
@@ -41,42 +44,54 @@ module _ (i : Input) (pattern : Ops) (len : ℕ) (lawful : Lawful i len) (checke
 
   -- no beginning ends between the place and the next
   none_between : (y : Beginning) → Begins i pattern y → place y < q + n → place y ≤ q
-  none_between = by_steps i pattern len lawful checked (λ y. Begins i pattern y → place y < q + n → place y ≤ q) (λ y ih b l. turn y ih l (parents i pattern y b))
+  none_between = by_steps i pattern len lawful checked (λ y. Begins i pattern y → place y < q + n → place y ≤ q)
+      (λ y ih b l. turn y ih l (parents i pattern y b))
     where
-      jump : (x y : Beginning) → Begins i pattern x → Moves i x y → place y < q + n → (place x ≡ q) ⊎ (place x < q) → place y ≤ q
+      jump : (x y : Beginning) → Begins i pattern x → Moves i x y → place y < q + n → (place x ≡ q) ⊎ (place x < q)
+          → place y ≤ q
       jump x y b m k (inl p) = let d : place y ≡ q + n = width x y b p m in absurd (omega (arith, d, k))
       jump x y b m k (inr p) = v.jump x y b m p
 
-      turn : (y : Beginning) → ((x : Beginning) → steps (story x) < steps (story y) → Begins i pattern x → place x < q + n → place x ≤ q) → place y < q + n →
+      turn : (y : Beginning) → ((x : Beginning) → steps (story x) < steps (story y) → Begins i pattern x
+          → place x < q + n → place x ≤ q) → place y < q + n →
           ((y ≡ start pattern) ⊎ From i pattern y) → place y ≤ q
       turn y ih k (inl p) = let d : place y ≡ 0 = ap place p in omega (arith, d)
       turn y ih k (inr (x, b, inl s)) =
           let d : place y ≡ place x = s.1 in
-          let l : place x ≤ q = ih x (idles_steps i pattern len lawful checked x y s) b (omega (arith, d, k)) in omega (arith, d, l)
+          let l : place x ≤ q = ih x (idles_steps i pattern len lawful checked x y s) b (omega (arith, d, k)) in
+          omega (arith, d, l)
       turn y ih k (inr (x, b, inr m)) =
           let t : (0 < m.0) × (place x + m.0 ≤ len) = next-takes i len (place x) m.0 m.1 x y lawful m.2 in
           let t0 = t.0 in
           let d : place y ≡ place x + m.0 = m.3 in
-          jump x y b m k (eq-or-lt_of_le (ih x (moves_steps i pattern len lawful checked x y m) b (omega (arith, t0, d, k))))
+          jump x y b m k (eq-or-lt_of_le (ih x (moves_steps i pattern len lawful checked x y m) b
+          (omega (arith, t0, d, k))))
 
 -- a beginning ends where the match stops
-at_stop : (g : Grammar) (pattern : Ops) (argument : Forest) (v : Verdict) → IsVerdict g pattern argument v → (x : Beginning) × At (input_of g argument) pattern (stop_of argument v) x
+at_stop : (g : Grammar) (pattern : Ops) (argument : Forest) (v : Verdict) → IsVerdict g pattern argument v
+    → (x : Beginning) × At (input_of g argument) pattern (stop_of argument v) x
 at_stop g pattern argument one_reading is = read (is.1.0) (is.1.1.0)
   where
-    read : (is : Items) → Reading (input_of g argument) pattern (flat_len argument) is → (x : Beginning) × At (input_of g argument) pattern (flat_len argument) x
+    read : (is : Items) → Reading (input_of g argument) pattern (flat_len argument) is
+        → (x : Beginning) × At (input_of g argument) pattern (flat_len argument) x
     read is r = let w : items_width is ≡ flat_len argument = r.1 in (dot no_ops is [], ((tt, r.0), omega (arith, w)))
 at_stop g pattern argument many_readings is = read (is.1.0) (is.1.2)
   where
-    read : (is : Items) → Reading (input_of g argument) pattern (flat_len argument) is → (x : Beginning) × At (input_of g argument) pattern (flat_len argument) x
+    read : (is : Items) → Reading (input_of g argument) pattern (flat_len argument) is
+        → (x : Beginning) × At (input_of g argument) pattern (flat_len argument) x
     read is r = let w : items_width is ≡ flat_len argument = r.1 in (dot no_ops is [], ((tt, r.0), omega (arith, w)))
 at_stop g pattern argument (ambiguous p) is = let a = is.0 in (a.one, a.one_at)
 at_stop g pattern argument (stuck p) is = is.2
 
 -- a beginning ends in the argument
-place_within : (i : Input) (pattern : Ops) (len : ℕ) (lawful : Lawful i len) → Checked pattern → (y : Beginning) → Begins i pattern y → place y ≤ len
-place_within i pattern len lawful checked = by_steps i pattern len lawful checked (λ y. Begins i pattern y → place y ≤ len) (λ y ih b. turn y ih (parents i pattern y b))
+place_within : (i : Input) (pattern : Ops) (len : ℕ) (lawful : Lawful i len) → Checked pattern → (y : Beginning)
+    → Begins i pattern y → place y ≤ len
+place_within i pattern len lawful checked =
+    by_steps i pattern len lawful checked (λ y. Begins i pattern y → place y ≤ len)
+    (λ y ih b. turn y ih (parents i pattern y b))
   where
-    turn : (y : Beginning) → ((x : Beginning) → steps (story x) < steps (story y) → Begins i pattern x → place x ≤ len) → ((y ≡ start pattern) ⊎ From i pattern y) → place y ≤ len
+    turn : (y : Beginning) → ((x : Beginning) → steps (story x) < steps (story y) → Begins i pattern x → place x ≤ len)
+        → ((y ≡ start pattern) ⊎ From i pattern y) → place y ≤ len
     turn y ih (inl p) = let d : place y ≡ 0 = ap place p in omega (arith, d)
     turn y ih (inr (x, b, inl s)) =
         let d : place y ≡ place x = s.1 in
@@ -86,11 +101,14 @@ place_within i pattern len lawful checked = by_steps i pattern len lawful checke
         let t1 = t.1 in
         let d : place y ≡ place x + m.0 = m.3 in omega (arith, t1, d)
 
-pub stop_within : (g : Grammar) (pattern : Ops) (argument : Forest) → IsLawful g → Checked pattern → (v : Verdict) → IsVerdict g pattern argument v → stop_of argument v ≤ flat_len argument
+pub stop_within : (g : Grammar) (pattern : Ops) (argument : Forest) → IsLawful g → Checked pattern → (v : Verdict)
+    → IsVerdict g pattern argument v → stop_of argument v ≤ flat_len argument
 stop_within g pattern argument w checked v is =
-    let s : (x : Beginning) × At (input_of g argument) pattern (stop_of argument v) x = at_stop g pattern argument v is in
+    let s : (x : Beginning) × At (input_of g argument) pattern (stop_of argument v) x =
+    at_stop g pattern argument v is in
     let far : place s.0 ≡ stop_of argument v = s.1.1 in
-    let l : place s.0 ≤ flat_len argument = place_within (input_of g argument) pattern (flat_len argument) (lawful_input g argument w) checked s.0 s.1.0 in
+    let l : place s.0 ≤ flat_len argument =
+    place_within (input_of g argument) pattern (flat_len argument) (lawful_input g argument w) checked s.0 s.1.0 in
     omega (arith, far, l)
 
 pub goes_on : KeptPassGoesOn
@@ -113,19 +131,26 @@ goes_on g pattern argument w checked v is q os ps before h l = go (moves_of i q 
 
     go : (ms : List Move) → moves_of i q (held i q p.xs) ≡ ms → GoesToStop i pattern (stop_of argument v) q os
     go [] e =
-        let a : place stop.0 ≤ q = last-place i pattern (flat_len argument) (lawful_input g argument w) checked q p.xs inv e stop.0 stop.1.0 in
+        let a : place stop.0 ≤ q = last-place i pattern (flat_len argument) (lawful_input g argument w) checked q p.xs
+        inv e stop.0 stop.1.0 in
         let b = far in absurd (omega (arith, a, b, l))
     go (move n f y ∷ ms) e =
-        let c : clashing (moves_of i q (held i q p.xs)) ≡ false = calm_moves g pattern argument w checked v is q p.xs inv l (clashing (moves_of i q (held i q p.xs))) refl in
+        let c : clashing (moves_of i q (held i q p.xs)) ≡ false =
+        calm_moves g pattern argument w checked v is q p.xs inv l (clashing (moves_of i q (held i q p.xs))) refl in
         let k : clashing (move n f y ∷ ms) ≡ false = ap clashing (sym e) ∙ c in
-        let s : (0 < n) × (q + n ≤ flat_len argument) = some_width i pattern (flat_len argument) (lawful_input g argument w) checked q p.xs inv n f y ms e k in
+        let s : (0 < n) × (q + n ≤ flat_len argument) =
+        some_width i pattern (flat_len argument) (lawful_input g argument w) checked q p.xs inv n f y ms e k in
         record {
           width = n;
           is = pass_width g pattern argument w checked q os ps before p n f y ms e;
           some = s.0;
-          within = end n (λ t. none_between i pattern (flat_len argument) (lawful_input g argument w) checked q p.xs inv n f y ms e k stop.0 stop.1.0 t) (nat_lt (place stop.0) (q + n)) refl;
+          within = end n (λ t. none_between i pattern (flat_len argument) (lawful_input g argument w) checked q p.xs inv
+              n f y ms e k stop.0 stop.1.0 t) (nat_lt (place stop.0) (q + n)) refl;
         }
       where
-        end : (n : ℕ) → (place stop.0 < q + n → place stop.0 ≤ q) → (b : Bool) → nat_lt (place stop.0) (q + n) ≡ b → q + n ≤ stop_of argument v
-        end n t true a = let b = far in let u : place stop.0 ≤ q = t (ltb-true (place stop.0) (q + n) a) in absurd (omega (arith, u, b, l))
-        end n t false a = let b = far in let u : q + n ≤ place stop.0 = ltb-false (place stop.0) (q + n) a in omega (arith, u, b)
+        end : (n : ℕ) → (place stop.0 < q + n → place stop.0 ≤ q) → (b : Bool) → nat_lt (place stop.0) (q + n) ≡ b
+            → q + n ≤ stop_of argument v
+        end n t true a = let b = far in let u : place stop.0 ≤ q =
+            t (ltb-true (place stop.0) (q + n) a) in absurd (omega (arith, u, b, l))
+        end n t false a = let b = far in let u : q + n ≤ place stop.0 =
+            ltb-false (place stop.0) (q + n) a in omega (arith, u, b)

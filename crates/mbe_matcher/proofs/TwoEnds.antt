@@ -64,23 +64,28 @@ module _ {B : Type 0} (f : Beginning → Option B) where
       go None e r = r
       go (Some b) e r = sym e
 
-  module _ (i : Input) (pattern : Ops) (alike : (x y : Beginning) → dot_of x ≡ dot_of y → is_some (f x) ≡ is_some (f y)) (xs : List Beginning)
+  module _ (i : Input) (pattern : Ops) (alike : (x y : Beginning) → dot_of x ≡ dot_of y → is_some (f x) ≡ is_some (f y))
+      (xs : List Beginning)
       (begins : (x : Beginning) → In x xs → Begins i pattern x) where
     pub head_firsts : head (filter_map f (firsts xs)) ≡ head (filter_map f xs)
     unfolding given
-    head_firsts = heads (firsts xs) ∙ ap (option_and_then f) (ends_are_kept.first i pattern given xs begins alike) ∙ sym (heads xs)
+    head_firsts = heads (firsts xs) ∙ ap (option_and_then f) (ends_are_kept.first i pattern given xs begins alike)
+        ∙ sym (heads xs)
 
     pub head_lasts : head (filter_map f (reverse (lasts xs))) ≡ head (filter_map f (reverse xs))
     unfolding given
-    head_lasts = heads (reverse (lasts xs)) ∙ ap (option_and_then f) (ends_are_kept.last i pattern given xs begins alike) ∙ sym (heads (reverse xs))
+    head_lasts = heads (reverse (lasts xs))
+        ∙ ap (option_and_then f) (ends_are_kept.last i pattern given xs begins alike) ∙ sym (heads (reverse xs))
 
 cons_append : {A : Type 0} (o : Option A) (xs ys : List A) → cons_option o (xs ++ ys) ≡ cons_option o xs ++ ys
 cons_append None xs ys = refl
 cons_append (Some x) xs ys = refl
 
-filter_append : {A B : Type 0} (f : A → Option B) (xs ys : List A) → filter_map f (xs ++ ys) ≡ filter_map f xs ++ filter_map f ys
+filter_append : {A B : Type 0} (f : A → Option B) (xs ys : List A)
+    → filter_map f (xs ++ ys) ≡ filter_map f xs ++ filter_map f ys
 filter_append f [] ys = refl
-filter_append f (x ∷ xs) ys = ap (cons_option (f x)) (filter_append f xs ys) ∙ cons_append (f x) (filter_map f xs) (filter_map f ys)
+filter_append f (x ∷ xs) ys = ap (cons_option (f x)) (filter_append f xs ys)
+    ∙ cons_append (f x) (filter_map f xs) (filter_map f ys)
 
 nil_append : {A : Type 0} (xs : List A) → xs ++ [] ≡ xs
 nil_append [] = refl
@@ -96,7 +101,8 @@ filter_reverse f (x ∷ xs) =
     ap (filter_map f) (reverse-append (x ∷ []) xs) ∙ filter_append f (reverse xs) (x ∷ [])
     ∙ ap (λ l. l ++ cons_option (f x) []) (filter_reverse f xs) ∙ reverse_cons (f x) (filter_map f xs)
 
-filter_through : {A B C : Type 0} (f : B → Option C) (g : A → B) (xs : List A) → filter_map f (map g xs) ≡ filter_map (λ x. f (g x)) xs
+filter_through : {A B C : Type 0} (f : B → Option C) (g : A → B) (xs : List A)
+    → filter_map f (map g xs) ≡ filter_map (λ x. f (g x)) xs
 filter_through f g [] = refl
 filter_through f g (x ∷ xs) = ap (cons_option (f (g x))) (filter_through f g xs)
 
@@ -107,7 +113,8 @@ head_append (z ∷ xs) ys x e = e
 -- the last is the head of the list turned round
 head_reverse : {A : Type 0} (x : A) (xs : List A) → head (reverse (x ∷ xs)) ≡ Some (last_of x xs)
 head_reverse x [] = refl
-head_reverse x (y ∷ ys) = ap head (reverse-append (x ∷ []) (y ∷ ys)) ∙ head_append (reverse (y ∷ ys)) (x ∷ []) (last_of y ys) (head_reverse y ys)
+head_reverse x (y ∷ ys) = ap head (reverse-append (x ∷ []) (y ∷ ys))
+    ∙ head_append (reverse (y ∷ ys)) (x ∷ []) (last_of y ys) (head_reverse y ys)
 
 -- ---- what is noted asks for heads alone
 
@@ -118,7 +125,8 @@ first_heads None [] (y ∷ ys) e = e
 first_heads None (x ∷ xs) [] e = e
 first_heads None (x ∷ xs) (y ∷ ys) e = e
 
-end_heads : (cs ds : List Commands) (before : Option Source) → head ds ≡ head cs → source_of [] ds before ≡ source_of [] cs before
+end_heads : (cs ds : List Commands) (before : Option Source) → head ds ≡ head cs
+    → source_of [] ds before ≡ source_of [] cs before
 end_heads [] [] b e = refl
 end_heads [] (d ∷ ds) b e = cc
 end_heads (c ∷ cs) [] b e = cc
@@ -128,18 +136,23 @@ no_head : {A : Type 0} (xs : List A) → head xs ≡ None → xs ≡ []
 no_head [] e = refl
 no_head (x ∷ xs) e = cc
 
-same_notes : (a b : Option Misfit) (c d : Option Source) → a ≡ b → c ≡ d → (let n : Notes = record { first = a; last = c } in n) ≡ record { first = b; last = d }
+same_notes : (a b : Option Misfit) (c d : Option Source) → a ≡ b → c ≡ d
+    → (let n : Notes = record { first = a; last = c } in n) ≡ record { first = b; last = d }
 same_notes a b c d e f = rw (e, f) refl
 
 -- of the first that fails and the last that does comes what comes of all that do
-notes_heads : (ms fs ls : List Misfit) (cs ds : List Commands) (before : Notes) → head fs ≡ head ms → head ls ≡ head (reverse ms) → head ds ≡ head cs →
+notes_heads : (ms fs ls : List Misfit) (cs ds : List Commands) (before : Notes) → head fs ≡ head ms
+    → head ls ≡ head (reverse ms) → head ds ≡ head cs →
     noted_with (fs ++ only_first ls) ds before ≡ noted_with ms cs before
 notes_heads [] fs ls cs ds before e f h =
-    ap (λ l. noted_with (l ++ only_first ls) ds before) (no_head fs e) ∙ ap (λ l. noted_with (only_first l) ds before) (no_head ls f)
-    ∙ same_notes (or_first before.first []) (or_first before.first []) (source_of [] ds before.last) (source_of [] cs before.last) refl (end_heads cs ds before.last h)
+    ap (λ l. noted_with (l ++ only_first ls) ds before) (no_head fs e)
+    ∙ ap (λ l. noted_with (only_first l) ds before) (no_head ls f)
+    ∙ same_notes (or_first before.first []) (or_first before.first []) (source_of [] ds before.last)
+    (source_of [] cs before.last) refl (end_heads cs ds before.last h)
 notes_heads (m ∷ ms) fs ls cs ds before e f h =
     let r : (rest : List Misfit) × (ls ≡ last_of m ms ∷ rest) = head_some ls (last_of m ms) (f ∙ head_reverse m ms) in
-    same_notes (or_first before.first (fs ++ only_first ls)) (or_first before.first (m ∷ ms)) (source_of (fs ++ only_first ls) ds before.last) (Some (failed (last_of m ms)))
+    same_notes (or_first before.first (fs ++ only_first ls)) (or_first before.first (m ∷ ms))
+    (source_of (fs ++ only_first ls) ds before.last) (Some (failed (last_of m ms)))
     (first_heads before.first (fs ++ only_first ls) (m ∷ ms) (head_append fs (only_first ls) m e))
     (ap (λ l. source_of (fs ++ only_first l) ds before.last) r.1 ∙ source_snoc fs (last_of m ms) ds before.last)
 
@@ -164,26 +177,33 @@ over_variable : (name : Name) (o : Option Fragment) (rest : Ops) (is js : Items)
 over_variable name None rest is js up vp = refl
 over_variable name (Some x) rest is js up vp = some_if true (flat_len x.trees) _ _
 
-round_some : (k : RepeatKind) (w : Option ℕ) (b : Ops) (s : Option Separator) (rest : Ops) (js ks : Items) (rs ts : Rounds) (up vp : List Frame) (is ls : Items) →
+round_some : (k : RepeatKind) (w : Option ℕ) (b : Ops) (s : Option Separator) (rest : Ops) (js ks : Items)
+    (rs ts : Rounds) (up vp : List Frame) (is ls : Items) →
     is_some (round_move k w b s rest js rs up is) ≡ is_some (round_move k w b s rest ks ts vp ls)
 round_some k None b s rest js ks rs ts up vp is ls = refl
 round_some ZeroOrMore (Some w) b s rest js ks rs ts up vp is ls = refl
 round_some OneOrMore (Some w) b s rest js ks rs ts up vp is ls = refl
 round_some ZeroOrOne (Some w) b s rest js ks rs ts up vp is ls = refl
 
-separator_some : (i : Input) (q : ℕ) (s : Option Separator) (k : RepeatKind) (b rest : Ops) (js ks : Items) (rs ts : Rounds) (up vp : List Frame) (is ls : Items) →
+separator_some : (i : Input) (q : ℕ) (s : Option Separator) (k : RepeatKind) (b rest : Ops) (js ks : Items)
+    (rs ts : Rounds) (up vp : List Frame) (is ls : Items) →
     is_some (separator_move i q s k b rest js rs up is) ≡ is_some (separator_move i q s k b rest ks ts vp ls)
 separator_some i q None k b rest js ks rs ts up vp is ls = refl
-separator_some i q (Some s) k b rest js ks rs ts up vp is ls = round_some k (i.separator_at s q) b (Some s) rest js ks rs ts up vp is ls
+separator_some i q (Some s) k b rest js ks rs ts up vp is ls =
+    round_some k (i.separator_at s q) b (Some s) rest js ks rs ts up vp is ls
 
 -- whether it goes on
 next_some : (i : Input) (q : ℕ) (x : Beginning) → is_some (next i q x) ≡ is_some (next i q (dot_of x))
 next_some i q (dot no_ops is []) = refl
-next_some i q (dot no_ops is (inside d b rest js ∷ up)) = when_some (i.closes_at q) _ ∙ sym (when_some (i.closes_at q) _)
-next_some i q (dot no_ops is (within b s k rest js rs ∷ up)) = separator_some i q s k b rest js no_items rs no_rounds up (blank up) is no_items
+next_some i q (dot no_ops is (inside d b rest js ∷ up)) =
+    when_some (i.closes_at q) _ ∙ sym (when_some (i.closes_at q) _)
+next_some i q (dot no_ops is (within b s k rest js rs ∷ up)) =
+    separator_some i q s k b rest js no_items rs no_rounds up (blank up) is no_items
 next_some i q (dot (op (token t) rest) is up) = over_token (i.token_at t q) rest is no_items up (blank up)
-next_some i q (dot (op (variable name kind span) rest) is up) = over_variable name (i.fragment_at kind q) rest is no_items up (blank up)
-next_some i q (dot (op (group d b) rest) is up) = when_some (i.opens_at d.kind q) _ ∙ sym (when_some (i.opens_at d.kind q) _)
+next_some i q (dot (op (variable name kind span) rest) is up) =
+    over_variable name (i.fragment_at kind q) rest is no_items up (blank up)
+next_some i q (dot (op (group d b) rest) is up) =
+    when_some (i.opens_at d.kind q) _ ∙ sym (when_some (i.opens_at d.kind q) _)
 next_some i q (dot (op (repetition b s k) rest) is up) = refl
 next_some i q (dot (op (expression e) rest) is up) = refl
 
@@ -197,13 +217,15 @@ finished_some (dot (op o rest) is up) = refl
 -- ---- an op fits or not, whatever was bound before it and is open around it
 
 token_step : (w : Option ℕ) (o u : Outline) →
-    (is_any (empty_by w o) || (is_some (over_advance w o) || false)) ≡ (is_any (empty_by w u) || (is_some (over_advance w u) || false))
+    (is_any (empty_by w o) || (is_some (over_advance w o) || false))
+    ≡ (is_any (empty_by w u) || (is_some (over_advance w u) || false))
 token_step None o u = refl
 token_step (Some zero) o u = refl
 token_step (Some (suc n)) o u = refl
 
 width_step : (n : ℕ) (f : Bool) (o u v w : Outline) →
-    (is_any (if_none n o) || (is_some (if_some_advance f n v) || false)) ≡ (is_any (if_none n u) || (is_some (if_some_advance f n w) || false))
+    (is_any (if_none n o) || (is_some (if_some_advance f n v) || false))
+    ≡ (is_any (if_none n u) || (is_some (if_some_advance f n w) || false))
 width_step zero f o u v w = refl
 width_step (suc n) f o u v w = refl
 
@@ -212,21 +234,26 @@ variable_step : (name : Name) (x : Option Fragment) (rest : Ops) (a c : Account)
     ≡ (is_any (empty_bound name x rest c vp) || (is_some (bound_advance name x rest c vp) || false))
 variable_step name None rest a c up vp = refl
 variable_step name (Some x) rest a c up vp =
-    width_step (flat_len x.trees) true (outline rest (pushed (binds name x) a) up) (outline rest (pushed (binds name x) c) vp)
+    width_step (flat_len x.trees) true (outline rest (pushed (binds name x) a) up)
+    (outline rest (pushed (binds name x) c) vp)
     (outline rest (pushed (binds name x) a) up) (outline rest (pushed (binds name x) c) vp)
 
 group_step : (b : Bool) (x y : Advance) → (is_some (when_advance b x) || false) ≡ (is_some (when_advance b y) || false)
 group_step true x y = refl
 group_step false x y = refl
 
-step_alike : (i : Input) (q : ℕ) (o : Op) (rest : Ops) (a c : Account) (up vp : List Edge) → has_step i q (outline (op o rest) a up) ≡ has_step i q (outline (op o rest) c vp)
+step_alike : (i : Input) (q : ℕ) (o : Op) (rest : Ops) (a c : Account) (up vp : List Edge)
+    → has_step i q (outline (op o rest) a up) ≡ has_step i q (outline (op o rest) c vp)
 step_alike i q (token t) rest a c up vp = token_step (i.token_at t q) (outline rest a up) (outline rest c vp)
 step_alike i q (variable name kind span) rest a c up vp = variable_step name (i.fragment_at kind q) rest a c up vp
 step_alike i q (expression e) rest a c up vp = refl
-step_alike i q (group d b) rest a c up vp = group_step (i.opens_at d.kind q) (advance 1 false (outline b a (gate rest ∷ up))) (advance 1 false (outline b c (gate rest ∷ vp)))
+step_alike i q (group d b) rest a c up vp =
+    group_step (i.opens_at d.kind q) (advance 1 false (outline b a (gate rest ∷ up)))
+    (advance 1 false (outline b c (gate rest ∷ vp)))
 step_alike i q (repetition b s k) rest a c up vp = refl
 
-unless_alike : (b n : Bool) (x y : Misfit) → is_some (if b || n then None else Some x) ≡ is_some (if b || n then None else Some y)
+unless_alike : (b n : Bool) (x y : Misfit)
+    → is_some (if b || n then None else Some x) ≡ is_some (if b || n then None else Some y)
 unless_alike true n x y = refl
 unless_alike false true x y = refl
 unless_alike false false x y = refl
@@ -234,20 +261,26 @@ unless_alike false false x y = refl
 op_misfit : (i : Input) (q : ℕ) (o : Op) (rest : Ops) (a c : Account) (up vp : List Edge) →
     is_some (misfit i q (outline (op o rest) a up)) ≡ is_some (misfit i q (outline (op o rest) c vp))
 op_misfit i q o rest a c up vp =
-    unless_alike (has_step i q (outline (op o rest) a up)) (not (is_noted o)) (record { op = o; place = q; bound = a.current }) (record { op = o; place = q; bound = c.current })
+    unless_alike (has_step i q (outline (op o rest) a up)) (not (is_noted o))
+    (record { op = o; place = q; bound = a.current }) (record { op = o; place = q; bound = c.current })
     ∙ ap (λ b. is_some (misfit_unless b q (outline (op o rest) c vp))) (step_alike i q o rest a c up vp)
 
-misfit_some : (i : Input) (q : ℕ) (x : Beginning) → is_some (misfit i q (erase x)) ≡ is_some (misfit i q (erase (dot_of x)))
+misfit_some : (i : Input) (q : ℕ) (x : Beginning)
+    → is_some (misfit i q (erase x)) ≡ is_some (misfit i q (erase (dot_of x)))
 misfit_some i q (dot no_ops is up) = refl
-misfit_some i q (dot (op o rest) is up) = op_misfit i q o rest (written is (base_of up)) (written no_items (base_of (blank up))) (edges_of up) (edges_of (blank up))
+misfit_some i q (dot (op o rest) is up) =
+    op_misfit i q o rest (written is (base_of up)) (written no_items (base_of (blank up))) (edges_of up)
+    (edges_of (blank up))
 
 -- what the dot decides is alike where the dots are
-by_dot : (p : Beginning → Bool) → ((x : Beginning) → p x ≡ p (dot_of x)) → (x y : Beginning) → dot_of x ≡ dot_of y → p x ≡ p y
+by_dot : (p : Beginning → Bool) → ((x : Beginning) → p x ≡ p (dot_of x)) → (x y : Beginning) → dot_of x ≡ dot_of y
+    → p x ≡ p y
 by_dot p e x y d = e x ∙ ap p d ∙ sym (e y)
 
 -- ---- at a place
 
-module _ (i : Input) (pattern : Ops) (q : ℕ) (ys : List Beginning) (begins : (y : Beginning) → In y ys → Begins i pattern y) where
+module _ (i : Input) (pattern : Ops) (q : ℕ) (ys : List Beginning)
+    (begins : (y : Beginning) → In y ys → Begins i pattern y) where
   abbrev misfit_of : Beginning → Option Misfit
   misfit_of x = misfit i q (erase x)
 
@@ -260,7 +293,8 @@ module _ (i : Input) (pattern : Ops) (q : ℕ) (ys : List Beginning) (begins : (
       ∙ head_firsts misfit_of i pattern (by_dot (λ x. is_some (misfit_of x)) (misfit_some i q)) ys begins
       ∙ sym (ap head (filter_through (misfit i q) erase ys))
 
-  last_misfits : head (filter_map (misfit i q) (map erase (reverse (lasts ys)))) ≡ head (reverse (filter_map (misfit i q) (map erase ys)))
+  last_misfits : head (filter_map (misfit i q) (map erase (reverse (lasts ys))))
+      ≡ head (reverse (filter_map (misfit i q) (map erase ys)))
   last_misfits =
       ap head (filter_through (misfit i q) erase (reverse (lasts ys)))
       ∙ head_lasts misfit_of i pattern (by_dot (λ x. is_some (misfit_of x)) (misfit_some i q)) ys begins
@@ -274,10 +308,13 @@ module _ (i : Input) (pattern : Ops) (q : ℕ) (ys : List Beginning) (begins : (
       ∙ sym (ap head (filter_through finished_of erase ys))
 
   -- the ends note what all do
-  pub ends_note : (before : Notes) → ends_noted i q (map erase (firsts ys)) (map erase (reverse (lasts ys))) before ≡ noted_at i q (map erase ys) before
+  pub ends_note : (before : Notes) → ends_noted i q (map erase (firsts ys)) (map erase (reverse (lasts ys))) before
+      ≡ noted_at i q (map erase ys) before
   ends_note before =
-      notes_heads (filter_map (misfit i q) (map erase ys)) (filter_map (misfit i q) (map erase (firsts ys))) (filter_map (misfit i q) (map erase (reverse (lasts ys))))
-      (filter_map finished_of (map erase ys)) (filter_map finished_of (map erase (firsts ys))) before first_misfits last_misfits first_ends
+      notes_heads (filter_map (misfit i q) (map erase ys)) (filter_map (misfit i q) (map erase (firsts ys)))
+      (filter_map (misfit i q) (map erase (reverse (lasts ys))))
+      (filter_map finished_of (map erase ys)) (filter_map finished_of (map erase (firsts ys))) before first_misfits
+      last_misfits first_ends
 
   -- the first that goes on is that of the first of each dot
   pub first_move : head (moves_of i q (firsts ys)) ≡ head (moves_of i q ys)
@@ -292,29 +329,34 @@ module _ (g : Grammar) (pattern : Ops) (argument : Forest) (w : IsLawful g) (che
   abbrev lawful : Lawful (input_of g argument) (flat_len argument)
   lawful = lawful_input g argument w
 
-  whole : {q : ℕ} {xs : List Beginning} {before : Notes} → ComesWith i pattern q xs before → ComesWhole turn_round i pattern q xs
+  whole : {q : ℕ} {xs : List Beginning} {before : Notes} → ComesWith i pattern q xs before
+      → ComesWhole turn_round i pattern q xs
   whole at_start = whole_start
   whole (at_next q m n f y ms xs before h e c k) = whole_next q m n f y ms xs (whole h) e c k
 
   pub known : {q : ℕ} {xs : List Beginning} {before : Notes} → ComesWith i pattern q xs before → Inv i pattern q xs
   known h = whole-inv i pattern (flat_len argument) lawful checked turn_round turning (whole h)
 
-  pub here : {q : ℕ} {xs : List Beginning} {before : Notes} → ComesWith i pattern q xs before → (y : Beginning) → In y (held i q xs) → At i pattern q y
+  pub here : {q : ℕ} {xs : List Beginning} {before : Notes} → ComesWith i pattern q xs before → (y : Beginning)
+      → In y (held i q xs) → At i pattern q y
   here {q} {xs} h y m = held-sound i pattern (flat_len argument) lawful checked q xs (known h) y m
 
   -- the walks hold the ends of what is held there
   abbrev pub Ends : ℕ → List Beginning → List Beginning → List Beginning → Type 0
   Ends q xs fs bs =
-      (held_first i (dots pattern) q fs ≡ firsts (held i q xs)) × (held_back i (dots pattern) q bs ≡ reverse (lasts (held i q xs)))
+      (held_first i (dots pattern) q fs ≡ firsts (held i q xs))
+      × (held_back i (dots pattern) q bs ≡ reverse (lasts (held i q xs)))
 
   pub ends_at_start : Ends 0 (start pattern ∷ []) (start pattern ∷ []) (start pattern ∷ [])
   ends_at_start =
       let b : BothWays g pattern argument 0 (start pattern ∷ []) =
-      both_ways g pattern argument w checked 0 (start pattern ∷ []) (inv-start i pattern (flat_len argument) lawful checked).sound in
+      both_ways g pattern argument w checked 0 (start pattern ∷ [])
+      (inv-start i pattern (flat_len argument) lawful checked).sound in
       (b.forward, b.backward)
 
   -- they note the same
-  pub ends_same : (q : ℕ) (xs fs bs : List Beginning) (before : Notes) → ComesWith i pattern q xs before → Ends q xs fs bs →
+  pub ends_same : (q : ℕ) (xs fs bs : List Beginning) (before : Notes) → ComesWith i pattern q xs before
+      → Ends q xs fs bs →
       ends_noted_at i pattern q fs bs before ≡ noted_at i q (map erase (held i q xs)) before
   ends_same q xs fs bs before h e =
       ap (λ l. ends_noted i q (map erase l) (map erase (held_back i (dots pattern) q bs)) before) e.0
@@ -322,27 +364,34 @@ module _ (g : Grammar) (pattern : Ops) (argument : Forest) (w : IsLawful g) (che
       ∙ ends_note i pattern q (held i q xs) (λ y m. (here h y m).0) before
 
   -- the same goes on first
-  pub same_move : (q : ℕ) (xs fs bs : List Beginning) (before : Notes) → ComesWith i pattern q xs before → Ends q xs fs bs →
+  pub same_move : (q : ℕ) (xs fs bs : List Beginning) (before : Notes) → ComesWith i pattern q xs before
+      → Ends q xs fs bs →
       head (moves_of i q (held_first i (dots pattern) q fs)) ≡ head (moves_of i q (held i q xs))
   same_move q xs fs bs before h e =
       ap (λ l. head (moves_of i q l)) e.0 ∙ first_move i pattern q (held i q xs) (λ y m. (here h y m).0)
 
   -- where they lead
   pub led : (q m n : ℕ) (f : Bool) (y : Beginning) (ms : List Move) (xs : List Beginning) (before : Notes) →
-      ComesWith i pattern q xs before → moves_of i q (held i q xs) ≡ move n f y ∷ ms → clashing (move n f y ∷ ms) ≡ false → m ≡ q + n →
+      ComesWith i pattern q xs before → moves_of i q (held i q xs) ≡ move n f y ∷ ms
+      → clashing (move n f y ∷ ms) ≡ false → m ≡ q + n →
       (z : Beginning) → In z (targets (moves_of i q (held i q xs))) → At i pattern m z
   led q m n f y ms xs before h is c k z a =
-      let v : Inv i pattern (q + n) (targets (move n f y ∷ ms)) = inv-next i pattern (flat_len argument) lawful checked q xs (known h) n f y ms is c in
+      let v : Inv i pattern (q + n) (targets (move n f y ∷ ms)) =
+      inv-next i pattern (flat_len argument) lawful checked q xs (known h) n f y ms is c in
       subst (λ p. At i pattern p z) (sym k) (v.sound z (subst (λ l. In z (targets l)) is a))
 
   -- at the next place
   pub ends_go : (q m n : ℕ) (f : Bool) (y : Beginning) (ms : List Move) (xs fs bs : List Beginning) (before : Notes) →
-      ComesWith i pattern q xs before → Ends q xs fs bs → moves_of i q (held i q xs) ≡ move n f y ∷ ms → clashing (move n f y ∷ ms) ≡ false → m ≡ q + n →
+      ComesWith i pattern q xs before → Ends q xs fs bs → moves_of i q (held i q xs) ≡ move n f y ∷ ms
+      → clashing (move n f y ∷ ms) ≡ false → m ≡ q + n →
       Ends m (reverse (targets (move n f y ∷ ms)))
-      (targets (moves_of i q (held_back i (dots pattern) q bs))) (targets (moves_of i q (held_first i (dots pattern) q fs)))
+      (targets (moves_of i q (held_back i (dots pattern) q bs)))
+      (targets (moves_of i q (held_first i (dots pattern) q fs)))
   ends_go q m n f y ms xs fs bs before h e is c k = (
-    ap (λ l. held_first i (dots pattern) m (targets (moves_of i q l))) e.1 ∙ s.first ∙ ap (λ l. firsts (held i m l)) turns,
-    ap (λ l. held_back i (dots pattern) m (targets (moves_of i q l))) e.0 ∙ s.last ∙ ap (λ l. reverse (lasts (held i m l))) turns,
+    ap (λ l. held_first i (dots pattern) m (targets (moves_of i q l))) e.1 ∙ s.first
+        ∙ ap (λ l. firsts (held i m l)) turns,
+    ap (λ l. held_back i (dots pattern) m (targets (moves_of i q l))) e.0 ∙ s.last
+        ∙ ap (λ l. reverse (lasts (held i m l))) turns,
   )
     where
       turns : turned i q (held i q xs) ≡ reverse (targets (move n f y ∷ ms))
@@ -354,19 +403,23 @@ module _ (g : Grammar) (pattern : Ops) (argument : Forest) (w : IsLawful g) (che
   -- ---- where all come, the ends do
 
   abbrev Followed : ℕ → List Beginning → Notes → Type 0
-  Followed q xs before = (fs : List Beginning) × (bs : List Beginning) × EndsCome i pattern q fs bs before × Ends q xs fs bs
+  Followed q xs before = (fs : List Beginning) × (bs : List Beginning) × EndsCome i pattern q fs bs before
+      × Ends q xs fs bs
 
   followed : {q : ℕ} {xs : List Beginning} {before : Notes} → ComesWith i pattern q xs before → Followed q xs before
   followed at_start = (start pattern ∷ [], start pattern ∷ [], ends_start, ends_at_start)
   followed (at_next q m n f y ms xs before h e c k) = go (followed h)
     where
-      go : Followed q xs before → Followed m (reverse (targets (move n f y ∷ ms))) (noted_at i q (map erase (held i q xs)) before)
+      go : Followed q xs before → Followed m (reverse (targets (move n f y ∷ ms)))
+          (noted_at i q (map erase (held i q xs)) before)
       go (fs, bs, come, ends) =
           let l : (ns : List Move) × (moves_of i q (held_first i (dots pattern) q fs) ≡ move n f y ∷ ns) =
-          head_some (moves_of i q (held_first i (dots pattern) q fs)) (move n f y) (same_move q xs fs bs before h ends ∙ ap head e) in (
+          head_some (moves_of i q (held_first i (dots pattern) q fs)) (move n f y)
+          (same_move q xs fs bs before h ends ∙ ap head e) in (
             targets (moves_of i q (held_back i (dots pattern) q bs)),
             targets (moves_of i q (held_first i (dots pattern) q fs)),
-            subst (λ t. EndsCome i pattern m (targets (moves_of i q (held_back i (dots pattern) q bs))) (targets (moves_of i q (held_first i (dots pattern) q fs))) t)
+            subst (λ t. EndsCome i pattern m (targets (moves_of i q (held_back i (dots pattern) q bs)))
+                (targets (moves_of i q (held_first i (dots pattern) q fs))) t)
                 (ends_same q xs fs bs before h ends) (ends_next q m n f y l.0 fs bs before come l.1 k),
             ends_go q m n f y ms xs fs bs before h ends e c k,
           )
@@ -377,18 +430,22 @@ module _ (g : Grammar) (pattern : Ops) (argument : Forest) (w : IsLawful g) (che
   Among q fs bs before = (xs : List Beginning) × ComesWith i pattern q xs before × Ends q xs fs bs
 
   -- before the stop nothing is ambiguous
-  calm_before : (v : Verdict) → IsVerdict g pattern argument v → (q : ℕ) → q < stop_of argument v → Ambiguous i pattern q → ⊥
+  calm_before : (v : Verdict) → IsVerdict g pattern argument v → (q : ℕ) → q < stop_of argument v
+      → Ambiguous i pattern q → ⊥
   calm_before one_reading is q l a = is.0 q a
   calm_before many_readings is q l a = is.0 q a
   calm_before (ambiguous p) is q l a = is.1 q l a
   calm_before (stuck p) is q l a = is.0 q a
 
-  pub calm_moves : (v : Verdict) → IsVerdict g pattern argument v → (q : ℕ) (xs : List Beginning) → Inv i pattern q xs → q < stop_of argument v →
+  pub calm_moves : (v : Verdict) → IsVerdict g pattern argument v → (q : ℕ) (xs : List Beginning) → Inv i pattern q xs
+      → q < stop_of argument v →
       (b : Bool) → clashing (moves_of i q (held i q xs)) ≡ b → b ≡ false
   calm_moves v is q xs known l false e = refl
-  calm_moves v is q xs known l true e = absurd (calm_before v is q l (right-ambiguous i pattern (flat_len argument) lawful checked q xs known e).0)
+  calm_moves v is q xs known l true e = absurd
+      (calm_before v is q l (right-ambiguous i pattern (flat_len argument) lawful checked q xs known e).0)
 
-  among : (v : Verdict) → IsVerdict g pattern argument v → {q : ℕ} {fs bs : List Beginning} {before : Notes} → EndsCome i pattern q fs bs before →
+  among : (v : Verdict) → IsVerdict g pattern argument v → {q : ℕ} {fs bs : List Beginning} {before : Notes}
+      → EndsCome i pattern q fs bs before →
       q ≤ stop_of argument v → Among q fs bs before
   among v is ends_start l = (start pattern ∷ [], at_start, ends_at_start)
   among v is (ends_next q m n f y ms fs bs before h e k) l = go (λ a. among v is h a)
@@ -396,23 +453,29 @@ module _ (g : Grammar) (pattern : Ops) (argument : Forest) (w : IsLawful g) (che
       some : 0 < n
       some =
           let s : (z : Beginning) × In z (held_first i (dots pattern) q fs) × (next i q z ≡ Some (move n f y)) =
-          from_filter (next i q) (move n f y) (held_first i (dots pattern) q fs) (subst (λ t. In (move n f y) t) (sym e) (inl refl)) in
+          from_filter (next i q) (move n f y) (held_first i (dots pattern) q fs)
+          (subst (λ t. In (move n f y) t) (sym e) (inl refl)) in
           (next-takes i (flat_len argument) q n f s.0 y lawful s.2).0
 
       go : (q ≤ stop_of argument v → Among q fs bs before) →
-          Among m (targets (moves_of i q (held_back i (dots pattern) q bs))) (targets (moves_of i q (held_first i (dots pattern) q fs))) (ends_noted_at i pattern q fs bs before)
+          Among m (targets (moves_of i q (held_back i (dots pattern) q bs)))
+          (targets (moves_of i q (held_first i (dots pattern) q fs))) (ends_noted_at i pattern q fs bs before)
       go r = on (r (let p = some in omega (arith, p, k, l)))
         where
           on : Among q fs bs before →
-              Among m (targets (moves_of i q (held_back i (dots pattern) q bs))) (targets (moves_of i q (held_first i (dots pattern) q fs))) (ends_noted_at i pattern q fs bs before)
+              Among m (targets (moves_of i q (held_back i (dots pattern) q bs)))
+              (targets (moves_of i q (held_first i (dots pattern) q fs))) (ends_noted_at i pattern q fs bs before)
           on (xs, come, ends) =
               let t : (ns : List Move) × (moves_of i q (held i q xs) ≡ move n f y ∷ ns) =
-              head_some (moves_of i q (held i q xs)) (move n f y) (sym (same_move q xs fs bs before come ends) ∙ ap head e) in
+              head_some (moves_of i q (held i q xs)) (move n f y)
+              (sym (same_move q xs fs bs before come ends) ∙ ap head e) in
               let c : clashing (moves_of i q (held i q xs)) ≡ false =
-              calm_moves v is q xs (known come) (let p = some in omega (arith, p, k, l)) (clashing (moves_of i q (held i q xs))) refl in
+              calm_moves v is q xs (known come) (let p = some in omega (arith, p, k, l))
+              (clashing (moves_of i q (held i q xs))) refl in
               let d : clashing (move n f y ∷ t.0) ≡ false = sym (ap clashing t.1) ∙ c in (
                 reverse (targets (move n f y ∷ t.0)),
-                subst (λ u. ComesWith i pattern m (reverse (targets (move n f y ∷ t.0))) u) (sym (ends_same q xs fs bs before come ends))
+                subst (λ u. ComesWith i pattern m (reverse (targets (move n f y ∷ t.0))) u)
+                    (sym (ends_same q xs fs bs before come ends))
                     (at_next q m n f y t.0 xs before come t.1 d k),
                 ends_go q m n f y t.0 xs fs bs before come ends t.1 d k,
               )

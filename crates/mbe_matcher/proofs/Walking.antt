@@ -27,12 +27,14 @@ steps_grow : (c r t : ℕ) → r ≤ t → steps_for c r ≤ steps_for c t
 unfolding steps_for
 steps_grow c zero t l = omega arith
 steps_grow c (suc r) zero l = absurd (omega (arith, l))
-steps_grow c (suc r) (suc t) l = let h : steps_for c r ≤ steps_for c t = steps_grow c r t (omega (arith, l)) in omega (arith, h)
+steps_grow c (suc r) (suc t) l = let h : steps_for c r ≤ steps_for c t =
+    steps_grow c r t (omega (arith, l)) in omega (arith, h)
 
 steps_fall : (c r t : ℕ) → r < t → c + steps_for c r ≤ steps_for c t
 unfolding steps_for
 steps_fall c r zero l = absurd (omega (arith, l))
-steps_fall c r (suc t) l = let h : steps_for c r ≤ steps_for c t = steps_grow c r t (omega (arith, l)) in omega (arith, h)
+steps_fall c r (suc t) l = let h : steps_for c r ≤ steps_for c t =
+    steps_grow c r t (omega (arith, l)) in omega (arith, h)
 
 -- What is walked over: what comes of a member, its key, and which members there may be.
 pub record Ways (A : Type 0) : Type 1 where
@@ -53,7 +55,8 @@ module _ {A : Type 0} (w : Ways A) where
     pub enough : length stack + steps_for w.most (room w.key 1 w.keys seen) < n
     pub total : out ++ walk w.kids w.key 1 n seen stack ≡ all
 
-  pub walks_start : (n : ℕ) (stack : List A) → ((x : A) → In x stack → w.Good x) → length stack + steps_for w.most (room w.key 1 w.keys []) < n →
+  pub walks_start : (n : ℕ) (stack : List A) → ((x : A) → In x stack → w.Good x)
+      → length stack + steps_for w.most (room w.key 1 w.keys []) < n →
       Walks (walk w.kids w.key 1 n [] stack) stack [] []
   walks_start n stack g l = record { sound = g; n = n; enough = l; total = refl }
 
@@ -66,22 +69,26 @@ module _ {A : Type 0} (w : Ways A) where
       go (suc n) e = sym (append-nil out) ∙ e
 
   turn : (n : ℕ) (seen : List ℕ) (x : A) (stack : List A) (b : Bool) → nat_lt (times (w.key x) seen) 1 ≡ b →
-      walk w.kids w.key 1 (suc n) seen (x ∷ stack) ≡ cons_if b x (walk w.kids w.key 1 n (cons_if b (w.key x) seen) (append_if b (w.kids x) stack))
+      walk w.kids w.key 1 (suc n) seen (x ∷ stack)
+      ≡ cons_if b x (walk w.kids w.key 1 n (cons_if b (w.key x) seen) (append_if b (w.kids x) stack))
   unfolding walk
-  turn n seen x stack b e = ap (λ c. cons_if c x (walk w.kids w.key 1 n (cons_if c (w.key x) seen) (append_if c (w.kids x) stack))) e
+  turn n seen x stack b e = ap (λ c. cons_if c x
+      (walk w.kids w.key 1 n (cons_if c (w.key x) seen) (append_if c (w.kids x) stack))) e
 
   some_turn : (n m : ℕ) → m < n → (k : ℕ) × (n ≡ suc k)
   some_turn zero m l = absurd (omega (arith, l))
   some_turn (suc n) m l = (n, refl)
 
-  module _ (all : List A) (seen : List ℕ) (out : List A) (x : A) (stack : List A) (k : Walks all (x ∷ stack) seen out) where
+  module _ (all : List A) (seen : List ℕ) (out : List A) (x : A) (stack : List A)
+      (k : Walks all (x ∷ stack) seen out) where
     pub walks_good : w.Good x
     walks_good = k.sound x (inl refl)
 
     -- seen before: dropped
     pub walks_drop : 1 ≤ times (w.key x) seen → Walks all stack seen out
     walks_drop l =
-        let r : (m : ℕ) × (k.n ≡ suc m) = some_turn k.n (length (x ∷ stack) + steps_for w.most (room w.key 1 w.keys seen)) k.enough in
+        let r : (m : ℕ) × (k.n ≡ suc m) = some_turn k.n
+        (length (x ∷ stack) + steps_for w.most (room w.key 1 w.keys seen)) k.enough in
         let e : k.n ≡ suc r.0 = r.1 in
         let g = k.enough in
         record {
@@ -97,17 +104,21 @@ module _ {A : Type 0} (w : Ways A) where
     -- else it goes out, and what comes of it goes upon the stack
     pub walks_take : times (w.key x) seen < 1 → Walks all (w.kids x ++ stack) (w.key x ∷ seen) (out ++ (x ∷ []))
     walks_take l =
-        let r : (m : ℕ) × (k.n ≡ suc m) = some_turn k.n (length (x ∷ stack) + steps_for w.most (room w.key 1 w.keys seen)) k.enough in
+        let r : (m : ℕ) × (k.n ≡ suc m) = some_turn k.n
+        (length (x ∷ stack) + steps_for w.most (room w.key 1 w.keys seen)) k.enough in
         let e : k.n ≡ suc r.0 = r.1 in
         let g = k.enough in
         let b : (0 < w.key x) × (w.key x ≤ w.keys) = w.within x walks_good in
-        let a : room w.key 1 w.keys (w.key x ∷ seen) < room w.key 1 w.keys seen = room_taken w.key 1 w.keys (w.key x) seen b.0 b.1 l in
-        let f : w.most + steps_for w.most (room w.key 1 w.keys (w.key x ∷ seen)) ≤ steps_for w.most (room w.key 1 w.keys seen) =
+        let a : room w.key 1 w.keys (w.key x ∷ seen) < room w.key 1 w.keys seen =
+        room_taken w.key 1 w.keys (w.key x) seen b.0 b.1 l in
+        let f : w.most + steps_for w.most (room w.key 1 w.keys (w.key x ∷ seen))
+        ≤ steps_for w.most (room w.key 1 w.keys seen) =
         steps_fall w.most (room w.key 1 w.keys (w.key x ∷ seen)) (room w.key 1 w.keys seen) a in
         let c : length (w.kids x ++ stack) ≡ length (w.kids x) + length stack = len_append (w.kids x) stack in
         let d : length (w.kids x) ≤ w.most = w.few x walks_good in
         record {
-          sound = λ y m. elim (in_either y (w.kids x) stack m) [ inl h ↦ w.good x y walks_good h | inr h ↦ k.sound y (inr h) ];
+          sound = λ y m. elim (in_either y (w.kids x) stack m)
+              [ inl h ↦ w.good x y walks_good h | inr h ↦ k.sound y (inr h) ];
           n = r.0;
           enough = omega (arith, g, e, f, c, d);
           total =
@@ -119,7 +130,8 @@ module _ {A : Type 0} (w : Ways A) where
 
 -- ---- outlines
 
-from_map : (f : Beginning → Outline) (o : Outline) (xs : List Beginning) → In o (map f xs) → (x : Beginning) × In x xs × (o ≡ f x)
+from_map : (f : Beginning → Outline) (o : Outline) (xs : List Beginning) → In o (map f xs)
+    → (x : Beginning) × In x xs × (o ≡ f x)
 from_map f o [] m = absurd m
 from_map f o (x ∷ xs) (inl e) = (x, inl refl, e)
 from_map f o (x ∷ xs) (inr m) = let r = from_map f o xs m in (r.0, inr r.1, r.2)
@@ -132,7 +144,8 @@ module _ (i : Input) (pattern : Ops) (q : ℕ) where
   pub here_idle : (o u : Outline) → IsHere i pattern q o → In u (idle_of i q o) → IsHere i pattern q u
   here_idle o u (x, a, e) m =
       let c : map erase (idle i q x) ≡ idle_of i q o = erase_idle i q x a.1 ∙ ap (idle_of i q) e in
-      let r : (y : Beginning) × In y (idle i q x) × (u ≡ erase y) = from_map erase u (idle i q x) (subst (In u) (sym c) m) in
+      let r : (y : Beginning) × In y (idle i q x) × (u ≡ erase y) =
+      from_map erase u (idle i q x) (subst (In u) (sym c) m) in
       (r.0, idle-sound i pattern q x a r.0 r.1, sym r.2)
 
   pub here_few : (o : Outline) → IsHere i pattern q o → length (idle_of i q o) ≤ 2
@@ -141,7 +154,8 @@ module _ (i : Input) (pattern : Ops) (q : ℕ) where
       subst (λ v. length v ≤ 2) c (subst (λ v. v ≤ 2) (sym (len_map erase (idle i q x))) (idle_short i q x))
 
   pub here_number : (o : Outline) → IsHere i pattern q o → (0 < outline_number o) × (outline_number o ≤ dots pattern)
-  here_number o (x, a, e) = subst (λ v. (0 < v) × (v ≤ dots pattern)) (sym (same_number x) ∙ ap outline_number e) (number-within i pattern x a.0)
+  here_number o (x, a, e) = subst (λ v. (0 < v) × (v ≤ dots pattern)) (sym (same_number x) ∙ ap outline_number e)
+      (number-within i pattern x a.0)
 
   abbrev pub forward : Ways Outline
   forward = record {
@@ -170,9 +184,12 @@ module _ (i : Input) (pattern : Ops) (q : ℕ) where
   steps_three zero = refl
   steps_three (suc n) = let e : steps_for 3 n ≡ n + n + n = steps_three n in omega (arith, e)
 
-  pub forward_start : (os : List Outline) → ((o : Outline) → In o os → IsHere i pattern q o) → Walks forward (kept_first i (dots pattern) q os) os [] []
+  pub forward_start : (os : List Outline) → ((o : Outline) → In o os → IsHere i pattern q o)
+      → Walks forward (kept_first i (dots pattern) q os) os [] []
   forward_start os g = walks_start forward (turns (length os) (dots pattern)) os g
-      (let e : steps_for 2 (room outline_number 1 (dots pattern) []) ≡ dots pattern + dots pattern = ap (steps_for 2) (room_ones outline_number (dots pattern)) ∙ steps_two (dots pattern) in omega (arith, e))
+      (let e : steps_for 2 (room outline_number 1 (dots pattern) [])
+      ≡ dots pattern + dots pattern = ap (steps_for 2) (room_ones outline_number (dots pattern))
+      ∙ steps_two (dots pattern) in omega (arith, e))
 
   -- ---- visits
 
@@ -180,19 +197,22 @@ module _ (i : Input) (pattern : Ops) (q : ℕ) where
   GoodVisit (enter o) = IsHere i pattern q o
   GoodVisit (leave o) = IsHere i pattern q o
 
-  in_visits : (v : Visit) (o : Outline) (os : List Outline) → In v (map enter os ++ (leave o ∷ [])) → ((u : Outline) × In u os × (v ≡ enter u)) ⊎ (v ≡ leave o)
+  in_visits : (v : Visit) (o : Outline) (os : List Outline) → In v (map enter os ++ (leave o ∷ []))
+      → ((u : Outline) × In u os × (v ≡ enter u)) ⊎ (v ≡ leave o)
   in_visits v o [] (inl e) = inr e
   in_visits v o [] (inr m) = absurd m
   in_visits v o (u ∷ os) (inl e) = inl (u, inl refl, e)
   in_visits v o (u ∷ os) (inr m) = go (in_visits v o os m)
     where
-      go : (((x : Outline) × In x os × (v ≡ enter x)) ⊎ (v ≡ leave o)) → ((x : Outline) × In x (u ∷ os) × (v ≡ enter x)) ⊎ (v ≡ leave o)
+      go : (((x : Outline) × In x os × (v ≡ enter x)) ⊎ (v ≡ leave o))
+          → ((x : Outline) × In x (u ∷ os) × (v ≡ enter x)) ⊎ (v ≡ leave o)
       go (inl (x, h, e)) = inl (x, inr h, e)
       go (inr e) = inr e
 
   in_reverse : (o : Outline) (os : List Outline) → In o (reverse os) → In o os
   in_reverse o [] m = m
-  in_reverse o (u ∷ os) m = go (λ h. in_reverse o os h) (in_either o (reverse os) (u ∷ []) (subst (In o) (reverse-append (u ∷ []) os) m))
+  in_reverse o (u ∷ os) m = go (λ h. in_reverse o os h)
+      (in_either o (reverse os) (u ∷ []) (subst (In o) (reverse-append (u ∷ []) os) m))
     where
       go : (In o (reverse os) → In o os) → In o (reverse os) ⊎ In o (u ∷ []) → In o (u ∷ os)
       go f (inl h) = inr (f h)
@@ -219,8 +239,11 @@ module _ (i : Input) (pattern : Ops) (q : ℕ) where
   pub visit_few : (v : Visit) → GoodVisit v → length (visits_of i q v) ≤ 3
   unfolding GoodVisit
   visit_few (enter o) g =
-      let a : length (map enter (reverse (idle_of i q o)) ++ (leave o ∷ [])) ≡ length (map enter (reverse (idle_of i q o))) + 1 = len_append (map enter (reverse (idle_of i q o))) (leave o ∷ []) in
-      let b : length (map enter (reverse (idle_of i q o))) ≡ length (reverse (idle_of i q o)) = len_map enter (reverse (idle_of i q o)) in
+      let a : length (map enter (reverse (idle_of i q o)) ++ (leave o ∷ []))
+      ≡ length (map enter (reverse (idle_of i q o))) + 1 =
+      len_append (map enter (reverse (idle_of i q o))) (leave o ∷ []) in
+      let b : length (map enter (reverse (idle_of i q o))) ≡ length (reverse (idle_of i q o)) =
+      len_map enter (reverse (idle_of i q o)) in
       let c : length (reverse (idle_of i q o)) ≡ length (idle_of i q o) = len_reverse (idle_of i q o) in
       let d : length (idle_of i q o) ≤ 2 = here_few o g in
       omega (arith, a, b, c, d)
@@ -228,8 +251,10 @@ module _ (i : Input) (pattern : Ops) (q : ℕ) where
 
   pub visit_within : (v : Visit) → GoodVisit v → (0 < key_of v) × (key_of v ≤ suc (dots pattern + dots pattern))
   unfolding GoodVisit
-  visit_within (enter o) g = let w : (0 < outline_number o) × (outline_number o ≤ dots pattern) = here_number o g in let a = w.0 in let b = w.1 in (omega (arith, a), omega (arith, b))
-  visit_within (leave o) g = let w : (0 < outline_number o) × (outline_number o ≤ dots pattern) = here_number o g in let b = w.1 in (omega arith, omega (arith, b))
+  visit_within (enter o) g = let w : (0 < outline_number o) × (outline_number o ≤ dots pattern) =
+      here_number o g in let a = w.0 in let b = w.1 in (omega (arith, a), omega (arith, b))
+  visit_within (leave o) g = let w : (0 < outline_number o) × (outline_number o ≤ dots pattern) =
+      here_number o g in let b = w.1 in (omega arith, omega (arith, b))
 
   abbrev pub backward : Ways Visit
   backward = record {
@@ -243,7 +268,8 @@ module _ (i : Input) (pattern : Ops) (q : ℕ) where
     within = visit_within;
   }
 
-  entered_good : (os : List Outline) → ((o : Outline) → In o os → IsHere i pattern q o) → (v : Visit) → In v (map enter os) → GoodVisit v
+  entered_good : (os : List Outline) → ((o : Outline) → In o os → IsHere i pattern q o) → (v : Visit)
+      → In v (map enter os) → GoodVisit v
   unfolding GoodVisit
   entered_good [] g v m = absurd m
   entered_good (o ∷ os) g v (inl e) = subst GoodVisit (sym e) (g o (inl refl))
@@ -255,8 +281,11 @@ module _ (i : Input) (pattern : Ops) (q : ℕ) where
     walk (visits_of i q) key_of 1 (visit_turns (length os) (dots pattern)) [] (map enter os),
     refl,
     walks_start backward (visit_turns (length os) (dots pattern)) (map enter os) (entered_good os g)
-        (let e : steps_for 3 (room key_of 1 (suc (dots pattern + dots pattern)) []) ≡ suc (dots pattern + dots pattern) + suc (dots pattern + dots pattern) + suc (dots pattern + dots pattern) =
-        ap (steps_for 3) (room_ones key_of (suc (dots pattern + dots pattern))) ∙ steps_three (suc (dots pattern + dots pattern)) in
+        (let e : steps_for 3 (room key_of 1 (suc (dots pattern + dots pattern)) [])
+        ≡ suc (dots pattern + dots pattern) + suc (dots pattern + dots pattern)
+        + suc (dots pattern + dots pattern) =
+        ap (steps_for 3) (room_ones key_of (suc (dots pattern + dots pattern)))
+        ∙ steps_three (suc (dots pattern + dots pattern)) in
         let l : length (map enter os) ≡ length os = len_map enter os in omega (arith, e, l)),
   )
 
@@ -273,7 +302,8 @@ pub ToLeave : List ℕ → List ℕ → List Visit → Type 0
 ToLeave seen met [] = Unit {0}
 ToLeave seen met (enter o ∷ vs) = ToLeave seen met vs
 ToLeave seen met (leave o ∷ vs) =
-    (times (suc (outline_number o + outline_number o)) seen ≡ 0) × (0 < times (outline_number o) met) × NoneLeaves (outline_number o) vs × ToLeave seen met vs
+    (times (suc (outline_number o + outline_number o)) seen ≡ 0) × (0 < times (outline_number o) met)
+    × NoneLeaves (outline_number o) vs × ToLeave seen met vs
 
 -- the keys that were seen, where these dots were entered
 pub record Entered (seen met : List ℕ) (stack : List Visit) : Type 0 where
@@ -296,7 +326,11 @@ to_leave_entered [] = tt
 to_leave_entered (o ∷ os) = to_leave_entered os
 
 pub entered_start : (os : List Outline) → Entered [] [] (map enter os)
-entered_start os = record { once = λ n. refl; before = λ n l. absurd (omega (arith, l)); to_leave = to_leave_entered os }
+entered_start os = record {
+  once = λ n. refl;
+  before = λ n l. absurd (omega (arith, l));
+  to_leave = to_leave_entered os;
+}
 
 module _ (i : Input) (q : ℕ) (seen met : List ℕ) (o : Outline) (vs : List Visit) where
   n0 : ℕ
@@ -307,25 +341,34 @@ module _ (i : Input) (q : ℕ) (seen met : List ℕ) (o : Outline) (vs : List Vi
   unfolding ToLeave
   entered_drop e = record { once = e.once; before = e.before; to_leave = e.to_leave }
 
-  none_leaves : (us : List Visit) → ToLeave seen met us → times (outline_number o) met ≡ 0 → NoneLeaves (outline_number o) us
+  none_leaves : (us : List Visit) → ToLeave seen met us → times (outline_number o) met ≡ 0
+      → NoneLeaves (outline_number o) us
   unfolding ToLeave NoneLeaves
   none_leaves [] t z = tt
   none_leaves (enter u ∷ us) t z = none_leaves us t z
-  none_leaves (leave u ∷ us) t z =
-      ((λ e. let p = t.1 in let d : times (outline_number u) met ≡ 0 = ap (λ k. times k met) (sym e) ∙ z in omega (arith, p, d)), none_leaves us t.3 z)
+  none_leaves (leave u ∷ us) t z = (
+    (λ e. let p = t.1 in let d : times (outline_number u) met ≡ 0 = ap (λ k. times k met) (sym e)
+        ∙ z in omega (arith, p, d)),
+    none_leaves us t.3 z,
+  )
 
-  still_to_leave : (us : List Visit) → ToLeave seen met us → ToLeave ((outline_number o + outline_number o) ∷ seen) (outline_number o ∷ met) us
+  still_to_leave : (us : List Visit) → ToLeave seen met us
+      → ToLeave ((outline_number o + outline_number o) ∷ seen) (outline_number o ∷ met) us
   unfolding ToLeave
   still_to_leave [] t = tt
   still_to_leave (enter u ∷ us) t = still_to_leave us t
   still_to_leave (leave u ∷ us) t = (
-    times_other (suc (outline_number u + outline_number u)) (outline_number o + outline_number o) seen (λ e. not_odd (outline_number o) (outline_number u) (sym e)) ∙ t.0,
-    (let a = t.1 in let b : times (outline_number u) met ≤ times (outline_number u) (outline_number o ∷ met) = times_grow (outline_number u) (outline_number o) met in omega (arith, a, b)),
+    times_other (suc (outline_number u + outline_number u)) (outline_number o + outline_number o) seen
+        (λ e. not_odd (outline_number o) (outline_number u) (sym e)) ∙ t.0,
+    (let a = t.1 in let b : times (outline_number u) met
+        ≤ times (outline_number u) (outline_number o ∷ met) =
+        times_grow (outline_number u) (outline_number o) met in omega (arith, a, b)),
     t.2,
     still_to_leave us t.3,
   )
 
-  with_entered : (os : List Outline) (s m : List ℕ) (us : List Visit) → ToLeave s m us → ToLeave s m (map enter os ++ us)
+  with_entered : (os : List Outline) (s m : List ℕ) (us : List Visit) → ToLeave s m us
+      → ToLeave s m (map enter os ++ us)
   unfolding ToLeave
   with_entered [] s m us t = t
   with_entered (u ∷ os) s m us t = with_entered os s m us t
@@ -338,47 +381,60 @@ module _ (i : Input) (q : ℕ) (seen met : List ℕ) (o : Outline) (vs : List Vi
       once : (n : ℕ) → times (n + n) ((outline_number o + outline_number o) ∷ seen) ≡ times n (outline_number o ∷ met)
       once n = go (equal_or_not n (outline_number o))
         where
-          go : (n ≡ outline_number o) ⊎ (n ≡ outline_number o → ⊥) → times (n + n) ((outline_number o + outline_number o) ∷ seen) ≡ times n (outline_number o ∷ met)
-          go (inl d) = times_same (n + n) (outline_number o + outline_number o) seen (ap (λ k. k + k) d) ∙ ap suc (e.once n) ∙ sym (times_same n (outline_number o) met d)
-          go (inr d) = times_other (n + n) (outline_number o + outline_number o) seen (λ f. d (same_half n (outline_number o) f)) ∙ e.once n ∙ sym (times_other n (outline_number o) met d)
+          go : (n ≡ outline_number o) ⊎ (n ≡ outline_number o → ⊥)
+              → times (n + n) ((outline_number o + outline_number o) ∷ seen) ≡ times n (outline_number o ∷ met)
+          go (inl d) = times_same (n + n) (outline_number o + outline_number o) seen (ap (λ k. k + k) d)
+              ∙ ap suc (e.once n) ∙ sym (times_same n (outline_number o) met d)
+          go (inr d) = times_other (n + n) (outline_number o + outline_number o) seen
+              (λ f. d (same_half n (outline_number o) f)) ∙ e.once n ∙ sym (times_other n (outline_number o) met d)
 
-      before : (n : ℕ) → 0 < times (suc (n + n)) ((outline_number o + outline_number o) ∷ seen) → 0 < times n (outline_number o ∷ met)
+      before : (n : ℕ) → 0 < times (suc (n + n)) ((outline_number o + outline_number o) ∷ seen)
+          → 0 < times n (outline_number o ∷ met)
       before n l =
           let a : times (suc (n + n)) ((outline_number o + outline_number o) ∷ seen) ≡ times (suc (n + n)) seen =
-          times_other (suc (n + n)) (outline_number o + outline_number o) seen (λ f. not_odd (outline_number o) n (sym f)) in
+          times_other (suc (n + n)) (outline_number o + outline_number o) seen
+          (λ f. not_odd (outline_number o) n (sym f)) in
           let b : 0 < times n met = e.before n (omega (arith, a, l)) in
           let c : times n met ≤ times n (outline_number o ∷ met) = times_grow n (outline_number o) met in
           omega (arith, b, c)
 
       fresh : (k : ℕ) → times (suc (outline_number o + outline_number o)) seen ≡ k → k ≡ 0
       fresh zero d = refl
-      fresh (suc k) d = let b : 0 < times (outline_number o) met = e.before (outline_number o) (omega (arith, d)) in absurd (omega (arith, b, z))
+      fresh (suc k) d = let b : 0 < times (outline_number o) met =
+          e.before (outline_number o) (omega (arith, d)) in absurd (omega (arith, b, z))
 
       left : ToLeave ((outline_number o + outline_number o) ∷ seen) (outline_number o ∷ met) (leave o ∷ vs)
       left = (
-        times_other (suc (outline_number o + outline_number o)) (outline_number o + outline_number o) seen (λ f. not_odd (outline_number o) (outline_number o) (sym f))
+        times_other (suc (outline_number o + outline_number o)) (outline_number o + outline_number o) seen
+            (λ f. not_odd (outline_number o) (outline_number o) (sym f))
             ∙ fresh (times (suc (outline_number o + outline_number o)) seen) refl,
-        (let a : times (outline_number o) (outline_number o ∷ met) ≡ suc (times (outline_number o) met) = times_same (outline_number o) (outline_number o) met refl in omega (arith, a)),
+        (let a : times (outline_number o) (outline_number o ∷ met)
+            ≡ suc (times (outline_number o) met) =
+            times_same (outline_number o) (outline_number o) met refl in omega (arith, a)),
         none_leaves vs e.to_leave z,
         still_to_leave vs e.to_leave,
       )
 
-      to_leave : ToLeave ((outline_number o + outline_number o) ∷ seen) (outline_number o ∷ met) ((map enter (reverse (idle_of i q o)) ++ (leave o ∷ [])) ++ vs)
+      to_leave : ToLeave ((outline_number o + outline_number o) ∷ seen) (outline_number o ∷ met)
+          ((map enter (reverse (idle_of i q o)) ++ (leave o ∷ [])) ++ vs)
       to_leave = subst (ToLeave ((outline_number o + outline_number o) ∷ seen) (outline_number o ∷ met))
           (sym (append_assoc (map enter (reverse (idle_of i q o))) (leave o ∷ []) vs))
-          (with_entered (reverse (idle_of i q o)) ((outline_number o + outline_number o) ∷ seen) (outline_number o ∷ met) (leave o ∷ vs) left)
+          (with_entered (reverse (idle_of i q o)) ((outline_number o + outline_number o) ∷ seen)
+          (outline_number o ∷ met) (leave o ∷ vs) left)
 
   -- a dot that is to be left is left
   pub leaves_now : Entered seen met (leave o ∷ vs) → times (key_of (leave o)) seen < 1
   unfolding ToLeave
   leaves_now e = let z = e.to_leave.0 in omega (arith, z)
 
-  others_to_leave : (us : List Visit) → NoneLeaves (outline_number o) us → ToLeave seen met us → ToLeave (suc (outline_number o + outline_number o) ∷ seen) met us
+  others_to_leave : (us : List Visit) → NoneLeaves (outline_number o) us → ToLeave seen met us
+      → ToLeave (suc (outline_number o + outline_number o) ∷ seen) met us
   unfolding ToLeave NoneLeaves
   others_to_leave [] n t = tt
   others_to_leave (enter u ∷ us) n t = others_to_leave us n t
   others_to_leave (leave u ∷ us) n t = (
-    times_other (suc (outline_number u + outline_number u)) (suc (outline_number o + outline_number o)) seen (λ e. n.0 (sym (same_odd (outline_number u) (outline_number o) e))) ∙ t.0,
+    times_other (suc (outline_number u + outline_number u)) (suc (outline_number o + outline_number o)) seen
+        (λ e. n.0 (sym (same_odd (outline_number u) (outline_number o) e))) ∙ t.0,
     t.1,
     t.2,
     others_to_leave us n.1 t.3,
@@ -389,11 +445,14 @@ module _ (i : Input) (q : ℕ) (seen met : List ℕ) (o : Outline) (vs : List Vi
   entered_leave e = record { once = once; before = before; to_leave = others_to_leave vs e.to_leave.2 e.to_leave.3 }
     where
       once : (n : ℕ) → times (n + n) (suc (outline_number o + outline_number o) ∷ seen) ≡ times n met
-      once n = times_other (n + n) (suc (outline_number o + outline_number o)) seen (not_odd n (outline_number o)) ∙ e.once n
+      once n = times_other (n + n) (suc (outline_number o + outline_number o)) seen (not_odd n (outline_number o))
+          ∙ e.once n
 
       before : (n : ℕ) → 0 < times (suc (n + n)) (suc (outline_number o + outline_number o) ∷ seen) → 0 < times n met
       before n l = go (equal_or_not n (outline_number o))
         where
           go : (n ≡ outline_number o) ⊎ (n ≡ outline_number o → ⊥) → 0 < times n met
           go (inl d) = subst (λ k. 0 < times k met) (sym d) e.to_leave.1
-          go (inr d) = e.before n (subst (λ k. 0 < k) (times_other (suc (n + n)) (suc (outline_number o + outline_number o)) seen (λ f. d (same_odd n (outline_number o) f))) l)
+          go (inr d) = e.before n (subst (λ k. 0 < k)
+              (times_other (suc (n + n)) (suc (outline_number o + outline_number o)) seen
+              (λ f. d (same_odd n (outline_number o) f))) l)

@@ -83,7 +83,8 @@ next_all : (i : Input) (q : ℕ) (xs : List Beginning) → next_in (map (way_of 
 next_all i q [] = refl
 next_all i q (x ∷ xs) = ap (cons_option (wanted x)) (next_all i q xs)
 
-pub wanted_all : {A : Type 0} (i : Input) (pattern : Ops) (q : ℕ) (v : Verdict) (ways : List (Way A)) (r : AreWays i pattern q v ways) →
+pub wanted_all : {A : Type 0} (i : Input) (pattern : Ops) (q : ℕ) (v : Verdict) (ways : List (Way A))
+    (r : AreWays i pattern q v ways) →
     (w : Wanted) → In w (next_in (map way_seen ways)) ↔ IsWanted i pattern q w
 wanted_all i pattern q v ways r w = (λ m. there (subst (In w) same m), λ k. subst (In w) (sym same) (back k))
   where
@@ -98,17 +99,20 @@ wanted_all i pattern q v ways r w = (λ m. there (subst (In w) same m), λ k. su
 
 -- ---- where a beginning goes on, something is next
 
-no_second_round : (i : Input) (b : Ops) (s : Option Separator) (rest : Ops) (js : Items) (rs : Rounds) (up : List Frame) (is : Items) (m : Move) (w : Option ℕ) →
+no_second_round : (i : Input) (b : Ops) (s : Option Separator) (rest : Ops) (js : Items) (rs : Rounds) (up : List Frame)
+    (is : Items) (m : Move) (w : Option ℕ) →
     round_move ZeroOrOne w b s rest js rs up is ≡ Some m → ⊥
 no_second_round i b s rest js rs up is m None e = cc
 no_second_round i b s rest js rs up is m (Some w) e = cc
 
-round_wants : (i : Input) (q : ℕ) (s : Option Separator) (k : RepeatKind) (b rest : Ops) (js : Items) (rs : Rounds) (up : List Frame) (is : Items) (m : Move) →
+round_wants : (i : Input) (q : ℕ) (s : Option Separator) (k : RepeatKind) (b rest : Ops) (js : Items) (rs : Rounds)
+    (up : List Frame) (is : Items) (m : Move) →
     separator_move i q s k b rest js rs up is ≡ Some m → (w : Wanted) × (before_round k s ≡ Some w)
 round_wants i q None k b rest js rs up is m e = cc
 round_wants i q (Some s) ZeroOrMore b rest js rs up is m e = (separating s, refl)
 round_wants i q (Some s) OneOrMore b rest js rs up is m e = (separating s, refl)
-round_wants i q (Some s) ZeroOrOne b rest js rs up is m e = absurd (no_second_round i b (Some s) rest js rs up is m (i.separator_at s q) e)
+round_wants i q (Some s) ZeroOrOne b rest js rs up is m e =
+    absurd (no_second_round i b (Some s) rest js rs up is m (i.separator_at s q) e)
 
 moved_wants : (i : Input) (q : ℕ) (x : Beginning) (m : Move) → next i q x ≡ Some m → (w : Wanted) × (wanted x ≡ Some w)
 moved_wants i q (dot no_ops is []) m e = cc
@@ -135,7 +139,8 @@ module _ (i : Input) (pattern : Ops) (q : ℕ) where
   abbrev Clashing : Wanted × Wanted → Type 0
   Clashing p = AreClashing i pattern q p.0 p.1
 
-  module _ (x : Beginning) (here : At i pattern q x) (n : ℕ) (f : Bool) (y : Beginning) (goes : next i q x ≡ Some (move n f y)) where
+  module _ (x : Beginning) (here : At i pattern q x) (n : ℕ) (f : Bool) (y : Beginning)
+      (goes : next i q x ≡ Some (move n f y)) where
     s : Step
     s = record { width = n; by_fragment = f }
 
@@ -150,10 +155,12 @@ module _ (i : Input) (pattern : Ops) (q : ℕ) where
         rest : Option (Wanted × Wanted)
         rest = clash_with (record { width = n; by_fragment = f }) (wanted x) (map (way_of i q) zs)
 
-        pair : (m : ℕ) (g : Bool) (v : Beginning) → next i q z ≡ Some (move m g v) → (f || g || not (nat_eq n m)) ≡ true → IfSome (both (wanted x) (wanted z)) Clashing
+        pair : (m : ℕ) (g : Bool) (v : Beginning) → next i q z ≡ Some (move m g v) → (f || g || not (nat_eq n m)) ≡ true
+            → IfSome (both (wanted x) (wanted z)) Clashing
         pair m g v e c =
             let second = moved_wants i q z (move m g v) e in
-            subst (λ a. IfSome (both a (wanted z)) Clashing) (sym first.1) (subst (λ b. IfSome (both (Some first.0) b) Clashing) (sym second.1) (
+            subst (λ a. IfSome (both a (wanted z)) Clashing) (sym first.1)
+            (subst (λ b. IfSome (both (Some first.0) b) Clashing) (sym second.1) (
               record {
                 one = x;
                 other = z;
@@ -172,17 +179,20 @@ module _ (i : Input) (pattern : Ops) (q : ℕ) where
               second.1,
             ))
 
-        by : (m : ℕ) (g : Bool) (v : Beginning) → next i q z ≡ Some (move m g v) → (b : Bool) → (f || g || not (nat_eq n m)) ≡ b → IfSome rest Clashing →
+        by : (m : ℕ) (g : Bool) (v : Beginning) → next i q z ≡ Some (move m g v) → (b : Bool)
+            → (f || g || not (nat_eq n m)) ≡ b → IfSome rest Clashing →
             IfSome (if b then both (wanted x) (wanted z) else rest) Clashing
         by m g v e true c r = pair m g v e c
         by m g v e false c r = r
 
         turn : (o : Option Move) → next i q z ≡ o → IfSome rest Clashing →
-            IfSome (if clashes (record { width = n; by_fragment = f }) (step_of_move o) then both (wanted x) (wanted z) else rest) Clashing
+            IfSome (if clashes (record { width = n; by_fragment = f }) (step_of_move o) then both (wanted x) (wanted z)
+            else rest) Clashing
         turn None e r = r
         turn (Some (move m g v)) e r = by m g v e (f || g || not (nat_eq n m)) refl r
 
-    with_some : (xs : List Beginning) → clashing_with n f (moves_of i q xs) ≡ true → IsSome (clash_with (record { width = n; by_fragment = f }) (wanted x) (map (way_of i q) xs))
+    with_some : (xs : List Beginning) → clashing_with n f (moves_of i q xs) ≡ true
+        → IsSome (clash_with (record { width = n; by_fragment = f }) (wanted x) (map (way_of i q) xs))
     with_some [] e = cc
     with_some (z ∷ zs) e = turn (next i q z) refl e (λ c. with_some zs c)
       where
@@ -192,31 +202,38 @@ module _ (i : Input) (pattern : Ops) (q : ℕ) where
         pair : (m : ℕ) (g : Bool) (v : Beginning) → next i q z ≡ Some (move m g v) → IsSome (both (wanted x) (wanted z))
         pair m g v e =
             let second = moved_wants i q z (move m g v) e in
-            subst (λ a. IsSome (both a (wanted z))) (sym first.1) (subst (λ b. IsSome (both (Some first.0) b)) (sym second.1) refl)
+            subst (λ a. IsSome (both a (wanted z))) (sym first.1)
+            (subst (λ b. IsSome (both (Some first.0) b)) (sym second.1) refl)
 
-        by : (m : ℕ) (g : Bool) (v : Beginning) → next i q z ≡ Some (move m g v) → (b : Bool) → (b || clashing_with n f (moves_of i q zs)) ≡ true →
-            (clashing_with n f (moves_of i q zs) ≡ true → IsSome rest) → IsSome (if b then both (wanted x) (wanted z) else rest)
+        by : (m : ℕ) (g : Bool) (v : Beginning) → next i q z ≡ Some (move m g v) → (b : Bool)
+            → (b || clashing_with n f (moves_of i q zs)) ≡ true →
+            (clashing_with n f (moves_of i q zs) ≡ true → IsSome rest)
+            → IsSome (if b then both (wanted x) (wanted z) else rest)
         by m g v e true c r = pair m g v e
         by m g v e false c r = r c
 
         turn : (o : Option Move) → next i q z ≡ o → clashing_with n f (cons_option o (moves_of i q zs)) ≡ true →
             (clashing_with n f (moves_of i q zs) ≡ true → IsSome rest) →
-            IsSome (if clashes (record { width = n; by_fragment = f }) (step_of_move o) then both (wanted x) (wanted z) else rest)
+            IsSome (if clashes (record { width = n; by_fragment = f }) (step_of_move o) then both (wanted x) (wanted z)
+            else rest)
         turn None e c r = r c
         turn (Some (move m g v)) e c r = by m g v e (f || g || not (nat_eq n m)) c r
 
   -- those that the program finds clash
-  pub clash_two : (xs : List Beginning) → ((x : Beginning) → In x xs → At i pattern q x) → Distinct story xs → IfSome (first_clash (map (way_of i q) xs)) Clashing
+  pub clash_two : (xs : List Beginning) → ((x : Beginning) → In x xs → At i pattern q x) → Distinct story xs
+      → IfSome (first_clash (map (way_of i q) xs)) Clashing
   clash_two [] a d = tt
   clash_two (x ∷ xs) a d = turn (next i q x) refl (clash_two xs (λ v m. a v (inr m)) d.1)
     where
       turn : (o : Option Move) → next i q x ≡ o → IfSome (first_clash (map (way_of i q) xs)) Clashing →
-          IfSome (clash_if (step_of_move o) (wanted x) (map (way_of i q) xs) (first_clash (map (way_of i q) xs))) Clashing
+          IfSome (clash_if (step_of_move o) (wanted x) (map (way_of i q) xs) (first_clash (map (way_of i q) xs)))
+          Clashing
       turn None e r = r
       turn (Some (move n f y)) e r = with_two x (a x (inl refl)) n f y e xs (λ v m. a v (inr m)) d.0
 
   -- and it finds two where there are any
-  pub clash_some : (xs : List Beginning) → ((x : Beginning) → In x xs → At i pattern q x) → clashing (moves_of i q xs) ≡ true → IsSome (first_clash (map (way_of i q) xs))
+  pub clash_some : (xs : List Beginning) → ((x : Beginning) → In x xs → At i pattern q x)
+      → clashing (moves_of i q xs) ≡ true → IsSome (first_clash (map (way_of i q) xs))
   clash_some [] a e = cc
   clash_some (x ∷ xs) a e = turn (next i q x) refl e (λ c. clash_some xs (λ v m. a v (inr m)) c)
     where
@@ -242,7 +259,9 @@ module _ {A : Type 0} (q len p : ℕ) (ws : List (Waiting A)) (hs : List Handle)
   not_stuck [] e = cc
   not_stuck (x ∷ xs) e = cc
 
-  clash_by : (b c : Bool) → is_clash ws ≡ c → Some (ambiguous p) ≡ (if b then Some (ends_as q hs) else if c then Some (ambiguous q) else stuck_at q ws) → is_clash ws ≡ true
+  clash_by : (b c : Bool) → is_clash ws ≡ c
+      → Some (ambiguous p) ≡ (if b then Some (ends_as q hs) else if c then Some (ambiguous q) else stuck_at q ws)
+      → is_clash ws ≡ true
   clash_by true c d e = absurd (not_ended hs (sym (same_some (ambiguous p) (ends_as q hs) e)))
   clash_by false true d e = d
   clash_by false false d e = absurd (not_stuck ws e)
@@ -250,11 +269,15 @@ module _ {A : Type 0} (q len p : ℕ) (ws : List (Waiting A)) (hs : List Handle)
   stopped_clash : Some (ambiguous p) ≡ stop_at q len ws hs → is_clash ws ≡ true
   stopped_clash e = clash_by (q == len) (is_clash ws) refl e
 
-pub ways_are : {A : Type 0} (g : Grammar) (pattern : Ops) (argument : Forest) → IsLawful g → (lawful : Lawful (input_of g argument) (flat_len argument)) (checked : Checked pattern) (q : ℕ) (spots : List Outline) →
+pub ways_are : {A : Type 0} (g : Grammar) (pattern : Ops) (argument : Forest) → IsLawful g
+    → (lawful : Lawful (input_of g argument) (flat_len argument)) (checked : Checked pattern) (q : ℕ)
+    (spots : List Outline) →
     ComesTo (input_of g argument) pattern (flat_len argument) lawful checked q spots →
-    (log : Log) (outers : List (Outer A)) (ws : List (Waiting A)) (hs : List Handle) → AreSettled (input_of g argument) q pattern spots log outers (rest_at argument q) ws hs →
+    (log : Log) (outers : List (Outer A)) (ws : List (Waiting A)) (hs : List Handle)
+    → AreSettled (input_of g argument) q pattern spots log outers (rest_at argument q) ws hs →
     (v : Verdict) → Some v ≡ stop_at q (flat_len argument) ws hs → (ways : List (Way A)) →
-    map way_seen ways ≡ map (outline_way (input_of g argument) q) (kept (input_of g argument) (dots pattern) q (reverse spots)) →
+    map way_seen ways ≡ map (outline_way (input_of g argument) q)
+    (kept (input_of g argument) (dots pattern) q (reverse spots)) →
     AreWays (input_of g argument) pattern q v ways
 ways_are g pattern argument law lawful checked q spots c log outers ws hs st v stop ways e =
     let i = input_of g argument in
@@ -277,16 +300,19 @@ ways_are g pattern argument law lawful checked q spots c log outers ws hs st v s
 
 -- ---- what is reported
 
-pub are_wanted : {A : Type 0} (g : Grammar) (pattern : Ops) (argument : Forest) (v : Verdict) (ways : List (Way A)) → AreWays (input_of g argument) pattern (stop_of argument v) v ways →
+pub are_wanted : {A : Type 0} (g : Grammar) (pattern : Ops) (argument : Forest) (v : Verdict) (ways : List (Way A))
+    → AreWays (input_of g argument) pattern (stop_of argument v) v ways →
     AreWanted g pattern argument v (next_in (map way_seen ways))
 are_wanted g pattern argument v ways r = λ w. wanted_all (input_of g argument) pattern (stop_of argument v) v ways r w
 
-pub clash_there : {A : Type 0} (g : Grammar) (pattern : Ops) (argument : Forest) (v : Verdict) (ways : List (Way A)) → AreWays (input_of g argument) pattern (stop_of argument v) v ways →
+pub clash_there : {A : Type 0} (g : Grammar) (pattern : Ops) (argument : Forest) (v : Verdict) (ways : List (Way A))
+    → AreWays (input_of g argument) pattern (stop_of argument v) v ways →
     ClashThere g pattern argument v (first_clash (map way_seen ways))
 clash_there g pattern argument v ways r =
     let i = input_of g argument in
     let q = stop_of argument v in
     record {
-      two = subst (λ l. IfSome (first_clash l) (λ p. AreClashing i pattern q p.0 p.1)) (sym r.are) (clash_two i pattern q r.of r.here r.once);
+      two = subst (λ l. IfSome (first_clash l) (λ p. AreClashing i pattern q p.0 p.1)) (sym r.are)
+          (clash_two i pattern q r.of r.here r.once);
       some = λ p e. subst (λ l. IsSome (first_clash l)) (sym r.are) (clash_some i pattern q r.of r.here (r.clash p e));
     }

@@ -19,10 +19,12 @@ use Rattle.mbe_tt.proofs.Places.PlaceLemmas.{rest_at-append, rest_at-zero, depth
 pub between_trees : (t h : Forest) → depth_at (append t h) (flat_len t) ≡ 0
 between_trees none h = depth_at-zero h
 between_trees (leaf l t) h =
-    ap (depth_at (leaf l (append t h))) (let k : flat_len (leaf l t) ≡ suc (flat_len t) = omega arith in k) ∙ between_trees t h
+    ap (depth_at (leaf l (append t h))) (let k : flat_len (leaf l t) ≡ suc (flat_len t) = omega arith in k)
+    ∙ between_trees t h
 between_trees (group d inside t) h =
     let e : flat_len inside + flat_len t + 1 - flat_len inside - 1 ≡ flat_len t = omega arith in
-    ap (depth_at (group d inside (append t h))) (let k : flat_len (group d inside t) ≡ suc (flat_len inside + flat_len t + 1) = omega arith in k)
+    ap (depth_at (group d inside (append t h)))
+    (let k : flat_len (group d inside t) ≡ suc (flat_len inside + flat_len t + 1) = omega arith in k)
     ∙ (depth_at-behind_group d inside (append t h) (flat_len inside + flat_len t + 1) (omega arith)
     ∙ (ap (depth_at (append t h)) e ∙ between_trees t h))
 
@@ -37,7 +39,8 @@ ends_between (leaf l rest) (suc n) h e = let k = ends_between rest n (omega (ari
 ends_between (group d inside rest) zero h e = refl
 ends_between (group d inside rest) (suc n) h e = go (λ m u v. ends_between rest m u v) (two n (flat_len inside))
   where
-    go : ((m : ℕ) → m ≤ flat_len rest → depth_at rest m ≡ 0 → flat_len (cut_flat m rest).front ≡ m) → (n ≤ flat_len inside) ⊎ (flat_len inside + 1 ≤ n)
+    go : ((m : ℕ) → m ≤ flat_len rest → depth_at rest m ≡ 0 → flat_len (cut_flat m rest).front ≡ m)
+        → (n ≤ flat_len inside) ⊎ (flat_len inside + 1 ≤ n)
         → flat_len (cut_flat (suc n) (group d inside rest)).front ≡ suc n
     go behind (inl k) = let u = sym (depth_at-in_group d inside rest n k) ∙ e in absurd (omega (arith, u))
     go behind (inr k) =
@@ -46,31 +49,43 @@ ends_between (group d inside rest) (suc n) h e = go (λ m u v. ends_between rest
         omega (arith, v, k)
 
 -- a count that ends inside a group has the same shortest front as the next
-pub ends_inside : (f : Forest) (n : ℕ) → n ≤ flat_len f → (depth_at f n ≡ 0 → ⊥) → (suc n ≤ flat_len f) × (cut_flat (suc n) f ≡ cut_flat n f)
+pub ends_inside : (f : Forest) (n : ℕ) → n ≤ flat_len f → (depth_at f n ≡ 0 → ⊥)
+    → (suc n ≤ flat_len f) × (cut_flat (suc n) f ≡ cut_flat n f)
 ends_inside none n h e = absurd (e refl)
 ends_inside (leaf l rest) zero h e = absurd (e refl)
-ends_inside (leaf l rest) (suc n) h e = let k = ends_inside rest n (omega (arith, h)) e in (omega (arith, k.0), ap (leaf_before l) k.1)
+ends_inside (leaf l rest) (suc n) h e = let k =
+    ends_inside rest n (omega (arith, h)) e in (omega (arith, k.0), ap (leaf_before l) k.1)
 ends_inside (group d inside rest) zero h e = absurd (e refl)
 ends_inside (group d inside rest) (suc n) h e = go (λ m u v. ends_inside rest m u v) (two n (flat_len inside))
   where
     cuts : (m q : ℕ) → m ≡ q → group_before d inside (cut_flat m rest) ≡ group_before d inside (cut_flat q rest)
     cuts m q u = ap (λ k. group_before d inside (cut_flat k rest)) u
 
-    go : ((m : ℕ) → m ≤ flat_len rest → (depth_at rest m ≡ 0 → ⊥) → (suc m ≤ flat_len rest) × (cut_flat (suc m) rest ≡ cut_flat m rest))
+    go : ((m : ℕ) → m ≤ flat_len rest → (depth_at rest m ≡ 0 → ⊥)
+        → (suc m ≤ flat_len rest) × (cut_flat (suc m) rest ≡ cut_flat m rest))
         → (n ≤ flat_len inside) ⊎ (flat_len inside + 1 ≤ n)
-        → (suc (suc n) ≤ flat_len (group d inside rest)) × (cut_flat (suc (suc n)) (group d inside rest) ≡ cut_flat (suc n) (group d inside rest))
-    go behind (inl k) = (omega (arith, k), cuts (suc n - flat_len inside - 1) (n - flat_len inside - 1) (omega (arith, k)))
+        → (suc (suc n) ≤ flat_len (group d inside rest))
+        × (cut_flat (suc (suc n)) (group d inside rest) ≡ cut_flat (suc n) (group d inside rest))
+    go behind (inl k) = (
+      omega (arith, k),
+      cuts (suc n - flat_len inside - 1) (n - flat_len inside - 1) (omega (arith, k)),
+    )
     go behind (inr k) =
         let m = n - flat_len inside - 1 in
-        let u = behind m (omega (arith, h, k)) (λ z. e (depth_at-behind_group d inside rest n k ∙ z)) in
-        (omega (arith, u.0, k), cuts (suc n - flat_len inside - 1) (suc m) (omega (arith, k)) ∙ ap (group_before d inside) u.1)
+        let u = behind m (omega (arith, h, k)) (λ z. e (depth_at-behind_group d inside rest n k ∙ z)) in (
+          omega (arith, u.0, k),
+          cuts (suc n - flat_len inside - 1) (suc m) (omega (arith, k))
+              ∙ ap (group_before d inside) u.1,
+        )
 
 -- ---- a cursor
 
 -- one flat token more, where the cursor is in a group
-pub goes_on : (cursor moved : Placed) (f : Forest) → viewed cursor ≡ f → place_of cursor ≤ flat_len f → (IsAtRoot cursor → ⊥)
+pub goes_on : (cursor moved : Placed) (f : Forest) → viewed cursor ≡ f → place_of cursor ≤ flat_len f
+    → (IsAtRoot cursor → ⊥)
     → moved ≡ (viewed cursor, min (place_of cursor + 1) (flat_len (viewed cursor)))
-    → (viewed moved ≡ f) × (place_of moved ≡ place_of cursor + 1) × (place_of cursor + 1 ≤ flat_len f) × (cut_flat (place_of moved) f ≡ cut_flat (place_of cursor) f)
+    → (viewed moved ≡ f) × (place_of moved ≡ place_of cursor + 1) × (place_of cursor + 1 ≤ flat_len f)
+    × (cut_flat (place_of moved) f ≡ cut_flat (place_of cursor) f)
 goes_on cursor moved f v h n m =
     let i = ends_inside f (place_of cursor) h (λ e. n (ap (λ (t : Forest). depth_at t (place_of cursor)) v ∙ e)) in
     let k : flat_len (viewed cursor) ≡ flat_len f = ap flat_len v in
@@ -80,17 +95,21 @@ goes_on cursor moved f v h n m =
     (ap viewed m ∙ v, omega (arith, p), omega (arith, l), ap (λ (q : ℕ). cut_flat q f) p ∙ i.1)
 
 -- the cursor that is between two trees is after the shortest front
-pub stands_behind : (cursor start : Placed) (f : Forest) → viewed cursor ≡ f → place_of cursor ≤ flat_len f → IsAtRoot cursor
-    → cut_flat (place_of cursor) f ≡ cut_flat (place_of start) f → cursor ≡ (f, flat_len (cut_flat (place_of start) f).front)
+pub stands_behind : (cursor start : Placed) (f : Forest) → viewed cursor ≡ f → place_of cursor ≤ flat_len f
+    → IsAtRoot cursor
+    → cut_flat (place_of cursor) f ≡ cut_flat (place_of start) f
+    → cursor ≡ (f, flat_len (cut_flat (place_of start) f).front)
 stands_behind cursor start f v h r c =
     let e = ends_between f (place_of cursor) h (ap (λ (t : Forest). depth_at t (place_of cursor)) (sym v) ∙ r) in
-    let p : place_of cursor ≡ flat_len (cut_flat (place_of start) f).front = sym e ∙ ap (λ (x : Cut). flat_len x.front) c in
+    let p : place_of cursor ≡ flat_len (cut_flat (place_of start) f).front =
+    sym e ∙ ap (λ (x : Cut). flat_len x.front) c in
     ap (λ (t : Forest). (t, place_of cursor)) v ∙ ap (λ (q : ℕ). (f, q)) p
 
 -- ---- what a grammar counts
 
 -- it counts no more than there is
-pub counted_within : (g : Grammar) (entry : PrefixEntryPoint) (f : Forest) (counted : Front) → IsLawful g → counted ≡ g.parse entry (flat f) → counted.count ≤ flat_len f
+pub counted_within : (g : Grammar) (entry : PrefixEntryPoint) (f : Forest) (counted : Front) → IsLawful g
+    → counted ≡ g.parse entry (flat f) → counted.count ≤ flat_len f
 counted_within g entry f counted l e =
     let w = l.within entry (flat f) in
     let n : counted.count ≡ (g.parse entry (flat f)).count = ap (λ (x : Front). x.count) e in
@@ -98,12 +117,14 @@ counted_within g entry f counted l e =
     omega (arith, w, n, k)
 
 -- whether the count ends between two trees
-pub ends_well : (f : Forest) (n : ℕ) (r : Bool) → n ≤ flat_len f → (IsTrue r ↔ (depth_at f n ≡ 0)) → r ≡ (flat_len (cut_flat n f).front == n)
+pub ends_well : (f : Forest) (n : ℕ) (r : Bool) → n ≤ flat_len f → (IsTrue r ↔ (depth_at f n ≡ 0))
+    → r ≡ (flat_len (cut_flat n f).front == n)
 ends_well f n true h d = sym (eq-eqb (flat_len (cut_flat n f).front) n (ends_between f n h (d.0 refl)))
 ends_well f n false h d =
     let i = ends_inside f n h (λ e. no_true (d.1 e)) in
     let k = shortest_cut.enough (suc n) f i.0 in
-    let s : flat_len (cut_flat (suc n) f).front ≡ flat_len (cut_flat n f).front = ap (λ (x : Cut). flat_len x.front) i.1 in
+    let s : flat_len (cut_flat (suc n) f).front ≡ flat_len (cut_flat n f).front =
+    ap (λ (x : Cut). flat_len x.front) i.1 in
     sym (ne_eqb (flat_len (cut_flat n f).front) n (λ e. absurd (omega (arith, k, s, e))))
 
 -- ---- the front
@@ -135,21 +156,26 @@ module _ (f : Forest) (n : ℕ) (cursor : Placed) (at : cursor ≡ (f, flat_len 
   pub behind_all_groups : IsAtRoot cursor
   behind_all_groups =
       ap (λ (c : Placed). depth_at c.0 c.1) at
-      ∙ (ap (λ (t : Forest). depth_at t (flat_len (cut_flat n f).front)) (sym (cut_flat-append n f)) ∙ between_trees (cut_flat n f).front (cut_flat n f).back)
+      ∙ (ap (λ (t : Forest). depth_at t (flat_len (cut_flat n f).front)) (sym (cut_flat-append n f))
+      ∙ between_trees (cut_flat n f).front (cut_flat n f).back)
 
-  pub crossed_front : (a : Forest) → append a (left_at cursor) ≡ viewed cursor → flat_len a ≡ place_of cursor → a ≡ (cut_flat n f).front
+  pub crossed_front : (a : Forest) → append a (left_at cursor) ≡ viewed cursor → flat_len a ≡ place_of cursor
+      → a ≡ (cut_flat n f).front
   crossed_front a e k =
-      same_front a (left_at cursor) (cut_flat n f).front (cut_flat n f).back (e ∙ (ap viewed at ∙ sym (cut_flat-append n f))) (k ∙ ap place_of at)
+      same_front a (left_at cursor) (cut_flat n f).front (cut_flat n f).back
+      (e ∙ (ap viewed at ∙ sym (cut_flat-append n f))) (k ∙ ap place_of at)
 
   pub left_back : (left : Forest) → left ≡ rest_at f (place_of cursor) → left ≡ (cut_flat n f).back
   left_back left e =
       e ∙ (ap (rest_at f) (ap place_of at)
       ∙ (ap (λ (t : Forest). rest_at t (flat_len (cut_flat n f).front)) (sym (cut_flat-append n f))
-      ∙ (rest_at-append (cut_flat n f).front (cut_flat n f).back 0 (flat_len (cut_flat n f).front) (omega arith) ∙ rest_at-zero (cut_flat n f).back)))
+      ∙ (rest_at-append (cut_flat n f).front (cut_flat n f).back 0 (flat_len (cut_flat n f).front) (omega arith)
+      ∙ rest_at-zero (cut_flat n f).back)))
 
 -- ---- the front of a grammar, where f is what the grammar is asked about
 
-module _ (g : Grammar) (entry : PrefixEntryPoint) (f : Forest) (counted : Front) (asked : Forest) (same : asked ≡ f) (is : counted ≡ g.parse entry (flat asked))
+module _ (g : Grammar) (entry : PrefixEntryPoint) (f : Forest) (counted : Front) (asked : Forest) (same : asked ≡ f)
+    (is : counted ≡ g.parse entry (flat asked))
     (start : Placed) (begins : start ≡ (asked, counted.count)) where
   answer : counted ≡ g.parse entry (flat f)
   answer = is ∙ ap (λ (t : Forest). g.parse entry (flat t)) same
@@ -161,13 +187,16 @@ module _ (g : Grammar) (entry : PrefixEntryPoint) (f : Forest) (counted : Front)
   begins_at = begins ∙ ap (λ (t : Forest). let p : Placed = (t, counted.count) in p) same
 
   -- where the cursor is once it has left all groups
-  pub stands_at : (cursor : Placed) → cursor ≡ (viewed start, flat_len (cut_flat (place_of start) (viewed start)).front) → cursor ≡ (f, flat_len (front g entry f).front)
+  pub stands_at : (cursor : Placed) → cursor ≡ (viewed start, flat_len (cut_flat (place_of start) (viewed start)).front)
+      → cursor ≡ (f, flat_len (front g entry f).front)
   stands_at cursor e =
-      e ∙ (ap (λ (p : Placed). let q : Placed = (viewed p, flat_len (cut_flat (place_of p) (viewed p)).front) in q) begins_at
+      e ∙ (ap (λ (p : Placed). let q : Placed = (viewed p, flat_len (cut_flat (place_of p) (viewed p)).front) in q)
+      begins_at
       ∙ ap (λ (n : ℕ). let q : Placed = (f, flat_len (cut_flat n f).front) in q) count)
 
   -- the front is good where the grammar doesn't fault and its count ends between two trees
-  pub good_counted : (r : Bool) → IsLawful g → (IsTrue r ↔ IsAtRoot start) → not counted.fault ≡ true → r ≡ is_good g entry f
+  pub good_counted : (r : Bool) → IsLawful g → (IsTrue r ↔ IsAtRoot start) → not counted.fault ≡ true
+      → r ≡ is_good g entry f
   good_counted r l d e =
       let h = counted_within g entry f counted l answer in
       let b : not (g.parse entry (flat f)).fault ≡ true = ap (λ (x : Front). not x.fault) (sym answer) ∙ e in

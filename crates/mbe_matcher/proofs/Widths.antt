@@ -21,7 +21,8 @@ use Rattle.mbe_matcher.proofs.FrontLemmas.{passed_if}
 abbrev pub width : Bool → Forest → Forest → Option ℕ
 width r f left = if r then Some (flat_len f - flat_len left) else None
 
-pub passed_width : (r : Bool) (o : Option Cut) (f left : Forest) → HasPassed r o left → ((c : Cut) → o ≡ Some c → IsCut f c) → width r f left ≡ length_of o
+pub passed_width : (r : Bool) (o : Option Cut) (f left : Forest) → HasPassed r o left
+    → ((c : Cut) → o ≡ Some c → IsCut f c) → width r f left ≡ length_of o
 passed_width true (Some c) f left h cut =
     let len = flat_len-append c.front c.back in
     let whole = ap flat_len (cut c refl) in
@@ -31,32 +32,40 @@ passed_width true None f left h cut = absurd h
 passed_width false (Some c) f left h cut = absurd h
 passed_width false None f left h cut = refl
 
-pub token_width : (r : Bool) (t : Token) (f left : Forest) → HasPassed r (token_front t f) left → width r f left ≡ length_of (token_front t f)
+pub token_width : (r : Bool) (t : Token) (f left : Forest) → HasPassed r (token_front t f) left
+    → width r f left ≡ length_of (token_front t f)
 token_width r t f left h = passed_width r (token_front t f) f left h (token_cut t f)
 
-pub separator_width : (r : Bool) (s : Separator) (f left : Forest) → HasPassed r (separator_front s f) left → width r f left ≡ length_of (separator_front s f)
+pub separator_width : (r : Bool) (s : Separator) (f left : Forest) → HasPassed r (separator_front s f) left
+    → width r f left ≡ length_of (separator_front s f)
 separator_width r s f left h = passed_width r (separator_front s f) f left h (between_cut (Some s) f)
 
 -- ---- a literal between two rounds
 
-truth_of : (i : Ident) (l : Leaf) → Some l ≡ (if is_truth i.sym then Some (ident i) else None) → (l ≡ ident i) × (is_truth i.sym ≡ true)
+truth_of : (i : Ident) (l : Leaf) → Some l ≡ (if is_truth i.sym then Some (ident i) else None)
+    → (l ≡ ident i) × (is_truth i.sym ≡ true)
 truth_of i l e = go (is_truth i.sym) refl e
   where
-    go : (b : Bool) → is_truth i.sym ≡ b → Some l ≡ (if b then Some (ident i) else None) → (l ≡ ident i) × (is_truth i.sym ≡ true)
+    go : (b : Bool) → is_truth i.sym ≡ b → Some l ≡ (if b then Some (ident i) else None)
+        → (l ≡ ident i) × (is_truth i.sym ≡ true)
     go true t h = (same_Some l (ident i) h, t)
     go false t h = absurd (none-some l (sym h))
 
-pub literal_separator_passed : (f left : Forest) (l : Leaf) (text : List ℕ) → Some l ≡ front_literal f → left ≡ rest_of f →
+pub literal_separator_passed : (f left : Forest) (l : Leaf) (text : List ℕ) → Some l ≡ front_literal f
+    → left ≡ rest_of f →
     HasPassed (has_text l text) (literal_separator_front text f) left
 literal_separator_passed none left l text e r = absurd (none-some l (sym e))
 literal_separator_passed (leaf (literal k) rest) left l text e r =
-    subst (λ (m : Leaf). HasPassed (has_text m text) (literal_separator_front text (leaf (literal k) rest)) left) (sym (same_Some l (literal k) e))
-    (passed_if (bytes_eq k.text_and_suffix text) (cut_trees 1 (leaf (literal k) rest)) left (left_behind 1 (leaf (literal k) rest) left r))
+    subst (λ (m : Leaf). HasPassed (has_text m text) (literal_separator_front text (leaf (literal k) rest)) left)
+    (sym (same_Some l (literal k) e))
+    (passed_if (bytes_eq k.text_and_suffix text) (cut_trees 1 (leaf (literal k) rest)) left
+    (left_behind 1 (leaf (literal k) rest) left r))
 literal_separator_passed (leaf (punct p) rest) left l text e r = absurd (none-some l (sym e))
 literal_separator_passed (group d inside rest) left l text e r = absurd (none-some l (sym e))
 literal_separator_passed (leaf (ident i) rest) left l text e r =
     let t : (l ≡ ident i) × (is_truth i.sym ≡ true) = truth_of i l e in
-    subst (λ (m : Leaf). HasPassed (has_text m text) (literal_separator_front text (leaf (ident i) rest)) left) (sym t.0)
+    subst (λ (m : Leaf). HasPassed (has_text m text) (literal_separator_front text (leaf (ident i) rest)) left)
+    (sym t.0)
     (go (bytes_eq i.sym text) refl (is_truth text) (λ h. sym (ap is_truth ((bytes_eq-Decides i.sym text).0 h)) ∙ t.1))
   where
     go : (b : Bool) → bytes_eq i.sym text ≡ b → (t : Bool) → (b ≡ true → t ≡ true) →

@@ -1,4 +1,5 @@
--- What a match that fails reports (as rust-analyzer): why, and what was bound. Positions are looked at in an order, the ends of which count.
+-- What a match that fails reports (as rust-analyzer): why, and what was bound. Positions are looked at in an order, the
+-- ends of which count.
 use Rattle.std.specs.Prelude.{ℕ, ◌+◌, ◌==◌, ◌≡◌, Bool, true, false, ◌||◌, not, is_some, if◌then◌else◌, Option, Some, None, unwrap_or, List, [], ◌∷◌, map, reverse}
 use Rattle.std.specs.List.{filter_map}
 use Rattle.mbe_tt.specs.declared.span.DelimSpan.{DelimSpan}
@@ -98,18 +99,21 @@ noted_at i q os before = noted_with (filter_map (misfit i q) os) (filter_map fin
 
 -- ---- over all beginnings
 
--- The places that a match comes to, with the beginnings that come there, in the order in which they are looked at, and what was noted before.
+-- The places that a match comes to, with the beginnings that come there, in the order in which they are looked at, and
+-- what was noted before.
 -- What waits at a place comes back in the order in which it began to wait, and the last of it is looked at first.
 pub data ComesWith (i : Input) (pattern : Ops) : ℕ → List Beginning → Notes → Type 0 where
   at_start : ComesWith i pattern 0 (start pattern ∷ []) no_notes
   at_next : (q m n : ℕ) (f : Bool) (y : Beginning) (ms : List Move) (xs : List Beginning) (before : Notes) →
-      ComesWith i pattern q xs before → moves_of i q (held i q xs) ≡ move n f y ∷ ms → clashing (move n f y ∷ ms) ≡ false → m ≡ q + n →
+      ComesWith i pattern q xs before → moves_of i q (held i q xs) ≡ move n f y ∷ ms
+      → clashing (move n f y ∷ ms) ≡ false → m ≡ q + n →
       ComesWith i pattern m (reverse (targets (move n f y ∷ ms))) (noted_at i q (map erase (held i q xs)) before)
 
 -- what is noted up to a place, itself too
 abbrev pub AreNotes : Input → Ops → ℕ → Notes → Type 0
 AreNotes i pattern q notes =
-    (xs : List Beginning) × (before : Notes) × ComesWith i pattern q xs before × (notes ≡ noted_at i q (map erase (held i q xs)) before)
+    (xs : List Beginning) × (before : Notes) × ComesWith i pattern q xs before
+    × (notes ≡ noted_at i q (map erase (held i q xs)) before)
 
 -- ---- what is reported
 
@@ -142,7 +146,8 @@ commands_of_notes g argument (Some (ended cs)) = cs
 commands_of_notes g argument (Some (failed m)) = bound_at g m.op (rest_at argument m.place) m.bound
 
 -- What a match without an only reading reports, where it stops at the verdict's place: an error, and what is bound.
-pub record Reports (g : Grammar) (pattern : Ops) (argument : Forest) (around : DelimSpan) (v : Verdict) (err : ExpandError) (bound : Commands) : Type 0 where
+pub record Reports (g : Grammar) (pattern : Ops) (argument : Forest) (around : DelimSpan) (v : Verdict)
+    (err : ExpandError) (bound : Commands) : Type 0 where
   pub notes : Notes
   pub noted : AreNotes (input_of g argument) pattern (stop_of argument v) notes
   pub error : err ≡ error_of_notes g argument around (stop_of argument v == flat_len argument) notes

@@ -10,7 +10,7 @@ use Rattle.mbe_semantics.specs.Readings.Verdict.{Verdict, one_reading, many_read
 use Rattle.mbe_semantics.specs.Bindings.Account.{Log, Handle, commands_of, no_account}
 use Rattle.mbe_matcher.specs.declared.matching.Verdict as verdicts
 use Rattle.mbe_matcher.specs.declared.places.Stop.{Stop}
-use Rattle.mbe_matcher.specs.declared.places.Stop.TheVariants as told
+use Rattle.mbe_matcher.specs.declared.places.Stop.TheVariants as variants
 use Rattle.mbe_semantics.specs.Readings.Input.{Input, input_of}
 use Rattle.mbe_semantics.specs.Readings.Reading.{Beginning}
 use Rattle.mbe_semantics.specs.Matching.Dots.{dots}
@@ -28,7 +28,8 @@ use Rattle.mbe_matcher.specs.Positions.{Each, Stands, Shows, LeadsTo, Holds}
 -- ---- the positions at a place
 
 -- The positions, the last on top, stand for beginnings of a pattern of so many dots that end at the place.
-pub record IsStack {A : Type 0} (i : Input) (place size : ℕ) (log : Log) (outers : List (Outer A)) (todo : List (Position A)) : Type 0 where
+pub record IsStack {A : Type 0} (i : Input) (place size : ℕ) (log : Log) (outers : List (Outer A))
+    (todo : List (Position A)) : Type 0 where
   pub pattern : Ops
   pub size_is : dots pattern ≡ size
   pub beginnings : List Beginning
@@ -36,8 +37,10 @@ pub record IsStack {A : Type 0} (i : Input) (place size : ℕ) (log : Log) (oute
   pub stack : Stack i pattern place beginnings spots
   pub shown : Each (Shows log outers) todo spots
 
--- What comes of a stack, where two of each dot are followed: steps over trees of `here`, and commands at the pattern's end.
-pub record AreSettled {A : Type 0} (i : Input) (place : ℕ) (pattern : Ops) (spots : List Outline) (log : Log) (outers : List (Outer A)) (here : Forest) (waiting : List (Waiting A)) (ends : List Handle) : Type 0 where
+-- What comes of a stack, where two of each dot are followed: steps over trees of `here`, and commands at the pattern's
+-- end.
+pub record AreSettled {A : Type 0} (i : Input) (place : ℕ) (pattern : Ops) (spots : List Outline) (log : Log)
+    (outers : List (Outer A)) (here : Forest) (waiting : List (Waiting A)) (ends : List Handle) : Type 0 where
   pub goes_on : Each (LeadsTo log outers here) waiting (kept_moves i (dots pattern) place (reverse spots))
   pub ended : Each (Holds log) ends (kept_ends i (dots pattern) place (reverse spots))
 
@@ -51,11 +54,13 @@ dots_in state = length state.counts.marks.items
 
 -- both at the place of a source
 abbrev pub IsStackAt : {A : Type 0} → Grammar → Source A → Log → State A → List (Position A) → Type 0
-IsStackAt g source log state todo = IsStack (input_of g (trees source.whole)) source.place (dots_in state) log state.outers.items todo
+IsStackAt g source log state todo = IsStack (input_of g (trees source.whole)) source.place (dots_in state) log
+    state.outers.items todo
 
 abbrev pub AreSettledAt : {A : Type 0} → Grammar → Source A → Ops → List Outline → Log → State A → Settled A → Type 0
 AreSettledAt g source pattern spots log state settled =
-    AreSettled (input_of g (trees source.whole)) source.place pattern spots log state.outers.items (rest_at (trees source.whole) source.place) settled.waiting.items settled.ends.items
+    AreSettled (input_of g (trees source.whole)) source.place pattern spots log state.outers.items
+    (rest_at (trees source.whole) source.place) settled.waiting.items settled.ends.items
 
 -- ---- the positions that go on
 
@@ -79,10 +84,10 @@ position_after w = w.after
 -- ---- what a match returns
 
 abbrev pub verdict_in : Stop → Verdict
-verdict_in (told.OneReading h) = one_reading
-verdict_in told.ManyReadings = many_readings
-verdict_in (told.Ambiguous q) = ambiguous q
-verdict_in (told.Stuck q) = stuck q
+verdict_in (variants.OneReading h) = one_reading
+verdict_in variants.ManyReadings = many_readings
+verdict_in (variants.Ambiguous q) = ambiguous q
+verdict_in (variants.Stuck q) = stuck q
 
 -- what it says to those outside
 abbrev pub verdict_seen : verdicts.Verdict → Verdict
@@ -93,10 +98,10 @@ verdict_seen (verdicts.TheVariants.Stuck q) = stuck q
 
 -- the handle of the only reading
 abbrev pub reading_in : Stop → Option Handle
-reading_in (told.OneReading h) = Some h
-reading_in told.ManyReadings = None
-reading_in (told.Ambiguous q) = None
-reading_in (told.Stuck q) = None
+reading_in (variants.OneReading h) = Some h
+reading_in variants.ManyReadings = None
+reading_in (variants.Ambiguous q) = None
+reading_in (variants.Stuck q) = None
 
 -- the verdict at the argument's end
 abbrev pub ends_as : ℕ → List Handle → Verdict
@@ -111,7 +116,8 @@ stuck_at q (w ∷ ws) = None
 
 -- where they stop at this place, if they do
 abbrev pub stop_at : {A : Type 0} → ℕ → ℕ → List (Waiting A) → List Handle → Option Verdict
-stop_at q len ws hs = if q == len then Some (ends_as q hs) else if is_clash ws then Some (ambiguous q) else stuck_at q ws
+stop_at q len ws hs = if q == len then Some (ends_as q hs) else if is_clash ws then Some (ambiguous q) else stuck_at q
+    ws
 
 -- The only reading writes the current commands of the handle.
 abbrev pub Binds : Grammar → Ops → Forest → Log → Handle → Type 0

@@ -50,10 +50,12 @@ IsLeft here width (Some beyond) = IsBehind here width beyond
 
 -- an open repetition, with the place where its round began and the account outside
 abbrev pub edge_in : {A : Type 0} → Rounds A → Ops → ℕ → Account → Edge
-edge_in r rest began outside = edge (ops_of r.body.now) (option_map (λ s. separator_seen s.now) r.separator) r.kind rest began outside
+edge_in r rest began outside = edge (ops_of r.body.now) (option_map (λ s. separator_seen s.now) r.separator) r.kind rest
+    began outside
 
 -- What is kept of an open repetition: the account outside, and the number of the dot before its body.
-pub record AreRounds {A : Type 0} (log : Log) (r : Rounds A) (rest : Ops) (outside : Account) (up : List Edge) : Type 0 where
+pub record AreRounds {A : Type 0} (log : Log) (r : Rounds A) (rest : Ops) (outside : Account)
+    (up : List Edge) : Type 0 where
   pub account : IsAccount log r.outside outside
   pub front : r.front ≡ dots (ops_of r.body.now) + (dots rest + edges_behind up)
 
@@ -61,10 +63,12 @@ module _ {A : Type 0} (log : Log) (outers : List (Outer A)) where
   -- The open items from an outer one on, innermost first. Where a round began isn't kept.
   pub data AreEdges : Option ℕ → List Edge → Type 0 where
     none_open : AreEdges None []
-    group_open : (n : ℕ) (o : Outer A) (es : List Edge) → slice_get outers n ≡ Some o → o.rounds ≡ None → AreEdges o.up es →
+    group_open : (n : ℕ) (o : Outer A) (es : List Edge) → slice_get outers n ≡ Some o → o.rounds ≡ None
+        → AreEdges o.up es →
         AreEdges (Some n) (gate (ops_of o.rest.now) ∷ es)
     repetition_open : (n : ℕ) (o : Outer A) (r : Rounds A) (began : ℕ) (outside : Account) (es : List Edge) →
-        slice_get outers n ≡ Some o → o.rounds ≡ Some r → AreRounds log r (ops_of o.rest.now) outside es → AreEdges o.up es →
+        slice_get outers n ≡ Some o → o.rounds ≡ Some r → AreRounds log r (ops_of o.rest.now) outside es
+        → AreEdges o.up es →
         AreEdges (Some n) (edge_in r (ops_of o.rest.now) began outside ∷ es)
 
   -- the position has these ops left, this account, and these open items
@@ -103,7 +107,8 @@ abbrev pub idle_in : {A : Type 0} → Steps A → List (Position A)
 idle_in s = option_to_list s.first ++ option_to_list s.second
 
 -- The steps of an outline at a place of the argument, in the log and the outer items as they are now.
-pub record AreStepsNow {A : Type 0} (i : Input) (argument : Forest) (q : ℕ) (log : Log) (outers : List (Outer A)) (o : Outline) (s : Steps A) : Type 0 where
+pub record AreStepsNow {A : Type 0} (i : Input) (argument : Forest) (q : ℕ) (log : Log) (outers : List (Outer A))
+    (o : Outline) (s : Steps A) : Type 0 where
   pub idle : Each (Shows log outers) (idle_in s) (idle_of i q o)
   pub next : Both (LeadsTo log outers (rest_at argument q)) s.next (next_of i q o)
   pub done : Both (Holds log) s.done (finished_of o)
@@ -114,30 +119,40 @@ pub record Keeps {A : Type 0} (old new : Log) (before after : List (Outer A)) : 
   pub outers : Grows before after
 
 -- The steps of an outline, with what they wrote.
-pub record AreSteps {A : Type 0} (i : Input) (argument : Forest) (q : ℕ) (old new : Log) (before after : List (Outer A)) (o : Outline) (s : Steps A) : Type 0 where
+pub record AreSteps {A : Type 0} (i : Input) (argument : Forest) (q : ℕ) (old new : Log) (before after : List (Outer A))
+    (o : Outline) (s : Steps A) : Type 0 where
   pub now : AreStepsNow i argument q new after o s
   pub kept : Keeps old new before after
 
 -- The answer has the steps of the position, unless it is that memory is out.
-abbrev pub GivesStepsAt : {A : Type 0} → Input → Forest → ℕ → Log → Log → List (Outer A) → List (Outer A) → Position A → Result (Steps A) AllocError → Type 0
+abbrev pub GivesStepsAt : {A : Type 0} → Input → Forest → ℕ → Log → Log → List (Outer A) → List (Outer A) → Position A
+    → Result (Steps A) AllocError → Type 0
 GivesStepsAt i argument q old new before after p answer =
     (o : Outline) → Shows old before p o → IfOk answer (λ s. AreSteps i argument q old new before after o s)
 
 -- at the place of a source
-abbrev pub GivesSteps : {A : Type 0} → Grammar → Source A → Log → Log → List (Outer A) → List (Outer A) → Position A → Result (Steps A) AllocError → Type 0
-GivesSteps g source old new before after p answer = GivesStepsAt (input_of g (trees source.whole)) (trees source.whole) source.place old new before after p answer
+abbrev pub GivesSteps : {A : Type 0} → Grammar → Source A → Log → Log → List (Outer A) → List (Outer A) → Position A
+    → Result (Steps A) AllocError → Type 0
+GivesSteps g source old new before after p answer =
+    GivesStepsAt (input_of g (trees source.whole)) (trees source.whole) source.place old new before after p answer
 
 -- whatever the outer items, to which nothing is added
-abbrev pub GivesStepsIn : {A : Type 0} → Grammar → Source A → Log → Log → Position A → Result (Steps A) AllocError → Type 0
-GivesStepsIn {A} g source old new p answer = (outers : List (Outer A)) → GivesSteps g source old new outers outers p answer
+abbrev pub GivesStepsIn : {A : Type 0} → Grammar → Source A → Log → Log → Position A → Result (Steps A) AllocError
+    → Type 0
+GivesStepsIn {A} g source old new p answer =
+    (outers : List (Outer A)) → GivesSteps g source old new outers outers p answer
 
 -- whatever the log and the grammar
-abbrev pub GivesStepsOver : {A : Type 0} → Source A → List (Outer A) → List (Outer A) → Position A → Result (Steps A) AllocError → Type 0
-GivesStepsOver source before after p answer = (g : Grammar) (log : Log) → GivesSteps g source log log before after p answer
+abbrev pub GivesStepsOver : {A : Type 0} → Source A → List (Outer A) → List (Outer A) → Position A
+    → Result (Steps A) AllocError → Type 0
+GivesStepsOver source before after p answer =
+    (g : Grammar) (log : Log) → GivesSteps g source log log before after p answer
 
 -- whatever the argument
-abbrev pub GivesStepsFor : {A : Type 0} → Log → Log → List (Outer A) → List (Outer A) → Position A → Result (Steps A) AllocError → Type 0
-GivesStepsFor old new before after p answer = (i : Input) (argument : Forest) (q : ℕ) → GivesStepsAt i argument q old new before after p answer
+abbrev pub GivesStepsFor : {A : Type 0} → Log → Log → List (Outer A) → List (Outer A) → Position A
+    → Result (Steps A) AllocError → Type 0
+GivesStepsFor old new before after p answer =
+    (i : Input) (argument : Forest) (q : ℕ) → GivesStepsAt i argument q old new before after p answer
 
 -- whatever grammar, log and outer items, where nothing is written
 abbrev pub AreStepsOf : {A : Type 0} → Source A → Position A → Steps A → Type 0
@@ -158,20 +173,30 @@ IsPlain (repetition b s k) = ⊥
 -- over that many flat tokens, or none
 abbrev pub over_steps : {A : Type 0} → ℕ → Option Forest → Position A → Steps A
 over_steps zero beyond p = record { first = Some p; second = None; next = None; done = None }
-over_steps (suc n) beyond p = record { first = None; second = None; next = Some (record { width = suc n; beyond = beyond; after = p }); done = None }
+over_steps (suc n) beyond p = record {
+  first = None;
+  second = None;
+  next = Some (record { width = suc n; beyond = beyond; after = p });
+  done = None;
+}
 
 -- past a repetition, where it may have no round
-pub record IsSkip {A : Type 0} (kind : RepeatKind) (body rest : Ops) (old new : Log) (before : Position A) (p : Option (Position A)) : Type 0 where
-  pub is : (outers : List (Outer A)) (a : Account) (up : List Edge) → AreEdges old outers before.up up → IsAccount old before.handle a →
+pub record IsSkip {A : Type 0} (kind : RepeatKind) (body rest : Ops) (old new : Log) (before : Position A)
+    (p : Option (Position A)) : Type 0 where
+  pub is : (outers : List (Outer A)) (a : Account) (up : List Edge) → AreEdges old outers before.up up
+      → IsAccount old before.handle a →
       before.number ≡ 1 + dots body + (dots rest + edges_behind up) →
       Each (Shows new outers) (option_to_list p) (skip_of kind (outline rest (skipped (names_of body) a) up))
   pub kept : IsKept old new
 
 -- the innermost open item of the position is a repetition
 abbrev pub IsInRounds : {A : Type 0} → List (Outer A) → Position A → Outer A → Rounds A → Type 0
-IsInRounds outers p outer rounds = (n : ℕ) × (p.up ≡ Some n) × (slice_get outers n ≡ Some outer) × (outer.rounds ≡ Some rounds)
+IsInRounds outers p outer rounds = (n : ℕ) × (p.up ≡ Some n) × (slice_get outers n ≡ Some outer)
+    × (outer.rounds ≡ Some rounds)
 
 -- at the end of a round, in the repetition whose outer item this is
-abbrev pub GivesRoundSteps : {A : Type 0} → Source A → Log → Log → Outer A → Rounds A → Position A → Result (Steps A) AllocError → Type 0
+abbrev pub GivesRoundSteps : {A : Type 0} → Source A → Log → Log → Outer A → Rounds A → Position A
+    → Result (Steps A) AllocError → Type 0
 GivesRoundSteps {A} source old new outer rounds p answer =
-    (g : Grammar) (outers : List (Outer A)) → IsInRounds outers p outer rounds → GivesSteps g source old new outers outers p answer
+    (g : Grammar) (outers : List (Outer A)) → IsInRounds outers p outer rounds
+    → GivesSteps g source old new outers outers p answer

@@ -45,42 +45,53 @@ pub record IsMisfit {A : Type 0} (argument : Forest) (m : kept.Misfit A) (s : Mi
 
 -- what was bound there, or at the pattern's end
 abbrev pub IsSource : {A : Type 0} → Log → Forest → Last A → Source → Type 0
-IsSource {A} log argument l (failed s) = ((m : kept.Misfit A) × (l.misfit ≡ Some m) × IsMisfit argument m s) × Holds log l.handle s.bound
+IsSource {A} log argument l (failed s) =
+    ((m : kept.Misfit A) × (l.misfit ≡ Some m) × IsMisfit argument m s) × Holds log l.handle s.bound
 IsSource log argument l (ended cs) = (l.misfit ≡ None) × Holds log l.handle cs
 
 -- these failed at the place, and this was noted before
-pub record IsReportOf {A : Type 0} (log : Log) (argument : Forest) (r : Report A) (ms : List Misfit) (before : Notes) : Type 0 where
+pub record IsReportOf {A : Type 0} (log : Log) (argument : Forest) (r : Report A) (ms : List Misfit)
+    (before : Notes) : Type 0 where
   pub first : Both (IsMisfit argument) r.first (or_first before.first ms)
   pub last : Both (IsSource log argument) r.last (source_of ms [] before.last)
   pub here : r.failed_here ≡ is_any ms
 
 -- The place of the source is noted, with the positions that are followed there.
-abbrev pub NotesPlace : {A : Type 0} → Grammar → Argument A → Ops → List Outline → Log → Log → State A → State A → Type 0
+abbrev pub NotesPlace : {A : Type 0} → Grammar → Argument A → Ops → List Outline → Log → Log → State A → State A
+    → Type 0
 NotesPlace g source pattern spots old new before after =
     (notes : Notes) → IsReportOf old (trees source.whole) before.report [] notes →
     IsReportOf new (trees source.whole) after.report []
-    (noted_at (input_of g (trees source.whole)) source.place (kept_at (input_of g (trees source.whole)) (dots pattern) source.place (reverse spots)) notes)
+    (noted_at (input_of g (trees source.whole)) source.place
+    (kept_at (input_of g (trees source.whole)) (dots pattern) source.place (reverse spots)) notes)
 
 -- All positions are followed there: those that are dropped are none.
 abbrev pub FollowsAll : {A : Type 0} → Grammar → Argument A → Ops → List Outline → Type 0
 FollowsAll g source pattern spots =
-    Checked pattern → (xs : List Beginning) → ((x : Beginning) → In x xs → At (input_of g (trees source.whole)) pattern source.place x) → map erase xs ≡ reverse spots →
-    kept_at (input_of g (trees source.whole)) (dots pattern) source.place (reverse spots) ≡ map erase (held (input_of g (trees source.whole)) source.place xs)
+    Checked pattern → (xs : List Beginning)
+    → ((x : Beginning) → In x xs → At (input_of g (trees source.whole)) pattern source.place x)
+    → map erase xs ≡ reverse spots →
+    kept_at (input_of g (trees source.whole)) (dots pattern) source.place (reverse spots)
+    ≡ map erase (held (input_of g (trees source.whole)) source.place xs)
 
 -- The steps of the positions are followed, two of each dot, and the place is noted.
-pub record Settles {A : Type 0} (g : Grammar) (source : Argument A) (pattern : Ops) (spots : List Outline) (old new : Log) (before after : State A) (settled : Settled A) : Type 0 where
+pub record Settles {A : Type 0} (g : Grammar) (source : Argument A) (pattern : Ops) (spots : List Outline)
+    (old new : Log) (before after : State A) (settled : Settled A) : Type 0 where
   pub steps : AreSettledAt g source pattern spots new after settled
   pub notes : NotesPlace g source pattern spots old new before after
   pub all : after.has_dropped ≡ false → (before.has_dropped ≡ false) × FollowsAll g source pattern spots
 
 -- a report of what all beginnings note up to the place
 abbrev pub IsFullReport : {A : Type 0} → Grammar → Ops → Forest → Log → ℕ → Report A → Type 0
-IsFullReport g pattern argument log q r = (notes : Notes) × AreNotes (input_of g argument) pattern q notes × IsReportOf log argument r [] notes
+IsFullReport g pattern argument log q r =
+    (notes : Notes) × AreNotes (input_of g argument) pattern q notes × IsReportOf log argument r [] notes
 
 -- The report where the positions stop, if no third position of a dot was dropped.
 abbrev pub IsReportIn : {A : Type 0} → Grammar → Ops → Forest → Log → Reached A → Type 0
-IsReportIn g pattern argument log r = r.has_dropped ≡ false → IsFullReport g pattern argument log (stop_of argument (verdict_in r.stop)) r.report
+IsReportIn g pattern argument log r = r.has_dropped ≡ false
+    → IsFullReport g pattern argument log (stop_of argument (verdict_in r.stop)) r.report
 
 -- What a match without an only reading returns, beside its verdict: why, and what was bound.
 abbrev pub IsReported : Grammar → Ops → Forest → DelimSpan → Log → Verdict → ExpandError → Handle → Type 0
-IsReported g pattern argument around log v err h = (bound : Commands) × Holds log h bound × Reports g pattern argument around v err bound
+IsReported g pattern argument around log v err h =
+    (bound : Commands) × Holds log h bound × Reports g pattern argument around v err bound

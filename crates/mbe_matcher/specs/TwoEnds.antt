@@ -1,6 +1,9 @@
--- A second pass over an argument that doesn't fit, for what is reported: the first and the last beginning of each dot, from place to place.
--- At a place, the first that fails is among the first of each dot, and so is the first at the pattern's end. The last that fails is among
--- the last. Both lists are walks that enter each dot once, so that the pass is linear. What waits comes back turned round, so the first at
+-- A second pass over an argument that doesn't fit, for what is reported: the first and the last beginning of each dot,
+-- from place to place.
+-- At a place, the first that fails is among the first of each dot, and so is the first at the pattern's end. The last
+-- that fails is among
+-- the last. Both lists are walks that enter each dot once, so that the pass is linear. What waits comes back turned
+-- round, so the first at
 -- the next place come from the last here, and the last there from the first here.
 use Rattle.std.specs.Prelude.{ℕ, ◌+◌, ◌≡◌, ◌<◌, ◌≤◌, ◌↔◌, suc, Bool, Some, List, [], ◌∷◌, ◌++◌, map, length, reverse}
 use Rattle.std.specs.List.{filter_map}
@@ -25,11 +28,13 @@ abbrev pub only_first : {A : Type 0} → List A → List A
 only_first [] = []
 only_first (x ∷ xs) = x ∷ []
 
--- What these note there: the first of each dot in order, and the last of each, the last first. Those that fail among the first are looked
+-- What these note there: the first of each dot in order, and the last of each, the last first. Those that fail among
+-- the first are looked
 -- at, and after them the last that fails.
 abbrev pub ends_noted : Input → ℕ → List Outline → List Outline → Notes → Notes
 ends_noted i q firsts lasts before =
-    noted_with (filter_map (misfit i q) firsts ++ only_first (filter_map (misfit i q) lasts)) (filter_map finished_of firsts) before
+    noted_with (filter_map (misfit i q) firsts ++ only_first (filter_map (misfit i q) lasts))
+    (filter_map finished_of firsts) before
 
 -- what is held of what comes to a place for the one walk, and for the other, and what is noted of it
 abbrev pub ends_noted_at : Input → Ops → ℕ → List Beginning → List Beginning → Notes → Notes
@@ -40,18 +45,22 @@ ends_noted_at i pattern q fs bs before =
 pub data EndsCome (i : Input) (pattern : Ops) : ℕ → List Beginning → List Beginning → Notes → Type 0 where
   ends_start : EndsCome i pattern 0 (start pattern ∷ []) (start pattern ∷ []) no_notes
   ends_next : (q m n : ℕ) (f : Bool) (y : Beginning) (ms : List Move) (fs bs : List Beginning) (before : Notes) →
-      EndsCome i pattern q fs bs before → moves_of i q (held_first i (dots pattern) q fs) ≡ move n f y ∷ ms → m ≡ q + n →
-      EndsCome i pattern m (targets (moves_of i q (held_back i (dots pattern) q bs))) (targets (moves_of i q (held_first i (dots pattern) q fs)))
+      EndsCome i pattern q fs bs before → moves_of i q (held_first i (dots pattern) q fs) ≡ move n f y ∷ ms → m ≡ q + n
+      →
+      EndsCome i pattern m (targets (moves_of i q (held_back i (dots pattern) q bs)))
+      (targets (moves_of i q (held_first i (dots pattern) q fs)))
       (ends_noted_at i pattern q fs bs before)
 
 -- what the pass notes up to a place, itself too
 abbrev pub AreEndNotes : Input → Ops → ℕ → Notes → Type 0
 AreEndNotes i pattern q notes =
-    (fs : List Beginning) × (bs : List Beginning) × (before : Notes) × EndsCome i pattern q fs bs before × (notes ≡ ends_noted_at i pattern q fs bs before)
+    (fs : List Beginning) × (bs : List Beginning) × (before : Notes) × EndsCome i pattern q fs bs before
+    × (notes ≡ ends_noted_at i pattern q fs bs before)
 
 -- Up to the place where the match stops it notes what all beginnings do.
 abbrev pub SecondPassLaw : Type 0
-SecondPassLaw = (g : Grammar) (pattern : Ops) (argument : Forest) → IsLawful g → Checked pattern → (v : Verdict) → IsVerdict g pattern argument v →
+SecondPassLaw = (g : Grammar) (pattern : Ops) (argument : Forest) → IsLawful g → Checked pattern → (v : Verdict)
+    → IsVerdict g pattern argument v →
     (q : ℕ) → q ≤ stop_of argument v → (notes : Notes) →
     AreNotes (input_of g argument) pattern q notes ↔ AreEndNotes (input_of g argument) pattern q notes
 
@@ -94,22 +103,26 @@ back_moves i d q os = filter_map (next_of i q) (kept_back i d q os)
 
 -- what is noted there
 abbrev pub kept_noted : Input → Ops → ℕ → List Outline → List Outline → Notes → Notes
-kept_noted i pattern q os ps before = ends_noted i q (kept_first i (dots pattern) q os) (kept_back i (dots pattern) q ps) before
+kept_noted i pattern q os ps before = ends_noted i q (kept_first i (dots pattern) q os)
+    (kept_back i (dots pattern) q ps) before
 
 -- what comes to the places for each of the two walks
 pub data EndsFollow (i : Input) (pattern : Ops) : ℕ → List Outline → List Outline → Notes → Type 0 where
   follow_start : EndsFollow i pattern 0 (erase (start pattern) ∷ []) (erase (start pattern) ∷ []) no_notes
   follow_next : (q m n : ℕ) (os ps : List Outline) (before : Notes) → EndsFollow i pattern q os ps before →
       first_width (first_moves i (dots pattern) q os) ≡ Some n → m ≡ q + n →
-      EndsFollow i pattern m (map after_of (back_moves i (dots pattern) q ps)) (map after_of (first_moves i (dots pattern) q os)) (kept_noted i pattern q os ps before)
+      EndsFollow i pattern m (map after_of (back_moves i (dots pattern) q ps))
+      (map after_of (first_moves i (dots pattern) q os)) (kept_noted i pattern q os ps before)
 
 abbrev pub AreKeptNotes : Input → Ops → ℕ → Notes → Type 0
 AreKeptNotes i pattern q notes =
-    (os : List Outline) × (ps : List Outline) × (before : Notes) × EndsFollow i pattern q os ps before × (notes ≡ kept_noted i pattern q os ps before)
+    (os : List Outline) × (ps : List Outline) × (before : Notes) × EndsFollow i pattern q os ps before
+    × (notes ≡ kept_noted i pattern q os ps before)
 
 -- Up to the place where the match stops the outlines note what all beginnings do.
 abbrev pub KeptPassLaw : Type 0
-KeptPassLaw = (g : Grammar) (pattern : Ops) (argument : Forest) → IsLawful g → Checked pattern → (v : Verdict) → IsVerdict g pattern argument v →
+KeptPassLaw = (g : Grammar) (pattern : Ops) (argument : Forest) → IsLawful g → Checked pattern → (v : Verdict)
+    → IsVerdict g pattern argument v →
     (q : ℕ) → q ≤ stop_of argument v → (notes : Notes) →
     AreNotes (input_of g argument) pattern q notes ↔ AreKeptNotes (input_of g argument) pattern q notes
 
@@ -121,6 +134,8 @@ pub record GoesToStop (i : Input) (pattern : Ops) (stop q : ℕ) (os : List Outl
   pub within : q + width ≤ stop
 
 abbrev pub KeptPassGoesOn : Type 0
-KeptPassGoesOn = (g : Grammar) (pattern : Ops) (argument : Forest) → IsLawful g → Checked pattern → (v : Verdict) → IsVerdict g pattern argument v →
-    (q : ℕ) (os ps : List Outline) (before : Notes) → EndsFollow (input_of g argument) pattern q os ps before → q < stop_of argument v →
+KeptPassGoesOn = (g : Grammar) (pattern : Ops) (argument : Forest) → IsLawful g → Checked pattern → (v : Verdict)
+    → IsVerdict g pattern argument v →
+    (q : ℕ) (os ps : List Outline) (before : Notes) → EndsFollow (input_of g argument) pattern q os ps before
+    → q < stop_of argument v →
     GoesToStop (input_of g argument) pattern (stop_of argument v) q os

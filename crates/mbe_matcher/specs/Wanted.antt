@@ -19,7 +19,7 @@ use Rattle.mbe_ops.specs.Views.{op_of, separator_seen}
 use Rattle.mbe_matcher.specs.declared.wanting.Step.{Step}
 use Rattle.mbe_matcher.specs.declared.wanting.Way as declared
 use Rattle.mbe_matcher.specs.declared.wanting.Wanted as code
-use Rattle.mbe_matcher.specs.declared.wanting.Wanted.TheVariants as told
+use Rattle.mbe_matcher.specs.declared.wanting.Wanted.TheVariants as variants
 use Rattle.mbe_matcher.specs.declared.position.Outer.{Outer}
 use Rattle.mbe_matcher.specs.declared.position.Position.{Position}
 use Rattle.mbe_matcher.specs.Matched.{IsStack}
@@ -55,7 +55,8 @@ read_next (variable name kind span) = Some (reading (variable name kind span))
 read_next (repetition b s k) = None
 read_next (expression e) = None
 
--- What is next after a beginning: none before a repetition, which is gone into or past, nor at the end of a round that no separator may follow.
+-- What is next after a beginning: none before a repetition, which is gone into or past, nor at the end of a round that
+-- no separator may follow.
 abbrev pub wanted : Beginning → Option Wanted
 wanted (dot no_ops is []) = Some ending
 wanted (dot no_ops is (inside d b rest js ∷ up)) = Some closing
@@ -127,10 +128,10 @@ outline_way i q o = record { next = outline_wants o; step = step_of_advance (nex
 -- ---- what the program's values stand for
 
 abbrev pub wanted_seen : {A : Type 0} → code.Wanted A → Wanted
-wanted_seen told.End = ending
-wanted_seen told.Closing = closing
-wanted_seen (told.Separator s) = separating (separator_seen s.now)
-wanted_seen (told.Op o) = reading (op_of o.now)
+wanted_seen variants.End = ending
+wanted_seen variants.Closing = closing
+wanted_seen (variants.Separator s) = separating (separator_seen s.now)
+wanted_seen (variants.Op o) = reading (op_of o.now)
 
 abbrev pub pair_seen : {A : Type 0} → code.Wanted A × code.Wanted A → Wanted × Wanted
 pair_seen p = (wanted_seen p.0, wanted_seen p.1)
@@ -143,11 +144,13 @@ abbrev pub next_in : List WayOn → List Wanted
 next_in ws = filter_map (λ w. w.next) ws
 
 -- those of a stack's outlines, where two of each dot are followed
-abbrev pub AreLooked : {A : Type 0} (i : Input) (q : ℕ) {size : ℕ} {log : Log} {outers : List (Outer A)} {todo : List (Position A)} → IsStack i q size log outers todo → List (declared.Way A) → Type 0
+abbrev pub AreLooked : {A : Type 0} (i : Input) (q : ℕ) {size : ℕ} {log : Log} {outers : List (Outer A)}
+    {todo : List (Position A)} → IsStack i q size log outers todo → List (declared.Way A) → Type 0
 AreLooked i q s ways = map way_seen ways ≡ map (outline_way i q) (kept i (dots s.pattern) q (reverse s.spots))
 
 -- The ways on of beginnings that end at a place: one of each dot that ends there, at least.
-pub record AreWays {A : Type 0} (i : Input) (pattern : Ops) (q : ℕ) (v : Verdict) (ways : List (declared.Way A)) : Type 0 where
+pub record AreWays {A : Type 0} (i : Input) (pattern : Ops) (q : ℕ) (v : Verdict)
+    (ways : List (declared.Way A)) : Type 0 where
   pub of : List Beginning
   pub are : map way_seen ways ≡ map (way_of i q) of
   pub here : (x : Beginning) → In x of → At i pattern q x
@@ -157,11 +160,14 @@ pub record AreWays {A : Type 0} (i : Input) (pattern : Ops) (q : ℕ) (v : Verdi
 
 -- ---- what is reported
 
--- these are what is next where the match stops: each after some beginning that ends there, and all that is next after one
+-- these are what is next where the match stops: each after some beginning that ends there, and all that is next after
+-- one
 abbrev pub AreWanted : Grammar → Ops → Forest → Verdict → List Wanted → Type 0
-AreWanted g pattern argument v ws = (w : Wanted) → In w ws ↔ IsWanted (input_of g argument) pattern (stop_of argument v) w
+AreWanted g pattern argument v ws = (w : Wanted)
+    → In w ws ↔ IsWanted (input_of g argument) pattern (stop_of argument v) w
 
 -- of a local ambiguity two that clash there
-pub record ClashThere (g : Grammar) (pattern : Ops) (argument : Forest) (v : Verdict) (pair : Option (Wanted × Wanted)) : Type 0 where
+pub record ClashThere (g : Grammar) (pattern : Ops) (argument : Forest) (v : Verdict)
+    (pair : Option (Wanted × Wanted)) : Type 0 where
   pub two : IfSome pair (λ p. AreClashing (input_of g argument) pattern (stop_of argument v) p.0 p.1)
   pub some : (q : ℕ) → v ≡ ambiguous q → IsSome pair

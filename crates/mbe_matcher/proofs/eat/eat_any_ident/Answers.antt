@@ -12,4 +12,5 @@ pub returns-in-Ok : goal.returns-in-Ok
 returns-in-Ok g c =
     let f = c.args.src.now in
     let whole = passed_to 1 f _ _ c.savepoint-savepoint.ensures c.in-Ok.ensures.rest in
-    taken c.from_savepoint.result _ (cut_trees 1 f) _ (ident_in_front f _ (sym c.in-Ok.ensures.value)) (c.from_savepoint.ensures _ whole) (left_behind 1 f _ c.in-Ok.ensures.rest)
+    taken c.from_savepoint.result _ (cut_trees 1 f) _ (ident_in_front f _ (sym c.in-Ok.ensures.value))
+    (c.from_savepoint.ensures _ whole) (left_behind 1 f _ c.in-Ok.ensures.rest)

@@ -18,6 +18,7 @@ returns-in-Ok g c =
     let sign = is_ok c.expect_char-sign.result in
     let n = literal_trees sign in
     let left = behind_literal sign f _ _ c.expect_char-sign.ensures.rest c.in-Ok.ensures.rest in
-    let here = literal_in_front c.expect_char-sign.result f _ _ c.expect_char-sign.ensures.value c.expect_char-sign.ensures.rest (sym c.in-Ok.ensures.value) in
+    let here = literal_in_front c.expect_char-sign.result f _ _ c.expect_char-sign.ensures.value
+    c.expect_char-sign.ensures.rest (sym c.in-Ok.ensures.value) in
     let whole = passed_to n f _ _ c.savepoint-savepoint.ensures left in
     taken c.from_savepoint.result _ (cut_trees n f) _ here (c.from_savepoint.ensures _ whole) (left_behind n f _ left)

@@ -12,8 +12,10 @@ returns-then-is_ok g c =
 
 pub from_savepoint-requires : goal.from_savepoint-requires
 from_savepoint-requires g c =
-    let f = c.args.src.now in
-    ((cut_trees (length (glue f)) f).front, passed_to (length (glue f)) f _ _ c.savepoint-savepoint.ensures c.expect_glued_punct.ensures.rest)
+    let f = c.args.src.now in (
+      (cut_trees (length (glue f)) f).front,
+      passed_to (length (glue f)) f _ _ c.savepoint-savepoint.ensures c.expect_glued_punct.ensures.rest,
+    )
 
 pub returns-in-Ok : goal.returns-in-Ok
 returns-in-Ok g c =

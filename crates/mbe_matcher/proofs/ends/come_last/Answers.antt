@@ -15,11 +15,14 @@ loop-step-preserved g c =
       inv.1 ∙ ap (λ l. l ++ inv.0) c.in-Some.ensures.items ∙ append_assoc c.pop.new.self.items (step ∷ []) inv.0,
       c.in_ok-push.ensures.items ∙ ap (λ l. l ++ visit_after step ∷ []) inv.2
           ∙ append_assoc c.args.stack.now.items (reverse (map visit_after inv.0)) (visit_after step ∷ [])
-          ∙ ap (λ l. c.args.stack.now.items ++ l) (sym (reverse-append (visit_after step ∷ []) (map visit_after inv.0))),
+          ∙ ap (λ l. c.args.stack.now.items ++ l)
+          (sym (reverse-append (visit_after step ∷ []) (map visit_after inv.0))),
     )
 
 pub returns : goal.returns
 returns g c =
     let inv = c.loop-step.invariant in
     let waiting = c.loop-step.waiting in
-    inv.2 ∙ ap (λ l. c.args.stack.now.items ++ reverse (map visit_after l)) (sym (inv.1 ∙ ap (λ l. l ++ inv.0) (popped_all waiting.items (λ (l : 0 < length waiting.items). c.in_default.ensures.variant.1 (omega (arith, l, waiting.ok.0))))))
+    inv.2 ∙ ap (λ l. c.args.stack.now.items ++ reverse (map visit_after l))
+    (sym (inv.1 ∙ ap (λ l. l ++ inv.0) (popped_all waiting.items
+    (λ (l : 0 < length waiting.items). c.in_default.ensures.variant.1 (omega (arith, l, waiting.ok.0))))))

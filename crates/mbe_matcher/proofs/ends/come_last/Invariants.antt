@@ -5,7 +5,8 @@ use Rattle.mbe_matcher.proofs.ends.come_last.Given as goal
 
 abbrev pub invariant-loop-step : goal.invariant-loop-step
 invariant-loop-step g l =
-    (popped : List (Waiting g.row.A.Denot)) × (l.fn.waiting.items ≡ l.waiting.items ++ popped) × (l.stack.items ≡ l.fn.stack.items ++ reverse (map visit_after popped))
+    (popped : List (Waiting g.row.A.Denot)) × (l.fn.waiting.items ≡ l.waiting.items ++ popped)
+    × (l.stack.items ≡ l.fn.stack.items ++ reverse (map visit_after popped))
 
 abbrev pub decreases-loop-step : goal.decreases-loop-step
 decreases-loop-step g l = length l.waiting.items

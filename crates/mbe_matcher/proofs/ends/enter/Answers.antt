@@ -8,6 +8,9 @@ returns g c = λ o shows.
     let s = c.args.source.now in
     let i = input_of (g.G.FragmentGrammar.grammar c.args.grammar.now) (trees s.whole) in
     let f = c.in_ok-found.found in
-    enters i (trees s.whole) s.place c.args.log.now c.steps.new.log c.args.outers.now.items c.steps.new.outers.items c.args.position f o shows (c.in_ok-found.ensures o shows)
-    c.if_failed.result c.is_some.result c.again-handle.result c.is_some.ensures c.again-handle.ensures c.if_failed.ensures
-    c.args.todo.now.items c.push.new.self.items c.push_entered.new.todo.items c.push_entered-2.new.todo.items c.in_ok-push.ensures.items c.in_ok-push_entered.ensures c.in_ok-push_entered-2.ensures
+    enters i (trees s.whole) s.place c.args.log.now c.steps.new.log c.args.outers.now.items c.steps.new.outers.items
+    c.args.position f o shows (c.in_ok-found.ensures o shows)
+    c.if_failed.result c.is_some.result c.again-handle.result c.is_some.ensures c.again-handle.ensures
+    c.if_failed.ensures
+    c.args.todo.now.items c.push.new.self.items c.push_entered.new.todo.items c.push_entered-2.new.todo.items
+    c.in_ok-push.ensures.items c.in_ok-push_entered.ensures c.in_ok-push_entered-2.ensures

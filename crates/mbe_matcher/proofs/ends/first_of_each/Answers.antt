@@ -28,10 +28,14 @@ loop-position-init g c =
         [],
         c.requires.unmet s.place (omega arith),
         λ st. (
-          first_start i s.place (length c.args.pass.now.first_met.places.items) c.args.log.now c.args.pass.now.outers.items (rest_at (trees s.whole) s.place)
-              c.args.todo.now.items c.clear.new.self.items c.clear-2.new.self.items st c.clear.ensures.items c.clear-2.ensures.items,
-          λ n r. noted_start i s.place (length c.args.pass.now.first_met.places.items) c.args.log.now c.args.pass.now.outers.items (rest_at (trees s.whole) s.place)
-              c.args.todo.now.items c.clear.new.self.items c.clear-2.new.self.items st c.clear.ensures.items c.clear-2.ensures.items (trees s.whole) c.args.pass.now.report n r,
+          first_start i s.place (length c.args.pass.now.first_met.places.items) c.args.log.now
+              c.args.pass.now.outers.items (rest_at (trees s.whole) s.place)
+              c.args.todo.now.items c.clear.new.self.items c.clear-2.new.self.items st c.clear.ensures.items
+              c.clear-2.ensures.items,
+          λ n r. noted_start i s.place (length c.args.pass.now.first_met.places.items) c.args.log.now
+              c.args.pass.now.outers.items (rest_at (trees s.whole) s.place)
+              c.args.todo.now.items c.clear.new.self.items c.clear-2.new.self.items st c.clear.ensures.items
+              c.clear-2.ensures.items (trees s.whole) c.args.pass.now.report n r,
         ),
       );
     }
@@ -42,8 +46,10 @@ takes-requires-clause-some g c =
     let i = input_of (g.G.FragmentGrammar.grammar c.args.grammar.now) (trees s.whole) in
     let st = c.requires.stack in
     let inv = c.loop-position.invariant in
-    (first_number i st.pattern (trees s.whole) s.place (kept_first i (dots st.pattern) s.place st.outlines) inv.walked.0 c.loop-position.log c.loop-position.pass.outers.items c.pop.new.self.items
-    c.loop-position.todo.items c.in-Some.position c.loop-position.firsts.waiting.items c.loop-position.firsts.ends.items c.in-Some.ensures.items (inv.walked.2 st).0).0
+    (first_number i st.pattern (trees s.whole) s.place (kept_first i (dots st.pattern) s.place st.outlines) inv.walked.0
+    c.loop-position.log c.loop-position.pass.outers.items c.pop.new.self.items
+    c.loop-position.todo.items c.in-Some.position c.loop-position.firsts.waiting.items c.loop-position.firsts.ends.items
+    c.in-Some.ensures.items (inv.walked.2 st).0).0
 
 pub takes-requires-clause-within : goal.takes-requires-clause-within
 takes-requires-clause-within g c =
@@ -51,8 +57,10 @@ takes-requires-clause-within g c =
     let i = input_of (g.G.FragmentGrammar.grammar c.args.grammar.now) (trees s.whole) in
     let st = c.requires.stack in
     let inv = c.loop-position.invariant in
-    let n = (first_number i st.pattern (trees s.whole) s.place (kept_first i (dots st.pattern) s.place st.outlines) inv.walked.0 c.loop-position.log c.loop-position.pass.outers.items c.pop.new.self.items
-    c.loop-position.todo.items c.in-Some.position c.loop-position.firsts.waiting.items c.loop-position.firsts.ends.items c.in-Some.ensures.items (inv.walked.2 st).0).1 in
+    let n = (first_number i st.pattern (trees s.whole) s.place (kept_first i (dots st.pattern) s.place st.outlines)
+    inv.walked.0 c.loop-position.log c.loop-position.pass.outers.items c.pop.new.self.items
+    c.loop-position.todo.items c.in-Some.position c.loop-position.firsts.waiting.items c.loop-position.firsts.ends.items
+    c.in-Some.ensures.items (inv.walked.2 st).0).1 in
     let size = inv.size in
     let all = st.size_is in
     omega (arith, n, size, all)
@@ -60,7 +68,8 @@ takes-requires-clause-within g c =
 pub loop-position-smaller-then-not-takes : goal.loop-position-smaller-then-not-takes
 loop-position-smaller-then-not-takes g c =
     let s = c.args.source.now in
-    let same : c.takes.new.self.places.items ≡ c.loop-position.pass.first_met.places.items = ap (λ (x : Met g.row.A.Denot). x.places.items) (c.takes.ensures.stays c.if-not-takes.true) in
+    let same : c.takes.new.self.places.items ≡ c.loop-position.pass.first_met.places.items =
+    ap (λ (x : Met g.row.A.Denot). x.places.items) (c.takes.ensures.stays c.if-not-takes.true) in
     let still = ap (unmet s.place) same in
     let popped : length c.loop-position.todo.items ≡ length c.pop.new.self.items + 1 =
     ap length c.in-Some.ensures.items ∙ length-append c.pop.new.self.items (c.in-Some.position ∷ []) in
@@ -80,14 +89,20 @@ loop-position-preserved-then-not-takes g c =
       other = inv.other;
       walked = (
         met,
-        subst (λ b. AreMet c.takes.new.self.places.items s.place (cons_if b c.in-Some.position.number met)) c.if-not-takes.true counted.1,
+        subst (λ b. AreMet c.takes.new.self.places.items s.place (cons_if b c.in-Some.position.number met))
+            c.if-not-takes.true counted.1,
         λ st. (
-          first_drop i st.pattern (trees s.whole) s.place (kept_first i (dots st.pattern) s.place st.outlines) met c.loop-position.log c.loop-position.pass.outers.items
-              c.pop.new.self.items c.loop-position.todo.items c.in-Some.position c.loop-position.firsts.waiting.items c.loop-position.firsts.ends.items c.in-Some.ensures.items (inv.walked.2 st).0
+          first_drop i st.pattern (trees s.whole) s.place (kept_first i (dots st.pattern) s.place st.outlines) met
+              c.loop-position.log c.loop-position.pass.outers.items
+              c.pop.new.self.items c.loop-position.todo.items c.in-Some.position c.loop-position.firsts.waiting.items
+              c.loop-position.firsts.ends.items c.in-Some.ensures.items (inv.walked.2 st).0
               (sym counted.0 ∙ c.if-not-takes.true),
-          λ n r. noted_drop i st.pattern (trees s.whole) s.place (kept_first i (dots st.pattern) s.place st.outlines) met c.loop-position.log c.loop-position.pass.outers.items
-              c.pop.new.self.items c.loop-position.todo.items c.in-Some.position c.loop-position.firsts.waiting.items c.loop-position.firsts.ends.items c.in-Some.ensures.items (inv.walked.2 st).0
-              (sym counted.0 ∙ c.if-not-takes.true) (trees s.whole) c.loop-position.pass.report n ((inv.walked.2 st).1 n r),
+          λ n r. noted_drop i st.pattern (trees s.whole) s.place (kept_first i (dots st.pattern) s.place st.outlines)
+              met c.loop-position.log c.loop-position.pass.outers.items
+              c.pop.new.self.items c.loop-position.todo.items c.in-Some.position c.loop-position.firsts.waiting.items
+              c.loop-position.firsts.ends.items c.in-Some.ensures.items (inv.walked.2 st).0
+              (sym counted.0 ∙ c.if-not-takes.true) (trees s.whole) c.loop-position.pass.report n
+              ((inv.walked.2 st).1 n r),
         ),
       );
     }
@@ -98,16 +113,20 @@ steps-requires g c =
     let i = input_of (g.G.FragmentGrammar.grammar c.args.grammar.now) (trees s.whole) in
     let st = c.requires.stack in
     let inv = c.loop-position.invariant in
-    first_shown i st.pattern (trees s.whole) s.place (kept_first i (dots st.pattern) s.place st.outlines) inv.walked.0 c.loop-position.log c.loop-position.pass.outers.items c.pop.new.self.items
-    c.loop-position.todo.items c.in-Some.position c.loop-position.firsts.waiting.items c.loop-position.firsts.ends.items c.in-Some.ensures.items (inv.walked.2 st).0
+    first_shown i st.pattern (trees s.whole) s.place (kept_first i (dots st.pattern) s.place st.outlines) inv.walked.0
+    c.loop-position.log c.loop-position.pass.outers.items c.pop.new.self.items
+    c.loop-position.todo.items c.in-Some.position c.loop-position.firsts.waiting.items c.loop-position.firsts.ends.items
+    c.in-Some.ensures.items (inv.walked.2 st).0
 
 pub loop-position-smaller : goal.loop-position-smaller
 loop-position-smaller g c =
     let s = c.args.source.now in
     let f = c.in_ok-found.found in
     let pushed = c.in_ok-push_some-2.ensures ∙ ap (λ l. l ++ option_to_list f.first) c.in_ok-push_some.ensures in
-    stack_falls c.pop.new.self.items c.loop-position.todo.items c.push_some-in-Some.new.values.items c.in-Some.position f.first f.second
-    (unmet s.place c.loop-position.pass.first_met.places.items) (unmet s.place c.takes.new.self.places.items) c.in-Some.ensures.items pushed (c.takes.ensures.falls c.if-not-takes.false)
+    stack_falls c.pop.new.self.items c.loop-position.todo.items c.push_some-in-Some.new.values.items c.in-Some.position
+    f.first f.second
+    (unmet s.place c.loop-position.pass.first_met.places.items) (unmet s.place c.takes.new.self.places.items)
+    c.in-Some.ensures.items pushed (c.takes.ensures.falls c.if-not-takes.false)
 
 pub loop-position-preserved : goal.loop-position-preserved
 loop-position-preserved g c =
@@ -120,26 +139,40 @@ loop-position-preserved g c =
     let taken = c.if-not-takes.false in
     let pushed = c.in_ok-push_some-2.ensures ∙ ap (λ l. l ++ option_to_list f.first) c.in_ok-push_some.ensures in
     let st = c.requires.stack in
-    let is = first_shown i st.pattern (trees s.whole) s.place (kept_first i (dots st.pattern) s.place st.outlines) met c.loop-position.log c.loop-position.pass.outers.items c.pop.new.self.items
-    c.loop-position.todo.items c.in-Some.position c.loop-position.firsts.waiting.items c.loop-position.firsts.ends.items c.in-Some.ensures.items (inv.walked.2 st).0 in
+    let is = first_shown i st.pattern (trees s.whole) s.place (kept_first i (dots st.pattern) s.place st.outlines) met
+    c.loop-position.log c.loop-position.pass.outers.items c.pop.new.self.items
+    c.loop-position.todo.items c.in-Some.position c.loop-position.firsts.waiting.items c.loop-position.firsts.ends.items
+    c.in-Some.ensures.items (inv.walked.2 st).0 in
     let keeping = (c.in_ok-found.ensures is.0 is.1).kept in
     record {
-      keeps = keeps_on c.args.log.now c.loop-position.log c.steps.new.log c.args.pass.now.outers.items c.loop-position.pass.outers.items c.steps.new.outers.items inv.keeps keeping;
+      keeps = keeps_on c.args.log.now c.loop-position.log c.steps.new.log c.args.pass.now.outers.items
+          c.loop-position.pass.outers.items c.steps.new.outers.items inv.keeps keeping;
       unmet = c.takes.ensures.unmet inv.unmet;
       size = c.takes.ensures.size ∙ inv.size;
       other = inv.other;
       walked = (
         c.in-Some.position.number ∷ met,
-        subst (λ b. AreMet c.takes.new.self.places.items s.place (cons_if b c.in-Some.position.number met)) taken counted.1,
+        subst (λ b. AreMet c.takes.new.self.places.items s.place (cons_if b c.in-Some.position.number met)) taken
+            counted.1,
         λ st. (
-          first_take i st.pattern (trees s.whole) s.place (kept_first i (dots st.pattern) s.place st.outlines) met c.loop-position.log c.loop-position.pass.outers.items
-              c.pop.new.self.items c.loop-position.todo.items c.in-Some.position c.loop-position.firsts.waiting.items c.loop-position.firsts.ends.items c.in-Some.ensures.items (inv.walked.2 st).0
-              c.steps.new.log c.steps.new.outers.items f c.push_some-in-Some.new.values.items c.push_some-in-Some-2.new.values.items c.push_some-in-Some-3.new.values.items
-              c.in_ok-found.ensures pushed c.in_ok-push_some-3.ensures c.in_ok-push_some-4.ensures (sym counted.0 ∙ taken),
-          λ n r. noted_take i st.pattern (trees s.whole) s.place (kept_first i (dots st.pattern) s.place st.outlines) met c.loop-position.log c.loop-position.pass.outers.items
-              c.pop.new.self.items c.loop-position.todo.items c.in-Some.position c.loop-position.firsts.waiting.items c.loop-position.firsts.ends.items c.in-Some.ensures.items (inv.walked.2 st).0
-              c.steps.new.log c.steps.new.outers.items f c.push_some-in-Some.new.values.items c.push_some-in-Some-2.new.values.items c.push_some-in-Some-3.new.values.items
-              c.in_ok-found.ensures pushed c.in_ok-push_some-3.ensures c.in_ok-push_some-4.ensures (sym counted.0 ∙ taken) (trees s.whole) c.loop-position.pass.report c.looked_at.new.self n c.is_some.result c.again-handle.result c.is_some.ensures c.again-handle.ensures c.looked_at.ensures ((inv.walked.2 st).1 n r),
+          first_take i st.pattern (trees s.whole) s.place (kept_first i (dots st.pattern) s.place st.outlines) met
+              c.loop-position.log c.loop-position.pass.outers.items
+              c.pop.new.self.items c.loop-position.todo.items c.in-Some.position c.loop-position.firsts.waiting.items
+              c.loop-position.firsts.ends.items c.in-Some.ensures.items (inv.walked.2 st).0
+              c.steps.new.log c.steps.new.outers.items f c.push_some-in-Some.new.values.items
+              c.push_some-in-Some-2.new.values.items c.push_some-in-Some-3.new.values.items
+              c.in_ok-found.ensures pushed c.in_ok-push_some-3.ensures c.in_ok-push_some-4.ensures
+              (sym counted.0 ∙ taken),
+          λ n r. noted_take i st.pattern (trees s.whole) s.place (kept_first i (dots st.pattern) s.place st.outlines)
+              met c.loop-position.log c.loop-position.pass.outers.items
+              c.pop.new.self.items c.loop-position.todo.items c.in-Some.position c.loop-position.firsts.waiting.items
+              c.loop-position.firsts.ends.items c.in-Some.ensures.items (inv.walked.2 st).0
+              c.steps.new.log c.steps.new.outers.items f c.push_some-in-Some.new.values.items
+              c.push_some-in-Some-2.new.values.items c.push_some-in-Some-3.new.values.items
+              c.in_ok-found.ensures pushed c.in_ok-push_some-3.ensures c.in_ok-push_some-4.ensures
+              (sym counted.0 ∙ taken) (trees s.whole) c.loop-position.pass.report c.looked_at.new.self n
+              c.is_some.result c.again-handle.result c.is_some.ensures c.again-handle.ensures c.looked_at.ensures
+              ((inv.walked.2 st).1 n r),
         ),
       );
     }
@@ -150,8 +183,11 @@ returns-clause-firsts g c = λ st.
     let s = c.args.source.now in
     let i = input_of (g.G.FragmentGrammar.grammar c.args.grammar.now) (trees s.whole) in
     let inv = c.loop-position.invariant in
-    first_end i st.pattern s.place st.outlines c.loop-position.log c.loop-position.pass.outers.items (rest_at (trees s.whole) s.place)
-    c.loop-position.todo.items inv.walked.0 c.loop-position.firsts.waiting.items c.loop-position.firsts.ends.items (popped_all todo.items (λ (l : 0 < length todo.items). c.in_default.ensures.variant.1 (omega (arith, l, todo.ok.0)))) (inv.walked.2 st).0
+    first_end i st.pattern s.place st.outlines c.loop-position.log c.loop-position.pass.outers.items
+    (rest_at (trees s.whole) s.place)
+    c.loop-position.todo.items inv.walked.0 c.loop-position.firsts.waiting.items c.loop-position.firsts.ends.items
+    (popped_all todo.items (λ (l : 0 < length todo.items). c.in_default.ensures.variant.1
+    (omega (arith, l, todo.ok.0)))) (inv.walked.2 st).0
 
 pub returns-clause-notes : goal.returns-clause-notes
 returns-clause-notes g c = λ st n r.
@@ -160,6 +196,10 @@ returns-clause-notes g c = λ st n r.
     let i = input_of (g.G.FragmentGrammar.grammar c.args.grammar.now) (trees s.whole) in
     let inv = c.loop-position.invariant in
     let w = (inv.walked.2 st).0 in
-    let done = first_done i st.pattern s.place (kept_first i (dots st.pattern) s.place st.outlines) c.loop-position.log c.loop-position.pass.outers.items (rest_at (trees s.whole) s.place)
-    c.loop-position.todo.items inv.walked.0 c.loop-position.firsts.waiting.items c.loop-position.firsts.ends.items (popped_all todo.items (λ (l : 0 < length todo.items). c.in_default.ensures.variant.1 (omega (arith, l, todo.ok.0)))) w in
-    subst (λ l. IsReportOf c.loop-position.log (trees s.whole) c.loop-position.pass.report (filter_map (misfit i s.place) l) n) done ((inv.walked.2 st).1 n r)
+    let done = first_done i st.pattern s.place (kept_first i (dots st.pattern) s.place st.outlines) c.loop-position.log
+    c.loop-position.pass.outers.items (rest_at (trees s.whole) s.place)
+    c.loop-position.todo.items inv.walked.0 c.loop-position.firsts.waiting.items c.loop-position.firsts.ends.items
+    (popped_all todo.items (λ (l : 0 < length todo.items). c.in_default.ensures.variant.1
+    (omega (arith, l, todo.ok.0)))) w in
+    subst (λ l. IsReportOf c.loop-position.log (trees s.whole) c.loop-position.pass.report
+    (filter_map (misfit i s.place) l) n) done ((inv.walked.2 st).1 n r)

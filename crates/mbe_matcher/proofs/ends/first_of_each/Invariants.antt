@@ -20,13 +20,20 @@ invariant-loop-position g l = record {
   size : length l.pass.first_met.places.items ≡ length l.fn.pass.first_met.places.items;
   other : l.pass.last_met ≡ l.fn.pass.last_met;
   walked : (met : List ℕ) × AreMet l.pass.first_met.places.items l.source.place met
-      × ((s : IsFirstStack (input_of (g.G.FragmentGrammar.grammar l.grammar) (trees l.source.whole)) l.source.place (length l.fn.pass.first_met.places.items) l.fn.log l.fn.pass.outers.items l.fn.todo.items) →
-      (w : FirstWalked (input_of (g.G.FragmentGrammar.grammar l.grammar) (trees l.source.whole)) s.pattern l.source.place
-      (kept_first (input_of (g.G.FragmentGrammar.grammar l.grammar) (trees l.source.whole)) (dots s.pattern) l.source.place s.outlines)
-      met l.log l.pass.outers.items (rest_at (trees l.source.whole) l.source.place) l.todo.items l.firsts.waiting.items l.firsts.ends.items)
+      × ((s : IsFirstStack (input_of (g.G.FragmentGrammar.grammar l.grammar) (trees l.source.whole)) l.source.place
+      (length l.fn.pass.first_met.places.items) l.fn.log l.fn.pass.outers.items l.fn.todo.items) →
+      (w : FirstWalked (input_of (g.G.FragmentGrammar.grammar l.grammar) (trees l.source.whole)) s.pattern
+      l.source.place
+      (kept_first (input_of (g.G.FragmentGrammar.grammar l.grammar) (trees l.source.whole)) (dots s.pattern)
+      l.source.place s.outlines)
+      met l.log l.pass.outers.items (rest_at (trees l.source.whole) l.source.place) l.todo.items l.firsts.waiting.items
+      l.firsts.ends.items)
       × ((n : Notes) → IsReportOf l.fn.log (trees l.source.whole) l.fn.pass.report [] n →
-      IsReportOf l.log (trees l.source.whole) l.pass.report (filter_map (misfit (input_of (g.G.FragmentGrammar.grammar l.grammar) (trees l.source.whole)) l.source.place) w.out) n));
+      IsReportOf l.log (trees l.source.whole) l.pass.report
+      (filter_map (misfit (input_of (g.G.FragmentGrammar.grammar l.grammar) (trees l.source.whole)) l.source.place)
+      w.out) n));
 }
 
 abbrev pub decreases-loop-position : goal.decreases-loop-position
-decreases-loop-position g l = length l.todo.items + (unmet l.source.place l.pass.first_met.places.items + unmet l.source.place l.pass.first_met.places.items)
+decreases-loop-position g l = length l.todo.items
+    + (unmet l.source.place l.pass.first_met.places.items + unmet l.source.place l.pass.first_met.places.items)

@@ -22,7 +22,8 @@ loop-visit-init g c =
       walked = (
         [],
         c.requires.unmet s.place (omega arith),
-        λ st. last_start i (rest_at (trees s.whole) s.place) s.place (length c.args.pass.now.last_met.places.items) c.args.log.now c.args.pass.now.outers.items
+        λ st. last_start i (rest_at (trees s.whole) s.place) s.place (length c.args.pass.now.last_met.places.items)
+            c.args.log.now c.args.pass.now.outers.items
             c.args.todo.now.items c.clear.new.self.items st c.clear.ensures.items,
       );
     }
@@ -45,9 +46,12 @@ loop-visit-preserved-in-Leave g c =
         λ st. (
           (inv.walked.2 st).0,
           (inv.walked.2 st).1,
-          last_leave i st.pattern (rest_at (trees s.whole) s.place) s.place (inv.walked.2 st).0 inv.walked.0 c.loop-visit.log c.loop-visit.pass.outers.items
-              c.pop.new.self.items c.loop-visit.todo.items c.loop-visit.lasts.waiting.items c.loop-visit.lasts.failed c.in-Leave.left top (inv.walked.2 st).2
-              c.leave.new.self.waiting.items c.leave.new.self.failed c.in_ok-leave-in-Leave.ensures.waiting c.in_ok-leave-in-Leave.ensures.failed,
+          last_leave i st.pattern (rest_at (trees s.whole) s.place) s.place (inv.walked.2 st).0 inv.walked.0
+              c.loop-visit.log c.loop-visit.pass.outers.items
+              c.pop.new.self.items c.loop-visit.todo.items c.loop-visit.lasts.waiting.items c.loop-visit.lasts.failed
+              c.in-Leave.left top (inv.walked.2 st).2
+              c.leave.new.self.waiting.items c.leave.new.self.failed c.in_ok-leave-in-Leave.ensures.waiting
+              c.in_ok-leave-in-Leave.ensures.failed,
         ),
       );
     }
@@ -60,7 +64,8 @@ takes-requires-clause-some g c =
     let inv = c.loop-visit.invariant in
     let x = inv.walked.2 st in
     let top = c.in-Some.ensures.items ∙ ap (λ v. c.pop.new.self.items ++ v ∷ []) c.in-Enter.is in
-    (last_number i st.pattern (rest_at (trees s.whole) s.place) s.place x.0 inv.walked.0 c.loop-visit.log c.loop-visit.pass.outers.items c.pop.new.self.items
+    (last_number i st.pattern (rest_at (trees s.whole) s.place) s.place x.0 inv.walked.0 c.loop-visit.log
+    c.loop-visit.pass.outers.items c.pop.new.self.items
     c.loop-visit.todo.items c.loop-visit.lasts.waiting.items c.loop-visit.lasts.failed c.in-Enter.position top x.2).0
 
 pub takes-requires-clause-within : goal.takes-requires-clause-within
@@ -71,7 +76,8 @@ takes-requires-clause-within g c =
     let inv = c.loop-visit.invariant in
     let x = inv.walked.2 st in
     let top = c.in-Some.ensures.items ∙ ap (λ v. c.pop.new.self.items ++ v ∷ []) c.in-Enter.is in
-    let n = (last_number i st.pattern (rest_at (trees s.whole) s.place) s.place x.0 inv.walked.0 c.loop-visit.log c.loop-visit.pass.outers.items c.pop.new.self.items
+    let n = (last_number i st.pattern (rest_at (trees s.whole) s.place) s.place x.0 inv.walked.0 c.loop-visit.log
+    c.loop-visit.pass.outers.items c.pop.new.self.items
     c.loop-visit.todo.items c.loop-visit.lasts.waiting.items c.loop-visit.lasts.failed c.in-Enter.position top x.2).1 in
     let size = inv.size in
     let all = st.size_is in
@@ -92,12 +98,15 @@ loop-visit-preserved-then-not-takes g c =
       report = inv.report;
       walked = (
         inv.walked.0,
-        subst (λ b. AreMet c.takes.new.self.places.items s.place (cons_if b c.in-Enter.position.number inv.walked.0)) c.if-not-takes.true counted.1,
+        subst (λ b. AreMet c.takes.new.self.places.items s.place (cons_if b c.in-Enter.position.number inv.walked.0))
+            c.if-not-takes.true counted.1,
         λ st. (
           (inv.walked.2 st).0,
           (inv.walked.2 st).1,
-          last_drop i st.pattern (rest_at (trees s.whole) s.place) s.place (inv.walked.2 st).0 inv.walked.0 c.loop-visit.log c.loop-visit.pass.outers.items
-              c.pop.new.self.items c.loop-visit.todo.items c.loop-visit.lasts.waiting.items c.loop-visit.lasts.failed c.in-Enter.position top (inv.walked.2 st).2
+          last_drop i st.pattern (rest_at (trees s.whole) s.place) s.place (inv.walked.2 st).0 inv.walked.0
+              c.loop-visit.log c.loop-visit.pass.outers.items
+              c.pop.new.self.items c.loop-visit.todo.items c.loop-visit.lasts.waiting.items c.loop-visit.lasts.failed
+              c.in-Enter.position top (inv.walked.2 st).2
               (sym counted.0 ∙ c.if-not-takes.true),
         ),
       );
@@ -111,7 +120,8 @@ enter-requires g c =
     let inv = c.loop-visit.invariant in
     let x = inv.walked.2 st in
     let top = c.in-Some.ensures.items ∙ ap (λ v. c.pop.new.self.items ++ v ∷ []) c.in-Enter.is in
-    last_shown i st.pattern (rest_at (trees s.whole) s.place) s.place x.0 inv.walked.0 c.loop-visit.log c.loop-visit.pass.outers.items c.pop.new.self.items
+    last_shown i st.pattern (rest_at (trees s.whole) s.place) s.place x.0 inv.walked.0 c.loop-visit.log
+    c.loop-visit.pass.outers.items c.pop.new.self.items
     c.loop-visit.todo.items c.loop-visit.lasts.waiting.items c.loop-visit.lasts.failed c.in-Enter.position top x.2
 
 pub loop-visit-smaller : goal.loop-visit-smaller
@@ -123,10 +133,12 @@ loop-visit-smaller g c =
     let x = inv.walked.2 st in
     let top = c.in-Some.ensures.items ∙ ap (λ v. c.pop.new.self.items ++ v ∷ []) c.in-Enter.is in
     let few : length c.enter.new.todo.items ≤ length c.pop.new.self.items + 3 =
-    last_few i st.pattern (rest_at (trees s.whole) s.place) s.place x.0 inv.walked.0 c.loop-visit.log c.loop-visit.pass.outers.items c.pop.new.self.items
+    last_few i st.pattern (rest_at (trees s.whole) s.place) s.place x.0 inv.walked.0 c.loop-visit.log
+    c.loop-visit.pass.outers.items c.pop.new.self.items
     c.loop-visit.todo.items c.loop-visit.lasts.waiting.items c.loop-visit.lasts.failed c.in-Enter.position top x.2
     c.enter.new.log c.enter.new.outers.items c.enter.new.todo.items c.in_ok-enter.ensures in
-    let falls : unmet s.place c.takes.new.self.places.items < unmet s.place c.loop-visit.pass.last_met.places.items = c.takes.ensures.falls c.if-not-takes.false in
+    let falls : unmet s.place c.takes.new.self.places.items < unmet s.place c.loop-visit.pass.last_met.places.items =
+    c.takes.ensures.falls c.if-not-takes.false in
     let popped : length c.loop-visit.todo.items ≡ length c.pop.new.self.items + 1 =
     ap length c.in-Some.ensures.items ∙ length-append c.pop.new.self.items (c.in-Some.visit ∷ []) in
     omega (arith, few, falls, popped)
@@ -141,24 +153,30 @@ loop-visit-preserved g c =
     let top = c.in-Some.ensures.items ∙ ap (λ v. c.pop.new.self.items ++ v ∷ []) c.in-Enter.is in
     let given = c.requires.stack in
     let x = inv.walked.2 given in
-    let is = last_shown i given.pattern (rest_at (trees s.whole) s.place) s.place x.0 inv.walked.0 c.loop-visit.log c.loop-visit.pass.outers.items c.pop.new.self.items
+    let is = last_shown i given.pattern (rest_at (trees s.whole) s.place) s.place x.0 inv.walked.0 c.loop-visit.log
+    c.loop-visit.pass.outers.items c.pop.new.self.items
     c.loop-visit.todo.items c.loop-visit.lasts.waiting.items c.loop-visit.lasts.failed c.in-Enter.position top x.2 in
     let keeping = (c.in_ok-enter.ensures is.0 is.1).kept in
     record {
-      keeps = keeps_on c.args.log.now c.loop-visit.log c.enter.new.log c.args.pass.now.outers.items c.loop-visit.pass.outers.items c.enter.new.outers.items inv.keeps keeping;
+      keeps = keeps_on c.args.log.now c.loop-visit.log c.enter.new.log c.args.pass.now.outers.items
+          c.loop-visit.pass.outers.items c.enter.new.outers.items inv.keeps keeping;
       unmet = c.takes.ensures.unmet inv.unmet;
       size = c.takes.ensures.size ∙ inv.size;
       other = inv.other;
       report = inv.report;
       walked = (
         c.in-Enter.position.number ∷ inv.walked.0,
-        subst (λ b. AreMet c.takes.new.self.places.items s.place (cons_if b c.in-Enter.position.number inv.walked.0)) taken counted.1,
+        subst (λ b. AreMet c.takes.new.self.places.items s.place (cons_if b c.in-Enter.position.number inv.walked.0))
+            taken counted.1,
         λ st. (
           (inv.walked.2 st).0,
           (inv.walked.2 st).1,
-          last_take i st.pattern (rest_at (trees s.whole) s.place) s.place (inv.walked.2 st).0 inv.walked.0 c.loop-visit.log c.loop-visit.pass.outers.items
-              c.pop.new.self.items c.loop-visit.todo.items c.loop-visit.lasts.waiting.items c.loop-visit.lasts.failed c.in-Enter.position top (inv.walked.2 st).2
-              c.enter.new.log c.enter.new.outers.items c.enter.new.todo.items c.in_ok-enter.ensures (sym counted.0 ∙ taken),
+          last_take i st.pattern (rest_at (trees s.whole) s.place) s.place (inv.walked.2 st).0 inv.walked.0
+              c.loop-visit.log c.loop-visit.pass.outers.items
+              c.pop.new.self.items c.loop-visit.todo.items c.loop-visit.lasts.waiting.items c.loop-visit.lasts.failed
+              c.in-Enter.position top (inv.walked.2 st).2
+              c.enter.new.log c.enter.new.outers.items c.enter.new.todo.items c.in_ok-enter.ensures
+              (sym counted.0 ∙ taken),
         ),
       );
     }
@@ -170,6 +188,8 @@ returns-clause-lasts g c = λ st.
     let inv = c.loop-visit.invariant in
     let x = inv.walked.2 st in
     let todo = c.loop-visit.todo in
-    last_end i st.pattern s.place st.outlines x.0 inv.walked.0 c.loop-visit.log c.loop-visit.pass.outers.items (rest_at (trees s.whole) s.place)
+    last_end i st.pattern s.place st.outlines x.0 inv.walked.0 c.loop-visit.log c.loop-visit.pass.outers.items
+    (rest_at (trees s.whole) s.place)
     todo.items c.loop-visit.lasts.waiting.items c.loop-visit.lasts.failed
-    (popped_all todo.items (λ (l : 0 < length todo.items). c.in_default.ensures.variant.1 (omega (arith, l, todo.ok.0)))) x.1 x.2
+    (popped_all todo.items (λ (l : 0 < length todo.items). c.in_default.ensures.variant.1
+    (omega (arith, l, todo.ok.0)))) x.1 x.2

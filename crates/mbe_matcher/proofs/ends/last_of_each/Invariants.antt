@@ -17,13 +17,17 @@ invariant-loop-visit g l = record {
   other : l.pass.first_met ≡ l.fn.pass.first_met;
   report : l.pass.report ≡ l.fn.pass.report;
   walked : (met : List ℕ) × AreMet l.pass.last_met.places.items l.source.place met
-      × ((s : IsLastStack (input_of (g.G.FragmentGrammar.grammar l.grammar) (trees l.source.whole)) (rest_at (trees l.source.whole) l.source.place) l.source.place
+      × ((s : IsLastStack (input_of (g.G.FragmentGrammar.grammar l.grammar) (trees l.source.whole))
+      (rest_at (trees l.source.whole) l.source.place) l.source.place
       (length l.fn.pass.last_met.places.items) l.fn.log l.fn.pass.outers.items l.fn.todo.items) →
-      (all : List Visit) × AreVisits (input_of (g.G.FragmentGrammar.grammar l.grammar) (trees l.source.whole)) s.pattern l.source.place s.outlines all
-      × LastWalked (input_of (g.G.FragmentGrammar.grammar l.grammar) (trees l.source.whole)) s.pattern l.source.place all met l.log l.pass.outers.items
+      (all : List Visit) × AreVisits (input_of (g.G.FragmentGrammar.grammar l.grammar) (trees l.source.whole)) s.pattern
+      l.source.place s.outlines all
+      × LastWalked (input_of (g.G.FragmentGrammar.grammar l.grammar) (trees l.source.whole)) s.pattern l.source.place
+      all met l.log l.pass.outers.items
       (rest_at (trees l.source.whole) l.source.place) l.todo.items l.lasts.waiting.items l.lasts.failed);
 }
 
 abbrev pub decreases-loop-visit : goal.decreases-loop-visit
 decreases-loop-visit g l =
-    length l.todo.items + (unmet l.source.place l.pass.last_met.places.items + unmet l.source.place l.pass.last_met.places.items + unmet l.source.place l.pass.last_met.places.items)
+    length l.todo.items + (unmet l.source.place l.pass.last_met.places.items
+    + unmet l.source.place l.pass.last_met.places.items + unmet l.source.place l.pass.last_met.places.items)

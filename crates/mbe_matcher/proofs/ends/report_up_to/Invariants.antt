@@ -10,7 +10,8 @@ use Rattle.mbe_matcher.proofs.ends.report_up_to.Given as goal
 
 abbrev pub invariant-loop-source : goal.invariant-loop-source
 invariant-loop-source g l = record {
-  comes : PassAt (input_of (g.G.FragmentGrammar.grammar l.grammar) (trees l.source.whole)) (trees l.source.whole) (template_of l.pattern) l.source.place l.log l.pass.outers.items
+  comes : PassAt (input_of (g.G.FragmentGrammar.grammar l.grammar) (trees l.source.whole)) (trees l.source.whole)
+      (template_of l.pattern) l.source.place l.log l.pass.outers.items
       l.firsts.items l.lasts.items l.pass.report;
   whole : l.source.whole ≡ l.argument;
   within : l.source.place ≤ l.stop;

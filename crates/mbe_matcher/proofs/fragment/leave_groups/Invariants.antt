@@ -7,7 +7,8 @@ abbrev pub invariant-groups : goal.invariant-groups
 invariant-groups g l = record {
   same : viewed l.cursor ≡ viewed l.initial.cursor;
   within : place_of l.cursor ≤ flat_len (viewed l.initial.cursor);
-  cut : cut_flat (place_of l.cursor) (viewed l.initial.cursor) ≡ cut_flat (place_of l.initial.cursor) (viewed l.initial.cursor);
+  cut : cut_flat (place_of l.cursor) (viewed l.initial.cursor)
+      ≡ cut_flat (place_of l.initial.cursor) (viewed l.initial.cursor);
 }
 
 abbrev pub decreases-groups : goal.decreases-groups

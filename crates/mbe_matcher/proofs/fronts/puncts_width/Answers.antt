@@ -4,4 +4,5 @@ use Rattle.mbe_matcher.proofs.Widths.{token_width}
 use Rattle.mbe_matcher.proofs.fronts.puncts_width.Goals as goal
 
 pub returns : goal.returns
-returns g c = c.width_to.ensures ∙ token_width c.eat_puncts-passed.result (ops.puncts c.args.puncts.now) c.args.src.now _ (rw c.fork-ahead.ensures at c.eat_puncts-passed.ensures)
+returns g c = c.width_to.ensures ∙ token_width c.eat_puncts-passed.result (ops.puncts c.args.puncts.now) c.args.src.now
+    _ (rw c.fork-ahead.ensures at c.eat_puncts-passed.ensures)

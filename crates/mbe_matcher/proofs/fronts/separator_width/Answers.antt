@@ -4,4 +4,5 @@ use Rattle.mbe_matcher.proofs.Widths.{separator_width}
 use Rattle.mbe_matcher.proofs.fronts.separator_width.Goals as goal
 
 pub returns : goal.returns
-returns g c = c.width_to.ensures ∙ separator_width c.eat_separator-passed.result (separator_seen c.args.separator.now) c.args.src.now _ (rw c.fork-ahead.ensures at c.eat_separator-passed.ensures)
+returns g c = c.width_to.ensures ∙ separator_width c.eat_separator-passed.result (separator_seen c.args.separator.now)
+    c.args.src.now _ (rw c.fork-ahead.ensures at c.eat_separator-passed.ensures)

@@ -6,10 +6,15 @@ use Rattle.mbe_matcher.specs.Reports.{IsFullReport}
 use Rattle.mbe_matcher.proofs.matching.with_all_reported.Goals as goal
 
 pub report_up_to-requires-clause-stop : goal.report_up_to-requires-clause-stop
-report_up_to-requires-clause-stop g c = (verdict_in c.args.reached.stop, c.requires.verdict, c.place_of-stop.ensures (trees c.args.argument) (sym c.flat_len.ensures))
+report_up_to-requires-clause-stop g c = (
+  verdict_in c.args.reached.stop,
+  c.requires.verdict,
+  c.place_of-stop.ensures (trees c.args.argument) (sym c.flat_len.ensures),
+)
 
 pub returns-clause-report : goal.returns-clause-report
 returns-clause-report g c =
     let h = g.G.FragmentGrammar.grammar c.args.grammar.now in
-    subst (λ q. IsFullReport h (template_of c.args.pattern.now) (trees c.args.argument) c.report_up_to.new.log q c.in_ok-report.report)
+    subst (λ q. IsFullReport h (template_of c.args.pattern.now) (trees c.args.argument) c.report_up_to.new.log q
+    c.in_ok-report.report)
     (c.place_of-stop.ensures (trees c.args.argument) (sym c.flat_len.ensures)) c.in_ok-report.ensures.report

@@ -4,4 +4,5 @@ use Rattle.mbe_matcher.proofs.places.come.Given as goal
 
 abbrev pub invariant-loop-position : goal.invariant-loop-position
 invariant-loop-position g l =
-    l.todo.items ++ map position_after (drop l.position-index l.waiting) ≡ l.fn.todo.items ++ map position_after l.waiting
+    l.todo.items ++ map position_after (drop l.position-index l.waiting)
+    ≡ l.fn.todo.items ++ map position_after l.waiting

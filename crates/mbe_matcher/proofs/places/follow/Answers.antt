@@ -25,7 +25,8 @@ use Rattle.mbe_matcher.proofs.places.follow.Goals as goal
 
 pub at_start-requires : goal.at_start-requires
 at_start-requires g c =
-    subst (λ r. IfSome r (λ n. n ≡ dots (ops_of c.deref.result.now))) c.in_ok-dots.ensures.ok_part c.dots_of.ensures ∙ ap (λ l. dots (ops_of l)) c.deref.ensures.value
+    subst (λ r. IfSome r (λ n. n ≡ dots (ops_of c.deref.result.now))) c.in_ok-dots.ensures.ok_part c.dots_of.ensures
+    ∙ ap (λ l. dots (ops_of l)) c.deref.ensures.value
 
 pub loop-source-init : goal.loop-source-init
 loop-source-init g c =
@@ -35,8 +36,10 @@ loop-source-init g c =
     let p = c.in_ok-position.position in
     let one = c.in_ok-push.ensures.ok ∙ ap (λ l. l ++ p ∷ []) c.new-todo.ensures.items in
     let all : c.in_ok-dots.dots ≡ dots pat =
-    subst (λ r. IfSome r (λ n. n ≡ dots (ops_of c.deref.result.now))) c.in_ok-dots.ensures.ok_part c.dots_of.ensures ∙ ap (λ l. dots (ops_of l)) c.deref.ensures.value in
-    let first = come_first (input_of h (trees s.whole)) pat (flat_len (trees s.whole)) c.at_start.new.log c.in_ok-state.state.outers.items c.push.new.self.items s.place p c.new-source.ensures.place one
+    subst (λ r. IfSome r (λ n. n ≡ dots (ops_of c.deref.result.now))) c.in_ok-dots.ensures.ok_part c.dots_of.ensures
+    ∙ ap (λ l. dots (ops_of l)) c.deref.ensures.value in
+    let first = come_first (input_of h (trees s.whole)) pat (flat_len (trees s.whole)) c.at_start.new.log
+    c.in_ok-state.state.outers.items c.push.new.self.items s.place p c.new-source.ensures.place one
     c.in_ok-position.ensures.start in
     record {
       comes = (
@@ -63,7 +66,9 @@ settle-requires g c =
     let w = lawful_input h (trees s.whole) (g.met.G.FragmentGrammar.lawful c.args.grammar.now) in
     let inv = c.loop-source.invariant in
     let come = inv.comes.2 w c.requires in
-    let stack = stack_of i pat len w c.requires s.place (length c.loop-source.state.counts.marks.items) c.loop-source.log c.loop-source.state.outers.items c.loop-source.todo.items inv.comes.0 (sym inv.size) come inv.comes.1 in
+    let stack = stack_of i pat len w c.requires s.place (length c.loop-source.state.counts.marks.items)
+    c.loop-source.log c.loop-source.state.outers.items c.loop-source.todo.items inv.comes.0 (sym inv.size) come
+    inv.comes.1 in
     (omega arith, (omega arith, (stack, inv.blank)))
 
 pub returns-in-Some-clause-verdict : goal.returns-in-Some-clause-verdict
@@ -76,7 +81,9 @@ returns-in-Some-clause-verdict g c =
     let w = lawful_input h (trees s.whole) (g.met.G.FragmentGrammar.lawful c.args.grammar.now) in
     let inv = c.loop-source.invariant in
     let come = inv.comes.2 w c.requires in
-    let stack = stack_of i pat len w c.requires s.place (length c.loop-source.state.counts.marks.items) c.loop-source.log c.loop-source.state.outers.items c.loop-source.todo.items inv.comes.0 (sym inv.size) come inv.comes.1 in
+    let stack = stack_of i pat len w c.requires s.place (length c.loop-source.state.counts.marks.items)
+    c.loop-source.log c.loop-source.state.outers.items c.loop-source.todo.items inv.comes.0 (sym inv.size) come
+    inv.comes.1 in
     let st = (c.in_ok-settle.ensures.settled stack).steps in
     let ws = c.settle.new.settled.waiting.items in
     let hs = c.settle.new.settled.ends.items in
@@ -86,8 +93,10 @@ returns-in-Some-clause-verdict g c =
     let ends = c.deref-in-loop-source-2.ensures in
     let v = verdict_in c.in-Some.stop in
     let e : Some v ≡ stop_at s.place len ws hs =
-    c.in-Some.ensures.stop ∙ ap (λ l. stop_at s.place len l c.deref-in-loop-source-2.result.now) waits ∙ ap (stop_at s.place len ws) ends in
-    subst (λ x. IsVerdict h pat (trees x) v) inv.whole (right_stop h pat (trees s.whole) w c.requires s.place inv.comes.0 come s.within log outers ws hs st v e)
+    c.in-Some.ensures.stop ∙ ap (λ l. stop_at s.place len l c.deref-in-loop-source-2.result.now) waits
+    ∙ ap (stop_at s.place len ws) ends in
+    subst (λ x. IsVerdict h pat (trees x) v) inv.whole
+    (right_stop h pat (trees s.whole) w c.requires s.place inv.comes.0 come s.within log outers ws hs st v e)
 
 pub returns-in-Some-clause-unmatched : goal.returns-in-Some-clause-unmatched
 returns-in-Some-clause-unmatched g c =
@@ -99,7 +108,9 @@ returns-in-Some-clause-unmatched g c =
     let w = lawful_input h (trees s.whole) (g.met.G.FragmentGrammar.lawful c.args.grammar.now) in
     let inv = c.loop-source.invariant in
     let come = inv.comes.2 w c.requires in
-    let stack = stack_of i pat len w c.requires s.place (length c.loop-source.state.counts.marks.items) c.loop-source.log c.loop-source.state.outers.items c.loop-source.todo.items inv.comes.0 (sym inv.size) come inv.comes.1 in
+    let stack = stack_of i pat len w c.requires s.place (length c.loop-source.state.counts.marks.items)
+    c.loop-source.log c.loop-source.state.outers.items c.loop-source.todo.items inv.comes.0 (sym inv.size) come
+    inv.comes.1 in
     let st = (c.in_ok-settle.ensures.settled stack).steps in
     let ws = c.settle.new.settled.waiting.items in
     let hs = c.settle.new.settled.ends.items in
@@ -109,8 +120,10 @@ returns-in-Some-clause-unmatched g c =
     let ends = c.deref-in-loop-source-2.ensures in
     let v = verdict_in c.in-Some.stop in
     let e : Some v ≡ stop_at s.place len ws hs =
-    c.in-Some.ensures.stop ∙ ap (λ l. stop_at s.place len l c.deref-in-loop-source-2.result.now) waits ∙ ap (stop_at s.place len ws) ends in
-    let stop = stop_place h pat (trees s.whole) w c.requires s.place inv.comes.0 come s.within log outers ws hs st v e in
+    c.in-Some.ensures.stop ∙ ap (λ l. stop_at s.place len l c.deref-in-loop-source-2.result.now) waits
+    ∙ ap (stop_at s.place len ws) ends in
+    let stop = stop_place h pat (trees s.whole) w c.requires s.place inv.comes.0 come s.within log outers ws hs st v
+    e in
     subst (λ x. c.trees_left.result ≡ unmatched (trees x) v) inv.whole
     (c.trees_left.ensures ∙ ap (λ (n : ℕ). tree_count (rest_at (trees s.whole) n)) (sym stop))
 
@@ -124,7 +137,9 @@ returns-in-Some-clause-binds g c =
     let w = lawful_input h (trees s.whole) (g.met.G.FragmentGrammar.lawful c.args.grammar.now) in
     let inv = c.loop-source.invariant in
     let come = inv.comes.2 w c.requires in
-    let stack = stack_of i pat len w c.requires s.place (length c.loop-source.state.counts.marks.items) c.loop-source.log c.loop-source.state.outers.items c.loop-source.todo.items inv.comes.0 (sym inv.size) come inv.comes.1 in
+    let stack = stack_of i pat len w c.requires s.place (length c.loop-source.state.counts.marks.items)
+    c.loop-source.log c.loop-source.state.outers.items c.loop-source.todo.items inv.comes.0 (sym inv.size) come
+    inv.comes.1 in
     let st = (c.in_ok-settle.ensures.settled stack).steps in
     let ws = c.settle.new.settled.waiting.items in
     let hs = c.settle.new.settled.ends.items in
@@ -134,13 +149,16 @@ returns-in-Some-clause-binds g c =
     let ends = c.deref-in-loop-source-2.ensures in
     let v = verdict_in c.in-Some.stop in
     let e : Some v ≡ stop_at s.place len ws hs =
-    c.in-Some.ensures.stop ∙ ap (λ l. stop_at s.place len l c.deref-in-loop-source-2.result.now) waits ∙ ap (stop_at s.place len ws) ends in
+    c.in-Some.ensures.stop ∙ ap (λ l. stop_at s.place len l c.deref-in-loop-source-2.result.now) waits
+    ∙ ap (stop_at s.place len ws) ends in
     let only = subst (λ l. IfSome (reading_in c.in-Some.stop) (λ h. l ≡ h ∷ [])) ends c.in-Some.ensures.reading in
-    let b = binds_stop h pat (trees s.whole) w c.requires s.place inv.comes.0 come s.within log outers ws hs st c.in-Some.stop e only in
+    let b = binds_stop h pat (trees s.whole) w c.requires s.place inv.comes.0 come s.within log outers ws hs st
+    c.in-Some.stop e only in
     subst (λ x. IfSome (reading_in c.in-Some.stop) (Binds h pat (trees x) log)) inv.whole b
 
 pub returns-in-Some-clause-kept : goal.returns-in-Some-clause-kept
-returns-in-Some-clause-kept g c = kept-on c.args.log.now c.loop-source.log c.settle.new.log c.loop-source.invariant.kept c.in_ok-settle.ensures.kept.log
+returns-in-Some-clause-kept g c = kept-on c.args.log.now c.loop-source.log c.settle.new.log c.loop-source.invariant.kept
+    c.in_ok-settle.ensures.kept.log
 
 pub bounds-deref-0 : goal.bounds-deref-0
 bounds-deref-0 g c =
@@ -152,7 +170,9 @@ bounds-deref-0 g c =
     let w = lawful_input h (trees s.whole) (g.met.G.FragmentGrammar.lawful c.args.grammar.now) in
     let inv = c.loop-source.invariant in
     let come = inv.comes.2 w c.requires in
-    let stack = stack_of i pat len w c.requires s.place (length c.loop-source.state.counts.marks.items) c.loop-source.log c.loop-source.state.outers.items c.loop-source.todo.items inv.comes.0 (sym inv.size) come inv.comes.1 in
+    let stack = stack_of i pat len w c.requires s.place (length c.loop-source.state.counts.marks.items)
+    c.loop-source.log c.loop-source.state.outers.items c.loop-source.todo.items inv.comes.0 (sym inv.size) come
+    inv.comes.1 in
     let st = (c.in_ok-settle.ensures.settled stack).steps in
     let ws = c.settle.new.settled.waiting.items in
     let hs = c.settle.new.settled.ends.items in
@@ -161,9 +181,11 @@ bounds-deref-0 g c =
     let waits = c.deref-in-loop-source.ensures in
     let ends = c.deref-in-loop-source-2.ensures in
     let e : None ≡ stop_at s.place len ws hs =
-    c.in_default.ensures.stop ∙ ap (λ l. stop_at s.place len l c.deref-in-loop-source-2.result.now) waits ∙ ap (stop_at s.place len ws) ends in
+    c.in_default.ensures.stop ∙ ap (λ l. stop_at s.place len l c.deref-in-loop-source-2.result.now) waits
+    ∙ ap (stop_at s.place len ws) ends in
     let n = next h pat (trees s.whole) w c.requires s.place inv.comes.0 come s.within log outers ws hs st e in
-    let some : length c.deref-in-loop-source-3.result.now ≡ length (n.first ∷ n.rest) = ap length (c.deref-in-loop-source-3.ensures ∙ n.is) in
+    let some : length c.deref-in-loop-source-3.result.now ≡ length (n.first ∷ n.rest) =
+    ap length (c.deref-in-loop-source-3.ensures ∙ n.is) in
     omega (arith, some)
 
 pub after_step-requires-clause-fits : goal.after_step-requires-clause-fits
@@ -176,7 +198,9 @@ after_step-requires-clause-fits g c =
     let w = lawful_input h (trees s.whole) (g.met.G.FragmentGrammar.lawful c.args.grammar.now) in
     let inv = c.loop-source.invariant in
     let come = inv.comes.2 w c.requires in
-    let stack = stack_of i pat len w c.requires s.place (length c.loop-source.state.counts.marks.items) c.loop-source.log c.loop-source.state.outers.items c.loop-source.todo.items inv.comes.0 (sym inv.size) come inv.comes.1 in
+    let stack = stack_of i pat len w c.requires s.place (length c.loop-source.state.counts.marks.items)
+    c.loop-source.log c.loop-source.state.outers.items c.loop-source.todo.items inv.comes.0 (sym inv.size) come
+    inv.comes.1 in
     let st = (c.in_ok-settle.ensures.settled stack).steps in
     let ws = c.settle.new.settled.waiting.items in
     let hs = c.settle.new.settled.ends.items in
@@ -185,9 +209,11 @@ after_step-requires-clause-fits g c =
     let waits = c.deref-in-loop-source.ensures in
     let ends = c.deref-in-loop-source-2.ensures in
     let e : None ≡ stop_at s.place len ws hs =
-    c.in_default.ensures.stop ∙ ap (λ l. stop_at s.place len l c.deref-in-loop-source-2.result.now) waits ∙ ap (stop_at s.place len ws) ends in
+    c.in_default.ensures.stop ∙ ap (λ l. stop_at s.place len l c.deref-in-loop-source-2.result.now) waits
+    ∙ ap (stop_at s.place len ws) ends in
     let n = next h pat (trees s.whole) w c.requires s.place inv.comes.0 come s.within log outers ws hs st e in
-    let first : c.index-deref-0.result ≡ n.first = c.index-deref-0.is ∙ ap (λ l. get_or l 0 c.index-deref-0.result) (c.deref-in-loop-source-3.ensures ∙ n.is) in
+    let first : c.index-deref-0.result ≡ n.first =
+    c.index-deref-0.is ∙ ap (λ l. get_or l 0 c.index-deref-0.result) (c.deref-in-loop-source-3.ensures ∙ n.is) in
     let wide = ap (λ (x : Waiting g.row.A.Denot). x.width) first in
     let fits = n.fits in
     omega (arith, wide, fits)
@@ -202,7 +228,9 @@ after_step-requires-clause-left g c =
     let w = lawful_input h (trees s.whole) (g.met.G.FragmentGrammar.lawful c.args.grammar.now) in
     let inv = c.loop-source.invariant in
     let come = inv.comes.2 w c.requires in
-    let stack = stack_of i pat len w c.requires s.place (length c.loop-source.state.counts.marks.items) c.loop-source.log c.loop-source.state.outers.items c.loop-source.todo.items inv.comes.0 (sym inv.size) come inv.comes.1 in
+    let stack = stack_of i pat len w c.requires s.place (length c.loop-source.state.counts.marks.items)
+    c.loop-source.log c.loop-source.state.outers.items c.loop-source.todo.items inv.comes.0 (sym inv.size) come
+    inv.comes.1 in
     let st = (c.in_ok-settle.ensures.settled stack).steps in
     let ws = c.settle.new.settled.waiting.items in
     let hs = c.settle.new.settled.ends.items in
@@ -211,9 +239,11 @@ after_step-requires-clause-left g c =
     let waits = c.deref-in-loop-source.ensures in
     let ends = c.deref-in-loop-source-2.ensures in
     let e : None ≡ stop_at s.place len ws hs =
-    c.in_default.ensures.stop ∙ ap (λ l. stop_at s.place len l c.deref-in-loop-source-2.result.now) waits ∙ ap (stop_at s.place len ws) ends in
+    c.in_default.ensures.stop ∙ ap (λ l. stop_at s.place len l c.deref-in-loop-source-2.result.now) waits
+    ∙ ap (stop_at s.place len ws) ends in
     let n = next h pat (trees s.whole) w c.requires s.place inv.comes.0 come s.within log outers ws hs st e in
-    let first : c.index-deref-0.result ≡ n.first = c.index-deref-0.is ∙ ap (λ l. get_or l 0 c.index-deref-0.result) (c.deref-in-loop-source-3.ensures ∙ n.is) in
+    let first : c.index-deref-0.result ≡ n.first =
+    c.index-deref-0.is ∙ ap (λ l. get_or l 0 c.index-deref-0.result) (c.deref-in-loop-source-3.ensures ∙ n.is) in
     subst (λ (x : Waiting g.row.A.Denot). IsLeft (rest_at (trees s.whole) s.place) x.width x.beyond) (sym first) n.left
 
 pub loop-source-smaller : goal.loop-source-smaller
@@ -226,7 +256,9 @@ loop-source-smaller g c =
     let w = lawful_input h (trees s.whole) (g.met.G.FragmentGrammar.lawful c.args.grammar.now) in
     let inv = c.loop-source.invariant in
     let come = inv.comes.2 w c.requires in
-    let stack = stack_of i pat len w c.requires s.place (length c.loop-source.state.counts.marks.items) c.loop-source.log c.loop-source.state.outers.items c.loop-source.todo.items inv.comes.0 (sym inv.size) come inv.comes.1 in
+    let stack = stack_of i pat len w c.requires s.place (length c.loop-source.state.counts.marks.items)
+    c.loop-source.log c.loop-source.state.outers.items c.loop-source.todo.items inv.comes.0 (sym inv.size) come
+    inv.comes.1 in
     let st = (c.in_ok-settle.ensures.settled stack).steps in
     let ws = c.settle.new.settled.waiting.items in
     let hs = c.settle.new.settled.ends.items in
@@ -235,9 +267,11 @@ loop-source-smaller g c =
     let waits = c.deref-in-loop-source.ensures in
     let ends = c.deref-in-loop-source-2.ensures in
     let e : None ≡ stop_at s.place len ws hs =
-    c.in_default.ensures.stop ∙ ap (λ l. stop_at s.place len l c.deref-in-loop-source-2.result.now) waits ∙ ap (stop_at s.place len ws) ends in
+    c.in_default.ensures.stop ∙ ap (λ l. stop_at s.place len l c.deref-in-loop-source-2.result.now) waits
+    ∙ ap (stop_at s.place len ws) ends in
     let n = next h pat (trees s.whole) w c.requires s.place inv.comes.0 come s.within log outers ws hs st e in
-    let first : c.index-deref-0.result ≡ n.first = c.index-deref-0.is ∙ ap (λ l. get_or l 0 c.index-deref-0.result) (c.deref-in-loop-source-3.ensures ∙ n.is) in
+    let first : c.index-deref-0.result ≡ n.first =
+    c.index-deref-0.is ∙ ap (λ l. get_or l 0 c.index-deref-0.result) (c.deref-in-loop-source-3.ensures ∙ n.is) in
     let wide = ap (λ (x : Waiting g.row.A.Denot). x.width) first in
     let fits = n.fits in
     let some = n.some in
@@ -255,7 +289,9 @@ loop-source-preserved g c =
     let w = lawful_input h (trees s.whole) (g.met.G.FragmentGrammar.lawful c.args.grammar.now) in
     let inv = c.loop-source.invariant in
     let come = inv.comes.2 w c.requires in
-    let stack = stack_of i pat len w c.requires s.place (length c.loop-source.state.counts.marks.items) c.loop-source.log c.loop-source.state.outers.items c.loop-source.todo.items inv.comes.0 (sym inv.size) come inv.comes.1 in
+    let stack = stack_of i pat len w c.requires s.place (length c.loop-source.state.counts.marks.items)
+    c.loop-source.log c.loop-source.state.outers.items c.loop-source.todo.items inv.comes.0 (sym inv.size) come
+    inv.comes.1 in
     let st = (c.in_ok-settle.ensures.settled stack).steps in
     let ws = c.settle.new.settled.waiting.items in
     let hs = c.settle.new.settled.ends.items in
@@ -264,35 +300,51 @@ loop-source-preserved g c =
     let waits = c.deref-in-loop-source.ensures in
     let ends = c.deref-in-loop-source-2.ensures in
     let e : None ≡ stop_at s.place len ws hs =
-    c.in_default.ensures.stop ∙ ap (λ l. stop_at s.place len l c.deref-in-loop-source-2.result.now) waits ∙ ap (stop_at s.place len ws) ends in
+    c.in_default.ensures.stop ∙ ap (λ l. stop_at s.place len l c.deref-in-loop-source-2.result.now) waits
+    ∙ ap (stop_at s.place len ws) ends in
     let n = next h pat (trees s.whole) w c.requires s.place inv.comes.0 come s.within log outers ws hs st e in
-    let first : c.index-deref-0.result ≡ n.first = c.index-deref-0.is ∙ ap (λ l. get_or l 0 c.index-deref-0.result) (c.deref-in-loop-source-3.ensures ∙ n.is) in
+    let first : c.index-deref-0.result ≡ n.first =
+    c.index-deref-0.is ∙ ap (λ l. get_or l 0 c.index-deref-0.result) (c.deref-in-loop-source-3.ensures ∙ n.is) in
     let wide = ap (λ (x : Waiting g.row.A.Denot). x.width) first in
     let some = n.some in
-    let at : c.in_ok-source.source.place ≡ s.place + n.first.width = c.in_ok-source.ensures.place ∙ ap (λ k. s.place + k) wide in
+    let at : c.in_ok-source.source.place ≡ s.place + n.first.width =
+    c.in_ok-source.ensures.place ∙ ap (λ k. s.place + k) wide in
     let new = map after_of (kept_moves i (dots pat) s.place (reverse inv.comes.0)) in
     let noted = noted_at i s.place (kept i (dots pat) s.place (reverse inv.comes.0)) inv.comes.3 in
     let arrived : c.come.new.todo.items ≡ map position_after ws =
-    c.in_ok-come.ensures ∙ ap (λ l. c.settle.new.todo.items ++ map position_after l) c.deref-in-loop-source-4.ensures ∙ ap (λ l. l ++ map position_after ws) c.in_ok-settle.ensures.done in
+    c.in_ok-come.ensures ∙ ap (λ l. c.settle.new.todo.items ++ map position_after l) c.deref-in-loop-source-4.ensures
+    ∙ ap (λ l. l ++ map position_after ws) c.in_ok-settle.ensures.done in
     record {
       comes = (
         new,
-        subst (λ l. Each (Shows log outers) l new) (sym arrived) (shown_after log outers (rest_at (trees s.whole) s.place) ws (kept_moves i (dots pat) s.place (reverse inv.comes.0)) st.goes_on),
-        subst (λ x. (lawful : Lawful (input_of h (trees x)) (flat_len (trees x))) (checked : Checked pat) → ComesTo (input_of h (trees x)) pat (flat_len (trees x)) lawful checked c.in_ok-source.source.place new)
+        subst (λ l. Each (Shows log outers) l new) (sym arrived)
+            (shown_after log outers (rest_at (trees s.whole) s.place) ws
+            (kept_moves i (dots pat) s.place (reverse inv.comes.0)) st.goes_on),
+        subst (λ x. (lawful : Lawful (input_of h (trees x)) (flat_len (trees x))) (checked : Checked pat)
+            → ComesTo (input_of h (trees x)) pat (flat_len (trees x)) lawful checked c.in_ok-source.source.place new)
             (sym c.in_ok-source.ensures.whole)
             (λ lawful checked.
-            let n = next h pat (trees s.whole) lawful checked s.place inv.comes.0 (inv.comes.2 lawful checked) s.within log outers ws hs st e in
-            let first : c.index-deref-0.result ≡ n.first = c.index-deref-0.is ∙ ap (λ l. get_or l 0 c.index-deref-0.result) (c.deref-in-loop-source-3.ensures ∙ n.is) in
-            let there : c.in_ok-source.source.place ≡ s.place + n.first.width = c.in_ok-source.ensures.place ∙ ap (λ (x : Waiting g.row.A.Denot). s.place + x.width) first in
-            subst (λ k. ComesTo (input_of h (trees s.whole)) pat (flat_len (trees s.whole)) lawful checked k new) (sym there) n.comes_next),
+            let n = next h pat (trees s.whole) lawful checked s.place inv.comes.0 (inv.comes.2 lawful checked) s.within
+            log outers ws hs st e in
+            let first : c.index-deref-0.result ≡ n.first =
+            c.index-deref-0.is ∙ ap (λ l. get_or l 0 c.index-deref-0.result)
+            (c.deref-in-loop-source-3.ensures ∙ n.is) in
+            let there : c.in_ok-source.source.place ≡ s.place + n.first.width =
+            c.in_ok-source.ensures.place ∙ ap (λ (x : Waiting g.row.A.Denot). s.place + x.width) first in
+            subst (λ k. ComesTo (input_of h (trees s.whole)) pat (flat_len (trees s.whole)) lawful checked k new)
+            (sym there) n.comes_next),
         noted,
-        subst (λ x. IsReportOf log (trees x) c.settle.new.state.report [] noted) (sym c.in_ok-source.ensures.whole) ((c.in_ok-settle.ensures.settled stack).notes inv.comes.3 inv.comes.4),
+        subst (λ x. IsReportOf log (trees x) c.settle.new.state.report [] noted) (sym c.in_ok-source.ensures.whole)
+            ((c.in_ok-settle.ensures.settled stack).notes inv.comes.3 inv.comes.4),
         λ clean.
             let follows = (c.in_ok-settle.ensures.settled stack).all clean in
             let was = inv.comes.5 follows.0 in
-            let all = follows.1 c.requires was.xs (whole_sound i pat len w c.requires s.place inv.comes.0 inv.comes.3 was) was.same in
-            subst (λ x. WholeWith (input_of h (trees x)) pat c.in_ok-source.source.place new noted) (sym c.in_ok-source.ensures.whole)
-            (whole_after i pat len w c.requires s.place inv.comes.0 inv.comes.3 was all c.in_ok-source.source.place n.first.width n.goes_over n.agrees at),
+            let all = follows.1 c.requires was.xs
+            (whole_sound i pat len w c.requires s.place inv.comes.0 inv.comes.3 was) was.same in
+            subst (λ x. WholeWith (input_of h (trees x)) pat c.in_ok-source.source.place new noted)
+            (sym c.in_ok-source.ensures.whole)
+            (whole_after i pat len w c.requires s.place inv.comes.0 inv.comes.3 was all c.in_ok-source.source.place
+            n.first.width n.goes_over n.agrees at),
       );
       whole = c.in_ok-source.ensures.whole ∙ inv.whole;
       blank = λ q l. c.in_ok-settle.ensures.blank q (omega (arith, l, at, some));
@@ -310,7 +362,9 @@ returns-in-Some-clause-notes g c =
     let w = lawful_input h (trees s.whole) (g.met.G.FragmentGrammar.lawful c.args.grammar.now) in
     let inv = c.loop-source.invariant in
     let come = inv.comes.2 w c.requires in
-    let stack = stack_of i pat len w c.requires s.place (length c.loop-source.state.counts.marks.items) c.loop-source.log c.loop-source.state.outers.items c.loop-source.todo.items inv.comes.0 (sym inv.size) come inv.comes.1 in
+    let stack = stack_of i pat len w c.requires s.place (length c.loop-source.state.counts.marks.items)
+    c.loop-source.log c.loop-source.state.outers.items c.loop-source.todo.items inv.comes.0 (sym inv.size) come
+    inv.comes.1 in
     let st = (c.in_ok-settle.ensures.settled stack).steps in
     let ws = c.settle.new.settled.waiting.items in
     let hs = c.settle.new.settled.ends.items in
@@ -320,16 +374,26 @@ returns-in-Some-clause-notes g c =
     let ends = c.deref-in-loop-source-2.ensures in
     let v = verdict_in c.in-Some.stop in
     let e : Some v ≡ stop_at s.place len ws hs =
-    c.in-Some.ensures.stop ∙ ap (λ l. stop_at s.place len l c.deref-in-loop-source-2.result.now) waits ∙ ap (stop_at s.place len ws) ends in
-    let stop = stop_place h pat (trees s.whole) w c.requires s.place inv.comes.0 come s.within log outers ws hs st v e in
+    c.in-Some.ensures.stop ∙ ap (λ l. stop_at s.place len l c.deref-in-loop-source-2.result.now) waits
+    ∙ ap (stop_at s.place len ws) ends in
+    let stop = stop_place h pat (trees s.whole) w c.requires s.place inv.comes.0 come s.within log outers ws hs st v
+    e in
     let noted = noted_at i s.place (kept i (dots pat) s.place (reverse inv.comes.0)) inv.comes.3 in
     let settled = c.in_ok-settle.ensures.settled stack in
-    let reached : Reached g.row.A.Denot = record { stop = c.in-Some.stop; unmatched = c.trees_left.result; report = c.settle.new.state.report; has_dropped = c.settle.new.state.has_dropped } in
+    let reached : Reached g.row.A.Denot =
+    record {
+      stop = c.in-Some.stop;
+      unmatched = c.trees_left.result;
+      report = c.settle.new.state.report;
+      has_dropped = c.settle.new.state.has_dropped;
+    } in
     subst (λ x. IsReportIn h pat (trees x) log reached) inv.whole (λ clean.
     let follows = settled.all clean in
     let was = inv.comes.5 follows.0 in
-    let all = follows.1 c.requires was.xs (whole_sound i pat len w c.requires s.place inv.comes.0 inv.comes.3 was) was.same in (
+    let all = follows.1 c.requires was.xs (whole_sound i pat len w c.requires s.place inv.comes.0 inv.comes.3 was)
+    was.same in (
       noted,
-      subst (λ k. AreNotes i pat k noted) (sym stop) (whole_notes i pat len w c.requires s.place inv.comes.0 inv.comes.3 was all),
+      subst (λ k. AreNotes i pat k noted) (sym stop)
+          (whole_notes i pat len w c.requires s.place inv.comes.0 inv.comes.3 was all),
       settled.notes inv.comes.3 inv.comes.4,
     ))

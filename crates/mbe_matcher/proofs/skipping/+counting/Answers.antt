@@ -26,7 +26,8 @@ pub op_dots_of-returns-in-Subtree : goal.op_dots_of-returns-in-Subtree
 op_dots_of-returns-in-Subtree g t c = rw (c.in-Subtree.is, view-subtree) (rw c.deref.ensures.value at c.dots_of.ensures)
 
 pub op_dots_of-returns-in-Repeat : goal.op_dots_of-returns-in-Repeat
-op_dots_of-returns-in-Repeat g t c = rw (c.in-Repeat.is, view-repeat) (rw c.deref-in-Repeat.ensures.value at c.dots_of-in-Repeat.ensures)
+op_dots_of-returns-in-Repeat g t c = rw (c.in-Repeat.is, view-repeat)
+    (rw c.deref-in-Repeat.ensures.value at c.dots_of-in-Repeat.ensures)
 
 pub dots_of-op_dots_of-requires : goal.dots_of-op_dots_of-requires
 dots_of-op_dots_of-requires g t c κs within =
@@ -36,7 +37,8 @@ dots_of-op_dots_of-requires g t c κs within =
 
 pub dots_of-loop-stop-init : goal.dots_of-loop-stop-init
 dots_of-loop-stop-init g t c =
-    let whole = ops_at_first _ _ None (ops_of c.args.ops.now) c.into_iter-stop-iterator.ensures.into_iter_gives c.new-stop-items.ensures in
+    let whole = ops_at_first _ _ None (ops_of c.args.ops.now) c.into_iter-stop-iterator.ensures.into_iter_gives
+    c.new-stop-items.ensures in
     let weight = ap ops_weight whole in
     let all = ap dots whole in
     record { lighter = omega (arith, weight); counted = omega (arith, all) }

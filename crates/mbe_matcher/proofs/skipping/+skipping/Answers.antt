@@ -32,14 +32,17 @@ pub skip_op-returns-in-Subtree : goal.skip_op-returns-in-Subtree
 skip_op-returns-in-Subtree g t c = rw (c.in-Subtree.is, view-subtree) (rw c.deref.ensures.value at c.skip_names.ensures)
 
 pub skip_op-returns-in-Repeat : goal.skip_op-returns-in-Repeat
-skip_op-returns-in-Repeat g t c = rw (c.in-Repeat.is, view-repeat) (rw c.deref-in-Repeat.ensures.value at c.skip_names-in-Repeat.ensures)
+skip_op-returns-in-Repeat g t c = rw (c.in-Repeat.is, view-repeat)
+    (rw c.deref-in-Repeat.ensures.value at c.skip_names-in-Repeat.ensures)
 
 pub skip_op-returns-in-Var : goal.skip_op-returns-in-Var
-skip_op-returns-in-Var g t c = rw (c.in-Var.is, view-var) (rewritten_ok c.push_empty.result _ _ _ _ _ c.push_empty.ensures.ok)
+skip_op-returns-in-Var g t c = rw (c.in-Var.is, view-var)
+    (rewritten_ok c.push_empty.result _ _ _ _ _ c.push_empty.ensures.ok)
 
 pub skip_names-loop-stop-init : goal.skip_names-loop-stop-init
 skip_names-loop-stop-init g t c =
-    let whole = ops_at_first _ _ None (ops_of c.args.ops.now) c.into_iter-stop-iterator.ensures.into_iter_gives c.new-stop-items.ensures in
+    let whole = ops_at_first _ _ None (ops_of c.args.ops.now) c.into_iter-stop-iterator.ensures.into_iter_gives
+    c.new-stop-items.ensures in
     let weight = ap ops_weight whole in
     record {
       entries = c.requires;
@@ -53,7 +56,8 @@ skip_names-loop-stop-preserved-in-Continue-1 g t c =
     let here = op_first c.in-Some.stop c.in-Op.op _ left c.in-Some.ensures.steps c.in-Op.is in
     let weight = ap ops_weight here in
     let before = c.loop-stop.invariant in
-    let more = skips_one _ _ _ _ _ _ _ _ (ops_in left) (op_of c.in-Op.op.now) here before.so_far c.in_ok-skip_op-in-Op.ensures in
+    let more = skips_one _ _ _ _ _ _ _ _ (ops_in left) (op_of c.in-Op.op.now) here before.so_far
+    c.in_ok-skip_op-in-Op.ensures in
     record { entries = more.entries; lighter = omega (arith, weight, before.lighter); so_far = more }
 
 pub skip_names-loop-stop-preserved : goal.skip_names-loop-stop-preserved

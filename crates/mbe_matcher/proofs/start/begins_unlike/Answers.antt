@@ -5,4 +5,6 @@ use Rattle.mbe_matcher.proofs.start.begins_unlike.Goals as goal
 
 pub returns-in-len1-up : goal.returns-in-len1-up
 returns-in-len1-up g c = λ e h.
-    subst (λ os. BeginsUnlike h os c.args.here.now) (sym (first_op c.args.ops.now c.op-item.result c.in-len1-up.len_at_least c.op-item.is)) (c.is_unlike.ensures e h)
+    subst (λ os. BeginsUnlike h os c.args.here.now)
+    (sym (first_op c.args.ops.now c.op-item.result c.in-len1-up.len_at_least c.op-item.is))
+    (c.is_unlike.ensures e h)

@@ -11,15 +11,20 @@ returns-in-Some g c =
     let h = g.G.FragmentGrammar.grammar c.args.grammar.now in
     let pat = template_of c.args.pattern.now in
     let f = trees c.args.argument in
-    let same = ap (λ l. failing_first h (ops_of l) c.iter.result c.args.around) c.deref.ensures.value ∙ ap (λ t. failing_first h pat t c.args.around) c.iter.ensures in
-    let fails : failing_first h pat f c.args.around ≡ Some (error_of c.in-Some.error) = sym (c.in_ok-error.ensures ∙ same) ∙ ap errors_of c.in-Some.is in
-    otherwise_reports h pat f c.args.around (g.met.G.FragmentGrammar.lawful c.args.grammar.now) c.requires.checked c.requires.otherwise (error_of c.in-Some.error) fails
+    let same = ap (λ l. failing_first h (ops_of l) c.iter.result c.args.around) c.deref.ensures.value
+    ∙ ap (λ t. failing_first h pat t c.args.around) c.iter.ensures in
+    let fails : failing_first h pat f c.args.around ≡ Some (error_of c.in-Some.error) =
+    sym (c.in_ok-error.ensures ∙ same) ∙ ap errors_of c.in-Some.is in
+    otherwise_reports h pat f c.args.around (g.met.G.FragmentGrammar.lawful c.args.grammar.now) c.requires.checked
+    c.requires.otherwise (error_of c.in-Some.error) fails
 
 pub returns-in-None : goal.returns-in-None
 returns-in-None g c =
     let h = g.G.FragmentGrammar.grammar c.args.grammar.now in
     let pat = template_of c.args.pattern.now in
     let f = trees c.args.argument in
-    let same = ap (λ l. failing_first h (ops_of l) c.iter.result c.args.around) c.deref.ensures.value ∙ ap (λ t. failing_first h pat t c.args.around) c.iter.ensures in
-    let fits : failing_first h pat f c.args.around ≡ None = sym (c.in_ok-error.ensures ∙ same) ∙ ap errors_of c.in-None.is in
+    let same = ap (λ l. failing_first h (ops_of l) c.iter.result c.args.around) c.deref.ensures.value
+    ∙ ap (λ t. failing_first h pat t c.args.around) c.iter.ensures in
+    let fits : failing_first h pat f c.args.around ≡ None =
+    sym (c.in_ok-error.ensures ∙ same) ∙ ap errors_of c.in-None.is in
     absurd (otherwise_fails h pat f c.args.around c.requires.otherwise fits)

@@ -7,9 +7,11 @@ use Rattle.mbe_matcher.proofs.start.failing_first.Goals as goal
 
 pub returns-in-empty : goal.returns-in-empty
 returns-in-empty g c =
-    ap (λ os. failing_first (g.G.FragmentGrammar.grammar c.args.grammar.now) os c.args.here.now c.args.around) (sym (no_op c.args.ops.now (omega (arith, c.in-empty.len_below))))
+    ap (λ os. failing_first (g.G.FragmentGrammar.grammar c.args.grammar.now) os c.args.here.now c.args.around)
+    (sym (no_op c.args.ops.now (omega (arith, c.in-empty.len_below))))
 
 pub returns-in-len1-up : goal.returns-in-len1-up
 returns-in-len1-up g c =
-    subst (λ os. IfOk c.failing.result (λ e. errors_of e ≡ failing_first (g.G.FragmentGrammar.grammar c.args.grammar.now) os c.args.here.now c.args.around))
+    subst (λ os. IfOk c.failing.result (λ e. errors_of e
+    ≡ failing_first (g.G.FragmentGrammar.grammar c.args.grammar.now) os c.args.here.now c.args.around))
     (sym (first_op c.args.ops.now c.op-item.result c.in-len1-up.len_at_least c.op-item.is)) c.failing.ensures

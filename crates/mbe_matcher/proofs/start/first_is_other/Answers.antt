@@ -4,8 +4,10 @@ use Rattle.mbe_matcher.proofs.StepLemmas.{first_op, no_op}
 use Rattle.mbe_matcher.proofs.start.first_is_other.Goals as goal
 
 pub returns-in-empty : goal.returns-in-empty
-returns-in-empty g c = ap (λ os. begins_otherwise os c.args.here.now) (sym (no_op c.args.ops.now (omega (arith, c.in-empty.len_below))))
+returns-in-empty g c = ap (λ os. begins_otherwise os c.args.here.now)
+    (sym (no_op c.args.ops.now (omega (arith, c.in-empty.len_below))))
 
 pub returns-in-len1-up : goal.returns-in-len1-up
 returns-in-len1-up g c =
-    c.is_other.ensures ∙ ap (λ os. begins_otherwise os c.args.here.now) (sym (first_op c.args.ops.now c.op-item.result c.in-len1-up.len_at_least c.op-item.is))
+    c.is_other.ensures ∙ ap (λ os. begins_otherwise os c.args.here.now)
+    (sym (first_op c.args.ops.now c.op-item.result c.in-len1-up.len_at_least c.op-item.is))

@@ -16,14 +16,18 @@ returns-then-begins_unlike-clause-verdict g c =
     let law = g.met.G.FragmentGrammar.lawful c.args.grammar.now in
     let pat = template_of c.args.pattern.now in
     let f = trees c.args.argument in
-    let unlike = subst (BeginsUnlike h pat) c.iter.ensures (subst (λ l. BeginsUnlike h (ops_of l) c.iter.result) c.deref.ensures.value (c.begins_unlike.ensures c.if-begins_unlike.true h)) in
+    let unlike = subst (BeginsUnlike h pat) c.iter.ensures
+    (subst (λ l. BeginsUnlike h (ops_of l) c.iter.result) c.deref.ensures.value
+    (c.begins_unlike.ensures c.if-begins_unlike.true h)) in
     IfOk-weaker c.stuck_at_start.result (λ r. verdict_in r.stop ≡ stuck 0) (λ r. IsVerdict h pat f (verdict_in r.stop))
-    (λ r e. subst (IsVerdict h pat f) (sym e) (begins_stuck h pat f law c.requires unlike)) c.stuck_at_start.ensures.stop
+    (λ r e. subst (IsVerdict h pat f) (sym e) (begins_stuck h pat f law c.requires unlike))
+    c.stuck_at_start.ensures.stop
 
 pub returns-then-begins_unlike-clause-unmatched : goal.returns-then-begins_unlike-clause-unmatched
 returns-then-begins_unlike-clause-unmatched g c =
     let f = trees c.args.argument in
-    both_ok c.stuck_at_start.result (λ r. verdict_in r.stop ≡ stuck 0) (λ r. r.unmatched ≡ unmatched f (stuck 0)) (λ r. r.unmatched ≡ unmatched f (verdict_in r.stop))
+    both_ok c.stuck_at_start.result (λ r. verdict_in r.stop ≡ stuck 0) (λ r. r.unmatched ≡ unmatched f (stuck 0))
+    (λ r. r.unmatched ≡ unmatched f (verdict_in r.stop))
     (λ r e u. u ∙ ap (unmatched f) (sym e)) c.stuck_at_start.ensures.stop c.stuck_at_start.ensures.unmatched
 
 pub returns-then-begins_unlike-clause-binds : goal.returns-then-begins_unlike-clause-binds
@@ -38,5 +42,7 @@ returns-then-begins_unlike-clause-notes g c =
     let h = g.G.FragmentGrammar.grammar c.args.grammar.now in
     let law = g.met.G.FragmentGrammar.lawful c.args.grammar.now in
     let pat = template_of c.args.pattern.now in
-    let unlike = subst (BeginsUnlike h pat) c.iter.ensures (subst (λ l. BeginsUnlike h (ops_of l) c.iter.result) c.deref.ensures.value (c.begins_unlike.ensures c.if-begins_unlike.true h)) in
+    let unlike = subst (BeginsUnlike h pat) c.iter.ensures
+    (subst (λ l. BeginsUnlike h (ops_of l) c.iter.result) c.deref.ensures.value
+    (c.begins_unlike.ensures c.if-begins_unlike.true h)) in
     c.stuck_at_start.ensures.notes h law unlike

@@ -16,10 +16,15 @@ returns-clause-notes g c = λ h law unlike clean.
     let o = outline pat no_account [] in
     let s = c.new-source.result in
     let r = c.after_place.new.self in
-    let looked = c.looked_at.ensures log o [] no_notes (ap ops_of c.deref.ensures.value) (no_account, c.in_ok-handle.ensures.account, refl) (c.new-report.ensures log (trees s.whole)) in
-    let noted = c.after_place.ensures log (trees s.whole) (option_to_list (misfit_unless false s.place o)) [] no_notes tt looked in (
+    let looked = c.looked_at.ensures log o [] no_notes (ap ops_of c.deref.ensures.value)
+    (no_account, c.in_ok-handle.ensures.account, refl) (c.new-report.ensures log (trees s.whole)) in
+    let noted = c.after_place.ensures log (trees s.whole) (option_to_list (misfit_unless false s.place o)) [] no_notes
+    tt looked in (
       noted_with (option_to_list (misfit_unless false 0 o)) [] no_notes,
       begins_notes h pat f law c.requires unlike,
-      subst (λ q. IsReportOf log f r [] (noted_with (option_to_list (misfit_unless false q o)) [] no_notes)) c.new-source.ensures.place
-          (subst (λ v. IsReportOf log (trees v) r [] (noted_with (option_to_list (misfit_unless false s.place o)) [] no_notes)) c.new-source.ensures.whole noted),
+      subst (λ q. IsReportOf log f r [] (noted_with (option_to_list (misfit_unless false q o)) [] no_notes))
+          c.new-source.ensures.place
+          (subst (λ v. IsReportOf log (trees v) r []
+          (noted_with (option_to_list (misfit_unless false s.place o)) [] no_notes)) c.new-source.ensures.whole
+          noted),
     )

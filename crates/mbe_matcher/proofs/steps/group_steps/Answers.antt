@@ -14,10 +14,12 @@ returns-then-not-opens g c = λ h log o s.
     let us = c.args.outers.now.items in
     let e = rw c.here.ensures at c.opens.ensures in
     rw c.no_steps.ensures
-    (as_outline log us (λ x. AreSteps (input_of h (trees src.whole)) (trees src.whole) src.place log log us us x none_steps)
+    (as_outline log us (λ x. AreSteps (input_of h (trees src.whole)) (trees src.whole) src.place log log us us x
+    none_steps)
     c.args.position _ o s c.requires.dot
     (λ a up t. record {
-      now = group_none (trees src.whole) src.place log us (input_of h (trees src.whole)) c.args.delimiter (ops_of c.args.body.now) (ops_of c.args.rest.now) a up (sym e ∙ c.if-not-opens.true);
+      now = group_none (trees src.whole) src.place log us (input_of h (trees src.whole)) c.args.delimiter
+          (ops_of c.args.body.now) (ops_of c.args.rest.now) a up (sym e ∙ c.if-not-opens.true);
       kept = keeps_not log us;
     }))
 
@@ -28,13 +30,21 @@ returns g c = λ h log o s.
     let vs = c.push.new.self.items in
     let b = c.args.position in
     let n : c.len.result ≡ length us = omega (arith, c.len.ensures, c.args.outers.now.ok.0) in
-    let p : Position g.row.A.Denot = record { dot = c.args.body; number = b.number - 1; up = Some c.len.result; handle = b.handle } in
+    let p : Position g.row.A.Denot = record {
+      dot = c.args.body;
+      number = b.number - 1;
+      up = Some c.len.result;
+      handle = b.handle;
+    } in
     let e = rw c.here.ensures at c.opens.ensures in
     rw c.over.ensures
-    (as_outline log us (λ x. AreSteps (input_of h (trees src.whole)) (trees src.whole) src.place log log us vs x (over_steps 1 None p))
+    (as_outline log us (λ x. AreSteps (input_of h (trees src.whole)) (trees src.whole) src.place log log us vs x
+    (over_steps 1 None p))
     b _ o s c.requires.dot
     (λ a up t. record {
-      now = group_over (trees src.whole) src.place log vs (input_of h (trees src.whole)) c.args.delimiter (ops_of c.args.body.now) (ops_of c.args.rest.now) a up p (sym e ∙ c.if-not-opens.false)
-          (group_entered us vs c.len.result n log b c.args.delimiter (ops_of c.args.rest.now) a up c.args.body c.args.rest refl t c.in_ok-push.ensures.items);
+      now = group_over (trees src.whole) src.place log vs (input_of h (trees src.whole)) c.args.delimiter
+          (ops_of c.args.body.now) (ops_of c.args.rest.now) a up p (sym e ∙ c.if-not-opens.false)
+          (group_entered us vs c.len.result n log b c.args.delimiter (ops_of c.args.rest.now) a up c.args.body
+          c.args.rest refl t c.in_ok-push.ensures.items);
       kept = keeps_more log us vs _ c.in_ok-push.ensures.items;
     }))

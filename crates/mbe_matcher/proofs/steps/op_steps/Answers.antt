@@ -8,7 +8,8 @@ use Rattle.mbe_matcher.proofs.StepLemmas.{has_entries, has_number, has_more, sep
 use Rattle.mbe_matcher.proofs.steps.op_steps.Goals as goal
 
 pub variable_steps-requires-clause-entries : goal.variable_steps-requires-clause-entries
-variable_steps-requires-clause-entries g c = has_entries c.args.log.now c.args.outers.now.items c.args.position c.requires.stands
+variable_steps-requires-clause-entries g c =
+    has_entries c.args.log.now c.args.outers.now.items c.args.position c.requires.stands
 
 pub variable_steps-requires-clause-dot : goal.variable_steps-requires-clause-dot
 variable_steps-requires-clause-dot g c = (
@@ -18,47 +19,59 @@ variable_steps-requires-clause-dot g c = (
 )
 
 pub variable_steps-requires-clause-number : goal.variable_steps-requires-clause-number
-variable_steps-requires-clause-number g c = has_number c.args.log.now c.args.outers.now.items c.args.position c.requires.stands
+variable_steps-requires-clause-number g c =
+    has_number c.args.log.now c.args.outers.now.items c.args.position c.requires.stands
 
 pub group_steps-requires-clause-dot : goal.group_steps-requires-clause-dot
 group_steps-requires-clause-dot g c =
     c.requires.dot ∙ ap (λ x. op x (ops_of c.args.rest.now))
-    (ap op_of c.in-Subtree.is ∙ view-subtree _ c.in-Subtree.delimiter ∙ ap (λ xs. group c.in-Subtree.delimiter (ops_of xs)) (sym c.deref.ensures.value))
+    (ap op_of c.in-Subtree.is ∙ view-subtree _ c.in-Subtree.delimiter
+    ∙ ap (λ xs. group c.in-Subtree.delimiter (ops_of xs)) (sym c.deref.ensures.value))
 
 pub group_steps-requires-clause-number : goal.group_steps-requires-clause-number
-group_steps-requires-clause-number g c = has_number c.args.log.now c.args.outers.now.items c.args.position c.requires.stands
+group_steps-requires-clause-number g c =
+    has_number c.args.log.now c.args.outers.now.items c.args.position c.requires.stands
 
 pub repetition_steps-requires-clause-entries : goal.repetition_steps-requires-clause-entries
-repetition_steps-requires-clause-entries g c = has_entries c.args.log.now c.args.outers.now.items c.args.position c.requires.stands
+repetition_steps-requires-clause-entries g c =
+    has_entries c.args.log.now c.args.outers.now.items c.args.position c.requires.stands
 
 pub repetition_steps-requires-clause-dot : goal.repetition_steps-requires-clause-dot
 repetition_steps-requires-clause-dot g c =
     c.requires.dot ∙ ap (λ x. op x (ops_of c.args.rest.now))
     (ap op_of c.in-Repeat.is ∙ view-repeat _ _ _
-    ∙ ap (λ x. repetition (ops_of c.in-Repeat.tokens.0.items) x c.in-Repeat.kind) (sym (separator_same c.as_ref-separator.result c.in-Repeat.separator c.as_ref-separator.ensures.value))
-    ∙ ap (λ xs. repetition (ops_of xs) (option_map (λ t. separator_seen t.now) c.as_ref-separator.result) c.in-Repeat.kind) (sym c.deref-in-Repeat.ensures.value))
+    ∙ ap (λ x. repetition (ops_of c.in-Repeat.tokens.0.items) x c.in-Repeat.kind)
+    (sym (separator_same c.as_ref-separator.result c.in-Repeat.separator c.as_ref-separator.ensures.value))
+    ∙ ap (λ xs. repetition (ops_of xs) (option_map (λ t. separator_seen t.now) c.as_ref-separator.result)
+    c.in-Repeat.kind) (sym c.deref-in-Repeat.ensures.value))
 
 pub repetition_steps-requires-clause-number : goal.repetition_steps-requires-clause-number
 repetition_steps-requires-clause-number g c =
-    has_more c.args.log.now c.args.outers.now.items c.args.position (ops_of c.deref-in-Repeat.result.now) (ops_of c.args.rest.now)
+    has_more c.args.log.now c.args.outers.now.items c.args.position (ops_of c.deref-in-Repeat.result.now)
+    (ops_of c.args.rest.now)
     (option_map (λ t. separator_seen t.now) c.as_ref-separator.result) c.in-Repeat.kind c.requires.stands
     (c.requires.dot ∙ ap (λ x. op x (ops_of c.args.rest.now))
     (ap op_of c.in-Repeat.is ∙ view-repeat _ _ _
-    ∙ ap (λ x. repetition (ops_of c.in-Repeat.tokens.0.items) x c.in-Repeat.kind) (sym (separator_same c.as_ref-separator.result c.in-Repeat.separator c.as_ref-separator.ensures.value))
-    ∙ ap (λ xs. repetition (ops_of xs) (option_map (λ t. separator_seen t.now) c.as_ref-separator.result) c.in-Repeat.kind) (sym c.deref-in-Repeat.ensures.value)))
+    ∙ ap (λ x. repetition (ops_of c.in-Repeat.tokens.0.items) x c.in-Repeat.kind)
+    (sym (separator_same c.as_ref-separator.result c.in-Repeat.separator c.as_ref-separator.ensures.value))
+    ∙ ap (λ xs. repetition (ops_of xs) (option_map (λ t. separator_seen t.now) c.as_ref-separator.result)
+    c.in-Repeat.kind) (sym c.deref-in-Repeat.ensures.value)))
 
 pub returns-in-Subtree : goal.returns-in-Subtree
-returns-in-Subtree g c = λ o s. c.group_steps.ensures (g.G.FragmentGrammar.grammar c.args.grammar.now) c.args.log.now o s
+returns-in-Subtree g c = λ o s. c.group_steps.ensures (g.G.FragmentGrammar.grammar c.args.grammar.now) c.args.log.now o
+    s
 
 pub returns-in-Ignore : goal.returns-in-Ignore
 returns-in-Ignore g c = λ o s. record {
-  now = c.plain_steps.ensures (g.G.FragmentGrammar.grammar c.args.grammar.now) c.args.log.now c.args.outers.now.items o s;
+  now = c.plain_steps.ensures (g.G.FragmentGrammar.grammar c.args.grammar.now) c.args.log.now c.args.outers.now.items o
+      s;
   kept = keeps_not c.args.log.now c.args.outers.now.items;
 }
 
 pub returns-in-Literal : goal.returns-in-Literal
 returns-in-Literal g c = λ o s. record {
-  now = c.plain_steps-in-Literal.ensures (g.G.FragmentGrammar.grammar c.args.grammar.now) c.args.log.now c.args.outers.now.items o s;
+  now = c.plain_steps-in-Literal.ensures (g.G.FragmentGrammar.grammar c.args.grammar.now) c.args.log.now
+      c.args.outers.now.items o s;
   kept = keeps_not c.args.log.now c.args.outers.now.items;
 }
 
@@ -73,7 +86,8 @@ plain_steps-requires-clause-plain g c =
     ]
 
 pub plain_steps-requires-clause-number : goal.plain_steps-requires-clause-number
-plain_steps-requires-clause-number g c = has_number c.args.log.now c.args.outers.now.items c.args.position c.requires.stands
+plain_steps-requires-clause-number g c =
+    has_number c.args.log.now c.args.outers.now.items c.args.position c.requires.stands
 
 pub plain_steps-requires-in-Literal-clause-plain : goal.plain_steps-requires-in-Literal-clause-plain
 plain_steps-requires-in-Literal-clause-plain g c =
@@ -84,4 +98,5 @@ plain_steps-requires-in-Literal-clause-plain g c =
     ]
 
 pub plain_steps-requires-in-Literal-clause-number : goal.plain_steps-requires-in-Literal-clause-number
-plain_steps-requires-in-Literal-clause-number g c = has_number c.args.log.now c.args.outers.now.items c.args.position c.requires.stands
+plain_steps-requires-in-Literal-clause-number g c =
+    has_number c.args.log.now c.args.outers.now.items c.args.position c.requires.stands

@@ -12,18 +12,27 @@ returns-in_default g c = λ h log outers o s.
     let src = c.args.source.now in
     let e = rw c.here.ensures at c.in_default.ensures in
     rw c.no_steps.ensures
-    (as_outline log outers (λ x. AreStepsNow (input_of h (trees src.whole)) (trees src.whole) src.place log outers x none_steps)
+    (as_outline log outers (λ x. AreStepsNow (input_of h (trees src.whole)) (trees src.whole) src.place log outers x
+    none_steps)
     c.args.position _ o s c.requires.dot
-    (λ a up t. plain_none (trees src.whole) src.place log outers h (op_of c.args.op.now) (ops_of c.args.rest.now) a up c.requires.plain e))
+    (λ a up t. plain_none (trees src.whole) src.place log outers h (op_of c.args.op.now) (ops_of c.args.rest.now) a up
+    c.requires.plain e))
 
 pub returns : goal.returns
 returns g c = λ h log outers o s.
     let src = c.args.source.now in
     let b = c.args.position in
-    let p : Position g.row.A.Denot = record { dot = c.args.rest; number = b.number - 1; up = b.up; handle = b.handle } in
+    let p : Position g.row.A.Denot = record {
+      dot = c.args.rest;
+      number = b.number - 1;
+      up = b.up;
+      handle = b.handle;
+    } in
     let e = rw c.here.ensures at c.in-Some.ensures in
     rw c.over.ensures
-    (as_outline log outers (λ x. AreStepsNow (input_of h (trees src.whole)) (trees src.whole) src.place log outers x (over_steps c.in-Some.width None p))
+    (as_outline log outers (λ x. AreStepsNow (input_of h (trees src.whole)) (trees src.whole) src.place log outers x
+    (over_steps c.in-Some.width None p))
     b _ o s c.requires.dot
-    (λ a up t. plain_over (trees src.whole) src.place log outers h (op_of c.args.op.now) (ops_of c.args.rest.now) a up c.in-Some.width p c.requires.plain e
+    (λ a up t. plain_over (trees src.whole) src.place log outers h (op_of c.args.op.now) (ops_of c.args.rest.now) a up
+    c.in-Some.width p c.requires.plain e
     (plain_past log outers b (op_of c.args.op.now) a up c.args.rest c.requires.plain t)))

@@ -13,7 +13,8 @@ pub push_nested-requires-clause-parent : goal.push_nested-requires-clause-parent
 push_nested-requires-clause-parent g c = rw c.again-outside.ensures c.requires.outside
 
 pub push_nested-requires-clause-child : goal.push_nested-requires-clause-child
-push_nested-requires-clause-child g c = let a = c.requires.account in has_entries c.args.log.now c.args.position.handle a.0 a.1
+push_nested-requires-clause-child g c = let a =
+    c.requires.account in has_entries c.args.log.now c.args.position.handle a.0 a.1
 
 pub returns-in_default : goal.returns-in_default
 returns-in_default g c = λ h outers at o s.
@@ -22,12 +23,19 @@ returns-in_default g c = λ h outers at o s.
     let old = c.args.log.now in
     let mid = c.push_nested.new.self in
     let u = c.args.outer.now in
-    let p : Position g.row.A.Denot = record { dot = u.rest; number = b.number - 1; up = u.up; handle = c.push_nested.new.parent } in
+    let p : Position g.row.A.Denot = record {
+      dot = u.rest;
+      number = b.number - 1;
+      up = u.up;
+      handle = c.push_nested.new.parent;
+    } in
     let d : Steps g.row.A.Denot = record { first = None; second = Some p; next = None; done = None } in
     rw c.idle.ensures
-    (as_outline old outers (λ x. AreSteps (input_of h (trees src.whole)) (trees src.whole) src.place old mid outers outers x d)
+    (as_outline old outers (λ x. AreSteps (input_of h (trees src.whole)) (trees src.whole) src.place old mid outers
+    outers x d)
     b no_ops o s c.requires.dot
-    (λ a up t. round_done h (trees src.whole) src.place old mid outers b a up u c.args.rounds.now c.push_nested.new.parent t
+    (λ a up t. round_done h (trees src.whole) src.place old mid outers b a up u c.args.rounds.now
+    c.push_nested.new.parent t
     (in_rounds old outers b.up up at.0 u c.args.rounds.now t.around at.1 at.2 at.3)
     (rw c.again-outside.ensures at (c.in_ok-push_nested.ensures.ok a t.account))
     (rw c.here.ensures at c.in_default.ensures)))
@@ -35,7 +43,8 @@ returns-in_default g c = λ h outers at o s.
 pub push_default-requires : goal.push_default-requires
 push_default-requires g c =
     let a = c.requires.account in
-    has_entries c.push_nested.new.self c.args.position.handle a.0 ((c.in_ok-push_nested.ensures.ok a.0 a.1).kept.others c.args.position.handle a.0 a.1)
+    has_entries c.push_nested.new.self c.args.position.handle a.0
+    ((c.in_ok-push_nested.ensures.ok a.0 a.1).kept.others c.args.position.handle a.0 a.1)
 
 pub returns : goal.returns
 returns g c = λ h outers at o s.
@@ -46,14 +55,31 @@ returns g c = λ h outers at o s.
     let new = c.push_default.new.self in
     let u = c.args.outer.now in
     let r = c.args.rounds.now in
-    let p : Position g.row.A.Denot = record { dot = u.rest; number = b.number - 1; up = u.up; handle = c.push_nested.new.parent } in
-    let q : Position g.row.A.Denot = record { dot = r.body; number = r.front; up = b.up; handle = c.push_default.new.handle } in
+    let p : Position g.row.A.Denot = record {
+      dot = u.rest;
+      number = b.number - 1;
+      up = u.up;
+      handle = c.push_nested.new.parent;
+    } in
+    let q : Position g.row.A.Denot = record {
+      dot = r.body;
+      number = r.front;
+      up = b.up;
+      handle = c.push_default.new.handle;
+    } in
     let n = c.in-Some.width in
-    let d : Steps g.row.A.Denot = record { first = (over_steps n None q).first; second = Some p; next = (over_steps n None q).next; done = (over_steps n None q).done } in
+    let d : Steps g.row.A.Denot = record {
+      first = (over_steps n None q).first;
+      second = Some p;
+      next = (over_steps n None q).next;
+      done = (over_steps n None q).done;
+    } in
     rw c.over.ensures
-    (as_outline old outers (λ x. AreSteps (input_of h (trees src.whole)) (trees src.whole) src.place old new outers outers x d)
+    (as_outline old outers (λ x. AreSteps (input_of h (trees src.whole)) (trees src.whole) src.place old new outers
+    outers x d)
     b no_ops o s c.requires.dot
     (λ a up t. round_more h (trees src.whole) src.place old mid outers b a up u r c.push_nested.new.parent t
     (in_rounds old outers b.up up at.0 u r t.around at.1 at.2 at.3)
     (rw c.again-outside.ensures at (c.in_ok-push_nested.ensures.ok a t.account))
-    new c.push_default.new.handle n at.0 (rw c.here.ensures at c.in-Some.ensures) c.in_ok-push_default.ensures.ok at.1 at.2 at.3))
+    new c.push_default.new.handle n at.0 (rw c.here.ensures at c.in-Some.ensures) c.in_ok-push_default.ensures.ok at.1
+    at.2 at.3))

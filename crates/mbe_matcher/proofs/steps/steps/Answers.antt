@@ -6,7 +6,9 @@ pub end_steps-requires-clause-dot : goal.end_steps-requires-clause-dot
 end_steps-requires-clause-dot g c = no_op c.args.position.dot.now (omega (arith, c.in-empty.len_below))
 
 pub op_steps-requires-clause-dot : goal.op_steps-requires-clause-dot
-op_steps-requires-clause-dot g c = first_op c.args.position.dot.now c.op-item.result c.in-len1-up.len_at_least c.op-item.is
+op_steps-requires-clause-dot g c = first_op c.args.position.dot.now c.op-item.result c.in-len1-up.len_at_least
+    c.op-item.is
 
 pub returns-in-empty : goal.returns-in-empty
-returns-in-empty g c = λ o s. (rw c.deref.ensures.value at c.end_steps.ensures) (g.G.FragmentGrammar.grammar c.args.grammar.now) o s
+returns-in-empty g c = λ o s. (rw c.deref.ensures.value at c.end_steps.ensures)
+    (g.G.FragmentGrammar.grammar c.args.grammar.now) o s

@@ -17,10 +17,12 @@ returns-in_default g c = λ outers o s.
     let h = g.G.FragmentGrammar.grammar c.args.grammar.now in
     let taken = rw (c.in_default.is, c.here-beyond.ensures) at c.in_ok-tree.ensures in
     rw c.no_steps.ensures
-    (as_outline c.args.log.now outers (λ x. AreSteps (input_of h (trees src.whole)) (trees src.whole) src.place c.args.log.now c.args.log.now outers outers x none_steps)
+    (as_outline c.args.log.now outers (λ x. AreSteps (input_of h (trees src.whole)) (trees src.whole) src.place
+    c.args.log.now c.args.log.now outers outers x none_steps)
     c.args.position _ o s c.requires.dot.1
     (λ a up t. record {
-      now = variable_none (trees src.whole) src.place c.args.log.now outers (input_of h (trees src.whole)) c.args.name.now c.args.kind c.requires.dot.0 (ops_of c.args.rest.now) a up
+      now = variable_none (trees src.whole) src.place c.args.log.now outers (input_of h (trees src.whole))
+          c.args.name.now c.args.kind c.requires.dot.0 (ops_of c.args.rest.now) a up
           (not_taken g.row.A.Denot _ _ c.args.kind taken);
       kept = keeps_not c.args.log.now outers;
     }))
@@ -35,16 +37,25 @@ returns g c = λ outers o s.
     let new = c.push_fragment.new.self in
     let left = c.eat_fragment.new.src in
     let x : Fragment = record { trees = trees tree; style = style_of c.args.kind } in
-    let p : Position g.row.A.Denot = record { dot = c.args.rest; number = b.number - 1; up = b.up; handle = c.push_fragment.new.handle } in
-    let taken = taken_is tree _ left (rest_at (trees src.whole) src.place) c.args.kind (takes_cut h c.args.kind (rest_at (trees src.whole) src.place))
+    let p : Position g.row.A.Denot = record {
+      dot = c.args.rest;
+      number = b.number - 1;
+      up = b.up;
+      handle = c.push_fragment.new.handle;
+    } in
+    let taken = taken_is tree _ left (rest_at (trees src.whole) src.place) c.args.kind
+    (takes_cut h c.args.kind (rest_at (trees src.whole) src.place))
     (rw (c.in-Some.is, c.here-beyond.ensures) at c.in_ok-tree.ensures) in
     let pushed = rw c.of_kind.ensures at c.in_ok-push_fragment.ensures.ok in
     rw c.over.ensures
-    (as_outline old outers (λ y. AreSteps (input_of h (trees src.whole)) (trees src.whole) src.place old new outers outers y (over_steps c.flat_len.result (Some left) p))
+    (as_outline old outers (λ y. AreSteps (input_of h (trees src.whole)) (trees src.whole) src.place old new outers
+    outers y (over_steps c.flat_len.result (Some left) p))
     b _ o s c.requires.dot.1
     (λ a up t. record {
-      now = rw c.flat_len.ensures (variable_over (trees src.whole) src.place new outers (input_of h (trees src.whole)) c.args.name.now c.args.kind c.requires.dot.0 (ops_of c.args.rest.now) a up x _ left p
+      now = rw c.flat_len.ensures (variable_over (trees src.whole) src.place new outers (input_of h (trees src.whole))
+          c.args.name.now c.args.kind c.requires.dot.0 (ops_of c.args.rest.now) a up x _ left p
           taken.is refl taken.beyond
-          (variable_past old new outers b c.args.name.now c.args.kind c.requires.dot.0 a up x c.args.rest c.push_fragment.new.handle pushed t));
+          (variable_past old new outers b c.args.name.now c.args.kind c.requires.dot.0 a up x c.args.rest
+          c.push_fragment.new.handle pushed t));
       kept = kept_only old new outers pushed.kept;
     }))

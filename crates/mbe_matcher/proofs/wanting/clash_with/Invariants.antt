@@ -4,4 +4,5 @@ use Rattle.mbe_matcher.proofs.wanting.clash_with.Given as goal
 
 abbrev pub invariant-loop-other : goal.invariant-loop-other
 invariant-loop-other g l =
-    clash_with l.step (option_map wanted_seen l.next) (map way_seen l.others) ≡ clash_with l.step (option_map wanted_seen l.next) (map way_seen (drop l.other-index l.others))
+    clash_with l.step (option_map wanted_seen l.next) (map way_seen l.others)
+    ≡ clash_with l.step (option_map wanted_seen l.next) (map way_seen (drop l.other-index l.others))

@@ -16,7 +16,10 @@ returns-in-Some-rounds g c = λ log o s.
     let within = has_within c.requires.stands.0 outers p c.in-Some.open c.requires.stands.1 c.in-Some.is in
     let at : slice_get outers c.in-Some.open ≡ Some c.index-outers-open.result =
     slice_get-get_or outers c.in-Some.open c.index-outers-open.result within ∙ ap Some (sym c.index-outers-open.is) in
-    as_outline log outers (λ x. option_map wanted_seen c.round_next.result ≡ outline_wants x) p no_ops o s c.requires.dot
+    as_outline log outers (λ x. option_map wanted_seen c.round_next.result ≡ outline_wants x) p no_ops o s
+    c.requires.dot
     (λ a up t.
-    let w = in_rounds log outers p.up up c.in-Some.open c.index-outers-open.result r t.around c.in-Some.is at c.in-Some-rounds.is in
-    c.round_next.ensures ∙ subst (λ es. before_round r.kind (option_map (λ x. separator_seen x.now) r.separator) ≡ outline_wants (outline no_ops a es)) (sym w.is) refl)
+    let w = in_rounds log outers p.up up c.in-Some.open c.index-outers-open.result r t.around c.in-Some.is at
+    c.in-Some-rounds.is in
+    c.round_next.ensures ∙ subst (λ es. before_round r.kind (option_map (λ x. separator_seen x.now) r.separator)
+    ≡ outline_wants (outline no_ops a es)) (sym w.is) refl)

@@ -21,7 +21,8 @@ loop-position-init g c =
       walked = (
         [],
         c.in_ok-counts.ensures.blank s.place (omega arith),
-        λ st. looking_start i s.place c.args.number c.args.log.now c.args.outers.now.items c.args.todo.now.items c.new-ways.result.items st c.new-ways.ensures.items,
+        λ st. looking_start i s.place c.args.number c.args.log.now c.args.outers.now.items c.args.todo.now.items
+            c.new-ways.result.items st c.new-ways.ensures.items,
       );
     }
 
@@ -31,20 +32,23 @@ next_after-next-requires g c =
     let w = c.loop-position.invariant.walked.2 c.requires in (
       c.loop-position.log,
       subst (λ os. IsPosition c.loop-position.log os c.in-Some.position) (sym c.deref.ensures.value)
-          (looking_shown _ _ (trees s.whole) _ _ _ _ _ c.pop.new.self.items _ c.in-Some.position _ c.in-Some.ensures.items w),
+          (looking_shown _ _ (trees s.whole) _ _ _ _ _ c.pop.new.self.items _ c.in-Some.position _
+          c.in-Some.ensures.items w),
     )
 
 pub takes-requires-clause-some : goal.takes-requires-clause-some
 takes-requires-clause-some g c =
     let s = c.args.source.now in
     let w = c.loop-position.invariant.walked.2 c.requires in
-    (looking_number _ _ (trees s.whole) _ _ _ _ _ c.pop.new.self.items _ c.in-Some.position _ c.in-Some.ensures.items w).0
+    (looking_number _ _ (trees s.whole) _ _ _ _ _ c.pop.new.self.items _ c.in-Some.position _ c.in-Some.ensures.items
+    w).0
 
 pub takes-requires-clause-within : goal.takes-requires-clause-within
 takes-requires-clause-within g c =
     let s = c.args.source.now in
     let w = c.loop-position.invariant.walked.2 c.requires in
-    let n = (looking_number _ _ (trees s.whole) _ _ _ _ _ c.pop.new.self.items _ c.in-Some.position _ c.in-Some.ensures.items w).1 in
+    let n = (looking_number _ _ (trees s.whole) _ _ _ _ _ c.pop.new.self.items _ c.in-Some.position _
+    c.in-Some.ensures.items w).1 in
     let size = c.loop-position.invariant.size in
     let all = c.requires.size_is in
     omega (arith, n, size, all)
@@ -58,7 +62,8 @@ steps-requires g c =
 pub loop-position-smaller-then-not-takes : goal.loop-position-smaller-then-not-takes
 loop-position-smaller-then-not-takes g c =
     let s = c.args.source.now in
-    let same : c.takes.new.self.marks.items ≡ c.loop-position.counts.marks.items = ap (λ (x : Counts g.row.A.Denot). x.marks.items) (c.takes.ensures.stays c.if-not-takes.true) in
+    let same : c.takes.new.self.marks.items ≡ c.loop-position.counts.marks.items =
+    ap (λ (x : Counts g.row.A.Denot). x.marks.items) (c.takes.ensures.stays c.if-not-takes.true) in
     let still = ap (vacancies s.place) same in
     let popped : length c.loop-position.todo.items ≡ length c.pop.new.self.items + 1 =
     ap length c.in-Some.ensures.items ∙ length-append c.pop.new.self.items (c.in-Some.position ∷ []) in
@@ -74,8 +79,10 @@ loop-position-preserved-then-not-takes g c =
       size = c.takes.ensures.size ∙ inv.size;
       walked = (
         inv.walked.0,
-        subst (λ b. AreCounted c.takes.new.self.marks.items s.place (cons_if b c.in-Some.position.number inv.walked.0)) c.if-not-takes.true counted.1,
-        λ st. looking_drop _ _ (trees s.whole) _ _ _ _ _ c.pop.new.self.items _ c.in-Some.position _ c.in-Some.ensures.items (inv.walked.2 st) (sym counted.0 ∙ c.if-not-takes.true),
+        subst (λ b. AreCounted c.takes.new.self.marks.items s.place (cons_if b c.in-Some.position.number inv.walked.0))
+            c.if-not-takes.true counted.1,
+        λ st. looking_drop _ _ (trees s.whole) _ _ _ _ _ c.pop.new.self.items _ c.in-Some.position _
+            c.in-Some.ensures.items (inv.walked.2 st) (sym counted.0 ∙ c.if-not-takes.true),
       );
     }
 
@@ -84,8 +91,10 @@ loop-position-smaller g c =
     let s = c.args.source.now in
     let f = c.in_ok-found.found in
     let pushed = c.in_ok-push_some-2.ensures ∙ ap (λ l. l ++ option_to_list f.first) c.in_ok-push_some.ensures in
-    stack_falls c.pop.new.self.items c.loop-position.todo.items c.push_some-in-Some.new.values.items c.in-Some.position f.first f.second
-    (vacancies s.place c.loop-position.counts.marks.items) (vacancies s.place c.takes.new.self.marks.items) c.in-Some.ensures.items pushed (c.takes.ensures.falls c.if-not-takes.false)
+    stack_falls c.pop.new.self.items c.loop-position.todo.items c.push_some-in-Some.new.values.items c.in-Some.position
+    f.first f.second
+    (vacancies s.place c.loop-position.counts.marks.items) (vacancies s.place c.takes.new.self.marks.items)
+    c.in-Some.ensures.items pushed (c.takes.ensures.falls c.if-not-takes.false)
 
 pub loop-position-preserved : goal.loop-position-preserved
 loop-position-preserved g c =
@@ -95,18 +104,25 @@ loop-position-preserved g c =
     let counted = c.takes.ensures.counted inv.walked.0 inv.walked.1 in
     let taken = c.if-not-takes.false in
     let pushed = c.in_ok-push_some-2.ensures ∙ ap (λ l. l ++ option_to_list f.first) c.in_ok-push_some.ensures in
-    let is = looking_shown _ _ (trees s.whole) _ _ _ _ _ c.pop.new.self.items _ c.in-Some.position _ c.in-Some.ensures.items (inv.walked.2 c.requires) in
+    let is = looking_shown _ _ (trees s.whole) _ _ _ _ _ c.pop.new.self.items _ c.in-Some.position _
+    c.in-Some.ensures.items (inv.walked.2 c.requires) in
     let keeping = (c.in_ok-found.ensures is.0 is.1).kept in
     record {
-      keeps = keeps_on c.args.log.now c.loop-position.log c.steps.new.log c.args.outers.now.items c.loop-position.outers.items c.steps.new.outers.items inv.keeps keeping;
+      keeps = keeps_on c.args.log.now c.loop-position.log c.steps.new.log c.args.outers.now.items
+          c.loop-position.outers.items c.steps.new.outers.items inv.keeps keeping;
       size = c.takes.ensures.size ∙ inv.size;
       walked = (
         c.in-Some.position.number ∷ inv.walked.0,
-        subst (λ b. AreCounted c.takes.new.self.marks.items s.place (cons_if b c.in-Some.position.number inv.walked.0)) taken counted.1,
-        λ st. looking_take _ _ (trees s.whole) _ _ _ _ _ c.pop.new.self.items _ c.in-Some.position _ c.in-Some.ensures.items (inv.walked.2 st)
-            c.steps.new.log c.steps.new.outers.items f c.push_some-in-Some.new.values.items c.push.new.self.items c.next_after-next.result c.step_of.result
-            c.in_ok-found.ensures (λ l o shown. c.next_after-next.ensures l o (subst (λ os. Shows l os c.in-Some.position o) (sym c.deref.ensures.value) shown))
-            (c.step_of.ensures ∙ waits_same _ _ c.as_ref.ensures.value) pushed c.in_ok-push.ensures.items (sym counted.0 ∙ taken),
+        subst (λ b. AreCounted c.takes.new.self.marks.items s.place (cons_if b c.in-Some.position.number inv.walked.0))
+            taken counted.1,
+        λ st. looking_take _ _ (trees s.whole) _ _ _ _ _ c.pop.new.self.items _ c.in-Some.position _
+            c.in-Some.ensures.items (inv.walked.2 st)
+            c.steps.new.log c.steps.new.outers.items f c.push_some-in-Some.new.values.items c.push.new.self.items
+            c.next_after-next.result c.step_of.result
+            c.in_ok-found.ensures (λ l o shown. c.next_after-next.ensures l o
+            (subst (λ os. Shows l os c.in-Some.position o) (sym c.deref.ensures.value) shown))
+            (c.step_of.ensures ∙ waits_same _ _ c.as_ref.ensures.value) pushed c.in_ok-push.ensures.items
+            (sym counted.0 ∙ taken),
       );
     }
 
@@ -114,6 +130,8 @@ pub returns-clause-ways : goal.returns-clause-ways
 returns-clause-ways g c = λ st.
     let todo = c.loop-position.todo in
     let s = c.args.source.now in
-    looking_end _ s.place c.args.number c.args.log.now c.loop-position.log c.args.outers.now.items c.loop-position.outers.items c.args.todo.now.items todo.items _ c.loop-position.ways.items st
-    (popped_all todo.items (λ (l : 0 < length todo.items). c.in_default.ensures.variant.1 (omega (arith, l, todo.ok.0))))
+    looking_end _ s.place c.args.number c.args.log.now c.loop-position.log c.args.outers.now.items
+    c.loop-position.outers.items c.args.todo.now.items todo.items _ c.loop-position.ways.items st
+    (popped_all todo.items (λ (l : 0 < length todo.items). c.in_default.ensures.variant.1
+    (omega (arith, l, todo.ok.0))))
     (c.loop-position.invariant.walked.2 st)

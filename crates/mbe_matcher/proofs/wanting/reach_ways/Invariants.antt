@@ -15,8 +15,10 @@ use Rattle.mbe_matcher.proofs.wanting.reach_ways.Given as goal
 abbrev pub invariant-loop-source : goal.invariant-loop-source
 invariant-loop-source g l = record {
   comes : (spots : List Outline) × Each (Shows l.log l.state.outers.items) l.todo.items spots
-      × ((lawful : Lawful (input_of (g.G.FragmentGrammar.grammar l.grammar) (trees l.source.whole)) (flat_len (trees l.source.whole))) (checked : Checked (template_of l.pattern)) →
-      ComesTo (input_of (g.G.FragmentGrammar.grammar l.grammar) (trees l.source.whole)) (template_of l.pattern) (flat_len (trees l.source.whole)) lawful checked l.source.place spots);
+      × ((lawful : Lawful (input_of (g.G.FragmentGrammar.grammar l.grammar) (trees l.source.whole))
+      (flat_len (trees l.source.whole))) (checked : Checked (template_of l.pattern)) →
+      ComesTo (input_of (g.G.FragmentGrammar.grammar l.grammar) (trees l.source.whole)) (template_of l.pattern)
+      (flat_len (trees l.source.whole)) lawful checked l.source.place spots);
   whole : l.source.whole ≡ l.argument;
   blank : AreBlankFrom l.state.counts.marks.items l.source.place;
   size : length l.state.counts.marks.items ≡ dots (template_of l.pattern);

@@ -10,7 +10,8 @@ use Rattle.mbe_matcher.proofs.wanting.wants_of.Goals as goal
 pub returns-clause-verdict : goal.returns-clause-verdict
 returns-clause-verdict g c =
     let h = g.G.FragmentGrammar.grammar c.args.grammar.now in
-    subst (IsVerdict h (template_of c.args.pattern.now) (trees c.args.argument)) (sym c.verdict_of.ensures) c.in_ok-looked.ensures.verdict
+    subst (IsVerdict h (template_of c.args.pattern.now) (trees c.args.argument)) (sym c.verdict_of.ensures)
+    c.in_ok-looked.ensures.verdict
 
 pub returns-clause-wanted : goal.returns-clause-wanted
 returns-clause-wanted g c =
@@ -20,7 +21,8 @@ returns-clause-wanted g c =
     let v = verdict_in c.in_ok-looked.looked.stop in
     let ways = c.in_ok-looked.looked.ways.items in
     let found = map wanted_seen c.in_ok-next_in.field-0.items in
-    let listed : found ≡ next_in (map way_seen ways) = c.in_ok-next_in.ensures ∙ ap (λ l. next_in (map way_seen l)) c.deref.ensures.value in
+    let listed : found ≡ next_in (map way_seen ways) =
+    c.in_ok-next_in.ensures ∙ ap (λ l. next_in (map way_seen l)) c.deref.ensures.value in
     subst (λ x. AreWanted h pat argument x found) (sym c.verdict_of.ensures)
     (subst (AreWanted h pat argument v) (sym listed) (are_wanted h pat argument v ways c.in_ok-looked.ensures.ways))
 
@@ -32,6 +34,7 @@ returns-clause-clash g c =
     let v = verdict_in c.in_ok-looked.looked.stop in
     let ways = c.in_ok-looked.looked.ways.items in
     let pair = option_map pair_seen c.first_clash.result in
-    let found : pair ≡ first_clash (map way_seen ways) = c.first_clash.ensures ∙ ap (λ l. first_clash (map way_seen l)) c.deref-2.ensures.value in
+    let found : pair ≡ first_clash (map way_seen ways) =
+    c.first_clash.ensures ∙ ap (λ l. first_clash (map way_seen l)) c.deref-2.ensures.value in
     subst (λ x. ClashThere h pat argument x pair) (sym c.verdict_of.ensures)
     (subst (ClashThere h pat argument v) (sym found) (clash_there h pat argument v ways c.in_ok-looked.ensures.ways))

@@ -17,9 +17,13 @@ returns-clause-notes g c = λ i log ms os cs before fails ends is.
     let all = ms ++ only_first (filter_map (misfit i q) os) in
     let noted : IsReportOf log f c.match-last.self.report all before =
     elim c.match-last.branch [
-      | in-Some w ↦ subst (λ r. IsReportOf log f r all before) (sym (ap (λ (p : Pass g.row.A.Denot). p.report) w.self-is))
-          (look_last i q log os w.in-Some.failed f c.args.self.now.report w.looked_at.new.self ms before (subst (λ x. FirstFails i q log x os) w.in-Some.is fails) w.looked_at.ensures is)
-      | in_default w ↦ subst (λ r. IsReportOf log f r all before) (sym (ap (λ (p : Pass g.row.A.Denot). p.report) w.self-is))
-          (look_none i q log os f c.args.self.now.report ms before (subst (λ x. FirstFails i q log x os) w.in_default.is fails) is)
+      | in-Some w ↦ subst (λ r. IsReportOf log f r all before)
+          (sym (ap (λ (p : Pass g.row.A.Denot). p.report) w.self-is))
+          (look_last i q log os w.in-Some.failed f c.args.self.now.report w.looked_at.new.self ms before
+          (subst (λ x. FirstFails i q log x os) w.in-Some.is fails) w.looked_at.ensures is)
+      | in_default w ↦ subst (λ r. IsReportOf log f r all before)
+          (sym (ap (λ (p : Pass g.row.A.Denot). p.report) w.self-is))
+          (look_none i q log os f c.args.self.now.report ms before
+          (subst (λ x. FirstFails i q log x os) w.in_default.is fails) is)
     ] in
     c.after_place.ensures log f all cs before ends noted
