@@ -55,7 +55,8 @@ pub record Buffers : Type 0 where
 abbrev pub has_room : Answer → Buffers → Bool
 has_room a b = nat_le (length a.tokens) (length b.tokens) && nat_le (length a.text) (length b.text)
 
--- An answer is given: each buffer has what there is room for, and the reply the answer's numbers. A message needs no room.
+-- An answer is given: each buffer has what there is room for, and the reply the answer's numbers. A message needs no
+-- room.
 pub record Gives (a : Answer) (before after : Buffers) (reply : Reply) : Type 0 where
   pub tokens : after.tokens ≡ copied a.tokens before.tokens
   pub text : after.text ≡ copied a.text before.text
@@ -70,7 +71,10 @@ pub record GivesMessage (a : Answer) (before after : List ℕ) (reply : Reply) :
 -- Verdicts are given.
 pub record GivesVerdicts (found before after : List FlatVerdict) (reply : Reply) : Type 0 where
   pub verdicts : after ≡ copied found before
-  pub says : reply ≡ record done { status = status_given Done (nat_le (length found) (length before)); tokens = length found }
+  pub says : reply ≡ record done {
+    status = status_given Done (nat_le (length found) (length before));
+    tokens = length found;
+  }
 
 -- ---- the calls
 
@@ -88,16 +92,21 @@ abbrev pub GivesFailure : (Answer → Type 0) → List ℕ → List ℕ → Repl
 GivesFailure Fails before after reply = (a : Answer) × Fails a × GivesMessage a before after reply
 
 -- the verdicts of `explain`, or why there are none
-pub data GivesExplanation (r : Request) (grammar : List ℕ) (definition argument : Source) (before after : List FlatVerdict)
+pub data GivesExplanation (r : Request) (grammar : List ℕ) (definition argument : Source)
+    (before after : List FlatVerdict)
     (old_message new_message : List ℕ) (reply : Reply) : Type 0 where
-  with_verdicts : (found : List FlatVerdict) → ShowsVerdicts r grammar definition argument found → GivesVerdicts found before after reply
-      → new_message ≡ old_message → GivesExplanation r grammar definition argument before after old_message new_message reply
-  without_verdicts : GivesFailure (IsNoAnswer r grammar definition argument) old_message new_message reply → after ≡ before
+  with_verdicts : (found : List FlatVerdict) → ShowsVerdicts r grammar definition argument found
+      → GivesVerdicts found before after reply
+      → new_message ≡ old_message → GivesExplanation r grammar definition argument before after old_message new_message
+      reply
+  without_verdicts : GivesFailure (IsNoAnswer r grammar definition argument) old_message new_message reply
+      → after ≡ before
       → GivesExplanation r grammar definition argument before after old_message new_message reply
 
 -- the number of rules of `define`, or why there are none
 pub data GivesCount (r : Request) (s : Source) (before after : List ℕ) (reply : Reply) : Type 0 where
-  with_rules : (count : ℕ) → Defines r s count → reply ≡ record done { place = count } → after ≡ before → GivesCount r s before after reply
+  with_rules : (count : ℕ) → Defines r s count → reply ≡ record done { place = count } → after ≡ before
+      → GivesCount r s before after reply
   without_rules : GivesFailure (IsUndefined r s) before after reply → GivesCount r s before after reply
 
 -- that a text is a grammar, or why not

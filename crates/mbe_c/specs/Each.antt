@@ -1,4 +1,5 @@
--- Many arguments of one definition: the answers to them, one after another, and what a call leaves of them in memory of its caller.
+-- Many arguments of one definition: the answers to them, one after another, and what a call leaves of them in memory of
+-- its caller.
 use Rattle.std.specs.Prelude.{◌≡◌, ◌⊎◌, ◌+◌, ⊤, ℕ, Bool, ◌&&◌, if◌then◌else◌, nat_le, List, [], ◌∷◌, ◌++◌, map, length, take, drop, Option, Some, None}
 use Rattle.std.specs.List.{flat_map}
 use Rattle.mbe_flat.specs.declared.token.FlatSpan.{FlatSpan}
@@ -28,11 +29,13 @@ argument_of_parts all None tokens = None
 
 -- the argument that a piece is; None where it isn't within them all
 abbrev pub argument_at : Source → Piece → Option Source
-argument_at all p = argument_of_parts all (part_at all.text p.offset p.len) (part_at all.tokens p.token_offset p.token_len)
+argument_at all p = argument_of_parts all (part_at all.text p.offset p.len)
+    (part_at all.tokens p.token_offset p.token_len)
 
 -- ---- answers
 
--- the answer to an argument, in a call at that span; a piece that isn't within the arguments is a number that stands for nothing
+-- the answer to an argument, in a call at that span; a piece that isn't within the arguments is a number that stands
+-- for nothing
 abbrev pub IsAnswerTo : (Source → FlatSpan → Answer → Type 0) → FlatSpan → Option Source → Answer → Type 0
 IsAnswerTo Answers site (Some argument) a = Answers argument site a
 IsAnswerTo Answers site None a = a ≡ empty Number parts.Argument
@@ -96,9 +99,11 @@ IsNoExpansion r grammar definition a = IsUnread r grammar definition a ⊎ IsOut
 
 abbrev pub has_room_for_all : Joined → List Reply → Buffers → Bool
 has_room_for_all j replies b =
-    nat_le (length j.replies) (length replies) && nat_le (length j.tokens) (length b.tokens) && nat_le (length j.text) (length b.text)
+    nat_le (length j.replies) (length replies) && nat_le (length j.tokens) (length b.tokens)
+    && nat_le (length j.text) (length b.text)
 
--- Answers are given: each buffer has them all, if there is room for them, and the reply says how much they are. Messages need no room.
+-- Answers are given: each buffer has them all, if there is room for them, and the reply says how much they are.
+-- Messages need no room.
 pub record GivesAll (j : Joined) (old new : List Reply) (before after : Buffers) (reply : Reply) : Type 0 where
   pub replies : new ≡ copied j.replies old
   pub tokens : after.tokens ≡ copied j.tokens before.tokens
@@ -113,9 +118,11 @@ pub record GivesAll (j : Joined) (old new : List Reply) (before after : Buffers)
   }
 
 -- the answers of `expand` to each argument, in a call at its own span, or why no macro was read
-pub data GivesExpansions (r : Request) (grammar : List ℕ) (definition all : Source) (ps : List Piece) (old new : List Reply)
+pub data GivesExpansions (r : Request) (grammar : List ℕ) (definition all : Source) (ps : List Piece)
+    (old new : List Reply)
     (before after : Buffers) (reply : Reply) : Type 0 where
   with_expansions : (j : Joined) → AreExpansions r grammar definition all ps j → GivesAll j old new before after reply
       → GivesExpansions r grammar definition all ps old new before after reply
-  without_expansions : GivesFailure (IsNoExpansion r grammar definition) before.message after.message reply → new ≡ old → after.tokens ≡ before.tokens → after.text ≡ before.text
+  without_expansions : GivesFailure (IsNoExpansion r grammar definition) before.message after.message reply → new ≡ old
+      → after.tokens ≡ before.tokens → after.text ≡ before.text
       → GivesExpansions r grammar definition all ps old new before after reply

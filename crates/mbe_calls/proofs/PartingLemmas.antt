@@ -53,7 +53,8 @@ begins (suc n) f b h =
     let one : suc n - 1 ≡ n = omega arith in
     record { same = ap (λ k. put (parted_by (parted_in k) f) b) one; groups = refl }
 
-pub leaf_on : (levels : ℕ) (f rest : Forest) (old now next : Levels) (l k : Leaf) → Left levels f old rest now → first rest ≡ Some (Leaf_tree l)
+pub leaf_on : (levels : ℕ) (f rest : Forest) (old now next : Levels) (l k : Leaf) → Left levels f old rest now
+    → first rest ≡ Some (Leaf_tree l)
     → k ≡ parted_leaf l (rest_of rest) → next ≡ put (one_leaf k) now → Left levels f old (rest_of rest) next
 leaf_on levels f rest old now next l k h is parts e =
     let inner = parted_in (levels - 1) in
@@ -64,10 +65,12 @@ leaf_on levels f rest old now next l k h is parts e =
       groups = ap length e ∙ length-put now (one_leaf k) ∙ h.groups;
     }
 
-pub group_on : (levels : ℕ) (f rest inside : Forest) (d : Delimiter) (old now opened mid next : Levels) → Left levels f old rest now
+pub group_on : (levels : ℕ) (f rest inside : Forest) (d : Delimiter) (old now opened mid next : Levels)
+    → Left levels f old rest now
     → first rest ≡ Some (Group_tree d inside)
     → opened ≡ (record { opening = d.opening; close = d.opening; kind = d.kind }, none) ∷ now
-    → mid ≡ put (parted_in (levels - 1) inside) opened → next ≡ closed d.close mid → Left levels f old (rest_of rest) next
+    → mid ≡ put (parted_in (levels - 1) inside) opened → next ≡ closed d.close mid
+    → Left levels f old (rest_of rest) next
 group_on levels f rest inside d old now opened mid next h is o m e =
     let inner = parted_in (levels - 1) in
     let more = parted_by inner (rest_of rest) in
@@ -84,7 +87,8 @@ all_written levels f rest old now h e =
     put-none now ∙ ap (λ g. put (parted_by (parted_in (levels - 1)) g) now) (sym (nothing rest e)) ∙ h.same
 
 -- a group that is opened among some isn't the outermost one
-pub is_inside : (f : Forest) (old now opened mid : Levels) (x : Delimiter × Forest) → 0 < length old → length now ≡ length old → opened ≡ x ∷ now
+pub is_inside : (f : Forest) (old now opened mid : Levels) (x : Delimiter × Forest) → 0 < length old
+    → length now ≡ length old → opened ≡ x ∷ now
     → mid ≡ put f opened → 1 < length mid
 is_inside f old now opened mid x some groups o m =
     let l = ap length m ∙ length-put opened f ∙ ap length o in

@@ -14,14 +14,16 @@ one_more n h = omega (arith, h)
 longer_by : (n : ℕ) (path : Path) (after : Option Forest) → 0 < n → after ≡ after_colons path.rest
     → goes_on (longer (n - 1)) path after ≡ longer n path
 longer_by n path after h e =
-    ap (goes_on (longer (n - 1)) path) e ∙ (sym (longer_suc (n - 1) path) ∙ sym (ap (λ k. longer k path) (one_more n h)))
+    ap (goes_on (longer (n - 1)) path) e ∙ (sym (longer_suc (n - 1) path)
+    ∙ sym (ap (λ k. longer k path) (one_more n h)))
 
 -- nothing goes on with it
 pub stops : (n : ℕ) (path : Path) → 0 < n → None ≡ after_colons path.rest → Some path ≡ longer n path
 stops n path h e = longer_by n path None h e
 
 -- no name follows
-pub breaks : (n : ℕ) (path : Path) (after : Forest) → 0 < n → Some after ≡ after_colons path.rest → None ≡ path_to true after
+pub breaks : (n : ℕ) (path : Path) (after : Forest) → 0 < n → Some after ≡ after_colons path.rest
+    → None ≡ path_to true after
     → None ≡ longer n path
 breaks n path after h e p = ap (option_and_then (longer (n - 1))) p ∙ longer_by n path (Some after) h e
 

@@ -12,13 +12,15 @@ unfolding Adds
 adds_part text done more part at h e parts = rw e (rw h (simp append_assoc))
 
 -- one that isn't
-pub adds_nothing : (text done : List ℕ) (part : Part) (at : ℕ) → is_next text at part ≡ false → Adds text part at done at done
+pub adds_nothing : (text done : List ℕ) (part : Part) (at : ℕ) → is_next text at part ≡ false
+    → Adds text part at done at done
 unfolding Adds
 adds_nothing text done part at h parts = rw h refl
 
 -- all that is to be done, one part on
 pub adds_on : (text done more whole : List ℕ) (part : Part) (at next : ℕ) (parts : List Part)
-    → Adds text part at done next more → done ++ spliced_from text at (part ∷ parts) ≡ whole → more ++ spliced_from text next parts ≡ whole
+    → Adds text part at done next more → done ++ spliced_from text at (part ∷ parts) ≡ whole
+    → more ++ spliced_from text next parts ≡ whole
 unfolding Adds
 adds_on text done more whole part at next parts a h = a parts ∙ h
 
@@ -31,7 +33,8 @@ next_part rs i r h e =
     ∙ ap (λ k. part_of r ∷ map part_of (drop k rs)) (sym (add-one i)))
 
 -- the same, where the replacements are read from memory
-pub adds_next : {A : Type 0} (text done more whole : List ℕ) (rs : List (Replacement A)) (i at next : ℕ) (r : Replacement A)
+pub adds_next : {A : Type 0} (text done more whole : List ℕ) (rs : List (Replacement A)) (i at next : ℕ)
+    (r : Replacement A)
     → i < length rs → r ≡ get_or rs i r → Adds text (part_of r) at done next more
     → done ++ spliced_from text at (map part_of (drop i rs)) ≡ whole
     → more ++ spliced_from text next (map part_of (drop (i + 1) rs)) ≡ whole

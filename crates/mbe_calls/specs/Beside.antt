@@ -11,7 +11,8 @@ use Rattle.mbe_calls.specs.Fronts.{after_char}
 -- the macros of the standard library whose arguments are made of expressions
 abbrev pub standard_macros : List String
 standard_macros =
-    "assert" ∷ "assert_eq" ∷ "assert_ne" ∷ "dbg" ∷ "debug_assert" ∷ "debug_assert_eq" ∷ "debug_assert_ne" ∷ "eprint" ∷ "eprintln"
+    "assert" ∷ "assert_eq" ∷ "assert_ne" ∷ "dbg" ∷ "debug_assert" ∷ "debug_assert_eq" ∷ "debug_assert_ne" ∷ "eprint"
+    ∷ "eprintln"
     ∷ "format" ∷ "format_args" ∷ "matches" ∷ "panic" ∷ "print" ∷ "println" ∷ "thread_local" ∷ "todo" ∷ "unimplemented"
     ∷ "unreachable" ∷ "vec" ∷ "write" ∷ "writeln" ∷ []
 

@@ -55,7 +55,8 @@ path_of f = path_from f (after_colons f)
 
 -- ---- calls
 
--- a call: its path's last name, whether the path has more, the group with its content, what follows, and where it begins
+-- a call: its path's last name, whether the path has more, the group with its content, what follows, and where it
+-- begins
 pub record Call : Type 0 where
   pub name : Ident
   pub is_path : Bool
@@ -67,8 +68,10 @@ pub record Call : Type 0 where
 -- words that stand before a `!` that isn't a call's
 abbrev pub keywords : List String
 keywords =
-    "as" ∷ "async" ∷ "await" ∷ "box" ∷ "break" ∷ "const" ∷ "continue" ∷ "do" ∷ "dyn" ∷ "else" ∷ "enum" ∷ "extern" ∷ "fn" ∷ "for"
-    ∷ "if" ∷ "impl" ∷ "in" ∷ "let" ∷ "loop" ∷ "match" ∷ "mod" ∷ "move" ∷ "mut" ∷ "pub" ∷ "ref" ∷ "return" ∷ "static" ∷ "struct"
+    "as" ∷ "async" ∷ "await" ∷ "box" ∷ "break" ∷ "const" ∷ "continue" ∷ "do" ∷ "dyn" ∷ "else" ∷ "enum" ∷ "extern" ∷ "fn"
+    ∷ "for"
+    ∷ "if" ∷ "impl" ∷ "in" ∷ "let" ∷ "loop" ∷ "match" ∷ "mod" ∷ "move" ∷ "mut" ∷ "pub" ∷ "ref" ∷ "return" ∷ "static"
+    ∷ "struct"
     ∷ "trait" ∷ "type" ∷ "unsafe" ∷ "use" ∷ "where" ∷ "while" ∷ "yield" ∷ []
 
 -- whether a macro may be called by that name: any raw identifier, and any that is no keyword
@@ -98,7 +101,8 @@ call_with start path f =
 -- the call by a path: a name that may be one, a `!`, and a group
 abbrev pub call_by : Span → Path → Option Call
 call_by start path =
-    if is_nameable path.name.is_raw path.name.sym then option_and_then (call_with start path) (after_char 33 path.rest) else None
+    if is_nameable path.name.is_raw path.name.sym then option_and_then (call_with start path) (after_char 33 path.rest)
+    else None
 
 -- the call at the front, if one is there
 abbrev pub call_of : Forest → Option Call
@@ -106,7 +110,8 @@ call_of f = option_and_then (λ t. option_and_then (call_by (first_span t)) (pat
 
 -- ---- definitions
 
--- how the rules are written: `macro_rules! name { rules }`, `macro name { rules }`, or `macro name(pattern) { template }`
+-- how the rules are written: `macro_rules! name { rules }`, `macro name { rules }`, or `macro name(pattern) { template
+-- }`
 pub data Form : Type 0 where
   Rules : Form
   Body : Form
@@ -135,7 +140,13 @@ after_rules Invisible f = unwrap_or (after_char 59 f) f
 
 abbrev pub rules_with : Ident → Forest → Option Defined
 rules_with name f =
-    option_map (λ g. record { name = name; form = Rules; delimiter = g.0; rules = g.1; rest = after_rules g.0.kind (rest_of f) }) (front_group f)
+    option_map (λ g. record {
+      name = name;
+      form = Rules;
+      delimiter = g.0;
+      rules = g.1;
+      rest = after_rules g.0.kind (rest_of f);
+    }) (front_group f)
 
 -- what follows `macro_rules`
 abbrev pub rules_of : Forest → Option Defined
@@ -144,7 +155,8 @@ rules_of f = option_and_then (λ g. option_and_then (λ i. rules_with i (rest_of
 -- the template, after `macro`, the name and the pattern
 abbrev pub template_with : Ident → Delimiter → Forest → Forest → Option Defined
 template_with name d pattern f =
-    option_map (λ g. record { name = name; form = Arguments d pattern; delimiter = g.0; rules = g.1; rest = rest_of f }) (front_group f)
+    option_map (λ g. record { name = name; form = Arguments d pattern; delimiter = g.0; rules = g.1; rest = rest_of f })
+    (front_group f)
 
 -- after `macro` and the name, a group of that kind: braces hold rules, any other group is a pattern
 abbrev pub body_with : Ident → DelimiterKind → Delimiter → Forest → Forest → Option Defined

@@ -1,4 +1,5 @@
--- The trees of an argument with the operators of the texts that they come from: two puncts are one operator only where they were
+-- The trees of an argument with the operators of the texts that they come from: two puncts are one operator only where
+-- they were
 -- so in one text, and not where a template has one of them before a variable.
 use Rattle.std.specs.Prelude.{ℕ, zero, suc, Bool, ◌==◌, ◌&&◌, ◌||◌, if◌then◌else◌, Option, Some, None}
 use Rattle.mbe_tt.specs.Trees.Leaf.{Leaf, literal, punct, ident}
@@ -9,7 +10,8 @@ use Rattle.mbe_tt.specs.declared.tt.Spacing.TheVariants.{Alone}
 
 -- side by side in one file, or made of one token, as the `::` of a path
 abbrev pub are_beside : Span → Span → Bool
-are_beside last next = last.file == next.file && (last.end == next.start || last.start == next.start && last.end == next.end)
+are_beside last next = last.file == next.file
+    && (last.end == next.start || last.start == next.start && last.end == next.end)
 
 -- a punct before another one, which it is joint to only where they are side by side
 abbrev pub parted_punct : Punct → Option Punct → Punct

@@ -15,11 +15,13 @@ below_by : (p : ℕ → Bool) (n : ℕ) → 0 < n → last_below p n ≡ (if p (
 below_by p n h = ap (last_below p) (one_more n h) ∙ below_suc p (n - 1)
 
 -- one that fails
-pub below_on : (p : ℕ → Bool) (n : ℕ) (whole : Option ℕ) → 0 < n → last_below p n ≡ whole → p (n - 1) ≡ false → last_below p (n - 1) ≡ whole
+pub below_on : (p : ℕ → Bool) (n : ℕ) (whole : Option ℕ) → 0 < n → last_below p n ≡ whole → p (n - 1) ≡ false
+    → last_below p (n - 1) ≡ whole
 below_on p n whole h w f = sym (below_by p n h ∙ ap (λ b. if b then Some (n - 1) else last_below p (n - 1)) f) ∙ w
 
 -- one that passes
-pub below_here : (p : ℕ → Bool) (n : ℕ) (whole : Option ℕ) → 0 < n → last_below p n ≡ whole → p (n - 1) ≡ true → Some (n - 1) ≡ whole
+pub below_here : (p : ℕ → Bool) (n : ℕ) (whole : Option ℕ) → 0 < n → last_below p n ≡ whole → p (n - 1) ≡ true
+    → Some (n - 1) ≡ whole
 below_here p n whole h w t = sym (below_by p n h ∙ ap (λ b. if b then Some (n - 1) else last_below p (n - 1)) t) ∙ w
 
 -- none is left
@@ -28,7 +30,8 @@ unfolding last_below
 below_none p n whole e w = sym (ap (last_below p) e) ∙ w
 
 -- what the last one stands for
-pub near_here : (visible : List ℕ) (found : Option ℕ) (n : ℕ) (last : Option ℕ) → found ≡ slice_get visible n → Some n ≡ last
+pub near_here : (visible : List ℕ) (found : Option ℕ) (n : ℕ) (last : Option ℕ) → found ≡ slice_get visible n
+    → Some n ≡ last
     → found ≡ option_and_then (slice_get visible) last
 near_here visible found n last e h = e ∙ ap (option_and_then (slice_get visible)) h
 

@@ -5,14 +5,17 @@ use Rattle.mbe_tt.specs.Trees.Top.{Top}
 use Rattle.mbe_calls.specs.Fronts.{Call}
 use Rattle.mbe_expanding.specs.Calls.{Setting, State, named, spent, Stays, too_many, refused, Refuses, by_definition, by_rules, Allows, Applies, Tries}
 
-pub found_as : {X Y : Type 0} (v : X → Y) (o : Option X) (x : X) (found : Option Y) → option_map v o ≡ found → o ≡ Some x → found ≡ Some (v x)
+pub found_as : {X Y : Type 0} (v : X → Y) (o : Option X) (x : X) (found : Option Y) → option_map v o ≡ found
+    → o ≡ Some x → found ≡ Some (v x)
 found_as v o x found e h = sym e ∙ ap (option_map v) h
 
-pub not_there : {X Y : Type 0} (v : X → Y) (o : Option X) (found : Option Y) → option_map v o ≡ found → is_some o ≡ false → found ≡ None
+pub not_there : {X Y : Type 0} (v : X → Y) (o : Option X) (found : Option Y) → option_map v o ≡ found
+    → is_some o ≡ false → found ≡ None
 not_there v None found e h = sym e
 not_there v (Some x) found e h = absurd (cc)
 
-pub there : {X Y : Type 0} (v : X → Y) (o : Option X) (found : Option Y) → option_map v o ≡ found → is_some o ≡ true → found ≢ None
+pub there : {X Y : Type 0} (v : X → Y) (o : Option X) (found : Option Y) → option_map v o ≡ found → is_some o ≡ true
+    → found ≢ None
 there v None found e h = λ n. absurd (cc)
 there v (Some x) found e h = λ n. absurd (cc)
 
@@ -23,7 +26,8 @@ refuses_before : (e : Setting) (c : Call) (s t : State) → t ≡ spent s → Re
 refuses_before e c s t h (by_definition m n k) = by_definition m (ap (λ x. named x c) (sym h) ∙ n) k
 refuses_before e c s t h (by_rules m tree err n k) = by_rules m tree err (ap (λ x. named x c) (sym h) ∙ n) k
 
-tried : (e : Setting) (c : Call) (depth levels : ℕ) (s t u : State) (o : Option Top) → 0 < levels → Allows depth s t true
+tried : (e : Setting) (c : Call) (depth levels : ℕ) (s t u : State) (o : Option Top) → 0 < levels
+    → Allows depth s t true
     → Applies e c t o → u ≡ t → Tries e c levels depth s u o
 tried e c depth levels s t u None l a h k =
     subst (λ x. Stays e c depth s levels x) (sym (k ∙ a.2)) (refused levels a.0 a.1 (refuses_before e c s t a.2 h))
@@ -40,7 +44,9 @@ tried e c depth levels s t u (Some tree) l a h k = (
   k ∙ a.2,
 )
 
-pub tries_as : {R : Type 0} (e k : Setting) (c : Call) (depth levels : ℕ) (s t u : State) (r : Result (Option Top) R) → 0 < levels → k ≡ e
+pub tries_as : {R : Type 0} (e k : Setting) (c : Call) (depth levels : ℕ) (s t u : State) (r : Result (Option Top) R)
+    → 0 < levels → k ≡ e
     → Allows depth s t true → IfOk r (Applies k c t) → OnOk r (u ≡ t) → IfOk r (Tries e c levels depth s u)
-tries_as e k c depth levels s t u (Ok o) l h a m n = tried e c depth levels s t u o l a (subst (λ x. Applies x c t o) h m) n
+tries_as e k c depth levels s t u (Ok o) l h a m n =
+    tried e c depth levels s t u o l a (subst (λ x. Applies x c t o) h m) n
 tries_as e k c depth levels s t u (Err x) l h a m n = tt

@@ -10,19 +10,27 @@ use Rattle.mbe_expanding.specs.Defining.{Reading, unmarked, marked, after_tree, 
 use Rattle.mbe_expanding.specs.declared.expander.defining.Marks.{Marks}
 
 -- what is left to read, with what was read, is all
-pub record Defining (e : Edition) (levels : ℕ) (top : Bool) (f : Forest) (s : Scope) (m : Marks) (rest : Forest) (t : Scope) : Type 0 where
-  pub on : (u : Scope) → DefinesAll e (Defines e levels) top m rest t u → DefinesAll e (Defines e levels) top unmarked f s u
+pub record Defining (e : Edition) (levels : ℕ) (top : Bool) (f : Forest) (s : Scope) (m : Marks) (rest : Forest)
+    (t : Scope) : Type 0 where
+  pub on : (u : Scope) → DefinesAll e (Defines e levels) top m rest t u
+      → DefinesAll e (Defines e levels) top unmarked f s u
 
 pub none_defined : (e : Edition) (levels : ℕ) (top : Bool) (f : Forest) (s : Scope) (m : Marks) → m ≡ unmarked
     → Defining e levels top f s m f s
-none_defined e levels top f s m h = record { on = λ u more. subst (λ x. DefinesAll e (Defines e levels) top x f s u) h more }
+none_defined e levels top f s m h = record {
+  on = λ u more. subst (λ x. DefinesAll e (Defines e levels) top x f s u) h
+      more;
+}
 
-pub definition_defined : (e k : Edition) (levels : ℕ) (top wide : Bool) (f g : Forest) (d : Defined) (s t u : Scope) (m n : Marks)
-    → k ≡ e → Defining e levels top f s m g t → front g ≡ Definition d → wide ≡ (m.is_exported || top) → IsRead k d wide t u
+pub definition_defined : (e k : Edition) (levels : ℕ) (top wide : Bool) (f g : Forest) (d : Defined) (s t u : Scope)
+    (m n : Marks)
+    → k ≡ e → Defining e levels top f s m g t → front g ≡ Definition d → wide ≡ (m.is_exported || top)
+    → IsRead k d wide t u
     → n ≡ record { is_exported = false; is_used = m.is_used } → Defining e levels top f s n d.rest u
 definition_defined e k levels top wide f g d s t u m n h a is w r c = record {
   on = λ v more.
-      a.on v (at_definition m g d t u v is (subst (λ x. IsRead x d (m.is_exported || top) t u) h (subst (λ x. IsRead k d x t u) w r))
+      a.on v (at_definition m g d t u v is (subst (λ x. IsRead x d (m.is_exported || top) t u) h
+      (subst (λ x. IsRead k d x t u) w r))
       (subst (λ x. DefinesAll e (Defines e levels) top x d.rest u v) c more));
 }
 
@@ -30,8 +38,10 @@ pub call_defined : (e : Edition) (levels : ℕ) (top : Bool) (f g : Forest) (c :
     → Defining e levels top f s m g t → front g ≡ ACall c → Defining e levels top f s m c.rest t
 call_defined e levels top f g c s t m a is = record { on = λ v more. a.on v (at_call m g c t v is more) }
 
-pub tree_defined : (e k : Edition) (levels : ℕ) (top is_open : Bool) (f g rest : Forest) (tree : Tree) (s t u : Scope) (m n o : Marks)
-    → k ≡ e → Defining e levels top f s m g t → front g ≡ Other tree rest → n ≡ marked g m → is_open ≡ (top && n.is_used)
+pub tree_defined : (e k : Edition) (levels : ℕ) (top is_open : Bool) (f g rest : Forest) (tree : Tree) (s t u : Scope)
+    (m n o : Marks)
+    → k ≡ e → Defining e levels top f s m g t → front g ≡ Other tree rest → n ≡ marked g m
+    → is_open ≡ (top && n.is_used)
     → DefinesTree (Defines k levels) is_open tree t u → o ≡ after_tree tree n → Defining e levels top f s o rest u
 tree_defined e k levels top is_open f g rest tree s t u m n o h a is c w r l = record {
   on = λ v more.
@@ -41,17 +51,20 @@ tree_defined e k levels top is_open f g rest tree s t u m n o h a is c w r l = r
       (subst (λ x. DefinesAll e (Defines e levels) top x rest u v) (l ∙ ap (after_tree tree) c) more));
 }
 
-defines_by : (e : Edition) (levels : ℕ) (top : Bool) (f : Forest) (s t : Scope) → DefinesAll e (Defines e levels) top unmarked f s t
+defines_by : (e : Edition) (levels : ℕ) (top : Bool) (f : Forest) (s t : Scope)
+    → DefinesAll e (Defines e levels) top unmarked f s t
     → Defines e (suc levels) top f s t
 unfolding Defines
 defines_by e levels top f s t h = h
 
-pub all_defined : (e : Edition) (levels : ℕ) (top : Bool) (f rest : Forest) (s t : Scope) (m : Marks) → Defining e levels top f s m rest t
+pub all_defined : (e : Edition) (levels : ℕ) (top : Bool) (f rest : Forest) (s t : Scope) (m : Marks)
+    → Defining e levels top f s m rest t
     → rest ≡ none → Defines e (suc levels) top f s t
 all_defined e levels top f rest s t m a h =
     defines_by e levels top f s t (a.on t (subst (λ x. DefinesAll e (Defines e levels) top m x t t) (sym h) (ends m t)))
 
-pub none_inside : (e : Edition) (levels : ℕ) (top : Bool) (f : Forest) (s : Scope) → levels ≡ 0 → Defines e levels top f s s
+pub none_inside : (e : Edition) (levels : ℕ) (top : Bool) (f : Forest) (s : Scope) → levels ≡ 0
+    → Defines e levels top f s s
 unfolding Defines
 none_inside e levels top f s h = subst (λ n. Defines e n top f s s) (sym h) refl
 

@@ -1,4 +1,5 @@
--- What follows from what stands in place of the calls of trees: each part is one of their calls', and there is none where no call is known.
+-- What follows from what stands in place of the calls of trees: each part is one of their calls', and there is none
+-- where no call is known.
 use Rattle.std.proofs.Common.{◌≡◌, ◌-◌, ℕ, zero, suc, Bool, true, false, List, [], ◌∷◌, ◌++◌, length, Option, Some, None, refl, ap, sym, subst, ◌∙◌}
 use Rattle.std.specs.Prelude.{◌||◌, ◌&&◌, not, if◌then◌else◌, option_map, option_and_then}
 use Rattle.std.specs.List.{All, slice_get}
@@ -40,7 +41,8 @@ left_in whole rest f (after_semicolon s) h = rest_in whole rest h
 argument_in : (whole f : Forest) (c : Call) → front f ≡ ACall c → IsIn whole f → IsIn whole c.argument
 argument_in whole f c e h =
     let a = front_call f c e in
-    in_group c.delimiter c.argument c.rest (after_some (leaves a.kept) (group c.delimiter c.argument c.rest) (subst (IsIn whole) a.is h))
+    in_group c.delimiter c.argument c.rest
+    (after_some (leaves a.kept) (group c.delimiter c.argument c.rest) (subst (IsIn whole) a.is h))
 
 after_tree : (whole rest : Forest) (t : Tree) → IsIn whole (tree t rest) → IsIn whole rest
 after_tree whole rest (Leaf_tree l) h = after_some (leaf l none) rest h
@@ -55,20 +57,27 @@ module _ (e : Setting) (whole : Forest) where
   no_parts : (parts : List Part) → parts ≡ [] → AreOfCalls parts
   no_parts parts h = subst AreOfCalls (sym h) (All-nil (IsOfCall e whole))
 
-  module _ (levels : ℕ) (within : Parts) (each : (f : Forest) (s t : State) (parts : List Part) → IsIn whole f → within f s parts t → AreOfCalls parts) where
-    each_in_tree : (t : Tree) (rest : Forest) (s u : State) (parts : List Part) → IsIn whole (tree t rest) → PartsOfTree within t s parts u → AreOfCalls parts
+  module _ (levels : ℕ) (within : Parts)
+      (each : (f : Forest) (s t : State) (parts : List Part) → IsIn whole f → within f s parts t
+      → AreOfCalls parts) where
+    each_in_tree : (t : Tree) (rest : Forest) (s u : State) (parts : List Part) → IsIn whole (tree t rest)
+        → PartsOfTree within t s parts u → AreOfCalls parts
     each_in_tree (Leaf_tree l) rest s u parts i h = no_parts parts h.0
     each_in_tree (Group_tree d inside) rest s u parts i h = each inside s h.0 parts (in_group d inside rest i) h.1
 
-    each_in_argument : (standard : Bool) (f : Forest) (s u : State) (parts : List Part) → IsIn whole f → PartsOfArgument within standard f s parts u
+    each_in_argument : (standard : Bool) (f : Forest) (s u : State) (parts : List Part) → IsIn whole f
+        → PartsOfArgument within standard f s parts u
         → AreOfCalls parts
     each_in_argument false f s u parts i h = no_parts parts h.0
     each_in_argument true f s u parts i h = each f s u parts i h
 
-    each_of_call : (f : Forest) (c : Call) (s u : State) (parts : List Part) (rest : Forest) → IsIn whole f → front f ≡ ACall c
+    each_of_call : (f : Forest) (c : Call) (s u : State) (parts : List Part) (rest : Forest) → IsIn whole f
+        → front f ≡ ACall c
         → PartsOfCall e levels within c s parts rest u → AreOfCalls parts × IsIn whole rest
-    each_of_call f c s v all left i is (of_kept parts t u k a) =
-        (each_in_argument (is_standard c.name.sym) c.argument t u parts (argument_in whole f c is i) a, call_in whole f c is i)
+    each_of_call f c s v all left i is (of_kept parts t u k a) = (
+      each_in_argument (is_standard c.name.sym) c.argument t u parts (argument_in whole f c is i) a,
+      call_in whole f c is i,
+    )
     each_of_call f c s v all left i is (of_replaced made part rest u r p) = (
       All-cons (IsOfCall e whole) part [] (record {
         from = f;
@@ -86,25 +95,31 @@ module _ (e : Setting) (whole : Forest) where
       left_in whole c.rest rest p.leaves (call_in whole f c is i),
     )
 
-    each_of_front : (f rest : Forest) (s u : State) (parts : List Part) → IsIn whole f → FrontParts e levels within f s parts rest u
+    each_of_front : (f rest : Forest) (s u : State) (parts : List Part) → IsIn whole f
+        → FrontParts e levels within f s parts rest u
         → AreOfCalls parts × IsIn whole rest
     each_of_front f left s v all i (of_definition d is) = (All-nil (IsOfCall e whole), definition_in whole f d is i)
     each_of_front f left s v all i (of_tree t rest parts u is h) =
-        let j = subst (IsIn whole) (front_tree f rest t is) i in (each_in_tree t rest s u parts j h, after_tree whole rest t j)
+        let j = subst (IsIn whole) (front_tree f rest t is) i in
+        (each_in_tree t rest s u parts j h, after_tree whole rest t j)
     each_of_front f left s v all i (of_call c parts rest u is h) = each_of_call f c s u parts rest i is h
 
-    each_of_all : (f : Forest) (s u : State) (parts : List Part) → IsIn whole f → AllParts e levels within f s parts u → AreOfCalls parts
+    each_of_all : (f : Forest) (s u : State) (parts : List Part) → IsIn whole f → AllParts e levels within f s parts u
+        → AreOfCalls parts
     each_of_all f o v all i (ends s) = All-nil (IsOfCall e whole)
     each_of_all g o v all i (goes_on f rest before more s t u h k) =
         let a = each_of_front f rest s t before i h in
         All-append (IsOfCall e whole) before more a.0 (each_of_all rest t u more a.1 k)
 
-  pub each_within : (levels : ℕ) (f : Forest) (s t : State) (parts : List Part) → IsIn whole f → PartsWithin e levels f s parts t → AreOfCalls parts
+  pub each_within : (levels : ℕ) (f : Forest) (s t : State) (parts : List Part) → IsIn whole f
+      → PartsWithin e levels f s parts t → AreOfCalls parts
   unfolding PartsWithin
   each_within zero f s t parts i h = no_parts parts h.0
-  each_within (suc levels) f s t parts i h = each_of_all levels (PartsWithin e levels) (each_within levels) f h.0 t parts i h.2
+  each_within (suc levels) f s t parts i h =
+      each_of_all levels (PartsWithin e levels) (each_within levels) f h.0 t parts i h.2
 
-pub each_of_file : (e : Setting) (levels : ℕ) (f : Forest) (s t : State) (parts : List Part) → PartsOfFile e levels f s parts t
+pub each_of_file : (e : Setting) (levels : ℕ) (f : Forest) (s t : State) (parts : List Part)
+    → PartsOfFile e levels f s parts t
     → All (IsOfCall e f) parts
 each_of_file e levels f s t parts h = each_within e f (suc levels) f s h.0 parts all_of_it h.1
 
@@ -122,9 +137,11 @@ and_false : (a b : Bool) → b ≡ false → (a && b) ≡ false
 and_false false b h = refl
 and_false true b h = h
 
-missing_at : (name : List ℕ) (w : Bool) (ds : List AMacro) (n : ℕ) → NoneHas name ds → is_found name w (slice_get ds n) ≡ false
+missing_at : (name : List ℕ) (w : Bool) (ds : List AMacro) (n : ℕ) → NoneHas name ds
+    → is_found name w (slice_get ds n) ≡ false
 missing_at name w [] n h = refl
-missing_at name w (d ∷ ds) zero h = and_false (d.is_wide || not w) (bytes_eq d.name name) (or_left (bytes_eq d.name name) _ h)
+missing_at name w (d ∷ ds) zero h = and_false (d.is_wide || not w) (bytes_eq d.name name)
+    (or_left (bytes_eq d.name name) _ h)
 missing_at name w (d ∷ ds) (suc n) h = missing_at name w ds n (or_right (bytes_eq d.name name) _ h)
 
 not_last : (p : ℕ → Bool) (n : ℕ) → ((k : ℕ) → p k ≡ false) → last_below p n ≡ None
@@ -135,7 +152,8 @@ not_last p (suc n) h = ap (λ b. if b then Some n else last_below p n) (h n) ∙
 wide_missing : (s : Scope) (name : List ℕ) → NoneHas name s.definitions → wide s name ≡ None
 wide_missing s name h = not_last _ _ (λ n. missing_at name true s.definitions n h)
 
-seen_missing : (s : Scope) (name : List ℕ) (o : Option ℕ) → NoneHas name s.definitions → is_found name false (option_and_then (definition_at s) o) ≡ false
+seen_missing : (s : Scope) (name : List ℕ) (o : Option ℕ) → NoneHas name s.definitions
+    → is_found name false (option_and_then (definition_at s) o) ≡ false
 seen_missing s name None h = refl
 seen_missing s name (Some n) h = missing_at name false s.definitions n h
 
@@ -143,12 +161,14 @@ near_missing : (s : Scope) (name : List ℕ) → NoneHas name s.definitions → 
 near_missing s name h =
     ap (option_and_then (slice_get s.visible)) (not_last _ _ (λ n. seen_missing s name (slice_get s.visible n) h))
 
-lookup_missing : (s : Scope) (name : List ℕ) (is_path : Bool) → NoneHas name s.definitions → lookup s name is_path ≡ None
+lookup_missing : (s : Scope) (name : List ℕ) (is_path : Bool) → NoneHas name s.definitions
+    → lookup s name is_path ≡ None
 lookup_missing s name true h = wide_missing s name h
 lookup_missing s name false h = ap (or_wide s name) (near_missing s name h) ∙ wide_missing s name h
 
 unnamed : (s : State) (c : Call) → NoneHas c.name.sym s.scope.definitions → named s c ≡ None
-unnamed s c h = ap (λ o. option_map (λ (d : AMacro). d.rules) (option_and_then (definition_at s.scope) o)) (lookup_missing s.scope c.name.sym c.is_path h)
+unnamed s c h = ap (λ o. option_map (λ (d : AMacro). d.rules) (option_and_then (definition_at s.scope) o))
+    (lookup_missing s.scope c.name.sym c.is_path h)
 
 -- ---- no call is known
 
@@ -157,7 +177,9 @@ module _ (e : Setting) (ds : List AMacro) (whole : Forest) (none_called : NoneCa
   abbrev AreNone : List Part → State → Type 0
   AreNone parts t = (parts ≡ []) × (t.scope.definitions ≡ ds)
 
-  module _ (levels : ℕ) (within : Parts) (each : (f : Forest) (s t : State) (parts : List Part) → IsIn whole f → s.scope.definitions ≡ ds → within f s parts t → AreNone parts t) where
+  module _ (levels : ℕ) (within : Parts)
+      (each : (f : Forest) (s t : State) (parts : List Part) → IsIn whole f → s.scope.definitions ≡ ds
+      → within f s parts t → AreNone parts t) where
     same_definitions : (s t : State) → t ≡ s → s.scope.definitions ≡ ds → t.scope.definitions ≡ ds
     same_definitions s t h k = ap (λ (x : State). x.scope.definitions) h ∙ k
 
@@ -167,32 +189,38 @@ module _ (e : Setting) (ds : List AMacro) (whole : Forest) (none_called : NoneCa
     after_groups Bracket n t = refl
     after_groups Invisible n t = refl
 
-    none_left : (k : DelimiterKind) (s t u : State) → LeavesGroup k s t u → t.scope.definitions ≡ ds → u.scope.definitions ≡ ds
+    none_left : (k : DelimiterKind) (s t u : State) → LeavesGroup k s t u → t.scope.definitions ≡ ds
+        → u.scope.definitions ≡ ds
     none_left k s t u is_left h = after_groups k (length s.scope.visible) t ∙ h
     none_left k s t u is_used h = h
 
-    none_in_tree : (t : Tree) (rest : Forest) (s u : State) (parts : List Part) → IsIn whole (tree t rest) → s.scope.definitions ≡ ds
+    none_in_tree : (t : Tree) (rest : Forest) (s u : State) (parts : List Part) → IsIn whole (tree t rest)
+        → s.scope.definitions ≡ ds
         → PartsOfTree within t s parts u → AreNone parts u
     none_in_tree (Leaf_tree l) rest s u parts i k h = (h.0, same_definitions s u h.1 k)
     none_in_tree (Group_tree d inside) rest s u parts i k h =
         let a = each inside s h.0 parts (in_group d inside rest i) k h.1 in (a.0, none_left d.kind s h.0 u h.2 a.1)
 
-    none_in_argument : (standard : Bool) (f : Forest) (s u : State) (parts : List Part) → IsIn whole f → s.scope.definitions ≡ ds
+    none_in_argument : (standard : Bool) (f : Forest) (s u : State) (parts : List Part) → IsIn whole f
+        → s.scope.definitions ≡ ds
         → PartsOfArgument within standard f s parts u → AreNone parts u
     none_in_argument false f s u parts i k h = (h.0, same_definitions s u h.1 k)
     none_in_argument true f s u parts i k h = each f s u parts i k h
 
-    unknown : (f : Forest) (c : Call) (s : State) → IsIn whole f → front f ≡ ACall c → s.scope.definitions ≡ ds → named s c ≡ None
+    unknown : (f : Forest) (c : Call) (s : State) → IsIn whole f → front f ≡ ACall c → s.scope.definitions ≡ ds
+        → named s c ≡ None
     unknown f c s i is k = unnamed s c (subst (NoneHas c.name.sym) (sym k) (none_called f c i is))
 
-    kept_definitions : (c : Call) (depth n : ℕ) (s t : State) → Stays e c depth s n t → named s c ≡ None → s.scope.definitions ≡ ds
+    kept_definitions : (c : Call) (depth n : ℕ) (s t : State) → Stays e c depth s n t → named s c ≡ None
+        → s.scope.definitions ≡ ds
         → t.scope.definitions ≡ ds
     kept_definitions c depth n s t too_many h k = k
     kept_definitions c depth n s t (not_found m is) h k = k
     kept_definitions c depth n s t (limited m u a) h k = same_definitions s u a.1 k
     kept_definitions c depth n s t (refused m a b r) h k = k
 
-    none_of_call : (f : Forest) (c : Call) (s u : State) (parts : List Part) (rest : Forest) → IsIn whole f → front f ≡ ACall c
+    none_of_call : (f : Forest) (c : Call) (s u : State) (parts : List Part) (rest : Forest) → IsIn whole f
+        → front f ≡ ACall c
         → s.scope.definitions ≡ ds → PartsOfCall e levels within c s parts rest u → AreNone parts u × IsIn whole rest
     none_of_call f c s v all left i is k (of_kept parts t u st a) = (
       none_in_argument (is_standard c.name.sym) c.argument t u parts (argument_in whole f c is i)
@@ -206,18 +234,22 @@ module _ (e : Setting) (ds : List AMacro) (whole : Forest) (none_called : NoneCa
     shown_definitions None s = refl
     shown_definitions (Some n) s = refl
 
-    rules_definitions : (b : Bool) (d : Defined) (s : State) → (if b then s else shown d s).scope.definitions ≡ s.scope.definitions
+    rules_definitions : (b : Bool) (d : Defined) (s : State)
+        → (if b then s else shown d s).scope.definitions ≡ s.scope.definitions
     rules_definitions true d s = refl
     rules_definitions false d s = shown_definitions (placed s.scope d.name.span) s.scope
 
     none_of_front : (f rest : Forest) (s u : State) (parts : List Part) → IsIn whole f → s.scope.definitions ≡ ds
         → FrontParts e levels within f s parts rest u → AreNone parts u × IsIn whole rest
-    none_of_front f left s v all i k (of_definition d is) = ((refl, rules_definitions (is_item d.form) d s ∙ k), definition_in whole f d is i)
+    none_of_front f left s v all i k (of_definition d is) =
+        ((refl, rules_definitions (is_item d.form) d s ∙ k), definition_in whole f d is i)
     none_of_front f left s v all i k (of_tree t rest parts u is h) =
-        let j = subst (IsIn whole) (front_tree f rest t is) i in (none_in_tree t rest s u parts j k h, after_tree whole rest t j)
+        let j = subst (IsIn whole) (front_tree f rest t is) i in
+        (none_in_tree t rest s u parts j k h, after_tree whole rest t j)
     none_of_front f left s v all i k (of_call c parts rest u is h) = none_of_call f c s u parts rest i is k h
 
-    none_of_all : (f : Forest) (s u : State) (parts : List Part) → IsIn whole f → s.scope.definitions ≡ ds → AllParts e levels within f s parts u
+    none_of_all : (f : Forest) (s u : State) (parts : List Part) → IsIn whole f → s.scope.definitions ≡ ds
+        → AllParts e levels within f s parts u
         → AreNone parts u
     none_of_all f o v all i k (ends s) = (refl, k)
     none_of_all g o v all i k (goes_on f rest before more s t u h m) =
@@ -225,28 +257,34 @@ module _ (e : Setting) (ds : List AMacro) (whole : Forest) (none_called : NoneCa
         let b = none_of_all rest t u more a.1 a.0.1 m in
         (ap (λ x. x ++ more) a.0.0 ∙ b.0, b.1)
 
-    items_definitions : (b : Bool) (d : Defined) (s : State) → (if b then shown d s else s).scope.definitions ≡ s.scope.definitions
+    items_definitions : (b : Bool) (d : Defined) (s : State)
+        → (if b then shown d s else s).scope.definitions ≡ s.scope.definitions
     items_definitions true d s = shown_definitions (placed s.scope d.name.span) s.scope
     items_definitions false d s = refl
 
     all_items : (f : Forest) (s t : State) → ShowsItems f s t → t.scope.definitions ≡ s.scope.definitions
     all_items f o v (no_more s) = refl
-    all_items g o v (at_definition f d s t is h) = all_items d.rest (item_shown d s) t h ∙ items_definitions (is_item d.form) d s
+    all_items g o v (at_definition f d s t is h) =
+        all_items d.rest (item_shown d s) t h ∙ items_definitions (is_item d.form) d s
     all_items g o v (at_call f c s t is h) = all_items c.rest s t h
     all_items g o v (at_tree f rest tree s t is h) = all_items rest s t h
 
-    none_in : (f : Forest) (s u : State) (parts : List Part) → IsIn whole f → s.scope.definitions ≡ ds → PartsIn e levels within f s parts u
+    none_in : (f : Forest) (s u : State) (parts : List Part) → IsIn whole f → s.scope.definitions ≡ ds
+        → PartsIn e levels within f s parts u
         → AreNone parts u
     none_in f s u parts i k h = none_of_all f h.0 u parts i (all_items f s h.0 h.1 ∙ k) h.2
 
-  pub none_within_any : (levels : ℕ) (f : Forest) (s t : State) (parts : List Part) → IsIn whole f → s.scope.definitions ≡ ds
+  pub none_within_any : (levels : ℕ) (f : Forest) (s t : State) (parts : List Part) → IsIn whole f
+      → s.scope.definitions ≡ ds
       → PartsWithin e levels f s parts t → AreNone parts t
   unfolding PartsWithin
   none_within_any zero f s t parts i k h = (h.0, ap (λ (x : State). x.scope.definitions) h.1 ∙ k)
-  none_within_any (suc levels) f s t parts i k h = none_in levels (PartsWithin e levels) (none_within_any levels) f s t parts i k h
+  none_within_any (suc levels) f s t parts i k h =
+      none_in levels (PartsWithin e levels) (none_within_any levels) f s t parts i k h
 
 -- where no call is known no part is replaced
-pub none_of_file : (e : Setting) (levels : ℕ) (f : Forest) (s t : State) (parts : List Part) → PartsOfFile e levels f s parts t
+pub none_of_file : (e : Setting) (levels : ℕ) (f : Forest) (s t : State) (parts : List Part)
+    → PartsOfFile e levels f s parts t
     → NoneCalled s.scope.definitions f → parts ≡ []
 none_of_file e levels f s t parts h none_called =
     (none_within_any e s.scope.definitions f none_called (suc levels) f s h.0 parts all_of_it refl h.1).0

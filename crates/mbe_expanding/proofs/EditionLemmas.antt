@@ -23,16 +23,20 @@ module _ {A B : SyntaxContext → Edition → Type 0} (more : (c : SyntaxContext
   ops_read : {mode : Mode} {f : Forest} {os : Ops} → Template A mode f os → Template B mode f os
   ops_read (nothing f e) = nothing f e
   ops_read (token f rest o os e t) = token f rest o os e (ops_read t)
-  ops_read (variable f rest name span specifier kind os e s t) = variable f rest name span specifier kind os e (specifies s) (ops_read t)
+  ops_read (variable f rest name span specifier kind os e s t) =
+      variable f rest name span specifier kind os e (specifies s) (ops_read t)
   ops_read (grouped f inside rest d body os e b t) = grouped f inside rest d body os e (ops_read b) (ops_read t)
-  ops_read (repeated f inside rest separator repeat body os e b t) = repeated f inside rest separator repeat body os e (ops_read b) (ops_read t)
+  ops_read (repeated f inside rest separator repeat body os e b t) =
+      repeated f inside rest separator repeat body os e (ops_read b) (ops_read t)
 
   fault_read : {mode : Mode} {fault : Fault} {f : Forest} → TemplateFault A mode fault f → TemplateFault B mode fault f
   fault_read (here f e) = here f e
   fault_read (in_group f inside rest d e t) = in_group f inside rest d e (fault_read t)
-  fault_read (in_repetition f inside rest separator repeat e t) = in_repetition f inside rest separator repeat e (fault_read t)
+  fault_read (in_repetition f inside rest separator repeat e t) =
+      in_repetition f inside rest separator repeat e (fault_read t)
   fault_read (behind_token f rest o e t) = behind_token f rest o e (fault_read t)
-  fault_read (behind_variable f rest name span specifier e t) = behind_variable f rest name span specifier e (fault_read t)
+  fault_read (behind_variable f rest name span specifier e t) =
+      behind_variable f rest name span specifier e (fault_read t)
   fault_read (behind_group f inside rest d body e b t) = behind_group f inside rest d body e (ops_read b) (fault_read t)
   fault_read (behind_repetition f inside rest separator repeat body e b t) =
       behind_repetition f inside rest separator repeat body e (ops_read b) (fault_read t)
@@ -55,12 +59,14 @@ module _ {A B : SyntaxContext → Edition → Type 0} (more : (c : SyntaxContext
   pub read_as : (f : Forest) (m : Macro) → IsReadAs A f m → IsReadAs B f m
   read_as f m (first, read, refusal) = (first, rules_read read, refusal)
 
-  arguments_read : {arguments body : Forest} {rs : List Rule} {fault : Option Fault} → IsMacroOfArguments A arguments body rs fault
+  arguments_read : {arguments body : Forest} {rs : List Rule} {fault : Option Fault}
+      → IsMacroOfArguments A arguments body rs fault
       → IsMacroOfArguments B arguments body rs fault
   arguments_read (one_rule r p) = one_rule r (parts_read p)
   arguments_read (faulty fault p) = faulty fault (parts_fault p)
 
-  pub read_as_macro : (arguments : Option Forest) (body : Forest) (m : Macro) → IsReadAsMacro A arguments body m → IsReadAsMacro B arguments body m
+  pub read_as_macro : (arguments : Option Forest) (body : Forest) (m : Macro) → IsReadAsMacro A arguments body m
+      → IsReadAsMacro B arguments body m
   read_as_macro None body m (first, read, refusal) = (first, rules_read read, refusal)
   read_as_macro (Some arguments) body m h = arguments_read h
 
@@ -69,13 +75,16 @@ read_by (Ok x) more h = more x h
 read_by (Err e) more h = h
 
 -- a `macro` definition that was read by trees behind references
-pub macro_read : {X R : Type 0} {A : SyntaxContext → Edition → Type 0} (v : X → Macro) (r : Result X R) (a b : Option Forest) (body : Forest) (edition : Edition)
+pub macro_read : {X R : Type 0} {A : SyntaxContext → Edition → Type 0} (v : X → Macro) (r : Result X R)
+    (a b : Option Forest) (body : Forest) (edition : Edition)
     → IfOk r (λ m. IsReadAsMacro A a body (v m)) → a ≡ b → ((c : SyntaxContext) (e : Edition) → A c e → e ≡ edition)
     → IfOk r (λ m. IsReadAsMacro (IsEdition edition) b body (v m))
 macro_read {A = A} v (Ok m) a b body edition h e only =
-    subst (λ x. IsReadAsMacro (IsEdition edition) x body (v m)) e (read_as_macro {A = A} {B = IsEdition edition} only a body (v m) h)
+    subst (λ x. IsReadAsMacro (IsEdition edition) x body (v m)) e
+    (read_as_macro {A = A} {B = IsEdition edition} only a body (v m) h)
 macro_read v (Err x) a b body edition h e only = h
 
-pub as_shown : (r : Option (Bor Top)) (o : Option Top) → option_copied r ≡ o → option_map (λ t. t.now.1) r ≡ option_map (λ t. t.1) o
+pub as_shown : (r : Option (Bor Top)) (o : Option Top) → option_copied r ≡ o
+    → option_map (λ t. t.now.1) r ≡ option_map (λ t. t.1) o
 as_shown None o e = ap (option_map (λ t. t.1)) e
 as_shown (Some x) o e = ap (option_map (λ t. t.1)) e

@@ -16,14 +16,19 @@ use Rattle.mbe_explaining.specs.Saying.{part_of, part_seen, pair_of, parts_seen,
 use Rattle.mbe_explaining.specs.SpanAt.{span_at}
 use Rattle.mbe_expanding.specs.Explained.{Says}
 
-pub rule_says : {A E : Type 0} (r : Result (Said A) E) (g : Grammar) (rules : List Rule) (argument : Delimiter × Forest) (index : ℕ)
+pub rule_says : {A E : Type 0} (r : Result (Said A) E) (g : Grammar) (rules : List Rule) (argument : Delimiter × Forest)
+    (index : ℕ)
     (verdict : Verdict) (wants : List Wanted) (pair : Option (Wanted × Wanted)) (tokens : Forest) (close : Span)
     → tokens ≡ argument.1 → close ≡ argument.0.close → Explains g rules argument.1 index (verdict_seen verdict)
-    → WantsThere g rules argument.1 index (verdict_seen verdict) wants → ClashesThere g rules argument.1 index (verdict_seen verdict) pair
-    → IfOk r (λ s. s.verdict ≡ verdict) → IfOk r (λ s. s.span ≡ span_at close tokens (stop_of tokens (verdict_seen verdict)))
-    → IfOk r (λ s. map part_seen s.wanted.items ≡ map part_of wants) → IfOk r (λ s. option_map parts_seen s.clash ≡ option_map pair_of pair)
+    → WantsThere g rules argument.1 index (verdict_seen verdict) wants
+    → ClashesThere g rules argument.1 index (verdict_seen verdict) pair
+    → IfOk r (λ s. s.verdict ≡ verdict) → IfOk r
+    (λ s. s.span ≡ span_at close tokens (stop_of tokens (verdict_seen verdict)))
+    → IfOk r (λ s. map part_seen s.wanted.items ≡ map part_of wants)
+    → IfOk r (λ s. option_map parts_seen s.clash ≡ option_map pair_of pair)
     → IfOk r (λ s. Says g rules argument index (said_seen s))
-rule_says (Ok s) g rules argument index verdict wants pair tokens close trees_are closing explains are_wanted clash v p w c =
+rule_says (Ok s) g rules argument index verdict wants pair tokens close trees_are closing explains are_wanted clash v p
+    w c =
     let same = sym (ap verdict_seen v) in
     record {
       wants = wants;
@@ -37,4 +42,5 @@ rule_says (Ok s) g rules argument index verdict wants pair tokens close trees_ar
       parts = w;
       two = c;
     }
-rule_says (Err e) g rules argument index verdict wants pair tokens close trees_are closing explains are_wanted clash v p w c = v
+rule_says (Err e) g rules argument index verdict wants pair tokens close trees_are closing explains are_wanted clash v p
+    w c = v

@@ -29,7 +29,8 @@ append_append none g h = refl
 append_append (leaf l rest) g h = ap (leaf l) (append_append rest g h)
 append_append (group d inside rest) g h = ap (group d inside) (append_append rest g h)
 
-leaves_leaves : (ks ls : List Leaf) (h : Forest) → append (leaves (ks ++ ls)) h ≡ append (leaves ks) (append (leaves ls) h)
+leaves_leaves : (ks ls : List Leaf) (h : Forest)
+    → append (leaves (ks ++ ls)) h ≡ append (leaves ks) (append (leaves ls) h)
 leaves_leaves [] ls h = refl
 leaves_leaves (k ∷ ks) ls h = ap (leaf k) (leaves_leaves ks ls h)
 
@@ -49,7 +50,11 @@ nothing : (f : Forest) → AheadLeaves f f
 nothing f = record { kept = []; is = refl }
 
 both : (f g h : Forest) → AheadLeaves f g → AheadLeaves g h → AheadLeaves f h
-both f g h a b = record { kept = a.kept ++ b.kept; is = a.is ∙ (ap (append (leaves a.kept)) b.is ∙ sym (leaves_leaves a.kept b.kept h)) }
+both f g h a b = record {
+  kept = a.kept ++ b.kept;
+  is = a.is
+      ∙ (ap (append (leaves a.kept)) b.is ∙ sym (leaves_leaves a.kept b.kept h));
+}
 
 -- a tree after some leaves
 with_group : (f rest inside : Forest) (d : Delimiter) → AheadLeaves f (group d inside rest) → Ahead f rest
@@ -69,11 +74,13 @@ with_leaf f g rest l a e = record {
 
 -- ---- options
 
-then_some : {X Y : Type 0} (k : X → Option Y) (o : Option X) (y : Y) → option_and_then k o ≡ Some y → (x : X) × (o ≡ Some x) × (k x ≡ Some y)
+then_some : {X Y : Type 0} (k : X → Option Y) (o : Option X) (y : Y) → option_and_then k o ≡ Some y
+    → (x : X) × (o ≡ Some x) × (k x ≡ Some y)
 then_some k None y e = absurd (cc)
 then_some k (Some x) y e = (x, refl, e)
 
-map_some : {X Y : Type 0} (k : X → Y) (o : Option X) (y : Y) → option_map k o ≡ Some y → (x : X) × (o ≡ Some x) × (k x ≡ y)
+map_some : {X Y : Type 0} (k : X → Y) (o : Option X) (y : Y) → option_map k o ≡ Some y
+    → (x : X) × (o ≡ Some x) × (k x ≡ y)
 map_some k None y e = absurd (cc)
 map_some k (Some x) y e = (x, refl, cc)
 
@@ -115,7 +122,8 @@ ident_leaves f i e = let a = ident_ahead f i e in one f (rest_of f) a.0 a.1
 
 colons_leaves : (f rest : Forest) → after_colons f ≡ Some rest → AheadLeaves f rest
 colons_leaves f rest e =
-    let a = then_some (after_char 58) (after_char 58 f) rest e in both f a.0 rest (char_leaves 58 f a.0 a.1) (char_leaves 58 a.0 rest a.2)
+    let a = then_some (after_char 58) (after_char 58 f) rest e in
+    both f a.0 rest (char_leaves 58 f a.0 a.1) (char_leaves 58 a.0 rest a.2)
 
 path_to_leaves : (is_path : Bool) (f : Forest) (p : Path) → path_to is_path f ≡ Some p → AheadLeaves f p.rest
 path_to_leaves is_path f p e =
@@ -136,7 +144,8 @@ unfolding longer
 longer_leaves zero q p e = let same : p ≡ q = cc in record { kept = []; is = ap (λ (r : Path). r.rest) same }
 longer_leaves (suc n) q p e = goes_on_leaves n p q (longer_leaves n q) (after_colons p.rest) refl e
 
-path_from_leaves : (f : Forest) (p : Path) (o : Option Forest) → after_colons f ≡ o → path_from f o ≡ Some p → AheadLeaves f p.rest
+path_from_leaves : (f : Forest) (p : Path) (o : Option Forest) → after_colons f ≡ o → path_from f o ≡ Some p
+    → AheadLeaves f p.rest
 path_from_leaves f p None c e =
     let a = then_some longest (path_to false f) p e in
     both f a.0.rest p.rest (path_to_leaves false f a.0 a.1) (longer_leaves (flat_len a.0.rest) p a.0 a.2)
@@ -152,16 +161,26 @@ path_from_leaves f p (Some after) c e =
 abbrev pub AheadCall : Forest → Call → Type 0
 AheadCall f c = AheadLeaves f (group c.delimiter c.argument c.rest)
 
-call_with_ahead : (start : Span) (p : Path) (f : Forest) (c : Call) → call_with start p f ≡ Some c → f ≡ group c.delimiter c.argument c.rest
+call_with_ahead : (start : Span) (p : Path) (f : Forest) (c : Call) → call_with start p f ≡ Some c
+    → f ≡ group c.delimiter c.argument c.rest
 call_with_ahead start p f c e =
-    let made : Delimiter × Forest → Call = λ g. record { name = p.name; is_path = p.is_path; delimiter = g.0; argument = g.1; rest = rest_of f; start = start } in
+    let made : Delimiter × Forest → Call =
+    λ g. record {
+      name = p.name;
+      is_path = p.is_path;
+      delimiter = g.0;
+      argument = g.1;
+      rest = rest_of f;
+      start = start;
+    } in
     let a = then_some (λ g. if is_visible g.0.kind then Some (made g) else None) (front_group f) c e in
     let same : made a.0 ≡ c = if_some (is_visible a.0.0.kind) (made a.0) c a.2 in
     group_ahead f a.0.1 a.0.0 a.1 ∙ ap (λ (k : Call). group k.delimiter k.argument k.rest) same
 
 call_by_ahead : (start : Span) (p : Path) (c : Call) → call_by start p ≡ Some c → AheadCall p.rest c
 call_by_ahead start p c e =
-    let k = if_some_of (is_nameable p.name.is_raw p.name.sym) (option_and_then (call_with start p) (after_char 33 p.rest)) c e in
+    let k = if_some_of (is_nameable p.name.is_raw p.name.sym)
+    (option_and_then (call_with start p) (after_char 33 p.rest)) c e in
     let a = then_some (call_with start p) (after_char 33 p.rest) c k in
     both p.rest a.0 (group c.delimiter c.argument c.rest) (char_leaves 33 p.rest a.0 a.1)
     (record { kept = []; is = call_with_ahead start p a.0 c a.2 })
@@ -186,14 +205,22 @@ after_rules_ahead Bracket f g a = semicolon_ahead f g (after_char 59 g) refl a
 after_rules_ahead Invisible f g a = semicolon_ahead f g (after_char 59 g) refl a
 
 -- the group at the front of g, after some leaves
-group_after : (f g inside : Forest) (d : Delimiter) → AheadLeaves f g → front_group g ≡ Some (d, inside) → Ahead f (rest_of g)
+group_after : (f g inside : Forest) (d : Delimiter) → AheadLeaves f g → front_group g ≡ Some (d, inside)
+    → Ahead f (rest_of g)
 group_after f g inside d a e =
-    with_group f (rest_of g) inside d (both f g (group d inside (rest_of g)) a (record { kept = []; is = group_ahead g inside d e }))
+    with_group f (rest_of g) inside d (both f g (group d inside (rest_of g)) a
+    (record { kept = []; is = group_ahead g inside d e }))
 
 ends_with : (f rest : Forest) (d e : Defined) → d ≡ e → Ahead f d.rest → Ahead f e.rest
-ends_with f rest d e same a = record { kept = a.kept; is = a.is ∙ ap (λ (k : Defined). append a.kept k.rest) same; some = a.some }
+ends_with f rest d e same a = record {
+  kept = a.kept;
+  is = a.is
+      ∙ ap (λ (k : Defined). append a.kept k.rest) same;
+  some = a.some;
+}
 
-rules_with_ahead : (f g : Forest) (name : Ident) (d : Defined) → AheadLeaves f g → rules_with name g ≡ Some d → Ahead f d.rest
+rules_with_ahead : (f g : Forest) (name : Ident) (d : Defined) → AheadLeaves f g → rules_with name g ≡ Some d
+    → Ahead f d.rest
 rules_with_ahead f g name d a e =
     let k = map_some _ (front_group g) d e in
     ends_with f g _ d k.2 (after_rules_ahead k.0.0.kind f (rest_of g) (group_after f g k.0.1 k.0.0 a k.1))
@@ -206,7 +233,8 @@ rules_of_ahead f g d a e =
     (both f g (rest_of k.0) a (both g k.0 (rest_of k.0) (char_leaves 33 g k.0 k.1) (ident_leaves k.0 i.0 i.1))) i.2
 
 -- after a group, another one
-template_ahead : (f g pattern : Forest) (name : Ident) (p : Delimiter) (d : Defined) → Ahead f g → template_with name p pattern g ≡ Some d
+template_ahead : (f g pattern : Forest) (name : Ident) (p : Delimiter) (d : Defined) → Ahead f g
+    → template_with name p pattern g ≡ Some d
     → Ahead f d.rest
 template_ahead f g pattern name p d a e =
     let k = map_some _ (front_group g) d e in
@@ -220,7 +248,13 @@ template_ahead f g pattern name p d a e =
 body_ahead : (kind : DelimiterKind) (f g inside : Forest) (name : Ident) (k : Delimiter) (d : Defined) → Ahead f g
     → body_with name kind k inside g ≡ Some d → Ahead f d.rest
 body_ahead Brace f g inside name k d a e =
-    let same : record { name = name; form = Rattle.mbe_calls.specs.Fronts.Body; delimiter = k; rules = inside; rest = g } ≡ d = cc in ends_with f g _ d same a
+    let same : record {
+      name = name;
+      form = Rattle.mbe_calls.specs.Fronts.Body;
+      delimiter = k;
+      rules = inside;
+      rest = g;
+    } ≡ d = cc in ends_with f g _ d same a
 body_ahead Parenthesis f g inside name k d a e = template_ahead f g inside name k d a e
 body_ahead Bracket f g inside name k d a e = template_ahead f g inside name k d a e
 body_ahead Invisible f g inside name k d a e = template_ahead f g inside name k d a e
@@ -238,9 +272,11 @@ defined_ahead true m f g d a e = rules_of_ahead f g d a e
 defined_ahead false true f g d a e = item_of_ahead f g d a e
 defined_ahead false false f g d a e = absurd (cc)
 
-raw_ahead : (raw : IdentIsRaw) (word : List ℕ) (f g : Forest) (d : Defined) → AheadLeaves f g → defined_after raw word g ≡ Some d → Ahead f d.rest
+raw_ahead : (raw : IdentIsRaw) (word : List ℕ) (f g : Forest) (d : Defined) → AheadLeaves f g
+    → defined_after raw word g ≡ Some d → Ahead f d.rest
 raw_ahead Yes word f g d a e = absurd (cc)
-raw_ahead No word f g d a e = defined_ahead (is_text word (codes "macro_rules")) (is_text word (codes "macro")) f g d a e
+raw_ahead No word f g d a e = defined_ahead (is_text word (codes "macro_rules")) (is_text word (codes "macro")) f g d a
+    e
 
 definition_ahead : (f : Forest) (d : Defined) → definition_of f ≡ Some d → Ahead f d.rest
 definition_ahead f d e =
@@ -251,10 +287,12 @@ definition_ahead f d e =
 tree_ahead : (f rest : Forest) (t : Tree) → tree_front f (first f) ≡ Other t rest → f ≡ tree t rest
 tree_ahead none rest t e = absurd (cc)
 tree_ahead (leaf l more) rest t e =
-    let same : Other (Leaf_tree l) more ≡ Other t rest = e in let a : Leaf_tree l ≡ t = cc in let b : more ≡ rest = cc in
+    let same : Other (Leaf_tree l) more ≡ Other t rest = e in let a : Leaf_tree l ≡ t = cc in let b : more ≡ rest =
+    cc in
     ap (leaf l) b ∙ ap (λ k. tree k rest) a
 tree_ahead (group d inside more) rest t e =
-    let same : Other (Group_tree d inside) more ≡ Other t rest = e in let a : Group_tree d inside ≡ t = cc in let b : more ≡ rest = cc in
+    let same : Other (Group_tree d inside) more ≡ Other t rest = e in let a : Group_tree d inside ≡ t =
+    cc in let b : more ≡ rest = cc in
     ap (group d inside) b ∙ ap (λ k. tree k rest) a
 
 no_definition : (f : Forest) (d : Defined) (o : Option Call) → call_front f o ≡ Definition d → ⊥
@@ -268,18 +306,21 @@ no_call none c e = absurd (cc)
 no_call (leaf l rest) c e = absurd (cc)
 no_call (group k inside rest) c e = absurd (cc)
 
-definition_by : (f : Forest) (d : Defined) (o : Option Defined) → definition_of f ≡ o → front_with f o ≡ Definition d → Ahead f d.rest
+definition_by : (f : Forest) (d : Defined) (o : Option Defined) → definition_of f ≡ o → front_with f o ≡ Definition d
+    → Ahead f d.rest
 definition_by f d None c e = absurd (no_definition f d (call_of f) e)
 definition_by f d (Some k) c e = let same : k ≡ d = cc in definition_ahead f d (c ∙ ap Some same)
 
 pub front_definition : (f : Forest) (d : Defined) → front f ≡ Definition d → Ahead f d.rest
 front_definition f d e = definition_by f d (definition_of f) refl e
 
-call_by_front : (f : Forest) (c : Call) (o : Option Defined) (p : Option Call) → call_of f ≡ p → front_with f o ≡ ACall c
+call_by_front : (f : Forest) (c : Call) (o : Option Defined) (p : Option Call) → call_of f ≡ p
+    → front_with f o ≡ ACall c
     → call_front f p ≡ call_front f (call_of f) → AheadCall f c
 call_by_front f c (Some d) p q e s = absurd (cc)
 call_by_front f c None None q e s = absurd (no_call f c (s ∙ e))
-call_by_front f c None (Some k) q e s = let same : k ≡ c = (let h : ACall k ≡ ACall c = s ∙ e in cc) in call_of_ahead f c (q ∙ ap Some same)
+call_by_front f c None (Some k) q e s = let same : k ≡ c =
+    (let h : ACall k ≡ ACall c = s ∙ e in cc) in call_of_ahead f c (q ∙ ap Some same)
 
 pub front_call : (f : Forest) (c : Call) → front f ≡ ACall c → AheadCall f c
 front_call f c e = call_by_front f c (definition_of f) (call_of f) refl e refl
@@ -287,7 +328,8 @@ front_call f c e = call_by_front f c (definition_of f) (call_of f) refl e refl
 pub call_ahead : (f : Forest) (c : Call) → front f ≡ ACall c → Ahead f c.rest
 call_ahead f c e = with_group f c.rest c.argument c.delimiter (front_call f c e)
 
-tree_by_front : (f rest : Forest) (t : Tree) (o : Option Defined) (p : Option Call) → call_of f ≡ p → front_with f o ≡ Other t rest → f ≡ tree t rest
+tree_by_front : (f rest : Forest) (t : Tree) (o : Option Defined) (p : Option Call) → call_of f ≡ p
+    → front_with f o ≡ Other t rest → f ≡ tree t rest
 tree_by_front f rest t (Some d) p q e = absurd (cc)
 tree_by_front f rest t None (Some c) q e = let h : ACall c ≡ Other t rest = sym (ap (call_front f) q) ∙ e in absurd (cc)
 tree_by_front f rest t None None q e = tree_ahead f rest t (sym (ap (call_front f) q) ∙ e)

@@ -21,14 +21,16 @@ use Rattle.mbe_expanding.specs.Replacing.{Parts, ShowsItems, no_more, at_definit
 pub record Showing (f : Forest) (s : State) (rest : Forest) (t : State) : Type 0 where
   pub on : (u : State) → ShowsItems rest t u → ShowsItems f s u
 
-pub definition_shown : (f g : Forest) (d : Defined) (s t u : State) → Showing f s g t → front g ≡ Definition d → u ≡ item_shown d t → Showing f s d.rest u
+pub definition_shown : (f g : Forest) (d : Defined) (s t u : State) → Showing f s g t → front g ≡ Definition d
+    → u ≡ item_shown d t → Showing f s d.rest u
 definition_shown f g d s t u k is h =
     record { on = λ v more. k.on v (at_definition g d t v is (subst (λ x. ShowsItems d.rest x v) h more)) }
 
 pub call_shown_on : (f g : Forest) (c : Call) (s t : State) → Showing f s g t → front g ≡ ACall c → Showing f s c.rest t
 call_shown_on f g c s t k is = record { on = λ v more. k.on v (at_call g c t v is more) }
 
-pub tree_shown_on : (f g rest : Forest) (tree : Tree) (s t : State) → Showing f s g t → front g ≡ Other tree rest → Showing f s rest t
+pub tree_shown_on : (f g rest : Forest) (tree : Tree) (s t : State) → Showing f s g t → front g ≡ Other tree rest
+    → Showing f s rest t
 tree_shown_on f g rest tree s t k is = record { on = λ v more. k.on v (at_tree g rest tree t v is more) }
 
 pub all_shown : (f rest : Forest) (s t : State) → Showing f s rest t → rest ≡ none → ShowsItems f s t
@@ -37,14 +39,16 @@ all_shown f rest s t k h = k.on t (subst (λ x. ShowsItems x t t) (sym h) (no_mo
 -- ---- parts one after another
 
 -- these parts were added, and with whatever parts the rest has they are those of all
-pub record Adding (e : Setting) (levels : ℕ) (f : Forest) (s : State) (before : List Part) (rest : Forest) (t : State) (now : List Part)
+pub record Adding (e : Setting) (levels : ℕ) (f : Forest) (s : State) (before : List Part) (rest : Forest) (t : State)
+    (now : List Part)
     : Type 0 where
   pub out : List Part
   pub added : now ≡ before ++ out
   pub whole : (more : List Part) (u : State) → AllParts e levels (PartsWithin e levels) rest t more u
       → AllParts e levels (PartsWithin e levels) f s (out ++ more) u
 
-pub none_added : (e : Setting) (levels : ℕ) (f rest : Forest) (s t : State) (b now : List Part) → rest ≡ f → t ≡ s → now ≡ b
+pub none_added : (e : Setting) (levels : ℕ) (f rest : Forest) (s t : State) (b now : List Part) → rest ≡ f → t ≡ s
+    → now ≡ b
     → Adding e levels f s b rest t now
 none_added e levels f rest s t b now r k n = record {
   out = [];
@@ -54,8 +58,10 @@ none_added e levels f rest s t b now r k n = record {
       (subst (λ x. AllParts e levels (PartsWithin e levels) rest x more u) k h);
 }
 
-front_added : (e : Setting) (levels : ℕ) (f g rest : Forest) (s t u : State) (b mid now parts : List Part) → Adding e levels f s b g t mid
-    → FrontParts e levels (PartsWithin e levels) g t parts rest u → now ≡ mid ++ parts → Adding e levels f s b rest u now
+front_added : (e : Setting) (levels : ℕ) (f g rest : Forest) (s t u : State) (b mid now parts : List Part)
+    → Adding e levels f s b g t mid
+    → FrontParts e levels (PartsWithin e levels) g t parts rest u → now ≡ mid ++ parts
+    → Adding e levels f s b rest u now
 front_added e levels f g rest s t u b mid now parts d step n = record {
   out = d.out ++ parts;
   added = n ∙ (ap (λ x. x ++ parts) d.added ∙ append_assoc b d.out parts);
@@ -65,22 +71,27 @@ front_added e levels f g rest s t u b mid now parts d step n = record {
 }
 
 pub definition_added : (e : Setting) (levels : ℕ) (f g : Forest) (d : Defined) (s t u : State) (b mid now : List Part)
-    → Adding e levels f s b g t mid → front g ≡ Definition d → u ≡ rules_shown d t → now ≡ mid → Adding e levels f s b d.rest u now
+    → Adding e levels f s b g t mid → front g ≡ Definition d → u ≡ rules_shown d t → now ≡ mid
+    → Adding e levels f s b d.rest u now
 definition_added e levels f g d s t u b mid now k is h n =
     front_added e levels f g d.rest s t u b mid now [] k
     (subst (λ x. FrontParts e levels (PartsWithin e levels) g t [] d.rest x) (sym h) (of_definition d is))
     (n ∙ sym (append-nil mid))
 
-pub tree_added : (e k : Setting) (levels : ℕ) (f g rest : Forest) (tree : Tree) (s t u : State) (b mid now : List Part) → k ≡ e
-    → Adding e levels f s b g t mid → front g ≡ Other tree rest → Adds (PartsOfTree (PartsWithin k levels) tree t) mid now u
+pub tree_added : (e k : Setting) (levels : ℕ) (f g rest : Forest) (tree : Tree) (s t u : State) (b mid now : List Part)
+    → k ≡ e
+    → Adding e levels f s b g t mid → front g ≡ Other tree rest
+    → Adds (PartsOfTree (PartsWithin k levels) tree t) mid now u
     → Adding e levels f s b rest u now
 tree_added e k levels f g rest tree s t u b mid now h d is a =
     front_added e levels f g rest s t u b mid now a.0 d
     (of_tree tree rest a.0 u is (subst (λ x. PartsOfTree (PartsWithin x levels) tree t a.0 u) h a.1)) a.2
 
-pub call_added : (e k : Setting) (levels : ℕ) (f g rest : Forest) (c : Call) (s t u : State) (b mid now : List Part) → k ≡ e
+pub call_added : (e k : Setting) (levels : ℕ) (f g rest : Forest) (c : Call) (s t u : State) (b mid now : List Part)
+    → k ≡ e
     → Adding e levels f s b g t mid → front g ≡ ACall c
-    → Adds (λ parts. PartsOfCall k levels (PartsWithin k levels) c t parts rest) mid now u → Adding e levels f s b rest u now
+    → Adds (λ parts. PartsOfCall k levels (PartsWithin k levels) c t parts rest) mid now u
+    → Adding e levels f s b rest u now
 call_added e k levels f g rest c s t u b mid now h d is a =
     front_added e levels f g rest s t u b mid now a.0 d
     (of_call c a.0 rest u is (subst (λ x. PartsOfCall x levels (PartsWithin x levels) c t a.0 rest u) h a.1)) a.2
@@ -93,7 +104,8 @@ unfolding PartsWithin
 within_by e levels f s t u parts h a = (t, h, a)
 
 -- the items are shown, and then each tree has its parts
-pub all_added : (e k : Setting) (levels : ℕ) (f rest : Forest) (o s t : State) (b now : List Part) → k ≡ e → ShowsItems f o s
+pub all_added : (e k : Setting) (levels : ℕ) (f rest : Forest) (o s t : State) (b now : List Part) → k ≡ e
+    → ShowsItems f o s
     → Adding k levels f s b rest t now → rest ≡ none → Adds (PartsWithin e (suc levels) f o) b now t
 all_added e k levels f rest o s t b now is h d r =
     let all = subst (λ x. AllParts k levels (PartsWithin k levels) f s x t) (append-nil d.out)
@@ -107,22 +119,27 @@ none_within : (e : Setting) (levels : ℕ) (f : Forest) (s : State) → levels �
 unfolding PartsWithin
 none_within e levels f s h = subst (λ n. PartsWithin e n f s [] s) (sym h) (refl, refl)
 
-pub inside_none : (e : Setting) (levels : ℕ) (f : Forest) (s u : State) (b now : List Part) → levels ≡ 0 → now ≡ b → u ≡ s
+pub inside_none : (e : Setting) (levels : ℕ) (f : Forest) (s u : State) (b now : List Part) → levels ≡ 0 → now ≡ b
+    → u ≡ s
     → Adds (PartsWithin e levels f s) b now u
-inside_none e levels f s u b now l n k = ([], subst (λ x. PartsWithin e levels f s [] x) (sym k) (none_within e levels f s l), n ∙ sym (append-nil b))
+inside_none e levels f s u b now l n k =
+    ([], subst (λ x. PartsWithin e levels f s [] x) (sym k) (none_within e levels f s l), n ∙ sym (append-nil b))
 
-pub group_added : (within : Parts) (tree : Tree) (d : Delimiter) (inside view : Forest) (s t u : State) (b now : List Part) → tree ≡ Group_tree d inside
+pub group_added : (within : Parts) (tree : Tree) (d : Delimiter) (inside view : Forest) (s t u : State)
+    (b now : List Part) → tree ≡ Group_tree d inside
     → view ≡ inside → Adds (within view s) b now t → LeavesGroup d.kind s t u → Adds (PartsOfTree within tree s) b now u
 group_added within tree d inside view s t u b now h v a l =
     subst (λ x. Adds (PartsOfTree within x s) b now u) (sym h) (a.0, (t, subst (λ x. within x s a.0 t) v a.1, l), a.2)
 
-pub left_group : (k : DelimiterKind) (mark : ℕ) (s t u : State) → mark ≡ length s.scope.visible → u ≡ after_group k mark t → LeavesGroup k s t u
+pub left_group : (k : DelimiterKind) (mark : ℕ) (s t u : State) → mark ≡ length s.scope.visible
+    → u ≡ after_group k mark t → LeavesGroup k s t u
 left_group k mark s t u h e = subst (LeavesGroup k s t) (sym (e ∙ ap (λ n. after_group k n t) h)) is_left
 
 -- ---- calls
 
 pub kept_added : (e k : Setting) (levels : ℕ) (c : Call) (o : Option Top) (s t u : State) (b now : List Part) → k ≡ e
-    → Tries e c levels e.depth s t o → o ≡ None → Adds (PartsOfArgument (PartsWithin k levels) (is_standard c.name.sym) c.argument t) b now u
+    → Tries e c levels e.depth s t o → o ≡ None
+    → Adds (PartsOfArgument (PartsWithin k levels) (is_standard c.name.sym) c.argument t) b now u
     → Adds (λ parts. PartsOfCall e levels (PartsWithin e levels) c s parts c.rest) b now u
 kept_added e k levels c o s t u b now h tried n a = (
   a.0,
@@ -131,7 +148,8 @@ kept_added e k levels c o s t u b now h tried n a = (
   a.2,
 )
 
-pub replaced_added : {X : Type 0} (shown : X → Part) (e k : Setting) (levels : ℕ) (left : Forest) (c : Call) (tree : Top) (o : Option Top) (s t u : State)
+pub replaced_added : {X : Type 0} (shown : X → Part) (e k : Setting) (levels : ℕ) (left : Forest) (c : Call)
+    (tree : Top) (o : Option Top) (s t u : State)
     (xs ys : List X) (x : X) → k ≡ e → Tries e c levels e.depth s t o → o ≡ Some tree
     → IsPartOf k levels (e.depth - 1) c tree.1 t (shown x) left u → ys ≡ xs ++ x ∷ []
     → Adds (λ parts. PartsOfCall e levels (PartsWithin e levels) c s parts left) (map shown xs) (map shown ys) u
@@ -144,7 +162,8 @@ replaced_added shown e k levels left c tree o s t u xs ys x h tried n p is =
       ap (map shown) is ∙ map-append shown xs (x ∷ []),
     )
 
-pub parts_left : (e : Setting) (levels : ℕ) (within : Parts) (c : Call) (s u : State) (parts : List Part) (rest : Forest)
+pub parts_left : (e : Setting) (levels : ℕ) (within : Parts) (c : Call) (s u : State) (parts : List Part)
+    (rest : Forest)
     → PartsOfCall e levels within c s parts rest u → IsLeft c.rest rest
 parts_left e levels within c s v all left (of_kept parts t u h a) = what_follows
 parts_left e levels within c s v all left (of_replaced tree part rest u r p) = p.leaves
@@ -152,7 +171,8 @@ parts_left e levels within c s v all left (of_replaced tree part rest u r p) = p
 -- ---- files
 
 pub of_file : (e : Setting) (levels mark : ℕ) (f : Forest) (s t u : State) (b now : List Part) → b ≡ []
-    → Adds (PartsWithin e (suc levels) f s) b now t → mark ≡ length s.scope.visible → u.scope ≡ with_left mark t.scope → u.fuel ≡ t.fuel
+    → Adds (PartsWithin e (suc levels) f s) b now t → mark ≡ length s.scope.visible → u.scope ≡ with_left mark t.scope
+    → u.fuel ≡ t.fuel
     → PartsOfFile e levels f s now u
 of_file e levels mark f s t u b now h a m k l =
     let same : now ≡ a.0 = a.2 ∙ ap (λ x. x ++ a.0) h in (

@@ -8,11 +8,13 @@ use Rattle.mbe_expanding.specs.Calls.{Setting, State}
 use Rattle.mbe_expanding.proofs.FrontLemmas.{append_append}
 
 -- these trees were written, and whatever the rest becomes, with them it is what all becomes
-pub record Done (e : Setting) (levels depth : ℕ) (f : Forest) (s : State) (before : Levels) (rest : Forest) (t : State) (now : Levels)
+pub record Done (e : Setting) (levels depth : ℕ) (f : Forest) (s : State) (before : Levels) (rest : Forest) (t : State)
+    (now : Levels)
     : Type 0 where
   pub out : Forest
   pub written : now ≡ put out before
-  pub whole : (more : Forest) (u : State) → Becomes e (suc levels) depth rest t more u → Becomes e (suc levels) depth f s (append out more) u
+  pub whole : (more : Forest) (u : State) → Becomes e (suc levels) depth rest t more u
+      → Becomes e (suc levels) depth f s (append out more) u
 
 put_none : (b : Levels) → b ≡ put none b
 put_none [] = refl
@@ -22,15 +24,18 @@ pub put_put : (f g : Forest) (b : Levels) → put g (put f b) ≡ put (append f 
 put_put f g [] = refl
 put_put f g (k ∷ outer) = ap (λ h. (k.0, h) ∷ outer) (append_append k.1 f g)
 
-pub none_done : (e : Setting) (levels depth : ℕ) (f rest : Forest) (s t : State) (b now : Levels) → rest ≡ f → t ≡ s → now ≡ b
+pub none_done : (e : Setting) (levels depth : ℕ) (f rest : Forest) (s t : State) (b now : Levels) → rest ≡ f → t ≡ s
+    → now ≡ b
     → Done e levels depth f s b rest t now
 none_done e levels depth f rest s t b now r k n = record {
   out = none;
   written = n ∙ put_none b;
-  whole = λ more u h. subst (λ x. Becomes e (suc levels) depth x s more u) r (subst (λ x. Becomes e (suc levels) depth rest x more u) k h);
+  whole = λ more u h. subst (λ x. Becomes e (suc levels) depth x s more u) r
+      (subst (λ x. Becomes e (suc levels) depth rest x more u) k h);
 }
 
-step_on : (e : Setting) (levels depth : ℕ) (f out rest more : Forest) (s t u : State) → Step e levels depth (Becomes e levels) f s out rest t
+step_on : (e : Setting) (levels depth : ℕ) (f out rest more : Forest) (s t u : State)
+    → Step e levels depth (Becomes e levels) f s out rest t
     → Becomes e (suc levels) depth rest t more u → Becomes e (suc levels) depth f s (append out more) u
 unfolding Becomes
 step_on e levels depth f out rest more s t u step h = goes_on f out rest more s t u step h
@@ -49,7 +54,12 @@ no_step : (e : Setting) (levels depth : ℕ) (f : Forest) (s : State) → f ≡ 
 unfolding Becomes
 no_step e levels depth f s h = subst (λ x. Steps e levels depth (Becomes e levels) x s none s) (sym h) (ends s)
 
-pub all_done : (e : Setting) (levels depth : ℕ) (f rest : Forest) (s t : State) (b now : Levels) → Done e levels depth f s b rest t now
+pub all_done : (e : Setting) (levels depth : ℕ) (f rest : Forest) (s t : State) (b now : Levels)
+    → Done e levels depth f s b rest t now
     → rest ≡ none → Writes (Becomes e (suc levels) depth f s) b now t
-all_done e levels depth f rest s t b now d h =
-    (d.out, subst (λ x. Becomes e (suc levels) depth f s x t) (append-none d.out) (d.whole none t (no_step e levels depth rest t h)), d.written)
+all_done e levels depth f rest s t b now d h = (
+  d.out,
+  subst (λ x. Becomes e (suc levels) depth f s x t) (append-none d.out)
+      (d.whole none t (no_step e levels depth rest t h)),
+  d.written,
+)

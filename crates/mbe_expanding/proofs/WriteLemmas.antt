@@ -31,47 +31,67 @@ abbrev pub IsUpTo : Forest → Forest → Forest → Type 0
 IsUpTo f rest view = (kept : Forest) → f ≡ append kept rest → view ≡ kept
 
 same_state : (u s : State) (scope : Scope) → u.scope ≡ scope → u.fuel ≡ s.fuel → u ≡ record s { scope = scope }
-same_state u s scope a b = ap (λ x. let t : State = record { scope = x; fuel = u.fuel } in t) a ∙ ap (λ x. let t : State = record { scope = scope; fuel = x } in t) b
+same_state u s scope a b = ap (λ x. let t : State = record { scope = x; fuel = u.fuel } in t) a
+    ∙ ap (λ x. let t : State = record { scope = scope; fuel = x } in t) b
 
-pub reads_written : (e : Setting) (f view : Forest) (d : Defined) (s u : State) (read : Scope) (n : ℕ) (b now : Levels) → front f ≡ Definition d
-    → IsRead e.edition d false s.scope read → n ≡ length s.scope.definitions → u.scope ≡ with_shown n read → u.fuel ≡ s.fuel
+pub reads_written : (e : Setting) (f view : Forest) (d : Defined) (s u : State) (read : Scope) (n : ℕ) (b now : Levels)
+    → front f ≡ Definition d
+    → IsRead e.edition d false s.scope read → n ≡ length s.scope.definitions → u.scope ≡ with_shown n read
+    → u.fuel ≡ s.fuel
     → IsUpTo f d.rest view → now ≡ put view b → Writes (Reads e f d s) b now u
 reads_written e f view d s u read n b now h r number scope fuel up w =
     let a = front_definition f d h in (
       a.kept,
-      (a.is, read, r, same_state u s (with_shown (length s.scope.definitions) read) (scope ∙ ap (λ k. with_shown k read) number) fuel),
+      (
+        a.is,
+        read,
+        r,
+        same_state u s (with_shown (length s.scope.definitions) read)
+            (scope ∙ ap (λ k. with_shown k read) number) fuel,
+      ),
       w ∙ ap (λ k. put k b) (up a.kept a.is),
     )
 
 -- ---- groups
 
-pub inside_kept : (e : Setting) (levels depth : ℕ) (f : Forest) (s u : State) (b now : Levels) → levels ≡ 0 → now ≡ put f b → u ≡ s
+pub inside_kept : (e : Setting) (levels depth : ℕ) (f : Forest) (s u : State) (b now : Levels) → levels ≡ 0
+    → now ≡ put f b → u ≡ s
     → Writes (Becomes e levels depth f s) b now u
 unfolding Becomes
 inside_kept e levels depth f s u b now l w k =
     subst (λ n. Writes (Becomes e n depth f s) b now u) (sym l) (f, (refl, k), w)
 
-pub wrapped_bare : (inner : Change) (d : Delimiter) (f : Forest) (s u : State) (b now : Levels) → Writes (inner f s) b now u
+pub wrapped_bare : (inner : Change) (d : Delimiter) (f : Forest) (s u : State) (b now : Levels)
+    → Writes (inner f s) b now u
     → Writes (ChangesWrapped inner d f s) b now u
 wrapped_bare inner d f s u b now w = (w.0, (w.0, w.1, bare), w.2)
 
-put_in : (d : Delimiter) (f : Forest) (kind : DelimiterKind) → IsWrap kind → IsWrapped d f (group (record d { kind = kind }) f none)
+put_in : (d : Delimiter) (f : Forest) (kind : DelimiterKind) → IsWrap kind
+    → IsWrapped d f (group (record d { kind = kind }) f none)
 put_in d f Parenthesis h = in_parentheses
 put_in d f Brace h = in_braces
 put_in d f Bracket h = absurd h
 put_in d f Invisible h = absurd h
 
-pub wrapped_in : (inner : Change) (d : Delimiter) (kind : DelimiterKind) (wrap : Option DelimiterKind) (f : Forest) (s u : State) (b opened mid now : Levels)
+pub wrapped_in : (inner : Change) (d : Delimiter) (kind : DelimiterKind) (wrap : Option DelimiterKind) (f : Forest)
+    (s u : State) (b opened mid now : Levels)
     → IfSome wrap IsWrap → wrap ≡ Some kind
-    → opened ≡ (record { opening = d.opening; close = d.opening; kind = kind }, none) ∷ b → Writes (inner f s) opened mid u
+    → opened ≡ (record { opening = d.opening; close = d.opening; kind = kind }, none) ∷ b
+    → Writes (inner f s) opened mid u
     → now ≡ closed d.close mid → Writes (ChangesWrapped inner d f s) b now u
-wrapped_in inner d kind wrap f s u b opened mid now h k o w c =
-    (group (record d { kind = kind }) w.0 none, (w.0, w.1, put_in d w.0 kind (subst (λ x. IfSome x IsWrap) k h)), c ∙ ap (closed d.close) (w.2 ∙ ap (put w.0) o))
+wrapped_in inner d kind wrap f s u b opened mid now h k o w c = (
+  group (record d { kind = kind }) w.0 none,
+  (w.0, w.1, put_in d w.0 kind (subst (λ x. IfSome x IsWrap) k h)),
+  c
+      ∙ ap (closed d.close) (w.2 ∙ ap (put w.0) o),
+)
 
 -- ---- calls
 
-pub expansion_written : (inner : Change) (d : Delimiter) (tree part : Forest) (s u : State) (gets : Bool) (b mid now : Levels) → IsPart tree part
-    → Writes (ChangesWrapped inner d part s) b mid u → now ≡ (if gets then put (one_leaf (semicolon d.close)) mid else mid)
+pub expansion_written : (inner : Change) (d : Delimiter) (tree part : Forest) (s u : State) (gets : Bool)
+    (b mid now : Levels) → IsPart tree part
+    → Writes (ChangesWrapped inner d part s) b mid u
+    → now ≡ (if gets then put (one_leaf (semicolon d.close)) mid else mid)
     → Writes (StandsFor inner d tree s) b now u
 expansion_written inner d tree part s u false b mid now p w e =
     (w.0, record { part = part; wrapped = w.0; is_part = p; changes = w.1; ended = as_it_is }, e ∙ w.2)
@@ -81,13 +101,16 @@ expansion_written inner d tree part s u true b mid now p w e = (
   e ∙ (ap (put (one_leaf (semicolon d.close))) w.2 ∙ put_put w.0 (one_leaf (semicolon d.close)) b),
 )
 
-pub kept_written : (inner : Change) (standard : Bool) (f : Forest) (c : Call) (s u : State) (b now : Levels) → front f ≡ ACall c → standard ≡ false
-    → ((kept : Forest) → f ≡ append kept c.rest → now ≡ put kept b) → u ≡ s → Writes (Keeps inner standard f c s) b now u
+pub kept_written : (inner : Change) (standard : Bool) (f : Forest) (c : Call) (s u : State) (b now : Levels)
+    → front f ≡ ACall c → standard ≡ false
+    → ((kept : Forest) → f ≡ append kept c.rest → now ≡ put kept b) → u ≡ s
+    → Writes (Keeps inner standard f c s) b now u
 kept_written inner standard f c s u b now h n copied k =
     let a = call_ahead f c h in
     subst (λ x. Writes (Keeps inner x f c s) b now u) (sym n) (a.kept, (a.is, k), copied a.kept a.is)
 
-pub standard_written : (inner : Change) (standard : Bool) (f : Forest) (c : Call) (s u : State) (b mid now : Levels) → front f ≡ ACall c
+pub standard_written : (inner : Change) (standard : Bool) (f : Forest) (c : Call) (s u : State) (b mid now : Levels)
+    → front f ≡ ACall c
     → standard ≡ true → ((kept : Forest) → f ≡ append kept (from_group f) → mid ≡ put kept b)
     → Writes (ChangesGroup inner c.delimiter c.argument s) mid now u → Writes (Keeps inner standard f c s) b now u
 standard_written inner standard f c s u b mid now h n copied w =
@@ -98,29 +121,36 @@ standard_written inner standard f c s u b mid now h n copied w =
       w.2 ∙ (ap (put w.0) (copied (leaves a.kept) (leaves_before f c h)) ∙ put_put (leaves a.kept) w.0 b),
     )
 
-pub call_stays : (e k : Setting) (levels depth : ℕ) (f : Forest) (c : Call) (o : Option Top) (s t u : State) (b now : Levels) → k ≡ e
-    → Tries e c levels depth s t o → o ≡ None → Writes (Keeps (Becomes k levels depth) (is_standard c.name.sym) f c t) b now u
+pub call_stays : (e k : Setting) (levels depth : ℕ) (f : Forest) (c : Call) (o : Option Top) (s t u : State)
+    (b now : Levels) → k ≡ e
+    → Tries e c levels depth s t o → o ≡ None
+    → Writes (Keeps (Becomes k levels depth) (is_standard c.name.sym) f c t) b now u
     → Writes (λ out. ChangesCall e levels depth (Becomes e levels) f c s out c.rest) b now u
 call_stays e k levels depth f c o s t u b now h tried n w = (
   w.0,
-  stays w.0 t u (subst (Tries e c levels depth s t) n tried) (subst (λ x. Keeps (Becomes x levels depth) (is_standard c.name.sym) f c t w.0 u) h w.1),
+  stays w.0 t u (subst (Tries e c levels depth s t) n tried)
+      (subst (λ x. Keeps (Becomes x levels depth) (is_standard c.name.sym) f c t w.0 u) h w.1),
   w.2,
 )
 
-pub call_replaced : {V R : Type 0} (shown : V → Forest) (r : Result V R) (e k : Setting) (levels depth : ℕ) (f : Forest) (c : Call) (tree : Top) (o : Option Top)
+pub call_replaced : {V R : Type 0} (shown : V → Forest) (r : Result V R) (e k : Setting) (levels depth : ℕ) (f : Forest)
+    (c : Call) (tree : Top) (o : Option Top)
     (s t u : State) (b now : Levels) → k ≡ e → Tries e c levels depth s t o → o ≡ Some tree
-    → OnOk r (Writes (StandsFor (Becomes k levels (depth - 1)) c.delimiter tree.1 t) b now u) → IfOk r (λ v. IsLeft c.rest (shown v))
+    → OnOk r (Writes (StandsFor (Becomes k levels (depth - 1)) c.delimiter tree.1 t) b now u)
+    → IfOk r (λ v. IsLeft c.rest (shown v))
     → IfOk r (λ v. Writes (λ out. ChangesCall e levels depth (Becomes e levels) f c s out (shown v)) b now u)
 call_replaced shown (Err x) e k levels depth f c tree o s t u b now h tried n w l = tt
 call_replaced shown (Ok v) e k levels depth f c tree o s t u b now h tried n w l =
     let made = subst (Tries e c levels depth s t) n tried in (
       w.0,
-      is_replaced tree w.0 (shown v) u made.0 (subst (λ x. StandsFor (Becomes e levels (depth - 1)) c.delimiter tree.1 x w.0 u) made.1
+      is_replaced tree w.0 (shown v) u made.0
+          (subst (λ x. StandsFor (Becomes e levels (depth - 1)) c.delimiter tree.1 x w.0 u) made.1
           (subst (λ x. StandsFor (Becomes x levels (depth - 1)) c.delimiter tree.1 t w.0 u) h w.1)) l,
       w.2,
     )
 
-pub changed_left : (e : Setting) (levels depth : ℕ) (within : ℕ → Change) (f : Forest) (c : Call) (s u : State) (out rest : Forest)
+pub changed_left : (e : Setting) (levels depth : ℕ) (within : ℕ → Change) (f : Forest) (c : Call) (s u : State)
+    (out rest : Forest)
     → ChangesCall e levels depth within f c s out rest u → IsLeft c.rest rest
 changed_left e levels depth within f c s v all left (stays out t u h k) = what_follows
 changed_left e levels depth within f c s v all left (is_replaced tree out rest t r k l) = l
@@ -131,21 +161,27 @@ changed_left e levels depth within f c s v all left (is_replaced tree out rest t
 pub same_length : (f : Forest) (b now : Levels) → now ≡ put f b → length now ≡ length b
 same_length f b now w = ap length w ∙ length_put f b
 
-pub definition_on : (e k : Setting) (levels depth : ℕ) (f g : Forest) (d : Defined) (s t u : State) (b mid now : Levels) → k ≡ e
-    → Done e levels depth f s b g t mid → front g ≡ Definition d → Writes (Reads k g d t) mid now u → Done e levels depth f s b d.rest u now
+pub definition_on : (e k : Setting) (levels depth : ℕ) (f g : Forest) (d : Defined) (s t u : State) (b mid now : Levels)
+    → k ≡ e
+    → Done e levels depth f s b g t mid → front g ≡ Definition d → Writes (Reads k g d t) mid now u
+    → Done e levels depth f s b d.rest u now
 definition_on e k levels depth f g d s t u b mid now h done is w =
     step_done e levels depth f g w.0 d.rest s t u b mid now done
     (of_definition d w.0 u is (subst (λ x. Reads x g d t w.0 u) h w.1)) w.2
 
-pub tree_on : (e k : Setting) (levels depth : ℕ) (f g rest : Forest) (tree : Tree) (s t u : State) (b mid now : Levels) → k ≡ e
-    → Done e levels depth f s b g t mid → front g ≡ Other tree rest → Writes (ChangesTree (Becomes k levels depth) tree t) mid now u
+pub tree_on : (e k : Setting) (levels depth : ℕ) (f g rest : Forest) (tree : Tree) (s t u : State) (b mid now : Levels)
+    → k ≡ e
+    → Done e levels depth f s b g t mid → front g ≡ Other tree rest
+    → Writes (ChangesTree (Becomes k levels depth) tree t) mid now u
     → Done e levels depth f s b rest u now
 tree_on e k levels depth f g rest tree s t u b mid now h done is w =
     step_done e levels depth f g w.0 rest s t u b mid now done
     (of_tree tree rest w.0 u is (subst (λ x. ChangesTree (Becomes x levels depth) tree t w.0 u) h w.1)) w.2
 
-pub call_on : (e k : Setting) (levels depth : ℕ) (f g rest : Forest) (c : Call) (s t u : State) (b mid now : Levels) → k ≡ e
-    → Done e levels depth f s b g t mid → front g ≡ ACall c → Writes (λ out. ChangesCall k levels depth (Becomes k levels) g c t out rest) mid now u
+pub call_on : (e k : Setting) (levels depth : ℕ) (f g rest : Forest) (c : Call) (s t u : State) (b mid now : Levels)
+    → k ≡ e
+    → Done e levels depth f s b g t mid → front g ≡ ACall c
+    → Writes (λ out. ChangesCall k levels depth (Becomes k levels) g c t out rest) mid now u
     → Done e levels depth f s b rest u now
 call_on e k levels depth f g rest c s t u b mid now h done is w =
     step_done e levels depth f g w.0 rest s t u b mid now done

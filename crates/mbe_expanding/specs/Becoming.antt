@@ -32,7 +32,8 @@ abbrev pub shows : State → Scope → State
 shows s read = record s { scope = with_shown (length s.scope.definitions) read }
 
 -- A group stays, and what it holds is changed.
-pub record ChangesGroup (inner : Change) (d : Delimiter) (inside : Forest) (s : State) (out : Forest) (u : State) : Type 0 where
+pub record ChangesGroup (inner : Change) (d : Delimiter) (inside : Forest) (s : State) (out : Forest)
+    (u : State) : Type 0 where
   pub content : Forest
   pub state : State
   pub changes : inner inside s content state
@@ -49,7 +50,8 @@ abbrev pub ChangesWrapped : Change → Delimiter → Forest → State → Forest
 ChangesWrapped inner d f s out u = (changed : Forest) × inner f s changed u × IsWrapped d changed out
 
 -- An expansion stands in place of its call: its trees are changed, and fitted to what stands beside them.
-pub record StandsFor (inner : Change) (d : Delimiter) (tree : Forest) (s : State) (out : Forest) (u : State) : Type 0 where
+pub record StandsFor (inner : Change) (d : Delimiter) (tree : Forest) (s : State) (out : Forest)
+    (u : State) : Type 0 where
   pub part : Forest
   pub wrapped : Forest
   pub is_part : IsPart tree part
@@ -58,7 +60,8 @@ pub record StandsFor (inner : Change) (d : Delimiter) (tree : Forest) (s : State
 
 -- a definition stays, is read, and is visible from here on
 abbrev pub Reads : Setting → Forest → Defined → State → Forest → State → Type 0
-Reads e f d s out u = (f ≡ append out d.rest) × (read : Scope) × IsRead e.edition d false s.scope read × (u ≡ shows s read)
+Reads e f d s out u = (f ≡ append out d.rest) × (read : Scope) × IsRead e.edition d false s.scope read
+    × (u ≡ shows s read)
 
 -- A call stays; where it calls a macro of the standard library, the calls in its argument are expanded.
 abbrev pub Keeps : Change → Bool → Forest → Call → State → Forest → State → Type 0
@@ -67,29 +70,35 @@ Keeps inner true f c s out u =
     (head content : Forest) × (f ≡ append head (group c.delimiter c.argument c.rest)) × (out ≡ append head content)
     × ChangesGroup inner c.delimiter c.argument s content u
 
--- What a call at the front becomes, with what is left after it. What stands in a group or in an expansion changes as `within` says at a
+-- What a call at the front becomes, with what is left after it. What stands in a group or in an expansion changes as
+-- `within` says at a
 -- depth, so the calls of an expansion are expanded in turn.
 pub data ChangesCall (e : Setting) (levels depth : ℕ) (within : ℕ → Change) (f : Forest) (c : Call) (s : State)
     : Forest → Forest → State → Type 0 where
-  stays : (out : Forest) (t u : State) → Stays e c depth s levels t → Keeps (within depth) (is_standard c.name.sym) f c t out u
+  stays : (out : Forest) (t u : State) → Stays e c depth s levels t
+      → Keeps (within depth) (is_standard c.name.sym) f c t out u
       → ChangesCall e levels depth within f c s out c.rest u
   is_replaced : (tree : Top) (out rest : Forest) (t : State) → IsReplaced e c levels depth s tree
       → StandsFor (within (depth - 1)) c.delimiter tree.1 (spent s) out t → IsLeft c.rest rest
       → ChangesCall e levels depth within f c s out rest t
 
 -- what the front becomes, with what is left after it
-pub data Step (e : Setting) (levels depth : ℕ) (within : ℕ → Change) (f : Forest) (s : State) : Forest → Forest → State → Type 0 where
+pub data Step (e : Setting) (levels depth : ℕ) (within : ℕ → Change) (f : Forest) (s : State) : Forest → Forest → State
+    → Type 0 where
   of_definition : (d : Defined) (out : Forest) (t : State) → front f ≡ Definition d → Reads e f d s out t
       → Step e levels depth within f s out d.rest t
-  of_tree : (tree : Tree) (rest out : Forest) (t : State) → front f ≡ Other tree rest → ChangesTree (within depth) tree s out t
+  of_tree : (tree : Tree) (rest out : Forest) (t : State) → front f ≡ Other tree rest
+      → ChangesTree (within depth) tree s out t
       → Step e levels depth within f s out rest t
-  of_call : (c : Call) (rest out : Forest) (t : State) → front f ≡ ACall c → ChangesCall e levels depth within f c s out rest t
+  of_call : (c : Call) (rest out : Forest) (t : State) → front f ≡ ACall c
+      → ChangesCall e levels depth within f c s out rest t
       → Step e levels depth within f s out rest t
 
 -- one step after another, to the end
 pub data Steps (e : Setting) (levels depth : ℕ) (within : ℕ → Change) : Forest → State → Forest → State → Type 0 where
   ends : (s : State) → Steps e levels depth within none s none s
-  goes_on : (f out rest more : Forest) (s t u : State) → Step e levels depth within f s out rest t → Steps e levels depth within rest t more u
+  goes_on : (f out rest more : Forest) (s t u : State) → Step e levels depth within f s out rest t
+      → Steps e levels depth within rest t more u
       → Steps e levels depth within f s (append out more) u
 
 -- What trees become that stand so deep in expansions, where so many groups and calls may still stand in one another.

@@ -11,7 +11,8 @@ use Rattle.mbe_calls.specs.Fronts.{Call}
 use Rattle.mbe_calls.specs.Parting.{parted}
 use Rattle.mbe_expanding.specs.Scopes.{Scope, rules_found}
 
--- what stays the same on the way: the grammar of fragments, the edition that definitions are read in, and how deep expansions
+-- what stays the same on the way: the grammar of fragments, the edition that definitions are read in, and how deep
+-- expansions
 -- may stand in one another
 pub record Setting : Type 0 where
   pub grammar : Grammar
@@ -37,7 +38,8 @@ named s c = rules_found s.scope c.name.sym c.is_path
 
 -- what the rules make of a call's argument, whose operators are those of its texts
 abbrev pub Makes : Setting → Call → Macro → Top → Option ExpandError → Type 0
-Makes e c m tree err = (index : Option ℕ) × Expands e.grammar IsItself m.rules FnLike (parted c.argument) c.name.span (top_group tree) index err
+Makes e c m tree err = (index : Option ℕ)
+    × Expands e.grammar IsItself m.rules FnLike (parted c.argument) c.name.span (top_group tree) index err
 
 -- whether the limits allow one call more, so deep in others
 abbrev pub Allows : ℕ → State → State → Bool → Type 0
@@ -47,7 +49,8 @@ Allows depth s t false = ((depth ≡ 0) ⊎ (s.fuel ≡ 0)) × (t ≡ s)
 -- the macro that a call names has a fault, or no rule of it applies
 pub data Refuses (e : Setting) (c : Call) (s : State) : Type 0 where
   by_definition : (m : Macro) → named s c ≡ Some m → m.err ≢ None → Refuses e c s
-  by_rules : (m : Macro) (tree : Top) (err : ExpandError) → named s c ≡ Some m → Makes e c m tree (Some err) → Refuses e c s
+  by_rules : (m : Macro) (tree : Top) (err : ExpandError) → named s c ≡ Some m → Makes e c m tree (Some err)
+      → Refuses e c s
 
 -- Why a call stays: it stands in too many groups and calls, no macro is found, a limit is reached, or it is refused.
 pub data Stays (e : Setting) (c : Call) (depth : ℕ) (s : State) : ℕ → State → Type 0 where

@@ -42,7 +42,8 @@ after_tree (Group_tree d inside) m = after_group d.kind m
 
 -- ---- definitions
 
--- that trees make a scope of another, where the first says whether they stand in no group, but such as `#[macro_use]` is of
+-- that trees make a scope of another, where the first says whether they stand in no group, but such as `#[macro_use]`
+-- is of
 abbrev pub Reading : Type 1
 Reading = Bool → Forest → Scope → Scope → Type 0
 
@@ -51,17 +52,20 @@ DefinesTree within is_top (Leaf_tree l) s t = t ≡ s
 DefinesTree within is_top (Group_tree d inside) s t = within is_top inside s t
 
 -- One front after another, with what stands before it. A definition is wide that is exported or in no group.
-pub data DefinesAll (edition : Edition) (within : Reading) (is_top : Bool) : Marks → Forest → Scope → Scope → Type 0 where
+pub data DefinesAll (edition : Edition) (within : Reading) (is_top : Bool) : Marks → Forest → Scope → Scope
+    → Type 0 where
   ends : (m : Marks) (s : Scope) → DefinesAll edition within is_top m none s s
   at_definition : (m : Marks) (f : Forest) (d : Defined) (s t u : Scope) → front f ≡ Definition d
       → IsRead edition d (m.is_exported || is_top) s t
       → DefinesAll edition within is_top (record { is_exported = false; is_used = m.is_used }) d.rest t u
       → DefinesAll edition within is_top m f s u
-  at_call : (m : Marks) (f : Forest) (c : Call) (s t : Scope) → front f ≡ ACall c → DefinesAll edition within is_top m c.rest s t
+  at_call : (m : Marks) (f : Forest) (c : Call) (s t : Scope) → front f ≡ ACall c
+      → DefinesAll edition within is_top m c.rest s t
       → DefinesAll edition within is_top m f s t
   at_tree : (m : Marks) (f rest : Forest) (tree : Tree) (s t u : Scope) → front f ≡ Other tree rest
       → DefinesTree within (is_top && (marked f m).is_used) tree s t
-      → DefinesAll edition within is_top (after_tree tree (marked f m)) rest t u → DefinesAll edition within is_top m f s u
+      → DefinesAll edition within is_top (after_tree tree (marked f m)) rest t u
+      → DefinesAll edition within is_top m f s u
 
 -- The definitions of trees are read, where so many groups may still stand in one another.
 unfoldable pub Defines : Edition → ℕ → Reading

@@ -22,9 +22,11 @@ use Rattle.mbe_expanding.specs.declared.settings.Explain.TheVariants as explain
 
 -- ---- what a rule says
 
--- The rule with this index says so of an argument: its verdict; the span where that is; the texts and places of all that it wants
+-- The rule with this index says so of an argument: its verdict; the span where that is; the texts and places of all
+-- that it wants
 -- there; and of an ambiguity those of two that clash there.
-pub record Says (g : Grammar) (rules : List Rule) (argument : Delimiter × Forest) (index : ℕ) (said : Said) : Type 0 where
+pub record Says (g : Grammar) (rules : List Rule) (argument : Delimiter × Forest) (index : ℕ)
+    (said : Said) : Type 0 where
   pub wants : List Wanted
   pub pair : Option (Wanted × Wanted)
   pub explains : Explains g rules argument.1 index said.verdict

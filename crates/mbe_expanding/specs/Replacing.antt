@@ -36,9 +36,11 @@ rules_shown d s = if is_item d.form then s else shown d s
 -- the `macro` items among trees, one after another
 pub data ShowsItems : Forest → State → State → Type 0 where
   no_more : (s : State) → ShowsItems none s s
-  at_definition : (f : Forest) (d : Defined) (s t : State) → front f ≡ Definition d → ShowsItems d.rest (item_shown d s) t → ShowsItems f s t
+  at_definition : (f : Forest) (d : Defined) (s t : State) → front f ≡ Definition d
+      → ShowsItems d.rest (item_shown d s) t → ShowsItems f s t
   at_call : (f : Forest) (c : Call) (s t : State) → front f ≡ ACall c → ShowsItems c.rest s t → ShowsItems f s t
-  at_tree : (f rest : Forest) (tree : Tree) (s t : State) → front f ≡ Other tree rest → ShowsItems rest s t → ShowsItems f s t
+  at_tree : (f rest : Forest) (tree : Tree) (s t : State) → front f ≡ Other tree rest → ShowsItems rest s t
+      → ShowsItems f s t
 
 -- after a group, what it defined is no longer visible, unless `#[macro_use]` stands before it
 pub data LeavesGroup (k : DelimiterKind) (s t : State) : State → Type 0 where
@@ -66,10 +68,13 @@ PartsOfArgument within true f s parts t = within f s parts t
 -- where a call ends, by what is left after it: with its group, or with the `;` that goes with it
 abbrev pub last_span : Call → Forest → Span
 last_span c left =
-    if nat_lt (flat_len left) (flat_len c.rest) then unwrap_or (option_map first_span (first c.rest)) c.delimiter.close else c.delimiter.close
+    if nat_lt (flat_len left) (flat_len c.rest) then unwrap_or (option_map first_span (first c.rest)) c.delimiter.close
+    else c.delimiter.close
 
--- What stands in place of the bytes of a call: the text of what the tree becomes that the rules made, fitted to what is beside it.
-pub record IsPartOf (e : Setting) (levels depth : ℕ) (c : Call) (tree : Forest) (s : State) (part : Part) (left : Forest) (t : State) : Type 0 where
+-- What stands in place of the bytes of a call: the text of what the tree becomes that the rules made, fitted to what is
+-- beside it.
+pub record IsPartOf (e : Setting) (levels depth : ℕ) (c : Call) (tree : Forest) (s : State) (part : Part)
+    (left : Forest) (t : State) : Type 0 where
   pub out : Forest
   pub stands : StandsFor (Becomes e levels depth) c.delimiter tree s out t
   pub indentation : ℕ
@@ -79,18 +84,24 @@ pub record IsPartOf (e : Setting) (levels depth : ℕ) (c : Call) (tree : Forest
   pub ends : part.end ≡ (last_span c left).end
 
 -- the parts of a call, with what is left after it
-pub data PartsOfCall (e : Setting) (levels : ℕ) (within : Parts) (c : Call) (s : State) : List Part → Forest → State → Type 0 where
+pub data PartsOfCall (e : Setting) (levels : ℕ) (within : Parts) (c : Call) (s : State) : List Part → Forest → State
+    → Type 0 where
   of_kept : (parts : List Part) (t u : State) → Stays e c e.depth s levels t
-      → PartsOfArgument within (is_standard c.name.sym) c.argument t parts u → PartsOfCall e levels within c s parts c.rest u
+      → PartsOfArgument within (is_standard c.name.sym) c.argument t parts u
+      → PartsOfCall e levels within c s parts c.rest u
   of_replaced : (tree : Top) (part : Part) (left : Forest) (t : State) → IsReplaced e c levels e.depth s tree
-      → IsPartOf e levels (e.depth - 1) c tree.1 (spent s) part left t → PartsOfCall e levels within c s (part ∷ []) left t
+      → IsPartOf e levels (e.depth - 1) c tree.1 (spent s) part left t
+      → PartsOfCall e levels within c s (part ∷ []) left t
 
 -- the parts of the front, with what is left after it
-pub data FrontParts (e : Setting) (levels : ℕ) (within : Parts) (f : Forest) (s : State) : List Part → Forest → State → Type 0 where
+pub data FrontParts (e : Setting) (levels : ℕ) (within : Parts) (f : Forest) (s : State) : List Part → Forest → State
+    → Type 0 where
   of_definition : (d : Defined) → front f ≡ Definition d → FrontParts e levels within f s [] d.rest (rules_shown d s)
-  of_tree : (tree : Tree) (rest : Forest) (parts : List Part) (t : State) → front f ≡ Other tree rest → PartsOfTree within tree s parts t
+  of_tree : (tree : Tree) (rest : Forest) (parts : List Part) (t : State) → front f ≡ Other tree rest
+      → PartsOfTree within tree s parts t
       → FrontParts e levels within f s parts rest t
-  of_call : (c : Call) (parts : List Part) (rest : Forest) (t : State) → front f ≡ ACall c → PartsOfCall e levels within c s parts rest t
+  of_call : (c : Call) (parts : List Part) (rest : Forest) (t : State) → front f ≡ ACall c
+      → PartsOfCall e levels within c s parts rest t
       → FrontParts e levels within f s parts rest t
 
 -- one front after another, to the end
@@ -111,7 +122,8 @@ PartsWithin e (suc levels) = PartsIn e levels (PartsWithin e levels)
 -- the parts of a file, whose definitions are visible up to its end
 abbrev pub PartsOfFile : Setting → ℕ → Parts
 PartsOfFile e levels f s parts u =
-    (t : State) × PartsWithin e (suc levels) f s parts t × (u ≡ record t { scope = with_left (length s.scope.visible) t.scope })
+    (t : State) × PartsWithin e (suc levels) f s parts t
+    × (u ≡ record t { scope = with_left (length s.scope.visible) t.scope })
 
 -- the text of a file with the parts of its calls replaced; every other byte is as it was
 abbrev pub IsExpanded : Setting → ℕ → Forest → State → List ℕ → List ℕ → State → Type 0

@@ -9,7 +9,8 @@ use Rattle.mbe_semantics.specs.Expansion.Macro.{Macro}
 use Rattle.mbe_semantics.specs.Expansion.ReadAs.{IsReadAs, IsReadAsMacro}
 use Rattle.mbe_calls.specs.Fronts.{Form, Rules, Body, Arguments, Defined}
 
--- a macro that was read: its name, what it says, whether it is found by a path and from other files, and where its name stands
+-- a macro that was read: its name, what it says, whether it is found by a path and from other files, and where its name
+-- stands
 pub record Definition : Type 0 where
   pub name : List ℕ
   pub rules : Macro
@@ -67,13 +68,15 @@ seen_at s n = option_and_then (definition_at s) (slice_get s.visible n)
 
 -- the number of the last visible definition of that name
 abbrev pub near : Scope → List ℕ → Option ℕ
-near s name = option_and_then (slice_get s.visible) (last_below (λ n. is_found name false (seen_at s n)) (length s.visible))
+near s name = option_and_then (slice_get s.visible)
+    (last_below (λ n. is_found name false (seen_at s n)) (length s.visible))
 
 abbrev pub or_wide : Scope → List ℕ → Option ℕ → Option ℕ
 or_wide s name None = wide s name
 or_wide s name (Some n) = Some n
 
--- The number of the definition that a call names: for a name the last one that is visible, or the last wide one where none is; for a
+-- The number of the definition that a call names: for a name the last one that is visible, or the last wide one where
+-- none is; for a
 -- path the last wide one.
 abbrev pub lookup : Scope → List ℕ → Bool → Option ℕ
 lookup s name true = wide s name

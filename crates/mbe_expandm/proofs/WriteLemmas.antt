@@ -15,8 +15,10 @@ use Rattle.mbe_expandm.specs.Expansions.{DefinesFile, DefinesFiles, IsFileExpand
 
 -- ---- definitions
 
-one_more_file : {X : Type 0} (see : X → Option Top) (e : Edition) (levels : ℕ) (files : List X) (i : ℕ) (item : X) (s t u : Scope)
-    → i < length files → item ≡ get_or files i item → DefinesFiles e levels (map see (take i files)) s t → DefinesFile e levels (see item) t u
+one_more_file : {X : Type 0} (see : X → Option Top) (e : Edition) (levels : ℕ) (files : List X) (i : ℕ) (item : X)
+    (s t u : Scope)
+    → i < length files → item ≡ get_or files i item → DefinesFiles e levels (map see (take i files)) s t
+    → DefinesFile e levels (see item) t u
     → DefinesFiles e levels (map see (take (suc i) files)) s u
 one_more_file see e levels [] i item s t u h is d o = absurd (omega (arith, h))
 one_more_file see e levels (x ∷ xs) zero item s t u h is d o =
@@ -24,17 +26,21 @@ one_more_file see e levels (x ∷ xs) zero item s t u h is d o =
 one_more_file see e levels (x ∷ xs) (suc i) item s t u h is d o =
     (d.0, d.1, one_more_file see e levels xs i item d.0 t u (let k : i < length xs = omega (arith, h) in k) is d.2 o)
 
-pub one_more : {X : Type 0} (see : X → Option Top) (e d : Edition) (levels : ℕ) (files : List X) (i : ℕ) (item : X) (s t u : Scope)
-    → i < length files → item ≡ get_or files i item → DefinesFiles e levels (map see (take i files)) s t → e ≡ d → DefinesFile d levels (see item) t u
+pub one_more : {X : Type 0} (see : X → Option Top) (e d : Edition) (levels : ℕ) (files : List X) (i : ℕ) (item : X)
+    (s t u : Scope)
+    → i < length files → item ≡ get_or files i item → DefinesFiles e levels (map see (take i files)) s t → e ≡ d
+    → DefinesFile d levels (see item) t u
     → DefinesFiles e levels (map see (take (i + 1) files)) s u
 one_more see e d levels files i item s t u h is before same o =
     let n : suc i ≡ i + 1 = omega arith in
     subst (λ n. DefinesFiles e levels (map see (take n files)) s u) n
-    (one_more_file see e levels files i item s t u h is before (subst (λ x. DefinesFile x levels (see item) t u) (sym same) o))
+    (one_more_file see e levels files i item s t u h is before
+    (subst (λ x. DefinesFile x levels (see item) t u) (sym same) o))
 
 -- ---- texts
 
-pub file_expanded : {X E : Type 0} (see : X → List ℕ) (r : Result X E) (e : Setting) (levels : ℕ) (trees : Forest) (s t : State) (text : List ℕ)
+pub file_expanded : {X E : Type 0} (see : X → List ℕ) (r : Result X E) (e : Setting) (levels : ℕ) (trees : Forest)
+    (s t : State) (text : List ℕ)
     (parts placed : List Part) → PartsOfFile e levels trees s parts t → All (IsOfCall e trees) parts
     → placed ≡ map (placed_part (returns text)) parts → IfOk r (λ x. see x ≡ spliced text placed)
     → IfOk r (λ x. IsFileExpanded e levels trees s text (see x) t)
@@ -44,6 +50,7 @@ file_expanded see (Err x) e levels trees s t text parts placed of_file each same
 
 -- ---- what is written
 
-pub wrote : {T E : Type 0} (a b : Option (List ℕ)) (r : Result T E) (Is : List ℕ → Type 0) (bytes written : List ℕ) → Is bytes
+pub wrote : {T E : Type 0} (a b : Option (List ℕ)) (r : Result T E) (Is : List ℕ → Type 0) (bytes written : List ℕ)
+    → Is bytes
     → written ≡ bytes → Writes a b r written → WritesOne a b r Is
 wrote a b r Is bytes written is h w = inr (bytes, is, subst (Writes a b r) h w)

@@ -25,12 +25,14 @@ DefinesFile edition levels (Some tree) s u = Defines edition levels true tree.1 
 -- those of files, one file after another
 abbrev pub DefinesFiles : Edition → ℕ → List (Option Top) → Scope → Scope → Type 0
 DefinesFiles edition levels [] s u = u ≡ s
-DefinesFiles edition levels (file ∷ files) s u = (t : Scope) × DefinesFile edition levels file s t × DefinesFiles edition levels files t u
+DefinesFiles edition levels (file ∷ files) s u =
+    (t : Scope) × DefinesFile edition levels file s t × DefinesFiles edition levels files t u
 
 -- ---- texts
 
 -- The text of a file with the parts replaced that are calls of known macros. Parts are places in its plain text.
-pub record IsFileExpanded (e : Setting) (levels : ℕ) (trees : Forest) (s : State) (text out : List ℕ) (t : State) : Type 0 where
+pub record IsFileExpanded (e : Setting) (levels : ℕ) (trees : Forest) (s : State) (text out : List ℕ)
+    (t : State) : Type 0 where
   pub parts : List Part
   pub of_file : PartsOfFile e levels trees s parts t
   pub each : All (IsOfCall e trees) parts
@@ -49,18 +51,21 @@ is_position position line column = line == position.line && is_column position.c
 -- whether a byte of a text is there
 abbrev pub IsThere : Position → List ℕ → ℕ → Bool → Type 0
 IsThere position text at answer =
-    (line : ℕ) × (column : ℕ) × (shown : List ℕ) × IsPlace text (min at (length text)) line column shown × (answer ≡ is_position position line column)
+    (line : ℕ) × (column : ℕ) × (shown : List ℕ) × IsPlace text (min at (length text)) line column shown
+    × (answer ≡ is_position position line column)
 
 -- of parts, one after another, the texts of those that begin there, with a line feed after each
 pub data TextsThere (position : Position) (text : List ℕ) : List Part → List ℕ → Type 0 where
   no_part : TextsThere position text [] []
-  one_there : (parts : List Part) (part : Part) (out : List ℕ) → TextsThere position text parts out → IsThere position text part.start true
+  one_there : (parts : List Part) (part : Part) (out : List ℕ) → TextsThere position text parts out
+      → IsThere position text part.start true
       → TextsThere position text (parts ++ part ∷ []) (out ++ (part.text ++ 10 ∷ []))
   one_elsewhere : (parts : List Part) (part : Part) (out : List ℕ) → TextsThere position text parts out
       → IsThere position text part.start false → TextsThere position text (parts ++ part ∷ []) out
 
 -- what the calls of a file that begin there become
-pub record IsCallExpanded (e : Setting) (levels : ℕ) (position : Position) (trees : Forest) (s : State) (text out : List ℕ) (t : State) : Type 0 where
+pub record IsCallExpanded (e : Setting) (levels : ℕ) (position : Position) (trees : Forest) (s : State)
+    (text out : List ℕ) (t : State) : Type 0 where
   pub parts : List Part
   pub of_file : PartsOfFile e levels trees s parts t
   pub there : TextsThere position (plain text) parts out
@@ -81,9 +86,11 @@ abbrev pub FileBecomes : Setting → ℕ → Option Position → Source → Stat
 FileBecomes e levels call file s out t = TreeBecomes e levels call file.tree s file.text out t
 
 -- one file after another
-pub data FilesBecome (e : Setting) (levels : ℕ) (call : Option Position) (s : State) : List Source → List (List ℕ) → State → Type 0 where
+pub data FilesBecome (e : Setting) (levels : ℕ) (call : Option Position) (s : State) : List Source → List (List ℕ)
+    → State → Type 0 where
   no_file : FilesBecome e levels call s [] [] s
-  one_more : (files : List Source) (outs : List (List ℕ)) (file : Source) (out : List ℕ) (t u : State) → FilesBecome e levels call s files outs t
+  one_more : (files : List Source) (outs : List (List ℕ)) (file : Source) (out : List ℕ) (t u : State)
+      → FilesBecome e levels call s files outs t
       → FileBecomes e levels call file t out u → FilesBecome e levels call s (files ++ file ∷ []) (outs ++ out ∷ []) u
 
 -- the last file, where there is one
@@ -94,4 +101,5 @@ IfLast files Holds = (before : List Source) → (last : Source) → files ≡ be
 
 -- a writer took a text of that kind, or where it failed a prefix of one; or nothing, where there is no memory
 abbrev pub WritesOne : {T E : Type 0} → Option (List ℕ) → Option (List ℕ) → Result T E → (List ℕ → Type 0) → Type 0
-WritesOne before after result Is = (IsErr result × (after ≡ before)) ⊎ ((bytes : List ℕ) × Is bytes × Writes before after result bytes)
+WritesOne before after result Is = (IsErr result × (after ≡ before))
+    ⊎ ((bytes : List ℕ) × Is bytes × Writes before after result bytes)

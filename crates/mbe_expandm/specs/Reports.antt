@@ -14,7 +14,8 @@ use Rattle.mbe_expandm.specs.declared.saying.Form.{Form}
 use Rattle.mbe_expandm.specs.declared.saying.Form.TheVariants.{Text, Colours, Json}
 use Rattle.mbe_expandm.specs.Places.{IsPlace}
 
--- in which form reports are: as JSON if that is asked for; else as rustc writes them in a terminal, and where calls are explained
+-- in which form reports are: as JSON if that is asked for; else as rustc writes them in a terminal, and where calls are
+-- explained
 abbrev pub form_for : (is_json is_explained is_terminal is_colourless : Bool) → Option Form
 form_for true is_explained is_terminal is_colourless = Some Json
 form_for false is_explained true false = Some Colours

@@ -1,4 +1,5 @@
--- Carriage returns: a text with those taken out that stand before line feeds, and the places of its bytes in the text itself.
+-- Carriage returns: a text with those taken out that stand before line feeds, and the places of its bytes in the text
+-- itself.
 use Rattle.std.specs.Prelude.{◌≤◌, ◌<◌, ◌+◌, ◌-◌, ◌^◌, ◌==◌, ◌&&◌, min, nat_lt, ℕ, Bool, false, List, [], ◌∷◌, length, count_by, if◌then◌else◌}
 use Rattle.std.specs.List.{slice_index}
 use Rattle.mbe_calls.specs.Splicing.{Part}
@@ -21,7 +22,8 @@ plain (byte ∷ rest) = if goes_with_feed byte rest then plain rest else byte �
 -- where the line feeds stand in that, which begins at this number, that had one
 unfoldable pub returns_from : ℕ → List ℕ → List ℕ
 returns_from at [] = []
-returns_from at (byte ∷ rest) = if goes_with_feed byte rest then at ∷ returns_from at rest else returns_from (at + 1) rest
+returns_from at (byte ∷ rest) = if goes_with_feed byte rest then at
+    ∷ returns_from at rest else returns_from (at + 1) rest
 
 abbrev pub returns : List ℕ → List ℕ
 returns text = returns_from 0 text
@@ -30,7 +32,8 @@ returns text = returns_from 0 text
 abbrev pub Rises : List ℕ → Type 0
 Rises xs = (i j : ℕ) → i ≤ j → j < length xs → slice_index xs i ≤ slice_index xs j
 
--- Where a byte of the plain text is in the text: one later for each line feed before it that had a carriage return, as far as
+-- Where a byte of the plain text is in the text: one later for each line feed before it that had a carriage return, as
+-- far as
 -- numbers of 64 bits go.
 abbrev pub place_in_text : List ℕ → ℕ → ℕ
 place_in_text returned at = min (at + count_by (λ feed. nat_lt feed at) returned) (2 ^ 64 - 1)

@@ -21,9 +21,11 @@ pub record IsRustTable (edition : Edition) (table : RuleTable) : Type 0 where
   pub starts : table.starts ≡ rust_starts
   pub edition_is : table.edition ≡ edition
 
--- Where a run begins: the files are read, their definitions are known, in the files' order, and no call is expanded yet. The limit of
+-- Where a run begins: the files are read, their definitions are known, in the files' order, and no call is expanded
+-- yet. The limit of
 -- depth is that of the words, or that of the files, or 128.
-pub record IsBegun (edition : Edition) (depth : Option ℕ) (fuel : ℕ) (texts : List (List ℕ)) (files : List Source) (e : Setting) (s : State) : Type 0 where
+pub record IsBegun (edition : Edition) (depth : Option ℕ) (fuel : ℕ) (texts : List (List ℕ)) (files : List Source)
+    (e : Setting) (s : State) : Type 0 where
   pub texts_are : map (λ f. f.text) files ≡ texts
   pub are_read : AreSources edition files
   pub table : RuleTable
@@ -36,7 +38,8 @@ pub record IsBegun (edition : Edition) (depth : Option ℕ) (fuel : ℕ) (texts 
   pub fuel_is : s.fuel ≡ fuel
 
 -- what is printed of files: what the last of them becomes
-pub record IsPrinted (edition : Edition) (depth : Option ℕ) (fuel : ℕ) (call : Option Position) (texts : List (List ℕ)) (out : List ℕ) : Type 0 where
+pub record IsPrinted (edition : Edition) (depth : Option ℕ) (fuel : ℕ) (call : Option Position) (texts : List (List ℕ))
+    (out : List ℕ) : Type 0 where
   pub before : List Source
   pub last : Source
   pub setting : Setting
@@ -46,7 +49,8 @@ pub record IsPrinted (edition : Edition) (depth : Option ℕ) (fuel : ℕ) (call
   pub becomes : FileBecomes setting 1000 call last start out end
 
 -- what is written of them: what each becomes
-pub record AreWritten (edition : Edition) (depth : Option ℕ) (fuel : ℕ) (call : Option Position) (texts outs : List (List ℕ)) : Type 0 where
+pub record AreWritten (edition : Edition) (depth : Option ℕ) (fuel : ℕ) (call : Option Position)
+    (texts outs : List (List ℕ)) : Type 0 where
   pub files : List Source
   pub setting : Setting
   pub start : State

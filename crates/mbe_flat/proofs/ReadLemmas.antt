@@ -7,14 +7,17 @@ use Rattle.mbe_flat.specs.Reading.{Adds, AddAll}
 
 -- a token after the others
 added_at : (text : List ℕ) (ts : List FlatToken) (n : ℕ) (other : FlatToken) (old middle new : Levels) → n < length ts
-    → AddAll text (take n ts) old middle → Adds text (slice_index_or ts n other) middle new → AddAll text (take (suc n) ts) old new
+    → AddAll text (take n ts) old middle → Adds text (slice_index_or ts n other) middle new
+    → AddAll text (take (suc n) ts) old new
 added_at text [] n other old middle new l h a = absurd (omega (arith, l))
 added_at text (t ∷ ts) zero other old middle new l h a = (new, subst (λ (b : Levels). Adds text t b new) h a, refl)
 added_at text (t ∷ ts) (suc n) other old middle new l (between, first, rest) a =
     (between, first, added_at text ts n other between middle new (omega (arith, l)) rest a)
 
-pub one_more : (text : List ℕ) (ts : List FlatToken) (n : ℕ) (other : FlatToken) (old middle new : Levels) → n < length ts
-    → AddAll text (take n ts) old middle → Adds text (slice_index_or ts n other) middle new → AddAll text (take (n + 1) ts) old new
+pub one_more : (text : List ℕ) (ts : List FlatToken) (n : ℕ) (other : FlatToken) (old middle new : Levels)
+    → n < length ts
+    → AddAll text (take n ts) old middle → Adds text (slice_index_or ts n other) middle new
+    → AddAll text (take (n + 1) ts) old new
 one_more text ts n other old middle new l h a = rw add-one (added_at text ts n other old middle new l h a)
 
 -- those of all tokens

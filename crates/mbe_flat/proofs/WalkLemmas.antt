@@ -13,7 +13,8 @@ tokens_around (g ∷ around) = 1 + flat_len g.1 + tokens_around around
 
 -- ---- steps of the trees at the front
 
-leaf_step : (f : Forest) (l : Leaf) (s : State) → Some (Leaf_tree l) ≡ first f → written f s ≡ written (rest_of f) (a_leaf s l)
+leaf_step : (f : Forest) (l : Leaf) (s : State) → Some (Leaf_tree l) ≡ first f
+    → written f s ≡ written (rest_of f) (a_leaf s l)
 unfolding written
 leaf_step none l s h = absurd (cc)
 leaf_step (leaf m rest) l s h = let e : m ≡ l = cc in ap (λ x. written rest (a_leaf s x)) e
@@ -41,7 +42,8 @@ leaf_turn : (around : List (Delimiter × Forest)) (f : Forest) (l : Leaf) (s nex
     → Some (Leaf_tree l) ≡ first f → next ≡ a_leaf s l → written_around around (written f s) ≡ whole
     → written_around around (written (rest_of f) next) ≡ whole
 leaf_turn around f l s next whole h n w =
-    ap (λ t. written_around around (written (rest_of f) t)) n ∙ (ap (written_around around) (sym (leaf_step f l s h)) ∙ w)
+    ap (λ t. written_around around (written (rest_of f) t)) n
+    ∙ (ap (written_around around) (sym (leaf_step f l s h)) ∙ w)
 
 around_cons : (around : List (Delimiter × Forest)) (d : Delimiter) (f : Forest) (s : State)
     → written_around ((d, f) ∷ around) s ≡ written_around around (written f (closed s d))
@@ -49,7 +51,8 @@ unfolding written_around
 around_cons around d f s = refl
 
 group_turn : (around : List (Delimiter × Forest)) (f inside : Forest) (d : Delimiter) (s next whole : State)
-    → Some (Group_tree d inside) ≡ first f → next ≡ opened s d (flat_len inside) → written_around around (written f s) ≡ whole
+    → Some (Group_tree d inside) ≡ first f → next ≡ opened s d (flat_len inside)
+    → written_around around (written f s) ≡ whole
     → written_around ((d, rest_of f) ∷ around) (written inside next) ≡ whole
 group_turn around f inside d s next whole h n w =
     ap (λ t. written_around ((d, rest_of f) ∷ around) (written inside t)) n
@@ -81,7 +84,8 @@ leaf_on items f after l s next whole e h n w =
     ap (λ r. written_around (reverse items) (written r next)) e ∙ leaf_turn (reverse items) f l s next whole h n w
 
 pub group_on : (items more : List (Delimiter × Forest)) (f after inside : Forest) (d : Delimiter) (s next whole : State)
-    → after ≡ rest_of f → Some (Group_tree d inside) ≡ first f → next ≡ opened s d (flat_len inside) → more ≡ items ++ ((d, after) ∷ [])
+    → after ≡ rest_of f → Some (Group_tree d inside) ≡ first f → next ≡ opened s d (flat_len inside)
+    → more ≡ items ++ ((d, after) ∷ [])
     → written_around (reverse items) (written f s) ≡ whole → written_around (reverse more) (written inside next) ≡ whole
 group_on items more f after inside d s next whole e h n m w =
     ap (λ i. written_around (reverse i) (written inside next)) m

@@ -15,10 +15,13 @@ HasText text t s = (t.offset + t.len ≤ length text) × (s ≡ take t.len (drop
 
 -- a token says this leaf
 abbrev pub Says : List ℕ → FlatToken → Leaf → Type 0
-Says text t (ident i) = (t.kind ≡ 1) × (raw_of t.sort ≡ Some i.is_raw) × HasText text t i.sym × (i.span ≡ span_of t.span)
-Says text t (punct p) = (t.kind ≡ 2) × (spacing_of t.sort ≡ Some p.spacing) × (p.char ≡ t.character) × (p.span ≡ span_of t.span)
+Says text t (ident i) = (t.kind ≡ 1) × (raw_of t.sort ≡ Some i.is_raw) × HasText text t i.sym
+    × (i.span ≡ span_of t.span)
+Says text t (punct p) = (t.kind ≡ 2) × (spacing_of t.sort ≡ Some p.spacing) × (p.char ≡ t.character)
+    × (p.span ≡ span_of t.span)
 Says text t (literal l) =
-    (t.kind ≡ 3) × (literal_of t.sort t.hashes ≡ Some l.kind) × (l.suffix_len ≡ t.suffix_len) × HasText text t l.text_and_suffix
+    (t.kind ≡ 3) × (literal_of t.sort t.hashes ≡ Some l.kind) × (l.suffix_len ≡ t.suffix_len)
+    × HasText text t l.text_and_suffix
     × (l.span ≡ span_of t.span)
 
 -- a leaf more

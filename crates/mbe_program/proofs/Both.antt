@@ -8,8 +8,10 @@ use Rattle.mbe_program.specs.declared.program.Outcome.TheVariants.{Expanded, Lin
 use Rattle.mbe_program.specs.Expansion.{AreTrees, both_trees, IsAtFault, IsUnlexed}
 
 -- both texts have trees
-pub trees : (def_text arg_text : List ℕ) (definition argument : Top) → IsMade 0 def_text definition → IsMade 1 arg_text argument
-    → sample_trees 0 def_text ≡ Ok definition → sample_trees 1 arg_text ≡ Ok argument → AreTrees def_text arg_text definition argument
+pub trees : (def_text arg_text : List ℕ) (definition argument : Top) → IsMade 0 def_text definition
+    → IsMade 1 arg_text argument
+    → sample_trees 0 def_text ≡ Ok definition → sample_trees 1 arg_text ≡ Ok argument
+    → AreTrees def_text arg_text definition argument
 trees def_text arg_text definition argument defined given d e =
     record { divided = (rw (both_trees, d, e) refl); defined = defined; given = given }
 
@@ -25,7 +27,8 @@ first_fault def_text arg_text CannotWrite h = absurd h
 first_fault def_text arg_text OutOfMemory h = tt
 
 -- the argument's text is, and the definition's isn't
-pub second_fault : {A : Type 0} (def_text arg_text : List ℕ) (definition : Top) (outcome : Outcome A) → sample_trees 0 def_text ≡ Ok definition
+pub second_fault : {A : Type 0} (def_text arg_text : List ℕ) (definition : Top) (outcome : Outcome A)
+    → sample_trees 0 def_text ≡ Ok definition
     → IsAtFault 1 arg_text outcome → IsUnlexed def_text arg_text outcome
 second_fault def_text arg_text definition Expanded d h = absurd h
 second_fault def_text arg_text definition Linted d h = absurd h

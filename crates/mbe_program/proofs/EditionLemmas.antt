@@ -21,16 +21,20 @@ module _ {A B : SyntaxContext → Edition → Type 0} (more : (c : SyntaxContext
   ops_read : {mode : Mode} {f : Forest} {os : Ops} → Template A mode f os → Template B mode f os
   ops_read (nothing f e) = nothing f e
   ops_read (token f rest o os e t) = token f rest o os e (ops_read t)
-  ops_read (variable f rest name span specifier kind os e s t) = variable f rest name span specifier kind os e (specifies s) (ops_read t)
+  ops_read (variable f rest name span specifier kind os e s t) =
+      variable f rest name span specifier kind os e (specifies s) (ops_read t)
   ops_read (grouped f inside rest d body os e b t) = grouped f inside rest d body os e (ops_read b) (ops_read t)
-  ops_read (repeated f inside rest separator repeat body os e b t) = repeated f inside rest separator repeat body os e (ops_read b) (ops_read t)
+  ops_read (repeated f inside rest separator repeat body os e b t) =
+      repeated f inside rest separator repeat body os e (ops_read b) (ops_read t)
 
   fault_read : {mode : Mode} {fault : Fault} {f : Forest} → TemplateFault A mode fault f → TemplateFault B mode fault f
   fault_read (here f e) = here f e
   fault_read (in_group f inside rest d e t) = in_group f inside rest d e (fault_read t)
-  fault_read (in_repetition f inside rest separator repeat e t) = in_repetition f inside rest separator repeat e (fault_read t)
+  fault_read (in_repetition f inside rest separator repeat e t) =
+      in_repetition f inside rest separator repeat e (fault_read t)
   fault_read (behind_token f rest o e t) = behind_token f rest o e (fault_read t)
-  fault_read (behind_variable f rest name span specifier e t) = behind_variable f rest name span specifier e (fault_read t)
+  fault_read (behind_variable f rest name span specifier e t) =
+      behind_variable f rest name span specifier e (fault_read t)
   fault_read (behind_group f inside rest d body e b t) = behind_group f inside rest d body e (ops_read b) (fault_read t)
   fault_read (behind_repetition f inside rest separator repeat body e b t) =
       behind_repetition f inside rest separator repeat body e (ops_read b) (fault_read t)
@@ -54,8 +58,10 @@ module _ {A B : SyntaxContext → Edition → Type 0} (more : (c : SyntaxContext
   read_as f m (first, read, refusal) = (first, rules_read read, refusal)
 
 -- so it is read in the only edition that is returned, with the fault that it reports
-pub read_in : {A : SyntaxContext → Edition → Type 0} (edition : Edition) (f : Forest) (m : Macro) (fault : Option Fault) → IsReadAs A f m
-    → ((c : SyntaxContext) (e : Edition) → A c e → e ≡ edition) → m.err ≡ fault → IsReadAs (IsEdition edition) f (record { rules = m.rules; err = fault })
+pub read_in : {A : SyntaxContext → Edition → Type 0} (edition : Edition) (f : Forest) (m : Macro) (fault : Option Fault)
+    → IsReadAs A f m
+    → ((c : SyntaxContext) (e : Edition) → A c e → e ≡ edition) → m.err ≡ fault
+    → IsReadAs (IsEdition edition) f (record { rules = m.rules; err = fault })
 read_in edition f m fault read only e =
     let P : Option Fault → Type 0 = λ x. IsReadAs (IsEdition edition) f (record { rules = m.rules; err = x }) in
     subst P e (read_as only f m read)

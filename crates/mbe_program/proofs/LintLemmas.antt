@@ -26,7 +26,8 @@ verdict_at g argument (x ∷ rs) (suc n) [] r v h e k = absurd h
 verdict_at g argument (x ∷ rs) (suc n) (w ∷ vs) r v h e k = (h.0, verdict_at g argument rs n vs r v h.1 e k)
 
 -- the verdict of one rule more
-pub one_verdict_more : (g : Grammar) (argument : Forest) (rs : List Rule) (n : ℕ) (vs : List given.Verdict) (v : given.Verdict)
+pub one_verdict_more : (g : Grammar) (argument : Forest) (rs : List Rule) (n : ℕ) (vs : List given.Verdict)
+    (v : given.Verdict)
     → AreVerdicts g argument (take n rs) (map verdict_seen vs) → Explains g rs argument n (verdict_seen v)
     → AreVerdicts g argument (take (n + 1) rs) (map verdict_seen (vs ++ v ∷ []))
 one_verdict_more g argument rs n vs v h k =
@@ -48,8 +49,10 @@ line_at first (w ∷ vs) zero v e =
     ∙ ap (λ (k : ℕ). line_of k v ++ codes "\n") (omega arith)
 line_at first (w ∷ vs) (suc n) v e =
     ap (λ (l : List ℕ). (line_of first w ++ codes "\n") ++ l) (line_at (suc first) vs n v e)
-    ∙ sym (append_assoc (line_of first w ++ codes "\n") (lines_from (suc first) (take n vs)) (line_of (suc first + n) v ++ codes "\n"))
-    ∙ ap (λ (k : ℕ). ((line_of first w ++ codes "\n") ++ lines_from (suc first) (take n vs)) ++ (line_of k v ++ codes "\n")) (omega arith)
+    ∙ sym (append_assoc (line_of first w ++ codes "\n") (lines_from (suc first) (take n vs))
+    (line_of (suc first + n) v ++ codes "\n"))
+    ∙ ap (λ (k : ℕ). ((line_of first w ++ codes "\n") ++ lines_from (suc first) (take n vs))
+    ++ (line_of k v ++ codes "\n")) (omega arith)
 
 line_get : (vs : List given.Verdict) (n : ℕ) (other : given.Verdict) → n < length vs
     → slice_get (map verdict_seen vs) n ≡ Some (verdict_seen (slice_index_or vs n other))
@@ -71,6 +74,7 @@ one_line_more text more vs n other l h k =
     rw add-one (ap (λ (t : List ℕ). t ++ more) h ∙ (ap (λ (m : List ℕ). lines_from 0 (take n seen) ++ m) k ∙ sym line))
 
 -- those of all rules
-pub all_lines : (text : List ℕ) (vs : List given.Verdict) (n : ℕ) → length vs ≤ n → text ≡ lines_from 0 (take n (map verdict_seen vs))
+pub all_lines : (text : List ℕ) (vs : List given.Verdict) (n : ℕ) → length vs ≤ n
+    → text ≡ lines_from 0 (take n (map verdict_seen vs))
     → text ≡ lines_from 0 (map verdict_seen vs)
 all_lines text vs n l h = subst (λ (xs : List Verdict). text ≡ lines_from 0 xs) (all_seen verdict_seen vs n l) h

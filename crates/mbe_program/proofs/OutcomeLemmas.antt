@@ -28,8 +28,10 @@ unlexed edition def_text arg_text CannotWrite h = absurd h
 unlexed edition def_text arg_text OutOfMemory h = tt
 
 -- the definition is refused
-pub refused : {A : Type 0} (edition : Edition) (def_text arg_text : List ℕ) (definition argument : Top) (outcome : Outcome A)
-    → AreTrees def_text arg_text definition argument → IsRefused edition definition.1 outcome → IsUnexpanded edition def_text arg_text outcome
+pub refused : {A : Type 0} (edition : Edition) (def_text arg_text : List ℕ) (definition argument : Top)
+    (outcome : Outcome A)
+    → AreTrees def_text arg_text definition argument → IsRefused edition definition.1 outcome
+    → IsUnexpanded edition def_text arg_text outcome
 refused edition def_text arg_text definition argument Expanded trees h = absurd h
 refused edition def_text arg_text definition argument Linted trees h = absurd h
 refused edition def_text arg_text definition argument Faulted trees h = absurd h
@@ -39,8 +41,10 @@ refused edition def_text arg_text definition argument CannotWrite trees h = absu
 refused edition def_text arg_text definition argument OutOfMemory trees h = tt
 
 -- a run without an expansion writes nothing
-pub unexpanded_ends : {A : Type 0} (edition : Edition) (def_text arg_text : List ℕ) (before after : Option (List ℕ)) (outcome : Outcome A)
-    → IsUnexpanded edition def_text arg_text outcome → after ≡ before → EndsAs edition def_text arg_text before after outcome
+pub unexpanded_ends : {A : Type 0} (edition : Edition) (def_text arg_text : List ℕ) (before after : Option (List ℕ))
+    (outcome : Outcome A)
+    → IsUnexpanded edition def_text arg_text outcome → after ≡ before
+    → EndsAs edition def_text arg_text before after outcome
 unexpanded_ends edition def_text arg_text before after Expanded h e = absurd h
 unexpanded_ends edition def_text arg_text before after Linted h e = absurd h
 unexpanded_ends edition def_text arg_text before after Faulted h e = absurd h
@@ -50,8 +54,10 @@ unexpanded_ends edition def_text arg_text before after CannotWrite h e = absurd 
 unexpanded_ends edition def_text arg_text before after OutOfMemory h e = (h, e)
 
 -- so does one that lints
-pub unexpanded_lints : {A : Type 0} (edition : Edition) (def_text arg_text : List ℕ) (before after : Option (List ℕ)) (outcome : Outcome A)
-    → IsUnexpanded edition def_text arg_text outcome → after ≡ before → Lints edition def_text arg_text before after outcome
+pub unexpanded_lints : {A : Type 0} (edition : Edition) (def_text arg_text : List ℕ) (before after : Option (List ℕ))
+    (outcome : Outcome A)
+    → IsUnexpanded edition def_text arg_text outcome → after ≡ before
+    → Lints edition def_text arg_text before after outcome
 unexpanded_lints edition def_text arg_text before after Expanded h e = absurd h
 unexpanded_lints edition def_text arg_text before after Linted h e = absurd h
 unexpanded_lints edition def_text arg_text before after Faulted h e = absurd h
@@ -61,7 +67,8 @@ unexpanded_lints edition def_text arg_text before after CannotWrite h e = absurd
 unexpanded_lints edition def_text arg_text before after OutOfMemory h e = (h, e)
 
 -- what was written stays when the writer is flushed, whether that fails or not
-pub flushed : {T E : Type 0} (a b c : Option (List ℕ)) (r : Result T E) (xs : List ℕ) → Appends a b xs → Keeps b c → Writes a c r xs
+pub flushed : {T E : Type 0} (a b c : Option (List ℕ)) (r : Result T E) (xs : List ℕ) → Appends a b xs → Keeps b c
+    → Writes a c r xs
 flushed a b c (Ok x) xs p q = Appends-kept a b c xs p q
 flushed a b c (Err e) xs p q = ([], takes_whole a c xs (Appends-kept a b c xs p q))
 
@@ -71,13 +78,17 @@ printed_whole : (text : List ℕ) (out : Forest) (index : Option ℕ) (err : Opt
 printed_whole text out index err e = ap (λ (l : List ℕ). l ++ lines 0 out) e
 
 -- where printing succeeds, all is written
-pub printed_all : {T E : Type 0} (a b : Option (List ℕ)) (r : Result T E) (text : List ℕ) (out : Forest) (index : Option ℕ) (err : Option ExpandError)
+pub printed_all : {T E : Type 0} (a b : Option (List ℕ)) (r : Result T E) (text : List ℕ) (out : Forest)
+    (index : Option ℕ) (err : Option ExpandError)
     → text ≡ head err index → IsOk r → Writes a b r (text ++ lines 0 out) → Appends a b (printed out index err)
 printed_all a b (Ok x) text out index err e h w = subst (Appends a b) (printed_whole text out index err e) w
 printed_all a b (Err x) text out index err e h w = absurd (false≢true h)
 
 -- where it fails, a prefix is
-pub printed_some : {T E : Type 0} (a b : Option (List ℕ)) (r : Result T E) (text : List ℕ) (out : Forest) (index : Option ℕ) (err : Option ExpandError)
-    → text ≡ head err index → IsErr r → Writes a b r (text ++ lines 0 out) → (left : List ℕ) × Takes a b (printed out index err) left
+pub printed_some : {T E : Type 0} (a b : Option (List ℕ)) (r : Result T E) (text : List ℕ) (out : Forest)
+    (index : Option ℕ) (err : Option ExpandError)
+    → text ≡ head err index → IsErr r → Writes a b r (text ++ lines 0 out)
+    → (left : List ℕ) × Takes a b (printed out index err) left
 printed_some a b (Ok x) text out index err e h w = absurd (false≢true h)
-printed_some a b (Err x) text out index err e h w = (w.0, subst (λ (l : List ℕ). Takes a b l w.0) (printed_whole text out index err e) w.1)
+printed_some a b (Err x) text out index err e h w =
+    (w.0, subst (λ (l : List ℕ). Takes a b l w.0) (printed_whole text out index err e) w.1)

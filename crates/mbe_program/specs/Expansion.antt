@@ -28,7 +28,8 @@ IsEdition edition context answer = answer ≡ edition
 abbrev pub IsItself : Span → Span → Type 0
 IsItself span marked = marked ≡ span
 
--- The answer to a call with this argument, by the macro that the grammar of definitions reads from the definition in that
+-- The answer to a call with this argument, by the macro that the grammar of definitions reads from the definition in
+-- that
 -- edition, which reports no fault.
 pub record ExpandsTrees (edition : Edition) (definition : Forest) (argument : Top) (call_site : Span)
     (out : Forest) (index : Option ℕ) (err : Option ExpandError) : Type 0 where
@@ -39,17 +40,20 @@ pub record ExpandsTrees (edition : Edition) (definition : Forest) (argument : To
 -- There is no expansion: the definition has that fault in that edition, or there is no memory.
 abbrev pub IsRefused : {A : Type 0} → Edition → Forest → Outcome A → Type 0
 IsRefused edition definition (Refused error) =
-    (rules : List Rule) × IsReadAs (IsEdition edition) definition (record { rules = rules; err = Some (parse_error_of error) })
+    (rules : List Rule) × IsReadAs (IsEdition edition) definition
+    (record { rules = rules; err = Some (parse_error_of error) })
 IsRefused edition definition OutOfMemory = ⊤
 IsRefused edition definition outcome = ⊥
 
 -- ---- from texts
 
--- The trees of both texts, the definition as file 0 and the argument as file 1; or the first fault, by its file and its byte.
+-- The trees of both texts, the definition as file 0 and the argument as file 1; or the first fault, by its file and its
+-- byte.
 abbrev pub both_trees : List ℕ → List ℕ → Result (Top × Top) (ℕ × ℕ)
 both_trees def_text arg_text = elim (sample_trees 0 def_text) [
   | Err offset ↦ Err (0, offset)
-  | Ok definition ↦ elim (sample_trees 1 arg_text) [ Err offset ↦ Err (1, offset) | Ok argument ↦ Ok (definition, argument) ]
+  | Ok definition ↦ elim (sample_trees 1 arg_text)
+      [ Err offset ↦ Err (1, offset) | Ok argument ↦ Ok (definition, argument) ]
 ]
 
 -- These are the trees of both texts, which their tokens make as they are spelled there.
@@ -59,7 +63,8 @@ pub record AreTrees (def_text arg_text : List ℕ) (definition argument : Top) :
   pub given : IsMade 1 arg_text argument
 
 -- The answer to a call with these texts: their trees have it, with all bytes of the argument as call site.
-pub record ExpandsTexts (edition : Edition) (def_text arg_text : List ℕ) (out : Forest) (index : Option ℕ) (err : Option ExpandError) : Type 0 where
+pub record ExpandsTexts (edition : Edition) (def_text arg_text : List ℕ) (out : Forest) (index : Option ℕ)
+    (err : Option ExpandError) : Type 0 where
   pub definition : Top
   pub argument : Top
   pub trees : AreTrees def_text arg_text definition argument
@@ -77,14 +82,17 @@ IsUnlexed def_text arg_text (CannotLex file offset) = both_trees def_text arg_te
 IsUnlexed def_text arg_text OutOfMemory = ⊤
 IsUnlexed def_text arg_text outcome = ⊥
 
--- There is no expansion of the texts: the definition's trees have that fault, that byte of that file is the first at fault, or
+-- There is no expansion of the texts: the definition's trees have that fault, that byte of that file is the first at
+-- fault, or
 -- there is no memory.
 abbrev pub IsUnexpanded : {A : Type 0} → Edition → List ℕ → List ℕ → Outcome A → Type 0
 IsUnexpanded edition def_text arg_text (Refused error) =
-    (definition : Top) × (argument : Top) × AreTrees def_text arg_text definition argument × IsRefused edition definition.1 (Refused error)
+    (definition : Top) × (argument : Top) × AreTrees def_text arg_text definition argument
+    × IsRefused edition definition.1 (Refused error)
 IsUnexpanded edition def_text arg_text outcome = IsUnlexed def_text arg_text outcome
 
--- Where the answer has no error, a run ends as `Expanded`, and where it has one, as `Faulted`; either way what is printed of it
+-- Where the answer has no error, a run ends as `Expanded`, and where it has one, as `Faulted`; either way what is
+-- printed of it
 -- is written. If a write fails, a prefix of that is written. Without an answer nothing is. No such run lints.
 abbrev pub EndsAs : {A : Type 0} → Edition → List ℕ → List ℕ → Option (List ℕ) → Option (List ℕ) → Outcome A → Type 0
 EndsAs edition def_text arg_text before after Expanded =
@@ -97,4 +105,5 @@ EndsAs edition def_text arg_text before after CannotWrite =
     (out : Forest) × (index : Option ℕ) × (err : Option ExpandError) × (left : List ℕ)
     × ExpandsTexts edition def_text arg_text out index err × Takes before after (printed out index err) left
 EndsAs edition def_text arg_text before after Linted = ⊥
-EndsAs edition def_text arg_text before after outcome = IsUnexpanded edition def_text arg_text outcome × (after ≡ before)
+EndsAs edition def_text arg_text before after outcome =
+    IsUnexpanded edition def_text arg_text outcome × (after ≡ before)

@@ -24,7 +24,8 @@ AreVerdicts g argument (r ∷ rs) (v ∷ vs) = IsVerdict g r.reads argument v ×
 AreVerdicts g argument [] (v ∷ vs) = ⊥
 AreVerdicts g argument (r ∷ rs) [] = ⊥
 
--- The verdicts on an argument of the rules that the grammar of definitions reads from these trees in that edition, which report
+-- The verdicts on an argument of the rules that the grammar of definitions reads from these trees in that edition,
+-- which report
 -- no error.
 pub record ExplainsTrees (edition : Edition) (definition argument : Forest) (answers : List Verdict) : Type 0 where
   pub rules : List Rule
@@ -53,14 +54,17 @@ lines_from rule (v ∷ vs) = (line_of rule v ++ codes "\n") ++ lines_from (suc r
 
 -- These are the verdicts for the trees of the texts.
 abbrev pub ExplainsTexts : Edition → List ℕ → List ℕ → List Verdict → Type 0
-ExplainsTexts edition def_text arg_text verdicts = (definition : Top) × (argument : Top) × AreTrees def_text arg_text definition argument
+ExplainsTexts edition def_text arg_text verdicts =
+    (definition : Top) × (argument : Top) × AreTrees def_text arg_text definition argument
     × ExplainsTrees edition definition.1 argument.1 verdicts
 
--- A run that lints ends as `Linted`, and has written a line for each verdict. If a write fails, a prefix of those is written.
+-- A run that lints ends as `Linted`, and has written a line for each verdict. If a write fails, a prefix of those is
+-- written.
 -- Without verdicts nothing is. No such run expands.
 abbrev pub Lints : {A : Type 0} → Edition → List ℕ → List ℕ → Option (List ℕ) → Option (List ℕ) → Outcome A → Type 0
 Lints edition def_text arg_text before after Linted =
-    (verdicts : List Verdict) × ExplainsTexts edition def_text arg_text verdicts × Appends before after (lines_from 0 verdicts)
+    (verdicts : List Verdict) × ExplainsTexts edition def_text arg_text verdicts
+    × Appends before after (lines_from 0 verdicts)
 Lints edition def_text arg_text before after CannotWrite =
     (verdicts : List Verdict) × (left : List ℕ) × ExplainsTexts edition def_text arg_text verdicts
     × Takes before after (lines_from 0 verdicts) left

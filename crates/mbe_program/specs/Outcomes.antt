@@ -49,7 +49,8 @@ report_status says.CannotWrite = 3
 report_status (says.CannotLex name offset) = 4
 report_status says.OutOfMemory = 5
 
--- A line says what a run with these options ended by: the error of the definition, or the file that isn't lexed, by its name,
+-- A line says what a run with these options ended by: the error of the definition, or the file that isn't lexed, by its
+-- name,
 -- and the byte.
 abbrev pub Tells : {A : Type 0} → Options → Outcome A → Report A → Type 0
 Tells o (Refused error) (says.Refused told) = told.now ≡ error

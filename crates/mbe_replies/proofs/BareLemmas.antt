@@ -37,7 +37,8 @@ no_macro-bare : (edition : Edition) (definition : Forest) (a : Answer) → IsNoM
 no_macro-bare edition definition a (refused rules fault read e) = bare_as a _ e (refl, refl)
 no_macro-bare edition definition a (no_memory_for_macro e) = bare_as a _ e (refl, refl)
 
-no_result-bare : (s : Settings) (text : List ℕ) (definition : Top) (a : Answer) → IsNoResult s text definition a → IsBare a
+no_result-bare : (s : Settings) (text : List ℕ) (definition : Top) (a : Answer) → IsNoResult s text definition a
+    → IsBare a
 no_result-bare s text definition a (no_grammar asked h) = no_grammar-bare text a h
 no_result-bare s text definition a (no_macro g named h) = no_macro-bare _ _ a h
 

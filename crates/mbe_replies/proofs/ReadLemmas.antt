@@ -31,10 +31,12 @@ use Rattle.mbe_replies.proofs.CallLemmas.{expands_both, table_read}
 -- ---- the answer
 
 -- an answer that shows an expansion, if there is memory for it
-pub shown_of : {X E A : Type 0} (see : X → Answer) (r : Result X E) (g : Grammar) (m : ReadMacro A) (argument : Top) (site : Span) (tree : Top)
+pub shown_of : {X E A : Type 0} (see : X → Answer) (r : Result X E) (g : Grammar) (m : ReadMacro A) (argument : Top)
+    (site : Span) (tree : Top)
     (rule : Option ℕ) (err : Option ExpandError)
     → IsAnswer g IsItself (macro_of m.rules).rules m.asked.style argument site (top_group tree) rule err
-    → IfOk r (λ x. see x ≡ expansion_shown m.asked.form tree rule err) → IfOk r (λ x. IsExpansionOf g m argument site (see x))
+    → IfOk r (λ x. see x ≡ expansion_shown m.asked.form tree rule err)
+    → IfOk r (λ x. IsExpansionOf g m argument site (see x))
 shown_of see (Ok x) g m argument site tree rule err is shown = (tree, rule, err, is, shown)
 shown_of see (Err x) g m argument site tree rule err is shown = shown
 

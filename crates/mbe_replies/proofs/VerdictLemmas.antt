@@ -22,7 +22,8 @@ verdict_at g argument (x ∷ rs) (suc n) [] r v h e k = absurd h
 verdict_at g argument (x ∷ rs) (suc n) (w ∷ vs) r v h e k = (h.0, verdict_at g argument rs n vs r v h.1 e k)
 
 -- the verdict of one rule more
-pub one_verdict_more : (g : Grammar) (argument : Forest) (rs : List Rule) (n : ℕ) (vs : List given.Verdict) (v : given.Verdict)
+pub one_verdict_more : (g : Grammar) (argument : Forest) (rs : List Rule) (n : ℕ) (vs : List given.Verdict)
+    (v : given.Verdict)
     → AreVerdicts g argument (take n rs) (map verdict_seen vs) → Explains g rs argument n (verdict_seen v)
     → AreVerdicts g argument (take (n + 1) rs) (map verdict_seen (vs ++ v ∷ []))
 one_verdict_more g argument rs n vs v h k =

@@ -117,9 +117,14 @@ abbrev pub IsUntreedBy : Part → FlatError → Answer → Type 0
 IsUntreedBy part (flat_errors.Fault index wrong) a = IsOr (IsUntreed part index wrong) a
 IsUntreedBy part flat_errors.OutOfMemory a = IsOutOfMemory a
 
--- The text of a grammar isn't one: that is wrong in it, there. The message is the words of `mbe_rules_text` for the reason.
+-- The text of a grammar isn't one: that is wrong in it, there. The message is the words of `mbe_rules_text` for the
+-- reason.
 abbrev pub IsUngrammatical : Place → Answer → Type 0
-IsUngrammatical place a = a ≡ record (empty NoGrammar parts.Grammar) { place = place.line; column = place.column; message = a.message }
+IsUngrammatical place a = a ≡ record (empty NoGrammar parts.Grammar) {
+  place = place.line;
+  column = place.column;
+  message = a.message;
+}
 
 abbrev pub IsUngrammaticalBy : RuleFault → Answer → Type 0
 IsUngrammaticalBy (rule_faults.At place reason) a = IsOr (IsUngrammatical place) a
@@ -141,5 +146,6 @@ pub data IsNoText (part : Part) (text : List ℕ) (a : Answer) : Type 0 where
 -- The bytes of a grammar are the text of none.
 pub data IsNoGrammar (text : List ℕ) (a : Answer) : Type 0 where
   no_text_of_grammar : IsNoText parts.Grammar text a → IsNoGrammar text a
-  fault_in_grammar : (place : Place) (reason : Reason) → read_text text ≡ Err (rule_faults.At place reason) → IsUngrammatical place a → IsNoGrammar text a
+  fault_in_grammar : (place : Place) (reason : Reason) → read_text text ≡ Err (rule_faults.At place reason)
+      → IsUngrammatical place a → IsNoGrammar text a
   no_memory_for_grammar : IsOutOfMemory a → IsNoGrammar text a

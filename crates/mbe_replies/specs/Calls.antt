@@ -1,4 +1,5 @@
--- What each call answers: from the numbers and the texts that it is given to what its answer shows, or why there is none.
+-- What each call answers: from the numbers and the texts that it is given to what its answer shows, or why there is
+-- none.
 use Rattle.std.specs.Prelude.{◌≡◌, ◌<◌, ◌≤◌, ◌^◌, ◌⊎◌, ℕ, true, List, [], length, map, IsUtf8, Option, Some, None, Ok, Err}
 use Rattle.mbe_tt.specs.declared.span.Edition.{Edition}
 use Rattle.mbe_tt.specs.Trees.Top.{Top, top_group}
@@ -89,7 +90,8 @@ pub data AreTreesOf (dialect : Dialect) (s : Source) (tree : Top) : Type 0 where
   lexed : s.is_flat ≡ 0 → IsText s.text → trees_of dialect s.file s.text ≡ Ok tree → AreTreesOf dialect s tree
   said : s.is_flat ≡ 1 → AreTrees s.text s.tokens tree → AreTreesOf dialect s tree
 
--- An input has no trees, as the answer says: its bytes are no text, or the text isn't lexed; its tokens aren't trees; or it is neither a
+-- An input has no trees, as the answer says: its bytes are no text, or the text isn't lexed; its tokens aren't trees;
+-- or it is neither a
 -- text nor tokens.
 pub data HasNoTrees (dialect : Dialect) (s : Source) (a : Answer) : Type 0 where
   no_text_of_input : s.is_flat ≡ 0 → IsNoText s.part s.text a → HasNoTrees dialect s a
@@ -111,7 +113,11 @@ pub record IsRustTable (edition : Edition) (t : RuleTable) : Type 0 where
 
 -- what a table says, wherever its texts lie
 abbrev pub table_seen : RuleTable → Table
-table_seen t = record { nodes = map plain_node t.nodes.now; keywords = map plain_keyword t.keywords.now; starts = t.starts }
+table_seen t = record {
+  nodes = map plain_node t.nodes.now;
+  keywords = map plain_keyword t.keywords.now;
+  starts = t.starts;
+}
 
 -- the table of a grammar's text, of that edition
 pub record IsTableOf (edition : Edition) (text : List ℕ) (t : RuleTable) : Type 0 where
@@ -130,7 +136,10 @@ IsGrammar edition text grammars.Text g = (t : RuleTable) × IsTableOf edition te
 
 -- a tree in that form: flat tokens with their text, lines, or Rust text
 abbrev pub with_tree : Form → Top → Answer → Answer
-with_tree forms.Tokens t a = record a { tokens = (flat_form (top_group t)).tokens; text = (flat_form (top_group t)).text }
+with_tree forms.Tokens t a = record a {
+  tokens = (flat_form (top_group t)).tokens;
+  text = (flat_form (top_group t)).text;
+}
 with_tree forms.Lines t a = record a { text = tree_text t }
 with_tree forms.Rust t a = record a { text = text_of 0 t.1 }
 
@@ -162,26 +171,31 @@ pub record IsExpansion (s : Settings) (g : Grammar) (definition argument : Top) 
   pub shown : a ≡ expansion_shown s.form tree rule err
 
 -- one verdict for each rule, in order
-pub record AreVerdictsOf (s : Settings) (g : Grammar) (definition argument : Top) (found : List FlatVerdict) : Type 0 where
+pub record AreVerdictsOf (s : Settings) (g : Grammar) (definition argument : Top)
+    (found : List FlatVerdict) : Type 0 where
   pub verdicts : List Verdict
   pub explains : ExplainsBy g s.edition definition.1 argument.1 verdicts
   pub flat : found ≡ map flat_verdict verdicts
 
--- The definition isn't one, as the answer says: the grammar of definitions reports that fault of it in that edition. Or there is no memory.
+-- The definition isn't one, as the answer says: the grammar of definitions reports that fault of it in that edition. Or
+-- there is no memory.
 pub data IsNoMacro (edition : Edition) (definition : Forest) (a : Answer) : Type 0 where
-  refused : (rules : List Rule) (fault : Fault) → IsReadAs (IsEdition edition) definition (record { rules = rules; err = Some fault })
+  refused : (rules : List Rule) (fault : Fault)
+      → IsReadAs (IsEdition edition) definition (record { rules = rules; err = Some fault })
       → IsRefusal fault a → IsNoMacro edition definition a
   no_memory_for_macro : IsOutOfMemory a → IsNoMacro edition definition a
 
 -- There is no expansion, and there are no verdicts, of these trees, as the answer says.
 pub data IsNoResult (s : Settings) (text : List ℕ) (definition : Top) (a : Answer) : Type 0 where
   no_grammar : s.grammar ≡ grammars.Text → IsNoGrammar text a → IsNoResult s text definition a
-  no_macro : (g : Grammar) → IsGrammar s.edition text s.grammar g → IsNoMacro s.edition definition.1 a → IsNoResult s text definition a
+  no_macro : (g : Grammar) → IsGrammar s.edition text s.grammar g → IsNoMacro s.edition definition.1 a
+      → IsNoResult s text definition a
 
 -- by the grammar that is asked for
 abbrev pub ExpandsTrees : Settings → List ℕ → Top → Top → Answer → Type 0
 ExpandsTrees s text definition argument a =
-    ((g : Grammar) × IsGrammar s.edition text s.grammar g × IsExpansion s g definition argument a) ⊎ IsNoResult s text definition a
+    ((g : Grammar) × IsGrammar s.edition text s.grammar g × IsExpansion s g definition argument a)
+    ⊎ IsNoResult s text definition a
 
 abbrev pub ExplainsTrees : Settings → List ℕ → Top → Top → List FlatVerdict → Type 0
 ExplainsTrees s text definition argument found =
@@ -198,13 +212,17 @@ pub record Reads (r : Request) (definition argument : Source) : Type 0 where
   pub trees : Top
   pub given : AreTreesOf settings.dialect argument trees
 
--- There is no expansion, and there are no verdicts, as the answer says: what is at fault first is said, in the order in which they are read.
+-- There is no expansion, and there are no verdicts, as the answer says: what is at fault first is said, in the order in
+-- which they are read.
 pub data IsNoAnswer (r : Request) (text : List ℕ) (definition argument : Source) (a : Answer) : Type 0 where
   unknown : IsUnknown r → a ≡ empty Number parts.None → IsNoAnswer r text definition argument a
-  no_definition : (s : Settings) → AreSettings r s → HasNoTrees s.dialect definition a → IsNoAnswer r text definition argument a
-  no_argument : (s : Settings) → AreSettings r s → (rules : Top) → AreTreesOf s.dialect definition rules → HasNoTrees s.dialect argument a
+  no_definition : (s : Settings) → AreSettings r s → HasNoTrees s.dialect definition a
       → IsNoAnswer r text definition argument a
-  no_result : (x : Reads r definition argument) → IsNoResult x.settings text x.rules a → IsNoAnswer r text definition argument a
+  no_argument : (s : Settings) → AreSettings r s → (rules : Top) → AreTreesOf s.dialect definition rules
+      → HasNoTrees s.dialect argument a
+      → IsNoAnswer r text definition argument a
+  no_result : (x : Reads r definition argument) → IsNoResult x.settings text x.rules a
+      → IsNoAnswer r text definition argument a
 
 -- the expansion of an argument by a definition, by the grammar that is asked for, is what the answer shows
 pub record ShowsExpansion (r : Request) (text : List ℕ) (definition argument : Source) (a : Answer) : Type 0 where
@@ -215,10 +233,12 @@ pub record ShowsExpansion (r : Request) (text : List ℕ) (definition argument :
 
 -- the answer of `expand`
 abbrev pub Expands : Request → List ℕ → Source → Source → Answer → Type 0
-Expands r text definition argument a = ShowsExpansion r text definition argument a ⊎ IsNoAnswer r text definition argument a
+Expands r text definition argument a = ShowsExpansion r text definition argument a
+    ⊎ IsNoAnswer r text definition argument a
 
 -- these are the verdicts of the rules of a definition on an argument, by the grammar that is asked for
-pub record ShowsVerdicts (r : Request) (text : List ℕ) (definition argument : Source) (found : List FlatVerdict) : Type 0 where
+pub record ShowsVerdicts (r : Request) (text : List ℕ) (definition argument : Source)
+    (found : List FlatVerdict) : Type 0 where
   pub reads : Reads r definition argument
   pub grammar : Grammar
   pub named : IsGrammar reads.settings.edition text reads.settings.grammar grammar
@@ -226,7 +246,8 @@ pub record ShowsVerdicts (r : Request) (text : List ℕ) (definition argument : 
 
 -- the answer shows the trees of an input, or says why there are none
 pub data Converts (r : Request) (s : Source) (a : Answer) : Type 0 where
-  converted : (x : Settings) → AreSettings r x → (tree : Top) → AreTreesOf x.dialect s tree → a ≡ tree_shown x.form tree → Converts r s a
+  converted : (x : Settings) → AreSettings r x → (tree : Top) → AreTreesOf x.dialect s tree → a ≡ tree_shown x.form tree
+      → Converts r s a
   unknown_form : IsUnknown r → a ≡ empty Number parts.None → Converts r s a
   no_input : (x : Settings) → AreSettings r x → HasNoTrees x.dialect s a → Converts r s a
   no_memory_for_form : IsOutOfMemory a → Converts r s a
@@ -245,7 +266,8 @@ pub record Defines (r : Request) (s : Source) (count : ℕ) : Type 0 where
 pub data IsUndefined (r : Request) (s : Source) (a : Answer) : Type 0 where
   unknown_edition : IsUnknown r → a ≡ empty Number parts.None → IsUndefined r s a
   no_trees_of_definition : (x : Settings) → AreSettings r x → HasNoTrees x.dialect s a → IsUndefined r s a
-  no_rules : (x : Settings) → AreSettings r x → (trees : Top) → AreTreesOf x.dialect s trees → IsNoMacro x.edition trees.1 a → IsUndefined r s a
+  no_rules : (x : Settings) → AreSettings r x → (trees : Top) → AreTreesOf x.dialect s trees
+      → IsNoMacro x.edition trees.1 a → IsUndefined r s a
 
 -- the bytes are the text of a grammar
 pub record IsGrammarText (text : List ℕ) : Type 0 where

@@ -24,9 +24,11 @@ IsEdition edition context answer = answer ≡ edition
 abbrev pub IsItself : Span → Span → Type 0
 IsItself span marked = marked ≡ span
 
--- The answer to a call of that style with this argument, by the macro that the grammar of definitions reads from the definition in
+-- The answer to a call of that style with this argument, by the macro that the grammar of definitions reads from the
+-- definition in
 -- that edition, which reports no fault.
-pub record ExpandsBy (g : Grammar) (edition : Edition) (definition : Forest) (style : MacroCallStyle) (argument : Top) (call_site : Span)
+pub record ExpandsBy (g : Grammar) (edition : Edition) (definition : Forest) (style : MacroCallStyle) (argument : Top)
+    (call_site : Span)
     (out : Forest) (index : Option ℕ) (err : Option ExpandError) : Type 0 where
   pub rules : List Rule
   pub read : IsReadAs (IsEdition edition) definition (record { rules = rules; err = None })
@@ -35,7 +37,8 @@ pub record ExpandsBy (g : Grammar) (edition : Edition) (definition : Forest) (st
 -- The definition has that fault in that edition, or there is no memory.
 abbrev pub IsRefused : {A : Type 0} → Edition → Forest → Unread A → Type 0
 IsRefused edition definition (Refused error) =
-    (rules : List Rule) × IsReadAs (IsEdition edition) definition (record { rules = rules; err = Some (parse_error_of error) })
+    (rules : List Rule) × IsReadAs (IsEdition edition) definition
+    (record { rules = rules; err = Some (parse_error_of error) })
 IsRefused edition definition OutOfMemory = ⊤
 
 -- one verdict for each rule, in order
@@ -45,9 +48,11 @@ AreVerdicts g argument (r ∷ rs) (v ∷ vs) = IsVerdict g r.reads argument v ×
 AreVerdicts g argument [] (v ∷ vs) = ⊥
 AreVerdicts g argument (r ∷ rs) [] = ⊥
 
--- The verdicts on an argument of the rules that the grammar of definitions reads from these trees in that edition, which report
+-- The verdicts on an argument of the rules that the grammar of definitions reads from these trees in that edition,
+-- which report
 -- no error.
-pub record ExplainsBy (g : Grammar) (edition : Edition) (definition argument : Forest) (answers : List Verdict) : Type 0 where
+pub record ExplainsBy (g : Grammar) (edition : Edition) (definition argument : Forest)
+    (answers : List Verdict) : Type 0 where
   pub rules : List Rule
   pub read : IsReadAs (IsEdition edition) definition (record { rules = rules; err = None })
   pub verdicts : AreVerdicts g argument rules answers

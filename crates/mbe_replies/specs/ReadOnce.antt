@@ -28,7 +28,8 @@ use Rattle.mbe_replies.specs.Expanding.{IsEdition, IsItself}
 abbrev pub AreFragments : {A : Type 0} → Settings → List ℕ → Fragments A → Type 0
 AreFragments s text fragments.Sample = s.grammar ≡ grammars.Sample
 AreFragments s text (fragments.Rust table) = (s.grammar ≡ grammars.Rust) × IsRustTable s.edition table
-AreFragments s text (fragments.Text rules) = (s.grammar ≡ grammars.Text) × IsText text × (read_text text ≡ Ok (rules_seen rules))
+AreFragments s text (fragments.Text rules) =
+    (s.grammar ≡ grammars.Text) × IsText text × (read_text text ≡ Ok (rules_seen rules))
 
 -- a macro was read of these trees, and the grammar that it asks for of that text
 abbrev pub IsMacroOf : {A : Type 0} → List ℕ → Top → ReadMacro A → Type 0
@@ -44,7 +45,8 @@ IsMacro r text definition m =
 pub data IsUnread (r : Request) (text : List ℕ) (definition : Source) (a : Answer) : Type 0 where
   unknown_number : IsUnknown r → a ≡ empty Number parts.None → IsUnread r text definition a
   no_trees_to_read : (s : Settings) → AreSettings r s → HasNoTrees s.dialect definition a → IsUnread r text definition a
-  no_macro_to_read : (s : Settings) → AreSettings r s → (rules : Top) → AreTreesOf s.dialect definition rules → IsNoResult s text rules a
+  no_macro_to_read : (s : Settings) → AreSettings r s → (rules : Top) → AreTreesOf s.dialect definition rules
+      → IsNoResult s text rules a
       → IsUnread r text definition a
 
 -- ---- what it makes of arguments
@@ -65,9 +67,11 @@ IsExpansionOf g m argument site a = (tree : Top) × (rule : Option ℕ) × (err 
 -- the answer is that to a call with each text and each definition of trees that the macro may have been read of
 abbrev pub AnswersTreesBy : {A : Type 0} → ReadMacro A → Top → Span → Answer → Type 0
 AnswersTreesBy m argument site a =
-    (text : List ℕ) (definition : Top) → IsMacroOf text definition m → ExpandsTrees (at_site m.asked site) text definition argument a
+    (text : List ℕ) (definition : Top) → IsMacroOf text definition m
+    → ExpandsTrees (at_site m.asked site) text definition argument a
 
 -- the answer is that of `expand` to each request that the macro may have been read for, with that call site
 abbrev pub AnswersBy : {A : Type 0} → ReadMacro A → Source → FlatSpan → Answer → Type 0
 AnswersBy m argument site a =
-    (r : Request) (text : List ℕ) (definition : Source) → IsMacro r text definition m → Expands (asked_at r site) text definition argument a
+    (r : Request) (text : List ℕ) (definition : Source) → IsMacro r text definition m
+    → Expands (asked_at r site) text definition argument a

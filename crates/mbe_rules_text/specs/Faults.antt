@@ -22,5 +22,5 @@ reason_text (reasons.Twice name) = codes "a rule before is named \"" ++ (name.no
 -- `3:7: no rule is named "type"`: line, column and reason
 abbrev pub fault_text : RuleFault → List ℕ
 fault_text (faults.At place reason) =
-  decimal place.line ++ (codes ":" ++ (decimal place.column ++ (codes ": " ++ reason_text reason)))
+    decimal place.line ++ (codes ":" ++ (decimal place.column ++ (codes ": " ++ reason_text reason)))
 fault_text faults.OutOfMemory = codes "out of memory"

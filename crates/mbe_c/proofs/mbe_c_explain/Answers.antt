@@ -25,5 +25,6 @@ pub returns-in-Ok-clause-explains : goal.returns-in-Ok-clause-explains
 returns-in-Ok-clause-explains c =
     let same : c.deref.result.now ≡ c.in-Ok.found.items = cc in
     with_verdicts c.in-Ok.found.items c.in-Ok.ensures.explains
-    (subst (λ (vs : List FlatVerdict). GivesVerdicts vs c.args.verdicts.now c.give_verdicts.new.verdicts c.give_verdicts.new.reply) same
+    (subst (λ (vs : List FlatVerdict). GivesVerdicts vs c.args.verdicts.now c.give_verdicts.new.verdicts
+    c.give_verdicts.new.reply) same
     c.give_verdicts.ensures.gives) refl

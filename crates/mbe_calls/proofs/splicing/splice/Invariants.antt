@@ -12,4 +12,5 @@ pub record Halfway (text done : List ℕ) (copied : ℕ) (left all : List Part) 
 
 abbrev pub invariant-loop-replacement : goal.invariant-loop-replacement
 invariant-loop-replacement g l =
-    Halfway l.text (string_bytes l.spliced) l.copied (map part_of (drop l.replacement-index l.replacements)) (map part_of l.fn.replacements)
+    Halfway l.text (string_bytes l.spliced) l.copied (map part_of (drop l.replacement-index l.replacements))
+    (map part_of l.fn.replacements)

@@ -5,5 +5,6 @@ use Rattle.mbe_expanding.proofs.scope.macro_in.Goals as goal
 
 pub returns : goal.returns
 returns g c =
-    macro_read macro_of c.parse_macro2.result _ _ c.args.body.now.1 c.args.edition c.parse_macro2.ensures (as_shown _ _ c.as_ref.ensures.value)
+    macro_read macro_of c.parse_macro2.result _ _ c.args.body.now.1 c.args.edition c.parse_macro2.ensures
+    (as_shown _ _ c.as_ref.ensures.value)
     (λ context answer asked. search rules)

@@ -4,4 +4,5 @@ use Rattle.mbe_expanding.proofs.EditionLemmas.{read_as, read_by}
 use Rattle.mbe_expanding.proofs.scope.rules_in.Goals as goal
 
 pub returns : goal.returns
-returns g c = read_by _ (λ m. read_as (λ context answer asked. search rules) c.args.body.now.1 (macro_of m)) c.parse_macro_rules.ensures
+returns g c = read_by _ (λ m. read_as (λ context answer asked. search rules) c.args.body.now.1 (macro_of m))
+    c.parse_macro_rules.ensures

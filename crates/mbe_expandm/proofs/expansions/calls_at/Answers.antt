@@ -16,7 +16,10 @@ returns-clause-there c =
     let f : Forest = c.args.tree.now.1 in
     let same_trees : trees c.remaining.result ≡ f = c.remaining.ensures ∙ c.iter.ensures in
     let of_file : PartsOfFile e 1000 f (state_of c.args.expander.now) parts (state_of c.replacements.new.self) =
-    subst (λ x. PartsOfFile e 1000 x (state_of c.args.expander.now) parts (state_of c.replacements.new.self)) same_trees c.in_ok-replacements.ensures.parts in
-    call_expanded string_bytes c.texts_at.result e 1000 c.args.position f (state_of c.args.expander.now) (state_of c.replacements.new.self)
-    c.args.file.now.text.now (string_bytes c.args.file.now.lines.text) parts (map part_of c.as_slice.result.now) of_file c.args.file.now.plain
+    subst (λ x. PartsOfFile e 1000 x (state_of c.args.expander.now) parts (state_of c.replacements.new.self)) same_trees
+    c.in_ok-replacements.ensures.parts in
+    call_expanded string_bytes c.texts_at.result e 1000 c.args.position f (state_of c.args.expander.now)
+    (state_of c.replacements.new.self)
+    c.args.file.now.text.now (string_bytes c.args.file.now.lines.text) parts (map part_of c.as_slice.result.now) of_file
+    c.args.file.now.plain
     (ap (map part_of) c.as_slice.ensures.value) c.texts_at.ensures

@@ -6,4 +6,5 @@ use Rattle.mbe_expandm.proofs.expansions.texts_at.Given as goal
 
 abbrev pub invariant-loop-replacement : goal.invariant-loop-replacement
 invariant-loop-replacement l =
-    TextsThere l.position (string_bytes l.lines.text) (map part_of (take l.replacement-index l.replacements)) (string_bytes l.found)
+    TextsThere l.position (string_bytes l.lines.text) (map part_of (take l.replacement-index l.replacements))
+    (string_bytes l.found)

@@ -19,10 +19,14 @@ returns-clause-whole c =
     let text : List ℕ = c.args.file.now.text.now in
     let same_trees : trees c.remaining.result ≡ f = c.remaining.ensures ∙ c.iter.ensures in
     let of_file : PartsOfFile e 1000 f (state_of c.args.expander.now) parts (state_of c.replacements.new.self) =
-    subst (λ x. PartsOfFile e 1000 x (state_of c.args.expander.now) parts (state_of c.replacements.new.self)) same_trees c.in_ok-replacements.ensures.parts in
-    let each : All (IsOfCall e f) parts = subst (λ x. All (IsOfCall e x) parts) same_trees c.in_ok-replacements.ensures.each in
+    subst (λ x. PartsOfFile e 1000 x (state_of c.args.expander.now) parts (state_of c.replacements.new.self)) same_trees
+    c.in_ok-replacements.ensures.parts in
+    let each : All (IsOfCall e f) parts =
+    subst (λ x. All (IsOfCall e x) parts) same_trees c.in_ok-replacements.ensures.each in
     let placed : map part_of c.in_ok-placed.placed.items ≡ map (placed_part (returns text)) parts =
-    c.in_ok-placed.ensures ∙ ap (λ rs. map (placed_part rs) (map part_of c.as_slice.result.now)) c.args.file.now.returned
+    c.in_ok-placed.ensures ∙ ap (λ rs. map (placed_part rs) (map part_of c.as_slice.result.now))
+    c.args.file.now.returned
     ∙ ap (λ xs. map (placed_part (returns text)) (map part_of xs)) c.as_slice.ensures.value in
-    file_expanded string_bytes c.splice.result e 1000 f (state_of c.args.expander.now) (state_of c.replacements.new.self) text parts
+    file_expanded string_bytes c.splice.result e 1000 f (state_of c.args.expander.now)
+    (state_of c.replacements.new.self) text parts
     (map part_of c.in_ok-placed.placed.items) of_file each placed (search rules)

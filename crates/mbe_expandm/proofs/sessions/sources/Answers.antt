@@ -13,10 +13,14 @@ loop-number-init c = (
 
 pub loop-number-preserved : goal.loop-number-preserved
 loop-number-preserved c = (
-  one_more_text (λ f. f.text.now) text_of c.loop-number.files.items c.push.new.self.items c.in_ok-file.file c.args.texts.now
-      c.index-texts-number.result c.loop-number.number c.loop-number-test.true c.index-texts-number.is c.in_ok-push.ensures.items
+  one_more_text (λ f. f.text.now) text_of c.loop-number.files.items c.push.new.self.items c.in_ok-file.file
+      c.args.texts.now
+      c.index-texts-number.result c.loop-number.number c.loop-number-test.true c.index-texts-number.is
+      c.in_ok-push.ensures.items
       c.loop-number.invariant.0 (c.in_ok-file.ensures.text ∙ c.as_str-text.ensures.value),
-  one_more_source source_of c.args.edition c.loop-number.files.items c.push.new.self.items c.in_ok-file.file c.in-Ok.at c.loop-number.invariant.1
+  one_more_source source_of c.args.edition c.loop-number.files.items c.push.new.self.items c.in_ok-file.file c.in-Ok.at
+      c.loop-number.invariant.1
       (search rules) c.in_ok-push.ensures.items (search rules),
-  ap length c.in_ok-push.ensures.items ∙ length-append c.loop-number.files.items (c.in_ok-file.file ∷ []) ∙ ap (λ n. n + 1) c.loop-number.invariant.2,
+  ap length c.in_ok-push.ensures.items ∙ length-append c.loop-number.files.items (c.in_ok-file.file ∷ [])
+      ∙ ap (λ n. n + 1) c.loop-number.invariant.2,
 )

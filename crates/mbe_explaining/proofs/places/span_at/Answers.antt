@@ -8,24 +8,29 @@ use Rattle.mbe_explaining.proofs.places.span_at.Goals as goal
 
 pub returns-then-left-eq0 : goal.returns-then-left-eq0
 returns-then-left-eq0 g c =
-    c.first_span.ensures ∙ sym (span_here c.trees.close c.trees.iter (element_tree c.in-Some.tree) c.trees.left (sym c.in-Some.ensures.value) c.if-left-eq0.true) ∙ c.trees.invariant
+    c.first_span.ensures ∙ sym (span_here c.trees.close c.trees.iter (element_tree c.in-Some.tree) c.trees.left
+    (sym c.in-Some.ensures.value) c.if-left-eq0.true) ∙ c.trees.invariant
 
 pub trees-preserved-in_default-tree : goal.trees-preserved-in_default-tree
 trees-preserved-in_default-tree g c =
     let l = leaf_of c.in_default-tree.field-0.now in
-    let is : first c.trees.iter ≡ Some (Leaf_tree l) = sym c.in-Some.ensures.value ∙ ap (λ t. Some (element_tree t)) c.in_default-tree.is in
+    let is : first c.trees.iter ≡ Some (Leaf_tree l) =
+    sym c.in-Some.ensures.value ∙ ap (λ t. Some (element_tree t)) c.in_default-tree.is in
     let some = c.if-left-eq0.false in
     let left : 0 < c.trees.left = omega (arith, some) in
-    ap (λ f. span_at c.trees.close f (c.trees.left - 1)) c.in-Some.ensures.rest ∙ sym (span_leaf c.trees.close c.trees.iter l c.trees.left is left) ∙ c.trees.invariant
+    ap (λ f. span_at c.trees.close f (c.trees.left - 1)) c.in-Some.ensures.rest
+    ∙ sym (span_leaf c.trees.close c.trees.iter l c.trees.left is left) ∙ c.trees.invariant
 
 pub trees-preserved-then-left-within : goal.trees-preserved-then-left-within
 trees-preserved-then-left-within g c =
     let d = c.in-Subtree.group.now.delimiter in
     let inside = c.in-Subtree.inside in
-    let is : first c.trees.iter ≡ Some (Group_tree d inside) = sym c.in-Some.ensures.value ∙ ap (λ t. Some (element_tree t)) c.in-Subtree.is in
+    let is : first c.trees.iter ≡ Some (Group_tree d inside) =
+    sym c.in-Some.ensures.value ∙ ap (λ t. Some (element_tree t)) c.in-Subtree.is in
     let some = c.if-left-eq0.false in
     let left : 0 < c.trees.left = omega (arith, some) in
-    let len : c.flat_len-within.result ≡ flat_len inside = c.flat_len-within.ensures ∙ ap flat_len c.remaining.ensures in
+    let len : c.flat_len-within.result ≡ flat_len inside =
+    c.flat_len-within.ensures ∙ ap flat_len c.remaining.ensures in
     let test = c.if-left-within.true in
     let within : c.trees.left - 1 ≤ flat_len inside = omega (arith, len, test) in
     sym (span_inside c.trees.close c.trees.iter d inside c.trees.left is left within) ∙ c.trees.invariant
@@ -34,10 +39,12 @@ pub trees-preserved : goal.trees-preserved
 trees-preserved g c =
     let d = c.in-Subtree.group.now.delimiter in
     let inside = c.in-Subtree.inside in
-    let is : first c.trees.iter ≡ Some (Group_tree d inside) = sym c.in-Some.ensures.value ∙ ap (λ t. Some (element_tree t)) c.in-Subtree.is in
+    let is : first c.trees.iter ≡ Some (Group_tree d inside) =
+    sym c.in-Some.ensures.value ∙ ap (λ t. Some (element_tree t)) c.in-Subtree.is in
     let some = c.if-left-eq0.false in
     let left : 0 < c.trees.left = omega (arith, some) in
-    let len : c.flat_len-within.result ≡ flat_len inside = c.flat_len-within.ensures ∙ ap flat_len c.remaining.ensures in
+    let len : c.flat_len-within.result ≡ flat_len inside =
+    c.flat_len-within.ensures ∙ ap flat_len c.remaining.ensures in
     let test = c.if-left-within.false in
     let past : flat_len inside < c.trees.left - 1 = omega (arith, len, test) in
     ap (λ f. span_at c.trees.close f (c.trees.left - 1 - (c.flat_len-within.result + 1))) c.in-Some.ensures.rest
@@ -45,4 +52,5 @@ trees-preserved g c =
     ∙ sym (span_past c.trees.close c.trees.iter d inside c.trees.left is left past) ∙ c.trees.invariant
 
 pub returns : goal.returns
-returns g c = sym (span_none c.trees.close c.trees.iter c.trees.left (sym c.in_default.ensures.value)) ∙ c.trees.invariant
+returns g c = sym (span_none c.trees.close c.trees.iter c.trees.left (sym c.in_default.ensures.value))
+    ∙ c.trees.invariant

@@ -6,4 +6,5 @@ use Rattle.mbe_program.specs.Linting.{AreVerdicts}
 use Rattle.mbe_program.proofs.linting.explained.Given as goal
 
 abbrev pub invariant-loop-rule : goal.invariant-loop-rule
-invariant-loop-rule g l = AreVerdicts sample l.argument.1 (take l.rule (macro_of l.rules).rules) (map verdict_seen l.verdicts.items)
+invariant-loop-rule g l = AreVerdicts sample l.argument.1 (take l.rule (macro_of l.rules).rules)
+    (map verdict_seen l.verdicts.items)

@@ -10,7 +10,8 @@ returns-then-is_err-clause-ended g c =
     let r = c.in-Ok.expansion in
     let text : c.as_str.result.now ≡ head (errors_of r.err) r.value.1 = search rules in
     let failed : IsErr c.print_expansion.result = search rules in
-    let some = printed_some _ _ c.print_expansion.result c.as_str.result.now (top_group r.value.0) r.value.1 (errors_of r.err) text failed
+    let some = printed_some _ _ c.print_expansion.result c.as_str.result.now (top_group r.value.0) r.value.1
+    (errors_of r.err) text failed
     c.print_expansion.ensures in
     (top_group r.value.0, r.value.1, errors_of r.err, some.0, c.in-Ok.ensures.expands, some.1)
 
@@ -22,5 +23,6 @@ returns-clause-ended g c =
       top_group r.value.0,
       r.value.1,
       search rules,
-      printed_all _ _ c.print_expansion.result c.as_str.result.now (top_group r.value.0) r.value.1 None text done c.print_expansion.ensures,
+      printed_all _ _ c.print_expansion.result c.as_str.result.now (top_group r.value.0) r.value.1 None text done
+          c.print_expansion.ensures,
     )

@@ -9,6 +9,8 @@ pub returns-clause-expands : goal.returns-clause-expands
 returns-clause-expands g c = record {
   rules = (macro_of c.in_ok-rules.rules).rules;
   read = c.in_ok-rules.ensures.read;
-  answers = answers_unmarked sample (macro_of c.in_ok-rules.rules).rules FnLike c.args.argument.now c.args.call_site _ _ _
-      (record { expands = c.in_ok-expansion.ensures.expands; recovers = c.in_ok-expansion.ensures.recovers }) (λ span marked asked. search rules);
+  answers = answers_unmarked sample (macro_of c.in_ok-rules.rules).rules FnLike c.args.argument.now c.args.call_site _ _
+      _
+      (record { expands = c.in_ok-expansion.ensures.expands; recovers = c.in_ok-expansion.ensures.recovers })
+      (λ span marked asked. search rules);
 }

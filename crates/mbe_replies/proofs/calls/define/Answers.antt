@@ -12,5 +12,6 @@ returns-in_err-definition-clause-fails g c =
 pub returns-clause-fails : goal.returns-clause-fails
 returns-clause-fails g c =
     no_rules c.in-Some.asked c.in-Some.ensures.known c.in_ok-definition.definition c.in_ok-definition.ensures.trees
-    (unread_by c.in-Some.asked.edition c.in_ok-definition.definition.1 c.in-Err.error (answer_of c.unread.result) c.in-Err.ensures.refused
+    (unread_by c.in-Some.asked.edition c.in_ok-definition.definition.1 c.in-Err.error (answer_of c.unread.result)
+    c.in-Err.ensures.refused
     c.unread.ensures)

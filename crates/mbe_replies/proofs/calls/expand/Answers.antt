@@ -10,7 +10,8 @@ returns-in-Err g c = inr (no_definition c.in-Some.asked c.in-Some.ensures.known 
 
 pub returns-in-Err-trees : goal.returns-in-Err-trees
 returns-in-Err-trees g c =
-    inr (no_argument c.in-Some.asked c.in-Some.ensures.known c.in-Ok.tree c.in-Ok.ensures.trees c.in-Err-trees.ensures.fails)
+    inr (no_argument c.in-Some.asked c.in-Some.ensures.known c.in-Ok.tree c.in-Ok.ensures.trees
+    c.in-Err-trees.ensures.fails)
 
 pub returns-in-Ok-of_trees : goal.returns-in-Ok-of_trees
 returns-in-Ok-of_trees g c =

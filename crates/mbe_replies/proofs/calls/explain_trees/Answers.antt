@@ -18,7 +18,8 @@ pub returns-in-Sample-clause-fails : goal.returns-in-Sample-clause-fails
 returns-in-Sample-clause-fails g c =
     err_map c.explain_by.result (λ a. IsNoMacro c.args.asked.edition c.args.definition.now.1 (answer_of a))
     (λ a. IsNoResult c.args.asked c.args.grammar.now c.args.definition.now (answer_of a))
-    (λ a none. no_result_by c.args.asked c.args.grammar.now grammars.Sample sample c.args.definition.now (answer_of a) c.in-Sample.is refl none)
+    (λ a none. no_result_by c.args.asked c.args.grammar.now grammars.Sample sample c.args.definition.now (answer_of a)
+    c.in-Sample.is refl none)
     c.explain_by.ensures.refused
 
 pub returns-in-Rust-clause-fails : goal.returns-in-Rust-clause-fails
@@ -26,7 +27,8 @@ returns-in-Rust-clause-fails g c =
     let t = c.rust_rules-rules in
     err_map c.explain_by-in-Rust.result (λ a. IsNoMacro c.args.asked.edition c.args.definition.now.1 (answer_of a))
     (λ a. IsNoResult c.args.asked c.args.grammar.now c.args.definition.now (answer_of a))
-    (λ a none. no_result_by c.args.asked c.args.grammar.now grammars.Rust (grammar_of t.result) c.args.definition.now (answer_of a) c.in-Rust.is (
+    (λ a none. no_result_by c.args.asked c.args.grammar.now grammars.Rust (grammar_of t.result) c.args.definition.now
+    (answer_of a) c.in-Rust.is (
       t.result,
       record {
         keywords = t.ensures.keywords;
@@ -44,11 +46,13 @@ returns-in_ok-rules-in-Text-clause-fails g c =
     let rules = c.in_ok-rules-in-Text in
     err_map c.explain_by-in-Text.result (λ a. IsNoMacro c.args.asked.edition c.args.definition.now.1 (answer_of a))
     (λ a. IsNoResult c.args.asked c.args.grammar.now c.args.definition.now (answer_of a))
-    (λ a none. no_result_by c.args.asked c.args.grammar.now grammars.Text (grammar_of t.result) c.args.definition.now (answer_of a) c.in-Text.is (
+    (λ a none. no_result_by c.args.asked c.args.grammar.now grammars.Text (grammar_of t.result) c.args.definition.now
+    (answer_of a) c.in-Text.is (
       t.result,
       record {
         is_text = rules.ensures.text;
-        read = table_read c.args.grammar.now rules.rules.nodes.items rules.rules.keywords.items rules.rules.starts t.result
+        read = table_read c.args.grammar.now rules.rules.nodes.items rules.rules.keywords.items rules.rules.starts
+            t.result
             rules.ensures.read t.ensures.nodes t.ensures.keywords t.ensures.starts;
         its_edition = t.ensures.edition;
         no_others = t.ensures.editions;

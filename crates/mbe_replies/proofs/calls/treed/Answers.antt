@@ -5,4 +5,5 @@ use Rattle.mbe_replies.proofs.calls.treed.Goals as goal
 
 pub returns-in-Err-clause-fails : goal.returns-in-Err-clause-fails
 returns-in-Err-clause-fails g c = λ flat.
-    untreed_by c.args.dialect (source_of c.args.input) c.in-Err.error (answer_of c.untreed.result) flat c.untreed.ensures
+    untreed_by c.args.dialect (source_of c.args.input) c.in-Err.error (answer_of c.untreed.result) flat
+    c.untreed.ensures

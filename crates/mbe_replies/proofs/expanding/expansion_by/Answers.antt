@@ -5,6 +5,10 @@ use Rattle.mbe_replies.proofs.expanding.expansion_by.Goals as goal
 
 pub returns : goal.returns
 returns g c =
-    answers_unmarked (g.G.FragmentGrammar.grammar c.args.grammar.now) (macro_of c.args.rules.now).rules c.args.style c.args.argument.now
-    c.args.call_site _ _ _ (record { expands = c.in_ok-expansion.ensures.expands; recovers = c.in_ok-expansion.ensures.recovers })
+    answers_unmarked (g.G.FragmentGrammar.grammar c.args.grammar.now) (macro_of c.args.rules.now).rules c.args.style
+    c.args.argument.now
+    c.args.call_site _ _ _ (record {
+      expands = c.in_ok-expansion.ensures.expands;
+      recovers = c.in_ok-expansion.ensures.recovers;
+    })
     (λ span marked asked. search rules)

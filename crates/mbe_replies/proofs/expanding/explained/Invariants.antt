@@ -6,4 +6,5 @@ use Rattle.mbe_replies.proofs.expanding.explained.Given as goal
 
 abbrev pub invariant-loop-rule : goal.invariant-loop-rule
 invariant-loop-rule g l =
-    AreVerdicts (g.G.FragmentGrammar.grammar l.grammar) l.argument.1 (take l.rule (macro_of l.rules).rules) (map verdict_seen l.verdicts.items)
+    AreVerdicts (g.G.FragmentGrammar.grammar l.grammar) l.argument.1 (take l.rule (macro_of l.rules).rules)
+    (map verdict_seen l.verdicts.items)

@@ -12,7 +12,8 @@ use Rattle.mbe_expanding.proofs.expander.Expander.+defining.Goals as goal
 
 pub define_in-trees-init : goal.define_in-trees-init
 define_in-trees-init g t c = (
-  none_defined (setting_of c.args.self.now).edition c.args.levels c.args.is_top (trees c.args.tokens) (scope_of c.args.self.now.scope)
+  none_defined (setting_of c.args.self.now).edition c.args.levels c.args.is_top (trees c.args.tokens)
+      (scope_of c.args.self.now.scope)
       c.none-marks.result c.none-marks.ensures,
   refl,
   refl,
@@ -20,36 +21,46 @@ define_in-trees-init g t c = (
 
 pub define_in-returns-in-End-clause-defines : goal.define_in-returns-in-End-clause-defines
 define_in-returns-in-End-clause-defines g t c =
-    all_defined (setting_of c.args.self.now).edition c.args.levels c.args.is_top (trees c.args.tokens) (trees c.trees.rest)
+    all_defined (setting_of c.args.self.now).edition c.args.levels c.args.is_top (trees c.args.tokens)
+    (trees c.trees.rest)
     (scope_of c.args.self.now.scope) (scope_of c.trees.self.scope) c.trees.marks c.trees.invariant.0
-    (front_end (trees c.trees.rest) (front_is front_shown c.front_of.result v.End (trees c.trees.rest) c.front_of.ensures c.in-End.is))
+    (front_end (trees c.trees.rest) (front_is front_shown c.front_of.result v.End (trees c.trees.rest)
+    c.front_of.ensures c.in-End.is))
 
 pub define_in-trees-smaller-in-Definition : goal.define_in-trees-smaller-in-Definition
 define_in-trees-smaller-in-Definition g t c =
     ahead_less (trees c.trees.rest) _ (front_definition (trees c.trees.rest) (defined_shown c.in-Definition.defined)
-    (front_is front_shown c.front_of.result (v.Definition c.in-Definition.defined) (trees c.trees.rest) c.front_of.ensures c.in-Definition.is))
+    (front_is front_shown c.front_of.result (v.Definition c.in-Definition.defined) (trees c.trees.rest)
+    c.front_of.ensures c.in-Definition.is))
 
 pub define_in-trees-smaller-in-Call : goal.define_in-trees-smaller-in-Call
 define_in-trees-smaller-in-Call g t c =
     ahead_less (trees c.trees.rest) _ (call_ahead (trees c.trees.rest) (call_shown c.in-Call.call)
-    (front_is front_shown c.front_of.result (v.Call c.in-Call.call) (trees c.trees.rest) c.front_of.ensures c.in-Call.is))
+    (front_is front_shown c.front_of.result (v.Call c.in-Call.call) (trees c.trees.rest) c.front_of.ensures
+    c.in-Call.is))
 
 pub define_in-trees-preserved-in-Call : goal.define_in-trees-preserved-in-Call
 define_in-trees-preserved-in-Call g t c = (
-  call_defined (setting_of c.args.self.now).edition c.args.levels c.args.is_top (trees c.args.tokens) (trees c.trees.rest)
-      (call_shown c.in-Call.call) (scope_of c.args.self.now.scope) (scope_of c.trees.self.scope) c.trees.marks c.trees.invariant.0
-      (front_is front_shown c.front_of.result (v.Call c.in-Call.call) (trees c.trees.rest) c.front_of.ensures c.in-Call.is),
+  call_defined (setting_of c.args.self.now).edition c.args.levels c.args.is_top (trees c.args.tokens)
+      (trees c.trees.rest)
+      (call_shown c.in-Call.call) (scope_of c.args.self.now.scope) (scope_of c.trees.self.scope) c.trees.marks
+      c.trees.invariant.0
+      (front_is front_shown c.front_of.result (v.Call c.in-Call.call) (trees c.trees.rest) c.front_of.ensures
+      c.in-Call.is),
   c.trees.invariant.1,
   c.trees.invariant.2,
 )
 
 pub define_in-trees-preserved-in-Definition : goal.define_in-trees-preserved-in-Definition
 define_in-trees-preserved-in-Definition g t c = (
-  definition_defined (setting_of c.args.self.now).edition (setting_of c.trees.self).edition c.args.levels c.args.is_top c.is_wide.result
-      (trees c.args.tokens) (trees c.trees.rest) (defined_shown c.in-Definition.defined) (scope_of c.args.self.now.scope)
+  definition_defined (setting_of c.args.self.now).edition (setting_of c.trees.self).edition c.args.levels c.args.is_top
+      c.is_wide.result
+      (trees c.args.tokens) (trees c.trees.rest) (defined_shown c.in-Definition.defined)
+      (scope_of c.args.self.now.scope)
       (scope_of c.trees.self.scope) (scope_of c.read.new.self.scope) c.trees.marks c.after_definition-marks.result
       (ap (λ (x : Setting). x.edition) c.trees.invariant.2) c.trees.invariant.0
-      (front_is front_shown c.front_of.result (v.Definition c.in-Definition.defined) (trees c.trees.rest) c.front_of.ensures c.in-Definition.is)
+      (front_is front_shown c.front_of.result (v.Definition c.in-Definition.defined) (trees c.trees.rest)
+      c.front_of.ensures c.in-Definition.is)
       c.is_wide.ensures c.in_ok-_number-in-Definition.ensures.read c.after_definition-marks.ensures,
   c.in_ok-_number-in-Definition.ensures.fuel ∙ c.trees.invariant.1,
   c.in_ok-_number-in-Definition.ensures.setting ∙ c.trees.invariant.2,
@@ -57,16 +68,22 @@ define_in-trees-preserved-in-Definition g t c = (
 
 pub define_in-trees-preserved : goal.define_in-trees-preserved
 define_in-trees-preserved g t c = (
-  tree_defined (setting_of c.args.self.now).edition (setting_of c.trees.self).edition c.args.levels c.args.is_top c.is_open-is_open.result
-      (trees c.args.tokens) (trees c.trees.rest) (trees c.in-Tree.after) (element_tree c.in-Tree.tree) (scope_of c.args.self.now.scope)
-      (scope_of c.trees.self.scope) (scope_of c.define_tree.new.self.scope) c.trees.marks c.marked-marks.result c.after-marks.result
+  tree_defined (setting_of c.args.self.now).edition (setting_of c.trees.self).edition c.args.levels c.args.is_top
+      c.is_open-is_open.result
+      (trees c.args.tokens) (trees c.trees.rest) (trees c.in-Tree.after) (element_tree c.in-Tree.tree)
+      (scope_of c.args.self.now.scope)
+      (scope_of c.trees.self.scope) (scope_of c.define_tree.new.self.scope) c.trees.marks c.marked-marks.result
+      c.after-marks.result
       (ap (λ (x : Setting). x.edition) c.trees.invariant.2) c.trees.invariant.0
-      (front_is front_shown c.front_of.result (v.Tree c.in-Tree.tree c.in-Tree.after) (trees c.trees.rest) c.front_of.ensures c.in-Tree.is)
-      c.marked-marks.ensures c.is_open-is_open.ensures c.in_ok-define_tree-in-Tree.ensures.defines c.after-marks.ensures,
+      (front_is front_shown c.front_of.result (v.Tree c.in-Tree.tree c.in-Tree.after) (trees c.trees.rest)
+      c.front_of.ensures c.in-Tree.is)
+      c.marked-marks.ensures c.is_open-is_open.ensures c.in_ok-define_tree-in-Tree.ensures.defines
+      c.after-marks.ensures,
   c.in_ok-define_tree-in-Tree.ensures.fuel ∙ c.trees.invariant.1,
   c.in_ok-define_tree-in-Tree.ensures.setting ∙ c.trees.invariant.2,
 )
 
 pub define_inside-returns-then-levels-eq0-clause-defines : goal.define_inside-returns-then-levels-eq0-clause-defines
 define_inside-returns-then-levels-eq0-clause-defines g t c =
-    none_inside (setting_of c.args.self.now).edition c.args.levels c.args.is_top (trees c.args.tokens) (scope_of c.args.self.now.scope) (search rules)
+    none_inside (setting_of c.args.self.now).edition c.args.levels c.args.is_top (trees c.args.tokens)
+    (scope_of c.args.self.now.scope) (search rules)

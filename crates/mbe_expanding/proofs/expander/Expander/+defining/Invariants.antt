@@ -19,6 +19,7 @@ decreases-define_in-trees g l = flat_len (trees l.rest)
 
 abbrev pub invariant-define_in-trees : goal.invariant-define_in-trees
 invariant-define_in-trees g l =
-    Defining (setting_of l.initial.self).edition l.fn.levels l.fn.is_top (trees l.fn.tokens) (scope_of l.initial.self.scope) l.marks (trees l.rest) (scope_of l.self.scope)
+    Defining (setting_of l.initial.self).edition l.fn.levels l.fn.is_top (trees l.fn.tokens)
+    (scope_of l.initial.self.scope) l.marks (trees l.rest) (scope_of l.self.scope)
     × (l.self.fuel ≡ l.initial.self.fuel)
     × (setting_of l.self ≡ setting_of l.initial.self)

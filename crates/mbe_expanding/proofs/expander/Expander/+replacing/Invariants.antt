@@ -26,5 +26,6 @@ decreases-replace_in-trees g l = flat_len (trees l.rest)
 
 abbrev pub invariant-replace_in-trees : goal.invariant-replace_in-trees
 invariant-replace_in-trees g l =
-    Adding (setting_of l.initial.self) l.fn.levels (trees l.fn.tokens) (state_of l.initial.self) (map part_of l.initial.replacements.items) (trees l.rest) (state_of l.self) (map part_of l.replacements.items)
+    Adding (setting_of l.initial.self) l.fn.levels (trees l.fn.tokens) (state_of l.initial.self)
+    (map part_of l.initial.replacements.items) (trees l.rest) (state_of l.self) (map part_of l.replacements.items)
     × (setting_of l.self ≡ setting_of l.initial.self)

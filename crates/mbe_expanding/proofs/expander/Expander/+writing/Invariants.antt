@@ -34,5 +34,6 @@ decreases-write-trees g l = flat_len (trees l.rest)
 
 abbrev pub invariant-write-trees : goal.invariant-write-trees
 invariant-write-trees g l =
-    Done (setting_of l.initial.self) l.fn.levels l.fn.depth (trees l.fn.tokens) (state_of l.initial.self) l.initial.builder (trees l.rest) (state_of l.self) l.builder
+    Done (setting_of l.initial.self) l.fn.levels l.fn.depth (trees l.fn.tokens) (state_of l.initial.self)
+    l.initial.builder (trees l.rest) (state_of l.self) l.builder
     × (setting_of l.self ≡ setting_of l.initial.self) × (length l.builder ≡ length l.initial.builder)

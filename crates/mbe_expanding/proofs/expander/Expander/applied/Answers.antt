@@ -11,18 +11,26 @@ use Rattle.mbe_expanding.proofs.expander.Expander.applied.Goals as goal
 
 pub returns-then-is_some-clause-applies : goal.returns-then-is_some-clause-applies
 returns-then-is_some-clause-applies g c =
-    by_definition (macro_of c.in-Some.rules.now) (found_as _ c.rules.result c.in-Some.rules _ c.rules.ensures (search rules)) (there _ c.err.result _ c.err.ensures (search rules))
+    by_definition (macro_of c.in-Some.rules.now)
+    (found_as _ c.rules.result c.in-Some.rules _ c.rules.ensures (search rules))
+    (there _ c.err.result _ c.err.ensures (search rules))
 
 pub returns-in-Some-err-clause-applies : goal.returns-in-Some-err-clause-applies
 returns-in-Some-err-clause-applies g c =
-    by_rules (macro_of c.in-Some.rules.now) _ _ (found_as _ c.rules.result c.in-Some.rules _ c.rules.ensures (search rules)) (makes (setting_of c.args.self.now) (call_shown c.args.call) (macro_of c.in-Some.rules.now) c.in_ok-argument.argument c.in_ok-value.field-0.value.0
-    c.in_ok-value.field-0.value.1 (errors_of c.in_ok-value.field-0.err) (Some (error_of c.in-Some-err.error)) c.in_ok-value.ensures.expands (λ s t asked. search rules) (search rules) (search rules))
+    by_rules (macro_of c.in-Some.rules.now) _ _
+    (found_as _ c.rules.result c.in-Some.rules _ c.rules.ensures (search rules))
+    (makes (setting_of c.args.self.now) (call_shown c.args.call) (macro_of c.in-Some.rules.now)
+    c.in_ok-argument.argument c.in_ok-value.field-0.value.0
+    c.in_ok-value.field-0.value.1 (errors_of c.in_ok-value.field-0.err) (Some (error_of c.in-Some-err.error))
+    c.in_ok-value.ensures.expands (λ s t asked. search rules) (search rules) (search rules))
 
 pub returns-clause-applies : goal.returns-clause-applies
 returns-clause-applies g c = (
   macro_of c.in-Some.rules.now,
   found_as _ c.rules.result c.in-Some.rules _ c.rules.ensures (search rules),
   not_there _ c.err.result _ c.err.ensures (search rules),
-  makes (setting_of c.args.self.now) (call_shown c.args.call) (macro_of c.in-Some.rules.now) c.in_ok-argument.argument c.in_ok-value.field-0.value.0
-      c.in_ok-value.field-0.value.1 (errors_of c.in_ok-value.field-0.err) None c.in_ok-value.ensures.expands (λ s t asked. search rules) (search rules) (search rules),
+  makes (setting_of c.args.self.now) (call_shown c.args.call) (macro_of c.in-Some.rules.now) c.in_ok-argument.argument
+      c.in_ok-value.field-0.value.0
+      c.in_ok-value.field-0.value.1 (errors_of c.in_ok-value.field-0.err) None c.in_ok-value.ensures.expands
+      (λ s t asked. search rules) (search rules) (search rules),
 )

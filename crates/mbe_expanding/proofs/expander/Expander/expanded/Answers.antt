@@ -20,7 +20,8 @@ pub returns-clause-unknown : goal.returns-clause-unknown
 returns-clause-unknown g c =
     read_by c.splice.result
     (λ s is none_called. text_kept c.args.text.now _ (map part_of c.in_ok-replacements.replacements.items)
-    (is ∙ ap (λ items. spliced c.args.text.now (map part_of items)) c.as_slice.ensures.value) (c.in_ok-replacements.ensures.unknown none_called))
+    (is ∙ ap (λ items. spliced c.args.text.now (map part_of items)) c.as_slice.ensures.value)
+    (c.in_ok-replacements.ensures.unknown none_called))
     c.splice.ensures
 
 pub returns-clause-setting : goal.returns-clause-setting

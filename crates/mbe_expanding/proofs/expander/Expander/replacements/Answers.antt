@@ -8,9 +8,12 @@ use Rattle.mbe_expanding.proofs.expander.Expander.replacements.Goals as goal
 
 pub returns-clause-parts : goal.returns-clause-parts
 returns-clause-parts g c =
-    of_file (setting_of c.args.self.now) _ c.enter-mark.result (trees c.args.tokens) (state_of c.args.self.now) (state_of c.replace_in.new.self)
-    (record { scope = scope_of c.leave.new.self; fuel = c.replace_in.new.self.fuel }) (map part_of c.new-replacements.result.items)
-    (map part_of c.replace_in.new.replacements.items) (ap (map part_of) c.new-replacements.ensures.items) c.in_ok-replace_in.ensures.adds
+    of_file (setting_of c.args.self.now) _ c.enter-mark.result (trees c.args.tokens) (state_of c.args.self.now)
+    (state_of c.replace_in.new.self)
+    (record { scope = scope_of c.leave.new.self; fuel = c.replace_in.new.self.fuel })
+    (map part_of c.new-replacements.result.items)
+    (map part_of c.replace_in.new.replacements.items) (ap (map part_of) c.new-replacements.ensures.items)
+    c.in_ok-replace_in.ensures.adds
     c.enter-mark.ensures c.leave.ensures.left refl
 
 pub returns-clause-each : goal.returns-clause-each

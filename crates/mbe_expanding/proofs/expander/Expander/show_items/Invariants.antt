@@ -7,7 +7,8 @@ use Rattle.mbe_expanding.proofs.expander.Expander.show_items.Given as goal
 
 abbrev pub invariant-trees : goal.invariant-trees
 invariant-trees g l =
-    Showing (trees l.fn.tokens) (state_of l.initial.self) (trees l.rest) (state_of l.self) × (setting_of l.self ≡ setting_of l.initial.self)
+    Showing (trees l.fn.tokens) (state_of l.initial.self) (trees l.rest) (state_of l.self)
+    × (setting_of l.self ≡ setting_of l.initial.self)
 
 abbrev pub decreases-trees : goal.decreases-trees
 decreases-trees g l = flat_len (trees l.rest)

@@ -7,7 +7,8 @@ places-preserved g c = below_on _ c.places.left _ (omega arith) c.places.invaria
 
 pub returns-then-is_seen : goal.returns-then-is_seen
 returns-then-is_seen g c =
-    near_here _ _ (c.places.left - 1) _ (search rules) (below_here _ c.places.left _ (omega arith) c.places.invariant (search rules))
+    near_here _ _ (c.places.left - 1) _ (search rules)
+    (below_here _ c.places.left _ (omega arith) c.places.invariant (search rules))
 
 pub returns : goal.returns
 returns g c = near_none _ _ (below_none _ c.places.left _ (omega arith) c.places.invariant)

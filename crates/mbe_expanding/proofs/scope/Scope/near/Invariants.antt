@@ -5,7 +5,8 @@ use Rattle.mbe_expanding.proofs.scope.Scope.near.Given as goal
 
 abbrev pub invariant-places : goal.invariant-places
 invariant-places g l =
-    last_below (λ n. is_found l.name false (seen_at (scope_of l.self) n)) l.left ≡ last_below (λ n. is_found l.name false (seen_at (scope_of l.self) n)) (length (scope_of l.self).visible)
+    last_below (λ n. is_found l.name false (seen_at (scope_of l.self) n)) l.left
+    ≡ last_below (λ n. is_found l.name false (seen_at (scope_of l.self) n)) (length (scope_of l.self).visible)
 
 abbrev pub decreases-places : goal.decreases-places
 decreases-places g l = l.left

@@ -6,5 +6,6 @@ use Rattle.mbe_expandm.proofs.lines.Lines.ended.Goals as goal
 
 pub returns-else-is_empty : goal.returns-else-is_empty
 returns-else-is_empty g c =
-    ended_by string_bytes c.replace.result c.args.self.now.returns.items c.args.text.now _ (λ none. grind (arith, common_steps)) refl
+    ended_by string_bytes c.replace.result c.args.self.now.returns.items c.args.text.now _
+    (λ none. grind (arith, common_steps)) refl
     c.replace.ensures.ok

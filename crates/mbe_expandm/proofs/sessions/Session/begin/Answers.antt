@@ -28,11 +28,15 @@ returns c =
       edition_is = ap (λ e. e.edition) setting ∙ c.settings-settings.ensures.edition;
       limit = c.limit_of.result;
       depth_is = ap (λ e. e.depth) setting ∙ c.settings-settings.ensures.depth;
-      defines = subst (λ e. DefinesFiles e 1001 (map (λ f. f.tree) (map source_of files)) (record { definitions = []; visible = [] })
+      defines = subst (λ e. DefinesFiles e 1001 (map (λ f. f.tree) (map source_of files))
+          (record { definitions = []; visible = [] })
           (state_of c.define_files.new.expander).scope) edition_is
-          (subst (λ ts. DefinesFiles (setting_of c.new-expander.result).edition 1001 ts (record { definitions = []; visible = [] })
+          (subst (λ ts. DefinesFiles (setting_of c.new-expander.result).edition 1001 ts
+          (record { definitions = []; visible = [] })
           (state_of c.define_files.new.expander).scope) trees
-          (subst (λ s. DefinesFiles (setting_of c.new-expander.result).edition 1001 (map (λ f. f.tree) c.deref-2.result.now) s
+          (subst (λ s. DefinesFiles (setting_of c.new-expander.result).edition 1001
+          (map (λ f. f.tree) c.deref-2.result.now) s
           (state_of c.define_files.new.expander).scope) scope c.in_ok-define_files.ensures.defines));
-      fuel_is = c.in_ok-define_files.ensures.fuel ∙ ap (λ s. s.fuel) c.new-expander.ensures.state ∙ c.settings-settings.ensures.fuel;
+      fuel_is = c.in_ok-define_files.ensures.fuel ∙ ap (λ s. s.fuel) c.new-expander.ensures.state
+          ∙ c.settings-settings.ensures.fuel;
     }

@@ -9,7 +9,8 @@ tokens-init g c = begins _ _ _ _ c.new-around.ensures.items c.iter-iter.ensures
 
 pub tokens-preserved-in-Continue-1 : goal.tokens-preserved-in-Continue-1
 tokens-preserved-in-Continue-1 g c =
-    leaf_on c.tokens.around.items c.tokens.iter _ (leaf_of c.in-Some-Leaf.leaf.now) _ _ _ c.next.ensures.rest (search rules) (search rules)
+    leaf_on c.tokens.around.items c.tokens.iter _ (leaf_of c.in-Some-Leaf.leaf.now) _ _ _ c.next.ensures.rest
+    (search rules) (search rules)
     c.tokens.invariant
 
 pub tokens-preserved-in-Some-Subtree : goal.tokens-preserved-in-Some-Subtree
@@ -19,9 +20,11 @@ tokens-preserved-in-Some-Subtree g c =
     c.next.ensures.rest (search rules) (search rules) (search rules) c.tokens.invariant
 
 pub returns-in-None-pop : goal.returns-in-None-pop
-returns-in-None-pop g c = all_done c.tokens.around.items c.tokens.iter _ _ (search rules) (search rules) c.tokens.invariant
+returns-in-None-pop g c = all_done c.tokens.around.items c.tokens.iter _ _ (search rules) (search rules)
+    c.tokens.invariant
 
 pub tokens-preserved : goal.tokens-preserved
 tokens-preserved g c =
     pop_on c.tokens.around.items c.pop.new.self.items c.tokens.iter c.in-Some.rest c.in-Some.delimiter
-    (state_of c.tokens.self) (state_of c.close.new.self) _ (search rules) (search rules) (search rules) c.tokens.invariant
+    (state_of c.tokens.self) (state_of c.close.new.self) _ (search rules) (search rules) (search rules)
+    c.tokens.invariant

@@ -5,6 +5,8 @@ use Rattle.mbe_replies.proofs.read_macro.ReadMacro.expansion.Goals as goal
 
 pub returns : goal.returns
 returns g c =
-    shown_of answer_of c.expansion_shown.result (g.G.FragmentGrammar.grammar c.args.grammar.now) c.args.self.now c.args.argument.now c.args.call_site
-    c.in_ok-expansion.expansion.value.0 c.in_ok-expansion.expansion.value.1 (errors_of c.in_ok-expansion.expansion.err) c.in_ok-expansion.ensures
+    shown_of answer_of c.expansion_shown.result (g.G.FragmentGrammar.grammar c.args.grammar.now) c.args.self.now
+    c.args.argument.now c.args.call_site
+    c.in_ok-expansion.expansion.value.0 c.in_ok-expansion.expansion.value.1 (errors_of c.in_ok-expansion.expansion.err)
+    c.in_ok-expansion.ensures
     c.expansion_shown.ensures

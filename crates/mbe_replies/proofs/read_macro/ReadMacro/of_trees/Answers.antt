@@ -11,5 +11,6 @@ pub returns-clause-fails : goal.returns-clause-fails
 returns-clause-fails g c =
     let there = grammar_read c.args.asked c.args.grammar.now c.in-Ok.fragments c.in-Ok.ensures.read in
     no_macro there.0 there.1
-    (unread_by c.args.asked.edition c.args.definition.now.1 c.in-Err-defined.error (answer_of c.unread.result) c.in-Err-defined.ensures.refused
+    (unread_by c.args.asked.edition c.args.definition.now.1 c.in-Err-defined.error (answer_of c.unread.result)
+    c.in-Err-defined.ensures.refused
     c.unread.ensures)
