@@ -34,7 +34,7 @@ argument_at all p = argument_of_parts all (part_at all.text p.offset p.len)
 
 -- ---- answers
 
--- the answer to an argument, in a call at that span; a piece that isn't within the arguments is a number that stands
+-- the answer to an argument, in a call at that span; a piece that isn't within the arguments is a number that is
 -- for nothing
 abbrev pub IsAnswerTo : (Source → FlatSpan → Answer → Type 0) → FlatSpan → Option Source → Answer → Type 0
 IsAnswerTo Answers site (Some argument) a = Answers argument site a

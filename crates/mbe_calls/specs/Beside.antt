@@ -1,4 +1,4 @@
--- What stands beside calls and definitions: attributes, operators, and macros of the standard library.
+-- What is beside calls and definitions: attributes, operators, and macros of the standard library.
 use Prim.Native.String.{String}
 use Rattle.std.specs.Prelude.{ℕ, Bool, false, ◌||◌, ◌&&◌, ◌==◌, codes, List, [], ◌∷◌, map, Option, None, option_map, option_and_then, is_some}
 use Rattle.std.specs.List.{list_any}
@@ -39,7 +39,7 @@ binds_leaf (punct p) rest = is_operator p.char || (p.char == 61 && is_some (afte
 binds_leaf (ident i) rest = is_text i.sym (codes "as")
 binds_leaf (literal l) rest = false
 
--- whether an operator stands at the front: one of those, `==`, or `as`
+-- whether an operator is at the front: one of those, `==`, or `as`
 abbrev pub binds : Forest → Bool
 binds none = false
 binds (leaf l rest) = binds_leaf l rest

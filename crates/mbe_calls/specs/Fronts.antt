@@ -1,4 +1,4 @@
--- What stands at the front of trees: a definition of a macro, a call of one, or any other tree.
+-- What is at the front of trees: a definition of a macro, a call of one, or any other tree.
 use Prim.Native.String.{String}
 use Rattle.std.specs.Prelude.{ℕ, zero, suc, Bool, true, false, not, ◌==◌, if◌then◌else◌, codes, List, [], ◌∷◌, map, Option, Some, None, option_map, option_and_then, unwrap_or}
 use Rattle.std.specs.List.{list_any}
@@ -65,7 +65,7 @@ pub record Call : Type 0 where
   pub rest : Forest
   pub start : Span
 
--- words that stand before a `!` that isn't a call's
+-- words that precede a `!` that isn't a call's
 abbrev pub keywords : List String
 keywords =
     "as" ∷ "async" ∷ "await" ∷ "box" ∷ "break" ∷ "const" ∷ "continue" ∷ "do" ∷ "dyn" ∷ "else" ∷ "enum" ∷ "extern" ∷ "fn"

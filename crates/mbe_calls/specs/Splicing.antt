@@ -1,7 +1,7 @@
 -- A text with some of its parts replaced.
 use Rattle.std.specs.Prelude.{◌≡◌, ℕ, Bool, ◌&&◌, ◌||◌, not, if◌then◌else◌, nat_le, List, [], ◌∷◌, ◌++◌, length, drop, slice_index, slice_range}
 
--- what stands in place of the bytes from `start` up to `end`
+-- what replaces the bytes from `start` up to `end`
 pub record Part : Type 0 where
   pub start : ℕ
   pub end : ℕ

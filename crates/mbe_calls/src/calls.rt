@@ -27,7 +27,7 @@ pub struct Call<'t, A: Allocator = Global> {
     pub is_path: bool,
     pub group: &'t Subtree,
     pub argument: TokenTreesView<'t, A>,
-    /// What stands after the call.
+    /// What follows the call.
     pub rest: TokenTreesView<'t, A>,
     /// Where the path begins.
     pub start: Span,
@@ -53,7 +53,7 @@ pub struct Defined<'t, A: Allocator = Global> {
     pub form: Form<'t, A>,
     pub group: &'t Subtree,
     pub rules: TokenTreesView<'t, A>,
-    /// What stands after the definition.
+    /// What follows the definition.
     pub rest: TokenTreesView<'t, A>,
 }
 
@@ -66,12 +66,12 @@ impl<A: Allocator> Defined<'_, A> {
     }
 }
 
-/// What stands at the front of trees.
+/// What is at the front of trees.
 #[derive(Drop)]
 pub enum Front<'t, A: Allocator = Global> {
     Definition(Defined<'t, A>),
     Call(Call<'t, A>),
-    /// Any other tree, and what stands after it.
+    /// Any other tree, and what follows it.
     Tree(TtElement<'t, A>, TokenTreesView<'t, A>),
     End,
 }
@@ -102,7 +102,7 @@ const STANDARD: &[&str] = &[
     "writeln",
 ];
 
-/// Words that stand before a `!` that isn't a call's.
+/// Words that precede a `!` that isn't a call's.
 const KEYWORDS: &[&str] = &[
     "as", "async", "await", "box", "break", "const", "continue", "do", "dyn", "else", "enum",
     "extern", "fn", "for", "if", "impl", "in", "let", "loop", "match", "mod", "move", "mut", "pub",
@@ -133,7 +133,7 @@ fn is_nameable<A: Allocator>(name: &Ident<A>) -> bool
     }
 }
 
-// What stands after a punct of that char.
+// What follows a punct of that char.
 fn after_char<'t, A: Allocator>(
     tokens: TokenTreesView<'t, A>,
     char: char,
@@ -149,7 +149,7 @@ fn after_char<'t, A: Allocator>(
     }
 }
 
-// What stands after a `::`.
+// What follows a `::`.
 fn after_colons<'t, A: Allocator>(tokens: TokenTreesView<'t, A>) -> Option<TokenTreesView<'t, A>>
     ensures { option_map trees result ≡ after_colons (trees tokens.entry) }
 {
@@ -165,7 +165,7 @@ struct Path<'t, A: Allocator = Global> {
     name: &'t Ident<A>,
     // Whether the path has more.
     is_path: bool,
-    // What stands after it.
+    // What follows it.
     rest: TokenTreesView<'t, A>,
 }
 
@@ -397,7 +397,7 @@ fn definition_of<'t, A: Allocator>(tokens: TokenTreesView<'t, A>) -> Option<Defi
     }
 }
 
-/// What stands at the front of these trees.
+/// What is at the front of these trees.
 pub fn front_of<'t, A: Allocator>(tokens: TokenTreesView<'t, A>) -> Front<'t, A>
     ensures { front_shown result ≡ front (trees tokens.entry) }
 {
@@ -414,7 +414,7 @@ pub fn front_of<'t, A: Allocator>(tokens: TokenTreesView<'t, A>) -> Front<'t, A>
     }
 }
 
-/// The name of the attribute `#[name ..]` that stands at the front.
+/// The name of the attribute `#[name ..]` that is at the front.
 pub fn attribute_at<'t, A: Allocator>(tokens: TokenTreesView<'t, A>) -> Option<&'t str>
     ensures { option_map (λ s. s.now) result ≡ attribute_of (trees tokens.entry) }
 {
@@ -436,7 +436,7 @@ fn name_in<'t, A: Allocator>(kind: DelimiterKind, content: TokenTreesView<'t, A>
     }
 }
 
-/// Whether an operator stands at the front, which would take a part of what stands beside it as its operand.
+/// Whether an operator is at the front, which would take a part of what is beside it as its operand.
 pub fn binds<A: Allocator>(tokens: TokenTreesView<'_, A>) -> bool
     ensures { result ≡ binds (trees tokens.entry) }
 {

@@ -7,7 +7,7 @@ ghost use Rattle.mbe_calls.specs.Replacements.{part_of};
 
 use std::alloc::{AllocError, Allocator, Global};
 
-/// What stands in place of the bytes from `start` up to `end`.
+/// What replaces the bytes from `start` up to `end`.
 #[derive(Drop)]
 pub struct Replacement<A: Allocator = Global> {
     pub start: usize,

@@ -29,7 +29,7 @@ pub below_none : (p : ℕ → Bool) (n : ℕ) (whole : Option ℕ) → n ≡ 0 �
 unfolding last_below
 below_none p n whole e w = sym (ap (last_below p) e) ∙ w
 
--- what the last one stands for
+-- what the last one means
 pub near_here : (visible : List ℕ) (found : Option ℕ) (n : ℕ) (last : Option ℕ) → found ≡ slice_get visible n
     → Some n ≡ last
     → found ≡ option_and_then (slice_get visible) last

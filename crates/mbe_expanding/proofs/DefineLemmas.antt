@@ -1,12 +1,11 @@
 -- Definitions of trees, by those of their parts.
-use Rattle.std.proofs.Common.{◌≡◌, ◌-◌, ℕ, suc, Bool, true, false, refl, ap, sym, subst, ◌∙◌}
+use Rattle.std.proofs.Common.{◌≡◌, ◌-◌, ℕ, suc, Bool, false, refl, ap, sym, subst, ◌∙◌}
 use Rattle.std.specs.Prelude.{◌||◌, ◌&&◌}
-use Rattle.mbe_tt.specs.Trees.Tree.{Forest, Tree, Group_tree, none}
+use Rattle.mbe_tt.specs.Trees.Tree.{Forest, Tree, none}
 use Rattle.mbe_tt.specs.declared.span.Edition.{Edition}
-use Rattle.mbe_tt.specs.declared.tt.Delimiter.{Delimiter}
 use Rattle.mbe_calls.specs.Fronts.{Call, Defined, Definition, ACall, Other, front}
 use Rattle.mbe_expanding.specs.Scopes.{Scope, IsRead}
-use Rattle.mbe_expanding.specs.Defining.{Reading, unmarked, marked, after_tree, DefinesTree, DefinesAll, ends, at_definition, at_call, at_tree, Defines}
+use Rattle.mbe_expanding.specs.Defining.{unmarked, marked, after_tree, DefinesTree, DefinesAll, ends, at_definition, at_call, at_tree, Defines}
 use Rattle.mbe_expanding.specs.declared.expander.defining.Marks.{Marks}
 
 -- what is left to read, with what was read, is all
@@ -67,8 +66,3 @@ pub none_inside : (e : Edition) (levels : ℕ) (top : Bool) (f : Forest) (s : Sc
     → Defines e levels top f s s
 unfolding Defines
 none_inside e levels top f s h = subst (λ n. Defines e n top f s s) (sym h) refl
-
-pub group_defined : (within : Reading) (top : Bool) (tree : Tree) (d : Delimiter) (inside view : Forest) (s t : Scope)
-    → tree ≡ Group_tree d inside → view ≡ inside → within top view s t → DefinesTree within top tree s t
-group_defined within top tree d inside view s t h v r =
-    subst (λ x. DefinesTree within top x s t) (sym h) (subst (λ x. within top x s t) v r)

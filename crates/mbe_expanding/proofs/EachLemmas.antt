@@ -1,4 +1,4 @@
--- What follows from what stands in place of the calls of trees: each part is one of their calls', and there is none
+-- What follows from what replaces the calls of trees: each part is one of their calls', and there is none
 -- where no call is known.
 use Rattle.std.proofs.Common.{◌≡◌, ◌-◌, ℕ, zero, suc, Bool, true, false, List, [], ◌∷◌, ◌++◌, length, Option, Some, None, refl, ap, sym, subst, ◌∙◌}
 use Rattle.std.specs.Prelude.{◌||◌, ◌&&◌, not, if◌then◌else◌, option_map, option_and_then}

@@ -74,7 +74,7 @@ pub read_by : {X R : Type 0} {P Q : X → Type 0} (r : Result X R) → ((x : X) 
 read_by (Ok x) more h = more x h
 read_by (Err e) more h = h
 
--- a `macro` definition that was read by trees behind references
+-- a `macro` definition that was read by borrowed trees
 pub macro_read : {X R : Type 0} {A : SyntaxContext → Edition → Type 0} (v : X → Macro) (r : Result X R)
     (a b : Option Forest) (body : Forest) (edition : Edition)
     → IfOk r (λ m. IsReadAsMacro A a body (v m)) → a ≡ b → ((c : SyntaxContext) (e : Edition) → A c e → e ≡ edition)

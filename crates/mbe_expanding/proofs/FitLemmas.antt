@@ -37,7 +37,7 @@ from_leaves : (ls : List Leaf) (d : Delimiter) (inside rest : Forest)
 from_leaves [] d inside rest = refl
 from_leaves (l ∷ ls) d inside rest = from_leaves ls d inside rest
 
--- what stands before the group of a call
+-- what precedes the group of a call
 pub leaves_before : (f : Forest) (c : Call) (h : front f ≡ ACall c)
     → f ≡ append (leaves (front_call f c h).kept) (from_group f)
 leaves_before f c h =

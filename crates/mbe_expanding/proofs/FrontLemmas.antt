@@ -1,4 +1,4 @@
--- What stands before the rest of a definition, of a call, and of any other tree.
+-- What precedes the rest of a definition, of a call, and of any other tree.
 use Rattle.std.proofs.Common.{◌≡◌, ◌<◌, ◌+◌, ℕ, zero, suc, Bool, true, false, List, [], ◌∷◌, ◌++◌, Option, Some, None, refl, ap, sym, ◌∙◌, arith}
 use Rattle.std.specs.Prelude.{if◌then◌else◌, ◌==◌, option_map, option_and_then, unwrap_or, codes}
 use Rattle.mbe_tt.specs.Trees.Leaf.{Leaf, Ident, punct, literal, ident, is_text}
@@ -9,15 +9,15 @@ use Rattle.mbe_tt.specs.declared.tt.DelimiterKind.{DelimiterKind}
 use Rattle.mbe_tt.specs.declared.tt.DelimiterKind.TheVariants.{Parenthesis, Brace, Bracket, Invisible}
 use Rattle.mbe_tt.specs.declared.tt.IdentIsRaw.{IdentIsRaw}
 use Rattle.mbe_tt.specs.declared.tt.IdentIsRaw.TheVariants.{No, Yes}
-use Rattle.mbe_calls.specs.Fronts.{Path, Call, Defined, Front, Definition, ACall, Other, End, after_char, after_colons, path_to, goes_on, longer, longest, path_from, path_of, is_nameable, is_visible, call_with, call_by, call_of, after_rules, rules_with, rules_of, template_with, body_with, item_with, item_of, defined_by, defined_after, definition_of, tree_front, call_front, front_with, front}
+use Rattle.mbe_calls.specs.Fronts.{Path, Call, Defined, Front, Definition, ACall, Other, End, after_char, after_colons, path_to, goes_on, longer, longest, path_from, path_of, is_nameable, is_visible, call_with, call_by, call_of, after_rules, rules_with, rules_of, template_with, body_with, item_of, defined_after, definition_of, tree_front, call_front, front_with, front}
 
--- some trees stand before those
+-- some trees precede those
 pub record Ahead (f rest : Forest) : Type 0 where
   pub kept : Forest
   pub is : f ≡ append kept rest
   pub some : 0 < flat_len kept
 
--- some leaves stand before those trees
+-- some leaves precede those trees
 pub record AheadLeaves (f rest : Forest) : Type 0 where
   pub kept : List Leaf
   pub is : f ≡ append (leaves kept) rest
@@ -349,10 +349,6 @@ end_by_front f None None q e = end_ahead f (sym (ap (call_front f) q) ∙ e)
 
 pub front_end : (f : Forest) → front f ≡ End → f ≡ none
 front_end f e = end_by_front f (definition_of f) (call_of f) refl e
-
-pub tree_less : (f rest : Forest) (t : Tree) → f ≡ tree t rest → flat_len rest < flat_len f
-tree_less f rest (Leaf_tree l) e = let n = ap flat_len e in omega (arith, n)
-tree_less f rest (Group_tree d inside) e = let n = ap flat_len e in omega (arith, n)
 
 -- the front that a call shows
 pub front_is : {X : Type 0} (shown : X → Front) (r x : X) (f : Forest) → shown r ≡ front f → r ≡ x → front f ≡ shown x

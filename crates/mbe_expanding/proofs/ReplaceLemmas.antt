@@ -1,4 +1,4 @@
--- What stands in place of calls, by what stands in place of those in their parts.
+-- What replaces calls, by what replaces those in their parts.
 use Rattle.std.proofs.Common.{◌≡◌, ◌-◌, ℕ, suc, List, [], ◌∷◌, ◌++◌, length, map, refl, ap, sym, subst, ◌∙◌}
 use Rattle.std.specs.Prelude.{Option, Some, None}
 use Rattle.std.proofs.lemmas.List.{append_assoc, append-nil, map-append}

@@ -49,7 +49,7 @@ ChangesTree inner (Group_tree d inside) s out u = ChangesGroup inner d inside s 
 abbrev pub ChangesWrapped : Change → Delimiter → Forest → State → Forest → State → Type 0
 ChangesWrapped inner d f s out u = (changed : Forest) × inner f s changed u × IsWrapped d changed out
 
--- An expansion stands in place of its call: its trees are changed, and fitted to what stands beside them.
+-- An expansion replaces its call: its trees are changed, and fitted to what is beside them.
 pub record StandsFor (inner : Change) (d : Delimiter) (tree : Forest) (s : State) (out : Forest)
     (u : State) : Type 0 where
   pub part : Forest
@@ -70,7 +70,7 @@ Keeps inner true f c s out u =
     (head content : Forest) × (f ≡ append head (group c.delimiter c.argument c.rest)) × (out ≡ append head content)
     × ChangesGroup inner c.delimiter c.argument s content u
 
--- What a call at the front becomes, with what is left after it. What stands in a group or in an expansion changes as
+-- What a call at the front becomes, with what is left after it. What is in a group or in an expansion changes as
 -- `within` says at a
 -- depth, so the calls of an expansion are expanded in turn.
 pub data ChangesCall (e : Setting) (levels depth : ℕ) (within : ℕ → Change) (f : Forest) (c : Call) (s : State)
@@ -101,7 +101,7 @@ pub data Steps (e : Setting) (levels depth : ℕ) (within : ℕ → Change) : Fo
       → Steps e levels depth within rest t more u
       → Steps e levels depth within f s (append out more) u
 
--- What trees become that stand so deep in expansions, where so many groups and calls may still stand in one another.
+-- What trees become that are so deep in expansions, where so many groups and calls may still be in one another.
 unfoldable pub Becomes : Setting → ℕ → ℕ → Change
 Becomes e zero depth = AsItIs
 Becomes e (suc levels) depth = Steps e levels depth (Becomes e levels)

@@ -13,7 +13,7 @@ use Rattle.mbe_expanding.specs.Scopes.{Scope, rules_found}
 
 -- what stays the same on the way: the grammar of fragments, the edition that definitions are read in, and how deep
 -- expansions
--- may stand in one another
+-- may be in one another
 pub record Setting : Type 0 where
   pub grammar : Grammar
   pub edition : Edition
@@ -52,7 +52,7 @@ pub data Refuses (e : Setting) (c : Call) (s : State) : Type 0 where
   by_rules : (m : Macro) (tree : Top) (err : ExpandError) → named s c ≡ Some m → Makes e c m tree (Some err)
       → Refuses e c s
 
--- Why a call stays: it stands in too many groups and calls, no macro is found, a limit is reached, or it is refused.
+-- Why a call stays: it is in too many groups and calls, no macro is found, a limit is reached, or it is refused.
 pub data Stays (e : Setting) (c : Call) (depth : ℕ) (s : State) : ℕ → State → Type 0 where
   too_many : Stays e c depth s zero s
   not_found : (levels : ℕ) → named s c ≡ None → Stays e c depth s levels s
@@ -74,7 +74,7 @@ abbrev pub Applies : Setting → Call → State → Option Top → Type 0
 Applies e c s None = Refuses e c s
 Applies e c s (Some tree) = (m : Macro) × (named s c ≡ Some m) × (m.err ≡ None) × Makes e c m tree None
 
--- the tree that is to stand in place of a call, or nothing where the call stays
+-- the tree that is to replace a call, or nothing where the call stays
 abbrev pub Tries : Setting → Call → ℕ → ℕ → State → State → Option Top → Type 0
 Tries e c levels depth s t None = Stays e c depth s levels t
 Tries e c levels depth s t (Some tree) = IsReplaced e c levels depth s tree × (t ≡ spent s)

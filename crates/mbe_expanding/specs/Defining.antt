@@ -42,7 +42,7 @@ after_tree (Group_tree d inside) m = after_group d.kind m
 
 -- ---- definitions
 
--- that trees make a scope of another, where the first says whether they stand in no group, but such as `#[macro_use]`
+-- that trees make a scope of another, where the first says whether they are in no group, but such as `#[macro_use]`
 -- is of
 abbrev pub Reading : Type 1
 Reading = Bool → Forest → Scope → Scope → Type 0
@@ -51,7 +51,7 @@ abbrev pub DefinesTree : Reading → Bool → Tree → Scope → Scope → Type 
 DefinesTree within is_top (Leaf_tree l) s t = t ≡ s
 DefinesTree within is_top (Group_tree d inside) s t = within is_top inside s t
 
--- One front after another, with what stands before it. A definition is wide that is exported or in no group.
+-- One front after another, with what precedes it. A definition is wide that is exported or in no group.
 pub data DefinesAll (edition : Edition) (within : Reading) (is_top : Bool) : Marks → Forest → Scope → Scope
     → Type 0 where
   ends : (m : Marks) (s : Scope) → DefinesAll edition within is_top m none s s
@@ -67,7 +67,7 @@ pub data DefinesAll (edition : Edition) (within : Reading) (is_top : Bool) : Mar
       → DefinesAll edition within is_top (after_tree tree (marked f m)) rest t u
       → DefinesAll edition within is_top m f s u
 
--- The definitions of trees are read, where so many groups may still stand in one another.
+-- The definitions of trees are read, where so many groups may still be in one another.
 unfoldable pub Defines : Edition → ℕ → Reading
 Defines edition zero is_top f s t = t ≡ s
 Defines edition (suc levels) is_top f s t = DefinesAll edition (Defines edition levels) is_top unmarked f s t

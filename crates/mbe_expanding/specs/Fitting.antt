@@ -1,4 +1,4 @@
--- How an expansion stands in place of its call.
+-- How an expansion replaces its call.
 use Rattle.std.specs.Prelude.{◌≡◌, Some}
 use Rattle.mbe_tt.specs.Trees.Leaf.{Leaf, punct}
 use Rattle.mbe_tt.specs.Trees.Tree.{Forest, none, leaf, group, append, one_leaf, rest_of, front_char}
@@ -12,12 +12,12 @@ use Rattle.mbe_tt.specs.declared.tt.Spacing.TheVariants.{Alone}
 abbrev pub IsSemicolon : Forest → Type 0
 IsSemicolon f = (front_char f ≡ Some 59) × (rest_of f ≡ none)
 
--- the trees of an expansion that stand for the call: all, or all but a `;` at their end
+-- the trees of an expansion that replace the call: all, or all but a `;` at their end
 pub data IsPart (tree : Forest) : Forest → Type 0 where
   all_of_it : IsPart tree tree
   but_semicolon : (part end : Forest) → tree ≡ append part end → IsSemicolon end → IsPart tree part
 
--- as they are, or in parentheses or braces that stand where the call's group does
+-- as they are, or in parentheses or braces that are where the call's group is
 pub data IsWrapped (d : Delimiter) (f : Forest) : Forest → Type 0 where
   bare : IsWrapped d f f
   in_parentheses : IsWrapped d f (group (record d { kind = Parenthesis }) f none)
@@ -30,7 +30,7 @@ IsWrap Brace = Unit {0}
 IsWrap Bracket = ⊥
 IsWrap Invisible = ⊥
 
--- a `;` that stands there
+-- a `;` that is there
 abbrev pub semicolon : Span → Leaf
 semicolon span = punct (record { char = 59; spacing = Alone; span = span })
 

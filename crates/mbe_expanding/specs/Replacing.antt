@@ -1,4 +1,4 @@
--- What stands in place of the calls of a file.
+-- What replaces the calls of a file.
 use Rattle.std.specs.Prelude.{◌≡◌, ◌-◌, ℕ, zero, suc, Bool, true, false, nat_lt, if◌then◌else◌, List, [], ◌∷◌, ◌++◌, length, Option, Some, None, option_map, unwrap_or}
 use Rattle.std.specs.List.{list_any}
 use Rattle.std.specs.Str.{bytes_eq}
@@ -42,7 +42,7 @@ pub data ShowsItems : Forest → State → State → Type 0 where
   at_tree : (f rest : Forest) (tree : Tree) (s t : State) → front f ≡ Other tree rest → ShowsItems rest s t
       → ShowsItems f s t
 
--- after a group, what it defined is no longer visible, unless `#[macro_use]` stands before it
+-- after a group, what it defined is no longer visible, unless `#[macro_use]` precedes it
 pub data LeavesGroup (k : DelimiterKind) (s t : State) : State → Type 0 where
   is_left : LeavesGroup k s t (after_group k (length s.scope.visible) t)
   is_used : LeavesGroup k s t t
@@ -71,7 +71,7 @@ last_span c left =
     if nat_lt (flat_len left) (flat_len c.rest) then unwrap_or (option_map first_span (first c.rest)) c.delimiter.close
     else c.delimiter.close
 
--- What stands in place of the bytes of a call: the text of what the tree becomes that the rules made, fitted to what is
+-- What replaces the bytes of a call: the text of what the tree becomes that the rules made, fitted to what is
 -- beside it.
 pub record IsPartOf (e : Setting) (levels depth : ℕ) (c : Call) (tree : Forest) (s : State) (part : Part)
     (left : Forest) (t : State) : Type 0 where
@@ -114,7 +114,7 @@ pub data AllParts (e : Setting) (levels : ℕ) (within : Parts) : Forest → Sta
 abbrev pub PartsIn : Setting → ℕ → Parts → Parts
 PartsIn e levels within f s parts u = (t : State) × ShowsItems f s t × AllParts e levels within f t parts u
 
--- The parts of what stands in a group, where so many groups and calls may still stand in one another.
+-- The parts of what is in a group, where so many groups and calls may still be in one another.
 unfoldable pub PartsWithin : Setting → ℕ → Parts
 PartsWithin e zero = NoPart
 PartsWithin e (suc levels) = PartsIn e levels (PartsWithin e levels)
@@ -131,13 +131,13 @@ IsExpanded e levels f s text out t = (parts : List Part) × PartsOfFile e levels
 
 -- ---- what follows for each part, and for files that call no known macro
 
--- trees that stand in those: what follows some of them, or what a group among them holds
+-- trees that are in those: what follows some of them, or what a group among them holds
 pub data IsIn (whole : Forest) : Forest → Type 0 where
   all_of_it : IsIn whole whole
   after_some : (kept rest : Forest) → IsIn whole (append kept rest) → IsIn whole rest
   in_group : (d : Delimiter) (inside rest : Forest) → IsIn whole (group d inside rest) → IsIn whole inside
 
--- a part of a call that stands in the trees
+-- a part of a call that is in the trees
 pub record IsOfCall (e : Setting) (whole : Forest) (part : Part) : Type 0 where
   pub from : Forest
   pub call : Call
@@ -155,7 +155,7 @@ pub record IsOfCall (e : Setting) (whole : Forest) (part : Part) : Type 0 where
 abbrev pub NoneHas : List ℕ → List AMacro → Type 0
 NoneHas name ds = list_any (λ (d : AMacro). bytes_eq d.name name) ds ≡ false
 
--- no call that stands in the trees has the name of one of these definitions
+-- no call that is in the trees has the name of one of these definitions
 abbrev pub NoneCalled : List AMacro → Forest → Type 0
 NoneCalled ds whole = (f : Forest) (c : Call) → IsIn whole f → front f ≡ ACall c → NoneHas c.name.sym ds
 

@@ -10,7 +10,7 @@ use Rattle.mbe_semantics.specs.Expansion.ReadAs.{IsReadAs, IsReadAsMacro}
 use Rattle.mbe_calls.specs.Fronts.{Form, Rules, Body, Arguments, Defined}
 
 -- a macro that was read: its name, what it says, whether it is found by a path and from other files, and where its name
--- stands
+-- is
 pub record Definition : Type 0 where
   pub name : List ℕ
   pub rules : Macro
@@ -88,7 +88,7 @@ rules_found s name is_path = option_map (λ d. d.rules) (option_and_then (defini
 
 -- ---- places
 
--- a definition whose name stands there
+-- a definition whose name is there
 abbrev pub is_placed : Span → Option Definition → Bool
 is_placed place None = false
 is_placed place (Some d) = d.place.file == place.file && d.place.start == place.start

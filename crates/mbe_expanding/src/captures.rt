@@ -1,5 +1,5 @@
 // Names that an expansion's text brings together, though hygiene keeps them apart: one that the macro binds, and one of the call's argument
-// that stands where the first is bound, or the other way round. Which of the two a token is of is seen by its place: the argument's
+// that is where the first is bound, or the other way round. Which of the two a token is of is seen by its place: the argument's
 // tokens keep theirs. What isn't sure to be a binding or a use is passed over.
 ghost use Rattle.std.specs.Prelude.{◌≡◌, OnOk};
 ghost use Rattle.mbe_expanding.specs.Shown.{setting_of, state_of};

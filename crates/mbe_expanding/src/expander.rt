@@ -31,7 +31,7 @@ use mbe_tt::span::Span;
 use mbe_tt::tt::{TokenTreesView, TopSubtree};
 use std::alloc::{AllocError, Allocator, Global};
 
-/// How many groups and calls may stand in one another where calls are looked for.
+/// How many groups and calls may be in one another where calls are looked for.
 pub const LEVELS: u32 = 1000;
 
 /// Expands the calls of files. Clauses see it by `setting_of` and `state_of`.

@@ -1,4 +1,4 @@
-// How an expansion stands in place of its call.
+// How an expansion replaces its call.
 ghost use Rattle.std.specs.Prelude.{◌≡◌, IsTrue, IfOk, IfSome};
 ghost use Rattle.mbe_tt.specs.Trees.Tree.{Forest, append};
 ghost use Rattle.mbe_tt.specs.Views.Shown.{leaf_of};
@@ -14,7 +14,7 @@ use mbe_tt::span::Span;
 use mbe_tt::tt::{Delimiter, DelimiterKind, Leaf, Punct, Spacing, TokenTreesView, TtElement};
 use std::alloc::{AllocError, Allocator};
 
-// What stands before a tree in its group.
+// What precedes a tree in its group.
 #[derive(Clone, Copy, Debug, Drop, PartialEq, Eq)]
 pub(crate) enum Before {
     // A `;`, braces, an attribute, or nothing in braces: a statement may begin here.
@@ -29,10 +29,10 @@ pub(crate) enum Before {
     Other,
 }
 
-// How an expansion stands in place of its call.
+// How an expansion replaces its call.
 #[derive(Clone, Copy, Debug, Drop, PartialEq, Eq)]
 pub(crate) struct Fit {
-    // An expression of several trees beside an operator is put in parentheses, and statements in braces where an expression stands.
+    // An expression of several trees beside an operator is put in parentheses, and statements in braces where an expression is.
     pub(crate) wrap: Option<DelimiterKind>,
     // A call by braces that is a statement gets a `;` where it becomes an expression.
     pub(crate) gets_semicolon: bool,
@@ -72,7 +72,7 @@ fn is_semicolon<A: Allocator>(tokens: TokenTreesView<'_, A>) -> bool
     iter.expect_char(';').is_ok() && iter.is_empty()
 }
 
-// The trees that stand before those.
+// The trees that precede those.
 pub(crate) fn up_to<'t, A: Allocator>(
     tokens: TokenTreesView<'t, A>,
     rest: TokenTreesView<'t, A>,
@@ -128,7 +128,7 @@ pub(crate) fn part_of<A: Allocator>(
     }
 }
 
-// A `;` that stands there.
+// A `;` that is there.
 pub(crate) fn semicolon<A: Allocator>(span: Span) -> Leaf<A>
     ensures { leaf_of result ≡ spec.semicolon span }
 {
@@ -156,7 +156,7 @@ pub(crate) fn left_after<A: Allocator>(
     }
 }
 
-// What stands before the first tree of a group of that kind. Statements stand in braces, and what has no delimiters may be some.
+// What precedes the first tree of a group of that kind. Statements are in braces, and what has no delimiters may be some.
 pub(crate) fn begins_in(kind: DelimiterKind) -> Before {
     match kind {
         DelimiterKind::Brace | DelimiterKind::Invisible => Before::Statement,
@@ -164,7 +164,7 @@ pub(crate) fn begins_in(kind: DelimiterKind) -> Before {
     }
 }
 
-// What the tree at the front is to what stands after it, where that stands before it.
+// What the tree at the front is to what follows it, where that precedes it.
 pub(crate) fn left_by<A: Allocator>(tokens: TokenTreesView<'_, A>, last: Before) -> Before {
     match tokens.iter().next() {
         Some(TtElement::Leaf(Leaf::Punct(punct))) => {
@@ -182,7 +182,7 @@ pub(crate) fn left_by<A: Allocator>(tokens: TokenTreesView<'_, A>, last: Before)
     }
 }
 
-// What a punct is to what stands after it.
+// What a punct is to what follows it.
 fn left_by_punct(char: char, is_joint: bool, last: Before) -> Before {
     match (char, last) {
         (';', _) => Before::Statement,
@@ -198,7 +198,7 @@ fn left_by_punct(char: char, is_joint: bool, last: Before) -> Before {
     }
 }
 
-// What a call, with what is left after it, is to what stands there. One by braces, or with its `;`, ends a statement.
+// What a call, with what is left after it, is to what is there. One by braces, or with its `;`, ends a statement.
 pub(crate) fn left_by_call<A: Allocator>(call: Call<'_, A>, rest: TokenTreesView<'_, A>) -> Before {
     let takes_semicolon = rest.flat_len() < call.rest.flat_len();
     if takes_semicolon || call.group.delimiter.kind == DelimiterKind::Brace {
@@ -208,7 +208,7 @@ pub(crate) fn left_by_call<A: Allocator>(call: Call<'_, A>, rest: TokenTreesView
     }
 }
 
-// Whether a call by braces that stands where a statement may begin is no statement by itself.
+// Whether a call by braces that is where a statement may begin is no statement by itself.
 fn goes_on<A: Allocator>(rest: TokenTreesView<'_, A>) -> bool {
     match rest.iter().next() {
         Some(TtElement::Leaf(Leaf::Punct(punct))) => {
@@ -219,7 +219,7 @@ fn goes_on<A: Allocator>(rest: TokenTreesView<'_, A>) -> bool {
     }
 }
 
-// Whether the argument list of a call, or an index, stands at the front.
+// Whether the argument list of a call, or an index, is at the front.
 fn applies<A: Allocator>(rest: TokenTreesView<'_, A>) -> bool {
     match rest.iter().next() {
         Some(TtElement::Subtree(group, _)) => matches!(
@@ -230,7 +230,7 @@ fn applies<A: Allocator>(rest: TokenTreesView<'_, A>) -> bool {
     }
 }
 
-// Whether what a call becomes is an operand of what stands after it. A call by braces that is a statement is one only of `.` and `?`.
+// Whether what a call becomes is an operand of what follows it. A call by braces that is a statement is one only of `.` and `?`.
 fn is_operand_of<A: Allocator>(call: Call<'_, A>, last: Before) -> bool {
     if last == Before::Statement && call.group.delimiter.kind == DelimiterKind::Brace {
         let mut iter = call.rest.iter();
@@ -239,7 +239,7 @@ fn is_operand_of<A: Allocator>(call: Call<'_, A>, last: Before) -> bool {
     binds(call.rest) || applies(call.rest)
 }
 
-// What stands before the expansion of a call: an operand is no statement, whatever stands before it.
+// What precedes the expansion of a call: an operand is no statement, whatever precedes it.
 pub(crate) fn beside<A: Allocator>(call: Call<'_, A>, last: Before) -> Before {
     if is_operand_of(call, last) {
         Before::Operator
@@ -279,7 +279,7 @@ fn are_items<A: Allocator + Copy>(
     Ok(iter.is_empty())
 }
 
-// Whether a `;` stands among the trees.
+// Whether a `;` is among the trees.
 fn has_semicolon<A: Allocator>(tokens: TokenTreesView<'_, A>) -> bool {
     for tree in tokens.iter() {
         if let TtElement::Leaf(Leaf::Punct(punct)) = tree
@@ -301,7 +301,7 @@ fn is_block<A: Allocator>(tokens: TokenTreesView<'_, A>) -> bool {
     }
 }
 
-// What these trees are put in, in place of a call before which `last` stands.
+// What these trees are put in, in place of a call that `last` precedes.
 #[tactic(auto, using(crate::proofs::FitLemmas::wrap_if))]
 fn wrap_of<A: Allocator + Copy>(
     alloc: A,
@@ -330,7 +330,7 @@ fn wrap_of<A: Allocator + Copy>(
     Ok(are_statements.then_some(DelimiterKind::Brace))
 }
 
-// How these trees stand in place of a call.
+// How these trees replace a call.
 pub(crate) fn fit_of<A: Allocator + Copy>(
     alloc: A,
     grammar: &RuleTable<'_>,

@@ -22,11 +22,11 @@ pub struct Definition<A: Allocator = Global> {
     rules: DeclarativeMacro<A>,
     // Whether it is found by a path, and from other files.
     is_wide: bool,
-    // Where its name stands.
+    // Where its name is.
     place: Span,
 }
 
-/// The macros that were read, and those of them that a name finds at present: what stands before it in the text, in
+/// The macros that were read, and those of them that a name finds at present: what precedes it in the text, in
 /// the groups around it. Clauses see it by `scope_of`.
 #[derive(Drop)]
 pub struct Scope<A: Allocator + Copy = Global> {
@@ -173,7 +173,7 @@ impl<A: Allocator + Copy> Scope<A> {
         None
     }
 
-    // Whether the name of that definition stands there.
+    // Whether the name of that definition is there.
     fn is_placed(&self, number: usize, place: Span) -> bool
         ensures { result ≡ is_placed place (spec.definition_at (scope_of self.now) number) }
     {

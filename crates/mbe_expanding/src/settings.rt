@@ -33,7 +33,7 @@ impl Explain {
 #[derive(Clone, Copy, Debug, Drop, PartialEq, Eq)]
 pub struct Settings {
     pub edition: Edition,
-    /// How deep expansions stand in one another: 1 expands a file's calls, and no call in what they become.
+    /// How deep expansions are in one another: 1 expands a file's calls, and no call in what they become.
     pub depth: u32,
     /// How many calls are expanded in all.
     pub fuel: u32,

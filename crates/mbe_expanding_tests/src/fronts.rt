@@ -1,11 +1,11 @@
-// What stands at the front of trees.
+// What is at the front of trees.
 use mbe_calls::calls::{Form, Front, attribute_at, binds, front_of, is_standard};
 use mbe_text::lexer::lex;
 use std::alloc::{AllocError, Global};
 use std::process::Abort;
 use std::test::Fail;
 
-// What stands at the front: a word for it, the macro's name and the number of flat tokens after it.
+// What is at the front: a word for it, the macro's name and the number of flat tokens after it.
 fn seen(rt: &impl Abort, alloc: Global, text: &str) -> Result<String, Fail> {
     assert!(rt; text.len() < 100_000_000);
     let Ok(tree) = lex(alloc, text, 0) else {
@@ -37,7 +37,7 @@ fn shown(alloc: Global, front: Front<'_>) -> Result<String, AllocError> {
     }
 }
 
-// A text, and what stands at its front, as the Rust Reference says ("Macro Invocation", "Macros By Example").
+// A text, and what is at its front, as the Rust Reference says ("Macro Invocation", "Macros By Example").
 static ROWS: [(&str, &str); 24] = [
     ("", "end"),
     ("a b", "tree 1"),
@@ -74,7 +74,7 @@ fn fronts(rt: HostRuntime) -> Result<(), Fail> {
     Ok(())
 }
 
-// A text, the name of the attribute at its front, and whether an operator stands there.
+// A text, the name of the attribute at its front, and whether an operator is there.
 static BESIDE: [(&str, &str, bool); 10] = [
     ("#[macro_use] mod a", "macro_use", false),
     ("#[derive(A)]", "derive", false),

@@ -1,4 +1,4 @@
-// The tests of what stands around an expansion: calls and definitions at the front of trees, texts with parts replaced, and trees as
+// The tests of what is around an expansion: calls and definitions at the front of trees, texts with parts replaced, and trees as
 // Rust text.
 #![tactic(auto)]
 

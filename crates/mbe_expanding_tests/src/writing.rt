@@ -28,7 +28,7 @@ fn write(
     Ok(())
 }
 
-// Texts of several files, with a `~` between two, and what their trees are as one text. Tokens that stand side by side in a file do so
+// Texts of several files, with a `~` between two, and what their trees are as one text. Tokens that are side by side in a file are so
 // here; any other two that would be read as one, or as others, are kept apart.
 static ROWS: [(&str, &str); 32] = [
     ("", ""),

@@ -115,7 +115,7 @@ none_between text n i w low high ten =
     let f = found_at 0 text i (omega (arith, high, end_within text n)) ten in
     feed_outside (Feeds text) (length text) n i f.0 w (feeds_rise 0 text) f.1 (omega (arith, f.2)) low high
 
--- ---- how many stand before
+-- ---- how many precede
 
 before_length : (xs ys : List ℕ) (at n : ℕ) → ((k : ℕ) → k < length xs → get_or xs k 0 < at) → ((k : ℕ)
     → k < length ys → at ≤ get_or ys k 0) → AreBefore (xs ++ ys) at n → n ≡ length xs

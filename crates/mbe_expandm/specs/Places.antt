@@ -30,8 +30,8 @@ pub record AreBefore (places : List ℕ) (at count : ℕ) : Type 0 where
   pub below : (k : ℕ) → k < count → slice_index places k < at
   pub above : (k : ℕ) → count ≤ k → k < length places → at ≤ slice_index places k
 
--- Where a byte of a text is. The line is what stands from its start up to its end: it has no line feed, and one
--- stands before it and one after it, but
+-- Where a byte of a text is. The line is what is from its start up to its end: it has no line feed, and one
+-- precedes it and one follows it, but
 -- at the text's start and end. A line's number counts the line feeds before the byte, a column the characters of the
 -- line that begin before it.
 pub record IsPlace (text : List ℕ) (at line column : ℕ) (shown : List ℕ) : Type 0 where

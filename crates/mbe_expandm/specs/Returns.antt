@@ -1,4 +1,4 @@
--- Carriage returns: a text with those taken out that stand before line feeds, and the places of its bytes in the text
+-- Carriage returns: a text with those taken out before line feeds, and the places of its bytes in the text
 -- itself.
 use Rattle.std.specs.Prelude.{◌≤◌, ◌<◌, ◌+◌, ◌-◌, ◌^◌, ◌==◌, ◌&&◌, min, nat_lt, ℕ, Bool, false, List, [], ◌∷◌, length, count_by, if◌then◌else◌}
 use Rattle.std.specs.List.{slice_index}
@@ -19,7 +19,7 @@ unfoldable pub plain : List ℕ → List ℕ
 plain [] = []
 plain (byte ∷ rest) = if goes_with_feed byte rest then plain rest else byte ∷ plain rest
 
--- where the line feeds stand in that, which begins at this number, that had one
+-- where the line feeds are in that, which begins at this number, that had one
 unfoldable pub returns_from : ℕ → List ℕ → List ℕ
 returns_from at [] = []
 returns_from at (byte ∷ rest) = if goes_with_feed byte rest then at

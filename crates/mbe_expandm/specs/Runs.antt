@@ -11,7 +11,7 @@ use Rattle.mbe_expandm.specs.declared.places.Position.{Position}
 use Rattle.mbe_expandm.specs.Expansions.{DefinesFiles, FileBecomes, FilesBecome}
 use Rattle.mbe_expandm.specs.Sources.{Source, AreSources}
 
--- how many groups and calls may stand in one another
+-- how many groups and calls may be in one another
 abbrev pub LEVELS : ℕ
 LEVELS = 1000
 

@@ -2,7 +2,7 @@
 use mbe_tt::tt::{Leaf, TokenTreesView};
 use std::alloc::Allocator;
 
-/// What `#![recursion_limit = "N"]` says, where it stands among a file's trees.
+/// What `#![recursion_limit = "N"]` says, where it is among a file's trees.
 pub fn recursion_limit<A: Allocator>(tokens: TokenTreesView<'_, A>) -> Option<u32> {
     let mut iter = tokens.iter();
     for _ in 0..tokens.flat_len() {

@@ -48,7 +48,7 @@ fn characters(bytes: &[u8]) -> usize
         .count()
 }
 
-// Whether a carriage return stands there, right before a line feed.
+// Whether a carriage return is there, right before a line feed.
 fn is_before_feed(bytes: &[u8], at: usize) -> bool
     requires { at < length bytes.now }
     ensures { result ≡ goes_with_feed (slice_index bytes.now at) (drop (at + 1) bytes.now) }
@@ -108,7 +108,7 @@ impl<A: Allocator + Copy> Lines<A> {
         }
     }
 
-    // What stands in place of the same part of the text that the lines are of.
+    // What replaces the same part of the text that the lines are of.
     fn placed_one(
         &self,
         alloc: A,
@@ -124,7 +124,7 @@ impl<A: Allocator + Copy> Lines<A> {
         })
     }
 
-    /// What stands in place of the same parts of the text that the lines are of. Lines of that end as those of the text.
+    /// What replaces the same parts of the text that the lines are of. Lines of that end as those of the text.
     pub fn placed(
         &self,
         alloc: A,
@@ -140,7 +140,7 @@ impl<A: Allocator + Copy> Lines<A> {
         Ok(placed)
     }
 
-    // How many line feeds stand before a byte.
+    // How many line feeds precede a byte.
     fn before(&self, at: usize) -> usize
         ensures { AreBefore self.now.feeds.items at result }
     {

@@ -3,7 +3,7 @@
 use crate::texts::all_become;
 use std::test::Fail;
 
-// A definition, what stands after it, and what that becomes.
+// A definition, what follows it, and what that becomes.
 static ROWS: [(&str, &str, &str); 20] = [
     (
         "m { ($b:block) => { $b }; }",

@@ -66,7 +66,7 @@ pub(crate) fn noted(alloc: Global, text: &str) -> Result<String, AllocError> {
     Ok(said)
 }
 
-// Each definition, with what stands after it, becomes what the row says, and nothing is noted.
+// Each definition, with what follows it, becomes what the row says, and nothing is noted.
 pub(crate) fn all_become(
     rt: &impl Abort,
     alloc: Global,

@@ -121,7 +121,7 @@ pub record Said : Type 0 where
   pub wanted : List Part
   pub clash : Option (Part × Part)
 
--- ---- what the program's values stand for
+-- ---- what the program's values mean
 
 abbrev pub part_seen : {A : Type 0} → declared.Part A → Part
 part_seen p = record { text = string_bytes p.text; place = p.span }

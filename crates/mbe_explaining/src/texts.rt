@@ -23,7 +23,7 @@ pub struct Part<A: Allocator = Global> {
     pub span: Option<Span>,
 }
 
-/// The specifier of a kind, as `expr`. Which of its two names stands in the rule isn't kept.
+/// The specifier of a kind, as `expr`. Which of its two names is in the rule isn't kept.
 pub fn specifier_of(kind: MetaVarKind) -> &'static str
     ensures { result.now ≡ spec.specifier kind }
 {

@@ -1,4 +1,4 @@
--- The numbers of flat tokens: what each stands for.
+-- The numbers of flat tokens: what each means.
 use Rattle.std.specs.Prelude.{◌≡◌, ℕ, ◌==◌, if◌then◌else◌, Option, Some, None}
 use Rattle.mbe_tt.specs.declared.span.Span.{Span}
 use Rattle.mbe_tt.specs.declared.tt.LitKind.{LitKind}

@@ -1,4 +1,4 @@
-// Flat tokens: what their numbers stand for.
+// Flat tokens: what their numbers mean.
 ghost use Rattle.std.specs.Prelude.{◌≡◌, IfSome, IfNone};
 ghost use Rattle.mbe_tt.specs.declared.tt.LitKind.{LitKind};
 ghost use Rattle.mbe_tt.specs.declared.tt.DelimiterKind.{DelimiterKind};

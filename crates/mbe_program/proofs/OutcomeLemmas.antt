@@ -13,8 +13,7 @@ use Rattle.mbe_program.specs.declared.program.Outcome.{Outcome}
 use Rattle.mbe_program.specs.declared.program.Outcome.TheVariants.{Expanded, Linted, Faulted, Refused, CannotLex, CannotWrite, OutOfMemory}
 use Rattle.mbe_semantics.specs.Expansion.Error.{ExpandError}
 use Rattle.mbe_program.specs.Printed.{head, printed}
-use Rattle.mbe_program.specs.Expansion.{AreTrees, EndsAs, IsRefused, IsUnexpanded, IsUnlexed}
-use Rattle.mbe_program.specs.Linting.{Lints}
+use Rattle.mbe_program.specs.Expansion.{AreTrees, IsRefused, IsUnexpanded, IsUnlexed}
 
 -- a text isn't lexed
 pub unlexed : {A : Type 0} (edition : Edition) (def_text arg_text : List ℕ) (outcome : Outcome A)
@@ -39,32 +38,6 @@ refused edition def_text arg_text definition argument (Refused error) trees h = 
 refused edition def_text arg_text definition argument (CannotLex file offset) trees h = absurd h
 refused edition def_text arg_text definition argument CannotWrite trees h = absurd h
 refused edition def_text arg_text definition argument OutOfMemory trees h = tt
-
--- a run without an expansion writes nothing
-pub unexpanded_ends : {A : Type 0} (edition : Edition) (def_text arg_text : List ℕ) (before after : Option (List ℕ))
-    (outcome : Outcome A)
-    → IsUnexpanded edition def_text arg_text outcome → after ≡ before
-    → EndsAs edition def_text arg_text before after outcome
-unexpanded_ends edition def_text arg_text before after Expanded h e = absurd h
-unexpanded_ends edition def_text arg_text before after Linted h e = absurd h
-unexpanded_ends edition def_text arg_text before after Faulted h e = absurd h
-unexpanded_ends edition def_text arg_text before after (Refused error) h e = (h, e)
-unexpanded_ends edition def_text arg_text before after (CannotLex file offset) h e = (h, e)
-unexpanded_ends edition def_text arg_text before after CannotWrite h e = absurd h
-unexpanded_ends edition def_text arg_text before after OutOfMemory h e = (h, e)
-
--- so does one that lints
-pub unexpanded_lints : {A : Type 0} (edition : Edition) (def_text arg_text : List ℕ) (before after : Option (List ℕ))
-    (outcome : Outcome A)
-    → IsUnexpanded edition def_text arg_text outcome → after ≡ before
-    → Lints edition def_text arg_text before after outcome
-unexpanded_lints edition def_text arg_text before after Expanded h e = absurd h
-unexpanded_lints edition def_text arg_text before after Linted h e = absurd h
-unexpanded_lints edition def_text arg_text before after Faulted h e = absurd h
-unexpanded_lints edition def_text arg_text before after (Refused error) h e = (h, e)
-unexpanded_lints edition def_text arg_text before after (CannotLex file offset) h e = (h, e)
-unexpanded_lints edition def_text arg_text before after CannotWrite h e = absurd h
-unexpanded_lints edition def_text arg_text before after OutOfMemory h e = (h, e)
 
 -- what was written stays when the writer is flushed, whether that fails or not
 pub flushed : {T E : Type 0} (a b c : Option (List ℕ)) (r : Result T E) (xs : List ℕ) → Appends a b xs → Keeps b c

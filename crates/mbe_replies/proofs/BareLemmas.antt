@@ -9,7 +9,7 @@ use Rattle.mbe_replies.specs.declared.calls.Request.{Request}
 use Rattle.mbe_replies.specs.declared.calls.Settings.{Settings}
 use Rattle.mbe_replies.specs.ReadOnce.{IsUnread, unknown_number, no_trees_to_read, no_macro_to_read}
 use Rattle.mbe_replies.specs.Answers.{Answer, IsOutOfMemory, IsNoText, too_long, not_utf8, IsNoGrammar, no_text_of_grammar, fault_in_grammar, no_memory_for_grammar}
-use Rattle.mbe_replies.specs.Calls.{Source, HasNoTrees, no_text_of_input, unlexed, untreed, neither, no_memory_for_trees, IsNoMacro, refused, no_memory_for_macro, IsNoResult, no_grammar, no_macro, IsNoAnswer, unknown, no_definition, no_argument, no_result, IsUndefined, unknown_edition, no_trees_of_definition, no_rules}
+use Rattle.mbe_replies.specs.Calls.{Source, HasNoTrees, no_text_of_input, unlexed, untreed, neither, no_memory_for_trees, IsNoMacro, refused, no_memory_for_macro, IsNoResult, no_grammar, no_macro, IsNoAnswer, unknown, no_definition, no_argument, no_result}
 
 abbrev pub IsBare : Answer → Type 0
 IsBare a = (a.tokens ≡ []) × (a.text ≡ [])
@@ -48,11 +48,6 @@ no_answer-bare r text definition argument a (unknown none e) = bare_as a _ e (re
 no_answer-bare r text definition argument a (no_definition s asked h) = no_trees-bare _ _ a h
 no_answer-bare r text definition argument a (no_argument s asked rules defined h) = no_trees-bare _ _ a h
 no_answer-bare r text definition argument a (no_result x h) = no_result-bare _ _ _ a h
-
-pub undefined-bare : (r : Request) (s : Source) (a : Answer) → IsUndefined r s a → IsBare a
-undefined-bare r s a (unknown_edition none e) = bare_as a _ e (refl, refl)
-undefined-bare r s a (no_trees_of_definition x asked h) = no_trees-bare _ _ a h
-undefined-bare r s a (no_rules x asked trees given h) = no_macro-bare _ _ a h
 
 pub unread-bare : (r : Request) (text : List ℕ) (s : Source) (a : Answer) → IsUnread r text s a → IsBare a
 unread-bare r text s a (unknown_number none e) = bare_as a _ e (refl, refl)

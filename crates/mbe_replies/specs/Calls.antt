@@ -45,7 +45,7 @@ use Rattle.mbe_replies.specs.Expanding.{ExpandsBy, ExplainsBy, IsEdition}
 
 -- ---- what is asked
 
--- what the numbers of a request stand for
+-- what the numbers of a request mean
 pub record AreSettings (r : Request) (s : Settings) : Type 0 where
   pub edition : edition_of r.edition ≡ Some s.edition
   pub dialect : dialect_of r.dialect s.edition ≡ Some s.dialect
@@ -54,7 +54,7 @@ pub record AreSettings (r : Request) (s : Settings) : Type 0 where
   pub form : form_of r.form ≡ Some s.form
   pub site : s.call_site ≡ span_of r.call_site
 
--- a number of the request stands for nothing
+-- a number of the request means nothing
 abbrev pub IsUnknown : Request → Type 0
 IsUnknown r = (s : Settings) → ¬ (AreSettings r s)
 

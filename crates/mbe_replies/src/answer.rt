@@ -24,7 +24,7 @@ pub enum Status {
     Faulted,
     /// The definition isn't one.
     Refused,
-    /// A number of the request stands for nothing.
+    /// A number of the request means nothing.
     Number,
     /// A text isn't UTF-8.
     Utf8,

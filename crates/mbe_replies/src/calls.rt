@@ -197,7 +197,7 @@ pub(crate) fn expansion_shown<A: Allocator + Copy>(
     Ok(answer)
 }
 
-/// What the numbers of a request stand for.
+/// What the numbers of a request mean.
 #[derive(Clone, Copy, Drop)]
 pub struct Settings {
     pub edition: Edition,

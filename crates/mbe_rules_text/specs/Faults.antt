@@ -12,9 +12,9 @@ reason_text reasons.NotClosed = codes "nothing closes this"
 reason_text reasons.Empty = codes "an empty text"
 reason_text reasons.NoSign = codes "one character and a \"`\" have to follow"
 reason_text reasons.NotOpened = codes "nothing opens this"
-reason_text reasons.NoDefinition = codes "a name and a `=` have to stand before this"
+reason_text reasons.NoDefinition = codes "a name and a `=` have to come before this"
 reason_text reasons.NoRule = codes "a rule is missing here"
-reason_text reasons.NothingBefore = codes "no rule stands before this"
+reason_text reasons.NothingBefore = codes "no rule is before this"
 reason_text reasons.NoKeyword = codes "keywords are words in `\"`"
 reason_text (reasons.Unknown name) = codes "no rule is named \"" ++ (name.now ++ codes "\"")
 reason_text (reasons.Twice name) = codes "a rule before is named \"" ++ (name.now ++ codes "\"")

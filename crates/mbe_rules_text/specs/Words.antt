@@ -87,7 +87,7 @@ abbrev pub define_or_name : List ℕ → List ℕ → Option (List ℕ) → Toke
 define_or_name name rest None = inside_or_name name rest (kind_named name) (after_byte 91 rest)
 define_or_name name rest (Some more) = (Define (borrowed name), more)
 
--- white space may stand before a `=`
+-- white space may be before a `=`
 abbrev pub name_token : List ℕ → List ℕ → Token × List ℕ
 name_token name rest = define_or_name name rest (after_byte 61 (trim_start rest))
 

@@ -21,11 +21,11 @@ pub enum Reason<'t> {
     NotClosed,
     /// A text in quotes that is empty.
     Empty,
-    /// No single character and "`" stand after a "`".
+    /// No single character with a "`" follows a "`".
     NoSign,
     /// A `)` or a `]` that nothing opens.
     NotOpened,
-    /// Something stands before the first rule.
+    /// Something precedes the first rule.
     NoDefinition,
     /// A rule, an alternative or a group has nothing in it, or a `&` or `~` has nothing after it.
     NoRule,
@@ -59,9 +59,9 @@ impl Display for Reason<'_> {
             Reason::Empty => f.write_str("an empty text"),
             Reason::NoSign => f.write_str("one character and a \"`\" have to follow"),
             Reason::NotOpened => f.write_str("nothing opens this"),
-            Reason::NoDefinition => f.write_str("a name and a `=` have to stand before this"),
+            Reason::NoDefinition => f.write_str("a name and a `=` have to come before this"),
             Reason::NoRule => f.write_str("a rule is missing here"),
-            Reason::NothingBefore => f.write_str("no rule stands before this"),
+            Reason::NothingBefore => f.write_str("no rule is before this"),
             Reason::NoKeyword => f.write_str("keywords are words in `\"`"),
             Reason::Unknown(name) => write!(f, "no rule is named \"{name}\""),
             Reason::Twice(name) => write!(f, "a rule before is named \"{name}\""),

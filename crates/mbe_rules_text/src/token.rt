@@ -13,9 +13,9 @@ pub enum Token<'t> {
     Define(&'t str),
     /// Any other name.
     Name(&'t str),
-    /// What stands between two `"`.
+    /// What is between two `"`.
     Word(&'t str),
-    /// What stands between two `'`.
+    /// What is between two `'`.
     Operator(&'t str),
     /// The character between two "`".
     Sign(char),
@@ -65,7 +65,7 @@ fn first_char(text: &str) -> Option<(char, &str)>
     Some((char, chars.as_str()))
 }
 
-// What stands up to the next quote, and what is left after that. `after` is what is left after the first one.
+// What is up to the next quote, and what is left after that. `after` is what is left after the first one.
 #[tactic(auto, unfolding(crate::specs::Words::quoted))]
 fn quoted<'t>(after: &'t str, quote: char) -> Result<(&'t str, &'t str), Reason<'t>>
     requires { quote < 128 }

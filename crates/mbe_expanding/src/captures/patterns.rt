@@ -33,7 +33,7 @@ fn is_open<A: Allocator>(tokens: &[Token<'_, A>], at: usize, kind: DelimiterKind
     matches!(tokens.get(at), Some(Token::Open(found)) if *found == kind)
 }
 
-// Whether two chars stand there.
+// Whether two chars are there.
 fn are_chars<A: Allocator>(tokens: &[Token<'_, A>], at: usize, first: char, second: char) -> bool {
     is_char(tokens, at, first) && is_char(tokens, at.saturating_add(1), second)
 }
@@ -71,7 +71,7 @@ fn is_stop<A: Allocator>(tokens: &[Token<'_, A>], at: usize, stop: Stop) -> bool
     }
 }
 
-// Whether a `:` stands there that is no part of a `::`.
+// Whether a `:` is there that is no part of a `::`.
 fn is_single_colon<A: Allocator>(tokens: &[Token<'_, A>], at: usize) -> bool {
     is_char(tokens, at, ':')
         && !is_char(tokens, at.saturating_add(1), ':')
@@ -143,7 +143,7 @@ fn by_for<A: Allocator>(tokens: &[Token<'_, A>], at: usize) -> Option<Binding> {
     in_braces(tokens, from, to, to)
 }
 
-// Whether a `|` there begins a closure: no operand stands before it.
+// Whether a `|` there begins a closure: no operand precedes it.
 fn begins_closure<A: Allocator>(tokens: &[Token<'_, A>], at: usize) -> bool {
     if at == 0 {
         return true;
@@ -174,7 +174,7 @@ fn by_closure<A: Allocator>(tokens: &[Token<'_, A>], at: usize) -> Option<Bindin
     })
 }
 
-// Where the pattern of an arm begins whose `=>` stands there; `None` if it is too long.
+// Where the pattern of an arm begins whose `=>` is there; `None` if it is too long.
 fn arm_before<A: Allocator>(tokens: &[Token<'_, A>], at: usize) -> Option<usize> {
     let mut depth = 0usize;
     let mut first = at;
@@ -242,7 +242,7 @@ pub(crate) fn binding_at<A: Allocator>(tokens: &[Token<'_, A>], at: usize) -> Op
     }
 }
 
-// Whether a name stands alone: it is no part of a path, no lifetime, and no variable or call of a macro.
+// Whether a name is alone: it is no part of a path, no lifetime, and no variable or call of a macro.
 fn is_alone<A: Allocator>(tokens: &[Token<'_, A>], at: usize) -> bool {
     let next = at.saturating_add(1);
     let is_after = match tokens.get(at.saturating_sub(1)) {

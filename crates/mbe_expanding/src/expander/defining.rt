@@ -11,7 +11,7 @@ use mbe_calls::calls::{Front, attribute_at, front_of};
 use mbe_tt::tt::{DelimiterKind, TokenTreesView, TtElement};
 use std::alloc::{AllocError, Allocator};
 
-// Whether `#[macro_export]` and `#[macro_use]` stand before a tree, since the last item ended.
+// Whether `#[macro_export]` and `#[macro_use]` precede a tree, since the last item ended.
 #[derive(Clone, Copy, Debug, Drop)]
 pub(crate) struct Marks {
     is_exported: bool,
@@ -85,14 +85,14 @@ impl Marks {
         }
     }
 
-    // Whether paths find a definition that these stand before.
+    // Whether paths find a definition that these precede.
     fn is_wide(self, is_top: bool) -> bool
         ensures { result ≡ (self.is_exported || is_top) }
     {
         self.is_exported || is_top
     }
 
-    // Whether a group that these stand before is as none around what it holds.
+    // Whether a group that these precede is as none around what it holds.
     fn is_open(self, is_top: bool) -> bool
         ensures { result ≡ (is_top && self.is_used) }
     {
@@ -111,7 +111,7 @@ impl<A: Allocator + Copy> Expander<'_, A> {
         self.define_in(tokens, true, LEVELS)
     }
 
-    // Reads the definitions among trees, where `is_top` says whether they stand in no group.
+    // Reads the definitions among trees, where `is_top` says whether they are in no group.
     #[cycle(defining)]
     fn define_in(
         &mut self,

@@ -1,4 +1,4 @@
-// What stands in place of the calls of a file.
+// What replaces the calls of a file.
 ghost use Rattle.std.specs.Prelude.{◌≡◌, suc, [], IfOk, OnOk, map};
 ghost use Rattle.std.specs.List.{All};
 ghost use Rattle.std.specs.String.{string_bytes};
@@ -39,7 +39,7 @@ impl<A: Allocator + Copy> Expander<'_, A> {
         splice(self.alloc, text, replacements.as_slice())
     }
 
-    /// What stands in place of the calls of a file's trees, in the order of its text.
+    /// What replaces the calls of a file's trees, in the order of its text.
     pub fn replacements(
         &mut self,
         text: &str,
@@ -99,7 +99,7 @@ impl<A: Allocator + Copy> Expander<'_, A> {
         }
     }
 
-    // From here on, names find the `macro` items among these trees, wherever they stand.
+    // From here on, names find the `macro` items among these trees, wherever they are.
     fn show_items(&mut self, tokens: TokenTreesView<'_, A>) -> Result<(), AllocError>
         ensures shows { OnOk result (ShowsItems (trees tokens.entry)
             (state_of self.old) (state_of self.new)) }
@@ -119,7 +119,7 @@ impl<A: Allocator + Copy> Expander<'_, A> {
         }
     }
 
-    // Keeps what stands in place of the calls of trees, where `last` stands before them.
+    // Keeps what replaces the calls of trees, where `last` precedes them.
     #[cycle(replacing)]
     fn replace_in(
         &mut self,
@@ -163,7 +163,7 @@ impl<A: Allocator + Copy> Expander<'_, A> {
         }
     }
 
-    // Keeps what stands in place of the calls in a tree.
+    // Keeps what replaces the calls in a tree.
     #[cycle(replacing)]
     fn replace_tree(
         &mut self,
@@ -192,7 +192,7 @@ impl<A: Allocator + Copy> Expander<'_, A> {
         Ok(())
     }
 
-    // Keeps what stands in place of the calls in a group; of none, if that is too deep.
+    // Keeps what replaces the calls in a group; of none, if that is too deep.
     #[cycle(replacing)]
     fn replace_inside(
         &mut self,
@@ -214,7 +214,7 @@ impl<A: Allocator + Copy> Expander<'_, A> {
         self.replace_in(replacements, text, tokens, last, levels - 1)
     }
 
-    // Keeps what stands in place of a call, and returns what is left after that.
+    // Keeps what replaces a call, and returns what is left after that.
     #[cycle(replacing)]
     fn replace_call<'t>(
         &mut self,
@@ -253,7 +253,7 @@ impl<A: Allocator + Copy> Expander<'_, A> {
         }
     }
 
-    // Keeps what stands in place of the calls in the argument of a call that stays.
+    // Keeps what replaces the calls in the argument of a call that stays.
     #[cycle(replacing)]
     fn replace_argument(
         &mut self,

@@ -26,7 +26,7 @@ use mbe_tt::tt::{
 use std::alloc::{AllocError, Allocator};
 
 impl<A: Allocator + Copy> Expander<'_, A> {
-    // Writes trees with their calls expanded, where `last` stands before them.
+    // Writes trees with their calls expanded, where `last` precedes them.
     #[cycle(writing)]
     pub(crate) fn write(
         &mut self,
@@ -135,7 +135,7 @@ impl<A: Allocator + Copy> Expander<'_, A> {
         Ok(())
     }
 
-    // Writes what stands in a group or an expansion; as it is, if that is too deep.
+    // Writes what is in a group or an expansion; as it is, if that is too deep.
     #[cycle(writing)]
     fn write_inside(
         &mut self,
@@ -295,7 +295,7 @@ fn copy_call<A: Allocator>(
     builder.extend_with_tt(up_to(tokens, call.rest))
 }
 
-// Writes what stands before the group of a call.
+// Writes what precedes the group of a call.
 #[tactic(auto, using(crate::proofs::GroupLemmas::length_put))]
 fn copy_head<A: Allocator>(
     builder: &mut TopSubtreeBuilder<A>,
