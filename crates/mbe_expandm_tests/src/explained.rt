@@ -1,4 +1,5 @@
-// What is reported of calls that are explained. Where each rule stops, and what it wants there, was worked out by hand.
+// What is reported of calls beside errors: what rules say of them, steps, and where tokens are from. Where each rule stops, what it
+// wants there, and where each token is from was worked out by hand.
 use mbe_expanding::expander::Expander;
 use mbe_expanding::settings::Settings;
 use mbe_expandm::expansions::{define_files, expanded};
@@ -12,25 +13,32 @@ use serde_json::Value;
 use std::alloc::{AllocError, Global};
 use std::test::Fail;
 
-// What is reported of a file, whose calls are explained that begin at that position; without one, those that no rule expands.
-fn reported(
-    alloc: Global,
-    text: &str,
-    form: Form,
-    position: Option<Position>,
-) -> Result<String, AllocError> {
+// What is asked for beside errors: the calls that begin at a position are explained; without one, those that no rule expands.
+#[derive(Clone, Copy)]
+enum Asked {
+    Explained(Option<Position>),
+    Steps,
+    Origins,
+}
+
+// What is reported of a file.
+fn reported(alloc: Global, text: &str, form: Form, asked: Asked) -> Result<String, AllocError> {
     let edition = Edition::Edition2021;
     let mut symbols = SymbolTable::new(alloc);
     let mut notes = Vec::new(alloc);
     let file = source_file(alloc, &mut symbols, &mut notes, edition, "a.rs", text, 0)?;
     let files: [SourceFile<'_>; 1] = [file];
+    let position = match asked {
+        Asked::Explained(position) => Some(position),
+        Asked::Steps | Asked::Origins => None,
+    };
     let settings = Settings {
         edition,
         depth: 9,
         fuel: 100,
-        is_traced: false,
-        is_origin_noted: false,
-        explain: explained(Some(position), &files),
+        is_traced: matches!(asked, Asked::Steps),
+        is_origin_noted: matches!(asked, Asked::Origins),
+        explain: explained(position, &files),
     };
     let mut expander = Expander::new(alloc, rust_rules(edition, &[]), settings);
     define_files(&mut expander, &files)?;
@@ -133,6 +141,87 @@ fn rules_say_what_they_want(rt: HostRuntime) -> Result<(), Fail> {
     Ok(())
 }
 
+// A definition, a call of it in the next line, and where each token of each expansion is from, in the order of the steps; a group is
+// where it opens. An expression with operators is in parentheses, which are where its variable is.
+static ORIGINS: [(&str, &str, &str); 4] = [
+    (
+        "m { ($x:ident) => { fn $x() {} } }",
+        "m!(a);",
+        "1:34 `fn`; 2:4 `a`; 1:39 `(`; 1:42 `{`; ",
+    ),
+    (
+        "m { ($e:expr) => { const A: u8 = $e; } }",
+        "m!(1 + 2);",
+        "1:33 `const`; 1:39 `A`; 1:40 `:`; 1:42 `u8`; 1:45 `=`; 1:48 `(`; 2:4 `1`; 2:6 `+`; 2:8 `2`; 1:49 `;`; ",
+    ),
+    (
+        "m { (a $x:ident) => { m!(b $x); }; (b $x:ident) => { struct $x; } }",
+        "m!(a C);",
+        "1:36 `m`; 1:37 `!`; 1:38 `(`; 1:39 `b`; 2:6 `C`; 1:44 `;`; 1:67 `struct`; 2:6 `C`; 1:76 `;`; ",
+    ),
+    ("m { ($($x:ident)*) => { $(struct $x;)* } }", "m!();", ""),
+];
+
+// A note is `PLACE MESSAGE`; of one on a token, the place and the token.
+fn tokens_of(alloc: Global, notes: &str) -> Result<String, AllocError> {
+    let mut found = String::new(alloc);
+    for note in notes.split("; ") {
+        if let Some((token, _)) = note.split_once(" in the expansion of `m!`") {
+            let both = format!(in alloc; "{token}; ")?;
+            found.push_str(both.as_str())?;
+        }
+    }
+    Ok(found)
+}
+
+#[test]
+fn tokens_say_where_they_are_from(rt: HostRuntime) -> Result<(), Fail> {
+    for (rules, call, want) in &ORIGINS {
+        let text = format!(in rt.alloc(); "macro_rules! {rules}\n{call}")?;
+        let reports = reported(rt.alloc(), text.as_str(), Form::Text, Asked::Origins)?;
+        let notes = notes_of(rt.alloc(), reports.as_str())?;
+        assert_eq!(rt; tokens_of(rt.alloc(), notes.as_str())?.as_str(), *want);
+    }
+    Ok(())
+}
+
+// A definition, a call of it in the next line, and what rustc 1.95 notes of it under `trace_macros`, but for line breaks, each at its call.
+static STEPS: [(&str, &str, &str); 3] = [
+    (
+        "m { ($x:ident) => { fn $x() {} } }",
+        "m!(a);",
+        "2:1 expanding `m! { a }`; 2:1 to `fn a () {}`; ",
+    ),
+    (
+        "m { (a $x:ident) => { m!(b $x); }; (b $x:ident) => { struct $x; } }",
+        "m!(a C);",
+        "2:1 expanding `m! { a C }`; 2:1 to `m! (b C);`; 1:36 expanding `m! { b C }`; 1:36 to `struct C;`; ",
+    ),
+    (
+        "p { ($($k:ident = $v:expr),*) => { const ALL: &[(&str, u8)] = &[$((stringify!($k), $v)),*]; } }",
+        "p!(x = 1 + 2, y = 3);",
+        "2:1 expanding `p! { x = 1 + 2, y = 3 }`; \
+            2:1 to `const ALL : & [(& str, u8)] = & [(stringify! (x), 1 + 2), (stringify! (y), 3)];`; ",
+    ),
+];
+
+// How tokens are spaced is no matter of theirs.
+fn without_spaces(alloc: Global, text: &str) -> Result<String, AllocError> {
+    text.replace(alloc, " ", "")
+}
+
+#[test]
+fn steps_are_in_the_words_of_rustc(rt: HostRuntime) -> Result<(), Fail> {
+    for (rules, call, want) in &STEPS {
+        let text = format!(in rt.alloc(); "macro_rules! {rules}\n{call}")?;
+        let reports = reported(rt.alloc(), text.as_str(), Form::Text, Asked::Steps)?;
+        let notes = notes_of(rt.alloc(), reports.as_str())?;
+        let found = without_spaces(rt.alloc(), notes.as_str())?;
+        assert_eq!(rt; found.as_str(), without_spaces(rt.alloc(), want)?.as_str());
+    }
+    Ok(())
+}
+
 // The example of docs/EXPANDM.md.
 static PAIR: &str = "\
 macro_rules! pair { ($k:ident => $v:expr) => {}; ($k:ident = $v:expr) => {}; }
@@ -171,8 +260,8 @@ static SECOND: &str = "\
 2:36 rule 1 of `pair!` doesn't go on here: it wants `=>`; 1:31 `=>` in rule 1 of `pair!`; \
 2:43 rule 2 of `pair!` fits; ";
 
-fn at(line: usize, column: Option<usize>) -> Option<Position> {
-    Some(Position { line, column })
+fn at(line: usize, column: Option<usize>) -> Asked {
+    Asked::Explained(Some(Position { line, column }))
 }
 
 #[test]
