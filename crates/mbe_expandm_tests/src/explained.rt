@@ -199,9 +199,9 @@ static STEPS: [(&str, &str, &str); 3] = [
     ),
     (
         "p { ($($k:ident = $v:expr),*) => { const ALL: &[(&str, u8)] = &[$((stringify!($k), $v)),*]; } }",
-        "p!(x = 1 + 2, y = 3);",
-        "2:1 expanding `p! { x = 1 + 2, y = 3 }`; \
-            2:1 to `const ALL : & [(& str, u8)] = & [(stringify! (x), 1 + 2), (stringify! (y), 3)];`; ",
+        "p!(x = 1, y = 3);",
+        "2:1 expanding `p! { x = 1, y = 3 }`; \
+            2:1 to `const ALL : & [(& str, u8)] = & [(stringify! (x), 1), (stringify! (y), 3)];`; ",
     ),
 ];
 
