@@ -295,7 +295,3 @@ all_checked m tells (inr e) = subst AreChecked (sym e) (λ n r x. absurd (none-s
 pub ok_both : {X E : Type 0} (r : Result X E) (P Q R : X → Type 0) → ((x : X) → P x → Q x → R x) → IfOk r P → IfOk r Q → IfOk r R
 ok_both (Ok x) P Q R f p q = f x p q
 ok_both (Err e) P Q R f p q = tt
-
-pub ok_three : {X E : Type 0} (r : Result X E) (P Q R S : X → Type 0) → ((x : X) → P x → Q x → R x → S x) → IfOk r P → IfOk r Q → IfOk r R → IfOk r S
-ok_three (Ok x) P Q R S f p q s = f x p q s
-ok_three (Err e) P Q R S f p q s = tt

@@ -1,23 +1,27 @@
 -- What the verdict on a rule's pattern and its substitution say of the rule.
-use Rattle.std.specs.Prelude.{◌≡◌, ◌≢◌, ◌⊎◌, ◌-◌, ◌^◌, ℕ, Bool, true, false, min, [], Option, Some}
+use Rattle.std.specs.Prelude.{◌≡◌, ◌≢◌, ◌⊎◌, ◌-◌, ◌^◌, ℕ, Bool, true, false, min, [], Option, Some, None}
 use Rattle.std.proofs.Common.{ap, sym, subst, ◌∙◌, refl, inl, inr}
 use Rattle.std.proofs.lemmas.Bool.{true≢false}
 use Rattle.mbe_tt.specs.declared.span.Span.{Span}
 use Rattle.mbe_tt.specs.declared.span.DelimSpan.{DelimSpan}
-use Rattle.mbe_tt.specs.Trees.Tree.{Forest}
+use Rattle.mbe_tt.specs.Trees.Tree.{Forest, tree_count}
+use Rattle.mbe_tt.proofs.Places.PlaceLemmas.{rest_at-zero}
 use Rattle.mbe_tt.specs.Trees.Top.{Top}
-use Rattle.mbe_tt.specs.Fragments.Grammar.{Grammar}
+use Rattle.mbe_tt.specs.Fragments.Grammar.{Grammar, IsLawful}
 use Rattle.mbe_semantics.specs.Syntax.Definition.{Rule}
+use Rattle.mbe_semantics.specs.Syntax.Nullable.{Checked}
 use Rattle.mbe_semantics.specs.Readings.Item.{Items}
 use Rattle.mbe_semantics.specs.Readings.Ambiguity.{Fits}
 use Rattle.mbe_semantics.specs.Readings.Verdict.{Verdict, one_reading, many_readings, ambiguous, stuck, IsVerdict, unmatched}
-use Rattle.mbe_semantics.specs.Bindings.Account.{Log, Handle, Account, IsAccount, run}
+use Rattle.mbe_semantics.specs.Bindings.Account.{Log, Handle, Account, IsAccount, run, no_commands}
 use Rattle.mbe_semantics.specs.Bindings.Environment.{Environment, environment_of, binding_total}
 use Rattle.mbe_semantics.specs.Writing.Substitution.{faults, IsSubstitution}
 use Rattle.mbe_semantics.specs.Expansion.Error.{ExpandError}
 use Rattle.mbe_semantics.specs.Expansion.Expansion.{Applies}
 use Rattle.mbe_transcriber.specs.Faults.{first_fault}
 use Rattle.mbe_matcher.specs.Failures.{Reports}
+use Rattle.mbe_matcher.specs.Fronts.{begins_otherwise, failing_first}
+use Rattle.mbe_matcher.proofs.Starts.{otherwise_stuck, otherwise_fails, otherwise_reports}
 use Rattle.mbe_matcher.specs.Reports.{IsReported}
 use Rattle.mbe.specs.declared.expander.Nearness.{Nearness}
 use Rattle.mbe.specs.Recovering.{spans_of, IsUnfit, IsFaulty, ComesNear}
@@ -78,3 +82,29 @@ module _ (g : Grammar) (call_site : Span) (input : Top) (r : Rule) where
     record { styled = refl; items = is; fits = fits; faultless = ap (λ e. faults e [] r.writes) (sym bound) ∙ faultless },
     subst (λ e. IsSubstitution g Marks call_site e r.writes out) bound written,
   )
+
+  -- a rule that begins otherwise than the argument comes to nothing: no tree is matched, and nothing is bound
+  module _ (law : IsLawful g) (checked : Checked r.reads) (other : begins_otherwise r.reads input.1 ≡ true) where
+    pub unlike : (err : ExpandError) (env : Environment) →
+        Reports g r.reads input.1 (spans_of input.0) (stuck 0) err no_commands → env ≡ [] → IsUnfit g call_site input r err env
+    unlike err env reported bound = record {
+      verdict = stuck 0;
+      judged = otherwise_stuck g r.reads input.1 law checked other;
+      unfit = λ one. cc;
+      commands = no_commands;
+      reported = reported;
+      bound = bound;
+    }
+
+    reported_by : (e : Option ExpandError) → failing_first g r.reads input.1 (spans_of input.0) ≡ e →
+        (err : ExpandError) × Reports g r.reads input.1 (spans_of input.0) (stuck 0) err no_commands
+    reported_by None n = absurd (otherwise_fails g r.reads input.1 (spans_of input.0) other n)
+    reported_by (Some err) n = (err, otherwise_reports g r.reads input.1 (spans_of input.0) law checked other err n)
+
+    pub unlike_tried : (near : Nearness) → near.unmatched ≡ tree_count input.1 → near.bound ≡ 0 →
+        (Applies g r.style input.1 r → ⊥) × IsNearness g call_site input r near
+    unlike_tried near left none =
+        let it = reported_by (failing_first g r.reads input.1 (spans_of input.0)) refl in
+        unfit (stuck 0) (otherwise_stuck g r.reads input.1 law checked other) near
+        (left ∙ ap tree_count (sym (rest_at-zero input.1))) it.0 [] (λ one. cc)
+        (unlike it.0 [] it.1 refl) none

@@ -1,5 +1,5 @@
 -- What the choice of a rule goes by: words of private code.
-use Rattle.std.specs.Prelude.{◌≡◌, ◌^◌, ◌-◌, ℕ, Bool, ◌||◌, ◌&&◌, nat_lt, nat_eq, if◌then◌else◌, List, slice_get, Contains, Option, Some, None}
+use Rattle.std.specs.Prelude.{◌≡◌, ◌^◌, ◌-◌, ℕ, Bool, true, ◌||◌, ◌&&◌, nat_lt, nat_eq, if◌then◌else◌, List, slice_get, Contains, Option, Some, None}
 use Rattle.mbe_tt.specs.declared.span.Span.{Span}
 use Rattle.mbe_tt.specs.Trees.Top.{Top, top_group}
 use Rattle.mbe_tt.specs.Fragments.Grammar.{Grammar}
@@ -13,6 +13,7 @@ use Rattle.mbe_semantics.specs.Expansion.Recovery.{HasStyle, IsStyledAt}
 use Rattle.mbe_semantics.specs.Expansion.Macro.{arm_of}
 use Rattle.mbe_errors.specs.ErrorViews.{error_of}
 use Rattle.mbe_log.specs.BindingViews.{bound_by}
+use Rattle.mbe_matcher.specs.Fronts.{begins_otherwise}
 use Rattle.mbe_parser.specs.RuleViews.{rule_of}
 use Rattle.mbe.specs.Recovering.{IsUnfit, IsRecovered, ComesNear, IsNearest}
 use Rattle.mbe.specs.declared.expander.Candidate.{Candidate}
@@ -47,10 +48,12 @@ nearer_of (Some best) next = if is_nearer next.nearness best.nearness then next 
 abbrev pub IsNearness : Grammar → Span → Top → Rule → Nearness → Type 0
 IsNearness g call_site input r n = ComesNear g call_site input r n.unmatched n.bound
 
--- what is kept of a rule that doesn't apply: what its match reports, or what is written beside its first fault
+-- what is kept of a rule that doesn't apply: what its match reports, what is written beside its first fault, or that it
+-- begins otherwise than the argument
 abbrev pub IsRemains : {A : Type 0} → Grammar → (Span → Span → Type 0) → Span → Top → Rule → Remains A → Type 0
 IsRemains g Marks call_site input r (remains.Unfit bindings err) = IsUnfit g call_site input r (error_of err) (bound_by bindings)
 IsRemains g Marks call_site input r (remains.Faulty tree err) = IsRecovered g call_site input Marks r (top_group tree) (Some (error_of err))
+IsRemains g Marks call_site input r remains.Unlike = Checked r.reads × (begins_otherwise r.reads input.1 ≡ true)
 
 -- a candidate is the rule at its place, with what is kept of it
 pub record IsCandidate {A : Type 0} (g : Grammar) (Marks : Span → Span → Type 0) (call_site : Span) (input : Top) (style : MacroCallStyle)

@@ -1,15 +1,18 @@
 // The choice of the rule.
-ghost use Rattle.std.specs.Prelude.{◌≡◌, ◌-◌, ◌^◌, min, IfOk, Some, None, IsSome};
-ghost use Rattle.mbe_tt.specs.Trees.Top.{Top, top_group};
+ghost use Rattle.std.specs.Prelude.{◌≡◌, ◌-◌, ◌^◌, min, IfOk, Some, None, IsSome, true};
+ghost use Rattle.mbe_tt.specs.Trees.Top.{top_group};
+ghost use Rattle.mbe_tt.specs.Trees.Tree.{tree_count};
 ghost use Rattle.mbe_semantics.specs.Expansion.Macro.{Expands, arm_of, empty_tree};
 ghost use Rattle.mbe_semantics.specs.Expansion.Error.{no_matching_rule};
 ghost use Rattle.mbe_semantics.specs.Laws.Marking.{MayMark};
 ghost use Rattle.mbe_semantics.specs.Syntax.Nullable.{Checked};
-ghost use Rattle.mbe_errors.specs.ErrorViews.{errors_of};
+ghost use Rattle.mbe_errors.specs.ErrorViews.{error_of, errors_of};
 ghost use Rattle.mbe_ops.specs.Views.{template_of};
+ghost use Rattle.mbe_matcher.specs.Fronts.{begins_otherwise};
 ghost use Rattle.mbe_parser.specs.RuleViews.{rule_of, rules_seen};
 ghost use Rattle.mbe_semantics.specs.Bindings.Environment.{binding_total};
 ghost use Rattle.mbe_log.specs.BindingViews.{bound_by};
+ghost use Rattle.mbe_transcriber.specs.Beside.{IsWhatIsLeft};
 ghost use Rattle.mbe.specs.Choice.{AreChecked, IsTried, IsConsidered, IsChosen, IsRemains, is_nearer, nearer_of};
 ghost use Rattle.mbe.specs.Recovering.{IsRecovered, Recovers};
 
@@ -18,6 +21,7 @@ use mbe_errors::value_result::{ExpandResult, MatchedArmIndex, ValueResult};
 use mbe_log::bindings::Bindings;
 use mbe_log::log::BindingLog;
 use mbe_matcher::matching::{Match, match_argument};
+use mbe_matcher::start::{begins_otherwise, error_at_start};
 use mbe_parser::rules::Rule;
 use mbe_semantics::macro_call_style::MacroCallStyle;
 use mbe_transcriber::transcriber::transcribe;
@@ -33,6 +37,9 @@ enum Remains<'a, A: Allocator> {
     Unfit(Bindings<'a, A>, ExpandError<A>),
     // The substitution faulted: what was written, and its first fault.
     Faulty(TopSubtree<A>, ExpandError<A>),
+    // The pattern begins with a token with which the argument doesn't begin. Of these rules only the
+    // closest one's error is made.
+    Unlike,
 }
 
 // How near a rule came: how many trees were left, and how much was bound.
@@ -109,7 +116,9 @@ pub(crate) fn expand_rules<A: Allocator + Copy, G: FragmentGrammar, M: Fn(Span) 
             value: (tree, index),
             err: None,
         }),
-        Choice::Closest(candidate) => recovered(alloc, grammar, candidate, marker, call_site),
+        Choice::Closest(candidate) => recovered(
+            alloc, grammar, candidate, input, marker, call_site,
+        ),
         Choice::NoRule => no_rule(alloc, call_site),
     }
 }
@@ -129,10 +138,11 @@ fn choose<'a, A: Allocator + Copy, G: FragmentGrammar, M: Fn(Span) -> Span + Cop
     ensures { IfOk result (IsChosen (G.grammar grammar.now) (M.post marker) call_style call_site
         input.now (rules_seen rules.now)) }
 {
+    let trees = input.iter().remaining().len();
     let mut nearest: Option<Candidate<'_, A>> = None;
     for (idx, rule) in rules.iter().enumerate() {
         let come_to = consider(
-            alloc, grammar, idx, rule, input, marker, call_style, call_site,
+            alloc, grammar, idx, rule, input, trees, marker, call_style, call_site,
         )?;
         match come_to {
             Considered::OtherStyle => continue,
@@ -157,11 +167,13 @@ fn consider<'a, A: Allocator + Copy, G: FragmentGrammar, M: Fn(Span) -> Span + C
     idx: usize,
     rule: &'a Rule<A>,
     input: &'a TopSubtree<A>,
+    trees: usize,
     marker: M,
     call_style: MacroCallStyle,
     call_site: Span,
 ) -> Result<Considered<'a, A>, AllocError>
     requires checked { Checked (template_of rule.now.lhs) }
+    requires trees { trees ≡ tree_count input.now.1 }
     requires may_mark { MayMark (M.pre marker) }
     ensures { IfOk result (IsConsidered (G.grammar grammar.now) (M.post marker) call_style
         call_site input.now idx (rule_of rule.now)) }
@@ -169,7 +181,7 @@ fn consider<'a, A: Allocator + Copy, G: FragmentGrammar, M: Fn(Span) -> Span + C
     if rule.style != call_style {
         return Ok(Considered::OtherStyle);
     }
-    let tried = try_rule(alloc, grammar, rule, input, marker, call_site)?;
+    let tried = try_rule(alloc, grammar, rule, input, trees, marker, call_site)?;
     match tried {
         Tried::Applies(tree) => Ok(Considered::Applies(tree, arm_index(idx))),
         Tried::Fails(nearness, remains) => Ok(Considered::Fails(Candidate {
@@ -205,8 +217,34 @@ fn nearer<'a, A: Allocator>(
     }
 }
 
-// What a rule comes to.
+// What a rule comes to, in a call of so many trees.
 fn try_rule<'a, A: Allocator + Copy, G: FragmentGrammar, M: Fn(Span) -> Span + Copy>(
+    alloc: A,
+    grammar: &G,
+    rule: &'a Rule<A>,
+    input: &'a TopSubtree<A>,
+    trees: usize,
+    marker: M,
+    call_site: Span,
+) -> Result<Tried<'a, A>, AllocError>
+    requires checked { Checked (template_of rule.now.lhs) }
+    requires trees { trees ≡ tree_count input.now.1 }
+    requires may_mark { MayMark (M.pre marker) }
+    ensures { IfOk result (IsTried (G.grammar grammar.now) (M.post marker) call_site input.now
+        (rule_of rule.now)) }
+{
+    if begins_otherwise(&rule.lhs, input.iter().remaining()) {
+        let nearness = Nearness {
+            unmatched: trees,
+            bound: 0,
+        };
+        return Ok(Tried::Fails(nearness, Remains::Unlike));
+    }
+    match_rule(alloc, grammar, rule, input, marker, call_site)
+}
+
+// What the match of a rule comes to, and what it writes.
+fn match_rule<'a, A: Allocator + Copy, G: FragmentGrammar, M: Fn(Span) -> Span + Copy>(
     alloc: A,
     grammar: &G,
     rule: &'a Rule<A>,
@@ -258,15 +296,17 @@ fn recovered<A: Allocator + Copy, G: FragmentGrammar, M: Fn(Span) -> Span + Copy
     alloc: A,
     grammar: &G,
     candidate: Candidate<'_, A>,
+    input: &TopSubtree<A>,
     marker: M,
     call_site: Span,
 ) -> Result<ExpandResult<(TopSubtree<A>, MatchedArmIndex), A>, AllocError>
-    requires { MayMark (M.pre marker) }
+    requires may_mark { MayMark (M.pre marker) }
+    requires remains { IsRemains (G.grammar grammar.now) (M.post marker) call_site input.now
+        (rule_of candidate.rule.now) candidate.remains }
     ensures index { IfOk result (λ r. r.value.1 ≡ arm_of candidate.entry.idx) }
-    ensures recovered { let rule = rule_of candidate.entry.rule.now in
-        (input : Top) → IsRemains (G.grammar grammar.now) (M.post marker) call_site input rule
-        candidate.entry.remains → IfOk result (λ r. IsRecovered (G.grammar grammar.now) call_site
-        input (M.post marker) rule (top_group r.value.0) (errors_of r.err)) }
+    ensures recovered { IfOk result (λ r. IsRecovered (G.grammar grammar.now) call_site
+        input.now (M.post marker) (rule_of candidate.entry.rule.now) (top_group r.value.0)
+        (errors_of r.err)) }
 {
     let Candidate {
         idx,
@@ -280,15 +320,60 @@ fn recovered<A: Allocator + Copy, G: FragmentGrammar, M: Fn(Span) -> Span + Copy
             value: (tree, index),
             err: Some(err),
         }),
-        Remains::Unfit(bindings, err) => {
-            let written = transcribe(alloc, grammar, &rule.rhs, &bindings, marker, call_site)?;
-            let ValueResult { value, err: _ } = written;
-            Ok(ValueResult {
-                value: (value, index),
-                err: Some(err),
-            })
+        Remains::Unfit(bound, err) => {
+            beside_error(alloc, grammar, rule, index, &bound, err, marker, call_site)
         }
+        Remains::Unlike => unlike(alloc, grammar, rule, index, input, marker, call_site),
     }
+}
+
+// What is given of a rule that begins otherwise than the argument: nothing is bound.
+fn unlike<A: Allocator + Copy, G: FragmentGrammar, M: Fn(Span) -> Span + Copy>(
+    alloc: A,
+    grammar: &G,
+    rule: &Rule<A>,
+    index: MatchedArmIndex,
+    input: &TopSubtree<A>,
+    marker: M,
+    call_site: Span,
+) -> Result<ExpandResult<(TopSubtree<A>, MatchedArmIndex), A>, AllocError>
+    requires may_mark { MayMark (M.pre marker) }
+    requires checked { Checked (template_of rule.now.lhs) }
+    requires otherwise { begins_otherwise (template_of rule.now.lhs) input.now.1 ≡ true }
+    ensures index { IfOk result (λ r. r.value.1 ≡ index) }
+    ensures recovered { IfOk result (λ r. IsRecovered (G.grammar grammar.now) call_site
+        input.now (M.post marker) (rule_of rule.now) (top_group r.value.0) (errors_of r.err)) }
+{
+    let argument = input.iter().remaining();
+    let spans = input.top_subtree().delimiter.delim_span();
+    let err = error_at_start(alloc, grammar, &rule.lhs, argument, spans)?;
+    let bound = Bindings::new(alloc);
+    beside_error(alloc, grammar, rule, index, &bound, err, marker, call_site)
+}
+
+// What is written of a rule under what is bound, beside the error of its match.
+fn beside_error<A: Allocator + Copy, G: FragmentGrammar, M: Fn(Span) -> Span + Copy>(
+    alloc: A,
+    grammar: &G,
+    rule: &Rule<A>,
+    index: MatchedArmIndex,
+    bindings: &Bindings<'_, A>,
+    err: ExpandError<A>,
+    marker: M,
+    call_site: Span,
+) -> Result<ExpandResult<(TopSubtree<A>, MatchedArmIndex), A>, AllocError>
+    requires { MayMark (M.pre marker) }
+    ensures index { IfOk result (λ r. r.value.1 ≡ index) }
+    ensures err { IfOk result (λ r. errors_of r.err ≡ Some (error_of err)) }
+    ensures left { IfOk result (λ r. IsWhatIsLeft (G.grammar grammar.now) (M.post marker) call_site
+        (bound_by bindings.now) (template_of rule.now.rhs) (top_group r.value.0)) }
+{
+    let written = transcribe(alloc, grammar, &rule.rhs, bindings, marker, call_site)?;
+    let ValueResult { value, err: _ } = written;
+    Ok(ValueResult {
+        value: (value, index),
+        err: Some(err),
+    })
 }
 
 // No rule is of the style.

@@ -1,4 +1,5 @@
-use Rattle.std.proofs.Common.{◌≤◌, ◌+◌, subst, sym, Some}
+use Rattle.std.proofs.Common.{◌≤◌, ◌+◌, ◌∙◌, ap, subst, sym, Some}
+use Rattle.mbe_tt.specs.Trees.Tree.{tree_count}
 use Rattle.mbe_tt.specs.declared.span.Span.{Span}
 use Rattle.mbe_parser.specs.RuleViews.{rule_of, rules_seen}
 use Rattle.mbe.specs.Choice.{candidate_seen, IsCandidate}
@@ -10,6 +11,9 @@ pub consider-requires-clause-checked : goal.consider-requires-clause-checked
 consider-requires-clause-checked g c =
     let here = seen_at rule_of c.args.rules.now c.loop-idx.idx c.index-rules-idx.result c.loop-idx-test.true c.index-rules-idx.is in
     c.requires.checked c.loop-idx.idx (rule_of c.index-rules-idx.result) here
+
+pub consider-requires-clause-trees : goal.consider-requires-clause-trees
+consider-requires-clause-trees g c = c.len-trees.ensures ∙ ap tree_count (c.remaining.ensures ∙ c.iter.ensures)
 
 pub loop-idx-preserved-in-OtherStyle : goal.loop-idx-preserved-in-OtherStyle
 loop-idx-preserved-in-OtherStyle g c =

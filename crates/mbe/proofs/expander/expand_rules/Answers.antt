@@ -2,8 +2,11 @@ use Rattle.std.proofs.Common.{sym, ap, ◌∙◌, refl, is_some, true≢false}
 use Rattle.std.proofs.lemmas.Option.{none-some}
 use Rattle.mbe_parser.specs.RuleViews.{rules_seen}
 use Rattle.mbe.proofs.ChoiceLemmas.{contains_first}
-use Rattle.mbe.proofs.ClosestLemmas.{at_place, closest, ok_both, ok_three}
+use Rattle.mbe.proofs.ClosestLemmas.{at_place, closest, ok_both}
 use Rattle.mbe.proofs.expander.expand_rules.Goals as goal
+
+pub recovered-requires-clause-remains : goal.recovered-requires-clause-remains
+recovered-requires-clause-remains g c = (rw c.in-Closest.is at c.in_ok-choice.ensures).2
 
 pub returns-in-Expanded-clause-expands : goal.returns-in-Expanded-clause-expands
 returns-in-Expanded-clause-expands g c =
@@ -29,11 +32,11 @@ returns-in-Closest-clause-expands g c =
       recovers = λ e y s. (c.in-Closest.candidate.idx, closest h c.args.call_site c.args.input.now c.args.call_style rs c.in-Closest.candidate.idx _ it.1, index);
       no_rule = λ other. absurd (other (_, at_place rs _ _ it.1.styled.0, it.1.styled.1));
     })
-    c.recovered.ensures.index (c.recovered.ensures.recovered c.args.input.now it.2)
+    c.recovered.ensures.index c.recovered.ensures.recovered
 
 pub returns-in-Closest-clause-recovers : goal.returns-in-Closest-clause-recovers
 returns-in-Closest-clause-recovers g c =
     let it = rw c.in-Closest.is at c.in_ok-choice.ensures in
     ok_both c.recovered.result _ _ _
     (λ x index given e y s. record { place = c.in-Closest.candidate.idx; rule = _; nearest = it.1; named = index; recovered = given })
-    c.recovered.ensures.index (c.recovered.ensures.recovered c.args.input.now it.2)
+    c.recovered.ensures.index c.recovered.ensures.recovered

@@ -1,82 +1,17 @@
-use Rattle.std.proofs.Common.{◌≡◌, ◌≢◌, ◌∙◌, ap, sym, subst, refl, true, false, is_some, Some, inr, [], rules}
-use Rattle.std.proofs.lemmas.Bool.{true≢false}
-use Rattle.mbe_tt.specs.Trees.Top.{top_group}
+use Rattle.std.proofs.Common.{◌≡◌, ◌∙◌, ap, sym, refl}
 use Rattle.mbe_tt.specs.Views.View.{trees}
-use Rattle.mbe_tt.specs.declared.span.Span.{Span}
-use Rattle.mbe_tt.specs.declared.span.DelimSpan.{DelimSpan}
-use Rattle.mbe_semantics.specs.Readings.Verdict.{IsVerdict, unmatched, one_reading}
-use Rattle.mbe_semantics.specs.Bindings.Account.{run}
-use Rattle.mbe_semantics.specs.Bindings.Environment.{environment_of}
-use Rattle.mbe_semantics.specs.Writing.Substitution.{faults}
-use Rattle.mbe_laws.proofs.Bindings.CommandLemmas.{commands_bind_alike}
-use Rattle.mbe_ops.specs.Views.{template_of}
-use Rattle.mbe_log.specs.BindingViews.{bound_by}
-use Rattle.mbe_errors.specs.ErrorViews.{error_of, errors_of}
-use Rattle.mbe_matcher.specs.Matched.{verdict_seen, Binds}
-use Rattle.mbe_matcher.specs.Reports.{IsReported}
-use Rattle.mbe_transcriber.specs.Faults.{first_fault}
 use Rattle.mbe_parser.specs.RuleViews.{rule_of}
-use Rattle.mbe.specs.Recovering.{spans_of, IsFaulty}
-use Rattle.mbe.proofs.TriedLemmas.{unfit_of, unfit, faulty, applied}
+use Rattle.mbe_matcher.specs.Fronts.{begins_otherwise}
+use Rattle.mbe.proofs.TriedLemmas.{unlike_tried}
 use Rattle.mbe.proofs.expander.try_rule.Goals as goal
 
-pub returns-in-Some : goal.returns-in-Some
-returns-in-Some g c =
+pub returns-then-begins_otherwise : goal.returns-then-begins_otherwise
+returns-then-begins_otherwise g c =
     let h = g.G.FragmentGrammar.grammar c.args.grammar.now in
     let r = rule_of c.args.rule.now in
-    let m = c.in_ok-matched.ensures in
-    let v = verdict_seen c.in_ok-matched.matched.verdict in
-    let same : trees c.remaining-argument.result ≡ c.args.input.now.1 = c.remaining-argument.ensures ∙ c.iter.ensures in
-    let right = subst (λ f. IsVerdict h (template_of c.args.rule.now.lhs) f v) same m.verdict in
-    let left = c.nearness_of-nearness.ensures.left ∙ m.unmatched ∙ ap (λ f. unmatched f v) same in
-    let many : v ≢ one_reading = λ one. true≢false (sym (ap (λ e. is_some (errors_of e)) c.in-Some.is) ∙ m.err.1 one) in
-    let reported = rw c.in-Some.is at m.reports in
-    let u = unfit_of h c.args.call_site c.args.input.now r v right many _ same _ (search rules) _ _ _ reported (bound_by c.in_ok-bindings.bindings) c.in_ok-bindings.ensures in
-    let both = unfit h c.args.call_site c.args.input.now r v right _ left _ _ many u c.nearness_of-nearness.ensures.bound in
-    (both.0, both.1, u)
-
-pub returns-in-Some-err : goal.returns-in-Some-err
-returns-in-Some-err g c =
-    let h = g.G.FragmentGrammar.grammar c.args.grammar.now in
-    let r = rule_of c.args.rule.now in
-    let m = c.in_ok-matched.ensures in
-    let v = verdict_seen c.in_ok-matched.matched.verdict in
-    let same : trees c.remaining-argument.result ≡ c.args.input.now.1 = c.remaining-argument.ensures ∙ c.iter.ensures in
-    let right = subst (λ f. IsVerdict h (template_of c.args.rule.now.lhs) f v) same m.verdict in
-    let left = c.nearness_of-nearness.ensures.left ∙ m.unmatched ∙ ap (λ f. unmatched f v) same in
-    let one : v ≡ one_reading = m.err.0 (ap (λ e. is_some (errors_of e)) c.in_default.is) in
-    let binds = subst (λ f. Binds h (template_of c.args.rule.now.lhs) f c.match_argument.new.log c.in_ok-matched.matched.bindings) same (m.binds one) in
-    let bound : bound_by c.in_ok-bindings.bindings ≡ environment_of binds.0 =
-    c.in_ok-bindings.ensures binds.2.0 binds.2.1 ∙ ap (λ cs. run cs []) binds.2.2
-    ∙ commands_bind_alike h (template_of c.args.rule.now.lhs) c.args.input.now.1 binds.0 binds.1.1.0 in
-    let fault : faults (bound_by c.in_ok-bindings.bindings) [] (template_of c.args.rule.now.rhs) ≡ true = sym c.in_ok-written.ensures.fault ∙ ap is_some c.in-Some-err.is in
-    let first : first_fault c.args.call_site (bound_by c.in_ok-bindings.bindings) [] (template_of c.args.rule.now.rhs) ≡ Some (error_of c.in-Some-err.fault) =
-    sym c.in_ok-written.ensures.first ∙ ap errors_of c.in-Some-err.is in
-    let f : IsFaulty h c.args.call_site c.args.input.now r (error_of c.in-Some-err.fault) (bound_by c.in_ok-bindings.bindings) =
-    record { items = binds.0; fits = binds.1; bound = bound; fault = first } in
-    let both = faulty h c.args.call_site c.args.input.now r v right _ left _ _ f c.nearness_of-nearness.ensures.bound fault in (
-      both.0,
-      both.1,
-      record {
-        error = error_of c.in-Some-err.fault;
-        env = bound_by c.in_ok-bindings.bindings;
-        reported = refl;
-        fails = inr f;
-        left = c.in_ok-written.ensures.left;
-      },
-    )
-
-pub returns : goal.returns
-returns g c =
-    let h = g.G.FragmentGrammar.grammar c.args.grammar.now in
-    let m = c.in_ok-matched.ensures in
-    let v = verdict_seen c.in_ok-matched.matched.verdict in
-    let same : trees c.remaining-argument.result ≡ c.args.input.now.1 = c.remaining-argument.ensures ∙ c.iter.ensures in
-    let one : v ≡ one_reading = m.err.0 (ap (λ e. is_some (errors_of e)) c.in_default.is) in
-    let binds = subst (λ f. Binds h (template_of c.args.rule.now.lhs) f c.match_argument.new.log c.in_ok-matched.matched.bindings) same (m.binds one) in
-    let bound : bound_by c.in_ok-bindings.bindings ≡ environment_of binds.0 =
-    c.in_ok-bindings.ensures binds.2.0 binds.2.1 ∙ ap (λ cs. run cs []) binds.2.2
-    ∙ commands_bind_alike h (template_of c.args.rule.now.lhs) c.args.input.now.1 binds.0 binds.1.1.0 in
-    let faultless : faults (bound_by c.in_ok-bindings.bindings) [] (template_of c.args.rule.now.rhs) ≡ false = sym c.in_ok-written.ensures.fault ∙ ap is_some c.in-None.is in
-    applied h c.args.call_site c.args.input.now (rule_of c.args.rule.now) _ (top_group c.in_ok-written.written.value) binds.0 binds.1
-    (bound_by c.in_ok-bindings.bindings) bound faultless (c.in_ok-written.ensures.substitution faultless)
+    let same : trees c.remaining.result ≡ c.args.input.now.1 = c.remaining.ensures ∙ c.iter.ensures in
+    let law = g.met.G.FragmentGrammar.lawful c.args.grammar.now in
+    let other = sym (ap (begins_otherwise r.reads) same)
+    ∙ (sym c.begins_otherwise.ensures ∙ c.if-begins_otherwise.true) in
+    let both = unlike_tried h c.args.call_site c.args.input.now r law c.requires.checked other _ c.requires.trees refl in
+    (both.0, both.1, (c.requires.checked, other))

@@ -1,0 +1,43 @@
+use Rattle.std.proofs.Common.{◌≡◌, ◌∙◌, Some, ap, subst, inl, rules}
+use Rattle.mbe_tt.specs.Trees.Top.{top_group}
+use Rattle.mbe_tt.specs.Views.View.{trees}
+use Rattle.mbe_tt.specs.declared.span.Span.{Span}
+use Rattle.mbe_semantics.specs.Readings.Verdict.{stuck}
+use Rattle.mbe_semantics.specs.Bindings.Account.{no_commands}
+use Rattle.mbe_ops.specs.Views.{template_of}
+use Rattle.mbe_log.specs.BindingViews.{bound_by}
+use Rattle.mbe_errors.specs.ErrorViews.{error_of, errors_of}
+use Rattle.mbe_matcher.specs.Failures.{Reports}
+use Rattle.mbe_matcher.specs.Fronts.{begins_otherwise}
+use Rattle.mbe_matcher.proofs.MatchEnds.{both_ok}
+use Rattle.mbe_transcriber.specs.Beside.{IsWhatIsLeft}
+use Rattle.mbe_parser.specs.RuleViews.{rule_of}
+use Rattle.mbe.specs.Recovering.{spans_of, IsRecovered}
+use Rattle.mbe.proofs.TriedLemmas.{unlike}
+use Rattle.mbe.proofs.expander.unlike.Goals as goal
+
+pub error_at_start-requires-clause-otherwise : goal.error_at_start-requires-clause-otherwise
+error_at_start-requires-clause-otherwise g c =
+    ap (begins_otherwise (template_of c.args.rule.now.lhs)) (c.remaining-argument.ensures ∙ c.iter.ensures)
+    ∙ c.requires.otherwise
+
+pub returns-clause-recovered : goal.returns-clause-recovered
+returns-clause-recovered g c =
+    let h = g.G.FragmentGrammar.grammar c.args.grammar.now in
+    let marks = λ (s t : Span). g.M.Fn.post c.args.marker (s, tt) t in
+    let r = rule_of c.args.rule.now in
+    let err = error_of c.in_ok-err.err in
+    let env = bound_by c.new-bound.result in
+    let same : trees c.remaining-argument.result ≡ c.args.input.now.1 =
+    c.remaining-argument.ensures ∙ c.iter.ensures in
+    let around : c.delim_span-spans.result ≡ spans_of c.args.input.now.0 = search rules in
+    let reported = subst (λ d. Reports h r.reads c.args.input.now.1 d (stuck 0) err no_commands) around
+    (subst (λ f. Reports h r.reads f c.delim_span-spans.result (stuck 0) err no_commands) same c.in_ok-err.ensures) in
+    let law = g.met.G.FragmentGrammar.lawful c.args.grammar.now in
+    let fails = unlike h c.args.call_site c.args.input.now r law c.requires.checked c.requires.otherwise
+    err env reported c.new-bound.ensures in
+    both_ok c.beside_error.result (λ x. errors_of x.err ≡ Some err)
+    (λ x. IsWhatIsLeft h marks c.args.call_site env r.writes (top_group x.value.0))
+    (λ x. IsRecovered h c.args.call_site c.args.input.now marks r (top_group x.value.0) (errors_of x.err))
+    (λ x is left. record { error = err; env = env; reported = is; fails = inl fails; left = left })
+    c.beside_error.ensures.err c.beside_error.ensures.left
