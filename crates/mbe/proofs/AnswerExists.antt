@@ -80,16 +80,21 @@ module _ (g : Grammar) (lawful : IsLawful g) (call_site : Span) (input : Top) wh
   -- ---- what a match notes
 
   module _ (pattern : Ops) (checked : Checked pattern) (v : Verdict) (right : IsVerdict g pattern input.1 v) where
-    kept_notes : (k q : ℕ) (os ps : List Outline) (before : Notes) → EndsFollow (input_of g input.1) pattern q os ps before → stop_of input.1 v ≤ q + k → q ≤ stop_of input.1 v
+    kept_notes : (k q : ℕ) (os ps : List Outline) (before : Notes)
+        → EndsFollow (input_of g input.1) pattern q os ps before → stop_of input.1 v ≤ q + k → q ≤ stop_of input.1 v
         → (notes : Notes) × AreKeptNotes (input_of g input.1) pattern (stop_of input.1 v) notes
     kept_notes zero q os ps before f far near =
         let same : q ≡ stop_of input.1 v = omega (arith, far, near) in
         (_, (os, ps, before, subst (λ p. EndsFollow (input_of g input.1) pattern p os ps before) same f, refl))
-    kept_notes (suc k) q os ps before f far near = go (cases_lt q (stop_of input.1 v)) (λ w e within some. kept_notes k (q + w) _ _ _ (follow_next q (q + w) w os ps before f e refl)
+    kept_notes (suc k) q os ps before f far near =
+        go (cases_lt q (stop_of input.1 v)) (λ w e within some. kept_notes k (q + w) _ _ _
+        (follow_next q (q + w) w os ps before f e refl)
         (omega (arith, far, some)) within)
       where
         go : (q < stop_of input.1 v) ⊎ (stop_of input.1 v ≤ q)
-            → ((w : ℕ) → first_width (first_moves (input_of g input.1) (dots pattern) q os) ≡ Some w → q + w ≤ stop_of input.1 v → 0 < w → (notes : Notes) × AreKeptNotes (input_of g input.1) pattern (stop_of input.1 v) notes)
+            → ((w : ℕ) → first_width (first_moves (input_of g input.1) (dots pattern) q os) ≡ Some w
+            → q + w ≤ stop_of input.1 v → 0 < w
+            → (notes : Notes) × AreKeptNotes (input_of g input.1) pattern (stop_of input.1 v) notes)
             → (notes : Notes) × AreKeptNotes (input_of g input.1) pattern (stop_of input.1 v) notes
         go (inl l) more =
             let s = goes_on g pattern input.1 lawful checked v right q os ps before f l in
@@ -122,17 +127,22 @@ module _ (g : Grammar) (lawful : IsLawful g) (call_site : Span) (input : Top) wh
   unfit_fails r checked v right many =
       let (err, bound, reports) = reports_exist r.reads checked v right in
       let env : Environment = run bound [] in
-      let u : IsUnfit g call_site input r err env = record { verdict = v; judged = right; unfit = many; commands = bound; reported = reports; bound = refl } in
+      let u : IsUnfit g call_site input r err env =
+      record { verdict = v; judged = right; unfit = many; commands = bound; reported = reports; bound = refl } in
       let near : Nearness = record { unmatched = unmatched input.1 v; bound = min (binding_total env) (2 ^ 64 - 1) } in
       let both = unfit g call_site input r v right near refl err env many u refl in
       (both.0, near, both.1, err, env, inl u)
 
-  faulty_fails : (r : Rule) (is : Items) → IsVerdict g r.reads input.1 one_reading → Fits g r.reads input.1 is → faults (environment_of is) [] r.writes ≡ true → Fails r
+  faulty_fails : (r : Rule) (is : Items) → IsVerdict g r.reads input.1 one_reading → Fits g r.reads input.1 is
+      → faults (environment_of is) [] r.writes ≡ true → Fails r
   faulty_fails r is right fits fault =
       let env : Environment = environment_of is in
       let (err, e) = some_of (first_fault call_site env [] r.writes) (first_some call_site env [] r.writes ∙ fault) in
       let f : IsFaulty g call_site input r err env = record { items = is; fits = fits; bound = refl; fault = e } in
-      let near : Nearness = record { unmatched = unmatched input.1 one_reading; bound = min (binding_total env) (2 ^ 64 - 1) } in
+      let near : Nearness = record {
+        unmatched = unmatched input.1 one_reading;
+        bound = min (binding_total env) (2 ^ 64 - 1);
+      } in
       let both = faulty g call_site input r one_reading right near refl err env f refl fault in
       (both.0, near, both.1, err, env, inr f)
 
@@ -140,12 +150,14 @@ module _ (g : Grammar) (lawful : IsLawful g) (call_site : Span) (input : Top) wh
   outcome r checked = let (v, right, only) = has_one_verdict g r.reads input.1 lawful checked in go v right
     where
       fitting : (is : Items) → IsVerdict g r.reads input.1 one_reading → Fits g r.reads input.1 is
-          → (faults (environment_of is) [] r.writes ≡ true) ⊎ (faults (environment_of is) [] r.writes ≡ false) → Applies g r.style input.1 r ⊎ Fails r
+          → (faults (environment_of is) [] r.writes ≡ true) ⊎ (faults (environment_of is) [] r.writes ≡ false)
+          → Applies g r.style input.1 r ⊎ Fails r
       fitting is right fits (inl fault) = inr (faulty_fails r is right fits fault)
       fitting is right fits (inr none) = inl (record { styled = refl; items = is; fits = fits; faultless = none })
 
       go : (v : Verdict) → IsVerdict g r.reads input.1 v → Applies g r.style input.1 r ⊎ Fails r
-      go one_reading right = fitting right.1.0 right (right.0, right.1.1) (cases_Bool (faults (environment_of right.1.0) [] r.writes))
+      go one_reading right = fitting right.1.0 right (right.0, right.1.1)
+          (cases_Bool (faults (environment_of right.1.0) [] r.writes))
       go many_readings right = inr (unfit_fails r checked many_readings right other_many)
       go (ambiguous q) right = inr (unfit_fails r checked (ambiguous q) right (other_ambiguous q))
       go (stuck q) right = inr (unfit_fails r checked (stuck q) right (other_stuck q))
@@ -158,24 +170,29 @@ module _ (g : Grammar) (lawful : IsLawful g) (call_site : Span) (input : Top) wh
 
     -- how the nearest so far fails
     abbrev IsKept : ℕ × Nearness → Type 0
-    IsKept b = (r : Rule) × IsStyledAt rs style b.0 r × (err : ExpandError) × (env : Environment) × FailsWith g call_site input r err env
+    IsKept b = (r : Rule) × IsStyledAt rs style b.0 r × (err : ExpandError) × (env : Environment)
+        × FailsWith g call_site input r err env
 
     -- none of the first so many applies, and of these the nearest is known
     abbrev Tried : ℕ → Type 0
-    Tried k = NoneApplies g style input.1 (take k rs) × (best : Option (ℕ × Nearness)) × IsSoFar g call_site input style rs k best × IfSome best IsKept
+    Tried k = NoneApplies g style input.1 (take k rs) × (best : Option (ℕ × Nearness))
+        × IsSoFar g call_site input style rs k best × IfSome best IsKept
 
     own_style : (r : Rule) → r.style ≡ style → Applies g style input.1 r → Applies g r.style input.1 r
     own_style r own a = record { styled = refl; items = a.items; fits = a.fits; faultless = a.faultless }
 
-    nearer : (k : ℕ) (r : Rule) (here : slice_get rs k ≡ Some r) (own : r.style ≡ style) → NoneApplies g style input.1 (take k rs) → Fails r
-        → (best : Option (ℕ × Nearness)) → IsSoFar g call_site input style rs k best → IfSome best IsKept → Tried (k + 1)
+    nearer : (k : ℕ) (r : Rule) (here : slice_get rs k ≡ Some r) (own : r.style ≡ style)
+        → NoneApplies g style input.1 (take k rs) → Fails r
+        → (best : Option (ℕ × Nearness)) → IsSoFar g call_site input style rs k best → IfSome best IsKept
+        → Tried (k + 1)
     nearer k r here own none (fails, near, is_near, err, env, why) None far kept = (
       none_more g style input.1 rs k r none here (λ a. fails (own_style r own a)),
       Some (k, near),
       so_far_first g call_site input style rs k r here near is_near far,
       (r, (here, own), err, env, why),
     )
-    nearer k r here own none (fails, near, is_near, err, env, why) (Some (n, b)) far kept = go (cases_Bool (is_nearer near b))
+    nearer k r here own none (fails, near, is_near, err, env, why) (Some (n, b)) far kept =
+        go (cases_Bool (is_nearer near b))
       where
         go : (is_nearer near b ≡ true) ⊎ (is_nearer near b ≡ false) → Tried (k + 1)
         go (inl t) = (
@@ -202,7 +219,8 @@ module _ (g : Grammar) (lawful : IsLawful g) (call_site : Span) (input : Top) wh
           kept,
         )
         go (inl own) (inl a) =
-            let b : Applies g style input.1 r = record { styled = own; items = a.items; fits = a.fits; faultless = a.faultless } in
+            let b : Applies g style input.1 r =
+            record { styled = own; items = a.items; fits = a.fits; faultless = a.faultless } in
             inl (k, r, b, first_at g style input.1 rs k r b none here)
         go (inl own) (inr fails) = inr (nearer k r here own none fails best far kept)
 
@@ -218,7 +236,8 @@ module _ (g : Grammar) (lawful : IsLawful g) (call_site : Span) (input : Top) wh
 
     module _ (Marks : Span → Span → Type 0) (some : HasSomeSpan Marks) where
       abbrev Answer : Type 0
-      Answer = (out : Forest) × (index : Option ℕ) × (err : Option ExpandError) × IsAnswer g Marks rs style input call_site out index err
+      Answer = (out : Forest) × (index : Option ℕ) × (err : Option ExpandError)
+          × IsAnswer g Marks rs style input call_site out index err
 
       expanded : Found → Answer
       expanded (n, r, a, first) =
@@ -283,4 +302,5 @@ module _ (g : Grammar) (lawful : IsLawful g) (call_site : Span) (input : Top) wh
 
 pub has_answer : (Marks : Span → Span → Type 0) → HasAnswer Marks
 has_answer Marks some g rs style input call_site lawful all =
-    answered g lawful call_site input style rs all Marks some (search_to g lawful call_site input style rs all (length rs) (omega arith))
+    answered g lawful call_site input style rs all Marks some
+    (search_to g lawful call_site input style rs all (length rs) (omega arith))

@@ -68,7 +68,8 @@ has_style (x ∷ rs) style = go (same_style x.style style) (has_style rs style)
     one other none (r, (zero, l, e), s) = other (ap (λ (y : Rule). y.style) e ∙ s)
     one other none (r, (suc k, l, e), s) = none (r, (k, omega (arith, l), e), s)
 
-    go : (x.style ≡ style) ⊎ (x.style ≢ style) → HasStyle rs style ⊎ (HasStyle rs style → ⊥) → HasStyle (x ∷ rs) style ⊎ (HasStyle (x ∷ rs) style → ⊥)
+    go : (x.style ≡ style) ⊎ (x.style ≢ style) → HasStyle rs style ⊎ (HasStyle rs style → ⊥)
+        → HasStyle (x ∷ rs) style ⊎ (HasStyle (x ∷ rs) style → ⊥)
     go (inl s) h = inl (x, (0, omega arith, refl), s)
     go (inr s) (inl h) = inl (later h)
     go (inr s) (inr h) = inr (one s h)
@@ -76,87 +77,108 @@ has_style (x ∷ rs) style = go (same_style x.style style) (has_style rs style)
 -- ---- a rule that doesn't apply
 
 module _ (g : Grammar) (lawful : IsLawful g) (call_site : Span) (input : Top) where
-  reports_same : (r : Rule) (v w : Verdict) → v ≡ w → (err other : ExpandError) (bound held : Commands) → Reports g r.reads input.1 (spans_of input.0) v err bound
+  reports_same : (r : Rule) (v w : Verdict) → v ≡ w → (err other : ExpandError) (bound held : Commands)
+      → Reports g r.reads input.1 (spans_of input.0) v err bound
       → Reports g r.reads input.1 (spans_of input.0) w other held → (err ≡ other) × (bound ≡ held)
   reports_same r v w same err other bound held a b =
       let at : stop_of input.1 v ≡ stop_of input.1 w = ap (stop_of input.1) same in
-      let notes : a.notes ≡ b.notes = notes_once (input_of g input.1) (flat_len input.1) (lawful_inputs g input.1 lawful) r.reads (stop_of input.1 w) a.notes b.notes
+      let notes : a.notes ≡ b.notes = notes_once (input_of g input.1) (flat_len input.1)
+      (lawful_inputs g input.1 lawful) r.reads (stop_of input.1 w) a.notes b.notes
       (subst (λ q. AreNotes (input_of g input.1) r.reads q a.notes) at a.noted) b.noted in (
         a.error ∙ ap (λ q. error_of_notes g input.1 (spans_of input.0) (q == flat_len input.1) a.notes) at
-            ∙ ap (error_of_notes g input.1 (spans_of input.0) (stop_of input.1 w == flat_len input.1)) notes ∙ sym b.error,
+            ∙ ap (error_of_notes g input.1 (spans_of input.0) (stop_of input.1 w == flat_len input.1)) notes
+            ∙ sym b.error,
         a.bindings ∙ ap (λ (n : Notes). commands_of_notes g input.1 n.last) notes ∙ sym b.bindings,
       )
 
-  unfit_same : (r : Rule) (err other : ExpandError) (env more : Environment) → IsUnfit g call_site input r err env → IsUnfit g call_site input r other more
+  unfit_same : (r : Rule) (err other : ExpandError) (env more : Environment) → IsUnfit g call_site input r err env
+      → IsUnfit g call_site input r other more
       → (err ≡ other) × (env ≡ more)
   unfit_same r err other env more u v =
       let same : u.verdict ≡ v.verdict = one_verdict g r.reads input.1 u.verdict v.verdict u.judged v.judged in
       let reported = reports_same r u.verdict v.verdict same err other u.commands v.commands u.reported v.reported in
       (reported.0, u.bound ∙ ap (λ cs. run cs []) reported.1 ∙ sym v.bound)
 
-  faulty_same : (r : Rule) (err other : ExpandError) (env more : Environment) → IsFaulty g call_site input r err env → IsFaulty g call_site input r other more
+  faulty_same : (r : Rule) (err other : ExpandError) (env more : Environment) → IsFaulty g call_site input r err env
+      → IsFaulty g call_site input r other more
       → (err ≡ other) × (env ≡ more)
   faulty_same r err other env more f h =
       let same : env ≡ more = f.bound ∙ ap environment_of (h.fits.1.1 f.items f.fits.1.0) ∙ sym h.bound in
       (same_Some err other (sym f.fault ∙ ap (λ e. first_fault call_site e [] r.writes) same ∙ h.fault), same)
 
-  fails_same : (r : Rule) (err other : ExpandError) (env more : Environment) → FailsWith g call_site input r err env → FailsWith g call_site input r other more
+  fails_same : (r : Rule) (err other : ExpandError) (env more : Environment) → FailsWith g call_site input r err env
+      → FailsWith g call_site input r other more
       → (err ≡ other) × (env ≡ more)
   fails_same r err other env more (inl u) (inl v) = unfit_same r err other env more u v
-  fails_same r err other env more (inl u) (inr f) = absurd (u.unfit (fits_alone g r input.1 u.verdict u.judged f.items f.fits))
-  fails_same r err other env more (inr f) (inl u) = absurd (u.unfit (fits_alone g r input.1 u.verdict u.judged f.items f.fits))
+  fails_same r err other env more (inl u) (inr f) =
+      absurd (u.unfit (fits_alone g r input.1 u.verdict u.judged f.items f.fits))
+  fails_same r err other env more (inr f) (inl u) =
+      absurd (u.unfit (fits_alone g r input.1 u.verdict u.judged f.items f.fits))
   fails_same r err other env more (inr f) (inr h) = faulty_same r err other env more f h
 
-  near_same : (r : Rule) (left bound less held : ℕ) → ComesNear g call_site input r left bound → ComesNear g call_site input r less held → (left ≡ less) × (bound ≡ held)
+  near_same : (r : Rule) (left bound less held : ℕ) → ComesNear g call_site input r left bound
+      → ComesNear g call_site input r less held → (left ≡ less) × (bound ≡ held)
   near_same r left bound less held c d =
       let (v, judged, e) = c.trees in
       let (w, right, k) = d.trees in
       let (err, env, fails, count) = c.bindings in
       let (other, more, breaks, total) = d.bindings in (
         e ∙ ap (unmatched input.1) (one_verdict g r.reads input.1 v w judged right) ∙ sym k,
-        count ∙ ap (λ x. min (binding_total x) (2 ^ 64 - 1)) (fails_same r err other env more fails breaks).1 ∙ sym total,
+        count ∙ ap (λ x. min (binding_total x) (2 ^ 64 - 1)) (fails_same r err other env more fails breaks).1
+            ∙ sym total,
       )
 
   -- ---- the closest
 
-  before_both : (left less bound held : ℕ → ℕ) (n m : ℕ) → left n ≡ less n → left m ≡ less m → bound n ≡ held n → bound m ≡ held m
+  before_both : (left less bound held : ℕ → ℕ) (n m : ℕ) → left n ≡ less n → left m ≡ less m → bound n ≡ held n
+      → bound m ≡ held m
       → GoesBefore left bound n m → GoesBefore less held m n → n ≡ m
   before_both left less bound held n m a b c d (inl l) (inl k) = absurd (omega (arith, a, b, l, k))
   before_both left less bound held n m a b c d (inl l) (inr (e, k)) = absurd (omega (arith, a, b, l, e))
   before_both left less bound held n m a b c d (inr (e, l)) (inl k) = absurd (omega (arith, a, b, e, k))
   before_both left less bound held n m a b c d (inr (e, inl l)) (inr (h, inl k)) = absurd (omega (arith, c, d, l, k))
-  before_both left less bound held n m a b c d (inr (e, inl l)) (inr (h, inr (k, o))) = absurd (omega (arith, c, d, l, k))
-  before_both left less bound held n m a b c d (inr (e, inr (l, p))) (inr (h, inl k)) = absurd (omega (arith, c, d, l, k))
+  before_both left less bound held n m a b c d (inr (e, inl l)) (inr (h, inr (k, o))) =
+      absurd (omega (arith, c, d, l, k))
+  before_both left less bound held n m a b c d (inr (e, inr (l, p))) (inr (h, inl k)) =
+      absurd (omega (arith, c, d, l, k))
   before_both left less bound held n m a b c d (inr (e, inr (l, p))) (inr (h, inr (k, o))) = omega (arith, p, o)
 
-  nearest_same : (style : MacroCallStyle) (rs : List Rule) (n m : ℕ) (r s : Rule) → IsNearest g call_site input style rs n r → IsNearest g call_site input style rs m s → (n ≡ m) × (r ≡ s)
+  nearest_same : (style : MacroCallStyle) (rs : List Rule) (n m : ℕ) (r s : Rule)
+      → IsNearest g call_site input style rs n r → IsNearest g call_site input style rs m s → (n ≡ m) × (r ≡ s)
   nearest_same style rs n m r s h k =
       let a = near_same r (h.left n) (h.bound n) (k.left n) (k.bound n) (h.near n r h.styled) (k.near n r h.styled) in
       let b = near_same s (h.left m) (h.bound m) (k.left m) (k.bound m) (h.near m s k.styled) (k.near m s k.styled) in
-      let same : n ≡ m = before_both h.left k.left h.bound k.bound n m a.0 b.0 a.1 b.1 (h.first m s k.styled) (k.first n r h.styled) in
+      let same : n ≡ m = before_both h.left k.left h.bound k.bound n m a.0 b.0 a.1 b.1 (h.first m s k.styled)
+      (k.first n r h.styled) in
       (same, same_Some r s (sym h.styled.0 ∙ ap (slice_get rs) same ∙ k.styled.0))
 
   module _ (Marks : Span → Span → Type 0) (fn : HasOneAnswer Marks) where
-    recovered_same : (r : Rule) (out other : Forest) (err reported : Option ExpandError) → IsRecovered g call_site input Marks r out err
+    recovered_same : (r : Rule) (out other : Forest) (err reported : Option ExpandError)
+        → IsRecovered g call_site input Marks r out err
         → IsRecovered g call_site input Marks r other reported → (out ≡ other) × (err ≡ reported)
     recovered_same r out other err reported a b =
         let same = fails_same r a.error b.error a.env b.env a.fails b.fails in (
-          left_same g Marks call_site fn b.env r.writes out other (subst (λ e. IsWhatIsLeft g Marks call_site e r.writes out) same.1 a.left) b.left,
+          left_same g Marks call_site fn b.env r.writes out other
+              (subst (λ e. IsWhatIsLeft g Marks call_site e r.writes out) same.1 a.left) b.left,
           a.reported ∙ ap Some same.0 ∙ sym b.reported,
         )
 
-    recovery_same : (rs : List Rule) (style : MacroCallStyle) (out other : Forest) (index place : Option ℕ) (err reported : Option ExpandError)
-        → IsRecovery g call_site input Marks rs style out index err → IsRecovery g call_site input Marks rs style other place reported
+    recovery_same : (rs : List Rule) (style : MacroCallStyle) (out other : Forest) (index place : Option ℕ)
+        (err reported : Option ExpandError)
+        → IsRecovery g call_site input Marks rs style out index err
+        → IsRecovery g call_site input Marks rs style other place reported
         → (out ≡ other) × (index ≡ place) × (err ≡ reported)
     recovery_same rs style out other index place err reported a b =
         let same = nearest_same style rs a.place b.place a.rule b.rule a.nearest b.nearest in
-        let whole = recovered_same b.rule out other err reported (subst (λ r. IsRecovered g call_site input Marks r out err) same.1 a.recovered) b.recovered in
+        let whole = recovered_same b.rule out other err reported
+        (subst (λ r. IsRecovered g call_site input Marks r out err) same.1 a.recovered) b.recovered in
         (whole.0, a.named ∙ ap arm_of same.0 ∙ sym b.named, whole.1)
 
 -- ---- all answers
 
 -- some rule applies, of which there is an expansion
-applying : (g : Grammar) (style : MacroCallStyle) (argument : Forest) (Marks : Span → Span → Type 0) (call_site : Span) (rs : List Rule) (n : ℕ) (out : Forest)
+applying : (g : Grammar) (style : MacroCallStyle) (argument : Forest) (Marks : Span → Span → Type 0) (call_site : Span)
+    (rs : List Rule) (n : ℕ) (out : Forest)
     → IsExpansion g style argument Marks call_site rs n out → (r : Rule) × Contains rs r × Applies g style argument r
 applying g style argument Marks call_site rs n out (r, a, first, w) = (r, contains_first g style argument first, a)
 
@@ -174,10 +196,12 @@ one_answer Marks fn g rs style input call_site out other index place (Some e) No
     let (n, x, i) = b.expands.sound refl in
     let (r, c, y) = applying g style input.1 Marks call_site rs n other x in
     absurd (true≢false (a.expands.complete r c y))
-one_answer Marks fn g rs style input call_site out other index place (Some e) (Some f) lawful a b = go (has_style rs style)
+one_answer Marks fn g rs style input call_site out other index place (Some e) (Some f) lawful a b =
+    go (has_style rs style)
   where
     go : HasStyle rs style ⊎ (HasStyle rs style → ⊥) → (out ≡ other) × (index ≡ place) × (Some e ≡ Some f)
-    go (inl h) = recovery_same g lawful call_site input Marks fn rs style out other index place (Some e) (Some f) (a.recovers e refl h) (b.recovers f refl h)
+    go (inl h) = recovery_same g lawful call_site input Marks fn rs style out other index place (Some e) (Some f)
+        (a.recovers e refl h) (b.recovers f refl h)
     go (inr h) =
         let (t, n, r) = a.expands.no_rule h in
         let (u, m, s) = b.expands.no_rule h in

@@ -19,39 +19,47 @@ module _ (g : Grammar) (style : MacroCallStyle) (argument : Forest) where
   NoneApplies (r ∷ rs) = (Applies g style argument r → ⊥) × NoneApplies rs
 
 module _ (g : Grammar) (style : MacroCallStyle) (argument : Forest) where
-  pub first_at : (rs : List Rule) (n : ℕ) (r : Rule) (a : Applies g style argument r) → NoneApplies g style argument (take n rs) → slice_get rs n ≡ Some r
+  pub first_at : (rs : List Rule) (n : ℕ) (r : Rule) (a : Applies g style argument r)
+      → NoneApplies g style argument (take n rs) → slice_get rs n ≡ Some r
       → FirstThatApplies g style argument rs n r a
   first_at [] n r a before e = absurd (none-some r e)
   first_at (x ∷ rs) zero r a before e =
       subst (λ (y : Rule). FirstThatApplies g style argument (y ∷ rs) 0 r a) (sym (same_Some x r e)) (this_one r rs a)
   first_at (x ∷ rs) (suc n) r a before e = a_later_one x r rs n (suc n) a before.0 (first_at rs n r a before.1 e) refl
 
-  none_at : (rs : List Rule) (r : Rule) → NoneApplies g style argument rs → (k : ℕ) → k < length rs → slice_index_or rs k r ≡ r → Applies g style argument r → ⊥
+  none_at : (rs : List Rule) (r : Rule) → NoneApplies g style argument rs → (k : ℕ) → k < length rs
+      → slice_index_or rs k r ≡ r → Applies g style argument r → ⊥
   none_at [] r n k l e a = absurd (omega (arith, l))
   none_at (x ∷ rs) r n zero l e a = n.0 (subst (Applies g style argument) (sym e) a)
   none_at (x ∷ rs) r n (suc k) l e a = none_at rs r n.1 k (omega arith) e a
 
-  pub none_contained : (rs : List Rule) (r : Rule) → NoneApplies g style argument rs → Contains rs r → Applies g style argument r → ⊥
+  pub none_contained : (rs : List Rule) (r : Rule) → NoneApplies g style argument rs → Contains rs r
+      → Applies g style argument r → ⊥
   none_contained rs r n c a = none_at rs r n c.0 c.1 c.2 a
 
-  more_at : (rs : List Rule) (n : ℕ) (r : Rule) → NoneApplies g style argument (take n rs) → slice_get rs n ≡ Some r → (Applies g style argument r → ⊥)
+  more_at : (rs : List Rule) (n : ℕ) (r : Rule) → NoneApplies g style argument (take n rs) → slice_get rs n ≡ Some r
+      → (Applies g style argument r → ⊥)
       → NoneApplies g style argument (take (suc n) rs)
   more_at [] n r before e h = tt
   more_at (x ∷ rs) zero r before e h = (λ a. h (subst (Applies g style argument) (same_Some x r e) a), tt)
   more_at (x ∷ rs) (suc n) r before e h = (before.0, more_at rs n r before.1 e h)
 
   -- one rule more that doesn't apply
-  pub none_more : (rs : List Rule) (n : ℕ) (r : Rule) → NoneApplies g style argument (take n rs) → slice_get rs n ≡ Some r → (Applies g style argument r → ⊥)
+  pub none_more : (rs : List Rule) (n : ℕ) (r : Rule) → NoneApplies g style argument (take n rs)
+      → slice_get rs n ≡ Some r → (Applies g style argument r → ⊥)
       → NoneApplies g style argument (take (n + 1) rs)
   none_more rs n r before e h = rw add-one (more_at rs n r before e h)
 
   -- the first one that applies is one of them
-  pub contains_first : {rs : List Rule} {n : ℕ} {r : Rule} {a : Applies g style argument r} → FirstThatApplies g style argument rs n r a → Contains rs r
+  pub contains_first : {rs : List Rule} {n : ℕ} {r : Rule} {a : Applies g style argument r}
+      → FirstThatApplies g style argument rs n r a → Contains rs r
   contains_first (this_one r rs a) = (0, omega arith, refl)
-  contains_first (a_later_one r s rs n m a not_r f e) = let c = contains_first f in (suc c.0, let l = c.1 in omega (arith, l), c.2)
+  contains_first (a_later_one r s rs n m a not_r f e) = let c =
+      contains_first f in (suc c.0, let l = c.1 in omega (arith, l), c.2)
 
 -- a member seen by a function
-pub seen_at : {X Y : Type 0} (f : X → Y) (xs : List X) (i : ℕ) (x : X) → i < length xs → x ≡ slice_index_or xs i x → slice_get (map f xs) i ≡ Some (f x)
+pub seen_at : {X Y : Type 0} (f : X → Y) (xs : List X) (i : ℕ) (x : X) → i < length xs → x ≡ slice_index_or xs i x
+    → slice_get (map f xs) i ≡ Some (f x)
 seen_at f [] i x l e = absurd (omega (arith, l))
 seen_at f (y ∷ ys) zero x l e = ap (λ z. Some (f z)) (sym e)
 seen_at f (y ∷ ys) (suc i) x l e = seen_at f ys i x (omega arith) e

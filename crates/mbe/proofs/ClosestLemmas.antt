@@ -56,7 +56,8 @@ placed (x ∷ xs) zero r l e = ap Some e
 placed (x ∷ xs) (suc m) r l e = placed xs m r (omega (arith, l)) e
 
 -- the same by other names of the numbers
-moved : (g : Grammar) (call_site : Span) (input : Top) (r : Rule) (left bound other more : ℕ) → left ≡ other → bound ≡ more
+moved : (g : Grammar) (call_site : Span) (input : Top) (r : Rule) (left bound other more : ℕ) → left ≡ other
+    → bound ≡ more
     → ComesNear g call_site input r other more → ComesNear g call_site input r left bound
 moved g call_site input r left bound other more e f x = rw (e, f) x
 
@@ -68,7 +69,8 @@ module _ (g : Grammar) (call_site : Span) (input : Top) (style : MacroCallStyle)
     pub before : n < k
     pub its_left : left n ≡ near.unmatched
     pub its_bound : bound n ≡ near.bound
-    pub near_all : (m : ℕ) (r : Rule) → m < k → IsStyledAt rs style m r → ComesNear g call_site input r (left m) (bound m)
+    pub near_all : (m : ℕ) (r : Rule) → m < k → IsStyledAt rs style m r
+        → ComesNear g call_site input r (left m) (bound m)
     pub first : (m : ℕ) (r : Rule) → m < k → IsStyledAt rs style m r → GoesBefore left bound n m
 
   -- it is known, if some of them is of the style
@@ -81,7 +83,8 @@ module _ (g : Grammar) (call_site : Span) (input : Top) (style : MacroCallStyle)
 
   module _ (k : ℕ) (r : Rule) (here : slice_get rs k ≡ Some r) where
     -- what holds of the rules before, and of this one, holds of one more
-    one_more : (P : ℕ → Rule → Type 0) → ((m : ℕ) (s : Rule) → m < k → IsStyledAt rs style m s → P m s) → (r.style ≡ style → P k r)
+    one_more : (P : ℕ → Rule → Type 0) → ((m : ℕ) (s : Rule) → m < k → IsStyledAt rs style m s → P m s)
+        → (r.style ≡ style → P k r)
         → (m : ℕ) (s : Rule) → m < k + 1 → IsStyledAt rs style m s → P m s
     one_more P f p m s l a = go (cases_lt m k)
       where
@@ -100,7 +103,8 @@ module _ (g : Grammar) (call_site : Span) (input : Top) (style : MacroCallStyle)
       before = let b = h.before in omega (arith, b);
       its_left = h.its_left;
       its_bound = h.its_bound;
-      near_all = one_more (λ m s. ComesNear g call_site input s (h.left m) (h.bound m)) h.near_all (λ e. absurd (other e));
+      near_all = one_more (λ m s. ComesNear g call_site input s (h.left m) (h.bound m)) h.near_all
+          (λ e. absurd (other e));
       first = one_more (λ m s. GoesBefore h.left h.bound n m) h.first (λ e. absurd (other e));
     }
 
@@ -112,21 +116,27 @@ module _ (g : Grammar) (call_site : Span) (input : Top) (style : MacroCallStyle)
         before = omega arith;
         its_left = refl;
         its_bound = refl;
-        near_all = one_more (λ m s. ComesNear g call_site input s near.unmatched near.bound) (λ m s l a. absurd (h m s l a)) (λ e. is_near);
-        first = one_more (λ m s. GoesBefore (λ i. near.unmatched) (λ i. near.bound) k m) (λ m s l a. absurd (h m s l a)) (λ e. inr (refl, inr (refl, omega arith)));
+        near_all = one_more (λ m s. ComesNear g call_site input s near.unmatched near.bound)
+            (λ m s l a. absurd (h m s l a)) (λ e. is_near);
+        first = one_more (λ m s. GoesBefore (λ i. near.unmatched) (λ i. near.bound) k m) (λ m s l a. absurd (h m s l a))
+            (λ e. inr (refl, inr (refl, omega arith)));
       }
 
       module _ (n : ℕ) (best : Nearness) (h : IsClosestSoFar k n best) where
         all_near : (m : ℕ) (s : Rule) → m < k + 1 → IsStyledAt rs style m s
             → ComesNear g call_site input s (put h.left k near.unmatched m) (put h.bound k near.bound m)
-        all_near = one_more (λ m s. ComesNear g call_site input s (put h.left k near.unmatched m) (put h.bound k near.bound m))
-            (λ m s l a. moved g call_site input s (put h.left k near.unmatched m) (put h.bound k near.bound m) (h.left m) (h.bound m)
+        all_near = one_more (λ m s. ComesNear g call_site input s (put h.left k near.unmatched m)
+            (put h.bound k near.bound m))
+            (λ m s l a. moved g call_site input s (put h.left k near.unmatched m) (put h.bound k near.bound m)
+            (h.left m) (h.bound m)
             (put_before h.left k near.unmatched m l) (put_before h.bound k near.bound m l) (h.near_all m s l a))
-            (λ e. moved g call_site input r (put h.left k near.unmatched k) (put h.bound k near.bound k) near.unmatched near.bound
+            (λ e. moved g call_site input r (put h.left k near.unmatched k) (put h.bound k near.bound k) near.unmatched
+            near.bound
             (put_here h.left k near.unmatched) (put_here h.bound k near.bound) is_near)
 
         -- the order by the numbers as they were put
-        order : (i m a b c d : ℕ) → put h.left k near.unmatched i ≡ a → put h.left k near.unmatched m ≡ b → put h.bound k near.bound i ≡ c → put h.bound k near.bound m ≡ d
+        order : (i m a b c d : ℕ) → put h.left k near.unmatched i ≡ a → put h.left k near.unmatched m ≡ b
+            → put h.bound k near.bound i ≡ c → put h.bound k near.bound m ≡ d
             → Before a b c d i m → GoesBefore (put h.left k near.unmatched) (put h.bound k near.bound) i m
         order i m a b c d e f p q x = rw (e, f, p, q) x
 
@@ -137,13 +147,16 @@ module _ (g : Grammar) (call_site : Span) (input : Top) (style : MacroCallStyle)
         was_bound = put_before h.bound k near.bound n h.before ∙ h.its_bound
 
         -- the best stays before what it was before, by its own numbers
-        known : (m : ℕ) (s : Rule) → m < k → IsStyledAt rs style m s → Before best.unmatched (h.left m) best.bound (h.bound m) n m
-        known m s l a = let x : Before (h.left n) (h.left m) (h.bound n) (h.bound m) n m = h.first m s l a in rw (← h.its_left, ← h.its_bound) x
+        known : (m : ℕ) (s : Rule) → m < k → IsStyledAt rs style m s
+            → Before best.unmatched (h.left m) best.bound (h.bound m) n m
+        known m s l a = let x : Before (h.left n) (h.left m) (h.bound n) (h.bound m) n m =
+            h.first m s l a in rw (← h.its_left, ← h.its_bound) x
 
         not_nearer : is_nearer near best ≡ false → Before best.unmatched near.unmatched best.bound near.bound n k
         not_nearer far = go (cases_lt best.unmatched near.unmatched) (cases_lt near.bound best.bound)
           where
-            parts : (nat_lt near.unmatched best.unmatched ≡ false) × ((nat_eq near.unmatched best.unmatched && nat_lt best.bound near.bound) ≡ false)
+            parts : (nat_lt near.unmatched best.unmatched ≡ false)
+                × ((nat_eq near.unmatched best.unmatched && nat_lt best.bound near.bound) ≡ false)
             parts = or_parts _ _ far
 
             less : best.unmatched ≤ near.unmatched
@@ -152,18 +165,24 @@ module _ (g : Grammar) (call_site : Span) (input : Top) (style : MacroCallStyle)
             more : near.unmatched ≡ best.unmatched → near.bound ≤ best.bound
             more e = use_case (and_cases _ _ parts.1)
               where
-                use_case : (nat_eq near.unmatched best.unmatched ≡ false) ⊎ (nat_lt best.bound near.bound ≡ false) → near.bound ≤ best.bound
+                use_case : (nat_eq near.unmatched best.unmatched ≡ false) ⊎ (nat_lt best.bound near.bound ≡ false)
+                    → near.bound ≤ best.bound
                 use_case (inl x) = absurd (eqb-false near.unmatched best.unmatched x e)
                 use_case (inr x) = ltb-false best.bound near.bound x
 
-            go : (best.unmatched < near.unmatched) ⊎ (near.unmatched ≤ best.unmatched) → (near.bound < best.bound) ⊎ (best.bound ≤ near.bound)
+            go : (best.unmatched < near.unmatched) ⊎ (near.unmatched ≤ best.unmatched)
+                → (near.bound < best.bound) ⊎ (best.bound ≤ near.bound)
                 → Before best.unmatched near.unmatched best.bound near.bound n k
             go (inl l) b = inl l
             go (inr l) (inl b) = inr (same, inl b)
               where
                 same : best.unmatched ≡ near.unmatched
                 same = omega (arith, l, less)
-            go (inr l) (inr b) = inr (same, inr (let no_more = more (sym same) in omega (arith, b, no_more), let c = h.before in omega (arith, c)))
+            go (inr l) (inr b) = inr (
+              same,
+              inr
+                  (let no_more = more (sym same) in omega (arith, b, no_more), let c = h.before in omega (arith, c)),
+            )
               where
                 same : best.unmatched ≡ near.unmatched
                 same = omega (arith, l, less)
@@ -177,28 +196,44 @@ module _ (g : Grammar) (call_site : Span) (input : Top) (style : MacroCallStyle)
           its_bound = was_bound;
           near_all = all_near;
           first = one_more (λ m s. GoesBefore (put h.left k near.unmatched) (put h.bound k near.bound) n m)
-              (λ m s l a. order n m best.unmatched (h.left m) best.bound (h.bound m) was_left (put_before h.left k near.unmatched m l) was_bound (put_before h.bound k near.bound m l) (known m s l a))
-              (λ e. order n k best.unmatched near.unmatched best.bound near.bound was_left (put_here h.left k near.unmatched) was_bound (put_here h.bound k near.bound) (not_nearer far));
+              (λ m s l a. order n m best.unmatched (h.left m) best.bound (h.bound m) was_left
+              (put_before h.left k near.unmatched m l) was_bound (put_before h.bound k near.bound m l)
+              (known m s l a))
+              (λ e. order n k best.unmatched near.unmatched best.bound near.bound was_left
+              (put_here h.left k near.unmatched) was_bound (put_here h.bound k near.bound) (not_nearer far));
         }
 
         -- what is nearer than the best goes before all that the best goes before
-        nearer_goes : is_nearer near best ≡ true → (m : ℕ) (b d : ℕ) → Before best.unmatched b best.bound d n m → Before near.unmatched b near.bound d k m
+        nearer_goes : is_nearer near best ≡ true → (m : ℕ) (b d : ℕ) → Before best.unmatched b best.bound d n m
+            → Before near.unmatched b near.bound d k m
         nearer_goes closer m b d x = go (or_cases _ _ closer) x
           where
-            go : (nat_lt near.unmatched best.unmatched ≡ true) ⊎ ((nat_eq near.unmatched best.unmatched && nat_lt best.bound near.bound) ≡ true)
+            go : (nat_lt near.unmatched best.unmatched ≡ true)
+                ⊎ ((nat_eq near.unmatched best.unmatched && nat_lt best.bound near.bound) ≡ true)
                 → Before best.unmatched b best.bound d n m → Before near.unmatched b near.bound d k m
             go (inl l) (inl y) = let p = ltb-true near.unmatched best.unmatched l in inl (omega (arith, p, y))
-            go (inl l) (inr y) = let p = ltb-true near.unmatched best.unmatched l in inl (let e = y.0 in omega (arith, p, e))
+            go (inl l) (inr y) = let p = ltb-true near.unmatched best.unmatched l in
+                inl (let e = y.0 in omega (arith, p, e))
             go (inr l) (inl y) =
-                let p : near.unmatched ≡ best.unmatched = eqb-true near.unmatched best.unmatched (and_parts (nat_eq near.unmatched best.unmatched) (nat_lt best.bound near.bound) l).0 in
+                let p : near.unmatched ≡ best.unmatched =
+                eqb-true near.unmatched best.unmatched
+                (and_parts (nat_eq near.unmatched best.unmatched) (nat_lt best.bound near.bound) l).0 in
                 inl (omega (arith, p, y))
             go (inr l) (inr (e, inl y)) =
-                let p : near.unmatched ≡ best.unmatched = eqb-true near.unmatched best.unmatched (and_parts (nat_eq near.unmatched best.unmatched) (nat_lt best.bound near.bound) l).0 in
-                let q : best.bound < near.bound = ltb-true best.bound near.bound (and_parts (nat_eq near.unmatched best.unmatched) (nat_lt best.bound near.bound) l).1 in
+                let p : near.unmatched ≡ best.unmatched =
+                eqb-true near.unmatched best.unmatched
+                (and_parts (nat_eq near.unmatched best.unmatched) (nat_lt best.bound near.bound) l).0 in
+                let q : best.bound < near.bound =
+                ltb-true best.bound near.bound (and_parts (nat_eq near.unmatched best.unmatched)
+                (nat_lt best.bound near.bound) l).1 in
                 inr (p ∙ e, inl (omega (arith, q, y)))
             go (inr l) (inr (e, inr y)) =
-                let p : near.unmatched ≡ best.unmatched = eqb-true near.unmatched best.unmatched (and_parts (nat_eq near.unmatched best.unmatched) (nat_lt best.bound near.bound) l).0 in
-                let q : best.bound < near.bound = ltb-true best.bound near.bound (and_parts (nat_eq near.unmatched best.unmatched) (nat_lt best.bound near.bound) l).1 in
+                let p : near.unmatched ≡ best.unmatched =
+                eqb-true near.unmatched best.unmatched
+                (and_parts (nat_eq near.unmatched best.unmatched) (nat_lt best.bound near.bound) l).0 in
+                let q : best.bound < near.bound =
+                ltb-true best.bound near.bound (and_parts (nat_eq near.unmatched best.unmatched)
+                (nat_lt best.bound near.bound) l).1 in
                 inr (p ∙ e, inl (let z = y.0 in omega (arith, q, z)))
 
         pub so_far_nearer : is_nearer near best ≡ true → IsSoFar (k + 1) (Some (k, near))
@@ -210,25 +245,32 @@ module _ (g : Grammar) (call_site : Span) (input : Top) (style : MacroCallStyle)
           its_bound = put_here h.bound k near.bound;
           near_all = all_near;
           first = one_more (λ m s. GoesBefore (put h.left k near.unmatched) (put h.bound k near.bound) k m)
-              (λ m s l a. order k m near.unmatched (h.left m) near.bound (h.bound m) (put_here h.left k near.unmatched) (put_before h.left k near.unmatched m l) (put_here h.bound k near.bound)
+              (λ m s l a. order k m near.unmatched (h.left m) near.bound (h.bound m) (put_here h.left k near.unmatched)
+              (put_before h.left k near.unmatched m l) (put_here h.bound k near.bound)
               (put_before h.bound k near.bound m l) (nearer_goes closer m (h.left m) (h.bound m) (known m s l a)))
-              (λ e. order k k near.unmatched near.unmatched near.bound near.bound (put_here h.left k near.unmatched) (put_here h.left k near.unmatched) (put_here h.bound k near.bound) (put_here h.bound k near.bound)
+              (λ e. order k k near.unmatched near.unmatched near.bound near.bound (put_here h.left k near.unmatched)
+              (put_here h.left k near.unmatched) (put_here h.bound k near.bound) (put_here h.bound k near.bound)
               (inr (refl, inr (refl, omega arith))));
         }
 
   -- the nearer of the best and one more
-  pub so_far_tried : {A : Type 0} (k : ℕ) (r : Rule) → slice_get rs k ≡ Some r → (best : Option (Candidate A)) (next : Candidate A) → next.idx ≡ k
-      → IsNearness g call_site input r next.nearness → IsSoFar k (option_map candidate_seen best) → IsSoFar (k + 1) (Some (candidate_seen (nearer_of best next)))
+  pub so_far_tried : {A : Type 0} (k : ℕ) (r : Rule) → slice_get rs k ≡ Some r
+      → (best : Option (Candidate A)) (next : Candidate A) → next.idx ≡ k
+      → IsNearness g call_site input r next.nearness → IsSoFar k (option_map candidate_seen best)
+      → IsSoFar (k + 1) (Some (candidate_seen (nearer_of best next)))
   so_far_tried k r here None next e near h =
       subst (λ i. IsSoFar (k + 1) (Some (i, next.nearness))) (sym e) (so_far_first k r here next.nearness near h)
   so_far_tried k r here (Some best) next e near h = go (cases_Bool (is_nearer next.nearness best.nearness))
     where
-      go : (is_nearer next.nearness best.nearness ≡ true) ⊎ (is_nearer next.nearness best.nearness ≡ false) → IsSoFar (k + 1) (Some (candidate_seen (nearer_of (Some best) next)))
-      go (inl t) = rw t (subst (λ i. IsSoFar (k + 1) (Some (i, next.nearness))) (sym e) (so_far_nearer k r here next.nearness near best.idx best.nearness h t))
+      go : (is_nearer next.nearness best.nearness ≡ true) ⊎ (is_nearer next.nearness best.nearness ≡ false)
+          → IsSoFar (k + 1) (Some (candidate_seen (nearer_of (Some best) next)))
+      go (inl t) = rw t (subst (λ i. IsSoFar (k + 1) (Some (i, next.nearness))) (sym e)
+          (so_far_nearer k r here next.nearness near best.idx best.nearness h t))
       go (inr f) = rw f (so_far_kept k r here next.nearness near best.idx best.nearness h f)
 
   -- after all rules it is the closest of them
-  pub nearest : (k n : ℕ) (near : Nearness) (r : Rule) → length rs ≤ k → IsStyledAt rs style n r → IsSoFar k (Some (n, near))
+  pub nearest : (k n : ℕ) (near : Nearness) (r : Rule) → length rs ≤ k → IsStyledAt rs style n r
+      → IsSoFar k (Some (n, near))
       → IsNearest g call_site input style rs n r
   nearest k n near r all at h = record {
     left = h.left;
@@ -256,17 +298,21 @@ module _ (g : Grammar) (call_site : Span) (input : Top) (style : MacroCallStyle)
 
 -- ---- the candidate that is kept
 
-pub kept_tried : {A : Type 0} (P : Candidate A → Type 0) (best : Option (Candidate A)) (next : Candidate A) → IfSome best P → P next → P (nearer_of best next)
+pub kept_tried : {A : Type 0} (P : Candidate A → Type 0) (best : Option (Candidate A)) (next : Candidate A)
+    → IfSome best P → P next → P (nearer_of best next)
 kept_tried P None next h p = p
 kept_tried P (Some best) next h p = go (cases_Bool (is_nearer next.nearness best.nearness))
   where
-    go : (is_nearer next.nearness best.nearness ≡ true) ⊎ (is_nearer next.nearness best.nearness ≡ false) → P (nearer_of (Some best) next)
+    go : (is_nearer next.nearness best.nearness ≡ true) ⊎ (is_nearer next.nearness best.nearness ≡ false)
+        → P (nearer_of (Some best) next)
     go (inl t) = rw t p
     go (inr f) = rw f h
 
 -- a rule that was tried, as a candidate
-pub candidate : {A : Type 0} (g : Grammar) (Marks : Span → Span → Type 0) (call_site : Span) (input : Top) (style : MacroCallStyle) (rs : List Rule) (k : ℕ) (r : Rule)
-    → slice_get rs k ≡ Some r → (c : Candidate A) → r.style ≡ style → IsRemains g Marks call_site input r c.remains → rule_of c.rule.now ≡ r → c.idx ≡ k
+pub candidate : {A : Type 0} (g : Grammar) (Marks : Span → Span → Type 0) (call_site : Span) (input : Top)
+    (style : MacroCallStyle) (rs : List Rule) (k : ℕ) (r : Rule)
+    → slice_get rs k ≡ Some r → (c : Candidate A) → r.style ≡ style → IsRemains g Marks call_site input r c.remains
+    → rule_of c.rule.now ≡ r → c.idx ≡ k
     → IsCandidate g Marks call_site input style rs c
 candidate g Marks call_site input style rs k r here c own left same at = record {
   styled = (ap (slice_get rs) at ∙ here ∙ ap Some (sym same), ap (λ (x : Rule). x.style) same ∙ own);
@@ -284,7 +330,8 @@ none_refused (x ∷ xs) h (suc n) r e = none_refused xs (or_parts _ _ h).1 n r e
 pub all_checked : (m : Macro) → TellsRefusal m → IsChecked m → AreChecked m.rules
 all_checked m tells (inl other) = go (cases_Bool (list_any (λ (r : Rule). is_refused r.reads) m.rules))
   where
-    go : (list_any (λ (r : Rule). is_refused r.reads) m.rules ≡ true) ⊎ (list_any (λ (r : Rule). is_refused r.reads) m.rules ≡ false) → AreChecked m.rules
+    go : (list_any (λ (r : Rule). is_refused r.reads) m.rules ≡ true)
+        ⊎ (list_any (λ (r : Rule). is_refused r.reads) m.rules ≡ false) → AreChecked m.rules
     go (inl x) = absurd (other (tells x))
     go (inr x) = none_refused m.rules x
 all_checked m tells (inr e) = subst AreChecked (sym e) (λ n r x. absurd (none-some r x))
@@ -292,6 +339,7 @@ all_checked m tells (inr e) = subst AreChecked (sym e) (λ n r x. absurd (none-s
 -- ---- results
 
 -- two facts of a value make a third
-pub ok_both : {X E : Type 0} (r : Result X E) (P Q R : X → Type 0) → ((x : X) → P x → Q x → R x) → IfOk r P → IfOk r Q → IfOk r R
+pub ok_both : {X E : Type 0} (r : Result X E) (P Q R : X → Type 0) → ((x : X) → P x → Q x → R x) → IfOk r P → IfOk r Q
+    → IfOk r R
 ok_both (Ok x) P Q R f p q = f x p q
 ok_both (Err e) P Q R f p q = tt

@@ -36,7 +36,8 @@ some_unless false x = refl
 abbrev Leads : {L : Type 0} → Option L → Option Value → Type 0
 Leads {L} l v = ((l ≡ None) × (w : Value) × (v ≡ Some w)) ⊎ ((k : L) × (l ≡ Some k) × (v ≡ None))
 
-leads_in : (path : Path) (m : Option Value) → ((w : Value) → Leads (lost path w) (follow path w)) → Leads (lost_in (lost path) m) (option_and_then (follow path) m)
+leads_in : (path : Path) (m : Option Value) → ((w : Value) → Leads (lost path w) (follow path w))
+    → Leads (lost_in (lost path) m) (option_and_then (follow path) m)
 leads_in path None h = inr (_, refl, refl)
 leads_in path (Some w) h = h w
 
@@ -64,16 +65,19 @@ count_some kind depth l v (inl (e, w, d)) = rw (e, d) (some_unless (nat_lt (valu
 count_some kind depth l v (inr (k, e, d)) = rw (e, d) refl
 
 pub variable_some : (name : Name) (path : Path) (o : Option Value)
-    → is_some (option_and_then (simple_fault name path) o) ≡ (if is_none o then false else not (is_simple (option_and_then (follow path) o)))
+    → is_some (option_and_then (simple_fault name path) o)
+    ≡ (if is_none o then false else not (is_simple (option_and_then (follow path) o)))
 variable_some name path None = refl
 variable_some name path (Some v) = simple_some (lost_kind name) name (lost path v) (follow path v) (leads path v)
 
-needed_some : (name : Name) (path : Path) (o : Option Value) → is_some (bound_fault name (simple_fault name path) o) ≡ not (is_simple (option_and_then (follow path) o))
+needed_some : (name : Name) (path : Path) (o : Option Value)
+    → is_some (bound_fault name (simple_fault name path) o) ≡ not (is_simple (option_and_then (follow path) o))
 needed_some name path None = refl
 needed_some name path (Some v) = simple_some (lost_kind name) name (lost path v) (follow path v) (leads path v)
 
 counted_some : (name : Name) (depth : ℕ) (path : Path) (o : Option Value)
-    → is_some (bound_fault name (count_fault name depth path) o) ≡ not (is_counted depth (option_and_then (follow path) o))
+    → is_some (bound_fault name (count_fault name depth path) o)
+    ≡ not (is_counted depth (option_and_then (follow path) o))
 counted_some name depth path None = refl
 counted_some name depth path (Some v) = count_some (lost_kind name) depth (lost path v) (follow path v) (leads path v)
 
@@ -85,7 +89,8 @@ Texts fault text all = ((fault ≡ None) × (text ≡ Some all)) ⊎ ((e : Expan
 
 module _ (env : Environment) (path : Path) where
   variable_text : (span : Span) (n : Option ExpandErrorKind) (v : Option Value) → is_some n ≡ not (is_simple v)
-      → Texts (option_map (at span) (option_or n (text_fault (option_and_then text_of_value v)))) (option_and_then text_of_value v) (or_none (option_and_then text_of_value v))
+      → Texts (option_map (at span) (option_or n (text_fault (option_and_then text_of_value v))))
+      (option_and_then text_of_value v) (or_none (option_and_then text_of_value v))
   variable_text span None (Some (fragment x)) h = go (text_of_value (fragment x))
     where
       go : (t : Option (List ℕ)) → Texts (option_map (at span) (text_fault t)) t (or_none t)
@@ -105,10 +110,12 @@ module _ (env : Environment) (path : Path) where
   variable_text span (Some k) (Some (fragment x)) h = absurd (true≢false h)
   variable_text span (Some k) (Some (missing kind)) h = absurd (true≢false h)
 
-  element_text : (e : Element) → Texts (element_fault env path e) (text_of_element env path e) (or_none (text_of_element env path e))
+  element_text : (e : Element) → Texts (element_fault env path e) (text_of_element env path e)
+      (or_none (text_of_element env path e))
   element_text (ident_element i) = inl (refl, refl)
   element_text (literal_element l) = inl (refl, refl)
-  element_text (variable_element i) = variable_text i.span (needed_fault env path i.sym) (followed env path i.sym) (needed_some i.sym path (value_of env i.sym))
+  element_text (variable_element i) = variable_text i.span (needed_fault env path i.sym) (followed env path i.sym)
+      (needed_some i.sym path (value_of env i.sym))
 
   joined_more : (f g : Option ExpandError) (t u : Option (List ℕ)) (a b : List ℕ) → Texts f t a → Texts g u b
       → Texts (option_or f g) (option_and_then (λ text. option_map (λ more. text ++ more) u) t) (a ++ b)
@@ -116,9 +123,11 @@ module _ (env : Environment) (path : Path) where
   joined_more f g t u a b (inl (x, y)) (inr (e, z, w)) = rw (x, y, z, w) (inr (e, refl, refl))
   joined_more f g t u a b (inr (e, x, y)) h = rw (x, y) (inr (e, refl, refl))
 
-  joined_texts : (es : List Element) → Texts (first_of (element_fault env path) es) (joined_text env path es) (joined env path es)
+  joined_texts : (es : List Element) → Texts (first_of (element_fault env path) es) (joined_text env path es)
+      (joined env path es)
   joined_texts [] = inl (refl, refl)
-  joined_texts (e ∷ es) = joined_more (element_fault env path e) (first_of (element_fault env path) es) (text_of_element env path e) (joined_text env path es)
+  joined_texts (e ∷ es) = joined_more (element_fault env path e) (first_of (element_fault env path) es)
+      (text_of_element env path e) (joined_text env path es)
       (or_none (text_of_element env path e)) (joined env path es) (element_text e) (joined_texts es)
 
   concat_some : (span : Span) (f : Option ExpandError) (t : Option (List ℕ)) (all : List ℕ) → Texts f t all
@@ -126,7 +135,8 @@ module _ (env : Environment) (path : Path) where
   concat_some span f t all (inr (e, x, y)) = rw (x, y) refl
   concat_some span f t all (inl (x, y)) = rw (x, y) (go _ (are_identifier_chars (chars all)))
     where
-      go : (k : ExpandErrorKind) (b : Bool) → is_some (option_map (at span) (if b then None else Some k)) ≡ is_none (if b then Some all else None)
+      go : (k : ExpandErrorKind) (b : Bool)
+          → is_some (option_map (at span) (if b then None else Some k)) ≡ is_none (if b then Some all else None)
       go k true = refl
       go k false = refl
 
@@ -136,7 +146,8 @@ module _ (env : Environment) (path : Path) where
 not_less : (n k : ℕ) → not (nat_lt n k) ≡ nat_le k n
 not_less n k = go (leb_tells k n) (leb_tells (suc n) k)
   where
-    go : ((nat_le k n ≡ true) × (k ≤ n)) ⊎ ((nat_le k n ≡ false) × (n < k)) → ((nat_lt n k ≡ true) × (suc n ≤ k)) ⊎ ((nat_lt n k ≡ false) × (k < suc n))
+    go : ((nat_le k n ≡ true) × (k ≤ n)) ⊎ ((nat_le k n ≡ false) × (n < k))
+        → ((nat_lt n k ≡ true) × (suc n ≤ k)) ⊎ ((nat_lt n k ≡ false) × (k < suc n))
         → not (nat_lt n k) ≡ nat_le k n
     go (inl (e, l)) (inl (d, m)) = absurd (omega (arith, l, m))
     go (inl (e, l)) (inr (d, m)) = rw (e, d) refl
@@ -151,43 +162,57 @@ extent_some OneOrMore endless = refl
 extent_some ZeroOrMore (finite n) = some_unless (nat_lt n 65536) _ ∙ not_less n 65536
 extent_some OneOrMore (finite zero) = refl
 extent_some OneOrMore (finite (suc n)) =
-    some_unless (nat_lt (suc n) 65536) _ ∙ not_less (suc n) 65536 ∙ ap (λ b. b || nat_le 65536 (suc n)) (sym (ne_eqb (suc n) 0 (λ e. omega (arith, e))))
+    some_unless (nat_lt (suc n) 65536) _ ∙ not_less (suc n) 65536
+    ∙ ap (λ b. b || nat_le 65536 (suc n)) (sym (ne_eqb (suc n) 0 (λ e. omega (arith, e))))
 
-below_some : (f : ℕ → Option ExpandError) (test : ℕ → Bool) → ((i : ℕ) → is_some (f i) ≡ test i) → (n : ℕ) → is_some (first_below f n) ≡ any_below test n
+below_some : (f : ℕ → Option ExpandError) (test : ℕ → Bool) → ((i : ℕ) → is_some (f i) ≡ test i) → (n : ℕ)
+    → is_some (first_below f n) ≡ any_below test n
 below_some f test h zero = refl
-below_some f test h (suc n) = some_or (first_below f n) (f n) ∙ ap (λ b. b || is_some (f n)) (below_some f test h n) ∙ ap (λ b. any_below test n || b) (h n)
+below_some f test h (suc n) = some_or (first_below f n) (f n) ∙ ap (λ b. b || is_some (f n)) (below_some f test h n)
+    ∙ ap (λ b. any_below test n || b) (h n)
 
-round_some : (f : ℕ → ℕ → Option ExpandError) (test : ℕ → ℕ → Bool) → ((i n : ℕ) → is_some (f i n) ≡ test i n) → (e : Extent) → is_some (first_round f e) ≡ any_round test e
+round_some : (f : ℕ → ℕ → Option ExpandError) (test : ℕ → ℕ → Bool) → ((i n : ℕ) → is_some (f i n) ≡ test i n)
+    → (e : Extent) → is_some (first_round f e) ≡ any_round test e
 round_some f test h endless = refl
 round_some f test h (finite n) = below_some (λ i. f i n) (λ i. test i n) (λ i. h i n) n
 
 -- ---- templates
 
 module _ (call_site : Span) (env : Environment) where
-  expression_some : (path : Path) (e : Expression) → is_some (expression_fault call_site env path e) ≡ expression_faults env path e
-  expression_some path (ignore name span) = some_map (at span) (needed_fault env path name) ∙ needed_some name path (value_of env name)
+  expression_some : (path : Path) (e : Expression)
+      → is_some (expression_fault call_site env path e) ≡ expression_faults env path e
+  expression_some path (ignore name span) =
+      some_map (at span) (needed_fault env path name) ∙ needed_some name path (value_of env name)
   expression_some path (count name depth) =
-      some_map (at call_site) (bound_fault name (count_fault name depth path) (value_of env name)) ∙ counted_some name depth path (value_of env name)
+      some_map (at call_site) (bound_fault name (count_fault name depth path) (value_of env name))
+      ∙ counted_some name depth path (value_of env name)
   expression_some path (index depth) = refl
   expression_some path (len depth) = refl
   expression_some path (concat elements span) =
-      concat_some env path span (first_of (element_fault env path) elements) (joined_text env path elements) (joined env path elements) (joined_texts env path elements)
+      concat_some env path span (first_of (element_fault env path) elements) (joined_text env path elements)
+      (joined env path elements) (joined_texts env path elements)
 
   mutual
     op_some : (path : Path) (o : Op) → is_some (op_fault call_site env path o) ≡ op_faults env path o
     op_some path (ops.token t) = refl
     op_some path (ops.group d body) = first_some path body
-    op_some path (ops.variable name kind span) = some_map (at span) (variable_fault env path name) ∙ variable_some name path (value_of env name)
+    op_some path (ops.variable name kind span) =
+        some_map (at span) (variable_fault env path name) ∙ variable_some name path (value_of env name)
     op_some path (ops.repetition body separator repeat) =
         let e = kept_rounds repeat env path body in
-        some_or (option_map (at call_site) (extent_fault repeat e)) (first_round (λ i n. first_fault call_site env (level i n path) body) e)
-        ∙ ap (λ b. b || is_some (first_round (λ i n. first_fault call_site env (level i n path) body) e)) (some_map (at call_site) (extent_fault repeat e) ∙ extent_some repeat e)
-        ∙ ap (λ b. extent_faults repeat e || b) (round_some (λ i n. first_fault call_site env (level i n path) body) (λ i n. faults env (level i n path) body)
+        some_or (option_map (at call_site) (extent_fault repeat e))
+        (first_round (λ i n. first_fault call_site env (level i n path) body) e)
+        ∙ ap (λ b. b || is_some (first_round (λ i n. first_fault call_site env (level i n path) body) e))
+        (some_map (at call_site) (extent_fault repeat e) ∙ extent_some repeat e)
+        ∙ ap (λ b. extent_faults repeat e || b)
+        (round_some (λ i n. first_fault call_site env (level i n path) body)
+        (λ i n. faults env (level i n path) body)
         (λ i n. first_some (level i n path) body) e)
     op_some path (ops.expression e) = expression_some path e
 
     pub first_some : (path : Path) (os : Ops) → is_some (first_fault call_site env path os) ≡ faults env path os
     first_some path no_ops = refl
     first_some path (op o os) =
-        some_or (op_fault call_site env path o) (first_fault call_site env path os) ∙ ap (λ b. b || is_some (first_fault call_site env path os)) (op_some path o)
+        some_or (op_fault call_site env path o) (first_fault call_site env path os)
+        ∙ ap (λ b. b || is_some (first_fault call_site env path os)) (op_some path o)
         ∙ ap (λ b. op_faults env path o || b) (first_some path os)

@@ -38,10 +38,12 @@ module _ (i : Input) (length : ℕ) (lawful : Lawful i length) where
     some_width : (q n : ℕ) (xs : List Beginning) → width q xs ≡ Some n → 0 < n
     some_width q n xs w = first_some q n (held i q xs) w
 
-    same_width : (q r n m : ℕ) (xs ys : List Beginning) → q ≡ r → xs ≡ ys → width q xs ≡ Some n → width r ys ≡ Some m → n ≡ m
+    same_width : (q r n m : ℕ) (xs ys : List Beginning) → q ≡ r → xs ≡ ys → width q xs ≡ Some n → width r ys ≡ Some m
+        → n ≡ m
     same_width q r n m xs ys at same v w = same_Some n m (sym v ∙ ap (λ p. width p xs) at ∙ ap (width r) same ∙ w)
 
-    same_moves : (q r : ℕ) (xs ys : List Beginning) → q ≡ r → xs ≡ ys → moves_of i q (held i q xs) ≡ moves_of i r (held i r ys)
+    same_moves : (q r : ℕ) (xs ys : List Beginning) → q ≡ r → xs ≡ ys
+        → moves_of i q (held i q xs) ≡ moves_of i r (held i r ys)
     same_moves q r xs ys at same = ap (λ p. moves_of i p (held i p xs)) at ∙ ap (λ zs. moves_of i r (held i r zs)) same
 
     pub same_noted : (q r : ℕ) (xs ys : List Beginning) (b c : Notes) → q ≡ r → xs ≡ ys → b ≡ c
@@ -67,7 +69,8 @@ module _ (i : Input) (length : ℕ) (lawful : Lawful i length) where
     GoesTo q r xs = q < r → (n : ℕ) → width q xs ≡ Some n → q + n ≤ r
 
     -- what goes on to one place does so from one place
-    one_before : (q r n p m o : ℕ) (xs ys : List Beginning) (b c : Notes) → width q xs ≡ Some n → width r ys ≡ Some p → m ≡ q + n → o ≡ r + p → m ≡ o
+    one_before : (q r n p m o : ℕ) (xs ys : List Beginning) (b c : Notes) → width q xs ≡ Some n → width r ys ≡ Some p
+        → m ≡ q + n → o ≡ r + p → m ≡ o
         → GoesTo q r xs → GoesTo r q ys → (q ≡ r) ⊎ ((q < r) ⊎ (r < q)) → q ≡ r
     one_before q r n p m o xs ys b c w v d e at before after (inl s) = s
     one_before q r n p m o xs ys b c w v d e at before after (inr (inl l)) =
@@ -76,11 +79,14 @@ module _ (i : Input) (length : ℕ) (lawful : Lawful i length) where
         let x = after l p v in let y = some_width q n xs w in absurd (omega (arith, x, y, d, e, at))
 
     -- of a later place m, which comes after r
-    step_goes : (q r n p m : ℕ) (xs ys : List Beginning) (b c : Notes) → q < m → width q xs ≡ Some n → width r ys ≡ Some p → m ≡ r + p
+    step_goes : (q r n p m : ℕ) (xs ys : List Beginning) (b c : Notes) → q < m → width q xs ≡ Some n
+        → width r ys ≡ Some p → m ≡ r + p
         → Same q r xs ys b c → GoesTo q r xs → GoesTo r q ys → (q ≡ r) ⊎ ((q < r) ⊎ (r < q)) → q + n ≤ m
-    step_goes q r n p m xs ys b c l w v e same before after (inl s) = let x = same_width q r n p xs ys s (same s).0 w v in omega (arith, x, s, e)
+    step_goes q r n p m xs ys b c l w v e same before after (inl s) = let x =
+        same_width q r n p xs ys s (same s).0 w v in omega (arith, x, s, e)
     step_goes q r n p m xs ys b c l w v e same before after (inr (inl k)) = let x = before k n w in omega (arith, x, e)
-    step_goes q r n p m xs ys b c l w v e same before after (inr (inr k)) = let x = after k p v in absurd (omega (arith, x, e, l))
+    step_goes q r n p m xs ys b c l w v e same before after (inr (inr k)) = let x =
+        after k p v in absurd (omega (arith, x, e, l))
 
     flipped : (q r : ℕ) (xs ys : List Beginning) (b c : Notes) → Same q r xs ys b c → Same r q ys xs c b
     flipped q r xs ys b c same s = let x = same (sym s) in (sym x.0, sym x.1)
@@ -94,18 +100,25 @@ module _ (i : Input) (length : ℕ) (lawful : Lawful i length) where
     abbrev next_notes : ℕ → List Beginning → Notes → Notes
     next_notes q xs b = noted_at i q (map erase (held i q xs)) b
 
-    with_start : {r : ℕ} {ys : List Beginning} {c : Notes} → ComesWith i pattern r ys c → Compared 0 r (start pattern ∷ []) ys no_notes c
-    with_start at_start = record { same = λ at. (refl, refl); before = λ l n w. absurd (omega (arith, l)); after = λ l n w. absurd (omega (arith, l)) }
+    with_start : {r : ℕ} {ys : List Beginning} {c : Notes} → ComesWith i pattern r ys c
+        → Compared 0 r (start pattern ∷ []) ys no_notes c
+    with_start at_start = record {
+      same = λ at. (refl, refl);
+      before = λ l n w. absurd (omega (arith, l));
+      after = λ l n w. absurd (omega (arith, l));
+    }
     with_start (at_next r m n f y ms ys c g w k d) =
         let h = with_start g in
         let v : width r ys ≡ Some n = ap first_over w in
         record {
           same = λ at. let l = some_width r n ys v in absurd (omega (arith, l, d, at));
-          before = λ l p u. step_goes 0 r p n m (start pattern ∷ []) ys no_notes c l u v d h.same h.before h.after (three 0 r);
+          before = λ l p u. step_goes 0 r p n m (start pattern ∷ []) ys no_notes c l u v d h.same h.before h.after
+              (three 0 r);
           after = λ l p u. absurd (omega (arith, l));
         }
 
-    with_next : {r : ℕ} {ys : List Beginning} {c : Notes} (q m n : ℕ) (xs : List Beginning) (b : Notes) (ns : List Move) → moves_of i q (held i q xs) ≡ ns
+    with_next : {r : ℕ} {ys : List Beginning} {c : Notes} (q m n : ℕ) (xs : List Beginning) (b : Notes) (ns : List Move)
+        → moves_of i q (held i q xs) ≡ ns
         → first_over ns ≡ Some n → m ≡ q + n
         → ((s : ℕ) (zs : List Beginning) (a : Notes) → ComesWith i pattern s zs a → Compared q s xs zs b a)
         → ComesWith i pattern r ys c → Compared m r (reverse (targets ns)) ys (next_notes q xs b) c
@@ -121,23 +134,31 @@ module _ (i : Input) (length : ℕ) (lawful : Lawful i length) where
     with_next q m n xs b ns t u d old (at_next r o p f y ms ys c g z k e) =
         let h = old r ys c g in
         let later = with_next q m n xs b ns t u d old g in
-        let other = old o (reverse (targets (move p f y ∷ ms))) (next_notes r ys c) (at_next r o p f y ms ys c g z k e) in
+        let other = old o (reverse (targets (move p f y ∷ ms))) (next_notes r ys c)
+        (at_next r o p f y ms ys c g z k e) in
         let w : width q xs ≡ Some n = ap first_over t ∙ u in
         let v : width r ys ≡ Some p = ap first_over z in
         record {
           same = λ at.
               let s : q ≡ r = one_before q r n p m o xs ys b c w v d e at h.before h.after (three q r) in
-              let both = h.same s in
-              (ap (λ (js : List Move). reverse (targets js)) (sym t ∙ same_moves q r xs ys s both.0 ∙ z), same_noted q r xs ys b c s both.0 both.1);
-          before = λ l a j. step_goes m r a p o (reverse (targets ns)) ys (next_notes q xs b) c l j v e later.same later.before later.after (three m r);
+              let both = h.same s in (
+                ap (λ (js : List Move). reverse (targets js)) (sym t ∙ same_moves q r xs ys s both.0 ∙ z),
+                same_noted q r xs ys b c s both.0 both.1,
+              );
+          before = λ l a j. step_goes m r a p o (reverse (targets ns)) ys (next_notes q xs b) c l j v e later.same
+              later.before later.after (three m r);
           after = λ l a j. step_goes o q a n m (reverse (targets (move p f y ∷ ms))) xs (next_notes r ys c) b l j w d
-              (flipped q o xs (reverse (targets (move p f y ∷ ms))) b (next_notes r ys c) other.same) other.after other.before (three o q);
+              (flipped q o xs (reverse (targets (move p f y ∷ ms))) b (next_notes r ys c) other.same) other.after
+              other.before (three o q);
         }
 
-    compared : {q : ℕ} {xs : List Beginning} {b : Notes} → ComesWith i pattern q xs b → (r : ℕ) (ys : List Beginning) (c : Notes) → ComesWith i pattern r ys c
+    compared : {q : ℕ} {xs : List Beginning} {b : Notes} → ComesWith i pattern q xs b
+        → (r : ℕ) (ys : List Beginning) (c : Notes) → ComesWith i pattern r ys c
         → Compared q r xs ys b c
     compared at_start r ys c g = with_start g
-    compared (at_next q m n f y ms xs b h w k d) r ys c g = with_next q m n xs b (move n f y ∷ ms) w refl d (compared h) g
+    compared (at_next q m n f y ms xs b h w k d) r ys c g =
+        with_next q m n xs b (move n f y ∷ ms) w refl d (compared h) g
 
     pub notes_once : (q : ℕ) (x y : Notes) → AreNotes i pattern q x → AreNotes i pattern q y → x ≡ y
-    notes_once q x y (xs, b, f, e) (ys, c, g, d) = let s = (compared f q ys c g).same refl in e ∙ same_noted q q xs ys b c refl s.0 s.1 ∙ sym d
+    notes_once q x y (xs, b, f, e) (ys, c, g, d) = let s =
+        (compared f q ys c g).same refl in e ∙ same_noted q q xs ys b c refl s.0 s.1 ∙ sym d

@@ -34,7 +34,8 @@ style_bits = record {
   low_three = known_three;
   known = λ bits h. let e = known_three bits in omega arith;
   unknown = λ bits h e. let k = known_three bits in omega arith;
-  is_all = λ bits. ap (λ n. bit_or n bits == bits) known_is_7 ∙ same_test (bit_or 7 bits) bits (bits % 8) 7 (seven_or bits);
+  is_all = λ bits. ap (λ n. bit_or n bits == bits) known_is_7
+      ∙ same_test (bit_or 7 bits) bits (bits % 8) 7 (seven_or bits);
   complement = λ bits h. let k = known_three (2 ^ 8 - 1 - bits) in omega arith;
 }
 
@@ -48,7 +49,8 @@ bits_by f a d = (if f then 1 else 0) + (if a then 2 else 0) + (if d then 4 else 
 abbrev pub styles_of : List Rule → ℕ
 styles_of rs = bits_by (list_any is_fn_like rs) (list_any is_attr rs) (list_any is_derive rs)
 
-fn_like_more : (f a d : Bool) → bit_or (bits_by f a d) 1 ≡ bits_by (f || (true || false)) (a || (false || false)) (d || (false || false))
+fn_like_more : (f a d : Bool) → bit_or (bits_by f a d) 1
+    ≡ bits_by (f || (true || false)) (a || (false || false)) (d || (false || false))
 fn_like_more true true true = refl
 fn_like_more true true false = refl
 fn_like_more true false true = refl
@@ -58,7 +60,8 @@ fn_like_more false true false = refl
 fn_like_more false false true = refl
 fn_like_more false false false = refl
 
-attr_more : (f a d : Bool) → bit_or (bits_by f a d) 2 ≡ bits_by (f || (false || false)) (a || (true || false)) (d || (false || false))
+attr_more : (f a d : Bool) → bit_or (bits_by f a d) 2
+    ≡ bits_by (f || (false || false)) (a || (true || false)) (d || (false || false))
 attr_more true true true = refl
 attr_more true true false = refl
 attr_more true false true = refl
@@ -68,7 +71,8 @@ attr_more false true false = refl
 attr_more false false true = refl
 attr_more false false false = refl
 
-derive_more : (f a d : Bool) → bit_or (bits_by f a d) 4 ≡ bits_by (f || (false || false)) (a || (false || false)) (d || (true || false))
+derive_more : (f a d : Bool) → bit_or (bits_by f a d) 4
+    ≡ bits_by (f || (false || false)) (a || (false || false)) (d || (true || false))
 derive_more true true true = refl
 derive_more true true false = refl
 derive_more true false true = refl
@@ -79,7 +83,8 @@ derive_more false false true = refl
 derive_more false false false = refl
 
 style_more : (f a d : Bool) (r : Rule) (s : MacroCallStyle) → r.style ≡ s
-    → bit_or (bits_by f a d) (bit_of s) ≡ bits_by (f || (is_fn_like r || false)) (a || (is_attr r || false)) (d || (is_derive r || false))
+    → bit_or (bits_by f a d) (bit_of s) ≡ bits_by (f || (is_fn_like r || false)) (a || (is_attr r || false))
+    (d || (is_derive r || false))
 style_more f a d r FnLike e = rw e (fn_like_more f a d)
 style_more f a d r Attr e = rw e (attr_more f a d)
 style_more f a d r Derive e = rw e (derive_more f a d)
@@ -90,7 +95,8 @@ styles_push rs r =
     let f = list_any-append is_fn_like rs (r ∷ []) in
     let a = list_any-append is_attr rs (r ∷ []) in
     let d = list_any-append is_derive rs (r ∷ []) in
-    style_more (list_any is_fn_like rs) (list_any is_attr rs) (list_any is_derive rs) r r.style refl ∙ sym (λ i. bits_by (f i) (a i) (d i))
+    style_more (list_any is_fn_like rs) (list_any is_attr rs) (list_any is_derive rs) r r.style refl
+    ∙ sym (λ i. bits_by (f i) (a i) (d i))
 
 -- all rules, where there are some
 pub styles_whole : (rs : List Rule) → rs ≢ [] → styles_of rs ≡ bits_of_rules rs

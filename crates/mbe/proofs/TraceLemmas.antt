@@ -13,11 +13,13 @@ use Rattle.mbe.specs.Traced.{Traced, AnswersAreTraced}
 
 module _ (Marks : Span → Span → Type 0) where
   traced : (g : Grammar) (style : MacroCallStyle) (argument : Forest) (call_site : Span) (n : ℕ) (out : Forest) (rs : _)
-      (e : IsExpansion g style argument Marks call_site rs n out) → Traced g Marks argument call_site e.0 (e.1).items out
+      (e : IsExpansion g style argument Marks call_site rs n out)
+      → Traced g Marks argument call_site e.0 (e.1).items out
   traced g style argument call_site n out rs e = record {
     written = e.3;
     variables = λ path name kind span x part f s w.
-        let k = written_in_place Marks g call_site (e.0).reads argument (e.1).items path name kind span x part (e.1).fits.1.0 f s w in
+        let k = written_in_place Marks g call_site (e.0).reads argument (e.1).items path name kind span x part
+        (e.1).fits.1.0 f s w in
         record { position = k.0; rest = k.1; found = k.2; written = k.3; spans = k.4 };
     spans = λ span k. spans_have_sources Marks g style argument call_site rs n out e span k;
     stars = λ path body separator k part f l faultless w.

@@ -1,4 +1,5 @@
--- With a marker that returns a span for each, a template without a fault writes some tree, and every template leaves one.
+-- With a marker that returns a span for each, a template without a fault writes some tree, and every template leaves
+-- one.
 use Rattle.std.specs.Prelude.{◌≡◌, ◌<◌, ◌||◌, ℕ, zero, suc, Bool, true, false, not, is_some, is_none, if◌then◌else◌, List, [], ◌∷◌, Option, Some, None, option_and_then, refl}
 use Rattle.std.proofs.Common.{ap, sym, ◌∙◌, arith}
 use Rattle.std.proofs.lemmas.Bool.{true≢false, or_parts}
@@ -33,19 +34,23 @@ exists_unless None P h = h refl
 
 -- ---- rounds
 
-rounds_left : (separator : Forest) (faulty : ℕ → Bool) (round : ℕ → Forest → Type 0) → ((i : ℕ) → Exists (round i)) → (n : ℕ) → Exists (AreRoundsLeft separator faulty round n)
+rounds_left : (separator : Forest) (faulty : ℕ → Bool) (round : ℕ → Forest → Type 0) → ((i : ℕ) → Exists (round i))
+    → (n : ℕ) → Exists (AreRoundsLeft separator faulty round n)
 rounds_left separator faulty round each zero = (none, refl)
 rounds_left separator faulty round each (suc n) =
     let (before, earlier) = rounds_left separator faulty round each n in
     let (last, here) = each n in
     (append before (append (parting separator faulty n) last), (before, last, earlier, here, refl))
 
-all_rounds_left : (separator : Forest) (faulty : ℕ → ℕ → Bool) (round : ℕ → ℕ → Forest → Type 0) → ((i n : ℕ) → Exists (round i n)) → (e : Extent)
+all_rounds_left : (separator : Forest) (faulty : ℕ → ℕ → Bool) (round : ℕ → ℕ → Forest → Type 0)
+    → ((i n : ℕ) → Exists (round i n)) → (e : Extent)
     → Exists (AreAllRoundsLeft separator faulty round e)
 all_rounds_left separator faulty round each endless = (none, refl)
-all_rounds_left separator faulty round each (finite n) = rounds_left separator (λ i. faulty i n) (λ i. round i n) (λ i. each i n) n
+all_rounds_left separator faulty round each (finite n) =
+    rounds_left separator (λ i. faulty i n) (λ i. round i n) (λ i. each i n) n
 
-rounds_written : (separator : Forest) (round : ℕ → Forest → Type 0) (test : ℕ → Bool) → ((i : ℕ) → test i ≡ false → Exists (round i)) → (n : ℕ) → any_below test n ≡ false
+rounds_written : (separator : Forest) (round : ℕ → Forest → Type 0) (test : ℕ → Bool)
+    → ((i : ℕ) → test i ≡ false → Exists (round i)) → (n : ℕ) → any_below test n ≡ false
     → Exists (AreRounds separator round n)
 rounds_written separator round test each zero h = (none, refl)
 rounds_written separator round test each (suc zero) h = each 0 h
@@ -54,10 +59,12 @@ rounds_written separator round test each (suc (suc n)) h =
     let (last, here) = each (suc n) (or_parts _ _ h).1 in
     (append before (append separator last), (before, last, earlier, here, refl))
 
-kept_written : (separator : Forest) (round : ℕ → ℕ → Forest → Type 0) (test : ℕ → ℕ → Bool) (repeat : RepeatKind) → ((i n : ℕ) → test i n ≡ false → Exists (round i n)) → (e : Extent)
+kept_written : (separator : Forest) (round : ℕ → ℕ → Forest → Type 0) (test : ℕ → ℕ → Bool) (repeat : RepeatKind)
+    → ((i n : ℕ) → test i n ≡ false → Exists (round i n)) → (e : Extent)
     → (e ≡ endless → ⊥) → any_round test e ≡ false → Exists (AreKeptRounds separator round e)
 kept_written separator round test repeat each endless ends h = absurd (ends refl)
-kept_written separator round test repeat each (finite n) ends h = rounds_written separator (λ i. round i n) (λ i. test i n) (λ i. each i n) n h
+kept_written separator round test repeat each (finite n) ends h =
+    rounds_written separator (λ i. round i n) (λ i. test i n) (λ i. each i n) n h
 
 is_endless : Extent → Bool
 is_endless endless = true
@@ -88,20 +95,24 @@ module _ (g : Grammar) (Marks : Span → Span → Type 0) (call_site : Span) (so
         (leaf (punct (record p { span = t })) rest, (t, rest, m, r, refl))
 
     token_written : (t : Token) → Exists (IsMarked g Marks call_site env t)
-    token_written (ops.literal l) = let (t, m) = some l.span in (leaf (literal (record l { span = t })) none, (t, m, refl))
+    token_written (ops.literal l) = let (t, m) =
+        some l.span in (leaf (literal (record l { span = t })) none, (t, m, refl))
     token_written (ops.ident i) = let (t, m) = some i.span in (leaf (ident (record i { span = t })) none, (t, m, refl))
     token_written (ops.puncts ps) = puncts_written ps
 
-    variable_written : (name : Name) (span : Span) (o w : Option Value) → (is_none o ≡ false → is_simple w ≡ true) → Exists (IsVariable g Marks call_site env name span o w)
+    variable_written : (name : Name) (span : Span) (o w : Option Value) → (is_none o ≡ false → is_simple w ≡ true)
+        → Exists (IsVariable g Marks call_site env name span o w)
     variable_written name span None w h = (unbound_variable name span, refl)
     variable_written name span (Some v) (Some (fragment x)) h = written x.style span x.trees
-    variable_written name span (Some v) (Some (missing kind)) h = let (t, m) = some span in (default_trees kind t, (t, m, refl))
+    variable_written name span (Some v) (Some (missing kind)) h = let (t, m) =
+        some span in (default_trees kind t, (t, m, refl))
     variable_written name span (Some v) (Some (list vs)) h = absurd (true≢false (sym (h refl)))
     variable_written name span (Some v) (Some empty) h = absurd (true≢false (sym (h refl)))
     variable_written name span (Some v) None h = absurd (true≢false (sym (h refl)))
 
     -- a variable without a fault leads to one value, if it is bound
-    simple_of : (o w : Option Value) → (if is_none o then false else not (is_simple w)) ≡ false → is_none o ≡ false → is_simple w ≡ true
+    simple_of : (o w : Option Value) → (if is_none o then false else not (is_simple w)) ≡ false → is_none o ≡ false
+        → is_simple w ≡ true
     simple_of (Some v) w h e = go (is_simple w) h
       where
         go : (b : Bool) → not b ≡ false → b ≡ true
@@ -109,16 +120,22 @@ module _ (g : Grammar) (Marks : Span → Span → Type 0) (call_site : Span) (so
         go false k = absurd (true≢false k)
     simple_of None w h e = absurd (true≢false e)
 
-    concat_written : (span : Span) (text : Option (List ℕ)) → is_none text ≡ false → Exists (IsConcat g Marks call_site env span text)
+    concat_written : (span : Span) (text : Option (List ℕ)) → is_none text ≡ false
+        → Exists (IsConcat g Marks call_site env span text)
     concat_written span (Some text) h =
-        let (t, m) = some span in (leaf (ident (record { sym = text; is_raw = rawness (g.is_keyword text); span = t })) none, (t, m, refl))
+        let (t, m) = some span in (
+          leaf (ident (record { sym = text; is_raw = rawness (g.is_keyword text); span = t }))
+              none,
+          (t, m, refl),
+        )
     concat_written span None h = absurd (true≢false h)
 
     -- ---- beside a fault
 
     expression_left : (path : Path) (e : Expression) → Exists (LeavesExpression g Marks call_site env path e)
     expression_left path (count name depth) =
-        exists_unless (bound_fault name (count_fault name depth path) (value_of env name)) _ (λ n. (integer (total_of depth (followed env path name)) call_site, refl))
+        exists_unless (bound_fault name (count_fault name depth path) (value_of env name)) _
+        (λ n. (integer (total_of depth (followed env path name)) call_site, refl))
     expression_left path (concat elements span) = concat_written span (Some (name_left (joined env path elements))) refl
     expression_left path (ignore name span) = (none, refl)
     expression_left path (index depth) = (integer (index_of (level_at path depth)) call_site, refl)
@@ -130,15 +147,20 @@ module _ (g : Grammar) (Marks : Span → Span → Type 0) (call_site : Span) (so
       op_left (ops.group d body) path =
           let (opening, a) = some d.opening in
           let (close, b) = some d.close in
-          let (inside, h) = ops_left body path in
-          (group (record { opening = opening; close = close; kind = d.kind }) inside none, (opening, close, inside, a, b, h, refl))
+          let (inside, h) = ops_left body path in (
+            group (record { opening = opening; close = close; kind = d.kind }) inside none,
+            (opening, close, inside, a, b, h, refl),
+          )
       op_left (ops.variable name kind span) path =
-          exists_unless (variable_fault env path name) (IsVariable g Marks call_site env name span (value_of env name) (followed env path name))
+          exists_unless (variable_fault env path name)
+          (IsVariable g Marks call_site env name span (value_of env name) (followed env path name))
           (λ n. variable_written name span (value_of env name) (followed env path name)
-          (simple_of (value_of env name) (followed env path name) (sym (variable_some name path (value_of env name)) ∙ ap is_some n)))
+          (simple_of (value_of env name) (followed env path name)
+          (sym (variable_some name path (value_of env name)) ∙ ap is_some n)))
       op_left (ops.repetition body separator repeat) path =
           exists_unless (extent_fault repeat (kept_rounds repeat env path body)) _
-          (λ n. all_rounds_left (separator_trees separator) (λ i n. faults env (level i n path) body) (λ i n. LeaveAll g Marks call_site env (level i n path) body)
+          (λ n. all_rounds_left (separator_trees separator) (λ i n. faults env (level i n path) body)
+          (λ i n. LeaveAll g Marks call_site env (level i n path) body)
           (λ i n. ops_left body (level i n path)) (kept_rounds repeat env path body))
       op_left (ops.expression e) path = expression_left path e
 
@@ -151,11 +173,13 @@ module _ (g : Grammar) (Marks : Span → Span → Type 0) (call_site : Span) (so
 
     pub left_exists : (writes : Ops) → Exists (IsWhatIsLeft g Marks call_site env writes)
     left_exists writes =
-        let (inside, h) = ops_left writes [] in (group (record { opening = call_site; close = call_site; kind = Invisible }) inside none, (inside, h, refl))
+        let (inside, h) = ops_left writes [] in
+        (group (record { opening = call_site; close = call_site; kind = Invisible }) inside none, (inside, h, refl))
 
     -- ---- without a fault
 
-    expression_written : (path : Path) (e : Expression) → expression_faults env path e ≡ false → Exists (IsExpression g Marks call_site env path e)
+    expression_written : (path : Path) (e : Expression) → expression_faults env path e ≡ false
+        → Exists (IsExpression g Marks call_site env path e)
     expression_written path (ignore name span) h = (none, refl)
     expression_written path (count name depth) h = (integer (total_of depth (followed env path name)) call_site, refl)
     expression_written path (index depth) h = (integer (index_of (level_at path depth)) call_site, refl)
@@ -163,7 +187,9 @@ module _ (g : Grammar) (Marks : Span → Span → Type 0) (call_site : Span) (so
     expression_written path (concat elements span) h = concat_written span (concat_text env path elements) h
 
     -- a repetition with an extent that is no fault has an end
-    ends : (repeat : RepeatKind) (path : Path) (body : Ops) → extent_faults repeat (kept_rounds repeat env path body) ≡ false → kept_rounds repeat env path body ≡ endless → ⊥
+    ends : (repeat : RepeatKind) (path : Path) (body : Ops)
+        → extent_faults repeat (kept_rounds repeat env path body) ≡ false → kept_rounds repeat env path body ≡ endless
+        → ⊥
     ends ZeroOrOne path body h e = one_kept (rounds_of env path body) e
     ends ZeroOrMore path body h e = true≢false (sym (ap (extent_faults ZeroOrMore) e) ∙ h)
     ends OneOrMore path body h e = true≢false (sym (ap (extent_faults OneOrMore) e) ∙ h)
@@ -174,22 +200,30 @@ module _ (g : Grammar) (Marks : Span → Span → Type 0) (call_site : Span) (so
       op_written (ops.group d body) path h =
           let (opening, a) = some d.opening in
           let (close, b) = some d.close in
-          let (inside, w) = ops_written body path h in
-          (group (record { opening = opening; close = close; kind = d.kind }) inside none, (opening, close, inside, a, b, w, refl))
+          let (inside, w) = ops_written body path h in (
+            group (record { opening = opening; close = close; kind = d.kind }) inside none,
+            (opening, close, inside, a, b, w, refl),
+          )
       op_written (ops.variable name kind span) path h =
-          variable_written name span (value_of env name) (followed env path name) (simple_of (value_of env name) (followed env path name) h)
+          variable_written name span (value_of env name) (followed env path name)
+          (simple_of (value_of env name) (followed env path name) h)
       op_written (ops.repetition body separator repeat) path h =
-          kept_written (separator_trees separator) (λ i n. Substitutes g Marks call_site env (level i n path) body) (λ i n. faults env (level i n path) body) repeat
-          (λ i n e. ops_written body (level i n path) e) (kept_rounds repeat env path body) (ends repeat path body (or_parts _ _ h).0) (or_parts _ _ h).1
+          kept_written (separator_trees separator) (λ i n. Substitutes g Marks call_site env (level i n path) body)
+          (λ i n. faults env (level i n path) body) repeat
+          (λ i n e. ops_written body (level i n path) e) (kept_rounds repeat env path body)
+          (ends repeat path body (or_parts _ _ h).0) (or_parts _ _ h).1
       op_written (ops.expression e) path h = expression_written path e h
 
-      ops_written : (os : Ops) (path : Path) → faults env path os ≡ false → Exists (Substitutes g Marks call_site env path os)
+      ops_written : (os : Ops) (path : Path) → faults env path os ≡ false
+          → Exists (Substitutes g Marks call_site env path os)
       ops_written no_ops path h = (none, refl)
       ops_written (op o os) path h =
           let (first, a) = op_written o path (or_parts _ _ h).0 in
           let (rest, b) = ops_written os path (or_parts _ _ h).1 in
           (append first rest, (first, rest, a, b, refl))
 
-    pub substitution_exists : (writes : Ops) → faults env [] writes ≡ false → Exists (IsSubstitution g Marks call_site env writes)
+    pub substitution_exists : (writes : Ops) → faults env [] writes ≡ false
+        → Exists (IsSubstitution g Marks call_site env writes)
     substitution_exists writes h =
-        let (inside, w) = ops_written writes [] h in (group (record { opening = call_site; close = call_site; kind = Invisible }) inside none, (inside, w, refl))
+        let (inside, w) = ops_written writes [] h in
+        (group (record { opening = call_site; close = call_site; kind = Invisible }) inside none, (inside, w, refl))

@@ -51,12 +51,15 @@ IsNearness g call_site input r n = ComesNear g call_site input r n.unmatched n.b
 -- what is kept of a rule that doesn't apply: what its match reports, what is written beside its first fault, or that it
 -- begins otherwise than the argument
 abbrev pub IsRemains : {A : Type 0} → Grammar → (Span → Span → Type 0) → Span → Top → Rule → Remains A → Type 0
-IsRemains g Marks call_site input r (remains.Unfit bindings err) = IsUnfit g call_site input r (error_of err) (bound_by bindings)
-IsRemains g Marks call_site input r (remains.Faulty tree err) = IsRecovered g call_site input Marks r (top_group tree) (Some (error_of err))
+IsRemains g Marks call_site input r (remains.Unfit bindings err) =
+    IsUnfit g call_site input r (error_of err) (bound_by bindings)
+IsRemains g Marks call_site input r (remains.Faulty tree err) =
+    IsRecovered g call_site input Marks r (top_group tree) (Some (error_of err))
 IsRemains g Marks call_site input r remains.Unlike = Checked r.reads × (begins_otherwise r.reads input.1 ≡ true)
 
 -- a candidate is the rule at its place, with what is kept of it
-pub record IsCandidate {A : Type 0} (g : Grammar) (Marks : Span → Span → Type 0) (call_site : Span) (input : Top) (style : MacroCallStyle)
+pub record IsCandidate {A : Type 0} (g : Grammar) (Marks : Span → Span → Type 0) (call_site : Span) (input : Top)
+    (style : MacroCallStyle)
     (rs : List Rule) (c : Candidate A) : Type 0 where
   pub styled : IsStyledAt rs style c.idx (rule_of c.rule.now)
   pub remains : IsRemains g Marks call_site input (rule_of c.rule.now) c.remains
@@ -64,24 +67,29 @@ pub record IsCandidate {A : Type 0} (g : Grammar) (Marks : Span → Span → Typ
 -- what one rule comes to, in a call of its style
 abbrev pub IsTried : {A : Type 0} → Grammar → (Span → Span → Type 0) → Span → Top → Rule → Tried A → Type 0
 IsTried g Marks call_site input r (tried.Applies tree) =
-    (a : Applies g r.style input.1 r) × IsSubstitution g Marks call_site (environment_of a.items) r.writes (top_group tree)
+    (a : Applies g r.style input.1 r) × IsSubstitution g Marks call_site (environment_of a.items) r.writes
+    (top_group tree)
 IsTried g Marks call_site input r (tried.Fails n remains) =
     (Applies g r.style input.1 r → ⊥) × IsNearness g call_site input r n × IsRemains g Marks call_site input r remains
 
 -- what the rule with this index comes to
-abbrev pub IsConsidered : {A : Type 0} → Grammar → (Span → Span → Type 0) → MacroCallStyle → Span → Top → ℕ → Rule → Considered A → Type 0
+abbrev pub IsConsidered : {A : Type 0} → Grammar → (Span → Span → Type 0) → MacroCallStyle → Span → Top → ℕ → Rule
+    → Considered A → Type 0
 IsConsidered g Marks style call_site input n r considered.OtherStyle = r.style ≡ style → ⊥
 IsConsidered g Marks style call_site input n r (considered.Applies tree index) =
-    (a : Applies g style input.1 r) × IsSubstitution g Marks call_site (environment_of a.items) r.writes (top_group tree) × (index ≡ arm_of n)
+    (a : Applies g style input.1 r) × IsSubstitution g Marks call_site (environment_of a.items) r.writes
+    (top_group tree) × (index ≡ arm_of n)
 IsConsidered g Marks style call_site input n r (considered.Fails c) =
     (r.style ≡ style) × (Applies g style input.1 r → ⊥) × IsNearness g call_site input r c.nearness
     × IsRemains g Marks call_site input r c.remains × (rule_of c.rule.now ≡ r) × (c.idx ≡ n)
 
 -- what the rules come to: without a rule that applies, the closest one of the style
-abbrev pub IsChosen : {A : Type 0} → Grammar → (Span → Span → Type 0) → MacroCallStyle → Span → Top → List Rule → Choice A → Type 0
+abbrev pub IsChosen : {A : Type 0} → Grammar → (Span → Span → Type 0) → MacroCallStyle → Span → Top → List Rule
+    → Choice A → Type 0
 IsChosen g Marks style call_site input rs chosen.NoRule = HasStyle rs style → ⊥
 IsChosen g Marks style call_site input rs (chosen.Expanded tree index) =
     (n : ℕ) × IsExpansion g style input.1 Marks call_site rs n (top_group tree) × (index ≡ arm_of n)
 IsChosen g Marks style call_site input rs (chosen.Closest c) =
-    ((r : Rule) → Contains rs r → Applies g style input.1 r → ⊥) × IsNearest g call_site input style rs c.idx (rule_of c.rule.now)
+    ((r : Rule) → Contains rs r → Applies g style input.1 r → ⊥)
+    × IsNearest g call_site input style rs c.idx (rule_of c.rule.now)
     × IsRemains g Marks call_site input (rule_of c.rule.now) c.remains

@@ -12,8 +12,10 @@ Explains g rules argument index v = (r : Rule) × (slice_get rules index ≡ Som
 
 -- these are what the rule with this index wants where its match stops with that verdict
 abbrev pub WantsThere : Grammar → List Rule → Forest → ℕ → Verdict → List Wanted → Type 0
-WantsThere g rules argument index v ws = (r : Rule) × (slice_get rules index ≡ Some r) × AreWanted g r.reads argument v ws
+WantsThere g rules argument index v ws =
+    (r : Rule) × (slice_get rules index ≡ Some r) × AreWanted g r.reads argument v ws
 
 -- of a local ambiguity two of them that clash
 abbrev pub ClashesThere : Grammar → List Rule → Forest → ℕ → Verdict → Option (Wanted × Wanted) → Type 0
-ClashesThere g rules argument index v pair = (r : Rule) × (slice_get rules index ≡ Some r) × ClashThere g r.reads argument v pair
+ClashesThere g rules argument index v pair =
+    (r : Rule) × (slice_get rules index ≡ Some r) × ClashThere g r.reads argument v pair

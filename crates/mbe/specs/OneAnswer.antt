@@ -18,21 +18,26 @@ use Rattle.mbe.specs.Recovering.{Recovers}
 use Rattle.mbe.specs.Choice.{AreChecked}
 
 -- what `expand` promises: the tree, the place of its rule, and the error or none
-pub record IsAnswer (g : Grammar) (Marks : Span → Span → Type 0) (rs : List Rule) (style : MacroCallStyle) (input : Top) (call_site : Span)
+pub record IsAnswer (g : Grammar) (Marks : Span → Span → Type 0) (rs : List Rule) (style : MacroCallStyle) (input : Top)
+    (call_site : Span)
     (out : Forest) (index : Option ℕ) (err : Option ExpandError) : Type 0 where
   pub expands : Expands g Marks rs style input.1 call_site out index err
   pub recovers : Recovers g call_site input Marks rs style out index err
 
--- Where the marker returns one span for each, a call has one answer at most: one tree, one place, and one error or none.
+-- Where the marker returns one span for each, a call has one answer at most: one tree, one place, and one error or
+-- none.
 abbrev pub OneAnswer : (Span → Span → Type 0) → Type 0
-OneAnswer Marks = HasOneAnswer Marks → (g : Grammar) (rs : List Rule) (style : MacroCallStyle) (input : Top) (call_site : Span)
+OneAnswer Marks = HasOneAnswer Marks → (g : Grammar) (rs : List Rule) (style : MacroCallStyle) (input : Top)
+    (call_site : Span)
     (out other : Forest) (index place : Option ℕ) (err reported : Option ExpandError) → IsLawful g →
-    IsAnswer g Marks rs style input call_site out index err → IsAnswer g Marks rs style input call_site other place reported →
+    IsAnswer g Marks rs style input call_site out index err
+    → IsAnswer g Marks rs style input call_site other place reported →
     (out ≡ other) × (index ≡ place) × (err ≡ reported)
 
 -- A template faults, in the rounds of a path, exactly where it has a first fault.
 abbrev pub FaultsAgree : Type 0
-FaultsAgree = (call_site : Span) (env : Environment) (path : Path) (os : Ops) → is_some (first_fault call_site env path os) ≡ faults env path os
+FaultsAgree = (call_site : Span) (env : Environment) (path : Path) (os : Ops)
+    → is_some (first_fault call_site env path os) ≡ faults env path os
 
 -- the marker returns a span for each
 abbrev pub HasSomeSpan : (Span → Span → Type 0) → Type 0
@@ -40,5 +45,7 @@ HasSomeSpan Marks = (s : Span) → (t : Span) × Marks s t
 
 -- Then a call of checked rules has an answer.
 abbrev pub HasAnswer : (Span → Span → Type 0) → Type 0
-HasAnswer Marks = HasSomeSpan Marks → (g : Grammar) (rs : List Rule) (style : MacroCallStyle) (input : Top) (call_site : Span) → IsLawful g → AreChecked rs →
-    (out : Forest) × (index : Option ℕ) × (err : Option ExpandError) × IsAnswer g Marks rs style input call_site out index err
+HasAnswer Marks = HasSomeSpan Marks → (g : Grammar) (rs : List Rule) (style : MacroCallStyle) (input : Top)
+    (call_site : Span) → IsLawful g → AreChecked rs →
+    (out : Forest) × (index : Option ℕ) × (err : Option ExpandError)
+    × IsAnswer g Marks rs style input call_site out index err

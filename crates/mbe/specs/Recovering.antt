@@ -1,4 +1,5 @@
--- What a call comes to where no rule applies: which rule is the closest, why it doesn't apply, and what is written of it (as in rust-analyzer).
+-- What a call comes to where no rule applies: which rule is the closest, why it doesn't apply, and what is written of
+-- it (as in rust-analyzer).
 use Rattle.std.specs.Prelude.{◌≡◌, ◌≢◌, ◌⊎◌, ◌-◌, ◌^◌, ℕ, min, List, [], Option, Some}
 use Rattle.mbe_tt.specs.declared.span.Span.{Span}
 use Rattle.mbe_tt.specs.declared.span.DelimSpan.{DelimSpan}
@@ -51,7 +52,8 @@ module _ (g : Grammar) (call_site : Span) (input : Top) where
     pub bindings : (err : ExpandError) × (env : Environment) × FailsWith r err env
         × (bound ≡ min (binding_total env) (2 ^ 64 - 1))
 
-  -- The rule at that place is the closest of the style: fewest trees are left and, among these, most is bound. The earliest of equals.
+  -- The rule at that place is the closest of the style: fewest trees are left and, among these, most is bound. The
+  -- earliest of equals.
   pub record IsNearest (style : MacroCallStyle) (rs : List Rule) (n : ℕ) (rule : Rule) : Type 0 where
     pub left : ℕ → ℕ
     pub bound : ℕ → ℕ
@@ -60,7 +62,8 @@ module _ (g : Grammar) (call_site : Span) (input : Top) where
     pub first : (m : ℕ) (r : Rule) → IsStyledAt rs style m r → GoesBefore left bound n m
 
   -- what is given of a rule that doesn't apply: its error, and what its template writes under what is bound
-  pub record IsRecovered (Marks : Span → Span → Type 0) (r : Rule) (out : Forest) (err : Option ExpandError) : Type 0 where
+  pub record IsRecovered (Marks : Span → Span → Type 0) (r : Rule) (out : Forest)
+      (err : Option ExpandError) : Type 0 where
     pub error : ExpandError
     pub env : Environment
     pub reported : err ≡ Some error
@@ -77,6 +80,7 @@ module _ (g : Grammar) (call_site : Span) (input : Top) where
     pub recovered : IsRecovered Marks rule out err
 
   -- An answer with an error is that of the closest rule.
-  abbrev pub Recovers : (Span → Span → Type 0) → List Rule → MacroCallStyle → Forest → Option ℕ → Option ExpandError → Type 0
+  abbrev pub Recovers : (Span → Span → Type 0) → List Rule → MacroCallStyle → Forest → Option ℕ → Option ExpandError
+      → Type 0
   Recovers Marks rs style out index err =
       (e : ExpandError) → err ≡ Some e → HasStyle rs style → IsRecovery Marks rs style out index err

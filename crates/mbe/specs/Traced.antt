@@ -27,25 +27,31 @@ pub record IsOfArgument (argument : Forest) (x : Fragment) (part : Forest) : Typ
   pub spans : spans_of part ≡ spans_of (strip_invisible x.trees)
 
 module _ (g : Grammar) (Marks : Span → Span → Type 0) (argument : Forest) (call_site : Span) where
-  -- a result of the marker for a span of the template, the call site, a span of a separator or an unbound name, or one of
+  -- a result of the marker for a span of the template, the call site, a span of a separator or an unbound name, or one
+  -- of
   -- the argument
   abbrev pub HasSource : Environment → Ops → Span → Type 0
   HasSource env template span = ((s : Span) × IsSpanIn s (marked_spans template) × Marks s span) ⊎ ((span ≡ call_site)
       ⊎ (IsSpanIn span (kept_spans env template) ⊎ IsSpanIn span (spans_of argument)))
 
-  -- What is written by a rule under a reading. A variable of kind `tt`, `ident`, `literal` or `lifetime` writes trees of
-  -- the argument; each span has a source; and a star with fewer than 65536 rounds, none of which faults, writes them all.
+  -- What is written by a rule under a reading. A variable of kind `tt`, `ident`, `literal` or `lifetime` writes trees
+  -- of
+  -- the argument; each span has a source; and a star with fewer than 65536 rounds, none of which faults, writes them
+  -- all.
   pub record Traced (r : Rule) (is : Items) (out : Forest) : Type 0 where
     pub written : IsSubstitution g Marks call_site (environment_of is) r.writes out
-    pub variables : (path : Path) (name : Name) (kind : Option MetaVarKind) (span : Span) (x : Fragment) (part : Forest) →
+    pub variables : (path : Path) (name : Name) (kind : Option MetaVarKind) (span : Span) (x : Fragment) (part : Forest)
+        →
         followed (environment_of is) path name ≡ Some (fragment x) → x.style ≡ stripped →
-        Writes g Marks call_site (environment_of is) path (ops.variable name kind span) part → IsOfArgument argument x part
+        Writes g Marks call_site (environment_of is) path (ops.variable name kind span) part
+        → IsOfArgument argument x part
     pub spans : (span : Span) → IsSpanIn span (spans_of out) → HasSource (environment_of is) r.writes span
     pub stars : (path : Path) (body : Ops) (separator : Option Separator) (n : ℕ) (part : Forest) →
         rounds_of (environment_of is) path body ≡ finite n → n < 65536 →
         ((i : ℕ) → i < n → IsFalse (faults (environment_of is) (level i n path) body)) →
         Writes g Marks call_site (environment_of is) path (ops.repetition body separator ZeroOrMore) part →
-        AreRounds (separator_trees separator) (λ i. Substitutes g Marks call_site (environment_of is) (level i n path) body) n part
+        AreRounds (separator_trees separator)
+        (λ i. Substitutes g Marks call_site (environment_of is) (level i n path) body) n part
 
 -- Each answer without an error that `expand` may give is so written, by the first rule that applies.
 abbrev pub AnswersAreTraced : (Span → Span → Type 0) → Type 0

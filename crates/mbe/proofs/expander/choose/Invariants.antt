@@ -9,6 +9,8 @@ use Rattle.mbe.proofs.expander.choose.Given as goal
 abbrev pub invariant-loop-idx : goal.invariant-loop-idx
 invariant-loop-idx g l = record {
   none : NoneApplies (g.G.FragmentGrammar.grammar l.grammar) l.call_style l.input.1 (take l.idx (rules_seen l.rules));
-  nearest : IsSoFar (g.G.FragmentGrammar.grammar l.grammar) l.call_site l.input l.call_style (rules_seen l.rules) l.idx (option_map candidate_seen l.nearest);
-  kept : IfSome l.nearest (IsCandidate (g.G.FragmentGrammar.grammar l.grammar) (λ s t. g.M.Fn.post l.marker (s, tt) t) l.call_site l.input l.call_style (rules_seen l.rules));
+  nearest : IsSoFar (g.G.FragmentGrammar.grammar l.grammar) l.call_site l.input l.call_style (rules_seen l.rules) l.idx
+      (option_map candidate_seen l.nearest);
+  kept : IfSome l.nearest (IsCandidate (g.G.FragmentGrammar.grammar l.grammar) (λ s t. g.M.Fn.post l.marker (s, tt) t)
+      l.call_site l.input l.call_style (rules_seen l.rules));
 }

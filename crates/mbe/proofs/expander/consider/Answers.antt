@@ -20,5 +20,11 @@ returns-in-Applies g c =
 pub returns-in-Fails : goal.returns-in-Fails
 returns-in-Fails g c =
     let own = differs_false the_type (search rules) _ _ (sym c.ne.ensures ∙ c.if-ne.false) in
-    let tried = rw c.in-Fails.is at c.in_ok-tried.ensures in
-    (own, (λ a. tried.0 (record { styled = refl; items = a.items; fits = a.fits; faultless = a.faultless })), tried.1, tried.2, refl, refl)
+    let tried = rw c.in-Fails.is at c.in_ok-tried.ensures in (
+      own,
+      (λ a. tried.0 (record { styled = refl; items = a.items; fits = a.fits; faultless = a.faultless })),
+      tried.1,
+      tried.2,
+      refl,
+      refl,
+    )

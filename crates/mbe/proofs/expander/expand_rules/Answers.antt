@@ -29,7 +29,11 @@ returns-in-Closest-clause-expands g c =
     (λ x index given. record {
       sound = λ n. absurd (true≢false (sym (ap is_some given.reported) ∙ n));
       complete = λ s k a. absurd (it.0 s k a);
-      recovers = λ e y s. (c.in-Closest.candidate.idx, closest h c.args.call_site c.args.input.now c.args.call_style rs c.in-Closest.candidate.idx _ it.1, index);
+      recovers = λ e y s. (
+        c.in-Closest.candidate.idx,
+        closest h c.args.call_site c.args.input.now c.args.call_style rs c.in-Closest.candidate.idx _ it.1,
+        index,
+      );
       no_rule = λ other. absurd (other (_, at_place rs _ _ it.1.styled.0, it.1.styled.1));
     })
     c.recovered.ensures.index c.recovered.ensures.recovered
@@ -38,5 +42,11 @@ pub returns-in-Closest-clause-recovers : goal.returns-in-Closest-clause-recovers
 returns-in-Closest-clause-recovers g c =
     let it = rw c.in-Closest.is at c.in_ok-choice.ensures in
     ok_both c.recovered.result _ _ _
-    (λ x index given e y s. record { place = c.in-Closest.candidate.idx; rule = _; nearest = it.1; named = index; recovered = given })
+    (λ x index given e y s. record {
+      place = c.in-Closest.candidate.idx;
+      rule = _;
+      nearest = it.1;
+      named = index;
+      recovered = given;
+    })
     c.recovered.ensures.index c.recovered.ensures.recovered

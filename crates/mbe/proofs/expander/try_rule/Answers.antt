@@ -13,5 +13,6 @@ returns-then-begins_otherwise g c =
     let law = g.met.G.FragmentGrammar.lawful c.args.grammar.now in
     let other = sym (ap (begins_otherwise r.reads) same)
     ∙ (sym c.begins_otherwise.ensures ∙ c.if-begins_otherwise.true) in
-    let both = unlike_tried h c.args.call_site c.args.input.now r law c.requires.checked other _ c.requires.trees refl in
+    let both = unlike_tried h c.args.call_site c.args.input.now r law c.requires.checked other _ c.requires.trees
+    refl in
     (both.0, both.1, (c.requires.checked, other))

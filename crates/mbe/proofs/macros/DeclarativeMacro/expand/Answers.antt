@@ -7,4 +7,5 @@ use Rattle.mbe.proofs.macros.DeclarativeMacro.expand.Goals as goal
 
 pub expand_rules-requires-clause-checked : goal.expand_rules-requires-clause-checked
 expand_rules-requires-clause-checked g c =
-    subst (λ rs. AreChecked (rules_seen rs)) (sym c.deref.ensures.value) (all_checked (macro_of c.args.self.now) c.args.self.now.tells_refusal c.requires.checked)
+    subst (λ rs. AreChecked (rules_seen rs)) (sym c.deref.ensures.value)
+    (all_checked (macro_of c.args.self.now) c.args.self.now.tells_refusal c.requires.checked)

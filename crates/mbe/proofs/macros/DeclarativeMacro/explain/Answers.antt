@@ -14,7 +14,8 @@ match_argument-requires g c =
     let items = c.args.self.now.rules.items in
     let within = subst (λ n. c.args.rule < n) (length_seen rule_of items) c.requires.rule in
     let here = seen_at rule_of items c.args.rule c.index-rule.result.now within c.index-rule.ensures in
-    all_checked (macro_of c.args.self.now) c.args.self.now.tells_refusal c.requires.checked c.args.rule (rule_of c.index-rule.result.now) here
+    all_checked (macro_of c.args.self.now) c.args.self.now.tells_refusal c.requires.checked c.args.rule
+    (rule_of c.index-rule.result.now) here
 
 pub returns : goal.returns
 returns g c =
@@ -24,5 +25,6 @@ returns g c =
     let h = g.G.FragmentGrammar.grammar c.args.grammar.now in
     let v = verdict_seen c.in_ok-matched.matched.verdict in
     let same : trees c.remaining-argument.result ≡ c.args.tt.now.1 = c.remaining-argument.ensures ∙ c.iter.ensures in
-    let right = subst (λ f. IsVerdict h (template_of c.index-rule.result.now.lhs) f v) same c.in_ok-matched.ensures.verdict in
+    let right = subst (λ f. IsVerdict h (template_of c.index-rule.result.now.lhs) f v) same
+    c.in_ok-matched.ensures.verdict in
     record { explains = (rule_of c.index-rule.result.now, here, right) }

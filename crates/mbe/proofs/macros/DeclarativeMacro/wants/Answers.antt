@@ -16,7 +16,8 @@ wants_of-requires g c =
     let items = c.args.self.now.rules.items in
     let within = subst (λ n. c.args.rule < n) (length_seen rule_of items) c.requires.rule in
     let here = seen_at rule_of items c.args.rule c.index-rule.result.now within c.index-rule.ensures in
-    all_checked (macro_of c.args.self.now) c.args.self.now.tells_refusal c.requires.checked c.args.rule (rule_of c.index-rule.result.now) here
+    all_checked (macro_of c.args.self.now) c.args.self.now.tells_refusal c.requires.checked c.args.rule
+    (rule_of c.index-rule.result.now) here
 
 ok_to : {X E : Type 0} (r : Result X E) (P Q : X → Type 0) → ((x : X) → P x → Q x) → IfOk r P → IfOk r Q
 ok_to (Ok x) P Q f p = f x p
@@ -34,7 +35,16 @@ returns g c =
     let r = c.wants_of.result in
     let e = c.wants_of.ensures in
     record {
-      explains = ok_to r _ _ (λ w p. (rule, here, subst (λ f. IsVerdict h pat f (verdict_seen w.verdict)) same p)) e.verdict;
-      wants = ok_to r _ _ (λ w p. (rule, here, subst (λ f. AreWanted h pat f (verdict_seen w.verdict) (map wanted_seen w.wanted.items)) same p)) e.wanted;
-      clashes = ok_to r _ _ (λ w p. (rule, here, subst (λ f. ClashThere h pat f (verdict_seen w.verdict) (option_map pair_seen w.clash)) same p)) e.clash;
+      explains = ok_to r _ _ (λ w p. (rule, here, subst (λ f. IsVerdict h pat f (verdict_seen w.verdict)) same p))
+          e.verdict;
+      wants = ok_to r _ _ (λ w p. (
+        rule,
+        here,
+        subst (λ f. AreWanted h pat f (verdict_seen w.verdict) (map wanted_seen w.wanted.items)) same p,
+      )) e.wanted;
+      clashes = ok_to r _ _ (λ w p. (
+        rule,
+        here,
+        subst (λ f. ClashThere h pat f (verdict_seen w.verdict) (option_map pair_seen w.clash)) same p,
+      )) e.clash;
     }

@@ -10,4 +10,5 @@ returns g c =
     let two = macro_of c.args.other.now in
     let by_key = macros_by_key one two in
     let told = c.same_macro.ensures in
-    same_by key_code (macro_key one) (macro_key two) c.same_macro.result (λ h. by_key.1 (told.0 h), λ h. told.1 (by_key.0 h))
+    same_by key_code (macro_key one) (macro_key two) c.same_macro.result
+    (λ h. by_key.1 (told.0 h), λ h. told.1 (by_key.0 h))
