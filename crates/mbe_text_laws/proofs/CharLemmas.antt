@@ -47,7 +47,8 @@ quote_at false true c cs end e s go h =
     absurd (let w : from_later_quote false (c ∷ cs) ≡ None = rw (from_later_quote, e, s) refl in
     let z : None ≡ Some end = sym w ∙ h in cc)
 quote_at false false c [] end e s go h =
-    absurd (let w : from_later_quote false (c ∷ []) ≡ from_later_quote (c == 92) [] = rw (from_later_quote, e, s) refl in
+    absurd (let w : from_later_quote false (c ∷ []) ≡ from_later_quote (c == 92) [] = rw
+    (from_later_quote, e, s) refl in
     let z : None ≡ Some end = sym (w ∙ no_more (c == 92)) ∙ h in cc)
 quote_at false false c (d ∷ ds) end e s go h =
     let w : from_later_quote false (c ∷ (d ∷ ds)) ≡ from_later_quote (c == 92) (d ∷ ds) =
@@ -162,20 +163,24 @@ single_end c end false true e s h =
     absurd (let w : from_later_quote false (c ∷ []) ≡ None = rw (from_later_quote, e, s) refl in
     let z : None ≡ Some end = sym w ∙ h in cc)
 single_end c end false false e s h =
-    absurd (let w : from_later_quote false (c ∷ []) ≡ from_later_quote (c == 92) [] = rw (from_later_quote, e, s) refl in
+    absurd (let w : from_later_quote false (c ∷ []) ≡ from_later_quote (c == 92) [] = rw
+    (from_later_quote, e, s) refl in
     let z : None ≡ Some end = sym (w ∙ no_more (c == 92)) ∙ h in cc)
 
 single_at : (kind : LitKind) (q : _) (from : List ℕ) (x c : ℕ) (r : Shape × List ℕ) (o : Option (List ℕ))
     → from_char_end (c ∷ []) ≡ o → char kind q from (x ∷ (c ∷ [])) ≡ Ok r → ⊥
 single_at kind q from x c r None e h =
-    let z : Err (open_char q, x ∷ (c ∷ [])) ≡ Ok r = sym (unended kind q from x (c ∷ []) e) ∙ h in absurd (cc)
+    let fault : Token = Err (open_char q, x ∷ (c ∷ [])) in
+    let z : fault ≡ Ok r = sym (unended kind q from x (c ∷ []) e) ∙ h in absurd (cc)
 single_at kind q from x c r (Some end) e h =
-    let w : from_char_end (c ∷ []) ≡ from_later_quote false (c ∷ []) = rw (from_char_end, and_no (not (c == 92))) refl in
+    let w : from_char_end (c ∷ []) ≡ from_later_quote false (c ∷ []) = rw (from_char_end, and_no (not
+    (c == 92))) refl in
     let is = single_end c end (c == 39) (stops c []) refl refl (sym w ∙ e) in
-    let before : char kind q from (x ∷ (c ∷ [])) ≡ char_until kind q from (c ∷ []) end = rw (char, e) refl in
+    let before : char kind q from (x ∷ (c ∷ [])) ≡ char_until kind q from (c ∷ []) end =
+    rw (char, e) refl in
     let fails : char_until kind q from (c ∷ []) (c ∷ []) ≡ Err (wrong.EmptyChar, c ∷ []) = refl in
-    let z : Err (wrong.EmptyChar, c ∷ []) ≡ Ok r =
-    sym (before ∙ (ap (char_until kind q from (c ∷ [])) is ∙ fails)) ∙ h in absurd (cc)
+    let fault : Token = Err (wrong.EmptyChar, c ∷ []) in
+    let z : fault ≡ Ok r = sym (before ∙ (ap (char_until kind q from (c ∷ [])) is ∙ fails)) ∙ h in absurd (cc)
 
 char_on : (kind : LitKind) (q : _) (from other : List ℕ) (x : ℕ) (cs rest : List ℕ) (shape : Shape)
     → char kind q from (x ∷ cs) ≡ Ok (shape, []) → continues_word rest ≡ false
@@ -259,16 +264,19 @@ lifetime_no : (e : Edition) (cs : List ℕ) → reads_literal (lifetime e cs) �
 lifetime_no e [] = lifetime_ends (not (begins_with (codes "'r#") [] && false)) e []
 lifetime_no e (a ∷ []) = lifetime_ends (not (begins_with (codes "'r#") (a ∷ []) && false)) e (a ∷ [])
 lifetime_no e (a ∷ (b ∷ [])) = lifetime_ends (not (begins_with (codes "'r#") (a ∷ (b ∷ [])) && false)) e (a ∷ (b ∷ []))
-lifetime_no e (a ∷ (b ∷ (c ∷ []))) = lifetime_ends (not (begins_with (codes "'r#") (a ∷ (b ∷ (c ∷ []))) && false)) e (a ∷ (b ∷ (c ∷ [])))
+lifetime_no e (a ∷ (b ∷ (c ∷ []))) = lifetime_ends (not (begins_with (codes "'r#") (a ∷ (b ∷ (c ∷ []))) && false)) e
+    (a ∷ (b ∷ (c ∷ [])))
 lifetime_no e (a ∷ (b ∷ (c ∷ (d ∷ cs)))) =
-    lifetime_ends (not (begins_with (codes "'r#") (a ∷ (b ∷ (c ∷ (d ∷ cs)))) && is_start d)) e (a ∷ (b ∷ (c ∷ (d ∷ cs))))
+    lifetime_ends (not (begins_with (codes "'r#") (a ∷ (b ∷ (c ∷ (d ∷ cs)))) && is_start d)) e (a ∷ (b ∷ (c ∷
+    (d ∷ cs))))
 
 no_literal : (t : Token) (text suffix : List ℕ) (n : ℕ) (kind : LitKind) (rest : List ℕ) → reads_literal t ≡ false
     → t ≡ Ok (literal_of text suffix n kind, rest) → ⊥
 no_literal t text suffix n kind rest h e = let z : true ≡ false = sym (ap reads_literal e) ∙ h in absurd (cc)
 
 quote_if : (b : Bool) (q : _) (e : Edition) (cs rest : List ℕ) (text suffix : List ℕ) (n : ℕ) (kind : LitKind)
-    → (if b then lifetime e (39 ∷ cs) else char kinds.Char q (39 ∷ cs) (39 ∷ cs)) ≡ Ok (literal_of text suffix n kind, [])
+    → (if b then lifetime e (39 ∷ cs) else char kinds.Char q (39 ∷ cs) (39 ∷ cs)) ≡ Ok
+    (literal_of text suffix n kind, [])
     → continues_word rest ≡ false
     → (if b then lifetime e (39 ∷ (cs ++ rest)) else char kinds.Char q (39 ∷ (cs ++ rest)) (39 ∷ (cs ++ rest)))
     ≡ Ok (literal_of text suffix n kind, rest)

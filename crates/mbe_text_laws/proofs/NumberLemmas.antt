@@ -1,5 +1,5 @@
 -- A number that is read by itself is read before whatever doesn't go on with it.
-use Rattle.std.proofs.Common.{◌≡◌, ℕ, ◌==◌, ◌-◌, ◌+◌, ◌<◌, ◌≤◌, not, ◌&&◌, ◌||◌, if◌then◌else◌, Bool, true, false, List, [], ◌∷◌, ◌++◌, length, take, refl, sym, ap, ◌∙◌, arith, codes, Option, Some, None, Result, Ok, Err, append-nil, length-append, encode_utf8_all, chars, subst}
+use Rattle.std.proofs.Common.{◌≡◌, ℕ, ◌==◌, ◌-◌, ◌+◌, ◌<◌, ◌&&◌, ◌||◌, if◌then◌else◌, Bool, true, false, List, [], ◌∷◌, ◌++◌, length, take, refl, sym, ap, ◌∙◌, arith, codes, Option, Some, None, Result, Ok, Err, append-nil, length-append, encode_utf8_all, chars}
 use Rattle.std.specs.Prelude.{unwrap_or}
 use Rattle.std.specs.Char.{is_ascii_digit, is_ascii_hexdigit, char_set_contains}
 use Rattle.std.proofs.lemmas.Bool.Decides.{nat_tests}
@@ -16,7 +16,7 @@ use Rattle.mbe_text.specs.Escapes.{At}
 use Rattle.mbe_text.specs.Rust.{Token, read_rust, literal, base_of, digit_of, has_digit, past_exponent, past_digits, past_fraction, large_digit, is_too_large, is_ten, float, integer, number_of, number}
 use Rattle.mbe_text.specs.Shapes.{Shape, identifier, literal_of, punct_of, lifetime_of, doc_of, opening, closing}
 use Rattle.mbe_text_laws.specs.Back.{NumbersAreRead, ends_with_dot, is_bare_integer}
-use Rattle.mbe_text_laws.specs.Rust.{is_start, continues_word, begins_word, begins_number, begins_literal, begins_field, ends_literal, IsReadBefore, IsLiteral}
+use Rattle.mbe_text_laws.specs.Rust.{is_start, continues_word, begins_word, begins_number, begins_literal, begins_field, ends_literal, IsReadBefore}
 use Rattle.mbe_text_laws.proofs.QuoteLemmas.{literal_on, ended, field_ended, dot_ended, not_start_of, token_of, shape_of}
 
 -- ---- what goes on with no word
@@ -113,7 +113,8 @@ ends (c ∷ cs) h =
     let decimal = no_decimal c digit in
     let hex = hex_of c (is_ascii_hexdigit c || c == 95) refl h in record {
       two = record { digits = rw (low, decimal) refl; class = digit; large = rw (two_not_large c digit, digit) refl };
-      eight = record { digits = rw (low, decimal) refl; class = digit; large = rw (eight_not_large c digit, digit) refl };
+      eight = record { digits = rw (low, decimal) refl; class = digit; large = rw
+      (eight_not_large c digit, digit) refl };
       ten = record { digits = rw (low, decimal) refl; class = digit; large = rw digit refl };
       sixteen = record { digits = rw (low, no_hex c hex) refl; class = hex; large = rw digit refl };
       exponent = exponent_of c h;
@@ -167,7 +168,8 @@ Passed = Result (Option (List ℕ)) At
 ok_same : (x y : Option (List ℕ)) → (let a : Passed = Ok x in a) ≡ Ok y → x ≡ y
 ok_same x y h = cc
 
-to_more : (x y : Option (List ℕ)) (rest : List ℕ) (p : Passed) → p ≡ Ok (more rest x) → (let a : Passed = Ok x in a) ≡ Ok y
+to_more : (x y : Option (List ℕ)) (rest : List ℕ) (p : Passed) → p ≡ Ok (more rest x)
+    → (let a : Passed = Ok x in a) ≡ Ok y
     → p ≡ Ok (more rest y)
 to_more x y rest p h k = h ∙ ap (λ (z : Option (List ℕ)). Ok (more rest z)) (ok_same x y k)
 
@@ -197,7 +199,8 @@ signed_on from other digits rest o true e n h =
     (ap (λ (b : Bool). signed b other (digits ++ rest)) (has_digit_on (base_of []).0 digits rest n.ten.digits ∙ e)
     ∙ ap (λ (x : List ℕ). Ok (Some x)) (past_on (digit_of (base_of []).0) digits rest n.ten.class)) h
 
-exponent_at : (from other : List ℕ) (c : ℕ) (ds rest : List ℕ) (o : Option (List ℕ)) (b : Bool) → char_set_contains (codes "eE") c ≡ b
+exponent_at : (from other : List ℕ) (c : ℕ) (ds rest : List ℕ) (o : Option (List ℕ)) (b : Bool)
+    → char_set_contains (codes "eE") c ≡ b
     → Ends rest → past_exponent from (c ∷ ds) ≡ Ok o → past_exponent other (c ∷ (ds ++ rest)) ≡ Ok (more rest o)
 exponent_at from other c ds rest o false e n h =
     to_more None o rest (past_exponent other (c ∷ (ds ++ rest))) (rw (past_exponent, e) refl)
@@ -217,7 +220,8 @@ exponent_on : (from other cs rest : List ℕ) (o : Option (List ℕ)) → Ends r
     → past_exponent other (cs ++ rest) ≡ Ok (more rest o)
 exponent_on from other [] rest o n h =
     to_more None o rest (past_exponent other rest) (no_exponent other rest n.exponent) h
-exponent_on from other (c ∷ cs) rest o n h = exponent_at from other c cs rest o (char_set_contains (codes "eE") c) refl n h
+exponent_on from other (c ∷ cs) rest o n h = exponent_at from other c cs rest o (char_set_contains
+    (codes "eE") c) refl n h
 
 -- ---- fractions
 
@@ -245,7 +249,8 @@ NoFraction rest = (from : List ℕ) → past_fraction from rest ≡ Ok None
 abbrev IsPoint : List ℕ → Type 0
 IsPoint rest = (from : List ℕ) → past_fraction from (46 ∷ rest) ≡ Ok (Some rest)
 
-no_point : (from : List ℕ) (c : ℕ) (cs : List ℕ) → (c == 46) ≡ false → past_fraction from (c ∷ cs) ≡ past_exponent from (c ∷ cs)
+no_point : (from : List ℕ) (c : ℕ) (cs : List ℕ) → (c == 46) ≡ false
+    → past_fraction from (c ∷ cs) ≡ past_exponent from (c ∷ cs)
 no_point from c cs h = rw h refl
 
 point_at : (from other : List ℕ) (d : ℕ) (ds rest : List ℕ) (o : Option (List ℕ)) (goes digit : Bool)
@@ -306,7 +311,8 @@ bytes_same cs r rest =
 
 integer_on : (base : _) (cs digits r rest : List ℕ) (shape : Shape) (l : Option (List ℕ))
     → large_digit base digits ≡ l → BaseEnds base rest → continues_word rest ≡ false
-    → integer base cs digits r ≡ Ok (shape, []) → integer base (cs ++ rest) (digits ++ rest) (r ++ rest) ≡ Ok (shape, rest)
+    → integer base cs digits r ≡ Ok (shape, []) → integer base (cs ++ rest) (digits ++ rest) (r ++ rest) ≡ Ok
+    (shape, rest)
 integer_on base cs digits r rest shape (Some at) e n k h =
     absurd (let w : integer base cs digits r ≡ Err (wrong.Digit, at) = rw (integer, e) refl in
     let z : Err (wrong.Digit, at) ≡ Ok (shape, []) = sym w ∙ h in cc)
@@ -409,9 +415,12 @@ number_at base cs d ds rest shape (Ok o) e g m n f p k h =
     let fraction : past_fraction (cs ++ rest) (past (digit_of base) (ds ++ rest)) ≡ Ok (more rest o) =
     ap (past_fraction (cs ++ rest)) left
     ∙ fraction_on cs (cs ++ rest) r rest o n
-    (λ q. f (bare_of base cs d ds shape (large_digit base (d ∷ ds)) e refl q h)) (λ q. p (last_past (digit_of base) ds q)) g in
-    number_is base (cs ++ rest) d (ds ++ rest) (Ok (more rest o)) (has_digit_on base (d ∷ ds) rest m.digits ∙ e) fraction
-    ∙ (ap (λ (x : List ℕ). finish (integer base (cs ++ rest) (d ∷ (ds ++ rest)) x) (float base (cs ++ rest)) (Ok (more rest o))) left
+    (λ q. f (bare_of base cs d ds shape (large_digit base (d ∷ ds)) e refl q h)) (λ q. p (last_past
+    (digit_of base) ds q)) g in
+    number_is base (cs ++ rest) d (ds ++ rest) (Ok (more rest o)) (has_digit_on base (d ∷ ds) rest m.digits
+    ∙ e) fraction
+    ∙ (ap (λ (x : List ℕ). finish (integer base (cs ++ rest) (d ∷ (ds ++ rest)) x) (float base (cs ++ rest)) (Ok
+    (more rest o))) left
     ∙ finish_on base cs (d ∷ ds) r rest shape o m k (sym (number_is base cs d ds (Ok o) e g) ∙ h))
 
 number_if : (base : _) (cs : List ℕ) (d : ℕ) (ds rest : List ℕ) (shape : Shape) (b : Bool)
@@ -425,7 +434,8 @@ number_if base cs d ds rest shape false e m n f p k h =
 number_if base cs d ds rest shape true e m n f p k h =
     number_at base cs d ds rest shape (past_fraction cs (past (digit_of base) ds)) e refl m n f p k h
 
-number_on : (base : _) (cs digits rest : List ℕ) (shape : Shape) → BaseEnds base rest → Ends rest → (is_bare shape ≡ true → NoFraction rest)
+number_on : (base : _) (cs digits rest : List ℕ) (shape : Shape) → BaseEnds base rest → Ends rest
+    → (is_bare shape ≡ true → NoFraction rest)
     → (ends_with_dot digits ≡ true → IsPoint rest) → continues_word rest ≡ false
     → number_of base cs digits ≡ Ok (shape, []) → number_of base (cs ++ rest) (digits ++ rest) ≡ Ok (shape, rest)
 number_on base cs [] rest shape m n f p k h = absurd (cc)
@@ -486,7 +496,8 @@ in_ten c d ds i j l =
     (rw (base_of, i, j, l) refl) (rw (base_of, i, j, l) refl)
 
 number_two : (c d : ℕ) (ds rest : List ℕ) (shape : Shape) (two eight sixteen : Bool)
-    → is_two c d ≡ two → is_eight c d ≡ eight → is_sixteen c d ≡ sixteen → Ends rest → (is_bare shape ≡ true → NoFraction rest)
+    → is_two c d ≡ two → is_eight c d ≡ eight → is_sixteen c d ≡ sixteen → Ends rest → (is_bare shape ≡ true
+    → NoFraction rest)
     → (ends_with_dot (d ∷ ds) ≡ true → IsPoint rest) → continues_word rest ≡ false
     → number (c ∷ (d ∷ ds)) ≡ Ok (shape, []) → number (c ∷ (d ∷ (ds ++ rest))) ≡ Ok (shape, rest)
 number_two c d ds rest shape true eight sixteen i j l n f p k h =
@@ -529,7 +540,8 @@ digit_read e c cs h =
     let d : (c == 99) ≡ false = grind (arith, nat_tests, h) in
     rw (read_rust, r, b, d, digit_not_start c h, h) refl
 
-read_on : (e : Edition) (cs rest : List ℕ) (shape : Shape) → begins_number cs ≡ true → Ends rest → (is_bare shape ≡ true → NoFraction rest)
+read_on : (e : Edition) (cs rest : List ℕ) (shape : Shape) → begins_number cs ≡ true → Ends rest
+    → (is_bare shape ≡ true → NoFraction rest)
     → (ends_with_dot cs ≡ true → IsPoint rest) → continues_word rest ≡ false
     → read_rust e cs ≡ Some (Ok (shape, [])) → read_rust e (cs ++ rest) ≡ Some (Ok (shape, rest))
 read_on e [] rest shape d n f p k h = absurd (cc)
@@ -538,13 +550,15 @@ read_on e (c ∷ cs) rest shape d n f p k h =
     ∙ ap Some (number_whole c cs rest shape n f p k (ap (token_of (Ok (shape, []))) (sym (digit_read e c cs d) ∙ h)))
 
 number_before : (e : Edition) (l : Literal) (rest : List ℕ) → begins_number (chars (literal_output l)) ≡ true
-    → (is_bare_integer l.kind l.suffix_len ≡ true → NoFraction rest) → (ends_with_dot (chars (literal_output l)) ≡ true → IsPoint rest) → continues_word rest ≡ false
+    → (is_bare_integer l.kind l.suffix_len ≡ true → NoFraction rest)
+    → (ends_with_dot (chars (literal_output l)) ≡ true → IsPoint rest) → continues_word rest ≡ false
     → IsReadBefore e l [] → IsReadBefore e l rest
 number_before e l rest d f p k b = record {
   text = b.text;
   suffix = b.suffix;
   parts = b.parts;
-  read = read_on e (chars (literal_output l)) rest (literal_of b.text b.suffix l.suffix_len l.kind) d (ends rest k) f p k
+  read = read_on e (chars (literal_output l)) rest (literal_of b.text b.suffix l.suffix_len l.kind) d
+    (ends rest k) f p k
       (sym (ap (read_rust e) (append-nil (chars (literal_output l)))) ∙ b.read);
 }
 

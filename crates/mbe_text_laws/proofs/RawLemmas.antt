@@ -1,5 +1,5 @@
 -- A raw string that is read by itself is read before whatever doesn't go on with its suffix.
-use Rattle.std.proofs.Common.{◌≡◌, ℕ, zero, suc, ◌==◌, ◌+◌, ◌<◌, ◌≤◌, not, ◌&&◌, ◌||◌, if◌then◌else◌, Bool, true, false, List, [], ◌∷◌, ◌++◌, length, drop, refl, sym, ap, ◌∙◌, arith, codes, Option, Some, None, Ok, Err, append_assoc, encode_utf8_all, chars}
+use Rattle.std.proofs.Common.{◌≡◌, ℕ, zero, suc, ◌==◌, ◌+◌, ◌≤◌, ◌&&◌, if◌then◌else◌, Bool, true, false, List, [], ◌∷◌, ◌++◌, length, drop, refl, sym, ap, ◌∙◌, arith, codes, Option, Some, None, Ok, Err, append_assoc, encode_utf8_all, chars}
 use Rattle.std.specs.Prelude.{nat_le, replicate}
 use Rattle.std.proofs.lemmas.Bool.Decides.{nat_tests}
 use Rattle.std.proofs.lemmas.List.{drop-append-le}
@@ -18,7 +18,7 @@ use Rattle.mbe_text.specs.Extents.{front, from_raw_end}
 use Rattle.mbe_text.specs.Rust.{Token, read_rust, literal, raw_kind, raw_until, raw_body, raw_string}
 use Rattle.mbe_text.specs.Shapes.{Shape, literal_of}
 use Rattle.mbe_text_laws.specs.Back.{RawStringsAreRead, is_raw}
-use Rattle.mbe_text_laws.specs.Rust.{is_start, continues_word, IsReadBefore}
+use Rattle.mbe_text_laws.specs.Rust.{continues_word, IsReadBefore}
 use Rattle.mbe_text_laws.proofs.EndLemmas.{r_is_start}
 use Rattle.mbe_text_laws.proofs.StepLemmas.{bytes_front}
 use Rattle.mbe_text_laws.proofs.QuoteLemmas.{front_of, literal_on, token_of, checked, checked_is, is_identifier, Extends, extends, one_char, two_chars, letter_begins, b_is_start, c_is_start, ended, dot_ended}
@@ -173,7 +173,8 @@ body_at q from other n cs rest shape (Some end) true e le h k =
     drop-append-le (m + 1) (f.quote ∷ f.more) rest (omega (arith, long)) in
     after ∙ (ap (λ (y : List ℕ). raw_until q m y (f.quote ∷ (f.more ++ rest))) whole
     ∙ (until_is q m f.own f.quote (f.more ++ rest)
-    ∙ (is.1 (f.quote ∷ (f.more ++ rest)) (literal kind (encode_utf8_all f.own) (drop (m + 1) (f.quote ∷ (f.more ++ rest))))
+    ∙ (is.1 (f.quote ∷ (f.more ++ rest)) (literal kind (encode_utf8_all f.own) (drop (m + 1) (f.quote ∷
+    (f.more ++ rest))))
     ∙ (ap (λ (y : List ℕ). literal kind (encode_utf8_all f.own) y) dropped
     ∙ literal_on kind (encode_utf8_all f.own) left rest shape is.0 k))))
 
@@ -193,7 +194,8 @@ marks_are (suc n) =
 -- a raw string, where that passes its `#`
 abbrev raw_from : List ℕ → (List ℕ → List ℕ → Token) → List ℕ → List ℕ → Token
 raw_from from body cs quote =
-    if begins_with (codes "\"") quote then body (bytes_before cs quote) (drop 1 quote) else Err (wrong.RawStringStart, from)
+    if begins_with (codes "\"") quote then body (bytes_before cs quote) (drop 1 quote) else Err
+    (wrong.RawStringStart, from)
 
 raw_is : (from : List ℕ) (body : List ℕ → List ℕ → Token) (n : ℕ) (cs : List ℕ) (quote : List ℕ) → quote ≡ 34 ∷ cs
     → raw_from from body (marked n ++ (34 ∷ cs)) quote ≡ body (marked n) cs
@@ -204,7 +206,8 @@ raw_is from body n cs quote e =
 string_of : (k q : _) (from : List ℕ) (n : ℕ) (cs : List ℕ) → has k 35 ≡ true → has k 34 ≡ false
     → raw_from from (raw_body q from) (marked n ++ (34 ∷ cs)) (past k (marked n ++ (34 ∷ cs)))
     ≡ raw_body q from (marked n) cs
-string_of k q from n cs h o = raw_is from (raw_body q from) n cs (past k (marked n ++ (34 ∷ cs))) (past_marks k n cs h o)
+string_of k q from n cs h o = raw_is from (raw_body q from) n cs (past k (marked n ++ (34 ∷ cs)))
+    (past_marks k n cs h o)
 
 string_is : (q : _) (from : List ℕ) (n : ℕ) (cs : List ℕ)
     → raw_string q from (marked n ++ (34 ∷ cs)) ≡ raw_body q from (marked n) cs

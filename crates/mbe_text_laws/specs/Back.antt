@@ -40,7 +40,7 @@ pub record ComesBack (edition : Edition) (file depth : ℕ) (f : Forest) : Type 
 abbrev pub TreesComeBack : Type 0
 TreesComeBack = (edition : Edition) (file depth : ℕ) (f : Forest) → IsRust edition f → ComesBack edition file depth f
 
--- ---- strings
+-- ---- strings and chars
 
 -- a string with escapes
 abbrev pub is_string : LitKind → Bool
@@ -61,8 +61,6 @@ abbrev pub StringsAreRead : Type 0
 StringsAreRead = (edition : Edition) (l : Literal) → is_string l.kind ≡ true → IsUtf8 (literal_output l)
     → IsReadBefore edition l []
     → IsLiteral edition l × MayPrecedeDots edition l
-
--- ---- chars and raw strings
 
 -- a char or a byte
 abbrev pub is_char : LitKind → Bool
@@ -126,8 +124,8 @@ is_bare_integer CStr suffix_len = false
 is_bare_integer (CStrRaw n) suffix_len = false
 is_bare_integer Err suffix_len = false
 
--- A number that is read whole by itself is a literal. But for `1.`, the `.` of a field or a range may follow it; any `.` may, where it is no
--- `1` either.
+-- A number that is read whole by itself is a literal. The `.` of a field or a range may follow it, but for `1.`; any `.`
+-- may, where it is no integer without a suffix either.
 abbrev pub NumbersAreRead : Type 0
 NumbersAreRead = (edition : Edition) (l : Literal) → begins_number (chars (literal_output l)) ≡ true
     → IsUtf8 (literal_output l) → IsReadBefore edition l []
