@@ -1,0 +1,7 @@
+// The tests of `mbe_cfg`, through its public calls. What each attribute means is as rustc 1.95 says (`tools/cfg-forms.py` asks it).
+#![tactic(auto)]
+
+#[cfg(test)]
+mod rows;
+#[cfg(test)]
+mod tables;
