@@ -173,8 +173,8 @@ single_at kind q from x c r None e h =
     let fault : Token = Err (open_char q, x ∷ (c ∷ [])) in
     let z : fault ≡ Ok r = sym (unended kind q from x (c ∷ []) e) ∙ h in absurd (cc)
 single_at kind q from x c r (Some end) e h =
-    let w : from_char_end (c ∷ []) ≡ from_later_quote false (c ∷ []) = rw (from_char_end, and_no (not
-    (c == 92))) refl in
+    let no = and_no (not (c == 92)) in
+    let w : from_char_end (c ∷ []) ≡ from_later_quote false (c ∷ []) = rw (from_char_end, no) refl in
     let is = single_end c end (c == 39) (stops c []) refl refl (sym w ∙ e) in
     let before : char kind q from (x ∷ (c ∷ [])) ≡ char_until kind q from (c ∷ []) end =
     rw (char, e) refl in

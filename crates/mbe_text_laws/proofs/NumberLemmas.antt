@@ -113,8 +113,12 @@ ends (c ∷ cs) h =
     let decimal = no_decimal c digit in
     let hex = hex_of c (is_ascii_hexdigit c || c == 95) refl h in record {
       two = record { digits = rw (low, decimal) refl; class = digit; large = rw (two_not_large c digit, digit) refl };
-      eight = record { digits = rw (low, decimal) refl; class = digit; large = rw
-      (eight_not_large c digit, digit) refl };
+      eight = record {
+        digits = rw (low, decimal) refl;
+        class = digit;
+        large = rw
+            (eight_not_large c digit, digit) refl;
+      };
       ten = record { digits = rw (low, decimal) refl; class = digit; large = rw digit refl };
       sixteen = record { digits = rw (low, no_hex c hex) refl; class = hex; large = rw digit refl };
       exponent = exponent_of c h;
@@ -558,7 +562,7 @@ number_before e l rest d f p k b = record {
   suffix = b.suffix;
   parts = b.parts;
   read = read_on e (chars (literal_output l)) rest (literal_of b.text b.suffix l.suffix_len l.kind) d
-    (ends rest k) f p k
+      (ends rest k) f p k
       (sym (ap (read_rust e) (append-nil (chars (literal_output l)))) ∙ b.read);
 }
 

@@ -249,16 +249,24 @@ unfolding unicode_ident
 r_case e zero cs rest shape h k = search (raw_none cs rest shape, h, k)
 r_case e (suc zero) cs rest shape h k = search (raw_one cs rest shape, h, k)
 r_case e (suc (suc n)) cs rest shape h k =
-    search (raw_two n cs rest shape (114 ∷ (35 ∷ (35 ∷ (marked n ++ (34 ∷ cs)))))
-    (114 ∷ (35 ∷ (35 ∷ (marked n ++ (34 ∷ (cs ++ rest)))))), h, k)
+    search (
+      raw_two n cs rest shape (114 ∷ (35 ∷ (35 ∷ (marked n ++ (34 ∷ cs)))))
+          (114 ∷ (35 ∷ (35 ∷ (marked n ++ (34 ∷ (cs ++ rest)))))),
+      h,
+      k,
+    )
 
 b_case : (e : Edition) (n : ℕ) (cs rest : List ℕ) (shape : Shape)
     → read_rust e (98 ∷ (114 ∷ (marked n ++ (34 ∷ cs)))) ≡ Some (Ok (shape, [])) → continues_word rest ≡ false
     → read_rust e (98 ∷ (114 ∷ (marked n ++ (34 ∷ (cs ++ rest))))) ≡ Some (Ok (shape, rest))
 b_case e zero cs rest shape h k = search (raw_none cs rest shape, h, k)
 b_case e (suc n) cs rest shape h k =
-    search (raw_more n cs rest shape (98 ∷ (114 ∷ (35 ∷ (marked n ++ (34 ∷ cs)))))
-    (98 ∷ (114 ∷ (35 ∷ (marked n ++ (34 ∷ (cs ++ rest)))))), h, k)
+    search (
+      raw_more n cs rest shape (98 ∷ (114 ∷ (35 ∷ (marked n ++ (34 ∷ cs)))))
+          (98 ∷ (114 ∷ (35 ∷ (marked n ++ (34 ∷ (cs ++ rest)))))),
+      h,
+      k,
+    )
 
 -- before 2021 a `c` is an identifier's
 c_case : (e : Edition) (n : ℕ) (cs rest : List ℕ) (text suffix : List ℕ) (len : ℕ) (kind : LitKind)
@@ -274,13 +282,21 @@ c_case Edition2018 n cs rest text suffix len kind h k =
 c_case Edition2021 zero cs rest text suffix len kind h k =
     search (raw_none cs rest (literal_of text suffix len kind), h, k)
 c_case Edition2021 (suc n) cs rest text suffix len kind h k =
-    search (raw_more n cs rest (literal_of text suffix len kind) (99 ∷ (114 ∷ (35 ∷ (marked n ++ (34 ∷ cs)))))
-    (99 ∷ (114 ∷ (35 ∷ (marked n ++ (34 ∷ (cs ++ rest)))))), h, k)
+    search (
+      raw_more n cs rest (literal_of text suffix len kind) (99 ∷ (114 ∷ (35 ∷ (marked n ++ (34 ∷ cs)))))
+          (99 ∷ (114 ∷ (35 ∷ (marked n ++ (34 ∷ (cs ++ rest)))))),
+      h,
+      k,
+    )
 c_case Edition2024 zero cs rest text suffix len kind h k =
     search (raw_none cs rest (literal_of text suffix len kind), h, k)
 c_case Edition2024 (suc n) cs rest text suffix len kind h k =
-    search (raw_more n cs rest (literal_of text suffix len kind) (99 ∷ (114 ∷ (35 ∷ (marked n ++ (34 ∷ cs)))))
-    (99 ∷ (114 ∷ (35 ∷ (marked n ++ (34 ∷ (cs ++ rest)))))), h, k)
+    search (
+      raw_more n cs rest (literal_of text suffix len kind) (99 ∷ (114 ∷ (35 ∷ (marked n ++ (34 ∷ cs)))))
+          (99 ∷ (114 ∷ (35 ∷ (marked n ++ (34 ∷ (cs ++ rest)))))),
+      h,
+      k,
+    )
 
 -- ---- literals
 

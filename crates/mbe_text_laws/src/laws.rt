@@ -1,7 +1,11 @@
 // Laws of the text that a `Writer` writes, as `lex_as` reads it. They run nothing.
 ghost use Rattle.mbe_text_laws.specs.Gaps.{GapsAreBlank, GapsAreInBytes, GapsPartPuncts, PunctsJoin};
 ghost use Rattle.mbe_text_laws.specs.Back.{
-    CharsAreRead, NumbersAreRead, RawStringsAreRead, StringsAreRead, TreesComeBack
+  CharsAreRead,
+  NumbersAreRead,
+  RawStringsAreRead,
+  StringsAreRead,
+  TreesComeBack,
 };
 
 /// What a writer puts between two tokens is no part of a token, and hides none: the next token of a text with a gap before it is the next
