@@ -1,5 +1,5 @@
 -- A number that is read by itself is read before whatever doesn't go on with it.
-use Rattle.std.proofs.Common.{◌≡◌, ℕ, ◌==◌, ◌-◌, ◌+◌, ◌<◌, ◌&&◌, ◌||◌, if◌then◌else◌, Bool, true, false, List, [], ◌∷◌, ◌++◌, length, take, refl, sym, ap, ◌∙◌, arith, codes, Option, Some, None, Result, Ok, Err, append-nil, length-append, encode_utf8_all, chars}
+use Rattle.std.proofs.Common.{◌≡◌, ℕ, ◌==◌, ◌-◌, ◌<◌, ◌&&◌, ◌||◌, if◌then◌else◌, Bool, true, false, List, [], ◌∷◌, ◌++◌, length, take, refl, sym, ap, ◌∙◌, arith, codes, Option, Some, None, Result, Ok, Err, append-nil, length-append, encode_utf8_all, chars}
 use Rattle.std.specs.Prelude.{unwrap_or}
 use Rattle.std.specs.Char.{is_ascii_digit, is_ascii_hexdigit, char_set_contains}
 use Rattle.std.proofs.lemmas.Bool.Decides.{nat_tests}
