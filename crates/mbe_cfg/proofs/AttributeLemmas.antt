@@ -10,7 +10,7 @@ use Rattle.mbe_cfg.specs.declared.predicate.TheConstants.{DEPTH}
 use Rattle.mbe_cfg.specs.declared.settings.Settings.{Settings}
 use Rattle.mbe_cfg.specs.Faults.{fails}
 use Rattle.mbe_cfg.specs.Fronts.{Group, place, is_empty, bracketed, after_next_comma}
-use Rattle.mbe_cfg.specs.Predicates.{tells}
+use Rattle.mbe_cfg.specs.Predicates.{gives}
 use Rattle.mbe_cfg.specs.Attributes.{all_so_far, metas, by_name, attribute, go_on, next_one, attributes}
 use Rattle.mbe_cfg.proofs.PredicateLemmas.{one_more}
 
@@ -82,7 +82,7 @@ attributes_suc : (s : Settings) (n : ℕ) (so_far : Bool) (f : Forest)
 unfolding attributes
 attributes_suc s n so_far f = refl
 
-attributes_zero : (s : Settings) (so_far : Bool) (f : Forest) → attributes s 0 so_far f ≡ tells so_far f
+attributes_zero : (s : Settings) (so_far : Bool) (f : Forest) → attributes s 0 so_far f ≡ gives so_far f
 unfolding attributes
 attributes_zero s so_far f = refl
 
@@ -113,9 +113,9 @@ attributes_fail s n so_far f g fault h e m = attributes_with s n so_far f g (Err
 
 -- after the last one
 pub attributes_end : (s : Settings) (n : ℕ) (so_far : Bool) (f : Forest)
-    → 0 < n → None ≡ bracketed f → tells so_far f ≡ attributes s n so_far f
+    → 0 < n → None ≡ bracketed f → gives so_far f ≡ attributes s n so_far f
 attributes_end s n so_far f h e = attributes_by s n so_far f None h e
 
 pub attributes_none : (s : Settings) (n : ℕ) (so_far : Bool) (f : Forest)
-    → n ≡ 0 → tells so_far f ≡ attributes s n so_far f
+    → n ≡ 0 → gives so_far f ≡ attributes s n so_far f
 attributes_none s n so_far f e = sym (attributes_zero s so_far f) ∙ sym (ap (λ k. attributes s k so_far f) e)

@@ -9,7 +9,7 @@ use Rattle.mbe_cfg.specs.declared.fault.Wrong.TheVariants as w
 use Rattle.mbe_cfg.specs.declared.settings.Settings.{Settings}
 use Rattle.mbe_cfg.specs.Faults.{fails}
 use Rattle.mbe_cfg.specs.Fronts.{place, is_empty}
-use Rattle.mbe_cfg.specs.Predicates.{Read, tells, by_name, go_on, item, items, predicate}
+use Rattle.mbe_cfg.specs.Predicates.{Read, gives, by_name, go_on, item, items, predicate}
 
 pub one_more : (n : ℕ) → 0 < n → n ≡ suc (n - 1)
 one_more n h = omega (arith, h)
@@ -59,9 +59,9 @@ items_by inner every close n so_far f r h e m =
 -- on to the next one
 pub items_on : (inner : Forest → Read) (every : Bool) (close : Span) (n : ℕ) (so_far : Bool) (f : Forest)
     (holds : Bool) (rest : Forest)
-    → 0 < n → is_empty f ≡ false → tells holds rest ≡ item inner every close so_far f
+    → 0 < n → is_empty f ≡ false → gives holds rest ≡ item inner every close so_far f
     → items inner every close (n - 1) holds rest ≡ items inner every close n so_far f
-items_on inner every close n so_far f holds rest h e m = items_by inner every close n so_far f (tells holds rest) h e m
+items_on inner every close n so_far f holds rest h e m = items_by inner every close n so_far f (gives holds rest) h e m
 
 pub items_fail : (inner : Forest → Read) (every : Bool) (close : Span) (n : ℕ) (so_far : Bool) (f : Forest)
     (fault : Fault) → 0 < n → is_empty f ≡ false → Err fault ≡ item inner every close so_far f

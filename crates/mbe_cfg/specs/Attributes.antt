@@ -1,5 +1,7 @@
--- Whether an item's attributes let it be compiled: all its `cfg`s hold, also those that a `cfg_attr` adds whose predicate holds.
-use Rattle.std.specs.Prelude.{ℕ, zero, suc, Bool, true, ◌&&◌, if◌then◌else◌, List, codes, Option, Some, None, Result, Ok, Err}
+-- Whether an item's attributes let it be compiled: all its `cfg`s hold, also those that a `cfg_attr` adds whose predicate
+-- holds.
+use Rattle.std.specs.Prelude.{ℕ, zero, suc, Bool, true, ◌&&◌, if◌then◌else◌, List, codes}
+use Rattle.std.specs.Prelude.{Option, Some, None, Result, Ok, Err}
 use Rattle.mbe_tt.specs.Trees.Leaf.{Ident, is_text}
 use Rattle.mbe_tt.specs.Trees.Tree.{Forest, rest_of, front_ident, flat_len}
 use Rattle.mbe_tt.specs.declared.span.Span.{Span}
@@ -12,10 +14,11 @@ use Rattle.mbe_cfg.specs.declared.predicate.TheConstants.{DEPTH}
 use Rattle.mbe_cfg.specs.declared.settings.Settings.{Settings}
 use Rattle.mbe_cfg.specs.Faults.{fails}
 use Rattle.mbe_cfg.specs.Fronts.{Group, place, is_empty, after_char, group_at, bracketed, after_next_comma}
-use Rattle.mbe_cfg.specs.Predicates.{Read, tells, predicate, holds}
+use Rattle.mbe_cfg.specs.Predicates.{Read, gives, predicate, holds}
 
 abbrev pub sort_of : List ℕ → Sort
-sort_of name = if is_text name (codes "cfg") then o.Cfg else if is_text name (codes "cfg_attr") then o.CfgAttr else o.Other
+sort_of name =
+    if is_text name (codes "cfg") then o.Cfg else if is_text name (codes "cfg_attr") then o.CfgAttr else o.Other
 
 -- the parentheses after the name at that place
 abbrev pub or_malformed : Span → Option Group → Result Group Fault
@@ -35,15 +38,15 @@ cfg s at f = cfg_of s (argument at f)
 
 abbrev pub added : Span → Bool → Forest → Option Forest → Read
 added close holds f None = fails w.NoComma (place close f)
-added close holds f (Some rest) = tells holds rest
+added close holds f (Some rest) = gives holds rest
 
-abbrev pub condition_told : Span → Read → Read
-condition_told close (Ok t) = added close t.holds t.rest (after_char 44 t.rest)
-condition_told close (Err fault) = Err fault
+abbrev pub condition_of : Span → Read → Read
+condition_of close (Ok t) = added close t.holds t.rest (after_char 44 t.rest)
+condition_of close (Err fault) = Err fault
 
 -- whether the predicate of a `cfg_attr` holds, and the attributes that it adds then
 abbrev pub condition : Settings → Span → Forest → Read
-condition s close f = condition_told close (predicate s DEPTH close f)
+condition s close f = condition_of close (predicate s DEPTH close f)
 
 abbrev pub all_so_far : (Bool → Forest → Result Bool Fault) → Bool → Forest → Result Bool Fault → Result Bool Fault
 all_so_far more so_far f (Ok one) = more (so_far && one) (after_next_comma f)
@@ -54,12 +57,12 @@ unfoldable pub metas : (Forest → Result Bool Fault) → ℕ → Bool → Fores
 metas inner zero so_far f = Ok so_far
 metas inner (suc n) so_far f = if is_empty f then Ok so_far else all_so_far (metas inner n) so_far f (inner f)
 
-abbrev pub if_told : (Span → Forest → Result Bool Fault) → Span → Read → Result Bool Fault
-if_told inner close (Ok t) = if t.holds then metas (inner close) (flat_len t.rest) true t.rest else Ok true
-if_told inner close (Err fault) = Err fault
+abbrev pub added_if : (Span → Forest → Result Bool Fault) → Span → Read → Result Bool Fault
+added_if inner close (Ok t) = if t.holds then metas (inner close) (flat_len t.rest) true t.rest else Ok true
+added_if inner close (Err fault) = Err fault
 
 abbrev pub cfg_attr_of : Settings → (Span → Forest → Result Bool Fault) → Result Group Fault → Result Bool Fault
-cfg_attr_of s inner (Ok g) = if_told inner g.close (condition s g.close g.inside)
+cfg_attr_of s inner (Ok g) = added_if inner g.close (condition s g.close g.inside)
 cfg_attr_of s inner (Err fault) = Err fault
 
 -- the `cfg_attr` with the parentheses at the front
@@ -85,10 +88,10 @@ next_one more so_far f (Ok one) = more (so_far && one) f
 next_one more so_far f (Err fault) = Err fault
 
 abbrev pub go_on : (Span → Forest → Result Bool Fault) → (Bool → Forest → Read) → Bool → Forest → Option Group → Read
-go_on inner more so_far f None = tells so_far f
+go_on inner more so_far f None = gives so_far f
 go_on inner more so_far f (Some g) = next_one more so_far g.rest (inner g.close g.inside)
 
 -- the attributes at the front, so many at most, and what is after them
 unfoldable pub attributes : Settings → ℕ → Bool → Forest → Read
-attributes s zero so_far f = tells so_far f
+attributes s zero so_far f = gives so_far f
 attributes s (suc n) so_far f = go_on (attribute s DEPTH) (attributes s n) so_far f (bracketed f)

@@ -9,7 +9,7 @@ abbrev pub fails : {A : Type 0} → Wrong → Span → Result A Fault
 fails wrong at = Err (record { wrong = wrong; at = at })
 
 abbrev pub message : Wrong → List ℕ
-message w.Malformed = codes "malformed `cfg` attribute input"
+message w.Malformed = codes "malformed attribute input: expected parentheses"
 message w.NotOne = codes "expected exactly one predicate"
 message w.Invalid = codes "invalid predicate"
 message w.Unstable = codes "this predicate is experimental"

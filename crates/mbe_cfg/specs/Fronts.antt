@@ -1,7 +1,9 @@
 -- What is at the front of trees: signs, and groups of a kind.
-use Rattle.std.specs.Prelude.{ℕ, Bool, false, ◌==◌, if◌then◌else◌, Option, Some, None, option_map, option_and_then, unwrap_or, is_none}
+use Rattle.std.specs.Prelude.{ℕ, Bool, false, ◌==◌, if◌then◌else◌, Option, Some, None}
+use Rattle.std.specs.Prelude.{option_map, option_and_then, unwrap_or, is_none}
 use Rattle.mbe_tt.specs.Trees.Leaf.{literal, punct, ident}
-use Rattle.mbe_tt.specs.Trees.Tree.{Forest, none, leaf, group, Tree, Leaf_tree, Group_tree, first, rest_of, first_span, front_punct, front_group, is_same_kind}
+use Rattle.mbe_tt.specs.Trees.Tree.{Forest, none, leaf, group, Tree, Leaf_tree, Group_tree, first, rest_of}
+use Rattle.mbe_tt.specs.Trees.Tree.{first_span, front_punct, front_group, is_same_kind}
 use Rattle.mbe_tt.specs.declared.span.Span.{Span}
 use Rattle.mbe_tt.specs.declared.tt.DelimiterKind.{DelimiterKind}
 use Rattle.mbe_tt.specs.declared.tt.DelimiterKind.TheVariants.{Bracket}
@@ -26,7 +28,9 @@ after_char char f = option_and_then (λ p. if p.char == char then Some (rest_of 
 -- the group of that kind at the front
 abbrev pub group_at : DelimiterKind → Forest → Option Group
 group_at kind f =
-    option_and_then (λ g. if is_same_kind g.0.kind kind then Some (record { close = g.0.close; inside = g.1; rest = rest_of f }) else None)
+    option_and_then
+    (λ g. if is_same_kind g.0.kind kind then Some (record { close = g.0.close; inside = g.1; rest = rest_of f })
+        else None)
     (front_group f)
 
 -- the brackets of the attribute at the front: `#[..]` or `#![..]`

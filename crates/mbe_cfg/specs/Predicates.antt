@@ -1,6 +1,8 @@
--- Whether a predicate holds, as the Reference says it: `true` holds and `false` doesn't; a name, or a name with a value, holds where it is
--- set; `all` holds where every one of its predicates does, `any` where one does, and `not` where its one predicate doesn't.
-use Rattle.std.specs.Prelude.{ℕ, zero, suc, Bool, true, false, not, ◌==◌, ◌&&◌, ◌||◌, nat_lt, if◌then◌else◌, List, codes, Option, Some, None, Result, Ok, Err}
+-- Whether a predicate holds, as the Reference says it: `true` holds and `false` doesn't; a name, or a name with a value,
+-- holds where it is set; `all` holds where every one of its predicates does, `any` where one does, and `not` where its one
+-- predicate doesn't.
+use Rattle.std.specs.Prelude.{ℕ, zero, suc, Bool, true, false, not, ◌==◌, ◌&&◌, ◌||◌, nat_lt, if◌then◌else◌}
+use Rattle.std.specs.Prelude.{List, codes, Option, Some, None, Result, Ok, Err}
 use Rattle.std.specs.List.{list_any}
 use Rattle.mbe_tt.specs.Trees.Leaf.{Leaf, Ident, Literal, literal, punct, ident, is_text}
 use Rattle.mbe_tt.specs.Trees.Tree.{Forest, none, leaf, group, rest_of, front_ident, flat_len}
@@ -21,15 +23,15 @@ use Rattle.mbe_cfg.specs.Faults.{fails}
 use Rattle.mbe_cfg.specs.Fronts.{Group, place, is_empty, after_char, group_at}
 
 -- whether what is at the front holds, and the trees after it
-pub record Told : Type 0 where
+pub record Verdict : Type 0 where
   pub holds : Bool
   pub rest : Forest
 
 abbrev pub Read : Type 0
-Read = Result Told Fault
+Read = Result Verdict Fault
 
-abbrev pub tells : Bool → Forest → Read
-tells holds rest = Ok (record { holds = holds; rest = rest })
+abbrev pub gives : Bool → Forest → Read
+gives holds rest = Ok (record { holds = holds; rest = rest })
 
 -- ---- words
 
@@ -43,7 +45,10 @@ operator_of name =
     else o.Unknown
 
 abbrev pub of_word : List ℕ → Option Bool
-of_word name = if is_text name (codes "true") then Some true else if is_text name (codes "false") then Some false else None
+of_word name =
+    if is_text name (codes "true") then Some true
+    else if is_text name (codes "false") then Some false
+    else None
 
 -- a raw identifier is a name
 abbrev pub constant : IdentIsRaw → List ℕ → Option Bool
@@ -79,14 +84,14 @@ abbrev pub after_one : Forest → Forest
 after_one f = rest_of f
 
 abbrev pub has_value : Settings → List ℕ → Forest → Result (List ℕ) Fault → Read
-has_value s name f (Ok value) = tells (is_set s name (Some value)) (after_one f)
+has_value s name f (Ok value) = gives (is_set s name (Some value)) (after_one f)
 has_value s name f (Err fault) = Err fault
 
 abbrev pub valued : Settings → Span → List ℕ → Forest → Read
 valued s close name f = has_value s name f (text_at close f)
 
 abbrev pub alone : Settings → Ident → Forest → Option Forest → Read
-alone s name f None = tells (is_set s name.sym None) f
+alone s name f None = gives (is_set s name.sym None) f
 alone s name f (Some more) = fails w.Path name.span
 
 abbrev pub with_value : Settings → Span → Ident → Forest → Option Forest → Read
@@ -112,16 +117,16 @@ abbrev pub joined : Bool → Bool → Bool → Bool
 joined every a b = if every then a && b else a || b
 
 abbrev pub item_before : Bool → Bool → Bool → Result Forest Fault → Read
-item_before every so_far holds (Ok rest) = tells (joined every so_far holds) rest
+item_before every so_far holds (Ok rest) = gives (joined every so_far holds) rest
 item_before every so_far holds (Err fault) = Err fault
 
-abbrev pub item_told : Bool → Span → Bool → Read → Read
-item_told every close so_far (Ok t) = item_before every so_far t.holds (separated close t.rest)
-item_told every close so_far (Err fault) = Err fault
+abbrev pub item_of : Bool → Span → Bool → Read → Read
+item_of every close so_far (Ok t) = item_before every so_far t.holds (separated close t.rest)
+item_of every close so_far (Err fault) = Err fault
 
 -- what holds so far with the predicate at the front, and what is after that and its comma
 abbrev pub item : (Forest → Read) → Bool → Span → Bool → Forest → Read
-item inner every close so_far f = item_told every close so_far (inner f)
+item inner every close so_far f = item_of every close so_far (inner f)
 
 abbrev pub go_on : (Bool → Forest → Result Bool Fault) → Read → Result Bool Fault
 go_on more (Ok t) = more t.holds t.rest
@@ -137,19 +142,19 @@ abbrev pub ended : Span → Bool → Result Forest Fault → Result Bool Fault
 ended close holds (Ok rest) = if is_empty rest then Ok holds else fails w.NotOne (place close rest)
 ended close holds (Err fault) = Err fault
 
-abbrev pub one_told : Span → Read → Result Bool Fault
-one_told close (Ok t) = ended close t.holds (separated close t.rest)
-one_told close (Err fault) = Err fault
+abbrev pub one_of : Span → Read → Result Bool Fault
+one_of close (Ok t) = ended close t.holds (separated close t.rest)
+one_of close (Err fault) = Err fault
 
 -- the predicate that is all of these trees, but for a comma
 abbrev pub one : (Forest → Read) → Span → Forest → Result Bool Fault
-one inner close f = if is_empty f then fails w.NotOne close else one_told close (inner f)
+one inner close f = if is_empty f then fails w.NotOne close else one_of close (inner f)
 
 -- ---- predicates
 
 -- with what is after the group
 abbrev pub before : Forest → Result Bool Fault → Read
-before rest (Ok holds) = tells holds rest
+before rest (Ok holds) = gives holds rest
 before rest (Err fault) = Err fault
 
 abbrev pub negated : Result Bool Fault → Result Bool Fault
@@ -172,7 +177,7 @@ by_group s inner close name f (Some g) = listed inner name g
 
 abbrev pub by_constant : Settings → (Span → Forest → Read) → Span → Ident → Forest → Option Bool → Read
 by_constant s inner close name f None = by_group s inner close name f (group_at Parenthesis f)
-by_constant s inner close name f (Some holds) = tells holds f
+by_constant s inner close name f (Some holds) = gives holds f
 
 -- the predicate that begins with that name: a constant, an operator with its list, or a name
 abbrev pub named : Settings → (Span → Forest → Read) → Span → Ident → Forest → Read

@@ -5,16 +5,16 @@ use Rattle.mbe_tt.specs.Views.View.{trees}
 use Rattle.mbe_tt.specs.declared.view.TokenTreesView.{TokenTreesView}
 use Rattle.mbe_cfg.specs.declared.fault.Fault.{Fault}
 use Rattle.mbe_cfg.specs.declared.fronts.Group.{Group}
-use Rattle.mbe_cfg.specs.declared.predicate.Told.{Told}
+use Rattle.mbe_cfg.specs.declared.predicate.Verdict.{Verdict}
 use Rattle.mbe_cfg.specs.Fronts as spec
 use Rattle.mbe_cfg.specs.Predicates.{Read}
 
 abbrev pub group_shown : {A : Type 0} → Group A → spec.Group
 group_shown g = record { close = g.close; inside = trees g.inside; rest = trees g.rest }
 
-abbrev pub told_shown : {A : Type 0} → Result (Told A) Fault → Read
-told_shown (Ok t) = Ok (record { holds = t.holds; rest = trees t.rest })
-told_shown (Err fault) = Err fault
+abbrev pub verdict_shown : {A : Type 0} → Result (Verdict A) Fault → Read
+verdict_shown (Ok t) = Ok (record { holds = t.holds; rest = trees t.rest })
+verdict_shown (Err fault) = Err fault
 
 abbrev pub view_shown : {A : Type 0} → Result (TokenTreesView A) Fault → Result Forest Fault
 view_shown (Ok view) = Ok (trees view)

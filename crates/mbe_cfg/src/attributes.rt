@@ -4,11 +4,11 @@ ghost use Rattle.mbe_tt.specs.Trees.Tree.{flat_len};
 ghost use Rattle.mbe_tt.specs.Views.View.{trees};
 ghost use Rattle.mbe_cfg.specs.Attributes as spec;
 ghost use Rattle.mbe_cfg.specs.Attributes.{attribute, metas, attributes};
-ghost use Rattle.mbe_cfg.specs.Shown.{told_shown, group_result};
+ghost use Rattle.mbe_cfg.specs.Shown.{verdict_shown, group_result};
 
 use crate::fault::{Fault, Wrong};
 use crate::fronts::{Group, after_char, after_next_comma, bracketed, group_at, is_empty, place};
-use crate::predicate::{DEPTH, Told, holds, predicate};
+use crate::predicate::{DEPTH, Verdict, holds, predicate};
 use crate::settings::Settings;
 use mbe_tt::span::Span;
 use mbe_tt::tt::{DelimiterKind, TokenTreesView};
@@ -67,18 +67,18 @@ fn condition<'t, A: Allocator>(
     settings: &Settings<'_>,
     close: Span,
     tokens: TokenTreesView<'t, A>,
-) -> Result<Told<'t, A>, Fault>
-    ensures { told_shown result ≡ spec.condition settings.now close (trees tokens.entry) }
+) -> Result<Verdict<'t, A>, Fault>
+    ensures { verdict_shown result ≡ spec.condition settings.now close (trees tokens.entry) }
 {
-    let told = predicate(settings, DEPTH, close, tokens)?;
-    match after_char(told.rest, ',') {
-        Some(rest) => Ok(Told {
-            holds: told.holds,
+    let verdict = predicate(settings, DEPTH, close, tokens)?;
+    match after_char(verdict.rest, ',') {
+        Some(rest) => Ok(Verdict {
+            holds: verdict.holds,
             rest,
         }),
         None => Err(Fault {
             wrong: Wrong::NoComma,
-            at: place(close, told.rest),
+            at: place(close, verdict.rest),
         }),
     }
 }
@@ -95,17 +95,18 @@ fn cfg_attr<A: Allocator>(
         (trees tokens.entry) }
 {
     let group = argument(at, tokens)?;
-    let told = condition(settings, group.close, group.inside)?;
-    if told.holds {
-        metas(settings, depth, group.close, told.rest)
+    let verdict = condition(settings, group.close, group.inside)?;
+    if verdict.holds {
+        metas(settings, depth, group.close, verdict.rest)
     } else {
         Ok(true)
     }
 }
 
-// Whether an attribute, without its `#` and brackets, lets what it is on be compiled, where attributes may be so deep.
+/// Whether an attribute, without its `#` and brackets, lets what it is on be compiled; or what is wrong in it. `close` is
+/// where its brackets end, and attributes of `cfg_attr` may be `depth` deep in one another.
 #[cycle(attribute)]
-fn attribute<A: Allocator>(
+pub fn attribute<A: Allocator>(
     settings: &Settings<'_>,
     depth: u32,
     close: Span,
@@ -163,13 +164,14 @@ fn metas<A: Allocator>(
     Ok(all)
 }
 
-/// Whether the attributes at the front, `#[..]` or `#![..]`, let what they are on be compiled, and what is after them; or what is
-/// wrong in the first `cfg` or `cfg_attr` that has a fault. A `cfg_attr` whose predicate doesn't hold adds nothing.
+/// Whether the attributes at the front, `#[..]` or `#![..]`, let what they are on be compiled, and what is after them;
+/// or what is wrong in the first `cfg` or `cfg_attr` that has a fault. A `cfg_attr` whose predicate doesn't hold adds
+/// nothing. The rule is the Reference's, of conditional compilation.
 pub fn attributes<'t, A: Allocator>(
     settings: &Settings<'_>,
     tokens: TokenTreesView<'t, A>,
-) -> Result<Told<'t, A>, Fault>
-    ensures { told_shown result
+) -> Result<Verdict<'t, A>, Fault>
+    ensures { verdict_shown result
         ≡ attributes settings.now (flat_len (trees tokens.entry)) true (trees tokens.entry) }
 {
     let mut all = true;
@@ -178,11 +180,11 @@ pub fn attributes<'t, A: Allocator>(
     'attributes: while left > 0 {
         left -= 1;
         let Some(group) = bracketed(rest) else {
-            return Ok(Told { holds: all, rest });
+            return Ok(Verdict { holds: all, rest });
         };
         let one = attribute(settings, DEPTH, group.close, group.inside)?;
         all = both(all, one);
         rest = group.rest;
     }
-    Ok(Told { holds: all, rest })
+    Ok(Verdict { holds: all, rest })
 }

@@ -15,7 +15,7 @@ pub enum Wrong {
     Invalid,
     /// `version(..)` and `target(..)` are features of the compiler.
     Unstable,
-    /// A name is wanted.
+    /// A name is expected.
     NoName,
     /// A path isn't a name.
     Path,
@@ -25,7 +25,7 @@ pub enum Wrong {
     Suffix,
     /// A string with an escape, which isn't supported in a value.
     Escape,
-    /// A comma is wanted.
+    /// A comma is expected.
     NoComma,
     /// More than `DEPTH` predicates or attributes in one another.
     TooDeep,
@@ -44,7 +44,7 @@ impl Wrong {
         ensures { result.now ≡ message self }
     {
         match self {
-            Wrong::Malformed => "malformed `cfg` attribute input",
+            Wrong::Malformed => "malformed attribute input: expected parentheses",
             Wrong::NotOne => "expected exactly one predicate",
             Wrong::Invalid => "invalid predicate",
             Wrong::Unstable => "this predicate is experimental",

@@ -1,4 +1,5 @@
-// Predicates, as the Reference has them: a name, a name with a value, `true`, `false`, and `all`, `any` and `not` of predicates.
+// Predicates, as the Reference has them: a name, a name with a value, `true`, `false`, and `all`, `any` and `not` of
+// predicates.
 ghost use Rattle.std.specs.Prelude.{◌≡◌};
 ghost use Rattle.std.specs.Result.{result_map_both};
 ghost use Rattle.mbe_tt.specs.Trees.Tree.{flat_len};
@@ -6,7 +7,7 @@ ghost use Rattle.mbe_tt.specs.Views.View.{trees};
 ghost use Rattle.mbe_tt.specs.Views.Shown.{ident_of, literal_of};
 ghost use Rattle.mbe_cfg.specs.Predicates as spec;
 ghost use Rattle.mbe_cfg.specs.Predicates.{predicate, items, item, one};
-ghost use Rattle.mbe_cfg.specs.Shown.{told_shown, view_shown, group_shown};
+ghost use Rattle.mbe_cfg.specs.Shown.{verdict_shown, view_shown, group_shown};
 
 use crate::fault::{Fault, Wrong};
 use crate::fronts::{Group, after_char, group_at, is_empty, place};
@@ -23,7 +24,7 @@ pub const DEPTH: u32 = 128;
 /// Whether what is at the front holds, and what is after it.
 #[derive(Drop)]
 #[derive_where(Clone, Copy)]
-pub struct Told<'t, A: Allocator = Global> {
+pub struct Verdict<'t, A: Allocator = Global> {
     pub holds: bool,
     pub rest: TokenTreesView<'t, A>,
 }
@@ -148,11 +149,11 @@ fn valued<'t, A: Allocator>(
     close: Span,
     name: &str,
     tokens: TokenTreesView<'t, A>,
-) -> Result<Told<'t, A>, Fault>
-    ensures { told_shown result ≡ spec.valued settings.now close name.now (trees tokens.entry) }
+) -> Result<Verdict<'t, A>, Fault>
+    ensures { verdict_shown result ≡ spec.valued settings.now close name.now (trees tokens.entry) }
 {
     match text_at(close, tokens) {
-        Ok(value) => Ok(Told {
+        Ok(value) => Ok(Verdict {
             holds: settings.has_pair(name, value),
             rest: after_one(tokens),
         }),
@@ -166,8 +167,8 @@ fn plain<'t, A: Allocator>(
     close: Span,
     name: &Ident<A>,
     tokens: TokenTreesView<'t, A>,
-) -> Result<Told<'t, A>, Fault>
-    ensures { told_shown result
+) -> Result<Verdict<'t, A>, Fault>
+    ensures { verdict_shown result
         ≡ spec.plain settings.now close (ident_of name.now) (trees tokens.entry) }
 {
     if let Some(value) = after_char(tokens, '=') {
@@ -176,21 +177,22 @@ fn plain<'t, A: Allocator>(
     if after_char(tokens, ':').is_some() {
         return Err(fault(Wrong::Path, name.span));
     }
-    Ok(Told {
+    Ok(Verdict {
         holds: settings.has_name(name.sym.as_str()),
         rest: tokens,
     })
 }
 
-// The predicate at the front, where predicates may be so deep in one another.
+/// Whether the predicate at the front holds, and what is after it; or what is wrong in it. `close` is where the trees end,
+/// and predicates may be `depth` deep in one another.
 #[cycle(predicate)]
 pub fn predicate<'t, A: Allocator>(
     settings: &Settings<'_>,
     depth: u32,
     close: Span,
     tokens: TokenTreesView<'t, A>,
-) -> Result<Told<'t, A>, Fault>
-    ensures { told_shown result ≡ predicate settings.now depth close (trees tokens.entry) }
+) -> Result<Verdict<'t, A>, Fault>
+    ensures { verdict_shown result ≡ predicate settings.now depth close (trees tokens.entry) }
 {
     if depth == 0 {
         return Err(fault(Wrong::TooDeep, place(close, tokens)));
@@ -210,12 +212,12 @@ fn named<'t, A: Allocator>(
     close: Span,
     name: &Ident<A>,
     tokens: TokenTreesView<'t, A>,
-) -> Result<Told<'t, A>, Fault>
-    ensures { told_shown result ≡ spec.named settings.now (predicate settings.now depth) close
+) -> Result<Verdict<'t, A>, Fault>
+    ensures { verdict_shown result ≡ spec.named settings.now (predicate settings.now depth) close
         (ident_of name.now) (trees tokens.entry) }
 {
     if let Some(holds) = constant(name.is_raw, name.sym.as_str()) {
-        return Ok(Told {
+        return Ok(Verdict {
             holds,
             rest: tokens,
         });
@@ -233,8 +235,8 @@ fn listed<'t, A: Allocator>(
     depth: u32,
     name: &Ident<A>,
     group: Group<'t, A>,
-) -> Result<Told<'t, A>, Fault>
-    ensures { told_shown result ≡ spec.listed (predicate settings.now depth) (ident_of name.now)
+) -> Result<Verdict<'t, A>, Fault>
+    ensures { verdict_shown result ≡ spec.listed (predicate settings.now depth) (ident_of name.now)
         (group_shown group.entry) }
 {
     let holds = match operator_of(name.sym.as_str()) {
@@ -244,7 +246,7 @@ fn listed<'t, A: Allocator>(
         Operator::Unstable => return Err(fault(Wrong::Unstable, name.span)),
         Operator::Unknown => return Err(fault(Wrong::Invalid, name.span)),
     };
-    Ok(Told {
+    Ok(Verdict {
         holds,
         rest: group.rest,
     })
@@ -266,14 +268,14 @@ fn item<'t, A: Allocator>(
     close: Span,
     so_far: bool,
     tokens: TokenTreesView<'t, A>,
-) -> Result<Told<'t, A>, Fault>
-    ensures { told_shown result ≡ item (predicate settings.now depth close) every close so_far
+) -> Result<Verdict<'t, A>, Fault>
+    ensures { verdict_shown result ≡ item (predicate settings.now depth close) every close so_far
         (trees tokens.entry) }
 {
-    let told = predicate(settings, depth, close, tokens)?;
-    let rest = separated(close, told.rest)?;
-    Ok(Told {
-        holds: joined(every, so_far, told.holds),
+    let verdict = predicate(settings, depth, close, tokens)?;
+    let rest = separated(close, verdict.rest)?;
+    Ok(Verdict {
+        holds: joined(every, so_far, verdict.holds),
         rest,
     })
 }
@@ -290,19 +292,19 @@ fn items<A: Allocator>(
     ensures { result ≡ items (predicate settings.now depth close) every close
         (flat_len (trees tokens.entry)) every (trees tokens.entry) }
 {
-    let mut told = Told {
+    let mut verdict = Verdict {
         holds: every,
         rest: tokens,
     };
     let mut left = tokens.flat_len();
     'items: while left > 0 {
         left -= 1;
-        if is_empty(told.rest) {
-            return Ok(told.holds);
+        if is_empty(verdict.rest) {
+            return Ok(verdict.holds);
         }
-        told = item(settings, depth, every, close, told.holds, told.rest)?;
+        verdict = item(settings, depth, every, close, verdict.holds, verdict.rest)?;
     }
-    Ok(told.holds)
+    Ok(verdict.holds)
 }
 
 // Whether the predicate holds that is all of these trees, but for a comma.
@@ -318,10 +320,10 @@ fn one<A: Allocator>(
     if is_empty(tokens) {
         return Err(fault(Wrong::NotOne, close));
     }
-    let told = predicate(settings, depth, close, tokens)?;
-    let rest = separated(close, told.rest)?;
+    let verdict = predicate(settings, depth, close, tokens)?;
+    let rest = separated(close, verdict.rest)?;
     if is_empty(rest) {
-        Ok(told.holds)
+        Ok(verdict.holds)
     } else {
         Err(fault(Wrong::NotOne, place(close, rest)))
     }

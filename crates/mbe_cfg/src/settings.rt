@@ -11,7 +11,8 @@ pub struct Cfg<'a> {
     pub value: Option<&'a str>,
 }
 
-/// The options of a run: those of its target, those that `--cfg` gives, the crate's features, and whether its tests are compiled.
+/// The options of a run: those of its target, those that `--cfg` gives, the crate's features, and whether its tests are
+/// compiled.
 #[derive(Clone, Copy, Debug, Drop)]
 pub struct Settings<'a> {
     pub target: &'a [Cfg<'a>],

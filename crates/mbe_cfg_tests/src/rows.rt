@@ -1,7 +1,7 @@
 // Attributes, and whether what they are on is compiled, under `--cfg yes --cfg 'mode="fast"' --cfg 'feature="std"'`.
 use mbe_cfg::attributes::attributes;
 use mbe_cfg::fault::Wrong;
-use mbe_cfg::predicate::Told;
+use mbe_cfg::predicate::Verdict;
 use mbe_cfg::settings::{Cfg, Settings};
 use mbe_cfg::targets::Target;
 use mbe_text::dialect::Dialect;
@@ -119,7 +119,7 @@ static FAULTS: [(&str, u32, Wrong); 35] = [
     ("#[cfg_attr(yes inline)]", 15, Wrong::NoComma),
 ];
 
-fn told(alloc: Global, text: &str) -> Result<Result<bool, (u32, Wrong)>, Fail> {
+fn verdict_of(alloc: Global, text: &str) -> Result<Result<bool, (u32, Wrong)>, Fail> {
     if text.len() > 100_000 {
         return Err(Fail::from("too long"));
     }
@@ -134,7 +134,7 @@ fn told(alloc: Global, text: &str) -> Result<Result<bool, (u32, Wrong)>, Fail> {
         test: false,
     };
     match attributes(&settings, tree.iter().remaining()) {
-        Ok(Told { holds, rest }) if rest.iter().is_empty() => Ok(Ok(holds)),
+        Ok(Verdict { holds, rest }) if rest.iter().is_empty() => Ok(Ok(holds)),
         Ok(_) => Err(Fail::from("trees are left")),
         Err(fault) => Ok(Err((fault.at.start, fault.wrong))),
     }
@@ -143,7 +143,7 @@ fn told(alloc: Global, text: &str) -> Result<Result<bool, (u32, Wrong)>, Fail> {
 #[test]
 fn attributes_hold_or_not(rt: HostRuntime) -> Result<(), Fail> {
     for (text, want) in &HOLD {
-        let got = told(rt.alloc(), *text)?;
+        let got = verdict_of(rt.alloc(), *text)?;
         assert_eq!(rt; got, Ok(*want), "{text}");
     }
     Ok(())
@@ -152,7 +152,7 @@ fn attributes_hold_or_not(rt: HostRuntime) -> Result<(), Fail> {
 #[test]
 fn faults_have_places(rt: HostRuntime) -> Result<(), Fail> {
     for (text, at, wrong) in &FAULTS {
-        let got = told(rt.alloc(), *text)?;
+        let got = verdict_of(rt.alloc(), *text)?;
         assert_eq!(rt; got, Err((*at, *wrong)), "{text}");
     }
     Ok(())
@@ -176,10 +176,10 @@ fn nested(alloc: Global, depth: usize) -> Result<String, Fail> {
 #[test]
 fn predicates_are_so_deep_at_most(rt: HostRuntime) -> Result<(), Fail> {
     let text = nested(rt.alloc(), 126)?;
-    let got = told(rt.alloc(), text.as_str())?;
+    let got = verdict_of(rt.alloc(), text.as_str())?;
     assert_eq!(rt; got, Ok(true));
     let text = nested(rt.alloc(), 128)?;
-    let got = told(rt.alloc(), text.as_str())?;
+    let got = verdict_of(rt.alloc(), text.as_str())?;
     assert_eq!(rt; got, Err((518, Wrong::TooDeep)));
     Ok(())
 }

@@ -1,5 +1,6 @@
 -- Paths of files and folders, with `/` between their parts.
-use Rattle.std.specs.Prelude.{ℕ, Bool, false, not, ◌==◌, ◌-◌, if◌then◌else◌, List, ◌++◌, length, codes, Option, Some, None}
+use Rattle.std.specs.Prelude.{ℕ, Bool, false, not, ◌==◌, ◌-◌, if◌then◌else◌}
+use Rattle.std.specs.Prelude.{List, ◌++◌, length, codes, Option, Some, None}
 use Rattle.std.specs.List.{slice_get}
 
 abbrev pub is_slash : Option ℕ → Bool

@@ -2,8 +2,9 @@
 use Rattle.std.specs.Prelude.{ℕ, List, ◌++◌, codes, Option, Some, None}
 use Rattle.mbe_modules.specs.Paths.{join}
 
--- A file's folder with the names of the inline modules from there on; and the file's own name, where its modules are in a folder of that
--- name: not in a crate's root, a `mod.rs` or a file that `#[path]` names, nor once an inline module has added it.
+-- A file's folder with the names of the inline modules from there on; and the file's own name, where its modules are in a
+-- folder of that name: not in a crate's root, a `mod.rs` or a file that `#[path]` names, nor once an inline module has
+-- added it.
 pub record Place : Type 0 where
   pub folder : List ℕ
   pub own : Option (List ℕ)
@@ -31,13 +32,13 @@ inside p name path = record { folder = folder_inside p name path; own = None }
 -- the file that `#[path]` names, or the two of which one has to be there
 pub data Candidates : Type 0 where
   Given : List ℕ → Candidates
-  Looked : List ℕ → List ℕ → Candidates
+  Usual : List ℕ → List ℕ → Candidates
 
-abbrev pub looked : Place → List ℕ → Candidates
-looked p name = Looked (in_own_folder p name ++ codes ".rs") (join (in_own_folder p name) (codes "mod.rs"))
+abbrev pub usual : Place → List ℕ → Candidates
+usual p name = Usual (in_own_folder p name ++ codes ".rs") (join (in_own_folder p name) (codes "mod.rs"))
 
 abbrev pub candidates : Place → List ℕ → Option (List ℕ) → Candidates
-candidates p name None = looked p name
+candidates p name None = usual p name
 candidates p name (Some path) = Given (join p.folder path)
 
 -- the place in the file `name.rs`

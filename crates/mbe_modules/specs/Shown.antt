@@ -11,4 +11,4 @@ place_shown p = record { folder = string_bytes p.folder; own = option_map string
 
 abbrev pub candidates_shown : {A : Type 0} → Candidates A → spec.Candidates
 candidates_shown (c.Given path) = spec.Given (string_bytes path)
-candidates_shown (c.Looked one other) = spec.Looked (string_bytes one) (string_bytes other)
+candidates_shown (c.Usual one other) = spec.Usual (string_bytes one) (string_bytes other)

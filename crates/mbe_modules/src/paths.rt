@@ -25,7 +25,7 @@ fn ends_open(folder: &str) -> bool
     }
 }
 
-/// A path that is relative to a folder, as one; an absolute path stays as it is.
+/// A path that is relative to a folder, as one; an absolute path stays as it is. `AllocError` if out of memory.
 pub fn join<A: Allocator>(alloc: A, folder: &str, path: &str) -> Result<String<A>, AllocError>
     ensures { IfOk result (λ s. string_bytes s ≡ join folder.now path.now) }
 {

@@ -7,11 +7,11 @@ ghost use Rattle.mbe_modules.specs.Shown.{place_shown, candidates_shown};
 use crate::paths::join;
 use std::alloc::{AllocError, Allocator, Global};
 
-/// Where the modules of a file, or of an inline module in it, are looked for.
+/// Where the modules of a file, or of an inline module in it, are looked for, as the Reference says it.
 ///
-/// `folder` is the folder of the file, and the names of the inline modules from there on. In a file whose modules are in a folder of
-/// its own name, as `a/b.rs`, `own` is that name, `b`, until an inline module adds it; in a crate's root, a `mod.rs` and a file
-/// that `#[path]` names, it is `None`.
+/// `folder` is the folder of the file, and the names of the inline modules from there on. In a file whose modules are in
+/// a folder of its own name, as `a/b.rs`, `own` is that name, `b`, until an inline module adds it; in a crate's root, a
+/// `mod.rs` and a file that `#[path]` names, it is `None`.
 #[derive(Drop)]
 pub struct Place<A: Allocator = Global> {
     pub folder: String<A>,
@@ -24,7 +24,7 @@ pub enum Candidates<A: Allocator = Global> {
     /// The one that `#[path]` names.
     Given(String<A>),
     /// `x.rs`, and `x/mod.rs`, of which one has to be there.
-    Looked(String<A>, String<A>),
+    Usual(String<A>, String<A>),
 }
 
 impl<A: Allocator + Copy> Place<A> {
@@ -39,6 +39,7 @@ impl<A: Allocator + Copy> Place<A> {
     }
 
     /// The place of the modules in an inline module `mod name { .. }`, with the text of its `#[path]`, if it has one.
+    /// `AllocError` if out of memory.
     pub fn inside(&self, alloc: A, name: &str, path: Option<&str>) -> Result<Place<A>, AllocError>
         ensures { IfOk result (λ p. place_shown p
             ≡ spec.inside (place_shown self.now) name.now (option_map (λ t. t.now) path.entry)) }
@@ -59,7 +60,8 @@ impl<A: Allocator + Copy> Place<A> {
         join(alloc, folder.as_str(), path)
     }
 
-    /// The files that may hold the module of `mod name;`, with the text of its `#[path]`, if it has one.
+    /// The files that may hold the module of `mod name;`, with the text of its `#[path]`, if it has one. `AllocError` if out
+    /// of memory.
     pub fn candidates(
         &self,
         alloc: A,
@@ -71,23 +73,24 @@ impl<A: Allocator + Copy> Place<A> {
     {
         match path {
             Some(path) => Ok(Candidates::Given(join(alloc, self.folder.as_str(), path)?)),
-            None => self.looked(alloc, name),
+            None => self.usual(alloc, name),
         }
     }
 
     // `name.rs` and `name/mod.rs`.
-    fn looked(&self, alloc: A, name: &str) -> Result<Candidates<A>, AllocError>
+    fn usual(&self, alloc: A, name: &str) -> Result<Candidates<A>, AllocError>
         ensures { IfOk result (λ c. candidates_shown c
-            ≡ spec.looked (place_shown self.now) name.now) }
+            ≡ spec.usual (place_shown self.now) name.now) }
     {
         let mut beside = self.in_own_folder(alloc, name)?;
         beside.push_str(".rs")?;
         let folder = self.in_own_folder(alloc, name)?;
         let nested = join(alloc, folder.as_str(), "mod.rs")?;
-        Ok(Candidates::Looked(beside, nested))
+        Ok(Candidates::Usual(beside, nested))
     }
 
-    /// The place of the modules of `name.rs`, which was found for `mod name;` here. That of `name/mod.rs` is `inside` without a path.
+    /// The place of the modules of `name.rs`, which was found for `mod name;` here. That of `name/mod.rs` is `inside` without
+    /// a path. `AllocError` if out of memory.
     pub fn of_file(&self, alloc: A, name: &str) -> Result<Place<A>, AllocError>
         ensures { IfOk result (λ p. place_shown p ≡ spec.of_file (place_shown self.now) name.now) }
     {

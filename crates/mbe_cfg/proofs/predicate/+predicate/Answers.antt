@@ -38,27 +38,27 @@ pub items-returns-then-is_empty : goal.items-returns-then-is_empty
 items-returns-then-is_empty g t c =
     let l = c.items in
     let inner = predicate c.args.settings.now c.args.depth c.args.close in
-    items_end inner c.args.every c.args.close l.left l.told.holds (trees l.told.rest)
+    items_end inner c.args.every c.args.close l.left l.verdict.holds (trees l.verdict.rest)
     (omega arith) (sym c.if-is_empty.ensures) ∙ l.invariant
 
-pub items-returns-in_err-told : goal.items-returns-in_err-told
-items-returns-in_err-told g t c =
+pub items-returns-in_err-verdict : goal.items-returns-in_err-verdict
+items-returns-in_err-verdict g t c =
     let l = c.items in
     let inner = predicate c.args.settings.now c.args.depth c.args.close in
     let p = err_from_is_err_and c.from_residual.result c.from_residual.ensures.1 in
-    rw (p.1, p.2) (items_fail inner c.args.every c.args.close l.left l.told.holds
-    (trees l.told.rest) _ (omega arith) (sym c.if-is_empty.ensures) c.in_err-told.ensures ∙ l.invariant)
+    rw (p.1, p.2) (items_fail inner c.args.every c.args.close l.left l.verdict.holds
+    (trees l.verdict.rest) _ (omega arith) (sym c.if-is_empty.ensures) c.in_err-verdict.ensures ∙ l.invariant)
 
 pub items-items-preserved : goal.items-items-preserved
 items-items-preserved g t c =
     let l = c.items in
     let inner = predicate c.args.settings.now c.args.depth c.args.close in
-    items_on inner c.args.every c.args.close l.left l.told.holds (trees l.told.rest)
-    _ _ (omega arith) (sym c.if-is_empty.ensures) c.in_ok-told.ensures ∙ l.invariant
+    items_on inner c.args.every c.args.close l.left l.verdict.holds (trees l.verdict.rest)
+    _ _ (omega arith) (sym c.if-is_empty.ensures) c.in_ok-verdict.ensures ∙ l.invariant
 
 pub items-returns : goal.items-returns
 items-returns g t c =
     let l = c.items in
     let inner = predicate c.args.settings.now c.args.depth c.args.close in
-    items_none inner c.args.every c.args.close l.left l.told.holds (trees l.told.rest)
+    items_none inner c.args.every c.args.close l.left l.verdict.holds (trees l.verdict.rest)
     (omega arith) ∙ l.invariant

@@ -24,7 +24,7 @@ decreases-item g l = 5 * l.depth + 1
 
 abbrev pub invariant-items-items : goal.invariant-items-items
 invariant-items-items g l =
-    items (predicate l.settings l.depth l.close) l.every l.close l.left l.told.holds (trees l.told.rest)
+    items (predicate l.settings l.depth l.close) l.every l.close l.left l.verdict.holds (trees l.verdict.rest)
     ≡ items (predicate l.settings l.depth l.close) l.every l.close (flat_len (trees l.fn.tokens)) l.every
     (trees l.fn.tokens)
 
