@@ -30,7 +30,7 @@ abbrev pub group_at : DelimiterKind → Forest → Option Group
 group_at kind f =
     option_and_then
     (λ g. if is_same_kind g.0.kind kind then Some (record { close = g.0.close; inside = g.1; rest = rest_of f })
-        else None)
+    else None)
     (front_group f)
 
 -- the brackets of the attribute at the front: `#[..]` or `#![..]`

@@ -23,32 +23,71 @@ static ROWS: [(&str, &str); 36] = [
     ("#[cfg(yes)] fn f() {} m!();", "#[cfg(yes)] fn f() {} m!();"),
     ("#[cfg(no)] fn f() { a!(); } m!();", "m!();"),
     ("#[cfg(no)] use a::{b, c}; m!();", "m!();"),
-    ("#[cfg(no)] #[a] pub(crate) const X: A = A { b: 1 }; m!();", "m!();"),
-    ("#[a] #[cfg(no)] fn f<A, B>(a: A) -> B where A: B<C = D> {} m!();", "m!();"),
+    (
+        "#[cfg(no)] #[a] pub(crate) const X: A = A { b: 1 }; m!();",
+        "m!();",
+    ),
+    (
+        "#[a] #[cfg(no)] fn f<A, B>(a: A) -> B where A: B<C = D> {} m!();",
+        "m!();",
+    ),
     ("#[cfg(no)] struct S<A, B>(A, B); m!();", "m!();"),
-    ("#[cfg(no)] impl<A: B<C = D>> A { fn f() {} } m!();", "m!();"),
+    (
+        "#[cfg(no)] impl<A: B<C = D>> A { fn f() {} } m!();",
+        "m!();",
+    ),
     ("#[cfg(no)] macro_rules! m { () => { 1 }; } m!();", "m!();"),
     ("#[cfg(no)] m! { a } n!();", "n!();"),
     ("#[cfg(no)] a::m!(a); n!();", "n!();"),
     ("#[cfg(no)] mod a { m!(); } n!();", "n!();"),
     ("#[cfg(no)] mod a; n!();", "n!();"),
-    ("#[cfg(windows)] m!(1); #[cfg(unix)] m!(2);", "#[cfg(unix)] m!(2);"),
-    ("mod a { #![cfg(no)] m!(); } n!();", "mod a { #![cfg(no)] } n!();"),
-    ("#![allow(a)] #[cfg(no)] fn f() {} m!();", "#![allow(a)] m!();"),
+    (
+        "#[cfg(windows)] m!(1); #[cfg(unix)] m!(2);",
+        "#[cfg(unix)] m!(2);",
+    ),
+    ("mod a { #![cfg(no)] m!(); } n!();", "mod a {} n!();"),
+    (
+        "#![allow(a)] #[cfg(no)] fn f() {} m!();",
+        "#![allow(a)] m!();",
+    ),
     ("#![cfg(yes)] m!();", "#![cfg(yes)] m!();"),
-    ("fn f() { #[cfg(no)] let a = A { b: m!() }; n!(); }", "fn f() { n!(); }"),
+    (
+        "fn f() { #[cfg(no)] let a = A { b: m!() }; n!(); }",
+        "fn f() { n!(); }",
+    ),
     ("fn f() { #[cfg(no)] a(m!()); n!() }", "fn f() { n!() }"),
-    ("fn f() { #[cfg(no)] if a { m!() } else { m!() } n!() }", "fn f() { n!() }"),
+    (
+        "fn f() { #[cfg(no)] if a { m!() } else { m!() } n!() }",
+        "fn f() { n!() }",
+    ),
     ("fn f() { #[cfg(no)] { m!() } n!() }", "fn f() { n!() }"),
     ("fn f() { #[cfg(no)] m!() }", "fn f() {}"),
-    ("match a { #[cfg(no)] A { b } => m!(1, 2), C => n!() }", "match a { C => n!() }"),
-    ("match a { #[cfg(no)] A => { m!() } C => n!() }", "match a { C => n!() }"),
-    ("match a { #[cfg(no)] A => { m!() }, C => n!() }", "match a { C => n!() }"),
-    ("match a { #[cfg(no)] A if b => m!().c::<D, E>(), C => n!() }", "match a { C => n!() }"),
+    (
+        "match a { #[cfg(no)] A { b } => m!(1, 2), C => n!() }",
+        "match a { C => n!() }",
+    ),
+    (
+        "match a { #[cfg(no)] A => { m!() } C => n!() }",
+        "match a { C => n!() }",
+    ),
+    (
+        "match a { #[cfg(no)] A => { m!() }, C => n!() }",
+        "match a { C => n!() }",
+    ),
+    (
+        "match a { #[cfg(no)] A if b => m!().c::<D, E>(), C => n!() }",
+        "match a { C => n!() }",
+    ),
     ("match a { #[cfg(no)] A => b }", "match a {}"),
-    ("struct S { #[cfg(no)] a: m!(), c: n!() }", "struct S { c: n!() }"),
+    (
+        "struct S { #[cfg(no)] a: m!(), c: n!() }",
+        "struct S { c: n!() }",
+    ),
     ("enum E { #[cfg(no)] A { b: C }, D }", "enum E { D }"),
-    ("enum E { #[cfg(no)] A = m!(), D(n!()) }", "enum E { D(n!()) }"),
+    (
+        "enum E { #[cfg(no)] A = m!(), D(n!()) }",
+        "enum E { D(n!()) }",
+    ),
     ("f(#[cfg(no)] m!(), n!())", "f(n!())"),
     ("S { #[cfg(no)] a: m!(), b: n!() }", "S { b: n!() }"),
     ("fn f(#[cfg(no)] a: m!(), b: B) {}", "fn f(b: B) {}"),
@@ -58,7 +97,10 @@ static ROWS: [(&str, &str); 36] = [
         "macro_rules! m { (#[cfg($a:meta)] $b:item) => { #[cfg(no)] $b } }",
     ),
     ("#[cfg_attr(yes, cfg(no))] fn f() {} m!();", "m!();"),
-    ("#[cfg_attr(no, cfg(no))] m!();", "#[cfg_attr(no, cfg(no))] m!();"),
+    (
+        "#[cfg_attr(no, cfg(no))] m!();",
+        "#[cfg_attr(no, cfg(no))] m!();",
+    ),
 ];
 
 fn lexed(alloc: Global, text: &str) -> Result<TopSubtree, Fail> {
