@@ -1,4 +1,5 @@
 // What is reported of calls that are explained. Where each rule stops, and what it wants there, was worked out by hand.
+use crate::conditions::plainly;
 use mbe_expanding::expander::Expander;
 use mbe_expanding::settings::Settings;
 use mbe_expandm::expansions::{define_files, expanded};
@@ -22,7 +23,15 @@ fn reported(
     let edition = Edition::Edition2021;
     let mut symbols = SymbolTable::new(alloc);
     let mut notes = Vec::new(alloc);
-    let file = source_file(alloc, &mut symbols, &mut notes, edition, "a.rs", text, 0)?;
+    let file = source_file(
+        alloc,
+        &mut symbols,
+        &mut notes,
+        &plainly(edition),
+        "a.rs",
+        text,
+        0,
+    )?;
     let files: [SourceFile<'_>; 1] = [file];
     let settings = Settings {
         edition,
