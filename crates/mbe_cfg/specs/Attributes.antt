@@ -1,5 +1,5 @@
--- Whether an item's attributes let it be compiled: all its `cfg`s hold, also those that a `cfg_attr` adds whose predicate
--- holds.
+-- Whether an item's attributes let it be compiled: all its `cfg`s hold, also those that a `cfg_attr` adds whose
+-- predicate holds.
 use Rattle.std.specs.Prelude.{ℕ, zero, suc, Bool, true, ◌&&◌, if◌then◌else◌, List, codes}
 use Rattle.std.specs.Prelude.{Option, Some, None, Result, Ok, Err}
 use Rattle.mbe_tt.specs.Trees.Leaf.{Ident, is_text}

@@ -1,6 +1,6 @@
--- Whether a predicate holds, as the Reference says it: `true` holds and `false` doesn't; a name, or a name with a value,
--- holds where it is set; `all` holds where every one of its predicates does, `any` where one does, and `not` where its one
--- predicate doesn't.
+-- Whether a predicate holds, as the Reference says it: `true` holds and `false` doesn't; a name, or a name with a
+-- value, holds where it is set; `all` holds where every one of its predicates does, `any` where one does, and `not`
+-- where its one predicate doesn't.
 use Rattle.std.specs.Prelude.{ℕ, zero, suc, Bool, true, false, not, ◌==◌, ◌&&◌, ◌||◌, nat_lt, if◌then◌else◌}
 use Rattle.std.specs.Prelude.{List, codes, Option, Some, None, Result, Ok, Err}
 use Rattle.std.specs.List.{list_any}

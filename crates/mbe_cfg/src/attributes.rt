@@ -103,8 +103,8 @@ fn cfg_attr<A: Allocator>(
     }
 }
 
-/// Whether an attribute, without its `#` and brackets, lets what it is on be compiled; or what is wrong in it. `close` is
-/// where its brackets end, and attributes of `cfg_attr` may be `depth` deep in one another.
+/// Whether an attribute, without its `#` and brackets, lets what it is on be compiled; or what is wrong in it. `close`
+/// is where its brackets end, and attributes of `cfg_attr` may be `depth` deep in one another.
 #[cycle(attribute)]
 pub fn attribute<A: Allocator>(
     settings: &Settings<'_>,

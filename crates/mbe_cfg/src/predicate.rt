@@ -183,8 +183,8 @@ fn plain<'t, A: Allocator>(
     })
 }
 
-/// Whether the predicate at the front holds, and what is after it; or what is wrong in it. `close` is where the trees end,
-/// and predicates may be `depth` deep in one another.
+/// Whether the predicate at the front holds, and what is after it; or what is wrong in it. `close` is where the trees
+/// end, and predicates may be `depth` deep in one another.
 #[cycle(predicate)]
 pub fn predicate<'t, A: Allocator>(
     settings: &Settings<'_>,

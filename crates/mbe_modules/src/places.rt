@@ -9,8 +9,8 @@ use std::alloc::{AllocError, Allocator, Global};
 
 /// Where the modules of a file, or of an inline module in it, are looked for, as the Reference says it.
 ///
-/// `folder` is the folder of the file, and the names of the inline modules from there on. In a file whose modules are in
-/// a folder of its own name, as `a/b.rs`, `own` is that name, `b`, until an inline module adds it; in a crate's root, a
+/// `folder` is the folder of the file, and the names of the inline modules from there on. In a file whose modules are
+/// in a folder of its own name, as `a/b.rs`, `own` is that name, `b`, until an inline module adds it; in a crate's root, a
 /// `mod.rs` and a file that `#[path]` names, it is `None`.
 #[derive(Drop)]
 pub struct Place<A: Allocator = Global> {
@@ -60,8 +60,8 @@ impl<A: Allocator + Copy> Place<A> {
         join(alloc, folder.as_str(), path)
     }
 
-    /// The files that may hold the module of `mod name;`, with the text of its `#[path]`, if it has one. `AllocError` if out
-    /// of memory.
+    /// The files that may hold the module of `mod name;`, with the text of its `#[path]`, if it has one. `AllocError` if
+    /// out of memory.
     pub fn candidates(
         &self,
         alloc: A,
@@ -89,8 +89,8 @@ impl<A: Allocator + Copy> Place<A> {
         Ok(Candidates::Usual(beside, nested))
     }
 
-    /// The place of the modules of `name.rs`, which was found for `mod name;` here. That of `name/mod.rs` is `inside` without
-    /// a path. `AllocError` if out of memory.
+    /// The place of the modules of `name.rs`, which was found for `mod name;` here. That of `name/mod.rs` is `inside`
+    /// without a path. `AllocError` if out of memory.
     pub fn of_file(&self, alloc: A, name: &str) -> Result<Place<A>, AllocError>
         ensures { IfOk result (λ p. place_shown p ≡ spec.of_file (place_shown self.now) name.now) }
     {

@@ -6,8 +6,8 @@ use std::alloc::{AllocError, Global};
 use std::process::Abort;
 use std::test::Fail;
 
-// A folder, a file's own name or nothing, the inline modules around, each `name` or `name=path`, and the module, in the same
-// way; then the candidates.
+// A folder, a file's own name or nothing, the inline modules around, each `name` or `name=path`, and the module, in the
+// same way; then the candidates.
 static ROWS: [(&str, &str, &str, &str, &str); 16] = [
     ("src", "", "", "a", "src/a.rs src/a/mod.rs"),
     ("", "", "", "a", "a.rs a/mod.rs"),
