@@ -38,7 +38,10 @@ fn after_comma<'t, A: Allocator>(tokens: TokenTreesView<'t, A>) -> TokenTreesVie
 fn after_mark<'t, A: Allocator>(tokens: TokenTreesView<'t, A>) -> TokenTreesView<'t, A>
     ensures { trees result ≡ spec.after_mark (trees tokens.entry) }
 {
-    after_char(tokens, ';').unwrap_or_else(|| after_comma(tokens))
+    match after_char(tokens, ';') {
+        Some(rest) => rest,
+        None => after_comma(tokens),
+    }
 }
 
 // Whether nothing, a `;` or a `,` is at the front.
