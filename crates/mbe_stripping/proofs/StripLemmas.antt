@@ -1,9 +1,10 @@
 -- What is left to be written, as trees are stripped one front after another.
-use Rattle.std.proofs.Common.{ℕ, zero, suc, ◌-◌, ◌≡◌, ◌<◌, ◌≤◌, Bool, true, false, [], ◌∷◌, length, Some, None, refl, ap, sym, ◌∙◌, arith}
-use Rattle.std.specs.Prelude.{if◌then◌else◌, nat_lt}
+use Rattle.std.proofs.Common.{ℕ, zero, suc, ◌-◌, ◌≡◌, ◌<◌, ◌≤◌, [], ◌∷◌, length, Some, None, refl, ap, sym, ◌∙◌, arith}
+use Rattle.std.proofs.lemmas.Bool.{lt-ltb, le-ltb}
+use Rattle.std.specs.Prelude.{Option, option_map}
 use Rattle.mbe_tt.specs.Buffers.Building.{Levels, put, closed}
 use Rattle.mbe_tt.specs.Fragments.Grammar.{Grammar}
-use Rattle.mbe_tt.specs.Trees.Tree.{Forest, Tree, Leaf_tree, Group_tree, none, leaf, group, tree, append, first, rest_of, flat_len}
+use Rattle.mbe_tt.specs.Trees.Tree.{Forest, none, leaf, group, tree, append, first, rest_of, flat_len}
 use Rattle.mbe_tt.specs.declared.tt.Delimiter.{Delimiter}
 use Rattle.mbe_tt.proofs.Buffers.Built.{length-put}
 use Rattle.mbe_tt.proofs.Buffers.Grown.{put-none}
@@ -91,15 +92,10 @@ is_inside f now opened mid x some o m =
 
 -- ---- trees that stay as they are
 
-pub rest_less : (f : Forest) (t : Tree) → first f ≡ Some t → flat_len (rest_of f) < flat_len f
-rest_less none t e = cc
-rest_less (leaf l rest) t e = omega arith
-rest_less (group d inside rest) t e = omega arith
-
 up_to_none : (n : ℕ) (f : Forest) → flat_len f ≤ n → none ≡ up_to n f
 up_to_none n none h = refl
-up_to_none n (leaf l rest) h = grind (arith, h)
-up_to_none n (group d inside rest) h = grind (arith, h)
+up_to_none n (leaf l rest) h = rw (le-ltb n (flat_len (leaf l rest)) h) refl
+up_to_none n (group d inside rest) h = rw (le-ltb n (flat_len (group d inside rest)) h) refl
 
 -- what is written of some trees, once the others are, is what is to be written
 pub record Copying (n : ℕ) (f : Forest) (old : Levels) (rest : Forest) (now : Levels) : Type 0 where
@@ -109,27 +105,38 @@ pub copied : (n : ℕ) (f rest : Forest) (old now : Levels) → Copying n f old 
     → now ≡ put (up_to n f) old
 copied n f rest old now h few = put-none now ∙ ap (λ x. put x now) (up_to_none n rest few) ∙ h.same
 
-up_to_more : (n : ℕ) (f : Forest) (t : Tree) → first f ≡ Some t → n < flat_len f
-    → append (tree t none) (up_to n (rest_of f)) ≡ up_to n f
-up_to_more n none t e h = cc
-up_to_more n (leaf l rest) t e h =
-    let same : Leaf_tree l ≡ t = cc in
-    ap (λ k. append (tree k none) (up_to n rest)) (sym same) ∙ grind (arith, h)
-up_to_more n (group d inside rest) t e h =
-    let same : Group_tree d inside ≡ t = cc in
-    ap (λ k. append (tree k none) (up_to n rest)) (sym same) ∙ grind (arith, h)
+-- the first tree of some as a list of one
+abbrev pub first_alone : Forest → Option Forest
+first_alone f = option_map (λ t. tree t none) (first f)
+
+up_to_more : (n : ℕ) (f view : Forest) → Some view ≡ first_alone f → n < flat_len f
+    → append view (up_to n (rest_of f)) ≡ up_to n f
+up_to_more n none view e h = cc
+up_to_more n (leaf l rest) view e h =
+    let same : view ≡ leaf l none = cc in
+    ap (λ v. append v (up_to n rest)) same ∙ rw (lt-ltb n (flat_len (leaf l rest)) h) refl
+up_to_more n (group d inside rest) view e h =
+    let same : view ≡ group d inside none = cc in
+    ap (λ v. append v (up_to n rest)) same ∙ rw (lt-ltb n (flat_len (group d inside rest)) h) refl
 
 -- one tree on
-pub copied_on : (n : ℕ) (f rest view : Forest) (t : Tree) (old now next : Levels) → Copying n f old rest now
-    → first rest ≡ Some t → n < flat_len rest → view ≡ tree t none → next ≡ put view now
-    → Copying n f old (rest_of rest) next
-copied_on n f rest view t old now next h is more v e = record {
-  same = ap (put (up_to n (rest_of rest))) e ∙ put_put view (up_to n (rest_of rest)) now
-      ∙ ap (λ x. put (append x (up_to n (rest_of rest))) now) v
-      ∙ ap (λ x. put x now) (up_to_more n rest t is more) ∙ h.same;
+pub copied_on : (n : ℕ) (f rest after view : Forest) (old now next : Levels) → Copying n f old rest now
+    → Some view ≡ first_alone rest → n < flat_len rest → after ≡ rest_of rest → next ≡ put view now
+    → Copying n f old after next
+copied_on n f rest after view old now next h is more r e = record {
+  same = ap (λ x. put (up_to n x) next) r ∙ ap (put (up_to n (rest_of rest))) e
+      ∙ put_put view (up_to n (rest_of rest)) now ∙ ap (λ x. put x now) (up_to_more n rest view is more) ∙ h.same;
 }
 
-pub none_left : (f : Forest) (n : ℕ) → first f ≡ None → flat_len f ≤ n
+pub rest_less : (f view : Forest) → Some view ≡ first_alone f → flat_len (rest_of f) < flat_len f
+rest_less none view e = cc
+rest_less (leaf l rest) view e = omega arith
+rest_less (group d inside rest) view e = omega arith
+
+pub none_left : (f : Forest) (n : ℕ) → None ≡ first_alone f → flat_len f ≤ n
 none_left none n e = omega arith
 none_left (leaf l rest) n e = cc
 none_left (group d inside rest) n e = cc
+
+pub copying : (n : ℕ) (f rest : Forest) (old : Levels) → rest ≡ f → Copying n f old rest old
+copying n f rest old e = record { same = ap (λ x. put (up_to n x) old) e }
