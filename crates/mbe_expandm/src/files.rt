@@ -79,7 +79,13 @@ fn compiled(
         (grammar_of reading.now.grammar) tree.now) }
 {
     let mut faults = Vec::new(alloc);
-    let stays = strip(alloc, &reading.conditions, &reading.grammar, &mut faults, tree)?;
+    let stays = strip(
+        alloc,
+        &reading.conditions,
+        &reading.grammar,
+        &mut faults,
+        tree,
+    )?;
     note_faults(alloc, notes, faults.as_slice())?;
     Ok(stays)
 }

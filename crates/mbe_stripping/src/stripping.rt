@@ -145,8 +145,10 @@ fn strip_front<'t, A: Allocator + Copy, G: FragmentGrammar>(
             copy_up_to(builder, tokens, call.rest)?;
             Ok(call.rest)
         }
-        Front::Tree(_tree, _rest) if is_off(settings, faults, tokens)? => after_off(grammar, tokens),
         Front::Tree(tree, rest) => {
+            if is_off(settings, faults, tokens)? {
+                return after_off(grammar, tokens);
+            }
             strip_tree(settings, grammar, faults, builder, tree, levels)?;
             Ok(rest)
         }
@@ -172,7 +174,15 @@ fn strip_tree<A: Allocator + Copy, G: FragmentGrammar>(
         TtElement::Leaf(leaf) => builder.push(leaf.clone()?),
         TtElement::Subtree(group, inside) => {
             let delimiter = group.delimiter;
-            strip_group(settings, grammar, faults, builder, delimiter, inside.remaining(), levels)
+            strip_group(
+                settings,
+                grammar,
+                faults,
+                builder,
+                delimiter,
+                inside.remaining(),
+                levels,
+            )
         }
     }
 }
@@ -257,6 +267,13 @@ pub fn strip<A: Allocator + Copy, G: FragmentGrammar>(
 {
     let mut builder = TopSubtreeBuilder::new(alloc, tree.top_subtree().delimiter)?;
     let of = &mut builder;
-    strip_trees(settings, grammar, faults, of, tree.iter().remaining(), LEVELS)?;
+    strip_trees(
+        settings,
+        grammar,
+        faults,
+        of,
+        tree.iter().remaining(),
+        LEVELS,
+    )?;
     Ok(builder.build())
 }
