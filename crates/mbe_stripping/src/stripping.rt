@@ -96,6 +96,7 @@ fn after_off<'t, A: Allocator, G: FragmentGrammar>(
 }
 
 // Writes the first trees as they are, up to those that are left.
+#[tactic(auto, using(crate::proofs::StripLemmas::copied, crate::proofs::StripLemmas::copied_on))]
 fn copy_up_to<'t, A: Allocator + Copy>(
     builder: &mut TopSubtreeBuilder<A>,
     tokens: TokenTreesView<'t, A>,
