@@ -72,7 +72,8 @@ abbrev pub findings : Ops → Ops → List Finding
 findings pattern template =
     let bound = bound_in 0 pattern in
     let used = used_in 0 template in
-    twice [] bound ++ (unknown bound ++ (unused used bound ++ (repeating bound used ++ map forbidden (forbidden_in [] pattern))))
+    twice [] bound
+    ++ (unknown bound ++ (unused used bound ++ (repeating bound used ++ map forbidden (forbidden_in [] pattern))))
 
 -- ---- what the program's values stand for
 

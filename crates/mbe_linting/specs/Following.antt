@@ -1,5 +1,6 @@
--- What may follow a fragment in a pattern: the Rust Reference's "Follow-set Ambiguity Restrictions", as rustc 1.95 looks at them. There
--- what a repetition without separator begins with isn't held to follow its own rounds, and `vis` isn't held to take nothing.
+-- What may follow a fragment in a pattern: the Rust Reference's "Follow-set Ambiguity Restrictions", as rustc 1.95 looks
+-- at them. There what a repetition without separator begins with isn't held to follow its own rounds, and `vis` isn't
+-- held to take nothing.
 use Rattle.std.specs.Prelude.{ℕ, Bool, true, false, not, ◌&&◌, ◌||◌, if◌then◌else◌, List, [], ◌∷◌, ◌++◌, map, codes, Option, Some, None, option_to_list}
 use Rattle.std.specs.Str.{bytes_eq}
 use Rattle.mbe_tt.specs.declared.span.Span.{Span}
@@ -49,7 +50,8 @@ abbrev mutual
   firsts_of_op (token t) = reading (token t) ∷ []
   firsts_of_op (group d body) = reading (group d body) ∷ []
   firsts_of_op (variable name kind span) = reading (variable name kind span) ∷ []
-  firsts_of_op (repetition body separator repeat) = firsts body ++ where_empty (may_be_empty body) (separators separator)
+  firsts_of_op (repetition body separator repeat) =
+      firsts body ++ where_empty (may_be_empty body) (separators separator)
   firsts_of_op (expression e) = []
 
   pub firsts : Ops → List Next
@@ -121,8 +123,10 @@ ends_type chars =
 -- the puncts that a type may begin with
 abbrev pub begins_type : List ℕ → Bool
 begins_type chars =
-    bytes_eq chars (codes "!") || bytes_eq chars (codes "*") || bytes_eq chars (codes "&") || bytes_eq chars (codes "&&")
-    || bytes_eq chars (codes "?") || bytes_eq chars (codes "'") || bytes_eq chars (codes "<") || bytes_eq chars (codes "<<")
+    bytes_eq chars (codes "!") || bytes_eq chars (codes "*") || bytes_eq chars (codes "&")
+    || bytes_eq chars (codes "&&")
+    || bytes_eq chars (codes "?") || bytes_eq chars (codes "'") || bytes_eq chars (codes "<")
+    || bytes_eq chars (codes "<<")
     || bytes_eq chars (codes "::")
 
 -- after `expr` and `stmt`

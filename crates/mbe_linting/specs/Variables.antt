@@ -7,7 +7,8 @@ use Rattle.mbe_semantics.specs.Syntax.Op.{Name, Element, Expression, Op, Ops, no
 use Rattle.mbe_linting.specs.declared.variables.Bound as bound
 use Rattle.mbe_linting.specs.declared.variables.Used as used
 
--- a variable of a pattern: its kind, none if the specifier is unknown; how many repetitions are around it; and where its name is
+-- a variable of a pattern: its kind, none if the specifier is unknown; how many repetitions are around it; and where
+-- its name is
 pub record Bound : Type 0 where
   pub name : Name
   pub kind : Option MetaVarKind
@@ -25,7 +26,8 @@ abbrev mutual
   pub bound_in_op : ℕ → Op → List Bound
   bound_in_op depth (ops.token t) = []
   bound_in_op depth (ops.group d body) = bound_in depth body
-  bound_in_op depth (ops.variable name kind span) = record { name = name; kind = kind; depth = depth; place = span } ∷ []
+  bound_in_op depth (ops.variable name kind span) =
+      record { name = name; kind = kind; depth = depth; place = span } ∷ []
   bound_in_op depth (ops.repetition body separator repeat) = bound_in (depth + 1) body
   bound_in_op depth (ops.expression e) = []
 

@@ -20,7 +20,8 @@ pub enum Finding<'a, A: Allocator = Global> {
     UnknownSpecifier(Bound<'a>),
     /// A variable that the template doesn't name.
     NeverUsed(Bound<'a>),
-    /// A variable, and a use with fewer repetitions around it: it still repeats there. rustc refuses each call that writes it.
+    /// A variable, and a use with fewer repetitions around it: it still repeats there. rustc refuses each call
+    /// that writes it.
     StillRepeats(Bound<'a>, Used<'a>),
     /// A fragment, and what may follow it in the pattern, which the language forbids. rustc refuses it.
     Forbidden(Followed<'a, A>),
@@ -44,7 +45,7 @@ fn push_if_twice<'a, A: Allocator>(
     one: Bound<'a>,
 ) -> Result<(), AllocError>
     ensures { OnOk result (map finding_seen found.new.items ≡ map finding_seen found.old.items
-        ++ spec.twice_by (option_map bound_seen first) (bound_seen one)) }
+        ++ spec.twice_by (option_map bound_seen first.entry) (bound_seen one.entry)) }
 {
     if let Some(first) = first {
         found.push(Finding::BoundTwice(first, one))?;
@@ -71,7 +72,7 @@ fn push_if_unknown<'a, A: Allocator>(
     one: Bound<'a>,
 ) -> Result<(), AllocError>
     ensures { OnOk result (map finding_seen found.new.items ≡ map finding_seen found.old.items
-        ++ spec.unknown_by one.kind (bound_seen one)) }
+        ++ spec.unknown_by one.entry.kind (bound_seen one.entry)) }
 {
     if one.kind.is_none() {
         found.push(Finding::UnknownSpecifier(one))?;
@@ -118,7 +119,7 @@ fn push_if_unused<'a, A: Allocator>(
     one: Bound<'a>,
 ) -> Result<(), AllocError>
     ensures { OnOk result (map finding_seen found.new.items ≡ map finding_seen found.old.items
-        ++ spec.unused_by (map used_seen used.now) (bound_seen one)) }
+        ++ spec.unused_by (map used_seen used.now) (bound_seen one.entry)) }
 {
     if !(begins_with_underscore(one.name) || is_named(one.name, used)) {
         found.push(Finding::NeverUsed(one))?;
@@ -146,7 +147,7 @@ fn push_if_repeats<'a, A: Allocator>(
     one: Used<'a>,
 ) -> Result<(), AllocError>
     ensures { OnOk result (map finding_seen found.new.items ≡ map finding_seen found.old.items
-        ++ spec.repeats_by (option_map bound_seen bound) (used_seen one)) }
+        ++ spec.repeats_by (option_map bound_seen bound.entry) (used_seen one.entry)) }
 {
     if let Some(bound) = bound
         && one.place.is_some()

@@ -278,7 +278,7 @@ fn push_separator_if<'a, A: Allocator>(
 ) -> Result<(), AllocError>
     ensures { OnOk result (map next_seen next.new.items ≡ map next_seen next.old.items
         ++ spec.where_empty is_empty
-            (spec.separators (option_map separator_seen separator.now))) }
+        (spec.separators (option_map separator_seen separator.now))) }
 {
     if is_empty {
         push_separator(next, separator)?;
@@ -420,7 +420,7 @@ fn push_if_forbidden<'a, A: Allocator>(
     one: Followed<'a, A>,
 ) -> Result<(), AllocError>
     ensures { OnOk result (map followed_seen found.new.items
-        ≡ map followed_seen found.old.items ++ spec.if_forbidden (followed_seen one)) }
+        ≡ map followed_seen found.old.items ++ spec.if_forbidden (followed_seen one.entry)) }
 {
     if !may_follow(one.kind, one.next) {
         found.push(one)?;
@@ -464,7 +464,9 @@ fn push_forbidden_in_op<'a, A: Allocator + Copy>(
         Op::Var { name, kind, id } => push_forbidden_of(found, name.as_str(), *kind, *id, after),
         Op::Subtree { tokens, .. } => push_forbidden(alloc, found, &tokens.0, &[]),
         Op::Repeat {
-            tokens, separator, ..
+            tokens,
+            separator,
+            ..
         } => {
             let after = after_round(alloc, after, separator)?;
             push_forbidden(alloc, found, &tokens.0, after.as_slice())

@@ -75,7 +75,10 @@ fn push_bound_op<'a, A: Allocator>(
             Ok(())
         }
         Op::Subtree { tokens, .. } => push_bound(bound, &tokens.0, depth),
-        Op::Repeat { tokens, .. } => push_bound(bound, &tokens.0, one_deeper(depth)?),
+        Op::Repeat { tokens, .. } => {
+            let deeper = one_deeper(depth)?;
+            push_bound(bound, &tokens.0, deeper)
+        }
         Op::Literal(_) | Op::Punct(_) | Op::Ident(_) => Ok(()),
         Op::Ignore { .. }
         | Op::Index { .. }
@@ -166,7 +169,10 @@ fn push_used_op<'a, A: Allocator>(
         }
         Op::Concat { elements, .. } => push_used_elements(used, elements.as_slice(), depth),
         Op::Subtree { tokens, .. } => push_used(used, &tokens.0, depth),
-        Op::Repeat { tokens, .. } => push_used(used, &tokens.0, one_deeper(depth)?),
+        Op::Repeat { tokens, .. } => {
+            let deeper = one_deeper(depth)?;
+            push_used(used, &tokens.0, deeper)
+        }
         Op::Index { .. } | Op::Len { .. } => Ok(()),
         Op::Literal(_) | Op::Punct(_) | Op::Ident(_) => Ok(()),
     }

@@ -121,7 +121,10 @@ static ROWS: [Row; 134] = [
     ("($($_e:expr),* foo) => {}", "followed _e 4 15;"),
     ("($($_e:expr $(,)?)+ foo) => {}", "followed _e 4 20;"),
     ("($_e:expr $($_x:ident)* ,) => {}", "followed _e 2 13;"),
-    ("($_e:expr $($_x:ident)* foo) => {}", "followed _e 2 13;followed _e 2 24;"),
+    (
+        "($_e:expr $($_x:ident)* foo) => {}",
+        "followed _e 2 13;followed _e 2 24;",
+    ),
     ("($_e:expr $($_x:ident)+ foo) => {}", "followed _e 2 13;"),
     ("($_e:expr $(, a)? $(; b)* c) => {}", "followed _e 2 26;"),
     ("($_e:expr $($(, a)?)and* ,) => {}", "followed _e 2 20;"),
@@ -130,13 +133,25 @@ static ROWS: [Row; 134] = [
     ("($($_e:expr, $_t:ty if)*) => {}", "followed _t 14 20;"),
     ("($($($_e:expr)|*);*) => {}", "followed _e 6 14;"),
     ("($($($_e:expr);*)|*) => {}", "followed _e 6 17;"),
-    ("($_a:expr $_b:expr $_c:expr) => {}", "followed _a 2 11;followed _b 11 20;"),
+    (
+        "($_a:expr $_b:expr $_c:expr) => {}",
+        "followed _a 2 11;followed _b 11 20;",
+    ),
     ("($x:ident $x:ident) => {$x}", "twice x 2 11;"),
     ("($x:ident $($x:ident),*) => {$x}", "twice x 2 13;"),
-    ("({$x:ident} [$x:ty] ($x:tt)) => {$x}", "twice x 3 14;twice x 3 22;"),
+    (
+        "({$x:ident} [$x:ty] ($x:tt)) => {$x}",
+        "twice x 3 14;twice x 3 22;",
+    ),
     ("($x:foo) => {$x}", "unknown x 2;"),
-    ("($x:Expr $y:block_ $z:ident) => {$x $y $z}", "unknown x 2;unknown y 10;"),
-    ("($_e:expr $_x:foo) => {}", "unknown _x 11;followed _e 2 11;"),
+    (
+        "($x:Expr $y:block_ $z:ident) => {$x $y $z}",
+        "unknown x 2;unknown y 10;",
+    ),
+    (
+        "($_e:expr $_x:foo) => {}",
+        "unknown _x 11;followed _e 2 11;",
+    ),
     ("($x:foo priv) => {$x}", "unknown x 2;"),
 ];
 

@@ -2,8 +2,8 @@
 #![tactic(auto)]
 
 #[cfg(test)]
-mod found;
-#[cfg(test)]
 mod following;
+#[cfg(test)]
+mod found;
 #[cfg(test)]
 mod variables;

@@ -22,7 +22,10 @@ static ROWS: [Row; 20] = [
     ("($($x:ident)*) => {${concat(a, $x)}}", "repeats x 4 32;"),
     ("($($x:ident)*) => {${ignore($x)}}", ""),
     ("($x:ident $($x:ident)*) => {$x $y}", "twice x 2 13;"),
-    ("($x:ident) => {}; ($y:ident) => {$x}", "unused x 2;unused y 20;"),
+    (
+        "($x:ident) => {}; ($y:ident) => {$x}",
+        "unused x 2;unused y 20;",
+    ),
 ];
 
 #[test]

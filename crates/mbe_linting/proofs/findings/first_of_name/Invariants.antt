@@ -5,4 +5,6 @@ use Rattle.mbe_linting.specs.Findings as spec
 use Rattle.mbe_linting.proofs.findings.first_of_name.Given as goal
 
 abbrev pub invariant-loop-one : goal.invariant-loop-one
-invariant-loop-one l = spec.first_of_name l.name (map bound_seen (drop l.one-index l.bound)) ≡ spec.first_of_name l.name (map bound_seen l.bound)
+invariant-loop-one l =
+    spec.first_of_name l.name (map bound_seen (drop l.one-index l.bound))
+    ≡ spec.first_of_name l.name (map bound_seen l.bound)

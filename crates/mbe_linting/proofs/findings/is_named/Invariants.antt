@@ -5,4 +5,6 @@ use Rattle.mbe_linting.specs.Findings as spec
 use Rattle.mbe_linting.proofs.findings.is_named.Given as goal
 
 abbrev pub invariant-loop-one : goal.invariant-loop-one
-invariant-loop-one l = spec.is_named l.name (map used_seen (drop l.one-index l.used)) ≡ spec.is_named l.name (map used_seen l.used)
+invariant-loop-one l =
+    spec.is_named l.name (map used_seen (drop l.one-index l.used))
+    ≡ spec.is_named l.name (map used_seen l.used)

@@ -7,7 +7,8 @@ use Rattle.mbe_linting.proofs.following.+firsts.Given as goal
 abbrev pub invariant-push_firsts-ops : goal.invariant-push_firsts-ops
 invariant-push_firsts-ops g l = record {
   empty : may_be_empty (ops_of l.ops) ≡ may_be_empty (ops_of l.rest);
-  added : map next_seen l.next.items ++ firsts (ops_of l.rest) ≡ map next_seen l.initial.next.items ++ firsts (ops_of l.ops);
+  added : map next_seen l.next.items ++ firsts (ops_of l.rest)
+      ≡ map next_seen l.initial.next.items ++ firsts (ops_of l.ops);
   lighter : ops_weight (ops_of l.rest) ≤ ops_weight (ops_of l.ops);
 }
 

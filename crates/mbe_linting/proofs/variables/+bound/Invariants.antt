@@ -6,7 +6,8 @@ use Rattle.mbe_linting.proofs.variables.+bound.Given as goal
 
 abbrev pub invariant-push_bound-ops : goal.invariant-push_bound-ops
 invariant-push_bound-ops g l = record {
-  added : map bound_seen l.bound.items ++ bound_in l.depth (ops_of l.rest) ≡ map bound_seen l.initial.bound.items ++ bound_in l.depth (ops_of l.ops);
+  added : map bound_seen l.bound.items ++ bound_in l.depth (ops_of l.rest)
+      ≡ map bound_seen l.initial.bound.items ++ bound_in l.depth (ops_of l.ops);
   lighter : ops_weight (ops_of l.rest) ≤ ops_weight (ops_of l.ops);
 }
 

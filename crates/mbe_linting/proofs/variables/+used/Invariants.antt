@@ -6,7 +6,8 @@ use Rattle.mbe_linting.proofs.variables.+used.Given as goal
 
 abbrev pub invariant-push_used-ops : goal.invariant-push_used-ops
 invariant-push_used-ops g l = record {
-  added : map used_seen l.used.items ++ used_in l.depth (ops_of l.rest) ≡ map used_seen l.initial.used.items ++ used_in l.depth (ops_of l.ops);
+  added : map used_seen l.used.items ++ used_in l.depth (ops_of l.rest)
+      ≡ map used_seen l.initial.used.items ++ used_in l.depth (ops_of l.ops);
   lighter : ops_weight (ops_of l.rest) ≤ ops_weight (ops_of l.ops);
 }
 
