@@ -1,5 +1,5 @@
--- What may follow a fragment in a pattern: the Rust Reference's "Follow-set Ambiguity Restrictions", as rustc 1.95 looks
--- at them. There what a repetition without separator begins with isn't held to follow its own rounds, and `vis` isn't
+-- What may follow a fragment in a pattern: the Rust Reference's "Follow-set Ambiguity Restrictions", as rustc 1.95
+-- looks at them. There what a repetition without separator begins with isn't held to follow its own rounds, and `vis` isn't
 -- held to take nothing.
 use Rattle.std.specs.Prelude.{ℕ, Bool, true, false, not, ◌&&◌, ◌||◌, if◌then◌else◌, List, [], ◌∷◌, ◌++◌, map, codes, Option, Some, None, option_to_list}
 use Rattle.std.specs.Str.{bytes_eq}
