@@ -1,11 +1,12 @@
 -- Loops that add what each op of a list has.
-use Rattle.std.proofs.Common.{ℕ, ◌≡◌, ◌≤◌, Bool, true, false, List, [], ◌∷◌, ◌++◌, length, refl, ap, sym, ◌∙◌, append_assoc, append-nil, arith}
-use Rattle.std.specs.Prelude.{◌&&◌}
-use Rattle.mbe_semantics.specs.Syntax.Op.{Op, Ops, no_ops, op}
+use Rattle.std.proofs.Common.{ℕ, ◌≡◌, ◌≤◌, Bool, Option, List, [], ◌∷◌, ◌++◌, length, refl, ap, sym, ◌∙◌, append_assoc, append-nil, arith}
+use Rattle.mbe_semantics.specs.declared.kinds.RepeatKind.{RepeatKind}
+use Rattle.mbe_semantics.specs.Syntax.Nullable.{may_skip}
+use Rattle.mbe_semantics.specs.Syntax.Op.{Separator, Op, Ops, no_ops, op, repetition}
 use Rattle.mbe_ops.specs.Views.{op_of, ops_of}
 use Rattle.mbe_ops.specs.declared.ops.Op as code
 use Rattle.mbe_ops.proofs.EqualityLemmas.{op_weight, ops_weight}
-use Rattle.mbe_linting.specs.Following.{Next, may_be_empty_op, may_be_empty, where_empty, firsts_of_op, firsts}
+use Rattle.mbe_linting.specs.Following.{Next, may_be_empty_op, may_be_empty, separators, where_empty, firsts_of_op, firsts}
 
 -- one op more is consumed, and what it has is added
 pub one_op_more : {A : Type 0} {Y : Type 0} (f : Ops → List Y) (g : Op → List Y)
@@ -40,30 +41,19 @@ rest_lighter rest others x w e h = let same = ap (λ l. ops_weight (ops_of l)) e
 
 -- ---- what ops may begin with
 
-module _ {A : Type 0} (rest others : List (code.Op A)) (x : code.Op A) (e : rest ≡ x ∷ others) where
-  -- what is first may be left out
-  pub left_out : may_be_empty_op (op_of x) ≡ true → (all : Bool) → all ≡ may_be_empty (ops_of rest)
-      → all ≡ may_be_empty (ops_of others)
-  left_out t all h = h ∙ (ap (λ l. may_be_empty (ops_of l)) e ∙ ap (λ b. b && may_be_empty (ops_of others)) t)
+-- a repetition begins with what its body does, or with its separator
+pub rounds_firsts : (o : Op) (body held : Ops) (s : Option Separator) (k : RepeatKind) (e : Bool)
+    → (before within after : List Next) → o ≡ repetition body s k → held ≡ body → e ≡ may_be_empty held
+    → within ≡ before ++ firsts held → after ≡ within ++ where_empty e (separators s) → after ≡ before ++ firsts_of_op o
+rounds_firsts o body held s k e before within after ho hh he hw ha =
+    ha
+    ∙ (ap (λ l. l ++ where_empty e (separators s)) hw
+    ∙ (append_assoc before (firsts held) (where_empty e (separators s))
+    ∙ (ap (λ b. before ++ (firsts held ++ where_empty b (separators s))) he
+    ∙ (ap (λ os. before ++ (firsts os ++ where_empty (may_be_empty os) (separators s))) hh
+    ∙ ap (λ p. before ++ firsts_of_op p) (sym ho)))))
 
-  pub firsts_more : may_be_empty_op (op_of x) ≡ true → (before after all : List Next)
-      → after ≡ before ++ firsts_of_op (op_of x)
-      → before ++ firsts (ops_of rest) ≡ all → after ++ firsts (ops_of others) ≡ all
-  firsts_more t before after all a h =
-      ap (λ l. l ++ firsts (ops_of others)) a
-      ∙ (append_assoc before (firsts_of_op (op_of x)) (firsts (ops_of others))
-      ∙ (ap (λ b. before ++ (firsts_of_op (op_of x) ++ where_empty b (firsts (ops_of others)))) (sym t)
-      ∙ (ap (λ l. before ++ firsts (ops_of l)) (sym e) ∙ h)))
-
-  -- it isn't left out
-  pub stays : may_be_empty_op (op_of x) ≡ false → (all : Bool) → all ≡ may_be_empty (ops_of rest) → false ≡ all
-  stays t all h = sym (h ∙ (ap (λ l. may_be_empty (ops_of l)) e ∙ ap (λ b. b && may_be_empty (ops_of others)) t))
-
-  pub firsts_stop : may_be_empty_op (op_of x) ≡ false → (before after all : List Next)
-      → after ≡ before ++ firsts_of_op (op_of x)
-      → before ++ firsts (ops_of rest) ≡ all → after ≡ all
-  firsts_stop t before after all a h =
-      a
-      ∙ (ap (λ l. before ++ l) (sym (append-nil (firsts_of_op (op_of x))))
-      ∙ (ap (λ b. before ++ (firsts_of_op (op_of x) ++ where_empty b (firsts (ops_of others)))) (sym t)
-      ∙ (ap (λ l. before ++ firsts (ops_of l)) (sym e) ∙ h)))
+pub rounds_empty : (o : Op) (body held : Ops) (s : Option Separator) (k : RepeatKind) (e r : Bool)
+    → o ≡ repetition body s k → held ≡ body → e ≡ may_be_empty held → r ≡ may_skip k e → r ≡ may_be_empty_op o
+rounds_empty o body held s k e r ho hh he hr =
+    hr ∙ (ap (may_skip k) (he ∙ ap may_be_empty hh) ∙ sym (ap may_be_empty_op ho))

@@ -1,5 +1,5 @@
 // What follows a fragment in a pattern, and mayn't.
-ghost use Rattle.std.specs.Prelude.{◌≡◌, ◌++◌, [], map, option_map, IfOk, OnOk};
+ghost use Rattle.std.specs.Prelude.{◌≡◌, ◌++◌, [], ◌∷◌, false, map, option_map, IfOk, OnOk};
 ghost use Rattle.std.specs.Str.{bytes_eq};
 ghost use Rattle.mbe_tt.specs.Trees.Glue.{chars_of};
 ghost use Rattle.mbe_semantics.specs.Syntax.Nullable.{may_skip};
@@ -299,6 +299,19 @@ fn push_separator<'a, A: Allocator>(
     Ok(())
 }
 
+// Adds an op that isn't left out.
+fn push_op<'a, A: Allocator>(
+    next: &mut Vec<Next<'a, A>, A>,
+    op: &'a Op<A>,
+) -> Result<bool, AllocError>
+    ensures empty { IfOk result (λ empty. empty ≡ false) }
+    ensures next { OnOk result (map next_seen next.new.items
+        ≡ map next_seen next.old.items ++ spec.reading (op_of op.now) ∷ []) }
+{
+    next.push(Next::Op(op))?;
+    Ok(false)
+}
+
 #[cycle(firsts)]
 #[tactic(auto, using(mbe_ops::proofs::OpViews::views))]
 fn push_firsts_of_op<'a, A: Allocator>(
@@ -319,10 +332,11 @@ fn push_firsts_of_op<'a, A: Allocator>(
             push_separator_if(next, body, separator)?;
             Ok(may_skip(*kind, body))
         }
-        Op::Literal(_) | Op::Ident(_) | Op::Punct(_) | Op::Subtree { .. } | Op::Var { .. } => {
-            next.push(Next::Op(op))?;
-            Ok(false)
-        }
+        Op::Literal(_) => push_op(next, op),
+        Op::Ident(_) => push_op(next, op),
+        Op::Punct(_) => push_op(next, op),
+        Op::Subtree { .. } => push_op(next, op),
+        Op::Var { .. } => push_op(next, op),
         Op::Ignore { .. }
         | Op::Index { .. }
         | Op::Len { .. }

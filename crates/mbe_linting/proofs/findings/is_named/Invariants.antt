@@ -1,5 +1,5 @@
-use Rattle.std.proofs.Common.{◌≡◌, ◌++◌, map, drop, take, []}
-use Rattle.mbe_linting.specs.Variables.{bound_seen, used_seen}
+use Rattle.std.proofs.Common.{◌≡◌, map, drop}
+use Rattle.mbe_linting.specs.Variables.{used_seen}
 use Rattle.mbe_linting.specs.Findings.{finding_seen}
 use Rattle.mbe_linting.specs.Findings as spec
 use Rattle.mbe_linting.proofs.findings.is_named.Given as goal

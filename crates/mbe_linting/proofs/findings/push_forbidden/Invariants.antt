@@ -1,4 +1,4 @@
-use Rattle.std.proofs.Common.{◌≡◌, ◌++◌, map, drop, take, []}
+use Rattle.std.proofs.Common.{◌≡◌, ◌++◌, map, drop}
 use Rattle.mbe_linting.specs.Following.{followed_seen}
 use Rattle.mbe_linting.specs.Findings.{finding_seen}
 use Rattle.mbe_linting.specs.Findings as spec

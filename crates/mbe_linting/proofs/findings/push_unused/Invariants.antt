@@ -1,4 +1,4 @@
-use Rattle.std.proofs.Common.{◌≡◌, ◌++◌, map, drop, take, []}
+use Rattle.std.proofs.Common.{◌≡◌, ◌++◌, map, drop}
 use Rattle.mbe_linting.specs.Variables.{bound_seen, used_seen}
 use Rattle.mbe_linting.specs.Findings.{finding_seen}
 use Rattle.mbe_linting.specs.Findings as spec

@@ -1,9 +1,9 @@
-use Rattle.std.proofs.Common.{◌∙◌, ap, sym, refl, arith}
+use Rattle.std.proofs.Common.{◌∙◌, ap, refl, arith}
 use Rattle.mbe_ops.specs.Views.{op_of, ops_of}
 use Rattle.mbe_ops.proofs.EqualityLemmas.{op_weight, ops_weight}
 use Rattle.mbe_ops.proofs.OpViews.{view-open, view-open_repeat, view-subtree, view-repeat}
 use Rattle.mbe_linting.specs.Variables.{bound_in, bound_in_op}
-use Rattle.mbe_linting.proofs.Loops.{one_op_more, no_op_left, first_lighter, rest_lighter}
+use Rattle.mbe_linting.proofs.Loops.{one_op_more, first_lighter, rest_lighter}
 use Rattle.mbe_linting.proofs.variables.+bound.Goals as goal
 
 pub push_bound-push_bound_op-requires : goal.push_bound-push_bound_op-requires
@@ -40,3 +40,8 @@ push_bound-ops-preserved g t c = record {
 pub push_bound_op-returns-in-Subtree : goal.push_bound_op-returns-in-Subtree
 push_bound_op-returns-in-Subtree g t c =
     rw (c.in-Subtree.is, view-subtree) (rw c.deref.ensures.value at c.push_bound.ensures)
+
+pub push_bound_op-returns-in_ok-deeper-in-Repeat : goal.push_bound_op-returns-in_ok-deeper-in-Repeat
+push_bound_op-returns-in_ok-deeper-in-Repeat g t c =
+    rw (c.in-Repeat.is, view-repeat)
+    (rw (c.deref-in-Repeat.ensures.value, c.in_ok-deeper-in-Repeat.ensures) at c.push_bound-in-Repeat.ensures)
