@@ -74,7 +74,7 @@ findings pattern template =
     twice [] bound
     ++ (unknown bound ++ (unused used bound ++ (repeating bound used ++ map forbidden (forbidden_in [] pattern))))
 
--- ---- what the program's values stand for
+-- ---- what the program's values mean
 
 abbrev pub finding_seen : {A : Type 0} → code.Finding A → Finding
 finding_seen (code.TheVariants.BoundTwice first second) = bound_twice (bound_seen first) (bound_seen second)

@@ -1,6 +1,6 @@
 -- What may follow a fragment in a pattern: the Rust Reference's "Follow-set Ambiguity Restrictions", as rustc 1.95
--- looks at them. There what a repetition without separator begins with isn't held to follow its own rounds, and `vis` isn't
--- held to take nothing.
+-- looks at them. There what a repetition without separator begins with isn't held to follow its own rounds, and `vis`
+-- isn't held to take nothing.
 use Rattle.std.specs.Prelude.{ℕ, Bool, true, false, not, ◌&&◌, ◌||◌, if◌then◌else◌, List, [], ◌∷◌, ◌++◌, map, codes, Option, Some, option_to_list}
 use Rattle.std.specs.Str.{bytes_eq}
 use Rattle.mbe_tt.specs.declared.span.Span.{Span}
@@ -225,7 +225,7 @@ abbrev mutual
   forbidden_in after no_ops = []
   forbidden_in after (op o os) = forbidden_in_op (firsts_or after os) o ++ forbidden_in after os
 
--- ---- what the program's values stand for
+-- ---- what the program's values mean
 
 abbrev pub next_seen : {A : Type 0} → next.Next A → Next
 next_seen (next.TheVariants.Op o) = reading (op_of o.now)

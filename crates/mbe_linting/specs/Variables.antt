@@ -64,7 +64,7 @@ abbrev mutual
   used_in depth no_ops = []
   used_in depth (op o os) = used_in_op depth o ++ used_in depth os
 
--- ---- what the program's values stand for
+-- ---- what the program's values mean
 
 abbrev pub bound_seen : bound.Bound → Bound
 bound_seen b = record { name = b.name.now; kind = b.kind; depth = b.depth; place = b.place }

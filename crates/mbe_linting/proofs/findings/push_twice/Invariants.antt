@@ -6,6 +6,6 @@ use Rattle.mbe_linting.proofs.findings.push_twice.Given as goal
 
 abbrev pub invariant-loop-index : goal.invariant-loop-index
 invariant-loop-index g l =
-    map finding_seen l.found.items 
+    map finding_seen l.found.items
     ++ spec.twice (map bound_seen (take l.index l.bound)) (map bound_seen (drop l.index l.bound))
     ≡ map finding_seen l.initial.found.items ++ spec.twice [] (map bound_seen l.bound)

@@ -9,8 +9,8 @@ use Rattle.mbe_linting.proofs.following.+firsts.Goals as goal
 pub push_firsts-push_firsts_of_op-requires : goal.push_firsts-push_firsts_of_op-requires
 push_firsts-push_firsts_of_op-requires g t c κs within =
     let lighter =
-        first_lighter c.ops.rest.now c.in-Some.others.now c.in-Some.op.now _ c.in-Some.ensures.cases.0
-        c.ops.invariant.lighter in
+    first_lighter c.ops.rest.now c.in-Some.others.now c.in-Some.op.now _ c.in-Some.ensures.cases.0
+    c.ops.invariant.lighter in
     (omega (arith, c.decreases, lighter), within)
 
 pub push_firsts_of_op-push_firsts-requires : goal.push_firsts_of_op-push_firsts-requires
@@ -25,7 +25,8 @@ pub push_firsts_of_op-returns-in_ok-push_separator_if-in-Repeat-clause-empty :
 push_firsts_of_op-returns-in_ok-push_separator_if-in-Repeat-clause-empty g t c =
     let here = c.in-Repeat in
     let seen = ap op_of here.is ∙ view-open_repeat here.tokens here.kind here.separator in
-    rounds_empty _ (ops_of here.tokens.0.items) (ops_of c.deref.result.now) (option_map separator_seen here.separator) here.kind
+    rounds_empty _ (ops_of here.tokens.0.items) (ops_of c.deref.result.now) (option_map separator_seen here.separator)
+    here.kind
     _ _ seen (ap ops_of c.deref.ensures.value) c.in_ok-body-in-Repeat.ensures.empty c.may_skip.ensures
 
 pub push_firsts_of_op-returns-in_ok-push_separator_if-in-Repeat-clause-next :
@@ -33,6 +34,8 @@ pub push_firsts_of_op-returns-in_ok-push_separator_if-in-Repeat-clause-next :
 push_firsts_of_op-returns-in_ok-push_separator_if-in-Repeat-clause-next g t c =
     let here = c.in-Repeat in
     let seen = ap op_of here.is ∙ view-open_repeat here.tokens here.kind here.separator in
-    rounds_firsts _ (ops_of here.tokens.0.items) (ops_of c.deref.result.now) (option_map separator_seen here.separator) here.kind
-    _ _ _ _ seen (ap ops_of c.deref.ensures.value) c.in_ok-body-in-Repeat.ensures.empty c.in_ok-body-in-Repeat.ensures.next
+    rounds_firsts _ (ops_of here.tokens.0.items) (ops_of c.deref.result.now) (option_map separator_seen here.separator)
+    here.kind
+    _ _ _ _ seen (ap ops_of c.deref.ensures.value) c.in_ok-body-in-Repeat.ensures.empty
+    c.in_ok-body-in-Repeat.ensures.next
     c.in_ok-push_separator_if-in-Repeat.ensures

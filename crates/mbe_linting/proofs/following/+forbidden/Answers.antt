@@ -8,8 +8,8 @@ use Rattle.mbe_linting.proofs.following.+forbidden.Goals as goal
 pub push_forbidden-push_forbidden_in_op-requires : goal.push_forbidden-push_forbidden_in_op-requires
 push_forbidden-push_forbidden_in_op-requires g t c κs within =
     let lighter =
-        first_lighter c.ops.rest.now c.in-Some.others.now c.in-Some.op.now _ c.in-Some.ensures.cases.0
-        c.ops.invariant.lighter in
+    first_lighter c.ops.rest.now c.in-Some.others.now c.in-Some.op.now _ c.in-Some.ensures.cases.0
+    c.ops.invariant.lighter in
     (omega (arith, c.decreases, lighter), within)
 
 pub push_forbidden_in_op-push_forbidden-requires : goal.push_forbidden_in_op-push_forbidden-requires

@@ -9,8 +9,8 @@ use Rattle.mbe_linting.proofs.variables.+bound.Goals as goal
 pub push_bound-push_bound_op-requires : goal.push_bound-push_bound_op-requires
 push_bound-push_bound_op-requires g t c κs within =
     let lighter =
-        first_lighter c.ops.rest.now c.in-Some.others.now c.in-Some.op.now _ c.in-Some.ensures.cases.0
-        c.ops.invariant.lighter in
+    first_lighter c.ops.rest.now c.in-Some.others.now c.in-Some.op.now _ c.in-Some.ensures.cases.0
+    c.ops.invariant.lighter in
     (omega (arith, c.decreases, lighter), within)
 
 pub push_bound_op-push_bound-requires : goal.push_bound_op-push_bound-requires

@@ -9,8 +9,8 @@ use Rattle.mbe_linting.proofs.variables.+used.Goals as goal
 pub push_used-push_used_op-requires : goal.push_used-push_used_op-requires
 push_used-push_used_op-requires g t c κs within =
     let lighter =
-        first_lighter c.ops.rest.now c.in-Some.others.now c.in-Some.op.now _ c.in-Some.ensures.cases.0
-        c.ops.invariant.lighter in
+    first_lighter c.ops.rest.now c.in-Some.others.now c.in-Some.op.now _ c.in-Some.ensures.cases.0
+    c.ops.invariant.lighter in
     (omega (arith, c.decreases, lighter), within)
 
 pub push_used_op-push_used-requires : goal.push_used_op-push_used-requires
