@@ -1,5 +1,7 @@
--- What the rules of a grammar take from the front of trees. They are those of a parsing expression grammar over whole trees: an alternative
--- is taken where none before it fits, and a repetition takes all that it can. One thing is more: a rule may fault, and then the whole does.
+-- What the rules of a grammar take from the front of trees. They are those of a parsing expression grammar over whole
+-- trees: an alternative
+-- is taken where none before it fits, and a repetition takes all that it can. One thing is more: a rule may fault, and
+-- then the whole does.
 use Rattle.std.specs.Prelude.{ℕ, zero, suc, ◌+◌, ◌-◌, ◌*◌, ◌==◌, Bool, true, false, not, ◌&&◌, ◌||◌, if◌then◌else◌, List, [], ◌∷◌, Option, Some, None, option_and_then, length, Result, Ok, Err}
 use Rattle.std.specs.List.{list_any}
 use Rattle.std.specs.Str.{bytes_eq}
@@ -89,7 +91,8 @@ behind_one p (group d inside rest) = if p (Group_tree d inside) then Some rest e
 -- the trees after the puncts that are taken together, where they are one of these
 abbrev pub behind_puncts : List (List ℕ) → Forest → Option Forest
 behind_puncts texts f =
-    option_and_then (λ ps. if list_any (bytes_eq (chars_of ps)) texts then Some (skip (length (glue f)) f) else None) (glued f)
+    option_and_then (λ ps. if list_any (bytes_eq (chars_of ps)) texts then Some (skip (length (glue f)) f) else None)
+    (glued f)
 
 -- the first tree is a punct of the first of these chars, if there are any
 abbrev pub may_begin : List ℕ → Forest → Bool
@@ -122,13 +125,15 @@ begins_arrow (punct p) = is_joint p.spacing && (p.char == 45 || p.char == 61)
 begins_arrow (literal x) = false
 begins_arrow (ident i) = false
 
--- the trees after the `>` that closes a `<` before them, with so many more `<` open, directly after the beginning of an arrow or not
+-- the trees after the `>` that closes a `<` before them, with so many more `<` open, directly after the beginning of an
+-- arrow or not
 abbrev pub behind_angle : ℕ → Bool → Forest → Option Forest
 behind_angle more arrow none = None
 behind_angle more arrow (group d inside rest) = behind_angle more false rest
 behind_angle more arrow (leaf l rest) =
     if is_char 60 l then behind_angle (more + 1) (begins_arrow l) rest
-    else if is_char 62 l && not arrow then (if more == 0 then Some rest else behind_angle (more - 1) (begins_arrow l) rest)
+    else if is_char 62 l && not arrow then
+    (if more == 0 then Some rest else behind_angle (more - 1) (begins_arrow l) rest)
     else behind_angle more (begins_arrow l) rest
 
 -- ---- rules and parts
@@ -153,6 +158,7 @@ unfoldable pub taken_within : {P : Type 0} → (P → Rule P) → ℕ → P → 
 taken_within rules zero x f = Err Fault
 taken_within rules (suc n) x f = meaning (taken_within rules n) (rules x) f
 
--- What a part takes by its rule. Twenty calls for each flat token are enough where no part calls more before it takes one.
+-- What a part takes by its rule. Twenty calls for each flat token are enough where no part calls more before it takes
+-- one.
 unfoldable pub taken : {P : Type 0} → (P → Rule P) → P → Forest → Step
 taken rules x f = taken_within rules (suc (20 * flat_len f + 20)) x f

@@ -62,4 +62,5 @@ is_group kinds (Group_tree d inside) = list_any (is_same_kind d.kind) kinds
 abbrev pub is_scope : Tree → Bool
 is_scope (Leaf_tree x) = false
 is_scope (Group_tree d inside) =
-    is_same_kind d.kind Parenthesis && is_some (behind_one (is_one_of (codes "crate" ∷ codes "self" ∷ codes "super" ∷ codes "in" ∷ [])) inside)
+    is_same_kind d.kind Parenthesis && is_some
+    (behind_one (is_one_of (codes "crate" ∷ codes "self" ∷ codes "super" ∷ codes "in" ∷ [])) inside)

@@ -1,7 +1,7 @@
 -- A place in an argument, and what is left of the groups around it.
-use Rattle.std.proofs.Common.{◌≡◌, ℕ, zero, suc, ◌+◌, ◌<◌, ◌≤◌, ◌&&◌, Bool, false, IsTrue, ◌↔◌, nat_lt, List, [], ◌∷◌, ◌++◌, reverse, length, Some, None, refl, sym, ap, ◌∙◌, arith}
+use Rattle.std.proofs.Common.{◌≡◌, ℕ, zero, suc, ◌+◌, ◌<◌, ◌≤◌, ◌&&◌, Bool, IsTrue, ◌↔◌, nat_lt, List, [], ◌∷◌, ◌++◌, reverse, length, Some, None, refl, sym, ap, ◌∙◌, arith}
 use Rattle.std.proofs.lemmas.List.{reverse-append}
-use Rattle.std.proofs.lemmas.Bool.{lt-ltb, le-ltb, false_from_ne_true}
+use Rattle.std.proofs.lemmas.Bool.{lt-ltb, false_from_ne_true}
 use Rattle.std.proofs.lemmas.Option.{none-some}
 use Rattle.mbe_tt.specs.Trees.Leaf.{Leaf}
 use Rattle.mbe_tt.specs.declared.tt.Delimiter.{Delimiter}
@@ -89,9 +89,6 @@ pub closes_here : (f here : Forest) (n : ℕ) (r : Bool) → here ≡ rest_at f 
     → r ≡ (nat_lt n (flat_len f) && is_none (rest_at f n))
 closes_here f here n r e l h =
     none_is r here h ∙ ap is_none e ∙ ap (λ (b : Bool). b && is_none (rest_at f n)) (sym (lt-ltb n (flat_len f) l))
-
-pub closes_not : (f : Forest) (n : ℕ) → flat_len f ≤ n → false ≡ (nat_lt n (flat_len f) && is_none (rest_at f n))
-closes_not f n l = ap (λ (b : Bool). b && is_none (rest_at f n)) (sym (le-ltb n (flat_len f) l))
 
 -- ---- after whole trees
 

@@ -95,7 +95,8 @@ if_end (group d inside rest) x = None
 
 -- `$x`, and what is after it
 abbrev pub dollar_name : Forest → Option (Ident × Forest)
-dollar_name (leaf (punct p) (leaf (ident i) rest)) = if p.char == 36 && not (is_underscore i.sym) then Some (i, rest) else None
+dollar_name (leaf (punct p) (leaf (ident i) rest)) =
+    if p.char == 36 && not (is_underscore i.sym) then Some (i, rest) else None
 dollar_name _ = None
 
 -- a depth that may be missing, alone
@@ -160,7 +161,8 @@ abbrev pub expression_of : Forest → Option Expression
 expression_of (leaf (ident word) (group d inside rest)) = expression_if_parenthesis d.kind word inside
   where
     expression_if_parenthesis : DelimiterKind → Ident → Forest → Option Expression
-    expression_if_parenthesis delimiters.Parenthesis word inside = if is_underscore word.sym then None else arguments_of word inside
+    expression_if_parenthesis delimiters.Parenthesis word inside =
+        if is_underscore word.sym then None else arguments_of word inside
     expression_if_parenthesis _ word inside = None
 expression_of _ = None
 
@@ -208,7 +210,8 @@ repetition_at inside None = Err invalid_repeat
 
 -- `${..}` is allowed in templates only
 abbrev pub expression_at : Mode → Forest → Option Expression → Result Head Fault
-expression_at pattern rest e = Err (unexpected_token (codes "`${}` metavariable expressions are not allowed in matchers"))
+expression_at pattern rest e = Err (unexpected_token
+    (codes "`${}` metavariable expressions are not allowed in matchers"))
 expression_at template rest (Some e) = Ok (one (ops.expression e) rest)
 expression_at template rest None = Err (unexpected_token (codes "invalid metavariable expression"))
 
@@ -244,7 +247,8 @@ head mode none = Ok ended
 head mode (group d inside rest) = Ok (opens_group d inside rest)
 head mode (leaf (literal l) rest) = Ok (one (ops.token (ops.literal l)) rest)
 head mode (leaf (ident i) rest) = Ok (one (ops.token (ops.ident i)) rest)
-head mode (leaf (punct p) rest) = if p.char == 36 then behind_dollar mode p rest else Ok (puncts_at (leaf (punct p) rest))
+head mode (leaf (punct p) rest) = if p.char == 36 then behind_dollar mode p rest else Ok
+    (puncts_at (leaf (punct p) rest))
 
 -- ---- specifiers
 
@@ -259,7 +263,8 @@ expr_kind e = kinds.Expr (if at_least_2024 e then exprs.Expr else exprs.Expr2021
 -- the kinds that no edition changes
 abbrev pub kind_names : List (List ℕ × MetaVarKind)
 kind_names =
-    (codes "path", kinds.Path) ∷ (codes "ty", kinds.Ty) ∷ (codes "pat_param", kinds.PatParam) ∷ (codes "stmt", kinds.Stmt)
+    (codes "path", kinds.Path) ∷ (codes "ty", kinds.Ty) ∷ (codes "pat_param", kinds.PatParam)
+    ∷ (codes "stmt", kinds.Stmt)
     ∷ (codes "block", kinds.Block) ∷ (codes "meta", kinds.Meta) ∷ (codes "item", kinds.Item) ∷ (codes "vis", kinds.Vis)
     ∷ (codes "expr_2021", kinds.Expr exprs.Expr2021) ∷ (codes "ident", kinds.Ident) ∷ (codes "tt", kinds.Tt)
     ∷ (codes "lifetime", kinds.Lifetime) ∷ (codes "literal", kinds.Literal) ∷ []
@@ -272,16 +277,20 @@ kind_named (row ∷ rows) name = if is_text row.0 name then Some row.1 else kind
 module _ (HasEdition : SyntaxContext → Edition → Type 0) where
   -- the specifier means this kind, in an edition that its own context may have; no kind is an unknown one
   pub data Specifies (specifier : Ident) : Option MetaVarKind → Type 0 where
-    dated_pat : (e : Edition) → IsTrue (is_text specifier.sym (codes "pat")) → HasEdition (specifier.span).ctx e → Specifies specifier (Some (pat_kind e))
-    dated_expr : (e : Edition) → IsTrue (is_text specifier.sym (codes "expr")) → HasEdition (specifier.span).ctx e → Specifies specifier (Some (expr_kind e))
-    undated : IsFalse (is_text specifier.sym (codes "pat")) → IsFalse (is_text specifier.sym (codes "expr")) → Specifies specifier (kind_named kind_names specifier.sym)
+    dated_pat : (e : Edition) → IsTrue (is_text specifier.sym (codes "pat")) → HasEdition (specifier.span).ctx e
+        → Specifies specifier (Some (pat_kind e))
+    dated_expr : (e : Edition) → IsTrue (is_text specifier.sym (codes "expr")) → HasEdition (specifier.span).ctx e
+        → Specifies specifier (Some (expr_kind e))
+    undated : IsFalse (is_text specifier.sym (codes "pat")) → IsFalse (is_text specifier.sym (codes "expr"))
+        → Specifies specifier (kind_named kind_names specifier.sym)
 
   -- the trees are these ops
   pub data Template (mode : Mode) : Forest → Ops → Type 0 where
     nothing : (f : Forest) → head mode f ≡ Ok ended → Template mode f no_ops
     token : (f rest : Forest) (o : Op) (os : Ops) →
         head mode f ≡ Ok (one o rest) → Template mode rest os → Template mode f (op o os)
-    variable : (f rest : Forest) (name : Name) (span : Span) (specifier : Ident) (kind : Option MetaVarKind) (os : Ops) →
+    variable : (f rest : Forest) (name : Name) (span : Span) (specifier : Ident) (kind : Option MetaVarKind) (os : Ops)
+        →
         head mode f ≡ Ok (typed name span specifier rest) → Specifies specifier kind →
         Template mode rest os → Template mode f (op (ops.variable name kind span) os)
     grouped : (f inside rest : Forest) (d : Delimiter) (body os : Ops) →
@@ -297,7 +306,8 @@ module _ (HasEdition : SyntaxContext → Edition → Type 0) where
     in_group : (f inside rest : Forest) (d : Delimiter) →
         head mode f ≡ Ok (opens_group d inside rest) → TemplateFault mode fault inside → TemplateFault mode fault f
     in_repetition : (f inside rest : Forest) (separator : Option Separator) (repeat : RepeatKind) →
-        head mode f ≡ Ok (opens_repetition separator repeat inside rest) → TemplateFault mode fault inside → TemplateFault mode fault f
+        head mode f ≡ Ok (opens_repetition separator repeat inside rest) → TemplateFault mode fault inside
+        → TemplateFault mode fault f
     behind_token : (f rest : Forest) (o : Op) →
         head mode f ≡ Ok (one o rest) → TemplateFault mode fault rest → TemplateFault mode fault f
     behind_variable : (f rest : Forest) (name : Name) (span : Span) (specifier : Ident) →

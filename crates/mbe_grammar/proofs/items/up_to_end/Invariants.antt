@@ -6,7 +6,8 @@ use Rattle.mbe_grammar.specs.SampleGrammar.{is_item_end}
 use Rattle.mbe_grammar.proofs.items.up_to_end.Given as goal
 
 abbrev pub invariant-trees : goal.invariant-trees
-invariant-trees g l = behind_first (is_item_end l.at_brace) l.iter ≡ behind_first (is_item_end l.at_brace) (trees l.fn.tokens)
+invariant-trees g l = behind_first (is_item_end l.at_brace) l.iter
+    ≡ behind_first (is_item_end l.at_brace) (trees l.fn.tokens)
 
 abbrev pub decreases-trees : goal.decreases-trees
 decreases-trees g l = flat_len l.iter
