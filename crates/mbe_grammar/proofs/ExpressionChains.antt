@@ -4,7 +4,7 @@ use Rattle.std.specs.Prelude.{codes}
 use Rattle.mbe_tt.specs.Trees.Tree.{Forest, flat_len}
 use Rattle.mbe_grammar.specs.declared.step.Miss.{Miss}
 use Rattle.mbe_grammar.specs.declared.step.Miss.TheVariants.{Absent, Fault}
-use Rattle.mbe_grammar.specs.Rule.{one, part, ◌or◌, Step, ◌>>=◌, or_else, has_to_stand, if_stands, if_absent, or_miss, behind_one, meaning, in_turn}
+use Rattle.mbe_grammar.specs.Rule.{one, part, ◌or◌, Step, ◌>>=◌, or_else, has_to_stand, if_stands, if_absent, or_miss, following_one, meaning, in_turn}
 use Rattle.mbe_grammar.specs.RuleLaws.{meaning_leaves}
 use Rattle.mbe_grammar.specs.SingleTrees.{is_one_of, is_literal}
 use Rattle.mbe_grammar.specs.SampleGrammar.{Rules, Nonterminal, word, words, brace, any_group, expr_start, Operator, Operation, Expr, Prefix, Unary, Operand, KeywordBlock, JumpWord, JumpValue, Jump, PathExpr, Primary, Post, rule_of, takes}
@@ -96,7 +96,7 @@ jump_begins : (f g : Forest) → takes JumpWord f ≡ Ok g → Begins (is_one_of
 jump_begins f g e = one_stands (is_one_of jumps) f _ (then_stands _ _ g (sym (takes_by_rule JumpWord f) ∙ e)).1
 
 no_other_word : (others : List (List ℕ)) → are_apart jumps others ≡ true → (f : Forest) → Begins (is_one_of jumps) f
-    → behind_one (is_one_of others) f ≡ None
+    → following_one (is_one_of others) f ≡ None
 no_other_word others apart f h = one_absent (is_one_of jumps) (is_one_of others) (words_apart jumps others apart) f h
 
 keyword_block_absent : (f : Forest) → Begins (is_one_of jumps) f → takes KeywordBlock f ≡ Err Absent

@@ -13,7 +13,7 @@ use Rattle.mbe_tt.specs.declared.tt.IdentIsRaw.{IdentIsRaw}
 use Rattle.mbe_tt.specs.declared.tt.IdentIsRaw.TheVariants.{No, Yes}
 use Rattle.mbe_tt.specs.declared.tt.DelimiterKind.{DelimiterKind}
 use Rattle.mbe_grammar.specs.declared.step.Miss.TheVariants.{Absent, Fault}
-use Rattle.mbe_grammar.specs.Rule.{Step, ◌>>=◌, or_else, or_miss, behind_one, behind_puncts, may_begin}
+use Rattle.mbe_grammar.specs.Rule.{Step, ◌>>=◌, or_else, or_miss, following_one, after_puncts, may_begin}
 use Rattle.mbe_grammar.specs.SingleTrees.{is_word, is_one_of, is_name, is_literal, is_punct, is_group}
 
 -- the first tree passes the test
@@ -29,7 +29,7 @@ Apart p q = (t : Tree) → p t ≡ true → q t ≡ false
 if_false : (b : Bool) (x : Option Forest) → b ≡ false → (if b then x else None) ≡ None
 if_false b x e = rw e
 
-pub one_absent : (p q : Tree → Bool) → Apart p q → (f : Forest) → Begins p f → behind_one q f ≡ None
+pub one_absent : (p q : Tree → Bool) → Apart p q → (f : Forest) → Begins p f → following_one q f ≡ None
 one_absent p q apart none h = absurd h
 one_absent p q apart (leaf l rest) h = if_false _ (Some rest) (apart (Leaf_tree l) h)
 one_absent p q apart (group d inside rest) h = if_false _ (Some rest) (apart (Group_tree d inside) h)
@@ -46,7 +46,7 @@ glue_other : (p : Punct) (rest : Forest) (char : ℕ) (chars : List ℕ) → (p.
 glue_other p rest char chars e = rw (longest_other _ _ p (if_joint p.spacing (joined 2 rest)) char chars e)
 
 pub puncts_absent : (p : Tree → Bool) (char : ℕ) (chars : List ℕ) → Apart p (is_punct char) → (f : Forest) → Begins p f
-    → behind_puncts ((char ∷ chars) ∷ []) f ≡ None
+    → after_puncts ((char ∷ chars) ∷ []) f ≡ None
 puncts_absent p char chars apart none h = absurd h
 puncts_absent p char chars apart (group d inside rest) h = refl
 puncts_absent p char chars apart (leaf (literal x) rest) h = refl
@@ -54,7 +54,7 @@ puncts_absent p char chars apart (leaf (ident i) rest) h = refl
 puncts_absent p char chars apart (leaf (punct q) rest) h =
     if_false _ _ (glue_other q rest char chars (apart (Leaf_tree (punct q)) h))
 
-pub absent_unless : (chars : List ℕ) (f : Forest) → may_begin chars f ≡ false → behind_puncts (chars ∷ []) f ≡ None
+pub absent_unless : (chars : List ℕ) (f : Forest) → may_begin chars f ≡ false → after_puncts (chars ∷ []) f ≡ None
 absent_unless [] f e = absurd (false≢true (sym e))
 absent_unless (char ∷ chars) none e = refl
 absent_unless (char ∷ chars) (group d inside rest) e = refl
@@ -150,7 +150,7 @@ first_stands : (a : Bool) (rest g : Forest) → or_miss Absent (if a then Some r
 first_stands true rest g e = refl
 first_stands false rest g e = cc
 
-pub one_stands : (p : Tree → Bool) (f g : Forest) → or_miss Absent (behind_one p f) ≡ Ok g → Begins p f
+pub one_stands : (p : Tree → Bool) (f g : Forest) → or_miss Absent (following_one p f) ≡ Ok g → Begins p f
 one_stands p none g e = cc
 one_stands p (leaf l rest) g e = first_stands _ rest g e
 one_stands p (group d inside rest) g e = first_stands _ rest g e

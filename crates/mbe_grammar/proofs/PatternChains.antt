@@ -4,7 +4,7 @@ use Rattle.std.specs.Prelude.{codes}
 use Rattle.mbe_tt.specs.Trees.Tree.{Forest, Tree, flat_len}
 use Rattle.mbe_tt.specs.declared.tt.DelimiterKind.TheVariants.{Parenthesis, Bracket}
 use Rattle.mbe_grammar.specs.declared.step.Miss.TheVariants.{Absent, Fault}
-use Rattle.mbe_grammar.specs.Rule.{one, part, ◌or◌, Step, ◌>>=◌, or_else, or_miss, behind_one, meaning}
+use Rattle.mbe_grammar.specs.Rule.{one, part, ◌or◌, Step, ◌>>=◌, or_else, or_miss, following_one, meaning}
 use Rattle.mbe_grammar.specs.SingleTrees.{is_one_of, is_literal, is_punct, is_group}
 use Rattle.mbe_grammar.specs.SampleGrammar.{Rules, word, parenthesis_or_bracket, SignedLiteral, BindingMode, BoundPat, PathPat, Pat, rule_of, takes}
 use Rattle.mbe_grammar.specs.Chains.{direct_pattern}
@@ -29,7 +29,7 @@ mode_begins f g e =
     ]
 
 mode_apart : (q : Tree → Bool) → Apart (is_punct 38) q → Apart (is_one_of mode_words) q → (f : Forest)
-    → Begins begins_mode f → behind_one q f ≡ None
+    → Begins begins_mode f → following_one q f ≡ None
 mode_apart q a b f h = one_absent begins_mode q (either_apart (is_punct 38) (is_one_of mode_words) q a b) f h
 
 signed_absent : (f : Forest) → Begins begins_mode f → takes SignedLiteral f ≡ Err Absent

@@ -7,7 +7,7 @@ use Rattle.mbe_grammar.specs.declared.types.PathStyle.{PathStyle}
 use Rattle.mbe_grammar.specs.declared.types.PathStyle.TheVariants.{Plain, Expression}
 use Rattle.mbe_tt.specs.declared.tt.DelimiterKind.{DelimiterKind}
 use Rattle.mbe_tt.specs.declared.tt.DelimiterKind.TheVariants.{Parenthesis, Bracket}
-use Rattle.mbe_grammar.specs.Rule.{one, part, ◌then◌, ◌or◌, maybe, repeated, needed, ahead, Step, ◌>>=◌, or_else, or_miss, behind_one, meaning, in_turn}
+use Rattle.mbe_grammar.specs.Rule.{one, part, ◌then◌, ◌or◌, maybe, repeated, needed, ahead, Step, ◌>>=◌, or_else, or_miss, following_one, meaning, in_turn}
 use Rattle.mbe_grammar.specs.SingleTrees.{is_one_of, is_name, is_punct, is_group}
 use Rattle.mbe_grammar.specs.SampleGrammar.{Rules, word, words, puncts, reference_sign, pointer_sign, parenthesis_or_bracket, Nonterminal, Lifetime, Angle, Turbofish, Colons, Segment, NextSegment, Path, Indirection, Pointee, Ty, rule_of, takes}
 use Rattle.mbe_grammar.specs.Chains.{direct_type}
@@ -22,9 +22,9 @@ abbrev begins_indirection : Tree → Bool
 begins_indirection = either_of (is_punct 38) (is_punct 42)
 
 sign_stands : (char : ℕ) (r : Rules) (f g : Forest)
-    → (or_miss Absent (behind_one (is_punct char) f) >>= meaning takes r) ≡ Ok g → Begins (is_punct char) f
+    → (or_miss Absent (following_one (is_punct char) f) >>= meaning takes r) ≡ Ok g → Begins (is_punct char) f
 sign_stands char r f g e = one_stands (is_punct char) f _
-    (then_stands (or_miss Absent (behind_one (is_punct char) f)) (meaning takes r) g e).1
+    (then_stands (or_miss Absent (following_one (is_punct char) f)) (meaning takes r) g e).1
 
 indirection_begins : (f g : Forest) → takes Indirection f ≡ Ok g → Begins begins_indirection f
 indirection_begins f g e =
@@ -47,7 +47,7 @@ colons_absent f h =
     ∙ ap (λ x. or_miss Absent x >>= meaning takes (needed (ahead (one is_name or part Angle))))
     (puncts_absent begins_indirection 58 (58 ∷ []) (apart_from 58 refl refl) f h)
 
-segment_absent : (style : PathStyle) (f : Forest) → behind_one is_name f ≡ None → takes (Segment style) f ≡ Err Absent
+segment_absent : (style : PathStyle) (f : Forest) → following_one is_name f ≡ None → takes (Segment style) f ≡ Err Absent
 segment_absent Plain f e =
     takes_by_rule (Segment Plain) f ∙ ap (λ x. or_miss Absent x >>= meaning takes
     (maybe (maybe (puncts "::") then part Angle))) e
@@ -64,14 +64,14 @@ path_absent style f h =
     ∙ ap (λ s. s >>= meaning takes (repeated (part (NextSegment style))))
     (segment_absent style f (one_absent begins_indirection is_name no_name f h)))
 
-word_absent : (texts : List (List ℕ)) (f : Forest) → Begins begins_indirection f → behind_one (is_one_of texts) f ≡ None
+word_absent : (texts : List (List ℕ)) (f : Forest) → Begins begins_indirection f → following_one (is_one_of texts) f ≡ None
 word_absent texts f h =
     one_absent begins_indirection (is_one_of texts)
     (either_apart (is_punct 38) (is_punct 42) (is_one_of texts) (sign_is_no_word 38 texts)
     (sign_is_no_word 42 texts)) f h
 
 group_absent : (kinds : List DelimiterKind) (f : Forest) → Begins begins_indirection f
-    → behind_one (is_group kinds) f ≡ None
+    → following_one (is_group kinds) f ≡ None
 group_absent kinds f h =
     one_absent begins_indirection (is_group kinds)
     (either_apart (is_punct 38) (is_punct 42) (is_group kinds) (sign_is_no_group 38 kinds)

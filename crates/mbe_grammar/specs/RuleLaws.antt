@@ -11,7 +11,7 @@ use Rattle.mbe_tt.specs.Trees.Glue.{glue, chars_of, if_joint, joined}
 use Rattle.mbe_tt.specs.declared.tt.Punct.{Punct}
 use Rattle.mbe_grammar.specs.declared.step.Miss.{Miss}
 use Rattle.mbe_grammar.specs.declared.step.Miss.TheVariants.{Absent, Fault}
-use Rattle.mbe_grammar.specs.Rule.{Rule, one, puncts_of, through, to_closing_angle, part, ◌then◌, ◌or◌, maybe, repeated, needed, ahead, not_ahead, Step, ◌>>=◌, or_else, has_to_stand, if_stands, if_absent, or_miss, once_more, times, in_turn, behind_one, behind_puncts, behind_first, behind_angle, is_char, begins_arrow, meaning, taken_within, taken}
+use Rattle.mbe_grammar.specs.Rule.{Rule, one, puncts_of, through, to_closing_angle, part, ◌then◌, ◌or◌, maybe, repeated, needed, ahead, not_ahead, Step, ◌>>=◌, or_else, has_to_stand, if_stands, if_absent, or_miss, once_more, times, in_turn, following_one, after_puncts, past_first, after_angle, is_char, begins_arrow, meaning, taken_within, taken}
 
 -- ---- what is left
 
@@ -95,7 +95,7 @@ if_leaves : (b : Bool) (f g : Forest) (miss : Miss) → suc (flat_len g) ≤ fla
 if_leaves true f g miss h = omega arith
 if_leaves false f g miss h = tt
 
-one_leaves : (p : Tree → Bool) (f : Forest) → Leaves true f (or_miss Absent (behind_one p f))
+one_leaves : (p : Tree → Bool) (f : Forest) → Leaves true f (or_miss Absent (following_one p f))
 one_leaves p none = tt
 one_leaves p (leaf l rest) = if_leaves (p (Leaf_tree l)) (leaf l rest) rest Absent (omega arith)
 one_leaves p (group d inside rest) = if_leaves (p (Group_tree d inside)) (group d inside rest) rest Absent (omega arith)
@@ -106,7 +106,7 @@ first_or_more true f rest more h k = omega arith
 first_or_more false f rest (Some g) h k = omega arith
 first_or_more false f rest None h k = tt
 
-through_leaves : (p : Tree → Bool) (f : Forest) → Leaves true f (or_miss Fault (behind_first p f))
+through_leaves : (p : Tree → Bool) (f : Forest) → Leaves true f (or_miss Fault (past_first p f))
 through_leaves p none = tt
 through_leaves p (leaf l rest) = first_or_more (p (Leaf_tree l)) (leaf l rest) rest _ (omega arith)
     (through_leaves p rest)
@@ -122,20 +122,20 @@ three_leave false true true f x y z w h i j k = i
 three_leave false true false f x y z w h i j k = j
 three_leave false false c f x y z w h i j k = k
 
-behind_leaves : (f rest : Forest) (x : Option Forest) → suc (flat_len rest) ≤ flat_len f
+after_leaves : (f rest : Forest) (x : Option Forest) → suc (flat_len rest) ≤ flat_len f
     → Leaves true rest (or_miss Fault x) → Leaves true f (or_miss Fault x)
-behind_leaves f rest (Some g) h k = omega arith
-behind_leaves f rest None h k = tt
+after_leaves f rest (Some g) h k = omega arith
+after_leaves f rest None h k = tt
 
-angle_leaves : (more : ℕ) (arrow : Bool) (f : Forest) → Leaves true f (or_miss Fault (behind_angle more arrow f))
+angle_leaves : (more : ℕ) (arrow : Bool) (f : Forest) → Leaves true f (or_miss Fault (after_angle more arrow f))
 angle_leaves more arrow none = tt
 angle_leaves more arrow (group d inside rest) =
-    behind_leaves (group d inside rest) rest (behind_angle more false rest) (omega arith) (angle_leaves more false rest)
+    after_leaves (group d inside rest) rest (after_angle more false rest) (omega arith) (angle_leaves more false rest)
 angle_leaves more arrow (leaf l rest) =
-    let next = λ (m : ℕ) (a : Bool). behind_leaves (leaf l rest) rest (behind_angle m a rest) (omega arith)
+    let next = λ (m : ℕ) (a : Bool). after_leaves (leaf l rest) rest (after_angle m a rest) (omega arith)
     (angle_leaves m a rest) in
     three_leave (is_char 60 l) (is_char 62 l && not arrow) (more == 0) (leaf l rest) _ (Some rest)
-    (behind_angle (more - 1) (begins_arrow l) rest) _
+    (after_angle (more - 1) (begins_arrow l) rest) _
     (next (more + 1) (begins_arrow l)) (omega arith) (next (more - 1) (begins_arrow l)) (next more (begins_arrow l))
 
 skip_shorter : (n : ℕ) (f : Forest) → flat_len (skip n f) ≤ flat_len f
@@ -157,7 +157,7 @@ skip_some (suc n) l rest h = omega (arith, skip_shorter n rest)
 glue_some : (p : Punct) (rest : Forest) → 0 < length (glue (leaf (punct p) rest))
 glue_some p rest = longest_some _ _ p (if_joint p.spacing (joined 2 rest))
 
-puncts_leaves : (texts : List (List ℕ)) (f : Forest) → Leaves true f (or_miss Absent (behind_puncts texts f))
+puncts_leaves : (texts : List (List ℕ)) (f : Forest) → Leaves true f (or_miss Absent (after_puncts texts f))
 puncts_leaves texts none = tt
 puncts_leaves texts (group d inside rest) = tt
 puncts_leaves texts (leaf (literal x) rest) = tt

@@ -149,11 +149,11 @@ module _ {A : Type 0} (C : List (Chain (code.Command A))) (R : List (Chain Part)
   no_link (Some p) own zero h = ap (map entry_seen) (sym (take-none own))
   no_link (Some p) own (suc n) h = cc
 
-  behind_link : (k : Option Part) (own : List (code.Command A)) (n : ℕ) (p : Part) → link_in k n ≡ Some p →
+  after_link : (k : Option Part) (own : List (code.Command A)) (n : ℕ) (p : Part) → link_in k n ≡ Some p →
       take n (first_link k ++ map entry_seen own) ≡ Entry.links p ∷ map entry_seen (take (own_in k n) own)
-  behind_link None own n p h = cc
-  behind_link (Some q) own zero p h = cc
-  behind_link (Some q) own (suc n) p h =
+  after_link None own n p h = cc
+  after_link (Some q) own zero p h = cc
+  after_link (Some q) own (suc n) p h =
       let e : q ≡ p = cc in
       let m : suc n - 1 ≡ n = omega arith in
       ap (λ t. Entry.links q ∷ t) (take-mapped entry_seen n own ∙ ap (λ j. map entry_seen (take j own)) (sym m))
@@ -171,7 +171,7 @@ module _ {A : Type 0} (C : List (Chain (code.Command A))) (R : List (Chain Part)
       let k = get-map commands_seen C part.list es f in
       let w : k.0 ≡ l = let q = k.1 in cc in
       let j = link_head (subst (λ ys. Gives (log_of C R) ds ys all)
-      (ap (take part.first) (sym k.2 ∙ ap commands_seen w) ∙ behind_link l.link l.own part.first link n) h) in
+      (ap (take part.first) (sym k.2 ∙ ap commands_seen w) ∙ after_link l.link l.own part.first link n) h) in
       subst (λ zs. Gives (log_of C R) ds zs all)
       (sym (ap (map entry_seen) e ∙ map-append entry_seen ys (take (own_in l.link part.first) l.own)))
       (follow (log_of C R) (flat_gives g ds j.0 j.1) (map entry_seen (take (own_in l.link part.first) l.own)) all j.2)
@@ -182,12 +182,12 @@ module _ {A : Type 0} (C : List (Chain (code.Command A))) (R : List (Chain Part)
   no_round_link (Some p) own zero h = ap (map RoundEntry.finishes) (sym (take-none own))
   no_round_link (Some p) own (suc n) h = cc
 
-  behind_round_link : (k : Option Part) (own : List Part) (n : ℕ) (p : Part) → link_in k n ≡ Some p →
+  after_round_link : (k : Option Part) (own : List Part) (n : ℕ) (p : Part) → link_in k n ≡ Some p →
       take n (first_round_link k ++ map RoundEntry.finishes own)
       ≡ RoundEntry.links p ∷ map RoundEntry.finishes (take (own_in k n) own)
-  behind_round_link None own n p h = cc
-  behind_round_link (Some q) own zero p h = cc
-  behind_round_link (Some q) own (suc n) p h =
+  after_round_link None own n p h = cc
+  after_round_link (Some q) own zero p h = cc
+  after_round_link (Some q) own (suc n) p h =
       let e : q ≡ p = cc in
       let m : suc n - 1 ≡ n = omega arith in
       ap (λ t. RoundEntry.links q ∷ t) (take-mapped RoundEntry.finishes n own
@@ -207,7 +207,7 @@ module _ {A : Type 0} (C : List (Chain (code.Command A))) (R : List (Chain Part)
       let k = get-map rounds_seen R part.list es f in
       let w : k.0 ≡ l = let q = k.1 in cc in
       let j = link_rounds_head (subst (λ ys. GivesRounds (log_of C R) ds ys all)
-      (ap (take part.first) (sym k.2 ∙ ap rounds_seen w) ∙ behind_round_link l.link l.own part.first link n) h) in
+      (ap (take part.first) (sym k.2 ∙ ap rounds_seen w) ∙ after_round_link l.link l.own part.first link n) h) in
       subst (λ zs. GivesRounds (log_of C R) ds zs all)
       (sym (ap (map RoundEntry.finishes) e
       ∙ map-append RoundEntry.finishes ys (take (own_in l.link part.first) l.own)))

@@ -40,8 +40,8 @@ pub passed_to : (n : ℕ) (f saved left : Forest) → saved ≡ f → left ≡ s
     → saved ≡ append (cut_trees n f).front left
 passed_to n f saved left s l = s ∙ (passes n f ∙ ap (append (cut_trees n f).front) (sym l))
 
-pub left_behind : (n : ℕ) (f left : Forest) → left ≡ skip n f → left ≡ (cut_trees n f).back
-left_behind n f left l = l ∙ sym (back-skip n f)
+pub left_following : (n : ℕ) (f left : Forest) → left ≡ skip n f → left ≡ (cut_trees n f).back
+left_following n f left l = l ∙ sym (back-skip n f)
 
 pub taken : {A : Type 0} (v : TokenTreesView A) (o : Option Cut) (c : Cut) (left : Forest) → o ≡ Some c
     → trees v ≡ c.front → left ≡ c.back → IsTaken (Some v) o left
@@ -72,19 +72,19 @@ is_quote p e = eq-eqb p.char 39 (same_Some p.char 39 e)
 is_no_quote : (p : Punct) → (Some p.char ≡ Some 39 → ⊥) → (p.char == 39) ≡ false
 is_no_quote p n = ne_eqb p.char 39 (λ e. n (ap Some e))
 
-lifetime_behind : (p : Punct) (rest : Forest) (i : Ident) → (p.char == 39) ≡ true → any_ident rest ≡ Some i
+lifetime_after : (p : Punct) (rest : Forest) (i : Ident) → (p.char == 39) ≡ true → any_ident rest ≡ Some i
     → lifetime_front (leaf (punct p) rest) ≡ Some (cut_trees 2 (leaf (punct p) rest))
-lifetime_behind p none i q e = absurd (none-some i e)
-lifetime_behind p (leaf (literal l) rest) i q e = absurd (none-some i e)
-lifetime_behind p (leaf (punct o) rest) i q e = absurd (none-some i e)
-lifetime_behind p (leaf (ident j) rest) i q e = rw q refl
-lifetime_behind p (group d inside rest) i q e = absurd (none-some i e)
+lifetime_after p none i q e = absurd (none-some i e)
+lifetime_after p (leaf (literal l) rest) i q e = absurd (none-some i e)
+lifetime_after p (leaf (punct o) rest) i q e = absurd (none-some i e)
+lifetime_after p (leaf (ident j) rest) i q e = rw q refl
+lifetime_after p (group d inside rest) i q e = absurd (none-some i e)
 
 pub lifetime_in_front : (f : Forest) (i : Ident) → front_char f ≡ Some 39 → any_ident (rest_of f) ≡ Some i
     → lifetime_front f ≡ Some (cut_trees 2 f)
 lifetime_in_front none i q e = absurd (none-some 39 q)
 lifetime_in_front (leaf (literal l) rest) i q e = absurd (none-some 39 q)
-lifetime_in_front (leaf (punct p) rest) i q e = lifetime_behind p rest i (is_quote p q) e
+lifetime_in_front (leaf (punct p) rest) i q e = lifetime_after p rest i (is_quote p q) e
 lifetime_in_front (leaf (ident j) rest) i q e = absurd (none-some 39 q)
 lifetime_in_front (group d inside rest) i q e = absurd (none-some 39 q)
 
@@ -132,10 +132,10 @@ pub literal_in_front : {T E : Type 0} (r : Result T E) (f mid : Forest) (l : Lea
 literal_in_front (Ok x) f mid l h m e = signed_in_front f l (h.0 refl) (ap front_literal (sym m) ∙ e)
 literal_in_front (Err x) f mid l h m e = bare_in_front f l (ap front_literal (sym m) ∙ e)
 
-pub behind_literal : (b : Bool) (f mid left : Forest) → mid ≡ (if b then rest_of f else f) → left ≡ rest_of mid
+pub past_literal : (b : Bool) (f mid left : Forest) → mid ≡ (if b then rest_of f else f) → left ≡ rest_of mid
     → left ≡ skip (literal_trees b) f
-behind_literal true f mid left m l = l ∙ ap rest_of m
-behind_literal false f mid left m l = l ∙ ap rest_of m
+past_literal true f mid left m l = l ∙ ap rest_of m
+past_literal false f mid left m l = l ∙ ap rest_of m
 
 pub puncts_in_front : (f : Forest) (ps : List Punct) → (front_char f ≡ Some 39 → ⊥) → Some ps ≡ glued f
     → tree_front f ≡ Some (cut_trees (length (glue f)) f)
@@ -160,12 +160,12 @@ one_tree None (leaf (ident i) rest) left g v l = absurd (none-some _ v)
 one_tree None (group d inside rest) left g v l = absurd (none-some _ v)
 one_tree (Some t) none left g v l = absurd (none-some _ (sym v))
 one_tree (Some t) (leaf (literal k) rest) left g v l =
-    (same_Some _ _ v ∙ ap (leaf (literal k)) (sym (front-zero rest)), left_behind 1 (leaf (literal k) rest) left l)
+    (same_Some _ _ v ∙ ap (leaf (literal k)) (sym (front-zero rest)), left_following 1 (leaf (literal k) rest) left l)
 one_tree (Some t) (leaf (punct p) rest) left g v l = absurd (none-some _ g)
 one_tree (Some t) (leaf (ident i) rest) left g v l =
-    (same_Some _ _ v ∙ ap (leaf (ident i)) (sym (front-zero rest)), left_behind 1 (leaf (ident i) rest) left l)
+    (same_Some _ _ v ∙ ap (leaf (ident i)) (sym (front-zero rest)), left_following 1 (leaf (ident i) rest) left l)
 one_tree (Some t) (group d inside rest) left g v l =
-    (same_Some _ _ v ∙ ap (group d inside) (sym (front-zero rest)), left_behind 1 (group d inside rest) left l)
+    (same_Some _ _ v ∙ ap (group d inside) (sym (front-zero rest)), left_following 1 (group d inside rest) left l)
 
 -- where no punct comes first, none are consumed
 pub no_puncts : (f left : Forest) → None ≡ glued f → left ≡ skip (length (glue f)) f → left ≡ f

@@ -60,15 +60,15 @@ first_no_heavier (opening_stop d) rest = omega arith
 first_no_heavier (op_stop o) rest = omega arith
 first_no_heavier (closing_stop d) rest = omega arith
 
-behind_no_heavier : (s : Stop) (rest : List Stop) → stops_weight rest ≤ stops_weight (s ∷ rest)
-behind_no_heavier (opening_stop d) rest = omega arith
-behind_no_heavier (op_stop o) rest = omega arith
-behind_no_heavier (closing_stop d) rest = omega arith
+after_no_heavier : (s : Stop) (rest : List Stop) → stops_weight rest ≤ stops_weight (s ∷ rest)
+after_no_heavier (opening_stop d) rest = omega arith
+after_no_heavier (op_stop o) rest = omega arith
+after_no_heavier (closing_stop d) rest = omega arith
 
 pub rest_no_heavier : (s : Stop) (all left rest : List Stop) → left ≡ s ∷ rest → stops_weight left ≤ stops_weight all
     → stops_weight rest ≤ stops_weight all
 rest_no_heavier s all left rest e h =
-    let less = behind_no_heavier s rest in
+    let less = after_no_heavier s rest in
     let same = ap stops_weight e in
     omega (arith, less, same, h)
 

@@ -16,7 +16,7 @@ use Rattle.mbe_tt.specs.declared.tt.Delimiter.{Delimiter}
 use Rattle.mbe_tt.specs.declared.tt.DelimiterKind.TheVariants.{Parenthesis}
 use Rattle.mbe_semantics.specs.Syntax.Op.{ident_element, literal_element, variable_element}
 use Rattle.mbe_parser.proofs.ReaderLemmas.{some_if}
-use Rattle.mbe_semantics.specs.Syntax.Template.{expression_of, arguments_of, elements_of, elements_behind_comma, element_before}
+use Rattle.mbe_semantics.specs.Syntax.Template.{expression_of, arguments_of, elements_of, elements_after_comma, element_before}
 
 -- ---- depths
 
@@ -100,7 +100,7 @@ call_in_front f left inside word d w l a k =
 -- ---- elements of `concat`
 
 pub literal_in_front : (f left : Forest) (l : Literal) → f ≡ leaf (literal l) left
-    → elements_of f ≡ element_before (literal_element l) (elements_behind_comma left)
+    → elements_of f ≡ element_before (literal_element l) (elements_after_comma left)
 literal_in_front f left l e = ap elements_of e
 
 any_front : (f : Forest) (i : Ident) → Some i ≡ any_ident f → f ≡ leaf (ident i) (rest_of f)
@@ -111,21 +111,21 @@ any_front (leaf (punct p) rest) i e = absurd (none-some i (sym e))
 any_front (leaf (ident j) rest) i e = ap (λ (x : Ident). leaf (ident x) rest) (sym (same_Some i j e))
 
 pub ident_in_front : (f left : Forest) (i : Ident) → Some i ≡ any_ident f → left ≡ rest_of f
-    → elements_of f ≡ element_before (ident_element i) (elements_behind_comma left)
+    → elements_of f ≡ element_before (ident_element i) (elements_after_comma left)
 ident_in_front f left i e l = ap elements_of (any_front f i e)
-    ∙ ap (λ (x : Forest). element_before (ident_element i) (elements_behind_comma x)) (sym l)
+    ∙ ap (λ (x : Forest). element_before (ident_element i) (elements_after_comma x)) (sym l)
 
-behind_dollar : (f rest : Forest) (i : Ident) → front_char f ≡ Some 36 → rest_of f ≡ leaf (ident i) rest
-    → elements_of f ≡ element_before (variable_element i) (elements_behind_comma rest)
-behind_dollar none rest i c e = absurd (none-some 36 c)
-behind_dollar (group d inside more) rest i c e = absurd (none-some 36 c)
-behind_dollar (leaf (literal l) more) rest i c e = absurd (none-some 36 c)
-behind_dollar (leaf (ident j) more) rest i c e = absurd (none-some 36 c)
-behind_dollar (leaf (punct p) more) rest i c e =
+after_dollar : (f rest : Forest) (i : Ident) → front_char f ≡ Some 36 → rest_of f ≡ leaf (ident i) rest
+    → elements_of f ≡ element_before (variable_element i) (elements_after_comma rest)
+after_dollar none rest i c e = absurd (none-some 36 c)
+after_dollar (group d inside more) rest i c e = absurd (none-some 36 c)
+after_dollar (leaf (literal l) more) rest i c e = absurd (none-some 36 c)
+after_dollar (leaf (ident j) more) rest i c e = absurd (none-some 36 c)
+after_dollar (leaf (punct p) more) rest i c e =
     ap (λ (x : Forest). elements_of (leaf (punct p) x)) e ∙ rw (eq-eqb p.char 36 (same_Some p.char 36 c)) refl
 
 pub variable_in_front : (f behind left : Forest) (i : Ident) → front_char f ≡ Some 36 → behind ≡ rest_of f
     → Some i ≡ any_ident behind → left ≡ rest_of behind
-    → elements_of f ≡ element_before (variable_element i) (elements_behind_comma left)
+    → elements_of f ≡ element_before (variable_element i) (elements_after_comma left)
 variable_in_front f behind left i c b e l =
-    behind_dollar f left i c (sym b ∙ (any_front behind i e ∙ ap (leaf (ident i)) (sym l)))
+    after_dollar f left i c (sym b ∙ (any_front behind i e ∙ ap (leaf (ident i)) (sym l)))

@@ -17,7 +17,7 @@ use Rattle.mbe_semantics.specs.declared.kinds.MetaVarKind.{MetaVarKind}
 use Rattle.mbe_semantics.specs.Syntax.Op as ops
 use Rattle.mbe_semantics.specs.Syntax.Op.{Name, Op, Ops, op, no_ops, Separator}
 use Rattle.mbe_semantics.specs.declared.kinds.RepeatKind.{RepeatKind}
-use Rattle.mbe_semantics.specs.Syntax.Template.{Mode, Fault, Head, ended, one, typed, opens_group, opens_repetition, head, behind_dollar, puncts_at, kind_named, kind_names, pat_kind, expr_kind, Specifies, dated_pat, dated_expr, undated, Template, token, variable, grouped, repeated, TemplateFault, here as at_front, in_group, in_repetition, behind_token, behind_variable, behind_group, behind_repetition}
+use Rattle.mbe_semantics.specs.Syntax.Template.{Mode, Fault, Head, ended, one, typed, opens_group, opens_repetition, head, after_dollar, puncts_at, kind_named, kind_names, pat_kind, expr_kind, Specifies, dated_pat, dated_expr, undated, Template, token, variable, grouped, repeated, TemplateFault, here as at_front, in_group, in_repetition, after_token, after_variable, following_group, after_repetition}
 use Rattle.mbe_parser.specs.Reader.{AtHead, FaultAtHead, ReadsOp, Stops}
 use Rattle.mbe_errors.specs.ErrorViews.{fault_of}
 use Rattle.mbe_errors.specs.declared.error.ReadError as why
@@ -91,7 +91,7 @@ module _ (HasEdition : SyntaxContext → Edition → Type 0) (mode : Mode) where
       ∙ ap (λ (x : Forest). let r : Result Head Fault = Ok (one p x) in r) behind) in
       record {
         more = λ os t. token f left p os h t;
-        fault = λ x t. behind_token f left p h t;
+        fault = λ x t. after_token f left p h t;
       }
 
   reads_typed : (f left : Forest) (name : Name) (span : Span) (s : Ident) (kind : Option MetaVarKind)
@@ -99,14 +99,14 @@ module _ (HasEdition : SyntaxContext → Edition → Type 0) (mode : Mode) where
       → ReadsOp HasEdition mode f (ops.variable name kind span) left
   reads_typed f left name span s kind e specifies = record {
     more = λ os t. variable f left name span s kind os e specifies t;
-    fault = λ x t. behind_variable f left name span s e t;
+    fault = λ x t. after_variable f left name span s e t;
   }
 
   pub reads_group : (f inside left : Forest) (d : Delimiter) (body : Ops) → head mode f ≡ Ok (opens_group d inside left)
       → Template HasEdition mode inside body → ReadsOp HasEdition mode f (ops.group d body) left
   reads_group f inside left d body e b = record {
     more = λ os t. grouped f inside left d body os e b t;
-    fault = λ x t. behind_group f inside left d body e b t;
+    fault = λ x t. following_group f inside left d body e b t;
   }
 
   reads_repetition : (f inside left : Forest) (s : Option Separator) (repeat : RepeatKind) (body : Ops)
@@ -114,7 +114,7 @@ module _ (HasEdition : SyntaxContext → Edition → Type 0) (mode : Mode) where
       → ReadsOp HasEdition mode f (ops.repetition body s repeat) left
   reads_repetition f inside left s repeat body e b = record {
     more = λ os t. repeated f inside left s repeat body os e b t;
-    fault = λ x t. behind_repetition f inside left s repeat body e b t;
+    fault = λ x t. after_repetition f inside left s repeat body e b t;
   }
 
   seen_as : (f left : Forest) (o p : Op) → o ≡ p → ReadsOp HasEdition mode f o left → ReadsOp HasEdition mode f p left
@@ -185,29 +185,29 @@ stopped (Err e) P Q h p = Stops-weaker e P Q h p
 module _ (HasEdition : SyntaxContext → Edition → Type 0) (m : Mode) where
   -- a leaf behind a `$`
   pub leaf_op : {A E : Type 0} (r : Result (code.Op A) E) (p : Punct) (f left new : Forest) (l : Leaf) → f ≡ leaf l left
-      → IfOk r (λ o. (d : Punct) → AtHead HasEdition m (behind_dollar m d (leaf l left)) (op_of o) new)
-      → IfOk r (λ o. AtHead HasEdition m (behind_dollar m p f) (op_of o) new)
+      → IfOk r (λ o. (d : Punct) → AtHead HasEdition m (after_dollar m d (leaf l left)) (op_of o) new)
+      → IfOk r (λ o. AtHead HasEdition m (after_dollar m p f) (op_of o) new)
   leaf_op (Err e) p f left new l here h = tt
   leaf_op (Ok o) p f left new l here h =
-      subst (λ (g : Forest). AtHead HasEdition m (behind_dollar m p g) (op_of o) new) (sym here) (h p)
+      subst (λ (g : Forest). AtHead HasEdition m (after_dollar m p g) (op_of o) new) (sym here) (h p)
 
   pub leaf_fault : {T : Type 0} (r : Result T why.ReadError) (p : Punct) (f left : Forest) (l : Leaf) → f ≡ leaf l left
-      → IfErr r (λ e. Stops e (λ x. (d : Punct) → behind_dollar m d (leaf l left) ≡ Err x))
-      → IfErr r (λ e. Stops e (FaultAtHead HasEdition m (behind_dollar m p f)))
+      → IfErr r (λ e. Stops e (λ x. (d : Punct) → after_dollar m d (leaf l left) ≡ Err x))
+      → IfErr r (λ e. Stops e (FaultAtHead HasEdition m (after_dollar m p f)))
   leaf_fault r p f left l here h =
-      stopped r (λ x. (d : Punct) → behind_dollar m d (leaf l left) ≡ Err x)
-      (FaultAtHead HasEdition m (behind_dollar m p f))
-      (λ x k. err_head HasEdition m x (behind_dollar m p f) (ap (behind_dollar m p) here ∙ k p)) h
+      stopped r (λ x. (d : Punct) → after_dollar m d (leaf l left) ≡ Err x)
+      (FaultAtHead HasEdition m (after_dollar m p f))
+      (λ x k. err_head HasEdition m x (after_dollar m p f) (ap (after_dollar m p) here ∙ k p)) h
 
 -- ---- the front of all trees
 
 pub dollar_head : (m : Mode) (f left : Forest) (p : Punct) → f ≡ leaf (punct p) left → p.char ≡ 36
-    → head m f ≡ behind_dollar m p left
+    → head m f ≡ after_dollar m p left
 dollar_head m f left p here e = ap (head m) here ∙ dollar_if (p.char == 36) (eq-eqb p.char 36 e)
   where
-    dollar_if : (b : Bool) → b ≡ true → (if b then behind_dollar m p left else Ok (puncts_at (leaf (punct p) left)))
-        ≡ behind_dollar m p left
-    dollar_if b t = ap (λ (c : Bool). if c then behind_dollar m p left else Ok (puncts_at (leaf (punct p) left))) t
+    dollar_if : (b : Bool) → b ≡ true → (if b then after_dollar m p left else Ok (puncts_at (leaf (punct p) left)))
+        ≡ after_dollar m p left
+    dollar_if b t = ap (λ (c : Bool). if c then after_dollar m p left else Ok (puncts_at (leaf (punct p) left))) t
 
 pub puncts_head : (m : Mode) (f left : Forest) (p : Punct) → f ≡ leaf (punct p) left → (p.char ≡ 36 → ⊥)
     → head m f ≡ Ok (puncts_at f)
@@ -215,9 +215,9 @@ puncts_head m f left p here n =
     ap (head m) here ∙ (puncts_if (p.char == 36) (ne_eqb p.char 36 n)
     ∙ ap (λ (g : Forest). let r : Result Head Fault = Ok (puncts_at g) in r) (sym here))
   where
-    puncts_if : (b : Bool) → b ≡ false → (if b then behind_dollar m p left else Ok (puncts_at (leaf (punct p) left)))
+    puncts_if : (b : Bool) → b ≡ false → (if b then after_dollar m p left else Ok (puncts_at (leaf (punct p) left)))
         ≡ Ok (puncts_at (leaf (punct p) left))
-    puncts_if b t = ap (λ (c : Bool). if c then behind_dollar m p left else Ok (puncts_at (leaf (punct p) left))) t
+    puncts_if b t = ap (λ (c : Bool). if c then after_dollar m p left else Ok (puncts_at (leaf (punct p) left))) t
 
 module _ (HasEdition : SyntaxContext → Edition → Type 0) where
   pub head_op : {A E : Type 0} (r : Result (code.Op A) E) (m : Mode) (f new : Forest) (h : Result Head Fault)

@@ -18,7 +18,7 @@ use Rattle.mbe_errors.specs.declared.error.ReadError as why
 use Rattle.mbe_parser.specs.declared.rules.Rule as code
 use Rattle.mbe_semantics.specs.Syntax.Op.{Ops}
 use Rattle.mbe_semantics.specs.Syntax.Template.{Fault, pattern, template, Template, TemplateFault}
-use Rattle.mbe_semantics.specs.Syntax.Definition.{RuleTrees, Rule, rule_trees_at, pattern_at, AreParts, PartsFault, in_template, Rules, ended, no_rule, faulty_rule, unseparated, separated, behind_separator, with_refusal, IsMacroOfArguments, one_rule, faulty}
+use Rattle.mbe_semantics.specs.Syntax.Definition.{RuleTrees, Rule, rule_trees_at, pattern_at, AreParts, PartsFault, in_template, Rules, ended, no_rule, faulty_rule, unseparated, separated, after_separator, with_refusal, IsMacroOfArguments, one_rule, faulty}
 use Rattle.mbe_parser.specs.Reader.{IsStyled, AreRuleTrees, ReadsRule, RuleFault, in_trees, in_parts, AreRules, IsOneRule, Stops}
 use Rattle.mbe_errors.specs.ErrorViews.{fault_of}
 use Rattle.mbe_parser.specs.RuleViews.{rule_of, rules_seen}
@@ -131,24 +131,24 @@ module _ (separators : List ℕ) where
   abbrev pub IsSeparated : Forest → Type 0
   IsSeparated f = (p : Punct) × (front_punct f ≡ Some p) × Contains separators p.char
 
-  behind_if : (b : Bool) (rest : Forest) → b ≡ true → (if b then Some rest else None) ≡ Some rest
-  behind_if b rest e = ap (λ (c : Bool). if c then Some rest else None) e
+  after_if : (b : Bool) (rest : Forest) → b ≡ true → (if b then Some rest else None) ≡ Some rest
+  after_if b rest e = ap (λ (c : Bool). if c then Some rest else None) e
 
   nothing_if : (b : Bool) (rest : Forest) → (b ≡ true → ⊥) → (if b then Some rest else None) ≡ None
   nothing_if true rest n = absurd (n refl)
   nothing_if false rest n = refl
 
-  pub behind-some : (f : Forest) → IsSeparated f → behind_separator separators f ≡ Some (rest_of f)
+  pub behind-some : (f : Forest) → IsSeparated f → after_separator separators f ≡ Some (rest_of f)
   behind-some none (p, e, k) = absurd (none-some p e)
   behind-some (leaf (literal l) rest) (p, e, k) = absurd (none-some p e)
   behind-some (leaf (ident i) rest) (p, e, k) = absurd (none-some p e)
   behind-some (group d inside rest) (p, e, k) = absurd (none-some p e)
   behind-some (leaf (punct q) rest) (p, e, k) =
-      behind_if (list_any (λ c. q.char == c) separators) rest
+      after_if (list_any (λ c. q.char == c) separators) rest
       (list_any-from_Contains nat_eq_equiv q.char separators
       (subst (λ (x : Punct). Contains separators x.char) (sym (same_Some q p e)) k))
 
-  pub behind-none : (f : Forest) → f ≢ none → (IsSeparated f → ⊥) → behind_separator separators f ≡ None
+  pub behind-none : (f : Forest) → f ≢ none → (IsSeparated f → ⊥) → after_separator separators f ≡ None
   behind-none none n k = absurd (n refl)
   behind-none (leaf (literal l) rest) n k = refl
   behind-none (leaf (ident i) rest) n k = refl
@@ -191,7 +191,7 @@ module _ (HasEdition : SyntaxContext → Edition → Type 0) (separators : List 
       → Rules HasEdition separators missing whole (before ++ (r ∷ rs)) x
   one_more before r whole left behind rest c reads e at rs x h =
       c (r ∷ rs) x (separated left rest reads.rule_trees r rs x reads.at reads.parts
-      (ap (behind_separator separators) reads.behind ∙ (behind-some separators behind e ∙ ap Some (sym at))) h)
+      (ap (after_separator separators) reads.behind ∙ (behind-some separators behind e ∙ ap Some (sym at))) h)
 
   -- the last rule, with nothing after it
   pub last_rule : (before : List Rule) (r : Rule) (whole left behind : Forest) → Continues before whole left
@@ -199,7 +199,7 @@ module _ (HasEdition : SyntaxContext → Edition → Type 0) (separators : List 
       → behind ≡ none → AreRules HasEdition separators missing whole (before ++ r ∷ []) None
   last_rule before r whole left behind c reads e =
       c (r ∷ []) None (separated left none reads.rule_trees r [] None reads.at reads.parts
-      (ap (behind_separator separators) (reads.behind ∙ e)) ended)
+      (ap (after_separator separators) (reads.behind ∙ e)) ended)
 
   -- a rule with no separator after it
   pub stray_rule : (before : List Rule) (r : Rule) (whole left behind : Forest) → Continues before whole left
@@ -208,7 +208,7 @@ module _ (HasEdition : SyntaxContext → Edition → Type 0) (separators : List 
       → Rules HasEdition separators missing whole (before ++ r ∷ []) (Some missing)
   stray_rule before r whole left behind c reads n e =
       c (r ∷ []) (Some missing) (unseparated left reads.rule_trees r reads.at reads.parts
-      (ap (behind_separator separators) reads.behind ∙ behind-none separators behind n e))
+      (ap (after_separator separators) reads.behind ∙ behind-none separators behind n e))
 
 -- rules that were written one after the other
 pub rules-push : {A : Type 0} (before : List (code.Rule A)) (r : code.Rule A)

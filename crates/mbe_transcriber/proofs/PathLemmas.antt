@@ -74,14 +74,14 @@ first_tree (leaf l rest) one e = (Leaf_tree l, refl, let s : one ≡ tree (Leaf_
 first_tree (group d inside rest) one e =
     (Group_tree d inside, refl, let s : one ≡ tree (Group_tree d inside) none = cc in s)
 
-pub less_behind : (t : Tree) (one rest : Forest) → one ≡ tree t none → is_ident one ≡ true
+pub less_after : (t : Tree) (one rest : Forest) → one ≡ tree t none → is_ident one ≡ true
     → stands_before_less rest ≡ true → true ≡ colons_after t rest
-less_behind t one rest e i l = sym (ap (λ f. is_ident f && stands_before_less rest) (sym e)
+less_after t one rest e i l = sym (ap (λ f. is_ident f && stands_before_less rest) (sym e)
     ∙ (ap (λ b. b && stands_before_less rest) i ∙ l))
 
-pub other_behind : (a b : Bool) → a ≡ false → false ≡ (a && b)
-other_behind true b e = absurd cc
-other_behind false b e = refl
+pub other_after : (a b : Bool) → a ≡ false → false ≡ (a && b)
+other_after true b e = absurd cc
+other_after false b e = refl
 
 pub ident_then : (a b : Bool) → b ≡ false → false ≡ (a && b)
 ident_then true b e = sym e

@@ -17,7 +17,7 @@ use Rattle.mbe_semantics.specs.Laws.Lawful.{Lawful}
 use Rattle.mbe_semantics.specs.Matching.Outline.{rank}
 use Rattle.mbe_semantics.specs.Matching.Held.{whole, held, moves_of, targets}
 use Rattle.mbe_laws.proofs.Matching.Rank.{idle-falls, whole-step}
-use Rattle.mbe_semantics.specs.Matching.Dots.{op_dots, dots, dots_behind, number_of}
+use Rattle.mbe_semantics.specs.Matching.Dots.{op_dots, dots, dots_after, number_of}
 use Rattle.mbe_bounds.specs.Bounded.Dots.{blank, dot_of}
 
 -- ---- dots
@@ -27,7 +27,7 @@ blank_twice [] = refl
 blank_twice (inside d b rest is ∷ up) = ap (λ v. inside d b rest no_items ∷ v) (blank_twice up)
 blank_twice (within b s k rest is rs ∷ up) = ap (λ v. within b s k rest no_items no_rounds ∷ v) (blank_twice up)
 
-after_blank : (up : List Frame) → dots_behind (blank up) ≡ dots_behind up
+after_blank : (up : List Frame) → dots_after (blank up) ≡ dots_after up
 after_blank [] = refl
 after_blank (inside d b rest is ∷ up) = ap (λ v. dots rest + v) (after_blank up)
 after_blank (within b s k rest is rs ∷ up) = ap (λ v. dots rest + v) (after_blank up)
@@ -223,7 +223,7 @@ find_first (item is x) i os p rest up n h l =
 
 -- from the outside in
 find_frames : (i : Input) (pat : Ops) (up : List Frame) (n : ℕ) → Within i pat up → 0 < n → n ≤ dots (body_of pat up) →
-    (find pat [] (n + dots_behind up) ≡ find (body_of pat up) (blank up) n) × (n + dots_behind up ≤ dots pat)
+    (find pat [] (n + dots_after up) ≡ find (body_of pat up) (blank up) n) × (n + dots_after up ≤ dots pat)
 find_frames i pat [] n h p l = (ap (find pat []) (let e : n + 0 ≡ n = omega arith in e), omega (arith, l))
 find_frames i pat (inside d b rest js ∷ up) n h p l =
     let m : n + dots rest ≤ dots (op (group d b) rest) = omega (arith, l) in
@@ -231,11 +231,11 @@ find_frames i pat (inside d b rest js ∷ up) n h p l =
     × (find (body_of pat up) (blank up) (n + dots rest) ≡ find (op (group d b) rest) (blank up) (n + dots rest)) =
     find_first js i (body_of pat up) (start_of up) (op (group d b) rest) (blank up) (n + dots rest) h.1 m in
     let a = f.0 in
-    let r : (find pat [] (n + dots rest + dots_behind up) ≡ find (body_of pat up) (blank up) (n + dots rest))
-    × (n + dots rest + dots_behind up ≤ dots pat) =
+    let r : (find pat [] (n + dots rest + dots_after up) ≡ find (body_of pat up) (blank up) (n + dots rest))
+    × (n + dots rest + dots_after up ≤ dots pat) =
     find_frames i pat up (n + dots rest) h.0 (omega (arith, p)) (omega (arith, a, m)) in
     let c = r.1 in (
-      ap (find pat []) (let e : n + (dots rest + dots_behind up) ≡ n + dots rest + dots_behind up = omega arith in e)
+      ap (find pat []) (let e : n + (dots rest + dots_after up) ≡ n + dots rest + dots_after up = omega arith in e)
           ∙ r.0 ∙ f.1 ∙ find_in (group d b) rest (blank up) n p l,
       omega (arith, c),
     )
@@ -246,11 +246,11 @@ find_frames i pat (within b s k rest js rs ∷ up) n h p l =
     ≡ find (op (repetition b s k) rest) (blank up) (n + dots rest)) =
     find_first js i (body_of pat up) (start_of up) (op (repetition b s k) rest) (blank up) (n + dots rest) h.1 m in
     let a = f.0 in
-    let r : (find pat [] (n + dots rest + dots_behind up) ≡ find (body_of pat up) (blank up) (n + dots rest))
-    × (n + dots rest + dots_behind up ≤ dots pat) =
+    let r : (find pat [] (n + dots rest + dots_after up) ≡ find (body_of pat up) (blank up) (n + dots rest))
+    × (n + dots rest + dots_after up ≤ dots pat) =
     find_frames i pat up (n + dots rest) h.0 (omega (arith, p)) (omega (arith, a, m)) in
     let c = r.1 in (
-      ap (find pat []) (let e : n + (dots rest + dots_behind up) ≡ n + dots rest + dots_behind up = omega arith in e)
+      ap (find pat []) (let e : n + (dots rest + dots_after up) ≡ n + dots rest + dots_after up = omega arith in e)
           ∙ r.0 ∙ f.1 ∙ find_in (repetition b s k) rest (blank up) n p l,
       omega (arith, c),
     )
@@ -261,8 +261,8 @@ find_of i pat (dot rest is up) h =
     let f : (dots rest ≤ dots (body_of pat up))
     × (find (body_of pat up) (blank up) (dots rest) ≡ find rest (blank up) (dots rest)) =
     find_first is i (body_of pat up) (start_of up) rest (blank up) (dots rest) h.1 (omega arith) in
-    let r : (find pat [] (dots rest + dots_behind up) ≡ find (body_of pat up) (blank up) (dots rest))
-    × (dots rest + dots_behind up ≤ dots pat) =
+    let r : (find pat [] (dots rest + dots_after up) ≡ find (body_of pat up) (blank up) (dots rest))
+    × (dots rest + dots_after up ≤ dots pat) =
     find_frames i pat up (dots rest) h.0 (dots_some rest) f.0 in
     (r.0 ∙ f.1 ∙ find_here rest (blank up), r.1)
 

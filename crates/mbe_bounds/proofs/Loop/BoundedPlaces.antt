@@ -22,7 +22,7 @@ use Rattle.mbe_laws.proofs.Matching.Outlines.{erase_idle, erase_next, erase_fini
 use Rattle.mbe_laws.proofs.Matching.Law.{Inv}
 use Rattle.mbe_laws.proofs.Matching.Advance.{some_width, right-ambiguous, right-stuck, last-place}
 use Rattle.mbe_laws.proofs.Matching.Final.{right_of, reading_of}
-use Rattle.mbe_semantics.specs.Matching.Dots.{dots, dots_behind, number_of, edges_behind, outline_number}
+use Rattle.mbe_semantics.specs.Matching.Dots.{dots, dots_after, number_of, edges_after, outline_number}
 use Rattle.mbe_bounds.specs.Bounded.TwoEach.{cons_if, append_if, times, two_each, walk, turns, held_two_each}
 use Rattle.mbe_bounds.specs.Loop.Kept.{kept, kept_moves, kept_ends, NumbersStep}
 use Rattle.mbe_bounds.proofs.Run.Moves.{same-end, same-one, same-clash, same-width}
@@ -39,7 +39,7 @@ numbers_step = record {
 
 -- ---- outlines
 
-same_after : (up : List Frame) → edges_behind (edges_of up) ≡ dots_behind up
+same_after : (up : List Frame) → edges_after (edges_of up) ≡ dots_after up
 same_after [] = refl
 same_after (inside d b rest is ∷ up) = ap (λ v. dots rest + v) (same_after up)
 same_after (within b s k rest is rs ∷ up) = ap (λ v. dots rest + v) (same_after up)

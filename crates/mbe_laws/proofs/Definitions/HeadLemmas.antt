@@ -16,7 +16,7 @@ use Rattle.mbe_semantics.specs.declared.kinds.MetaVarKind.{MetaVarKind}
 use Rattle.mbe_semantics.specs.declared.kinds.RepeatKind.{RepeatKind}
 use Rattle.mbe_semantics.specs.Syntax.Op as ops
 use Rattle.mbe_semantics.specs.Syntax.Op.{Name, Separator, Expression, Op, Ops, no_ops, op}
-use Rattle.mbe_semantics.specs.Syntax.Template.{Mode, pattern, template, Fault, expected, Suffix, repeat_of, leaf_in_suffix, punct_in_suffix, suffix_of, separator_of, expression_of, Head, ended, one, typed, opens_group, opens_repetition, specifier_at, missing_specifier, variable_at, second_dollar, repetition_with, repetition_at, expression_at, group_behind_dollar, behind_dollar, puncts_at, head, dollar_crate, Specifies, dated_pat, dated_expr, undated, Template, nothing, token, variable, grouped, repeated, TemplateFault, here, in_group, in_repetition, behind_token, behind_variable, behind_group, behind_repetition}
+use Rattle.mbe_semantics.specs.Syntax.Template.{Mode, pattern, template, Fault, expected, Suffix, repeat_of, leaf_in_suffix, punct_in_suffix, suffix_of, separator_of, expression_of, Head, ended, one, typed, opens_group, opens_repetition, specifier_at, missing_specifier, variable_at, second_dollar, repetition_with, repetition_at, expression_at, group_after_dollar, after_dollar, puncts_at, head, dollar_crate, Specifies, dated_pat, dated_expr, undated, Template, nothing, token, variable, grouped, repeated, TemplateFault, here, in_group, in_repetition, after_token, after_variable, following_group, after_repetition}
 use Rattle.mbe_semantics.specs.Laws.Laws.{HasSomeEdition, HasOpsOrFault}
 use Rattle.mbe_semantics.proofs.MoveLemmas.{some_operator, leaf_moves}
 
@@ -72,7 +72,7 @@ expression_shorter template n rest (Some e) h = h
 expression_shorter template n rest None h = tt
 
 group_shorter : (mode : Mode) (kind : DelimiterKind) (n : ℕ) (inside rest : Forest) → flat_len inside < n
-    → flat_len rest < n → Shorter n (group_behind_dollar mode kind inside rest)
+    → flat_len rest < n → Shorter n (group_after_dollar mode kind inside rest)
 group_shorter mode delimiters.Parenthesis n inside rest a b =
     repetition_shorter n inside rest (suffix_of rest) a (λ s e. let k = suffix_back rest s e in omega (arith, k, b))
 group_shorter mode delimiters.Brace n inside rest a b = expression_shorter mode n rest (expression_of inside) b
@@ -100,7 +100,7 @@ variable_shorter : (mode : Mode) (name : Name) (span : Span) (n : ℕ) (rest : F
 variable_shorter pattern name span n rest h = specifier_shorter name span n rest h
 variable_shorter template name span n rest h = h
 
-dollar_shorter : (mode : Mode) (p : Punct) (n : ℕ) (f : Forest) → flat_len f < n → Shorter n (behind_dollar mode p f)
+dollar_shorter : (mode : Mode) (p : Punct) (n : ℕ) (f : Forest) → flat_len f < n → Shorter n (after_dollar mode p f)
 dollar_shorter mode p n none h = h
 dollar_shorter mode p n (group d inside rest) h =
     group_shorter mode d.kind n inside rest (omega (arith, h)) (omega (arith, h))
@@ -144,7 +144,7 @@ head_shorter mode (leaf (ident i) rest) = omega arith
 head_shorter mode (leaf (punct p) rest) = go (p.char == 36)
   where
     go : (b : Bool) → Shorter (1 + flat_len rest)
-        (if b then behind_dollar mode p rest else Ok (puncts_at (leaf (punct p) rest)))
+        (if b then after_dollar mode p rest else Ok (puncts_at (leaf (punct p) rest)))
     go true = dollar_shorter mode p (1 + flat_len rest) rest (omega arith)
     go false = puncts_shorter p rest
 
@@ -175,21 +175,21 @@ module _ (HasEdition : SyntaxContext → Edition → Type 0) (some : HasSomeEdit
       go (Err e) q s ih = inr (e, here f q)
       go (Ok ended) q s ih = inl (no_ops, nothing f q)
       go (Ok (one o rest)) q s ih =
-          both (λ p. inl (op o p.0, token f rest o p.0 q p.1)) (λ p. inr (p.0, behind_token f rest o q p.1)) (ih rest s)
+          both (λ p. inl (op o p.0, token f rest o p.0 q p.1)) (λ p. inr (p.0, after_token f rest o q p.1)) (ih rest s)
       go (Ok (typed name span specifier rest)) q s ih =
           let k = specifies specifier in
           both (λ p. inl (op (ops.variable name k.0 span) p.0, variable f rest name span specifier k.0 p.0 q k.1 p.1))
-          (λ p. inr (p.0, behind_variable f rest name span specifier q p.1)) (ih rest s)
+          (λ p. inr (p.0, after_variable f rest name span specifier q p.1)) (ih rest s)
       go (Ok (opens_group d inside rest)) q s ih =
           both (λ b. both (λ p. inl (op (ops.group d b.0) p.0, grouped f inside rest d b.0 p.0 q b.1 p.1))
-          (λ p. inr (p.0, behind_group f inside rest d b.0 q b.1 p.1)) (ih rest s.1))
+          (λ p. inr (p.0, following_group f inside rest d b.0 q b.1 p.1)) (ih rest s.1))
           (λ w. inr (w.0, in_group f inside rest d q w.1)) (ih inside s.0)
       go (Ok (opens_repetition t repeat inside rest)) q s ih =
           both (λ b. both (λ p. inl (
             op (ops.repetition b.0 t repeat) p.0,
             repeated f inside rest t repeat b.0 p.0 q b.1 p.1,
           ))
-          (λ p. inr (p.0, behind_repetition f inside rest t repeat b.0 q b.1 p.1)) (ih rest s.1))
+          (λ p. inr (p.0, after_repetition f inside rest t repeat b.0 q b.1 p.1)) (ih rest s.1))
           (λ w. inr (w.0, in_repetition f inside rest t repeat q w.1)) (ih inside s.0)
 
 pub has_ops_or_fault : (HasEdition : SyntaxContext → Edition → Type 0) → HasOpsOrFault HasEdition

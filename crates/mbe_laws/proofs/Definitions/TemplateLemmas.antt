@@ -10,9 +10,9 @@ use Rattle.mbe_tt.specs.Trees.Tree.{Forest, none}
 use Rattle.mbe_semantics.specs.declared.kinds.MetaVarKind.{MetaVarKind}
 use Rattle.mbe_semantics.specs.Syntax.Op as ops
 use Rattle.mbe_semantics.specs.Syntax.Op.{Op, Ops, no_ops, op}
-use Rattle.mbe_semantics.specs.Syntax.Template.{Mode, pattern, template, Fault, Head, ended, one, typed, opens_group, opens_repetition, head, pat_kind, expr_kind, Specifies, dated_pat, dated_expr, undated, Template, nothing, token, variable, grouped, repeated, TemplateFault, here, in_group, in_repetition, behind_token, behind_variable, behind_group, behind_repetition}
+use Rattle.mbe_semantics.specs.Syntax.Template.{Mode, pattern, template, Fault, Head, ended, one, typed, opens_group, opens_repetition, head, pat_kind, expr_kind, Specifies, dated_pat, dated_expr, undated, Template, nothing, token, variable, grouped, repeated, TemplateFault, here, in_group, in_repetition, after_token, after_variable, following_group, after_repetition}
 use Rattle.mbe_semantics.specs.Syntax.Definition as definition
-use Rattle.mbe_semantics.specs.Syntax.Definition.{Rule, RuleTrees, rule_trees_at, behind_separator, AreParts, PartsFault, in_pattern, in_template, Rules, no_rule, faulty_rule, unseparated, separated, with_refusal, IsMacroOfArguments, one_rule, faulty}
+use Rattle.mbe_semantics.specs.Syntax.Definition.{Rule, RuleTrees, rule_trees_at, after_separator, AreParts, PartsFault, in_pattern, in_template, Rules, no_rule, faulty_rule, unseparated, separated, with_refusal, IsMacroOfArguments, one_rule, faulty}
 use Rattle.mbe_semantics.specs.Laws.Laws.{HasOneEdition, OpsOrFault, OneTemplate, OneDefinition}
 
 both : (b : Bool) → b ≡ true → b ≡ false → ⊥
@@ -67,13 +67,13 @@ module _ (HasEdition : SyntaxContext → Edition → Type 0) where
       subst (Parts mode os) e (parts_of mode t) in no_fault mode fault w p.0 p.2
   no_fault mode fault (in_repetition f inside rest s repeat e w) os t = let p =
       subst (Parts mode os) e (parts_of mode t) in no_fault mode fault w p.0 p.2
-  no_fault mode fault (behind_token f rest o e w) os t = let p =
+  no_fault mode fault (after_token f rest o e w) os t = let p =
       subst (Parts mode os) e (parts_of mode t) in no_fault mode fault w p.0 p.1
-  no_fault mode fault (behind_variable f rest name span specifier e w) os t = let p =
+  no_fault mode fault (after_variable f rest name span specifier e w) os t = let p =
       subst (Parts mode os) e (parts_of mode t) in no_fault mode fault w p.1 p.3
-  no_fault mode fault (behind_group f inside rest d body e b w) os t = let p =
+  no_fault mode fault (following_group f inside rest d body e b w) os t = let p =
       subst (Parts mode os) e (parts_of mode t) in no_fault mode fault w p.1 p.3
-  no_fault mode fault (behind_repetition f inside rest s repeat body e b w) os t = let p =
+  no_fault mode fault (after_repetition f inside rest s repeat body e b w) os t = let p =
       subst (Parts mode os) e (parts_of mode t) in no_fault mode fault w p.1 p.3
 
   pub ops_or_fault : OpsOrFault HasEdition
@@ -98,11 +98,11 @@ module _ (HasEdition : SyntaxContext → Edition → Type 0) where
   fault_parts mode fault (here f e) = subst (FaultParts mode fault) (sym e) refl
   fault_parts mode fault (in_group f inside rest d e w) = subst (FaultParts mode fault) (sym e) (inl w)
   fault_parts mode fault (in_repetition f inside rest s repeat e w) = subst (FaultParts mode fault) (sym e) (inl w)
-  fault_parts mode fault (behind_token f rest o e w) = subst (FaultParts mode fault) (sym e) w
-  fault_parts mode fault (behind_variable f rest name span specifier e w) = subst (FaultParts mode fault) (sym e) w
-  fault_parts mode fault (behind_group f inside rest d body e b w) =
+  fault_parts mode fault (after_token f rest o e w) = subst (FaultParts mode fault) (sym e) w
+  fault_parts mode fault (after_variable f rest name span specifier e w) = subst (FaultParts mode fault) (sym e) w
+  fault_parts mode fault (following_group f inside rest d body e b w) =
       subst (FaultParts mode fault) (sym e) (inr (body, b, w))
-  fault_parts mode fault (behind_repetition f inside rest s repeat body e b w) =
+  fault_parts mode fault (after_repetition f inside rest s repeat body e b w) =
       subst (FaultParts mode fault) (sym e) (inr (body, b, w))
 
   same_fault : (mode : Mode) (fault : Fault) {f : Forest} → TemplateFault HasEdition mode fault f → (other : Fault)
@@ -114,14 +114,14 @@ module _ (HasEdition : SyntaxContext → Edition → Type 0) where
   same_fault mode fault (in_repetition f inside rest s repeat e v) other w =
       one_of (λ u. same_fault mode fault v other u) (λ p. absurd (no_fault mode fault v p.0 p.1))
       (subst (FaultParts mode other) e (fault_parts mode other w))
-  same_fault mode fault (behind_token f rest o e v) other w =
+  same_fault mode fault (after_token f rest o e v) other w =
       same_fault mode fault v other (subst (FaultParts mode other) e (fault_parts mode other w))
-  same_fault mode fault (behind_variable f rest name span specifier e v) other w =
+  same_fault mode fault (after_variable f rest name span specifier e v) other w =
       same_fault mode fault v other (subst (FaultParts mode other) e (fault_parts mode other w))
-  same_fault mode fault (behind_group f inside rest d body e b v) other w =
+  same_fault mode fault (following_group f inside rest d body e b v) other w =
       one_of (λ u. absurd (no_fault mode other u body b)) (λ p. same_fault mode fault v other p.2)
       (subst (FaultParts mode other) e (fault_parts mode other w))
-  same_fault mode fault (behind_repetition f inside rest s repeat body e b v) other w =
+  same_fault mode fault (after_repetition f inside rest s repeat body e b v) other w =
       one_of (λ u. absurd (no_fault mode other u body b)) (λ p. same_fault mode fault v other p.2)
       (subst (FaultParts mode other) e (fault_parts mode other w))
 
@@ -183,16 +183,16 @@ module _ (HasEdition : SyntaxContext → Edition → Type 0) where
     same_parts_fault o fault other (in_template reads t v) (in_template more u w) = same_fault template fault v other w
 
     module _ (separators : List ℕ) (missing : Fault) where
-      abbrev Behind : List Rule → Option Fault → Rule → Option Forest → Type 0
-      Behind rs fault r None = (rs ≡ r ∷ []) × (fault ≡ Some missing)
-      Behind rs fault r (Some rest) = (qs : List Rule) × Rules HasEdition separators missing rest qs fault
+      abbrev Following : List Rule → Option Fault → Rule → Option Forest → Type 0
+      Following rs fault r None = (rs ≡ r ∷ []) × (fault ≡ Some missing)
+      Following rs fault r (Some rest) = (qs : List Rule) × Rules HasEdition separators missing rest qs fault
           × (rs ≡ r ∷ qs)
 
       abbrev RuleParts : List Rule → Option Fault → Result RuleTrees Fault → Type 0
       RuleParts rs fault (Err e) = (rs ≡ []) × (fault ≡ Some e)
       RuleParts rs fault (Ok o) =
           ((e : Fault) × PartsFault HasEdition o e × (rs ≡ []) × (fault ≡ Some e))
-          ⊎ ((r : Rule) × AreParts HasEdition o r × Behind rs fault r (behind_separator separators o.back))
+          ⊎ ((r : Rule) × AreParts HasEdition o r × Following rs fault r (after_separator separators o.back))
 
       begins : {f : Forest} {o : RuleTrees} → rule_trees_at f ≡ Ok o → f ≡ none → ⊥
       begins {f} {o} e n = not_ok (rule_trees_at f) _ o (ap rule_trees_at n) e
@@ -208,13 +208,13 @@ module _ (HasEdition : SyntaxContext → Edition → Type 0) where
           inr (
             begins e,
             subst (RuleParts (r ∷ []) (Some missing)) (sym e)
-                (inr (r, a, subst (Behind (r ∷ []) (Some missing) r) (sym b) (refl, refl))),
+                (inr (r, a, subst (Following (r ∷ []) (Some missing) r) (sym b) (refl, refl))),
           )
       rule_parts (separated f rest o r rs fault e a b t) =
           inr (
             begins e,
             subst (RuleParts (r ∷ rs) fault) (sym e)
-                (inr (r, a, subst (Behind (r ∷ rs) fault r) (sym b) (rs, t, refl))),
+                (inr (r, a, subst (Following (r ∷ rs) fault r) (sym b) (rs, t, refl))),
           )
 
       -- of trees that begin a rule
@@ -251,7 +251,7 @@ module _ (HasEdition : SyntaxContext → Edition → Type 0) where
         where
           go : RuleParts qs other (Ok o) → (r ∷ [] ≡ qs) × (Some missing ≡ other)
           go (inl (e', v, p, q)) = absurd (no_parts_fault o r e' a v)
-          go (inr (q, c, p)) = let m = subst (Behind qs other q) b p in
+          go (inr (q, c, p)) = let m = subst (Following qs other q) b p in
               (ap (λ x. x ∷ []) (same_rule o r q a c) ∙ sym m.0, sym m.1)
       same_rules (separated f rest o r rs fault e a b s) qs other t =
           go (λ ps u. same_rules s ps other u) (at_rule_trees f qs other o t e)
@@ -260,7 +260,7 @@ module _ (HasEdition : SyntaxContext → Edition → Type 0) where
               → RuleParts qs other (Ok o) → (r ∷ rs ≡ qs) × (fault ≡ other)
           go more (inl (e', v, p, q)) = absurd (no_parts_fault o r e' a v)
           go more (inr (q, c, p)) =
-              let m = subst (Behind qs other q) b p in
+              let m = subst (Following qs other q) b p in
               let n = more m.0 m.1 in
               (ap (λ x. x ∷ rs) (same_rule o r q a c) ∙ ap (λ x. q ∷ x) n.0 ∙ sym m.2, n.1)
 

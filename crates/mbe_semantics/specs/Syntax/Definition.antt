@@ -69,10 +69,10 @@ rule_trees_at (leaf (ident i) rest) = if is_text i.sym (codes "unsafe") then sty
 rule_trees_at f = style_at f
 
 -- the trees of the next rules, where a separating char or the end follows
-abbrev pub behind_separator : List ℕ → Forest → Option Forest
-behind_separator chars none = Some none
-behind_separator chars (leaf (punct p) rest) = if list_any (λ c. p.char == c) chars then Some rest else None
-behind_separator chars _ = None
+abbrev pub after_separator : List ℕ → Forest → Option Forest
+after_separator chars none = Some none
+after_separator chars (leaf (punct p) rest) = if list_any (λ c. p.char == c) chars then Some rest else None
+after_separator chars _ = None
 
 -- a refused pattern goes over any earlier fault
 abbrev pub with_refusal : List Rule → Option Fault → Option Fault
@@ -99,10 +99,10 @@ module _ (HasEdition : SyntaxContext → Edition → Type 0) where
     faulty_rule : (f : Forest) (o : RuleTrees) (fault : Fault) →
         rule_trees_at f ≡ Ok o → PartsFault o fault → Rules separators missing f [] (Some fault)
     unseparated : (f : Forest) (o : RuleTrees) (r : Rule) →
-        rule_trees_at f ≡ Ok o → AreParts o r → behind_separator separators o.back ≡ None →
+        rule_trees_at f ≡ Ok o → AreParts o r → after_separator separators o.back ≡ None →
         Rules separators missing f (r ∷ []) (Some missing)
     separated : (f rest : Forest) (o : RuleTrees) (r : Rule) (rs : List Rule) (fault : Option Fault) →
-        rule_trees_at f ≡ Ok o → AreParts o r → behind_separator separators o.back ≡ Some rest →
+        rule_trees_at f ≡ Ok o → AreParts o r → after_separator separators o.back ≡ Some rest →
         Rules separators missing rest rs fault → Rules separators missing f (r ∷ rs) fault
 
   -- what `macro_rules` makes of its trees

@@ -106,10 +106,10 @@ depth_of (leaf (literal l) none) = if is_plain l then decimal_value (literal_tex
 depth_of _ = None
 
 -- `, d`, or nothing
-abbrev pub depth_behind_comma : Forest → Option ℕ
-depth_behind_comma none = Some 0
-depth_behind_comma (leaf (punct p) rest) = if p.char == 44 then depth_of rest else None
-depth_behind_comma _ = None
+abbrev pub depth_after_comma : Forest → Option ℕ
+depth_after_comma none = Some 0
+depth_after_comma (leaf (punct p) rest) = if p.char == 44 then depth_of rest else None
+depth_after_comma _ = None
 
 -- one element more at the front
 abbrev pub element_before : Element → Option (List Element) → Option (List Element)
@@ -119,16 +119,16 @@ element_before e more = option_map (λ es. e ∷ es) more
 abbrev mutual
   pub elements_of : Forest → Option (List Element)
   elements_of none = Some []
-  elements_of (leaf (literal l) rest) = element_before (literal_element l) (elements_behind_comma rest)
-  elements_of (leaf (ident i) rest) = element_before (ident_element i) (elements_behind_comma rest)
+  elements_of (leaf (literal l) rest) = element_before (literal_element l) (elements_after_comma rest)
+  elements_of (leaf (ident i) rest) = element_before (ident_element i) (elements_after_comma rest)
   elements_of (leaf (punct p) (leaf (ident i) rest)) =
-      if p.char == 36 then element_before (variable_element i) (elements_behind_comma rest) else None
+      if p.char == 36 then element_before (variable_element i) (elements_after_comma rest) else None
   elements_of _ = None
 
-  pub elements_behind_comma : Forest → Option (List Element)
-  elements_behind_comma none = Some []
-  elements_behind_comma (leaf (punct p) rest) = if p.char == 44 then elements_of rest else None
-  elements_behind_comma _ = None
+  pub elements_after_comma : Forest → Option (List Element)
+  elements_after_comma none = Some []
+  elements_after_comma (leaf (punct p) rest) = if p.char == 44 then elements_of rest else None
+  elements_after_comma _ = None
 
 -- `concat` wants at least two elements
 abbrev pub if_two : Span → List Element → Option Expression
@@ -140,7 +140,7 @@ ignore_of f = option_and_then (λ x. if_end x.1 (ops.ignore (x.0).sym (x.0).span
 
 -- the arguments of `count`: `$x` or `$x, d`
 abbrev pub count_of : Forest → Option Expression
-count_of f = option_and_then (λ x. option_map (ops.count (x.0).sym) (depth_behind_comma x.1)) (dollar_name f)
+count_of f = option_and_then (λ x. option_map (ops.count (x.0).sym) (depth_after_comma x.1)) (dollar_name f)
 
 -- the arguments of `concat`, which is at that span
 abbrev pub concat_of : Span → Forest → Option Expression
@@ -216,25 +216,25 @@ expression_at template rest (Some e) = Ok (one (ops.expression e) rest)
 expression_at template rest None = Err (unexpected_token (codes "invalid metavariable expression"))
 
 -- a repetition, a metavariable expression, or a fault
-abbrev pub group_behind_dollar : Mode → DelimiterKind → Forest → Forest → Result Head Fault
-group_behind_dollar mode delimiters.Parenthesis inside rest = repetition_at inside (suffix_of rest)
-group_behind_dollar mode delimiters.Brace inside rest = expression_at mode rest (expression_of inside)
-group_behind_dollar mode _ inside rest = Err (expected (codes "expected `$()` repetition or `${}` expression"))
+abbrev pub group_after_dollar : Mode → DelimiterKind → Forest → Forest → Result Head Fault
+group_after_dollar mode delimiters.Parenthesis inside rest = repetition_at inside (suffix_of rest)
+group_after_dollar mode delimiters.Brace inside rest = expression_at mode rest (expression_of inside)
+group_after_dollar mode _ inside rest = Err (expected (codes "expected `$()` repetition or `${}` expression"))
 
 -- `$crate`, with the span of `crate`
 abbrev pub dollar_crate : Ident → Op
 dollar_crate i = ops.token (ops.ident (record i { sym = codes "$crate"; is_raw = raw.No }))
 
 -- what `$` and the tree after it are; a `$` at the end is a punct
-abbrev pub behind_dollar : Mode → Punct → Forest → Result Head Fault
-behind_dollar mode p none = Ok (one (ops.token (ops.puncts (p ∷ []))) none)
-behind_dollar mode p (group d inside rest) = group_behind_dollar mode d.kind inside rest
-behind_dollar mode p (leaf (ident i) rest) =
+abbrev pub after_dollar : Mode → Punct → Forest → Result Head Fault
+after_dollar mode p none = Ok (one (ops.token (ops.puncts (p ∷ []))) none)
+after_dollar mode p (group d inside rest) = group_after_dollar mode d.kind inside rest
+after_dollar mode p (leaf (ident i) rest) =
     if is_text i.sym (codes "crate") then Ok (one (dollar_crate i) rest) else variable_at mode i.sym i.span rest
-behind_dollar mode p (leaf (literal l) rest) =
+after_dollar mode p (leaf (literal l) rest) =
     if is_truth l.text_and_suffix
     then variable_at mode l.text_and_suffix l.span rest else Err (expected (codes "expected ident"))
-behind_dollar mode p (leaf (punct q) rest) =
+after_dollar mode p (leaf (punct q) rest) =
     if q.char == 36 then second_dollar mode q rest else Err (expected (codes "expected ident"))
 
 -- the puncts that are taken together
@@ -247,7 +247,7 @@ head mode none = Ok ended
 head mode (group d inside rest) = Ok (opens_group d inside rest)
 head mode (leaf (literal l) rest) = Ok (one (ops.token (ops.literal l)) rest)
 head mode (leaf (ident i) rest) = Ok (one (ops.token (ops.ident i)) rest)
-head mode (leaf (punct p) rest) = if p.char == 36 then behind_dollar mode p rest else Ok
+head mode (leaf (punct p) rest) = if p.char == 36 then after_dollar mode p rest else Ok
     (puncts_at (leaf (punct p) rest))
 
 -- ---- specifiers
@@ -308,13 +308,13 @@ module _ (HasEdition : SyntaxContext → Edition → Type 0) where
     in_repetition : (f inside rest : Forest) (separator : Option Separator) (repeat : RepeatKind) →
         head mode f ≡ Ok (opens_repetition separator repeat inside rest) → TemplateFault mode fault inside
         → TemplateFault mode fault f
-    behind_token : (f rest : Forest) (o : Op) →
+    after_token : (f rest : Forest) (o : Op) →
         head mode f ≡ Ok (one o rest) → TemplateFault mode fault rest → TemplateFault mode fault f
-    behind_variable : (f rest : Forest) (name : Name) (span : Span) (specifier : Ident) →
+    after_variable : (f rest : Forest) (name : Name) (span : Span) (specifier : Ident) →
         head mode f ≡ Ok (typed name span specifier rest) → TemplateFault mode fault rest → TemplateFault mode fault f
-    behind_group : (f inside rest : Forest) (d : Delimiter) (body : Ops) →
+    following_group : (f inside rest : Forest) (d : Delimiter) (body : Ops) →
         head mode f ≡ Ok (opens_group d inside rest) → Template mode inside body →
         TemplateFault mode fault rest → TemplateFault mode fault f
-    behind_repetition : (f inside rest : Forest) (separator : Option Separator) (repeat : RepeatKind) (body : Ops) →
+    after_repetition : (f inside rest : Forest) (separator : Option Separator) (repeat : RepeatKind) (body : Ops) →
         head mode f ≡ Ok (opens_repetition separator repeat inside rest) → Template mode inside body →
         TemplateFault mode fault rest → TemplateFault mode fault f

@@ -4,7 +4,7 @@ use Rattle.std.proofs.Common.{arith, ap, sym, ◌∙◌}
 use Rattle.std.proofs.lemmas.Bool.{lt-leb, le-leb}
 use Rattle.mbe_tt.specs.declared.tt.Delimiter.{Delimiter}
 use Rattle.mbe_tt.specs.Trees.Tree.{Forest, none, leaf, group, append, flat_len, rest_at, depth_at}
-use Rattle.mbe_tt.specs.Laws.TreeLaws.{RestBehindTrees, RestInGroup}
+use Rattle.mbe_tt.specs.Laws.TreeLaws.{RestAfterTrees, RestInGroup}
 use Rattle.mbe_tt.proofs.Places.CutLemmas.{no_true}
 
 -- h is what is left of f after some trees
@@ -55,9 +55,9 @@ if_le n m x y h = ap (λ (b : Bool). if b then x else y) (le-leb n m h)
 if_gt : {A : Type 0} (n m : ℕ) (x y : A) → m + 1 ≤ n → (if nat_le n m then x else y) ≡ y
 if_gt n m x y h = ap (λ (b : Bool). if b then x else y) (lt-leb n m (omega (arith, h)))
 
-pub rest_at-behind_group : (d : Delimiter) (inside rest : Forest) (n : ℕ) → flat_len inside + 1 ≤ n
+pub rest_at-following_group : (d : Delimiter) (inside rest : Forest) (n : ℕ) → flat_len inside + 1 ≤ n
     → rest_at (group d inside rest) (suc n) ≡ rest_at rest (n - flat_len inside - 1)
-rest_at-behind_group d inside rest n h = if_gt n (flat_len inside) _ _ h
+rest_at-following_group d inside rest n h = if_gt n (flat_len inside) _ _ h
 
 pub rest_at-in_group : (d : Delimiter) (inside rest : Forest) (n : ℕ) → n ≤ flat_len inside
     → rest_at (group d inside rest) (suc n) ≡ rest_at inside n
@@ -67,9 +67,9 @@ pub depth_at-in_group : (d : Delimiter) (inside rest : Forest) (n : ℕ) → n �
     → depth_at (group d inside rest) (suc n) ≡ 1 + depth_at inside n
 depth_at-in_group d inside rest n h = if_le n (flat_len inside) _ _ h
 
-pub depth_at-behind_group : (d : Delimiter) (inside rest : Forest) (n : ℕ) → flat_len inside + 1 ≤ n
+pub depth_at-following_group : (d : Delimiter) (inside rest : Forest) (n : ℕ) → flat_len inside + 1 ≤ n
     → depth_at (group d inside rest) (suc n) ≡ depth_at rest (n - flat_len inside - 1)
-depth_at-behind_group d inside rest n h = if_gt n (flat_len inside) _ _ h
+depth_at-following_group d inside rest n h = if_gt n (flat_len inside) _ _ h
 
 pub rest_at-zero : (f : Forest) → rest_at f 0 ≡ f
 rest_at-zero none = refl
@@ -81,8 +81,8 @@ depth_at-zero none = refl
 depth_at-zero (leaf l rest) = refl
 depth_at-zero (group d inside rest) = refl
 
-pub rest_behind_trees : RestBehindTrees
-rest_behind_trees trees back n = rest_at-append trees back n (flat_len trees + n) refl
+pub rest_after_trees : RestAfterTrees
+rest_after_trees trees back n = rest_at-append trees back n (flat_len trees + n) refl
 
 pub rest_in_group : RestInGroup
 rest_in_group d inside rest n h = rest_at-group d inside rest n (1 + n) h refl

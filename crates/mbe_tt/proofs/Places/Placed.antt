@@ -8,7 +8,7 @@ use Rattle.mbe_tt.specs.Buffers.Place.{Rests, step, walk, rests, closings, spell
 use Rattle.mbe_tt.specs.Views.Entry.{Entry}
 use Rattle.mbe_tt.specs.Views.Entry.{Leaf, Open, Close}
 use Rattle.std.proofs.lemmas.Bool.{cases_lt}
-use Rattle.mbe_tt.proofs.Places.PlaceLemmas.{rest_at-zero, rest_at-in_group, rest_at-behind_group, depth_at-in_group, depth_at-behind_group}
+use Rattle.mbe_tt.proofs.Places.PlaceLemmas.{rest_at-zero, rest_at-in_group, rest_at-following_group, depth_at-in_group, depth_at-following_group}
 use Rattle.mbe_tt.proofs.Buffers.Spelled.{length-spell, spell-append, take_front}
 
 spell_rests-step : (f : Forest) (around : List Forest) → drop 1 (spell_rests (f, around)) ≡ spell_rests (step f around)
@@ -128,7 +128,7 @@ rest_at-walk (group d inside rest) around (suc n) h =
       | inl le ↦ rest_at-walk inside (rest ∷ around) n le ∙ sym (rest_at-in_group d inside rest n le)
       | inr e ↦ ap (λ (r : Rests). r.0) (past_group inside rest around n (n - flat_len inside - 1) e)
           ∙ (rest_at-walk rest around (n - flat_len inside - 1) (omega arith)
-          ∙ sym (rest_at-behind_group d inside rest n (omega arith)))
+          ∙ sym (rest_at-following_group d inside rest n (omega arith)))
     ]
 
 -- as many groups are left around a place as the definition counts
@@ -146,7 +146,7 @@ depth_at-walk (group d inside rest) around (suc n) h =
           omega (arith, e, k))
       | inr past ↦ (let m : ℕ = n - flat_len inside - 1 in
           let e = depth_at-walk rest around m (omega arith) in
-          let k = depth_at-behind_group d inside rest n (omega arith) in
+          let k = depth_at-following_group d inside rest n (omega arith) in
           let w = ap (λ (r : Rests). length r.1) (past_group inside rest around n m past) in
           omega (arith, e, k, w))
     ]

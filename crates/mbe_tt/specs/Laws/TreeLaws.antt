@@ -28,8 +28,8 @@ pub record ShortestCut : Type 0 where
       → flat_len (cut_flat n f).front ≤ flat_len c.front
 
 -- what is left after some trees doesn't depend on these
-abbrev pub RestBehindTrees : Type 0
-RestBehindTrees = (trees back : Forest) (n : ℕ) → rest_at (append trees back) (flat_len trees + n) ≡ rest_at back n
+abbrev pub RestAfterTrees : Type 0
+RestAfterTrees = (trees back : Forest) (n : ℕ) → rest_at (append trees back) (flat_len trees + n) ≡ rest_at back n
 
 -- after an opening is what is left of the group's content
 abbrev pub RestInGroup : Type 0

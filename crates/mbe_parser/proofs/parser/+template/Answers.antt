@@ -134,16 +134,16 @@ template_within-trees-preserved g t c =
 pub op_at_punct-returns-then-punct-eq36-clause-op : goal.op_at_punct-returns-then-punct-eq36-clause-op
 op_at_punct-returns-then-punct-eq36-clause-op g t c =
     let at = first_tree c.args.src.now c.next-dollar.new.self _ (sym c.requires.peeked) c.next-dollar.ensures.rest in
-    lemmas.head_op _ c.behind_dollar.result (mode_of c.args.mode) c.args.src.now c.behind_dollar.new.src _
+    lemmas.head_op _ c.after_dollar.result (mode_of c.args.mode) c.args.src.now c.after_dollar.new.src _
     (lemmas.dollar_head (mode_of c.args.mode) c.args.src.now c.next-dollar.new.self c.args.punct at
-    c.if-punct-eq36.true) c.behind_dollar.ensures.op
+    c.if-punct-eq36.true) c.after_dollar.ensures.op
 
 pub op_at_punct-returns-then-punct-eq36-clause-fault : goal.op_at_punct-returns-then-punct-eq36-clause-fault
 op_at_punct-returns-then-punct-eq36-clause-fault g t c =
     let at = first_tree c.args.src.now c.next-dollar.new.self _ (sym c.requires.peeked) c.next-dollar.ensures.rest in
-    lemmas.head_fault _ c.behind_dollar.result (mode_of c.args.mode) c.args.src.now _
+    lemmas.head_fault _ c.after_dollar.result (mode_of c.args.mode) c.args.src.now _
     (lemmas.dollar_head (mode_of c.args.mode) c.args.src.now c.next-dollar.new.self c.args.punct at
-    c.if-punct-eq36.true) c.behind_dollar.ensures.fault
+    c.if-punct-eq36.true) c.after_dollar.ensures.fault
 
 pub op_at_punct-returns-clause-op : goal.op_at_punct-returns-clause-op
 op_at_punct-returns-clause-op g t c =
@@ -160,21 +160,21 @@ op_at_punct-returns-clause-shorter g t c =
     let at = first_tree f _ _ (sym c.requires.peeked) (sym (lemmas.behind f)) in
     puncts_longer f _ c.expect_glued_punct.new.self c.args.punct at c.in-Ok.ensures.rest
 
-pub behind_dollar-returns-in-Leaf-clause-op : goal.behind_dollar-returns-in-Leaf-clause-op
-behind_dollar-returns-in-Leaf-clause-op g t c =
+pub after_dollar-returns-in-Leaf-clause-op : goal.after_dollar-returns-in-Leaf-clause-op
+after_dollar-returns-in-Leaf-clause-op g t c =
     let front : Some (Leaf_tree (leaf_of c.in-Leaf.leaf.now)) ≡ first c.args.src.now = search rules in
     let at = first_tree c.args.src.now c.next.new.self _ front c.next.ensures.rest in
-    lemmas.leaf_op _ (mode_of c.args.mode) c.leaf_behind_dollar.result c.args.dollar c.args.src.now c.next.new.self _
+    lemmas.leaf_op _ (mode_of c.args.mode) c.leaf_after_dollar.result c.args.dollar c.args.src.now c.next.new.self _
     (leaf_of c.in-Leaf.leaf.now) at
-    c.leaf_behind_dollar.ensures.op
+    c.leaf_after_dollar.ensures.op
 
-pub behind_dollar-returns-in-Leaf-clause-fault : goal.behind_dollar-returns-in-Leaf-clause-fault
-behind_dollar-returns-in-Leaf-clause-fault g t c =
+pub after_dollar-returns-in-Leaf-clause-fault : goal.after_dollar-returns-in-Leaf-clause-fault
+after_dollar-returns-in-Leaf-clause-fault g t c =
     let front : Some (Leaf_tree (leaf_of c.in-Leaf.leaf.now)) ≡ first c.args.src.now = search rules in
     let at = first_tree c.args.src.now c.next.new.self _ front c.next.ensures.rest in
-    lemmas.leaf_fault _ (mode_of c.args.mode) c.leaf_behind_dollar.result c.args.dollar c.args.src.now c.next.new.self
+    lemmas.leaf_fault _ (mode_of c.args.mode) c.leaf_after_dollar.result c.args.dollar c.args.src.now c.next.new.self
     (leaf_of c.in-Leaf.leaf.now) at
-    c.leaf_behind_dollar.ensures.fault
+    c.leaf_after_dollar.ensures.fault
 
 pub repetition-returns-clause-op : goal.repetition-returns-clause-op
 repetition-returns-clause-op g t c =

@@ -1,6 +1,6 @@
 use Rattle.std.proofs.Common.{◌≡◌, ap, sym, ◌∙◌}
 use Rattle.mbe_semantics.specs.Syntax.Definition.{style_at, styled_at, pattern_at}
-use Rattle.mbe_parser.proofs.RuleTreeLemmas.{after_unsafe, after_attr, after_derive, after_nothing, behind_group, no_group}
+use Rattle.mbe_parser.proofs.RuleTreeLemmas.{after_unsafe, after_attr, after_derive, after_nothing, following_group, no_group}
 use Rattle.mbe_parser.proofs.rules.parse_rule_style.Goals as goal
 use Rattle.mbe_parser.proofs.rules.parse_rule_style.Goals.{then-eat_word, else-eat_word+then-eat_word-2}
 
@@ -48,5 +48,5 @@ returns g c =
     ] in
     after_unsafe c.eat_word-unsafe.result c.args.src.now c.eat_word-unsafe.new.src c.eat_word-unsafe.ensures.value
     c.eat_word-unsafe.ensures.rest
-    ∙ (styled ∙ (behind_group c.if-eat_word.style c.if-eat_word.src _ (sym c.in-Ok.ensures.value)
+    ∙ (styled ∙ (following_group c.if-eat_word.style c.if-eat_word.src _ (sym c.in-Ok.ensures.value)
     ∙ ap (pattern_at c.if-eat_word.style) (sym c.in-Ok.ensures.rest)))

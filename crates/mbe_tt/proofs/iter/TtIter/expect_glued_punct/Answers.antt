@@ -9,8 +9,8 @@ returns-in-Some-next_third-clause-value g c =
     record {
       first = c.in_ok-first.ensures.value;
       second = c.in-Some.ensures.value;
-      behind_first = c.iter-ahead.ensures ∙ (c.remaining.ensures ∙ c.in_ok-first.ensures.rest);
-      behind_second = c.iter-beyond.ensures ∙ (c.remaining-2.ensures ∙ c.in-Some.ensures.rest);
+      past_first = c.iter-ahead.ensures ∙ (c.remaining.ensures ∙ c.in_ok-first.ensures.rest);
+      after_second = c.iter-beyond.ensures ∙ (c.remaining-2.ensures ∙ c.in-Some.ensures.rest);
     } in
     (three_glued _ _ _ c.next_third.new.self _ _ _ _ h c.in-Some-next_third.ensures.value
     c.in-Some-next_third.ensures.rest
@@ -26,8 +26,8 @@ returns-in-Some-next_third-clause-rest g c =
     record {
       first = c.in_ok-first.ensures.value;
       second = c.in-Some.ensures.value;
-      behind_first = c.iter-ahead.ensures ∙ (c.remaining.ensures ∙ c.in_ok-first.ensures.rest);
-      behind_second = c.iter-beyond.ensures ∙ (c.remaining-2.ensures ∙ c.in-Some.ensures.rest);
+      past_first = c.iter-ahead.ensures ∙ (c.remaining.ensures ∙ c.in_ok-first.ensures.rest);
+      after_second = c.iter-beyond.ensures ∙ (c.remaining-2.ensures ∙ c.in-Some.ensures.rest);
     } in
     (three_glued _ _ _ c.next_third.new.self _ _ _ _ h c.in-Some-next_third.ensures.value
     c.in-Some-next_third.ensures.rest
@@ -43,8 +43,8 @@ returns-clause-value g c =
     record {
       first = c.in_ok-first.ensures.value;
       second = c.in-Some.ensures.value;
-      behind_first = c.iter-ahead.ensures ∙ (c.remaining.ensures ∙ c.in_ok-first.ensures.rest);
-      behind_second = c.iter-beyond.ensures ∙ (c.remaining-2.ensures ∙ c.in-Some.ensures.rest);
+      past_first = c.iter-ahead.ensures ∙ (c.remaining.ensures ∙ c.in_ok-first.ensures.rest);
+      after_second = c.iter-beyond.ensures ∙ (c.remaining-2.ensures ∙ c.in-Some.ensures.rest);
     } in
     let one : c.push.new.self.items ≡ c.in_ok-first.field-0.now ∷ [] =
     c.push.ensures.items ∙ ap (λ xs. xs ++ c.in_ok-first.field-0.now ∷ []) c.new-glued.ensures in
@@ -67,8 +67,8 @@ returns-clause-rest g c =
     record {
       first = c.in_ok-first.ensures.value;
       second = c.in-Some.ensures.value;
-      behind_first = c.iter-ahead.ensures ∙ (c.remaining.ensures ∙ c.in_ok-first.ensures.rest);
-      behind_second = c.iter-beyond.ensures ∙ (c.remaining-2.ensures ∙ c.in-Some.ensures.rest);
+      past_first = c.iter-ahead.ensures ∙ (c.remaining.ensures ∙ c.in_ok-first.ensures.rest);
+      after_second = c.iter-beyond.ensures ∙ (c.remaining-2.ensures ∙ c.in-Some.ensures.rest);
     } in
     let one : c.push.new.self.items ≡ c.in_ok-first.field-0.now ∷ [] =
     c.push.ensures.items ∙ ap (λ xs. xs ++ c.in_ok-first.field-0.now ∷ []) c.new-glued.ensures in
