@@ -83,6 +83,30 @@ static COMMENTS: [(&str, &str); 14] = [
     ("a~/// b\n", "a\n/// b\n"),
 ];
 
+// Dots beside numbers and other literals, where a number could go on, and lifetimes beside puncts. In 2021.
+static DOTS: [(&str, &str); 20] = [
+    ("1 .a", "1 .a"),
+    ("1. a", "1. a"),
+    ("1..2", "1..2"),
+    ("1..=2", "1..=2"),
+    ("1 ..2", "1 ..2"),
+    ("1. .2", "1. .2"),
+    ("1.0.1", "1.0.1"),
+    ("1u8.0", "1u8.0"),
+    ("a.0.1", "a.0.1"),
+    ("a.0 .1", "a.0 .1"),
+    ("(a).0.b", "(a).0.b"),
+    ("1.r\"a\"", "1.r\"a\""),
+    ("\"a\".0", "\"a\".0"),
+    ("'a'.(b)", "'a'.(b)"),
+    ("b'a' .b", "b'a' .b"),
+    ("r#\"a\"#.b", "r#\"a\"#.b"),
+    ("1e5.a", "1e5.a"),
+    ("+'a", "+'a"),
+    ("+ 'a", "+ 'a"),
+    ("&'r#a", "&'r#a"),
+];
+
 // Each row's texts as one text.
 fn are_written(
     rt: &impl Abort,
@@ -112,6 +136,11 @@ fn comments_are_comments(rt: HostRuntime) -> Result<(), Fail> {
         Dialect::Rust(Edition::Edition2021),
         &COMMENTS,
     )
+}
+
+#[test]
+fn dots_stay(rt: HostRuntime) -> Result<(), Fail> {
+    are_written(&rt, rt.alloc(), Dialect::Rust(Edition::Edition2021), &DOTS)
 }
 
 // `1.a` is three tokens, of which the first two, before a group of another file, would be the number `1.`.

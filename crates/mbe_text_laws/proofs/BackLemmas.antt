@@ -626,10 +626,6 @@ alone_no_head : (c : ℕ) (cs : List ℕ) → c < 128 → ends_alone c cs ≡ tr
 alone_no_head c [] small h = grind (arith, nat_tests)
 alone_no_head c (d ∷ cs) small h = grind (arith, nat_tests, h)
 
--- a joint `#` is apart from the text's start
-hash_at_start : (c : ℕ) → (c == 35) ≡ true → ((true && c == 35) && not (false && true)) ≡ false → ⊥
-hash_at_start c h k = grind (arith, nat_tests, h, k)
-
 punct_no_head : (e : Edition) (depth c : ℕ) (sp : Spacing) (place : Span) (ts : List FlatToken) (hash : Bool)
     → (c == 35) ≡ hash → c < 128
     → IsPunct e (record { char = c; spacing = sp; span = place }) ts → AreRust e ts

@@ -29,9 +29,6 @@ ends_punct rest = not (begins_punct rest)
 
 -- ---- classes
 
-start_is_ascii : (c : ℕ) → c < 128 → is_start c ≡ true → is_punct c ≡ false
-start_is_ascii c small h = let a = is_xid_start-ascii c small in grind (arith, nat_tests)
-
 pub punct_small : (c : ℕ) → is_punct c ≡ true → c < 128
 punct_small c h = grind (arith, nat_tests, h)
 
@@ -64,10 +61,6 @@ gap_ends_word (c ∷ cs) h = let b = blank_not_continue c h in grind (arith, nat
 pub gap_ends_literal : (cs : List ℕ) → begins_gap cs ≡ true → ends_literal cs ≡ true
 gap_ends_literal [] h = refl
 gap_ends_literal (c ∷ cs) h = let b = blank_not_continue c h in grind (arith, nat_tests, b, h)
-
-pub gap_ends_punct : (cs : List ℕ) → begins_gap cs ≡ true → ends_punct cs ≡ true
-gap_ends_punct [] h = refl
-gap_ends_punct (c ∷ cs) h = grind (arith, nat_tests, h)
 
 is_other : (c d : ℕ) → is_start d ≡ false → is_start c ≡ true → (c == d) ≡ false
 is_other c d out in_it = grind (arith, nat_tests, out, in_it)

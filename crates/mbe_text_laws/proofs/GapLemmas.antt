@@ -37,7 +37,8 @@ four_spaces dialect total cs =
     ∙ (space dialect total (32 ∷ cs) ∙ space dialect total cs))
 
 indented : (dialect : Dialect) (total depth : ℕ) (cs : List ℕ)
-    → past_blanks dialect total (length (indent depth ++ cs)) (indent depth ++ cs) ≡ past_blanks dialect total (length cs) cs
+    → past_blanks dialect total (length (indent depth ++ cs)) (indent depth ++ cs)
+    ≡ past_blanks dialect total (length cs) cs
 unfolding indent
 indented dialect total zero cs = refl
 indented dialect total (suc depth) cs =
@@ -73,7 +74,8 @@ unfolding indent
 indent_is_ascii zero = nothing_is_ascii
 indent_is_ascii (suc depth) =
     let cs = indent depth in
-    one_space (32 ∷ (32 ∷ (32 ∷ cs))) (one_space (32 ∷ (32 ∷ cs)) (one_space (32 ∷ cs) (one_space cs (indent_is_ascii depth))))
+    one_space (32 ∷ (32 ∷ (32 ∷ cs))) (one_space (32 ∷ (32 ∷ cs))
+    (one_space (32 ∷ cs) (one_space cs (indent_is_ascii depth))))
 
 pub gap_is_ascii : (depth : ℕ) (line apart beside : Bool) → IsAscii (before line apart beside depth)
 gap_is_ascii depth true apart beside = one_more 10 (indent depth) (omega arith) (indent_is_ascii depth)

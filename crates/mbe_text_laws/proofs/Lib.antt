@@ -1,12 +1,15 @@
 pub mod BackLemmas
 pub mod BareLemmas
+pub mod CharLemmas
 pub mod CommentLemmas
 pub mod DocLemmas
 pub mod EndLemmas
 pub mod FollowLemmas
 pub mod GapLemmas
 pub mod NextLemmas
+pub mod NumberLemmas
 pub mod QuoteLemmas
+pub mod RawLemmas
 pub mod ReadLemmas
 pub mod StepLemmas
 pub mod TextLemmas

@@ -1,5 +1,5 @@
 -- Literals and puncts, before what is written after them.
-use Rattle.std.proofs.Common.{◌≡◌, ℕ, ◌==◌, ◌<◌, not, ◌&&◌, ◌||◌, Bool, true, false, List, [], ◌∷◌, ◌++◌, refl, sym, ap, ◌∙◌, arith, codes, Some, chars, encode_utf8, subst}
+use Rattle.std.proofs.Common.{◌≡◌, ℕ, ◌==◌, ◌<◌, ◌⊎◌, inl, inr, not, ◌&&◌, ◌||◌, Bool, true, false, List, [], ◌∷◌, ◌++◌, refl, sym, ap, ◌∙◌, arith, codes, Some, chars, encode_utf8, subst}
 use Rattle.std.proofs.lemmas.Bool.Decides.{nat_tests}
 use Rattle.unicode_ident.specs.Ident.{is_xid_continue}
 use Rattle.unicode_ident.proofs.IdentLemmas.{is_xid_continue-ascii}
@@ -10,6 +10,7 @@ use Rattle.mbe_tt.specs.declared.tt.Spacing.{Spacing}
 use Rattle.mbe_tt.specs.declared.tt.Spacing.TheVariants.{Alone, Joint}
 use Rattle.mbe_tt.specs.Trees.Editions.{at_least_2024}
 use Rattle.mbe_tt.specs.Trees.Leaf.{Literal, literal, punct, ident}
+use Rattle.mbe_tt.specs.Trees.Literals.{literal_output}
 use Rattle.mbe_tt.specs.Trees.Tree.{FlatToken, token, opening, closing}
 use Rattle.mbe_rust_text.specs.Gaps.{is_one_of, is_beside, is_before, are_beside, is_same_place}
 use Rattle.mbe_rust_text.specs.Writing.{State, a_literal, a_punct}
@@ -19,7 +20,7 @@ use Rattle.mbe_text.specs.Rust.{is_guard}
 use Rattle.mbe_text.specs.Signs.{spacing_before}
 use Rattle.mbe_text.specs.Tokens.{opening_text, closing_text}
 use Rattle.mbe_text_laws.specs.Gaps.{before, is_punct}
-use Rattle.mbe_text_laws.specs.Rust.{next_place, AreRust, IsSign, IsPunct, IsBeforeDot, IsLiteral, IsReadBefore, goes_on, make_another, is_start, begins_word, begins_field, ends_literal}
+use Rattle.mbe_text_laws.specs.Rust.{next_place, AreRust, IsSign, IsPunct, IsBeforeDot, IsLiteral, IsReadBefore, MayHaveFields, MayPrecedeDots, goes_on, make_another, is_start, begins_word, begins_field, ends_literal}
 use Rattle.mbe_text_laws.proofs.EndLemmas.{gap_ends_literal, punct_not_continue}
 use Rattle.mbe_text_laws.proofs.CommentLemmas.{no_comment_at}
 use Rattle.mbe_text_laws.proofs.TextLemmas.{spelled, after, ahead, the_gap, gap_of}
@@ -156,6 +157,10 @@ start_goes c cs h = or_true (begins_with (codes ".") (c ∷ cs)) (is_start c) h
     or_true true b h = refl
     or_true false b h = h
 
+text_goes : (cs more : List ℕ) → begins_word cs ≡ true → goes (cs ++ more) ≡ true
+text_goes [] more h = absurd (cc)
+text_goes (c ∷ cs) more h = start_goes c (cs ++ more) h
+
 dot_goes : (c : ℕ) (cs : List ℕ) → (c == 46) ≡ true → goes (c ∷ cs) ≡ true
 dot_goes c cs h = rw h refl
 
@@ -190,7 +195,14 @@ field_next e c Alone place s (token (ident i) ∷ ts) d g h r =
     ∙ word_front goes i more r.0 start_goes
 field_next e c Alone place s [] d g h r = absurd (cc)
 field_next e c Alone place s (token (punct q) ∷ ts) d g h r = absurd (cc)
-field_next e c Alone place s (token (literal l) ∷ ts) d g h r = absurd (cc)
+field_next e c Alone place s (token (literal l) ∷ ts) d g h r =
+    let state = a_punct s (record { char = c; spacing = Alone; span = place }) (Some l.span) in
+    let t = the_gap (token (literal l)) ts state in
+    let more = ahead 0 ts (after (token (literal l)) ts state) in
+    let is = dot_is c d in
+    ap goes (no_line t.line t.apart t.beside s.depth (chars (literal_output l) ++ more) (rw
+    (is.0, is.1) refl) (rw (is.0, is.1) (ap not d)))
+    ∙ text_goes (chars (literal_output l)) more g
 field_next e c Alone place s (opening k ∷ ts) d g h r = absurd (cc)
 field_next e c Alone place s (closing k ∷ ts) d g h r = absurd (cc)
 
@@ -214,6 +226,19 @@ token_ahead : (p : Punct) (ts : List FlatToken) (s : State) → (p.char == 35) �
     (after (token (punct p)) ts s))
 token_ahead p ts s h = rw (no_comment_at p ts s h) refl
 
+-- what follows a literal whose `.` stays
+beside_dot : (e : Edition) (l : Literal) (p : Punct) (s : State) (ts : List FlatToken) (rest : List ℕ)
+    → (p.char == 46) ≡ true → rest ≡ ahead 0 ts (after (token (punct p)) ts (a_literal s l))
+    → AreRust e (token (punct p) ∷ ts) → MayPrecedeDots e l ⊎ (MayHaveFields e l × (goes_on p.spacing ts ≡ true))
+    → IsReadBefore e l (p.char ∷ rest)
+beside_dot e l p s ts rest d is r (inl dots) = dots (p.char ∷ rest) (ap (λ (x : Bool). x && true) d)
+beside_dot e l p s ts rest d is r (inr fields) =
+    let sign : IsSign false e p ts = subst (λ (b : Bool). IsSign b e p ts) (dot_is p.char d).4 r.0 in
+    let field : begins_field (p.char ∷ rest) ≡ true =
+    ap (λ (x : Bool). (x && true) && goes rest) d
+    ∙ (ap goes is ∙ field_next e p.char p.spacing p.span (a_literal s l) ts d fields.1 sign r.1) in
+    fields.0 (p.char ∷ rest) field
+
 literal_dot : (e : Edition) (l : Literal) (p : Punct) (s : State) (ts : List FlatToken) (stays : Bool)
     → (p.char == 46) ≡ true
     → (are_beside l.span p.span && is_before p.span (next_place ts)) ≡ stays
@@ -224,18 +249,14 @@ literal_dot e l p s ts false d n lit dot r =
     (follows_punct ends_literal p ts (a_literal s l) gap_ends_literal refl
     (λ k. absurd (dot_gap p.char (are_beside l.span p.span) (is_before p.span (next_place ts)) d n k)))
 literal_dot e l p s ts true d n lit dot r =
-    let both = dot (ap (λ (x : Bool). x && (are_beside l.span p.span && is_before p.span (next_place ts))) d ∙ n) in
-    let sign : IsSign false e p ts = subst (λ (b : Bool). IsSign b e p ts) (dot_is p.char d).4 r.0 in
     let more = ahead 0 ts (after (token (punct p)) ts (a_literal s l)) in
     let text : ahead 0 (token (punct p) ∷ ts) (a_literal s l) ≡ p.char ∷ more =
     token_ahead p ts (a_literal s l) (dot_is p.char d).5
     ∙ dot_no_gap p.char (are_beside l.span p.span) (is_before p.span (next_place ts)) s.depth (chars
     (encode_utf8 p.char) ++ more) d n
     ∙ ap (λ (x : List ℕ). x ++ more) (is_sign e p ts r.0).one in
-    let field : begins_field (p.char ∷ more) ≡ true =
-    ap (λ (x : Bool). (x && true) && goes more) d ∙ field_next e p.char p.spacing p.span
-    (a_literal s l) ts d both.1 sign r.1 in
-    subst (IsReadBefore e l) (sym text) (both.0 (p.char ∷ more) field)
+    subst (IsReadBefore e l) (sym text) (beside_dot e l p s ts more d refl r
+    (dot (ap (λ (x : Bool). x && (are_beside l.span p.span && is_before p.span (next_place ts))) d ∙ n)))
 
 literal_punct : (e : Edition) (l : Literal) (p : Punct) (s : State) (ts : List FlatToken) (is_dot : Bool)
     → (p.char == 46) ≡ is_dot

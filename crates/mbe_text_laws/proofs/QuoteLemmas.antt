@@ -34,7 +34,7 @@ start_continues c false e h =
     let low : c < 128 = grind (arith, nat_tests, e, h) in
     let a = is_xid_continue-ascii c low in grind (arith, nat_tests, a, e, h)
 
-not_start_of : (c : ℕ) (b : Bool) → is_start c ≡ b → is_xid_continue c ≡ false → is_start c ≡ false
+pub not_start_of : (c : ℕ) (b : Bool) → is_start c ≡ b → is_xid_continue c ≡ false → is_start c ≡ false
 not_start_of c false e h = e
 not_start_of c true e h = absurd (let z : true ≡ false = sym (start_continues c (is_xid_start c) refl e) ∙ h in cc)
 
@@ -66,7 +66,7 @@ abbrev left_of : Token → List ℕ
 left_of (Ok r) = r.1
 left_of (Err at) = []
 
-abbrev shape_of : Shape → Token → Shape
+abbrev pub shape_of : Shape → Token → Shape
 shape_of s (Ok r) = r.0
 shape_of s (Err at) = s
 
@@ -97,7 +97,7 @@ pub record Found (find : List ℕ → Option (List ℕ)) (cs end : List ℕ) : T
   pub is : cs ≡ own ++ (quote ∷ more)
   pub on : (rest : List ℕ) → find (cs ++ rest) ≡ Some (quote ∷ (more ++ rest))
 
-found_more : (find later : List ℕ → Option (List ℕ)) (c : ℕ) (cs end : List ℕ) → ((rest : List ℕ)
+pub found_more : (find later : List ℕ → Option (List ℕ)) (c : ℕ) (cs end : List ℕ) → ((rest : List ℕ)
     → find (c ∷ (cs ++ rest)) ≡ later (cs ++ rest))
     → Found later cs end → Found find (c ∷ cs) end
 found_more find later c cs end same f = record {
@@ -145,16 +145,16 @@ string_found (c ∷ cs) end true h = found_more (from_string_end true) (from_str
 string_found (c ∷ cs) end false h = string_found_at (c == 34) c cs end refl (string_found cs end) h
 
 -- what a check finds is the same, and then the literal
-abbrev checked : Checked → List ℕ → Token → Token
+abbrev pub checked : Checked → List ℕ → Token → Token
 checked (Ok u) end t = t
 checked (Err at) end t = Err (within end at)
 
-checked_is : (c : Checked) (end : List ℕ) (t : Token) (r : Shape × List ℕ) → checked c end t ≡ Ok r
+pub checked_is : (c : Checked) (end : List ℕ) (t : Token) (r : Shape × List ℕ) → checked c end t ≡ Ok r
     → (t ≡ Ok r) × ((d : List ℕ) (u : Token) → checked c d u ≡ u)
 checked_is (Ok u) end t r h = (h, λ d v. refl)
 checked_is (Err at) end t r h = absurd (cc)
 
-front_of : (own end : List ℕ) → front (own ++ end) end ≡ own
+pub front_of : (own end : List ℕ) → front (own ++ end) end ≡ own
 front_of own end =
     let n : length (own ++ end) - length end ≡ length own = omega (arith, length-append own end) in
     ap (λ (k : ℕ). take k (own ++ end)) n ∙ take-append_seam own end
@@ -214,7 +214,7 @@ string_on kind q c cs rest shape h k = string_at kind q c cs rest shape (from_st
 
 -- ---- what a string begins with
 
-abbrev token_of : Token → Option Token → Token
+abbrev pub token_of : Token → Option Token → Token
 token_of other (Some t) = t
 token_of other None = other
 
@@ -235,7 +235,7 @@ byte_case : (e : Edition) (cs rest : List ℕ) (shape : Shape) → read_rust e (
 byte_case e cs rest shape h k = search (string_some, h, k)
 
 -- before 2021 a `c` before a quote is an identifier
-abbrev is_name : Shape → Bool
+abbrev pub is_name : Shape → Bool
 is_name (identifier name raw) = true
 is_name (literal_of text suffix n kind) = false
 is_name (punct_of c sp) = false
@@ -244,7 +244,7 @@ is_name (doc_of text inner) = false
 is_name (opening k) = false
 is_name (closing k) = false
 
-abbrev is_identifier : Token → Bool
+abbrev pub is_identifier : Token → Bool
 is_identifier (Ok r) = is_name r.0
 is_identifier (Err at) = false
 
@@ -262,19 +262,19 @@ c_case Edition2024 cs rest text suffix n kind h k = search (string_some, h, k)
 
 -- ---- literals
 
-one_char : (c : ℕ) (b : List ℕ) → c < 128 → chars (c ∷ b) ≡ c ∷ chars b
+pub one_char : (c : ℕ) (b : List ℕ) → c < 128 → chars (c ∷ b) ≡ c ∷ chars b
 one_char c b small = chars-append (c ∷ []) b (ascii_utf8 c small)
     ∙ ap (λ (x : List ℕ). x ++ chars b) (ascii_chars c small)
 
-two_chars : (c d : ℕ) (b : List ℕ) → c < 128 → d < 128 → chars (c ∷ (d ∷ b)) ≡ c ∷ (d ∷ chars b)
+pub two_chars : (c d : ℕ) (b : List ℕ) → c < 128 → d < 128 → chars (c ∷ (d ∷ b)) ≡ c ∷ (d ∷ chars b)
 two_chars c d b m n = one_char c (d ∷ b) m ∙ ap (λ (x : List ℕ). c ∷ x) (one_char d b n)
 
 -- a text that is read by itself is read before that rest, and begins as literals do
-record Extends (e : Edition) (text rest : List ℕ) (shape : Shape) : Type 0 where
-  begun : begins_literal (chars text) ≡ true
-  read : read_rust e (chars text ++ rest) ≡ Some (Ok (shape, rest))
+pub record Extends (e : Edition) (text rest : List ℕ) (shape : Shape) : Type 0 where
+  pub begun : begins_literal (chars text) ≡ true
+  pub read : read_rust e (chars text ++ rest) ≡ Some (Ok (shape, rest))
 
-extends : (e : Edition) (text cs rest : List ℕ) (shape : Shape) → chars text ≡ cs → begins_literal cs ≡ true
+pub extends : (e : Edition) (text cs rest : List ℕ) (shape : Shape) → chars text ≡ cs → begins_literal cs ≡ true
     → (read_rust e cs ≡ Some (Ok (shape, [])) → read_rust e (cs ++ rest) ≡ Some (Ok (shape, rest)))
     → read_rust e (chars text ++ []) ≡ Some (Ok (shape, [])) → Extends e text rest shape
 extends e text cs rest shape is f go h = record {
@@ -283,14 +283,14 @@ extends e text cs rest shape is f go h = record {
       ∙ go (sym (ap (read_rust e) (append-nil (chars text) ∙ is)) ∙ h);
 }
 
-letter_begins : (c : ℕ) (cs : List ℕ) → is_start c ≡ true → begins_literal (c ∷ cs) ≡ true
+pub letter_begins : (c : ℕ) (cs : List ℕ) → is_start c ≡ true → begins_literal (c ∷ cs) ≡ true
 letter_begins c cs h = rw h refl
 
-b_is_start : is_start 98 ≡ true
+pub b_is_start : is_start 98 ≡ true
 unfolding unicode_ident
 b_is_start = refl
 
-c_is_start : is_start 99 ≡ true
+pub c_is_start : is_start 99 ≡ true
 unfolding unicode_ident
 c_is_start = refl
 
@@ -333,13 +333,19 @@ before_of e l rest i b k = record {
       (marks.closing l.kind ++ marks.literal_suffix l)) rest b.text b.suffix l.suffix_len l.kind i k b.read).read;
 }
 
-ended : (rest : List ℕ) → ends_literal rest ≡ true → continues_word rest ≡ false
+pub ended : (rest : List ℕ) → ends_literal rest ≡ true → continues_word rest ≡ false
 ended [] h = refl
 ended (c ∷ cs) h = grind (arith, nat_tests, h)
 
-field_ended : (rest : List ℕ) → begins_field rest ≡ true → continues_word rest ≡ false
+pub field_ended : (rest : List ℕ) → begins_field rest ≡ true → continues_word rest ≡ false
 field_ended [] h = refl
 field_ended (c ∷ cs) h =
+    let dot : c ≡ 46 = grind (arith, nat_tests, h) in
+    ap is_xid_continue dot ∙ is_xid_continue-ascii 46 (omega arith)
+
+pub dot_ended : (rest : List ℕ) → begins_with (codes ".") rest ≡ true → continues_word rest ≡ false
+dot_ended [] h = refl
+dot_ended (c ∷ cs) h =
     let dot : c ≡ 46 = grind (arith, nat_tests, h) in
     ap is_xid_continue dot ∙ is_xid_continue-ascii 46 (omega arith)
 
@@ -351,5 +357,5 @@ strings_are_read e l i u b = (
         (marks.closing l.kind ++ marks.literal_suffix l)) [] b.text b.suffix l.suffix_len l.kind i refl b.read).begun;
     whole = λ rest h. before_of e l rest i b (ended rest h);
   },
-  λ rest h. before_of e l rest i b (field_ended rest h),
+  λ rest h. before_of e l rest i b (dot_ended rest h),
 )

@@ -1,5 +1,5 @@
 -- Trees come back: those of the text that is written for them are they, without spans.
-use Rattle.std.specs.Prelude.{◌≡◌, ℕ, Bool, true, false, [], Ok}
+use Rattle.std.specs.Prelude.{◌≡◌, ℕ, ◌==◌, Bool, true, false, List, [], ◌∷◌, Ok, chars}
 use Rattle.std.specs.Str.{IsUtf8}
 use Rattle.mbe_tt.specs.declared.span.Edition.{Edition}
 use Rattle.mbe_tt.specs.declared.tt.Delimiter.{Delimiter}
@@ -12,7 +12,7 @@ use Rattle.mbe_tt.specs.Trees.Tree.{Forest, none, leaf, group}
 use Rattle.mbe_rust_text.specs.Writing.{text_of}
 use Rattle.mbe_text.specs.declared.dialect.Dialect.TheVariants.{Rust}
 use Rattle.mbe_text.specs.Division.{trees_of}
-use Rattle.mbe_text_laws.specs.Rust.{IsRust, IsLiteral, IsReadBefore, MayHaveFields}
+use Rattle.mbe_text_laws.specs.Rust.{begins_number, IsRust, IsLiteral, IsReadBefore, MayHaveFields, MayPrecedeDots}
 
 -- ---- without spans
 
@@ -40,7 +40,7 @@ pub record ComesBack (edition : Edition) (file depth : ℕ) (f : Forest) : Type 
 abbrev pub TreesComeBack : Type 0
 TreesComeBack = (edition : Edition) (file depth : ℕ) (f : Forest) → IsRust edition f → ComesBack edition file depth f
 
--- ---- strings
+-- ---- strings and chars
 
 -- a string with escapes
 abbrev pub is_string : LitKind → Bool
@@ -60,4 +60,74 @@ is_string Err = false
 abbrev pub StringsAreRead : Type 0
 StringsAreRead = (edition : Edition) (l : Literal) → is_string l.kind ≡ true → IsUtf8 (literal_output l)
     → IsReadBefore edition l []
-    → IsLiteral edition l × MayHaveFields edition l
+    → IsLiteral edition l × MayPrecedeDots edition l
+
+-- a char or a byte
+abbrev pub is_char : LitKind → Bool
+is_char Char = true
+is_char Byte = true
+is_char Integer = false
+is_char Float = false
+is_char Str = false
+is_char (StrRaw n) = false
+is_char ByteStr = false
+is_char (ByteStrRaw n) = false
+is_char CStr = false
+is_char (CStrRaw n) = false
+is_char Err = false
+
+-- a string without escapes
+abbrev pub is_raw : LitKind → Bool
+is_raw (StrRaw n) = true
+is_raw (ByteStrRaw n) = true
+is_raw (CStrRaw n) = true
+is_raw Byte = false
+is_raw Char = false
+is_raw Integer = false
+is_raw Float = false
+is_raw Str = false
+is_raw ByteStr = false
+is_raw CStr = false
+is_raw Err = false
+
+-- the same of a char or a byte
+abbrev pub CharsAreRead : Type 0
+CharsAreRead = (edition : Edition) (l : Literal) → is_char l.kind ≡ true → IsUtf8 (literal_output l)
+    → IsReadBefore edition l []
+    → IsLiteral edition l × MayPrecedeDots edition l
+
+-- the same of a raw string
+abbrev pub RawStringsAreRead : Type 0
+RawStringsAreRead = (edition : Edition) (l : Literal) → is_raw l.kind ≡ true → IsUtf8 (literal_output l)
+    → IsReadBefore edition l []
+    → IsLiteral edition l × MayPrecedeDots edition l
+
+-- ---- numbers
+
+-- a `.` is last
+abbrev pub ends_with_dot : List ℕ → Bool
+ends_with_dot [] = false
+ends_with_dot (c ∷ []) = c == 46
+ends_with_dot (c ∷ (d ∷ cs)) = ends_with_dot (d ∷ cs)
+
+-- an integer without a suffix
+abbrev pub is_bare_integer : LitKind → ℕ → Bool
+is_bare_integer Integer suffix_len = suffix_len == 0
+is_bare_integer Byte suffix_len = false
+is_bare_integer Char suffix_len = false
+is_bare_integer Float suffix_len = false
+is_bare_integer Str suffix_len = false
+is_bare_integer (StrRaw n) suffix_len = false
+is_bare_integer ByteStr suffix_len = false
+is_bare_integer (ByteStrRaw n) suffix_len = false
+is_bare_integer CStr suffix_len = false
+is_bare_integer (CStrRaw n) suffix_len = false
+is_bare_integer Err suffix_len = false
+
+-- A number that is read whole by itself is a literal. The `.` of a field or a range may follow it, but for `1.`; any `.`
+-- may, where it is no integer without a suffix either.
+abbrev pub NumbersAreRead : Type 0
+NumbersAreRead = (edition : Edition) (l : Literal) → begins_number (chars (literal_output l)) ≡ true
+    → IsUtf8 (literal_output l) → IsReadBefore edition l []
+    → IsLiteral edition l × (ends_with_dot (chars (literal_output l)) ≡ false
+    → MayHaveFields edition l × (is_bare_integer l.kind l.suffix_len ≡ false → MayPrecedeDots edition l))

@@ -1,4 +1,5 @@
--- What stands between two tokens that the writer of Rust text writes, as the lexer reads it. Of a gap the writer asks whether a line begins,
+-- What stands between two tokens that the writer of Rust text writes, as the lexer reads it. Of a gap the writer asks
+-- whether a line begins,
 -- whether the tokens are to be kept apart, and whether they stand side by side in one file.
 use Rattle.std.specs.Prelude.{◌≡◌, ℕ, Bool, true, false, not, ◌&&◌, ◌||◌, List, ◌∷◌, ◌++◌, chars, codes}
 use Rattle.std.specs.Char.{char_set_contains}
@@ -33,4 +34,5 @@ is_punct c = char_set_contains (codes "=<>!&|~@.,;:#$?+-*/%^") c
 
 -- a punct that another one follows is joint, unless a comment begins there
 abbrev pub PunctsJoin : Type 0
-PunctsJoin = (c : ℕ) (cs : List ℕ) → is_punct c ≡ true → begins_comment (c ∷ cs) ≡ false → spacing_before (c ∷ cs) ≡ Joint
+PunctsJoin = (c : ℕ) (cs : List ℕ) → is_punct c ≡ true → begins_comment (c ∷ cs) ≡ false
+    → spacing_before (c ∷ cs) ≡ Joint

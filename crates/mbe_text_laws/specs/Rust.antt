@@ -1,5 +1,5 @@
 -- Which tokens and trees are Rust's in an edition: those of which the text that is written can be read again.
-use Rattle.std.specs.Prelude.{◌≡◌, ◌≢◌, ⊤, ℕ, ◌==◌, Bool, true, false, not, ◌&&◌, ◌||◌, Option, Some, None, List, [], ◌∷◌, ◌++◌, chars, codes, drop, Ok}
+use Rattle.std.specs.Prelude.{◌≡◌, ◌≢◌, ◌⊎◌, ⊤, ℕ, ◌==◌, Bool, true, false, not, ◌&&◌, ◌||◌, Option, Some, None, List, [], ◌∷◌, ◌++◌, chars, codes, drop, Ok}
 use Rattle.std.specs.Str.{IsUtf8}
 use Rattle.std.specs.Char.{is_ascii_digit}
 use Rattle.unicode_ident.specs.Ident.{is_xid_start, is_xid_continue}
@@ -83,7 +83,11 @@ pub record IsLiteral (edition : Edition) (l : Literal) : Type 0 where
   pub front : begins_literal (chars (literal_output l)) ≡ true
   pub whole : (rest : List ℕ) → ends_literal rest ≡ true → IsReadBefore edition l rest
 
--- one that may be right before a `.`, as `1.` may not
+-- one that may be right before any `.`, as `1.0` may and `1` may not
+abbrev pub MayPrecedeDots : Edition → Literal → Type 0
+MayPrecedeDots edition l = (rest : List ℕ) → begins_with (codes ".") rest ≡ true → IsReadBefore edition l rest
+
+-- one that may be right before such a `.`, as `1` may and `1.` may not
 abbrev pub MayHaveFields : Edition → Literal → Type 0
 MayHaveFields edition l = (rest : List ℕ) → begins_field rest ≡ true → IsReadBefore edition l rest
 
@@ -96,17 +100,18 @@ next_place (token l ∷ ts) = Some (span_of l)
 next_place (opening d ∷ ts) = Some d.opening
 next_place (closing d ∷ ts) = None
 
--- what follows such a `.`: another one that it is joint to, or a name
+-- what follows such a `.`: another one that it is joint to, a name, or a literal that begins with a letter
 abbrev pub goes_on : Spacing → List FlatToken → Bool
 goes_on Joint (token (punct p) ∷ ts) = p.char == 46
 goes_on Alone (token (ident i) ∷ ts) = true
+goes_on Alone (token (literal l) ∷ ts) = begins_word (chars (literal_output l))
 goes_on _ _ = false
 
 -- A `.` that is side by side with a literal before it and the token after it is no part of a number.
 abbrev pub IsBeforeDot : Edition → Literal → List FlatToken → Type 0
 IsBeforeDot edition l (token (punct p) ∷ ts) =
     (p.char == 46 && (are_beside l.span p.span && is_before p.span (next_place ts))) ≡ true
-    → MayHaveFields edition l × (goes_on p.spacing ts ≡ true)
+    → MayPrecedeDots edition l ⊎ (MayHaveFields edition l × (goes_on p.spacing ts ≡ true))
 IsBeforeDot edition l _ = ⊤
 
 -- two puncts in a row would be another token: a comment, or since 2024 a guard

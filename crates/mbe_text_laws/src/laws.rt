@@ -1,6 +1,12 @@
 // Laws of the text that a `Writer` writes, as `lex_as` reads it. They run nothing.
 ghost use Rattle.mbe_text_laws.specs.Gaps.{GapsAreBlank, GapsAreInBytes, GapsPartPuncts, PunctsJoin};
-ghost use Rattle.mbe_text_laws.specs.Back.{StringsAreRead, TreesComeBack};
+ghost use Rattle.mbe_text_laws.specs.Back.{
+  CharsAreRead,
+  NumbersAreRead,
+  RawStringsAreRead,
+  StringsAreRead,
+  TreesComeBack,
+};
 
 /// What a writer puts between two tokens is no part of a token, and hides none: the next token of a text with a gap before it is the next
 /// token of that text.
@@ -31,7 +37,24 @@ pub fn trees_come_back()
 {}
 
 /// A string, byte string or C string that is read whole by itself is read whole before whatever
-/// can't go on with its suffix, and before the `.` of a field: so it is a literal of `IsRust`.
+/// can't go on with its suffix, a `.` among it: so it is a literal of `IsRust`.
 pub fn strings_are_read()
     ensures { StringsAreRead }
+{}
+
+/// The same of a raw string, raw byte string or raw C string.
+pub fn raw_strings_are_read()
+    ensures { RawStringsAreRead }
+{}
+
+/// The same of a char or a byte.
+pub fn chars_are_read()
+    ensures { CharsAreRead }
+{}
+
+/// A number that is read whole by itself is read whole before whatever can't go on with it: so it
+/// is a literal of `IsRust`. The `.` of a field or of a range may follow it, unless it ends with a
+/// `.` itself; any `.` may, where it has a fraction, an exponent or a suffix too.
+pub fn numbers_are_read()
+    ensures { NumbersAreRead }
 {}

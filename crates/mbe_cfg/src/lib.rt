@@ -1,0 +1,9 @@
+// `#[cfg(..)]` and `#[cfg_attr(..)]` on token trees: whether what they are on is compiled, under the options of a run.
+#![tactic(auto)]
+
+pub mod attributes;
+pub mod fault;
+pub mod fronts;
+pub mod predicate;
+pub mod settings;
+pub mod targets;

@@ -1,0 +1,4 @@
+pub mod Choice
+pub mod Paths
+pub mod Places
+pub mod Shown

@@ -1,0 +1,14 @@
+-- What the code's values show, whatever memory holds their texts.
+use Rattle.std.specs.Prelude.{option_map}
+use Rattle.std.specs.String.{string_bytes}
+use Rattle.mbe_modules.specs.declared.places.Place.{Place}
+use Rattle.mbe_modules.specs.declared.places.Candidates.{Candidates}
+use Rattle.mbe_modules.specs.declared.places.Candidates.TheVariants as c
+use Rattle.mbe_modules.specs.Places as spec
+
+abbrev pub place_shown : {A : Type 0} → Place A → spec.Place
+place_shown p = record { folder = string_bytes p.folder; own = option_map string_bytes p.own }
+
+abbrev pub candidates_shown : {A : Type 0} → Candidates A → spec.Candidates
+candidates_shown (c.Given path) = spec.Given (string_bytes path)
+candidates_shown (c.Usual one other) = spec.Usual (string_bytes one) (string_bytes other)

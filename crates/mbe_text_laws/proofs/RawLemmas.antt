@@ -1,0 +1,357 @@
+-- A raw string that is read by itself is read before whatever doesn't go on with its suffix.
+use Rattle.std.proofs.Common.{◌≡◌, ℕ, zero, suc, ◌==◌, ◌+◌, ◌≤◌, ◌&&◌, if◌then◌else◌, Bool, true, false, List, [], ◌∷◌, ◌++◌, length, drop, refl, sym, ap, ◌∙◌, arith, codes, Option, Some, None, Ok, Err, append_assoc, encode_utf8_all, chars}
+use Rattle.std.specs.Prelude.{nat_le, replicate}
+use Rattle.std.proofs.lemmas.Bool.Decides.{nat_tests}
+use Rattle.std.proofs.lemmas.List.{drop-append-le}
+use Rattle.std.proofs.lemmas.Str.{encode_ascii}
+use Rattle.unicode_ident.proofs.Computing.{unicode_ident}
+use Rattle.mbe_tt.specs.Trees.Leaf.{Literal}
+use Rattle.mbe_tt.specs.Trees.Literals as marks
+use Rattle.mbe_tt.specs.declared.span.Edition.{Edition}
+use Rattle.mbe_tt.specs.declared.span.Edition.TheVariants.{Edition2015, Edition2018, Edition2021, Edition2024}
+use Rattle.mbe_tt.specs.declared.tt.LitKind.{LitKind}
+use Rattle.mbe_tt.specs.declared.tt.LitKind.TheVariants as kinds
+use Rattle.mbe_text.specs.Characters.{begins_with, bytes_before, has, past}
+use Rattle.mbe_text.specs.declared.wrong.Wrong.TheVariants as wrong
+use Rattle.mbe_text.specs.Escapes.{Checked, check_raw}
+use Rattle.mbe_text.specs.Extents.{front, from_raw_end}
+use Rattle.mbe_text.specs.Rust.{Token, read_rust, literal, raw_kind, raw_until, raw_body, raw_string}
+use Rattle.mbe_text.specs.Shapes.{Shape, literal_of}
+use Rattle.mbe_text_laws.specs.Back.{RawStringsAreRead, is_raw}
+use Rattle.mbe_text_laws.specs.Rust.{continues_word, IsReadBefore}
+use Rattle.mbe_text_laws.proofs.EndLemmas.{r_is_start}
+use Rattle.mbe_text_laws.proofs.StepLemmas.{bytes_front}
+use Rattle.mbe_text_laws.proofs.QuoteLemmas.{front_of, literal_on, token_of, checked, checked_is, is_identifier, Extends, extends, one_char, two_chars, letter_begins, b_is_start, c_is_start, ended, dot_ended}
+
+-- so many `#`
+abbrev marked : ℕ → List ℕ
+marked n = replicate n 35
+
+-- ---- the quote that ends a raw string
+
+and_both : (a b : Bool) → (a && b) ≡ true → (a ≡ true) × (b ≡ true)
+and_both true b h = (refl, h)
+and_both false b h = absurd (cc)
+
+and_of : (a b : Bool) → a ≡ true → b ≡ true → (a && b) ≡ true
+and_of true b h k = k
+and_of false b h k = absurd (cc)
+
+begins_more : (hs xs rest : List ℕ) → begins_with hs xs ≡ true → begins_with hs (xs ++ rest) ≡ true
+begins_more [] xs rest h = refl
+begins_more (d ∷ hs) [] rest h = absurd (cc)
+begins_more (d ∷ hs) (c ∷ xs) rest h =
+    let two = and_both (c == d) (begins_with hs xs) h in
+    and_of (c == d) (begins_with hs (xs ++ rest)) two.0 (begins_more hs xs rest two.1)
+
+begins_length : (hs xs : List ℕ) → begins_with hs xs ≡ true → length hs ≤ length xs
+begins_length [] xs h = omega arith
+begins_length (d ∷ hs) [] h = absurd (cc)
+begins_length (d ∷ hs) (c ∷ xs) h =
+    let k = begins_length hs xs (and_both (c == d) (begins_with hs xs) h).1 in omega (arith, k)
+
+no_quote : (c : ℕ) → (c == 35) ≡ true → (c == 34) ≡ false
+no_quote c h = grind (arith, nat_tests, h)
+
+raw_later : (hs cs : List ℕ) (c : ℕ) → (c == 34 && begins_with hs cs) ≡ false
+    → from_raw_end hs (c ∷ cs) ≡ from_raw_end hs cs
+raw_later hs cs c h = rw (from_raw_end, h) refl
+
+true_and : (a b : Bool) → a ≡ true → (a && b) ≡ false → b ≡ false
+true_and true b h k = k
+true_and false b h k = absurd (cc)
+
+-- before the quote that ends it no text begins with so many `#` where more follows it, and not by itself
+no_earlier : (m n : ℕ) (cs end rest : List ℕ) → from_raw_end (marked n) cs ≡ Some end
+    → begins_with (marked m) cs ≡ false → begins_with (marked m) (cs ++ rest) ≡ false
+no_earlier zero n cs end rest h b = absurd (cc)
+no_earlier (suc m) n [] end rest h b = absurd (cc)
+no_earlier (suc m) n (c ∷ cs) end rest h b = by (c == 35) refl (no_earlier m n cs end rest)
+  where
+    by : (is : Bool) → (c == 35) ≡ is
+        → (from_raw_end (marked n) cs ≡ Some end → begins_with (marked m) cs ≡ false
+        → begins_with (marked m) (cs ++ rest) ≡ false)
+        → (c == 35 && begins_with (marked m) (cs ++ rest)) ≡ false
+    by false e go = ap (λ (x : Bool). x && begins_with (marked m) (cs ++ rest)) e
+    by true e go =
+        let none : (c == 34 && begins_with (marked n) cs) ≡ false =
+        ap (λ (x : Bool). x && begins_with (marked n) cs) (no_quote c e) in
+        ap (λ (x : Bool). x && begins_with (marked m) (cs ++ rest)) e
+        ∙ go (sym (raw_later (marked n) cs c none) ∙ h) (true_and (c == 35) (begins_with (marked m) cs) e b)
+
+record RawFound (hs cs end : List ℕ) : Type 0 where
+  own : List ℕ
+  quote : ℕ
+  more : List ℕ
+  ends : end ≡ quote ∷ more
+  is : cs ≡ own ++ (quote ∷ more)
+  marks : begins_with hs more ≡ true
+  on : (rest : List ℕ) → from_raw_end hs (cs ++ rest) ≡ Some (quote ∷ (more ++ rest))
+
+still_no : (a b x : Bool) → (a && b) ≡ false → (b ≡ false → x ≡ false) → (a && x) ≡ false
+still_no true b x h go = go h
+still_no false b x h go = refl
+
+raw_found_at : (b : Bool) (n c : ℕ) (cs end : List ℕ) → (c == 34 && begins_with (marked n) cs) ≡ b
+    → (from_raw_end (marked n) cs ≡ Some end → RawFound (marked n) cs end)
+    → from_raw_end (marked n) (c ∷ cs) ≡ Some end → RawFound (marked n) (c ∷ cs) end
+raw_found_at true n c cs end e go h =
+    let two = and_both (c == 34) (begins_with (marked n) cs) e in record {
+      own = [];
+      quote = c;
+      more = cs;
+      ends = let w : from_raw_end (marked n) (c ∷ cs) ≡ Some (c ∷ cs) = rw (from_raw_end, e) refl in
+          let z : Some (c ∷ cs) ≡ Some end = sym w ∙ h in cc;
+      is = refl;
+      marks = two.1;
+      on = λ rest. let k = and_of (c == 34) (begins_with (marked n) (cs ++ rest)) two.0
+          (begins_more (marked n) cs rest two.1) in rw (from_raw_end, k) refl;
+    }
+raw_found_at false n c cs end e go h =
+    let later = sym (raw_later (marked n) cs c e) ∙ h in
+    let f = go later in record {
+      own = c ∷ f.own;
+      quote = f.quote;
+      more = f.more;
+      ends = f.ends;
+      is = ap (λ (x : List ℕ). c ∷ x) f.is;
+      marks = f.marks;
+      on = λ rest. raw_later (marked n) (cs ++ rest) c
+          (still_no (c == 34) (begins_with (marked n) cs) (begins_with (marked n) (cs ++ rest)) e
+          (λ no. no_earlier n n cs end rest later no)) ∙ f.on rest;
+    }
+
+raw_found : (n : ℕ) (cs end : List ℕ) → from_raw_end (marked n) cs ≡ Some end → RawFound (marked n) cs end
+raw_found n [] end h = absurd (cc)
+raw_found n (c ∷ cs) end h =
+    raw_found_at (c == 34 && begins_with (marked n) cs) n c cs end refl (raw_found n cs end) h
+
+-- ---- the string
+
+until_of : (q : _) (n : ℕ) (body end : List ℕ) (x : Checked) → check_raw q (front body end) ≡ x
+    → raw_until q n body end ≡ checked x end (literal (raw_kind q n) (bytes_before body end) (drop (n + 1) end))
+until_of q n body end (Ok u) e = rw (raw_until, e) refl
+until_of q n body end (Err at) e = rw (raw_until, e) refl
+
+until_is : (q : _) (n : ℕ) (own : List ℕ) (c : ℕ) (more : List ℕ)
+    → raw_until q n (own ++ (c ∷ more)) (c ∷ more)
+    ≡ checked (check_raw q own) (c ∷ more) (literal (raw_kind q n) (encode_utf8_all own) (drop (n + 1) (c ∷ more)))
+until_is q n own c more =
+    until_of q n (own ++ (c ∷ more)) (c ∷ more) (check_raw q own) (ap (check_raw q) (front_of own (c ∷ more)))
+    ∙ ap (λ (x : List ℕ). checked (check_raw q own) (c ∷ more) (literal (raw_kind q n) x (drop (n + 1) (c ∷ more))))
+    (bytes_front own (c ∷ more))
+
+body_at : (q : _) (from other : List ℕ) (n : ℕ) (cs rest : List ℕ) (shape : Shape) (o : Option (List ℕ)) (b : Bool)
+    → from_raw_end (marked n) cs ≡ o → nat_le (length (marked n)) 255 ≡ b
+    → raw_body q from (marked n) cs ≡ Ok (shape, []) → continues_word rest ≡ false
+    → raw_body q other (marked n) (cs ++ rest) ≡ Ok (shape, rest)
+body_at q from other n cs rest shape None b e le h k =
+    absurd (let w : raw_body q from (marked n) cs ≡ Err (wrong.OpenRawString, from) = rw (raw_body, e) refl in
+    let z : Err (wrong.OpenRawString, from) ≡ Ok (shape, []) = sym w ∙ h in cc)
+body_at q from other n cs rest shape (Some end) false e le h k =
+    absurd (let w : raw_body q from (marked n) cs ≡ Err (wrong.RawStringHashes, from) = rw (raw_body, e, le) refl in
+    let z : Err (wrong.RawStringHashes, from) ≡ Ok (shape, []) = sym w ∙ h in cc)
+body_at q from other n cs rest shape (Some end) true e le h k =
+    let m : ℕ = length (marked n) in
+    let f = raw_found n cs end e in
+    let kind = raw_kind q m in
+    let left : List ℕ = drop (m + 1) (f.quote ∷ f.more) in
+    let before : raw_body q from (marked n) cs ≡ raw_until q m cs end = rw (raw_body, e, le) refl in
+    let ends : raw_until q m cs end ≡ raw_until q m (f.own ++ (f.quote ∷ f.more)) (f.quote ∷ f.more) =
+    ap (raw_until q m cs) f.ends ∙ ap (λ (y : List ℕ). raw_until q m y (f.quote ∷ f.more)) f.is in
+    let was : checked (check_raw q f.own) (f.quote ∷ f.more) (literal kind (encode_utf8_all f.own) left)
+    ≡ Ok (shape, []) = sym (before ∙ (ends ∙ until_is q m f.own f.quote f.more)) ∙ h in
+    let is = checked_is (check_raw q f.own) (f.quote ∷ f.more) (literal kind (encode_utf8_all f.own) left)
+    (shape, []) was in
+    let on : from_raw_end (marked n) (cs ++ rest) ≡ Some (f.quote ∷ (f.more ++ rest)) = f.on rest in
+    let after : raw_body q other (marked n) (cs ++ rest) ≡ raw_until q m (cs ++ rest) (f.quote ∷ (f.more ++ rest)) =
+    rw (raw_body, on, le) refl in
+    let whole : cs ++ rest ≡ f.own ++ (f.quote ∷ (f.more ++ rest)) =
+    ap (λ (y : List ℕ). y ++ rest) f.is ∙ append_assoc f.own (f.quote ∷ f.more) rest in
+    let long = begins_length (marked n) f.more f.marks in
+    let dropped : drop (m + 1) (f.quote ∷ (f.more ++ rest)) ≡ left ++ rest =
+    drop-append-le (m + 1) (f.quote ∷ f.more) rest (omega (arith, long)) in
+    after ∙ (ap (λ (y : List ℕ). raw_until q m y (f.quote ∷ (f.more ++ rest))) whole
+    ∙ (until_is q m f.own f.quote (f.more ++ rest)
+    ∙ (is.1 (f.quote ∷ (f.more ++ rest)) (literal kind (encode_utf8_all f.own) (drop (m + 1) (f.quote ∷
+    (f.more ++ rest))))
+    ∙ (ap (λ (y : List ℕ). literal kind (encode_utf8_all f.own) y) dropped
+    ∙ literal_on kind (encode_utf8_all f.own) left rest shape is.0 k))))
+
+-- ---- from its first `#` on
+
+past_marks : (k : _) (n : ℕ) (cs : List ℕ) → has k 35 ≡ true → has k 34 ≡ false
+    → past k (marked n ++ (34 ∷ cs)) ≡ 34 ∷ cs
+past_marks k zero cs h o = rw (past, o) refl
+past_marks k (suc n) cs h o = rw (past, h) (past_marks k n cs h o)
+
+marks_are : (n : ℕ) → encode_utf8_all (marked n) ≡ marked n
+marks_are zero = refl
+marks_are (suc n) =
+    ap (λ (x : List ℕ). x ++ encode_utf8_all (marked n)) (encode_ascii 35 (omega arith))
+    ∙ ap (λ (x : List ℕ). 35 ∷ x) (marks_are n)
+
+-- a raw string, where that passes its `#`
+abbrev raw_from : List ℕ → (List ℕ → List ℕ → Token) → List ℕ → List ℕ → Token
+raw_from from body cs quote =
+    if begins_with (codes "\"") quote then body (bytes_before cs quote) (drop 1 quote) else Err
+    (wrong.RawStringStart, from)
+
+raw_is : (from : List ℕ) (body : List ℕ → List ℕ → Token) (n : ℕ) (cs : List ℕ) (quote : List ℕ) → quote ≡ 34 ∷ cs
+    → raw_from from body (marked n ++ (34 ∷ cs)) quote ≡ body (marked n) cs
+raw_is from body n cs quote e =
+    ap (raw_from from body (marked n ++ (34 ∷ cs))) e
+    ∙ ap (λ (x : List ℕ). body x cs) (bytes_front (marked n) (34 ∷ cs) ∙ marks_are n)
+
+string_of : (k q : _) (from : List ℕ) (n : ℕ) (cs : List ℕ) → has k 35 ≡ true → has k 34 ≡ false
+    → raw_from from (raw_body q from) (marked n ++ (34 ∷ cs)) (past k (marked n ++ (34 ∷ cs)))
+    ≡ raw_body q from (marked n) cs
+string_of k q from n cs h o = raw_is from (raw_body q from) n cs (past k (marked n ++ (34 ∷ cs)))
+    (past_marks k n cs h o)
+
+string_is : (q : _) (from : List ℕ) (n : ℕ) (cs : List ℕ)
+    → raw_string q from (marked n ++ (34 ∷ cs)) ≡ raw_body q from (marked n) cs
+string_is q from n cs = search string_of
+
+raw_some : (q : _) (from other : List ℕ) (n : ℕ) (cs rest : List ℕ) (shape : Shape)
+    → Some (raw_string q from (marked n ++ (34 ∷ cs))) ≡ Some (Ok (shape, [])) → continues_word rest ≡ false
+    → Some (raw_string q other (marked n ++ (34 ∷ (cs ++ rest)))) ≡ Some (Ok (shape, rest))
+raw_some q from other n cs rest shape h k =
+    ap Some (string_is q other n (cs ++ rest)
+    ∙ body_at q from other n cs rest shape (from_raw_end (marked n) cs) (nat_le (length (marked n)) 255) refl refl
+    (sym (string_is q from n cs) ∙ ap (token_of (Ok (shape, []))) h) k)
+
+raw_none : (cs rest : List ℕ) (shape : Shape) (from other : List ℕ) (q : _)
+    → Some (raw_string q from (34 ∷ cs)) ≡ Some (Ok (shape, [])) → continues_word rest ≡ false
+    → Some (raw_string q other (34 ∷ (cs ++ rest))) ≡ Some (Ok (shape, rest))
+raw_none cs rest shape from other q h k = raw_some q from other 0 cs rest shape h k
+
+raw_one : (cs rest : List ℕ) (shape : Shape) (from other : List ℕ) (q : _)
+    → Some (raw_string q from (35 ∷ (34 ∷ cs))) ≡ Some (Ok (shape, [])) → continues_word rest ≡ false
+    → Some (raw_string q other (35 ∷ (34 ∷ (cs ++ rest)))) ≡ Some (Ok (shape, rest))
+raw_one cs rest shape from other q h k = raw_some q from other 1 cs rest shape h k
+
+raw_more : (n : ℕ) (cs rest : List ℕ) (shape : Shape) (from other : List ℕ) (q : _)
+    → Some (raw_string q from (35 ∷ (marked n ++ (34 ∷ cs)))) ≡ Some (Ok (shape, [])) → continues_word rest ≡ false
+    → Some (raw_string q other (35 ∷ (marked n ++ (34 ∷ (cs ++ rest))))) ≡ Some (Ok (shape, rest))
+raw_more n cs rest shape from other q h k = raw_some q from other (suc n) cs rest shape h k
+
+raw_two : (n : ℕ) (cs rest : List ℕ) (shape : Shape) (from other : List ℕ) (q : _)
+    → Some (raw_string q from (35 ∷ (35 ∷ (marked n ++ (34 ∷ cs))))) ≡ Some (Ok (shape, []))
+    → continues_word rest ≡ false
+    → Some (raw_string q other (35 ∷ (35 ∷ (marked n ++ (34 ∷ (cs ++ rest)))))) ≡ Some (Ok (shape, rest))
+raw_two n cs rest shape from other q h k = raw_some q from other (suc (suc n)) cs rest shape h k
+
+r_case : (e : Edition) (n : ℕ) (cs rest : List ℕ) (shape : Shape)
+    → read_rust e (114 ∷ (marked n ++ (34 ∷ cs))) ≡ Some (Ok (shape, [])) → continues_word rest ≡ false
+    → read_rust e (114 ∷ (marked n ++ (34 ∷ (cs ++ rest)))) ≡ Some (Ok (shape, rest))
+unfolding unicode_ident
+r_case e zero cs rest shape h k = search (raw_none cs rest shape, h, k)
+r_case e (suc zero) cs rest shape h k = search (raw_one cs rest shape, h, k)
+r_case e (suc (suc n)) cs rest shape h k =
+    search (
+      raw_two n cs rest shape (114 ∷ (35 ∷ (35 ∷ (marked n ++ (34 ∷ cs)))))
+          (114 ∷ (35 ∷ (35 ∷ (marked n ++ (34 ∷ (cs ++ rest)))))),
+      h,
+      k,
+    )
+
+b_case : (e : Edition) (n : ℕ) (cs rest : List ℕ) (shape : Shape)
+    → read_rust e (98 ∷ (114 ∷ (marked n ++ (34 ∷ cs)))) ≡ Some (Ok (shape, [])) → continues_word rest ≡ false
+    → read_rust e (98 ∷ (114 ∷ (marked n ++ (34 ∷ (cs ++ rest))))) ≡ Some (Ok (shape, rest))
+b_case e zero cs rest shape h k = search (raw_none cs rest shape, h, k)
+b_case e (suc n) cs rest shape h k =
+    search (
+      raw_more n cs rest shape (98 ∷ (114 ∷ (35 ∷ (marked n ++ (34 ∷ cs)))))
+          (98 ∷ (114 ∷ (35 ∷ (marked n ++ (34 ∷ (cs ++ rest)))))),
+      h,
+      k,
+    )
+
+-- before 2021 a `c` is an identifier's
+c_case : (e : Edition) (n : ℕ) (cs rest : List ℕ) (text suffix : List ℕ) (len : ℕ) (kind : LitKind)
+    → read_rust e (99 ∷ (114 ∷ (marked n ++ (34 ∷ cs)))) ≡ Some (Ok (literal_of text suffix len kind, []))
+    → continues_word rest ≡ false
+    → read_rust e (99 ∷ (114 ∷ (marked n ++ (34 ∷ (cs ++ rest))))) ≡ Some (Ok (literal_of text suffix len kind, rest))
+c_case Edition2015 n cs rest text suffix len kind h k =
+    absurd (let z : true ≡ false = ap (λ (o : Option Token). is_identifier (token_of (Err
+    (wrong.OpenString, [])) o)) h in cc)
+c_case Edition2018 n cs rest text suffix len kind h k =
+    absurd (let z : true ≡ false = ap (λ (o : Option Token). is_identifier (token_of (Err
+    (wrong.OpenString, [])) o)) h in cc)
+c_case Edition2021 zero cs rest text suffix len kind h k =
+    search (raw_none cs rest (literal_of text suffix len kind), h, k)
+c_case Edition2021 (suc n) cs rest text suffix len kind h k =
+    search (
+      raw_more n cs rest (literal_of text suffix len kind) (99 ∷ (114 ∷ (35 ∷ (marked n ++ (34 ∷ cs)))))
+          (99 ∷ (114 ∷ (35 ∷ (marked n ++ (34 ∷ (cs ++ rest)))))),
+      h,
+      k,
+    )
+c_case Edition2024 zero cs rest text suffix len kind h k =
+    search (raw_none cs rest (literal_of text suffix len kind), h, k)
+c_case Edition2024 (suc n) cs rest text suffix len kind h k =
+    search (
+      raw_more n cs rest (literal_of text suffix len kind) (99 ∷ (114 ∷ (35 ∷ (marked n ++ (34 ∷ cs)))))
+          (99 ∷ (114 ∷ (35 ∷ (marked n ++ (34 ∷ (cs ++ rest)))))),
+      h,
+      k,
+    )
+
+-- ---- literals
+
+marked_chars : (n : ℕ) (b : List ℕ) → chars ((marked n ++ (34 ∷ [])) ++ b) ≡ marked n ++ (34 ∷ chars b)
+marked_chars zero b = one_char 34 b (omega arith)
+marked_chars (suc n) b =
+    one_char 35 ((marked n ++ (34 ∷ [])) ++ b) (omega arith) ∙ ap (λ (x : List ℕ). 35 ∷ x) (marked_chars n b)
+
+raw_extends : (e : Edition) (k : LitKind) (b rest text suffix : List ℕ) (n : ℕ) (kind : LitKind)
+    → is_raw k ≡ true → continues_word rest ≡ false
+    → read_rust e (chars (marks.opening k ++ b) ++ []) ≡ Some (Ok (literal_of text suffix n kind, []))
+    → Extends e (marks.opening k ++ b) rest (literal_of text suffix n kind)
+raw_extends e (kinds.StrRaw m) b rest text suffix n kind i k h =
+    let body : List ℕ = (marked m ++ (34 ∷ [])) ++ b in
+    let cs : List ℕ = marked m ++ (34 ∷ chars b) in
+    extends e (114 ∷ body) (114 ∷ cs) rest (literal_of text suffix n kind)
+    (one_char 114 body (omega arith) ∙ ap (λ (x : List ℕ). 114 ∷ x) (marked_chars m b))
+    (letter_begins 114 cs r_is_start)
+    (λ r. ap (λ (x : List ℕ). read_rust e (114 ∷ x)) (append_assoc (marked m) (34 ∷ chars b) rest)
+    ∙ r_case e m (chars b) rest (literal_of text suffix n kind) r k) h
+raw_extends e (kinds.ByteStrRaw m) b rest text suffix n kind i k h =
+    let body : List ℕ = (marked m ++ (34 ∷ [])) ++ b in
+    let cs : List ℕ = marked m ++ (34 ∷ chars b) in
+    extends e (98 ∷ (114 ∷ body)) (98 ∷ (114 ∷ cs)) rest (literal_of text suffix n kind)
+    (two_chars 98 114 body (omega arith) (omega arith) ∙ ap (λ (x : List ℕ). 98 ∷ (114 ∷ x)) (marked_chars m b))
+    (letter_begins 98 (114 ∷ cs) b_is_start)
+    (λ r. ap (λ (x : List ℕ). read_rust e (98 ∷ (114 ∷ x))) (append_assoc (marked m) (34 ∷ chars b) rest)
+    ∙ b_case e m (chars b) rest (literal_of text suffix n kind) r k) h
+raw_extends e (kinds.CStrRaw m) b rest text suffix n kind i k h =
+    let body : List ℕ = (marked m ++ (34 ∷ [])) ++ b in
+    let cs : List ℕ = marked m ++ (34 ∷ chars b) in
+    extends e (99 ∷ (114 ∷ body)) (99 ∷ (114 ∷ cs)) rest (literal_of text suffix n kind)
+    (two_chars 99 114 body (omega arith) (omega arith) ∙ ap (λ (x : List ℕ). 99 ∷ (114 ∷ x)) (marked_chars m b))
+    (letter_begins 99 (114 ∷ cs) c_is_start)
+    (λ r. ap (λ (x : List ℕ). read_rust e (99 ∷ (114 ∷ x))) (append_assoc (marked m) (34 ∷ chars b) rest)
+    ∙ c_case e m (chars b) rest text suffix n kind r k) h
+raw_extends e k b rest text suffix n kind i p h = absurd (cc)
+
+before_of : (e : Edition) (l : Literal) (rest : List ℕ) → is_raw l.kind ≡ true → IsReadBefore e l []
+    → continues_word rest ≡ false → IsReadBefore e l rest
+before_of e l rest i b k = record {
+  text = b.text;
+  suffix = b.suffix;
+  parts = b.parts;
+  read = (raw_extends e l.kind (marks.literal_text l ++
+      (marks.closing l.kind ++ marks.literal_suffix l)) rest b.text b.suffix l.suffix_len l.kind i k b.read).read;
+}
+
+pub raw_strings_are_read : RawStringsAreRead
+raw_strings_are_read e l i u b = (
+  record {
+    utf8 = u;
+    front = (raw_extends e l.kind (marks.literal_text l ++
+        (marks.closing l.kind ++ marks.literal_suffix l)) [] b.text b.suffix l.suffix_len l.kind i refl b.read).begun;
+    whole = λ rest h. before_of e l rest i b (ended rest h);
+  },
+  λ rest h. before_of e l rest i b (dot_ended rest h),
+)
