@@ -17,8 +17,6 @@ pub record Printed (f : Forest) (a b : Option (List ℕ)) (v : Placed) (n depth 
   pub written : Appends a b done
   pub walks : Walks f n depth left
 
-}
-
 -- the next flat token
 token_at : (f : Forest) (n : ℕ) (v : Placed) (t : Option Tree) → v ≡ (f, n) → t ≡ first (left_at v)
     → t ≡ first (rest_at f n)
@@ -30,7 +28,7 @@ pub printed_fits : (f : Forest) (a b : Option (List ℕ)) (v : Placed) (n depth 
 printed_fits f a b v n depth t p lt e =
     let w : Walked f n depth p.left = walked f n depth p.left lt p.walks in
     let k : depth_after t depth ≡ depth_after (first (rest_at f n)) depth =
-        ap (λ (u : Option Tree). depth_after u depth) (token_at f n v t p.at e) in
+    ap (λ (u : Option Tree). depth_after u depth) (token_at f n v t p.at e) in
     omega (arith, w.fits, k)
 
 pub printed_off : (f : Forest) (a b c : Option (List ℕ)) (v : Placed) (n depth : ℕ) (t : Option Tree)
@@ -39,14 +37,14 @@ pub printed_off : (f : Forest) (a b c : Option (List ℕ)) (v : Placed) (n depth
 printed_off f a b c v n depth t p lt e h =
     let w : Walked f n depth p.left = walked f n depth p.left lt p.walks in
     let k : first_line depth (first (rest_at f n)) ≡ first_line depth t =
-        ap (first_line depth) (sym (token_at f n v t p.at e)) in
+    ap (first_line depth) (sym (token_at f n v t p.at e)) in
     fails_then a b c p.done (first_line depth t) w.after (lines 0 f)
     (p.whole ∙ ap (λ (l : List ℕ). p.done ++ l) (w.line ∙ ap (λ (l : List ℕ). l ++ w.after) k)) p.written h
 
 pub printed_on : (f : Forest) (a b c : Option (List ℕ)) (v u : Placed) (n depth : ℕ) (t : Option Tree)
     → Printed f a b v n depth → n < flat_len f
     → t ≡ first (left_at v) → Appends b c (first_line depth t)
-        → u ≡ (viewed v, min (place_of v + 1) (flat_len (viewed v)))
+    → u ≡ (viewed v, min (place_of v + 1) (flat_len (viewed v)))
     → Printed f a c u (n + 1) (depth_after t depth)
 printed_on f a b c v u n depth t p lt e h next =
     let w : Walked f n depth p.left = walked f n depth p.left lt p.walks in

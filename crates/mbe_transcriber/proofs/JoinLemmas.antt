@@ -22,16 +22,6 @@ module _ (env : Environment) (path : Path) where
     pub clean : fault ≡ false → joined_text env path all ≡ option_map (λ more. text ++ more) (joined_text env path rest)
     pub faulty : fault ≡ true → joined_text env path all ≡ None
 
-  }
-
-  }
-    where
-      go : (b : Bool) → fault ≡ b → joined_text env path all ≡ None
-      go true s = h.faulty s
-      go false s =
-          h.clean s ∙ ap (λ o. option_map (λ more. text ++ more)
-              (option_and_then (λ x. option_map (λ more. x ++ more) (joined_text env path rest)) o)) t
-
 pub swapped : (a b : Bool) → a ≡ not b → b ≡ not a
 swapped a true e = sym (ap not e)
 swapped a false e = sym (ap not e)
@@ -65,19 +55,19 @@ module _ (g : Grammar) (Marks : Span → Span → Type 0) (span : Span) where
       → are_identifier_chars (chars text) ≡ true
       → Appends (IsConcatWritten g Marks span (Some text)) old new
       → Wrote f (is_none (option_and_then if_identifier o))
-          (IsConcatWritten g Marks span (option_and_then if_identifier o)) old new
+      (IsConcatWritten g Marks span (option_and_then if_identifier o)) old new
   joined_case text f old new None h i w =
       record { told = h; groups = appends_groups _ old new w; written = λ e. absurd (let x : true ≡ false = e in cc) }
   joined_case text f old new (Some joined) (h, e) i w =
       let is : if_identifier joined ≡ Some text =
-          ap if_identifier (sym e) ∙ ap (λ b. if b then Some text else None) i in
+      ap if_identifier (sym e) ∙ ap (λ b. if b then Some text else None) i in
       rw is (record { told = h; groups = appends_groups _ old new w; written = λ _. w })
 
   pub joined_wrote : (env : Environment) (path : Path) (elements : List Element) (text : List ℕ) (f : Bool)
       (old new : Levels) → IsJoined text f (joined_text env path elements)
       → are_identifier_chars (chars text) ≡ true → Appends (IsConcatWritten g Marks span (Some text)) old new
       → Wrote f (is_none (concat_text env path elements)) (IsConcatWritten g Marks span (concat_text env path elements))
-          old new
+      old new
   joined_wrote env path elements text f old new h i w = joined_case text f old new (joined_text env path elements) h i w
 
   no_identifier : (text : List ℕ) (f : Bool) (o : Option (List ℕ)) → IsJoined text f o
@@ -90,11 +80,14 @@ module _ (g : Grammar) (Marks : Span → Span → Type 0) (span : Span) where
   pub dummy_wrote : (env : Environment) (path : Path) (elements : List Element) (text : List ℕ) (f told : Bool)
       (dummy : Option (List ℕ)) (old new : Levels)
       → IsJoined text f (joined_text env path elements) → are_identifier_chars (chars text) ≡ false → told ≡ true
-          → Appends (IsConcatWritten g Marks span dummy) old new
+      → Appends (IsConcatWritten g Marks span dummy) old new
       → Wrote told (is_none (concat_text env path elements))
-          (IsConcatWritten g Marks span (concat_text env path elements)) old new
+      (IsConcatWritten g Marks span (concat_text env path elements)) old new
   dummy_wrote env path elements text f told dummy old new h i t w =
       let none : is_none (concat_text env path elements) ≡ true =
-          no_identifier text f (joined_text env path elements) h i in
-      record { told = t ∙ sym none; groups = appends_groups _ old new w;
-          written = λ e. absurd (let x : true ≡ false = sym none ∙ e in cc) }
+      no_identifier text f (joined_text env path elements) h i in
+      record {
+        told = t ∙ sym none;
+        groups = appends_groups _ old new w;
+        written = λ e. absurd (let x : true ≡ false = sym none ∙ e in cc);
+      }
