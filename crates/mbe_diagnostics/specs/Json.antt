@@ -36,7 +36,8 @@ abbrev pub span_json : Diagnostic → List ℕ
 span_json d =
     codes "{\"file_name\":" ++ (text_json d.file.now ++ (codes "," ++ (range_json d.start d.end
     ++ (codes ",\"is_primary\":true,\"text\":[" ++ (line_json d.line.now d.start.column d.end.column
-    ++ codes "],\"label\":null,\"suggested_replacement\":null,\"suggestion_applicability\":null,\"expansion\":null}")))))
+    ++ codes
+    "],\"label\":null,\"suggested_replacement\":null,\"suggestion_applicability\":null,\"expansion\":null}")))))
 
 unfoldable pub front_json : List ℕ → List ℕ → List ℕ
 front_json level message =

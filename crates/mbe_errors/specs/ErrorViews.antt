@@ -43,7 +43,8 @@ fault_of reported.TheVariants.ExpectedSemicolon = expected (codes "expected `;`"
 fault_of reported.TheVariants.ExpectedSeparator = expected (codes "expected `;` or `,` to delimit rules")
 fault_of reported.TheVariants.ExpectedIdent = expected (codes "expected ident")
 fault_of reported.TheVariants.ExpectedRepetition = expected (codes "expected `$()` repetition or `${}` expression")
-fault_of reported.TheVariants.ExpressionInPattern = unexpected_token (codes "`${}` metavariable expressions are not allowed in matchers")
+fault_of reported.TheVariants.ExpressionInPattern =
+    unexpected_token (codes "`${}` metavariable expressions are not allowed in matchers")
 fault_of reported.TheVariants.DollarInPattern = unexpected_token (codes "`$$` is not allowed on the pattern side")
 fault_of reported.TheVariants.MissingSpecifier = unexpected_token (codes "missing fragment specifier")
 fault_of reported.TheVariants.InvalidExpression = unexpected_token (codes "invalid metavariable expression")

@@ -40,7 +40,8 @@ unfolding unicode_ident chars
 minus_faults = refl
 
 minus_refused : (g : Grammar) → Applies g FnLike foo (concat_of minus) → ⊥
-minus_refused g = faulty_once g FnLike foo (concat_of minus) foo_items refl (foo_read g minus) (λ e. false≢true (sym e ∙ minus_faults))
+minus_refused g = faulty_once g FnLike foo (concat_of minus) foo_items refl (foo_read g minus)
+    (λ e. false≢true (sym e ∙ minus_faults))
 
 pub concat_example : ConcatExample
 unfolding unicode_ident chars
@@ -48,18 +49,39 @@ concat_example = record {
   defines = (
     None,
     separated _ none _ _ [] None refl
-        (record { style = refl; reads = variable _ _ _ _ _ _ _ refl (undated refl refl) (nothing _ refl); writes = token _ _ _ _ refl (nothing _ refl) }) refl ended,
+        (record {
+          style = refl;
+          reads = variable _ _ _ _ _ _ _ refl (undated refl refl) (nothing _ refl);
+          writes = token _ _ _ _ refl (nothing _ refl);
+        }) refl ended,
     refl,
   );
   expands = λ g e. (
     concat_rule,
-    applies_once g FnLike foo concat_rule foo_items refl refl (foo_read g (ops.ident_element (ident_of (codes "_bar") (at 0 28 32)))) foo_faultless,
+    applies_once g FnLike foo concat_rule foo_items refl refl
+        (foo_read g (ops.ident_element (ident_of (codes "_bar") (at 0 28 32)))) foo_faultless,
     this_one _ _ _,
-    (_, (_, _, (_, refl, ap (λ b. leaf (ident (record (ident_of (codes "foo_bar") (at 0 17 23)) { is_raw = rawness b })) none) (sym e)), refl, refl), refl),
+    (
+      _,
+      (
+        _,
+        _,
+        (
+          _,
+          refl,
+          ap (λ b. leaf (ident (record (ident_of (codes "foo_bar") (at 0 17 23)) { is_raw = rawness b }))
+              none) (sym e),
+        ),
+        refl,
+        refl,
+      ),
+      refl,
+    ),
   );
   refused = λ g inside e. none_first g 0 e.0 e.1 e.2;
 }
   where
-    none_first : (g : Grammar) (n : _) (r : Rule) (a : Applies g FnLike foo r) → FirstThatApplies g FnLike foo (concat_of minus ∷ []) n r a → ⊥
+    none_first : (g : Grammar) (n : _) (r : Rule) (a : Applies g FnLike foo r)
+        → FirstThatApplies g FnLike foo (concat_of minus ∷ []) n r a → ⊥
     none_first g _ _ a (this_one _ _ _) = minus_refused g a
     none_first g _ _ a (a_later_one _ _ _ _ _ _ _ t _) = elim t [ ]

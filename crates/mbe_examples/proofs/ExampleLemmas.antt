@@ -52,7 +52,11 @@ endless_example = record {
         })
         refl
         (separated _ none _ _ [] None refl
-        (record { style = refl; reads = variable _ _ _ _ _ _ _ refl (undated refl refl) (nothing _ refl); writes = token _ _ _ _ refl (nothing _ refl) })
+        (record {
+          style = refl;
+          reads = variable _ _ _ _ _ _ _ refl (undated refl refl) (nothing _ refl);
+          writes = token _ _ _ _ refl (nothing _ refl);
+        })
         refl ended),
     refl,
   );
@@ -62,13 +66,17 @@ endless_example = record {
     a_later_one _ _ _ 0 1 _ (endless_refused g) (this_one _ _ _) refl,
     (_, (_, _, refl, refl, refl), refl),
   );
-  alone = λ g. closest_alone g FnLike one_a endless_rule verdicts.one_reading 1 refl ((fits_once g endless_rule.reads one_a a_items refl (endless_read g)).0, (a_items, (fits_once g endless_rule.reads one_a a_items refl (endless_read g)).1))
+  alone = λ g. closest_alone g FnLike one_a endless_rule verdicts.one_reading 1 refl (
+    (fits_once g endless_rule.reads one_a a_items refl (endless_read g)).0,
+    (a_items, (fits_once g endless_rule.reads one_a a_items refl (endless_read g)).1),
+  )
       (λ is f. ap (λ x. min (binding_total (environment_of x)) (2 ^ 64 - 1))
       (one_reading g endless_rule.reads one_a a_items is refl (endless_read g) f.1.0));
   refused = λ g inside e. none_first g 0 e.0 e.1 e.2;
 }
   where
-    none_first : (g : Grammar) (n : ℕ) (r : _) (a : Applies g FnLike one_a r) → FirstThatApplies g FnLike one_a (endless_rule ∷ []) n r a → ⊥
+    none_first : (g : Grammar) (n : ℕ) (r : _) (a : Applies g FnLike one_a r)
+        → FirstThatApplies g FnLike one_a (endless_rule ∷ []) n r a → ⊥
     none_first g _ _ a (this_one _ _ _) = endless_refused g a
     none_first g _ _ a (a_later_one _ _ _ _ _ _ _ t _) = elim t [ ]
 
@@ -80,7 +88,11 @@ styled_example = record {
     None,
     separated _ _ _ _ _ None refl
         (record { style = refl; reads = nothing _ refl; writes = token _ _ _ _ refl (nothing _ refl) }) refl
-        (separated _ none _ _ [] None refl (record { style = refl; reads = nothing _ refl; writes = token _ _ _ _ refl (nothing _ refl) }) refl ended),
+        (separated _ none _ _ [] None refl (record {
+          style = refl;
+          reads = nothing _ refl;
+          writes = token _ _ _ _ refl (nothing _ refl);
+        }) refl ended),
     refl,
   );
   styles = refl;
@@ -106,12 +118,17 @@ path_example = record {
   defines = (
     None,
     separated _ none _ _ [] None refl
-        (record { style = refl; reads = variable _ _ _ _ _ _ _ refl (undated refl refl) (nothing _ refl); writes = token _ _ _ _ refl (nothing _ refl) }) refl ended,
+        (record {
+          style = refl;
+          reads = variable _ _ _ _ _ _ _ refl (undated refl refl) (nothing _ refl);
+          writes = token _ _ _ _ refl (nothing _ refl);
+        }) refl ended,
     refl,
   );
   expands = λ g e. (
     path_rule,
-    applies_once g FnLike path_argument path_rule (item no_items (taken (codes "p") items.as_path path_argument)) refl refl
+    applies_once g FnLike path_argument path_rule (item no_items (taken (codes "p") items.as_path path_argument)) refl
+        refl
         (((_, refl, (refl, ap (answer_fragment (Some kinds.Path) path_argument) e)), refl)) refl,
     this_one _ _ _,
     (_, (_, _, refl, refl, refl), refl),
@@ -122,7 +139,12 @@ path_example = record {
 
 pub text_example : TextExample
 text_example = record {
-  defines_literal = (None, separated _ none _ _ [] None refl (record { style = refl; reads = token _ _ _ _ refl (nothing _ refl); writes = nothing _ refl }) refl ended, refl);
+  defines_literal = (
+    None,
+    separated _ none _ _ [] None refl
+        (record { style = refl; reads = token _ _ _ _ refl (nothing _ refl); writes = nothing _ refl }) refl ended,
+    refl,
+  );
   expands_literal = λ g. (
     literal_rule,
     applies_once g FnLike _ literal_rule (item no_items (matched 1)) refl refl
@@ -130,7 +152,12 @@ text_example = record {
     this_one _ _ _,
     (_, refl, refl),
   );
-  defines_raw = (None, separated _ none _ _ [] None refl (record { style = refl; reads = token _ _ _ _ refl (nothing _ refl); writes = nothing _ refl }) refl ended, refl);
+  defines_raw = (
+    None,
+    separated _ none _ _ [] None refl
+        (record { style = refl; reads = token _ _ _ _ refl (nothing _ refl); writes = nothing _ refl }) refl ended,
+    refl,
+  );
   expands_raw = λ g. (
     raw_rule,
     applies_once g FnLike _ raw_rule (item no_items (matched 1)) refl refl
@@ -142,22 +169,37 @@ text_example = record {
 
 pub unbound_example : UnboundExample
 unbound_example = record {
-  defines = (None, separated _ none _ _ [] None refl (record { style = refl; reads = nothing _ refl; writes = token _ _ _ _ refl (nothing _ refl) }) refl ended, refl);
-  expands = λ g. (unbound_rule, applies_once g FnLike none unbound_rule no_items refl refl (refl, refl) refl, this_one _ _ _, (_, (_, _, refl, refl, refl), refl));
+  defines = (
+    None,
+    separated _ none _ _ [] None refl
+        (record { style = refl; reads = nothing _ refl; writes = token _ _ _ _ refl (nothing _ refl) }) refl ended,
+    refl,
+  );
+  expands = λ g. (
+    unbound_rule,
+    applies_once g FnLike none unbound_rule no_items refl refl (refl, refl) refl,
+    this_one _ _ _,
+    (_, (_, _, refl, refl, refl), refl),
+  );
 }
 
 -- ---- definitions that are refused
 
 pub refused_example : RefusedExample
 refused_example = record {
-  stray = (_, unseparated _ _ _ refl (record { style = refl; reads = nothing _ refl; writes = nothing _ refl }) refl, refl);
+  stray = (
+    _,
+    unseparated _ _ _ refl (record { style = refl; reads = nothing _ refl; writes = nothing _ refl }) refl,
+    refl,
+  );
   nullable = (
     None,
     separated _ none _ _ [] None refl
         (record {
           style = refl;
           reads = repeated _ _ _ _ _ _ _ refl
-              (repeated _ _ _ _ _ _ _ refl (variable _ _ _ _ _ _ _ refl (undated refl refl) (nothing _ refl)) (nothing _ refl)) (nothing _ refl);
+              (repeated _ _ _ _ _ _ _ refl (variable _ _ _ _ _ _ _ refl (undated refl refl) (nothing _ refl))
+              (nothing _ refl)) (nothing _ refl);
           writes = nothing _ refl;
         }) refl ended,
     refl,
@@ -185,14 +227,17 @@ twice_example = record {
     separated _ none _ _ [] None refl
         (record {
           style = refl;
-          reads = variable _ _ _ _ _ _ _ refl (undated refl refl) (variable _ _ _ _ _ _ _ refl (undated refl refl) (nothing _ refl));
+          reads = variable _ _ _ _ _ _ _ refl (undated refl refl)
+              (variable _ _ _ _ _ _ _ refl (undated refl refl) (nothing _ refl));
           writes = token _ _ _ _ refl (nothing _ refl);
         }) refl ended,
     refl,
   );
   expands = λ g. (
     twice_rule,
-    applies_once g FnLike _ twice_rule (item (item no_items (taken (codes "x") items.stripped (text_at 1 0 (codes "a") none))) (taken (codes "x") items.stripped (text_at 1 2 (codes "b") none))) refl refl
+    applies_once g FnLike _ twice_rule (item
+        (item no_items (taken (codes "x") items.stripped (text_at 1 0 (codes "a") none)))
+        (taken (codes "x") items.stripped (text_at 1 2 (codes "b") none))) refl refl
         (((_, (_, refl, (refl, refl)), (refl, refl)), refl)) refl,
     this_one _ _ _,
     (_, (_, _, refl, refl, refl), refl),
@@ -206,14 +251,16 @@ puncts_example = record {
     separated _ none _ _ [] None refl
         (record {
           style = refl;
-          reads = variable _ _ _ _ _ _ _ refl (undated refl refl) (variable _ _ _ _ _ _ _ refl (undated refl refl) (nothing _ refl));
+          reads = variable _ _ _ _ _ _ _ refl (undated refl refl)
+              (variable _ _ _ _ _ _ _ refl (undated refl refl) (nothing _ refl));
           writes = token _ _ _ _ refl (token _ _ _ _ refl (nothing _ refl));
         }) refl ended,
     refl,
   );
   expands = λ g. (
     puncts_rule,
-    applies_once g FnLike _ puncts_rule (item (item no_items (taken (codes "a") items.stripped (joint_at 1 0 59 none))) (taken (codes "b") items.stripped (alone_at 1 1 43 none))) refl refl
+    applies_once g FnLike _ puncts_rule (item (item no_items (taken (codes "a") items.stripped (joint_at 1 0 59 none)))
+        (taken (codes "b") items.stripped (alone_at 1 1 43 none))) refl refl
         (((_, (_, refl, (refl, refl)), (refl, refl)), refl)) refl,
     this_one _ _ _,
     (_, (_, _, refl, (_, _, refl, refl, refl), refl), refl),
@@ -236,10 +283,15 @@ double_example = record {
   );
   expands = λ g e. (
     double_rule,
-    applies_once g FnLike sum_argument double_rule (item no_items (taken (codes "e") items.as_expression sum_argument)) refl refl
+    applies_once g FnLike sum_argument double_rule (item no_items (taken (codes "e") items.as_expression sum_argument))
+        refl refl
         (((_, refl, (refl, ap (answer_fragment (Some (kinds.Expr exprs.Expr)) sum_argument) e)), refl)) refl,
     this_one _ _ _,
-    (_, (_, _, (_, refl, refl), (_, _, (_, _, refl, refl, refl), (_, _, (_, refl, refl), refl, refl), refl), refl), refl),
+    (
+      _,
+      (_, _, (_, refl, refl), (_, _, (_, _, refl, refl, refl), (_, _, (_, refl, refl), refl, refl), refl), refl),
+      refl,
+    ),
   );
 }
 
@@ -252,11 +304,16 @@ let_example = record {
   defines = (
     None,
     separated _ none _ _ [] None refl
-        (record { style = refl; reads = variable _ _ _ _ _ _ _ refl (dated_expr _ refl refl) (nothing _ refl); writes = nothing _ refl }) refl ended,
+        (record {
+          style = refl;
+          reads = variable _ _ _ _ _ _ _ refl (dated_expr _ refl refl) (nothing _ refl);
+          writes = nothing _ refl;
+        }) refl ended,
     refl,
   );
   verdict = let_verdict;
-  closest = λ g w. closest_alone g FnLike let_argument let_rule (stuck 0) 0 refl (let_verdict g w) (λ is f. absurd ((let_verdict g w).1 is f.1.0));
+  closest = λ g w. closest_alone g FnLike let_argument let_rule (stuck 0) 0 refl (let_verdict g w)
+      (λ is f. absurd ((let_verdict g w).1 is f.1.0));
 }
 
 -- ---- fronts
@@ -279,4 +336,9 @@ front_example = record {
         else Some (record { span = at 1 0 1; kind = binding_error (codes "expected Expr") })
 
 pub no_rule_example : NoRuleExample
-no_rule_example = record { styles = refl; text = refl; none_of_style = λ h. let k = (h.1).1 in absurd (omega (arith, k)) }
+no_rule_example = record {
+  styles = refl;
+  text = refl;
+  none_of_style = λ h. let k = (h.1).1 in
+      absurd (omega (arith, k));
+}

@@ -22,17 +22,32 @@ fault_examples = record {
   no_greater = (_, no_rule _ _ (λ e. cc) refl, refl);
   one_element = (_, faulty_rule _ _ _ refl (in_template _ (nothing _ refl) (here _ refl)), refl);
   suffixed = (_, faulty_rule _ _ _ refl (in_template _ (nothing _ refl) (here _ refl)), refl);
-  text_depth = (None, separated _ none _ _ [] None refl (record { style = refl; reads = nothing _ refl; writes = token _ _ _ _ refl (nothing _ refl) }) refl ended, refl);
-  more_in_braces = (None, separated _ none _ _ [] None refl (record { style = refl; reads = nothing _ refl; writes = token _ _ _ _ refl (nothing _ refl) }) refl ended, refl);
+  text_depth = (
+    None,
+    separated _ none _ _ [] None refl
+        (record { style = refl; reads = nothing _ refl; writes = token _ _ _ _ refl (nothing _ refl) }) refl ended,
+    refl,
+  );
+  more_in_braces = (
+    None,
+    separated _ none _ _ [] None refl
+        (record { style = refl; reads = nothing _ refl; writes = token _ _ _ _ refl (nothing _ refl) }) refl ended,
+    refl,
+  );
   later = (
     _,
-    separated _ _ _ _ _ _ refl (record { style = refl; reads = nothing _ refl; writes = nothing _ refl }) refl (faulty_rule _ _ _ refl (in_pattern (here _ refl))),
+    separated _ _ _ _ _ _ refl (record { style = refl; reads = nothing _ refl; writes = nothing _ refl }) refl
+        (faulty_rule _ _ _ refl (in_pattern (here _ refl))),
     refl,
   );
   over_stray = (
     _,
     unseparated _ _ _ refl
-        (record { style = refl; reads = repeated _ _ _ _ _ _ _ refl (nothing _ refl) (nothing _ refl); writes = nothing _ refl }) refl,
+        (record {
+          style = refl;
+          reads = repeated _ _ _ _ _ _ _ refl (nothing _ refl) (nothing _ refl);
+          writes = nothing _ refl;
+        }) refl,
     refl,
   );
   body = (

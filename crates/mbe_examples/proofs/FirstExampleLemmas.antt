@@ -61,10 +61,46 @@ pair_applies g = record {
 pub pair_example : PairExample
 unfolding pair_applies
 pair_example = record {
-  parsed = (None, separated _ none _ _ [] None refl (record { style = refl; reads = pair_pattern; writes = pair_template }) refl ended, refl);
+  parsed = (
+    None,
+    separated _ none _ _ [] None refl
+        (record { style = refl; reads = pair_pattern; writes = pair_template }) refl ended,
+    refl,
+  );
   read = pair_read;
-  written = λ g. (_, (_, _, (_, refl, refl), (_, _, (_, _, _, refl, refl, (_, _, refl, refl, refl), refl), (_, _, refl, refl, refl), refl), refl), refl);
-  expands = λ g. (pair_rule, pair_applies g, this_one _ _ _, (_, (_, _, (_, refl, refl), (_, _, (_, _, _, refl, refl, (_, _, refl, refl, refl), refl), (_, _, refl, refl, refl), refl), refl), refl));
+  written = λ g. (
+    _,
+    (
+      _,
+      _,
+      (_, refl, refl),
+      (_, _, (_, _, _, refl, refl, (_, _, refl, refl, refl), refl), (_, _, refl, refl, refl), refl),
+      refl,
+    ),
+    refl,
+  );
+  expands = λ g. (
+    pair_rule,
+    pair_applies g,
+    this_one _ _ _,
+    (
+      _,
+      (
+        _,
+        _,
+        (_, refl, refl),
+        (
+          _,
+          _,
+          (_, _, _, refl, refl, (_, _, refl, refl, refl), refl),
+          (_, _, refl, refl, refl),
+          refl,
+        ),
+        refl,
+      ),
+      refl,
+    ),
+  );
 }
 
 -- ---- two readings
@@ -93,7 +129,10 @@ differ : first_a ≢ second_a
 differ e = false≢true (sym (ap ends_skipped e))
 
 twice_verdict : (g : Grammar) → IsVerdict g twice_pattern twice_argument many_readings
-twice_verdict g = ((λ q. words_never_ambiguous g twice_pattern twice_argument q refl), (first_a, second_a, read_first g, read_second g, differ))
+twice_verdict g = (
+  (λ q. words_never_ambiguous g twice_pattern twice_argument q refl),
+  (first_a, second_a, read_first g, read_second g, differ),
+)
 
 pub optional_example : OptionalExample
 optional_example = record {
@@ -102,7 +141,8 @@ optional_example = record {
     separated _ none _ _ [] None refl
         (record {
           style = refl;
-          reads = repeated _ _ _ _ _ _ _ refl (token _ _ _ _ refl (nothing _ refl)) (repeated _ _ _ _ _ _ _ refl (token _ _ _ _ refl (nothing _ refl)) (nothing _ refl));
+          reads = repeated _ _ _ _ _ _ _ refl (token _ _ _ _ refl (nothing _ refl))
+              (repeated _ _ _ _ _ _ _ refl (token _ _ _ _ refl (nothing _ refl)) (nothing _ refl));
           writes = nothing _ refl;
         }) refl ended,
     refl,
@@ -153,14 +193,16 @@ cast_example = record {
     separated _ none _ _ [] None refl
         (record {
           style = refl;
-          reads = repeated _ _ _ _ _ _ _ refl (variable _ _ _ _ _ _ _ refl (undated refl refl) (nothing _ refl)) (token _ _ _ _ refl
+          reads = repeated _ _ _ _ _ _ _ refl (variable _ _ _ _ _ _ _ refl (undated refl refl) (nothing _ refl))
+              (token _ _ _ _ refl
               (variable _ _ _ _ _ _ _ refl (undated refl refl) (nothing _ refl)));
           writes = nothing _ refl;
         }) refl ended,
     refl,
   );
   verdict = cast_verdict;
-  closest = λ g. closest_alone g FnLike cast_argument cast_rule (ambiguous 0) 0 refl (cast_verdict g) (λ is f. absurd (f.0 0 (cast_verdict g).0));
+  closest = λ g. closest_alone g FnLike cast_argument cast_rule (ambiguous 0) 0 refl (cast_verdict g)
+      (λ is f. absurd (f.0 0 (cast_verdict g).0));
 }
 
 quote_place : (g : Grammar) → IsAmbiguousAt g quote_pattern quote_argument 1
@@ -190,14 +232,17 @@ quote_example = record {
     separated _ none _ _ [] None refl
         (record {
           style = refl;
-          reads = repeated _ _ _ _ _ _ _ refl (token _ _ _ _ refl (repeated _ _ _ _ _ _ _ refl (token _ _ _ _ refl (nothing _ refl)) (nothing _ refl))) (nothing _ refl);
+          reads = repeated _ _ _ _ _ _ _ refl
+              (token _ _ _ _ refl (repeated _ _ _ _ _ _ _ refl (token _ _ _ _ refl (nothing _ refl)) (nothing _ refl)))
+              (nothing _ refl);
           writes = nothing _ refl;
         }) refl ended,
     refl,
   );
   place = quote_place;
   verdict = quote_verdict;
-  closest = λ g w. closest_alone g FnLike quote_argument quote_rule (ambiguous 1) 0 refl (quote_verdict g w) (λ is f. absurd (f.0 1 (quote_place g)));
+  closest = λ g w. closest_alone g FnLike quote_argument quote_rule (ambiguous 1) 0 refl (quote_verdict g w)
+      (λ is f. absurd (f.0 1 (quote_place g)));
 }
 
 -- ---- one reading, by a run
@@ -222,7 +267,9 @@ rounds_example = record {
     separated _ none _ _ [] None refl
         (record {
           style = refl;
-          reads = repeated _ _ _ _ _ _ _ refl (token _ _ _ _ refl (repeated _ _ _ _ _ _ _ refl (token _ _ _ _ refl (nothing _ refl)) (nothing _ refl))) (nothing _ refl);
+          reads = repeated _ _ _ _ _ _ _ refl
+              (token _ _ _ _ refl (repeated _ _ _ _ _ _ _ refl (token _ _ _ _ refl (nothing _ refl)) (nothing _ refl)))
+              (nothing _ refl);
           writes = nothing _ refl;
         }) refl ended,
     refl,
@@ -239,10 +286,58 @@ template_examples = record {
   faultless = refl;
   nested = refl;
   no_round = refl;
-  shorter = λ g. (_, (_, _, (_, _, (_, _, refl, (_, _, refl, refl, refl), refl), (_, _, refl, (_, _, refl, refl, refl), refl), refl), refl, refl), refl);
+  shorter = λ g. (
+    _,
+    (
+      _,
+      _,
+      (
+        _,
+        _,
+        (_, _, refl, (_, _, refl, refl, refl), refl),
+        (_, _, refl, (_, _, refl, refl, refl), refl),
+        refl,
+      ),
+      refl,
+      refl,
+    ),
+    refl,
+  );
   counts = λ g. (_, (_, _, refl, (_, _, refl, refl, refl), refl), refl);
-  indexes = λ g. (_, (_, _, (_, _, (_, _, refl, (_, _, refl, refl, refl), refl), (_, _, refl, (_, _, refl, refl, refl), refl), refl), refl, refl), refl);
-  far_index = λ g. (_, (_, _, (_, _, (_, _, refl, (_, _, refl, refl, refl), refl), (_, _, refl, (_, _, refl, refl, refl), refl), refl), refl, refl), refl);
+  indexes = λ g. (
+    _,
+    (
+      _,
+      _,
+      (
+        _,
+        _,
+        (_, _, refl, (_, _, refl, refl, refl), refl),
+        (_, _, refl, (_, _, refl, refl, refl), refl),
+        refl,
+      ),
+      refl,
+      refl,
+    ),
+    refl,
+  );
+  far_index = λ g. (
+    _,
+    (
+      _,
+      _,
+      (
+        _,
+        _,
+        (_, _, refl, (_, _, refl, refl, refl), refl),
+        (_, _, refl, (_, _, refl, refl, refl), refl),
+        refl,
+      ),
+      refl,
+      refl,
+    ),
+    refl,
+  );
   first_only = λ g. (_, (_, _, (_, _, refl, refl, refl), refl, refl), refl);
   below_limit = refl;
   limit = refl;
@@ -260,7 +355,11 @@ template_examples = record {
 
 pub definition_examples : DefinitionExamples
 definition_examples = record {
-  stray = (_, unseparated _ _ _ refl (record { style = refl; reads = nothing _ refl; writes = nothing _ refl }) refl, refl);
+  stray = (
+    _,
+    unseparated _ _ _ refl (record { style = refl; reads = nothing _ refl; writes = nothing _ refl }) refl,
+    refl,
+  );
   no_template = (_, no_rule _ _ (λ e. false≢true (sym (ap (λ f. nat_le 1 (flat_len f)) e))) refl, refl);
   refused = refl;
   any_literal = λ rest. refl;
@@ -275,7 +374,9 @@ definition_examples = record {
 }
   where
     taken_by_vis : Front → Option Fragment
-    taken_by_vis a = fragment_of (Some Vis) (if not a.fault && (flat_len (cut_flat a.count none).front == a.count) then Some (cut_flat a.count none) else None)
+    taken_by_vis a = fragment_of (Some Vis)
+        (if not a.fault && (flat_len (cut_flat a.count none).front == a.count) then Some (cut_flat a.count none) else
+        None)
 
 -- ---- verdicts, by runs
 
@@ -286,34 +387,48 @@ verdict_examples g w = record {
   group_none = by_run g group_pattern (in_parentheses none none) _ w refl refl;
   group_two = by_run g group_pattern (in_parentheses (a_then (a_then none)) none) _ w refl refl;
   group_more = by_run g group_pattern (in_parentheses (a_then none) (a_then none)) _ w refl refl;
-  group_other = by_run g group_pattern (group (delimiter_of Brace (at 1 0 1) (at 1 0 1)) (a_then none) none) _ w refl refl;
+  group_other = by_run g group_pattern (group (delimiter_of Brace (at 1 0 1) (at 1 0 1)) (a_then none) none) _ w refl
+      refl;
   list_none = by_run g list_pattern none _ w refl refl;
   list_two = by_run g list_pattern (a_then (comma_then (a_then none))) _ w refl refl;
   list_comma = by_run g list_pattern (a_then (comma_then none)) _ w refl refl;
   list_missing = by_run g list_pattern (a_then (a_then none)) _ w refl refl;
-  or_variable = by_run g (op (ops.repetition (op (token_of (codes "a")) no_ops) None ZeroOrMore) (op x_variable no_ops)) (a_then none) _ w refl refl;
-  then_b = by_run g (op (ops.repetition (op (token_of (codes "a")) no_ops) None ZeroOrMore) (op (token_of (codes "b")) no_ops)) (a_then (a_then (word (codes "b") (at 1 0 1) none))) _ w refl refl;
-  two_lists = by_run g (op (ops.repetition (op (token_of (codes "a")) no_ops) None ZeroOrMore) (op (ops.repetition (op (token_of (codes "a")) no_ops) None ZeroOrMore) no_ops)) (a_then none) _ w refl refl;
-  at_least_one = by_run g (op (ops.repetition (op (token_of (codes "a")) no_ops) None OneOrMore) no_ops) none _ w refl refl;
-  at_most_one = by_run g (op (ops.repetition (op (token_of (codes "a")) no_ops) None ZeroOrOne) no_ops) (a_then (a_then none)) _ w refl refl;
+  or_variable = by_run g (op (ops.repetition (op (token_of (codes "a")) no_ops) None ZeroOrMore) (op x_variable no_ops))
+      (a_then none) _ w refl refl;
+  then_b = by_run g (op (ops.repetition (op (token_of (codes "a")) no_ops) None ZeroOrMore)
+      (op (token_of (codes "b")) no_ops)) (a_then (a_then (word (codes "b") (at 1 0 1) none))) _ w refl refl;
+  two_lists = by_run g (op (ops.repetition (op (token_of (codes "a")) no_ops) None ZeroOrMore)
+      (op (ops.repetition (op (token_of (codes "a")) no_ops) None ZeroOrMore) no_ops)) (a_then none) _ w refl refl;
+  at_least_one = by_run g (op (ops.repetition (op (token_of (codes "a")) no_ops) None OneOrMore) no_ops) none _ w refl
+      refl;
+  at_most_one = by_run g (op (ops.repetition (op (token_of (codes "a")) no_ops) None ZeroOrOne) no_ops)
+      (a_then (a_then none)) _ w refl refl;
   empty_body = by_run g (op (ops.repetition no_ops comma ZeroOrMore) no_ops) none _ w refl refl;
   empty_bodies = by_run g (op (ops.repetition no_ops comma ZeroOrMore) no_ops) (comma_then none) _ w refl refl;
-  two_fragments = by_run g (op (ops.repetition (op x_variable no_ops) None ZeroOrMore) (op x_variable no_ops)) (a_then none) _ w refl refl;
-  group_inside = by_run g (op (ops.group (delimiter_of Parenthesis (at 0 0 1) (at 0 0 1)) (op (token_of (codes "a")) (op (token_of (codes "b")) no_ops))) no_ops)
+  two_fragments = by_run g (op (ops.repetition (op x_variable no_ops) None ZeroOrMore) (op x_variable no_ops))
+      (a_then none) _ w refl refl;
+  group_inside = by_run g (op (ops.group (delimiter_of Parenthesis (at 0 0 1) (at 0 0 1))
+      (op (token_of (codes "a")) (op (token_of (codes "b")) no_ops))) no_ops)
       (in_parentheses (a_then (word (codes "c") (at 1 0 1) none)) none) _ w refl refl;
-  old_underscore = by_run g (op (of_kind (kinds.Expr exprs.Expr2021)) no_ops) (word (codes "_") (at 1 0 1) none) _ w refl refl;
-  old_const = by_run g (op (of_kind (kinds.Expr exprs.Expr2021)) no_ops) (word (codes "const") (at 1 0 5) none) _ w refl refl;
+  old_underscore = by_run g (op (of_kind (kinds.Expr exprs.Expr2021)) no_ops) (word (codes "_") (at 1 0 1) none) _ w
+      refl refl;
+  old_const = by_run g (op (of_kind (kinds.Expr exprs.Expr2021)) no_ops) (word (codes "const") (at 1 0 5) none) _ w refl
+      refl;
   no_underscore = by_run g (op x_variable no_ops) (word (codes "_") (at 1 0 1) none) _ w refl refl;
   lifetime = by_run g (op (of_kind kinds.Lifetime) no_ops) (quote_then (a_then none)) _ w refl refl;
   tree_lifetime = by_run g (op (of_kind kinds.Tt) no_ops) (quote_then (a_then none)) _ w refl refl;
   tree_quote = by_run g (op (of_kind kinds.Tt) no_ops) (quote_then none) _ w refl refl;
-  signed_truth = by_run g (op (of_kind kinds.Literal) no_ops) (mark 45 Alone (at 1 0 1) (word (codes "true") (at 1 1 5) none)) _ w refl refl;
+  signed_truth = by_run g (op (of_kind kinds.Literal) no_ops)
+      (mark 45 Alone (at 1 0 1) (word (codes "true") (at 1 1 5) none)) _ w refl refl;
   truth_separator = by_run g
-      (op (list_between (ops.literal_separator (record { text_and_suffix = codes "true"; suffix_len = 0; kind = Str; span = at 0 0 1 })) ZeroOrMore) no_ops)
+      (op (list_between (ops.literal_separator
+      (record { text_and_suffix = codes "true"; suffix_len = 0; kind = Str; span = at 0 0 1 })) ZeroOrMore) no_ops)
       (a_then (word (codes "true") (at 1 2 6) (a_then none))) _ w refl refl;
-  never_glued = by_run g (op (list_between (ops.punct_separator (punct_of 59 Joint (at 0 0 1) ∷ punct_of 59 Alone (at 0 1 2) ∷ [])) ZeroOrMore) no_ops)
+  never_glued = by_run g (op (list_between
+      (ops.punct_separator (punct_of 59 Joint (at 0 0 1) ∷ punct_of 59 Alone (at 0 1 2) ∷ [])) ZeroOrMore) no_ops)
       (a_then (mark 59 Joint (at 1 1 2) (mark 59 Alone (at 1 2 3) (a_then none)))) _ w refl refl;
-  one_round = by_run g (op (list_between (ops.punct_separator (punct_of 44 Joint (at 0 0 1) ∷ [])) ZeroOrOne) no_ops) (a_then (comma_then none)) _ w refl refl;
+  one_round = by_run g (op (list_between (ops.punct_separator (punct_of 44 Joint (at 0 0 1) ∷ [])) ZeroOrOne) no_ops)
+      (a_then (comma_then none)) _ w refl refl;
   arrow = by_run g arrow_pattern (mark 61 Joint (at 1 0 1) (mark 62 Alone (at 1 1 2) none)) _ w refl refl;
   no_arrow = by_run g arrow_pattern (mark 61 Alone (at 1 0 1) (mark 62 Alone (at 1 2 3) none)) _ w refl refl;
 }

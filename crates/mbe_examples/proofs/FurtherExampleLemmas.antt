@@ -26,7 +26,8 @@ use Rattle.mbe_laws.proofs.Matching.RunLemmas.{one_verdict}
 
 -- ---- a literal and its sign
 
-never_at : (g : Grammar) → IsLawful g → (r : Rule) (argument : Forest) → IsVerdict g r.reads argument (verdicts.stuck 0) → Applies g FnLike argument r → ⊥
+never_at : (g : Grammar) → IsLawful g → (r : Rule) (argument : Forest) → IsVerdict g r.reads argument (verdicts.stuck 0)
+    → Applies g FnLike argument r → ⊥
 never_at g w r argument v a = v.1 a.items (a.fits).1.0
 
 no_one : (g : Grammar) → IsLawful g → IsVerdict g one_rule.reads signed_argument (verdicts.stuck 0)
@@ -46,29 +47,50 @@ sign_example = record {
   defines = (
     None,
     separated _ _ _ _ _ None refl
-        (record { style = refl; reads = token _ _ _ _ refl (token _ _ _ _ refl (nothing _ refl)); writes = token _ _ _ _ refl (token _ _ _ _ refl (nothing _ refl)) }) refl
+        (record {
+          style = refl;
+          reads = token _ _ _ _ refl (token _ _ _ _ refl (nothing _ refl));
+          writes = token _ _ _ _ refl (token _ _ _ _ refl (nothing _ refl));
+        }) refl
         (separated _ _ _ _ _ None refl
-        (record { style = refl; reads = token _ _ _ _ refl (token _ _ _ _ refl (nothing _ refl)); writes = token _ _ _ _ refl (token _ _ _ _ refl (nothing _ refl)) }) refl
+        (record {
+          style = refl;
+          reads = token _ _ _ _ refl (token _ _ _ _ refl (nothing _ refl));
+          writes = token _ _ _ _ refl (token _ _ _ _ refl (nothing _ refl));
+        }) refl
         (separated _ _ _ _ _ None refl
-        (record { style = refl; reads = token _ _ _ _ refl (token _ _ _ _ refl (nothing _ refl)); writes = token _ _ _ _ refl (token _ _ _ _ refl (nothing _ refl)) }) refl
+        (record {
+          style = refl;
+          reads = token _ _ _ _ refl (token _ _ _ _ refl (nothing _ refl));
+          writes = token _ _ _ _ refl (token _ _ _ _ refl (nothing _ refl));
+        }) refl
         (separated _ none _ _ [] None refl
-        (record { style = refl; reads = token _ _ _ _ refl (variable _ _ _ _ _ _ _ refl (undated refl refl) (nothing _ refl)); writes = token _ _ _ _ refl (nothing _ refl) })
+        (record {
+          style = refl;
+          reads = token _ _ _ _ refl
+              (variable _ _ _ _ _ _ _ refl (undated refl refl) (nothing _ refl));
+          writes =
+              token _ _ _ _ refl (nothing _ refl);
+        })
         refl ended))),
     refl,
   );
   taken = λ g w. (
     any_literal_rule,
     applies_once g FnLike signed_argument any_literal_rule
-        (item (item no_items (matched 1)) (taken (codes "lit") items.stripped (alone_at 1 1 45 (number_at 1 2 (codes "1") none)))) refl refl
+        (item (item no_items (matched 1)) (taken (codes "lit") items.stripped
+        (alone_at 1 1 45 (number_at 1 2 (codes "1") none)))) refl refl
         ((_, (_, refl, refl), (refl, refl)), refl) refl,
     a_later_one _ _ _ 2 3 _ (never_at g w one_rule signed_argument (no_one g w))
         (a_later_one _ _ _ 1 2 _ (never_at g w two_rule signed_argument (no_two g w))
-        (a_later_one _ _ _ 0 1 _ (never_at g w three_rule signed_argument (no_three g w)) (this_one _ _ _) refl) refl) refl,
+        (a_later_one _ _ _ 0 1 _ (never_at g w three_rule signed_argument (no_three g w)) (this_one _ _ _) refl) refl)
+        refl,
     (_, (_, _, refl, refl, refl), refl),
   );
   spaced = λ g. (
     one_rule,
-    applies_once g FnLike spaced_argument one_rule (item (item no_items (matched 1)) (matched 1)) refl refl ((_, (_, refl, refl), refl), refl) refl,
+    applies_once g FnLike spaced_argument one_rule (item (item no_items (matched 1)) (matched 1)) refl refl
+        ((_, (_, refl, refl), refl), refl) refl,
     this_one _ _ _,
     (_, (_, _, (_, _, refl, refl, refl), (_, _, (_, refl, refl), refl, refl), refl), refl),
   );
@@ -88,7 +110,8 @@ unfolding verdict run tree
 plus_run g = refl
 
 abbrev plus_applies : (g : Grammar) → IsLawful g → Applies g FnLike star_argument plus_rule
-plus_applies g w = applies_by_run g FnLike star_argument plus_rule plus_items w refl refl (plus_run g) (plus_read g) refl
+plus_applies g w = applies_by_run g FnLike star_argument plus_rule plus_items w refl refl (plus_run g) (plus_read g)
+    refl
 
 pub plus_example : PlusExample
 plus_example = record {
@@ -97,7 +120,8 @@ plus_example = record {
     separated _ none _ _ [] None refl
         (record {
           style = refl;
-          reads = repeated _ _ _ _ _ _ _ refl (token _ _ _ _ refl (nothing _ refl)) (token _ _ _ _ refl (nothing _ refl));
+          reads = repeated _ _ _ _ _ _ _ refl (token _ _ _ _ refl (nothing _ refl))
+              (token _ _ _ _ refl (nothing _ refl));
           writes = nothing _ refl;
         }) refl ended,
     refl,
@@ -115,14 +139,17 @@ pub invisible_example : InvisibleExample
 invisible_example = record {
   opened = λ g. (
     tree_rule,
-    applies_once g FnLike hidden_a tree_rule (item no_items (taken (codes "x") items.stripped hidden_a)) refl refl ((_, refl, (refl, refl)), refl) refl,
+    applies_once g FnLike hidden_a tree_rule (item no_items (taken (codes "x") items.stripped hidden_a)) refl refl
+        ((_, refl, (refl, refl)), refl) refl,
     this_one _ _ _,
     (_, (_, _, refl, refl, refl), refl),
   );
   closed = closed_verdict;
   entered = λ g. (
     hidden_rule,
-    applies_once g FnLike hidden_a hidden_rule (item no_items (grouped (item no_items (taken (codes "x") items.stripped (text_at 1 0 (codes "a") none))))) refl refl
+    applies_once g FnLike hidden_a hidden_rule
+        (item no_items (grouped (item no_items (taken (codes "x") items.stripped (text_at 1 0 (codes "a") none))))) refl
+        refl
         ((_, refl, (refl, (_, refl, (refl, refl)), refl)), refl) refl,
     this_one _ _ _,
     (_, (_, _, refl, refl, refl), refl),
@@ -139,7 +166,8 @@ stays_argument = a_at 0 (text_at 1 2 (codes "b") (text_at 1 4 (codes "c") none))
 
 abbrev stays_items : Items
 stays_items =
-    item (item no_items (word_item 0 (codes "a"))) (rounds (round no_rounds (item no_items (word_item 2 (codes "b"))) 0) (item no_items (word_item 4 (codes "c"))))
+    item (item no_items (word_item 0 (codes "a")))
+    (rounds (round no_rounds (item no_items (word_item 2 (codes "b"))) 0) (item no_items (word_item 4 (codes "c"))))
 
 stays_read : (g : Grammar) → IsReading g one_then_list.reads stays_argument stays_items
 stays_read g = ((_, (_, refl, (refl, refl)), ((tt, tt, (_, refl, (refl, refl)), refl), (_, refl, (refl, refl)))), refl)
@@ -149,48 +177,68 @@ unfolding verdict run tree
 stays_run g = refl
 
 abbrev stays_applies : (g : Grammar) → IsLawful g → Applies g FnLike stays_argument one_then_list
-stays_applies g w = applies_by_run g FnLike stays_argument one_then_list stays_items w refl refl (stays_run g) (stays_read g) refl
+stays_applies g w = applies_by_run g FnLike stays_argument one_then_list stays_items w refl refl (stays_run g)
+    (stays_read g) refl
 
 abbrev replaces_argument : Forest
 replaces_argument = a_at 0 (text_at 1 2 (codes "b") (alone_at 1 4 59 (text_at 1 6 (codes "c") none)))
 
 abbrev replaces_items : Items
 replaces_items =
-    item (item (item no_items (rounds (round no_rounds (item no_items (word_item 0 (codes "a"))) 0) (item no_items (word_item 2 (codes "b"))))) (matched 1)) (word_item 6 (codes "c"))
+    item (item (item no_items (rounds (round no_rounds (item no_items (word_item 0 (codes "a"))) 0)
+    (item no_items (word_item 2 (codes "b"))))) (matched 1)) (word_item 6 (codes "c"))
 
 replaces_read : (g : Grammar) → IsReading g list_then_one.reads replaces_argument replaces_items
-replaces_read g = ((_, (_, (_, refl, ((tt, tt, (_, refl, (refl, refl)), refl), (_, refl, (refl, refl)))), refl), (refl, refl)), refl)
+replaces_read g = (
+  (
+    _,
+    (_, (_, refl, ((tt, tt, (_, refl, (refl, refl)), refl), (_, refl, (refl, refl)))), refl),
+    (refl, refl),
+  ),
+  refl,
+)
 
 replaces_run : (g : Grammar) → verdict g list_then_one.reads replaces_argument ≡ verdicts.one_reading
 unfolding verdict run tree
 replaces_run g = refl
 
 abbrev replaces_applies : (g : Grammar) → IsLawful g → Applies g FnLike replaces_argument list_then_one
-replaces_applies g w = applies_by_run g FnLike replaces_argument list_then_one replaces_items w refl refl (replaces_run g) (replaces_read g) refl
+replaces_applies g w = applies_by_run g FnLike replaces_argument list_then_one replaces_items w refl refl
+    (replaces_run g) (replaces_read g) refl
 
 abbrev appended_argument : Forest
 appended_argument = a_at 0 (alone_at 1 2 59 (text_at 1 4 (codes "b") (alone_at 1 5 44 (text_at 1 7 (codes "c") none))))
 
 abbrev appended_items : Items
 appended_items =
-    item (item (item no_items (rounds no_rounds (item no_items (word_item 0 (codes "a"))))) (matched 1)) (rounds (round no_rounds (item no_items (word_item 4 (codes "b"))) 1) (item no_items (word_item 7 (codes "c"))))
+    item (item (item no_items (rounds no_rounds (item no_items (word_item 0 (codes "a"))))) (matched 1))
+    (rounds (round no_rounds (item no_items (word_item 4 (codes "b"))) 1) (item no_items (word_item 7 (codes "c"))))
 
 appended_read : (g : Grammar) → IsReading g two_lists.reads appended_argument appended_items
-appended_read g = ((_, (_, (_, refl, (tt, (_, refl, (refl, refl)))), refl), ((tt, tt, (_, refl, (refl, refl)), refl), (_, refl, (refl, refl)))), refl)
+appended_read g = (
+  (
+    _,
+    (_, (_, refl, (tt, (_, refl, (refl, refl)))), refl),
+    ((tt, tt, (_, refl, (refl, refl)), refl), (_, refl, (refl, refl))),
+  ),
+  refl,
+)
 
 appended_run : (g : Grammar) → verdict g two_lists.reads appended_argument ≡ verdicts.one_reading
 unfolding verdict run tree
 appended_run g = refl
 
 abbrev appended_applies : (g : Grammar) → IsLawful g → Applies g FnLike appended_argument two_lists
-appended_applies g w = applies_by_run g FnLike appended_argument two_lists appended_items w refl refl (appended_run g) (appended_read g) refl
+appended_applies g w = applies_by_run g FnLike appended_argument two_lists appended_items w refl refl (appended_run g)
+    (appended_read g) refl
 
 abbrev skipped_argument : Forest
 skipped_argument = alone_at 1 0 59 (text_at 1 2 (codes "b") none)
 
 abbrev skipped_items : Items
 skipped_items =
-    item (item (item no_items (skipped (codes "x" ∷ []))) (matched 1)) (rounds no_rounds (item no_items (word_item 2 (codes "b"))))
+    item (item (item no_items (skipped (codes "x" ∷ []))) (matched 1))
+    (rounds no_rounds (item no_items (word_item 2 (codes "b"))))
 
 skipped_read : (g : Grammar) → IsReading g two_lists.reads skipped_argument skipped_items
 skipped_read g = ((_, (_, (_, refl, (tt, refl)), refl), (tt, (_, refl, (refl, refl)))), refl)
@@ -200,7 +248,8 @@ unfolding verdict run tree
 skipped_run g = refl
 
 abbrev skipped_applies : (g : Grammar) → IsLawful g → Applies g FnLike skipped_argument two_lists
-skipped_applies g w = applies_by_run g FnLike skipped_argument two_lists skipped_items w refl refl (skipped_run g) (skipped_read g) refl
+skipped_applies g w = applies_by_run g FnLike skipped_argument two_lists skipped_items w refl refl (skipped_run g)
+    (skipped_read g) refl
 
 pub names_example : NamesExample
 names_example = record {
@@ -210,12 +259,24 @@ names_example = record {
     two_lists,
     appended_applies g w,
     this_one _ _ _,
-    (_, (_, _, (_, _, (_, _, (_, _, refl, refl, refl), (_, _, refl, refl, refl), refl), (_, _, refl, refl, refl), refl), refl, refl), refl),
+    (
+      _,
+      (
+        _,
+        _,
+        (_, _, (_, _, (_, _, refl, refl, refl), (_, _, refl, refl, refl), refl), (_, _, refl, refl, refl), refl),
+        refl,
+        refl,
+      ),
+      refl,
+    ),
   );
   beside = λ g. (
     beside_rule,
-    applies_once g FnLike (a_at 0 (group (delimiter_of Parenthesis (at 1 2 3) (at 1 4 5)) (text_at 1 3 (codes "b") none) none)) beside_rule
-        (item (item no_items (word_item 0 (codes "a"))) (grouped (item no_items (taken (codes "y") items.stripped (text_at 1 3 (codes "b") none))))) refl refl
+    applies_once g FnLike (a_at 0 (group (delimiter_of Parenthesis (at 1 2 3) (at 1 4 5)) (text_at 1 3 (codes "b") none)
+        none)) beside_rule
+        (item (item no_items (word_item 0 (codes "a")))
+        (grouped (item no_items (taken (codes "y") items.stripped (text_at 1 3 (codes "b") none))))) refl refl
         ((_, (_, refl, (refl, refl)), (refl, (_, refl, (refl, refl)), refl)), refl) refl,
     this_one _ _ _,
     (_, (_, _, refl, (_, _, refl, refl, refl), refl), refl),
@@ -232,7 +293,8 @@ abbrev bound_in_rule : ℕ → ℕ → ℕ → ℕ
 bound_in_rule a b zero = a
 bound_in_rule a b (suc n) = b
 
-module _ (g : Grammar) (argument : Forest) (r q : Rule) (is js : Items) (r_fits : Fits g r.reads argument is) (q_fits : Fits g q.reads argument js)
+module _ (g : Grammar) (argument : Forest) (r q : Rule) (is js : Items) (r_fits : Fits g r.reads argument is)
+    (q_fits : Fits g q.reads argument js)
     (r_styled : r.style ≡ FnLike) (q_styled : q.style ≡ FnLike) where
   abbrev all_left : ℕ
   all_left = unmatched argument verdicts.one_reading
@@ -243,32 +305,63 @@ module _ (g : Grammar) (argument : Forest) (r q : Rule) (is js : Items) (r_fits 
   q_verdict : IsVerdict g q.reads argument verdicts.one_reading
   q_verdict = (q_fits.0, (js, q_fits.1))
 
-  left_at : (m : ℕ) (s : Rule) → IsStyledAt (r ∷ q ∷ []) FnLike m s → (v : Verdict) × IsVerdict g s.reads argument v × (all_left ≡ unmatched argument v)
-  left_at zero s p = (verdicts.one_reading, subst (λ x. IsVerdict g x.reads argument verdicts.one_reading) (same_Some r s p.0) r_verdict, refl)
-  left_at (suc zero) s p = (verdicts.one_reading, subst (λ x. IsVerdict g x.reads argument verdicts.one_reading) (same_Some q s p.0) q_verdict, refl)
+  left_at : (m : ℕ) (s : Rule) → IsStyledAt (r ∷ q ∷ []) FnLike m s
+      → (v : Verdict) × IsVerdict g s.reads argument v × (all_left ≡ unmatched argument v)
+  left_at zero s p = (
+    verdicts.one_reading,
+    subst (λ x. IsVerdict g x.reads argument verdicts.one_reading) (same_Some r s p.0) r_verdict,
+    refl,
+  )
+  left_at (suc zero) s p = (
+    verdicts.one_reading,
+    subst (λ x. IsVerdict g x.reads argument verdicts.one_reading) (same_Some q s p.0) q_verdict,
+    refl,
+  )
   left_at (suc (suc m)) s p = absurd (none-some s p.0)
 
-  bound_number : (m : ℕ) (s : Rule) (ks : Items) → IsStyledAt (r ∷ q ∷ []) FnLike m s → Fits g s.reads argument ks → bound_in_rule (number_of is) (number_of js) m ≡ number_of ks
-  bound_number zero s ks p f = ap number_of ((subst (λ x. Fits g x.reads argument ks) (sym (same_Some r s p.0)) f).1.1 is r_fits.1.0)
-  bound_number (suc zero) s ks p f = ap number_of ((subst (λ x. Fits g x.reads argument ks) (sym (same_Some q s p.0)) f).1.1 js q_fits.1.0)
+  bound_number : (m : ℕ) (s : Rule) (ks : Items) → IsStyledAt (r ∷ q ∷ []) FnLike m s → Fits g s.reads argument ks
+      → bound_in_rule (number_of is) (number_of js) m ≡ number_of ks
+  bound_number zero s ks p f = ap number_of
+      ((subst (λ x. Fits g x.reads argument ks) (sym (same_Some r s p.0)) f).1.1 is r_fits.1.0)
+  bound_number (suc zero) s ks p f = ap number_of
+      ((subst (λ x. Fits g x.reads argument ks) (sym (same_Some q s p.0)) f).1.1 js q_fits.1.0)
   bound_number (suc (suc m)) s ks p f = absurd (none-some s p.0)
 
   first_closest : number_of js ≤ number_of is → IsClosest g FnLike argument (r ∷ q ∷ []) 0
   first_closest h =
-      record { left = λ m. all_left; bound = bound_in_rule (number_of is) (number_of js); rule = r; styled = (refl, r_styled); unmatched_trees = left_at; bindings = bound_number; first = goes_before }
+      record {
+        left = λ m. all_left;
+        bound = bound_in_rule (number_of is) (number_of js);
+        rule = r;
+        styled = (refl, r_styled);
+        unmatched_trees = left_at;
+        bindings = bound_number;
+        first = goes_before;
+      }
     where
       either : (a b : ℕ) → b ≤ a → (b < a) ⊎ (b ≡ a)
       either a b l = grind (arith, l)
 
-      goes_before : (m : ℕ) (s : Rule) → IsStyledAt (r ∷ q ∷ []) FnLike m s → GoesBefore (λ x. all_left) (bound_in_rule (number_of is) (number_of js)) 0 m
+      goes_before : (m : ℕ) (s : Rule) → IsStyledAt (r ∷ q ∷ []) FnLike m s
+          → GoesBefore (λ x. all_left) (bound_in_rule (number_of is) (number_of js)) 0 m
       goes_before zero s p = ◌⊎◌.inr (refl, ◌⊎◌.inr (refl, omega arith))
-      goes_before (suc m) s p = elim (either (number_of is) (number_of js) h) [ ◌⊎◌.inl l ↦ ◌⊎◌.inr (refl, ◌⊎◌.inl l) | ◌⊎◌.inr e ↦ ◌⊎◌.inr (refl, ◌⊎◌.inr (e, omega arith)) ]
+      goes_before (suc m) s p = elim (either (number_of is) (number_of js) h)
+          [ ◌⊎◌.inl l ↦ ◌⊎◌.inr (refl, ◌⊎◌.inl l) | ◌⊎◌.inr e ↦ ◌⊎◌.inr (refl, ◌⊎◌.inr (e, omega arith)) ]
 
   second_closest : number_of is < number_of js → IsClosest g FnLike argument (r ∷ q ∷ []) 1
   second_closest h =
-      record { left = λ m. all_left; bound = bound_in_rule (number_of is) (number_of js); rule = q; styled = (refl, q_styled); unmatched_trees = left_at; bindings = bound_number; first = goes_before }
+      record {
+        left = λ m. all_left;
+        bound = bound_in_rule (number_of is) (number_of js);
+        rule = q;
+        styled = (refl, q_styled);
+        unmatched_trees = left_at;
+        bindings = bound_number;
+        first = goes_before;
+      }
     where
-      goes_before : (m : ℕ) (s : Rule) → IsStyledAt (r ∷ q ∷ []) FnLike m s → GoesBefore (λ x. all_left) (bound_in_rule (number_of is) (number_of js)) 1 m
+      goes_before : (m : ℕ) (s : Rule) → IsStyledAt (r ∷ q ∷ []) FnLike m s
+          → GoesBefore (λ x. all_left) (bound_in_rule (number_of is) (number_of js)) 1 m
       goes_before zero s p = ◌⊎◌.inr (refl, ◌⊎◌.inl h)
       goes_before (suc m) s p = ◌⊎◌.inr (refl, ◌⊎◌.inr (refl, omega arith))
 
@@ -306,18 +399,22 @@ abbrev first_items : Items
 first_items = item (item no_items (matched 1)) (taken (codes "x") items.stripped (text_at 1 2 (codes "q") none))
 
 abbrev second_items : Items
-second_items = item (item no_items (taken (codes "x") items.stripped (text_at 1 0 (codes "p") none))) (taken (codes "y") items.stripped (text_at 1 2 (codes "q") none))
+second_items = item (item no_items (taken (codes "x") items.stripped (text_at 1 0 (codes "p") none)))
+    (taken (codes "y") items.stripped (text_at 1 2 (codes "q") none))
 
 first_fits : (g : Grammar) → Fits g one_binding.reads pq_argument first_items
 first_fits g = fits_once g one_binding.reads pq_argument first_items refl ((_, (_, refl, refl), (refl, refl)), refl)
 
 second_fits : (g : Grammar) → Fits g two_bindings.reads pq_argument second_items
-second_fits g = fits_once g two_bindings.reads pq_argument second_items refl ((_, (_, refl, (refl, refl)), (refl, refl)), refl)
+second_fits g = fits_once g two_bindings.reads pq_argument second_items refl
+    ((_, (_, refl, (refl, refl)), (refl, refl)), refl)
 
 pub most_bindings_example : MostBindingsExample
 most_bindings_example = record {
-  closest = λ g. second_closest g pq_argument one_binding two_bindings first_items second_items (first_fits g) (second_fits g) refl refl (omega arith);
-  only = λ g. first_not g pq_argument one_binding two_bindings first_items second_items (first_fits g) (second_fits g) refl refl (omega arith);
+  closest = λ g. second_closest g pq_argument one_binding two_bindings first_items second_items (first_fits g)
+      (second_fits g) refl refl (omega arith);
+  only = λ g. first_not g pq_argument one_binding two_bindings first_items second_items (first_fits g) (second_fits g)
+      refl refl (omega arith);
 }
 
 abbrev p_items : List ℕ → Items
@@ -331,8 +428,10 @@ later_fits g = fits_once g later_rule.reads p_argument (p_items (codes "y")) ref
 
 pub earliest_example : EarliestExample
 earliest_example = record {
-  closest = λ g. first_closest g p_argument earlier_rule later_rule (p_items (codes "x")) (p_items (codes "y")) (earlier_fits g) (later_fits g) refl refl (omega arith);
-  only = λ g. second_not g p_argument earlier_rule later_rule (p_items (codes "x")) (p_items (codes "y")) (earlier_fits g) (later_fits g) refl refl (omega arith);
+  closest = λ g. first_closest g p_argument earlier_rule later_rule (p_items (codes "x")) (p_items (codes "y"))
+      (earlier_fits g) (later_fits g) refl refl (omega arith);
+  only = λ g. second_not g p_argument earlier_rule later_rule (p_items (codes "x")) (p_items (codes "y"))
+      (earlier_fits g) (later_fits g) refl refl (omega arith);
 }
 
 -- ---- a marker that sets a context
@@ -340,8 +439,34 @@ earliest_example = record {
 pub marked_example : MarkedExample
 unfolding digits
 marked_example = record {
-  tokens = λ g. (_, (_, _, (_, refl, refl), (_, _, (_, _, _, refl, refl, (_, _, refl, refl, refl), refl), refl, refl), refl), refl);
-  separator = λ g. (_, (_, _, (_, _, (_, _, refl, (_, _, refl, refl, refl), refl), (_, _, refl, (_, _, refl, refl, refl), refl), refl), refl, refl), refl);
+  tokens = λ g. (
+    _,
+    (
+      _,
+      _,
+      (_, refl, refl),
+      (_, _, (_, _, _, refl, refl, (_, _, refl, refl, refl), refl), refl, refl),
+      refl,
+    ),
+    refl,
+  );
+  separator = λ g. (
+    _,
+    (
+      _,
+      _,
+      (
+        _,
+        _,
+        (_, _, refl, (_, _, refl, refl, refl), refl),
+        (_, _, refl, (_, _, refl, refl, refl), refl),
+        refl,
+      ),
+      refl,
+      refl,
+    ),
+    refl,
+  );
   unbound = λ g. (_, (_, _, refl, refl, refl), refl);
   parentheses = (_, refl, refl);
 }

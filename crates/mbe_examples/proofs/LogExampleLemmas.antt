@@ -17,8 +17,28 @@ four_not h =
     first_of_lists (es ∷ more) = es
 
 pub log_examples : LogExamples
-log_examples = record { three_entries = (_, omega arith, refl); four_entries = four_not; filled = refl; kept = refl; replaced = refl; behind = refl; nested = refl; alike = refl }
+log_examples = record {
+  three_entries = (_, omega arith, refl);
+  four_entries = four_not;
+  filled = refl;
+  kept = refl;
+  replaced = refl;
+  behind = refl;
+  nested = refl;
+  alike = refl;
+}
 
 pub default_examples : DefaultExamples
 unfolding unicode_ident chars
-default_examples = record { tree = refl; visibility = refl; type = refl; lifetime = refl; wanted = refl; counted = refl; number = refl; digit = refl; nothing = refl; underscore = refl }
+default_examples = record {
+  tree = refl;
+  visibility = refl;
+  type = refl;
+  lifetime = refl;
+  wanted = refl;
+  counted = refl;
+  number = refl;
+  digit = refl;
+  nothing = refl;
+  underscore = refl;
+}

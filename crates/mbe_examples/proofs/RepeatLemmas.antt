@@ -31,14 +31,17 @@ use Rattle.mbe_tt.specs.Fragments.Grammar.{IsLawful}
 -- ---- lists
 
 abbrev list_items : Items
-list_items = item no_items (rounds (round no_rounds (item no_items (taken (codes "x") items.stripped (text_at 1 0 (codes "a") none))) 1) (item no_items (taken (codes "x") items.stripped (text_at 1 3 (codes "b") none))))
+list_items = item no_items (rounds (round no_rounds
+    (item no_items (taken (codes "x") items.stripped (text_at 1 0 (codes "a") none))) 1)
+    (item no_items (taken (codes "x") items.stripped (text_at 1 3 (codes "b") none))))
 
 list_applies_run : (g : Grammar) → verdict g list_rule.reads list_argument ≡ verdicts.one_reading
 unfolding verdict run tree
 list_applies_run g = refl
 
 abbrev list_applies : (g : Grammar) → IsLawful g → Applies g FnLike list_argument list_rule
-list_applies g w = applies_by_run g FnLike list_argument list_rule list_items w refl refl (list_applies_run g) ((_, refl, ((tt, tt, (_, refl, (refl, refl)), refl), (_, refl, (refl, refl)))), refl) refl
+list_applies g w = applies_by_run g FnLike list_argument list_rule list_items w refl refl (list_applies_run g)
+    ((_, refl, ((tt, tt, (_, refl, (refl, refl)), refl), (_, refl, (refl, refl)))), refl) refl
 
 pub list_example : ListExample
 list_example = record {
@@ -47,7 +50,8 @@ list_example = record {
     separated _ none _ _ [] None refl
         (record {
           style = refl;
-          reads = repeated _ _ _ _ _ _ _ refl (variable _ _ _ _ _ _ _ refl (undated refl refl) (nothing _ refl)) (nothing _ refl);
+          reads = repeated _ _ _ _ _ _ _ refl (variable _ _ _ _ _ _ _ refl (undated refl refl) (nothing _ refl))
+              (nothing _ refl);
           writes = repeated _ _ _ _ _ _ _ refl (token _ _ _ _ refl (nothing _ refl)) (nothing _ refl);
         }) refl ended,
     refl,
@@ -67,8 +71,17 @@ index_applies_run g = refl
 index_applies : (g : Grammar) → IsLawful g → Applies g FnLike two_words index_rule
 index_applies g w = record {
   styled = refl;
-  items = (item no_items (rounds (round no_rounds (item no_items (taken (codes "x") items.stripped (text_at 1 0 (codes "a") none))) 0) (item no_items (taken (codes "x") items.stripped (text_at 1 2 (codes "b") none)))));
-  fits = fits_by_run g index_rule.reads two_words (item no_items (rounds (round no_rounds (item no_items (taken (codes "x") items.stripped (text_at 1 0 (codes "a") none))) 0) (item no_items (taken (codes "x") items.stripped (text_at 1 2 (codes "b") none))))) w refl (index_applies_run g) ((_, refl, ((tt, tt, (_, refl, (refl, refl)), refl), (_, refl, (refl, refl)))), refl);
+  items = (item no_items (rounds (round no_rounds
+      (item no_items (taken (codes "x") items.stripped (text_at 1 0 (codes "a") none))) 0)
+      (item no_items (taken (codes "x") items.stripped (text_at 1 2 (codes "b") none)))));
+  fits = fits_by_run g index_rule.reads two_words
+      (item no_items (rounds (round no_rounds
+      (item no_items (taken (codes "x") items.stripped (text_at 1 0 (codes "a") none))) 0)
+      (item no_items (taken (codes "x") items.stripped (text_at 1 2 (codes "b") none))))) w refl
+      (index_applies_run g) (
+        (_, refl, ((tt, tt, (_, refl, (refl, refl)), refl), (_, refl, (refl, refl)))),
+        refl,
+      );
   faultless = refl;
 }
 
@@ -80,8 +93,10 @@ index_example = record {
     separated _ none _ _ [] None refl
         (record {
           style = refl;
-          reads = repeated _ _ _ _ _ _ _ refl (variable _ _ _ _ _ _ _ refl (undated refl refl) (nothing _ refl)) (nothing _ refl);
-          writes = repeated _ _ _ _ _ _ _ refl (token _ _ _ _ refl (token _ _ _ _ refl (token _ _ _ _ refl (nothing _ refl)))) (nothing _ refl);
+          reads = repeated _ _ _ _ _ _ _ refl (variable _ _ _ _ _ _ _ refl (undated refl refl) (nothing _ refl))
+              (nothing _ refl);
+          writes = repeated _ _ _ _ _ _ _ refl
+              (token _ _ _ _ refl (token _ _ _ _ refl (token _ _ _ _ refl (nothing _ refl)))) (nothing _ refl);
         }) refl ended,
     refl,
   );
@@ -89,7 +104,23 @@ index_example = record {
     index_rule,
     index_applies g w,
     this_one _ _ _,
-    (_, (_, _, (_, _, (_, _, refl, (_, _, refl, (_, _, refl, refl, refl), refl), refl), (_, _, refl, (_, _, refl, (_, _, refl, refl, refl), refl), refl), refl), refl, refl), refl),
+    (
+      _,
+      (
+        _,
+        _,
+        (
+          _,
+          _,
+          (_, _, refl, (_, _, refl, (_, _, refl, refl, refl), refl), refl),
+          (_, _, refl, (_, _, refl, (_, _, refl, refl, refl), refl), refl),
+          refl,
+        ),
+        refl,
+        refl,
+      ),
+      refl,
+    ),
   );
 }
 
@@ -108,7 +139,9 @@ any_applies : (g : Grammar) → IsLawful g → Applies g FnLike one_a any_rule
 any_applies g w = record {
   styled = refl;
   items = (item no_items (rounds no_rounds (item no_items (taken (codes "t") items.stripped one_a))));
-  fits = fits_by_run g any_rule.reads one_a (item no_items (rounds no_rounds (item no_items (taken (codes "t") items.stripped one_a)))) w refl (any_applies_run g) ((_, refl, (tt, (_, refl, (refl, refl)))), refl);
+  fits = fits_by_run g any_rule.reads one_a
+      (item no_items (rounds no_rounds (item no_items (taken (codes "t") items.stripped one_a)))) w refl
+      (any_applies_run g) ((_, refl, (tt, (_, refl, (refl, refl)))), refl);
   faultless = refl;
 }
 
@@ -117,25 +150,57 @@ unknown_example = record {
   defines = (
     None,
     separated _ _ _ _ _ None refl
-        (record { style = refl; reads = variable _ _ _ _ _ _ _ refl (undated refl refl) (nothing _ refl); writes = nothing _ refl }) refl
+        (record {
+          style = refl;
+          reads = variable _ _ _ _ _ _ _ refl (undated refl refl) (nothing _ refl);
+          writes = nothing _ refl;
+        }) refl
         (separated _ none _ _ [] None refl
         (record {
           style = refl;
-          reads = repeated _ _ _ _ _ _ _ refl (variable _ _ _ _ _ _ _ refl (undated refl refl) (nothing _ refl)) (nothing _ refl);
+          reads = repeated _ _ _ _ _ _ _ refl (variable _ _ _ _ _ _ _ refl (undated refl refl) (nothing _ refl))
+              (nothing _ refl);
           writes = nothing _ refl;
         }) refl ended),
     refl,
   );
-  expands = λ g w. (any_rule, any_applies g w, a_later_one _ _ _ 0 1 _ (λ a. no_unknown g w a.items (a.fits).1.0) (this_one _ _ _) refl, (_, refl, refl));
+  expands = λ g w. (
+    any_rule,
+    any_applies g w,
+    a_later_one _ _ _ 0 1 _ (λ a. no_unknown g w a.items (a.fits).1.0) (this_one _ _ _) refl,
+    (_, refl, refl),
+  );
 }
 
 abbrev zip_items : Items
 zip_items =
-    item (item (item no_items (rounds (round (round no_rounds (item no_items (taken (codes "a") items.stripped (text_at 1 0 (codes "p") none))) 0) (item no_items (taken (codes "a") items.stripped (text_at 1 2 (codes "q") none))) 0) (item no_items (taken (codes "a") items.stripped (text_at 1 4 (codes "r") none))))) (matched 1))
-    (rounds (round no_rounds (item no_items (taken (codes "b") items.stripped (text_at 1 8 (codes "s") none))) 0) (item no_items (taken (codes "b") items.stripped (text_at 1 10 (codes "t") none))))
+    item (item (item no_items (rounds (round
+    (round no_rounds (item no_items (taken (codes "a") items.stripped (text_at 1 0 (codes "p") none))) 0)
+    (item no_items (taken (codes "a") items.stripped (text_at 1 2 (codes "q") none))) 0)
+    (item no_items (taken (codes "a") items.stripped (text_at 1 4 (codes "r") none))))) (matched 1))
+    (rounds (round no_rounds (item no_items (taken (codes "b") items.stripped (text_at 1 8 (codes "s") none))) 0)
+    (item no_items (taken (codes "b") items.stripped (text_at 1 10 (codes "t") none))))
 
 zip_read : (g : Grammar) → IsReading g zip_rule.reads zip_argument zip_items
-zip_read g = ((_, (_, (_, refl, ((tt, (tt, tt, (_, refl, (refl, refl)), refl), (_, refl, (refl, refl)), refl), (_, refl, (refl, refl)))), refl), ((tt, tt, (_, refl, (refl, refl)), refl), (_, refl, (refl, refl)))), refl)
+zip_read g = (
+  (
+    _,
+    (
+      _,
+      (
+        _,
+        refl,
+        (
+          (tt, (tt, tt, (_, refl, (refl, refl)), refl), (_, refl, (refl, refl)), refl),
+          (_, refl, (refl, refl)),
+        ),
+      ),
+      refl,
+    ),
+    ((tt, tt, (_, refl, (refl, refl)), refl), (_, refl, (refl, refl))),
+  ),
+  refl,
+)
 
 zip_run : (g : Grammar) → verdict g zip_rule.reads zip_argument ≡ verdicts.one_reading
 unfolding verdict run tree
@@ -152,30 +217,74 @@ zip_example = record {
     separated _ none _ _ [] None refl
         (record {
           style = refl;
-          reads = repeated _ _ _ _ _ _ _ refl (variable _ _ _ _ _ _ _ refl (undated refl refl) (nothing _ refl)) (token _ _ _ _ refl
-              (repeated _ _ _ _ _ _ _ refl (variable _ _ _ _ _ _ _ refl (undated refl refl) (nothing _ refl)) (nothing _ refl)));
-          writes = repeated _ _ _ _ _ _ _ refl (token _ _ _ _ refl (token _ _ _ _ refl (nothing _ refl))) (nothing _ refl);
+          reads = repeated _ _ _ _ _ _ _ refl (variable _ _ _ _ _ _ _ refl (undated refl refl) (nothing _ refl))
+              (token _ _ _ _ refl
+              (repeated _ _ _ _ _ _ _ refl (variable _ _ _ _ _ _ _ refl (undated refl refl) (nothing _ refl))
+              (nothing _ refl)));
+          writes = repeated _ _ _ _ _ _ _ refl (token _ _ _ _ refl (token _ _ _ _ refl (nothing _ refl)))
+              (nothing _ refl);
         }) refl ended,
     refl,
   );
   reads = zip_read;
-  expands = λ g w. (zip_rule, zip_applies g w, this_one _ _ _, (_, (_, _, (_, _, (_, _, refl, (_, _, refl, refl, refl), refl), (_, _, refl, (_, _, refl, refl, refl), refl), refl), refl, refl), refl));
+  expands = λ g w. (
+    zip_rule,
+    zip_applies g w,
+    this_one _ _ _,
+    (
+      _,
+      (
+        _,
+        _,
+        (
+          _,
+          _,
+          (_, _, refl, (_, _, refl, refl, refl), refl),
+          (_, _, refl, (_, _, refl, refl, refl), refl),
+          refl,
+        ),
+        refl,
+        refl,
+      ),
+      refl,
+    ),
+  );
 }
 
 abbrev count_items : Items
 count_items =
-    item no_items (rounds (round no_rounds (item no_items (rounds (round no_rounds (item no_items (taken (codes "x") items.stripped (text_at 1 0 (codes "a") none))) 0) (item no_items (taken (codes "x") items.stripped (text_at 1 2 (codes "b") none))))) 1)
-    (item no_items (rounds no_rounds (item no_items (taken (codes "x") items.stripped (text_at 1 5 (codes "c") none))))))
+    item no_items (rounds (round no_rounds
+    (item no_items (rounds (round no_rounds
+    (item no_items (taken (codes "x") items.stripped (text_at 1 0 (codes "a") none))) 0)
+    (item no_items (taken (codes "x") items.stripped (text_at 1 2 (codes "b") none))))) 1)
+    (item no_items (rounds no_rounds (item no_items
+    (taken (codes "x") items.stripped (text_at 1 5 (codes "c") none))))))
 
 count_read : (g : Grammar) → IsReading g count_rule.reads count_argument count_items
-count_read g = ((_, refl, ((tt, tt, (_, refl, ((tt, tt, (_, refl, (refl, refl)), refl), (_, refl, (refl, refl)))), refl), (_, refl, (tt, (_, refl, (refl, refl)))))), refl)
+count_read g = (
+  (
+    _,
+    refl,
+    (
+      (
+        tt,
+        tt,
+        (_, refl, ((tt, tt, (_, refl, (refl, refl)), refl), (_, refl, (refl, refl)))),
+        refl,
+      ),
+      (_, refl, (tt, (_, refl, (refl, refl)))),
+    ),
+  ),
+  refl,
+)
 
 count_run : (g : Grammar) → verdict g count_rule.reads count_argument ≡ verdicts.one_reading
 unfolding verdict run tree
 count_run g = refl
 
 abbrev count_applies : (g : Grammar) → IsLawful g → Applies g FnLike count_argument count_rule
-count_applies g w = applies_by_run g FnLike count_argument count_rule count_items w refl refl (count_run g) (count_read g) refl
+count_applies g w = applies_by_run g FnLike count_argument count_rule count_items w refl refl (count_run g)
+    (count_read g) refl
 
 pub count_example : CountExample
 unfolding digits
@@ -186,13 +295,20 @@ count_example = record {
     separated _ none _ _ [] None refl
         (record {
           style = refl;
-          reads = repeated _ _ _ _ _ _ _ refl (repeated _ _ _ _ _ _ _ refl (variable _ _ _ _ _ _ _ refl (undated refl refl) (nothing _ refl)) (nothing _ refl)) (nothing _ refl);
+          reads = repeated _ _ _ _ _ _ _ refl
+              (repeated _ _ _ _ _ _ _ refl (variable _ _ _ _ _ _ _ refl (undated refl refl) (nothing _ refl))
+              (nothing _ refl)) (nothing _ refl);
           writes = token _ _ _ _ refl (token _ _ _ _ refl (nothing _ refl));
         }) refl ended,
     refl,
   );
   reads = count_read;
-  expands = λ g w. (count_rule, count_applies g w, this_one _ _ _, (_, (_, _, refl, (_, _, refl, refl, refl), refl), refl));
+  expands = λ g w. (
+    count_rule,
+    count_applies g w,
+    this_one _ _ _,
+    (_, (_, _, refl, (_, _, refl, refl, refl), refl), refl),
+  );
 }
 
 -- ---- two readings of nothing
@@ -221,12 +337,17 @@ empty_skipped : (g : Grammar) → IsReading g empty_rule.reads none skipped_roun
 unfolding skipped_round
 empty_skipped g = ((_, refl, (tt, refl)), refl)
 
-empty_read : (g : Grammar) → g.parse Vis [] ≡ record { count = 0; fault = false } → IsReading g empty_rule.reads none empty_round
+empty_read : (g : Grammar) → g.parse Vis [] ≡ record { count = 0; fault = false }
+    → IsReading g empty_rule.reads none empty_round
 unfolding empty_round
 empty_read g e = ((_, refl, (tt, (_, refl, (refl, ap (answer_fragment (Some kinds.Vis) none) e)))), refl)
 
-empty_verdict : (g : Grammar) → IsLawful g → g.parse Vis [] ≡ record { count = 0; fault = false } → IsVerdict g empty_rule.reads none many_readings
-empty_verdict g w e = ((λ q a. never_goes g w q a.n a.f a.one a.one_goes), (skipped_round, empty_round, empty_skipped g, empty_read g e, empty_differ))
+empty_verdict : (g : Grammar) → IsLawful g → g.parse Vis [] ≡ record { count = 0; fault = false }
+    → IsVerdict g empty_rule.reads none many_readings
+empty_verdict g w e = (
+  (λ q a. never_goes g w q a.n a.f a.one a.one_goes),
+  (skipped_round, empty_round, empty_skipped g, empty_read g e, empty_differ),
+)
 
 pub empty_example : EmptyExample
 empty_example = record {
@@ -235,12 +356,14 @@ empty_example = record {
     separated _ none _ _ [] None refl
         (record {
           style = refl;
-          reads = repeated _ _ _ _ _ _ _ refl (variable _ _ _ _ _ _ _ refl (undated refl refl) (nothing _ refl)) (nothing _ refl);
+          reads = repeated _ _ _ _ _ _ _ refl (variable _ _ _ _ _ _ _ refl (undated refl refl) (nothing _ refl))
+              (nothing _ refl);
           writes = nothing _ refl;
         }) refl ended,
     refl,
   );
   verdict = empty_verdict;
   closest = λ g w e. closest_alone g FnLike none empty_rule many_readings 0 refl (empty_verdict g w e)
-      (λ is f. absurd (empty_differ (f.1.1 skipped_round (empty_skipped g) ∙ sym (f.1.1 empty_round (empty_read g e)))));
+      (λ is f. absurd (empty_differ (f.1.1 skipped_round (empty_skipped g)
+      ∙ sym (f.1.1 empty_round (empty_read g e)))));
 }

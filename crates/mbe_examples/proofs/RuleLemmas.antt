@@ -25,9 +25,11 @@ use Rattle.mbe_semantics.specs.Readings.Verdict as verdicts
 
 -- what an answer of the grammar cuts from the front
 abbrev pub answer_cut : Forest → Front → Option Cut
-answer_cut f a = if not a.fault && (flat_len (cut_flat a.count f).front == a.count) then Some (cut_flat a.count f) else None
+answer_cut f a = if not a.fault && (flat_len (cut_flat a.count f).front == a.count) then Some (cut_flat a.count f) else
+    None
 
-abbrev pub fits_once : (g : Grammar) (pattern : Ops) (argument : Forest) (is : Items) → IsTrue (has_no_repetition pattern) →
+abbrev pub fits_once : (g : Grammar) (pattern : Ops) (argument : Forest) (is : Items)
+    → IsTrue (has_no_repetition pattern) →
     IsReading g pattern argument is → Fits g pattern argument is
 fits_once g pattern argument is h r =
     ((λ q. never_ambiguous g pattern argument q h), (r, λ others s. one_reading g pattern argument others is h s r))
@@ -37,35 +39,48 @@ abbrev pub answer_fragment : Option MetaVarKind → Forest → Front → Option 
 answer_fragment kind f a = fragment_of kind (answer_cut f a)
 
 -- the verdict, by a run
-pub by_run : (g : Grammar) (p : Ops) (a : Forest) (v : Verdict) → IsLawful g → Checked p → verdict g p a ≡ v → IsVerdict g p a v
+pub by_run : (g : Grammar) (p : Ops) (a : Forest) (v : Verdict) → IsLawful g → Checked p → verdict g p a ≡ v
+    → IsVerdict g p a v
 by_run g p a v w c e = let P : Verdict → Type 0 = λ x. IsVerdict g p a x in subst P e (verdict-right g p a w c)
 
 -- a reading is the only one where a run says that there is one
-pub fits_by_run : (g : Grammar) (p : Ops) (a : Forest) (is : Items) → IsLawful g → Checked p → verdict g p a ≡ verdicts.one_reading → IsReading g p a is → Fits g p a is
+pub fits_by_run : (g : Grammar) (p : Ops) (a : Forest) (is : Items) → IsLawful g → Checked p
+    → verdict g p a ≡ verdicts.one_reading → IsReading g p a is → Fits g p a is
 fits_by_run g p a is w c e r =
     let v : IsVerdict g p a verdicts.one_reading = by_run g p a verdicts.one_reading w c e in
     (v.0, (r, λ js s. v.1.1.1 js s ∙ sym (v.1.1.1 is r)))
 
-abbrev pub applies_once : (g : Grammar) (style : MacroCallStyle) (argument : Forest) (r : Rule) (is : Items) → r.style ≡ style →
-    IsTrue (has_no_repetition r.reads) → IsReading g r.reads argument is → IsFalse (faults (environment_of is) [] r.writes) →
+abbrev pub applies_once : (g : Grammar) (style : MacroCallStyle) (argument : Forest) (r : Rule) (is : Items)
+    → r.style ≡ style →
+    IsTrue (has_no_repetition r.reads) → IsReading g r.reads argument is
+    → IsFalse (faults (environment_of is) [] r.writes) →
     Applies g style argument r
-applies_once g style argument r is s h d f = record { styled = s; items = is; fits = fits_once g r.reads argument is h d; faultless = f }
+applies_once g style argument r is s h d f =
+    record { styled = s; items = is; fits = fits_once g r.reads argument is h d; faultless = f }
 
 -- the same, where a run says that there is one reading
-abbrev pub applies_by_run : (g : Grammar) (style : MacroCallStyle) (argument : Forest) (r : Rule) (is : Items) → IsLawful g → Checked r.reads → r.style ≡ style →
-    verdict g r.reads argument ≡ verdicts.one_reading → IsReading g r.reads argument is → IsFalse (faults (environment_of is) [] r.writes) →
+abbrev pub applies_by_run : (g : Grammar) (style : MacroCallStyle) (argument : Forest) (r : Rule) (is : Items)
+    → IsLawful g → Checked r.reads → r.style ≡ style →
+    verdict g r.reads argument ≡ verdicts.one_reading → IsReading g r.reads argument is
+    → IsFalse (faults (environment_of is) [] r.writes) →
     Applies g style argument r
-applies_by_run g style argument r is w c s e d f = record { styled = s; items = is; fits = fits_by_run g r.reads argument is w c e d; faultless = f }
+applies_by_run g style argument r is w c s e d f =
+    record { styled = s; items = is; fits = fits_by_run g r.reads argument is w c e d; faultless = f }
 
 -- a rule whose only reading faults doesn't apply
-pub faulty_once : (g : Grammar) (style : MacroCallStyle) (argument : Forest) (r : Rule) (is : Items) → IsTrue (has_no_repetition r.reads) →
-    IsReading g r.reads argument is → (IsFalse (faults (environment_of is) [] r.writes) → ⊥) → Applies g style argument r → ⊥
+pub faulty_once : (g : Grammar) (style : MacroCallStyle) (argument : Forest) (r : Rule) (is : Items)
+    → IsTrue (has_no_repetition r.reads) →
+    IsReading g r.reads argument is → (IsFalse (faults (environment_of is) [] r.writes) → ⊥)
+    → Applies g style argument r → ⊥
 faulty_once g style argument r is h d f a =
-    f (subst (λ x. IsFalse (faults (environment_of x) [] r.writes)) (one_reading g r.reads argument a.items is h (a.fits).1.0 d) a.faultless)
+    f (subst (λ x. IsFalse (faults (environment_of x) [] r.writes))
+    (one_reading g r.reads argument a.items is h (a.fits).1.0 d) a.faultless)
 
 -- the only rule of a definition is the closest one
-pub closest_alone : (g : Grammar) (style : MacroCallStyle) (argument : Forest) (r : Rule) (v : Verdict) (k : ℕ) → r.style ≡ style → IsVerdict g r.reads argument v →
-    ((is : Items) → Fits g r.reads argument is → k ≡ min (binding_total (environment_of is)) (2 ^ 64 - 1)) → IsClosest g style argument (r ∷ []) 0
+pub closest_alone : (g : Grammar) (style : MacroCallStyle) (argument : Forest) (r : Rule) (v : Verdict) (k : ℕ)
+    → r.style ≡ style → IsVerdict g r.reads argument v →
+    ((is : Items) → Fits g r.reads argument is → k ≡ min (binding_total (environment_of is)) (2 ^ 64 - 1))
+    → IsClosest g style argument (r ∷ []) 0
 closest_alone g style argument r v k s w b = record {
   left = λ m. unmatched argument v;
   bound = λ m. k;
@@ -76,13 +91,16 @@ closest_alone g style argument r v k s w b = record {
   first = first_at;
 }
   where
-    left_at : (m : ℕ) (q : Rule) → IsStyledAt (r ∷ []) style m q → (u : Verdict) × IsVerdict g q.reads argument u × (unmatched argument v ≡ unmatched argument u)
+    left_at : (m : ℕ) (q : Rule) → IsStyledAt (r ∷ []) style m q
+        → (u : Verdict) × IsVerdict g q.reads argument u × (unmatched argument v ≡ unmatched argument u)
     left_at zero q p = (v, subst (λ x. IsVerdict g x.reads argument v) (same_Some r q p.0) w, refl)
     left_at (suc m) q p = absurd (none-some q p.0)
 
-    bound_at : (m : ℕ) (q : Rule) (is : Items) → IsStyledAt (r ∷ []) style m q → Fits g q.reads argument is → k ≡ min (binding_total (environment_of is)) (2 ^ 64 - 1)
+    bound_at : (m : ℕ) (q : Rule) (is : Items) → IsStyledAt (r ∷ []) style m q → Fits g q.reads argument is
+        → k ≡ min (binding_total (environment_of is)) (2 ^ 64 - 1)
     bound_at zero q is p f =
-        subst (λ x. Fits g x.reads argument is → k ≡ min (binding_total (environment_of is)) (2 ^ 64 - 1)) (same_Some r q p.0) (b is) f
+        subst (λ x. Fits g x.reads argument is → k ≡ min (binding_total (environment_of is)) (2 ^ 64 - 1))
+        (same_Some r q p.0) (b is) f
     bound_at (suc m) q is p f = absurd (none-some q p.0)
 
     first_at : (m : ℕ) (q : Rule) → IsStyledAt (r ∷ []) style m q → GoesBefore (λ x. unmatched argument v) (λ x. k) 0 m

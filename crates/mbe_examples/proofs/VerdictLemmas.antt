@@ -47,15 +47,29 @@ near_closest g w = record {
   first = first_at;
 }
   where
-    left_at : (m : ℕ) (r : Rule) → IsStyledAt both_rules FnLike m r → (v : Verdict) × IsVerdict g r.reads near_argument v × (left_by m ≡ unmatched near_argument v)
-    left_at zero r p = (stuck 1, subst (λ x. IsVerdict g x.reads near_argument (stuck 1)) (same_Some far_rule r p.0) (far_verdict g w), refl)
-    left_at (suc zero) r p = (stuck 2, subst (λ x. IsVerdict g x.reads near_argument (stuck 2)) (same_Some near_rule r p.0) (near_verdict g w), refl)
+    left_at : (m : ℕ) (r : Rule) → IsStyledAt both_rules FnLike m r
+        → (v : Verdict) × IsVerdict g r.reads near_argument v × (left_by m ≡ unmatched near_argument v)
+    left_at zero r p = (
+      stuck 1,
+      subst (λ x. IsVerdict g x.reads near_argument (stuck 1)) (same_Some far_rule r p.0)
+          (far_verdict g w),
+      refl,
+    )
+    left_at (suc zero) r p = (
+      stuck 2,
+      subst (λ x. IsVerdict g x.reads near_argument (stuck 2))
+          (same_Some near_rule r p.0) (near_verdict g w),
+      refl,
+    )
     left_at (suc (suc m)) r p = absurd (none-some r p.0)
 
     bound_at : (m : ℕ) (r : Rule) (is : Items) → IsStyledAt both_rules FnLike m r → Fits g r.reads near_argument is →
         0 ≡ min (binding_total (environment_of is)) (2 ^ 64 - 1)
-    bound_at zero r is p f = absurd ((far_verdict g w).1 is (subst (λ x. IsReading g x.reads near_argument is) (sym (same_Some far_rule r p.0)) f.1.0))
-    bound_at (suc zero) r is p f = absurd ((near_verdict g w).1 is (subst (λ x. IsReading g x.reads near_argument is) (sym (same_Some near_rule r p.0)) f.1.0))
+    bound_at zero r is p f = absurd ((far_verdict g w).1 is
+        (subst (λ x. IsReading g x.reads near_argument is) (sym (same_Some far_rule r p.0)) f.1.0))
+    bound_at (suc zero) r is p f = absurd
+        ((near_verdict g w).1 is (subst (λ x. IsReading g x.reads near_argument is) (sym (same_Some near_rule r p.0))
+        f.1.0))
     bound_at (suc (suc m)) r is p f = absurd (none-some r p.0)
 
     first_at : (m : ℕ) (r : Rule) → IsStyledAt both_rules FnLike m r → GoesBefore left_by (λ x. 0) 1 m
@@ -72,10 +86,12 @@ far_no g w c = go (c.first 1 near_rule (refl, refl))
     b = c.unmatched_trees 1 near_rule (refl, refl)
 
     far_left : c.left 0 ≡ 1
-    far_left = a.2 ∙ ap (unmatched near_argument) (one_verdict g far_rule.reads near_argument a.0 (stuck 1) a.1 (far_verdict g w))
+    far_left = a.2 ∙ ap (unmatched near_argument)
+        (one_verdict g far_rule.reads near_argument a.0 (stuck 1) a.1 (far_verdict g w))
 
     near_left : c.left 1 ≡ 0
-    near_left = b.2 ∙ ap (unmatched near_argument) (one_verdict g near_rule.reads near_argument b.0 (stuck 2) b.1 (near_verdict g w))
+    near_left = b.2 ∙ ap (unmatched near_argument)
+        (one_verdict g near_rule.reads near_argument b.0 (stuck 2) b.1 (near_verdict g w))
 
     go : GoesBefore c.left c.bound 0 1 → ⊥
     go (◌⊎◌.inl h) = let x = far_left in let y = near_left in omega (arith, h, x, y)
@@ -86,9 +102,17 @@ nearest_example = record {
   defines = (
     None,
     separated _ _ _ _ _ None refl
-        (record { style = refl; reads = token _ _ _ _ refl (token _ _ _ _ refl (nothing _ refl)); writes = nothing _ refl }) refl
+        (record {
+          style = refl;
+          reads = token _ _ _ _ refl (token _ _ _ _ refl (nothing _ refl));
+          writes = nothing _ refl;
+        }) refl
         (separated _ none _ _ [] None refl
-        (record { style = refl; reads = token _ _ _ _ refl (token _ _ _ _ refl (token _ _ _ _ refl (nothing _ refl))); writes = nothing _ refl }) refl ended),
+        (record {
+          style = refl;
+          reads = token _ _ _ _ refl (token _ _ _ _ refl (token _ _ _ _ refl (nothing _ refl)));
+          writes = nothing _ refl;
+        }) refl ended),
     refl,
   );
   far = far_verdict;

@@ -9,7 +9,7 @@ use Rattle.mbe_tt.specs.Trees.Tree.{Forest}
 use Rattle.mbe_tt.specs.Trees.Leaf.{Ident}
 use Rattle.mbe_semantics.specs.declared.kinds.MetaVarKind.{MetaVarKind}
 use Rattle.mbe_semantics.specs.Syntax.Op.{Ops}
-use Rattle.mbe_semantics.specs.Syntax.Template.{Mode, Fault, Specifies, dated_pat, dated_expr, undated, Template, nothing, token, variable, grouped, repeated, TemplateFault, here, in_group, in_repetition, behind_token, behind_variable, behind_group, behind_repetition}
+use Rattle.mbe_semantics.specs.Syntax.Template.{Mode, Fault, Specifies, dated_pat, dated_expr, undated, Template, nothing, token, variable, grouped, repeated, TemplateFault, here, in_group, in_repetition, after_token, after_variable, following_group, after_repetition}
 use Rattle.mbe_semantics.specs.Syntax.Definition.{Rule, RuleTrees, AreParts, PartsFault, in_pattern, in_template, Rules, ended, no_rule, faulty_rule, unseparated, separated, IsMacroOfArguments, one_rule, faulty}
 use Rattle.mbe_semantics.specs.Expansion.Macro.{Macro}
 use Rattle.mbe_semantics.specs.Expansion.ReadAs.{IsReadAs, IsReadAsMacro}
@@ -34,12 +34,12 @@ module _ {A B : SyntaxContext → Edition → Type 0} (more : (c : SyntaxContext
   fault_read (in_group f inside rest d e t) = in_group f inside rest d e (fault_read t)
   fault_read (in_repetition f inside rest separator repeat e t) =
       in_repetition f inside rest separator repeat e (fault_read t)
-  fault_read (behind_token f rest o e t) = behind_token f rest o e (fault_read t)
-  fault_read (behind_variable f rest name span specifier e t) =
-      behind_variable f rest name span specifier e (fault_read t)
-  fault_read (behind_group f inside rest d body e b t) = behind_group f inside rest d body e (ops_read b) (fault_read t)
-  fault_read (behind_repetition f inside rest separator repeat body e b t) =
-      behind_repetition f inside rest separator repeat body e (ops_read b) (fault_read t)
+  fault_read (after_token f rest o e t) = after_token f rest o e (fault_read t)
+  fault_read (after_variable f rest name span specifier e t) =
+      after_variable f rest name span specifier e (fault_read t)
+  fault_read (following_group f inside rest d body e b t) = following_group f inside rest d body e (ops_read b) (fault_read t)
+  fault_read (after_repetition f inside rest separator repeat body e b t) =
+      after_repetition f inside rest separator repeat body e (ops_read b) (fault_read t)
 
   parts_read : {o : RuleTrees} {r : Rule} → AreParts A o r → AreParts B o r
   parts_read p = record { style = p.style; reads = ops_read p.reads; writes = ops_read p.writes }

@@ -4,7 +4,7 @@ use Rattle.std.specs.Prelude.{codes}
 use Rattle.mbe_tt.specs.Trees.Tree.{Forest, flat_len}
 use Rattle.mbe_grammar.specs.declared.step.Miss.{Miss}
 use Rattle.mbe_grammar.specs.declared.step.Miss.TheVariants.{Absent, Fault}
-use Rattle.mbe_grammar.specs.Rule.{one, part, ◌or◌, Step, ◌>>=◌, or_else, has_to_stand, if_stands, if_absent, or_miss, behind_one, meaning, in_turn}
+use Rattle.mbe_grammar.specs.Rule.{one, part, ◌or◌, Step, ◌>>=◌, or_else, has_to_stand, if_stands, if_absent, or_miss, following_one, meaning, in_turn}
 use Rattle.mbe_grammar.specs.RuleLaws.{meaning_leaves}
 use Rattle.mbe_grammar.specs.SingleTrees.{is_one_of, is_literal}
 use Rattle.mbe_grammar.specs.SampleGrammar.{Rules, Nonterminal, word, words, brace, any_group, expr_start, Operator, Operation, Expr, Prefix, Unary, Operand, KeywordBlock, JumpWord, JumpValue, Jump, PathExpr, Primary, Post, rule_of, takes}
@@ -17,7 +17,8 @@ use Rattle.mbe_grammar.proofs.TypeChains.{is_lifetime, lifetime_calm}
 
 -- ---- where an expression ends
 
-turns_done : (x : Nonterminal) (f g : Forest) → takes_some x ≡ true → in_turn (takes x) f ≡ Ok g → takes x g ≡ Err Absent
+turns_done : (x : Nonterminal) (f g : Forest) → takes_some x ≡ true → in_turn (takes x) f ≡ Ok g
+    → takes x g ≡ Err Absent
 turns_done x f g p e = in_turn_done (takes x) (λ h. rw p at (takes_leaves x h)) f g e
 
 stood : (s : Step) (g : Forest) → has_to_stand s ≡ Ok g → s ≡ Ok g
@@ -28,22 +29,27 @@ stood (Err Fault) g e = cc
 -- no post comes after an operand, an operation or an expression
 unary_done : (f g : Forest) → takes Unary f ≡ Ok g → takes Post g ≡ Err Absent
 unary_done f g e =
-    let (start, _, operand) = then_stands (in_turn (takes Prefix) f) (takes Operand) g (sym (takes_by_rule Unary f) ∙ e) in
-    let (end, _, posts) = then_stands (takes Primary start) (in_turn (takes Post)) g (sym (takes_by_rule Operand start) ∙ operand) in
+    let (start, _, operand) = then_stands (in_turn (takes Prefix) f) (takes Operand) g
+    (sym (takes_by_rule Unary f) ∙ e) in
+    let (end, _, posts) = then_stands (takes Primary start) (in_turn (takes Post)) g
+    (sym (takes_by_rule Operand start) ∙ operand) in
     turns_done Post end g refl posts
 
 operation_done : (f g : Forest) → takes Operation f ≡ Ok g → takes Post g ≡ Err Absent
 operation_done f g e =
-    let (start, _, unary) = then_stands (takes Operator f) (λ h. has_to_stand (takes Unary h)) g (sym (takes_by_rule Operation f) ∙ e) in
+    let (start, _, unary) = then_stands (takes Operator f) (λ h. has_to_stand (takes Unary h)) g
+    (sym (takes_by_rule Operation f) ∙ e) in
     unary_done start g (stood (takes Unary start) g unary)
 
-expr_parts : (f g : Forest) → takes Expr f ≡ Ok g → (h : Forest) × (takes Unary f ≡ Ok h) × (in_turn (takes Operation) h ≡ Ok g)
+expr_parts : (f g : Forest) → takes Expr f ≡ Ok g
+    → (h : Forest) × (takes Unary f ≡ Ok h) × (in_turn (takes Operation) h ≡ Ok g)
 expr_parts f g e = then_stands (takes Unary f) (in_turn (takes Operation)) g (sym (takes_by_rule Expr f) ∙ e)
 
 posts_end : (f g : Forest) → takes Expr f ≡ Ok g → in_turn (takes Post) g ≡ Ok g
 posts_end f g e =
     let (h, unary, operations) = expr_parts f g e in
-    turns_end Post g (in_turn_keeps (λ k. takes Post k ≡ Err Absent) (takes Operation) operation_done h g (unary_done f h unary) operations)
+    turns_end Post g (in_turn_keeps (λ k. takes Post k ≡ Err Absent) (takes Operation) operation_done h g
+    (unary_done f h unary) operations)
 
 operations_end : (f g : Forest) → takes Expr f ≡ Ok g → in_turn (takes Operation) g ≡ Ok g
 operations_end f g e =
@@ -52,16 +58,21 @@ operations_end f g e =
 
 -- ---- an operator and what follows it
 
-operation_by : (f g : Forest) (u : Step) → takes Unary g ≡ u → takes Operation f ≡ has_to_stand u → in_turn (takes Operation) f ≡ has_to_stand (takes Expr g)
+operation_by : (f g : Forest) (u : Step) → takes Unary g ≡ u → takes Operation f ≡ has_to_stand u
+    → in_turn (takes Operation) f ≡ has_to_stand (takes Expr g)
 operation_by f g (Ok h) unary operation =
     turns_on Operation f h refl operation
-    ∙ (sym (in_turn_stands (takes Operation) h) ∙ ap has_to_stand (sym (takes_by_rule Expr g ∙ ap (λ s. s >>= in_turn (takes Operation)) unary)))
+    ∙ (sym (in_turn_stands (takes Operation) h)
+    ∙ ap has_to_stand (sym (takes_by_rule Expr g ∙ ap (λ s. s >>= in_turn (takes Operation)) unary)))
 operation_by f g (Err Absent) unary operation =
-    turns_fault Operation f operation ∙ ap has_to_stand (sym (takes_by_rule Expr g ∙ ap (λ s. s >>= in_turn (takes Operation)) unary))
+    turns_fault Operation f operation ∙ ap has_to_stand
+    (sym (takes_by_rule Expr g ∙ ap (λ s. s >>= in_turn (takes Operation)) unary))
 operation_by f g (Err Fault) unary operation =
-    turns_fault Operation f operation ∙ ap has_to_stand (sym (takes_by_rule Expr g ∙ ap (λ s. s >>= in_turn (takes Operation)) unary))
+    turns_fault Operation f operation ∙ ap has_to_stand
+    (sym (takes_by_rule Expr g ∙ ap (λ s. s >>= in_turn (takes Operation)) unary))
 
-operation_after : (f : Forest) (s : Step) → takes Operator f ≡ s → takes Operation f ≡ (s >>= λ g. has_to_stand (takes Unary g))
+operation_after : (f : Forest) (s : Step) → takes Operator f ≡ s
+    → takes Operation f ≡ (s >>= λ g. has_to_stand (takes Unary g))
 operation_after f s e = takes_by_rule Operation f ∙ ap (λ t. t >>= λ g. has_to_stand (takes Unary g)) e
 
 pub operator_on : (f g : Forest) → takes Operator f ≡ Ok g → in_turn (takes Operation) f ≡ has_to_stand (takes Expr g)
@@ -84,12 +95,14 @@ jumps = map codes ("break" ∷ "return" ∷ "continue" ∷ [])
 jump_begins : (f g : Forest) → takes JumpWord f ≡ Ok g → Begins (is_one_of jumps) f
 jump_begins f g e = one_stands (is_one_of jumps) f _ (then_stands _ _ g (sym (takes_by_rule JumpWord f) ∙ e)).1
 
-no_other_word : (others : List (List ℕ)) → are_apart jumps others ≡ true → (f : Forest) → Begins (is_one_of jumps) f → behind_one (is_one_of others) f ≡ None
+no_other_word : (others : List (List ℕ)) → are_apart jumps others ≡ true → (f : Forest) → Begins (is_one_of jumps) f
+    → following_one (is_one_of others) f ≡ None
 no_other_word others apart f h = one_absent (is_one_of jumps) (is_one_of others) (words_apart jumps others apart) f h
 
 keyword_block_absent : (f : Forest) → Begins (is_one_of jumps) f → takes KeywordBlock f ≡ Err Absent
 keyword_block_absent f h =
-    takes_by_rule KeywordBlock f ∙ ap (λ x. or_miss Absent x >>= meaning takes brace) (no_other_word (map codes ("const" ∷ "unsafe" ∷ [])) refl f h)
+    takes_by_rule KeywordBlock f ∙ ap (λ x. or_miss Absent x >>= meaning takes brace)
+    (no_other_word (map codes ("const" ∷ "unsafe" ∷ [])) refl f h)
 
 stands_first : (s t : Step) → or_else (has_to_stand s) t ≡ has_to_stand s
 stands_first (Ok g) t = refl
@@ -97,16 +110,20 @@ stands_first (Err Absent) t = refl
 stands_first (Err Fault) t = refl
 
 -- where a jump is, the operand by itself is that
-primary_jump : (f g : Forest) (s : Step) → takes JumpWord f ≡ Ok g → takes Jump f ≡ has_to_stand s → takes Primary f ≡ has_to_stand s
+primary_jump : (f g : Forest) (s : Step) → takes JumpWord f ≡ Ok g → takes Jump f ≡ has_to_stand s
+    → takes Primary f ≡ has_to_stand s
 primary_jump f g s e jump =
     let h = jump_begins f g e in
     let after_block : Rules = part Jump or any_group or part PathExpr in
     let after_literal : Rules = part KeywordBlock or after_block in
     let after_word : Rules = one is_literal or after_literal in
     takes_by_rule Primary f
-    ∙ (ap (λ x. if_absent (or_miss Absent x) f >>= meaning takes (words ("_" ∷ "true" ∷ "false" ∷ []) or after_word)) (no_other_word (codes "let" ∷ []) refl f h)
-    ∙ (ap (λ x. or_else (or_miss Absent x) (meaning takes after_word f)) (no_other_word (map codes ("_" ∷ "true" ∷ "false" ∷ [])) refl f h)
-    ∙ (ap (λ x. or_else (or_miss Absent x) (meaning takes after_literal f)) (one_absent (is_one_of jumps) is_literal (word_is_no_literal jumps) f h)
+    ∙ (ap (λ x. if_absent (or_miss Absent x) f >>= meaning takes (words ("_" ∷ "true" ∷ "false" ∷ []) or after_word))
+    (no_other_word (codes "let" ∷ []) refl f h)
+    ∙ (ap (λ x. or_else (or_miss Absent x) (meaning takes after_word f))
+    (no_other_word (map codes ("_" ∷ "true" ∷ "false" ∷ [])) refl f h)
+    ∙ (ap (λ x. or_else (or_miss Absent x) (meaning takes after_literal f))
+    (one_absent (is_one_of jumps) is_literal (word_is_no_literal jumps) f h)
     ∙ (ap (λ t. or_else t (meaning takes after_block f)) (keyword_block_absent f h)
     ∙ (ap (λ t. or_else t (meaning takes (any_group or part PathExpr) f)) jump ∙ stands_first s _)))))
 
@@ -115,7 +132,8 @@ ahead_parts : (s : Step) (f g : Forest) → if_stands s f ≡ Ok g → (f ≡ g)
 ahead_parts (Ok h) f g e = (cc, refl)
 ahead_parts (Err miss) f g e = cc
 
-jump_value : (f g : Forest) → takes JumpWord f ≡ Ok g → if_stands (meaning takes expr_start g) g ≡ Ok g → takes Jump f ≡ has_to_stand (takes Expr g)
+jump_value : (f g : Forest) → takes JumpWord f ≡ Ok g → if_stands (meaning takes expr_start g) g ≡ Ok g
+    → takes Jump f ≡ has_to_stand (takes Expr g)
 jump_value f g word start =
     takes_by_rule Jump f
     ∙ (ap (λ s. s >>= λ h. or_else (takes JumpValue h) (Ok h)) word
@@ -123,19 +141,23 @@ jump_value f g word start =
     ∙ stands_first (takes Expr g) (Ok g)))
 
 -- nothing is taken after an expression
-ends_there : (s : Step) (posts operations : Forest → Step) → ((g : Forest) → s ≡ Ok g → posts g ≡ Ok g) → ((g : Forest) → s ≡ Ok g → operations g ≡ Ok g)
+ends_there : (s : Step) (posts operations : Forest → Step) → ((g : Forest) → s ≡ Ok g → posts g ≡ Ok g)
+    → ((g : Forest) → s ≡ Ok g → operations g ≡ Ok g)
     → ((has_to_stand s >>= posts) >>= operations) ≡ has_to_stand s
 ends_there (Ok g) posts operations a b = ap (λ t. t >>= operations) (a g refl) ∙ b g refl
 ends_there (Err Absent) posts operations a b = refl
 ends_there (Err Fault) posts operations a b = refl
 
-expr_from : (f : Forest) (s : Step) → in_turn (takes Prefix) f ≡ s → takes Expr f ≡ ((s >>= takes Operand) >>= in_turn (takes Operation))
-expr_from f s e = takes_by_rule Expr f ∙ ap (λ t. t >>= in_turn (takes Operation)) (takes_by_rule Unary f ∙ ap (λ t. t >>= takes Operand) e)
+expr_from : (f : Forest) (s : Step) → in_turn (takes Prefix) f ≡ s
+    → takes Expr f ≡ ((s >>= takes Operand) >>= in_turn (takes Operation))
+expr_from f s e = takes_by_rule Expr f ∙ ap (λ t. t >>= in_turn (takes Operation))
+    (takes_by_rule Unary f ∙ ap (λ t. t >>= takes Operand) e)
 
 pub prefixes_miss : (f : Forest) (miss : Miss) → in_turn (takes Prefix) f ≡ Err miss → takes Expr f ≡ Err miss
 prefixes_miss f miss e = expr_from f (Err miss) e
 
-jump_parts : (f g : Forest) → meaning takes jump_to_value f ≡ Ok g → (takes JumpWord f ≡ Ok g) × (if_stands (meaning takes expr_start g) g ≡ Ok g)
+jump_parts : (f g : Forest) → meaning takes jump_to_value f ≡ Ok g
+    → (takes JumpWord f ≡ Ok g) × (if_stands (meaning takes expr_start g) g ≡ Ok g)
 jump_parts f g e =
     let (h, word, start) = then_stands (takes JumpWord f) (λ k. if_stands (meaning takes expr_start k) k) g e in
     let (same, stands) = ahead_parts (meaning takes expr_start h) h g start in
@@ -143,15 +165,19 @@ jump_parts f g e =
     subst P same (word, stands)
 
 -- a jump's value is the rest of the whole
-pub jump_on : (f start g : Forest) → in_turn (takes Prefix) f ≡ Ok start → meaning takes jump_to_value start ≡ Ok g → takes Expr f ≡ has_to_stand (takes Expr g)
+pub jump_on : (f start g : Forest) → in_turn (takes Prefix) f ≡ Ok start → meaning takes jump_to_value start ≡ Ok g
+    → takes Expr f ≡ has_to_stand (takes Expr g)
 jump_on f start g e jump =
     let (word, stands) = jump_parts start g jump in
-    let primary : takes Primary start ≡ has_to_stand (takes Expr g) = primary_jump start g (takes Expr g) word (jump_value start g word stands) in
+    let primary : takes Primary start ≡ has_to_stand (takes Expr g) =
+    primary_jump start g (takes Expr g) word (jump_value start g word stands) in
     expr_from f (Ok start) e
-    ∙ (ap (λ t. t >>= in_turn (takes Operation)) (takes_by_rule Operand start ∙ ap (λ t. t >>= in_turn (takes Post)) primary)
+    ∙ (ap (λ t. t >>= in_turn (takes Operation))
+    (takes_by_rule Operand start ∙ ap (λ t. t >>= in_turn (takes Post)) primary)
     ∙ ends_there (takes Expr g) (in_turn (takes Post)) (in_turn (takes Operation)) (posts_end g) (operations_end g))
 
-pub jump_shorter : (f start g : Forest) → in_turn (takes Prefix) f ≡ Ok start → meaning takes jump_to_value start ≡ Ok g → flat_len g < flat_len f
+pub jump_shorter : (f start g : Forest) → in_turn (takes Prefix) f ≡ Ok start → meaning takes jump_to_value start ≡ Ok g
+    → flat_len g < flat_len f
 jump_shorter f start g e jump =
     omega (arith, turns_no_longer Prefix f start e, takes_shorter JumpWord start g refl (jump_parts start g jump).0)
 
@@ -160,7 +186,8 @@ is_jump_word JumpWord = true
 is_jump_word _ = false
 
 jump_word_calm : (x : Nonterminal) → is_jump_word x ≡ true → (f : Forest) → takes x f ≡ Err Fault → ⊥
-jump_word_calm JumpWord b f e = never_faults is_lifetime takes lifetime_calm (rule_of JumpWord) refl f (sym (takes_by_rule JumpWord f) ∙ e)
+jump_word_calm JumpWord b f e = never_faults is_lifetime takes lifetime_calm (rule_of JumpWord) refl f
+    (sym (takes_by_rule JumpWord f) ∙ e)
 jump_word_calm _ b f e = cc
 
 pub jump_calm : (f : Forest) → meaning takes jump_to_value f ≡ Err Fault → ⊥
@@ -168,45 +195,56 @@ jump_calm f e = never_faults is_jump_word takes jump_word_calm jump_to_value ref
 
 -- ---- operands that are no jump with a value
 
-value_absent : (s : Step) (start whole : Forest → Step) → ((g : Forest) → start g ≡ Err Absent → whole g ≡ Ok g) → (s >>= start) ≡ Err Absent → (s >>= whole) ≡ s
+value_absent : (s : Step) (start whole : Forest → Step) → ((g : Forest) → start g ≡ Err Absent → whole g ≡ Ok g)
+    → (s >>= start) ≡ Err Absent → (s >>= whole) ≡ s
 value_absent (Ok g) start whole h e = h g e
 value_absent (Err miss) start whole h e = refl
 
 jump_alone : (f : Forest) → meaning takes jump_to_value f ≡ Err Absent → takes Jump f ≡ takes JumpWord f
 jump_alone f e =
     takes_by_rule Jump f
-    ∙ value_absent (takes JumpWord f) (λ g. if_stands (meaning takes expr_start g) g) (λ g. or_else (takes JumpValue g) (Ok g))
-    (λ g absent. ap (λ s. or_else s (Ok g)) (takes_by_rule JumpValue g ∙ ap (λ s. s >>= λ h. has_to_stand (takes Expr h)) absent)) e
+    ∙ value_absent (takes JumpWord f) (λ g. if_stands (meaning takes expr_start g) g)
+    (λ g. or_else (takes JumpValue g) (Ok g))
+    (λ g absent. ap (λ s. or_else s (Ok g))
+    (takes_by_rule JumpValue g ∙ ap (λ s. s >>= λ h. has_to_stand (takes Expr h)) absent)) e
 
-not_ahead_same : (s : Step) (f : Forest) (k l : Forest → Step) → k f ≡ l f → (if_absent s f >>= k) ≡ (if_absent s f >>= l)
+not_ahead_same : (s : Step) (f : Forest) (k l : Forest → Step) → k f ≡ l f
+    → (if_absent s f >>= k) ≡ (if_absent s f >>= l)
 not_ahead_same (Ok g) f k l e = refl
 not_ahead_same (Err Absent) f k l e = e
 not_ahead_same (Err Fault) f k l e = refl
 
-operand_alone : (f : Forest) → meaning takes jump_to_value f ≡ Err Absent → takes Operand f ≡ meaning takes plain_operand f
+operand_alone : (f : Forest) → meaning takes jump_to_value f ≡ Err Absent
+    → takes Operand f ≡ meaning takes plain_operand f
 operand_alone f e =
-    let before = λ (s : Step). or_else (meaning takes (words ("_" ∷ "true" ∷ "false" ∷ [])) f) (or_else (meaning takes (one is_literal) f)
+    let before = λ (s : Step). or_else (meaning takes (words ("_" ∷ "true" ∷ "false" ∷ [])) f)
+    (or_else (meaning takes (one is_literal) f)
     (or_else (takes KeywordBlock f) (or_else s (meaning takes (any_group or part PathExpr) f)))) in
     takes_by_rule Operand f
     ∙ ap (λ s. s >>= in_turn (takes Post))
     (takes_by_rule Primary f ∙ not_ahead_same (meaning takes (word "let") f) f _ _ (ap before (jump_alone f e)))
 
-expr_of_operand : (f start : Forest) (s : Step) → in_turn (takes Prefix) f ≡ Ok start → meaning takes jump_to_value start ≡ Err Absent → meaning takes plain_operand start ≡ s
+expr_of_operand : (f start : Forest) (s : Step) → in_turn (takes Prefix) f ≡ Ok start
+    → meaning takes jump_to_value start ≡ Err Absent → meaning takes plain_operand start ≡ s
     → takes Expr f ≡ (s >>= in_turn (takes Operation))
 expr_of_operand f start s e absent operand =
     expr_from f (Ok start) e ∙ ap (λ t. t >>= in_turn (takes Operation)) (operand_alone start absent ∙ operand)
 
-pub operand_on : (f start g : Forest) → in_turn (takes Prefix) f ≡ Ok start → meaning takes jump_to_value start ≡ Err Absent → meaning takes plain_operand start ≡ Ok g
+pub operand_on : (f start g : Forest) → in_turn (takes Prefix) f ≡ Ok start
+    → meaning takes jump_to_value start ≡ Err Absent → meaning takes plain_operand start ≡ Ok g
     → takes Expr f ≡ in_turn (takes Operation) g
 operand_on f start g e absent operand = expr_of_operand f start (Ok g) e absent operand
 
-pub operand_misses : (f start : Forest) (miss : Miss) → in_turn (takes Prefix) f ≡ Ok start → meaning takes jump_to_value start ≡ Err Absent → meaning takes plain_operand start ≡ Err miss
+pub operand_misses : (f start : Forest) (miss : Miss) → in_turn (takes Prefix) f ≡ Ok start
+    → meaning takes jump_to_value start ≡ Err Absent → meaning takes plain_operand start ≡ Err miss
     → takes Expr f ≡ Err miss
 operand_misses f start miss e absent operand = expr_of_operand f start (Err miss) e absent operand
 
-pub operand_shorter : (f start g : Forest) → in_turn (takes Prefix) f ≡ Ok start → meaning takes plain_operand start ≡ Ok g → flat_len g < flat_len f
+pub operand_shorter : (f start g : Forest) → in_turn (takes Prefix) f ≡ Ok start
+    → meaning takes plain_operand start ≡ Ok g → flat_len g < flat_len f
 operand_shorter f start g e operand =
-    let left = shorter start g (meaning takes plain_operand start) (meaning_leaves takes_some takes takes_leaves plain_operand start) operand in
+    let left = shorter start g (meaning takes plain_operand start)
+    (meaning_leaves takes_some takes takes_leaves plain_operand start) operand in
     omega (arith, turns_no_longer Prefix f start e)
 
 -- what the code asks for

@@ -16,9 +16,12 @@ levels-flat none ts = refl
 levels-flat (leaf l rest) ts = ap (λ (r : Levels). record r { level = leaf l r.level }) (levels-flat rest ts)
 levels-flat (group d inside rest) ts =
     ap (λ (r : Levels). open_level d r.level r.around)
-    (ap levels (append_assoc (flat inside) (closing d ∷ flat rest) ts) ∙ levels-flat inside (closing d ∷ (flat rest ++ ts)))
-    ∙ (ap (λ (r : Levels). record { level = group d (append inside none) r.level; around = r.around }) (levels-flat rest ts)
-    ∙ ap (λ (i : Forest). record { level = group d i (append rest (levels ts).level); around = (levels ts).around }) (append-none inside))
+    (ap levels (append_assoc (flat inside) (closing d ∷ flat rest) ts)
+    ∙ levels-flat inside (closing d ∷ (flat rest ++ ts)))
+    ∙ (ap (λ (r : Levels). record { level = group d (append inside none) r.level; around = r.around })
+    (levels-flat rest ts)
+    ∙ ap (λ (i : Forest). record { level = group d i (append rest (levels ts).level); around = (levels ts).around })
+    (append-none inside))
 
 pub trees_of_flat-flat : (f : Forest) → trees_of_flat (flat f) ≡ f
 trees_of_flat-flat f =

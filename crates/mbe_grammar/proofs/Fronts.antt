@@ -13,7 +13,7 @@ use Rattle.mbe_tt.specs.declared.tt.IdentIsRaw.{IdentIsRaw}
 use Rattle.mbe_tt.specs.declared.tt.IdentIsRaw.TheVariants.{No, Yes}
 use Rattle.mbe_tt.specs.declared.tt.DelimiterKind.{DelimiterKind}
 use Rattle.mbe_grammar.specs.declared.step.Miss.TheVariants.{Absent, Fault}
-use Rattle.mbe_grammar.specs.Rule.{Step, ◌>>=◌, or_else, or_miss, behind_one, behind_puncts, may_begin}
+use Rattle.mbe_grammar.specs.Rule.{Step, ◌>>=◌, or_else, or_miss, following_one, after_puncts, may_begin}
 use Rattle.mbe_grammar.specs.SingleTrees.{is_word, is_one_of, is_name, is_literal, is_punct, is_group}
 
 -- the first tree passes the test
@@ -29,7 +29,7 @@ Apart p q = (t : Tree) → p t ≡ true → q t ≡ false
 if_false : (b : Bool) (x : Option Forest) → b ≡ false → (if b then x else None) ≡ None
 if_false b x e = rw e
 
-pub one_absent : (p q : Tree → Bool) → Apart p q → (f : Forest) → Begins p f → behind_one q f ≡ None
+pub one_absent : (p q : Tree → Bool) → Apart p q → (f : Forest) → Begins p f → following_one q f ≡ None
 one_absent p q apart none h = absurd h
 one_absent p q apart (leaf l rest) h = if_false _ (Some rest) (apart (Leaf_tree l) h)
 one_absent p q apart (group d inside rest) h = if_false _ (Some rest) (apart (Group_tree d inside) h)
@@ -45,14 +45,16 @@ glue_other : (p : Punct) (rest : Forest) (char : ℕ) (chars : List ℕ) → (p.
     → list_any (bytes_eq (chars_of (glue (leaf (punct p) rest)))) ((char ∷ chars) ∷ []) ≡ false
 glue_other p rest char chars e = rw (longest_other _ _ p (if_joint p.spacing (joined 2 rest)) char chars e)
 
-pub puncts_absent : (p : Tree → Bool) (char : ℕ) (chars : List ℕ) → Apart p (is_punct char) → (f : Forest) → Begins p f → behind_puncts ((char ∷ chars) ∷ []) f ≡ None
+pub puncts_absent : (p : Tree → Bool) (char : ℕ) (chars : List ℕ) → Apart p (is_punct char) → (f : Forest) → Begins p f
+    → after_puncts ((char ∷ chars) ∷ []) f ≡ None
 puncts_absent p char chars apart none h = absurd h
 puncts_absent p char chars apart (group d inside rest) h = refl
 puncts_absent p char chars apart (leaf (literal x) rest) h = refl
 puncts_absent p char chars apart (leaf (ident i) rest) h = refl
-puncts_absent p char chars apart (leaf (punct q) rest) h = if_false _ _ (glue_other q rest char chars (apart (Leaf_tree (punct q)) h))
+puncts_absent p char chars apart (leaf (punct q) rest) h =
+    if_false _ _ (glue_other q rest char chars (apart (Leaf_tree (punct q)) h))
 
-pub absent_unless : (chars : List ℕ) (f : Forest) → may_begin chars f ≡ false → behind_puncts (chars ∷ []) f ≡ None
+pub absent_unless : (chars : List ℕ) (f : Forest) → may_begin chars f ≡ false → after_puncts (chars ∷ []) f ≡ None
 absent_unless [] f e = absurd (false≢true (sym e))
 absent_unless (char ∷ chars) none e = refl
 absent_unless (char ∷ chars) (group d inside rest) e = refl
@@ -66,7 +68,8 @@ absent_unless (char ∷ chars) (leaf (punct p) rest) e = if_false _ _ (glue_othe
 abbrev pub are_apart : List (List ℕ) → List (List ℕ) → Bool
 are_apart texts others = list_all (λ t. not (list_any (is_text t) others)) texts
 
-other_text : (sym : List ℕ) (texts others : List (List ℕ)) → are_apart texts others ≡ true → list_any (is_text sym) texts ≡ true → list_any (is_text sym) others ≡ false
+other_text : (sym : List ℕ) (texts others : List (List ℕ)) → are_apart texts others ≡ true
+    → list_any (is_text sym) texts ≡ true → list_any (is_text sym) others ≡ false
 other_text sym [] others apart h = cc
 other_text sym (t ∷ ts) others apart h =
     let (here, later) = and_parts (not (list_any (is_text t) others)) (are_apart ts others) apart in
@@ -75,11 +78,13 @@ other_text sym (t ∷ ts) others apart h =
       | inr e ↦ other_text sym ts others later e
     ]
 
-other_word : (texts others : List (List ℕ)) (raw : IdentIsRaw) (sym : List ℕ) → are_apart texts others ≡ true → is_word texts raw sym ≡ true → is_word others raw sym ≡ false
+other_word : (texts others : List (List ℕ)) (raw : IdentIsRaw) (sym : List ℕ) → are_apart texts others ≡ true
+    → is_word texts raw sym ≡ true → is_word others raw sym ≡ false
 other_word texts others No sym apart h = other_text sym texts others apart h
 other_word texts others Yes sym apart h = refl
 
-pub words_apart : (texts others : List (List ℕ)) → are_apart texts others ≡ true → Apart (is_one_of texts) (is_one_of others)
+pub words_apart : (texts others : List (List ℕ)) → are_apart texts others ≡ true
+    → Apart (is_one_of texts) (is_one_of others)
 words_apart texts others apart (Leaf_tree (ident i)) h = other_word texts others i.is_raw i.sym apart h
 words_apart texts others apart (Leaf_tree (punct p)) h = refl
 words_apart texts others apart (Leaf_tree (literal x)) h = refl
@@ -145,12 +150,13 @@ first_stands : (a : Bool) (rest g : Forest) → or_miss Absent (if a then Some r
 first_stands true rest g e = refl
 first_stands false rest g e = cc
 
-pub one_stands : (p : Tree → Bool) (f g : Forest) → or_miss Absent (behind_one p f) ≡ Ok g → Begins p f
+pub one_stands : (p : Tree → Bool) (f g : Forest) → or_miss Absent (following_one p f) ≡ Ok g → Begins p f
 one_stands p none g e = cc
 one_stands p (leaf l rest) g e = first_stands _ rest g e
 one_stands p (group d inside rest) g e = first_stands _ rest g e
 
-pub then_stands : (s : Step) (next : Forest → Step) (g : Forest) → (s >>= next) ≡ Ok g → (h : Forest) × (s ≡ Ok h) × (next h ≡ Ok g)
+pub then_stands : (s : Step) (next : Forest → Step) (g : Forest) → (s >>= next) ≡ Ok g
+    → (h : Forest) × (s ≡ Ok h) × (next h ≡ Ok g)
 then_stands (Ok h) next g e = (h, refl, e)
 then_stands (Err miss) next g e = cc
 
@@ -168,9 +174,6 @@ pub either_right : (p q : Tree → Bool) (f : Forest) → Begins q f → Begins 
 either_right p q none h = absurd h
 either_right p q (leaf l rest) h = or_right _ _ h
 either_right p q (group d inside rest) h = or_right _ _ h
-
-pub absent_first : (s t : Step) → s ≡ Err Absent → or_else s t ≡ t
-absent_first s t e = rw e
 
 pub absent_last : (s t : Step) → t ≡ Err Absent → or_else s t ≡ s
 absent_last (Ok g) t e = refl

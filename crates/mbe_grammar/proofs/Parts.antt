@@ -58,7 +58,8 @@ takes_no_longer x f g e = no_longer f g (takes x f) (leaves_weaker (takes_some x
 pub takes_shorter : (x : Nonterminal) (f g : Forest) → takes_some x ≡ true → takes x f ≡ Ok g → flat_len g < flat_len f
 takes_shorter x f g p e = shorter f g (takes x f) (rw p at (takes_leaves x f)) e
 
-pub turns_on : (x : Nonterminal) (f g : Forest) → takes_some x ≡ true → takes x f ≡ Ok g → in_turn (takes x) f ≡ in_turn (takes x) g
+pub turns_on : (x : Nonterminal) (f g : Forest) → takes_some x ≡ true → takes x f ≡ Ok g
+    → in_turn (takes x) f ≡ in_turn (takes x) g
 turns_on x f g p e = in_turn_on (takes x) (λ h. rw p at (takes_leaves x h)) f g e
 
 pub turns_end : (x : Nonterminal) (f : Forest) → takes x f ≡ Err Absent → in_turn (takes x) f ≡ Ok f
@@ -68,7 +69,8 @@ pub turns_fault : (x : Nonterminal) (f : Forest) → takes x f ≡ Err Fault →
 turns_fault x f e = in_turn_faults (takes x) f e
 
 pub turns_no_longer : (x : Nonterminal) (f g : Forest) → in_turn (takes x) f ≡ Ok g → flat_len g ≤ flat_len f
-turns_no_longer x f g e = no_longer f g (in_turn (takes x) f) (in_turn_leaves (takes x) (λ h. leaves_weaker (takes_some x) h (takes x h) (takes_leaves x h)) f) e
+turns_no_longer x f g e = no_longer f g (in_turn (takes x) f)
+    (in_turn_leaves (takes x) (λ h. leaves_weaker (takes_some x) h (takes x h) (takes_leaves x h)) f) e
 
 -- what a loop over one part asks for
 pub ruleset turns = (turns_on, turns_end, turns_fault, takes_shorter)
@@ -90,7 +92,8 @@ colons_is f = takes_by_rule Colons f
 pub segment_is : (style : PathStyle) (f : Forest) → takes (Segment style) f ≡ meaning takes (rule_of (Segment style)) f
 segment_is style f = takes_by_rule (Segment style) f
 
-pub next_segment_is : (style : PathStyle) (f : Forest) → takes (NextSegment style) f ≡ meaning takes (rule_of (NextSegment style)) f
+pub next_segment_is : (style : PathStyle) (f : Forest)
+    → takes (NextSegment style) f ≡ meaning takes (rule_of (NextSegment style)) f
 next_segment_is style f = takes_by_rule (NextSegment style) f
 
 pub path_is : (style : PathStyle) (f : Forest) → takes (Path style) f ≡ meaning takes (rule_of (Path style)) f
@@ -98,9 +101,6 @@ path_is style f = takes_by_rule (Path style) f
 
 pub indirection_is : (f : Forest) → takes Indirection f ≡ meaning takes (rule_of Indirection) f
 indirection_is f = takes_by_rule Indirection f
-
-pub pointee_is : (f : Forest) → takes Pointee f ≡ meaning takes (rule_of Pointee) f
-pointee_is f = takes_by_rule Pointee f
 
 pub ty_is : (f : Forest) → takes Ty f ≡ meaning takes (rule_of Ty) f
 ty_is f = takes_by_rule Ty f
@@ -120,14 +120,8 @@ signed_literal_is f = takes_by_rule SignedLiteral f
 pub binding_mode_is : (f : Forest) → takes BindingMode f ≡ meaning takes (rule_of BindingMode) f
 binding_mode_is f = takes_by_rule BindingMode f
 
-pub bound_pat_is : (f : Forest) → takes BoundPat f ≡ meaning takes (rule_of BoundPat) f
-bound_pat_is f = takes_by_rule BoundPat f
-
 pub path_pat_is : (f : Forest) → takes PathPat f ≡ meaning takes (rule_of PathPat) f
 path_pat_is f = takes_by_rule PathPat f
-
-pub pat_is : (f : Forest) → takes Pat f ≡ meaning takes (rule_of Pat) f
-pat_is f = takes_by_rule Pat f
 
 pub alternative_is : (f : Forest) → takes Alternative f ≡ meaning takes (rule_of Alternative) f
 alternative_is f = takes_by_rule Alternative f
@@ -135,17 +129,8 @@ alternative_is f = takes_by_rule Alternative f
 pub pat_top_is : (f : Forest) → takes PatTop f ≡ meaning takes (rule_of PatTop) f
 pat_top_is f = takes_by_rule PatTop f
 
-pub operation_is : (f : Forest) → takes Operation f ≡ meaning takes (rule_of Operation) f
-operation_is f = takes_by_rule Operation f
-
-pub expr_is : (f : Forest) → takes Expr f ≡ meaning takes (rule_of Expr) f
-expr_is f = takes_by_rule Expr f
-
 pub prefix_is : (f : Forest) → takes Prefix f ≡ meaning takes (rule_of Prefix) f
 prefix_is f = takes_by_rule Prefix f
-
-pub unary_is : (f : Forest) → takes Unary f ≡ (in_turn (takes Prefix) f >>= takes Operand)
-unary_is f = takes_by_rule Unary f
 
 pub keyword_block_is : (f : Forest) → takes KeywordBlock f ≡ meaning takes (rule_of KeywordBlock) f
 keyword_block_is f = takes_by_rule KeywordBlock f
@@ -153,17 +138,8 @@ keyword_block_is f = takes_by_rule KeywordBlock f
 pub jump_word_is : (f : Forest) → takes JumpWord f ≡ meaning takes (rule_of JumpWord) f
 jump_word_is f = takes_by_rule JumpWord f
 
-pub jump_value_is : (f : Forest) → takes JumpValue f ≡ meaning takes (rule_of JumpValue) f
-jump_value_is f = takes_by_rule JumpValue f
-
-pub jump_is : (f : Forest) → takes Jump f ≡ meaning takes (rule_of Jump) f
-jump_is f = takes_by_rule Jump f
-
 pub path_expr_is : (f : Forest) → takes PathExpr f ≡ meaning takes (rule_of PathExpr) f
 path_expr_is f = takes_by_rule PathExpr f
-
-pub primary_is : (f : Forest) → takes Primary f ≡ meaning takes (rule_of Primary) f
-primary_is f = takes_by_rule Primary f
 
 pub field_is : (f : Forest) → takes Field f ≡ meaning takes (rule_of Field) f
 field_is f = takes_by_rule Field f
@@ -191,6 +167,3 @@ vis_is f = takes_by_rule Vis f
 
 pub operator_is : (f : Forest) → takes Operator f ≡ meaning takes (rule_of Operator) f
 operator_is f = takes_by_rule Operator f
-
-pub operand_is : (f : Forest) → takes Operand f ≡ meaning takes (rule_of Operand) f
-operand_is f = takes_by_rule Operand f

@@ -15,7 +15,8 @@ is_below solid rank most k (puncts_of texts) = true
 is_below solid rank most k (through p) = true
 is_below solid rank most k to_closing_angle = true
 is_below solid rank most k (part x) = nat_lt (rank x) k
-is_below solid rank most k (r then s) = is_below solid rank most k r && is_below solid rank most (if is_solid solid r then most else k) s
+is_below solid rank most k (r then s) =
+    is_below solid rank most k r && is_below solid rank most (if is_solid solid r then most else k) s
 is_below solid rank most k (r or s) = is_below solid rank most k r && is_below solid rank most k s
 is_below solid rank most k (maybe r) = is_below solid rank most k r
 is_below solid rank most k (repeated r) = is_below solid rank most k r
@@ -42,20 +43,23 @@ then_same : (a : Bool) (f : Forest) (s : Step) (k l : Forest → Step) → Leave
 then_same a f (Ok g) k l h e = e g h
 then_same a f (Err miss) k l h e = refl
 
-once_more_same : (f : Forest) (s : Step) (k l : Forest → Step) → Leaves false f s → ((g : Forest) → flat_len g ≤ flat_len f → k g ≡ l g)
+once_more_same : (f : Forest) (s : Step) (k l : Forest → Step) → Leaves false f s
+    → ((g : Forest) → flat_len g ≤ flat_len f → k g ≡ l g)
     → once_more s k f ≡ once_more s l f
 once_more_same f (Ok g) k l h e = e g (omega arith)
 once_more_same f (Err Absent) k l h e = refl
 once_more_same f (Err Fault) k l h e = refl
 
-times_same : (n m : ℕ) (r s : Forest → Step) → ((g : Forest) → Leaves false g (s g)) → ((g : Forest) → flat_len g ≤ m → r g ≡ s g)
+times_same : (n m : ℕ) (r s : Forest → Step) → ((g : Forest) → Leaves false g (s g))
+    → ((g : Forest) → flat_len g ≤ m → r g ≡ s g)
     → (f : Forest) → flat_len f ≤ m → times n r f ≡ times n s f
 times_same zero m r s h e f le = refl
 times_same (suc n) m r s h e f le =
     ap (λ t. once_more t (times n r) f) (e f le)
     ∙ once_more_same f (s f) (times n r) (times n s) (h f) (λ g lg. times_same n m r s h e g (omega arith))
 
-in_turn_same : (r s : Forest → Step) (f : Forest) → ((g : Forest) → Leaves false g (s g)) → ((g : Forest) → flat_len g ≤ flat_len f → r g ≡ s g)
+in_turn_same : (r s : Forest → Step) (f : Forest) → ((g : Forest) → Leaves false g (s g))
+    → ((g : Forest) → flat_len g ≤ flat_len f → r g ≡ s g)
     → in_turn r f ≡ in_turn s f
 unfolding in_turn
 in_turn_same r s f h e = times_same (suc (flat_len f)) (flat_len f) r s h e f (omega arith)
@@ -64,12 +68,15 @@ both_true : (a b : Bool) → (a && b) ≡ true → (a ≡ true) × (b ≡ true)
 both_true true b h = (refl, h)
 both_true false b h = cc
 
-most_or : (a : Bool) (k : ℕ) (f g : Forest) (n : ℕ) → 20 * flat_len f + k ≤ n → count a + flat_len g ≤ flat_len f → 20 * flat_len g + (if a then 20 else k) ≤ n
+most_or : (a : Bool) (k : ℕ) (f g : Forest) (n : ℕ) → 20 * flat_len f + k ≤ n → count a + flat_len g ≤ flat_len f
+    → 20 * flat_len g + (if a then 20 else k) ≤ n
 most_or true k f g n le h = omega arith
 most_or false k f g n le h = omega arith
 
-agree : {P : Type 0} (solid : P → Bool) (rank : P → ℕ) (c d : P → Forest → Step) → ((x : P) (f : Forest) → Leaves (solid x) f (d x f))
-    → (n : ℕ) → Agree rank c d n → (r : Rule P) (k : ℕ) (f : Forest) → is_below solid rank 20 k r ≡ true → 20 * flat_len f + k ≤ n
+agree : {P : Type 0} (solid : P → Bool) (rank : P → ℕ) (c d : P → Forest → Step)
+    → ((x : P) (f : Forest) → Leaves (solid x) f (d x f))
+    → (n : ℕ) → Agree rank c d n → (r : Rule P) (k : ℕ) (f : Forest) → is_below solid rank 20 k r ≡ true
+    → 20 * flat_len f + k ≤ n
     → meaning c r f ≡ meaning d r f
 agree solid rank c d l n e (one p) k f b le = refl
 agree solid rank c d l n e (puncts_of texts) k f b le = refl
@@ -83,69 +90,88 @@ agree solid rank c d l n e (r then s) k f b le =
     (λ g h. agree solid rank c d l n e s _ g q (most_or (is_solid solid r) k f g n le h))
 agree solid rank c d l n e (r or s) k f b le =
     let (p, q) = both_true _ _ b in
-    ap (λ t. or_else t (meaning c s f)) (agree solid rank c d l n e r k f p le) ∙ ap (or_else (meaning d r f)) (agree solid rank c d l n e s k f q le)
+    ap (λ t. or_else t (meaning c s f)) (agree solid rank c d l n e r k f p le)
+    ∙ ap (or_else (meaning d r f)) (agree solid rank c d l n e s k f q le)
 agree solid rank c d l n e (maybe r) k f b le = ap (λ t. or_else t (Ok f)) (agree solid rank c d l n e r k f b le)
 agree solid rank c d l n e (repeated r) k f b le =
-    in_turn_same (meaning c r) (meaning d r) f (λ g. leaves_weaker (is_solid solid r) g (meaning d r g) (meaning_leaves solid d l r g))
+    in_turn_same (meaning c r) (meaning d r) f
+    (λ g. leaves_weaker (is_solid solid r) g (meaning d r g) (meaning_leaves solid d l r g))
     (λ g h. agree solid rank c d l n e r k g b (omega arith))
 agree solid rank c d l n e (needed r) k f b le = ap has_to_stand (agree solid rank c d l n e r k f b le)
 agree solid rank c d l n e (ahead r) k f b le = ap (λ t. if_stands t f) (agree solid rank c d l n e r k f b le)
 agree solid rank c d l n e (not_ahead r) k f b le = ap (λ t. if_absent t f) (agree solid rank c d l n e r k f b le)
 
-one_deeper : {P : Type 0} {rules : P → Rule P} (o : Order rules) (n : ℕ) (x : P) (f : Forest) → 20 * flat_len f + o.rank x < n
+one_deeper : {P : Type 0} {rules : P → Rule P} (o : Order rules) (n : ℕ) (x : P) (f : Forest)
+    → 20 * flat_len f + o.rank x < n
     → taken_within rules n x f ≡ taken_within rules (suc n) x f
 unfolding taken_within
 one_deeper o zero x f h = absurd (omega arith)
 one_deeper {rules = rules} o (suc n) x f h =
-    agree o.solid o.rank (taken_within rules n) (taken_within rules (suc n)) (within_leaves rules o.solid o.takes_some (suc n)) n (one_deeper o n) (rules x) (o.rank x) f (o.lower x) (omega arith)
+    agree o.solid o.rank (taken_within rules n) (taken_within rules (suc n))
+    (within_leaves rules o.solid o.takes_some (suc n)) n (one_deeper o n) (rules x) (o.rank x) f (o.lower x)
+    (omega arith)
 
-deeper : {P : Type 0} {rules : P → Rule P} (o : Order rules) (n d : ℕ) (x : P) (f : Forest) → 20 * flat_len f + o.rank x < n
+deeper : {P : Type 0} {rules : P → Rule P} (o : Order rules) (n d : ℕ) (x : P) (f : Forest)
+    → 20 * flat_len f + o.rank x < n
     → taken_within rules n x f ≡ taken_within rules (d + n) x f
 deeper o n zero x f h = rw zero-add
 deeper {rules = rules} o n (suc d) x f h =
     deeper o n d x f h ∙ (one_deeper o (d + n) x f (omega arith) ∙ ap (λ m. taken_within rules m x f) (omega arith))
 
-deep_enough : {P : Type 0} {rules : P → Rule P} (o : Order rules) (n m : ℕ) (x : P) (f : Forest) → 20 * flat_len f + o.rank x < n → n ≤ m
+deep_enough : {P : Type 0} {rules : P → Rule P} (o : Order rules) (n m : ℕ) (x : P) (f : Forest)
+    → 20 * flat_len f + o.rank x < n → n ≤ m
     → taken_within rules n x f ≡ taken_within rules m x f
 deep_enough {rules = rules} o n m x f h le = deeper o n (m - n) x f h ∙ ap (λ k. taken_within rules k x f) (omega arith)
 
-as_taken : {P : Type 0} {rules : P → Rule P} (o : Order rules) (n : ℕ) (x : P) (f : Forest) → 20 * flat_len f + o.rank x < n
+as_taken : {P : Type 0} {rules : P → Rule P} (o : Order rules) (n : ℕ) (x : P) (f : Forest)
+    → 20 * flat_len f + o.rank x < n
     → taken_within rules n x f ≡ taken rules x f
 unfolding taken
 as_taken {rules = rules} o n x f h =
     deep_enough o n (n + (20 * flat_len f + 21)) x f h (omega arith)
-    ∙ sym (deep_enough o (suc (20 * flat_len f + 20)) (n + (20 * flat_len f + 21)) x f (omega (arith, o.few x)) (omega arith))
+    ∙ sym (deep_enough o (suc (20 * flat_len f + 20)) (n + (20 * flat_len f + 21)) x f (omega (arith, o.few x))
+    (omega arith))
 
 -- a part takes what its rule says, where the parts take what they take
-pub taken_by_rule : {P : Type 0} {rules : P → Rule P} (o : Order rules) (x : P) (f : Forest) → taken rules x f ≡ meaning (taken rules) (rules x) f
+pub taken_by_rule : {P : Type 0} {rules : P → Rule P} (o : Order rules) (x : P) (f : Forest)
+    → taken rules x f ≡ meaning (taken rules) (rules x) f
 unfolding taken taken_within
 taken_by_rule {rules = rules} o x f =
-    agree o.solid o.rank (taken_within rules (20 * flat_len f + 20)) (taken rules) (taken_leaves rules o.solid o.takes_some) (20 * flat_len f + o.rank x)
-    (λ y g h. as_taken o (20 * flat_len f + 20) y g (omega (arith, o.few x))) (rules x) (o.rank x) f (o.lower x) (omega arith)
+    agree o.solid o.rank (taken_within rules (20 * flat_len f + 20)) (taken rules)
+    (taken_leaves rules o.solid o.takes_some) (20 * flat_len f + o.rank x)
+    (λ y g h. as_taken o (20 * flat_len f + 20) y g (omega (arith, o.few x))) (rules x) (o.rank x) f (o.lower x)
+    (omega arith)
 
 -- ---- what is taken in turn
 
-once_more_shorter : (f : Forest) (s : Step) (k l : Forest → Step) → Leaves true f s → ((g : Forest) → flat_len g < flat_len f → k g ≡ l g)
+once_more_shorter : (f : Forest) (s : Step) (k l : Forest → Step) → Leaves true f s
+    → ((g : Forest) → flat_len g < flat_len f → k g ≡ l g)
     → once_more s k f ≡ once_more s l f
 once_more_shorter f (Ok g) k l h e = e g (omega arith)
 once_more_shorter f (Err Absent) k l h e = refl
 once_more_shorter f (Err Fault) k l h e = refl
 
-times_enough : (n m : ℕ) (r : Forest → Step) → ((g : Forest) → Leaves true g (r g)) → (f : Forest) → flat_len f < n → flat_len f < m → times n r f ≡ times m r f
+times_enough : (n m : ℕ) (r : Forest → Step) → ((g : Forest) → Leaves true g (r g)) → (f : Forest) → flat_len f < n
+    → flat_len f < m → times n r f ≡ times m r f
 times_enough zero m r h f p q = absurd (omega arith)
 times_enough (suc n) zero r h f p q = absurd (omega arith)
-times_enough (suc n) (suc m) r h f p q = once_more_shorter f (r f) (times n r) (times m r) (h f) (λ g lt. times_enough n m r h g (omega arith) (omega arith))
+times_enough (suc n) (suc m) r h f p q =
+    once_more_shorter f (r f) (times n r) (times m r) (h f) (λ g lt. times_enough n m r h g (omega arith) (omega arith))
 
 pub no_longer : (f g : Forest) (s : Step) → Leaves false f s → s ≡ Ok g → flat_len g ≤ flat_len f
-no_longer f g s h e = let P : Step → Type 0 = λ t. Leaves false f t in let l : Leaves false f (Ok g) = subst P e h in omega arith
+no_longer f g s h e = let P : Step → Type 0 = λ t. Leaves false f t in let l : Leaves false f (Ok g) =
+    subst P e h in omega arith
 
 pub shorter : (f g : Forest) (s : Step) → Leaves true f s → s ≡ Ok g → flat_len g < flat_len f
-shorter f g s h e = let P : Step → Type 0 = λ t. Leaves true f t in let l : Leaves true f (Ok g) = subst P e h in omega arith
+shorter f g s h e = let P : Step → Type 0 = λ t. Leaves true f t in let l : Leaves true f (Ok g) =
+    subst P e h in omega arith
 
-pub in_turn_on : (r : Forest → Step) → ((g : Forest) → Leaves true g (r g)) → (f g : Forest) → r f ≡ Ok g → in_turn r f ≡ in_turn r g
+pub in_turn_on : (r : Forest → Step) → ((g : Forest) → Leaves true g (r g)) → (f g : Forest) → r f ≡ Ok g
+    → in_turn r f ≡ in_turn r g
 unfolding in_turn
 in_turn_on r h f g e =
-    ap (λ s. once_more s (times (flat_len f) r) f) e ∙ times_enough (flat_len f) (suc (flat_len g)) r h g (shorter f g (r f) (h f) e) (omega arith)
+    ap (λ s. once_more s (times (flat_len f) r) f) e
+    ∙ times_enough (flat_len f) (suc (flat_len g)) r h g (shorter f g (r f) (h f) e) (omega arith)
 
 pub in_turn_ends : (r : Forest → Step) (f : Forest) → r f ≡ Err Absent → in_turn r f ≡ Ok f
 unfolding in_turn
@@ -156,37 +182,46 @@ unfolding in_turn
 in_turn_faults r f e = ap (λ s. once_more s (times (flat_len f) r) f) e
 
 -- where it ends, the rule doesn't stand once more
-once_more_done : (f g : Forest) (s : Step) (r more : Forest → Step) → r f ≡ s → Leaves true f s → ((h : Forest) → flat_len h < flat_len f → more h ≡ Ok g → r g ≡ Err Absent)
+once_more_done : (f g : Forest) (s : Step) (r more : Forest → Step) → r f ≡ s → Leaves true f s
+    → ((h : Forest) → flat_len h < flat_len f → more h ≡ Ok g → r g ≡ Err Absent)
     → once_more s more f ≡ Ok g → r g ≡ Err Absent
 once_more_done f g (Ok h) r more e l k t = k h (omega arith) t
 once_more_done f g (Err Absent) r more e l k t = cc
 once_more_done f g (Err Fault) r more e l k t = cc
 
-times_done : (n : ℕ) (r : Forest → Step) → ((g : Forest) → Leaves true g (r g)) → (f g : Forest) → flat_len f < n → times n r f ≡ Ok g → r g ≡ Err Absent
+times_done : (n : ℕ) (r : Forest → Step) → ((g : Forest) → Leaves true g (r g)) → (f g : Forest) → flat_len f < n
+    → times n r f ≡ Ok g → r g ≡ Err Absent
 times_done zero r h f g lt t = absurd (omega arith)
-times_done (suc n) r h f g lt t = once_more_done f g (r f) r (times n r) refl (h f) (λ k le. times_done n r h k g (omega arith)) t
+times_done (suc n) r h f g lt t = once_more_done f g (r f) r (times n r) refl (h f)
+    (λ k le. times_done n r h k g (omega arith)) t
 
-pub in_turn_done : (r : Forest → Step) → ((g : Forest) → Leaves true g (r g)) → (f g : Forest) → in_turn r f ≡ Ok g → r g ≡ Err Absent
+pub in_turn_done : (r : Forest → Step) → ((g : Forest) → Leaves true g (r g)) → (f g : Forest) → in_turn r f ≡ Ok g
+    → r g ≡ Err Absent
 unfolding in_turn
 in_turn_done r h f g t = times_done (suc (flat_len f)) r h f g (omega arith) t
 
 -- what each step leads to, and holds before the first
-once_more_keeps : (P : Forest → Type 0) (f g : Forest) (s : Step) (more : Forest → Step) → P f → ((h : Forest) → s ≡ Ok h → P h) → ((h : Forest) → P h → more h ≡ Ok g → P g)
+once_more_keeps : (P : Forest → Type 0) (f g : Forest) (s : Step) (more : Forest → Step) → P f
+    → ((h : Forest) → s ≡ Ok h → P h) → ((h : Forest) → P h → more h ≡ Ok g → P g)
     → once_more s more f ≡ Ok g → P g
 once_more_keeps P f g (Ok h) more here step k t = k h (step h refl) t
 once_more_keeps P f g (Err Absent) more here step k t = let e : f ≡ g = cc in subst P e here
 once_more_keeps P f g (Err Fault) more here step k t = cc
 
-times_keeps : (P : Forest → Type 0) (n : ℕ) (r : Forest → Step) → ((f g : Forest) → r f ≡ Ok g → P g) → (f g : Forest) → P f → times n r f ≡ Ok g → P g
+times_keeps : (P : Forest → Type 0) (n : ℕ) (r : Forest → Step) → ((f g : Forest) → r f ≡ Ok g → P g) → (f g : Forest)
+    → P f → times n r f ≡ Ok g → P g
 times_keeps P zero r h f g here t = let e : f ≡ g = cc in subst P e here
-times_keeps P (suc n) r h f g here t = once_more_keeps P f g (r f) (times n r) here (h f) (λ k now. times_keeps P n r h k g now) t
+times_keeps P (suc n) r h f g here t = once_more_keeps P f g (r f) (times n r) here (h f)
+    (λ k now. times_keeps P n r h k g now) t
 
-pub in_turn_keeps : (P : Forest → Type 0) (r : Forest → Step) → ((f g : Forest) → r f ≡ Ok g → P g) → (f g : Forest) → P f → in_turn r f ≡ Ok g → P g
+pub in_turn_keeps : (P : Forest → Type 0) (r : Forest → Step) → ((f g : Forest) → r f ≡ Ok g → P g) → (f g : Forest)
+    → P f → in_turn r f ≡ Ok g → P g
 unfolding in_turn
 in_turn_keeps P r h f g here t = times_keeps P (suc (flat_len f)) r h f g here t
 
 -- a repetition always stands
-once_more_stands : (f : Forest) (s : Step) (more : Forest → Step) → ((g : Forest) → has_to_stand (more g) ≡ more g) → has_to_stand (once_more s more f) ≡ once_more s more f
+once_more_stands : (f : Forest) (s : Step) (more : Forest → Step) → ((g : Forest) → has_to_stand (more g) ≡ more g)
+    → has_to_stand (once_more s more f) ≡ once_more s more f
 once_more_stands f (Ok g) more h = h g
 once_more_stands f (Err Absent) more h = refl
 once_more_stands f (Err Fault) more h = refl
@@ -241,7 +276,8 @@ not_ahead_calm f (Ok g) h e = cc
 not_ahead_calm f (Err Absent) h e = cc
 not_ahead_calm f (Err Fault) h e = h e
 
-pub never_faults : {P : Type 0} (calm : P → Bool) (parts : P → Forest → Step) → ((x : P) → calm x ≡ true → (f : Forest) → parts x f ≡ Err Fault → ⊥)
+pub never_faults : {P : Type 0} (calm : P → Bool) (parts : P → Forest → Step)
+    → ((x : P) → calm x ≡ true → (f : Forest) → parts x f ≡ Err Fault → ⊥)
     → (r : Rule P) → is_calm calm r ≡ true → (f : Forest) → meaning parts r f ≡ Err Fault → ⊥
 never_faults calm parts h (one p) b f = miss_calm _
 never_faults calm parts h (puncts_of texts) b f = miss_calm _
@@ -249,9 +285,11 @@ never_faults calm parts h (through p) b f = cc
 never_faults calm parts h to_closing_angle b f = cc
 never_faults calm parts h (part x) b f = h x b f
 never_faults calm parts h (r then s) b f =
-    let (p, q) = both_true _ _ b in then_calm (meaning parts r f) (meaning parts s) (never_faults calm parts h r p f) (never_faults calm parts h s q)
+    let (p, q) = both_true _ _ b in then_calm (meaning parts r f) (meaning parts s) (never_faults calm parts h r p f)
+    (never_faults calm parts h s q)
 never_faults calm parts h (r or s) b f =
-    let (p, q) = both_true _ _ b in or_calm (meaning parts r f) (meaning parts s f) (never_faults calm parts h r p f) (never_faults calm parts h s q f)
+    let (p, q) = both_true _ _ b in or_calm (meaning parts r f) (meaning parts s f) (never_faults calm parts h r p f)
+    (never_faults calm parts h s q f)
 never_faults calm parts h (maybe r) b f = or_calm (meaning parts r f) (Ok f) (never_faults calm parts h r b f) (λ e. cc)
 never_faults calm parts h (repeated r) b f = cc
 never_faults calm parts h (needed r) b f = cc

@@ -7,7 +7,7 @@ use Rattle.mbe_grammar.specs.declared.types.PathStyle.{PathStyle}
 use Rattle.mbe_grammar.specs.declared.types.PathStyle.TheVariants.{Plain, Expression}
 use Rattle.mbe_tt.specs.declared.tt.DelimiterKind.{DelimiterKind}
 use Rattle.mbe_tt.specs.declared.tt.DelimiterKind.TheVariants.{Parenthesis, Bracket}
-use Rattle.mbe_grammar.specs.Rule.{one, part, ◌then◌, ◌or◌, maybe, repeated, needed, ahead, Step, ◌>>=◌, or_else, or_miss, behind_one, meaning, in_turn}
+use Rattle.mbe_grammar.specs.Rule.{one, part, ◌then◌, ◌or◌, maybe, repeated, needed, ahead, Step, ◌>>=◌, or_else, or_miss, following_one, meaning, in_turn}
 use Rattle.mbe_grammar.specs.SingleTrees.{is_one_of, is_name, is_punct, is_group}
 use Rattle.mbe_grammar.specs.SampleGrammar.{Rules, word, words, puncts, reference_sign, pointer_sign, parenthesis_or_bracket, Nonterminal, Lifetime, Angle, Turbofish, Colons, Segment, NextSegment, Path, Indirection, Pointee, Ty, rule_of, takes}
 use Rattle.mbe_grammar.specs.Chains.{direct_type}
@@ -21,46 +21,61 @@ use Rattle.mbe_grammar.proofs.Fronts.{Begins, Apart, one_absent, puncts_absent, 
 abbrev begins_indirection : Tree → Bool
 begins_indirection = either_of (is_punct 38) (is_punct 42)
 
-sign_stands : (char : ℕ) (r : Rules) (f g : Forest) → (or_miss Absent (behind_one (is_punct char) f) >>= meaning takes r) ≡ Ok g → Begins (is_punct char) f
-sign_stands char r f g e = one_stands (is_punct char) f _ (then_stands (or_miss Absent (behind_one (is_punct char) f)) (meaning takes r) g e).1
+sign_stands : (char : ℕ) (r : Rules) (f g : Forest)
+    → (or_miss Absent (following_one (is_punct char) f) >>= meaning takes r) ≡ Ok g → Begins (is_punct char) f
+sign_stands char r f g e = one_stands (is_punct char) f _
+    (then_stands (or_miss Absent (following_one (is_punct char) f)) (meaning takes r) g e).1
 
 indirection_begins : (f g : Forest) → takes Indirection f ≡ Ok g → Begins begins_indirection f
 indirection_begins f g e =
-    elim (or_stands (meaning takes reference_sign f) (meaning takes pointer_sign f) g (sym (takes_by_rule Indirection f) ∙ e)) [
-      | inl h ↦ either_left (is_punct 38) (is_punct 42) f (sign_stands 38 (maybe (part Lifetime) then maybe (word "mut")) f g h)
+    elim (or_stands (meaning takes reference_sign f) (meaning takes pointer_sign f) g
+    (sym (takes_by_rule Indirection f) ∙ e)) [
+      | inl h ↦ either_left (is_punct 38) (is_punct 42) f
+          (sign_stands 38 (maybe (part Lifetime) then maybe (word "mut")) f g h)
       | inr h ↦ either_right (is_punct 38) (is_punct 42) f (sign_stands 42 (words ("const" ∷ "mut" ∷ [])) f g h)
     ]
 
 apart_from : (char : ℕ) → (38 == char) ≡ false → (42 == char) ≡ false → Apart begins_indirection (is_punct char)
-apart_from char a b = either_apart (is_punct 38) (is_punct 42) (is_punct char) (signs_apart 38 char a) (signs_apart 42 char b)
+apart_from char a b = either_apart (is_punct 38) (is_punct 42) (is_punct char) (signs_apart 38 char a)
+    (signs_apart 42 char b)
 
 -- ---- what isn't there where an indirection is
 
 colons_absent : (f : Forest) → Begins begins_indirection f → takes Colons f ≡ Err Absent
 colons_absent f h =
     takes_by_rule Colons f
-    ∙ ap (λ x. or_miss Absent x >>= meaning takes (needed (ahead (one is_name or part Angle)))) (puncts_absent begins_indirection 58 (58 ∷ []) (apart_from 58 refl refl) f h)
+    ∙ ap (λ x. or_miss Absent x >>= meaning takes (needed (ahead (one is_name or part Angle))))
+    (puncts_absent begins_indirection 58 (58 ∷ []) (apart_from 58 refl refl) f h)
 
-segment_absent : (style : PathStyle) (f : Forest) → behind_one is_name f ≡ None → takes (Segment style) f ≡ Err Absent
+segment_absent : (style : PathStyle) (f : Forest) → following_one is_name f ≡ None → takes (Segment style) f ≡ Err Absent
 segment_absent Plain f e =
-    takes_by_rule (Segment Plain) f ∙ ap (λ x. or_miss Absent x >>= meaning takes (maybe (maybe (puncts "::") then part Angle))) e
-segment_absent Expression f e = takes_by_rule (Segment Expression) f ∙ ap (λ x. or_miss Absent x >>= meaning takes (maybe (part Turbofish))) e
+    takes_by_rule (Segment Plain) f ∙ ap (λ x. or_miss Absent x >>= meaning takes
+    (maybe (maybe (puncts "::") then part Angle))) e
+segment_absent Expression f e = takes_by_rule (Segment Expression) f
+    ∙ ap (λ x. or_miss Absent x >>= meaning takes (maybe (part Turbofish))) e
 
 path_absent : (style : PathStyle) (f : Forest) → Begins begins_indirection f → takes (Path style) f ≡ Err Absent
 path_absent style f h =
-    let no_name : Apart begins_indirection is_name = either_apart (is_punct 38) (is_punct 42) is_name (sign_is_no_name 38) (sign_is_no_name 42) in
+    let no_name : Apart begins_indirection is_name =
+    either_apart (is_punct 38) (is_punct 42) is_name (sign_is_no_name 38) (sign_is_no_name 42) in
     let after = meaning takes (part (Segment style) then repeated (part (NextSegment style))) in
     takes_by_rule (Path style) f
     ∙ (ap (λ s. or_else s (Ok f) >>= after) (colons_absent f h)
-    ∙ ap (λ s. s >>= meaning takes (repeated (part (NextSegment style)))) (segment_absent style f (one_absent begins_indirection is_name no_name f h)))
+    ∙ ap (λ s. s >>= meaning takes (repeated (part (NextSegment style))))
+    (segment_absent style f (one_absent begins_indirection is_name no_name f h)))
 
-word_absent : (texts : List (List ℕ)) (f : Forest) → Begins begins_indirection f → behind_one (is_one_of texts) f ≡ None
+word_absent : (texts : List (List ℕ)) (f : Forest) → Begins begins_indirection f → following_one (is_one_of texts) f ≡ None
 word_absent texts f h =
-    one_absent begins_indirection (is_one_of texts) (either_apart (is_punct 38) (is_punct 42) (is_one_of texts) (sign_is_no_word 38 texts) (sign_is_no_word 42 texts)) f h
+    one_absent begins_indirection (is_one_of texts)
+    (either_apart (is_punct 38) (is_punct 42) (is_one_of texts) (sign_is_no_word 38 texts)
+    (sign_is_no_word 42 texts)) f h
 
-group_absent : (kinds : List DelimiterKind) (f : Forest) → Begins begins_indirection f → behind_one (is_group kinds) f ≡ None
+group_absent : (kinds : List DelimiterKind) (f : Forest) → Begins begins_indirection f
+    → following_one (is_group kinds) f ≡ None
 group_absent kinds f h =
-    one_absent begins_indirection (is_group kinds) (either_apart (is_punct 38) (is_punct 42) (is_group kinds) (sign_is_no_group 38 kinds) (sign_is_no_group 42 kinds)) f h
+    one_absent begins_indirection (is_group kinds)
+    (either_apart (is_punct 38) (is_punct 42) (is_group kinds) (sign_is_no_group 38 kinds)
+    (sign_is_no_group 42 kinds)) f h
 
 -- ---- types
 
@@ -73,8 +88,10 @@ ty_on f g e =
     let after_never : Rules = parenthesis_or_bracket or part Pointee or part (Path Plain) in
     takes_by_rule Ty f
     ∙ (ap (λ x. or_else (or_miss Absent x) (meaning takes after_word f)) (word_absent (codes "_" ∷ []) f h)
-    ∙ (ap (λ x. or_else (or_miss Absent x) (meaning takes after_never f)) (puncts_absent begins_indirection 33 [] (apart_from 33 refl refl) f h)
-    ∙ (ap (λ x. or_else (or_miss Absent x) (or_else (takes Pointee f) (takes (Path Plain) f))) (group_absent (Parenthesis ∷ Bracket ∷ []) f h)
+    ∙ (ap (λ x. or_else (or_miss Absent x) (meaning takes after_never f))
+    (puncts_absent begins_indirection 33 [] (apart_from 33 refl refl) f h)
+    ∙ (ap (λ x. or_else (or_miss Absent x) (or_else (takes Pointee f) (takes (Path Plain) f)))
+    (group_absent (Parenthesis ∷ Bracket ∷ []) f h)
     ∙ (absent_last (takes Pointee f) (takes (Path Plain) f) (path_absent Plain f h) ∙ pointee))))
 
 -- a type without an indirection
@@ -84,27 +101,34 @@ ty_direct f e =
     let first = meaning takes (word "_") f in
     let second = meaning takes (puncts "!") f in
     let third = meaning takes parenthesis_or_bracket f in
-    takes_by_rule Ty f ∙ ap (λ s. or_else first (or_else second (or_else third (or_else s (takes (Path Plain) f))))) pointee
+    takes_by_rule Ty f ∙ ap (λ s. or_else first (or_else second (or_else third (or_else s (takes (Path Plain) f)))))
+    pointee
 
 abbrev pub is_lifetime : Nonterminal → Bool
 is_lifetime Lifetime = true
 is_lifetime _ = false
 
 pub lifetime_calm : (x : Nonterminal) → is_lifetime x ≡ true → (f : Forest) → takes x f ≡ Err Fault → ⊥
-lifetime_calm Lifetime b f e = never_faults (λ _. false) takes (λ x c g h. true≢false (sym c)) (rule_of Lifetime) refl f (sym (takes_by_rule Lifetime f) ∙ e)
+lifetime_calm Lifetime b f e = never_faults (λ _. false) takes (λ x c g h. true≢false (sym c)) (rule_of Lifetime) refl f
+    (sym (takes_by_rule Lifetime f) ∙ e)
 lifetime_calm _ b f e = cc
 
 indirection_calm : (f : Forest) → takes Indirection f ≡ Err Fault → ⊥
-indirection_calm f e = never_faults is_lifetime takes lifetime_calm (rule_of Indirection) refl f (sym (takes_by_rule Indirection f) ∙ e)
+indirection_calm f e = never_faults is_lifetime takes lifetime_calm (rule_of Indirection) refl f
+    (sym (takes_by_rule Indirection f) ∙ e)
 
-ty_by : (f : Forest) (s : Step) → takes Indirection f ≡ s → ((g : Forest) → flat_len g < flat_len f → takes Ty g ≡ (in_turn (takes Indirection) g >>= meaning takes direct_type))
+ty_by : (f : Forest) (s : Step) → takes Indirection f ≡ s
+    → ((g : Forest) → flat_len g < flat_len f
+    → takes Ty g ≡ (in_turn (takes Indirection) g >>= meaning takes direct_type))
     → takes Ty f ≡ (in_turn (takes Indirection) f >>= meaning takes direct_type)
 ty_by f (Ok g) e h =
-    ty_on f g e ∙ (h g (takes_shorter Indirection f g refl e) ∙ ap (λ s. s >>= meaning takes direct_type) (sym (turns_on Indirection f g refl e)))
+    ty_on f g e ∙ (h g (takes_shorter Indirection f g refl e)
+    ∙ ap (λ s. s >>= meaning takes direct_type) (sym (turns_on Indirection f g refl e)))
 ty_by f (Err Absent) e h = ty_direct f e ∙ ap (λ s. s >>= meaning takes direct_type) (sym (turns_end Indirection f e))
 ty_by f (Err Fault) e h = absurd (indirection_calm f e)
 
-ty_within : (n : ℕ) (f : Forest) → flat_len f < n → takes Ty f ≡ (in_turn (takes Indirection) f >>= meaning takes direct_type)
+ty_within : (n : ℕ) (f : Forest) → flat_len f < n
+    → takes Ty f ≡ (in_turn (takes Indirection) f >>= meaning takes direct_type)
 ty_within zero f lt = absurd (omega arith)
 ty_within (suc n) f lt = ty_by f (takes Indirection f) refl (λ g le. ty_within n g (omega arith))
 

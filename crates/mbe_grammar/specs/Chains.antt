@@ -21,7 +21,8 @@ jump_to_value = part JumpWord then ahead expr_start
 abbrev pub plain_primary : Rules
 plain_primary =
     not_ahead (word "let")
-    then (words ("_" ∷ "true" ∷ "false" ∷ []) or one is_literal or part KeywordBlock or part JumpWord or any_group or part PathExpr)
+    then (words ("_" ∷ "true" ∷ "false" ∷ []) or one is_literal or part KeywordBlock or part JumpWord or any_group or
+    part PathExpr)
 
 -- an operand that is no jump with a value, and what is after it
 abbrev pub plain_operand : Rules

@@ -33,7 +33,8 @@ sizes [] = 0
 sizes (f ∷ fs) = 1 + flat_len f + sizes fs
 
 opened : (d : Delimiter) (inside : Forest) (around : List Forest)
-    → flat_len (open_level d inside around).level + sizes (open_level d inside around).around ≤ 1 + flat_len inside + sizes around
+    → flat_len (open_level d inside around).level + sizes (open_level d inside around).around
+    ≤ 1 + flat_len inside + sizes around
 opened d inside [] = omega arith
 opened d inside (rest ∷ more) = omega arith
 
@@ -54,13 +55,15 @@ no_nothing : (f : Forest) (s : Step) → Leaves true f s → (front_of f s).faul
 no_nothing f (Ok rest) l e c = omega arith
 no_nothing f (Err miss) l e c = true≢false e
 
-vis_alone : (entry : PrefixEntryPoint) (f : Forest) → (answer entry f).fault ≡ false → (answer entry f).count ≡ 0 → entry ≡ entries.Vis
+vis_alone : (entry : PrefixEntryPoint) (f : Forest) → (answer entry f).fault ≡ false → (answer entry f).count ≡ 0
+    → entry ≡ entries.Vis
 vis_alone entries.Vis f e c = refl
 vis_alone entry f e c = absurd (no_nothing f (takes (part_of entry) f) (takes_leaves (part_of entry) f) e c)
 
 -- it counts no more than there is, and takes nothing without a fault for `vis` alone
 pub sample_lawful : IsLawful sample
 sample_lawful = record {
-  within = λ entry tokens. count_within (trees_of_flat tokens) (takes (part_of entry) (trees_of_flat tokens)) (length tokens) (flat_len-trees_of_flat tokens);
+  within = λ entry tokens. count_within (trees_of_flat tokens) (takes (part_of entry) (trees_of_flat tokens))
+      (length tokens) (flat_len-trees_of_flat tokens);
   nothing_for_vis = λ entry tokens. vis_alone entry (trees_of_flat tokens);
 }

@@ -1,5 +1,7 @@
--- What the rules of a grammar take from the front of trees. They are those of a parsing expression grammar over whole trees: an alternative
--- is taken where none before it fits, and a repetition takes all that it can. One thing is more: a rule may fault, and then the whole does.
+-- What the rules of a grammar take from the front of trees. They are those of a parsing expression grammar over whole
+-- trees: an alternative
+-- is taken where none before it fits, and a repetition takes all that it can. One thing is more: a rule may fault, and
+-- then the whole does.
 use Rattle.std.specs.Prelude.{ℕ, zero, suc, ◌+◌, ◌-◌, ◌*◌, ◌==◌, Bool, true, false, not, ◌&&◌, ◌||◌, if◌then◌else◌, List, [], ◌∷◌, Option, Some, None, option_and_then, length, Result, Ok, Err}
 use Rattle.std.specs.List.{list_any}
 use Rattle.std.specs.Str.{bytes_eq}
@@ -81,15 +83,16 @@ in_turn r f = times (suc (flat_len f)) r f
 -- ---- single trees and puncts
 
 -- the trees after the first, where that passes the test
-abbrev pub behind_one : (Tree → Bool) → Forest → Option Forest
-behind_one p none = None
-behind_one p (leaf l rest) = if p (Leaf_tree l) then Some rest else None
-behind_one p (group d inside rest) = if p (Group_tree d inside) then Some rest else None
+abbrev pub following_one : (Tree → Bool) → Forest → Option Forest
+following_one p none = None
+following_one p (leaf l rest) = if p (Leaf_tree l) then Some rest else None
+following_one p (group d inside rest) = if p (Group_tree d inside) then Some rest else None
 
 -- the trees after the puncts that are taken together, where they are one of these
-abbrev pub behind_puncts : List (List ℕ) → Forest → Option Forest
-behind_puncts texts f =
-    option_and_then (λ ps. if list_any (bytes_eq (chars_of ps)) texts then Some (skip (length (glue f)) f) else None) (glued f)
+abbrev pub after_puncts : List (List ℕ) → Forest → Option Forest
+after_puncts texts f =
+    option_and_then (λ ps. if list_any (bytes_eq (chars_of ps)) texts then Some (skip (length (glue f)) f) else None)
+    (glued f)
 
 -- the first tree is a punct of the first of these chars, if there are any
 abbrev pub may_begin : List ℕ → Forest → Bool
@@ -101,10 +104,10 @@ may_begin (c ∷ cs) (leaf (punct p) rest) = p.char == c
 may_begin (c ∷ cs) (group d inside rest) = false
 
 -- the trees after the first that passes the test
-abbrev pub behind_first : (Tree → Bool) → Forest → Option Forest
-behind_first p none = None
-behind_first p (leaf l rest) = if p (Leaf_tree l) then Some rest else behind_first p rest
-behind_first p (group d inside rest) = if p (Group_tree d inside) then Some rest else behind_first p rest
+abbrev pub past_first : (Tree → Bool) → Forest → Option Forest
+past_first p none = None
+past_first p (leaf l rest) = if p (Leaf_tree l) then Some rest else past_first p rest
+past_first p (group d inside rest) = if p (Group_tree d inside) then Some rest else past_first p rest
 
 -- the punct of that char
 abbrev pub is_char : ℕ → Leaf → Bool
@@ -122,23 +125,25 @@ begins_arrow (punct p) = is_joint p.spacing && (p.char == 45 || p.char == 61)
 begins_arrow (literal x) = false
 begins_arrow (ident i) = false
 
--- the trees after the `>` that closes a `<` before them, with so many more `<` open, directly after the beginning of an arrow or not
-abbrev pub behind_angle : ℕ → Bool → Forest → Option Forest
-behind_angle more arrow none = None
-behind_angle more arrow (group d inside rest) = behind_angle more false rest
-behind_angle more arrow (leaf l rest) =
-    if is_char 60 l then behind_angle (more + 1) (begins_arrow l) rest
-    else if is_char 62 l && not arrow then (if more == 0 then Some rest else behind_angle (more - 1) (begins_arrow l) rest)
-    else behind_angle more (begins_arrow l) rest
+-- the trees after the `>` that closes a `<` before them, with so many more `<` open, directly after the beginning of an
+-- arrow or not
+abbrev pub after_angle : ℕ → Bool → Forest → Option Forest
+after_angle more arrow none = None
+after_angle more arrow (group d inside rest) = after_angle more false rest
+after_angle more arrow (leaf l rest) =
+    if is_char 60 l then after_angle (more + 1) (begins_arrow l) rest
+    else if is_char 62 l && not arrow then
+    (if more == 0 then Some rest else after_angle (more - 1) (begins_arrow l) rest)
+    else after_angle more (begins_arrow l) rest
 
 -- ---- rules and parts
 
 -- what a rule takes, where the parts take that
 abbrev pub meaning : {P : Type 0} → (P → Forest → Step) → Rule P → Forest → Step
-meaning parts (one p) f = or_miss Absent (behind_one p f)
-meaning parts (puncts_of texts) f = or_miss Absent (behind_puncts texts f)
-meaning parts (through p) f = or_miss Fault (behind_first p f)
-meaning parts to_closing_angle f = or_miss Fault (behind_angle 0 false f)
+meaning parts (one p) f = or_miss Absent (following_one p f)
+meaning parts (puncts_of texts) f = or_miss Absent (after_puncts texts f)
+meaning parts (through p) f = or_miss Fault (past_first p f)
+meaning parts to_closing_angle f = or_miss Fault (after_angle 0 false f)
 meaning parts (part x) f = parts x f
 meaning parts (r then s) f = meaning parts r f >>= meaning parts s
 meaning parts (r or s) f = or_else (meaning parts r f) (meaning parts s f)
@@ -153,6 +158,7 @@ unfoldable pub taken_within : {P : Type 0} → (P → Rule P) → ℕ → P → 
 taken_within rules zero x f = Err Fault
 taken_within rules (suc n) x f = meaning (taken_within rules n) (rules x) f
 
--- What a part takes by its rule. Twenty calls for each flat token are enough where no part calls more before it takes one.
+-- What a part takes by its rule. Twenty calls for each flat token are enough where no part calls more before it takes
+-- one.
 unfoldable pub taken : {P : Type 0} → (P → Rule P) → P → Forest → Step
 taken rules x f = taken_within rules (suc (20 * flat_len f + 20)) x f

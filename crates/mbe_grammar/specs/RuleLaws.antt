@@ -1,4 +1,5 @@
--- What the rules of a grammar leave: no more than there was, and less where a rule takes something. These are laws and no definitions. They
+-- What the rules of a grammar leave: no more than there was, and less where a rule takes something. These are laws and
+-- no definitions. They
 -- are here since the law of a trait is proved by what is in specs alone.
 use Rattle.std.specs.Prelude.{◌≡◌, ℕ, zero, suc, ◌+◌, ◌-◌, ◌*◌, ◌<◌, ◌≤◌, ◌==◌, Bool, true, false, not, ◌&&◌, ◌||◌, if◌then◌else◌, List, ◌∷◌, length, take, Option, Some, None, Ok, Err}
 use Rattle.std.specs.List.{list_any}
@@ -10,7 +11,7 @@ use Rattle.mbe_tt.specs.Trees.Glue.{glue, chars_of, if_joint, joined}
 use Rattle.mbe_tt.specs.declared.tt.Punct.{Punct}
 use Rattle.mbe_grammar.specs.declared.step.Miss.{Miss}
 use Rattle.mbe_grammar.specs.declared.step.Miss.TheVariants.{Absent, Fault}
-use Rattle.mbe_grammar.specs.Rule.{Rule, one, puncts_of, through, to_closing_angle, part, ◌then◌, ◌or◌, maybe, repeated, needed, ahead, not_ahead, Step, ◌>>=◌, or_else, has_to_stand, if_stands, if_absent, or_miss, once_more, times, in_turn, behind_one, behind_puncts, behind_first, behind_angle, is_char, begins_arrow, meaning, taken_within, taken}
+use Rattle.mbe_grammar.specs.Rule.{Rule, one, puncts_of, through, to_closing_angle, part, ◌then◌, ◌or◌, maybe, repeated, needed, ahead, not_ahead, Step, ◌>>=◌, or_else, has_to_stand, if_stands, if_absent, or_miss, once_more, times, in_turn, following_one, after_puncts, past_first, after_angle, is_char, begins_arrow, meaning, taken_within, taken}
 
 -- ---- what is left
 
@@ -38,7 +39,8 @@ leaves_past true f g (Ok h) le l = omega arith
 leaves_past false f g (Ok h) le l = omega arith
 leaves_past b f g (Err miss) le l = tt
 
-then_leaves : (a b : Bool) (f : Forest) (s : Step) (next : Forest → Step) → Leaves a f s → ((g : Forest) → Leaves b g (next g)) → Leaves (a || b) f (s >>= next)
+then_leaves : (a b : Bool) (f : Forest) (s : Step) (next : Forest → Step) → Leaves a f s
+    → ((g : Forest) → Leaves b g (next g)) → Leaves (a || b) f (s >>= next)
 then_leaves true b f (Ok g) next h k = leaves_past b f g (next g) (omega arith) (k g)
 then_leaves false b f (Ok g) next h k = leaves_on b f g (next g) (omega arith) (k g)
 then_leaves a b f (Err miss) next h k = tt
@@ -70,41 +72,49 @@ not_ahead_leaves f (Ok g) = tt
 not_ahead_leaves f (Err Absent) = omega arith
 not_ahead_leaves f (Err Fault) = tt
 
-once_more_leaves : (f : Forest) (s : Step) (more : Forest → Step) → Leaves false f s → ((g : Forest) → Leaves false g (more g)) → Leaves false f (once_more s more f)
+once_more_leaves : (f : Forest) (s : Step) (more : Forest → Step) → Leaves false f s
+    → ((g : Forest) → Leaves false g (more g)) → Leaves false f (once_more s more f)
 once_more_leaves f (Ok g) more h k = leaves_on false f g (more g) (omega arith) (k g)
 once_more_leaves f (Err Absent) more h k = omega arith
 once_more_leaves f (Err Fault) more h k = tt
 
-times_leaves : (n : ℕ) (r : Forest → Step) → ((g : Forest) → Leaves false g (r g)) → (f : Forest) → Leaves false f (times n r f)
+times_leaves : (n : ℕ) (r : Forest → Step) → ((g : Forest) → Leaves false g (r g)) → (f : Forest)
+    → Leaves false f (times n r f)
 times_leaves zero r k f = omega arith
 times_leaves (suc n) r k f = once_more_leaves f (r f) (times n r) (k f) (times_leaves n r k)
 
-pub in_turn_leaves : (r : Forest → Step) → ((g : Forest) → Leaves false g (r g)) → (f : Forest) → Leaves false f (in_turn r f)
+pub in_turn_leaves : (r : Forest → Step) → ((g : Forest) → Leaves false g (r g)) → (f : Forest)
+    → Leaves false f (in_turn r f)
 unfolding in_turn
 in_turn_leaves r k f = times_leaves (suc (flat_len f)) r k f
 
 -- ---- what single trees and puncts leave
 
-if_leaves : (b : Bool) (f g : Forest) (miss : Miss) → suc (flat_len g) ≤ flat_len f → Leaves true f (or_miss miss (if b then Some g else None))
+if_leaves : (b : Bool) (f g : Forest) (miss : Miss) → suc (flat_len g) ≤ flat_len f
+    → Leaves true f (or_miss miss (if b then Some g else None))
 if_leaves true f g miss h = omega arith
 if_leaves false f g miss h = tt
 
-one_leaves : (p : Tree → Bool) (f : Forest) → Leaves true f (or_miss Absent (behind_one p f))
+one_leaves : (p : Tree → Bool) (f : Forest) → Leaves true f (or_miss Absent (following_one p f))
 one_leaves p none = tt
 one_leaves p (leaf l rest) = if_leaves (p (Leaf_tree l)) (leaf l rest) rest Absent (omega arith)
 one_leaves p (group d inside rest) = if_leaves (p (Group_tree d inside)) (group d inside rest) rest Absent (omega arith)
 
-first_or_more : (b : Bool) (f rest : Forest) (more : Option Forest) → suc (flat_len rest) ≤ flat_len f → Leaves true rest (or_miss Fault more) → Leaves true f (or_miss Fault (if b then Some rest else more))
+first_or_more : (b : Bool) (f rest : Forest) (more : Option Forest) → suc (flat_len rest) ≤ flat_len f
+    → Leaves true rest (or_miss Fault more) → Leaves true f (or_miss Fault (if b then Some rest else more))
 first_or_more true f rest more h k = omega arith
 first_or_more false f rest (Some g) h k = omega arith
 first_or_more false f rest None h k = tt
 
-through_leaves : (p : Tree → Bool) (f : Forest) → Leaves true f (or_miss Fault (behind_first p f))
+through_leaves : (p : Tree → Bool) (f : Forest) → Leaves true f (or_miss Fault (past_first p f))
 through_leaves p none = tt
-through_leaves p (leaf l rest) = first_or_more (p (Leaf_tree l)) (leaf l rest) rest _ (omega arith) (through_leaves p rest)
-through_leaves p (group d inside rest) = first_or_more (p (Group_tree d inside)) (group d inside rest) rest _ (omega arith) (through_leaves p rest)
+through_leaves p (leaf l rest) = first_or_more (p (Leaf_tree l)) (leaf l rest) rest _ (omega arith)
+    (through_leaves p rest)
+through_leaves p (group d inside rest) =
+    first_or_more (p (Group_tree d inside)) (group d inside rest) rest _ (omega arith) (through_leaves p rest)
 
-three_leave : (a b c : Bool) (f : Forest) (x y z w : Option Forest) → Leaves true f (or_miss Fault x) → Leaves true f (or_miss Fault y)
+three_leave : (a b c : Bool) (f : Forest) (x y z w : Option Forest) → Leaves true f (or_miss Fault x)
+    → Leaves true f (or_miss Fault y)
     → Leaves true f (or_miss Fault z) → Leaves true f (or_miss Fault w)
     → Leaves true f (or_miss Fault (if a then x else if b then (if c then y else z) else w))
 three_leave true b c f x y z w h i j k = h
@@ -112,16 +122,20 @@ three_leave false true true f x y z w h i j k = i
 three_leave false true false f x y z w h i j k = j
 three_leave false false c f x y z w h i j k = k
 
-behind_leaves : (f rest : Forest) (x : Option Forest) → suc (flat_len rest) ≤ flat_len f → Leaves true rest (or_miss Fault x) → Leaves true f (or_miss Fault x)
-behind_leaves f rest (Some g) h k = omega arith
-behind_leaves f rest None h k = tt
+after_leaves : (f rest : Forest) (x : Option Forest) → suc (flat_len rest) ≤ flat_len f
+    → Leaves true rest (or_miss Fault x) → Leaves true f (or_miss Fault x)
+after_leaves f rest (Some g) h k = omega arith
+after_leaves f rest None h k = tt
 
-angle_leaves : (more : ℕ) (arrow : Bool) (f : Forest) → Leaves true f (or_miss Fault (behind_angle more arrow f))
+angle_leaves : (more : ℕ) (arrow : Bool) (f : Forest) → Leaves true f (or_miss Fault (after_angle more arrow f))
 angle_leaves more arrow none = tt
-angle_leaves more arrow (group d inside rest) = behind_leaves (group d inside rest) rest (behind_angle more false rest) (omega arith) (angle_leaves more false rest)
+angle_leaves more arrow (group d inside rest) =
+    after_leaves (group d inside rest) rest (after_angle more false rest) (omega arith) (angle_leaves more false rest)
 angle_leaves more arrow (leaf l rest) =
-    let next = λ (m : ℕ) (a : Bool). behind_leaves (leaf l rest) rest (behind_angle m a rest) (omega arith) (angle_leaves m a rest) in
-    three_leave (is_char 60 l) (is_char 62 l && not arrow) (more == 0) (leaf l rest) _ (Some rest) (behind_angle (more - 1) (begins_arrow l) rest) _
+    let next = λ (m : ℕ) (a : Bool). after_leaves (leaf l rest) rest (after_angle m a rest) (omega arith)
+    (angle_leaves m a rest) in
+    three_leave (is_char 60 l) (is_char 62 l && not arrow) (more == 0) (leaf l rest) _ (Some rest)
+    (after_angle (more - 1) (begins_arrow l) rest) _
     (next (more + 1) (begins_arrow l)) (omega arith) (next (more - 1) (begins_arrow l)) (next more (begins_arrow l))
 
 skip_shorter : (n : ℕ) (f : Forest) → flat_len (skip n f) ≤ flat_len f
@@ -130,7 +144,8 @@ skip_shorter (suc n) none = skip_shorter n none
 skip_shorter (suc n) (leaf l rest) = omega (arith, skip_shorter n rest)
 skip_shorter (suc n) (group d inside rest) = omega (arith, skip_shorter n rest)
 
-longest_some : (b c : Bool) (p : Punct) (ps : List Punct) → 0 < length (if b then p ∷ ps else if c then take 2 (p ∷ ps) else take 1 (p ∷ ps))
+longest_some : (b c : Bool) (p : Punct) (ps : List Punct)
+    → 0 < length (if b then p ∷ ps else if c then take 2 (p ∷ ps) else take 1 (p ∷ ps))
 longest_some true c p ps = omega arith
 longest_some false true p ps = omega arith
 longest_some false false p ps = omega arith
@@ -142,7 +157,7 @@ skip_some (suc n) l rest h = omega (arith, skip_shorter n rest)
 glue_some : (p : Punct) (rest : Forest) → 0 < length (glue (leaf (punct p) rest))
 glue_some p rest = longest_some _ _ p (if_joint p.spacing (joined 2 rest))
 
-puncts_leaves : (texts : List (List ℕ)) (f : Forest) → Leaves true f (or_miss Absent (behind_puncts texts f))
+puncts_leaves : (texts : List (List ℕ)) (f : Forest) → Leaves true f (or_miss Absent (after_puncts texts f))
 puncts_leaves texts none = tt
 puncts_leaves texts (group d inside rest) = tt
 puncts_leaves texts (leaf (literal x) rest) = tt
@@ -168,7 +183,8 @@ is_solid solid (needed r) = is_solid solid r
 is_solid solid (ahead r) = false
 is_solid solid (not_ahead r) = false
 
-pub meaning_leaves : {P : Type 0} (solid : P → Bool) (parts : P → Forest → Step) → ((x : P) (f : Forest) → Leaves (solid x) f (parts x f))
+pub meaning_leaves : {P : Type 0} (solid : P → Bool) (parts : P → Forest → Step)
+    → ((x : P) (f : Forest) → Leaves (solid x) f (parts x f))
     → (r : Rule P) (f : Forest) → Leaves (is_solid solid r) f (meaning parts r f)
 meaning_leaves solid parts h (one p) f = one_leaves p f
 meaning_leaves solid parts h (puncts_of texts) f = puncts_leaves texts f
@@ -176,13 +192,18 @@ meaning_leaves solid parts h (through p) f = through_leaves p f
 meaning_leaves solid parts h to_closing_angle f = angle_leaves 0 false f
 meaning_leaves solid parts h (part x) f = h x f
 meaning_leaves solid parts h (r then s) f =
-    then_leaves (is_solid solid r) (is_solid solid s) f (meaning parts r f) (meaning parts s) (meaning_leaves solid parts h r f) (meaning_leaves solid parts h s)
+    then_leaves (is_solid solid r) (is_solid solid s) f (meaning parts r f) (meaning parts s)
+    (meaning_leaves solid parts h r f) (meaning_leaves solid parts h s)
 meaning_leaves solid parts h (r or s) f =
-    or_leaves (is_solid solid r) (is_solid solid s) f (meaning parts r f) (meaning parts s f) (meaning_leaves solid parts h r f) (meaning_leaves solid parts h s f)
-meaning_leaves solid parts h (maybe r) f = maybe_leaves (is_solid solid r) f (meaning parts r f) (meaning_leaves solid parts h r f)
+    or_leaves (is_solid solid r) (is_solid solid s) f (meaning parts r f) (meaning parts s f)
+    (meaning_leaves solid parts h r f) (meaning_leaves solid parts h s f)
+meaning_leaves solid parts h (maybe r) f =
+    maybe_leaves (is_solid solid r) f (meaning parts r f) (meaning_leaves solid parts h r f)
 meaning_leaves solid parts h (repeated r) f =
-    in_turn_leaves (meaning parts r) (λ g. leaves_weaker (is_solid solid r) g (meaning parts r g) (meaning_leaves solid parts h r g)) f
-meaning_leaves solid parts h (needed r) f = needed_leaves (is_solid solid r) f (meaning parts r f) (meaning_leaves solid parts h r f)
+    in_turn_leaves (meaning parts r) (λ g. leaves_weaker (is_solid solid r) g (meaning parts r g)
+    (meaning_leaves solid parts h r g)) f
+meaning_leaves solid parts h (needed r) f =
+    needed_leaves (is_solid solid r) f (meaning parts r f) (meaning_leaves solid parts h r f)
 meaning_leaves solid parts h (ahead r) f = ahead_leaves f (meaning parts r f)
 meaning_leaves solid parts h (not_ahead r) f = not_ahead_leaves f (meaning parts r f)
 
@@ -190,13 +211,15 @@ meaning_leaves solid parts h (not_ahead r) f = not_ahead_leaves f (meaning parts
 abbrev pub Solid : {P : Type 0} → (P → Rule P) → (P → Bool) → Type 0
 Solid {P = P} rules solid = (x : P) → is_solid solid (rules x) ≡ solid x
 
-pub within_leaves : {P : Type 0} (rules : P → Rule P) (solid : P → Bool) → Solid rules solid → (n : ℕ) (x : P) (f : Forest)
+pub within_leaves : {P : Type 0} (rules : P → Rule P) (solid : P → Bool) → Solid rules solid
+    → (n : ℕ) (x : P) (f : Forest)
     → Leaves (solid x) f (taken_within rules n x f)
 unfolding taken_within
 within_leaves rules solid h zero x f = tt
 within_leaves rules solid h (suc n) x f =
     rw (← h x) (meaning_leaves solid (taken_within rules n) (within_leaves rules solid h n) (rules x) f)
 
-pub taken_leaves : {P : Type 0} (rules : P → Rule P) (solid : P → Bool) → Solid rules solid → (x : P) (f : Forest) → Leaves (solid x) f (taken rules x f)
+pub taken_leaves : {P : Type 0} (rules : P → Rule P) (solid : P → Bool) → Solid rules solid → (x : P) (f : Forest)
+    → Leaves (solid x) f (taken rules x f)
 unfolding taken
 taken_leaves rules solid h x f = within_leaves rules solid h (suc (20 * flat_len f + 20)) x f

@@ -1,4 +1,5 @@
--- The grammar that the program hands in. It is the project's own: a part of Rust's. Branches, loops, closures, struct literals, ranges and
+-- The grammar that the program hands in. It is the project's own: a part of Rust's. Branches, loops, closures, struct
+-- literals, ranges and
 -- casts aren't in it.
 use Prim.Native.Char.{Char, code}
 use Prim.Native.String.{String}
@@ -197,7 +198,8 @@ rule_of Jump = part JumpWord then maybe (part JumpValue)
 rule_of PathExpr = part (Path Expression) then maybe macro_argument
 rule_of Primary =
     not_ahead (word "let")
-    then (words ("_" ∷ "true" ∷ "false" ∷ []) or one is_literal or part KeywordBlock or part Jump or any_group or part PathExpr)
+    then (words ("_" ∷ "true" ∷ "false" ∷ []) or one is_literal or part KeywordBlock or part Jump or any_group or part
+    PathExpr)
 rule_of Field = puncts "." then (one is_literal or method)
 rule_of Post = puncts "?" or part Field or parenthesis_or_bracket
 -- statements and items
@@ -238,9 +240,12 @@ answer entry f = front_of f (takes (part_of entry) f)
 -- the words that an identifier is raw for
 abbrev pub keywords : List String
 keywords =
-    "abstract" ∷ "as" ∷ "async" ∷ "await" ∷ "become" ∷ "box" ∷ "break" ∷ "const" ∷ "continue" ∷ "crate" ∷ "do" ∷ "dyn" ∷ "else" ∷ "enum"
-    ∷ "extern" ∷ "false" ∷ "final" ∷ "fn" ∷ "for" ∷ "gen" ∷ "if" ∷ "impl" ∷ "in" ∷ "let" ∷ "loop" ∷ "macro" ∷ "match" ∷ "mod" ∷ "move"
-    ∷ "mut" ∷ "override" ∷ "priv" ∷ "pub" ∷ "ref" ∷ "return" ∷ "self" ∷ "Self" ∷ "static" ∷ "struct" ∷ "super" ∷ "trait" ∷ "true"
+    "abstract" ∷ "as" ∷ "async" ∷ "await" ∷ "become" ∷ "box" ∷ "break" ∷ "const" ∷ "continue" ∷ "crate" ∷ "do" ∷ "dyn"
+    ∷ "else" ∷ "enum"
+    ∷ "extern" ∷ "false" ∷ "final" ∷ "fn" ∷ "for" ∷ "gen" ∷ "if" ∷ "impl" ∷ "in" ∷ "let" ∷ "loop" ∷ "macro" ∷ "match"
+    ∷ "mod" ∷ "move"
+    ∷ "mut" ∷ "override" ∷ "priv" ∷ "pub" ∷ "ref" ∷ "return" ∷ "self" ∷ "Self" ∷ "static" ∷ "struct" ∷ "super" ∷ "trait"
+    ∷ "true"
     ∷ "try" ∷ "type" ∷ "typeof" ∷ "unsafe" ∷ "unsized" ∷ "use" ∷ "virtual" ∷ "where" ∷ "while" ∷ "yield" ∷ []
 
 abbrev pub is_keyword : List ℕ → Bool

@@ -7,7 +7,7 @@ use Rattle.mbe_tt.specs.declared.tt.IdentIsRaw.{IdentIsRaw}
 use Rattle.mbe_tt.specs.declared.tt.IdentIsRaw.TheVariants.{No, Yes}
 use Rattle.mbe_tt.specs.declared.tt.DelimiterKind.{DelimiterKind}
 use Rattle.mbe_tt.specs.declared.tt.DelimiterKind.TheVariants.{Parenthesis}
-use Rattle.mbe_grammar.specs.Rule.{behind_one, is_char}
+use Rattle.mbe_grammar.specs.Rule.{following_one, is_char}
 
 -- one of the words, and not raw
 abbrev pub is_word : List (List ℕ) → IdentIsRaw → List ℕ → Bool
@@ -62,4 +62,5 @@ is_group kinds (Group_tree d inside) = list_any (is_same_kind d.kind) kinds
 abbrev pub is_scope : Tree → Bool
 is_scope (Leaf_tree x) = false
 is_scope (Group_tree d inside) =
-    is_same_kind d.kind Parenthesis && is_some (behind_one (is_one_of (codes "crate" ∷ codes "self" ∷ codes "super" ∷ codes "in" ∷ [])) inside)
+    is_same_kind d.kind Parenthesis && is_some
+    (following_one (is_one_of (codes "crate" ∷ codes "self" ∷ codes "super" ∷ codes "in" ∷ [])) inside)

@@ -3,7 +3,7 @@ ghost use Rattle.std.specs.Prelude.{◌≡◌};
 ghost use Rattle.mbe_tt.specs.Views.Element.{element_tree};
 ghost use Rattle.mbe_tt.specs.Trees.Tree.{first};
 ghost use Rattle.mbe_tt.specs.Views.View.{trees};
-ghost use Rattle.mbe_grammar.specs.Rule.{or_miss, behind_one, behind_first, meaning};
+ghost use Rattle.mbe_grammar.specs.Rule.{or_miss, following_one, past_first, meaning};
 ghost use Rattle.mbe_grammar.specs.SingleTrees.{is_scope};
 ghost use Rattle.mbe_grammar.specs.SampleGrammar.{takes, is_item_end, short_item, long_item, item_word, const_block, public, Block, Assignment, Meta, Annotation, Let, ItemStmt, Stmt, Item, Vis};
 ghost use Rattle.mbe_grammar.specs.Steps.{seen};
@@ -116,7 +116,7 @@ fn is_item_end<A: Allocator>(tree: &TtElement<'_, A>, at_brace: bool) -> bool
 // All trees to the first that ends an item, with that.
 fn up_to_end<'t, A: Allocator>(tokens: TokenTreesView<'t, A>, at_brace: bool) -> Step<'t, A>
     ensures { seen result ≡ or_miss Miss.Fault
-        (behind_first (is_item_end at_brace) (trees tokens.entry)) }
+        (past_first (is_item_end at_brace) (trees tokens.entry)) }
 {
     let mut iter = tokens.iter();
     'trees: while let Some(tree) = iter.next() {
@@ -152,7 +152,7 @@ pub fn item<'t, A: Allocator>(tokens: TokenTreesView<'t, A>) -> Step<'t, A>
 
 // A group in parentheses that begins with `crate`, `self`, `super` or `in`.
 fn scope<'t, A: Allocator>(tokens: TokenTreesView<'t, A>) -> Step<'t, A>
-    ensures { seen result ≡ or_miss Miss.Absent (behind_one is_scope (trees tokens.entry)) }
+    ensures { seen result ≡ or_miss Miss.Absent (following_one is_scope (trees tokens.entry)) }
 {
     let mut iter = tokens.iter();
     match iter.expect_subtree() {

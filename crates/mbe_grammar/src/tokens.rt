@@ -5,7 +5,7 @@ ghost use Rattle.std.specs.Str.{bytes_eq};
 ghost use Rattle.mbe_tt.specs.Trees.Glue.{chars_of};
 ghost use Rattle.mbe_tt.specs.Trees.Tree.{flat_len, is_same_kind};
 ghost use Rattle.mbe_tt.specs.Views.View.{trees};
-ghost use Rattle.mbe_grammar.specs.Rule.{or_miss, behind_one, behind_puncts, behind_angle, may_begin};
+ghost use Rattle.mbe_grammar.specs.Rule.{or_miss, following_one, after_puncts, after_angle, may_begin};
 ghost use Rattle.mbe_grammar.specs.SingleTrees.{is_word, is_one_of, is_name, is_identifier, is_literal, is_no_punct, is_punct, is_group};
 ghost use Rattle.mbe_grammar.specs.Steps.{seen};
 
@@ -18,7 +18,7 @@ use std::alloc::Allocator;
 /// The trees after a word: an identifier of one of those texts that isn't raw.
 pub fn word<'t, A: Allocator>(tokens: TokenTreesView<'t, A>, texts: &[&str]) -> Step<'t, A>
     ensures { seen result ≡ or_miss Miss.Absent
-        (behind_one (is_one_of (map (λ t. t.now) texts.now)) (trees tokens.entry)) }
+        (following_one (is_one_of (map (λ t. t.now) texts.now)) (trees tokens.entry)) }
 {
     let mut iter = tokens.iter();
     match iter.expect_ident_or_underscore() {
@@ -45,7 +45,7 @@ pub fn is_text_of(text: &str, texts: &[&str]) -> bool
 
 /// The trees after an identifier.
 pub fn identifier<'t, A: Allocator>(tokens: TokenTreesView<'t, A>) -> Step<'t, A>
-    ensures { seen result ≡ or_miss Miss.Absent (behind_one is_identifier (trees tokens.entry)) }
+    ensures { seen result ≡ or_miss Miss.Absent (following_one is_identifier (trees tokens.entry)) }
 {
     let mut iter = tokens.iter();
     match iter.expect_ident_or_underscore() {
@@ -56,7 +56,7 @@ pub fn identifier<'t, A: Allocator>(tokens: TokenTreesView<'t, A>) -> Step<'t, A
 
 /// The trees after an identifier other than `_`.
 pub fn name<'t, A: Allocator>(tokens: TokenTreesView<'t, A>) -> Step<'t, A>
-    ensures { seen result ≡ or_miss Miss.Absent (behind_one is_name (trees tokens.entry)) }
+    ensures { seen result ≡ or_miss Miss.Absent (following_one is_name (trees tokens.entry)) }
 {
     let mut iter = tokens.iter();
     match iter.expect_ident() {
@@ -67,7 +67,7 @@ pub fn name<'t, A: Allocator>(tokens: TokenTreesView<'t, A>) -> Step<'t, A>
 
 /// The trees after a literal.
 pub fn literal<'t, A: Allocator>(tokens: TokenTreesView<'t, A>) -> Step<'t, A>
-    ensures { seen result ≡ or_miss Miss.Absent (behind_one is_literal (trees tokens.entry)) }
+    ensures { seen result ≡ or_miss Miss.Absent (following_one is_literal (trees tokens.entry)) }
 {
     let mut iter = tokens.iter();
     match iter.next() {
@@ -78,7 +78,7 @@ pub fn literal<'t, A: Allocator>(tokens: TokenTreesView<'t, A>) -> Step<'t, A>
 
 /// The trees after a first one that is no punct.
 pub fn no_punct<'t, A: Allocator>(tokens: TokenTreesView<'t, A>) -> Step<'t, A>
-    ensures { seen result ≡ or_miss Miss.Absent (behind_one is_no_punct (trees tokens.entry)) }
+    ensures { seen result ≡ or_miss Miss.Absent (following_one is_no_punct (trees tokens.entry)) }
 {
     let mut iter = tokens.iter();
     match iter.next() {
@@ -89,7 +89,7 @@ pub fn no_punct<'t, A: Allocator>(tokens: TokenTreesView<'t, A>) -> Step<'t, A>
 
 /// The trees after a punct of that char, whatever is taken together with it.
 pub fn sign<'t, A: Allocator>(tokens: TokenTreesView<'t, A>, char: char) -> Step<'t, A>
-    ensures { seen result ≡ or_miss Miss.Absent (behind_one (is_punct char) (trees tokens.entry)) }
+    ensures { seen result ≡ or_miss Miss.Absent (following_one (is_punct char) (trees tokens.entry)) }
 {
     let mut iter = tokens.iter();
     match iter.expect_char(char) {
@@ -104,7 +104,7 @@ pub fn group<'t, A: Allocator>(
     kinds: &[DelimiterKind],
 ) -> Step<'t, A>
     ensures { seen result ≡ or_miss Miss.Absent
-        (behind_one (is_group kinds.now) (trees tokens.entry)) }
+        (following_one (is_group kinds.now) (trees tokens.entry)) }
 {
     let mut iter = tokens.iter();
     match iter.expect_subtree() {
@@ -123,7 +123,7 @@ fn is_kind_of(kind: DelimiterKind, kinds: &[DelimiterKind]) -> bool
 #[tactic(auto, using(crate::proofs::Fronts::absent_unless))]
 pub fn puncts<'t, A: Allocator>(tokens: TokenTreesView<'t, A>, chars: &[char]) -> Step<'t, A>
     ensures { seen result ≡ or_miss Miss.Absent
-        (behind_puncts (chars.now ∷ []) (trees tokens.entry)) }
+        (after_puncts (chars.now ∷ []) (trees tokens.entry)) }
 {
     if !may_begin(tokens, chars) {
         return Err(Miss::Absent);
@@ -162,7 +162,7 @@ fn have_chars(puncts: &[Punct], chars: &[char]) -> bool
 
 /// The trees after the `>` that closes a `<` before them, with those between.
 pub fn closing<'t, A: Allocator>(tokens: TokenTreesView<'t, A>) -> Step<'t, A>
-    ensures { seen result ≡ or_miss Miss.Fault (behind_angle 0 false (trees tokens.entry)) }
+    ensures { seen result ≡ or_miss Miss.Fault (after_angle 0 false (trees tokens.entry)) }
 {
     let _most = tokens.flat_len();
     let mut iter = tokens.iter();

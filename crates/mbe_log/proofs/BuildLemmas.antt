@@ -12,12 +12,14 @@ use Rattle.mbe_log.proofs.LogLemmas.{follow, rounds_follow}
 
 -- ---- lists
 
-pub get-map : {X Y : Type 0} (f : X → Y) (xs : List X) (i : ℕ) (y : Y) → slice_get (map f xs) i ≡ Some y → (x : X) × (slice_get xs i ≡ Some x) × (f x ≡ y)
+pub get-map : {X Y : Type 0} (f : X → Y) (xs : List X) (i : ℕ) (y : Y) → slice_get (map f xs) i ≡ Some y
+    → (x : X) × (slice_get xs i ≡ Some x) × (f x ≡ y)
 get-map f [] i y h = cc
 get-map f (x ∷ xs) zero y h = (x, refl, cc)
 get-map f (x ∷ xs) (suc i) y h = get-map f xs i y h
 
-pub map-get : {X Y : Type 0} (f : X → Y) (xs : List X) (i : ℕ) (x : X) → slice_get xs i ≡ Some x → slice_get (map f xs) i ≡ Some (f x)
+pub map-get : {X Y : Type 0} (f : X → Y) (xs : List X) (i : ℕ) (x : X) → slice_get xs i ≡ Some x
+    → slice_get (map f xs) i ≡ Some (f x)
 map-get f [] i x h = cc
 map-get f (y ∷ xs) zero x h = let k : y ≡ x = cc in ap (λ z. Some (f z)) k
 map-get f (y ∷ xs) (suc i) x h = map-get f xs i x h
@@ -42,20 +44,19 @@ drop-end [] (suc i) h = refl
 drop-end (x ∷ xs) zero h = absurd (omega (arith, h))
 drop-end (x ∷ xs) (suc i) h = drop-end xs i (omega (arith, h))
 
-pub drop-none : {X : Type 0} (xs : List X) → drop zero xs ≡ xs
-drop-none [] = refl
-drop-none (x ∷ xs) = refl
-
 -- ---- heads
 
-link_head : {log : Log} {ds all : Commands} {p : Part} {es : List Entry} → Gives log ds (Entry.links p ∷ es) all → (mid : Commands) × PartGives log ds p mid × Gives log mid es all
+link_head : {log : Log} {ds all : Commands} {p : Part} {es : List Entry} → Gives log ds (Entry.links p ∷ es) all
+    → (mid : Commands) × PartGives log ds p mid × Gives log mid es all
 link_head (gives_link cs p es ds all q h) = (ds, q, h)
 
-link_rounds_head : {log : Log} {ds all : CommandRounds} {p : Part} {es : List RoundEntry} → GivesRounds log ds (RoundEntry.links p ∷ es) all →
+link_rounds_head : {log : Log} {ds all : CommandRounds} {p : Part} {es : List RoundEntry}
+    → GivesRounds log ds (RoundEntry.links p ∷ es) all →
     (mid : CommandRounds) × PartGivesRounds log ds p mid × GivesRounds log mid es all
 link_rounds_head (gives_linked_rounds rs p es qs all q h) = (qs, q, h)
 
-pub round_head : {log : Log} {ds all : CommandRounds} {p : Part} {es : List RoundEntry} → GivesRounds log ds (RoundEntry.finishes p ∷ es) all →
+pub round_head : {log : Log} {ds all : CommandRounds} {p : Part} {es : List RoundEntry}
+    → GivesRounds log ds (RoundEntry.finishes p ∷ es) all →
     (cs : Commands) × PartGives log no_commands p cs × GivesRounds log (command_round ds cs) es all
 round_head (gives_round rs p es cs all q h) = (cs, q, h)
 
@@ -69,12 +70,14 @@ rounds_end_of (gives_no_rounds rs) = refl
 abbrev Head : Log → Commands → Entry → List Entry → Commands → Type 0
 Head log ds e es all = (c : Command) × GivesCommand log e c × Gives log (command ds c) es all
 
-pub command_head : {A : Type 0} {log : Log} {ds all : Commands} (x : code.Command A) {es : List Entry} → Gives log ds (entry_seen x ∷ es) all → Head log ds (entry_seen x) es all
+pub command_head : {A : Type 0} {log : Log} {ds all : Commands} (x : code.Command A) {es : List Entry}
+    → Gives log ds (entry_seen x ∷ es) all → Head log ds (entry_seen x) es all
 command_head (code.TheVariants.Fragment name x) (gives_binding cs n y es all h) = (Command.binds _ _, refl, h)
 command_head (code.TheVariants.Optional name) (gives_empty cs n es all h) = (Command.binds_nothing _, refl, h)
 command_head (code.TheVariants.Empty name) (gives_skip cs n es all h) = (Command.skips _, refl, h)
 command_head (code.TheVariants.Missing name kind) (gives_missing cs n k es all h) = (Command.misses _ _, refl, h)
-command_head (code.TheVariants.Nested finished current) (gives_nested cs f c es rs ds all p q h) = (Command.nests (command_round rs ds), (rs, ds, p, q, refl), h)
+command_head (code.TheVariants.Nested finished current) (gives_nested cs f c es rs ds all p q h) =
+    (Command.nests (command_round rs ds), (rs, ds, p, q, refl), h)
 
 -- ---- depth grows
 
@@ -92,12 +95,15 @@ mutual
   deeper_part (part_gives cs p all es e l h) = deeper h
 
 mutual
-  pub deeper_rounds : {log : Log} {ds all : CommandRounds} {es : List RoundEntry} → GivesRounds log ds es all → rounds_depth ds ≤ rounds_depth all
+  pub deeper_rounds : {log : Log} {ds all : CommandRounds} {es : List RoundEntry} → GivesRounds log ds es all
+      → rounds_depth ds ≤ rounds_depth all
   deeper_rounds (gives_no_rounds rs) = omega arith
   deeper_rounds (gives_round rs p es cs all q h) = let k = deeper_rounds h in omega (arith, k)
-  deeper_rounds (gives_linked_rounds rs p es qs all q h) = let k = deeper_rounds_part q in let l = deeper_rounds h in omega (arith, k, l)
+  deeper_rounds (gives_linked_rounds rs p es qs all q h) = let k = deeper_rounds_part q in let l =
+      deeper_rounds h in omega (arith, k, l)
 
-  deeper_rounds_part : {log : Log} {ds all : CommandRounds} {p : Part} → PartGivesRounds log ds p all → rounds_depth ds ≤ rounds_depth all
+  deeper_rounds_part : {log : Log} {ds all : CommandRounds} {p : Part} → PartGivesRounds log ds p all
+      → rounds_depth ds ≤ rounds_depth all
   deeper_rounds_part (part_gives_rounds rs p all es e l h) = deeper_rounds h
 
 module _ {A : Type 0} (C : List (Chain (code.Command A))) (R : List (Chain Part)) where
@@ -108,7 +114,8 @@ module _ {A : Type 0} (C : List (Chain (code.Command A))) (R : List (Chain Part)
       lens [] = refl
       lens (x ∷ xs) = ap suc (lens xs)
 
-      go : (k : Option Part) (own : List (code.Command A)) → length (first_link k ++ map entry_seen own) ≡ link_len k + length own
+      go : (k : Option Part) (own : List (code.Command A))
+          → length (first_link k ++ map entry_seen own) ≡ link_len k + length own
       go None own = let k = lens own in omega (arith, k)
       go (Some p) own = let k = lens own in omega (arith, k)
 
@@ -119,7 +126,8 @@ module _ {A : Type 0} (C : List (Chain (code.Command A))) (R : List (Chain Part)
       lens [] = refl
       lens (x ∷ xs) = ap suc (lens xs)
 
-      go : (k : Option Part) (own : List Part) → length (first_round_link k ++ map RoundEntry.finishes own) ≡ link_len k + length own
+      go : (k : Option Part) (own : List Part)
+          → length (first_round_link k ++ map RoundEntry.finishes own) ≡ link_len k + length own
       go None own = let k = lens own in omega (arith, k)
       go (Some p) own = let k = lens own in omega (arith, k)
 
@@ -135,32 +143,37 @@ module _ {A : Type 0} (C : List (Chain (code.Command A))) (R : List (Chain Part)
 
   -- ---- the flat entries of a part give the same
 
-  no_link : (k : Option Part) (own : List (code.Command A)) (n : ℕ) → link_in k n ≡ None → take n (first_link k ++ map entry_seen own) ≡ map entry_seen (take (own_in k n) own)
+  no_link : (k : Option Part) (own : List (code.Command A)) (n : ℕ) → link_in k n ≡ None
+      → take n (first_link k ++ map entry_seen own) ≡ map entry_seen (take (own_in k n) own)
   no_link None own n h = take-mapped entry_seen n own
   no_link (Some p) own zero h = ap (map entry_seen) (sym (take-none own))
   no_link (Some p) own (suc n) h = cc
 
-  behind_link : (k : Option Part) (own : List (code.Command A)) (n : ℕ) (p : Part) → link_in k n ≡ Some p →
+  after_link : (k : Option Part) (own : List (code.Command A)) (n : ℕ) (p : Part) → link_in k n ≡ Some p →
       take n (first_link k ++ map entry_seen own) ≡ Entry.links p ∷ map entry_seen (take (own_in k n) own)
-  behind_link None own n p h = cc
-  behind_link (Some q) own zero p h = cc
-  behind_link (Some q) own (suc n) p h =
+  after_link None own n p h = cc
+  after_link (Some q) own zero p h = cc
+  after_link (Some q) own (suc n) p h =
       let e : q ≡ p = cc in
       let m : suc n - 1 ≡ n = omega arith in
       ap (λ t. Entry.links q ∷ t) (take-mapped entry_seen n own ∙ ap (λ j. map entry_seen (take j own)) (sym m))
       ∙ ap (λ r. Entry.links r ∷ map entry_seen (take (suc n - 1) own)) e
 
-  pub flat_gives : {part : Part} {xs : List (code.Command A)} → Flat C part xs → (ds all : Commands) → PartGives (log_of C R) ds part all → Gives (log_of C R) ds (map entry_seen xs) all
+  pub flat_gives : {part : Part} {xs : List (code.Command A)} → Flat C part xs → (ds all : Commands)
+      → PartGives (log_of C R) ds part all → Gives (log_of C R) ds (map entry_seen xs) all
   flat_gives (ends part l xs s n e) ds all (part_gives cs p _ es f m h) =
       let k = get-map commands_seen C part.list es f in
       let w : k.0 ≡ l = let q = k.1 in cc in
       subst (λ ys. Gives (log_of C R) ds (map entry_seen ys) all) (sym e)
-      (subst (λ ys. Gives (log_of C R) ds ys all) (ap (take part.first) (sym k.2 ∙ ap commands_seen w) ∙ no_link l.link l.own part.first n) h)
+      (subst (λ ys. Gives (log_of C R) ds ys all)
+      (ap (take part.first) (sym k.2 ∙ ap commands_seen w) ∙ no_link l.link l.own part.first n) h)
   flat_gives (goes_on part l link ys xs s n g e) ds all (part_gives cs p _ es f m h) =
       let k = get-map commands_seen C part.list es f in
       let w : k.0 ≡ l = let q = k.1 in cc in
-      let j = link_head (subst (λ ys. Gives (log_of C R) ds ys all) (ap (take part.first) (sym k.2 ∙ ap commands_seen w) ∙ behind_link l.link l.own part.first link n) h) in
-      subst (λ zs. Gives (log_of C R) ds zs all) (sym (ap (map entry_seen) e ∙ map-append entry_seen ys (take (own_in l.link part.first) l.own)))
+      let j = link_head (subst (λ ys. Gives (log_of C R) ds ys all)
+      (ap (take part.first) (sym k.2 ∙ ap commands_seen w) ∙ after_link l.link l.own part.first link n) h) in
+      subst (λ zs. Gives (log_of C R) ds zs all)
+      (sym (ap (map entry_seen) e ∙ map-append entry_seen ys (take (own_in l.link part.first) l.own)))
       (follow (log_of C R) (flat_gives g ds j.0 j.1) (map entry_seen (take (own_in l.link part.first) l.own)) all j.2)
 
   no_round_link : (k : Option Part) (own : List Part) (n : ℕ) → link_in k n ≡ None →
@@ -169,26 +182,34 @@ module _ {A : Type 0} (C : List (Chain (code.Command A))) (R : List (Chain Part)
   no_round_link (Some p) own zero h = ap (map RoundEntry.finishes) (sym (take-none own))
   no_round_link (Some p) own (suc n) h = cc
 
-  behind_round_link : (k : Option Part) (own : List Part) (n : ℕ) (p : Part) → link_in k n ≡ Some p →
-      take n (first_round_link k ++ map RoundEntry.finishes own) ≡ RoundEntry.links p ∷ map RoundEntry.finishes (take (own_in k n) own)
-  behind_round_link None own n p h = cc
-  behind_round_link (Some q) own zero p h = cc
-  behind_round_link (Some q) own (suc n) p h =
+  after_round_link : (k : Option Part) (own : List Part) (n : ℕ) (p : Part) → link_in k n ≡ Some p →
+      take n (first_round_link k ++ map RoundEntry.finishes own)
+      ≡ RoundEntry.links p ∷ map RoundEntry.finishes (take (own_in k n) own)
+  after_round_link None own n p h = cc
+  after_round_link (Some q) own zero p h = cc
+  after_round_link (Some q) own (suc n) p h =
       let e : q ≡ p = cc in
       let m : suc n - 1 ≡ n = omega arith in
-      ap (λ t. RoundEntry.links q ∷ t) (take-mapped RoundEntry.finishes n own ∙ ap (λ j. map RoundEntry.finishes (take j own)) (sym m))
+      ap (λ t. RoundEntry.links q ∷ t) (take-mapped RoundEntry.finishes n own
+      ∙ ap (λ j. map RoundEntry.finishes (take j own)) (sym m))
       ∙ ap (λ r. RoundEntry.links r ∷ map RoundEntry.finishes (take (suc n - 1) own)) e
 
-  pub flat_rounds : {part : Part} {xs : List Part} → Flat R part xs → (ds all : CommandRounds) → PartGivesRounds (log_of C R) ds part all →
+  pub flat_rounds : {part : Part} {xs : List Part} → Flat R part xs → (ds all : CommandRounds)
+      → PartGivesRounds (log_of C R) ds part all →
       GivesRounds (log_of C R) ds (map RoundEntry.finishes xs) all
   flat_rounds (ends part l xs s n e) ds all (part_gives_rounds cs p _ es f m h) =
       let k = get-map rounds_seen R part.list es f in
       let w : k.0 ≡ l = let q = k.1 in cc in
       subst (λ ys. GivesRounds (log_of C R) ds (map RoundEntry.finishes ys) all) (sym e)
-      (subst (λ ys. GivesRounds (log_of C R) ds ys all) (ap (take part.first) (sym k.2 ∙ ap rounds_seen w) ∙ no_round_link l.link l.own part.first n) h)
+      (subst (λ ys. GivesRounds (log_of C R) ds ys all)
+      (ap (take part.first) (sym k.2 ∙ ap rounds_seen w) ∙ no_round_link l.link l.own part.first n) h)
   flat_rounds (goes_on part l link ys xs s n g e) ds all (part_gives_rounds cs p _ es f m h) =
       let k = get-map rounds_seen R part.list es f in
       let w : k.0 ≡ l = let q = k.1 in cc in
-      let j = link_rounds_head (subst (λ ys. GivesRounds (log_of C R) ds ys all) (ap (take part.first) (sym k.2 ∙ ap rounds_seen w) ∙ behind_round_link l.link l.own part.first link n) h) in
-      subst (λ zs. GivesRounds (log_of C R) ds zs all) (sym (ap (map RoundEntry.finishes) e ∙ map-append RoundEntry.finishes ys (take (own_in l.link part.first) l.own)))
-      (rounds_follow (log_of C R) (flat_rounds g ds j.0 j.1) (map RoundEntry.finishes (take (own_in l.link part.first) l.own)) all j.2)
+      let j = link_rounds_head (subst (λ ys. GivesRounds (log_of C R) ds ys all)
+      (ap (take part.first) (sym k.2 ∙ ap rounds_seen w) ∙ after_round_link l.link l.own part.first link n) h) in
+      subst (λ zs. GivesRounds (log_of C R) ds zs all)
+      (sym (ap (map RoundEntry.finishes) e
+      ∙ map-append RoundEntry.finishes ys (take (own_in l.link part.first) l.own)))
+      (rounds_follow (log_of C R) (flat_rounds g ds j.0 j.1)
+      (map RoundEntry.finishes (take (own_in l.link part.first) l.own)) all j.2)

@@ -20,7 +20,10 @@ has_entries log h a k = (in_of log k.current, in_of_rounds log k.finished)
 
 -- who has entries is live
 pub lists_there : (log : Log) (h : Handle) → HasEntriesOf log h → IsLive log h
-lists_there log h i = (in_range log.commands h.current.list i.0.0 i.0.1, in_range log.rounds h.finished.list i.1.0 i.1.1)
+lists_there log h i = (
+  in_range log.commands h.current.list i.0.0 i.0.1,
+  in_range log.rounds h.finished.list i.1.0 i.1.1,
+)
 
 -- what holds of each in one way holds of each in another
 pub every : {X : Type 0} (P Q : X → Type 0) → ((x : X) → P x → Q x) → (xs : List X) → Every P xs → Every Q xs
@@ -28,19 +31,16 @@ every P Q f [] h = tt
 every P Q f (x ∷ xs) h = (f x h.0, every P Q f xs h.1)
 
 module _ (old new : Log) (k : IsKept old new) where
-  pub every_entry : (hs : List Handle) → Every (HasEntriesOf old) hs → Every (HasEntriesOf new) hs
-  every_entry hs l = every (HasEntriesOf old) (HasEntriesOf new) k.entries hs l
-
   pub all_accounts : (held : Held) → HasAccounts old held → HasAccounts new held
   all_accounts held a = every (λ x. IsAccount old x.0 x.1) (λ x. IsAccount new x.0 x.1) (λ x. k.others x.0 x.1) held a
 
-  -- both in one step
-  pub all_kept : (hs : List Handle) (held : Held) → Every (HasEntriesOf old) hs × HasAccounts old held → Every (HasEntriesOf new) hs × HasAccounts new held
-  all_kept hs held a = (every_entry hs a.0, all_accounts held a.1)
-
 -- one call after another
 pub kept-on : (old middle new : Log) → IsKept old middle → IsKept middle new → IsKept old new
-kept-on old middle new k l = record { stays = λ h a. l.stays h (k.stays h a); entries = λ h a. l.entries h (k.entries h a); others = λ h a b. l.others h a (k.others h a b) }
+kept-on old middle new k l = record {
+  stays = λ h a. l.stays h (k.stays h a);
+  entries = λ h a. l.entries h (k.entries h a);
+  others = λ h a b. l.others h a (k.others h a b);
+}
 
 -- ---- the first no entries of a handle's lists
 
@@ -54,6 +54,7 @@ emptied-none h = record {
     current = part_gives no_commands (none_of h).current no_commands i.0.0 i.0.1 (omega arith)
         (subst (λ es. Gives log no_commands es no_commands) (sym (take-none i.0.0)) (gives_nothing no_commands));
     finished = part_gives_rounds no_command_rounds (none_of h).finished no_command_rounds i.1.0 i.1.1 (omega arith)
-        (subst (λ es. GivesRounds log no_command_rounds es no_command_rounds) (sym (take-none i.1.0)) (gives_no_rounds no_command_rounds));
+        (subst (λ es. GivesRounds log no_command_rounds es no_command_rounds) (sym (take-none i.1.0))
+        (gives_no_rounds no_command_rounds));
   };
 }

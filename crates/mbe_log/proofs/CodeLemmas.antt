@@ -5,7 +5,7 @@ use Rattle.mbe_semantics.specs.declared.log.Part.{Part}
 use Rattle.mbe_log.specs.declared.log.Command as code
 use Rattle.mbe_log.specs.Chain.{Chain, IsChained, IsWithin, IsExtended, chain_len, link_len, link_to}
 use Rattle.mbe_log.specs.Entries.{commands_seen, rounds_seen, first_link, first_round_link, entry_seen, log_of}
-use Rattle.mbe_semantics.specs.Bindings.Account.{Account, pushed, pushed_nested, pushed_default, Command, Commands, no_commands, no_command_rounds, command_round, Log, Handle, IsIn, IsLive, HasEntriesOf, Gives, GivesRounds, PartGives, run, IsAccount, HasOneListMore}
+use Rattle.mbe_semantics.specs.Bindings.Account.{Account, pushed, pushed_nested, pushed_default, Command, Commands, no_commands, no_command_rounds, command_round, Log, Handle, IsIn, HasEntriesOf, Gives, GivesRounds, PartGives, run, IsAccount, HasOneListMore}
 use Rattle.mbe_log.specs.Shared.{IsGiven, IsChanged, IsAtEnd, IsWhole, WritesOne, WritesRound, current_len, finished_len, len_at, IsPlain}
 use Rattle.mbe_log.specs.Sound.{IsSound, HasOrder, IsGrounded, GivesCommand, command_depth, IsPartGrounded}
 use Rattle.mbe_log.specs.declared.bindings.Bindings.{Bindings}
@@ -19,7 +19,8 @@ length-mapped : {X Y : Type 0} (f : X → Y) (xs : List X) → length (map f xs)
 length-mapped f [] = refl
 length-mapped f (x ∷ xs) = ap suc (length-mapped f xs)
 
-pub within-at : {T : Type 0} (lists : List (Chain T)) (p : Part) (x : Chain T) → IsWithin lists p → x ≡ get_or lists p.list x → slice_get lists p.list ≡ Some x
+pub within-at : {T : Type 0} (lists : List (Chain T)) (p : Part) (x : Chain T) → IsWithin lists p
+    → x ≡ get_or lists p.list x → slice_get lists p.list ≡ Some x
 within-at lists p x w e = w.1 ∙ ap Some (sym (e ∙ got lists p.list w.0 x w.1))
 
 module _ {A : Type 0} (C : List (Chain (code.Command A))) (R : List (Chain Part)) where
@@ -34,24 +35,42 @@ module _ {A : Type 0} (C : List (Chain (code.Command A))) (R : List (Chain Part)
       (k.0, k.1, let a = ap length k.2 in let b = rounds_len C R k.0 in let c = i.2 in omega (arith, a, b, c))
 
   within-in : (p : Part) → IsWithin C p → IsIn (map commands_seen C) p
-  within-in p w = (commands_seen w.0, map-get commands_seen C p.list w.0 w.1, let a = commands_len C R w.0 in let b = w.2 in omega (arith, a, b))
+  within-in p w = (
+    commands_seen w.0,
+    map-get commands_seen C p.list w.0 w.1,
+    let a = commands_len C R w.0 in
+        let b = w.2 in omega (arith, a, b),
+  )
 
   within-in-rounds : (p : Part) → IsWithin R p → IsIn (map rounds_seen R) p
-  within-in-rounds p w = (rounds_seen w.0, map-get rounds_seen R p.list w.0 w.1, let a = rounds_len C R w.0 in let b = w.2 in omega (arith, a, b))
+  within-in-rounds p w = (
+    rounds_seen w.0,
+    map-get rounds_seen R p.list w.0 w.1,
+    let a = rounds_len C R w.0 in
+        let b = w.2 in omega (arith, a, b),
+  )
 
-  whole-len : (p : Part) (l : Chain (code.Command A)) → IsWhole (map commands_seen C) p → slice_get C p.list ≡ Some l → p.first ≡ chain_len l
-  whole-len p l w s = let a = map-get commands_seen C p.list l s in let b = w.1 in let k : w.0 ≡ commands_seen l = cc in w.2 ∙ ap length k ∙ commands_len C R l
+  whole-len : (p : Part) (l : Chain (code.Command A)) → IsWhole (map commands_seen C) p → slice_get C p.list ≡ Some l
+      → p.first ≡ chain_len l
+  whole-len p l w s = let a = map-get commands_seen C p.list l s in let b = w.1 in let k : w.0 ≡ commands_seen l =
+      cc in w.2 ∙ ap length k ∙ commands_len C R l
 
-  whole-rounds-len : (p : Part) (l : Chain Part) → IsWhole (map rounds_seen R) p → slice_get R p.list ≡ Some l → p.first ≡ chain_len l
-  whole-rounds-len p l w s = let a = map-get rounds_seen R p.list l s in let b = w.1 in let k : w.0 ≡ rounds_seen l = cc in w.2 ∙ ap length k ∙ rounds_len C R l
+  whole-rounds-len : (p : Part) (l : Chain Part) → IsWhole (map rounds_seen R) p → slice_get R p.list ≡ Some l
+      → p.first ≡ chain_len l
+  whole-rounds-len p l w s = let a = map-get rounds_seen R p.list l s in let b = w.1 in let k : w.0 ≡ rounds_seen l =
+      cc in w.2 ∙ ap length k ∙ rounds_len C R l
 
   -- a handle's parts, as the code holds them
-  module _ (log : Log) (seen : log_of C R ≡ log) (current finished : Part) (h : Handle) (view : record { current = current; finished = finished } ≡ h) where
+  module _ (log : Log) (seen : log_of C R ≡ log) (current finished : Part) (h : Handle)
+      (view : record { current = current; finished = finished } ≡ h) where
     entries_held : HasEntriesOf log h → HasEntriesOf (log_of C R) (record { current = current; finished = finished })
-    entries_held l = subst (λ x. HasEntriesOf x (record { current = current; finished = finished })) (sym seen) (subst (HasEntriesOf log) (sym view) l)
+    entries_held l = subst (λ x. HasEntriesOf x (record { current = current; finished = finished })) (sym seen)
+        (subst (HasEntriesOf log) (sym view) l)
 
-    account_held : (a : Account) → IsAccount log h a → IsAccount (log_of C R) (record { current = current; finished = finished }) a
-    account_held a k = subst (λ x. IsAccount x (record { current = current; finished = finished }) a) (sym seen) (subst (λ x. IsAccount log x a) (sym view) k)
+    account_held : (a : Account) → IsAccount log h a
+        → IsAccount (log_of C R) (record { current = current; finished = finished }) a
+    account_held a k = subst (λ x. IsAccount x (record { current = current; finished = finished }) a) (sym seen)
+        (subst (λ x. IsAccount log x a) (sym view) k)
 
     pub current_within : HasEntriesOf log h → IsWithin C current
     current_within l = in-within current (entries_held l).0
@@ -60,43 +79,59 @@ module _ {A : Type 0} (C : List (Chain (code.Command A))) (R : List (Chain Part)
     finished_within l = in-rounds-within finished (entries_held l).1
 
     pub has-entries : IsWithin C current → IsWithin R finished → HasEntriesOf log h
-    has-entries c r = subst (λ x. HasEntriesOf x h) seen (subst (HasEntriesOf (log_of C R)) view (within-in current c, within-in-rounds finished r))
+    has-entries c r = subst (λ x. HasEntriesOf x h) seen
+        (subst (HasEntriesOf (log_of C R)) view (within-in current c, within-in-rounds finished r))
 
     -- one entry more
-    pub push-changes : (new : List (Chain (code.Command A))) (q : Part) (x : code.Command A) → IsExtended C new current q x → HasEntriesOf log h → (c : Command) → GivesCommand log (entry_seen x) c →
+    pub push-changes : (new : List (Chain (code.Command A))) (q : Part) (x : code.Command A)
+        → IsExtended C new current q x → HasEntriesOf log h → (c : Command) → GivesCommand log (entry_seen x) c →
         IsChanged log (log_of new R) h (record { current = q; finished = finished }) (pushed c)
     push-changes new q x e l c g =
         subst (λ k. IsChanged log (log_of new R) k (record { current = q; finished = finished }) (pushed c)) view
-        (subst (λ y. IsChanged y (log_of new R) (record { current = current; finished = finished }) (record { current = q; finished = finished }) (pushed c)) seen
-        (step-changes (log_of C R) (record { current = current; finished = finished }) (map commands_seen new) q (first_link (link_to current e.0)) (entry_seen x) (step-of C R new current q x e) c
-        (subst (λ y. GivesCommand y (entry_seen x) c) (sym seen) g) (λ cs k. linked C R current e.0 cs e.1 k) (entries_held l)))
+        (subst (λ y. IsChanged y (log_of new R) (record { current = current; finished = finished })
+        (record { current = q; finished = finished }) (pushed c)) seen
+        (step-changes (log_of C R) (record { current = current; finished = finished }) (map commands_seen new) q
+        (first_link (link_to current e.0)) (entry_seen x) (step-of C R new current q x e) c
+        (subst (λ y. GivesCommand y (entry_seen x) c) (sym seen) g) (λ cs k. linked C R current e.0 cs e.1 k)
+        (entries_held l)))
 
-    pub push-sound : (n m : ℕ) (new : List (Chain (code.Command A))) (q : Part) (x : code.Command A) → IsSound C R n → n ≤ m → IsExtended C new current q x → HasEntriesOf log h →
+    pub push-sound : (n m : ℕ) (new : List (Chain (code.Command A))) (q : Part) (x : code.Command A) → IsSound C R n
+        → n ≤ m → IsExtended C new current q x → HasEntriesOf log h →
         (c : Command) → GivesCommand (log_of C R) (entry_seen x) c → command_depth c ≤ m → IsSound new R m
     push-sound n m new q x s w e l c g d = record {
       links = chained-extended C new current q x s.links (current_within l) e;
       round_links = s.round_links;
-      grounded = step-grounded (log_of C R) (record { current = current; finished = finished }) (map commands_seen new) q (first_link (link_to current e.0)) (entry_seen x) (step-of C R new current q x e)
+      grounded = step-grounded (log_of C R) (record { current = current; finished = finished }) (map commands_seen new)
+          q (first_link (link_to current e.0)) (entry_seen x) (step-of C R new current q x e)
           c g (λ cs k. linked C R current e.0 cs e.1 k) n m s.grounded w d (entries_held l).0;
     }
 
-    pub plain-sound : (n : ℕ) (new : List (Chain (code.Command A))) (q : Part) (x : code.Command A) → IsSound C R n → IsExtended C new current q x → HasEntriesOf log h → IsPlain (entry_seen x) → IsSound new R n
-    plain-sound n new q x s e l p = let k = plain_command C R x p in push-sound n n new q x s (omega arith) e l k.0 k.1 (let z = k.2 in omega (arith, z))
+    pub plain-sound : (n : ℕ) (new : List (Chain (code.Command A))) (q : Part) (x : code.Command A) → IsSound C R n
+        → IsExtended C new current q x → HasEntriesOf log h → IsPlain (entry_seen x) → IsSound new R n
+    plain-sound n new q x s e l p = let k =
+        plain_command C R x p in push-sound n n new q x s (omega arith) e l k.0 k.1 (let z = k.2 in omega (arith, z))
 
     -- a nested command, whose child has these parts
-    pub nested-sound : (n m : ℕ) (new : List (Chain (code.Command A))) (q : Part) (child-current child-finished : Part) → IsSound C R n → m ≡ n + 1 →
-        IsExtended C new current q (code.TheVariants.Nested child-finished child-current) → HasEntriesOf log h → IsIn (map commands_seen C) child-current → IsIn (map rounds_seen R) child-finished → IsSound new R m
+    pub nested-sound : (n m : ℕ) (new : List (Chain (code.Command A))) (q : Part) (child-current child-finished : Part)
+        → IsSound C R n → m ≡ n + 1 →
+        IsExtended C new current q (code.TheVariants.Nested child-finished child-current) → HasEntriesOf log h
+        → IsIn (map commands_seen C) child-current → IsIn (map rounds_seen R) child-finished → IsSound new R m
     nested-sound n m new q cc cf s w e l ic ir =
         let p = grounded-part (log_of C R) n s.grounded cc ic in
         let r = grounded-rounds-part (log_of C R) n s.grounded cf ir in
-        push-sound n m new q (code.TheVariants.Nested cf cc) s (omega (arith, w)) e l (Command.nests (command_round r.0 p.0)) (r.0, p.0, r.1, p.1, refl)
+        push-sound n m new q (code.TheVariants.Nested cf cc) s (omega (arith, w)) e l
+        (Command.nests (command_round r.0 p.0)) (r.0, p.0, r.1, p.1, refl)
         (let f = p.2 in let g = r.2 in omega (arith, w, f, g))
 
-    pub nested-changes : (new : List (Chain (code.Command A))) (q cc cf : Part) (child : Handle) → record { current = cc; finished = cf } ≡ child →
-        IsExtended C new current q (code.TheVariants.Nested cf cc) → HasEntriesOf log h → (b : Account) → IsAccount log child b → IsChanged log (log_of new R) h (record { current = q; finished = finished }) (λ a. pushed_nested a b)
+    pub nested-changes : (new : List (Chain (code.Command A))) (q cc cf : Part) (child : Handle)
+        → record { current = cc; finished = cf } ≡ child →
+        IsExtended C new current q (code.TheVariants.Nested cf cc) → HasEntriesOf log h → (b : Account)
+        → IsAccount log child b → IsChanged log (log_of new R) h (record { current = q; finished = finished })
+        (λ a. pushed_nested a b)
     nested-changes new q cc cf child v e l b k =
         let m = subst (λ x. IsAccount log x b) (sym v) k in
-        push-changes new q (code.TheVariants.Nested cf cc) e l (Command.nests (command_round b.finished b.current)) (b.finished, b.current, m.finished, m.current, refl)
+        push-changes new q (code.TheVariants.Nested cf cc) e l (Command.nests (command_round b.finished b.current))
+        (b.finished, b.current, m.finished, m.current, refl)
 
     pub child-current : HasEntriesOf log h → IsIn (map commands_seen C) current
     child-current l = (entries_held l).0
@@ -105,28 +140,44 @@ module _ {A : Type 0} (C : List (Chain (code.Command A))) (R : List (Chain Part)
     child-finished l = (entries_held l).1
 
     -- a finished round
-    pub default-changed : (D : List (Chain (code.Command A))) (S : List (Chain Part)) (q : Part) (i : ℕ) → D ≡ C ++ record { link = None; own = [] } ∷ [] → i ≡ length C → IsExtended R S finished q current → HasEntriesOf log h →
+    pub default-changed : (D : List (Chain (code.Command A))) (S : List (Chain Part)) (q : Part) (i : ℕ)
+        → D ≡ C ++ record { link = None; own = [] } ∷ [] → i ≡ length C → IsExtended R S finished q current
+        → HasEntriesOf log h →
         IsChanged log (log_of D S) h (record { current = record { list = i; first = 0 }; finished = q }) pushed_default
     default-changed D S q i d j e l =
-        subst (λ k. IsChanged log (log_of D S) k (record { current = record { list = i; first = 0 }; finished = q }) pushed_default) view
-        (subst (λ y. IsChanged y (log_of D S) (record { current = current; finished = finished }) (record { current = record { list = i; first = 0 }; finished = q }) pushed_default) seen
-        (subst (λ y. IsChanged (log_of C R) y (record { current = current; finished = finished }) (record { current = record { list = i; first = 0 }; finished = q }) pushed_default)
+        subst (λ k. IsChanged log (log_of D S) k (record { current = record { list = i; first = 0 }; finished = q })
+        pushed_default) view
+        (subst (λ y. IsChanged y (log_of D S) (record { current = current; finished = finished })
+        (record { current = record { list = i; first = 0 }; finished = q }) pushed_default) seen
+        (subst (λ y. IsChanged (log_of C R) y (record { current = current; finished = finished })
+        (record { current = record { list = i; first = 0 }; finished = q }) pushed_default)
         (ap (λ x. record { commands = x; rounds = map rounds_seen S }) (sym (default_commands D d)))
-        (subst (λ n. IsChanged (log_of C R) (record { commands = map commands_seen C ++ [] ∷ []; rounds = map rounds_seen S }) (record { current = current; finished = finished })
-        (record { current = record { list = n; first = 0 }; finished = q }) pushed_default) (length-mapped commands_seen C ∙ sym j)
-        (default-changes (log_of C R) (record { current = current; finished = finished }) (map rounds_seen S) q (first_round_link (link_to finished e.0)) (step-of-rounds C R S finished q current e)
+        (subst (λ n. IsChanged (log_of C R) (record {
+          commands = map commands_seen C
+              ++ [] ∷ [];
+          rounds = map rounds_seen S;
+        }) (record { current = current; finished = finished })
+        (record { current = record { list = n; first = 0 }; finished = q }) pushed_default)
+        (length-mapped commands_seen C ∙ sym j)
+        (default-changes (log_of C R) (record { current = current; finished = finished }) (map rounds_seen S) q
+        (first_round_link (link_to finished e.0)) (step-of-rounds C R S finished q current e)
         (λ rs k. linked_rounds C R finished e.0 rs e.1 k) (entries_held l)))))
       where
-        default_commands : (D : List (Chain (code.Command A))) → D ≡ C ++ record { link = None; own = [] } ∷ [] → map commands_seen D ≡ map commands_seen C ++ [] ∷ []
+        default_commands : (D : List (Chain (code.Command A))) → D ≡ C ++ record { link = None; own = [] } ∷ []
+            → map commands_seen D ≡ map commands_seen C ++ [] ∷ []
         default_commands D d = ap (map commands_seen) d ∙ ap (λ x. x.commands) (seen-lists C R None None)
 
-    pub default-sound : (n : ℕ) (D : List (Chain (code.Command A))) (S : List (Chain Part)) (q : Part) → D ≡ C ++ record { link = None; own = [] } ∷ [] → IsExtended R S finished q current → HasEntriesOf log h →
+    pub default-sound : (n : ℕ) (D : List (Chain (code.Command A))) (S : List (Chain Part)) (q : Part)
+        → D ≡ C ++ record { link = None; own = [] } ∷ [] → IsExtended R S finished q current → HasEntriesOf log h →
         IsSound C R n → IsSound D S n
     default-sound n D S q d e l k = record {
-      links = subst (λ y. IsChained y) (sym d) (chained-more C (record { link = None; own = [] }) k.links (λ q e. absurd (let z : ⊥ = cc in z)));
+      links = subst (λ y. IsChained y) (sym d)
+          (chained-more C (record { link = None; own = [] }) k.links (λ q e. absurd (let z : ⊥ = cc in z)));
       round_links = chained-extended R S finished q current k.round_links (finished_within l) e;
-      grounded = subst (λ y. IsGrounded (record { commands = y; rounds = map rounds_seen S }) n) (sym (ap (map commands_seen) d ∙ ap (λ x. x.commands) (seen-lists C R None None)))
-          (default-grounded (log_of C R) (record { current = current; finished = finished }) (map rounds_seen S) q (first_round_link (link_to finished e.0)) (step-of-rounds C R S finished q current e)
+      grounded = subst (λ y. IsGrounded (record { commands = y; rounds = map rounds_seen S }) n)
+          (sym (ap (map commands_seen) d ∙ ap (λ x. x.commands) (seen-lists C R None None)))
+          (default-grounded (log_of C R) (record { current = current; finished = finished }) (map rounds_seen S) q
+          (first_round_link (link_to finished e.0)) (step-of-rounds C R S finished q current e)
           (λ rs k. linked_rounds C R finished e.0 rs e.1 k) n k.grounded (entries_held l));
     }
 
@@ -134,12 +185,14 @@ module _ {A : Type 0} (C : List (Chain (code.Command A))) (R : List (Chain Part)
     pub build-grounded : (n : ℕ) → IsSound C R n → HasEntriesOf log h → IsPartGrounded (log_of C R) current n
     build-grounded n s l = grounded-part (log_of C R) n s.grounded current (entries_held l).0
 
-    pub build-returns : (D : List (Chain (code.Command A))) (S : List (Chain Part)) → D ≡ C → S ≡ R → {E : Type 0} (r : Result (Bindings A) E) →
+    pub build-returns : (D : List (Chain (code.Command A))) (S : List (Chain Part)) → D ≡ C → S ≡ R
+        → {E : Type 0} (r : Result (Bindings A) E) →
         IfOk r (λ b. (cs : Commands) → PartGives (log_of D S) no_commands current cs → bound_by b ≡ run cs []) →
         IfOk r (λ b. (a : Account) → IsAccount log h a → bound_by b ≡ run a.current [])
     build-returns D S d e (Err x) k = k
     build-returns D S d e (Ok b) k = λ a m. k a.current
-        (subst (λ x. PartGives (log_of x S) no_commands current a.current) (sym d) (subst (λ y. PartGives (log_of C y) no_commands current a.current) (sym e) (account_held a m).current))
+        (subst (λ x. PartGives (log_of x S) no_commands current a.current) (sym d)
+        (subst (λ y. PartGives (log_of C y) no_commands current a.current) (sym e) (account_held a m).current))
 
     -- each live handle has an account
     pub account-there : (n : ℕ) → IsSound C R n → HasEntriesOf log h → (a : Account) × IsAccount log h a
@@ -147,17 +200,9 @@ module _ {A : Type 0} (C : List (Chain (code.Command A))) (R : List (Chain Part)
         let p = grounded-part (log_of C R) n s.grounded current (entries_held l).0 in
         let q = grounded-rounds-part (log_of C R) n s.grounded finished (entries_held l).1 in
         let a : Account = record { finished = q.0; current = p.0 } in
-        let k : IsAccount (log_of C R) (record { current = current; finished = finished }) a = record { current = p.1; finished = q.1 } in
+        let k : IsAccount (log_of C R) (record { current = current; finished = finished }) a =
+        record { current = p.1; finished = q.1 } in
         (a, subst (λ x. IsAccount x h a) seen (subst (λ x. IsAccount (log_of C R) x a) view k))
-
-    -- each list of the log is there
-    pub live-now : (current.list < length C) × (finished.list < length R) → IsLive log h
-    live-now l = subst (λ x. IsLive x h) seen (subst (IsLive (log_of C R)) view
-        (let a = l.0 in let b = length-mapped commands_seen C in omega (arith, a, b), let a = l.1 in let b = length-mapped rounds_seen R in omega (arith, a, b)))
-
-    pub live-before : IsLive log h → (current.list < length C) × (finished.list < length R)
-    live-before l = let k = subst (λ x. IsLive x (record { current = current; finished = finished })) (sym seen) (subst (IsLive log) (sym view) l) in
-        (let a = k.0 in let b = length-mapped commands_seen C in omega (arith, a, b), let a = k.1 in let b = length-mapped rounds_seen R in omega (arith, a, b))
 
     -- where it is at the end, its numbers are the lengths of its lists
     pub lengths : IsAtEnd log h → (current.first ≡ current_len log h) × (finished.first ≡ finished_len log h)
@@ -167,30 +212,41 @@ module _ {A : Type 0} (C : List (Chain (code.Command A))) (R : List (Chain Part)
     )
 
     at_end_held : IsAtEnd log h → IsAtEnd (log_of C R) (record { current = current; finished = finished })
-    at_end_held l = subst (λ x. IsAtEnd x (record { current = current; finished = finished })) (sym seen) (subst (IsAtEnd log) (sym view) l)
+    at_end_held l = subst (λ x. IsAtEnd x (record { current = current; finished = finished })) (sym seen)
+        (subst (IsAtEnd log) (sym view) l)
 
-    pub push-writes : (new : List (Chain (code.Command A))) (q : Part) (x : code.Command A) → IsExtended C new current q x → WritesOne log h (record { current = q; finished = finished })
+    pub push-writes : (new : List (Chain (code.Command A))) (q : Part) (x : code.Command A)
+        → IsExtended C new current q x → WritesOne log h (record { current = q; finished = finished })
     push-writes new q x e w =
         subst (λ k. (q ≡ record { list = k.current.list; first = k.current.first + 1 }) × (finished ≡ k.finished)) view
         (at-end C new current q x e (whole-len current e.0 (at_end_held w).0 e.1), refl)
 
-    pub default-writes : (S : List (Chain Part)) (q x : Part) (i : ℕ) → IsExtended R S finished q x → WritesRound log h (record { current = record { list = i; first = 0 }; finished = q })
+    pub default-writes : (S : List (Chain Part)) (q x : Part) (i : ℕ) → IsExtended R S finished q x
+        → WritesRound log h (record { current = record { list = i; first = 0 }; finished = q })
     default-writes S q x i e w = (
       refl,
-      subst (λ k. q ≡ record { list = k.finished.list; first = k.finished.first + 1 }) view (at-end R S finished q x e (whole-rounds-len finished e.0 (at_end_held w).1 e.1)),
+      subst (λ k. q ≡ record { list = k.finished.list; first = k.finished.first + 1 }) view
+          (at-end R S finished q x e (whole-rounds-len finished e.0 (at_end_held w).1 e.1)),
     )
 
     -- a copy
-    pub copy-sound : (n : ℕ) (l : Chain (code.Command A)) (r : Chain Part) → IsSound C R n → HasEntriesOf log h → slice_get C current.list ≡ Some l → slice_get R finished.list ≡ Some r →
-        IsSound (C ++ record { link = link_to current l; own = [] } ∷ []) (R ++ record { link = link_to finished r; own = [] } ∷ []) n
-    copy-sound n l r s live a b = sound-copy C R n (record { current = current; finished = finished }) l r s (entries_held live) a b
+    pub copy-sound : (n : ℕ) (l : Chain (code.Command A)) (r : Chain Part) → IsSound C R n → HasEntriesOf log h
+        → slice_get C current.list ≡ Some l → slice_get R finished.list ≡ Some r →
+        IsSound (C ++ record { link = link_to current l; own = [] } ∷ [])
+        (R ++ record { link = link_to finished r; own = [] } ∷ []) n
+    copy-sound n l r s live a b = sound-copy C R n (record { current = current; finished = finished }) l r s
+        (entries_held live) a b
 
-    pub copy-gives : (l : Chain (code.Command A)) (r : Chain Part) → slice_get C current.list ≡ Some l → slice_get R finished.list ≡ Some r → (a : Account) → IsAccount log h a →
-        Gives (log_of C R) no_commands (first_link (link_to current l)) a.current × GivesRounds (log_of C R) no_command_rounds (first_round_link (link_to finished r)) a.finished
-    copy-gives l r s t a k = let m = account_held a k in (linked C R current l a.current s m.current, linked_rounds C R finished r a.finished t m.finished)
+    pub copy-gives : (l : Chain (code.Command A)) (r : Chain Part) → slice_get C current.list ≡ Some l
+        → slice_get R finished.list ≡ Some r → (a : Account) → IsAccount log h a →
+        Gives (log_of C R) no_commands (first_link (link_to current l)) a.current
+        × GivesRounds (log_of C R) no_command_rounds (first_round_link (link_to finished r)) a.finished
+    copy-gives l r s t a k = let m = account_held a k in
+        (linked C R current l a.current s m.current, linked_rounds C R finished r a.finished t m.finished)
 
 -- the order of a log, as clients see it
-pub order-seen : {A : Type 0} (C : List (Chain (code.Command A))) (R : List (Chain Part)) (log : Log) (n : ℕ) → log_of C R ≡ log → IsSound C R n → HasOrder log
+pub order-seen : {A : Type 0} (C : List (Chain (code.Command A))) (R : List (Chain Part)) (log : Log) (n : ℕ)
+    → log_of C R ≡ log → IsSound C R n → HasOrder log
 order-seen C R log n seen s = subst HasOrder seen s.grounded.ordered
 
 -- a link is few entries
@@ -200,7 +256,8 @@ link-few (Some p) = omega arith
 
 -- ---- two lists more
 
-module _ {A : Type 0} (C : List (Chain (code.Command A))) (R : List (Chain Part)) (log : Log) (seen : log_of C R ≡ log) (l r : Option Part) (D : List (Chain (code.Command A))) (S : List (Chain Part))
+module _ {A : Type 0} (C : List (Chain (code.Command A))) (R : List (Chain Part)) (log : Log) (seen : log_of C R ≡ log)
+    (l r : Option Part) (D : List (Chain (code.Command A))) (S : List (Chain Part))
     (d : D ≡ C ++ record { link = l; own = [] } ∷ []) (e : S ≡ R ++ record { link = r; own = [] } ∷ []) where
   new_log : log_of D S ≡ with_lists (log_of C R) (first_link l) (first_round_link r)
   new_log = ap (λ x. log_of x S) d ∙ ap (log_of (C ++ record { link = l; own = [] } ∷ [])) e ∙ seen-lists C R l r
@@ -214,12 +271,23 @@ module _ {A : Type 0} (C : List (Chain (code.Command A))) (R : List (Chain Part)
   round_link_short (Some p) = omega arith
 
   pub lists-commands : HasOneListMore log.commands (map commands_seen D)
-  lists-commands = (first_link l, link_short l, ap (λ x. x.commands) new_log ∙ ap (λ x. x.commands ++ first_link l ∷ []) seen)
+  lists-commands = (
+    first_link l,
+    link_short l,
+    ap (λ x. x.commands) new_log
+        ∙ ap (λ x. x.commands ++ first_link l ∷ []) seen,
+  )
 
   pub lists-rounds : HasOneListMore log.rounds (map rounds_seen S)
-  lists-rounds = (first_round_link r, round_link_short r, ap (λ x. x.rounds) new_log ∙ ap (λ x. x.rounds ++ first_round_link r ∷ []) seen)
+  lists-rounds = (
+    first_round_link r,
+    round_link_short r,
+    ap (λ x. x.rounds) new_log
+        ∙ ap (λ x. x.rounds ++ first_round_link r ∷ []) seen,
+  )
 
-  module _ (current finished : Part) (i : current ≡ record { list = length C; first = link_len l }) (j : finished ≡ record { list = length R; first = link_len r }) where
+  module _ (current finished : Part) (i : current ≡ record { list = length C; first = link_len l })
+      (j : finished ≡ record { list = length R; first = link_len r }) where
     first_len : (k : Option Part) → length (first_link k) ≡ link_len k
     first_len None = refl
     first_len (Some p) = refl
@@ -232,13 +300,19 @@ module _ {A : Type 0} (C : List (Chain (code.Command A))) (R : List (Chain Part)
     part_is p n m a b = ap (λ x. record { list = x; first = p.first }) a ∙ ap (λ x. record { list = n; first = x }) b
 
     current_is : record { list = length (map commands_seen C); first = length (first_link l) } ≡ current
-    current_is = part_is (record { list = length (map commands_seen C); first = length (first_link l) }) (length C) (link_len l) (length-mapped commands_seen C) (first_len l) ∙ sym i
+    current_is = part_is (record { list = length (map commands_seen C); first = length (first_link l) }) (length C)
+        (link_len l) (length-mapped commands_seen C) (first_len l) ∙ sym i
 
     finished_is : record { list = length (map rounds_seen R); first = length (first_round_link r) } ≡ finished
-    finished_is = part_is (record { list = length (map rounds_seen R); first = length (first_round_link r) }) (length R) (link_len r) (length-mapped rounds_seen R) (first_round_len r) ∙ sym j
+    finished_is = part_is (record { list = length (map rounds_seen R); first = length (first_round_link r) }) (length R)
+        (link_len r) (length-mapped rounds_seen R) (first_round_len r) ∙ sym j
 
-    new_handle : next_handle (log_of C R) (first_link l) (first_round_link r) ≡ record { current = current; finished = finished }
-    new_handle = ap (λ p. record { current = p; finished = record { list = length (map rounds_seen R); first = length (first_round_link r) } }) current_is
+    new_handle : next_handle (log_of C R) (first_link l) (first_round_link r)
+        ≡ record { current = current; finished = finished }
+    new_handle = ap (λ p. record {
+      current = p;
+      finished = record { list = length (map rounds_seen R); first = length (first_round_link r) };
+    }) current_is
         ∙ ap (λ p. record { current = current; finished = p }) finished_is
 
     pub lists-given : IsGiven log (log_of D S) (record { current = current; finished = finished })
@@ -248,7 +322,8 @@ module _ {A : Type 0} (C : List (Chain (code.Command A))) (R : List (Chain Part)
         (subst (λ h. IsGiven (log_of C R) (with_lists (log_of C R) (first_link l) (first_round_link r)) h) new_handle
         (given (log_of C R) (first_link l) (first_round_link r))))
 
-    pub lists-account : (a : Account) → Gives (log_of C R) no_commands (first_link l) a.current × GivesRounds (log_of C R) no_command_rounds (first_round_link r) a.finished →
+    pub lists-account : (a : Account) → Gives (log_of C R) no_commands (first_link l) a.current
+        × GivesRounds (log_of C R) no_command_rounds (first_round_link r) a.finished →
         IsAccount (log_of D S) (record { current = current; finished = finished }) a
     lists-account a g =
         subst (λ x. IsAccount x (record { current = current; finished = finished }) a) (sym new_log)

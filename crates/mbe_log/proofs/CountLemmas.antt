@@ -12,7 +12,8 @@ use Rattle.mbe_log.specs.BindingViews.{value_seen, values_seen}
 pub stopped : (most c b r : ℕ) → min (min (c + min b most) most + r) most ≡ min (c + (b + r)) most
 stopped most c b r = go (cases_lt b most) (cases_lt (c + min b most) most)
   where
-    go : (b < most) ⊎ (most ≤ b) → (c + min b most < most) ⊎ (most ≤ c + min b most) → min (min (c + min b most) most + r) most ≡ min (c + (b + r)) most
+    go : (b < most) ⊎ (most ≤ b) → (c + min b most < most) ⊎ (most ≤ c + min b most)
+        → min (min (c + min b most) most + r) most ≡ min (c + (b + r)) most
     go (inl l) (inl k) =
         let e : min b most ≡ b = min-eq_left (omega (arith, l)) in
         let f : min (c + min b most) most ≡ c + min b most = min-eq_left (omega (arith, k)) in
@@ -28,8 +29,11 @@ stopped most c b r = go (cases_lt b most) (cases_lt (c + min b most) most)
 
 -- one value more of a list
 pub counts_step : {A : Type 0} (xs : List (Binding A)) (i : ℕ) (x : Binding A) → i < length xs → x ≡ get_or xs i x
-    → binding_counts (values_seen (drop i xs)) ≡ binding_count (value_seen x) + binding_counts (values_seen (drop (i + 1) xs))
-counts_step xs i x h e = ap (λ ys. binding_counts (values_seen ys)) (drop_more xs i x h ∙ ap (λ y. y ∷ drop (i + 1) xs) (sym e))
+    → binding_counts (values_seen (drop i xs))
+    ≡ binding_count (value_seen x) + binding_counts (values_seen (drop (i + 1) xs))
+counts_step xs i x h e = ap (λ ys. binding_counts (values_seen ys))
+    (drop_more xs i x h ∙ ap (λ y. y ∷ drop (i + 1) xs) (sym e))
 
-pub counts_end : {A : Type 0} (xs : List (Binding A)) (i : ℕ) → length xs ≤ i → binding_counts (values_seen (drop i xs)) ≡ 0
+pub counts_end : {A : Type 0} (xs : List (Binding A)) (i : ℕ) → length xs ≤ i
+    → binding_counts (values_seen (drop i xs)) ≡ 0
 counts_end xs i h = ap (λ ys. binding_counts (values_seen ys)) (drop_all i xs h)

@@ -20,7 +20,8 @@ pub take-whole : {X : Type 0} (xs : List X) → take (length xs) xs ≡ xs
 take-whole [] = refl
 take-whole (x ∷ xs) = ap (λ t. x ∷ t) (take-whole xs)
 
-pub get-front : {X : Type 0} (xs ys : List X) (i : ℕ) (x : X) → slice_get xs i ≡ Some x → slice_get (xs ++ ys) i ≡ Some x
+pub get-front : {X : Type 0} (xs ys : List X) (i : ℕ) (x : X) → slice_get xs i ≡ Some x
+    → slice_get (xs ++ ys) i ≡ Some x
 get-front [] ys i x h = cc
 get-front (y ∷ xs) ys zero x h = h
 get-front (y ∷ xs) ys (suc i) x h = get-front xs ys i x h
@@ -37,7 +38,8 @@ get-more [] y x (suc i) h = absurd (let e : ⊥ = cc in e)
 get-more (z ∷ xs) y x zero h = inl h
 get-more (z ∷ xs) y x (suc i) h = go (get-more xs y x i h)
   where
-    go : (slice_get xs i ≡ Some x) ⊎ ((i ≡ length xs) × (y ≡ x)) → (slice_get xs i ≡ Some x) ⊎ ((suc i ≡ suc (length xs)) × (y ≡ x))
+    go : (slice_get xs i ≡ Some x) ⊎ ((i ≡ length xs) × (y ≡ x))
+        → (slice_get xs i ≡ Some x) ⊎ ((suc i ≡ suc (length xs)) × (y ≡ x))
     go (inl k) = inl k
     go (inr k) = inr (ap suc k.0, k.1)
 
@@ -51,12 +53,14 @@ length-appended [] i e = refl
 length-appended (es ∷ ess) zero e = refl
 length-appended (es ∷ ess) (suc i) e = ap suc (length-appended ess i e)
 
-pub appended-same : {E : Type 0} (ess : List (List E)) (i : ℕ) (e : E) (es : List E) → slice_get ess i ≡ Some es → slice_get (appended ess i e) i ≡ Some (es ++ e ∷ [])
+pub appended-same : {E : Type 0} (ess : List (List E)) (i : ℕ) (e : E) (es : List E) → slice_get ess i ≡ Some es
+    → slice_get (appended ess i e) i ≡ Some (es ++ e ∷ [])
 appended-same [] i e es h = cc
 appended-same (fs ∷ ess) zero e es h = let k : fs ≡ es = cc in ap (λ x. Some (x ++ e ∷ [])) k
 appended-same (fs ∷ ess) (suc i) e es h = appended-same ess i e es h
 
-pub appended-other : {E : Type 0} (ess : List (List E)) (i j : ℕ) (e : E) → i ≢ j → slice_get (appended ess i e) j ≡ slice_get ess j
+pub appended-other : {E : Type 0} (ess : List (List E)) (i j : ℕ) (e : E) → i ≢ j
+    → slice_get (appended ess i e) j ≡ slice_get ess j
 appended-other [] i j e n = refl
 appended-other (fs ∷ ess) zero zero e n = absurd (n refl)
 appended-other (fs ∷ ess) zero (suc j) e n = refl
@@ -74,18 +78,21 @@ same_or_not (suc i) (suc j) = go (same_or_not i j)
     go (inr n) = inr (λ h. n (omega (arith, h)))
 
 -- what is in a list of lists where one has one entry more
-pub get-appended : {E : Type 0} (ess : List (List E)) (i j : ℕ) (e : E) (fs : List E) → slice_get (appended ess i e) j ≡ Some fs →
+pub get-appended : {E : Type 0} (ess : List (List E)) (i j : ℕ) (e : E) (fs : List E)
+    → slice_get (appended ess i e) j ≡ Some fs →
     (slice_get ess j ≡ Some fs) ⊎ ((es : List E) × (slice_get ess j ≡ Some es) × (i ≡ j) × (fs ≡ es ++ e ∷ []))
 get-appended {E} ess i j e fs h = go (same_or_not i j)
   where
     j_there : j < length ess
     j_there = let k = in_range (appended ess i e) j fs h in let l = length-appended ess i e in omega (arith, k, l)
 
-    go : (i ≡ j) ⊎ (i ≢ j) → (slice_get ess j ≡ Some fs) ⊎ ((es : List E) × (slice_get ess j ≡ Some es) × (i ≡ j) × (fs ≡ es ++ e ∷ []))
+    go : (i ≡ j) ⊎ (i ≢ j) → (slice_get ess j ≡ Some fs)
+        ⊎ ((es : List E) × (slice_get ess j ≡ Some es) × (i ≡ j) × (fs ≡ es ++ e ∷ []))
     go (inl k) =
         let t = there ess j j_there in
         let u : slice_get (appended ess i e) j ≡ Some (t.0 ++ e ∷ []) =
-        subst (λ x. slice_get (appended ess i e) x ≡ Some (t.0 ++ e ∷ [])) k (appended-same ess i e t.0 (subst (λ x. slice_get ess x ≡ Some t.0) (sym k) t.1)) in
+        subst (λ x. slice_get (appended ess i e) x ≡ Some (t.0 ++ e ∷ [])) k
+        (appended-same ess i e t.0 (subst (λ x. slice_get ess x ≡ Some t.0) (sym k) t.1)) in
         let v : fs ≡ t.0 ++ e ∷ [] = cc in
         inr (t.0, t.1, k, v)
     go (inr n) = inl (sym (appended-other ess i j e n) ∙ h)
@@ -105,12 +112,18 @@ more-list ess es = record { more = λ i fs h. ([], get-front ess (es ∷ []) i f
 pub more-entry : {E : Type 0} (ess : List (List E)) (i : ℕ) (e : E) → HasMore ess (appended ess i e)
 more-entry {E} ess i e = record { more = λ j es h. go j es h (same_or_not i j) }
   where
-    go : (j : ℕ) (es : List E) → slice_get ess j ≡ Some es → (i ≡ j) ⊎ (i ≢ j) → (fs : List E) × (slice_get (appended ess i e) j ≡ Some (es ++ fs))
-    go j es h (inl k) = (e ∷ [], subst (λ x. slice_get (appended ess i e) x ≡ Some (es ++ e ∷ [])) k (appended-same ess i e es (subst (λ x. slice_get ess x ≡ Some es) (sym k) h)))
+    go : (j : ℕ) (es : List E) → slice_get ess j ≡ Some es → (i ≡ j) ⊎ (i ≢ j)
+        → (fs : List E) × (slice_get (appended ess i e) j ≡ Some (es ++ fs))
+    go j es h (inl k) = (
+      e ∷ [],
+      subst (λ x. slice_get (appended ess i e) x ≡ Some (es ++ e ∷ [])) k
+          (appended-same ess i e es (subst (λ x. slice_get ess x ≡ Some es) (sym k) h)),
+    )
     go j es h (inr n) = ([], appended-other ess i j e n ∙ h ∙ ap Some (sym (append-nil es)))
 
 pub in-more : {E : Type 0} {old new : List (List E)} → HasMore old new → (p : Part) → IsIn old p → IsIn new p
-in-more m p i = let k = m.more p.list i.0 i.1 in (i.0 ++ k.0, k.1, let l = length-append i.0 k.0 in let b = i.2 in omega (arith, l, b))
+in-more m p i = let k = m.more p.list i.0 i.1 in
+    (i.0 ++ k.0, k.1, let l = length-append i.0 k.0 in let b = i.2 in omega (arith, l, b))
 
 -- no list goes
 longer : {E : Type 0} {old new : List (List E)} → HasMore old new → length old ≤ length new
@@ -118,7 +131,8 @@ longer {E} {old} {new} m = go (length old) (omega arith)
   where
     go : (n : ℕ) → n ≤ length old → n ≤ length new
     go zero h = omega arith
-    go (suc n) h = let t = there old n (omega (arith, h)) in let k = m.more n t.0 t.1 in let a = in_range new n (t.0 ++ k.0) k.1 in omega (arith, a)
+    go (suc n) h = let t = there old n (omega (arith, h)) in let k = m.more n t.0 t.1 in let a =
+        in_range new n (t.0 ++ k.0) k.1 in omega (arith, a)
 
 module _ (old new : Log) (c : HasMore old.commands new.commands) (r : HasMore old.rounds new.rounds) where
   mutual
@@ -128,7 +142,8 @@ module _ (old new : Log) (c : HasMore old.commands new.commands) (r : HasMore ol
     gives (gives_empty cs name es all h) = gives_empty cs name es all (gives h)
     gives (gives_skip cs name es all h) = gives_skip cs name es all (gives h)
     gives (gives_missing cs name kind es all h) = gives_missing cs name kind es all (gives h)
-    gives (gives_nested cs finished current es rs ds all p q h) = gives_nested cs finished current es rs ds all (part_rounds p) (part q) (gives h)
+    gives (gives_nested cs finished current es rs ds all p q h) =
+        gives_nested cs finished current es rs ds all (part_rounds p) (part q) (gives h)
     gives (gives_link cs p es ds all q h) = gives_link cs p es ds all (part q) (gives h)
 
     pub rounds : {rs all : CommandRounds} {es : List RoundEntry} → GivesRounds old rs es all → GivesRounds new rs es all
@@ -151,42 +166,66 @@ module _ (old new : Log) (c : HasMore old.commands new.commands) (r : HasMore ol
   -- all handles are as they were
   pub kept : IsKept old new
   kept = record {
-    stays = λ k l. (let a = l.0 in let b = longer c in omega (arith, a, b), let a = l.1 in let b = longer r in omega (arith, a, b));
+    stays = λ k l. (
+      let a = l.0 in let b = longer c in omega (arith, a, b),
+      let a = l.1 in let b = longer r in
+          omega (arith, a, b),
+    );
     entries = λ k l. (in-more c k.current l.0, in-more r k.finished l.1);
     others = λ k a h. record { current = part h.current; finished = part_rounds h.finished };
   }
 
 -- entries after those that are there
-pub follow : (log : Log) {cs middle : Commands} {es : List Entry} → Gives log cs es middle → (more : List Entry) (all : Commands) → Gives log middle more all → Gives log cs (es ++ more) all
+pub follow : (log : Log) {cs middle : Commands} {es : List Entry} → Gives log cs es middle
+    → (more : List Entry) (all : Commands) → Gives log middle more all → Gives log cs (es ++ more) all
 follow log (gives_nothing cs) more all h = h
-follow log (gives_binding cs name x es _ r) more all h = gives_binding cs name x (es ++ more) all (follow log r more all h)
+follow log (gives_binding cs name x es _ r) more all h =
+    gives_binding cs name x (es ++ more) all (follow log r more all h)
 follow log (gives_empty cs name es _ r) more all h = gives_empty cs name (es ++ more) all (follow log r more all h)
 follow log (gives_skip cs name es _ r) more all h = gives_skip cs name (es ++ more) all (follow log r more all h)
-follow log (gives_missing cs name kind es _ r) more all h = gives_missing cs name kind (es ++ more) all (follow log r more all h)
-follow log (gives_nested cs finished current es rs ds _ p q r) more all h = gives_nested cs finished current (es ++ more) rs ds all p q (follow log r more all h)
+follow log (gives_missing cs name kind es _ r) more all h =
+    gives_missing cs name kind (es ++ more) all (follow log r more all h)
+follow log (gives_nested cs finished current es rs ds _ p q r) more all h =
+    gives_nested cs finished current (es ++ more) rs ds all p q (follow log r more all h)
 follow log (gives_link cs p es ds _ q r) more all h = gives_link cs p (es ++ more) ds all q (follow log r more all h)
 
-pub rounds_follow : (log : Log) {rs middle : CommandRounds} {es : List RoundEntry} → GivesRounds log rs es middle → (more : List RoundEntry) (all : CommandRounds) →
+pub rounds_follow : (log : Log) {rs middle : CommandRounds} {es : List RoundEntry} → GivesRounds log rs es middle
+    → (more : List RoundEntry) (all : CommandRounds) →
     GivesRounds log middle more all → GivesRounds log rs (es ++ more) all
 rounds_follow log (gives_no_rounds rs) more all h = h
-rounds_follow log (gives_round rs p es cs _ q r) more all h = gives_round rs p (es ++ more) cs all q (rounds_follow log r more all h)
-rounds_follow log (gives_linked_rounds rs p es qs _ q r) more all h = gives_linked_rounds rs p (es ++ more) qs all q (rounds_follow log r more all h)
+rounds_follow log (gives_round rs p es cs _ q r) more all h =
+    gives_round rs p (es ++ more) cs all q (rounds_follow log r more all h)
+rounds_follow log (gives_linked_rounds rs p es qs _ q r) more all h =
+    gives_linked_rounds rs p (es ++ more) qs all q (rounds_follow log r more all h)
 
 -- one entry that isn't a link
-pub gives_one : (log : Log) (cs : Commands) (e : Entry) (c : Command) → GivesCommand log e c → Gives log cs (e ∷ []) (command cs c)
-gives_one log cs (Entry.binds name x) c h = subst (λ d. Gives log cs (Entry.binds name x ∷ []) (command cs d)) (sym h) (gives_binding cs name x [] _ (gives_nothing _))
-gives_one log cs (Entry.binds_nothing name) c h = subst (λ d. Gives log cs (Entry.binds_nothing name ∷ []) (command cs d)) (sym h) (gives_empty cs name [] _ (gives_nothing _))
-gives_one log cs (Entry.skips name) c h = subst (λ d. Gives log cs (Entry.skips name ∷ []) (command cs d)) (sym h) (gives_skip cs name [] _ (gives_nothing _))
-gives_one log cs (Entry.misses name kind) c h = subst (λ d. Gives log cs (Entry.misses name kind ∷ []) (command cs d)) (sym h) (gives_missing cs name kind [] _ (gives_nothing _))
+pub gives_one : (log : Log) (cs : Commands) (e : Entry) (c : Command) → GivesCommand log e c
+    → Gives log cs (e ∷ []) (command cs c)
+gives_one log cs (Entry.binds name x) c h =
+    subst (λ d. Gives log cs (Entry.binds name x ∷ []) (command cs d)) (sym h)
+    (gives_binding cs name x [] _ (gives_nothing _))
+gives_one log cs (Entry.binds_nothing name) c h =
+    subst (λ d. Gives log cs (Entry.binds_nothing name ∷ []) (command cs d)) (sym h)
+    (gives_empty cs name [] _ (gives_nothing _))
+gives_one log cs (Entry.skips name) c h =
+    subst (λ d. Gives log cs (Entry.skips name ∷ []) (command cs d)) (sym h) (gives_skip cs name [] _ (gives_nothing _))
+gives_one log cs (Entry.misses name kind) c h =
+    subst (λ d. Gives log cs (Entry.misses name kind ∷ []) (command cs d)) (sym h)
+    (gives_missing cs name kind [] _ (gives_nothing _))
 gives_one log cs (Entry.nests finished current) c (rs, ds, p, q, h) =
-    subst (λ d. Gives log cs (Entry.nests finished current ∷ []) (command cs d)) (sym h) (gives_nested cs finished current [] rs ds _ p q (gives_nothing _))
+    subst (λ d. Gives log cs (Entry.nests finished current ∷ []) (command cs d)) (sym h)
+    (gives_nested cs finished current [] rs ds _ p q (gives_nothing _))
 gives_one log cs (Entry.links part) c h = absurd h
 
 -- the whole of a list
-pub whole : (log : Log) (i : ℕ) (es : List Entry) (cs all : Commands) → slice_get log.commands i ≡ Some es → Gives log cs es all →
+pub whole : (log : Log) (i : ℕ) (es : List Entry) (cs all : Commands) → slice_get log.commands i ≡ Some es
+    → Gives log cs es all →
     PartGives log cs (record { list = i; first = length es }) all
-whole log i es cs all e h = part_gives cs _ all es e (omega arith) (subst (λ x. Gives log cs x all) (sym (take-whole es)) h)
+whole log i es cs all e h = part_gives cs _ all es e (omega arith)
+    (subst (λ x. Gives log cs x all) (sym (take-whole es)) h)
 
-pub whole_rounds : (log : Log) (i : ℕ) (es : List RoundEntry) (rs all : CommandRounds) → slice_get log.rounds i ≡ Some es → GivesRounds log rs es all →
+pub whole_rounds : (log : Log) (i : ℕ) (es : List RoundEntry) (rs all : CommandRounds)
+    → slice_get log.rounds i ≡ Some es → GivesRounds log rs es all →
     PartGivesRounds log rs (record { list = i; first = length es }) all
-whole_rounds log i es rs all e h = part_gives_rounds rs _ all es e (omega arith) (subst (λ x. GivesRounds log rs x all) (sym (take-whole es)) h)
+whole_rounds log i es rs all e h = part_gives_rounds rs _ all es e (omega arith)
+    (subst (λ x. GivesRounds log rs x all) (sym (take-whole es)) h)

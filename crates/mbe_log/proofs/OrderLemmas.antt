@@ -19,13 +19,16 @@ in_list (Some es) j = slice_get es j
 abbrev entry_in : {E : Type 0} → List (List E) → ℕ → ℕ → Option E
 entry_in ess i j = in_list (slice_get ess i) j
 
-entry_found : {E : Type 0} (ess : List (List E)) (i j : ℕ) (es : List E) (e : E) → slice_get ess i ≡ Some es → slice_get es j ≡ Some e → entry_in ess i j ≡ Some e
+entry_found : {E : Type 0} (ess : List (List E)) (i j : ℕ) (es : List E) (e : E) → slice_get ess i ≡ Some es
+    → slice_get es j ≡ Some e → entry_in ess i j ≡ Some e
 entry_found ess i j es e h k = ap (λ o. in_list o j) h ∙ k
 
-list_of : {E : Type 0} (ess : List (List E)) (i j : ℕ) (e : E) → entry_in ess i j ≡ Some e → (es : List E) × (slice_get ess i ≡ Some es) × (slice_get es j ≡ Some e)
+list_of : {E : Type 0} (ess : List (List E)) (i j : ℕ) (e : E) → entry_in ess i j ≡ Some e
+    → (es : List E) × (slice_get ess i ≡ Some es) × (slice_get es j ≡ Some e)
 list_of {E} ess i j e h = go (slice_get ess i) refl h
   where
-    go : (o : Option (List E)) → slice_get ess i ≡ o → in_list o j ≡ Some e → (es : List E) × (slice_get ess i ≡ Some es) × (slice_get es j ≡ Some e)
+    go : (o : Option (List E)) → slice_get ess i ≡ o → in_list o j ≡ Some e
+        → (es : List E) × (slice_get ess i ≡ Some es) × (slice_get es j ≡ Some e)
     go None s k = absurd (let z : ⊥ = cc in z)
     go (Some es) s k = (es, s, k)
 
@@ -39,20 +42,25 @@ every-at P (y ∷ xs) h zero x k = subst P (let e : y ≡ x = cc in e) h.0
 every-at P (y ∷ xs) h (suc j) x k = every-at P xs h.1 j x k
 
 -- a number above those of all entries of a list
-above_list : {E : Type 0} (es : List E) (number : ℕ → ℕ) → (n : ℕ) × ((j : ℕ) (e : E) → slice_get es j ≡ Some e → number j < n)
+above_list : {E : Type 0} (es : List E) (number : ℕ → ℕ)
+    → (n : ℕ) × ((j : ℕ) (e : E) → slice_get es j ≡ Some e → number j < n)
 above_list [] number = (0, λ j e h. absurd (let z : ⊥ = cc in z))
 above_list {E} (x ∷ es) number = let p = above_list es (λ j. number (suc j)) in (1 + number 0 + p.0, go p)
   where
-    go : (p : (n : ℕ) × ((j : ℕ) (e : E) → slice_get es j ≡ Some e → number (suc j) < n)) (j : ℕ) (e : E) → slice_get (x ∷ es) j ≡ Some e → number j < 1 + number 0 + p.0
+    go : (p : (n : ℕ) × ((j : ℕ) (e : E) → slice_get es j ≡ Some e → number (suc j) < n)) (j : ℕ) (e : E)
+        → slice_get (x ∷ es) j ≡ Some e → number j < 1 + number 0 + p.0
     go p zero e h = omega arith
     go p (suc j) e h = let a = p.1 j e h in omega (arith, a)
 
 -- and of all lists
-above_lists : {E : Type 0} (ess : List (List E)) (number : ℕ → ℕ → ℕ) → (n : ℕ) × ((i j : ℕ) (e : E) → entry_in ess i j ≡ Some e → number i j < n)
+above_lists : {E : Type 0} (ess : List (List E)) (number : ℕ → ℕ → ℕ)
+    → (n : ℕ) × ((i j : ℕ) (e : E) → entry_in ess i j ≡ Some e → number i j < n)
 above_lists [] number = (0, λ i j e h. absurd (let z : ⊥ = cc in z))
-above_lists {E} (es ∷ ess) number = let p = above_list es (number 0) in let q = above_lists ess (λ i. number (suc i)) in (p.0 + q.0, go p q)
+above_lists {E} (es ∷ ess) number = let p = above_list es (number 0) in let q =
+    above_lists ess (λ i. number (suc i)) in (p.0 + q.0, go p q)
   where
-    go : (p : (n : ℕ) × ((j : ℕ) (e : E) → slice_get es j ≡ Some e → number 0 j < n)) (q : (n : ℕ) × ((i j : ℕ) (e : E) → entry_in ess i j ≡ Some e → number (suc i) j < n))
+    go : (p : (n : ℕ) × ((j : ℕ) (e : E) → slice_get es j ≡ Some e → number 0 j < n))
+        (q : (n : ℕ) × ((i j : ℕ) (e : E) → entry_in ess i j ≡ Some e → number (suc i) j < n))
         (i j : ℕ) (e : E) → entry_in (es ∷ ess) i j ≡ Some e → number i j < p.0 + q.0
     go p q zero j e h = let a = p.1 j e h in omega (arith, a)
     go p q (suc i) j e h = let a = q.1 i j e h in omega (arith, a)
@@ -69,32 +77,39 @@ abbrev RoundStandsWithin : Log → RoundEntry → Type 0
 RoundStandsWithin log (RoundEntry.finishes part) = IsIn log.commands part
 RoundStandsWithin log (RoundEntry.links part) = IsIn log.rounds part
 
--- an entry of the new lists is in its place in the old ones, where nothing else is, or it is added and meets the condition
+-- an entry of the new lists is in its place in the old ones, where nothing else is, or it is added and meets the
+-- condition
 abbrev Adds : {E : Type 0} → (E → Type 0) → List (List E) → List (List E) → Type 0
 Adds {E} P old new =
-    (i j : ℕ) (es : List E) (e : E) → slice_get new i ≡ Some es → slice_get es j ≡ Some e → (entry_in old i j ≡ Some e) ⊎ ((entry_in old i j ≡ None) × P e)
+    (i j : ℕ) (es : List E) (e : E) → slice_get new i ≡ Some es → slice_get es j ≡ Some e
+    → (entry_in old i j ≡ Some e) ⊎ ((entry_in old i j ≡ None) × P e)
 
 pub adds-none : {E : Type 0} (P : E → Type 0) (ess : List (List E)) → Adds P ess ess
 adds-none P ess i j es e h k = inl (entry_found ess i j es e h k)
 
-pub adds-list : {E : Type 0} (P : E → Type 0) (ess : List (List E)) (new : List E) → Every P new → Adds P ess (ess ++ new ∷ [])
+pub adds-list : {E : Type 0} (P : E → Type 0) (ess : List (List E)) (new : List E) → Every P new
+    → Adds P ess (ess ++ new ∷ [])
 adds-list {E} P ess new w i j es e h k = go (get-more ess new es i h)
   where
-    go : (slice_get ess i ≡ Some es) ⊎ ((i ≡ length ess) × (new ≡ es)) → (entry_in ess i j ≡ Some e) ⊎ ((entry_in ess i j ≡ None) × P e)
+    go : (slice_get ess i ≡ Some es) ⊎ ((i ≡ length ess) × (new ≡ es))
+        → (entry_in ess i j ≡ Some e) ⊎ ((entry_in ess i j ≡ None) × P e)
     go (inl s) = inl (entry_found ess i j es e s k)
     go (inr s) = inr (
       ap (λ n. entry_in ess n j) s.0 ∙ ap (λ o. in_list o j) (none_after ess),
       every-at P new w j e (ap (λ xs. slice_get xs j) s.1 ∙ k),
     )
 
-pub adds-entry : {E : Type 0} (P : E → Type 0) (ess : List (List E)) (at : ℕ) (new : E) → P new → Adds P ess (appended ess at new)
+pub adds-entry : {E : Type 0} (P : E → Type 0) (ess : List (List E)) (at : ℕ) (new : E) → P new
+    → Adds P ess (appended ess at new)
 adds-entry {E} P ess at new w i j es e h k = go (get-appended ess at i new es h)
   where
-    last : (xs : List E) → slice_get ess i ≡ Some xs → (slice_get xs j ≡ Some e) ⊎ ((j ≡ length xs) × (new ≡ e)) → (entry_in ess i j ≡ Some e) ⊎ ((entry_in ess i j ≡ None) × P e)
+    last : (xs : List E) → slice_get ess i ≡ Some xs → (slice_get xs j ≡ Some e) ⊎ ((j ≡ length xs) × (new ≡ e))
+        → (entry_in ess i j ≡ Some e) ⊎ ((entry_in ess i j ≡ None) × P e)
     last xs s (inl t) = inl (entry_found ess i j xs e s t)
     last xs s (inr t) = inr (ap (λ o. in_list o j) s ∙ ap (slice_get xs) t.0 ∙ none_after xs, subst P t.1 w)
 
-    go : (slice_get ess i ≡ Some es) ⊎ ((xs : List E) × (slice_get ess i ≡ Some xs) × (at ≡ i) × (es ≡ xs ++ new ∷ [])) → (entry_in ess i j ≡ Some e) ⊎ ((entry_in ess i j ≡ None) × P e)
+    go : (slice_get ess i ≡ Some es) ⊎ ((xs : List E) × (slice_get ess i ≡ Some xs) × (at ≡ i) × (es ≡ xs ++ new ∷ []))
+        → (entry_in ess i j ≡ Some e) ⊎ ((entry_in ess i j ≡ None) × P e)
     go (inl s) = inl (entry_found ess i j es e s k)
     go (inr s) = last s.0 s.1 (get-more s.0 new e j (ap (λ xs. slice_get xs j) (sym s.3) ∙ k))
 
@@ -108,7 +123,8 @@ within log (gives_missing cs name kind es all h) = (tt, within log h)
 within log (gives_nested cs finished current es rs ds all p q h) = ((in_of_rounds log p, in_of log q), within log h)
 within log (gives_link cs part es ds all q h) = (in_of log q, within log h)
 
-pub rounds-within : (log : Log) {rs all : CommandRounds} {es : List RoundEntry} → GivesRounds log rs es all → Every (RoundStandsWithin log) es
+pub rounds-within : (log : Log) {rs all : CommandRounds} {es : List RoundEntry} → GivesRounds log rs es all
+    → Every (RoundStandsWithin log) es
 rounds-within log (gives_no_rounds rs) = tt
 rounds-within log (gives_round rs part es cs all q h) = (in_of log q, rounds-within log h)
 rounds-within log (gives_linked_rounds rs part es qs all q h) = (in_of_rounds log q, rounds-within log h)
@@ -123,8 +139,10 @@ command-within log (Entry.links part) c h = absurd h
 
 -- ---- the order
 
-module _ (old new : Log) (order : Order) (o : IsOrdered old order) (c : HasMore old.commands new.commands) (r : HasMore old.rounds new.rounds)
-    (added : Adds (StandsWithin old) old.commands new.commands) (rounds_added : Adds (RoundStandsWithin old) old.rounds new.rounds) where
+module _ (old new : Log) (order : Order) (o : IsOrdered old order) (c : HasMore old.commands new.commands)
+    (r : HasMore old.rounds new.rounds)
+    (added : Adds (StandsWithin old) old.commands new.commands)
+    (rounds_added : Adds (RoundStandsWithin old) old.rounds new.rounds) where
   commands_above : (n : ℕ) × ((i j : ℕ) (e : Entry) → entry_in old.commands i j ≡ Some e → order.commands i j < n)
   commands_above = above_lists old.commands order.commands
 
@@ -145,17 +163,22 @@ module _ (old new : Log) (order : Order) (o : IsOrdered old order) (c : HasMore 
     rounds = λ i j. numbered (entry_in old.rounds i j) (order.rounds i j);
   }
 
-  below : (n : ℕ) (p : Part) → IsIn old.commands p → ((j : ℕ) (e : Entry) → j < p.first → entry_in old.commands p.list j ≡ Some e → order.commands p.list j < n) → IsBelow new later n p
+  below : (n : ℕ) (p : Part) → IsIn old.commands p
+      → ((j : ℕ) (e : Entry) → j < p.first → entry_in old.commands p.list j ≡ Some e → order.commands p.list j < n)
+      → IsBelow new later n p
   below n p i b = (in-more c p i, λ j l. go j l)
     where
       go : (j : ℕ) → j < p.first → later.commands p.list j < n
       go j l =
           let t = there i.0 j (let m = i.2 in omega (arith, l, m)) in
           let f = entry_found old.commands p.list j i.0 t.0 i.1 t.1 in
-          let s : later.commands p.list j ≡ order.commands p.list j = ap (λ x. numbered x (order.commands p.list j)) f in
+          let s : later.commands p.list j ≡ order.commands p.list j =
+          ap (λ x. numbered x (order.commands p.list j)) f in
           let a = b j t.0 l f in omega (arith, s, a)
 
-  rounds_below : (n : ℕ) (p : Part) → IsIn old.rounds p → ((j : ℕ) (e : RoundEntry) → j < p.first → entry_in old.rounds p.list j ≡ Some e → order.rounds p.list j < n) → AreRoundsBelow new later n p
+  rounds_below : (n : ℕ) (p : Part) → IsIn old.rounds p
+      → ((j : ℕ) (e : RoundEntry) → j < p.first → entry_in old.rounds p.list j ≡ Some e → order.rounds p.list j < n)
+      → AreRoundsBelow new later n p
   rounds_below n p i b = (in-more r p i, λ j l. go j l)
     where
       go : (j : ℕ) → j < p.first → later.rounds p.list j < n
@@ -202,17 +225,25 @@ module _ (old new : Log) (order : Order) (o : IsOrdered old order) (c : HasMore 
   round_lower (RoundEntry.finishes part) s = before part s
   round_lower (RoundEntry.links part) s = rounds_before part s
 
-  commands_ordered : (i j : ℕ) (e : Entry) → (entry_in old.commands i j ≡ Some e) ⊎ ((entry_in old.commands i j ≡ None) × StandsWithin old e) → StandsForLower new later (later.commands i j) e
+  commands_ordered : (i j : ℕ) (e : Entry)
+      → (entry_in old.commands i j ≡ Some e) ⊎ ((entry_in old.commands i j ≡ None) × StandsWithin old e)
+      → StandsForLower new later (later.commands i j) e
   commands_ordered i j e (inl s) =
       let l = list_of old.commands i j e s in
-      subst (λ x. StandsForLower new later (numbered x (order.commands i j)) e) (sym s) (still_lower (order.commands i j) e (o.commands i j l.0 e l.1 l.2))
-  commands_ordered i j e (inr s) = subst (λ x. StandsForLower new later (numbered x (order.commands i j)) e) (sym s.0) (lower e s.1)
+      subst (λ x. StandsForLower new later (numbered x (order.commands i j)) e) (sym s)
+      (still_lower (order.commands i j) e (o.commands i j l.0 e l.1 l.2))
+  commands_ordered i j e (inr s) = subst (λ x. StandsForLower new later (numbered x (order.commands i j)) e) (sym s.0)
+      (lower e s.1)
 
-  rounds_ordered : (i j : ℕ) (e : RoundEntry) → (entry_in old.rounds i j ≡ Some e) ⊎ ((entry_in old.rounds i j ≡ None) × RoundStandsWithin old e) → RoundStandsForLower new later (later.rounds i j) e
+  rounds_ordered : (i j : ℕ) (e : RoundEntry)
+      → (entry_in old.rounds i j ≡ Some e) ⊎ ((entry_in old.rounds i j ≡ None) × RoundStandsWithin old e)
+      → RoundStandsForLower new later (later.rounds i j) e
   rounds_ordered i j e (inl s) =
       let l = list_of old.rounds i j e s in
-      subst (λ x. RoundStandsForLower new later (numbered x (order.rounds i j)) e) (sym s) (round_still_lower (order.rounds i j) e (o.rounds i j l.0 e l.1 l.2))
-  rounds_ordered i j e (inr s) = subst (λ x. RoundStandsForLower new later (numbered x (order.rounds i j)) e) (sym s.0) (round_lower e s.1)
+      subst (λ x. RoundStandsForLower new later (numbered x (order.rounds i j)) e) (sym s)
+      (round_still_lower (order.rounds i j) e (o.rounds i j l.0 e l.1 l.2))
+  rounds_ordered i j e (inr s) = subst (λ x. RoundStandsForLower new later (numbered x (order.rounds i j)) e) (sym s.0)
+      (round_lower e s.1)
 
   stays_ordered : HasOrder new
   stays_ordered = (
@@ -225,5 +256,6 @@ module _ (old new : Log) (order : Order) (o : IsOrdered old order) (c : HasMore 
 
 -- a log that grows by entries which stand for what was there
 pub order-stays : (old new : Log) → HasOrder old → HasMore old.commands new.commands → HasMore old.rounds new.rounds →
-    Adds (StandsWithin old) old.commands new.commands → Adds (RoundStandsWithin old) old.rounds new.rounds → HasOrder new
+    Adds (StandsWithin old) old.commands new.commands → Adds (RoundStandsWithin old) old.rounds new.rounds
+    → HasOrder new
 order-stays old new h c r a b = stays_ordered old new h.0 h.1 c r a b

@@ -20,11 +20,13 @@ AreAfter None more = more ≡ []
 AreAfter (Some x) more = Unit {0}
 
 abbrev pub part_code : Coded Part
-part_code = code_by (ℕ × ℕ) (coded× coded_ℕ coded_ℕ) (λ p. (p.list, p.first)) (λ p. record { list = p.0; first = p.1 }) (λ _. refl)
+part_code = code_by (ℕ × ℕ) (coded× coded_ℕ coded_ℕ) (λ p. (p.list, p.first)) (λ p. record { list = p.0; first = p.1 })
+    (λ _. refl)
 
 abbrev pub chain_code : {T : Type 0} → Coded T → Coded (Chain T)
 chain_code {T} c =
-    code_by (Option Part × List T) (coded× (coded_option part_code) (coded_list c)) (λ l. (l.link, l.own)) (λ p. record { link = p.0; own = p.1 }) (λ _. refl)
+    code_by (Option Part × List T) (coded× (coded_option part_code) (coded_list c)) (λ l. (l.link, l.own))
+    (λ p. record { link = p.0; own = p.1 }) (λ _. refl)
 
 -- a link counts as an entry
 abbrev pub link_len : Option Part → ℕ
@@ -45,7 +47,8 @@ abbrev pub own_in : Option Part → ℕ → ℕ
 own_in None n = n
 own_in (Some p) n = n - 1
 
--- What stands for a part of the list in another one: the part, or what it has in front where it has no entry of its own.
+-- What stands for a part of the list in another one: the part, or what it has in front where it has no entry of its
+-- own.
 abbrev pub link_or : Part → ℕ → Option Part → Option Part
 link_or part zero link = link
 link_or part (suc n) link = Some part
@@ -72,20 +75,25 @@ module _ {T : Type 0} (lists : List (Chain T)) where
 
   -- a list begins with entries of a list before it
   abbrev pub IsChained : Type 0
-  IsChained = (i : ℕ) (l : Chain T) (link : Part) → slice_get lists i ≡ Some l → l.link ≡ Some link → (link.list < i) × IsWithin link
+  IsChained = (i : ℕ) (l : Chain T) (link : Part) → slice_get lists i ≡ Some l → l.link ≡ Some link
+      → (link.list < i) × IsWithin link
 
   -- A part has one entry more: in place where it goes up to the end of its list, else in a new list.
   abbrev pub IsExtended : List (Chain T) → Part → Part → T → Type 0
   IsExtended new part next x =
       (l : Chain T) × (slice_get lists part.list ≡ Some l)
-      × (((part.first ≡ chain_len l) × (new ≡ set lists part.list (longer l x)) × (next ≡ record { list = part.list; first = chain_len (longer l x) }))
-      ⊎ ((part.first < chain_len l) × (new ≡ lists ++ forked part l x ∷ []) × (next ≡ record { list = length lists; first = chain_len (forked part l x) })))
+      × (((part.first ≡ chain_len l) × (new ≡ set lists part.list (longer l x))
+      × (next ≡ record { list = part.list; first = chain_len (longer l x) }))
+      ⊎ ((part.first < chain_len l) × (new ≡ lists ++ forked part l x ∷ [])
+      × (next ≡ record { list = length lists; first = chain_len (forked part l x) })))
 
   -- the entries of a part, where each link is replaced by what it stands for
   pub data Flat : Part → List T → Type 0 where
-    ends : (part : Part) (l : Chain T) (xs : List T) → slice_get lists part.list ≡ Some l → link_in l.link part.first ≡ None →
+    ends : (part : Part) (l : Chain T) (xs : List T) → slice_get lists part.list ≡ Some l
+        → link_in l.link part.first ≡ None →
         xs ≡ take (own_in l.link part.first) l.own → Flat part xs
-    goes_on : (part : Part) (l : Chain T) (link : Part) (ys xs : List T) → slice_get lists part.list ≡ Some l → link_in l.link part.first ≡ Some link →
+    goes_on : (part : Part) (l : Chain T) (link : Part) (ys xs : List T) → slice_get lists part.list ≡ Some l
+        → link_in l.link part.first ≡ Some link →
         Flat link ys → xs ≡ ys ++ take (own_in l.link part.first) l.own → Flat part xs
 
   -- what is at a place: a list, and an index among its own entries

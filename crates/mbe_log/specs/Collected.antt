@@ -12,8 +12,10 @@ module _ {T : Type 0} (lists : List (Chain T)) where
   -- the entries found, last first, and what is in front of them
   abbrev pub Collected : Part → Option Part → List T → Type 0
   Collected part None found = Flat lists part (reverse found)
-  Collected part (Some next) found = IsWithin lists next × ((ys : List T) → Flat lists next ys → Flat lists part (ys ++ reverse found))
+  Collected part (Some next) found = IsWithin lists next
+      × ((ys : List T) → Flat lists next ys → Flat lists part (ys ++ reverse found))
 
   -- the same of the places of the entries found
   abbrev pub PlacesCollected : Part → Option Part → List Part → Type 0
-  PlacesCollected part next places = (found : List T) × (map (entry_at lists) places ≡ map Some found) × Collected part next found
+  PlacesCollected part next places = (found : List T) × (map (entry_at lists) places ≡ map Some found)
+      × Collected part next found

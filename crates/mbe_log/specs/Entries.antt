@@ -43,7 +43,8 @@ log_of commands rounds = record { commands = map commands_seen commands; rounds 
 -- ---- codes
 
 abbrev pub handle_code : Coded Handle
-handle_code = code_by (Part × Part) (coded× part_code part_code) (λ h. (h.current, h.finished)) (λ p. record { current = p.0; finished = p.1 }) (λ _. refl)
+handle_code = code_by (Part × Part) (coded× part_code part_code) (λ h. (h.current, h.finished))
+    (λ p. record { current = p.0; finished = p.1 }) (λ _. refl)
 
 abbrev style_number : Style → ℕ
 style_number plain = 0
@@ -101,7 +102,9 @@ row_entry_row (Entry.links part) = refl
 abbrev entry_code : Coded Entry
 entry_code =
     code_by EntryRow
-    (coded⊎ (coded× name_code fragment_code) (coded⊎ name_code (coded⊎ name_code (coded⊎ (coded× name_code k.the_row.coded) (coded⊎ (coded× part_code part_code) part_code)))))
+    (coded⊎ (coded× name_code fragment_code)
+    (coded⊎ name_code (coded⊎ name_code (coded⊎ (coded× name_code k.the_row.coded)
+    (coded⊎ (coded× part_code part_code) part_code)))))
     entry_row row_entry row_entry_row
 
 abbrev round_row : RoundEntry → Part ⊎ Part
@@ -119,5 +122,7 @@ row_round_row (RoundEntry.links part) = refl
 abbrev pub log_code : Coded Log
 log_code =
     code_by (List (List Entry) × List (List RoundEntry))
-    (coded× (coded_list (coded_list entry_code)) (coded_list (coded_list (code_by (Part ⊎ Part) (coded⊎ part_code part_code) round_row row_round row_round_row))))
+    (coded× (coded_list (coded_list entry_code))
+    (coded_list (coded_list (code_by (Part ⊎ Part) (coded⊎ part_code part_code) round_row row_round
+    row_round_row))))
     (λ l. (l.commands, l.rounds)) (λ p. record { commands = p.0; rounds = p.1 }) (λ _. refl)

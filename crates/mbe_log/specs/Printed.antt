@@ -6,4 +6,5 @@ use Rattle.mbe_semantics.specs.Bindings.Account.{Log}
 -- how many lists it has of each sort, in decimal
 abbrev pub log_text : Log → List ℕ
 log_text log =
-    codes "BindingLog { commands: " ++ (decimal (length log.commands) ++ (codes ", rounds: " ++ (decimal (length log.rounds) ++ codes " }")))
+    codes "BindingLog { commands: " ++ (decimal (length log.commands)
+    ++ (codes ", rounds: " ++ (decimal (length log.rounds) ++ codes " }")))

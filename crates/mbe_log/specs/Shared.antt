@@ -31,7 +31,8 @@ pub record IsGiven (old new : Log) (given : Handle) : Type 0 where
   pub kept : IsKept old new
   pub still : (k : Handle) → IsAtEnd old k → IsAtEnd new k
 
--- A handle becomes another, whose account is turned. Nothing changes for all that were live, the handle as it was among them.
+-- A handle becomes another, whose account is turned. Nothing changes for all that were live, the handle as it was among
+-- them.
 -- Those apart from the handle stay apart from it, and at the end of their lists.
 pub record IsChanged (old new : Log) (before after : Handle) (turned : Account → Account) : Type 0 where
   pub live : IsLive new after
@@ -45,12 +46,14 @@ pub record IsChanged (old new : Log) (before after : Handle) (turned : Account �
 -- A handle at the end of its lists has one command more, in place.
 abbrev pub WritesOne : Log → Handle → Handle → Type 0
 WritesOne old before after =
-    IsAtEnd old before → (after.current ≡ record { list = before.current.list; first = before.current.first + 1 }) × (after.finished ≡ before.finished)
+    IsAtEnd old before → (after.current ≡ record { list = before.current.list; first = before.current.first + 1 })
+    × (after.finished ≡ before.finished)
 
 -- The same of a finished round; the new list of commands is empty.
 abbrev pub WritesRound : Log → Handle → Handle → Type 0
 WritesRound old before after =
-    IsAtEnd old before → (after.current.first ≡ 0) × (after.finished ≡ record { list = before.finished.list; first = before.finished.first + 1 })
+    IsAtEnd old before → (after.current.first ≡ 0)
+    × (after.finished ≡ record { list = before.finished.list; first = before.finished.first + 1 })
 
 abbrev pub len_at : {E : Type 0} → Option (List E) → ℕ
 len_at None = 0

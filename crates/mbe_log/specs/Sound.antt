@@ -1,4 +1,5 @@
--- What is true of a log at all times: each list gives commands, with no more levels than nested commands were written, and
+-- What is true of a log at all times: each list gives commands, with no more levels than nested commands were written,
+-- and
 -- each entry stands for earlier ones alone.
 use Rattle.std.specs.Prelude.{◌≡◌, ◌≤◌, ℕ, suc, max, List, slice_get, Some}
 use Rattle.mbe_semantics.specs.declared.log.Part.{Part}
@@ -30,11 +31,14 @@ HasOrder log = (order : Order) × IsOrdered log order
 
 -- each list gives commands, or rounds, and the entries have an order
 pub record IsGrounded (log : Log) (most : ℕ) : Type 0 where
-  pub commands : (i : ℕ) (es : List Entry) → slice_get log.commands i ≡ Some es → (cs : Commands) × Gives log no_commands es cs × (depth cs ≤ most)
-  pub rounds : (i : ℕ) (es : List RoundEntry) → slice_get log.rounds i ≡ Some es → (rs : CommandRounds) × GivesRounds log no_command_rounds es rs × (rounds_depth rs ≤ most)
+  pub commands : (i : ℕ) (es : List Entry) → slice_get log.commands i ≡ Some es
+      → (cs : Commands) × Gives log no_commands es cs × (depth cs ≤ most)
+  pub rounds : (i : ℕ) (es : List RoundEntry) → slice_get log.rounds i ≡ Some es
+      → (rs : CommandRounds) × GivesRounds log no_command_rounds es rs × (rounds_depth rs ≤ most)
   pub ordered : HasOrder log
 
-pub record IsSound {A : Type 0} (commands : List (Chain (code.Command A))) (rounds : List (Chain Part)) (most : ℕ) : Type 0 where
+pub record IsSound {A : Type 0} (commands : List (Chain (code.Command A))) (rounds : List (Chain Part))
+    (most : ℕ) : Type 0 where
   pub links : IsChained commands
   pub round_links : IsChained rounds
   pub grounded : IsGrounded (log_of commands rounds) most
@@ -48,7 +52,8 @@ GivesCommand log (Entry.binds_nothing name) c = c ≡ Command.binds_nothing name
 GivesCommand log (Entry.skips name) c = c ≡ Command.skips name
 GivesCommand log (Entry.misses name kind) c = c ≡ Command.misses name kind
 GivesCommand log (Entry.nests finished current) c =
-    (rs : CommandRounds) × (ds : Commands) × PartGivesRounds log no_command_rounds finished rs × PartGives log no_commands current ds
+    (rs : CommandRounds) × (ds : Commands) × PartGivesRounds log no_command_rounds finished rs
+    × PartGives log no_commands current ds
     × (c ≡ Command.nests (command_round rs ds))
 GivesCommand log (Entry.links part) c = ⊥
 
@@ -60,5 +65,6 @@ IsCommandGrounded log e most = (c : Command) × GivesCommand log e c × (command
 
 abbrev pub AreRoundsGrounded : Log → Part → Part → ℕ → Type 0
 AreRoundsGrounded log finished last most =
-    (rs : CommandRounds) × (ds : Commands) × PartGivesRounds log no_command_rounds finished rs × PartGives log no_commands last ds
+    (rs : CommandRounds) × (ds : Commands) × PartGivesRounds log no_command_rounds finished rs
+    × PartGives log no_commands last ds
     × (rounds_depth (command_round rs ds) ≤ most)

@@ -230,7 +230,8 @@ pass_goes i argument pattern q m n os ps before between log middle outers firsts
           (reverse (map enter (map after_of (first_moves i (dots pattern) q os))))) (sym d)
           (each_reverse (VisitShows i (rest_at argument m) m log outers) (map visit_after firsts)
           (map enter (map after_of (first_moves i (dots pattern) q os)))
-          (entered_after log outers (rest_at argument q) i (rest_at argument m) m firsts (first_moves i (dots pattern) q os)
+          (entered_after log outers (rest_at argument q) i (rest_at argument m) m firsts
+          (first_moves i (dots pattern) q os)
           (each_weaker (LeadsTo between middle (rest_at argument q)) (LeadsTo log outers (rest_at argument q))
           (λ x y h. leads_keep between log middle outers k (rest_at argument q) x y h)
           firsts (first_moves i (dots pattern) q os) f)));

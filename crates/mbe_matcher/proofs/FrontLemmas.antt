@@ -10,7 +10,7 @@ use Rattle.mbe_tt.specs.Trees.Glue.{glue, glued, chars_of}
 use Rattle.mbe_tt.specs.declared.tt.Punct.{Punct}
 use Rattle.mbe_semantics.specs.Readings.Fit.{literal_text_front, ident_text_front, puncts_front}
 use Rattle.mbe_matcher.specs.Fronts.{HasPassed}
-use Rattle.mbe_ops.proofs.Fragments.{left_behind}
+use Rattle.mbe_ops.proofs.Fragments.{left_following}
 use Rattle.mbe_ops.proofs.Fragments.{glued_is, puncts_longer}
 
 -- ---- tokens
@@ -30,7 +30,7 @@ literal_passed (leaf (literal k) rest) left l text e r =
     subst (λ (m : Literal). HasPassed (bytes_eq m.text_and_suffix text)
     (literal_text_front text (leaf (literal k) rest)) left) (sym (same_literal l k e))
     (passed_if (bytes_eq k.text_and_suffix text) (cut_trees 1 (leaf (literal k) rest)) left
-    (left_behind 1 (leaf (literal k) rest) left r))
+    (left_following 1 (leaf (literal k) rest) left r))
 literal_passed (leaf (punct p) rest) left l text e r = let s : Some (literal l) ≡ Some (punct p) = e in absurd cc
 literal_passed (leaf (ident i) rest) left l text e r = let s : Some (literal l) ≡ Some (ident i) = e in absurd cc
 literal_passed (group d inside rest) left l text e r = absurd (none-some (literal l) (sym e))
@@ -44,7 +44,7 @@ ident_passed (leaf (ident j) rest) left i text e r =
     subst (λ (k : Ident). HasPassed (bytes_eq k.sym text) (ident_text_front text (leaf (ident j) rest)) left)
     (sym (same_Some i j e))
     (passed_if (bytes_eq j.sym text) (cut_trees 1 (leaf (ident j) rest)) left
-    (left_behind 1 (leaf (ident j) rest) left r))
+    (left_following 1 (leaf (ident j) rest) left r))
 ident_passed (group d inside rest) left i text e r = absurd (none-some i (sym e))
 
 some_glued : (f : Forest) (ps : List Punct) → Some ps ≡ glued f → ps ≡ [] → ⊥
@@ -74,7 +74,7 @@ puncts_passed f left ps (c ∷ cs) r g l e =
         let same : length (chars_of (glue f)) ≡ length (c ∷ cs) =
         ap length ((bytes_eq-Decides (chars_of (glue f)) (c ∷ cs)).0 t) in
         let count : length (glue f) ≡ length (c ∷ cs) = sym (length-map (glue f) (λ (p : Punct). p.char)) ∙ same in
-        left_behind (length (c ∷ cs)) f left (l ∙ ap (λ (n : ℕ). skip n f) count)
+        left_following (length (c ∷ cs)) f left (l ∙ ap (λ (n : ℕ). skip n f) count)
 
     go : (b q : Bool) → q ≡ b → (b ≡ true → left ≡ (cut_trees (length (c ∷ cs)) f).back) →
         HasPassed q (if b then Some (cut_trees (length (c ∷ cs)) f) else None) left

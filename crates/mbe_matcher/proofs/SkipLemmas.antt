@@ -63,10 +63,6 @@ skips_all old new before after all left e s =
         → IsAccount new after (skipped (names_of all) a)
     go a (b, i, h) = subst (IsAccount new after) (ap (λ os. skipped (names_of os) b) (sym e) ∙ h) i
 
--- nothing is skipped
-pub rewritten_not : (log : Log) (h : Handle) → HasEntriesOf log h → IsRewritten log log h h (skipped [])
-rewritten_not log h l = record { entries = l; account = λ a i. i; kept = kept_not log }
-
 -- one name is skipped
 pub rewritten_by : (old new : Log) (before after : Handle) (name : Name)
     → IsChanged old new before after (pushed (Command.skips name)) →

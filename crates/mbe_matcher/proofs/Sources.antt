@@ -1,7 +1,7 @@
 -- A place in an argument, and what is left of the groups around it.
-use Rattle.std.proofs.Common.{◌≡◌, ℕ, zero, suc, ◌+◌, ◌<◌, ◌≤◌, ◌&&◌, Bool, false, IsTrue, ◌↔◌, nat_lt, List, [], ◌∷◌, ◌++◌, reverse, length, Some, None, refl, sym, ap, ◌∙◌, arith}
+use Rattle.std.proofs.Common.{◌≡◌, ℕ, zero, suc, ◌+◌, ◌<◌, ◌≤◌, ◌&&◌, Bool, IsTrue, ◌↔◌, nat_lt, List, [], ◌∷◌, ◌++◌, reverse, length, Some, None, refl, sym, ap, ◌∙◌, arith}
 use Rattle.std.proofs.lemmas.List.{reverse-append}
-use Rattle.std.proofs.lemmas.Bool.{lt-ltb, le-ltb, false_from_ne_true}
+use Rattle.std.proofs.lemmas.Bool.{lt-ltb, false_from_ne_true}
 use Rattle.std.proofs.lemmas.Option.{none-some}
 use Rattle.mbe_tt.specs.Trees.Leaf.{Leaf}
 use Rattle.mbe_tt.specs.declared.tt.Delimiter.{Delimiter}
@@ -9,7 +9,7 @@ use Rattle.mbe_tt.specs.Trees.Tree.{Forest, none, leaf, group, flat_len, first, 
 use Rattle.mbe_tt.specs.Buffers.Place.{Rests, rests, step, walk}
 use Rattle.mbe_tt.proofs.Places.Placed.{walk-step, rest_at-walk}
 use Rattle.mbe_tt.proofs.Places.PlaceLemmas.{append-none}
-use Rattle.mbe_matcher.specs.Fronts.{IsBehind}
+use Rattle.mbe_matcher.specs.Fronts.{IsAfter}
 use Rattle.mbe_semantics.specs.Readings.Input.{is_none}
 
 -- what is held innermost is what is left at the place
@@ -55,25 +55,25 @@ no_items (x ∷ xs) e = absurd (omega arith)
 -- after a leaf, an opening and a closing
 module _ (f : Forest) (n : ℕ) (here left : Forest) (around : List Forest) (stands : rests f n ≡ (here, reverse around))
     (rest : left ≡ rest_of here) where
-  pub behind_leaf : (l : Leaf) → Some (Leaf_tree l) ≡ first here → rests f (n + 1) ≡ (left, reverse around)
-  behind_leaf l e = one_further f n here (reverse around) stands ∙ leaf_step here left (reverse around) l e rest
+  pub after_leaf : (l : Leaf) → Some (Leaf_tree l) ≡ first here → rests f (n + 1) ≡ (left, reverse around)
+  after_leaf l e = one_further f n here (reverse around) stands ∙ leaf_step here left (reverse around) l e rest
 
-  pub behind_opening : (d : Delimiter) (inside : Forest) (after : List Forest) → Some (Group_tree d inside) ≡ first here
+  pub after_opening : (d : Delimiter) (inside : Forest) (after : List Forest) → Some (Group_tree d inside) ≡ first here
       → after ≡ around ++ left ∷ [] →
       rests f (n + 1) ≡ (inside, reverse after)
-  behind_opening d inside after e a =
+  after_opening d inside after e a =
       one_further f n here (reverse around) stands ∙ group_step here left (reverse around) d inside e rest
       ∙ ap (λ (x : List Forest). (inside, x)) (sym (ap reverse a ∙ reverse-append around (left ∷ [])))
 
-  pub behind_closing : (outer : Forest) (after : List Forest) → None ≡ first here → around ≡ after ++ outer ∷ []
+  pub after_closing : (outer : Forest) (after : List Forest) → None ≡ first here → around ≡ after ++ outer ∷ []
       → rests f (n + 1) ≡ (outer, reverse after)
-  behind_closing outer after e a =
+  after_closing outer after e a =
       one_further f n here (reverse around) stands ∙ ap (step here) (ap reverse a ∙ reverse-append after (outer ∷ []))
       ∙ end_step here (reverse after) outer e
 
-  pub behind_all : (after : List Forest) → None ≡ first here → length around ≡ 0 → length after ≡ 0
+  pub following_all : (after : List Forest) → None ≡ first here → length around ≡ 0 → length after ≡ 0
       → rests f (n + 1) ≡ (left, reverse after)
-  behind_all after e a b =
+  following_all after e a b =
       one_further f n here (reverse around) stands ∙ ap (λ (x : List Forest). step here (reverse x)) (no_items around a)
       ∙ last_step here left e rest
       ∙ ap (λ (x : List Forest). (left, reverse x)) (sym (no_items after b))
@@ -89,9 +89,6 @@ pub closes_here : (f here : Forest) (n : ℕ) (r : Bool) → here ≡ rest_at f 
     → r ≡ (nat_lt n (flat_len f) && is_none (rest_at f n))
 closes_here f here n r e l h =
     none_is r here h ∙ ap is_none e ∙ ap (λ (b : Bool). b && is_none (rest_at f n)) (sym (lt-ltb n (flat_len f) l))
-
-pub closes_not : (f : Forest) (n : ℕ) → flat_len f ≤ n → false ≡ (nat_lt n (flat_len f) && is_none (rest_at f n))
-closes_not f n l = ap (λ (b : Bool). b && is_none (rest_at f n)) (sym (le-ltb n (flat_len f) l))
 
 -- ---- after whole trees
 
@@ -111,9 +108,9 @@ walk_on zero m k r e = let h : k ≡ m = omega (arith, e) in ap (λ (x : ℕ). w
 walk_on (suc n) m zero r e = absurd (omega (arith, e))
 walk_on (suc n) m (suc k) r e = walk_on n m k (step r.0 r.1) (omega (arith, e))
 
-pub behind_trees : (f : Forest) (n width : ℕ) (here beyond : Forest) (around : List Forest) → rests f n ≡ (here, around)
-    → IsBehind here width beyond →
+pub after_trees : (f : Forest) (n width : ℕ) (here beyond : Forest) (around : List Forest) → rests f n ≡ (here, around)
+    → IsAfter here width beyond →
     rests f (n + width) ≡ (beyond, around)
-behind_trees f n width here beyond around e (front, a, l) =
+after_trees f n width here beyond around e (front, a, l) =
     walk_on n width (n + width) (f, []) refl ∙ ap (walk width) e ∙ ap (λ (h : Forest). walk width (h, around)) (sym a)
     ∙ walk_past front beyond around width 0 (omega (arith, l))

@@ -21,7 +21,7 @@ use Rattle.mbe_semantics.specs.Readings.Steps.{if_none, skip_of, again_of}
 use Rattle.mbe_semantics.proofs.InputLemmas.{length_from}
 use Rattle.mbe_semantics.proofs.MoveLemmas.{separator_moves}
 use Rattle.mbe_semantics.specs.Bindings.Account.{Account, no_account, Command, pushed, pushed_default, pushed_nested, Log, Handle, IsAccount, HasEntriesOf}
-use Rattle.mbe_semantics.specs.Matching.Dots.{op_dots, dots, edges_behind}
+use Rattle.mbe_semantics.specs.Matching.Dots.{op_dots, dots, edges_after}
 use Rattle.mbe_semantics.specs.Matching.Outline.{Edge, gate, edge, Outline, outline, advance, skipped, empty_by, over_advance, empty_bound, bound_advance, if_some_advance, round_advance, when_advance}
 use Rattle.mbe_log.specs.Shared.{IsChanged}
 use Rattle.mbe_log.proofs.ClientLemmas as client
@@ -528,7 +528,7 @@ module _ {A : Type 0} (i : Input) (argument : Forest) (q : ℕ) (log : Log) (out
         (ops_of o.rest.now) a w.up
     left = record {
       dot = refl;
-      number = (let n = ap edges_behind w.is in let m = s.number in omega (arith, n, m));
+      number = (let n = ap edges_after w.is in let m = s.number in omega (arith, n, m));
       account = s.account;
       around = w.around;
     }
@@ -563,7 +563,7 @@ module _ {A : Type 0} (g : Grammar) (argument : Forest) (q : ℕ) (old mid : Log
   out_of : Stands mid outers out (ops_of outer.rest.now) (pushed_nested w.outside a) w.up
   out_of = record {
     dot = refl;
-    number = (let n = ap edges_behind w.is in let m = s.number in omega (arith, n, m));
+    number = (let n = ap edges_after w.is in let m = s.number in omega (arith, n, m));
     account = c.account w.outside w.rounds.account;
     around = edges_keep old mid outers outers (record { log = c.kept; outers = grows_not outers }) w.around;
   }

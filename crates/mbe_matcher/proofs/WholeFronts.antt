@@ -11,7 +11,7 @@ use Rattle.mbe_tt.specs.Buffers.Place.{Placed, viewed, place_of, left_at, IsAtRo
 use Rattle.mbe_tt.specs.declared.grammar.Front.{Front}
 use Rattle.mbe_tt.specs.declared.grammar.PrefixEntryPoint.{PrefixEntryPoint}
 use Rattle.mbe_tt.proofs.Places.CutLemmas.{no_true, cut_flat-append, flat_length, shortest_cut}
-use Rattle.mbe_tt.proofs.Places.PlaceLemmas.{rest_at-append, rest_at-zero, depth_at-zero, depth_at-in_group, depth_at-behind_group}
+use Rattle.mbe_tt.proofs.Places.PlaceLemmas.{rest_at-append, rest_at-zero, depth_at-zero, depth_at-in_group, depth_at-following_group}
 
 -- ---- groups around a place
 
@@ -25,7 +25,7 @@ between_trees (group d inside t) h =
     let e : flat_len inside + flat_len t + 1 - flat_len inside - 1 ≡ flat_len t = omega arith in
     ap (depth_at (group d inside (append t h)))
     (let k : flat_len (group d inside t) ≡ suc (flat_len inside + flat_len t + 1) = omega arith in k)
-    ∙ (depth_at-behind_group d inside (append t h) (flat_len inside + flat_len t + 1) (omega arith)
+    ∙ (depth_at-following_group d inside (append t h) (flat_len inside + flat_len t + 1) (omega arith)
     ∙ (ap (depth_at (append t h)) e ∙ between_trees t h))
 
 two : (n m : ℕ) → (n ≤ m) ⊎ (m + 1 ≤ n)
@@ -44,7 +44,7 @@ ends_between (group d inside rest) (suc n) h e = go (λ m u v. ends_between rest
         → flat_len (cut_flat (suc n) (group d inside rest)).front ≡ suc n
     go behind (inl k) = let u = sym (depth_at-in_group d inside rest n k) ∙ e in absurd (omega (arith, u))
     go behind (inr k) =
-        let u = sym (depth_at-behind_group d inside rest n k) ∙ e in
+        let u = sym (depth_at-following_group d inside rest n k) ∙ e in
         let v = behind (n - flat_len inside - 1) (omega (arith, h, k)) u in
         omega (arith, v, k)
 
@@ -72,7 +72,7 @@ ends_inside (group d inside rest) (suc n) h e = go (λ m u v. ends_inside rest m
     )
     go behind (inr k) =
         let m = n - flat_len inside - 1 in
-        let u = behind m (omega (arith, h, k)) (λ z. e (depth_at-behind_group d inside rest n k ∙ z)) in (
+        let u = behind m (omega (arith, h, k)) (λ z. e (depth_at-following_group d inside rest n k ∙ z)) in (
           omega (arith, u.0, k),
           cuts (suc n - flat_len inside - 1) (suc m) (omega (arith, k))
               ∙ ap (group_before d inside) u.1,
@@ -95,11 +95,11 @@ goes_on cursor moved f v h n m =
     (ap viewed m ∙ v, omega (arith, p), omega (arith, l), ap (λ (q : ℕ). cut_flat q f) p ∙ i.1)
 
 -- the cursor that is between two trees is after the shortest front
-pub stands_behind : (cursor start : Placed) (f : Forest) → viewed cursor ≡ f → place_of cursor ≤ flat_len f
+pub stands_after : (cursor start : Placed) (f : Forest) → viewed cursor ≡ f → place_of cursor ≤ flat_len f
     → IsAtRoot cursor
     → cut_flat (place_of cursor) f ≡ cut_flat (place_of start) f
     → cursor ≡ (f, flat_len (cut_flat (place_of start) f).front)
-stands_behind cursor start f v h r c =
+stands_after cursor start f v h r c =
     let e = ends_between f (place_of cursor) h (ap (λ (t : Forest). depth_at t (place_of cursor)) (sym v) ∙ r) in
     let p : place_of cursor ≡ flat_len (cut_flat (place_of start) f).front =
     sym e ∙ ap (λ (x : Cut). flat_len x.front) c in
@@ -153,8 +153,8 @@ same_front (group j y a) b (group i x c) d e n =
 
 -- a cursor after the shortest front that holds n flat tokens
 module _ (f : Forest) (n : ℕ) (cursor : Placed) (at : cursor ≡ (f, flat_len (cut_flat n f).front)) where
-  pub behind_all_groups : IsAtRoot cursor
-  behind_all_groups =
+  pub after_all_groups : IsAtRoot cursor
+  after_all_groups =
       ap (λ (c : Placed). depth_at c.0 c.1) at
       ∙ (ap (λ (t : Forest). depth_at t (flat_len (cut_flat n f).front)) (sym (cut_flat-append n f))
       ∙ between_trees (cut_flat n f).front (cut_flat n f).back)

@@ -14,7 +14,7 @@ use Rattle.mbe_semantics.specs.Readings.Input.{length_of}
 use Rattle.mbe_matcher.specs.Fronts.{HasPassed}
 use Rattle.mbe_matcher.specs.Fronts.{has_text}
 use Rattle.mbe_semantics.proofs.FrontLemmas.{token_cut, between_cut}
-use Rattle.mbe_ops.proofs.Fragments.{left_behind}
+use Rattle.mbe_ops.proofs.Fragments.{left_following}
 use Rattle.mbe_matcher.proofs.FrontLemmas.{passed_if}
 
 -- the flat tokens between an iterator and what it has become
@@ -59,7 +59,7 @@ literal_separator_passed (leaf (literal k) rest) left l text e r =
     subst (λ (m : Leaf). HasPassed (has_text m text) (literal_separator_front text (leaf (literal k) rest)) left)
     (sym (same_Some l (literal k) e))
     (passed_if (bytes_eq k.text_and_suffix text) (cut_trees 1 (leaf (literal k) rest)) left
-    (left_behind 1 (leaf (literal k) rest) left r))
+    (left_following 1 (leaf (literal k) rest) left r))
 literal_separator_passed (leaf (punct p) rest) left l text e r = absurd (none-some l (sym e))
 literal_separator_passed (group d inside rest) left l text e r = absurd (none-some l (sym e))
 literal_separator_passed (leaf (ident i) rest) left l text e r =
@@ -70,7 +70,7 @@ literal_separator_passed (leaf (ident i) rest) left l text e r =
   where
     go : (b : Bool) → bytes_eq i.sym text ≡ b → (t : Bool) → (b ≡ true → t ≡ true) →
         HasPassed b (if t then (if b then Some (cut_trees 1 (leaf (ident i) rest)) else None) else None) left
-    go true h true k = left_behind 1 (leaf (ident i) rest) left r
+    go true h true k = left_following 1 (leaf (ident i) rest) left r
     go true h false k = absurd (false≢true (k refl))
     go false h true k = tt
     go false h false k = tt

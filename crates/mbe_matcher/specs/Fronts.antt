@@ -15,8 +15,8 @@ use Rattle.mbe_semantics.specs.declared.kinds.RepeatKind.{RepeatKind}
 use Rattle.mbe_semantics.specs.declared.kinds.RepeatKind.TheVariants.{ZeroOrMore, OneOrMore, ZeroOrOne}
 
 -- after whole trees of so many flat tokens the others are left
-abbrev pub IsBehind : Forest → ℕ → Forest → Type 0
-IsBehind all width beyond = (front : Forest) × (append front beyond ≡ all) × (flat_len front ≡ width)
+abbrev pub IsAfter : Forest → ℕ → Forest → Type 0
+IsAfter all width beyond = (front : Forest) × (append front beyond ≡ all) × (flat_len front ≡ width)
 
 -- the leaf has this text, as a separator that is a literal looks at it
 abbrev pub has_text : Leaf → List ℕ → Bool

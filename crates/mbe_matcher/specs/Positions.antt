@@ -9,7 +9,7 @@ use Rattle.mbe_semantics.specs.Syntax.Op.{Op, token, group, variable, repetition
 use Rattle.mbe_semantics.specs.Readings.Input.{Input, input_of}
 use Rattle.mbe_semantics.specs.Readings.Steps.{skip_of}
 use Rattle.mbe_semantics.specs.Bindings.Account.{Account, Commands, Log, Handle, IsAccount}
-use Rattle.mbe_semantics.specs.Matching.Dots.{dots, edges_behind}
+use Rattle.mbe_semantics.specs.Matching.Dots.{dots, edges_after}
 use Rattle.mbe_semantics.specs.Matching.Outline.{Edge, gate, edge, Outline, outline, Advance, advance, skipped, idle_of, next_of, finished_of}
 use Rattle.mbe_log.specs.Shared.{IsKept}
 use Rattle.mbe_ops.specs.Views.{ops_of, separator_seen}
@@ -19,7 +19,7 @@ use Rattle.mbe_matcher.specs.declared.position.Outer.{Outer}
 use Rattle.mbe_matcher.specs.declared.position.Rounds.{Rounds}
 use Rattle.mbe_matcher.specs.declared.position.Waiting.{Waiting}
 use Rattle.mbe_matcher.specs.declared.position.Steps.{Steps}
-use Rattle.mbe_matcher.specs.Fronts.{IsBehind}
+use Rattle.mbe_matcher.specs.Fronts.{IsAfter}
 
 -- ---- lists, member by member
 
@@ -46,7 +46,7 @@ Grows {X} old new = (more : List X) × (new ≡ old ++ more)
 -- what is left after a fragment of this width
 abbrev pub IsLeft : Forest → ℕ → Option Forest → Type 0
 IsLeft here width None = Unit {0}
-IsLeft here width (Some beyond) = IsBehind here width beyond
+IsLeft here width (Some beyond) = IsAfter here width beyond
 
 -- an open repetition, with the place where its round began and the account outside
 abbrev pub edge_in : {A : Type 0} → Rounds A → Ops → ℕ → Account → Edge
@@ -57,7 +57,7 @@ edge_in r rest began outside = edge (ops_of r.body.now) (option_map (λ s. separ
 pub record AreRounds {A : Type 0} (log : Log) (r : Rounds A) (rest : Ops) (outside : Account)
     (up : List Edge) : Type 0 where
   pub account : IsAccount log r.outside outside
-  pub front : r.front ≡ dots (ops_of r.body.now) + (dots rest + edges_behind up)
+  pub front : r.front ≡ dots (ops_of r.body.now) + (dots rest + edges_after up)
 
 module _ {A : Type 0} (log : Log) (outers : List (Outer A)) where
   -- The open items from an outer one on, innermost first. Where a round began isn't kept.
@@ -74,7 +74,7 @@ module _ {A : Type 0} (log : Log) (outers : List (Outer A)) where
   -- the position has these ops left, this account, and these open items
   pub record Stands (p : Position A) (rest : Ops) (a : Account) (up : List Edge) : Type 0 where
     pub dot : ops_of p.dot.now ≡ rest
-    pub number : p.number ≡ dots rest + edges_behind up
+    pub number : p.number ≡ dots rest + edges_after up
     pub account : IsAccount log p.handle a
     pub around : AreEdges p.up up
 
@@ -185,7 +185,7 @@ pub record IsSkip {A : Type 0} (kind : RepeatKind) (body rest : Ops) (old new : 
     (p : Option (Position A)) : Type 0 where
   pub is : (outers : List (Outer A)) (a : Account) (up : List Edge) → AreEdges old outers before.up up
       → IsAccount old before.handle a →
-      before.number ≡ 1 + dots body + (dots rest + edges_behind up) →
+      before.number ≡ 1 + dots body + (dots rest + edges_after up) →
       Each (Shows new outers) (option_to_list p) (skip_of kind (outline rest (skipped (names_of body) a) up))
   pub kept : IsKept old new
 

@@ -4,7 +4,7 @@ ghost use Rattle.mbe_tt.specs.Trees.Tree.{Forest, flat_len, tree_count, rest_at}
 ghost use Rattle.mbe_tt.specs.Views.View.{trees};
 ghost use Rattle.mbe_tt.specs.Buffers.Place.{rests};
 ghost use Rattle.mbe_semantics.specs.Readings.Input.{is_none};
-ghost use Rattle.mbe_matcher.specs.Fronts.{IsBehind};
+ghost use Rattle.mbe_matcher.specs.Fronts.{IsAfter};
 
 use mbe_tt::tt::{TokenTreesView, TtElement, TtIter};
 use std::alloc::{AllocError, Allocator, Global};
@@ -136,7 +136,7 @@ impl<'a, A: Allocator> Source<'a, A> {
     #[inline(always)]
     pub(crate) fn jumped(self, width: usize, beyond: TtIter<'a, A>) -> Source<'a, A>
         requires fits { self.place + width ≤ flat_len (trees self.whole) }
-        requires beyond { IsBehind (rest_at (trees self.whole) self.place) width beyond }
+        requires beyond { IsAfter (rest_at (trees self.whole) self.place) width beyond }
         ensures whole { result.whole ≡ self.entry.whole }
         ensures place { result.place ≡ self.entry.place + width }
     {

@@ -61,13 +61,16 @@ mutual
   key_same_op (ops.token t) (ops.repetition other r l) h = absurd (tags_differ 0 3 _ _ refl h)
   key_same_op (ops.token t) (ops.expression f) h = absurd (tags_differ 0 4 _ _ refl h)
   key_same_op (ops.group d body) (ops.token u) h = absurd (tags_differ 1 0 _ _ refl h)
-  key_same_op (ops.group d body) (ops.group f other) h = (delimiter.the_row.coded.inj d f (first_of (second_of h)), key_same_ops body other (second_of (second_of h)))
+  key_same_op (ops.group d body) (ops.group f other) h =
+      (delimiter.the_row.coded.inj d f (first_of (second_of h)), key_same_ops body other (second_of (second_of h)))
   key_same_op (ops.group d body) (ops.variable n l r) h = absurd (tags_differ 1 2 _ _ refl h)
   key_same_op (ops.group d body) (ops.repetition other r l) h = absurd (tags_differ 1 3 _ _ refl h)
   key_same_op (ops.group d body) (ops.expression f) h = absurd (tags_differ 1 4 _ _ refl h)
   key_same_op (ops.variable name k s) (ops.token u) h = absurd (tags_differ 2 0 _ _ refl h)
   key_same_op (ops.variable name k s) (ops.group f other) h = absurd (tags_differ 2 1 _ _ refl h)
-  key_same_op (ops.variable name k s) (ops.variable n l r) h = ap (λ (v : Name × (Option MetaVarKind × Span)). ops.variable v.0 v.1.0 v.1.1) (variable_code.inj (name, (k, s)) (n, (l, r)) (second_of h))
+  key_same_op (ops.variable name k s) (ops.variable n l r) h =
+      ap (λ (v : Name × (Option MetaVarKind × Span)). ops.variable v.0 v.1.0 v.1.1)
+      (variable_code.inj (name, (k, s)) (n, (l, r)) (second_of h))
   key_same_op (ops.variable name k s) (ops.repetition other r l) h = absurd (tags_differ 2 3 _ _ refl h)
   key_same_op (ops.variable name k s) (ops.expression f) h = absurd (tags_differ 2 4 _ _ refl h)
   key_same_op (ops.repetition body s k) (ops.token u) h = absurd (tags_differ 3 0 _ _ refl h)
@@ -97,7 +100,8 @@ mutual
   pub same_key_op : (o p : Op) → IsSameOp o p → op_key o ≡ op_key p
   same_key_op (ops.token t) p h = ap op_key h
   same_key_op (ops.group d body) (ops.token u) h = absurd (cc)
-  same_key_op (ops.group d body) (ops.group f other) h = λ i. gcons (gnum 1) (gcons (delimiter.the_row.coded.code (h.0 i)) (same_key_ops body other h.1 i))
+  same_key_op (ops.group d body) (ops.group f other) h =
+      λ i. gcons (gnum 1) (gcons (delimiter.the_row.coded.code (h.0 i)) (same_key_ops body other h.1 i))
   same_key_op (ops.group d body) (ops.variable n l r) h = absurd (cc)
   same_key_op (ops.group d body) (ops.repetition other r l) h = absurd (cc)
   same_key_op (ops.group d body) (ops.expression f) h = absurd (cc)
@@ -107,7 +111,8 @@ mutual
   same_key_op (ops.repetition body s k) (ops.variable n l r) h = absurd (cc)
   same_key_op (ops.repetition body s k) (ops.repetition other r l) h =
       let texts = same_texts s r h.1 in
-      λ i. gcons (gnum 3) (gcons ((coded_option text_code).code (texts i)) (gcons (repeat.the_row.coded.code (h.2 i)) (same_key_ops body other h.0 i)))
+      λ i. gcons (gnum 3) (gcons ((coded_option text_code).code (texts i))
+      (gcons (repeat.the_row.coded.code (h.2 i)) (same_key_ops body other h.0 i)))
   same_key_op (ops.repetition body s k) (ops.expression f) h = absurd (cc)
   same_key_op (ops.expression e) p h = ap op_key h
 
@@ -179,14 +184,17 @@ abbrev mutual
   ops_weight no_ops = 0
   ops_weight (op o os) = op_weight o + ops_weight os
 
-pub op_no_heavier : {A : Type 0} (xs : List (code.Op A)) (i : ℕ) (x : code.Op A) → i < length xs → x ≡ get_or xs i x → op_weight (op_of x) ≤ ops_weight (ops_of xs)
+pub op_no_heavier : {A : Type 0} (xs : List (code.Op A)) (i : ℕ) (x : code.Op A) → i < length xs → x ≡ get_or xs i x
+    → op_weight (op_of x) ≤ ops_weight (ops_of xs)
 op_no_heavier [] i x l e = absurd (omega (arith, l))
 op_no_heavier (y ∷ ys) zero x l e = let same = ap (λ o. op_weight (op_of o)) e in omega arith
 op_no_heavier (y ∷ ys) (suc i) x l e = let behind = op_no_heavier ys i x (omega arith) e in omega arith
 
-pub groups_tell : (o p : Op) (d e : Delimiter) (body other : Ops) (a r : Bool) → o ≡ ops.group d body → p ≡ ops.group e other
+pub groups_tell : (o p : Op) (d e : Delimiter) (body other : Ops) (a r : Bool) → o ≡ ops.group d body
+    → p ≡ ops.group e other
     → IsTrue a ↔ (d ≡ e) → a ≡ true → IsTrue r ↔ AreSameOps body other → IsTrue r ↔ IsSameOp o p
-groups_tell o p d e body other a r ho hp alike holds inside = rw (ho, hp) (λ h. (alike.0 holds, inside.0 h), λ h. inside.1 h.1)
+groups_tell o p d e body other a r ho hp alike holds inside =
+    rw (ho, hp) (λ h. (alike.0 holds, inside.0 h), λ h. inside.1 h.1)
 
 pub repetitions_tell : (o p : Op) (body other : Ops) (s t : Option Separator) (k l : RepeatKind) (a r : Bool)
     → o ≡ ops.repetition body s k → p ≡ ops.repetition other t l
@@ -195,8 +203,10 @@ repetitions_tell o p body other s t k l a r ho hp alike holds inside =
     let both = alike.0 holds in
     rw (ho, hp) (λ h. (inside.0 h, both.0, both.1), λ h. inside.1 h.0)
 
-pub inside_tells : (a b body other : Ops) (r : Bool) → a ≡ body → b ≡ other → IsTrue r ↔ AreSameOps a b → IsTrue r ↔ AreSameOps body other
-inside_tells a b body other r ha hb h = subst (λ os. IsTrue r ↔ AreSameOps body os) hb (subst (λ os. IsTrue r ↔ AreSameOps os b) ha h)
+pub inside_tells : (a b body other : Ops) (r : Bool) → a ≡ body → b ≡ other → IsTrue r ↔ AreSameOps a b
+    → IsTrue r ↔ AreSameOps body other
+inside_tells a b body other r ha hb h =
+    subst (λ os. IsTrue r ↔ AreSameOps body os) hb (subst (λ os. IsTrue r ↔ AreSameOps os b) ha h)
 
 -- ---- elements of `${concat(..)}`
 
@@ -209,7 +219,8 @@ and_second true t h = h
 and_second false t h = absurd (true≢false (sym h))
 
 module _ {A : Type 0} where
-  elements_same : (xs ys : List (part.ConcatMetaVarExprElem A)) → pointwise element_eq xs ys ≡ true → elements_seen xs ≡ elements_seen ys
+  elements_same : (xs ys : List (part.ConcatMetaVarExprElem A)) → pointwise element_eq xs ys ≡ true
+      → elements_seen xs ≡ elements_seen ys
   elements_same [] [] h = refl
   elements_same [] (y ∷ ys) h = absurd (true≢false (sym h))
   elements_same (x ∷ xs) [] h = absurd (true≢false (sym h))
@@ -218,16 +229,19 @@ module _ {A : Type 0} where
       let behind = elements_same xs ys (and_second (element_eq x y) _ h) in
       λ i. here i ∷ behind i
 
-  same_elements : (xs ys : List (part.ConcatMetaVarExprElem A)) → elements_seen xs ≡ elements_seen ys → pointwise element_eq xs ys ≡ true
+  same_elements : (xs ys : List (part.ConcatMetaVarExprElem A)) → elements_seen xs ≡ elements_seen ys
+      → pointwise element_eq xs ys ≡ true
   same_elements [] [] h = refl
   same_elements [] (y ∷ ys) h = absurd (cc)
   same_elements (x ∷ xs) [] h = absurd (cc)
   same_elements (x ∷ xs) (y ∷ ys) h =
       let here : element_seen x ≡ element_seen y = cc in
       let behind : elements_seen xs ≡ elements_seen ys = cc in
-      ap (λ (b : Bool). b && pointwise element_eq xs ys) (is_same element_code (element_seen x) (element_seen y) here) ∙ same_elements xs ys behind
+      ap (λ (b : Bool). b && pointwise element_eq xs ys) (is_same element_code (element_seen x) (element_seen y) here)
+      ∙ same_elements xs ys behind
 
-  pub elements_tell : (xs ys : List (part.ConcatMetaVarExprElem A)) (r : Bool) → r ≡ pointwise element_eq xs ys → IsTrue r ↔ (elements_seen xs ≡ elements_seen ys)
+  pub elements_tell : (xs ys : List (part.ConcatMetaVarExprElem A)) (r : Bool) → r ≡ pointwise element_eq xs ys
+      → IsTrue r ↔ (elements_seen xs ≡ elements_seen ys)
   elements_tell xs ys r e = (λ h. elements_same xs ys (sym e ∙ h), λ h. e ∙ same_elements xs ys h)
 
 -- ---- lists, walked through side by side
@@ -246,28 +260,26 @@ module _ {X : Type 0} (R : X → X → Type 0) (Rs : List X → List X → Type 
   abbrev pub AsFarAs : List X → ℕ → List X → Type 0
   AsFarAs xs i ys = P ↔ Rs (drop i xs) ys
 
-  at_next : (xs : List X) (i : ℕ) (x : X) (ys : List X) → i < length xs → x ≡ get_or xs i x → AsFarAs xs i ys → P ↔ Rs (x ∷ drop (i + 1) xs) ys
+  at_next : (xs : List X) (i : ℕ) (x : X) (ys : List X) → i < length xs → x ≡ get_or xs i x → AsFarAs xs i ys
+      → P ↔ Rs (x ∷ drop (i + 1) xs) ys
   at_next xs i x ys l e h =
       let here = drop_more xs i x l ∙ ap (λ y. y ∷ drop (i + 1) xs) (sym e) in
       (λ p. subst (λ zs. Rs zs ys) here (h.0 p), λ r. h.1 (subst (λ zs. Rs zs ys) (sym here) r))
 
-  -- no other is left
-  pub no_other : (xs : List X) (i : ℕ) (x : X) (ys : List X) → i < length xs → x ≡ get_or xs i x → ys ≡ [] → AsFarAs xs i ys → IsTrue false ↔ P
-  no_other xs i x ys l e n h =
-      let next = at_next xs i x ys l e h in
-      (λ f. absurd (true≢false (sym f)), λ p. absurd (o.longer x (drop (i + 1) xs) (subst (Rs (x ∷ drop (i + 1) xs)) n (next.0 p))))
-
   -- the next two differ
-  pub other_differs : (xs : List X) (i : ℕ) (x y : X) (ys zs : List X) (r : Bool) → i < length xs → x ≡ get_or xs i x → ys ≡ y ∷ zs → IsTrue r ↔ R x y → r ≡ false
+  pub other_differs : (xs : List X) (i : ℕ) (x y : X) (ys zs : List X) (r : Bool) → i < length xs → x ≡ get_or xs i x
+      → ys ≡ y ∷ zs → IsTrue r ↔ R x y → r ≡ false
       → AsFarAs xs i ys → IsTrue false ↔ P
   other_differs xs i x y ys zs r l e n t f h =
       let next = at_next xs i x ys l e h in (
         λ b. absurd (true≢false (sym b)),
-        λ p. absurd (true≢false (sym (t.1 (o.here x y (drop (i + 1) xs) zs (subst (Rs (x ∷ drop (i + 1) xs)) n (next.0 p)))) ∙ f)),
+        λ p. absurd (true≢false (sym (t.1 (o.here x y (drop (i + 1) xs) zs
+            (subst (Rs (x ∷ drop (i + 1) xs)) n (next.0 p)))) ∙ f)),
       )
 
   -- the next two are related
-  pub one_more : (xs : List X) (i : ℕ) (x y : X) (ys zs : List X) (r : Bool) → i < length xs → x ≡ get_or xs i x → ys ≡ y ∷ zs → IsTrue r ↔ R x y → r ≡ true
+  pub one_more : (xs : List X) (i : ℕ) (x y : X) (ys zs : List X) (r : Bool) → i < length xs → x ≡ get_or xs i x
+      → ys ≡ y ∷ zs → IsTrue r ↔ R x y → r ≡ true
       → AsFarAs xs i ys → AsFarAs xs (i + 1) zs
   one_more xs i x y ys zs r l e n t b h =
       let next = at_next xs i x ys l e h in (
@@ -276,7 +288,8 @@ module _ {X : Type 0} (R : X → X → Type 0) (Rs : List X → List X → Type 
       )
 
   -- all are consumed
-  pub at_the_end : (xs : List X) (i : ℕ) (ys : List X) (r : Bool) → length xs ≤ i → IsTrue r ↔ (ys ≡ []) → AsFarAs xs i ys → IsTrue r ↔ P
+  pub at_the_end : (xs : List X) (i : ℕ) (ys : List X) (r : Bool) → length xs ≤ i → IsTrue r ↔ (ys ≡ [])
+      → AsFarAs xs i ys → IsTrue r ↔ P
   at_the_end xs i ys r l e h =
       let all = drop_all i xs l in (
         λ b. h.1 (subst (λ zs. Rs zs ys) (sym all) (subst (Rs []) (sym (e.0 b)) o.none)),
@@ -289,9 +302,13 @@ module _ {X : Type 0} (R : X → X → Type 0) (Rs : List X → List X → Type 
 
 pub empty_tells : {X : Type 0} (ys : List X) (r : Bool) → r ≡ (length ys == 0) → IsTrue r ↔ (ys ≡ [])
 empty_tells [] r e = (λ h. refl, λ h. e)
-empty_tells (y ∷ ys) r e = (λ h. absurd (true≢false (sym h ∙ (e ∙ ne_eqb (length (y ∷ ys)) 0 (λ n. omega (arith, n))))), λ h. absurd (cc))
+empty_tells (y ∷ ys) r e = (
+  λ h. absurd (true≢false (sym h ∙ (e ∙ ne_eqb (length (y ∷ ys)) 0 (λ n. omega (arith, n))))),
+  λ h. absurd (cc),
+)
 
-pub ops_one_by_one : {A : Type 0} → IsOneByOne (λ (x y : code.Op A). IsSameOp (op_of x) (op_of y)) (λ xs ys. AreSameOps (ops_of xs) (ops_of ys))
+pub ops_one_by_one : {A : Type 0} → IsOneByOne (λ (x y : code.Op A). IsSameOp (op_of x) (op_of y))
+    (λ xs ys. AreSameOps (ops_of xs) (ops_of ys))
 ops_one_by_one = record {
   none = tt;
   both = λ x y xs ys r rs. (r, rs);
@@ -304,7 +321,8 @@ ops_one_by_one = record {
 -- ---- lists that are copied
 
 -- the copies of one more, as they are seen
-pub one_copied : {X Y : Type 0} (seen : X → Y) (copy new xs : List X) (i : ℕ) (x o : X) → i < length xs → x ≡ get_or xs i x → new ≡ copy ++ o ∷ [] → seen o ≡ seen x
+pub one_copied : {X Y : Type 0} (seen : X → Y) (copy new xs : List X) (i : ℕ) (x o : X) → i < length xs
+    → x ≡ get_or xs i x → new ≡ copy ++ o ∷ [] → seen o ≡ seen x
     → map seen copy ≡ map seen (take i xs) → map seen new ≡ map seen (take (i + 1) xs)
 one_copied seen copy new xs i x o l e n h so_far =
     let more = take_more xs i x l ∙ ap (λ y. take i xs ++ y ∷ []) (sym e) in

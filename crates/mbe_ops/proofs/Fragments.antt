@@ -36,22 +36,26 @@ rest_no_longer none = omega arith
 rest_no_longer (leaf l rest) = omega arith
 rest_no_longer (group d inside rest) = omega arith
 
-pub passed_to : (n : ℕ) (f saved left : Forest) → saved ≡ f → left ≡ skip n f → saved ≡ append (cut_trees n f).front left
+pub passed_to : (n : ℕ) (f saved left : Forest) → saved ≡ f → left ≡ skip n f
+    → saved ≡ append (cut_trees n f).front left
 passed_to n f saved left s l = s ∙ (passes n f ∙ ap (append (cut_trees n f).front) (sym l))
 
-pub left_behind : (n : ℕ) (f left : Forest) → left ≡ skip n f → left ≡ (cut_trees n f).back
-left_behind n f left l = l ∙ sym (back-skip n f)
+pub left_following : (n : ℕ) (f left : Forest) → left ≡ skip n f → left ≡ (cut_trees n f).back
+left_following n f left l = l ∙ sym (back-skip n f)
 
-pub taken : {A : Type 0} (v : TokenTreesView A) (o : Option Cut) (c : Cut) (left : Forest) → o ≡ Some c → trees v ≡ c.front → left ≡ c.back → IsTaken (Some v) o left
+pub taken : {A : Type 0} (v : TokenTreesView A) (o : Option Cut) (c : Cut) (left : Forest) → o ≡ Some c
+    → trees v ≡ c.front → left ≡ c.back → IsTaken (Some v) o left
 taken v o c left h t l = rw h (t, l)
 
 -- ---- what comes first
 
-if_none : {X Y : Type 0} (b : Bool) (x y : X) (z : Y) → (if b then None else Some x) ≡ Some y → (if b then None else Some z) ≡ Some z
+if_none : {X Y : Type 0} (b : Bool) (x y : X) (z : Y) → (if b then None else Some x) ≡ Some y
+    → (if b then None else Some z) ≡ Some z
 if_none true x y z e = absurd (none-some y e)
 if_none false x y z e = refl
 
-if_some : {X Y : Type 0} (b : Bool) (x y : X) (z : Y) → (if b then Some x else None) ≡ Some y → (if b then Some z else None) ≡ Some z
+if_some : {X Y : Type 0} (b : Bool) (x y : X) (z : Y) → (if b then Some x else None) ≡ Some y
+    → (if b then Some z else None) ≡ Some z
 if_some true x y z e = refl
 if_some false x y z e = absurd (none-some y e)
 
@@ -68,18 +72,19 @@ is_quote p e = eq-eqb p.char 39 (same_Some p.char 39 e)
 is_no_quote : (p : Punct) → (Some p.char ≡ Some 39 → ⊥) → (p.char == 39) ≡ false
 is_no_quote p n = ne_eqb p.char 39 (λ e. n (ap Some e))
 
-lifetime_behind : (p : Punct) (rest : Forest) (i : Ident) → (p.char == 39) ≡ true → any_ident rest ≡ Some i
+lifetime_after : (p : Punct) (rest : Forest) (i : Ident) → (p.char == 39) ≡ true → any_ident rest ≡ Some i
     → lifetime_front (leaf (punct p) rest) ≡ Some (cut_trees 2 (leaf (punct p) rest))
-lifetime_behind p none i q e = absurd (none-some i e)
-lifetime_behind p (leaf (literal l) rest) i q e = absurd (none-some i e)
-lifetime_behind p (leaf (punct o) rest) i q e = absurd (none-some i e)
-lifetime_behind p (leaf (ident j) rest) i q e = rw q refl
-lifetime_behind p (group d inside rest) i q e = absurd (none-some i e)
+lifetime_after p none i q e = absurd (none-some i e)
+lifetime_after p (leaf (literal l) rest) i q e = absurd (none-some i e)
+lifetime_after p (leaf (punct o) rest) i q e = absurd (none-some i e)
+lifetime_after p (leaf (ident j) rest) i q e = rw q refl
+lifetime_after p (group d inside rest) i q e = absurd (none-some i e)
 
-pub lifetime_in_front : (f : Forest) (i : Ident) → front_char f ≡ Some 39 → any_ident (rest_of f) ≡ Some i → lifetime_front f ≡ Some (cut_trees 2 f)
+pub lifetime_in_front : (f : Forest) (i : Ident) → front_char f ≡ Some 39 → any_ident (rest_of f) ≡ Some i
+    → lifetime_front f ≡ Some (cut_trees 2 f)
 lifetime_in_front none i q e = absurd (none-some 39 q)
 lifetime_in_front (leaf (literal l) rest) i q e = absurd (none-some 39 q)
-lifetime_in_front (leaf (punct p) rest) i q e = lifetime_behind p rest i (is_quote p q) e
+lifetime_in_front (leaf (punct p) rest) i q e = lifetime_after p rest i (is_quote p q) e
 lifetime_in_front (leaf (ident j) rest) i q e = absurd (none-some 39 q)
 lifetime_in_front (group d inside rest) i q e = absurd (none-some 39 q)
 
@@ -100,10 +105,12 @@ unsigned_in_front (leaf (punct p) rest) l e = absurd (none-some l e)
 unsigned_in_front (leaf (ident i) rest) l e = if_some (is_truth i.sym) (ident i) l (cut_trees 1 (leaf (ident i) rest)) e
 unsigned_in_front (group d inside rest) l e = absurd (none-some l e)
 
-signed_in_front : (f : Forest) (l : Leaf) → front_char f ≡ Some 45 → front_literal (rest_of f) ≡ Some l → literal_front f ≡ Some (cut_trees 2 f)
+signed_in_front : (f : Forest) (l : Leaf) → front_char f ≡ Some 45 → front_literal (rest_of f) ≡ Some l
+    → literal_front f ≡ Some (cut_trees 2 f)
 signed_in_front none l q e = absurd (none-some 45 q)
 signed_in_front (leaf (literal k) rest) l q e = absurd (none-some 45 q)
-signed_in_front (leaf (punct p) rest) l q e = rw (eq-eqb p.char 45 (same_Some p.char 45 q)) (ap (with_leaf (leaf (punct p) rest)) (unsigned_in_front rest l e))
+signed_in_front (leaf (punct p) rest) l q e =
+    rw (eq-eqb p.char 45 (same_Some p.char 45 q)) (ap (with_leaf (leaf (punct p) rest)) (unsigned_in_front rest l e))
 signed_in_front (leaf (ident i) rest) l q e = absurd (none-some 45 q)
 signed_in_front (group d inside rest) l q e = absurd (none-some 45 q)
 
@@ -120,15 +127,18 @@ literal_trees true = 2
 literal_trees false = 1
 
 pub literal_in_front : {T E : Type 0} (r : Result T E) (f mid : Forest) (l : Leaf) → (IsOk r ↔ (front_char f ≡ Some 45))
-    → mid ≡ (if is_ok r then rest_of f else f) → front_literal mid ≡ Some l → literal_front f ≡ Some (cut_trees (literal_trees (is_ok r)) f)
+    → mid ≡ (if is_ok r then rest_of f else f) → front_literal mid ≡ Some l
+    → literal_front f ≡ Some (cut_trees (literal_trees (is_ok r)) f)
 literal_in_front (Ok x) f mid l h m e = signed_in_front f l (h.0 refl) (ap front_literal (sym m) ∙ e)
 literal_in_front (Err x) f mid l h m e = bare_in_front f l (ap front_literal (sym m) ∙ e)
 
-pub behind_literal : (b : Bool) (f mid left : Forest) → mid ≡ (if b then rest_of f else f) → left ≡ rest_of mid → left ≡ skip (literal_trees b) f
-behind_literal true f mid left m l = l ∙ ap rest_of m
-behind_literal false f mid left m l = l ∙ ap rest_of m
+pub past_literal : (b : Bool) (f mid left : Forest) → mid ≡ (if b then rest_of f else f) → left ≡ rest_of mid
+    → left ≡ skip (literal_trees b) f
+past_literal true f mid left m l = l ∙ ap rest_of m
+past_literal false f mid left m l = l ∙ ap rest_of m
 
-pub puncts_in_front : (f : Forest) (ps : List Punct) → (front_char f ≡ Some 39 → ⊥) → Some ps ≡ glued f → tree_front f ≡ Some (cut_trees (length (glue f)) f)
+pub puncts_in_front : (f : Forest) (ps : List Punct) → (front_char f ≡ Some 39 → ⊥) → Some ps ≡ glued f
+    → tree_front f ≡ Some (cut_trees (length (glue f)) f)
 puncts_in_front none ps n e = absurd (none-some ps (sym e))
 puncts_in_front (leaf (literal l) rest) ps n e = absurd (none-some ps (sym e))
 puncts_in_front (leaf (punct p) rest) ps n e = rw (is_no_quote p n) refl
@@ -149,10 +159,13 @@ one_tree None (leaf (punct p) rest) left g v l = absurd (none-some _ v)
 one_tree None (leaf (ident i) rest) left g v l = absurd (none-some _ v)
 one_tree None (group d inside rest) left g v l = absurd (none-some _ v)
 one_tree (Some t) none left g v l = absurd (none-some _ (sym v))
-one_tree (Some t) (leaf (literal k) rest) left g v l = (same_Some _ _ v ∙ ap (leaf (literal k)) (sym (front-zero rest)), left_behind 1 (leaf (literal k) rest) left l)
+one_tree (Some t) (leaf (literal k) rest) left g v l =
+    (same_Some _ _ v ∙ ap (leaf (literal k)) (sym (front-zero rest)), left_following 1 (leaf (literal k) rest) left l)
 one_tree (Some t) (leaf (punct p) rest) left g v l = absurd (none-some _ g)
-one_tree (Some t) (leaf (ident i) rest) left g v l = (same_Some _ _ v ∙ ap (leaf (ident i)) (sym (front-zero rest)), left_behind 1 (leaf (ident i) rest) left l)
-one_tree (Some t) (group d inside rest) left g v l = (same_Some _ _ v ∙ ap (group d inside) (sym (front-zero rest)), left_behind 1 (group d inside rest) left l)
+one_tree (Some t) (leaf (ident i) rest) left g v l =
+    (same_Some _ _ v ∙ ap (leaf (ident i)) (sym (front-zero rest)), left_following 1 (leaf (ident i) rest) left l)
+one_tree (Some t) (group d inside rest) left g v l =
+    (same_Some _ _ v ∙ ap (group d inside) (sym (front-zero rest)), left_following 1 (group d inside rest) left l)
 
 -- where no punct comes first, none are consumed
 pub no_puncts : (f left : Forest) → None ≡ glued f → left ≡ skip (length (glue f)) f → left ≡ f
@@ -195,13 +208,16 @@ glue-some p left =
     let all = joined 3 (leaf (punct p) left) in
     glued_some (is_operator (chars_of all)) (is_operator (chars_of (take 2 all))) p (if_joint p.spacing (joined 2 left))
 
-shorter_by : (n : ℕ) (p : Punct) (left : Forest) → (m : ℕ) → n ≡ suc m → flat_len (skip n (leaf (punct p) left)) < flat_len (leaf (punct p) left)
+shorter_by : (n : ℕ) (p : Punct) (left : Forest) → (m : ℕ) → n ≡ suc m
+    → flat_len (skip n (leaf (punct p) left)) < flat_len (leaf (punct p) left)
 shorter_by n p left m e = rw e (let h = skip_shorter m left in omega arith)
 
-pub puncts_longer : (f left new : Forest) (p : Punct) → f ≡ leaf (punct p) left → new ≡ skip (length (glue f)) f → flat_len new < flat_len f
+pub puncts_longer : (f left new : Forest) (p : Punct) → f ≡ leaf (punct p) left → new ≡ skip (length (glue f)) f
+    → flat_len new < flat_len f
 puncts_longer f left new p at l =
     let n = glue-some p left in
-    let shorter : flat_len (skip (length (glue (leaf (punct p) left))) (leaf (punct p) left)) < flat_len (leaf (punct p) left) =
+    let shorter : flat_len (skip (length (glue (leaf (punct p) left))) (leaf (punct p) left))
+    < flat_len (leaf (punct p) left) =
     shorter_by (length (glue (leaf (punct p) left))) p left n.0 n.1 in
     subst (λ (g : Forest). flat_len g < flat_len f) (sym l)
     (subst (λ (g : Forest). flat_len (skip (length (glue g)) g) < flat_len g) (sym at) shorter)

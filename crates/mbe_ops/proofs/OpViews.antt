@@ -20,10 +20,12 @@ use Rattle.mbe_semantics.specs.Syntax.Op as ops
 use Rattle.mbe_semantics.specs.Syntax.Op.{token, group, variable, repetition, expression, literal, ident, puncts}
 use Rattle.mbe_ops.specs.Views.{op_of, ops_of, template_of, separator_seen, element_seen}
 
-pub view-var : (A : Type 0) (name : List ℕ) (kind : Option MetaVarKind) (id : Span) → op_of {A = A} (Var name kind id) ≡ variable name kind id
+pub view-var : (A : Type 0) (name : List ℕ) (kind : Option MetaVarKind) (id : Span)
+    → op_of {A = A} (Var name kind id) ≡ variable name kind id
 view-var A name kind id = search (rules, the_lemmas)
 
-pub view-ignore : (A : Type 0) (name : List ℕ) (id : Span) → op_of {A = A} (Ignore name id) ≡ expression (ops.ignore name id)
+pub view-ignore : (A : Type 0) (name : List ℕ) (id : Span)
+    → op_of {A = A} (Ignore name id) ≡ expression (ops.ignore name id)
 view-ignore A name id = search (rules, the_lemmas)
 
 pub view-index : (A : Type 0) (depth : ℕ) → op_of {A = A} (Index depth) ≡ expression (ops.index depth)
@@ -32,13 +34,16 @@ view-index A depth = search (rules, the_lemmas)
 pub view-len : (A : Type 0) (depth : ℕ) → op_of {A = A} (Len depth) ≡ expression (ops.len depth)
 view-len A depth = search (rules, the_lemmas)
 
-pub view-count : (A : Type 0) (name : List ℕ) (depth : ℕ) → op_of {A = A} (Count name depth) ≡ expression (ops.count name depth)
+pub view-count : (A : Type 0) (name : List ℕ) (depth : ℕ)
+    → op_of {A = A} (Count name depth) ≡ expression (ops.count name depth)
 view-count A name depth = search (rules, the_lemmas)
 
-pub view-concat : {A : Type 0} (es : Vec (ConcatMetaVarExprElem A) A) (span : Span) → op_of (Concat es span) ≡ expression (ops.concat (map element_seen es.items) span)
+pub view-concat : {A : Type 0} (es : Vec (ConcatMetaVarExprElem A) A) (span : Span)
+    → op_of (Concat es span) ≡ expression (ops.concat (map element_seen es.items) span)
 view-concat es span = search (rules, the_lemmas)
 
-pub view-repeat : {A : Type 0} (t : MetaTemplate A) (kind : RepeatKind) (s : Option (Separator A)) → op_of (Repeat t kind s) ≡ repetition (template_of t) (option_map separator_seen s) kind
+pub view-repeat : {A : Type 0} (t : MetaTemplate A) (kind : RepeatKind) (s : Option (Separator A))
+    → op_of (Repeat t kind s) ≡ repetition (template_of t) (option_map separator_seen s) kind
 view-repeat t kind s = search (rules, the_lemmas)
 
 pub view-subtree : {A : Type 0} (t : MetaTemplate A) (d : Delimiter) → op_of (Subtree t d) ≡ group d (template_of t)
@@ -53,7 +58,8 @@ view-punct A ps = search (rules, the_lemmas)
 pub view-ident : {A : Type 0} (i : AnIdent A) → op_of (Ident i) ≡ token (ident (ident_of i))
 view-ident i = search (rules, the_lemmas)
 
-pub view-template : {A : Type 0} (v : Vec (Op A) A) → template_of (roll-MetaTemplate A (record { 0 = v })) ≡ ops_of v.items
+pub view-template : {A : Type 0} (v : Vec (Op A) A)
+    → template_of (roll-MetaTemplate A (record { 0 = v })) ≡ ops_of v.items
 view-template v = search (rules, the_lemmas)
 
 pub ruleset views = (
@@ -71,25 +77,32 @@ pub ruleset views = (
 )
 
 -- a group of the code, whose ops are in sight
-pub view-open : {A : Type 0} (t : MetaTemplate-F A (code.Op A) (Unit {0})) (d : Delimiter) → op_of {A = A} (views_of.Subtree t d) ≡ ops.group d (ops_of t.0.items)
+pub view-open : {A : Type 0} (t : MetaTemplate-F A (code.Op A) (Unit {0})) (d : Delimiter)
+    → op_of {A = A} (views_of.Subtree t d) ≡ ops.group d (ops_of t.0.items)
 view-open t d = search (rules, the_lemmas)
 
 -- the same of a repetition
-pub view-open_repeat : {A : Type 0} (t : MetaTemplate-F A (code.Op A) (Unit {0})) (kind : RepeatKind) (s : Option (Separator A))
+pub view-open_repeat : {A : Type 0} (t : MetaTemplate-F A (code.Op A) (Unit {0})) (kind : RepeatKind)
+    (s : Option (Separator A))
     → op_of {A = A} (Repeat t kind s) ≡ ops.repetition (ops_of t.0.items) (option_map separator_seen s) kind
 view-open_repeat t kind s = search (rules, the_lemmas)
 
 -- ---- copies
 
 -- the copy of a group with a copy of its body
-pub copied_group : {A : Type 0} (v : Vec (code.Op A) A) (t : MetaTemplate-F A (code.Op A) (Unit {0})) (xs : List (code.Op A)) (d : Delimiter)
-    → ops_of v.items ≡ ops_of xs → xs ≡ t.0.items → op_of (Subtree (roll-MetaTemplate A (record { 0 = v })) d) ≡ op_of {A = A} (views_of.Subtree t d)
+pub copied_group : {A : Type 0} (v : Vec (code.Op A) A) (t : MetaTemplate-F A (code.Op A) (Unit {0}))
+    (xs : List (code.Op A)) (d : Delimiter)
+    → ops_of v.items ≡ ops_of xs → xs ≡ t.0.items
+    → op_of (Subtree (roll-MetaTemplate A (record { 0 = v })) d) ≡ op_of {A = A} (views_of.Subtree t d)
 copied_group {A} v t xs d e f =
-    view-subtree (roll-MetaTemplate A (record { 0 = v })) d ∙ (ap (ops.group d) (view-template v ∙ (e ∙ ap ops_of f)) ∙ sym (view-open t d))
+    view-subtree (roll-MetaTemplate A (record { 0 = v })) d
+    ∙ (ap (ops.group d) (view-template v ∙ (e ∙ ap ops_of f)) ∙ sym (view-open t d))
 
 -- the copy of a repetition with copies of its body and of its separator
-pub copied_repetition : {A : Type 0} (v : Vec (code.Op A) A) (t : MetaTemplate-F A (code.Op A) (Unit {0})) (xs : List (code.Op A)) (kind : RepeatKind)
-    (copy s : Option (Separator A)) → ops_of v.items ≡ ops_of xs → xs ≡ t.0.items → option_map separator_seen copy ≡ option_map separator_seen s
+pub copied_repetition : {A : Type 0} (v : Vec (code.Op A) A) (t : MetaTemplate-F A (code.Op A) (Unit {0}))
+    (xs : List (code.Op A)) (kind : RepeatKind)
+    (copy s : Option (Separator A)) → ops_of v.items ≡ ops_of xs → xs ≡ t.0.items
+    → option_map separator_seen copy ≡ option_map separator_seen s
     → op_of (Repeat (roll-MetaTemplate A (record { 0 = v })) kind copy) ≡ op_of {A = A} (views_of.Repeat t kind s)
 copied_repetition {A} v t xs kind copy s e f h =
     view-repeat (roll-MetaTemplate A (record { 0 = v })) kind copy

@@ -29,11 +29,14 @@ ops_of_walk (Some d) os = ops_before os d
 
 -- all that an iterator gives
 given_is : {A : Type 0} (w : OpDelimitedIter A) (around : Option Delimiter) (os : Ops) (given : List (OpDelimited A))
-    → stops_left w ≡ walk around os → Drains (YieldsFirstBy stop_of stops_left) w given → map stop_of given ≡ walk around os
+    → stops_left w ≡ walk around os → Drains (YieldsFirstBy stop_of stops_left) w given
+    → map stop_of given ≡ walk around os
 given_is w around os given e d =
-    items_from_drains given (d.1.0, d.1.1, λ _. (d.0, d.1.2)) (YieldsList-from_first stop_of stops_left (walk around os) e)
+    items_from_drains given (d.1.0, d.1.1, λ _. (d.0, d.1.2))
+    (YieldsList-from_first stop_of stops_left (walk around os) e)
 
-pub each_op_once : {A : Type 0} (around : Option Delimiter) (os : Ops) → EachOpOnce {A = A} (YieldsFirstBy stop_of stops_left) around os
+pub each_op_once : {A : Type 0} (around : Option Delimiter) (os : Ops)
+    → EachOpOnce {A = A} (YieldsFirstBy stop_of stops_left) around os
 each_op_once around os = record {
   all = λ w given e d. given_is w around os given e d;
   once = ops_of_walk around os;
@@ -46,7 +49,8 @@ abbrev pub stops_weight : List Stop → ℕ
 stops_weight stops = ops_weight (ops_in stops)
 
 -- of a walk over a body
-pub weight_of_walk : {A : Type 0} (w : OpDelimitedIter A) (around : Option Delimiter) (os : Ops) → stops_left w ≡ walk around os
+pub weight_of_walk : {A : Type 0} (w : OpDelimitedIter A) (around : Option Delimiter) (os : Ops)
+    → stops_left w ≡ walk around os
     → stops_weight (stops_left w) ≡ ops_weight os
 weight_of_walk w around os e = ap stops_weight e ∙ ap ops_weight (ops_of_walk around os)
 
@@ -56,20 +60,21 @@ first_no_heavier (opening_stop d) rest = omega arith
 first_no_heavier (op_stop o) rest = omega arith
 first_no_heavier (closing_stop d) rest = omega arith
 
-behind_no_heavier : (s : Stop) (rest : List Stop) → stops_weight rest ≤ stops_weight (s ∷ rest)
-behind_no_heavier (opening_stop d) rest = omega arith
-behind_no_heavier (op_stop o) rest = omega arith
-behind_no_heavier (closing_stop d) rest = omega arith
+after_no_heavier : (s : Stop) (rest : List Stop) → stops_weight rest ≤ stops_weight (s ∷ rest)
+after_no_heavier (opening_stop d) rest = omega arith
+after_no_heavier (op_stop o) rest = omega arith
+after_no_heavier (closing_stop d) rest = omega arith
 
 pub rest_no_heavier : (s : Stop) (all left rest : List Stop) → left ≡ s ∷ rest → stops_weight left ≤ stops_weight all
     → stops_weight rest ≤ stops_weight all
 rest_no_heavier s all left rest e h =
-    let less = behind_no_heavier s rest in
+    let less = after_no_heavier s rest in
     let same = ap stops_weight e in
     omega (arith, less, same, h)
 
 -- what is first is an op, or it is an opening or a closing
-pub op_first : {A : Type 0} (s : OpDelimited A) (o : Bor (code.Op A)) (left rest : List Stop) → left ≡ stop_of s ∷ rest → s ≡ found.Op o
+pub op_first : {A : Type 0} (s : OpDelimited A) (o : Bor (code.Op A)) (left rest : List Stop) → left ≡ stop_of s ∷ rest
+    → s ≡ found.Op o
     → ops_in left ≡ op (op_of o.now) (ops_in rest)
 op_first s o left rest e f = ap ops_in e ∙ ap (λ x. ops_in (stop_of x ∷ rest)) f
 
@@ -79,6 +84,7 @@ no_op_first s left rest e (inl (d, f)) = ap ops_in e ∙ ap (λ x. ops_in (stop_
 no_op_first s left rest e (inr (d, f)) = ap ops_in e ∙ ap (λ x. ops_in (stop_of x ∷ rest)) f
 
 -- before the first turn
-pub ops_at_first : {A : Type 0} (w v : OpDelimitedIter A) (around : Option Delimiter) (os : Ops) → w ≡ v → stops_left v ≡ walk around os
+pub ops_at_first : {A : Type 0} (w v : OpDelimitedIter A) (around : Option Delimiter) (os : Ops) → w ≡ v
+    → stops_left v ≡ walk around os
     → ops_in (stops_left w) ≡ os
 ops_at_first w v around os same e = ap (λ x. ops_in (stops_left x)) same ∙ (ap ops_in e ∙ ops_of_walk around os)

@@ -47,7 +47,8 @@ row_token-token_row (ops.puncts ps) = refl
 
 abbrev pub token_code : Coded Token
 token_code =
-    code_by TokenRow (coded⊎ literal_code (coded⊎ ident_code (coded_list punct.the_row.coded))) token_row row_token row_token-token_row
+    code_by TokenRow (coded⊎ literal_code (coded⊎ ident_code (coded_list punct.the_row.coded))) token_row row_token
+    row_token-token_row
 
 abbrev pub ElementRow : Type 0
 ElementRow = Ident ⊎ (Literal ⊎ Ident)
@@ -68,7 +69,8 @@ row_element-element_row (ops.literal_element l) = refl
 row_element-element_row (ops.variable_element i) = refl
 
 abbrev pub element_code : Coded Element
-element_code = code_by ElementRow (coded⊎ ident_code (coded⊎ literal_code ident_code)) element_row row_element row_element-element_row
+element_code = code_by ElementRow (coded⊎ ident_code (coded⊎ literal_code ident_code)) element_row row_element
+    row_element-element_row
 
 abbrev pub ExpressionRow : Type 0
 ExpressionRow = (Name × Span) ⊎ ((Name × ℕ) ⊎ (ℕ ⊎ (ℕ ⊎ (List Element × Span))))
@@ -121,7 +123,8 @@ abbrev mutual
   op_key (ops.group d body) = gcons (gnum 1) (gcons (delimiter.the_row.coded.code d) (ops_key body))
   op_key (ops.variable name k s) = gcons (gnum 2) (variable_code.code (name, (k, s)))
   op_key (ops.repetition body s k) =
-      gcons (gnum 3) (gcons ((coded_option text_code).code (option_map text_of s)) (gcons (repeat.the_row.coded.code k) (ops_key body)))
+      gcons (gnum 3) (gcons ((coded_option text_code).code (option_map text_of s))
+      (gcons (repeat.the_row.coded.code k) (ops_key body)))
   op_key (ops.expression e) = gcons (gnum 4) (expression_code.code e)
 
   pub ops_key : Ops → Gv
@@ -154,11 +157,13 @@ row_fault-fault_row empty_repetition = refl
 abbrev pub fault_code : Coded Fault
 fault_code =
     let texts = coded_list coded_ℕ in
-    code_by FaultRow (coded⊎ texts (coded⊎ texts (coded⊎ coded_unit coded_unit))) fault_row row_fault row_fault-fault_row
+    code_by FaultRow (coded⊎ texts (coded⊎ texts (coded⊎ coded_unit coded_unit))) fault_row row_fault
+    row_fault-fault_row
 
 abbrev pub rules_key : List Rule → Gv
 rules_key [] = gnil
-rules_key (r ∷ rs) = gcons (style.the_row.coded.code r.style) (gcons (ops_key r.reads) (gcons (ops_key r.writes) (rules_key rs)))
+rules_key (r ∷ rs) = gcons (style.the_row.coded.code r.style)
+    (gcons (ops_key r.reads) (gcons (ops_key r.writes) (rules_key rs)))
 
 abbrev pub macro_key : Macro → Gv
 macro_key m = gcons (rules_key m.rules) ((coded_option fault_code).code m.err)

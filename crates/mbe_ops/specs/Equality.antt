@@ -50,7 +50,8 @@ IsSameBetween _ _ = ⊥
 abbrev mutual
   pub IsSameOp : Op → Op → Type 0
   IsSameOp (ops.group d body) (ops.group e other) = (d ≡ e) × AreSameOps body other
-  IsSameOp (ops.repetition body s repeat) (ops.repetition other t more) = AreSameOps body other × IsSameBetween s t × (repeat ≡ more)
+  IsSameOp (ops.repetition body s repeat) (ops.repetition other t more) =
+      AreSameOps body other × IsSameBetween s t × (repeat ≡ more)
   IsSameOp o p = o ≡ p
 
   pub AreSameOps : Ops → Ops → Type 0
@@ -61,7 +62,8 @@ abbrev mutual
 -- rule by rule
 abbrev pub AreSameRules : List Rule → List Rule → Type 0
 AreSameRules [] [] = Unit {0}
-AreSameRules (r ∷ rs) (q ∷ qs) = (r.style ≡ q.style) × AreSameOps r.reads q.reads × AreSameOps r.writes q.writes × AreSameRules rs qs
+AreSameRules (r ∷ rs) (q ∷ qs) = (r.style ≡ q.style) × AreSameOps r.reads q.reads × AreSameOps r.writes q.writes
+    × AreSameRules rs qs
 AreSameRules _ _ = ⊥
 
 -- what `==` decides

@@ -59,6 +59,7 @@ ops_in (closing_stop d ∷ stops) = ops_in stops
 -- more; and among that is each of the ops once, in order.
 pub record EachOpOnce {A : Type 0} (Turns : OpDelimitedIter A → Option (OpDelimited A) → OpDelimitedIter A → Type 0)
     (around : Option Delimiter) (os : Ops) : Type 0 where
-  pub all : (w : OpDelimitedIter A) (given : List (OpDelimited A)) → stops_left w ≡ walk around os → Drains Turns w given →
+  pub all : (w : OpDelimitedIter A) (given : List (OpDelimited A)) → stops_left w ≡ walk around os
+      → Drains Turns w given →
       map stop_of given ≡ walk around os
   pub once : ops_in (walk around os) ≡ os

@@ -17,7 +17,7 @@ use Rattle.mbe_semantics.specs.declared.kinds.MetaVarKind.{MetaVarKind}
 use Rattle.mbe_semantics.specs.Syntax.Op as ops
 use Rattle.mbe_semantics.specs.Syntax.Op.{Name, Op, Ops, op, no_ops, Separator}
 use Rattle.mbe_semantics.specs.declared.kinds.RepeatKind.{RepeatKind}
-use Rattle.mbe_semantics.specs.Syntax.Template.{Mode, Fault, Head, ended, one, typed, opens_group, opens_repetition, head, behind_dollar, puncts_at, kind_named, kind_names, pat_kind, expr_kind, Specifies, dated_pat, dated_expr, undated, Template, token, variable, grouped, repeated, TemplateFault, here as at_front, in_group, in_repetition, behind_token, behind_variable, behind_group, behind_repetition}
+use Rattle.mbe_semantics.specs.Syntax.Template.{Mode, Fault, Head, ended, one, typed, opens_group, opens_repetition, head, after_dollar, puncts_at, kind_named, kind_names, pat_kind, expr_kind, Specifies, dated_pat, dated_expr, undated, Template, token, variable, grouped, repeated, TemplateFault, here as at_front, in_group, in_repetition, after_token, after_variable, following_group, after_repetition}
 use Rattle.mbe_parser.specs.Reader.{AtHead, FaultAtHead, ReadsOp, Stops}
 use Rattle.mbe_errors.specs.ErrorViews.{fault_of}
 use Rattle.mbe_errors.specs.declared.error.ReadError as why
@@ -41,19 +41,23 @@ false_by false P h n = refl
 different : (a b : List ℕ) → (b ≡ a → ⊥) → bytes_eq a b ≡ false
 different a b n = false_by (bytes_eq a b) (a ≡ b) (bytes_eq-Decides a b).0 (λ e. n (sym e))
 
-pub kind_named-none : (rows : List (List ℕ × MetaVarKind)) (name : List ℕ) → IsNoneOf rows name → None ≡ kind_named rows name
+pub kind_named-none : (rows : List (List ℕ × MetaVarKind)) (name : List ℕ) → IsNoneOf rows name
+    → None ≡ kind_named rows name
 kind_named-none [] name n = refl
 kind_named-none (row ∷ rows) name n = rw (different row.0 name n.0) (kind_named-none rows name n.1)
 
 module _ (HasEdition : SyntaxContext → Edition → Type 0) where
-  pub unknown : (specifier : Ident) → (specifier.sym ≡ codes "pat" → ⊥) → (specifier.sym ≡ codes "expr" → ⊥) → IsNoneOf kind_names specifier.sym
+  pub unknown : (specifier : Ident) → (specifier.sym ≡ codes "pat" → ⊥) → (specifier.sym ≡ codes "expr" → ⊥)
+      → IsNoneOf kind_names specifier.sym
       → Specifies HasEdition specifier None
   unknown specifier p x n =
       subst (Specifies HasEdition specifier) (sym (kind_named-none kind_names specifier.sym n))
-      (undated (different specifier.sym (codes "pat") (λ e. p (sym e))) (different specifier.sym (codes "expr") (λ e. x (sym e))))
+      (undated (different specifier.sym (codes "pat") (λ e. p (sym e)))
+      (different specifier.sym (codes "expr") (λ e. x (sym e))))
 
   -- a name that means its kind in each edition
-  pub known : (specifier : Ident) (name : List ℕ) (kind : Option MetaVarKind) → specifier.sym ≡ name → IsFalse (is_text name (codes "pat"))
+  pub known : (specifier : Ident) (name : List ℕ) (kind : Option MetaVarKind) → specifier.sym ≡ name
+      → IsFalse (is_text name (codes "pat"))
       → IsFalse (is_text name (codes "expr")) → kind_named kind_names name ≡ kind → Specifies HasEdition specifier kind
   known specifier name kind e p x k =
       subst (Specifies HasEdition specifier) (ap (kind_named kind_names) e ∙ k)
@@ -64,63 +68,77 @@ module _ (HasEdition : SyntaxContext → Edition → Type 0) where
 
   -- `pat` and `expr`, in the edition of the specifier's span
   pub pat_dated : (specifier : Ident) (kind : MetaVarKind) → specifier.sym ≡ codes "pat"
-      → ((e : Edition) × HasEdition specifier.span.ctx e × (kind ≡ pat_kind e)) → Specifies HasEdition specifier (Some kind)
-  pat_dated s kind t a = subst (λ k. Specifies HasEdition s (Some k)) (sym a.2) (dated_pat a.0 (same_text s.sym (codes "pat") t) a.1)
+      → ((e : Edition) × HasEdition specifier.span.ctx e × (kind ≡ pat_kind e))
+      → Specifies HasEdition specifier (Some kind)
+  pat_dated s kind t a = subst (λ k. Specifies HasEdition s (Some k)) (sym a.2)
+      (dated_pat a.0 (same_text s.sym (codes "pat") t) a.1)
 
   pub expr_dated : (specifier : Ident) (kind : MetaVarKind) → specifier.sym ≡ codes "expr"
-      → ((e : Edition) × HasEdition specifier.span.ctx e × (kind ≡ expr_kind e)) → Specifies HasEdition specifier (Some kind)
-  expr_dated s kind t a = subst (λ k. Specifies HasEdition s (Some k)) (sym a.2) (dated_expr a.0 (same_text s.sym (codes "expr") t) a.1)
+      → ((e : Edition) × HasEdition specifier.span.ctx e × (kind ≡ expr_kind e))
+      → Specifies HasEdition specifier (Some kind)
+  expr_dated s kind t a = subst (λ k. Specifies HasEdition s (Some k)) (sym a.2)
+      (dated_expr a.0 (same_text s.sym (codes "expr") t) a.1)
 
 -- ---- heads
 
 -- an op at the front, seen through an equation
 module _ (HasEdition : SyntaxContext → Edition → Type 0) (mode : Mode) where
-  reads_one : (f rest left : Forest) (o p : Op) → head mode f ≡ Ok (one o rest) → o ≡ p → rest ≡ left → ReadsOp HasEdition mode f p left
+  reads_one : (f rest left : Forest) (o p : Op) → head mode f ≡ Ok (one o rest) → o ≡ p → rest ≡ left
+      → ReadsOp HasEdition mode f p left
   reads_one f rest left o p e same behind =
-      let h : head mode f ≡ Ok (one p left) = e ∙ (ap (λ (x : Op). let r : Result Head Fault = Ok (one x rest) in r) same ∙ ap (λ (x : Forest). let r : Result Head Fault = Ok (one p x) in r) behind) in
+      let h : head mode f ≡ Ok (one p left) =
+      e ∙ (ap (λ (x : Op). let r : Result Head Fault = Ok (one x rest) in r) same
+      ∙ ap (λ (x : Forest). let r : Result Head Fault = Ok (one p x) in r) behind) in
       record {
         more = λ os t. token f left p os h t;
-        fault = λ x t. behind_token f left p h t;
+        fault = λ x t. after_token f left p h t;
       }
 
   reads_typed : (f left : Forest) (name : Name) (span : Span) (s : Ident) (kind : Option MetaVarKind)
-      → head mode f ≡ Ok (typed name span s left) → Specifies HasEdition s kind → ReadsOp HasEdition mode f (ops.variable name kind span) left
+      → head mode f ≡ Ok (typed name span s left) → Specifies HasEdition s kind
+      → ReadsOp HasEdition mode f (ops.variable name kind span) left
   reads_typed f left name span s kind e specifies = record {
     more = λ os t. variable f left name span s kind os e specifies t;
-    fault = λ x t. behind_variable f left name span s e t;
+    fault = λ x t. after_variable f left name span s e t;
   }
 
   pub reads_group : (f inside left : Forest) (d : Delimiter) (body : Ops) → head mode f ≡ Ok (opens_group d inside left)
       → Template HasEdition mode inside body → ReadsOp HasEdition mode f (ops.group d body) left
   reads_group f inside left d body e b = record {
     more = λ os t. grouped f inside left d body os e b t;
-    fault = λ x t. behind_group f inside left d body e b t;
+    fault = λ x t. following_group f inside left d body e b t;
   }
 
   reads_repetition : (f inside left : Forest) (s : Option Separator) (repeat : RepeatKind) (body : Ops)
-      → head mode f ≡ Ok (opens_repetition s repeat inside left) → Template HasEdition mode inside body → ReadsOp HasEdition mode f (ops.repetition body s repeat) left
+      → head mode f ≡ Ok (opens_repetition s repeat inside left) → Template HasEdition mode inside body
+      → ReadsOp HasEdition mode f (ops.repetition body s repeat) left
   reads_repetition f inside left s repeat body e b = record {
     more = λ os t. repeated f inside left s repeat body os e b t;
-    fault = λ x t. behind_repetition f inside left s repeat body e b t;
+    fault = λ x t. after_repetition f inside left s repeat body e b t;
   }
 
   seen_as : (f left : Forest) (o p : Op) → o ≡ p → ReadsOp HasEdition mode f o left → ReadsOp HasEdition mode f p left
   seen_as f left o p same r = subst (λ (q : Op). ReadsOp HasEdition mode f q left) same r
 
   -- what stands at the front is read first
-  pub reads_head : (f left : Forest) (p : Op) (h : Result Head Fault) → head mode f ≡ h → AtHead HasEdition mode h p left → ReadsOp HasEdition mode f p left
+  pub reads_head : (f left : Forest) (p : Op) (h : Result Head Fault) → head mode f ≡ h
+      → AtHead HasEdition mode h p left → ReadsOp HasEdition mode f p left
   reads_head f left p (Ok (one o rest)) e at = reads_one f rest left o p e at.0 at.1
   reads_head f left p (Ok (typed name span s rest)) e at =
-      seen_as f left _ p at.2 (reads_typed f left name span s at.0 (e ∙ ap (λ (x : Forest). let r : Result Head Fault = Ok (typed name span s x) in r) at.3) at.1)
+      seen_as f left _ p at.2 (reads_typed f left name span s at.0
+      (e ∙ ap (λ (x : Forest). let r : Result Head Fault = Ok (typed name span s x) in r) at.3) at.1)
   reads_head f left p (Ok (opens_group d inside rest)) e at =
-      seen_as f left _ p at.2 (reads_group f inside left d at.0 (e ∙ ap (λ (x : Forest). let r : Result Head Fault = Ok (opens_group d inside x) in r) at.3) at.1)
+      seen_as f left _ p at.2 (reads_group f inside left d at.0
+      (e ∙ ap (λ (x : Forest). let r : Result Head Fault = Ok (opens_group d inside x) in r) at.3) at.1)
   reads_head f left p (Ok (opens_repetition s repeat inside rest)) e at =
-      seen_as f left _ p at.2 (reads_repetition f inside left s repeat at.0 (e ∙ ap (λ (x : Forest). let r : Result Head Fault = Ok (opens_repetition s repeat inside x) in r) at.3) at.1)
+      seen_as f left _ p at.2 (reads_repetition f inside left s repeat at.0
+      (e ∙ ap (λ (x : Forest). let r : Result Head Fault = Ok (opens_repetition s repeat inside x) in r) at.3) at.1)
   reads_head f left p (Ok ended) e at = absurd at
   reads_head f left p (Err x) e at = absurd at
 
   -- the fault of what stands at the front is the first of all
-  pub fault_head : (f : Forest) (x : Fault) (h : Result Head Fault) → head mode f ≡ h → FaultAtHead HasEdition mode h x → TemplateFault HasEdition mode x f
+  pub fault_head : (f : Forest) (x : Fault) (h : Result Head Fault) → head mode f ≡ h → FaultAtHead HasEdition mode h x
+      → TemplateFault HasEdition mode x f
   fault_head f x (Err y) e at = at_front f (e ∙ ap (λ (z : Fault). let r : Result Head Fault = Err z in r) at)
   fault_head f x (Ok (opens_group d inside rest)) e at = in_group f inside rest d e at
   fault_head f x (Ok (opens_repetition s repeat inside rest)) e at = in_repetition f inside rest s repeat e at
@@ -144,7 +162,8 @@ abbrev pub with_front : {A : Type 0} → List (code.Op A) → Ops → Ops
 with_front [] os = os
 with_front (o ∷ before) os = op (op_of o) (with_front before os)
 
-pub with_front-push : {A : Type 0} (before : List (code.Op A)) (o : code.Op A) (os : Ops) → with_front before (op (op_of o) os) ≡ with_front (before ++ o ∷ []) os
+pub with_front-push : {A : Type 0} (before : List (code.Op A)) (o : code.Op A) (os : Ops)
+    → with_front before (op (op_of o) os) ≡ with_front (before ++ o ∷ []) os
 with_front-push [] o os = refl
 with_front-push (p ∷ before) o os = ap (op (op_of p)) (with_front-push before o os)
 
@@ -158,47 +177,61 @@ pub Stops-weaker : (e : why.ReadError) (P Q : Fault → Type 0) → ((x : Fault)
 Stops-weaker why.TheVariants.Memory P Q h p = tt
 Stops-weaker (why.TheVariants.Fault f) P Q h p = h (fault_of f) p
 
-pub stopped : {T : Type 0} (r : Result T why.ReadError) (P Q : Fault → Type 0) → ((x : Fault) → P x → Q x) → IfErr r (λ e. Stops e P) → IfErr r (λ e. Stops e Q)
+pub stopped : {T : Type 0} (r : Result T why.ReadError) (P Q : Fault → Type 0) → ((x : Fault) → P x → Q x)
+    → IfErr r (λ e. Stops e P) → IfErr r (λ e. Stops e Q)
 stopped (Ok x) P Q h p = tt
 stopped (Err e) P Q h p = Stops-weaker e P Q h p
 
 module _ (HasEdition : SyntaxContext → Edition → Type 0) (m : Mode) where
   -- a leaf behind a `$`
   pub leaf_op : {A E : Type 0} (r : Result (code.Op A) E) (p : Punct) (f left new : Forest) (l : Leaf) → f ≡ leaf l left
-      → IfOk r (λ o. (d : Punct) → AtHead HasEdition m (behind_dollar m d (leaf l left)) (op_of o) new) → IfOk r (λ o. AtHead HasEdition m (behind_dollar m p f) (op_of o) new)
+      → IfOk r (λ o. (d : Punct) → AtHead HasEdition m (after_dollar m d (leaf l left)) (op_of o) new)
+      → IfOk r (λ o. AtHead HasEdition m (after_dollar m p f) (op_of o) new)
   leaf_op (Err e) p f left new l here h = tt
-  leaf_op (Ok o) p f left new l here h = subst (λ (g : Forest). AtHead HasEdition m (behind_dollar m p g) (op_of o) new) (sym here) (h p)
+  leaf_op (Ok o) p f left new l here h =
+      subst (λ (g : Forest). AtHead HasEdition m (after_dollar m p g) (op_of o) new) (sym here) (h p)
 
   pub leaf_fault : {T : Type 0} (r : Result T why.ReadError) (p : Punct) (f left : Forest) (l : Leaf) → f ≡ leaf l left
-      → IfErr r (λ e. Stops e (λ x. (d : Punct) → behind_dollar m d (leaf l left) ≡ Err x)) → IfErr r (λ e. Stops e (FaultAtHead HasEdition m (behind_dollar m p f)))
+      → IfErr r (λ e. Stops e (λ x. (d : Punct) → after_dollar m d (leaf l left) ≡ Err x))
+      → IfErr r (λ e. Stops e (FaultAtHead HasEdition m (after_dollar m p f)))
   leaf_fault r p f left l here h =
-      stopped r (λ x. (d : Punct) → behind_dollar m d (leaf l left) ≡ Err x) (FaultAtHead HasEdition m (behind_dollar m p f))
-      (λ x k. err_head HasEdition m x (behind_dollar m p f) (ap (behind_dollar m p) here ∙ k p)) h
+      stopped r (λ x. (d : Punct) → after_dollar m d (leaf l left) ≡ Err x)
+      (FaultAtHead HasEdition m (after_dollar m p f))
+      (λ x k. err_head HasEdition m x (after_dollar m p f) (ap (after_dollar m p) here ∙ k p)) h
 
 -- ---- the front of all trees
 
-pub dollar_head : (m : Mode) (f left : Forest) (p : Punct) → f ≡ leaf (punct p) left → p.char ≡ 36 → head m f ≡ behind_dollar m p left
+pub dollar_head : (m : Mode) (f left : Forest) (p : Punct) → f ≡ leaf (punct p) left → p.char ≡ 36
+    → head m f ≡ after_dollar m p left
 dollar_head m f left p here e = ap (head m) here ∙ dollar_if (p.char == 36) (eq-eqb p.char 36 e)
   where
-    dollar_if : (b : Bool) → b ≡ true → (if b then behind_dollar m p left else Ok (puncts_at (leaf (punct p) left))) ≡ behind_dollar m p left
-    dollar_if b t = ap (λ (c : Bool). if c then behind_dollar m p left else Ok (puncts_at (leaf (punct p) left))) t
+    dollar_if : (b : Bool) → b ≡ true → (if b then after_dollar m p left else Ok (puncts_at (leaf (punct p) left)))
+        ≡ after_dollar m p left
+    dollar_if b t = ap (λ (c : Bool). if c then after_dollar m p left else Ok (puncts_at (leaf (punct p) left))) t
 
-pub puncts_head : (m : Mode) (f left : Forest) (p : Punct) → f ≡ leaf (punct p) left → (p.char ≡ 36 → ⊥) → head m f ≡ Ok (puncts_at f)
+pub puncts_head : (m : Mode) (f left : Forest) (p : Punct) → f ≡ leaf (punct p) left → (p.char ≡ 36 → ⊥)
+    → head m f ≡ Ok (puncts_at f)
 puncts_head m f left p here n =
-    ap (head m) here ∙ (puncts_if (p.char == 36) (ne_eqb p.char 36 n) ∙ ap (λ (g : Forest). let r : Result Head Fault = Ok (puncts_at g) in r) (sym here))
+    ap (head m) here ∙ (puncts_if (p.char == 36) (ne_eqb p.char 36 n)
+    ∙ ap (λ (g : Forest). let r : Result Head Fault = Ok (puncts_at g) in r) (sym here))
   where
-    puncts_if : (b : Bool) → b ≡ false → (if b then behind_dollar m p left else Ok (puncts_at (leaf (punct p) left))) ≡ Ok (puncts_at (leaf (punct p) left))
-    puncts_if b t = ap (λ (c : Bool). if c then behind_dollar m p left else Ok (puncts_at (leaf (punct p) left))) t
+    puncts_if : (b : Bool) → b ≡ false → (if b then after_dollar m p left else Ok (puncts_at (leaf (punct p) left)))
+        ≡ Ok (puncts_at (leaf (punct p) left))
+    puncts_if b t = ap (λ (c : Bool). if c then after_dollar m p left else Ok (puncts_at (leaf (punct p) left))) t
 
 module _ (HasEdition : SyntaxContext → Edition → Type 0) where
-  pub head_op : {A E : Type 0} (r : Result (code.Op A) E) (m : Mode) (f new : Forest) (h : Result Head Fault) → head m f ≡ h
+  pub head_op : {A E : Type 0} (r : Result (code.Op A) E) (m : Mode) (f new : Forest) (h : Result Head Fault)
+      → head m f ≡ h
       → IfOk r (λ o. AtHead HasEdition m h (op_of o) new) → IfOk r (λ o. ReadsOp HasEdition m f (op_of o) new)
   head_op (Err e) m f new h here at = tt
   head_op (Ok o) m f new h here at = reads_head HasEdition m f new (op_of o) h here at
 
-  pub head_fault : {T : Type 0} (r : Result T why.ReadError) (m : Mode) (f : Forest) (h : Result Head Fault) → head m f ≡ h
-      → IfErr r (λ e. Stops e (FaultAtHead HasEdition m h)) → IfErr r (λ e. Stops e (λ x. TemplateFault HasEdition m x f))
-  head_fault r m f h here at = stopped r (FaultAtHead HasEdition m h) (λ x. TemplateFault HasEdition m x f) (λ x k. fault_head HasEdition m f x h here k) at
+  pub head_fault : {T : Type 0} (r : Result T why.ReadError) (m : Mode) (f : Forest) (h : Result Head Fault)
+      → head m f ≡ h
+      → IfErr r (λ e. Stops e (FaultAtHead HasEdition m h))
+      → IfErr r (λ e. Stops e (λ x. TemplateFault HasEdition m x f))
+  head_fault r m f h here at = stopped r (FaultAtHead HasEdition m h) (λ x. TemplateFault HasEdition m x f)
+      (λ x k. fault_head HasEdition m f x h here k) at
 
   pub group_fault : (e : why.ReadError) (m : Mode) (f inside left : Forest) (d : Delimiter) → f ≡ group d inside left
       → Stops e (λ x. TemplateFault HasEdition m x inside) → Stops e (λ x. TemplateFault HasEdition m x f)
@@ -206,9 +239,11 @@ module _ (HasEdition : SyntaxContext → Edition → Type 0) where
       Stops-weaker e (λ x. TemplateFault HasEdition m x inside) (λ x. TemplateFault HasEdition m x f)
       (λ x k. in_group f inside left d (ap (head m) at) k) h
 
-  pub later_fault : (e : why.ReadError) (m : Mode) (f left : Forest) → ((x : Fault) → TemplateFault HasEdition m x left → TemplateFault HasEdition m x f)
+  pub later_fault : (e : why.ReadError) (m : Mode) (f left : Forest)
+      → ((x : Fault) → TemplateFault HasEdition m x left → TemplateFault HasEdition m x f)
       → Stops e (λ x. TemplateFault HasEdition m x left) → Stops e (λ x. TemplateFault HasEdition m x f)
-  later_fault e m f left k h = Stops-weaker e (λ x. TemplateFault HasEdition m x left) (λ x. TemplateFault HasEdition m x f) k h
+  later_fault e m f left k h = Stops-weaker e (λ x. TemplateFault HasEdition m x left)
+      (λ x. TemplateFault HasEdition m x f) k h
 
 pub on_ok : {T E : Type 0} (r : Result T E) (P : Type 0) → P → OnOk r P
 on_ok (Ok x) P p = p
@@ -223,8 +258,12 @@ module _ (HasEdition : SyntaxContext → Edition → Type 0) where
   pub leaf_reads : (m : Mode) (f left : Forest) (o : Op) → head m f ≡ Ok (one o left) → ReadsOp HasEdition m f o left
   leaf_reads m f left o e = reads_head HasEdition m f left o (Ok (one o left)) e (refl, refl)
 
-  pub puncts_op : (A : Type 0) (m : Mode) (f left : Forest) (p : Punct) (ps : List Punct) → head m f ≡ Ok (puncts_at f) → Some ps ≡ glued f
+  pub puncts_op : (A : Type 0) (m : Mode) (f left : Forest) (p : Punct) (ps : List Punct) → head m f ≡ Ok (puncts_at f)
+      → Some ps ≡ glued f
       → left ≡ skip (length (glue f)) f → ReadsOp HasEdition m f (op_of {A = A} (code.TheVariants.Punct ps)) left
   puncts_op A m f left p ps e g l =
-      reads_head HasEdition m f left _ (Ok (puncts_at f)) e
-      (ap (λ (xs : List Punct). ops.token (ops.puncts xs)) (glued_is f ps g) ∙ sym (view-punct A ps), back-skip (length (glue f)) f ∙ sym l)
+      reads_head HasEdition m f left _ (Ok (puncts_at f)) e (
+        ap (λ (xs : List Punct). ops.token (ops.puncts xs)) (glued_is f ps g)
+            ∙ sym (view-punct A ps),
+        back-skip (length (glue f)) f ∙ sym l,
+      )

@@ -31,7 +31,8 @@ or_assoc true b c = refl
 or_assoc false b c = refl
 
 -- what was read, and then what is left, can read nothing
-pub next_nullable : (all so_far here now : Bool) (s : Stop) (left rest : List Stop) → left ≡ s ∷ rest → here ≡ is_nullable_stop s
+pub next_nullable : (all so_far here now : Bool) (s : Stop) (left rest : List Stop) → left ≡ s ∷ rest
+    → here ≡ is_nullable_stop s
     → now ≡ (so_far && here) → all ≡ (so_far && can_read_nothing left) → all ≡ (now && can_read_nothing rest)
 next_nullable all so_far here now s left rest l h n e =
     e ∙ (ap (λ r. so_far && can_read_nothing r) l
@@ -39,7 +40,8 @@ next_nullable all so_far here now s left rest l h n e =
     ∙ sym (ap (λ b. b && can_read_nothing rest) (n ∙ ap (λ b. so_far && b) h))))
 
 -- the same of a refused repetition
-pub next_refused : (all so_far here now : Bool) (s : Stop) (left rest : List Stop) → left ≡ s ∷ rest → here ≡ is_refused_stop s
+pub next_refused : (all so_far here now : Bool) (s : Stop) (left rest : List Stop) → left ≡ s ∷ rest
+    → here ≡ is_refused_stop s
     → now ≡ (so_far || here) → all ≡ (so_far || some_refused left) → all ≡ (now || some_refused rest)
 next_refused all so_far here now s left rest l h n e =
     e ∙ (ap (λ r. so_far || some_refused r) l
@@ -67,7 +69,8 @@ refused_inside (Some d) os = refused_before os d
 -- ---- one repetition
 
 -- whether it has no separator
-pub separated_if : {A : Type 0} (s : Option (Separator A)) (separated : Bool) → separated ≡ is_some s → not separated ≡ is_unseparated (option_map separator_seen s)
+pub separated_if : {A : Type 0} (s : Option (Separator A)) (separated : Bool) → separated ≡ is_some s
+    → not separated ≡ is_unseparated (option_map separator_seen s)
 separated_if None separated e = ap not e
 separated_if (Some x) separated e = ap not e
 
@@ -77,8 +80,10 @@ separated_if (Some x) separated e = ap not e
 abbrev pub refused_reads : Rule → Bool
 refused_reads r = is_refused r.reads
 
-pub next_rule : {A : Type 0} (xs : List (written.Rule A)) (i : ℕ) (x : written.Rule A) → i < length xs → x ≡ get_or xs i x
-    → list_any refused_reads (rules_seen (drop i xs)) ≡ (is_refused (rule_of x).reads || list_any refused_reads (rules_seen (drop (i + 1) xs)))
+pub next_rule : {A : Type 0} (xs : List (written.Rule A)) (i : ℕ) (x : written.Rule A) → i < length xs
+    → x ≡ get_or xs i x
+    → list_any refused_reads (rules_seen (drop i xs))
+    ≡ (is_refused (rule_of x).reads || list_any refused_reads (rules_seen (drop (i + 1) xs)))
 next_rule xs i x h e =
     ap (λ ys. list_any refused_reads (rules_seen ys)) (drop_more xs i x h)
     ∙ ap (λ y. is_refused (rule_of y).reads || list_any refused_reads (rules_seen (drop (i + 1) xs))) (sym e)
@@ -89,5 +94,6 @@ rule_kept r a b e h = or_false a b (sym e ∙ h)
 pub rule_refused : (r a b : Bool) → r ≡ a → r ≡ true → true ≡ (a || b)
 rule_refused r a b e h = or_true a b (sym e ∙ h)
 
-pub no_rule_left : {A : Type 0} (xs : List (written.Rule A)) (i : ℕ) → length xs ≤ i → list_any refused_reads (rules_seen (drop i xs)) ≡ false
+pub no_rule_left : {A : Type 0} (xs : List (written.Rule A)) (i : ℕ) → length xs ≤ i
+    → list_any refused_reads (rules_seen (drop i xs)) ≡ false
 no_rule_left xs i h = ap (λ ys. list_any refused_reads (rules_seen ys)) (drop_all i xs h)

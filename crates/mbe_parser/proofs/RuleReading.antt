@@ -18,7 +18,7 @@ use Rattle.mbe_errors.specs.declared.error.ReadError as why
 use Rattle.mbe_parser.specs.declared.rules.Rule as code
 use Rattle.mbe_semantics.specs.Syntax.Op.{Ops}
 use Rattle.mbe_semantics.specs.Syntax.Template.{Fault, pattern, template, Template, TemplateFault}
-use Rattle.mbe_semantics.specs.Syntax.Definition.{RuleTrees, Rule, rule_trees_at, pattern_at, AreParts, PartsFault, in_pattern, in_template, Rules, ended, no_rule, faulty_rule, unseparated, separated, behind_separator, with_refusal, IsMacroOfArguments, one_rule, faulty}
+use Rattle.mbe_semantics.specs.Syntax.Definition.{RuleTrees, Rule, rule_trees_at, pattern_at, AreParts, PartsFault, in_template, Rules, ended, no_rule, faulty_rule, unseparated, separated, after_separator, with_refusal, IsMacroOfArguments, one_rule, faulty}
 use Rattle.mbe_parser.specs.Reader.{IsStyled, AreRuleTrees, ReadsRule, RuleFault, in_trees, in_parts, AreRules, IsOneRule, Stops}
 use Rattle.mbe_errors.specs.ErrorViews.{fault_of}
 use Rattle.mbe_parser.specs.RuleViews.{rule_of, rules_seen}
@@ -33,21 +33,26 @@ use Rattle.mbe_parser.proofs.ReaderLemmas.{Stops-weaker, on_ok}
 abbrev rule_trees_of : MacroCallStyle → Forest × Forest → Forest → RuleTrees
 rule_trees_of style parts left = record { style = style; reads = parts.0; writes = parts.1; back = left }
 
-pub rule_trees_of-ok : (style : MacroCallStyle) (parts : Forest × Forest) (r : Result RuleTrees Fault) (left : Forest) → AreRuleTrees style (Ok parts) r left
+pub rule_trees_of-ok : (style : MacroCallStyle) (parts : Forest × Forest) (r : Result RuleTrees Fault) (left : Forest)
+    → AreRuleTrees style (Ok parts) r left
     → r ≡ Ok (rule_trees_of style parts left)
 rule_trees_of-ok style parts (Err x) left h = absurd h
 rule_trees_of-ok style parts (Ok o) left h =
-    ap (λ (x : RuleTrees). let r : Result RuleTrees Fault = Ok x in r) (λ i. record { style = h.0 i; reads = h.1 i; writes = h.2 i; back = h.3 i })
+    ap (λ (x : RuleTrees). let r : Result RuleTrees Fault = Ok x in r)
+    (λ i. record { style = h.0 i; reads = h.1 i; writes = h.2 i; back = h.3 i })
 
-pub rule_trees_of-err : (style : MacroCallStyle) (x : reported.SyntaxFault) (r : Result RuleTrees Fault) (left : Forest) → AreRuleTrees style (Err x) r left → r ≡ Err (fault_of x)
+pub rule_trees_of-err : (style : MacroCallStyle) (x : reported.SyntaxFault) (r : Result RuleTrees Fault) (left : Forest)
+    → AreRuleTrees style (Err x) r left → r ≡ Err (fault_of x)
 rule_trees_of-err style x (Ok o) left h = absurd h
 rule_trees_of-err style x (Err y) left h = ap (λ (z : Fault). let r : Result RuleTrees Fault = Err z in r) (sym h)
 
 module _ (HasEdition : SyntaxContext → Edition → Type 0) where
   -- ---- one rule
 
-  pub reads_rule : (style : MacroCallStyle) (parts : Forest × Forest) (f mid left : Forest) (r : Rule) → rule_trees_at f ≡ pattern_at style mid
-      → AreRuleTrees style (Ok parts) (pattern_at style mid) left → AreParts HasEdition (rule_trees_of style parts left) r → ReadsRule HasEdition f r left
+  pub reads_rule : (style : MacroCallStyle) (parts : Forest × Forest) (f mid left : Forest) (r : Rule)
+      → rule_trees_at f ≡ pattern_at style mid
+      → AreRuleTrees style (Ok parts) (pattern_at style mid) left
+      → AreParts HasEdition (rule_trees_of style parts left) r → ReadsRule HasEdition f r left
   reads_rule style parts f mid left r e h p = record {
     rule_trees = rule_trees_of style parts left;
     at = e ∙ rule_trees_of-ok style parts (pattern_at style mid) left h;
@@ -56,54 +61,66 @@ module _ (HasEdition : SyntaxContext → Edition → Type 0) where
   }
 
   -- a fault before the pattern
-  pub style_fault : (x : reported.SyntaxFault) (f left : Forest) → IsStyled (Err x) (rule_trees_at f) left → RuleFault HasEdition (fault_of x) f
+  pub style_fault : (x : reported.SyntaxFault) (f left : Forest) → IsStyled (Err x) (rule_trees_at f) left
+      → RuleFault HasEdition (fault_of x) f
   style_fault x f left at = in_trees at
 
-  pub rule_trees_fault : (style : MacroCallStyle) (x : reported.SyntaxFault) (f mid left : Forest) → rule_trees_at f ≡ pattern_at style mid
+  pub rule_trees_fault : (style : MacroCallStyle) (x : reported.SyntaxFault) (f mid left : Forest)
+      → rule_trees_at f ≡ pattern_at style mid
       → AreRuleTrees style (Err x) (pattern_at style mid) left → RuleFault HasEdition (fault_of x) f
   rule_trees_fault style x f mid left at h = in_trees (at ∙ rule_trees_of-err style x (pattern_at style mid) left h)
 
   -- a fault of the pattern or the template
-  pub parts_fault : (style : MacroCallStyle) (e : why.ReadError) (parts : Forest × Forest) (f mid left : Forest) → rule_trees_at f ≡ pattern_at style mid
-      → AreRuleTrees style (Ok parts) (pattern_at style mid) left → Stops e (λ x. (back : Forest) → PartsFault HasEdition (rule_trees_of style parts back) x)
+  pub parts_fault : (style : MacroCallStyle) (e : why.ReadError) (parts : Forest × Forest) (f mid left : Forest)
+      → rule_trees_at f ≡ pattern_at style mid
+      → AreRuleTrees style (Ok parts) (pattern_at style mid) left
+      → Stops e (λ x. (back : Forest) → PartsFault HasEdition (rule_trees_of style parts back) x)
       → Stops e (λ x. RuleFault HasEdition x f)
   parts_fault style e parts f mid left at h k =
-      Stops-weaker e (λ x. (back : Forest) → PartsFault HasEdition (rule_trees_of style parts back) x) (λ x. RuleFault HasEdition x f)
-      (λ x w. in_parts (rule_trees_of style parts left) (at ∙ rule_trees_of-ok style parts (pattern_at style mid) left h) (w left)) k
+      Stops-weaker e (λ x. (back : Forest) → PartsFault HasEdition (rule_trees_of style parts back) x)
+      (λ x. RuleFault HasEdition x f)
+      (λ x w. in_parts (rule_trees_of style parts left)
+      (at ∙ rule_trees_of-ok style parts (pattern_at style mid) left h) (w left)) k
 
   -- the rule that a call gives, or its fault
-  pub rule_read : {A E : Type 0} (r : Result (code.Rule A) E) (style : MacroCallStyle) (parts : Forest × Forest) (f mid left : Forest)
+  pub rule_read : {A E : Type 0} (r : Result (code.Rule A) E) (style : MacroCallStyle) (parts : Forest × Forest)
+      (f mid left : Forest)
       → rule_trees_at f ≡ pattern_at style mid → AreRuleTrees style (Ok parts) (pattern_at style mid) left
-      → IfOk r (λ x. (back : Forest) → AreParts HasEdition (rule_trees_of style parts back) (rule_of x)) → IfOk r (λ x. ReadsRule HasEdition f (rule_of x) left)
+      → IfOk r (λ x. (back : Forest) → AreParts HasEdition (rule_trees_of style parts back) (rule_of x))
+      → IfOk r (λ x. ReadsRule HasEdition f (rule_of x) left)
   rule_read (Err e) style parts f mid left at h p = tt
   rule_read (Ok x) style parts f mid left at h p = reads_rule style parts f mid left (rule_of x) at h (p left)
 
-  pub rule_faulty : {T : Type 0} (r : Result T why.ReadError) (style : MacroCallStyle) (parts : Forest × Forest) (f mid left : Forest)
+  pub rule_faulty : {T : Type 0} (r : Result T why.ReadError) (style : MacroCallStyle) (parts : Forest × Forest)
+      (f mid left : Forest)
       → rule_trees_at f ≡ pattern_at style mid → AreRuleTrees style (Ok parts) (pattern_at style mid) left
-      → IfErr r (λ e. Stops e (λ x. (back : Forest) → PartsFault HasEdition (rule_trees_of style parts back) x)) → IfErr r (λ e. Stops e (λ x. RuleFault HasEdition x f))
+      → IfErr r (λ e. Stops e (λ x. (back : Forest) → PartsFault HasEdition (rule_trees_of style parts back) x))
+      → IfErr r (λ e. Stops e (λ x. RuleFault HasEdition x f))
   rule_faulty (Ok x) style parts f mid left at h p = tt
   rule_faulty (Err e) style parts f mid left at h p = parts_fault style e parts f mid left at h p
 
-  pub pattern_stops : (e : why.ReadError) (style : MacroCallStyle) (parts : Forest × Forest)
-      → Stops e (λ x. TemplateFault HasEdition pattern x parts.0) → Stops e (λ x. (back : Forest) → PartsFault HasEdition (rule_trees_of style parts back) x)
-  pattern_stops e style parts k =
-      Stops-weaker e (λ x. TemplateFault HasEdition pattern x parts.0) (λ x. (back : Forest) → PartsFault HasEdition (rule_trees_of style parts back) x)
-      (λ x w back. in_pattern w) k
-
-  pub template_stops : (e : why.ReadError) (style : MacroCallStyle) (parts : Forest × Forest) (reads : Ops) → Template HasEdition pattern parts.0 reads
-      → Stops e (λ x. TemplateFault HasEdition template x parts.1) → Stops e (λ x. (back : Forest) → PartsFault HasEdition (rule_trees_of style parts back) x)
+  pub template_stops : (e : why.ReadError) (style : MacroCallStyle) (parts : Forest × Forest) (reads : Ops)
+      → Template HasEdition pattern parts.0 reads
+      → Stops e (λ x. TemplateFault HasEdition template x parts.1)
+      → Stops e (λ x. (back : Forest) → PartsFault HasEdition (rule_trees_of style parts back) x)
   template_stops e style parts reads t k =
-      Stops-weaker e (λ x. TemplateFault HasEdition template x parts.1) (λ x. (back : Forest) → PartsFault HasEdition (rule_trees_of style parts back) x)
+      Stops-weaker e (λ x. TemplateFault HasEdition template x parts.1)
+      (λ x. (back : Forest) → PartsFault HasEdition (rule_trees_of style parts back) x)
       (λ x w back. in_template reads t w) k
 
-pub rule_shorter : {T E : Type 0} (r : Result T E) (style : MacroCallStyle) (parts : Forest × Forest) (f mid left : Forest)
-    → rule_trees_at f ≡ pattern_at style mid → AreRuleTrees style (Ok parts) (pattern_at style mid) left → OnOk r (flat_len left < flat_len f)
+pub rule_shorter : {T E : Type 0} (r : Result T E) (style : MacroCallStyle) (parts : Forest × Forest)
+    (f mid left : Forest)
+    → rule_trees_at f ≡ pattern_at style mid → AreRuleTrees style (Ok parts) (pattern_at style mid) left
+    → OnOk r (flat_len left < flat_len f)
 rule_shorter r style parts f mid left at h =
-    on_ok r (flat_len left < flat_len f) (rule_trees_back f (rule_trees_of style parts left) (at ∙ rule_trees_of-ok style parts (pattern_at style mid) left h))
+    on_ok r (flat_len left < flat_len f) (rule_trees_back f (rule_trees_of style parts left)
+    (at ∙ rule_trees_of-ok style parts (pattern_at style mid) left h))
 
 -- the fault of a `macro` with arguments
-pub one_fault : (HasEdition : SyntaxContext → Edition → Type 0) (x : reported.SyntaxFault) (arguments body : Forest) (rs : List Rule) → rs ≡ []
-    → Stops (why.TheVariants.Fault x) (λ y. (back : Forest) → PartsFault HasEdition (rule_trees_of FnLike (arguments, body) back) y)
+pub one_fault : (HasEdition : SyntaxContext → Edition → Type 0) (x : reported.SyntaxFault) (arguments body : Forest)
+    (rs : List Rule) → rs ≡ []
+    → Stops (why.TheVariants.Fault x) (λ y. (back : Forest)
+    → PartsFault HasEdition (rule_trees_of FnLike (arguments, body) back) y)
     → IsOneRule HasEdition arguments body rs (Some x)
 one_fault HasEdition x arguments body rs e h = (e, h none)
 
@@ -114,29 +131,31 @@ module _ (separators : List ℕ) where
   abbrev pub IsSeparated : Forest → Type 0
   IsSeparated f = (p : Punct) × (front_punct f ≡ Some p) × Contains separators p.char
 
-  behind_if : (b : Bool) (rest : Forest) → b ≡ true → (if b then Some rest else None) ≡ Some rest
-  behind_if b rest e = ap (λ (c : Bool). if c then Some rest else None) e
+  after_if : (b : Bool) (rest : Forest) → b ≡ true → (if b then Some rest else None) ≡ Some rest
+  after_if b rest e = ap (λ (c : Bool). if c then Some rest else None) e
 
   nothing_if : (b : Bool) (rest : Forest) → (b ≡ true → ⊥) → (if b then Some rest else None) ≡ None
   nothing_if true rest n = absurd (n refl)
   nothing_if false rest n = refl
 
-  pub behind-some : (f : Forest) → IsSeparated f → behind_separator separators f ≡ Some (rest_of f)
+  pub behind-some : (f : Forest) → IsSeparated f → after_separator separators f ≡ Some (rest_of f)
   behind-some none (p, e, k) = absurd (none-some p e)
   behind-some (leaf (literal l) rest) (p, e, k) = absurd (none-some p e)
   behind-some (leaf (ident i) rest) (p, e, k) = absurd (none-some p e)
   behind-some (group d inside rest) (p, e, k) = absurd (none-some p e)
   behind-some (leaf (punct q) rest) (p, e, k) =
-      behind_if (list_any (λ c. q.char == c) separators) rest
-      (list_any-from_Contains nat_eq_equiv q.char separators (subst (λ (x : Punct). Contains separators x.char) (sym (same_Some q p e)) k))
+      after_if (list_any (λ c. q.char == c) separators) rest
+      (list_any-from_Contains nat_eq_equiv q.char separators
+      (subst (λ (x : Punct). Contains separators x.char) (sym (same_Some q p e)) k))
 
-  pub behind-none : (f : Forest) → f ≢ none → (IsSeparated f → ⊥) → behind_separator separators f ≡ None
+  pub behind-none : (f : Forest) → f ≢ none → (IsSeparated f → ⊥) → after_separator separators f ≡ None
   behind-none none n k = absurd (n refl)
   behind-none (leaf (literal l) rest) n k = refl
   behind-none (leaf (ident i) rest) n k = refl
   behind-none (group d inside rest) n k = refl
   behind-none (leaf (punct q) rest) n k =
-      nothing_if (list_any (λ c. q.char == c) separators) rest (λ h. k (q, refl, Contains-from_any eqb-true q.char separators h))
+      nothing_if (list_any (λ c. q.char == c) separators) rest
+      (λ h. k (q, refl, Contains-from_any eqb-true q.char separators h))
 
 -- ---- all rules
 
@@ -146,44 +165,54 @@ module _ (HasEdition : SyntaxContext → Edition → Type 0) (separators : List 
   Continues before whole left = (rs : List Rule) (x : Option Fault) → Rules HasEdition separators missing left rs x
       → Rules HasEdition separators missing whole (before ++ rs) x
 
-  fault_first : (y : Fault) (f : Forest) → f ≢ none → RuleFault HasEdition y f → Rules HasEdition separators missing f [] (Some y)
+  fault_first : (y : Fault) (f : Forest) → f ≢ none → RuleFault HasEdition y f
+      → Rules HasEdition separators missing f [] (Some y)
   fault_first y f n (in_trees e) = no_rule f y n e
   fault_first y f n (in_parts o e p) = faulty_rule f o y e p
 
-  pub at_fault : (x : reported.SyntaxFault) (before : List Rule) (whole left : Forest) → Continues before whole left → left ≢ none
+  pub at_fault : (x : reported.SyntaxFault) (before : List Rule) (whole left : Forest) → Continues before whole left
+      → left ≢ none
       → RuleFault HasEdition (fault_of x) left → AreRules HasEdition separators missing whole before (Some x)
   at_fault x before whole left c n h =
       subst (λ (rs : List Rule). Rules HasEdition separators missing whole rs (Some (fault_of x))) (append-nil before)
       (c [] (Some (fault_of x)) (fault_first (fault_of x) left n h))
 
-  pub at_end : (before : List Rule) (whole left : Forest) → Continues before whole left → left ≡ none → AreRules HasEdition separators missing whole before None
+  pub at_end : (before : List Rule) (whole left : Forest) → Continues before whole left → left ≡ none
+      → AreRules HasEdition separators missing whole before None
   at_end before whole left c e =
       subst (λ (rs : List Rule). Rules HasEdition separators missing whole rs None) (append-nil before)
       (c [] None (subst (λ (g : Forest). Rules HasEdition separators missing g [] None) (sym e) ended))
 
   -- one rule more, with a separator after it
-  pub one_more : (before : List Rule) (r : Rule) (whole left behind rest : Forest) → Continues before whole left → ReadsRule HasEdition left r behind
-      → IsSeparated separators behind → rest ≡ rest_of behind → (rs : List Rule) (x : Option Fault) → Rules HasEdition separators missing rest rs x
+  pub one_more : (before : List Rule) (r : Rule) (whole left behind rest : Forest) → Continues before whole left
+      → ReadsRule HasEdition left r behind
+      → IsSeparated separators behind → rest ≡ rest_of behind → (rs : List Rule) (x : Option Fault)
+      → Rules HasEdition separators missing rest rs x
       → Rules HasEdition separators missing whole (before ++ (r ∷ rs)) x
   one_more before r whole left behind rest c reads e at rs x h =
       c (r ∷ rs) x (separated left rest reads.rule_trees r rs x reads.at reads.parts
-      (ap (behind_separator separators) reads.behind ∙ (behind-some separators behind e ∙ ap Some (sym at))) h)
+      (ap (after_separator separators) reads.behind ∙ (behind-some separators behind e ∙ ap Some (sym at))) h)
 
   -- the last rule, with nothing after it
-  pub last_rule : (before : List Rule) (r : Rule) (whole left behind : Forest) → Continues before whole left → ReadsRule HasEdition left r behind
+  pub last_rule : (before : List Rule) (r : Rule) (whole left behind : Forest) → Continues before whole left
+      → ReadsRule HasEdition left r behind
       → behind ≡ none → AreRules HasEdition separators missing whole (before ++ r ∷ []) None
   last_rule before r whole left behind c reads e =
-      c (r ∷ []) None (separated left none reads.rule_trees r [] None reads.at reads.parts (ap (behind_separator separators) (reads.behind ∙ e)) ended)
+      c (r ∷ []) None (separated left none reads.rule_trees r [] None reads.at reads.parts
+      (ap (after_separator separators) (reads.behind ∙ e)) ended)
 
   -- a rule with no separator after it
-  pub stray_rule : (before : List Rule) (r : Rule) (whole left behind : Forest) → Continues before whole left → ReadsRule HasEdition left r behind
-      → behind ≢ none → (IsSeparated separators behind → ⊥) → Rules HasEdition separators missing whole (before ++ r ∷ []) (Some missing)
+  pub stray_rule : (before : List Rule) (r : Rule) (whole left behind : Forest) → Continues before whole left
+      → ReadsRule HasEdition left r behind
+      → behind ≢ none → (IsSeparated separators behind → ⊥)
+      → Rules HasEdition separators missing whole (before ++ r ∷ []) (Some missing)
   stray_rule before r whole left behind c reads n e =
       c (r ∷ []) (Some missing) (unseparated left reads.rule_trees r reads.at reads.parts
-      (ap (behind_separator separators) reads.behind ∙ behind-none separators behind n e))
+      (ap (after_separator separators) reads.behind ∙ behind-none separators behind n e))
 
 -- rules that were written one after the other
-pub rules-push : {A : Type 0} (before : List (code.Rule A)) (r : code.Rule A) → rules_seen (before ++ r ∷ []) ≡ rules_seen before ++ rule_of r ∷ []
+pub rules-push : {A : Type 0} (before : List (code.Rule A)) (r : code.Rule A)
+    → rules_seen (before ++ r ∷ []) ≡ rules_seen before ++ rule_of r ∷ []
 rules-push [] r = refl
 rules-push (b ∷ before) r = ap (λ (rs : List Rule). rule_of b ∷ rs) (rules-push before r)
 
@@ -200,26 +229,33 @@ macro_with rs x = record { rules = rs; err = with_refusal rs (option_map fault_o
 
 module _ (HasEdition : SyntaxContext → Edition → Type 0) where
   pub read_as : (f trees : Forest) (rs : List Rule) (x : Option reported.SyntaxFault) (m : Macro) → f ≡ trees
-      → AreRules HasEdition (59 ∷ []) (fault_of reported.TheVariants.ExpectedSemicolon) f rs x → m ≡ macro_with rs x → IsReadAs HasEdition trees m
+      → AreRules HasEdition (59 ∷ []) (fault_of reported.TheVariants.ExpectedSemicolon) f rs x → m ≡ macro_with rs x
+      → IsReadAs HasEdition trees m
   read_as f trees rs x m same h e =
       subst (λ (g : Forest). IsReadAs HasEdition g m) same
       (subst (IsReadAs HasEdition f) (sym e) (option_map fault_of x, h, refl))
 
   pub read_as_body : (f trees : Forest) (rs : List Rule) (x : Option reported.SyntaxFault) (m : Macro) → f ≡ trees
-      → AreRules HasEdition (59 ∷ 44 ∷ []) (fault_of reported.TheVariants.ExpectedSeparator) f rs x → m ≡ macro_with rs x → IsReadAsMacro HasEdition None trees m
+      → AreRules HasEdition (59 ∷ 44 ∷ []) (fault_of reported.TheVariants.ExpectedSeparator) f rs x
+      → m ≡ macro_with rs x → IsReadAsMacro HasEdition None trees m
   read_as_body f trees rs x m same h e =
       subst (λ (g : Forest). IsReadAsMacro HasEdition None g m) same
       (subst (IsReadAsMacro HasEdition None f) (sym e) (option_map fault_of x, h, refl))
 
-  told_one : (arguments body : Forest) (rs : List Rule) (x : Option reported.SyntaxFault) → IsOneRule HasEdition arguments body rs x
+  told_one : (arguments body : Forest) (rs : List Rule) (x : Option reported.SyntaxFault)
+      → IsOneRule HasEdition arguments body rs x
       → IsReadAsMacro HasEdition (Some arguments) body (macro_with rs x)
   told_one arguments body rs None (r, e, p) =
-      subst (λ (qs : List Rule). IsMacroOfArguments HasEdition arguments body qs (with_refusal qs None)) (sym e) (one_rule r p)
+      subst (λ (qs : List Rule). IsMacroOfArguments HasEdition arguments body qs (with_refusal qs None)) (sym e)
+      (one_rule r p)
   told_one arguments body rs (Some x) (e, p) =
-      subst (λ (qs : List Rule). IsMacroOfArguments HasEdition arguments body qs (with_refusal qs (Some (fault_of x)))) (sym e) (faulty (fault_of x) p)
+      subst (λ (qs : List Rule). IsMacroOfArguments HasEdition arguments body qs (with_refusal qs (Some (fault_of x))))
+      (sym e) (faulty (fault_of x) p)
 
-  pub read_as_one : (f h arguments body : Forest) (rs : List Rule) (x : Option reported.SyntaxFault) (m : Macro) → f ≡ arguments → h ≡ body
+  pub read_as_one : (f h arguments body : Forest) (rs : List Rule) (x : Option reported.SyntaxFault) (m : Macro)
+      → f ≡ arguments → h ≡ body
       → IsOneRule HasEdition f h rs x → m ≡ macro_with rs x → IsReadAsMacro HasEdition (Some arguments) body m
   read_as_one f h arguments body rs x m same_arguments same_body k e =
       subst (λ (g : Forest). IsReadAsMacro HasEdition (Some g) body m) same_arguments
-      (subst (λ (g : Forest). IsReadAsMacro HasEdition (Some f) g m) same_body (subst (IsReadAsMacro HasEdition (Some f) h) (sym e) (told_one f h rs x k)))
+      (subst (λ (g : Forest). IsReadAsMacro HasEdition (Some f) g m) same_body
+      (subst (IsReadAsMacro HasEdition (Some f) h) (sym e) (told_one f h rs x k)))

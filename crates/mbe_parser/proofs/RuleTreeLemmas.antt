@@ -22,24 +22,30 @@ if_ok : (b : Bool) (r : Result RuleTrees Fault) (e : Fault) (o : RuleTrees) → 
 if_ok true r e o h = h
 if_ok false r e o h = no_ok h
 
-template_back : (s : MacroCallStyle) (r f : Forest) (o : RuleTrees) → template_at s r f ≡ Ok o → flat_len o.back < flat_len f
+template_back : (s : MacroCallStyle) (r f : Forest) (o : RuleTrees) → template_at s r f ≡ Ok o
+    → flat_len o.back < flat_len f
 template_back s r none o e = no_ok e
 template_back s r (leaf l rest) o e = no_ok e
-template_back s r (group d inside rest) o e = let b : rest ≡ o.back = ap (λ (x : RuleTrees). x.back) (same_ok e) in let h = ap flat_len b in omega arith
+template_back s r (group d inside rest) o e = let b : rest ≡ o.back =
+    ap (λ (x : RuleTrees). x.back) (same_ok e) in let h = ap flat_len b in omega arith
 
-greater_back : (s : MacroCallStyle) (r f : Forest) (o : RuleTrees) → greater_at s r f ≡ Ok o → flat_len o.back < flat_len f
+greater_back : (s : MacroCallStyle) (r f : Forest) (o : RuleTrees) → greater_at s r f ≡ Ok o
+    → flat_len o.back < flat_len f
 greater_back s r none o e = no_ok e
 greater_back s r (group d inside rest) o e = no_ok e
 greater_back s r (leaf (literal l) rest) o e = no_ok e
 greater_back s r (leaf (ident i) rest) o e = no_ok e
-greater_back s r (leaf (punct p) rest) o e = let h = template_back s r rest o (if_ok (p.char == 62) _ _ o e) in omega arith
+greater_back s r (leaf (punct p) rest) o e = let h =
+    template_back s r rest o (if_ok (p.char == 62) _ _ o e) in omega arith
 
-equals_back : (s : MacroCallStyle) (r f : Forest) (o : RuleTrees) → equals_at s r f ≡ Ok o → flat_len o.back < flat_len f
+equals_back : (s : MacroCallStyle) (r f : Forest) (o : RuleTrees) → equals_at s r f ≡ Ok o
+    → flat_len o.back < flat_len f
 equals_back s r none o e = no_ok e
 equals_back s r (group d inside rest) o e = no_ok e
 equals_back s r (leaf (literal l) rest) o e = no_ok e
 equals_back s r (leaf (ident i) rest) o e = no_ok e
-equals_back s r (leaf (punct p) rest) o e = let h = greater_back s r rest o (if_ok (p.char == 61) _ _ o e) in omega arith
+equals_back s r (leaf (punct p) rest) o e = let h =
+    greater_back s r rest o (if_ok (p.char == 61) _ _ o e) in omega arith
 
 pattern_back : (s : MacroCallStyle) (f : Forest) (o : RuleTrees) → pattern_at s f ≡ Ok o → flat_len o.back < flat_len f
 pattern_back s none o e = no_ok e
@@ -51,7 +57,8 @@ styled_back s none o e = no_ok e
 styled_back s (leaf l rest) o e = no_ok e
 styled_back s (group d inside rest) o e = let h = pattern_back s rest o e in omega arith
 
-either : (b : Bool) (x y r : Result RuleTrees Fault) (P : Type 0) → (x ≡ r → P) → (y ≡ r → P) → (if b then x else y) ≡ r → P
+either : (b : Bool) (x y r : Result RuleTrees Fault) (P : Type 0) → (x ≡ r → P) → (y ≡ r → P) → (if b then x else y) ≡ r
+    → P
 either true x y r P h k e = h e
 either false x y r P h k e = k e
 
@@ -61,8 +68,10 @@ style_back (group d inside rest) o e = pattern_back FnLike (group d inside rest)
 style_back (leaf (literal l) rest) o e = no_ok e
 style_back (leaf (punct p) rest) o e = no_ok e
 style_back (leaf (ident i) rest) o e =
-    either (is_text i.sym (codes "attr")) _ _ (Ok o) (flat_len o.back < flat_len (leaf (ident i) rest)) (λ h. let k = styled_back Attr rest o h in omega arith)
-    (either (is_text i.sym (codes "derive")) _ _ (Ok o) (flat_len o.back < flat_len (leaf (ident i) rest)) (λ h. let k = styled_back Derive rest o h in omega arith)
+    either (is_text i.sym (codes "attr")) _ _ (Ok o) (flat_len o.back < flat_len (leaf (ident i) rest))
+    (λ h. let k = styled_back Attr rest o h in omega arith)
+    (either (is_text i.sym (codes "derive")) _ _ (Ok o) (flat_len o.back < flat_len (leaf (ident i) rest))
+    (λ h. let k = styled_back Derive rest o h in omega arith)
     (λ h. pattern_back FnLike (leaf (ident i) rest) o h)) e
 
 pub rule_trees_back : (f : Forest) (o : RuleTrees) → rule_trees_at f ≡ Ok o → flat_len o.back < flat_len f
@@ -71,7 +80,8 @@ rule_trees_back (group d inside rest) o e = style_back (group d inside rest) o e
 rule_trees_back (leaf (literal l) rest) o e = style_back (leaf (literal l) rest) o e
 rule_trees_back (leaf (punct p) rest) o e = style_back (leaf (punct p) rest) o e
 rule_trees_back (leaf (ident i) rest) o e =
-    either (is_text i.sym (codes "unsafe")) _ _ (Ok o) (flat_len o.back < flat_len (leaf (ident i) rest)) (λ h. let k = style_back rest o h in omega arith)
+    either (is_text i.sym (codes "unsafe")) _ _ (Ok o) (flat_len o.back < flat_len (leaf (ident i) rest))
+    (λ h. let k = style_back rest o h in omega arith)
     (λ h. style_back (leaf (ident i) rest) o h) e
 
 -- ---- what comes before the pattern
@@ -82,12 +92,12 @@ word_passed true i rest = refl
 word_passed false i rest = refl
 
 -- `unsafe` may come first
-pub behind_unsafe : (f : Forest) → rule_trees_at f ≡ style_at (if is_word (codes "unsafe") f then rest_of f else f)
-behind_unsafe none = refl
-behind_unsafe (group d inside rest) = refl
-behind_unsafe (leaf (literal l) rest) = refl
-behind_unsafe (leaf (punct p) rest) = refl
-behind_unsafe (leaf (ident i) rest) = word_passed (is_text i.sym (codes "unsafe")) i rest
+pub past_unsafe : (f : Forest) → rule_trees_at f ≡ style_at (if is_word (codes "unsafe") f then rest_of f else f)
+past_unsafe none = refl
+past_unsafe (group d inside rest) = refl
+past_unsafe (leaf (literal l) rest) = refl
+past_unsafe (leaf (punct p) rest) = refl
+past_unsafe (leaf (ident i) rest) = word_passed (is_text i.sym (codes "unsafe")) i rest
 
 if_true : (b : Bool) (x y : Result RuleTrees Fault) → b ≡ true → (if b then x else y) ≡ x
 if_true b x y e = ap (λ (c : Bool). if c then x else y) e
@@ -95,35 +105,39 @@ if_true b x y e = ap (λ (c : Bool). if c then x else y) e
 if_false : (b : Bool) (x y : Result RuleTrees Fault) → b ≡ false → (if b then x else y) ≡ y
 if_false b x y e = ap (λ (c : Bool). if c then x else y) e
 
-pub behind_attr : (f : Forest) → is_word (codes "attr") f ≡ true → style_at f ≡ styled_at Attr (rest_of f)
-behind_attr none e = absurd (no_true e)
-behind_attr (group d inside rest) e = absurd (no_true e)
-behind_attr (leaf (literal l) rest) e = absurd (no_true e)
-behind_attr (leaf (punct p) rest) e = absurd (no_true e)
-behind_attr (leaf (ident i) rest) e = if_true (is_text i.sym (codes "attr")) _ _ e
+pub past_attr : (f : Forest) → is_word (codes "attr") f ≡ true → style_at f ≡ styled_at Attr (rest_of f)
+past_attr none e = absurd (no_true e)
+past_attr (group d inside rest) e = absurd (no_true e)
+past_attr (leaf (literal l) rest) e = absurd (no_true e)
+past_attr (leaf (punct p) rest) e = absurd (no_true e)
+past_attr (leaf (ident i) rest) e = if_true (is_text i.sym (codes "attr")) _ _ e
 
-pub behind_derive : (f : Forest) → is_word (codes "attr") f ≡ false → is_word (codes "derive") f ≡ true → style_at f ≡ styled_at Derive (rest_of f)
-behind_derive none n e = absurd (no_true e)
-behind_derive (group d inside rest) n e = absurd (no_true e)
-behind_derive (leaf (literal l) rest) n e = absurd (no_true e)
-behind_derive (leaf (punct p) rest) n e = absurd (no_true e)
-behind_derive (leaf (ident i) rest) n e =
+pub past_derive : (f : Forest) → is_word (codes "attr") f ≡ false → is_word (codes "derive") f ≡ true
+    → style_at f ≡ styled_at Derive (rest_of f)
+past_derive none n e = absurd (no_true e)
+past_derive (group d inside rest) n e = absurd (no_true e)
+past_derive (leaf (literal l) rest) n e = absurd (no_true e)
+past_derive (leaf (punct p) rest) n e = absurd (no_true e)
+past_derive (leaf (ident i) rest) n e =
     if_false (is_text i.sym (codes "attr")) _ _ n ∙ if_true (is_text i.sym (codes "derive")) _ _ e
 
-pub behind_nothing : (f : Forest) → is_word (codes "attr") f ≡ false → is_word (codes "derive") f ≡ false → style_at f ≡ pattern_at FnLike f
-behind_nothing none n e = refl
-behind_nothing (group d inside rest) n e = refl
-behind_nothing (leaf (literal l) rest) n e = refl
-behind_nothing (leaf (punct p) rest) n e = refl
-behind_nothing (leaf (ident i) rest) n e =
+pub past_nothing : (f : Forest) → is_word (codes "attr") f ≡ false → is_word (codes "derive") f ≡ false
+    → style_at f ≡ pattern_at FnLike f
+past_nothing none n e = refl
+past_nothing (group d inside rest) n e = refl
+past_nothing (leaf (literal l) rest) n e = refl
+past_nothing (leaf (punct p) rest) n e = refl
+past_nothing (leaf (ident i) rest) n e =
     if_false (is_text i.sym (codes "attr")) _ _ n ∙ if_false (is_text i.sym (codes "derive")) _ _ e
 
-pub behind_group : (style : MacroCallStyle) (f : Forest) (g : Delimiter × Forest) → front_group f ≡ Some g → styled_at style f ≡ pattern_at style (rest_of f)
-behind_group style none g e = absurd (none-some g e)
-behind_group style (leaf l rest) g e = absurd (none-some g e)
-behind_group style (group d inside rest) g e = refl
+pub following_group : (style : MacroCallStyle) (f : Forest) (g : Delimiter × Forest) → front_group f ≡ Some g
+    → styled_at style f ≡ pattern_at style (rest_of f)
+following_group style none g e = absurd (none-some g e)
+following_group style (leaf l rest) g e = absurd (none-some g e)
+following_group style (group d inside rest) g e = refl
 
-pub no_group : (style : MacroCallStyle) (f : Forest) → front_group f ≡ None → styled_at style f ≡ Err (expected (codes "expected `()`"))
+pub no_group : (style : MacroCallStyle) (f : Forest) → front_group f ≡ None
+    → styled_at style f ≡ Err (expected (codes "expected `()`"))
 no_group style none e = refl
 no_group style (leaf l rest) e = refl
 no_group style (group d inside rest) e = absurd (none-some (d, inside) (sym e))
@@ -140,21 +154,26 @@ passed r f left l h = sym (l ∙ ap (λ (b : Bool). if b then rest_of f else f) 
 stayed : (r : Bool) (f left : Forest) → Left r f left → r ≡ false → f ≡ left
 stayed r f left l h = sym (l ∙ ap (λ (b : Bool). if b then rest_of f else f) h)
 
-pub after_unsafe : (r : Bool) (f left : Forest) → r ≡ is_word (codes "unsafe") f → Left r f left → rule_trees_at f ≡ style_at left
-after_unsafe r f left e l = behind_unsafe f ∙ sym (ap style_at (l ∙ ap (λ (b : Bool). if b then rest_of f else f) e))
+pub after_unsafe : (r : Bool) (f left : Forest) → r ≡ is_word (codes "unsafe") f → Left r f left
+    → rule_trees_at f ≡ style_at left
+after_unsafe r f left e l = past_unsafe f ∙ sym (ap style_at (l ∙ ap (λ (b : Bool). if b then rest_of f else f) e))
 
-pub after_attr : (r : Bool) (f left : Forest) → r ≡ is_word (codes "attr") f → Left r f left → r ≡ true → style_at f ≡ styled_at Attr left
-after_attr r f left e l h = behind_attr f (sym e ∙ h) ∙ ap (styled_at Attr) (passed r f left l h)
+pub after_attr : (r : Bool) (f left : Forest) → r ≡ is_word (codes "attr") f → Left r f left → r ≡ true
+    → style_at f ≡ styled_at Attr left
+after_attr r f left e l h = past_attr f (sym e ∙ h) ∙ ap (styled_at Attr) (passed r f left l h)
 
-module _ (r q : Bool) (f mid left : Forest) (attr : r ≡ is_word (codes "attr") f) (at : Left r f mid) (no_attr : r ≡ false)
+module _ (r q : Bool) (f mid left : Forest) (attr : r ≡ is_word (codes "attr") f) (at : Left r f mid)
+    (no_attr : r ≡ false)
     (derive : q ≡ is_word (codes "derive") mid) (behind : Left q mid left) where
   derive_at : is_word (codes "derive") f ≡ q
   derive_at = ap (is_word (codes "derive")) (stayed r f mid at no_attr) ∙ sym derive
 
   pub after_derive : q ≡ true → style_at f ≡ styled_at Derive left
   after_derive h =
-      behind_derive f (sym attr ∙ no_attr) (derive_at ∙ h) ∙ ap (styled_at Derive) (ap rest_of (stayed r f mid at no_attr) ∙ passed q mid left behind h)
+      past_derive f (sym attr ∙ no_attr) (derive_at ∙ h)
+      ∙ ap (styled_at Derive) (ap rest_of (stayed r f mid at no_attr) ∙ passed q mid left behind h)
 
   pub after_nothing : q ≡ false → style_at f ≡ pattern_at FnLike left
   after_nothing h =
-      behind_nothing f (sym attr ∙ no_attr) (derive_at ∙ h) ∙ ap (pattern_at FnLike) (stayed r f mid at no_attr ∙ stayed q mid left behind h)
+      past_nothing f (sym attr ∙ no_attr) (derive_at ∙ h)
+      ∙ ap (pattern_at FnLike) (stayed r f mid at no_attr ∙ stayed q mid left behind h)

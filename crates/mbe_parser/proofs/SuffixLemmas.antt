@@ -19,7 +19,8 @@ leaves_of (Some (literal_separator l)) = literal l ∷ []
 leaves_of (Some (punct_separator ps)) = map punct ps
 leaves_of (Some (lifetime_separator p i)) = punct p ∷ ident i ∷ []
 
-as_leaves : (before : List Leaf) (s t : Option Separator) → before ≡ leaves_of s → Some s ≡ Some t → before ≡ leaves_of t
+as_leaves : (before : List Leaf) (s t : Option Separator) → before ≡ leaves_of s → Some s ≡ Some t
+    → before ≡ leaves_of t
 as_leaves before s t l e = l ∙ ap leaves_of (same_Some s t e)
 
 punct_leaves : (ls : List Leaf) (ps : List Punct) → all_puncts ls ≡ Some ps → ls ≡ map punct ps
@@ -28,18 +29,22 @@ punct_leaves (literal l ∷ ls) ps e = absurd (none-some ps e)
 punct_leaves (ident i ∷ ls) ps e = absurd (none-some ps e)
 punct_leaves (punct p ∷ ls) ps e = go (all_puncts ls) (punct_leaves ls) e
   where
-    go : (o : Option (List Punct)) → ((qs : List Punct) → o ≡ Some qs → ls ≡ map punct qs) → option_map (λ qs. p ∷ qs) o ≡ Some ps → punct p ∷ ls ≡ map punct ps
+    go : (o : Option (List Punct)) → ((qs : List Punct) → o ≡ Some qs → ls ≡ map punct qs)
+        → option_map (λ qs. p ∷ qs) o ≡ Some ps → punct p ∷ ls ≡ map punct ps
     go None ih q = absurd (none-some ps q)
     go (Some qs) ih q = ap (λ x. punct p ∷ x) (ih qs refl) ∙ ap (map punct) (same_Some (p ∷ qs) ps q)
 
-puncts_of : (ls : List Leaf) (s : Option Separator) → option_map Some (option_and_then up_to_three (all_puncts ls)) ≡ Some s → ls ≡ leaves_of s
+puncts_of : (ls : List Leaf) (s : Option Separator)
+    → option_map Some (option_and_then up_to_three (all_puncts ls)) ≡ Some s → ls ≡ leaves_of s
 puncts_of ls s e = go (all_puncts ls) refl e
   where
-    few : (ps : List Punct) (b : Bool) → ls ≡ map punct ps → option_map Some (if b then Some (punct_separator ps) else None) ≡ Some s → ls ≡ leaves_of s
+    few : (ps : List Punct) (b : Bool) → ls ≡ map punct ps
+        → option_map Some (if b then Some (punct_separator ps) else None) ≡ Some s → ls ≡ leaves_of s
     few ps true l q = as_leaves ls (Some (punct_separator ps)) s l q
     few ps false l q = absurd (none-some s q)
 
-    go : (o : Option (List Punct)) → all_puncts ls ≡ o → option_map Some (option_and_then up_to_three o) ≡ Some s → ls ≡ leaves_of s
+    go : (o : Option (List Punct)) → all_puncts ls ≡ o → option_map Some (option_and_then up_to_three o) ≡ Some s
+        → ls ≡ leaves_of s
     go None a q = absurd (none-some s q)
     go (Some ps) a q = few ps (nat_le (length ps) 3) (punct_leaves ls ps a) q
 
@@ -50,7 +55,8 @@ separator_leaves (ident i ∷ []) s e = as_leaves (ident i ∷ []) (Some (ident_
 separator_leaves (literal l ∷ []) s e = as_leaves (literal l ∷ []) (Some (literal_separator l)) s refl e
 separator_leaves (punct p ∷ ident i ∷ []) s e = go (p.char == 39) e
   where
-    go : (b : Bool) → (if b then Some (Some (lifetime_separator p i)) else None) ≡ Some s → punct p ∷ ident i ∷ [] ≡ leaves_of s
+    go : (b : Bool) → (if b then Some (Some (lifetime_separator p i)) else None) ≡ Some s
+        → punct p ∷ ident i ∷ [] ≡ leaves_of s
     go true q = as_leaves (punct p ∷ ident i ∷ []) (Some (lifetime_separator p i)) s refl q
     go false q = absurd (none-some s q)
 separator_leaves (ident i ∷ l ∷ ls) s e = absurd (none-some s e)
@@ -62,22 +68,27 @@ separator_leaves (punct p ∷ ident i ∷ l ∷ ls) s e = absurd (none-some s e)
 
 -- ---- one leaf more
 
-is_extended : (old : Option Separator) (l : Leaf) (new : Separator) → separator_of (leaves_of old ++ l ∷ []) ≡ Some (Some new) → IsExtended old l new
+is_extended : (old : Option Separator) (l : Leaf) (new : Separator)
+    → separator_of (leaves_of old ++ l ∷ []) ≡ Some (Some new) → IsExtended old l new
 is_extended old l new e = λ before b. ap (λ ls. separator_of (ls ++ l ∷ [])) (separator_leaves before old b) ∙ e
 
-never_extended : (old : Option Separator) (l : Leaf) → ((behind : List Leaf) → separator_of (leaves_of old ++ l ∷ behind) ≡ None) → NeverExtended old l
-never_extended old l h = λ before behind b. ap (λ ls. separator_of (ls ++ l ∷ behind)) (separator_leaves before old b) ∙ h behind
+never_extended : (old : Option Separator) (l : Leaf)
+    → ((behind : List Leaf) → separator_of (leaves_of old ++ l ∷ behind) ≡ None) → NeverExtended old l
+never_extended old l h = λ before behind b. ap (λ ls. separator_of (ls ++ l ∷ behind)) (separator_leaves before old b)
+    ∙ h behind
 
 no_puncts : (l : Leaf) → NeverExtended (Some (punct_separator [])) l
 no_puncts l before behind b =
     absurd (none-some (punct_separator []) (same_Some None _ (ap separator_of (sym (separator_leaves before _ b)) ∙ b)))
 
 -- puncts with another leaf after them
-stray : (l : Leaf) → ((behind : List Leaf) → all_puncts (l ∷ behind) ≡ None) → (ps : List Punct) (behind : List Leaf) → all_puncts (map punct ps ++ l ∷ behind) ≡ None
+stray : (l : Leaf) → ((behind : List Leaf) → all_puncts (l ∷ behind) ≡ None) → (ps : List Punct) (behind : List Leaf)
+    → all_puncts (map punct ps ++ l ∷ behind) ≡ None
 stray l h [] behind = h behind
 stray l h (p ∷ ps) behind = ap (option_map (λ qs. p ∷ qs)) (stray l h ps behind)
 
-no_separator : (ls : List Leaf) → all_puncts ls ≡ None → option_map Some (option_and_then up_to_three (all_puncts ls)) ≡ None
+no_separator : (ls : List Leaf) → all_puncts ls ≡ None
+    → option_map Some (option_and_then up_to_three (all_puncts ls)) ≡ None
 no_separator ls e = ap (λ o. option_map Some (option_and_then up_to_three o)) e
 
 -- a literal is a separator alone
@@ -88,10 +99,12 @@ literal_alone (lifetime_separator p i) k = never_extended _ _ (λ behind. refl)
 literal_alone (punct_separator []) k = no_puncts (literal k)
 literal_alone (punct_separator (p ∷ [])) k = never_extended _ _ (λ behind. refl)
 literal_alone (punct_separator (p ∷ q ∷ ps)) k =
-    never_extended _ _ (λ behind. no_separator (map punct (p ∷ q ∷ ps) ++ literal k ∷ behind) (stray (literal k) (λ more. refl) (p ∷ q ∷ ps) behind))
+    never_extended _ _ (λ behind. no_separator (map punct (p ∷ q ∷ ps) ++ literal k ∷ behind)
+    (stray (literal k) (λ more. refl) (p ∷ q ∷ ps) behind))
 
 -- an identifier comes after no puncts but a quote
-pub no_lifetime : (ps : List Punct) (i : Ident) → ((q : Punct) → ps ≡ q ∷ [] → q.char ≡ 39 → ⊥) → NeverExtended (Some (punct_separator ps)) (ident i)
+pub no_lifetime : (ps : List Punct) (i : Ident) → ((q : Punct) → ps ≡ q ∷ [] → q.char ≡ 39 → ⊥)
+    → NeverExtended (Some (punct_separator ps)) (ident i)
 no_lifetime [] i n = no_puncts (ident i)
 no_lifetime (q ∷ []) i n = never_extended _ _ (λ behind. go behind (ne_eqb q.char 39 (n q refl)))
   where
@@ -99,10 +112,12 @@ no_lifetime (q ∷ []) i n = never_extended _ _ (λ behind. go behind (ne_eqb q.
     go [] e = ap (λ (b : Bool). if b then Some (Some (lifetime_separator q i)) else None) e
     go (l ∷ ls) e = refl
 no_lifetime (q ∷ r ∷ ps) i n =
-    never_extended _ _ (λ behind. no_separator (map punct (q ∷ r ∷ ps) ++ ident i ∷ behind) (stray (ident i) (λ more. refl) (q ∷ r ∷ ps) behind))
+    never_extended _ _ (λ behind. no_separator (map punct (q ∷ r ∷ ps) ++ ident i ∷ behind)
+    (stray (ident i) (λ more. refl) (q ∷ r ∷ ps) behind))
 
 -- three puncts at most separate
-pub puncts_more : (ps : List Punct) (p : Punct) → length ps < 3 → IsExtended (Some (punct_separator ps)) (punct p) (punct_separator (ps ++ p ∷ []))
+pub puncts_more : (ps : List Punct) (p : Punct) → length ps < 3
+    → IsExtended (Some (punct_separator ps)) (punct p) (punct_separator (ps ++ p ∷ []))
 puncts_more [] p h = is_extended _ _ _ refl
 puncts_more (q ∷ []) p h = is_extended _ _ _ refl
 puncts_more (q ∷ r ∷ []) p h = is_extended _ _ _ refl
@@ -122,9 +137,12 @@ four_puncts (q ∷ r ∷ s ∷ []) p h = never_extended _ _ (λ behind. go (all_
     many ps = lt-leb (length (q ∷ r ∷ s ∷ p ∷ ps)) 3 (omega arith)
 
     go : (o : Option (List Punct)) →
-        option_map Some (option_and_then up_to_three (option_map (λ ps. q ∷ ps) (option_map (λ ps. r ∷ ps) (option_map (λ ps. s ∷ ps) (option_map (λ ps. p ∷ ps) o))))) ≡ None
+        option_map Some (option_and_then up_to_three
+        (option_map (λ ps. q ∷ ps) (option_map (λ ps. r ∷ ps)
+        (option_map (λ ps. s ∷ ps) (option_map (λ ps. p ∷ ps) o))))) ≡ None
     go None = refl
-    go (Some ps) = ap (λ (b : Bool). option_map Some (if b then Some (punct_separator (q ∷ r ∷ s ∷ p ∷ ps)) else None)) (many ps)
+    go (Some ps) = ap (λ (b : Bool). option_map Some (if b then Some (punct_separator (q ∷ r ∷ s ∷ p ∷ ps)) else None))
+        (many ps)
 
 -- ---- the suffix after the leaves that were read
 

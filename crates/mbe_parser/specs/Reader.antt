@@ -33,11 +33,13 @@ NotExpression (read.TheVariants.Fault f) e = (f ≡ reported.TheVariants.Invalid
 
 -- whichever leaves are the old separator, or none, with this leaf after them they are the new one
 abbrev pub IsExtended : Option Separator → Leaf → Separator → Type 0
-IsExtended old l new = (before : List Leaf) → separator_of before ≡ Some old → separator_of (before ++ l ∷ []) ≡ Some (Some new)
+IsExtended old l new = (before : List Leaf) → separator_of before ≡ Some old
+    → separator_of (before ++ l ∷ []) ≡ Some (Some new)
 
 -- whichever leaves are the separator, or none, with this leaf after them no separator begins
 abbrev pub NeverExtended : Option Separator → Leaf → Type 0
-NeverExtended old l = (before behind : List Leaf) → separator_of before ≡ Some old → separator_of (before ++ l ∷ behind) ≡ None
+NeverExtended old l = (before behind : List Leaf) → separator_of before ≡ Some old
+    → separator_of (before ++ l ∷ behind) ≡ None
 
 -- ---- ops
 
@@ -82,8 +84,10 @@ IsStyled (Ok style) r left = r ≡ pattern_at style left
 IsStyled (Err f) r left = r ≡ Err (fault_of f)
 
 -- the trees of the pattern and of the template of one rule of the style, and those after it; or the fault
-abbrev pub AreRuleTrees : MacroCallStyle → Result (Forest × Forest) reported.SyntaxFault → Result RuleTrees Fault → Forest → Type 0
-AreRuleTrees style (Ok parts) (Ok o) left = (o.style ≡ style) × (o.reads ≡ parts.0) × (o.writes ≡ parts.1) × (o.back ≡ left)
+abbrev pub AreRuleTrees : MacroCallStyle → Result (Forest × Forest) reported.SyntaxFault → Result RuleTrees Fault
+    → Forest → Type 0
+AreRuleTrees style (Ok parts) (Ok o) left =
+    (o.style ≡ style) × (o.reads ≡ parts.0) × (o.writes ≡ parts.1) × (o.back ≡ left)
 AreRuleTrees style (Ok parts) (Err x) left = ⊥
 AreRuleTrees style (Err f) (Ok o) left = ⊥
 AreRuleTrees style (Err f) (Err x) left = fault_of f ≡ x

@@ -144,7 +144,7 @@ fn op_at_punct<A: Allocator + Copy, E: Copy + Fn(SyntaxContext) -> Edition>(
 {
     if punct.char == '$' {
         let _dollar = src.next();
-        return behind_dollar(alloc, edition, punct, src, mode, levels);
+        return after_dollar(alloc, edition, punct, src, mode, levels);
     }
     let Ok(puncts) = src.expect_glued_punct() else {
         unreachable!()
@@ -155,7 +155,7 @@ fn op_at_punct<A: Allocator + Copy, E: Copy + Fn(SyntaxContext) -> Edition>(
 // What stands after a `$`.
 #[cycle(template)]
 #[tactic(auto, using(mbe_ops::proofs::OpViews::views))]
-fn behind_dollar<A: Allocator + Copy, E: Copy + Fn(SyntaxContext) -> Edition>(
+fn after_dollar<A: Allocator + Copy, E: Copy + Fn(SyntaxContext) -> Edition>(
     alloc: A,
     edition: E,
     dollar: Punct,
@@ -165,9 +165,9 @@ fn behind_dollar<A: Allocator + Copy, E: Copy + Fn(SyntaxContext) -> Edition>(
 ) -> Result<Op<A>, ReadError>
     requires { MayAsk (E.pre edition) }
     ensures op { IfOk result (λ o. AtHead (E.post edition) (mode_of mode)
-        (grammar.behind_dollar (mode_of mode) dollar src.old) (op_of o) src.new) }
+        (grammar.after_dollar (mode_of mode) dollar src.old) (op_of o) src.new) }
     ensures fault { IfErr result (λ e. Stops e (FaultAtHead (E.post edition) (mode_of mode)
-        (grammar.behind_dollar (mode_of mode) dollar src.old))) }
+        (grammar.after_dollar (mode_of mode) dollar src.old))) }
     ensures no_longer { OnOk result (flat_len src.new ≤ flat_len src.old) }
 {
     let Some(second) = src.next() else {
@@ -176,12 +176,12 @@ fn behind_dollar<A: Allocator + Copy, E: Copy + Fn(SyntaxContext) -> Edition>(
     match second {
         TtElement::Subtree(subtree, inside) => match subtree.delimiter.kind {
             DelimiterKind::Parenthesis => repetition(alloc, edition, inside, src, mode, levels),
-            DelimiterKind::Brace => expression_behind_dollar(alloc, inside, mode),
+            DelimiterKind::Brace => expression_after_dollar(alloc, inside, mode),
             DelimiterKind::Bracket | DelimiterKind::Invisible => {
                 Err(ReadError::Fault(SyntaxFault::ExpectedRepetition))
             }
         },
-        TtElement::Leaf(leaf) => leaf_behind_dollar(alloc, edition, leaf, src, mode),
+        TtElement::Leaf(leaf) => leaf_after_dollar(alloc, edition, leaf, src, mode),
     }
 }
 
@@ -214,7 +214,7 @@ fn repetition<A: Allocator + Copy, E: Copy + Fn(SyntaxContext) -> Edition>(
 }
 
 // `${..}`, which stands in templates alone.
-fn expression_behind_dollar<A: Allocator + Copy>(
+fn expression_after_dollar<A: Allocator + Copy>(
     alloc: A,
     inside: TtIter<'_, A>,
     mode: Mode,
@@ -232,7 +232,7 @@ fn expression_behind_dollar<A: Allocator + Copy>(
 }
 
 #[tactic(auto, using(mbe_ops::proofs::OpViews::views))]
-fn leaf_behind_dollar<A: Allocator + Copy, E: Copy + Fn(SyntaxContext) -> Edition>(
+fn leaf_after_dollar<A: Allocator + Copy, E: Copy + Fn(SyntaxContext) -> Edition>(
     alloc: A,
     edition: E,
     leaf: &Leaf<A>,
@@ -242,10 +242,10 @@ fn leaf_behind_dollar<A: Allocator + Copy, E: Copy + Fn(SyntaxContext) -> Editio
     requires { MayAsk (E.pre edition) }
     ensures op { IfOk result (λ o. (dollar : SpecPunct)
         → AtHead (E.post edition) (mode_of mode)
-        (grammar.behind_dollar (mode_of mode) dollar (leaf_before (leaf_of leaf.now) src.old))
+        (grammar.after_dollar (mode_of mode) dollar (leaf_before (leaf_of leaf.now) src.old))
         (op_of o) src.new) }
     ensures fault { IfErr result (λ e. Stops e (λ f. (dollar : SpecPunct)
-        → grammar.behind_dollar (mode_of mode) dollar (leaf_before (leaf_of leaf.now) src.old)
+        → grammar.after_dollar (mode_of mode) dollar (leaf_before (leaf_of leaf.now) src.old)
         ≡ Err f)) }
     ensures no_longer { flat_len src.new ≤ flat_len src.old }
 {

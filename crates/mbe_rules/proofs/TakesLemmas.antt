@@ -18,7 +18,8 @@ takes_suc table n x f = refl
 
 -- a step that is what its node means, one level down
 pub takes_one_less : (table : RuleTable) (n x : ℕ) (f : Forest) (found : Option Node) (s : Step)
-    → 0 < n → found ≡ slice_get table.nodes.now x → s ≡ meaning table (takes table (n - 1)) found f → s ≡ takes table n x f
+    → 0 < n → found ≡ slice_get table.nodes.now x → s ≡ meaning table (takes table (n - 1)) found f
+    → s ≡ takes table n x f
 takes_one_less table n x f found s h e m =
     m ∙ (ap (λ r. meaning table (takes table (n - 1)) r f) e
     ∙ (sym (takes_suc table (n - 1) x f) ∙ sym (ap (λ k. takes table k x f) (one_more n h))))
@@ -33,10 +34,6 @@ times_suc n r f = refl
 
 pub times_more : (n : ℕ) (r : Forest → Step) (f : Forest) → 0 < n → times n r f ≡ once_more (r f) (times (n - 1) r) f
 times_more n r f h = ap (λ k. times k r f) (one_more n h) ∙ times_suc (n - 1) r f
-
-pub times_none : (n : ℕ) (r : Forest → Step) (f : Forest) → n ≡ 0 → times n r f ≡ Ok f
-unfolding times
-times_none n r f e = rw e refl
 
 -- a turn that fits
 pub times_on : (n : ℕ) (r : Forest → Step) (f g : Forest) → 0 < n → Ok g ≡ r f → times n r f ≡ times (n - 1) r g

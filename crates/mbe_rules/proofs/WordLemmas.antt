@@ -13,5 +13,6 @@ any_text-map text [] = refl
 any_text-map text (t ∷ ts) = ap (λ b. bytes_eq text t.now || b) (any_text-map text ts)
 
 pub plain_of : (texts : List (Bor (List ℕ))) (raw : IdentIsRaw) (text sym_text : List ℕ) (b : Bool)
-    → b ≡ list_any (λ t. bytes_eq text t.now) texts → raw ≡ No → text ≡ sym_text → b ≡ is_word (map (λ t. t.now) texts) raw sym_text
+    → b ≡ list_any (λ t. bytes_eq text t.now) texts → raw ≡ No → text ≡ sym_text
+    → b ≡ is_word (map (λ t. t.now) texts) raw sym_text
 plain_of texts raw text sym_text b any not_raw same = rw (not_raw, ← same, any) (sym (any_text-map text texts))

@@ -28,4 +28,5 @@ edition_of table context = or_own table (slice_get table.editions.now context.0)
 
 -- a text is a keyword in that edition
 abbrev pub is_keyword_in : RuleTable → Edition → List ℕ → Bool
-is_keyword_in table edition text = list_any (λ k. bytes_eq text k.text.now && is_since edition k.since) table.keywords.now
+is_keyword_in table edition text = list_any (λ k. bytes_eq text k.text.now && is_since edition k.since)
+    table.keywords.now

@@ -38,7 +38,11 @@ left_by t entry f = takes t DEPTH (start_of t.starts entry) f
 
 -- how many flat tokens are taken; none with a fault, and nothing without a fault for `vis` alone
 abbrev pub front_of : PrefixEntryPoint → Forest → Step → Front
-front_of entry f (Ok rest) = record { count = flat_len f - flat_len rest; fault = (flat_len f - flat_len rest == 0) && not (is_vis entry) }
+front_of entry f (Ok rest) = record {
+  count = flat_len f - flat_len rest;
+  fault = (flat_len f - flat_len rest == 0)
+      && not (is_vis entry);
+}
 front_of entry f (Err miss) = record { count = 0; fault = true }
 
 abbrev pub answer : RuleTable → PrefixEntryPoint → Forest → Front
@@ -59,7 +63,8 @@ sizes [] = 0
 sizes (f ∷ fs) = 1 + flat_len f + sizes fs
 
 opened : (d : Delimiter) (inside : Forest) (around : List Forest)
-    → flat_len (open_level d inside around).level + sizes (open_level d inside around).around ≤ 1 + flat_len inside + sizes around
+    → flat_len (open_level d inside around).level + sizes (open_level d inside around).around
+    ≤ 1 + flat_len inside + sizes around
 opened d inside [] = omega arith
 opened d inside (rest ∷ more) = omega arith
 
@@ -72,19 +77,22 @@ within_levels (closing d ∷ ts) = omega (arith, within_levels ts)
 flat_len-trees_of_flat : (ts : List FlatToken) → flat_len (trees_of_flat ts) ≤ length ts
 flat_len-trees_of_flat ts = omega (arith, within_levels ts)
 
-count_within : (entry : PrefixEntryPoint) (f : Forest) (s : Step) (n : ℕ) → flat_len f ≤ n → (front_of entry f s).count ≤ n
+count_within : (entry : PrefixEntryPoint) (f : Forest) (s : Step) (n : ℕ) → flat_len f ≤ n
+    → (front_of entry f s).count ≤ n
 count_within entry f (Ok rest) n h = omega arith
 count_within entry f (Err miss) n h = omega arith
 
 nothing : (n : ℕ) → (n == 0) && true ≡ false → n ≡ 0 → ⊥
 nothing n e c = true≢false (rw c at e)
 
-no_nothing : (entry : PrefixEntryPoint) (f : Forest) (s : Step) → is_vis entry ≡ false → (front_of entry f s).fault ≡ false
+no_nothing : (entry : PrefixEntryPoint) (f : Forest) (s : Step) → is_vis entry ≡ false
+    → (front_of entry f s).fault ≡ false
     → (front_of entry f s).count ≡ 0 → ⊥
 no_nothing entry f (Ok rest) v e c = nothing (flat_len f - flat_len rest) (rw v at e) c
 no_nothing entry f (Err miss) v e c = true≢false e
 
-vis_alone : (entry : PrefixEntryPoint) (f : Forest) (s : Step) → (front_of entry f s).fault ≡ false → (front_of entry f s).count ≡ 0
+vis_alone : (entry : PrefixEntryPoint) (f : Forest) (s : Step) → (front_of entry f s).fault ≡ false
+    → (front_of entry f s).count ≡ 0
     → entry ≡ entries.Vis
 vis_alone entries.Vis f s e c = refl
 vis_alone entry f s e c = absurd (no_nothing entry f s refl e c)
@@ -92,6 +100,7 @@ vis_alone entry f s e c = absurd (no_nothing entry f s refl e c)
 -- any table counts no more than there is, and takes nothing without a fault for `vis` alone
 pub lawful_of : (t : RuleTable) → IsLawful (grammar_of t)
 lawful_of t = record {
-  within = λ entry tokens. count_within entry (trees_of_flat tokens) (left_by t entry (trees_of_flat tokens)) (length tokens) (flat_len-trees_of_flat tokens);
+  within = λ entry tokens. count_within entry (trees_of_flat tokens) (left_by t entry (trees_of_flat tokens))
+      (length tokens) (flat_len-trees_of_flat tokens);
   nothing_for_vis = λ entry tokens. vis_alone entry (trees_of_flat tokens) (left_by t entry (trees_of_flat tokens));
 }

@@ -1,5 +1,7 @@
--- What the nodes of a table take from the front of trees. They are the rules of a parsing expression grammar over whole trees: an
--- alternative is taken where none before it fits, and a repetition takes all that it can. One thing is more: a node may fault, and then the
+-- What the nodes of a table take from the front of trees. They are the rules of a parsing expression grammar over whole
+-- trees: an
+-- alternative is taken where none before it fits, and a repetition takes all that it can. One thing is more: a node may
+-- fault, and then the
 -- whole does.
 use Rattle.std.specs.Prelude.{ℕ, zero, suc, if◌then◌else◌, Option, Some, None, Ok, Err}
 use Rattle.std.specs.List.{slice_get}
@@ -59,7 +61,8 @@ emptied (Err miss) rest = Err miss
 abbrev pub inside_of : DelimiterKind → (Forest → Step) → Forest → Step
 inside_of kind content none = Err Absent
 inside_of kind content (leaf l rest) = Err Absent
-inside_of kind content (group d inside rest) = if is_same_kind d.kind kind then emptied (content inside) rest else Err Absent
+inside_of kind content (group d inside rest) =
+    if is_same_kind d.kind kind then emptied (content inside) rest else Err Absent
 
 -- ---- nodes
 

@@ -29,7 +29,8 @@ after_one p (group d inside rest) = if p (Group_tree d inside) then Some rest el
 -- the trees after the puncts that are taken together, where one of these is their text
 abbrev pub after_operator : List (List ℕ) → Forest → Option Forest
 after_operator texts f =
-    option_and_then (λ ps. if list_any (bytes_eq (chars_of ps)) texts then Some (skip (length (glue f)) f) else None) (glued f)
+    option_and_then (λ ps. if list_any (bytes_eq (chars_of ps)) texts then Some (skip (length (glue f)) f) else None)
+    (glued f)
 
 -- nothing, at the end
 abbrev pub at_end : Forest → Step

@@ -13,16 +13,20 @@ since edition texts = map (λ text. (text, edition)) texts
 
 abbrev pub strict : List (List ℕ)
 strict =
-    codes "as" ∷ codes "break" ∷ codes "const" ∷ codes "continue" ∷ codes "crate" ∷ codes "else" ∷ codes "enum" ∷ codes "extern"
+    codes "as" ∷ codes "break" ∷ codes "const" ∷ codes "continue" ∷ codes "crate" ∷ codes "else" ∷ codes "enum"
+    ∷ codes "extern"
     ∷ codes "false" ∷ codes "fn" ∷ codes "for" ∷ codes "if" ∷ codes "impl" ∷ codes "in" ∷ codes "let" ∷ codes "loop"
-    ∷ codes "match" ∷ codes "mod" ∷ codes "move" ∷ codes "mut" ∷ codes "pub" ∷ codes "ref" ∷ codes "return" ∷ codes "self"
-    ∷ codes "Self" ∷ codes "static" ∷ codes "struct" ∷ codes "super" ∷ codes "trait" ∷ codes "true" ∷ codes "type" ∷ codes "unsafe"
+    ∷ codes "match" ∷ codes "mod" ∷ codes "move" ∷ codes "mut" ∷ codes "pub" ∷ codes "ref" ∷ codes "return"
+    ∷ codes "self"
+    ∷ codes "Self" ∷ codes "static" ∷ codes "struct" ∷ codes "super" ∷ codes "trait" ∷ codes "true" ∷ codes "type"
+    ∷ codes "unsafe"
     ∷ codes "use" ∷ codes "where" ∷ codes "while"
     ∷ []
 
 abbrev pub reserved : List (List ℕ)
 reserved =
-    codes "abstract" ∷ codes "become" ∷ codes "box" ∷ codes "do" ∷ codes "final" ∷ codes "macro" ∷ codes "override" ∷ codes "priv"
+    codes "abstract" ∷ codes "become" ∷ codes "box" ∷ codes "do" ∷ codes "final" ∷ codes "macro" ∷ codes "override"
+    ∷ codes "priv"
     ∷ codes "typeof" ∷ codes "unsized" ∷ codes "virtual" ∷ codes "yield"
     ∷ []
 

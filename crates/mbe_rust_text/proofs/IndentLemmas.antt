@@ -16,7 +16,8 @@ indent_on n h = ap indent (one_more n h) ∙ indent_suc (n - 1)
 pub indents : (n : ℕ) (done more whole : List ℕ) → 0 < n → more ≡ done ++ codes "    " → done ++ indent n ≡ whole
     → more ++ indent (n - 1) ≡ whole
 indents n done more whole h m w =
-    ap (λ t. t ++ indent (n - 1)) m ∙ (append_assoc done (codes "    ") (indent (n - 1)) ∙ (ap (λ t. done ++ t) (sym (indent_on n h)) ∙ w))
+    ap (λ t. t ++ indent (n - 1)) m ∙ (append_assoc done (codes "    ") (indent (n - 1))
+    ∙ (ap (λ t. done ++ t) (sym (indent_on n h)) ∙ w))
 
 pub indented : (n : ℕ) (done whole : List ℕ) → n ≡ 0 → done ++ indent n ≡ whole → done ≡ whole
 unfolding indent

@@ -1,5 +1,5 @@
 -- One token more of a walk over trees: what is still to be written, and how much that is.
-use Rattle.std.proofs.Common.{◌≡◌, ℕ, zero, suc, ◌+◌, ◌<◌, ◌≤◌, List, [], ◌∷◌, ◌++◌, reverse, Option, Some, None, refl, ap, sym, ◌∙◌, arith}
+use Rattle.std.proofs.Common.{◌≡◌, ℕ, zero, suc, ◌+◌, ◌<◌, ◌≤◌, List, [], ◌∷◌, ◌++◌, reverse, Option, Some, None, refl, ap, sym, ◌∙◌}
 use Rattle.std.proofs.lemmas.List.{reverse-append}
 use Rattle.mbe_tt.specs.Trees.Leaf.{Leaf}
 use Rattle.mbe_tt.specs.Trees.Tree.{Forest, none, leaf, group, Leaf_tree, Group_tree, first, rest_of, skip, flat_len}
@@ -90,7 +90,8 @@ unfolding written_around
 around_cons around d f s = refl
 
 pub group_turn : (around : List (Delimiter × Forest)) (f inside : Forest) (d : Delimiter) (s next whole : State)
-    → Some (Group_tree d inside) ≡ first f → next ≡ opened s d.kind d.opening → written_around around (written f s) ≡ whole
+    → Some (Group_tree d inside) ≡ first f → next ≡ opened s d.kind d.opening
+    → written_around around (written f s) ≡ whole
     → written_around ((d, rest_of f) ∷ around) (written inside next) ≡ whole
 group_turn around f inside d s next whole h n w =
     ap (λ t. written_around ((d, rest_of f) ∷ around) (written inside t)) n
@@ -123,7 +124,8 @@ leaf_on items f after l s next whole e h c n w =
     ∙ leaf_turn (reverse items) f l s next whole h c (n ∙ ap (λ r. a_leaf s l (next_span r)) e) w
 
 pub group_on : (items more : List (Delimiter × Forest)) (f after inside : Forest) (d : Delimiter) (s next whole : State)
-    → after ≡ rest_of f → Some (Group_tree d inside) ≡ first f → next ≡ opened s d.kind d.opening → more ≡ items ++ ((d, after) ∷ [])
+    → after ≡ rest_of f → Some (Group_tree d inside) ≡ first f → next ≡ opened s d.kind d.opening
+    → more ≡ items ++ ((d, after) ∷ [])
     → written_around (reverse items) (written f s) ≡ whole → written_around (reverse more) (written inside next) ≡ whole
 group_on items more f after inside d s next whole e h n m w =
     ap (λ i. written_around (reverse i) (written inside next)) m
@@ -144,35 +146,3 @@ all_done items f s whole h i w =
     all_written f s whole h (sym (ap (λ k. written_around (reverse k) (written f s)) i) ∙ w)
 
 -- ---- how much is left
-
-pub leaf_less : (around : List (Delimiter × Forest)) (f : Forest) (l : Leaf) → Some (Leaf_tree l) ≡ first f
-    → flat_len (rest_of f) + tokens_around around < flat_len f + tokens_around around
-leaf_less around none l h = absurd (cc)
-leaf_less around (leaf m rest) l h = omega arith
-leaf_less around (group e content rest) l h = absurd (cc)
-
-pub group_less : (around : List (Delimiter × Forest)) (f inside : Forest) (d : Delimiter) → Some (Group_tree d inside) ≡ first f
-    → flat_len inside + tokens_around ((d, rest_of f) ∷ around) < flat_len f + tokens_around around
-group_less around none inside d h = absurd (cc)
-group_less around (leaf m rest) inside d h = absurd (cc)
-group_less around (group e content rest) inside d h =
-    let same : flat_len content ≡ flat_len inside = ap flat_len (cc) in omega arith
-
-pub pop_less : (around : List (Delimiter × Forest)) (f rest : Forest) (d : Delimiter)
-    → flat_len rest + tokens_around around < flat_len f + tokens_around ((d, rest) ∷ around)
-pop_less around f rest d = omega arith
-
-skip_less : (n : ℕ) (f : Forest) → flat_len (skip n f) ≤ flat_len f
-skip_less zero f = omega arith
-skip_less (suc n) none = skip_less n none
-skip_less (suc n) (leaf l rest) = omega (arith, skip_less n rest)
-skip_less (suc n) (group d inside rest) = omega (arith, skip_less n rest)
-
-pub comment_less : (around : List (Delimiter × Forest)) (f after : Forest) (s : State) (c : Comment)
-    → next_comment s f ≡ Some c → after ≡ skip (more_trees c.is_inner) (rest_of f)
-    → flat_len after + tokens_around around < flat_len f + tokens_around around
-comment_less around none after s c h e = absurd (cc)
-comment_less around (leaf l rest) after s c h e =
-    let k : flat_len after ≡ flat_len (skip (more_trees c.is_inner) rest) = ap flat_len e in
-    omega (arith, k, skip_less (more_trees c.is_inner) rest)
-comment_less around (group d inside rest) after s c h e = absurd (cc)

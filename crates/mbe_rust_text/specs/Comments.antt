@@ -1,4 +1,5 @@
--- Doc comments among trees: the attributes `#[doc = r".."]` and `#![doc = r".."]` that the lexer makes of `/// ..` and `//! ..`.
+-- Doc comments among trees: the attributes `#[doc = r".."]` and `#![doc = r".."]` that the lexer makes of `/// ..` and
+-- `//! ..`.
 use Rattle.std.specs.Prelude.{ℕ, ◌==◌, Bool, true, false, not, ◌&&◌, ◌||◌, if◌then◌else◌, codes, List, [], ◌∷◌, Option, Some, None, option_and_then}
 use Rattle.std.specs.List.{list_any}
 use Rattle.mbe_tt.specs.declared.tt.Punct.{Punct}
@@ -49,7 +50,8 @@ is_raw_string hashes CStr = false
 is_raw_string hashes (CStrRaw n) = false
 is_raw_string hashes Err = false
 
--- tokens as the lexer makes them of a comment, with its span, whatever the spans of the `#` and the brackets around them
+-- tokens as the lexer makes them of a comment, with its span, whatever the spans of the `#` and the brackets around
+-- them
 abbrev pub is_setting : Ident → Punct → Literal → Bool
 is_setting name equals l =
     (is_text name.sym (codes "doc") && is_plain name.is_raw) && (equals.char == 61 && not (is_joint equals.spacing))

@@ -24,9 +24,11 @@ is_beside (Some last) next = are_beside last next
 abbrev pub is_same_place : Option Span → Span → Bool
 is_same_place None next = false
 is_same_place (Some last) next =
-    last.file == next.file && (last.ast == next.ast && (last.start == next.start && (last.end == next.end && (last.ctx).0 == (next.ctx).0)))
+    last.file == next.file && (last.ast == next.ast
+    && (last.start == next.start && (last.end == next.end && (last.ctx).0 == (next.ctx).0)))
 
--- a line begins where it has to; else two tokens that are to be kept apart are, unless they stand side by side in one file
+-- a line begins where it has to; else two tokens that are to be kept apart are, unless they stand side by side in one
+-- file
 abbrev pub gap : Bool → Bool → Bool → Gap
 gap begins_line is_apart is_beside = if begins_line then Line else if is_apart && not is_beside then Space else Nothing
 
@@ -64,8 +66,10 @@ is_one_of c chars = list_any (λ d. c == d) chars
 -- words that a space follows
 abbrev pub keywords : List String
 keywords =
-    "as" ∷ "async" ∷ "await" ∷ "break" ∷ "const" ∷ "dyn" ∷ "else" ∷ "enum" ∷ "extern" ∷ "fn" ∷ "for" ∷ "if" ∷ "impl" ∷ "in" ∷ "let"
-    ∷ "loop" ∷ "match" ∷ "mod" ∷ "move" ∷ "mut" ∷ "pub" ∷ "ref" ∷ "return" ∷ "static" ∷ "struct" ∷ "trait" ∷ "type" ∷ "unsafe"
+    "as" ∷ "async" ∷ "await" ∷ "break" ∷ "const" ∷ "dyn" ∷ "else" ∷ "enum" ∷ "extern" ∷ "fn" ∷ "for" ∷ "if" ∷ "impl"
+    ∷ "in" ∷ "let"
+    ∷ "loop" ∷ "match" ∷ "mod" ∷ "move" ∷ "mut" ∷ "pub" ∷ "ref" ∷ "return" ∷ "static" ∷ "struct" ∷ "trait" ∷ "type"
+    ∷ "unsafe"
     ∷ "use" ∷ "where" ∷ "while" ∷ "yield" ∷ []
 
 -- what a word is to the token after it
@@ -147,8 +151,10 @@ abbrev pub is_joint : Spacing → Bool
 is_joint spacing.Joint = true
 is_joint spacing.Alone = false
 
--- Whether a punct is kept apart from what was written last. A separator is joint to what the definition has after it, which isn't what is
--- written after it; two puncts of one place were made together, as the `::` of a path. A `#` that is joint may begin a file as `#!` does.
+-- Whether a punct is kept apart from what was written last. A separator is joint to what the definition has after it,
+-- which isn't what is
+-- written after it; two puncts of one place were made together, as the `::` of a path. A `#` that is joint may begin a
+-- file as `#!` does.
 abbrev pub is_punct_apart : Last → Bool → ℕ → Spacing → Bool
 is_punct_apart Start one_place char spacing = is_joint spacing && char == 35
 is_punct_apart Open one_place char spacing = false
@@ -168,8 +174,10 @@ abbrev pub is_before : Span → Option Span → Bool
 is_before place None = false
 is_before place (Some next) = are_beside place next
 
--- Whether a punct stays with what it stands beside. A word is kept apart from a `#` or a `'`, since it would be a prefix. A `.` stays with a
--- number only where the token after it does too: `1.` alone is another number. A punct that is alone is joint to no other, but a `'`
+-- Whether a punct stays with what it stands beside. A word is kept apart from a `#` or a `'`, since it would be a
+-- prefix. A `.` stays with a
+-- number only where the token after it does too: `1.` alone is another number. A punct that is alone is joint to no
+-- other, but a `'`
 -- begins a lifetime.
 abbrev pub stays_with : Last → ℕ → Bool → Bool
 stays_with Word char beside_next = not (is_one_of char (codes "#'"))
@@ -203,7 +211,8 @@ is_colon Semicolon = false
 -- what a punct is to the token after it
 abbrev pub last_punct : Spacing → ℕ → Bool → Last
 last_punct spacing.Joint char after_colon = Joint char
-last_punct spacing.Alone char after_colon = if char == 59 then Semicolon else if char == 58 && after_colon then Colons else Alone char
+last_punct spacing.Alone char after_colon =
+    if char == 59 then Semicolon else if char == 58 && after_colon then Colons else Alone char
 
 -- ---- groups
 

@@ -34,15 +34,18 @@ abbrev pub name_text : List ℕ → List ℕ
 name_text sym = if is_text sym (codes "$crate") then codes "crate" else sym
 
 abbrev pub word_gap : State → List ℕ → Span → Gap
-word_gap s name place = gap (ends_line s.last (not (goes_on name))) (is_word_apart s.last) (is_beside s.place place && not (joins_word s.last))
+word_gap s name place = gap (ends_line s.last (not (goes_on name))) (is_word_apart s.last)
+    (is_beside s.place place && not (joins_word s.last))
 
 abbrev pub word : State → Ident → State
-word s i = token (word_gap s (name_text i.sym) i.span) (raw_prefix i.is_raw ++ name_text i.sym) (last_word (name_text i.sym)) i.span s
+word s i = token (word_gap s (name_text i.sym) i.span) (raw_prefix i.is_raw ++ name_text i.sym)
+    (last_word (name_text i.sym)) i.span s
 
 -- ---- literals
 
 abbrev pub literal_gap : State → Span → Gap
-literal_gap s place = gap (ends_line s.last true) (is_literal_apart s.last) (is_beside s.place place && not (joins_literal s.last))
+literal_gap s place = gap (ends_line s.last true) (is_literal_apart s.last)
+    (is_beside s.place place && not (joins_literal s.last))
 
 abbrev pub a_literal : State → Literal → State
 a_literal s l = token (literal_gap s l.span) (literal_output l) last.Literal l.span s
@@ -57,7 +60,8 @@ punct_gap s p next =
     (is_beside s.place p.span && stays_with s.last p.char (is_before p.span next))
 
 abbrev pub a_punct : State → Punct → Option Span → State
-a_punct s p next = token (punct_gap s p next) (encode_utf8 p.char) (last_punct p.spacing p.char (is_colon s.last)) p.span s
+a_punct s p next = token (punct_gap s p next) (encode_utf8 p.char) (last_punct p.spacing p.char (is_colon s.last))
+    p.span s
 
 abbrev pub a_leaf : State → Leaf → Option Span → State
 a_leaf s (ident i) next = word s i

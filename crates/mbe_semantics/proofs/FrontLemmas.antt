@@ -19,14 +19,16 @@ use Rattle.mbe_semantics.specs.Fragments.Takes.{takes, ident_front, lifetime_fro
 use Rattle.mbe_semantics.specs.Readings.Fit.{token_front, literal_text_front, ident_text_front, puncts_front, lifetime_text_front, literal_separator_front, between_front}
 
 literal_text_cut : (text : List ℕ) (f : Forest) (c : Cut) → literal_text_front text f ≡ Some c → IsCut f c
-literal_text_cut text (leaf (literal l) rest) c e = if_cut _ (bytes_eq l.text_and_suffix text) _ c (cut_trees-append 1 (leaf (literal l) rest)) e
+literal_text_cut text (leaf (literal l) rest) c e =
+    if_cut _ (bytes_eq l.text_and_suffix text) _ c (cut_trees-append 1 (leaf (literal l) rest)) e
 literal_text_cut text (leaf (punct p) rest) c e = no_cut e
 literal_text_cut text (leaf (ident i) rest) c e = no_cut e
 literal_text_cut text none c e = no_cut e
 literal_text_cut text (group d inside rest) c e = no_cut e
 
 ident_text_cut : (text : List ℕ) (f : Forest) (c : Cut) → ident_text_front text f ≡ Some c → IsCut f c
-ident_text_cut text (leaf (ident i) rest) c e = if_cut _ (bytes_eq i.sym text) _ c (cut_trees-append 1 (leaf (ident i) rest)) e
+ident_text_cut text (leaf (ident i) rest) c e =
+    if_cut _ (bytes_eq i.sym text) _ c (cut_trees-append 1 (leaf (ident i) rest)) e
 ident_text_cut text (leaf (punct p) rest) c e = no_cut e
 ident_text_cut text (leaf (literal l) rest) c e = no_cut e
 ident_text_cut text none c e = no_cut e
@@ -34,7 +36,8 @@ ident_text_cut text (group d inside rest) c e = no_cut e
 
 puncts_cut : (chars : List ℕ) (f : Forest) (c : Cut) → puncts_front chars f ≡ Some c → IsCut f c
 puncts_cut [] f c e = no_cut e
-puncts_cut (x ∷ chars) f c e = if_cut f (bytes_eq (chars_of (glue f)) (x ∷ chars)) _ c (cut_trees-append (length (x ∷ chars)) f) e
+puncts_cut (x ∷ chars) f c e = if_cut f (bytes_eq (chars_of (glue f)) (x ∷ chars)) _ c
+    (cut_trees-append (length (x ∷ chars)) f) e
 
 pub token_cut : (t : ops.Token) (f : Forest) (c : Cut) → token_front t f ≡ Some c → IsCut f c
 token_cut (ops.literal l) f c e = literal_text_cut l.text_and_suffix f c e
@@ -49,7 +52,8 @@ lifetime_text_cut text _ c e = no_cut e
 literal_separator_cut : (text : List ℕ) (f : Forest) (c : Cut) → literal_separator_front text f ≡ Some c → IsCut f c
 literal_separator_cut text (leaf (ident i) rest) c e = go (is_truth text) e
   where
-    go : (b : Bool) → (if b then ident_text_front text (leaf (ident i) rest) else None) ≡ Some c → IsCut (leaf (ident i) rest) c
+    go : (b : Bool) → (if b then ident_text_front text (leaf (ident i) rest) else None) ≡ Some c
+        → IsCut (leaf (ident i) rest) c
     go true h = ident_text_cut text (leaf (ident i) rest) c h
     go false h = no_cut h
 literal_separator_cut text (leaf (literal l) rest) c e = literal_text_cut text (leaf (literal l) rest) c e
@@ -67,26 +71,32 @@ between_cut (Some (ops.lifetime_separator p i)) f c e = lifetime_text_cut i.sym 
 ident_cut : (f : Forest) (c : Cut) → ident_front f ≡ Some c → IsCut f c
 ident_cut (leaf (ident i) rest) c e = go (is_underscore i.sym) e
   where
-    go : (b : Bool) → (if b then None else Some (cut_trees 1 (leaf (ident i) rest))) ≡ Some c → IsCut (leaf (ident i) rest) c
+    go : (b : Bool) → (if b then None else Some (cut_trees 1 (leaf (ident i) rest))) ≡ Some c
+        → IsCut (leaf (ident i) rest) c
     go true h = no_cut h
     go false h = subst (IsCut (leaf (ident i) rest)) (same_Some _ c h) (cut_trees-append 1 (leaf (ident i) rest))
 ident_cut _ c e = no_cut e
 
 lifetime_cut : (f : Forest) (c : Cut) → lifetime_front f ≡ Some c → IsCut f c
-lifetime_cut (leaf (punct p) (leaf (ident i) rest)) c e = if_cut _ (p.char == 39) _ c (cut_trees-append 2 (leaf (punct p) (leaf (ident i) rest))) e
+lifetime_cut (leaf (punct p) (leaf (ident i) rest)) c e =
+    if_cut _ (p.char == 39) _ c (cut_trees-append 2 (leaf (punct p) (leaf (ident i) rest))) e
 lifetime_cut _ c e = no_cut e
 
 unsigned_cut : (f : Forest) (c : Cut) → unsigned_front f ≡ Some c → IsCut f c
-unsigned_cut (leaf (literal l) rest) c e = subst (IsCut (leaf (literal l) rest)) (same_Some _ c e) (cut_trees-append 1 (leaf (literal l) rest))
+unsigned_cut (leaf (literal l) rest) c e =
+    subst (IsCut (leaf (literal l) rest)) (same_Some _ c e) (cut_trees-append 1 (leaf (literal l) rest))
 unsigned_cut (leaf (ident i) rest) c e =
-    if_cut _ (is_text i.sym (codes "true") || is_text i.sym (codes "false")) _ c (cut_trees-append 1 (leaf (ident i) rest)) e
+    if_cut _ (is_text i.sym (codes "true") || is_text i.sym (codes "false")) _ c
+    (cut_trees-append 1 (leaf (ident i) rest)) e
 unsigned_cut _ c e = no_cut e
 
 literal_cut : (f : Forest) (c : Cut) → literal_front f ≡ Some c → IsCut f c
 literal_cut (leaf (punct p) rest) c e = go (p.char == 45) (unsigned_front rest) e
   where
-    go : (b : Bool) (r : Option Cut) → (if b then with_leaf (leaf (punct p) rest) r else None) ≡ Some c → IsCut (leaf (punct p) rest) c
-    go true (Some x) h = subst (IsCut (leaf (punct p) rest)) (same_Some _ c h) (cut_trees-append 2 (leaf (punct p) rest))
+    go : (b : Bool) (r : Option Cut) → (if b then with_leaf (leaf (punct p) rest) r else None) ≡ Some c
+        → IsCut (leaf (punct p) rest) c
+    go true (Some x) h = subst (IsCut (leaf (punct p) rest)) (same_Some _ c h)
+        (cut_trees-append 2 (leaf (punct p) rest))
     go true None h = no_cut h
     go false r h = no_cut h
 literal_cut (leaf (literal l) rest) c e = unsigned_cut (leaf (literal l) rest) c e
@@ -104,9 +114,12 @@ tree_cut (leaf (punct p) rest) c e = go (p.char == 39) e
     go true h = lifetime_cut f c h
     go false h = subst (IsCut f) (same_Some _ c h) (cut_trees-append (length (glue f)) f)
 tree_cut none c e = no_cut e
-tree_cut (leaf (literal l) rest) c e = subst (IsCut (leaf (literal l) rest)) (same_Some _ c e) (cut_trees-append 1 (leaf (literal l) rest))
-tree_cut (leaf (ident i) rest) c e = subst (IsCut (leaf (ident i) rest)) (same_Some _ c e) (cut_trees-append 1 (leaf (ident i) rest))
-tree_cut (group d inside rest) c e = subst (IsCut (group d inside rest)) (same_Some _ c e) (cut_trees-append 1 (group d inside rest))
+tree_cut (leaf (literal l) rest) c e = subst (IsCut (leaf (literal l) rest)) (same_Some _ c e)
+    (cut_trees-append 1 (leaf (literal l) rest))
+tree_cut (leaf (ident i) rest) c e = subst (IsCut (leaf (ident i) rest)) (same_Some _ c e)
+    (cut_trees-append 1 (leaf (ident i) rest))
+tree_cut (group d inside rest) c e = subst (IsCut (group d inside rest)) (same_Some _ c e)
+    (cut_trees-append 1 (group d inside rest))
 
 pub takes_cut : (g : Grammar) (kind : Option MetaVarKind) (f : Forest) (c : Cut) → takes g kind f ≡ Some c → IsCut f c
 takes_cut g None f c e = no_cut e

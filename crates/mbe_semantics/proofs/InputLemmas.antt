@@ -26,12 +26,14 @@ rest_within (leaf l' rest) zero n l h = omega (arith, h)
 rest_within (leaf l' rest) (suc p) n l h = let e = rest_within rest p n l h in omega (arith, e)
 rest_within (group d inside rest) zero n l h = omega (arith, h)
 rest_within (group d inside rest) (suc p) n l h =
-    go (nat_le p (flat_len inside)) refl (λ m. rest_within inside p n l m) (λ m. rest_within rest (p - flat_len inside - 1) n l m) h
+    go (nat_le p (flat_len inside)) refl (λ m. rest_within inside p n l m)
+    (λ m. rest_within rest (p - flat_len inside - 1) n l m) h
   where
     go : (b : Bool) → nat_le p (flat_len inside) ≡ b →
         (n ≤ flat_len (rest_at inside p) → p + n ≤ flat_len inside) →
         (n ≤ flat_len (rest_at rest (p - flat_len inside - 1)) → (p - flat_len inside - 1) + n ≤ flat_len rest) →
-        n ≤ flat_len (if b then rest_at inside p else rest_at rest (p - flat_len inside - 1)) → suc p + n ≤ 2 + flat_len inside + flat_len rest
+        n ≤ flat_len (if b then rest_at inside p else rest_at rest (p - flat_len inside - 1))
+        → suc p + n ≤ 2 + flat_len inside + flat_len rest
     go true k i r m = let e = i m in omega (arith, e)
     go false k i r m = let e = r m in let b = leb-false p (flat_len inside) k in omega (arith, e, b)
 
@@ -42,9 +44,14 @@ pub length_from : (o : Option Cut) (w : ℕ) → length_of o ≡ Some w → (c :
 length_from None w e = absurd (none-some w e)
 length_from (Some c) w e = (c, refl, same_Some (flat_len c.front) w e)
 
-pub fragment_from : (kind : Option MetaVarKind) (o : Option Cut) (x : Fragment) → fragment_of kind o ≡ Some x → (c : Cut) × (o ≡ Some c) × (c.front ≡ x.trees)
+pub fragment_from : (kind : Option MetaVarKind) (o : Option Cut) (x : Fragment) → fragment_of kind o ≡ Some x
+    → (c : Cut) × (o ≡ Some c) × (c.front ≡ x.trees)
 fragment_from kind None x e = absurd (none-some x e)
-fragment_from kind (Some c) x e = (c, refl, ap (λ y. y.trees) (same_Some (record { trees = c.front; style = style_of kind }) x e))
+fragment_from kind (Some c) x e = (
+  c,
+  refl,
+  ap (λ y. y.trees) (same_Some (record { trees = c.front; style = style_of kind }) x e),
+)
 
 opening_some : (kind : DelimiterKind) (f : Forest) → is_opening kind f ≡ true → 1 ≤ flat_len f
 opening_some kind (group d inside rest) e = omega arith
@@ -59,7 +66,8 @@ module _ (g : Grammar) (argument : Forest) where
       let s = r.2 in
       omega (arith, m, s)
 
-  pub token_end : (t : Token) (p n : ℕ) → length_of (token_front t (rest_at argument p)) ≡ Some n → p + n ≤ flat_len argument
+  pub token_end : (t : Token) (p n : ℕ) → length_of (token_front t (rest_at argument p)) ≡ Some n
+      → p + n ≤ flat_len argument
   token_end t p n e =
       let r = length_from (token_front t (rest_at argument p)) n e in
       let m = front_within (rest_at argument p) r.0 (token_cut t (rest_at argument p) r.0 r.1) in
@@ -73,30 +81,37 @@ module _ (g : Grammar) (argument : Forest) where
       let k = r.2 in
       omega (arith, m, k)
 
-  pub separator_end : (s : Separator) (p n : ℕ) → length_of (separator_front s (rest_at argument p)) ≡ Some n → p + n ≤ flat_len argument
+  pub separator_end : (s : Separator) (p n : ℕ) → length_of (separator_front s (rest_at argument p)) ≡ Some n
+      → p + n ≤ flat_len argument
   separator_end s p n e =
       let r = length_from (separator_front s (rest_at argument p)) n e in
       let m = front_within (rest_at argument p) r.0 (between_cut (Some s) (rest_at argument p) r.0 r.1) in
       let k = r.2 in
       rest_within argument p n (separator_some s p n e) (omega (arith, m, k))
 
-  fragment_empty : IsLawful g → (kind : Option MetaVarKind) (p : ℕ) (x : Fragment) → fragment_of kind (takes g kind (rest_at argument p)) ≡ Some x → flat_len x.trees ≡ 0 → is_vis kind ≡ true
+  fragment_empty : IsLawful g → (kind : Option MetaVarKind) (p : ℕ) (x : Fragment)
+      → fragment_of kind (takes g kind (rest_at argument p)) ≡ Some x → flat_len x.trees ≡ 0 → is_vis kind ≡ true
   fragment_empty w kind p x e z =
       let r = fragment_from kind (takes g kind (rest_at argument p)) x e in
       takes_empty g w kind (rest_at argument p) r.0 r.1 (ap flat_len r.2 ∙ z)
 
-  pub fragment_end : (kind : Option MetaVarKind) (p : ℕ) (x : Fragment) → fragment_of kind (takes g kind (rest_at argument p)) ≡ Some x → 0 < flat_len x.trees → p + flat_len x.trees ≤ flat_len argument
+  pub fragment_end : (kind : Option MetaVarKind) (p : ℕ) (x : Fragment)
+      → fragment_of kind (takes g kind (rest_at argument p)) ≡ Some x → 0 < flat_len x.trees
+      → p + flat_len x.trees ≤ flat_len argument
   fragment_end kind p x e l =
       let r = fragment_from kind (takes g kind (rest_at argument p)) x e in
       let m = front_within (rest_at argument p) r.0 (takes_cut g kind (rest_at argument p) r.0 r.1) in
       let k = ap flat_len r.2 in
       rest_within argument p (flat_len x.trees) l (omega (arith, m, k))
 
-  pub opens_end : (kind : DelimiterKind) (p : ℕ) → is_opening kind (rest_at argument p) ≡ true → p + 1 ≤ flat_len argument
+  pub opens_end : (kind : DelimiterKind) (p : ℕ) → is_opening kind (rest_at argument p) ≡ true
+      → p + 1 ≤ flat_len argument
   opens_end kind p e = rest_within argument p 1 (omega arith) (opening_some kind (rest_at argument p) e)
 
-  pub closes_end : (p : ℕ) → (nat_lt p (flat_len argument) && is_none (rest_at argument p)) ≡ true → p + 1 ≤ flat_len argument
-  closes_end p e = let l = ltb-true p (flat_len argument) (both_left (nat_lt p (flat_len argument)) _ e) in omega (arith, l)
+  pub closes_end : (p : ℕ) → (nat_lt p (flat_len argument) && is_none (rest_at argument p)) ≡ true
+      → p + 1 ≤ flat_len argument
+  closes_end p e = let l = ltb-true p (flat_len argument) (both_left (nat_lt p (flat_len argument)) _ e) in
+      omega (arith, l)
 
   pub lawful_input : IsLawful g → Lawful (input_of g argument) (flat_len argument)
   lawful_input w = record {

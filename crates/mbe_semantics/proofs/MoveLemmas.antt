@@ -23,11 +23,13 @@ leaf_moves zero l rest h = absurd (omega (arith, h))
 leaf_moves (suc n) l rest h = let e : 1 ≤ 1 + flat_len (cut_trees n rest).front = omega arith in e
 
 literal_moves : (text : List ℕ) (f : Forest) (c : Cut) → literal_text_front text f ≡ Some c → 1 ≤ flat_len c.front
-literal_moves text (leaf (literal l) rest) c e = if_moves (bytes_eq l.text_and_suffix text) _ c (leaf_moves 1 (literal l) rest (omega arith)) e
+literal_moves text (leaf (literal l) rest) c e =
+    if_moves (bytes_eq l.text_and_suffix text) _ c (leaf_moves 1 (literal l) rest (omega arith)) e
 literal_moves text _ c e = no_cut e
 
 ident_moves : (text : List ℕ) (f : Forest) (c : Cut) → ident_text_front text f ≡ Some c → 1 ≤ flat_len c.front
-ident_moves text (leaf (ident i) rest) c e = if_moves (bytes_eq i.sym text) _ c (leaf_moves 1 (ident i) rest (omega arith)) e
+ident_moves text (leaf (ident i) rest) c e =
+    if_moves (bytes_eq i.sym text) _ c (leaf_moves 1 (ident i) rest (omega arith)) e
 ident_moves text _ c e = no_cut e
 
 puncts_move : (chars : List ℕ) (f : Forest) (c : Cut) → puncts_front chars f ≡ Some c → 1 ≤ flat_len c.front
@@ -35,19 +37,22 @@ puncts_move [] f c e = no_cut e
 puncts_move (x ∷ chars) none c e = no_cut e
 puncts_move (x ∷ chars) (group d inside rest) c e = no_cut e
 puncts_move (x ∷ chars) (leaf l rest) c e =
-    if_moves (bytes_eq (chars_of (glue (leaf l rest))) (x ∷ chars)) _ c (let h : 1 ≤ 1 + flat_len (cut_trees (length chars) rest).front = omega arith in h) e
+    if_moves (bytes_eq (chars_of (glue (leaf l rest))) (x ∷ chars)) _ c
+    (let h : 1 ≤ 1 + flat_len (cut_trees (length chars) rest).front = omega arith in h) e
 
 pub token_moves : (t : ops.Token) (f : Forest) (c : Cut) → token_front t f ≡ Some c → 1 ≤ flat_len c.front
 token_moves (ops.literal l) f c e = literal_moves l.text_and_suffix f c e
 token_moves (ops.ident i) f c e = ident_moves i.sym f c e
 token_moves (ops.puncts ps) f c e = puncts_move (chars_of ps) f c e
 
-lifetime_text_moves : (text : List ℕ) (f : Forest) (c : Cut) → lifetime_text_front text f ≡ Some c → 1 ≤ flat_len c.front
+lifetime_text_moves : (text : List ℕ) (f : Forest) (c : Cut) → lifetime_text_front text f ≡ Some c
+    → 1 ≤ flat_len c.front
 lifetime_text_moves text (leaf (punct p) (leaf (ident i) rest)) c e =
     if_moves ((p.char == 39) && bytes_eq i.sym text) _ c (leaf_moves 2 (punct p) (leaf (ident i) rest) (omega arith)) e
 lifetime_text_moves text _ c e = no_cut e
 
-literal_separator_moves : (text : List ℕ) (f : Forest) (c : Cut) → literal_separator_front text f ≡ Some c → 1 ≤ flat_len c.front
+literal_separator_moves : (text : List ℕ) (f : Forest) (c : Cut) → literal_separator_front text f ≡ Some c
+    → 1 ≤ flat_len c.front
 literal_separator_moves text (leaf (ident i) rest) c e = go (is_truth text) e
   where
     go : (b : Bool) → (if b then ident_text_front text (leaf (ident i) rest) else None) ≡ Some c → 1 ≤ flat_len c.front
@@ -66,7 +71,8 @@ separator_moves (ops.lifetime_separator p i) f c e = lifetime_text_moves i.sym f
 
 -- ---- variables
 
-if_not_moves : (b : Bool) (x c : Cut) → 1 ≤ flat_len x.front → (if b then None else Some x) ≡ Some c → 1 ≤ flat_len c.front
+if_not_moves : (b : Bool) (x c : Cut) → 1 ≤ flat_len x.front → (if b then None else Some x) ≡ Some c
+    → 1 ≤ flat_len c.front
 if_not_moves true x c h e = no_cut e
 if_not_moves false x c h e = subst (λ y. 1 ≤ flat_len y.front) (same_Some x c e) h
 
@@ -74,23 +80,27 @@ some_moves : (x c : Cut) → 1 ≤ flat_len x.front → Some x ≡ Some c → 1 
 some_moves x c h e = subst (λ y. 1 ≤ flat_len y.front) (same_Some x c e) h
 
 name_moves : (f : Forest) (c : Cut) → ident_front f ≡ Some c → 1 ≤ flat_len c.front
-name_moves (leaf (ident i) rest) c e = if_not_moves (is_underscore i.sym) _ c (leaf_moves 1 (ident i) rest (omega arith)) e
+name_moves (leaf (ident i) rest) c e = if_not_moves (is_underscore i.sym) _ c
+    (leaf_moves 1 (ident i) rest (omega arith)) e
 name_moves _ c e = no_cut e
 
 lifetime_moves : (f : Forest) (c : Cut) → lifetime_front f ≡ Some c → 1 ≤ flat_len c.front
-lifetime_moves (leaf (punct p) (leaf (ident i) rest)) c e = if_moves (p.char == 39) _ c (leaf_moves 2 (punct p) (leaf (ident i) rest) (omega arith)) e
+lifetime_moves (leaf (punct p) (leaf (ident i) rest)) c e =
+    if_moves (p.char == 39) _ c (leaf_moves 2 (punct p) (leaf (ident i) rest) (omega arith)) e
 lifetime_moves _ c e = no_cut e
 
 unsigned_moves : (f : Forest) (c : Cut) → unsigned_front f ≡ Some c → 1 ≤ flat_len c.front
 unsigned_moves (leaf (literal l) rest) c e = some_moves _ c (leaf_moves 1 (literal l) rest (omega arith)) e
 unsigned_moves (leaf (ident i) rest) c e =
-    if_moves (is_text i.sym (codes "true") || is_text i.sym (codes "false")) _ c (leaf_moves 1 (ident i) rest (omega arith)) e
+    if_moves (is_text i.sym (codes "true") || is_text i.sym (codes "false")) _ c
+    (leaf_moves 1 (ident i) rest (omega arith)) e
 unsigned_moves _ c e = no_cut e
 
 number_moves : (f : Forest) (c : Cut) → literal_front f ≡ Some c → 1 ≤ flat_len c.front
 number_moves (leaf (punct p) rest) c e = go (p.char == 45) (unsigned_front rest) e
   where
-    go : (b : Bool) (r : Option Cut) → (if b then with_leaf (leaf (punct p) rest) r else None) ≡ Some c → 1 ≤ flat_len c.front
+    go : (b : Bool) (r : Option Cut) → (if b then with_leaf (leaf (punct p) rest) r else None) ≡ Some c
+        → 1 ≤ flat_len c.front
     go true (Some x) h = some_moves _ c (leaf_moves 2 (punct p) rest (omega arith)) h
     go true None h = no_cut h
     go false r h = no_cut h
@@ -117,28 +127,36 @@ tree_moves (leaf (punct p) rest) c e = go (p.char == 39) e
     f : Forest
     f = leaf (punct p) rest
 
-    go : (b : Bool) → (if b then lifetime_front f else Some (cut_trees (length (glue f)) f)) ≡ Some c → 1 ≤ flat_len c.front
+    go : (b : Bool) → (if b then lifetime_front f else Some (cut_trees (length (glue f)) f)) ≡ Some c
+        → 1 ≤ flat_len c.front
     go true h = lifetime_moves f c h
-    go false h = some_moves _ c (leaf_moves (length (glue f)) (punct p) rest (some_operator p (if_joint p.spacing (joined 2 rest)))) h
+    go false h = some_moves _ c (leaf_moves (length (glue f)) (punct p) rest
+        (some_operator p (if_joint p.spacing (joined 2 rest)))) h
 tree_moves none c e = no_cut e
 tree_moves (leaf (literal l) rest) c e = some_moves _ c (leaf_moves 1 (literal l) rest (omega arith)) e
 tree_moves (leaf (ident i) rest) c e = some_moves _ c (leaf_moves 1 (ident i) rest (omega arith)) e
-tree_moves (group d inside rest) c e = some_moves _ c (let h : 1 ≤ 2 + flat_len inside + flat_len (cut_trees 0 rest).front = omega arith in h) e
+tree_moves (group d inside rest) c e = some_moves _ c
+    (let h : 1 ≤ 2 + flat_len inside + flat_len (cut_trees 0 rest).front = omega arith in h) e
 
 not_true : (b : Bool) → not b ≡ true → b ≡ false
 not_true true e = no_true e
 not_true false e = refl
 
 -- a good front of no flat token was asked for at the entry of `vis`
-good_empty : (g : Grammar) → IsLawful g → (entry : PrefixEntryPoint) (f : Forest) (c : Cut) → good_front g entry f ≡ Some c → flat_len c.front ≡ 0 → entry ≡ entries.Vis
+good_empty : (g : Grammar) → IsLawful g → (entry : PrefixEntryPoint) (f : Forest) (c : Cut)
+    → good_front g entry f ≡ Some c → flat_len c.front ≡ 0 → entry ≡ entries.Vis
 good_empty g w entry f c e z = go (is_good g entry f) refl e
   where
-    go : (b : Bool) → is_good g entry f ≡ b → (if b then Some (front g entry f) else None) ≡ Some c → entry ≡ entries.Vis
+    go : (b : Bool) → is_good g entry f ≡ b → (if b then Some (front g entry f) else None) ≡ Some c
+        → entry ≡ entries.Vis
     go true h k =
         let same : flat_len (front g entry f).front ≡ (g.parse entry (flat f)).count =
-        eqb-true (flat_len (front g entry f).front) (g.parse entry (flat f)).count (both_right (not (g.parse entry (flat f)).fault) _ h) in
-        let length : flat_len (front g entry f).front ≡ flat_len c.front = ap (λ x. flat_len x.front) (same_Some (front g entry f) c k) in
-        w.nothing_for_vis entry (flat f) (not_true (g.parse entry (flat f)).fault (both_left (not (g.parse entry (flat f)).fault) _ h)) (omega (arith, same, length, z))
+        eqb-true (flat_len (front g entry f).front) (g.parse entry (flat f)).count
+        (both_right (not (g.parse entry (flat f)).fault) _ h) in
+        let length : flat_len (front g entry f).front ≡ flat_len c.front =
+        ap (λ x. flat_len x.front) (same_Some (front g entry f) c k) in
+        w.nothing_for_vis entry (flat f) (not_true (g.parse entry (flat f)).fault
+        (both_left (not (g.parse entry (flat f)).fault) _ h)) (omega (arith, same, length, z))
     go false h k = no_cut k
 
 abbrev is_vis_entry : PrefixEntryPoint → Bool
@@ -152,7 +170,8 @@ some_taken : {A : Type 0} (c : Cut) → 1 ≤ flat_len c.front → flat_len c.fr
 some_taken c l z = absurd (omega (arith, l, z))
 
 -- what a variable takes over no flat token, it takes as a `vis`
-pub takes_empty : (g : Grammar) → IsLawful g → (kind : Option MetaVarKind) (f : Forest) (c : Cut) → takes g kind f ≡ Some c → flat_len c.front ≡ 0 → is_vis kind ≡ true
+pub takes_empty : (g : Grammar) → IsLawful g → (kind : Option MetaVarKind) (f : Forest) (c : Cut)
+    → takes g kind f ≡ Some c → flat_len c.front ≡ 0 → is_vis kind ≡ true
 takes_empty g w None f c e z = no_cut e
 takes_empty g w (Some kinds.Ident) f c e z = some_taken c (name_moves f c e) z
 takes_empty g w (Some kinds.Lifetime) f c e z = some_taken c (lifetime_moves f c e) z
@@ -160,7 +179,8 @@ takes_empty g w (Some kinds.Tt) f c e z = some_taken c (tree_moves f c e) z
 takes_empty g w (Some kinds.Literal) f c e z = some_taken c (number_moves f c e) z
 takes_empty g w (Some (kinds.Expr kind)) f c e z = go (begins_refused kind f) e
   where
-    go : (b : Bool) → (if b then None else good_front g entries.Expr f) ≡ Some c → is_vis (Some (kinds.Expr kind)) ≡ true
+    go : (b : Bool) → (if b then None else good_front g entries.Expr f) ≡ Some c
+        → is_vis (Some (kinds.Expr kind)) ≡ true
     go true h = no_cut h
     go false h = no_vis entries.Expr refl (good_empty g w entries.Expr f c h z)
 takes_empty g w (Some kinds.Path) f c e z = no_vis entries.Path refl (good_empty g w entries.Path f c e z)

@@ -1,4 +1,5 @@
--- The step that takes tokens leads from a beginning to a beginning; and each beginning but the first comes from one by a step.
+-- The step that takes tokens leads from a beginning to a beginning; and each beginning but the first comes from one by
+-- a step.
 use Rattle.std.proofs.Common.{ℕ, zero, suc, ◌+◌, ◌≡◌, ◌⊎◌, inl, inr, Option, Some, None, Bool, true, false, List, [], ◌∷◌, ◌++◌, refl, sym, ◌∙◌, ap, subst, arith}
 use Rattle.mbe_semantics.specs.declared.kinds.RepeatKind.{RepeatKind}
 use Rattle.mbe_semantics.specs.declared.kinds.RepeatKind.TheVariants.{ZeroOrMore, OneOrMore, ZeroOrOne}
@@ -17,12 +18,14 @@ abbrev pub Goes : Input → Ops → ℕ → Option Move → Type 0
 Goes i pat q None = Unit {0}
 Goes i pat q (Some (move n f y)) = At i pat (q + n) y
 
-when-goes : (i : Input) (pat : Ops) (q : ℕ) (b : Bool) (y : Beginning) → ((b ≡ true) → At i pat (q + 1) y) → Goes i pat q (when b (move 1 false y))
+when-goes : (i : Input) (pat : Ops) (q : ℕ) (b : Bool) (y : Beginning) → ((b ≡ true) → At i pat (q + 1) y)
+    → Goes i pat q (when b (move 1 false y))
 when-goes i pat q true y a = a refl
 when-goes i pat q false y a = tt
 
 over-goes : (i : Input) (pat : Ops) (q : ℕ) (f : Bool) (w : Option Item) (rest : Ops) (is : Items) (up : List Frame) →
-    ((x : Item) → w ≡ Some x → At i pat (q + item_width x) (dot rest (item is x) up)) → Goes i pat q (over_of f w rest is up)
+    ((x : Item) → w ≡ Some x → At i pat (q + item_width x) (dot rest (item is x) up))
+    → Goes i pat q (over_of f w rest is up)
 over-goes i pat q f None rest is up a = tt
 over-goes i pat q f (Some x) rest is up a = go (item_width x) refl
   where
@@ -30,39 +33,62 @@ over-goes i pat q f (Some x) rest is up a = go (item_width x) refl
     go zero e = tt
     go (suc n) e = subst (λ m. At i pat (q + m) (dot rest (item is x) up)) e (a x refl)
 
-round-goes : (i : Input) (pat : Ops) (q : ℕ) (k : RepeatKind) (w : Option ℕ) (b : Ops) (s : Option Separator) (rest : Ops) (js : Items) (rs : Rounds) (up : List Frame) (is : Items) →
-    ((n : ℕ) → w ≡ Some n → MayRepeat k → At i pat (q + n) (dot b no_items (within b s k rest js (round rs is n) ∷ up))) → Goes i pat q (round_move k w b s rest js rs up is)
+round-goes : (i : Input) (pat : Ops) (q : ℕ) (k : RepeatKind) (w : Option ℕ) (b : Ops) (s : Option Separator)
+    (rest : Ops) (js : Items) (rs : Rounds) (up : List Frame) (is : Items) →
+    ((n : ℕ) → w ≡ Some n → MayRepeat k → At i pat (q + n) (dot b no_items (within b s k rest js (round rs is n) ∷ up)))
+    → Goes i pat q (round_move k w b s rest js rs up is)
 round-goes i pat q k None b s rest js rs up is a = tt
 round-goes i pat q ZeroOrMore (Some n) b s rest js rs up is a = a n refl tt
 round-goes i pat q OneOrMore (Some n) b s rest js rs up is a = a n refl tt
 round-goes i pat q ZeroOrOne (Some n) b s rest js rs up is a = tt
 
-separator-goes : (i : Input) (pat : Ops) (q : ℕ) (s : Option Separator) (k : RepeatKind) (b rest : Ops) (js : Items) (rs : Rounds) (up : List Frame) (is : Items) →
+separator-goes : (i : Input) (pat : Ops) (q : ℕ) (s : Option Separator) (k : RepeatKind) (b rest : Ops) (js : Items)
+    (rs : Rounds) (up : List Frame) (is : Items) →
     At i pat q (dot no_ops is (within b s k rest js rs ∷ up)) → Goes i pat q (separator_move i q s k b rest js rs up is)
 separator-goes i pat q None k b rest js rs up is h = tt
 separator-goes i pat q (Some c) k b rest js rs up is h =
     round-goes i pat q k (i.separator_at c q) b (Some c) rest js rs up is
-    (λ n e r. (((h.0.0.0, h.0.0.1, (r, h.0.0.2, h.0.1, subst (λ p. i.separator_at c p ≡ Some n) (sym h.1) e)), refl), omega (arith, h.1)))
+    (λ n e r. (
+      ((h.0.0.0, h.0.0.1, (r, h.0.0.2, h.0.1, subst (λ p. i.separator_at c p ≡ Some n) (sym h.1) e)), refl),
+      omega (arith, h.1),
+    ))
 
 pub next-goes : (i : Input) (pat : Ops) (q : ℕ) (x : Beginning) → At i pat q x → Goes i pat q (next i q x)
 next-goes i pat q (dot no_ops is []) h = tt
 next-goes i pat q (dot no_ops is (inside d b rest js ∷ up)) h =
     when-goes i pat q (i.closes_at q) _
-    (λ e. ((h.0.0.0, (group d b, h.0.0.1, (h.0.0.2, h.0.1, subst (λ p. i.closes_at p ≡ true) (sym h.1) e))), omega (arith, h.1)))
+    (λ e. (
+      (h.0.0.0, (group d b, h.0.0.1, (h.0.0.2, h.0.1, subst (λ p. i.closes_at p ≡ true) (sym h.1) e))),
+      omega (arith, h.1),
+    ))
 next-goes i pat q (dot no_ops is (within b s k rest js rs ∷ up)) h = separator-goes i pat q s k b rest js rs up is h
 next-goes i pat q (dot (op (token t) rest) is up) h =
     over-goes i pat q false (matched_by (i.token_at t q)) rest is up
-    (λ x e. ((h.0.0, (token t, h.0.1, subst (λ p. Reads x i (token t) p) (sym h.1) (matched-reads i t q x e))), omega (arith, h.1)))
+    (λ x e. (
+      (h.0.0, (token t, h.0.1, subst (λ p. Reads x i (token t) p) (sym h.1) (matched-reads i t q x e))),
+      omega (arith, h.1),
+    ))
 next-goes i pat q (dot (op (variable name kind span) rest) is up) h =
     over-goes i pat q true (bound_as name (i.fragment_at kind q)) rest is up
-    (λ x e. ((h.0.0, (variable name kind span, h.0.1, subst (λ p. Reads x i (variable name kind span) p) (sym h.1) (bound-reads i name kind span q x e))), omega (arith, h.1)))
+    (λ x e. (
+      (
+        h.0.0,
+        (
+          variable name kind span,
+          h.0.1,
+          subst (λ p. Reads x i (variable name kind span) p) (sym h.1) (bound-reads i name kind span q x e),
+        ),
+      ),
+      omega (arith, h.1),
+    ))
 next-goes i pat q (dot (op (expression e) rest) is up) h = tt
 next-goes i pat q (dot (op (group d b) rest) is up) h =
     when-goes i pat q (i.opens_at d.kind q) _
     (λ e. (((h.0.0, h.0.1, subst (λ p. i.opens_at d.kind p ≡ true) (sym h.1) e), refl), omega (arith, h.1)))
 next-goes i pat q (dot (op (repetition b s k) rest) is up) h = tt
 
-pub next-sound : (i : Input) (pat : Ops) (q n : ℕ) (f : Bool) (x y : Beginning) → At i pat q x → next i q x ≡ Some (move n f y) → At i pat (q + n) y
+pub next-sound : (i : Input) (pat : Ops) (q n : ℕ) (f : Bool) (x y : Beginning) → At i pat q x
+    → next i q x ≡ Some (move n f y) → At i pat (q + n) y
 next-sound i pat q n f x y h e = let P : Option Move → Type 0 = λ m. Goes i pat q m in subst P e (next-goes i pat q x h)
 
 abbrev pub Idles : Input → Beginning → Beginning → Type 0
@@ -92,14 +118,18 @@ in_skip OneOrMore x m = absurd m
 in_skip ZeroOrOne x m = inl refl
 
 -- the item was read by a token or a variable
-in_empty : (w : Option Item) (rest : Ops) (is : Items) (up : List Frame) (x : Item) → w ≡ Some x → item_width x ≡ 0 → In (dot rest (item is x) up) (empty_of w rest is up)
+in_empty : (w : Option Item) (rest : Ops) (is : Items) (up : List Frame) (x : Item) → w ≡ Some x → item_width x ≡ 0
+    → In (dot rest (item is x) up) (empty_of w rest is up)
 in_empty w rest is up x e z =
     let P : Option Item → Type 0 = λ v. In (dot rest (item is x) up) (empty_of v rest is up) in
-    subst P (sym e) (let Q : ℕ → Type 0 = λ n. In (dot rest (item is x) up) (if_none n (dot rest (item is x) up)) in subst Q (sym z) (inl refl))
+    subst P (sym e) (let Q : ℕ → Type 0 = λ n. In (dot rest (item is x) up) (if_none n (dot rest (item is x) up)) in
+    subst Q (sym z) (inl refl))
 
-over_some : (f : Bool) (w : Option Item) (rest : Ops) (is : Items) (up : List Frame) (x : Item) (n : ℕ) → w ≡ Some x → item_width x ≡ suc n →
+over_some : (f : Bool) (w : Option Item) (rest : Ops) (is : Items) (up : List Frame) (x : Item) (n : ℕ) → w ≡ Some x
+    → item_width x ≡ suc n →
     over_of f w rest is up ≡ Some (move (suc n) f (dot rest (item is x) up))
-over_some f w rest is up x n e z = ap (λ v. over_of f v rest is up) e ∙ ap (λ m. if_some f m (dot rest (item is x) up)) z
+over_some f w rest is up x n e z = ap (λ v. over_of f v rest is up) e
+    ∙ ap (λ m. if_some f m (dot rest (item is x) up)) z
 
 by_token : (i : Input) (pat : Ops) (t : Token) (rest : Ops) (is : Items) (up : List Frame) (x : Item) →
     Begins i pat (dot (op (token t) rest) is up) → matched_by (i.token_at t (start_of up + items_width is)) ≡ Some x →
@@ -107,20 +137,54 @@ by_token : (i : Input) (pat : Ops) (t : Token) (rest : Ops) (is : Items) (up : L
 by_token i pat t rest is up x h e = go (item_width x) refl
   where
     go : (n : ℕ) → item_width x ≡ n → From i pat (dot rest (item is x) up)
-    go zero z = (dot (op (token t) rest) is up, h, inl (in_empty (matched_by (i.token_at t (start_of up + items_width is))) rest is up x e z, omega (arith, z)))
-    go (suc n) z = (dot (op (token t) rest) is up, h, inr (suc n, false, over_some false (matched_by (i.token_at t (start_of up + items_width is))) rest is up x n e z, omega (arith, z)))
+    go zero z = (
+      dot (op (token t) rest) is up,
+      h,
+      inl (in_empty (matched_by (i.token_at t (start_of up + items_width is))) rest is up x e z, omega (arith, z)),
+    )
+    go (suc n) z = (
+      dot (op (token t) rest) is up,
+      h,
+      inr (
+        suc n,
+        false,
+        over_some false (matched_by (i.token_at t (start_of up + items_width is))) rest is up x n e
+            z,
+        omega (arith, z),
+      ),
+    )
 
-by_variable : (i : Input) (pat : Ops) (name : Name) (kind : Option MetaVarKind) (span : Span) (rest : Ops) (is : Items) (up : List Frame) (x : Item) →
-    Begins i pat (dot (op (variable name kind span) rest) is up) → bound_as name (i.fragment_at kind (start_of up + items_width is)) ≡ Some x →
+by_variable : (i : Input) (pat : Ops) (name : Name) (kind : Option MetaVarKind) (span : Span) (rest : Ops) (is : Items)
+    (up : List Frame) (x : Item) →
+    Begins i pat (dot (op (variable name kind span) rest) is up)
+    → bound_as name (i.fragment_at kind (start_of up + items_width is)) ≡ Some x →
     From i pat (dot rest (item is x) up)
 by_variable i pat name kind span rest is up x h e = go (item_width x) refl
   where
     go : (n : ℕ) → item_width x ≡ n → From i pat (dot rest (item is x) up)
-    go zero z = (dot (op (variable name kind span) rest) is up, h, inl (in_empty (bound_as name (i.fragment_at kind (start_of up + items_width is))) rest is up x e z, omega (arith, z)))
-    go (suc n) z = (dot (op (variable name kind span) rest) is up, h, inr (suc n, true, over_some true (bound_as name (i.fragment_at kind (start_of up + items_width is))) rest is up x n e z, omega (arith, z)))
+    go zero z = (
+      dot (op (variable name kind span) rest) is up,
+      h,
+      inl (
+        in_empty (bound_as name (i.fragment_at kind (start_of up + items_width is))) rest is up x e z,
+        omega (arith, z),
+      ),
+    )
+    go (suc n) z = (
+      dot (op (variable name kind span) rest) is up,
+      h,
+      inr (
+        suc n,
+        true,
+        over_some true (bound_as name (i.fragment_at kind (start_of up + items_width is))) rest is up
+            x n e z,
+        omega (arith, z),
+      ),
+    )
 
 -- a further round was begun
-by_round : (i : Input) (pat : Ops) (b : Ops) (s : Option Separator) (k : RepeatKind) (rest : Ops) (js : Items) (rs : Rounds) (up : List Frame) (is : Items) (w : ℕ) →
+by_round : (i : Input) (pat : Ops) (b : Ops) (s : Option Separator) (k : RepeatKind) (rest : Ops) (js : Items)
+    (rs : Rounds) (up : List Frame) (is : Items) (w : ℕ) →
     Begins i pat (dot no_ops is (within b s k rest js rs ∷ up)) → MayRepeat k →
     Between i s (start_of up + items_width js + rounds_width rs + items_width is) w →
     From i pat (dot b no_items (within b s k rest js (round rs is w) ∷ up))
@@ -128,7 +192,9 @@ by_round i pat b None k rest js rs up is w h m e = (
   dot no_ops is (within b None k rest js rs ∷ up),
   h,
   inl (
-    (let P : ℕ → Type 0 = λ v. In (dot b no_items (within b None k rest js (round rs is v) ∷ up)) (idle i (place (dot no_ops is (within b None k rest js rs ∷ up))) (dot no_ops is (within b None k rest js rs ∷ up)))
+    (let P : ℕ → Type 0 = λ v. In (dot b no_items (within b None k rest js (round rs is v) ∷ up))
+        (idle i (place (dot no_ops is (within b None k rest js rs ∷ up)))
+        (dot no_ops is (within b None k rest js rs ∷ up)))
         in subst P (sym e) (in_again k _ _ m)),
     omega arith,
   ),
@@ -146,10 +212,12 @@ by_round i pat b (Some c) OneOrMore rest js rs up is w h m e = (
 by_round i pat b (Some c) ZeroOrOne rest js rs up is w h m e = absurd m
 
 by_item : (i : Input) (pat : Ops) (o : Op) (rest : Ops) (is : Items) (x : Item) (up : List Frame) →
-    Begins i pat (dot (op o rest) is up) → Reads x i o (start_of up + items_width is) → From i pat (dot rest (item is x) up)
+    Begins i pat (dot (op o rest) is up) → Reads x i o (start_of up + items_width is)
+    → From i pat (dot rest (item is x) up)
 by_item i pat (token t) rest is (matched n) up h e = by_token i pat t rest is up (matched n) h (ap matched_by e)
 by_item i pat (variable n kind span) rest is (bound name x) up h e =
-    by_variable i pat n kind span rest is up (bound name x) h (ap (bound_as n) e.1 ∙ ap (λ v. Some (bound v x)) (sym e.0))
+    by_variable i pat n kind span rest is up (bound name x) h
+    (ap (bound_as n) e.1 ∙ ap (λ v. Some (bound v x)) (sym e.0))
 by_item i pat (group d b) rest is (grouped inner) up h e = (
   dot no_ops inner (inside d b rest is ∷ up),
   ((h.0, h.1, e.0), e.1),
@@ -159,7 +227,8 @@ by_item i pat (repetition b s k) rest is (skipped names) up h e = (
   dot (op (repetition b s k) rest) is up,
   h,
   inl (
-    (let P : List Name → Type 0 = λ v. In (dot rest (item is (skipped v)) up) (idle i (place (dot (op (repetition b s k) rest) is up)) (dot (op (repetition b s k) rest) is up))
+    (let P : List Name → Type 0 = λ v. In (dot rest (item is (skipped v)) up)
+        (idle i (place (dot (op (repetition b s k) rest) is up)) (dot (op (repetition b s k) rest) is up))
         in subst P (sym e.1) (inr (in_skip k _ e.0))),
     omega arith,
   ),
@@ -174,7 +243,8 @@ by_item i pat (expression x) rest is (rounds rs last) up h e = absurd e
 by_item i pat _ rest is _ up h e = absurd e
 
 -- what comes first in a body
-by_frame : (i : Input) (pat : Ops) (f : Frame) (up : List Frame) → Within i pat (f ∷ up) → From i pat (dot (body_of pat (f ∷ up)) no_items (f ∷ up))
+by_frame : (i : Input) (pat : Ops) (f : Frame) (up : List Frame) → Within i pat (f ∷ up)
+    → From i pat (dot (body_of pat (f ∷ up)) no_items (f ∷ up))
 by_frame i pat (inside d b rest js) up h = (
   dot (op (group d b) rest) js up,
   (h.0, h.1),

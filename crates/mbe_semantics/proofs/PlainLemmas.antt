@@ -17,29 +17,41 @@ use Rattle.mbe_semantics.specs.Laws.Laws.{OneReading, ReadingsEnd, NeverAmbiguou
 use Rattle.mbe_semantics.proofs.Parents.{Idles, Moves, From, parents}
 use Rattle.mbe_semantics.proofs.Stories.{idle-after, next-after}
 
-pub plain_rest : (is : Items) (i : Input) (os : Ops) (p : ℕ) (rest : Ops) → ReadsFirst is i os p rest → IsTrue (has_no_repetition os) → IsTrue (has_no_repetition rest)
+pub plain_rest : (is : Items) (i : Input) (os : Ops) (p : ℕ) (rest : Ops) → ReadsFirst is i os p rest
+    → IsTrue (has_no_repetition os) → IsTrue (has_no_repetition rest)
 plain_rest no_items i os p rest h c = subst (λ v. IsTrue (has_no_repetition v)) h c
-plain_rest (item is x) i os p rest h c = both_right (op_has_no_repetition h.0) (has_no_repetition rest) (plain_rest is i os p (op h.0 rest) h.1 c)
+plain_rest (item is x) i os p rest h c =
+    both_right (op_has_no_repetition h.0) (has_no_repetition rest) (plain_rest is i os p (op h.0 rest) h.1 c)
 
-pub plain_op : (is : Items) (i : Input) (os : Ops) (p : ℕ) (o : Op) (rest : Ops) → ReadsFirst is i os p (op o rest) → IsTrue (has_no_repetition os) → IsTrue (op_has_no_repetition o)
-plain_op is i os p o rest h c = both_left (op_has_no_repetition o) (has_no_repetition rest) (plain_rest is i os p (op o rest) h c)
+pub plain_op : (is : Items) (i : Input) (os : Ops) (p : ℕ) (o : Op) (rest : Ops) → ReadsFirst is i os p (op o rest)
+    → IsTrue (has_no_repetition os) → IsTrue (op_has_no_repetition o)
+plain_op is i os p o rest h c = both_left (op_has_no_repetition o) (has_no_repetition rest)
+    (plain_rest is i os p (op o rest) h c)
 
-plain_body : (i : Input) (pat : Ops) (up : List Frame) → Within i pat up → IsTrue (has_no_repetition pat) → IsTrue (has_no_repetition (body_of pat up))
+plain_body : (i : Input) (pat : Ops) (up : List Frame) → Within i pat up → IsTrue (has_no_repetition pat)
+    → IsTrue (has_no_repetition (body_of pat up))
 plain_body i pat [] h c = c
-plain_body i pat (inside d b rest js ∷ up) h c = plain_op js i (body_of pat up) (start_of up) (group d b) rest h.1 (plain_body i pat up h.0 c)
-plain_body i pat (within b s k rest js rs ∷ up) h c = no_true (plain_op js i (body_of pat up) (start_of up) (repetition b s k) rest h.1 (plain_body i pat up h.0 c))
+plain_body i pat (inside d b rest js ∷ up) h c =
+    plain_op js i (body_of pat up) (start_of up) (group d b) rest h.1 (plain_body i pat up h.0 c)
+plain_body i pat (within b s k rest js rs ∷ up) h c =
+    no_true (plain_op js i (body_of pat up) (start_of up) (repetition b s k) rest h.1 (plain_body i pat up h.0 c))
 
-no_frame : {A : Type 0} (i : Input) (pat b : Ops) (s : Option Separator) (k : RepeatKind) (rest : Ops) (js : Items) (rs : Rounds) (up : List Frame) →
+no_frame : {A : Type 0} (i : Input) (pat b : Ops) (s : Option Separator) (k : RepeatKind) (rest : Ops) (js : Items)
+    (rs : Rounds) (up : List Frame) →
     Within i pat (within b s k rest js rs ∷ up) → IsTrue (has_no_repetition pat) → A
-no_frame i pat b s k rest js rs up h c = no_true (plain_op js i (body_of pat up) (start_of up) (repetition b s k) rest h.1 (plain_body i pat up h.0 c))
+no_frame i pat b s k rest js rs up h c =
+    no_true (plain_op js i (body_of pat up) (start_of up) (repetition b s k) rest h.1 (plain_body i pat up h.0 c))
 
-no_repetition : {A : Type 0} (i : Input) (pat b : Ops) (s : Option Separator) (k : RepeatKind) (rest : Ops) (is : Items) (up : List Frame) →
+no_repetition : {A : Type 0} (i : Input) (pat b : Ops) (s : Option Separator) (k : RepeatKind) (rest : Ops) (is : Items)
+    (up : List Frame) →
     Begins i pat (dot (op (repetition b s k) rest) is up) → IsTrue (has_no_repetition pat) → A
-no_repetition i pat b s k rest is up h c = no_true (plain_op is i (body_of pat up) (start_of up) (repetition b s k) rest h.1 (plain_body i pat up h.0 c))
+no_repetition i pat b s k rest is up h c =
+    no_true (plain_op is i (body_of pat up) (start_of up) (repetition b s k) rest h.1 (plain_body i pat up h.0 c))
 
 -- ---- a beginning has one step at most
 
-pub empty_same : (w : Option Item) (rest : Ops) (is : Items) (up : List Frame) (y z : Beginning) → In y (empty_of w rest is up) → In z (empty_of w rest is up) → y ≡ z
+pub empty_same : (w : Option Item) (rest : Ops) (is : Items) (up : List Frame) (y z : Beginning)
+    → In y (empty_of w rest is up) → In z (empty_of w rest is up) → y ≡ z
 empty_same None rest is up y z a b = absurd a
 empty_same (Some x) rest is up y z a b = go (item_width x) a b
   where
@@ -49,7 +61,8 @@ empty_same (Some x) rest is up y z a b = go (item_width x) a b
     go zero (inr e) f = absurd e
     go (suc n) e f = absurd e
 
-pub empty_over : {A : Type 0} (f : Bool) (w : Option Item) (rest : Ops) (is : Items) (up : List Frame) (y : Beginning) (m : Move) → In y (empty_of w rest is up) → over_of f w rest is up ≡ Some m → A
+pub empty_over : {A : Type 0} (f : Bool) (w : Option Item) (rest : Ops) (is : Items) (up : List Frame) (y : Beginning)
+    (m : Move) → In y (empty_of w rest is up) → over_of f w rest is up ≡ Some m → A
 empty_over f None rest is up y m a b = absurd a
 empty_over {A} f (Some x) rest is up y m a b = go (item_width x) a b
   where
@@ -57,22 +70,30 @@ empty_over {A} f (Some x) rest is up y m a b = go (item_width x) a b
     go zero a b = absurd (none-some m b)
     go (suc n) a b = absurd a
 
-idle_same : (i : Input) (pat : Ops) (q : ℕ) (x y z : Beginning) → Begins i pat x → IsTrue (has_no_repetition pat) → In y (idle i q x) → In z (idle i q x) → y ≡ z
+idle_same : (i : Input) (pat : Ops) (q : ℕ) (x y z : Beginning) → Begins i pat x → IsTrue (has_no_repetition pat)
+    → In y (idle i q x) → In z (idle i q x) → y ≡ z
 idle_same i pat q (dot no_ops is []) y z h c a b = absurd a
 idle_same i pat q (dot no_ops is (inside d b' rest js ∷ up)) y z h c a b = absurd a
-idle_same i pat q (dot no_ops is (within b' s k rest js rs ∷ up)) y z h c a b = no_frame i pat b' s k rest js rs up h.0 c
-idle_same i pat q (dot (op (token t) rest) is up) y z h c a b = empty_same (matched_by (i.token_at t q)) rest is up y z a b
-idle_same i pat q (dot (op (variable name kind span) rest) is up) y z h c a b = empty_same (bound_as name (i.fragment_at kind q)) rest is up y z a b
+idle_same i pat q (dot no_ops is (within b' s k rest js rs ∷ up)) y z h c a b =
+    no_frame i pat b' s k rest js rs up h.0 c
+idle_same i pat q (dot (op (token t) rest) is up) y z h c a b =
+    empty_same (matched_by (i.token_at t q)) rest is up y z a b
+idle_same i pat q (dot (op (variable name kind span) rest) is up) y z h c a b =
+    empty_same (bound_as name (i.fragment_at kind q)) rest is up y z a b
 idle_same i pat q (dot (op (group d b') rest) is up) y z h c a b = absurd a
 idle_same i pat q (dot (op (repetition b' s k) rest) is up) y z h c a b = no_repetition i pat b' s k rest is up h c
 idle_same i pat q (dot (op (expression e) rest) is up) y z h c a b = absurd a
 
-idle_move : {A : Type 0} (i : Input) (pat : Ops) (q : ℕ) (x y : Beginning) (m : Move) → Begins i pat x → IsTrue (has_no_repetition pat) → In y (idle i q x) → next i q x ≡ Some m → A
+idle_move : {A : Type 0} (i : Input) (pat : Ops) (q : ℕ) (x y : Beginning) (m : Move) → Begins i pat x
+    → IsTrue (has_no_repetition pat) → In y (idle i q x) → next i q x ≡ Some m → A
 idle_move i pat q (dot no_ops is []) y m h c a b = absurd a
 idle_move i pat q (dot no_ops is (inside d b' rest js ∷ up)) y m h c a b = absurd a
-idle_move i pat q (dot no_ops is (within b' s k rest js rs ∷ up)) y m h c a b = no_frame i pat b' s k rest js rs up h.0 c
-idle_move i pat q (dot (op (token t) rest) is up) y m h c a b = empty_over false (matched_by (i.token_at t q)) rest is up y m a b
-idle_move i pat q (dot (op (variable name kind span) rest) is up) y m h c a b = empty_over true (bound_as name (i.fragment_at kind q)) rest is up y m a b
+idle_move i pat q (dot no_ops is (within b' s k rest js rs ∷ up)) y m h c a b =
+    no_frame i pat b' s k rest js rs up h.0 c
+idle_move i pat q (dot (op (token t) rest) is up) y m h c a b =
+    empty_over false (matched_by (i.token_at t q)) rest is up y m a b
+idle_move i pat q (dot (op (variable name kind span) rest) is up) y m h c a b =
+    empty_over true (bound_as name (i.fragment_at kind q)) rest is up y m a b
 idle_move i pat q (dot (op (group d b') rest) is up) y m h c a b = absurd a
 idle_move i pat q (dot (op (repetition b' s k) rest) is up) y m h c a b = no_repetition i pat b' s k rest is up h c
 idle_move i pat q (dot (op (expression e) rest) is up) y m h c a b = absurd a
@@ -87,7 +108,8 @@ unfolding AtLeastOne
 when_some true y = omega arith
 when_some false y = tt
 
-over_some : (f : Bool) (w : Option Item) (rest : Ops) (is : Items) (up : List Frame) → AtLeastOne (over_of f w rest is up)
+over_some : (f : Bool) (w : Option Item) (rest : Ops) (is : Items) (up : List Frame)
+    → AtLeastOne (over_of f w rest is up)
 unfolding AtLeastOne
 over_some f None rest is up = tt
 over_some f (Some x) rest is up = go (item_width x)
@@ -96,13 +118,15 @@ over_some f (Some x) rest is up = go (item_width x)
     go zero = tt
     go (suc n) = omega arith
 
-next_some : (i : Input) (pat : Ops) (q : ℕ) (x : Beginning) → Begins i pat x → IsTrue (has_no_repetition pat) → AtLeastOne (next i q x)
+next_some : (i : Input) (pat : Ops) (q : ℕ) (x : Beginning) → Begins i pat x → IsTrue (has_no_repetition pat)
+    → AtLeastOne (next i q x)
 unfolding AtLeastOne
 next_some i pat q (dot no_ops is []) h c = tt
 next_some i pat q (dot no_ops is (inside d b rest js ∷ up)) h c = when_some (i.closes_at q) _
 next_some i pat q (dot no_ops is (within b s k rest js rs ∷ up)) h c = no_frame i pat b s k rest js rs up h.0 c
 next_some i pat q (dot (op (token t) rest) is up) h c = over_some false (matched_by (i.token_at t q)) rest is up
-next_some i pat q (dot (op (variable name kind span) rest) is up) h c = over_some true (bound_as name (i.fragment_at kind q)) rest is up
+next_some i pat q (dot (op (variable name kind span) rest) is up) h c =
+    over_some true (bound_as name (i.fragment_at kind q)) rest is up
 next_some i pat q (dot (op (group d b) rest) is up) h c = when_some (i.opens_at d.kind q) _
 next_some i pat q (dot (op (repetition b s k) rest) is up) h c = tt
 next_some i pat q (dot (op (expression e) rest) is up) h c = tt
@@ -132,13 +156,16 @@ module _ (i : Input) (pat : Ops) (plain : IsTrue (has_no_repetition pat)) where
   start_steps y e = ap (λ v. steps (story v)) e
 
   -- beginnings after the same number of steps are one
-  unique : (n : ℕ) (y z : Beginning) → Begins i pat y → Begins i pat z → steps (story y) ≡ n → steps (story z) ≡ n → y ≡ z
+  unique : (n : ℕ) (y z : Beginning) → Begins i pat y → Begins i pat z → steps (story y) ≡ n → steps (story z) ≡ n
+      → y ≡ z
   unique zero y z a b e f = turn (parents i pat y a) (parents i pat z b)
     where
       turn : (y ≡ start pat) ⊎ From i pat y → (z ≡ start pat) ⊎ From i pat z → y ≡ z
       turn (inl u) (inl v) = u ∙ sym v
-      turn (inl u) (inr (x, h, v)) = let s : steps (story z) ≡ suc (steps (story x)) = steps_one i x z v in absurd (omega (arith, s, f))
-      turn (inr (x, h, u)) v = let s : steps (story y) ≡ suc (steps (story x)) = steps_one i x y u in absurd (omega (arith, s, e))
+      turn (inl u) (inr (x, h, v)) = let s : steps (story z) ≡ suc (steps (story x)) =
+          steps_one i x z v in absurd (omega (arith, s, f))
+      turn (inr (x, h, u)) v = let s : steps (story y) ≡ suc (steps (story x)) =
+          steps_one i x y u in absurd (omega (arith, s, e))
   unique (suc n) y z a b e f = turn (λ u v g h k l. unique n u v g h k l) (parents i pat y a) (parents i pat z b)
     where
       turn : ((u v : Beginning) → Begins i pat u → Begins i pat v → steps (story u) ≡ n → steps (story v) ≡ n → u ≡ v) →
@@ -156,14 +183,16 @@ module _ (i : Input) (pat : Ops) (plain : IsTrue (has_no_repetition pat)) where
   no_back x y (inr a) = let e : place y ≡ place x + a.0 = a.3 in omega (arith, e)
 
   -- after more steps, the step from x was one of them
-  later : (n : ℕ) (x y : Beginning) → Begins i pat x → Begins i pat y → steps (story y) ≡ n → steps (story x) < n → (z : Beginning) × Steps i x z × (place z ≤ place y)
+  later : (n : ℕ) (x y : Beginning) → Begins i pat x → Begins i pat y → steps (story y) ≡ n → steps (story x) < n
+      → (z : Beginning) × Steps i x z × (place z ≤ place y)
   later zero x y a b e l = absurd (omega (arith, l))
   later (suc n) x y a b e l = turn (λ v g k m. later n x v a g k m) (parents i pat y b)
     where
       split : (m : ℕ) → m < suc n → (m ≡ n) ⊎ (m < n)
       split m k = grind (arith, k)
 
-      turn : ((v : Beginning) → Begins i pat v → steps (story v) ≡ n → steps (story x) < n → (z : Beginning) × Steps i x z × (place z ≤ place v)) →
+      turn : ((v : Beginning) → Begins i pat v → steps (story v) ≡ n → steps (story x) < n
+          → (z : Beginning) × Steps i x z × (place z ≤ place v)) →
           (y ≡ start pat) ⊎ From i pat y → (z : Beginning) × Steps i x z × (place z ≤ place y)
       turn ih (inl u) = let s : steps (story y) ≡ 0 = start_steps y u in absurd (omega (arith, s, e))
       turn ih (inr (p, h, u)) = go (split (steps (story x)) l)
@@ -201,12 +230,14 @@ module _ (i : Input) (pat : Ops) (plain : IsTrue (has_no_repetition pat)) where
       y : Beginning
       y = dot no_ops js []
 
-      turn : (steps (story x) ≡ steps (story y)) ⊎ ((steps (story x) < steps (story y)) ⊎ (steps (story y) < steps (story x))) → is ≡ js
+      turn : (steps (story x) ≡ steps (story y))
+          ⊎ ((steps (story x) < steps (story y)) ⊎ (steps (story y) < steps (story x))) → is ≡ js
       turn (inl e) = same_items is js (unique (steps (story y)) x y (tt, a) (tt, b) e refl)
       turn (inr (inl l)) = let r = later (steps (story y)) x y (tt, a) (tt, b) refl l in no_end is r.0 r.1
       turn (inr (inr l)) = let r = later (steps (story x)) y x (tt, b) (tt, a) refl l in no_end js r.0 r.1
 
-  past : {A : Type 0} (q n : ℕ) (f : Bool) (x y : Beginning) → At i pat q x → At i pat q y → GoesOn i q n f x → steps (story x) < steps (story y) → A
+  past : {A : Type 0} (q n : ℕ) (f : Bool) (x y : Beginning) → At i pat q x → At i pat q y → GoesOn i q n f x
+      → steps (story x) < steps (story y) → A
   past {A} q n f x y a b g l = turn (later (steps (story y)) x y a.0 b.0 refl l)
     where
       here : next i (place x) x ≡ Some (move n f g.0)
@@ -224,7 +255,8 @@ module _ (i : Input) (pat : Ops) (plain : IsTrue (has_no_repetition pat)) where
   pub never_ambiguous_at : (q : ℕ) → Ambiguous i pat q → ⊥
   never_ambiguous_at q w = turn (three (steps (story w.one)) (steps (story w.other)))
     where
-      turn : (steps (story w.one) ≡ steps (story w.other)) ⊎ ((steps (story w.one) < steps (story w.other)) ⊎ (steps (story w.other) < steps (story w.one))) → ⊥
+      turn : (steps (story w.one) ≡ steps (story w.other))
+          ⊎ ((steps (story w.one) < steps (story w.other)) ⊎ (steps (story w.other) < steps (story w.one))) → ⊥
       turn (inl e) = w.differ (unique (steps (story w.other)) w.one w.other w.one_at.0 w.other_at.0 e refl)
       turn (inr (inl l)) = past q w.n w.f w.one w.other w.one_at w.other_at w.one_goes l
       turn (inr (inr l)) = past q w.m w.g w.other w.one w.other_at w.one_at w.other_goes l

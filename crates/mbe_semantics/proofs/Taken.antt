@@ -13,18 +13,22 @@ pub matched-from : (o : Option ℕ) (x : Item) → matched_by o ≡ Some x → (
 matched-from None x e = absurd (none-some x e)
 matched-from (Some n) x e = (n, refl, same_Some (matched n) x e)
 
-pub bound-from : (name : Name) (o : Option Fragment) (x : Item) → bound_as name o ≡ Some x → (v : Fragment) × (o ≡ Some v) × (bound name v ≡ x)
+pub bound-from : (name : Name) (o : Option Fragment) (x : Item) → bound_as name o ≡ Some x
+    → (v : Fragment) × (o ≡ Some v) × (bound name v ≡ x)
 bound-from name None x e = absurd (none-some x e)
 bound-from name (Some v) x e = (v, refl, same_Some (bound name v) x e)
 
-pub matched-reads : (i : Input) (t : Token) (p : ℕ) (x : Item) → matched_by (i.token_at t p) ≡ Some x → Reads x i (token t) p
+pub matched-reads : (i : Input) (t : Token) (p : ℕ) (x : Item) → matched_by (i.token_at t p) ≡ Some x
+    → Reads x i (token t) p
 matched-reads i t p x e =
     let r : (n : ℕ) × (i.token_at t p ≡ Some n) × (matched n ≡ x) = matched-from (i.token_at t p) x e in
     subst (λ v. Reads v i (token t) p) r.2 r.1
 
-pub bound-reads : (i : Input) (name : Name) (kind : Option MetaVarKind) (span : Span) (p : ℕ) (x : Item) → bound_as name (i.fragment_at kind p) ≡ Some x → Reads x i (variable name kind span) p
+pub bound-reads : (i : Input) (name : Name) (kind : Option MetaVarKind) (span : Span) (p : ℕ) (x : Item)
+    → bound_as name (i.fragment_at kind p) ≡ Some x → Reads x i (variable name kind span) p
 bound-reads i name kind span p x e =
-    let r : (v : Fragment) × (i.fragment_at kind p ≡ Some v) × (bound name v ≡ x) = bound-from name (i.fragment_at kind p) x e in
+    let r : (v : Fragment) × (i.fragment_at kind p ≡ Some v) × (bound name v ≡ x) =
+    bound-from name (i.fragment_at kind p) x e in
     subst (λ v. Reads v i (variable name kind span) p) r.2 (refl, r.1)
 
 -- the item is one that a token or a variable reads
@@ -35,4 +39,5 @@ pub matched-taken : (o : Option ℕ) (x : Item) → matched_by o ≡ Some x → 
 matched-taken o x e = let r : (n : ℕ) × (o ≡ Some n) × (matched n ≡ x) = matched-from o x e in inl (r.0, r.2)
 
 pub bound-taken : (name : Name) (o : Option Fragment) (x : Item) → bound_as name o ≡ Some x → IsTaken x
-bound-taken name o x e = let r : (v : Fragment) × (o ≡ Some v) × (bound name v ≡ x) = bound-from name o x e in inr (name, r.0, r.2)
+bound-taken name o x e = let r : (v : Fragment) × (o ≡ Some v) × (bound name v ≡ x) =
+    bound-from name o x e in inr (name, r.0, r.2)

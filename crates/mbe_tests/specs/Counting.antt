@@ -17,11 +17,13 @@ may_be_empty _ = false
 -- as many as there are, at most
 abbrev pub counting : ℕ → Bool → Grammar
 counting count fault = record {
-  parse = λ entry tokens. (let n = min count (length tokens) in record { count = n; fault = fault || ((n == 0) && (if may_be_empty entry then false else true)) });
+  parse = λ entry tokens. (let n = min count (length tokens) in
+      record { count = n; fault = fault || ((n == 0) && (if may_be_empty entry then false else true)) });
   is_keyword = λ text. false;
 }
 
-empty : (fault : Bool) (entry : PrefixEntryPoint) (n : ℕ) → (fault || ((n == 0) && (if may_be_empty entry then false else true))) ≡ false → n ≡ 0 → entry ≡ Vis
+empty : (fault : Bool) (entry : PrefixEntryPoint) (n : ℕ)
+    → (fault || ((n == 0) && (if may_be_empty entry then false else true))) ≡ false → n ≡ 0 → entry ≡ Vis
 empty true entry n f e = absurd (true≢false f)
 empty false Vis n f e = refl
 empty false entry n f e = absurd (true≢false (sym (ap (λ (m : ℕ). (m == 0) && true) e) ∙ f))
@@ -52,7 +54,10 @@ abbrev pub number_by : Bool → ℕ → Front
 number_by too_few n = if too_few then record { count = 0; fault = true } else record { count = n; fault = false }
 
 abbrev pub numbered : Grammar
-numbered = record { parse = λ entry tokens. number_by (nat_lt (length tokens) (number_of entry)) (number_of entry); is_keyword = λ text. false }
+numbered = record {
+  parse = λ entry tokens. number_by (nat_lt (length tokens) (number_of entry)) (number_of entry);
+  is_keyword = λ text. false;
+}
 
 within : (n m : ℕ) (b : Bool) → nat_lt n m ≡ b → (number_by b m).count ≤ n
 within n m true e = zero-le
@@ -62,7 +67,8 @@ some : (entry : PrefixEntryPoint) → number_of entry ≡ 0 → entry ≡ Vis
 some Vis e = refl
 some entry e = absurd (omega (arith, e))
 
-taken : (entry : PrefixEntryPoint) (b : Bool) → (number_by b (number_of entry)).fault ≡ false → (number_by b (number_of entry)).count ≡ 0 → entry ≡ Vis
+taken : (entry : PrefixEntryPoint) (b : Bool) → (number_by b (number_of entry)).fault ≡ false
+    → (number_by b (number_of entry)).count ≡ 0 → entry ≡ Vis
 taken entry true f e = absurd (true≢false f)
 taken entry false f e = some entry e
 

@@ -55,9 +55,6 @@ pub record Passes (dialect : Dialect) (total : ℕ) (from cs : List ℕ) : Type 
   pub fits : length cs ≤ n
   pub same : past_blanks dialect total (length from) from ≡ past_blanks dialect total n cs
 
-pub passes_none : (dialect : Dialect) (total : ℕ) (cs : List ℕ) → Passes dialect total cs cs
-passes_none dialect total cs = record { n = length cs; fits = omega arith; same = refl }
-
 -- with one to count down for what is left, unless nothing is
 pub record Counts (dialect : Dialect) (total : ℕ) (from cs : List ℕ) : Type 0 where
   pub n : ℕ
@@ -72,9 +69,15 @@ blanks_end : (dialect : Dialect) (total n : ℕ) → past_blanks dialect total n
 blanks_end dialect total zero = refl
 blanks_end dialect total (suc n) = same_both_ways (is_doc dialect []) (Ok [])
 
-counts : (dialect : Dialect) (total : ℕ) (from cs : List ℕ) → Passes dialect total from cs → Counts dialect total from cs
+counts : (dialect : Dialect) (total : ℕ) (from cs : List ℕ) → Passes dialect total from cs
+    → Counts dialect total from cs
 counts dialect total from [] p =
-    record { n = 0; fits = omega arith; same = p.same ∙ (blanks_end dialect total p.n ∙ sym (blanks_end dialect total 1)) }
+    record {
+      n = 0;
+      fits = omega arith;
+      same = p.same
+          ∙ (blanks_end dialect total p.n ∙ sym (blanks_end dialect total 1));
+    }
 counts dialect total from (c ∷ cs) p =
     let e : p.n ≡ suc (p.n - 1) = let f = p.fits in omega (arith, f) in
     record {
@@ -109,20 +112,24 @@ comments_shorter (suc depth) (c ∷ (d ∷ cs)) rest e =
     (λ h. omega (arith, comments_shorter (suc depth) (d ∷ cs) rest h)) e
 
 -- what a call says of a scanner's dialect, which is still that of the text
-pub blank_there : (dialect dialect' : Dialect) (c : ℕ) (r v : Bool) → dialect' ≡ dialect → r ≡ has (blank dialect') c → r ≡ v
+pub blank_there : (dialect dialect' : Dialect) (c : ℕ) (r v : Bool) → dialect' ≡ dialect → r ≡ has (blank dialect') c
+    → r ≡ v
     → has (blank dialect) c ≡ v
 blank_there dialect dialect' c r v d e is = ap (λ (k : Dialect). has (blank k) c) (sym d) ∙ (sym e ∙ is)
 
-pub doc_there : (dialect dialect' : Dialect) (cs : List ℕ) (r v : Bool) → dialect' ≡ dialect → r ≡ is_doc dialect' cs → r ≡ v
+pub doc_there : (dialect dialect' : Dialect) (cs : List ℕ) (r v : Bool) → dialect' ≡ dialect → r ≡ is_doc dialect' cs
+    → r ≡ v
     → is_doc dialect cs ≡ v
 doc_there dialect dialect' cs r v d e is = ap (λ (k : Dialect). is_doc k cs) (sym d) ∙ (sym e ∙ is)
 
 -- nothing is left
-pub passes_end : (dialect : Dialect) (total : ℕ) (from cs : List ℕ) → Passes dialect total from cs → cs ≡ [] → past_blanks dialect total (length from) from ≡ Ok cs
+pub passes_end : (dialect : Dialect) (total : ℕ) (from cs : List ℕ) → Passes dialect total from cs → cs ≡ []
+    → past_blanks dialect total (length from) from ≡ Ok cs
 passes_end dialect total from cs p e =
     p.same ∙ ap (past_blanks dialect total p.n) e ∙ blanks_end dialect total p.n ∙ ap Ok (sym e)
 
-module _ (dialect : Dialect) (total : ℕ) (from cs mid : List ℕ) (c : ℕ) (p : Passes dialect total from cs) (e : cs ≡ c ∷ mid) where
+module _ (dialect : Dialect) (total : ℕ) (from cs mid : List ℕ) (c : ℕ) (p : Passes dialect total from cs)
+    (e : cs ≡ c ∷ mid) where
   first : (n : ℕ) → past_blanks dialect total n cs ≡ past_blanks dialect total n (c ∷ mid)
   first n = ap (past_blanks dialect total n) e
 
@@ -141,17 +148,21 @@ module _ (dialect : Dialect) (total : ℕ) (from cs mid : List ℕ) (c : ℕ) (p
         same = q.same ∙ (first (suc q.n) ∙ rw b refl);
       }
 
-  pub passes_other : has (blank dialect) c ≡ false → (c == slash) ≡ false → past_blanks dialect total (length from) from ≡ Ok cs
+  pub passes_other : has (blank dialect) c ≡ false → (c == slash) ≡ false
+      → past_blanks dialect total (length from) from ≡ Ok cs
   passes_other b s =
       let q = counts dialect total from cs p in
-      q.same ∙ (first (suc q.n) ∙ (rw (b, s) (same_both_ways (is_doc dialect (c ∷ mid)) (Ok (c ∷ mid))) ∙ ap Ok (sym e)))
+      q.same ∙ (first (suc q.n) ∙ (rw (b, s) (same_both_ways (is_doc dialect (c ∷ mid)) (Ok (c ∷ mid)))
+      ∙ ap Ok (sym e)))
 
-  pub passes_doc : has (blank dialect) c ≡ false → is_doc dialect cs ≡ true → past_blanks dialect total (length from) from ≡ Ok cs
+  pub passes_doc : has (blank dialect) c ≡ false → is_doc dialect cs ≡ true
+      → past_blanks dialect total (length from) from ≡ Ok cs
   passes_doc b d =
       let q = counts dialect total from cs p in
       q.same ∙ (first (suc q.n) ∙ (rw (b, doc true d) refl ∙ ap Ok (sym e)))
 
-  pub passes_line : (after : List ℕ) → has (blank dialect) c ≡ false → is_doc dialect cs ≡ false → (c == slash) ≡ true → begins_with (codes "/") mid ≡ true
+  pub passes_line : (after : List ℕ) → has (blank dialect) c ≡ false → is_doc dialect cs ≡ false → (c == slash) ≡ true
+      → begins_with (codes "/") mid ≡ true
       → after ≡ past InLine (drop 2 cs) → Passes dialect total from after
   passes_line after b d s l h =
       let q = counts dialect total from cs p in
@@ -163,7 +174,8 @@ module _ (dialect : Dialect) (total : ℕ) (from cs mid : List ℕ) (c : ℕ) (p
         same = q.same ∙ (first (suc q.n) ∙ rw (b, doc false d, s, l, a) refl);
       }
 
-  pub passes_block : (after : List ℕ) → has (blank dialect) c ≡ false → is_doc dialect cs ≡ false → (c == slash) ≡ true → begins_with (codes "/") mid ≡ false
+  pub passes_block : (after : List ℕ) → has (blank dialect) c ≡ false → is_doc dialect cs ≡ false → (c == slash) ≡ true
+      → begins_with (codes "/") mid ≡ false
       → begins_with (codes "*") mid ≡ true → past_comments 1 (drop 2 cs) ≡ Some after → Passes dialect total from after
   passes_block after b d s l k h =
       let q = counts dialect total from cs p in
@@ -174,16 +186,19 @@ module _ (dialect : Dialect) (total : ℕ) (from cs mid : List ℕ) (c : ℕ) (p
         same = q.same ∙ (first (suc q.n) ∙ rw (b, doc false d, s, l, k, a) refl);
       }
 
-  pub passes_last : has (blank dialect) c ≡ false → is_doc dialect cs ≡ false → (c == slash) ≡ true → begins_with (codes "/") mid ≡ false
+  pub passes_last : has (blank dialect) c ≡ false → is_doc dialect cs ≡ false → (c == slash) ≡ true
+      → begins_with (codes "/") mid ≡ false
       → begins_with (codes "*") mid ≡ false → past_blanks dialect total (length from) from ≡ Ok cs
   passes_last b d s l k =
       let q = counts dialect total from cs p in
       q.same ∙ (first (suc q.n) ∙ (rw (b, doc false d, s, l, k) refl ∙ ap Ok (sym e)))
 
-  pub passes_fault : has (blank dialect) c ≡ false → is_doc dialect cs ≡ false → (c == slash) ≡ true → begins_with (codes "/") mid ≡ false
+  pub passes_fault : has (blank dialect) c ≡ false → is_doc dialect cs ≡ false → (c == slash) ≡ true
+      → begins_with (codes "/") mid ≡ false
       → begins_with (codes "*") mid ≡ true → past_comments 1 (drop 2 cs) ≡ None
       → past_blanks dialect total (length from) from ≡ Err (fault_at wrong.OpenComment total cs)
   passes_fault b d s l k h =
       let q = counts dialect total from cs p in
       let a : past_comments 1 (drop 1 mid) ≡ None = ap (λ (l : List ℕ). past_comments 1 (drop 2 l)) (sym e) ∙ h in
-      q.same ∙ (first (suc q.n) ∙ (rw (b, doc false d, s, l, k, a) refl ∙ ap (λ (l : List ℕ). Err (fault_at wrong.OpenComment total l)) (sym e)))
+      q.same ∙ (first (suc q.n) ∙ (rw (b, doc false d, s, l, k, a) refl
+      ∙ ap (λ (l : List ℕ). Err (fault_at wrong.OpenComment total l)) (sym e)))

@@ -130,7 +130,8 @@ end_of text own rest e =
     let same : IsRest text text = ap (λ (n : ℕ). drop n text) none in
     (omega (arith, ap (λ (l : List ℕ). length l) e, length-append own rest), rest_after text text own rest same e)
 
-pub front_end : (o : Option (Bor (List ℕ))) (n s : List ℕ) → IfSome o (λ x. s ≡ n ++ x.now) → IfSome o (λ x. IsEnd s x.now)
+pub front_end : (o : Option (Bor (List ℕ))) (n s : List ℕ) → IfSome o (λ x. s ≡ n ++ x.now)
+    → IfSome o (λ x. IsEnd s x.now)
 front_end None n s h = tt
 front_end (Some x) n s h = end_of s n x.now h
 

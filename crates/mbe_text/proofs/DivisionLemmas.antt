@@ -45,9 +45,11 @@ item_of_shape span (Open kind) = refl
 item_of_shape span (Close kind) = refl
 
 -- what a call returns that reads a token behind blanks
-pub is_next : (dialect : Dialect) (file total : ℕ) (cs left : List ℕ) (c : ℕ) (after : List ℕ) (l : Lexeme) (rest : List ℕ) (span : Span)
+pub is_next : (dialect : Dialect) (file total : ℕ) (cs left : List ℕ) (c : ℕ) (after : List ℕ) (l : Lexeme)
+    (rest : List ℕ) (span : Span)
     (start end : ℕ)
-    → past_blanks dialect total (length cs) cs ≡ Ok left → left ≡ c ∷ after → read_shape dialect total left ≡ Ok (shape_of l, rest)
+    → past_blanks dialect total (length cs) cs ≡ Ok left → left ≡ c ∷ after
+    → read_shape dialect total left ≡ Ok (shape_of l, rest)
     → span ≡ bytes_of file start end → start ≡ offset total left → end ≡ offset total rest
     → IsNext file total (next_token dialect total cs) (Ok (Some (record { lexeme = l; span = span }))) rest
 is_next dialect file total cs left c after l rest span start end e f g is s t =
@@ -68,7 +70,8 @@ asked : {dialect dialect' : Dialect} {total total' : ℕ} (cs : List ℕ) → di
 asked {dialect} {dialect'} {total} {total'} cs d n =
     ap (λ (k : Dialect). next_token k total cs) (sym d) ∙ ap (λ (k : ℕ). next_token dialect' k cs) (sym n)
 
-nothing_faults : (dialect : Dialect) (total : ℕ) (fault : LexFault) → next_token dialect total (chars []) ≡ Err fault → ⊥
+nothing_faults : (dialect : Dialect) (total : ℕ) (fault : LexFault) → next_token dialect total (chars []) ≡ Err fault
+    → ⊥
 nothing_faults dialect total fault e =
     let n : next_token dialect total (chars []) ≡ Ok None = ap (next_token dialect total) chars-nil ∙ refl in cc
 
@@ -131,9 +134,11 @@ pub record Reaches (dialect : Dialect) (file : ℕ) (text left : List ℕ) (leve
   pub fits : length left ≤ n
   pub same : levels_at_end dialect file text ≡ levels_of dialect file (length text) n levels (chars left)
 
-pub reached_first : (dialect : Dialect) (file : ℕ) (text left : List ℕ) (span : Span) (d : Delimiter) (b : Levels) → b ≡ (d, none) ∷ []
+pub reached_first : (dialect : Dialect) (file : ℕ) (text left : List ℕ) (span : Span) (d : Delimiter) (b : Levels)
+    → b ≡ (d, none) ∷ []
     → d ≡ record { opening = span; close = span; kind = Invisible } → span ≡ bytes_of file 0 (length text)
-    → length left ≤ length text → chars left ≡ after_head dialect (length text) (chars text) → Reaches dialect file text left b
+    → length left ≤ length text → chars left ≡ after_head dialect (length text) (chars text)
+    → Reaches dialect file text left b
 reached_first dialect file text left span d b e opens is fits head =
     let delimiter : Span → Delimiter = λ s. record { opening = s; close = s; kind = Invisible } in
     let levels : Delimiter → Levels = λ k. (k, none) ∷ [] in
@@ -146,17 +151,20 @@ reached_first dialect file text left span d b e opens is fits head =
           ∙ ap (λ (cs : List ℕ). levels_of dialect file n n b cs) (sym head);
     }
 
-levels_step : (dialect : Dialect) (file total m : ℕ) (b c : Levels) (cs : List ℕ) (t : Taken) → next_token dialect total cs ≡ Ok (Some t)
+levels_step : (dialect : Dialect) (file total m : ℕ) (b c : Levels) (cs : List ℕ) (t : Taken)
+    → next_token dialect total cs ≡ Ok (Some t)
     → after_item (item_taken file total t) b ≡ Some c
     → levels_of dialect file total (suc m) b cs ≡ levels_of dialect file total m c t.rest
 levels_step dialect file total m b c cs t e f = rw (e, levels_of, f) refl
 
-levels_astray : (dialect : Dialect) (file total m : ℕ) (b : Levels) (cs : List ℕ) (t : Taken) → next_token dialect total cs ≡ Ok (Some t)
+levels_astray : (dialect : Dialect) (file total m : ℕ) (b : Levels) (cs : List ℕ) (t : Taken)
+    → next_token dialect total cs ≡ Ok (Some t)
     → after_item (item_taken file total t) b ≡ None
     → levels_of dialect file total (suc m) b cs ≡ Err (fault_at wrong.Closing total t.from)
 levels_astray dialect file total m b cs t e f = rw (e, levels_of, f) refl
 
-levels_fault : (dialect : Dialect) (file total m : ℕ) (b : Levels) (cs : List ℕ) (fault : LexFault) → next_token dialect total cs ≡ Err fault
+levels_fault : (dialect : Dialect) (file total m : ℕ) (b : Levels) (cs : List ℕ) (fault : LexFault)
+    → next_token dialect total cs ≡ Err fault
     → levels_of dialect file total (suc m) b cs ≡ Err fault
 levels_fault dialect file total m b cs fault e = rw (e, levels_of) refl
 
@@ -166,9 +174,11 @@ levels_last dialect file total zero b cs e = refl
 levels_last dialect file total (suc m) b cs e = rw (e, levels_of) refl
 
 -- a token, which was added
-pub reached_more : (dialect : Dialect) (file : ℕ) (text left left' : List ℕ) (b c : Levels) (dialect' : Dialect) (file' total' : ℕ) (t : Token)
+pub reached_more : (dialect : Dialect) (file : ℕ) (text left left' : List ℕ) (b c : Levels) (dialect' : Dialect)
+    (file' total' : ℕ) (t : Token)
     → Reaches dialect file text left b → dialect' ≡ dialect → file' ≡ file → total' ≡ length text
-    → IsNext file' total' (next_token dialect' total' (chars left)) (Ok (Some t)) (chars left') → length left' < length left
+    → IsNext file' total' (next_token dialect' total' (chars left)) (Ok (Some t)) (chars left')
+    → length left' < length left
     → Adds (token_item t) b c
     → Reaches dialect file text left' c
 reached_more dialect file text left left' b c dialect' file' total' t p same f n next shorter adds =
@@ -194,9 +204,11 @@ abbrev closing_at : ℕ → Result Levels LexFault
 closing_at n = let fault : LexFault = record { offset = n; wrong = wrong.Closing } in Err fault
 
 -- a closing that doesn't fit
-pub reached_astray : (dialect : Dialect) (file : ℕ) (text left left' : List ℕ) (b : Levels) (dialect' : Dialect) (file' total' : ℕ) (t : Token)
+pub reached_astray : (dialect : Dialect) (file : ℕ) (text left left' : List ℕ) (b : Levels) (dialect' : Dialect)
+    (file' total' : ℕ) (t : Token)
     → Reaches dialect file text left b → dialect' ≡ dialect → file' ≡ file → total' ≡ length text
-    → IsNext file' total' (next_token dialect' total' (chars left)) (Ok (Some t)) (chars left') → length left' < length left
+    → IsNext file' total' (next_token dialect' total' (chars left)) (Ok (Some t)) (chars left')
+    → length left' < length left
     → IsAstray (token_item t) b
     → levels_at_end dialect file text ≡ Err (closing_fault (token_item t))
 reached_astray dialect file text left left' b dialect' file' total' t p same f n next shorter astray =
@@ -217,7 +229,8 @@ reached_astray dialect file text left left' b dialect' file' total' t p same f n
     ∙ (levels_astray dialect file total (p.n - 1) b (chars left) taken is after ∙ ap closing_at (sym start)))
 
 -- no token
-pub reached_fault : (dialect : Dialect) (file : ℕ) (text left : List ℕ) (b : Levels) (dialect' : Dialect) (total' : ℕ) (fault : LexFault) → Reaches dialect file text left b
+pub reached_fault : (dialect : Dialect) (file : ℕ) (text left : List ℕ) (b : Levels) (dialect' : Dialect) (total' : ℕ)
+    (fault : LexFault) → Reaches dialect file text left b
     → dialect' ≡ dialect → total' ≡ length text
     → next_token dialect' total' (chars left) ≡ Err fault
     → levels_at_end dialect file text ≡ Err fault
@@ -233,7 +246,8 @@ reached_fault dialect file text left b dialect' total' fault p same n next =
     fault_of (suc m) left h e = levels_fault dialect file (length text) m b (chars left) fault e
 
 -- the end
-pub reached_last : (dialect : Dialect) (file : ℕ) (text left : List ℕ) (b : Levels) (dialect' : Dialect) (total' : ℕ) → Reaches dialect file text left b
+pub reached_last : (dialect : Dialect) (file : ℕ) (text left : List ℕ) (b : Levels) (dialect' : Dialect) (total' : ℕ)
+    → Reaches dialect file text left b
     → dialect' ≡ dialect → total' ≡ length text
     → next_token dialect' total' (chars left) ≡ Ok None
     → levels_at_end dialect file text ≡ Ok b
@@ -243,10 +257,13 @@ reached_last dialect file text left b dialect' total' p same n is =
 pub trees_lexed : (dialect : Dialect) (file : ℕ) (text : List ℕ) (b : Levels) (span : Span) (t : Top)
     → levels_at_end dialect file text ≡ Ok b → is_unclosed dialect b ≡ false
     → span ≡ bytes_of file (length text) (length text) → t ≡ ended span b → trees_of dialect file text ≡ Ok t
-trees_lexed dialect file text b span t e closed is h = rw (e, trees_of, closed) (ap Ok (sym (h ∙ ap (λ (s : Span). ended s b) is)))
+trees_lexed dialect file text b span t e closed is h =
+    rw (e, trees_of, closed) (ap Ok (sym (h ∙ ap (λ (s : Span). ended s b) is)))
 
-pub trees_unclosed : (dialect : Dialect) (file : ℕ) (text : List ℕ) (b : Levels) → levels_at_end dialect file text ≡ Ok b
-    → is_unclosed dialect b ≡ true → trees_of dialect file text ≡ Err (record { offset = length text; wrong = wrong.Open })
+pub trees_unclosed : (dialect : Dialect) (file : ℕ) (text : List ℕ) (b : Levels)
+    → levels_at_end dialect file text ≡ Ok b
+    → is_unclosed dialect b ≡ true → trees_of dialect file text
+    ≡ Err (record { offset = length text; wrong = wrong.Open })
 trees_unclosed dialect file text b e more = rw (e, trees_of, more) refl
 
 pub trees_fault : (dialect : Dialect) (file : ℕ) (text : List ℕ) (fault : LexFault)

@@ -1,5 +1,5 @@
 -- The lines of a forest, one flat token after another.
-use Rattle.std.proofs.Common.{◌≡◌, ℕ, zero, suc, ◌+◌, ◌-◌, ◌<◌, ◌≤◌, List, [], ◌∷◌, ◌++◌, length, drop, refl, sym, ap, ◌∙◌, arith, append_assoc, append-nil}
+use Rattle.std.proofs.Common.{◌≡◌, ℕ, zero, suc, ◌+◌, ◌-◌, ◌<◌, ◌≤◌, List, [], ◌∷◌, ◌++◌, length, drop, refl, sym, ap, ◌∙◌, arith, append_assoc}
 use Rattle.std.specs.Prelude.{codes}
 use Rattle.mbe_tt.specs.Trees.Tree.{Forest, none, leaf, group, first, flat_len, rest_at}
 use Rattle.mbe_tt.specs.Buffers.Place.{Rests, step, rests, spell_rests}
@@ -24,7 +24,8 @@ left_step none (rest ∷ around) = refl
 left_step (leaf l rest) around =
     append_assoc (line (length around) (leaf_line l)) (lines (length around) rest) (lines_around around)
 left_step (group d inside rest) around =
-    append_assoc (line (length around) (group_line d)) (lines (suc (length around)) inside ++ lines (length around) rest) (lines_around around)
+    append_assoc (line (length around) (group_line d))
+    (lines (suc (length around)) inside ++ lines (length around) rest) (lines_around around)
     ∙ ap (λ (l : List ℕ). line (length around) (group_line d) ++ l)
     (append_assoc (lines (suc (length around)) inside) (lines (length around) rest) (lines_around around))
 
@@ -38,9 +39,6 @@ depth_step (group d inside rest) around = omega arith
 pub record Walks (f : Forest) (n depth : ℕ) (left : List ℕ) : Type 0 where
   pub depth_is : depth ≡ length (rests f n).1
   pub left_is : left ≡ lines_left (rests f n)
-
-pub walks_first : (f : Forest) → Walks f 0 0 (lines 0 f)
-walks_first f = record { depth_is = refl; left_is = sym (append-nil (lines 0 f)) }
 
 -- one flat token more
 pub record Walked (f : Forest) (n depth : ℕ) (left : List ℕ) : Type 0 where

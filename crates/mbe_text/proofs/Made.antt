@@ -1,7 +1,7 @@
 -- What items make, one item more.
 use Rattle.std.proofs.Common.{◌≡◌, ℕ, ◌+◌, ◌<◌, ◌≤◌, List, [], ◌∷◌, ◌++◌, length, refl, sym, ap, ◌∙◌, arith, subst, Option, Some, IfSome}
 use Rattle.std.specs.Prelude.{slice_range}
-use Rattle.mbe_tt.specs.Buffers.Building.{Levels, closed}
+use Rattle.mbe_tt.specs.Buffers.Building.{Levels}
 use Rattle.mbe_tt.specs.declared.span.Span.{Span}
 use Rattle.mbe_tt.specs.Trees.Tree.{none}
 use Rattle.mbe_tt.specs.Trees.Top.{Top}
@@ -10,18 +10,16 @@ use Rattle.mbe_tt.specs.declared.tt.DelimiterKind.TheVariants.{Invisible}
 use Rattle.mbe_text.specs.declared.scanner.Token.{Token}
 use Rattle.mbe_text.specs.declared.scanner.Lexeme.{Lexeme}
 use Rattle.mbe_text.specs.declared.scanner.Lexeme.TheVariants.{Ident, Literal, Punct, Open, Close, Lifetime, Doc}
-use Rattle.mbe_text.specs.declared.lexer.LexError.{LexError}
 use Rattle.mbe_text.specs.declared.lexer.LexError.TheVariants as errors
-use Rattle.mbe_text.specs.Scanning.{FaultsWithin}
-use Rattle.mbe_text.specs.declared.scanner.LexFault.{LexFault}
-use Rattle.mbe_text.specs.Tokens.{Item, item_span, item_text, token_item, lexeme_item, Adds, FaultsAt, Makes, ended, AreInOrder, AreSpelled, bytes_of, whole, IsMade}
+use Rattle.mbe_text.specs.Tokens.{Item, item_span, item_text, token_item, lexeme_item, Adds, Makes, ended, AreInOrder, AreSpelled, bytes_of, whole, IsMade}
 
 makes_more : (a b c : Levels) (xs : List Item) (x : Item) → Makes a xs b → Adds x b c → Makes a (xs ++ x ∷ []) c
 makes_more a b c [] x p q = (c, subst (λ (l : Levels). Adds x l c) p q, refl)
 makes_more a b c (y ∷ ys) x p q = (p.0, p.1, makes_more p.0 b c ys x p.2 q)
 
 in_order_more : (file from to new : ℕ) (xs : List Item) (x : Item) → AreInOrder file from xs to
-    → item_span x ≡ bytes_of file (item_span x).start (item_span x).end → to ≤ (item_span x).start → (item_span x).start < (item_span x).end → (item_span x).end ≤ new
+    → item_span x ≡ bytes_of file (item_span x).start (item_span x).end → to ≤ (item_span x).start
+    → (item_span x).start < (item_span x).end → (item_span x).end ≤ new
     → AreInOrder file from (xs ++ x ∷ []) new
 in_order_more file from to new [] x p is above some below = (is, omega (arith, p, above), some, below)
 in_order_more file from to new (y ∷ ys) x p is above some below =
@@ -42,12 +40,6 @@ span_of_lexeme span (Doc text is_inner) = refl
 span_of_lexeme span (Open kind) = refl
 span_of_lexeme span (Close kind) = refl
 
-pub faults_within : (t : Token) (old : Levels) (len : ℕ) (e : LexError) → FaultsAt (token_item t) old e → t.span.start ≤ len → FaultsWithin len e
-faults_within t old len (errors.Fault fault) p h =
-    let start : fault.offset ≡ (item_span (token_item t)).start = ap (λ (f : LexFault). f.offset) p.0 in
-    omega (arith, start, ap (λ (s : Span). s.start) (span_of_lexeme t.span t.lexeme))
-faults_within t old len errors.OutOfMemory p h = p
-
 -- the tokens so far, of a text of which so much is left
 pub record Lexed (file : ℕ) (text : List ℕ) (left : ℕ) (builder : Levels) : Type 0 where
   pub items : List Item
@@ -59,12 +51,21 @@ pub record Lexed (file : ℕ) (text : List ℕ) (left : ℕ) (builder : Levels) 
 
 -- before the first token
 pub lexed_first : (file : ℕ) (text : List ℕ) (left : ℕ) (span : Span) (d : Delimiter) (b : Levels) → b ≡ (d, none) ∷ []
-    → d ≡ record { opening = span; close = span; kind = Invisible } → span ≡ bytes_of file 0 (length text) → left ≡ length text
+    → d ≡ record { opening = span; close = span; kind = Invisible } → span ≡ bytes_of file 0 (length text)
+    → left ≡ length text
     → Lexed file text left b
 lexed_first file text left span d b e opens is all =
     let delimiter : Span → Delimiter = λ s. record { opening = s; close = s; kind = Invisible } in
     let levels : Delimiter → Levels = λ k. (k, none) ∷ [] in
-    record { items = []; to = 0; at = omega arith; in_order = omega arith; spelled = tt; made = e ∙ ap levels (opens ∙ ap delimiter is) }
+    record {
+      items = [];
+      to = 0;
+      at = omega arith;
+      in_order = omega arith;
+      spelled = tt;
+      made = e
+          ∙ ap levels (opens ∙ ap delimiter is);
+    }
 
 -- one token more
 lexed_token : (file : ℕ) (text : List ℕ) (left left' : ℕ) (b c : Levels) (t : Token) → Lexed file text left b
@@ -82,29 +83,37 @@ lexed_token file text left left' b c t p is above some below spelled q =
       in_order = in_order_more file 0 p.to t.span.end p.items (token_item t) p.in_order
           (e ∙ (is ∙ ap (λ (s : Span). bytes_of file s.start s.end) (sym e)))
           (let h = p.at in omega (arith, s, above, h)) (omega (arith, s, f, some)) (omega (arith, f));
-      spelled = spelled_more text p.items (token_item t) p.spelled (ap (λ (s : Span). slice_range text s.start s.end) e ∙ spelled);
+      spelled = spelled_more text p.items (token_item t) p.spelled
+          (ap (λ (s : Span). slice_range text s.start s.end) e ∙ spelled);
       made = makes_more (whole file (length text)) b c p.items (token_item t) p.made q;
     }
 
-pub lexed_more : (file : ℕ) (text : List ℕ) (file' : ℕ) (text' : List ℕ) (total left left' : ℕ) (b c : Levels) (o : Option Token) (t : Token)
+pub lexed_more : (file : ℕ) (text : List ℕ) (file' : ℕ) (text' : List ℕ) (total left left' : ℕ) (b c : Levels)
+    (o : Option Token) (t : Token)
     → Lexed file text left b → file' ≡ file → text' ≡ text → total ≡ length text → o ≡ Some t
     → IfSome o (λ t. t.span ≡ bytes_of file' t.span.start t.span.end) → IfSome o (λ t. total ≤ t.span.start + left)
     → IfSome o (λ t. t.span.start < t.span.end) → IfSome o (λ t. t.span.end + left' ≡ total)
     → IfSome o (λ t. slice_range text' t.span.start t.span.end ≡ item_text (token_item t))
     → Adds (token_item t) b c → Lexed file text left' c
-lexed_more file text file' text' total left left' b c o t p same_file same_text same_total e is above some below spelled q =
+lexed_more file text file' text' total left left' b c o t p same_file same_text same_total e is above some below spelled
+    q =
     let is_here : t.span ≡ bytes_of file' t.span.start t.span.end =
     subst (λ (x : Option Token). IfSome x (λ t. t.span ≡ bytes_of file' t.span.start t.span.end)) e is in
-    let above_here : total ≤ t.span.start + left = subst (λ (x : Option Token). IfSome x (λ t. total ≤ t.span.start + left)) e above in
-    let some_here : t.span.start < t.span.end = subst (λ (x : Option Token). IfSome x (λ t. t.span.start < t.span.end)) e some in
-    let below_here : t.span.end + left' ≡ total = subst (λ (x : Option Token). IfSome x (λ t. t.span.end + left' ≡ total)) e below in
+    let above_here : total ≤ t.span.start + left =
+    subst (λ (x : Option Token). IfSome x (λ t. total ≤ t.span.start + left)) e above in
+    let some_here : t.span.start < t.span.end =
+    subst (λ (x : Option Token). IfSome x (λ t. t.span.start < t.span.end)) e some in
+    let below_here : t.span.end + left' ≡ total =
+    subst (λ (x : Option Token). IfSome x (λ t. t.span.end + left' ≡ total)) e below in
     let spelled_here : slice_range text' t.span.start t.span.end ≡ item_text (token_item t) =
-    subst (λ (x : Option Token). IfSome x (λ t. slice_range text' t.span.start t.span.end ≡ item_text (token_item t))) e spelled in
+    subst (λ (x : Option Token). IfSome x (λ t. slice_range text' t.span.start t.span.end ≡ item_text (token_item t))) e
+    spelled in
     lexed_token file text left left' b c t p (is_here ∙ ap (λ (n : ℕ). bytes_of n t.span.start t.span.end) same_file)
     (omega (arith, above_here, same_total)) some_here (below_here ∙ same_total)
     (ap (λ (l : List ℕ). slice_range l t.span.start t.span.end) (sym same_text) ∙ spelled_here) q
 
-in_order_up : (file from to new : ℕ) (xs : List Item) → AreInOrder file from xs to → to ≤ new → AreInOrder file from xs new
+in_order_up : (file from to new : ℕ) (xs : List Item) → AreInOrder file from xs to → to ≤ new
+    → AreInOrder file from xs new
 in_order_up file from to new [] p h = omega (arith, p, h)
 in_order_up file from to new (x ∷ xs) p h = (p.0, p.1, p.2, in_order_up file (item_span x).end to new xs p.3 h)
 
@@ -121,13 +130,3 @@ lexed_last file text left span b t p is e =
       made = p.made;
       closed_at_end = e ∙ ap (λ (s : Span). ended s b) is;
     }
-
--- closing one group more changes nothing
-pub ended_closed : (end : Span) (b now : Levels) → 1 < length b → now ≡ closed end b → ended end now ≡ ended end b
-ended_closed end [] now h e = absurd (omega arith)
-ended_closed end (g ∷ []) now h e = absurd (omega arith)
-ended_closed end (g ∷ (k ∷ outer)) now h e = ap (ended end) e
-
--- nothing but the whole is open
-pub ended_whole : (end : Span) (b : Levels) (t : Top) → b ≡ t ∷ [] → ended end b ≡ t
-ended_whole end b t e = ap (ended end) e

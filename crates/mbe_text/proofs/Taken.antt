@@ -1,5 +1,5 @@
 -- What a writer took of several pieces, one after another.
-use Rattle.std.proofs.Common.{◌≡◌, ℕ, ◌-◌, List, [], ◌++◌, length, take, drop, Option, Result, Ok, Err, OnOk, refl, sym, ap, ◌∙◌, subst, append_assoc, append-nil, take-append-drop}
+use Rattle.std.proofs.Common.{◌≡◌, ℕ, ◌-◌, List, [], ◌++◌, length, take, drop, Option, Result, Ok, Err, refl, sym, ap, ◌∙◌, subst, append_assoc, append-nil, take-append-drop}
 use Rattle.std.proofs.lemmas.List.{take_rest}
 use Rattle.std.specs.Io.KnownBytes.{Appends, Keeps}
 use Rattle.std.proofs.KnownBytes.{Appends-nil, Appends-trans, Appends-kept}
@@ -14,7 +14,8 @@ pub takes_none : (a : Option (List ℕ)) (bytes left : List ℕ) → left ≡ by
 takes_none a bytes left e = record { front = []; taken = Appends-nil a; whole = sym e }
 
 -- first of some bytes, and then of those that were left and more
-pub takes_then : (a b c : Option (List ℕ)) (xs held ys left : List ℕ) → Takes a b xs held → Takes b c (held ++ ys) left → Takes a c (xs ++ ys) left
+pub takes_then : (a b c : Option (List ℕ)) (xs held ys left : List ℕ) → Takes a b xs held → Takes b c (held ++ ys) left
+    → Takes a c (xs ++ ys) left
 takes_then a b c xs held ys left p q = record {
   front = p.front ++ q.front;
   taken = Appends-trans a b c p.front q.front p.taken q.taken;
@@ -23,7 +24,8 @@ takes_then a b c xs held ys left p q = record {
 }
 
 -- first of some bytes, and then of those that were left
-takes_left : (a b c : Option (List ℕ)) (xs held left : List ℕ) → Takes a b xs held → Takes b c held left → Takes a c xs left
+takes_left : (a b c : Option (List ℕ)) (xs held left : List ℕ) → Takes a b xs held → Takes b c held left
+    → Takes a c xs left
 takes_left a b c xs held left p q = record {
   front = p.front ++ q.front;
   taken = Appends-trans a b c p.front q.front p.taken q.taken;
@@ -58,30 +60,32 @@ pub takes_on : (a b c : Option (List ℕ)) (xs rest : List ℕ) (n : ℕ) → Ta
 takes_on a b c xs rest n p q = record {
   front = p.front ++ take n rest;
   taken = Appends-trans a b c p.front (take n rest) p.taken q;
-  whole = p.whole ∙ (ap (λ (l : List ℕ). p.front ++ l) (sym (take-append-drop n rest)) ∙ (sym (append_assoc p.front (take n rest) (drop n rest))
+  whole = p.whole ∙ (ap (λ (l : List ℕ). p.front ++ l) (sym (take-append-drop n rest))
+      ∙ (sym (append_assoc p.front (take n rest) (drop n rest))
       ∙ ap (λ (l : List ℕ). (p.front ++ take n rest) ++ l) (sym (take_rest rest n))));
 }
 
 -- ---- writing one piece after another
 
 -- first some bytes, and then others
-pub writes_then : {T E : Type 0} (a b c : Option (List ℕ)) (r : Result T E) (xs ys : List ℕ) → Appends a b xs → Writes b c r ys → Writes a c r (xs ++ ys)
+pub writes_then : {T E : Type 0} (a b c : Option (List ℕ)) (r : Result T E) (xs ys : List ℕ) → Appends a b xs
+    → Writes b c r ys → Writes a c r (xs ++ ys)
 writes_then a b c (Ok x) xs ys p q = Appends-trans a b c xs ys p q
 writes_then a b c (Err e) xs ys p q = (q.0, takes_then a b c xs [] ys q.0 (takes_whole a b xs p) q.1)
 
 -- where the first fail, the others aren't written
 pub fails_more : (a b : Option (List ℕ)) (xs ys all : List ℕ) → all ≡ xs ++ ys → Fails a b xs → Fails a b all
-fails_more a b xs ys all e p = (p.0 ++ ys, takes_same a b (xs ++ ys) all (p.0 ++ ys) (sym e) (takes_more a b xs p.0 ys p.1))
+fails_more a b xs ys all e p = (
+  p.0 ++ ys,
+  takes_same a b (xs ++ ys) all (p.0 ++ ys) (sym e) (takes_more a b xs p.0 ys p.1),
+)
 
 -- first some bytes, and then the front of others, and not what is after them
-pub fails_then : (a b c : Option (List ℕ)) (xs ys zs all : List ℕ) → all ≡ xs ++ (ys ++ zs) → Appends a b xs → Fails b c ys → Fails a c all
+pub fails_then : (a b c : Option (List ℕ)) (xs ys zs all : List ℕ) → all ≡ xs ++ (ys ++ zs) → Appends a b xs
+    → Fails b c ys → Fails a c all
 fails_then a b c xs ys zs all e p q =
-    fails_more a c (xs ++ ys) zs all (e ∙ sym (append_assoc xs ys zs)) (q.0, takes_then a b c xs [] ys q.0 (takes_whole a b xs p) q.1)
-
--- a line that is written holds nothing
-pub holds_none : {T E : Type 0} (a b : Option (List ℕ)) (r : Result T E) (xs held : List ℕ) → Writes a b r xs → OnOk r (held ≡ []) → Holds a b r xs held
-holds_none a b (Ok x) xs held p e = subst (Takes a b xs) (sym e) (takes_whole a b xs p)
-holds_none a b (Err e) xs held p q = p
+    fails_more a c (xs ++ ys) zs all (e ∙ sym (append_assoc xs ys zs))
+    (q.0, takes_then a b c xs [] ys q.0 (takes_whole a b xs p) q.1)
 
 -- ---- a line that grows piece by piece
 
@@ -91,13 +95,15 @@ pub record Grows (a b : Option (List ℕ)) (held all rest : List ℕ) : Type 0 w
   pub takes : Takes a b added held
   pub whole : all ≡ added ++ rest
 
-pub grows_first : (a : Option (List ℕ)) (held rest : List ℕ) → Grows a a held (held ++ rest) rest
-grows_first a held rest = record { added = held; takes = takes_none a held held refl; whole = refl }
-
 pub grows_empty : (a : Option (List ℕ)) (held rest : List ℕ) → held ≡ [] → Grows a a held rest rest
-grows_empty a held rest e = record { added = held; takes = takes_none a held held refl; whole = ap (λ (l : List ℕ). l ++ rest) (sym e) }
+grows_empty a held rest e = record {
+  added = held;
+  takes = takes_none a held held refl;
+  whole = ap (λ (l : List ℕ). l ++ rest) (sym e);
+}
 
-pub grows_on : (a b c : Option (List ℕ)) (held held' all rest piece rest' : List ℕ) → Grows a b held all rest → rest ≡ piece ++ rest'
+pub grows_on : (a b c : Option (List ℕ)) (held held' all rest piece rest' : List ℕ) → Grows a b held all rest
+    → rest ≡ piece ++ rest'
     → Takes b c (held ++ piece) held' → Grows a c held' all rest'
 grows_on a b c held held' all rest piece rest' g e p = record {
   added = g.added ++ piece;
@@ -105,26 +111,31 @@ grows_on a b c held held' all rest piece rest' g e p = record {
   whole = g.whole ∙ (ap (λ (l : List ℕ). g.added ++ l) e ∙ sym (append_assoc g.added piece rest'));
 }
 
-pub grows_off : (a b c : Option (List ℕ)) (held all rest piece rest' : List ℕ) → Grows a b held all rest → rest ≡ piece ++ rest'
+pub grows_off : (a b c : Option (List ℕ)) (held all rest piece rest' : List ℕ) → Grows a b held all rest
+    → rest ≡ piece ++ rest'
     → Fails b c (held ++ piece) → Fails a c all
 grows_off a b c held all rest piece rest' g e p =
     fails_more a c (g.added ++ piece) rest' all
     (g.whole ∙ (ap (λ (l : List ℕ). g.added ++ l) e ∙ sym (append_assoc g.added piece rest')))
     (p.0, takes_then a b c g.added held piece p.0 g.takes p.1)
 
-pub grows_last : (a b : Option (List ℕ)) (held all rest : List ℕ) → Grows a b held all rest → rest ≡ [] → Takes a b all held
+pub grows_last : (a b : Option (List ℕ)) (held all rest : List ℕ) → Grows a b held all rest → rest ≡ []
+    → Takes a b all held
 grows_last a b held all rest g e =
     takes_same a b g.added all held (sym (g.whole ∙ (ap (λ (l : List ℕ). g.added ++ l) e ∙ append-nil g.added))) g.takes
 
 -- the line is written
-pub grows_written : {T E : Type 0} (a b c : Option (List ℕ)) (r : Result T E) (held all : List ℕ) → Takes a b all held → Writes b c r held → Writes a c r all
+pub grows_written : {T E : Type 0} (a b c : Option (List ℕ)) (r : Result T E) (held all : List ℕ) → Takes a b all held
+    → Writes b c r held → Writes a c r all
 grows_written a b c (Ok x) held all p q = takes_all a c all (takes_left a b c all held [] p (takes_whole b c held q))
 grows_written a b c (Err e) held all p q = (q.0, takes_left a b c all held q.0 p q.1)
 
 -- ---- where a call's error is passed on
 
-pub writes_failed : {T E : Type 0} (a b : Option (List ℕ)) (r : Result T E) (e : E) (xs : List ℕ) → r ≡ Err e → Fails a b xs → Writes a b r xs
+pub writes_failed : {T E : Type 0} (a b : Option (List ℕ)) (r : Result T E) (e : E) (xs : List ℕ) → r ≡ Err e
+    → Fails a b xs → Writes a b r xs
 writes_failed {T} {E} a b r e xs is p = subst (λ (s : Result T E). Writes a b s xs) (sym is) p
 
-pub holds_failed : {T E : Type 0} (a b : Option (List ℕ)) (r : Result T E) (e : E) (xs held : List ℕ) → r ≡ Err e → Fails a b xs → Holds a b r xs held
+pub holds_failed : {T E : Type 0} (a b : Option (List ℕ)) (r : Result T E) (e : E) (xs held : List ℕ) → r ≡ Err e
+    → Fails a b xs → Holds a b r xs held
 holds_failed {T} {E} a b r e xs held is p = subst (λ (s : Result T E). Holds a b s xs held) (sym is) p

@@ -14,7 +14,8 @@ abbrev pub blank : Dialect → Class
 blank Sample = Blank
 blank (Rust edition) = Space
 
--- What is left after so many ends of block comments, and one more for each comment that begins on the way. None if there aren't
+-- What is left after so many ends of block comments, and one more for each comment that begins on the way. None if
+-- there aren't
 -- so many. Two characters begin or end a comment, and neither is one of another such two.
 abbrev pub past_comments : ℕ → List ℕ → Option (List ℕ)
 past_comments zero cs = Some cs

@@ -35,7 +35,8 @@ low_line = 95
 
 -- white space of Rust, which is Unicode's `Pattern_White_Space`
 abbrev pub is_space : ℕ → Bool
-is_space c = char_set_contains (codes " \t\n\r") c || char_set_contains (11 ∷ (12 ∷ (133 ∷ (8206 ∷ (8207 ∷ (8232 ∷ (8233 ∷ []))))))) c
+is_space c = char_set_contains (codes " \t\n\r") c
+    || char_set_contains (11 ∷ (12 ∷ (133 ∷ (8206 ∷ (8207 ∷ (8232 ∷ (8233 ∷ []))))))) c
 
 -- what a character is
 abbrev pub has : Class → ℕ → Bool

@@ -57,7 +57,8 @@ abbrev pub is_inside : DelimiterKind → Option DelimiterKind → Bool
 is_inside kind None = false
 is_inside kind (Some inside) = is_same_kind inside kind
 
--- The groups that are open after a token, which is a leaf, a side of a group or whole trees. None where it is a closing that isn't
+-- The groups that are open after a token, which is a leaf, a side of a group or whole trees. None where it is a closing
+-- that isn't
 -- of the innermost group's kind.
 abbrev pub after_item : Item → Levels → Option Levels
 after_item (leaf_item l) levels = Some (put (one_leaf l) levels)
@@ -66,7 +67,8 @@ after_item (open_item kind span) levels = Some ((record { opening = span; close 
 after_item (close_item kind span) levels =
     if is_inside kind (kind_inside levels) then Some (closed span levels) else None
 
--- The groups that are open at the end, or the first fault: where no token is, or a closing that doesn't fit. The third number is
+-- The groups that are open at the end, or the first fault: where no token is, or a closing that doesn't fit. The third
+-- number is
 -- that of the bytes at least.
 abbrev pub levels_of : Dialect → ℕ → ℕ → ℕ → Levels → List ℕ → Result Levels LexFault
 levels_of dialect file total zero levels cs = Ok levels
@@ -82,7 +84,8 @@ levels_of dialect file total (suc n) levels cs = elim (next_token dialect total 
 -- the same of the whole text of a file, as bytes
 abbrev pub levels_at_end : Dialect → ℕ → List ℕ → Result Levels LexFault
 levels_at_end dialect file text =
-    levels_of dialect file (length text) (length text) (whole file (length text)) (after_head dialect (length text) (chars text))
+    levels_of dialect file (length text) (length text) (whole file (length text))
+    (after_head dialect (length text) (chars text))
 
 -- no group may be open at the end
 abbrev pub closes_groups : Dialect → Bool

@@ -100,7 +100,8 @@ past_value q from value count cs =
     else if is_c q && value == 0 then Err (wrong.Nul, from)
     else Ok cs
 
--- Its digits after the first ones, of that value and number, and its `}`. A value is counted up to the least that no character
+-- Its digits after the first ones, of that value and number, and its `}`. A value is counted up to the least that no
+-- character
 -- has, and digits up to seven.
 abbrev pub past_digits : Quoted → List ℕ → ℕ → ℕ → List ℕ → Left
 past_digits q from value count [] = Err (wrong.OpenUnicodeEscape, from)
@@ -154,7 +155,8 @@ past_unit q c cs = if c == backslash then past_escape q (c ∷ cs) cs else past_
 abbrev pub check_string : Quoted → ℕ → List ℕ → Checked
 check_string q taken [] = Ok tt
 check_string q (suc taken) (c ∷ cs) = check_string q taken cs
-check_string q zero (c ∷ cs) = elim (past_unit q c cs) [ Err at ↦ Err at | Ok rest ↦ check_string q (length cs - length rest) cs ]
+check_string q zero (c ∷ cs) = elim (past_unit q c cs)
+    [ Err at ↦ Err at | Ok rest ↦ check_string q (length cs - length rest) cs ]
 
 -- a raw string's, where a `\` is a character too
 abbrev pub check_raw : Quoted → List ℕ → Checked

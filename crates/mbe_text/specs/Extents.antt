@@ -7,7 +7,8 @@ use Rattle.mbe_text.specs.Characters.{begins_with, apostrophe, backslash, quotat
 abbrev pub front : List ℕ → List ℕ → List ℕ
 front cs end = take (length cs - length end) cs
 
--- From the quote that ends a string on. A `\` takes a `\` or a quote with it; the flag says whether the first character is taken
+-- From the quote that ends a string on. A `\` takes a `\` or a quote with it; the flag says whether the first character
+-- is taken
 -- so.
 abbrev pub from_string_end : Bool → List ℕ → Option (List ℕ)
 from_string_end taken [] = None
@@ -22,7 +23,8 @@ from_raw_end hashes [] = None
 from_raw_end hashes (c ∷ cs) =
     if c == quotation_mark && begins_with hashes cs then Some (c ∷ cs) else from_raw_end hashes cs
 
--- From the quote that ends a char of more or less than one character on, where a `\` takes the next one with it. None at a `/`,
+-- From the quote that ends a char of more or less than one character on, where a `\` takes the next one with it. None
+-- at a `/`,
 -- or at a line feed that no quote follows.
 abbrev pub from_later_quote : Bool → List ℕ → Option (List ℕ)
 from_later_quote taken [] = None
@@ -38,7 +40,8 @@ from_char_end [] = None
 from_char_end (c ∷ cs) =
     if not (c == backslash) && begins_with (codes "'") cs then Some cs else from_later_quote false (c ∷ cs)
 
--- From the `*/` on that ends a block comment which so many others inside it precede. The flag says whether the first character is
+-- From the `*/` on that ends a block comment which so many others inside it precede. The flag says whether the first
+-- character is
 -- the second one of such a pair.
 abbrev pub from_comment_end : Bool → ℕ → List ℕ → Option (List ℕ)
 from_comment_end taken depth [] = None

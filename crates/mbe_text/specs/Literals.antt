@@ -67,7 +67,8 @@ read_quoted total kind quote cs = elim (from_quote quote false (drop 1 cs)) [
   | Some end ↦ read_literal total kind (bytes_before (drop 1 cs) end) (drop 1 end)
 ]
 
--- what is behind a `'` is a char's: a `\`, or a character and another `'`, where that character is no `'` and no line feed
+-- what is behind a `'` is a char's: a `\`, or a character and another `'`, where that character is no `'` and no line
+-- feed
 abbrev pub is_char : List ℕ → Bool
 is_char [] = false
 is_char (c ∷ cs) = c == backslash || (not (char_set_contains (codes "'\n") c) && begins_with (codes "'") cs)
@@ -75,7 +76,8 @@ is_char (c ∷ cs) = c == backslash || (not (char_set_contains (codes "'\n") c) 
 -- the `'` of a lifetime, whose identifier is the next token
 abbrev pub read_lifetime : ℕ → List ℕ → Read
 read_lifetime total cs =
-    if begins IdentStart (drop 1 cs) then Ok (punct_of apostrophe Joint, drop 1 cs) else Err (fault_at wrong.Start total cs)
+    if begins IdentStart (drop 1 cs) then Ok (punct_of apostrophe Joint, drop 1 cs) else Err
+    (fault_at wrong.Start total cs)
 
 abbrev pub read_quote : ℕ → List ℕ → Read
 read_quote total cs = if is_char (drop 1 cs) then read_quoted total Char apostrophe cs else read_lifetime total cs

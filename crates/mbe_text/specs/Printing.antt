@@ -53,10 +53,12 @@ ident_line i = codes "IDENT   " ++ (ident_text i ++ (codes " " ++ span_text i.sp
 
 abbrev pub punct_line : Punct → List ℕ
 punct_line p =
-    codes "PUNCH   " ++ (encode_utf8 p.char ++ (codes " [" ++ (spacing_word p.spacing ++ (codes "] " ++ span_text p.span))))
+    codes "PUNCH   " ++ (encode_utf8 p.char
+    ++ (codes " [" ++ (spacing_word p.spacing ++ (codes "] " ++ span_text p.span))))
 
 abbrev pub literal_line : Literal → List ℕ
-literal_line l = codes "LITERAL " ++ (kind_name l.kind ++ (codes " " ++ (l.text_and_suffix ++ (codes " " ++ span_text l.span))))
+literal_line l = codes "LITERAL " ++ (kind_name l.kind
+    ++ (codes " " ++ (l.text_and_suffix ++ (codes " " ++ span_text l.span))))
 
 abbrev pub leaf_line : Leaf → List ℕ
 leaf_line (ident i) = ident_line i
@@ -65,7 +67,8 @@ leaf_line (literal l) = literal_line l
 
 -- a group: its kind, where it opens and where it closes
 abbrev pub group_line : Delimiter → List ℕ
-group_line d = codes "SUBTREE " ++ (sign d.kind ++ (codes " " ++ (span_text d.opening ++ (codes " " ++ span_text d.close))))
+group_line d = codes "SUBTREE " ++ (sign d.kind
+    ++ (codes " " ++ (span_text d.opening ++ (codes " " ++ span_text d.close))))
 
 -- two spaces for each group around
 abbrev pub indentation : ℕ → List ℕ

@@ -367,7 +367,8 @@ abbrev pub guarded : List ℕ → At
 guarded cs =
     let quote = past Hash cs in
     if not (begins_with (codes "\"") quote) then (wrong.Hashes, cs)
-    else elim (from_string_end false (drop 1 quote)) [ None ↦ (wrong.OpenString, quote) | Some end ↦ (wrong.GuardedString, cs) ]
+    else elim (from_string_end false (drop 1 quote))
+    [ None ↦ (wrong.OpenString, quote) | Some end ↦ (wrong.GuardedString, cs) ]
 
 -- The token of Rust at a text. None for a side of a group or a punct, which is read as in each dialect.
 abbrev pub read_rust : Edition → List ℕ → Option Token

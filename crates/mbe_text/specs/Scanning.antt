@@ -7,7 +7,8 @@ use Rattle.mbe_text.specs.declared.lexer.LexError.TheVariants.{Fault, OutOfMemor
 -- in the same text of the same dialect, and not backwards
 abbrev pub GoesOn : Scanner → Scanner → Type 0
 GoesOn old new =
-    (new.file ≡ old.file) × (new.total ≡ old.total) × (new.text.now ≡ old.text.now) × (length new.rest.now ≤ length old.rest.now)
+    (new.file ≡ old.file) × (new.total ≡ old.total) × (new.text.now ≡ old.text.now)
+    × (length new.rest.now ≤ length old.rest.now)
     × (new.dialect ≡ old.dialect)
 
 -- and past something, where something is left

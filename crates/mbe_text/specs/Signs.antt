@@ -27,5 +27,6 @@ abbrev pub read_sign : ℕ → List ℕ → Read
 read_sign total [] = Err (fault_at wrong.Start total [])
 read_sign total (c ∷ rest) = elim (side c) [
   | Some shape ↦ Ok (shape, rest)
-  | None ↦ if has classes.Punct c then Ok (punct_of c (spacing_before rest), rest) else Err (fault_at wrong.Start total (c ∷ rest))
+  | None ↦ if has classes.Punct c then Ok (punct_of c (spacing_before rest), rest) else Err
+      (fault_at wrong.Start total (c ∷ rest))
 ]

@@ -55,7 +55,8 @@ most_guards guards (byte ∷ bytes) = let now = guards_after guards byte in max 
 
 -- a raw string with so many `#`
 abbrev pub raw_string_leaf : Span → List ℕ → ℕ → Leaf
-raw_string_leaf span text hashes = literal (record { text_and_suffix = text; suffix_len = 0; kind = StrRaw hashes; span = span })
+raw_string_leaf span text hashes = literal
+    (record { text_and_suffix = text; suffix_len = 0; kind = StrRaw hashes; span = span })
 
 -- `doc = r".."`, where the raw string has as many `#` as its text needs
 abbrev pub doc_setting : Span → List ℕ → Forest
@@ -89,7 +90,13 @@ pub data Item : Type 0 where
 abbrev pub lexeme_item : Span → Lexeme → Item
 lexeme_item span (Ident name is_raw) = leaf_item (ident (record { sym = name.now; is_raw = is_raw; span = span }))
 lexeme_item span (Literal text suffix suffix_len kind) =
-    leaf_item (literal (record { text_and_suffix = text.now ++ suffix.now; suffix_len = suffix_len; kind = kind; span = span }))
+    leaf_item (literal (record {
+      text_and_suffix = text.now
+          ++ suffix.now;
+      suffix_len = suffix_len;
+      kind = kind;
+      span = span;
+    }))
 lexeme_item span (Punct char spacing) = leaf_item (punct (record { char = char; spacing = spacing; span = span }))
 lexeme_item span (Lifetime name is_raw) = trees_item span (lifetime_trees span name.now is_raw)
 lexeme_item span (Doc text is_inner) = trees_item span (doc_trees span text.now is_inner)
@@ -119,7 +126,8 @@ closing_text Brace = codes "}"
 closing_text Bracket = codes "]"
 closing_text Invisible = []
 
--- an item's text: of a literal with its quotes and its suffix, of a raw identifier with its `r#`; that of trees is left out, which
+-- an item's text: of a literal with its quotes and its suffix, of a raw identifier with its `r#`; that of trees is left
+-- out, which
 -- the sample dialect doesn't have
 abbrev pub item_text : Item → List ℕ
 item_text (leaf_item (ident i)) = ident_text i
@@ -187,7 +195,8 @@ AreInOrder file from (x ∷ xs) to =
 abbrev pub whole : ℕ → ℕ → Levels
 whole file len = (record { opening = bytes_of file 0 len; close = bytes_of file 0 len; kind = Invisible }, none) ∷ []
 
--- The trees of a file's text: items that are in it one after another, as they are spelled there, make them, and the groups open at
+-- The trees of a file's text: items that are in it one after another, as they are spelled there, make them, and the
+-- groups open at
 -- the end are closed there.
 pub record IsMade (file : ℕ) (text : List ℕ) (trees : Top) : Type 0 where
   pub items : List Item

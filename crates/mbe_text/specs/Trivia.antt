@@ -15,7 +15,8 @@ abbrev pub is_doc : Dialect → List ℕ → Bool
 is_doc Sample cs = false
 is_doc (Rust edition) cs = begins_doc cs
 
--- What is left after white space and comments; a block comment without an end is at fault where it begins. The second number is
+-- What is left after white space and comments; a block comment without an end is at fault where it begins. The second
+-- number is
 -- that of the characters at least.
 abbrev pub past_blanks : Dialect → ℕ → ℕ → List ℕ → Result (List ℕ) LexFault
 past_blanks dialect total zero cs = Ok cs

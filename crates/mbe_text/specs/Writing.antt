@@ -13,7 +13,8 @@ abbrev pub Writes : {T E : Type 0} → Option (List ℕ) → Option (List ℕ) �
 Writes before after result bytes =
     MatchResult result (λ _. Appends before after bytes) (λ _. (left : List ℕ) × Takes before after bytes left)
 
--- These bytes were added to a line, which is written where it has no room: the writer took all but what the line holds now, or
+-- These bytes were added to a line, which is written where it has no room: the writer took all but what the line holds
+-- now, or
 -- where it failed a prefix of them.
 abbrev pub Holds : {T E : Type 0} → Option (List ℕ) → Option (List ℕ) → Result T E → List ℕ → List ℕ → Type 0
 Holds before after result bytes held =

@@ -4,7 +4,7 @@ use Rattle.std.specs.Option.{option_or}
 use Rattle.std.specs.Prelude.{option_map}
 use Rattle.mbe_tt.specs.declared.span.Span.{Span}
 use Rattle.mbe_semantics.specs.declared.kinds.RepeatKind.{RepeatKind}
-use Rattle.mbe_semantics.specs.Syntax.Op.{Separator, Op, Ops, op, no_ops, repetition}
+use Rattle.mbe_semantics.specs.Syntax.Op.{Separator, Op, Ops, op, repetition}
 use Rattle.mbe_semantics.specs.Bindings.Environment.{Environment}
 use Rattle.mbe_semantics.specs.Expansion.Error.{ExpandErrorKind, ExpandError}
 use Rattle.mbe_semantics.specs.Writing.Rounds.{Path, kept_rounds, finite, level}
@@ -18,14 +18,16 @@ or_end : {X : Type 0} (a : Option X) → option_or a None ≡ a
 or_end None = refl
 or_end (Some x) = refl
 
-seen_or : {X Y : Type 0} (f : X → Y) (a b : Option X) → option_map f (option_or a b) ≡ option_or (option_map f a) (option_map f b)
+seen_or : {X Y : Type 0} (f : X → Y) (a b : Option X)
+    → option_map f (option_or a b) ≡ option_or (option_map f a) (option_map f b)
 seen_or f None b = refl
 seen_or f (Some x) b = refl
 
 module _ {X : Type 0} (seen : X → ExpandError) (site : Span) (env : Environment) (path : Path) where
   -- ---- ops one after the other
 
-  pub ops_step : (all left rest : Ops) (o : Op) (first fault now : Option X) → left ≡ op o rest → now ≡ option_or first fault
+  pub ops_step : (all left rest : Ops) (o : Op) (first fault now : Option X) → left ≡ op o rest
+      → now ≡ option_or first fault
       → option_map seen fault ≡ op_fault site env path o
       → first_fault site env path all ≡ option_or (option_map seen first) (first_fault site env path left)
       → first_fault site env path all ≡ option_or (option_map seen now) (first_fault site env path rest)
@@ -36,19 +38,14 @@ module _ {X : Type 0} (seen : X → ExpandError) (site : Span) (env : Environmen
       ∙ (sym (or_over (option_map seen first) (option_map seen fault) behind)
       ∙ ap (λ x. option_or x behind) (sym (ap (option_map seen) n ∙ seen_or seen first fault)))))
 
-  pub ops_end : (all left : Ops) (first : Option X) → left ≡ no_ops
-      → first_fault site env path all ≡ option_or (option_map seen first) (first_fault site env path left)
-      → option_map seen first ≡ first_fault site env path all
-  ops_end all left first l h =
-      sym (h ∙ (ap (λ os. option_or (option_map seen first) (first_fault site env path os)) l ∙ or_end (option_map seen first)))
-
   -- ---- rounds
 
   -- the first fault of a round
   abbrev pub round_fault : Ops → ℕ → ℕ → Option ExpandError
   round_fault body i rounds = first_fault site env (level i rounds path) body
 
-  pub rounds_step : (body : Ops) (rounds i : ℕ) (first fault now : Option X) (inner : Path) → inner ≡ level i rounds path
+  pub rounds_step : (body : Ops) (rounds i : ℕ) (first fault now : Option X) (inner : Path)
+      → inner ≡ level i rounds path
       → now ≡ option_or first fault → option_map seen fault ≡ first_fault site env inner body
       → option_map seen first ≡ first_below (λ k. round_fault body k rounds) i
       → option_map seen now ≡ first_below (λ k. round_fault body k rounds) (i + 1)

@@ -1,5 +1,5 @@
 -- Texts that are joined, element by element.
-use Rattle.std.proofs.Common.{◌≡◌, ℕ, Bool, true, false, List, [], ◌∷◌, ◌++◌, Option, Some, None, refl, ap, sym, ◌∙◌, append_assoc, append-nil, not, take, length}
+use Rattle.std.proofs.Common.{◌≡◌, ℕ, Bool, true, false, List, [], ◌∷◌, ◌++◌, Option, Some, None, refl, ap, sym, ◌∙◌, not, take, length}
 use Rattle.std.specs.Prelude.{◌||◌, ◌&&◌, ◌==◌, is_some, is_none, option_map, option_and_then}
 use Rattle.std.specs.Prelude.{chars, if◌then◌else◌}
 use Rattle.std.proofs.Math.Seq.{take-append_seam}
@@ -12,7 +12,7 @@ use Rattle.mbe_tt.specs.Fragments.Grammar.{Grammar}
 use Rattle.mbe_semantics.specs.Syntax.Op.{Element}
 use Rattle.mbe_semantics.specs.Bindings.Environment.{Environment}
 use Rattle.mbe_semantics.specs.Writing.Rounds.{Path}
-use Rattle.mbe_semantics.specs.Writing.Concat.{text_of_element, joined_text, concat_text, if_identifier, are_identifier_chars}
+use Rattle.mbe_semantics.specs.Writing.Concat.{joined_text, concat_text, if_identifier, are_identifier_chars}
 use Rattle.mbe_transcriber.specs.Writing.{Appends, Wrote, IsConcatWritten, IsJoined}
 use Rattle.mbe_transcriber.proofs.WroteLemmas.{appends_groups}
 
@@ -22,60 +22,23 @@ module _ (env : Environment) (path : Path) where
     pub clean : fault ≡ false → joined_text env path all ≡ option_map (λ more. text ++ more) (joined_text env path rest)
     pub faulty : fault ≡ true → joined_text env path all ≡ None
 
-  plain_map : (o : Option (List ℕ)) → o ≡ option_map (λ more. [] ++ more) o
-  plain_map None = refl
-  plain_map (Some x) = refl
-
-  pub joining_start : (all : List Element) → Joining [] false all all
-  joining_start all = record { clean = λ _. plain_map (joined_text env path all); faulty = λ e. absurd (let x : false ≡ true = e in cc) }
-
-  map_over : (text own : List ℕ) (o : Option (List ℕ)) → option_map (λ more. text ++ more) (option_map (λ more. own ++ more) o) ≡ option_map (λ more. (text ++ own) ++ more) o
-  map_over text own None = refl
-  map_over text own (Some x) = ap Some (sym (append_assoc text own x))
-
-  pub joining_more : (text own new : List ℕ) (fault : Bool) (e : Element) (all rest : List Element) → Joining text fault all (e ∷ rest)
-      → text_of_element env path e ≡ Some own → new ≡ text ++ own → Joining new fault all rest
-  joining_more text own new fault e all rest h t n = record {
-    clean = λ k.
-        h.clean k ∙ (ap (λ o. option_map (λ more. text ++ more) (option_and_then (λ x. option_map (λ more. x ++ more) (joined_text env path rest)) o)) t
-        ∙ (map_over text own (joined_text env path rest) ∙ ap (λ x. option_map (λ more. x ++ more) (joined_text env path rest)) (sym n)));
-    faulty = h.faulty;
-  }
-
-  pub joining_fault : (text : List ℕ) (fault new : Bool) (e : Element) (all rest : List Element) → Joining text fault all (e ∷ rest)
-      → text_of_element env path e ≡ None → new ≡ true → Joining text new all rest
-  joining_fault text fault new e all rest h t n = record {
-    clean = λ k. absurd (let x : true ≡ false = sym n ∙ k in cc);
-    faulty = λ _. go fault refl;
-  }
-    where
-      go : (b : Bool) → fault ≡ b → joined_text env path all ≡ None
-      go true s = h.faulty s
-      go false s =
-          h.clean s ∙ ap (λ o. option_map (λ more. text ++ more) (option_and_then (λ x. option_map (λ more. x ++ more) (joined_text env path rest)) o)) t
-
-  pub joining_end : (text : List ℕ) (fault : Bool) (all : List Element) → Joining text fault all [] → IsJoined text fault (joined_text env path all)
-  joining_end text fault all h = go fault refl (joined_text env path all) refl
-    where
-      go : (b : Bool) → fault ≡ b → (o : Option (List ℕ)) → joined_text env path all ≡ o → IsJoined text fault o
-      go true s None e = s
-      go true s (Some x) e = absurd (let y : None ≡ Some x = sym (h.faulty s) ∙ e in cc)
-      go false s None e = absurd (let y : Some (text ++ []) ≡ None = sym (h.clean s) ∙ e in cc)
-      go false s (Some x) e = (s, let y : Some (text ++ []) ≡ Some x = sym (h.clean s) ∙ e in let z : text ++ [] ≡ x = cc in sym (append-nil text) ∙ z)
-
 pub swapped : (a b : Bool) → a ≡ not b → b ≡ not a
 swapped a true e = sym (ap not e)
 swapped a false e = sym (ap not e)
 
 -- what is pushed is popped
-pub popped : {X : Type 0} (before pushed after : List X) (x : X) (n : ℕ) → pushed ≡ before ++ (x ∷ []) → after ≡ take n pushed → n ≡ length before → after ≡ before
-popped before pushed after x n p e h = e ∙ (ap (λ k. take k pushed) h ∙ (ap (take (length before)) p ∙ take-append_seam before (x ∷ [])))
+pub popped : {X : Type 0} (before pushed after : List X) (x : X) (n : ℕ) → pushed ≡ before ++ (x ∷ [])
+    → after ≡ take n pushed → n ≡ length before → after ≡ before
+popped before pushed after x n p e h = e
+    ∙ (ap (λ k. take k pushed) h ∙ (ap (take (length before)) p ∙ take-append_seam before (x ∷ [])))
 
 -- ---- the chars of an identifier
 
-pub identifier_told : (text rest : List ℕ) (first : ℕ) (b : Bool) → chars text ≡ first ∷ chars rest → (is_xid_start first || (first == 95)) ≡ true
+pub identifier_told : (text rest : List ℕ) (first : ℕ) (b : Bool) → chars text ≡ first ∷ chars rest
+    → (is_xid_start first || (first == 95)) ≡ true
     → b ≡ list_all is_xid_continue (chars rest) → b ≡ are_identifier_chars (chars text)
-identifier_told text rest first b w s e = e ∙ sym (ap are_identifier_chars w ∙ ap (λ x. x && list_all is_xid_continue (chars rest)) s)
+identifier_told text rest first b w s e =
+    e ∙ sym (ap are_identifier_chars w ∙ ap (λ x. x && list_all is_xid_continue (chars rest)) s)
 
 -- ---- the identifier that is written
 
@@ -88,28 +51,43 @@ or_either None b = refl
 or_either (Some y) b = refl
 
 module _ (g : Grammar) (Marks : Span → Span → Type 0) (span : Span) where
-  joined_case : (text : List ℕ) (f : Bool) (old new : Levels) (o : Option (List ℕ)) → IsJoined text f o → are_identifier_chars (chars text) ≡ true
+  joined_case : (text : List ℕ) (f : Bool) (old new : Levels) (o : Option (List ℕ)) → IsJoined text f o
+      → are_identifier_chars (chars text) ≡ true
       → Appends (IsConcatWritten g Marks span (Some text)) old new
-      → Wrote f (is_none (option_and_then if_identifier o)) (IsConcatWritten g Marks span (option_and_then if_identifier o)) old new
-  joined_case text f old new None h i w = record { told = h; groups = appends_groups _ old new w; written = λ e. absurd (let x : true ≡ false = e in cc) }
+      → Wrote f (is_none (option_and_then if_identifier o))
+      (IsConcatWritten g Marks span (option_and_then if_identifier o)) old new
+  joined_case text f old new None h i w =
+      record { told = h; groups = appends_groups _ old new w; written = λ e. absurd (let x : true ≡ false = e in cc) }
   joined_case text f old new (Some joined) (h, e) i w =
-      let is : if_identifier joined ≡ Some text = ap if_identifier (sym e) ∙ ap (λ b. if b then Some text else None) i in
+      let is : if_identifier joined ≡ Some text =
+      ap if_identifier (sym e) ∙ ap (λ b. if b then Some text else None) i in
       rw is (record { told = h; groups = appends_groups _ old new w; written = λ _. w })
 
-  pub joined_wrote : (env : Environment) (path : Path) (elements : List Element) (text : List ℕ) (f : Bool) (old new : Levels) → IsJoined text f (joined_text env path elements)
+  pub joined_wrote : (env : Environment) (path : Path) (elements : List Element) (text : List ℕ) (f : Bool)
+      (old new : Levels) → IsJoined text f (joined_text env path elements)
       → are_identifier_chars (chars text) ≡ true → Appends (IsConcatWritten g Marks span (Some text)) old new
-      → Wrote f (is_none (concat_text env path elements)) (IsConcatWritten g Marks span (concat_text env path elements)) old new
+      → Wrote f (is_none (concat_text env path elements)) (IsConcatWritten g Marks span (concat_text env path elements))
+      old new
   joined_wrote env path elements text f old new h i w = joined_case text f old new (joined_text env path elements) h i w
 
-  no_identifier : (text : List ℕ) (f : Bool) (o : Option (List ℕ)) → IsJoined text f o → are_identifier_chars (chars text) ≡ false → is_none (option_and_then if_identifier o) ≡ true
+  no_identifier : (text : List ℕ) (f : Bool) (o : Option (List ℕ)) → IsJoined text f o
+      → are_identifier_chars (chars text) ≡ false → is_none (option_and_then if_identifier o) ≡ true
   no_identifier text f None h i = refl
   no_identifier text f (Some joined) (h, e) i =
       let is : if_identifier joined ≡ None = ap if_identifier (sym e) ∙ ap (λ b. if b then Some text else None) i in
       ap is_none is
 
-  pub dummy_wrote : (env : Environment) (path : Path) (elements : List Element) (text : List ℕ) (f told : Bool) (dummy : Option (List ℕ)) (old new : Levels)
-      → IsJoined text f (joined_text env path elements) → are_identifier_chars (chars text) ≡ false → told ≡ true → Appends (IsConcatWritten g Marks span dummy) old new
-      → Wrote told (is_none (concat_text env path elements)) (IsConcatWritten g Marks span (concat_text env path elements)) old new
+  pub dummy_wrote : (env : Environment) (path : Path) (elements : List Element) (text : List ℕ) (f told : Bool)
+      (dummy : Option (List ℕ)) (old new : Levels)
+      → IsJoined text f (joined_text env path elements) → are_identifier_chars (chars text) ≡ false → told ≡ true
+      → Appends (IsConcatWritten g Marks span dummy) old new
+      → Wrote told (is_none (concat_text env path elements))
+      (IsConcatWritten g Marks span (concat_text env path elements)) old new
   dummy_wrote env path elements text f told dummy old new h i t w =
-      let none : is_none (concat_text env path elements) ≡ true = no_identifier text f (joined_text env path elements) h i in
-      record { told = t ∙ sym none; groups = appends_groups _ old new w; written = λ e. absurd (let x : true ≡ false = sym none ∙ e in cc) }
+      let none : is_none (concat_text env path elements) ≡ true =
+      no_identifier text f (joined_text env path elements) h i in
+      record {
+        told = t ∙ sym none;
+        groups = appends_groups _ old new w;
+        written = λ e. absurd (let x : true ≡ false = sym none ∙ e in cc);
+      }

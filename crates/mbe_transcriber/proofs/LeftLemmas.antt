@@ -27,11 +27,13 @@ use Rattle.mbe_transcriber.proofs.WritingLemmas.{put-none, put_both}
 
 -- ---- a part that may fault
 
-unless_none : (f : Option ExpandErrorKind) (s : Span) (P : Forest → Type 0) (out : Forest) → None ≡ option_map (at s) f → P out → unless f P out
+unless_none : (f : Option ExpandErrorKind) (s : Span) (P : Forest → Type 0) (out : Forest) → None ≡ option_map (at s) f
+    → P out → unless f P out
 unless_none None s P out e p = p
 unless_none (Some k) s P out e p = absurd (none-some _ e)
 
-unless_some : (f : Option ExpandErrorKind) (s : Span) (P : Forest → Type 0) (x : ExpandError) → Some x ≡ option_map (at s) f → unless f P none
+unless_some : (f : Option ExpandErrorKind) (s : Span) (P : Forest → Type 0) (x : ExpandError)
+    → Some x ≡ option_map (at s) f → unless f P none
 unless_some None s P x e = absurd (none-some _ (sym e))
 unless_some (Some k) s P x e = refl
 
@@ -40,17 +42,20 @@ unless_some (Some k) s P x e = refl
 pub name_is : (text all : List ℕ) → text ≡ all → are_identifier_chars (chars text) ≡ true → text ≡ name_left all
 name_is text all e i = sym (ap name_left (sym e) ∙ ap (λ b. if b then text else codes "__ra_concat_dummy") i)
 
-pub name_replaced : (text all : List ℕ) → text ≡ all → are_identifier_chars (chars text) ≡ false → codes "__ra_concat_dummy" ≡ name_left all
+pub name_replaced : (text all : List ℕ) → text ≡ all → are_identifier_chars (chars text) ≡ false
+    → codes "__ra_concat_dummy" ≡ name_left all
 name_replaced text all e i = sym (ap name_left (sym e) ∙ ap (λ b. if b then text else codes "__ra_concat_dummy") i)
 
 -- ---- calls
 
-pub if_ok_by : {T E : Type 0} {P Q R S : T → Type 0} (r : Result T E) → ((x : T) → P x → Q x → R x → S x) → IfOk r P → IfOk r Q → IfOk r R → IfOk r S
+pub if_ok_by : {T E : Type 0} {P Q R S : T → Type 0} (r : Result T E) → ((x : T) → P x → Q x → R x → S x) → IfOk r P
+    → IfOk r Q → IfOk r R → IfOk r S
 if_ok_by (Ok x) f p q s = f x p q s
 if_ok_by (Err e) f p q s = tt
 
 -- a call that writes and can't fault, where a fault or none is wanted
-pub and_none : {T E F C D : Type 0} (made : Result T E) (all : Result (Option F) E) → all ≡ result_and made (Ok None) → (C → D) → OnOk made C
+pub and_none : {T E F C D : Type 0} (made : Result T E) (all : Result (Option F) E) → all ≡ result_and made (Ok None)
+    → (C → D) → OnOk made C
     → IfOk all (λ fault. D)
 and_none (Ok x) all e f c = rw e (f c)
 and_none (Err x) all e f c = rw e tt
@@ -59,22 +64,26 @@ module _ (g : Grammar) (Marks : Span → Span → Type 0) (site : Span) (env : E
   module _ (p : Path) where
     -- ---- what can't fault
 
-    pub left_token : (t : Token) (f : Bool) (old new : Levels) → Wrote f false (IsWritten g Marks site env p (ops.token t)) old new
+    pub left_token : (t : Token) (f : Bool) (old new : Levels)
+        → Wrote f false (IsWritten g Marks site env p (ops.token t)) old new
         → Appends (IsLeft g Marks site env p (ops.token t)) old new
     unfolding Appends IsWritten IsLeft
     left_token t f old new w = w.written refl
 
-    pub left_index : (depth : ℕ) (f : Bool) (old new : Levels) → Wrote f false (IsWritten g Marks site env p (ops.expression (ops.index depth))) old new
+    pub left_index : (depth : ℕ) (f : Bool) (old new : Levels)
+        → Wrote f false (IsWritten g Marks site env p (ops.expression (ops.index depth))) old new
         → Appends (IsLeft g Marks site env p (ops.expression (ops.index depth))) old new
     unfolding Appends IsWritten IsLeft
     left_index depth f old new w = w.written refl
 
-    pub left_len : (depth : ℕ) (f : Bool) (old new : Levels) → Wrote f false (IsWritten g Marks site env p (ops.expression (ops.len depth))) old new
+    pub left_len : (depth : ℕ) (f : Bool) (old new : Levels)
+        → Wrote f false (IsWritten g Marks site env p (ops.expression (ops.len depth))) old new
         → Appends (IsLeft g Marks site env p (ops.expression (ops.len depth))) old new
     unfolding Appends IsWritten IsLeft
     left_len depth f old new w = w.written refl
 
-    pub left_ignored : (name : Name) (span : Span) (old : Levels) → Appends (IsLeft g Marks site env p (ops.expression (ops.ignore name span))) old old
+    pub left_ignored : (name : Name) (span : Span) (old : Levels)
+        → Appends (IsLeft g Marks site env p (ops.expression (ops.ignore name span))) old old
     unfolding Appends IsLeft
     left_ignored name span old = (none, refl, put-none old)
 
@@ -88,17 +97,22 @@ module _ (g : Grammar) (Marks : Span → Span → Type 0) (site : Span) (env : E
 
     module _ {X : Type 0} (seen : X → ExpandError) where
       pub left_variable : (fault : Option X) (name : Name) (kind : Option MetaVarKind) (span : Span) (old new : Levels)
-          → Wrote (is_some fault) (op_faults env p (ops.variable name kind span)) (IsWritten g Marks site env p (ops.variable name kind span)) old new
-          → option_map seen fault ≡ op_fault site env p (ops.variable name kind span) → (is_some fault ≡ true → new ≡ old)
+          → Wrote (is_some fault) (op_faults env p (ops.variable name kind span))
+          (IsWritten g Marks site env p (ops.variable name kind span)) old new
+          → option_map seen fault ≡ op_fault site env p (ops.variable name kind span)
+          → (is_some fault ≡ true → new ≡ old)
           → Appends (IsLeft g Marks site env p (ops.variable name kind span)) old new
       unfolding Appends IsWritten IsLeft
       left_variable None name kind span old new w e k =
           let v = w.written (sym w.told) in (v.0, unless_none _ span _ v.0 e v.1, v.2)
-      left_variable (Some x) name kind span old new w e k = (none, unless_some _ span _ (seen x) e, k refl ∙ put-none old)
+      left_variable (Some x) name kind span old new w e k =
+          (none, unless_some _ span _ (seen x) e, k refl ∙ put-none old)
 
       pub left_count : (fault : Option X) (name : Name) (depth : ℕ) (old new : Levels)
-          → Wrote (is_some fault) (op_faults env p (ops.expression (ops.count name depth))) (IsWritten g Marks site env p (ops.expression (ops.count name depth))) old new
-          → option_map seen fault ≡ op_fault site env p (ops.expression (ops.count name depth)) → (is_some fault ≡ true → new ≡ old)
+          → Wrote (is_some fault) (op_faults env p (ops.expression (ops.count name depth)))
+          (IsWritten g Marks site env p (ops.expression (ops.count name depth))) old new
+          → option_map seen fault ≡ op_fault site env p (ops.expression (ops.count name depth))
+          → (is_some fault ≡ true → new ≡ old)
           → Appends (IsLeft g Marks site env p (ops.expression (ops.count name depth))) old new
       unfolding Appends IsWritten IsLeft
       left_count None name depth old new w e k =
@@ -107,16 +121,23 @@ module _ (g : Grammar) (Marks : Span → Span → Type 0) (site : Span) (env : E
 
     -- ---- groups, and ops one after the other
 
-    pub left_group : (d : Delimiter) (s u : Span) (body : Ops) (old opened mid new : Levels) → Marks d.opening s → Marks d.close u
-        → opened ≡ (record { opening = s; close = s; kind = d.kind }, none) ∷ old → Appends (AreLeft g Marks site env p body) opened mid
+    pub left_group : (d : Delimiter) (s u : Span) (body : Ops) (old opened mid new : Levels) → Marks d.opening s
+        → Marks d.close u
+        → opened ≡ (record { opening = s; close = s; kind = d.kind }, none) ∷ old
+        → Appends (AreLeft g Marks site env p body) opened mid
         → new ≡ closed u mid → Appends (IsLeft g Marks site env p (ops.group d body)) old new
     unfolding Appends IsLeft AreLeft
-    left_group d s u body old opened mid new a b o v e =
-        (tree.group (record { opening = s; close = u; kind = d.kind }) v.0 none, (s, u, v.0, a, b, v.1, refl), e ∙ ap (closed u) (v.2 ∙ ap (put v.0) o))
+    left_group d s u body old opened mid new a b o v e = (
+      tree.group (record { opening = s; close = u; kind = d.kind }) v.0 none,
+      (s, u, v.0, a, b, v.1, refl),
+      e
+          ∙ ap (closed u) (v.2 ∙ ap (put v.0) o),
+    )
 
     -- what is written next comes after what was written
     abbrev pub GoesOn : Ops → Ops → Levels → Levels → Type 0
-    GoesOn all rest start now = (last : Levels) → Appends (AreLeft g Marks site env p rest) now last → Appends (AreLeft g Marks site env p all) start last
+    GoesOn all rest start now = (last : Levels) → Appends (AreLeft g Marks site env p rest) now last
+        → Appends (AreLeft g Marks site env p all) start last
 
     pub goes_on_at_first : (all : Ops) (start : Levels) → GoesOn all all start start
     goes_on_at_first all start last w = w
@@ -126,17 +147,21 @@ module _ (g : Grammar) (Marks : Span → Span → Type 0) (site : Span) (env : E
     unfolding Appends IsLeft AreLeft
     left_more o os old mid new v w = (append v.0 w.0, (v.0, w.0, v.1, w.1, refl), put_both v.0 w.0 old mid new v.2 w.2)
 
-    pub goes_on : (all left : Ops) (o : Op) (rest : Ops) (start now new : Levels) → left ≡ op o rest → GoesOn all left start now
+    pub goes_on : (all left : Ops) (o : Op) (rest : Ops) (start now new : Levels) → left ≡ op o rest
+        → GoesOn all left start now
         → Appends (IsLeft g Marks site env p o) now new → GoesOn all rest start new
     goes_on all left o rest start now new e h w last v =
-        h last (subst (λ x. Appends (AreLeft g Marks site env p x) now last) (sym e) (left_more o rest now new last w v))
+        h last (subst (λ x. Appends (AreLeft g Marks site env p x) now last) (sym e)
+        (left_more o rest now new last w v))
 
     nothing_left : (old : Levels) → Appends (AreLeft g Marks site env p no_ops) old old
     unfolding Appends AreLeft
     nothing_left old = (none, refl, put-none old)
 
-    pub all_left : (all left : Ops) (start now : Levels) → left ≡ no_ops → GoesOn all left start now → Appends (AreLeft g Marks site env p all) start now
-    all_left all left start now e h = h now (subst (λ x. Appends (AreLeft g Marks site env p x) now now) (sym e) (nothing_left now))
+    pub all_left : (all left : Ops) (start now : Levels) → left ≡ no_ops → GoesOn all left start now
+        → Appends (AreLeft g Marks site env p all) start now
+    all_left all left start now e h = h now
+        (subst (λ x. Appends (AreLeft g Marks site env p x) now now) (sym e) (nothing_left now))
 
     -- ---- rounds
 
@@ -146,11 +171,13 @@ module _ (g : Grammar) (Marks : Span → Span → Type 0) (site : Span) (env : E
     is_parted body rounds (suc n) = not (faults env (level n rounds p) body)
 
     -- what a loop over rounds has written, and whether a separator comes next
-    pub record Begun (separator : Option Separator) (body : Ops) (rounds done : ℕ) (separated : Bool) (start now : Levels) : Type 0 where
+    pub record Begun (separator : Option Separator) (body : Ops) (rounds done : ℕ) (separated : Bool)
+        (start now : Levels) : Type 0 where
       pub parted : separated ≡ is_parted body rounds done
       pub written : Appends (AreRoundsBegun g Marks site env p separator body rounds done) start now
 
-    pub begun_at_first : (separator : Option Separator) (body : Ops) (rounds : ℕ) (start : Levels) → Begun separator body rounds 0 false start start
+    pub begun_at_first : (separator : Option Separator) (body : Ops) (rounds : ℕ) (start : Levels)
+        → Begun separator body rounds 0 false start start
     unfolding Appends AreRoundsBegun
     begun_at_first separator body rounds start = record { parted = refl; written = (none, refl, put-none start) }
 
@@ -159,10 +186,12 @@ module _ (g : Grammar) (Marks : Span → Span → Type 0) (site : Span) (env : E
     parted_by separator true now mid e = e ∙ put-none now
     parted_by separator false now mid e = e
 
-    part_put : (separator : Option Separator) (body : Ops) (rounds done : ℕ) (now mid : Levels) → IsParted separator (is_parted body rounds done) now mid
+    part_put : (separator : Option Separator) (body : Ops) (rounds done : ℕ) (now mid : Levels)
+        → IsParted separator (is_parted body rounds done) now mid
         → mid ≡ put (parting (separator_trees separator) (λ i. faults env (level i rounds p) body) done) now
     part_put separator body rounds zero now mid e = e ∙ put-none now
-    part_put separator body rounds (suc n) now mid e = parted_by separator (faults env (level n rounds p) body) now mid e
+    part_put separator body rounds (suc n) now mid e =
+        parted_by separator (faults env (level n rounds p) body) now mid e
 
     one_more : (separator : Option Separator) (body : Ops) (rounds done : ℕ) (start now mid new : Levels)
         → Appends (AreRoundsBegun g Marks site env p separator body rounds done) start now
@@ -177,7 +206,8 @@ module _ (g : Grammar) (Marks : Span → Span → Type 0) (site : Span) (env : E
           put_both v.0 (append between w.0) start now new v.2 (put_both between w.0 now mid new e w.2),
         )
 
-    pub begun_more : (separator : Option Separator) (body : Ops) (rounds done : ℕ) (separated f later : Bool) (start now mid new : Levels) (inner : Path)
+    pub begun_more : (separator : Option Separator) (body : Ops) (rounds done : ℕ) (separated f later : Bool)
+        (start now mid new : Levels) (inner : Path)
         → inner ≡ level done rounds p → f ≡ faults env inner body → later ≡ not f
         → Begun separator body rounds done separated start now → IsParted separator separated now mid
         → Appends (AreLeft g Marks site env inner body) mid new → Begun separator body rounds (done + 1) later start new
@@ -188,29 +218,40 @@ module _ (g : Grammar) (Marks : Span → Span → Type 0) (site : Span) (env : E
           (subst (λ q. Appends (AreLeft g Marks site env q body) mid new) i w);
     })
 
-    pub left_rounds : (separator : Option Separator) (body : Ops) (kind : RepeatKind) (rounds : ℕ) (separated : Bool) (start now : Levels)
+    pub left_rounds : (separator : Option Separator) (body : Ops) (kind : RepeatKind) (rounds : ℕ) (separated : Bool)
+        (start now : Levels)
         → kept_rounds kind env p body ≡ finite rounds → None ≡ extent_fault kind (kept_rounds kind env p body)
         → Begun separator body rounds rounds separated start now
         → Appends (IsLeft g Marks site env p (ops.repetition body separator kind)) start now
     unfolding Appends AreRoundsBegun IsLeft
     left_rounds separator body kind rounds separated start now k x h =
         let rounds_left : Extent → Forest → Type 0 =
-        AreAllRoundsLeft (separator_trees separator) (λ i n. faults env (level i n p) body) (λ i n. LeaveAll g Marks site env (level i n p) body) in
-        let v = h.written in
-        (v.0, subst (λ f. unless f (rounds_left (kept_rounds kind env p body)) v.0) x (subst (λ e. rounds_left e v.0) (sym k) v.1), v.2)
+        AreAllRoundsLeft (separator_trees separator) (λ i n. faults env (level i n p) body)
+        (λ i n. LeaveAll g Marks site env (level i n p) body) in
+        let v = h.written in (
+          v.0,
+          subst (λ f. unless f (rounds_left (kept_rounds kind env p body)) v.0) x
+              (subst (λ e. rounds_left e v.0) (sym k) v.1),
+          v.2,
+        )
 
-    pub left_no_rounds : (separator : Option Separator) (body : Ops) (kind : RepeatKind) (fault : ExpandErrorKind) (old : Levels)
-        → Some fault ≡ extent_fault kind (kept_rounds kind env p body) → Appends (IsLeft g Marks site env p (ops.repetition body separator kind)) old old
+    pub left_no_rounds : (separator : Option Separator) (body : Ops) (kind : RepeatKind) (fault : ExpandErrorKind)
+        (old : Levels)
+        → Some fault ≡ extent_fault kind (kept_rounds kind env p body)
+        → Appends (IsLeft g Marks site env p (ops.repetition body separator kind)) old old
     unfolding Appends IsLeft
     left_no_rounds separator body kind fault old e =
         let rounds_left : Extent → Forest → Type 0 =
-        AreAllRoundsLeft (separator_trees separator) (λ i n. faults env (level i n p) body) (λ i n. LeaveAll g Marks site env (level i n p) body) in
+        AreAllRoundsLeft (separator_trees separator) (λ i n. faults env (level i n p) body)
+        (λ i n. LeaveAll g Marks site env (level i n p) body) in
         (none, subst (λ f. unless f (rounds_left (kept_rounds kind env p body)) none) e refl, put-none old)
 
   -- ---- the whole
 
-  pub left_whole : (os : Ops) (start end : Levels) (t : Top) → start ≡ (record { opening = site; close = site; kind = Invisible }, none) ∷ []
-      → Appends (AreLeft g Marks site env [] os) start end → end ≡ t ∷ [] → IsWhatIsLeft g Marks site env os (top_group t)
+  pub left_whole : (os : Ops) (start end : Levels) (t : Top)
+      → start ≡ (record { opening = site; close = site; kind = Invisible }, none) ∷ []
+      → Appends (AreLeft g Marks site env [] os) start end → end ≡ t ∷ []
+      → IsWhatIsLeft g Marks site env os (top_group t)
   unfolding Appends AreLeft
   left_whole os start end t s v e =
       let d : Delimiter = record { opening = site; close = site; kind = Invisible } in

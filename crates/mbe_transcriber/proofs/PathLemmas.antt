@@ -1,68 +1,16 @@
 -- How expressions and paths are written.
-use Rattle.std.proofs.Common.{◌≡◌, Bool, true, false, Option, Some, None, refl, ap, sym, ◌∙◌}
-use Rattle.std.specs.Prelude.{not, ◌||◌, ◌&&◌, ◌==◌, if◌then◌else◌, is_none, option_map}
+use Rattle.std.proofs.Common.{◌≡◌, Bool, true, false, Some, None, refl, ap, sym, ◌∙◌}
+use Rattle.std.specs.Prelude.{◌||◌, ◌&&◌, ◌==◌, if◌then◌else◌, option_map}
 use Rattle.mbe_tt.specs.declared.span.Span.{Span}
 use Rattle.mbe_tt.specs.Trees.Leaf.{literal, ident, punct}
 use Rattle.mbe_tt.specs.Trees.Tree.{Forest, none, leaf, group, append, Tree, Leaf_tree, Group_tree, tree, first, rest_of}
 use Rattle.mbe_tt.specs.Buffers.Building.{Levels, put}
-use Rattle.mbe_semantics.specs.Writing.Written.{is_invisible, needs_parentheses, path_trees, double_colon, is_ident, stands_before_less}
+use Rattle.mbe_semantics.specs.Writing.Written.{path_trees, double_colon, is_ident, stands_before_less}
 use Rattle.mbe_transcriber.proofs.WritingLemmas.{put-none, put-put, put_both}
 
 -- ---- parentheses, by the first two trees and whether more follow
 
-abbrev pub needs_by : Option Tree → Option Tree → Bool → Bool
-needs_by None second ended = true
-needs_by (Some (Leaf_tree l)) None ended = false
-needs_by (Some (Group_tree d inside)) None ended = is_invisible d.kind
-needs_by (Some (Leaf_tree (punct p))) (Some (Leaf_tree (literal l))) ended = not ended || not (p.char == 45)
-needs_by (Some t) (Some u) ended = true
-
-not_minus : (b : Bool) → (if b then false else true) ≡ (not true || not b)
-not_minus true = refl
-not_minus false = refl
-
-pub needs_told : (f : Forest) → needs_parentheses f ≡ needs_by (first f) (first (rest_of f)) (is_none (first (rest_of (rest_of f))))
-needs_told none = refl
-needs_told (leaf l none) = refl
-needs_told (leaf (punct p) (leaf (literal l) none)) = not_minus (p.char == 45)
-needs_told (leaf (punct p) (leaf (literal l) (leaf m rest))) = refl
-needs_told (leaf (punct p) (leaf (literal l) (group d inside rest))) = refl
-needs_told (leaf (punct p) (leaf (punct q) rest)) = refl
-needs_told (leaf (punct p) (leaf (ident i) rest)) = refl
-needs_told (leaf (punct p) (group d inside rest)) = refl
-needs_told (leaf (literal l) (leaf m rest)) = refl
-needs_told (leaf (literal l) (group d inside rest)) = refl
-needs_told (leaf (ident i) (leaf m rest)) = refl
-needs_told (leaf (ident i) (group d inside rest)) = refl
-needs_told (group d inside none) = refl
-needs_told (group d inside (leaf l rest)) = refl
-needs_told (group d inside (group e more rest)) = refl
-
 -- ---- one identifier, or `<`
-
-abbrev pub is_ident_by : Option Tree → Bool → Bool
-is_ident_by (Some (Leaf_tree (ident i))) ended = ended
-is_ident_by _ ended = false
-
-pub ident_told : (f : Forest) → is_ident f ≡ is_ident_by (first f) (is_none (first (rest_of f)))
-ident_told none = refl
-ident_told (leaf (ident i) none) = refl
-ident_told (leaf (ident i) (leaf m rest)) = refl
-ident_told (leaf (ident i) (group d inside rest)) = refl
-ident_told (leaf (punct p) rest) = refl
-ident_told (leaf (literal l) rest) = refl
-ident_told (group d inside rest) = refl
-
-abbrev pub is_less : Option Tree → Bool
-is_less (Some (Leaf_tree (punct p))) = p.char == 60
-is_less _ = false
-
-pub less_told : (f : Forest) → stands_before_less f ≡ is_less (first f)
-less_told none = refl
-less_told (leaf (punct p) rest) = refl
-less_told (leaf (literal l) rest) = refl
-less_told (leaf (ident i) rest) = refl
-less_told (group d inside rest) = refl
 
 -- ---- paths, tree by tree
 
@@ -81,7 +29,8 @@ colons site true p rest = refl
 colons site false p rest = refl
 
 pub path_step : (site : Span) (t : Tree) (rest : Forest) →
-    path_trees site (tree t rest) ≡ append (tree t none) (append (behind site (colons_after t rest)) (path_trees site rest))
+    path_trees site (tree t rest) ≡ append (tree t none)
+    (append (behind site (colons_after t rest)) (path_trees site rest))
 path_step site (Group_tree d inside) rest = refl
 path_step site (Leaf_tree (punct p)) rest = refl
 path_step site (Leaf_tree (literal l)) rest = refl
@@ -99,7 +48,8 @@ first_and_rest (group d inside rest) t e = let s : Group_tree d inside ≡ t = c
 
 -- what a loop over a path's trees keeps: what it wrote, and what it has to write still, is all
 pub path_next : (site : Span) (f one now_left : Forest) (t : Tree) (b : Bool) (start now mid new : Levels)
-    → put (path_trees site f) now ≡ start → first f ≡ Some t → now_left ≡ rest_of f → one ≡ tree t none → mid ≡ put one now → b ≡ colons_after t now_left
+    → put (path_trees site f) now ≡ start → first f ≡ Some t → now_left ≡ rest_of f → one ≡ tree t none
+    → mid ≡ put one now → b ≡ colons_after t now_left
     → new ≡ put (behind site b) mid → put (path_trees site now_left) new ≡ start
 path_next site f one now_left t b start now mid new h e r o m c n =
     let whole : f ≡ tree t now_left = first_and_rest f t e ∙ ap (tree t) (sym r) in
@@ -109,30 +59,36 @@ path_next site f one now_left t b start now mid new h e r o m c n =
     ∙ (put-put (append one (behind site b)) (path_trees site now_left) now
     ∙ (ap (λ x. put x now) (ap (λ y. append (append y (behind site b)) (path_trees site now_left)) o
     ∙ (ap (λ y. append (append (tree t none) (behind site y)) (path_trees site now_left)) c
-    ∙ (one_tree t (behind site (colons_after t now_left)) (path_trees site now_left) ∙ (sym step ∙ ap (path_trees site) (sym whole))))) ∙ h))
+    ∙ (one_tree t (behind site (colons_after t now_left)) (path_trees site now_left)
+    ∙ (sym step ∙ ap (path_trees site) (sym whole))))) ∙ h))
   where
     one_tree : (t : Tree) (g h : Forest) → append (append (tree t none) g) h ≡ append (tree t none) (append g h)
     one_tree (Leaf_tree l) g h = refl
     one_tree (Group_tree d inside) g h = refl
 
 -- the first tree, from the view of it
-pub first_tree : (f one : Forest) → Some one ≡ option_map (λ t. tree t none) (first f) → (t : Tree) × (first f ≡ Some t) × (one ≡ tree t none)
+pub first_tree : (f one : Forest) → Some one ≡ option_map (λ t. tree t none) (first f)
+    → (t : Tree) × (first f ≡ Some t) × (one ≡ tree t none)
 first_tree none one e = absurd cc
 first_tree (leaf l rest) one e = (Leaf_tree l, refl, let s : one ≡ tree (Leaf_tree l) none = cc in s)
-first_tree (group d inside rest) one e = (Group_tree d inside, refl, let s : one ≡ tree (Group_tree d inside) none = cc in s)
+first_tree (group d inside rest) one e =
+    (Group_tree d inside, refl, let s : one ≡ tree (Group_tree d inside) none = cc in s)
 
-pub less_behind : (t : Tree) (one rest : Forest) → one ≡ tree t none → is_ident one ≡ true → stands_before_less rest ≡ true → true ≡ colons_after t rest
-less_behind t one rest e i l = sym (ap (λ f. is_ident f && stands_before_less rest) (sym e) ∙ (ap (λ b. b && stands_before_less rest) i ∙ l))
+pub less_after : (t : Tree) (one rest : Forest) → one ≡ tree t none → is_ident one ≡ true
+    → stands_before_less rest ≡ true → true ≡ colons_after t rest
+less_after t one rest e i l = sym (ap (λ f. is_ident f && stands_before_less rest) (sym e)
+    ∙ (ap (λ b. b && stands_before_less rest) i ∙ l))
 
-pub other_behind : (a b : Bool) → a ≡ false → false ≡ (a && b)
-other_behind true b e = absurd cc
-other_behind false b e = refl
+pub other_after : (a b : Bool) → a ≡ false → false ≡ (a && b)
+other_after true b e = absurd cc
+other_after false b e = refl
 
 pub ident_then : (a b : Bool) → b ≡ false → false ≡ (a && b)
 ident_then true b e = sym e
 ident_then false b e = refl
 
-pub path_end : (site : Span) (left all : Forest) (old now : Levels) → first left ≡ None → put (path_trees site left) now ≡ put (path_trees site all) old → now ≡ put (path_trees site all) old
+pub path_end : (site : Span) (left all : Forest) (old now : Levels) → first left ≡ None
+    → put (path_trees site left) now ≡ put (path_trees site all) old → now ≡ put (path_trees site all) old
 path_end site none all old now e h = put-none now ∙ h
 path_end site (leaf l rest) all old now e h = absurd cc
 path_end site (group d inside rest) all old now e h = absurd cc

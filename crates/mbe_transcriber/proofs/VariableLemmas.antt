@@ -20,7 +20,7 @@ use Rattle.mbe_semantics.specs.Writing.Substitution.{IsVariable, unbound_variabl
 use Rattle.mbe_log.specs.BindingViews.{origin_style}
 use Rattle.mbe_transcriber.specs.Writing.{Appends, Wrote, IsVariableWritten, plain_fragment}
 use Rattle.mbe_transcriber.proofs.WritingLemmas.{put-none}
-use Rattle.mbe_transcriber.proofs.WroteLemmas.{wrote_trees, wrote_fault, appended, appends_groups}
+use Rattle.mbe_transcriber.proofs.WroteLemmas.{wrote_trees, appended, appends_groups}
 
 module _ (Marks : Span → Span → Type 0) (site : Span) (env : Environment) (p : Path) (name : Name) (span : Span) where
   abbrev Of : Bool → Levels → Levels → Option Value → Type 0
@@ -29,14 +29,17 @@ module _ (Marks : Span → Span → Type 0) (site : Span) (env : Environment) (p
       (λ out. (g : Grammar) → IsVariable g Marks site env name span r (option_and_then (follow p) r) out) old new
 
   abbrev At : Bool → Levels → Levels → Value → Option Value → Type 0
-  At f old new v s = Wrote f (not (is_simple s)) (λ out. (g : Grammar) → IsVariable g Marks site env name span (Some v) s out) old new
+  At f old new v s = Wrote f (not (is_simple s))
+      (λ out. (g : Grammar) → IsVariable g Marks site env name span (Some v) s out) old new
 
   pub unbound_wrote : (old new : Levels) → value_of env name ≡ None → new ≡ put (unbound_variable name span) old
       → Wrote false (variable_faults env p name) (IsVariableWritten Marks site env p name span) old new
   unfolding IsVariableWritten
-  unbound_wrote old new n e = subst (Of false old new) (sym n) (wrote_trees (unbound_variable name span) old new (λ g. refl) e)
+  unbound_wrote old new n e = subst (Of false old new) (sym n)
+      (wrote_trees (unbound_variable name span) old new (λ g. refl) e)
 
-  pub fragment_wrote : (v : Value) (x : Fragment) (old new : Levels) → value_of env name ≡ Some v → follow p v ≡ Some (fragment x)
+  pub fragment_wrote : (v : Value) (x : Fragment) (old new : Levels) → value_of env name ≡ Some v
+      → follow p v ≡ Some (fragment x)
       → Appends (IsWrittenAs Marks site x.style span x.trees) old new
       → Wrote false (variable_faults env p name) (IsVariableWritten Marks site env p name span) old new
   unfolding IsVariableWritten Appends
@@ -44,17 +47,14 @@ module _ (Marks : Span → Span → Type 0) (site : Span) (env : Environment) (p
       subst (Of false old new) (sym n) (subst (At false old new v) (sym h)
       (record { told = refl; groups = appends_groups _ old new w; written = λ _. (w.0, (λ g. w.1), w.2) }))
 
-  pub missing_wrote : (v : Value) (kind : MetaVarKind) (marked : Span) (old new : Levels) → value_of env name ≡ Some v → follow p v ≡ Some (missing kind)
+  pub missing_wrote : (v : Value) (kind : MetaVarKind) (marked : Span) (old new : Levels) → value_of env name ≡ Some v
+      → follow p v ≡ Some (missing kind)
       → Marks span marked → new ≡ put (default_trees kind marked) old
       → Wrote false (variable_faults env p name) (IsVariableWritten Marks site env p name span) old new
   unfolding IsVariableWritten
   missing_wrote v kind marked old new n h m e =
-      subst (Of false old new) (sym n) (subst (At false old new v) (sym h) (wrote_trees (default_trees kind marked) old new (λ g. (marked, m, refl)) e))
-
-  pub lost_wrote : (v : Value) (old : Levels) → value_of env name ≡ Some v → is_simple (follow p v) ≡ false
-      → Wrote true (variable_faults env p name) (IsVariableWritten Marks site env p name span) old old
-  unfolding IsVariableWritten
-  lost_wrote v old n h = subst (Of true old old) (sym n) (wrote_fault _ old (ap not h))
+      subst (Of false old new) (sym n) (subst (At false old new v) (sym h)
+      (wrote_trees (default_trees kind marked) old new (λ g. (marked, m, refl)) e))
 
 -- ---- fragments
 
@@ -66,37 +66,46 @@ module _ (Marks : Span → Span → Type 0) (site : Span) (span : Span) where
   pub nothing_written : (old : Levels) → Appends (IsWrittenAs Marks site plain span none) old old
   nothing_written old = appended _ none old old refl (put-none old)
 
-  pub whole_written : (f whole : Forest) (old new : Levels) → whole ≡ f → new ≡ put (alone whole) old → Appends (IsWrittenAs Marks site plain span f) old new
+  pub whole_written : (f whole : Forest) (old new : Levels) → whole ≡ f → new ≡ put (alone whole) old
+      → Appends (IsWrittenAs Marks site plain span f) old new
   whole_written f whole old new s e = appended _ (alone whole) old new (ap alone s) e
 
-  pub tokens_written : (origin : TokensOrigin) (f tokens : Forest) (old new : Levels) → tokens ≡ plain_fragment (origin_style origin) f → new ≡ put tokens old
+  pub tokens_written : (origin : TokensOrigin) (f tokens : Forest) (old new : Levels)
+      → tokens ≡ plain_fragment (origin_style origin) f → new ≡ put tokens old
       → Appends (IsWrittenAs Marks site (origin_style origin) span f) old new
   tokens_written Raw f tokens old new s e = appended _ tokens old new s e
   tokens_written Ast f tokens old new s e = appended _ tokens old new s e
 
-  pub path_written : (f : Forest) (out : Forest) (old new : Levels) → IsWrittenAs Marks site as_path span f out → new ≡ put out old
+  pub path_written : (f : Forest) (out : Forest) (old new : Levels) → IsWrittenAs Marks site as_path span f out
+      → new ≡ put out old
       → Appends (IsWrittenAs Marks site as_path span f) old new
   path_written f out old new s e = appended _ out old new s e
 
 module _ (Marks : Span → Span → Type 0) (span : Span) where
-  bare : (b : Bool) (f : Forest) (old new : Levels) → b ≡ false → new ≡ put f old → Appends (IsParenthesized Marks b span f) old new
+  bare : (b : Bool) (f : Forest) (old new : Levels) → b ≡ false → new ≡ put f old
+      → Appends (IsParenthesized Marks b span f) old new
   bare true f old new h e = absurd cc
   bare false f old new h e = appended _ f old new refl e
 
   enclosed : (b : Bool) (marked : Span) (f : Forest) (old opened mid new : Levels) → b ≡ true → Marks span marked
-      → opened ≡ (record { opening = marked; close = marked; kind = Parenthesis }, none) ∷ old → mid ≡ put f opened → new ≡ closed marked mid
+      → opened ≡ (record { opening = marked; close = marked; kind = Parenthesis }, none) ∷ old → mid ≡ put f opened
+      → new ≡ closed marked mid
       → Appends (IsParenthesized Marks b span f) old new
   enclosed true marked f old opened mid new h m o w e =
       appended _ (in_parentheses marked f) old new (marked, m, refl) (e ∙ ap (closed marked) (w ∙ ap (put f) o))
   enclosed false marked f old opened mid new h m o w e = absurd cc
 
-  pub bare_written : (f inside : Forest) (old new : Levels) → inside ≡ strip_invisible f → needs_parentheses inside ≡ false → new ≡ put (alone inside) old
+  pub bare_written : (f inside : Forest) (old new : Levels) → inside ≡ strip_invisible f
+      → needs_parentheses inside ≡ false → new ≡ put (alone inside) old
       → Appends (IsExpressionWritten Marks span f) old new
   bare_written f inside old new s h e =
-      subst (λ x. Appends (IsParenthesized Marks (needs_parentheses x) span (alone x)) old new) s (bare (needs_parentheses inside) (alone inside) old new h e)
+      subst (λ x. Appends (IsParenthesized Marks (needs_parentheses x) span (alone x)) old new) s
+      (bare (needs_parentheses inside) (alone inside) old new h e)
 
-  pub enclosed_written : (f inside : Forest) (marked : Span) (old opened mid new : Levels) → inside ≡ strip_invisible f → needs_parentheses inside ≡ true → Marks span marked
-      → opened ≡ (record { opening = marked; close = marked; kind = Parenthesis }, none) ∷ old → mid ≡ put (alone inside) opened → new ≡ closed marked mid
+  pub enclosed_written : (f inside : Forest) (marked : Span) (old opened mid new : Levels) → inside ≡ strip_invisible f
+      → needs_parentheses inside ≡ true → Marks span marked
+      → opened ≡ (record { opening = marked; close = marked; kind = Parenthesis }, none) ∷ old
+      → mid ≡ put (alone inside) opened → new ≡ closed marked mid
       → Appends (IsExpressionWritten Marks span f) old new
   enclosed_written f inside marked old opened mid new s h m o w e =
       subst (λ x. Appends (IsParenthesized Marks (needs_parentheses x) span (alone x)) old new) s
@@ -104,7 +113,9 @@ module _ (Marks : Span → Span → Type 0) (span : Span) where
 
 -- ---- defaults
 
-pub nothing_for : (kind : MetaVarKind) (span : Span) → (kind ≡ kinds.Meta) ⊎ ((kind ≡ kinds.Item) ⊎ ((kind ≡ kinds.Tt) ⊎ (kind ≡ kinds.Vis))) → none ≡ default_trees kind span
+pub nothing_for : (kind : MetaVarKind) (span : Span)
+    → (kind ≡ kinds.Meta) ⊎ ((kind ≡ kinds.Item) ⊎ ((kind ≡ kinds.Tt) ⊎ (kind ≡ kinds.Vis)))
+    → none ≡ default_trees kind span
 nothing_for kind span (inl e) = ap (λ k. default_trees k span) (sym e)
 nothing_for kind span (inr (inl e)) = ap (λ k. default_trees k span) (sym e)
 nothing_for kind span (inr (inr (inl e))) = ap (λ k. default_trees k span) (sym e)

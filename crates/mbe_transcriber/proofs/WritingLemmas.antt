@@ -21,28 +21,34 @@ put-none (g ∷ outer) = ap (λ (f : Forest). let x : Delimiter × Forest = (g.0
 
 pub put-put : (f h : Forest) (b : Levels) → put h (put f b) ≡ put (append f h) b
 put-put f h [] = refl
-put-put f h (g ∷ outer) = ap (λ (k : Forest). let x : Delimiter × Forest = (g.0, k) in x ∷ outer) (sym (append-assoc g.1 f h))
+put-put f h (g ∷ outer) = ap (λ (k : Forest). let x : Delimiter × Forest = (g.0, k) in x ∷ outer)
+    (sym (append-assoc g.1 f h))
 
 pub put_both : (f h : Forest) (old mid new : Levels) → mid ≡ put f old → new ≡ put h mid → new ≡ put (append f h) old
 put_both f h old mid new a b = b ∙ (ap (put h) a ∙ put-put f h old)
 
 -- ---- variables
 
-pub two_leaves : {T E : Type 0} (r : Result T E) (a b x y : Leaf) (old mid new : Levels) → a ≡ x → b ≡ y → mid ≡ put (one_leaf a) old
+pub two_leaves : {T E : Type 0} (r : Result T E) (a b x y : Leaf) (old mid new : Levels) → a ≡ x → b ≡ y
+    → mid ≡ put (one_leaf a) old
     → OnOk r (new ≡ put (one_leaf b) mid) → OnOk r (new ≡ put (leaf x (leaf y none)) old)
 two_leaves (Err e) a b x y old mid new p q m h = tt
 two_leaves (Ok v) a b x y old mid new p q m h =
-    put_both (one_leaf a) (one_leaf b) old mid new m h ∙ ap (λ l. put (leaf l (leaf b none)) old) p ∙ ap (λ l. put (leaf x (leaf l none)) old) q
+    put_both (one_leaf a) (one_leaf b) old mid new m h ∙ ap (λ l. put (leaf l (leaf b none)) old) p
+    ∙ ap (λ l. put (leaf x (leaf l none)) old) q
 
 -- ---- puncts of a separator
 
-pub push_next : (ps : List Punct) (i : ℕ) (d : Punct) (old now new : Levels) → i < length ps → put (punct_trees (drop i ps)) now ≡ old
+pub push_next : (ps : List Punct) (i : ℕ) (d : Punct) (old now new : Levels) → i < length ps
+    → put (punct_trees (drop i ps)) now ≡ old
     → new ≡ put (one_leaf (punct (get_or ps i d))) now → put (punct_trees (drop (i + 1) ps)) new ≡ old
 push_next ps i d old now new h e n =
-    ap (put (punct_trees (drop (i + 1) ps))) n ∙ (put-put (one_leaf (punct (get_or ps i d))) (punct_trees (drop (i + 1) ps)) now
+    ap (put (punct_trees (drop (i + 1) ps))) n
+    ∙ (put-put (one_leaf (punct (get_or ps i d))) (punct_trees (drop (i + 1) ps)) now
     ∙ (ap (λ qs. put (punct_trees qs) now) (sym (drop_more ps i d h)) ∙ e))
 
-pub push_end : (ps : List Punct) (i : ℕ) (old now : Levels) → length ps ≤ i → put (punct_trees (drop i ps)) now ≡ old → now ≡ old
+pub push_end : (ps : List Punct) (i : ℕ) (old now : Levels) → length ps ≤ i → put (punct_trees (drop i ps)) now ≡ old
+    → now ≡ old
 push_end ps i old now h e = put-none now ∙ (ap (λ qs. put (punct_trees qs) now) (sym (drop_all i ps h)) ∙ e)
 
 module _ (Marks : Span → Span → Type 0) where
@@ -52,12 +58,18 @@ module _ (Marks : Span → Span → Type 0) where
   unfolding Appends AreMarked
   writes_no_punct old = (none, (λ g site env. refl), put-none old)
 
-  pub writes_punct : (ps : List Punct) (i : ℕ) (d : Punct) (marked : Span) (old mid new : Levels) → i < length ps → Marks (get_or ps i d).span marked
-      → mid ≡ put (one_leaf (punct (record (get_or ps i d) { span = marked }))) old → Appends (AreMarked Marks (drop (i + 1) ps)) mid new → Appends (AreMarked Marks (drop i ps)) old new
+  pub writes_punct : (ps : List Punct) (i : ℕ) (d : Punct) (marked : Span) (old mid new : Levels) → i < length ps
+      → Marks (get_or ps i d).span marked
+      → mid ≡ put (one_leaf (punct (record (get_or ps i d) { span = marked }))) old
+      → Appends (AreMarked Marks (drop (i + 1) ps)) mid new → Appends (AreMarked Marks (drop i ps)) old new
   unfolding Appends AreMarked
   writes_punct ps i d marked old mid new h m e w =
-      rw (drop_more ps i d h)
-      (leaf (punct (record (get_or ps i d) { span = marked })) w.0, (λ g site env. (marked, w.0, m, w.1 g site env, refl)), put_both _ w.0 old mid new e w.2)
+      rw (drop_more ps i d h) (
+        leaf (punct (record (get_or ps i d) { span = marked })) w.0,
+        (λ g site env. (marked, w.0, m, w.1 g site env, refl)),
+        put_both _ w.0 old mid new e w.2,
+      )
 
-  pub writes_last_punct : (ps : List Punct) (i : ℕ) (old : Levels) → length ps ≤ i → Appends (AreMarked Marks (drop i ps)) old old
+  pub writes_last_punct : (ps : List Punct) (i : ℕ) (old : Levels) → length ps ≤ i
+      → Appends (AreMarked Marks (drop i ps)) old old
   writes_last_punct ps i old h = rw (drop_all i ps h) (writes_no_punct old)

@@ -1,4 +1,5 @@
--- What a template writes, beside a fault too (as in rust-analyzer): a part that faults writes nothing, and all else stays.
+-- What a template writes, beside a fault too (as in rust-analyzer): a part that faults writes nothing, and all else
+-- stays.
 use Rattle.std.specs.Prelude.{◌≡◌, ℕ, zero, suc, Bool, if◌then◌else◌, List, [], Option, Some, None, codes, chars}
 use Rattle.mbe_tt.specs.declared.span.Span.{Span}
 use Rattle.mbe_tt.specs.declared.tt.DelimiterKind.TheVariants.{Invisible}
@@ -33,7 +34,8 @@ AreRoundsLeft separator faulty round (suc n) out =
 -- rounds without an end aren't begun
 abbrev pub AreAllRoundsLeft : Forest → (ℕ → ℕ → Bool) → (ℕ → ℕ → Forest → Type 0) → Extent → Forest → Type 0
 AreAllRoundsLeft separator faulty round endless out = out ≡ none
-AreAllRoundsLeft separator faulty round (finite n) out = AreRoundsLeft separator (λ i. faulty i n) (λ i. round i n) n out
+AreAllRoundsLeft separator faulty round (finite n) out =
+    AreRoundsLeft separator (λ i. faulty i n) (λ i. round i n) n out
 
 -- a text that is no identifier is replaced
 abbrev pub name_left : List ℕ → List ℕ
@@ -56,12 +58,15 @@ module _ (g : Grammar) (Marks : Span → Span → Type 0) (call_site : Span) (en
     Leaves path (ops.token t) out = IsMarked g Marks call_site env t out
     Leaves path (ops.group d body) out =
         (opening : Span) × (close : Span) × (inside : Forest) × Marks d.opening opening × Marks d.close close
-        × LeaveAll path body inside × (out ≡ tree.group (record { opening = opening; close = close; kind = d.kind }) inside none)
+        × LeaveAll path body inside × (out ≡ tree.group (record { opening = opening; close = close; kind = d.kind })
+        inside none)
     Leaves path (ops.variable name kind span) out =
-        unless (variable_fault env path name) (IsVariable g Marks call_site env name span (value_of env name) (followed env path name)) out
+        unless (variable_fault env path name)
+        (IsVariable g Marks call_site env name span (value_of env name) (followed env path name)) out
     Leaves path (ops.repetition body separator repeat) out =
         unless (extent_fault repeat (kept_rounds repeat env path body))
-        (AreAllRoundsLeft (separator_trees separator) (λ i n. faults env (level i n path) body) (λ i n. LeaveAll (level i n path) body)
+        (AreAllRoundsLeft (separator_trees separator) (λ i n. faults env (level i n path) body)
+        (λ i n. LeaveAll (level i n path) body)
         (kept_rounds repeat env path body)) out
     Leaves path (ops.expression e) out = LeavesExpression path e out
 

@@ -11,12 +11,15 @@ about_binding words name = binding_error (words ++ codes " binding `" ++ name ++
 
 abbrev pub kind_of_fault : {A : Type 0} → met_kind.FaultKind A → ExpandErrorKind
 kind_of_fault (met_kind.TheVariants.Unresolved name) = unresolved_binding name.now
-kind_of_fault (met_kind.TheVariants.Nested name) = about_binding (codes "expected simple binding, found nested") name.now
+kind_of_fault (met_kind.TheVariants.Nested name) =
+    about_binding (codes "expected simple binding, found nested") name.now
 kind_of_fault (met_kind.TheVariants.Empty name) = about_binding (codes "expected simple binding, found empty") name.now
 kind_of_fault (met_kind.TheVariants.EmptyInside name) = about_binding (codes "could not find empty") name.now
 kind_of_fault (met_kind.TheVariants.NoValue name) = about_binding (codes "could not find nested") name.now
-kind_of_fault met_kind.TheVariants.NoText = binding_error (codes "metavariables of `${concat(..)}` must be of type `ident`, `literal` or `tt`")
-kind_of_fault met_kind.TheVariants.NoIdentifier = binding_error (codes "`${concat(..)}` is not generating a valid identifier")
+kind_of_fault met_kind.TheVariants.NoText =
+    binding_error (codes "metavariables of `${concat(..)}` must be of type `ident`, `literal` or `tt`")
+kind_of_fault met_kind.TheVariants.NoIdentifier =
+    binding_error (codes "`${concat(..)}` is not generating a valid identifier")
 kind_of_fault met_kind.TheVariants.Limit = limit_exceeded
 kind_of_fault met_kind.TheVariants.NoRound = unexpected_token
 

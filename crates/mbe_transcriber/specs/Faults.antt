@@ -54,7 +54,8 @@ number_fault n = if nat_lt n (2 ^ 64) then None else Some limit_exceeded
 
 -- of a value that is counted
 abbrev pub count_fault : Name → ℕ → Path → Value → Option ExpandErrorKind
-count_fault name depth path v = option_or (option_map (lost_kind name) (lost path v)) (number_fault (total_of depth (follow path v)))
+count_fault name depth path v = option_or (option_map (lost_kind name) (lost path v))
+    (number_fault (total_of depth (follow path v)))
 
 -- of a name that has to be bound
 abbrev pub bound_fault : Name → (Value → Option ExpandErrorKind) → Option Value → Option ExpandErrorKind
@@ -89,7 +90,8 @@ extent_fault repeat (finite n) = if nat_lt n 65536 then None else Some limit_exc
 
 -- of an element without a text
 abbrev pub text_fault : Option (List ℕ) → Option ExpandErrorKind
-text_fault None = Some (binding_error (codes "metavariables of `${concat(..)}` must be of type `ident`, `literal` or `tt`"))
+text_fault None = Some (binding_error (codes
+    "metavariables of `${concat(..)}` must be of type `ident`, `literal` or `tt`"))
 text_fault (Some text) = None
 
 -- the text, or none
@@ -120,7 +122,8 @@ module _ (env : Environment) where
 
   abbrev pub element_fault : Path → Element → Option ExpandError
   element_fault path (variable_element i) =
-      option_map (at i.span) (option_or (needed_fault path i.sym) (text_fault (text_of_element env path (variable_element i))))
+      option_map (at i.span) (option_or (needed_fault path i.sym)
+      (text_fault (text_of_element env path (variable_element i))))
   element_fault path _ = None
 
 module _ (call_site : Span) (env : Environment) where
@@ -129,7 +132,8 @@ module _ (call_site : Span) (env : Environment) where
   expression_fault path (count name depth) =
       option_map (at call_site) (bound_fault name (count_fault name depth path) (value_of env name))
   expression_fault path (concat elements span) =
-      option_or (first_of (element_fault env path) elements) (option_map (at span) (identifier_fault (joined env path elements)))
+      option_or (first_of (element_fault env path) elements)
+      (option_map (at span) (identifier_fault (joined env path elements)))
   expression_fault path _ = None
 
   abbrev mutual

@@ -10,13 +10,14 @@ use Rattle.mbe_semantics.specs.Syntax.Op.{Name, Separator, Op, Ops}
 use Rattle.mbe_semantics.specs.Readings.Item.{Style, stripped}
 use Rattle.mbe_semantics.specs.Bindings.Environment.{Environment, value_of}
 use Rattle.mbe_semantics.specs.Writing.Rounds.{Path, followed, level}
-use Rattle.mbe_semantics.specs.Writing.Substitution.{AreMarkedPuncts, Writes, Substitutes, AreRounds, IsVariable, IsConcat, separator_trees, integer, faults, any_below}
+use Rattle.mbe_semantics.specs.Writing.Substitution.{AreMarkedPuncts, Writes, Substitutes, AreRounds, IsVariable, IsConcat, separator_trees, integer}
 
 -- such trees come at the end of the innermost open group
 unfoldable pub Appends : (Forest → Type 0) → Levels → Levels → Type 0
 Appends P old new = (made : Forest) × P made × (new ≡ put made old)
 
--- What a call that writes did: whether it met a fault, and, where there is none to meet, what it wrote. The groups that were
+-- What a call that writes did: whether it met a fault, and, where there is none to meet, what it wrote. The groups that
+-- were
 -- open are open still.
 pub record Wrote (fault faulty : Bool) (P : Forest → Type 0) (old new : Levels) : Type 0 where
   pub told : fault ≡ faulty
@@ -27,10 +28,6 @@ pub record Wrote (fault faulty : Bool) (P : Forest → Type 0) (old new : Levels
 abbrev pub IsParted : Option Separator → Bool → Levels → Levels → Type 0
 IsParted separator true old new = new ≡ put (separator_trees separator) old
 IsParted separator false old new = new ≡ old
-
--- some round of these faults
-abbrev pub rounds_fault : Environment → Path → Ops → ℕ → Bool
-rounds_fault env path body rounds = any_below (λ i. faults env (level i rounds path) body) rounds
 
 -- an integer of that number
 unfoldable pub IsNumber : ℕ → Span → Forest → Type 0
@@ -50,7 +47,8 @@ plain_fragment _ f = alone f
 module _ (Marks : Span → Span → Type 0) where
   -- the same literal, with a result of the marker on its span
   unfoldable pub IsMarkedLiteral : Literal → Forest → Type 0
-  IsMarkedLiteral l out = (marked : Span) × Marks l.span marked × (out ≡ one_leaf (literal (record l { span = marked })))
+  IsMarkedLiteral l out = (marked : Span) × Marks l.span marked
+      × (out ≡ one_leaf (literal (record l { span = marked })))
 
   -- the same identifier, with a result of the marker on its span
   unfoldable pub IsMarkedIdent : Ident → Forest → Type 0
@@ -67,7 +65,8 @@ module _ (Marks : Span → Span → Type 0) where
 
 -- one identifier of that text, marked by the span
 unfoldable pub IsConcatWritten : Grammar → (Span → Span → Type 0) → Span → Option (List ℕ) → Forest → Type 0
-IsConcatWritten g Marks span text out = (call_site : Span) (env : Environment) → IsConcat g Marks call_site env span text out
+IsConcatWritten g Marks span text out =
+    (call_site : Span) (env : Environment) → IsConcat g Marks call_site env span text out
 
 module _ (g : Grammar) (Marks : Span → Span → Type 0) (call_site : Span) (env : Environment) (path : Path) where
   -- the op writes these trees in the rounds of the path

@@ -13,7 +13,10 @@ abbrev pub front_by : Bool → Front
 front_by too_few = if too_few then record { count = 0; fault = true } else record { count = 2; fault = false }
 
 abbrev pub pairs : Grammar
-pairs = record { parse = λ entry tokens. front_by (nat_lt (length tokens) 2); is_keyword = λ text. bytes_eq text (codes "fn") }
+pairs = record {
+  parse = λ entry tokens. front_by (nat_lt (length tokens) 2);
+  is_keyword = λ text. bytes_eq text (codes "fn");
+}
 
 within : (n : ℕ) (b : Bool) → nat_lt n 2 ≡ b → (front_by b).count ≤ n
 within n true e = zero-le

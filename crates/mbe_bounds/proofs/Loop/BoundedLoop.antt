@@ -26,7 +26,8 @@ abbrev pub left_over : ℕ → List ℕ → List Outline → ℕ
 left_over d seen stack = length stack + (room number_of 2 d seen + room number_of 2 d seen)
 
 -- what went out, and what the stack will still give, are the whole
-pub record Keeps (i : Input) (pat : Ops) (q : ℕ) (all stack : List Outline) (seen : List ℕ) (out : List Outline) : Type 0 where
+pub record Keeps (i : Input) (pat : Ops) (q : ℕ) (all stack : List Outline) (seen : List ℕ)
+    (out : List Outline) : Type 0 where
   pub ys : List Beginning
   pub sound : (y : Beginning) → In y ys → At i pat q y
   pub same : map erase ys ≡ stack
@@ -35,7 +36,8 @@ pub record Keeps (i : Input) (pat : Ops) (q : ℕ) (all stack : List Outline) (s
   pub total : out ++ walk (idle_of i q) outline_number 2 n seen stack ≡ all
 
 module _ (i : Input) (pat : Ops) (q : ℕ) where
-  pub keeps_start : (xs : List Beginning) (spots : List Outline) → ((x : Beginning) → In x xs → At i pat q x) → map erase xs ≡ spots → Keeps i pat q (kept i (dots pat) q spots) spots [] []
+  pub keeps_start : (xs : List Beginning) (spots : List Outline) → ((x : Beginning) → In x xs → At i pat q x)
+      → map erase xs ≡ spots → Keeps i pat q (kept i (dots pat) q spots) spots [] []
   keeps_start xs spots a e = record {
     ys = xs;
     sound = a;
@@ -54,21 +56,27 @@ module _ (i : Input) (pat : Ops) (q : ℕ) where
       go (suc n) e = sym (append-nil out) ∙ e
 
   -- one turn, by the test
-  turn : (n : ℕ) (seen : List ℕ) (o : Outline) (stack : List Outline) (b : Bool) → nat_lt (times (outline_number o) seen) 2 ≡ b →
-      walk (idle_of i q) outline_number 2 (suc n) seen (o ∷ stack) ≡ cons_if b o (walk (idle_of i q) outline_number 2 n (cons_if b (outline_number o) seen) (append_if b (idle_of i q o) stack))
+  turn : (n : ℕ) (seen : List ℕ) (o : Outline) (stack : List Outline) (b : Bool)
+      → nat_lt (times (outline_number o) seen) 2 ≡ b →
+      walk (idle_of i q) outline_number 2 (suc n) seen (o ∷ stack)
+      ≡ cons_if b o (walk (idle_of i q) outline_number 2 n (cons_if b (outline_number o) seen)
+      (append_if b (idle_of i q o) stack))
   unfolding walk
   turn n seen o stack b e =
-      ap (λ c. cons_if c o (walk (idle_of i q) outline_number 2 n (cons_if c (outline_number o) seen) (append_if c (idle_of i q o) stack))) e
+      ap (λ c. cons_if c o (walk (idle_of i q) outline_number 2 n (cons_if c (outline_number o) seen)
+      (append_if c (idle_of i q o) stack))) e
 
   some_turn : (n m : ℕ) → m < n → (k : ℕ) × (n ≡ suc k)
   some_turn zero m l = absurd (omega (arith, l))
   some_turn (suc n) m l = (n, refl)
 
-  module _ (all : List Outline) (seen : List ℕ) (out : List Outline) (o : Outline) (stack : List Outline) (k : Keeps i pat q all (o ∷ stack) seen out) where
+  module _ (all : List Outline) (seen : List ℕ) (out : List Outline) (o : Outline) (stack : List Outline)
+      (k : Keeps i pat q all (o ∷ stack) seen out) where
     top : (x : Beginning) × (ys : List Beginning) × (k.ys ≡ x ∷ ys) × (erase x ≡ o) × (map erase ys ≡ stack)
     top = go k.ys k.same
       where
-        go : (ys : List Beginning) → map erase ys ≡ o ∷ stack → (x : Beginning) × (zs : List Beginning) × (ys ≡ x ∷ zs) × (erase x ≡ o) × (map erase zs ≡ stack)
+        go : (ys : List Beginning) → map erase ys ≡ o ∷ stack
+            → (x : Beginning) × (zs : List Beginning) × (ys ≡ x ∷ zs) × (erase x ≡ o) × (map erase zs ≡ stack)
         go [] e = cc
         go (x ∷ zs) e = let f : erase x ≡ o = cc in let g : map erase zs ≡ stack = cc in (x, zs, refl, f, g)
 
@@ -80,10 +88,12 @@ module _ (i : Input) (pat : Ops) (q : ℕ) where
 
     -- the number is a place in the table
     pub keeps_number : (0 < outline_number o) × (outline_number o ≤ dots pat)
-    keeps_number = subst (λ v. (0 < v) × (v ≤ dots pat)) (sym (same_number top.0) ∙ ap outline_number top.3) (number-within i pat top.0 (top_at).0)
+    keeps_number = subst (λ v. (0 < v) × (v ≤ dots pat)) (sym (same_number top.0) ∙ ap outline_number top.3)
+        (number-within i pat top.0 (top_at).0)
 
     -- seen twice: dropped
-    pub keeps_drop : 2 ≤ times (outline_number o) seen → Keeps i pat q all stack seen out × (left_over (dots pat) seen stack < left_over (dots pat) seen (o ∷ stack))
+    pub keeps_drop : 2 ≤ times (outline_number o) seen
+        → Keeps i pat q all stack seen out × (left_over (dots pat) seen stack < left_over (dots pat) seen (o ∷ stack))
     keeps_drop l =
         let r : (m : ℕ) × (k.n ≡ suc m) = some_turn k.n (left_over (dots pat) seen (o ∷ stack)) k.enough in
         let e : k.n ≡ suc r.0 = r.1 in
@@ -105,25 +115,32 @@ module _ (i : Input) (pat : Ops) (q : ℕ) where
     -- else it goes out, and what comes of it goes upon the stack
     pub keeps_take : times (outline_number o) seen < 2 →
         Keeps i pat q all (idle_of i q o ++ stack) (outline_number o ∷ seen) (out ++ (o ∷ []))
-        × (left_over (dots pat) (outline_number o ∷ seen) (idle_of i q o ++ stack) < left_over (dots pat) seen (o ∷ stack))
+        × (left_over (dots pat) (outline_number o ∷ seen) (idle_of i q o ++ stack)
+        < left_over (dots pat) seen (o ∷ stack))
     keeps_take l =
         let r : (m : ℕ) × (k.n ≡ suc m) = some_turn k.n (left_over (dots pat) seen (o ∷ stack)) k.enough in
         let e : k.n ≡ suc r.0 = r.1 in
         let g = k.enough in
         let w : (0 < outline_number o) × (outline_number o ≤ dots pat) = keeps_number in
-        let a : room number_of 2 (dots pat) (outline_number o ∷ seen) < room number_of 2 (dots pat) seen = room_taken number_of 2 (dots pat) (outline_number o) seen w.0 w.1 l in
-        let b : length (idle_of i q o ++ stack) ≡ length (idle_of i q o) + length stack = len_append (idle_of i q o) stack in
+        let a : room number_of 2 (dots pat) (outline_number o ∷ seen) < room number_of 2 (dots pat) seen =
+        room_taken number_of 2 (dots pat) (outline_number o) seen w.0 w.1 l in
+        let b : length (idle_of i q o ++ stack) ≡ length (idle_of i q o) + length stack =
+        len_append (idle_of i q o) stack in
         let c : map erase (idle i q top.0) ≡ idle_of i q o = erase_idle i q top.0 (top_at).1 ∙ ap (idle_of i q) top.3 in
-        let d : length (idle_of i q o) ≤ 2 = subst (λ v. length v ≤ 2) c (subst (λ v. v ≤ 2) (sym (len_map (idle i q top.0))) (idle_short i q top.0)) in
-        let f : left_over (dots pat) (outline_number o ∷ seen) (idle_of i q o ++ stack) < left_over (dots pat) seen (o ∷ stack) = omega (arith, a, b, d) in (
+        let d : length (idle_of i q o) ≤ 2 =
+        subst (λ v. length v ≤ 2) c (subst (λ v. v ≤ 2) (sym (len_map (idle i q top.0))) (idle_short i q top.0)) in
+        let f : left_over (dots pat) (outline_number o ∷ seen) (idle_of i q o ++ stack)
+        < left_over (dots pat) seen (o ∷ stack) = omega (arith, a, b, d) in (
           record {
             ys = idle i q top.0 ++ top.1;
             sound = sound;
-            same = map-append erase (idle i q top.0) top.1 ∙ ap (λ v. v ++ map erase top.1) c ∙ ap (λ v. idle_of i q o ++ v) top.4;
+            same = map-append erase (idle i q top.0) top.1 ∙ ap (λ v. v ++ map erase top.1) c
+                ∙ ap (λ v. idle_of i q o ++ v) top.4;
             n = r.0;
             enough = omega (arith, f, g, e);
             total =
-                append_assoc out (o ∷ []) (walk (idle_of i q) outline_number 2 r.0 (outline_number o ∷ seen) (idle_of i q o ++ stack))
+                append_assoc out (o ∷ []) (walk (idle_of i q) outline_number 2 r.0 (outline_number o ∷ seen)
+                (idle_of i q o ++ stack))
                 ∙ ap (λ l. out ++ l) (sym (ap (λ n. walk (idle_of i q) outline_number 2 n seen (o ∷ stack)) e
                 ∙ turn r.0 seen o stack true (lt-ltb (times (outline_number o) seen) 2 l)))
                 ∙ k.total;
@@ -136,4 +153,5 @@ module _ (i : Input) (pat : Ops) (q : ℕ) where
         len_map (x ∷ xs) = ap suc (len_map xs)
 
         sound : (y : Beginning) → In y (idle i q top.0 ++ top.1) → At i pat q y
-        sound y m = elim (in_either y (idle i q top.0) top.1 m) [ inl h ↦ idle-sound i pat q top.0 top_at y h | inr h ↦ rest_at y h ]
+        sound y m = elim (in_either y (idle i q top.0) top.1 m)
+            [ inl h ↦ idle-sound i pat q top.0 top_at y h | inr h ↦ rest_at y h ]

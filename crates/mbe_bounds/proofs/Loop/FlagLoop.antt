@@ -1,4 +1,5 @@
--- The loop over the stack at a place, as long as it has dropped nothing: what went out, and all that the stack leads to, are all that is held.
+-- The loop over the stack at a place, as long as it has dropped nothing: what went out, and all that the stack leads
+-- to, are all that is held.
 use Rattle.std.proofs.Common.{ℕ, ◌≡◌, inl, inr, List, [], ◌∷◌, ◌++◌, map, refl, sym, ◌∙◌, ap, append_assoc, append-nil}
 use Rattle.std.proofs.lemmas.List.{map-append}
 use Rattle.std.proofs.lemmas.Grind.{flat_map-append}
@@ -23,7 +24,8 @@ pub record Fills (i : Input) (pat : Ops) (q : ℕ) (all stack out : List Outline
   pub total : out ++ map erase (held i q ys) ≡ all
 
 module _ (i : Input) (pat : Ops) (len : ℕ) (lawful : Lawful i len) (checked : Checked pat) (q : ℕ) where
-  pub fills_start : (xs : List Beginning) (spots : List Outline) → ((x : Beginning) → In x xs → At i pat q x) → map erase xs ≡ spots → Fills i pat q (map erase (held i q xs)) spots []
+  pub fills_start : (xs : List Beginning) (spots : List Outline) → ((x : Beginning) → In x xs → At i pat q x)
+      → map erase xs ≡ spots → Fills i pat q (map erase (held i q xs)) spots []
   fills_start xs spots a e = record { ys = xs; sound = a; same = e; total = refl }
 
   pub fills_end : (all out : List Outline) → Fills i pat q all [] out → out ≡ all
@@ -34,22 +36,28 @@ module _ (i : Input) (pat : Ops) (len : ℕ) (lawful : Lawful i len) (checked : 
       go (y ∷ ys) e t = cc
 
   -- one goes out, and what comes of it goes upon the stack
-  pub fills_take : (all out : List Outline) (o : Outline) (stack : List Outline) → Fills i pat q all (o ∷ stack) out → Fills i pat q all (idle_of i q o ++ stack) (out ++ (o ∷ []))
+  pub fills_take : (all out : List Outline) (o : Outline) (stack : List Outline) → Fills i pat q all (o ∷ stack) out
+      → Fills i pat q all (idle_of i q o ++ stack) (out ++ (o ∷ []))
   fills_take all out o stack k = go k.ys k.sound k.same k.total
     where
-      go : (ys : List Beginning) → ((y : Beginning) → In y ys → At i pat q y) → map erase ys ≡ o ∷ stack → out ++ map erase (held i q ys) ≡ all → Fills i pat q all (idle_of i q o ++ stack) (out ++ (o ∷ []))
+      go : (ys : List Beginning) → ((y : Beginning) → In y ys → At i pat q y) → map erase ys ≡ o ∷ stack
+          → out ++ map erase (held i q ys) ≡ all → Fills i pat q all (idle_of i q o ++ stack) (out ++ (o ∷ []))
       go [] a e t = cc
       go (x ∷ ys) a e t =
           let f : erase x ≡ o = cc in
           let g : map erase ys ≡ stack = cc in
           record {
             ys = idle i q x ++ ys;
-            sound = λ y m. elim (in_either y (idle i q x) ys m) [ inl h ↦ idle-sound i pat q x (a x (inl refl)) y h | inr h ↦ a y (inr h) ];
-            same = map-append erase (idle i q x) ys ∙ ap (λ v. v ++ map erase ys) (erase_idle i q x (a x (inl refl)).1 ∙ ap (idle_of i q) f) ∙ ap (λ v. idle_of i q o ++ v) g;
+            sound = λ y m. elim (in_either y (idle i q x) ys m)
+                [ inl h ↦ idle-sound i pat q x (a x (inl refl)) y h | inr h ↦ a y (inr h) ];
+            same = map-append erase (idle i q x) ys
+                ∙ ap (λ v. v ++ map erase ys) (erase_idle i q x (a x (inl refl)).1 ∙ ap (idle_of i q) f)
+                ∙ ap (λ v. idle_of i q o ++ v) g;
             total =
                 append_assoc out (o ∷ []) (map erase (held i q (idle i q x ++ ys)))
                 ∙ ap (λ v. out ++ (v ∷ map erase (held i q (idle i q x ++ ys)))) (sym f)
                 ∙ ap (λ l. out ++ (erase x ∷ map erase l)) (flat_map-append (whole i q) (idle i q x) ys)
-                ∙ sym (ap (λ l. out ++ map erase (l ++ held i q ys)) (whole-step i pat q lawful checked x (a x (inl refl))))
+                ∙ sym (ap (λ l. out ++ map erase (l ++ held i q ys))
+                (whole-step i pat q lawful checked x (a x (inl refl))))
                 ∙ t;
           }

@@ -19,11 +19,14 @@ drop_verdict : (g : Grammar) → verdict_turned g three_ways comma ≡ stuck 0
 unfolding verdict_in run_in walk
 drop_verdict g = refl
 
-drop_all : (g : Grammar) → bound_in (last_that (fails (input_of g comma) 0) (held (input_of g comma) 0 (start three_ways ∷ []))) ≡ Some ((codes "x", empty) ∷ [])
+drop_all : (g : Grammar) → bound_in (last_that (fails (input_of g comma) 0)
+    (held (input_of g comma) 0 (start three_ways ∷ []))) ≡ Some ((codes "x", empty) ∷ [])
 unfolding tree
 drop_all g = refl
 
-drop_two : (g : Grammar) → bound_in (last_that (fails (input_of g comma) 0) (held_two_each (input_of g comma) (dots three_ways) 0 (start three_ways ∷ []))) ≡ Some ((codes "x", list (value empty no_values)) ∷ [])
+drop_two : (g : Grammar) → bound_in (last_that (fails (input_of g comma) 0)
+    (held_two_each (input_of g comma) (dots three_ways) 0 (start three_ways ∷ [])))
+    ≡ Some ((codes "x", list (value empty no_values)) ∷ [])
 unfolding walk
 drop_two g = refl
 
@@ -34,20 +37,30 @@ first_verdict : (g : Grammar) → verdict_turned g many_ways one_c ≡ stuck 1
 unfolding verdict_in run_in walk
 first_verdict g = refl
 
-first_none : (g : Grammar) → first_that (fails (input_of g one_c) 0) (held (input_of g one_c) 0 (start many_ways ∷ [])) ≡ None
+first_none : (g : Grammar) → first_that (fails (input_of g one_c) 0) (held (input_of g one_c) 0 (start many_ways ∷ []))
+    ≡ None
 unfolding tree
 first_none g = refl
 
-first_all : (g : Grammar) → waits_for (first_that (fails (input_of g one_c) 1) (held (input_of g one_c) 1 (turned (input_of g one_c) 0 (held (input_of g one_c) 0 (start many_ways ∷ [])))))
+first_all : (g : Grammar) → waits_for (first_that (fails (input_of g one_c) 1)
+    (held (input_of g one_c) 1 (turned (input_of g one_c) 0 (held (input_of g one_c) 0 (start many_ways ∷ [])))))
     ≡ Some (ident (ident_of (codes "b") (at 0 0 1)))
 unfolding tree
 first_all g = refl
 
 first_two : (g : Grammar) →
-    waits_for (first_that (fails (input_of g one_c) 1) (held_two_each (input_of g one_c) (dots many_ways) 1 (turned (input_of g one_c) 0 (held_two_each (input_of g one_c) (dots many_ways) 0 (start many_ways ∷ [])))))
+    waits_for (first_that (fails (input_of g one_c) 1)
+    (held_two_each (input_of g one_c) (dots many_ways) 1
+    (turned (input_of g one_c) 0 (held_two_each (input_of g one_c) (dots many_ways) 0 (start many_ways ∷ [])))))
     ≡ Some (ident (ident_of (codes "c") (at 0 0 1)))
 unfolding walk
 first_two g = refl
 
 pub drop_first : DropFirst
-drop_first = record { checked = refl; verdict = first_verdict; none_fails = first_none; all = first_all; two = first_two }
+drop_first = record {
+  checked = refl;
+  verdict = first_verdict;
+  none_fails = first_none;
+  all = first_all;
+  two = first_two;
+}

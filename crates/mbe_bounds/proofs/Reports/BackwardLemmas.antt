@@ -46,22 +46,31 @@ left_past : (b : Bool) (x : Beginning) (vs : List Visit) → left_in (cons_if b 
 left_past true x vs = refl
 left_past false x vs = refl
 
-left_sift : (s t : List ℕ) (vs : List Visit) → ((n : ℕ) → times (suc (n + n)) s ≡ times n t) → left_in (sift visit_number 1 s vs) ≡ sift number_of 1 t (left_in vs)
+left_sift : (s t : List ℕ) (vs : List Visit) → ((n : ℕ) → times (suc (n + n)) s ≡ times n t)
+    → left_in (sift visit_number 1 s vs) ≡ sift number_of 1 t (left_in vs)
 left_sift s t [] h = refl
 left_sift s t (enter x ∷ vs) h =
-    left_past (nat_lt (times (number_of x + number_of x) s) 1) x (sift visit_number 1 ((number_of x + number_of x) ∷ s) vs)
-    ∙ left_sift ((number_of x + number_of x) ∷ s) t vs (λ n. times_other (suc (n + n)) (number_of x + number_of x) s (λ e. omega (arith, e)) ∙ h n)
+    left_past (nat_lt (times (number_of x + number_of x) s) 1) x
+    (sift visit_number 1 ((number_of x + number_of x) ∷ s) vs)
+    ∙ left_sift ((number_of x + number_of x) ∷ s) t vs
+    (λ n. times_other (suc (n + n)) (number_of x + number_of x) s (λ e. omega (arith, e)) ∙ h n)
 left_sift s t (leave x ∷ vs) h =
-    left_cons (nat_lt (times (suc (number_of x + number_of x)) s) 1) x (sift visit_number 1 (suc (number_of x + number_of x) ∷ s) vs)
-    ∙ ap (λ n. cons_if (nat_lt n 1) x (left_in (sift visit_number 1 (suc (number_of x + number_of x) ∷ s) vs))) (h (number_of x))
-    ∙ ap (cons_if (nat_lt (times (number_of x) t) 1) x) (left_sift (suc (number_of x + number_of x) ∷ s) (number_of x ∷ t) vs more)
+    left_cons (nat_lt (times (suc (number_of x + number_of x)) s) 1) x
+    (sift visit_number 1 (suc (number_of x + number_of x) ∷ s) vs)
+    ∙ ap (λ n. cons_if (nat_lt n 1) x (left_in (sift visit_number 1 (suc (number_of x + number_of x) ∷ s) vs)))
+    (h (number_of x))
+    ∙ ap (cons_if (nat_lt (times (number_of x) t) 1) x)
+    (left_sift (suc (number_of x + number_of x) ∷ s) (number_of x ∷ t) vs more)
   where
     more : (n : ℕ) → times (suc (n + n)) (suc (number_of x + number_of x) ∷ s) ≡ times n (number_of x ∷ t)
     more n = go (equal_or_not n (number_of x))
       where
-        go : ((n ≡ number_of x) ⊎ (n ≡ number_of x → ⊥)) → times (suc (n + n)) (suc (number_of x + number_of x) ∷ s) ≡ times n (number_of x ∷ t)
-        go (inl e) = times_same (suc (n + n)) (suc (number_of x + number_of x)) s (omega (arith, e)) ∙ ap suc (h n) ∙ sym (times_same n (number_of x) t e)
-        go (inr d) = times_other (suc (n + n)) (suc (number_of x + number_of x)) s (λ e. d (omega (arith, e))) ∙ h n ∙ sym (times_other n (number_of x) t d)
+        go : ((n ≡ number_of x) ⊎ (n ≡ number_of x → ⊥))
+            → times (suc (n + n)) (suc (number_of x + number_of x) ∷ s) ≡ times n (number_of x ∷ t)
+        go (inl e) = times_same (suc (n + n)) (suc (number_of x + number_of x)) s (omega (arith, e)) ∙ ap suc (h n)
+            ∙ sym (times_same n (number_of x) t e)
+        go (inr d) = times_other (suc (n + n)) (suc (number_of x + number_of x)) s (λ e. d (omega (arith, e))) ∙ h n
+            ∙ sym (times_other n (number_of x) t d)
 
 room_one : (n : ℕ) → room visit_number 1 n [] ≡ n
 unfolding room
@@ -92,8 +101,10 @@ module _ (i : Input) (pat : Ops) (len : ℕ) (lawful : Lawful i len) (checked : 
     where
       go : (In w (map enter (reverse (idle i q x))) ⊎ In w (leave x ∷ [])) → VGood w × (vrank w < suc (rank q x))
       go (inl m) =
-          let r : (c : Beginning) × In c (reverse (idle i q x)) × (w ≡ enter c) = from_enter w (reverse (idle i q x)) m in
-          let f : At i pat q r.0 × (rank q r.0 < rank q x) = idle-falls i pat q lawful checked x r.0 g (from_reverse r.0 (idle i q x) r.1) in
+          let r : (c : Beginning) × In c (reverse (idle i q x)) × (w ≡ enter c) =
+          from_enter w (reverse (idle i q x)) m in
+          let f : At i pat q r.0 × (rank q r.0 < rank q x) =
+          idle-falls i pat q lawful checked x r.0 g (from_reverse r.0 (idle i q x) r.1) in
           let a = f.1 in
           subst (λ u. VGood u × (vrank u < suc (rank q x))) (sym r.2) (f.0, omega (arith, a))
       go (inr (inl e)) = subst (λ u. VGood u × (vrank u < suc (rank q x))) (sym e) (g, omega arith)
@@ -106,11 +117,13 @@ module _ (i : Input) (pat : Ops) (len : ℕ) (lawful : Lawful i len) (checked : 
   unfolding tree V
   vstep v g = ap (λ l. v ∷ l) (same (visits i q v) (λ w m. falls v w g m))
     where
-      same : (ws : List Visit) → ((w : Visit) → In w ws → VGood w × (vrank w < vrank v)) → flat_map (tree (visits i q) (vrank v)) ws ≡ flat_map (λ w. tree (visits i q) (suc (vrank w)) w) ws
+      same : (ws : List Visit) → ((w : Visit) → In w ws → VGood w × (vrank w < vrank v))
+          → flat_map (tree (visits i q) (vrank v)) ws ≡ flat_map (λ w. tree (visits i q) (suc (vrank w)) w) ws
       same [] f = refl
       same (w ∷ ws) f =
           let e : tree (visits i q) (vrank v) w ≡ tree (visits i q) (suc (vrank w)) w =
-          tree-steady (visits i q) VGood vrank falls (vrank v) (suc (vrank w)) w (f w (inl refl)).0 (f w (inl refl)).1 (omega arith) in
+          tree-steady (visits i q) VGood vrank falls (vrank v) (suc (vrank w)) w (f w (inl refl)).0 (f w (inl refl)).1
+          (omega arith) in
           rw (e, same ws (λ u m. f u (inr m))) refl
 
   v_leave : (x : Beginning) → V (leave x) ≡ leave x ∷ []
@@ -118,12 +131,15 @@ module _ (i : Input) (pat : Ops) (len : ℕ) (lawful : Lawful i len) (checked : 
   v_leave x = refl
 
   -- what comes of an entered one
-  v_enter : (x : Beginning) → At i pat q x → V (enter x) ≡ enter x ∷ (flat_map V (map enter (reverse (idle i q x))) ++ (leave x ∷ []))
+  v_enter : (x : Beginning) → At i pat q x
+      → V (enter x) ≡ enter x ∷ (flat_map V (map enter (reverse (idle i q x))) ++ (leave x ∷ []))
   v_enter x g =
       vstep (enter x) g
-      ∙ ap (λ l. enter x ∷ l) (flat_map-append V (map enter (reverse (idle i q x))) (leave x ∷ []) ∙ ap (λ l. flat_map V (map enter (reverse (idle i q x))) ++ (l ++ [])) (v_leave x))
+      ∙ ap (λ l. enter x ∷ l) (flat_map-append V (map enter (reverse (idle i q x))) (leave x ∷ [])
+      ∙ ap (λ l. flat_map V (map enter (reverse (idle i q x))) ++ (l ++ [])) (v_leave x))
 
-  left_flat : (cs : List Beginning) → ((c : Beginning) → In c cs → left_in (V (enter c)) ≡ reverse (whole i q c)) → left_in (flat_map V (map enter cs)) ≡ flat_map (λ x. reverse (whole i q x)) cs
+  left_flat : (cs : List Beginning) → ((c : Beginning) → In c cs → left_in (V (enter c)) ≡ reverse (whole i q c))
+      → left_in (flat_map V (map enter cs)) ≡ flat_map (λ x. reverse (whole i q x)) cs
   left_flat [] h = refl
   left_flat (c ∷ cs) h =
       left_append (V (enter c)) (flat_map V (map enter cs))
@@ -135,13 +151,17 @@ module _ (i : Input) (pat : Ops) (len : ℕ) (lawful : Lawful i len) (checked : 
   left_whole (suc n) x g l =
       ap left_in (v_enter x g)
       ∙ left_append (flat_map V (map enter (reverse (idle i q x)))) (leave x ∷ [])
-      ∙ ap (λ v. v ++ (x ∷ [])) (left_flat (reverse (idle i q x)) (λ c m. let f : At i pat q c × (rank q c < rank q x) = idle-falls i pat q lawful checked x c g (from_reverse c (idle i q x) m) in let a = f.1 in left_whole n c f.0 (omega (arith, a, l))))
+      ∙ ap (λ v. v ++ (x ∷ [])) (left_flat (reverse (idle i q x))
+      (λ c m. let f : At i pat q c × (rank q c < rank q x) = idle-falls i pat q lawful checked x c g
+      (from_reverse c (idle i q x) m) in let a = f.1 in left_whole n c f.0 (omega (arith, a, l))))
       ∙ ap (λ v. v ++ (x ∷ [])) (sym (reverse_flat (whole i q) (idle i q x)))
       ∙ sym (reverse-append (x ∷ []) (held i q (idle i q x)))
       ∙ sym (ap reverse (whole-step i pat q lawful checked x g))
 
-  flat_keys : (xs ys : List Beginning) → ((x y : Beginning) → In x xs → In y ys → number_of x ≡ number_of y → map visit_number (V (enter x)) ≡ map visit_number (V (enter y))) →
-      map number_of xs ≡ map number_of ys → map visit_number (flat_map V (map enter xs)) ≡ map visit_number (flat_map V (map enter ys))
+  flat_keys : (xs ys : List Beginning) → ((x y : Beginning) → In x xs → In y ys → number_of x ≡ number_of y
+      → map visit_number (V (enter x)) ≡ map visit_number (V (enter y))) →
+      map number_of xs ≡ map number_of ys → map visit_number (flat_map V (map enter xs))
+      ≡ map visit_number (flat_map V (map enter ys))
   flat_keys [] [] h e = refl
   flat_keys [] (y ∷ ys) h e = cc
   flat_keys (x ∷ xs) [] h e = cc
@@ -153,41 +173,56 @@ module _ (i : Input) (pat : Ops) (len : ℕ) (lawful : Lawful i len) (checked : 
       ∙ ap (λ v. map visit_number (V (enter y)) ++ v) (flat_keys xs ys (λ u v m k. h u v (inr m) (inr k)) c)
       ∙ sym (map-append visit_number (V (enter y)) (flat_map V (map enter ys)))
 
-  enter_alike : (n : ℕ) (x y : Beginning) → At i pat q x → rank q x < n → At i pat q y → number_of x ≡ number_of y → map visit_number (V (enter x)) ≡ map visit_number (V (enter y))
+  enter_alike : (n : ℕ) (x y : Beginning) → At i pat q x → rank q x < n → At i pat q y → number_of x ≡ number_of y
+      → map visit_number (V (enter x)) ≡ map visit_number (V (enter y))
   enter_alike zero x y a l b e = absurd (omega (arith, l))
   enter_alike (suc n) x y a l b e =
       keys x a
       ∙ ap (λ m. (m + m) ∷ (map visit_number (flat_map V (map enter (reverse (idle i q x)))) ++ (suc (m + m) ∷ []))) e
       ∙ ap (λ v. (number_of y + number_of y) ∷ (v ++ (suc (number_of y + number_of y) ∷ [])))
       (flat_keys (reverse (idle i q x)) (reverse (idle i q y))
-      (λ u v m k c. let f : At i pat q u × (rank q u < rank q x) = idle-falls i pat q lawful checked x u a (from_reverse u (idle i q x) m) in let r = f.1 in
-      enter_alike n u v f.0 (omega (arith, r, l)) (idle-falls i pat q lawful checked y v b (from_reverse v (idle i q y) k)).0 c)
+      (λ u v m k c. let f : At i pat q u × (rank q u < rank q x) = idle-falls i pat q lawful checked x u a
+      (from_reverse u (idle i q x) m) in let r = f.1 in
+      enter_alike n u v f.0 (omega (arith, r, l))
+      (idle-falls i pat q lawful checked y v b (from_reverse v (idle i q y) k)).0 c)
       (numbers_reverse (idle i q x) ∙ ap reverse (idle_numbers i pat q x y a b e) ∙ sym (numbers_reverse (idle i q y))))
       ∙ sym (keys y b)
     where
-      keys : (z : Beginning) → At i pat q z → map visit_number (V (enter z)) ≡ (number_of z + number_of z) ∷ (map visit_number (flat_map V (map enter (reverse (idle i q z)))) ++ (suc (number_of z + number_of z) ∷ []))
-      keys z g = ap (map visit_number) (v_enter z g) ∙ ap (λ v. (number_of z + number_of z) ∷ v) (map-append visit_number (flat_map V (map enter (reverse (idle i q z)))) (leave z ∷ []))
+      keys : (z : Beginning) → At i pat q z
+          → map visit_number (V (enter z)) ≡ (number_of z + number_of z)
+          ∷ (map visit_number (flat_map V (map enter (reverse (idle i q z)))) ++ (suc (number_of z + number_of z) ∷ []))
+      keys z g = ap (map visit_number) (v_enter z g)
+          ∙ ap (λ v. (number_of z + number_of z) ∷ v)
+          (map-append visit_number (flat_map V (map enter (reverse (idle i q z)))) (leave z ∷ []))
 
-  valike : (v w : Visit) → VGood v → VGood w → visit_number v ≡ visit_number w → map visit_number (V v) ≡ map visit_number (V w)
+  valike : (v w : Visit) → VGood v → VGood w → visit_number v ≡ visit_number w
+      → map visit_number (V v) ≡ map visit_number (V w)
   valike (enter x) (enter y) g h e = enter_alike (suc (rank q x)) x y g (omega arith) h (omega (arith, e))
   valike (enter x) (leave y) g h e = absurd (omega (arith, e))
   valike (leave x) (enter y) g h e = absurd (omega (arith, e))
-  valike (leave x) (leave y) g h e = ap (map visit_number) (v_leave x) ∙ ap (λ n. n ∷ []) e ∙ sym (ap (map visit_number) (v_leave y))
+  valike (leave x) (leave y) g h e = ap (map visit_number) (v_leave x) ∙ ap (λ n. n ∷ []) e
+      ∙ sym (ap (map visit_number) (v_leave y))
 
   vfew : (v : Visit) → length (visits i q v) ≤ 3
   vfew (leave x) = omega arith
   vfew (enter x) =
-      let a : length (map enter (reverse (idle i q x)) ++ (leave x ∷ [])) ≡ length (map enter (reverse (idle i q x))) + 1 = len_append (map enter (reverse (idle i q x))) (leave x ∷ []) in
-      let b : length (map enter (reverse (idle i q x))) ≡ length (reverse (idle i q x)) = len_enter (reverse (idle i q x)) in
+      let a : length (map enter (reverse (idle i q x)) ++ (leave x ∷ []))
+      ≡ length (map enter (reverse (idle i q x))) + 1 =
+      len_append (map enter (reverse (idle i q x))) (leave x ∷ []) in
+      let b : length (map enter (reverse (idle i q x))) ≡ length (reverse (idle i q x)) =
+      len_enter (reverse (idle i q x)) in
       let c : length (reverse (idle i q x)) ≡ length (idle i q x) = length-reverse (idle i q x) in
       let d : length (idle i q x) ≤ 2 = idle_short i q x in
       omega (arith, a, b, c, d)
 
   vbounded : (v : Visit) → VGood v → (0 < visit_number v) × (visit_number v ≤ suc (dots pat + dots pat))
-  vbounded (enter x) g = let w : (0 < number_of x) × (number_of x ≤ dots pat) = number-within i pat x g.0 in let a = w.0 in let b = w.1 in (omega (arith, a), omega (arith, b))
-  vbounded (leave x) g = let w : (0 < number_of x) × (number_of x ≤ dots pat) = number-within i pat x g.0 in let b = w.1 in (omega arith, omega (arith, b))
+  vbounded (enter x) g = let w : (0 < number_of x) × (number_of x ≤ dots pat) = number-within i pat x g.0 in let a =
+      w.0 in let b = w.1 in (omega (arith, a), omega (arith, b))
+  vbounded (leave x) g = let w : (0 < number_of x) × (number_of x ≤ dots pat) = number-within i pat x g.0 in let b =
+      w.1 in (omega arith, omega (arith, b))
 
-  pub back : (xs : List Beginning) → ((x : Beginning) → In x xs → At i pat q x) → held_back i (dots pat) q xs ≡ firsts (reverse (held i q (reverse xs)))
+  pub back : (xs : List Beginning) → ((x : Beginning) → In x xs → At i pat q x)
+      → held_back i (dots pat) q xs ≡ firsts (reverse (held i q (reverse xs)))
   back xs a =
       ap left_in walked
       ∙ left_sift [] [] (flat_map V (map enter xs)) (λ n. refl)
@@ -196,26 +231,35 @@ module _ (i : Input) (pat : Ops) (len : ℕ) (lawful : Lawful i len) (checked : 
       ∙ sym (reverse_flat (whole i q) (reverse xs)))
     where
       good : (v : Visit) → In v (map enter xs) → VGood v
-      good v m = let r : (x : Beginning) × In x xs × (v ≡ enter x) = from_enter v xs m in subst VGood (sym r.2) (a r.0 r.1)
+      good v m = let r : (x : Beginning) × In x xs × (v ≡ enter x) =
+          from_enter v xs m in subst VGood (sym r.2) (a r.0 r.1)
 
-      enough : length (map enter xs) + steps_for 3 (room visit_number 1 (suc (dots pat + dots pat)) []) < visit_turns (length xs) (dots pat)
+      enough : length (map enter xs) + steps_for 3 (room visit_number 1 (suc (dots pat + dots pat)) [])
+          < visit_turns (length xs) (dots pat)
       enough =
           let b : length (map enter xs) ≡ length xs = len_enter xs in
-          let d : steps_for 3 (room visit_number 1 (suc (dots pat + dots pat)) []) ≡ suc (dots pat + dots pat) + suc (dots pat + dots pat) + suc (dots pat + dots pat) =
+          let d : steps_for 3 (room visit_number 1 (suc (dots pat + dots pat)) [])
+          ≡ suc (dots pat + dots pat) + suc (dots pat + dots pat) + suc (dots pat + dots pat) =
           ap (steps_for 3) (room_one (suc (dots pat + dots pat))) ∙ thrice (suc (dots pat + dots pat)) in
           omega (arith, b, d)
 
-      walked : walk (visits i q) visit_number 1 (visit_turns (length xs) (dots pat)) [] (map enter xs) ≡ sift visit_number 1 [] (flat_map V (map enter xs))
-      walked = walk-sifts visit_number (visits i q) V VGood vstep (λ v w g m. (falls v w g m).0) valike 1 (suc (dots pat + dots pat)) 3 vfew vbounded
+      walked : walk (visits i q) visit_number 1 (visit_turns (length xs) (dots pat)) [] (map enter xs)
+          ≡ sift visit_number 1 [] (flat_map V (map enter xs))
+      walked = walk-sifts visit_number (visits i q) V VGood vstep (λ v w g m. (falls v w g m).0) valike 1
+          (suc (dots pat + dots pat)) 3 vfew vbounded
           (visit_turns (length xs) (dots pat)) (map enter xs) good enough
 
-  pub forth : (xs : List Beginning) → ((x : Beginning) → In x xs → At i pat q x) → held_first i (dots pat) q xs ≡ firsts (held i q xs)
+  pub forth : (xs : List Beginning) → ((x : Beginning) → In x xs → At i pat q x)
+      → held_first i (dots pat) q xs ≡ firsts (held i q xs)
   unfolding room
   forth xs a =
-      walk-sifts number_of (idle i q) (whole i q) (At i pat q) (λ x g. whole-step i pat q lawful checked x g) (λ x y g m. idle-sound i pat q x g y m)
-      (λ x y g h e. whole-alike i pat len lawful checked q x y g h e) 1 (dots pat) 2 (idle_short i q) (λ x g. number-within i pat x g.0)
+      walk-sifts number_of (idle i q) (whole i q) (At i pat q) (λ x g. whole-step i pat q lawful checked x g)
+      (λ x y g m. idle-sound i pat q x g y m)
+      (λ x y g h e. whole-alike i pat len lawful checked q x y g h e) 1 (dots pat) 2 (idle_short i q)
+      (λ x g. number-within i pat x g.0)
       (turns (length xs) (dots pat)) xs a
-      (let e : steps_for 2 (room number_of 1 (dots pat) []) ≡ dots pat + dots pat = ap (steps_for 2) (room_ones (dots pat)) ∙ twice (dots pat) in omega (arith, e))
+      (let e : steps_for 2 (room number_of 1 (dots pat) [])
+      ≡ dots pat + dots pat = ap (steps_for 2) (room_ones (dots pat)) ∙ twice (dots pat) in omega (arith, e))
     where
       room_ones : (n : ℕ) → room number_of 1 n [] ≡ n
       room_ones zero = refl
@@ -225,7 +269,8 @@ pub both_ways : BothWaysLaw
 both_ways g pat argument w k q xs a = record {
   forward = forth (input_of g argument) pat (flat_len argument) (lawful_input g argument w) k q xs a;
   backward =
-      back (input_of g argument) pat (flat_len argument) (lawful_input g argument w) k q (reverse xs) (λ x h. a x (from_reverse x xs h))
+      back (input_of g argument) pat (flat_len argument) (lawful_input g argument w) k q (reverse xs)
+      (λ x h. a x (from_reverse x xs h))
       ∙ ap (λ l. firsts (reverse (held (input_of g argument) q l))) (reverse-reverse xs)
       ∙ sym (reverse-reverse (firsts (reverse (held (input_of g argument) q xs))));
 }
@@ -234,11 +279,15 @@ pub swap_law : SwapLaw
 swap_law g pat argument w k q m ys a b = record {
   first =
       ap (held_first i (dots pat) m) first_same
-      ∙ forth i pat (flat_len argument) (lawful_input g argument w) k m (turned i q (lasts ys)) (led_at i pat (flat_len argument) (lawful_input g argument w) k q m ys a b (lasts ys) (λ x h. in_lasts i pat (flat_len argument) (lawful_input g argument w) k q m ys a b x ys h))
+      ∙ forth i pat (flat_len argument) (lawful_input g argument w) k m (turned i q (lasts ys))
+      (led_at i pat (flat_len argument) (lawful_input g argument w) k q m ys a b (lasts ys)
+      (λ x h. in_lasts i pat (flat_len argument) (lawful_input g argument w) k q m ys a b x ys h))
       ∙ (ends_law g pat argument w k q m ys a b).first;
   last =
       ap (held_back i (dots pat) m) (sym (reverse-reverse (targets (moves_of i q (firsts ys)))))
-      ∙ (both_ways g pat argument w k m (turned i q (firsts ys)) (led_at i pat (flat_len argument) (lawful_input g argument w) k q m ys a b (firsts ys) (λ x h. in_firsts i pat (flat_len argument) (lawful_input g argument w) k q m ys a b x ys h))).backward
+      ∙ (both_ways g pat argument w k m (turned i q (firsts ys))
+      (led_at i pat (flat_len argument) (lawful_input g argument w) k q m ys a b (firsts ys)
+      (λ x h. in_firsts i pat (flat_len argument) (lawful_input g argument w) k q m ys a b x ys h))).backward
       ∙ ap reverse (ends_law g pat argument w k q m ys a b).last;
 }
   where

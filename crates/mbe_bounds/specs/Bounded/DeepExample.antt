@@ -15,7 +15,8 @@ semicolon = punct_separator (punct_of 59 Alone (at 0 0 1) ∷ [])
 
 -- `$($($();*);+);*`
 abbrev pub deep : Ops
-deep = op (repetition (op (repetition (op (repetition no_ops (Some semicolon) ZeroOrMore) no_ops) (Some semicolon) OneOrMore) no_ops) (Some semicolon) ZeroOrMore) no_ops
+deep = op (repetition (op (repetition (op (repetition no_ops (Some semicolon) ZeroOrMore) no_ops) (Some semicolon)
+    OneOrMore) no_ops) (Some semicolon) ZeroOrMore) no_ops
 
 -- so many semicolons
 abbrev pub semicolons : ℕ → Forest

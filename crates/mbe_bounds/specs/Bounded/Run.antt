@@ -15,7 +15,8 @@ use Rattle.mbe_bounds.specs.Bounded.TwoEach.{held_two_each}
 pub data ComesBounded (i : Input) (pat : Ops) : ℕ → List Beginning → Type 0 where
   at_start : ComesBounded i pat 0 (start pat ∷ [])
   at_next : (q m n : ℕ) (f : Bool) (y : Beginning) (ms : List Move) (xs : List Beginning) →
-      ComesBounded i pat q xs → moves_of i q (held_two_each i (dots pat) q xs) ≡ move n f y ∷ ms → clashing (move n f y ∷ ms) ≡ false → m ≡ q + n →
+      ComesBounded i pat q xs → moves_of i q (held_two_each i (dots pat) q xs) ≡ move n f y ∷ ms
+      → clashing (move n f y ∷ ms) ≡ false → m ≡ q + n →
       ComesBounded i pat m (targets (move n f y ∷ ms))
 
 -- what was held: where nothing goes on; where two clash; and on to the next place
@@ -28,8 +29,10 @@ go_on_bounded len q ys more (move m f y ∷ ms) =
 unfoldable pub run_bounded : ℕ → Input → ℕ → ℕ → ℕ → List Beginning → Verdict
 run_bounded zero i d len q xs = stuck q
 run_bounded (suc n) i d len q xs =
-    go_on_bounded len q (held_two_each i d q xs) (λ k ys. run_bounded n i d len k ys) (moves_of i q (held_two_each i d q xs))
+    go_on_bounded len q (held_two_each i d q xs) (λ k ys. run_bounded n i d len k ys)
+    (moves_of i q (held_two_each i d q xs))
 
 -- what the bounded run over the whole argument returns
 unfoldable pub verdict_bounded : Grammar → Ops → Forest → Verdict
-verdict_bounded g pattern argument = run_bounded (suc (flat_len argument)) (input_of g argument) (dots pattern) (flat_len argument) 0 (start pattern ∷ [])
+verdict_bounded g pattern argument = run_bounded (suc (flat_len argument)) (input_of g argument) (dots pattern)
+    (flat_len argument) 0 (start pattern ∷ [])

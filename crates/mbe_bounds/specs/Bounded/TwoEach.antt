@@ -36,14 +36,16 @@ two_each xs = sift number_of 2 [] xs
 
 -- ---- idle steps by a stack
 
--- The first of the stack is taken. Where k of its key were seen, it is dropped; else it goes out, and what comes of it goes upon the stack.
+-- The first of the stack is taken. Where k of its key were seen, it is dropped; else it goes out, and what comes of it
+-- goes upon the stack.
 -- The first number bounds the turns.
 unfoldable pub walk : {A : Type 0} → (A → List A) → (A → ℕ) → ℕ → ℕ → List ℕ → List A → List A
 walk kids key k zero seen xs = []
 walk kids key k (suc n) seen [] = []
 walk kids key k (suc n) seen (x ∷ xs) =
     cons_if (nat_lt (times (key x) seen) k) x
-    (walk kids key k n (cons_if (nat_lt (times (key x) seen) k) (key x) seen) (append_if (nat_lt (times (key x) seen) k) (kids x) xs))
+    (walk kids key k n (cons_if (nat_lt (times (key x) seen) k) (key x) seen)
+    (append_if (nat_lt (times (key x) seen) k) (kids x) xs))
 
 -- the turns that a stack of so many may take, where there are so many dots
 abbrev pub turns : ℕ → ℕ → ℕ

@@ -24,11 +24,17 @@ kept_ends i d q spots = filter_map finished_of (kept i d q spots)
 
 -- how the number changes: past an op, into one, and out of one
 pub record NumbersStep : Type 0 where
-  pub past : (o : Op) (rest : Ops) (e f : Account) (up : List Edge) → outline_number (outline (op o rest) e up) ≡ 1 + op_dots o + outline_number (outline rest f up)
+  pub past : (o : Op) (rest : Ops) (e f : Account) (up : List Edge)
+      → outline_number (outline (op o rest) e up) ≡ 1 + op_dots o + outline_number (outline rest f up)
   pub into_group : (d : Delimiter) (b rest : Ops) (e f : Account) (up : List Edge) →
-      outline_number (outline (op (Rattle.mbe_semantics.specs.Syntax.Op.Op.group d b) rest) e up) ≡ 1 + outline_number (outline b f (gate rest ∷ up))
-  pub into_repetition : (b rest : Ops) (s : Rattle.std.specs.Prelude.Option Separator) (k : RepeatKind) (p : ℕ) (e f g : Account) (up : List Edge) →
-      outline_number (outline (op (repetition b s k) rest) e up) ≡ 1 + outline_number (outline b f (edge b s k rest p g ∷ up))
-  pub out_of_group : (rest : Ops) (e f : Account) (up : List Edge) → outline_number (outline no_ops e (gate rest ∷ up)) ≡ 1 + outline_number (outline rest f up)
-  pub out_of_repetition : (b rest : Ops) (s : Rattle.std.specs.Prelude.Option Separator) (k : RepeatKind) (p : ℕ) (e f g : Account) (up : List Edge) →
+      outline_number (outline (op (Rattle.mbe_semantics.specs.Syntax.Op.Op.group d b) rest) e up)
+      ≡ 1 + outline_number (outline b f (gate rest ∷ up))
+  pub into_repetition : (b rest : Ops) (s : Rattle.std.specs.Prelude.Option Separator) (k : RepeatKind) (p : ℕ)
+      (e f g : Account) (up : List Edge) →
+      outline_number (outline (op (repetition b s k) rest) e up)
+      ≡ 1 + outline_number (outline b f (edge b s k rest p g ∷ up))
+  pub out_of_group : (rest : Ops) (e f : Account) (up : List Edge)
+      → outline_number (outline no_ops e (gate rest ∷ up)) ≡ 1 + outline_number (outline rest f up)
+  pub out_of_repetition : (b rest : Ops) (s : Rattle.std.specs.Prelude.Option Separator) (k : RepeatKind) (p : ℕ)
+      (e f g : Account) (up : List Edge) →
       outline_number (outline no_ops e (edge b s k rest p g ∷ up)) ≡ 1 + outline_number (outline rest f up)

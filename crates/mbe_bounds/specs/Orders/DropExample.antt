@@ -42,20 +42,24 @@ bound_in (Some x) = Some (bound_now (erase x))
 -- `$($($($x:ident)?);*);* end`
 abbrev pub three_ways : Ops
 three_ways =
-    op (repetition (op (repetition (op (repetition (op (variable (codes "x") (Some kinds.Ident) (at 0 0 1)) no_ops) None ZeroOrOne) no_ops) (Some semicolon) ZeroOrMore) no_ops) (Some semicolon) ZeroOrMore)
+    op (repetition (op (repetition (op (repetition (op (variable (codes "x") (Some kinds.Ident) (at 0 0 1)) no_ops) None
+    ZeroOrOne) no_ops) (Some semicolon) ZeroOrMore) no_ops) (Some semicolon) ZeroOrMore)
     (op (ident_at 9 (codes "end")) no_ops)
 
 -- `,`
 abbrev pub comma : Forest
 comma = alone_at 1 0 44 none
 
--- Three beginnings wait for `end` at the start. The last that fails is the one with no round outside; of the first two the last has one round
+-- Three beginnings wait for `end` at the start. The last that fails is the one with no round outside; of the first two
+-- the last has one round
 -- outside, and none inside. The first that fails waits for `x`.
 pub record DropExample : Type 0 where
   pub checked : Checked three_ways
   pub verdict : (g : Grammar) → verdict_turned g three_ways comma ≡ stuck 0
-  pub all : (g : Grammar) → bound_in (last_that (fails (input_of g comma) 0) (held (input_of g comma) 0 (start three_ways ∷ []))) ≡ Some ((codes "x", empty) ∷ [])
-  pub two : (g : Grammar) → bound_in (last_that (fails (input_of g comma) 0) (held_two_each (input_of g comma) (dots three_ways) 0 (start three_ways ∷ [])))
+  pub all : (g : Grammar) → bound_in (last_that (fails (input_of g comma) 0)
+      (held (input_of g comma) 0 (start three_ways ∷ []))) ≡ Some ((codes "x", empty) ∷ [])
+  pub two : (g : Grammar) → bound_in (last_that (fails (input_of g comma) 0)
+      (held_two_each (input_of g comma) (dots three_ways) 0 (start three_ways ∷ [])))
       ≡ Some ((codes "x", list (value empty no_values)) ∷ [])
 
 -- ---- where the first differs
@@ -70,9 +74,12 @@ b_separator = Some (ident_separator (ident_of (codes "b") (at 0 0 1)))
 abbrev pub many_ways : Ops
 many_ways =
     op (repetition
-    (op (repetition (op (repetition (op (name_op (codes "c")) no_ops) b_separator ZeroOrOne) no_ops) b_separator ZeroOrOne)
-    (op (repetition (op (repetition (op (name_op (codes "c")) no_ops) b_separator ZeroOrMore) no_ops) b_separator ZeroOrMore)
-    (op (repetition (op (repetition (op (name_op (codes "c")) (op (name_op (codes "b")) no_ops)) b_separator OneOrMore) no_ops) None OneOrMore) no_ops)))
+    (op (repetition (op (repetition (op (name_op (codes "c")) no_ops) b_separator ZeroOrOne) no_ops) b_separator
+    ZeroOrOne)
+    (op (repetition (op (repetition (op (name_op (codes "c")) no_ops) b_separator ZeroOrMore) no_ops) b_separator
+    ZeroOrMore)
+    (op (repetition (op (repetition (op (name_op (codes "c")) (op (name_op (codes "b")) no_ops)) b_separator OneOrMore)
+    no_ops) None OneOrMore) no_ops)))
     b_separator ZeroOrMore) no_ops
 
 -- `c`
@@ -84,14 +91,20 @@ abbrev pub waits_for : Option Beginning → Option Token
 waits_for (Some (dot (op (token t) rest) is up)) = Some t
 waits_for _ = None
 
--- At the start none fails, and more than two of one dot go on. After `c` the first that fails waits for `b`; where two of each dot are held, the first
+-- At the start none fails, and more than two of one dot go on. After `c` the first that fails waits for `b`; where two
+-- of each dot are held, the first
 -- waits for `c`. So one says "expected ident: `b`", and the other "expected ident: `c`".
 pub record DropFirst : Type 0 where
   pub checked : Checked many_ways
   pub verdict : (g : Grammar) → verdict_turned g many_ways one_c ≡ stuck 1
-  pub none_fails : (g : Grammar) → first_that (fails (input_of g one_c) 0) (held (input_of g one_c) 0 (start many_ways ∷ [])) ≡ None
-  pub all : (g : Grammar) → waits_for (first_that (fails (input_of g one_c) 1) (held (input_of g one_c) 1 (turned (input_of g one_c) 0 (held (input_of g one_c) 0 (start many_ways ∷ [])))))
+  pub none_fails : (g : Grammar) → first_that (fails (input_of g one_c) 0)
+      (held (input_of g one_c) 0 (start many_ways ∷ [])) ≡ None
+  pub all : (g : Grammar) → waits_for (first_that (fails (input_of g one_c) 1)
+      (held (input_of g one_c) 1 (turned (input_of g one_c) 0 (held (input_of g one_c) 0 (start many_ways ∷ [])))))
       ≡ Some (ident (ident_of (codes "b") (at 0 0 1)))
   pub two : (g : Grammar) →
-      waits_for (first_that (fails (input_of g one_c) 1) (held_two_each (input_of g one_c) (dots many_ways) 1 (turned (input_of g one_c) 0 (held_two_each (input_of g one_c) (dots many_ways) 0 (start many_ways ∷ [])))))
+      waits_for (first_that (fails (input_of g one_c) 1)
+      (held_two_each (input_of g one_c) (dots many_ways) 1
+      (turned (input_of g one_c) 0 (held_two_each (input_of g one_c) (dots many_ways) 0
+      (start many_ways ∷ [])))))
       ≡ Some (ident (ident_of (codes "c") (at 0 0 1)))

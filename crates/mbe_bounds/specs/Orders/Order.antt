@@ -25,7 +25,8 @@ pub record Reordered (xs ys : List Beginning) : Type 0 where
 pub data ComesAnyhow (i : Input) (pat : Ops) : ℕ → List Beginning → Type 0 where
   anyhow_start : ComesAnyhow i pat 0 (start pat ∷ [])
   anyhow_next : (q m n : ℕ) (f : Bool) (y : Beginning) (ms : List Move) (xs us : List Beginning) →
-      ComesAnyhow i pat q xs → moves_of i q (held_two_each i (dots pat) q xs) ≡ move n f y ∷ ms → clashing (move n f y ∷ ms) ≡ false → m ≡ q + n →
+      ComesAnyhow i pat q xs → moves_of i q (held_two_each i (dots pat) q xs) ≡ move n f y ∷ ms
+      → clashing (move n f y ∷ ms) ≡ false → m ≡ q + n →
       Reordered us (targets (move n f y ∷ ms)) → ComesAnyhow i pat m us
 
 -- how the list is put in order that comes to a place
@@ -40,26 +41,30 @@ Orders order = (q : ℕ) (ys : List Beginning) → Distinct story ys → Reorder
 pub data ComesIn (order : Order) (i : Input) (pat : Ops) : ℕ → List Beginning → Type 0 where
   order_start : ComesIn order i pat 0 (start pat ∷ [])
   order_next : (q m n : ℕ) (f : Bool) (y : Beginning) (ms : List Move) (xs : List Beginning) →
-      ComesIn order i pat q xs → moves_of i q (held_two_each i (dots pat) q xs) ≡ move n f y ∷ ms → clashing (move n f y ∷ ms) ≡ false → m ≡ q + n →
+      ComesIn order i pat q xs → moves_of i q (held_two_each i (dots pat) q xs) ≡ move n f y ∷ ms
+      → clashing (move n f y ∷ ms) ≡ false → m ≡ q + n →
       ComesIn order i pat m (order m (targets (move n f y ∷ ms)))
 
 -- and where all is held
 pub data ComesWhole (order : Order) (i : Input) (pat : Ops) : ℕ → List Beginning → Type 0 where
   whole_start : ComesWhole order i pat 0 (start pat ∷ [])
   whole_next : (q m n : ℕ) (f : Bool) (y : Beginning) (ms : List Move) (xs : List Beginning) →
-      ComesWhole order i pat q xs → moves_of i q (held i q xs) ≡ move n f y ∷ ms → clashing (move n f y ∷ ms) ≡ false → m ≡ q + n →
+      ComesWhole order i pat q xs → moves_of i q (held i q xs) ≡ move n f y ∷ ms → clashing (move n f y ∷ ms) ≡ false
+      → m ≡ q + n →
       ComesWhole order i pat m (order m (targets (move n f y ∷ ms)))
 
 -- the number bounds the places that are still to come
 unfoldable pub run_in : Order → ℕ → Input → ℕ → ℕ → ℕ → List Beginning → Verdict
 run_in order zero i d len q xs = stuck q
 run_in order (suc n) i d len q xs =
-    go_on_bounded len q (held_two_each i d q xs) (λ k ys. run_in order n i d len k (order k ys)) (moves_of i q (held_two_each i d q xs))
+    go_on_bounded len q (held_two_each i d q xs) (λ k ys. run_in order n i d len k (order k ys))
+    (moves_of i q (held_two_each i d q xs))
 
 -- what this run over the whole argument returns
 unfoldable pub verdict_in : Order → Grammar → Ops → Forest → Verdict
 verdict_in order g pattern argument =
-    run_in order (suc (flat_len argument)) (input_of g argument) (dots pattern) (flat_len argument) 0 (start pattern ∷ [])
+    run_in order (suc (flat_len argument)) (input_of g argument) (dots pattern) (flat_len argument) 0
+    (start pattern ∷ [])
 
 -- What waits comes back in the order in which it began to wait, and the last is looked at first.
 abbrev pub turn_round : Order
@@ -73,10 +78,12 @@ verdict_turned g pattern argument = verdict_in turn_round g pattern argument
 
 -- no three of one dot end at q
 abbrev pub AtMostTwo : Input → Ops → ℕ → Type 0
-AtMostTwo i pat q = (x y z : Beginning) → At i pat q x → At i pat q y → At i pat q z → dot_of x ≡ dot_of y → dot_of y ≡ dot_of z →
+AtMostTwo i pat q = (x y z : Beginning) → At i pat q x → At i pat q y → At i pat q z → dot_of x ≡ dot_of y
+    → dot_of y ≡ dot_of z →
     (x ≡ y → ⊥) → (y ≡ z → ⊥) → (x ≡ z → ⊥) → ⊥
 
 -- no three of one dot that pass the test
 abbrev pub AtMostTwoThat : (Beginning → Bool) → Input → Ops → ℕ → Type 0
-AtMostTwoThat p i pat q = (x y z : Beginning) → At i pat q x → At i pat q y → At i pat q z → dot_of x ≡ dot_of y → dot_of y ≡ dot_of z →
+AtMostTwoThat p i pat q = (x y z : Beginning) → At i pat q x → At i pat q y → At i pat q z → dot_of x ≡ dot_of y
+    → dot_of y ≡ dot_of z →
     (x ≡ y → ⊥) → (y ≡ z → ⊥) → (x ≡ z → ⊥) → p x ≡ true → ⊥

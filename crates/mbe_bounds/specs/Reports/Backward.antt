@@ -47,21 +47,28 @@ held_first i d q xs = walk (idle i q) number_of 1 (turns (length xs) d) [] xs
 -- one way and the other
 pub record BothWays (g : Grammar) (pattern : Ops) (argument : Forest) (q : ℕ) (xs : List Beginning) : Type 0 where
   pub forward : held_first (input_of g argument) (dots pattern) q xs ≡ firsts (held (input_of g argument) q xs)
-  pub backward : held_back (input_of g argument) (dots pattern) q (reverse xs) ≡ reverse (lasts (held (input_of g argument) q xs))
+  pub backward : held_back (input_of g argument) (dots pattern) q (reverse xs)
+      ≡ reverse (lasts (held (input_of g argument) q xs))
 
 abbrev pub BothWaysLaw : Type 0
-BothWaysLaw = (g : Grammar) (pattern : Ops) (argument : Forest) → IsLawful g → Checked pattern → (q : ℕ) (xs : List Beginning) →
+BothWaysLaw = (g : Grammar) (pattern : Ops) (argument : Forest) → IsLawful g → Checked pattern
+    → (q : ℕ) (xs : List Beginning) →
     ((x : Beginning) → In x xs → At (input_of g argument) pattern q x) → BothWays g pattern argument q xs
 
--- From place to place the two change roles: of all that is held at q it is enough to have the first of each dot in order, and the last of
+-- From place to place the two change roles: of all that is held at q it is enough to have the first of each dot in
+-- order, and the last of
 -- each with the last in front. What comes of the ones gives the others.
 pub record Swap (g : Grammar) (pattern : Ops) (argument : Forest) (q m : ℕ) (ys : List Beginning) : Type 0 where
-  pub first : held_first (input_of g argument) (dots pattern) m (targets (moves_of (input_of g argument) q (reverse (lasts ys))))
+  pub first : held_first (input_of g argument) (dots pattern) m
+      (targets (moves_of (input_of g argument) q (reverse (lasts ys))))
       ≡ firsts (held (input_of g argument) m (turned (input_of g argument) q ys))
   pub last : held_back (input_of g argument) (dots pattern) m (targets (moves_of (input_of g argument) q (firsts ys)))
       ≡ reverse (lasts (held (input_of g argument) m (turned (input_of g argument) q ys)))
 
 abbrev pub SwapLaw : Type 0
-SwapLaw = (g : Grammar) (pattern : Ops) (argument : Forest) → IsLawful g → Checked pattern → (q m : ℕ) (ys : List Beginning) →
-    ((y : Beginning) → In y ys → At (input_of g argument) pattern q y) → ((z : Beginning) → In z (targets (moves_of (input_of g argument) q ys)) → At (input_of g argument) pattern m z) →
+SwapLaw = (g : Grammar) (pattern : Ops) (argument : Forest) → IsLawful g → Checked pattern
+    → (q m : ℕ) (ys : List Beginning) →
+    ((y : Beginning) → In y ys → At (input_of g argument) pattern q y)
+    → ((z : Beginning) → In z (targets (moves_of (input_of g argument) q ys))
+    → At (input_of g argument) pattern m z) →
     Swap g pattern argument q m ys

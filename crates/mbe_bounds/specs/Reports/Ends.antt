@@ -33,25 +33,34 @@ first_that p (x ∷ xs) = first_if (p x) x (first_that p xs)
 abbrev pub last_that : (Beginning → Bool) → List Beginning → Option Beginning
 last_that p xs = first_that p (reverse xs)
 
--- what comes to the next place, where what waits there comes back in the order in which it began to wait, and the last is looked at first
+-- what comes to the next place, where what waits there comes back in the order in which it began to wait, and the last
+-- is looked at first
 abbrev pub turned : Input → ℕ → List Beginning → List Beginning
 turned i q ys = reverse (targets (moves_of i q ys))
 
--- Among beginnings of a pattern, a test that asks for the dot alone finds the same first among the first of each dot, and the same last among
+-- Among beginnings of a pattern, a test that asks for the dot alone finds the same first among the first of each dot,
+-- and the same last among
 -- the last.
 pub record EndsAreKept : Type 0 where
-  pub first : (i : Input) (pattern : Ops) (p : Beginning → Bool) (xs : List Beginning) → ((x : Beginning) → In x xs → Begins i pattern x) →
+  pub first : (i : Input) (pattern : Ops) (p : Beginning → Bool) (xs : List Beginning)
+      → ((x : Beginning) → In x xs → Begins i pattern x) →
       ((x y : Beginning) → dot_of x ≡ dot_of y → p x ≡ p y) → first_that p (firsts xs) ≡ first_that p xs
-  pub last : (i : Input) (pattern : Ops) (p : Beginning → Bool) (xs : List Beginning) → ((x : Beginning) → In x xs → Begins i pattern x) →
+  pub last : (i : Input) (pattern : Ops) (p : Beginning → Bool) (xs : List Beginning)
+      → ((x : Beginning) → In x xs → Begins i pattern x) →
       ((x y : Beginning) → dot_of x ≡ dot_of y → p x ≡ p y) → last_that p (lasts xs) ≡ last_that p xs
 
 -- The first at the next place come from the last here, and the last there from the first here.
 pub record EndsGoOn (g : Grammar) (pattern : Ops) (argument : Forest) (q m : ℕ) (ys : List Beginning) : Type 0 where
-  pub first : firsts (held (input_of g argument) m (turned (input_of g argument) q (lasts ys))) ≡ firsts (held (input_of g argument) m (turned (input_of g argument) q ys))
-  pub last : lasts (held (input_of g argument) m (turned (input_of g argument) q (firsts ys))) ≡ lasts (held (input_of g argument) m (turned (input_of g argument) q ys))
+  pub first : firsts (held (input_of g argument) m (turned (input_of g argument) q (lasts ys)))
+      ≡ firsts (held (input_of g argument) m (turned (input_of g argument) q ys))
+  pub last : lasts (held (input_of g argument) m (turned (input_of g argument) q (firsts ys)))
+      ≡ lasts (held (input_of g argument) m (turned (input_of g argument) q ys))
 
 -- for beginnings that end here, and go on to m
 abbrev pub EndsLaw : Type 0
-EndsLaw = (g : Grammar) (pattern : Ops) (argument : Forest) → IsLawful g → Checked pattern → (q m : ℕ) (ys : List Beginning) →
-    ((y : Beginning) → In y ys → At (input_of g argument) pattern q y) → ((z : Beginning) → In z (targets (moves_of (input_of g argument) q ys)) → At (input_of g argument) pattern m z) →
+EndsLaw = (g : Grammar) (pattern : Ops) (argument : Forest) → IsLawful g → Checked pattern
+    → (q m : ℕ) (ys : List Beginning) →
+    ((y : Beginning) → In y ys → At (input_of g argument) pattern q y)
+    → ((z : Beginning) → In z (targets (moves_of (input_of g argument) q ys))
+    → At (input_of g argument) pattern m z) →
     EndsGoOn g pattern argument q m ys

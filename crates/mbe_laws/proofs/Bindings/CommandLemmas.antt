@@ -43,11 +43,13 @@ at_name : (env : Environment) (a : Name) (v : Value) → value_of (set_value env
 at_name [] a v = if_true (bytes_eq a a) (Some v) None (equal a)
 at_name (e ∷ env) a v = go (bytes_eq e.0 a) refl (at_name env a v)
   where
-    go : (b : Bool) → bytes_eq e.0 a ≡ b → value_of (set_value env a v) a ≡ Some v → value_of (if b then (a, v) ∷ env else e ∷ set_value env a v) a ≡ Some v
+    go : (b : Bool) → bytes_eq e.0 a ≡ b → value_of (set_value env a v) a ≡ Some v
+        → value_of (if b then (a, v) ∷ env else e ∷ set_value env a v) a ≡ Some v
     go true h k = if_true (bytes_eq a a) (Some v) (value_of env a) (equal a)
     go false h k = if_false (bytes_eq e.0 a) (Some e.1) (value_of (set_value env a v) a) h ∙ k
 
-at_other : (env : Environment) (a b : Name) (v : Value) → bytes_eq a b ≡ false → value_of (set_value env a v) b ≡ value_of env b
+at_other : (env : Environment) (a b : Name) (v : Value) → bytes_eq a b ≡ false
+    → value_of (set_value env a v) b ≡ value_of env b
 at_other [] a b v h = if_false (bytes_eq a b) (Some v) None h
 at_other (e ∷ env) a b v h = go (bytes_eq e.0 a) refl (at_other env a b v h)
   where
@@ -55,7 +57,8 @@ at_other (e ∷ env) a b v h = go (bytes_eq e.0 a) refl (at_other env a b v h)
         value_of (if t then (a, v) ∷ env else e ∷ set_value env a v) b ≡ value_of (e ∷ env) b
     go true p k =
         if_false (bytes_eq a b) (Some v) (value_of env b) h
-        ∙ sym (if_false (bytes_eq e.0 b) (Some e.1) (value_of env b) (ap (λ x. bytes_eq x b) ((bytes_eq-Decides e.0 a).0 p) ∙ h))
+        ∙ sym (if_false (bytes_eq e.0 b) (Some e.1) (value_of env b)
+        (ap (λ x. bytes_eq x b) ((bytes_eq-Decides e.0 a).0 p) ∙ h))
     go false p k = ap (λ x. if bytes_eq e.0 b then Some e.1 else x) k
 
 -- ---- lists that are long enough for round k
@@ -83,7 +86,8 @@ no_fill zero vs h = refl
 no_fill (suc k) no_values h = absurd (omega (arith, h))
 no_fill (suc k) (value v vs) h = ap (value v) (no_fill k vs (omega (arith, h)))
 
-same_grown : (k : ℕ) (env : Environment) (a : Name) (v : Value) (o : Option Value) → Ready k o → grown_in k env a v o ≡ grown env a v o
+same_grown : (k : ℕ) (env : Environment) (a : Name) (v : Value) (o : Option Value) → Ready k o
+    → grown_in k env a v o ≡ grown env a v o
 same_grown k env a v None h = ap (λ j. set_value env a (list (add_value (filled j no_values) v))) h
 same_grown k env a v (Some (fragment x)) h = refl
 same_grown k env a v (Some (list vs)) h = ap (λ ws. set_value env a (list (add_value ws v))) (no_fill k vs h)
@@ -91,7 +95,8 @@ same_grown k env a v (Some empty) h = refl
 same_grown k env a v (Some (missing kind)) h = refl
 
 -- the grown name itself is ready for one round more
-grown_at : (k : ℕ) (env : Environment) (a : Name) (v : Value) (o : Option Value) → value_of env a ≡ o → Ready k o → Ready (suc k) (value_of (grown env a v o) a)
+grown_at : (k : ℕ) (env : Environment) (a : Name) (v : Value) (o : Option Value) → value_of env a ≡ o → Ready k o
+    → Ready (suc k) (value_of (grown env a v o) a)
 grown_at k env a v None e h = subst (Ready (suc k)) (sym (at_name env a (list (value v no_values)))) (omega (arith, h))
 grown_at k env a v (Some (fragment x)) e h = subst (Ready (suc k)) (sym e) tt
 grown_at k env a v (Some (list vs)) e h =
@@ -106,7 +111,8 @@ less_ready k (Some (list vs)) h = omega (arith, h)
 less_ready k (Some empty) h = tt
 less_ready k (Some (missing kind)) h = tt
 
-grown_other : (env : Environment) (a b : Name) (v : Value) (o : Option Value) → bytes_eq a b ≡ false → value_of (grown env a v o) b ≡ value_of env b
+grown_other : (env : Environment) (a b : Name) (v : Value) (o : Option Value) → bytes_eq a b ≡ false
+    → value_of (grown env a v o) b ≡ value_of env b
 grown_other env a b v None h = at_other env a b (list (value v no_values)) h
 grown_other env a b v (Some (fragment x)) h = refl
 grown_other env a b v (Some (list vs)) h = at_other env a b (list (add_value vs v)) h
@@ -114,7 +120,8 @@ grown_other env a b v (Some empty) h = refl
 grown_other env a b v (Some (missing kind)) h = refl
 
 -- a name that is ready stays so
-grown_ready : (k : ℕ) (env : Environment) (a b : Name) (v : Value) → Ready k (value_of env b) → Ready k (value_of (grown env a v (value_of env a)) b)
+grown_ready : (k : ℕ) (env : Environment) (a b : Name) (v : Value) → Ready k (value_of env b)
+    → Ready k (value_of (grown env a v (value_of env a)) b)
 grown_ready k env a b v h = go (same_or_not a b)
   where
     go : (a ≡ b) ⊎ (bytes_eq a b ≡ false) → Ready k (value_of (grown env a v (value_of env a)) b)
@@ -122,7 +129,8 @@ grown_ready k env a b v h = go (same_or_not a b)
         (grown_at k env a v (value_of env a) refl (subst (λ x. Ready k (value_of env x)) (sym e) h)))
     go (inr n) = subst (Ready k) (sym (grown_other env a b v (value_of env a) n)) h
 
-round_ready : (k : ℕ) (m env : Environment) (b : Name) → Ready k (value_of env b) → Ready k (value_of (add_round m env) b)
+round_ready : (k : ℕ) (m env : Environment) (b : Name) → Ready k (value_of env b)
+    → Ready k (value_of (add_round m env) b)
 round_ready k [] env b h = h
 round_ready k (e ∷ m) env b h = round_ready k m (grown env e.0 e.1 (value_of env e.0)) b (grown_ready k env e.0 b e.1 h)
 
@@ -130,7 +138,8 @@ abbrev AllReady : ℕ → Environment → Environment → Type 0
 AllReady k env [] = Unit {0}
 AllReady k env (e ∷ m) = Ready k (value_of env e.0) × AllReady k env m
 
-all_grown : (k : ℕ) (env : Environment) (a : Name) (v : Value) (m : Environment) → AllReady k env m → AllReady k (grown env a v (value_of env a)) m
+all_grown : (k : ℕ) (env : Environment) (a : Name) (v : Value) (m : Environment) → AllReady k env m
+    → AllReady k (grown env a v (value_of env a)) m
 all_grown k env a v [] h = tt
 all_grown k env a v (e ∷ m) h = (grown_ready k env a e.0 v h.0, all_grown k env a v m h.1)
 
@@ -153,14 +162,16 @@ set_bound env a n v h = go (same_or_not a n)
     go (inl e) = (v, ap (value_of (set_value env a v)) (sym e) ∙ at_name env a v)
     go (inr d) = (h.0, at_other env a n v d ∙ h.1)
 
-grown_bound : (env : Environment) (a n : Name) (v : Value) (o : Option Value) → IsBound env n → IsBound (grown env a v o) n
+grown_bound : (env : Environment) (a n : Name) (v : Value) (o : Option Value) → IsBound env n
+    → IsBound (grown env a v o) n
 grown_bound env a n v None h = set_bound env a n (list (value v no_values)) h
 grown_bound env a n v (Some (fragment x)) h = h
 grown_bound env a n v (Some (list vs)) h = set_bound env a n (list (add_value vs v)) h
 grown_bound env a n v (Some empty) h = h
 grown_bound env a n v (Some (missing kind)) h = h
 
-grown_itself : (env : Environment) (a : Name) (v : Value) (o : Option Value) → value_of env a ≡ o → IsBound (grown env a v o) a
+grown_itself : (env : Environment) (a : Name) (v : Value) (o : Option Value) → value_of env a ≡ o
+    → IsBound (grown env a v o) a
 unfolding IsBound
 grown_itself env a v None e = (list (value v no_values), at_name env a (list (value v no_values)))
 grown_itself env a v (Some (fragment x)) e = (fragment x, e)
@@ -170,7 +181,8 @@ grown_itself env a v (Some (missing kind)) e = (missing kind, e)
 
 keep_bound : (m env : Environment) (n : Name) → IsBound env n → IsBound (add_round m env) n
 keep_bound [] env n h = h
-keep_bound (e ∷ m) env n h = keep_bound m (grown env e.0 e.1 (value_of env e.0)) n (grown_bound env e.0 n e.1 (value_of env e.0) h)
+keep_bound (e ∷ m) env n h = keep_bound m (grown env e.0 e.1 (value_of env e.0)) n
+    (grown_bound env e.0 n e.1 (value_of env e.0) h)
 
 tail_bound : (e : Name × Value) (m : Environment) (n : Name) → bytes_eq e.0 n ≡ false → IsBound (e ∷ m) n → IsBound m n
 unfolding IsBound
@@ -179,25 +191,30 @@ tail_bound e m n d h = (h.0, sym (if_false (bytes_eq e.0 n) (Some e.1) (value_of
 round_bound : (m env : Environment) (n : Name) → IsBound m n → IsBound (add_round m env) n
 unfolding IsBound
 round_bound [] env n h = absurd (none-some h.0 h.1)
-round_bound (e ∷ m) env n h = go (λ d. round_bound m (grown env e.0 e.1 (value_of env e.0)) n (tail_bound e m n d h)) (same_or_not e.0 n)
+round_bound (e ∷ m) env n h = go (λ d. round_bound m (grown env e.0 e.1 (value_of env e.0)) n (tail_bound e m n d h))
+    (same_or_not e.0 n)
   where
-    go : (bytes_eq e.0 n ≡ false → IsBound (add_round m (grown env e.0 e.1 (value_of env e.0))) n) → (e.0 ≡ n) ⊎ (bytes_eq e.0 n ≡ false) →
+    go : (bytes_eq e.0 n ≡ false → IsBound (add_round m (grown env e.0 e.1 (value_of env e.0))) n)
+        → (e.0 ≡ n) ⊎ (bytes_eq e.0 n ≡ false) →
         IsBound (add_round m (grown env e.0 e.1 (value_of env e.0))) n
     go f (inl q) = keep_bound m (grown env e.0 e.1 (value_of env e.0)) n
         (subst (IsBound (grown env e.0 e.1 (value_of env e.0))) q (grown_itself env e.0 e.1 (value_of env e.0) refl))
     go f (inr d) = f d
 
 -- a name that the round binds is ready for one round more
-next_ready : (k : ℕ) (m env : Environment) (n : Name) → IsBound m n → Ready k (value_of env n) → Ready (suc k) (value_of (add_round m env) n)
+next_ready : (k : ℕ) (m env : Environment) (n : Name) → IsBound m n → Ready k (value_of env n)
+    → Ready (suc k) (value_of (add_round m env) n)
 unfolding IsBound
 next_ready k [] env n b h = absurd (none-some b.0 b.1)
 next_ready k (e ∷ m) env n b h =
-    go (λ d. next_ready k m (grown env e.0 e.1 (value_of env e.0)) n (tail_bound e m n d b) (grown_ready k env e.0 n e.1 h)) (same_or_not e.0 n)
+    go (λ d. next_ready k m (grown env e.0 e.1 (value_of env e.0)) n (tail_bound e m n d b)
+    (grown_ready k env e.0 n e.1 h)) (same_or_not e.0 n)
   where
     after : Environment
     after = grown env e.0 e.1 (value_of env e.0)
 
-    go : (bytes_eq e.0 n ≡ false → Ready (suc k) (value_of (add_round m (grown env e.0 e.1 (value_of env e.0))) n)) → (e.0 ≡ n) ⊎ (bytes_eq e.0 n ≡ false) →
+    go : (bytes_eq e.0 n ≡ false → Ready (suc k) (value_of (add_round m (grown env e.0 e.1 (value_of env e.0))) n))
+        → (e.0 ≡ n) ⊎ (bytes_eq e.0 n ≡ false) →
         Ready (suc k) (value_of (add_round m (grown env e.0 e.1 (value_of env e.0))) n)
     go f (inl q) = round_ready (suc k) m (grown env e.0 e.1 (value_of env e.0)) n
         (subst (λ x. Ready (suc k) (value_of (grown env e.0 e.1 (value_of env e.0)) x)) q
@@ -264,40 +281,50 @@ abbrev KeysIn : List Name → Environment → Type 0
 KeysIn names [] = Unit {0}
 KeysIn names (e ∷ env) = In e.0 names × KeysIn names env
 
-set_keys : (names : List Name) (env : Environment) (a : Name) (v : Value) → In a names → KeysIn names env → KeysIn names (set_value env a v)
+set_keys : (names : List Name) (env : Environment) (a : Name) (v : Value) → In a names → KeysIn names env
+    → KeysIn names (set_value env a v)
 set_keys names [] a v h k = (h, tt)
 set_keys names (e ∷ env) a v h k = go (bytes_eq e.0 a) (set_keys names env a v h k.1)
   where
-    go : (b : Bool) → KeysIn names (set_value env a v) → KeysIn names (if b then (a, v) ∷ env else e ∷ set_value env a v)
+    go : (b : Bool) → KeysIn names (set_value env a v)
+        → KeysIn names (if b then (a, v) ∷ env else e ∷ set_value env a v)
     go true m = (h, k.1)
     go false m = (k.0, m)
 
-grown_keys : (names : List Name) (env : Environment) (a : Name) (v : Value) (o : Option Value) → In a names → KeysIn names env → KeysIn names (grown env a v o)
+grown_keys : (names : List Name) (env : Environment) (a : Name) (v : Value) (o : Option Value) → In a names
+    → KeysIn names env → KeysIn names (grown env a v o)
 grown_keys names env a v None h k = set_keys names env a (list (value v no_values)) h k
 grown_keys names env a v (Some (fragment x)) h k = k
 grown_keys names env a v (Some (list vs)) h k = set_keys names env a (list (add_value vs v)) h k
 grown_keys names env a v (Some empty) h k = k
 grown_keys names env a v (Some (missing kind)) h k = k
 
-round_keys : (names : List Name) (m env : Environment) → KeysIn names m → KeysIn names env → KeysIn names (add_round m env)
+round_keys : (names : List Name) (m env : Environment) → KeysIn names m → KeysIn names env
+    → KeysIn names (add_round m env)
 round_keys names [] env h k = k
 round_keys names (e ∷ m) env h k =
-    round_keys names m (grown env e.0 e.1 (value_of env e.0)) h.1 (grown_keys names env e.0 e.1 (value_of env e.0) h.0 k)
+    round_keys names m (grown env e.0 e.1 (value_of env e.0)) h.1
+    (grown_keys names env e.0 e.1 (value_of env e.0) h.0 k)
 
-skip_keys : (names more : List Name) (env : Environment) → ((n : Name) → In n more → In n names) → KeysIn names env → KeysIn names (skip_names more env)
+skip_keys : (names more : List Name) (env : Environment) → ((n : Name) → In n more → In n names) → KeysIn names env
+    → KeysIn names (skip_names more env)
 skip_keys names [] env h k = k
-skip_keys names (a ∷ more) env h k = skip_keys names more (set_value env a empty) (λ n m. h n (inr m)) (set_keys names env a empty (h a (inl refl)) k)
+skip_keys names (a ∷ more) env h k = skip_keys names more (set_value env a empty) (λ n m. h n (inr m))
+    (set_keys names env a empty (h a (inl refl)) k)
 
 module _ (i : Input) where
   -- ---- each name of the ops is bound, and no other
 
   -- the names of the ops that are left are names of the ops
-  later_names : (is : Items) (os : Ops) (p : ℕ) (rest : Ops) (n : Name) → ReadsFirst is i os p rest → In n (names_of rest) → In n (names_of os)
+  later_names : (is : Items) (os : Ops) (p : ℕ) (rest : Ops) (n : Name) → ReadsFirst is i os p rest
+      → In n (names_of rest) → In n (names_of os)
   later_names no_items os p rest n r h = subst (λ x. In n (names_of x)) (sym r) h
-  later_names (item is x) os p rest n (o, r, s) h = later_names is os p (op o rest) n r (in_right n (names_of_op o) (names_of rest) h)
+  later_names (item is x) os p rest n (o, r, s) h =
+      later_names is os p (op o rest) n r (in_right n (names_of_op o) (names_of rest) h)
 
   mutual
-    item_binds : (x : Item) (o : Op) (p : ℕ) (env : Environment) (n : Name) → Reads x i o p → In n (names_of_op o) → IsBound (bind_item x env) n
+    item_binds : (x : Item) (o : Op) (p : ℕ) (env : Environment) (n : Name) → Reads x i o p → In n (names_of_op o)
+        → IsBound (bind_item x env) n
     item_binds (matched w) (token t) p env n r h = absurd h
     item_binds (matched w) (group d body) p env n r h = absurd r
     item_binds (matched w) (variable m kind span) p env n r h = absurd r
@@ -327,26 +354,33 @@ module _ (i : Input) where
     item_binds (rounds rs last) (variable m kind span) p env n r h = absurd r
     item_binds (rounds rs last) (expression e) p env n r h = absurd r
 
-    items_bind : (is : Items) (os : Ops) (p : ℕ) (rest : Ops) (env : Environment) (n : Name) → ReadsFirst is i os p rest → In n (names_of os) →
+    items_bind : (is : Items) (os : Ops) (p : ℕ) (rest : Ops) (env : Environment) (n : Name) → ReadsFirst is i os p rest
+        → In n (names_of os) →
         IsBound (bind is env) n ⊎ In n (names_of rest)
     items_bind no_items os p rest env n r h = inr (subst (λ x. In n (names_of x)) r h)
     items_bind (item is x) os p rest env n (o, r, s) h =
-        one_more (item_keeps x (bind is env) n) (λ m. item_binds x o _ (bind is env) n s m) (items_bind is os p (op o rest) env n r h)
+        one_more (item_keeps x (bind is env) n) (λ m. item_binds x o _ (bind is env) n s m)
+        (items_bind is os p (op o rest) env n r h)
       where
-        one_more : (IsBound (bind is env) n → IsBound (bind_item x (bind is env)) n) → (In n (names_of_op o) → IsBound (bind_item x (bind is env)) n) →
-            IsBound (bind is env) n ⊎ In n (names_of_op o ++ names_of rest) → IsBound (bind_item x (bind is env)) n ⊎ In n (names_of rest)
+        one_more : (IsBound (bind is env) n → IsBound (bind_item x (bind is env)) n)
+            → (In n (names_of_op o) → IsBound (bind_item x (bind is env)) n) →
+            IsBound (bind is env) n ⊎ In n (names_of_op o ++ names_of rest)
+            → IsBound (bind_item x (bind is env)) n ⊎ In n (names_of rest)
         one_more f g (inl b) = inl (f b)
         one_more f g (inr m) = by_side (in_either n (names_of_op o) (names_of rest) m)
           where
-            by_side : In n (names_of_op o) ⊎ In n (names_of rest) → IsBound (bind_item x (bind is env)) n ⊎ In n (names_of rest)
+            by_side : In n (names_of_op o) ⊎ In n (names_of rest)
+                → IsBound (bind_item x (bind is env)) n ⊎ In n (names_of rest)
             by_side (inl a) = inl (g a)
             by_side (inr a) = inr a
 
   mutual
-    item_keys : (x : Item) (o : Op) (p : ℕ) (env : Environment) (names : List Name) → Reads x i o p → ((n : Name) → In n (names_of_op o) → In n names) →
+    item_keys : (x : Item) (o : Op) (p : ℕ) (env : Environment) (names : List Name) → Reads x i o p
+        → ((n : Name) → In n (names_of_op o) → In n names) →
         KeysIn names env → KeysIn names (bind_item x env)
     item_keys (matched w) o p env names r h k = k
-    item_keys (bound name x) (variable m kind span) p env names r h k = set_keys names env name (fragment x) (h name (inl r.0)) k
+    item_keys (bound name x) (variable m kind span) p env names r h k =
+        set_keys names env name (fragment x) (h name (inl r.0)) k
     item_keys (bound name x) (token t) p env names r h k = absurd r
     item_keys (bound name x) (group d body) p env names r h k = absurd r
     item_keys (bound name x) (repetition body s e) p env names r h k = absurd r
@@ -356,53 +390,64 @@ module _ (i : Input) where
     item_keys (grouped is) (variable m kind span) p env names r h k = absurd r
     item_keys (grouped is) (repetition body s e) p env names r h k = absurd r
     item_keys (grouped is) (expression e) p env names r h k = absurd r
-    item_keys (skipped more) (repetition body s e) p env names r h k = skip_keys names more env (λ n m. h n (subst (In n) r.1 m)) k
+    item_keys (skipped more) (repetition body s e) p env names r h k =
+        skip_keys names more env (λ n m. h n (subst (In n) r.1 m)) k
     item_keys (skipped more) (token t) p env names r h k = absurd r
     item_keys (skipped more) (group d body) p env names r h k = absurd r
     item_keys (skipped more) (variable m kind span) p env names r h k = absurd r
     item_keys (skipped more) (expression e) p env names r h k = absurd r
     item_keys (rounds rs last) (repetition body s e) p env names r h k =
-        round_keys names (bind last []) (bind_rounds rs env) (items_keys last body _ no_ops [] names r.1 h tt) (rounds_keys rs body s e p env names r.0 h k)
+        round_keys names (bind last []) (bind_rounds rs env) (items_keys last body _ no_ops [] names r.1 h tt)
+        (rounds_keys rs body s e p env names r.0 h k)
     item_keys (rounds rs last) (token t) p env names r h k = absurd r
     item_keys (rounds rs last) (group d body) p env names r h k = absurd r
     item_keys (rounds rs last) (variable m kind span) p env names r h k = absurd r
     item_keys (rounds rs last) (expression e) p env names r h k = absurd r
 
-    items_keys : (is : Items) (os : Ops) (p : ℕ) (rest : Ops) (env : Environment) (names : List Name) → ReadsFirst is i os p rest →
+    items_keys : (is : Items) (os : Ops) (p : ℕ) (rest : Ops) (env : Environment) (names : List Name)
+        → ReadsFirst is i os p rest →
         ((n : Name) → In n (names_of os) → In n names) → KeysIn names env → KeysIn names (bind is env)
     items_keys no_items os p rest env names r h k = k
     items_keys (item is x) os p rest env names (o, r, s) h k =
-        item_keys x o _ (bind is env) names s (λ n m. h n (later_names is os p (op o rest) n r (in_left n (names_of_op o) (names_of rest) m)))
+        item_keys x o _ (bind is env) names s
+        (λ n m. h n (later_names is os p (op o rest) n r (in_left n (names_of_op o) (names_of rest) m)))
         (items_keys is os p (op o rest) env names r h k)
 
-    rounds_keys : (rs : Rounds) (body : Ops) (s : Option Separator) (e : RepeatKind) (p : ℕ) (env : Environment) (names : List Name) → ReadsRounds rs i body s e p →
+    rounds_keys : (rs : Rounds) (body : Ops) (s : Option Separator) (e : RepeatKind) (p : ℕ) (env : Environment)
+        (names : List Name) → ReadsRounds rs i body s e p →
         ((n : Name) → In n (names_of body) → In n names) → KeysIn names env → KeysIn names (bind_rounds rs env)
     rounds_keys no_rounds body s e p env names r h k = k
     rounds_keys (round rs is w) body s e p env names (a, r, q, b) h k =
-        round_keys names (bind is []) (bind_rounds rs env) (items_keys is body _ no_ops [] names q h tt) (rounds_keys rs body s e p env names r h k)
+        round_keys names (bind is []) (bind_rounds rs env) (items_keys is body _ no_ops [] names q h tt)
+        (rounds_keys rs body s e p env names r h k)
 
   -- ---- the commands of a reading
 
-  all_ready : (k : ℕ) (env m : Environment) (names : List Name) → ((n : Name) → In n names → Ready k (value_of env n)) → KeysIn names m → AllReady k env m
+  all_ready : (k : ℕ) (env m : Environment) (names : List Name) → ((n : Name) → In n names → Ready k (value_of env n))
+      → KeysIn names m → AllReady k env m
   all_ready k env [] names h q = tt
   all_ready k env (e ∷ m) names h q = (h e.0 q.0, all_ready k env m names h q.1)
 
   body_keys : (is : Items) (body : Ops) (p : ℕ) → ReadsFirst is i body p no_ops → KeysIn (names_of body) (bind is [])
   body_keys is body p r = items_keys is body p no_ops [] (names_of body) r (λ n h. h) tt
 
-  rounds_ready : (rs : Rounds) (body : Ops) (s : Option Separator) (e : RepeatKind) (p : ℕ) (env : Environment) (n : Name) → ReadsRounds rs i body s e p →
+  rounds_ready : (rs : Rounds) (body : Ops) (s : Option Separator) (e : RepeatKind) (p : ℕ) (env : Environment)
+      (n : Name) → ReadsRounds rs i body s e p →
       In n (names_of body) → Ready (round_count (rounds_of_items rs)) (value_of (bind_rounds rs env) n)
   rounds_ready no_rounds body s e p env n r h = ready_first (value_of env n)
   rounds_ready (round rs is w) body s e p env n (a, r, q, b) h =
-      next_ready (round_count (rounds_of_items rs)) (bind is []) (bind_rounds rs env) n (none_left n (items_bind is body _ no_ops [] n q h))
+      next_ready (round_count (rounds_of_items rs)) (bind is []) (bind_rounds rs env) n
+      (none_left n (items_bind is body _ no_ops [] n q h))
       (rounds_ready rs body s e p env n r h)
 
-  skips : (names : List Name) (cs : Commands) (env : Environment) → run (skip_commands names cs) env ≡ skip_names names (run cs env)
+  skips : (names : List Name) (cs : Commands) (env : Environment)
+      → run (skip_commands names cs) env ≡ skip_names names (run cs env)
   skips [] cs env = refl
   skips (n ∷ names) cs env = skips names (command cs (Command.skips n)) env
 
   mutual
-    item_runs : (x : Item) (o : Op) (p : ℕ) (cs : Commands) (env : Environment) → Reads x i o p → run (write_item x cs) env ≡ bind_item x (run cs env)
+    item_runs : (x : Item) (o : Op) (p : ℕ) (cs : Commands) (env : Environment) → Reads x i o p
+        → run (write_item x cs) env ≡ bind_item x (run cs env)
     item_runs (matched w) o p cs env r = refl
     item_runs (bound name x) o p cs env r = refl
     item_runs (grouped is) (group d body) p cs env r = items_run is body (suc p) no_ops cs env r.1
@@ -412,8 +457,10 @@ module _ (i : Input) where
     item_runs (grouped is) (expression e) p cs env r = absurd r
     item_runs (skipped names) o p cs env r = skips names cs env
     item_runs (rounds rs last) (repetition body s k) p cs env r =
-        ap (λ m. add_round_in (round_count (rounds_of_items rs)) m (run_rounds (rounds_of_items rs) (run cs env))) (items_run last body _ no_ops no_commands [] r.1)
-        ∙ ap (add_round_in (round_count (rounds_of_items rs)) (bind last [])) (rounds_run rs body s k p (run cs env) r.0)
+        ap (λ m. add_round_in (round_count (rounds_of_items rs)) m (run_rounds (rounds_of_items rs) (run cs env)))
+        (items_run last body _ no_ops no_commands [] r.1)
+        ∙ ap (add_round_in (round_count (rounds_of_items rs)) (bind last []))
+        (rounds_run rs body s k p (run cs env) r.0)
         ∙ same_round (round_count (rounds_of_items rs)) (bind last []) (bind_rounds rs (run cs env))
         (all_ready (round_count (rounds_of_items rs)) (bind_rounds rs (run cs env)) (bind last []) (names_of body)
         (λ n h. rounds_ready rs body s k p (run cs env) n r.0 h) (body_keys last body _ r.1))
@@ -422,15 +469,19 @@ module _ (i : Input) where
     item_runs (rounds rs last) (variable m kind span) p cs env r = absurd r
     item_runs (rounds rs last) (expression e) p cs env r = absurd r
 
-    items_run : (is : Items) (os : Ops) (p : ℕ) (rest : Ops) (cs : Commands) (env : Environment) → ReadsFirst is i os p rest → run (write is cs) env ≡ bind is (run cs env)
+    items_run : (is : Items) (os : Ops) (p : ℕ) (rest : Ops) (cs : Commands) (env : Environment)
+        → ReadsFirst is i os p rest → run (write is cs) env ≡ bind is (run cs env)
     items_run no_items os p rest cs env r = refl
-    items_run (item is x) os p rest cs env (o, r, s) = item_runs x o _ (write is cs) env s ∙ ap (bind_item x) (items_run is os p (op o rest) cs env r)
+    items_run (item is x) os p rest cs env (o, r, s) =
+        item_runs x o _ (write is cs) env s ∙ ap (bind_item x) (items_run is os p (op o rest) cs env r)
 
-    rounds_run : (rs : Rounds) (body : Ops) (s : Option Separator) (k : RepeatKind) (p : ℕ) (env : Environment) → ReadsRounds rs i body s k p →
+    rounds_run : (rs : Rounds) (body : Ops) (s : Option Separator) (k : RepeatKind) (p : ℕ) (env : Environment)
+        → ReadsRounds rs i body s k p →
         run_rounds (rounds_of_items rs) env ≡ bind_rounds rs env
     rounds_run no_rounds body s k p env r = refl
     rounds_run (round rs is w) body s k p env (a, r, q, b) =
-        ap (λ m. add_round_in (round_count (rounds_of_items rs)) m (run_rounds (rounds_of_items rs) env)) (items_run is body _ no_ops no_commands [] q)
+        ap (λ m. add_round_in (round_count (rounds_of_items rs)) m (run_rounds (rounds_of_items rs) env))
+        (items_run is body _ no_ops no_commands [] q)
         ∙ ap (add_round_in (round_count (rounds_of_items rs)) (bind is [])) (rounds_run rs body s k p env r)
         ∙ same_round (round_count (rounds_of_items rs)) (bind is []) (bind_rounds rs env)
         (all_ready (round_count (rounds_of_items rs)) (bind_rounds rs env) (bind is []) (names_of body)

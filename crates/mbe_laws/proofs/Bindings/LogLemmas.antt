@@ -22,33 +22,43 @@ module _ (log : Log) (order : Order) where
   ready_list n zero number [] b h = tt
   ready_list n zero number (e ∷ es) b h = tt
   ready_list n (suc m) number [] b h = tt
-  ready_list n (suc m) number (e ∷ es) b h =
-      ((number 0, b 0 (omega arith), h 0 e refl), ready_list n m (λ j. number (suc j)) es (λ j k. b (suc j) (omega (arith, k))) (λ j x k. h (suc j) x k))
+  ready_list n (suc m) number (e ∷ es) b h = (
+    (number 0, b 0 (omega arith), h 0 e refl),
+    ready_list n m (λ j. number (suc j)) es (λ j k. b (suc j) (omega (arith, k))) (λ j x k. h (suc j) x k),
+  )
 
   ready_rounds : (n m : ℕ) (number : ℕ → ℕ) (es : List RoundEntry) → ((j : ℕ) → j < m → number j < n)
-      → ((j : ℕ) (e : RoundEntry) → slice_get es j ≡ Some e → RoundStandsForLower log order (number j) e) → AreRoundsReady n (take m es)
+      → ((j : ℕ) (e : RoundEntry) → slice_get es j ≡ Some e → RoundStandsForLower log order (number j) e)
+      → AreRoundsReady n (take m es)
   ready_rounds n zero number [] b h = tt
   ready_rounds n zero number (e ∷ es) b h = tt
   ready_rounds n (suc m) number [] b h = tt
-  ready_rounds n (suc m) number (e ∷ es) b h =
-      ((number 0, b 0 (omega arith), h 0 e refl), ready_rounds n m (λ j. number (suc j)) es (λ j k. b (suc j) (omega (arith, k))) (λ j x k. h (suc j) x k))
+  ready_rounds n (suc m) number (e ∷ es) b h = (
+    (number 0, b 0 (omega arith), h 0 e refl),
+    ready_rounds n m (λ j. number (suc j)) es (λ j k. b (suc j) (omega (arith, k))) (λ j x k. h (suc j) x k),
+  )
 
   -- lists of entries with numbers below n give something
   abbrev ListsGive : ℕ → Type 0
   ListsGive n = (es : List Entry) → AreReady n es → (cs : Commands) → (all : Commands) × Gives log cs es all
 
   abbrev RoundsGive : ℕ → Type 0
-  RoundsGive n = (es : List RoundEntry) → AreRoundsReady n es → (rs : CommandRounds) → (all : CommandRounds) × GivesRounds log rs es all
+  RoundsGive n = (es : List RoundEntry) → AreRoundsReady n es → (rs : CommandRounds)
+      → (all : CommandRounds) × GivesRounds log rs es all
 
-  part_some : IsOrdered log order → (n k : ℕ) (part : Part) → k ≤ n → ListsGive n → IsBelow log order k part → (cs : Commands) → (all : Commands) × PartGives log cs part all
+  part_some : IsOrdered log order → (n k : ℕ) (part : Part) → k ≤ n → ListsGive n → IsBelow log order k part
+      → (cs : Commands) → (all : Commands) × PartGives log cs part all
   part_some o n k part h give b cs =
-      let p = give (take part.first b.0.0) (ready_list n part.first (order.commands part.list) b.0.0 (λ j l. let a = b.1 j l in omega (arith, h, a)) (λ j e x. o.commands part.list j b.0.0 e b.0.1 x)) cs in
+      let p = give (take part.first b.0.0) (ready_list n part.first (order.commands part.list) b.0.0
+      (λ j l. let a = b.1 j l in omega (arith, h, a)) (λ j e x. o.commands part.list j b.0.0 e b.0.1 x)) cs in
       (p.0, part_gives cs part p.0 b.0.0 b.0.1 b.0.2 p.1)
 
-  rounds_part_some : IsOrdered log order → (n k : ℕ) (part : Part) → k ≤ n → RoundsGive n → AreRoundsBelow log order k part → (rs : CommandRounds) →
+  rounds_part_some : IsOrdered log order → (n k : ℕ) (part : Part) → k ≤ n → RoundsGive n
+      → AreRoundsBelow log order k part → (rs : CommandRounds) →
       (all : CommandRounds) × PartGivesRounds log rs part all
   rounds_part_some o n k part h give b rs =
-      let p = give (take part.first b.0.0) (ready_rounds n part.first (order.rounds part.list) b.0.0 (λ j l. let a = b.1 j l in omega (arith, h, a)) (λ j e x. o.rounds part.list j b.0.0 e b.0.1 x)) rs in
+      let p = give (take part.first b.0.0) (ready_rounds n part.first (order.rounds part.list) b.0.0
+      (λ j l. let a = b.1 j l in omega (arith, h, a)) (λ j e x. o.rounds part.list j b.0.0 e b.0.1 x)) rs in
       (p.0, part_gives_rounds rs part p.0 b.0.0 b.0.1 b.0.2 p.1)
 
   list_step : IsOrdered log order → (n : ℕ) → ListsGive n → RoundsGive n → ListsGive (suc n)
@@ -56,13 +66,16 @@ module _ (log : Log) (order : Order) where
   list_step o n f r (Entry.binds name x ∷ es) b cs =
       let p = list_step o n f r es b.1 (command cs (Command.binds name x)) in (p.0, gives_binding cs name x es p.0 p.1)
   list_step o n f r (Entry.binds_nothing name ∷ es) b cs =
-      let p = list_step o n f r es b.1 (command cs (Command.binds_nothing name)) in (p.0, gives_empty cs name es p.0 p.1)
+      let p = list_step o n f r es b.1 (command cs (Command.binds_nothing name)) in
+      (p.0, gives_empty cs name es p.0 p.1)
   list_step o n f r (Entry.skips name ∷ es) b cs =
       let p = list_step o n f r es b.1 (command cs (Command.skips name)) in (p.0, gives_skip cs name es p.0 p.1)
   list_step o n f r (Entry.misses name kind ∷ es) b cs =
-      let p = list_step o n f r es b.1 (command cs (Command.misses name kind)) in (p.0, gives_missing cs name kind es p.0 p.1)
+      let p = list_step o n f r es b.1 (command cs (Command.misses name kind)) in
+      (p.0, gives_missing cs name kind es p.0 p.1)
   list_step o n f r (Entry.nests finished current ∷ es) b cs =
-      let q = rounds_part_some o n (b.0).0 finished (let a = (b.0).1 in omega (arith, a)) r ((b.0).2).0 no_command_rounds in
+      let q = rounds_part_some o n (b.0).0 finished (let a = (b.0).1 in omega (arith, a)) r ((b.0).2).0
+      no_command_rounds in
       let c = part_some o n (b.0).0 current (let a = (b.0).1 in omega (arith, a)) f ((b.0).2).1 no_commands in
       let p = list_step o n f r es b.1 (command cs (Command.nests (command_round q.0 c.0))) in
       (p.0, gives_nested cs finished current es q.0 c.0 p.0 q.1 c.1 p.1)
@@ -107,24 +120,34 @@ pub entries_have_accounts : EntriesHaveAccounts
 entries_have_accounts log order h o l =
     let b = above (order.commands h.current.list) h.current.first in
     let d = above (order.rounds h.finished.list) h.finished.first in
-    let p = part_some log order o b.0 b.0 h.current (omega arith) (both_give log order o b.0).0 (l.0, b.1) no_commands in
-    let q = rounds_part_some log order o d.0 d.0 h.finished (omega arith) (both_give log order o d.0).1 (l.1, d.1) no_command_rounds in
+    let p = part_some log order o b.0 b.0 h.current (omega arith) (both_give log order o b.0).0 (l.0, b.1)
+    no_commands in
+    let q = rounds_part_some log order o d.0 d.0 h.finished (omega arith) (both_give log order o d.0).1 (l.1, d.1)
+    no_command_rounds in
     (record { finished = q.0; current = p.0 }, record { current = p.1; finished = q.1 })
 
-follow : (log : Log) {cs middle : Commands} {es : List Entry} → Gives log cs es middle → (more : List Entry) (all : Commands) → Gives log middle more all → Gives log cs (es ++ more) all
+follow : (log : Log) {cs middle : Commands} {es : List Entry} → Gives log cs es middle
+    → (more : List Entry) (all : Commands) → Gives log middle more all → Gives log cs (es ++ more) all
 follow log (gives_nothing cs) more all h = h
-follow log (gives_binding cs name x es _ r) more all h = gives_binding cs name x (es ++ more) all (follow log r more all h)
+follow log (gives_binding cs name x es _ r) more all h =
+    gives_binding cs name x (es ++ more) all (follow log r more all h)
 follow log (gives_empty cs name es _ r) more all h = gives_empty cs name (es ++ more) all (follow log r more all h)
 follow log (gives_skip cs name es _ r) more all h = gives_skip cs name (es ++ more) all (follow log r more all h)
-follow log (gives_missing cs name kind es _ r) more all h = gives_missing cs name kind (es ++ more) all (follow log r more all h)
-follow log (gives_nested cs finished current es rs ds _ p q r) more all h = gives_nested cs finished current (es ++ more) rs ds all p q (follow log r more all h)
-follow log (gives_link cs part es ds _ p r) more all h = gives_link cs part (es ++ more) ds all p (follow log r more all h)
+follow log (gives_missing cs name kind es _ r) more all h =
+    gives_missing cs name kind (es ++ more) all (follow log r more all h)
+follow log (gives_nested cs finished current es rs ds _ p q r) more all h =
+    gives_nested cs finished current (es ++ more) rs ds all p q (follow log r more all h)
+follow log (gives_link cs part es ds _ p r) more all h =
+    gives_link cs part (es ++ more) ds all p (follow log r more all h)
 
-rounds_follow : (log : Log) {rs middle : CommandRounds} {es : List RoundEntry} → GivesRounds log rs es middle → (more : List RoundEntry) (all : CommandRounds) →
+rounds_follow : (log : Log) {rs middle : CommandRounds} {es : List RoundEntry} → GivesRounds log rs es middle
+    → (more : List RoundEntry) (all : CommandRounds) →
     GivesRounds log middle more all → GivesRounds log rs (es ++ more) all
 rounds_follow log (gives_no_rounds rs) more all h = h
-rounds_follow log (gives_round rs part es cs _ p r) more all h = gives_round rs part (es ++ more) cs all p (rounds_follow log r more all h)
-rounds_follow log (gives_linked_rounds rs part es qs _ p r) more all h = gives_linked_rounds rs part (es ++ more) qs all p (rounds_follow log r more all h)
+rounds_follow log (gives_round rs part es cs _ p r) more all h =
+    gives_round rs part (es ++ more) cs all p (rounds_follow log r more all h)
+rounds_follow log (gives_linked_rounds rs part es qs _ p r) more all h =
+    gives_linked_rounds rs part (es ++ more) qs all p (rounds_follow log r more all h)
 
 pub entries_follow : EntriesFollow
 entries_follow = record {

@@ -16,7 +16,8 @@ Longer : Path → Level → Value → Value → Type 0
 Longer path l v w =
     (follow (path ++ l ∷ []) v ≡ Some w) ⊎ ((reach path v ≡ Some w) × (follow (path ++ l ∷ []) v ≡ follow (l ∷ []) w))
 
-under_member : (path : Path) (l : Level) (w : Value) → ((v w : Value) → follow path v ≡ Some w → Longer path l v w) → (r : Option Value) →
+under_member : (path : Path) (l : Level) (w : Value) → ((v w : Value) → follow path v ≡ Some w → Longer path l v w)
+    → (r : Option Value) →
     option_and_then (follow path) r ≡ Some w →
     (option_and_then (follow (path ++ l ∷ [])) r ≡ Some w)
     ⊎ ((option_and_then (reach path) r ≡ Some w) × (option_and_then (follow (path ++ l ∷ [])) r ≡ follow (l ∷ []) w))
@@ -59,19 +60,26 @@ below_kept i n OneOrMore e k h = subst (Below i) (sym k) h
 head_below : (i : ℕ) (u : Use) (w : Value) (r : Option Value) (es : List Extent) → r ≡ Some w →
     Below i (least_extent (cons_option (option_map (extent_of u) r) es)) → Below i (extent_of u w)
 head_below i u w None es e h = absurd (none-some w e)
-head_below i u w (Some v) es e h = subst (λ x. Below i (extent_of u x)) (same_Some v w e) (below_left i (extent_of u v) (least_extent es) h)
+head_below i u w (Some v) es e h = subst (λ x. Below i (extent_of u x)) (same_Some v w e)
+    (below_left i (extent_of u v) (least_extent es) h)
 
-tail_below : (i : ℕ) (r : Option Extent) (es : List Extent) → Below i (least_extent (cons_option r es)) → Below i (least_extent es)
+tail_below : (i : ℕ) (r : Option Extent) (es : List Extent) → Below i (least_extent (cons_option r es))
+    → Below i (least_extent es)
 tail_below i None es h = h
 tail_below i (Some e) es h = below_right i e (least_extent es) h
 
-below_uses : (env : Environment) (path : Path) (i : ℕ) (uses : List Use) (name : Name) (w : Value) → IsUsed name uses → reached env path name ≡ Some w →
+below_uses : (env : Environment) (path : Path) (i : ℕ) (uses : List Use) (name : Name) (w : Value) → IsUsed name uses
+    → reached env path name ≡ Some w →
     Below i (least_extent (filter_map (extent_under env path) uses)) → (u : Use) × Below i (extent_of u w)
 below_uses env path i [] name w m e h = absurd m
-below_uses env path i (u ∷ uses) name w (◌⊎◌.inl p) e h =
-    (u, head_below i u w (reached env path (used_name u)) (filter_map (extent_under env path) uses) (ap (reached env path) (sym p) ∙ e) h)
+below_uses env path i (u ∷ uses) name w (◌⊎◌.inl p) e h = (
+  u,
+  head_below i u w (reached env path (used_name u)) (filter_map (extent_under env path) uses)
+      (ap (reached env path) (sym p) ∙ e) h,
+)
 below_uses env path i (u ∷ uses) name w (◌⊎◌.inr m) e h =
-    below_uses env path i uses name w m e (tail_below i (extent_under env path u) (filter_map (extent_under env path) uses) h)
+    below_uses env path i uses name w m e
+    (tail_below i (extent_under env path u) (filter_map (extent_under env path) uses) h)
 
 below_over : (i : ℕ) (es : List Extent) → Below i (extent_over es) → Below i (least_extent es)
 below_over i [] h = tt
@@ -82,14 +90,16 @@ member_below no_values i h = absurd (omega (arith, h))
 member_below (value v vs) zero h = (v, refl)
 member_below (value v vs) (suc i) h = member_below vs i (omega (arith, h))
 
-step_below : (l : Level) (u : Use) (w : Value) → Below l.index (extent_of u w) → (v : Value) × (follow (l ∷ []) w ≡ Some v)
+step_below : (l : Level) (u : Use) (w : Value) → Below l.index (extent_of u w)
+    → (v : Value) × (follow (l ∷ []) w ≡ Some v)
 step_below l u (fragment x) h = (fragment x, refl)
 step_below l u empty h = absurd (omega (arith, h))
 step_below l u (missing kind) h = (missing kind, refl)
 step_below l u (list vs) h = let p = member_below vs l.index h in (p.0, ap (option_and_then (follow [])) p.1)
 
 has_value : (path : Path) (l : Level) (w : Value) (r : Option Value) → option_and_then (follow path) r ≡ Some w →
-    (option_and_then (reach path) r ≡ Some w → (u : Use) × Below l.index (extent_of u w)) → (v : Value) × (option_and_then (follow (path ++ l ∷ [])) r ≡ Some v)
+    (option_and_then (reach path) r ≡ Some w → (u : Use) × Below l.index (extent_of u w))
+    → (v : Value) × (option_and_then (follow (path ++ l ∷ [])) r ≡ Some v)
 unfolding Longer
 has_value path l w None e below = absurd (none-some w e)
 has_value path l w (Some u) e below = go (follow_longer path l u w e)
@@ -102,4 +112,5 @@ pub rounds_have_values : RoundsHaveValues
 rounds_have_values env path body repeat n i name w k h m e =
     has_value path (record { index = i; rounds = n }) w (value_of env name) e
     (λ r. below_uses env path i (uses_of body) name w m r
-    (below_over i (filter_map (extent_under env path) (uses_of body)) (below_kept i n repeat (extent_over (filter_map (extent_under env path) (uses_of body))) k h)))
+    (below_over i (filter_map (extent_under env path) (uses_of body))
+    (below_kept i n repeat (extent_over (filter_map (extent_under env path) (uses_of body))) k h)))

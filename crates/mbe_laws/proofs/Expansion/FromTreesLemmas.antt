@@ -15,16 +15,20 @@ use Rattle.mbe_semantics.specs.Laws.Laws.{HasOneEdition}
 use Rattle.mbe_laws.proofs.Definitions.TemplateLemmas.{one_definition}
 
 -- the first rule that applies is one of the rules
-first_contained : {g : Grammar} {style : MacroCallStyle} {argument : Forest} {rs : List Rule} {n : ℕ} {r : Rule} {a : Applies g style argument r}
+first_contained : {g : Grammar} {style : MacroCallStyle} {argument : Forest} {rs : List Rule} {n : ℕ} {r : Rule}
+    {a : Applies g style argument r}
     → FirstThatApplies g style argument rs n r a → Contains rs r
 first_contained (this_one r rs a) = Contains-append_left (r ∷ []) rs r (Contains-push [] r)
 first_contained (a_later_one r s rs n m a not_r f e) = Contains-append_right (r ∷ []) rs s (first_contained f)
 
 module _ (Asked : SyntaxContext → Edition → Type 0) where
-  only_one : (definition : Definition) (m other : Macro) → HasOneEdition Asked → IsMacroOf Asked definition m → IsMacroOf Asked definition other
+  only_one : (definition : Definition) (m other : Macro) → HasOneEdition Asked → IsMacroOf Asked definition m
+      → IsMacroOf Asked definition other
       → other.rules ≡ m.rules
-  only_one (macro_rules f) m other one read k = ((one_definition Asked).rules one f other.rules m.rules other.err m.err k read).0
-  only_one (declaration None body) m other one read k = ((one_definition Asked).body one body other.rules m.rules other.err m.err k read).0
+  only_one (macro_rules f) m other one read k =
+      ((one_definition Asked).rules one f other.rules m.rules other.err m.err k read).0
+  only_one (declaration None body) m other one read k =
+      ((one_definition Asked).body one body other.rules m.rules other.err m.err k read).0
   only_one (declaration (Some arguments) body) m other one read k =
       ((one_definition Asked).arguments one arguments body other.rules m.rules other.err m.err k read).0
 

@@ -13,12 +13,14 @@ use Rattle.mbe_semantics.specs.Readings.Ambiguity.{GoesOn, Clash, Ambiguous}
 use Rattle.mbe_semantics.proofs.Stories.{next-after}
 
 filter_step : {A B : Type 0} (h : A → Option B) (y : B) (x : A) (xs : List A) (o : Option B) → h x ≡ o →
-    (In y (filter_map h xs) → (z : A) × In z xs × (h z ≡ Some y)) → In y (cons_option o (filter_map h xs)) → (z : A) × In z (x ∷ xs) × (h z ≡ Some y)
+    (In y (filter_map h xs) → (z : A) × In z xs × (h z ≡ Some y)) → In y (cons_option o (filter_map h xs))
+    → (z : A) × In z (x ∷ xs) × (h z ≡ Some y)
 filter_step h y x xs None e f m = let r = f m in (r.0, inr r.1, r.2)
 filter_step h y x xs (Some v) e f (inl d) = (x, inl refl, e ∙ ap Some (sym d))
 filter_step h y x xs (Some v) e f (inr m) = let r = f m in (r.0, inr r.1, r.2)
 
-pub from_filter : {A B : Type 0} (h : A → Option B) (y : B) (xs : List A) → In y (filter_map h xs) → (z : A) × In z xs × (h z ≡ Some y)
+pub from_filter : {A B : Type 0} (h : A → Option B) (y : B) (xs : List A) → In y (filter_map h xs)
+    → (z : A) × In z xs × (h z ≡ Some y)
 from_filter h y [] m = absurd m
 from_filter h y (x ∷ xs) m = filter_step h y x xs (h x) refl (λ k. from_filter h y xs k) m
 
@@ -26,9 +28,11 @@ in_cons_option : {B : Type 0} (o : Option B) (y : B) (ys : List B) → In y ys �
 in_cons_option None y ys m = m
 in_cons_option (Some v) y ys m = inr m
 
-pub in_filter : {A B : Type 0} (h : A → Option B) (x : A) (y : B) (xs : List A) → In x xs → h x ≡ Some y → In y (filter_map h xs)
+pub in_filter : {A B : Type 0} (h : A → Option B) (x : A) (y : B) (xs : List A) → In x xs → h x ≡ Some y
+    → In y (filter_map h xs)
 in_filter h x y [] m e = absurd m
-in_filter h x y (z ∷ xs) (inl d) e = subst (λ o. In y (cons_option o (filter_map h xs))) (sym (ap h (sym d) ∙ e)) (inl refl)
+in_filter h x y (z ∷ xs) (inl d) e = subst (λ o. In y (cons_option o (filter_map h xs))) (sym (ap h (sym d) ∙ e))
+    (inl refl)
 in_filter h x y (z ∷ xs) (inr m) e = in_cons_option (h z) y (filter_map h xs) (in_filter h x y xs m e)
 
 pub from_targets : (y : Beginning) (ms : List Move) → In y (targets ms) → (n : ℕ) × (f : Bool) × In (move n f y) ms
@@ -62,7 +66,8 @@ not_true true e = cc
 not_true false e = refl
 
 -- no clash: no fragment among several, and one width
-pub calm_with : (n : ℕ) (f : Bool) (ms : List Move) → clashing_with n f ms ≡ false → (m : ℕ) (g : Bool) (z : Beginning) → In (move m g z) ms → (f ≡ false) × (g ≡ false) × (n ≡ m)
+pub calm_with : (n : ℕ) (f : Bool) (ms : List Move) → clashing_with n f ms ≡ false → (m : ℕ) (g : Bool) (z : Beginning)
+    → In (move m g z) ms → (f ≡ false) × (g ≡ false) × (n ≡ m)
 calm_with n f [] e m g z h = absurd h
 calm_with n f (move k b v ∷ ms) e m g z (inl d) =
     let t : (f || b || not (nat_eq n k)) ≡ false = or_left (f || b || not (nat_eq n k)) (clashing_with n f ms) e in
@@ -71,12 +76,14 @@ calm_with n f (move k b v ∷ ms) e m g z (inl d) =
     let x : m ≡ k = cc in
     let y : g ≡ b = cc in
     (or_left f b u, y ∙ or_right f b u, eqb-true n k (not_false (nat_eq n k) w) ∙ sym x)
-calm_with n f (move k b v ∷ ms) e m g z (inr h) = calm_with n f ms (or_right (f || b || not (nat_eq n k)) (clashing_with n f ms) e) m g z h
+calm_with n f (move k b v ∷ ms) e m g z (inr h) =
+    calm_with n f ms (or_right (f || b || not (nat_eq n k)) (clashing_with n f ms) e) m g z h
 
 abbrev Found : ℕ → Bool → List Move → Type 0
 Found n f ms = (m : ℕ) × (g : Bool) × (z : Beginning) × In (move m g z) ms × Clash n f m g
 
-found_here : (n k : ℕ) (f b : Bool) (v : Beginning) (ms : List Move) → (f || b || not (nat_eq n k)) ≡ true → Found n f (move k b v ∷ ms)
+found_here : (n k : ℕ) (f b : Bool) (v : Beginning) (ms : List Move) → (f || b || not (nat_eq n k)) ≡ true
+    → Found n f (move k b v ∷ ms)
 found_here n k f b v ms e = (k, b, v, inl refl, go (or_cases (f || b) (not (nat_eq n k)) e))
   where
     both : ((f ≡ true) ⊎ (b ≡ true)) → Clash n f k b
@@ -102,13 +109,16 @@ no_clash n m f g a b c (inr (inr e)) = e c
 
 module _ (i : Input) (pat : Ops) (q : ℕ) where
   -- an ambiguity that the test finds is one
-  pub clash_found : (xs : List Beginning) → ((x : Beginning) → In x xs → At i pat q x) → Distinct story xs → clashing (moves_of i q xs) ≡ true → Ambiguous i pat q
+  pub clash_found : (xs : List Beginning) → ((x : Beginning) → In x xs → At i pat q x) → Distinct story xs
+      → clashing (moves_of i q xs) ≡ true → Ambiguous i pat q
   clash_found [] a d e = cc
   clash_found (x ∷ xs) a d e = turn (next i q x) refl e (λ f. clash_found xs (λ z m. a z (inr m)) d.1 f)
     where
-      pair : (n : ℕ) (f : Bool) (y : Beginning) → next i q x ≡ Some (move n f y) → Found n f (moves_of i q xs) → Ambiguous i pat q
+      pair : (n : ℕ) (f : Bool) (y : Beginning) → next i q x ≡ Some (move n f y) → Found n f (moves_of i q xs)
+          → Ambiguous i pat q
       pair n f y g r =
-          let s : (z : Beginning) × In z xs × (next i q z ≡ Some (move r.0 r.1 r.2)) = from_filter (next i q) (move r.0 r.1 r.2) xs r.3 in
+          let s : (z : Beginning) × In z xs × (next i q z ≡ Some (move r.0 r.1 r.2)) =
+          from_filter (next i q) (move r.0 r.1 r.2) xs r.3 in
           record {
             one = x;
             other = s.0;
@@ -124,12 +134,14 @@ module _ (i : Input) (pat : Ops) (q : ℕ) where
             clash = r.4;
           }
 
-      turn : (o : Option Move) → next i q x ≡ o → clashing (cons_option o (moves_of i q xs)) ≡ true → (clashing (moves_of i q xs) ≡ true → Ambiguous i pat q) → Ambiguous i pat q
+      turn : (o : Option Move) → next i q x ≡ o → clashing (cons_option o (moves_of i q xs)) ≡ true
+          → (clashing (moves_of i q xs) ≡ true → Ambiguous i pat q) → Ambiguous i pat q
       turn None g c f = f c
       turn (Some (move n f y)) g c h = pair n f y g (clash_with n f (moves_of i q xs) c)
 
   -- and one that is there is found
-  pub clash_missed : (xs : List Beginning) → clashing (moves_of i q xs) ≡ false → (x y : Beginning) → In x xs → In y xs → (x ≡ y → ⊥) →
+  pub clash_missed : (xs : List Beginning) → clashing (moves_of i q xs) ≡ false → (x y : Beginning) → In x xs → In y xs
+      → (x ≡ y → ⊥) →
       (n m : ℕ) (f g : Bool) → GoesOn i q n f x → GoesOn i q m g y → Clash n f m g → ⊥
   clash_missed [] e x y a b d n m f g s t = absurd a
   clash_missed (h ∷ xs) e x y a b d n m f g s t = turn (next i q h) refl e (λ c. clash_missed xs c x y) a b
@@ -137,19 +149,24 @@ module _ (i : Input) (pat : Ops) (q : ℕ) where
       none : (z : Beginning) → z ≡ h → (k : ℕ) (c : Bool) → GoesOn i q k c z → next i q h ≡ None → ⊥
       none z p k c r u = let v : Some (move k c r.0) ≡ None = sym r.1 ∙ ap (next i q) p ∙ u in cc
 
-      inner : (In x xs → In y xs → (x ≡ y → ⊥) → (n m : ℕ) (f g : Bool) → GoesOn i q n f x → GoesOn i q m g y → Clash n f m g → ⊥) →
+      inner : (In x xs → In y xs → (x ≡ y → ⊥) → (n m : ℕ) (f g : Bool) → GoesOn i q n f x → GoesOn i q m g y
+          → Clash n f m g → ⊥) →
           (next i q h ≡ None) → ((x ≡ h) ⊎ In x xs) → ((y ≡ h) ⊎ In y xs) → Clash n f m g → ⊥
       inner r u (inl p) b' c = none x p n f s u
       inner r u (inr a') (inl p) c = none y p m g t u
       inner r u (inr a') (inr b') c = r a' b' d n m f g s t c
 
-      listed : (z : Beginning) → In z xs → (k : ℕ) (c : Bool) → (w : GoesOn i q k c z) → In (move k c w.0) (moves_of i q xs)
+      listed : (z : Beginning) → In z xs → (k : ℕ) (c : Bool) → (w : GoesOn i q k c z)
+          → In (move k c w.0) (moves_of i q xs)
       listed z p k c w = in_filter (next i q) z (move k c w.0) xs p w.1
 
-      first : (n0 : ℕ) (f0 : Bool) (y0 : Beginning) → next i q h ≡ Some (move n0 f0 y0) → (z : Beginning) → z ≡ h → (k : ℕ) (c : Bool) → GoesOn i q k c z → (k ≡ n0) × (c ≡ f0)
-      first n0 f0 y0 u z p k c r = let v : Some (move k c r.0) ≡ Some (move n0 f0 y0) = sym r.1 ∙ ap (next i q) p ∙ u in (cc, cc)
+      first : (n0 : ℕ) (f0 : Bool) (y0 : Beginning) → next i q h ≡ Some (move n0 f0 y0) → (z : Beginning) → z ≡ h
+          → (k : ℕ) (c : Bool) → GoesOn i q k c z → (k ≡ n0) × (c ≡ f0)
+      first n0 f0 y0 u z p k c r = let v : Some (move k c r.0) ≡ Some (move n0 f0 y0) =
+          sym r.1 ∙ ap (next i q) p ∙ u in (cc, cc)
 
-      outer : (n0 : ℕ) (f0 : Bool) (y0 : Beginning) → next i q h ≡ Some (move n0 f0 y0) → clashing_with n0 f0 (moves_of i q xs) ≡ false →
+      outer : (n0 : ℕ) (f0 : Bool) (y0 : Beginning) → next i q h ≡ Some (move n0 f0 y0)
+          → clashing_with n0 f0 (moves_of i q xs) ≡ false →
           ((x ≡ h) ⊎ In x xs) → ((y ≡ h) ⊎ In y xs) → Clash n f m g → ⊥
       outer n0 f0 y0 u k (inl p) (inl p') c = d (p ∙ sym p')
       outer n0 f0 y0 u k (inl p) (inr b') c =
@@ -166,7 +183,8 @@ module _ (i : Input) (pat : Ops) (q : ℕ) where
           no_clash n m f g v.1 w.1 (sym v.2 ∙ w.2) c
 
       turn : (o : Option Move) → next i q h ≡ o → clashing (cons_option o (moves_of i q xs)) ≡ false →
-          (clashing (moves_of i q xs) ≡ false → In x xs → In y xs → (x ≡ y → ⊥) → (n m : ℕ) (f g : Bool) → GoesOn i q n f x → GoesOn i q m g y → Clash n f m g → ⊥) →
+          (clashing (moves_of i q xs) ≡ false → In x xs → In y xs → (x ≡ y → ⊥) → (n m : ℕ) (f g : Bool)
+          → GoesOn i q n f x → GoesOn i q m g y → Clash n f m g → ⊥) →
           ((x ≡ h) ⊎ In x xs) → ((y ≡ h) ⊎ In y xs) → Clash n f m g → ⊥
       turn None u c r = inner (r c) u
       turn (Some (move n0 f0 y0)) u c r = outer n0 f0 y0 u c
@@ -176,12 +194,15 @@ module _ (i : Input) (pat : Ops) (q : ℕ) where
   targets_distinct [] d = tt
   targets_distinct (x ∷ xs) d = turn (next i q x) refl (targets_distinct xs d.1)
     where
-      none : (n : ℕ) (f : Bool) (y : Beginning) → next i q x ≡ Some (move n f y) → NoneAt story (story y) (targets (moves_of i q xs))
+      none : (n : ℕ) (f : Bool) (y : Beginning) → next i q x ≡ Some (move n f y)
+          → NoneAt story (story y) (targets (moves_of i q xs))
       none n f y u v h e =
           let r : (k : ℕ) × (g : Bool) × In (move k g v) (moves_of i q xs) = from_targets v (moves_of i q xs) h in
-          let s : (z : Beginning) × In z xs × (next i q z ≡ Some (move r.0 r.1 v)) = from_filter (next i q) (move r.0 r.1 v) xs r.2 in
+          let s : (z : Beginning) × In z xs × (next i q z ≡ Some (move r.0 r.1 v)) =
+          from_filter (next i q) (move r.0 r.1 v) xs r.2 in
           d.0 s.0 s.1 (sym (next-after i q n f x y u).0 ∙ ap before e ∙ (next-after i q r.0 r.1 s.0 v s.2).0)
 
-      turn : (o : Option Move) → next i q x ≡ o → Distinct story (targets (moves_of i q xs)) → Distinct story (targets (cons_option o (moves_of i q xs)))
+      turn : (o : Option Move) → next i q x ≡ o → Distinct story (targets (moves_of i q xs))
+          → Distinct story (targets (cons_option o (moves_of i q xs)))
       turn None u r = r
       turn (Some (move n f y)) u r = (none n f y u, r)

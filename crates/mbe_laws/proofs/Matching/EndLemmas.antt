@@ -14,11 +14,13 @@ use Rattle.mbe_semantics.proofs.InputLemmas as inputs
 
 module _ (i : Input) (n : ℕ)
     (token_end : (t : Token) (p w : ℕ) → i.token_at t p ≡ Some w → p + w ≤ n)
-    (fragment_end : (kind : Option MetaVarKind) (p : ℕ) (x : Fragment) → i.fragment_at kind p ≡ Some x → 0 < flat_len x.trees → p + flat_len x.trees ≤ n)
+    (fragment_end : (kind : Option MetaVarKind) (p : ℕ) (x : Fragment) → i.fragment_at kind p ≡ Some x
+    → 0 < flat_len x.trees → p + flat_len x.trees ≤ n)
     (separator_end : (s : Separator) (p w : ℕ) → i.separator_at s p ≡ Some w → p + w ≤ n)
     (opens_end : (kind : DelimiterKind) (p : ℕ) → i.opens_at kind p ≡ true → p + 1 ≤ n)
     (closes_end : (p : ℕ) → i.closes_at p ≡ true → p + 1 ≤ n) where
-  fragment_ends : (kind : Option MetaVarKind) (p : ℕ) (x : Fragment) (w : ℕ) → flat_len x.trees ≡ w → i.fragment_at kind p ≡ Some x → p ≤ n → p + w ≤ n
+  fragment_ends : (kind : Option MetaVarKind) (p : ℕ) (x : Fragment) (w : ℕ) → flat_len x.trees ≡ w
+      → i.fragment_at kind p ≡ Some x → p ≤ n → p + w ≤ n
   fragment_ends kind p x zero e f h = omega (arith, h)
   fragment_ends kind p x (suc w) e f h = let k = fragment_end kind p x f (omega (arith, e)) in omega (arith, e, k)
 
@@ -53,14 +55,16 @@ module _ (i : Input) (n : ℕ)
     item_ends (rounds rs last) (variable name kind span) p r h = absurd r
     item_ends (rounds rs last) (expression e) p r h = absurd r
 
-    items_end : (is : Items) (os : Ops) (p : ℕ) (rest : Ops) → ReadsFirst is i os p rest → p ≤ n → p + items_width is ≤ n
+    items_end : (is : Items) (os : Ops) (p : ℕ) (rest : Ops) → ReadsFirst is i os p rest → p ≤ n
+        → p + items_width is ≤ n
     items_end no_items os p rest r h = omega (arith, h)
     items_end (item is x) os p rest (o, r, s) h =
         let a = items_end is os p (op o rest) r h in
         let b = item_ends x o (p + items_width is) s a in
         omega (arith, b)
 
-    rounds_end : (rs : Rounds) (body : Ops) (s : Option Separator) (k : RepeatKind) (p : ℕ) → ReadsRounds rs i body s k p → p ≤ n → p + rounds_width rs ≤ n
+    rounds_end : (rs : Rounds) (body : Ops) (s : Option Separator) (k : RepeatKind) (p : ℕ)
+        → ReadsRounds rs i body s k p → p ≤ n → p + rounds_width rs ≤ n
     rounds_end no_rounds body s k p r h = omega (arith, h)
     rounds_end (round rs is w) body s k p (m, r, q, b) h =
         let a = rounds_end rs body s k p r h in
@@ -70,7 +74,8 @@ module _ (i : Input) (n : ℕ)
 
   start_ends : (pat : Ops) (up : List Frame) → Within i pat up → start_of up ≤ n
   start_ends pat [] v = omega arith
-  start_ends pat (inside d b rest is ∷ up) (v, r, o) = let k = opens_end d.kind (start_of up + items_width is) o in omega (arith, k)
+  start_ends pat (inside d b rest is ∷ up) (v, r, o) = let k =
+      opens_end d.kind (start_of up + items_width is) o in omega (arith, k)
   start_ends pat (within b s k rest is rs ∷ up) (v, r, q) =
       let a = start_ends pat up v in
       let c = items_end is (body_of pat up) (start_of up) (op (repetition b s k) rest) r a in
@@ -81,5 +86,6 @@ module _ (i : Input) (n : ℕ)
 
 pub beginnings_end_inside : BeginningsEndInside
 beginnings_end_inside g pattern argument y b =
-    ends _ (flat_len argument) (inputs.token_end g argument) (inputs.fragment_end g argument) (inputs.separator_end g argument)
+    ends _ (flat_len argument) (inputs.token_end g argument) (inputs.fragment_end g argument)
+    (inputs.separator_end g argument)
     (inputs.opens_end g argument) (inputs.closes_end g argument) pattern y b

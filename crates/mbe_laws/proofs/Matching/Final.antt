@@ -29,9 +29,11 @@ distinct_complete (x ∷ xs) d = turn (completed x) refl (distinct_complete xs d
     none : (is : Items) → completed x ≡ Some is → NoneAt (λ (is : Items). is) is (completions xs)
     none is e js h g =
         let s : (z : Beginning) × In z xs × (completed z ≡ Some js) = from_filter completed js xs h in
-        d.0 s.0 s.1 (ap story (is_complete x is e) ∙ ap (λ v. story (dot no_ops v [])) g ∙ ap story (sym (is_complete s.0 js s.2)))
+        d.0 s.0 s.1 (ap story (is_complete x is e) ∙ ap (λ v. story (dot no_ops v [])) g
+        ∙ ap story (sym (is_complete s.0 js s.2)))
 
-    turn : (o : Option Items) → completed x ≡ o → Distinct (λ (is : Items). is) (completions xs) → Distinct (λ (is : Items). is) (cons_option o (completions xs))
+    turn : (o : Option Items) → completed x ≡ o → Distinct (λ (is : Items). is) (completions xs)
+        → Distinct (λ (is : Items). is) (cons_option o (completions xs))
     turn None e r = r
     turn (Some is) e r = (none is e, r)
 
@@ -46,15 +48,18 @@ no_moves i len w (x ∷ xs) = turn (next i len x) refl (no_moves i len w xs)
     turn None e r = r
     turn (Some m) e r = absurd (never m e)
 
-module _ (i : Input) (pat : Ops) (len : ℕ) (lawful : Lawful i len) (checked : Checked pat) (xs : List Beginning) (v : Inv i pat len xs) where
+module _ (i : Input) (pat : Ops) (len : ℕ) (lawful : Lawful i len) (checked : Checked pat) (xs : List Beginning)
+    (v : Inv i pat len xs) where
   reading_in : (is : Items) → Reading i pat len is → In is (completions (held i len xs))
   reading_in is r =
       let w : items_width is ≡ len = r.1 in
-      in_filter completed (dot no_ops is []) is (held i len xs) (held-all i pat len lawful checked len xs v (dot no_ops is []) ((tt, r.0), omega arith)) refl
+      in_filter completed (dot no_ops is []) is (held i len xs)
+      (held-all i pat len lawful checked len xs v (dot no_ops is []) ((tt, r.0), omega arith)) refl
 
   pub reading_of : (is : Items) → In is (completions (held i len xs)) → Reading i pat len is
   reading_of is h =
-      let s : (z : Beginning) × In z (held i len xs) × (completed z ≡ Some is) = from_filter completed is (held i len xs) h in
+      let s : (z : Beginning) × In z (held i len xs) × (completed z ≡ Some is) =
+      from_filter completed is (held i len xs) h in
       let a : At i pat len s.0 = held-sound i pat len lawful checked len xs v s.0 s.1 in
       let b : At i pat len (dot no_ops is []) = subst (At i pat len) (is_complete s.0 is s.2) a in
       let w : place (dot no_ops is []) ≡ len = b.1 in
@@ -67,7 +72,8 @@ module _ (i : Input) (pat : Ops) (len : ℕ) (lawful : Lawful i len) (checked : 
   none_left = no_moves i len lawful (held i len xs)
 
   pub right_of : (rs : List Items) → completions (held i len xs) ≡ rs → Right i pat len (verdict_of len rs)
-  right_of [] e = right-stuck i pat len lawful checked len xs v none_left (λ is r. let h : In is [] = subst (In is) e (reading_in is r) in h)
+  right_of [] e = right-stuck i pat len lawful checked len xs v none_left
+      (λ is r. let h : In is [] = subst (In is) e (reading_in is r) in h)
   right_of (is ∷ []) e = (
     calm-all i pat len lawful checked len xs v none_left,
     (
@@ -89,6 +95,7 @@ module _ (i : Input) (pat : Ops) (len : ℕ) (lawful : Lawful i len) (checked : 
       js,
       reading_of is (subst (In is) (sym e) (inl refl)),
       reading_of js (subst (In js) (sym e) (inr (inl refl))),
-      (let d : Distinct (λ (ks : Items). ks) (is ∷ js ∷ rs) = subst (Distinct (λ (ks : Items). ks)) e distinct_readings in d.0 js (inl refl)),
+      (let d : Distinct (λ (ks : Items). ks) (is ∷ js ∷ rs) = subst (Distinct (λ (ks : Items). ks)) e
+          distinct_readings in d.0 js (inl refl)),
     ),
   )

@@ -18,14 +18,17 @@ in_either x [] ys h = inr h
 in_either x (y ∷ xs) ys (inl e) = inl (inl e)
 in_either x (y ∷ xs) ys (inr h) = elim (in_either x xs ys h) [ inl a ↦ inl (inr a) | inr b ↦ inr b ]
 
-pub in_flat : {A B : Type 0} (f : A → List B) (y : B) (x : A) (xs : List A) → In x xs → In y (f x) → In y (flat_map f xs)
+pub in_flat : {A B : Type 0} (f : A → List B) (y : B) (x : A) (xs : List A) → In x xs → In y (f x)
+    → In y (flat_map f xs)
 in_flat f y x [] h m = absurd h
 in_flat f y x (z ∷ xs) (inl e) m = in_left y (f z) (flat_map f xs) (subst (λ v. In y (f v)) e m)
 in_flat f y x (z ∷ xs) (inr h) m = in_right y (f z) (flat_map f xs) (in_flat f y x xs h m)
 
-pub from_flat : {A B : Type 0} (f : A → List B) (y : B) (xs : List A) → In y (flat_map f xs) → (x : A) × In x xs × In y (f x)
+pub from_flat : {A B : Type 0} (f : A → List B) (y : B) (xs : List A) → In y (flat_map f xs)
+    → (x : A) × In x xs × In y (f x)
 from_flat f y [] h = absurd h
-from_flat {A} f y (z ∷ xs) h = elim (in_either y (f z) (flat_map f xs) h) [ inl a ↦ (z, inl refl, a) | inr b ↦ more (from_flat f y xs b) ]
+from_flat {A} f y (z ∷ xs) h = elim (in_either y (f z) (flat_map f xs) h)
+    [ inl a ↦ (z, inl refl, a) | inr b ↦ more (from_flat f y xs b) ]
   where
     more : ((x : A) × In x xs × In y (f x)) → (x : A) × In x (z ∷ xs) × In y (f x)
     more r = (r.0, inr r.1, r.2)
@@ -70,7 +73,8 @@ below_of {A} kids (suc n) x y (inr h) =
     (suc b.0, (r.0, r.1, b.1))
 
 module _ {A K : Type 0} (kids : A → List A) (key : A → K) (before : K → K) (steps : K → ℕ) (fresh : K → Bool)
-    (after : (x y : A) → In y (kids x) → (before (key y) ≡ key x) × (steps (key y) ≡ suc (steps (key x))) × (fresh (key y) ≡ false))
+    (after : (x y : A) → In y (kids x) → (before (key y) ≡ key x) × (steps (key y) ≡ suc (steps (key x)))
+    × (fresh (key y) ≡ false))
     (apart : (x : A) → Distinct key (kids x)) where
   back_key : (k : ℕ) (y x : A) → Below kids k y x → back before k (key y) ≡ key x
   back_key zero y x e = ap key e
@@ -107,7 +111,8 @@ module _ {A K : Type 0} (kids : A → List A) (key : A → K) (before : K → K)
       none : NoneAt key (key x) (flat_map (tree kids n) (kids x))
       none y h = deeper y (from_flat (tree kids n) y (kids x) h)
 
-      across : (z w : A) → In z (kids x) → In w (kids x) → (key z ≡ key w → ⊥) → (u v : A) → In u (tree kids n z) → In v (tree kids n w) → key u ≡ key v → ⊥
+      across : (z w : A) → In z (kids x) → In w (kids x) → (key z ≡ key w → ⊥) → (u v : A) → In u (tree kids n z)
+          → In v (tree kids n w) → key u ≡ key v → ⊥
       across z w m o d u v p q e =
           let b : (k : ℕ) × Below kids k u z = below_of kids n z u p in
           let c : (k : ℕ) × Below kids k v w = below_of kids n w v q in
@@ -117,27 +122,40 @@ module _ {A K : Type 0} (kids : A → List A) (key : A → K) (before : K → K)
           let t' : steps (key w) ≡ suc (steps (key x)) = (after x w o).1 in
           let f : steps (key u) ≡ steps (key v) = ap steps e in
           let g : b.0 ≡ c.0 = omega arith in
-          d (sym (back_key b.0 u z b.1) ∙ ap (λ j. back before j (key u)) g ∙ ap (back before c.0) e ∙ back_key c.0 v w c.1)
+          d (sym (back_key b.0 u z b.1) ∙ ap (λ j. back before j (key u)) g ∙ ap (back before c.0) e
+          ∙ back_key c.0 v w c.1)
 
-  lower_root : (z w u v : A) (j k : ℕ) → fresh (key z) ≡ true → Below kids j u z → Below kids k v w → key u ≡ key v → j < k → ⊥
+  lower_root : (z w u v : A) (j k : ℕ) → fresh (key z) ≡ true → Below kids j u z → Below kids k v w → key u ≡ key v
+      → j < k → ⊥
   lower_root z w u v j k a b c e l =
-      let f : fresh (key z) ≡ false = ap fresh (sym (back_key j u z b) ∙ ap (back before j) e) ∙ stale_key k v w c j l in
+      let f : fresh (key z) ≡ false = ap fresh (sym (back_key j u z b) ∙ ap (back before j) e)
+      ∙ stale_key k v w c j l in
       let g : true ≡ false = sym a ∙ f in
       cc
 
-  pub forest-distinct : (n : A → ℕ) (xs : List A) → ((x : A) → In x xs → fresh (key x) ≡ true) → Distinct key xs → Distinct key (flat_map (λ x. tree kids (n x) x) xs)
+  pub forest-distinct : (n : A → ℕ) (xs : List A) → ((x : A) → In x xs → fresh (key x) ≡ true) → Distinct key xs
+      → Distinct key (flat_map (λ x. tree kids (n x) x) xs)
   forest-distinct n xs a d = distinct_flat key (λ x. tree kids (n x) x) xs (λ x m. tree-distinct (n x) x) d across
     where
-      equal : (z w u v : A) (j k : ℕ) → (key z ≡ key w → ⊥) → Below kids j u z → Below kids k v w → key u ≡ key v → j ≡ k → ⊥
+      equal : (z w u v : A) (j k : ℕ) → (key z ≡ key w → ⊥) → Below kids j u z → Below kids k v w → key u ≡ key v
+          → j ≡ k → ⊥
       equal z w u v j k d' b c e g =
           d' (sym (back_key j u z b) ∙ ap (λ l. back before l (key u)) g ∙ ap (back before k) e ∙ back_key k v w c)
 
-      either : (z w u v : A) (j k : ℕ) → fresh (key z) ≡ true → fresh (key w) ≡ true → (key z ≡ key w → ⊥) → Below kids j u z → Below kids k v w → key u ≡ key v →
+      either : (z w u v : A) (j k : ℕ) → fresh (key z) ≡ true → fresh (key w) ≡ true → (key z ≡ key w → ⊥)
+          → Below kids j u z → Below kids k v w → key u ≡ key v →
           ((j ≤ k) ⊎ (k ≤ j)) → ⊥
-      either z w u v j k fz fw d' b c e (inl l) = elim (eq-or-lt_of_le l) [ inl g ↦ equal z w u v j k d' b c e g | inr m ↦ lower_root z w u v j k fz b c e m ]
-      either z w u v j k fz fw d' b c e (inr l) = elim (eq-or-lt_of_le l) [ inl g ↦ equal z w u v j k d' b c e (sym g) | inr m ↦ lower_root w z v u k j fw c b (sym e) m ]
+      either z w u v j k fz fw d' b c e (inl l) =
+          elim (eq-or-lt_of_le l) [ inl g ↦ equal z w u v j k d' b c e g | inr m ↦ lower_root z w u v j k fz b c e m ]
+      either z w u v j k fz fw d' b c e (inr l) =
+          elim (eq-or-lt_of_le l) [
+            | inl g ↦ equal z w u v j k d' b c e (sym g)
+            | inr m ↦ lower_root w z v u k j fw c b
+                (sym e) m
+          ]
 
-      across : (z w : A) → In z xs → In w xs → (key z ≡ key w → ⊥) → (u v : A) → In u (tree kids (n z) z) → In v (tree kids (n w) w) → key u ≡ key v → ⊥
+      across : (z w : A) → In z xs → In w xs → (key z ≡ key w → ⊥) → (u v : A) → In u (tree kids (n z) z)
+          → In v (tree kids (n w) w) → key u ≡ key v → ⊥
       across z w m o d' u v p q e =
           let b : (k : ℕ) × Below kids k u z = below_of kids (n z) z u p in
           let c : (k : ℕ) × Below kids k v w = below_of kids (n w) w v q in
@@ -151,12 +169,14 @@ root_in kids (suc n) x l = inl refl
 -- Where a number falls at each step, a tree of that depth is closed under steps.
 module _ {A : Type 0} (kids : A → List A) (Good : A → Type 0) (rank : A → ℕ)
     (falls : (x y : A) → Good x → In y (kids x) → Good y × (rank y < rank x)) where
-  pub tree-closed : (n : ℕ) (x : A) → Good x → rank x < n → (y z : A) → In y (tree kids n x) → In z (kids y) → In z (tree kids n x)
+  pub tree-closed : (n : ℕ) (x : A) → Good x → rank x < n → (y z : A) → In y (tree kids n x) → In z (kids y)
+      → In z (tree kids n x)
   unfolding tree
   tree-closed zero x g l y z h m = absurd h
   tree-closed (suc n) x g l y z (inl e) m =
       let k : In z (kids x) = subst (λ v. In z (kids v)) e m in
-      inr (in_flat (tree kids n) z z (kids x) k (root_in kids n z (let s : rank z < rank x = (falls x z g k).1 in omega arith)))
+      inr (in_flat (tree kids n) z z (kids x) k
+      (root_in kids n z (let s : rank z < rank x = (falls x z g k).1 in omega arith)))
   tree-closed (suc n) x g l y z (inr h) m =
       let r : (w : A) × In w (kids x) × In y (tree kids n w) = from_flat (tree kids n) y (kids x) h in
       let s : rank r.0 < rank x = (falls x r.0 g r.1).1 in
@@ -172,4 +192,5 @@ module _ {A : Type 0} (kids : A → List A) (Good : A → Type 0) (rank : A → 
   tree-steady (suc n) zero x g l l' = absurd (omega arith)
   tree-steady (suc n) (suc m) x g l l' =
       ap (λ v. x ∷ v) (flat_same (tree kids n) (tree kids m) (kids x)
-      (λ z k. let s : rank z < rank x = (falls x z g k).1 in tree-steady n m z (falls x z g k).0 (omega arith) (omega arith)))
+      (λ z k. let s : rank z < rank x = (falls x z g k).1 in
+      tree-steady n m z (falls x z g k).0 (omega arith) (omega arith)))

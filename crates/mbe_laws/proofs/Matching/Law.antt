@@ -34,7 +34,8 @@ pub record Inv (i : Input) (pat : Ops) (q : ℕ) (xs : List Beginning) : Type 0 
 
 module _ (i : Input) (pat : Ops) (len : ℕ) (lawful : Lawful i len) (checked : Checked pat) where
   -- induction on the number of steps
-  pub by_steps : (P : Beginning → Type 0) → ((y : Beginning) → ((x : Beginning) → steps (story x) < steps (story y) → P x) → P y) → (y : Beginning) → P y
+  pub by_steps : (P : Beginning → Type 0)
+      → ((y : Beginning) → ((x : Beginning) → steps (story x) < steps (story y) → P x) → P y) → (y : Beginning) → P y
   by_steps P f y = go (suc (steps (story y))) y (omega arith)
     where
       go : (n : ℕ) (y : Beginning) → steps (story y) < n → P y
@@ -46,7 +47,8 @@ module _ (i : Input) (pat : Ops) (len : ℕ) (lawful : Lawful i len) (checked : 
   tree_sound q zero x a y h = absurd h
   tree_sound q (suc n) x a y (inl e) = subst (At i pat q) (sym e) a
   tree_sound q (suc n) x a y (inr h) =
-      let r : (z : Beginning) × In z (idle i q x) × In y (tree (idle i q) n z) = from_flat (tree (idle i q) n) y (idle i q x) h in
+      let r : (z : Beginning) × In z (idle i q x) × In y (tree (idle i q) n z) =
+      from_flat (tree (idle i q) n) y (idle i q x) h in
       tree_sound q n r.0 (idle-sound i pat q x a r.0 r.1) y r.2
 
   -- first part: what is held is a beginning that ends here
@@ -60,20 +62,25 @@ module _ (i : Input) (pat : Ops) (len : ℕ) (lawful : Lawful i len) (checked : 
   held-once q xs v = either v.roots
     where
       single : Distinct story (held i q (start pat ∷ []))
-      single = simp append-nil (tree-distinct (idle i q) story before steps fresh (idle-after i q) (idle-distinct i q) (suc (rank q (start pat))) (start pat))
+      single = simp append-nil (tree-distinct (idle i q) story before steps fresh (idle-after i q) (idle-distinct i q)
+          (suc (rank q (start pat))) (start pat))
 
-      either : (((x : Beginning) → In x xs → fresh (story x) ≡ true) ⊎ (xs ≡ start pat ∷ [])) → Distinct story (held i q xs)
-      either (inl f) = forest-distinct (idle i q) story before steps fresh (idle-after i q) (idle-distinct i q) (λ x. suc (rank q x)) xs f v.once
+      either : (((x : Beginning) → In x xs → fresh (story x) ≡ true) ⊎ (xs ≡ start pat ∷ []))
+          → Distinct story (held i q xs)
+      either (inl f) = forest-distinct (idle i q) story before steps fresh (idle-after i q) (idle-distinct i q)
+          (λ x. suc (rank q x)) xs f v.once
       either (inr e) = subst (λ zs. Distinct story (held i q zs)) (sym e) single
 
   pub held_root : (q : ℕ) (xs : List Beginning) (y : Beginning) → In y xs → In y (held i q xs)
   held_root q xs y m = in_flat (whole i q) y y xs m (root_in (idle i q) (suc (rank q y)) y (omega arith))
 
-  held_closed : (q : ℕ) (xs : List Beginning) → Inv i pat q xs → (y z : Beginning) → In y (held i q xs) → In z (idle i q y) → In z (held i q xs)
+  held_closed : (q : ℕ) (xs : List Beginning) → Inv i pat q xs → (y z : Beginning) → In y (held i q xs)
+      → In z (idle i q y) → In z (held i q xs)
   held_closed q xs v y z h m =
       let r : (x : Beginning) × In x xs × In y (whole i q x) = from_flat (whole i q) y xs h in
       in_flat (whole i q) z r.0 xs r.1
-      (tree-closed (idle i q) (At i pat q) (rank q) (idle-falls i pat q lawful checked) (suc (rank q r.0)) r.0 (v.sound r.0 r.1) (omega arith) y z r.2 m)
+      (tree-closed (idle i q) (At i pat q) (rank q) (idle-falls i pat q lawful checked) (suc (rank q r.0)) r.0
+      (v.sound r.0 r.1) (omega arith) y z r.2 m)
 
   -- a step over tokens takes some
   pub moves_some : (q n : ℕ) (f : Bool) (x y : Beginning) → next i q x ≡ Some (move n f y) → 0 < n
@@ -87,16 +94,19 @@ module _ (i : Input) (pat : Ops) (len : ℕ) (lawful : Lawful i len) (checked : 
       positive (suc n) l = refl
 
   pub moves_steps : (x y : Beginning) → Moves i x y → steps (story x) < steps (story y)
-  moves_steps x y m = let e : steps (story y) ≡ suc (steps (story x)) = (next-after i (place x) m.0 m.1 x y m.2).1 in omega arith
+  moves_steps x y m = let e : steps (story y) ≡ suc (steps (story x)) =
+      (next-after i (place x) m.0 m.1 x y m.2).1 in omega arith
 
   pub idles_steps : (x y : Beginning) → Idles i x y → steps (story x) < steps (story y)
-  idles_steps x y m = let e : steps (story y) ≡ suc (steps (story x)) = (idle-after i (place x) x y m.0).1 in omega arith
+  idles_steps x y m = let e : steps (story y) ≡ suc (steps (story x)) =
+      (idle-after i (place x) x y m.0).1 in omega arith
 
   -- third part: none that ends here is missing
   pub held-all : (q : ℕ) (xs : List Beginning) → Inv i pat q xs → (y : Beginning) → At i pat q y → In y (held i q xs)
   held-all q xs v = by_steps (λ y. At i pat q y → In y (held i q xs)) turn
     where
-      by_parent : (y : Beginning) → ((x : Beginning) → steps (story x) < steps (story y) → At i pat q x → In x (held i q xs)) → At i pat q y →
+      by_parent : (y : Beginning) → ((x : Beginning) → steps (story x) < steps (story y) → At i pat q x
+          → In x (held i q xs)) → At i pat q y →
           ((y ≡ start pat) ⊎ From i pat y) → In y (held i q xs)
       by_parent y ih a (inl e) = held_root q xs y (v.all y a (inr e))
       by_parent y ih a (inr (x, b, inl s)) =
@@ -104,5 +114,6 @@ module _ (i : Input) (pat : Ops) (len : ℕ) (lawful : Lawful i len) (checked : 
           held_closed q xs v x y (ih x (idles_steps x y s) (b, e)) (subst (λ p. In y (idle i p x)) e s.0)
       by_parent y ih a (inr (x, b, inr m)) = held_root q xs y (v.all y a (inl (moves_fresh x y m)))
 
-      turn : (y : Beginning) → ((x : Beginning) → steps (story x) < steps (story y) → At i pat q x → In x (held i q xs)) → At i pat q y → In y (held i q xs)
+      turn : (y : Beginning) → ((x : Beginning) → steps (story x) < steps (story y) → At i pat q x → In x (held i q xs))
+          → At i pat q y → In y (held i q xs)
       turn y ih a = by_parent y ih a (parents i pat y a.0)

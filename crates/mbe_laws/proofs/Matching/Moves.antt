@@ -28,37 +28,48 @@ over_takes len q f (Some x) rest is up h = go (item_width x) refl
     go zero e = tt
     go (suc n) e = (omega arith, let l : q + item_width x ≤ len = h x refl (omega (arith, e)) in omega (arith, l, e))
 
-token_takes : (i : Input) (len q : ℕ) → Lawful i len → (t : Token) (x : Item) → matched_by (i.token_at t q) ≡ Some x → q + item_width x ≤ len
+token_takes : (i : Input) (len q : ℕ) → Lawful i len → (t : Token) (x : Item) → matched_by (i.token_at t q) ≡ Some x
+    → q + item_width x ≤ len
 token_takes i len q w t x e =
     let r : (n : ℕ) × (i.token_at t q ≡ Some n) × (matched n ≡ x) = matched-from (i.token_at t q) x e in
     subst (λ v. q + item_width v ≤ len) r.2 (w.token_end t q r.0 r.1)
 
-variable_takes : (i : Input) (len q : ℕ) → Lawful i len → (name : Name) (kind : Option MetaVarKind) (x : Item) → bound_as name (i.fragment_at kind q) ≡ Some x → 0 < item_width x → q + item_width x ≤ len
+variable_takes : (i : Input) (len q : ℕ) → Lawful i len → (name : Name) (kind : Option MetaVarKind) (x : Item)
+    → bound_as name (i.fragment_at kind q) ≡ Some x → 0 < item_width x → q + item_width x ≤ len
 variable_takes i len q w name kind x e l =
-    let r : (v : Fragment) × (i.fragment_at kind q ≡ Some v) × (bound name v ≡ x) = bound-from name (i.fragment_at kind q) x e in
+    let r : (v : Fragment) × (i.fragment_at kind q ≡ Some v) × (bound name v ≡ x) =
+    bound-from name (i.fragment_at kind q) x e in
     (subst (λ v. 0 < item_width v → q + item_width v ≤ len) r.2 (λ m. w.fragment_end kind q r.0 r.1 m)) l
 
-round_takes : (len q : ℕ) (k : RepeatKind) (w : Option ℕ) (b : Ops) (s : Option Separator) (rest : Ops) (js : Items) (rs : Rounds) (up : List Frame) (is : Items) →
+round_takes : (len q : ℕ) (k : RepeatKind) (w : Option ℕ) (b : Ops) (s : Option Separator) (rest : Ops) (js : Items)
+    (rs : Rounds) (up : List Frame) (is : Items) →
     ((n : ℕ) → w ≡ Some n → (0 < n) × (q + n ≤ len)) → Takes len q (round_move k w b s rest js rs up is)
 round_takes len q k None b s rest js rs up is h = tt
 round_takes len q ZeroOrMore (Some n) b s rest js rs up is h = h n refl
 round_takes len q OneOrMore (Some n) b s rest js rs up is h = h n refl
 round_takes len q ZeroOrOne (Some n) b s rest js rs up is h = tt
 
-separator_takes : (i : Input) (len q : ℕ) → Lawful i len → (s : Option Separator) (k : RepeatKind) (b rest : Ops) (js : Items) (rs : Rounds) (up : List Frame) (is : Items) →
+separator_takes : (i : Input) (len q : ℕ) → Lawful i len
+    → (s : Option Separator) (k : RepeatKind) (b rest : Ops) (js : Items) (rs : Rounds) (up : List Frame) (is : Items) →
     Takes len q (separator_move i q s k b rest js rs up is)
 separator_takes i len q w None k b rest js rs up is = tt
-separator_takes i len q w (Some c) k b rest js rs up is = round_takes len q k (i.separator_at c q) b (Some c) rest js rs up is (λ n e. (w.separator_some c q n e, w.separator_end c q n e))
+separator_takes i len q w (Some c) k b rest js rs up is =
+    round_takes len q k (i.separator_at c q) b (Some c) rest js rs up is
+    (λ n e. (w.separator_some c q n e, w.separator_end c q n e))
 
 next_takes : (i : Input) (len q : ℕ) → Lawful i len → (x : Beginning) → Takes len q (next i q x)
 next_takes i len q w (dot no_ops is []) = tt
 next_takes i len q w (dot no_ops is (inside d b rest js ∷ up)) = when_takes len q (i.closes_at q) _ (w.closes_end q)
 next_takes i len q w (dot no_ops is (within b s k rest js rs ∷ up)) = separator_takes i len q w s k b rest js rs up is
-next_takes i len q w (dot (op (token t) rest) is up) = over_takes len q false (matched_by (i.token_at t q)) rest is up (λ x e l. token_takes i len q w t x e)
-next_takes i len q w (dot (op (variable name kind span) rest) is up) = over_takes len q true (bound_as name (i.fragment_at kind q)) rest is up (λ x e l. variable_takes i len q w name kind x e l)
+next_takes i len q w (dot (op (token t) rest) is up) =
+    over_takes len q false (matched_by (i.token_at t q)) rest is up (λ x e l. token_takes i len q w t x e)
+next_takes i len q w (dot (op (variable name kind span) rest) is up) =
+    over_takes len q true (bound_as name (i.fragment_at kind q)) rest is up
+    (λ x e l. variable_takes i len q w name kind x e l)
 next_takes i len q w (dot (op (expression e) rest) is up) = tt
 next_takes i len q w (dot (op (group d b) rest) is up) = when_takes len q (i.opens_at d.kind q) _ (w.opens_end d.kind q)
 next_takes i len q w (dot (op (repetition b s k) rest) is up) = tt
 
-pub next-takes : (i : Input) (len q n : ℕ) (f : Bool) (x y : Beginning) → Lawful i len → next i q x ≡ Some (move n f y) → (0 < n) × (q + n ≤ len)
+pub next-takes : (i : Input) (len q n : ℕ) (f : Bool) (x y : Beginning) → Lawful i len → next i q x ≡ Some (move n f y)
+    → (0 < n) × (q + n ≤ len)
 next-takes i len q n f x y w e = let P : Option Move → Type 0 = λ m. Takes len q m in subst P e (next_takes i len q w x)

@@ -1,5 +1,5 @@
 -- Steps of outlines are those of beginnings, and the work that a stack stands for falls.
-use Rattle.std.proofs.Common.{ℕ, zero, suc, ◌+◌, ◌≡◌, ◌<◌, ◌≤◌, inl, inr, Option, Some, None, Bool, true, false, List, [], ◌∷◌, ◌++◌, map, length, refl, ◌∙◌, ap, subst, arith, option_map}
+use Rattle.std.proofs.Common.{ℕ, zero, suc, ◌+◌, ◌≡◌, ◌<◌, ◌≤◌, Option, Some, None, Bool, true, false, List, [], ◌∷◌, ◌++◌, map, length, refl, ◌∙◌, ap, arith, option_map}
 use Rattle.mbe_semantics.specs.declared.kinds.RepeatKind.{RepeatKind}
 use Rattle.mbe_semantics.specs.declared.kinds.RepeatKind.TheVariants.{ZeroOrMore, OneOrMore, ZeroOrOne}
 use Rattle.mbe_tt.specs.Trees.Tree.{flat_len}
@@ -8,11 +8,9 @@ use Rattle.mbe_semantics.specs.Readings.Item.{Fragment, Item, matched, bound, sk
 use Rattle.mbe_semantics.specs.Readings.Input.{Input}
 use Rattle.mbe_semantics.specs.Readings.Reading.{Frame, inside, within, Beginning, dot, start_of, place}
 use Rattle.mbe_semantics.specs.Readings.Steps.{matched_by, bound_as, skip_of, again_of, if_none, empty_of, idle, Move, if_some, over_of, when, round_move, separator_move, next}
-use Rattle.mbe_semantics.specs.Matching.Outline.{edge, Outline, outline, advance, written, skipped as skipped_names, base_of, edges_of, erase, erase_move, empty_by, empty_bound, idle_of, if_some_advance, over_advance, bound_advance, round_advance, separator_advance, when_advance, next_of, finished_of, rank, weight}
+use Rattle.mbe_semantics.specs.Matching.Outline.{edge, outline, advance, written, skipped as skipped_names, base_of, edges_of, erase, erase_move, empty_by, empty_bound, idle_of, if_some_advance, over_advance, bound_advance, round_advance, separator_advance, when_advance, next_of, finished_of}
 use Rattle.mbe_semantics.specs.Bindings.Account.{no_commands, no_account, pushed_default, pushed_nested, rounds_of_items, commands_of}
 use Rattle.mbe_semantics.specs.Matching.Held.{completed}
-use Rattle.mbe_semantics.specs.Matching.Lists.{In}
-use Rattle.mbe_semantics.specs.Matching.Settled.{load}
 
 map_if_none : (n : ℕ) (x : Beginning) → map erase (if_none n x) ≡ if_none n (erase x)
 map_if_none zero x = refl
@@ -22,11 +20,14 @@ map_if_some : (f : Bool) (n : ℕ) (x : Beginning) → option_map erase_move (if
 map_if_some f zero x = refl
 map_if_some f (suc n) x = refl
 
-map_matched : (w : Option ℕ) (rest : Ops) (is : Items) (up : List Frame) → map erase (empty_of (matched_by w) rest is up) ≡ empty_by w (outline rest (written is (base_of up)) (edges_of up))
+map_matched : (w : Option ℕ) (rest : Ops) (is : Items) (up : List Frame)
+    → map erase (empty_of (matched_by w) rest is up) ≡ empty_by w (outline rest (written is (base_of up)) (edges_of up))
 map_matched None rest is up = refl
 map_matched (Some n) rest is up = map_if_none n (dot rest (item is (matched n)) up)
 
-map_bound : (name : Name) (w : Option Fragment) (rest : Ops) (is : Items) (up : List Frame) → map erase (empty_of (bound_as name w) rest is up) ≡ empty_bound name w rest (written is (base_of up)) (edges_of up)
+map_bound : (name : Name) (w : Option Fragment) (rest : Ops) (is : Items) (up : List Frame)
+    → map erase (empty_of (bound_as name w) rest is up)
+    ≡ empty_bound name w rest (written is (base_of up)) (edges_of up)
 map_bound name None rest is up = refl
 map_bound name (Some x) rest is up = map_if_none (flat_len x.trees) (dot rest (item is (bound name x)) up)
 
@@ -35,7 +36,8 @@ map_skip ZeroOrMore x = refl
 map_skip OneOrMore x = refl
 map_skip ZeroOrOne x = refl
 
-map_again : (s : Option Separator) (k : RepeatKind) (x z : Beginning) → map erase (again_of s k x ++ (z ∷ [])) ≡ again_of s k (erase x) ++ (erase z ∷ [])
+map_again : (s : Option Separator) (k : RepeatKind) (x z : Beginning)
+    → map erase (again_of s k x ++ (z ∷ [])) ≡ again_of s k (erase x) ++ (erase z ∷ [])
 map_again (Some c) k x z = refl
 map_again None ZeroOrMore x z = refl
 map_again None OneOrMore x z = refl
@@ -47,47 +49,70 @@ erase_idle i q (dot no_ops is (inside d b rest js ∷ up)) e = refl
 erase_idle i q (dot no_ops is (within b s k rest js rs ∷ up)) e =
     let f : start_of up + items_width js + (rounds_width rs + items_width is + 0) ≡ q = omega arith in
     map_again s k _ _
-    ∙ ap (λ p. again_of s k (outline b (pushed_default (written is (record { finished = rounds_of_items rs; current = no_commands }))) (edge b s k rest p (written js (base_of up)) ∷ edges_of up))
-    ++ (outline rest (pushed_nested (written js (base_of up)) (written is (record { finished = rounds_of_items rs; current = no_commands }))) (edges_of up) ∷ [])) f
+    ∙ ap (λ p. again_of s k (outline b (pushed_default
+    (written is (record { finished = rounds_of_items rs; current = no_commands })))
+    (edge b s k rest p (written js (base_of up)) ∷ edges_of up))
+    ++ (outline rest (pushed_nested (written js (base_of up))
+    (written is (record { finished = rounds_of_items rs; current = no_commands }))) (edges_of up) ∷ [])) f
 erase_idle i q (dot (op (token t) rest) is up) e = map_matched (i.token_at t q) rest is up
 erase_idle i q (dot (op (variable name kind span) rest) is up) e = map_bound name (i.fragment_at kind q) rest is up
 erase_idle i q (dot (op (expression x) rest) is up) e = refl
 erase_idle i q (dot (op (group d b) rest) is up) e = refl
 erase_idle i q (dot (op (repetition b s k) rest) is up) e =
     let f : start_of up + items_width is + 0 ≡ q = omega arith in
-    ap (λ l. outline b no_account (edge b s k rest (start_of up + items_width is + 0) (written is (base_of up)) ∷ edges_of up) ∷ l) (map_skip k _)
-    ∙ ap (λ p. outline b no_account (edge b s k rest p (written is (base_of up)) ∷ edges_of up) ∷ skip_of k (outline rest (skipped_names (names_of b) (written is (base_of up))) (edges_of up))) f
+    ap (λ l. outline b no_account (edge b s k rest (start_of up + items_width is + 0) (written is (base_of up))
+    ∷ edges_of up) ∷ l) (map_skip k _)
+    ∙ ap (λ p. outline b no_account (edge b s k rest p (written is (base_of up)) ∷ edges_of up)
+    ∷ skip_of k (outline rest (skipped_names (names_of b) (written is (base_of up))) (edges_of up))) f
 
 map_when : (b : Bool) (m : Move) → option_map erase_move (when b m) ≡ when_advance b (erase_move m)
 map_when true m = refl
 map_when false m = refl
 
-map_over_matched : (w : Option ℕ) (rest : Ops) (is : Items) (up : List Frame) → option_map erase_move (over_of false (matched_by w) rest is up) ≡ over_advance w (outline rest (written is (base_of up)) (edges_of up))
+map_over_matched : (w : Option ℕ) (rest : Ops) (is : Items) (up : List Frame)
+    → option_map erase_move (over_of false (matched_by w) rest is up)
+    ≡ over_advance w (outline rest (written is (base_of up)) (edges_of up))
 map_over_matched None rest is up = refl
 map_over_matched (Some n) rest is up = map_if_some false n (dot rest (item is (matched n)) up)
 
-map_over_bound : (name : Name) (w : Option Fragment) (rest : Ops) (is : Items) (up : List Frame) → option_map erase_move (over_of true (bound_as name w) rest is up) ≡ bound_advance name w rest (written is (base_of up)) (edges_of up)
+map_over_bound : (name : Name) (w : Option Fragment) (rest : Ops) (is : Items) (up : List Frame)
+    → option_map erase_move (over_of true (bound_as name w) rest is up)
+    ≡ bound_advance name w rest (written is (base_of up)) (edges_of up)
 map_over_bound name None rest is up = refl
 map_over_bound name (Some x) rest is up = map_if_some true (flat_len x.trees) (dot rest (item is (bound name x)) up)
 
-map_round : (k : RepeatKind) (w : Option ℕ) (q : ℕ) (b : Ops) (s : Option Separator) (rest : Ops) (js : Items) (rs : Rounds) (up : List Frame) (is : Items) →
+map_round : (k : RepeatKind) (w : Option ℕ) (q : ℕ) (b : Ops) (s : Option Separator) (rest : Ops) (js : Items)
+    (rs : Rounds) (up : List Frame) (is : Items) →
     ((n : ℕ) → start_of up + items_width js + (rounds_width rs + items_width is + n) ≡ q + n) →
-    option_map erase_move (round_move k w b s rest js rs up is) ≡ round_advance k w q b s rest (written js (base_of up)) (written is (record { finished = rounds_of_items rs; current = no_commands })) (edges_of up)
+    option_map erase_move (round_move k w b s rest js rs up is)
+    ≡ round_advance k w q b s rest (written js (base_of up))
+    (written is (record { finished = rounds_of_items rs; current = no_commands })) (edges_of up)
 map_round k None q b s rest js rs up is e = refl
-map_round ZeroOrMore (Some n) q b s rest js rs up is e = ap (λ p. Some (advance n false (outline b (pushed_default (written is (record { finished = rounds_of_items rs; current = no_commands }))) (edge b s ZeroOrMore rest p (written js (base_of up)) ∷ edges_of up)))) (e n)
-map_round OneOrMore (Some n) q b s rest js rs up is e = ap (λ p. Some (advance n false (outline b (pushed_default (written is (record { finished = rounds_of_items rs; current = no_commands }))) (edge b s OneOrMore rest p (written js (base_of up)) ∷ edges_of up)))) (e n)
+map_round ZeroOrMore (Some n) q b s rest js rs up is e =
+    ap (λ p. Some (advance n false (outline b
+    (pushed_default (written is (record { finished = rounds_of_items rs; current = no_commands })))
+    (edge b s ZeroOrMore rest p (written js (base_of up)) ∷ edges_of up)))) (e n)
+map_round OneOrMore (Some n) q b s rest js rs up is e =
+    ap (λ p. Some (advance n false (outline b
+    (pushed_default (written is (record { finished = rounds_of_items rs; current = no_commands })))
+    (edge b s OneOrMore rest p (written js (base_of up)) ∷ edges_of up)))) (e n)
 map_round ZeroOrOne (Some n) q b s rest js rs up is e = refl
 
-map_separator : (i : Input) (q : ℕ) (s : Option Separator) (k : RepeatKind) (b rest : Ops) (js : Items) (rs : Rounds) (up : List Frame) (is : Items) →
+map_separator : (i : Input) (q : ℕ) (s : Option Separator) (k : RepeatKind) (b rest : Ops) (js : Items) (rs : Rounds)
+    (up : List Frame) (is : Items) →
     ((n : ℕ) → start_of up + items_width js + (rounds_width rs + items_width is + n) ≡ q + n) →
-    option_map erase_move (separator_move i q s k b rest js rs up is) ≡ separator_advance i q s k b rest (written js (base_of up)) (written is (record { finished = rounds_of_items rs; current = no_commands })) (edges_of up)
+    option_map erase_move (separator_move i q s k b rest js rs up is)
+    ≡ separator_advance i q s k b rest (written js (base_of up))
+    (written is (record { finished = rounds_of_items rs; current = no_commands })) (edges_of up)
 map_separator i q None k b rest js rs up is e = refl
 map_separator i q (Some c) k b rest js rs up is e = map_round k (i.separator_at c q) q b (Some c) rest js rs up is e
 
-pub erase_next : (i : Input) (q : ℕ) (x : Beginning) → place x ≡ q → option_map erase_move (next i q x) ≡ next_of i q (erase x)
+pub erase_next : (i : Input) (q : ℕ) (x : Beginning) → place x ≡ q
+    → option_map erase_move (next i q x) ≡ next_of i q (erase x)
 erase_next i q (dot no_ops is []) e = refl
 erase_next i q (dot no_ops is (inside d b rest js ∷ up)) e = map_when (i.closes_at q) _
-erase_next i q (dot no_ops is (within b s k rest js rs ∷ up)) e = map_separator i q s k b rest js rs up is (λ n. omega arith)
+erase_next i q (dot no_ops is (within b s k rest js rs ∷ up)) e =
+    map_separator i q s k b rest js rs up is (λ n. omega arith)
 erase_next i q (dot (op (token t) rest) is up) e = map_over_matched (i.token_at t q) rest is up
 erase_next i q (dot (op (variable name kind span) rest) is up) e = map_over_bound name (i.fragment_at kind q) rest is up
 erase_next i q (dot (op (expression x) rest) is up) e = refl
@@ -99,16 +124,6 @@ erase_finished (dot no_ops is []) = refl
 erase_finished (dot no_ops is (inside d b rest js ∷ up)) = refl
 erase_finished (dot no_ops is (within b s k rest js rs ∷ up)) = refl
 erase_finished (dot (op o rest) is up) = refl
-
-pub load_append : (q : ℕ) (xs ys : List Outline) → load q (xs ++ ys) ≡ load q xs + load q ys
-load_append q [] ys = omega arith
-load_append q (x ∷ xs) ys = let e : load q (xs ++ ys) ≡ load q xs + load q ys = load_append q xs ys in omega arith
-
-weight_mono : (a b : ℕ) → a ≤ b → weight a ≤ weight b
-weight_mono zero zero l = omega arith
-weight_mono zero (suc b) l = let h : weight zero ≤ weight b = weight_mono zero b (omega arith) in omega arith
-weight_mono (suc a) zero l = absurd (omega arith)
-weight_mono (suc a) (suc b) l = let h : weight a ≤ weight b = weight_mono a b (omega arith) in omega arith
 
 short_empty : (w : Option Item) (rest : Ops) (is : Items) (up : List Frame) → length (empty_of w rest is up) ≤ 2
 short_empty None rest is up = omega arith
@@ -134,25 +149,9 @@ idle_short i q (dot no_ops is []) = omega arith
 idle_short i q (dot no_ops is (inside d b rest js ∷ up)) = omega arith
 idle_short i q (dot no_ops is (within b s k rest js rs ∷ up)) = short_again s k _ _
 idle_short i q (dot (op (token t) rest) is up) = short_empty (matched_by (i.token_at t q)) rest is up
-idle_short i q (dot (op (variable name kind span) rest) is up) = short_empty (bound_as name (i.fragment_at kind q)) rest is up
+idle_short i q (dot (op (variable name kind span) rest) is up) =
+    short_empty (bound_as name (i.fragment_at kind q)) rest is up
 idle_short i q (dot (op (expression x) rest) is up) = omega arith
 idle_short i q (dot (op (group d b) rest) is up) = omega arith
 idle_short i q (dot (op (repetition b s k) rest) is up) =
     short_skip k (dot b no_items (within b s k rest is no_rounds ∷ up)) (dot rest (item is (skipped (names_of b))) up)
-
-few_light : (q r : ℕ) (ys : List Beginning) → length ys ≤ 2 → ((y : Beginning) → In y ys → rank q y < r) → load q (map erase ys) < weight r
-few_light q zero [] l f = omega arith
-few_light q (suc r) [] l f = omega arith
-few_light q zero (y ∷ ys) l f = let h : rank q y < 0 = f y (inl refl) in absurd (omega arith)
-few_light q (suc r) (y ∷ []) l f =
-    let h : rank q y < suc r = f y (inl refl) in
-    let g : weight (rank q y) ≤ weight r = weight_mono (rank q y) r (omega arith) in omega arith
-few_light q (suc r) (y ∷ z ∷ []) l f =
-    let h : rank q y < suc r = f y (inl refl) in
-    let g : weight (rank q y) ≤ weight r = weight_mono (rank q y) r (omega arith) in
-    let h' : rank q z < suc r = f z (inr (inl refl)) in
-    let g' : weight (rank q z) ≤ weight r = weight_mono (rank q z) r (omega arith) in omega arith
-few_light q (suc r) (y ∷ z ∷ v ∷ ys) l f = absurd (omega arith)
-
-pub idle_light : (i : Input) (q : ℕ) (x : Beginning) → place x ≡ q → ((y : Beginning) → In y (idle i q x) → rank q y < rank q x) → load q (idle_of i q (erase x)) < weight (rank q x)
-idle_light i q x e f = subst (λ l. load q l < weight (rank q x)) (erase_idle i q x e) (few_light q (rank q x) (idle i q x) (idle_short i q x) f)

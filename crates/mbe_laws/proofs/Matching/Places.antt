@@ -1,5 +1,5 @@
 -- The matcher's loop over places.
-use Rattle.std.proofs.Common.{ℕ, zero, suc, ◌+◌, ◌≡◌, ◌<◌, ◌≤◌, inl, inr, Some, None, Bool, true, false, ◌||◌, not, nat_eq, List, [], ◌∷◌, ◌++◌, map, reverse, length, refl, sym, ◌∙◌, ap, subst, arith}
+use Rattle.std.proofs.Common.{ℕ, suc, ◌+◌, ◌≡◌, ◌<◌, ◌≤◌, inl, inr, Some, None, Bool, true, false, ◌||◌, not, nat_eq, List, [], ◌∷◌, ◌++◌, map, reverse, length, refl, sym, ◌∙◌, ap, subst, arith}
 use Rattle.std.proofs.lemmas.List.{reverse-append, reverse-reverse, map-append}
 use Rattle.mbe_semantics.specs.Syntax.Op.{Ops, no_ops}
 use Rattle.mbe_semantics.specs.Readings.Item.{Items, items_width}
@@ -12,8 +12,8 @@ use Rattle.mbe_semantics.specs.Syntax.Nullable.{Checked}
 use Rattle.mbe_semantics.specs.Laws.Lawful.{Lawful}
 use Rattle.mbe_semantics.specs.Matching.Outline.{Outline, Advance, advance, erase, erase_move}
 use Rattle.mbe_semantics.specs.Matching.Held.{held, moves_of, targets, completions, clashing_with, clashing}
-use Rattle.mbe_semantics.specs.Readings.Verdict.{Verdict, ambiguous, many_readings, stuck, Right, verdict_of, verdict_at}
-use Rattle.mbe_semantics.specs.Matching.Settled.{Stack, HasStack, Settled, clash_with, clash, after_of, first_width}
+use Rattle.mbe_semantics.specs.Readings.Verdict.{Verdict, ambiguous, stuck, Right, verdict_of, verdict_at}
+use Rattle.mbe_semantics.specs.Matching.Settled.{Stack, Settled, clash_with, clash, after_of, first_width}
 use Rattle.mbe_laws.proofs.Matching.Forest.{in_left, in_right, distinct_append}
 use Rattle.mbe_laws.proofs.Matching.Law.{Inv}
 use Rattle.mbe_laws.proofs.Matching.Advance.{inv-start, inv-next, next_fresh, some_width, right-ambiguous, right-stuck, last-place}
@@ -27,8 +27,10 @@ len_map f (x ∷ xs) = ap suc (len_map f xs)
 -- the order does not matter
 in_reverse : {A : Type 0} (x : A) (xs : List A) → In x xs → In x (reverse xs)
 in_reverse x [] h = h
-in_reverse x (y ∷ xs) (inl e) = subst (λ l. In x l) (sym (reverse-append (y ∷ []) xs)) (in_right x (reverse xs) (y ∷ []) (inl e))
-in_reverse x (y ∷ xs) (inr m) = subst (λ l. In x l) (sym (reverse-append (y ∷ []) xs)) (in_left x (reverse xs) (y ∷ []) (in_reverse x xs m))
+in_reverse x (y ∷ xs) (inl e) = subst (λ l. In x l) (sym (reverse-append (y ∷ []) xs))
+    (in_right x (reverse xs) (y ∷ []) (inl e))
+in_reverse x (y ∷ xs) (inr m) = subst (λ l. In x l) (sym (reverse-append (y ∷ []) xs))
+    (in_left x (reverse xs) (y ∷ []) (in_reverse x xs m))
 
 from_reverse : {A : Type 0} (x : A) (xs : List A) → In x (reverse xs) → In x xs
 from_reverse x xs h = subst (λ l. In x l) (reverse-reverse xs) (in_reverse x (reverse xs) h)
@@ -46,10 +48,12 @@ distinct_reverse {A} {K} key (x ∷ xs) d =
 map_reverse : {A B : Type 0} (f : A → B) (xs : List A) → map f (reverse xs) ≡ reverse (map f xs)
 map_reverse f [] = refl
 map_reverse f (x ∷ xs) =
-    ap (map f) (reverse-append (x ∷ []) xs) ∙ map-append f (reverse xs) (x ∷ []) ∙ ap (λ l. l ++ (f x ∷ [])) (map_reverse f xs)
+    ap (map f) (reverse-append (x ∷ []) xs) ∙ map-append f (reverse xs) (x ∷ [])
+    ∙ ap (λ l. l ++ (f x ∷ [])) (map_reverse f xs)
     ∙ sym (reverse-append (f x ∷ []) (map f xs))
 
-inv_reverse : (i : Input) (pat : Ops) (q : ℕ) (xs : List Beginning) → ((x : Beginning) → In x xs → fresh (story x) ≡ true) → Inv i pat q xs → Inv i pat q (reverse xs)
+inv_reverse : (i : Input) (pat : Ops) (q : ℕ) (xs : List Beginning)
+    → ((x : Beginning) → In x xs → fresh (story x) ≡ true) → Inv i pat q xs → Inv i pat q (reverse xs)
 inv_reverse i pat q xs f v = record {
   sound = λ x h. v.sound x (from_reverse x xs h);
   once = distinct_reverse story xs v.once;
@@ -66,11 +70,9 @@ pub record Comes (i : Input) (pat : Ops) (q : ℕ) (spots : List Outline) : Type
   pub inv : Inv i pat q xs
   pub same : map erase xs ≡ reverse spots
 
-pub stack_of : (i : Input) (pat : Ops) (q : ℕ) (spots : List Outline) → (c : Comes i pat q spots) → Stack i pat q c.xs spots
+pub stack_of : (i : Input) (pat : Ops) (q : ℕ) (spots : List Outline) → (c : Comes i pat q spots)
+    → Stack i pat q c.xs spots
 stack_of i pat q spots c = record { sound = c.inv.sound; same = c.same }
-
-pub has_stack : (i : Input) (pat : Ops) (q : ℕ) (spots : List Outline) → Checked pat → Comes i pat q spots → HasStack i q spots
-has_stack i pat q spots k c = (pat, k, (c.xs, stack_of i pat q spots c))
 
 same_with : (n : ℕ) (f : Bool) (ms : List Move) → clash_with n f (map erase_move ms) ≡ clashing_with n f ms
 same_with n f [] = refl
@@ -89,16 +91,12 @@ count_verdict len [] = refl
 count_verdict len (r ∷ []) = refl
 count_verdict len (r ∷ s ∷ rs) = refl
 
-pub many_at : (len n : ℕ) → (n ≡ 0 → ⊥) → (n ≡ 1 → ⊥) → verdict_at len n ≡ many_readings
-many_at len zero a b = absurd (a refl)
-many_at len (suc zero) a b = absurd (b refl)
-many_at len (suc (suc n)) a b = refl
-
 no_width : (ws : List Advance) → first_width ws ≡ None → ws ≡ []
 no_width [] e = refl
 no_width (advance n f o ∷ ws) e = cc
 
-some_first : (m : ℕ) (ws : List Advance) → first_width ws ≡ Some m → (f : Bool) × (o : Outline) × (vs : List Advance) × (ws ≡ advance m f o ∷ vs)
+some_first : (m : ℕ) (ws : List Advance) → first_width ws ≡ Some m
+    → (f : Bool) × (o : Outline) × (vs : List Advance) × (ws ≡ advance m f o ∷ vs)
 some_first m [] e = cc
 some_first m (advance n f o ∷ ws) e = let d : n ≡ m = cc in (f, o, ws, ap (λ k. advance k f o ∷ ws) d)
 
@@ -106,7 +104,8 @@ module _ (i : Input) (pat : Ops) (len : ℕ) (lawful : Lawful i len) (checked : 
   pub comes_start : (o : Outline) → erase (start pat) ≡ o → Comes i pat 0 (o ∷ [])
   comes_start o e = record { xs = start pat ∷ []; inv = inv-start i pat len lawful checked; same = ap (λ v. v ∷ []) e }
 
-  module _ (q : ℕ) (spots : List Outline) (c : Comes i pat q spots) (ws : List Advance) (n : List Commands) (s : Settled i q spots ws n) where
+  module _ (q : ℕ) (spots : List Outline) (c : Comes i pat q spots) (ws : List Advance) (n : List Commands)
+      (s : Settled i q spots ws n) where
     moves : List Move
     moves = moves_of i q (held i q c.xs)
 
@@ -115,7 +114,8 @@ module _ (i : Input) (pat : Ops) (len : ℕ) (lawful : Lawful i len) (checked : 
 
     pub right_clash : clash ws ≡ true → Right i pat len (ambiguous q)
     right_clash e =
-        right-ambiguous i pat len lawful checked q c.xs c.inv (sym (same_clash (moves_of i q (held i q c.xs))) ∙ ap clash (sym settled.0) ∙ e)
+        right-ambiguous i pat len lawful checked q c.xs c.inv
+        (sym (same_clash (moves_of i q (held i q c.xs))) ∙ ap clash (sym settled.0) ∙ e)
 
     -- nothing goes on before the end
     pub right_none : first_width ws ≡ None → q < len → Right i pat len (stuck q)
@@ -130,23 +130,29 @@ module _ (i : Input) (pat : Ops) (len : ℕ) (lawful : Lawful i len) (checked : 
 
         no_reading : (is : Items) → Reading i pat len is → ⊥
         no_reading is r =
-            let b : place (dot no_ops is []) ≤ q = last-place i pat len lawful checked q c.xs c.inv none (dot no_ops is []) (tt, r.0) in
+            let b : place (dot no_ops is []) ≤ q =
+            last-place i pat len lawful checked q c.xs c.inv none (dot no_ops is []) (tt, r.0) in
             let w : items_width is ≡ len = r.1 in
             omega arith
 
     -- the end
     pub right_end : (v : Verdict) → q ≡ len → v ≡ verdict_at len (length n) → Right i pat len v
-    right_end v e f = subst (Right i pat len) (sym (f ∙ ap (λ l. verdict_at len (length l)) settled.1 ∙ ap (verdict_at len) (len_map commands_of (completions (held i q c.xs))) ∙ sym (count_verdict len (completions (held i q c.xs))))) (at_end q e c.inv)
+    right_end v e f = subst (Right i pat len)
+        (sym (f ∙ ap (λ l. verdict_at len (length l)) settled.1
+        ∙ ap (verdict_at len) (len_map commands_of (completions (held i q c.xs)))
+        ∙ sym (count_verdict len (completions (held i q c.xs))))) (at_end q e c.inv)
       where
         at_end : (p : ℕ) → p ≡ len → Inv i pat p c.xs → Right i pat len (verdict_of len (completions (held i p c.xs)))
-        at_end p d = subst (λ k. Inv i pat k c.xs → Right i pat len (verdict_of len (completions (held i k c.xs)))) (sym d)
+        at_end p d = subst (λ k. Inv i pat k c.xs → Right i pat len (verdict_of len (completions (held i k c.xs))))
+            (sym d)
             (λ w. right_of i pat len lawful checked c.xs w (completions (held i len c.xs)) refl)
 
     -- what the only reading binds
     pub binds_end : (e : Commands) → q ≡ len → n ≡ e ∷ [] → (is : Items) × Reading i pat len is × (e ≡ commands_of is)
     binds_end e f g = at_end q f c.inv (completions (held i q c.xs)) refl (sym settled.1 ∙ g)
       where
-        at_end : (p : ℕ) → p ≡ len → Inv i pat p c.xs → (rs : List Items) → completions (held i p c.xs) ≡ rs → map commands_of rs ≡ e ∷ [] →
+        at_end : (p : ℕ) → p ≡ len → Inv i pat p c.xs → (rs : List Items) → completions (held i p c.xs) ≡ rs
+            → map commands_of rs ≡ e ∷ [] →
             (is : Items) × Reading i pat len is × (e ≡ commands_of is)
         at_end p d w [] g h = cc
         at_end p d w (is ∷ rs) g h = (
@@ -157,14 +163,16 @@ module _ (i : Input) (pat : Ops) (len : ℕ) (lawful : Lawful i len) (checked : 
         )
 
     -- on to the next place
-    comes_with : (m : ℕ) (f : Bool) (o : Outline) (vs : List Advance) (new : List Outline) → ws ≡ advance m f o ∷ vs → clash ws ≡ false → new ≡ map after_of ws →
+    comes_with : (m : ℕ) (f : Bool) (o : Outline) (vs : List Advance) (new : List Outline) → ws ≡ advance m f o ∷ vs
+        → clash ws ≡ false → new ≡ map after_of ws →
         Comes i pat (q + m) new × (0 < m) × (q + m ≤ len)
     comes_with m f o vs new e k g =
         go (moves_of i q (held i q c.xs)) refl (sym settled.0 ∙ e)
         (sym (same_clash (moves_of i q (held i q c.xs))) ∙ ap clash (sym settled.0) ∙ k)
         (sym (same_targets (moves_of i q (held i q c.xs))) ∙ ap (map after_of) (sym settled.0) ∙ sym g)
       where
-        go : (ms : List Move) → moves_of i q (held i q c.xs) ≡ ms → map erase_move ms ≡ advance m f o ∷ vs → clashing ms ≡ false → map erase (targets ms) ≡ new →
+        go : (ms : List Move) → moves_of i q (held i q c.xs) ≡ ms → map erase_move ms ≡ advance m f o ∷ vs
+            → clashing ms ≡ false → map erase (targets ms) ≡ new →
             Comes i pat (q + m) new × (0 < m) × (q + m ≤ len)
         go [] a b d h = cc
         go (move l f' y ∷ ms) a b d h =
@@ -173,7 +181,9 @@ module _ (i : Input) (pat : Ops) (len : ℕ) (lawful : Lawful i len) (checked : 
               subst (λ j. Comes i pat (q + j) new) same
                   (record {
                     xs = reverse (targets (move l f' y ∷ ms));
-                    inv = inv_reverse i pat (q + l) (targets (move l f' y ∷ ms)) (next_fresh i pat len lawful checked q c.xs c.inv l f' y ms a d) (inv-next i pat len lawful checked q c.xs c.inv l f' y ms a d);
+                    inv = inv_reverse i pat (q + l) (targets (move l f' y ∷ ms))
+                        (next_fresh i pat len lawful checked q c.xs c.inv l f' y ms a d)
+                        (inv-next i pat len lawful checked q c.xs c.inv l f' y ms a d);
                     same = map_reverse erase (targets (move l f' y ∷ ms)) ∙ ap reverse h;
                   }),
               omega arith,

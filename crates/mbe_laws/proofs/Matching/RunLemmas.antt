@@ -21,51 +21,64 @@ use Rattle.mbe_laws.proofs.Matching.Final.{right_of}
 use Rattle.mbe_semantics.proofs.InputLemmas.{lawful_input}
 
 module _ (i : Input) (pat : Ops) (len : ℕ) (lawful : Lawful i len) (checked : Checked pat) where
-  at_end : (q : ℕ) (xs : List Beginning) → Inv i pat q xs → q ≡ len → Right i pat len (verdict_of len (completions (held i q xs)))
+  at_end : (q : ℕ) (xs : List Beginning) → Inv i pat q xs → q ≡ len
+      → Right i pat len (verdict_of len (completions (held i q xs)))
   at_end q xs v e = (subst (λ k. Inv i pat k xs → Right i pat len (verdict_of len (completions (held i k xs)))) (sym e)
       (λ w. right_of i pat len lawful checked xs w (completions (held i len xs)) refl)) v
 
-  no_reading : (q : ℕ) (xs : List Beginning) → Inv i pat q xs → moves_of i q (held i q xs) ≡ [] → (q ≡ len → ⊥) → q ≤ len → (is : Items) → Reading i pat len is → ⊥
+  no_reading : (q : ℕ) (xs : List Beginning) → Inv i pat q xs → moves_of i q (held i q xs) ≡ [] → (q ≡ len → ⊥)
+      → q ≤ len → (is : Items) → Reading i pat len is → ⊥
   no_reading q xs v e d l is r =
-      let b : place (dot no_ops is []) ≤ q = last-place i pat len lawful checked q xs v e (dot no_ops is []) (tt, r.0) in
+      let b : place (dot no_ops is []) ≤ q =
+      last-place i pat len lawful checked q xs v e (dot no_ops is []) (tt, r.0) in
       let w : items_width is ≡ len = r.1 in
       d (omega (arith, b, w, l))
 
-  pub run-right : (n q : ℕ) (xs : List Beginning) → Inv i pat q xs → q ≤ len → len < n + q → Right i pat len (run n i len q xs)
+  pub run-right : (n q : ℕ) (xs : List Beginning) → Inv i pat q xs → q ≤ len → len < n + q
+      → Right i pat len (run n i len q xs)
   unfolding run
   run-right zero q xs v l m = absurd (omega (arith, l, m))
   run-right (suc n) q xs v l m = turn (moves_of i q (held i q xs)) refl (λ k ys w a b. run-right n k ys w a b)
     where
-      ended : (b : Bool) → (q == len) ≡ b → moves_of i q (held i q xs) ≡ [] → Right i pat len (if b then verdict_of len (completions (held i q xs)) else stuck q)
+      ended : (b : Bool) → (q == len) ≡ b → moves_of i q (held i q xs) ≡ []
+          → Right i pat len (if b then verdict_of len (completions (held i q xs)) else stuck q)
       ended true k e = at_end q xs v (eqb-true q len k)
       ended false k e = right-stuck i pat len lawful checked q xs v e (no_reading q xs v e (eqb-false q len k) l)
 
       further : (k : ℕ) (f : Bool) (y : Beginning) (ms : List Move) → moves_of i q (held i q xs) ≡ move k f y ∷ ms →
-          ((k' : ℕ) (ys : List Beginning) → Inv i pat k' ys → k' ≤ len → len < n + k' → Right i pat len (run n i len k' ys)) →
+          ((k' : ℕ) (ys : List Beginning) → Inv i pat k' ys → k' ≤ len → len < n + k'
+          → Right i pat len (run n i len k' ys)) →
           (b : Bool) → clashing (move k f y ∷ ms) ≡ b →
           Right i pat len (if b then ambiguous q else run n i len (q + k) (targets (move k f y ∷ ms)))
       further k f y ms e ih true c = right-ambiguous i pat len lawful checked q xs v (ap clashing e ∙ c)
       further k f y ms e ih false c =
           let w : (0 < k) × (q + k ≤ len) = some_width i pat len lawful checked q xs v k f y ms e c in
-          ih (q + k) (targets (move k f y ∷ ms)) (inv-next i pat len lawful checked q xs v k f y ms e c) w.1 (let a = w.0 in omega (arith, a, m))
+          ih (q + k) (targets (move k f y ∷ ms)) (inv-next i pat len lawful checked q xs v k f y ms e c) w.1
+          (let a = w.0 in omega (arith, a, m))
 
       turn : (ms : List Move) → moves_of i q (held i q xs) ≡ ms →
-          ((k : ℕ) (ys : List Beginning) → Inv i pat k ys → k ≤ len → len < n + k → Right i pat len (run n i len k ys)) →
+          ((k : ℕ) (ys : List Beginning) → Inv i pat k ys → k ≤ len → len < n + k → Right i pat len (run n i len k ys))
+          →
           Right i pat len (go_on i len q xs (λ k ys. run n i len k ys) ms)
       turn [] e ih = ended (q == len) refl e
       turn (move k f y ∷ ms) e ih = further k f y ms e ih (clashing (move k f y ∷ ms)) refl
 
 -- the run's answer is the verdict
-pub verdict-right : (g : Grammar) (pattern : Ops) (argument : Forest) → IsLawful g → Checked pattern → IsVerdict g pattern argument (verdict g pattern argument)
+pub verdict-right : (g : Grammar) (pattern : Ops) (argument : Forest) → IsLawful g → Checked pattern
+    → IsVerdict g pattern argument (verdict g pattern argument)
 unfolding verdict
 verdict-right g pattern argument w c =
-    run-right (input_of g argument) pattern (flat_len argument) (lawful_input g argument w) c (suc (flat_len argument)) 0 (start pattern ∷ [])
-    (inv-start (input_of g argument) pattern (flat_len argument) (lawful_input g argument w) c) (omega arith) (omega arith)
+    run-right (input_of g argument) pattern (flat_len argument) (lawful_input g argument w) c (suc (flat_len argument))
+    0 (start pattern ∷ [])
+    (inv-start (input_of g argument) pattern (flat_len argument) (lawful_input g argument w) c) (omega arith)
+    (omega arith)
 
-comes-inv : (i : Input) (pat : Ops) (len : ℕ) → Lawful i len → Checked pat → {q : ℕ} {xs : List Beginning} → Comes i pat q xs → Inv i pat q xs
+comes-inv : (i : Input) (pat : Ops) (len : ℕ) → Lawful i len → Checked pat → {q : ℕ} {xs : List Beginning}
+    → Comes i pat q xs → Inv i pat q xs
 comes-inv i pat len w c at_start = inv-start i pat len w c
 comes-inv i pat len w c (at_next q m n f y ms xs h e d k) =
-    subst (λ p. Inv i pat p (targets (move n f y ∷ ms))) (sym k) (inv-next i pat len w c q xs (comes-inv i pat len w c h) n f y ms e d)
+    subst (λ p. Inv i pat p (targets (move n f y ∷ ms))) (sym k)
+    (inv-next i pat len w c q xs (comes-inv i pat len w c h) n f y ms e d)
 
 pub matcher_law : MatcherLaw
 matcher_law g pattern argument w c q xs h = record {
@@ -94,7 +107,11 @@ one_of_three q p = grind arith
 
 one_of : (i : Input) (pat : Ops) (len : ℕ) (v w : Verdict) → Right i pat len v → Right i pat len w → v ≡ w
 one_of i pat len (ambiguous q) (ambiguous p) a b =
-    elim (one_of_three q p) [ inl e ↦ ap ambiguous e | inr d ↦ elim d [ inl l ↦ absurd (b.1 q l a.0) | inr l ↦ absurd (a.1 p l b.0) ] ]
+    elim (one_of_three q p) [
+      | inl e ↦ ap ambiguous e
+      | inr d ↦ elim d
+          [ inl l ↦ absurd (b.1 q l a.0) | inr l ↦ absurd (a.1 p l b.0) ]
+    ]
 one_of i pat len (ambiguous q) one_reading a b = absurd (b.0 q a.0)
 one_of i pat len (ambiguous q) many_readings a b = absurd (b.0 q a.0)
 one_of i pat len (ambiguous q) (stuck p) a b = absurd (b.0 q a.0)
@@ -120,5 +137,8 @@ pub one_verdict : OneVerdict
 one_verdict g pattern argument v w = one_of (input_of g argument) pattern (flat_len argument) v w
 
 pub has_one_verdict : HasOneVerdict
-has_one_verdict g pattern argument w c =
-    (verdict g pattern argument, verdict-right g pattern argument w c, λ v h. one_verdict g pattern argument v (verdict g pattern argument) h (verdict-right g pattern argument w c))
+has_one_verdict g pattern argument w c = (
+  verdict g pattern argument,
+  verdict-right g pattern argument w c,
+  λ v h. one_verdict g pattern argument v (verdict g pattern argument) h (verdict-right g pattern argument w c),
+)

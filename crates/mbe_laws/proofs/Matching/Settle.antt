@@ -1,5 +1,5 @@
 -- One turn of the stack, and what a settled stack stands for.
-use Rattle.std.proofs.Common.{ℕ, ◌+◌, ◌≡◌, ◌<◌, inl, inr, Option, Some, None, List, [], ◌∷◌, ◌++◌, map, reverse, length, refl, sym, ◌∙◌, ap, subst, arith, option_map, option_to_list, append_assoc, append-nil}
+use Rattle.std.proofs.Common.{ℕ, ◌+◌, ◌≡◌, ◌<◌, inl, inr, Option, Some, None, List, [], ◌∷◌, ◌++◌, map, reverse, refl, sym, ◌∙◌, ap, subst, option_map, option_to_list, append-nil}
 use Rattle.std.specs.List.{cons_option}
 use Rattle.std.proofs.lemmas.List.{reverse-append, reverse-reverse, map-append}
 use Rattle.std.proofs.lemmas.Grind.{flat_map-append}
@@ -11,19 +11,21 @@ use Rattle.mbe_semantics.specs.Readings.Steps.{idle, Move, next}
 use Rattle.mbe_semantics.specs.Matching.Lists.{In}
 use Rattle.mbe_semantics.specs.Syntax.Nullable.{Checked}
 use Rattle.mbe_semantics.specs.Laws.Lawful.{Lawful}
-use Rattle.mbe_semantics.specs.Matching.Outline.{Outline, Advance, erase, erase_move, idle_of, next_of, finished_of, rank_of, weight}
+use Rattle.mbe_semantics.specs.Matching.Outline.{Outline, Advance, erase, erase_move, idle_of, next_of, finished_of}
 use Rattle.mbe_semantics.specs.Matching.Held.{whole, held, moves_of, completed, completions}
-use Rattle.mbe_semantics.specs.Matching.Settled.{Stack, load}
+use Rattle.mbe_semantics.specs.Matching.Settled.{Stack}
 use Rattle.mbe_laws.proofs.Matching.Forest.{in_either}
 use Rattle.mbe_laws.proofs.Matching.Rank.{idle-falls, whole-step}
-use Rattle.mbe_laws.proofs.Matching.Outlines.{erase_idle, erase_next, erase_finished, load_append, idle_light}
+use Rattle.mbe_laws.proofs.Matching.Outlines.{erase_idle, erase_next, erase_finished}
 use Rattle.mbe_semantics.specs.Bindings.Account.{Commands, commands_of}
 
-map_cons : (o : Option Move) (ms : List Move) → map erase_move (cons_option o ms) ≡ option_to_list (option_map erase_move o) ++ map erase_move ms
+map_cons : (o : Option Move) (ms : List Move)
+    → map erase_move (cons_option o ms) ≡ option_to_list (option_map erase_move o) ++ map erase_move ms
 map_cons None ms = refl
 map_cons (Some m) ms = refl
 
-count_cons : (o : Option Items) (rs : List Items) → map commands_of (cons_option o rs) ≡ option_to_list (option_map commands_of o) ++ map commands_of rs
+count_cons : (o : Option Items) (rs : List Items)
+    → map commands_of (cons_option o rs) ≡ option_to_list (option_map commands_of o) ++ map commands_of rs
 count_cons None rs = refl
 count_cons (Some r) rs = refl
 
@@ -42,10 +44,13 @@ module _ (i : Input) (pat : Ops) (len : ℕ) (lawful : Lawful i len) (checked : 
   pub record Turn (xs : List Beginning) (o : Outline) (new : List Outline) : Type 0 where
     pub ys : List Beginning
     pub stack : Stack i pat q ys new
-    pub moves : map erase_move (moves_of i q (held i q xs)) ≡ option_to_list (next_of i q o) ++ map erase_move (moves_of i q (held i q ys))
-    pub ends : map commands_of (completions (held i q xs)) ≡ option_to_list (finished_of o) ++ map commands_of (completions (held i q ys))
+    pub moves : map erase_move (moves_of i q (held i q xs))
+        ≡ option_to_list (next_of i q o) ++ map erase_move (moves_of i q (held i q ys))
+    pub ends : map commands_of (completions (held i q xs))
+        ≡ option_to_list (finished_of o) ++ map commands_of (completions (held i q ys))
 
-  turn_at : (x : Beginning) (ys : List Beginning) (spots new : List Outline) (o : Outline) → ((z : Beginning) → In z (x ∷ ys) → At i pat q z) → erase x ≡ o → map erase ys ≡ reverse spots →
+  turn_at : (x : Beginning) (ys : List Beginning) (spots new : List Outline) (o : Outline)
+      → ((z : Beginning) → In z (x ∷ ys) → At i pat q z) → erase x ≡ o → map erase ys ≡ reverse spots →
       new ≡ spots ++ reverse (idle_of i q o) → Turn (x ∷ ys) o new
   turn_at x ys spots new o a e f g =
       let ax : At i pat q x = a x (inl refl) in
@@ -56,15 +61,18 @@ module _ (i : Input) (pat : Ops) (len : ℕ) (lawful : Lawful i len) (checked : 
         moves =
             ap (λ l. map erase_move (moves_of i q l)) (held_step x ys ax)
             ∙ map_cons (next i q x) (moves_of i q (held i q (idle i q x ++ ys)))
-            ∙ ap (λ v. option_to_list v ++ map erase_move (moves_of i q (held i q (idle i q x ++ ys)))) (erase_next i q x p ∙ ap (next_of i q) e);
+            ∙ ap (λ v. option_to_list v ++ map erase_move (moves_of i q (held i q (idle i q x ++ ys))))
+            (erase_next i q x p ∙ ap (next_of i q) e);
         ends =
             ap (λ l. map commands_of (completions l)) (held_step x ys ax)
             ∙ count_cons (completed x) (completions (held i q (idle i q x ++ ys)))
-            ∙ ap (λ v. option_to_list v ++ map commands_of (completions (held i q (idle i q x ++ ys)))) (erase_finished x ∙ ap finished_of e);
+            ∙ ap (λ v. option_to_list v ++ map commands_of (completions (held i q (idle i q x ++ ys))))
+            (erase_finished x ∙ ap finished_of e);
       }
     where
       sound : (z : Beginning) → In z (idle i q x ++ ys) → At i pat q z
-      sound z h = elim (in_either z (idle i q x) ys h) [ inl m ↦ (idle-falls i pat q lawful checked x z (a x (inl refl)) m).0 | inr m ↦ a z (inr m) ]
+      sound z h = elim (in_either z (idle i q x) ys h)
+          [ inl m ↦ (idle-falls i pat q lawful checked x z (a x (inl refl)) m).0 | inr m ↦ a z (inr m) ]
 
       same : place x ≡ q → map erase (idle i q x ++ ys) ≡ reverse new
       same p =
@@ -75,81 +83,39 @@ module _ (i : Input) (pat : Ops) (len : ℕ) (lawful : Lawful i len) (checked : 
           ∙ sym (reverse-append spots (reverse (idle_of i q o)))
           ∙ ap reverse (sym g)
 
-  pub turn : (xs : List Beginning) (spots new : List Outline) (o : Outline) → Stack i pat q xs (spots ++ (o ∷ [])) → new ≡ spots ++ reverse (idle_of i q o) → Turn xs o new
+  pub turn : (xs : List Beginning) (spots new : List Outline) (o : Outline) → Stack i pat q xs (spots ++ (o ∷ []))
+      → new ≡ spots ++ reverse (idle_of i q o) → Turn xs o new
   turn xs spots new o s g =
       let t : (x : Beginning) × (ys : List Beginning) × (xs ≡ x ∷ ys) × (erase x ≡ o) × (map erase ys ≡ reverse spots) =
       top xs spots o (s.same ∙ reverse-append spots (o ∷ [])) in
       subst (λ l. Turn l o new) (sym t.2)
       (turn_at t.0 t.1 spots new o (λ z m. s.sound z (subst (λ l. In z l) (sym t.2) m)) t.3 t.4 g)
 
-  -- the work falls
-  pub turn_light : (xs : List Beginning) (spots new : List Outline) (o : Outline) → Stack i pat q xs (spots ++ (o ∷ [])) → new ≡ spots ++ reverse (idle_of i q o) →
-      load q new < load q (spots ++ (o ∷ []))
-  turn_light xs spots new o s g =
-      let t : (x : Beginning) × (ys : List Beginning) × (xs ≡ x ∷ ys) × (erase x ≡ o) × (map erase ys ≡ reverse spots) =
-      top xs spots o (s.same ∙ reverse-append spots (o ∷ [])) in
-      let a : At i pat q t.0 = s.sound t.0 (subst (λ l. In t.0 l) (sym t.2) (inl refl)) in
-      let l : load q (idle_of i q o) < weight (rank_of q o) =
-      subst (λ v. load q (idle_of i q v) < weight (rank_of q v)) t.3 (idle_light i q t.0 a.1 (λ y m. (idle-falls i pat q lawful checked t.0 y a m).1)) in
-      let r : load q (reverse (idle_of i q o)) ≡ load q (idle_of i q o) = load_reverse (idle_of i q o) in
-      let n : load q new ≡ load q spots + load q (reverse (idle_of i q o)) = ap (load q) g ∙ load_append q spots (reverse (idle_of i q o)) in
-      let m : load q (spots ++ (o ∷ [])) ≡ load q spots + load q (o ∷ []) = load_append q spots (o ∷ []) in
-      omega arith
-    where
-      load_reverse : (os : List Outline) → load q (reverse os) ≡ load q os
-      load_reverse [] = refl
-      load_reverse (v ∷ os) =
-          let e : load q (reverse (v ∷ os)) ≡ load q (reverse os) + load q (v ∷ []) = ap (load q) (reverse-append (v ∷ []) os) ∙ load_append q (reverse os) (v ∷ []) in
-          let h : load q (reverse os) ≡ load q os = load_reverse os in
-          omega arith
-
   pub empty_stack : (xs : List Beginning) → Stack i pat q xs [] → xs ≡ []
   empty_stack [] s = refl
   empty_stack (x ∷ xs) s = let e : map erase (x ∷ xs) ≡ [] = s.same in cc
 
 -- what a loop over the stack keeps: the steps so far and those of the stack are those of the first stack
-pub record Keeps (i : Input) (pat : Ops) (q : ℕ) (xs : List Beginning) (spots : List Outline) (ws : List Advance) (n : List Commands) : Type 0 where
+pub record Keeps (i : Input) (pat : Ops) (q : ℕ) (xs : List Beginning) (spots : List Outline) (ws : List Advance)
+    (n : List Commands) : Type 0 where
   pub ys : List Beginning
   pub stack : Stack i pat q ys spots
   pub moves : ws ++ map erase_move (moves_of i q (held i q ys)) ≡ map erase_move (moves_of i q (held i q xs))
   pub ends : n ++ map commands_of (completions (held i q ys)) ≡ map commands_of (completions (held i q xs))
 
-pub keeps_start : (i : Input) (pat : Ops) (q : ℕ) (xs : List Beginning) (spots : List Outline) → Stack i pat q xs spots → Keeps i pat q xs spots [] []
+pub keeps_start : (i : Input) (pat : Ops) (q : ℕ) (xs : List Beginning) (spots : List Outline) → Stack i pat q xs spots
+    → Keeps i pat q xs spots [] []
 keeps_start i pat q xs spots s = record { ys = xs; stack = s; moves = refl; ends = refl }
 
-pub keeps_turn : (i : Input) (pat : Ops) (len : ℕ) → Lawful i len → Checked pat → (q : ℕ) (xs : List Beginning) (spots old new : List Outline) (o : Outline) (ws vs : List Advance) (n m : List Commands) →
-    old ≡ spots ++ (o ∷ []) → new ≡ spots ++ reverse (idle_of i q o) → vs ≡ ws ++ option_to_list (next_of i q o) → m ≡ n ++ option_to_list (finished_of o) →
-    Keeps i pat q xs old ws n → Keeps i pat q xs new vs m
-keeps_turn i pat len w c q xs spots old new o ws vs n m a b d e k =
-    let t : Turn i pat len w c q k.ys o new = turn i pat len w c q k.ys spots new o (subst (λ l. Stack i pat q k.ys l) a k.stack) b in
-    record {
-      ys = t.ys;
-      stack = t.stack;
-      moves =
-          ap (λ l. l ++ map erase_move (moves_of i q (held i q t.ys))) d
-          ∙ append_assoc ws (option_to_list (next_of i q o)) (map erase_move (moves_of i q (held i q t.ys)))
-          ∙ ap (λ l. ws ++ l) (sym t.moves) ∙ k.moves;
-      ends =
-          ap (λ l. l ++ map commands_of (completions (held i q t.ys))) e
-          ∙ append_assoc n (option_to_list (finished_of o)) (map commands_of (completions (held i q t.ys)))
-          ∙ ap (λ l. n ++ l) (sym t.ends) ∙ k.ends;
-    }
-
-pub keeps_light : (i : Input) (pat : Ops) (len : ℕ) → Lawful i len → Checked pat → (q : ℕ) (xs : List Beginning) (spots old new : List Outline) (o : Outline) (ws : List Advance) (n : List Commands) →
-    old ≡ spots ++ (o ∷ []) → new ≡ spots ++ reverse (idle_of i q o) → Keeps i pat q xs old ws n → load q new < load q old
-keeps_light i pat len w c q xs spots old new o ws n a b k =
-    subst (λ l. load q new < load q l) (sym a) (turn_light i pat len w c q k.ys spots new o (subst (λ l. Stack i pat q k.ys l) a k.stack) b)
-
-pub keeps_end : (i : Input) (pat : Ops) (len : ℕ) → Lawful i len → Checked pat → (q : ℕ) (xs : List Beginning) (ws : List Advance) (n : List Commands) → Keeps i pat q xs [] ws n →
+pub keeps_end : (i : Input) (pat : Ops) (len : ℕ) → Lawful i len → Checked pat
+    → (q : ℕ) (xs : List Beginning) (ws : List Advance) (n : List Commands) → Keeps i pat q xs [] ws n →
     (ws ≡ map erase_move (moves_of i q (held i q xs))) × (n ≡ map commands_of (completions (held i q xs)))
 keeps_end i pat len w c q xs ws n k =
     let e : k.ys ≡ [] = empty_stack i pat len w c q k.ys k.stack in
     let f : ws ++ map erase_move (moves_of i q (held i q [])) ≡ map erase_move (moves_of i q (held i q xs)) =
-    subst (λ l. ws ++ map erase_move (moves_of i q (held i q l)) ≡ map erase_move (moves_of i q (held i q xs))) e k.moves in
+    subst (λ l. ws ++ map erase_move (moves_of i q (held i q l)) ≡ map erase_move (moves_of i q (held i q xs))) e
+    k.moves in
     let g : n ++ map commands_of (completions (held i q [])) ≡ map commands_of (completions (held i q xs)) =
-    subst (λ l. n ++ map commands_of (completions (held i q l)) ≡ map commands_of (completions (held i q xs))) e k.ends in
+    subst (λ l. n ++ map commands_of (completions (held i q l)) ≡ map commands_of (completions (held i q xs))) e
+    k.ends in
     (sym (append-nil ws) ∙ f, sym (append-nil n) ∙ g)
-
-pub map_none : {A B : Type 0} (f : A → B) (xs : List A) → length xs ≡ 0 → map f xs ≡ []
-map_none f [] e = refl
-map_none f (x ∷ xs) e = absurd (omega arith)

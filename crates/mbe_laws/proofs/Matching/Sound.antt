@@ -20,11 +20,13 @@ all_one : (i : Input) (pat : Ops) (q : ℕ) (x : Beginning) → At i pat q x →
 all_one i pat q x a y (inl e) = subst (At i pat q) (sym e) a
 all_one i pat q x a y (inr h) = absurd h
 
-all_cons : (i : Input) (pat : Ops) (q : ℕ) (x : Beginning) (xs : List Beginning) → At i pat q x → AllAt i pat q xs → AllAt i pat q (x ∷ xs)
+all_cons : (i : Input) (pat : Ops) (q : ℕ) (x : Beginning) (xs : List Beginning) → At i pat q x → AllAt i pat q xs
+    → AllAt i pat q (x ∷ xs)
 all_cons i pat q x xs a b y (inl e) = subst (At i pat q) (sym e) a
 all_cons i pat q x xs a b y (inr h) = b y h
 
-all_skip : (i : Input) (pat : Ops) (q : ℕ) (k : RepeatKind) (x : Beginning) → (MaySkip k → At i pat q x) → AllAt i pat q (skip_of k x)
+all_skip : (i : Input) (pat : Ops) (q : ℕ) (k : RepeatKind) (x : Beginning) → (MaySkip k → At i pat q x)
+    → AllAt i pat q (skip_of k x)
 all_skip i pat q ZeroOrMore x a = all_one i pat q x (a tt)
 all_skip i pat q OneOrMore x a = all_none i pat q
 all_skip i pat q ZeroOrOne x a = all_one i pat q x (a tt)
@@ -37,7 +39,8 @@ all_again i pat q None ZeroOrOne x z a b = all_one i pat q z b
 all_again i pat q (Some c) k x z a b = all_one i pat q z b
 
 all_empty : (i : Input) (pat : Ops) (q : ℕ) (w : Option Item) (rest : Ops) (is : Items) (up : List Frame) →
-    ((x : Item) → w ≡ Some x → item_width x ≡ 0 → At i pat q (dot rest (item is x) up)) → AllAt i pat q (empty_of w rest is up)
+    ((x : Item) → w ≡ Some x → item_width x ≡ 0 → At i pat q (dot rest (item is x) up))
+    → AllAt i pat q (empty_of w rest is up)
 all_empty i pat q None rest is up a = all_none i pat q
 all_empty i pat q (Some x) rest is up a = go (item_width x) refl
   where
@@ -45,19 +48,48 @@ all_empty i pat q (Some x) rest is up a = go (item_width x) refl
     go zero e = all_one i pat q (dot rest (item is x) up) (a x refl e)
     go (suc n) e = all_none i pat q
 
-pub idle-sound : (i : Input) (pat : Ops) (q : ℕ) (x : Beginning) → At i pat q x → (y : Beginning) → In y (idle i q x) → At i pat q y
+pub idle-sound : (i : Input) (pat : Ops) (q : ℕ) (x : Beginning) → At i pat q x → (y : Beginning) → In y (idle i q x)
+    → At i pat q y
 idle-sound i pat q (dot no_ops is []) h = all_none i pat q
 idle-sound i pat q (dot no_ops is (inside d b rest js ∷ up)) h = all_none i pat q
 idle-sound i pat q (dot no_ops is (within b s k rest js rs ∷ up)) h =
     all_again i pat q s k _ _
-    (λ e r. (((h.0.0.0, h.0.0.1, (r, h.0.0.2, h.0.1, subst (λ v. Between i v (start_of up + items_width js + rounds_width rs + items_width is) 0) (sym e) refl)), refl), omega (arith, h.1)))
+    (λ e r. (
+      (
+        (
+          h.0.0.0,
+          h.0.0.1,
+          (
+            r,
+            h.0.0.2,
+            h.0.1,
+            subst (λ v. Between i v (start_of up + items_width js + rounds_width rs + items_width is) 0) (sym e) refl,
+          ),
+        ),
+        refl,
+      ),
+      omega (arith, h.1),
+    ))
     ((h.0.0.0, (repetition b s k, h.0.0.1, (h.0.0.2, h.0.1))), omega (arith, h.1))
 idle-sound i pat q (dot (op (token t) rest) is up) h =
     all_empty i pat q (matched_by (i.token_at t q)) rest is up
-    (λ x e z. ((h.0.0, (token t, h.0.1, subst (λ p. Reads x i (token t) p) (sym h.1) (matched-reads i t q x e))), omega (arith, h.1, z)))
+    (λ x e z. (
+      (h.0.0, (token t, h.0.1, subst (λ p. Reads x i (token t) p) (sym h.1) (matched-reads i t q x e))),
+      omega (arith, h.1, z),
+    ))
 idle-sound i pat q (dot (op (variable name kind span) rest) is up) h =
     all_empty i pat q (bound_as name (i.fragment_at kind q)) rest is up
-    (λ x e z. ((h.0.0, (variable name kind span, h.0.1, subst (λ p. Reads x i (variable name kind span) p) (sym h.1) (bound-reads i name kind span q x e))), omega (arith, h.1, z)))
+    (λ x e z. (
+      (
+        h.0.0,
+        (
+          variable name kind span,
+          h.0.1,
+          subst (λ p. Reads x i (variable name kind span) p) (sym h.1) (bound-reads i name kind span q x e),
+        ),
+      ),
+      omega (arith, h.1, z),
+    ))
 idle-sound i pat q (dot (op (expression e) rest) is up) h = all_none i pat q
 idle-sound i pat q (dot (op (group d b) rest) is up) h = all_none i pat q
 idle-sound i pat q (dot (op (repetition b s k) rest) is up) h =

@@ -26,9 +26,11 @@ abbrev op_count : Ops → ℕ
 op_count no_ops = 0
 op_count (op o os) = suc (op_count os)
 
-fewer : (is : Items) (i : Input) (os : Ops) (p : ℕ) (rest : Ops) → ReadsFirst is i os p rest → op_count rest ≤ op_count os
+fewer : (is : Items) (i : Input) (os : Ops) (p : ℕ) (rest : Ops) → ReadsFirst is i os p rest
+    → op_count rest ≤ op_count os
 fewer no_items i os p rest h = subst (λ v. op_count v ≤ op_count os) h (omega arith)
-fewer (item is x) i os p rest h = let k : suc (op_count rest) ≤ op_count os = fewer is i os p (op h.0 rest) h.1 in omega (arith, k)
+fewer (item is x) i os p rest h = let k : suc (op_count rest) ≤ op_count os =
+    fewer is i os p (op h.0 rest) h.1 in omega (arith, k)
 
 abbrev is_repetition : Ops → Bool
 is_repetition (op (repetition b s k) rest) = true
@@ -54,7 +56,8 @@ outer (within b s k rest js rs ∷ g ∷ up) = outer (g ∷ up)
 abbrev count : Beginning → ℕ
 count (dot rest is up) = outer up
 
-again_only : (s : Option Separator) (k : RepeatKind) (u : Beginning) (rest : Ops) (is : Items) (y : Beginning) → In y (again_of s k u ++ (dot rest is [] ∷ [])) → Main y → y ≡ u
+again_only : (s : Option Separator) (k : RepeatKind) (u : Beginning) (rest : Ops) (is : Items) (y : Beginning)
+    → In y (again_of s k u ++ (dot rest is [] ∷ [])) → Main y → y ≡ u
 again_only (Some c) k u rest is y (inl e) m = absurd (subst (λ v. Main v) e m)
 again_only (Some c) k u rest is y (inr e) m = absurd e
 again_only None ZeroOrOne u rest is y (inl e) m = absurd (subst (λ v. Main v) e m)
@@ -66,7 +69,8 @@ again_only None OneOrMore u rest is y (inl e) m = e
 again_only None OneOrMore u rest is y (inr (inl e)) m = absurd (subst (λ v. Main v) e m)
 again_only None OneOrMore u rest is y (inr (inr e)) m = absurd e
 
-enter_only : (k : RepeatKind) (u : Beginning) (rest : Ops) (is : Items) (y : Beginning) → In y (u ∷ skip_of k (dot rest is [])) → Main y → y ≡ u
+enter_only : (k : RepeatKind) (u : Beginning) (rest : Ops) (is : Items) (y : Beginning)
+    → In y (u ∷ skip_of k (dot rest is [])) → Main y → y ≡ u
 enter_only k u rest is y (inl e) m = e
 enter_only ZeroOrMore u rest is y (inr (inl e)) m = absurd (subst (λ v. Main v) e m)
 enter_only ZeroOrMore u rest is y (inr (inr e)) m = absurd e
@@ -74,13 +78,15 @@ enter_only OneOrMore u rest is y (inr e) m = absurd e
 enter_only ZeroOrOne u rest is y (inr (inl e)) m = absurd (subst (λ v. Main v) e m)
 enter_only ZeroOrOne u rest is y (inr (inr e)) m = absurd e
 
-again_move : {A : Type 0} (i : Input) (q : ℕ) (s : Option Separator) (k : RepeatKind) (u : Beginning) (rest : Ops) (is : Items) (y : Beginning) (b : Ops) (js last : Items) (rs : Rounds) (mv : Move) →
+again_move : {A : Type 0} (i : Input) (q : ℕ) (s : Option Separator) (k : RepeatKind) (u : Beginning) (rest : Ops)
+    (is : Items) (y : Beginning) (b : Ops) (js last : Items) (rs : Rounds) (mv : Move) →
     In y (again_of s k u ++ (dot rest is [] ∷ [])) → Main y → separator_move i q s k b rest js rs [] last ≡ Some mv → A
 again_move i q None k u rest is y b js last rs mv a m e = absurd (none-some mv e)
 again_move i q (Some c) k u rest is y b js last rs mv (inl a) m e = absurd (subst (λ v. Main v) a m)
 again_move i q (Some c) k u rest is y b js last rs mv (inr a) m e = absurd a
 
-empty_up : (w : Option Item) (rest : Ops) (is : Items) (up : List Frame) (y : Beginning) → In y (empty_of w rest is up) → count y ≡ outer up
+empty_up : (w : Option Item) (rest : Ops) (is : Items) (up : List Frame) (y : Beginning) → In y (empty_of w rest is up)
+    → count y ≡ outer up
 empty_up None rest is up y a = absurd a
 empty_up (Some x) rest is up y a = go (item_width x) a
   where
@@ -99,7 +105,8 @@ unfolding Fine
 when_fine c true y h = (omega arith, h)
 when_fine c false y h = tt
 
-over_fine : (f : Bool) (w : Option Item) (rest : Ops) (is : Items) (up : List Frame) → Fine (outer up) (over_of f w rest is up)
+over_fine : (f : Bool) (w : Option Item) (rest : Ops) (is : Items) (up : List Frame)
+    → Fine (outer up) (over_of f w rest is up)
 unfolding Fine
 over_fine f None rest is up = tt
 over_fine f (Some x) rest is up = go (item_width x)
@@ -108,7 +115,8 @@ over_fine f (Some x) rest is up = go (item_width x)
     go zero = tt
     go (suc n) = (omega arith, omega arith)
 
-round_fine : (k : RepeatKind) (w : Option ℕ) (b : Ops) (s : Option Separator) (rest : Ops) (js : Items) (rs : Rounds) (is : Items) →
+round_fine : (k : RepeatKind) (w : Option ℕ) (b : Ops) (s : Option Separator) (rest : Ops) (js : Items) (rs : Rounds)
+    (is : Items) →
     ((n : ℕ) → w ≡ Some n → 0 < n) → Fine (round_number rs) (round_move k w b s rest js rs [] is)
 unfolding Fine
 round_fine k None b s rest js rs is h = tt
@@ -116,7 +124,8 @@ round_fine ZeroOrMore (Some n) b s rest js rs is h = (h n refl, omega arith)
 round_fine OneOrMore (Some n) b s rest js rs is h = (h n refl, omega arith)
 round_fine ZeroOrOne (Some n) b s rest js rs is h = tt
 
-fine_move : (c : ℕ) (m : Option Move) (n : ℕ) (f : Bool) (y : Beginning) → m ≡ Some (move n f y) → Fine c m → (0 < n) × (c ≤ count y)
+fine_move : (c : ℕ) (m : Option Move) (n : ℕ) (f : Bool) (y : Beginning) → m ≡ Some (move n f y) → Fine c m
+    → (0 < n) × (c ≤ count y)
 unfolding Fine
 fine_move c m n f y e h = let P : Option Move → Type 0 = λ v. Fine c v in subst P e h
 
@@ -125,13 +134,15 @@ Counted : ℕ → Option Move → Type 0
 Counted c None = Unit {0}
 Counted c (Some (move n f y)) = count y ≡ c
 
-separator_counted : (i : Input) (q : ℕ) (s : Option Separator) (k : RepeatKind) (b rest : Ops) (js : Items) (rs : Rounds) (is : Items) →
+separator_counted : (i : Input) (q : ℕ) (s : Option Separator) (k : RepeatKind) (b rest : Ops) (js : Items)
+    (rs : Rounds) (is : Items) →
     Counted (suc (round_number rs)) (separator_move i q s k b rest js rs [] is)
 unfolding Counted
 separator_counted i q None k b rest js rs is = tt
 separator_counted i q (Some c) k b rest js rs is = go k (i.separator_at c q)
   where
-    go : (k' : RepeatKind) (w : Option ℕ) → Counted (suc (round_number rs)) (round_move k' w b (Some c) rest js rs [] is)
+    go : (k' : RepeatKind) (w : Option ℕ)
+        → Counted (suc (round_number rs)) (round_move k' w b (Some c) rest js rs [] is)
     go ZeroOrMore None = tt
     go OneOrMore None = tt
     go ZeroOrOne None = tt
@@ -139,7 +150,8 @@ separator_counted i q (Some c) k b rest js rs is = go k (i.separator_at c q)
     go OneOrMore (Some n) = refl
     go ZeroOrOne (Some n) = tt
 
-counted_move : (c : ℕ) (m : Option Move) (n : ℕ) (f : Bool) (y : Beginning) → m ≡ Some (move n f y) → Counted c m → count y ≡ c
+counted_move : (c : ℕ) (m : Option Move) (n : ℕ) (f : Bool) (y : Beginning) → m ≡ Some (move n f y) → Counted c m
+    → count y ≡ c
 unfolding Counted
 counted_move c m n f y e h = let P : Option Move → Type 0 = λ v. Counted c v in subst P e h
 
@@ -148,80 +160,112 @@ abbrev rounds_here : Beginning → Item
 rounds_here (dot rest is (within b s k after js rs ∷ up)) = rounds rs is
 rounds_here _ = matched 0
 
-same_body : (body b : Ops) (s s' : Option Separator) (k k' : RepeatKind) (rest : Ops) → op (repetition body s k) no_ops ≡ op (repetition b s' k') rest → body ≡ b
+same_body : (body b : Ops) (s s' : Option Separator) (k k' : RepeatKind) (rest : Ops)
+    → op (repetition body s k) no_ops ≡ op (repetition b s' k') rest → body ≡ b
 same_body body b s s' k k' rest e = cc
 
 three : (a b : ℕ) → (a ≡ b) ⊎ ((a < b) ⊎ (b < a))
 three a b = grind arith
 
-module _ (i : Input) (body : Ops) (s : Option Separator) (k : RepeatKind) (plain : IsTrue (has_no_repetition body)) (some : (c : Separator) (p w : ℕ) → i.separator_at c p ≡ Some w → 0 < w) where
+module _ (i : Input) (body : Ops) (s : Option Separator) (k : RepeatKind) (plain : IsTrue (has_no_repetition body))
+    (some : (c : Separator) (p w : ℕ) → i.separator_at c p ≡ Some w → 0 < w) where
   abbrev pat : Ops
   pat = one_repetition body s k
 
-  none_before : (is : Items) (p : ℕ) (o : Op) (rest : Ops) → ReadsFirst is i pat p (op o rest) → (is ≡ no_items) × (pat ≡ op o rest)
+  none_before : (is : Items) (p : ℕ) (o : Op) (rest : Ops) → ReadsFirst is i pat p (op o rest)
+      → (is ≡ no_items) × (pat ≡ op o rest)
   none_before no_items p o rest h = (refl, h)
-  none_before (item is x) p o rest h = let e : suc (suc (op_count rest)) ≤ 1 = fewer is i pat p (op h.0 (op o rest)) h.1 in absurd (omega (arith, e))
+  none_before (item is x) p o rest h = let e : suc (suc (op_count rest)) ≤ 1 =
+      fewer is i pat p (op h.0 (op o rest)) h.1 in absurd (omega (arith, e))
 
   no_outer_group : {A : Type 0} (d : _) (b rest : Ops) (js : Items) → Within i pat (inside d b rest js ∷ []) → A
   no_outer_group d b rest js h = no_true (sym (ap is_repetition (none_before js 0 (group d b) rest h.1).1))
 
-  plain_inside : (up : List Frame) (f : Frame) → Within i pat (f ∷ up) → IsTrue (has_no_repetition (body_of pat (f ∷ up)))
+  plain_inside : (up : List Frame) (f : Frame) → Within i pat (f ∷ up)
+      → IsTrue (has_no_repetition (body_of pat (f ∷ up)))
   plain_inside [] (inside d b rest js) h = no_outer_group d b rest js h
-  plain_inside [] (within b s' k' rest js rs) h = subst (λ v. IsTrue (has_no_repetition v)) (same_body body b s s' k k' rest (none_before js 0 (repetition b s' k') rest h.1).1) plain
-  plain_inside (g ∷ up) (inside d b rest js) h = plain_op js i (body_of pat (g ∷ up)) (start_of (g ∷ up)) (group d b) rest h.1 (plain_inside up g h.0)
+  plain_inside [] (within b s' k' rest js rs) h =
+      subst (λ v. IsTrue (has_no_repetition v))
+      (same_body body b s s' k k' rest (none_before js 0 (repetition b s' k') rest h.1).1) plain
+  plain_inside (g ∷ up) (inside d b rest js) h =
+      plain_op js i (body_of pat (g ∷ up)) (start_of (g ∷ up)) (group d b) rest h.1 (plain_inside up g h.0)
   plain_inside (g ∷ up) (within b s' k' rest js rs) h =
-      no_true (plain_op js i (body_of pat (g ∷ up)) (start_of (g ∷ up)) (repetition b s' k') rest h.1 (plain_inside up g h.0))
+      no_true (plain_op js i (body_of pat (g ∷ up)) (start_of (g ∷ up)) (repetition b s' k') rest h.1
+      (plain_inside up g h.0))
 
-  no_deep : {A : Type 0} (b : Ops) (s' : Option Separator) (k' : RepeatKind) (rest : Ops) (js : Items) (rs : Rounds) (g : Frame) (up : List Frame) → Within i pat (within b s' k' rest js rs ∷ g ∷ up) → A
-  no_deep b s' k' rest js rs g up h = no_true (plain_op js i (body_of pat (g ∷ up)) (start_of (g ∷ up)) (repetition b s' k') rest h.1 (plain_inside up g h.0))
+  no_deep : {A : Type 0} (b : Ops) (s' : Option Separator) (k' : RepeatKind) (rest : Ops) (js : Items) (rs : Rounds)
+      (g : Frame) (up : List Frame) → Within i pat (within b s' k' rest js rs ∷ g ∷ up) → A
+  no_deep b s' k' rest js rs g up h = no_true
+      (plain_op js i (body_of pat (g ∷ up)) (start_of (g ∷ up)) (repetition b s' k') rest h.1 (plain_inside up g h.0))
 
-  no_inner : {A : Type 0} (b : Ops) (s' : Option Separator) (k' : RepeatKind) (rest : Ops) (is : Items) (f : Frame) (up : List Frame) → Begins i pat (dot (op (repetition b s' k') rest) is (f ∷ up)) → A
-  no_inner b s' k' rest is f up h = no_true (plain_op is i (body_of pat (f ∷ up)) (start_of (f ∷ up)) (repetition b s' k') rest h.1 (plain_inside up f h.0))
+  no_inner : {A : Type 0} (b : Ops) (s' : Option Separator) (k' : RepeatKind) (rest : Ops) (is : Items) (f : Frame)
+      (up : List Frame) → Begins i pat (dot (op (repetition b s' k') rest) is (f ∷ up)) → A
+  no_inner b s' k' rest is f up h = no_true
+      (plain_op is i (body_of pat (f ∷ up)) (start_of (f ∷ up)) (repetition b s' k') rest h.1 (plain_inside up f h.0))
 
-  idle_once : (q : ℕ) (x y z : Beginning) → Begins i pat x → Main x → In y (idle i q x) → Main y → In z (idle i q x) → Main z → y ≡ z
+  idle_once : (q : ℕ) (x y z : Beginning) → Begins i pat x → Main x → In y (idle i q x) → Main y → In z (idle i q x)
+      → Main z → y ≡ z
   idle_once q (dot rest is []) y z h m a c b d = absurd m
   idle_once q (dot no_ops is (inside _ b' rest js ∷ up)) y z h m a c b d = absurd a
-  idle_once q (dot no_ops is (within b' s' k' rest js rs ∷ [])) y z h m a c b d = again_only s' k' _ rest _ y a c ∙ sym (again_only s' k' _ rest _ z b d)
-  idle_once q (dot no_ops is (within b' s' k' rest js rs ∷ g ∷ up)) y z h m a c b d = no_deep b' s' k' rest js rs g up h.0
-  idle_once q (dot (op (token t) rest) is (f ∷ up)) y z h m a c b d = empty_same (matched_by (i.token_at t q)) rest is (f ∷ up) y z a b
-  idle_once q (dot (op (variable name kind span) rest) is (f ∷ up)) y z h m a c b d = empty_same (bound_as name (i.fragment_at kind q)) rest is (f ∷ up) y z a b
+  idle_once q (dot no_ops is (within b' s' k' rest js rs ∷ [])) y z h m a c b d =
+      again_only s' k' _ rest _ y a c ∙ sym (again_only s' k' _ rest _ z b d)
+  idle_once q (dot no_ops is (within b' s' k' rest js rs ∷ g ∷ up)) y z h m a c b d =
+      no_deep b' s' k' rest js rs g up h.0
+  idle_once q (dot (op (token t) rest) is (f ∷ up)) y z h m a c b d =
+      empty_same (matched_by (i.token_at t q)) rest is (f ∷ up) y z a b
+  idle_once q (dot (op (variable name kind span) rest) is (f ∷ up)) y z h m a c b d =
+      empty_same (bound_as name (i.fragment_at kind q)) rest is (f ∷ up) y z a b
   idle_once q (dot (op (group _ b') rest) is (f ∷ up)) y z h m a c b d = absurd a
   idle_once q (dot (op (repetition b' s' k') rest) is (f ∷ up)) y z h m a c b d = no_inner b' s' k' rest is f up h
   idle_once q (dot (op (expression e) rest) is (f ∷ up)) y z h m a c b d = absurd a
 
-  idle_or_next : {A : Type 0} (q : ℕ) (x y : Beginning) (mv : Move) → Begins i pat x → Main x → In y (idle i q x) → Main y → next i q x ≡ Some mv → A
+  idle_or_next : {A : Type 0} (q : ℕ) (x y : Beginning) (mv : Move) → Begins i pat x → Main x → In y (idle i q x)
+      → Main y → next i q x ≡ Some mv → A
   idle_or_next q (dot rest is []) y mv h m a c e = absurd m
   idle_or_next q (dot no_ops is (inside _ b' rest js ∷ up)) y mv h m a c e = absurd a
-  idle_or_next q (dot no_ops is (within b' s' k' rest js rs ∷ [])) y mv h m a c e = again_move i q s' k' _ rest _ y b' js is rs mv a c e
-  idle_or_next q (dot no_ops is (within b' s' k' rest js rs ∷ g ∷ up)) y mv h m a c e = no_deep b' s' k' rest js rs g up h.0
-  idle_or_next q (dot (op (token t) rest) is (f ∷ up)) y mv h m a c e = empty_over false (matched_by (i.token_at t q)) rest is (f ∷ up) y mv a e
-  idle_or_next q (dot (op (variable name kind span) rest) is (f ∷ up)) y mv h m a c e = empty_over true (bound_as name (i.fragment_at kind q)) rest is (f ∷ up) y mv a e
+  idle_or_next q (dot no_ops is (within b' s' k' rest js rs ∷ [])) y mv h m a c e =
+      again_move i q s' k' _ rest _ y b' js is rs mv a c e
+  idle_or_next q (dot no_ops is (within b' s' k' rest js rs ∷ g ∷ up)) y mv h m a c e =
+      no_deep b' s' k' rest js rs g up h.0
+  idle_or_next q (dot (op (token t) rest) is (f ∷ up)) y mv h m a c e =
+      empty_over false (matched_by (i.token_at t q)) rest is (f ∷ up) y mv a e
+  idle_or_next q (dot (op (variable name kind span) rest) is (f ∷ up)) y mv h m a c e =
+      empty_over true (bound_as name (i.fragment_at kind q)) rest is (f ∷ up) y mv a e
   idle_or_next q (dot (op (group _ b') rest) is (f ∷ up)) y mv h m a c e = absurd a
   idle_or_next q (dot (op (repetition b' s' k') rest) is (f ∷ up)) y mv h m a c e = no_inner b' s' k' rest is f up h
   idle_or_next q (dot (op (expression _) rest) is (f ∷ up)) y mv h m a c e = absurd a
 
-  separator_fine : (q : ℕ) (s' : Option Separator) (k' : RepeatKind) (b rest : Ops) (js : Items) (rs : Rounds) (is : Items) → Fine (round_number rs) (separator_move i q s' k' b rest js rs [] is)
+  separator_fine : (q : ℕ) (s' : Option Separator) (k' : RepeatKind) (b rest : Ops) (js : Items) (rs : Rounds)
+      (is : Items) → Fine (round_number rs) (separator_move i q s' k' b rest js rs [] is)
   unfolding Fine
   separator_fine q None k' b rest js rs is = tt
-  separator_fine q (Some c) k' b rest js rs is = round_fine k' (i.separator_at c q) b (Some c) rest js rs is (λ n e. some c q n e)
+  separator_fine q (Some c) k' b rest js rs is =
+      round_fine k' (i.separator_at c q) b (Some c) rest js rs is (λ n e. some c q n e)
 
   next_fine : (q : ℕ) (x : Beginning) → Begins i pat x → Main x → Fine (count x) (next i q x)
   unfolding Fine
   next_fine q (dot rest is []) h m = absurd m
   next_fine q (dot no_ops is (inside d b rest js ∷ [])) h m = no_outer_group d b rest js h.0
-  next_fine q (dot no_ops is (inside d b rest js ∷ g ∷ up)) h m = when_fine (outer (g ∷ up)) (i.closes_at q) _ (omega arith)
+  next_fine q (dot no_ops is (inside d b rest js ∷ g ∷ up)) h m =
+      when_fine (outer (g ∷ up)) (i.closes_at q) _ (omega arith)
   next_fine q (dot no_ops is (within b s' k' rest js rs ∷ [])) h m = separator_fine q s' k' b rest js rs is
   next_fine q (dot no_ops is (within b s' k' rest js rs ∷ g ∷ up)) h m = no_deep b s' k' rest js rs g up h.0
   next_fine q (dot (op (token t) rest) is (f ∷ up)) h m = over_fine false (matched_by (i.token_at t q)) rest is (f ∷ up)
-  next_fine q (dot (op (variable name kind span) rest) is (f ∷ up)) h m = over_fine true (bound_as name (i.fragment_at kind q)) rest is (f ∷ up)
-  next_fine q (dot (op (group d b) rest) is (f ∷ up)) h m = when_fine (outer (f ∷ up)) (i.opens_at d.kind q) _ (omega arith)
+  next_fine q (dot (op (variable name kind span) rest) is (f ∷ up)) h m =
+      over_fine true (bound_as name (i.fragment_at kind q)) rest is (f ∷ up)
+  next_fine q (dot (op (group d b) rest) is (f ∷ up)) h m =
+      when_fine (outer (f ∷ up)) (i.opens_at d.kind q) _ (omega arith)
   next_fine q (dot (op (repetition b s' k') rest) is (f ∷ up)) h m = tt
   next_fine q (dot (op (expression e) rest) is (f ∷ up)) h m = tt
 
-  again_count : (s' : Option Separator) (k' : RepeatKind) (b rest : Ops) (js is last : Items) (rs : Rounds) (y : Beginning) →
-      In y (again_of s' k' (dot b no_items (within b s' k' rest js (round rs last 0) ∷ [])) ++ (dot rest is [] ∷ [])) → Main y → round_number rs ≤ count y
+  again_count : (s' : Option Separator) (k' : RepeatKind) (b rest : Ops) (js is last : Items) (rs : Rounds)
+      (y : Beginning) →
+      In y (again_of s' k' (dot b no_items (within b s' k' rest js (round rs last 0) ∷ [])) ++ (dot rest is [] ∷ []))
+      → Main y → round_number rs ≤ count y
   again_count s' k' b rest js is last rs y a m =
-      let e : count y ≡ suc (round_number rs) = ap (λ v. count v) (again_only s' k' (dot b no_items (within b s' k' rest js (round rs last 0) ∷ [])) rest is y a m) in
+      let e : count y ≡ suc (round_number rs) =
+      ap (λ v. count v) (again_only s' k' (dot b no_items (within b s' k' rest js (round rs last 0) ∷ [])) rest is y
+      a m) in
       omega (arith, e)
 
   idle_count : (q : ℕ) (x y : Beginning) → Begins i pat x → Main x → In y (idle i q x) → Main y → count x ≤ count y
@@ -229,8 +273,10 @@ module _ (i : Input) (body : Ops) (s : Option Separator) (k : RepeatKind) (plain
   idle_count q (dot no_ops is (inside _ b' rest js ∷ up)) y h m a c = absurd a
   idle_count q (dot no_ops is (within b' s' k' rest js rs ∷ [])) y h m a c = again_count s' k' b' rest js _ is rs y a c
   idle_count q (dot no_ops is (within b' s' k' rest js rs ∷ g ∷ up)) y h m a c = no_deep b' s' k' rest js rs g up h.0
-  idle_count q (dot (op (token t) rest) is (f ∷ up)) y h m a c = let e = empty_up (matched_by (i.token_at t q)) rest is (f ∷ up) y a in omega (arith, e)
-  idle_count q (dot (op (variable name kind span) rest) is (f ∷ up)) y h m a c = let e = empty_up (bound_as name (i.fragment_at kind q)) rest is (f ∷ up) y a in omega (arith, e)
+  idle_count q (dot (op (token t) rest) is (f ∷ up)) y h m a c = let e =
+      empty_up (matched_by (i.token_at t q)) rest is (f ∷ up) y a in omega (arith, e)
+  idle_count q (dot (op (variable name kind span) rest) is (f ∷ up)) y h m a c = let e =
+      empty_up (bound_as name (i.fragment_at kind q)) rest is (f ∷ up) y a in omega (arith, e)
   idle_count q (dot (op (group _ b') rest) is (f ∷ up)) y h m a c = absurd a
   idle_count q (dot (op (repetition b' s' k') rest) is (f ∷ up)) y h m a c = no_inner b' s' k' rest is f up h
   idle_count q (dot (op (expression e) rest) is (f ∷ up)) y h m a c = absurd a
@@ -280,39 +326,48 @@ module _ (i : Input) (body : Ops) (s : Option Separator) (k : RepeatKind) (plain
   one_step x y z h m (inr a) c (inl b) d = idle_or_next (place x) x z (move a.0 a.1 y) h m b.0 d a.2
   one_step x y z h m (inr a) c (inr b) d = same_move a.0 b.0 a.1 b.1 y z (sym a.2 ∙ b.2)
 
-  unique : (n : ℕ) (y z : Beginning) → Begins i pat y → Main y → Begins i pat z → Main z → steps (story y) ≡ n → steps (story z) ≡ n → y ≡ z
+  unique : (n : ℕ) (y z : Beginning) → Begins i pat y → Main y → Begins i pat z → Main z → steps (story y) ≡ n
+      → steps (story z) ≡ n → y ≡ z
   unique zero y z a c b d e f = let u = main_some y a c in absurd (omega (arith, u, e))
-  unique (suc n) y z a c b d e f = turn (λ u v g m h l p q. unique n u v g m h l p q) (main_parent y a c) (main_parent z b d)
+  unique (suc n) y z a c b d e f = turn (λ u v g m h l p q. unique n u v g m h l p q) (main_parent y a c)
+      (main_parent z b d)
     where
-      turn : ((u v : Beginning) → Begins i pat u → Main u → Begins i pat v → Main v → steps (story u) ≡ n → steps (story v) ≡ n → u ≡ v) → Parent y → Parent z → y ≡ z
+      turn : ((u v : Beginning) → Begins i pat u → Main u → Begins i pat v → Main v → steps (story u) ≡ n
+          → steps (story v) ≡ n → u ≡ v) → Parent y → Parent z → y ≡ z
       turn ih (inl u) (inl v) = u ∙ sym v
       turn ih (inl u) (inr (x, h, m, t)) =
-          let p = entered_steps y u in let r = main_some x h m in let w = steps_one i x z t in absurd (omega (arith, p, r, w, e, f))
+          let p = entered_steps y u in let r = main_some x h m in let w =
+          steps_one i x z t in absurd (omega (arith, p, r, w, e, f))
       turn ih (inr (x, h, m, t)) (inl u) =
-          let p = entered_steps z u in let r = main_some x h m in let w = steps_one i x y t in absurd (omega (arith, p, r, w, e, f))
+          let p = entered_steps z u in let r = main_some x h m in let w =
+          steps_one i x y t in absurd (omega (arith, p, r, w, e, f))
       turn ih (inr (x, h, m, t)) (inr (w, g, l, v)) =
           let p = steps_one i x y t in
           let r = steps_one i w z v in
           let o : x ≡ w = ih x w h m g l (omega (arith, p, e)) (omega (arith, r, f)) in
           one_step w y z g l (subst (λ r. Steps i r y) o t) c v d
 
-  no_back : (x y : Beginning) → Steps i x y → Begins i pat x → Main x → Main y → (place x ≤ place y) × (count x ≤ count y)
+  no_back : (x y : Beginning) → Steps i x y → Begins i pat x → Main x → Main y
+      → (place x ≤ place y) × (count x ≤ count y)
   no_back x y (inl a) h m c = let e : place y ≡ place x = a.1 in (omega (arith, e), idle_count (place x) x y h m a.0 c)
   no_back x y (inr a) h m c =
-      let e : place y ≡ place x + a.0 = a.3 in (omega (arith, e), (fine_move (count x) (next i (place x) x) a.0 a.1 y a.2 (next_fine (place x) x h m)).1)
+      let e : place y ≡ place x + a.0 = a.3 in
+      (omega (arith, e), (fine_move (count x) (next i (place x) x) a.0 a.1 y a.2 (next_fine (place x) x h m)).1)
 
   abbrev Later : Beginning → Beginning → Type 0
   Later x y = (z : Beginning) × Steps i x z × Main z × (place z ≤ place y) × (count z ≤ count y)
 
   -- after more steps, the step from x was one of them
-  later : (n : ℕ) (x y : Beginning) → Begins i pat x → Main x → Begins i pat y → Main y → steps (story y) ≡ n → steps (story x) < n → Later x y
+  later : (n : ℕ) (x y : Beginning) → Begins i pat x → Main x → Begins i pat y → Main y → steps (story y) ≡ n
+      → steps (story x) < n → Later x y
   later zero x y a c b d e l = absurd (omega (arith, l))
   later (suc n) x y a c b d e l = turn (λ v g m o r. later n x v a c g m o r) (main_parent y b d)
     where
       split : (m : ℕ) → m < suc n → (m ≡ n) ⊎ (m < n)
       split m j = grind (arith, j)
 
-      turn : ((v : Beginning) → Begins i pat v → Main v → steps (story v) ≡ n → steps (story x) < n → Later x v) → Parent y → Later x y
+      turn : ((v : Beginning) → Begins i pat v → Main v → steps (story v) ≡ n → steps (story x) < n → Later x v)
+          → Parent y → Later x y
       turn ih (inl u) = let p = entered_steps y u in let r = main_some x a c in absurd (omega (arith, p, r, e, l))
       turn ih (inr (p, h, m, u)) = go (split (steps (story x)) l)
         where
@@ -330,7 +385,8 @@ module _ (i : Input) (body : Ops) (s : Option Separator) (k : RepeatKind) (plain
               let o1 = o.1 in
               (r.0, r.1, r.2, omega (arith, r3, o0), omega (arith, r4, o1))
 
-  past : {A : Type 0} (q n : ℕ) (f : Bool) (x y : Beginning) → At i pat q x → Main x → At i pat q y → Main y → GoesOn i q n f x → steps (story x) < steps (story y) → A
+  past : {A : Type 0} (q n : ℕ) (f : Bool) (x y : Beginning) → At i pat q x → Main x → At i pat q y → Main y
+      → GoesOn i q n f x → steps (story x) < steps (story y) → A
   past {A} q n f x y a c b d g l = turn (later (steps (story y)) x y a.0 c b.0 d refl l)
     where
       here : next i (place x) x ≡ Some (move n f g.0)
@@ -351,7 +407,8 @@ module _ (i : Input) (body : Ops) (s : Option Separator) (k : RepeatKind) (plain
   goes_inside q n f (dot no_ops is []) h e = absurd (none-some (move n f e.0) e.1)
   goes_inside q n f (dot (op o rest) is []) h e =
       let c = none_before is 0 o rest h.1 in
-      absurd (none-some (move n f e.0) (subst (λ v. next i q v ≡ Some (move n f e.0)) (ap (λ v. dot v is []) (sym c.1) ∙ ap (λ v. dot pat v []) c.0) e.1))
+      absurd (none-some (move n f e.0) (subst (λ v. next i q v ≡ Some (move n f e.0))
+      (ap (λ v. dot v is []) (sym c.1) ∙ ap (λ v. dot pat v []) c.0) e.1))
 
   pub lists_calm : (q : ℕ) → Ambiguous i pat q → ⊥
   lists_calm q w = turn (three (steps (story w.one)) (steps (story w.other)))
@@ -362,7 +419,8 @@ module _ (i : Input) (body : Ops) (s : Option Separator) (k : RepeatKind) (plain
       d : Main w.other
       d = goes_inside q w.m w.g w.other w.other_at.0 w.other_goes
 
-      turn : (steps (story w.one) ≡ steps (story w.other)) ⊎ ((steps (story w.one) < steps (story w.other)) ⊎ (steps (story w.other) < steps (story w.one))) → ⊥
+      turn : (steps (story w.one) ≡ steps (story w.other))
+          ⊎ ((steps (story w.one) < steps (story w.other)) ⊎ (steps (story w.other) < steps (story w.one))) → ⊥
       turn (inl e) = w.differ (unique (steps (story w.other)) w.one w.other w.one_at.0 c w.other_at.0 d e refl)
       turn (inr (inl l)) = past q w.n w.f w.one w.other w.one_at c w.other_at d w.one_goes l
       turn (inr (inr l)) = past q w.m w.g w.other w.one w.other_at d w.one_at c w.other_goes l
@@ -377,7 +435,8 @@ module _ (i : Input) (body : Ops) (s : Option Separator) (k : RepeatKind) (plain
 
   -- the items are all rounds
   abbrev AreRounds : Item → Type 0
-  AreRounds x = (rs : Rounds) × (last : Items) × (x ≡ rounds rs last) × ReadsRounds rs i body s k 0 × ReadsFirst last i body (0 + rounds_width rs) no_ops
+  AreRounds x = (rs : Rounds) × (last : Items) × (x ≡ rounds rs last) × ReadsRounds rs i body s k 0
+      × ReadsFirst last i body (0 + rounds_width rs) no_ops
 
   item_shape : (x : Item) → Reads x i (repetition body s k) 0 → (x ≡ skipped (names_of body)) ⊎ AreRounds x
   item_shape (matched n) r = absurd r
@@ -389,20 +448,27 @@ module _ (i : Input) (body : Ops) (s : Option Separator) (k : RepeatKind) (plain
   same_op : (o : Op) → pat ≡ op o no_ops → repetition body s k ≡ o
   same_op o e = cc
 
-  shape : (is : Items) → ReadsFirst is i pat 0 no_ops → (x : Item) × (is ≡ item no_items x) × ((x ≡ skipped (names_of body)) ⊎ AreRounds x)
+  shape : (is : Items) → ReadsFirst is i pat 0 no_ops
+      → (x : Item) × (is ≡ item no_items x) × ((x ≡ skipped (names_of body)) ⊎ AreRounds x)
   shape no_items h = no_true (sym (ap is_repetition h))
   shape (item is x) h =
       let e = none_before is 0 h.0 no_ops h.1 in
       let r : Reads x i h.0 0 = subst (λ v. Reads x i h.0 (0 + items_width v)) e.0 h.2 in
       (x, ap (λ v. item v x) e.0, item_shape x (subst (λ v. Reads x i v 0) (sym (same_op h.0 e.1)) r))
 
-  end_step : (rs : Rounds) (last : Items) (z : Beginning) → Steps i (end_of rs last) z → Main z → count z ≡ suc (round_number rs)
-  end_step rs last z (inl a) m = ap (λ v. count v) (again_only s k (dot body no_items (within body s k no_ops no_items (round rs last 0) ∷ [])) no_ops (item no_items (rounds rs last)) z a.0 m)
-  end_step rs last z (inr a) m = counted_move (suc (round_number rs)) _ a.0 a.1 z a.2 (separator_counted i (place (end_of rs last)) s k body no_ops no_items rs last)
+  end_step : (rs : Rounds) (last : Items) (z : Beginning) → Steps i (end_of rs last) z → Main z
+      → count z ≡ suc (round_number rs)
+  end_step rs last z (inl a) m = ap (λ v. count v)
+      (again_only s k (dot body no_items (within body s k no_ops no_items (round rs last 0) ∷ [])) no_ops
+      (item no_items (rounds rs last)) z a.0 m)
+  end_step rs last z (inr a) m = counted_move (suc (round_number rs)) _ a.0 a.1 z a.2
+      (separator_counted i (place (end_of rs last)) s k body no_ops no_items rs last)
 
   module _ (moves : (p : ℕ) (is : Items) → ReadsFirst is i body p no_ops → 0 < items_width is) where
-    shorter : {A : Type 0} (rs qs : Rounds) (last final : Items) → Begins i pat (end_of rs last) → Begins i pat (end_of qs final) →
-        place (end_of rs last) ≡ place (end_of qs final) → steps (story (end_of rs last)) < steps (story (end_of qs final)) → A
+    shorter : {A : Type 0} (rs qs : Rounds) (last final : Items) → Begins i pat (end_of rs last)
+        → Begins i pat (end_of qs final) →
+        place (end_of rs last) ≡ place (end_of qs final)
+        → steps (story (end_of rs last)) < steps (story (end_of qs final)) → A
     shorter {A} rs qs last final a b e l = turn (three (steps (story x)) (steps (story y)))
       where
         x : Beginning
@@ -422,62 +488,77 @@ module _ (i : Input) (body : Ops) (s : Option Separator) (k : RepeatKind) (plain
 
         more : round_number rs < round_number qs
         more =
-            let r : Later (end_of rs last) (end_of qs final) = later (steps (story (end_of qs final))) (end_of rs last) (end_of qs final) a tt b tt refl l in
+            let r : Later (end_of rs last) (end_of qs final) =
+            later (steps (story (end_of qs final))) (end_of rs last) (end_of qs final) a tt b tt refl l in
             let n = end_step rs last r.0 r.1 r.2 in
             let r4 = r.4 in
             omega (arith, n, r4)
 
-        turn : (steps (story x) ≡ steps (story y)) ⊎ ((steps (story x) < steps (story y)) ⊎ (steps (story y) < steps (story x))) → A
+        turn : (steps (story x) ≡ steps (story y))
+            ⊎ ((steps (story x) < steps (story y)) ⊎ (steps (story y) < steps (story x))) → A
         turn (inl f) =
-            let o : place (end_of rs last) ≡ place (begin_of qs) = ap (λ v. place v) (unique (steps (story (begin_of qs))) (end_of rs last) (begin_of qs) a tt c tt f refl) in
+            let o : place (end_of rs last) ≡ place (begin_of qs) =
+            ap (λ v. place v) (unique (steps (story (begin_of qs))) (end_of rs last) (begin_of qs) a tt c tt f
+            refl) in
             let w = below in
             absurd (omega (arith, o, w))
         turn (inr (inl f)) =
-            let r : Later (end_of rs last) (begin_of qs) = later (steps (story (begin_of qs))) (end_of rs last) (begin_of qs) a tt c tt refl f in
+            let r : Later (end_of rs last) (begin_of qs) =
+            later (steps (story (begin_of qs))) (end_of rs last) (begin_of qs) a tt c tt refl f in
             let o = (no_back (end_of rs last) r.0 r.1 a tt r.2).0 in
             let r3 = r.3 in
             let w = below in
             absurd (omega (arith, o, r3, w))
         turn (inr (inr f)) =
-            let r : Later (begin_of qs) (end_of rs last) = later (steps (story (end_of rs last))) (begin_of qs) (end_of rs last) c tt a tt refl f in
+            let r : Later (begin_of qs) (end_of rs last) =
+            later (steps (story (end_of rs last))) (begin_of qs) (end_of rs last) c tt a tt refl f in
             let o = (no_back (begin_of qs) r.0 r.1 c tt r.2).1 in
             let r4 = r.4 in
             let w = more in
             absurd (omega (arith, o, r4, w))
 
-    same_rounds : (rs qs : Rounds) (last final : Items) → Begins i pat (end_of rs last) → Begins i pat (end_of qs final) →
+    same_rounds : (rs qs : Rounds) (last final : Items) → Begins i pat (end_of rs last) → Begins i pat (end_of qs final)
+        →
         place (end_of rs last) ≡ place (end_of qs final) → rounds rs last ≡ rounds qs final
     same_rounds rs qs last final a b e = turn (three (steps (story (end_of rs last))) (steps (story (end_of qs final))))
       where
-        turn : (steps (story (end_of rs last)) ≡ steps (story (end_of qs final))) ⊎ ((steps (story (end_of rs last)) < steps (story (end_of qs final)))
+        turn : (steps (story (end_of rs last)) ≡ steps (story (end_of qs final)))
+            ⊎ ((steps (story (end_of rs last)) < steps (story (end_of qs final)))
             ⊎ (steps (story (end_of qs final)) < steps (story (end_of rs last)))) → rounds rs last ≡ rounds qs final
-        turn (inl f) = ap rounds_here (unique (steps (story (end_of qs final))) (end_of rs last) (end_of qs final) a tt b tt f refl)
+        turn (inl f) = ap rounds_here (unique (steps (story (end_of qs final))) (end_of rs last) (end_of qs final) a tt
+            b tt f refl)
         turn (inr (inl f)) = shorter rs qs last final a b e f
         turn (inr (inr f)) = shorter qs rs final last b a (sym e) f
 
     some_width : (x y : Item) → item_width x ≡ item_width y → x ≡ skipped (names_of body) → AreRounds y → ⊥
     some_width x y e a b =
         let w = moves (0 + rounds_width b.0) b.1 b.4 in
-        let f : 0 ≡ rounds_width b.0 + items_width b.1 = sym (ap (λ v. item_width v) a) ∙ (e ∙ ap (λ v. item_width v) b.2) in
+        let f : 0 ≡ rounds_width b.0 + items_width b.1 =
+        sym (ap (λ v. item_width v) a) ∙ (e ∙ ap (λ v. item_width v) b.2) in
         omega (arith, w, f)
 
-    same_item : (x y : Item) → item_width x ≡ item_width y → (x ≡ skipped (names_of body)) ⊎ AreRounds x → (y ≡ skipped (names_of body)) ⊎ AreRounds y → x ≡ y
+    same_item : (x y : Item) → item_width x ≡ item_width y → (x ≡ skipped (names_of body)) ⊎ AreRounds x
+        → (y ≡ skipped (names_of body)) ⊎ AreRounds y → x ≡ y
     same_item x y e (inl a) (inl b) = a ∙ sym b
     same_item x y e (inl a) (inr b) = absurd (some_width x y e a b)
     same_item x y e (inr a) (inl b) = absurd (some_width y x (sym e) b a)
     same_item x y e (inr a) (inr b) =
-        let f : item_width (rounds a.0 a.1) ≡ item_width (rounds b.0 b.1) = sym (ap (λ v. item_width v) a.2) ∙ (e ∙ ap (λ v. item_width v) b.2) in
+        let f : item_width (rounds a.0 a.1) ≡ item_width (rounds b.0 b.1) =
+        sym (ap (λ v. item_width v) a.2) ∙ (e ∙ ap (λ v. item_width v) b.2) in
         a.2 ∙ (same_rounds a.0 b.0 a.1 b.1 ((tt, refl, a.3), a.4) ((tt, refl, b.3), b.4) (omega (arith, f)) ∙ sym b.2)
 
-    pub one_list : (is js : Items) → ReadsFirst is i pat 0 no_ops → ReadsFirst js i pat 0 no_ops → items_width is ≡ items_width js → is ≡ js
+    pub one_list : (is js : Items) → ReadsFirst is i pat 0 no_ops → ReadsFirst js i pat 0 no_ops
+        → items_width is ≡ items_width js → is ≡ js
     one_list is js a b e =
         let x = shape is a in
         let y = shape js b in
-        let d : 0 + item_width x.0 ≡ 0 + item_width y.0 = sym (ap (λ v. items_width v) x.1) ∙ (e ∙ ap (λ v. items_width v) y.1) in
+        let d : 0 + item_width x.0 ≡ 0 + item_width y.0 =
+        sym (ap (λ v. items_width v) x.1) ∙ (e ∙ ap (λ v. items_width v) y.1) in
         let f : item_width x.0 ≡ item_width y.0 = omega (arith, d) in
         x.1 ∙ (ap (λ v. item no_items v) (same_item x.0 y.0 f x.2 y.2) ∙ sym y.1)
 
-separators_move : (g : Grammar) (argument : Forest) (c : Separator) (p w : ℕ) → (input_of g argument).separator_at c p ≡ Some w → 0 < w
+separators_move : (g : Grammar) (argument : Forest) (c : Separator) (p w : ℕ)
+    → (input_of g argument).separator_at c p ≡ Some w → 0 < w
 separators_move g argument c p w e =
     let r = length_from (separator_front c (rest_at argument p)) w e in
     let m = separator_moves c (rest_at argument p) r.0 r.1 in
@@ -486,7 +567,8 @@ separators_move g argument c p w e =
 
 pub lists_fit_once : ListsFitOnce
 lists_fit_once = record {
-  unambiguous = λ g body s repeat argument q h w. lists_calm (input_of g argument) body s repeat h (separators_move g argument) q w;
+  unambiguous = λ g body s repeat argument q h w. lists_calm (input_of g argument) body s repeat h
+      (separators_move g argument) q w;
   only = λ g body s repeat argument is others h m a b.
       one_list (input_of g argument) body s repeat h (separators_move g argument) m is others a.0 b.0 (a.1 ∙ sym b.1);
 }

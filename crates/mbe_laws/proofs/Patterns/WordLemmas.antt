@@ -20,18 +20,24 @@ use Rattle.mbe_semantics.specs.Readings.Steps.{matched_by, Move, move, over_of, 
 use Rattle.mbe_semantics.specs.Readings.Ambiguity.{Clash}
 use Rattle.mbe_semantics.specs.Laws.Laws.{is_word, is_word_separator, op_is_words, is_words, WordsNeverAmbiguous}
 
-words_rest : (is : Items) (i : Input) (os : Ops) (p : ℕ) (rest : Ops) → ReadsFirst is i os p rest → IsTrue (is_words os) → IsTrue (is_words rest)
+words_rest : (is : Items) (i : Input) (os : Ops) (p : ℕ) (rest : Ops) → ReadsFirst is i os p rest → IsTrue (is_words os)
+    → IsTrue (is_words rest)
 words_rest no_items i os p rest h c = subst (λ v. IsTrue (is_words v)) h c
-words_rest (item is x) i os p rest h c = both_right (op_is_words h.0) (is_words rest) (words_rest is i os p (op h.0 rest) h.1 c)
+words_rest (item is x) i os p rest h c =
+    both_right (op_is_words h.0) (is_words rest) (words_rest is i os p (op h.0 rest) h.1 c)
 
-words_op : (is : Items) (i : Input) (os : Ops) (p : ℕ) (o : Op) (rest : Ops) → ReadsFirst is i os p (op o rest) → IsTrue (is_words os) → IsTrue (op_is_words o)
+words_op : (is : Items) (i : Input) (os : Ops) (p : ℕ) (o : Op) (rest : Ops) → ReadsFirst is i os p (op o rest)
+    → IsTrue (is_words os) → IsTrue (op_is_words o)
 words_op is i os p o rest h c = both_left (op_is_words o) (is_words rest) (words_rest is i os p (op o rest) h c)
 
-words_body : (i : Input) (pat : Ops) (up : List Frame) → Within i pat up → IsTrue (is_words pat) → IsTrue (is_words (body_of pat up))
+words_body : (i : Input) (pat : Ops) (up : List Frame) → Within i pat up → IsTrue (is_words pat)
+    → IsTrue (is_words (body_of pat up))
 words_body i pat [] h c = c
-words_body i pat (inside d b rest js ∷ up) h c = words_op js i (body_of pat up) (start_of up) (group d b) rest h.1 (words_body i pat up h.0 c)
+words_body i pat (inside d b rest js ∷ up) h c =
+    words_op js i (body_of pat up) (start_of up) (group d b) rest h.1 (words_body i pat up h.0 c)
 words_body i pat (within b s k rest js rs ∷ up) h c =
-    both_right (is_word_separator s) (is_words b) (words_op js i (body_of pat up) (start_of up) (repetition b s k) rest h.1 (words_body i pat up h.0 c))
+    both_right (is_word_separator s) (is_words b)
+    (words_op js i (body_of pat up) (start_of up) (repetition b s k) rest h.1 (words_body i pat up h.0 c))
 
 -- over one flat token, and by no fragment
 IsOne : Option Move → Type 0
@@ -53,13 +59,15 @@ unfolding IsOne
 when_one true y = (refl, refl)
 when_one false y = tt
 
-over_one : (w : Option ℕ) (rest : Ops) (is : Items) (up : List Frame) → ((n : ℕ) → w ≡ Some n → n ≡ 1) → IsOne (over_of false (matched_by w) rest is up)
+over_one : (w : Option ℕ) (rest : Ops) (is : Items) (up : List Frame) → ((n : ℕ) → w ≡ Some n → n ≡ 1)
+    → IsOne (over_of false (matched_by w) rest is up)
 unfolding IsOne
 over_one None rest is up h = tt
 over_one (Some zero) rest is up h = tt
 over_one (Some (suc n)) rest is up h = (h (suc n) refl, refl)
 
-round_one : (k : RepeatKind) (w : Option ℕ) (b : Ops) (s : Option Separator) (rest : Ops) (js : Items) (rs : Rounds) (up : List Frame) (is : Items) →
+round_one : (k : RepeatKind) (w : Option ℕ) (b : Ops) (s : Option Separator) (rest : Ops) (js : Items) (rs : Rounds)
+    (up : List Frame) (is : Items) →
     ((n : ℕ) → w ≡ Some n → n ≡ 1) → IsOne (round_move k w b s rest js rs up is)
 unfolding IsOne
 round_one k None b s rest js rs up is h = tt
@@ -67,29 +75,38 @@ round_one ZeroOrMore (Some n) b s rest js rs up is h = (h n refl, refl)
 round_one OneOrMore (Some n) b s rest js rs up is h = (h n refl, refl)
 round_one ZeroOrOne (Some n) b s rest js rs up is h = tt
 
-separator_one : (g : Grammar) (f : Forest) (q : ℕ) (s : Option Separator) (k : RepeatKind) (b rest : Ops) (js : Items) (rs : Rounds) (up : List Frame) (is : Items) →
+separator_one : (g : Grammar) (f : Forest) (q : ℕ) (s : Option Separator) (k : RepeatKind) (b rest : Ops) (js : Items)
+    (rs : Rounds) (up : List Frame) (is : Items) →
     IsTrue (is_word_separator s) → IsOne (separator_move (input_of g f) q s k b rest js rs up is)
 unfolding IsOne
 separator_one g f q None k b rest js rs up is h = tt
 separator_one g f q (Some (ops.ident_separator x)) k b rest js rs up is h =
-    round_one k (length_of (ident_text_front x.sym (rest_at f q))) b (Some (ops.ident_separator x)) rest js rs up is (λ n e. ident_one x.sym (rest_at f q) n e)
+    round_one k (length_of (ident_text_front x.sym (rest_at f q))) b (Some (ops.ident_separator x)) rest js rs up is
+    (λ n e. ident_one x.sym (rest_at f q) n e)
 separator_one g f q (Some _) k b rest js rs up is h = no_true h
 
-token_one : (g : Grammar) (f : Forest) (q : ℕ) (t : Token) (rest : Ops) (is : Items) (up : List Frame) → IsTrue (is_word t) → IsOne (over_of false (matched_by ((input_of g f).token_at t q)) rest is up)
-token_one g f q (ops.ident x) rest is up h = over_one (length_of (ident_text_front x.sym (rest_at f q))) rest is up (λ n e. ident_one x.sym (rest_at f q) n e)
+token_one : (g : Grammar) (f : Forest) (q : ℕ) (t : Token) (rest : Ops) (is : Items) (up : List Frame)
+    → IsTrue (is_word t) → IsOne (over_of false (matched_by ((input_of g f).token_at t q)) rest is up)
+token_one g f q (ops.ident x) rest is up h =
+    over_one (length_of (ident_text_front x.sym (rest_at f q))) rest is up (λ n e. ident_one x.sym (rest_at f q) n e)
 token_one g f q _ rest is up h = no_true h
 
-next_one : (g : Grammar) (f : Forest) (pat : Ops) (q : ℕ) (x : Beginning) → Begins (input_of g f) pat x → IsTrue (is_words pat) → IsOne (next (input_of g f) q x)
+next_one : (g : Grammar) (f : Forest) (pat : Ops) (q : ℕ) (x : Beginning) → Begins (input_of g f) pat x
+    → IsTrue (is_words pat) → IsOne (next (input_of g f) q x)
 unfolding IsOne
 next_one g f pat q (dot no_ops is []) h c = tt
 next_one g f pat q (dot no_ops is (inside d b rest js ∷ up)) h c = when_one ((input_of g f).closes_at q) _
 next_one g f pat q (dot no_ops is (within b s k rest js rs ∷ up)) h c =
     separator_one g f q s k b rest js rs up is
-    (both_left (is_word_separator s) (is_words b) (words_op js (input_of g f) (body_of pat up) (start_of up) (repetition b s k) rest h.0.1 (words_body (input_of g f) pat up h.0.0 c)))
+    (both_left (is_word_separator s) (is_words b)
+    (words_op js (input_of g f) (body_of pat up) (start_of up) (repetition b s k) rest h.0.1
+    (words_body (input_of g f) pat up h.0.0 c)))
 next_one g f pat q (dot (op (token t) rest) is up) h c =
-    token_one g f q t rest is up (words_op is (input_of g f) (body_of pat up) (start_of up) (token t) rest h.1 (words_body (input_of g f) pat up h.0 c))
+    token_one g f q t rest is up (words_op is (input_of g f) (body_of pat up) (start_of up) (token t) rest h.1
+    (words_body (input_of g f) pat up h.0 c))
 next_one g f pat q (dot (op (variable name kind span) rest) is up) h c =
-    no_true (words_op is (input_of g f) (body_of pat up) (start_of up) (variable name kind span) rest h.1 (words_body (input_of g f) pat up h.0 c))
+    no_true (words_op is (input_of g f) (body_of pat up) (start_of up) (variable name kind span) rest h.1
+    (words_body (input_of g f) pat up h.0 c))
 next_one g f pat q (dot (op (group d b) rest) is up) h c = when_one ((input_of g f).opens_at d.kind q) _
 next_one g f pat q (dot (op (repetition b s k) rest) is up) h c = tt
 next_one g f pat q (dot (op (expression e) rest) is up) h c = tt
@@ -106,6 +123,8 @@ no_clash n m f g a b (inr (inr e)) = e (a.0 ∙ sym b.0)
 pub words_never_ambiguous : WordsNeverAmbiguous
 words_never_ambiguous g pattern argument q c w =
     no_clash w.n w.m w.f w.g
-    (one_of (next (input_of g argument) q w.one) w.n w.f w.one_goes.0 w.one_goes.1 (next_one g argument pattern q w.one w.one_at.0 c))
-    (one_of (next (input_of g argument) q w.other) w.m w.g w.other_goes.0 w.other_goes.1 (next_one g argument pattern q w.other w.other_at.0 c))
+    (one_of (next (input_of g argument) q w.one) w.n w.f w.one_goes.0 w.one_goes.1
+    (next_one g argument pattern q w.one w.one_at.0 c))
+    (one_of (next (input_of g argument) q w.other) w.m w.g w.other_goes.0 w.other_goes.1
+    (next_one g argument pattern q w.other w.other_at.0 c))
     w.clash

@@ -46,19 +46,23 @@ module _ (P : Fragment → Type 0) where
 
   -- ---- the fold
 
-  set_has : (env : Environment) (name : Name) (v : Value) → EnvironmentHas env → ValueHas v → EnvironmentHas (set_value env name v)
+  set_has : (env : Environment) (name : Name) (v : Value) → EnvironmentHas env → ValueHas v
+      → EnvironmentHas (set_value env name v)
   set_has [] name v h k = (k, tt)
   set_has (e ∷ env) name v h k = go (bytes_eq e.0 name) (set_has env name v h.1 k)
     where
-      go : (b : Bool) → EnvironmentHas (set_value env name v) → EnvironmentHas (if b then (name, v) ∷ env else e ∷ set_value env name v)
+      go : (b : Bool) → EnvironmentHas (set_value env name v)
+          → EnvironmentHas (if b then (name, v) ∷ env else e ∷ set_value env name v)
       go true m = (k, h.1)
       go false m = (h.0, m)
 
-  value_has : (env : Environment) (name : Name) (v : Value) → EnvironmentHas env → value_of env name ≡ Some v → ValueHas v
+  value_has : (env : Environment) (name : Name) (v : Value) → EnvironmentHas env → value_of env name ≡ Some v
+      → ValueHas v
   value_has [] name v h e = absurd (none-some v e)
   value_has (f ∷ env) name v h e = go (bytes_eq f.0 name) (value_has env name v h.1) e
     where
-      go : (b : Bool) → (value_of env name ≡ Some v → ValueHas v) → (if b then Some f.1 else value_of env name) ≡ Some v → ValueHas v
+      go : (b : Bool) → (value_of env name ≡ Some v → ValueHas v) → (if b then Some f.1 else value_of env name) ≡ Some v
+          → ValueHas v
       go true m q = subst ValueHas (same_Some f.1 v q) h.0
       go false m q = m q
 
@@ -69,15 +73,18 @@ module _ (P : Fragment → Type 0) where
   grown_has : (env : Environment) (name : Name) (v : Value) (o : Option Value) → EnvironmentHas env → ValueHas v →
       ((w : Value) → o ≡ Some w → ValueHas w) → EnvironmentHas (grown env name v o)
   grown_has env name v None h k f = set_has env name (list (value v no_values)) h (k, tt)
-  grown_has env name v (Some (list vs)) h k f = set_has env name (list (add_value vs v)) h (add_value_has vs v (f (list vs) refl) k)
+  grown_has env name v (Some (list vs)) h k f =
+      set_has env name (list (add_value vs v)) h (add_value_has vs v (f (list vs) refl) k)
   grown_has env name v (Some (fragment x)) h k f = h
   grown_has env name v (Some empty) h k f = h
   grown_has env name v (Some (missing kind)) h k f = h
 
-  add_round_has : (more env : Environment) → EnvironmentHas more → EnvironmentHas env → EnvironmentHas (add_round more env)
+  add_round_has : (more env : Environment) → EnvironmentHas more → EnvironmentHas env
+      → EnvironmentHas (add_round more env)
   add_round_has [] env k h = h
   add_round_has (e ∷ more) env k h =
-      add_round_has more (grown env e.0 e.1 (value_of env e.0)) k.1 (grown_has env e.0 e.1 (value_of env e.0) h k.0 (λ w q. value_has env e.0 w h q))
+      add_round_has more (grown env e.0 e.1 (value_of env e.0)) k.1
+      (grown_has env e.0 e.1 (value_of env e.0) h k.0 (λ w q. value_has env e.0 w h q))
 
   skip_has : (names : List Name) (env : Environment) → EnvironmentHas env → EnvironmentHas (skip_names names env)
   skip_has [] env h = h
@@ -89,15 +96,18 @@ module _ (P : Fragment → Type 0) where
     bind_item_has (bound name x) env k h = set_has env name (fragment x) h k
     bind_item_has (grouped is) env k h = bind_has is env k h
     bind_item_has (skipped names) env k h = skip_has names env h
-    bind_item_has (rounds rs last) env k h = add_round_has (bind last []) (bind_rounds rs env) (bind_has last [] k.1 tt) (bind_rounds_has rs env k.0 h)
+    bind_item_has (rounds rs last) env k h =
+        add_round_has (bind last []) (bind_rounds rs env) (bind_has last [] k.1 tt) (bind_rounds_has rs env k.0 h)
 
     pub bind_has : (is : Items) (env : Environment) → ItemsHave is → EnvironmentHas env → EnvironmentHas (bind is env)
     bind_has no_items env k h = h
     bind_has (item is x) env k h = bind_item_has x (bind is env) k.1 (bind_has is env k.0 h)
 
-    bind_rounds_has : (rs : Rounds) (env : Environment) → RoundsHave rs → EnvironmentHas env → EnvironmentHas (bind_rounds rs env)
+    bind_rounds_has : (rs : Rounds) (env : Environment) → RoundsHave rs → EnvironmentHas env
+        → EnvironmentHas (bind_rounds rs env)
     bind_rounds_has no_rounds env k h = h
-    bind_rounds_has (round rs is w) env k h = add_round_has (bind is []) (bind_rounds rs env) (bind_has is [] k.1 tt) (bind_rounds_has rs env k.0 h)
+    bind_rounds_has (round rs is w) env k h =
+        add_round_has (bind is []) (bind_rounds rs env) (bind_has is [] k.1 tt) (bind_rounds_has rs env k.0 h)
 
   -- ---- paths
 
@@ -107,7 +117,8 @@ module _ (P : Fragment → Type 0) where
   member_has (value w vs) (suc i) v h e = member_has vs i v h.1 e
 
   and_then_has : (path : Path) (o : Option Value) (w : Value) → ((v : Value) → o ≡ Some v → ValueHas v) →
-      ((v : Value) → ValueHas v → follow path v ≡ Some w → ValueHas w) → option_and_then (follow path) o ≡ Some w → ValueHas w
+      ((v : Value) → ValueHas v → follow path v ≡ Some w → ValueHas w) → option_and_then (follow path) o ≡ Some w
+      → ValueHas w
   and_then_has path None w h f e = absurd (none-some w e)
   and_then_has path (Some v) w h f e = f v (h v refl) e
 
@@ -119,12 +130,15 @@ module _ (P : Fragment → Type 0) where
   follow_has (l ∷ path) (list vs) w h e =
       and_then_has path (member vs l.index) w (λ v q. member_has vs l.index v h q) (λ v k q. follow_has path v w k q) e
 
-  pub followed_has : (env : Environment) (path : Path) (name : Name) (w : Value) → EnvironmentHas env → followed env path name ≡ Some w → ValueHas w
-  followed_has env path name w h e = and_then_has path (value_of env name) w (λ v q. value_has env name v h q) (λ v k q. follow_has path v w k q) e
+  pub followed_has : (env : Environment) (path : Path) (name : Name) (w : Value) → EnvironmentHas env
+      → followed env path name ≡ Some w → ValueHas w
+  followed_has env path name w h e = and_then_has path (value_of env name) w (λ v q. value_has env name v h q)
+      (λ v k q. follow_has path v w k q) e
 
   -- ---- readings
 
-  module _ (i : Input) (takes : (kind : Option MetaVarKind) (p : ℕ) (x : Fragment) → i.fragment_at kind p ≡ Some x → P x) where
+  module _ (i : Input) (takes : (kind : Option MetaVarKind) (p : ℕ) (x : Fragment) → i.fragment_at kind p ≡ Some x
+      → P x) where
     mutual
       item_has : (x : Item) (o : Op) (p : ℕ) → Reads x i o p → ItemHas x
       item_has (matched n) o p r = tt
@@ -139,7 +153,8 @@ module _ (P : Fragment → Type 0) where
       item_has (grouped is) (variable m kind span) p r = absurd r
       item_has (grouped is) (repetition body s k) p r = absurd r
       item_has (grouped is) (expression e) p r = absurd r
-      item_has (rounds rs last) (repetition body s k) p r = (rounds_have rs body s k p r.0, items_have last body _ no_ops r.1)
+      item_has (rounds rs last) (repetition body s k) p r =
+          (rounds_have rs body s k p r.0, items_have last body _ no_ops r.1)
       item_has (rounds rs last) (token t) p r = absurd r
       item_has (rounds rs last) (group d body) p r = absurd r
       item_has (rounds rs last) (variable m kind span) p r = absurd r
@@ -149,7 +164,8 @@ module _ (P : Fragment → Type 0) where
       items_have no_items os p rest r = tt
       items_have (item is x) os p rest (o, r, s) = (items_have is os p (op o rest) r, item_has x o _ s)
 
-      rounds_have : (rs : Rounds) (body : Ops) (s : Option Separator) (k : RepeatKind) (p : ℕ) → ReadsRounds rs i body s k p → RoundsHave rs
+      rounds_have : (rs : Rounds) (body : Ops) (s : Option Separator) (k : RepeatKind) (p : ℕ)
+          → ReadsRounds rs i body s k p → RoundsHave rs
       rounds_have no_rounds body s k p r = tt
       rounds_have (round rs is w) body s k p (m, r, q, b) = (rounds_have rs body s k p r, items_have is body _ no_ops q)
 

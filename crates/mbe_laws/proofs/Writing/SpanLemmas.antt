@@ -41,8 +41,10 @@ same_alone (leaf l none) = ap (λ s. s ∷ []) (same_leaf l)
 same_alone (leaf l (leaf m rest)) = ap (λ ss. span_of l ∷ ss) (same_alone (leaf m rest))
 same_alone (leaf l (group d inside rest)) = ap (λ ss. span_of l ∷ ss) (same_alone (group d inside rest))
 same_alone (group d inside none) = refl
-same_alone (group d inside (leaf l rest)) = ap (λ ss. d.opening ∷ (spans_of inside ++ d.close ∷ ss)) (same_alone (leaf l rest))
-same_alone (group d inside (group e more rest)) = ap (λ ss. d.opening ∷ (spans_of inside ++ d.close ∷ ss)) (same_alone (group e more rest))
+same_alone (group d inside (leaf l rest)) =
+    ap (λ ss. d.opening ∷ (spans_of inside ++ d.close ∷ ss)) (same_alone (leaf l rest))
+same_alone (group d inside (group e more rest)) =
+    ap (λ ss. d.opening ∷ (spans_of inside ++ d.close ∷ ss)) (same_alone (group e more rest))
 
 in_left : (s : Span) (xs ys : List Span) → IsSpanIn s xs → IsSpanIn s (xs ++ ys)
 in_left s [] ys h = absurd h
@@ -74,9 +76,11 @@ module _ (Q : Span → Type 0) where
   each_span (leaf l rest) s h (inl e) = subst Q (sym e) h.0
   each_span (leaf l rest) s h (inr k) = each_span rest s h.1 k
   each_span (group d inside rest) s h (inl e) = subst Q (sym e) h.0
-  each_span (group d inside rest) s h (inr k) = go (each_span inside s h.1) (each_span rest s h.3) (in_one s (spans_of inside) (d.close ∷ spans_of rest) k)
+  each_span (group d inside rest) s h (inr k) =
+      go (each_span inside s h.1) (each_span rest s h.3) (in_one s (spans_of inside) (d.close ∷ spans_of rest) k)
     where
-      go : (IsSpanIn s (spans_of inside) → Q s) → (IsSpanIn s (spans_of rest) → Q s) → IsSpanIn s (spans_of inside) ⊎ IsSpanIn s (d.close ∷ spans_of rest) → Q s
+      go : (IsSpanIn s (spans_of inside) → Q s) → (IsSpanIn s (spans_of rest) → Q s)
+          → IsSpanIn s (spans_of inside) ⊎ IsSpanIn s (d.close ∷ spans_of rest) → Q s
       go a b (inl m) = a m
       go a b (inr (inl e)) = subst Q (sym e) h.2
       go a b (inr (inr m)) = b m
@@ -106,9 +110,11 @@ module _ (Q : Span → Type 0) where
   each_rest (leaf l rest) zero h = h
   each_rest (leaf l rest) (suc p) h = each_rest rest p h.1
   each_rest (group d inside rest) zero h = h
-  each_rest (group d inside rest) (suc p) h = go (nat_le p (flat_len inside)) (each_rest inside p h.1) (each_rest rest (p - flat_len inside - 1) h.3)
+  each_rest (group d inside rest) (suc p) h =
+      go (nat_le p (flat_len inside)) (each_rest inside p h.1) (each_rest rest (p - flat_len inside - 1) h.3)
     where
-      go : (b : Bool) → Each (rest_at inside p) → Each (rest_at rest (p - flat_len inside - 1)) → Each (if b then rest_at inside p else rest_at rest (p - flat_len inside - 1))
+      go : (b : Bool) → Each (rest_at inside p) → Each (rest_at rest (p - flat_len inside - 1))
+          → Each (if b then rest_at inside p else rest_at rest (p - flat_len inside - 1))
       go true a c = a
       go false a c = c
 
@@ -138,7 +144,8 @@ module _ (Q : Span → Type 0) where
   each_path s q (leaf (ident i) (group d inside rest)) h = (h.0, each_path s q (group d inside rest) h.1)
   each_path s q (leaf (ident i) (leaf (punct p) rest)) h = (h.0, go (p.char == 60) (each_path s q rest h.1.1))
     where
-      go : (b : Bool) → Each (path_trees s rest) → Each (if b then double_colon s (leaf (punct p) (path_trees s rest)) else leaf (punct p) (path_trees s rest))
+      go : (b : Bool) → Each (path_trees s rest)
+          → Each (if b then double_colon s (leaf (punct p) (path_trees s rest)) else leaf (punct p) (path_trees s rest))
       go true k = (q, (q, (h.1.0, k)))
       go false k = (h.1.0, k)
   each_path s q (group d inside rest) h = (h.0, h.1, h.2, each_path s q rest h.3)
@@ -165,7 +172,8 @@ module _ (Q : Span → Type 0) where
 InPlace : Forest → Fragment → Type 0
 InPlace argument x = (p : ℕ) × (back : Forest) × (rest_at argument p ≡ append x.trees back)
 
-in_place : (g : Grammar) (argument : Forest) (kind : Option MetaVarKind) (p : ℕ) (x : Fragment) → (input_of g argument).fragment_at kind p ≡ Some x → InPlace argument x
+in_place : (g : Grammar) (argument : Forest) (kind : Option MetaVarKind) (p : ℕ) (x : Fragment)
+    → (input_of g argument).fragment_at kind p ≡ Some x → InPlace argument x
 unfolding InPlace
 in_place g argument kind p x e =
     let r = fragment_from kind (takes g kind (rest_at argument p)) x e in
@@ -181,90 +189,133 @@ written_in_place Marks g call_site pattern argument is path name kind span x out
     (h.0, h.1, h.2, o, ap spans_of o ∙ same_alone (strip_invisible x.trees))
   where
     written : (v : Option Value) → option_and_then (follow path) v ≡ Some (fragment x) →
-        IsVariable g Marks call_site (environment_of is) name span v (option_and_then (follow path) v) out → out ≡ alone (strip_invisible x.trees)
+        IsVariable g Marks call_site (environment_of is) name span v (option_and_then (follow path) v) out
+        → out ≡ alone (strip_invisible x.trees)
     written None e k = absurd (none-some (fragment x) e)
     written (Some v) e k =
-        subst (λ y. IsWrittenAs Marks call_site y span x.trees out) s (subst (λ u. IsVariable g Marks call_site (environment_of is) name span (Some v) u out) e k)
+        subst (λ y. IsWrittenAs Marks call_site y span x.trees out) s
+        (subst (λ u. IsVariable g Marks call_site (environment_of is) name span (Some v) u out) e k)
 
 -- ---- what a template writes
 
 module _ (g : Grammar) (Marks : Span → Span → Type 0) (call_site : Span) (env : Environment) (Q : Span → Type 0)
-    (T : Span → Type 0) (marks : (s t : Span) → T s → Marks s t → Q t) (site : Q call_site) (has : sources.EnvironmentHas (λ x. Each Q x.trees) env) where
-  puncts_each : (ps : List Punct) (out : Forest) → ((s : Span) → IsSpanIn s (map (λ p. p.span) ps) → T s) → AreMarkedPuncts g Marks call_site env ps out → Each Q out
+    (T : Span → Type 0) (marks : (s t : Span) → T s → Marks s t → Q t) (site : Q call_site)
+    (has : sources.EnvironmentHas (λ x. Each Q x.trees) env) where
+  puncts_each : (ps : List Punct) (out : Forest) → ((s : Span) → IsSpanIn s (map (λ p. p.span) ps) → T s)
+      → AreMarkedPuncts g Marks call_site env ps out → Each Q out
   puncts_each [] out own e = subst (Each Q) (sym e) tt
   puncts_each (p ∷ ps) out own (marked, rest, m, more, e) =
-      subst (Each Q) (sym e) (marks p.span marked (own p.span (inl refl)) m, puncts_each ps rest (λ s k. own s (inr k)) more)
+      subst (Each Q) (sym e) (
+        marks p.span marked (own p.span (inl refl)) m,
+        puncts_each ps rest (λ s k. own s (inr k)) more,
+      )
 
-  token_each : (t : Token) (out : Forest) → ((s : Span) → IsSpanIn s (spans_of_token t) → T s) → IsMarked g Marks call_site env t out → Each Q out
-  token_each (ops.literal l) out own (marked, m, e) = subst (Each Q) (sym e) (marks l.span marked (own l.span (inl refl)) m, tt)
-  token_each (ops.ident i) out own (marked, m, e) = subst (Each Q) (sym e) (marks i.span marked (own i.span (inl refl)) m, tt)
+  token_each : (t : Token) (out : Forest) → ((s : Span) → IsSpanIn s (spans_of_token t) → T s)
+      → IsMarked g Marks call_site env t out → Each Q out
+  token_each (ops.literal l) out own (marked, m, e) =
+      subst (Each Q) (sym e) (marks l.span marked (own l.span (inl refl)) m, tt)
+  token_each (ops.ident i) out own (marked, m, e) =
+      subst (Each Q) (sym e) (marks i.span marked (own i.span (inl refl)) m, tt)
   token_each (ops.puncts ps) out own w = puncts_each ps out own w
 
-  parenthesized_each : (b : Bool) (span : Span) (f out : Forest) → T span → Each Q f → IsParenthesized Marks b span f out → Each Q out
+  parenthesized_each : (b : Bool) (span : Span) (f out : Forest) → T span → Each Q f
+      → IsParenthesized Marks b span f out → Each Q out
   parenthesized_each false span f out own h e = subst (Each Q) (sym e) h
-  parenthesized_each true span f out own h (marked, m, e) = let q : Q marked = marks span marked own m in subst (Each Q) (sym e) (q, h, q, tt)
+  parenthesized_each true span f out own h (marked, m, e) = let q : Q marked =
+      marks span marked own m in subst (Each Q) (sym e) (q, h, q, tt)
 
-  written_each : (style : Style) (span : Span) (f out : Forest) → T span → Each Q f → IsWrittenAs Marks call_site style span f out → Each Q out
+  written_each : (style : Style) (span : Span) (f out : Forest) → T span → Each Q f
+      → IsWrittenAs Marks call_site style span f out → Each Q out
   written_each plain span f out own h e = subst (Each Q) (sym e) (each_alone Q f h)
-  written_each stripped span f out own h e = subst (Each Q) (sym e) (each_alone Q (strip_invisible f) (each_strip Q f h))
+  written_each stripped span f out own h e =
+      subst (Each Q) (sym e) (each_alone Q (strip_invisible f) (each_strip Q f h))
   written_each as_path span f out own h e = subst (Each Q) (sym e) (each_path Q call_site site f h)
   written_each as_expression span f out own h w =
-      parenthesized_each (needs_parentheses (strip_invisible f)) span (alone (strip_invisible f)) out own (each_alone Q (strip_invisible f) (each_strip Q f h)) w
+      parenthesized_each (needs_parentheses (strip_invisible f)) span (alone (strip_invisible f)) out own
+      (each_alone Q (strip_invisible f) (each_strip Q f h)) w
 
-  variable_each : (name : Name) (span : Span) (v w : Option Value) (out : Forest) → T span → ((s : Span) → IsSpanIn s (unbound_span v span) → Q s) →
-      ((u : Value) → w ≡ Some u → sources.ValueHas (λ x. Each Q x.trees) u) → IsVariable g Marks call_site env name span v w out → Each Q out
-  variable_each name span None w out own kept h e = let q : Q span = kept span (inl refl) in subst (Each Q) (sym e) (q, (q, tt))
+  variable_each : (name : Name) (span : Span) (v w : Option Value) (out : Forest) → T span
+      → ((s : Span) → IsSpanIn s (unbound_span v span) → Q s) →
+      ((u : Value) → w ≡ Some u → sources.ValueHas (λ x. Each Q x.trees) u)
+      → IsVariable g Marks call_site env name span v w out → Each Q out
+  variable_each name span None w out own kept h e = let q : Q span =
+      kept span (inl refl) in subst (Each Q) (sym e) (q, (q, tt))
   variable_each name span (Some v) None out own kept h e = absurd e
-  variable_each name span (Some v) (Some (fragment x)) out own kept h e = written_each x.style span x.trees out own (h (fragment x) refl) e
-  variable_each name span (Some v) (Some (missing kind)) out own kept h (marked, m, e) = subst (Each Q) (sym e) (each_default Q kind marked (marks span marked own m))
+  variable_each name span (Some v) (Some (fragment x)) out own kept h e =
+      written_each x.style span x.trees out own (h (fragment x) refl) e
+  variable_each name span (Some v) (Some (missing kind)) out own kept h (marked, m, e) =
+      subst (Each Q) (sym e) (each_default Q kind marked (marks span marked own m))
   variable_each name span (Some v) (Some (list vs)) out own kept h e = absurd e
   variable_each name span (Some v) (Some empty) out own kept h e = absurd e
 
-  concat_each : (span : Span) (text : Option (List ℕ)) (out : Forest) → T span → IsConcat g Marks call_site env span text out → Each Q out
+  concat_each : (span : Span) (text : Option (List ℕ)) (out : Forest) → T span
+      → IsConcat g Marks call_site env span text out → Each Q out
   concat_each span None out own e = absurd e
   concat_each span (Some text) out own (marked, m, e) = subst (Each Q) (sym e) (marks span marked own m, tt)
 
-  expression_each : (path : Path) (x : Expression) (out : Forest) → ((s : Span) → IsSpanIn s (spans_of_expression x) → T s) → IsExpression g Marks call_site env path x out → Each Q out
+  expression_each : (path : Path) (x : Expression) (out : Forest)
+      → ((s : Span) → IsSpanIn s (spans_of_expression x) → T s) → IsExpression g Marks call_site env path x out
+      → Each Q out
   expression_each path (ignore name span) out own e = subst (Each Q) (sym e) tt
   expression_each path (count name depth) out own e = subst (Each Q) (sym e) (site, tt)
   expression_each path (index depth) out own e = subst (Each Q) (sym e) (site, tt)
   expression_each path (len depth) out own e = subst (Each Q) (sym e) (site, tt)
-  expression_each path (concat elements span) out own w = concat_each span (concat_text env path elements) out (own span (inl refl)) w
+  expression_each path (concat elements span) out own w =
+      concat_each span (concat_text env path elements) out (own span (inl refl)) w
 
-  rounds_each : (separator : Forest) (round : ℕ → Forest → Type 0) (n : ℕ) (out : Forest) → Each Q separator → ((i : ℕ) (o : Forest) → round i o → Each Q o) →
+  rounds_each : (separator : Forest) (round : ℕ → Forest → Type 0) (n : ℕ) (out : Forest) → Each Q separator
+      → ((i : ℕ) (o : Forest) → round i o → Each Q o) →
       AreRounds separator round n out → Each Q out
   rounds_each separator round zero out k f e = subst (Each Q) (sym e) tt
   rounds_each separator round (suc zero) out k f r = f 0 out r
   rounds_each separator round (suc (suc n)) out k f (before, last, rs, r, e) =
-      subst (Each Q) (sym e) (each_append Q before (append separator last) (rounds_each separator round (suc n) before k f rs) (each_append Q separator last k (f (suc n) last r)))
+      subst (Each Q) (sym e) (each_append Q before (append separator last)
+      (rounds_each separator round (suc n) before k f rs) (each_append Q separator last k (f (suc n) last r)))
 
-  kept_each : (separator : Forest) (round : ℕ → ℕ → Forest → Type 0) (e : Extent) (out : Forest) → Each Q separator → ((n i : ℕ) (o : Forest) → round i n o → Each Q o) →
+  kept_each : (separator : Forest) (round : ℕ → ℕ → Forest → Type 0) (e : Extent) (out : Forest) → Each Q separator
+      → ((n i : ℕ) (o : Forest) → round i n o → Each Q o) →
       AreKeptRounds separator round e out → Each Q out
   kept_each separator round endless out k f r = absurd r
   kept_each separator round (finite n) out k f r = rounds_each separator (λ i. round i n) n out k (f n) r
 
   mutual
-    writes_each : (o : Op) (path : Path) (out : Forest) → ((s : Span) → IsSpanIn s (marked_spans_of_op o) → T s) → ((s : Span) → IsSpanIn s (kept_spans_of_op env o) → Q s) → Writes g Marks call_site env path o out → Each Q out
+    writes_each : (o : Op) (path : Path) (out : Forest) → ((s : Span) → IsSpanIn s (marked_spans_of_op o) → T s)
+        → ((s : Span) → IsSpanIn s (kept_spans_of_op env o) → Q s) → Writes g Marks call_site env path o out
+        → Each Q out
     writes_each (ops.token t) path out own kept w = token_each t out own w
     writes_each (ops.group d body) path out own kept (opening, close, inside, m, n, b, e) =
-        subst (Each Q) (sym e) (marks d.opening opening (own d.opening (inl refl)) m, substitutes_each body path inside (λ s k. own s (inr (inr k))) kept b, marks d.close close (own d.close (inr (inl refl))) n, tt)
+        subst (Each Q) (sym e) (
+          marks d.opening opening (own d.opening (inl refl)) m,
+          substitutes_each body path inside (λ s k. own s (inr (inr k))) kept b,
+          marks d.close close (own d.close (inr (inl refl))) n,
+          tt,
+        )
     writes_each (ops.variable name kind span) path out own kept w =
-        variable_each name span (value_of env name) (followed env path name) out (own span (inl refl)) kept (λ u e. sources.followed_has (λ x. Each Q x.trees) env path name u has e) w
+        variable_each name span (value_of env name) (followed env path name) out (own span (inl refl)) kept
+        (λ u e. sources.followed_has (λ x. Each Q x.trees) env path name u has e) w
     writes_each (ops.repetition body separator repeat) path out own kept w =
-        kept_each (separator_trees separator) (λ i n. Substitutes g Marks call_site env (level i n path) body) (kept_rounds repeat env path body) out
-        (each_of Q (separator_trees separator) (λ s k. kept s (in_left s (spans_of (separator_trees separator)) (kept_spans env body) k)))
-        (λ n i o r. substitutes_each body (level i n path) o own (λ s k. kept s (in_right s (spans_of (separator_trees separator)) (kept_spans env body) k)) r) w
+        kept_each (separator_trees separator) (λ i n. Substitutes g Marks call_site env (level i n path) body)
+        (kept_rounds repeat env path body) out
+        (each_of Q (separator_trees separator)
+        (λ s k. kept s (in_left s (spans_of (separator_trees separator)) (kept_spans env body) k)))
+        (λ n i o r. substitutes_each body (level i n path) o own
+        (λ s k. kept s (in_right s (spans_of (separator_trees separator)) (kept_spans env body) k)) r) w
     writes_each (ops.expression x) path out own kept w = expression_each path x out own w
 
-    substitutes_each : (os : Ops) (path : Path) (out : Forest) → ((s : Span) → IsSpanIn s (marked_spans os) → T s) → ((s : Span) → IsSpanIn s (kept_spans env os) → Q s) → Substitutes g Marks call_site env path os out → Each Q out
+    substitutes_each : (os : Ops) (path : Path) (out : Forest) → ((s : Span) → IsSpanIn s (marked_spans os) → T s)
+        → ((s : Span) → IsSpanIn s (kept_spans env os) → Q s) → Substitutes g Marks call_site env path os out
+        → Each Q out
     substitutes_each no_ops path out own kept e = subst (Each Q) (sym e) tt
     substitutes_each (op o os) path out own kept (first, rest, w, b, e) =
         subst (Each Q) (sym e) (each_append Q first rest
-        (writes_each o path first (λ s k. own s (in_left s (marked_spans_of_op o) (marked_spans os) k)) (λ s k. kept s (in_left s (kept_spans_of_op env o) (kept_spans env os) k)) w)
-        (substitutes_each os path rest (λ s k. own s (in_right s (marked_spans_of_op o) (marked_spans os) k)) (λ s k. kept s (in_right s (kept_spans_of_op env o) (kept_spans env os) k)) b))
+        (writes_each o path first (λ s k. own s (in_left s (marked_spans_of_op o) (marked_spans os) k))
+        (λ s k. kept s (in_left s (kept_spans_of_op env o) (kept_spans env os) k)) w)
+        (substitutes_each os path rest (λ s k. own s (in_right s (marked_spans_of_op o) (marked_spans os) k))
+        (λ s k. kept s (in_right s (kept_spans_of_op env o) (kept_spans env os) k)) b))
 
 abbrev Source : (Span → Span → Type 0) → Span → List Span → List Span → List Span → Span → Type 0
-Source Marks call_site marked kept spans s = ((t : Span) × IsSpanIn t marked × Marks t s) ⊎ ((s ≡ call_site) ⊎ (IsSpanIn s kept ⊎ IsSpanIn s spans))
+Source Marks call_site marked kept spans s =
+    ((t : Span) × IsSpanIn t marked × Marks t s) ⊎ ((s ≡ call_site) ⊎ (IsSpanIn s kept ⊎ IsSpanIn s spans))
 
 pub spans_have_sources : (Marks : Span → Span → Type 0) → SpansHaveSources Marks
 unfolding InPlace
@@ -283,11 +334,14 @@ spans_have_sources Marks g style argument call_site rs n out (r, a, first, (insi
     argument_each : Each Q argument
     argument_each = each_of Q argument (λ s h. inr (inr (inr h)))
 
-    taken : (kind : Option MetaVarKind) (p : ℕ) (x : Fragment) → (input_of g argument).fragment_at kind p ≡ Some x → Each Q x.trees
-    taken kind p x f = let h = in_place g argument kind p x f in each_front Q x.trees h.1 (subst (Each Q) h.2 (each_rest Q argument h.0 argument_each))
+    taken : (kind : Option MetaVarKind) (p : ℕ) (x : Fragment) → (input_of g argument).fragment_at kind p ≡ Some x
+        → Each Q x.trees
+    taken kind p x f = let h = in_place g argument kind p x f in
+        each_front Q x.trees h.1 (subst (Each Q) h.2 (each_rest Q argument h.0 argument_each))
 
     has : sources.EnvironmentHas (λ x. Each Q x.trees) env
     has = sources.reading_has (λ x. Each Q x.trees) (input_of g argument) taken a.items r.reads (a.fits).1.0.0
 
     inner : Each Q inside
-    inner = substitutes_each g Marks call_site env Q (λ s. IsSpanIn s (marked_spans r.writes)) (λ s t o m. inl (s, o, m)) site has r.writes [] inside (λ s h. h) (λ s h. inr (inr (inl h))) b
+    inner = substitutes_each g Marks call_site env Q (λ s. IsSpanIn s (marked_spans r.writes))
+        (λ s t o m. inl (s, o, m)) site has r.writes [] inside (λ s h. h) (λ s h. inr (inr (inl h))) b

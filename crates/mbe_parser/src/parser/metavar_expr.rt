@@ -5,7 +5,7 @@ ghost use Rattle.mbe_tt.specs.Views.Shown.{ident_of, literal_of};
 ghost use Rattle.mbe_tt.specs.Trees.Tree.{none, flat_len};
 ghost use Rattle.mbe_semantics.specs.Syntax.Op.{expression};
 ghost use Rattle.mbe_parser.specs.Reader.{NotExpression};
-ghost use Rattle.mbe_semantics.specs.Syntax.Template.{expression_of, arguments_of, ignore_of, count_of, concat_of, dollar_name, depth_of, depth_behind_comma, elements_of, elements_behind_comma, element_before};
+ghost use Rattle.mbe_semantics.specs.Syntax.Template.{expression_of, arguments_of, ignore_of, count_of, concat_of, dollar_name, depth_of, depth_after_comma, elements_of, elements_after_comma, element_before};
 ghost use Rattle.mbe_ops.specs.Views.{op_of, element_seen};
 
 use mbe_errors::error::{ReadError, SyntaxFault};
@@ -99,7 +99,7 @@ fn parse_count<A: Allocator>(args: TtIter<'_, A>) -> Result<Op<A>, ReadError>
 {
     let mut args = args;
     let name = eat_name(&mut args).ok_or(SyntaxFault::InvalidExpression)?;
-    let depth = parse_depth_behind_comma(args).ok_or(SyntaxFault::InvalidExpression)?;
+    let depth = parse_depth_after_comma(args).ok_or(SyntaxFault::InvalidExpression)?;
     Ok(Op::Count {
         name: name.sym.clone()?,
         depth,
@@ -115,8 +115,8 @@ fn eat_name<'a, A: Allocator>(args: &mut TtIter<'a, A>) -> Option<&'a Ident<A>>
 }
 
 // `,` and a depth, or nothing, which is the depth 0.
-fn parse_depth_behind_comma<A: Allocator>(src: TtIter<'_, A>) -> Option<usize>
-    ensures { result ≡ depth_behind_comma src.entry }
+fn parse_depth_after_comma<A: Allocator>(src: TtIter<'_, A>) -> Option<usize>
+    ensures { result ≡ depth_after_comma src.entry }
 {
     let mut src = src;
     if src.is_empty() {
@@ -207,7 +207,7 @@ fn parse_element<A: Allocator>(
 ) -> Result<ConcatMetaVarExprElem<A>, ReadError>
     requires { src.old ≢ none }
     ensures element { IfOk result (λ e. elements_of src.old
-        ≡ element_before (element_seen e) (elements_behind_comma src.new)) }
+        ≡ element_before (element_seen e) (elements_after_comma src.new)) }
     ensures fault { IfErr result (λ e. NotExpression e (elements_of src.old)) }
     ensures shorter { OnOk result (flat_len src.new < flat_len src.old) }
 {

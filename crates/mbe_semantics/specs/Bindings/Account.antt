@@ -203,9 +203,11 @@ module _ (log : Log) where
           Gives (command cs (Command.skips name)) es all → Gives cs (Entry.skips name ∷ es) all
       gives_missing : (cs : Commands) (name : Name) (kind : MetaVarKind) (es : List Entry) (all : Commands) →
           Gives (command cs (Command.misses name kind)) es all → Gives cs (Entry.misses name kind ∷ es) all
-      gives_nested : (cs : Commands) (finished current : Part) (es : List Entry) (rs : CommandRounds) (ds all : Commands) →
+      gives_nested : (cs : Commands) (finished current : Part) (es : List Entry) (rs : CommandRounds)
+          (ds all : Commands) →
           PartGivesRounds no_command_rounds finished rs → PartGives no_commands current ds →
-          Gives (command cs (Command.nests (command_round rs ds))) es all → Gives cs (Entry.nests finished current ∷ es) all
+          Gives (command cs (Command.nests (command_round rs ds))) es all
+          → Gives cs (Entry.nests finished current ∷ es) all
       gives_link : (cs : Commands) (part : Part) (es : List Entry) (ds all : Commands) →
           PartGives cs part ds → Gives ds es all → Gives cs (Entry.links part ∷ es) all
 
@@ -213,18 +215,21 @@ module _ (log : Log) where
     pub data GivesRounds : CommandRounds → List RoundEntry → CommandRounds → Type 0 where
       gives_no_rounds : (rs : CommandRounds) → GivesRounds rs [] rs
       gives_round : (rs : CommandRounds) (part : Part) (es : List RoundEntry) (cs : Commands) (all : CommandRounds) →
-          PartGives no_commands part cs → GivesRounds (command_round rs cs) es all → GivesRounds rs (RoundEntry.finishes part ∷ es) all
+          PartGives no_commands part cs → GivesRounds (command_round rs cs) es all
+          → GivesRounds rs (RoundEntry.finishes part ∷ es) all
       gives_linked_rounds : (rs : CommandRounds) (part : Part) (es : List RoundEntry) (qs all : CommandRounds) →
           PartGivesRounds rs part qs → GivesRounds qs es all → GivesRounds rs (RoundEntry.links part ∷ es) all
 
     -- the first entries of a list give these commands
     pub data PartGives : Commands → Part → Commands → Type 0 where
-      part_gives : (cs : Commands) (part : Part) (all : Commands) (es : List Entry) → slice_get log.commands part.list ≡ Some es → part.first ≤ length es →
+      part_gives : (cs : Commands) (part : Part) (all : Commands) (es : List Entry)
+          → slice_get log.commands part.list ≡ Some es → part.first ≤ length es →
           Gives cs (take part.first es) all → PartGives cs part all
 
     -- the same, of rounds
     pub data PartGivesRounds : CommandRounds → Part → CommandRounds → Type 0 where
-      part_gives_rounds : (rs : CommandRounds) (part : Part) (all : CommandRounds) (es : List RoundEntry) → slice_get log.rounds part.list ≡ Some es → part.first ≤ length es →
+      part_gives_rounds : (rs : CommandRounds) (part : Part) (all : CommandRounds) (es : List RoundEntry)
+          → slice_get log.rounds part.list ≡ Some es → part.first ≤ length es →
           GivesRounds rs (take part.first es) all → PartGivesRounds rs part all
 
   -- the account of a live handle

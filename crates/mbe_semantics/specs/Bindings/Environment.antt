@@ -107,7 +107,3 @@ abbrev mutual
   pub AreWhole : Values → Type 0
   AreWhole no_values = Unit {0}
   AreWhole (value v vs) = IsWhole v × AreWhole vs
-
--- each name has the same value
-abbrev pub BindsAlike : Environment → Environment → Type 0
-BindsAlike env other = (name : Name) → value_of env name ≡ value_of other name

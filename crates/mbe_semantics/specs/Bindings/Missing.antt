@@ -21,7 +21,8 @@ default_trees kinds.Meta span = none
 default_trees kinds.Item span = none
 default_trees kinds.Tt span = none
 default_trees kinds.Vis span = none
-default_trees kinds.Lifetime span = leaf (punct (record { char = 39; spacing = Joint; span = span })) (missing_ident span)
+default_trees kinds.Lifetime span = leaf (punct (record { char = 39; spacing = Joint; span = span }))
+    (missing_ident span)
 default_trees _ span = missing_ident span
 
 -- of a text alone the span doesn't matter

@@ -38,13 +38,15 @@ use Rattle.mbe_semantics.specs.Examples.Sample.{is_2024, Defines, ExpandsBy, fn_
 abbrev pub pair_reads : Forest
 pair_reads =
     mark 36 Alone (at 0 1 2) (word (codes "x") (at 0 2 3) (mark 58 Alone (at 0 3 4) (word (codes "ident") (at 0 4 9)
-    (mark 61 Alone (at 0 10 11) (mark 36 Alone (at 0 12 13) (word (codes "t") (at 0 13 14) (mark 58 Alone (at 0 14 15) (word (codes "tt") (at 0 15 17)
+    (mark 61 Alone (at 0 10 11) (mark 36 Alone (at 0 12 13)
+    (word (codes "t") (at 0 13 14) (mark 58 Alone (at 0 14 15) (word (codes "tt") (at 0 15 17)
     (mark 59 Alone (at 0 17 18) none)))))))))
 
 abbrev pub pair_writes : Forest
 pair_writes =
     word (codes "pair") (at 0 25 29)
-    (group (delimiter_of Parenthesis (at 0 30 31) (at 0 33 34)) (mark 36 Alone (at 0 31 32) (word (codes "t") (at 0 32 33) none))
+    (group (delimiter_of Parenthesis (at 0 30 31) (at 0 33 34))
+    (mark 36 Alone (at 0 31 32) (word (codes "t") (at 0 32 33) none))
     (mark 36 Alone (at 0 35 36) (word (codes "x") (at 0 36 37) none)))
 
 abbrev pub pair_definition : Forest
@@ -57,16 +59,20 @@ abbrev pub pair_rule : Rule
 pair_rule = record {
   style = FnLike;
   reads =
-      op (ops.variable (codes "x") (Some kinds.Ident) (at 0 2 3)) (op (ops.token (ops.puncts (punct_of 61 Alone (at 0 10 11) ∷ [])))
-      (op (ops.variable (codes "t") (Some kinds.Tt) (at 0 13 14)) (op (ops.token (ops.puncts (punct_of 59 Alone (at 0 17 18) ∷ []))) no_ops)));
+      op (ops.variable (codes "x") (Some kinds.Ident) (at 0 2 3))
+      (op (ops.token (ops.puncts (punct_of 61 Alone (at 0 10 11) ∷ [])))
+      (op (ops.variable (codes "t") (Some kinds.Tt) (at 0 13 14))
+      (op (ops.token (ops.puncts (punct_of 59 Alone (at 0 17 18) ∷ []))) no_ops)));
   writes =
       op (ops.token (ops.ident (ident_of (codes "pair") (at 0 25 29))))
-      (op (ops.group (delimiter_of Parenthesis (at 0 30 31) (at 0 33 34)) (op (ops.variable (codes "t") None (at 0 32 33)) no_ops))
+      (op (ops.group (delimiter_of Parenthesis (at 0 30 31) (at 0 33 34))
+      (op (ops.variable (codes "t") None (at 0 32 33)) no_ops))
       (op (ops.variable (codes "x") None (at 0 36 37)) no_ops));
 }
 
 abbrev pub pair_argument : Forest
-pair_argument = word (codes "a") (at 1 0 1) (mark 61 Alone (at 1 2 3) (number (codes "1") (at 1 4 5) (mark 59 Alone (at 1 5 6) none)))
+pair_argument = word (codes "a") (at 1 0 1)
+    (mark 61 Alone (at 1 2 3) (number (codes "1") (at 1 4 5) (mark 59 Alone (at 1 5 6) none)))
 
 abbrev pub pair_items : Items
 pair_items =
@@ -77,7 +83,8 @@ pair_items =
 abbrev pub pair_result : Forest
 pair_result =
     group (delimiter_of Invisible (at 1 0 6) (at 1 0 6))
-    (word (codes "pair") (at 0 25 29) (group (delimiter_of Parenthesis (at 0 30 31) (at 0 33 34)) (number (codes "1") (at 1 4 5) none)
+    (word (codes "pair") (at 0 25 29) (group (delimiter_of Parenthesis (at 0 30 31) (at 0 33 34))
+    (number (codes "1") (at 1 4 5) none)
     (word (codes "a") (at 1 0 1) none)))
     none
 
@@ -93,13 +100,15 @@ pub record PairExample : Type 0 where
 abbrev pub cast_definition : Forest
 cast_definition =
     group (parens 0 27)
-    (alone_at 0 1 36 (group (parens 2 11) (typed_at 3 (codes "t") (codes "ident") none) (joint_at 0 12 44 (alone_at 0 13 42
+    (alone_at 0 1 36 (group (parens 2 11) (typed_at 3 (codes "t") (codes "ident") none)
+    (joint_at 0 12 44 (alone_at 0 13 42
     (text_at 0 15 (codes "as") (typed_at 18 (codes "ty") (codes "ident") none))))))
     (arrow_at 29 (group (braces 32 33) none none))
 
 abbrev pub cast_pattern : Ops
 cast_pattern =
-    op (ops.repetition (op (reads_at 4 (codes "t") kinds.Ident) no_ops) (Some (punct_separator (punct_of 44 Joint (at 0 12 13) ∷ []))) ZeroOrMore)
+    op (ops.repetition (op (reads_at 4 (codes "t") kinds.Ident) no_ops)
+    (Some (punct_separator (punct_of 44 Joint (at 0 12 13) ∷ []))) ZeroOrMore)
     (op (ident_at 15 (codes "as")) (op (reads_at 19 (codes "ty") kinds.Ident) no_ops))
 
 abbrev pub cast_rule : Rule
@@ -158,7 +167,8 @@ quote_definition =
 abbrev pub quote_pattern : Ops
 quote_pattern =
     op (ops.repetition
-    (op (ident_at 3 (codes "b")) (op (ops.repetition (op (ops.token (ops.puncts (punct_of 39 Alone (at 0 7 8) ∷ []))) no_ops) None ZeroOrOne) no_ops))
+    (op (ident_at 3 (codes "b")) (op (ops.repetition
+    (op (ops.token (ops.puncts (punct_of 39 Alone (at 0 7 8) ∷ []))) no_ops) None ZeroOrOne) no_ops))
     (Some (lifetime_separator (punct_of 39 Joint (at 0 11 12)) (ident_of (codes "a") (at 0 12 13)))) ZeroOrMore) no_ops
 
 abbrev pub quote_rule : Rule
@@ -180,7 +190,8 @@ abbrev pub bx_definition : Forest
 bx_definition =
     group (parens 0 15)
     (alone_at 0 1 36 (group (parens 2 12)
-    (text_at 0 4 (codes "b") (alone_at 0 6 36 (group (parens 7 9) (text_at 0 8 (codes "x") none) (alone_at 0 10 63 none))))
+    (text_at 0 4 (codes "b") (alone_at 0 6 36
+    (group (parens 7 9) (text_at 0 8 (codes "x") none) (alone_at 0 10 63 none))))
     (text_at 0 13 (codes "x") (alone_at 0 14 42 none))))
     (arrow_at 17 (group (braces 20 21) none none))
 
@@ -228,11 +239,18 @@ star body = ops.repetition body None ZeroOrMore
 
 -- a is three words, b is two, x is one, n is two lists of two and one
 abbrev pub some_values : Environment
-some_values =
-    (codes "a", list (value (one_word (codes "p")) (value (one_word (codes "q")) (value (one_word (codes "r")) no_values))))
+some_values = (
+  codes "a",
+  list (value (one_word (codes "p"))
+      (value (one_word (codes "q")) (value (one_word (codes "r")) no_values))),
+)
     ∷ (codes "b", two (one_word (codes "s")) (one_word (codes "t")))
     ∷ (codes "x", one_word (codes "w"))
-    ∷ (codes "n", two (two (one_word (codes "p")) (one_word (codes "q"))) (list (value (one_word (codes "r")) no_values)))
+    ∷ (
+      codes "n",
+      two (two (one_word (codes "p")) (one_word (codes "q")))
+          (list (value (one_word (codes "r")) no_values)),
+    )
     ∷ []
 
 abbrev pub words : List (List ℕ) → Forest
@@ -242,40 +260,50 @@ words (text ∷ texts) = word text (at 1 0 1) (words texts)
 pub record TemplateExamples : Type 0 where
   -- `$($x)*` has no end, `$($x)?` writes it once, and `$x` doesn't fault
   pub endless : faults some_values [] (op (star (op (plain_variable (codes "x")) no_ops)) no_ops) ≡ true
-  pub once : faults some_values [] (op (ops.repetition (op (plain_variable (codes "x")) no_ops) None ZeroOrOne) no_ops) ≡ false
+  pub once : faults some_values [] (op (ops.repetition (op (plain_variable (codes "x")) no_ops) None ZeroOrOne) no_ops)
+      ≡ false
   pub faultless : faults some_values [] (op (plain_variable (codes "x")) no_ops) ≡ false
   -- a list where one value is wanted, and `+` with no name
   pub nested : faults some_values [] (op (plain_variable (codes "a")) no_ops) ≡ true
   pub no_round : faults some_values [] (op (ops.repetition no_ops None OneOrMore) no_ops) ≡ true
   -- `$($a $b)*` has as many rounds as the shorter list
   pub shorter : (g : Grammar) →
-      IsSubstitution g same_span (at 1 0 9) some_values (op (star (op (plain_variable (codes "a")) (op (plain_variable (codes "b")) no_ops))) no_ops)
-      (group (delimiter_of Invisible (at 1 0 9) (at 1 0 9)) (words (codes "p" ∷ codes "s" ∷ codes "q" ∷ codes "t" ∷ [])) none)
+      IsSubstitution g same_span (at 1 0 9) some_values
+      (op (star (op (plain_variable (codes "a")) (op (plain_variable (codes "b")) no_ops))) no_ops)
+      (group (delimiter_of Invisible (at 1 0 9) (at 1 0 9)) (words (codes "p" ∷ codes "s" ∷ codes "q" ∷ codes "t" ∷ []))
+      none)
   -- `${count($n)} ${count($n, 1)}`
   pub counts : (g : Grammar) →
       IsSubstitution g same_span (at 1 0 6) some_values
       (op (ops.expression (ops.count (codes "n") 0)) (op (ops.expression (ops.count (codes "n") 1)) no_ops))
-      (group (delimiter_of Invisible (at 1 0 6) (at 1 0 6)) (number (codes "2") (at 1 0 6) (number (codes "3") (at 1 0 6) none)) none)
+      (group (delimiter_of Invisible (at 1 0 6) (at 1 0 6))
+      (number (codes "2") (at 1 0 6) (number (codes "3") (at 1 0 6) none)) none)
   -- `$(${index()} $b)*`
   pub indexes : (g : Grammar) →
       IsSubstitution g same_span (at 1 0 3) some_values
       (op (star (op (ops.expression (ops.index 0)) (op (plain_variable (codes "b")) no_ops))) no_ops)
       (group (delimiter_of Invisible (at 1 0 3) (at 1 0 3))
-      (number (codes "0") (at 1 0 3) (word (codes "s") (at 1 0 1) (number (codes "1") (at 1 0 3) (word (codes "t") (at 1 0 1) none)))) none)
+      (number (codes "0") (at 1 0 3) (word (codes "s") (at 1 0 1)
+      (number (codes "1") (at 1 0 3) (word (codes "t") (at 1 0 1) none)))) none)
   -- `${index(1)}` in one level of rounds
   pub far_index : (g : Grammar) →
-      IsSubstitution g same_span (at 1 0 3) some_values (op (star (op (ops.expression (ops.index 1)) (op (plain_variable (codes "b")) no_ops))) no_ops)
+      IsSubstitution g same_span (at 1 0 3) some_values
+      (op (star (op (ops.expression (ops.index 1)) (op (plain_variable (codes "b")) no_ops))) no_ops)
       (group (delimiter_of Invisible (at 1 0 3) (at 1 0 3))
-      (number (codes "0") (at 1 0 3) (word (codes "s") (at 1 0 1) (number (codes "0") (at 1 0 3) (word (codes "t") (at 1 0 1) none)))) none)
+      (number (codes "0") (at 1 0 3) (word (codes "s") (at 1 0 1)
+      (number (codes "0") (at 1 0 3) (word (codes "t") (at 1 0 1) none)))) none)
   -- `$($b)?` writes one round of two
   pub first_only : (g : Grammar) →
-      IsSubstitution g same_span (at 1 0 9) some_values (op (ops.repetition (op (plain_variable (codes "b")) no_ops) None ZeroOrOne) no_ops)
+      IsSubstitution g same_span (at 1 0 9) some_values
+      (op (ops.repetition (op (plain_variable (codes "b")) no_ops) None ZeroOrOne) no_ops)
       (group (delimiter_of Invisible (at 1 0 9) (at 1 0 9)) (words (codes "s" ∷ [])) none)
   -- 65535 rounds are written, 65536 aren't
   pub below_limit : extent_faults ZeroOrMore (finite 65535) ≡ false
   pub limit : extent_faults ZeroOrMore (finite 65536) ≡ true
   -- `${concat(p, $a)}`, though `a` is a list; `${ignore($y)}` of no binding; `${count($e)}` where `e` was skipped
-  pub listed : faults some_values [] (op (ops.expression (ops.concat (ops.ident_element (ident_of (codes "p") (at 0 0 1)) ∷ ops.variable_element (ident_of (codes "a") (at 0 0 1)) ∷ []) (at 0 0 1))) no_ops) ≡ true
+  pub listed : faults some_values [] (op
+      (ops.expression (ops.concat (ops.ident_element (ident_of (codes "p") (at 0 0 1))
+      ∷ ops.variable_element (ident_of (codes "a") (at 0 0 1)) ∷ []) (at 0 0 1))) no_ops) ≡ true
   pub ignored : faults some_values [] (op (ops.expression (ops.ignore (codes "y") (at 0 0 1))) no_ops) ≡ true
   pub none_counted : total_of 0 (Some empty) ≡ 0
   -- three, two, one, and two and one
@@ -283,23 +311,32 @@ pub record TemplateExamples : Type 0 where
   -- an unbound name is written back
   pub unbound : (g : Grammar) →
       IsSubstitution g same_span (at 1 0 0) [] (op (ops.variable (codes "y") None (at 0 8 9)) no_ops)
-      (group (delimiter_of Invisible (at 1 0 0) (at 1 0 0)) (mark 36 Alone (at 0 8 9) (word (codes "y") (at 0 8 9) none)) none)
+      (group (delimiter_of Invisible (at 1 0 0) (at 1 0 0))
+      (mark 36 Alone (at 0 8 9) (word (codes "y") (at 0 8 9) none)) none)
   -- `1 + 2` is written in parentheses, `-1` isn't
   pub sum : IsWrittenAs same_span (at 1 0 5) items.as_expression (at 0 15 16)
       (number (codes "1") (at 1 0 1) (mark 43 Alone (at 1 2 3) (number (codes "2") (at 1 4 5) none)))
-      (group (delimiter_of Parenthesis (at 0 15 16) (at 0 15 16)) (number (codes "1") (at 1 0 1) (mark 43 Alone (at 1 2 3) (number (codes "2") (at 1 4 5) none))) none)
+      (group (delimiter_of Parenthesis (at 0 15 16) (at 0 15 16))
+      (number (codes "1") (at 1 0 1) (mark 43 Alone (at 1 2 3) (number (codes "2") (at 1 4 5) none))) none)
   pub negative : IsWrittenAs same_span (at 1 0 2) items.as_expression (at 0 15 16)
-      (mark 45 Alone (at 1 0 1) (number (codes "1") (at 1 1 2) none)) (mark 45 Alone (at 1 0 1) (number (codes "1") (at 1 1 2) none))
+      (mark 45 Alone (at 1 0 1) (number (codes "1") (at 1 1 2) none))
+      (mark 45 Alone (at 1 0 1) (number (codes "1") (at 1 1 2) none))
   -- an invisible group around `1 + 2` is left out
   pub opened : IsWrittenAs same_span (at 1 0 5) items.as_expression (at 0 15 16)
-      (group (delimiter_of Invisible (at 1 0 0) (at 1 5 5)) (number (codes "1") (at 1 0 1) (mark 43 Alone (at 1 2 3) (number (codes "2") (at 1 4 5) none))) none)
-      (group (delimiter_of Parenthesis (at 0 15 16) (at 0 15 16)) (number (codes "1") (at 1 0 1) (mark 43 Alone (at 1 2 3) (number (codes "2") (at 1 4 5) none))) none)
+      (group (delimiter_of Invisible (at 1 0 0) (at 1 5 5))
+      (number (codes "1") (at 1 0 1) (mark 43 Alone (at 1 2 3) (number (codes "2") (at 1 4 5) none))) none)
+      (group (delimiter_of Parenthesis (at 0 15 16) (at 0 15 16))
+      (number (codes "1") (at 1 0 1) (mark 43 Alone (at 1 2 3) (number (codes "2") (at 1 4 5) none))) none)
   -- `<T>` gets no `::`, as no identifier is before the `<`
-  pub plain_path : path_trees (at 1 0 3) (mark 60 Alone (at 1 0 1) (word (codes "T") (at 1 1 2) (mark 62 Alone (at 1 2 3) none)))
+  pub plain_path : path_trees (at 1 0 3)
+      (mark 60 Alone (at 1 0 1) (word (codes "T") (at 1 1 2) (mark 62 Alone (at 1 2 3) none)))
       ≡ mark 60 Alone (at 1 0 1) (word (codes "T") (at 1 1 2) (mark 62 Alone (at 1 2 3) none))
   -- `Vec<u8>` gets a `::`
-  pub path : path_trees (at 1 0 7) (word (codes "Vec") (at 1 0 3) (mark 60 Alone (at 1 3 4) (word (codes "u8") (at 1 4 6) (mark 62 Alone (at 1 6 7) none))))
-      ≡ word (codes "Vec") (at 1 0 3) (mark 58 Joint (at 1 0 7) (mark 58 Alone (at 1 0 7) (mark 60 Alone (at 1 3 4) (word (codes "u8") (at 1 4 6) (mark 62 Alone (at 1 6 7) none)))))
+  pub path : path_trees (at 1 0 7) (word (codes "Vec") (at 1 0 3)
+      (mark 60 Alone (at 1 3 4) (word (codes "u8") (at 1 4 6) (mark 62 Alone (at 1 6 7) none))))
+      ≡ word (codes "Vec") (at 1 0 3) (mark 58 Joint (at 1 0 7)
+      (mark 58 Alone (at 1 0 7) (mark 60 Alone (at 1 3 4)
+      (word (codes "u8") (at 1 4 6) (mark 62 Alone (at 1 6 7) none)))))
 
 -- ---- definitions that are refused, and tokens that fit
 
@@ -320,38 +357,52 @@ vis_pattern =
 
 pub record DefinitionExamples : Type 0 where
   -- `() => {} x`
-  pub stray : IsMacroRules is_2024 (empty_rule_then (word (codes "x") (at 0 9 10) none)) (empty_rule ∷ []) (Some (expected (codes "expected `;`")))
+  pub stray : IsMacroRules is_2024 (empty_rule_then (word (codes "x") (at 0 9 10) none)) (empty_rule ∷ [])
+      (Some (expected (codes "expected `;`")))
   -- `($x:ident) =>`, whose last group is missing
-  pub no_template : IsMacroRules is_2024 (empty_group (mark 61 Joint (at 0 3 4) (mark 62 Alone (at 0 4 5) none))) [] (Some (expected (codes "expected subtree")))
+  pub no_template : IsMacroRules is_2024 (empty_group (mark 61 Joint (at 0 3 4) (mark 62 Alone (at 0 4 5) none))) []
+      (Some (expected (codes "expected subtree")))
   -- `$( $($v:vis),+ )*`
   pub refused : is_refused vis_pattern ≡ true
   -- `1` fits `"1"`, `foo` fits `r#foo`
   pub any_literal : (rest : Forest) →
-      token_front (ops.literal (integer_of (codes "1") (at 0 1 2))) (leaf (literal (record { text_and_suffix = codes "1"; suffix_len = 0; kind = Str; span = at 1 0 3 })) none)
-      ≡ Some (cut (leaf (literal (record { text_and_suffix = codes "1"; suffix_len = 0; kind = Str; span = at 1 0 3 })) none) none)
+      token_front (ops.literal (integer_of (codes "1") (at 0 1 2)))
+      (leaf (literal (record { text_and_suffix = codes "1"; suffix_len = 0; kind = Str; span = at 1 0 3 })) none)
+      ≡ Some (cut (leaf (literal (record { text_and_suffix = codes "1"; suffix_len = 0; kind = Str; span = at 1 0 3 }))
+      none) none)
   pub raw_ident :
-      token_front (ops.ident (ident_of (codes "foo") (at 0 1 4))) (leaf (ident (record { sym = codes "foo"; is_raw = raw.Yes; span = at 1 0 5 })) none)
+      token_front (ops.ident (ident_of (codes "foo") (at 0 1 4)))
+      (leaf (ident (record { sym = codes "foo"; is_raw = raw.Yes; span = at 1 0 5 })) none)
       ≡ Some (cut (leaf (ident (record { sym = codes "foo"; is_raw = raw.Yes; span = at 1 0 5 })) none) none)
   -- `;+` isn't taken together, `..=` is, and of `..+` the first two are
   pub apart : chars_of (glue (mark 59 Joint (at 1 0 1) (mark 43 Alone (at 1 1 2) none))) ≡ codes ";"
-  pub together : chars_of (glue (mark 46 Joint (at 1 0 1) (mark 46 Joint (at 1 1 2) (mark 61 Alone (at 1 2 3) none)))) ≡ codes "..="
-  pub first_two : chars_of (glue (mark 46 Joint (at 1 0 1) (mark 46 Joint (at 1 1 2) (mark 43 Alone (at 1 2 3) none)))) ≡ codes ".."
+  pub together : chars_of (glue (mark 46 Joint (at 1 0 1) (mark 46 Joint (at 1 1 2) (mark 61 Alone (at 1 2 3) none))))
+      ≡ codes "..="
+  pub first_two : chars_of (glue (mark 46 Joint (at 1 0 1) (mark 46 Joint (at 1 1 2) (mark 43 Alone (at 1 2 3) none))))
+      ≡ codes ".."
   -- the later of two bindings stays
   pub twice : environment_of
-      (item (item no_items (bound (codes "x") (record { trees = words (codes "a" ∷ []); style = items.stripped }))) (bound (codes "x") (record { trees = words (codes "b" ∷ []); style = items.stripped })))
+      (item (item no_items (bound (codes "x") (record { trees = words (codes "a" ∷ []); style = items.stripped })))
+      (bound (codes "x") (record { trees = words (codes "b" ∷ []); style = items.stripped })))
       ≡ (codes "x", one_word (codes "b")) ∷ []
   -- a skipped repetition sets each variable of its body, and of the bodies in it
   pub nothing_bound : environment_of (item no_items (skipped (names_of
-      (op (ops.variable (codes "x") (Some kinds.Ident) (at 0 2 3)) (op (ops.repetition (op (ops.variable (codes "y") (Some kinds.Ident) (at 0 2 3)) no_ops) None ZeroOrMore) no_ops)))))
+      (op (ops.variable (codes "x") (Some kinds.Ident) (at 0 2 3))
+      (op (ops.repetition (op (ops.variable (codes "y") (Some kinds.Ident) (at 0 2 3)) no_ops) None ZeroOrMore)
+      no_ops)))))
       ≡ (codes "x", empty) ∷ (codes "y", empty) ∷ []
   -- rounds give a list
-  pub lists : environment_of (item no_items (rounds (round no_rounds (item no_items (bound (codes "x") (record { trees = words (codes "a" ∷ []); style = items.stripped }))) 1)
+  pub lists : environment_of (item no_items
+      (rounds (round no_rounds (item no_items
+      (bound (codes "x") (record { trees = words (codes "a" ∷ []); style = items.stripped }))) 1)
       (item no_items (bound (codes "x") (record { trees = words (codes "b" ∷ []); style = items.stripped })))))
       ≡ (codes "x", two (one_word (codes "a")) (one_word (codes "b"))) ∷ []
   -- no round and one empty round both read `$($v:vis),*` on nothing, by a grammar that lets `vis` take nothing
   pub empty_rounds : (g : Grammar) → (g.parse Vis []) ≡ record { count = 0; fault = false } →
-      IsReading g (op (ops.repetition (op (ops.variable (codes "v") (Some kinds.Vis) (at 0 0 1)) no_ops) (Some (punct_separator (punct_of 44 Joint (at 0 0 1) ∷ []))) ZeroOrMore) no_ops)
-      none (item no_items (rounds no_rounds (item no_items (bound (codes "v") (record { trees = none; style = items.plain })))))
+      IsReading g (op (ops.repetition (op (ops.variable (codes "v") (Some kinds.Vis) (at 0 0 1)) no_ops)
+      (Some (punct_separator (punct_of 44 Joint (at 0 0 1) ∷ []))) ZeroOrMore) no_ops)
+      none (item no_items (rounds no_rounds
+      (item no_items (bound (codes "v") (record { trees = none; style = items.plain })))))
 
 -- ---- verdicts
 
@@ -402,41 +453,56 @@ pub record VerdictExamples (g : Grammar) : Type 0 where
   pub group_none : IsVerdict g group_pattern (in_parentheses none none) (stuck 1)
   pub group_two : IsVerdict g group_pattern (in_parentheses (a_then (a_then none)) none) (stuck 2)
   pub group_more : IsVerdict g group_pattern (in_parentheses (a_then none) (a_then none)) (stuck 3)
-  pub group_other : IsVerdict g group_pattern (group (delimiter_of Brace (at 1 0 1) (at 1 0 1)) (a_then none) none) (stuck 0)
+  pub group_other : IsVerdict g group_pattern (group (delimiter_of Brace (at 1 0 1) (at 1 0 1)) (a_then none) none)
+      (stuck 0)
   -- `$($x:ident),*` on nothing, `a, a`, `a,` and `a a`
   pub list_none : IsVerdict g list_pattern none one_reading
   pub list_two : IsVerdict g list_pattern (a_then (comma_then (a_then none))) one_reading
   pub list_comma : IsVerdict g list_pattern (a_then (comma_then none)) (stuck 2)
   pub list_missing : IsVerdict g list_pattern (a_then (a_then none)) (stuck 1)
   -- `$(a)* $x:ident` on `a`, `$(a)* b` on `a a b`, `$(a)* $(a)*` on `a`, `$(a)+` on nothing, `$(a)?` on `a a`
-  pub or_variable : IsVerdict g (op (ops.repetition (op (token_of (codes "a")) no_ops) None ZeroOrMore) (op x_variable no_ops)) (a_then none) (ambiguous 0)
-  pub then_b : IsVerdict g (op (ops.repetition (op (token_of (codes "a")) no_ops) None ZeroOrMore) (op (token_of (codes "b")) no_ops)) (a_then (a_then (word (codes "b") (at 1 0 1) none))) one_reading
-  pub two_lists : IsVerdict g (op (ops.repetition (op (token_of (codes "a")) no_ops) None ZeroOrMore) (op (ops.repetition (op (token_of (codes "a")) no_ops) None ZeroOrMore) no_ops)) (a_then none) many_readings
-  pub at_least_one : IsVerdict g (op (ops.repetition (op (token_of (codes "a")) no_ops) None OneOrMore) no_ops) none (stuck 0)
-  pub at_most_one : IsVerdict g (op (ops.repetition (op (token_of (codes "a")) no_ops) None ZeroOrOne) no_ops) (a_then (a_then none)) (stuck 1)
+  pub or_variable : IsVerdict g (op (ops.repetition (op (token_of (codes "a")) no_ops) None ZeroOrMore)
+      (op x_variable no_ops)) (a_then none) (ambiguous 0)
+  pub then_b : IsVerdict g (op (ops.repetition (op (token_of (codes "a")) no_ops) None ZeroOrMore)
+      (op (token_of (codes "b")) no_ops)) (a_then (a_then (word (codes "b") (at 1 0 1) none))) one_reading
+  pub two_lists : IsVerdict g (op (ops.repetition (op (token_of (codes "a")) no_ops) None ZeroOrMore)
+      (op (ops.repetition (op (token_of (codes "a")) no_ops) None ZeroOrMore) no_ops)) (a_then none) many_readings
+  pub at_least_one : IsVerdict g (op (ops.repetition (op (token_of (codes "a")) no_ops) None OneOrMore) no_ops) none
+      (stuck 0)
+  pub at_most_one : IsVerdict g (op (ops.repetition (op (token_of (codes "a")) no_ops) None ZeroOrOne) no_ops)
+      (a_then (a_then none)) (stuck 1)
   -- `$(),*` on nothing and on `,`
   pub empty_body : IsVerdict g (op (ops.repetition no_ops comma ZeroOrMore) no_ops) none many_readings
   pub empty_bodies : IsVerdict g (op (ops.repetition no_ops comma ZeroOrMore) no_ops) (comma_then none) one_reading
   -- `$($x:ident)* $x:ident` on `a`: two fragments
-  pub two_fragments : IsVerdict g (op (ops.repetition (op x_variable no_ops) None ZeroOrMore) (op x_variable no_ops)) (a_then none) (ambiguous 0)
+  pub two_fragments : IsVerdict g (op (ops.repetition (op x_variable no_ops) None ZeroOrMore) (op x_variable no_ops))
+      (a_then none) (ambiguous 0)
   -- `(a b)` on `(a c)`
-  pub group_inside : IsVerdict g (op (ops.group (delimiter_of Parenthesis (at 0 0 1) (at 0 0 1)) (op (token_of (codes "a")) (op (token_of (codes "b")) no_ops))) no_ops)
+  pub group_inside : IsVerdict g (op (ops.group (delimiter_of Parenthesis (at 0 0 1) (at 0 0 1))
+      (op (token_of (codes "a")) (op (token_of (codes "b")) no_ops))) no_ops)
       (in_parentheses (a_then (word (codes "c") (at 1 0 1) none)) none) (stuck 2)
   -- `$x:expr_2021` on `_` and on `const`; the grammar isn't asked
-  pub old_underscore : IsVerdict g (op (of_kind (kinds.Expr exprs.Expr2021)) no_ops) (word (codes "_") (at 1 0 1) none) (stuck 0)
-  pub old_const : IsVerdict g (op (of_kind (kinds.Expr exprs.Expr2021)) no_ops) (word (codes "const") (at 1 0 5) none) (stuck 0)
+  pub old_underscore : IsVerdict g (op (of_kind (kinds.Expr exprs.Expr2021)) no_ops) (word (codes "_") (at 1 0 1) none)
+      (stuck 0)
+  pub old_const : IsVerdict g (op (of_kind (kinds.Expr exprs.Expr2021)) no_ops) (word (codes "const") (at 1 0 5) none)
+      (stuck 0)
   -- `$x:ident` on `_`, `$x:lifetime` on `'a`, `$x:tt` on `'a` and on `'`, `$x:literal` on `-true`
   pub no_underscore : IsVerdict g (op x_variable no_ops) (word (codes "_") (at 1 0 1) none) (stuck 0)
   pub lifetime : IsVerdict g (op (of_kind kinds.Lifetime) no_ops) (quote_then (a_then none)) one_reading
   pub tree_lifetime : IsVerdict g (op (of_kind kinds.Tt) no_ops) (quote_then (a_then none)) one_reading
   pub tree_quote : IsVerdict g (op (of_kind kinds.Tt) no_ops) (quote_then none) (stuck 0)
-  pub signed_truth : IsVerdict g (op (of_kind kinds.Literal) no_ops) (mark 45 Alone (at 1 0 1) (word (codes "true") (at 1 1 5) none)) one_reading
+  pub signed_truth : IsVerdict g (op (of_kind kinds.Literal) no_ops)
+      (mark 45 Alone (at 1 0 1) (word (codes "true") (at 1 1 5) none)) one_reading
   -- `$(a)"true"*` on `a true a`, `$(a);;*` on `a;;a`, `$(a),?` on `a,`
-  pub truth_separator : IsVerdict g (op (list_between (ops.literal_separator (record { text_and_suffix = codes "true"; suffix_len = 0; kind = Str; span = at 0 0 1 })) ZeroOrMore) no_ops)
+  pub truth_separator : IsVerdict g (op (list_between
+      (ops.literal_separator (record { text_and_suffix = codes "true"; suffix_len = 0; kind = Str; span = at 0 0 1 }))
+      ZeroOrMore) no_ops)
       (a_then (word (codes "true") (at 1 2 6) (a_then none))) one_reading
-  pub never_glued : IsVerdict g (op (list_between (punct_separator (punct_of 59 Joint (at 0 0 1) ∷ punct_of 59 Alone (at 0 1 2) ∷ [])) ZeroOrMore) no_ops)
+  pub never_glued : IsVerdict g (op (list_between
+      (punct_separator (punct_of 59 Joint (at 0 0 1) ∷ punct_of 59 Alone (at 0 1 2) ∷ [])) ZeroOrMore) no_ops)
       (a_then (mark 59 Joint (at 1 1 2) (mark 59 Alone (at 1 2 3) (a_then none)))) (stuck 1)
-  pub one_round : IsVerdict g (op (list_between (punct_separator (punct_of 44 Joint (at 0 0 1) ∷ [])) ZeroOrOne) no_ops) (a_then (comma_then none)) (stuck 1)
+  pub one_round : IsVerdict g (op (list_between (punct_separator (punct_of 44 Joint (at 0 0 1) ∷ [])) ZeroOrOne) no_ops)
+      (a_then (comma_then none)) (stuck 1)
   -- `=>` on `=>` and on `= >`
   pub arrow : IsVerdict g arrow_pattern (mark 61 Joint (at 1 0 1) (mark 62 Alone (at 1 1 2) none)) one_reading
   pub no_arrow : IsVerdict g arrow_pattern (mark 61 Alone (at 1 0 1) (mark 62 Alone (at 1 2 3) none)) (stuck 0)

@@ -4,7 +4,7 @@ use Rattle.mbe_tt.specs.Trees.Tree.{none}
 use Rattle.mbe_semantics.specs.declared.kinds.MetaVarKind.TheVariants as kinds
 use Rattle.mbe_semantics.specs.declared.kinds.RepeatKind.TheVariants.{ZeroOrMore}
 use Rattle.mbe_semantics.specs.Syntax.Op as ops
-use Rattle.mbe_semantics.specs.Syntax.Op.{Ops, no_ops, op}
+use Rattle.mbe_semantics.specs.Syntax.Op.{no_ops, op}
 use Rattle.mbe_semantics.specs.Readings.Item as items
 use Rattle.mbe_semantics.specs.Readings.Item.{Fragment, Items, skipped, rounds, no_items, item, no_rounds, round}
 use Rattle.mbe_semantics.specs.Bindings.Environment.{fragment, list, empty, missing, value, no_values, Environment, environment_of}
@@ -13,7 +13,7 @@ use Rattle.mbe_semantics.specs.Writing.Substitution.{total_of}
 use Rattle.mbe_semantics.specs.Bindings.Account.{Command, Commands, no_commands, command, command_round, no_command_rounds, run, commands_of, no_account, pushed, pushed_nested, pushed_default, environment_of_account, Entry, HasOneListMore}
 use Rattle.mbe_semantics.specs.Writing.Concat.{if_identifier}
 use Rattle.mbe_semantics.specs.Bindings.Missing.{default_trees}
-use Rattle.mbe_semantics.specs.Examples.Sample.{at, taken, text_at, joint_at, reads_at}
+use Rattle.mbe_semantics.specs.Examples.Sample.{at, taken, text_at, joint_at}
 
 abbrev pub word_of : List ℕ → Fragment
 word_of text = record { trees = text_at 1 0 text none; style = items.stripped }
@@ -24,18 +24,14 @@ binds_x text = Command.binds (codes "x") (word_of text)
 abbrev pub one_command : Command → Commands
 one_command c = command no_commands c
 
--- `$($x:ident $(y)?)*` with two rounds, the second of which has none of the inner repetition
-abbrev pub rounds_pattern : Ops
-rounds_pattern =
-    op (ops.repetition (op (reads_at 4 (codes "x") kinds.Ident) (op (ops.repetition (op (reads_at 14 (codes "y") kinds.Ident) no_ops) None ZeroOrMore) no_ops)) None ZeroOrMore) no_ops
-
 abbrev pub first_round : Items
 first_round =
     item (item no_items (taken (codes "x") items.stripped (text_at 1 0 (codes "a") none)))
     (rounds no_rounds (item no_items (taken (codes "y") items.stripped (text_at 1 2 (codes "b") none))))
 
 abbrev pub last_round : Items
-last_round = item (item no_items (taken (codes "x") items.stripped (text_at 1 4 (codes "c") none))) (skipped (codes "y" ∷ []))
+last_round = item (item no_items (taken (codes "x") items.stripped (text_at 1 4 (codes "c") none)))
+    (skipped (codes "y" ∷ []))
 
 abbrev pub rounds_items : Items
 rounds_items = item no_items (rounds (round no_rounds first_round 0) last_round)
@@ -50,19 +46,24 @@ pub record LogExamples : Type 0 where
   pub three_entries : HasOneListMore [] (entries 3 ∷ [])
   pub four_entries : HasOneListMore [] (entries 4 ∷ []) → ⊥
   -- a round that doesn't bind the name leaves an empty list
-  pub filled : run (one_command (Command.nests (command_round (command_round no_command_rounds no_commands) (one_command (binds_x (codes "a")))))) []
+  pub filled : run (one_command (Command.nests
+      (command_round (command_round no_command_rounds no_commands) (one_command (binds_x (codes "a")))))) []
       ≡ (codes "x", list (value (list no_values) (value (fragment (word_of (codes "a"))) no_values))) ∷ []
   -- rounds leave a value that is no list
-  pub kept : run (command (one_command (binds_x (codes "a"))) (Command.nests (command_round no_command_rounds (one_command (binds_x (codes "b")))))) []
+  pub kept : run (command (one_command (binds_x (codes "a")))
+      (Command.nests (command_round no_command_rounds (one_command (binds_x (codes "b")))))) []
       ≡ (codes "x", fragment (word_of (codes "a"))) ∷ []
   -- a later command replaces
-  pub replaced : run (command (one_command (binds_x (codes "a"))) (Command.misses (codes "x") kinds.Ty)) [] ≡ (codes "x", missing kinds.Ty) ∷ []
+  pub replaced : run (command (one_command (binds_x (codes "a"))) (Command.misses (codes "x") kinds.Ty)) []
+      ≡ (codes "x", missing kinds.Ty) ∷ []
   -- a push comes after the pushes before it
   pub behind : environment_of_account (pushed (Command.skips (codes "y")) (pushed (binds_x (codes "a")) no_account))
       ≡ (codes "x", fragment (word_of (codes "a"))) ∷ (codes "y", empty) ∷ []
   -- a child's rounds are pushed as they are, and no later push to the child is seen
-  pub nested : environment_of_account (pushed_nested no_account (pushed (binds_x (codes "b")) (pushed_default (pushed (binds_x (codes "a")) no_account))))
-      ≡ (codes "x", list (value (fragment (word_of (codes "a"))) (value (fragment (word_of (codes "b"))) no_values))) ∷ []
+  pub nested : environment_of_account (pushed_nested no_account
+      (pushed (binds_x (codes "b")) (pushed_default (pushed (binds_x (codes "a")) no_account))))
+      ≡ (codes "x", list (value (fragment (word_of (codes "a"))) (value (fragment (word_of (codes "b"))) no_values)))
+      ∷ []
   -- the commands of a reading bind what the reading binds
   pub alike : run (commands_of rounds_items) [] ≡ environment_of rounds_items
 

@@ -82,7 +82,8 @@ braces opening close = delimiter_of Brace (at 0 opening (opening + 1)) (at 0 clo
 -- `$name:kind`
 abbrev pub typed_at : ℕ → List ℕ → List ℕ → Forest → Forest
 typed_at start name kind rest =
-    alone_at 0 start 36 (text_at 0 (start + 1) name (alone_at 0 (start + 1 + length name) 58 (text_at 0 (start + 2 + length name) kind rest)))
+    alone_at 0 start 36 (text_at 0 (start + 1) name
+    (alone_at 0 (start + 1 + length name) 58 (text_at 0 (start + 2 + length name) kind rest)))
 
 -- `$name`
 abbrev pub named_at : ℕ → List ℕ → Forest → Forest

@@ -60,4 +60,7 @@ front_span f end = unwrap_or (option_map first_span (first f)) end
 abbrev pub front_error : Grammar → PrefixEntryPoint → Forest → DelimSpan → Option ExpandError
 front_error g entry f around =
     if is_good g entry f then None
-    else Some (record { span = front_span f around.close; kind = binding_error (codes "expected " ++ entry_name entry) })
+    else Some (record {
+      span = front_span f around.close;
+      kind = binding_error (codes "expected " ++ entry_name entry);
+    })

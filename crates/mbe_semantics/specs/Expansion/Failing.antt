@@ -78,11 +78,15 @@ failing_variable g None f around = None
 failing_variable g (Some kind) f around =
     if is_refused kind f then Some (noted no_matching_rule f around) else failing_front g kind (entry_of kind) f around
 
--- The error that is noted where the op doesn't fit the trees in front. None at a group, or at a variable of an unknown kind.
+-- The error that is noted where the op doesn't fit the trees in front. None at a group, or at a variable of an unknown
+-- kind.
 abbrev pub failing : Grammar → Op → Forest → DelimSpan → Option ExpandError
-failing g (token (ops.literal l)) f around = Some (noted (unlike (codes "expected literal: `" ++ (literal_output l ++ codes "`")) f) f around)
-failing g (token (ops.ident i)) f around = Some (noted (unlike (codes "expected ident: `" ++ (ident_text i ++ codes "`")) f) f around)
-failing g (token (ops.puncts ps)) f around = Some (noted (unlike_puncts (codes "expected punct: `" ++ (puncts_text ps ++ codes "`")) f) f around)
+failing g (token (ops.literal l)) f around =
+    Some (noted (unlike (codes "expected literal: `" ++ (literal_output l ++ codes "`")) f) f around)
+failing g (token (ops.ident i)) f around =
+    Some (noted (unlike (codes "expected ident: `" ++ (ident_text i ++ codes "`")) f) f around)
+failing g (token (ops.puncts ps)) f around =
+    Some (noted (unlike_puncts (codes "expected punct: `" ++ (puncts_text ps ++ codes "`")) f) f around)
 failing g (variable name kind span) f around = failing_variable g kind f around
 failing g (group_op d b) f around = None
 failing g (repetition b s k) f around = None
@@ -92,7 +96,8 @@ failing g (expression e) f around = None
 abbrev pub bound_if_some : Name → MetaVarKind → Forest → Command
 bound_if_some name kind none = misses name kind
 bound_if_some name kind (leaf l rest) = binds name (record { trees = leaf l rest; style = style_of (Some kind) })
-bound_if_some name kind (group d inside rest) = binds name (record { trees = group d inside rest; style = style_of (Some kind) })
+bound_if_some name kind (group d inside rest) =
+    binds name (record { trees = group d inside rest; style = style_of (Some kind) })
 
 -- a front that the grammar faults
 abbrev pub bad_front : Grammar → Name → MetaVarKind → Option PrefixEntryPoint → Forest → Command

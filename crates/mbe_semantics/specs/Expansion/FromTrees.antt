@@ -1,4 +1,5 @@
--- The expansion theorem from three trees: the definition's, the argument's and the result's. Between them are the clauses
+-- The expansion theorem from three trees: the definition's, the argument's and the result's. Between them are the
+-- clauses
 -- of the calls that read the definition and expand the argument, and nothing else.
 use Rattle.std.specs.Prelude.{◌≡◌, ◌↔◌, ℕ, List, Contains, Option, IsNone}
 use Rattle.mbe_tt.specs.declared.span.Span.{Span}
@@ -28,7 +29,8 @@ module _ (Asked : SyntaxContext → Edition → Type 0) where
 
 module _ (Asked : SyntaxContext → Edition → Type 0) (Marks : Span → Span → Type 0) where
   -- The answer has no error exactly when some rule applies of those that the grammar of definitions reads from the
-  -- definition. Then it names the first such rule, and the tree is its substitution; with an error the rule is the closest
+  -- definition. Then it names the first such rule, and the tree is its substitution; with an error the rule is the
+  -- closest
   -- of the style, if there is one. Where each context has one edition, no other rules are read.
   pub record IsAnswerTo (g : Grammar) (definition : Definition) (argument : Forest) (style : MacroCallStyle)
       (call_site : Span) (out : Forest) (index : Option ℕ) (err : Option ExpandError) : Type 0 where

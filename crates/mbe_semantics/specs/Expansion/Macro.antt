@@ -57,7 +57,8 @@ is_derive r = is_this r.style
 abbrev pub style_bits : List Rule → ℕ
 style_bits [] = 1
 style_bits (r ∷ rs) =
-    (if list_any is_fn_like (r ∷ rs) then 1 else 0) + (if list_any is_attr (r ∷ rs) then 2 else 0) + (if list_any is_derive (r ∷ rs) then 4 else 0)
+    (if list_any is_fn_like (r ∷ rs) then 1 else 0) + (if list_any is_attr (r ∷ rs) then 2 else 0)
+    + (if list_any is_derive (r ∷ rs) then 4 else 0)
 
 -- ---- expansion
 

@@ -29,7 +29,8 @@ pub record IsClosest (g : Grammar) (style : MacroCallStyle) (argument : Forest) 
   pub bound : ℕ → ℕ
   pub rule : Rule
   pub styled : IsStyledAt rs style n rule
-  pub unmatched_trees : (m : ℕ) (r : Rule) → IsStyledAt rs style m r → (v : Verdict) × IsVerdict g r.reads argument v × (left m ≡ unmatched argument v)
+  pub unmatched_trees : (m : ℕ) (r : Rule) → IsStyledAt rs style m r
+      → (v : Verdict) × IsVerdict g r.reads argument v × (left m ≡ unmatched argument v)
   pub bindings : (m : ℕ) (r : Rule) (is : Items) → IsStyledAt rs style m r → Fits g r.reads argument is →
       bound m ≡ min (binding_total (environment_of is)) (2 ^ 64 - 1)
   pub first : (m : ℕ) (r : Rule) → IsStyledAt rs style m r → GoesBefore left bound n m

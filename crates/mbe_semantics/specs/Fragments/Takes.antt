@@ -1,4 +1,5 @@
--- What a variable takes from the front of the trees: the fragments of the Rust Reference, as rust-analyzer asks for them.
+-- What a variable takes from the front of the trees: the fragments of the Rust Reference, as rust-analyzer asks for
+-- them.
 use Rattle.std.specs.Prelude.{ℕ, ◌||◌, ◌==◌, Bool, false, if◌then◌else◌, List, length, codes, Option, Some, None}
 use Rattle.mbe_semantics.specs.declared.kinds.MetaVarKind.{MetaVarKind}
 use Rattle.mbe_semantics.specs.declared.kinds.MetaVarKind.TheVariants as kinds
@@ -38,14 +39,16 @@ with_leaf f (Some c) = Some (cut_trees 2 f)
 
 -- an optional `-`, and then a literal
 abbrev pub literal_front : Forest → Option Cut
-literal_front (leaf (punct p) rest) = if p.char == 45 then with_leaf (leaf (punct p) rest) (unsigned_front rest) else None
+literal_front (leaf (punct p) rest) = if p.char == 45 then with_leaf (leaf (punct p) rest) (unsigned_front rest) else
+    None
 literal_front f = unsigned_front f
 
 -- a lifetime where `'` is first, and else the puncts that are taken together, or one tree
 abbrev pub tree_front : Forest → Option Cut
 tree_front none = None
 tree_front (leaf (punct p) rest) =
-    if p.char == 39 then lifetime_front (leaf (punct p) rest) else Some (cut_trees (length (glue (leaf (punct p) rest))) (leaf (punct p) rest))
+    if p.char == 39 then lifetime_front (leaf (punct p) rest) else Some
+    (cut_trees (length (glue (leaf (punct p) rest))) (leaf (punct p) rest))
 tree_front f = Some (cut_trees 1 f)
 
 -- the word itself, not raw
@@ -56,7 +59,8 @@ is_plain_word Yes sym word = false
 -- a word that no expression of this kind begins with
 abbrev pub is_refused_word : ExprKind → IdentIsRaw → List ℕ → Bool
 is_refused_word exprs.Expr is_raw sym = is_text sym (codes "let")
-is_refused_word exprs.Expr2021 is_raw sym = is_text sym (codes "let") || is_plain_word is_raw sym (codes "_") || is_plain_word is_raw sym (codes "const")
+is_refused_word exprs.Expr2021 is_raw sym =
+    is_text sym (codes "let") || is_plain_word is_raw sym (codes "_") || is_plain_word is_raw sym (codes "const")
 
 -- the first tree is such a word
 abbrev pub begins_refused : ExprKind → Forest → Bool

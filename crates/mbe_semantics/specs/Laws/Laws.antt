@@ -32,7 +32,8 @@ use Rattle.mbe_semantics.specs.Bindings.Account.{Commands, CommandRounds, Accoun
 
 -- two readings of a pattern without a repetition are equal
 abbrev pub OneReading : Type 0
-OneReading = (g : Grammar) (pattern : Ops) (argument : Forest) (is others : Items) → IsTrue (has_no_repetition pattern) →
+OneReading = (g : Grammar) (pattern : Ops) (argument : Forest) (is others : Items) → IsTrue (has_no_repetition pattern)
+    →
     IsReading g pattern argument is → IsReading g pattern argument others → is ≡ others
 
 -- a reading of the whole argument is a beginning that ends at its last place
@@ -57,7 +58,8 @@ HasOneVerdict = (g : Grammar) (pattern : Ops) (argument : Forest) → IsLawful g
 
 -- a pattern and an argument have one verdict at most, also where the pattern is refused or the grammar isn't lawful
 abbrev pub OneVerdict : Type 0
-OneVerdict = (g : Grammar) (pattern : Ops) (argument : Forest) (v w : Verdict) → IsVerdict g pattern argument v → IsVerdict g pattern argument w → v ≡ w
+OneVerdict = (g : Grammar) (pattern : Ops) (argument : Forest) (v w : Verdict) → IsVerdict g pattern argument v
+    → IsVerdict g pattern argument w → v ≡ w
 
 -- ---- patterns that are one repetition
 
@@ -69,13 +71,17 @@ AlwaysMove g argument os = (p : ℕ) (is : Items) → ReadsFirst is (input_of g 
 abbrev pub one_repetition : Ops → Option Separator → RepeatKind → Ops
 one_repetition body s repeat = op (ops.repetition body s repeat) no_ops
 
--- A pattern that is one repetition, whose body has no repetition, is ambiguous at no place; and if the body always takes
+-- A pattern that is one repetition, whose body has no repetition, is ambiguous at no place; and if the body always
+-- takes
 -- a token, it has one reading at most.
 pub record ListsFitOnce : Type 0 where
-  pub unambiguous : (g : Grammar) (body : Ops) (s : Option Separator) (repeat : RepeatKind) (argument : Forest) (q : ℕ) → IsTrue (has_no_repetition body) →
+  pub unambiguous : (g : Grammar) (body : Ops) (s : Option Separator) (repeat : RepeatKind) (argument : Forest) (q : ℕ)
+      → IsTrue (has_no_repetition body) →
       IsAmbiguousAt g (one_repetition body s repeat) argument q → ⊥
-  pub only : (g : Grammar) (body : Ops) (s : Option Separator) (repeat : RepeatKind) (argument : Forest) (is others : Items) → IsTrue (has_no_repetition body) →
-      AlwaysMove g argument body → IsReading g (one_repetition body s repeat) argument is → IsReading g (one_repetition body s repeat) argument others → is ≡ others
+  pub only : (g : Grammar) (body : Ops) (s : Option Separator) (repeat : RepeatKind) (argument : Forest)
+      (is others : Items) → IsTrue (has_no_repetition body) →
+      AlwaysMove g argument body → IsReading g (one_repetition body s repeat) argument is
+      → IsReading g (one_repetition body s repeat) argument others → is ≡ others
 
 -- ---- patterns of words alone
 
@@ -121,12 +127,14 @@ pub record HeldAre (g : Grammar) (pattern : Ops) (argument : Forest) (q : ℕ) (
 
 -- for a lawful grammar and a checked pattern
 abbrev pub MatcherLaw : Type 0
-MatcherLaw = (g : Grammar) (pattern : Ops) (argument : Forest) → IsLawful g → Checked pattern → (q : ℕ) (xs : List Beginning) →
+MatcherLaw = (g : Grammar) (pattern : Ops) (argument : Forest) → IsLawful g → Checked pattern
+    → (q : ℕ) (xs : List Beginning) →
     Comes (input_of g argument) pattern q xs → HeldAre g pattern argument q xs
 
 -- what a run over the places returns is the verdict
 abbrev pub RunsAreRight : Type 0
-RunsAreRight = (g : Grammar) (pattern : Ops) (argument : Forest) → IsLawful g → Checked pattern → IsVerdict g pattern argument (verdict g pattern argument)
+RunsAreRight = (g : Grammar) (pattern : Ops) (argument : Forest) → IsLawful g → Checked pattern
+    → IsVerdict g pattern argument (verdict g pattern argument)
 
 -- ---- templates
 
@@ -136,7 +144,8 @@ HasOneEdition HasEdition = (c : SyntaxContext) (e d : Edition) → HasEdition c 
 
 -- trees that are ops have no fault
 abbrev pub OpsOrFault : (SyntaxContext → Edition → Type 0) → Type 0
-OpsOrFault HasEdition = (mode : Mode) (f : Forest) (os : Ops) (fault : Fault) → Template HasEdition mode f os → TemplateFault HasEdition mode fault f → ⊥
+OpsOrFault HasEdition = (mode : Mode) (f : Forest) (os : Ops) (fault : Fault) → Template HasEdition mode f os
+    → TemplateFault HasEdition mode fault f → ⊥
 
 -- each context has an edition
 abbrev pub HasSomeEdition : (SyntaxContext → Edition → Type 0) → Type 0
@@ -158,8 +167,10 @@ pub record OneDefinition (HasEdition : SyntaxContext → Edition → Type 0) : T
       IsMacroRules HasEdition f rs err → IsMacroRules HasEdition f others other → (rs ≡ others) × (err ≡ other)
   pub body : HasOneEdition HasEdition → (f : Forest) (rs others : List Rule) (err other : Option Fault) →
       IsMacroBody HasEdition f rs err → IsMacroBody HasEdition f others other → (rs ≡ others) × (err ≡ other)
-  pub arguments : HasOneEdition HasEdition → (arguments body : Forest) (rs others : List Rule) (err other : Option Fault) →
-      IsMacroOfArguments HasEdition arguments body rs err → IsMacroOfArguments HasEdition arguments body others other → (rs ≡ others) × (err ≡ other)
+  pub arguments : HasOneEdition HasEdition
+      → (arguments body : Forest) (rs others : List Rule) (err other : Option Fault) →
+      IsMacroOfArguments HasEdition arguments body rs err → IsMacroOfArguments HasEdition arguments body others other
+      → (rs ≡ others) × (err ≡ other)
 
 -- ---- rounds
 
@@ -170,7 +181,8 @@ IsUsed name (u ∷ uses) = (name ≡ used_name u) ⊎ IsUsed name uses
 
 -- in a kept round each name of the body leads to a value, if it leads to one outside
 abbrev pub RoundsHaveValues : Type 0
-RoundsHaveValues = (env : Environment) (path : Path) (body : Ops) (repeat : RepeatKind) (n i : ℕ) (name : Name) (w : Value) →
+RoundsHaveValues = (env : Environment) (path : Path) (body : Ops) (repeat : RepeatKind) (n i : ℕ) (name : Name)
+    (w : Value) →
     kept_rounds repeat env path body ≡ finite n → i < n → IsUsed name (uses_of body) → followed env path name ≡ Some w →
     (v : Value) × (followed env (level i n path) name ≡ Some v)
 
@@ -184,7 +196,8 @@ IsSpanIn span (s ∷ spans) = (span ≡ s) ⊎ IsSpanIn span spans
 -- What a variable of kind `tt`, `ident`, `literal` or `lifetime` writes are trees that are in the argument, or the
 -- content of one invisible group there; only the spacing of a last punct is changed, and no span is.
 abbrev pub WrittenInPlace : (Span → Span → Type 0) → Type 0
-WrittenInPlace Marks = (g : Grammar) (call_site : Span) (pattern : Ops) (argument : Forest) (is : Items) (path : Path) (name : Name)
+WrittenInPlace Marks = (g : Grammar) (call_site : Span) (pattern : Ops) (argument : Forest) (is : Items) (path : Path)
+    (name : Name)
     (kind : Option MetaVarKind) (span : Span) (x : Fragment) (out : Forest) → IsReading g pattern argument is →
     followed (environment_of is) path name ≡ Some (fragment x) → x.style ≡ stripped →
     Writes g Marks call_site (environment_of is) path (ops.variable name kind span) out →
@@ -237,11 +250,14 @@ abbrev mutual
   marked_spans no_ops = []
   marked_spans (op o os) = marked_spans_of_op o ++ marked_spans os
 
--- Each span of an expansion is an answer of the marker on a span of the template, the call site, a span of a separator or
+-- Each span of an expansion is an answer of the marker on a span of the template, the call site, a span of a separator
+-- or
 -- an unbound name in the template, or a span of the argument.
 abbrev pub SpansHaveSources : (Span → Span → Type 0) → Type 0
-SpansHaveSources Marks = (g : Grammar) (style : MacroCallStyle) (argument : Forest) (call_site : Span) (rs : List Rule) (n : ℕ)
-    (out : Forest) (e : IsExpansion g style argument Marks call_site rs n out) (span : Span) → IsSpanIn span (spans_of out) →
+SpansHaveSources Marks = (g : Grammar) (style : MacroCallStyle) (argument : Forest) (call_site : Span) (rs : List Rule)
+    (n : ℕ)
+    (out : Forest) (e : IsExpansion g style argument Marks call_site rs n out) (span : Span)
+    → IsSpanIn span (spans_of out) →
     ((s : Span) × IsSpanIn s (marked_spans (e.0).writes) × Marks s span) ⊎ ((span ≡ call_site)
     ⊎ (IsSpanIn span (kept_spans (environment_of (e.1).items) (e.0).writes) ⊎ IsSpanIn span (spans_of argument)))
 
@@ -253,12 +269,16 @@ HasOneAnswer Marks = (s t u : Span) → Marks s t → Marks s u → t ≡ u
 
 -- then an expansion without an error is one tree, by one rule
 abbrev pub OneExpansion : (Span → Span → Type 0) → Type 0
-OneExpansion Marks = HasOneAnswer Marks → (g : Grammar) (style : MacroCallStyle) (argument : Forest) (call_site : Span) (rs : List Rule) (n m : ℕ) (out other : Forest) →
-    IsExpansion g style argument Marks call_site rs n out → IsExpansion g style argument Marks call_site rs m other → (n ≡ m) × (out ≡ other)
+OneExpansion Marks = HasOneAnswer Marks
+    → (g : Grammar) (style : MacroCallStyle) (argument : Forest) (call_site : Span) (rs : List Rule) (n m : ℕ)
+    (out other : Forest) →
+    IsExpansion g style argument Marks call_site rs n out → IsExpansion g style argument Marks call_site rs m other
+    → (n ≡ m) × (out ≡ other)
 
 -- A repetition `*` with fewer than 65536 rounds, none of which faults, has no fault and writes that many rounds.
 abbrev pub WritesAllRounds : (Span → Span → Type 0) → Type 0
-WritesAllRounds Marks = (g : Grammar) (call_site : Span) (env : Environment) (path : Path) (body : Ops) (separator : Option Separator)
+WritesAllRounds Marks = (g : Grammar) (call_site : Span) (env : Environment) (path : Path) (body : Ops)
+    (separator : Option Separator)
     (n : ℕ) (out : Forest) → rounds_of env path body ≡ finite n → n < 65536 →
     ((i : ℕ) → i < n → IsFalse (faults env (level i n path) body)) →
     IsFalse (op_faults env path (ops.repetition body separator ZeroOrMore))
@@ -272,7 +292,8 @@ CommandsBindAlike = (g : Grammar) (pattern : Ops) (argument : Forest) (is : Item
 
 -- where each entry stands for earlier ones alone, a handle whose entries are there has an account
 abbrev pub EntriesHaveAccounts : Type 0
-EntriesHaveAccounts = (log : Log) (order : Order) (h : Handle) → IsOrdered log order → HasEntriesOf log h → (a : Account) × IsAccount log h a
+EntriesHaveAccounts = (log : Log) (order : Order) (h : Handle) → IsOrdered log order → HasEntriesOf log h
+    → (a : Account) × IsAccount log h a
 
 -- the account of a handle is one
 abbrev pub OneAccount : Type 0

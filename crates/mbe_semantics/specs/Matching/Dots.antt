@@ -18,21 +18,21 @@ abbrev mutual
   dots (op o os) = 1 + op_dots o + dots os
 
 -- those after the open items
-abbrev pub dots_behind : List Frame → ℕ
-dots_behind [] = 0
-dots_behind (inside d b rest is ∷ up) = dots rest + dots_behind up
-dots_behind (within b s k rest is rs ∷ up) = dots rest + dots_behind up
+abbrev pub dots_after : List Frame → ℕ
+dots_after [] = 0
+dots_after (inside d b rest is ∷ up) = dots rest + dots_after up
+dots_after (within b s k rest is rs ∷ up) = dots rest + dots_after up
 
 -- the number of a beginning's dot: how many dots there are from it to the pattern's end
 abbrev pub number_of : Beginning → ℕ
-number_of (dot rest is up) = dots rest + dots_behind up
+number_of (dot rest is up) = dots rest + dots_after up
 
 -- the dots after the open items of an outline
-abbrev pub edges_behind : List Edge → ℕ
-edges_behind [] = 0
-edges_behind (gate rest ∷ up) = dots rest + edges_behind up
-edges_behind (edge b s k rest p e ∷ up) = dots rest + edges_behind up
+abbrev pub edges_after : List Edge → ℕ
+edges_after [] = 0
+edges_after (gate rest ∷ up) = dots rest + edges_after up
+edges_after (edge b s k rest p e ∷ up) = dots rest + edges_after up
 
 -- the number of an outline's dot
 abbrev pub outline_number : Outline → ℕ
-outline_number (outline rest e up) = dots rest + edges_behind up
+outline_number (outline rest e up) = dots rest + edges_after up

@@ -1,4 +1,5 @@
--- A beginning with the account of its items, in place of the items: what the program keeps. An open repetition keeps the place
+-- A beginning with the account of its items, in place of the items: what the program keeps. An open repetition keeps
+-- the place
 -- where its round began, and the account outside it.
 use Rattle.std.specs.Prelude.{ℕ, zero, suc, ◌+◌, ◌-◌, Option, Some, None, Bool, true, false, List, [], ◌∷◌, ◌++◌}
 use Rattle.mbe_semantics.specs.declared.kinds.RepeatKind.{RepeatKind}
@@ -12,7 +13,8 @@ use Rattle.mbe_semantics.specs.Readings.Steps.{skip_of, again_of, if_none, Move,
 use Rattle.mbe_semantics.specs.Bindings.Account.{Commands, no_commands, Account, no_account, binds, pushed, pushed_nested, pushed_default, skip_commands, write, rounds_of_items}
 use Rattle.mbe_semantics.specs.Syntax.Op.{Name, names_of}
 
--- an open item: a group, with the ops after it; or a repetition, with the place where its round began and the account outside
+-- an open item: a group, with the ops after it; or a repetition, with the place where its round began and the account
+-- outside
 pub data Edge : Type 0 where
   gate : Ops → Edge
   edge : Ops → Option Separator → RepeatKind → Ops → ℕ → Account → Edge
@@ -33,7 +35,8 @@ written is a = record { finished = a.finished; current = write is a.current }
 abbrev pub skipped : List Name → Account → Account
 skipped names a = record { finished = a.finished; current = skip_commands names a.current }
 
--- the account at the front of the innermost open item: a round begins with none but the rounds before it, a group goes on
+-- the account at the front of the innermost open item: a round begins with none but the rounds before it, a group goes
+-- on
 abbrev pub base_of : List Frame → Account
 base_of [] = no_account
 base_of (inside d b rest is ∷ up) = written is (base_of up)
@@ -69,7 +72,8 @@ abbrev pub idle_of : Input → ℕ → Outline → List Outline
 idle_of i q (outline no_ops e []) = []
 idle_of i q (outline no_ops e (gate rest ∷ up)) = []
 idle_of i q (outline no_ops e (edge b s k rest p outer ∷ up)) =
-    again_of s k (outline b (pushed_default e) (edge b s k rest q outer ∷ up)) ++ (outline rest (pushed_nested outer e) up ∷ [])
+    again_of s k (outline b (pushed_default e) (edge b s k rest q outer ∷ up))
+    ++ (outline rest (pushed_nested outer e) up ∷ [])
 idle_of i q (outline (op (token t) rest) e up) = empty_by (i.token_at t q) (outline rest e up)
 idle_of i q (outline (op (variable name kind span) rest) e up) = empty_bound name (i.fragment_at kind q) rest e up
 idle_of i q (outline (op (expression x) rest) e up) = []
@@ -90,17 +94,22 @@ over_advance (Some n) x = if_some_advance false n x
 -- over a variable's fragment
 abbrev pub bound_advance : Name → Option Fragment → Ops → Account → List Edge → Option Advance
 bound_advance name None rest e up = None
-bound_advance name (Some x) rest e up = if_some_advance true (flat_len x.trees) (outline rest (pushed (binds name x) e) up)
+bound_advance name (Some x) rest e up =
+    if_some_advance true (flat_len x.trees) (outline rest (pushed (binds name x) e) up)
 
 -- over a separator into another round
-abbrev pub round_advance : RepeatKind → Option ℕ → ℕ → Ops → Option Separator → Ops → Account → Account → List Edge → Option Advance
+abbrev pub round_advance : RepeatKind → Option ℕ → ℕ → Ops → Option Separator → Ops → Account → Account → List Edge
+    → Option Advance
 round_advance k None q b s rest o e up = None
-round_advance ZeroOrMore (Some w) q b s rest o e up = Some (advance w false (outline b (pushed_default e) (edge b s ZeroOrMore rest (q + w) o ∷ up)))
-round_advance OneOrMore (Some w) q b s rest o e up = Some (advance w false (outline b (pushed_default e) (edge b s OneOrMore rest (q + w) o ∷ up)))
+round_advance ZeroOrMore (Some w) q b s rest o e up =
+    Some (advance w false (outline b (pushed_default e) (edge b s ZeroOrMore rest (q + w) o ∷ up)))
+round_advance OneOrMore (Some w) q b s rest o e up =
+    Some (advance w false (outline b (pushed_default e) (edge b s OneOrMore rest (q + w) o ∷ up)))
 round_advance ZeroOrOne (Some w) q b s rest o e up = None
 
 -- the same, where there is a separator
-abbrev pub separator_advance : Input → ℕ → Option Separator → RepeatKind → Ops → Ops → Account → Account → List Edge → Option Advance
+abbrev pub separator_advance : Input → ℕ → Option Separator → RepeatKind → Ops → Ops → Account → Account → List Edge
+    → Option Advance
 separator_advance i q None k b rest o e up = None
 separator_advance i q (Some s) k b rest o e up = round_advance k (i.separator_at s q) q b (Some s) rest o e up
 
@@ -117,7 +126,8 @@ next_of i q (outline no_ops e (edge b s k rest p outer ∷ up)) = separator_adva
 next_of i q (outline (op (token t) rest) e up) = over_advance (i.token_at t q) (outline rest e up)
 next_of i q (outline (op (variable name kind span) rest) e up) = bound_advance name (i.fragment_at kind q) rest e up
 next_of i q (outline (op (expression x) rest) e up) = None
-next_of i q (outline (op (group d b) rest) e up) = when_advance (i.opens_at d.kind q) (advance 1 false (outline b e (gate rest ∷ up)))
+next_of i q (outline (op (group d b) rest) e up) =
+    when_advance (i.opens_at d.kind q) (advance 1 false (outline b e (gate rest ∷ up)))
 next_of i q (outline (op (repetition b s k) rest) e up) = None
 
 -- the commands at the pattern's end

@@ -30,4 +30,5 @@ run (suc n) i len q xs = go_on i len q xs (λ k ys. run n i len k ys) (moves_of 
 
 -- what the run over the whole argument returns
 unfoldable pub verdict : Grammar → Ops → Forest → Verdict
-verdict g pattern argument = run (suc (flat_len argument)) (input_of g argument) (flat_len argument) 0 (start pattern ∷ [])
+verdict g pattern argument = run (suc (flat_len argument)) (input_of g argument) (flat_len argument) 0
+    (start pattern ∷ [])

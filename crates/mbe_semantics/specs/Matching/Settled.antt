@@ -5,7 +5,7 @@ use Rattle.mbe_semantics.specs.Readings.Input.{Input}
 use Rattle.mbe_semantics.specs.Readings.Reading.{Beginning, At}
 use Rattle.mbe_semantics.specs.Matching.Lists.{In}
 use Rattle.mbe_semantics.specs.Syntax.Nullable.{Checked}
-use Rattle.mbe_semantics.specs.Matching.Outline.{Outline, Advance, advance, erase, erase_move, rank_of, weight}
+use Rattle.mbe_semantics.specs.Matching.Outline.{Outline, Advance, advance, erase, erase_move}
 use Rattle.mbe_semantics.specs.Matching.Held.{held, moves_of, completions}
 use Rattle.mbe_semantics.specs.Bindings.Account.{Commands, commands_of}
 
@@ -14,20 +14,11 @@ pub record Stack (i : Input) (pat : Ops) (q : ℕ) (xs : List Beginning) (spots 
   pub sound : (x : Beginning) → In x xs → At i pat q x
   pub same : map erase xs ≡ reverse spots
 
--- the stack is that of some checked pattern
-abbrev pub HasStack : Input → ℕ → List Outline → Type 0
-HasStack i q spots = (pat : Ops) × Checked pat × ((xs : List Beginning) × Stack i pat q xs spots)
-
 -- from the stack `spots` come these steps over tokens, and these commands at the pattern's end
 abbrev pub Settled : Input → ℕ → List Outline → List Advance → List Commands → Type 0
 Settled i q spots ws n =
     (pat : Ops) (xs : List Beginning) → Checked pat → Stack i pat q xs spots →
     (ws ≡ map erase_move (moves_of i q (held i q xs))) × (n ≡ map commands_of (completions (held i q xs)))
-
--- a bound of the work that a stack leaves
-abbrev pub load : ℕ → List Outline → ℕ
-load q [] = 0
-load q (o ∷ os) = weight (rank_of q o) + load q os
 
 -- where a step leads
 abbrev pub after_of : Advance → Outline

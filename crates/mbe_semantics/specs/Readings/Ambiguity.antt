@@ -51,4 +51,5 @@ IsAmbiguousAt g pattern argument q = Ambiguous (input_of g argument) pattern q
 
 -- there is exactly one reading, and no place is ambiguous
 abbrev pub Fits : Grammar → Ops → Forest → Items → Type 0
-Fits g pattern argument is = Calm (input_of g argument) pattern × OnlyReading (input_of g argument) pattern (flat_len argument) is
+Fits g pattern argument is = Calm (input_of g argument) pattern
+    × OnlyReading (input_of g argument) pattern (flat_len argument) is

@@ -9,18 +9,21 @@ use Rattle.mbe_semantics.specs.Syntax.Op.{Token, Separator, ident_separator, lit
 
 -- a literal of this text and suffix, whatever its kind
 abbrev pub literal_text_front : List ℕ → Forest → Option Cut
-literal_text_front text (leaf (literal l) rest) = if bytes_eq l.text_and_suffix text then Some (cut_trees 1 (leaf (literal l) rest)) else None
+literal_text_front text (leaf (literal l) rest) =
+    if bytes_eq l.text_and_suffix text then Some (cut_trees 1 (leaf (literal l) rest)) else None
 literal_text_front text _ = None
 
 -- an identifier of this text, raw or not
 abbrev pub ident_text_front : List ℕ → Forest → Option Cut
-ident_text_front text (leaf (ident i) rest) = if bytes_eq i.sym text then Some (cut_trees 1 (leaf (ident i) rest)) else None
+ident_text_front text (leaf (ident i) rest) =
+    if bytes_eq i.sym text then Some (cut_trees 1 (leaf (ident i) rest)) else None
 ident_text_front text _ = None
 
 -- puncts that are taken together and have exactly these chars; no chars fit nothing
 abbrev pub puncts_front : List ℕ → Forest → Option Cut
 puncts_front [] f = None
-puncts_front (c ∷ chars) f = if bytes_eq (chars_of (glue f)) (c ∷ chars) then Some (cut_trees (length (c ∷ chars)) f) else None
+puncts_front (c ∷ chars) f = if bytes_eq (chars_of (glue f)) (c ∷ chars) then Some (cut_trees (length (c ∷ chars)) f)
+    else None
 
 -- the punct `'` and an identifier of this text
 abbrev pub lifetime_text_front : List ℕ → Forest → Option Cut

@@ -32,7 +32,8 @@ abbrev mutual
   Reads (grouped is) i (group d body) p =
       (i.opens_at d.kind p ≡ true) × ReadsFirst is i body (suc p) no_ops × (i.closes_at (suc p + items_width is) ≡ true)
   Reads (skipped names) i (repetition body s k) p = MaySkip k × (names ≡ names_of body)
-  Reads (rounds rs last) i (repetition body s k) p = ReadsRounds rs i body s k p × ReadsFirst last i body (p + rounds_width rs) no_ops
+  Reads (rounds rs last) i (repetition body s k) p =
+      ReadsRounds rs i body s k p × ReadsFirst last i body (p + rounds_width rs) no_ops
   Reads _ i _ p = ⊥
 
   -- From place p the first of the ops read the items, one after the other, and `rest` are the ops that are left.

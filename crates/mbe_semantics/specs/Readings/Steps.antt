@@ -48,7 +48,8 @@ abbrev pub idle : Input → ℕ → Beginning → List Beginning
 idle i q (dot no_ops is []) = []
 idle i q (dot no_ops is (inside d b rest js ∷ up)) = []
 idle i q (dot no_ops is (within b s k rest js rs ∷ up)) =
-    again_of s k (dot b no_items (within b s k rest js (round rs is 0) ∷ up)) ++ (dot rest (item js (rounds rs is)) up ∷ [])
+    again_of s k (dot b no_items (within b s k rest js (round rs is 0) ∷ up))
+    ++ (dot rest (item js (rounds rs is)) up ∷ [])
 idle i q (dot (op (token t) rest) is up) = empty_of (matched_by (i.token_at t q)) rest is up
 idle i q (dot (op (variable name kind span) rest) is up) = empty_of (bound_as name (i.fragment_at kind q)) rest is up
 idle i q (dot (op (group d b) rest) is up) = []
@@ -78,14 +79,18 @@ when true m = Some m
 when false m = None
 
 -- over the separator into another round, but for `?`
-abbrev pub round_move : RepeatKind → Option ℕ → Ops → Option Separator → Ops → Items → Rounds → List Frame → Items → Option Move
+abbrev pub round_move : RepeatKind → Option ℕ → Ops → Option Separator → Ops → Items → Rounds → List Frame → Items
+    → Option Move
 round_move k None b s rest js rs up is = None
-round_move ZeroOrMore (Some w) b s rest js rs up is = Some (move w false (dot b no_items (within b s ZeroOrMore rest js (round rs is w) ∷ up)))
-round_move OneOrMore (Some w) b s rest js rs up is = Some (move w false (dot b no_items (within b s OneOrMore rest js (round rs is w) ∷ up)))
+round_move ZeroOrMore (Some w) b s rest js rs up is =
+    Some (move w false (dot b no_items (within b s ZeroOrMore rest js (round rs is w) ∷ up)))
+round_move OneOrMore (Some w) b s rest js rs up is =
+    Some (move w false (dot b no_items (within b s OneOrMore rest js (round rs is w) ∷ up)))
 round_move ZeroOrOne (Some w) b s rest js rs up is = None
 
 -- a repetition without a separator goes on by no token
-abbrev pub separator_move : Input → ℕ → Option Separator → RepeatKind → Ops → Ops → Items → Rounds → List Frame → Items → Option Move
+abbrev pub separator_move : Input → ℕ → Option Separator → RepeatKind → Ops → Ops → Items → Rounds → List Frame → Items
+    → Option Move
 separator_move i q None k b rest js rs up is = None
 separator_move i q (Some s) k b rest js rs up is = round_move k (i.separator_at s q) b (Some s) rest js rs up is
 
@@ -93,11 +98,14 @@ separator_move i q (Some s) k b rest js rs up is = round_move k (i.separator_at 
 -- where a round is read and another may follow; a token; a variable, by fragment, if it takes something; an opening.
 abbrev pub next : Input → ℕ → Beginning → Option Move
 next i q (dot no_ops is []) = None
-next i q (dot no_ops is (inside d b rest js ∷ up)) = when (i.closes_at q) (move 1 false (dot rest (item js (grouped is)) up))
+next i q (dot no_ops is (inside d b rest js ∷ up)) =
+    when (i.closes_at q) (move 1 false (dot rest (item js (grouped is)) up))
 next i q (dot no_ops is (within b s k rest js rs ∷ up)) = separator_move i q s k b rest js rs up is
 next i q (dot (op (token t) rest) is up) = over_of false (matched_by (i.token_at t q)) rest is up
-next i q (dot (op (variable name kind span) rest) is up) = over_of true (bound_as name (i.fragment_at kind q)) rest is up
-next i q (dot (op (group d b) rest) is up) = when (i.opens_at d.kind q) (move 1 false (dot b no_items (inside d b rest is ∷ up)))
+next i q (dot (op (variable name kind span) rest) is up) =
+    over_of true (bound_as name (i.fragment_at kind q)) rest is up
+next i q (dot (op (group d b) rest) is up) =
+    when (i.opens_at d.kind q) (move 1 false (dot b no_items (inside d b rest is ∷ up)))
 next i q (dot (op (repetition b s k) rest) is up) = None
 next i q (dot (op (expression e) rest) is up) = None
 

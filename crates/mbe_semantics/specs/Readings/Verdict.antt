@@ -20,7 +20,8 @@ pub data Verdict : Type 0 where
 abbrev pub Right : Input → Ops → ℕ → Verdict → Type 0
 Right i pat len (ambiguous q) = Ambiguous i pat q × ((p : ℕ) → p < q → Ambiguous i pat p → ⊥)
 Right i pat len one_reading = Calm i pat × ((is : Items) × OnlyReading i pat len is)
-Right i pat len many_readings = Calm i pat × ((is : Items) × (js : Items) × Reading i pat len is × Reading i pat len js × (is ≡ js → ⊥))
+Right i pat len many_readings = Calm i pat
+    × ((is : Items) × (js : Items) × Reading i pat len is × Reading i pat len js × (is ≡ js → ⊥))
 Right i pat len (stuck q) =
     Calm i pat × ((is : Items) → Reading i pat len is → ⊥)
     × ((x : Beginning) × At i pat q x) × ((y : Beginning) → Begins i pat y → place y ≤ q)

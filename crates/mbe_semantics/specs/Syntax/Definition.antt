@@ -28,17 +28,20 @@ pub record RuleTrees : Type 0 where
 
 -- the second group
 abbrev pub template_at : MacroCallStyle → Forest → Forest → Result RuleTrees Fault
-template_at style reads (group d inside rest) = Ok (record { style = style; reads = reads; writes = inside; back = rest })
+template_at style reads (group d inside rest) =
+    Ok (record { style = style; reads = reads; writes = inside; back = rest })
 template_at style reads _ = Err (expected (codes "expected subtree"))
 
 -- `>`, and the second group
 abbrev pub greater_at : MacroCallStyle → Forest → Forest → Result RuleTrees Fault
-greater_at style reads (leaf (punct p) rest) = if p.char == 62 then template_at style reads rest else Err (expected (codes "expected `>`"))
+greater_at style reads (leaf (punct p) rest) =
+    if p.char == 62 then template_at style reads rest else Err (expected (codes "expected `>`"))
 greater_at style reads _ = Err (expected (codes "expected `>`"))
 
 -- `=`, and what follows
 abbrev pub equals_at : MacroCallStyle → Forest → Forest → Result RuleTrees Fault
-equals_at style reads (leaf (punct p) rest) = if p.char == 61 then greater_at style reads rest else Err (expected (codes "expected `=`"))
+equals_at style reads (leaf (punct p) rest) =
+    if p.char == 61 then greater_at style reads rest else Err (expected (codes "expected `=`"))
 equals_at style reads _ = Err (expected (codes "expected `=`"))
 
 -- the first group, and what follows
@@ -61,14 +64,15 @@ style_at f = pattern_at FnLike f
 
 -- one rule: `unsafe`, a style, the pattern's group, `=>`, the template's group; or the first fault
 abbrev pub rule_trees_at : Forest → Result RuleTrees Fault
-rule_trees_at (leaf (ident i) rest) = if is_text i.sym (codes "unsafe") then style_at rest else style_at (leaf (ident i) rest)
+rule_trees_at (leaf (ident i) rest) = if is_text i.sym (codes "unsafe") then style_at rest else style_at
+    (leaf (ident i) rest)
 rule_trees_at f = style_at f
 
 -- the trees of the next rules, where a separating char or the end follows
-abbrev pub behind_separator : List ℕ → Forest → Option Forest
-behind_separator chars none = Some none
-behind_separator chars (leaf (punct p) rest) = if list_any (λ c. p.char == c) chars then Some rest else None
-behind_separator chars _ = None
+abbrev pub after_separator : List ℕ → Forest → Option Forest
+after_separator chars none = Some none
+after_separator chars (leaf (punct p) rest) = if list_any (λ c. p.char == c) chars then Some rest else None
+after_separator chars _ = None
 
 -- a refused pattern goes over any earlier fault
 abbrev pub with_refusal : List Rule → Option Fault → Option Fault
@@ -84,25 +88,28 @@ module _ (HasEdition : SyntaxContext → Edition → Type 0) where
   -- the first fault in a pattern, and where it has none, in its template
   pub data PartsFault (o : RuleTrees) (fault : Fault) : Type 0 where
     in_pattern : TemplateFault HasEdition pattern fault o.reads → PartsFault o fault
-    in_template : (reads : Ops) → Template HasEdition pattern o.reads reads → TemplateFault HasEdition template fault o.writes → PartsFault o fault
+    in_template : (reads : Ops) → Template HasEdition pattern o.reads reads
+        → TemplateFault HasEdition template fault o.writes → PartsFault o fault
 
   -- the rules that these chars separate, up to the first fault, and that fault
   pub data Rules (separators : List ℕ) (missing : Fault) : Forest → List Rule → Option Fault → Type 0 where
     ended : Rules separators missing none [] None
-    no_rule : (l : Forest) (fault : Fault) → l ≢ none → rule_trees_at l ≡ Err fault → Rules separators missing l [] (Some fault)
+    no_rule : (l : Forest) (fault : Fault) → l ≢ none → rule_trees_at l ≡ Err fault
+        → Rules separators missing l [] (Some fault)
     faulty_rule : (f : Forest) (o : RuleTrees) (fault : Fault) →
         rule_trees_at f ≡ Ok o → PartsFault o fault → Rules separators missing f [] (Some fault)
     unseparated : (f : Forest) (o : RuleTrees) (r : Rule) →
-        rule_trees_at f ≡ Ok o → AreParts o r → behind_separator separators o.back ≡ None →
+        rule_trees_at f ≡ Ok o → AreParts o r → after_separator separators o.back ≡ None →
         Rules separators missing f (r ∷ []) (Some missing)
     separated : (f rest : Forest) (o : RuleTrees) (r : Rule) (rs : List Rule) (fault : Option Fault) →
-        rule_trees_at f ≡ Ok o → AreParts o r → behind_separator separators o.back ≡ Some rest →
+        rule_trees_at f ≡ Ok o → AreParts o r → after_separator separators o.back ≡ Some rest →
         Rules separators missing rest rs fault → Rules separators missing f (r ∷ rs) fault
 
   -- what `macro_rules` makes of its trees
   abbrev pub IsMacroRules : Forest → List Rule → Option Fault → Type 0
   IsMacroRules f rs fault =
-      (first : Option Fault) × Rules (59 ∷ []) (expected (codes "expected `;`")) f rs first × (fault ≡ with_refusal rs first)
+      (first : Option Fault) × Rules (59 ∷ []) (expected (codes "expected `;`")) f rs first
+      × (fault ≡ with_refusal rs first)
 
   -- what `macro` makes of its body
   abbrev pub IsMacroBody : Forest → List Rule → Option Fault → Type 0
@@ -114,5 +121,6 @@ module _ (HasEdition : SyntaxContext → Edition → Type 0) where
   pub data IsMacroOfArguments (arguments body : Forest) : List Rule → Option Fault → Type 0 where
     one_rule : (r : Rule) → AreParts (record { style = FnLike; reads = arguments; writes = body; back = none }) r →
         IsMacroOfArguments arguments body (r ∷ []) (with_refusal (r ∷ []) None)
-    faulty : (fault : Fault) → PartsFault (record { style = FnLike; reads = arguments; writes = body; back = none }) fault →
+    faulty : (fault : Fault) → PartsFault (record { style = FnLike; reads = arguments; writes = body; back = none })
+        fault →
         IsMacroOfArguments arguments body [] (Some fault)

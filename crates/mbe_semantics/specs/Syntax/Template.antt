@@ -95,7 +95,8 @@ if_end (group d inside rest) x = None
 
 -- `$x`, and what is after it
 abbrev pub dollar_name : Forest → Option (Ident × Forest)
-dollar_name (leaf (punct p) (leaf (ident i) rest)) = if p.char == 36 && not (is_underscore i.sym) then Some (i, rest) else None
+dollar_name (leaf (punct p) (leaf (ident i) rest)) =
+    if p.char == 36 && not (is_underscore i.sym) then Some (i, rest) else None
 dollar_name _ = None
 
 -- a depth that may be missing, alone
@@ -105,10 +106,10 @@ depth_of (leaf (literal l) none) = if is_plain l then decimal_value (literal_tex
 depth_of _ = None
 
 -- `, d`, or nothing
-abbrev pub depth_behind_comma : Forest → Option ℕ
-depth_behind_comma none = Some 0
-depth_behind_comma (leaf (punct p) rest) = if p.char == 44 then depth_of rest else None
-depth_behind_comma _ = None
+abbrev pub depth_after_comma : Forest → Option ℕ
+depth_after_comma none = Some 0
+depth_after_comma (leaf (punct p) rest) = if p.char == 44 then depth_of rest else None
+depth_after_comma _ = None
 
 -- one element more at the front
 abbrev pub element_before : Element → Option (List Element) → Option (List Element)
@@ -118,16 +119,16 @@ element_before e more = option_map (λ es. e ∷ es) more
 abbrev mutual
   pub elements_of : Forest → Option (List Element)
   elements_of none = Some []
-  elements_of (leaf (literal l) rest) = element_before (literal_element l) (elements_behind_comma rest)
-  elements_of (leaf (ident i) rest) = element_before (ident_element i) (elements_behind_comma rest)
+  elements_of (leaf (literal l) rest) = element_before (literal_element l) (elements_after_comma rest)
+  elements_of (leaf (ident i) rest) = element_before (ident_element i) (elements_after_comma rest)
   elements_of (leaf (punct p) (leaf (ident i) rest)) =
-      if p.char == 36 then element_before (variable_element i) (elements_behind_comma rest) else None
+      if p.char == 36 then element_before (variable_element i) (elements_after_comma rest) else None
   elements_of _ = None
 
-  pub elements_behind_comma : Forest → Option (List Element)
-  elements_behind_comma none = Some []
-  elements_behind_comma (leaf (punct p) rest) = if p.char == 44 then elements_of rest else None
-  elements_behind_comma _ = None
+  pub elements_after_comma : Forest → Option (List Element)
+  elements_after_comma none = Some []
+  elements_after_comma (leaf (punct p) rest) = if p.char == 44 then elements_of rest else None
+  elements_after_comma _ = None
 
 -- `concat` wants at least two elements
 abbrev pub if_two : Span → List Element → Option Expression
@@ -139,7 +140,7 @@ ignore_of f = option_and_then (λ x. if_end x.1 (ops.ignore (x.0).sym (x.0).span
 
 -- the arguments of `count`: `$x` or `$x, d`
 abbrev pub count_of : Forest → Option Expression
-count_of f = option_and_then (λ x. option_map (ops.count (x.0).sym) (depth_behind_comma x.1)) (dollar_name f)
+count_of f = option_and_then (λ x. option_map (ops.count (x.0).sym) (depth_after_comma x.1)) (dollar_name f)
 
 -- the arguments of `concat`, which is at that span
 abbrev pub concat_of : Span → Forest → Option Expression
@@ -160,7 +161,8 @@ abbrev pub expression_of : Forest → Option Expression
 expression_of (leaf (ident word) (group d inside rest)) = expression_if_parenthesis d.kind word inside
   where
     expression_if_parenthesis : DelimiterKind → Ident → Forest → Option Expression
-    expression_if_parenthesis delimiters.Parenthesis word inside = if is_underscore word.sym then None else arguments_of word inside
+    expression_if_parenthesis delimiters.Parenthesis word inside =
+        if is_underscore word.sym then None else arguments_of word inside
     expression_if_parenthesis _ word inside = None
 expression_of _ = None
 
@@ -208,30 +210,31 @@ repetition_at inside None = Err invalid_repeat
 
 -- `${..}` is allowed in templates only
 abbrev pub expression_at : Mode → Forest → Option Expression → Result Head Fault
-expression_at pattern rest e = Err (unexpected_token (codes "`${}` metavariable expressions are not allowed in matchers"))
+expression_at pattern rest e = Err (unexpected_token
+    (codes "`${}` metavariable expressions are not allowed in matchers"))
 expression_at template rest (Some e) = Ok (one (ops.expression e) rest)
 expression_at template rest None = Err (unexpected_token (codes "invalid metavariable expression"))
 
 -- a repetition, a metavariable expression, or a fault
-abbrev pub group_behind_dollar : Mode → DelimiterKind → Forest → Forest → Result Head Fault
-group_behind_dollar mode delimiters.Parenthesis inside rest = repetition_at inside (suffix_of rest)
-group_behind_dollar mode delimiters.Brace inside rest = expression_at mode rest (expression_of inside)
-group_behind_dollar mode _ inside rest = Err (expected (codes "expected `$()` repetition or `${}` expression"))
+abbrev pub group_after_dollar : Mode → DelimiterKind → Forest → Forest → Result Head Fault
+group_after_dollar mode delimiters.Parenthesis inside rest = repetition_at inside (suffix_of rest)
+group_after_dollar mode delimiters.Brace inside rest = expression_at mode rest (expression_of inside)
+group_after_dollar mode _ inside rest = Err (expected (codes "expected `$()` repetition or `${}` expression"))
 
 -- `$crate`, with the span of `crate`
 abbrev pub dollar_crate : Ident → Op
 dollar_crate i = ops.token (ops.ident (record i { sym = codes "$crate"; is_raw = raw.No }))
 
 -- what `$` and the tree after it are; a `$` at the end is a punct
-abbrev pub behind_dollar : Mode → Punct → Forest → Result Head Fault
-behind_dollar mode p none = Ok (one (ops.token (ops.puncts (p ∷ []))) none)
-behind_dollar mode p (group d inside rest) = group_behind_dollar mode d.kind inside rest
-behind_dollar mode p (leaf (ident i) rest) =
+abbrev pub after_dollar : Mode → Punct → Forest → Result Head Fault
+after_dollar mode p none = Ok (one (ops.token (ops.puncts (p ∷ []))) none)
+after_dollar mode p (group d inside rest) = group_after_dollar mode d.kind inside rest
+after_dollar mode p (leaf (ident i) rest) =
     if is_text i.sym (codes "crate") then Ok (one (dollar_crate i) rest) else variable_at mode i.sym i.span rest
-behind_dollar mode p (leaf (literal l) rest) =
+after_dollar mode p (leaf (literal l) rest) =
     if is_truth l.text_and_suffix
     then variable_at mode l.text_and_suffix l.span rest else Err (expected (codes "expected ident"))
-behind_dollar mode p (leaf (punct q) rest) =
+after_dollar mode p (leaf (punct q) rest) =
     if q.char == 36 then second_dollar mode q rest else Err (expected (codes "expected ident"))
 
 -- the puncts that are taken together
@@ -244,7 +247,8 @@ head mode none = Ok ended
 head mode (group d inside rest) = Ok (opens_group d inside rest)
 head mode (leaf (literal l) rest) = Ok (one (ops.token (ops.literal l)) rest)
 head mode (leaf (ident i) rest) = Ok (one (ops.token (ops.ident i)) rest)
-head mode (leaf (punct p) rest) = if p.char == 36 then behind_dollar mode p rest else Ok (puncts_at (leaf (punct p) rest))
+head mode (leaf (punct p) rest) = if p.char == 36 then after_dollar mode p rest else Ok
+    (puncts_at (leaf (punct p) rest))
 
 -- ---- specifiers
 
@@ -259,7 +263,8 @@ expr_kind e = kinds.Expr (if at_least_2024 e then exprs.Expr else exprs.Expr2021
 -- the kinds that no edition changes
 abbrev pub kind_names : List (List ℕ × MetaVarKind)
 kind_names =
-    (codes "path", kinds.Path) ∷ (codes "ty", kinds.Ty) ∷ (codes "pat_param", kinds.PatParam) ∷ (codes "stmt", kinds.Stmt)
+    (codes "path", kinds.Path) ∷ (codes "ty", kinds.Ty) ∷ (codes "pat_param", kinds.PatParam)
+    ∷ (codes "stmt", kinds.Stmt)
     ∷ (codes "block", kinds.Block) ∷ (codes "meta", kinds.Meta) ∷ (codes "item", kinds.Item) ∷ (codes "vis", kinds.Vis)
     ∷ (codes "expr_2021", kinds.Expr exprs.Expr2021) ∷ (codes "ident", kinds.Ident) ∷ (codes "tt", kinds.Tt)
     ∷ (codes "lifetime", kinds.Lifetime) ∷ (codes "literal", kinds.Literal) ∷ []
@@ -272,16 +277,20 @@ kind_named (row ∷ rows) name = if is_text row.0 name then Some row.1 else kind
 module _ (HasEdition : SyntaxContext → Edition → Type 0) where
   -- the specifier means this kind, in an edition that its own context may have; no kind is an unknown one
   pub data Specifies (specifier : Ident) : Option MetaVarKind → Type 0 where
-    dated_pat : (e : Edition) → IsTrue (is_text specifier.sym (codes "pat")) → HasEdition (specifier.span).ctx e → Specifies specifier (Some (pat_kind e))
-    dated_expr : (e : Edition) → IsTrue (is_text specifier.sym (codes "expr")) → HasEdition (specifier.span).ctx e → Specifies specifier (Some (expr_kind e))
-    undated : IsFalse (is_text specifier.sym (codes "pat")) → IsFalse (is_text specifier.sym (codes "expr")) → Specifies specifier (kind_named kind_names specifier.sym)
+    dated_pat : (e : Edition) → IsTrue (is_text specifier.sym (codes "pat")) → HasEdition (specifier.span).ctx e
+        → Specifies specifier (Some (pat_kind e))
+    dated_expr : (e : Edition) → IsTrue (is_text specifier.sym (codes "expr")) → HasEdition (specifier.span).ctx e
+        → Specifies specifier (Some (expr_kind e))
+    undated : IsFalse (is_text specifier.sym (codes "pat")) → IsFalse (is_text specifier.sym (codes "expr"))
+        → Specifies specifier (kind_named kind_names specifier.sym)
 
   -- the trees are these ops
   pub data Template (mode : Mode) : Forest → Ops → Type 0 where
     nothing : (f : Forest) → head mode f ≡ Ok ended → Template mode f no_ops
     token : (f rest : Forest) (o : Op) (os : Ops) →
         head mode f ≡ Ok (one o rest) → Template mode rest os → Template mode f (op o os)
-    variable : (f rest : Forest) (name : Name) (span : Span) (specifier : Ident) (kind : Option MetaVarKind) (os : Ops) →
+    variable : (f rest : Forest) (name : Name) (span : Span) (specifier : Ident) (kind : Option MetaVarKind) (os : Ops)
+        →
         head mode f ≡ Ok (typed name span specifier rest) → Specifies specifier kind →
         Template mode rest os → Template mode f (op (ops.variable name kind span) os)
     grouped : (f inside rest : Forest) (d : Delimiter) (body os : Ops) →
@@ -297,14 +306,15 @@ module _ (HasEdition : SyntaxContext → Edition → Type 0) where
     in_group : (f inside rest : Forest) (d : Delimiter) →
         head mode f ≡ Ok (opens_group d inside rest) → TemplateFault mode fault inside → TemplateFault mode fault f
     in_repetition : (f inside rest : Forest) (separator : Option Separator) (repeat : RepeatKind) →
-        head mode f ≡ Ok (opens_repetition separator repeat inside rest) → TemplateFault mode fault inside → TemplateFault mode fault f
-    behind_token : (f rest : Forest) (o : Op) →
+        head mode f ≡ Ok (opens_repetition separator repeat inside rest) → TemplateFault mode fault inside
+        → TemplateFault mode fault f
+    after_token : (f rest : Forest) (o : Op) →
         head mode f ≡ Ok (one o rest) → TemplateFault mode fault rest → TemplateFault mode fault f
-    behind_variable : (f rest : Forest) (name : Name) (span : Span) (specifier : Ident) →
+    after_variable : (f rest : Forest) (name : Name) (span : Span) (specifier : Ident) →
         head mode f ≡ Ok (typed name span specifier rest) → TemplateFault mode fault rest → TemplateFault mode fault f
-    behind_group : (f inside rest : Forest) (d : Delimiter) (body : Ops) →
+    following_group : (f inside rest : Forest) (d : Delimiter) (body : Ops) →
         head mode f ≡ Ok (opens_group d inside rest) → Template mode inside body →
         TemplateFault mode fault rest → TemplateFault mode fault f
-    behind_repetition : (f inside rest : Forest) (separator : Option Separator) (repeat : RepeatKind) (body : Ops) →
+    after_repetition : (f inside rest : Forest) (separator : Option Separator) (repeat : RepeatKind) (body : Ops) →
         head mode f ≡ Ok (opens_repetition separator repeat inside rest) → Template mode inside body →
         TemplateFault mode fault rest → TemplateFault mode fault f

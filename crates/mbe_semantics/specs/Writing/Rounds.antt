@@ -7,7 +7,8 @@ use Rattle.mbe_semantics.specs.declared.rounds.Level.{Level}
 use Rattle.mbe_semantics.specs.Syntax.Op.{Name, Ops, Use, for_fragment, for_number, used_name, uses_of}
 use Rattle.mbe_semantics.specs.Bindings.Environment.{Value, fragment, list, empty, missing, Values, no_values, value, Environment, value_of}
 
--- The path names, of each repetition around a place, the round that it is in and how many rounds it writes; outermost first.
+-- The path names, of each repetition around a place, the round that it is in and how many rounds it writes; outermost
+-- first.
 abbrev pub Path : Type 0
 Path = List Level
 
@@ -22,7 +23,8 @@ abbrev pub value_count : Values → ℕ
 value_count no_values = 0
 value_count (value v vs) = 1 + value_count vs
 
--- A list gives its member at each index of the path. A fragment or a missing value gives itself, also before the path's end.
+-- A list gives its member at each index of the path. A fragment or a missing value gives itself, also before the path's
+-- end.
 abbrev pub follow : Path → Value → Option Value
 follow [] v = Some v
 follow (l ∷ path) (fragment x) = Some (fragment x)

@@ -102,7 +102,8 @@ unbound_variable name span =
 
 -- a decimal number
 abbrev pub integer : ℕ → Span → Forest
-integer n span = leaf (literal (record { text_and_suffix = decimal n; suffix_len = 0; kind = Integer; span = span })) none
+integer n span = leaf (literal (record { text_and_suffix = decimal n; suffix_len = 0; kind = Integer; span = span }))
+    none
 
 -- the index of a level, 0 where there is none
 abbrev pub index_of : Option Level → ℕ
@@ -148,15 +149,18 @@ module _ (g : Grammar) (Marks : Span → Span → Type 0) (call_site : Span) (en
 
   -- a token with an answer of the marker on its span
   abbrev pub IsMarked : Token → Forest → Type 0
-  IsMarked (ops.literal l) out = (marked : Span) × Marks l.span marked × (out ≡ leaf (literal (record l { span = marked })) none)
-  IsMarked (ops.ident i) out = (marked : Span) × Marks i.span marked × (out ≡ leaf (ident (record i { span = marked })) none)
+  IsMarked (ops.literal l) out = (marked : Span) × Marks l.span marked
+      × (out ≡ leaf (literal (record l { span = marked })) none)
+  IsMarked (ops.ident i) out = (marked : Span) × Marks i.span marked
+      × (out ≡ leaf (ident (record i { span = marked })) none)
   IsMarked (ops.puncts ps) out = AreMarkedPuncts ps out
 
   -- the name's value, and what following the path gives; a value that is no fragment there is a fault
   abbrev pub IsVariable : Name → Span → Option Value → Option Value → Forest → Type 0
   IsVariable name span None _ out = out ≡ unbound_variable name span
   IsVariable name span (Some v) (Some (fragment x)) out = IsWrittenAs Marks call_site x.style span x.trees out
-  IsVariable name span (Some v) (Some (missing kind)) out = (marked : Span) × Marks span marked × (out ≡ default_trees kind marked)
+  IsVariable name span (Some v) (Some (missing kind)) out =
+      (marked : Span) × Marks span marked × (out ≡ default_trees kind marked)
   IsVariable name span (Some v) _ out = ⊥
 
   -- one identifier, marked by the span of `concat`
@@ -180,10 +184,13 @@ module _ (g : Grammar) (Marks : Span → Span → Type 0) (call_site : Span) (en
     Writes path (ops.token t) out = IsMarked t out
     Writes path (ops.group d body) out =
         (opening : Span) × (close : Span) × (inside : Forest) × Marks d.opening opening × Marks d.close close
-        × Substitutes path body inside × (out ≡ tree.group (record { opening = opening; close = close; kind = d.kind }) inside none)
-    Writes path (ops.variable name kind span) out = IsVariable name span (value_of env name) (followed env path name) out
+        × Substitutes path body inside × (out
+        ≡ tree.group (record { opening = opening; close = close; kind = d.kind }) inside none)
+    Writes path (ops.variable name kind span) out =
+        IsVariable name span (value_of env name) (followed env path name) out
     Writes path (ops.repetition body separator repeat) out =
-        AreKeptRounds (separator_trees separator) (λ i n. Substitutes (level i n path) body) (kept_rounds repeat env path body) out
+        AreKeptRounds (separator_trees separator) (λ i n. Substitutes (level i n path) body)
+        (kept_rounds repeat env path body) out
     Writes path (ops.expression e) out = IsExpression path e out
 
     -- the ops write these trees, one after the other

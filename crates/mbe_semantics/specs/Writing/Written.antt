@@ -30,7 +30,8 @@ double_colon call_site rest =
 abbrev pub path_trees : Span → Forest → Forest
 path_trees call_site none = none
 path_trees call_site (leaf (ident i) (leaf (punct p) rest)) =
-    leaf (ident i) (if p.char == 60 then double_colon call_site (leaf (punct p) (path_trees call_site rest)) else leaf (punct p) (path_trees call_site rest))
+    leaf (ident i) (if p.char == 60 then double_colon call_site (leaf (punct p) (path_trees call_site rest)) else leaf
+    (punct p) (path_trees call_site rest))
 path_trees call_site (leaf l rest) = leaf l (path_trees call_site rest)
 path_trees call_site (group d inside rest) = group d inside (path_trees call_site rest)
 
@@ -57,7 +58,8 @@ module _ (Marks : Span → Span → Type 0) where
 
   -- an expression, opened one level where it is exactly one invisible group
   abbrev pub IsExpressionWritten : Span → Forest → Forest → Type 0
-  IsExpressionWritten span f out = IsParenthesized (needs_parentheses (strip_invisible f)) span (alone (strip_invisible f)) out
+  IsExpressionWritten span f out = IsParenthesized (needs_parentheses (strip_invisible f)) span
+      (alone (strip_invisible f)) out
 
   -- `span` is the variable's span in the template
   abbrev pub IsWrittenAs : Span → Style → Span → Forest → Forest → Type 0

@@ -16,7 +16,8 @@ use Rattle.mbe_tt.proofs.Buffers.Spelled.{spell-append, length-spell, read_back}
 pub levels_are : (b : Levels) (es : List Entry) → es ≡ written b → levels_of es ≡ b
 levels_are b es e = ap levels_of e ∙ levels_of-written b
 
-pub is_building : (b : Levels) (es : List Entry) (capacity place count : ℕ) → es ≡ written b → place ≡ current b → count ≡ length b → 0 < count
+pub is_building : (b : Levels) (es : List Entry) (capacity place count : ℕ) → es ≡ written b → place ≡ current b
+    → count ≡ length b → 0 < count
     → length es + count ≤ capacity → IsBuilding es capacity place count
 is_building b es capacity place count e at depth some room =
     let l : b ≡ levels_of es = sym (levels_are b es e) in
@@ -25,7 +26,8 @@ is_building b es capacity place count e at depth some room =
 pub written-put : (b : Levels) (f : Forest) → 0 < length b → written (put f b) ≡ written b ++ spell f
 written-put [] f h = absurd (omega arith)
 written-put (g ∷ outer) f h =
-    ap (λ (es : List Entry). written outer ++ Open (record { delimiter = g.0 }) (current outer) ∷ es) (spell-append g.1 f)
+    ap (λ (es : List Entry). written outer ++ Open (record { delimiter = g.0 }) (current outer) ∷ es)
+    (spell-append g.1 f)
     ∙ sym (append_assoc (written outer) (Open (record { delimiter = g.0 }) (current outer) ∷ spell g.1) (spell f))
 
 pub current-put : (b : Levels) (f : Forest) → current (put f b) ≡ current b
@@ -41,44 +43,59 @@ pub record Put (b : Levels) (f : Forest) (es : List Entry) (capacity place count
   pub levels : levels_of es ≡ put f b
   pub building : IsBuilding es capacity place count
 
-pub after_put : (old new : List Entry) (oldcap newcap place count : ℕ) (f : Forest) → IsBuilding old oldcap place count → new ≡ old ++ spell f
+pub after_put : (old new : List Entry) (oldcap newcap place count : ℕ) (f : Forest) → IsBuilding old oldcap place count
+    → new ≡ old ++ spell f
     → length new + count ≤ newcap → Put (levels_of old) f new newcap place count
 after_put old new oldcap newcap place count f h e room =
     let b : Levels = levels_of old in
     let some : 0 < length b = omega (arith, h.some, h.depth) in
-    let w : new ≡ written (put f b) = e ∙ (ap (λ (es : List Entry). es ++ spell f) h.spelled ∙ sym (written-put b f some)) in
+    let w : new ≡ written (put f b) = e ∙ (ap (λ (es : List Entry). es ++ spell f) h.spelled
+    ∙ sym (written-put b f some)) in
     record {
       levels = levels_are (put f b) new w;
-      building = is_building (put f b) new newcap place count w (h.at ∙ sym (current-put b f)) (h.depth ∙ sym (length-put b f)) h.some room;
+      building = is_building (put f b) new newcap place count w (h.at ∙ sym (current-put b f))
+          (h.depth ∙ sym (length-put b f)) h.some room;
     }
 
 pub length-written : (b : Levels) → 0 < length b → length (written b) ≡ flat_written b + 1
 length-written [] h = absurd (omega arith)
 length-written (g ∷ []) h = omega (arith, length-spell g.1)
 length-written (g ∷ (k ∷ outer)) h =
-    omega (arith, length-spell g.1, length-written (k ∷ outer) (omega arith), length-append (written (k ∷ outer)) (Open (record { delimiter = g.0 }) (current (k ∷ outer)) ∷ spell g.1))
+    omega (
+      arith,
+      length-spell g.1,
+      length-written (k ∷ outer) (omega arith),
+      length-append (written (k ∷ outer)) (Open (record { delimiter = g.0 }) (current (k ∷ outer)) ∷ spell g.1),
+    )
 
 -- a new group at the end
 pub record Opened (b : Levels) (d : Delimiter) (es : List Entry) (capacity place count : ℕ) : Type 0 where
   pub levels : levels_of es ≡ (d, none) ∷ b
   pub building : IsBuilding es capacity place count
 
-pub after_open_group : (old new : List Entry) (oldcap newcap place count : ℕ) (d : Delimiter) → IsBuilding old oldcap place count
-    → new ≡ old ++ Open (record { delimiter = d }) place ∷ [] → length new + (count + 1) ≤ newcap → Opened (levels_of old) d new newcap (length old) (count + 1)
+pub after_open_group : (old new : List Entry) (oldcap newcap place count : ℕ) (d : Delimiter)
+    → IsBuilding old oldcap place count
+    → new ≡ old ++ Open (record { delimiter = d }) place ∷ [] → length new + (count + 1) ≤ newcap
+    → Opened (levels_of old) d new newcap (length old) (count + 1)
 after_open_group old new oldcap newcap place count d h e room =
     let b : Levels = levels_of old in
     let w : new ≡ written ((d, none) ∷ b) =
-    e ∙ (ap (λ (es : List Entry). es ++ Open (record { delimiter = d }) place ∷ []) h.spelled ∙ ap (λ (n : ℕ). written b ++ Open (record { delimiter = d }) n ∷ []) h.at) in
+    e ∙ (ap (λ (es : List Entry). es ++ Open (record { delimiter = d }) place ∷ []) h.spelled
+    ∙ ap (λ (n : ℕ). written b ++ Open (record { delimiter = d }) n ∷ []) h.at) in
     record {
       levels = levels_are ((d, none) ∷ b) new w;
-      building = is_building ((d, none) ∷ b) new newcap (length old) (count + 1) w (ap length h.spelled) (omega (arith, h.depth)) (omega arith) room;
+      building = is_building ((d, none) ∷ b) new newcap (length old) (count + 1) w (ap length h.spelled)
+          (omega (arith, h.depth)) (omega arith) room;
     }
 
 -- the entries once an opening has its length and its group is closed
-pub finished : (before after old : List Entry) (s sub : Subtree) (n place : ℕ) → old ≡ before ++ Open s n ∷ after → place ≡ length before
-    → set old place (Open sub (length old - place - 1)) ++ Close ∷ [] ≡ before ++ Open sub (length after) ∷ (after ++ Close ∷ [])
+pub finished : (before after old : List Entry) (s sub : Subtree) (n place : ℕ) → old ≡ before ++ Open s n ∷ after
+    → place ≡ length before
+    → set old place (Open sub (length old - place - 1)) ++ Close ∷ []
+    ≡ before ++ Open sub (length after) ∷ (after ++ Close ∷ [])
 finished before after old s sub n place e at =
-    let len : length old - place - 1 ≡ length after = omega (arith, ap length e, length-append before (Open s n ∷ after)) in
+    let len : length old - place - 1 ≡ length after =
+    omega (arith, ap length e, length-append before (Open s n ∷ after)) in
     rw (len, e, at, set-append_seam before (Open s n) after (Open sub (length after)))
     (append_assoc before (Open sub (length after) ∷ after) (Close ∷ []))
 
@@ -90,21 +107,24 @@ opens_at (g ∷ outer) es place e at h =
 
 back_of : {A : Type 0} (xs us ys vs : List A) → length xs ≡ length ys → xs ++ us ≡ ys ++ vs → us ≡ vs
 back_of xs us ys vs h e =
-    sym (drop-append_seam xs us) ∙ (ap (drop (length xs)) e ∙ (ap (λ (n : ℕ). drop n (ys ++ vs)) h ∙ drop-append_seam ys vs))
+    sym (drop-append_seam xs us) ∙ (ap (drop (length xs)) e
+    ∙ (ap (λ (n : ℕ). drop n (ys ++ vs)) h ∙ drop-append_seam ys vs))
 
 -- what is at an opening is what was written there
 pub record IsOpening (g : Delimiter × Forest) (outer : Levels) (s : Subtree) (n : ℕ) : Type 0 where
   pub subtree : s ≡ record { delimiter = g.0 }
   pub link : n ≡ current outer
 
-pub opening_is : (g : Delimiter × Forest) (outer : Levels) (es : List Entry) (place : ℕ) (s : Subtree) (n : ℕ) → es ≡ written (g ∷ outer) → place ≡ length (written outer)
+pub opening_is : (g : Delimiter × Forest) (outer : Levels) (es : List Entry) (place : ℕ) (s : Subtree) (n : ℕ)
+    → es ≡ written (g ∷ outer) → place ≡ length (written outer)
     → OpensAt es place s n → IsOpening g outer s n
 opening_is g outer es place s n e at o =
     let back : Open s n ∷ o.after ≡ Open (record { delimiter = g.0 }) (current outer) ∷ spell g.1 =
     back_of o.before _ (written outer) _ (sym o.at ∙ at) (sym o.is ∙ e) in
     record { subtree = cc; link = cc }
 
-pub kind_here : (b : Levels) (es : List Entry) (place : ℕ) (s : Subtree) (n : ℕ) → 1 < length b → es ≡ written b → place ≡ current b → OpensAt es place s n
+pub kind_here : (b : Levels) (es : List Entry) (place : ℕ) (s : Subtree) (n : ℕ) → 1 < length b → es ≡ written b
+    → place ≡ current b → OpensAt es place s n
     → Some s.delimiter.kind ≡ kind_inside b
 kind_here [] es place s n h e at o = absurd (omega arith)
 kind_here (g ∷ []) es place s n h e at o = absurd (omega arith)
@@ -121,8 +141,11 @@ pub record IsClosed (b : Levels) (span : Span) (es : List Entry) (capacity place
   pub levels : levels_of es ≡ closed span b
   pub building : IsBuilding es capacity place count
 
-pub after_close : (b : Levels) (old new : List Entry) (newcap place count : ℕ) (s : Subtree) (n : ℕ) (span : Span) → 1 < length b → old ≡ written b → place ≡ current b
-    → count ≡ length b → OpensAt old place s n → Finishes old place (record { delimiter = record s.delimiter { close = span } }) new → length new + (count - 1) ≤ newcap
+pub after_close : (b : Levels) (old new : List Entry) (newcap place count : ℕ) (s : Subtree) (n : ℕ) (span : Span)
+    → 1 < length b → old ≡ written b → place ≡ current b
+    → count ≡ length b → OpensAt old place s n
+    → Finishes old place (record { delimiter = record s.delimiter { close = span } }) new
+    → length new + (count - 1) ≤ newcap
     → IsClosed b span new newcap n (count - 1)
 after_close [] old new newcap place count s n span h e at depth o f room = absurd (omega arith)
 after_close (g ∷ []) old new newcap place count s n span h e at depth o f room = absurd (omega arith)
@@ -132,19 +155,24 @@ after_close (g ∷ (k ∷ outer)) old new newcap place count s n span h e at dep
     let whole : Levels = put (group d g.1 none) (k ∷ outer) in
     let w : new ≡ written whole =
     f (written (k ∷ outer)) (spell g.1) (record { delimiter = g.0 }) (current (k ∷ outer)) e at
-    ∙ (ap (λ (t : Subtree). written (k ∷ outer) ++ Open (record { delimiter = record t.delimiter { close = span } }) (length (spell g.1)) ∷ (spell g.1 ++ Close ∷ [])) is.subtree
-    ∙ (ap (λ (m : ℕ). written (k ∷ outer) ++ Open (record { delimiter = d }) m ∷ (spell g.1 ++ Close ∷ [])) (length-spell g.1)
+    ∙ (ap (λ (t : Subtree). written (k ∷ outer)
+    ++ Open (record { delimiter = record t.delimiter { close = span } }) (length (spell g.1))
+    ∷ (spell g.1 ++ Close ∷ [])) is.subtree
+    ∙ (ap (λ (m : ℕ). written (k ∷ outer) ++ Open (record { delimiter = d }) m ∷ (spell g.1 ++ Close ∷ []))
+    (length-spell g.1)
     ∙ sym (written-put (k ∷ outer) (group d g.1 none) (omega arith)))) in
     record {
       levels = levels_are whole new w;
-      building = is_building whole new newcap n (count - 1) w is.link (omega (arith, depth)) (omega (arith, depth)) room;
+      building = is_building whole new newcap n (count - 1) w is.link (omega (arith, depth)) (omega (arith, depth))
+          room;
     }
 
 pub record IsBuilt (b : Levels) (es : List Entry) : Type 0 where
   pub spelled : es ≡ spell (top_group (top_of (forest_of es)))
   pub is : b ≡ top_of (forest_of es) ∷ []
 
-pub after_build : (b : Levels) (old new : List Entry) (s : Subtree) (n : ℕ) → length b ≡ 1 → old ≡ written b → OpensAt old 0 s n → Finishes old 0 s new → IsBuilt b new
+pub after_build : (b : Levels) (old new : List Entry) (s : Subtree) (n : ℕ) → length b ≡ 1 → old ≡ written b
+    → OpensAt old 0 s n → Finishes old 0 s new → IsBuilt b new
 after_build [] old new s n h e o f = absurd (omega arith)
 after_build (g ∷ []) old new s n h e o f =
     let is = opening_is g [] old 0 s n e refl o in
@@ -153,7 +181,10 @@ after_build (g ∷ []) old new s n h e o f =
     ∙ (ap (λ (t : Subtree). Open t (length (spell g.1)) ∷ (spell g.1 ++ Close ∷ [])) is.subtree
     ∙ ap (λ (m : ℕ). Open (record { delimiter = g.0 }) m ∷ (spell g.1 ++ Close ∷ [])) (length-spell g.1)) in
     let t : g ≡ top_of (forest_of new) = ap top_of (sym (read_back (top_group g) new w)) in
-    record { spelled = w ∙ ap (λ (x : Delimiter × Forest). spell (top_group x)) t; is = ap (λ (x : Delimiter × Forest). x ∷ []) t }
+    record {
+      spelled = w ∙ ap (λ (x : Delimiter × Forest). spell (top_group x)) t;
+      is = ap (λ (x : Delimiter × Forest). x ∷ []) t;
+    }
 after_build (g ∷ (k ∷ outer)) old new s n h e o f = absurd (omega arith)
 
 -- the first flat tokens
@@ -161,29 +192,35 @@ pub record IsKept (kept : Levels) (es : List Entry) (capacity place count : ℕ)
   pub levels : levels_of es ≡ kept
   pub building : IsBuilding es capacity place count
 
-pub point_fits : (kept : Levels) (f : Forest) (old : List Entry) → 0 < length kept → old ≡ written (put f kept) → flat_written kept + 1 ≤ length old
+pub point_fits : (kept : Levels) (f : Forest) (old : List Entry) → 0 < length kept → old ≡ written (put f kept)
+    → flat_written kept + 1 ≤ length old
 point_fits kept f old h e =
     omega (arith, ap length (e ∙ written-put kept f h), length-append (written kept) (spell f), length-written kept h)
 
-pub after_restore : (kept : Levels) (f : Forest) (old new : List Entry) (oldcap newcap place count point : ℕ) → levels_of old ≡ put f kept → IsBuilding old oldcap place count
+pub after_restore : (kept : Levels) (f : Forest) (old new : List Entry) (oldcap newcap place count point : ℕ)
+    → levels_of old ≡ put f kept → IsBuilding old oldcap place count
     → flat_written kept ≡ point → new ≡ take (point + 1) old → oldcap ≡ newcap → IsKept kept new newcap place count
 after_restore kept f old new oldcap newcap place count point l h p e cap =
     let some : 0 < length kept = omega (arith, h.some, h.depth, ap length l, length-put kept f) in
     let was : old ≡ written kept ++ spell f = h.spelled ∙ (ap written l ∙ written-put kept f some) in
     let n : point + 1 ≡ length (written kept) = omega (arith, length-written kept some) in
-    let w : new ≡ written kept = e ∙ (ap (λ (m : ℕ). take m old) n ∙ (ap (take (length (written kept))) was ∙ take-append_seam (written kept) (spell f))) in
+    let w : new ≡ written kept = e ∙ (ap (λ (m : ℕ). take m old) n
+    ∙ (ap (take (length (written kept))) was ∙ take-append_seam (written kept) (spell f))) in
     record {
       levels = levels_are kept new w;
-      building = is_building kept new newcap place count w (h.at ∙ (ap current l ∙ current-put kept f)) (h.depth ∙ (ap length l ∙ length-put kept f)) h.some
+      building = is_building kept new newcap place count w (h.at ∙ (ap current l ∙ current-put kept f))
+          (h.depth ∙ (ap length l ∙ length-put kept f)) h.some
           (omega (arith, h.room, ap length was, ap length w, length-append (written kept) (spell f)));
     }
 
-pub opens_at_first : (b : Levels) (es : List Entry) → es ≡ written b → length b ≡ 1 → (s : Subtree) × (n : ℕ) × OpensAt es 0 s n
+pub opens_at_first : (b : Levels) (es : List Entry) → es ≡ written b → length b ≡ 1
+    → (s : Subtree) × (n : ℕ) × OpensAt es 0 s n
 opens_at_first [] es e h = absurd (omega arith)
 opens_at_first (g ∷ []) es e h = opens_at (g ∷ []) es 0 e refl (omega arith)
 opens_at_first (g ∷ (k ∷ outer)) es e h = absurd (omega arith)
 
-pub finish_len : (old new : List Entry) (place : ℕ) (s sub : Subtree) (n : ℕ) → OpensAt old place s n → Finishes old place sub new → length new ≡ length old + 1
+pub finish_len : (old new : List Entry) (place : ℕ) (s sub : Subtree) (n : ℕ) → OpensAt old place s n
+    → Finishes old place sub new → length new ≡ length old + 1
 finish_len old new place s sub n o f =
     omega (
       arith,

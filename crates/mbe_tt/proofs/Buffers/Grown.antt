@@ -20,11 +20,14 @@ put-put : (f h : Forest) (b : Levels) → put h (put f b) ≡ put (append f h) b
 put-put f h [] = refl
 put-put f h (g ∷ outer) = ap (λ (k : Forest). let x : Delimiter × Forest = (g.0, k) in x ∷ outer) (append-assoc g.1 f h)
 
-leaves-more : {A : Type 0} (xs : List (Leaf A)) (x : Leaf A) → append (leaves_of xs) (one_leaf (leaf_of x)) ≡ leaves_of (xs ++ x ∷ [])
+leaves-more : {A : Type 0} (xs : List (Leaf A)) (x : Leaf A)
+    → append (leaves_of xs) (one_leaf (leaf_of x)) ≡ leaves_of (xs ++ x ∷ [])
 leaves-more [] x = refl
 leaves-more (y ∷ ys) x = ap (leaf (leaf_of y)) (leaves-more ys x)
 
-pub put_more : {A : Type 0} (b before now : Levels) (xs : List (Leaf A)) (x : Leaf A) → now ≡ put (one_leaf (leaf_of x)) before → before ≡ put (leaves_of xs) b
+pub put_more : {A : Type 0} (b before now : Levels) (xs : List (Leaf A)) (x : Leaf A)
+    → now ≡ put (one_leaf (leaf_of x)) before → before ≡ put (leaves_of xs) b
     → now ≡ put (leaves_of (xs ++ x ∷ [])) b
 put_more b before now xs x e h =
-    e ∙ (ap (put (one_leaf (leaf_of x))) h ∙ (put-put (leaves_of xs) (one_leaf (leaf_of x)) b ∙ ap (λ (f : Forest). put f b) (leaves-more xs x)))
+    e ∙ (ap (put (one_leaf (leaf_of x))) h
+    ∙ (put-put (leaves_of xs) (one_leaf (leaf_of x)) b ∙ ap (λ (f : Forest). put f b) (leaves-more xs x)))

@@ -29,7 +29,8 @@ pub record AfterOpen (s : Subtree) (n : ℕ) (r : List Entry) : Type 0 where
   pub len : n ≡ flat_len inside
   pub entries : r ≡ spell inside ++ Close ∷ spell rest
 
-after_open_at : (s : Subtree) (n : ℕ) (r : List Entry) (f : Forest) → forest_of (Open s n ∷ r) ≡ f → Open s n ∷ r ≡ spell f → AfterOpen s n r
+after_open_at : (s : Subtree) (n : ℕ) (r : List Entry) (f : Forest) → forest_of (Open s n ∷ r) ≡ f
+    → Open s n ∷ r ≡ spell f → AfterOpen s n r
 after_open_at s n r none is e = cc
 after_open_at s n r (leaf l rest) is e = cc
 after_open_at s n r (group d inside rest) is e =
@@ -48,7 +49,13 @@ after_open s n r e = after_open_at s n r (forest_of (Open s n ∷ r)) refl e
 pub content_fits : (s : Subtree) (n : ℕ) (r : List Entry) → Spelled (Open s n ∷ r) → n < length r
 content_fits s n r e =
     let a = after_open s n r e in
-    omega (arith, a.len, ap length a.entries, length-append (spell a.inside) (Close ∷ spell a.rest), length-spell a.inside)
+    omega (
+      arith,
+      a.len,
+      ap length a.entries,
+      length-append (spell a.inside) (Close ∷ spell a.rest),
+      length-spell a.inside,
+    )
 
 pub take_front : {A : Type 0} (n : ℕ) (xs ys r : List A) → n ≡ length xs → r ≡ xs ++ ys → take n r ≡ xs
 take_front n xs ys r en er = rw (er, en) (take-append_seam xs ys)
@@ -57,12 +64,15 @@ drop_front : {A : Type 0} (n : ℕ) (xs ys r : List A) → n ≡ length xs → r
 drop_front n xs ys r en er = rw (er, en) (drop-append_seam xs ys)
 
 pub content_is : (s : Subtree) (n : ℕ) (r : List Entry) (a : AfterOpen s n r) → take n r ≡ spell a.inside
-content_is s n r a = take_front n (spell a.inside) (Close ∷ spell a.rest) r (a.len ∙ sym (length-spell a.inside)) a.entries
+content_is s n r a = take_front n (spell a.inside) (Close ∷ spell a.rest) r (a.len ∙ sym (length-spell a.inside))
+    a.entries
 
 pub closing_is : (s : Subtree) (n : ℕ) (r : List Entry) (a : AfterOpen s n r) → drop n r ≡ Close ∷ spell a.rest
-closing_is s n r a = drop_front n (spell a.inside) (Close ∷ spell a.rest) r (a.len ∙ sym (length-spell a.inside)) a.entries
+closing_is s n r a = drop_front n (spell a.inside) (Close ∷ spell a.rest) r (a.len ∙ sym (length-spell a.inside))
+    a.entries
 
-pub after_open_is : (s : Subtree) (n : ℕ) (r inside rest : List Entry) (a : AfterOpen s n r) → inside ≡ spell a.inside → rest ≡ spell a.rest
+pub after_open_is : (s : Subtree) (n : ℕ) (r inside rest : List Entry) (a : AfterOpen s n r) → inside ≡ spell a.inside
+    → rest ≡ spell a.rest
     → forest_of (Open s n ∷ r) ≡ group s.delimiter (forest_of inside) (forest_of rest)
 after_open_is s n r inside rest a ei er =
     rw (read_back a.inside inside ei, read_back a.rest rest er) a.is
@@ -72,21 +82,27 @@ spell-append none g = refl
 spell-append (leaf l rest) g = ap (λ (es : List Entry). Leaf l ∷ es) (spell-append rest g)
 spell-append (group d inside rest) g =
     ap (λ (es : List Entry). Open (record { delimiter = d }) (flat_len inside) ∷ es)
-    (ap (λ (es : List Entry). spell inside ++ Close ∷ es) (spell-append rest g) ∙ sym (append_assoc (spell inside) (Close ∷ spell rest) (spell g)))
+    (ap (λ (es : List Entry). spell inside ++ Close ∷ es) (spell-append rest g)
+    ∙ sym (append_assoc (spell inside) (Close ∷ spell rest) (spell g)))
 
--- what was consumed between two places, where the trees left at the first are those consumed and then those left at the second
-pub passed_front : (passed left : Forest) (before now : List Entry) → Spelled before → Spelled now → forest_of now ≡ left → forest_of before ≡ append passed left
+-- what was consumed between two places, where the trees left at the first are those consumed and then those left at the
+-- second
+pub passed_front : (passed left : Forest) (before now : List Entry) → Spelled before → Spelled now
+    → forest_of now ≡ left → forest_of before ≡ append passed left
     → before ≡ spell passed ++ now
 passed_front passed left before now sb sn vn vb =
-    sb ∙ (ap spell vb ∙ (spell-append passed left ∙ ap (λ (es : List Entry). spell passed ++ es) (sym (sn ∙ ap spell vn))))
+    sb ∙ (ap spell vb ∙ (spell-append passed left
+    ∙ ap (λ (es : List Entry). spell passed ++ es) (sym (sn ∙ ap spell vn))))
 
-pub passed_len : (passed : Forest) (before now : List Entry) → before ≡ spell passed ++ now → length before - length now ≡ length (spell passed)
+pub passed_len : (passed : Forest) (before now : List Entry) → before ≡ spell passed ++ now
+    → length before - length now ≡ length (spell passed)
 passed_len passed before now e = omega (arith, ap length e, length-append (spell passed) now)
 
 pub passed_le : (passed : Forest) (before now : List Entry) → before ≡ spell passed ++ now → length now ≤ length before
 passed_le passed before now e = omega (arith, ap length e, length-append (spell passed) now)
 
-pub passed_is : (passed : Forest) (before now : List Entry) → before ≡ spell passed ++ now → take (length before - length now) before ≡ spell passed
+pub passed_is : (passed : Forest) (before now : List Entry) → before ≡ spell passed ++ now
+    → take (length before - length now) before ≡ spell passed
 passed_is passed before now e = take_front _ (spell passed) now before (passed_len passed before now e) e
 
 pub count_le : (f : Forest) → tree_count f ≤ flat_len f

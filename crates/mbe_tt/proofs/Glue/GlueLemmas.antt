@@ -37,7 +37,8 @@ joined-some : (s : Spacing) (n : ℕ) (f : Forest) (b : Punct) → joined_punct 
 joined-some Alone n f b e = no_some b e
 joined-some Joint n none b e = no_some b e
 joined-some Joint n (leaf (literal l) rest) b e = no_some b e
-joined-some Joint n (leaf (punct p) rest) b e = ap (λ (x : Punct). x ∷ if_joint x.spacing (joined n rest)) (same_Some p b e)
+joined-some Joint n (leaf (punct p) rest) b e =
+    ap (λ (x : Punct). x ∷ if_joint x.spacing (joined n rest)) (same_Some p b e)
 joined-some Joint n (leaf (ident i) rest) b e = no_some b e
 joined-some Joint n (group d inside rest) b e = no_some b e
 
@@ -54,11 +55,13 @@ if_true : {A : Type 0} (t : Bool) (x y : A) → t ≡ true → (if t then x else
 if_true t x y e = ap (λ (s : Bool). if s then x else y) e
 
 -- a third punct, or none, by a test
-picked : (t : Bool) (c d : Punct) (xs ys : List Punct) → (if t then Some c else None) ≡ Some d → (if t then xs else ys) ≡ xs
+picked : (t : Bool) (c d : Punct) (xs ys : List Punct) → (if t then Some c else None) ≡ Some d
+    → (if t then xs else ys) ≡ xs
 picked true c d xs ys e = refl
 picked false c d xs ys e = no_some d e
 
-not_picked : (t : Bool) (c : Punct) (xs ys : List Punct) → (if t then Some c else None) ≡ None → (if t then xs else ys) ≡ ys
+not_picked : (t : Bool) (c : Punct) (xs ys : List Punct) → (if t then Some c else None) ≡ None
+    → (if t then xs else ys) ≡ ys
 not_picked true c xs ys e = some_no c e
 not_picked false c xs ys e = refl
 
@@ -70,21 +73,25 @@ abbrev pick : Punct → Punct → Punct → Option Punct
 pick a b c = if is_operator (chars_of (a ∷ b ∷ c ∷ [])) then Some c else None
 
 -- what comes after two joined puncts, where a third makes no operator with them
-behind_two : (a b : Punct) (f : Forest) (o : Option Punct) → joined_punct b.spacing f ≡ o → option_and_then (pick a b) o ≡ None
+past_two : (a b : Punct) (f : Forest) (o : Option Punct) → joined_punct b.spacing f ≡ o
+    → option_and_then (pick a b) o ≡ None
     → longest_operator (a ∷ b ∷ if_joint b.spacing (joined 1 f)) ≡ two a b
-behind_two a b f None j e =
+past_two a b f None j e =
     ap (λ (more : List Punct). longest_operator (a ∷ b ∷ more)) (joined-none b.spacing 1 f j)
     ∙ same_test (is_operator (chars_of (a ∷ b ∷ []))) (a ∷ b ∷ []) (a ∷ [])
-behind_two a b f (Some c) j e =
-    ap (λ (more : List Punct). longest_operator (a ∷ b ∷ more)) (joined-some b.spacing 0 f c j ∙ ap (λ (more : List Punct). c ∷ more) (nothing_joined c.spacing))
+past_two a b f (Some c) j e =
+    ap (λ (more : List Punct). longest_operator (a ∷ b ∷ more))
+    (joined-some b.spacing 0 f c j ∙ ap (λ (more : List Punct). c ∷ more) (nothing_joined c.spacing))
     ∙ not_picked (is_operator (chars_of (a ∷ b ∷ c ∷ []))) c (a ∷ b ∷ c ∷ []) (two a b) e
 
 -- and where it does
-behind_three : (a b d : Punct) (f : Forest) (o : Option Punct) → joined_punct b.spacing f ≡ o → option_and_then (pick a b) o ≡ Some d
+after_three : (a b d : Punct) (f : Forest) (o : Option Punct) → joined_punct b.spacing f ≡ o
+    → option_and_then (pick a b) o ≡ Some d
     → longest_operator (a ∷ b ∷ if_joint b.spacing (joined 1 f)) ≡ a ∷ b ∷ d ∷ []
-behind_three a b d f None j e = no_some d e
-behind_three a b d f (Some c) j e =
-    ap (λ (more : List Punct). longest_operator (a ∷ b ∷ more)) (joined-some b.spacing 0 f c j ∙ ap (λ (more : List Punct). c ∷ more) (nothing_joined c.spacing))
+after_three a b d f None j e = no_some d e
+after_three a b d f (Some c) j e =
+    ap (λ (more : List Punct). longest_operator (a ∷ b ∷ more))
+    (joined-some b.spacing 0 f c j ∙ ap (λ (more : List Punct). c ∷ more) (nothing_joined c.spacing))
     ∙ (picked (is_operator (chars_of (a ∷ b ∷ c ∷ []))) c d (a ∷ b ∷ c ∷ []) (two a b) e
     ∙ ap (λ (x : Punct). a ∷ b ∷ x ∷ []) (same_picked (is_operator (chars_of (a ∷ b ∷ c ∷ []))) c d e))
 
@@ -105,20 +112,23 @@ front-two (group d inside rest) a b e j = no_some a e
 pub record Front (f ahead beyond : Forest) (a b : Punct) : Type 0 where
   pub first : Some a ≡ front_punct f
   pub second : Some b ≡ joined_punct a.spacing ahead
-  pub behind_first : ahead ≡ rest_of f
-  pub behind_second : beyond ≡ rest_of ahead
+  pub past_first : ahead ≡ rest_of f
+  pub after_second : beyond ≡ rest_of ahead
 
-front : (f ahead beyond : Forest) (a b : Punct) → Front f ahead beyond a b → glue f ≡ longest_operator (a ∷ b ∷ if_joint b.spacing (joined 1 beyond))
+front : (f ahead beyond : Forest) (a b : Punct) → Front f ahead beyond a b
+    → glue f ≡ longest_operator (a ∷ b ∷ if_joint b.spacing (joined 1 beyond))
 front f ahead beyond a b h =
-    front-two f a b (sym h.first) (sym (h.second ∙ ap (joined_punct a.spacing) h.behind_first))
-    ∙ ap (λ (r : Forest). longest_operator (a ∷ b ∷ if_joint b.spacing (joined 1 r))) (sym (h.behind_second ∙ ap rest_of h.behind_first))
+    front-two f a b (sym h.first) (sym (h.second ∙ ap (joined_punct a.spacing) h.past_first))
+    ∙ ap (λ (r : Forest). longest_operator (a ∷ b ∷ if_joint b.spacing (joined 1 r)))
+    (sym (h.after_second ∙ ap rest_of h.past_first))
 
 -- puncts that are taken together, and the trees after them
 pub record Glues (f left : Forest) (ps : List Punct) : Type 0 where
   pub value : Some ps ≡ glued f
   pub rest : left ≡ skip (length (glue f)) f
 
-glues : (f left : Forest) (a : Punct) (ps qs : List Punct) → Some a ≡ front_punct f → glue f ≡ ps → qs ≡ ps → left ≡ skip (length ps) f → Glues f left qs
+glues : (f left : Forest) (a : Punct) (ps qs : List Punct) → Some a ≡ front_punct f → glue f ≡ ps → qs ≡ ps
+    → left ≡ skip (length ps) f → Glues f left qs
 glues f left a ps qs e h k r = record {
   value = ap Some (k ∙ sym h) ∙ ap (option_map (λ (_ : Punct). glue f)) e;
   rest = r ∙ sym (ap (λ (xs : List Punct). skip (length xs) f) h);
@@ -128,24 +138,30 @@ pub three_glued : (f ahead beyond left : Forest) (a b c : Punct) (qs : List Punc
     → Some c ≡ third_punct a b beyond → left ≡ rest_of beyond → qs ≡ a ∷ b ∷ c ∷ []
     → Glues f left qs
 three_glued f ahead beyond left a b c qs h t r k =
-    glues f left a (a ∷ b ∷ c ∷ []) qs h.first (front f ahead beyond a b h ∙ behind_three a b c beyond _ refl (sym t)) k
-    (r ∙ ap rest_of (h.behind_second ∙ ap rest_of h.behind_first))
+    glues f left a (a ∷ b ∷ c ∷ []) qs h.first (front f ahead beyond a b h ∙ after_three a b c beyond _ refl (sym t)) k
+    (r ∙ ap rest_of (h.after_second ∙ ap rest_of h.past_first))
 
-two_or_one : (f ahead beyond : Forest) (a b : Punct) (t : Bool) → Front f ahead beyond a b → None ≡ third_punct a b beyond
+two_or_one : (f ahead beyond : Forest) (a b : Punct) (t : Bool) → Front f ahead beyond a b
+    → None ≡ third_punct a b beyond
     → t ≡ is_operator (a.char ∷ b.char ∷ []) → glue f ≡ (if t then a ∷ b ∷ [] else a ∷ [])
 two_or_one f ahead beyond a b t h n e =
-    front f ahead beyond a b h ∙ (behind_two a b beyond _ refl (sym n) ∙ ap (λ (x : Bool). if x then a ∷ b ∷ [] else a ∷ []) (sym e))
+    front f ahead beyond a b h ∙ (past_two a b beyond _ refl (sym n)
+    ∙ ap (λ (x : Bool). if x then a ∷ b ∷ [] else a ∷ []) (sym e))
 
-pub two_glued : (f ahead beyond left : Forest) (a b : Punct) (qs : List Punct) (t : Bool) → Front f ahead beyond a b → None ≡ third_punct a b beyond
+pub two_glued : (f ahead beyond left : Forest) (a b : Punct) (qs : List Punct) (t : Bool) → Front f ahead beyond a b
+    → None ≡ third_punct a b beyond
     → t ≡ is_operator (a.char ∷ b.char ∷ []) → t ≡ true → left ≡ beyond → qs ≡ a ∷ b ∷ []
     → Glues f left qs
 two_glued f ahead beyond left a b qs t h n e y r k =
-    glues f left a (a ∷ b ∷ []) qs h.first (two_or_one f ahead beyond a b t h n e ∙ ap (λ (x : Bool). if x then a ∷ b ∷ [] else a ∷ []) y) k
-    (r ∙ (h.behind_second ∙ ap rest_of h.behind_first))
+    glues f left a (a ∷ b ∷ []) qs h.first
+    (two_or_one f ahead beyond a b t h n e ∙ ap (λ (x : Bool). if x then a ∷ b ∷ [] else a ∷ []) y) k
+    (r ∙ (h.after_second ∙ ap rest_of h.past_first))
 
-pub one_glued : (f ahead beyond left : Forest) (a b : Punct) (qs : List Punct) (t : Bool) → Front f ahead beyond a b → None ≡ third_punct a b beyond
+pub one_glued : (f ahead beyond left : Forest) (a b : Punct) (qs : List Punct) (t : Bool) → Front f ahead beyond a b
+    → None ≡ third_punct a b beyond
     → t ≡ is_operator (a.char ∷ b.char ∷ []) → t ≡ false → left ≡ ahead → qs ≡ a ∷ []
     → Glues f left qs
 one_glued f ahead beyond left a b qs t h n e y r k =
-    glues f left a (a ∷ []) qs h.first (two_or_one f ahead beyond a b t h n e ∙ ap (λ (x : Bool). if x then a ∷ b ∷ [] else a ∷ []) y) k
-    (r ∙ h.behind_first)
+    glues f left a (a ∷ []) qs h.first (two_or_one f ahead beyond a b t h n e
+    ∙ ap (λ (x : Bool). if x then a ∷ b ∷ [] else a ∷ []) y) k
+    (r ∙ h.past_first)

@@ -1,7 +1,7 @@
 -- Trees that are cut from the front of others.
-use Rattle.std.specs.Prelude.{◌≡◌, ◌≤◌, ◌+◌, ◌-◌, ◌&&◌, ℕ, zero, suc, Bool, true, false, if◌then◌else◌, IsTrue, List, [], ◌∷◌, ◌++◌, length, map, Option, Some, None, ◌==◌, refl, unwrap_or}
+use Rattle.std.specs.Prelude.{◌≡◌, ◌≤◌, ◌+◌, ◌-◌, ◌&&◌, ℕ, zero, suc, Bool, true, false, if◌then◌else◌, IsTrue, List, [], ◌∷◌, ◌++◌, length, map, Some, None, ◌==◌, refl}
 use Rattle.std.specs.List.{list_all}
-use Rattle.std.proofs.Common.{arith, ap, sym, ◌∙◌, subst}
+use Rattle.std.proofs.Common.{arith, ap, ◌∙◌, subst}
 use Rattle.std.proofs.Math.Bool.{false≢true}
 use Rattle.std.proofs.lemmas.Option.{none-some, same_Some}
 use Rattle.mbe_tt.specs.declared.grammar.PrefixEntryPoint.{PrefixEntryPoint}
@@ -46,9 +46,6 @@ flat_len-append none h = omega arith
 flat_len-append (leaf l rest) h = let e = flat_len-append rest h in omega (arith, e)
 flat_len-append (group d inside rest) h = let e = flat_len-append rest h in omega (arith, e)
 
-pub cut_len : (f trees rest : Forest) → IsCut f (cut trees rest) → flat_len rest ≤ flat_len f
-cut_len f trees rest e = let h = flat_len-append trees rest in let k = ap flat_len e in omega (arith, h, k)
-
 pub no_cut : {A : Type 0} {c : Cut} → None ≡ Some c → A
 no_cut {c = c} e = absurd (none-some c e)
 
@@ -56,18 +53,13 @@ pub if_cut : (f : Forest) (b : Bool) (x c : Cut) → IsCut f x → (if b then So
 if_cut f true x c h e = subst (IsCut f) (same_Some x c e) h
 if_cut f false x c h e = no_cut e
 
-pub if_moves : (b : Bool) (x c : Cut) → 1 ≤ flat_len x.front → (if b then Some x else None) ≡ Some c → 1 ≤ flat_len c.front
+pub if_moves : (b : Bool) (x c : Cut) → 1 ≤ flat_len x.front → (if b then Some x else None) ≡ Some c
+    → 1 ≤ flat_len c.front
 if_moves true x c h e = subst (λ y. 1 ≤ flat_len y.front) (same_Some x c e) h
 if_moves false x c h e = no_cut e
 
--- one answer cuts the trees in one way
-pub front_same : {a b c d : Forest} (r : Option Cut) → r ≡ Some (cut a b) → r ≡ Some (cut c d) → a ≡ c
-front_same r p q = ap (λ o. (unwrap_or o (cut none none)).front) (sym p ∙ q)
-
-pub back_same : {a b c d : Forest} (r : Option Cut) → r ≡ Some (cut a b) → r ≡ Some (cut c d) → b ≡ d
-back_same r p q = ap (λ o. (unwrap_or o (cut none none)).back) (sym p ∙ q)
-
-pub good_cut : (g : Grammar) (entry : PrefixEntryPoint) (f : Forest) (c : Cut) → good_front g entry f ≡ Some c → IsCut f c
+pub good_cut : (g : Grammar) (entry : PrefixEntryPoint) (f : Forest) (c : Cut) → good_front g entry f ≡ Some c
+    → IsCut f c
 good_cut g entry f c e = if_cut f (is_good g entry f) _ c (cut_flat-append (g.parse entry (flat f)).count f) e
 
 -- ---- flat tokens
@@ -92,7 +84,8 @@ enough n none h = h
 enough zero (leaf l rest) h = omega arith
 enough zero (group d inside rest) h = omega arith
 enough (suc n) (leaf l rest) h = let e = enough n rest (omega (arith, h)) in omega (arith, e)
-enough (suc n) (group d inside rest) h = let e = enough (n - flat_len inside - 1) rest (omega (arith, h)) in omega (arith, e)
+enough (suc n) (group d inside rest) h = let e =
+    enough (n - flat_len inside - 1) rest (omega (arith, h)) in omega (arith, e)
 
 shortest : (n : ℕ) (t h : Forest) → n ≤ flat_len t → flat_len (cut_flat n (append t h)).front ≤ flat_len t
 shortest zero none none k = omega arith
@@ -102,7 +95,8 @@ shortest (suc n) none h k = absurd (omega (arith, k))
 shortest zero (leaf l t) h k = omega arith
 shortest (suc n) (leaf l t) h k = let e = shortest n t h (omega (arith, k)) in omega (arith, e)
 shortest zero (group d inside t) h k = omega arith
-shortest (suc n) (group d inside t) h k = let e = shortest (n - flat_len inside - 1) t h (omega (arith, k)) in omega (arith, e)
+shortest (suc n) (group d inside t) h k = let e =
+    shortest (n - flat_len inside - 1) t h (omega (arith, k)) in omega (arith, e)
 
 pub shortest_cut : ShortestCut
 shortest_cut = record {

@@ -28,7 +28,8 @@ IsOneOf xs ys a b x = Inside xs ys a b x ⊎ After xs ys a b x
 one_of : (xs ys a b : List Entry) (x : Entry) → (x ≡ Close → ⊥) → xs ++ Close ∷ ys ≡ a ++ x ∷ b → IsOneOf xs ys a b x
 one_of [] ys [] b x not e = let h : Close ≡ x = cc in absurd (not (sym h))
 one_of [] ys (y ∷ a) b x not e = inr (a, cc, omega arith)
-one_of (z ∷ xs) ys [] b x not e = let h : z ≡ x = cc in let k : xs ++ Close ∷ ys ≡ b = cc in inl (xs, ap (λ (w : Entry). w ∷ xs) h, sym k)
+one_of (z ∷ xs) ys [] b x not e = let h : z ≡ x = cc in let k : xs ++ Close ∷ ys ≡ b =
+    cc in inl (xs, ap (λ (w : Entry). w ∷ xs) h, sym k)
 one_of (z ∷ xs) ys (y ∷ a) b x not e =
     let h : z ≡ y = cc in
     let k : xs ++ Close ∷ ys ≡ a ++ x ∷ b = cc in
@@ -45,7 +46,8 @@ content_follows : (f : Forest) (a b : List Entry) (s : Subtree) (n : ℕ) → sp
 content_follows none [] b s n e = cc
 content_follows none (x ∷ a) b s n e = cc
 content_follows (leaf l rest) [] b s n e = cc
-content_follows (leaf l rest) (x ∷ a) b s n e = let h : spell rest ≡ a ++ Open s n ∷ b = cc in content_follows rest a b s n h
+content_follows (leaf l rest) (x ∷ a) b s n e = let h : spell rest ≡ a ++ Open s n ∷ b =
+    cc in content_follows rest a b s n h
 content_follows (group d i rest) [] b s n e =
     let h : flat_len i ≡ n = cc in
     let k : spell i ++ Close ∷ spell rest ≡ b = cc in
@@ -66,7 +68,8 @@ holds_one : (f : Forest) (a b : List Entry) (x : Entry) → spell f ≡ a ++ x �
 holds_one f a b x e z = omega (arith, ap length e, length-append a (x ∷ b), length-spell f, ap flat_len z)
 
 -- a group whose closing is the last entry is the last tree
-pub ends_with_group : (f : Forest) (a b : List Entry) (s : Subtree) (n : ℕ) → spell f ≡ a ++ Open s n ∷ b → length b ≡ n + 1
+pub ends_with_group : (f : Forest) (a b : List Entry) (s : Subtree) (n : ℕ) → spell f ≡ a ++ Open s n ∷ b
+    → length b ≡ n + 1
     → last_invisible f ≡ option_map (λ k. length a + k) (if_invisible s.delimiter.kind)
 ends_with_group none [] b s n e len = cc
 ends_with_group none (x ∷ a) b s n e len = cc
@@ -81,13 +84,27 @@ ends_with_group (group d i rest) [] b s n e len =
     let o : record { delimiter = d } ≡ s = cc in
     let h : flat_len i ≡ n = cc in
     let k : spell i ++ Close ∷ spell rest ≡ b = cc in
-    let z : flat_len rest ≡ 0 = omega (arith, h, len, ap length k, length-append (spell i) (Close ∷ spell rest), length-spell i, length-spell rest) in
+    let z : flat_len rest ≡ 0 = omega (
+      arith,
+      h,
+      len,
+      ap length k,
+      length-append (spell i) (Close ∷ spell rest),
+      length-spell i,
+      length-spell rest,
+    ) in
     ap (λ (r : Forest). last_invisible (group d i r)) (no_entries rest z)
     ∙ (ap (λ (t : Subtree). if_invisible t.delimiter.kind) o ∙ from_zero (if_invisible s.delimiter.kind))
 ends_with_group (group d i rest) (x ∷ a) b s n e len =
     let h : spell i ++ Close ∷ spell rest ≡ a ++ Open s n ∷ b = cc in
     elim (one_of (spell i) (spell rest) a b (Open s n) (opens s n) h) [
-      | inl c ↦ absurd (omega (arith, len, content_follows i a c.0 s n c.1, ap length c.2, length-append c.0 (Close ∷ spell rest)))
+      | inl c ↦ absurd (omega (
+        arith,
+        len,
+        content_follows i a c.0 s n c.1,
+        ap length c.2,
+        length-append c.0 (Close ∷ spell rest),
+      ))
       | inr c ↦
           let p : 2 + flat_len i + length c.0 ≡ length (x ∷ a) = omega (arith, c.2, length-spell i) in
           past_group d i rest (holds_one rest c.0 b (Open s n) c.1)
@@ -96,13 +113,15 @@ ends_with_group (group d i rest) (x ∷ a) b s n e len =
           ∙ ap (λ (m : ℕ). option_map (λ k. m + k) (if_invisible s.delimiter.kind)) p))
     ]
 
-no_group_at : (before : Forest) (t : Tree) (a : List Entry) (x : Entry) → spell before ++ spell (tree t none) ≡ a ++ x ∷ [] → (x ≡ Close → ⊥)
+no_group_at : (before : Forest) (t : Tree) (a : List Entry) (x : Entry)
+    → spell before ++ spell (tree t none) ≡ a ++ x ∷ [] → (x ≡ Close → ⊥)
     → last_invisible (append before (tree t none)) ≡ None
 no_group_at before (Leaf_tree l) a x e not = last_invisible-at before (Leaf_tree l)
 no_group_at before (Group_tree d i) a x e not = absurd (not (sym (group_end before i d a x e)))
 
 -- without a closing at the end, the last tree is no group
-pub ends_with_leaf : (f : Forest) (a : List Entry) (x : Entry) → spell f ≡ a ++ x ∷ [] → (x ≡ Close → ⊥) → last_invisible f ≡ None
+pub ends_with_leaf : (f : Forest) (a : List Entry) (x : Entry) → spell f ≡ a ++ x ∷ [] → (x ≡ Close → ⊥)
+    → last_invisible f ≡ None
 ends_with_leaf f a x e not =
     elim (last_of f) [
       | inl z ↦ ap last_invisible z
@@ -115,13 +134,12 @@ shows_no_closing (e.Leaf l) not h = cc
 shows_no_closing (e.Open s n) not h = cc
 shows_no_closing (e.Close n) not h = not n refl
 
-pub empty_ending : {A : Type 0} (es : List (TheEntry A)) → es ≡ [] → None ≡ last_invisible (forest_of (entries_of es))
-empty_ending {A = A} es e = sym (ap (λ (xs : List (TheEntry A)). last_invisible (forest_of (entries_of xs))) e)
-
-pub leaf_ending : {A : Type 0} (es front : List (TheEntry A)) (x : TheEntry A) → Spelled (entries_of es) → es ≡ front ++ x ∷ [] → ((n : ℕ) → x ≡ e.Close n → ⊥)
+pub leaf_ending : {A : Type 0} (es front : List (TheEntry A)) (x : TheEntry A) → Spelled (entries_of es)
+    → es ≡ front ++ x ∷ [] → ((n : ℕ) → x ≡ e.Close n → ⊥)
     → None ≡ last_invisible (forest_of (entries_of es))
 leaf_ending es front x spelled is not =
-    sym (ends_with_leaf (forest_of (entries_of es)) (entries_of front) (entry_of x) (sym spelled ∙ shown_append es front (x ∷ []) is) (shows_no_closing x not))
+    sym (ends_with_leaf (forest_of (entries_of es)) (entries_of front) (entry_of x)
+    (sym spelled ∙ shown_append es front (x ∷ []) is) (shows_no_closing x not))
 
 -- the group from that place on is the last tree
 pub group_ending : {A : Type 0} (es content : List (TheEntry A)) (place n : ℕ) (s : Subtree) → Spelled (entries_of es)
@@ -129,21 +147,32 @@ pub group_ending : {A : Type 0} (es content : List (TheEntry A)) (place n : ℕ)
     → last_invisible (forest_of (entries_of es)) ≡ option_map (λ k. place + k) (if_invisible s.delimiter.kind)
 group_ending {A = A} es content place n s spelled is len =
     let parts : entries_of es ≡ entries_of (take place es) ++ Open s n ∷ entries_of content =
-    shown_append es (take place es) (e.Open s n ∷ content) (sym (take-append-drop place es) ∙ ap (λ (xs : List (TheEntry A)). take place es ++ xs) is) in
+    shown_append es (take place es) (e.Open s n ∷ content)
+    (sym (take-append-drop place es) ∙ ap (λ (xs : List (TheEntry A)). take place es ++ xs) is) in
     let before : length (entries_of (take place es)) ≡ place =
     length-shown (take place es) ∙ omega (arith, length-take place es, len) in
     let after : length (entries_of content) ≡ n + 1 =
-    omega (arith, before, len, ap length parts, length-shown es, length-append (entries_of (take place es)) (Open s n ∷ entries_of content)) in
-    ends_with_group (forest_of (entries_of es)) (entries_of (take place es)) (entries_of content) s n (sym spelled ∙ parts) after
+    omega (
+      arith,
+      before,
+      len,
+      ap length parts,
+      length-shown es,
+      length-append (entries_of (take place es)) (Open s n ∷ entries_of content),
+    ) in
+    ends_with_group (forest_of (entries_of es)) (entries_of (take place es)) (entries_of content) s n
+    (sym spelled ∙ parts) after
     ∙ ap (λ (m : ℕ). option_map (λ k. m + k) (if_invisible s.delimiter.kind)) before
 
-pub place_of_invisible : (k : DelimiterKind) (place : ℕ) → k ≡ Invisible → Some place ≡ option_map (λ n. place + n) (if_invisible k)
+pub place_of_invisible : (k : DelimiterKind) (place : ℕ) → k ≡ Invisible
+    → Some place ≡ option_map (λ n. place + n) (if_invisible k)
 place_of_invisible Invisible place e = let h : place ≡ place + 0 = omega arith in ap (λ (n : ℕ). Some n) h
 place_of_invisible Parenthesis place e = cc
 place_of_invisible Brace place e = cc
 place_of_invisible Bracket place e = cc
 
-pub no_place_of_visible : (k : DelimiterKind) (place : ℕ) → (k ≡ Invisible → ⊥) → None ≡ option_map (λ n. place + n) (if_invisible k)
+pub no_place_of_visible : (k : DelimiterKind) (place : ℕ) → (k ≡ Invisible → ⊥)
+    → None ≡ option_map (λ n. place + n) (if_invisible k)
 no_place_of_visible Invisible place not = absurd (not refl)
 no_place_of_visible Parenthesis place not = refl
 no_place_of_visible Brace place not = refl

@@ -32,7 +32,8 @@ last_of (group d inside rest) =
       | inr r ↦ inr (record { before = group d inside r.before; last = r.last; is = ap (group d inside) r.is })
     ]
 
-pub change_last-at : (g : Tree → Forest) (before : Forest) (t : Tree) → change_last g (append before (tree t none)) ≡ append before (g t)
+pub change_last-at : (g : Tree → Forest) (before : Forest) (t : Tree)
+    → change_last g (append before (tree t none)) ≡ append before (g t)
 change_last-at g none (Leaf_tree l) = refl
 change_last-at g none (Group_tree d i) = refl
 change_last-at g (leaf l none) (Leaf_tree m) = refl
@@ -69,14 +70,17 @@ pub spell_last : (f : Forest) (r : LastTree f) → spell f ≡ spell r.before ++
 spell_last f r = ap spell r.is ∙ spell-append r.before (tree r.last none)
 
 -- what the last entry of a forest is
-ends_leaf : (before : Forest) (l : TheLeaf) (front : List Entry) (x : Entry) → spell before ++ Leaf l ∷ [] ≡ front ++ x ∷ [] → Ends (spell before) front (Leaf l) x
+ends_leaf : (before : Forest) (l : TheLeaf) (front : List Entry) (x : Entry)
+    → spell before ++ Leaf l ∷ [] ≡ front ++ x ∷ [] → Ends (spell before) front (Leaf l) x
 ends_leaf before l front x e = ends_same (spell before) front (Leaf l) x e
 
 pub group_end : (before inside : Forest) (d : Delimiter) (front : List Entry) (x : Entry)
-    → spell before ++ Open (record { delimiter = d }) (flat_len inside) ∷ (spell inside ++ Close ∷ []) ≡ front ++ x ∷ [] → Close ≡ x
+    → spell before ++ Open (record { delimiter = d }) (flat_len inside) ∷ (spell inside ++ Close ∷ []) ≡ front ++ x ∷ []
+    → Close ≡ x
 group_end before inside d front x e =
     (ends_same (spell before ++ Open (record { delimiter = d }) (flat_len inside) ∷ spell inside) front Close x
-    (append_assoc (spell before) (Open (record { delimiter = d }) (flat_len inside) ∷ spell inside) (Close ∷ []) ∙ e)).last
+    (append_assoc (spell before) (Open (record { delimiter = d }) (flat_len inside) ∷ spell inside) (Close ∷ [])
+    ∙ e)).last
 
 alone_other : (l : TheLeaf) → leaf_punct l ≡ None → alone_leaf l ≡ l
 alone_other (literal l) e = refl
@@ -88,26 +92,24 @@ alone_is (literal l) p e = cc
 alone_is (punct q) p e = let h : q ≡ p = cc in ap (λ (k : Punct). punct (record k { spacing = Alone })) h
 alone_is (ident i) p e = cc
 
-keeps_at : (f : Forest) (before : Forest) (t : Tree) (front : List Entry) (x : Entry) → spell before ++ spell (tree t none) ≡ front ++ x ∷ [] → entry_punct x ≡ None
+keeps_at : (f : Forest) (before : Forest) (t : Tree) (front : List Entry) (x : Entry)
+    → spell before ++ spell (tree t none) ≡ front ++ x ∷ [] → entry_punct x ≡ None
     → alone_tree t ≡ tree t none
 keeps_at f before (Leaf_tree l) front x e n =
     let h = ends_leaf before l front x e in
     ap (λ (m : TheLeaf). leaf m none) (alone_other l (ap entry_punct h.last ∙ n))
 keeps_at f before (Group_tree d i) front x e n = refl
 
-pub alone_none : (f : Forest) → spell f ≡ [] → alone f ≡ f
-alone_none none e = refl
-alone_none (leaf l rest) e = cc
-alone_none (group d i rest) e = cc
-
-pub alone_keeps : (f : Forest) (front : List Entry) (x : Entry) → spell f ≡ front ++ x ∷ [] → entry_punct x ≡ None → alone f ≡ f
+pub alone_keeps : (f : Forest) (front : List Entry) (x : Entry) → spell f ≡ front ++ x ∷ [] → entry_punct x ≡ None
+    → alone f ≡ f
 alone_keeps f front x e n =
     elim (last_of f) [
       | inl z ↦ ap alone z ∙ sym z
       | inr r ↦ unchanged alone_tree f r (keeps_at f r.before r.last front x (sym (spell_last f r) ∙ e) n)
     ]
 
-punct_at : (before : Forest) (t : Tree) (front : List Entry) (x : Entry) (p : Punct) → spell before ++ spell (tree t none) ≡ front ++ x ∷ [] → entry_punct x ≡ Some p
+punct_at : (before : Forest) (t : Tree) (front : List Entry) (x : Entry) (p : Punct)
+    → spell before ++ spell (tree t none) ≡ front ++ x ∷ [] → entry_punct x ≡ Some p
     → spell before ++ spell (alone_tree t) ≡ front ++ Leaf (punct (record p { spacing = Alone })) ∷ []
 punct_at before (Leaf_tree l) front x p e n =
     let h = ends_leaf before l front x e in
@@ -119,7 +121,8 @@ punct_at before (Group_tree d i) front x p e n =
 nothing_ends : (front : List Entry) (x : Entry) → spell none ≡ front ++ x ∷ [] → ⊥
 nothing_ends front x e = let k = length-append front (x ∷ []) in omega (arith, ap length e, k)
 
-pub alone_punct : (f : Forest) (front : List Entry) (x : Entry) (p : Punct) → spell f ≡ front ++ x ∷ [] → entry_punct x ≡ Some p
+pub alone_punct : (f : Forest) (front : List Entry) (x : Entry) (p : Punct) → spell f ≡ front ++ x ∷ []
+    → entry_punct x ≡ Some p
     → front ++ Leaf (punct (record p { spacing = Alone })) ∷ [] ≡ spell (alone f)
 alone_punct f front x p e n =
     elim (last_of f) [
@@ -133,7 +136,8 @@ abbrev tree_invisible : Tree → Option ℕ
 tree_invisible (Leaf_tree l) = None
 tree_invisible (Group_tree d i) = if_invisible d.kind
 
-pub further : (a b : ℕ) (o : Option ℕ) → option_map (λ n. a + n) (option_map (λ n. b + n) o) ≡ option_map (λ n. a + b + n) o
+pub further : (a b : ℕ) (o : Option ℕ) → option_map (λ n. a + n) (option_map (λ n. b + n) o)
+    ≡ option_map (λ n. a + b + n) o
 further a b None = refl
 further a b (Some n) = let h : a + (b + n) ≡ a + b + n = omega arith in ap (λ (k : ℕ). Some k) h
 
@@ -145,11 +149,14 @@ start_at : (t : Tree) → last_invisible (tree t none) ≡ tree_invisible t
 start_at (Leaf_tree l) = refl
 start_at (Group_tree d i) = refl
 
-on_leaf : (l : TheLeaf) (before : Forest) (t : Tree) → last_invisible (append before (tree t none)) ≡ option_map (λ n. flat_len before + n) (tree_invisible t)
-    → last_invisible (leaf l (append before (tree t none))) ≡ option_map (λ n. flat_len (leaf l before) + n) (tree_invisible t)
+on_leaf : (l : TheLeaf) (before : Forest) (t : Tree)
+    → last_invisible (append before (tree t none)) ≡ option_map (λ n. flat_len before + n) (tree_invisible t)
+    → last_invisible (leaf l (append before (tree t none)))
+    ≡ option_map (λ n. flat_len (leaf l before) + n) (tree_invisible t)
 on_leaf l before t h = ap (option_map (λ n. 1 + n)) h ∙ further 1 (flat_len before) (tree_invisible t)
 
-pub past_group : (d : Delimiter) (i f : Forest) → (f ≡ none → ⊥) → last_invisible (group d i f) ≡ option_map (λ n. 2 + flat_len i + n) (last_invisible f)
+pub past_group : (d : Delimiter) (i f : Forest) → (f ≡ none → ⊥)
+    → last_invisible (group d i f) ≡ option_map (λ n. 2 + flat_len i + n) (last_invisible f)
 past_group d i none h = absurd (h refl)
 past_group d i (leaf m rest) h = refl
 past_group d i (group e j rest) h = refl
@@ -158,14 +165,17 @@ not_none : (before : Forest) (t : Tree) → append before (tree t none) ≡ none
 not_none none (Leaf_tree l) e = let h : 1 + flat_len none ≡ 0 = ap flat_len e in omega arith
 not_none none (Group_tree d i) e = let h : 2 + flat_len i + flat_len none ≡ 0 = ap flat_len e in omega arith
 not_none (leaf l rest) t e = let h : 1 + flat_len (append rest (tree t none)) ≡ 0 = ap flat_len e in omega arith
-not_none (group d i rest) t e = let h : 2 + flat_len i + flat_len (append rest (tree t none)) ≡ 0 = ap flat_len e in omega arith
+not_none (group d i rest) t e = let h : 2 + flat_len i + flat_len (append rest (tree t none)) ≡ 0 =
+    ap flat_len e in omega arith
 
-pub last_invisible-at : (before : Forest) (t : Tree) → last_invisible (append before (tree t none)) ≡ option_map (λ n. flat_len before + n) (tree_invisible t)
+pub last_invisible-at : (before : Forest) (t : Tree)
+    → last_invisible (append before (tree t none)) ≡ option_map (λ n. flat_len before + n) (tree_invisible t)
 last_invisible-at none t = start_at t ∙ from_zero (tree_invisible t)
 last_invisible-at (leaf l rest) t = on_leaf l rest t (last_invisible-at rest t)
 last_invisible-at (group d i rest) t =
     past_group d i (append rest (tree t none)) (not_none rest t)
-    ∙ (ap (option_map (λ n. 2 + flat_len i + n)) (last_invisible-at rest t) ∙ further (2 + flat_len i) (flat_len rest) (tree_invisible t))
+    ∙ (ap (option_map (λ n. 2 + flat_len i + n)) (last_invisible-at rest t)
+    ∙ further (2 + flat_len i) (flat_len rest) (tree_invisible t))
 
 pub record EndsInvisible (f : Forest) (n : ℕ) : Type 0 where
   pub before : Forest
@@ -187,7 +197,8 @@ kind_zero Parenthesis m e = cc
 kind_zero Brace m e = cc
 kind_zero Bracket m e = cc
 
-kind_keep : (d : Delimiter) (k : DelimiterKind) (i : Forest) → if_invisible k ≡ None → strip_group d k i ≡ group d i none
+kind_keep : (d : Delimiter) (k : DelimiterKind) (i : Forest) → if_invisible k ≡ None
+    → strip_group d k i ≡ group d i none
 kind_keep d Invisible i e = cc
 kind_keep d Parenthesis i e = refl
 kind_keep d Brace i e = refl
@@ -201,7 +212,8 @@ back_of_none : (a : ℕ) (o : Option ℕ) → option_map (λ k. a + k) o ≡ Non
 back_of_none a None e = refl
 back_of_none a (Some m) e = cc
 
-ends_at : (f before : Forest) (t : Tree) (n : ℕ) → f ≡ append before (tree t none) → option_map (λ k. flat_len before + k) (tree_invisible t) ≡ Some n → EndsInvisible f n
+ends_at : (f before : Forest) (t : Tree) (n : ℕ) → f ≡ append before (tree t none)
+    → option_map (λ k. flat_len before + k) (tree_invisible t) ≡ Some n → EndsInvisible f n
 ends_at f before (Leaf_tree l) n is e = cc
 ends_at f before (Group_tree d i) n is e =
     let b = back_of_map (flat_len before) n (if_invisible d.kind) e in
@@ -211,14 +223,16 @@ ends_at f before (Group_tree d i) n is e =
       inside = i;
       is = is;
       place = omega (arith, b.2, kind_zero d.kind b.0 b.1);
-      unwrapped_is = ap unwrapped is ∙ (change_last-at strip_tree before (Group_tree d i) ∙ ap (append before) (kind_strip d d.kind i b.0 b.1));
+      unwrapped_is = ap unwrapped is ∙ (change_last-at strip_tree before (Group_tree d i)
+          ∙ ap (append before) (kind_strip d d.kind i b.0 b.1));
     }
 
 pub ends_invisible : (f : Forest) (n : ℕ) → Some n ≡ last_invisible f → EndsInvisible f n
 ends_invisible f n e =
     elim (last_of f) [
       | inl z ↦ (let h : Some n ≡ last_invisible none = e ∙ ap last_invisible z in cc)
-      | inr r ↦ ends_at f r.before r.last n r.is (sym (last_invisible-at r.before r.last) ∙ (sym (ap last_invisible r.is) ∙ sym e))
+      | inr r ↦ ends_at f r.before r.last n r.is
+          (sym (last_invisible-at r.before r.last) ∙ (sym (ap last_invisible r.is) ∙ sym e))
     ]
 
 keep_at : (t : Tree) → tree_invisible t ≡ None → strip_tree t ≡ tree t none
@@ -230,7 +244,8 @@ unwrapped_same f e =
     elim (last_of f) [
       | inl z ↦ ap unwrapped z ∙ sym z
       | inr r ↦ unchanged strip_tree f r
-          (keep_at r.last (back_of_none (flat_len r.before) (tree_invisible r.last) (sym (last_invisible-at r.before r.last) ∙ (sym (ap last_invisible r.is) ∙ sym e))))
+          (keep_at r.last (back_of_none (flat_len r.before) (tree_invisible r.last)
+          (sym (last_invisible-at r.before r.last) ∙ (sym (ap last_invisible r.is) ∙ sym e))))
     ]
 
 pub flat_rest : (f : Forest) → flat_len (rest_of f) ≤ flat_len f
@@ -243,7 +258,8 @@ pub record Passed (all next : Forest) (place : ℕ) : Type 0 where
   pub last : option_map (λ n. place + n) (last_invisible next) ≡ last_invisible all
 
 -- one more tree consumed, which is not the last
-pub passed_one : (all iter next : Forest) (place now : ℕ) → place + flat_len iter ≡ flat_len all → option_map (λ n. place + n) (last_invisible iter) ≡ last_invisible all
+pub passed_one : (all iter next : Forest) (place now : ℕ) → place + flat_len iter ≡ flat_len all
+    → option_map (λ n. place + n) (last_invisible iter) ≡ last_invisible all
     → next ≡ rest_of iter → (next ≡ none → ⊥) → now + flat_len next ≡ flat_len all → Passed all next now
 passed_one all none next place now len last e some h = absurd (some e)
 passed_one all (leaf l rest) next place now len last e some h =

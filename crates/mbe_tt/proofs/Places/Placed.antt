@@ -8,7 +8,7 @@ use Rattle.mbe_tt.specs.Buffers.Place.{Rests, step, walk, rests, closings, spell
 use Rattle.mbe_tt.specs.Views.Entry.{Entry}
 use Rattle.mbe_tt.specs.Views.Entry.{Leaf, Open, Close}
 use Rattle.std.proofs.lemmas.Bool.{cases_lt}
-use Rattle.mbe_tt.proofs.Places.PlaceLemmas.{rest_at-zero, rest_at-in_group, rest_at-behind_group, depth_at-in_group, depth_at-behind_group}
+use Rattle.mbe_tt.proofs.Places.PlaceLemmas.{rest_at-zero, rest_at-in_group, rest_at-following_group, depth_at-in_group, depth_at-following_group}
 use Rattle.mbe_tt.proofs.Buffers.Spelled.{length-spell, spell-append, take_front}
 
 spell_rests-step : (f : Forest) (around : List Forest) → drop 1 (spell_rests (f, around)) ≡ spell_rests (step f around)
@@ -31,7 +31,8 @@ drop-walk (suc n) r = drop-suc n (spell_rests r) ∙ (ap (drop n) (spell_rests-s
 
 pub walk-step : (n : ℕ) (r : Rests) → walk (n + 1) r ≡ step (walk n r).0 (walk n r).1
 walk-step zero r = refl
-walk-step (suc n) r = rw (add-one) (ap (λ (k : ℕ). walk k (step r.0 r.1)) (sym (add-one n)) ∙ walk-step n (step r.0 r.1))
+walk-step (suc n) r = rw (add-one) (ap (λ (k : ℕ). walk k (step r.0 r.1)) (sym (add-one n))
+    ∙ walk-step n (step r.0 r.1))
 
 -- what is left from a place on
 pub left_is : (f : Forest) (n : ℕ) (es : List Entry) → es ≡ spell f → drop n es ≡ spell_rests (rests f n)
@@ -42,14 +43,16 @@ depth_after_at : (f : Forest) (around : List Forest) (x : Entry) (es : List Entr
 depth_after_at none [] x es e = cc
 depth_after_at none (rest ∷ around) x es e = let h : Close ≡ x = cc in rw (← h) (omega arith)
 depth_after_at (leaf l rest) around x es e = let h : Leaf l ≡ x = cc in rw (← h) refl
-depth_after_at (group d inside rest) around x es e = let h : Open (record { delimiter = d }) (flat_len inside) ≡ x = cc in rw (← h) (omega arith)
+depth_after_at (group d inside rest) around x es e = let h : Open (record { delimiter = d }) (flat_len inside) ≡ x =
+    cc in rw (← h) (omega arith)
 
 pub length-closings : (around : List Forest) → length around ≤ length (closings around)
 length-closings [] = omega arith
 length-closings (rest ∷ around) = omega (arith, length-closings around, length-append (spell rest) (closings around))
 
 -- the next flat token at a place, and the groups around before and after it
-pub depth_after : (f : Forest) (n : ℕ) (es : List Entry) (x : Entry) (more : List Entry) → es ≡ spell f → drop n es ≡ x ∷ more
+pub depth_after : (f : Forest) (n : ℕ) (es : List Entry) (x : Entry) (more : List Entry) → es ≡ spell f
+    → drop n es ≡ x ∷ more
     → DepthAfter x (length (rests f n).1) (length (rests f (n + 1)).1)
 depth_after f n es x more e h =
     let r : Rests = rests f n in
@@ -70,17 +73,20 @@ abbrev pub at : Forest → ℕ → Forest × ℕ
 at f n = (f, n)
 
 -- the place after one flat token
-pub bumped : (v : Forest × ℕ) (f : Forest) (n : ℕ) → at f n ≡ v → n + 1 ≤ flat_len f → at f (n + 1) ≡ at v.0 (min (v.1 + 1) (flat_len v.0))
+pub bumped : (v : Forest × ℕ) (f : Forest) (n : ℕ) → at f n ≡ v → n + 1 ≤ flat_len f
+    → at f (n + 1) ≡ at v.0 (min (v.1 + 1) (flat_len v.0))
 bumped v f n e h =
     let m : n + 1 ≡ min (n + 1) (flat_len f) = omega arith in
     ap (at f) m ∙ ap (λ (w : Forest × ℕ). at w.0 (min (w.1 + 1) (flat_len w.0))) e
 
-pub not_bumped : (v : Forest × ℕ) (f : Forest) (n : ℕ) → at f n ≡ v → n ≡ flat_len f → v ≡ at v.0 (min (v.1 + 1) (flat_len v.0))
+pub not_bumped : (v : Forest × ℕ) (f : Forest) (n : ℕ) → at f n ≡ v → n ≡ flat_len f
+    → v ≡ at v.0 (min (v.1 + 1) (flat_len v.0))
 not_bumped v f n e h =
     let m : n ≡ min (n + 1) (flat_len f) = omega arith in
     sym e ∙ (ap (at f) m ∙ ap (λ (w : Forest × ℕ). at w.0 (min (w.1 + 1) (flat_len w.0))) e)
 
-pub next_depth : (f : Forest) (n depth : ℕ) (es : List Entry) (x : Entry) (more : List Entry) → es ≡ spell f → depth ≡ length (rests f n).1 → drop n es ≡ x ∷ more
+pub next_depth : (f : Forest) (n depth : ℕ) (es : List Entry) (x : Entry) (more : List Entry) → es ≡ spell f
+    → depth ≡ length (rests f n).1 → drop n es ≡ x ∷ more
     → DepthAfter x depth (length (rests f (n + 1)).1)
 next_depth f n depth es x more e d h = rw d (depth_after f n es x more e h)
 
@@ -102,10 +108,12 @@ walk_all (group d inside rest) around =
     ∙ (ap (walk (suc (flat_len rest))) (walk_all inside (rest ∷ around)) ∙ walk_all rest around))
 
 -- after a group's opening: its content is consumed, and its closing
-past_group : (inside rest : Forest) (around : List Forest) (n m : ℕ) → n ≡ flat_len inside + suc m → walk n (inside, rest ∷ around) ≡ walk m (rest, around)
+past_group : (inside rest : Forest) (around : List Forest) (n m : ℕ) → n ≡ flat_len inside + suc m
+    → walk n (inside, rest ∷ around) ≡ walk m (rest, around)
 past_group inside rest around n m e =
     ap (λ (k : ℕ). walk k (inside, rest ∷ around)) e
-    ∙ (walk_split (flat_len inside) (suc m) (inside, rest ∷ around) ∙ ap (walk (suc m)) (walk_all inside (rest ∷ around)))
+    ∙ (walk_split (flat_len inside) (suc m) (inside, rest ∷ around)
+    ∙ ap (walk (suc m)) (walk_all inside (rest ∷ around)))
 
 within_at : (n m : ℕ) → (n ≤ m) ⊎ (n ≡ m + suc (n - m - 1))
 within_at n m = elim (cases_lt m n) [ inl lt ↦ inr (omega arith) | inr le ↦ inl le ]
@@ -119,11 +127,13 @@ rest_at-walk (group d inside rest) around (suc n) h =
     elim (within_at n (flat_len inside)) [
       | inl le ↦ rest_at-walk inside (rest ∷ around) n le ∙ sym (rest_at-in_group d inside rest n le)
       | inr e ↦ ap (λ (r : Rests). r.0) (past_group inside rest around n (n - flat_len inside - 1) e)
-          ∙ (rest_at-walk rest around (n - flat_len inside - 1) (omega arith) ∙ sym (rest_at-behind_group d inside rest n (omega arith)))
+          ∙ (rest_at-walk rest around (n - flat_len inside - 1) (omega arith)
+          ∙ sym (rest_at-following_group d inside rest n (omega arith)))
     ]
 
 -- as many groups are left around a place as the definition counts
-pub depth_at-walk : (f : Forest) (around : List Forest) (n : ℕ) → n ≤ flat_len f → length (walk n (f, around)).1 ≡ depth_at f n + length around
+pub depth_at-walk : (f : Forest) (around : List Forest) (n : ℕ) → n ≤ flat_len f
+    → length (walk n (f, around)).1 ≡ depth_at f n + length around
 depth_at-walk none around zero h = omega arith
 depth_at-walk (leaf l rest) around zero h = omega arith
 depth_at-walk (group d inside rest) around zero h = omega arith
@@ -136,7 +146,7 @@ depth_at-walk (group d inside rest) around (suc n) h =
           omega (arith, e, k))
       | inr past ↦ (let m : ℕ = n - flat_len inside - 1 in
           let e = depth_at-walk rest around m (omega arith) in
-          let k = depth_at-behind_group d inside rest n (omega arith) in
+          let k = depth_at-following_group d inside rest n (omega arith) in
           let w = ap (λ (r : Rests). length r.1) (past_group inside rest around n m past) in
           omega (arith, e, k, w))
     ]
@@ -167,7 +177,11 @@ walk_within (group d inside rest) around (suc n) h =
       | inl le ↦ (let w = walk_within inside (rest ∷ around) n le in
           record { more = w.more ++ rest ∷ []; is = w.is ∙ sym (append_assoc w.more (rest ∷ []) around) })
       | inr e ↦ (let w = walk_within rest around (n - flat_len inside - 1) (omega arith) in
-          record { more = w.more; is = ap (λ (r : Rests). r.1) (past_group inside rest around n (n - flat_len inside - 1) e) ∙ w.is })
+          record {
+            more = w.more;
+            is = ap (λ (r : Rests). r.1)
+                (past_group inside rest around n (n - flat_len inside - 1) e) ∙ w.is;
+          })
     ]
 
 pub record Crossed (f : Forest) (n : ℕ) : Type 0 where
@@ -198,41 +212,32 @@ crossed_is (group d inside rest) (suc n) h root =
           })
     ]
 
-pub passed_entries : (f : Forest) (n : ℕ) (es : List Entry) (c : Crossed f n) → es ≡ spell f → take n es ≡ spell c.passed
+pub passed_entries : (f : Forest) (n : ℕ) (es : List Entry) (c : Crossed f n) → es ≡ spell f
+    → take n es ≡ spell c.passed
 passed_entries f n es c e =
-    take_front n (spell c.passed) (spell (rests f n).0) es (sym c.len ∙ sym (length-spell c.passed)) (e ∙ (ap spell c.is ∙ spell-append c.passed (rests f n).0))
+    take_front n (spell c.passed) (spell (rests f n).0) es (sym c.len ∙ sym (length-spell c.passed))
+    (e ∙ (ap spell c.is ∙ spell-append c.passed (rests f n).0))
 
-pub closings-root : (around : List Forest) → around ≡ [] → closings around ≡ []
-closings-root around e = ap closings e
-
-pub left_at_root : (f : Forest) (n : ℕ) (es : List Entry) → es ≡ spell f → (rests f n).1 ≡ [] → drop n es ≡ spell (rests f n).0
+pub left_at_root : (f : Forest) (n : ℕ) (es : List Entry) → es ≡ spell f → (rests f n).1 ≡ []
+    → drop n es ≡ spell (rests f n).0
 left_at_root f n es e root =
-    left_is f n es e ∙ (ap (λ (a : List Forest). spell (rests f n).0 ++ closings a) root ∙ append-nil (spell (rests f n).0))
+    left_is f n es e ∙ (ap (λ (a : List Forest). spell (rests f n).0 ++ closings a) root
+    ∙ append-nil (spell (rests f n).0))
 
 first_none : (f : Forest) (a : List Forest) → spell_rests (f, a) ≡ [] → first f ≡ None
 first_none none a e = refl
 first_none (leaf l rest) a e = cc
 first_none (group d inside rest) a e = cc
 
-first_closed : (f : Forest) (a : List Forest) (es : List Entry) → spell_rests (f, a) ≡ Close ∷ es → first f ≡ None
-first_closed none a es e = refl
-first_closed (leaf l rest) a es e = cc
-first_closed (group d inside rest) a es e = cc
-
-pub no_tree : (r : Rests) (left : List Entry) → left ≡ spell_rests r → length left ≡ 0 → first r.0 ≡ None
-no_tree r [] e h = first_none r.0 r.1 (sym e)
-no_tree r (x ∷ left) e h = absurd (omega arith)
-
-pub no_tree_closed : (r : Rests) (left more : List Entry) → left ≡ spell_rests r → left ≡ Close ∷ more → first r.0 ≡ None
-no_tree_closed r left more e h = first_closed r.0 r.1 more (sym e ∙ h)
-
-first_leaf : (f : Forest) (a : List Forest) (l : TheLeaf) (es : List Entry) → spell_rests (f, a) ≡ Leaf l ∷ es → first f ≡ Some (Leaf_tree l)
+first_leaf : (f : Forest) (a : List Forest) (l : TheLeaf) (es : List Entry) → spell_rests (f, a) ≡ Leaf l ∷ es
+    → first f ≡ Some (Leaf_tree l)
 first_leaf none [] l es e = cc
 first_leaf none (g ∷ a) l es e = cc
 first_leaf (leaf m rest) a l es e = let h : m ≡ l = cc in ap (λ (x : TheLeaf). Some (Leaf_tree x)) h
 first_leaf (group d inside rest) a l es e = cc
 
-pub leaf_tree : (r : Rests) (left more : List Entry) (l : TheLeaf) → left ≡ spell_rests r → left ≡ Leaf l ∷ more → first r.0 ≡ Some (Leaf_tree l)
+pub leaf_tree : (r : Rests) (left more : List Entry) (l : TheLeaf) → left ≡ spell_rests r → left ≡ Leaf l ∷ more
+    → first r.0 ≡ Some (Leaf_tree l)
 leaf_tree r left more l e h = first_leaf r.0 r.1 l more (sym e ∙ h)
 
 pub record FirstGroup (r : Rests) (s : Subtree) (n : ℕ) (more : List Entry) : Type 0 where
@@ -242,7 +247,8 @@ pub record FirstGroup (r : Rests) (s : Subtree) (n : ℕ) (more : List Entry) : 
   pub len : n ≡ length (spell inside)
   pub entries : more ≡ spell inside ++ behind
 
-first_group_at : (f : Forest) (a : List Forest) (s : Subtree) (n : ℕ) (more : List Entry) → spell_rests (f, a) ≡ Open s n ∷ more → FirstGroup (f, a) s n more
+first_group_at : (f : Forest) (a : List Forest) (s : Subtree) (n : ℕ) (more : List Entry)
+    → spell_rests (f, a) ≡ Open s n ∷ more → FirstGroup (f, a) s n more
 first_group_at none [] s n more e = cc
 first_group_at none (g ∷ a) s n more e = cc
 first_group_at (leaf l rest) a s n more e = cc
@@ -258,5 +264,6 @@ first_group_at (group d inside rest) a s n more e =
       entries = sym m ∙ append_assoc (spell inside) (Close ∷ spell rest) (closings a);
     }
 
-pub first_group : (r : Rests) (left : List Entry) (s : Subtree) (n : ℕ) (more : List Entry) → left ≡ spell_rests r → left ≡ Open s n ∷ more → FirstGroup r s n more
+pub first_group : (r : Rests) (left : List Entry) (s : Subtree) (n : ℕ) (more : List Entry) → left ≡ spell_rests r
+    → left ≡ Open s n ∷ more → FirstGroup r s n more
 first_group r left s n more e h = first_group_at r.0 r.1 s n more (sym e ∙ h)

@@ -77,17 +77,25 @@ pub record Closes (es : List Entry) : Type 0 where
   pub around : (read es).around ≡ []
   pub level : (read es).level ≡ none
 
-read-written : (b : Levels) (es : List Entry) → Closes es → (read (written b ++ es)).unclosed ≡ onto b (read es).unclosed
+read-written : (b : Levels) (es : List Entry) → Closes es
+    → (read (written b ++ es)).unclosed ≡ onto b (read es).unclosed
 read-written [] es h = refl
 read-written (g ∷ outer) es h =
     let tail : List Entry = Open (record { delimiter = g.0 }) (current outer) ∷ (spell g.1 ++ es) in
     let reads : read tail ≡ record { level = none; around = []; unclosed = g ∷ (read es).unclosed } =
     ap (λ (r : Reading). open_at (record { delimiter = g.0 }) r.level r.around r.unclosed) (read-spell g.1 es)
-    ∙ (ap (λ (a : List Forest). open_at (record { delimiter = g.0 }) (append g.1 (read es).level) a (read es).unclosed) h.around
-    ∙ (ap (λ (f : Forest). let r : Reading = record { level = none; around = []; unclosed = (g.0, append g.1 f) ∷ (read es).unclosed } in r) h.level
-    ∙ ap (λ (f : Forest). let r : Reading = record { level = none; around = []; unclosed = (g.0, f) ∷ (read es).unclosed } in r) (append-none g.1))) in
-    let closes : Closes tail = record { around = ap (λ (r : Reading). r.around) reads; level = ap (λ (r : Reading). r.level) reads } in
-    ap (λ (x : List Entry). (read x).unclosed) (append_assoc (written outer) (Open (record { delimiter = g.0 }) (current outer) ∷ spell g.1) es)
+    ∙ (ap (λ (a : List Forest). open_at (record { delimiter = g.0 }) (append g.1 (read es).level) a (read es).unclosed)
+    h.around
+    ∙ (ap (λ (f : Forest). let r : Reading =
+    record { level = none; around = []; unclosed = (g.0, append g.1 f) ∷ (read es).unclosed } in r) h.level
+    ∙ ap (λ (f : Forest). let r : Reading =
+    record { level = none; around = []; unclosed = (g.0, f) ∷ (read es).unclosed } in r) (append-none g.1))) in
+    let closes : Closes tail = record {
+      around = ap (λ (r : Reading). r.around) reads;
+      level = ap (λ (r : Reading). r.level) reads;
+    } in
+    ap (λ (x : List Entry). (read x).unclosed)
+    (append_assoc (written outer) (Open (record { delimiter = g.0 }) (current outer) ∷ spell g.1) es)
     ∙ (read-written outer tail closes ∙ ap (λ (r : Reading). onto outer r.unclosed) reads)
 
 pub levels_of-written : (b : Levels) → levels_of (written b) ≡ b

@@ -23,7 +23,8 @@ front g entry f = cut_flat (g.parse entry (flat f)).count f
 
 -- the grammar doesn't fault, and what it counted ends in no group
 abbrev pub is_good : Grammar → PrefixEntryPoint → Forest → Bool
-is_good g entry f = not (g.parse entry (flat f)).fault && (flat_len (front g entry f).front == (g.parse entry (flat f)).count)
+is_good g entry f = not (g.parse entry (flat f)).fault
+    && (flat_len (front g entry f).front == (g.parse entry (flat f)).count)
 
 abbrev pub good_front : Grammar → PrefixEntryPoint → Forest → Option Cut
 good_front g entry f = if is_good g entry f then Some (front g entry f) else None

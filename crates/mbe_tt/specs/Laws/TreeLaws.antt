@@ -24,15 +24,17 @@ pub record CutsKeepTrees : Type 0 where
 -- the shortest list of whole trees at the front that holds n flat tokens
 pub record ShortestCut : Type 0 where
   pub enough : (n : ℕ) (f : Forest) → n ≤ flat_len f → n ≤ flat_len (cut_flat n f).front
-  pub shortest : (n : ℕ) (f : Forest) (c : Cut) → IsCut f c → n ≤ flat_len c.front → flat_len (cut_flat n f).front ≤ flat_len c.front
+  pub shortest : (n : ℕ) (f : Forest) (c : Cut) → IsCut f c → n ≤ flat_len c.front
+      → flat_len (cut_flat n f).front ≤ flat_len c.front
 
 -- what is left after some trees doesn't depend on these
-abbrev pub RestBehindTrees : Type 0
-RestBehindTrees = (trees back : Forest) (n : ℕ) → rest_at (append trees back) (flat_len trees + n) ≡ rest_at back n
+abbrev pub RestAfterTrees : Type 0
+RestAfterTrees = (trees back : Forest) (n : ℕ) → rest_at (append trees back) (flat_len trees + n) ≡ rest_at back n
 
 -- after an opening is what is left of the group's content
 abbrev pub RestInGroup : Type 0
-RestInGroup = (d : Delimiter) (inside rest : Forest) (n : ℕ) → n ≤ flat_len inside → rest_at (group d inside rest) (1 + n) ≡ rest_at inside n
+RestInGroup = (d : Delimiter) (inside rest : Forest) (n : ℕ) → n ≤ flat_len inside
+    → rest_at (group d inside rest) (1 + n) ≡ rest_at inside n
 
 -- trees taken one after the other: each is one tree, there are as many as the forest has, and together they are the
 -- forest; and they are those that an iterator gives
@@ -47,7 +49,11 @@ pub record EachTreeOnce : Type 0 where
 -- a punct of one byte before other trees
 abbrev pub mark_at : ℕ → Spacing → ℕ → Forest → Forest
 mark_at char spacing start rest =
-    leaf (punct (record { char = char; spacing = spacing; span = record { file = 1; ast = 0; start = start; end = start + 1; ctx = record { 0 = 0 } } })) rest
+    leaf (punct (record {
+      char = char;
+      spacing = spacing;
+      span = record { file = 1; ast = 0; start = start; end = start + 1; ctx = record { 0 = 0 } };
+    })) rest
 
 -- `;+` isn't taken together, `..=` is, and of `..+` the first two are; alone puncts stay apart
 pub record GluedExamples : Type 0 where

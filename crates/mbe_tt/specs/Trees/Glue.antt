@@ -42,7 +42,8 @@ joined (suc n) _ = []
 
 -- the punct that makes an operator of three with the two before it
 abbrev pub third_punct : Punct → Punct → Forest → Option Punct
-third_punct a b f = option_and_then (λ c. if is_operator (chars_of (a ∷ b ∷ c ∷ [])) then Some c else None) (joined_punct b.spacing f)
+third_punct a b f = option_and_then (λ c. if is_operator (chars_of (a ∷ b ∷ c ∷ [])) then Some c else None)
+    (joined_punct b.spacing f)
 
 -- an operator of three goes before one of two; a single punct where there is neither
 abbrev pub longest_operator : List Punct → List Punct

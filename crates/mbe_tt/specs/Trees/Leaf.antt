@@ -87,4 +87,5 @@ row_leaf-leaf_row (punct p) = refl
 row_leaf-leaf_row (ident i) = refl
 
 abbrev pub leaf_code : Coded Leaf
-leaf_code = code_by LeafRow (coded⊎ literal_code (coded⊎ p.the_row.coded ident_code)) leaf_row row_leaf row_leaf-leaf_row
+leaf_code = code_by LeafRow (coded⊎ literal_code (coded⊎ p.the_row.coded ident_code)) leaf_row row_leaf
+    row_leaf-leaf_row

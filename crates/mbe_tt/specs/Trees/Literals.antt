@@ -20,11 +20,13 @@ ident_text i = raw_prefix i.is_raw ++ i.sym
 
 -- no char of the text is torn by a cut before this byte
 abbrev pub is_cut : List ℕ → ℕ → Bool
-is_cut text n = if nat_lt n (length text) then nat_lt (slice_index text n) 128 || nat_lt 191 (slice_index text n) else true
+is_cut text n = if nat_lt n (length text) then nat_lt (slice_index text n) 128
+    || nat_lt 191 (slice_index text n) else true
 
 -- the length of the text before the suffix
 abbrev pub text_len : List ℕ → ℕ → ℕ
-text_len text suffix = if nat_lt (length text) suffix then length text else if is_cut text (length text - suffix) then length text - suffix else length text
+text_len text suffix = if nat_lt (length text) suffix then length text else if is_cut text (length text - suffix) then
+    length text - suffix else length text
 
 -- the text without its suffix
 abbrev pub literal_text : Literal → List ℕ

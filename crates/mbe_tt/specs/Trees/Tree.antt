@@ -218,7 +218,8 @@ last_invisible none = None
 last_invisible (leaf l rest) = option_map (λ n. 1 + n) (last_invisible rest)
 last_invisible (group d inside none) = if_invisible d.kind
 last_invisible (group d inside (leaf l rest)) = option_map (λ n. 2 + flat_len inside + n) (last_invisible (leaf l rest))
-last_invisible (group d inside (group e more rest)) = option_map (λ n. 2 + flat_len inside + n) (last_invisible (group e more rest))
+last_invisible (group d inside (group e more rest)) =
+    option_map (λ n. 2 + flat_len inside + n) (last_invisible (group e more rest))
 
 -- ---- places
 

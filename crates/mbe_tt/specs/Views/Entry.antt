@@ -37,7 +37,8 @@ row_entry-entry_row Close = refl
 
 -- the code by which entries are compared
 abbrev pub entry_code : Coded Entry
-entry_code = code_by EntryRow (coded_option (coded⊎ leaf_code (coded× t.the_row.coded coded_ℕ))) entry_row row_entry row_entry-entry_row
+entry_code = code_by EntryRow (coded_option (coded⊎ leaf_code (coded× t.the_row.coded coded_ℕ))) entry_row row_entry
+    row_entry-entry_row
 
 -- the punct that an entry is
 abbrev pub entry_punct : Entry → Option Punct

@@ -6,4 +6,5 @@ use Rattle.mbe_calling_tests.proofs.theorem.applied.Goals as goal
 -- With an error no rule applies: where one does, `expand` reports none.
 pub returns-in-Some-clause-none : goal.returns-in-Some-clause-none
 returns-in-Some-clause-none g c = λ _ rule inside applies.
-    absurd (true≢false (sym (ap (λ e. is_some (errors_of e)) c.in-Some.is) ∙ c.in_ok-expanded.ensures.expands.complete rule inside applies))
+    absurd (true≢false (sym (ap (λ e. is_some (errors_of e)) c.in-Some.is)
+    ∙ c.in_ok-expanded.ensures.expands.complete rule inside applies))

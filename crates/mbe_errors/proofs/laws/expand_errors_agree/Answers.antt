@@ -4,7 +4,8 @@ use Rattle.mbe_semantics.specs.Expansion.Error.{ExpandError}
 use Rattle.mbe_errors.proofs.laws.expand_errors_agree.Goals as goal
 
 -- a test of two parts
-both_parts : (a b : Bool) (P Q R : Type 0) → IsTrue a ↔ P → IsTrue b ↔ Q → (P → Q → R) → (R → P) → (R → Q) → IsTrue (a && b) ↔ R
+both_parts : (a b : Bool) (P Q R : Type 0) → IsTrue a ↔ P → IsTrue b ↔ Q → (P → Q → R) → (R → P) → (R → Q)
+    → IsTrue (a && b) ↔ R
 both_parts true b P Q R p q join left right = (λ h. join (p.0 refl) (q.0 h), λ r. q.1 (right r))
 both_parts false b P Q R p q join left right = (λ h. absurd (true≢false (sym h)), λ r. p.1 (left r))
 

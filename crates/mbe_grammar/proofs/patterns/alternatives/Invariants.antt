@@ -6,7 +6,8 @@ use Rattle.mbe_grammar.specs.SampleGrammar.{takes, Alternative}
 use Rattle.mbe_grammar.proofs.patterns.alternatives.Given as goal
 
 abbrev pub invariant-alternatives : goal.invariant-alternatives
-invariant-alternatives g l = in_turn (takes Alternative) (trees l.rest) ≡ in_turn (takes Alternative) (trees l.fn.tokens)
+invariant-alternatives g l = in_turn (takes Alternative) (trees l.rest)
+    ≡ in_turn (takes Alternative) (trees l.fn.tokens)
 
 abbrev pub decreases-alternatives : goal.decreases-alternatives
 decreases-alternatives g l = flat_len (trees l.rest)

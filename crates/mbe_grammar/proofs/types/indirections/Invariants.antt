@@ -6,7 +6,8 @@ use Rattle.mbe_grammar.specs.SampleGrammar.{takes, Indirection}
 use Rattle.mbe_grammar.proofs.types.indirections.Given as goal
 
 abbrev pub invariant-indirections : goal.invariant-indirections
-invariant-indirections g l = in_turn (takes Indirection) (trees l.rest) ≡ in_turn (takes Indirection) (trees l.fn.tokens)
+invariant-indirections g l = in_turn (takes Indirection) (trees l.rest)
+    ≡ in_turn (takes Indirection) (trees l.fn.tokens)
 
 abbrev pub decreases-indirections : goal.decreases-indirections
 decreases-indirections g l = flat_len (trees l.rest)

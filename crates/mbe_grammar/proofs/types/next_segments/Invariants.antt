@@ -6,7 +6,8 @@ use Rattle.mbe_grammar.specs.SampleGrammar.{takes, NextSegment}
 use Rattle.mbe_grammar.proofs.types.next_segments.Given as goal
 
 abbrev pub invariant-segments : goal.invariant-segments
-invariant-segments g l = in_turn (takes (NextSegment l.style)) (trees l.rest) ≡ in_turn (takes (NextSegment l.style)) (trees l.fn.tokens)
+invariant-segments g l = in_turn (takes (NextSegment l.style)) (trees l.rest)
+    ≡ in_turn (takes (NextSegment l.style)) (trees l.fn.tokens)
 
 abbrev pub decreases-segments : goal.decreases-segments
 decreases-segments g l = flat_len (trees l.rest)

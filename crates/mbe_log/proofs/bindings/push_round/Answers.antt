@@ -12,7 +12,8 @@ loop-alloc-preserved g c =
       filling =
           rw c.in_ok-push.ensures.items
           (filling c.args.number c.loop-alloc.list.items c.args.list.now.items _ short
-          (seen-nested c.new.result ∙ ap (λ xs. list (all_values (map value_seen xs))) c.new.ensures.items) c.loop-alloc.invariant.filling);
+          (seen-nested c.new.result ∙ ap (λ xs. list (all_values (map value_seen xs))) c.new.ensures.items)
+          c.loop-alloc.invariant.filling);
     }
 
 pub returns : goal.returns

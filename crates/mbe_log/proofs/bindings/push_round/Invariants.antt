@@ -6,7 +6,8 @@ use Rattle.mbe_log.proofs.bindings.push_round.Given as goal
 abbrev pub invariant-loop-alloc : goal.invariant-loop-alloc
 invariant-loop-alloc g l = record {
   same : l.value ≡ l.fn.value;
-  filling : filled l.number (all_values (map value_seen l.list.items)) ≡ filled l.number (all_values (map value_seen l.fn.list.items));
+  filling : filled l.number (all_values (map value_seen l.list.items))
+      ≡ filled l.number (all_values (map value_seen l.fn.list.items));
 }
 
 abbrev pub decreases-loop-alloc : goal.decreases-loop-alloc

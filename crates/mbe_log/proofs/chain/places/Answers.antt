@@ -3,11 +3,13 @@ use Rattle.mbe_log.proofs.chain.places.Goals as goal
 
 pub loop-next-smaller : goal.loop-next-smaller
 loop-next-smaller g c =
-    left-falls-at _ _ _ _ _ _ _ c.requires.chained c.in-Some.is c.loop-next.invariant.2 c.index-lists-part.is c.cut-link.ensures.link
+    left-falls-at _ _ _ _ _ _ _ c.requires.chained c.in-Some.is c.loop-next.invariant.2 c.index-lists-part.is
+    c.cut-link.ensures.link
 
 pub loop-next-preserved : goal.loop-next-preserved
 loop-next-preserved g c =
-    places-step _ _ _ _ _ _ _ _ _ c.requires.chained c.in-Some.is c.loop-next.invariant c.index-lists-part.is c.cut-link.ensures.link c.cut-link.ensures.own
+    places-step _ _ _ _ _ _ _ _ _ c.requires.chained c.in-Some.is c.loop-next.invariant c.index-lists-part.is
+    c.cut-link.ensures.link c.cut-link.ensures.own
     c.in_ok-push_places.ensures
 
 pub returns : goal.returns

@@ -5,5 +5,8 @@ use Rattle.mbe_log.proofs.chain.push_places.Goals as goal
 
 pub loop-first-preserved : goal.loop-first-preserved
 loop-first-preserved g c =
-    ap (λ x. x ++ places_down c.args.list (c.loop-first.first - 1)) c.in_ok-push.ensures.items ∙ append_assoc c.loop-first.places.items (record { list = c.args.list; first = c.loop-first.first - 1 } ∷ []) (places_down c.args.list (c.loop-first.first - 1))
-    ∙ ap (λ x. c.loop-first.places.items ++ x) (sym (down-one c.args.list c.loop-first.first c.loop-first-test.true)) ∙ c.loop-first.invariant
+    ap (λ x. x ++ places_down c.args.list (c.loop-first.first - 1)) c.in_ok-push.ensures.items
+    ∙ append_assoc c.loop-first.places.items (record { list = c.args.list; first = c.loop-first.first - 1 } ∷ [])
+    (places_down c.args.list (c.loop-first.first - 1))
+    ∙ ap (λ x. c.loop-first.places.items ++ x) (sym (down-one c.args.list c.loop-first.first c.loop-first-test.true))
+    ∙ c.loop-first.invariant

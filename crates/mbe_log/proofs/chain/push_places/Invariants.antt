@@ -3,7 +3,8 @@ use Rattle.mbe_log.specs.Chain.{places_down}
 use Rattle.mbe_log.proofs.chain.push_places.Given as goal
 
 abbrev pub invariant-loop-first : goal.invariant-loop-first
-invariant-loop-first g l = l.places.items ++ places_down l.list l.first ≡ l.fn.places.items ++ places_down l.list l.count
+invariant-loop-first g l = l.places.items ++ places_down l.list l.first
+    ≡ l.fn.places.items ++ places_down l.list l.count
 
 abbrev pub decreases-loop-first : goal.decreases-loop-first
 decreases-loop-first g l = l.first

@@ -15,10 +15,13 @@ binding_counts-loop-value-preserved g t c =
     let b = binding_count (value_seen x) in
     let rest = binding_counts (values_seen (drop (i + 1) xs)) in
     let most : ℕ = 18446744073709551615 in
-    let step : binding_counts (values_seen (drop i xs)) ≡ b + rest = counts_step xs i x c.loop-value-test.true c.value-item.is in
-    let now : more ≡ min (count + min b most) most = c.saturating_add-count.ensures ∙ ap (λ n. min (count + n) most) c.binding_count.ensures in
+    let step : binding_counts (values_seen (drop i xs)) ≡ b + rest =
+    counts_step xs i x c.loop-value-test.true c.value-item.is in
+    let now : more ≡ min (count + min b most) most =
+    c.saturating_add-count.ensures ∙ ap (λ n. min (count + n) most) c.binding_count.ensures in
     record {
-      counted = c.loop-value.invariant.counted ∙ ap (λ n. min (count + n) most) step ∙ sym (ap (λ n. min (n + rest) most) now ∙ stopped most count b rest);
+      counted = c.loop-value.invariant.counted ∙ ap (λ n. min (count + n) most) step
+          ∙ sym (ap (λ n. min (n + rest) most) now ∙ stopped most count b rest);
       most = let l = c.saturating_add-count.type_inv in omega (arith, l);
     }
 

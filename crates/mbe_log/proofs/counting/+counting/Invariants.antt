@@ -5,6 +5,7 @@ use Rattle.mbe_log.proofs.counting.+counting.Given as goal
 
 abbrev pub invariant-binding_counts-loop-value : goal.invariant-binding_counts-loop-value
 invariant-binding_counts-loop-value g l = record {
-  counted : min (binding_counts (values_seen l.values)) 18446744073709551615 ≡ min (l.count + binding_counts (values_seen (drop l.value-index l.values))) 18446744073709551615;
+  counted : min (binding_counts (values_seen l.values)) 18446744073709551615
+      ≡ min (l.count + binding_counts (values_seen (drop l.value-index l.values))) 18446744073709551615;
   most : l.count ≤ 18446744073709551615;
 }

@@ -20,43 +20,56 @@ build_part-loop-place-init g t c = λ xs e cs h. (no_commands, h, c.new-bindings
 pub build_part-bounds-commands-place : goal.build_part-bounds-commands-place
 build_part-bounds-commands-place g t c =
     let short : c.loop-place.place-index < length c.deref-place-items.result.now = search rules in
-    list_there c.args.commands.now c.args.part c.in_ok-found.found.items c.deref-place-items.result.now c.in_ok-found.ensures c.deref-place-items.ensures.value
+    list_there c.args.commands.now c.args.part c.in_ok-found.found.items c.deref-place-items.result.now
+    c.in_ok-found.ensures c.deref-place-items.ensures.value
     c.loop-place.place-index _ short
 
 pub build_part-own_at-command-requires : goal.build_part-own_at-command-requires
 build_part-own_at-command-requires g t c =
     let short : c.loop-place.place-index < length c.deref-place-items.result.now = search rules in
-    own_in_list c.args.commands.now c.args.part c.in_ok-found.found.items c.deref-place-items.result.now c.in_ok-found.ensures c.deref-place-items.ensures.value
+    own_in_list c.args.commands.now c.args.part c.in_ok-found.found.items c.deref-place-items.result.now
+    c.in_ok-found.ensures c.deref-place-items.ensures.value
     c.loop-place.place-index _ c.index-commands-place.result short c.index-commands-place.is
 
 pub build_part-bind_command-requires : goal.build_part-bind_command-requires
 build_part-bind_command-requires g t c =
     let short : c.loop-place.place-index < length c.deref-place-items.result.now = search rules in
-    let grounded : IsCommandGrounded (log_of c.args.commands.now c.args.rounds.now) (entry_seen c.own_at-command.result.now) c.args.depth =
-    grounded_command c.args.commands.now c.args.rounds.now c.deref-place-items.result.now c.loop-place.place-index (bound_by c.loop-place.bindings)
+    let grounded : IsCommandGrounded (log_of c.args.commands.now c.args.rounds.now)
+    (entry_seen c.own_at-command.result.now) c.args.depth =
+    grounded_command c.args.commands.now c.args.rounds.now c.deref-place-items.result.now c.loop-place.place-index
+    (bound_by c.loop-place.bindings)
     c.own_at-command.result.now c.loop-place.invariant
-    (same_entry c.args.commands.now c.args.part c.in_ok-found.found.items c.deref-place-items.result.now c.in_ok-found.ensures c.deref-place-items.ensures.value
-    c.loop-place.place-index _ c.index-commands-place.result c.own_at-command.result.now short c.index-commands-place.is c.own_at-command.ensures)
-    c.args.part c.in_ok-found.found.items c.args.depth c.in_ok-found.ensures c.deref-place-items.ensures.value c.requires.grounded in
+    (same_entry c.args.commands.now c.args.part c.in_ok-found.found.items c.deref-place-items.result.now
+    c.in_ok-found.ensures c.deref-place-items.ensures.value
+    c.loop-place.place-index _ c.index-commands-place.result c.own_at-command.result.now short c.index-commands-place.is
+    c.own_at-command.ensures)
+    c.args.part c.in_ok-found.found.items c.args.depth c.in_ok-found.ensures c.deref-place-items.ensures.value
+    c.requires.grounded in
     search (rules, grounded)
 
 pub build_part-loop-place-preserved : goal.build_part-loop-place-preserved
 build_part-loop-place-preserved g t c =
     let short : c.loop-place.place-index < length c.deref-place-items.result.now = search rules in
-    built-step c.args.commands.now c.args.rounds.now c.deref-place-items.result.now c.loop-place.place-index (bound_by c.loop-place.bindings)
+    built-step c.args.commands.now c.args.rounds.now c.deref-place-items.result.now c.loop-place.place-index
+    (bound_by c.loop-place.bindings)
     c.own_at-command.result.now c.loop-place.invariant
-    (same_entry c.args.commands.now c.args.part c.in_ok-found.found.items c.deref-place-items.result.now c.in_ok-found.ensures c.deref-place-items.ensures.value
-    c.loop-place.place-index _ c.index-commands-place.result c.own_at-command.result.now short c.index-commands-place.is c.own_at-command.ensures)
+    (same_entry c.args.commands.now c.args.part c.in_ok-found.found.items c.deref-place-items.result.now
+    c.in_ok-found.ensures c.deref-place-items.ensures.value
+    c.loop-place.place-index _ c.index-commands-place.result c.own_at-command.result.now short c.index-commands-place.is
+    c.own_at-command.ensures)
     (bound_by c.bind_command.new.bindings) c.in_ok-bind_command.ensures
 
 pub build_part-returns : goal.build_part-returns
 build_part-returns g t c =
     let long : length c.deref-place-items.result.now ≤ c.loop-place.place-index = search rules in
-    built-end c.args.commands.now c.args.rounds.now c.deref-place-items.result.now c.loop-place.place-index (bound_by c.loop-place.bindings)
-    c.args.part c.in_ok-found.found.items c.loop-place.invariant c.in_ok-found.ensures c.deref-place-items.ensures.value long
+    built-end c.args.commands.now c.args.rounds.now c.deref-place-items.result.now c.loop-place.place-index
+    (bound_by c.loop-place.bindings)
+    c.args.part c.in_ok-found.found.items c.loop-place.invariant c.in_ok-found.ensures c.deref-place-items.ensures.value
+    long
 
 pub bind_rounds-places-requires-clause-within : goal.bind_rounds-places-requires-clause-within
-bind_rounds-places-requires-clause-within g t c = is_rounds_within c.args.commands.now c.args.rounds.now c.requires.grounded.2
+bind_rounds-places-requires-clause-within g t c =
+    is_rounds_within c.args.commands.now c.args.rounds.now c.requires.grounded.2
 
 pub bind_rounds-loop-number-init : goal.bind_rounds-loop-number-init
 bind_rounds-loop-number-init g t c = λ xs e rs h. (no_command_rounds, h, refl, refl)
@@ -64,54 +77,68 @@ bind_rounds-loop-number-init g t c = λ xs e rs h. (no_command_rounds, h, refl, 
 pub bind_rounds-bounds-rounds-place : goal.bind_rounds-bounds-rounds-place
 bind_rounds-bounds-rounds-place g t c =
     let short : c.loop-number.number < length c.deref-place-items.result.now = search rules in
-    list_there c.args.rounds.now c.args.finished c.in_ok-found.found.items c.deref-place-items.result.now c.in_ok-found.ensures c.deref-place-items.ensures.value
+    list_there c.args.rounds.now c.args.finished c.in_ok-found.found.items c.deref-place-items.result.now
+    c.in_ok-found.ensures c.deref-place-items.ensures.value
     c.loop-number.number _ short
 
 pub bind_rounds-own_at-part-requires : goal.bind_rounds-own_at-part-requires
 bind_rounds-own_at-part-requires g t c =
     let short : c.loop-number.number < length c.deref-place-items.result.now = search rules in
-    own_in_list c.args.rounds.now c.args.finished c.in_ok-found.found.items c.deref-place-items.result.now c.in_ok-found.ensures c.deref-place-items.ensures.value
+    own_in_list c.args.rounds.now c.args.finished c.in_ok-found.found.items c.deref-place-items.result.now
+    c.in_ok-found.ensures c.deref-place-items.ensures.value
     c.loop-number.number _ c.index-rounds-place.result short c.index-rounds-place.is
 
 pub bind_rounds-bind_round-requires : goal.bind_rounds-bind_round-requires
 bind_rounds-bind_round-requires g t c =
     let short : c.loop-number.number < length c.deref-place-items.result.now = search rules in
     let grounded : IsPartGrounded (log_of c.args.commands.now c.args.rounds.now) c.own_at-part.result.now c.args.depth =
-    grounded_round c.args.commands.now c.args.rounds.now c.deref-place-items.result.now c.loop-number.number (bound_by c.args.bindings.now)
+    grounded_round c.args.commands.now c.args.rounds.now c.deref-place-items.result.now c.loop-number.number
+    (bound_by c.args.bindings.now)
     (bound_by c.loop-number.bindings) c.own_at-part.result.now c.loop-number.invariant
-    (same_entry c.args.rounds.now c.args.finished c.in_ok-found.found.items c.deref-place-items.result.now c.in_ok-found.ensures c.deref-place-items.ensures.value
-    c.loop-number.number _ c.index-rounds-place.result c.own_at-part.result.now short c.index-rounds-place.is c.own_at-part.ensures)
-    c.args.finished c.args.last c.in_ok-found.found.items c.args.depth c.in_ok-found.ensures c.deref-place-items.ensures.value c.requires.grounded in
+    (same_entry c.args.rounds.now c.args.finished c.in_ok-found.found.items c.deref-place-items.result.now
+    c.in_ok-found.ensures c.deref-place-items.ensures.value
+    c.loop-number.number _ c.index-rounds-place.result c.own_at-part.result.now short c.index-rounds-place.is
+    c.own_at-part.ensures)
+    c.args.finished c.args.last c.in_ok-found.found.items c.args.depth c.in_ok-found.ensures
+    c.deref-place-items.ensures.value c.requires.grounded in
     search (rules, grounded)
 
 pub bind_rounds-loop-number-preserved : goal.bind_rounds-loop-number-preserved
 bind_rounds-loop-number-preserved g t c =
     let short : c.loop-number.number < length c.deref-place-items.result.now = search rules in
-    bound-step c.args.commands.now c.args.rounds.now c.deref-place-items.result.now c.loop-number.number (bound_by c.args.bindings.now)
+    bound-step c.args.commands.now c.args.rounds.now c.deref-place-items.result.now c.loop-number.number
+    (bound_by c.args.bindings.now)
     (bound_by c.loop-number.bindings) c.own_at-part.result.now c.loop-number.invariant
-    (same_entry c.args.rounds.now c.args.finished c.in_ok-found.found.items c.deref-place-items.result.now c.in_ok-found.ensures c.deref-place-items.ensures.value
-    c.loop-number.number _ c.index-rounds-place.result c.own_at-part.result.now short c.index-rounds-place.is c.own_at-part.ensures)
+    (same_entry c.args.rounds.now c.args.finished c.in_ok-found.found.items c.deref-place-items.result.now
+    c.in_ok-found.ensures c.deref-place-items.ensures.value
+    c.loop-number.number _ c.index-rounds-place.result c.own_at-part.result.now short c.index-rounds-place.is
+    c.own_at-part.ensures)
     (bound_by c.bind_round.new.bindings) c.in_ok-bind_round.ensures
 
 pub bind_rounds-returns : goal.bind_rounds-returns
 bind_rounds-returns g t c =
     let long : length c.deref-place-items.result.now ≤ c.loop-number.number = search rules in
     let count : c.loop-number.number ≡ length c.in_ok-found.found.items = search rules in
-    bound-end c.args.commands.now c.args.rounds.now c.deref-place-items.result.now c.loop-number.number (bound_by c.args.bindings.now)
-    (bound_by c.loop-number.bindings) (bound_by c.bind_round-2.new.bindings) c.args.finished c.args.last c.in_ok-found.found.items
+    bound-end c.args.commands.now c.args.rounds.now c.deref-place-items.result.now c.loop-number.number
+    (bound_by c.args.bindings.now)
+    (bound_by c.loop-number.bindings) (bound_by c.bind_round-2.new.bindings) c.args.finished c.args.last
+    c.in_ok-found.found.items
     c.loop-number.invariant c.in_ok-found.ensures c.deref-place-items.ensures.value long count
-    (λ cs p. c.in_ok-bind_round-2.ensures cs p ∙ ap (λ n. add_round_in n (run cs []) (bound_by c.loop-number.bindings)) (search rules))
+    (λ cs p. c.in_ok-bind_round-2.ensures cs p
+    ∙ ap (λ n. add_round_in n (run cs []) (bound_by c.loop-number.bindings)) (search rules))
 
 pub build_part-offset_bounds-commands-place : goal.build_part-offset_bounds-commands-place
 build_part-offset_bounds-commands-place g t c =
     let short : c.loop-place.place-index < length c.deref-place-items.result.now = search rules in
-    let k = list_there c.args.commands.now c.args.part c.in_ok-found.found.items c.deref-place-items.result.now c.in_ok-found.ensures c.deref-place-items.ensures.value
+    let k = list_there c.args.commands.now c.args.part c.in_ok-found.found.items c.deref-place-items.result.now
+    c.in_ok-found.ensures c.deref-place-items.ensures.value
     c.loop-place.place-index (record { list = 0; first = 0 }) short in omega (arith, k)
 
 pub bind_rounds-offset_bounds-rounds-place : goal.bind_rounds-offset_bounds-rounds-place
 bind_rounds-offset_bounds-rounds-place g t c =
     let short : c.loop-number.number < length c.deref-place-items.result.now = search rules in
-    let k = list_there c.args.rounds.now c.args.finished c.in_ok-found.found.items c.deref-place-items.result.now c.in_ok-found.ensures c.deref-place-items.ensures.value
+    let k = list_there c.args.rounds.now c.args.finished c.in_ok-found.found.items c.deref-place-items.result.now
+    c.in_ok-found.ensures c.deref-place-items.ensures.value
     c.loop-number.number (record { list = 0; first = 0 }) short in omega (arith, k)
 
 pub bind_round-only-requires : goal.bind_round-only-requires
@@ -119,37 +146,54 @@ bind_round-only-requires g t c = is_within c.args.commands.now c.args.rounds.now
 
 pub bind_round-returns-in-Some-Fragment : goal.bind_round-returns-in-Some-Fragment
 bind_round-returns-in-Some-Fragment g t c =
-    bound_alone c.args.commands.now c.args.rounds.now c.args.part c.args.number (bound_by c.args.bindings.now) (bound_by c.grow.new.self)
+    bound_alone c.args.commands.now c.args.rounds.now c.args.part c.args.number (bound_by c.args.bindings.now)
+    (bound_by c.grow.new.self)
     c.in-Some-Fragment.name c.in-Some-Fragment.fragment
-    (subst (λ e. Flat c.args.commands.now c.args.part (e ∷ [])) c.in-Some-Fragment.field-0-is c.in-Some-Fragment.ensures)
+    (subst (λ e. Flat c.args.commands.now c.args.part (e ∷ [])) c.in-Some-Fragment.field-0-is
+    c.in-Some-Fragment.ensures)
     (c.in_ok-grow.ensures ∙ ap (λ v. grown_in c.args.number (bound_by c.args.bindings.now) c.in-Some-Fragment.name v
-    (value_of (bound_by c.args.bindings.now) c.in-Some-Fragment.name)) (seen-fragment _ ∙ ap fragment c.in_ok-try_clone.ensures))
+    (value_of (bound_by c.args.bindings.now) c.in-Some-Fragment.name))
+    (seen-fragment _ ∙ ap fragment c.in_ok-try_clone.ensures))
 
 pub bind_round-returns : goal.bind_round-returns
 bind_round-returns g t c =
-    bound_apart c.args.commands.now c.args.rounds.now c.args.part c.args.number (bound_by c.args.bindings.now) (bound_by c.add_round.new.self)
+    bound_apart c.args.commands.now c.args.rounds.now c.args.part c.args.number (bound_by c.args.bindings.now)
+    (bound_by c.add_round.new.self)
     (bound_by c.in_ok-round.round) c.in_ok-round.ensures c.in_ok-add_round.ensures
 
 pub bind_command-returns-in_ok-try_clone-in-Fragment : goal.bind_command-returns-in_ok-try_clone-in-Fragment
 bind_command-returns-in_ok-try_clone-in-Fragment g t c =
-    written_by c.insert.result (GivesCommand (log_of c.args.commands.now c.args.rounds.now) (entry_seen c.args.command.now)) (Command.binds c.in-Fragment.name (fragment_seen c.in-Fragment.fragment))
-    (bound_by c.args.bindings.now) (bound_by c.insert.new.self) (rw c.in_ok-try_clone-in-Fragment.ensures at (rw (seen-fragment c.in_ok-try_clone-in-Fragment.field-0) at c.insert.ensures.ok))
-    (λ d p. subst (λ x. GivesCommand (log_of c.args.commands.now c.args.rounds.now) (entry_seen x) d) c.in-Fragment.is p)
+    written_by c.insert.result (GivesCommand (log_of c.args.commands.now c.args.rounds.now)
+    (entry_seen c.args.command.now)) (Command.binds c.in-Fragment.name (fragment_seen c.in-Fragment.fragment))
+    (bound_by c.args.bindings.now) (bound_by c.insert.new.self)
+    (rw c.in_ok-try_clone-in-Fragment.ensures at
+    (rw (seen-fragment c.in_ok-try_clone-in-Fragment.field-0) at c.insert.ensures.ok))
+    (λ d p. subst (λ x. GivesCommand (log_of c.args.commands.now c.args.rounds.now) (entry_seen x) d) c.in-Fragment.is
+    p)
 
 pub bind_command-returns-in-Optional : goal.bind_command-returns-in-Optional
 bind_command-returns-in-Optional g t c =
-    written_by c.insert-in-Optional.result (GivesCommand (log_of c.args.commands.now c.args.rounds.now) (entry_seen c.args.command.now)) (Command.binds_nothing c.in-Optional.name)
-    (bound_by c.args.bindings.now) (bound_by c.insert-in-Optional.new.self) (rw (seen-fragment {A = g.row.A.Denot} Empty) at c.insert-in-Optional.ensures.ok)
-    (λ d p. subst (λ x. GivesCommand (log_of c.args.commands.now c.args.rounds.now) (entry_seen x) d) c.in-Optional.is p)
+    written_by c.insert-in-Optional.result
+    (GivesCommand (log_of c.args.commands.now c.args.rounds.now) (entry_seen c.args.command.now))
+    (Command.binds_nothing c.in-Optional.name)
+    (bound_by c.args.bindings.now) (bound_by c.insert-in-Optional.new.self)
+    (rw (seen-fragment {A = g.row.A.Denot} Empty) at c.insert-in-Optional.ensures.ok)
+    (λ d p. subst (λ x. GivesCommand (log_of c.args.commands.now c.args.rounds.now) (entry_seen x) d) c.in-Optional.is
+    p)
 
 pub bind_command-returns-in-Empty : goal.bind_command-returns-in-Empty
 bind_command-returns-in-Empty g t c =
-    written_by c.insert-in-Empty.result (GivesCommand (log_of c.args.commands.now c.args.rounds.now) (entry_seen c.args.command.now)) (Command.skips c.in-Empty.name)
-    (bound_by c.args.bindings.now) (bound_by c.insert-in-Empty.new.self) (rw (seen-empty g.row.A.Denot) at c.insert-in-Empty.ensures.ok)
+    written_by c.insert-in-Empty.result (GivesCommand (log_of c.args.commands.now c.args.rounds.now)
+    (entry_seen c.args.command.now)) (Command.skips c.in-Empty.name)
+    (bound_by c.args.bindings.now) (bound_by c.insert-in-Empty.new.self)
+    (rw (seen-empty g.row.A.Denot) at c.insert-in-Empty.ensures.ok)
     (λ d p. subst (λ x. GivesCommand (log_of c.args.commands.now c.args.rounds.now) (entry_seen x) d) c.in-Empty.is p)
 
 pub bind_command-returns-in-Missing : goal.bind_command-returns-in-Missing
 bind_command-returns-in-Missing g t c =
-    written_by c.insert-in-Missing.result (GivesCommand (log_of c.args.commands.now c.args.rounds.now) (entry_seen c.args.command.now)) (Command.misses c.in-Missing.name c.in-Missing.kind)
-    (bound_by c.args.bindings.now) (bound_by c.insert-in-Missing.new.self) (rw (seen-missing g.row.A.Denot c.in-Missing.kind) at c.insert-in-Missing.ensures.ok)
+    written_by c.insert-in-Missing.result
+    (GivesCommand (log_of c.args.commands.now c.args.rounds.now) (entry_seen c.args.command.now))
+    (Command.misses c.in-Missing.name c.in-Missing.kind)
+    (bound_by c.args.bindings.now) (bound_by c.insert-in-Missing.new.self)
+    (rw (seen-missing g.row.A.Denot c.in-Missing.kind) at c.insert-in-Missing.ensures.ok)
     (λ d p. subst (λ x. GivesCommand (log_of c.args.commands.now c.args.rounds.now) (entry_seen x) d) c.in-Missing.is p)

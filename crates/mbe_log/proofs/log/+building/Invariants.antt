@@ -19,4 +19,5 @@ abbrev pub invariant-build_part-loop-place : goal.invariant-build_part-loop-plac
 invariant-build_part-loop-place g l = IsBuiltSoFar l.commands l.rounds l.place-items l.place-index (bound_by l.bindings)
 
 abbrev pub invariant-bind_rounds-loop-number : goal.invariant-bind_rounds-loop-number
-invariant-bind_rounds-loop-number g l = AreBoundSoFar l.commands l.rounds l.place-items l.number (bound_by l.fn.bindings) (bound_by l.bindings)
+invariant-bind_rounds-loop-number g l =
+    AreBoundSoFar l.commands l.rounds l.place-items l.number (bound_by l.fn.bindings) (bound_by l.bindings)

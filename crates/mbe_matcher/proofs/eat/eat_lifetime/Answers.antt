@@ -1,6 +1,6 @@
 use Rattle.std.proofs.Common.{◌≡◌, sym, ap, ◌∙◌, Some, rules}
 use Rattle.mbe_tt.specs.Trees.Tree.{cut_trees, rest_of, skip, any_ident, front_char}
-use Rattle.mbe_ops.proofs.Fragments.{passed_to, left_behind, taken, lifetime_in_front}
+use Rattle.mbe_ops.proofs.Fragments.{passed_to, left_following, taken, lifetime_in_front}
 use Rattle.mbe_matcher.proofs.eat.eat_lifetime.Goals as goal
 
 pub from_savepoint-requires : goal.from_savepoint-requires
@@ -19,4 +19,4 @@ returns-in-Ok g c =
     let name = sym c.in-Ok.ensures.value in
     let here = lifetime_in_front f _ quote (ap any_ident (sym behind) ∙ name) in
     let whole = passed_to 2 f _ _ c.savepoint-savepoint.ensures left in
-    taken c.from_savepoint.result _ (cut_trees 2 f) _ here (c.from_savepoint.ensures _ whole) (left_behind 2 f _ left)
+    taken c.from_savepoint.result _ (cut_trees 2 f) _ here (c.from_savepoint.ensures _ whole) (left_following 2 f _ left)

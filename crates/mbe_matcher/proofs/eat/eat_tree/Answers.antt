@@ -1,7 +1,7 @@
 use Rattle.std.proofs.Common.{◌≡◌, ap, ◌∙◌, length, Some, option_map, rules}
 use Rattle.mbe_tt.specs.Trees.Tree.{Forest, none, tree, first, cut_trees, rest_of, front_char}
 use Rattle.mbe_tt.specs.Trees.Glue.{glue}
-use Rattle.mbe_ops.proofs.Fragments.{passed_to, left_behind, taken, quoted, puncts_in_front, one_tree, no_puncts}
+use Rattle.mbe_ops.proofs.Fragments.{passed_to, left_following, taken, quoted, puncts_in_front, one_tree, no_puncts}
 use Rattle.mbe_matcher.proofs.eat.eat_tree.Goals as goal
 
 pub returns-then-is_ok : goal.returns-then-is_ok
@@ -24,7 +24,7 @@ returns-in-Ok g c =
     let here = puncts_in_front f _ no_quote c.in-Ok.ensures.value in
     let whole = passed_to (length (glue f)) f _ _ c.savepoint-savepoint.ensures c.expect_glued_punct.ensures.rest in
     taken c.from_savepoint.result _ (cut_trees (length (glue f)) f) _ here
-    (c.from_savepoint.ensures _ whole) (left_behind (length (glue f)) f _ c.expect_glued_punct.ensures.rest)
+    (c.from_savepoint.ensures _ whole) (left_following (length (glue f)) f _ c.expect_glued_punct.ensures.rest)
 
 pub returns-in-Err : goal.returns-in-Err
 returns-in-Err g c =

@@ -1,6 +1,6 @@
 use Rattle.std.proofs.Common.{◌∙◌}
 use Rattle.mbe_tt.specs.Views.View.{trees}
-use Rattle.mbe_matcher.proofs.WholeFronts.{counted_within, stands_at, good_counted, bad_counted, behind_all_groups, crossed_front, left_back}
+use Rattle.mbe_matcher.proofs.WholeFronts.{counted_within, stands_at, good_counted, bad_counted, after_all_groups, crossed_front, left_back}
 use Rattle.mbe_matcher.proofs.fragment.eat_front.Goals as goal
 use Rattle.mbe_matcher.proofs.fragment.eat_front.Goals.{then-not-front, else-not-front}
 
@@ -23,7 +23,7 @@ flat_advance_to-requires-clause-root g c =
     c.in_ok-front.front (trees c.remaining-remaining.result)
     c.remaining-remaining.ensures c.in_ok-front.ensures c.cursor_at-cursor.result c.cursor_at-cursor.ensures
     c.leave_groups.new.cursor c.leave_groups.ensures in
-    behind_all_groups _ _ c.leave_groups.new.cursor at
+    after_all_groups _ _ c.leave_groups.new.cursor at
 
 pub crossed-requires : goal.crossed-requires
 crossed-requires g c =
@@ -31,7 +31,7 @@ crossed-requires g c =
     c.in_ok-front.front (trees c.remaining-remaining.result)
     c.remaining-remaining.ensures c.in_ok-front.ensures c.cursor_at-cursor.result c.cursor_at-cursor.ensures
     c.leave_groups.new.cursor c.leave_groups.ensures in
-    behind_all_groups _ _ c.leave_groups.new.cursor at
+    after_all_groups _ _ c.leave_groups.new.cursor at
 
 pub returns-clause-whole : goal.returns-clause-whole
 returns-clause-whole g c =

@@ -26,8 +26,10 @@ copied_ops-copied_op-requires g t c κs within =
 pub copied_op-returns-in_ok-copied_between-in-Repeat : goal.copied_op-returns-in_ok-copied_between-in-Repeat
 copied_op-returns-in_ok-copied_between-in-Repeat g t c =
     let here = c.in-Repeat in
-    copied_repetition c.in_ok-copied_ops-in-Repeat.field-0 here.tokens c.deref.result.now here.kind c.in_ok-copied_between-in-Repeat.field-0 here.separator
-    c.in_ok-copied_ops-in-Repeat.ensures c.deref.ensures.value c.in_ok-copied_between-in-Repeat.ensures ∙ sym (ap op_of here.is)
+    copied_repetition c.in_ok-copied_ops-in-Repeat.field-0 here.tokens c.deref.result.now here.kind
+    c.in_ok-copied_between-in-Repeat.field-0 here.separator
+    c.in_ok-copied_ops-in-Repeat.ensures c.deref.ensures.value c.in_ok-copied_between-in-Repeat.ensures
+    ∙ sym (ap op_of here.is)
 
 pub copied_op-returns-in_ok-copied_ops-in-Subtree : goal.copied_op-returns-in_ok-copied_ops-in-Subtree
 copied_op-returns-in_ok-copied_ops-in-Subtree g t c =
@@ -37,5 +39,6 @@ copied_op-returns-in_ok-copied_ops-in-Subtree g t c =
 
 pub copied_ops-loop-op-preserved : goal.copied_ops-loop-op-preserved
 copied_ops-loop-op-preserved g t c =
-    one_copied op_of c.loop-op.copy.items c.push.new.self.items c.args.ops.now c.loop-op.op-index c.op-item.result c.in_ok-op.op c.loop-op-test.true c.op-item.is
+    one_copied op_of c.loop-op.copy.items c.push.new.self.items c.args.ops.now c.loop-op.op-index c.op-item.result
+    c.in_ok-op.op c.loop-op-test.true c.op-item.is
     c.in_ok-push.ensures.items c.in_ok-op.ensures c.loop-op.invariant

@@ -24,8 +24,8 @@ invariant-template_within-trees g l = record {
 abbrev pub decreases-template_within-trees : goal.decreases-template_within-trees
 decreases-template_within-trees g l = flat_len l.src
 
-abbrev pub decreases-behind_dollar : goal.decreases-behind_dollar
-decreases-behind_dollar g l = 2 * flat_len l.src.now
+abbrev pub decreases-after_dollar : goal.decreases-after_dollar
+decreases-after_dollar g l = 2 * flat_len l.src.now
 
 abbrev pub decreases-repetition : goal.decreases-repetition
 decreases-repetition g l = 2 * flat_len l.body + 2

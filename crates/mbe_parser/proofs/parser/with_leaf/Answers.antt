@@ -6,4 +6,7 @@ use Rattle.mbe_parser.proofs.parser.with_leaf.Goals as goal
 
 pub returns-in-Some-clause-fault : goal.returns-in-Some-clause-fault
 returns-in-Some-clause-fault g c =
-    rw (c.in-Literal.is, c.in-Some.is) (refl, literal_alone (separator_seen c.in-Some._whole) (literal_of c.in-Literal.literal))
+    rw (c.in-Literal.is, c.in-Some.is) (
+      refl,
+      literal_alone (separator_seen c.in-Some._whole) (literal_of c.in-Literal.literal),
+    )

@@ -7,7 +7,8 @@ use Rattle.mbe_parser.proofs.rules.parse_one_rule.Goals as goal
 pub returns-in-Err : goal.returns-in-Err
 returns-in-Err g c =
     let stops = rw c.in_ok-fault-in-Err.ensures at c.in-Err.ensures.fault in
-    one_fault _ c.in_ok-fault-in-Err.fault c.args.args c.args.body (rules_seen c.new-rules.result.items) (ap rules_seen c.new-rules.ensures.items) stops
+    one_fault _ c.in_ok-fault-in-Err.fault c.args.args c.args.body (rules_seen c.new-rules.result.items)
+    (ap rules_seen c.new-rules.ensures.items) stops
 
 pub returns : goal.returns
 returns g c =

@@ -1,41 +1,52 @@
 use Rattle.std.proofs.Common.{◌≡◌, ap, sym, ◌∙◌}
 use Rattle.mbe_semantics.specs.Syntax.Definition.{style_at, styled_at, pattern_at}
-use Rattle.mbe_parser.proofs.RuleTreeLemmas.{after_unsafe, after_attr, after_derive, after_nothing, behind_group, no_group}
+use Rattle.mbe_parser.proofs.RuleTreeLemmas.{after_unsafe, after_attr, after_derive, after_nothing, following_group, no_group}
 use Rattle.mbe_parser.proofs.rules.parse_rule_style.Goals as goal
 use Rattle.mbe_parser.proofs.rules.parse_rule_style.Goals.{then-eat_word, else-eat_word+then-eat_word-2}
 
 pub returns-else-eat_word-2 : goal.returns-else-eat_word-2
 returns-else-eat_word-2 g c =
-    after_unsafe c.eat_word-unsafe.result c.args.src.now c.eat_word-unsafe.new.src c.eat_word-unsafe.ensures.value c.eat_word-unsafe.ensures.rest
-    ∙ after_nothing c.eat_word.result c.eat_word-else-eat_word.result c.eat_word-unsafe.new.src c.eat_word.new.src c.eat_word-else-eat_word.new.src
-    c.eat_word.ensures.value c.eat_word.ensures.rest c.if-eat_word.false c.eat_word-else-eat_word.ensures.value c.eat_word-else-eat_word.ensures.rest
+    after_unsafe c.eat_word-unsafe.result c.args.src.now c.eat_word-unsafe.new.src c.eat_word-unsafe.ensures.value
+    c.eat_word-unsafe.ensures.rest
+    ∙ after_nothing c.eat_word.result c.eat_word-else-eat_word.result c.eat_word-unsafe.new.src c.eat_word.new.src
+    c.eat_word-else-eat_word.new.src
+    c.eat_word.ensures.value c.eat_word.ensures.rest c.if-eat_word.false c.eat_word-else-eat_word.ensures.value
+    c.eat_word-else-eat_word.ensures.rest
     c.if-eat_word-2.false
 
 pub returns-in_default : goal.returns-in_default
 returns-in_default g c =
-    let styled : style_at c.eat_word-unsafe.new.src ≡ styled_at c.if-eat_word.style c.if-eat_word.src = elim c.if-eat_word.branch [
+    let styled : style_at c.eat_word-unsafe.new.src ≡ styled_at c.if-eat_word.style c.if-eat_word.src =
+    elim c.if-eat_word.branch [
       | then-eat_word w ↦
-          after_attr c.eat_word.result c.eat_word-unsafe.new.src c.eat_word.new.src c.eat_word.ensures.value c.eat_word.ensures.rest w.if-eat_word.true
+          after_attr c.eat_word.result c.eat_word-unsafe.new.src c.eat_word.new.src c.eat_word.ensures.value
+          c.eat_word.ensures.rest w.if-eat_word.true
           ∙ sym (λ i. styled_at (w.style-is i) (w.src-is i))
       | else-eat_word+then-eat_word-2 w ↦
-          after_derive c.eat_word.result w.eat_word-else-eat_word.result c.eat_word-unsafe.new.src c.eat_word.new.src w.eat_word-else-eat_word.new.src
+          after_derive c.eat_word.result w.eat_word-else-eat_word.result c.eat_word-unsafe.new.src c.eat_word.new.src
+          w.eat_word-else-eat_word.new.src
           c.eat_word.ensures.value c.eat_word.ensures.rest w.if-eat_word.false w.eat_word-else-eat_word.ensures.value
           w.eat_word-else-eat_word.ensures.rest w.if-eat_word-2.true ∙ sym (λ i. styled_at (w.style-is i) (w.src-is i))
     ] in
-    after_unsafe c.eat_word-unsafe.result c.args.src.now c.eat_word-unsafe.new.src c.eat_word-unsafe.ensures.value c.eat_word-unsafe.ensures.rest
+    after_unsafe c.eat_word-unsafe.result c.args.src.now c.eat_word-unsafe.new.src c.eat_word-unsafe.ensures.value
+    c.eat_word-unsafe.ensures.rest
     ∙ (styled ∙ no_group c.if-eat_word.style c.if-eat_word.src (sym c.in_default.ensures.value))
 
 pub returns : goal.returns
 returns g c =
-    let styled : style_at c.eat_word-unsafe.new.src ≡ styled_at c.if-eat_word.style c.if-eat_word.src = elim c.if-eat_word.branch [
+    let styled : style_at c.eat_word-unsafe.new.src ≡ styled_at c.if-eat_word.style c.if-eat_word.src =
+    elim c.if-eat_word.branch [
       | then-eat_word w ↦
-          after_attr c.eat_word.result c.eat_word-unsafe.new.src c.eat_word.new.src c.eat_word.ensures.value c.eat_word.ensures.rest w.if-eat_word.true
+          after_attr c.eat_word.result c.eat_word-unsafe.new.src c.eat_word.new.src c.eat_word.ensures.value
+          c.eat_word.ensures.rest w.if-eat_word.true
           ∙ sym (λ i. styled_at (w.style-is i) (w.src-is i))
       | else-eat_word+then-eat_word-2 w ↦
-          after_derive c.eat_word.result w.eat_word-else-eat_word.result c.eat_word-unsafe.new.src c.eat_word.new.src w.eat_word-else-eat_word.new.src
+          after_derive c.eat_word.result w.eat_word-else-eat_word.result c.eat_word-unsafe.new.src c.eat_word.new.src
+          w.eat_word-else-eat_word.new.src
           c.eat_word.ensures.value c.eat_word.ensures.rest w.if-eat_word.false w.eat_word-else-eat_word.ensures.value
           w.eat_word-else-eat_word.ensures.rest w.if-eat_word-2.true ∙ sym (λ i. styled_at (w.style-is i) (w.src-is i))
     ] in
-    after_unsafe c.eat_word-unsafe.result c.args.src.now c.eat_word-unsafe.new.src c.eat_word-unsafe.ensures.value c.eat_word-unsafe.ensures.rest
-    ∙ (styled ∙ (behind_group c.if-eat_word.style c.if-eat_word.src _ (sym c.in-Ok.ensures.value)
+    after_unsafe c.eat_word-unsafe.result c.args.src.now c.eat_word-unsafe.new.src c.eat_word-unsafe.ensures.value
+    c.eat_word-unsafe.ensures.rest
+    ∙ (styled ∙ (following_group c.if-eat_word.style c.if-eat_word.src _ (sym c.in-Ok.ensures.value)
     ∙ ap (pattern_at c.if-eat_word.style) (sym c.in-Ok.ensures.rest)))

@@ -6,7 +6,8 @@ use Rattle.mbe_parser.proofs.rules.parse_rules.Given as goal
 
 abbrev pub invariant-rules : goal.invariant-rules
 invariant-rules g l =
-    Continues (λ ctx e. g.E.Fn.post l.ctx_edition (ctx, tt) e) l.separators (fault_of l.missing) (rules_seen l.rules.items) l.fn.src l.src
+    Continues (λ ctx e. g.E.Fn.post l.ctx_edition (ctx, tt) e) l.separators (fault_of l.missing)
+    (rules_seen l.rules.items) l.fn.src l.src
 
 abbrev pub decreases-rules : goal.decreases-rules
 decreases-rules g l = flat_len l.src

@@ -28,10 +28,12 @@ checked-loop-stop-preserved-then-is_token g t c =
     let stop = stop_of c.in-Some.stop in
     let here = c.in-Some.ensures.steps in
     record {
-      empty = next_nullable _ before.found.empty false false stop _ rest here (sym (c.is_token.ensures.solid c.if-is_token.true))
+      empty = next_nullable _ before.found.empty false false stop _ rest here
+          (sym (c.is_token.ensures.solid c.if-is_token.true))
           (sym (and-false before.found.empty)) before.invariant.empty;
       refused = next_refused _ before.found.refused false before.found.refused stop _ rest here
-          (sym (c.is_token.ensures.lawful c.if-is_token.true)) (sym (or-false before.found.refused)) before.invariant.refused;
+          (sym (c.is_token.ensures.lawful c.if-is_token.true)) (sym (or-false before.found.refused))
+          before.invariant.refused;
       lighter = rest_no_heavier stop (stops_left c.args.stops) _ rest here before.invariant.lighter;
     }
 
@@ -50,9 +52,11 @@ checked-loop-stop-preserved g t c =
     let own = c.checked_stop in
     let both = c.followed_by-found in
     record {
-      empty = next_nullable _ before.found.empty own.result.empty both.result.empty stop _ rest here own.ensures.empty both.ensures.empty
+      empty = next_nullable _ before.found.empty own.result.empty both.result.empty stop _ rest here own.ensures.empty
+          both.ensures.empty
           before.invariant.empty;
-      refused = next_refused _ before.found.refused own.result.refused both.result.refused stop _ rest here own.ensures.refused
+      refused = next_refused _ before.found.refused own.result.refused both.result.refused stop _ rest here
+          own.ensures.refused
           both.ensures.refused before.invariant.refused;
       lighter = rest_no_heavier stop (stops_left c.args.stops) _ rest here before.invariant.lighter;
     }
@@ -73,7 +77,8 @@ pub checked_op-checked-requires : goal.checked_op-checked-requires
 checked_op-checked-requires g t c κs within =
     let here = c.in-Subtree in
     let seen = ap op_weight (ap op_of here.is ∙ view-subtree here.tokens here.delimiter) in
-    let inside = weight_of_walk c.iter_delimited.result (Some here.delimiter) (template_of here.tokens) c.iter_delimited.ensures in
+    let inside = weight_of_walk c.iter_delimited.result (Some here.delimiter) (template_of here.tokens)
+    c.iter_delimited.ensures in
     (omega (arith, c.decreases, seen, inside), within)
 
 pub checked_op-checked-requires-in-Repeat : goal.checked_op-checked-requires-in-Repeat

@@ -5,4 +5,5 @@ use Rattle.mbe_parser.proofs.RefusalLemmas.{refused_reads}
 use Rattle.mbe_parser.proofs.validate.refuses_some.Given as goal
 
 abbrev pub invariant-loop-rule : goal.invariant-loop-rule
-invariant-loop-rule g l = list_any refused_reads (rules_seen l.fn.rules) ≡ list_any refused_reads (rules_seen (drop l.rule-index l.rules))
+invariant-loop-rule g l = list_any refused_reads (rules_seen l.fn.rules)
+    ≡ list_any refused_reads (rules_seen (drop l.rule-index l.rules))

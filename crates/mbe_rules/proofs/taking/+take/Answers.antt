@@ -5,11 +5,13 @@ use Rattle.mbe_rules.proofs.taking.+take.Goals as goal
 
 pub take-returns-in-Some : goal.take-returns-in-Some
 take-returns-in-Some g t c =
-    takes_one_less c.args.table.now c.args.depth c.args.rule _ _ _ (search rules) (sym c.in-Some.is ∙ c.node_at.ensures) c.take_node.ensures
+    takes_one_less c.args.table.now c.args.depth c.args.rule _ _ _ (search rules) (sym c.in-Some.is ∙ c.node_at.ensures)
+    c.take_node.ensures
 
 pub take-returns-in-None : goal.take-returns-in-None
 take-returns-in-None g t c =
-    takes_one_less c.args.table.now c.args.depth c.args.rule _ _ _ (search rules) (sym c.in-None.is ∙ c.node_at.ensures) refl
+    takes_one_less c.args.table.now c.args.depth c.args.rule _ _ _ (search rules) (sym c.in-None.is ∙ c.node_at.ensures)
+    refl
 
 pub repeated-turns-preserved : goal.repeated-turns-preserved
 repeated-turns-preserved g t c = sym (times_on c.turns.left _ _ _ (search rules) (search rules)) ∙ c.turns.invariant

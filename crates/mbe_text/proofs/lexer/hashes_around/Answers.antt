@@ -19,7 +19,8 @@ more most most' guards now total i byte text h b g m e =
 pub bytes-preserved : goal.bytes-preserved
 bytes-preserved c =
     let same = c.as_bytes-byte-items.ensures.value in
-    more c.bytes.most c.max-most.result c.bytes.guards c.guards_after-guards.result _ c.bytes.byte-index _ c.args.text.now
+    more c.bytes.most c.max-most.result c.bytes.guards c.guards_after-guards.result _ c.bytes.byte-index _
+    c.args.text.now
     (omega (arith, ap (λ (l : List ℕ). length l) same)) (ap (λ (l : List ℕ). get_or l c.bytes.byte-index 0) same)
     c.guards_after-guards.ensures c.max-most.ensures c.bytes.invariant
 

@@ -21,7 +21,8 @@ tokens-init g c = record {
       (ap (λ (l : List ℕ). length l) (c.new-scanner.ensures.sample sample));
   reached = reached_first _ _ _ _ _ _ _ c.in_ok-builder.ensures c.invisible_spanned-whole.ensures
       c.file_span.ensures.whole
-      (let total = c.new-scanner.ensures.total in let within = c.new-scanner.result.within in omega (arith, total, within))
+      (let total = c.new-scanner.ensures.total in let within = c.new-scanner.result.within in
+      omega (arith, total, within))
       c.new-scanner.ensures.rest;
 }
 
@@ -37,8 +38,10 @@ tokens-preserved g c =
       lexed = λ sample. lexed_more _ _ c.tokens.scanner.file c.tokens.scanner.text.now c.tokens.scanner.total _ _ _ _ _
           c.in-Some.token (c.tokens.invariant.lexed sample)
           c.tokens.invariant.file c.tokens.invariant.text c.tokens.invariant.total c.in-Some.is
-          token.span token.behind token.some token.up_to (token.spelled (c.tokens.invariant.dialect ∙ sample)) c.in_ok-add.ensures.ok;
-      reached = reached_more _ _ _ _ _ _ _ c.tokens.scanner.dialect c.tokens.scanner.file c.tokens.scanner.total c.in-Some.token
+          token.span token.behind token.some token.up_to (token.spelled (c.tokens.invariant.dialect ∙ sample))
+          c.in_ok-add.ensures.ok;
+      reached = reached_more _ _ _ _ _ _ _ c.tokens.scanner.dialect c.tokens.scanner.file c.tokens.scanner.total
+          c.in-Some.token
           c.tokens.invariant.reached c.tokens.invariant.dialect
           c.tokens.invariant.file c.tokens.invariant.total
           (subst (λ (o : Option Token). IsNext c.tokens.scanner.file c.tokens.scanner.total
@@ -62,20 +65,23 @@ pub returns-in_err-add-clause-exact : goal.returns-in_err-add-clause-exact
 returns-in_err-add-clause-exact g c =
     let p = err_from_is_err_and c.from_residual-in_err-add.result c.from_residual-in_err-add.ensures.1 in
     let token = c.in_ok-token.ensures in
-    rw (p.1, p.2) (lexes_refused (trees_of c.args.dialect c.args.file c.args.text.now) (token_item c.in-Some.token) c.tokens.builder _
+    rw (p.1, p.2) (lexes_refused (trees_of c.args.dialect c.args.file c.args.text.now) (token_item c.in-Some.token)
+    c.tokens.builder _
     c.in_err-add.ensures.err
     (λ astray. trees_fault c.args.dialect c.args.file c.args.text.now _
     (reached_astray _ _ _ _ _ _ c.tokens.scanner.dialect c.tokens.scanner.file c.tokens.scanner.total c.in-Some.token
     c.tokens.invariant.reached c.tokens.invariant.dialect c.tokens.invariant.file c.tokens.invariant.total
     (subst (λ (o : Option Token). IsNext c.tokens.scanner.file c.tokens.scanner.total
-    (next_token c.tokens.scanner.dialect c.tokens.scanner.total (chars c.tokens.scanner.rest.now)) (Ok o) (chars c.token.new.self.rest.now))
+    (next_token c.tokens.scanner.dialect c.tokens.scanner.total (chars c.tokens.scanner.rest.now)) (Ok o)
+    (chars c.token.new.self.rest.now))
     c.in-Some.is token.exact)
     (token.past (ap is_some c.in-Some.is)) astray)))
 
 pub returns-clause-exact : goal.returns-clause-exact
 returns-clause-exact g c =
     let next = subst (λ (o : Option Token). IsNext c.tokens.scanner.file c.tokens.scanner.total
-    (next_token c.tokens.scanner.dialect c.tokens.scanner.total (chars c.tokens.scanner.rest.now)) (Ok o) (chars c.token.new.self.rest.now))
+    (next_token c.tokens.scanner.dialect c.tokens.scanner.total (chars c.tokens.scanner.rest.now)) (Ok o)
+    (chars c.token.new.self.rest.now))
     c.in_default.is
     c.in_ok-token.ensures.exact in
     trees_lexed c.args.dialect c.args.file c.args.text.now _ _ _
@@ -86,7 +92,8 @@ returns-clause-exact g c =
 pub returns-then-is_unclosed-clause-exact : goal.returns-then-is_unclosed-clause-exact
 returns-then-is_unclosed-clause-exact g c =
     let next = subst (λ (o : Option Token). IsNext c.tokens.scanner.file c.tokens.scanner.total
-    (next_token c.tokens.scanner.dialect c.tokens.scanner.total (chars c.tokens.scanner.rest.now)) (Ok o) (chars c.token.new.self.rest.now))
+    (next_token c.tokens.scanner.dialect c.tokens.scanner.total (chars c.tokens.scanner.rest.now)) (Ok o)
+    (chars c.token.new.self.rest.now))
     c.in_default.is
     c.in_ok-token.ensures.exact in
     trees_unclosed c.args.dialect c.args.file c.args.text.now _

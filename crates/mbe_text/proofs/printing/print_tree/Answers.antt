@@ -11,7 +11,8 @@ pub returns-in_err-print_first : goal.returns-in_err-print_first
 returns-in_err-print_first g c =
     let f : Forest = top_group c.args.tree.now in
     let p = err_from_is_err_and c.from_residual.result c.from_residual.ensures.1 in
-    let len : c.flat_len-place-end.result ≡ flat_len f = c.flat_len-place-end.ensures ∙ ap flat_len c.view-view.ensures in
+    let len : c.flat_len-place-end.result ≡ flat_len f =
+    c.flat_len-place-end.ensures ∙ ap flat_len c.view-view.ensures in
     let lt : c.tokens._place < flat_len f = omega (arith, c.tokens-test.true, len) in
     writes_failed _ _ _ _ _ p.1 (printed_off f _ _ _ c.tokens.cursor c.tokens._place c.tokens.depth _
     c.tokens.invariant lt c.token_tree-tree.ensures c.in_err-print_first.ensures)
@@ -19,9 +20,11 @@ returns-in_err-print_first g c =
 pub next_depth-depth-requires : goal.next_depth-depth-requires
 next_depth-depth-requires g c =
     let f : Forest = top_group c.args.tree.now in
-    let len : c.flat_len-place-end.result ≡ flat_len f = c.flat_len-place-end.ensures ∙ ap flat_len c.view-view.ensures in
+    let len : c.flat_len-place-end.result ≡ flat_len f =
+    c.flat_len-place-end.ensures ∙ ap flat_len c.view-view.ensures in
     let lt : c.tokens._place < flat_len f = omega (arith, c.tokens-test.true, len) in
-    let fits = printed_fits f _ _ c.tokens.cursor c.tokens._place c.tokens.depth (option_map element_tree c.token_tree-tree.result)
+    let fits = printed_fits f _ _ c.tokens.cursor c.tokens._place c.tokens.depth
+    (option_map element_tree c.token_tree-tree.result)
     c.tokens.invariant lt c.token_tree-tree.ensures in
     let range = c.flat_len-place-end.type_inv in
     omega (arith, fits, len)
@@ -29,7 +32,8 @@ next_depth-depth-requires g c =
 pub tokens-preserved : goal.tokens-preserved
 tokens-preserved g c =
     let f : Forest = top_group c.args.tree.now in
-    let len : c.flat_len-place-end.result ≡ flat_len f = c.flat_len-place-end.ensures ∙ ap flat_len c.view-view.ensures in
+    let len : c.flat_len-place-end.result ≡ flat_len f =
+    c.flat_len-place-end.ensures ∙ ap flat_len c.view-view.ensures in
     let lt : c.tokens._place < flat_len f = omega (arith, c.tokens-test.true, len) in
     rw c.next_depth-depth.ensures (printed_on f _ _ _ c.tokens.cursor _ c.tokens._place c.tokens.depth _
     c.tokens.invariant lt c.token_tree-tree.ensures c.in_ok-print_first.ensures c.bump_or_end.ensures)
@@ -37,6 +41,7 @@ tokens-preserved g c =
 pub returns : goal.returns
 returns g c =
     let f : Forest = top_group c.args.tree.now in
-    let len : c.flat_len-place-end.result ≡ flat_len f = c.flat_len-place-end.ensures ∙ ap flat_len c.view-view.ensures in
+    let len : c.flat_len-place-end.result ≡ flat_len f =
+    c.flat_len-place-end.ensures ∙ ap flat_len c.view-view.ensures in
     let at : c.tokens._place ≡ flat_len f = omega (arith, len, c.tokens-test.false) in
     printed_last f _ _ c.tokens.cursor c.tokens._place c.tokens.depth c.tokens.invariant at

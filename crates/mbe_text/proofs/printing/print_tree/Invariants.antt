@@ -4,4 +4,5 @@ use Rattle.mbe_text.proofs.printing.print_tree.Given as goal
 
 abbrev pub invariant-tokens : goal.invariant-tokens
 invariant-tokens g l =
-    Printed (top_group l.fn.tree) (g.W.Write.contents l.initial.out) (g.W.Write.contents l.out) l.cursor l._place l.depth
+    Printed (top_group l.fn.tree) (g.W.Write.contents l.initial.out) (g.W.Write.contents l.out) l.cursor l._place
+    l.depth

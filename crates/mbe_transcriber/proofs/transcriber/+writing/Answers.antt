@@ -25,135 +25,184 @@ expand_ops-expand_op-requires g t c κs within =
 pub expand_op-returns-in-Literal-clause-wrote : goal.expand_op-returns-in-Literal-clause-wrote
 expand_op-returns-in-Literal-clause-wrote g t c =
     rw (c.in-Literal.is, view-literal) (lemmas.wrote_and_none c.write_literal.result c.and.result c.and.ensures
-    (lemmas.wrote_literal _ _ _ _ _ (literal_of c.in-Literal.literal) c.args.builder.now c.write_literal.new.builder) c.write_literal.ensures)
+    (lemmas.wrote_literal _ _ _ _ _ (literal_of c.in-Literal.literal) c.args.builder.now c.write_literal.new.builder)
+    c.write_literal.ensures)
 
 pub expand_op-returns-in-Ident-clause-wrote : goal.expand_op-returns-in-Ident-clause-wrote
 expand_op-returns-in-Ident-clause-wrote g t c =
-    rw (c.in-Ident.is, view-ident) (lemmas.wrote_and_none c.write_ident.result c.and-in-Ident.result c.and-in-Ident.ensures
-    (lemmas.wrote_ident _ _ _ _ _ (ident_of c.in-Ident.ident) c.args.builder.now c.write_ident.new.builder) c.write_ident.ensures)
+    rw (c.in-Ident.is, view-ident) (lemmas.wrote_and_none c.write_ident.result c.and-in-Ident.result
+    c.and-in-Ident.ensures
+    (lemmas.wrote_ident _ _ _ _ _ (ident_of c.in-Ident.ident) c.args.builder.now c.write_ident.new.builder)
+    c.write_ident.ensures)
 
 pub expand_op-returns-in-Punct-clause-wrote : goal.expand_op-returns-in-Punct-clause-wrote
 expand_op-returns-in-Punct-clause-wrote g t c =
-    rw (c.in-Punct.is, view-punct) (lemmas.wrote_and_none c.write_puncts.result c.and-in-Punct.result c.and-in-Punct.ensures
-    (lemmas.wrote_puncts _ _ _ _ _ c.in-Punct.puncts c.as_slice.result.now c.args.builder.now c.write_puncts.new.builder c.as_slice.ensures.value)
+    rw (c.in-Punct.is, view-punct) (lemmas.wrote_and_none c.write_puncts.result c.and-in-Punct.result
+    c.and-in-Punct.ensures
+    (lemmas.wrote_puncts _ _ _ _ _ c.in-Punct.puncts c.as_slice.result.now c.args.builder.now c.write_puncts.new.builder
+    c.as_slice.ensures.value)
     c.write_puncts.ensures.written)
 
 pub expand_op-returns-in-Subtree-clause-wrote : goal.expand_op-returns-in-Subtree-clause-wrote
-expand_op-returns-in-Subtree-clause-wrote g t c = rw (c.in-Subtree.is, view-subtree) (rw (← c.deref.ensures.value) c.expand_group.ensures.wrote)
+expand_op-returns-in-Subtree-clause-wrote g t c =
+    rw (c.in-Subtree.is, view-subtree) (rw (← c.deref.ensures.value) c.expand_group.ensures.wrote)
 
 pub expand_group-returns-clause-wrote : goal.expand_group-returns-clause-wrote
 expand_group-returns-clause-wrote g t c =
     lemmas.wrote_group _ _ _ _ _ c.args.delimiter c.mark.result c.mark-2.result _ _ c.args.builder.now c.open.new.self
-    c.expand_ops.new.builder c.close.new.self c.mark.ensures c.mark-2.ensures c.in_ok-open.ensures.ok c.in_ok-fault.ensures.wrote c.close.ensures
+    c.expand_ops.new.builder c.close.new.self c.mark.ensures c.mark-2.ensures c.in_ok-open.ensures.ok
+    c.in_ok-fault.ensures.wrote c.close.ensures
 
 pub expand_op-returns-in-Var-clause-wrote : goal.expand_op-returns-in-Var-clause-wrote
 expand_op-returns-in-Var-clause-wrote g t c =
-    rw (c.in-Var.is, view-var) (lemmas.if_ok_with c.write_var.result (λ f w. lemmas.wrote_variable _ _ _ _ _ (is_some f) c.in-Var.name c.in-Var.kind c.in-Var.id c.args.builder.now c.write_var.new.builder w)
+    rw (c.in-Var.is, view-var) (lemmas.if_ok_with c.write_var.result
+    (λ f w. lemmas.wrote_variable _ _ _ _ _ (is_some f) c.in-Var.name c.in-Var.kind c.in-Var.id c.args.builder.now
+    c.write_var.new.builder w)
     c.write_var.ensures.wrote)
 
 pub expand_op-returns-in-Ignore-clause-wrote : goal.expand_op-returns-in-Ignore-clause-wrote
 expand_op-returns-in-Ignore-clause-wrote g t c =
-    rw (c.in-Ignore.is, view-ignore) (lemmas.wrote_ignored _ _ _ _ _ (is_some c.find_ignored.result) c.in-Ignore.name c.in-Ignore.id c.args.builder.now c.find_ignored.ensures.told)
+    rw (c.in-Ignore.is, view-ignore) (lemmas.wrote_ignored _ _ _ _ _ (is_some c.find_ignored.result) c.in-Ignore.name
+    c.in-Ignore.id c.args.builder.now c.find_ignored.ensures.told)
 
 pub expand_op-returns-in-Index-clause-wrote : goal.expand_op-returns-in-Index-clause-wrote
 expand_op-returns-in-Index-clause-wrote g t c =
-    rw (c.in-Index.is, view-index) (lemmas.wrote_and_none c.write_at_call.result c.and-in-Index.result c.and-in-Index.ensures
-    (lemmas.wrote_index _ _ _ _ _ c.in-Index.depth c.index_at.result c.args.builder.now c.write_at_call.new.builder c.index_at.ensures) c.write_at_call.ensures)
+    rw (c.in-Index.is, view-index) (lemmas.wrote_and_none c.write_at_call.result c.and-in-Index.result
+    c.and-in-Index.ensures
+    (lemmas.wrote_index _ _ _ _ _ c.in-Index.depth c.index_at.result c.args.builder.now c.write_at_call.new.builder
+    c.index_at.ensures) c.write_at_call.ensures)
 
 pub expand_op-returns-in-Len-clause-wrote : goal.expand_op-returns-in-Len-clause-wrote
 expand_op-returns-in-Len-clause-wrote g t c =
-    rw (c.in-Len.is, view-len) (lemmas.wrote_and_none c.write_at_call-in-Len.result c.and-in-Len.result c.and-in-Len.ensures
-    (lemmas.wrote_len _ _ _ _ _ c.in-Len.depth c.rounds_at.result c.args.builder.now c.write_at_call-in-Len.new.builder c.rounds_at.ensures)
+    rw (c.in-Len.is, view-len) (lemmas.wrote_and_none c.write_at_call-in-Len.result c.and-in-Len.result
+    c.and-in-Len.ensures
+    (lemmas.wrote_len _ _ _ _ _ c.in-Len.depth c.rounds_at.result c.args.builder.now c.write_at_call-in-Len.new.builder
+    c.rounds_at.ensures)
     c.write_at_call-in-Len.ensures)
 
 pub expand_op-returns-in-Count-clause-wrote : goal.expand_op-returns-in-Count-clause-wrote
 expand_op-returns-in-Count-clause-wrote g t c =
-    rw (c.in-Count.is, view-count) (lemmas.if_ok_with c.write_count.result (λ f w. lemmas.wrote_count _ _ _ _ _ (is_some f) c.in-Count.name c.in-Count.depth c.args.builder.now c.write_count.new.builder w)
+    rw (c.in-Count.is, view-count) (lemmas.if_ok_with c.write_count.result
+    (λ f w. lemmas.wrote_count _ _ _ _ _ (is_some f) c.in-Count.name c.in-Count.depth c.args.builder.now
+    c.write_count.new.builder w)
     c.write_count.ensures.wrote)
 
 pub expand_op-returns-in-Concat-clause-wrote : goal.expand_op-returns-in-Concat-clause-wrote
 expand_op-returns-in-Concat-clause-wrote g t c =
     rw (c.in-Concat.is, view-concat, ← c.deref-in-Concat.ensures.value) (lemmas.if_ok_with c.write_concat.result
-    (λ f w. lemmas.wrote_concat _ _ _ _ _ (is_some f) (elements_seen c.deref-in-Concat.result.now) c.in-Concat.span c.args.builder.now c.write_concat.new.builder w) c.write_concat.ensures.wrote)
+    (λ f w. lemmas.wrote_concat _ _ _ _ _ (is_some f) (elements_seen c.deref-in-Concat.result.now) c.in-Concat.span
+    c.args.builder.now c.write_concat.new.builder w) c.write_concat.ensures.wrote)
 
 pub expand_ops-loop-op-preserved : goal.expand_ops-loop-op-preserved
 expand_ops-loop-op-preserved g t c = record {
-  wrote = lemmas.sofar_step _ _ _ _ _ (is_some c.loop-op.first) (is_some c.in_ok-fault.fault) (is_some c.or-first.result) (ops_of c.args.ops.now) (ops_of (drop c.loop-op.op-index c.args.ops.now))
+  wrote = lemmas.sofar_step _ _ _ _ _ (is_some c.loop-op.first) (is_some c.in_ok-fault.fault)
+      (is_some c.or-first.result) (ops_of c.args.ops.now) (ops_of (drop c.loop-op.op-index c.args.ops.now))
       (op_of c.op-item.result) (ops_of (drop (c.loop-op.op-index + 1) c.args.ops.now)) _ _ _
       (ops_split c.args.ops.now c.loop-op.op-index c.op-item.result c.loop-op-test.true c.op-item.is)
-      (ap is_some c.or-first.ensures ∙ or_either c.loop-op.first c.in_ok-fault.fault) c.loop-op.invariant.wrote c.in_ok-fault.ensures.wrote;
-  first = firsts.ops_step error_of_fault c.args.ctx.now.call_site (bound_by c.args.ctx.now.bindings.now) c.args.path.now (ops_of c.args.ops.now)
-      (ops_of (drop c.loop-op.op-index c.args.ops.now)) (ops_of (drop (c.loop-op.op-index + 1) c.args.ops.now)) (op_of c.op-item.result)
+      (ap is_some c.or-first.ensures ∙ or_either c.loop-op.first c.in_ok-fault.fault) c.loop-op.invariant.wrote
+      c.in_ok-fault.ensures.wrote;
+  first = firsts.ops_step error_of_fault c.args.ctx.now.call_site (bound_by c.args.ctx.now.bindings.now) c.args.path.now
+      (ops_of c.args.ops.now)
+      (ops_of (drop c.loop-op.op-index c.args.ops.now)) (ops_of (drop (c.loop-op.op-index + 1) c.args.ops.now))
+      (op_of c.op-item.result)
       c.loop-op.first c.in_ok-fault.fault c.or-first.result
-      (ops_split c.args.ops.now c.loop-op.op-index c.op-item.result c.loop-op-test.true c.op-item.is) c.or-first.ensures c.in_ok-fault.ensures.first
+      (ops_split c.args.ops.now c.loop-op.op-index c.op-item.result c.loop-op-test.true c.op-item.is) c.or-first.ensures
+      c.in_ok-fault.ensures.first
       c.loop-op.invariant.first;
-  left = lefts.goes_on _ _ _ _ _ (ops_of c.args.ops.now) (ops_of (drop c.loop-op.op-index c.args.ops.now)) (op_of c.op-item.result)
+  left = lefts.goes_on _ _ _ _ _ (ops_of c.args.ops.now) (ops_of (drop c.loop-op.op-index c.args.ops.now))
+      (op_of c.op-item.result)
       (ops_of (drop (c.loop-op.op-index + 1) c.args.ops.now)) _ _ _
-      (ops_split c.args.ops.now c.loop-op.op-index c.op-item.result c.loop-op-test.true c.op-item.is) c.loop-op.invariant.left
+      (ops_split c.args.ops.now c.loop-op.op-index c.op-item.result c.loop-op-test.true c.op-item.is)
+      c.loop-op.invariant.left
       c.in_ok-fault.ensures.left;
 }
 
 pub expand_ops-returns-clause-wrote : goal.expand_ops-returns-clause-wrote
 expand_ops-returns-clause-wrote g t c =
-    lemmas.sofar_done _ _ _ _ _ (is_some c.loop-op.first) (ops_of c.args.ops.now) (ops_of (drop c.loop-op.op-index c.args.ops.now)) _ _
+    lemmas.sofar_done _ _ _ _ _ (is_some c.loop-op.first) (ops_of c.args.ops.now)
+    (ops_of (drop c.loop-op.op-index c.args.ops.now)) _ _
     (ops_over c.args.ops.now c.loop-op.op-index c.loop-op-test.false) c.loop-op.invariant.wrote
 
 pub expand_repeat-loop-index-init : goal.expand_repeat-loop-index-init
 expand_repeat-loop-index-init g t c = record {
   path = c.in_ok-inside.ensures.items_if_clones_equal (λ x y h. search rules);
-  rounded = lemmas.rounded_start _ _ _ _ _ (option_map (λ s. separator_seen s.now) c.args.separator) (ops_of c.args.body.now) c.in-Ok.rounds c.args.builder.now;
+  rounded = lemmas.rounded_start _ _ _ _ _ (option_map (λ s. separator_seen s.now) c.args.separator)
+      (ops_of c.args.body.now) c.in-Ok.rounds c.args.builder.now;
   first = refl;
-  left = lefts.begun_at_first _ _ _ _ _ (option_map (λ s. separator_seen s.now) c.args.separator) (ops_of c.args.body.now) c.in-Ok.rounds
+  left = lefts.begun_at_first _ _ _ _ _ (option_map (λ s. separator_seen s.now) c.args.separator)
+      (ops_of c.args.body.now) c.in-Ok.rounds
       c.args.builder.now;
 }
 
 pub expand_repeat-expand_ops-requires : goal.expand_repeat-expand_ops-requires
 expand_repeat-expand_ops-requires g t c κs within =
     let some : 0 < length c.write_between.new.builder =
-    omega (arith, c.requires.some_group, c.in_ok-write_between.ensures.open_groups, c.loop-index.invariant.rounded.groups) in
+    omega (
+      arith,
+      c.requires.some_group,
+      c.in_ok-write_between.ensures.open_groups,
+      c.loop-index.invariant.rounded.groups,
+    ) in
     (omega (arith, c.decreases), (within.0, (within.1.0, (within.1.1, (c.requires.marks, some)))))
 
 pub expand_op-returns-in-Repeat-clause-wrote : goal.expand_op-returns-in-Repeat-clause-wrote
 expand_op-returns-in-Repeat-clause-wrote g t c =
-    rw (c.in-Repeat.is, view-repeat, ← c.as_ref.ensures.value) (rw (← c.deref-in-Repeat.ensures.value, ← seen_copied separator_seen c.as_ref.result) c.expand_repeat.ensures.wrote)
+    rw (c.in-Repeat.is, view-repeat, ← c.as_ref.ensures.value)
+    (rw (← c.deref-in-Repeat.ensures.value, ← seen_copied separator_seen c.as_ref.result)
+    c.expand_repeat.ensures.wrote)
 
 pub expand_repeat-loop-index-preserved : goal.expand_repeat-loop-index-preserved
 expand_repeat-loop-index-preserved g t c =
     let seps = option_map (λ s. separator_seen s.now) c.args.separator in
-    let pushed : c.push.new.self.items ≡ c.loop-index.inside.items ++ (record { index = c.loop-index.index; rounds = c.in-Ok.rounds } ∷ []) = c.in_ok-push.ensures.items in
+    let pushed : c.push.new.self.items ≡ c.loop-index.inside.items
+    ++ (record { index = c.loop-index.index; rounds = c.in-Ok.rounds } ∷ []) = c.in_ok-push.ensures.items in
     let inner : c.deref.result.now ≡ level c.loop-index.index c.in-Ok.rounds c.args.path.now =
-    c.deref.ensures.value ∙ (pushed ∙ ap (λ p. level c.loop-index.index c.in-Ok.rounds p) c.loop-index.invariant.path) in
+    c.deref.ensures.value ∙ (pushed ∙ ap (λ p. level c.loop-index.index c.in-Ok.rounds p)
+    c.loop-index.invariant.path) in
     let counted : vec_len c.push.new.self ≡ length c.push.new.self.items = search rules in
-    let longer = ap length pushed ∙ length-append c.loop-index.inside.items (record { index = c.loop-index.index; rounds = c.in-Ok.rounds } ∷ []) in
+    let longer = ap length pushed ∙ length-append c.loop-index.inside.items
+    (record { index = c.loop-index.index; rounds = c.in-Ok.rounds } ∷ []) in
     let short : vec_len c.push.new.self - 1 ≡ length c.loop-index.inside.items = omega (arith, counted, longer) in
     record {
-      path = popped c.loop-index.inside.items c.push.new.self.items c.pop-level.new.self.items _ (vec_len c.push.new.self - 1) pushed c.pop-level.ensures.rest short ∙ c.loop-index.invariant.path;
-      rounded = lemmas.rounded_step _ _ _ _ _ seps (ops_of c.args.body.now) c.in-Ok.rounds c.loop-index.index (is_some c.loop-index.first) c.loop-index.separated
-          (is_some c.in_ok-fault.fault) (is_some c.or-first.result) c.is_none-separated.result c.args.builder.now c.loop-index.builder c.write_between.new.builder c.expand_ops.new.builder
+      path = popped c.loop-index.inside.items c.push.new.self.items c.pop-level.new.self.items _
+          (vec_len c.push.new.self - 1) pushed c.pop-level.ensures.rest short ∙ c.loop-index.invariant.path;
+      rounded = lemmas.rounded_step _ _ _ _ _ seps (ops_of c.args.body.now) c.in-Ok.rounds c.loop-index.index
+          (is_some c.loop-index.first) c.loop-index.separated
+          (is_some c.in_ok-fault.fault) (is_some c.or-first.result) c.is_none-separated.result c.args.builder.now
+          c.loop-index.builder c.write_between.new.builder c.expand_ops.new.builder
           c.deref.result.now (ops_of c.args.body.now) inner refl
-          (ap is_some c.or-first.ensures ∙ or_either c.loop-index.first c.in_ok-fault.fault) (swapped (is_some c.in_ok-fault.fault) c.is_none-separated.result c.is_none-separated.ensures)
+          (ap is_some c.or-first.ensures ∙ or_either c.loop-index.first c.in_ok-fault.fault)
+          (swapped (is_some c.in_ok-fault.fault) c.is_none-separated.result c.is_none-separated.ensures)
           c.loop-index.invariant.rounded c.in_ok-write_between.ensures.parted c.in_ok-fault.ensures.wrote;
-      first = firsts.rounds_step error_of_fault c.args.ctx.now.call_site (bound_by c.args.ctx.now.bindings.now) c.args.path.now (ops_of c.args.body.now)
-          c.in-Ok.rounds c.loop-index.index c.loop-index.first c.in_ok-fault.fault c.or-first.result c.deref.result.now inner c.or-first.ensures
+      first = firsts.rounds_step error_of_fault c.args.ctx.now.call_site (bound_by c.args.ctx.now.bindings.now)
+          c.args.path.now (ops_of c.args.body.now)
+          c.in-Ok.rounds c.loop-index.index c.loop-index.first c.in_ok-fault.fault c.or-first.result c.deref.result.now
+          inner c.or-first.ensures
           c.in_ok-fault.ensures.first c.loop-index.invariant.first;
-      left = lefts.begun_more _ _ _ _ _ seps (ops_of c.args.body.now) c.in-Ok.rounds c.loop-index.index c.loop-index.separated
-          (is_some c.in_ok-fault.fault) c.is_none-separated.result c.args.builder.now c.loop-index.builder c.write_between.new.builder
+      left = lefts.begun_more _ _ _ _ _ seps (ops_of c.args.body.now) c.in-Ok.rounds c.loop-index.index
+          c.loop-index.separated
+          (is_some c.in_ok-fault.fault) c.is_none-separated.result c.args.builder.now c.loop-index.builder
+          c.write_between.new.builder
           c.expand_ops.new.builder c.deref.result.now inner c.in_ok-fault.ensures.wrote.told
-          (swapped (is_some c.in_ok-fault.fault) c.is_none-separated.result c.is_none-separated.ensures) c.loop-index.invariant.left
+          (swapped (is_some c.in_ok-fault.fault) c.is_none-separated.result c.is_none-separated.ensures)
+          c.loop-index.invariant.left
           c.in_ok-write_between.ensures.parted c.in_ok-fault.ensures.left;
     }
 
 pub expand_repeat-returns-clause-wrote : goal.expand_repeat-returns-clause-wrote
 expand_repeat-returns-clause-wrote g t c =
     let seps = option_map (λ s. separator_seen s.now) c.args.separator in
-    let same : kept_rounds c.args.kind (bound_by c.args.ctx.now.bindings.now) c.args.path.now (ops_of c.args.body.now) ≡ finite c.in-Ok.rounds =
+    let same : kept_rounds c.args.kind (bound_by c.args.ctx.now.bindings.now) c.args.path.now (ops_of c.args.body.now)
+    ≡ finite c.in-Ok.rounds =
     ap (kept c.args.kind) (sym c.rounds_of.ensures) ∙ c.in-Ok.ensures.kept.0 in
     let all : c.loop-index.index ≡ c.in-Ok.rounds = omega arith in
-    lemmas.rounded_end _ _ _ _ _ seps (ops_of c.args.body.now) c.args.kind c.in-Ok.rounds (is_some c.loop-index.first) c.loop-index.separated c.args.builder.now c.loop-index.builder
+    lemmas.rounded_end _ _ _ _ _ seps (ops_of c.args.body.now) c.args.kind c.in-Ok.rounds (is_some c.loop-index.first)
+    c.loop-index.separated c.args.builder.now c.loop-index.builder
     same c.in-Ok.ensures.kept.1 (rw all at c.loop-index.invariant.rounded)
 
 pub expand_op-returns-in-Subtree-clause-first : goal.expand_op-returns-in-Subtree-clause-first
-expand_op-returns-in-Subtree-clause-first g t c = rw (c.in-Subtree.is, view-subtree) (rw (← c.deref.ensures.value) c.expand_group.ensures.first)
+expand_op-returns-in-Subtree-clause-first g t c =
+    rw (c.in-Subtree.is, view-subtree) (rw (← c.deref.ensures.value) c.expand_group.ensures.first)
 
 pub expand_op-returns-in-Repeat-clause-first : goal.expand_op-returns-in-Repeat-clause-first
 expand_op-returns-in-Repeat-clause-first g t c =
@@ -162,11 +211,14 @@ expand_op-returns-in-Repeat-clause-first g t c =
 pub expand_repeat-returns-clause-first : goal.expand_repeat-returns-clause-first
 expand_repeat-returns-clause-first g t c =
     let seps = option_map (λ s. separator_seen s.now) c.args.separator in
-    let same : kept_rounds c.args.kind (bound_by c.args.ctx.now.bindings.now) c.args.path.now (ops_of c.args.body.now) ≡ finite c.in-Ok.rounds =
+    let same : kept_rounds c.args.kind (bound_by c.args.ctx.now.bindings.now) c.args.path.now (ops_of c.args.body.now)
+    ≡ finite c.in-Ok.rounds =
     ap (kept c.args.kind) (sym c.rounds_of.ensures) ∙ c.in-Ok.ensures.kept.0 in
-    let faultless = c.in-Ok.ensures.fault ∙ ap (λ e. extent_fault c.args.kind (kept c.args.kind e)) c.rounds_of.ensures in
+    let faultless = c.in-Ok.ensures.fault
+    ∙ ap (λ e. extent_fault c.args.kind (kept c.args.kind e)) c.rounds_of.ensures in
     let all : c.loop-index.index ≡ c.in-Ok.rounds = omega arith in
-    firsts.rounds_end error_of_fault c.args.ctx.now.call_site (bound_by c.args.ctx.now.bindings.now) c.args.path.now (ops_of c.args.body.now) seps
+    firsts.rounds_end error_of_fault c.args.ctx.now.call_site (bound_by c.args.ctx.now.bindings.now) c.args.path.now
+    (ops_of c.args.body.now) seps
     c.args.kind c.in-Ok.rounds c.loop-index.first same faultless (rw all at c.loop-index.invariant.first)
 
 pub expand_ops-loop-op-init : goal.expand_ops-loop-op-init
@@ -180,34 +232,41 @@ pub expand_op-returns-in-Literal-clause-left : goal.expand_op-returns-in-Literal
 expand_op-returns-in-Literal-clause-left g t c =
     rw (c.in-Literal.is, view-literal) (lefts.and_none c.write_literal.result c.and.result c.and.ensures
     (λ w. lefts.left_token _ _ _ _ _ _ _ c.args.builder.now c.write_literal.new.builder
-    (lemmas.wrote_literal _ _ _ _ _ (literal_of c.in-Literal.literal) c.args.builder.now c.write_literal.new.builder w)) c.write_literal.ensures)
+    (lemmas.wrote_literal _ _ _ _ _ (literal_of c.in-Literal.literal) c.args.builder.now c.write_literal.new.builder w))
+    c.write_literal.ensures)
 
 pub expand_op-returns-in-Ident-clause-left : goal.expand_op-returns-in-Ident-clause-left
 expand_op-returns-in-Ident-clause-left g t c =
     rw (c.in-Ident.is, view-ident) (lefts.and_none c.write_ident.result c.and-in-Ident.result c.and-in-Ident.ensures
     (λ w. lefts.left_token _ _ _ _ _ _ _ c.args.builder.now c.write_ident.new.builder
-    (lemmas.wrote_ident _ _ _ _ _ (ident_of c.in-Ident.ident) c.args.builder.now c.write_ident.new.builder w)) c.write_ident.ensures)
+    (lemmas.wrote_ident _ _ _ _ _ (ident_of c.in-Ident.ident) c.args.builder.now c.write_ident.new.builder w))
+    c.write_ident.ensures)
 
 pub expand_op-returns-in-Punct-clause-left : goal.expand_op-returns-in-Punct-clause-left
 expand_op-returns-in-Punct-clause-left g t c =
     rw (c.in-Punct.is, view-punct) (lefts.and_none c.write_puncts.result c.and-in-Punct.result c.and-in-Punct.ensures
     (λ w. lefts.left_token _ _ _ _ _ _ _ c.args.builder.now c.write_puncts.new.builder
-    (lemmas.wrote_puncts _ _ _ _ _ c.in-Punct.puncts c.as_slice.result.now c.args.builder.now c.write_puncts.new.builder c.as_slice.ensures.value w))
+    (lemmas.wrote_puncts _ _ _ _ _ c.in-Punct.puncts c.as_slice.result.now c.args.builder.now c.write_puncts.new.builder
+    c.as_slice.ensures.value w))
     c.write_puncts.ensures.written)
 
 pub expand_op-returns-in-Subtree-clause-left : goal.expand_op-returns-in-Subtree-clause-left
-expand_op-returns-in-Subtree-clause-left g t c = rw (c.in-Subtree.is, view-subtree) (rw (← c.deref.ensures.value) c.expand_group.ensures.left)
+expand_op-returns-in-Subtree-clause-left g t c =
+    rw (c.in-Subtree.is, view-subtree) (rw (← c.deref.ensures.value) c.expand_group.ensures.left)
 
 pub expand_group-returns-clause-left : goal.expand_group-returns-clause-left
 expand_group-returns-clause-left g t c =
     lefts.left_group _ _ _ _ _ c.args.delimiter c.mark.result c.mark-2.result _ c.args.builder.now c.open.new.self
-    c.expand_ops.new.builder c.close.new.self c.mark.ensures c.mark-2.ensures c.in_ok-open.ensures.ok c.in_ok-fault.ensures.left c.close.ensures
+    c.expand_ops.new.builder c.close.new.self c.mark.ensures c.mark-2.ensures c.in_ok-open.ensures.ok
+    c.in_ok-fault.ensures.left c.close.ensures
 
 pub expand_op-returns-in-Var-clause-left : goal.expand_op-returns-in-Var-clause-left
 expand_op-returns-in-Var-clause-left g t c =
     rw (c.in-Var.is, view-var) (lefts.if_ok_by c.write_var.result
-    (λ f w e k. lefts.left_variable _ _ _ _ _ error_of_fault f c.in-Var.name c.in-Var.kind c.in-Var.id c.args.builder.now c.write_var.new.builder
-    (lemmas.wrote_variable _ _ _ _ _ (is_some f) c.in-Var.name c.in-Var.kind c.in-Var.id c.args.builder.now c.write_var.new.builder w) e k)
+    (λ f w e k. lefts.left_variable _ _ _ _ _ error_of_fault f c.in-Var.name c.in-Var.kind c.in-Var.id
+    c.args.builder.now c.write_var.new.builder
+    (lemmas.wrote_variable _ _ _ _ _ (is_some f) c.in-Var.name c.in-Var.kind c.in-Var.id c.args.builder.now
+    c.write_var.new.builder w) e k)
     c.write_var.ensures.wrote c.write_var.ensures.first c.write_var.ensures.unchanged)
 
 pub expand_op-returns-in-Ignore-clause-left : goal.expand_op-returns-in-Ignore-clause-left
@@ -218,21 +277,25 @@ pub expand_op-returns-in-Index-clause-left : goal.expand_op-returns-in-Index-cla
 expand_op-returns-in-Index-clause-left g t c =
     rw (c.in-Index.is, view-index) (lefts.and_none c.write_at_call.result c.and-in-Index.result c.and-in-Index.ensures
     (λ w. lefts.left_index _ _ _ _ _ c.in-Index.depth _ c.args.builder.now c.write_at_call.new.builder
-    (lemmas.wrote_index _ _ _ _ _ c.in-Index.depth c.index_at.result c.args.builder.now c.write_at_call.new.builder c.index_at.ensures w))
+    (lemmas.wrote_index _ _ _ _ _ c.in-Index.depth c.index_at.result c.args.builder.now c.write_at_call.new.builder
+    c.index_at.ensures w))
     c.write_at_call.ensures)
 
 pub expand_op-returns-in-Len-clause-left : goal.expand_op-returns-in-Len-clause-left
 expand_op-returns-in-Len-clause-left g t c =
     rw (c.in-Len.is, view-len) (lefts.and_none c.write_at_call-in-Len.result c.and-in-Len.result c.and-in-Len.ensures
     (λ w. lefts.left_len _ _ _ _ _ c.in-Len.depth _ c.args.builder.now c.write_at_call-in-Len.new.builder
-    (lemmas.wrote_len _ _ _ _ _ c.in-Len.depth c.rounds_at.result c.args.builder.now c.write_at_call-in-Len.new.builder c.rounds_at.ensures w))
+    (lemmas.wrote_len _ _ _ _ _ c.in-Len.depth c.rounds_at.result c.args.builder.now c.write_at_call-in-Len.new.builder
+    c.rounds_at.ensures w))
     c.write_at_call-in-Len.ensures)
 
 pub expand_op-returns-in-Count-clause-left : goal.expand_op-returns-in-Count-clause-left
 expand_op-returns-in-Count-clause-left g t c =
     rw (c.in-Count.is, view-count) (lefts.if_ok_by c.write_count.result
-    (λ f w e k. lefts.left_count _ _ _ _ _ error_of_fault f c.in-Count.name c.in-Count.depth c.args.builder.now c.write_count.new.builder
-    (lemmas.wrote_count _ _ _ _ _ (is_some f) c.in-Count.name c.in-Count.depth c.args.builder.now c.write_count.new.builder w) e k)
+    (λ f w e k. lefts.left_count _ _ _ _ _ error_of_fault f c.in-Count.name c.in-Count.depth c.args.builder.now
+    c.write_count.new.builder
+    (lemmas.wrote_count _ _ _ _ _ (is_some f) c.in-Count.name c.in-Count.depth c.args.builder.now
+    c.write_count.new.builder w) e k)
     c.write_count.ensures.wrote c.write_count.ensures.first c.write_count.ensures.unchanged)
 
 pub expand_op-returns-in-Concat-clause-left : goal.expand_op-returns-in-Concat-clause-left
@@ -254,11 +317,14 @@ expand_ops-returns-clause-left g t c =
 pub expand_repeat-returns-clause-left : goal.expand_repeat-returns-clause-left
 expand_repeat-returns-clause-left g t c =
     let seps = option_map (λ s. separator_seen s.now) c.args.separator in
-    let same : kept_rounds c.args.kind (bound_by c.args.ctx.now.bindings.now) c.args.path.now (ops_of c.args.body.now) ≡ finite c.in-Ok.rounds =
+    let same : kept_rounds c.args.kind (bound_by c.args.ctx.now.bindings.now) c.args.path.now (ops_of c.args.body.now)
+    ≡ finite c.in-Ok.rounds =
     ap (kept c.args.kind) (sym c.rounds_of.ensures) ∙ c.in-Ok.ensures.kept.0 in
-    let faultless = c.in-Ok.ensures.fault ∙ ap (λ e. extent_fault c.args.kind (kept c.args.kind e)) c.rounds_of.ensures in
+    let faultless = c.in-Ok.ensures.fault
+    ∙ ap (λ e. extent_fault c.args.kind (kept c.args.kind e)) c.rounds_of.ensures in
     let all : c.loop-index.index ≡ c.in-Ok.rounds = omega arith in
-    lefts.left_rounds _ _ _ _ _ seps (ops_of c.args.body.now) c.args.kind c.in-Ok.rounds c.loop-index.separated c.args.builder.now
+    lefts.left_rounds _ _ _ _ _ seps (ops_of c.args.body.now) c.args.kind c.in-Ok.rounds c.loop-index.separated
+    c.args.builder.now
     c.loop-index.builder same faultless (rw all at c.loop-index.invariant.left)
 
 pub expand_repeat-returns-in-Err-clause-left : goal.expand_repeat-returns-in-Err-clause-left

@@ -13,24 +13,31 @@ use Rattle.mbe_transcriber.proofs.transcriber.+writing.Given as goal
 
 abbrev pub invariant-expand_ops-loop-op : goal.invariant-expand_ops-loop-op
 invariant-expand_ops-loop-op g l = record {
-  wrote : Sofar (g.G.FragmentGrammar.grammar l.ctx.grammar.now) (λ s t. g.M.Fn.post l.ctx.marker (s, tt) t) l.ctx.call_site (bound_by l.ctx.bindings.now) l.path
+  wrote : Sofar (g.G.FragmentGrammar.grammar l.ctx.grammar.now) (λ s t. g.M.Fn.post l.ctx.marker (s, tt) t)
+      l.ctx.call_site (bound_by l.ctx.bindings.now) l.path
       (is_some l.first) (ops_of l.ops) (ops_of (drop l.op-index l.ops)) l.initial.builder l.builder;
   first : first_fault l.ctx.call_site (bound_by l.ctx.bindings.now) l.path (ops_of l.ops)
       ≡ option_or (option_map error_of_fault l.first)
       (first_fault l.ctx.call_site (bound_by l.ctx.bindings.now) l.path (ops_of (drop l.op-index l.ops)));
-  left : GoesOn (g.G.FragmentGrammar.grammar l.ctx.grammar.now) (λ s t. g.M.Fn.post l.ctx.marker (s, tt) t) l.ctx.call_site (bound_by l.ctx.bindings.now) l.path
+  left : GoesOn (g.G.FragmentGrammar.grammar l.ctx.grammar.now) (λ s t. g.M.Fn.post l.ctx.marker (s, tt) t)
+      l.ctx.call_site (bound_by l.ctx.bindings.now) l.path
       (ops_of l.ops) (ops_of (drop l.op-index l.ops)) l.initial.builder l.builder;
 }
 
 abbrev pub invariant-expand_repeat-loop-index : goal.invariant-expand_repeat-loop-index
 invariant-expand_repeat-loop-index g l = record {
   path : l.inside.items ≡ l.path;
-  rounded : Rounded (g.G.FragmentGrammar.grammar l.ctx.grammar.now) (λ s t. g.M.Fn.post l.ctx.marker (s, tt) t) l.ctx.call_site (bound_by l.ctx.bindings.now) l.path
-      (option_map (λ s. separator_seen s.now) l.separator) (ops_of l.body) l.rounds l.index (is_some l.first) l.separated l.initial.builder l.builder;
+  rounded : Rounded (g.G.FragmentGrammar.grammar l.ctx.grammar.now) (λ s t. g.M.Fn.post l.ctx.marker (s, tt) t)
+      l.ctx.call_site (bound_by l.ctx.bindings.now) l.path
+      (option_map (λ s. separator_seen s.now) l.separator) (ops_of l.body) l.rounds l.index (is_some l.first)
+      l.separated l.initial.builder l.builder;
   first : option_map error_of_fault l.first
-      ≡ first_below (λ i. first_fault l.ctx.call_site (bound_by l.ctx.bindings.now) (level i l.rounds l.path) (ops_of l.body)) l.index;
-  left : Begun (g.G.FragmentGrammar.grammar l.ctx.grammar.now) (λ s t. g.M.Fn.post l.ctx.marker (s, tt) t) l.ctx.call_site (bound_by l.ctx.bindings.now) l.path
-      (option_map (λ s. separator_seen s.now) l.separator) (ops_of l.body) l.rounds l.index l.separated l.initial.builder l.builder;
+      ≡ first_below (λ i. first_fault l.ctx.call_site (bound_by l.ctx.bindings.now) (level i l.rounds l.path)
+      (ops_of l.body)) l.index;
+  left : Begun (g.G.FragmentGrammar.grammar l.ctx.grammar.now) (λ s t. g.M.Fn.post l.ctx.marker (s, tt) t)
+      l.ctx.call_site (bound_by l.ctx.bindings.now) l.path
+      (option_map (λ s. separator_seen s.now) l.separator) (ops_of l.body) l.rounds l.index l.separated
+      l.initial.builder l.builder;
 }
 
 abbrev pub decreases-expand_ops : goal.decreases-expand_ops

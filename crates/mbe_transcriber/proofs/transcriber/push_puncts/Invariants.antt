@@ -4,4 +4,5 @@ use Rattle.mbe_semantics.specs.Writing.Substitution.{punct_trees}
 use Rattle.mbe_transcriber.proofs.transcriber.push_puncts.Given as goal
 
 abbrev pub invariant-loop-punct : goal.invariant-loop-punct
-invariant-loop-punct g l = put (punct_trees (drop l.punct-index l.puncts)) l.builder ≡ put (punct_trees l.puncts) l.initial.builder
+invariant-loop-punct g l = put (punct_trees (drop l.punct-index l.puncts)) l.builder
+    ≡ put (punct_trees l.puncts) l.initial.builder

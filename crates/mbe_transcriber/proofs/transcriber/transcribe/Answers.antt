@@ -15,7 +15,8 @@ use Rattle.mbe_transcriber.proofs.transcriber.transcribe.Goals.{in-Some+in_ok-er
 
 pub returns-clause-fault : goal.returns-clause-fault
 returns-clause-fault g c =
-    let told : is_some c.in_ok-fault.field-0 ≡ faults (bound_by c.args.bindings.now) [] (template_of c.args.template.now) =
+    let told : is_some c.in_ok-fault.field-0
+    ≡ faults (bound_by c.args.bindings.now) [] (template_of c.args.template.now) =
     rw (← c.deref.ensures.value) c.in_ok-fault.ensures.wrote.told in
     let same : is_some c.match-branch-3.err ≡ is_some c.in_ok-fault.field-0 =
     elim c.match-branch-3.branch [ in-Some+in_ok-error-in-Some w ↦ search rules | in-None w ↦ search rules ] in
@@ -23,8 +24,11 @@ returns-clause-fault g c =
 
 pub returns-clause-substitution : goal.returns-clause-substitution
 returns-clause-substitution g c =
-    wrote_whole (g.G.FragmentGrammar.grammar c.args.grammar.now) (λ s t. g.M.Fn.post c.args.marker (s, tt) t) c.args.call_site (bound_by c.args.bindings.now) (template_of c.args.template.now) (is_some c.in_ok-fault.field-0) c.in_ok-builder.builder c.expand_ops.new.builder c.build.result
-    (c.in_ok-builder.ensures ∙ ap (λ (d : Delimiter). let x : Delimiter × Forest = (d, none) in x ∷ []) c.invisible_spanned.ensures)
+    wrote_whole (g.G.FragmentGrammar.grammar c.args.grammar.now) (λ s t. g.M.Fn.post c.args.marker (s, tt) t)
+    c.args.call_site (bound_by c.args.bindings.now) (template_of c.args.template.now)
+    (is_some c.in_ok-fault.field-0) c.in_ok-builder.builder c.expand_ops.new.builder c.build.result
+    (c.in_ok-builder.ensures ∙ ap (λ (d : Delimiter). let x : Delimiter × Forest = (d, none) in x ∷ [])
+    c.invisible_spanned.ensures)
     (rw (← c.deref.ensures.value) c.in_ok-fault.ensures.wrote) c.build.ensures
 
 pub returns-clause-first : goal.returns-clause-first
@@ -38,7 +42,10 @@ returns-clause-first g c =
 
 pub returns-clause-left : goal.returns-clause-left
 returns-clause-left g c =
-    left_whole (g.G.FragmentGrammar.grammar c.args.grammar.now) (λ s t. g.M.Fn.post c.args.marker (s, tt) t) c.args.call_site
-    (bound_by c.args.bindings.now) (template_of c.args.template.now) c.in_ok-builder.builder c.expand_ops.new.builder c.build.result
-    (c.in_ok-builder.ensures ∙ ap (λ (d : Delimiter). let x : Delimiter × Forest = (d, none) in x ∷ []) c.invisible_spanned.ensures)
+    left_whole (g.G.FragmentGrammar.grammar c.args.grammar.now) (λ s t. g.M.Fn.post c.args.marker (s, tt) t)
+    c.args.call_site
+    (bound_by c.args.bindings.now) (template_of c.args.template.now) c.in_ok-builder.builder c.expand_ops.new.builder
+    c.build.result
+    (c.in_ok-builder.ensures ∙ ap (λ (d : Delimiter). let x : Delimiter × Forest = (d, none) in x ∷ [])
+    c.invisible_spanned.ensures)
     (rw (← c.deref.ensures.value) c.in_ok-fault.ensures.left) c.build.ensures

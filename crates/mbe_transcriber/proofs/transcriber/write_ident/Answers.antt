@@ -8,6 +8,8 @@ pub returns : goal.returns
 returns g c =
     let copy : c.in_ok-clone.field-0 ≡ c.args.ident.now.sym = search rules in
     if_ok c.push.result
-    (ident_written _ (ident_of c.args.ident.now) (record (ident_of c.args.ident.now) { sym = c.in_ok-clone.field-0; span = c.mark.result }) c.args.builder.now c.push.new.self
+    (ident_written _ (ident_of c.args.ident.now)
+    (record (ident_of c.args.ident.now) { sym = c.in_ok-clone.field-0; span = c.mark.result }) c.args.builder.now
+    c.push.new.self
     c.mark.ensures (ap (λ s. record (ident_of c.args.ident.now) { sym = s; span = c.mark.result }) copy))
     c.push.ensures.ok

@@ -8,6 +8,9 @@ pub returns : goal.returns
 returns g c =
     let copy : c.in_ok-clone.field-0 ≡ c.args.literal.now.text_and_suffix = search rules in
     if_ok c.push.result
-    (literal_written _ (literal_of c.args.literal.now) (record (literal_of c.args.literal.now) { text_and_suffix = c.in_ok-clone.field-0; span = c.mark.result }) c.args.builder.now c.push.new.self
-    c.mark.ensures (ap (λ s. record (literal_of c.args.literal.now) { text_and_suffix = s; span = c.mark.result }) copy))
+    (literal_written _ (literal_of c.args.literal.now)
+    (record (literal_of c.args.literal.now) { text_and_suffix = c.in_ok-clone.field-0; span = c.mark.result })
+    c.args.builder.now c.push.new.self
+    c.mark.ensures (ap (λ s. record (literal_of c.args.literal.now) { text_and_suffix = s; span = c.mark.result })
+    copy))
     c.push.ensures.ok

@@ -8,4 +8,5 @@ use Rattle.mbe_transcriber.proofs.transcriber.write_separator.Goals as goal
 
 pub returns-in-None : goal.returns-in-None
 returns-in-None g c =
-    put-none c.args.builder.now ∙ ap (λ s. put (separator_trees (option_map (λ x. separator_seen x.now) s)) c.args.builder.now) (sym c.in-None.is)
+    put-none c.args.builder.now ∙ ap (λ s. put (separator_trees (option_map (λ x. separator_seen x.now) s))
+    c.args.builder.now) (sym c.in-None.is)

@@ -37,6 +37,7 @@ loop-tree-preserved g c =
       c.flat_len.ensures,
       ap flat_len c.remaining.ensures,
     ) in
-    let p = passed_one all c.loop-tree.iter c.next.new.self _ _ c.loop-tree.invariant.0 c.loop-tree.invariant.1 c.in-Some.ensures.rest
+    let p = passed_one all c.loop-tree.iter c.next.new.self _ _ c.loop-tree.invariant.0 c.loop-tree.invariant.1
+    c.in-Some.ensures.rest
     (false_not c.is_empty.result c.if-is_empty.false c.is_empty.ensures) now in
     (p.len, p.last)

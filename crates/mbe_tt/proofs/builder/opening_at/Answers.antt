@@ -7,4 +7,5 @@ pub unreachable-requires : goal.unreachable-requires
 unreachable-requires g c = opens_not _ _ _ (opens_here _ _ _ _ c.index.ensures c.requires) c.in_default.not-Open
 
 pub returns : goal.returns
-returns g c = opens_with _ _ _ _ c.requires (sym (ap entry_of c.in-Open.is) ∙ opens_here _ _ _ _ c.index.ensures c.requires)
+returns g c = opens_with _ _ _ _ c.requires
+    (sym (ap entry_of c.in-Open.is) ∙ opens_here _ _ _ _ c.index.ensures c.requires)

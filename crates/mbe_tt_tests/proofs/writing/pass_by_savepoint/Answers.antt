@@ -6,5 +6,9 @@ use Rattle.mbe_tt_tests.proofs.writing.pass_by_savepoint.Goals as goal
 
 pub from_savepoint-requires : goal.from_savepoint-requires
 from_savepoint-requires g c =
-    let t : Tree = element_tree c.in_ok-_tree._tree in
-    (tree t none, c.savepoint-savepoint.ensures ∙ (first_rest _ _ (sym c.in_ok-_tree.ensures.value) ∙ ap (append (tree t none)) (sym c.in_ok-_tree.ensures.rest)))
+    let t : Tree = element_tree c.in_ok-_tree._tree in (
+      tree t none,
+      c.savepoint-savepoint.ensures
+          ∙ (first_rest _ _ (sym c.in_ok-_tree.ensures.value)
+          ∙ ap (append (tree t none)) (sym c.in_ok-_tree.ensures.rest)),
+    )

@@ -6,5 +6,7 @@ use Rattle.mbe_log.proofs.bindings.Bindings.add_round.Goals as goal
 
 pub returns : goal.returns
 returns g c =
-    ap (λ it. add_round_in c.args.number (values_of it) (bound_by c.loop-name.self)) (sym c.in-None.ensures.steps.0) ∙ c.loop-name.invariant
-    ∙ ap (λ it. add_round_in c.args.number (values_of it) (bound_by c.args.self.now)) c.into_iter-name-iterator.ensures.into_iter_gives.0
+    ap (λ it. add_round_in c.args.number (values_of it) (bound_by c.loop-name.self)) (sym c.in-None.ensures.steps.0)
+    ∙ c.loop-name.invariant
+    ∙ ap (λ it. add_round_in c.args.number (values_of it) (bound_by c.args.self.now))
+    c.into_iter-name-iterator.ensures.into_iter_gives.0

@@ -6,4 +6,5 @@ use Rattle.mbe_log.proofs.bindings.Bindings.add_round.Given as goal
 
 abbrev pub invariant-loop-name : goal.invariant-loop-name
 invariant-loop-name g l =
-    add_round_in l.number (values_of l.name-iterator) (bound_by l.self) ≡ add_round_in l.number (values_of l.initial.name-iterator) (bound_by l.initial.self)
+    add_round_in l.number (values_of l.name-iterator) (bound_by l.self)
+    ≡ add_round_in l.number (values_of l.initial.name-iterator) (bound_by l.initial.self)

@@ -6,6 +6,7 @@ use Rattle.mbe_log.proofs.bindings.Bindings.count.Given as goal
 
 abbrev pub invariant-loop-name : goal.invariant-loop-name
 invariant-loop-name g l = record {
-  counted : min (binding_total (bound_by l.self)) 18446744073709551615 ≡ min (l.count + binding_total (values_of l._name-iterator)) 18446744073709551615;
+  counted : min (binding_total (bound_by l.self)) 18446744073709551615
+      ≡ min (l.count + binding_total (values_of l._name-iterator)) 18446744073709551615;
   most : l.count ≤ 18446744073709551615;
 }

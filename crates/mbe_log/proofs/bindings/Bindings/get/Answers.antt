@@ -5,4 +5,5 @@ use Rattle.mbe_log.proofs.bindings.Bindings.get.Goals as goal
 
 pub returns : goal.returns
 returns g c =
-    sym (copied_seen c.get.result) ∙ ap (option_map value_seen) c.get.ensures.value ∙ found_by_name c.args.self.now.inner.entries c.args.name.now
+    sym (copied_seen c.get.result) ∙ ap (option_map value_seen) c.get.ensures.value
+    ∙ found_by_name c.args.self.now.inner.entries c.args.name.now

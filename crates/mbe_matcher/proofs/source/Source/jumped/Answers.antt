@@ -1,7 +1,7 @@
 use Rattle.std.proofs.Common.{sym, subst}
 use Rattle.mbe_tt.specs.Views.View.{trees}
-use Rattle.mbe_matcher.specs.Fronts.{IsBehind}
-use Rattle.mbe_matcher.proofs.Sources.{here_is, behind_trees}
+use Rattle.mbe_matcher.specs.Fronts.{IsAfter}
+use Rattle.mbe_matcher.proofs.Sources.{here_is, after_trees}
 use Rattle.mbe_matcher.proofs.source.Source.jumped.Goals as goal
 
 pub invariant_of-result : goal.invariant_of-result
@@ -9,7 +9,7 @@ invariant_of-result g c =
     let s = c.args.self in
     let here = here_is (trees s.whole) s.place s.here _ s.stands s.within in
     record {
-      stands = behind_trees (trees s.whole) s.place c.args.width s.here c.args.beyond _ s.stands
-          (subst (λ f. IsBehind f c.args.width c.args.beyond) (sym here) c.requires.beyond);
+      stands = after_trees (trees s.whole) s.place c.args.width s.here c.args.beyond _ s.stands
+          (subst (λ f. IsAfter f c.args.width c.args.beyond) (sym here) c.requires.beyond);
       within = c.requires.fits;
     }

@@ -8,7 +8,8 @@ use Rattle.mbe_parser.proofs.parser.metavar_expr.parse_element.Goals as goal
 
 pub returns-in-Some-Leaf-Literal-clause-element : goal.returns-in-Some-Leaf-Literal-clause-element
 returns-in-Some-Leaf-Literal-clause-element g c =
-    let front : Some (Leaf_tree (leaves.literal (literal_of c.in_ok-clone.field-0))) ≡ first c.args.src.now = search rules in
+    let front : Some (Leaf_tree (leaves.literal (literal_of c.in_ok-clone.field-0))) ≡ first c.args.src.now =
+    search rules in
     let at = first_tree c.args.src.now c.next-passed.new.self _ front c.next-passed.ensures.rest in
     literal_in_front c.args.src.now c.next-passed.new.self _ at
 

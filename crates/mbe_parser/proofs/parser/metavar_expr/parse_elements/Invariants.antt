@@ -6,7 +6,8 @@ use Rattle.mbe_ops.specs.Views.{element_seen}
 use Rattle.mbe_parser.proofs.parser.metavar_expr.parse_elements.Given as goal
 
 abbrev pub invariant-elements : goal.invariant-elements
-invariant-elements g l = elements_of l.fn.src ≡ option_map (λ es. map element_seen l.elements.items ++ es) (elements_of l.src)
+invariant-elements g l = elements_of l.fn.src
+    ≡ option_map (λ es. map element_seen l.elements.items ++ es) (elements_of l.src)
 
 abbrev pub decreases-elements : goal.decreases-elements
 decreases-elements g l = flat_len l.src

@@ -7,4 +7,5 @@ pub returns-then-is_empty : goal.returns-then-is_empty
 returns-then-is_empty g c =
     let both = c.text_and_suffix in
     c.ok.ensures.value
-    ∙ reads_depth (literal_of c.args.literal.now) both.result.0.now both.result.1.now c.parse.result both.ensures.text both.ensures.suffix c.if-is_empty.ensures c.parse.ensures.value.0
+    ∙ reads_depth (literal_of c.args.literal.now) both.result.0.now both.result.1.now c.parse.result both.ensures.text
+    both.ensures.suffix c.if-is_empty.ensures c.parse.ensures.value.0

@@ -5,4 +5,5 @@ use Rattle.mbe_rules.proofs.FlatTreeLemmas.{trees_of_flat-flat}
 use Rattle.mbe_rules.proofs.table.RuleTableFragmentGrammar.parse.Goals as goal
 
 pub returns : goal.returns
-returns g c = c.front.ensures ∙ sym (ap (answer c.args.self.now c.args.entry) (trees_of_flat-flat (trees c.args.tokens)))
+returns g c = c.front.ensures ∙ sym (ap (answer c.args.self.now c.args.entry)
+    (trees_of_flat-flat (trees c.args.tokens)))

@@ -39,9 +39,11 @@ tokens-preserved-in-Some-Subtree g c =
     c.next.ensures.rest (search rules) (search rules) (search rules) c.tokens.invariant
 
 pub returns-in-None-pop : goal.returns-in-None-pop
-returns-in-None-pop g c = all_done c.tokens.around.items c.tokens.iter _ _ (search rules) (search rules) c.tokens.invariant
+returns-in-None-pop g c = all_done c.tokens.around.items c.tokens.iter _ _ (search rules) (search rules)
+    c.tokens.invariant
 
 pub tokens-preserved : goal.tokens-preserved
 tokens-preserved g c =
     pop_on c.tokens.around.items c.pop.new.self.items c.tokens.iter c.in-Some-pop.rest c.in-Some-pop.delimiter
-    (state_of c.tokens.self) (state_of c.close.new.self) _ (search rules) (search rules) (search rules) c.tokens.invariant
+    (state_of c.tokens.self) (state_of c.close.new.self) _ (search rules) (search rules) (search rules)
+    c.tokens.invariant

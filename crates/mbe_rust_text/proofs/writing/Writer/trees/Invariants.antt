@@ -8,7 +8,8 @@ use Rattle.mbe_rust_text.proofs.writing.Writer.trees.Given as goal
 
 abbrev pub invariant-tokens : goal.invariant-tokens
 invariant-tokens g l =
-    written_around (reverse l.around.items) (written l.iter (state_of l.self)) ≡ written (trees l.fn.tokens) (state_of l.initial.self)
+    written_around (reverse l.around.items) (written l.iter (state_of l.self))
+    ≡ written (trees l.fn.tokens) (state_of l.initial.self)
 
 abbrev pub decreases-tokens : goal.decreases-tokens
 decreases-tokens g l = flat_len l.iter + tokens_around (reverse l.around.items)

@@ -55,7 +55,8 @@ returns-in_err-block_comment-clause-exact c =
     (doc_there _ _ _ _ _ c.parts.invariant.on.4 c.is_at_doc.ensures c.if-is_at_doc.false) (search rules)
     (sym c.begins_with.ensures.exact ∙ c.if-begins_with.false)
     (sym c.begins_with-else-begins_with.ensures.exact ∙ c.if-begins_with-2.true) fault.0
-    ∙ ap Err (ap (λ (n : ℕ). fault_at wrong.OpenComment n (chars c.parts.self.rest.now)) (sym c.parts.invariant.on.1) ∙ sym fault.1))
+    ∙ ap Err (ap (λ (n : ℕ). fault_at wrong.OpenComment n (chars c.parts.self.rest.now)) (sym c.parts.invariant.on.1)
+    ∙ sym fault.1))
 
 pub returns-else-begins_with-2-clause-exact : goal.returns-else-begins_with-2-clause-exact
 returns-else-begins_with-2-clause-exact c =

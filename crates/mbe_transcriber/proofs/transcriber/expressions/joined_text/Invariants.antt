@@ -13,7 +13,8 @@ invariant-loop-element g l = record {
   all : Joining (bound_by l.ctx.bindings.now) l.path (string_bytes l.text) (is_some l.fault) (elements_seen l.elements)
       (elements_seen (drop l.element-index l.elements));
   text : joined (bound_by l.ctx.bindings.now) l.path (elements_seen l.elements)
-      ≡ string_bytes l.text ++ joined (bound_by l.ctx.bindings.now) l.path (elements_seen (drop l.element-index l.elements));
+      ≡ string_bytes l.text ++ joined (bound_by l.ctx.bindings.now) l.path
+      (elements_seen (drop l.element-index l.elements));
   fault : first_of (element_fault (bound_by l.ctx.bindings.now) l.path) (elements_seen l.elements)
       ≡ option_or (option_map error_of_fault l.fault)
       (first_of (element_fault (bound_by l.ctx.bindings.now) l.path) (elements_seen (drop l.element-index l.elements)));

@@ -12,8 +12,10 @@ pub returns-then-is_identifier-clause-wrote : goal.returns-then-is_identifier-cl
 returns-then-is_identifier-clause-wrote g c =
     let same : c.as_str-then-is_identifier.result.now ≡ string_bytes c.in_ok-text.text = search rules in
     let first : c.as_str.result.now ≡ string_bytes c.in_ok-text.text = search rules in
-    joined_wrote (g.G.FragmentGrammar.grammar c.args.ctx.now.grammar.now) (λ s t. g.M.Fn.post c.args.ctx.now.marker (s, tt) t) c.args.span
-    (bound_by c.args.ctx.now.bindings.now) c.args.path.now (elements_seen c.args.elements.now) (string_bytes c.in_ok-text.text) (is_some c.in_ok-text.fault)
+    joined_wrote (g.G.FragmentGrammar.grammar c.args.ctx.now.grammar.now)
+    (λ s t. g.M.Fn.post c.args.ctx.now.marker (s, tt) t) c.args.span
+    (bound_by c.args.ctx.now.bindings.now) c.args.path.now (elements_seen c.args.elements.now)
+    (string_bytes c.in_ok-text.text) (is_some c.in_ok-text.fault)
     c.args.builder.now c.write_name.new.builder c.in_ok-text.ensures.all
     (ap (λ x. are_identifier_chars (chars x)) (sym first) ∙ (sym c.is_identifier.ensures ∙ c.if-is_identifier.true))
     (rw (← same) c.in_ok-write_name.ensures)
@@ -21,8 +23,10 @@ returns-then-is_identifier-clause-wrote g c =
 pub returns-clause-wrote : goal.returns-clause-wrote
 returns-clause-wrote g c =
     let first : c.as_str.result.now ≡ string_bytes c.in_ok-text.text = search rules in
-    dummy_wrote (g.G.FragmentGrammar.grammar c.args.ctx.now.grammar.now) (λ s t. g.M.Fn.post c.args.ctx.now.marker (s, tt) t) c.args.span
-    (bound_by c.args.ctx.now.bindings.now) c.args.path.now (elements_seen c.args.elements.now) (string_bytes c.in_ok-text.text) (is_some c.in_ok-text.fault) (is_some c.or.result) _
+    dummy_wrote (g.G.FragmentGrammar.grammar c.args.ctx.now.grammar.now)
+    (λ s t. g.M.Fn.post c.args.ctx.now.marker (s, tt) t) c.args.span
+    (bound_by c.args.ctx.now.bindings.now) c.args.path.now (elements_seen c.args.elements.now)
+    (string_bytes c.in_ok-text.text) (is_some c.in_ok-text.fault) (is_some c.or.result) _
     c.args.builder.now c.write_name-2.new.builder c.in_ok-text.ensures.all
     (ap (λ x. are_identifier_chars (chars x)) (sym first) ∙ (sym c.is_identifier.ensures ∙ c.if-is_identifier.false))
     (ap is_some c.or.ensures ∙ or_told c.in_ok-text.fault _) c.in_ok-write_name-2.ensures
@@ -31,15 +35,19 @@ pub returns-then-is_identifier-clause-left : goal.returns-then-is_identifier-cla
 returns-then-is_identifier-clause-left g c =
     let same : c.as_str-then-is_identifier.result.now ≡ string_bytes c.in_ok-text.text = search rules in
     let first : c.as_str.result.now ≡ string_bytes c.in_ok-text.text = search rules in
-    let is = ap (λ x. are_identifier_chars (chars x)) (sym first) ∙ (sym c.is_identifier.ensures ∙ c.if-is_identifier.true) in
+    let is = ap (λ x. are_identifier_chars (chars x)) (sym first)
+    ∙ (sym c.is_identifier.ensures ∙ c.if-is_identifier.true) in
     subst (λ name. Appends (IsConcatWritten (g.G.FragmentGrammar.grammar c.args.ctx.now.grammar.now)
-    (λ s t. g.M.Fn.post c.args.ctx.now.marker (s, tt) t) c.args.span (Some name)) c.args.builder.now c.write_name.new.builder)
+    (λ s t. g.M.Fn.post c.args.ctx.now.marker (s, tt) t) c.args.span (Some name)) c.args.builder.now
+    c.write_name.new.builder)
     (same ∙ name_is (string_bytes c.in_ok-text.text) _ c.in_ok-text.ensures.text is) c.in_ok-write_name.ensures
 
 pub returns-clause-left : goal.returns-clause-left
 returns-clause-left g c =
     let first : c.as_str.result.now ≡ string_bytes c.in_ok-text.text = search rules in
-    let is = ap (λ x. are_identifier_chars (chars x)) (sym first) ∙ (sym c.is_identifier.ensures ∙ c.if-is_identifier.false) in
+    let is = ap (λ x. are_identifier_chars (chars x)) (sym first)
+    ∙ (sym c.is_identifier.ensures ∙ c.if-is_identifier.false) in
     subst (λ name. Appends (IsConcatWritten (g.G.FragmentGrammar.grammar c.args.ctx.now.grammar.now)
-    (λ s t. g.M.Fn.post c.args.ctx.now.marker (s, tt) t) c.args.span (Some name)) c.args.builder.now c.write_name-2.new.builder)
+    (λ s t. g.M.Fn.post c.args.ctx.now.marker (s, tt) t) c.args.span (Some name)) c.args.builder.now
+    c.write_name-2.new.builder)
     (name_replaced (string_bytes c.in_ok-text.text) _ c.in_ok-text.ensures.text is) c.in_ok-write_name-2.ensures

@@ -13,6 +13,7 @@ returns g c =
       | else-is_keyword w ↦ w.is_raw-is ∙ ap rawness (sym w.if-is_keyword.false)
     ] in
     if_ok c.push.result
-    (name_written (g.G.FragmentGrammar.grammar c.args.ctx.now.grammar.now) _ c.args.span c.args.text.now c.in_ok-intern.field-0 c.if-is_keyword.is_raw c.mark.result c.args.builder.now c.push.new.self
+    (name_written (g.G.FragmentGrammar.grammar c.args.ctx.now.grammar.now) _ c.args.span c.args.text.now
+    c.in_ok-intern.field-0 c.if-is_keyword.is_raw c.mark.result c.args.builder.now c.push.new.self
     c.in_ok-intern.ensures (raw ∙ ap rawness c.is_keyword.ensures) c.mark.ensures)
     c.push.ensures.ok

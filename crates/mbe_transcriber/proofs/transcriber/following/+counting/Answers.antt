@@ -21,7 +21,8 @@ shortest-shortest_of_op-requires g t c κs within =
 pub shortest-loop-stop-init : goal.shortest-loop-stop-init
 shortest-loop-stop-init g t c =
     let f = extent_under (bound_by c.args.bindings.now) c.args.path.now in
-    let whole = ops_at_first _ _ None (ops_of c.args.ops.now) c.into_iter-stop-iterator.ensures.into_iter_gives c.new-stop-items.ensures in
+    let whole = ops_at_first _ _ None (ops_of c.args.ops.now) c.into_iter-stop-iterator.ensures.into_iter_gives
+    c.new-stop-items.ensures in
     let weight = ap ops_weight whole in
     record { lighter = omega (arith, weight); least = sym (ap (λ os. shortest (filter_map f (uses_of os))) whole) }
 
@@ -35,7 +36,8 @@ shortest-loop-stop-preserved-in-Op g t c =
     record {
       lighter = omega (arith, weight, before.invariant.lighter);
       least = shortest_next f (op_of c.in-Op.op.now) left (ops_of c.args.ops.now) _ _ _
-          (before.invariant.least ∙ ap (λ os. shorter (option_map extent_seen before.least) (shortest (filter_map f (uses_of os)))) here)
+          (before.invariant.least ∙ ap (λ os. shorter (option_map extent_seen before.least)
+          (shortest (filter_map f (uses_of os)))) here)
           c.shortest_of_op.ensures c.shorter-least.ensures;
     }
 
@@ -47,7 +49,8 @@ shortest-loop-stop-preserved g t c =
     let before = c.loop-stop in
     record {
       lighter = omega (arith, weight, before.invariant.lighter);
-      least = before.invariant.least ∙ ap (λ os. shorter (option_map extent_seen before.least) (shortest (filter_map f (uses_of os)))) here;
+      least = before.invariant.least ∙ ap (λ os. shorter (option_map extent_seen before.least)
+          (shortest (filter_map f (uses_of os)))) here;
     }
 
 pub shortest-returns : goal.shortest-returns
@@ -55,7 +58,8 @@ shortest-returns g t c =
     let f = extent_under (bound_by c.args.bindings.now) c.args.path.now in
     let none_left = ap ops_in c.in-None.ensures.steps.0 in
     shortest_end f (ops_of c.args.ops.now) _
-    (c.loop-stop.invariant.least ∙ ap (λ os. shorter (option_map extent_seen c.loop-stop.least) (shortest (filter_map f (uses_of os)))) none_left)
+    (c.loop-stop.invariant.least ∙ ap (λ os. shorter (option_map extent_seen c.loop-stop.least)
+    (shortest (filter_map f (uses_of os)))) none_left)
 
 pub shortest_of_op-returns-in-Subtree : goal.shortest_of_op-returns-in-Subtree
 shortest_of_op-returns-in-Subtree g t c =
@@ -67,6 +71,8 @@ shortest_of_op-returns-in-Subtree g t c =
 pub shortest_of_op-returns-in-Repeat : goal.shortest_of_op-returns-in-Repeat
 shortest_of_op-returns-in-Repeat g t c =
     let f = extent_under (bound_by c.args.bindings.now) c.args.path.now in
-    c.shortest-in-Repeat.ensures ∙ (ap (λ os. shortest (filter_map f (uses_of (ops_of os)))) c.deref-in-Repeat.ensures.value
+    c.shortest-in-Repeat.ensures ∙ (ap (λ os. shortest (filter_map f (uses_of (ops_of os))))
+    c.deref-in-Repeat.ensures.value
     ∙ sym (ap (λ o. shortest (filter_map f (uses_of_op (op_of o)))) c.in-Repeat.is
-    ∙ ap (λ o. shortest (filter_map f (uses_of_op o))) (view-body c.in-Repeat.tokens c.in-Repeat.kind c.in-Repeat.separator)))
+    ∙ ap (λ o. shortest (filter_map f (uses_of_op o)))
+    (view-body c.in-Repeat.tokens c.in-Repeat.kind c.in-Repeat.separator)))

@@ -15,7 +15,8 @@ invariant-shortest-loop-stop g l = record {
   lighter : stops_weight (stops_left l.stop-iterator) ≤ ops_weight (ops_of l.ops);
   least : shortest (filter_map (extent_under (bound_by l.bindings) l.path) (uses_of (ops_of l.ops)))
       ≡ shorter (option_map extent_seen l.least)
-      (shortest (filter_map (extent_under (bound_by l.bindings) l.path) (uses_of (ops_in (stops_left l.stop-iterator)))));
+      (shortest (filter_map (extent_under (bound_by l.bindings) l.path)
+      (uses_of (ops_in (stops_left l.stop-iterator)))));
 }
 
 abbrev pub decreases-shortest : goal.decreases-shortest

@@ -10,5 +10,6 @@ use Rattle.mbe_transcriber.proofs.transcriber.following.rounds_of.Goals as goal
 
 pub returns-in-Some : goal.returns-in-Some
 returns-in-Some g c =
-    sym (least_of (filter_map (extent_under (bound_by c.args.bindings.now) c.args.path.now) (uses_of (ops_of c.args.body.now)))
+    sym (least_of (filter_map (extent_under (bound_by c.args.bindings.now) c.args.path.now)
+    (uses_of (ops_of c.args.body.now)))
     ∙ ap (λ o. unwrap_or o (finite 0)) (sym c.shortest.ensures ∙ ap (option_map extent_seen) c.in-Some.is))

@@ -10,4 +10,6 @@ use Rattle.mbe_transcriber.proofs.transcriber.following.shortest_of_elements.Giv
 abbrev pub invariant-loop-element : goal.invariant-loop-element
 invariant-loop-element g l =
     shortest (filter_map (extent_under (bound_by l.bindings) l.path) (uses_of_elements (elements_seen l.elements)))
-    ≡ shorter (option_map extent_seen l.least) (shortest (filter_map (extent_under (bound_by l.bindings) l.path) (uses_of_elements (elements_seen (drop l.element-index l.elements)))))
+    ≡ shorter (option_map extent_seen l.least)
+    (shortest (filter_map (extent_under (bound_by l.bindings) l.path)
+    (uses_of_elements (elements_seen (drop l.element-index l.elements)))))

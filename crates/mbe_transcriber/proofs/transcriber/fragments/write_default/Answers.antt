@@ -7,9 +7,12 @@ use Rattle.mbe_transcriber.proofs.WritingLemmas.{two_leaves, put-none}
 use Rattle.mbe_transcriber.proofs.transcriber.fragments.write_default.Goals as goal
 
 pub returns-in-Meta : goal.returns-in-Meta
-returns-in-Meta g c = put-none c.args.builder.now ∙ ap (λ f. put f c.args.builder.now) (nothing_for c.args.kind c.args.span c.in-Meta.is)
+returns-in-Meta g c = put-none c.args.builder.now
+    ∙ ap (λ f. put f c.args.builder.now) (nothing_for c.args.kind c.args.span c.in-Meta.is)
 
 pub returns-in_ok-intern-in-Lifetime : goal.returns-in_ok-intern-in-Lifetime
 returns-in_ok-intern-in-Lifetime g c =
-    rw c.in-Lifetime.is (two_leaves c.push-in-Lifetime-2.result _ _ _ _ c.args.builder.now c.push-in-Lifetime.new.self c.push-in-Lifetime-2.new.self c.punct-in-Lifetime.ensures
-    (c.name.ensures ∙ ap (λ n. ident (record { sym = n; is_raw = No; span = c.args.span })) c.in_ok-intern-in-Lifetime.ensures) c.in_ok-push-in-Lifetime.ensures.ok c.push-in-Lifetime-2.ensures.ok)
+    rw c.in-Lifetime.is (two_leaves c.push-in-Lifetime-2.result _ _ _ _ c.args.builder.now c.push-in-Lifetime.new.self
+    c.push-in-Lifetime-2.new.self c.punct-in-Lifetime.ensures
+    (c.name.ensures ∙ ap (λ n. ident (record { sym = n; is_raw = No; span = c.args.span }))
+    c.in_ok-intern-in-Lifetime.ensures) c.in_ok-push-in-Lifetime.ensures.ok c.push-in-Lifetime-2.ensures.ok)

@@ -5,7 +5,8 @@ use Rattle.mbe_semantics.specs.Writing.Written.{path_trees}
 use Rattle.mbe_transcriber.proofs.transcriber.fragments.write_path.Given as goal
 
 abbrev pub invariant-trees : goal.invariant-trees
-invariant-trees g l = put (path_trees l.call_site l.iter) l.builder ≡ put (path_trees l.call_site l.initial.iter) l.initial.builder
+invariant-trees g l = put (path_trees l.call_site l.iter) l.builder
+    ≡ put (path_trees l.call_site l.initial.iter) l.initial.builder
 
 abbrev pub decreases-trees : goal.decreases-trees
 decreases-trees g l = flat_len l.iter

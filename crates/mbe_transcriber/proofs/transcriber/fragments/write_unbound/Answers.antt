@@ -8,4 +8,5 @@ pub returns : goal.returns
 returns g c =
     let same : c.in_ok-clone.field-0 ≡ c.args.unbound.now = search rules in
     two_leaves c.push-2.result _ _ _ _ c.args.builder.now c.push.new.self c.push-2.new.self c.punct.ensures
-    (c.name.ensures ∙ ap (λ n. ident (record { sym = n; is_raw = No; span = c.args.id })) same) c.in_ok-push.ensures.ok c.push-2.ensures.ok
+    (c.name.ensures ∙ ap (λ n. ident (record { sym = n; is_raw = No; span = c.args.id })) same) c.in_ok-push.ensures.ok
+    c.push-2.ensures.ok

@@ -11,9 +11,11 @@ opening_at-around-requires g c =
 
 pub invariant_of-result : goal.invariant_of-result
 invariant_of-result g c =
-    (after_build (levels_of (entries_of c.self.inside.entries.items)) _ _ _ _ (ap length c.self.view_is ∙ c.requires) c.self.invariant.spelled c.opening_at-around.ensures c.finish.ensures.items).spelled
+    (after_build (levels_of (entries_of c.self.inside.entries.items)) _ _ _ _ (ap length c.self.view_is ∙ c.requires)
+    c.self.invariant.spelled c.opening_at-around.ensures c.finish.ensures.items).spelled
 
 pub returns : goal.returns
 returns g c =
     sym c.self.view_is
-    ∙ (after_build (levels_of (entries_of c.self.inside.entries.items)) _ _ _ _ (ap length c.self.view_is ∙ c.requires) c.self.invariant.spelled c.opening_at-around.ensures c.finish.ensures.items).is
+    ∙ (after_build (levels_of (entries_of c.self.inside.entries.items)) _ _ _ _ (ap length c.self.view_is ∙ c.requires)
+    c.self.invariant.spelled c.opening_at-around.ensures c.finish.ensures.items).is

@@ -8,21 +8,44 @@ use Rattle.mbe_tt.proofs.builder.TopSubtreeBuilder.close.Goals as goal
 
 pub opening_at-around-requires : goal.opening_at-around-requires
 opening_at-around-requires g c =
-    opens_at (levels_of (entries_of c.self.inside.entries.items)) _ _ c.self.invariant.spelled c.self.invariant.at (omega (arith, c.self.invariant.some, c.self.invariant.depth))
+    opens_at (levels_of (entries_of c.self.inside.entries.items)) _ _ c.self.invariant.spelled c.self.invariant.at
+    (omega (arith, c.self.invariant.some, c.self.invariant.depth))
 
 pub invariant_of-self : goal.invariant_of-self
 invariant_of-self g c =
-    let room : length (entries_of c.finish.new.entries.items) + (c.self.inside.depth - 1) ≤ vec_capacity c.finish.new.entries =
-    omega (arith, length-shown c.finish.new.entries.items, length-shown c.self.inside.entries.items, c.self.invariant.room, c.self.invariant.some, c.finish.ensures.capacity, finish_len _ _ _ _ _ _ c.opening_at-around.ensures c.finish.ensures.items) in
-    let more : 1 < length (levels_of (entries_of c.self.inside.entries.items)) = omega (arith, ap length c.self.view_is, c.requires) in
-    (after_close (levels_of (entries_of c.self.inside.entries.items)) _ _ _ _ _ _ _ c.args.span more c.self.invariant.spelled c.self.invariant.at c.self.invariant.depth
+    let room : length (entries_of c.finish.new.entries.items) + (c.self.inside.depth - 1)
+    ≤ vec_capacity c.finish.new.entries =
+    omega (
+      arith,
+      length-shown c.finish.new.entries.items,
+      length-shown c.self.inside.entries.items,
+      c.self.invariant.room,
+      c.self.invariant.some,
+      c.finish.ensures.capacity,
+      finish_len _ _ _ _ _ _ c.opening_at-around.ensures c.finish.ensures.items,
+    ) in
+    let more : 1 < length (levels_of (entries_of c.self.inside.entries.items)) =
+    omega (arith, ap length c.self.view_is, c.requires) in
+    (after_close (levels_of (entries_of c.self.inside.entries.items)) _ _ _ _ _ _ _ c.args.span more
+    c.self.invariant.spelled c.self.invariant.at c.self.invariant.depth
     c.opening_at-around.ensures c.finish.ensures.items room).building
 
 pub returns : goal.returns
 returns g c =
-    let room : length (entries_of c.finish.new.entries.items) + (c.self.inside.depth - 1) ≤ vec_capacity c.finish.new.entries =
-    omega (arith, length-shown c.finish.new.entries.items, length-shown c.self.inside.entries.items, c.self.invariant.room, c.self.invariant.some, c.finish.ensures.capacity, finish_len _ _ _ _ _ _ c.opening_at-around.ensures c.finish.ensures.items) in
-    let more : 1 < length (levels_of (entries_of c.self.inside.entries.items)) = omega (arith, ap length c.self.view_is, c.requires) in
-    (after_close (levels_of (entries_of c.self.inside.entries.items)) _ _ _ _ _ _ _ c.args.span more c.self.invariant.spelled c.self.invariant.at c.self.invariant.depth
+    let room : length (entries_of c.finish.new.entries.items) + (c.self.inside.depth - 1)
+    ≤ vec_capacity c.finish.new.entries =
+    omega (
+      arith,
+      length-shown c.finish.new.entries.items,
+      length-shown c.self.inside.entries.items,
+      c.self.invariant.room,
+      c.self.invariant.some,
+      c.finish.ensures.capacity,
+      finish_len _ _ _ _ _ _ c.opening_at-around.ensures c.finish.ensures.items,
+    ) in
+    let more : 1 < length (levels_of (entries_of c.self.inside.entries.items)) =
+    omega (arith, ap length c.self.view_is, c.requires) in
+    (after_close (levels_of (entries_of c.self.inside.entries.items)) _ _ _ _ _ _ _ c.args.span more
+    c.self.invariant.spelled c.self.invariant.at c.self.invariant.depth
     c.opening_at-around.ensures c.finish.ensures.items room).levels
     ∙ ap (closed c.args.span) c.self.view_is

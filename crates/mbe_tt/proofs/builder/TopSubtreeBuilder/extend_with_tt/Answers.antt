@@ -11,21 +11,43 @@ use Rattle.mbe_tt.proofs.builder.TopSubtreeBuilder.extend_with_tt.Goals as goal
 
 pub invariant_of-self-2 : goal.invariant_of-self-2
 invariant_of-self-2 g c =
-    let room : length (entries_of c.extend_from_slice.new.self.items) + c.self.inside.depth ≤ vec_capacity c.extend_from_slice.new.self =
-    omega (arith, length-shown c.extend_from_slice.new.self.items, c.saturating_add.ensures, c.in_ok-reserve.ensures.ok, c.in_ok-reserve.ensures.len, c.in_ok-extend_from_slice.ensures.len, c.in_ok-extend_from_slice.ensures.capacity) in
+    let room : length (entries_of c.extend_from_slice.new.self.items) + c.self.inside.depth
+    ≤ vec_capacity c.extend_from_slice.new.self =
+    omega (
+      arith,
+      length-shown c.extend_from_slice.new.self.items,
+      c.saturating_add.ensures,
+      c.in_ok-reserve.ensures.ok,
+      c.in_ok-reserve.ensures.len,
+      c.in_ok-extend_from_slice.ensures.len,
+      c.in_ok-extend_from_slice.ensures.capacity,
+    ) in
     let added = c.in_ok-extend_from_slice.ensures.items in
     (after_put _ _ _ _ _ _ (trees c.args.view) c.self.invariant
-    (shown_append _ _ _ added.1 ∙ (ap (λ (es : List Entry). es ++ entries_of added.0) (ap entries_of c.in_ok-reserve.ensures.items)
-    ∙ ap (λ (es : List Entry). (entries_of c.self.inside.entries.items) ++ es) (ap entries_of (each_same _ _ added.2) ∙ c.args.view.spelled)))
+    (shown_append _ _ _ added.1 ∙ (ap (λ (es : List Entry). es ++ entries_of added.0)
+    (ap entries_of c.in_ok-reserve.ensures.items)
+    ∙ ap (λ (es : List Entry). (entries_of c.self.inside.entries.items) ++ es)
+    (ap entries_of (each_same _ _ added.2) ∙ c.args.view.spelled)))
     room).building
 
 pub returns-clause-ok : goal.returns-clause-ok
 returns-clause-ok g c =
-    let room : length (entries_of c.extend_from_slice.new.self.items) + c.self.inside.depth ≤ vec_capacity c.extend_from_slice.new.self =
-    omega (arith, length-shown c.extend_from_slice.new.self.items, c.saturating_add.ensures, c.in_ok-reserve.ensures.ok, c.in_ok-reserve.ensures.len, c.in_ok-extend_from_slice.ensures.len, c.in_ok-extend_from_slice.ensures.capacity) in
+    let room : length (entries_of c.extend_from_slice.new.self.items) + c.self.inside.depth
+    ≤ vec_capacity c.extend_from_slice.new.self =
+    omega (
+      arith,
+      length-shown c.extend_from_slice.new.self.items,
+      c.saturating_add.ensures,
+      c.in_ok-reserve.ensures.ok,
+      c.in_ok-reserve.ensures.len,
+      c.in_ok-extend_from_slice.ensures.len,
+      c.in_ok-extend_from_slice.ensures.capacity,
+    ) in
     let added = c.in_ok-extend_from_slice.ensures.items in
     (after_put _ _ _ _ _ _ (trees c.args.view) c.self.invariant
-    (shown_append _ _ _ added.1 ∙ (ap (λ (es : List Entry). es ++ entries_of added.0) (ap entries_of c.in_ok-reserve.ensures.items)
-    ∙ ap (λ (es : List Entry). (entries_of c.self.inside.entries.items) ++ es) (ap entries_of (each_same _ _ added.2) ∙ c.args.view.spelled)))
+    (shown_append _ _ _ added.1 ∙ (ap (λ (es : List Entry). es ++ entries_of added.0)
+    (ap entries_of c.in_ok-reserve.ensures.items)
+    ∙ ap (λ (es : List Entry). (entries_of c.self.inside.entries.items) ++ es)
+    (ap entries_of (each_same _ _ added.2) ∙ c.args.view.spelled)))
     room).levels
     ∙ ap (put (trees c.args.view)) c.self.view_is

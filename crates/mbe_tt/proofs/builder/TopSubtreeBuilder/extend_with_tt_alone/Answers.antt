@@ -35,11 +35,15 @@ invariant_of-self-2 g c =
     let added = c.in_ok-extend_from_slice.ensures.items in
     let whole : spell (trees c.args.view) ≡ entries_of c.in-Some.front.now ++ entry_of c.in-Some.last.now ∷ [] =
     sym c.args.view.spelled ∙ shown_append _ _ _ c.in-Some.ensures.cases.0 in
-    let last : entry_punct (entry_of c.in-Some.last.now) ≡ Some c.in-Some-entry_punct.punct = sym c.entry_punct.ensures ∙ c.in-Some-entry_punct.is in
+    let last : entry_punct (entry_of c.in-Some.last.now) ≡ Some c.in-Some-entry_punct.punct =
+    sym c.entry_punct.ensures ∙ c.in-Some-entry_punct.is in
     let p : Punct = record c.in-Some-entry_punct.punct { spacing = Alone } in
-    let w : entries_of c.push.new.self.items ≡ entries_of c.self.inside.entries.items ++ spell (alone (trees c.args.view)) =
+    let w : entries_of c.push.new.self.items
+    ≡ entries_of c.self.inside.entries.items ++ spell (alone (trees c.args.view)) =
     shown_append _ _ _ c.in-Ok.ensures.items
-    ∙ (ap (λ (es : List Entry). es ++ Leaf (punct p) ∷ []) (shown_append _ _ _ added.1 ∙ ap (λ (es : List Entry). es ++ entries_of added.0) (ap entries_of c.in_ok-reserve.ensures.items))
+    ∙ (ap (λ (es : List Entry). es ++ Leaf (punct p) ∷ [])
+    (shown_append _ _ _ added.1 ∙ ap (λ (es : List Entry). es ++ entries_of added.0)
+    (ap entries_of c.in_ok-reserve.ensures.items))
     ∙ (append_assoc (entries_of c.self.inside.entries.items) (entries_of added.0) (Leaf (punct p) ∷ [])
     ∙ ap (λ (es : List Entry). entries_of c.self.inside.entries.items ++ es)
     (ap (λ (es : List Entry). es ++ Leaf (punct p) ∷ []) (ap entries_of (each_same _ _ added.2))
@@ -65,11 +69,15 @@ returns-clause-ok g c =
     let added = c.in_ok-extend_from_slice.ensures.items in
     let whole : spell (trees c.args.view) ≡ entries_of c.in-Some.front.now ++ entry_of c.in-Some.last.now ∷ [] =
     sym c.args.view.spelled ∙ shown_append _ _ _ c.in-Some.ensures.cases.0 in
-    let last : entry_punct (entry_of c.in-Some.last.now) ≡ Some c.in-Some-entry_punct.punct = sym c.entry_punct.ensures ∙ c.in-Some-entry_punct.is in
+    let last : entry_punct (entry_of c.in-Some.last.now) ≡ Some c.in-Some-entry_punct.punct =
+    sym c.entry_punct.ensures ∙ c.in-Some-entry_punct.is in
     let p : Punct = record c.in-Some-entry_punct.punct { spacing = Alone } in
-    let w : entries_of c.push.new.self.items ≡ entries_of c.self.inside.entries.items ++ spell (alone (trees c.args.view)) =
+    let w : entries_of c.push.new.self.items
+    ≡ entries_of c.self.inside.entries.items ++ spell (alone (trees c.args.view)) =
     shown_append _ _ _ c.in-Ok.ensures.items
-    ∙ (ap (λ (es : List Entry). es ++ Leaf (punct p) ∷ []) (shown_append _ _ _ added.1 ∙ ap (λ (es : List Entry). es ++ entries_of added.0) (ap entries_of c.in_ok-reserve.ensures.items))
+    ∙ (ap (λ (es : List Entry). es ++ Leaf (punct p) ∷ [])
+    (shown_append _ _ _ added.1 ∙ ap (λ (es : List Entry). es ++ entries_of added.0)
+    (ap entries_of c.in_ok-reserve.ensures.items))
     ∙ (append_assoc (entries_of c.self.inside.entries.items) (entries_of added.0) (Leaf (punct p) ∷ [])
     ∙ ap (λ (es : List Entry). entries_of c.self.inside.entries.items ++ es)
     (ap (λ (es : List Entry). es ++ Leaf (punct p) ∷ []) (ap entries_of (each_same _ _ added.2))
@@ -82,6 +90,8 @@ returns-in_default-entry_punct-clause-ok g c =
     let whole : spell (trees c.args.view) ≡ entries_of c.in-Some.front.now ++ entry_of c.in-Some.last.now ∷ [] =
     sym c.args.view.spelled ∙ shown_append _ _ _ c.in-Some.ensures.cases.0 in
     let same : alone (trees c.args.view) ≡ trees c.args.view =
-    alone_keeps (trees c.args.view) _ _ whole (sym c.entry_punct.ensures ∙ none_is c.entry_punct.result c.in_default-entry_punct.not-Some) in
-    subst (λ (f : Forest). OnOk c.extend_with_tt-in_default-entry_punct.result (c.extend_with_tt-in_default-entry_punct.new.self ≡ put f c.args.self.now)) (sym same)
+    alone_keeps (trees c.args.view) _ _ whole
+    (sym c.entry_punct.ensures ∙ none_is c.entry_punct.result c.in_default-entry_punct.not-Some) in
+    subst (λ (f : Forest). OnOk c.extend_with_tt-in_default-entry_punct.result
+    (c.extend_with_tt-in_default-entry_punct.new.self ≡ put f c.args.self.now)) (sym same)
     c.extend_with_tt-in_default-entry_punct.ensures.ok

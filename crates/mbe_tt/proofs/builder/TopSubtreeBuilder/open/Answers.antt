@@ -13,18 +13,43 @@ use Rattle.mbe_tt.proofs.builder.TopSubtreeBuilder.open.Goals as goal
 pub invariant_of-self-2 : goal.invariant_of-self-2
 invariant_of-self-2 g c =
     let d : Delimiter = record { opening = c.args.span; close = c.args.span; kind = c.args.kind } in
-    let room : length (entries_of c.push.new.self.items) + (c.self.inside.depth + 1) ≤ vec_capacity c.push.new.self = omega (arith, length-shown c.push.new.self.items, c.in_ok-push.ensures.len, c.in_ok-push.ensures.capacity, c.in_ok-reserve.ensures.ok) in
-    let begin : length (entries_of c.self.inside.entries.items) ≡ c.len-begin.result = omega (arith, c.len-begin.ensures, length-shown c.self.inside.entries.items, ap length c.in_ok-reserve.ensures.items) in
-    subst (λ (n : ℕ). IsBuilding (entries_of c.push.new.self.items) (vec_capacity c.push.new.self) n (c.self.inside.depth + 1)) begin
+    let room : length (entries_of c.push.new.self.items) + (c.self.inside.depth + 1) ≤ vec_capacity c.push.new.self =
+    omega (
+      arith,
+      length-shown c.push.new.self.items,
+      c.in_ok-push.ensures.len,
+      c.in_ok-push.ensures.capacity,
+      c.in_ok-reserve.ensures.ok,
+    ) in
+    let begin : length (entries_of c.self.inside.entries.items) ≡ c.len-begin.result =
+    omega (
+      arith,
+      c.len-begin.ensures,
+      length-shown c.self.inside.entries.items,
+      ap length c.in_ok-reserve.ensures.items,
+    ) in
+    subst (λ (n : ℕ). IsBuilding (entries_of c.push.new.self.items) (vec_capacity c.push.new.self) n
+    (c.self.inside.depth + 1)) begin
     (after_open_group _ _ _ _ _ _ d c.self.invariant
-    (shown_append _ _ _ c.in_ok-push.ensures.items ∙ ap (λ (es : List Entry). es ++ Open (record { delimiter = d }) c.self.inside.at ∷ []) (ap entries_of c.in_ok-reserve.ensures.items))
+    (shown_append _ _ _ c.in_ok-push.ensures.items
+    ∙ ap (λ (es : List Entry). es ++ Open (record { delimiter = d }) c.self.inside.at ∷ [])
+    (ap entries_of c.in_ok-reserve.ensures.items))
     room).building
 
 pub returns-clause-ok : goal.returns-clause-ok
 returns-clause-ok g c =
     let d : Delimiter = record { opening = c.args.span; close = c.args.span; kind = c.args.kind } in
-    let room : length (entries_of c.push.new.self.items) + (c.self.inside.depth + 1) ≤ vec_capacity c.push.new.self = omega (arith, length-shown c.push.new.self.items, c.in_ok-push.ensures.len, c.in_ok-push.ensures.capacity, c.in_ok-reserve.ensures.ok) in
+    let room : length (entries_of c.push.new.self.items) + (c.self.inside.depth + 1) ≤ vec_capacity c.push.new.self =
+    omega (
+      arith,
+      length-shown c.push.new.self.items,
+      c.in_ok-push.ensures.len,
+      c.in_ok-push.ensures.capacity,
+      c.in_ok-reserve.ensures.ok,
+    ) in
     (after_open_group _ _ _ _ _ _ d c.self.invariant
-    (shown_append _ _ _ c.in_ok-push.ensures.items ∙ ap (λ (es : List Entry). es ++ Open (record { delimiter = d }) c.self.inside.at ∷ []) (ap entries_of c.in_ok-reserve.ensures.items))
+    (shown_append _ _ _ c.in_ok-push.ensures.items
+    ∙ ap (λ (es : List Entry). es ++ Open (record { delimiter = d }) c.self.inside.at ∷ [])
+    (ap entries_of c.in_ok-reserve.ensures.items))
     room).levels
     ∙ ap (λ (b : Levels). (d, none) ∷ b) c.self.view_is

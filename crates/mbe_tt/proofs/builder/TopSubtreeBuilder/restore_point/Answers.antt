@@ -13,5 +13,6 @@ returns g c =
       length-shown c.self.inside.entries.items,
       ap length c.self.invariant.spelled,
       ap flat_written c.self.view_is,
-      length-written (levels_of (entries_of c.self.inside.entries.items)) (omega (arith, c.self.invariant.some, c.self.invariant.depth)),
+      length-written (levels_of (entries_of c.self.inside.entries.items))
+          (omega (arith, c.self.invariant.some, c.self.invariant.depth)),
     )

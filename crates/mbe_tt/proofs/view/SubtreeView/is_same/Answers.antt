@@ -15,6 +15,9 @@ same_pair v w d f = ap (λ (x : Delimiter). pair x v.1) d ∙ ap (pair w.0) f
 
 pub returns-then-same_delimiter : goal.returns-then-same_delimiter
 returns-then-same_delimiter g c =
-    let inside_is = same_tells forest_code (trees c.args.self.now.inside) (trees c.args.other.now.inside) _ c.eq.ensures in
-    let same = c.same_delimiter.ensures.0 c.if-same_delimiter.true in
-    (λ h. same_pair (group_of c.args.self.now) (group_of c.args.other.now) same (inside_is.0 h), λ e. inside_is.1 (ap (λ (v : Top). v.1) e))
+    let inside_is = same_tells forest_code (trees c.args.self.now.inside) (trees c.args.other.now.inside) _
+    c.eq.ensures in
+    let same = c.same_delimiter.ensures.0 c.if-same_delimiter.true in (
+      λ h. same_pair (group_of c.args.self.now) (group_of c.args.other.now) same (inside_is.0 h),
+      λ e. inside_is.1 (ap (λ (v : Top). v.1) e),
+    )

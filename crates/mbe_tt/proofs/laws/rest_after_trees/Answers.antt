@@ -1,0 +1,5 @@
+use Rattle.mbe_tt.proofs.Places.PlaceLemmas.{rest_after_trees}
+use Rattle.mbe_tt.proofs.laws.rest_after_trees.Goals as goal
+
+pub returns : goal.returns
+returns c = rest_after_trees
