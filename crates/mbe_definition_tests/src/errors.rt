@@ -97,7 +97,7 @@ fn is_cloned(error: &ExpandError) -> Result<bool, AllocError> {
 }
 
 // Whether errors equal that one at byte 1 exactly where they have its place and its kind.
-fn are_told_apart(alloc: Global, first: &ExpandError) -> Result<bool, AllocError> {
+fn are_kept_apart(alloc: Global, first: &ExpandError) -> Result<bool, AllocError> {
     Ok(
         is_cloned(first)?
             && is_same(alloc, (1, 0), first)? == Some(true)
@@ -109,7 +109,7 @@ fn are_told_apart(alloc: Global, first: &ExpandError) -> Result<bool, AllocError
 #[test]
 fn errors_are_compared_by_place_and_kind(rt: HostRuntime) -> Result<(), AllocError> {
     let first = error(rt.alloc(), 1, 0)?;
-    assert!(rt; are_told_apart(rt.alloc(), &first)?);
+    assert!(rt; are_kept_apart(rt.alloc(), &first)?);
     Ok(())
 }
 

@@ -321,7 +321,7 @@ let_example = record {
 pub front_example : FrontExample
 front_example = record {
   taken = λ g e. ap (λ a. cut_flat a.count front_argument) e;
-  told = λ g around e. ap told_of e;
+  reported = λ g around e. ap reported_of e;
   refused = λ g e. ap taken_of e;
   faulty = λ g e. ap taken_of e;
   good = λ g e. ap taken_of e ∙ sym (ap (λ a. Some (cut_flat a.count front_argument)) e);
@@ -330,8 +330,8 @@ front_example = record {
     taken_of : Front → Option Cut
     taken_of = answer_cut front_argument
 
-    told_of : Front → Option ExpandError
-    told_of a =
+    reported_of : Front → Option ExpandError
+    reported_of a =
         if not a.fault && (flat_len (cut_flat a.count front_argument).front == a.count) then None
         else Some (record { span = at 1 0 1; kind = binding_error (codes "expected Expr") })
 

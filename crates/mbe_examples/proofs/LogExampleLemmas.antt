@@ -23,7 +23,7 @@ log_examples = record {
   filled = refl;
   kept = refl;
   replaced = refl;
-  behind = refl;
+  following = refl;
   nested = refl;
   alike = refl;
 }

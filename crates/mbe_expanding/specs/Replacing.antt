@@ -76,7 +76,7 @@ last_span c left =
 pub record IsPartOf (e : Setting) (levels depth : ℕ) (c : Call) (tree : Forest) (s : State) (part : Part)
     (left : Forest) (t : State) : Type 0 where
   pub out : Forest
-  pub stands : StandsFor (Becomes e levels depth) c.delimiter tree s out t
+  pub placed : StandsFor (Becomes e levels depth) c.delimiter tree s out t
   pub indentation : ℕ
   pub written : part.text ≡ text_of indentation out
   pub leaves : IsLeft c.rest left

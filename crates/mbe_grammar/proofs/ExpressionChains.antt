@@ -4,15 +4,15 @@ use Rattle.std.specs.Prelude.{codes}
 use Rattle.mbe_tt.specs.Trees.Tree.{Forest, flat_len}
 use Rattle.mbe_grammar.specs.declared.step.Miss.{Miss}
 use Rattle.mbe_grammar.specs.declared.step.Miss.TheVariants.{Absent, Fault}
-use Rattle.mbe_grammar.specs.Rule.{one, part, ◌or◌, Step, ◌>>=◌, or_else, has_to_stand, if_stands, if_absent, or_miss, following_one, meaning, in_turn}
+use Rattle.mbe_grammar.specs.Rule.{one, part, ◌or◌, Step, ◌>>=◌, or_else, has_to_stand, if_present, if_absent, or_miss, following_one, meaning, in_turn}
 use Rattle.mbe_grammar.specs.RuleLaws.{meaning_leaves}
 use Rattle.mbe_grammar.specs.SingleTrees.{is_one_of, is_literal}
 use Rattle.mbe_grammar.specs.SampleGrammar.{Rules, Nonterminal, word, words, brace, any_group, expr_start, Operator, Operation, Expr, Prefix, Unary, Operand, KeywordBlock, JumpWord, JumpValue, Jump, PathExpr, Primary, Post, rule_of, takes}
 use Rattle.mbe_grammar.specs.Chains.{jump_to_value, plain_operand}
 use Rattle.mbe_grammar.specs.Lawful.{takes_some, takes_leaves}
-use Rattle.mbe_grammar.proofs.Rules.{in_turn_done, in_turn_keeps, in_turn_stands, never_faults, shorter}
+use Rattle.mbe_grammar.proofs.Rules.{in_turn_done, in_turn_keeps, in_turn_placed, never_faults, shorter}
 use Rattle.mbe_grammar.proofs.Parts.{takes_by_rule, takes_shorter, turns_on, turns_end, turns_fault, turns_no_longer}
-use Rattle.mbe_grammar.proofs.Fronts.{are_apart, Begins, one_absent, words_apart, word_is_no_literal, one_stands, then_stands}
+use Rattle.mbe_grammar.proofs.Fronts.{are_apart, Begins, one_absent, words_apart, word_is_no_literal, one_placed, then_placed}
 use Rattle.mbe_grammar.proofs.TypeChains.{is_lifetime, lifetime_calm}
 
 -- ---- where an expression ends
@@ -29,21 +29,21 @@ stood (Err Fault) g e = cc
 -- no post comes after an operand, an operation or an expression
 unary_done : (f g : Forest) → takes Unary f ≡ Ok g → takes Post g ≡ Err Absent
 unary_done f g e =
-    let (start, _, operand) = then_stands (in_turn (takes Prefix) f) (takes Operand) g
+    let (start, _, operand) = then_placed (in_turn (takes Prefix) f) (takes Operand) g
     (sym (takes_by_rule Unary f) ∙ e) in
-    let (end, _, posts) = then_stands (takes Primary start) (in_turn (takes Post)) g
+    let (end, _, posts) = then_placed (takes Primary start) (in_turn (takes Post)) g
     (sym (takes_by_rule Operand start) ∙ operand) in
     turns_done Post end g refl posts
 
 operation_done : (f g : Forest) → takes Operation f ≡ Ok g → takes Post g ≡ Err Absent
 operation_done f g e =
-    let (start, _, unary) = then_stands (takes Operator f) (λ h. has_to_stand (takes Unary h)) g
+    let (start, _, unary) = then_placed (takes Operator f) (λ h. has_to_stand (takes Unary h)) g
     (sym (takes_by_rule Operation f) ∙ e) in
     unary_done start g (stood (takes Unary start) g unary)
 
 expr_parts : (f g : Forest) → takes Expr f ≡ Ok g
     → (h : Forest) × (takes Unary f ≡ Ok h) × (in_turn (takes Operation) h ≡ Ok g)
-expr_parts f g e = then_stands (takes Unary f) (in_turn (takes Operation)) g (sym (takes_by_rule Expr f) ∙ e)
+expr_parts f g e = then_placed (takes Unary f) (in_turn (takes Operation)) g (sym (takes_by_rule Expr f) ∙ e)
 
 posts_end : (f g : Forest) → takes Expr f ≡ Ok g → in_turn (takes Post) g ≡ Ok g
 posts_end f g e =
@@ -62,7 +62,7 @@ operation_by : (f g : Forest) (u : Step) → takes Unary g ≡ u → takes Opera
     → in_turn (takes Operation) f ≡ has_to_stand (takes Expr g)
 operation_by f g (Ok h) unary operation =
     turns_on Operation f h refl operation
-    ∙ (sym (in_turn_stands (takes Operation) h)
+    ∙ (sym (in_turn_placed (takes Operation) h)
     ∙ ap has_to_stand (sym (takes_by_rule Expr g ∙ ap (λ s. s >>= in_turn (takes Operation)) unary)))
 operation_by f g (Err Absent) unary operation =
     turns_fault Operation f operation ∙ ap has_to_stand
@@ -93,7 +93,7 @@ abbrev jumps : List (List ℕ)
 jumps = map codes ("break" ∷ "return" ∷ "continue" ∷ [])
 
 jump_begins : (f g : Forest) → takes JumpWord f ≡ Ok g → Begins (is_one_of jumps) f
-jump_begins f g e = one_stands (is_one_of jumps) f _ (then_stands _ _ g (sym (takes_by_rule JumpWord f) ∙ e)).1
+jump_begins f g e = one_placed (is_one_of jumps) f _ (then_placed _ _ g (sym (takes_by_rule JumpWord f) ∙ e)).1
 
 no_other_word : (others : List (List ℕ)) → are_apart jumps others ≡ true → (f : Forest) → Begins (is_one_of jumps) f
     → following_one (is_one_of others) f ≡ None
@@ -104,10 +104,10 @@ keyword_block_absent f h =
     takes_by_rule KeywordBlock f ∙ ap (λ x. or_miss Absent x >>= meaning takes brace)
     (no_other_word (map codes ("const" ∷ "unsafe" ∷ [])) refl f h)
 
-stands_first : (s t : Step) → or_else (has_to_stand s) t ≡ has_to_stand s
-stands_first (Ok g) t = refl
-stands_first (Err Absent) t = refl
-stands_first (Err Fault) t = refl
+placed_first : (s t : Step) → or_else (has_to_stand s) t ≡ has_to_stand s
+placed_first (Ok g) t = refl
+placed_first (Err Absent) t = refl
+placed_first (Err Fault) t = refl
 
 -- where a jump is, the operand by itself is that
 primary_jump : (f g : Forest) (s : Step) → takes JumpWord f ≡ Ok g → takes Jump f ≡ has_to_stand s
@@ -125,20 +125,20 @@ primary_jump f g s e jump =
     ∙ (ap (λ x. or_else (or_miss Absent x) (meaning takes after_literal f))
     (one_absent (is_one_of jumps) is_literal (word_is_no_literal jumps) f h)
     ∙ (ap (λ t. or_else t (meaning takes after_block f)) (keyword_block_absent f h)
-    ∙ (ap (λ t. or_else t (meaning takes (any_group or part PathExpr) f)) jump ∙ stands_first s _)))))
+    ∙ (ap (λ t. or_else t (meaning takes (any_group or part PathExpr) f)) jump ∙ placed_first s _)))))
 
 -- a jump and its value
-ahead_parts : (s : Step) (f g : Forest) → if_stands s f ≡ Ok g → (f ≡ g) × (if_stands s f ≡ Ok f)
+ahead_parts : (s : Step) (f g : Forest) → if_present s f ≡ Ok g → (f ≡ g) × (if_present s f ≡ Ok f)
 ahead_parts (Ok h) f g e = (cc, refl)
 ahead_parts (Err miss) f g e = cc
 
-jump_value : (f g : Forest) → takes JumpWord f ≡ Ok g → if_stands (meaning takes expr_start g) g ≡ Ok g
+jump_value : (f g : Forest) → takes JumpWord f ≡ Ok g → if_present (meaning takes expr_start g) g ≡ Ok g
     → takes Jump f ≡ has_to_stand (takes Expr g)
 jump_value f g word start =
     takes_by_rule Jump f
     ∙ (ap (λ s. s >>= λ h. or_else (takes JumpValue h) (Ok h)) word
     ∙ (ap (λ s. or_else s (Ok g)) (takes_by_rule JumpValue g ∙ ap (λ s. s >>= λ h. has_to_stand (takes Expr h)) start)
-    ∙ stands_first (takes Expr g) (Ok g)))
+    ∙ placed_first (takes Expr g) (Ok g)))
 
 -- nothing is taken after an expression
 ends_there : (s : Step) (posts operations : Forest → Step) → ((g : Forest) → s ≡ Ok g → posts g ≡ Ok g)
@@ -157,20 +157,20 @@ pub prefixes_miss : (f : Forest) (miss : Miss) → in_turn (takes Prefix) f ≡ 
 prefixes_miss f miss e = expr_from f (Err miss) e
 
 jump_parts : (f g : Forest) → meaning takes jump_to_value f ≡ Ok g
-    → (takes JumpWord f ≡ Ok g) × (if_stands (meaning takes expr_start g) g ≡ Ok g)
+    → (takes JumpWord f ≡ Ok g) × (if_present (meaning takes expr_start g) g ≡ Ok g)
 jump_parts f g e =
-    let (h, word, start) = then_stands (takes JumpWord f) (λ k. if_stands (meaning takes expr_start k) k) g e in
-    let (same, stands) = ahead_parts (meaning takes expr_start h) h g start in
-    let P : Forest → Type 0 = λ k. (takes JumpWord f ≡ Ok k) × (if_stands (meaning takes expr_start k) k ≡ Ok k) in
-    subst P same (word, stands)
+    let (h, word, start) = then_placed (takes JumpWord f) (λ k. if_present (meaning takes expr_start k) k) g e in
+    let (same, placed) = ahead_parts (meaning takes expr_start h) h g start in
+    let P : Forest → Type 0 = λ k. (takes JumpWord f ≡ Ok k) × (if_present (meaning takes expr_start k) k ≡ Ok k) in
+    subst P same (word, placed)
 
 -- a jump's value is the rest of the whole
 pub jump_on : (f start g : Forest) → in_turn (takes Prefix) f ≡ Ok start → meaning takes jump_to_value start ≡ Ok g
     → takes Expr f ≡ has_to_stand (takes Expr g)
 jump_on f start g e jump =
-    let (word, stands) = jump_parts start g jump in
+    let (word, placed) = jump_parts start g jump in
     let primary : takes Primary start ≡ has_to_stand (takes Expr g) =
-    primary_jump start g (takes Expr g) word (jump_value start g word stands) in
+    primary_jump start g (takes Expr g) word (jump_value start g word placed) in
     expr_from f (Ok start) e
     ∙ (ap (λ t. t >>= in_turn (takes Operation))
     (takes_by_rule Operand start ∙ ap (λ t. t >>= in_turn (takes Post)) primary)
@@ -203,7 +203,7 @@ value_absent (Err miss) start whole h e = refl
 jump_alone : (f : Forest) → meaning takes jump_to_value f ≡ Err Absent → takes Jump f ≡ takes JumpWord f
 jump_alone f e =
     takes_by_rule Jump f
-    ∙ value_absent (takes JumpWord f) (λ g. if_stands (meaning takes expr_start g) g)
+    ∙ value_absent (takes JumpWord f) (λ g. if_present (meaning takes expr_start g) g)
     (λ g. or_else (takes JumpValue g) (Ok g))
     (λ g absent. ap (λ s. or_else s (Ok g))
     (takes_by_rule JumpValue g ∙ ap (λ s. s >>= λ h. has_to_stand (takes Expr h)) absent)) e

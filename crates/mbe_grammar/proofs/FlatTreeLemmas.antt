@@ -8,10 +8,10 @@ append-none none = refl
 append-none (leaf l rest) = ap (leaf l) (append-none rest)
 append-none (group d inside rest) = ap (group d inside) (append-none rest)
 
-abbrev behind : Forest → Levels → Levels
-behind f r = record r { level = append f r.level }
+abbrev following : Forest → Levels → Levels
+following f r = record r { level = append f r.level }
 
-levels-flat : (f : Forest) (ts : List FlatToken) → levels (flat f ++ ts) ≡ behind f (levels ts)
+levels-flat : (f : Forest) (ts : List FlatToken) → levels (flat f ++ ts) ≡ following f (levels ts)
 levels-flat none ts = refl
 levels-flat (leaf l rest) ts = ap (λ (r : Levels). record r { level = leaf l r.level }) (levels-flat rest ts)
 levels-flat (group d inside rest) ts =

@@ -146,24 +146,24 @@ either_apart p q r a b t h = elim (or_cases (p t) (q t) h) [ inl e ↦ a t e | i
 
 -- ---- what comes first where a rule fits
 
-first_stands : (a : Bool) (rest g : Forest) → or_miss Absent (if a then Some rest else None) ≡ Ok g → a ≡ true
-first_stands true rest g e = refl
-first_stands false rest g e = cc
+first_placed : (a : Bool) (rest g : Forest) → or_miss Absent (if a then Some rest else None) ≡ Ok g → a ≡ true
+first_placed true rest g e = refl
+first_placed false rest g e = cc
 
-pub one_stands : (p : Tree → Bool) (f g : Forest) → or_miss Absent (following_one p f) ≡ Ok g → Begins p f
-one_stands p none g e = cc
-one_stands p (leaf l rest) g e = first_stands _ rest g e
-one_stands p (group d inside rest) g e = first_stands _ rest g e
+pub one_placed : (p : Tree → Bool) (f g : Forest) → or_miss Absent (following_one p f) ≡ Ok g → Begins p f
+one_placed p none g e = cc
+one_placed p (leaf l rest) g e = first_placed _ rest g e
+one_placed p (group d inside rest) g e = first_placed _ rest g e
 
-pub then_stands : (s : Step) (next : Forest → Step) (g : Forest) → (s >>= next) ≡ Ok g
+pub then_placed : (s : Step) (next : Forest → Step) (g : Forest) → (s >>= next) ≡ Ok g
     → (h : Forest) × (s ≡ Ok h) × (next h ≡ Ok g)
-then_stands (Ok h) next g e = (h, refl, e)
-then_stands (Err miss) next g e = cc
+then_placed (Ok h) next g e = (h, refl, e)
+then_placed (Err miss) next g e = cc
 
-pub or_stands : (s t : Step) (g : Forest) → or_else s t ≡ Ok g → (s ≡ Ok g) ⊎ (t ≡ Ok g)
-or_stands (Ok h) t g e = inl e
-or_stands (Err Absent) t g e = inr e
-or_stands (Err Fault) t g e = cc
+pub or_placed : (s t : Step) (g : Forest) → or_else s t ≡ Ok g → (s ≡ Ok g) ⊎ (t ≡ Ok g)
+or_placed (Ok h) t g e = inl e
+or_placed (Err Absent) t g e = inr e
+or_placed (Err Fault) t g e = cc
 
 pub either_left : (p q : Tree → Bool) (f : Forest) → Begins p f → Begins (either_of p q) f
 either_left p q none h = absurd h

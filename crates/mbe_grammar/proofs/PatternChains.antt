@@ -10,7 +10,7 @@ use Rattle.mbe_grammar.specs.SampleGrammar.{Rules, word, parenthesis_or_bracket,
 use Rattle.mbe_grammar.specs.Chains.{direct_pattern}
 use Rattle.mbe_grammar.proofs.Rules.{never_faults}
 use Rattle.mbe_grammar.proofs.Parts.{takes_by_rule, takes_shorter}
-use Rattle.mbe_grammar.proofs.Fronts.{Begins, Apart, one_absent, puncts_absent, signs_apart, words_apart, sign_is_no_word, sign_is_no_literal, sign_is_no_group, word_is_no_punct, word_is_no_literal, word_is_no_group, either_of, either_apart, either_left, either_right, one_stands, then_stands, or_stands}
+use Rattle.mbe_grammar.proofs.Fronts.{Begins, Apart, one_absent, puncts_absent, signs_apart, words_apart, sign_is_no_word, sign_is_no_literal, sign_is_no_group, word_is_no_punct, word_is_no_literal, word_is_no_group, either_of, either_apart, either_left, either_right, one_placed, then_placed, or_placed}
 use Rattle.mbe_grammar.proofs.TypeChains.{is_lifetime, lifetime_calm}
 
 abbrev mode_words : List (List ℕ)
@@ -22,10 +22,10 @@ begins_mode = either_of (is_punct 38) (is_one_of mode_words)
 
 mode_begins : (f g : Forest) → takes BindingMode f ≡ Ok g → Begins begins_mode f
 mode_begins f g e =
-    elim (or_stands _ _ g (sym (takes_by_rule BindingMode f) ∙ e)) [
+    elim (or_placed _ _ g (sym (takes_by_rule BindingMode f) ∙ e)) [
       | inl h ↦ either_left (is_punct 38) (is_one_of mode_words) f
-          (one_stands (is_punct 38) f _ (then_stands _ _ g h).1)
-      | inr h ↦ either_right (is_punct 38) (is_one_of mode_words) f (one_stands (is_one_of mode_words) f g h)
+          (one_placed (is_punct 38) f _ (then_placed _ _ g h).1)
+      | inr h ↦ either_right (is_punct 38) (is_one_of mode_words) f (one_placed (is_one_of mode_words) f g h)
     ]
 
 mode_apart : (q : Tree → Bool) → Apart (is_punct 38) q → Apart (is_one_of mode_words) q → (f : Forest)

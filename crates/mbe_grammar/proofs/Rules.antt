@@ -3,7 +3,7 @@ use Rattle.std.proofs.Common.{◌≡◌, ℕ, zero, suc, ◌+◌, ◌-◌, ◌*�
 use Rattle.std.specs.Prelude.{if◌then◌else◌, nat_lt}
 use Rattle.mbe_tt.specs.Trees.Tree.{Forest, flat_len}
 use Rattle.mbe_grammar.specs.declared.step.Miss.TheVariants.{Absent, Fault}
-use Rattle.mbe_grammar.specs.Rule.{Rule, one, puncts_of, through, to_closing_angle, part, ◌then◌, ◌or◌, maybe, repeated, needed, ahead, not_ahead, Step, ◌>>=◌, or_else, has_to_stand, if_stands, if_absent, or_miss, once_more, times, in_turn, meaning, taken_within, taken}
+use Rattle.mbe_grammar.specs.Rule.{Rule, one, puncts_of, through, to_closing_angle, part, ◌then◌, ◌or◌, maybe, repeated, needed, ahead, not_ahead, Step, ◌>>=◌, or_else, has_to_stand, if_present, if_absent, or_miss, once_more, times, in_turn, meaning, taken_within, taken}
 use Rattle.mbe_grammar.specs.RuleLaws.{count, Leaves, leaves_weaker, is_solid, Solid, meaning_leaves, within_leaves, taken_leaves}
 
 -- ---- parts that call one another
@@ -98,7 +98,7 @@ agree solid rank c d l n e (repeated r) k f b le =
     (λ g. leaves_weaker (is_solid solid r) g (meaning d r g) (meaning_leaves solid d l r g))
     (λ g h. agree solid rank c d l n e r k g b (omega arith))
 agree solid rank c d l n e (needed r) k f b le = ap has_to_stand (agree solid rank c d l n e r k f b le)
-agree solid rank c d l n e (ahead r) k f b le = ap (λ t. if_stands t f) (agree solid rank c d l n e r k f b le)
+agree solid rank c d l n e (ahead r) k f b le = ap (λ t. if_present t f) (agree solid rank c d l n e r k f b le)
 agree solid rank c d l n e (not_ahead r) k f b le = ap (λ t. if_absent t f) (agree solid rank c d l n e r k f b le)
 
 one_deeper : {P : Type 0} {rules : P → Rule P} (o : Order rules) (n : ℕ) (x : P) (f : Forest)
@@ -219,20 +219,20 @@ pub in_turn_keeps : (P : Forest → Type 0) (r : Forest → Step) → ((f g : Fo
 unfolding in_turn
 in_turn_keeps P r h f g here t = times_keeps P (suc (flat_len f)) r h f g here t
 
--- a repetition always stands
-once_more_stands : (f : Forest) (s : Step) (more : Forest → Step) → ((g : Forest) → has_to_stand (more g) ≡ more g)
+-- a repetition always is
+once_more_placed : (f : Forest) (s : Step) (more : Forest → Step) → ((g : Forest) → has_to_stand (more g) ≡ more g)
     → has_to_stand (once_more s more f) ≡ once_more s more f
-once_more_stands f (Ok g) more h = h g
-once_more_stands f (Err Absent) more h = refl
-once_more_stands f (Err Fault) more h = refl
+once_more_placed f (Ok g) more h = h g
+once_more_placed f (Err Absent) more h = refl
+once_more_placed f (Err Fault) more h = refl
 
 times_stand : (n : ℕ) (r : Forest → Step) (f : Forest) → has_to_stand (times n r f) ≡ times n r f
 times_stand zero r f = refl
-times_stand (suc n) r f = once_more_stands f (r f) (times n r) (times_stand n r)
+times_stand (suc n) r f = once_more_placed f (r f) (times n r) (times_stand n r)
 
-pub in_turn_stands : (r : Forest → Step) (f : Forest) → has_to_stand (in_turn r f) ≡ in_turn r f
+pub in_turn_placed : (r : Forest → Step) (f : Forest) → has_to_stand (in_turn r f) ≡ in_turn r f
 unfolding in_turn
-in_turn_stands r f = times_stand (suc (flat_len f)) r f
+in_turn_placed r f = times_stand (suc (flat_len f)) r f
 
 -- ---- rules without a fault
 
@@ -267,7 +267,7 @@ or_calm (Ok g) t h k e = h e
 or_calm (Err Absent) t h k e = k e
 or_calm (Err Fault) t h k e = h e
 
-ahead_calm : (f : Forest) (s : Step) → Calm s → Calm (if_stands s f)
+ahead_calm : (f : Forest) (s : Step) → Calm s → Calm (if_present s f)
 ahead_calm f (Ok g) h e = cc
 ahead_calm f (Err miss) h e = h e
 

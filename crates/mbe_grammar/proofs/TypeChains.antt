@@ -13,7 +13,7 @@ use Rattle.mbe_grammar.specs.SampleGrammar.{Rules, word, words, puncts, referenc
 use Rattle.mbe_grammar.specs.Chains.{direct_type}
 use Rattle.mbe_grammar.proofs.Rules.{never_faults}
 use Rattle.mbe_grammar.proofs.Parts.{takes_by_rule, takes_shorter, turns_on, turns_end}
-use Rattle.mbe_grammar.proofs.Fronts.{Begins, Apart, one_absent, puncts_absent, signs_apart, sign_is_no_word, sign_is_no_name, sign_is_no_group, either_of, either_apart, either_left, either_right, one_stands, then_stands, or_stands, absent_last}
+use Rattle.mbe_grammar.proofs.Fronts.{Begins, Apart, one_absent, puncts_absent, signs_apart, sign_is_no_word, sign_is_no_name, sign_is_no_group, either_of, either_apart, either_left, either_right, one_placed, then_placed, or_placed, absent_last}
 
 -- ---- indirections
 
@@ -21,18 +21,18 @@ use Rattle.mbe_grammar.proofs.Fronts.{Begins, Apart, one_absent, puncts_absent, 
 abbrev begins_indirection : Tree → Bool
 begins_indirection = either_of (is_punct 38) (is_punct 42)
 
-sign_stands : (char : ℕ) (r : Rules) (f g : Forest)
+sign_placed : (char : ℕ) (r : Rules) (f g : Forest)
     → (or_miss Absent (following_one (is_punct char) f) >>= meaning takes r) ≡ Ok g → Begins (is_punct char) f
-sign_stands char r f g e = one_stands (is_punct char) f _
-    (then_stands (or_miss Absent (following_one (is_punct char) f)) (meaning takes r) g e).1
+sign_placed char r f g e = one_placed (is_punct char) f _
+    (then_placed (or_miss Absent (following_one (is_punct char) f)) (meaning takes r) g e).1
 
 indirection_begins : (f g : Forest) → takes Indirection f ≡ Ok g → Begins begins_indirection f
 indirection_begins f g e =
-    elim (or_stands (meaning takes reference_sign f) (meaning takes pointer_sign f) g
+    elim (or_placed (meaning takes reference_sign f) (meaning takes pointer_sign f) g
     (sym (takes_by_rule Indirection f) ∙ e)) [
       | inl h ↦ either_left (is_punct 38) (is_punct 42) f
-          (sign_stands 38 (maybe (part Lifetime) then maybe (word "mut")) f g h)
-      | inr h ↦ either_right (is_punct 38) (is_punct 42) f (sign_stands 42 (words ("const" ∷ "mut" ∷ [])) f g h)
+          (sign_placed 38 (maybe (part Lifetime) then maybe (word "mut")) f g h)
+      | inr h ↦ either_right (is_punct 38) (is_punct 42) f (sign_placed 42 (words ("const" ∷ "mut" ∷ [])) f g h)
     ]
 
 apart_from : (char : ℕ) → (38 == char) ≡ false → (42 == char) ≡ false → Apart begins_indirection (is_punct char)
@@ -47,7 +47,8 @@ colons_absent f h =
     ∙ ap (λ x. or_miss Absent x >>= meaning takes (needed (ahead (one is_name or part Angle))))
     (puncts_absent begins_indirection 58 (58 ∷ []) (apart_from 58 refl refl) f h)
 
-segment_absent : (style : PathStyle) (f : Forest) → following_one is_name f ≡ None → takes (Segment style) f ≡ Err Absent
+segment_absent : (style : PathStyle) (f : Forest) → following_one is_name f ≡ None
+    → takes (Segment style) f ≡ Err Absent
 segment_absent Plain f e =
     takes_by_rule (Segment Plain) f ∙ ap (λ x. or_miss Absent x >>= meaning takes
     (maybe (maybe (puncts "::") then part Angle))) e
@@ -64,7 +65,8 @@ path_absent style f h =
     ∙ ap (λ s. s >>= meaning takes (repeated (part (NextSegment style))))
     (segment_absent style f (one_absent begins_indirection is_name no_name f h)))
 
-word_absent : (texts : List (List ℕ)) (f : Forest) → Begins begins_indirection f → following_one (is_one_of texts) f ≡ None
+word_absent : (texts : List (List ℕ)) (f : Forest) → Begins begins_indirection f
+    → following_one (is_one_of texts) f ≡ None
 word_absent texts f h =
     one_absent begins_indirection (is_one_of texts)
     (either_apart (is_punct 38) (is_punct 42) (is_one_of texts) (sign_is_no_word 38 texts)

@@ -52,9 +52,9 @@ has_to_stand (Ok rest) = Ok rest
 has_to_stand (Err Absent) = Err Fault
 has_to_stand (Err Fault) = Err Fault
 
-abbrev pub if_stands : Step → Forest → Step
-if_stands (Ok rest) f = Ok f
-if_stands (Err miss) f = Err miss
+abbrev pub if_present : Step → Forest → Step
+if_present (Ok rest) f = Ok f
+if_present (Err miss) f = Err miss
 
 abbrev pub if_absent : Step → Forest → Step
 if_absent (Ok rest) f = Err Absent
@@ -150,7 +150,7 @@ meaning parts (r or s) f = or_else (meaning parts r f) (meaning parts s f)
 meaning parts (maybe r) f = or_else (meaning parts r f) (Ok f)
 meaning parts (repeated r) f = in_turn (meaning parts r) f
 meaning parts (needed r) f = has_to_stand (meaning parts r f)
-meaning parts (ahead r) f = if_stands (meaning parts r f) f
+meaning parts (ahead r) f = if_present (meaning parts r f) f
 meaning parts (not_ahead r) f = if_absent (meaning parts r f) f
 
 -- what a part takes by its rule, where parts call one another so deep and no deeper

@@ -11,7 +11,7 @@ use Rattle.mbe_tt.specs.Trees.Glue.{glue, chars_of, if_joint, joined}
 use Rattle.mbe_tt.specs.declared.tt.Punct.{Punct}
 use Rattle.mbe_grammar.specs.declared.step.Miss.{Miss}
 use Rattle.mbe_grammar.specs.declared.step.Miss.TheVariants.{Absent, Fault}
-use Rattle.mbe_grammar.specs.Rule.{Rule, one, puncts_of, through, to_closing_angle, part, ◌then◌, ◌or◌, maybe, repeated, needed, ahead, not_ahead, Step, ◌>>=◌, or_else, has_to_stand, if_stands, if_absent, or_miss, once_more, times, in_turn, following_one, after_puncts, past_first, after_angle, is_char, begins_arrow, meaning, taken_within, taken}
+use Rattle.mbe_grammar.specs.Rule.{Rule, one, puncts_of, through, to_closing_angle, part, ◌then◌, ◌or◌, maybe, repeated, needed, ahead, not_ahead, Step, ◌>>=◌, or_else, has_to_stand, if_present, if_absent, or_miss, once_more, times, in_turn, following_one, after_puncts, past_first, after_angle, is_char, begins_arrow, meaning, taken_within, taken}
 
 -- ---- what is left
 
@@ -63,7 +63,7 @@ needed_leaves a f (Ok g) h = h
 needed_leaves a f (Err Absent) h = tt
 needed_leaves a f (Err Fault) h = tt
 
-ahead_leaves : (f : Forest) (s : Step) → Leaves false f (if_stands s f)
+ahead_leaves : (f : Forest) (s : Step) → Leaves false f (if_present s f)
 ahead_leaves f (Ok g) = omega arith
 ahead_leaves f (Err miss) = tt
 

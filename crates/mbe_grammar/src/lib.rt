@@ -41,7 +41,10 @@ use std::alloc::{AllocError, Allocator};
 pub struct SampleGrammar;
 
 // What is left after a fragment.
-fn behind<'t, A: Allocator>(entry: PrefixEntryPoint, tokens: TokenTreesView<'t, A>) -> Step<'t, A>
+fn following<'t, A: Allocator>(
+    entry: PrefixEntryPoint,
+    tokens: TokenTreesView<'t, A>,
+) -> Step<'t, A>
     ensures { seen result ≡ takes (part_of entry) (trees tokens.entry) }
 {
     match entry {
@@ -63,7 +66,7 @@ fn behind<'t, A: Allocator>(entry: PrefixEntryPoint, tokens: TokenTreesView<'t, 
 fn front<A: Allocator>(entry: PrefixEntryPoint, tokens: TokenTreesView<'_, A>) -> Front
     ensures { result ≡ answer entry (trees tokens.entry) }
 {
-    match behind(entry, tokens) {
+    match following(entry, tokens) {
         Ok(rest) => Front {
             count: tokens.flat_len() - rest.flat_len(),
             fault: false,

@@ -1,7 +1,7 @@
 // What a part of the grammar returns, and what is made of that.
 ghost use Rattle.std.specs.Prelude.{◌≡◌, Ok};
 ghost use Rattle.mbe_tt.specs.Views.View.{trees};
-ghost use Rattle.mbe_grammar.specs.Rule.{or_else, has_to_stand, if_stands, if_absent};
+ghost use Rattle.mbe_grammar.specs.Rule.{or_else, has_to_stand, if_present, if_absent};
 ghost use Rattle.mbe_grammar.specs.Steps.{seen};
 
 use mbe_tt::tt::TokenTreesView;
@@ -51,7 +51,7 @@ pub fn needed<'t, A: Allocator>(step: Step<'t, A>) -> Step<'t, A>
 
 /// The step that takes nothing, if the trees begin with a part.
 pub fn ahead<'t, A: Allocator>(step: Step<'t, A>, tokens: TokenTreesView<'t, A>) -> Step<'t, A>
-    ensures { seen result ≡ if_stands (seen step.entry) (trees tokens.entry) }
+    ensures { seen result ≡ if_present (seen step.entry) (trees tokens.entry) }
 {
     match step {
         Ok(_rest) => Ok(tokens),

@@ -751,7 +751,7 @@ static VISIBILITIES: [&str; 29] = [
     "§;",
 ];
 
-// What stands between two operands. No operand may be missing after it.
+// What is between two operands. No operand may be missing after it.
 static OPERATORS: [&str; 29] = [
     "+", "-", "*", "/", "%", "^", "&", "|", "&&", "||", "==", "!=", "<", ">", "<=", ">=", "<<",
     ">>", "=", "+=", "-=", "*=", "/=", "%=", "^=", "&=", "|=", "<<=", ">>=",

@@ -2,7 +2,7 @@
 use Rattle.std.specs.Prelude.{◌≡◌, ◌<◌, ◌+◌, ℕ, zero, suc, List, [], ◌∷◌, ◌++◌, length, slice_get, Option, Some, None, refl}
 use Rattle.std.proofs.Common.{arith, sym, ap, subst, ◌∙◌, ◌⊎◌, inl, inr}
 use Rattle.mbe_semantics.specs.declared.log.Part.{Part}
-use Rattle.mbe_semantics.specs.Bindings.Account.{Command, Commands, CommandRounds, Entry, RoundEntry, Log, Order, IsIn, Gives, GivesRounds, gives_nothing, gives_binding, gives_empty, gives_skip, gives_missing, gives_nested, gives_link, gives_no_rounds, gives_round, gives_linked_rounds, IsBelow, AreRoundsBelow, StandsForLower, RoundStandsForLower, IsOrdered}
+use Rattle.mbe_semantics.specs.Bindings.Account.{Command, Commands, CommandRounds, Entry, RoundEntry, Log, Order, IsIn, Gives, GivesRounds, gives_nothing, gives_binding, gives_empty, gives_skip, gives_missing, gives_nested, gives_link, gives_no_rounds, gives_round, gives_linked_rounds, IsBelow, AreRoundsBelow, NamesLower, RoundNamesLower, IsOrdered}
 use Rattle.mbe_log.specs.Accounts.{Every}
 use Rattle.mbe_log.specs.Shared.{appended}
 use Rattle.mbe_log.specs.Sound.{HasOrder, GivesCommand}
@@ -68,14 +68,14 @@ above_lists {E} (es ∷ ess) number = let p = above_list es (number 0) in let q 
 -- ---- what is added
 
 -- what the entry stands for is in the log
-abbrev StandsWithin : Log → Entry → Type 0
-StandsWithin log (Entry.nests finished current) = IsIn log.rounds finished × IsIn log.commands current
-StandsWithin log (Entry.links part) = IsIn log.commands part
-StandsWithin log _ = Unit {0}
+abbrev NamesWithin : Log → Entry → Type 0
+NamesWithin log (Entry.nests finished current) = IsIn log.rounds finished × IsIn log.commands current
+NamesWithin log (Entry.links part) = IsIn log.commands part
+NamesWithin log _ = Unit {0}
 
-abbrev RoundStandsWithin : Log → RoundEntry → Type 0
-RoundStandsWithin log (RoundEntry.finishes part) = IsIn log.commands part
-RoundStandsWithin log (RoundEntry.links part) = IsIn log.rounds part
+abbrev RoundNamesWithin : Log → RoundEntry → Type 0
+RoundNamesWithin log (RoundEntry.finishes part) = IsIn log.commands part
+RoundNamesWithin log (RoundEntry.links part) = IsIn log.rounds part
 
 -- an entry of the new lists is in its place in the old ones, where nothing else is, or it is added and meets the
 -- condition
@@ -114,7 +114,7 @@ adds-entry {E} P ess at new w i j es e h k = go (get-appended ess at i new es h)
     go (inr s) = last s.0 s.1 (get-more s.0 new e j (ap (λ xs. slice_get xs j) (sym s.3) ∙ k))
 
 -- entries that give something stand for what is there
-pub within : (log : Log) {cs all : Commands} {es : List Entry} → Gives log cs es all → Every (StandsWithin log) es
+pub within : (log : Log) {cs all : Commands} {es : List Entry} → Gives log cs es all → Every (NamesWithin log) es
 within log (gives_nothing cs) = tt
 within log (gives_binding cs name x es all h) = (tt, within log h)
 within log (gives_empty cs name es all h) = (tt, within log h)
@@ -124,12 +124,12 @@ within log (gives_nested cs finished current es rs ds all p q h) = ((in_of_round
 within log (gives_link cs part es ds all q h) = (in_of log q, within log h)
 
 pub rounds-within : (log : Log) {rs all : CommandRounds} {es : List RoundEntry} → GivesRounds log rs es all
-    → Every (RoundStandsWithin log) es
+    → Every (RoundNamesWithin log) es
 rounds-within log (gives_no_rounds rs) = tt
 rounds-within log (gives_round rs part es cs all q h) = (in_of log q, rounds-within log h)
 rounds-within log (gives_linked_rounds rs part es qs all q h) = (in_of_rounds log q, rounds-within log h)
 
-pub command-within : (log : Log) (e : Entry) (c : Command) → GivesCommand log e c → StandsWithin log e
+pub command-within : (log : Log) (e : Entry) (c : Command) → GivesCommand log e c → NamesWithin log e
 command-within log (Entry.binds name x) c h = tt
 command-within log (Entry.binds_nothing name) c h = tt
 command-within log (Entry.skips name) c h = tt
@@ -141,8 +141,8 @@ command-within log (Entry.links part) c h = absurd h
 
 module _ (old new : Log) (order : Order) (o : IsOrdered old order) (c : HasMore old.commands new.commands)
     (r : HasMore old.rounds new.rounds)
-    (added : Adds (StandsWithin old) old.commands new.commands)
-    (rounds_added : Adds (RoundStandsWithin old) old.rounds new.rounds) where
+    (added : Adds (NamesWithin old) old.commands new.commands)
+    (rounds_added : Adds (RoundNamesWithin old) old.rounds new.rounds) where
   commands_above : (n : ℕ) × ((i j : ℕ) (e : Entry) → entry_in old.commands i j ≡ Some e → order.commands i j < n)
   commands_above = above_lists old.commands order.commands
 
@@ -201,7 +201,7 @@ module _ (old new : Log) (order : Order) (o : IsOrdered old order) (c : HasMore 
   rounds_before : (p : Part) → IsIn old.rounds p → AreRoundsBelow new later latest p
   rounds_before p i = rounds_below latest p i (λ j e l f. let a = rounds_above.1 p.list j e f in omega (arith, a))
 
-  still_lower : (n : ℕ) (e : Entry) → StandsForLower old order n e → StandsForLower new later n e
+  still_lower : (n : ℕ) (e : Entry) → NamesLower old order n e → NamesLower new later n e
   still_lower n (Entry.nests finished current) s = (rounds_still n finished s.0, still n current s.1)
   still_lower n (Entry.links part) s = still n part s
   still_lower n (Entry.binds name x) s = tt
@@ -209,11 +209,11 @@ module _ (old new : Log) (order : Order) (o : IsOrdered old order) (c : HasMore 
   still_lower n (Entry.skips name) s = tt
   still_lower n (Entry.misses name kind) s = tt
 
-  round_still_lower : (n : ℕ) (e : RoundEntry) → RoundStandsForLower old order n e → RoundStandsForLower new later n e
+  round_still_lower : (n : ℕ) (e : RoundEntry) → RoundNamesLower old order n e → RoundNamesLower new later n e
   round_still_lower n (RoundEntry.finishes part) s = still n part s
   round_still_lower n (RoundEntry.links part) s = rounds_still n part s
 
-  lower : (e : Entry) → StandsWithin old e → StandsForLower new later latest e
+  lower : (e : Entry) → NamesWithin old e → NamesLower new later latest e
   lower (Entry.nests finished current) s = (rounds_before finished s.0, before current s.1)
   lower (Entry.links part) s = before part s
   lower (Entry.binds name x) s = tt
@@ -221,28 +221,28 @@ module _ (old new : Log) (order : Order) (o : IsOrdered old order) (c : HasMore 
   lower (Entry.skips name) s = tt
   lower (Entry.misses name kind) s = tt
 
-  round_lower : (e : RoundEntry) → RoundStandsWithin old e → RoundStandsForLower new later latest e
+  round_lower : (e : RoundEntry) → RoundNamesWithin old e → RoundNamesLower new later latest e
   round_lower (RoundEntry.finishes part) s = before part s
   round_lower (RoundEntry.links part) s = rounds_before part s
 
   commands_ordered : (i j : ℕ) (e : Entry)
-      → (entry_in old.commands i j ≡ Some e) ⊎ ((entry_in old.commands i j ≡ None) × StandsWithin old e)
-      → StandsForLower new later (later.commands i j) e
+      → (entry_in old.commands i j ≡ Some e) ⊎ ((entry_in old.commands i j ≡ None) × NamesWithin old e)
+      → NamesLower new later (later.commands i j) e
   commands_ordered i j e (inl s) =
       let l = list_of old.commands i j e s in
-      subst (λ x. StandsForLower new later (numbered x (order.commands i j)) e) (sym s)
+      subst (λ x. NamesLower new later (numbered x (order.commands i j)) e) (sym s)
       (still_lower (order.commands i j) e (o.commands i j l.0 e l.1 l.2))
-  commands_ordered i j e (inr s) = subst (λ x. StandsForLower new later (numbered x (order.commands i j)) e) (sym s.0)
+  commands_ordered i j e (inr s) = subst (λ x. NamesLower new later (numbered x (order.commands i j)) e) (sym s.0)
       (lower e s.1)
 
   rounds_ordered : (i j : ℕ) (e : RoundEntry)
-      → (entry_in old.rounds i j ≡ Some e) ⊎ ((entry_in old.rounds i j ≡ None) × RoundStandsWithin old e)
-      → RoundStandsForLower new later (later.rounds i j) e
+      → (entry_in old.rounds i j ≡ Some e) ⊎ ((entry_in old.rounds i j ≡ None) × RoundNamesWithin old e)
+      → RoundNamesLower new later (later.rounds i j) e
   rounds_ordered i j e (inl s) =
       let l = list_of old.rounds i j e s in
-      subst (λ x. RoundStandsForLower new later (numbered x (order.rounds i j)) e) (sym s)
+      subst (λ x. RoundNamesLower new later (numbered x (order.rounds i j)) e) (sym s)
       (round_still_lower (order.rounds i j) e (o.rounds i j l.0 e l.1 l.2))
-  rounds_ordered i j e (inr s) = subst (λ x. RoundStandsForLower new later (numbered x (order.rounds i j)) e) (sym s.0)
+  rounds_ordered i j e (inr s) = subst (λ x. RoundNamesLower new later (numbered x (order.rounds i j)) e) (sym s.0)
       (round_lower e s.1)
 
   stays_ordered : HasOrder new
@@ -256,6 +256,6 @@ module _ (old new : Log) (order : Order) (o : IsOrdered old order) (c : HasMore 
 
 -- a log that grows by entries which stand for what was there
 pub order-stays : (old new : Log) → HasOrder old → HasMore old.commands new.commands → HasMore old.rounds new.rounds →
-    Adds (StandsWithin old) old.commands new.commands → Adds (RoundStandsWithin old) old.rounds new.rounds
+    Adds (NamesWithin old) old.commands new.commands → Adds (RoundNamesWithin old) old.rounds new.rounds
     → HasOrder new
 order-stays old new h c r a b = stays_ordered old new h.0 h.1 c r a b

@@ -53,28 +53,28 @@ no_items [] e = refl
 no_items (x ∷ xs) e = absurd (omega arith)
 
 -- after a leaf, an opening and a closing
-module _ (f : Forest) (n : ℕ) (here left : Forest) (around : List Forest) (stands : rests f n ≡ (here, reverse around))
+module _ (f : Forest) (n : ℕ) (here left : Forest) (around : List Forest) (placed : rests f n ≡ (here, reverse around))
     (rest : left ≡ rest_of here) where
   pub after_leaf : (l : Leaf) → Some (Leaf_tree l) ≡ first here → rests f (n + 1) ≡ (left, reverse around)
-  after_leaf l e = one_further f n here (reverse around) stands ∙ leaf_step here left (reverse around) l e rest
+  after_leaf l e = one_further f n here (reverse around) placed ∙ leaf_step here left (reverse around) l e rest
 
   pub after_opening : (d : Delimiter) (inside : Forest) (after : List Forest) → Some (Group_tree d inside) ≡ first here
       → after ≡ around ++ left ∷ [] →
       rests f (n + 1) ≡ (inside, reverse after)
   after_opening d inside after e a =
-      one_further f n here (reverse around) stands ∙ group_step here left (reverse around) d inside e rest
+      one_further f n here (reverse around) placed ∙ group_step here left (reverse around) d inside e rest
       ∙ ap (λ (x : List Forest). (inside, x)) (sym (ap reverse a ∙ reverse-append around (left ∷ [])))
 
   pub after_closing : (outer : Forest) (after : List Forest) → None ≡ first here → around ≡ after ++ outer ∷ []
       → rests f (n + 1) ≡ (outer, reverse after)
   after_closing outer after e a =
-      one_further f n here (reverse around) stands ∙ ap (step here) (ap reverse a ∙ reverse-append after (outer ∷ []))
+      one_further f n here (reverse around) placed ∙ ap (step here) (ap reverse a ∙ reverse-append after (outer ∷ []))
       ∙ end_step here (reverse after) outer e
 
   pub following_all : (after : List Forest) → None ≡ first here → length around ≡ 0 → length after ≡ 0
       → rests f (n + 1) ≡ (left, reverse after)
   following_all after e a b =
-      one_further f n here (reverse around) stands ∙ ap (λ (x : List Forest). step here (reverse x)) (no_items around a)
+      one_further f n here (reverse around) placed ∙ ap (λ (x : List Forest). step here (reverse x)) (no_items around a)
       ∙ last_step here left e rest
       ∙ ap (λ (x : List Forest). (left, reverse x)) (sym (no_items after b))
 

@@ -33,7 +33,7 @@ use Rattle.mbe_matcher.specs.declared.position.Outer.{Outer}
 use Rattle.mbe_matcher.specs.declared.position.Rounds.{Rounds}
 use Rattle.mbe_matcher.specs.declared.position.Steps.{Steps}
 use Rattle.mbe_matcher.specs.Fronts.{op_width, if_again}
-use Rattle.mbe_matcher.specs.Positions.{Each, Both, AreRounds, edge_in, AreEdges, none_open, group_open, repetition_open, Stands, Shows, IsPosition, IsLeft, LeadsTo, Holds, idle_in, AreStepsNow, Keeps, AreSteps, IsPlain, over_steps, IsSkip}
+use Rattle.mbe_matcher.specs.Positions.{Each, Both, AreRounds, edge_in, AreEdges, none_open, group_open, repetition_open, Outlined, Shows, IsPosition, IsLeft, LeadsTo, Holds, idle_in, AreStepsNow, Keeps, AreSteps, IsPlain, over_steps, IsSkip}
 use Rattle.mbe_matcher.specs.Rewriting.{IsRewritten}
 use Rattle.mbe_matcher.proofs.Keeping.{kept_not, grows_not, each_weaker, shows_keep, edges_keep}
 
@@ -59,10 +59,10 @@ module _ {A : Type 0} (log : Log) (outers : List (Outer A)) where
   -- a position whose ops are known
   pub as_outline : (P : Outline → Type 0) (p : Position A) (os : Ops) (o : Outline) → Shows log outers p o
       → ops_of p.dot.now ≡ os →
-      ((a : Account) (up : List Edge) → Stands log outers p os a up → P (outline os a up)) → P o
+      ((a : Account) (up : List Edge) → Outlined log outers p os a up → P (outline os a up)) → P o
   as_outline P p os (outline rest a up) s e f =
       subst (λ x. P (outline x a up)) (sym e ∙ s.dot)
-      (f a up (subst (λ x. Stands log outers p x a up) (sym s.dot ∙ e) s))
+      (f a up (subst (λ x. Outlined log outers p x a up) (sym s.dot ∙ e) s))
 
   pub has_entries : (p : Position A) → IsPosition log outers p → HasEntriesOf log p.handle
   has_entries p (outline rest a up, s) = client.has_entries log p.handle a s.account
@@ -80,27 +80,27 @@ module _ {A : Type 0} (log : Log) (outers : List (Outer A)) where
       (λ a up t. let n = t.number in omega (arith, n))
 
   -- after an op without dots
-  pub stands_past : (p : Position A) (o : Op) (rest : Ops) (a b : Account) (up : List Edge) (h : Handle)
-      (r : Bor (List (code.Op A))) → Stands log outers p (op o rest) a up → op_dots o ≡ 0 →
+  pub placed_past : (p : Position A) (o : Op) (rest : Ops) (a b : Account) (up : List Edge) (h : Handle)
+      (r : Bor (List (code.Op A))) → Outlined log outers p (op o rest) a up → op_dots o ≡ 0 →
       ops_of r.now ≡ rest → IsAccount log h b →
-      Stands log outers (record { dot = r; number = p.number - 1; up = p.up; handle = h }) rest b up
-  stands_past p o rest a b up h r s z e i =
+      Outlined log outers (record { dot = r; number = p.number - 1; up = p.up; handle = h }) rest b up
+  placed_past p o rest a b up h r s z e i =
       record { dot = e; number = (let n = s.number in omega (arith, n, z)); account = i; around = s.around }
 
 module _ {A : Type 0} (log : Log) (outers : List (Outer A)) where
   -- after an op that is a token
   pub plain_past : (p : Position A) (o : Op) (a : Account) (up : List Edge) (r : Bor (List (code.Op A))) → IsPlain o
-      → Stands log outers p (op o (ops_of r.now)) a up →
-      Stands log outers (record { dot = r; number = p.number - 1; up = p.up; handle = p.handle }) (ops_of r.now) a up
-  plain_past p o a up r h s = stands_past log outers p o (ops_of r.now) a a up p.handle r s (plain_dots o h) refl
+      → Outlined log outers p (op o (ops_of r.now)) a up →
+      Outlined log outers (record { dot = r; number = p.number - 1; up = p.up; handle = p.handle }) (ops_of r.now) a up
+  plain_past p o a up r h s = placed_past log outers p o (ops_of r.now) a a up p.handle r s (plain_dots o h) refl
       s.account
 
 -- after a variable
 pub variable_past : {A : Type 0} (old new : Log) (outers : List (Outer A)) (p : Position A) (name : Name)
     (kind : Option MetaVarKind) (span : Span) (a : Account) (up : List Edge) (x : Fragment)
     (r : Bor (List (code.Op A))) (h : Handle) → IsChanged old new p.handle h (pushed (Command.binds name x))
-    → Stands old outers p (op (variable name kind span) (ops_of r.now)) a up →
-    Stands new outers (record { dot = r; number = p.number - 1; up = p.up; handle = h }) (ops_of r.now)
+    → Outlined old outers p (op (variable name kind span) (ops_of r.now)) a up →
+    Outlined new outers (record { dot = r; number = p.number - 1; up = p.up; handle = h }) (ops_of r.now)
     (pushed (Command.binds name x) a) up
 variable_past old new outers p name kind span a up x r h c s = record {
   dot = refl;
@@ -300,9 +300,10 @@ last_outer {A} outers all o n e l = ap (λ xs. slice_get xs n) e ∙ ap (slice_g
 module _ {A : Type 0} (outers all : List (Outer A)) (n : ℕ) (at : n ≡ length outers) where
   pub group_entered : (log : Log) (p : Position A) (d : Delimiter) (rest : Ops) (a : Account) (up : List Edge)
       (body after : Bor (List (code.Op A))) → ops_of after.now ≡ rest →
-      Stands log outers p (op (group d (ops_of body.now)) rest) a up
+      Outlined log outers p (op (group d (ops_of body.now)) rest) a up
       → all ≡ outers ++ record { rounds = None; rest = after; up = p.up } ∷ [] →
-      Stands log all (record { dot = body; number = p.number - 1; up = Some n; handle = p.handle }) (ops_of body.now) a
+      Outlined log all (record { dot = body; number = p.number - 1; up = Some n; handle = p.handle }) (ops_of body.now)
+      a
       (gate rest ∷ up)
   group_entered log p d rest a up body after r s e =
       let o : Outer A = record { rounds = None; rest = after; up = p.up } in
@@ -319,7 +320,8 @@ module _ {A : Type 0} (outers all : List (Outer A)) (n : ℕ) (at : n ≡ length
       (a : Account) (up : List Edge)
       (body after : Bor (List (code.Op A))) (separator : Option (Bor (between.Separator A))) (k : RepeatKind)
       (second : Option (Position A)) (h : Handle) → ops_of after.now ≡ rest →
-      Stands old outers p (op (repetition (ops_of body.now) (option_map (λ s. separator_seen s.now) separator) k) rest)
+      Outlined old outers p (op (repetition (ops_of body.now) (option_map (λ s. separator_seen s.now) separator) k)
+      rest)
       a up →
       IsSkip k (ops_of body.now) (ops_of after.now) old new p second → IsAccount new h no_account →
       (let r : Rounds A = record {
@@ -358,7 +360,7 @@ module _ {A : Type 0} (outers all : List (Outer A)) (n : ℕ) (at : n ≡ length
       })
       (edges_keep old new outers all keeps s.around) in
       let first : Position A = record { dot = body; number = p.number - 1; up = Some n; handle = h } in
-      let into : Stands new all first (ops_of body.now) no_account (edge_in round rest q a ∷ up) =
+      let into : Outlined new all first (ops_of body.now) no_account (edge_in round rest q a ∷ up) =
       record {
         dot = refl;
         number = omega (arith, number);
@@ -418,7 +420,7 @@ skip_some {A} k body old new p rest n h m e w = record {
 
 module _ {A : Type 0} (g : Grammar) (argument : Forest) (q : ℕ) (log : Log) (outers : List (Outer A)) (b rest : Ops)
     (p : ℕ) (a outside : Account) (up : List Edge) (left : Position A)
-    (behind : Shows log outers left (outline rest (pushed_nested outside a) up)) where
+    (following : Shows log outers left (outline rest (pushed_nested outside a) up)) where
   no_advance : (s : Separator) (w : Option ℕ) → round_advance ZeroOrOne w q b (Some s) rest outside a up ≡ None
   no_advance s None = refl
   no_advance s (Some n) = refl
@@ -432,7 +434,7 @@ module _ {A : Type 0} (g : Grammar) (argument : Forest) (q : ℕ) (log : Log) (o
       → None ≡ round_advance k (length_of (separator_front s (rest_at argument q))) q b (Some s) rest outside a up
       → Stops (Some s) k
   stops_at k s e = record {
-    idle = (behind, tt);
+    idle = (following, tt);
     next = subst (Both (LeadsTo log outers (rest_at argument q)) None) e tt;
     done = tt;
   }
@@ -441,7 +443,7 @@ module _ {A : Type 0} (g : Grammar) (argument : Forest) (q : ℕ) (log : Log) (o
       → None ≡ if_again k (length_of (between_front s (rest_at argument q))) → Stops s k
   round_stops None ZeroOrMore e = absurd (none-some 0 e)
   round_stops None OneOrMore e = absurd (none-some 0 e)
-  round_stops None ZeroOrOne e = record { idle = (behind, tt); next = tt; done = tt }
+  round_stops None ZeroOrOne e = record { idle = (following, tt); next = tt; done = tt }
   round_stops (Some s) ZeroOrMore e = stops_at ZeroOrMore s
       (ap (λ w. round_advance ZeroOrMore w q b (Some s) rest outside a up) e)
   round_stops (Some s) OneOrMore e = stops_at OneOrMore s
@@ -469,7 +471,7 @@ module _ {A : Type 0} (g : Grammar) (argument : Forest) (q : ℕ) (log : Log) (o
     idle = subst (λ (h : Outline → List Outline). Each (Shows log outers) (again ∷ left ∷ [])
         (h (outline b (pushed_default a) (edge b None k rest q outside ∷ up))
         ++ (outline rest (pushed_nested outside a) up ∷ [])))
-        (sym e) (f q, (behind, tt));
+        (sym e) (f q, (following, tt));
     next = tt;
     done = tt;
   }
@@ -489,7 +491,7 @@ module _ {A : Type 0} (g : Grammar) (argument : Forest) (q : ℕ) (log : Log) (o
       Front n again (Some s) k → Goes n again (Some s) k
   over_separator k s zero again w e f = absurd (let l = wide s zero w in omega (arith, l))
   over_separator k s (suc n) again w e f = record {
-    idle = (behind, tt);
+    idle = (following, tt);
     next = subst (Both (LeadsTo log outers (rest_at argument q))
         (Some (record { width = suc n; beyond = None; after = again })))
         (sym e ∙ ap (λ x. round_advance k x q b (Some s) rest outside a up) w)
@@ -508,7 +510,7 @@ module _ {A : Type 0} (g : Grammar) (argument : Forest) (q : ℕ) (log : Log) (o
 -- ---- the end of what is open
 
 module _ {A : Type 0} (i : Input) (argument : Forest) (q : ℕ) (log : Log) (outers : List (Outer A)) (p : Position A)
-    (a : Account) (es : List Edge) (s : Stands log outers p no_ops a es) where
+    (a : Account) (es : List Edge) (s : Outlined log outers p no_ops a es) where
   pub all_read : p.up ≡ None → AreStepsNow i argument q log outers (outline no_ops a es)
       (record { first = None; second = None; next = None; done = Some p.handle })
   all_read e = subst (λ x. AreStepsNow i argument q log outers (outline no_ops a x)
@@ -524,7 +526,7 @@ module _ {A : Type 0} (i : Input) (argument : Forest) (q : ℕ) (log : Log) (out
       done = tt;
     })
 
-    left : Stands log outers (record { dot = o.rest; number = p.number - 1; up = o.up; handle = p.handle })
+    left : Outlined log outers (record { dot = o.rest; number = p.number - 1; up = o.up; handle = p.handle })
         (ops_of o.rest.now) a w.up
     left = record {
       dot = refl;
@@ -552,7 +554,7 @@ module _ {A : Type 0} (i : Input) (argument : Forest) (q : ℕ) (log : Log) (out
 
 module _ {A : Type 0} (g : Grammar) (argument : Forest) (q : ℕ) (old mid : Log) (outers : List (Outer A))
     (p : Position A) (a : Account) (es : List Edge) (outer : Outer A) (r : Rounds A) (h : Handle)
-    (s : Stands old outers p no_ops a es) (w : InRounds old outers outer r es)
+    (s : Outlined old outers p no_ops a es) (w : InRounds old outers outer r es)
     (c : IsChanged old mid r.outside h (λ x. pushed_nested x a)) where
   abbrev out : Position A
   out = record { dot = outer.rest; number = p.number - 1; up = outer.up; handle = h }
@@ -560,7 +562,7 @@ module _ {A : Type 0} (g : Grammar) (argument : Forest) (q : ℕ) (old mid : Log
   abbrev seen : Option Separator
   seen = option_map (λ x. separator_seen x.now) r.separator
 
-  out_of : Stands mid outers out (ops_of outer.rest.now) (pushed_nested w.outside a) w.up
+  out_of : Outlined mid outers out (ops_of outer.rest.now) (pushed_nested w.outside a) w.up
   out_of = record {
     dot = refl;
     number = (let n = ap edges_after w.is in let m = s.number in omega (arith, n, m));

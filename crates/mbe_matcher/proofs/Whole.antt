@@ -61,7 +61,7 @@ module _ (i : Input) (pattern : Ops) (q len : ℕ) (lawful : Lawful i len) (spot
 
 -- ---- from place to place
 
--- the beginnings for which the stack stands, with what was noted before
+-- the beginnings that the stack shows, with what was noted before
 pub record WholeWith (i : Input) (pattern : Ops) (q : ℕ) (spots : List Outline) (before : Notes) : Type 0 where
   pub xs : List Beginning
   pub comes : ComesWith i pattern q xs before

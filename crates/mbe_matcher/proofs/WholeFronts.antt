@@ -42,10 +42,10 @@ ends_between (group d inside rest) (suc n) h e = go (λ m u v. ends_between rest
     go : ((m : ℕ) → m ≤ flat_len rest → depth_at rest m ≡ 0 → flat_len (cut_flat m rest).front ≡ m)
         → (n ≤ flat_len inside) ⊎ (flat_len inside + 1 ≤ n)
         → flat_len (cut_flat (suc n) (group d inside rest)).front ≡ suc n
-    go behind (inl k) = let u = sym (depth_at-in_group d inside rest n k) ∙ e in absurd (omega (arith, u))
-    go behind (inr k) =
+    go following (inl k) = let u = sym (depth_at-in_group d inside rest n k) ∙ e in absurd (omega (arith, u))
+    go following (inr k) =
         let u = sym (depth_at-following_group d inside rest n k) ∙ e in
-        let v = behind (n - flat_len inside - 1) (omega (arith, h, k)) u in
+        let v = following (n - flat_len inside - 1) (omega (arith, h, k)) u in
         omega (arith, v, k)
 
 -- a count that ends inside a group has the same shortest front as the next
@@ -66,13 +66,13 @@ ends_inside (group d inside rest) (suc n) h e = go (λ m u v. ends_inside rest m
         → (n ≤ flat_len inside) ⊎ (flat_len inside + 1 ≤ n)
         → (suc (suc n) ≤ flat_len (group d inside rest))
         × (cut_flat (suc (suc n)) (group d inside rest) ≡ cut_flat (suc n) (group d inside rest))
-    go behind (inl k) = (
+    go following (inl k) = (
       omega (arith, k),
       cuts (suc n - flat_len inside - 1) (n - flat_len inside - 1) (omega (arith, k)),
     )
-    go behind (inr k) =
+    go following (inr k) =
         let m = n - flat_len inside - 1 in
-        let u = behind m (omega (arith, h, k)) (λ z. e (depth_at-following_group d inside rest n k ∙ z)) in (
+        let u = following m (omega (arith, h, k)) (λ z. e (depth_at-following_group d inside rest n k ∙ z)) in (
           omega (arith, u.0, k),
           cuts (suc n - flat_len inside - 1) (suc m) (omega (arith, k))
               ∙ ap (group_before d inside) u.1,
@@ -95,11 +95,11 @@ goes_on cursor moved f v h n m =
     (ap viewed m ∙ v, omega (arith, p), omega (arith, l), ap (λ (q : ℕ). cut_flat q f) p ∙ i.1)
 
 -- the cursor that is between two trees is after the shortest front
-pub stands_after : (cursor start : Placed) (f : Forest) → viewed cursor ≡ f → place_of cursor ≤ flat_len f
+pub placed_after : (cursor start : Placed) (f : Forest) → viewed cursor ≡ f → place_of cursor ≤ flat_len f
     → IsAtRoot cursor
     → cut_flat (place_of cursor) f ≡ cut_flat (place_of start) f
     → cursor ≡ (f, flat_len (cut_flat (place_of start) f).front)
-stands_after cursor start f v h r c =
+placed_after cursor start f v h r c =
     let e = ends_between f (place_of cursor) h (ap (λ (t : Forest). depth_at t (place_of cursor)) (sym v) ∙ r) in
     let p : place_of cursor ≡ flat_len (cut_flat (place_of start) f).front =
     sym e ∙ ap (λ (x : Cut). flat_len x.front) c in
@@ -187,9 +187,9 @@ module _ (g : Grammar) (entry : PrefixEntryPoint) (f : Forest) (counted : Front)
   begins_at = begins ∙ ap (λ (t : Forest). let p : Placed = (t, counted.count) in p) same
 
   -- where the cursor is once it has left all groups
-  pub stands_at : (cursor : Placed) → cursor ≡ (viewed start, flat_len (cut_flat (place_of start) (viewed start)).front)
+  pub placed_at : (cursor : Placed) → cursor ≡ (viewed start, flat_len (cut_flat (place_of start) (viewed start)).front)
       → cursor ≡ (f, flat_len (front g entry f).front)
-  stands_at cursor e =
+  placed_at cursor e =
       e ∙ (ap (λ (p : Placed). let q : Placed = (viewed p, flat_len (cut_flat (place_of p) (viewed p)).front) in q)
       begins_at
       ∙ ap (λ (n : ℕ). let q : Placed = (f, flat_len (cut_flat n f).front) in q) count)

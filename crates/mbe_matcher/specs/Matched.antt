@@ -23,7 +23,7 @@ use Rattle.mbe_matcher.specs.declared.position.Waiting.{Waiting}
 use Rattle.mbe_matcher.specs.declared.settle.Settled.{Settled}
 use Rattle.mbe_matcher.specs.declared.settle.State.{State}
 use Rattle.mbe_matcher.specs.declared.source.Source.{Source}
-use Rattle.mbe_matcher.specs.Positions.{Each, Stands, Shows, LeadsTo, Holds}
+use Rattle.mbe_matcher.specs.Positions.{Each, Outlined, Shows, LeadsTo, Holds}
 
 -- ---- the positions at a place
 
@@ -46,7 +46,7 @@ pub record AreSettled {A : Type 0} (i : Input) (place : ℕ) (pattern : Ops) (sp
 
 -- it is before the first op of the pattern, and has bound nothing
 abbrev pub IsAtStart : {A : Type 0} → Log → Ops → Position A → Type 0
-IsAtStart {A} log pattern p = (outers : List (Outer A)) → Stands log outers p pattern no_account []
+IsAtStart {A} log pattern p = (outers : List (Outer A)) → Outlined log outers p pattern no_account []
 
 -- how many dots the pattern of a match has
 abbrev pub dots_in : {A : Type 0} → State A → ℕ

@@ -72,7 +72,7 @@ module _ {A : Type 0} (log : Log) (outers : List (Outer A)) where
         AreEdges (Some n) (edge_in r (ops_of o.rest.now) began outside ∷ es)
 
   -- the position has these ops left, this account, and these open items
-  pub record Stands (p : Position A) (rest : Ops) (a : Account) (up : List Edge) : Type 0 where
+  pub record Outlined (p : Position A) (rest : Ops) (a : Account) (up : List Edge) : Type 0 where
     pub dot : ops_of p.dot.now ≡ rest
     pub number : p.number ≡ dots rest + edges_after up
     pub account : IsAccount log p.handle a
@@ -80,7 +80,7 @@ module _ {A : Type 0} (log : Log) (outers : List (Outer A)) where
 
   -- the position is one of this outline
   abbrev pub Shows : Position A → Outline → Type 0
-  Shows p (outline rest a up) = Stands p rest a up
+  Shows p (outline rest a up) = Outlined p rest a up
 
   -- the position is one of some outline
   abbrev pub IsPosition : Position A → Type 0

@@ -17,7 +17,7 @@ pub(crate) struct Source<'a, A: Allocator = Global> {
     pub(crate) place: usize,
     here: TtIter<'a, A>,
     around: Vec<TtIter<'a, A>, A>,
-    ghost stands: { rests (trees whole) place ≡ (here, reverse around.items) },
+    ghost placed: { rests (trees whole) place ≡ (here, reverse around.items) },
     pub ghost within: { place ≤ flat_len (trees whole) },
 }
 
@@ -74,7 +74,7 @@ impl<'a, A: Allocator> Source<'a, A> {
         here: TtIter<'a, A>,
         around: Vec<TtIter<'a, A>, A>,
     ) -> Source<'a, A>
-        requires stands { rests (trees whole) place ≡ (here, reverse around.items) }
+        requires placed { rests (trees whole) place ≡ (here, reverse around.items) }
         requires within { place ≤ flat_len (trees whole) }
         ensures whole { result.whole ≡ whole.entry }
         ensures place { result.place ≡ place }

@@ -53,7 +53,7 @@ fn op_steps<'a, A: Allocator + Copy, G: FragmentGrammar>(
     rest: &'a [Op<A>],
     position: Position<'a, A>,
 ) -> Result<Steps<'a, A>, AllocError>
-    requires stands { IsPosition log.old outers.old.items position }
+    requires placed { IsPosition log.old outers.old.items position }
     requires dot { ops_of position.dot.now ≡ op_then (op_of op.now) (ops_of rest.now) }
     ensures { GivesSteps (G.grammar grammar.now) source.now log.old log.new
         outers.old.items outers.new.items position.entry result }
@@ -314,7 +314,7 @@ fn end_steps<'a, A: Allocator + Copy>(
     outers: &[Outer<'a, A>],
     position: Position<'a, A>,
 ) -> Result<Steps<'a, A>, AllocError>
-    requires stands { IsPosition log.old outers.now position }
+    requires placed { IsPosition log.old outers.now position }
     requires dot { ops_of position.dot.now ≡ no_ops }
     ensures { (g : Grammar) → GivesSteps g source.now log.old log.new
         outers.now outers.now position.entry result }

@@ -112,7 +112,7 @@ fn end_next<'a, A: Allocator>(
     position: &Position<'a, A>,
     outers: &[Outer<'a, A>],
 ) -> Option<Wanted<'a, A>>
-    requires stands { (log : Log) × IsPosition log outers.now position.now }
+    requires placed { (log : Log) × IsPosition log outers.now position.now }
     requires dot { ops_of position.now.dot.now ≡ no_ops }
     ensures { (log : Log) (o : Outline) → Shows log outers.now position.now o
         → option_map wanted_seen result ≡ outline_wants o }

@@ -3,8 +3,8 @@ use Rattle.std.specs.Prelude.{ℕ, List, ◌++◌, codes, Option, Some, None}
 use Rattle.mbe_modules.specs.Paths.{join}
 
 -- A file's folder with the names of the inline modules from there on; and the file's own name, where its modules are in
--- a folder of that name: not in a crate's root, a `mod.rs` or a file that `#[path]` names, nor once an inline module has
--- added it.
+-- a folder of that name: not in a crate's root, a `mod.rs` or a file that `#[path]` names, nor once an inline module
+-- has added it.
 pub record Place : Type 0 where
   pub folder : List ℕ
   pub own : Option (List ℕ)

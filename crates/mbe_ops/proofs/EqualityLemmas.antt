@@ -77,10 +77,10 @@ mutual
   key_same_op (ops.repetition body s k) (ops.group f other) h = absurd (tags_differ 3 1 _ _ refl h)
   key_same_op (ops.repetition body s k) (ops.variable n l r) h = absurd (tags_differ 3 2 _ _ refl h)
   key_same_op (ops.repetition body s k) (ops.repetition other r l) h = let parts = second_of h in
-      let behind = second_of parts in (
-        key_same_ops body other (second_of behind),
+      let following = second_of parts in (
+        key_same_ops body other (second_of following),
         texts_same s r ((coded_option text_code).inj (option_map text_of s) (option_map text_of r) (first_of parts)),
-        repeat.the_row.coded.inj k l (first_of behind),
+        repeat.the_row.coded.inj k l (first_of following),
       )
   key_same_op (ops.repetition body s k) (ops.expression f) h = absurd (tags_differ 3 4 _ _ refl h)
   key_same_op (ops.expression e) (ops.token u) h = absurd (tags_differ 4 0 _ _ refl h)
@@ -127,10 +127,10 @@ key_same_rules [] [] h = tt
 key_same_rules [] (q ∷ qs) h = absurd (cc)
 key_same_rules (r ∷ rs) [] h = absurd (cc)
 key_same_rules (r ∷ rs) (q ∷ qs) h =
-    let behind = second_of h in
-    let further = second_of behind in (
+    let following = second_of h in
+    let further = second_of following in (
       style.the_row.coded.inj r.style q.style (first_of h),
-      key_same_ops r.reads q.reads (first_of behind),
+      key_same_ops r.reads q.reads (first_of following),
       key_same_ops r.writes q.writes (first_of further),
       key_same_rules rs qs (second_of further),
     )
@@ -142,8 +142,8 @@ same_key_rules (r ∷ rs) [] h = absurd h
 same_key_rules (r ∷ rs) (q ∷ qs) h =
     let reads = same_key_ops r.reads q.reads h.1 in
     let writes = same_key_ops r.writes q.writes h.2 in
-    let behind = same_key_rules rs qs h.3 in
-    λ i. gcons (style.the_row.coded.code (h.0 i)) (gcons (reads i) (gcons (writes i) (behind i)))
+    let following = same_key_rules rs qs h.3 in
+    λ i. gcons (style.the_row.coded.code (h.0 i)) (gcons (reads i) (gcons (writes i) (following i)))
 
 -- macros of one code are the same, and those alone
 pub macros_by_key : (m n : Macro) → (macro_key m ≡ macro_key n) ↔ IsSameMacro m n
@@ -188,7 +188,7 @@ pub op_no_heavier : {A : Type 0} (xs : List (code.Op A)) (i : ℕ) (x : code.Op 
     → op_weight (op_of x) ≤ ops_weight (ops_of xs)
 op_no_heavier [] i x l e = absurd (omega (arith, l))
 op_no_heavier (y ∷ ys) zero x l e = let same = ap (λ o. op_weight (op_of o)) e in omega arith
-op_no_heavier (y ∷ ys) (suc i) x l e = let behind = op_no_heavier ys i x (omega arith) e in omega arith
+op_no_heavier (y ∷ ys) (suc i) x l e = let following = op_no_heavier ys i x (omega arith) e in omega arith
 
 pub groups_tell : (o p : Op) (d e : Delimiter) (body other : Ops) (a r : Bool) → o ≡ ops.group d body
     → p ≡ ops.group e other
@@ -226,8 +226,8 @@ module _ {A : Type 0} where
   elements_same (x ∷ xs) [] h = absurd (true≢false (sym h))
   elements_same (x ∷ xs) (y ∷ ys) h =
       let here = same_is element_code (element_seen x) (element_seen y) (and_first _ _ h) in
-      let behind = elements_same xs ys (and_second (element_eq x y) _ h) in
-      λ i. here i ∷ behind i
+      let following = elements_same xs ys (and_second (element_eq x y) _ h) in
+      λ i. here i ∷ following i
 
   same_elements : (xs ys : List (part.ConcatMetaVarExprElem A)) → elements_seen xs ≡ elements_seen ys
       → pointwise element_eq xs ys ≡ true
@@ -236,9 +236,9 @@ module _ {A : Type 0} where
   same_elements (x ∷ xs) [] h = absurd (cc)
   same_elements (x ∷ xs) (y ∷ ys) h =
       let here : element_seen x ≡ element_seen y = cc in
-      let behind : elements_seen xs ≡ elements_seen ys = cc in
+      let following : elements_seen xs ≡ elements_seen ys = cc in
       ap (λ (b : Bool). b && pointwise element_eq xs ys) (is_same element_code (element_seen x) (element_seen y) here)
-      ∙ same_elements xs ys behind
+      ∙ same_elements xs ys following
 
   pub elements_tell : (xs ys : List (part.ConcatMetaVarExprElem A)) (r : Bool) → r ≡ pointwise element_eq xs ys
       → IsTrue r ↔ (elements_seen xs ≡ elements_seen ys)
@@ -251,7 +251,7 @@ pub record IsOneByOne {X : Type 0} (R : X → X → Type 0) (Rs : List X → Lis
   pub none : Rs [] []
   pub both : (x y : X) (xs ys : List X) → R x y → Rs xs ys → Rs (x ∷ xs) (y ∷ ys)
   pub here : (x y : X) (xs ys : List X) → Rs (x ∷ xs) (y ∷ ys) → R x y
-  pub behind : (x y : X) (xs ys : List X) → Rs (x ∷ xs) (y ∷ ys) → Rs xs ys
+  pub following : (x y : X) (xs ys : List X) → Rs (x ∷ xs) (y ∷ ys) → Rs xs ys
   pub longer : (x : X) (xs : List X) → Rs (x ∷ xs) [] → ⊥
   pub shorter : (y : X) (ys : List X) → Rs [] (y ∷ ys) → ⊥
 
@@ -283,7 +283,7 @@ module _ {X : Type 0} (R : X → X → Type 0) (Rs : List X → List X → Type 
       → AsFarAs xs i ys → AsFarAs xs (i + 1) zs
   one_more xs i x y ys zs r l e n t b h =
       let next = at_next xs i x ys l e h in (
-        λ p. o.behind x y (drop (i + 1) xs) zs (subst (Rs (x ∷ drop (i + 1) xs)) n (next.0 p)),
+        λ p. o.following x y (drop (i + 1) xs) zs (subst (Rs (x ∷ drop (i + 1) xs)) n (next.0 p)),
         λ s. next.1 (subst (Rs (x ∷ drop (i + 1) xs)) (sym n) (o.both x y (drop (i + 1) xs) zs (t.0 b) s)),
       )
 
@@ -313,7 +313,7 @@ ops_one_by_one = record {
   none = tt;
   both = λ x y xs ys r rs. (r, rs);
   here = λ x y xs ys h. h.0;
-  behind = λ x y xs ys h. h.1;
+  following = λ x y xs ys h. h.1;
   longer = λ x xs h. h;
   shorter = λ y ys h. h;
 }

@@ -54,7 +54,7 @@ pub weight_of_walk : {A : Type 0} (w : OpDelimitedIter A) (around : Option Delim
     → stops_weight (stops_left w) ≡ ops_weight os
 weight_of_walk w around os e = ap stops_weight e ∙ ap ops_weight (ops_of_walk around os)
 
--- neither what comes first nor what is left behind it has more
+-- neither what comes first nor what is left after it has more
 pub first_no_heavier : (s : Stop) (rest : List Stop) → stops_weight (s ∷ []) ≤ stops_weight (s ∷ rest)
 first_no_heavier (opening_stop d) rest = omega arith
 first_no_heavier (op_stop o) rest = omega arith

@@ -38,13 +38,13 @@ before None stops = stops
 before (Some d) stops = opening_stop d ∷ stops
 
 -- a closing that is still to come
-abbrev pub behind : Option Delimiter → List Stop
-behind None = []
-behind (Some d) = closing_stop d ∷ []
+abbrev pub following : Option Delimiter → List Stop
+following None = []
+following (Some d) = closing_stop d ∷ []
 
 -- what an iterator has left
 abbrev pub stops_left : {A : Type 0} → OpDelimitedIter A → List Stop
-stops_left w = before w.opening (stops_of (ops_of w.ops.now) ++ behind w.closing)
+stops_left w = before w.opening (stops_of (ops_of w.ops.now) ++ following w.closing)
 
 -- ---- the law
 

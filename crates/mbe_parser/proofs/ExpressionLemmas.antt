@@ -124,8 +124,8 @@ after_dollar (leaf (ident j) more) rest i c e = absurd (none-some 36 c)
 after_dollar (leaf (punct p) more) rest i c e =
     ap (λ (x : Forest). elements_of (leaf (punct p) x)) e ∙ rw (eq-eqb p.char 36 (same_Some p.char 36 c)) refl
 
-pub variable_in_front : (f behind left : Forest) (i : Ident) → front_char f ≡ Some 36 → behind ≡ rest_of f
-    → Some i ≡ any_ident behind → left ≡ rest_of behind
+pub variable_in_front : (f following left : Forest) (i : Ident) → front_char f ≡ Some 36 → following ≡ rest_of f
+    → Some i ≡ any_ident following → left ≡ rest_of following
     → elements_of f ≡ element_before (variable_element i) (elements_after_comma left)
-variable_in_front f behind left i c b e l =
-    after_dollar f left i c (sym b ∙ (any_front behind i e ∙ ap (leaf (ident i)) (sym l)))
+variable_in_front f following left i c b e l =
+    after_dollar f left i c (sym b ∙ (any_front following i e ∙ ap (leaf (ident i)) (sym l)))

@@ -85,10 +85,10 @@ module _ (HasEdition : SyntaxContext → Edition → Type 0) where
 module _ (HasEdition : SyntaxContext → Edition → Type 0) (mode : Mode) where
   reads_one : (f rest left : Forest) (o p : Op) → head mode f ≡ Ok (one o rest) → o ≡ p → rest ≡ left
       → ReadsOp HasEdition mode f p left
-  reads_one f rest left o p e same behind =
+  reads_one f rest left o p e same following =
       let h : head mode f ≡ Ok (one p left) =
       e ∙ (ap (λ (x : Op). let r : Result Head Fault = Ok (one x rest) in r) same
-      ∙ ap (λ (x : Forest). let r : Result Head Fault = Ok (one p x) in r) behind) in
+      ∙ ap (λ (x : Forest). let r : Result Head Fault = Ok (one p x) in r) following) in
       record {
         more = λ os t. token f left p os h t;
         fault = λ x t. after_token f left p h t;
@@ -120,7 +120,7 @@ module _ (HasEdition : SyntaxContext → Edition → Type 0) (mode : Mode) where
   seen_as : (f left : Forest) (o p : Op) → o ≡ p → ReadsOp HasEdition mode f o left → ReadsOp HasEdition mode f p left
   seen_as f left o p same r = subst (λ (q : Op). ReadsOp HasEdition mode f q left) same r
 
-  -- what stands at the front is read first
+  -- what is at the front is read first
   pub reads_head : (f left : Forest) (p : Op) (h : Result Head Fault) → head mode f ≡ h
       → AtHead HasEdition mode h p left → ReadsOp HasEdition mode f p left
   reads_head f left p (Ok (one o rest)) e at = reads_one f rest left o p e at.0 at.1
@@ -136,7 +136,7 @@ module _ (HasEdition : SyntaxContext → Edition → Type 0) (mode : Mode) where
   reads_head f left p (Ok ended) e at = absurd at
   reads_head f left p (Err x) e at = absurd at
 
-  -- the fault of what stands at the front is the first of all
+  -- the fault of what is at the front is the first of all
   pub fault_head : (f : Forest) (x : Fault) (h : Result Head Fault) → head mode f ≡ h → FaultAtHead HasEdition mode h x
       → TemplateFault HasEdition mode x f
   fault_head f x (Err y) e at = at_front f (e ∙ ap (λ (z : Fault). let r : Result Head Fault = Err z in r) at)
@@ -171,7 +171,7 @@ pub with_front-all : {A : Type 0} (before : List (code.Op A)) → with_front bef
 with_front-all [] = refl
 with_front-all (p ∷ before) = ap (op (op_of p)) (with_front-all before)
 
--- ---- answers and faults, carried from the trees behind the front to all trees
+-- ---- answers and faults, carried from the trees after the front to all trees
 
 pub Stops-weaker : (e : why.ReadError) (P Q : Fault → Type 0) → ((x : Fault) → P x → Q x) → Stops e P → Stops e Q
 Stops-weaker why.TheVariants.Memory P Q h p = tt
@@ -183,7 +183,7 @@ stopped (Ok x) P Q h p = tt
 stopped (Err e) P Q h p = Stops-weaker e P Q h p
 
 module _ (HasEdition : SyntaxContext → Edition → Type 0) (m : Mode) where
-  -- a leaf behind a `$`
+  -- a leaf after a `$`
   pub leaf_op : {A E : Type 0} (r : Result (code.Op A) E) (p : Punct) (f left new : Forest) (l : Leaf) → f ≡ leaf l left
       → IfOk r (λ o. (d : Punct) → AtHead HasEdition m (after_dollar m d (leaf l left)) (op_of o) new)
       → IfOk r (λ o. AtHead HasEdition m (after_dollar m p f) (op_of o) new)
@@ -249,8 +249,8 @@ pub on_ok : {T E : Type 0} (r : Result T E) (P : Type 0) → P → OnOk r P
 on_ok (Ok x) P p = p
 on_ok (Err e) P p = tt
 
-pub behind : (f : Forest) → rest_of f ≡ rest_of f
-behind f = refl
+pub following : (f : Forest) → rest_of f ≡ rest_of f
+following f = refl
 
 -- ---- tokens at the front
 

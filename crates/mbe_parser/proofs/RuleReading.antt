@@ -57,7 +57,7 @@ module _ (HasEdition : SyntaxContext → Edition → Type 0) where
     rule_trees = rule_trees_of style parts left;
     at = e ∙ rule_trees_of-ok style parts (pattern_at style mid) left h;
     parts = p;
-    behind = refl;
+    following = refl;
   }
 
   -- a fault before the pattern
@@ -138,22 +138,22 @@ module _ (separators : List ℕ) where
   nothing_if true rest n = absurd (n refl)
   nothing_if false rest n = refl
 
-  pub behind-some : (f : Forest) → IsSeparated f → after_separator separators f ≡ Some (rest_of f)
-  behind-some none (p, e, k) = absurd (none-some p e)
-  behind-some (leaf (literal l) rest) (p, e, k) = absurd (none-some p e)
-  behind-some (leaf (ident i) rest) (p, e, k) = absurd (none-some p e)
-  behind-some (group d inside rest) (p, e, k) = absurd (none-some p e)
-  behind-some (leaf (punct q) rest) (p, e, k) =
+  pub following-some : (f : Forest) → IsSeparated f → after_separator separators f ≡ Some (rest_of f)
+  following-some none (p, e, k) = absurd (none-some p e)
+  following-some (leaf (literal l) rest) (p, e, k) = absurd (none-some p e)
+  following-some (leaf (ident i) rest) (p, e, k) = absurd (none-some p e)
+  following-some (group d inside rest) (p, e, k) = absurd (none-some p e)
+  following-some (leaf (punct q) rest) (p, e, k) =
       after_if (list_any (λ c. q.char == c) separators) rest
       (list_any-from_Contains nat_eq_equiv q.char separators
       (subst (λ (x : Punct). Contains separators x.char) (sym (same_Some q p e)) k))
 
-  pub behind-none : (f : Forest) → f ≢ none → (IsSeparated f → ⊥) → after_separator separators f ≡ None
-  behind-none none n k = absurd (n refl)
-  behind-none (leaf (literal l) rest) n k = refl
-  behind-none (leaf (ident i) rest) n k = refl
-  behind-none (group d inside rest) n k = refl
-  behind-none (leaf (punct q) rest) n k =
+  pub following-none : (f : Forest) → f ≢ none → (IsSeparated f → ⊥) → after_separator separators f ≡ None
+  following-none none n k = absurd (n refl)
+  following-none (leaf (literal l) rest) n k = refl
+  following-none (leaf (ident i) rest) n k = refl
+  following-none (group d inside rest) n k = refl
+  following-none (leaf (punct q) rest) n k =
       nothing_if (list_any (λ c. q.char == c) separators) rest
       (λ h. k (q, refl, Contains-from_any eqb-true q.char separators h))
 
@@ -184,31 +184,31 @@ module _ (HasEdition : SyntaxContext → Edition → Type 0) (separators : List 
       (c [] None (subst (λ (g : Forest). Rules HasEdition separators missing g [] None) (sym e) ended))
 
   -- one rule more, with a separator after it
-  pub one_more : (before : List Rule) (r : Rule) (whole left behind rest : Forest) → Continues before whole left
-      → ReadsRule HasEdition left r behind
-      → IsSeparated separators behind → rest ≡ rest_of behind → (rs : List Rule) (x : Option Fault)
+  pub one_more : (before : List Rule) (r : Rule) (whole left following rest : Forest) → Continues before whole left
+      → ReadsRule HasEdition left r following
+      → IsSeparated separators following → rest ≡ rest_of following → (rs : List Rule) (x : Option Fault)
       → Rules HasEdition separators missing rest rs x
       → Rules HasEdition separators missing whole (before ++ (r ∷ rs)) x
-  one_more before r whole left behind rest c reads e at rs x h =
+  one_more before r whole left following rest c reads e at rs x h =
       c (r ∷ rs) x (separated left rest reads.rule_trees r rs x reads.at reads.parts
-      (ap (after_separator separators) reads.behind ∙ (behind-some separators behind e ∙ ap Some (sym at))) h)
+      (ap (after_separator separators) reads.following ∙ (following-some separators following e ∙ ap Some (sym at))) h)
 
   -- the last rule, with nothing after it
-  pub last_rule : (before : List Rule) (r : Rule) (whole left behind : Forest) → Continues before whole left
-      → ReadsRule HasEdition left r behind
-      → behind ≡ none → AreRules HasEdition separators missing whole (before ++ r ∷ []) None
-  last_rule before r whole left behind c reads e =
+  pub last_rule : (before : List Rule) (r : Rule) (whole left following : Forest) → Continues before whole left
+      → ReadsRule HasEdition left r following
+      → following ≡ none → AreRules HasEdition separators missing whole (before ++ r ∷ []) None
+  last_rule before r whole left following c reads e =
       c (r ∷ []) None (separated left none reads.rule_trees r [] None reads.at reads.parts
-      (ap (after_separator separators) (reads.behind ∙ e)) ended)
+      (ap (after_separator separators) (reads.following ∙ e)) ended)
 
   -- a rule with no separator after it
-  pub stray_rule : (before : List Rule) (r : Rule) (whole left behind : Forest) → Continues before whole left
-      → ReadsRule HasEdition left r behind
-      → behind ≢ none → (IsSeparated separators behind → ⊥)
+  pub stray_rule : (before : List Rule) (r : Rule) (whole left following : Forest) → Continues before whole left
+      → ReadsRule HasEdition left r following
+      → following ≢ none → (IsSeparated separators following → ⊥)
       → Rules HasEdition separators missing whole (before ++ r ∷ []) (Some missing)
-  stray_rule before r whole left behind c reads n e =
+  stray_rule before r whole left following c reads n e =
       c (r ∷ []) (Some missing) (unseparated left reads.rule_trees r reads.at reads.parts
-      (ap (after_separator separators) reads.behind ∙ behind-none separators behind n e))
+      (ap (after_separator separators) reads.following ∙ following-none separators following n e))
 
 -- rules that were written one after the other
 pub rules-push : {A : Type 0} (before : List (code.Rule A)) (r : code.Rule A)
@@ -242,13 +242,13 @@ module _ (HasEdition : SyntaxContext → Edition → Type 0) where
       subst (λ (g : Forest). IsReadAsMacro HasEdition None g m) same
       (subst (IsReadAsMacro HasEdition None f) (sym e) (option_map fault_of x, h, refl))
 
-  told_one : (arguments body : Forest) (rs : List Rule) (x : Option reported.SyntaxFault)
+  reported_one : (arguments body : Forest) (rs : List Rule) (x : Option reported.SyntaxFault)
       → IsOneRule HasEdition arguments body rs x
       → IsReadAsMacro HasEdition (Some arguments) body (macro_with rs x)
-  told_one arguments body rs None (r, e, p) =
+  reported_one arguments body rs None (r, e, p) =
       subst (λ (qs : List Rule). IsMacroOfArguments HasEdition arguments body qs (with_refusal qs None)) (sym e)
       (one_rule r p)
-  told_one arguments body rs (Some x) (e, p) =
+  reported_one arguments body rs (Some x) (e, p) =
       subst (λ (qs : List Rule). IsMacroOfArguments HasEdition arguments body qs (with_refusal qs (Some (fault_of x))))
       (sym e) (faulty (fault_of x) p)
 
@@ -258,4 +258,4 @@ module _ (HasEdition : SyntaxContext → Edition → Type 0) where
   read_as_one f h arguments body rs x m same_arguments same_body k e =
       subst (λ (g : Forest). IsReadAsMacro HasEdition (Some g) body m) same_arguments
       (subst (λ (g : Forest). IsReadAsMacro HasEdition (Some f) g m) same_body
-      (subst (IsReadAsMacro HasEdition (Some f) h) (sym e) (told_one f h rs x k)))
+      (subst (IsReadAsMacro HasEdition (Some f) h) (sym e) (reported_one f h rs x k)))

@@ -164,16 +164,16 @@ after_attr r f left e l h = past_attr f (sym e ∙ h) ∙ ap (styled_at Attr) (p
 
 module _ (r q : Bool) (f mid left : Forest) (attr : r ≡ is_word (codes "attr") f) (at : Left r f mid)
     (no_attr : r ≡ false)
-    (derive : q ≡ is_word (codes "derive") mid) (behind : Left q mid left) where
+    (derive : q ≡ is_word (codes "derive") mid) (following : Left q mid left) where
   derive_at : is_word (codes "derive") f ≡ q
   derive_at = ap (is_word (codes "derive")) (stayed r f mid at no_attr) ∙ sym derive
 
   pub after_derive : q ≡ true → style_at f ≡ styled_at Derive left
   after_derive h =
       past_derive f (sym attr ∙ no_attr) (derive_at ∙ h)
-      ∙ ap (styled_at Derive) (ap rest_of (stayed r f mid at no_attr) ∙ passed q mid left behind h)
+      ∙ ap (styled_at Derive) (ap rest_of (stayed r f mid at no_attr) ∙ passed q mid left following h)
 
   pub after_nothing : q ≡ false → style_at f ≡ pattern_at FnLike left
   after_nothing h =
       past_nothing f (sym attr ∙ no_attr) (derive_at ∙ h)
-      ∙ ap (pattern_at FnLike) (stayed r f mid at no_attr ∙ stayed q mid left behind h)
+      ∙ ap (pattern_at FnLike) (stayed r f mid at no_attr ∙ stayed q mid left following h)

@@ -73,19 +73,21 @@ is_extended : (old : Option Separator) (l : Leaf) (new : Separator)
 is_extended old l new e = λ before b. ap (λ ls. separator_of (ls ++ l ∷ [])) (separator_leaves before old b) ∙ e
 
 never_extended : (old : Option Separator) (l : Leaf)
-    → ((behind : List Leaf) → separator_of (leaves_of old ++ l ∷ behind) ≡ None) → NeverExtended old l
-never_extended old l h = λ before behind b. ap (λ ls. separator_of (ls ++ l ∷ behind)) (separator_leaves before old b)
-    ∙ h behind
+    → ((following : List Leaf) → separator_of (leaves_of old ++ l ∷ following) ≡ None) → NeverExtended old l
+never_extended old l h = λ before following b. ap (λ ls. separator_of (ls ++ l ∷ following))
+    (separator_leaves before old b)
+    ∙ h following
 
 no_puncts : (l : Leaf) → NeverExtended (Some (punct_separator [])) l
-no_puncts l before behind b =
+no_puncts l before following b =
     absurd (none-some (punct_separator []) (same_Some None _ (ap separator_of (sym (separator_leaves before _ b)) ∙ b)))
 
 -- puncts with another leaf after them
-stray : (l : Leaf) → ((behind : List Leaf) → all_puncts (l ∷ behind) ≡ None) → (ps : List Punct) (behind : List Leaf)
-    → all_puncts (map punct ps ++ l ∷ behind) ≡ None
-stray l h [] behind = h behind
-stray l h (p ∷ ps) behind = ap (option_map (λ qs. p ∷ qs)) (stray l h ps behind)
+stray : (l : Leaf) → ((following : List Leaf) → all_puncts (l ∷ following) ≡ None)
+    → (ps : List Punct) (following : List Leaf)
+    → all_puncts (map punct ps ++ l ∷ following) ≡ None
+stray l h [] following = h following
+stray l h (p ∷ ps) following = ap (option_map (λ qs. p ∷ qs)) (stray l h ps following)
 
 no_separator : (ls : List Leaf) → all_puncts ls ≡ None
     → option_map Some (option_and_then up_to_three (all_puncts ls)) ≡ None
@@ -93,27 +95,27 @@ no_separator ls e = ap (λ o. option_map Some (option_and_then up_to_three o)) e
 
 -- a literal is a separator alone
 pub literal_alone : (s : Separator) (k : Literal) → NeverExtended (Some s) (literal k)
-literal_alone (ident_separator i) k = never_extended _ _ (λ behind. refl)
-literal_alone (literal_separator l) k = never_extended _ _ (λ behind. refl)
-literal_alone (lifetime_separator p i) k = never_extended _ _ (λ behind. refl)
+literal_alone (ident_separator i) k = never_extended _ _ (λ following. refl)
+literal_alone (literal_separator l) k = never_extended _ _ (λ following. refl)
+literal_alone (lifetime_separator p i) k = never_extended _ _ (λ following. refl)
 literal_alone (punct_separator []) k = no_puncts (literal k)
-literal_alone (punct_separator (p ∷ [])) k = never_extended _ _ (λ behind. refl)
+literal_alone (punct_separator (p ∷ [])) k = never_extended _ _ (λ following. refl)
 literal_alone (punct_separator (p ∷ q ∷ ps)) k =
-    never_extended _ _ (λ behind. no_separator (map punct (p ∷ q ∷ ps) ++ literal k ∷ behind)
-    (stray (literal k) (λ more. refl) (p ∷ q ∷ ps) behind))
+    never_extended _ _ (λ following. no_separator (map punct (p ∷ q ∷ ps) ++ literal k ∷ following)
+    (stray (literal k) (λ more. refl) (p ∷ q ∷ ps) following))
 
 -- an identifier comes after no puncts but a quote
 pub no_lifetime : (ps : List Punct) (i : Ident) → ((q : Punct) → ps ≡ q ∷ [] → q.char ≡ 39 → ⊥)
     → NeverExtended (Some (punct_separator ps)) (ident i)
 no_lifetime [] i n = no_puncts (ident i)
-no_lifetime (q ∷ []) i n = never_extended _ _ (λ behind. go behind (ne_eqb q.char 39 (n q refl)))
+no_lifetime (q ∷ []) i n = never_extended _ _ (λ following. go following (ne_eqb q.char 39 (n q refl)))
   where
-    go : (behind : List Leaf) → (q.char == 39) ≡ false → separator_of (punct q ∷ ident i ∷ behind) ≡ None
+    go : (following : List Leaf) → (q.char == 39) ≡ false → separator_of (punct q ∷ ident i ∷ following) ≡ None
     go [] e = ap (λ (b : Bool). if b then Some (Some (lifetime_separator q i)) else None) e
     go (l ∷ ls) e = refl
 no_lifetime (q ∷ r ∷ ps) i n =
-    never_extended _ _ (λ behind. no_separator (map punct (q ∷ r ∷ ps) ++ ident i ∷ behind)
-    (stray (ident i) (λ more. refl) (q ∷ r ∷ ps) behind))
+    never_extended _ _ (λ following. no_separator (map punct (q ∷ r ∷ ps) ++ ident i ∷ following)
+    (stray (ident i) (λ more. refl) (q ∷ r ∷ ps) following))
 
 -- three puncts at most separate
 pub puncts_more : (ps : List Punct) (p : Punct) → length ps < 3
@@ -131,7 +133,7 @@ four_puncts [] p h = absurd (omega (arith, h))
 four_puncts (q ∷ []) p h = absurd (omega (arith, h))
 four_puncts (q ∷ r ∷ []) p h = absurd (omega (arith, h))
 four_puncts (q ∷ r ∷ s ∷ t ∷ ps) p h = absurd (omega (arith, h))
-four_puncts (q ∷ r ∷ s ∷ []) p h = never_extended _ _ (λ behind. go (all_puncts behind))
+four_puncts (q ∷ r ∷ s ∷ []) p h = never_extended _ _ (λ following. go (all_puncts following))
   where
     many : (ps : List Punct) → nat_le (length (q ∷ r ∷ s ∷ p ∷ ps)) 3 ≡ false
     many ps = lt-leb (length (q ∷ r ∷ s ∷ p ∷ ps)) 3 (omega arith)

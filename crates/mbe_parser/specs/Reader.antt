@@ -38,8 +38,8 @@ IsExtended old l new = (before : List Leaf) → separator_of before ≡ Some old
 
 -- whichever leaves are the separator, or none, with this leaf after them no separator begins
 abbrev pub NeverExtended : Option Separator → Leaf → Type 0
-NeverExtended old l = (before behind : List Leaf) → separator_of before ≡ Some old
-    → separator_of (before ++ l ∷ behind) ≡ None
+NeverExtended old l = (before following : List Leaf) → separator_of before ≡ Some old
+    → separator_of (before ++ l ∷ following) ≡ None
 
 -- ---- ops
 
@@ -102,7 +102,7 @@ module _ (HasEdition : SyntaxContext → Edition → Type 0) where
     pub rule_trees : RuleTrees
     pub at : rule_trees_at before ≡ Ok rule_trees
     pub parts : AreParts HasEdition rule_trees r
-    pub behind : rule_trees.back ≡ left
+    pub following : rule_trees.back ≡ left
 
   -- the first fault of the rule in front
   pub data RuleFault (fault : Fault) (f : Forest) : Type 0 where

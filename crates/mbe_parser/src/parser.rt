@@ -152,7 +152,7 @@ fn op_at_punct<A: Allocator + Copy, E: Copy + Fn(SyntaxContext) -> Edition>(
     Ok(Op::Punct(Puncts::new(alloc, puncts)?))
 }
 
-// What stands after a `$`.
+// What is after a `$`.
 #[cycle(template)]
 #[tactic(auto, using(mbe_ops::proofs::OpViews::views))]
 fn after_dollar<A: Allocator + Copy, E: Copy + Fn(SyntaxContext) -> Edition>(
@@ -213,7 +213,7 @@ fn repetition<A: Allocator + Copy, E: Copy + Fn(SyntaxContext) -> Edition>(
     })
 }
 
-// `${..}`, which stands in templates alone.
+// `${..}`, which is in templates alone.
 fn expression_after_dollar<A: Allocator + Copy>(
     alloc: A,
     inside: TtIter<'_, A>,

@@ -35,7 +35,8 @@ module _ {A B : SyntaxContext → Edition → Type 0} (more : (c : SyntaxContext
   fault_read (after_token f rest o e t) = after_token f rest o e (fault_read t)
   fault_read (after_variable f rest name span specifier e t) =
       after_variable f rest name span specifier e (fault_read t)
-  fault_read (following_group f inside rest d body e b t) = following_group f inside rest d body e (ops_read b) (fault_read t)
+  fault_read (following_group f inside rest d body e b t) =
+      following_group f inside rest d body e (ops_read b) (fault_read t)
   fault_read (after_repetition f inside rest separator repeat body e b t) =
       after_repetition f inside rest separator repeat body e (ops_read b) (fault_read t)
 

@@ -53,7 +53,7 @@ report_status says.OutOfMemory = 5
 -- name,
 -- and the byte.
 abbrev pub Tells : {A : Type 0} → Options → Outcome A → Report A → Type 0
-Tells o (Refused error) (says.Refused told) = told.now ≡ error
+Tells o (Refused error) (says.Refused reported) = reported.now ≡ error
 Tells o (CannotLex file offset) (says.CannotLex name at) = (name.now ≡ name_of o file) × (at ≡ offset)
 Tells o CannotWrite says.CannotWrite = ⊤
 Tells o OutOfMemory says.OutOfMemory = ⊤

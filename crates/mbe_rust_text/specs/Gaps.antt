@@ -1,4 +1,4 @@
--- What stands between a token and what was written before it: nothing, a space, or a new line.
+-- What is between a token and what was written before it: nothing, a space, or a new line.
 use Prim.Native.String.{String}
 use Rattle.std.specs.Prelude.{ℕ, zero, suc, Bool, true, false, not, ◌&&◌, ◌||◌, ◌==◌, nat_lt, if◌then◌else◌, codes, List, [], ◌∷◌, ◌++◌, map, Option, Some, None}
 use Rattle.std.specs.List.{list_any}
@@ -15,7 +15,7 @@ use Rattle.mbe_rust_text.specs.declared.gaps.Gap.TheVariants.{Nothing, Space, Li
 abbrev pub are_beside : Span → Span → Bool
 are_beside last next = last.file == next.file && (last.end == next.start && nat_lt last.start last.end)
 
--- whether a token stands beside what was written last, if anything was
+-- whether a token is beside what was written last, if anything was
 abbrev pub is_beside : Option Span → Span → Bool
 is_beside None next = false
 is_beside (Some last) next = are_beside last next
@@ -174,7 +174,7 @@ abbrev pub is_before : Span → Option Span → Bool
 is_before place None = false
 is_before place (Some next) = are_beside place next
 
--- Whether a punct stays with what it stands beside. A word is kept apart from a `#` or a `'`, since it would be a
+-- Whether a punct stays with what it is beside. A word is kept apart from a `#` or a `'`, since it would be a
 -- prefix. A `.` stays with a
 -- number only where the token after it does too: `1.` alone is another number. A punct that is alone is joint to no
 -- other, but a `'`
@@ -231,7 +231,7 @@ is_opening_apart Colons is_brace = true
 is_opening_apart CloseBrace is_brace = true
 is_opening_apart Semicolon is_brace = true
 
--- whether nothing stands between the braces
+-- whether nothing is between the braces
 abbrev pub is_open_brace : Last → Bool
 is_open_brace OpenBrace = true
 is_open_brace Start = false

@@ -1,4 +1,4 @@
-// What stands between a token and what was written before it.
+// What is between a token and what was written before it.
 ghost use Rattle.std.specs.Prelude.{◌≡◌};
 ghost use Rattle.std.specs.List.{list_any};
 ghost use Rattle.std.specs.Str.{bytes_eq};
@@ -15,7 +15,7 @@ pub(crate) enum Last {
     Word,
     Keyword,
     Literal,
-    // A punct that is joint to what stands after it in its text.
+    // A punct that is joint to what is after it in its text.
     Joint(char),
     Alone(char),
     // The second `:` of a `::`.
@@ -27,7 +27,7 @@ pub(crate) enum Last {
     Semicolon,
 }
 
-// What stands before a token.
+// What is before a token.
 #[derive(Clone, Copy, Debug, Drop, PartialEq, Eq)]
 pub(crate) enum Gap {
     Nothing,
@@ -48,7 +48,7 @@ fn are_beside(last: Span, next: Span) -> bool
     last.file == next.file && last.end == next.start && last.start < last.end
 }
 
-// Whether a token stands beside what was written last.
+// Whether a token is beside what was written last.
 pub(crate) fn is_beside(last: Option<Span>, next: Span) -> bool
     ensures { result ≡ spec.is_beside last next }
 {
@@ -257,7 +257,7 @@ impl Last {
         }
     }
 
-    // Whether a punct stays with what it stands beside. A word would be a prefix of a `#` or a `'`.
+    // Whether a punct stays with what it is beside. A word would be a prefix of a `#` or a `'`.
     // A `.` stays with a number only where the token after it does too: `1.` alone is another
     // number. A punct that is alone is joint to no other, but a `'` begins a lifetime.
     pub(crate) fn stays_with(self, char: char, beside_next: bool) -> bool

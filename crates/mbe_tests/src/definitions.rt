@@ -8,7 +8,7 @@ use std::test::Fail;
 
 /// The error of a definition.
 #[derive(Clone, Copy)]
-pub enum Told {
+pub enum Reported {
     Nothing,
     Expected(&'static str),
     Unexpected(&'static str),
@@ -16,53 +16,55 @@ pub enum Told {
     InvalidRepeat,
 }
 
-pub const MISSING_SPECIFIER: Told = Told::Unexpected("missing fragment specifier");
+pub const MISSING_SPECIFIER: Reported = Reported::Unexpected("missing fragment specifier");
 
-pub const IDENT: Told = Told::Expected("expected ident");
+pub const IDENT: Reported = Reported::Expected("expected ident");
 
-pub const SUBTREE: Told = Told::Expected("expected subtree");
+pub const SUBTREE: Reported = Reported::Expected("expected subtree");
 
-pub const EQUALS: Told = Told::Expected("expected `=`");
+pub const EQUALS: Reported = Reported::Expected("expected `=`");
 
-pub const GREATER: Told = Told::Expected("expected `>`");
+pub const GREATER: Reported = Reported::Expected("expected `>`");
 
-pub const PARENTHESES: Told = Told::Expected("expected `()`");
+pub const PARENTHESES: Reported = Reported::Expected("expected `()`");
 
-const SEMICOLON: Told = Told::Expected("expected `;`");
+const SEMICOLON: Reported = Reported::Expected("expected `;`");
 
-pub const REPETITION: Told = Told::Expected("expected `$()` repetition or `${}` expression");
+pub const REPETITION: Reported = Reported::Expected(
+    "expected `$()` repetition or `${}` expression",
+);
 
-pub const DOLLARS: Told = Told::Unexpected("`$$` is not allowed on the pattern side");
+pub const DOLLARS: Reported = Reported::Unexpected("`$$` is not allowed on the pattern side");
 
-pub const EXPRESSION: Told = Told::Unexpected(
+pub const EXPRESSION: Reported = Reported::Unexpected(
     "`${}` metavariable expressions are not allowed in matchers",
 );
 
-impl Told {
+impl Reported {
     /// That error, made anew.
     pub fn error(self, alloc: Global) -> Result<Option<ParseError>, AllocError> {
         Ok(match self {
-            Told::Nothing => None,
-            Told::Expected(text) => Some(ParseError::Expected(String::from_str(alloc, text)?)),
-            Told::Unexpected(text) => {
+            Reported::Nothing => None,
+            Reported::Expected(text) => Some(ParseError::Expected(String::from_str(alloc, text)?)),
+            Reported::Unexpected(text) => {
                 Some(ParseError::UnexpectedToken(String::from_str(alloc, text)?))
             }
-            Told::EmptyRepetition => Some(ParseError::RepetitionEmptyTokenTree),
-            Told::InvalidRepeat => Some(ParseError::InvalidRepeat),
+            Reported::EmptyRepetition => Some(ParseError::RepetitionEmptyTokenTree),
+            Reported::InvalidRepeat => Some(ParseError::InvalidRepeat),
         })
     }
 }
 
 /// A definition, how many of its rules are kept, and its error.
-pub type Row = (&'static str, usize, Told);
+pub type Row = (&'static str, usize, Reported);
 
 /// Whether a macro has so many rules and that error.
 pub fn is_read(
     alloc: Global,
     rules: &DeclarativeMacro,
-    (count, told): (usize, Told),
+    (count, reported): (usize, Reported),
 ) -> Result<bool, AllocError> {
-    let error = told.error(alloc)?;
+    let error = reported.error(alloc)?;
     Ok(rules.num_rules() == count && rules.err() == error.as_ref())
 }
 
@@ -70,15 +72,15 @@ pub fn is_read(
 pub fn is_text_read(
     alloc: Global,
     definition: &str,
-    want: (usize, Told),
+    want: (usize, Reported),
 ) -> Result<bool, AllocError> {
     is_read(alloc, &defined(alloc, definition)?, want)
 }
 
 /// The first definition that is read otherwise.
 pub fn first_misread(alloc: Global, rows: &[Row]) -> Result<Option<&'static str>, AllocError> {
-    for &(definition, count, told) in rows {
-        if !is_text_read(alloc, definition, (count, told))? {
+    for &(definition, count, reported) in rows {
+        if !is_text_read(alloc, definition, (count, reported))? {
             return Ok(Some(definition));
         }
     }
@@ -90,7 +92,7 @@ pub type Texts = (
     &'static str,
     &'static str,
     &'static [&'static str],
-    (usize, Told),
+    (usize, Reported),
 );
 
 /// The first text with which the definition is read otherwise.
@@ -114,13 +116,13 @@ const EVERY_FORM: &str =
     ${concat(a, $a, 1)} $$ $crate $}";
 
 pub static READ: [Row; 80] = [
-    (EVERY_FORM, 1, Told::Nothing),
+    (EVERY_FORM, 1, Reported::Nothing),
     // Rules have their parts.
-    ("", 0, Told::Nothing),
-    ("() => {}", 1, Told::Nothing),
-    ("() => {};", 1, Told::Nothing),
-    ("[] => (); {} => []", 2, Told::Nothing),
-    ("() = > {}", 1, Told::Nothing),
+    ("", 0, Reported::Nothing),
+    ("() => {}", 1, Reported::Nothing),
+    ("() => {};", 1, Reported::Nothing),
+    ("[] => (); {} => []", 2, Reported::Nothing),
+    ("() = > {}", 1, Reported::Nothing),
     ("() => {} x", 1, SEMICOLON),
     ("() => {} () => {}", 1, SEMICOLON),
     ("() => {}, () => {}", 1, SEMICOLON),
@@ -147,8 +149,8 @@ pub static READ: [Row; 80] = [
     ("([a {$x}]) => {}", 0, MISSING_SPECIFIER),
     ("() => {}; ($x) => {}", 1, MISSING_SPECIFIER),
     ("() => {}; ($x) => {}; () => {}", 1, MISSING_SPECIFIER),
-    ("($x:ident $y:tt $z:foo) => {}", 1, Told::Nothing),
-    ("($_:ident) => {}", 1, Told::Nothing),
+    ("($x:ident $y:tt $z:foo) => {}", 1, Reported::Nothing),
+    ("($_:ident) => {}", 1, Reported::Nothing),
     // What comes after a dollar.
     ("($1) => {}", 0, IDENT),
     ("($+) => {}", 0, IDENT),
@@ -163,17 +165,17 @@ pub static READ: [Row; 80] = [
     ("($$ $1) => {$[a]}", 0, DOLLARS),
     ("($1 $$) => {$[a]}", 0, IDENT),
     ("($x:ident) => {$[a] $1}", 0, REPETITION),
-    ("($) => {}", 1, Told::Nothing),
-    ("() => {$}", 1, Told::Nothing),
-    ("() => {$$}", 1, Told::Nothing),
-    ("($crate) => {}", 1, Told::Nothing),
+    ("($) => {}", 1, Reported::Nothing),
+    ("() => {$}", 1, Reported::Nothing),
+    ("() => {$$}", 1, Reported::Nothing),
+    ("($crate) => {}", 1, Reported::Nothing),
     // Groups of a rule are taken before they are read.
     ("($x)", 0, EQUALS),
     ("($x:path) =", 0, GREATER),
     ("($(a)*) =>", 0, SUBTREE),
     ("($$) => x", 0, SUBTREE),
     // Each prefix of a definition.
-    ("", 0, Told::Nothing),
+    ("", 0, Reported::Nothing),
     ("(", 0, EQUALS),
     ("($", 0, EQUALS),
     ("($x", 0, EQUALS),
@@ -188,10 +190,10 @@ pub static READ: [Row; 80] = [
     ("($x:ident) =", 0, GREATER),
     ("($x:ident) =>", 0, SUBTREE),
     ("($x:ident) => ", 0, SUBTREE),
-    ("($x:ident) => {", 1, Told::Nothing),
-    ("($x:ident) => {$", 1, Told::Nothing),
-    ("($x:ident) => {$x", 1, Told::Nothing),
-    ("($x:ident) => {$x}", 1, Told::Nothing),
+    ("($x:ident) => {", 1, Reported::Nothing),
+    ("($x:ident) => {$", 1, Reported::Nothing),
+    ("($x:ident) => {$x", 1, Reported::Nothing),
+    ("($x:ident) => {$x}", 1, Reported::Nothing),
     // The first fault is reported: one of the pattern before one of the template, and reading stops at the first of all.
     ("($x) x", 0, EQUALS),
     ("($x) => {}", 0, MISSING_SPECIFIER),
@@ -233,7 +235,7 @@ fn first_refused(alloc: Global, edition: Edition) -> Result<Option<&'static str>
         let definition = format!(in alloc; "($x:{specifier} {specifier}) => {{$x}}")?;
         let tree = lexed(alloc, 0, definition.as_str())?;
         let rules = DeclarativeMacro::parse_macro_rules(alloc, &tree, |_context| edition)?;
-        if !is_read(alloc, &rules, (1, Told::Nothing))? {
+        if !is_read(alloc, &rules, (1, Reported::Nothing))? {
             return Ok(Some(specifier));
         }
     }
@@ -252,5 +254,5 @@ pub static UNKNOWN: [Texts; 1] = [(
     "() => {}; ($x:",
     ") => {}",
     &["Path", "tys", "expr2021", "expr_2024", "ident_", "tts"],
-    (2, Told::Nothing),
+    (2, Reported::Nothing),
 )];

@@ -1,5 +1,5 @@
 // Copies of errors, and their texts.
-use crate::definitions::Told;
+use crate::definitions::Reported;
 use crate::tokens::at;
 use mbe::{CountError, ExpandError, ExpandErrorKind};
 use std::alloc::{AllocError, Global};
@@ -12,40 +12,40 @@ fn is_shown<T: Display>(alloc: Global, shown: &T, want: &str) -> Result<bool, Al
     Ok(text.as_str() == want)
 }
 
-static FAULT_TEXTS: [(Told, &str); 4] = [
-    (Told::Unexpected("so"), "so"),
-    (Told::Expected("expected `;`"), "expected `;`"),
-    (Told::InvalidRepeat, "invalid repeat"),
-    (Told::EmptyRepetition, "empty token tree in repetition"),
+static FAULT_TEXTS: [(Reported, &str); 4] = [
+    (Reported::Unexpected("so"), "so"),
+    (Reported::Expected("expected `;`"), "expected `;`"),
+    (Reported::InvalidRepeat, "invalid repeat"),
+    (Reported::EmptyRepetition, "empty token tree in repetition"),
 ];
 
 #[test]
 fn faults_of_definitions_have_texts(rt: HostRuntime) -> Result<(), Fail> {
-    for &(told, want) in &FAULT_TEXTS {
-        let error = told.error(rt.alloc())?.ok_or("an error")?;
+    for &(reported, want) in &FAULT_TEXTS {
+        let error = reported.error(rt.alloc())?.ok_or("an error")?;
         assert!(rt; is_shown(rt.alloc(), &error, want)?, "{want}");
     }
     Ok(())
 }
 
-static FAULTS: [Told; 6] = [
-    Told::Unexpected("a"),
-    Told::Unexpected("b"),
-    Told::Expected("a"),
-    Told::Expected(""),
-    Told::InvalidRepeat,
-    Told::EmptyRepetition,
+static FAULTS: [Reported; 6] = [
+    Reported::Unexpected("a"),
+    Reported::Unexpected("b"),
+    Reported::Expected("a"),
+    Reported::Expected(""),
+    Reported::InvalidRepeat,
+    Reported::EmptyRepetition,
 ];
 
 // Whether a copy of the one error equals the other.
-fn copy_equals(alloc: Global, one: Told, other: Told) -> Result<bool, Fail> {
+fn copy_equals(alloc: Global, one: Reported, other: Reported) -> Result<bool, Fail> {
     let copy = one.error(alloc)?.ok_or("an error")?.try_clone(alloc)?;
     let other = other.error(alloc)?.ok_or("an error")?;
     Ok(copy == other)
 }
 
 // The first fault of which a copy equals that one though it is another, or doesn't equal it.
-fn first_miscopied(alloc: Global, number: usize, one: Told) -> Result<Option<usize>, Fail> {
+fn first_miscopied(alloc: Global, number: usize, one: Reported) -> Result<Option<usize>, Fail> {
     for (other_number, &other) in FAULTS.iter().enumerate() {
         if copy_equals(alloc, one, other)? != (number == other_number) {
             return Ok(Some(other_number));

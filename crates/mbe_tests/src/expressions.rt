@@ -1,5 +1,7 @@
 // Metavariable expressions, `${..}`: which are read, and which are faults.
-use crate::definitions::{EXPRESSION, MISSING_SPECIFIER, REPETITION, Row, Texts, Told, is_read};
+use crate::definitions::{
+    EXPRESSION, MISSING_SPECIFIER, REPETITION, Reported, Row, Texts, is_read,
+};
 use crate::runs::parsed;
 use crate::tokens::Lexeme::{Alone, Close, Joint, Number, Open, Raw, Suffixed, Text, Word};
 use crate::tokens::{Lexeme, at};
@@ -9,7 +11,7 @@ use mbe_tt::tt::DelimiterKind::{Brace, Invisible, Parenthesis};
 use std::alloc::{AllocError, Global};
 use std::test::Fail;
 
-const INVALID: Told = Told::Unexpected("invalid metavariable expression");
+const INVALID: Reported = Reported::Unexpected("invalid metavariable expression");
 
 // Expressions of each form, and then invalid expressions, depths and elements.
 pub static TEXTS: [Texts; 4] = [
@@ -35,7 +37,7 @@ pub static TEXTS: [Texts; 4] = [
             "index() foo",
             "ignore($x) ${}",
         ],
-        (1, Told::Nothing),
+        (1, Reported::Nothing),
     ),
     (
         "() => {}; () => { ${",
@@ -164,7 +166,7 @@ fn is_call_read(
     ];
     let rules = parsed(alloc, &built(alloc, at(0, 0, 23), &tokens)?)?;
     let want = if is_good {
-        (1, Told::Nothing)
+        (1, Reported::Nothing)
     } else {
         (0, INVALID)
     };
@@ -181,13 +183,13 @@ fn depths_by_their_text(rt: HostRuntime) -> Result<(), Fail> {
 
 pub static READ: [Row; 13] = [
     // Faults in reading order.
-    ("() => {a [${len()}] ${index(0)} $x}", 1, Told::Nothing),
+    ("() => {a [${len()}] ${index(0)} $x}", 1, Reported::Nothing),
     ("() => {${len()}}; () => {${len(x)}}; () => {}", 1, INVALID),
     ("() => {[{${concat(a)}}]}", 0, INVALID),
     ("() => {${} $[a]}", 0, INVALID),
     ("() => {$[a] ${}}", 0, REPETITION),
     ("() => {${len()} $[a]}", 0, REPETITION),
-    ("() => {${len() $[a]}}", 1, Told::Nothing),
+    ("() => {${len() $[a]}}", 1, Reported::Nothing),
     ("($x) => {${}}", 0, MISSING_SPECIFIER),
     ("() => {${}} x", 0, INVALID),
     // Expressions of a pattern.

@@ -1,5 +1,7 @@
 // Definitions by `macro`: rules in a body, or one rule of arguments and a body.
-use crate::definitions::{MISSING_SPECIFIER, PARENTHESES, REPETITION, Row, SUBTREE, Told, is_read};
+use crate::definitions::{
+    MISSING_SPECIFIER, PARENTHESES, REPETITION, Reported, Row, SUBTREE, is_read,
+};
 use crate::grammar::NOTHING;
 use crate::runs::{Want, answers, assert_checked, makes};
 use crate::tokens::Lexeme::{Alone, Close, Joint, Open, Word};
@@ -10,7 +12,7 @@ use mbe_tt::tt::DelimiterKind::{Brace, Bracket};
 use std::alloc::{AllocError, Global};
 use std::test::Fail;
 
-const SEPARATOR: Told = Told::Expected("expected `;` or `,` to delimit rules");
+const SEPARATOR: Reported = Reported::Expected("expected `;` or `,` to delimit rules");
 
 /// The macro of a body, and of arguments if there are some. Both are file 0.
 pub fn read(alloc: Global, args: Option<&str>, body: &str) -> Result<DeclarativeMacro, AllocError> {
@@ -23,10 +25,10 @@ pub fn read(alloc: Global, args: Option<&str>, body: &str) -> Result<Declarative
 }
 
 static BODIES: [Row; 12] = [
-    ("", 0, Told::Nothing),
-    ("() => {}", 1, Told::Nothing),
-    ("() => {},", 1, Told::Nothing),
-    ("() => {}; () => {}, () => {};", 3, Told::Nothing),
+    ("", 0, Reported::Nothing),
+    ("() => {}", 1, Reported::Nothing),
+    ("() => {},", 1, Reported::Nothing),
+    ("() => {}; () => {}, () => {};", 3, Reported::Nothing),
     ("() => {}, () => {} x", 2, SEPARATOR),
     ("() => {} () => {}", 1, SEPARATOR),
     ("() => {}: () => {}", 1, SEPARATOR),
@@ -39,9 +41,9 @@ static BODIES: [Row; 12] = [
 
 #[test]
 fn semicolons_and_commas_separate_rules(rt: HostRuntime) -> Result<(), Fail> {
-    for &(body, count, told) in &BODIES {
+    for &(body, count, reported) in &BODIES {
         let rules = read(rt.alloc(), None, body)?;
-        assert!(rt; is_read(rt.alloc(), &rules, (count, told))?, "{body}");
+        assert!(rt; is_read(rt.alloc(), &rules, (count, reported))?, "{body}");
     }
     Ok(())
 }
@@ -96,20 +98,20 @@ fn arguments_and_a_body_are_one_rule(rt: HostRuntime) -> Result<(), Fail> {
     Ok(())
 }
 
-static ARGUMENTS: [(&str, &str, usize, Told); 6] = [
-    ("", "", 1, Told::Nothing),
+static ARGUMENTS: [(&str, &str, usize, Reported); 6] = [
+    ("", "", 1, Reported::Nothing),
     ("$x", "", 0, MISSING_SPECIFIER),
     ("", "$[a]", 0, REPETITION),
     ("$x", "$[a]", 0, MISSING_SPECIFIER),
     ("$[a]", "$1", 0, REPETITION),
-    ("", "() => {} x", 1, Told::Nothing),
+    ("", "() => {} x", 1, Reported::Nothing),
 ];
 
 #[test]
 fn arguments_are_read_before_the_body(rt: HostRuntime) -> Result<(), Fail> {
-    for &(args, body, count, told) in &ARGUMENTS {
+    for &(args, body, count, reported) in &ARGUMENTS {
         let rules = read(rt.alloc(), Some(args), body)?;
-        assert!(rt; is_read(rt.alloc(), &rules, (count, told))?, "{args}");
+        assert!(rt; is_read(rt.alloc(), &rules, (count, reported))?, "{args}");
     }
     Ok(())
 }

@@ -1,5 +1,5 @@
 // Repetitions without separator that can read nothing.
-use crate::definitions::{MISSING_SPECIFIER, REPETITION, Row, Texts, Told, is_read};
+use crate::definitions::{MISSING_SPECIFIER, REPETITION, Reported, Row, Texts, is_read};
 use crate::macro2::read;
 use mbe::MacroCallStyles;
 use std::test::Fail;
@@ -24,7 +24,7 @@ pub static TEXTS: [Texts; 2] = [
             "($(a $()*);*) => {}",
             "($()*) => {} x",
         ],
-        (1, Told::EmptyRepetition),
+        (1, Reported::EmptyRepetition),
     ),
     (
         "",
@@ -39,15 +39,19 @@ pub static TEXTS: [Texts; 2] = [
             "($v:vis) => {}",
             "() => {$()*}",
         ],
-        (1, Told::Nothing),
+        (1, Reported::Nothing),
     ),
 ];
 
 // A refusal is reported over any fault.
 pub static OVER_FAULTS: [Row; 5] = [
-    ("() => {}; ($()*) => {}; () => {}", 3, Told::EmptyRepetition),
-    ("($()*) => {}; ($x) => {}", 1, Told::EmptyRepetition),
-    ("($()*) => {} () => {}", 1, Told::EmptyRepetition),
+    (
+        "() => {}; ($()*) => {}; () => {}",
+        3,
+        Reported::EmptyRepetition,
+    ),
+    ("($()*) => {}; ($x) => {}", 1, Reported::EmptyRepetition),
+    ("($()*) => {} () => {}", 1, Reported::EmptyRepetition),
     // the rule that is refused isn't kept
     ("() => {}; ($()* $x) => {}", 1, MISSING_SPECIFIER),
     ("($()*) => {$[a]}", 0, REPETITION),
@@ -63,7 +67,7 @@ static MACROS: [(Option<&str>, &str, MacroCallStyles); 2] = [
 fn refused_arguments_and_bodies_of_macros(rt: HostRuntime) -> Result<(), Fail> {
     for &(args, body, styles) in &MACROS {
         let rules = read(rt.alloc(), args, body)?;
-        assert!(rt; is_read(rt.alloc(), &rules, (1, Told::EmptyRepetition))?);
+        assert!(rt; is_read(rt.alloc(), &rules, (1, Reported::EmptyRepetition))?);
         assert!(rt; rules.rule_styles() == styles);
     }
     Ok(())

@@ -1,6 +1,6 @@
 // Repetitions of definitions: what separates their rounds, how often they go round, and their faults.
 use crate::definitions::{
-    DOLLARS, EXPRESSION, IDENT, MISSING_SPECIFIER, REPETITION, Row, Texts, Told, is_text_read,
+    DOLLARS, EXPRESSION, IDENT, MISSING_SPECIFIER, REPETITION, Reported, Row, Texts, is_text_read,
 };
 use std::alloc::{AllocError, Global};
 use std::test::Fail;
@@ -14,7 +14,7 @@ static SUFFIXES: [&str; 26] = [
 fn first_refused_suffix(alloc: Global) -> Result<Option<&'static str>, AllocError> {
     for &suffix in &SUFFIXES {
         let definition = format!(in alloc; "() => {{}}; ($(a){suffix}) => {{$(a){suffix}}}")?;
-        if !is_text_read(alloc, definition.as_str(), (2, Told::Nothing))? {
+        if !is_text_read(alloc, definition.as_str(), (2, Reported::Nothing))? {
             return Ok(Some(suffix));
         }
     }
@@ -39,13 +39,13 @@ pub static TEXTS: [Texts; 3] = [
         "() => {}; ($(a)",
         ") => {}",
         INVALID_SUFFIXES,
-        (1, Told::InvalidRepeat),
+        (1, Reported::InvalidRepeat),
     ),
     (
         "() => {}; () => {$(a)",
         "}",
         INVALID_SUFFIXES,
-        (1, Told::InvalidRepeat),
+        (1, Reported::InvalidRepeat),
     ),
     (
         "",
@@ -58,31 +58,39 @@ pub static TEXTS: [Texts; 3] = [
             "() => {$([$($x),*])*}",
             "($(a)*$(b)?) => {$$(a)*}",
         ],
-        (1, Told::Nothing),
+        (1, Reported::Nothing),
     ),
 ];
 
 pub static READ: [Row; 20] = [
     // A repetition that is refused keeps the rules before it.
-    ("($(a)) => {}", 0, Told::InvalidRepeat),
-    ("($($x)) => {}", 0, Told::InvalidRepeat),
-    ("($(a)b c*) => {}", 0, Told::InvalidRepeat),
-    ("() => {}; ($(a)) => {}; () => {}", 1, Told::InvalidRepeat),
-    ("() => {}; () => {}; () => {{$(a)}}", 2, Told::InvalidRepeat),
+    ("($(a)) => {}", 0, Reported::InvalidRepeat),
+    ("($($x)) => {}", 0, Reported::InvalidRepeat),
+    ("($(a)b c*) => {}", 0, Reported::InvalidRepeat),
+    (
+        "() => {}; ($(a)) => {}; () => {}",
+        1,
+        Reported::InvalidRepeat,
+    ),
+    (
+        "() => {}; () => {}; () => {{$(a)}}",
+        2,
+        Reported::InvalidRepeat,
+    ),
     // A suffix is read before its body, and the body before what comes after the suffix.
     ("($($x)*) => {}", 0, MISSING_SPECIFIER),
     ("($($x:_),*) => {}", 0, MISSING_SPECIFIER),
-    ("($($x)) => {}", 0, Told::InvalidRepeat),
-    ("($($$)b c*) => {}", 0, Told::InvalidRepeat),
+    ("($($x)) => {}", 0, Reported::InvalidRepeat),
+    ("($($$)b c*) => {}", 0, Reported::InvalidRepeat),
     ("($($1)* $$) => {}", 0, IDENT),
     ("($($$)* $1) => {}", 0, DOLLARS),
     ("($(a)* $x) => {}", 0, MISSING_SPECIFIER),
     ("($x $(a)) => {}", 0, MISSING_SPECIFIER),
-    ("($(a) $x) => {}", 0, Told::InvalidRepeat),
-    ("($($(a))*) => {}", 0, Told::InvalidRepeat),
+    ("($(a) $x) => {}", 0, Reported::InvalidRepeat),
+    ("($($(a))*) => {}", 0, Reported::InvalidRepeat),
     ("($($([$$])*)*) => {}", 0, DOLLARS),
     ("($(${len()})*) => {}", 0, EXPRESSION),
     ("() => {$($[a])* $1}", 0, REPETITION),
     ("() => {$(a $1)* $[a]}", 0, IDENT),
-    ("($(a)) => {$[a]}", 0, Told::InvalidRepeat),
+    ("($(a)) => {$[a]}", 0, Reported::InvalidRepeat),
 ];

@@ -1,5 +1,5 @@
 // Styles of rules, and sets of styles.
-use crate::definitions::{EQUALS, PARENTHESES, Row, SUBTREE, Told, is_read};
+use crate::definitions::{EQUALS, PARENTHESES, Reported, Row, SUBTREE, is_read};
 use crate::runs::{Called, answers, assert_checked, defined, parsed};
 use crate::tokens::Lexeme::{Alone, Close, Joint, Open, Raw, Word};
 use crate::tokens::{Token, at};
@@ -100,7 +100,7 @@ pub static GROUPS: [Row; 13] = [
     ("attr() unsafe () => {}", 0, SUBTREE),
     ("Attr() () => {}", 0, SUBTREE),
     ("attr() {}", 0, EQUALS),
-    ("unsafe attr() () => {}", 1, Told::Nothing),
+    ("unsafe attr() () => {}", 1, Reported::Nothing),
 ];
 
 // `r#unsafe r#attr() () => {}`, with any spans.
@@ -129,7 +129,7 @@ fn raw_words_count_as_well(rt: HostRuntime) -> Result<(), Fail> {
 #[test]
 fn macro_of_an_error(rt: HostRuntime) -> Result<(), Fail> {
     let rules = DeclarativeMacro::from_err(rt.alloc(), ParseError::InvalidRepeat);
-    let is_so = is_read(rt.alloc(), &rules, (0, Told::InvalidRepeat))?;
+    let is_so = is_read(rt.alloc(), &rules, (0, Reported::InvalidRepeat))?;
     assert!(rt; is_so && rules.rule_styles() == MacroCallStyles::FN_LIKE);
     assert!(rt; answers(rt.alloc(), &rules, ("a", MacroCallStyle::FnLike), None)?);
     Ok(())

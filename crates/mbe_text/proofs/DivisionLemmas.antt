@@ -44,7 +44,7 @@ item_of_shape span (Doc text is_inner) = refl
 item_of_shape span (Open kind) = refl
 item_of_shape span (Close kind) = refl
 
--- what a call returns that reads a token behind blanks
+-- what a call returns that reads a token after blanks
 pub is_next : (dialect : Dialect) (file total : ℕ) (cs left : List ℕ) (c : ℕ) (after : List ℕ) (l : Lexeme)
     (rest : List ℕ) (span : Span)
     (start end : ℕ)

@@ -30,7 +30,7 @@ spelled_more : (text : List ℕ) (xs : List Item) (x : Item) → AreSpelled text
 spelled_more text [] x p here = (here, p)
 spelled_more text (y ∷ ys) x p here = (p.0, spelled_more text ys x p.1 here)
 
--- an item stands where its token does
+-- an item is where its token is
 span_of_lexeme : (span : Span) (l : Lexeme) → item_span (lexeme_item span l) ≡ span
 span_of_lexeme span (Ident name is_raw) = refl
 span_of_lexeme span (Literal text suffix suffix_len kind) = refl
@@ -117,7 +117,7 @@ in_order_up : (file from to new : ℕ) (xs : List Item) → AreInOrder file from
 in_order_up file from to new [] p h = omega (arith, p, h)
 in_order_up file from to new (x ∷ xs) p h = (p.0, p.1, p.2, in_order_up file (item_span x).end to new xs p.3 h)
 
--- behind the last token
+-- after the last token
 pub lexed_last : (file : ℕ) (text : List ℕ) (left : ℕ) (span : Span) (b : Levels) (t : Top) → Lexed file text left b
     → span ≡ bytes_of file (length text) (length text) → t ≡ ended span b → IsMade file text t
 lexed_last file text left span b t p is e =

@@ -54,7 +54,7 @@ passed None text a b N h s n = subst (IsRest text) (sym (n s)) h
 
 -- ---- one character
 
--- the character that is passed is the one that stands there
+-- the character that is passed is the one that is there
 pub bumped : (o : Option ℕ) (text rest : List ℕ) (c : ℕ) (after : List ℕ) → IfSome o (λ d. text ≡ encode_utf8 d ++ rest)
     → (IsSome o ↔ (0 < length text))
     → text ≡ encode_utf8 c ++ after → rest ≡ after

@@ -224,7 +224,7 @@ got_rest body start j got other (Some x) u le k text g h rest e =
     ap (λ (b : Bor (List ℕ)). chars b.now) h ∙ ap chars (g.0 ∙ (ap (λ (m : ℕ). take m (drop start body)) l
     ∙ (take-length (drop start body) ∙ e)))
 
--- the bytes from where a fault stands in what is before an end
+-- the bytes from where a fault is in what is before an end
 pub got_inside : (body end at content : List ℕ) (start j : ℕ) (got other : Bor (List ℕ)) (r : Option (Bor (List ℕ)))
     → IsUtf8 body → IsUtf8 end → IsUtf8 at → start ≡ length body - length end - length at → j ≡ length body
     → GetsRange body start j r → got ≡ unwrap_or r other → body ≡ content ++ end → IsEnd content at

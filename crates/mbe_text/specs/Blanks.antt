@@ -29,7 +29,7 @@ past_comments (suc depth) (c ∷ (d ∷ cs)) =
 abbrev pub begins_comment : List ℕ → Bool
 begins_comment cs = begins_with (codes "//") cs || begins_with (codes "/*") cs
 
--- what a call passed and what it left, of a block comment that stands there
+-- what a call passed and what it left, of a block comment that is there
 abbrev pub PassesBlock : ℕ → List ℕ → Result (Unit {0}) LexFault → List ℕ → Type 0
 PassesBlock total cs result rest = MatchResult result (λ _. past_comments 1 (drop 2 cs) ≡ Some rest)
     (λ fault. (past_comments 1 (drop 2 cs) ≡ None) × (fault ≡ fault_at wrong.OpenComment total cs))

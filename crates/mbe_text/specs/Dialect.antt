@@ -1,4 +1,4 @@
--- Which token stands at a text: a table of cases for each dialect. Another dialect would have other cases of the same
+-- Which token is at a text: a table of cases for each dialect. Another dialect would have other cases of the same
 -- parts.
 use Rattle.std.specs.Prelude.{ℕ, if◌then◌else◌, List, codes, Option, Some, None, Ok, Err}
 use Rattle.mbe_tt.specs.declared.tt.LitKind.TheVariants.{Str}

@@ -25,7 +25,7 @@ pub record Taken : Type 0 where
   pub from : List ℕ
   pub rest : List ℕ
 
--- what stands after white space and comments: the next token, nothing at the end, or the fault
+-- what is after white space and comments: the next token, nothing at the end, or the fault
 abbrev pub next_token : Dialect → ℕ → List ℕ → Result (Option Taken) LexFault
 next_token dialect total cs = elim (past_blanks dialect total (length cs) cs) [
   | Err fault ↦ Err fault
@@ -36,7 +36,7 @@ next_token dialect total cs = elim (past_blanks dialect total (length cs) cs) [
   ]
 ]
 
--- where a token stands, and what it is there
+-- where a token is, and what it is there
 abbrev pub span_of_taken : ℕ → ℕ → Taken → Span
 span_of_taken file total t = bytes_of file (offset total t.from) (offset total t.rest)
 

@@ -1,4 +1,4 @@
--- What stands between the quotes of Rust's literals: characters and escapes, one after another.
+-- What is between the quotes of Rust's literals: characters and escapes, one after another.
 use Rattle.std.specs.Borrow.{Bor}
 use Rattle.std.specs.Prelude.{chars, ℕ, zero, suc, ◌==◌, ◌+◌, ◌-◌, ◌*◌, min, nat_lt, not, ◌&&◌, ◌||◌, Bool, true, false, if◌then◌else◌, List, [], ◌∷◌, length, codes, Result, Ok, Err}
 use Rattle.std.specs.Char.{digit_value, char_set_contains}

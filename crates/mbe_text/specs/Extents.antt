@@ -1,4 +1,4 @@
--- Where what stands between quotes ends, whatever is in it; and where block comments do.
+-- Where what is between quotes ends, whatever is in it; and where block comments do.
 use Rattle.std.specs.Prelude.{ℕ, ◌+◌, ◌==◌, not, ◌&&◌, ◌||◌, true, false, if◌then◌else◌, Bool, Option, Some, None, List, [], ◌∷◌, length, take, ◌-◌, codes}
 use Rattle.std.specs.Char.{char_set_contains}
 use Rattle.mbe_text.specs.Characters.{begins_with, apostrophe, backslash, quotation_mark, slash}

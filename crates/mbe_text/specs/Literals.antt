@@ -54,7 +54,7 @@ read_number total cs = read_literal total (past_number cs).0 (bytes_before cs (p
 
 -- ---- strings and chars
 
--- From the next such quote on. A character after a `\` is none; the flag says whether the first is behind one.
+-- From the next such quote on. A character after a `\` is none; the flag says whether the first is after one.
 abbrev pub from_quote : ℕ → Bool → List ℕ → Option (List ℕ)
 from_quote quote escaped [] = None
 from_quote quote true (c ∷ cs) = from_quote quote false cs
@@ -67,7 +67,7 @@ read_quoted total kind quote cs = elim (from_quote quote false (drop 1 cs)) [
   | Some end ↦ read_literal total kind (bytes_before (drop 1 cs) end) (drop 1 end)
 ]
 
--- what is behind a `'` is a char's: a `\`, or a character and another `'`, where that character is no `'` and no line
+-- what is after a `'` is a char's: a `\`, or a character and another `'`, where that character is no `'` and no line
 -- feed
 abbrev pub is_char : List ℕ → Bool
 is_char [] = false

@@ -1,4 +1,4 @@
--- Whole Rust: which token stands at a text, after white space and comments.
+-- Whole Rust: which token is at a text, after white space and comments.
 use Rattle.std.specs.Borrow.{Bor}
 use Rattle.std.specs.Prelude.{chars, ℕ, ◌==◌, not, ◌&&◌, ◌||◌, nat_le, if◌then◌else◌, Bool, true, false, Option, Some, None, List, [], ◌∷◌, ◌++◌, length, drop, codes, bytes_eq, Result, Ok, Err, ◌+◌, unwrap_or}
 use Rattle.std.specs.Char.{char_set_contains}
@@ -71,7 +71,7 @@ passed_left (Err _) = []
 abbrev pub past_suffix : List ℕ → List ℕ
 past_suffix cs = if begins IdentStart cs then past_word cs else cs
 
--- a literal of that text, whose suffix stands at the rest
+-- a literal of that text, whose suffix is at the rest
 abbrev pub literal : LitKind → List ℕ → List ℕ → Token
 literal kind text cs =
     let rest = past_suffix cs in

@@ -1,4 +1,4 @@
--- What a token is, wherever it stands.
+-- What a token is, wherever it is.
 use Rattle.std.specs.Prelude.{◌≡◌, ℕ, Bool, List, ◌++◌, Result, Ok, Err}
 use Rattle.mbe_tt.specs.declared.span.Span.{Span}
 use Rattle.mbe_tt.specs.Trees.Leaf.{literal, punct, ident}

@@ -10,7 +10,7 @@ use Rattle.mbe_text.specs.declared.wrong.Wrong.TheVariants as wrong
 use Rattle.mbe_text.specs.Blanks.{begins_comment}
 use Rattle.mbe_text.specs.Shapes.{Shape, Read, punct_of, opening, closing}
 
--- a punct is joint where the next one begins right behind it; the `/` of a comment is none
+-- a punct is joint where the next one begins right after it; the `/` of a comment is none
 abbrev pub spacing_before : List ℕ → Spacing
 spacing_before rest = if begins classes.Punct rest && not (begins_comment rest) then Joint else Alone
 

@@ -137,7 +137,7 @@ item_text (trees_item span trees) = []
 item_text (open_item kind span) = opening_text kind
 item_text (close_item kind span) = closing_text kind
 
--- wherever it stands
+-- wherever it is
 abbrev pub lexeme_text : Lexeme → List ℕ
 lexeme_text l = item_text (lexeme_item (bytes_of 0 0 0) l)
 

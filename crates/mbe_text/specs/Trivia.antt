@@ -10,7 +10,7 @@ use Rattle.mbe_text.specs.Blanks.{blank, past_comments}
 use Rattle.mbe_text.specs.Faults.{fault_at}
 use Rattle.mbe_text.specs.Rust.{begins_doc}
 
--- a comment that is a token stands there
+-- a comment that is a token is there
 abbrev pub is_doc : Dialect → List ℕ → Bool
 is_doc Sample cs = false
 is_doc (Rust edition) cs = begins_doc cs
@@ -42,7 +42,7 @@ abbrev pub past_mark : List ℕ → List ℕ
 past_mark [] = []
 past_mark (c ∷ cs) = if c == 0xFEFF then cs else c ∷ cs
 
--- an attribute's `[` stands after white space and comments
+-- an attribute's `[` is after white space and comments
 abbrev pub is_attribute : Dialect → ℕ → List ℕ → Bool
 is_attribute dialect total cs = elim (past_blanks dialect total (length cs) cs) [
   | Err fault ↦ false

@@ -1,4 +1,4 @@
-// What stands between the quotes of Rust's literals: where it ends, and whether its characters and escapes are right.
+// What is between the quotes of Rust's literals: where it ends, and whether its characters and escapes are right.
 ghost use Rattle.std.specs.Prelude.{◌≡◌, ◌∷◌, ◌++◌, ◌+◌, ◌<◌, ◌≤◌, List, ℕ, length, drop, chars, true, false, None, Some, MatchOption, IfSome, IfOk, IfErr, IsTrue};
 ghost use Rattle.std.specs.Char.{digit_value};
 ghost use Rattle.std.specs.Str.{IsUtf8};
@@ -238,7 +238,7 @@ fn past_escape<'t>(from: &'t str, text: &'t str, quoted: Quoted) -> Result<&'t s
 
 // ---- characters
 
-// What is after this character, which is no escape and stands here.
+// What is after this character, which is no escape and is here.
 fn past_plain<'t>(
     text: &'t str,
     char: char,
@@ -264,7 +264,7 @@ fn past_plain<'t>(
     }
 }
 
-// What is after the escape that stands here, or this character.
+// What is after the escape that is here, or this character.
 fn past_unit<'t>(
     text: &'t str,
     char: char,
@@ -396,9 +396,9 @@ pub(crate) fn raw_end<'t>(text: &'t str, hashes: &str) -> Option<(&'t str, &'t s
     'chars: loop {
         let (char, after) = split_first(rest)?;
         if char == '"'
-            && let Some(behind) = past_front(after, hashes)
+            && let Some(following) = past_front(after, hashes)
         {
-            return Some((rest, behind));
+            return Some((rest, following));
         }
         rest = after;
     }

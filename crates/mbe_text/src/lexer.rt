@@ -328,7 +328,7 @@ pub fn lex_in<A: Allocator + Copy>(
 /// The token trees of a file's text in that dialect, as `lex` has them in the sample dialect.
 ///
 /// In `Dialect::Rust` the tokens are those of the Rust Reference ("Lexical structure"), as rustc's lexer reads them. A byte order mark
-/// and a `#!` line are passed. A lifetime is two leaves, a joint `'` and an identifier; a doc comment is the attribute that it stands
+/// and a `#!` line are passed. A lifetime is two leaves, a joint `'` and an identifier; a doc comment is the attribute that it is
 /// for, `#[doc = r".."]` or `#![doc = r".."]`, each of whose tokens has the comment's span. A group that is open at the end is a fault
 /// there. A fault is the first one, at the byte and for the reason that rustc gives.
 pub fn lex_as<A: Allocator + Copy>(

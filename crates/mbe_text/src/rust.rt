@@ -38,7 +38,7 @@ pub(crate) type Read<'t> = Result<(Lexeme<'t>, &'t str), Fault<'t>>;
 
 // ---- words
 
-// What is after the suffix that stands here, which may be empty.
+// What is after the suffix that is here, which may be empty.
 fn past_suffix(text: &str) -> &str
     ensures exact { chars result.now ≡ spec.past_suffix (chars text.now) }
     ensures end { IsEnd text.now result.now }
@@ -50,7 +50,7 @@ fn past_suffix(text: &str) -> &str
     }
 }
 
-// A literal of that text, with the suffix that stands at the rest.
+// A literal of that text, with the suffix that is at the rest.
 fn literal<'t>(kind: LitKind, text: &'t str, rest: &'t str) -> Read<'t>
     ensures exact { token_seen result ≡ spec.literal kind text.now (chars rest.now) }
     ensures end { IsEnd rest.now (read_stop result) }
@@ -80,14 +80,14 @@ fn may_be_raw(name: &str) -> bool
     !(name == "_" || name == "crate" || name == "self" || name == "super" || name == "Self")
 }
 
-// A raw identifier, whose name stands after its `r#`.
-fn raw_identifier<'t>(text: &'t str, behind: &'t str) -> Read<'t>
-    ensures exact { token_seen result ≡ spec.raw_identifier (chars text.now) (chars behind.now) }
-    ensures end { IsEnd text.now behind.now → IsEnd text.now (read_stop result) }
-    ensures rest { length (read_left result) ≤ length behind.now }
+// A raw identifier, whose name is after its `r#`.
+fn raw_identifier<'t>(text: &'t str, following: &'t str) -> Read<'t>
+    ensures exact { token_seen result ≡ spec.raw_identifier (chars text.now) (chars following.now) }
+    ensures end { IsEnd text.now following.now → IsEnd text.now (read_stop result) }
+    ensures rest { length (read_left result) ≤ length following.now }
 {
-    let rest = past_word(behind);
-    let name = front(behind, rest);
+    let rest = past_word(following);
+    let name = front(following, rest);
     if !may_be_raw(name) {
         return fault!(RawName, text);
     }
@@ -98,7 +98,7 @@ fn raw_identifier<'t>(text: &'t str, behind: &'t str) -> Read<'t>
     Ok((lexeme, rest))
 }
 
-// Whether what stands here may not be right after an identifier since 2021.
+// Whether what is here may not be right after an identifier since 2021.
 fn begins_reserved(rest: &str) -> bool
     ensures { result ≡ spec.begins_reserved (chars rest.now) }
 {
@@ -124,7 +124,7 @@ fn identifier(edition: Edition, text: &str) -> Read<'_>
 
 // ---- quotes
 
-// A fault of what stands between quotes, in the text that goes on after it to this end.
+// A fault of what is between quotes, in the text that goes on after it to this end.
 fn inside<'t>(body: &'t str, end: &str, wrong: Wrong, at: &str) -> Fault<'t>
     requires { length at.now + length end.now ≤ length body.now }
     ensures exact { (content : List ℕ) → body.now ≡ content ++ end.now → IsEnd content at.now
@@ -152,7 +152,7 @@ fn string_until<'t>(kind: LitKind, quoted: Quoted, body: &'t str, end: &'t str) 
     }
 }
 
-// A string, whose first quote stands here, after its first letters.
+// A string, whose first quote is here, after its first letters.
 fn string<'t>(kind: LitKind, quoted: Quoted, quote: &'t str) -> Read<'t>
     ensures exact { token_seen result ≡ spec.string kind quoted (chars quote.now) }
     ensures end { IsEnd quote.now (read_stop result) }
@@ -189,7 +189,7 @@ fn char_until<'t>(
     }
 }
 
-// A char or a byte, whose first quote stands here, after its first letter.
+// A char or a byte, whose first quote is here, after its first letter.
 fn char<'t>(kind: LitKind, quoted: Quoted, text: &'t str, quote: &'t str) -> Read<'t>
     ensures exact { token_seen result ≡ spec.char kind quoted (chars text.now) (chars quote.now) }
     ensures end { IsEnd text.now quote.now → IsEnd text.now (read_stop result) }
@@ -259,12 +259,12 @@ fn hashes(text: &str) -> (&str, &str)
 }
 
 // A raw string, which goes on with its `#` after its first letters.
-fn raw<'t>(quoted: Quoted, text: &'t str, behind: &'t str) -> Read<'t>
-    ensures exact { token_seen result ≡ spec.raw_string quoted (chars text.now) (chars behind.now) }
-    ensures end { IsEnd text.now behind.now → IsEnd text.now (read_stop result) }
-    ensures rest { length (read_left result) ≤ length behind.now }
+fn raw<'t>(quoted: Quoted, text: &'t str, following: &'t str) -> Read<'t>
+    ensures exact { token_seen result ≡ spec.raw_string quoted (chars text.now) (chars following.now) }
+    ensures end { IsEnd text.now following.now → IsEnd text.now (read_stop result) }
+    ensures rest { length (read_left result) ≤ length following.now }
 {
-    let (hashes, quote) = hashes(behind);
+    let (hashes, quote) = hashes(following);
     if begins_with(quote, "\"") {
         raw_body(quoted, text, hashes, tail(quote))
     } else {
@@ -273,10 +273,10 @@ fn raw<'t>(quoted: Quoted, text: &'t str, behind: &'t str) -> Read<'t>
 }
 
 // Whether a raw string goes on here, or is meant to, after its first letters.
-fn begins_raw(behind: &str) -> bool
-    ensures { result ≡ spec.begins_raw_string (chars behind.now) }
+fn begins_raw(following: &str) -> bool
+    ensures { result ≡ spec.begins_raw_string (chars following.now) }
 {
-    begins_with(behind, "\"") || begins_with(behind, "#")
+    begins_with(following, "\"") || begins_with(following, "#")
 }
 
 // What begins with a `r`.
@@ -285,10 +285,10 @@ fn read_r(edition: Edition, text: &str) -> Read<'_>
     ensures end { IsEnd text.now (read_stop result) }
     ensures past { 0 < length text.now → length (read_left result) < length text.now }
 {
-    let behind = tail(text);
+    let following = tail(text);
     match past_front(text, "r#") {
         Some(name) if begins(name, Class::IdentStart) => raw_identifier(text, name),
-        _ if begins_raw(behind) => raw(Quoted::Str, text, behind),
+        _ if begins_raw(following) => raw(Quoted::Str, text, following),
         _ => identifier(edition, text),
     }
 }
@@ -340,14 +340,14 @@ fn named<'t>(name: &'t str, is_raw: IdentIsRaw, rest: &'t str) -> Read<'t>
     Ok((Lexeme::Lifetime { name, is_raw }, rest))
 }
 
-// A lifetime with a `r#`, whose name stands after it.
-fn raw_lifetime<'t>(text: &'t str, behind: &'t str) -> Read<'t>
-    ensures exact { token_seen result ≡ spec.raw_lifetime (chars text.now) (chars behind.now) }
-    ensures end { IsEnd text.now behind.now → IsEnd text.now (read_stop result) }
-    ensures rest { length (read_left result) ≤ length behind.now }
+// A lifetime with a `r#`, whose name is after it.
+fn raw_lifetime<'t>(text: &'t str, following: &'t str) -> Read<'t>
+    ensures exact { token_seen result ≡ spec.raw_lifetime (chars text.now) (chars following.now) }
+    ensures end { IsEnd text.now following.now → IsEnd text.now (read_stop result) }
+    ensures rest { length (read_left result) ≤ length following.now }
 {
-    let rest = past_word(behind);
-    let name = front(behind, rest);
+    let rest = past_word(following);
+    let name = front(following, rest);
     if begins_with(rest, "'") {
         return fault!(SeveralChars, text);
     }
@@ -357,22 +357,22 @@ fn raw_lifetime<'t>(text: &'t str, behind: &'t str) -> Read<'t>
     named(name, IdentIsRaw::Yes, rest)
 }
 
-// A lifetime without a `r#`, whose name stands after the `'`.
-fn plain_lifetime<'t>(edition: Edition, text: &'t str, behind: &'t str) -> Read<'t>
+// A lifetime without a `r#`, whose name is after the `'`.
+fn plain_lifetime<'t>(edition: Edition, text: &'t str, following: &'t str) -> Read<'t>
     ensures exact { token_seen result
-        ≡ spec.plain_lifetime edition (chars text.now) (chars behind.now) }
-    ensures end { IsEnd text.now behind.now → IsEnd text.now (read_stop result) }
-    ensures rest { length (read_left result) ≤ length behind.now }
+        ≡ spec.plain_lifetime edition (chars text.now) (chars following.now) }
+    ensures end { IsEnd text.now following.now → IsEnd text.now (read_stop result) }
+    ensures rest { length (read_left result) ≤ length following.now }
 {
-    let rest = past_word(behind);
+    let rest = past_word(following);
     if begins_with(rest, "'") {
         fault!(SeveralChars, text)
-    } else if begins(behind, Class::Decimal) {
+    } else if begins(following, Class::Decimal) {
         fault!(LifetimeDigit, text)
     } else if edition.at_least_2021() && begins_with(rest, "#") {
         fault!(Prefix, text)
     } else {
-        named(front(behind, rest), IdentIsRaw::No, rest)
+        named(front(following, rest), IdentIsRaw::No, rest)
     }
 }
 
@@ -382,24 +382,24 @@ fn lifetime(edition: Edition, text: &str) -> Read<'_>
     ensures end { IsEnd text.now (read_stop result) }
     ensures past { 0 < length text.now → length (read_left result) < length text.now }
 {
-    let behind = tail(text);
+    let following = tail(text);
     match past_front(text, "'r#") {
         Some(name) if begins(name, Class::IdentStart) => {
             if edition.at_least_2021() {
                 return raw_lifetime(text, name);
             }
-            let rest = tail(behind);
-            named(front(behind, rest), IdentIsRaw::No, rest)
+            let rest = tail(following);
+            named(front(following, rest), IdentIsRaw::No, rest)
         }
-        _ => plain_lifetime(edition, text, behind),
+        _ => plain_lifetime(edition, text, following),
     }
 }
 
 // Whether a lifetime goes on here after its `'`, or is meant to, and not a char.
-fn begins_lifetime(behind: &str) -> bool
-    ensures { result ≡ spec.begins_lifetime (chars behind.now) }
+fn begins_lifetime(following: &str) -> bool
+    ensures { result ≡ spec.begins_lifetime (chars following.now) }
 {
-    match split_first(behind) {
+    match split_first(following) {
         Some((first, after)) => {
             (Class::IdentStart.has(first) || Class::Decimal.has(first)) && !begins_with(after, "'")
         }
@@ -454,7 +454,7 @@ impl Base {
     }
 }
 
-// The base of the number that stands here, and its digits.
+// The base of the number that is here, and its digits.
 fn base_of(text: &str) -> (Base, &str)
     ensures base { result.0 ≡ (spec.base_of (chars text.now)).0 }
     ensures rest { chars result.1.now ≡ (spec.base_of (chars text.now)).1 }
@@ -485,16 +485,16 @@ fn has_digit(base: Base, text: &str) -> bool
     }
 }
 
-// What is after the exponent that stands here, where one does; a fault without a digit.
+// What is after the exponent that is here, where one is; a fault without a digit.
 fn past_exponent<'t>(text: &'t str, rest: &'t str) -> Result<Option<&'t str>, Fault<'t>>
     ensures exact { passed_seen result ≡ spec.past_exponent (chars text.now) (chars rest.now) }
     ensures end { IsEnd text.now rest.now → IsEnd text.now (passed_stop text.now result) }
     ensures rest { length (passed_left result) ≤ length rest.now }
 {
-    let Some(behind) = past_one(rest, Class::Exponent) else {
+    let Some(following) = past_one(rest, Class::Exponent) else {
         return Ok(None);
     };
-    let digits = past_one(behind, Class::Sign).unwrap_or(behind);
+    let digits = past_one(following, Class::Sign).unwrap_or(following);
     if !has_digit(Base::Ten, digits) {
         return fault!(Exponent, text);
     }
@@ -523,13 +523,13 @@ fn past_fraction<'t>(text: &'t str, rest: &'t str) -> Result<Option<&'t str>, Fa
     if !begins_with(rest, ".") {
         return past_exponent(text, rest);
     }
-    let behind = tail(rest);
-    if begins_with(behind, ".") || begins(behind, Class::IdentStart) {
+    let following = tail(rest);
+    if begins_with(following, ".") || begins(following, Class::IdentStart) {
         Ok(None)
-    } else if begins(behind, Class::Decimal) {
-        past_digits(text, behind)
+    } else if begins(following, Class::Decimal) {
+        past_digits(text, following)
     } else {
-        Ok(Some(behind))
+        Ok(Some(following))
     }
 }
 
@@ -551,7 +551,7 @@ fn large_digit(base: Base, digits: &str) -> Option<&str>
     }
 }
 
-// A float up to this rest, where its suffix stands.
+// A float up to this rest, where its suffix is.
 fn float<'t>(base: Base, text: &'t str, rest: &'t str) -> Read<'t>
     requires { IsEnd text.now rest.now }
     ensures exact { token_seen result ≡ spec.float base (chars text.now) (chars rest.now) }
@@ -564,7 +564,7 @@ fn float<'t>(base: Base, text: &'t str, rest: &'t str) -> Read<'t>
     }
 }
 
-// An integer of these digits up to this rest, where its suffix stands.
+// An integer of these digits up to this rest, where its suffix is.
 fn integer<'t>(base: Base, text: &'t str, digits: &'t str, rest: &'t str) -> Read<'t>
     requires { IsEnd text.now rest.now }
     ensures exact { token_seen result
@@ -598,7 +598,7 @@ fn number(text: &str) -> Read<'_>
 
 // ---- comments
 
-// From the `*/` on that ends a block comment, whose text stands here.
+// From the `*/` on that ends a block comment, whose text is here.
 fn comment_end(text: &str) -> Option<&str>
     ensures exact { maybe_seen result ≡ extents.from_comment_end false 0 (chars text.now) }
     ensures end { IfSome result (λ end. IsEnd text.now end.now) }
@@ -621,7 +621,7 @@ fn comment_end(text: &str) -> Option<&str>
     }
 }
 
-// Whether a doc comment stands here: `///` or `//!`, `/**` or `/*!`, but none of `////`, `/***` and `/**/`.
+// Whether a doc comment is here: `///` or `//!`, `/**` or `/*!`, but none of `////`, `/***` and `/**/`.
 pub(crate) fn begins_doc(text: &str) -> bool
     ensures exact { result ≡ spec.begins_doc (chars text.now) }
     ensures some { IsTrue result → 0 < length text.now }

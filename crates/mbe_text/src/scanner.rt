@@ -120,12 +120,12 @@ fn begins_literal(name: &str, rest: &str) -> bool
     }
 }
 
-// Whether a char is behind a `'`, and not a lifetime: a `\`, or a character and another `'`. That character is no `'` and no line
+// Whether a char is after a `'`, and not a lifetime: a `\`, or a character and another `'`. That character is no `'` and no line
 // feed.
-fn is_char(behind: &str) -> bool
-    ensures { result ≡ literals.is_char (chars behind.now) }
+fn is_char(following: &str) -> bool
+    ensures { result ≡ literals.is_char (chars following.now) }
 {
-    match split_first(behind) {
+    match split_first(following) {
         Some(('\\', _)) => true,
         Some(('\'' | '\n', _)) | None => false,
         Some((_, rest)) => begins_with(rest, "'"),
@@ -212,7 +212,7 @@ impl<'t> Scanner<'t> {
         self.rest = past(self.rest, class);
     }
 
-    // Whether a comment stands here that is a token.
+    // Whether a comment is here that is a token.
     #[inline(always)]
     fn is_at_doc(&self) -> bool
         ensures { result ≡ is_doc self.now.dialect (chars self.now.rest.now) }
@@ -299,7 +299,7 @@ impl<'t> Scanner<'t> {
         })
     }
 
-    // Whether the character that was passed is this first one, and the second stands here.
+    // Whether the character that was passed is this first one, and the second is here.
     fn is_second(&self, passed: char, first: char, second: &str) -> bool
         requires { IsTrue (characters.are_ascii second.now) }
         ensures exact { result
@@ -309,7 +309,7 @@ impl<'t> Scanner<'t> {
         passed == first && begins_with(self.rest, second)
     }
 
-    // Passes an identifier without a `r#`, whose first character stands here.
+    // Passes an identifier without a `r#`, whose first character is here.
     #[inline(always)]
     fn word(&mut self) -> &'t str
         ensures on { GoesOn self.old self.new }
@@ -325,7 +325,7 @@ impl<'t> Scanner<'t> {
         before(text, self.rest)
     }
 
-    // Whether a raw identifier stands here.
+    // Whether a raw identifier is here.
     #[inline(always)]
     fn is_at_raw(&self) -> bool
         ensures begins { result ≡ true
@@ -410,7 +410,7 @@ impl<'t> Scanner<'t> {
         }
     }
 
-    // Passes the identifier that is the suffix of a literal, where one stands here, and returns it with its length in
+    // Passes the identifier that is the suffix of a literal, where one is here, and returns it with its length in
     // bytes, which is at most 255. One that would begin a prefixed string is a fault, as it is elsewhere. A suffix is
     // never raw.
     fn suffix(&mut self) -> Result<(&'t str, u8), LexFault>
@@ -441,7 +441,7 @@ impl<'t> Scanner<'t> {
         })
     }
 
-    // A literal of this text, with the suffix that stands here.
+    // A literal of this text, with the suffix that is here.
     fn literal(&mut self, text: &'t str, kind: LitKind) -> Result<Lexeme<'t>, LexFault>
         ensures on { GoesOn self.old self.new }
         ensures reads { IfOk result (λ l. (suffix : List ℕ)
@@ -509,12 +509,12 @@ impl<'t> Scanner<'t> {
         self.literal(text, kind)
     }
 
-    // Whether the `'` that stands here begins a char.
+    // Whether the `'` that is here begins a char.
     fn is_at_char(&self) -> bool
         ensures { result ≡ literals.is_char (drop 1 (chars self.now.rest.now)) }
     {
         match split_first(self.rest) {
-            Some((_, behind)) => is_char(behind),
+            Some((_, following)) => is_char(following),
             None => false,
         }
     }
@@ -544,7 +544,7 @@ impl<'t> Scanner<'t> {
         })
     }
 
-    // Passes what begins with the `'` that stands here: a char with its suffix, or the first token of a lifetime.
+    // Passes what begins with the `'` that is here: a char with its suffix, or the first token of a lifetime.
     fn quote(&mut self) -> Result<Lexeme<'t>, LexFault>
         requires { 0 < length self.old.rest.now }
         ensures on { GoesOn self.old self.new }
@@ -577,7 +577,7 @@ impl<'t> Scanner<'t> {
         true
     }
 
-    // Whether a `.` stands here, and no range and no field.
+    // Whether a `.` is here, and no range and no field.
     fn is_at_fraction(&self) -> bool
         ensures { result ≡ literals.begins_fraction (chars self.now.rest.now) }
     {
@@ -715,7 +715,7 @@ impl<'t> Scanner<'t> {
         }
     }
 
-    // Passes the token of the sample dialect that begins with this character, which stands here.
+    // Passes the token of the sample dialect that begins with this character, which is here.
     #[inline(always)]
     fn sample_lexeme(&mut self, char: char) -> Result<Lexeme<'t>, LexFault>
         requires { 0 < length self.old.rest.now }
@@ -741,7 +741,7 @@ impl<'t> Scanner<'t> {
         }
     }
 
-    // Passes the token of Rust that stands here.
+    // Passes the token of Rust that is here.
     fn rust_lexeme(&mut self, edition: Edition) -> Result<Lexeme<'t>, LexFault>
         requires { 0 < length self.old.rest.now }
         ensures on { GoesOn self.old self.new }
@@ -790,7 +790,7 @@ impl<'t> Scanner<'t> {
         }
     }
 
-    // Passes a line that begins with `#!`, unless an attribute's `[` stands after white space and comments.
+    // Passes a line that begins with `#!`, unless an attribute's `[` is after white space and comments.
     fn shebang(&mut self)
         ensures on { GoesOn self.old self.new }
         ensures exact { chars self.new.rest.now
@@ -810,7 +810,7 @@ impl<'t> Scanner<'t> {
         }
     }
 
-    // Passes the token that begins with this character, which stands here.
+    // Passes the token that begins with this character, which is here.
     #[inline(always)]
     fn lexeme(&mut self, char: char) -> Result<Lexeme<'t>, LexFault>
         requires { 0 < length self.old.rest.now }
@@ -839,7 +839,7 @@ impl<'t> Scanner<'t> {
         ensures start { IfOk result (λ token. IfSome token (λ t. t.span.start ≤ self.old.total)) }
         ensures span { IfOk result (λ token. IfSome token (λ t.
             t.span ≡ bytes_of self.old.file t.span.start t.span.end)) }
-        ensures behind { IfOk result (λ token. IfSome token (λ t.
+        ensures following { IfOk result (λ token. IfSome token (λ t.
             self.old.total ≤ t.span.start + length self.old.rest.now)) }
         ensures some { IfOk result (λ token. IfSome token (λ t. t.span.start < t.span.end)) }
         ensures up_to { IfOk result (λ token. IfSome token (λ t.

@@ -124,8 +124,8 @@ is_bare_integer CStr suffix_len = false
 is_bare_integer (CStrRaw n) suffix_len = false
 is_bare_integer Err suffix_len = false
 
--- A number that is read whole by itself is a literal. The `.` of a field or a range may follow it, but for `1.`; any `.`
--- may, where it is no integer without a suffix either.
+-- A number that is read whole by itself is a literal. The `.` of a field or a range may follow it, but for `1.`; any
+-- `.` may, where it is no integer without a suffix either.
 abbrev pub NumbersAreRead : Type 0
 NumbersAreRead = (edition : Edition) (l : Literal) → begins_number (chars (literal_output l)) ≡ true
     → IsUtf8 (literal_output l) → IsReadBefore edition l []

@@ -1,4 +1,4 @@
--- What stands between two tokens that the writer of Rust text writes, as the lexer reads it. Of a gap the writer asks
+-- What is between two tokens that the writer of Rust text writes, as the lexer reads it. Of a gap the writer asks
 -- whether a line begins,
 -- whether the tokens are to be kept apart, and whether they stand side by side in one file.
 use Rattle.std.specs.Prelude.{◌≡◌, ℕ, Bool, true, false, not, ◌&&◌, ◌||◌, List, ◌∷◌, ◌++◌, chars, codes}

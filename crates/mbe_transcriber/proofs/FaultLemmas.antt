@@ -32,11 +32,11 @@ module _ {X : Type 0} (seen : X → ExpandError) (site : Span) (env : Environmen
       → first_fault site env path all ≡ option_or (option_map seen first) (first_fault site env path left)
       → first_fault site env path all ≡ option_or (option_map seen now) (first_fault site env path rest)
   ops_step all left rest o first fault now l n f h =
-      let behind = first_fault site env path rest in
+      let following = first_fault site env path rest in
       h ∙ (ap (λ os. option_or (option_map seen first) (first_fault site env path os)) l
-      ∙ (ap (λ x. option_or (option_map seen first) (option_or x behind)) (sym f)
-      ∙ (sym (or_over (option_map seen first) (option_map seen fault) behind)
-      ∙ ap (λ x. option_or x behind) (sym (ap (option_map seen) n ∙ seen_or seen first fault)))))
+      ∙ (ap (λ x. option_or (option_map seen first) (option_or x following)) (sym f)
+      ∙ (sym (or_over (option_map seen first) (option_map seen fault) following)
+      ∙ ap (λ x. option_or x following) (sym (ap (option_map seen) n ∙ seen_or seen first fault)))))
 
   -- ---- rounds
 

@@ -34,17 +34,17 @@ popped before pushed after x n p e h = e
 
 -- ---- the chars of an identifier
 
-pub identifier_told : (text rest : List ℕ) (first : ℕ) (b : Bool) → chars text ≡ first ∷ chars rest
+pub identifier_reported : (text rest : List ℕ) (first : ℕ) (b : Bool) → chars text ≡ first ∷ chars rest
     → (is_xid_start first || (first == 95)) ≡ true
     → b ≡ list_all is_xid_continue (chars rest) → b ≡ are_identifier_chars (chars text)
-identifier_told text rest first b w s e =
+identifier_reported text rest first b w s e =
     e ∙ sym (ap are_identifier_chars w ∙ ap (λ x. x && list_all is_xid_continue (chars rest)) s)
 
 -- ---- the identifier that is written
 
-pub or_told : {X : Type 0} (a : Option X) (x : X) → is_some (option_or a (Some x)) ≡ true
-or_told None x = refl
-or_told (Some y) x = refl
+pub or_reported : {X : Type 0} (a : Option X) (x : X) → is_some (option_or a (Some x)) ≡ true
+or_reported None x = refl
+or_reported (Some y) x = refl
 
 pub or_either : {X : Type 0} (a b : Option X) → is_some (option_or a b) ≡ (is_some a || is_some b)
 or_either None b = refl
@@ -57,11 +57,15 @@ module _ (g : Grammar) (Marks : Span → Span → Type 0) (span : Span) where
       → Wrote f (is_none (option_and_then if_identifier o))
       (IsConcatWritten g Marks span (option_and_then if_identifier o)) old new
   joined_case text f old new None h i w =
-      record { told = h; groups = appends_groups _ old new w; written = λ e. absurd (let x : true ≡ false = e in cc) }
+      record {
+        reported = h;
+        groups = appends_groups _ old new w;
+        written = λ e. absurd (let x : true ≡ false = e in cc);
+      }
   joined_case text f old new (Some joined) (h, e) i w =
       let is : if_identifier joined ≡ Some text =
       ap if_identifier (sym e) ∙ ap (λ b. if b then Some text else None) i in
-      rw is (record { told = h; groups = appends_groups _ old new w; written = λ _. w })
+      rw is (record { reported = h; groups = appends_groups _ old new w; written = λ _. w })
 
   pub joined_wrote : (env : Environment) (path : Path) (elements : List Element) (text : List ℕ) (f : Bool)
       (old new : Levels) → IsJoined text f (joined_text env path elements)
@@ -77,17 +81,17 @@ module _ (g : Grammar) (Marks : Span → Span → Type 0) (span : Span) where
       let is : if_identifier joined ≡ None = ap if_identifier (sym e) ∙ ap (λ b. if b then Some text else None) i in
       ap is_none is
 
-  pub dummy_wrote : (env : Environment) (path : Path) (elements : List Element) (text : List ℕ) (f told : Bool)
+  pub dummy_wrote : (env : Environment) (path : Path) (elements : List Element) (text : List ℕ) (f reported : Bool)
       (dummy : Option (List ℕ)) (old new : Levels)
-      → IsJoined text f (joined_text env path elements) → are_identifier_chars (chars text) ≡ false → told ≡ true
+      → IsJoined text f (joined_text env path elements) → are_identifier_chars (chars text) ≡ false → reported ≡ true
       → Appends (IsConcatWritten g Marks span dummy) old new
-      → Wrote told (is_none (concat_text env path elements))
+      → Wrote reported (is_none (concat_text env path elements))
       (IsConcatWritten g Marks span (concat_text env path elements)) old new
-  dummy_wrote env path elements text f told dummy old new h i t w =
+  dummy_wrote env path elements text f reported dummy old new h i t w =
       let none : is_none (concat_text env path elements) ≡ true =
       no_identifier text f (joined_text env path elements) h i in
       record {
-        told = t ∙ sym none;
+        reported = t ∙ sym none;
         groups = appends_groups _ old new w;
         written = λ e. absurd (let x : true ≡ false = sym none ∙ e in cc);
       }

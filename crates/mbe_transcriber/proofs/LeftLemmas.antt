@@ -104,7 +104,7 @@ module _ (g : Grammar) (Marks : Span → Span → Type 0) (site : Span) (env : E
           → Appends (IsLeft g Marks site env p (ops.variable name kind span)) old new
       unfolding Appends IsWritten IsLeft
       left_variable None name kind span old new w e k =
-          let v = w.written (sym w.told) in (v.0, unless_none _ span _ v.0 e v.1, v.2)
+          let v = w.written (sym w.reported) in (v.0, unless_none _ span _ v.0 e v.1, v.2)
       left_variable (Some x) name kind span old new w e k =
           (none, unless_some _ span _ (seen x) e, k refl ∙ put-none old)
 
@@ -116,7 +116,7 @@ module _ (g : Grammar) (Marks : Span → Span → Type 0) (site : Span) (env : E
           → Appends (IsLeft g Marks site env p (ops.expression (ops.count name depth))) old new
       unfolding Appends IsWritten IsLeft
       left_count None name depth old new w e k =
-          let v = w.written (sym w.told) in (v.0, unless_none _ site _ v.0 e v.1, v.2)
+          let v = w.written (sym w.reported) in (v.0, unless_none _ site _ v.0 e v.1, v.2)
       left_count (Some x) name depth old new w e k = (none, unless_some _ site _ (seen x) e, k refl ∙ put-none old)
 
     -- ---- groups, and ops one after the other

@@ -5,7 +5,7 @@ use Rattle.mbe_tt.specs.declared.span.Span.{Span}
 use Rattle.mbe_tt.specs.Trees.Leaf.{literal, ident, punct}
 use Rattle.mbe_tt.specs.Trees.Tree.{Forest, none, leaf, group, append, Tree, Leaf_tree, Group_tree, tree, first, rest_of}
 use Rattle.mbe_tt.specs.Buffers.Building.{Levels, put}
-use Rattle.mbe_semantics.specs.Writing.Written.{path_trees, double_colon, is_ident, stands_before_less}
+use Rattle.mbe_semantics.specs.Writing.Written.{path_trees, double_colon, is_ident, is_before_less}
 use Rattle.mbe_transcriber.proofs.WritingLemmas.{put-none, put-put, put_both}
 
 -- ---- parentheses, by the first two trees and whether more follow
@@ -15,22 +15,22 @@ use Rattle.mbe_transcriber.proofs.WritingLemmas.{put-none, put-put, put_both}
 -- ---- paths, tree by tree
 
 -- what is written after a tree
-abbrev pub behind : Span → Bool → Forest
-behind site true = double_colon site none
-behind site false = none
+abbrev pub following : Span → Bool → Forest
+following site true = double_colon site none
+following site false = none
 
 abbrev pub colons_after : Tree → Forest → Bool
-colons_after t rest = is_ident (tree t none) && stands_before_less rest
+colons_after t rest = is_ident (tree t none) && is_before_less rest
 
 colons : (site : Span) (b : Bool) (p : _) (rest : Forest) →
     (if b then double_colon site (leaf (punct p) (path_trees site rest)) else leaf (punct p) (path_trees site rest))
-    ≡ append (behind site b) (leaf (punct p) (path_trees site rest))
+    ≡ append (following site b) (leaf (punct p) (path_trees site rest))
 colons site true p rest = refl
 colons site false p rest = refl
 
 pub path_step : (site : Span) (t : Tree) (rest : Forest) →
     path_trees site (tree t rest) ≡ append (tree t none)
-    (append (behind site (colons_after t rest)) (path_trees site rest))
+    (append (following site (colons_after t rest)) (path_trees site rest))
 path_step site (Group_tree d inside) rest = refl
 path_step site (Leaf_tree (punct p)) rest = refl
 path_step site (Leaf_tree (literal l)) rest = refl
@@ -50,16 +50,16 @@ first_and_rest (group d inside rest) t e = let s : Group_tree d inside ≡ t = c
 pub path_next : (site : Span) (f one now_left : Forest) (t : Tree) (b : Bool) (start now mid new : Levels)
     → put (path_trees site f) now ≡ start → first f ≡ Some t → now_left ≡ rest_of f → one ≡ tree t none
     → mid ≡ put one now → b ≡ colons_after t now_left
-    → new ≡ put (behind site b) mid → put (path_trees site now_left) new ≡ start
+    → new ≡ put (following site b) mid → put (path_trees site now_left) new ≡ start
 path_next site f one now_left t b start now mid new h e r o m c n =
     let whole : f ≡ tree t now_left = first_and_rest f t e ∙ ap (tree t) (sym r) in
     let step = path_step site t now_left in
-    let both : new ≡ put (append one (behind site b)) now = put_both one (behind site b) now mid new m n in
+    let both : new ≡ put (append one (following site b)) now = put_both one (following site b) now mid new m n in
     ap (put (path_trees site now_left)) both
-    ∙ (put-put (append one (behind site b)) (path_trees site now_left) now
-    ∙ (ap (λ x. put x now) (ap (λ y. append (append y (behind site b)) (path_trees site now_left)) o
-    ∙ (ap (λ y. append (append (tree t none) (behind site y)) (path_trees site now_left)) c
-    ∙ (one_tree t (behind site (colons_after t now_left)) (path_trees site now_left)
+    ∙ (put-put (append one (following site b)) (path_trees site now_left) now
+    ∙ (ap (λ x. put x now) (ap (λ y. append (append y (following site b)) (path_trees site now_left)) o
+    ∙ (ap (λ y. append (append (tree t none) (following site y)) (path_trees site now_left)) c
+    ∙ (one_tree t (following site (colons_after t now_left)) (path_trees site now_left)
     ∙ (sym step ∙ ap (path_trees site) (sym whole))))) ∙ h))
   where
     one_tree : (t : Tree) (g h : Forest) → append (append (tree t none) g) h ≡ append (tree t none) (append g h)
@@ -75,9 +75,9 @@ first_tree (group d inside rest) one e =
     (Group_tree d inside, refl, let s : one ≡ tree (Group_tree d inside) none = cc in s)
 
 pub less_after : (t : Tree) (one rest : Forest) → one ≡ tree t none → is_ident one ≡ true
-    → stands_before_less rest ≡ true → true ≡ colons_after t rest
-less_after t one rest e i l = sym (ap (λ f. is_ident f && stands_before_less rest) (sym e)
-    ∙ (ap (λ b. b && stands_before_less rest) i ∙ l))
+    → is_before_less rest ≡ true → true ≡ colons_after t rest
+less_after t one rest e i l = sym (ap (λ f. is_ident f && is_before_less rest) (sym e)
+    ∙ (ap (λ b. b && is_before_less rest) i ∙ l))
 
 pub other_after : (a b : Bool) → a ≡ false → false ≡ (a && b)
 other_after true b e = absurd cc

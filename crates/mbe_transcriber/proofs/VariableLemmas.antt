@@ -45,7 +45,7 @@ module _ (Marks : Span → Span → Type 0) (site : Span) (env : Environment) (p
   unfolding IsVariableWritten Appends
   fragment_wrote v x old new n h w =
       subst (Of false old new) (sym n) (subst (At false old new v) (sym h)
-      (record { told = refl; groups = appends_groups _ old new w; written = λ _. (w.0, (λ g. w.1), w.2) }))
+      (record { reported = refl; groups = appends_groups _ old new w; written = λ _. (w.0, (λ g. w.1), w.2) }))
 
   pub missing_wrote : (v : Value) (kind : MetaVarKind) (marked : Span) (old new : Levels) → value_of env name ≡ Some v
       → follow p v ≡ Some (missing kind)

@@ -67,7 +67,7 @@ closed_groups u (g ∷ outer) n e = length-put outer _ ∙ same_suc (length oute
 pub wrote_trees : {P : Forest → Type 0} (f : Forest) (old new : Levels) → P f → new ≡ put f old
     → Wrote false false P old new
 wrote_trees f old new p e = record {
-  told = refl;
+  reported = refl;
   groups = groups_kept f old new e;
   written = λ _. appended _ f old new p e;
 }
@@ -75,7 +75,7 @@ wrote_trees f old new p e = record {
 -- a fault, and nothing is written
 pub wrote_fault : {P : Forest → Type 0} (b : Bool) (old : Levels) → b ≡ true → Wrote true b P old old
 wrote_fault b old e = record {
-  told = sym e;
+  reported = sym e;
   groups = refl;
   written = λ h. absurd (let k : true ≡ false = sym e ∙ h in cc);
 }
@@ -85,7 +85,7 @@ pub wrote_as : {P Q : Forest → Type 0} (a b c : Bool) (old new : Levels) → b
     → Wrote a b P old new → Wrote a c Q old new
 unfolding Appends
 wrote_as a b c old new e k w = record {
-  told = w.told ∙ e;
+  reported = w.reported ∙ e;
   groups = w.groups;
   written = λ h. let v = w.written (e ∙ h) in (v.0, k v.0 v.1, v.2);
 }
@@ -171,7 +171,7 @@ module _ (g : Grammar) (Marks : Span → Span → Type 0) (site : Span) (env : E
         → new ≡ closed u mid → Wrote f (faults env p body) (IsWritten g Marks site env p (ops.group d body)) old new
     unfolding Appends IsWritten AreWritten
     wrote_group d s u f body old opened mid new a b o w e = record {
-      told = w.told;
+      reported = w.reported;
       groups = ap length e ∙ closed_groups u mid (length old) (w.groups ∙ ap length o);
       written = λ h.
           let v = w.written h in (
@@ -186,13 +186,13 @@ module _ (g : Grammar) (Marks : Span → Span → Type 0) (site : Span) (env : E
 
     -- What a loop over ops did: the first fault so far, and that what is written next comes after what was written.
     pub record Sofar (first : Bool) (all rest : Ops) (start now : Levels) : Type 0 where
-      pub told : faults env p all ≡ (first || faults env p rest)
+      pub reported : faults env p all ≡ (first || faults env p rest)
       pub groups : length now ≡ length start
       pub written : first ≡ false → (last : Levels) → Appends (AreWritten g Marks site env p rest) now last
           → Appends (AreWritten g Marks site env p all) start last
 
     pub sofar_start : (all : Ops) (start : Levels) → Sofar false all all start start
-    sofar_start all start = record { told = refl; groups = refl; written = λ _ last w. w }
+    sofar_start all start = record { reported = refl; groups = refl; written = λ _ last w. w }
 
     wrote_more : (o : Op) (os : Ops) (old mid new : Levels) → Appends (IsWritten g Marks site env p o) old mid
         → Appends (AreWritten g Marks site env p os) mid new
@@ -204,12 +204,12 @@ module _ (g : Grammar) (Marks : Span → Span → Type 0) (site : Span) (env : E
         → Sofar first all (op o rest) start now
         → Wrote f (op_faults env p o) (IsWritten g Marks site env p o) now new → Sofar (first || f) all rest start new
     sofar_next first f all o rest start now new h w = record {
-      told = h.told ∙ (or_over first (op_faults env p o) (faults env p rest)
-          ∙ ap (λ b. (first || b) || faults env p rest) (sym w.told));
+      reported = h.reported ∙ (or_over first (op_faults env p o) (faults env p rest)
+          ∙ ap (λ b. (first || b) || faults env p rest) (sym w.reported));
       groups = w.groups ∙ h.groups;
       written = λ e last v.
           h.written (or_first first f e) last
-          (wrote_more o rest now new last (w.written (sym w.told ∙ or_second first f e)) v);
+          (wrote_more o rest now new last (w.written (sym w.reported ∙ or_second first f e)) v);
     }
 
     nothing_written : (old : Levels) → Appends (AreWritten g Marks site env p no_ops) old old
@@ -219,9 +219,9 @@ module _ (g : Grammar) (Marks : Span → Span → Type 0) (site : Span) (env : E
     pub sofar_end : (first : Bool) (all : Ops) (start now : Levels) → Sofar first all no_ops start now
         → Wrote first (faults env p all) (AreWritten g Marks site env p all) start now
     sofar_end first all start now h = record {
-      told = sym (h.told ∙ or_end first);
+      reported = sym (h.reported ∙ or_end first);
       groups = h.groups;
-      written = λ e. h.written (sym (or_end first) ∙ (sym h.told ∙ e)) now (nothing_written now);
+      written = λ e. h.written (sym (or_end first) ∙ (sym h.reported ∙ e)) now (nothing_written now);
     }
 
     pub sofar_step : (first f later : Bool) (all left : Ops) (o : Op) (rest : Ops) (start now new : Levels)
@@ -248,7 +248,7 @@ module _ (g : Grammar) (Marks : Span → Span → Type 0) (site : Span) (env : E
     -- What a loop over rounds did. A separator goes before the next where the last one didn't fault.
     pub record Rounded (separator : Option Separator) (body : Ops) (rounds done : ℕ) (first separated : Bool)
         (start now : Levels) : Type 0 where
-      pub told : first ≡ any_below (λ i. faults env (level i rounds p) body) done
+      pub reported : first ≡ any_below (λ i. faults env (level i rounds p) body) done
       pub groups : length now ≡ length start
       pub parted : first ≡ false → separated ≡ has_begun done
       pub written : first ≡ false → Appends (AreRoundsWritten g Marks site env p separator body rounds done) start now
@@ -257,7 +257,7 @@ module _ (g : Grammar) (Marks : Span → Span → Type 0) (site : Span) (env : E
         → Rounded separator body rounds 0 false false start start
     unfolding Appends AreRoundsWritten
     rounded_start separator body rounds start =
-        record { told = refl; groups = refl; parted = λ _. refl; written = λ _. (none, refl, put-none start) }
+        record { reported = refl; groups = refl; parted = λ _. refl; written = λ _. (none, refl, put-none start) }
 
     one_more : (separator : Option Separator) (body : Ops) (rounds done : ℕ) (start now mid new : Levels)
         → Appends (AreRoundsWritten g Marks site env p separator body rounds done) start now
@@ -281,14 +281,15 @@ module _ (g : Grammar) (Marks : Span → Span → Type 0) (site : Span) (env : E
         new
         → Rounded separator body rounds (done + 1) (first || f) (not f) start new
     rounded_next separator body rounds done first separated f start now mid new h e w = rw add-one (record {
-      told = ap (λ b. b || f) h.told ∙ ap (λ b. any_below (λ i. faults env (level i rounds p) body) done || b) w.told;
+      reported = ap (λ b. b || f) h.reported
+          ∙ ap (λ b. any_below (λ i. faults env (level i rounds p) body) done || b) w.reported;
       groups = w.groups ∙ (parted_groups separator separated now mid e ∙ h.groups);
       parted = λ k. ap not (or_second first f k);
       written = λ k.
           let before = or_first first f k in
           one_more separator body rounds done start now mid new (h.written before)
           (subst (λ b. IsParted separator b now mid) (h.parted before) e)
-          (w.written (sym w.told ∙ or_second first f k));
+          (w.written (sym w.reported ∙ or_second first f k));
     })
 
     pub rounded_step : (separator : Option Separator) (body : Ops) (rounds done : ℕ)
@@ -316,9 +317,9 @@ module _ (g : Grammar) (Marks : Span → Span → Type 0) (site : Span) (env : E
         (λ out. AreKeptRounds (separator_trees separator) (λ i n. Substitutes g Marks site env (level i n p) body) e
         out) start now) (sym k)
         (record {
-          told = h.told ∙ sym (ap (λ b. b || any_below (λ i. faults env (level i rounds p) body) rounds) x);
+          reported = h.reported ∙ sym (ap (λ b. b || any_below (λ i. faults env (level i rounds p) body) rounds) x);
           groups = h.groups;
-          written = λ e. h.written (h.told ∙ or_second (extent_faults kind (finite rounds)) _ e);
+          written = λ e. h.written (h.reported ∙ or_second (extent_faults kind (finite rounds)) _ e);
         })
 
     pub rounds_refused : (separator : Option Separator) (body : Ops) (kind : RepeatKind) (old : Levels)
@@ -368,7 +369,7 @@ module _ (g : Grammar) (Marks : Span → Span → Type 0) (site : Span) (env : E
         → Wrote f (op_faults env p (ops.expression (ops.ignore name span)))
         (IsWritten g Marks site env p (ops.expression (ops.ignore name span))) old old
     unfolding Appends IsWritten
-    wrote_ignored f name span old e = record { told = e; groups = refl; written = λ _. (none, refl, put-none old) }
+    wrote_ignored f name span old e = record { reported = e; groups = refl; written = λ _. (none, refl, put-none old) }
 
   -- ---- the whole
 

@@ -20,7 +20,7 @@ Appends P old new = (made : Forest) × P made × (new ≡ put made old)
 -- were
 -- open are open still.
 pub record Wrote (fault faulty : Bool) (P : Forest → Type 0) (old new : Levels) : Type 0 where
-  pub told : fault ≡ faulty
+  pub reported : fault ≡ faulty
   pub groups : length new ≡ length old
   pub written : faulty ≡ false → Appends P old new
 

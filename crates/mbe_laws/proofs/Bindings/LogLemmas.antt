@@ -2,23 +2,23 @@
 use Rattle.std.specs.Prelude.{◌≡◌, ◌<◌, ◌≤◌, ◌+◌, ℕ, zero, suc, max, List, [], ◌∷◌, ◌++◌, length, take, slice_get, Some, refl}
 use Rattle.std.proofs.Common.{arith}
 use Rattle.mbe_semantics.specs.declared.log.Part.{Part}
-use Rattle.mbe_semantics.specs.Bindings.Account.{Command, Commands, CommandRounds, no_commands, command, no_command_rounds, command_round, Entry, RoundEntry, Log, Order, Gives, GivesRounds, PartGives, PartGivesRounds, gives_nothing, gives_binding, gives_empty, gives_skip, gives_missing, gives_nested, gives_link, gives_no_rounds, gives_round, gives_linked_rounds, part_gives, part_gives_rounds, IsBelow, AreRoundsBelow, StandsForLower, RoundStandsForLower, IsOrdered}
+use Rattle.mbe_semantics.specs.Bindings.Account.{Command, Commands, CommandRounds, no_commands, command, no_command_rounds, command_round, Entry, RoundEntry, Log, Order, Gives, GivesRounds, PartGives, PartGivesRounds, gives_nothing, gives_binding, gives_empty, gives_skip, gives_missing, gives_nested, gives_link, gives_no_rounds, gives_round, gives_linked_rounds, part_gives, part_gives_rounds, IsBelow, AreRoundsBelow, NamesLower, RoundNamesLower, IsOrdered}
 use Rattle.mbe_semantics.specs.Laws.Laws.{EntriesHaveAccounts, EntriesFollow}
 
 module _ (log : Log) (order : Order) where
   -- each entry has a number below n, and stands for lower ones
   abbrev AreReady : ℕ → List Entry → Type 0
   AreReady n [] = Unit {0}
-  AreReady n (e ∷ es) = ((k : ℕ) × (k < n) × StandsForLower log order k e) × AreReady n es
+  AreReady n (e ∷ es) = ((k : ℕ) × (k < n) × NamesLower log order k e) × AreReady n es
 
   -- the same, of rounds
   abbrev AreRoundsReady : ℕ → List RoundEntry → Type 0
   AreRoundsReady n [] = Unit {0}
-  AreRoundsReady n (e ∷ es) = ((k : ℕ) × (k < n) × RoundStandsForLower log order k e) × AreRoundsReady n es
+  AreRoundsReady n (e ∷ es) = ((k : ℕ) × (k < n) × RoundNamesLower log order k e) × AreRoundsReady n es
 
   -- the first m entries, whose numbers are those of places from i on
   ready_list : (n m : ℕ) (number : ℕ → ℕ) (es : List Entry) → ((j : ℕ) → j < m → number j < n)
-      → ((j : ℕ) (e : Entry) → slice_get es j ≡ Some e → StandsForLower log order (number j) e) → AreReady n (take m es)
+      → ((j : ℕ) (e : Entry) → slice_get es j ≡ Some e → NamesLower log order (number j) e) → AreReady n (take m es)
   ready_list n zero number [] b h = tt
   ready_list n zero number (e ∷ es) b h = tt
   ready_list n (suc m) number [] b h = tt
@@ -28,7 +28,7 @@ module _ (log : Log) (order : Order) where
   )
 
   ready_rounds : (n m : ℕ) (number : ℕ → ℕ) (es : List RoundEntry) → ((j : ℕ) → j < m → number j < n)
-      → ((j : ℕ) (e : RoundEntry) → slice_get es j ≡ Some e → RoundStandsForLower log order (number j) e)
+      → ((j : ℕ) (e : RoundEntry) → slice_get es j ≡ Some e → RoundNamesLower log order (number j) e)
       → AreRoundsReady n (take m es)
   ready_rounds n zero number [] b h = tt
   ready_rounds n zero number (e ∷ es) b h = tt

@@ -249,22 +249,22 @@ module _ (log : Log) where
     AreRoundsBelow n part = IsIn log.rounds part × ((j : ℕ) → j < part.first → order.rounds part.list j < n)
 
     -- what an entry stands for was written before it
-    abbrev pub StandsForLower : ℕ → Entry → Type 0
-    StandsForLower n (Entry.nests finished current) = AreRoundsBelow n finished × IsBelow n current
-    StandsForLower n (Entry.links part) = IsBelow n part
-    StandsForLower n _ = Unit {0}
+    abbrev pub NamesLower : ℕ → Entry → Type 0
+    NamesLower n (Entry.nests finished current) = AreRoundsBelow n finished × IsBelow n current
+    NamesLower n (Entry.links part) = IsBelow n part
+    NamesLower n _ = Unit {0}
 
     -- the same, of rounds
-    abbrev pub RoundStandsForLower : ℕ → RoundEntry → Type 0
-    RoundStandsForLower n (RoundEntry.finishes part) = IsBelow n part
-    RoundStandsForLower n (RoundEntry.links part) = AreRoundsBelow n part
+    abbrev pub RoundNamesLower : ℕ → RoundEntry → Type 0
+    RoundNamesLower n (RoundEntry.finishes part) = IsBelow n part
+    RoundNamesLower n (RoundEntry.links part) = AreRoundsBelow n part
 
     -- an entry stands for entries that were written before it
     pub record IsOrdered : Type 0 where
       pub commands : (i j : ℕ) (es : List Entry) (e : Entry) →
-          slice_get log.commands i ≡ Some es → slice_get es j ≡ Some e → StandsForLower (order.commands i j) e
+          slice_get log.commands i ≡ Some es → slice_get es j ≡ Some e → NamesLower (order.commands i j) e
       pub rounds : (i j : ℕ) (es : List RoundEntry) (e : RoundEntry) →
-          slice_get log.rounds i ≡ Some es → slice_get es j ≡ Some e → RoundStandsForLower (order.rounds i j) e
+          slice_get log.rounds i ≡ Some es → slice_get es j ≡ Some e → RoundNamesLower (order.rounds i j) e
 
 -- one list more at the end of the lists, of at most three entries, and nothing else is changed
 abbrev pub HasOneListMore : {E : Type 0} → List (List E) → List (List E) → Type 0

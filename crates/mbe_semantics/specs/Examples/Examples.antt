@@ -488,7 +488,7 @@ pub record FrontExample : Type 0 where
       front g entries.Expr front_argument
       ≡ cut (group (delimiter_of Parenthesis (at 1 0 1) (at 1 4 5))
       (text_at 1 1 (codes "a") (text_at 1 3 (codes "b") none)) none) (text_at 1 6 (codes "c") none)
-  pub told : (g : Grammar) (around : DelimSpan)
+  pub reported : (g : Grammar) (around : DelimSpan)
       → g.parse entries.Expr (flat front_argument) ≡ record { count = 2; fault = false } →
       front_error g entries.Expr front_argument around
       ≡ Some (record { span = at 1 0 1; kind = binding_error (codes "expected Expr") })

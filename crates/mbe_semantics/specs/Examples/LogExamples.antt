@@ -57,7 +57,7 @@ pub record LogExamples : Type 0 where
   pub replaced : run (command (one_command (binds_x (codes "a"))) (Command.misses (codes "x") kinds.Ty)) []
       ≡ (codes "x", missing kinds.Ty) ∷ []
   -- a push comes after the pushes before it
-  pub behind : environment_of_account (pushed (Command.skips (codes "y")) (pushed (binds_x (codes "a")) no_account))
+  pub following : environment_of_account (pushed (Command.skips (codes "y")) (pushed (binds_x (codes "a")) no_account))
       ≡ (codes "x", fragment (word_of (codes "a"))) ∷ (codes "y", empty) ∷ []
   -- a child's rounds are pushed as they are, and no later push to the child is seen
   pub nested : environment_of_account (pushed_nested no_account

@@ -41,9 +41,9 @@ is_ident (leaf (ident i) none) = true
 is_ident f = false
 
 -- `<` comes next
-abbrev pub stands_before_less : Forest → Bool
-stands_before_less (leaf (punct p) rest) = p.char == 60
-stands_before_less f = false
+abbrev pub is_before_less : Forest → Bool
+is_before_less (leaf (punct p) rest) = p.char == 60
+is_before_less f = false
 
 -- one group around the trees
 abbrev pub in_parentheses : Span → Forest → Forest

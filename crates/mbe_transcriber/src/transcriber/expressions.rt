@@ -99,7 +99,7 @@ pub(crate) fn find_ignored<'t, A: Allocator>(
     id: Span,
     path: &[Level],
 ) -> Option<WritingFault<'t, A>>
-    ensures told { is_some result
+    ensures reported { is_some result
         ≡ not (is_simple (followed (bound_by bindings.now) path.now name.now)) }
     ensures fault { option_map error_of_fault result
         ≡ option_map (at id) (needed_fault (bound_by bindings.now) path.now name.now) }

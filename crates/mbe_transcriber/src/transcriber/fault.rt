@@ -63,11 +63,11 @@ fn kind_of<A: Allocator + Copy>(
         FaultKind::Empty(name) => named(alloc, "expected simple binding, found empty", name),
         FaultKind::EmptyInside(name) => named(alloc, "could not find empty", name),
         FaultKind::NoValue(name) => named(alloc, "could not find nested", name),
-        FaultKind::NoText => told(
+        FaultKind::NoText => reported(
             alloc,
             "metavariables of `${concat(..)}` must be of type `ident`, `literal` or `tt`",
         ),
-        FaultKind::NoIdentifier => told(
+        FaultKind::NoIdentifier => reported(
             alloc,
             "`${concat(..)}` is not generating a valid identifier",
         ),
@@ -76,7 +76,7 @@ fn kind_of<A: Allocator + Copy>(
     }
 }
 
-fn told<A: Allocator + Copy>(alloc: A, text: &str) -> Result<ExpandErrorKind<A>, AllocError>
+fn reported<A: Allocator + Copy>(alloc: A, text: &str) -> Result<ExpandErrorKind<A>, AllocError>
     ensures { IfOk result (λ k. kind_seen k ≡ binding_error text.now) }
 {
     Ok(ExpandErrorKind::BindingError(String::from_str(alloc, text)?))

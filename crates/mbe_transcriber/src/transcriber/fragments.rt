@@ -131,7 +131,7 @@ fn write_path<A: Allocator>(
     let mut iter = tree.iter();
     'trees: while let Some(tree) = iter.next_as_view() {
         builder.extend_with_tt(tree)?;
-        if is_ident(tree) && stands_before_less(&iter) {
+        if is_ident(tree) && is_before_less(&iter) {
             write_double_colon(call_site, builder)?;
         }
     }
@@ -146,8 +146,8 @@ fn is_ident<A: Allocator>(tree: TokenTreesView<'_, A>) -> bool
     matches!(iter.next(), Some(TtElement::Leaf(Leaf::Ident(_)))) && iter.is_empty()
 }
 
-fn stands_before_less<A: Allocator>(iter: &TtIter<'_, A>) -> bool
-    ensures { result ≡ spec.stands_before_less iter.now }
+fn is_before_less<A: Allocator>(iter: &TtIter<'_, A>) -> bool
+    ensures { result ≡ spec.is_before_less iter.now }
 {
     matches!(iter.peek(), Some(TtElement::Leaf(Leaf::Punct(punct))) if punct.char == '<')
 }

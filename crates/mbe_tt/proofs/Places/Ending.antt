@@ -15,7 +15,7 @@ use Rattle.mbe_tt.specs.declared.tt.Subtree.{Subtree}
 use Rattle.mbe_tt.proofs.Buffers.Spelled.{length-spell}
 use Rattle.mbe_tt.proofs.Places.Last.{further, from_zero, past_group, last_of, last_invisible-at, spell_last, group_end}
 
--- an entry other than the closing that stands between the lists is in one of them
+-- an entry other than the closing that is between the lists is in one of them
 abbrev Inside : (xs ys a b : List Entry) (x : Entry) → Type 0
 Inside xs ys a b x = (c : List Entry) × (xs ≡ a ++ x ∷ c) × (b ≡ c ++ Close ∷ ys)
 

@@ -27,10 +27,10 @@ rest_at-inside : (inside rest : Forest) (b : Bool) (p : ℕ) → b ≡ true
 rest_at-inside inside rest true p e = refl
 rest_at-inside inside rest false p e = no_true e
 
-rest_at-behind : (inside rest : Forest) (b : Bool) (p : ℕ) → b ≡ false
+rest_at-following : (inside rest : Forest) (b : Bool) (p : ℕ) → b ≡ false
     → (if b then rest_at inside p else rest_at rest (p - flat_len inside - 1)) ≡ rest_at rest (p - flat_len inside - 1)
-rest_at-behind inside rest true p e = no_true (sym e)
-rest_at-behind inside rest false p e = refl
+rest_at-following inside rest true p e = no_true (sym e)
+rest_at-following inside rest false p e = refl
 
 -- what is left n tokens after some trees is what is left n tokens into the others
 pub rest_at-append : (t h : Forest) (n q : ℕ) → q ≡ flat_len t + n → rest_at (append t h) q ≡ rest_at h n
@@ -39,7 +39,7 @@ rest_at-append (leaf l t) h n zero e = absurd (omega (arith, e))
 rest_at-append (leaf l t) h n (suc q) e = rest_at-append t h n q (omega (arith, e))
 rest_at-append (group d inside t) h n zero e = absurd (omega (arith, e))
 rest_at-append (group d inside t) h n (suc q) e =
-    rest_at-behind inside (append t h) (nat_le q (flat_len inside)) q (lt-leb q (flat_len inside) (omega (arith, e)))
+    rest_at-following inside (append t h) (nat_le q (flat_len inside)) q (lt-leb q (flat_len inside) (omega (arith, e)))
     ∙ rest_at-append t h n (q - flat_len inside - 1) (omega (arith, e))
 
 pub rest_at-group : (d : Delimiter) (inside rest : Forest) (n q : ℕ) → n ≤ flat_len inside → q ≡ 1 + n

@@ -242,10 +242,10 @@ leaf_tree r left more l e h = first_leaf r.0 r.1 l more (sym e ∙ h)
 
 pub record FirstGroup (r : Rests) (s : Subtree) (n : ℕ) (more : List Entry) : Type 0 where
   pub inside : Forest
-  pub behind : List Entry
+  pub following : List Entry
   pub is : first r.0 ≡ Some (Group_tree s.delimiter inside)
   pub len : n ≡ length (spell inside)
-  pub entries : more ≡ spell inside ++ behind
+  pub entries : more ≡ spell inside ++ following
 
 first_group_at : (f : Forest) (a : List Forest) (s : Subtree) (n : ℕ) (more : List Entry)
     → spell_rests (f, a) ≡ Open s n ∷ more → FirstGroup (f, a) s n more
@@ -258,7 +258,7 @@ first_group_at (group d inside rest) a s n more e =
     let m : (spell inside ++ Close ∷ spell rest) ++ closings a ≡ more = cc in
     record {
       inside = inside;
-      behind = (Close ∷ spell rest) ++ closings a;
+      following = (Close ∷ spell rest) ++ closings a;
       is = ap (λ (t : Subtree). Some (Group_tree t.delimiter inside)) h;
       len = sym k ∙ sym (length-spell inside);
       entries = sym m ∙ append_assoc (spell inside) (Close ∷ spell rest) (closings a);

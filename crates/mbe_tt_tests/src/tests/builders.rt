@@ -68,7 +68,7 @@ fn is_open(
 }
 
 #[test]
-fn the_kind_of_the_innermost_open_group_is_told(rt: HostRuntime) {
+fn the_kind_of_the_innermost_open_group_is_reported(rt: HostRuntime) {
     for (row, (parts, kind)) in OPEN.iter().enumerate() {
         assert!(rt;
             is_open(rt.alloc(), parts, *kind).unwrap_or(false),

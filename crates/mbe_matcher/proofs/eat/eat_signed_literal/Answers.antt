@@ -21,4 +21,5 @@ returns-in-Ok g c =
     let here = literal_in_front c.expect_char-sign.result f _ _ c.expect_char-sign.ensures.value
     c.expect_char-sign.ensures.rest (sym c.in-Ok.ensures.value) in
     let whole = passed_to n f _ _ c.savepoint-savepoint.ensures left in
-    taken c.from_savepoint.result _ (cut_trees n f) _ here (c.from_savepoint.ensures _ whole) (left_following n f _ left)
+    taken c.from_savepoint.result _ (cut_trees n f) _ here (c.from_savepoint.ensures _ whole)
+    (left_following n f _ left)

@@ -30,7 +30,7 @@ pub returns-in-Err : goal.returns-in-Err
 returns-in-Err g c =
     let f = c.args.src.now in
     let no_punct = c.in-Err.ensures.value in
-    let behind : c.expect_glued_punct.new.self ≡ f = no_puncts f _ no_punct c.expect_glued_punct.ensures.rest in
+    let following : c.expect_glued_punct.new.self ≡ f = no_puncts f _ no_punct c.expect_glued_punct.ensures.rest in
     one_tree c.next_as_view.result f _ no_punct
-    (c.next_as_view.ensures.value ∙ ap (λ (h : Forest). option_map (λ t. tree t none) (first h)) behind)
-    (c.next_as_view.ensures.rest ∙ ap rest_of behind)
+    (c.next_as_view.ensures.value ∙ ap (λ (h : Forest). option_map (λ t. tree t none) (first h)) following)
+    (c.next_as_view.ensures.rest ∙ ap rest_of following)

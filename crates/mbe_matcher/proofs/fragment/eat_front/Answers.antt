@@ -1,6 +1,6 @@
 use Rattle.std.proofs.Common.{◌∙◌}
 use Rattle.mbe_tt.specs.Views.View.{trees}
-use Rattle.mbe_matcher.proofs.WholeFronts.{counted_within, stands_at, good_counted, bad_counted, after_all_groups, crossed_front, left_back}
+use Rattle.mbe_matcher.proofs.WholeFronts.{counted_within, placed_at, good_counted, bad_counted, after_all_groups, crossed_front, left_back}
 use Rattle.mbe_matcher.proofs.fragment.eat_front.Goals as goal
 use Rattle.mbe_matcher.proofs.fragment.eat_front.Goals.{then-not-front, else-not-front}
 
@@ -19,7 +19,7 @@ leave_groups-requires g c =
 
 pub flat_advance_to-requires-clause-root : goal.flat_advance_to-requires-clause-root
 flat_advance_to-requires-clause-root g c =
-    let at = stands_at (g.G.FragmentGrammar.grammar c.args.grammar.now) c.args.entry_point c.args.tt_iter.now
+    let at = placed_at (g.G.FragmentGrammar.grammar c.args.grammar.now) c.args.entry_point c.args.tt_iter.now
     c.in_ok-front.front (trees c.remaining-remaining.result)
     c.remaining-remaining.ensures c.in_ok-front.ensures c.cursor_at-cursor.result c.cursor_at-cursor.ensures
     c.leave_groups.new.cursor c.leave_groups.ensures in
@@ -27,7 +27,7 @@ flat_advance_to-requires-clause-root g c =
 
 pub crossed-requires : goal.crossed-requires
 crossed-requires g c =
-    let at = stands_at (g.G.FragmentGrammar.grammar c.args.grammar.now) c.args.entry_point c.args.tt_iter.now
+    let at = placed_at (g.G.FragmentGrammar.grammar c.args.grammar.now) c.args.entry_point c.args.tt_iter.now
     c.in_ok-front.front (trees c.remaining-remaining.result)
     c.remaining-remaining.ensures c.in_ok-front.ensures c.cursor_at-cursor.result c.cursor_at-cursor.ensures
     c.leave_groups.new.cursor c.leave_groups.ensures in
@@ -35,7 +35,7 @@ crossed-requires g c =
 
 pub returns-clause-whole : goal.returns-clause-whole
 returns-clause-whole g c =
-    let at = stands_at (g.G.FragmentGrammar.grammar c.args.grammar.now) c.args.entry_point c.args.tt_iter.now
+    let at = placed_at (g.G.FragmentGrammar.grammar c.args.grammar.now) c.args.entry_point c.args.tt_iter.now
     c.in_ok-front.front (trees c.remaining-remaining.result)
     c.remaining-remaining.ensures c.in_ok-front.ensures c.cursor_at-cursor.result c.cursor_at-cursor.ensures
     c.leave_groups.new.cursor c.leave_groups.ensures in
@@ -60,7 +60,7 @@ returns-clause-good g c =
 
 pub returns-clause-rest : goal.returns-clause-rest
 returns-clause-rest g c =
-    let at = stands_at (g.G.FragmentGrammar.grammar c.args.grammar.now) c.args.entry_point c.args.tt_iter.now
+    let at = placed_at (g.G.FragmentGrammar.grammar c.args.grammar.now) c.args.entry_point c.args.tt_iter.now
     c.in_ok-front.front (trees c.remaining-remaining.result)
     c.remaining-remaining.ensures c.in_ok-front.ensures c.cursor_at-cursor.result c.cursor_at-cursor.ensures
     c.leave_groups.new.cursor c.leave_groups.ensures in

@@ -1,6 +1,6 @@
 use Rattle.std.proofs.Common.{◌∙◌, arith, rules}
 use Rattle.mbe_tt.specs.Buffers.Place.{viewed, IsAtRoot}
-use Rattle.mbe_matcher.proofs.WholeFronts.{goes_on, stands_after}
+use Rattle.mbe_matcher.proofs.WholeFronts.{goes_on, placed_after}
 use Rattle.mbe_matcher.proofs.fragment.leave_groups.Goals as goal
 
 pub groups-smaller : goal.groups-smaller
@@ -23,4 +23,4 @@ pub returns : goal.returns
 returns g c =
     let i = c.groups.invariant in
     let r : IsAtRoot c.groups.cursor = search rules in
-    stands_after c.groups.cursor c.args.cursor.now (viewed c.args.cursor.now) i.same i.within r i.cut
+    placed_after c.groups.cursor c.args.cursor.now (viewed c.args.cursor.now) i.same i.within r i.cut

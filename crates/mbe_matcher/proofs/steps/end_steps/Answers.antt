@@ -31,36 +31,36 @@ returns-in_default g c = λ h o s.
     })
 
 pub bounds-outers-open : goal.bounds-outers-open
-bounds-outers-open g c = has_within c.args.log.now c.args.outers.now c.args.position c.in-Some.open c.requires.stands
+bounds-outers-open g c = has_within c.args.log.now c.args.outers.now c.args.position c.in-Some.open c.requires.placed
     c.in-Some.is
 
 pub offset_bounds-outers-open : goal.offset_bounds-outers-open
 offset_bounds-outers-open g c =
-    let k = has_within c.args.log.now c.args.outers.now c.args.position c.in-Some.open c.requires.stands c.in-Some.is in
+    let k = has_within c.args.log.now c.args.outers.now c.args.position c.in-Some.open c.requires.placed c.in-Some.is in
     omega (arith, k)
 
 pub round_steps-requires-clause-account : goal.round_steps-requires-clause-account
-round_steps-requires-clause-account g c = has_account c.args.log.now c.args.outers.now c.args.position c.requires.stands
+round_steps-requires-clause-account g c = has_account c.args.log.now c.args.outers.now c.args.position c.requires.placed
 
 pub round_steps-requires-clause-outside : goal.round_steps-requires-clause-outside
 round_steps-requires-clause-outside g c =
-    let k = has_within c.args.log.now c.args.outers.now c.args.position c.in-Some.open c.requires.stands c.in-Some.is in
+    let k = has_within c.args.log.now c.args.outers.now c.args.position c.in-Some.open c.requires.placed c.in-Some.is in
     let at : slice_get c.args.outers.now c.in-Some.open ≡ Some c.index-outers-open.result =
     slice_get-get_or c.args.outers.now c.in-Some.open c.index-outers-open.result k
     ∙ ap Some (sym c.index-outers-open.is) in
     outside_has_entries c.args.log.now c.args.outers.now c.args.position c.in-Some.open c.index-outers-open.result
-    c.in-Some-rounds.rounds c.requires.stands c.in-Some.is at c.in-Some-rounds.is
+    c.in-Some-rounds.rounds c.requires.placed c.in-Some.is at c.in-Some-rounds.is
 
 pub round_steps-requires-clause-number : goal.round_steps-requires-clause-number
-round_steps-requires-clause-number g c = has_number c.args.log.now c.args.outers.now c.args.position c.requires.stands
+round_steps-requires-clause-number g c = has_number c.args.log.now c.args.outers.now c.args.position c.requires.placed
 
 pub overflow_sub-after : goal.overflow_sub-after
-overflow_sub-after g c = let some = has_number c.args.log.now c.args.outers.now c.args.position c.requires.stands in
+overflow_sub-after g c = let some = has_number c.args.log.now c.args.outers.now c.args.position c.requires.placed in
     omega (arith, some)
 
 pub returns-in-Some-rounds : goal.returns-in-Some-rounds
 returns-in-Some-rounds g c = λ h o s.
-    let k = has_within c.args.log.now c.args.outers.now c.args.position c.in-Some.open c.requires.stands c.in-Some.is in
+    let k = has_within c.args.log.now c.args.outers.now c.args.position c.in-Some.open c.requires.placed c.in-Some.is in
     let at : slice_get c.args.outers.now c.in-Some.open ≡ Some c.index-outers-open.result =
     slice_get-get_or c.args.outers.now c.in-Some.open c.index-outers-open.result k
     ∙ ap Some (sym c.index-outers-open.is) in
@@ -69,7 +69,7 @@ returns-in-Some-rounds g c = λ h o s.
 pub returns-then-not-closes : goal.returns-then-not-closes
 returns-then-not-closes g c = λ h o s.
     let src = c.args.source.now in
-    let k = has_within c.args.log.now c.args.outers.now c.args.position c.in-Some.open c.requires.stands c.in-Some.is in
+    let k = has_within c.args.log.now c.args.outers.now c.args.position c.in-Some.open c.requires.placed c.in-Some.is in
     let at : slice_get c.args.outers.now c.in-Some.open ≡ Some c.index-outers-open.result =
     slice_get-get_or c.args.outers.now c.in-Some.open c.index-outers-open.result k
     ∙ ap Some (sym c.index-outers-open.is) in
@@ -93,7 +93,7 @@ returns g c = λ h o s.
     let b = c.args.position in
     let u = c.index-outers-open.result in
     let p : Position g.row.A.Denot = record { dot = u.rest; number = b.number - 1; up = u.up; handle = b.handle } in
-    let k = has_within c.args.log.now c.args.outers.now b c.in-Some.open c.requires.stands c.in-Some.is in
+    let k = has_within c.args.log.now c.args.outers.now b c.in-Some.open c.requires.placed c.in-Some.is in
     let at : slice_get c.args.outers.now c.in-Some.open ≡ Some c.index-outers-open.result =
     slice_get-get_or c.args.outers.now c.in-Some.open c.index-outers-open.result k
     ∙ ap Some (sym c.index-outers-open.is) in

@@ -9,7 +9,7 @@ use Rattle.mbe_matcher.proofs.steps.op_steps.Goals as goal
 
 pub variable_steps-requires-clause-entries : goal.variable_steps-requires-clause-entries
 variable_steps-requires-clause-entries g c =
-    has_entries c.args.log.now c.args.outers.now.items c.args.position c.requires.stands
+    has_entries c.args.log.now c.args.outers.now.items c.args.position c.requires.placed
 
 pub variable_steps-requires-clause-dot : goal.variable_steps-requires-clause-dot
 variable_steps-requires-clause-dot g c = (
@@ -20,7 +20,7 @@ variable_steps-requires-clause-dot g c = (
 
 pub variable_steps-requires-clause-number : goal.variable_steps-requires-clause-number
 variable_steps-requires-clause-number g c =
-    has_number c.args.log.now c.args.outers.now.items c.args.position c.requires.stands
+    has_number c.args.log.now c.args.outers.now.items c.args.position c.requires.placed
 
 pub group_steps-requires-clause-dot : goal.group_steps-requires-clause-dot
 group_steps-requires-clause-dot g c =
@@ -30,11 +30,11 @@ group_steps-requires-clause-dot g c =
 
 pub group_steps-requires-clause-number : goal.group_steps-requires-clause-number
 group_steps-requires-clause-number g c =
-    has_number c.args.log.now c.args.outers.now.items c.args.position c.requires.stands
+    has_number c.args.log.now c.args.outers.now.items c.args.position c.requires.placed
 
 pub repetition_steps-requires-clause-entries : goal.repetition_steps-requires-clause-entries
 repetition_steps-requires-clause-entries g c =
-    has_entries c.args.log.now c.args.outers.now.items c.args.position c.requires.stands
+    has_entries c.args.log.now c.args.outers.now.items c.args.position c.requires.placed
 
 pub repetition_steps-requires-clause-dot : goal.repetition_steps-requires-clause-dot
 repetition_steps-requires-clause-dot g c =
@@ -49,7 +49,7 @@ pub repetition_steps-requires-clause-number : goal.repetition_steps-requires-cla
 repetition_steps-requires-clause-number g c =
     has_more c.args.log.now c.args.outers.now.items c.args.position (ops_of c.deref-in-Repeat.result.now)
     (ops_of c.args.rest.now)
-    (option_map (λ t. separator_seen t.now) c.as_ref-separator.result) c.in-Repeat.kind c.requires.stands
+    (option_map (λ t. separator_seen t.now) c.as_ref-separator.result) c.in-Repeat.kind c.requires.placed
     (c.requires.dot ∙ ap (λ x. op x (ops_of c.args.rest.now))
     (ap op_of c.in-Repeat.is ∙ view-repeat _ _ _
     ∙ ap (λ x. repetition (ops_of c.in-Repeat.tokens.0.items) x c.in-Repeat.kind)
@@ -87,7 +87,7 @@ plain_steps-requires-clause-plain g c =
 
 pub plain_steps-requires-clause-number : goal.plain_steps-requires-clause-number
 plain_steps-requires-clause-number g c =
-    has_number c.args.log.now c.args.outers.now.items c.args.position c.requires.stands
+    has_number c.args.log.now c.args.outers.now.items c.args.position c.requires.placed
 
 pub plain_steps-requires-in-Literal-clause-plain : goal.plain_steps-requires-in-Literal-clause-plain
 plain_steps-requires-in-Literal-clause-plain g c =
@@ -99,4 +99,4 @@ plain_steps-requires-in-Literal-clause-plain g c =
 
 pub plain_steps-requires-in-Literal-clause-number : goal.plain_steps-requires-in-Literal-clause-number
 plain_steps-requires-in-Literal-clause-number g c =
-    has_number c.args.log.now c.args.outers.now.items c.args.position c.requires.stands
+    has_number c.args.log.now c.args.outers.now.items c.args.position c.requires.placed

@@ -13,7 +13,7 @@ returns-in-Some-rounds g c = λ log o s.
     let outers = c.args.outers.now in
     let p = c.args.position.now in
     let r = c.in-Some-rounds.rounds in
-    let within = has_within c.requires.stands.0 outers p c.in-Some.open c.requires.stands.1 c.in-Some.is in
+    let within = has_within c.requires.placed.0 outers p c.in-Some.open c.requires.placed.1 c.in-Some.is in
     let at : slice_get outers c.in-Some.open ≡ Some c.index-outers-open.result =
     slice_get-get_or outers c.in-Some.open c.index-outers-open.result within ∙ ap Some (sym c.index-outers-open.is) in
     as_outline log outers (λ x. option_map wanted_seen c.round_next.result ≡ outline_wants x) p no_ops o s

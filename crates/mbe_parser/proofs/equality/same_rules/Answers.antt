@@ -16,7 +16,7 @@ rules_one_by_one = record {
   none = tt;
   both = λ x y xs ys r rs. (r.0, r.1, r.2, rs);
   here = λ x y xs ys h. (h.0, h.1, h.2);
-  behind = λ x y xs ys h. h.3;
+  following = λ x y xs ys h. h.3;
   longer = λ x xs h. h;
   shorter = λ y ys h. h;
 }

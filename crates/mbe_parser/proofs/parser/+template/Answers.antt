@@ -148,7 +148,7 @@ op_at_punct-returns-then-punct-eq36-clause-fault g t c =
 pub op_at_punct-returns-clause-op : goal.op_at_punct-returns-clause-op
 op_at_punct-returns-clause-op g t c =
     let f = c.args.src.now in
-    let at = first_tree f _ _ (sym c.requires.peeked) (sym (lemmas.behind f)) in
+    let at = first_tree f _ _ (sym c.requires.peeked) (sym (lemmas.following f)) in
     let no_dollar : c.args.punct.char ≡ 36 → ⊥ = search rules in
     rw c.in_ok-new.ensures (lemmas.puncts_op _ g.row.A.Denot (mode_of c.args.mode) f c.expect_glued_punct.new.self
     c.args.punct c.in-Ok.puncts.items
@@ -157,7 +157,7 @@ op_at_punct-returns-clause-op g t c =
 pub op_at_punct-returns-clause-shorter : goal.op_at_punct-returns-clause-shorter
 op_at_punct-returns-clause-shorter g t c =
     let f = c.args.src.now in
-    let at = first_tree f _ _ (sym c.requires.peeked) (sym (lemmas.behind f)) in
+    let at = first_tree f _ _ (sym c.requires.peeked) (sym (lemmas.following f)) in
     puncts_longer f _ c.expect_glued_punct.new.self c.args.punct at c.in-Ok.ensures.rest
 
 pub after_dollar-returns-in-Leaf-clause-op : goal.after_dollar-returns-in-Leaf-clause-op

@@ -38,7 +38,7 @@ tokens-preserved g c =
       lexed = λ sample. lexed_more _ _ c.tokens.scanner.file c.tokens.scanner.text.now c.tokens.scanner.total _ _ _ _ _
           c.in-Some.token (c.tokens.invariant.lexed sample)
           c.tokens.invariant.file c.tokens.invariant.text c.tokens.invariant.total c.in-Some.is
-          token.span token.behind token.some token.up_to (token.spelled (c.tokens.invariant.dialect ∙ sample))
+          token.span token.following token.some token.up_to (token.spelled (c.tokens.invariant.dialect ∙ sample))
           c.in_ok-add.ensures.ok;
       reached = reached_more _ _ _ _ _ _ _ c.tokens.scanner.dialect c.tokens.scanner.file c.tokens.scanner.total
           c.in-Some.token

@@ -63,7 +63,7 @@ expand_op-returns-in-Var-clause-wrote g t c =
 pub expand_op-returns-in-Ignore-clause-wrote : goal.expand_op-returns-in-Ignore-clause-wrote
 expand_op-returns-in-Ignore-clause-wrote g t c =
     rw (c.in-Ignore.is, view-ignore) (lemmas.wrote_ignored _ _ _ _ _ (is_some c.find_ignored.result) c.in-Ignore.name
-    c.in-Ignore.id c.args.builder.now c.find_ignored.ensures.told)
+    c.in-Ignore.id c.args.builder.now c.find_ignored.ensures.reported)
 
 pub expand_op-returns-in-Index-clause-wrote : goal.expand_op-returns-in-Index-clause-wrote
 expand_op-returns-in-Index-clause-wrote g t c =
@@ -183,7 +183,7 @@ expand_repeat-loop-index-preserved g t c =
           c.loop-index.separated
           (is_some c.in_ok-fault.fault) c.is_none-separated.result c.args.builder.now c.loop-index.builder
           c.write_between.new.builder
-          c.expand_ops.new.builder c.deref.result.now inner c.in_ok-fault.ensures.wrote.told
+          c.expand_ops.new.builder c.deref.result.now inner c.in_ok-fault.ensures.wrote.reported
           (swapped (is_some c.in_ok-fault.fault) c.is_none-separated.result c.is_none-separated.ensures)
           c.loop-index.invariant.left
           c.in_ok-write_between.ensures.parted c.in_ok-fault.ensures.left;

@@ -15,12 +15,12 @@ use Rattle.mbe_transcriber.proofs.transcriber.transcribe.Goals.{in-Some+in_ok-er
 
 pub returns-clause-fault : goal.returns-clause-fault
 returns-clause-fault g c =
-    let told : is_some c.in_ok-fault.field-0
+    let reported : is_some c.in_ok-fault.field-0
     ≡ faults (bound_by c.args.bindings.now) [] (template_of c.args.template.now) =
-    rw (← c.deref.ensures.value) c.in_ok-fault.ensures.wrote.told in
+    rw (← c.deref.ensures.value) c.in_ok-fault.ensures.wrote.reported in
     let same : is_some c.match-branch-3.err ≡ is_some c.in_ok-fault.field-0 =
     elim c.match-branch-3.branch [ in-Some+in_ok-error-in-Some w ↦ search rules | in-None w ↦ search rules ] in
-    same ∙ told
+    same ∙ reported
 
 pub returns-clause-substitution : goal.returns-clause-substitution
 returns-clause-substitution g c =
@@ -33,12 +33,12 @@ returns-clause-substitution g c =
 
 pub returns-clause-first : goal.returns-clause-first
 returns-clause-first g c =
-    let told : option_map error_of_fault c.in_ok-fault.field-0
+    let reported : option_map error_of_fault c.in_ok-fault.field-0
     ≡ first_fault c.args.call_site (bound_by c.args.bindings.now) [] (template_of c.args.template.now) =
     rw (← c.deref.ensures.value) c.in_ok-fault.ensures.first in
     let same : errors_of c.match-branch-3.err ≡ option_map error_of_fault c.in_ok-fault.field-0 =
     elim c.match-branch-3.branch [ in-Some+in_ok-error-in-Some w ↦ search rules | in-None w ↦ search rules ] in
-    same ∙ told
+    same ∙ reported
 
 pub returns-clause-left : goal.returns-clause-left
 returns-clause-left g c =

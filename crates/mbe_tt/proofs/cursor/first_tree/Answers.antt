@@ -19,7 +19,7 @@ split_at-requires g c =
       length-shown c.in_ok-entry.rest.now,
       grp.len,
       ap length grp.entries,
-      length-append (spell grp.inside) grp.behind,
+      length-append (spell grp.inside) grp.following,
     )
 
 pub invariant_of-result : goal.invariant_of-result
@@ -29,7 +29,7 @@ invariant_of-result g c =
     ∙ ap (λ x. entry_of x ∷ entries_of c.in_ok-entry.rest.now) c.in-Open.is in
     let grp = first_group c.requires.0 _ _ _ _ c.requires.1 here in
     spelled grp.inside _ ((shown_take _ _ _ c.split_at.ensures.front)
-    ∙ take_front _ (spell grp.inside) grp.behind _ grp.len grp.entries)
+    ∙ take_front _ (spell grp.inside) grp.following _ grp.len grp.entries)
 
 pub returns-in-Leaf : goal.returns-in-Leaf
 returns-in-Leaf g c = λ r e.
@@ -46,5 +46,5 @@ returns-in-Open g c = λ r e.
     let grp = first_group r _ _ _ _ e here in
     ap (λ (f : Forest). Some (Group_tree c.in-Open.subtree.delimiter f))
     (read_back grp.inside _ ((shown_take _ _ _ c.split_at.ensures.front)
-    ∙ take_front _ (spell grp.inside) grp.behind _ grp.len grp.entries))
+    ∙ take_front _ (spell grp.inside) grp.following _ grp.len grp.entries))
     ∙ sym grp.is

@@ -7,4 +7,4 @@ pub returns-then-self-flat_len : goal.returns-then-self-flat_len
 returns-then-self-flat_len g c =
     let s = c.args.self.now in
     closes_here (trees s.whole) s.here s.place c.is_empty.result
-    (here_is (trees s.whole) s.place s.here _ s.stands s.within) (omega arith) c.is_empty.ensures
+    (here_is (trees s.whole) s.place s.here _ s.placed s.within) (omega arith) c.is_empty.ensures

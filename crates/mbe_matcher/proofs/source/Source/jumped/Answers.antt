@@ -7,9 +7,9 @@ use Rattle.mbe_matcher.proofs.source.Source.jumped.Goals as goal
 pub invariant_of-result : goal.invariant_of-result
 invariant_of-result g c =
     let s = c.args.self in
-    let here = here_is (trees s.whole) s.place s.here _ s.stands s.within in
+    let here = here_is (trees s.whole) s.place s.here _ s.placed s.within in
     record {
-      stands = after_trees (trees s.whole) s.place c.args.width s.here c.args.beyond _ s.stands
+      placed = after_trees (trees s.whole) s.place c.args.width s.here c.args.beyond _ s.placed
           (subst (λ f. IsAfter f c.args.width c.args.beyond) (sym here) c.requires.beyond);
       within = c.requires.fits;
     }

@@ -13,7 +13,7 @@ returns-then-eq g c =
     let left = c.expect_ident.new.self in
     let d = c.in_ok-subtree.subtree.now.delimiter in
     let word : Some (ident_of c.in_ok-func.func.now) ≡ front_ident f = search rules in
-    let behind : left ≡ rest_of f = search rules in
+    let following : left ≡ rest_of f = search rules in
     let arguments : Some (d, c.in_ok-subtree.args) ≡ front_group left = search rules in
     let kind : d.kind ≡ Parenthesis = same_true the_type (search rules) _ _ (sym c.if-eq.ensures) in
-    call_in_front f left c.in_ok-subtree.args (ident_of c.in_ok-func.func.now) d word behind arguments kind
+    call_in_front f left c.in_ok-subtree.args (ident_of c.in_ok-func.func.now) d word following arguments kind

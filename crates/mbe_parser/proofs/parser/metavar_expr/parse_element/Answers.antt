@@ -16,14 +16,14 @@ returns-in-Some-Leaf-Literal-clause-element g c =
 pub returns-then-is_var-clause-element : goal.returns-then-is_var-clause-element
 returns-then-is_var-clause-element g c =
     let f = c.args.src.now in
-    let behind = c.expect_dollar.new.self in
+    let following = c.expect_dollar.new.self in
     let left = c.expect_ident_or_underscore.new.self in
     let i = ident_of c.in_ok-ident.ident in
     let dollar : front_char f ≡ Some 36 = search rules in
-    let passed : behind ≡ rest_of f = search rules in
-    let name : Some i ≡ any_ident behind = search rules in
-    let rest : left ≡ rest_of behind = search rules in
-    variable_in_front f behind left i dollar passed name rest
+    let passed : following ≡ rest_of f = search rules in
+    let name : Some i ≡ any_ident following = search rules in
+    let rest : left ≡ rest_of following = search rules in
+    variable_in_front f following left i dollar passed name rest
 
 pub returns-else-is_var-clause-element : goal.returns-else-is_var-clause-element
 returns-else-is_var-clause-element g c =

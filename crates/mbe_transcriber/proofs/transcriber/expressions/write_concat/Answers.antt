@@ -5,7 +5,7 @@ use Rattle.mbe_log.specs.BindingViews.{bound_by}
 use Rattle.mbe_ops.specs.Views.{elements_seen}
 use Rattle.mbe_transcriber.specs.Writing.{Appends, IsConcatWritten}
 use Rattle.mbe_transcriber.proofs.LeftLemmas.{name_is, name_replaced}
-use Rattle.mbe_transcriber.proofs.JoinLemmas.{joined_wrote, dummy_wrote, or_told}
+use Rattle.mbe_transcriber.proofs.JoinLemmas.{joined_wrote, dummy_wrote, or_reported}
 use Rattle.mbe_transcriber.proofs.transcriber.expressions.write_concat.Goals as goal
 
 pub returns-then-is_identifier-clause-wrote : goal.returns-then-is_identifier-clause-wrote
@@ -29,7 +29,7 @@ returns-clause-wrote g c =
     (string_bytes c.in_ok-text.text) (is_some c.in_ok-text.fault) (is_some c.or.result) _
     c.args.builder.now c.write_name-2.new.builder c.in_ok-text.ensures.all
     (ap (λ x. are_identifier_chars (chars x)) (sym first) ∙ (sym c.is_identifier.ensures ∙ c.if-is_identifier.false))
-    (ap is_some c.or.ensures ∙ or_told c.in_ok-text.fault _) c.in_ok-write_name-2.ensures
+    (ap is_some c.or.ensures ∙ or_reported c.in_ok-text.fault _) c.in_ok-write_name-2.ensures
 
 pub returns-then-is_identifier-clause-left : goal.returns-then-is_identifier-clause-left
 returns-then-is_identifier-clause-left g c =

@@ -9,6 +9,6 @@ returns g c =
     let one = macro_of c.args.self.now in
     let two = macro_of c.args.other.now in
     let by_key = macros_by_key one two in
-    let told = c.same_macro.ensures in
+    let reported = c.same_macro.ensures in
     same_by key_code (macro_key one) (macro_key two) c.same_macro.result
-    (λ h. by_key.1 (told.0 h), λ h. told.1 (by_key.0 h))
+    (λ h. by_key.1 (reported.0 h), λ h. reported.1 (by_key.0 h))
