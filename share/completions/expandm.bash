@@ -4,12 +4,16 @@ _expandm() {
     case $before in
     --edition) mapfile -t COMPREPLY < <(compgen -W '2015 2018 2021 2024' -- "$word"); return ;;
     --write) mapfile -t COMPREPLY < <(compgen -d -- "$word"); return ;;
-    --depth | --fuel | --call) COMPREPLY=(); return ;;
+    --target)
+        mapfile -t COMPREPLY < <(compgen -W 'x86_64-unknown-linux-gnu x86_64-pc-windows-msvc x86_64-apple-darwin \
+            aarch64-apple-darwin wasm32-unknown-unknown' -- "$word")
+        return ;;
+    --depth | --fuel | --call | --cfg | --features) COMPREPLY=(); return ;;
     esac
     case $word in
     -*)
         mapfile -t COMPREPLY < <(compgen -W \
-            '--once --depth --fuel --call --write --edition --trace --origin --explain --json --help --version' -- "$word")
+            '--once --depth --fuel --call --write --edition --cfg --features --target --test --trace --origin --explain --json --help --version' -- "$word")
         ;;
     *) mapfile -t COMPREPLY < <(compgen -f -X '!*.rs' -- "$word"; compgen -d -- "$word") ;;
     esac

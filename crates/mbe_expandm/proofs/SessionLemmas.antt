@@ -10,6 +10,8 @@ use Rattle.mbe_tt.specs.Trees.Tree.{Forest}
 use Rattle.mbe_expanding.specs.Replacing.{PartsOfFile}
 use Rattle.mbe_expanding.specs.Calls.{Setting, State}
 use Rattle.mbe_expandm.specs.declared.places.Position.{Position}
+use Rattle.mbe_expandm.specs.declared.reading.Reading.{Reading}
+use Rattle.mbe_expandm.specs.Conditions.{Conditions}
 use Rattle.mbe_expandm.specs.Expansions as spec
 use Rattle.mbe_expandm.specs.Expansions.{FileBecomes, FilesBecome, IfLast, IsCallExpanded, IsThere, TextsThere, WritesOne}
 use Rattle.mbe_expandm.specs.Runs.{IsBegun, IsPrinted}
@@ -35,14 +37,14 @@ one_more_text f g found more new items item i h is e before one =
     ap (map f) e ∙ map-append f found (new ∷ []) ∙ ap (λ xs. xs ++ f new ∷ []) before
     ∙ ap (λ x. map g (take i items) ++ x ∷ []) one ∙ sym (map_taken g items item i h is)
 
-pub one_more_source : {X : Type 0} (see : X → Source) (edition : Edition) (found more : List X) (new : X) (number : ℕ)
-    → AreSources edition (map see found) → number ≡ length found → more ≡ found ++ new ∷ []
-    → IsSource edition number (see new)
-    → AreSources edition (map see more)
-one_more_source see edition found more new number h n e one =
-    subst (AreSources edition) (sym (ap (map see) e ∙ map-append see found (new ∷ [])))
+pub one_more_source : {X : Type 0} (see : X → Source) (r : Reading) (found more : List X) (new : X) (number : ℕ)
+    → AreSources r (map see found) → number ≡ length found → more ≡ found ++ new ∷ []
+    → IsSource r number (see new)
+    → AreSources r (map see more)
+one_more_source see r found more new number h n e one =
+    subst (AreSources r) (sym (ap (map see) e ∙ map-append see found (new ∷ [])))
     (sources.one_more (map see found) (see new) h
-    (subst (λ m. IsSource edition m (see new)) (n ∙ sym (length-map found see)) one))
+    (subst (λ m. IsSource r m (see new)) (n ∙ sym (length-map found see)) one))
 
 pub one_more_becomes : {X Y : Type 0} (see : X → Source) (text : Y → List ℕ) (e d : Setting) (levels : ℕ)
     (call : Option Position) (s t u : State)
@@ -103,9 +105,9 @@ pub nothing_becomes : {Y : Type 0} (text : Y → List ℕ) (e : Setting) (levels
 nothing_becomes text e levels call s found is =
     subst (λ xs. FilesBecome e levels call s [] (map text xs) s) (sym is) spec.no_file
 
-pub no_source : {X : Type 0} (see : X → Source) (edition : Edition) (found : List X) → found ≡ []
-    → AreSources edition (map see found)
-no_source see edition found is = subst (λ xs. AreSources edition (map see xs)) (sym is) sources.no_file
+pub no_source : {X : Type 0} (see : X → Source) (r : Reading) (found : List X) → found ≡ []
+    → AreSources r (map see found)
+no_source see r found is = subst (λ xs. AreSources r (map see xs)) (sym is) sources.no_file
 
 -- ---- the last file
 
@@ -148,15 +150,15 @@ no_last see (x ∷ xs) before last get is =
     some_is_none : {X : Type 0} {x : X} → Some x ≡ None → ⊥
     some_is_none e = grind (arith, common_steps)
 
-pub printed : {T E : Type 0} (edition : Edition) (depth : Option ℕ) (fuel : ℕ) (call : Option Position)
-    (texts : List (List ℕ)) (files : List Source)
+pub printed : {T E : Type 0} (edition : Edition) (c : Conditions) (depth : Option ℕ) (fuel : ℕ)
+    (call : Option Position) (texts : List (List ℕ)) (files : List Source)
     (e : Setting) (s t : State) (before after : Option (List ℕ)) (r : Result T E)
-    → IsBegun edition depth fuel texts files e s → 0 < length texts
+    → IsBegun edition c depth fuel texts files e s → 0 < length texts
     → IfLast files (λ file. WritesOne before after r (λ out. FileBecomes e 1000 call file s out t))
-    → WritesOne before after r (IsPrinted edition depth fuel call texts)
-printed edition depth fuel call texts [] e s t before after r begun some last =
+    → WritesOne before after r (IsPrinted edition c depth fuel call texts)
+printed edition c depth fuel call texts [] e s t before after r begun some last =
     absurd (omega (arith, some, ap length begun.texts_are))
-printed edition depth fuel call texts (file ∷ files) e s t before after r begun some last =
+printed edition c depth fuel call texts (file ∷ files) e s t before after r begun some last =
     let split = last_of file files in
     elim (last split.0 split.1 split.2) [
       | inl none ↦ inl none
@@ -168,7 +170,7 @@ printed edition depth fuel call texts (file ∷ files) e s t before after r begu
           setting = e;
           start = s;
           end = t;
-          begins = subst (λ fs. IsBegun edition depth fuel texts fs e s) split.2 begun;
+          begins = subst (λ fs. IsBegun edition c depth fuel texts fs e s) split.2 begun;
           becomes = one.1;
         },
         one.2,

@@ -1,6 +1,8 @@
 pub mod Places
 pub mod Returns
 pub mod Sources
+pub mod Conditions
+pub mod ShownOptions
 pub mod Expansions
 pub mod Runs
 pub mod Words

@@ -7,7 +7,9 @@ use Rattle.mbe_rules.specs.declared.table.RuleTable.{RuleTable}
 use Rattle.mbe_rust.specs.Keywords.{rows, rust_keywords}
 use Rattle.mbe_rust.specs.Starts.{rust_starts}
 use Rattle.mbe_expanding.specs.Calls.{Setting, State}
+use Rattle.mbe_cfg.specs.declared.settings.Settings.{Settings}
 use Rattle.mbe_expandm.specs.declared.places.Position.{Position}
+use Rattle.mbe_expandm.specs.Conditions.{Conditions, IsUnder}
 use Rattle.mbe_expandm.specs.Expansions.{DefinesFiles, FileBecomes, FilesBecome}
 use Rattle.mbe_expandm.specs.Sources.{Source, AreSources}
 
@@ -24,12 +26,15 @@ pub record IsRustTable (edition : Edition) (table : RuleTable) : Type 0 where
 -- Where a run begins: the files are read, their definitions are known, in the files' order, and no call is expanded
 -- yet. The limit of
 -- depth is that of the words, or that of the files, or 128.
-pub record IsBegun (edition : Edition) (depth : Option ℕ) (fuel : ℕ) (texts : List (List ℕ)) (files : List Source)
+pub record IsBegun (edition : Edition) (c : Conditions) (depth : Option ℕ) (fuel : ℕ) (texts : List (List ℕ))
+    (files : List Source)
     (e : Setting) (s : State) : Type 0 where
   pub texts_are : map (λ f. f.text) files ≡ texts
-  pub are_read : AreSources edition files
   pub table : RuleTable
   pub is_rust : IsRustTable edition table
+  pub conditions : Settings
+  pub is_under : IsUnder c conditions
+  pub are_read : AreSources (record { edition = edition; conditions = conditions; grammar = table }) files
   pub grammar : e.grammar ≡ grammar_of table
   pub edition_is : e.edition ≡ edition
   pub limit : Option ℕ
@@ -38,22 +43,23 @@ pub record IsBegun (edition : Edition) (depth : Option ℕ) (fuel : ℕ) (texts 
   pub fuel_is : s.fuel ≡ fuel
 
 -- what is printed of files: what the last of them becomes
-pub record IsPrinted (edition : Edition) (depth : Option ℕ) (fuel : ℕ) (call : Option Position) (texts : List (List ℕ))
+pub record IsPrinted (edition : Edition) (c : Conditions) (depth : Option ℕ) (fuel : ℕ) (call : Option Position)
+    (texts : List (List ℕ))
     (out : List ℕ) : Type 0 where
   pub before : List Source
   pub last : Source
   pub setting : Setting
   pub start : State
   pub end : State
-  pub begins : IsBegun edition depth fuel texts (before ++ last ∷ []) setting start
+  pub begins : IsBegun edition c depth fuel texts (before ++ last ∷ []) setting start
   pub becomes : FileBecomes setting 1000 call last start out end
 
 -- what is written of them: what each becomes
-pub record AreWritten (edition : Edition) (depth : Option ℕ) (fuel : ℕ) (call : Option Position)
+pub record AreWritten (edition : Edition) (c : Conditions) (depth : Option ℕ) (fuel : ℕ) (call : Option Position)
     (texts outs : List (List ℕ)) : Type 0 where
   pub files : List Source
   pub setting : Setting
   pub start : State
   pub end : State
-  pub begins : IsBegun edition depth fuel texts files setting start
+  pub begins : IsBegun edition c depth fuel texts files setting start
   pub become : FilesBecome setting 1000 call start files outs end

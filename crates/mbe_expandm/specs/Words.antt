@@ -2,6 +2,8 @@
 use Rattle.std.specs.Prelude.{ℕ, List, Option, Some, None, codes, if◌then◌else◌, bytes_eq}
 use Rattle.mbe_tt.specs.declared.span.Edition.{Edition}
 use Rattle.mbe_tt.specs.declared.span.Edition.TheVariants.{Edition2015, Edition2018, Edition2021, Edition2024}
+use Rattle.mbe_cfg.specs.declared.targets.Target.{Target}
+use Rattle.mbe_cfg.specs.declared.targets.Target.TheVariants as t
 
 -- the edition that a word names
 abbrev pub edition_of : List ℕ → Option Edition
@@ -10,4 +12,14 @@ edition_of word =
     else if bytes_eq word (codes "2018") then Some Edition2018
     else if bytes_eq word (codes "2021") then Some Edition2021
     else if bytes_eq word (codes "2024") then Some Edition2024
+    else None
+
+-- the target of that triple
+abbrev pub target_of : List ℕ → Option Target
+target_of word =
+    if bytes_eq word (codes "x86_64-unknown-linux-gnu") then Some t.X86_64Linux
+    else if bytes_eq word (codes "x86_64-pc-windows-msvc") then Some t.X86_64Windows
+    else if bytes_eq word (codes "x86_64-apple-darwin") then Some t.X86_64Mac
+    else if bytes_eq word (codes "aarch64-apple-darwin") then Some t.Aarch64Mac
+    else if bytes_eq word (codes "wasm32-unknown-unknown") then Some t.Wasm32
     else None

@@ -1,9 +1,14 @@
 // The words after the program's name.
 ghost use Rattle.std.specs.Prelude.{◌≡◌, unwrap_or};
 ghost use Rattle.std.specs.Option.{option_or};
-ghost use Rattle.mbe_expandm.specs.Words.{edition_of};
+ghost use Rattle.mbe_expandm.specs.Conditions.{IsUnder};
+ghost use Rattle.mbe_expandm.specs.ShownOptions.{conditions_of};
+ghost use Rattle.mbe_expandm.specs.Words.{edition_of, target_of};
 
 use crate::places::Position;
+use mbe_cfg::settings as cfg;
+use mbe_cfg::settings::Cfg;
+use mbe_cfg::targets::Target;
 use mbe_expanding::settings::{Explain, Settings};
 use mbe_tt::span::Edition;
 use std::alloc::{AllocError, Allocator, Global};
@@ -25,6 +30,11 @@ options:
   --call LINE[:COL] print only what the call there becomes
   --write DIR       write each file into DIR
   --edition YEAR    2015, 2018, 2021 (unless another is given) or 2024
+  --cfg NAME, --cfg NAME=\"VALUE\"
+                    set an option that `cfg` asks for
+  --features A,B    set `feature = \"A\"` and `feature = \"B\"`
+  --target TRIPLE   whose options are set (x86_64-unknown-linux-gnu)
+  --test            set `test`
   --trace           report each step
   --origin          report where each token of each expansion is from
   --explain [LINE[:COL]]
@@ -38,6 +48,14 @@ options:
 #[derive(Drop)]
 pub struct Options<'w, A: Allocator = Global> {
     pub edition: Edition,
+    /// Whose options `cfg` asks for.
+    pub target: Target,
+    /// The options beside the target's.
+    pub given: Vec<Cfg<'w>, A>,
+    /// The crate's features.
+    pub features: Vec<&'w str, A>,
+    /// Whether tests are compiled.
+    pub is_test: bool,
     /// How deep calls are expanded in others, if the words say it.
     pub depth: Option<u32>,
     /// How many calls are expanded in all.
@@ -77,6 +95,9 @@ enum Valued {
     Call,
     Write,
     Edition,
+    Cfg,
+    Features,
+    Target,
 }
 
 fn valued_option(word: &str) -> Option<Valued> {
@@ -86,6 +107,9 @@ fn valued_option(word: &str) -> Option<Valued> {
         "--call" => Some(Valued::Call),
         "--write" => Some(Valued::Write),
         "--edition" => Some(Valued::Edition),
+        "--cfg" => Some(Valued::Cfg),
+        "--features" => Some(Valued::Features),
+        "--target" => Some(Valued::Target),
         _ => None,
     }
 }
@@ -102,6 +126,36 @@ fn edition(word: &str) -> Option<Edition>
     }
 }
 
+fn target(word: &str) -> Option<Target>
+    ensures { result ≡ target_of word.now }
+{
+    match word {
+        "x86_64-unknown-linux-gnu" => Some(Target::X86_64Linux),
+        "x86_64-pc-windows-msvc" => Some(Target::X86_64Windows),
+        "x86_64-apple-darwin" => Some(Target::X86_64Mac),
+        "aarch64-apple-darwin" => Some(Target::Aarch64Mac),
+        "wasm32-unknown-unknown" => Some(Target::Wasm32),
+        _ => None,
+    }
+}
+
+// The option that a word says: `name` or `name="value"`.
+fn option_of(word: &str) -> Option<Cfg<'_>> {
+    let (name, value) = match word.split_once('=') {
+        Some((name, value)) => (name.trim(), Some(text_in(value.trim())?)),
+        None => (word.trim(), None),
+    };
+    if name.is_empty() {
+        return None;
+    }
+    Some(Cfg { name, value })
+}
+
+// What quotes hold.
+fn text_in(word: &str) -> Option<&str> {
+    word.strip_prefix('"')?.strip_suffix('"')
+}
+
 // The position that a word says right after `--explain`.
 fn explained_at(last: &str, word: &str) -> Option<Position> {
     match last {
@@ -114,6 +168,10 @@ impl<'w, A: Allocator + Copy> Options<'w, A> {
     fn new(alloc: A) -> Options<'w, A> {
         Options {
             edition: Edition::Edition2021,
+            target: Target::X86_64Linux,
+            given: Vec::new(alloc),
+            features: Vec::new(alloc),
+            is_test: false,
             depth: None,
             fuel: 100_000,
             is_traced: false,
@@ -145,14 +203,54 @@ impl<'w, A: Allocator + Copy> Options<'w, A> {
         }
     }
 
+    /// What `cfg` is evaluated under.
+    pub fn conditions(&self) -> cfg::Settings<'_>
+        ensures { IsUnder (conditions_of self.now) result }
+    {
+        cfg::Settings {
+            target: self.target.options(),
+            given: self.given.as_slice(),
+            features: self.features.as_slice(),
+            test: self.is_test,
+        }
+    }
+
+    // Adds the features that a word names, with commas between them.
+    fn add_features(&mut self, word: &'w str) -> Result<(), AllocError> {
+        for feature in word.split(',') {
+            self.features.push(feature)?;
+        }
+        Ok(())
+    }
+
     // Takes the value of an option; `None` if it isn't right.
-    fn take(&mut self, option: Valued, word: &'w str) -> Option<()> {
+    fn take(&mut self, option: Valued, word: &'w str) -> Result<Option<()>, AllocError> {
+        match option {
+            Valued::Cfg => match option_of(word) {
+                Some(option) => self.given.push(option)?,
+                None => return Ok(None),
+            },
+            Valued::Features => self.add_features(word)?,
+            Valued::Depth
+            | Valued::Fuel
+            | Valued::Call
+            | Valued::Write
+            | Valued::Edition
+            | Valued::Target => return Ok(self.set(option, word)),
+        }
+        Ok(Some(()))
+    }
+
+    // Sets what an option is of which the last one counts; `None` if its value isn't right.
+    fn set(&mut self, option: Valued, word: &'w str) -> Option<()> {
         match option {
             Valued::Depth => self.depth = Some(word.parse::<u32>().ok()?),
             Valued::Fuel => self.fuel = word.parse::<u32>().ok()?,
             Valued::Call => self.call = Some(Position::read(word)?),
             Valued::Write => self.write = Some(word),
             Valued::Edition => self.edition = edition(word)?,
+            Valued::Target => self.target = target(word)?,
+            Valued::Cfg | Valued::Features => return None,
         }
         Some(())
     }
@@ -165,6 +263,7 @@ impl<'w, A: Allocator + Copy> Options<'w, A> {
             "--origin" => self.is_origin_noted = true,
             "--explain" => self.explain = Some(None),
             "--json" => self.is_json = true,
+            "--test" => self.is_test = true,
             _ => return None,
         }
         Some(())
@@ -182,7 +281,7 @@ pub fn read_words<'w, A: Allocator + Copy>(
     for word in words {
         let word = word.as_str();
         if let Some((option, _)) = wanted.take() {
-            if options.take(option, word).is_none() {
+            if options.take(option, word)?.is_none() {
                 return Ok(Asked::Wrong(word));
             }
         } else if word == "--help" {

@@ -4,11 +4,16 @@ ghost use Rattle.std.specs.String.{string_bytes};
 ghost use Rattle.mbe_expandm.specs.Returns.{plain, returns};
 ghost use Rattle.mbe_expandm.specs.Shown.{returns_of};
 ghost use Rattle.mbe_expandm.specs.Sources.{IsNoRust, IsTreeOf};
+ghost use Rattle.mbe_rules.specs.Lawful.{grammar_of};
+ghost use Rattle.mbe_stripping.specs.Stripping.{tree_without};
 ghost use Rattle.mbe_text.specs.Division.{trees_of};
 ghost use Rattle.mbe_text.specs.declared.dialect.Dialect.TheVariants.{Rust};
 
 use crate::lines::Lines;
+use crate::reading::Reading;
+use mbe_cfg::fault::Fault;
 use mbe_expanding::notes::{Level, Note};
+use mbe_stripping::stripping::strip;
 use mbe_text::dialect::Dialect;
 use mbe_text::lexer::{LexError, lex_as_in};
 use mbe_text::scanner::file_span;
@@ -17,7 +22,8 @@ use mbe_tt::span::Edition;
 use mbe_tt::tt::TopSubtree;
 use std::alloc::{AllocError, Allocator, Global};
 
-/// A file: its name, its text, the text's lines, and the trees of these, if they have any.
+/// A file: its name, its text, the text's lines, and the trees of these, if they have any, without what a `cfg` that doesn't
+/// hold is on.
 #[derive(Drop)]
 pub struct SourceFile<'f, A: Allocator = Global> {
     pub name: &'f str,
@@ -62,19 +68,53 @@ fn lexed(
     }
 }
 
-// The trees of a text; or none where it isn't Rust, and a note says where and why.
+// What of a tree is compiled. A note says of each attribute with a fault what is wrong.
+fn compiled(
+    alloc: Global,
+    notes: &mut Vec<Note>,
+    reading: &Reading<'_>,
+    tree: &TopSubtree,
+) -> Result<TopSubtree, AllocError>
+    ensures { IfOk result (λ t. t ≡ tree_without reading.now.conditions
+        (grammar_of reading.now.grammar) tree.now) }
+{
+    let mut faults = Vec::new(alloc);
+    let stays = strip(
+        alloc,
+        &reading.conditions,
+        &reading.grammar,
+        &mut faults,
+        tree,
+    )?;
+    note_faults(alloc, notes, faults.as_slice())?;
+    Ok(stays)
+}
+
+// Notes what is wrong in attributes.
+fn note_faults(alloc: Global, notes: &mut Vec<Note>, faults: &[Fault]) -> Result<(), AllocError> {
+    for fault in faults {
+        notes.push(Note {
+            level: Level::Error,
+            span: fault.at,
+            message: String::from_str(alloc, fault.wrong.message())?,
+        })?;
+    }
+    Ok(())
+}
+
+// The trees of a text, as far as they are compiled; or none where it isn't Rust, and a note says where and why.
 fn trees_in(
     alloc: Global,
     symbols: &mut SymbolTable<Global>,
     notes: &mut Vec<Note>,
-    edition: Edition,
+    reading: &Reading<'_>,
     text: &str,
     file: u32,
 ) -> Result<Option<TopSubtree>, AllocError>
-    ensures { IfOk result (IsTreeOf edition file text.now) }
+    ensures { IfOk result (IsTreeOf reading.now file text.now) }
 {
-    match lexed(alloc, symbols, edition, text, file)? {
-        Ok(tree) => Ok(Some(tree)),
+    match lexed(alloc, symbols, reading.edition, text, file)? {
+        Ok(tree) => Ok(Some(compiled(alloc, notes, reading, &tree)?)),
         Err(note) => {
             notes.push(note)?;
             Ok(None)
@@ -87,16 +127,16 @@ pub fn source_file<'f>(
     alloc: Global,
     symbols: &mut SymbolTable<Global>,
     notes: &mut Vec<Note>,
-    edition: Edition,
+    reading: &Reading<'_>,
     name: &'f str,
     text: &'f str,
     file: u32,
 ) -> Result<SourceFile<'f>, AllocError>
     ensures text { IfOk result (λ f. f.text.now ≡ text.now) }
-    ensures trees { IfOk result (λ f. IsTreeOf edition file (plain text.now) f.tree) }
+    ensures trees { IfOk result (λ f. IsTreeOf reading.now file (plain text.now) f.tree) }
 {
     let lines = Lines::of(alloc, text)?;
-    let tree = trees_in(alloc, symbols, notes, edition, lines.text.as_str(), file)?;
+    let tree = trees_in(alloc, symbols, notes, reading, lines.text.as_str(), file)?;
     Ok(SourceFile {
         name,
         text,

@@ -9,5 +9,6 @@ pub mod limits;
 pub mod lines;
 pub mod messages;
 pub mod places;
+pub mod reading;
 pub mod saying;
 pub mod sessions;

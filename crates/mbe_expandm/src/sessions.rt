@@ -6,6 +6,7 @@ ghost use Rattle.mbe_expanding.specs.Shown.{setting_of, state_of};
 ghost use Rattle.mbe_expandm.specs.Expansions.{WritesOne};
 ghost use Rattle.mbe_expandm.specs.Runs.{AreWritten, IsBegun, IsPrinted};
 ghost use Rattle.mbe_expandm.specs.ShownFiles.{source_of, sources_of, text_of};
+ghost use Rattle.mbe_expandm.specs.ShownOptions.{conditions_of};
 ghost use Rattle.mbe_expandm.specs.Sources.{AreSources};
 ghost use Rattle.mbe_expandm.specs.Statuses.{is_error, status_of};
 
@@ -13,12 +14,12 @@ use crate::arguments::Options;
 use crate::expansions::{all_expanded, define_files, write_last};
 use crate::files::{SourceFile, source_file};
 use crate::limits::recursion_limit;
+use crate::reading::Reading;
 use crate::saying::explained;
 use mbe_expanding::expander::Expander;
 use mbe_expanding::notes::{Level, Note};
 use mbe_rust::fragments::rust_rules;
 use mbe_text::symbols::SymbolTable;
-use mbe_tt::span::Edition;
 use std::alloc::{AllocError, Global};
 use std::io;
 use std::io::Write;
@@ -50,12 +51,12 @@ pub struct Session<'f> {
 // The files with their trees. A note says of each that isn't Rust where it isn't, and why.
 fn sources<'f, 'w>(
     alloc: Global,
-    edition: Edition,
+    reading: &Reading<'_>,
     texts: &'f [Named<'w>],
     notes: &mut Vec<Note>,
 ) -> Result<Vec<SourceFile<'f>>, AllocError>
     ensures texts { IfOk result (λ v. map (λ f. f.text.now) v.items ≡ map text_of texts.now) }
-    ensures read { IfOk result (λ v. AreSources edition (map source_of v.items)) }
+    ensures read { IfOk result (λ v. AreSources reading.now (map source_of v.items)) }
 {
     let mut symbols = SymbolTable::new(alloc);
     let mut files = Vec::new(alloc);
@@ -64,7 +65,7 @@ fn sources<'f, 'w>(
             return Err(AllocError);
         };
         let (name, text) = (named.name, named.text.as_str());
-        let file = source_file(alloc, &mut symbols, notes, edition, name, text, at)?;
+        let file = source_file(alloc, &mut symbols, notes, reading, name, text, at)?;
         files.push(file)?;
     }
     Ok(files)
@@ -96,12 +97,18 @@ impl<'f> Session<'f> {
         options: &Options<'_>,
         texts: &'f [Named<'w>],
     ) -> Result<Session<'f>, AllocError>
-        ensures { IfOk result (λ s. IsBegun options.now.edition options.now.depth options.now.fuel
+        ensures { IfOk result (λ s. IsBegun options.now.edition
+            (conditions_of options.now) options.now.depth options.now.fuel
             (map text_of texts.now) (sources_of s) (setting_of s.expander) (state_of s.expander)) }
     {
         let mut notes = Vec::new(alloc);
-        let files = sources(alloc, options.edition, texts, &mut notes)?;
         let grammar = rust_rules(options.edition, &[]);
+        let reading = Reading {
+            edition: options.edition,
+            conditions: options.conditions(),
+            grammar,
+        };
+        let files = sources(alloc, &reading, texts, &mut notes)?;
         let explain = explained(options.explain, files.as_slice());
         let settings = options.settings(limit_of(&files), explain);
         let mut expander = Expander::new(alloc, grammar, settings);
@@ -137,8 +144,8 @@ pub fn print<'f, 'w, W: Write>(
     ensures nothing { OnErr result (W.contents out.new ≡ W.contents out.old) }
     ensures printed { IfOk result (λ r. 0 < length texts.now
         → WritesOne (W.contents out.old) (W.contents out.new) r.1
-        (IsPrinted options.now.edition options.now.depth options.now.fuel options.now.call
-        (map text_of texts.now))) }
+        (IsPrinted options.now.edition (conditions_of options.now) options.now.depth
+        options.now.fuel options.now.call (map text_of texts.now))) }
 {
     let mut session = Session::begin(alloc, options, texts)?;
     let of = &mut session;
@@ -152,8 +159,8 @@ pub fn write<'f, 'w>(
     options: &Options<'_>,
     texts: &'f [Named<'w>],
 ) -> Result<(Session<'f>, Vec<String>), AllocError>
-    ensures { IfOk result (λ r. AreWritten options.now.edition options.now.depth
-        options.now.fuel options.now.call (map text_of texts.now) (map string_bytes r.1.items)) }
+    ensures { IfOk result (λ r. AreWritten options.now.edition (conditions_of options.now)
+        options.now.depth options.now.fuel options.now.call (map text_of texts.now) (map string_bytes r.1.items)) }
 {
     let mut session = Session::begin(alloc, options, texts)?;
     let of = &mut session;

@@ -1,5 +1,6 @@
 // What is reported of calls beside errors: what rules say of them, steps, and where tokens are from. Where each rule stops, what it
 // wants there, and where each token is from was worked out by hand.
+use crate::conditions::plainly;
 use mbe_expanding::expander::Expander;
 use mbe_expanding::settings::Settings;
 use mbe_expandm::expansions::{define_files, expanded};
@@ -26,7 +27,15 @@ fn reported(alloc: Global, text: &str, form: Form, asked: Asked) -> Result<Strin
     let edition = Edition::Edition2021;
     let mut symbols = SymbolTable::new(alloc);
     let mut notes = Vec::new(alloc);
-    let file = source_file(alloc, &mut symbols, &mut notes, edition, "a.rs", text, 0)?;
+    let file = source_file(
+        alloc,
+        &mut symbols,
+        &mut notes,
+        &plainly(edition),
+        "a.rs",
+        text,
+        0,
+    )?;
     let files: [SourceFile<'_>; 1] = [file];
     let position = match asked {
         Asked::Explained(position) => Some(position),

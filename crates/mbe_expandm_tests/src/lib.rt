@@ -6,6 +6,8 @@ mod beside;
 #[cfg(test)]
 mod captures;
 #[cfg(test)]
+mod conditions;
+#[cfg(test)]
 mod explained;
 #[cfg(test)]
 mod places;

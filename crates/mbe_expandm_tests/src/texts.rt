@@ -1,4 +1,5 @@
 // What a file's text becomes.
+use crate::conditions::plainly;
 use mbe_expanding::expander::Expander;
 use mbe_expanding::notes::Note;
 use mbe_expanding::settings::{Explain, Settings};
@@ -16,7 +17,15 @@ fn run(alloc: Global, text: &str, depth: u32) -> Result<(String, Vec<Note>), All
     let edition = Edition::Edition2021;
     let mut symbols = SymbolTable::new(alloc);
     let mut notes = Vec::new(alloc);
-    let file = source_file(alloc, &mut symbols, &mut notes, edition, "a.rs", text, 0)?;
+    let file = source_file(
+        alloc,
+        &mut symbols,
+        &mut notes,
+        &plainly(edition),
+        "a.rs",
+        text,
+        0,
+    )?;
     let settings = Settings {
         edition,
         depth,

@@ -19,7 +19,7 @@ fn asked(alloc: Global, text: &str) -> Result<&'static str, AllocError> {
     })
 }
 
-static ROWS: [(&str, &str); 26] = [
+static ROWS: [(&str, &str); 36] = [
     ("", "no file"),
     ("a.rs", "run"),
     ("-", "run"),
@@ -40,6 +40,16 @@ static ROWS: [(&str, &str); 26] = [
     ("--often a.rs", "wrong"),
     ("--origin a.rs", "run"),
     ("--json a.rs", "run"),
+    ("--cfg a a.rs", "run"),
+    ("--cfg a=\"b\" a.rs", "run"),
+    ("--cfg a=b a.rs", "wrong"),
+    ("--cfg =\"b\" a.rs", "wrong"),
+    ("--cfg", "missing"),
+    ("--features a,b a.rs", "run"),
+    ("--features", "missing"),
+    ("--target wasm32-unknown-unknown a.rs", "run"),
+    ("--target wasm32 a.rs", "wrong"),
+    ("--test a.rs", "run"),
     ("--explain a.rs", "run"),
     ("--explain 3:7 a.rs", "run"),
     ("--explain 3", "no file"),

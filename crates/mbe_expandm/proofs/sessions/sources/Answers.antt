@@ -7,7 +7,7 @@ use Rattle.mbe_expandm.proofs.sessions.sources.Goals as goal
 pub loop-number-init : goal.loop-number-init
 loop-number-init c = (
   ap (map (λ f. f.text.now)) c.new-files.ensures.items,
-  no_source source_of c.args.edition c.new-files.result.items c.new-files.ensures.items,
+  no_source source_of c.args.reading.now c.new-files.result.items c.new-files.ensures.items,
   ap length c.new-files.ensures.items,
 )
 
@@ -18,8 +18,8 @@ loop-number-preserved c = (
       c.index-texts-number.result c.loop-number.number c.loop-number-test.true c.index-texts-number.is
       c.in_ok-push.ensures.items
       c.loop-number.invariant.0 (c.in_ok-file.ensures.text ∙ c.as_str-text.ensures.value),
-  one_more_source source_of c.args.edition c.loop-number.files.items c.push.new.self.items c.in_ok-file.file c.in-Ok.at
-      c.loop-number.invariant.1
+  one_more_source source_of c.args.reading.now c.loop-number.files.items c.push.new.self.items c.in_ok-file.file
+      c.in-Ok.at c.loop-number.invariant.1
       (search rules) c.in_ok-push.ensures.items (search rules),
   ap length c.in_ok-push.ensures.items ∙ length-append c.loop-number.files.items (c.in_ok-file.file ∷ [])
       ∙ ap (λ n. n + 1) c.loop-number.invariant.2,

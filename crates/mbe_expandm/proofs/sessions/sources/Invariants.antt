@@ -6,5 +6,5 @@ use Rattle.mbe_expandm.proofs.sessions.sources.Given as goal
 abbrev pub invariant-loop-number : goal.invariant-loop-number
 invariant-loop-number l =
     (map (λ f. f.text.now) l.files.items ≡ map text_of (take l.number l.texts))
-    × AreSources l.fn.edition (map source_of l.files.items)
+    × AreSources l.reading (map source_of l.files.items)
     × (length l.files.items ≡ l.number)

@@ -17,6 +17,8 @@ returns c =
     let scope = ap (λ s. s.scope) c.new-expander.ensures.state in
     record {
       texts_are = map-map (λ f. f.text) source_of files ∙ c.in_ok-files.ensures.texts;
+      conditions = c.conditions.result;
+      is_under = c.conditions.ensures;
       are_read = c.in_ok-files.ensures.read;
       table = c.rust_rules-grammar.result;
       is_rust = record {

@@ -1,0 +1,12 @@
+-- What options show, whatever memory holds them.
+use Rattle.std.specs.Prelude.{map}
+use Rattle.mbe_expandm.specs.Conditions.{Conditions}
+use Rattle.mbe_expandm.specs.declared.arguments.Options.{Options}
+
+abbrev pub conditions_of : {A : Type 0} → Options A → Conditions
+conditions_of o = record {
+  target = o.target;
+  given = o.given.items;
+  features = map (λ f. f.now) o.features.items;
+  is_test = o.is_test;
+}

@@ -1,0 +1,99 @@
+-- Trees without what attributes are on whose `cfg` doesn't hold.
+use Rattle.std.specs.Prelude.{ℕ, zero, suc, Bool, true, false, not, nat_lt, if◌then◌else◌}
+use Rattle.std.specs.Prelude.{Option, Some, None, option_and_then, Result, Ok, Err}
+use Rattle.mbe_tt.specs.Fragments.Grammar.{Grammar}
+use Rattle.mbe_tt.specs.Trees.Top.{Top}
+use Rattle.mbe_tt.specs.Trees.Tree.{Forest, Tree, Leaf_tree, Group_tree, none, leaf, group, append, one_leaf, flat_len}
+use Rattle.mbe_tt.specs.declared.tt.Delimiter.{Delimiter}
+use Rattle.mbe_tt.specs.declared.tt.DelimiterKind.TheVariants.{Bracket}
+use Rattle.mbe_calls.specs.Fronts as calls
+use Rattle.mbe_cfg.specs.declared.fault.Fault.{Fault}
+use Rattle.mbe_cfg.specs.declared.predicate.TheConstants.{DEPTH}
+use Rattle.mbe_cfg.specs.declared.settings.Settings.{Settings}
+use Rattle.mbe_cfg.specs.Attributes.{attribute, attributes}
+use Rattle.mbe_cfg.specs.Fronts.{Group, after_char, group_at}
+use Rattle.mbe_cfg.specs.Predicates.{Read}
+use Rattle.mbe_stripping.specs.Extents.{after_subject}
+
+-- ---- whether attributes hold
+
+-- the brackets of the inner attribute at the front: `#![..]`
+abbrev pub inner : Forest → Option Group
+inner f = option_and_then (group_at Bracket) (option_and_then (after_char 33) (after_char 35 f))
+
+abbrev pub holds_in : Read → Result Bool Fault
+holds_in (Ok v) = Ok v.holds
+holds_in (Err fault) = Err fault
+
+abbrev pub through : Settings → Forest → Option Group → Result Bool Fault
+through s f None = holds_in (attributes s (flat_len f) true f)
+through s f (Some g) = attribute s DEPTH g.close g.inside
+
+-- whether the inner attribute at the front, or the attributes in a row there, let what they are on be compiled
+abbrev pub let_through : Settings → Forest → Result Bool Fault
+let_through s f = through s f (inner f)
+
+-- attributes with a fault leave what they are on
+abbrev pub is_off_by : Result Bool Fault → Bool
+is_off_by (Ok holds) = not holds
+is_off_by (Err fault) = false
+
+abbrev pub is_off : Settings → Forest → Bool
+is_off s f = is_off_by (let_through s f)
+
+-- an inner attribute is on all that comes after it
+abbrev pub after_inner : Grammar → Forest → Option Group → Forest
+after_inner g f None = after_subject g f
+after_inner g f (Some attribute) = none
+
+abbrev pub after_off : Grammar → Forest → Forest
+after_off g f = after_inner g f (inner f)
+
+-- ---- what stays
+
+-- the first trees, down to so many flat tokens that are left
+abbrev pub up_to : ℕ → Forest → Forest
+up_to n none = none
+up_to n (leaf l rest) = if nat_lt n (flat_len (leaf l rest)) then leaf l (up_to n rest) else none
+up_to n (group d inside rest) = if nat_lt n (flat_len (group d inside rest)) then group d inside (up_to n rest) else none
+
+abbrev pub group_stripped : (Forest → Forest) → Delimiter → Forest → Forest
+group_stripped within d inside = group d (within inside) none
+
+abbrev pub tree_stripped : (Forest → Forest) → Tree → Forest
+tree_stripped within (Leaf_tree l) = one_leaf l
+tree_stripped within (Group_tree d inside) = group_stripped within d inside
+
+-- what stays of a front, and what is left after it
+pub record Step : Type 0 where
+  pub kept : Forest
+  pub rest : Forest
+
+abbrev pub off_or_tree : (Forest → Forest) → Grammar → Forest → Tree → Forest → Bool → Step
+off_or_tree within g f t rest true = record { kept = none; rest = after_off g f }
+off_or_tree within g f t rest false = record { kept = tree_stripped within t; rest = rest }
+
+-- A definition and a call stay whole. Any other tree stays with what stays of what it holds, unless it begins something that is
+-- off.
+abbrev pub step_by : (Forest → Forest) → Settings → Grammar → Forest → calls.Front → Step
+step_by within s g f calls.End = record { kept = none; rest = f }
+step_by within s g f (calls.Definition d) = record { kept = up_to (flat_len d.rest) f; rest = d.rest }
+step_by within s g f (calls.ACall c) = record { kept = up_to (flat_len c.rest) f; rest = c.rest }
+step_by within s g f (calls.Other t rest) = off_or_tree within g f t rest (is_off s f)
+
+abbrev pub step : (Forest → Forest) → Settings → Grammar → Forest → Step
+step within s g f = step_by within s g f (calls.front f)
+
+-- what stays of trees, one front after another, so many at most
+unfoldable pub steps : (Forest → Forest) → Settings → Grammar → ℕ → Forest → Forest
+steps within s g zero f = none
+steps within s g (suc n) f = append (step within s g f).kept (steps within s g n (step within s g f).rest)
+
+-- What stays of trees in which so many groups may be in one another. Each front has a flat token at least.
+unfoldable pub stripped : Settings → Grammar → ℕ → Forest → Forest
+stripped s g zero f = f
+stripped s g (suc levels) f = steps (stripped s g levels) s g (flat_len f) f
+
+-- a tree without what is off in it
+abbrev pub tree_without : Settings → Grammar → Top → Top
+tree_without s g t = (t.0, stripped s g 1001 t.1)

@@ -1,0 +1,280 @@
+// Trees without what attributes are on whose `cfg` doesn't hold.
+//
+// Trees are gone through from the front. Definitions and calls of macros stay whole: what their groups hold is no Rust yet.
+ghost use Rattle.std.specs.Prelude.{◌≡◌, ◌<◌, IfOk, OnOk, length, option_map, suc};
+ghost use Rattle.mbe_tt.specs.Buffers.Building.{put};
+ghost use Rattle.mbe_tt.specs.Trees.Tree.{flat_len, none};
+ghost use Rattle.mbe_tt.specs.Views.Element.{element_tree};
+ghost use Rattle.mbe_tt.specs.Views.View.{trees};
+ghost use Rattle.mbe_cfg.specs.Shown.{group_shown};
+ghost use Rattle.mbe_stripping.specs.Stripping as spec;
+
+use crate::extent::after_subject;
+use mbe_calls::calls::{Front, front_of};
+use mbe_cfg::attributes::{attribute, attributes};
+use mbe_cfg::fault::Fault;
+use mbe_cfg::fronts::{Group, after_char, group_at};
+use mbe_cfg::predicate::DEPTH;
+use mbe_cfg::settings::Settings;
+use mbe_tt::grammar::FragmentGrammar;
+use mbe_tt::tt::{
+    Delimiter, DelimiterKind, TokenTreesView, TopSubtree, TopSubtreeBuilder, TtElement,
+};
+use std::alloc::{AllocError, Allocator};
+
+/// How many groups may be in one another. What is deeper stays as it is.
+pub const LEVELS: u32 = 1000;
+
+// The brackets of the inner attribute at the front, `#![..]`.
+fn inner<'t, A: Allocator>(tokens: TokenTreesView<'t, A>) -> Option<Group<'t, A>>
+    ensures { option_map group_shown result ≡ spec.inner (trees tokens.entry) }
+{
+    let hash = after_char(tokens, '#')?;
+    let mark = after_char(hash, '!')?;
+    group_at(DelimiterKind::Bracket, mark)
+}
+
+// Whether the inner attribute at the front, or the attributes in a row there, let what they are on be compiled.
+fn let_through<A: Allocator>(
+    settings: &Settings<'_>,
+    tokens: TokenTreesView<'_, A>,
+) -> Result<bool, Fault>
+    ensures { result ≡ spec.let_through settings.now (trees tokens.entry) }
+{
+    match inner(tokens) {
+        Some(group) => attribute(settings, DEPTH, group.close, group.inside),
+        None => Ok(attributes(settings, tokens)?.holds),
+    }
+}
+
+// Keeps a fault, unless it is the last one that was kept.
+fn keep<A: Allocator>(faults: &mut Vec<Fault, A>, fault: Fault) -> Result<(), AllocError> {
+    if faults.last().is_none_or(|last| *last != fault) {
+        faults.push(fault)?;
+    }
+    Ok(())
+}
+
+// Whether what is at the front has attributes that don't let it be compiled. One with a fault does, and the fault is kept.
+fn is_off<A: Allocator>(
+    settings: &Settings<'_>,
+    faults: &mut Vec<Fault, A>,
+    tokens: TokenTreesView<'_, A>,
+) -> Result<bool, AllocError>
+    ensures { IfOk result (λ off. off ≡ spec.is_off settings.now (trees tokens.entry)) }
+{
+    match let_through(settings, tokens) {
+        Ok(holds) => Ok(!holds),
+        Err(fault) => {
+            keep(faults, fault)?;
+            Ok(false)
+        }
+    }
+}
+
+// What is after all of these trees.
+fn after_all<'t, A: Allocator>(tokens: TokenTreesView<'t, A>) -> TokenTreesView<'t, A>
+    ensures { trees result ≡ none }
+{
+    let mut iter = tokens.iter();
+    'trees: while iter.next().is_some() {}
+    iter.remaining()
+}
+
+// What is after what the attributes at the front are on: an inner attribute is on all that comes after it.
+fn after_off<'t, A: Allocator, G: FragmentGrammar>(
+    grammar: &G,
+    tokens: TokenTreesView<'t, A>,
+) -> Result<TokenTreesView<'t, A>, AllocError>
+    ensures { IfOk result (λ r. trees r
+        ≡ spec.after_off (G.grammar grammar.now) (trees tokens.entry)) }
+{
+    match inner(tokens) {
+        Some(_group) => Ok(after_all(tokens)),
+        None => after_subject(grammar, tokens),
+    }
+}
+
+// Writes the first trees as they are, up to those that are left.
+#[tactic(auto, using(crate::proofs::StripLemmas::copied, crate::proofs::StripLemmas::copied_on))]
+fn copy_up_to<'t, A: Allocator + Copy>(
+    builder: &mut TopSubtreeBuilder<A>,
+    tokens: TokenTreesView<'t, A>,
+    rest: TokenTreesView<'t, A>,
+) -> Result<(), AllocError>
+    requires some { 0 < length builder.old }
+    ensures { OnOk result (builder.new
+        ≡ put (spec.up_to (flat_len (trees rest.entry)) (trees tokens.entry)) builder.old) }
+{
+    let mut iter = tokens.iter();
+    'trees: loop {
+        if iter.remaining().flat_len() <= rest.flat_len() {
+            return Ok(());
+        }
+        match iter.next_as_view() {
+            Some(tree) => builder.extend_with_tt(tree)?,
+            None => return Ok(()),
+        }
+    }
+}
+
+// Writes what stays of the front of these trees, and returns what is left after it.
+#[cycle(stripping)]
+fn strip_front<'t, A: Allocator + Copy, G: FragmentGrammar>(
+    settings: &Settings<'_>,
+    grammar: &G,
+    faults: &mut Vec<Fault, A>,
+    builder: &mut TopSubtreeBuilder<A>,
+    tokens: TokenTreesView<'t, A>,
+    levels: u32,
+) -> Result<TokenTreesView<'t, A>, AllocError>
+    requires some { 0 < length builder.old }
+    ensures kept { OnOk result (builder.new ≡ put
+        (spec.step (spec.stripped settings.now (G.grammar grammar.now) levels)
+        settings.now (G.grammar grammar.now) (trees tokens.entry)).kept builder.old) }
+    ensures rest { IfOk result (λ r. trees r ≡
+        (spec.step (spec.stripped settings.now (G.grammar grammar.now) levels)
+        settings.now (G.grammar grammar.now) (trees tokens.entry)).rest) }
+{
+    match front_of(tokens) {
+        Front::End => Ok(tokens),
+        Front::Definition(defined) => {
+            copy_up_to(builder, tokens, defined.rest)?;
+            Ok(defined.rest)
+        }
+        Front::Call(call) => {
+            copy_up_to(builder, tokens, call.rest)?;
+            Ok(call.rest)
+        }
+        Front::Tree(tree, rest) => {
+            if is_off(settings, faults, tokens)? {
+                return after_off(grammar, tokens);
+            }
+            strip_tree(settings, grammar, faults, builder, tree, levels)?;
+            Ok(rest)
+        }
+    }
+}
+
+// Writes what stays of a tree.
+#[cycle(stripping)]
+fn strip_tree<A: Allocator + Copy, G: FragmentGrammar>(
+    settings: &Settings<'_>,
+    grammar: &G,
+    faults: &mut Vec<Fault, A>,
+    builder: &mut TopSubtreeBuilder<A>,
+    tree: TtElement<'_, A>,
+    levels: u32,
+) -> Result<(), AllocError>
+    requires some { 0 < length builder.old }
+    ensures { OnOk result (builder.new ≡ put
+        (spec.tree_stripped (spec.stripped settings.now (G.grammar grammar.now) levels)
+        (element_tree tree.entry)) builder.old) }
+{
+    match tree {
+        TtElement::Leaf(leaf) => builder.push(leaf.clone()?),
+        TtElement::Subtree(group, inside) => {
+            let delimiter = group.delimiter;
+            strip_group(
+                settings,
+                grammar,
+                faults,
+                builder,
+                delimiter,
+                inside.remaining(),
+                levels,
+            )
+        }
+    }
+}
+
+// Writes a group with what stays of what it holds.
+#[cycle(stripping)]
+fn strip_group<A: Allocator + Copy, G: FragmentGrammar>(
+    settings: &Settings<'_>,
+    grammar: &G,
+    faults: &mut Vec<Fault, A>,
+    builder: &mut TopSubtreeBuilder<A>,
+    delimiter: Delimiter,
+    inside: TokenTreesView<'_, A>,
+    levels: u32,
+) -> Result<(), AllocError>
+    requires some { 0 < length builder.old }
+    ensures { OnOk result (builder.new ≡ put
+        (spec.group_stripped (spec.stripped settings.now (G.grammar grammar.now) levels)
+        delimiter (trees inside.entry)) builder.old) }
+{
+    builder.open(delimiter.kind, delimiter.opening)?;
+    strip_inside(settings, grammar, faults, builder, inside, levels)?;
+    builder.close(delimiter.close);
+    Ok(())
+}
+
+// Writes what stays of the content of a group; all of it, if that is too deep.
+#[cycle(stripping)]
+fn strip_inside<A: Allocator + Copy, G: FragmentGrammar>(
+    settings: &Settings<'_>,
+    grammar: &G,
+    faults: &mut Vec<Fault, A>,
+    builder: &mut TopSubtreeBuilder<A>,
+    tokens: TokenTreesView<'_, A>,
+    levels: u32,
+) -> Result<(), AllocError>
+    requires some { 0 < length builder.old }
+    ensures { OnOk result (builder.new ≡ put
+        (spec.stripped settings.now (G.grammar grammar.now) levels (trees tokens.entry)) builder.old) }
+{
+    if levels == 0 {
+        return builder.extend_with_tt(tokens);
+    }
+    strip_trees(settings, grammar, faults, builder, tokens, levels - 1)
+}
+
+// Writes what stays of trees in which so many groups may be in one another.
+#[cycle(stripping)]
+fn strip_trees<A: Allocator + Copy, G: FragmentGrammar>(
+    settings: &Settings<'_>,
+    grammar: &G,
+    faults: &mut Vec<Fault, A>,
+    builder: &mut TopSubtreeBuilder<A>,
+    tokens: TokenTreesView<'_, A>,
+    levels: u32,
+) -> Result<(), AllocError>
+    requires some { 0 < length builder.old }
+    ensures { OnOk result (builder.new ≡ put
+        (spec.stripped settings.now (G.grammar grammar.now) (suc levels) (trees tokens.entry))
+        builder.old) }
+{
+    let mut rest = tokens;
+    let mut left = tokens.flat_len();
+    'fronts: while left > 0 {
+        left -= 1;
+        rest = strip_front(settings, grammar, faults, builder, rest, levels)?;
+    }
+    Ok(())
+}
+
+/// The tree without what attributes are on, in it, whose `cfg` doesn't hold under these settings, where the grammar says what is
+/// an item; what is wrong in attributes is kept in `faults`, and what they are on stays. `AllocError` if out of memory.
+pub fn strip<A: Allocator + Copy, G: FragmentGrammar>(
+    alloc: A,
+    settings: &Settings<'_>,
+    grammar: &G,
+    faults: &mut Vec<Fault, A>,
+    tree: &TopSubtree<A>,
+) -> Result<TopSubtree<A>, AllocError>
+    ensures { IfOk result (λ t. t
+        ≡ spec.tree_without settings.now (G.grammar grammar.now) tree.now) }
+{
+    let mut builder = TopSubtreeBuilder::new(alloc, tree.top_subtree().delimiter)?;
+    let of = &mut builder;
+    strip_trees(
+        settings,
+        grammar,
+        faults,
+        of,
+        tree.iter().remaining(),
+        LEVELS,
+    )?;
+    Ok(builder.build())
+}
