@@ -24,8 +24,7 @@ pub record IsRustTable (edition : Edition) (table : RuleTable) : Type 0 where
   pub edition_is : table.edition ≡ edition
 
 -- Where a run begins: the files are read, their definitions are known, in the files' order, and no call is expanded
--- yet. The limit of
--- depth is that of the words, or that of the files, or 128.
+-- yet. The limit of depth is that of the words, or that of the files, or 128.
 pub record IsBegun (edition : Edition) (c : Conditions) (depth : Option ℕ) (fuel : ℕ) (texts : List (List ℕ))
     (files : List Source)
     (e : Setting) (s : State) : Type 0 where

@@ -24,7 +24,7 @@ pub(crate) fn plainly(edition: Edition) -> Reading<'static> {
     }
 }
 
-// What stands before each text.
+// What is before each text.
 const M: &str = "#[cfg(a)] macro_rules! m { () => { 1 }; }\n\
     #[cfg(not(a))] macro_rules! m { () => { 2 }; }\n";
 

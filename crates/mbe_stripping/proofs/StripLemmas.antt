@@ -1,15 +1,16 @@
 -- What is left to be written, as trees are stripped one front after another.
 use Rattle.std.proofs.Common.{ℕ, zero, suc, ◌-◌, ◌≡◌, ◌<◌, ◌≤◌, [], ◌∷◌, length, Some, None, refl, ap, sym, ◌∙◌, arith}
 use Rattle.std.proofs.lemmas.Bool.{lt-ltb, le-ltb}
-use Rattle.std.specs.Prelude.{Option, option_map}
+use Rattle.std.specs.Prelude.{Bool, true, Option, option_map, Result, Ok, Err, OnOk}
 use Rattle.mbe_tt.specs.Buffers.Building.{Levels, put, closed}
 use Rattle.mbe_tt.specs.Fragments.Grammar.{Grammar}
-use Rattle.mbe_tt.specs.Trees.Tree.{Forest, none, leaf, group, tree, append, first, rest_of, flat_len}
+use Rattle.mbe_tt.specs.Trees.Tree.{Forest, Tree, none, leaf, group, tree, append, first, rest_of, flat_len}
 use Rattle.mbe_tt.specs.declared.tt.Delimiter.{Delimiter}
 use Rattle.mbe_tt.proofs.Buffers.Built.{length-put}
 use Rattle.mbe_tt.proofs.Buffers.Grown.{put-none}
+use Rattle.mbe_calls.specs.Fronts.{front, Other, End}
 use Rattle.mbe_cfg.specs.declared.settings.Settings.{Settings}
-use Rattle.mbe_stripping.specs.Stripping.{up_to, step, steps, stripped}
+use Rattle.mbe_stripping.specs.Stripping.{up_to, is_off, off_or_tree, step_by, step, steps, stripped}
 
 pub one_more : (n : ℕ) → 0 < n → n ≡ suc (n - 1)
 one_more n h = omega (arith, h)
@@ -21,7 +22,26 @@ append_append (group d inside rest) g h = ap (group d inside) (append_append res
 
 put_put : (f h : Forest) (b : Levels) → put h (put f b) ≡ put (append f h) b
 put_put f h [] = refl
-put_put f h (g ∷ outer) = ap (λ (k : Forest). let x : Delimiter × Forest = (g.0, k) in x ∷ outer) (append_append g.1 f h)
+put_put f h (g ∷ outer) =
+    ap (λ (k : Forest). let x : Delimiter × Forest = (g.0, k) in x ∷ outer) (append_append g.1 f h)
+
+-- ---- one front
+
+pub on_ok : {T E P : Type 0} (r : Result T E) → P → OnOk r P
+on_ok (Ok x) p = p
+on_ok (Err e) p = tt
+
+-- at the end nothing is written
+pub end_kept : (within : Forest → Forest) (s : Settings) (g : Grammar) (f : Forest) (old : Levels) → front f ≡ End
+    → old ≡ put (step within s g f).kept old
+end_kept within s g f old e = put-none old ∙ ap (λ x. put (step_by within s g f x).kept old) (sym e)
+
+-- nor is anything of what is off
+pub off_kept : (within : Forest → Forest) (s : Settings) (g : Grammar) (f rest : Forest) (t : Tree) (off : Bool)
+    (old : Levels) → front f ≡ Other t rest → off ≡ is_off s f → off ≡ true → old ≡ put (step within s g f).kept old
+off_kept within s g f rest t off old e is holds =
+    put-none old ∙ ap (λ b. put (off_or_tree within g f t rest b).kept old) (sym holds ∙ is)
+    ∙ ap (λ x. put (step_by within s g f x).kept old) (sym e)
 
 -- ---- fronts
 

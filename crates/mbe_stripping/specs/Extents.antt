@@ -1,5 +1,6 @@
--- Where that ends which attributes are on. An item ends where the grammar says; an arm of a `match` after its expression; a
--- statement after what the grammar takes for one; and what is none of these, as a field or a parameter, after the next comma.
+-- Where what attributes are on ends. An item ends where the grammar says; an arm of a `match` after its expression; a
+-- statement after what the grammar takes for one; and what is none of these, as a field or a parameter, after the next
+-- comma.
 use Rattle.std.specs.Prelude.{Bool, true, false, ◌||◌, if◌then◌else◌, Option, Some, None}
 use Rattle.std.specs.Prelude.{option_and_then, unwrap_or, is_some}
 use Rattle.mbe_tt.specs.Fragments.Grammar.{Grammar, front, is_good}

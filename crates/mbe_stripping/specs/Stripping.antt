@@ -55,7 +55,8 @@ after_off g f = after_inner g f (inner f)
 abbrev pub up_to : ℕ → Forest → Forest
 up_to n none = none
 up_to n (leaf l rest) = if nat_lt n (flat_len (leaf l rest)) then leaf l (up_to n rest) else none
-up_to n (group d inside rest) = if nat_lt n (flat_len (group d inside rest)) then group d inside (up_to n rest) else none
+up_to n (group d inside rest) =
+    if nat_lt n (flat_len (group d inside rest)) then group d inside (up_to n rest) else none
 
 abbrev pub group_stripped : (Forest → Forest) → Delimiter → Forest → Forest
 group_stripped within d inside = group d (within inside) none
@@ -73,8 +74,8 @@ abbrev pub off_or_tree : (Forest → Forest) → Grammar → Forest → Tree →
 off_or_tree within g f t rest true = record { kept = none; rest = after_off g f }
 off_or_tree within g f t rest false = record { kept = tree_stripped within t; rest = rest }
 
--- A definition and a call stay whole. Any other tree stays with what stays of what it holds, unless it begins something that is
--- off.
+-- A definition and a call stay whole. Any other tree stays with what stays of what it holds, unless it begins something
+-- that is off.
 abbrev pub step_by : (Forest → Forest) → Settings → Grammar → Forest → calls.Front → Step
 step_by within s g f calls.End = record { kept = none; rest = f }
 step_by within s g f (calls.Definition d) = record { kept = up_to (flat_len d.rest) f; rest = d.rest }

@@ -1,4 +1,4 @@
-// Where that ends which attributes are on: an item, a statement, an arm, a field and so on.
+// Where what attributes are on ends: an item, a statement, an arm, a field and so on.
 ghost use Rattle.std.specs.Prelude.{◌≡◌, IfOk, option_map};
 ghost use Rattle.mbe_tt.specs.Views.View.{trees};
 ghost use Rattle.mbe_stripping.specs.Extents as spec;
