@@ -40,3 +40,11 @@ strip_trees-returns g t c =
     (omega (arith, none_left)) c.fronts.invariant
     ∙ ap (λ f. put f c.args.builder.now) (stripped_suc c.args.settings.now
     (g.G.FragmentGrammar.grammar c.args.grammar.now) c.args.levels (trees c.args.tokens))
+
+pub strip_front-returns-then-branch-clause-kept : goal.strip_front-returns-then-branch-clause-kept
+strip_front-returns-then-branch-clause-kept g t c =
+    on_ok c.after_off.result
+    (off_kept (stripped c.args.settings.now (g.G.FragmentGrammar.grammar c.args.grammar.now) c.args.levels)
+    c.args.settings.now (g.G.FragmentGrammar.grammar c.args.grammar.now) (trees c.args.tokens) (trees c.in-Tree.rest)
+    (element_tree c.in-Tree.tree) c.in_ok-is_off-in-Tree.field-0 c.args.builder.now
+    (sym c.front_of.ensures ∙ ap front_shown c.in-Tree.is) c.in_ok-is_off-in-Tree.ensures c.if-branch.true)
