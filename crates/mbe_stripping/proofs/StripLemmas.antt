@@ -1,16 +1,17 @@
 -- What is left to be written, as trees are stripped one front after another.
-use Rattle.std.proofs.Common.{ℕ, zero, suc, ◌-◌, ◌≡◌, ◌<◌, ◌≤◌, [], ◌∷◌, length, Some, None, refl, ap, sym, ◌∙◌, arith}
+use Rattle.std.proofs.Common.{ℕ, suc, ◌-◌, ◌≡◌, ◌<◌, ◌≤◌, List, [], ◌∷◌, ◌++◌, length, Some, refl, ap, sym, ◌∙◌, append_assoc, append-nil, arith}
 use Rattle.std.proofs.lemmas.Bool.{lt-ltb, le-ltb}
-use Rattle.std.specs.Prelude.{Bool, true, Option, option_map, Result, Ok, Err, OnOk}
-use Rattle.mbe_tt.specs.Buffers.Building.{Levels, put, closed}
+use Rattle.std.specs.Prelude.{true, Option, option_map, Result, Ok, Err, OnOk}
+use Rattle.mbe_tt.specs.Buffers.Building.{Levels, put}
 use Rattle.mbe_tt.specs.Fragments.Grammar.{Grammar}
 use Rattle.mbe_tt.specs.Trees.Tree.{Forest, Tree, none, leaf, group, tree, append, first, rest_of, flat_len}
 use Rattle.mbe_tt.specs.declared.tt.Delimiter.{Delimiter}
 use Rattle.mbe_tt.proofs.Buffers.Built.{length-put}
 use Rattle.mbe_tt.proofs.Buffers.Grown.{put-none}
-use Rattle.mbe_calls.specs.Fronts.{front, Other, End}
+use Rattle.mbe_calls.specs.Fronts.{Front, front, Other}
 use Rattle.mbe_cfg.specs.declared.settings.Settings.{Settings}
-use Rattle.mbe_stripping.specs.Stripping.{up_to, is_off, off_or_tree, step_by, step, steps, stripped}
+use Rattle.mbe_cfg.specs.declared.fault.Fault.{Fault}
+use Rattle.mbe_stripping.specs.Stripping.{Stripped, unchanged, up_to, is_off, off_or_tree, step_by, step, followed, steps, stripped}
 
 pub one_more : (n : ℕ) → 0 < n → n ≡ suc (n - 1)
 one_more n h = omega (arith, h)
@@ -31,84 +32,95 @@ pub on_ok : {T E P : Type 0} (r : Result T E) → P → OnOk r P
 on_ok (Ok x) p = p
 on_ok (Err e) p = tt
 
--- at the end nothing is written
-pub end_kept : (within : Forest → Forest) (s : Settings) (g : Grammar) (f : Forest) (old : Levels) → front f ≡ End
-    → old ≡ put (step within s g f).kept old
-end_kept within s g f old e = put-none old ∙ ap (λ x. put (step_by within s g f x).kept old) (sym e)
+-- where nothing of a front stays, nothing is written
+pub no_kept : (within : Forest → Stripped) (s : Settings) (g : Grammar) (f : Forest) (x : Front) (old : Levels)
+    → front f ≡ x → (step_by within s g f x).kept ≡ none → old ≡ put (step within s g f).kept old
+no_kept within s g f x old e nothing =
+    put-none old ∙ ap (λ k. put k old) (sym nothing) ∙ ap (λ y. put (step_by within s g f y).kept old) (sym e)
 
--- nor is anything of what is off
-pub off_kept : (within : Forest → Forest) (s : Settings) (g : Grammar) (f rest : Forest) (t : Tree) (off : Bool)
-    (old : Levels) → front f ≡ Other t rest → off ≡ is_off s f → off ≡ true → old ≡ put (step within s g f).kept old
-off_kept within s g f rest t off old e is holds =
-    put-none old ∙ ap (λ b. put (off_or_tree within g f t rest b).kept old) (sym holds ∙ is)
-    ∙ ap (λ x. put (step_by within s g f x).kept old) (sym e)
+-- nothing of what is off stays
+pub off_kept : (within : Forest → Stripped) (s : Settings) (g : Grammar) (f rest : Forest) (t : Tree) (old : Levels)
+    → front f ≡ Other t rest → is_off s f ≡ true → old ≡ put (step within s g f).kept old
+off_kept within s g f rest t old e off =
+    no_kept within s g f (Other t rest) old e (ap (λ b. (off_or_tree within s g f t rest b).kept) off)
 
 -- ---- fronts
 
--- what is written of some trees, once what stays of the others is, is what is to be written of all
-pub record Left (within : Forest → Forest) (s : Settings) (g : Grammar) (all : ℕ) (f : Forest) (old : Levels)
-    (left : ℕ) (rest : Forest) (now : Levels) : Type 0 where
-  pub same : put (steps within s g left rest) now ≡ put (steps within s g all f) old
+-- what is written of some trees, once what stays of the others is, is what is to be written of all; and so for faults
+pub record Left (within : Forest → Stripped) (s : Settings) (g : Grammar) (all : ℕ) (f : Forest) (old : Levels)
+    (before : List Fault) (left : ℕ) (rest : Forest) (now : Levels) (found : List Fault) : Type 0 where
+  pub same : put (steps within s g left rest).kept now ≡ put (steps within s g all f).kept old
+  pub noted : found ++ (steps within s g left rest).faults ≡ before ++ (steps within s g all f).faults
   pub groups : length now ≡ length old
 
-pub begins : (within : Forest → Forest) (s : Settings) (g : Grammar) (all : ℕ) (f : Forest) (old : Levels)
-    → Left within s g all f old all f old
-begins within s g all f old = record { same = refl; groups = refl }
-
-steps_suc : (within : Forest → Forest) (s : Settings) (g : Grammar) (n : ℕ) (f : Forest)
-    → append (step within s g f).kept (steps within s g n (step within s g f).rest) ≡ steps within s g (suc n) f
+steps_suc : (within : Forest → Stripped) (s : Settings) (g : Grammar) (n : ℕ) (f : Forest)
+    → followed (step within s g f) (steps within s g n (step within s g f).rest) ≡ steps within s g (suc n) f
 unfolding steps
 steps_suc within s g n f = refl
 
-steps_none : (within : Forest → Forest) (s : Settings) (g : Grammar) (f : Forest) → none ≡ steps within s g 0 f
+steps_none : (within : Forest → Stripped) (s : Settings) (g : Grammar) (f : Forest)
+    → unchanged none ≡ steps within s g 0 f
 unfolding steps
 steps_none within s g f = refl
 
+-- one front more, where some are left
+steps_more : (within : Forest → Stripped) (s : Settings) (g : Grammar) (left : ℕ) (rest : Forest) → 0 < left
+    → followed (step within s g rest) (steps within s g (left - 1) (step within s g rest).rest)
+    ≡ steps within s g left rest
+steps_more within s g left rest some =
+    steps_suc within s g (left - 1) rest ∙ ap (λ n. steps within s g n rest) (sym (one_more left some))
+
 -- one front on
-pub front_on : (within : Forest → Forest) (s : Settings) (g : Grammar) (all : ℕ) (f : Forest) (old : Levels)
-    (left : ℕ) (rest after : Forest) (now next : Levels) → 0 < left → Left within s g all f old left rest now
-    → next ≡ put (step within s g rest).kept now → after ≡ (step within s g rest).rest
-    → Left within s g all f old (left - 1) after next
-front_on within s g all f old left rest after now next some h e r =
+pub front_on : (within : Forest → Stripped) (s : Settings) (g : Grammar) (all : ℕ) (f : Forest) (old : Levels)
+    (before : List Fault) (left : ℕ) (rest after : Forest) (now next : Levels) (found more : List Fault) → 0 < left
+    → Left within s g all f old before left rest now found
+    → next ≡ put (step within s g rest).kept now → more ≡ found ++ (step within s g rest).faults
+    → after ≡ (step within s g rest).rest
+    → Left within s g all f old before (left - 1) after next more
+front_on within s g all f old before left rest after now next found more some h e m r =
     let one = step within s g rest in
-    let more = steps within s g (left - 1) in
+    let others = steps within s g (left - 1) in
+    let whole = steps_more within s g left rest some in
     record {
-      same = ap (λ x. put (more x) next) r ∙ ap (put (more one.rest)) e ∙ put_put one.kept (more one.rest) now
-          ∙ ap (λ x. put x now) (steps_suc within s g (left - 1) rest)
-          ∙ ap (λ n. put (steps within s g n rest) now) (sym (one_more left some)) ∙ h.same;
+      same = ap (λ x. put (others x).kept next) r ∙ ap (put (others one.rest).kept) e
+          ∙ put_put one.kept (others one.rest).kept now ∙ ap (λ x. put x.kept now) whole ∙ h.same;
+      noted = ap (λ x. more ++ (others x).faults) r ∙ ap (λ x. x ++ (others one.rest).faults) m
+          ∙ append_assoc found one.faults (others one.rest).faults ∙ ap (λ x. found ++ x.faults) whole ∙ h.noted;
       groups = ap length e ∙ length-put now one.kept ∙ h.groups;
     }
 
-pub ended : (within : Forest → Forest) (s : Settings) (g : Grammar) (all : ℕ) (f : Forest) (old : Levels)
-    (left : ℕ) (rest : Forest) (now : Levels) → left ≡ 0 → Left within s g all f old left rest now
-    → now ≡ put (steps within s g all f) old
-ended within s g all f old left rest now e h =
-    put-none now ∙ ap (λ x. put x now) (steps_none within s g rest)
-    ∙ ap (λ n. put (steps within s g n rest) now) (sym e) ∙ h.same
+-- nothing is left
+no_steps : (within : Forest → Stripped) (s : Settings) (g : Grammar) (left : ℕ) (rest : Forest) → left ≡ 0
+    → unchanged none ≡ steps within s g left rest
+no_steps within s g left rest e = steps_none within s g rest ∙ ap (λ n. steps within s g n rest) (sym e)
+
+pub ended : (within : Forest → Stripped) (s : Settings) (g : Grammar) (all : ℕ) (f : Forest) (old : Levels)
+    (before : List Fault) (left : ℕ) (rest : Forest) (now : Levels) (found : List Fault) → left ≡ 0
+    → Left within s g all f old before left rest now found
+    → now ≡ put (steps within s g all f).kept old
+ended within s g all f old before left rest now found e h =
+    put-none now ∙ ap (λ x. put x.kept now) (no_steps within s g left rest e) ∙ h.same
+
+pub ended_faults : (within : Forest → Stripped) (s : Settings) (g : Grammar) (all : ℕ) (f : Forest) (old : Levels)
+    (before : List Fault) (left : ℕ) (rest : Forest) (now : Levels) (found : List Fault) → left ≡ 0
+    → Left within s g all f old before left rest now found
+    → found ≡ before ++ (steps within s g all f).faults
+ended_faults within s g all f old before left rest now found e h =
+    sym (append-nil found) ∙ ap (λ x. found ++ x.faults) (no_steps within s g left rest e) ∙ h.noted
 
 pub stripped_suc : (s : Settings) (g : Grammar) (levels : ℕ) (f : Forest)
     → steps (stripped s g levels) s g (flat_len f) f ≡ stripped s g (suc levels) f
 unfolding stripped
 stripped_suc s g levels f = refl
 
--- too deep
-pub stripped_none : (s : Settings) (g : Grammar) (levels : ℕ) (f : Forest) → levels ≡ 0 → f ≡ stripped s g levels f
+stripped_zero : (s : Settings) (g : Grammar) (f : Forest) → unchanged f ≡ stripped s g 0 f
 unfolding stripped
-stripped_none s g levels f e = ap (λ n. stripped s g n f) (sym e)
+stripped_zero s g f = refl
 
--- ---- groups
-
-pub group_written : (d : Delimiter) (f : Forest) (now opened mid next : Levels)
-    → opened ≡ (record { opening = d.opening; close = d.opening; kind = d.kind }, none) ∷ now
-    → mid ≡ put f opened → next ≡ closed d.close mid → next ≡ put (group d f none) now
-group_written d f now opened mid next o m e = e ∙ ap (closed d.close) (m ∙ ap (put f) o)
-
--- a group that is opened among some isn't the outermost one
-pub is_inside : (f : Forest) (now opened mid : Levels) (x : Delimiter × Forest) → 0 < length now → opened ≡ x ∷ now
-    → mid ≡ put f opened → 1 < length mid
-is_inside f now opened mid x some o m =
-    let l = ap length m ∙ length-put opened f ∙ ap length o in
-    omega (arith, some, l)
+-- too deep
+pub stripped_none : (s : Settings) (g : Grammar) (levels : ℕ) (f : Forest) → levels ≡ 0
+    → unchanged f ≡ stripped s g levels f
+stripped_none s g levels f e = stripped_zero s g f ∙ ap (λ n. stripped s g n f) (sym e)
 
 -- ---- trees that stay as they are
 
@@ -147,16 +159,3 @@ copied_on n f rest after view old now next h is more r e = record {
   same = ap (λ x. put (up_to n x) next) r ∙ ap (put (up_to n (rest_of rest))) e
       ∙ put_put view (up_to n (rest_of rest)) now ∙ ap (λ x. put x now) (up_to_more n rest view is more) ∙ h.same;
 }
-
-pub rest_less : (f view : Forest) → Some view ≡ first_alone f → flat_len (rest_of f) < flat_len f
-rest_less none view e = cc
-rest_less (leaf l rest) view e = omega arith
-rest_less (group d inside rest) view e = omega arith
-
-pub none_left : (f : Forest) (n : ℕ) → None ≡ first_alone f → flat_len f ≤ n
-none_left none n e = omega arith
-none_left (leaf l rest) n e = cc
-none_left (group d inside rest) n e = cc
-
-pub copying : (n : ℕ) (f rest : Forest) (old : Levels) → rest ≡ f → Copying n f old rest old
-copying n f rest old e = record { same = ap (λ x. put (up_to n x) old) e }

@@ -1,6 +1,7 @@
 -- Trees without what attributes are on whose `cfg` doesn't hold.
 use Rattle.std.specs.Prelude.{ℕ, zero, suc, Bool, true, false, not, nat_lt, if◌then◌else◌}
-use Rattle.std.specs.Prelude.{Option, Some, None, option_and_then, Result, Ok, Err}
+use Rattle.std.specs.Result.{result_err}
+use Rattle.std.specs.Prelude.{List, [], ◌∷◌, ◌++◌, Option, Some, None, option_and_then, Result, Ok, Err}
 use Rattle.mbe_tt.specs.Fragments.Grammar.{Grammar}
 use Rattle.mbe_tt.specs.Trees.Top.{Top}
 use Rattle.mbe_tt.specs.Trees.Tree.{Forest, Tree, Leaf_tree, Group_tree, none, leaf, group, append, one_leaf, flat_len}
@@ -11,7 +12,7 @@ use Rattle.mbe_cfg.specs.declared.fault.Fault.{Fault}
 use Rattle.mbe_cfg.specs.declared.predicate.TheConstants.{DEPTH}
 use Rattle.mbe_cfg.specs.declared.settings.Settings.{Settings}
 use Rattle.mbe_cfg.specs.Attributes.{attribute, attributes}
-use Rattle.mbe_cfg.specs.Fronts.{Group, after_char, group_at}
+use Rattle.mbe_cfg.specs.Fronts.{Group, after_char, group_at, bracketed}
 use Rattle.mbe_cfg.specs.Predicates.{Read}
 use Rattle.mbe_stripping.specs.Extents.{after_subject}
 
@@ -49,7 +50,22 @@ after_inner g f (Some attribute) = none
 abbrev pub after_off : Grammar → Forest → Forest
 after_off g f = after_inner g f (inner f)
 
+-- ---- what is wrong in attributes
+
+-- what is wrong in the one attribute at the front
+abbrev pub fault_at : Settings → Forest → Option Fault
+fault_at s f = option_and_then (λ g. result_err (attribute s DEPTH g.close g.inside)) (bracketed f)
+
+abbrev pub as_list : Option Fault → List Fault
+as_list None = []
+as_list (Some fault) = fault ∷ []
+
 -- ---- what stays
+
+-- what stays of trees, and what is wrong in the attributes that stay
+pub record Stripped : Type 0 where
+  pub kept : Forest
+  pub faults : List Fault
 
 -- the first trees, down to so many flat tokens that are left
 abbrev pub up_to : ℕ → Forest → Forest
@@ -58,43 +74,61 @@ up_to n (leaf l rest) = if nat_lt n (flat_len (leaf l rest)) then leaf l (up_to 
 up_to n (group d inside rest) =
     if nat_lt n (flat_len (group d inside rest)) then group d inside (up_to n rest) else none
 
-abbrev pub group_stripped : (Forest → Forest) → Delimiter → Forest → Forest
-group_stripped within d inside = group d (within inside) none
+-- trees that stay as they are
+abbrev pub unchanged : Forest → Stripped
+unchanged f = record { kept = f; faults = [] }
 
-abbrev pub tree_stripped : (Forest → Forest) → Tree → Forest
-tree_stripped within (Leaf_tree l) = one_leaf l
-tree_stripped within (Group_tree d inside) = group_stripped within d inside
+abbrev pub in_group : Delimiter → Stripped → Stripped
+in_group d inside = record { kept = group d inside.kept none; faults = inside.faults }
 
--- what stays of a front, and what is left after it
+abbrev pub tree_stripped : (Forest → Stripped) → Tree → Stripped
+tree_stripped within (Leaf_tree l) = unchanged (one_leaf l)
+tree_stripped within (Group_tree d inside) = in_group d (within inside)
+
+-- what stays of a front, what is wrong in its attributes, and what is left after it
 pub record Step : Type 0 where
   pub kept : Forest
+  pub faults : List Fault
   pub rest : Forest
 
-abbrev pub off_or_tree : (Forest → Forest) → Grammar → Forest → Tree → Forest → Bool → Step
-off_or_tree within g f t rest true = record { kept = none; rest = after_off g f }
-off_or_tree within g f t rest false = record { kept = tree_stripped within t; rest = rest }
+abbrev pub whole : Forest → Forest → Step
+whole f rest = record { kept = up_to (flat_len rest) f; faults = []; rest = rest }
+
+abbrev pub with_fault : List Fault → Stripped → Forest → Step
+with_fault faults t rest = record { kept = t.kept; faults = faults ++ t.faults; rest = rest }
+
+abbrev pub off_or_tree : (Forest → Stripped) → Settings → Grammar → Forest → Tree → Forest → Bool → Step
+off_or_tree within s g f t rest true = record { kept = none; faults = []; rest = after_off g f }
+off_or_tree within s g f t rest false = with_fault (as_list (fault_at s f)) (tree_stripped within t) rest
 
 -- A definition and a call stay whole. Any other tree stays with what stays of what it holds, unless it begins something
 -- that is off.
-abbrev pub step_by : (Forest → Forest) → Settings → Grammar → Forest → calls.Front → Step
-step_by within s g f calls.End = record { kept = none; rest = f }
-step_by within s g f (calls.Definition d) = record { kept = up_to (flat_len d.rest) f; rest = d.rest }
-step_by within s g f (calls.ACall c) = record { kept = up_to (flat_len c.rest) f; rest = c.rest }
-step_by within s g f (calls.Other t rest) = off_or_tree within g f t rest (is_off s f)
+abbrev pub step_by : (Forest → Stripped) → Settings → Grammar → Forest → calls.Front → Step
+step_by within s g f calls.End = record { kept = none; faults = []; rest = f }
+step_by within s g f (calls.Definition d) = whole f d.rest
+step_by within s g f (calls.ACall c) = whole f c.rest
+step_by within s g f (calls.Other t rest) = off_or_tree within s g f t rest (is_off s f)
 
-abbrev pub step : (Forest → Forest) → Settings → Grammar → Forest → Step
+abbrev pub step : (Forest → Stripped) → Settings → Grammar → Forest → Step
 step within s g f = step_by within s g f (calls.front f)
 
+abbrev pub followed : Step → Stripped → Stripped
+followed one more = record { kept = append one.kept more.kept; faults = one.faults ++ more.faults }
+
 -- what stays of trees, one front after another, so many at most
-unfoldable pub steps : (Forest → Forest) → Settings → Grammar → ℕ → Forest → Forest
-steps within s g zero f = none
-steps within s g (suc n) f = append (step within s g f).kept (steps within s g n (step within s g f).rest)
+unfoldable pub steps : (Forest → Stripped) → Settings → Grammar → ℕ → Forest → Stripped
+steps within s g zero f = unchanged none
+steps within s g (suc n) f = followed (step within s g f) (steps within s g n (step within s g f).rest)
 
 -- What stays of trees in which so many groups may be in one another. Each front has a flat token at least.
-unfoldable pub stripped : Settings → Grammar → ℕ → Forest → Forest
-stripped s g zero f = f
+unfoldable pub stripped : Settings → Grammar → ℕ → Forest → Stripped
+stripped s g zero f = unchanged f
 stripped s g (suc levels) f = steps (stripped s g levels) s g (flat_len f) f
 
 -- a tree without what is off in it
 abbrev pub tree_without : Settings → Grammar → Top → Top
-tree_without s g t = (t.0, stripped s g 1001 t.1)
+tree_without s g t = (t.0, (stripped s g 1001 t.1).kept)
+
+-- what is wrong in its attributes, in their order
+abbrev pub faults_of_tree : Settings → Grammar → Top → List Fault
+faults_of_tree s g t = (stripped s g 1001 t.1).faults

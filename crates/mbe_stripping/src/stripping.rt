@@ -1,7 +1,7 @@
 // Trees without what attributes are on whose `cfg` doesn't hold.
 //
 // Trees are gone through from the front. Definitions and calls of macros stay whole: what their groups hold is no Rust yet.
-ghost use Rattle.std.specs.Prelude.{◌≡◌, ◌<◌, IfOk, OnOk, length, option_map, suc};
+ghost use Rattle.std.specs.Prelude.{◌≡◌, ◌<◌, ◌++◌, IfOk, OnOk, length, option_map, suc};
 ghost use Rattle.mbe_tt.specs.Buffers.Building.{put};
 ghost use Rattle.mbe_tt.specs.Trees.Tree.{flat_len, none};
 ghost use Rattle.mbe_tt.specs.Views.Element.{element_tree};
@@ -13,7 +13,7 @@ use crate::extent::after_subject;
 use mbe_calls::calls::{Front, front_of};
 use mbe_cfg::attributes::{attribute, attributes};
 use mbe_cfg::fault::Fault;
-use mbe_cfg::fronts::{Group, after_char, group_at};
+use mbe_cfg::fronts::{Group, after_char, bracketed, group_at};
 use mbe_cfg::predicate::DEPTH;
 use mbe_cfg::settings::Settings;
 use mbe_tt::grammar::FragmentGrammar;
@@ -47,29 +47,37 @@ fn let_through<A: Allocator>(
     }
 }
 
-// Keeps a fault, unless it is the last one that was kept.
-fn keep<A: Allocator>(faults: &mut Vec<Fault, A>, fault: Fault) -> Result<(), AllocError> {
-    if faults.last().is_none_or(|last| *last != fault) {
-        faults.push(fault)?;
+// Whether what is at the front has attributes that don't let it be compiled. One with a fault does.
+fn is_off<A: Allocator>(settings: &Settings<'_>, tokens: TokenTreesView<'_, A>) -> bool
+    ensures { result ≡ spec.is_off settings.now (trees tokens.entry) }
+{
+    match let_through(settings, tokens) {
+        Ok(holds) => !holds,
+        Err(_fault) => false,
     }
-    Ok(())
 }
 
-// Whether what is at the front has attributes that don't let it be compiled. One with a fault does, and the fault is kept.
-fn is_off<A: Allocator>(
+// What is wrong in the one attribute at the front.
+fn fault_at<A: Allocator>(settings: &Settings<'_>, tokens: TokenTreesView<'_, A>) -> Option<Fault>
+    ensures { result ≡ spec.fault_at settings.now (trees tokens.entry) }
+{
+    let group = bracketed(tokens)?;
+    attribute(settings, DEPTH, group.close, group.inside).err()
+}
+
+// Keeps what is wrong in the one attribute at the front.
+fn keep_fault<A: Allocator>(
     settings: &Settings<'_>,
     faults: &mut Vec<Fault, A>,
     tokens: TokenTreesView<'_, A>,
-) -> Result<bool, AllocError>
-    ensures { IfOk result (λ off. off ≡ spec.is_off settings.now (trees tokens.entry)) }
+) -> Result<(), AllocError>
+    ensures { OnOk result (faults.new.items
+        ≡ faults.old.items ++ spec.as_list (spec.fault_at settings.now (trees tokens.entry))) }
 {
-    match let_through(settings, tokens) {
-        Ok(holds) => Ok(!holds),
-        Err(fault) => {
-            keep(faults, fault)?;
-            Ok(false)
-        }
+    if let Some(fault) = fault_at(settings, tokens) {
+        faults.push(fault)?;
     }
+    Ok(())
 }
 
 // What is after all of these trees.
@@ -96,7 +104,6 @@ fn after_off<'t, A: Allocator, G: FragmentGrammar>(
 }
 
 // Writes the first trees as they are, up to those that are left.
-#[tactic(auto, using(crate::proofs::StripLemmas::copied, crate::proofs::StripLemmas::copied_on))]
 fn copy_up_to<'t, A: Allocator + Copy>(
     builder: &mut TopSubtreeBuilder<A>,
     tokens: TokenTreesView<'t, A>,
@@ -132,6 +139,9 @@ fn strip_front<'t, A: Allocator + Copy, G: FragmentGrammar>(
     ensures kept { OnOk result (builder.new ≡ put
         (spec.step (spec.stripped settings.now (G.grammar grammar.now) levels)
         settings.now (G.grammar grammar.now) (trees tokens.entry)).kept builder.old) }
+    ensures faults { OnOk result (faults.new.items ≡ faults.old.items ++
+        (spec.step (spec.stripped settings.now (G.grammar grammar.now) levels)
+        settings.now (G.grammar grammar.now) (trees tokens.entry)).faults) }
     ensures rest { IfOk result (λ r. trees r ≡
         (spec.step (spec.stripped settings.now (G.grammar grammar.now) levels)
         settings.now (G.grammar grammar.now) (trees tokens.entry)).rest) }
@@ -147,9 +157,10 @@ fn strip_front<'t, A: Allocator + Copy, G: FragmentGrammar>(
             Ok(call.rest)
         }
         Front::Tree(tree, rest) => {
-            if is_off(settings, faults, tokens)? {
+            if is_off(settings, tokens) {
                 return after_off(grammar, tokens);
             }
+            keep_fault(settings, faults, tokens)?;
             strip_tree(settings, grammar, faults, builder, tree, levels)?;
             Ok(rest)
         }
@@ -167,9 +178,12 @@ fn strip_tree<A: Allocator + Copy, G: FragmentGrammar>(
     levels: u32,
 ) -> Result<(), AllocError>
     requires some { 0 < length builder.old }
-    ensures { OnOk result (builder.new ≡ put
+    ensures kept { OnOk result (builder.new ≡ put
         (spec.tree_stripped (spec.stripped settings.now (G.grammar grammar.now) levels)
-        (element_tree tree.entry)) builder.old) }
+        (element_tree tree.entry)).kept builder.old) }
+    ensures faults { OnOk result (faults.new.items ≡ faults.old.items ++
+        (spec.tree_stripped (spec.stripped settings.now (G.grammar grammar.now) levels)
+        (element_tree tree.entry)).faults) }
 {
     match tree {
         TtElement::Leaf(leaf) => builder.push(leaf.clone()?),
@@ -200,9 +214,11 @@ fn strip_group<A: Allocator + Copy, G: FragmentGrammar>(
     levels: u32,
 ) -> Result<(), AllocError>
     requires some { 0 < length builder.old }
-    ensures { OnOk result (builder.new ≡ put
-        (spec.group_stripped (spec.stripped settings.now (G.grammar grammar.now) levels)
-        delimiter (trees inside.entry)) builder.old) }
+    ensures kept { OnOk result (builder.new ≡ put
+        (spec.in_group delimiter (spec.stripped settings.now (G.grammar grammar.now) levels
+        (trees inside.entry))).kept builder.old) }
+    ensures faults { OnOk result (faults.new.items ≡ faults.old.items ++
+        (spec.stripped settings.now (G.grammar grammar.now) levels (trees inside.entry)).faults) }
 {
     builder.open(delimiter.kind, delimiter.opening)?;
     strip_inside(settings, grammar, faults, builder, inside, levels)?;
@@ -221,8 +237,11 @@ fn strip_inside<A: Allocator + Copy, G: FragmentGrammar>(
     levels: u32,
 ) -> Result<(), AllocError>
     requires some { 0 < length builder.old }
-    ensures { OnOk result (builder.new ≡ put
-        (spec.stripped settings.now (G.grammar grammar.now) levels (trees tokens.entry)) builder.old) }
+    ensures kept { OnOk result (builder.new ≡ put
+        (spec.stripped settings.now (G.grammar grammar.now) levels (trees tokens.entry)).kept
+        builder.old) }
+    ensures faults { OnOk result (faults.new.items ≡ faults.old.items ++
+        (spec.stripped settings.now (G.grammar grammar.now) levels (trees tokens.entry)).faults) }
 {
     if levels == 0 {
         return builder.extend_with_tt(tokens);
@@ -241,9 +260,11 @@ fn strip_trees<A: Allocator + Copy, G: FragmentGrammar>(
     levels: u32,
 ) -> Result<(), AllocError>
     requires some { 0 < length builder.old }
-    ensures { OnOk result (builder.new ≡ put
-        (spec.stripped settings.now (G.grammar grammar.now) (suc levels) (trees tokens.entry))
+    ensures kept { OnOk result (builder.new ≡ put
+        (spec.stripped settings.now (G.grammar grammar.now) (suc levels) (trees tokens.entry)).kept
         builder.old) }
+    ensures faults { OnOk result (faults.new.items ≡ faults.old.items ++
+        (spec.stripped settings.now (G.grammar grammar.now) (suc levels) (trees tokens.entry)).faults) }
 {
     let mut rest = tokens;
     let mut left = tokens.flat_len();
@@ -255,7 +276,8 @@ fn strip_trees<A: Allocator + Copy, G: FragmentGrammar>(
 }
 
 /// The tree without what attributes are on, in it, whose `cfg` doesn't hold under these settings, where the grammar says what is
-/// an item; what is wrong in attributes is kept in `faults`, and what they are on stays. `AllocError` if out of memory.
+/// an item. What attributes with a fault are on stays; of each attribute that stays, what is wrong in it comes at the end of
+/// `faults`, in the attributes' order. `AllocError` if out of memory: then some of the faults may be there.
 pub fn strip<A: Allocator + Copy, G: FragmentGrammar>(
     alloc: A,
     settings: &Settings<'_>,
@@ -263,8 +285,10 @@ pub fn strip<A: Allocator + Copy, G: FragmentGrammar>(
     faults: &mut Vec<Fault, A>,
     tree: &TopSubtree<A>,
 ) -> Result<TopSubtree<A>, AllocError>
-    ensures { IfOk result (λ t. t
+    ensures tree { IfOk result (λ t. t
         ≡ spec.tree_without settings.now (G.grammar grammar.now) tree.now) }
+    ensures faults { OnOk result (faults.new.items ≡ faults.old.items
+        ++ spec.faults_of_tree settings.now (G.grammar grammar.now) tree.now) }
 {
     let mut builder = TopSubtreeBuilder::new(alloc, tree.top_subtree().delimiter)?;
     let of = &mut builder;

@@ -24,7 +24,7 @@ abbrev pub invariant-strip_trees-fronts : goal.invariant-strip_trees-fronts
 invariant-strip_trees-fronts g l =
     Left (stripped l.settings (g.G.FragmentGrammar.grammar l.grammar) l.levels) l.settings
     (g.G.FragmentGrammar.grammar l.grammar) (flat_len (trees l.fn.tokens)) (trees l.fn.tokens) l.initial.builder
-    l.left (trees l.rest) l.builder
+    l.initial.faults.items l.left (trees l.rest) l.builder l.faults.items
 
 abbrev pub decreases-strip_trees-fronts : goal.decreases-strip_trees-fronts
 decreases-strip_trees-fronts g l = l.left
