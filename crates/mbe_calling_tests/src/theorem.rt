@@ -5,6 +5,7 @@ ghost use Rattle.mbe_semantics.specs.Expansion.Expansion.{Applies, IsExpansion};
 ghost use Rattle.mbe_semantics.specs.declared.macro_call_style.MacroCallStyle.TheVariants.{FnLike};
 ghost use Rattle.mbe_semantics.specs.Laws.Marking.{MayMark};
 ghost use Rattle.mbe_tt.specs.Trees.Top.{top_group};
+ghost use Rattle.mbe.specs.CheckedViews.{checked_of};
 
 use mbe::{CheckedMacro, MacroCallStyle};
 use mbe_tt::grammar::FragmentGrammar;
@@ -24,9 +25,9 @@ pub fn applied<A: Allocator + Copy, G: FragmentGrammar, M: Fn(Span) -> Span + Co
     requires may_mark { MayMark (M.pre marker) }
     ensures some { IfOk result (λ found. IfSome found (λ tree. (n : ℕ)
         × IsExpansion (G.grammar grammar.now) FnLike argument.now.1 (M.post marker) call_site
-        defined.now.rules n (top_group tree))) }
+        (checked_of defined.now).rules n (top_group tree))) }
     ensures none { IfOk result (λ found. IsNone found → (rule : Rule)
-        → Contains defined.now.rules rule
+        → Contains (checked_of defined.now).rules rule
         → Applies (G.grammar grammar.now) FnLike argument.now.1 rule → ⊥) }
 {
     let style = MacroCallStyle::FnLike;
