@@ -5,7 +5,7 @@
 
 A PATH is a Rust file or a folder of them. rustc says each step of a file's calls under `-Z trace-macros` (with `RUSTC_BOOTSTRAP=1`), also where the
 file doesn't compile by itself; expandm says what each call becomes under `--once --trace`. For each call of the file itself (none of an
-expansion) of a macro that the file defines, the first step of both is divided into tokens and compared, without parentheses: `$e:expr` stands in
+expansion) of a macro that the file defines, the first step of both is divided into tokens and compared, without parentheses: `$e:expr` is in
 them here, and in an invisible group there; nor by the `$` of `$crate`. Both sides for each call that differs are printed, and then the numbers: also of the
 calls that differ only since rustc prints two words as one (`mutself`). The edition is that of the line `// edition:YEAR`, else 2021.
 """

@@ -3,7 +3,7 @@
 
     python3 tools/gate-times.py FOLDER [COMMAND..]
 
-COMMAND is `rt ci` unless it is given. FOLDER, which stands outside the clone, gets `ci.log` (what the gate wrote, each line with the second at which it came),
+COMMAND is `rt ci` unless it is given. FOLDER, which is outside the clone, gets `ci.log` (what the gate wrote, each line with the second at which it came),
 `parts.tsv` (a line for each process: crate, part, start, end, CPU seconds, most memory) and `table.md`, the table
 of docs/GATE.md in minutes of one processor; the last two are written anew each minute, so that a run that is cut off leaves them.
 A process is counted with all that it starts. What it used after the last look at it, half a second at most, is missing; the

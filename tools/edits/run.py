@@ -52,7 +52,7 @@ def texts_of(edit, crate):
 
 
 def function_at(text, at):
-    """The function that stands at an offset, as `--only` names it below its module."""
+    """The function at an offset, as `--only` names it below its module."""
     function, owner = None, ""
     for line in text[:at].split("\n") + [text[at:].split("\n")[0]]:
         is_impl = re.match(r"impl\b(?:<[^{]*?>)? (?:(?P<of>[\w:]+)(?:<.*?>)? for )?(?P<type>\w+)", line)

@@ -26,7 +26,7 @@ impl Box2 {
 }
 
 fn main() {
-    let side = area!(2 + 1) - 1;   // in parentheses, since `-` stands beside it
+    let side = area!(2 + 1) - 1;   // in parentheses, since `-` is beside it
     println!("{}", area!(side, crate::unit!()));
     let all = vec![twice!(side), unknown!(side)];
     if side > 3 { area! { side } }

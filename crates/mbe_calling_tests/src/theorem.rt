@@ -2,13 +2,12 @@
 ghost use Rattle.std.specs.Prelude.{ℕ, Contains, IfOk, IfSome, IsNone};
 ghost use Rattle.mbe_semantics.specs.Syntax.Definition.{Rule};
 ghost use Rattle.mbe_semantics.specs.Expansion.Expansion.{Applies, IsExpansion};
-ghost use Rattle.mbe_semantics.specs.Expansion.Macro.{IsChecked};
 ghost use Rattle.mbe_semantics.specs.declared.macro_call_style.MacroCallStyle.TheVariants.{FnLike};
 ghost use Rattle.mbe_semantics.specs.Laws.Marking.{MayMark};
 ghost use Rattle.mbe_tt.specs.Trees.Top.{top_group};
-ghost use Rattle.mbe.specs.MacroViews.{macro_of};
+ghost use Rattle.mbe.specs.CheckedViews.{checked_of};
 
-use mbe::{DeclarativeMacro, MacroCallStyle};
+use mbe::{CheckedMacro, MacroCallStyle};
 use mbe_tt::grammar::FragmentGrammar;
 use mbe_tt::span::Span;
 use mbe_tt::tt::TopSubtree;
@@ -18,18 +17,17 @@ use std::alloc::{AllocError, Allocator};
 pub fn applied<A: Allocator + Copy, G: FragmentGrammar, M: Fn(Span) -> Span + Copy>(
     alloc: A,
     grammar: &G,
-    defined: &DeclarativeMacro<A>,
+    defined: &CheckedMacro<A>,
     argument: &TopSubtree<A>,
     marker: M,
     call_site: Span,
 ) -> Result<Option<TopSubtree<A>>, AllocError>
-    requires checked { IsChecked (macro_of defined.now) }
     requires may_mark { MayMark (M.pre marker) }
     ensures some { IfOk result (λ found. IfSome found (λ tree. (n : ℕ)
         × IsExpansion (G.grammar grammar.now) FnLike argument.now.1 (M.post marker) call_site
-        (macro_of defined.now).rules n (top_group tree))) }
+        (checked_of defined.now).rules n (top_group tree))) }
     ensures none { IfOk result (λ found. IsNone found → (rule : Rule)
-        → Contains (macro_of defined.now).rules rule
+        → Contains (checked_of defined.now).rules rule
         → Applies (G.grammar grammar.now) FnLike argument.now.1 rule → ⊥) }
 {
     let style = MacroCallStyle::FnLike;
@@ -43,7 +41,6 @@ pub fn applied<A: Allocator + Copy, G: FragmentGrammar, M: Fn(Span) -> Span + Co
 pub mod tests {
     use super::applied;
     use crate::expansions::read;
-    use mbe::ParseError;
     use mbe_grammar::SampleGrammar;
     use mbe_text::lexer::lex;
     use std::alloc::Global;
@@ -67,10 +64,9 @@ pub mod tests {
         count: Option<usize>,
     ) -> anyhow::Result<bool> {
         assert!(rt; argument.len() < 1_000_000);
-        let defined = read(alloc, RULES)?;
-        if let Some(ParseError::RepetitionEmptyTokenTree) = defined.err() {
+        let Ok(defined) = read(alloc, RULES)?.checked() else {
             return Ok(false);
-        }
+        };
         let argument = lex(alloc, argument, 1)?;
         let call_site = argument.top_subtree().delimiter.opening;
         let found = applied(alloc, &SampleGrammar, &defined, &argument, |s| s, call_site)?;
