@@ -8,6 +8,7 @@ complete -c expandm -l edition -x -a '2015 2018 2021 2024' -d 'the edition of th
 complete -c expandm -l trace -d 'report each step'
 complete -c expandm -l origin -d 'report where each token of an expansion is from'
 complete -c expandm -l explain -d 'say what each rule wants of the calls that no rule fits'
+complete -c expandm -l lint -d 'report what is wrong with definitions, and expand nothing'
 complete -c expandm -l json -d 'report in JSON, as rustc does'
 complete -c expandm -l help -d 'print the options'
 complete -c expandm -l version -d 'print the version'

@@ -8,6 +8,8 @@ mod captures;
 #[cfg(test)]
 mod explained;
 #[cfg(test)]
+mod linted;
+#[cfg(test)]
 mod places;
 #[cfg(test)]
 mod programs;

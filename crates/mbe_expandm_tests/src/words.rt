@@ -19,7 +19,7 @@ fn asked(alloc: Global, text: &str) -> Result<&'static str, AllocError> {
     })
 }
 
-static ROWS: [(&str, &str); 26] = [
+static ROWS: [(&str, &str); 28] = [
     ("", "no file"),
     ("a.rs", "run"),
     ("-", "run"),
@@ -40,6 +40,8 @@ static ROWS: [(&str, &str); 26] = [
     ("--often a.rs", "wrong"),
     ("--origin a.rs", "run"),
     ("--json a.rs", "run"),
+    ("--lint a.rs", "run"),
+    ("--lint --json", "no file"),
     ("--explain a.rs", "run"),
     ("--explain 3:7 a.rs", "run"),
     ("--explain 3", "no file"),

@@ -4,7 +4,7 @@ use Rattle.std.specs.Option.{option_or}
 use Rattle.mbe_tt.specs.declared.span.Span.{Span}
 use Rattle.mbe_tt.specs.declared.tt.Punct.{Punct}
 use Rattle.mbe_tt.specs.Trees.Leaf.{Ident}
-use Rattle.mbe_tt.specs.Trees.Tree.{Forest, none, leaf, group, rest_of, front_punct, front_ident}
+use Rattle.mbe_tt.specs.Trees.Tree.{Forest, Tree, Leaf_tree, Group_tree, none, leaf, group, rest_of, front_punct, front_ident}
 use Rattle.mbe_calls.specs.Fronts.{after_char, Form, Rules, Body, Arguments, Defined}
 use Rattle.mbe_semantics.specs.Syntax.Op.{Name}
 use Rattle.mbe_tt.specs.Views.Shown.{ident_of}
@@ -54,17 +54,18 @@ variable_at place f = option_and_then (variable_with place (rest_of f)) (front_p
 
 -- ---- among trees
 
-abbrev pub written_first : (Forest → Option Written) → Span → Forest → Option Written
-written_first within place none = None
-written_first within place (leaf l rest) = variable_at place (leaf l rest)
-written_first within place (group d inside rest) = within inside
+-- what a first tree holds, or what these trees begin with
+abbrev pub written_first : (Forest → Option Written) → Span → Tree → Forest → Option Written
+written_first within place (Leaf_tree l) f = variable_at place f
+written_first within place (Group_tree d inside) f = within inside
 
 abbrev pub written_among : (Forest → Option Written) → Span → Forest → Option Written
 written_among within place none = None
 written_among within place (leaf l rest) =
-    option_or (written_first within place (leaf l rest)) (written_among within place rest)
+    option_or (written_first within place (Leaf_tree l) (leaf l rest)) (written_among within place rest)
 written_among within place (group d inside rest) =
-    option_or (written_first within place (group d inside rest)) (written_among within place rest)
+    option_or (written_first within place (Group_tree d inside) (group d inside rest))
+    (written_among within place rest)
 
 -- the first variable whose name begins there, where so many groups may be in one another
 unfoldable pub written_in : ℕ → Span → Forest → Option Written

@@ -15,7 +15,7 @@ ghost use Rattle.mbe_lints.specs.Read.{macro_read};
 
 use crate::definitions::definitions;
 use crate::lint::{Lint, push};
-use crate::reading::{Read, read};
+use crate::reading::{ReadMacro, read};
 use crate::wording::push_finding;
 use mbe_calls::calls::Defined;
 use mbe_diagnostics::diagnostic::Level;
@@ -81,7 +81,7 @@ fn push_macro<A: Allocator + Copy>(
     alloc: A,
     lints: &mut Vec<Lint<A>, A>,
     defined: Defined<'_, A>,
-    read: &Read<A>,
+    read: &ReadMacro<A>,
 ) -> Result<(), AllocError>
     ensures { OnOk result (map lint_seen lints.new.items ≡ map lint_seen lints.old.items
         ++ macro_lints (defined_shown defined.entry) (macro_read read.now)) }

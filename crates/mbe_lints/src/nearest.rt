@@ -1,7 +1,6 @@
 // The specifier that an unknown one is most like.
-ghost use Rattle.std.specs.Prelude.{◌≡◌, None, codes, map, option_map, IfOk};
+ghost use Rattle.std.specs.Prelude.{◌≡◌, None, map, option_map, IfOk};
 ghost use Rattle.mbe_lints.specs.Nearest as spec;
-ghost use Rattle.mbe_lints.specs.Nearest.{specifiers};
 
 use std::alloc::{AllocError, Allocator};
 use strsim::osa_distance;
@@ -32,10 +31,11 @@ fn too_many(name: &str) -> usize
     name.chars().count().max(3) / 3 + 1
 }
 
-fn same_letters(name: &str) -> Option<&'static str>
-    ensures { option_map (λ s. s.now) result ≡ spec.same_letters name.now specifiers }
+fn same_letters<'s>(name: &str, all: &[&'s str]) -> Option<&'s str>
+    ensures { option_map (λ s. s.now) result
+        ≡ spec.same_letters name.now (map (λ s. s.now) all.now) }
 {
-    for one in SPECIFIERS {
+    for one in all {
         if name.eq_ignore_ascii_case(one) {
             return Some(*one);
         }
@@ -43,16 +43,17 @@ fn same_letters(name: &str) -> Option<&'static str>
     None
 }
 
-fn fewest_edits<A: Allocator + Copy>(
+fn fewest_edits<'s, A: Allocator + Copy>(
     alloc: A,
     name: &str,
-) -> Result<Option<&'static str>, AllocError>
+    all: &[&'s str],
+) -> Result<Option<&'s str>, AllocError>
     ensures { IfOk result (λ found. option_map (λ s. s.now) found
-        ≡ spec.fewest name.now (spec.too_many name.now) None specifiers) }
+        ≡ spec.fewest name.now (spec.too_many name.now) None (map (λ s. s.now) all.now)) }
 {
     let mut bound = too_many(name);
     let mut found = None;
-    for one in SPECIFIERS {
+    for one in all {
         let edits = osa_distance(alloc, name, one)?;
         if edits < bound {
             bound = edits;
@@ -71,8 +72,8 @@ pub fn nearest<A: Allocator + Copy>(
 ) -> Result<Option<&'static str>, AllocError>
     ensures { IfOk result (λ found. option_map (λ s. s.now) found ≡ spec.nearest name.now) }
 {
-    match same_letters(name) {
+    match same_letters(name, SPECIFIERS) {
         Some(found) => Ok(Some(found)),
-        None => fewest_edits(alloc, name),
+        None => fewest_edits(alloc, name, SPECIFIERS),
     }
 }

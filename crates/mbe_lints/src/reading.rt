@@ -19,7 +19,7 @@ use std::alloc::{AllocError, Allocator, Global};
 
 /// The rules of a definition up to the first fault, and that fault. Clauses see it by `macro_read`.
 #[derive(Drop)]
-pub struct Read<A: Allocator = Global> {
+pub struct ReadMacro<A: Allocator = Global> {
     pub rules: Vec<Rule<A>, A>,
     pub err: Option<ParseError<A>>,
 }
@@ -29,14 +29,14 @@ fn with_fault<A: Allocator + Copy>(
     alloc: A,
     rules: Vec<Rule<A>, A>,
     fault: Option<SyntaxFault>,
-) -> Result<Read<A>, AllocError>
+) -> Result<ReadMacro<A>, AllocError>
     ensures { IfOk result (λ m. macro_read m ≡ record {
       rules = rules_seen rules.items;
       err = with_refusal (rules_seen rules.items) (option_map fault_of fault);
     }) }
 {
     if refuses_some(&rules) {
-        return Ok(Read {
+        return Ok(ReadMacro {
             rules,
             err: Some(ParseError::RepetitionEmptyTokenTree),
         });
@@ -45,7 +45,7 @@ fn with_fault<A: Allocator + Copy>(
         None => None,
         Some(fault) => Some(ParseError::of_fault(alloc, fault)?),
     };
-    Ok(Read { rules, err })
+    Ok(ReadMacro { rules, err })
 }
 
 // The rules of a `macro_rules!` definition.
@@ -53,7 +53,7 @@ fn read_rules<A: Allocator + Copy>(
     alloc: A,
     edition: Edition,
     body: TokenTreesView<'_, A>,
-) -> Result<Read<A>, AllocError>
+) -> Result<ReadMacro<A>, AllocError>
     ensures { IfOk result (λ m. IsReadAs (IsEdition edition) (trees body.entry) (macro_read m)) }
 {
     let missing = SyntaxFault::ExpectedSemicolon;
@@ -66,7 +66,7 @@ fn read_body<A: Allocator + Copy>(
     alloc: A,
     edition: Edition,
     body: TokenTreesView<'_, A>,
-) -> Result<Read<A>, AllocError>
+) -> Result<ReadMacro<A>, AllocError>
     ensures { IfOk result (λ m. IsReadAsMacro (IsEdition edition) None (trees body.entry)
         (macro_read m)) }
 {
@@ -82,7 +82,7 @@ fn read_one<A: Allocator + Copy>(
     edition: Edition,
     pattern: TokenTreesView<'_, A>,
     body: TokenTreesView<'_, A>,
-) -> Result<Read<A>, AllocError>
+) -> Result<ReadMacro<A>, AllocError>
     ensures { IfOk result (λ m. IsReadAsMacro (IsEdition edition) (Some (trees pattern.entry))
         (trees body.entry) (macro_read m)) }
 {
@@ -97,7 +97,7 @@ pub fn read<A: Allocator + Copy>(
     alloc: A,
     edition: Edition,
     defined: Defined<'_, A>,
-) -> Result<Read<A>, AllocError>
+) -> Result<ReadMacro<A>, AllocError>
     ensures { IfOk result (λ m. IsReadIn edition (form_shown defined.entry.form)
         (defined_shown defined.entry) (macro_read m)) }
 {

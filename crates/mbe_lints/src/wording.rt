@@ -2,8 +2,9 @@
 ghost use Rattle.std.specs.Prelude.{◌≡◌, ◌++◌, map, option_map, IfOk, OnOk};
 ghost use Rattle.std.specs.String.{string_bytes};
 ghost use Rattle.mbe_calls.specs.Shown.{defined_shown};
-ghost use Rattle.mbe_explaining.specs.Saying.{part_seen, quoted};
+ghost use Rattle.mbe_explaining.specs.Saying.{part_seen};
 ghost use Rattle.mbe_linting.specs.Following.{next_seen};
+ghost use Rattle.mbe_linting.specs.Variables.{bound_seen};
 ghost use Rattle.mbe_linting.specs.Findings.{finding_seen};
 ghost use Rattle.mbe_lints.specs.Lint.{lint_seen};
 ghost use Rattle.mbe_lints.specs.Shown.{shown_seen};
@@ -11,7 +12,7 @@ ghost use Rattle.mbe_lints.specs.Wording as spec;
 
 use crate::lint::{Lint, push};
 use crate::nearest::nearest;
-use crate::shown::{Shown, shown};
+use crate::shown::{Shown, show};
 use mbe_calls::calls::Defined;
 use mbe_diagnostics::diagnostic::Level;
 use mbe_explaining::texts::{Part, described};
@@ -166,7 +167,7 @@ fn next_part<A: Allocator + Copy>(
         Next::Separator(separator) => described(alloc, Wanted::Separator(separator)),
         Next::Op(op) => match op {
             Op::Var { name, kind, id } => {
-                variable_part(alloc, name.as_str(), shown(defined, *id, *kind))
+                variable_part(alloc, name.as_str(), show(defined, *id, *kind))
             }
             _ => described(alloc, Wanted::Op(op)),
         },
@@ -210,9 +211,9 @@ fn push_followed<A: Allocator + Copy>(
 // The variable of a definition.
 fn shown_bound<'t, A: Allocator>(defined: Defined<'t, A>, bound: Bound<'_>) -> Shown<'t>
     ensures { shown_seen result ≡ spec.shown_bound (defined_shown defined.entry)
-        (Rattle.mbe_linting.specs.Variables.bound_seen bound.entry) }
+        (bound_seen bound.entry) }
 {
-    shown(defined, bound.place, bound.kind)
+    show(defined, bound.place, bound.kind)
 }
 
 /// Adds what is said of what is found in that definition. `AllocError` if out of memory.
@@ -237,12 +238,12 @@ pub fn push_finding<A: Allocator + Copy>(
             push_unused(alloc, lints, bound.name, shown_bound(defined, bound))
         }
         Finding::StillRepeats(bound, used) => {
-            let at = shown(defined, used.place.unwrap_or(bound.place), None);
+            let at = show(defined, used.place.unwrap_or(bound.place), None);
             push_repeating(alloc, lints, bound, used, shown_bound(defined, bound), at)
         }
         Finding::Forbidden(followed) => {
             let next = next_part(alloc, defined, followed.next)?;
-            let variable = shown(defined, followed.place, followed.kind);
+            let variable = show(defined, followed.place, followed.kind);
             push_followed(alloc, lints, followed, variable, next)
         }
     }

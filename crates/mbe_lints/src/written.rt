@@ -1,11 +1,9 @@
 // Variables as they are written in a definition.
 ghost use Rattle.std.specs.Prelude.{◌≡◌, option_map};
-ghost use Rattle.std.specs.Option.{option_or};
-ghost use Rattle.mbe_tt.specs.Trees.Tree.{tree};
 ghost use Rattle.mbe_tt.specs.Views.Element.{element_tree};
 ghost use Rattle.mbe_tt.specs.Views.Shown.{ident_of};
 ghost use Rattle.mbe_tt.specs.Views.View.{trees};
-ghost use Rattle.mbe_calls.specs.Shown.{defined_shown};
+ghost use Rattle.mbe_calls.specs.Shown.{defined_shown, form_shown};
 ghost use Rattle.mbe_lints.specs.Written as spec;
 ghost use Rattle.mbe_lints.specs.Written.{written_seen};
 
@@ -131,9 +129,8 @@ fn written_in<'t, A: Allocator>(
         let Some(tree) = iter.next() else {
             return None;
         };
-        let found = written_first(tree, here, place, levels - 1);
-        if found.is_some() {
-            return found;
+        if let Some(found) = written_first(tree, here, place, levels - 1) {
+            return Some(found);
         }
     }
 }
@@ -146,9 +143,9 @@ fn written_first<'t, A: Allocator>(
     place: Span,
     levels: u32,
 ) -> Option<Written<'t, A>>
-    requires { (rest : _) × (trees tokens ≡ tree (element_tree first) rest) }
     ensures { option_map written_seen result
-        ≡ spec.written_first (spec.written_in levels place) place (trees tokens.entry) }
+        ≡ spec.written_first (spec.written_in levels place) place
+        (element_tree first.entry) (trees tokens.entry) }
 {
     match first {
         TtElement::Leaf(_) => variable_at(place, tokens),
@@ -162,7 +159,7 @@ fn written_in_arguments<'t, A: Allocator>(
     place: Span,
 ) -> Option<Written<'t, A>>
     ensures { option_map written_seen result ≡ spec.written_in 1000 place
-        (spec.arguments_of (Rattle.mbe_calls.specs.Shown.form_shown form.entry)) }
+        (spec.arguments_of (form_shown form.entry)) }
 {
     match form {
         Form::Rules | Form::Body => None,
