@@ -1,5 +1,5 @@
--- The specifier that an unknown one is most like, as rustc looks for a similar name: one of the same letters, or else the
--- first of those with the fewest edits, if they are few.
+-- The specifier that an unknown one is most like, as rustc looks for a similar name: one of the same letters, or else
+-- the first of those with the fewest edits, if they are few.
 use Prim.Native.String.{String}
 use Rattle.std.specs.Prelude.{ℕ, ◌+◌, ◌/◌, max, nat_lt, if◌then◌else◌, codes, chars, List, [], ◌∷◌, length, map, Option, Some, None, find}
 use Rattle.std.specs.Option.{option_or}
@@ -15,8 +15,8 @@ names =
 abbrev pub specifiers : List (List ℕ)
 specifiers = map codes names
 
--- How many characters are put in, taken out, replaced, or swapped with the next one, to make one text of the other; none
--- is edited twice.
+-- How many characters are put in, taken out, replaced, or swapped with the next one, to make one text of the other;
+-- none is edited twice.
 abbrev pub edits : List ℕ → List ℕ → ℕ
 edits one other = (osa_table (chars one) (chars other)).last_row (length (chars other))
 

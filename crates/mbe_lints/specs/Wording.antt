@@ -48,8 +48,8 @@ depths_text bound used = codes "bound at depth " ++ (decimal bound ++ (codes ", 
 
 -- a use is at a place of the template, else where its variable is
 abbrev pub repeating_lints : Name → ℕ → ℕ → Shown → Shown → List Lint
-repeating_lints name bound used v use =
-    error_at use.short (codes "variable `" ++ (name ++ codes "` is still repeating at this depth"))
+repeating_lints name bound used v at =
+    error_at at.short (codes "variable `" ++ (name ++ codes "` is still repeating at this depth"))
     ∷ note_at v.whole (depths_text bound used) ∷ []
 
 -- ---- what follows a fragment

@@ -86,8 +86,7 @@ fn read_one<A: Allocator + Copy>(
     ensures { IfOk result (λ m. IsReadAsMacro (IsEdition edition) (Some (trees pattern.entry))
         (trees body.entry) (macro_read m)) }
 {
-    let (rules, fault) =
-        parse_one_rule(alloc, |_context| edition, pattern.iter(), body.iter())?;
+    let (rules, fault) = parse_one_rule(alloc, |_context| edition, pattern.iter(), body.iter())?;
     with_fault(alloc, rules, fault)
 }
 

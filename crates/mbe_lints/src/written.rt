@@ -154,10 +154,7 @@ fn written_first<'t, A: Allocator>(
 }
 
 // The variable in the pattern of `macro name(pattern) { template }`.
-fn written_in_arguments<'t, A: Allocator>(
-    form: Form<'t, A>,
-    place: Span,
-) -> Option<Written<'t, A>>
+fn written_in_arguments<'t, A: Allocator>(form: Form<'t, A>, place: Span) -> Option<Written<'t, A>>
     ensures { option_map written_seen result ≡ spec.written_in 1000 place
         (spec.arguments_of (form_shown form.entry)) }
 {
@@ -168,10 +165,7 @@ fn written_in_arguments<'t, A: Allocator>(
 }
 
 /// The variable of a definition whose name begins there, as it is written, if one is found. Deeper than `LEVELS` groups none is.
-pub fn written_at<'t, A: Allocator>(
-    defined: Defined<'t, A>,
-    place: Span,
-) -> Option<Written<'t, A>>
+pub fn written_at<'t, A: Allocator>(defined: Defined<'t, A>, place: Span) -> Option<Written<'t, A>>
     ensures { option_map written_seen result
         ≡ spec.written_at (defined_shown defined.entry) place }
 {
