@@ -2,6 +2,7 @@
 use Rattle.std.specs.Prelude.{◌≡◌, ◌+◌, ℕ, Bool, true, false, if◌then◌else◌, ◌==◌, ◌&&◌, List, [], ◌∷◌, length, map, Option, Some, None}
 use Rattle.mbe_tt.specs.declared.span.Edition.{Edition}
 use Rattle.mbe_tt.specs.Trees.Top.{Top}
+use Rattle.mbe_expanding.specs.Scopes.{IsEdition}
 use Rattle.mbe_lints.specs.Definitions.{definitions}
 use Rattle.mbe_lints.specs.Lint.{Lint}
 use Rattle.mbe_lints.specs.Lints.{AreLinted}
@@ -10,7 +11,7 @@ use Rattle.mbe_expandm.specs.Sources.{Source, AreSources}
 -- the definitions of a file; one that isn't Rust has none
 abbrev pub FileLinted : Edition → Option Top → List Lint → List Lint → Type 0
 FileLinted edition None before after = after ≡ before
-FileLinted edition (Some tree) before after = AreLinted edition (definitions 1001 tree.1) before after
+FileLinted edition (Some tree) before after = AreLinted (IsEdition edition) (definitions 1001 tree.1) before after
 
 -- those of files, one file after another
 abbrev pub FilesLinted : Edition → List (Option Top) → List Lint → List Lint → Type 0

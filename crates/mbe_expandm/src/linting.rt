@@ -31,7 +31,7 @@ fn push_file(
         (map lint_seen lints.old.items) (map lint_seen lints.new.items)) }
 {
     match &file.tree {
-        Some(tree) => push_lints(alloc, edition, lints, tree.iter().remaining()),
+        Some(tree) => push_lints(alloc, |_context| edition, lints, tree.iter().remaining()),
         None => Ok(()),
     }
 }

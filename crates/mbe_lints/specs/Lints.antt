@@ -13,16 +13,6 @@ use Rattle.mbe_linting.specs.Findings.{findings}
 use Rattle.mbe_lints.specs.Lint.{Lint, error_at}
 use Rattle.mbe_lints.specs.Wording.{findings_lints}
 
--- every context is of that edition
-abbrev pub IsEdition : Edition → SyntaxContext → Edition → Type 0
-IsEdition edition context answer = answer ≡ edition
-
--- what a definition is read as: its rules up to the first fault, and that fault
-abbrev pub IsReadIn : Edition → Form → Defined → Macro → Type 0
-IsReadIn edition Rules d m = IsReadAs (IsEdition edition) d.rules m
-IsReadIn edition Body d m = IsReadAsMacro (IsEdition edition) None d.rules m
-IsReadIn edition (Arguments k pattern) d m = IsReadAsMacro (IsEdition edition) (Some pattern) d.rules m
-
 -- why it is refused, if it is
 abbrev pub refusal_lints : Ident → Option Fault → List Lint
 refusal_lints name None = []
@@ -38,14 +28,20 @@ rules_lints d (r ∷ rs) = findings_lints d (findings r.reads r.writes) ++ rules
 abbrev pub macro_lints : Defined → Macro → List Lint
 macro_lints d m = refusal_lints d.name m.err ++ rules_lints d m.rules
 
--- so much is said of a definition, after what was said before
-pub record IsLinted (edition : Edition) (d : Defined) (before after : List Lint) : Type 0 where
-  pub rules : Macro
-  pub read : IsReadIn edition d.form d rules
-  pub are : after ≡ before ++ macro_lints d rules
+module _ (HasEdition : SyntaxContext → Edition → Type 0) where
+  -- what a definition is read as: its rules up to the first fault, and that fault
+  abbrev pub IsReadIn : Form → Defined → Macro → Type 0
+  IsReadIn Rules d m = IsReadAs HasEdition d.rules m
+  IsReadIn Body d m = IsReadAsMacro HasEdition None d.rules m
+  IsReadIn (Arguments k pattern) d m = IsReadAsMacro HasEdition (Some pattern) d.rules m
 
--- of one definition after another
-abbrev pub AreLinted : Edition → List Defined → List Lint → List Lint → Type 0
-AreLinted edition [] before after = after ≡ before
-AreLinted edition (d ∷ ds) before after =
-    (mid : List Lint) × IsLinted edition d before mid × AreLinted edition ds mid after
+  -- so much is said of a definition, after what was said before
+  pub record IsLinted (d : Defined) (before after : List Lint) : Type 0 where
+    pub rules : Macro
+    pub read : IsReadIn d.form d rules
+    pub are : after ≡ before ++ macro_lints d rules
+
+  -- of one definition after another
+  abbrev pub AreLinted : List Defined → List Lint → List Lint → Type 0
+  AreLinted [] before after = after ≡ before
+  AreLinted (d ∷ ds) before after = (mid : List Lint) × IsLinted d before mid × AreLinted ds mid after

@@ -38,7 +38,7 @@ shown d place kind = shown_by place kind (written_at d place)
 
 -- `$name:specifier`
 abbrev pub variable_text : Name → Name → List ℕ
-variable_text name specifier = codes "$" ++ (name ++ (codes ":" ++ specifier))
+variable_text name specifier = codes "`$" ++ (name ++ (codes ":" ++ (specifier ++ codes "`")))
 
 -- what the program's value means
 abbrev pub shown_seen : code.Shown → Shown

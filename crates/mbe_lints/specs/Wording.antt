@@ -7,7 +7,7 @@ use Rattle.mbe_semantics.specs.declared.kinds.MetaVarKind.TheVariants as kinds
 use Rattle.mbe_semantics.specs.Syntax.Op.{Name, Op, token, group, variable, repetition, expression}
 use Rattle.mbe_calls.specs.Fronts.{Defined}
 use Rattle.mbe_matcher.specs.Wanted.{separating as separator_wanted, reading as op_wanted}
-use Rattle.mbe_explaining.specs.Saying.{Part, part_of, quoted}
+use Rattle.mbe_explaining.specs.Saying.{Part, part_of}
 use Rattle.mbe_linting.specs.Variables.{Bound, Used}
 use Rattle.mbe_linting.specs.Following.{Next, reading, separating, Followed}
 use Rattle.mbe_linting.specs.Findings.{Finding, bound_twice, unknown_specifier, never_used, still_repeats, forbidden}
@@ -24,7 +24,7 @@ twice_lints first later =
 abbrev pub similar_lints : Span → Option Name → List Lint
 similar_lints place None = []
 similar_lints place (Some name) =
-    help_at place (codes "a fragment specifier with a similar name exists: " ++ quoted name) ∷ []
+    help_at place (codes "a fragment specifier with a similar name exists: `" ++ (name ++ codes "`")) ∷ []
 
 abbrev pub valid_text : List ℕ
 valid_text =
@@ -33,7 +33,7 @@ valid_text =
 
 abbrev pub unknown_lints : Shown → List Lint
 unknown_lints v =
-    error_at v.whole (codes "invalid fragment specifier " ++ quoted v.specifier)
+    error_at v.whole (codes "invalid fragment specifier `" ++ (v.specifier ++ codes "`"))
     ∷ (similar_lints v.mark (nearest v.specifier) ++ help_at v.mark valid_text ∷ [])
 
 abbrev pub unused_lints : Name → Shown → List Lint
@@ -69,22 +69,25 @@ allowed_text _ = codes "anything is allowed there"
 
 -- a variable as it is written
 abbrev pub variable_part : Name → Shown → Part
-variable_part name v = record { text = quoted (variable_text name v.specifier); place = Some v.whole }
+variable_part name v = record { text = variable_text name v.specifier; place = Some v.whole }
 
 -- what comes next, as text, and where that is
+abbrev pub op_part : Defined → Op → Part
+op_part d (variable name kind place) = variable_part name (shown d place kind)
+op_part d (token t) = part_of (op_wanted (token t))
+op_part d (group k body) = part_of (op_wanted (group k body))
+op_part d (repetition body s k) = part_of (op_wanted (repetition body s k))
+op_part d (expression e) = part_of (op_wanted (expression e))
+
 abbrev pub next_part : Defined → Next → Part
-next_part d (reading (variable name kind place)) = variable_part name (shown d place kind)
-next_part d (reading (token t)) = part_of (op_wanted (token t))
-next_part d (reading (group k body)) = part_of (op_wanted (group k body))
-next_part d (reading (repetition body s k)) = part_of (op_wanted (repetition body s k))
-next_part d (reading (expression e)) = part_of (op_wanted (expression e))
+next_part d (reading o) = op_part d o
 next_part d (separating s) = part_of (separator_wanted s)
 
 abbrev pub forbidden_text : Name → Name → List ℕ → List ℕ
 forbidden_text name specifier next =
-    quoted (variable_text name specifier)
+    variable_text name specifier
     ++ (codes " may be followed by "
-    ++ (next ++ (codes ", which is not allowed for " ++ (quoted specifier ++ codes " fragments"))))
+    ++ (next ++ (codes ", which is not allowed for `" ++ (specifier ++ codes "` fragments"))))
 
 abbrev pub followed_lints : Name → Option MetaVarKind → Shown → Part → List Lint
 followed_lints name kind v next =

@@ -6,6 +6,7 @@ ghost use Rattle.mbe_errors.specs.ErrorViews.{parse_error_of};
 ghost use Rattle.mbe_parser.specs.RuleViews.{rules_seen};
 ghost use Rattle.mbe_calls.specs.Shown.{defined_shown};
 ghost use Rattle.mbe_linting.specs.Findings.{finding_seen};
+ghost use Rattle.mbe_semantics.specs.Laws.Marking.{MayAsk};
 ghost use Rattle.mbe_lints.specs.Definitions.{definitions as definitions_of};
 ghost use Rattle.mbe_lints.specs.Lint.{lint_seen};
 ghost use Rattle.mbe_lints.specs.Wording.{findings_lints};
@@ -22,7 +23,7 @@ use mbe_diagnostics::diagnostic::Level;
 use mbe_errors::error::ParseError;
 use mbe_linting::findings::{Finding, findings};
 use mbe_parser::rules::Rule;
-use mbe_tt::span::Edition;
+use mbe_tt::span::{Edition, SyntaxContext};
 use mbe_tt::tt::{Ident, TokenTreesView};
 use std::alloc::{AllocError, Allocator};
 
@@ -91,50 +92,53 @@ fn push_macro<A: Allocator + Copy>(
 }
 
 // Adds what is said of a definition.
-fn push_definition<A: Allocator + Copy>(
+fn push_definition<A: Allocator + Copy, E: Copy + Fn(SyntaxContext) -> Edition>(
     alloc: A,
-    edition: Edition,
+    ctx_edition: E,
     lints: &mut Vec<Lint<A>, A>,
     defined: Defined<'_, A>,
 ) -> Result<(), AllocError>
-    ensures { OnOk result (IsLinted edition (defined_shown defined.entry)
+    requires { MayAsk (E.pre ctx_edition) }
+    ensures { OnOk result (IsLinted (E.post ctx_edition) (defined_shown defined.entry)
         (map lint_seen lints.old.items) (map lint_seen lints.new.items)) }
 {
-    let read = read(alloc, edition, defined)?;
+    let read = read(alloc, ctx_edition, defined)?;
     push_macro(alloc, lints, defined, &read)
 }
 
 // Adds what is said of one definition after another.
-fn push_definitions<A: Allocator + Copy>(
+fn push_definitions<A: Allocator + Copy, E: Copy + Fn(SyntaxContext) -> Edition>(
     alloc: A,
-    edition: Edition,
+    ctx_edition: E,
     lints: &mut Vec<Lint<A>, A>,
     all: &[Defined<'_, A>],
 ) -> Result<(), AllocError>
-    ensures { OnOk result (AreLinted edition (map defined_shown all.now)
+    requires { MayAsk (E.pre ctx_edition) }
+    ensures { OnOk result (AreLinted (E.post ctx_edition) (map defined_shown all.now)
         (map lint_seen lints.old.items) (map lint_seen lints.new.items)) }
 {
     match all {
         [] => Ok(()),
         [first, rest @ ..] => {
-            push_definition(alloc, edition, lints, *first)?;
-            push_definitions(alloc, edition, lints, rest)
+            push_definition(alloc, ctx_edition, lints, *first)?;
+            push_definitions(alloc, ctx_edition, lints, rest)
         }
     }
 }
 
 /// Adds what is said of the definitions among these trees, in the order of the text: of each that it is refused and why, at its name,
-/// and then what is found of each of its rules up to the first fault, in the order of `mbe_linting::findings`. A definition is read
-/// as one of that edition. `AllocError` if out of memory, or if groups and repetitions of a rule are too deep in one another.
-pub fn push_lints<A: Allocator + Copy>(
+/// and then what is found of each of its rules up to the first fault, in the order of `mbe_linting::findings`. `ctx_edition` returns the
+/// edition of a context; it decides what `pat` and `expr` mean. `AllocError` if out of memory, or if groups and repetitions of a rule are too deep in one another.
+pub fn push_lints<A: Allocator + Copy, E: Copy + Fn(SyntaxContext) -> Edition>(
     alloc: A,
-    edition: Edition,
+    ctx_edition: E,
     lints: &mut Vec<Lint<A>, A>,
     tokens: TokenTreesView<'_, A>,
 ) -> Result<(), AllocError>
-    ensures { OnOk result (AreLinted edition (definitions_of 1001 (trees tokens.entry))
+    requires { MayAsk (E.pre ctx_edition) }
+    ensures { OnOk result (AreLinted (E.post ctx_edition) (definitions_of 1001 (trees tokens.entry))
         (map lint_seen lints.old.items) (map lint_seen lints.new.items)) }
 {
     let all = definitions(alloc, tokens)?;
-    push_definitions(alloc, edition, lints, all.as_slice())
+    push_definitions(alloc, ctx_edition, lints, all.as_slice())
 }

@@ -6,14 +6,15 @@ ghost use Rattle.mbe_parser.specs.RuleViews.{rules_seen};
 ghost use Rattle.mbe_semantics.specs.Syntax.Definition.{with_refusal};
 ghost use Rattle.mbe_semantics.specs.Expansion.ReadAs.{IsReadAs, IsReadAsMacro};
 ghost use Rattle.mbe_calls.specs.Shown.{defined_shown, form_shown};
-ghost use Rattle.mbe_lints.specs.Lints.{IsEdition, IsReadIn};
+ghost use Rattle.mbe_semantics.specs.Laws.Marking.{MayAsk};
+ghost use Rattle.mbe_lints.specs.Lints.{IsReadIn};
 ghost use Rattle.mbe_lints.specs.Read.{macro_read};
 
 use mbe_calls::calls::{Defined, Form};
 use mbe_errors::error::{ParseError, SyntaxFault};
 use mbe_parser::rules::{Rule, parse_one_rule, parse_rules};
 use mbe_parser::validate::refuses_some;
-use mbe_tt::span::Edition;
+use mbe_tt::span::{Edition, SyntaxContext};
 use mbe_tt::tt::TokenTreesView;
 use std::alloc::{AllocError, Allocator, Global};
 
@@ -49,60 +50,64 @@ fn with_fault<A: Allocator + Copy>(
 }
 
 // The rules of a `macro_rules!` definition.
-fn read_rules<A: Allocator + Copy>(
+fn read_rules<A: Allocator + Copy, E: Copy + Fn(SyntaxContext) -> Edition>(
     alloc: A,
-    edition: Edition,
+    ctx_edition: E,
     body: TokenTreesView<'_, A>,
 ) -> Result<ReadMacro<A>, AllocError>
-    ensures { IfOk result (λ m. IsReadAs (IsEdition edition) (trees body.entry) (macro_read m)) }
+    requires { MayAsk (E.pre ctx_edition) }
+    ensures { IfOk result (λ m. IsReadAs (E.post ctx_edition) (trees body.entry) (macro_read m)) }
 {
     let missing = SyntaxFault::ExpectedSemicolon;
-    let (rules, fault) = parse_rules(alloc, |_context| edition, body.iter(), &[';'], missing)?;
+    let (rules, fault) = parse_rules(alloc, ctx_edition, body.iter(), &[';'], missing)?;
     with_fault(alloc, rules, fault)
 }
 
 // The rules of a `macro` definition.
-fn read_body<A: Allocator + Copy>(
+fn read_body<A: Allocator + Copy, E: Copy + Fn(SyntaxContext) -> Edition>(
     alloc: A,
-    edition: Edition,
+    ctx_edition: E,
     body: TokenTreesView<'_, A>,
 ) -> Result<ReadMacro<A>, AllocError>
-    ensures { IfOk result (λ m. IsReadAsMacro (IsEdition edition) None (trees body.entry)
+    requires { MayAsk (E.pre ctx_edition) }
+    ensures { IfOk result (λ m. IsReadAsMacro (E.post ctx_edition) None (trees body.entry)
         (macro_read m)) }
 {
     let missing = SyntaxFault::ExpectedSeparator;
     let separators = &[';', ','];
-    let (rules, fault) = parse_rules(alloc, |_context| edition, body.iter(), separators, missing)?;
+    let (rules, fault) = parse_rules(alloc, ctx_edition, body.iter(), separators, missing)?;
     with_fault(alloc, rules, fault)
 }
 
 // The one rule of a `macro` definition with a pattern.
-fn read_one<A: Allocator + Copy>(
+fn read_one<A: Allocator + Copy, E: Copy + Fn(SyntaxContext) -> Edition>(
     alloc: A,
-    edition: Edition,
+    ctx_edition: E,
     pattern: TokenTreesView<'_, A>,
     body: TokenTreesView<'_, A>,
 ) -> Result<ReadMacro<A>, AllocError>
-    ensures { IfOk result (λ m. IsReadAsMacro (IsEdition edition) (Some (trees pattern.entry))
+    requires { MayAsk (E.pre ctx_edition) }
+    ensures { IfOk result (λ m. IsReadAsMacro (E.post ctx_edition) (Some (trees pattern.entry))
         (trees body.entry) (macro_read m)) }
 {
-    let (rules, fault) = parse_one_rule(alloc, |_context| edition, pattern.iter(), body.iter())?;
+    let (rules, fault) = parse_one_rule(alloc, ctx_edition, pattern.iter(), body.iter())?;
     with_fault(alloc, rules, fault)
 }
 
-/// Reads a definition as one of that edition, as `mbe` does. `AllocError` if out of memory, or if groups and repetitions of a rule are
-/// too deep in one another.
-pub fn read<A: Allocator + Copy>(
+/// Reads a definition, as `mbe` does. `ctx_edition` returns the edition of a context; it decides what `pat` and `expr` mean.
+/// `AllocError` if out of memory, or if groups and repetitions of a rule are too deep in one another.
+pub fn read<A: Allocator + Copy, E: Copy + Fn(SyntaxContext) -> Edition>(
     alloc: A,
-    edition: Edition,
+    ctx_edition: E,
     defined: Defined<'_, A>,
 ) -> Result<ReadMacro<A>, AllocError>
-    ensures { IfOk result (λ m. IsReadIn edition (form_shown defined.entry.form)
+    requires { MayAsk (E.pre ctx_edition) }
+    ensures { IfOk result (λ m. IsReadIn (E.post ctx_edition) (form_shown defined.entry.form)
         (defined_shown defined.entry) (macro_read m)) }
 {
     match defined.form {
-        Form::Rules => read_rules(alloc, edition, defined.rules),
-        Form::Body => read_body(alloc, edition, defined.rules),
-        Form::Arguments(_, pattern) => read_one(alloc, edition, pattern, defined.rules),
+        Form::Rules => read_rules(alloc, ctx_edition, defined.rules),
+        Form::Body => read_body(alloc, ctx_edition, defined.rules),
+        Form::Arguments(_, pattern) => read_one(alloc, ctx_edition, pattern, defined.rules),
     }
 }

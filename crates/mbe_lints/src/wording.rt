@@ -7,7 +7,8 @@ ghost use Rattle.mbe_linting.specs.Following.{next_seen};
 ghost use Rattle.mbe_linting.specs.Variables.{bound_seen};
 ghost use Rattle.mbe_linting.specs.Findings.{finding_seen};
 ghost use Rattle.mbe_lints.specs.Lint.{lint_seen};
-ghost use Rattle.mbe_lints.specs.Shown.{shown_seen};
+ghost use Rattle.mbe_lints.specs.Shown.{shown_seen, variable_text};
+ghost use Rattle.mbe_ops.specs.Views.{op_of};
 ghost use Rattle.mbe_lints.specs.Wording as spec;
 
 use crate::lint::{Lint, push};
@@ -60,11 +61,14 @@ fn push_similar<A: Allocator + Copy>(
 fn valid_text<A: Allocator + Copy>(alloc: A) -> Result<String<A>, AllocError>
     ensures { IfOk result (λ text. string_bytes text ≡ spec.valid_text) }
 {
-    String::from_str(
+    let mut text = String::from_str(
         alloc,
-        "valid fragment specifiers are `ident`, `block`, `stmt`, `expr`, `pat`, `ty`, `lifetime`, `literal`, `path`, \
-            `meta`, `tt`, `item` and `vis`, along with `expr_2021` and `pat_param` for edition compatibility",
-    )
+        "valid fragment specifiers are `ident`, `block`, `stmt`, `expr`, `pat`, `ty`, `lifetime`, `literal`, `path`, ",
+    )?;
+    text.push_str(
+        "`meta`, `tt`, `item` and `vis`, along with `expr_2021` and `pat_param` for edition compatibility",
+    )?;
+    Ok(text)
 }
 
 fn push_unknown<A: Allocator + Copy>(
@@ -137,6 +141,16 @@ fn allowed_text(kind: Option<MetaVarKind>) -> &'static str
     }
 }
 
+fn variable_text<A: Allocator>(
+    alloc: A,
+    name: &str,
+    specifier: &str,
+) -> Result<String<A>, AllocError>
+    ensures { IfOk result (λ text. string_bytes text ≡ variable_text name.now specifier.now) }
+{
+    format!(in alloc; "`${name}:{specifier}`")
+}
+
 // A variable as it is written.
 fn variable_part<A: Allocator>(
     alloc: A,
@@ -146,15 +160,39 @@ fn variable_part<A: Allocator>(
     ensures { IfOk result (λ part. part_seen part
         ≡ spec.variable_part name.now (shown_seen variable.entry)) }
 {
-    let specifier = variable.specifier;
     Ok(Part {
-        text: format!(in alloc; "`${name}:{specifier}`")?,
+        text: variable_text(alloc, name, variable.specifier)?,
         span: Some(variable.whole),
     })
 }
 
-// What comes next in a pattern, as text, and where that is.
 #[tactic(auto, using(mbe_ops::proofs::OpViews::views))]
+fn op_part<A: Allocator + Copy>(
+    alloc: A,
+    defined: Defined<'_, A>,
+    op: &Op<A>,
+) -> Result<Part<A>, AllocError>
+    ensures { IfOk result (λ part. part_seen part
+        ≡ spec.op_part (defined_shown defined.entry) (op_of op.now)) }
+{
+    match op {
+        Op::Var { name, kind, id } => {
+            variable_part(alloc, name.as_str(), show(defined, *id, *kind))
+        }
+        Op::Subtree { .. } => described(alloc, Wanted::Op(op)),
+        Op::Literal(_) => described(alloc, Wanted::Op(op)),
+        Op::Ident(_) => described(alloc, Wanted::Op(op)),
+        Op::Punct(_) => described(alloc, Wanted::Op(op)),
+        Op::Repeat { .. } => described(alloc, Wanted::Op(op)),
+        Op::Ignore { .. }
+        | Op::Index { .. }
+        | Op::Len { .. }
+        | Op::Count { .. }
+        | Op::Concat { .. } => described(alloc, Wanted::Op(op)),
+    }
+}
+
+// What comes next in a pattern, as text, and where that is.
 fn next_part<A: Allocator + Copy>(
     alloc: A,
     defined: Defined<'_, A>,
@@ -165,16 +203,11 @@ fn next_part<A: Allocator + Copy>(
 {
     match next {
         Next::Separator(separator) => described(alloc, Wanted::Separator(separator)),
-        Next::Op(op) => match op {
-            Op::Var { name, kind, id } => {
-                variable_part(alloc, name.as_str(), show(defined, *id, *kind))
-            }
-            _ => described(alloc, Wanted::Op(op)),
-        },
+        Next::Op(op) => op_part(alloc, defined, op),
     }
 }
 
-fn forbidden_text<A: Allocator>(
+fn forbidden_text<A: Allocator + Copy>(
     alloc: A,
     name: &str,
     specifier: &str,
@@ -183,8 +216,9 @@ fn forbidden_text<A: Allocator>(
     ensures { IfOk result (λ text. string_bytes text
         ≡ spec.forbidden_text name.now specifier.now next.now) }
 {
+    let variable = variable_text(alloc, name, specifier)?;
     format!(in alloc;
-        "`${name}:{specifier}` may be followed by {next}, which is not allowed for `{specifier}` fragments"
+        "{variable} may be followed by {next}, which is not allowed for `{specifier}` fragments"
     )
 }
 
