@@ -1,11 +1,16 @@
 #!/usr/bin/env python3
-"""Asks rustc what it refuses in the definitions of `crates/mbe_linting_tests/src/following.rt`. From the top of the repository:
+"""Asks rustc what it refuses in the definitions of the tests of lints. From the top of the repository:
 
     python3 tools/lint-rows.py [RUSTC]
+
+First in those of `crates/mbe_linting_tests/src/following.rt`.
 
 Each row is a definition, and what is found of it: `followed NAME A B`, `twice NAME A B` or `unknown NAME A`, with byte offsets of names and of what
 follows. rustc has to report each of these at its last place, and nothing else; it counts the `$` of a variable, which is one byte before its
 name. Rows that differ are printed, and the status is 1 if there is one.
+
+Then in those of `crates/mbe_expandm_tests/src/linted.rt`, by line, column and words: each error of a row that rustc has words for, and that a variable
+still repeats, of which rustc warns. And for each unknown specifier there, which field it names where a struct has the specifiers as fields.
 """
 import json
 import os
@@ -54,9 +59,70 @@ def reported(rustc, all_rows):
     return found
 
 
+def texts(name):
+    """The strings of a table's rows in the test of reports, by row."""
+    with open(f"{TOP}/crates/mbe_expandm_tests/src/linted.rt", encoding="utf-8") as it:
+        table = re.search(rf"^static {name}: .*?= \[\n(.*?)^\];", it.read(), re.M | re.S).group(1)
+    pair = re.compile(r'\(\s*"((?:[^"\\]|\\.)*)",\s*"((?:[^"\\]|\\.)*)",?\s*\),', re.S)
+    unescaped = lambda text: re.sub(r"\\\n\s*", "", text).encode().decode("unicode_escape")
+    return [tuple(unescaped(part) for part in row.groups()) for row in pair.finditer(table)]
+
+
+def messages(rustc, text):
+    """What rustc says of a file, with line and column."""
+    with tempfile.TemporaryDirectory() as folder:
+        with open(f"{folder}/t.rs", "w", encoding="utf-8") as it:
+            it.write(text)
+        command = [rustc, "--edition", "2021", "--crate-type", "lib", "-W", "meta_variable_misuse", "--error-format=json", "--emit=metadata", "t.rs"]
+        lines = subprocess.run(command, cwd=folder, capture_output=True, text=True, check=False).stderr.splitlines()
+    for message in map(json.loads, lines):
+        for span in message["spans"]:
+            if span["is_primary"]:
+                yield f"{span['line_start']}:{span['column_start']} {message['message']}", message
+
+
+def differing_files(rustc, all_rows):
+    """The rows whose errors aren't those of rustc."""
+    for text, want in all_rows:
+        ours = sorted(re.findall(r"(\d+:\d+ )error: ((?:duplicate|invalid|`|variable).*?); ", want))
+        said = [line for line, _ in messages(rustc, text)]
+        theirs = sorted(line for line in said if re.search(r"duplicate matcher|invalid fragment|followed by|still repeating", line))
+        if [place + words for place, words in ours] != [line.replace("is followed", "may be followed") for line in theirs]:
+            yield f"{text}: {ours}; rustc: {theirs}"
+
+
+def differing_names(rustc, all_rows):
+    """The unknown specifiers for which rustc names another field."""
+    with open(f"{TOP}/crates/mbe_lints/src/nearest.rt", encoding="utf-8") as it:
+        fields = re.findall(r'^    "(\w+)",', it.read(), re.M)
+    text = f"pub struct S {{ {', '.join(f'pub {name}: u8' for name in fields)} }}\n"
+    text += "".join(f"pub fn f_{name}(s: S) {{ let _ = s.r#{name}; }}\n" for name, _ in all_rows)
+    found = {}
+    for line, message in messages(rustc, text):
+        name = re.search(r"no field `(?:r#)?(\w+)`", line)
+        similar = [span["suggested_replacement"] for child in message["children"] for span in child["spans"] if "similar name" in child["message"]]
+        if name:
+            found[name.group(1)] = "".join(similar)
+    for name, want in all_rows:
+        if found.get(name) != want:
+            yield f"{name}: {want}; rustc: {found.get(name)}"
+
+
 def main():
+    rustc = sys.argv[1] if len(sys.argv) > 1 else "rustc"
+    differ = differing_rows(rustc)
+    for what, name, found in (("files", "ROWS", differing_files), ("names", "SIMILAR", differing_names)):
+        all_rows = texts(name)
+        lines = list(found(rustc, all_rows))
+        print("".join(f"{line}\n" for line in lines) + f"{len(all_rows)} {what}, {len(lines)} differ")
+        differ += len(lines) + (not all_rows)
+    return 1 if differ else 0
+
+
+def differing_rows(rustc):
+    """Prints the rows of the first table that differ, and how many; returns that."""
     all_rows = rows()
-    found = reported(sys.argv[1] if len(sys.argv) > 1 else "rustc", all_rows)
+    found = reported(rustc, all_rows)
     differ = 0
     for number, (definition, ours) in enumerate(all_rows):
         theirs = sorted(found.get(number, []))
@@ -64,7 +130,7 @@ def main():
             differ += 1
             print(f"{definition}: {ours}; rustc: {theirs}")
     print(f"{len(all_rows)} rows, {differ} differ")
-    return 1 if differ or not all_rows else 0
+    return differ + (not all_rows)
 
 
 sys.exit(main())

@@ -5,13 +5,14 @@ use Rattle.std.specs.Char.{encode_utf8}
 use Rattle.std.specs.Fmt.{decimal}
 use Rattle.unicode_width.specs.Width.{str_width}
 use Rattle.mbe_diagnostics.specs.declared.diagnostic.Level.{Level}
-use Rattle.mbe_diagnostics.specs.declared.diagnostic.Level.TheVariants.{Error, Warning, Note}
+use Rattle.mbe_diagnostics.specs.declared.diagnostic.Level.TheVariants.{Error, Warning, Note, Help}
 use Rattle.mbe_diagnostics.specs.declared.diagnostic.Diagnostic.{Diagnostic}
 
 abbrev pub word : Level → List ℕ
 word Error = codes "error"
 word Warning = codes "warning"
 word Note = codes "note"
+word Help = codes "help"
 
 -- a tab as four spaces
 abbrev pub shown_char : ℕ → List ℕ
@@ -25,11 +26,12 @@ untabbed (c ∷ cs) = shown_char c ++ untabbed cs
 abbrev pub margin : List ℕ → List ℕ
 margin text = repeat (str_width false (chars (untabbed (chars text)))) (codes " ")
 
--- red, yellow or green, and bold
+-- red, yellow, green or cyan, and bold
 abbrev pub colour : Level → List ℕ
 colour Error = 27 ∷ codes "[1;31m"
 colour Warning = 27 ∷ codes "[1;33m"
 colour Note = 27 ∷ codes "[1;32m"
+colour Help = 27 ∷ codes "[1;36m"
 
 abbrev pub level_text : Level → Bool → List ℕ
 level_text l false = word l

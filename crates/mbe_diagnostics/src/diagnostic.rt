@@ -8,6 +8,7 @@ pub enum Level {
     Error,
     Warning,
     Note,
+    Help,
 }
 
 impl Level {
@@ -19,6 +20,7 @@ impl Level {
             Level::Error => "error",
             Level::Warning => "warning",
             Level::Note => "note",
+            Level::Help => "help",
         }
     }
 }

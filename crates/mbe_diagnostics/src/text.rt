@@ -45,6 +45,7 @@ fn colour_of(level: Level) -> &'static str
         Level::Error => "\u{1b}[1;31m",
         Level::Warning => "\u{1b}[1;33m",
         Level::Note => "\u{1b}[1;32m",
+        Level::Help => "\u{1b}[1;36m",
     }
 }
 

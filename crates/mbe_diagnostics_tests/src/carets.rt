@@ -71,10 +71,11 @@ fn the_carets_are_below_the_part(rt: HostRuntime) -> Result<(), Fail> {
     Ok(())
 }
 
-static LEVELS: [(Level, &str); 3] = [
+static LEVELS: [(Level, &str); 4] = [
     (Level::Error, "\u{1b}[1;31merror"),
     (Level::Warning, "\u{1b}[1;33mwarning"),
     (Level::Note, "\u{1b}[1;32mnote"),
+    (Level::Help, "\u{1b}[1;36mhelp"),
 ];
 
 #[test]

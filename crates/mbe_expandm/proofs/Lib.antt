@@ -1,4 +1,5 @@
 mod FeedLemmas
+mod LintLemmas
 mod PlaceLemmas
 mod ReturnLemmas
 mod SessionLemmas

@@ -8,5 +8,6 @@ pub mod Runs
 pub mod Words
 pub mod Statuses
 pub mod Reports
+pub mod Linted
 pub mod Shown
 pub mod ShownFiles

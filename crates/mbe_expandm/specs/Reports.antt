@@ -9,13 +9,14 @@ use Rattle.mbe_diagnostics.specs.Diagnostics.{text}
 use Rattle.mbe_diagnostics.specs.Json.{json_line, plain_line}
 use Rattle.mbe_expanding.specs.declared.notes.Level as notes
 use Rattle.mbe_expanding.specs.Explained.{Note}
+use Rattle.mbe_lints.specs.Lint.{Lint}
 use Rattle.mbe_expandm.specs.declared.files.SourceFile.{SourceFile}
 use Rattle.mbe_expandm.specs.declared.saying.Form.{Form}
 use Rattle.mbe_expandm.specs.declared.saying.Form.TheVariants.{Text, Colours, Json}
 use Rattle.mbe_expandm.specs.Places.{IsPlace}
 
 -- in which form reports are: as JSON if that is asked for; else as rustc writes them in a terminal, and where calls are
--- explained
+-- explained or definitions are reported on
 abbrev pub form_for : (is_json is_explained is_terminal is_colourless : Bool) → Option Form
 form_for true is_explained is_terminal is_colourless = Some Json
 form_for false is_explained true false = Some Colours
@@ -47,14 +48,23 @@ IsAt (Some file) place d =
     let lines = string_bytes file.lines.text in
     (d.file.now ≡ file.name.now) × IsPlace lines (min place.start (length lines)) d.start.line d.start.column d.line.now
 
--- a report of a note: its level, its text, and its place
-pub record IsReport {A : Type 0} (files : List (SourceFile A)) (n : Note) (d : Diagnostic) : Type 0 where
-  pub level : d.level ≡ level_shown n.level
-  pub message : d.message.now ≡ n.text
-  pub place : IsAt (slice_get files n.place.file) n.place d
+-- a report of that level, with that text, on that place
+pub record IsReport {A : Type 0} (files : List (SourceFile A)) (level : Level) (place : Span) (text : List ℕ)
+    (d : Diagnostic) : Type 0 where
+  pub level_is : d.level ≡ level
+  pub message : d.message.now ≡ text
+  pub at : IsAt (slice_get files place.file) place d
 
 -- what is written once notes are reported after what was written
 abbrev pub Reports : {A : Type 0} → Form → List (SourceFile A) → List Note → List ℕ → List ℕ → Type 0
 Reports form files [] before after = after ≡ before
 Reports form files (n ∷ ns) before after =
-    (d : Diagnostic) × IsReport files n d × Reports form files ns (before ++ written form d) after
+    (d : Diagnostic) × IsReport files (level_shown n.level) n.place n.text d
+    × Reports form files ns (before ++ written form d) after
+
+-- the same of what is said of definitions
+abbrev pub LintReports : {A : Type 0} → Form → List (SourceFile A) → List Lint → List ℕ → List ℕ → Type 0
+LintReports form files [] before after = after ≡ before
+LintReports form files (l ∷ ls) before after =
+    (d : Diagnostic) × IsReport files l.level l.place l.text d
+    × LintReports form files ls (before ++ written form d) after

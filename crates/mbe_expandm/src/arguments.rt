@@ -40,6 +40,8 @@ options:
   --explain [LINE[:COL]]
                     report what each rule wants of the calls that no rule fits, or
                     of the calls there
+  --lint            report what is wrong with the definitions of all files, or of
+                    no use in them, and expand nothing
   --json            report in JSON, an object a line, as rustc does
   --help            print this text
   --version         print the version";
@@ -66,6 +68,8 @@ pub struct Options<'w, A: Allocator = Global> {
     pub is_origin_noted: bool,
     /// Which calls are explained: those of the last file that begin there; without a position, those that no rule expands.
     pub explain: Option<Option<Position>>,
+    /// Whether definitions are reported on, and no call is expanded.
+    pub is_lint: bool,
     /// Whether reports are in JSON.
     pub is_json: bool,
     pub names: Vec<&'w str, A>,
@@ -177,6 +181,7 @@ impl<'w, A: Allocator + Copy> Options<'w, A> {
             is_traced: false,
             is_origin_noted: false,
             explain: None,
+            is_lint: false,
             is_json: false,
             names: Vec::new(alloc),
             call: None,
@@ -262,6 +267,7 @@ impl<'w, A: Allocator + Copy> Options<'w, A> {
             "--trace" => self.is_traced = true,
             "--origin" => self.is_origin_noted = true,
             "--explain" => self.explain = Some(None),
+            "--lint" => self.is_lint = true,
             "--json" => self.is_json = true,
             "--test" => self.is_test = true,
             _ => return None,

@@ -1,11 +1,13 @@
 // A run of the program: its words, its files, its standard output and error.
 use crate::arguments::{Asked, Options, USAGE, VERSION, read_words};
 use crate::files::SourceFile;
+use crate::linting::lint;
 use crate::messages::message;
 use crate::places::NOWHERE;
-use crate::saying::{Form, add_reports, error_text, form_of};
+use crate::saying::{Form, add_lints, add_reports, error_text, form_of};
 use crate::sessions::{DONE, Named, Session, WRONG, print, write};
 use mbe_expanding::notes::Note;
+use mbe_tt::span::Edition;
 use std::io::{self, Read};
 use std::rt::{Env, Files};
 use std::{env, fs};
@@ -34,7 +36,7 @@ fn run<R: Env + Files + Input + Print + Eprint + AllocGlobal>(
     }
     match read_words(rt.alloc(), words.as_slice())? {
         Asked::Run(options) => {
-            let is_explained = options.explain.is_some();
+            let is_explained = options.explain.is_some() || options.is_lint;
             let is_colourless = is_colourless(rt);
             let form = form_of(options.is_json, is_explained, is_terminal, is_colourless);
             run_files(rt, &options, form)
@@ -105,6 +107,9 @@ fn run_files<R: Files + Input + Print + Eprint + AllocGlobal>(
             }
         }
     }
+    if options.is_lint {
+        return lint_files(rt, options.edition, form, texts.as_slice());
+    }
     match options.write {
         None => {
             let out = &mut io::writer(rt);
@@ -126,6 +131,22 @@ fn ended<R: Eprint + AllocGlobal>(
     report(rt, form, &session.files, &session.notes)?;
     report(rt, form, &session.files, &session.expander.notes)?;
     Ok(session.status(is_written))
+}
+
+// Reports what is said of the definitions of the files.
+fn lint_files<R: Eprint + AllocGlobal>(
+    rt: &R,
+    edition: Edition,
+    form: Option<Form>,
+    texts: &[Named<'_>],
+) -> io::Result<u8> {
+    let linted = lint(rt.alloc(), edition, texts)?;
+    report(rt, form, &linted.files, &linted.notes)?;
+    let form = form.unwrap_or(Form::Text);
+    let mut text = String::new(rt.alloc());
+    add_lints(rt.alloc(), form, &linted.files, &linted.lints, &mut text)?;
+    eprint!(rt; "{text}")?;
+    Ok(linted.status())
 }
 
 // The name of a file without the folders that it is in.

@@ -7,6 +7,7 @@ pub mod expansions;
 pub mod files;
 pub mod limits;
 pub mod lines;
+pub mod linting;
 pub mod messages;
 pub mod places;
 pub mod reading;

@@ -3,7 +3,9 @@ ghost use Rattle.std.specs.Prelude.{◌≡◌, [], Some, IfOk, OnOk, map};
 ghost use Rattle.std.specs.String.{string_bytes};
 ghost use Rattle.mbe_expanding.specs.Explained.{note_seen};
 ghost use Rattle.mbe_expandm.specs.Reports as spec;
-ghost use Rattle.mbe_expandm.specs.Reports.{IsAt, IsReport, Reports, error_written, form_for, level_shown};
+ghost use Rattle.mbe_lints.specs.Lint.{lint_seen};
+ghost use Rattle.mbe_expandm.specs.Reports.{IsAt, IsReport, LintReports, Reports};
+ghost use Rattle.mbe_expandm.specs.Reports.{error_written, form_for, level_shown};
 
 use crate::files::SourceFile;
 use crate::places::{NOWHERE, Place, Position};
@@ -12,6 +14,7 @@ use mbe_diagnostics::json::{json_line, plain_line};
 use mbe_diagnostics::text::rendered;
 use mbe_expanding::notes::{self, Note};
 use mbe_expanding::settings::Explain;
+use mbe_lints::lint::Lint;
 use mbe_tt::span::Span;
 use std::alloc::{AllocError, Global};
 
@@ -167,14 +170,18 @@ fn level_of(level: notes::Level) -> Level
     }
 }
 
-// What is said of a note.
-fn diagnostic<'t>(files: &'t [SourceFile<'t>], note: &'t Note) -> Diagnostic<'t>
-    ensures { IsReport files.now (note_seen note.now) result }
+// What is said of a place in the files.
+fn diagnostic<'t>(
+    files: &'t [SourceFile<'t>],
+    level: Level,
+    span: Span,
+    message: &'t str,
+) -> Diagnostic<'t>
+    ensures { IsReport files.now level span message.now result }
 {
-    let level = level_of(note.level);
-    match files.get(note.span.file as usize) {
-        Some(file) => of_file(file, level, note.span, note.message.as_str()),
-        None => of_no_file(level, note.message.as_str()),
+    match files.get(span.file as usize) {
+        Some(file) => of_file(file, level, span, message),
+        None => of_no_file(level, message),
     }
 }
 
@@ -206,10 +213,33 @@ pub fn add_reports(
     match notes {
         [] => Ok(()),
         [first, rest @ ..] => {
-            let said = diagnostic(&*files, first);
+            let level = level_of(first.level);
+            let said = diagnostic(&*files, level, first.span, first.message.as_str());
             let report = written(alloc, form, &said)?;
             text.push_str(report.as_str())?;
             add_reports(alloc, form, &*files, rest, text)
+        }
+    }
+}
+
+/// Adds the reports of what is said of definitions in these files to a text. `AllocError` if out of memory.
+pub fn add_lints(
+    alloc: Global,
+    form: Form,
+    files: &[SourceFile<'_>],
+    lints: &[Lint],
+    text: &mut String,
+) -> Result<(), AllocError>
+    ensures { OnOk result (LintReports form files.now (map lint_seen lints.now)
+        (string_bytes text.old) (string_bytes text.new)) }
+{
+    match lints {
+        [] => Ok(()),
+        [first, rest @ ..] => {
+            let said = diagnostic(&*files, first.level, first.span, first.message.as_str());
+            let report = written(alloc, form, &said)?;
+            text.push_str(report.as_str())?;
+            add_lints(alloc, form, &*files, rest, text)
         }
     }
 }

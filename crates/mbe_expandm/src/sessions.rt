@@ -48,8 +48,9 @@ pub struct Session<'f> {
     pub notes: Vec<Note>,
 }
 
-// The files with their trees. A note says of each that isn't Rust where it isn't, and why.
-fn sources<'f, 'w>(
+/// The files with their trees. A note says of each that isn't Rust where it isn't, and why. `AllocError` if out of memory, or of
+/// numbers for files.
+pub fn sources<'f, 'w>(
     alloc: Global,
     reading: &Reading<'_>,
     texts: &'f [Named<'w>],

@@ -19,7 +19,7 @@ fn asked(alloc: Global, text: &str) -> Result<&'static str, AllocError> {
     })
 }
 
-static ROWS: [(&str, &str); 36] = [
+static ROWS: [(&str, &str); 38] = [
     ("", "no file"),
     ("a.rs", "run"),
     ("-", "run"),
@@ -50,6 +50,8 @@ static ROWS: [(&str, &str); 36] = [
     ("--target wasm32-unknown-unknown a.rs", "run"),
     ("--target wasm32 a.rs", "wrong"),
     ("--test a.rs", "run"),
+    ("--lint a.rs", "run"),
+    ("--lint --json", "no file"),
     ("--explain a.rs", "run"),
     ("--explain 3:7 a.rs", "run"),
     ("--explain 3", "no file"),

@@ -1,0 +1,29 @@
+-- What is said of definitions with the editions of one answer is said with those of another answer that allows them.
+use Rattle.std.proofs.Common.{◌≡◌, List, [], ◌∷◌, Option, Some, None, Result, Ok, Err}
+use Rattle.std.specs.Prelude.{OnOk}
+use Rattle.mbe_tt.specs.declared.span.Edition.{Edition}
+use Rattle.mbe_tt.specs.declared.span.SyntaxContext.{SyntaxContext}
+use Rattle.mbe_semantics.specs.Expansion.Macro.{Macro}
+use Rattle.mbe_calls.specs.Fronts.{Form, Rules, Body, Arguments, Defined}
+use Rattle.mbe_expanding.proofs.EditionLemmas.{read_as, read_as_macro}
+use Rattle.mbe_lints.specs.Lint.{Lint}
+use Rattle.mbe_lints.specs.Lints.{IsReadIn, IsLinted, AreLinted}
+
+module _ {A B : SyntaxContext → Edition → Type 0} (more : (c : SyntaxContext) (e : Edition) → A c e → B c e) where
+  read_in : (form : Form) (d : Defined) (m : Macro) → IsReadIn A form d m → IsReadIn B form d m
+  read_in Rules d m h = read_as more d.rules m h
+  read_in Body d m h = read_as_macro more None d.rules m h
+  read_in (Arguments k pattern) d m h = read_as_macro more (Some pattern) d.rules m h
+
+  linted : (d : Defined) (before after : List Lint) → IsLinted A d before after → IsLinted B d before after
+  linted d before after h = record { rules = h.rules; read = read_in d.form d h.rules h.read; are = h.are }
+
+  pub all_linted : (ds : List Defined) (before after : List Lint) → AreLinted A ds before after
+      → AreLinted B ds before after
+  all_linted [] before after h = h
+  all_linted (d ∷ ds) before after h =
+      (h.0, linted d before h.0 h.1, all_linted ds h.0 after h.2)
+
+pub linted_by : {X R : Type 0} (r : Result X R) {P Q : Type 0} → (P → Q) → OnOk r P → OnOk r Q
+linted_by (Ok x) more h = more h
+linted_by (Err e) more h = h

@@ -1,0 +1,2 @@
+mod DefinitionLemmas
+mod WrittenLemmas

@@ -1,0 +1,35 @@
+// What is said of a part of a definition.
+ghost use Rattle.std.specs.Prelude.{◌≡◌, ◌++◌, ◌∷◌, [], map, OnOk};
+ghost use Rattle.std.specs.String.{string_bytes};
+ghost use Rattle.mbe_lints.specs.Lint.{lint_seen};
+
+use mbe_diagnostics::diagnostic::Level;
+use mbe_tt::span::Span;
+use std::alloc::{AllocError, Allocator, Global};
+
+/// Something to be said of a part of a definition. Clauses see it by `lint_seen`.
+#[derive(Drop)]
+pub struct Lint<A: Allocator = Global> {
+    pub level: Level,
+    /// Where, in bytes of the span's file.
+    pub span: Span,
+    pub message: String<A>,
+}
+
+/// Adds one more. `AllocError` if out of memory.
+pub fn push<A: Allocator>(
+    lints: &mut Vec<Lint<A>, A>,
+    level: Level,
+    span: Span,
+    message: String<A>,
+) -> Result<(), AllocError>
+    ensures { OnOk result (map lint_seen lints.new.items ≡ map lint_seen lints.old.items
+        ++ record { level = level; place = span; text = string_bytes message } ∷ []) }
+{
+    lints.push(Lint {
+        level,
+        span,
+        message,
+    })?;
+    Ok(())
+}
