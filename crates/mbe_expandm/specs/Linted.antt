@@ -6,6 +6,10 @@ use Rattle.mbe_expanding.specs.Scopes.{IsEdition}
 use Rattle.mbe_lints.specs.Definitions.{definitions}
 use Rattle.mbe_lints.specs.Lint.{Lint}
 use Rattle.mbe_lints.specs.Lints.{AreLinted}
+use Rattle.mbe_rules.specs.declared.table.RuleTable.{RuleTable}
+use Rattle.mbe_cfg.specs.declared.settings.Settings.{Settings}
+use Rattle.mbe_expandm.specs.Conditions.{Conditions, IsUnder}
+use Rattle.mbe_expandm.specs.Runs.{IsRustTable}
 use Rattle.mbe_expandm.specs.Sources.{Source, AreSources}
 
 -- the definitions of a file; one that isn't Rust has none
@@ -19,11 +23,15 @@ FilesLinted edition [] before after = after ≡ before
 FilesLinted edition (file ∷ files) before after =
     (mid : List Lint) × FileLinted edition file before mid × FilesLinted edition files mid after
 
--- what is said of the definitions of files with these texts
-pub record AreTextsLinted (edition : Edition) (texts : List (List ℕ)) (files : List Source)
+-- what is said of the definitions of files with these texts, but for those that a `cfg` leaves out
+pub record AreTextsLinted (edition : Edition) (c : Conditions) (texts : List (List ℕ)) (files : List Source)
     (lints : List Lint) : Type 0 where
   pub texts_are : map (λ f. f.text) files ≡ texts
-  pub are_read : AreSources edition files
+  pub table : RuleTable
+  pub is_rust : IsRustTable edition table
+  pub conditions : Settings
+  pub is_under : IsUnder c conditions
+  pub are_read : AreSources (record { edition = edition; conditions = conditions; grammar = table }) files
   pub linted : FilesLinted edition (map (λ f. f.tree) files) [] lints
 
 -- the status of a run that had so much to say of files and of definitions

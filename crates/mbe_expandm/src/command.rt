@@ -7,7 +7,6 @@ use crate::places::NOWHERE;
 use crate::saying::{Form, add_lints, add_reports, error_text, form_of};
 use crate::sessions::{DONE, Named, Session, WRONG, print, write};
 use mbe_expanding::notes::Note;
-use mbe_tt::span::Edition;
 use std::io::{self, Read};
 use std::rt::{Env, Files};
 use std::{env, fs};
@@ -108,7 +107,7 @@ fn run_files<R: Files + Input + Print + Eprint + AllocGlobal>(
         }
     }
     if options.is_lint {
-        return lint_files(rt, options.edition, form, texts.as_slice());
+        return lint_files(rt, options, form, texts.as_slice());
     }
     match options.write {
         None => {
@@ -136,11 +135,11 @@ fn ended<R: Eprint + AllocGlobal>(
 // Reports what is said of the definitions of the files.
 fn lint_files<R: Eprint + AllocGlobal>(
     rt: &R,
-    edition: Edition,
+    options: &Options<'_>,
     form: Option<Form>,
     texts: &[Named<'_>],
 ) -> io::Result<u8> {
-    let linted = lint(rt.alloc(), edition, texts)?;
+    let linted = lint(rt.alloc(), options, texts)?;
     report(rt, form, &linted.files, &linted.notes)?;
     let form = form.unwrap_or(Form::Text);
     let mut text = String::new(rt.alloc());

@@ -3,12 +3,16 @@ ghost use Rattle.std.specs.Prelude.{◌≡◌, IfOk, OnOk, length, map};
 ghost use Rattle.mbe_lints.specs.Lint.{lint_seen};
 ghost use Rattle.mbe_expandm.specs.Linted.{AreTextsLinted, FileLinted, FilesLinted, lint_status};
 ghost use Rattle.mbe_expandm.specs.ShownFiles.{source_of, text_of};
+ghost use Rattle.mbe_expandm.specs.ShownOptions.{conditions_of};
 
+use crate::arguments::Options;
 use crate::files::SourceFile;
+use crate::reading::Reading;
 use crate::sessions::{DONE, ERRORS, Named, sources};
 use mbe_expanding::notes::Note;
 use mbe_lints::lint::Lint;
 use mbe_lints::linting::push_lints;
+use mbe_rust::fragments::rust_rules;
 use mbe_tt::span::Edition;
 use std::alloc::{AllocError, Global};
 
@@ -55,20 +59,26 @@ pub fn push_files(
     }
 }
 
-/// Reads files, and finds what is to be said of their definitions, which are read as those of that edition. `AllocError` if out of
-/// memory, or of numbers for files.
+/// Reads files, and finds what is to be said of their definitions, but for those that a `cfg` leaves out. They are read as those of
+/// the edition that the words ask for. `AllocError` if out of memory, or of numbers for files.
 pub fn lint<'f, 'w>(
     alloc: Global,
-    edition: Edition,
+    options: &Options<'_>,
     texts: &'f [Named<'w>],
 ) -> Result<Linted<'f>, AllocError>
-    ensures { IfOk result (λ l. AreTextsLinted edition (map text_of texts.now)
-        (map source_of l.files.items) (map lint_seen l.lints.items)) }
+    ensures { IfOk result (λ l. AreTextsLinted options.now.edition (conditions_of options.now)
+        (map text_of texts.now) (map source_of l.files.items) (map lint_seen l.lints.items)) }
 {
     let mut notes = Vec::new(alloc);
-    let files = sources(alloc, edition, texts, &mut notes)?;
+    let grammar = rust_rules(options.edition, &[]);
+    let reading = Reading {
+        edition: options.edition,
+        conditions: options.conditions(),
+        grammar,
+    };
+    let files = sources(alloc, &reading, texts, &mut notes)?;
     let mut lints = Vec::new(alloc);
-    push_files(alloc, edition, &mut lints, files.as_slice())?;
+    push_files(alloc, options.edition, &mut lints, files.as_slice())?;
     Ok(Linted {
         files,
         notes,

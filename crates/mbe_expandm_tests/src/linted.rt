@@ -1,11 +1,11 @@
 // What is said of definitions alone. Where a row's messages are errors, rustc 1.95 reports them with these words at these places, but
 // for its `is followed by`; the specifiers that are similar are those that it names for fields of these names. The rest was worked
 // out by hand.
+use mbe_expandm::arguments::{Asked, read_words};
 use mbe_expandm::linting::{Linted, lint};
 use mbe_expandm::saying::{Form, add_lints};
 use mbe_expandm::sessions::Named;
 use mbe_lints::nearest::nearest;
-use mbe_tt::span::Edition;
 use serde_json::Value;
 use std::alloc::{AllocError, Global};
 use std::test::Fail;
@@ -15,12 +15,19 @@ const VALID: &str =
     `path`, `meta`, `tt`, `item` and `vis`, along with `expr_2021` and `pat_param` for edition compatibility";
 
 // What is reported of a file.
-fn reported(alloc: Global, text: &str, form: Form) -> Result<(String, u8), AllocError> {
+fn reported(alloc: Global, text: &str, form: Form) -> Result<(String, u8), Fail> {
     let texts: [Named<'_>; 1] = [Named {
         name: "a.rs",
         text: String::from_str(alloc, text)?,
     }];
-    let linted: Linted<'_> = lint(alloc, Edition::Edition2021, &texts)?;
+    let mut words = Vec::new(alloc);
+    for word in ["--edition", "2021", "--lint", "a.rs"] {
+        words.push(String::from_str(alloc, word)?)?;
+    }
+    let Asked::Run(options) = read_words(alloc, &words)? else {
+        return Err(Fail::from("no run"));
+    };
+    let linted: Linted<'_> = lint(alloc, &options, &texts)?;
     let mut reports = String::new(alloc);
     add_lints(alloc, form, &linted.files, &linted.lints, &mut reports)?;
     Ok((reports, linted.status()))
@@ -51,8 +58,12 @@ fn messages_of(alloc: Global, reports: &str) -> Result<String, AllocError> {
 }
 
 // A file, and what is said of its definitions.
-static ROWS: [(&str, &str); 22] = [
+static ROWS: [(&str, &str); 23] = [
     ("", ""),
+    (
+        "#[cfg(windows)] macro_rules! m { ($x:ident $x:ident) => { $x } }",
+        "",
+    ),
     ("fn main() { m!(x); }", ""),
     ("macro_rules! m { ($x:ident) => { $x } }", ""),
     (
