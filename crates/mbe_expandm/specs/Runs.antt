@@ -26,8 +26,7 @@ pub record IsRustTable (edition : Edition) (table : RuleTable) : Type 0 where
 -- Where a run begins: the files are read, their definitions are known, in the files' order, and no call is expanded
 -- yet. The limit of depth is that of the words, or that of the files, or 128.
 pub record IsBegun (edition : Edition) (c : Conditions) (depth : Option ℕ) (fuel : ℕ) (texts : List (List ℕ))
-    (files : List Source)
-    (e : Setting) (s : State) : Type 0 where
+    (files : List Source) (e : Setting) (s : State) : Type 0 where
   pub texts_are : map (λ f. f.text) files ≡ texts
   pub table : RuleTable
   pub is_rust : IsRustTable edition table
@@ -43,8 +42,7 @@ pub record IsBegun (edition : Edition) (c : Conditions) (depth : Option ℕ) (fu
 
 -- what is printed of files: what the last of them becomes
 pub record IsPrinted (edition : Edition) (c : Conditions) (depth : Option ℕ) (fuel : ℕ) (call : Option Position)
-    (texts : List (List ℕ))
-    (out : List ℕ) : Type 0 where
+    (texts : List (List ℕ)) (out : List ℕ) : Type 0 where
   pub before : List Source
   pub last : Source
   pub setting : Setting

@@ -18,8 +18,8 @@ pub record Source : Type 0 where
 abbrev pub IsNoRust : Edition → ℕ → List ℕ → Type 0
 IsNoRust edition file text = IsErr (trees_of (Rust edition) file text) ⊎ (2 ^ 32 ≤ length text)
 
--- The trees of a text whose lines end with line feeds alone, without what a `cfg` that doesn't hold is on: so calls there
--- stay, and definitions there are found by no call.
+-- The trees of a text whose lines end with line feeds alone, without what a `cfg` that doesn't hold is on: so calls
+-- there stay, and definitions there are found by no call.
 abbrev pub IsTreeOf : Reading → ℕ → List ℕ → Option Top → Type 0
 IsTreeOf r file text None = IsNoRust r.edition file text
 IsTreeOf r file text (Some tree) =

@@ -161,7 +161,8 @@ pub fn write<'f, 'w>(
     texts: &'f [Named<'w>],
 ) -> Result<(Session<'f>, Vec<String>), AllocError>
     ensures { IfOk result (λ r. AreWritten options.now.edition (conditions_of options.now)
-        options.now.depth options.now.fuel options.now.call (map text_of texts.now) (map string_bytes r.1.items)) }
+        options.now.depth options.now.fuel options.now.call (map text_of texts.now)
+        (map string_bytes r.1.items)) }
 {
     let mut session = Session::begin(alloc, options, texts)?;
     let of = &mut session;

@@ -264,7 +264,8 @@ fn strip_trees<A: Allocator + Copy, G: FragmentGrammar>(
         (spec.stripped settings.now (G.grammar grammar.now) (suc levels) (trees tokens.entry)).kept
         builder.old) }
     ensures faults { OnOk result (faults.new.items ≡ faults.old.items ++
-        (spec.stripped settings.now (G.grammar grammar.now) (suc levels) (trees tokens.entry)).faults) }
+        (spec.stripped settings.now (G.grammar grammar.now) (suc levels)
+        (trees tokens.entry)).faults) }
 {
     let mut rest = tokens;
     let mut left = tokens.flat_len();
