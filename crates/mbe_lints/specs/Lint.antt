@@ -1,5 +1,5 @@
 -- What is said of a part of a definition.
-use Rattle.std.specs.Prelude.{ℕ, List}
+use Rattle.std.specs.Prelude.{ℕ, List, [], ◌∷◌}
 use Rattle.std.specs.String.{string_bytes}
 use Rattle.mbe_tt.specs.declared.span.Span.{Span}
 use Rattle.mbe_diagnostics.specs.declared.diagnostic.Level.{Level}
@@ -11,17 +11,21 @@ pub record Lint : Type 0 where
   pub place : Span
   pub text : List ℕ
 
-abbrev pub error_at : Span → List ℕ → Lint
-error_at place text = record { level = levels.Error; place = place; text = text }
+-- one of them
+unfoldable pub said : Level → Span → List ℕ → List Lint
+said level place text = record { level = level; place = place; text = text } ∷ []
 
-abbrev pub warning_at : Span → List ℕ → Lint
-warning_at place text = record { level = levels.Warning; place = place; text = text }
+abbrev pub error_at : Span → List ℕ → List Lint
+error_at place text = said levels.Error place text
 
-abbrev pub note_at : Span → List ℕ → Lint
-note_at place text = record { level = levels.Note; place = place; text = text }
+abbrev pub warning_at : Span → List ℕ → List Lint
+warning_at place text = said levels.Warning place text
 
-abbrev pub help_at : Span → List ℕ → Lint
-help_at place text = record { level = levels.Help; place = place; text = text }
+abbrev pub note_at : Span → List ℕ → List Lint
+note_at place text = said levels.Note place text
+
+abbrev pub help_at : Span → List ℕ → List Lint
+help_at place text = said levels.Help place text
 
 -- what the program's value means
 abbrev pub lint_seen : {A : Type 0} → code.Lint A → Lint

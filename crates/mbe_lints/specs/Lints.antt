@@ -17,7 +17,7 @@ use Rattle.mbe_lints.specs.Wording.{findings_lints}
 abbrev pub refusal_lints : Ident → Option Fault → List Lint
 refusal_lints name None = []
 refusal_lints name (Some fault) =
-    error_at name.span (codes "macro `" ++ (name.sym ++ (codes "`: " ++ text_of_fault fault))) ∷ []
+    error_at name.span (codes "macro `" ++ (name.sym ++ (codes "`: " ++ text_of_fault fault)))
 
 -- what is found of each rule
 abbrev pub rules_lints : Defined → List Rule → List Lint

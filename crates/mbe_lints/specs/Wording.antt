@@ -17,40 +17,55 @@ use Rattle.mbe_lints.specs.Shown.{Shown, shown, variable_text}
 
 -- ---- names and specifiers
 
+unfoldable pub twice_text : List ℕ
+twice_text = codes "duplicate matcher binding"
+
+unfoldable pub earlier_text : List ℕ
+earlier_text = codes "previous binding"
+
 abbrev pub twice_lints : Shown → Shown → List Lint
-twice_lints first later =
-    error_at later.whole (codes "duplicate matcher binding") ∷ note_at first.whole (codes "previous binding") ∷ []
+twice_lints first later = error_at later.whole twice_text ++ note_at first.whole earlier_text
+
+unfoldable pub similar_text : Name → List ℕ
+similar_text name = codes "a fragment specifier with a similar name exists: `" ++ (name ++ codes "`")
 
 abbrev pub similar_lints : Span → Option Name → List Lint
 similar_lints place None = []
-similar_lints place (Some name) =
-    help_at place (codes "a fragment specifier with a similar name exists: `" ++ (name ++ codes "`")) ∷ []
+similar_lints place (Some name) = help_at place (similar_text name)
 
-abbrev pub valid_text : List ℕ
+unfoldable pub valid_text : List ℕ
 valid_text =
     codes "valid fragment specifiers are `ident`, `block`, `stmt`, `expr`, `pat`, `ty`, `lifetime`, `literal`, `path`, "
     ++ codes "`meta`, `tt`, `item` and `vis`, along with `expr_2021` and `pat_param` for edition compatibility"
 
+unfoldable pub unknown_text : Name → List ℕ
+unknown_text specifier = codes "invalid fragment specifier `" ++ (specifier ++ codes "`")
+
 abbrev pub unknown_lints : Shown → List Lint
 unknown_lints v =
-    error_at v.whole (codes "invalid fragment specifier `" ++ (v.specifier ++ codes "`"))
-    ∷ (similar_lints v.mark (nearest v.specifier) ++ help_at v.mark valid_text ∷ [])
+    error_at v.whole (unknown_text v.specifier)
+    ++ (similar_lints v.mark (nearest v.specifier) ++ help_at v.mark valid_text)
+
+unfoldable pub unused_text : Name → List ℕ
+unused_text name = codes "unused macro variable: `$" ++ (name ++ codes "`")
+
+unfoldable pub underscore_text : Name → List ℕ
+underscore_text name = codes "if this is intentional, prefix it with an underscore: `$_" ++ (name ++ codes "`")
 
 abbrev pub unused_lints : Name → Shown → List Lint
-unused_lints name v =
-    warning_at v.whole (codes "unused macro variable: `$" ++ (name ++ codes "`"))
-    ∷ help_at v.whole (codes "if this is intentional, prefix it with an underscore: `$_" ++ (name ++ codes "`")) ∷ []
+unused_lints name v = warning_at v.whole (unused_text name) ++ help_at v.whole (underscore_text name)
 
 -- ---- depths
 
-abbrev pub depths_text : ℕ → ℕ → List ℕ
+unfoldable pub repeats_text : Name → List ℕ
+repeats_text name = codes "variable `" ++ (name ++ codes "` is still repeating at this depth")
+
+unfoldable pub depths_text : ℕ → ℕ → List ℕ
 depths_text bound used = codes "bound at depth " ++ (decimal bound ++ (codes ", and used at depth " ++ decimal used))
 
--- a use is at a place of the template, else where its variable is
+-- a variable, and where it is used
 abbrev pub repeating_lints : Name → ℕ → ℕ → Shown → Shown → List Lint
-repeating_lints name bound used v at =
-    error_at at.short (codes "variable `" ++ (name ++ codes "` is still repeating at this depth"))
-    ∷ note_at v.whole (depths_text bound used) ∷ []
+repeating_lints name bound used v at = error_at at.short (repeats_text name) ++ note_at v.whole (depths_text bound used)
 
 -- ---- what follows a fragment
 
@@ -83,7 +98,7 @@ abbrev pub next_part : Defined → Next → Part
 next_part d (reading o) = op_part d o
 next_part d (separating s) = part_of (separator_wanted s)
 
-abbrev pub forbidden_text : Name → Name → List ℕ → List ℕ
+unfoldable pub forbidden_text : Name → Name → List ℕ → List ℕ
 forbidden_text name specifier next =
     variable_text name specifier
     ++ (codes " may be followed by "
@@ -92,7 +107,7 @@ forbidden_text name specifier next =
 abbrev pub followed_lints : Name → Option MetaVarKind → Shown → Part → List Lint
 followed_lints name kind v next =
     error_at (unwrap_or next.place v.whole) (forbidden_text name v.specifier next.text)
-    ∷ note_at v.whole (allowed_text kind) ∷ []
+    ++ note_at v.whole (allowed_text kind)
 
 -- ---- all
 

@@ -74,14 +74,14 @@ written_in (suc levels) place f = written_among (written_in levels place) place 
 
 -- ---- in a definition
 
--- the trees of the pattern of `macro name(pattern) { template }`
-abbrev pub arguments_of : Form → Forest
-arguments_of Rules = none
-arguments_of Body = none
-arguments_of (Arguments d pattern) = pattern
+-- in the pattern of `macro name(pattern) { template }`
+abbrev pub written_in_arguments : Span → Form → Option Written
+written_in_arguments place Rules = None
+written_in_arguments place Body = None
+written_in_arguments place (Arguments d pattern) = written_in 1000 place pattern
 
 abbrev pub written_at : Defined → Span → Option Written
-written_at d place = option_or (written_in 1000 place (arguments_of d.form)) (written_in 1000 place d.rules)
+written_at d place = option_or (written_in_arguments place d.form) (written_in 1000 place d.rules)
 
 -- what the program's value means
 abbrev pub written_seen : {A : Type 0} → code.Written A → Written

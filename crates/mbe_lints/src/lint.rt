@@ -1,7 +1,7 @@
 // What is said of a part of a definition.
-ghost use Rattle.std.specs.Prelude.{◌≡◌, ◌++◌, ◌∷◌, [], map, OnOk};
+ghost use Rattle.std.specs.Prelude.{◌≡◌, ◌++◌, map, OnOk};
 ghost use Rattle.std.specs.String.{string_bytes};
-ghost use Rattle.mbe_lints.specs.Lint.{lint_seen};
+ghost use Rattle.mbe_lints.specs.Lint.{lint_seen, said};
 
 use mbe_diagnostics::diagnostic::Level;
 use mbe_tt::span::Span;
@@ -17,6 +17,7 @@ pub struct Lint<A: Allocator = Global> {
 }
 
 /// Adds one more. `AllocError` if out of memory.
+#[tactic(auto, unfolding(crate::specs::Lint::said))]
 pub fn push<A: Allocator>(
     lints: &mut Vec<Lint<A>, A>,
     level: Level,
@@ -24,7 +25,7 @@ pub fn push<A: Allocator>(
     message: String<A>,
 ) -> Result<(), AllocError>
     ensures { OnOk result (map lint_seen lints.new.items ≡ map lint_seen lints.old.items
-        ++ record { level = level; place = span; text = string_bytes message } ∷ []) }
+        ++ said level span (string_bytes message)) }
 {
     lints.push(Lint {
         level,
@@ -32,4 +33,19 @@ pub fn push<A: Allocator>(
         message,
     })?;
     Ok(())
+}
+
+/// Adds one more, with that text. `AllocError` if out of memory.
+pub fn push_text<A: Allocator + Copy>(
+    alloc: A,
+    lints: &mut Vec<Lint<A>, A>,
+    level: Level,
+    span: Span,
+    text: &str,
+) -> Result<(), AllocError>
+    ensures { OnOk result (map lint_seen lints.new.items ≡ map lint_seen lints.old.items
+        ++ said level span text.now) }
+{
+    let message = String::from_str(alloc, text)?;
+    push(lints, level, span, message)
 }

@@ -31,12 +31,19 @@ fn too_many(name: &str) -> usize
     name.chars().count().max(3) / 3 + 1
 }
 
+#[tactic(auto, unfolding(crate::specs::Nearest::has_letters))]
+fn has_letters(one: &str, other: &str) -> bool
+    ensures { result ≡ spec.has_letters one.now other.now }
+{
+    one.eq_ignore_ascii_case(other)
+}
+
 fn same_letters<'s>(name: &str, all: &[&'s str]) -> Option<&'s str>
     ensures { option_map (λ s. s.now) result
         ≡ spec.same_letters name.now (map (λ s. s.now) all.now) }
 {
     for one in all {
-        if name.eq_ignore_ascii_case(one) {
+        if has_letters(name, one) {
             return Some(*one);
         }
     }

@@ -11,7 +11,7 @@ ghost use Rattle.mbe_lints.specs.Shown.{shown_seen, variable_text};
 ghost use Rattle.mbe_ops.specs.Views.{op_of};
 ghost use Rattle.mbe_lints.specs.Wording as spec;
 
-use crate::lint::{Lint, push};
+use crate::lint::{Lint, push, push_text};
 use crate::nearest::nearest;
 use crate::shown::{Shown, show};
 use mbe_calls::calls::Defined;
@@ -26,6 +26,20 @@ use mbe_semantics::kinds::MetaVarKind;
 use mbe_tt::span::Span;
 use std::alloc::{AllocError, Allocator};
 
+#[tactic(auto, unfolding(crate::specs::Wording::twice_text))]
+fn twice_text() -> &'static str
+    ensures { result.now ≡ spec.twice_text }
+{
+    "duplicate matcher binding"
+}
+
+#[tactic(auto, unfolding(crate::specs::Wording::earlier_text))]
+fn earlier_text() -> &'static str
+    ensures { result.now ≡ spec.earlier_text }
+{
+    "previous binding"
+}
+
 fn push_twice<A: Allocator + Copy>(
     alloc: A,
     lints: &mut Vec<Lint<A>, A>,
@@ -35,10 +49,15 @@ fn push_twice<A: Allocator + Copy>(
     ensures { OnOk result (map lint_seen lints.new.items ≡ map lint_seen lints.old.items
         ++ spec.twice_lints (shown_seen first.entry) (shown_seen later.entry)) }
 {
-    let message = String::from_str(alloc, "duplicate matcher binding")?;
-    push(lints, Level::Error, later.whole, message)?;
-    let message = String::from_str(alloc, "previous binding")?;
-    push(lints, Level::Note, first.whole, message)
+    push_text(alloc, lints, Level::Error, later.whole, twice_text())?;
+    push_text(alloc, lints, Level::Note, first.whole, earlier_text())
+}
+
+#[tactic(auto, unfolding(crate::specs::Wording::similar_text))]
+fn similar_text<A: Allocator>(alloc: A, name: &str) -> Result<String<A>, AllocError>
+    ensures { IfOk result (λ text. string_bytes text ≡ spec.similar_text name.now) }
+{
+    format!(in alloc; "a fragment specifier with a similar name exists: `{name}`")
 }
 
 fn push_similar<A: Allocator + Copy>(
@@ -50,15 +69,15 @@ fn push_similar<A: Allocator + Copy>(
     ensures { OnOk result (map lint_seen lints.new.items ≡ map lint_seen lints.old.items
         ++ spec.similar_lints place (option_map (λ s. s.now) similar.entry)) }
 {
-    let Some(name) = similar else {
-        return Ok(());
-    };
-    let message = format!(in alloc; "a fragment specifier with a similar name exists: `{name}`")?;
-    push(lints, Level::Help, place, message)
+    if let Some(name) = similar {
+        push(lints, Level::Help, place, similar_text(alloc, name)?)?;
+    }
+    Ok(())
 }
 
 // The specifiers that there are.
-fn valid_text<A: Allocator + Copy>(alloc: A) -> Result<String<A>, AllocError>
+#[tactic(auto, unfolding(crate::specs::Wording::valid_text))]
+fn valid_text<A: Allocator>(alloc: A) -> Result<String<A>, AllocError>
     ensures { IfOk result (λ text. string_bytes text ≡ spec.valid_text) }
 {
     let mut text = String::from_str(
@@ -71,6 +90,13 @@ fn valid_text<A: Allocator + Copy>(alloc: A) -> Result<String<A>, AllocError>
     Ok(text)
 }
 
+#[tactic(auto, unfolding(crate::specs::Wording::unknown_text))]
+fn unknown_text<A: Allocator>(alloc: A, specifier: &str) -> Result<String<A>, AllocError>
+    ensures { IfOk result (λ text. string_bytes text ≡ spec.unknown_text specifier.now) }
+{
+    format!(in alloc; "invalid fragment specifier `{specifier}`")
+}
+
 fn push_unknown<A: Allocator + Copy>(
     alloc: A,
     lints: &mut Vec<Lint<A>, A>,
@@ -79,12 +105,25 @@ fn push_unknown<A: Allocator + Copy>(
     ensures { OnOk result (map lint_seen lints.new.items ≡ map lint_seen lints.old.items
         ++ spec.unknown_lints (shown_seen variable.entry)) }
 {
-    let specifier = variable.specifier;
-    let message = format!(in alloc; "invalid fragment specifier `{specifier}`")?;
+    let message = unknown_text(alloc, variable.specifier)?;
     push(lints, Level::Error, variable.whole, message)?;
-    let similar = nearest(alloc, specifier)?;
+    let similar = nearest(alloc, variable.specifier)?;
     push_similar(alloc, lints, variable.mark, similar)?;
     push(lints, Level::Help, variable.mark, valid_text(alloc)?)
+}
+
+#[tactic(auto, unfolding(crate::specs::Wording::unused_text))]
+fn unused_text<A: Allocator>(alloc: A, name: &str) -> Result<String<A>, AllocError>
+    ensures { IfOk result (λ text. string_bytes text ≡ spec.unused_text name.now) }
+{
+    format!(in alloc; "unused macro variable: `${name}`")
+}
+
+#[tactic(auto, unfolding(crate::specs::Wording::underscore_text))]
+fn underscore_text<A: Allocator>(alloc: A, name: &str) -> Result<String<A>, AllocError>
+    ensures { IfOk result (λ text. string_bytes text ≡ spec.underscore_text name.now) }
+{
+    format!(in alloc; "if this is intentional, prefix it with an underscore: `$_{name}`")
 }
 
 fn push_unused<A: Allocator + Copy>(
@@ -96,12 +135,32 @@ fn push_unused<A: Allocator + Copy>(
     ensures { OnOk result (map lint_seen lints.new.items ≡ map lint_seen lints.old.items
         ++ spec.unused_lints name.now (shown_seen variable.entry)) }
 {
-    let message = format!(in alloc; "unused macro variable: `${name}`")?;
-    push(lints, Level::Warning, variable.whole, message)?;
-    let message = format!(in alloc;
-        "if this is intentional, prefix it with an underscore: `$_{name}`"
+    push(
+        lints,
+        Level::Warning,
+        variable.whole,
+        unused_text(alloc, name)?,
     )?;
-    push(lints, Level::Help, variable.whole, message)
+    push(
+        lints,
+        Level::Help,
+        variable.whole,
+        underscore_text(alloc, name)?,
+    )
+}
+
+#[tactic(auto, unfolding(crate::specs::Wording::repeats_text))]
+fn repeats_text<A: Allocator>(alloc: A, name: &str) -> Result<String<A>, AllocError>
+    ensures { IfOk result (λ text. string_bytes text ≡ spec.repeats_text name.now) }
+{
+    format!(in alloc; "variable `{name}` is still repeating at this depth")
+}
+
+#[tactic(auto, unfolding(crate::specs::Wording::depths_text))]
+fn depths_text<A: Allocator>(alloc: A, bound: usize, used: usize) -> Result<String<A>, AllocError>
+    ensures { IfOk result (λ text. string_bytes text ≡ spec.depths_text bound used) }
+{
+    format!(in alloc; "bound at depth {bound}, and used at depth {used}")
 }
 
 // A variable that is bound in so many repetitions, and used in fewer.
@@ -117,12 +176,14 @@ fn push_repeating<A: Allocator + Copy>(
         ++ spec.repeating_lints bound.entry.name.now bound.entry.depth used.entry.depth
         (shown_seen variable.entry) (shown_seen at.entry)) }
 {
-    let name = bound.name;
-    let message = format!(in alloc; "variable `{name}` is still repeating at this depth")?;
-    push(lints, Level::Error, at.short, message)?;
-    let (outer, inner) = (bound.depth, used.depth);
-    let message = format!(in alloc; "bound at depth {outer}, and used at depth {inner}")?;
-    push(lints, Level::Note, variable.whole, message)
+    push(
+        lints,
+        Level::Error,
+        at.short,
+        repeats_text(alloc, bound.name)?,
+    )?;
+    let depths = depths_text(alloc, bound.depth, used.depth)?;
+    push(lints, Level::Note, variable.whole, depths)
 }
 
 // What may follow a fragment of that kind.
@@ -207,6 +268,7 @@ fn next_part<A: Allocator + Copy>(
     }
 }
 
+#[tactic(auto, unfolding(crate::specs::Wording::forbidden_text))]
 fn forbidden_text<A: Allocator + Copy>(
     alloc: A,
     name: &str,
@@ -238,8 +300,13 @@ fn push_followed<A: Allocator + Copy>(
     let text = next.text.as_str();
     let message = forbidden_text(alloc, followed.name, variable.specifier, text)?;
     push(lints, Level::Error, place, message)?;
-    let message = String::from_str(alloc, allowed_text(followed.kind))?;
-    push(lints, Level::Note, variable.whole, message)
+    push_text(
+        alloc,
+        lints,
+        Level::Note,
+        variable.whole,
+        allowed_text(followed.kind),
+    )
 }
 
 // The variable of a definition.

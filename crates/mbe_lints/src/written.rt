@@ -155,8 +155,8 @@ fn written_first<'t, A: Allocator>(
 
 // The variable in the pattern of `macro name(pattern) { template }`.
 fn written_in_arguments<'t, A: Allocator>(form: Form<'t, A>, place: Span) -> Option<Written<'t, A>>
-    ensures { option_map written_seen result ≡ spec.written_in 1000 place
-        (spec.arguments_of (form_shown form.entry)) }
+    ensures { option_map written_seen result
+        ≡ spec.written_in_arguments place (form_shown form.entry) }
 {
     match form {
         Form::Rules | Form::Body => None,
