@@ -237,8 +237,8 @@ pub fn add_lints(
         [] => Ok(()),
         [first, rest @ ..] => {
             let said = diagnostic(&*files, first.level, first.span, first.message.as_str());
-            let report = written(alloc, form, &said)?;
-            text.push_str(report.as_str())?;
+            let lines = written(alloc, form, &said)?;
+            text.push_str(lines.as_str())?;
             add_lints(alloc, form, &*files, rest, text)
         }
     }

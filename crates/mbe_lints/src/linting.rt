@@ -127,8 +127,9 @@ fn push_definitions<A: Allocator + Copy, E: Copy + Fn(SyntaxContext) -> Edition>
 }
 
 /// Adds what is said of the definitions among these trees, in the order of the text: of each that it is refused and why, at its name,
-/// and then what is found of each of its rules up to the first fault, in the order of `mbe_linting::findings`. `ctx_edition` returns the
-/// edition of a context; it decides what `pat` and `expr` mean. `AllocError` if out of memory, or if groups and repetitions of a rule are too deep in one another.
+/// and then what is found of each of its rules up to the first fault, in the order of `mbe_linting::findings`. `ctx_edition` returns
+/// the edition of a context; it decides what `pat` and `expr` mean. `AllocError` if out of memory, or if groups and repetitions of a
+/// rule are too deep in one another.
 pub fn push_lints<A: Allocator + Copy, E: Copy + Fn(SyntaxContext) -> Edition>(
     alloc: A,
     ctx_edition: E,

@@ -70,7 +70,8 @@ fn push_similar<A: Allocator + Copy>(
         ++ spec.similar_lints place (option_map (λ s. s.now) similar.entry)) }
 {
     if let Some(name) = similar {
-        push(lints, Level::Help, place, similar_text(alloc, name)?)?;
+        let message = similar_text(alloc, name)?;
+        push(lints, Level::Help, place, message)?;
     }
     Ok(())
 }
@@ -109,7 +110,8 @@ fn push_unknown<A: Allocator + Copy>(
     push(lints, Level::Error, variable.whole, message)?;
     let similar = nearest(alloc, variable.specifier)?;
     push_similar(alloc, lints, variable.mark, similar)?;
-    push(lints, Level::Help, variable.mark, valid_text(alloc)?)
+    let message = valid_text(alloc)?;
+    push(lints, Level::Help, variable.mark, message)
 }
 
 #[tactic(auto, unfolding(crate::specs::Wording::unused_text))]
@@ -135,18 +137,10 @@ fn push_unused<A: Allocator + Copy>(
     ensures { OnOk result (map lint_seen lints.new.items ≡ map lint_seen lints.old.items
         ++ spec.unused_lints name.now (shown_seen variable.entry)) }
 {
-    push(
-        lints,
-        Level::Warning,
-        variable.whole,
-        unused_text(alloc, name)?,
-    )?;
-    push(
-        lints,
-        Level::Help,
-        variable.whole,
-        underscore_text(alloc, name)?,
-    )
+    let message = unused_text(alloc, name)?;
+    push(lints, Level::Warning, variable.whole, message)?;
+    let message = underscore_text(alloc, name)?;
+    push(lints, Level::Help, variable.whole, message)
 }
 
 #[tactic(auto, unfolding(crate::specs::Wording::repeats_text))]
@@ -176,14 +170,10 @@ fn push_repeating<A: Allocator + Copy>(
         ++ spec.repeating_lints bound.entry.name.now bound.entry.depth used.entry.depth
         (shown_seen variable.entry) (shown_seen at.entry)) }
 {
-    push(
-        lints,
-        Level::Error,
-        at.short,
-        repeats_text(alloc, bound.name)?,
-    )?;
-    let depths = depths_text(alloc, bound.depth, used.depth)?;
-    push(lints, Level::Note, variable.whole, depths)
+    let message = repeats_text(alloc, bound.name)?;
+    push(lints, Level::Error, at.short, message)?;
+    let message = depths_text(alloc, bound.depth, used.depth)?;
+    push(lints, Level::Note, variable.whole, message)
 }
 
 // What may follow a fragment of that kind.
