@@ -39,5 +39,5 @@ abbrev pub same_letters : List ℕ → List (List ℕ) → Option (List ℕ)
 same_letters name [] = None
 same_letters name (s ∷ ss) = if has_letters name s then Some s else same_letters name ss
 
-abbrev pub nearest : List ℕ → Option (List ℕ)
+unfoldable pub nearest : List ℕ → Option (List ℕ)
 nearest name = option_or (same_letters name specifiers) (fewest name (too_many name) None specifiers)

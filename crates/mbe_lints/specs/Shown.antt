@@ -33,7 +33,7 @@ shown_by place kind None = marked_by place place kind None
 shown_by place kind (Some w) = marked_by w.short w.whole kind w.specifier
 
 -- the variable of a definition whose name is there, of that kind
-abbrev pub shown : Defined → Span → Option MetaVarKind → Shown
+unfoldable pub shown : Defined → Span → Option MetaVarKind → Shown
 shown d place kind = shown_by place kind (written_at d place)
 
 -- `$name:specifier`

@@ -62,6 +62,7 @@ fn marked_by<'t, A: Allocator>(
 
 /// The variable of a definition whose name begins there, of that kind: as it is written, or, where it isn't found, as its kind
 /// alone shows it.
+#[tactic(auto, unfolding(crate::specs::Shown::shown))]
 pub fn show<'t, A: Allocator>(
     defined: Defined<'t, A>,
     place: Span,
