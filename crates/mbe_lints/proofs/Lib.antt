@@ -1,2 +1,3 @@
 mod DefinitionLemmas
+mod LintedLemmas
 mod WrittenLemmas

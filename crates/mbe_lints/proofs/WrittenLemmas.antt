@@ -46,7 +46,7 @@ in_first within place f t w all e found is =
 pub in_rest : (within : Forest → Option Written) (place : Span) (f rest : Forest) (t : Tree) (all : Option Written)
     → first f ≡ Some t → rest ≡ rest_of f → None ≡ written_first within place t f
     → written_among within place f ≡ all → written_among within place rest ≡ all
-in_rest within place f rest t all e r none is =
+in_rest within place f rest t all e r absent is =
     ap (written_among within place) r
-    ∙ (ap (λ o. option_or o (written_among within place (rest_of f))) none
+    ∙ (ap (λ o. option_or o (written_among within place (rest_of f))) absent
     ∙ (sym (first_and_rest within place f t e) ∙ is))

@@ -20,9 +20,9 @@ specifiers = map codes names
 abbrev pub edits : List ℕ → List ℕ → ℕ
 edits one other = (osa_table (chars one) (chars other)).last_row (length (chars other))
 
--- fewer edits than these are few: as many as a third of the characters, and one at least
+-- fewer edits than these are few: as many as a third of the bytes, and one at least
 abbrev pub too_many : List ℕ → ℕ
-too_many name = max 3 (length (chars name)) / 3 + 1
+too_many name = max 3 (length name) / 3 + 1
 
 -- the first of those with the fewest edits, which are fewer than so many; else the one that was found before
 abbrev pub fewest : List ℕ → ℕ → Option (List ℕ) → List (List ℕ) → Option (List ℕ)

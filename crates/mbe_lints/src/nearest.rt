@@ -28,7 +28,7 @@ const SPECIFIERS: &[&str] = &[
 fn too_many(name: &str) -> usize
     ensures { result ≡ spec.too_many name.now }
 {
-    name.chars().count().max(3) / 3 + 1
+    name.len().max(3) / 3 + 1
 }
 
 #[tactic(auto, unfolding(crate::specs::Nearest::has_letters))]
@@ -71,7 +71,7 @@ fn fewest_edits<'s, A: Allocator + Copy>(
 }
 
 /// The fragment specifier that a name is most like, if it is like one, as rustc finds a similar name: the one of the same letters,
-/// small or large; else the first of those that the fewest edits make of it, at most a third of its characters, and one at
+/// small or large; else the first of those that the fewest edits make of it, at most a third of its bytes, and one at
 /// least. An edit puts in a character, takes one out, replaces one, or swaps two. `AllocError` if out of memory.
 #[tactic(auto, unfolding(crate::specs::Nearest::nearest))]
 pub fn nearest<A: Allocator + Copy>(
