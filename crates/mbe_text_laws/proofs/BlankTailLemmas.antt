@@ -88,7 +88,7 @@ blanks_cut e total (suc n) (x ∷ xs) c from le h =
     (λ b k. if_ok P (begins_doc (x ∷ xs)) _ _ _ k
     (λ d m. blanked_here (x ∷ xs) c from m (λ o. absurd (let z : true ≡ false = sym d ∙ o in cc)))
     (λ d m. if_ok P (begins_with (codes "//") (x ∷ xs)) _ _ _ m
-    (λ l p. blanked_line e total n x xs _ c from le p (past_tail _ (drop 2 (x ∷ xs)))
+    (λ l p. blanked_line e total n x xs _ c from le p (search past_tail)
     (λ less q. blanks_cut e total n _ c from less q))
     (λ l p. if_ok P (not (begins_with (codes "/*") (x ∷ xs))) _ _ _ p
     (λ s q. blanked_here (x ∷ xs) c from q (λ o. both_false (begins_with (codes "//") (x ∷ xs))

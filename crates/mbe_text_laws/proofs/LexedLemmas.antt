@@ -45,7 +45,7 @@ use Rattle.mbe_text_laws.proofs.BackLemmas.{trees_come_back}
 use Rattle.mbe_text_laws.proofs.BlankTailLemmas.{tail_shorter, head_tail}
 use Rattle.mbe_text_laws.proofs.DocTextLemmas.{doc_read}
 use Rattle.mbe_text_laws.proofs.EndLemmas.{punct_not_start}
-use Rattle.mbe_text_laws.proofs.LiteralLemmas.{LexedLiteral, the_literal}
+use Rattle.mbe_text_laws.proofs.LiteralLemmas.{LexedLiteral, the_literal, one_byte}
 use Rattle.mbe_text_laws.proofs.RawLemmas.{raw_strings_are_read}
 use Rattle.mbe_text_laws.proofs.ShapeLemmas.{Lexed, LexedPunct, LexedLifetime, IsDocText}
 use Rattle.mbe_text_laws.proofs.TokenLemmas.{hidden, hidden_all, tokens_of, Tokens, last, more, next_cut, next_tail, next_shorter, Fits, fits_tail, offset_less, PunctFirst, punct_next, word_next, DotFirst, dot_next}
@@ -231,10 +231,15 @@ doc_past : past_word (codes "doc") ≡ []
 unfolding unicode_ident
 doc_past = refl
 
+doc_bytes : encode_utf8_all (codes "doc") ≡ codes "doc"
+doc_bytes =
+    one_byte 100 (111 ∷ (99 ∷ [])) (omega arith) (one_byte 111 (99 ∷ []) (omega arith) (one_byte 99 [] (omega arith)
+    refl))
+
 doc_word : IsWord (codes "doc")
 doc_word =
-    let known : chars (codes "doc") ≡ codes "doc" = chars-encodes (codes "doc") refl in
-    ((codes "doc", (refl, refl)), ap begins_word known ∙ d_is_start, ap past_word known ∙ doc_past)
+    let known : chars (codes "doc") ≡ codes "doc" = ap chars (sym doc_bytes) ∙ chars-encodes (codes "doc") refl in
+    ((codes "doc", (refl, doc_bytes)), ap begins_word known ∙ d_is_start, ap past_word known ∙ doc_past)
 
 self_place : (file a b : ℕ) → are_together (bytes_of file a b) (bytes_of file a b) ≡ true
 self_place file a b = rw (self file, self a, self b) refl
@@ -456,11 +461,11 @@ grows_closed span kind g h outer after k e =
     let r = grows_put one h outer after e in
     let end : FlatToken = tree.closing (record { opening = no_span; close = no_span; kind = kind }) in
     let before : List FlatToken = flat_levels (h ∷ outer) in
-    let open : FlatToken = hidden (tree.opening g.0) in
+    let begun : FlatToken = hidden (tree.opening g.0) in
     let ended : hidden (tree.closing d) ≡ end =
     ap (λ (x : DelimiterKind). tree.closing (record { opening = no_span; close = no_span; kind = x })) k in
-    let own : hidden_all (flat one) ≡ open ∷ (hidden_all (flat g.1) ++ (end ∷ [])) =
-    ap (λ (x : List FlatToken). open ∷ x) (hidden_append (flat g.1) (tree.closing d ∷ [])
+    let own : hidden_all (flat one) ≡ begun ∷ (hidden_all (flat g.1) ++ (end ∷ [])) =
+    ap (λ (x : List FlatToken). begun ∷ x) (hidden_append (flat g.1) (tree.closing d ∷ [])
     ∙ ap (λ (x : FlatToken). hidden_all (flat g.1) ++ (x ∷ [])) ended) in record {
       group = r.group;
       outer = r.outer;
@@ -468,7 +473,7 @@ grows_closed span kind g h outer after k e =
       flat_is = r.flat_is
           ∙ (ap (λ (x : List FlatToken). hidden_all before ++ x) own
           ∙ sym (ap (λ (x : List FlatToken). x ++ (end ∷ [])) (hidden_append before (tree.opening g.0 ∷ flat g.1))
-          ∙ append_assoc (hidden_all before) (open ∷ hidden_all (flat g.1)) (end ∷ [])));
+          ∙ append_assoc (hidden_all before) (begun ∷ hidden_all (flat g.1)) (end ∷ [])));
     }
 
 abbrev AfterIs : Type 0

@@ -1,6 +1,7 @@
 -- The literals that the lexer makes: each is read by itself.
-use Rattle.std.proofs.Common.{◌≡◌, ℕ, zero, suc, ◌==◌, ◌<◌, ◌⊎◌, inl, inr, ◌&&◌, ◌||◌, if◌then◌else◌, Bool, true, false, List, [], ◌∷◌, ◌++◌, length, refl, sym, ap, ◌∙◌, arith, codes, Some, Ok, Err, append_assoc, append-nil, length-append, encode_utf8_all, chars, IsUtf8, subst}
+use Rattle.std.proofs.Common.{◌≡◌, ℕ, zero, suc, ◌==◌, ◌<◌, ◌⊎◌, inl, inr, ◌&&◌, ◌||◌, if◌then◌else◌, Bool, true, false, List, [], ◌∷◌, ◌++◌, length, refl, sym, ap, ◌∙◌, arith, codes, Option, Some, Ok, Err, append_assoc, append-nil, length-append, encode_utf8_all, chars, IsUtf8, subst}
 use Rattle.std.specs.Char.{is_ascii_digit}
+use Rattle.std.specs.Prelude.{nat_le}
 use Rattle.std.proofs.Math.Utf8.{scalars}
 use Rattle.std.proofs.lemmas.Str.{encode_ascii, encodes-append, chars-encodes}
 use Rattle.unicode_ident.proofs.Computing.{unicode_ident}
@@ -12,12 +13,13 @@ use Rattle.mbe_tt.specs.declared.tt.LitKind.{LitKind}
 use Rattle.mbe_tt.specs.declared.tt.LitKind.TheVariants as kinds
 use Rattle.mbe_text.specs.declared.wrong.Wrong.TheVariants as wrong
 use Rattle.mbe_text.specs.Characters.{has, past, begins_with}
-use Rattle.mbe_text.specs.Rust.{Token, read_rust, string, char, number, raw_kind, raw_body, raw_string, begins_lifetime}
+use Rattle.mbe_text.specs.Extents.{from_string_end, from_char_end, from_raw_end}
+use Rattle.mbe_text.specs.Rust.{Token, read_rust, string, char, number, raw_kind, raw_body, raw_string, begins_lifetime, lifetime}
 use Rattle.mbe_text.specs.Shapes.{Shape, literal_of}
 use Rattle.mbe_text.proofs.Reading.{literal_written}
 use Rattle.mbe_text_laws.specs.Back.{is_string, is_char, is_raw, is_bare_integer, ends_with_dot}
 use Rattle.mbe_text_laws.specs.Rust.{begins_number, begins_field, IsLiteral, IsReadBefore, MayHaveFields, MayPrecedeDots}
-use Rattle.mbe_text_laws.proofs.QuoteLemmas.{Parts, same_char, token_of, string_parts, strings_are_read}
+use Rattle.mbe_text_laws.proofs.QuoteLemmas.{same_char, string_parts, strings_are_read}
 use Rattle.mbe_text_laws.proofs.CharLemmas.{single_at, char_parts, chars_are_read}
 use Rattle.mbe_text_laws.proofs.RawLemmas.{marked, marks_are, raw_from, string_is, body_parts, raw_strings_are_read}
 use Rattle.mbe_text_laws.proofs.NumberLemmas.{is_bare, digit_read, numbers_are_read}
@@ -201,15 +203,20 @@ pub one_byte : (c : ℕ) (cs : List ℕ) → c < 128 → encode_utf8_all cs ≡ 
 one_byte c cs small h =
     ap (λ (x : List ℕ). x ++ encode_utf8_all cs) (encode_ascii c small) ∙ ap (λ (x : List ℕ). c ∷ x) h
 
--- a string, from its quote on
-pub lexed_string : (e : Edition) (kind : LitKind) (q : _) (first cs rest : List ℕ) (shape : Shape)
-    → string kind q (34 ∷ cs) ≡ Ok (shape, rest) → is_string kind ≡ true → marks.opening kind ≡ first
+some_token : (a b : Token) → (let x : Option Token = Some a in x) ≡ Some b → a ≡ b
+some_token a b h = cc
+
+-- A string, from its quote on. What kind of quotes it has is last, since that type is the lexer's own.
+pub lexed_string : (e : Edition) (kind : LitKind) (first cs rest : List ℕ) (shape : Shape)
+    → is_string kind ≡ true → marks.opening kind ≡ first
     → marks.closing kind ≡ 34 ∷ [] → encode_utf8_all first ≡ first → 0 < length first → scalars (first ++ cs) ≡ true
+    → (q : _) → Some (string kind q (34 ∷ cs)) ≡ Some (Ok (shape, rest))
     → ((y : List ℕ) → read_rust e (first ++ y) ≡ Some (string kind q (34 ∷ y)))
     → LexedAs e (first ++ cs) rest shape
-lexed_string e kind q first cs rest shape h k opens closes f some u reads =
+lexed_string e kind first cs rest shape k opens closes f some u q h reads =
     let read : List ℕ → List ℕ → Token = λ from y. string kind q (34 ∷ y) in
-    let o = parts_cut read (34 ∷ []) kind cs rest shape (string_parts kind q 34 cs (shape, rest) _ refl h) in
+    let o = parts_cut read (34 ∷ []) kind cs rest shape
+    (string_parts kind q 34 cs (shape, rest) (from_string_end false cs) refl (some_token _ _ h)) in
     between e first (34 ∷ []) kind read cs rest shape o opens closes f (one_byte 34 [] (omega arith) refl) some u
     (string_law e kind k) (reads (o.body ++ ((34 ∷ []) ++ o.suffix)) ∙ ap Some (o.alone []))
 
@@ -221,30 +228,45 @@ lifetime_same (b ∷ []) m more n = refl
 lifetime_same (b ∷ (c ∷ bs)) m more n = refl
 
 -- `''` is no char
-some_char : (kind : LitKind) (q : _) (from cs : List ℕ) (r : Shape × List ℕ)
-    → (p : Parts (λ other y. char kind q other (39 ∷ y)) (39 ∷ []) kind cs r) → p.body ≡ [] → ⊥
-some_char kind q from cs r p none =
-    let at : char kind q from (39 ∷ (39 ∷ [])) ≡ Ok (literal_of [] [] 0 kind, []) =
-    sym (ap (λ (x : List ℕ). char kind q from (39 ∷ (x ++ (39 ∷ [])))) none)
-    ∙ (p.at from [] ∙ ap (λ (x : List ℕ). Ok (literal_of (encode_utf8_all x) [] 0 kind, [])) none) in
-    single_at kind q from 39 39 (literal_of [] [] 0 kind, []) _ refl at
+some_char : (kind : LitKind) (q : _) (cs rest : List ℕ) (shape : Shape)
+    → (o : Own (λ other y. char kind q other (39 ∷ y)) (39 ∷ []) kind cs rest shape) → o.body ≡ [] → ⊥
+some_char kind q cs rest shape o none =
+    let at : char kind q [] (39 ∷ (39 ∷ [])) ≡ Ok (literal_of [] [] 0 kind, []) =
+    sym (ap (λ (x : List ℕ). char kind q [] (39 ∷ (x ++ (39 ∷ [])))) none)
+    ∙ (o.at [] [] ∙ ap (λ (x : List ℕ). Ok (literal_of (encode_utf8_all x) [] 0 kind, [])) none) in
+    single_at kind q [] 39 39 (literal_of [] [] 0 kind, []) (from_char_end (39 ∷ [])) refl at
 
 -- a char or a byte, from its quote on
-pub lexed_char : (e : Edition) (kind : LitKind) (q : _) (first from cs rest : List ℕ) (shape : Shape)
-    → char kind q from (39 ∷ cs) ≡ Ok (shape, rest) → is_char kind ≡ true → marks.opening kind ≡ first
+pub lexed_char : (e : Edition) (kind : LitKind) (first from cs rest : List ℕ) (shape : Shape)
+    → is_char kind ≡ true → marks.opening kind ≡ first
     → marks.closing kind ≡ 39 ∷ [] → encode_utf8_all first ≡ first → 0 < length first → scalars (first ++ cs) ≡ true
+    → (q : _) → Some (char kind q from (39 ∷ cs)) ≡ Some (Ok (shape, rest))
     → ((y : List ℕ) → begins_lifetime y ≡ begins_lifetime cs
-    → (other : List ℕ) × (read_rust e (first ++ y) ≡ Some (char kind q other (39 ∷ y))))
+    → read_rust e (first ++ y) ≡ Some (char kind q (first ++ y) (39 ∷ y)))
     → LexedAs e (first ++ cs) rest shape
-lexed_char e kind q first from cs rest shape h k opens closes f some u reads =
+lexed_char e kind first from cs rest shape k opens closes f some u q h reads =
     let read : List ℕ → List ℕ → Token = λ other y. char kind q other (39 ∷ y) in
-    let p = char_parts kind q from 39 cs (shape, rest) h in
-    let o = parts_cut read (39 ∷ []) kind cs rest shape p in
-    let same : begins_lifetime (p.body ++ (39 ∷ o.suffix)) ≡ begins_lifetime cs =
-    lifetime_same p.body o.suffix p.more (some_char kind q from cs (shape, rest) p) ∙ ap begins_lifetime (sym p.is) in
-    let r = reads (p.body ++ (39 ∷ o.suffix)) same in
+    let o = parts_cut read (39 ∷ []) kind cs rest shape (char_parts kind q from 39 cs (shape, rest)
+    (some_token _ _ h)) in
+    let content : List ℕ = o.body ++ ((39 ∷ []) ++ o.suffix) in
+    let same : begins_lifetime content ≡ begins_lifetime cs =
+    lifetime_same o.body o.suffix (o.suffix ++ rest) (some_char kind q cs rest shape o)
+    ∙ sym (ap begins_lifetime (o.is ∙ append_assoc o.body (39 ∷ o.suffix) rest)) in
     between e first (39 ∷ []) kind read cs rest shape o opens closes f (one_byte 39 [] (omega arith) refl) some u
-    (char_law e kind k) (r.1 ∙ ap Some (o.alone r.0))
+    (char_law e kind k) (reads content same ∙ ap Some (o.alone (first ++ content)))
+
+-- the char of a `'` that begins no lifetime
+pub lexed_quote : (e : Edition) (cs rest : List ℕ) (shape : Shape) → scalars (39 ∷ cs) ≡ true
+    → begins_lifetime cs ≡ false
+    → (q : _) → Some (char kinds.Char q (39 ∷ cs) (39 ∷ cs)) ≡ Some (Ok (shape, rest))
+    → ((y : List ℕ) → read_rust e (39 ∷ y) ≡ Some (if begins_lifetime y then lifetime e (39 ∷ y) else char kinds.Char
+    q (39 ∷ y) (39 ∷ y)))
+    → LexedAs e (39 ∷ cs) rest shape
+lexed_quote e cs rest shape u b q h reads =
+    lexed_char e kinds.Char (39 ∷ []) (39 ∷ cs) cs rest shape refl refl refl (one_byte 39 [] (omega arith) refl)
+    (omega arith) u q h
+    (λ y same. reads y ∙ ap (λ (x : Bool). Some (if x then lifetime e (39 ∷ y) else char kinds.Char q (39 ∷ y)
+    (39 ∷ y))) (same ∙ b))
 
 -- ---- raw strings
 
@@ -278,23 +300,23 @@ quote_after from body cs (c ∷ more) r h = by (c == 34) refl
         absurd (let w : raw_from from body cs (c ∷ more) ≡ Err (wrong.RawStringStart, from) = rw e refl in
         let z : Err (wrong.RawStringStart, from) ≡ Ok r = sym w ∙ h in cc)
 
-pub raw_opened : (k q : _) (from cs : List ℕ) (r : Shape × List ℕ)
+pub raw_opened : (cs : List ℕ) (r : Shape × List ℕ) (k q : _) (from : List ℕ)
     → raw_from from (raw_body q from) cs (past k cs) ≡ Ok r → ((c : ℕ) → has k c ≡ true → c ≡ 35) → Opened cs
-raw_opened k q from cs r h is =
+raw_opened cs r k q from h is =
     let n = hashes_of k cs is in
     let m = quote_after from (raw_body q from) cs (past k cs) r h in
     record { n = n.0; body = m.0; is = n.1 ∙ ap (λ (x : List ℕ). marked n.0 ++ x) m.1 }
 
 -- a raw string, from its `#` on
-pub lexed_raw : (e : Edition) (q : _) (before from : List ℕ) (n : ℕ) (cs rest : List ℕ) (shape : Shape)
-    → Some (raw_string q from (marked n ++ (34 ∷ cs))) ≡ Some (Ok (shape, rest))
+pub lexed_raw : (e : Edition) (before : List ℕ) (n : ℕ) (cs rest : List ℕ) (shape : Shape)
+    → encode_utf8_all before ≡ before → scalars (before ++ (marked n ++ (34 ∷ cs))) ≡ true
+    → (q : _) (from : List ℕ) → Some (raw_string q from (marked n ++ (34 ∷ cs))) ≡ Some (Ok (shape, rest))
     → ((m : ℕ) → marks.opening (raw_kind q m) ≡ before ++ (marked m ++ (34 ∷ [])))
     → ((m : ℕ) → marks.closing (raw_kind q m) ≡ 34 ∷ marked m) → ((m : ℕ) → is_raw (raw_kind q m) ≡ true)
-    → encode_utf8_all before ≡ before → scalars (before ++ (marked n ++ (34 ∷ cs))) ≡ true
-    → ((y : List ℕ) → (other : List ℕ) × (read_rust e (before ++ (marked n ++ (34 ∷ y)))
-    ≡ Some (raw_string q other (marked n ++ (34 ∷ y)))))
+    → ((y : List ℕ) → read_rust e (before ++ (marked n ++ (34 ∷ y)))
+    ≡ Some (raw_string q (before ++ (marked n ++ (34 ∷ y))) (marked n ++ (34 ∷ y))))
     → LexedAs e (before ++ (marked n ++ (34 ∷ cs))) rest shape
-lexed_raw e q before from n cs rest shape h opens closes raw b u reads =
+lexed_raw e before n cs rest shape b u q from h opens closes raw reads =
     let size : ℕ = length (marked n) in
     let kind = raw_kind q size in
     let read : List ℕ → List ℕ → Token = λ other y. raw_body q other (marked n) y in
@@ -303,10 +325,11 @@ lexed_raw e q before from n cs rest shape h opens closes raw b u reads =
     let first_is = λ (y : List ℕ). append_assoc before (marked n ++ (34 ∷ [])) y
     ∙ ap (λ (x : List ℕ). before ++ x) (append_assoc (marked n) (34 ∷ []) y) in
     let body : raw_body q from (marked n) cs ≡ Ok (shape, rest) =
-    sym (string_is q from n cs) ∙ ap (token_of (Ok (shape, rest))) h in
-    let o = parts_cut read end kind cs rest shape (body_parts q from n cs (shape, rest) _ _ refl refl body) in
+    sym (string_is q from n cs) ∙ some_token _ _ h in
+    let o = parts_cut read end kind cs rest shape (body_parts q from n cs (shape, rest) (from_raw_end (marked n) cs)
+    (nat_le (length (marked n)) 255) refl refl body) in
     let content : List ℕ = o.body ++ (end ++ o.suffix) in
-    let r = reads content in
+    let other : List ℕ = before ++ (marked n ++ (34 ∷ content)) in
     let bytes : encode_utf8_all first ≡ first =
     encodes-append before (marked n ++ (34 ∷ []))
     ∙ (ap (λ (x : List ℕ). x ++ encode_utf8_all (marked n ++ (34 ∷ []))) b
@@ -321,7 +344,7 @@ lexed_raw e q before from n cs rest shape h opens closes raw b u reads =
     (closes size ∙ ap (λ (m : ℕ). 34 ∷ marked m) (length_marked n))
     bytes (one_byte 34 (marked n) (omega arith) (marks_are n)) some (ap scalars (first_is cs) ∙ u)
     (raw_law e kind (raw size))
-    (ap (read_rust e) (first_is content) ∙ (r.1 ∙ ap Some (string_is q r.0 n content ∙ o.alone r.0))))
+    (ap (read_rust e) (first_is content) ∙ (reads content ∙ ap Some (string_is q other n content ∙ o.alone other))))
 
 -- ---- numbers
 

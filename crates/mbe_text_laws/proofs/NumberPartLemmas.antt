@@ -557,6 +557,10 @@ integer_own base before d ds rest shape None dg e l g h =
       bare = λ b q. bare_case cs (bytes_before cs after) s.own rest after s.is g (ap is_bare (sym s.shaped) ∙ b) q;
     }
 
+float_is : (base : _) (cs end : List ℕ) → is_ten base ≡ true
+    → float base cs end ≡ literal kinds.Float (bytes_before cs end) end
+float_is base cs end t = rw t refl
+
 float_own : (base : _) (before : List ℕ) (d : ℕ) (ds end rest : List ℕ) (shape : Shape) (b : Bool)
     → Digits base → has_digit base (d ∷ ds) ≡ true → is_ten base ≡ b
     → past_fraction (before ++ (d ∷ ds)) (past (digit_of base) ds) ≡ Ok (Some end)
@@ -572,7 +576,7 @@ float_own base before d ds end rest shape true dg e t g h =
     let r = run k ds in
     let f = fraction_cut cs after end g in
     let own : List ℕ = f.first ∷ f.more in
-    let was : float base cs end ≡ literal kinds.Float (bytes_before cs end) end = rw t refl in
+    let was = float_is base cs end t in
     let s = literal_cut kinds.Float (bytes_before cs end) end rest shape (sym was ∙ h) in
     let front : List ℕ = r.own ++ own in
     let whole : List ℕ = front ++ s.own in
@@ -591,7 +595,7 @@ float_own base before d ds end rest shape true dg e t g h =
     ∙ (ap (λ (x : List ℕ). has_digit base (d ∷ x)) (sym r.is) ∙ e)) in
     let fraction : past_fraction all (past k whole) ≡ Ok (Some s.own) =
     ap (past_fraction all) left ∙ f.at all s.own rest s.is s.front in
-    let now : float base all s.own ≡ literal kinds.Float (bytes_before all s.own) s.own = rw t refl in record {
+    let now = float_is base all s.own t in record {
       front = front;
       suffix = s.own;
       is = up_to ∙ (ap (λ (x : List ℕ). front ++ x) s.is ∙ sym (append_assoc front s.own rest));

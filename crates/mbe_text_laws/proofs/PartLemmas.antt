@@ -158,6 +158,7 @@ pub record Own (read : List ℕ → List ℕ → Token) (end : List ℕ) (kind :
   pub suffix : List ℕ
   pub is : cs ≡ (body ++ (end ++ suffix)) ++ rest
   pub alone : (from : List ℕ) → read from (body ++ (end ++ suffix)) ≡ Ok (shape, [])
+  pub at : (from m : List ℕ) → read from (body ++ (end ++ m)) ≡ literal kind (encode_utf8_all body) m
   pub shaped : shape
       ≡ literal_of (encode_utf8_all body) (encode_utf8_all suffix) (length (encode_utf8_all suffix)) kind
 
@@ -171,5 +172,6 @@ parts_cut read end kind cs rest shape p =
           ∙ sym (append_assoc p.body (end ++ s.own) rest
           ∙ ap (λ (x : List ℕ). p.body ++ x) (append_assoc end s.own rest)));
       alone = λ from. p.at from s.own ∙ s.alone;
+      at = p.at;
       shaped = s.shaped;
     }

@@ -21,7 +21,7 @@ use Rattle.mbe_text.specs.Blanks.{begins_comment}
 use Rattle.mbe_text.specs.Characters.{has, past, begins_with, bytes_before}
 use Rattle.mbe_text.specs.Dialect.{read_shape, or_sign}
 use Rattle.mbe_text.specs.Extents.{front, from_comment_end}
-use Rattle.mbe_text.specs.Rust.{Token, within, is_inner, read_rust, read_r, read_b, read_c, read_quote, plain_identifier, raw_identifier, begins_reserved, begins_raw_string, raw_string, may_be_raw, begins_lifetime, lifetime, plain_lifetime, raw_lifetime, number, is_guard, begins_doc, doc, line_doc, block_doc, doc_until, from_return}
+use Rattle.mbe_text.specs.Rust.{Token, within, is_inner, read_rust, read_r, read_b, read_c, read_quote, plain_identifier, raw_identifier, begins_reserved, begins_raw_string, raw_string, may_be_raw, char, begins_lifetime, lifetime, plain_lifetime, raw_lifetime, number, is_guard, begins_doc, doc, line_doc, block_doc, doc_until, from_return}
 use Rattle.mbe_text.specs.Faults.{fault_at}
 use Rattle.mbe_text.specs.Shapes.{Shape, Read, identifier, literal_of, punct_of, lifetime_of, doc_of, opening, closing}
 use Rattle.mbe_text.specs.Signs.{read_sign, side, spacing_before}
@@ -35,7 +35,7 @@ use Rattle.mbe_text_laws.proofs.QuoteLemmas.{same_char, left_of, shape_of, b_is_
 use Rattle.mbe_text_laws.proofs.FollowLemmas.{is_side}
 use Rattle.mbe_text_laws.proofs.PartLemmas.{WordRun, word_run}
 use Rattle.mbe_text_laws.proofs.RawLemmas.{marked}
-use Rattle.mbe_text_laws.proofs.LiteralLemmas.{scalars_parts, LexedLiteral, LexedAs, lexed_string, lexed_char, lexed_raw, raw_opened, Opened, lexed_number, one_byte}
+use Rattle.mbe_text_laws.proofs.LiteralLemmas.{scalars_parts, LexedLiteral, LexedAs, lexed_string, lexed_char, lexed_quote, lexed_raw, raw_opened, Opened, lexed_number, one_byte}
 
 -- ---- tokens
 
@@ -277,17 +277,28 @@ tick_reads : (e : Edition) (y : List ℕ) → read_rust e (39 ∷ y) ≡ Some (r
 unfolding unicode_ident
 tick_reads e y = refl
 
-no_lifetime : (y : List ℕ) (a b : Token) → begins_lifetime y ≡ false → (if begins_lifetime y then a else b) ≡ b
-no_lifetime y a b n = ap (λ (x : Bool). if x then a else b) n
+quote_lexed : (e : Edition) (cs rest : List ℕ) (shape : Shape) → scalars (39 ∷ cs) ≡ true
+    → begins_lifetime cs ≡ false → read_rust e (39 ∷ cs) ≡ Some (Ok (shape, rest)) → (q : _)
+    → Some (if begins_lifetime cs then lifetime e (39 ∷ cs) else char kinds.Char q (39 ∷ cs) (39 ∷ cs))
+    ≡ Some (Ok (shape, rest))
+    → ((y : List ℕ) → read_rust e (39 ∷ y) ≡ Some (if begins_lifetime y then lifetime e (39 ∷ y) else char kinds.Char
+    q (39 ∷ y) (39 ∷ y)))
+    → LexedAs e (39 ∷ cs) rest shape
+quote_lexed e cs rest shape u b h q k reads =
+    lexed_quote e cs rest shape u b q
+    (sym (ap (λ (x : Bool). Some (if x then lifetime e (39 ∷ cs) else char kinds.Char q (39 ∷ cs) (39 ∷ cs))) b) ∙ k)
+    reads
+
+char_lexed : (e : Edition) (cs rest : List ℕ) (shape : Shape) → scalars (39 ∷ cs) ≡ true
+    → begins_lifetime cs ≡ false → read_rust e (39 ∷ cs) ≡ Some (Ok (shape, rest)) → LexedAs e (39 ∷ cs) rest shape
+unfolding unicode_ident
+char_lexed e cs rest shape u b h = search (quote_lexed e cs rest shape u b h, h)
 
 quote_cut : (e : Edition) (cs rest : List ℕ) (shape : Shape) → scalars (39 ∷ cs) ≡ true
     → read_quote e (39 ∷ cs) ≡ Ok (shape, rest) → Step e (39 ∷ cs) rest shape
 quote_cut e cs rest shape u h =
     if_ok (Step e (39 ∷ cs) rest shape) (begins_lifetime cs) _ _ _ h (λ b k. begun cs u b k)
-    (λ b k. literal_step e (39 ∷ cs) rest shape
-    (lexed_char e kinds.Char _ (39 ∷ []) (39 ∷ cs) cs rest shape k refl refl refl (one_byte 39 [] (omega arith) refl)
-    (omega arith) u
-    (λ y same. (39 ∷ y, tick_reads e y ∙ ap Some (no_lifetime y _ _ (same ∙ b))))))
+    (λ b k. literal_step e (39 ∷ cs) rest shape (char_lexed e cs rest shape u b (tick_reads e cs ∙ ap Some h)))
   where
     begun : (ds : List ℕ) → scalars (39 ∷ ds) ≡ true → begins_lifetime ds ≡ true
         → lifetime e (39 ∷ ds) ≡ Ok (shape, rest) → Step e (39 ∷ ds) rest shape
@@ -297,27 +308,32 @@ quote_cut e cs rest shape u h =
         (not (begins_with (codes "'") ds)) b) v k
 
 b_char : (e : Edition) (cs rest : List ℕ) (shape : Shape) → scalars (98 ∷ (39 ∷ cs)) ≡ true
-    → read_b e (98 ∷ (39 ∷ cs)) ≡ Ok (shape, rest) → Step e (98 ∷ (39 ∷ cs)) rest shape
+    → read_rust e (98 ∷ (39 ∷ cs)) ≡ Some (Ok (shape, rest)) → LexedAs e (98 ∷ (39 ∷ cs)) rest shape
 b_char e cs rest shape u h =
-    literal_step e (98 ∷ (39 ∷ cs)) rest shape
-    (lexed_char e kinds.Byte _ (98 ∷ (39 ∷ [])) (98 ∷ (39 ∷ cs)) cs rest shape h refl refl refl
-    (one_byte 98 (39 ∷ []) (omega arith) (one_byte 39 [] (omega arith) refl)) (omega arith) u
-    (λ y same. (98 ∷ (39 ∷ y), refl)))
+    search (
+      lexed_char e kinds.Byte (98 ∷ (39 ∷ [])) (98 ∷ (39 ∷ cs)) cs rest shape refl refl refl
+          (one_byte 98 (39 ∷ []) (omega arith) (one_byte 39 [] (omega arith) refl)) (omega arith) u,
+      h,
+    )
 
 b_string : (e : Edition) (cs rest : List ℕ) (shape : Shape) → scalars (98 ∷ (34 ∷ cs)) ≡ true
-    → read_b e (98 ∷ (34 ∷ cs)) ≡ Ok (shape, rest) → Step e (98 ∷ (34 ∷ cs)) rest shape
+    → read_rust e (98 ∷ (34 ∷ cs)) ≡ Some (Ok (shape, rest)) → LexedAs e (98 ∷ (34 ∷ cs)) rest shape
 b_string e cs rest shape u h =
-    literal_step e (98 ∷ (34 ∷ cs)) rest shape
-    (lexed_string e kinds.ByteStr _ (98 ∷ (34 ∷ [])) cs rest shape h refl refl refl
-    (one_byte 98 (34 ∷ []) (omega arith) (one_byte 34 [] (omega arith) refl)) (omega arith) u (λ y. refl))
+    search (
+      lexed_string e kinds.ByteStr (98 ∷ (34 ∷ [])) cs rest shape refl refl refl
+          (one_byte 98 (34 ∷ []) (omega arith) (one_byte 34 [] (omega arith) refl)) (omega arith) u,
+      h,
+    )
 
 quotes_read : (e : Edition) (cs rest : List ℕ) (shape : Shape) → scalars (34 ∷ cs) ≡ true
-    → read_rust e (34 ∷ cs) ≡ Some (Ok (shape, rest)) → Step e (34 ∷ cs) rest shape
+    → read_rust e (34 ∷ cs) ≡ Some (Ok (shape, rest)) → LexedAs e (34 ∷ cs) rest shape
 unfolding unicode_ident
 quotes_read e cs rest shape u h =
-    literal_step e (34 ∷ cs) rest shape
-    (lexed_string e kinds.Str _ (34 ∷ []) cs rest shape (some_token _ _ h) refl refl refl
-    (one_byte 34 [] (omega arith) refl) (omega arith) u (λ y. refl))
+    search (
+      lexed_string e kinds.Str (34 ∷ []) cs rest shape refl refl refl (one_byte 34 [] (omega arith) refl)
+          (omega arith) u,
+      h,
+    )
 
 -- ---- raw strings
 
@@ -329,11 +345,9 @@ b_raw : (e : Edition) (n : ℕ) (cs rest : List ℕ) (shape : Shape)
     → read_rust e (98 ∷ (114 ∷ (marked n ++ (34 ∷ cs)))) ≡ Some (Ok (shape, rest))
     → LexedAs e (98 ∷ (114 ∷ (marked n ++ (34 ∷ cs)))) rest shape
 b_raw e zero cs rest shape u h =
-    lexed_raw e _ (98 ∷ (114 ∷ [])) _ 0 cs rest shape h (λ m. refl) (λ m. refl) (λ m. refl)
-    (one_byte 98 (114 ∷ []) (omega arith) (one_byte 114 [] (omega arith) refl)) u (λ y. (_, refl))
+    search (lexed_raw e (98 ∷ (114 ∷ [])) 0 cs rest shape (one_byte 98 (114 ∷ []) (omega arith) (one_byte 114 [] (omega arith) refl)) u, h)
 b_raw e (suc n) cs rest shape u h =
-    lexed_raw e _ (98 ∷ (114 ∷ [])) _ (suc n) cs rest shape h (λ m. refl) (λ m. refl) (λ m. refl)
-    (one_byte 98 (114 ∷ []) (omega arith) (one_byte 114 [] (omega arith) refl)) u (λ y. (_, refl))
+    search (lexed_raw e (98 ∷ (114 ∷ [])) (suc n) cs rest shape (one_byte 98 (114 ∷ []) (omega arith) (one_byte 114 [] (omega arith) refl)) u, h)
 
 r_raw : (e : Edition) (n : ℕ) (cs rest : List ℕ) (shape : Shape)
     → scalars (114 ∷ (marked n ++ (34 ∷ cs))) ≡ true
@@ -341,29 +355,30 @@ r_raw : (e : Edition) (n : ℕ) (cs rest : List ℕ) (shape : Shape)
     → LexedAs e (114 ∷ (marked n ++ (34 ∷ cs))) rest shape
 unfolding unicode_ident
 r_raw e zero cs rest shape u h =
-    lexed_raw e _ (114 ∷ []) _ 0 cs rest shape h (λ m. refl) (λ m. refl) (λ m. refl)
-    (one_byte 114 [] (omega arith) refl) u (λ y. (_, refl))
+    search (lexed_raw e (114 ∷ []) 0 cs rest shape (one_byte 114 [] (omega arith) refl) u, h)
 r_raw e (suc zero) cs rest shape u h =
-    lexed_raw e _ (114 ∷ []) _ 1 cs rest shape h (λ m. refl) (λ m. refl) (λ m. refl)
-    (one_byte 114 [] (omega arith) refl) u (λ y. (_, refl))
+    search (lexed_raw e (114 ∷ []) 1 cs rest shape (one_byte 114 [] (omega arith) refl) u, h)
 r_raw e (suc (suc n)) cs rest shape u h =
-    lexed_raw e _ (114 ∷ []) _ (suc (suc n)) cs rest shape h (λ m. refl) (λ m. refl) (λ m. refl)
-    (one_byte 114 [] (omega arith) refl) u (λ y. (_, refl))
+    search (lexed_raw e (114 ∷ []) (suc (suc n)) cs rest shape (one_byte 114 [] (omega arith) refl) u, h)
 
 -- C strings are since 2021
 c_string : (e : Edition) (cs rest : List ℕ) (shape : Shape) → at_least_2021 e ≡ true
     → scalars (99 ∷ (34 ∷ cs)) ≡ true
-    → read_c e (99 ∷ (34 ∷ cs)) ≡ Ok (shape, rest) → Step e (99 ∷ (34 ∷ cs)) rest shape
+    → read_rust e (99 ∷ (34 ∷ cs)) ≡ Some (Ok (shape, rest)) → LexedAs e (99 ∷ (34 ∷ cs)) rest shape
 c_string Edition2015 cs rest shape n u h = absurd (cc)
 c_string Edition2018 cs rest shape n u h = absurd (cc)
 c_string Edition2021 cs rest shape n u h =
-    literal_step Edition2021 (99 ∷ (34 ∷ cs)) rest shape
-    (lexed_string Edition2021 kinds.CStr _ (99 ∷ (34 ∷ [])) cs rest shape h refl refl refl
-    (one_byte 99 (34 ∷ []) (omega arith) (one_byte 34 [] (omega arith) refl)) (omega arith) u (λ y. refl))
+    search (
+      lexed_string Edition2021 kinds.CStr (99 ∷ (34 ∷ [])) cs rest shape refl refl refl
+          (one_byte 99 (34 ∷ []) (omega arith) (one_byte 34 [] (omega arith) refl)) (omega arith) u,
+      h,
+    )
 c_string Edition2024 cs rest shape n u h =
-    literal_step Edition2024 (99 ∷ (34 ∷ cs)) rest shape
-    (lexed_string Edition2024 kinds.CStr _ (99 ∷ (34 ∷ [])) cs rest shape h refl refl refl
-    (one_byte 99 (34 ∷ []) (omega arith) (one_byte 34 [] (omega arith) refl)) (omega arith) u (λ y. refl))
+    search (
+      lexed_string Edition2024 kinds.CStr (99 ∷ (34 ∷ [])) cs rest shape refl refl refl
+          (one_byte 99 (34 ∷ []) (omega arith) (one_byte 34 [] (omega arith) refl)) (omega arith) u,
+      h,
+    )
 
 c_raw : (e : Edition) (n : ℕ) (cs rest : List ℕ) (shape : Shape) → at_least_2021 e ≡ true
     → scalars (99 ∷ (114 ∷ (marked n ++ (34 ∷ cs)))) ≡ true
@@ -372,17 +387,13 @@ c_raw : (e : Edition) (n : ℕ) (cs rest : List ℕ) (shape : Shape) → at_leas
 c_raw Edition2015 n cs rest shape is u h = absurd (cc)
 c_raw Edition2018 n cs rest shape is u h = absurd (cc)
 c_raw Edition2021 zero cs rest shape is u h =
-    lexed_raw Edition2021 _ (99 ∷ (114 ∷ [])) _ 0 cs rest shape h (λ m. refl) (λ m. refl) (λ m. refl)
-    (one_byte 99 (114 ∷ []) (omega arith) (one_byte 114 [] (omega arith) refl)) u (λ y. (_, refl))
+    search (lexed_raw Edition2021 (99 ∷ (114 ∷ [])) 0 cs rest shape (one_byte 99 (114 ∷ []) (omega arith) (one_byte 114 [] (omega arith) refl)) u, h)
 c_raw Edition2021 (suc n) cs rest shape is u h =
-    lexed_raw Edition2021 _ (99 ∷ (114 ∷ [])) _ (suc n) cs rest shape h (λ m. refl) (λ m. refl) (λ m. refl)
-    (one_byte 99 (114 ∷ []) (omega arith) (one_byte 114 [] (omega arith) refl)) u (λ y. (_, refl))
+    search (lexed_raw Edition2021 (99 ∷ (114 ∷ [])) (suc n) cs rest shape (one_byte 99 (114 ∷ []) (omega arith) (one_byte 114 [] (omega arith) refl)) u, h)
 c_raw Edition2024 zero cs rest shape is u h =
-    lexed_raw Edition2024 _ (99 ∷ (114 ∷ [])) _ 0 cs rest shape h (λ m. refl) (λ m. refl) (λ m. refl)
-    (one_byte 99 (114 ∷ []) (omega arith) (one_byte 114 [] (omega arith) refl)) u (λ y. (_, refl))
+    search (lexed_raw Edition2024 (99 ∷ (114 ∷ [])) 0 cs rest shape (one_byte 99 (114 ∷ []) (omega arith) (one_byte 114 [] (omega arith) refl)) u, h)
 c_raw Edition2024 (suc n) cs rest shape is u h =
-    lexed_raw Edition2024 _ (99 ∷ (114 ∷ [])) _ (suc n) cs rest shape h (λ m. refl) (λ m. refl) (λ m. refl)
-    (one_byte 99 (114 ∷ []) (omega arith) (one_byte 114 [] (omega arith) refl)) u (λ y. (_, refl))
+    search (lexed_raw Edition2024 (99 ∷ (114 ∷ [])) (suc n) cs rest shape (one_byte 99 (114 ∷ []) (omega arith) (one_byte 114 [] (omega arith) refl)) u, h)
 
 -- ---- what begins with an `r`, a `b` or a `c`
 
@@ -412,24 +423,26 @@ b_cut e (d ∷ ds) rest shape u h =
     subst (λ (x : ℕ). Step e (98 ∷ (x ∷ ds)) rest shape) (sym same) s in
     if_ok P (d == 39 && true) _ _ _ h
     (λ b k. let same = same_char d 39 (and_left (d == 39) true b) in
-    back 39 same (b_char e ds rest shape (text 39 same) (at 39 same)))
+    back 39 same (literal_step e (98 ∷ (39 ∷ ds)) rest shape (b_char e ds rest shape (text 39 same)
+    (ap Some (at 39 same)))))
     (λ b k. if_ok P (d == 34 && true) _ _ _ k
     (λ c m. let same = same_char d 34 (and_left (d == 34) true c) in
-    back 34 same (b_string e ds rest shape (text 34 same) (at 34 same)))
+    back 34 same (literal_step e (98 ∷ (34 ∷ ds)) rest shape (b_string e ds rest shape (text 34 same)
+    (ap Some (at 34 same)))))
     (λ c m. if_ok P ((d == 114 && true) && begins_raw_string ds) _ _ _ m
     (λ r n. let same = same_char d 114 (and_left (d == 114) true (and_left (d == 114 && true)
     (begins_raw_string ds) r)) in
-    back 114 same (raw_step e (98 ∷ (114 ∷ [])) ds rest shape (raw_opened _ _ _ ds (shape, rest) n hash_is)
+    back 114 same (raw_step e (98 ∷ (114 ∷ [])) ds rest shape (search (raw_opened ds (shape, rest), n, hash_is))
     (text 114 same) (ap Some (at 114 same)) (λ j body v w. b_raw e j body rest shape v w)))
     (λ r n. plain_cut e 98 (d ∷ ds) rest shape b_is_start u n)))
 
-r_rest : (e : Edition) (q : _) (cs rest : List ℕ) (shape : Shape) → scalars (114 ∷ cs) ≡ true
-    → read_rust e (114 ∷ cs) ≡ Some (Ok (shape, rest))
+r_rest : (e : Edition) (cs rest : List ℕ) (shape : Shape) → scalars (114 ∷ cs) ≡ true
+    → read_rust e (114 ∷ cs) ≡ Some (Ok (shape, rest)) → (q : _)
     → (if begins_raw_string cs then raw_string q (114 ∷ cs) cs else plain_identifier e (114 ∷ cs)) ≡ Ok (shape, rest)
     → Step e (114 ∷ cs) rest shape
-r_rest e q cs rest shape u h k =
+r_rest e cs rest shape u h q k =
     if_ok (Step e (114 ∷ cs) rest shape) (begins_raw_string cs) _ _ _ k
-    (λ b m. raw_step e (114 ∷ []) cs rest shape (raw_opened _ _ _ cs (shape, rest) m hash_is) u h
+    (λ b m. raw_step e (114 ∷ []) cs rest shape (search (raw_opened cs (shape, rest), m, hash_is)) u h
     (λ j body v w. r_raw e j body rest shape v w))
     (λ b m. plain_cut e 114 cs rest shape r_is_start u m)
 
@@ -438,7 +451,7 @@ r_cut : (e : Edition) (cs rest : List ℕ) (shape : Shape) → scalars (114 ∷ 
 r_cut e [] rest shape u h = plain_cut e 114 [] rest shape r_is_start u h
 r_cut e (d ∷ []) rest shape u h =
     if_ok (Step e (114 ∷ (d ∷ [])) rest shape) ((d == 35 && true) && false) _ _ _ h
-    (λ b k. absurd (never (d == 35 && true) b)) (λ b k. r_rest e _ (d ∷ []) rest shape u (ap Some h) k)
+    (λ b k. absurd (never (d == 35 && true) b)) (λ b k. search (r_rest e (d ∷ []) rest shape u (ap Some h), k))
 r_cut e (d ∷ (c ∷ cs)) rest shape u h =
     if_ok (Step e (114 ∷ (d ∷ (c ∷ cs))) rest shape) ((d == 35 && true) && is_start c) _ _ _ h
     (λ b k. let same = same_char d 35 (and_left (d == 35) true (and_left (d == 35 && true) (is_start c) b)) in
@@ -447,7 +460,7 @@ r_cut e (d ∷ (c ∷ cs)) rest shape u h =
     subst (λ (x : ℕ). Step e (114 ∷ (x ∷ (c ∷ cs))) rest shape) (sym same)
     (r_marked e c cs rest shape (and_right (d == 35 && true) (is_start c) b)
     (ap (λ (x : ℕ). scalars (114 ∷ (x ∷ (c ∷ cs)))) (sym same) ∙ u) read))
-    (λ b k. r_rest e _ (d ∷ (c ∷ cs)) rest shape u (ap Some h) k)
+    (λ b k. search (r_rest e (d ∷ (c ∷ cs)) rest shape u (ap Some h), k))
   where
     r_marked : (e : Edition) (c : ℕ) (cs rest : List ℕ) (shape : Shape) → is_start c ≡ true
         → scalars (114 ∷ (35 ∷ (c ∷ cs))) ≡ true → read_r e (114 ∷ (35 ∷ (c ∷ cs))) ≡ Ok (shape, rest)
@@ -474,11 +487,12 @@ c_cut e (d ∷ ds) rest shape u h =
     (λ o k. let new = not_true (at_least_2021 e) o in
     if_ok P (d == 34 && true) _ _ _ k
     (λ c m. let same = same_char d 34 (and_left (d == 34) true c) in
-    back 34 same (c_string e ds rest shape new (text 34 same) (at 34 same)))
+    back 34 same (literal_step e (99 ∷ (34 ∷ ds)) rest shape (c_string e ds rest shape new (text 34 same)
+    (ap Some (at 34 same)))))
     (λ c m. if_ok P ((d == 114 && true) && begins_raw_string ds) _ _ _ m
     (λ r n. let same = same_char d 114 (and_left (d == 114) true (and_left (d == 114 && true)
     (begins_raw_string ds) r)) in
-    back 114 same (raw_step e (99 ∷ (114 ∷ [])) ds rest shape (raw_opened _ _ _ ds (shape, rest) n hash_is)
+    back 114 same (raw_step e (99 ∷ (114 ∷ [])) ds rest shape (search (raw_opened ds (shape, rest), n, hash_is))
     (text 114 same) (ap Some (at 114 same)) (λ j body v w. c_raw e j body rest shape new v w)))
     (λ r n. plain_cut e 99 (d ∷ ds) rest shape c_is_start u n)))
 
@@ -604,7 +618,7 @@ rust_cut e c cs rest shape u h =
     (λ d k. literal_step e (c ∷ cs) rest shape (lexed_number e c cs rest shape d (some_token _ _ k) u))
     (λ d k. if_ok P (c == 34 && true) _ _ _ k
     (λ b k. let same = same_char c 34 (and_left (c == 34) true b) in
-    back 34 same (quotes_read e cs rest shape (text 34 same) (at 34 same)))
+    back 34 same (literal_step e (34 ∷ cs) rest shape (quotes_read e cs rest shape (text 34 same) (at 34 same))))
     (λ b k. if_ok P (c == 39 && true) _ _ _ k
     (λ b k. let same = same_char c 39 (and_left (c == 39) true b) in
     back 39 same (quote_cut e cs rest shape (text 39 same)
