@@ -1,5 +1,5 @@
 -- White space and comments are passed, and nothing else.
-use Rattle.std.proofs.Common.{◌≡◌, ℕ, zero, suc, ◌==◌, ◌≤◌, not, ◌&&◌, ◌||◌, if◌then◌else◌, Bool, true, false, List, [], ◌∷◌, ◌++◌, length, drop, refl, sym, ap, ◌∙◌, arith, codes, Option, Some, None, Result, Ok, Err, length-append, subst}
+use Rattle.std.proofs.Common.{◌≡◌, ℕ, zero, suc, ◌==◌, ◌≤◌, not, ◌&&◌, ◌||◌, if◌then◌else◌, Bool, true, false, List, [], ◌∷◌, length, drop, refl, sym, ap, ◌∙◌, arith, codes, Option, Some, None, Result, Ok, Err, length-append}
 use Rattle.mbe_tt.specs.declared.span.Edition.{Edition}
 use Rattle.mbe_text.specs.declared.dialect.Dialect.TheVariants.{Rust}
 use Rattle.mbe_text.specs.declared.scanner.LexFault.{LexFault}
@@ -52,7 +52,7 @@ blanked_after cs mid c from t b = record { tail = on cs mid (c ∷ from) t b.tai
 
 -- a block comment that ends
 block_ends : (o : Option (List ℕ)) (f : List ℕ → Result (List ℕ) LexFault) (fault : LexFault) (left : List ℕ)
-    → (elim o as (λ x. Result (List ℕ) LexFault) [ | None ↦ Err fault | Some rest ↦ f rest ]) ≡ Ok left
+    → (elim o as (λ x. Result (List ℕ) LexFault) [ None ↦ Err fault | Some rest ↦ f rest ]) ≡ Ok left
     → (rest : List ℕ) × (o ≡ Some rest) × (f rest ≡ Ok left)
 block_ends None f fault left h = absurd (cc)
 block_ends (Some rest) f fault left h = (rest, refl, h)

@@ -1,6 +1,6 @@
 -- The text of a doc comment is that of a raw string with as many `#` as it needs.
-use Rattle.std.proofs.Common.{◌≡◌, ℕ, zero, suc, ◌==◌, ◌+◌, ◌<◌, ◌≤◌, ◌&&◌, if◌then◌else◌, min, max, nat_lt, Bool, true, false, List, [], ◌∷◌, ◌++◌, length, drop, refl, sym, ap, ◌∙◌, arith, codes, Option, Some, None, Ok, Err, append-nil, encode_utf8_all, chars, encode_utf8, IsUtf8, subst}
-use Rattle.std.specs.Prelude.{nat_le, replicate}
+use Rattle.std.proofs.Common.{◌≡◌, ℕ, zero, suc, ◌==◌, ◌+◌, ◌<◌, ◌≤◌, ◌&&◌, if◌then◌else◌, min, max, nat_lt, Bool, true, false, List, [], ◌∷◌, ◌++◌, length, drop, refl, sym, ap, ◌∙◌, arith, codes, Some, None, Ok, append-nil, encode_utf8_all, chars, encode_utf8, IsUtf8, subst}
+use Rattle.std.specs.Prelude.{nat_le}
 use Rattle.std.specs.Char.{char_set_contains}
 use Rattle.std.proofs.Math.Utf8.{scalars}
 use Rattle.std.proofs.lemmas.Bool.Decides.{nat_tests}
@@ -14,8 +14,8 @@ use Rattle.mbe_tt.specs.declared.tt.LitKind.TheVariants.{StrRaw}
 use Rattle.mbe_text.specs.Characters.{begins_with}
 use Rattle.mbe_text.specs.Escapes.{check_raw, past_plain, is_single, is_bytes, is_c}
 use Rattle.mbe_text.specs.Extents.{from_raw_end}
-use Rattle.mbe_text.specs.Rust.{Token, read_rust, literal, raw_kind, raw_until, raw_body, raw_string, from_return}
-use Rattle.mbe_text.specs.Shapes.{Shape, literal_of}
+use Rattle.mbe_text.specs.Rust.{read_rust, literal, raw_kind, raw_until, raw_body, raw_string, from_return}
+use Rattle.mbe_text.specs.Shapes.{literal_of}
 use Rattle.mbe_text.specs.Tokens.{guards_after, most_guards}
 use Rattle.mbe_text_laws.specs.Rust.{IsReadBefore}
 use Rattle.mbe_text_laws.proofs.TextLemmas.{ascii_utf8}
@@ -82,7 +82,8 @@ begins_self zero = refl
 begins_self (suc n) = begins_self n
 
 -- what a quote follows has no more `#` with it
-marks_before : (n : ℕ) (cs m : List ℕ) → begins_with (marked n) (cs ++ (34 ∷ m)) ≡ true → begins_with (marked n) cs ≡ true
+marks_before : (n : ℕ) (cs m : List ℕ) → begins_with (marked n) (cs ++ (34 ∷ m)) ≡ true
+    → begins_with (marked n) cs ≡ true
 marks_before zero cs m h = refl
 marks_before (suc n) [] m h = absurd (cc)
 marks_before (suc n) (c ∷ cs) m h =

@@ -1,13 +1,12 @@
 -- The trees of a text are Rust's.
-use Rattle.std.proofs.Common.{◌≡◌, ◌≢◌, ℕ, zero, suc, ◌==◌, ◌≤◌, ◌⊎◌, inl, inr, not, ◌&&◌, ◌||◌, if◌then◌else◌, nat_lt, Bool, true, false, List, [], ◌∷◌, ◌++◌, length, refl, sym, ap, ◌∙◌, arith, codes, Option, Some, None, Result, Ok, Err, IsUtf8, append_assoc, append-nil, encode_utf8_all, chars, subst}
-use Rattle.std.specs.Bool.{⊤}
+use Rattle.std.proofs.Common.{◌≡◌, ℕ, zero, suc, ◌==◌, ◌≤◌, ◌⊎◌, inl, inr, not, ◌&&◌, ◌||◌, if◌then◌else◌, nat_lt, Bool, true, false, List, [], ◌∷◌, ◌++◌, length, refl, sym, ap, ◌∙◌, arith, codes, Option, Some, None, Result, Ok, Err, append_assoc, append-nil, encode_utf8_all, chars, subst}
 use Rattle.std.proofs.Math.Utf8.{scalars}
 use Rattle.std.proofs.lemmas.Bool.Decides.{nat_tests}
 use Rattle.unicode_ident.proofs.Computing.{unicode_ident}
 use Rattle.std.proofs.lemmas.Str.{scalars-chars, encodes-chars, chars-encodes, length-le-encodes}
 use Rattle.mbe_tt.specs.Buffers.Building.{Levels, put, closed, kind_inside}
 use Rattle.mbe_tt.specs.Trees.Editions.{at_least_2024}
-use Rattle.mbe_tt.specs.Trees.Leaf.{Leaf, Literal, literal, punct, ident}
+use Rattle.mbe_tt.specs.Trees.Leaf.{Literal, literal, punct, ident}
 use Rattle.mbe_tt.specs.Trees.Tree.{Forest, none, leaf, group, append, one_leaf, FlatToken, token, flat, is_same_kind}
 use Rattle.mbe_tt.specs.Trees.Tree as tree
 use Rattle.mbe_tt.specs.Trees.Literals.{hash_text}
@@ -34,21 +33,20 @@ use Rattle.mbe_text.specs.Faults.{fault_at}
 use Rattle.mbe_text.specs.Rust.{is_guard}
 use Rattle.mbe_text.specs.Shapes.{Shape, identifier, literal_of, punct_of, lifetime_of, doc_of, opening, closing, item_of}
 use Rattle.mbe_text.specs.Signs.{spacing_before}
-use Rattle.mbe_text.specs.Tokens.{Item, bytes_of, punct_leaf, ident_leaf, raw_string_leaf, lifetime_trees, doc_trees, most_guards, whole, ended}
+use Rattle.mbe_text.specs.Tokens.{bytes_of, punct_leaf, ident_leaf, raw_string_leaf, lifetime_trees, doc_trees, most_guards, ended}
 use Rattle.mbe_text.specs.Trivia.{after_head}
 use Rattle.mbe_text.specs.Words.{past_word}
-use Rattle.mbe_text_laws.specs.Back.{ComesBack}
 use Rattle.mbe_text_laws.specs.Gaps.{is_punct}
-use Rattle.mbe_text_laws.specs.Lexed.{most_hashes, FitsRawString, FitRawStrings, LexedAreRust, TextComesBack}
-use Rattle.mbe_text_laws.specs.Rust.{is_start, begins_word, begins_field, next_place, goes_on, make_another, are_together, IsWord, IsLiteral, IsBeforeDot, IsJoined, HasSpacing, IsLifetime, IsSign, IsPunct, IsLeaf, AreRust, MayHaveFields, MayPrecedeDots}
+use Rattle.mbe_text_laws.specs.Lexed.{most_hashes, FitRawStrings, LexedAreRust, TextComesBack}
+use Rattle.mbe_text_laws.specs.Rust.{is_start, begins_word, begins_field, next_place, goes_on, make_another, are_together, IsWord, IsLiteral, IsBeforeDot, IsJoined, HasSpacing, IsLifetime, IsSign, IsPunct, AreRust, MayHaveFields, MayPrecedeDots}
 use Rattle.mbe_text_laws.proofs.BackLemmas.{trees_come_back}
 use Rattle.mbe_text_laws.proofs.BlankTailLemmas.{tail_shorter, head_tail}
 use Rattle.mbe_text_laws.proofs.DocTextLemmas.{doc_read}
 use Rattle.mbe_text_laws.proofs.EndLemmas.{punct_not_start}
-use Rattle.mbe_text_laws.proofs.LiteralLemmas.{LexedLiteral, the_literal, one_byte}
+use Rattle.mbe_text_laws.proofs.LiteralLemmas.{the_literal, one_byte}
 use Rattle.mbe_text_laws.proofs.RawLemmas.{raw_strings_are_read}
-use Rattle.mbe_text_laws.proofs.ShapeLemmas.{Lexed, LexedPunct, LexedLifetime, IsDocText}
-use Rattle.mbe_text_laws.proofs.TokenLemmas.{hidden, hidden_all, tokens_of, Tokens, last, more, next_cut, next_tail, next_shorter, Fits, fits_tail, offset_less, PunctFirst, punct_next, word_next, DotFirst, dot_next}
+use Rattle.mbe_text_laws.proofs.ShapeLemmas.{Lexed, LexedPunct, IsDocText}
+use Rattle.mbe_text_laws.proofs.TokenLemmas.{hidden, hidden_all, tokens_of, Tokens, last, more, next_cut, next_tail, next_shorter, Fits, fits_tail, offset_less, PunctFirst, punct_next, word_next, dot_next}
 
 -- ---- what follows a literal
 
@@ -69,7 +67,8 @@ start_no_punct c true e s = absurd (let z : true ≡ false = sym s ∙ punct_not
 
 word_alone : (c : ℕ) (cs : List ℕ) → is_start c ≡ true → spacing_before (c ∷ cs) ≡ Alone
 word_alone c cs s =
-    ap (λ (b : Bool). if b && not (begins_comment (c ∷ cs)) then Joint else Alone) (start_no_punct c (is_punct c) refl s)
+    ap (λ (b : Bool). if b && not (begins_comment (c ∷ cs)) then Joint else Alone)
+    (start_no_punct c (is_punct c) refl s)
 
 -- a `.` and what follows it, where that is a field's or a range's
 field_goes : (e : Edition) (file total : ℕ) (left : List ℕ) (ts : List FlatToken) → Tokens e file total left ts
@@ -91,8 +90,11 @@ dots_go : (e : Edition) (file total : ℕ) (l : Literal) (left : List ℕ) (p : 
     → MayPrecedeDots e l ⊎ (MayHaveFields e l × (goes_on p.spacing us ≡ true))
 dots_go e file total l left p us tokens u s (inl d) = inl d
 dots_go e file total l left p us tokens u s (inr f) =
-    inr (f.0, ap (λ (x : Spacing). goes_on x us) s
-    ∙ field_goes e file total left us tokens u (begins_with (codes ".") left) refl f.1)
+    inr (
+      f.0,
+      ap (λ (x : Spacing). goes_on x us) s
+          ∙ field_goes e file total left us tokens u (begins_with (codes ".") left) refl f.1,
+    )
 
 -- the `.` right after a literal
 dot_after : (e : Edition) (file total : ℕ) (l : Literal) (rest : List ℕ) (p : Punct) (us : List FlatToken)
@@ -164,8 +166,12 @@ beside file a b c h = rw (self file, self b) h
 joined : (e : Edition) (file total c d : ℕ) (cs : List ℕ) (sp : Spacing) (ts : List FlatToken)
     → Fits total (c ∷ (d ∷ cs)) → is_punct d ≡ true → begins_comment (c ∷ (d ∷ cs)) ≡ false
     → is_guard e (c ∷ (d ∷ cs)) ≡ false → PunctFirst e file total d cs ts
-    → IsJoined e (record { char = c; spacing = sp; span = bytes_of file (offset total (c ∷ (d ∷ cs)))
-    (offset total (d ∷ cs)) }) ts
+    → IsJoined e (record {
+      char = c;
+      spacing = sp;
+      span = bytes_of file (offset total (c ∷ (d ∷ cs)))
+          (offset total (d ∷ cs));
+    }) ts
 joined e file total c d cs sp ts f p n g first =
     let a : ℕ = offset total (c ∷ (d ∷ cs)) in
     let b : ℕ = offset total (d ∷ cs) in
@@ -180,8 +186,12 @@ joined e file total c d cs sp ts f p n g first =
 spaced : (e : Edition) (file total c : ℕ) (cs : List ℕ) (sp : Spacing) (ts : List FlatToken)
     → Tokens e file total cs ts → Fits total (c ∷ cs) → scalars cs ≡ true
     → begins_comment (c ∷ cs) ≡ false → is_guard e (c ∷ cs) ≡ false
-    → HasSpacing e (spacing_before cs) (record { char = c; spacing = sp; span = bytes_of file (offset total (c ∷ cs))
-    (offset total cs) }) ts
+    → HasSpacing e (spacing_before cs) (record {
+      char = c;
+      spacing = sp;
+      span = bytes_of file (offset total (c ∷ cs))
+          (offset total cs);
+    }) ts
 spaced e file total c [] sp ts tokens f u n g = tt
 spaced e file total c (d ∷ cs) sp ts tokens f u n g = by (is_punct d) (begins_comment (d ∷ cs)) refl refl
   where
@@ -193,7 +203,8 @@ spaced e file total c (d ∷ cs) sp ts tokens f u n g = by (is_punct d) (begins_
 
     by : (a b : Bool) → is_punct d ≡ a → begins_comment (d ∷ cs) ≡ b
         → HasSpacing e (if is_punct d && not (begins_comment (d ∷ cs)) then Joint else Alone)
-        (record { char = c; spacing = sp; span = bytes_of file (offset total (c ∷ (d ∷ cs))) (offset total (d ∷ cs)) }) ts
+        (record { char = c; spacing = sp; span = bytes_of file (offset total (c ∷ (d ∷ cs))) (offset total (d ∷ cs)) })
+        ts
     by true false i j =
         rw (i, j) (joined e file total c d cs sp ts f i n g
         (punct_next e file total (d ∷ cs) ts tokens u d cs refl i j))
@@ -275,9 +286,16 @@ doc_setting_is e span text from ts d fits r =
 doc_is : (e : Edition) (file a b : ℕ) (inner : Bool) (text from : List ℕ) (ts : List FlatToken) → IsDocText text from
     → FitRawStrings (tokens_of (bytes_of file a b) (doc_of text inner) ++ ts) → AreRust e ts
     → AreRust e (tokens_of (bytes_of file a b) (doc_of text inner) ++ ts)
-doc_is e file a b true text from ts d fits r =
-    ((refl, (refl, self_place file a b, no_and (at_least_2024 e))), ((refl, tt), (λ z. cc,
-    doc_setting_is e (bytes_of file a b) text from ts d fits.0 r)))
+doc_is e file a b true text from ts d fits r = (
+  (refl, (refl, self_place file a b, no_and (at_least_2024 e))),
+  (
+    (refl, tt),
+    (
+      λ z. cc,
+      doc_setting_is e (bytes_of file a b) text from ts d fits.0 r,
+    ),
+  ),
+)
 doc_is e file a b false text from ts d fits r =
     ((refl, tt), (λ z. cc, doc_setting_is e (bytes_of file a b) text from ts d fits.0 r))
 
@@ -300,9 +318,14 @@ shape_is : (e : Edition) (file total : ℕ) (from rest : List ℕ) (shape : Shap
     → AreRust e (tokens_of (bytes_of file (offset total from) (offset total rest)) shape ++ ts)
 shape_is e file total from rest (identifier name r) ts l tokens f g fit are = (l, are)
 shape_is e file total from rest (literal_of text suffix n kind) ts l tokens f g fit are =
-    let span = bytes_of file (offset total from) (offset total rest) in
-    ((l.right span, before_dot e file total (the_literal text suffix n kind span) rest ts tokens g refl
-    (l.dots span)), are)
+    let span = bytes_of file (offset total from) (offset total rest) in (
+      (
+        l.right span,
+        before_dot e file total (the_literal text suffix n kind span) rest ts tokens g refl
+            (l.dots span),
+      ),
+      are,
+    )
 shape_is e file total from rest (punct_of c sp) ts l tokens f g fit are =
     (punct_is e file total c sp from rest ts l tokens f, are)
 shape_is e file total from rest (lifetime_of name r) ts l tokens f g fit are =

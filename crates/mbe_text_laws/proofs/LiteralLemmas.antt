@@ -1,10 +1,9 @@
 -- The literals that the lexer makes: each is read by itself.
-use Rattle.std.proofs.Common.{◌≡◌, ℕ, zero, suc, ◌==◌, ◌<◌, ◌⊎◌, inl, inr, ◌&&◌, ◌||◌, if◌then◌else◌, Bool, true, false, List, [], ◌∷◌, ◌++◌, length, refl, sym, ap, ◌∙◌, arith, codes, Option, Some, Ok, Err, append_assoc, append-nil, length-append, encode_utf8_all, chars, IsUtf8, subst}
+use Rattle.std.proofs.Common.{◌≡◌, ℕ, suc, ◌==◌, ◌<◌, ◌⊎◌, inl, inr, ◌&&◌, if◌then◌else◌, Bool, true, false, List, [], ◌∷◌, ◌++◌, length, refl, sym, ap, ◌∙◌, arith, codes, Option, Some, Ok, Err, append_assoc, append-nil, length-append, encode_utf8_all, chars, IsUtf8, subst}
 use Rattle.std.specs.Char.{is_ascii_digit}
 use Rattle.std.specs.Prelude.{nat_le}
 use Rattle.std.proofs.Math.Utf8.{scalars}
 use Rattle.std.proofs.lemmas.Str.{encode_ascii, encodes-append, chars-encodes}
-use Rattle.unicode_ident.proofs.Computing.{unicode_ident}
 use Rattle.mbe_tt.specs.Trees.Leaf.{Literal}
 use Rattle.mbe_tt.specs.Trees.Literals as marks
 use Rattle.mbe_tt.specs.declared.span.Edition.{Edition}
@@ -279,9 +278,11 @@ pub record Opened (cs : List ℕ) : Type 0 where
 hashes_if : (k : _) (c : ℕ) (cs : List ℕ) (b : Bool) → has k c ≡ b → (has k c ≡ true → c ≡ 35)
     → (n : ℕ) × (cs ≡ marked n ++ past k cs) → (n : ℕ) × (c ∷ cs ≡ marked n ++ past k (c ∷ cs))
 hashes_if k c cs true e is m =
-    let left : past k (c ∷ cs) ≡ past k cs = rw (past, e) refl in
-    (suc m.0, ap (λ (x : ℕ). x ∷ cs) (is e)
-    ∙ ap (λ (x : List ℕ). 35 ∷ x) (m.1 ∙ ap (λ (x : List ℕ). marked m.0 ++ x) (sym left)))
+    let left : past k (c ∷ cs) ≡ past k cs = rw (past, e) refl in (
+      suc m.0,
+      ap (λ (x : ℕ). x ∷ cs) (is e)
+          ∙ ap (λ (x : List ℕ). 35 ∷ x) (m.1 ∙ ap (λ (x : List ℕ). marked m.0 ++ x) (sym left)),
+    )
 hashes_if k c cs false e is m =
     let left : past k (c ∷ cs) ≡ c ∷ cs = rw (past, e) refl in (0, sym left)
 
@@ -369,7 +370,8 @@ lexed_number e c cs rest shape d h u =
       shaped = o.shaped;
       read = digit_read e c (o.front ++ o.suffix) d ∙ ap Some o.alone;
     } in
-    let both = λ (span : Span). number_law e own shape a span s (ap begins_number (spelled_alone e own shape a span s).are
+    let both = λ (span : Span). number_law e own shape a span s
+    (ap begins_number (spelled_alone e own shape a span s).are
     ∙ d) in record {
       text = encode_utf8_all (c ∷ o.front);
       suffix = encode_utf8_all o.suffix;

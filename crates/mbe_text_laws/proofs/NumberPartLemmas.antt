@@ -11,7 +11,7 @@ use Rattle.mbe_tt.specs.declared.tt.LitKind.{LitKind}
 use Rattle.mbe_tt.specs.declared.tt.LitKind.TheVariants as kinds
 use Rattle.mbe_text.specs.declared.wrong.Wrong.TheVariants as wrong
 use Rattle.mbe_text.specs.Characters.{has, begins, begins_with, past, bytes_before}
-use Rattle.mbe_text.specs.Rust.{Token, literal, base_of, digit_of, has_digit, past_exponent, past_digits, past_fraction, large_digit, is_too_large, is_ten, float, integer, number_of, number}
+use Rattle.mbe_text.specs.Rust.{literal, base_of, digit_of, has_digit, past_exponent, past_digits, past_fraction, large_digit, is_too_large, is_ten, float, integer, number_of, number}
 use Rattle.mbe_text.specs.Shapes.{Shape, literal_of}
 use Rattle.mbe_text.specs.Words.{past_word}
 use Rattle.mbe_text_laws.specs.Back.{ends_with_dot}
@@ -20,7 +20,7 @@ use Rattle.mbe_text_laws.proofs.EndLemmas.{is_not}
 use Rattle.mbe_text_laws.proofs.StepLemmas.{or_left, or_right, all_continue, bytes_front}
 use Rattle.mbe_text_laws.proofs.QuoteLemmas.{same_char}
 use Rattle.mbe_text_laws.proofs.PartLemmas.{Run, run, is_suffix, literal_cut}
-use Rattle.mbe_text_laws.proofs.NumberLemmas.{has_ten, past_ten, past_on, has_digit_on, Passed, no_exponent, past_sign, signed, no_point, finish, number_is, is_bare, number_one, is_two, is_eight, is_sixteen, in_two, in_eight, in_sixteen, in_ten}
+use Rattle.mbe_text_laws.proofs.NumberLemmas.{has_ten, past_ten, past_on, has_digit_on, Passed, no_exponent, past_sign, signed, no_point, number_is, is_bare, number_one, is_two, is_eight, is_sixteen, in_two, in_eight, in_sixteen, in_ten}
 
 -- ---- what ends with no `.`
 
@@ -375,7 +375,8 @@ by_digits from d ds end (Ok (Some rest2)) g e k h =
           sym (ap (begins (digit_of (base_of []).0)) x.is) ∙ r.ends in
           point_digit other d ((r.own ++ own) ++ s) g e
           ∙ digits_some other (d ∷ ((r.own ++ own) ++ s)) (own ++ s) s (ten_more d ((r.own ++ own) ++ s) e
-          ∙ (ap past_ten (append_assoc r.own own s) ∙ past_stops (digit_of (base_of []).0) r.own (own ++ s) r.all stops))
+          ∙ (ap past_ten (append_assoc r.own own s)
+          ∙ past_stops (digit_of (base_of []).0) r.own (own ++ s) r.all stops))
           (x.at other s n);
       last = inl (dot_last (46 ∷ (d ∷ r.own)) x.first x.more ∙ x.last);
     }
@@ -691,14 +692,16 @@ based_number base c d (x ∷ xs) rest shape dg is h =
 
 -- in base ten, where that is what the first two characters say
 ten_alone : (c : ℕ) (own rest ds : List ℕ) → ds ≡ own ++ rest
-    → ((d : ℕ) (more : List ℕ) → ds ≡ d ∷ more → (is_two c d ≡ false) × (is_eight c d ≡ false) × (is_sixteen c d ≡ false))
+    → ((d : ℕ) (more : List ℕ) → ds ≡ d ∷ more
+    → (is_two c d ≡ false) × (is_eight c d ≡ false) × (is_sixteen c d ≡ false))
     → number (c ∷ own) ≡ number_of (base_of []).0 (c ∷ own) (c ∷ own)
 ten_alone c [] rest ds e ten = number_one c
 ten_alone c (d ∷ own) rest ds e ten =
     let n = ten d (own ++ rest) e in in_ten c d own n.0 n.1 n.2
 
 ten_number : (c : ℕ) (ds rest : List ℕ) (shape : Shape)
-    → ((d : ℕ) (more : List ℕ) → ds ≡ d ∷ more → (is_two c d ≡ false) × (is_eight c d ≡ false) × (is_sixteen c d ≡ false))
+    → ((d : ℕ) (more : List ℕ) → ds ≡ d ∷ more
+    → (is_two c d ≡ false) × (is_eight c d ≡ false) × (is_sixteen c d ≡ false))
     → number (c ∷ ds) ≡ Ok (shape, rest) → NumberOwn c ds rest shape
 ten_number c ds rest shape ten h =
     let o = digits_own (base_of []).0 [] c ds rest shape ten_digits

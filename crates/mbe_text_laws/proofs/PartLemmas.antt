@@ -1,5 +1,5 @@
 -- What a reader passed of a text is read by itself.
-use Rattle.std.proofs.Common.{◌≡◌, ℕ, ◌==◌, ◌⊎◌, inl, inr, ◌&&◌, if◌then◌else◌, Bool, true, false, List, [], ◌∷◌, ◌++◌, length, refl, sym, ap, ◌∙◌, codes, Ok, append_assoc, append-nil, encode_utf8_all}
+use Rattle.std.proofs.Common.{◌≡◌, ℕ, if◌then◌else◌, Bool, true, false, List, [], ◌∷◌, ◌++◌, length, refl, sym, ap, ◌∙◌, codes, Ok, append_assoc, append-nil, encode_utf8_all}
 use Rattle.std.specs.Prelude.{nat_le, bytes_eq}
 use Rattle.unicode_ident.specs.Ident.{is_xid_continue}
 use Rattle.mbe_tt.specs.declared.tt.LitKind.{LitKind}
@@ -10,7 +10,7 @@ use Rattle.mbe_text.specs.Shapes.{Shape, literal_of}
 use Rattle.mbe_text.specs.Words.{past_word}
 use Rattle.mbe_text_laws.specs.Rust.{is_start}
 use Rattle.mbe_text_laws.proofs.StepLemmas.{bytes_front}
-use Rattle.mbe_text_laws.proofs.QuoteLemmas.{Parts, pick, picked, left_of, shape_of}
+use Rattle.mbe_text_laws.proofs.QuoteLemmas.{Parts, picked, left_of, shape_of}
 
 -- ---- characters of one kind
 

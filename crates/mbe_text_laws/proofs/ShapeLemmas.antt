@@ -1,5 +1,5 @@
 -- What one step of the lexer returned: which token it is, and what it passed.
-use Rattle.std.proofs.Common.{◌≡◌, ◌≢◌, ℕ, zero, suc, ◌==◌, ◌+◌, ◌-◌, ◌<◌, not, ◌&&◌, ◌||◌, if◌then◌else◌, Bool, true, false, List, [], ◌∷◌, ◌++◌, length, take, drop, refl, sym, ap, ◌∙◌, arith, codes, Option, Some, None, Ok, Err, append_assoc, length-append, encode_utf8_all, chars, IsUtf8, subst}
+use Rattle.std.proofs.Common.{◌≡◌, ◌≢◌, ℕ, zero, suc, ◌==◌, ◌+◌, ◌-◌, ◌<◌, not, ◌&&◌, ◌||◌, if◌then◌else◌, Bool, true, false, List, [], ◌∷◌, ◌++◌, length, take, drop, refl, sym, ap, ◌∙◌, arith, codes, Option, Some, None, Ok, Err, append_assoc, length-append, encode_utf8_all, chars, subst}
 use Rattle.std.specs.Char.{is_ascii_digit, char_set_contains}
 use Rattle.std.proofs.Math.Utf8.{scalars}
 use Rattle.std.proofs.lemmas.Bool.Decides.{nat_tests}
@@ -14,14 +14,14 @@ use Rattle.mbe_tt.specs.declared.tt.DelimiterKind.TheVariants.{Parenthesis, Brac
 use Rattle.mbe_tt.specs.declared.tt.IdentIsRaw.{IdentIsRaw}
 use Rattle.mbe_tt.specs.declared.tt.IdentIsRaw.TheVariants.{Yes, No}
 use Rattle.mbe_tt.specs.declared.tt.LitKind.TheVariants as kinds
-use Rattle.mbe_tt.specs.Trees.Editions.{at_least_2021, at_least_2024}
+use Rattle.mbe_tt.specs.Trees.Editions.{at_least_2021}
 use Rattle.mbe_text.specs.declared.dialect.Dialect.TheVariants.{Rust}
 use Rattle.mbe_text.specs.declared.wrong.Wrong.TheVariants as wrong
 use Rattle.mbe_text.specs.Blanks.{begins_comment}
-use Rattle.mbe_text.specs.Characters.{has, past, begins_with, bytes_before}
+use Rattle.mbe_text.specs.Characters.{past, begins_with, bytes_before}
 use Rattle.mbe_text.specs.Dialect.{read_shape, or_sign}
 use Rattle.mbe_text.specs.Extents.{front, from_comment_end}
-use Rattle.mbe_text.specs.Rust.{Token, within, is_inner, read_rust, read_r, read_b, read_c, read_quote, plain_identifier, raw_identifier, begins_reserved, begins_raw_string, raw_string, may_be_raw, char, begins_lifetime, lifetime, plain_lifetime, raw_lifetime, number, is_guard, begins_doc, doc, line_doc, block_doc, doc_until, from_return}
+use Rattle.mbe_text.specs.Rust.{Token, within, is_inner, read_rust, read_r, read_b, read_c, read_quote, plain_identifier, raw_identifier, begins_reserved, begins_raw_string, raw_string, may_be_raw, char, begins_lifetime, lifetime, plain_lifetime, raw_lifetime, is_guard, begins_doc, doc, block_doc, doc_until, from_return}
 use Rattle.mbe_text.specs.Faults.{fault_at}
 use Rattle.mbe_text.specs.Shapes.{Shape, Read, identifier, literal_of, punct_of, lifetime_of, doc_of, opening, closing}
 use Rattle.mbe_text.specs.Signs.{read_sign, side, spacing_before}
@@ -33,7 +33,7 @@ use Rattle.mbe_text_laws.proofs.EndLemmas.{r_is_start}
 use Rattle.mbe_text_laws.proofs.StepLemmas.{bytes_front}
 use Rattle.mbe_text_laws.proofs.QuoteLemmas.{same_char, left_of, shape_of, b_is_start, c_is_start}
 use Rattle.mbe_text_laws.proofs.FollowLemmas.{is_side}
-use Rattle.mbe_text_laws.proofs.PartLemmas.{WordRun, word_run}
+use Rattle.mbe_text_laws.proofs.PartLemmas.{word_run}
 use Rattle.mbe_text_laws.proofs.RawLemmas.{marked}
 use Rattle.mbe_text_laws.proofs.LiteralLemmas.{scalars_parts, LexedLiteral, LexedAs, lexed_string, lexed_char, lexed_quote, lexed_raw, raw_opened, Opened, lexed_number, one_byte}
 
@@ -345,9 +345,17 @@ b_raw : (e : Edition) (n : ℕ) (cs rest : List ℕ) (shape : Shape)
     → read_rust e (98 ∷ (114 ∷ (marked n ++ (34 ∷ cs)))) ≡ Some (Ok (shape, rest))
     → LexedAs e (98 ∷ (114 ∷ (marked n ++ (34 ∷ cs)))) rest shape
 b_raw e zero cs rest shape u h =
-    search (lexed_raw e (98 ∷ (114 ∷ [])) 0 cs rest shape (one_byte 98 (114 ∷ []) (omega arith) (one_byte 114 [] (omega arith) refl)) u, h)
+    search (
+      lexed_raw e (98 ∷ (114 ∷ [])) 0 cs rest shape
+          (one_byte 98 (114 ∷ []) (omega arith) (one_byte 114 [] (omega arith) refl)) u,
+      h,
+    )
 b_raw e (suc n) cs rest shape u h =
-    search (lexed_raw e (98 ∷ (114 ∷ [])) (suc n) cs rest shape (one_byte 98 (114 ∷ []) (omega arith) (one_byte 114 [] (omega arith) refl)) u, h)
+    search (
+      lexed_raw e (98 ∷ (114 ∷ [])) (suc n) cs rest shape
+          (one_byte 98 (114 ∷ []) (omega arith) (one_byte 114 [] (omega arith) refl)) u,
+      h,
+    )
 
 r_raw : (e : Edition) (n : ℕ) (cs rest : List ℕ) (shape : Shape)
     → scalars (114 ∷ (marked n ++ (34 ∷ cs))) ≡ true
@@ -387,13 +395,29 @@ c_raw : (e : Edition) (n : ℕ) (cs rest : List ℕ) (shape : Shape) → at_leas
 c_raw Edition2015 n cs rest shape is u h = absurd (cc)
 c_raw Edition2018 n cs rest shape is u h = absurd (cc)
 c_raw Edition2021 zero cs rest shape is u h =
-    search (lexed_raw Edition2021 (99 ∷ (114 ∷ [])) 0 cs rest shape (one_byte 99 (114 ∷ []) (omega arith) (one_byte 114 [] (omega arith) refl)) u, h)
+    search (
+      lexed_raw Edition2021 (99 ∷ (114 ∷ [])) 0 cs rest shape
+          (one_byte 99 (114 ∷ []) (omega arith) (one_byte 114 [] (omega arith) refl)) u,
+      h,
+    )
 c_raw Edition2021 (suc n) cs rest shape is u h =
-    search (lexed_raw Edition2021 (99 ∷ (114 ∷ [])) (suc n) cs rest shape (one_byte 99 (114 ∷ []) (omega arith) (one_byte 114 [] (omega arith) refl)) u, h)
+    search (
+      lexed_raw Edition2021 (99 ∷ (114 ∷ [])) (suc n) cs rest shape
+          (one_byte 99 (114 ∷ []) (omega arith) (one_byte 114 [] (omega arith) refl)) u,
+      h,
+    )
 c_raw Edition2024 zero cs rest shape is u h =
-    search (lexed_raw Edition2024 (99 ∷ (114 ∷ [])) 0 cs rest shape (one_byte 99 (114 ∷ []) (omega arith) (one_byte 114 [] (omega arith) refl)) u, h)
+    search (
+      lexed_raw Edition2024 (99 ∷ (114 ∷ [])) 0 cs rest shape
+          (one_byte 99 (114 ∷ []) (omega arith) (one_byte 114 [] (omega arith) refl)) u,
+      h,
+    )
 c_raw Edition2024 (suc n) cs rest shape is u h =
-    search (lexed_raw Edition2024 (99 ∷ (114 ∷ [])) (suc n) cs rest shape (one_byte 99 (114 ∷ []) (omega arith) (one_byte 114 [] (omega arith) refl)) u, h)
+    search (
+      lexed_raw Edition2024 (99 ∷ (114 ∷ [])) (suc n) cs rest shape
+          (one_byte 99 (114 ∷ []) (omega arith) (one_byte 114 [] (omega arith) refl)) u,
+      h,
+    )
 
 -- ---- what begins with an `r`, a `b` or a `c`
 
@@ -569,7 +593,8 @@ block_cut e c cs rest shape (Some end) d f u h =
     let whole = take-append-drop 3 (c ∷ cs) in
     subst (λ (x : List ℕ). Step e x rest shape) whole
     (doc_cut_at e (take 3 (c ∷ cs)) (drop 3 (c ∷ cs)) end (drop 2 end) rest shape (is_inner (c ∷ cs))
-    (from_return (front (drop 3 (c ∷ cs)) end)) (ap begins_doc whole ∙ d) (comment_tail (drop 3 (c ∷ cs)) end false 0 f) refl (drop_tail 2 end) (omega arith) (ap scalars whole ∙ u)
+    (from_return (front (drop 3 (c ∷ cs)) end)) (ap begins_doc whole ∙ d) (comment_tail (drop 3 (c ∷ cs)) end false 0 f)
+    refl (drop_tail 2 end) (omega arith) (ap scalars whole ∙ u)
     (sym w ∙ h))
 
 line_cut : (k : _) (e : Edition) (c : ℕ) (cs rest : List ℕ) (shape : Shape) → begins_doc (c ∷ cs) ≡ true

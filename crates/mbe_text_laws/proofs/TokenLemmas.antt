@@ -1,9 +1,8 @@
 -- The flat tokens that the lexer makes of a text, one after another, and what comes next.
-use Rattle.std.proofs.Common.{◌≡◌, ℕ, ◌==◌, ◌-◌, ◌<◌, ◌≤◌, not, ◌&&◌, ◌||◌, if◌then◌else◌, nat_lt, Bool, true, false, List, [], ◌∷◌, ◌++◌, length, drop, refl, sym, ap, ◌∙◌, arith, codes, Option, Some, None, Result, Ok, Err, append_assoc, length-append, encode_utf8, encode_utf8_all, subst}
-use Rattle.std.specs.Char.{is_ascii_digit}
+use Rattle.std.proofs.Common.{◌≡◌, ℕ, ◌==◌, ◌<◌, ◌≤◌, ◌&&◌, nat_lt, Bool, true, false, List, [], ◌∷◌, ◌++◌, length, drop, refl, sym, ap, ◌∙◌, arith, codes, Option, Some, None, Result, Ok, Err, length-append, encode_utf8, encode_utf8_all, subst}
 use Rattle.std.proofs.Math.Utf8.{scalars}
 use Rattle.std.proofs.lemmas.Bool.Decides.{nat_tests}
-use Rattle.std.proofs.lemmas.Str.{length-encode, len_utf8_bounds, encodes-append, length-le-encodes}
+use Rattle.std.proofs.lemmas.Str.{length-encode, len_utf8_bounds, encodes-append}
 use Rattle.unicode_ident.proofs.IdentLemmas.{is_xid_start-ascii}
 use Rattle.mbe_tt.specs.Trees.Leaf.{literal, punct}
 use Rattle.mbe_tt.specs.Trees.Tree.{FlatToken, token, flat}
@@ -13,16 +12,16 @@ use Rattle.mbe_tt.specs.declared.span.Edition.{Edition}
 use Rattle.mbe_tt.specs.declared.span.Span.{Span}
 use Rattle.mbe_tt.specs.declared.tt.Punct.{Punct}
 use Rattle.mbe_tt.specs.declared.tt.Spacing.{Spacing}
-use Rattle.mbe_tt.specs.declared.tt.Spacing.TheVariants.{Alone, Joint}
+use Rattle.mbe_tt.specs.declared.tt.Spacing.TheVariants.{Alone}
 use Rattle.mbe_text.specs.declared.dialect.Dialect.TheVariants.{Rust}
 use Rattle.mbe_text.specs.declared.scanner.LexFault.{LexFault}
 use Rattle.mbe_text.specs.Blanks.{begins_comment}
-use Rattle.mbe_text.specs.Characters.{begins_with, offset, is_space}
+use Rattle.mbe_text.specs.Characters.{begins_with, offset}
 use Rattle.mbe_text.specs.Dialect.{read_shape, or_sign}
 use Rattle.mbe_text.specs.Division.{Taken, next_token, span_of_taken}
-use Rattle.mbe_text.specs.Rust.{Token, read_rust, is_guard, guarded, begins_doc}
+use Rattle.mbe_text.specs.Rust.{read_rust, is_guard, guarded, begins_doc}
 use Rattle.mbe_text.specs.Shapes.{Shape, Read, identifier, literal_of, punct_of, lifetime_of, doc_of, opening, closing}
-use Rattle.mbe_text.specs.Signs.{read_sign, spacing_before}
+use Rattle.mbe_text.specs.Signs.{spacing_before}
 use Rattle.mbe_text.specs.Tokens.{bytes_of, punct_leaf, ident_leaf, lifetime_trees, doc_trees}
 use Rattle.mbe_text.specs.Trivia.{past_blanks}
 use Rattle.mbe_text.proofs.TailLemmas.{Tail, on}
@@ -31,10 +30,10 @@ use Rattle.mbe_text_laws.specs.Rust.{is_start, begins_word, goes_on}
 use Rattle.mbe_text_laws.proofs.EndLemmas.{space_not_start, start_not_slash, punct_not_start, quote_not_start, is_not}
 use Rattle.mbe_text_laws.proofs.StepLemmas.{no_blank, no_comment, no_doc, sign_read}
 use Rattle.mbe_text_laws.proofs.FollowLemmas.{is_side}
-use Rattle.mbe_text_laws.proofs.ReadLemmas.{NoLetter, punct_no_letter, punct_sign}
+use Rattle.mbe_text_laws.proofs.ReadLemmas.{punct_no_letter, punct_sign}
 use Rattle.mbe_text_laws.proofs.LiteralLemmas.{the_literal, scalars_parts}
 use Rattle.mbe_text_laws.proofs.ShapeLemmas.{Lexed, LexedPunct, Step, shape_cut}
-use Rattle.mbe_text_laws.proofs.BlankTailLemmas.{Blanked, blanks_cut, tail_shorter}
+use Rattle.mbe_text_laws.proofs.BlankTailLemmas.{blanks_cut, tail_shorter}
 
 -- ---- flat tokens
 
@@ -122,8 +121,13 @@ pub next_shorter : (e : Edition) (total : ℕ) (cs : List ℕ) (t : Taken) → N
     → length t.rest < length cs
 next_shorter e total cs t n =
     let some = n.step.some in
-    omega (arith, tail_shorter cs t.from n.blanks, ap (λ (l : List ℕ). length l) n.step.is,
-    length-append n.step.own t.rest, some)
+    omega (
+      arith,
+      tail_shorter cs t.from n.blanks,
+      ap (λ (l : List ℕ). length l) n.step.is,
+      length-append n.step.own t.rest,
+      some,
+    )
 
 -- a text whose characters are right, and that ends where the whole does
 pub record Fits (total : ℕ) (cs : List ℕ) : Type 0 where
@@ -134,9 +138,13 @@ pub fits_tail : (total : ℕ) (cs rest : List ℕ) → Tail cs rest → Fits tot
 fits_tail total cs rest t f = record {
   right = (scalars_parts t.own rest (ap scalars (sym t.is) ∙ f.right)).1;
   within = let less = f.within in
-      omega (arith, less, ap (λ (l : List ℕ). length (encode_utf8_all l)) t.is,
-      ap (λ (l : List ℕ). length l) (encodes-append t.own rest),
-      length-append (encode_utf8_all t.own) (encode_utf8_all rest));
+      omega (
+        arith,
+        less,
+        ap (λ (l : List ℕ). length (encode_utf8_all l)) t.is,
+        ap (λ (l : List ℕ). length l) (encodes-append t.own rest),
+        length-append (encode_utf8_all t.own) (encode_utf8_all rest),
+      );
 }
 
 -- a character is a byte at least
@@ -236,7 +244,8 @@ punct_here e total c cs t false p n g h =
 -- a punct, and the tokens after it
 pub record PunctFirst (e : Edition) (file total c : ℕ) (cs : List ℕ) (ts : List FlatToken) : Type 0 where
   pub later : List FlatToken
-  pub is : ts ≡ token (punct_leaf (bytes_of file (offset total (c ∷ cs)) (offset total cs)) c (spacing_before cs)) ∷ later
+  pub is : ts ≡ token (punct_leaf (bytes_of file (offset total (c ∷ cs)) (offset total cs)) c (spacing_before cs))
+      ∷ later
   pub tokens : Tokens e file total cs later
 
 pub punct_next : (e : Edition) (file total : ℕ) (text : List ℕ) (ts : List FlatToken) → Tokens e file total text ts
@@ -344,7 +353,8 @@ punct_first e file total text from rest c sp us vs p l tokens t f i d s =
       tokens = subst (λ (x : List FlatToken). Tokens e file total rest x) later tokens;
     }
 
-dot_shape : (e : Edition) (file total : ℕ) (text from rest : List ℕ) (shape : Shape) (us vs : List FlatToken) (p : Punct)
+dot_shape : (e : Edition) (file total : ℕ) (text from rest : List ℕ) (shape : Shape) (us vs : List FlatToken)
+    (p : Punct)
     → Lexed e shape from rest → Tokens e file total rest us → Tail text from → Fits total text
     → tokens_of (bytes_of file (offset total from) (offset total rest)) shape ++ us ≡ token (punct p) ∷ vs
     → p.char ≡ 46 → p.span.start ≡ offset total text → DotFirst e file total text p vs

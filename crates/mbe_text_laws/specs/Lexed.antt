@@ -20,8 +20,8 @@ use Rattle.mbe_text_laws.specs.Rust.{IsRust}
 abbrev pub most_hashes : ℕ
 most_hashes = 255
 
--- No `"` of a raw string's text is followed by so many `#`. A raw string of the text that is lexed has none; the text of a
--- doc comment, which is lexed as a raw string, may.
+-- No `"` of a raw string's text is followed by so many `#`. A raw string of the text that is lexed has none; the text
+-- of a doc comment, which is lexed as a raw string, may.
 abbrev pub FitsRawString : LitKind → List ℕ → Type 0
 FitsRawString (StrRaw n) text = from_raw_end (hash_text most_hashes) (chars text) ≡ None
 FitsRawString Byte text = ⊤
