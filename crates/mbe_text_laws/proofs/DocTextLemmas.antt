@@ -17,9 +17,10 @@ use Rattle.mbe_text.specs.Extents.{from_raw_end}
 use Rattle.mbe_text.specs.Rust.{read_rust, literal, raw_kind, raw_until, raw_body, raw_string, from_return}
 use Rattle.mbe_text.specs.Shapes.{literal_of}
 use Rattle.mbe_text.specs.Tokens.{guards_after, most_guards}
-use Rattle.mbe_text_laws.specs.Rust.{IsReadBefore}
+use Rattle.mbe_text_laws.specs.Rust.{IsReadBefore, IsSpelled, begins_literal}
+use Rattle.mbe_text_laws.proofs.EndLemmas.{r_is_start}
 use Rattle.mbe_text_laws.proofs.TextLemmas.{ascii_utf8}
-use Rattle.mbe_text_laws.proofs.QuoteLemmas.{same_char, checked, one_char}
+use Rattle.mbe_text_laws.proofs.QuoteLemmas.{same_char, checked, one_char, letter_begins}
 use Rattle.mbe_text_laws.proofs.RawLemmas.{marked, marked_chars, and_both, raw_later, until_is, string_is, past_end}
 use Rattle.mbe_text_laws.proofs.DocLemmas.{hashes_utf8, raw_written}
 
@@ -223,7 +224,7 @@ chars_marked zero = chars-nil
 chars_marked (suc n) = one_char 35 (marked n ++ []) (omega arith) ∙ ap (λ (x : List ℕ). 35 ∷ x) (chars_marked n)
 
 -- the literal of such a text
-abbrev doc_literal : List ℕ → Literal → Type 0
+abbrev pub doc_literal : List ℕ → Literal → Type 0
 doc_literal cs l =
     (l.text_and_suffix ≡ encode_utf8_all cs) × (l.suffix_len ≡ 0)
     × (l.kind ≡ StrRaw (most_guards 0 (encode_utf8_all cs)))
@@ -253,31 +254,46 @@ spelled_utf8 n cs s =
     (IsUtf8-append (marked n) (34 ∷ []) hashes quote))
     (IsUtf8-append (encode_utf8_all cs) ((34 ∷ marked n) ++ []) (cs, (s, refl)) end)
 
--- the raw string of a doc comment, and that it is read by itself
-pub record DocRead (e : Edition) (l : Literal) : Type 0 where
-  pub utf8 : IsUtf8 (marks.literal_output l)
-  pub before : IsReadBefore e l []
+doc_output : (l : Literal) (cs : List ℕ) → doc_literal cs l
+    → marks.literal_output l
+    ≡ marks.opening (StrRaw (most_guards 0 (encode_utf8_all cs))) ++ (encode_utf8_all cs ++ (marks.closing
+    (StrRaw (most_guards 0 (encode_utf8_all cs))) ++ []))
+doc_output l cs is =
+    let n : ℕ = most_guards 0 (encode_utf8_all cs) in
+    raw_written l n is.1 is.2
+    ∙ ap (λ (x : List ℕ). marks.opening (StrRaw n) ++ (x ++ (marks.closing (StrRaw n) ++ []))) is.0
 
+doc_chars : (l : Literal) (cs : List ℕ) → doc_literal cs l → scalars cs ≡ true
+    → chars (marks.literal_output l)
+    ≡ 114 ∷ (marked (most_guards 0 (encode_utf8_all cs)) ++ (34 ∷ (cs ++ (34 ∷ marked (most_guards 0
+    (encode_utf8_all cs))))))
+doc_chars l cs is s = ap chars (doc_output l cs is) ∙ spelled_chars (most_guards 0 (encode_utf8_all cs)) cs s
+
+doc_utf8 : (l : Literal) (cs : List ℕ) → doc_literal cs l → scalars cs ≡ true → IsUtf8 (marks.literal_output l)
+doc_utf8 l cs is s =
+    subst IsUtf8 (sym (doc_output l cs is)) (spelled_utf8 (most_guards 0 (encode_utf8_all cs)) cs s)
+
+-- the raw string of a doc comment is spelled as a literal
+pub doc_spelled : (l : Literal) (cs : List ℕ) → doc_literal cs l → scalars cs ≡ true → IsSpelled l
+doc_spelled l cs is s =
+    let n : ℕ = most_guards 0 (encode_utf8_all cs) in (
+      doc_utf8 l cs is s,
+      ap begins_literal (doc_chars l cs is s)
+          ∙ letter_begins 114 (marked n ++ (34 ∷ (cs ++ (34 ∷ marked n)))) r_is_start,
+    )
+
+-- it is read by itself, where a raw string may have its text
 pub doc_read : (e : Edition) (l : Literal) (cs : List ℕ) (full : ℕ) → full ≡ 255 → doc_literal cs l → scalars cs ≡ true
-    → from_return cs ≡ None → from_raw_end (marked full) cs ≡ None → DocRead e l
+    → from_return cs ≡ None → from_raw_end (marked full) cs ≡ None → IsReadBefore e l []
 doc_read e l cs full f is s r none =
     let n : ℕ = most_guards 0 (encode_utf8_all cs) in
     let small : n ≤ 255 = most_small 0 (encode_utf8_all cs) in
-    let found = ends_there full n 0 cs f (omega (arith, small, f)) (omega arith) none in
-    let output : marks.literal_output l ≡ marks.opening (StrRaw n) ++ (encode_utf8_all cs ++ (marks.closing
-    (StrRaw n) ++ [])) =
-    raw_written l n is.1 is.2
-    ∙ ap (λ (x : List ℕ). marks.opening (StrRaw n) ++ (x ++ (marks.closing (StrRaw n) ++ []))) is.0 in
-    let spelled : chars (marks.literal_output l) ≡ 114 ∷ (marked n ++ (34 ∷ (cs ++ (34 ∷ marked n)))) =
-    ap chars output ∙ spelled_chars n cs s in record {
-      utf8 = subst IsUtf8 (sym output) (spelled_utf8 n cs s);
-      before = record {
-        text = encode_utf8_all cs;
-        suffix = [];
-        parts = append-nil (encode_utf8_all cs) ∙ sym is.0;
-        read = ap (read_rust e) (append-nil (chars (marks.literal_output l)) ∙ spelled)
-            ∙ (doc_string e n cs small found r
-            ∙ (ap (λ (k : LitKind). Some (Ok (literal_of (encode_utf8_all cs) [] 0 k, []))) (sym is.2)
-            ∙ ap (λ (k : ℕ). Some (Ok (literal_of (encode_utf8_all cs) [] k l.kind, []))) (sym is.1)));
-      };
+    let found = ends_there full n 0 cs f (omega (arith, small, f)) (omega arith) none in record {
+      text = encode_utf8_all cs;
+      suffix = [];
+      parts = append-nil (encode_utf8_all cs) ∙ sym is.0;
+      read = ap (read_rust e) (append-nil (chars (marks.literal_output l)) ∙ doc_chars l cs is s)
+          ∙ (doc_string e n cs small found r
+          ∙ (ap (λ (k : LitKind). Some (Ok (literal_of (encode_utf8_all cs) [] 0 k, []))) (sym is.2)
+          ∙ ap (λ (k : ℕ). Some (Ok (literal_of (encode_utf8_all cs) [] k l.kind, []))) (sym is.1)));
     }

@@ -1,9 +1,10 @@
 -- The trees of a text are Rust's.
-use Rattle.std.proofs.Common.{◌≡◌, ℕ, zero, suc, ◌==◌, ◌≤◌, ◌⊎◌, inl, inr, not, ◌&&◌, ◌||◌, if◌then◌else◌, nat_lt, Bool, true, false, List, [], ◌∷◌, ◌++◌, length, refl, sym, ap, ◌∙◌, arith, codes, Option, Some, None, Result, Ok, Err, append_assoc, append-nil, encode_utf8_all, chars, subst}
+use Rattle.std.proofs.Common.{◌≡◌, ℕ, zero, suc, ◌==◌, ◌+◌, ◌≤◌, ◌⊎◌, inl, inr, not, ◌&&◌, ◌||◌, if◌then◌else◌, nat_lt, Bool, true, false, List, [], ◌∷◌, ◌++◌, length, refl, sym, ap, ◌∙◌, arith, codes, Option, Some, None, Result, Ok, Err, append_assoc, append-nil, encode_utf8_all, chars, subst}
 use Rattle.std.proofs.Math.Utf8.{scalars}
 use Rattle.std.proofs.lemmas.Bool.Decides.{nat_tests}
 use Rattle.unicode_ident.proofs.Computing.{unicode_ident}
 use Rattle.std.proofs.lemmas.Str.{scalars-chars, encodes-chars, chars-encodes, length-le-encodes}
+use Rattle.std.specs.List.{list_any}
 use Rattle.mbe_tt.specs.Buffers.Building.{Levels, put, closed, kind_inside}
 use Rattle.mbe_tt.specs.Trees.Editions.{at_least_2024}
 use Rattle.mbe_tt.specs.Trees.Leaf.{Literal, literal, punct, ident}
@@ -21,7 +22,9 @@ use Rattle.mbe_tt.specs.declared.tt.LitKind.TheVariants.{StrRaw}
 use Rattle.mbe_tt.specs.declared.tt.Punct.{Punct}
 use Rattle.mbe_tt.specs.declared.tt.Spacing.{Spacing}
 use Rattle.mbe_tt.specs.declared.tt.Spacing.TheVariants.{Alone, Joint}
-use Rattle.mbe_rust_text.specs.Gaps.{are_beside, is_before, is_same_place}
+use Rattle.mbe_rust_text.specs.Comments.{Comment, comment_set, is_bracket, is_line, is_line_end, is_setting, begins_with_slash}
+use Rattle.mbe_rust_text.specs.Gaps.{are_beside, is_before, is_joint, is_same_place}
+use Rattle.mbe_rust_text.specs.Writing.{start}
 use Rattle.mbe_text.specs.declared.dialect.Dialect.TheVariants.{Rust}
 use Rattle.mbe_text.specs.declared.scanner.LexFault.{LexFault}
 use Rattle.mbe_text.specs.declared.wrong.Wrong.TheVariants as wrong
@@ -30,7 +33,7 @@ use Rattle.mbe_text.specs.Characters.{begins_with, offset}
 use Rattle.mbe_text.specs.Division.{Taken, next_token, span_of_taken, item_taken, after_item, levels_of, levels_at_end, is_inside, is_unclosed, trees_of}
 use Rattle.mbe_text.specs.Extents.{from_raw_end}
 use Rattle.mbe_text.specs.Faults.{fault_at}
-use Rattle.mbe_text.specs.Rust.{is_guard}
+use Rattle.mbe_text.specs.Rust.{is_guard, begins_doc}
 use Rattle.mbe_text.specs.Shapes.{Shape, identifier, literal_of, punct_of, lifetime_of, doc_of, opening, closing, item_of}
 use Rattle.mbe_text.specs.Signs.{spacing_before}
 use Rattle.mbe_text.specs.Tokens.{bytes_of, punct_leaf, ident_leaf, raw_string_leaf, lifetime_trees, doc_trees, most_guards, ended}
@@ -38,15 +41,17 @@ use Rattle.mbe_text.specs.Trivia.{after_head}
 use Rattle.mbe_text.specs.Words.{past_word}
 use Rattle.mbe_text_laws.specs.Gaps.{is_punct}
 use Rattle.mbe_text_laws.specs.Lexed.{most_hashes, FitRawStrings, LexedAreRust, TextComesBack}
-use Rattle.mbe_text_laws.specs.Rust.{is_start, begins_word, begins_field, next_place, goes_on, make_another, are_together, IsWord, IsLiteral, IsBeforeDot, IsJoined, HasSpacing, IsLifetime, IsSign, IsPunct, AreRust, MayHaveFields, MayPrecedeDots}
+use Rattle.mbe_text_laws.specs.Rust.{is_start, begins_word, begins_field, next_place, goes_on, make_another, are_together, IsWord, IsLiteral, IsBeforeDot, IsJoined, HasSpacing, IsLifetime, IsSign, IsPunct, AreRust, MayHaveFields, MayPrecedeDots, AreRead, set_flat, brackets_flat, hash_flat, punct_flat, more_tokens, comment_after, skipped, joint_after}
 use Rattle.mbe_text_laws.proofs.BackLemmas.{trees_come_back}
+use Rattle.mbe_text_laws.proofs.CommentLemmas.{comment_case}
+use Rattle.mbe_text_laws.proofs.StepLemmas.{no_doc}
 use Rattle.mbe_text_laws.proofs.BlankTailLemmas.{tail_shorter, head_tail}
-use Rattle.mbe_text_laws.proofs.DocTextLemmas.{doc_read}
+use Rattle.mbe_text_laws.proofs.DocTextLemmas.{doc_literal, doc_spelled, doc_read}
 use Rattle.mbe_text_laws.proofs.EndLemmas.{punct_not_start}
 use Rattle.mbe_text_laws.proofs.LiteralLemmas.{the_literal, one_byte}
 use Rattle.mbe_text_laws.proofs.RawLemmas.{raw_strings_are_read}
 use Rattle.mbe_text_laws.proofs.ShapeLemmas.{Lexed, LexedPunct, IsDocText}
-use Rattle.mbe_text_laws.proofs.TokenLemmas.{hidden, hidden_all, tokens_of, Tokens, last, more, next_cut, next_tail, next_shorter, Fits, fits_tail, offset_less, PunctFirst, punct_next, word_next, dot_next}
+use Rattle.mbe_text_laws.proofs.TokenLemmas.{hidden, hidden_all, tokens_of, Tokens, last, more, Next, here_of, punct_past, next_cut, next_tail, next_shorter, Fits, fits_tail, offset_less, PunctFirst, punct_next, word_next, dot_next}
 
 -- ---- what follows a literal
 
@@ -260,44 +265,206 @@ no_and true = refl
 no_and false = refl
 
 -- the raw string of a doc comment
-doc_literal_is : (e : Edition) (span : Span) (text from : List ℕ) → IsDocText text from
-    → from_raw_end (hash_text most_hashes) (chars text) ≡ None
-    → IsLiteral e (record { text_and_suffix = text; suffix_len = 0; kind = StrRaw (most_guards 0 text); span = span })
-doc_literal_is e span text from d fits =
-    let l : Literal =
-    record { text_and_suffix = text; suffix_len = 0; kind = StrRaw (most_guards 0 text); span = span } in
+abbrev doc_leaf : Span → List ℕ → Literal
+doc_leaf span text =
+    record { text_and_suffix = text; suffix_len = 0; kind = StrRaw (most_guards 0 text); span = span }
+
+doc_parts : (span : Span) (text : List ℕ) (inner : Bool) (from : List ℕ) (d : IsDocText text inner from)
+    → doc_literal d.cs (doc_leaf span text)
+doc_parts span text inner from d = (d.bytes, refl, ap (λ (x : List ℕ). StrRaw (most_guards 0 x)) d.bytes)
+
+doc_literal_is : (e : Edition) (span : Span) (text : List ℕ) (inner : Bool) (from : List ℕ)
+    → IsDocText text inner from → from_raw_end (hash_text most_hashes) (chars text) ≡ None
+    → IsLiteral e (doc_leaf span text)
+doc_literal_is e span text inner from d fits =
+    let l = doc_leaf span text in
+    let parts = doc_parts span text inner from d in
     let shown : chars text ≡ d.cs = ap chars d.bytes ∙ chars-encodes d.cs d.right in
-    let r = doc_read e l d.cs 255 refl (d.bytes, refl, ap (λ (x : List ℕ). StrRaw (most_guards 0 x)) d.bytes)
-    d.right d.no_return (ap (from_raw_end (hash_text most_hashes)) (sym shown) ∙ fits) in
-    (raw_strings_are_read e l refl r.utf8 r.before).0
+    let before = doc_read e l d.cs 255 refl parts d.right d.no_return
+    (ap (from_raw_end (hash_text most_hashes)) (sym shown) ∙ fits) in
+    (raw_strings_are_read e l refl (doc_spelled l d.cs parts d.right).0 before).0
 
 -- the group of a doc comment
-doc_setting_is : (e : Edition) (span : Span) (text from : List ℕ) (ts : List FlatToken) → IsDocText text from
-    → from_raw_end (hash_text most_hashes) (chars text) ≡ None → AreRust e ts
+doc_setting_is : (e : Edition) (span : Span) (text : List ℕ) (inner : Bool) (from : List ℕ) (ts : List FlatToken)
+    → IsDocText text inner from → AreRust e ts
     → AreRust e (token (ident_leaf span (codes "doc") No) ∷ (token (punct_leaf span 61 Alone) ∷ (token
     (raw_string_leaf span text (most_guards 0 text)) ∷ (tree.closing (record {
       opening = no_span;
       close = no_span;
       kind = Bracket;
     }) ∷ ts))))
-doc_setting_is e span text from ts d fits r =
-    ((doc_word, refl), ((refl, tt), ((doc_literal_is e span text from d fits, tt), (λ z. cc, r))))
+doc_setting_is e span text inner from ts d r =
+    let spelled = doc_spelled (doc_leaf span text) d.cs (doc_parts span text inner from d) d.right in
+    ((doc_word, refl), ((refl, tt), ((spelled, tt), (λ z. cc, r))))
 
-doc_is : (e : Edition) (file a b : ℕ) (inner : Bool) (text from : List ℕ) (ts : List FlatToken) → IsDocText text from
-    → FitRawStrings (tokens_of (bytes_of file a b) (doc_of text inner) ++ ts) → AreRust e ts
+doc_is : (e : Edition) (file a b : ℕ) (inner : Bool) (text from : List ℕ) (ts : List FlatToken)
+    → IsDocText text inner from → AreRust e ts
     → AreRust e (tokens_of (bytes_of file a b) (doc_of text inner) ++ ts)
-doc_is e file a b true text from ts d fits r = (
+doc_is e file a b true text from ts d r = (
   (refl, (refl, self_place file a b, no_and (at_least_2024 e))),
   (
     (refl, tt),
     (
       λ z. cc,
-      doc_setting_is e (bytes_of file a b) text from ts d fits.0 r,
+      doc_setting_is e (bytes_of file a b) text true from ts d r,
     ),
   ),
 )
-doc_is e file a b false text from ts d fits r =
-    ((refl, tt), (λ z. cc, doc_setting_is e (bytes_of file a b) text from ts d fits.0 r))
+doc_is e file a b false text from ts d r =
+    ((refl, tt), (λ z. cc, doc_setting_is e (bytes_of file a b) text false from ts d r))
+
+-- ---- all tokens
+
+shape_is : (e : Edition) (file total : ℕ) (from rest : List ℕ) (shape : Shape) (ts : List FlatToken)
+    → Lexed e shape from rest → Tokens e file total rest ts → Fits total from → Fits total rest → AreRust e ts
+    → AreRust e (tokens_of (bytes_of file (offset total from) (offset total rest)) shape ++ ts)
+shape_is e file total from rest (identifier name r) ts l tokens f g are = (l, are)
+shape_is e file total from rest (literal_of text suffix n kind) ts l tokens f g are =
+    let span = bytes_of file (offset total from) (offset total rest) in
+    let right = l.right span in (
+      (
+        (right.utf8, right.front),
+        before_dot e file total (the_literal text suffix n kind span) rest ts tokens g refl
+            (l.dots span),
+      ),
+      are,
+    )
+shape_is e file total from rest (punct_of c sp) ts l tokens f g are =
+    (punct_is e file total c sp from rest ts l tokens f, are)
+shape_is e file total from rest (lifetime_of name r) ts l tokens f g are =
+    (l.new, ((l.word, l.may), are))
+shape_is e file total from rest (doc_of text inner) ts l tokens f g are =
+    doc_is e file (offset total from) (offset total rest) inner text from ts l are
+shape_is e file total from rest (opening k) ts l tokens f g are = (l.0, are)
+shape_is e file total from rest (closing k) ts l tokens f g are = (l.0, are)
+
+are_rust : (e : Edition) (file total : ℕ) (cs : List ℕ) (ts : List FlatToken) → Tokens e file total cs ts
+    → Fits total cs → AreRust e ts
+are_rust e file total _ _ (last cs n) f = tt
+are_rust e file total _ _ (more cs t us n tokens) f =
+    let x = next_cut e total cs t f.right n in
+    let from = fits_tail total cs t.from x.blanks f in
+    let rest = fits_tail total cs t.rest (next_tail e total cs t x) f in
+    shape_is e file total t.from t.rest t.shape us x.step.lexed tokens from rest
+    (are_rust e file total t.rest us tokens rest)
+
+-- ---- literals
+
+no_hash : (joint : Bool) (p : Punct) (ts : List FlatToken) → (p.char == 35) ≡ false → comment_after joint p ts ≡ None
+no_hash true p ts h = refl
+no_hash false p ts h = rw h refl
+
+-- a comment's tokens are passed, where its literal is read whole
+past_setting : (e : Edition) (q : Punct) (l : Literal) (d : Delimiter) (ts : List FlatToken) → q.char ≡ 61
+    → AreRead e 0 false (token (punct q) ∷ (token (literal l) ∷ (tree.closing d ∷ ts))) → AreRead e 0 false ts
+past_setting e q l d ts h r =
+    let us : List FlatToken = token (literal l) ∷ (tree.closing d ∷ ts) in
+    let plain = no_hash false q us (ap (λ (x : ℕ). x == 35) h) in
+    let read : AreRead e 0 (is_joint q.spacing) us =
+    subst (λ (o : Option Comment). AreRead e (skipped o) (joint_after o q) us) plain r in
+    read.1
+
+past_comment : (e : Edition) (p : Punct) (ts : List FlatToken) (c : Comment) → punct_flat p ts ≡ Some c
+    → AreRead e 0 (is_joint p.spacing) ts → AreRead e (more_tokens c.is_inner) false ts
+past_comment e p ts c m r =
+    comment_case (λ us x. AreRead e 0 (is_joint p.spacing) us → AreRead e (more_tokens x.is_inner) false us) p ts
+    (start 0) c
+    (λ d hash alone k i q l end us is line are. past_setting e q l end us is.equals are)
+    (λ o d hash joint bang alone k i q l end us is line are.
+    let next : List FlatToken = tree.opening d ∷ (token (ident i) ∷ (token (punct q) ∷ (token
+    (literal l) ∷ (tree.closing end ∷ us)))) in
+    let plain = no_hash (is_joint p.spacing) o next (ap (λ (x : ℕ). x == 35) bang) in
+    let read : AreRead e 0 (is_joint o.spacing) next =
+    subst (λ (y : Option Comment). AreRead e (skipped y) (joint_after y o) next) plain are in
+    past_setting e q l end us is.equals read)
+    m r
+
+after_some : (joint : Bool) (o : Option Comment) (c : Comment) → (if joint then None else o) ≡ Some c → o ≡ Some c
+after_some true o c h = absurd (cc)
+after_some false o c h = h
+
+-- a punct, which may begin a comment
+punct_read : (e : Edition) (p : Punct) (ts : List FlatToken) (joint : Bool) → AreRead e 0 (is_joint p.spacing) ts
+    → AreRead e 0 joint (token (punct p) ∷ ts)
+punct_read e p ts joint r = by (comment_after joint p ts) refl
+  where
+    by : (o : Option Comment) → comment_after joint p ts ≡ o → AreRead e (skipped o) (joint_after o p) ts
+    by None m = r
+    by (Some c) m = past_comment e p ts c (after_some joint (punct_flat p ts) c m) r
+
+-- one that does
+comment_read : (e : Edition) (p : Punct) (ts : List FlatToken) (c : Comment) → comment_after false p ts ≡ Some c
+    → AreRead e (more_tokens c.is_inner) false ts → AreRead e 0 false (token (punct p) ∷ ts)
+comment_read e p ts c m r =
+    subst (λ (o : Option Comment). AreRead e (skipped o) (joint_after o p) ts) (sym m) r
+
+setting_is : (file a b : ℕ) (text : List ℕ)
+    → is_setting (record { sym = codes "doc"; is_raw = No; span = bytes_of file a b })
+    (record { char = 61; spacing = Alone; span = bytes_of file a b }) (doc_leaf (bytes_of file a b) text) ≡ true
+setting_is file a b text = rw (self (most_guards 0 text), self file, self a, self b) refl
+
+-- a doc comment of one line is written as it was
+one_line : (file a b : ℕ) (inner : Bool) (text : List ℕ) → is_line inner text ≡ true
+    → comment_set inner (record { sym = codes "doc"; is_raw = No; span = bytes_of file a b })
+    (record { char = 61; spacing = Alone; span = bytes_of file a b }) (doc_leaf (bytes_of file a b) text)
+    ≡ Some (record { is_inner = inner; text = text })
+one_line file a b inner text line =
+    let c : Comment = record { is_inner = inner; text = text } in
+    ap (λ (x : Bool). if x && is_line inner text then Some c else None) (setting_is file a b text)
+    ∙ ap (λ (x : Bool). if x then Some c else None) line
+
+line_ends : (inner ended slash : Bool) → (inner ≡ false → slash ≡ false) → (not ended && (inner || not slash)) ≡ false
+    → ended ≡ true
+line_ends inner true slash s h = refl
+line_ends true false slash s h = absurd (cc)
+line_ends false false slash s h = absurd (let n = s refl in let z : true ≡ false = ap not (sym n) ∙ h in cc)
+
+-- the group of a doc comment, and what follows it
+abbrev brackets_of : Span → List ℕ → List FlatToken → List FlatToken
+brackets_of span text ts =
+    tree.opening (record { opening = span; close = no_span; kind = Bracket }) ∷ (token
+    (ident_leaf span (codes "doc") No) ∷ (token (punct_leaf span 61 Alone) ∷ (token
+    (literal (doc_leaf span text)) ∷ (tree.closing (record {
+      opening = no_span;
+      close = no_span;
+      kind = Bracket;
+    }) ∷ ts))))
+
+brackets_read : (e : Edition) (span : Span) (text : List ℕ) (inner : Bool) (from : List ℕ) (ts : List FlatToken)
+    → IsDocText text inner from → from_raw_end (hash_text most_hashes) (chars text) ≡ None → AreRead e 0 false ts
+    → AreRead e 0 false (brackets_of span text ts)
+brackets_read e span text inner from ts d fits r = (doc_literal_is e span text inner from d fits, r)
+
+doc_are_read : (e : Edition) (file a b : ℕ) (inner line : Bool) (text from : List ℕ) (ts : List FlatToken)
+    → is_line inner text ≡ line → IsDocText text inner from
+    → (list_any is_line_end text ≡ true → from_raw_end (hash_text most_hashes) (chars text) ≡ None)
+    → AreRead e 0 false ts → AreRead e 0 false (tokens_of (bytes_of file a b) (doc_of text inner) ++ ts)
+doc_are_read e file a b true true text from ts i d fits r =
+    let span = bytes_of file a b in
+    comment_read e (record { char = 35; spacing = Joint; span = span })
+    (token (punct_leaf span 33 Alone) ∷ brackets_of span text ts) (record { is_inner = true; text = text })
+    (one_line file a b true text i) r
+doc_are_read e file a b false true text from ts i d fits r =
+    let span = bytes_of file a b in
+    comment_read e (record { char = 35; spacing = Alone; span = span }) (brackets_of span text ts)
+    (record { is_inner = false; text = text }) (one_line file a b false text i) r
+doc_are_read e file a b true false text from ts i d fits r =
+    let span = bytes_of file a b in
+    let ends = line_ends true (list_any is_line_end text) (begins_with_slash text) d.slash i in
+    punct_read e (record { char = 35; spacing = Joint; span = span })
+    (token (punct_leaf span 33 Alone) ∷ brackets_of span text ts) false
+    (brackets_read e span text true from ts d (fits ends) r)
+doc_are_read e file a b false false text from ts i d fits r =
+    let span = bytes_of file a b in
+    let ends = line_ends false (list_any is_line_end text) (begins_with_slash text) d.slash i in
+    punct_read e (record { char = 35; spacing = Alone; span = span }) (brackets_of span text ts) false
+    (brackets_read e span text false from ts d (fits ends) r)
+
+doc_fit : (span : Span) (inner : Bool) (text : List ℕ) (ts : List FlatToken)
+    → FitRawStrings (tokens_of span (doc_of text inner) ++ ts)
+    → list_any is_line_end text ≡ true → from_raw_end (hash_text most_hashes) (chars text) ≡ None
+doc_fit span true text ts f = f.0
+doc_fit span false text ts f = f.0
 
 later_fit : (span : Span) (shape : Shape) (ts : List FlatToken) → FitRawStrings (tokens_of span shape ++ ts)
     → FitRawStrings ts
@@ -310,40 +477,78 @@ later_fit span (doc_of text false) ts f = f.1
 later_fit span (opening k) ts f = f
 later_fit span (closing k) ts f = f
 
--- ---- all tokens
+-- a joint punct is before another one
+record JointNext (cs : List ℕ) : Type 0 where
+  first : ℕ
+  left : List ℕ
+  is : cs ≡ first ∷ left
+  char : is_punct first ≡ true
+  comment : begins_comment (first ∷ left) ≡ false
 
-shape_is : (e : Edition) (file total : ℕ) (from rest : List ℕ) (shape : Shape) (ts : List FlatToken)
-    → Lexed e shape from rest → Tokens e file total rest ts → Fits total from → Fits total rest
-    → FitRawStrings (tokens_of (bytes_of file (offset total from) (offset total rest)) shape ++ ts) → AreRust e ts
-    → AreRust e (tokens_of (bytes_of file (offset total from) (offset total rest)) shape ++ ts)
-shape_is e file total from rest (identifier name r) ts l tokens f g fit are = (l, are)
-shape_is e file total from rest (literal_of text suffix n kind) ts l tokens f g fit are =
-    let span = bytes_of file (offset total from) (offset total rest) in (
-      (
-        l.right span,
-        before_dot e file total (the_literal text suffix n kind span) rest ts tokens g refl
-            (l.dots span),
-      ),
-      are,
-    )
-shape_is e file total from rest (punct_of c sp) ts l tokens f g fit are =
-    (punct_is e file total c sp from rest ts l tokens f, are)
-shape_is e file total from rest (lifetime_of name r) ts l tokens f g fit are =
-    (l.new, ((l.word, l.may), are))
-shape_is e file total from rest (doc_of text inner) ts l tokens f g fit are =
-    doc_is e file (offset total from) (offset total rest) inner text from ts l fit are
-shape_is e file total from rest (opening k) ts l tokens f g fit are = (l.0, are)
-shape_is e file total from rest (closing k) ts l tokens f g fit are = (l.0, are)
+joint_next : (sp : Spacing) (rest : List ℕ) → sp ≡ spacing_before rest → is_joint sp ≡ true → JointNext rest
+joint_next sp [] i j = absurd (let z : true ≡ false = sym j ∙ ap is_joint i in cc)
+joint_next sp (c ∷ cs) i j = by (is_punct c) (begins_comment (c ∷ cs)) refl refl
+  where
+    was : is_joint (if is_punct c && not (begins_comment (c ∷ cs)) then Joint else Alone) ≡ true
+    was = sym (ap is_joint i) ∙ j
 
-are_rust : (e : Edition) (file total : ℕ) (cs : List ℕ) (ts : List FlatToken) → Tokens e file total cs ts
-    → Fits total cs → FitRawStrings ts → AreRust e ts
-are_rust e file total _ _ (last cs n) f fit = tt
-are_rust e file total _ _ (more cs t us n tokens) f fit =
+    by : (a b : Bool) → is_punct c ≡ a → begins_comment (c ∷ cs) ≡ b → JointNext (c ∷ cs)
+    by true false p n = record { first = c; left = cs; is = refl; char = p; comment = n }
+    by true true p n =
+        absurd (let z : false ≡ true = sym (ap (λ (x : Bool). is_joint (if x && not (begins_comment
+        (c ∷ cs)) then Joint else Alone)) p ∙ ap (λ (x : Bool). is_joint (if not x then Joint else Alone)) n)
+        ∙ was in cc)
+    by false b p n =
+        absurd (let z : false ≡ true = sym (ap (λ (x : Bool). is_joint (if x && not (begins_comment
+        (c ∷ cs)) then Joint else Alone)) p) ∙ was in cc)
+
+-- so no doc comment is right after a joint punct
+no_doc_next : (e : Edition) (total : ℕ) (cs : List ℕ) (t : Taken) → JointNext cs → Next e total cs t
+    → begins_doc t.from ≡ true → ⊥
+no_doc_next e total cs t j x d =
+    let y : Next e total (j.first ∷ j.left) t = subst (λ (l : List ℕ). Next e total l t) j.is x in
+    let here = here_of e total (j.first ∷ j.left) t (punct_past e total j.first j.left j.char j.comment) y in
+    let z : true ≡ false = sym d ∙ (ap begins_doc here.from ∙ no_doc j.first j.left j.comment) in
+    absurd (cc)
+
+-- that all tokens after this one are read
+abbrev LaterRead : Edition → List ℕ → List FlatToken → Type 0
+LaterRead e rest ts = (joint : Bool) → (joint ≡ true → JointNext rest) → AreRead e 0 joint ts
+
+plainly : (e : Edition) (rest : List ℕ) (ts : List FlatToken) → LaterRead e rest ts → AreRead e 0 false ts
+plainly e rest ts later = later false (λ z. absurd (cc))
+
+shape_read : (e : Edition) (file a b : ℕ) (from rest : List ℕ) (shape : Shape) (ts : List FlatToken) (joint : Bool)
+    → Lexed e shape from rest → LaterRead e rest ts → (joint ≡ true → begins_doc from ≡ true → ⊥)
+    → FitRawStrings (tokens_of (bytes_of file a b) shape ++ ts)
+    → AreRead e 0 joint (tokens_of (bytes_of file a b) shape ++ ts)
+shape_read e file a b from rest (identifier name r) ts joint l later n fit = plainly e rest ts later
+shape_read e file a b from rest (literal_of text suffix m kind) ts joint l later n fit =
+    (l.right (bytes_of file a b), plainly e rest ts later)
+shape_read e file a b from rest (punct_of c sp) ts joint l later n fit =
+    punct_read e (record { char = c; spacing = sp; span = bytes_of file a b }) ts joint
+    (later (is_joint sp) (joint_next sp rest l.spacing))
+shape_read e file a b from rest (lifetime_of name r) ts joint l later n fit =
+    let span = bytes_of file a b in
+    punct_read e (record { char = 39; spacing = Joint; span = record span { end = span.start + 1 } })
+    (token (ident_leaf (record span { start = span.start + 1 }) name r) ∷ ts) joint (plainly e rest ts later)
+shape_read e file a b from rest (doc_of text inner) ts true l later n fit = absurd (n refl l.marks)
+shape_read e file a b from rest (doc_of text inner) ts false l later n fit =
+    doc_are_read e file a b inner (is_line inner text) text from ts refl l
+    (doc_fit (bytes_of file a b) inner text ts fit)
+    (plainly e rest ts later)
+shape_read e file a b from rest (opening k) ts joint l later n fit = plainly e rest ts later
+shape_read e file a b from rest (closing k) ts joint l later n fit = plainly e rest ts later
+
+are_read : (e : Edition) (file total : ℕ) (cs : List ℕ) (ts : List FlatToken) → Tokens e file total cs ts
+    → Fits total cs → FitRawStrings ts → LaterRead e cs ts
+are_read e file total _ _ (last cs n) f fit joint j = tt
+are_read e file total _ _ (more cs t us n tokens) f fit joint j =
     let x = next_cut e total cs t f.right n in
-    let from = fits_tail total cs t.from x.blanks f in
     let rest = fits_tail total cs t.rest (next_tail e total cs t x) f in
-    let later = are_rust e file total t.rest us tokens rest (later_fit (span_of_taken file total t) t.shape us fit) in
-    shape_is e file total t.from t.rest t.shape us x.step.lexed tokens from rest fit later
+    shape_read e file (offset total t.from) (offset total t.rest) t.from t.rest t.shape us joint x.step.lexed
+    (are_read e file total t.rest us tokens rest (later_fit (span_of_taken file total t) t.shape us fit))
+    (λ is d. no_doc_next e total cs t (j is) x d) fit
 
 -- ---- groups
 
@@ -429,6 +634,70 @@ hidden_fit (token (punct p) ∷ ts) h = hidden_fit ts h
 hidden_fit (token (ident i) ∷ ts) h = hidden_fit ts h
 hidden_fit (tree.opening d ∷ ts) h = hidden_fit ts h
 hidden_fit (tree.closing d ∷ ts) h = hidden_fit ts h
+
+hidden_set : (b : Bool) (ts : List FlatToken) → set_flat b (hidden_all ts) ≡ set_flat b ts
+hidden_set b [] = refl
+hidden_set b (token (literal l) ∷ ts) = refl
+hidden_set b (token (punct p) ∷ ts) = refl
+hidden_set b (tree.opening d ∷ ts) = refl
+hidden_set b (tree.closing d ∷ ts) = refl
+hidden_set b (token (ident i) ∷ []) = refl
+hidden_set b (token (ident i) ∷ (token (literal l) ∷ ts)) = refl
+hidden_set b (token (ident i) ∷ (token (ident j) ∷ ts)) = refl
+hidden_set b (token (ident i) ∷ (tree.opening d ∷ ts)) = refl
+hidden_set b (token (ident i) ∷ (tree.closing d ∷ ts)) = refl
+hidden_set b (token (ident i) ∷ (token (punct q) ∷ [])) = refl
+hidden_set b (token (ident i) ∷ (token (punct q) ∷ (token (punct p) ∷ ts))) = refl
+hidden_set b (token (ident i) ∷ (token (punct q) ∷ (token (ident j) ∷ ts))) = refl
+hidden_set b (token (ident i) ∷ (token (punct q) ∷ (tree.opening d ∷ ts))) = refl
+hidden_set b (token (ident i) ∷ (token (punct q) ∷ (tree.closing d ∷ ts))) = refl
+hidden_set b (token (ident i) ∷ (token (punct q) ∷ (token (literal l) ∷ []))) = refl
+hidden_set b (token (ident i) ∷ (token (punct q) ∷ (token (literal l) ∷ (token (literal m) ∷ ts)))) = refl
+hidden_set b (token (ident i) ∷ (token (punct q) ∷ (token (literal l) ∷ (token (punct p) ∷ ts)))) = refl
+hidden_set b (token (ident i) ∷ (token (punct q) ∷ (token (literal l) ∷ (token (ident j) ∷ ts)))) = refl
+hidden_set b (token (ident i) ∷ (token (punct q) ∷ (token (literal l) ∷ (tree.opening d ∷ ts)))) = refl
+hidden_set b (token (ident i) ∷ (token (punct q) ∷ (token (literal l) ∷ (tree.closing d ∷ ts)))) = refl
+
+hidden_brackets : (b : Bool) (ts : List FlatToken) → brackets_flat b (hidden_all ts) ≡ brackets_flat b ts
+hidden_brackets b [] = refl
+hidden_brackets b (token (literal l) ∷ ts) = refl
+hidden_brackets b (token (punct p) ∷ ts) = refl
+hidden_brackets b (token (ident i) ∷ ts) = refl
+hidden_brackets b (tree.closing d ∷ ts) = refl
+hidden_brackets b (tree.opening d ∷ ts) =
+    ap (λ (o : Option Comment). if is_bracket d.kind then o else None) (hidden_set b ts)
+
+hidden_hash : (ts : List FlatToken) → hash_flat (hidden_all ts) ≡ hash_flat ts
+hidden_hash [] = refl
+hidden_hash (token (literal l) ∷ ts) = refl
+hidden_hash (token (ident i) ∷ ts) = refl
+hidden_hash (tree.opening d ∷ ts) = refl
+hidden_hash (tree.closing d ∷ ts) = refl
+hidden_hash (token (punct q) ∷ ts) =
+    ap (λ (o : Option Comment). if q.char == 33 && not (is_joint q.spacing) then o else None) (hidden_brackets true ts)
+
+hidden_comment : (joint : Bool) (p : Punct) (ts : List FlatToken)
+    → comment_after joint p (hidden_all ts) ≡ comment_after joint p ts
+hidden_comment true p ts = refl
+hidden_comment false p ts =
+    ap (λ (o : Option Comment). if not (p.char == 35) then None else if is_joint p.spacing then o else brackets_flat
+    false (hidden_all ts)) (hidden_hash ts)
+    ∙ ap (λ (o : Option Comment). if not (p.char == 35) then None else if is_joint p.spacing then hash_flat ts else o)
+    (hidden_brackets false ts)
+
+shown_read : (e : Edition) (n : ℕ) (joint : Bool) (ts : List FlatToken) → AreRead e n joint (hidden_all ts)
+    → AreRead e n joint ts
+shown_read e n joint [] h = tt
+shown_read e (suc n) joint (t ∷ ts) h = shown_read e n false ts h
+shown_read e zero joint (token (ident i) ∷ ts) h = shown_read e 0 false ts h
+shown_read e zero joint (token (literal l) ∷ ts) h = (h.0, shown_read e 0 false ts h.1)
+shown_read e zero joint (token (punct p) ∷ ts) h =
+    let o = comment_after joint p ts in
+    shown_read e (skipped o) (joint_after o p) ts
+    (subst (λ (x : Option Comment). AreRead e (skipped x) (joint_after x p) (hidden_all ts)) (hidden_comment joint p ts)
+    h)
+shown_read e zero joint (tree.opening d ∷ ts) h = shown_read e 0 false ts h
+shown_read e zero joint (tree.closing d ∷ ts) h = shown_read e 0 false ts h
 
 -- the flat tokens of the groups that are open, without the opening of the outermost
 abbrev flat_levels : Levels → List FlatToken
@@ -682,8 +951,11 @@ lexed_are_rust e file text top u h fit =
     let m = makes e file total total began [] l.0 cs
     (omega (arith, same, length-le-encodes all, tail_shorter all cs t)) f.right l.1 in
     let flat_is : hidden_all (flat top.1) ≡ m.ts = ap hidden_all l.2 ∙ m.flat_is in
-    let fits : FitRawStrings m.ts = subst FitRawStrings flat_is (hidden_fit (flat top.1) fit) in
-    shown e (flat top.1) (subst (AreRust e) (sym flat_is) (are_rust e file total cs m.ts m.tokens f fits))
+    let fits : FitRawStrings m.ts = subst FitRawStrings flat_is (hidden_fit (flat top.1) fit) in (
+      shown e (flat top.1) (subst (AreRust e) (sym flat_is) (are_rust e file total cs m.ts m.tokens f)),
+      shown_read e 0 false (flat top.1) (subst (AreRead e 0 false) (sym flat_is)
+          (plainly e cs m.ts (are_read e file total cs m.ts m.tokens f fits))),
+    )
 
 pub text_comes_back : TextComesBack
 text_comes_back e file other depth text top u h fit =

@@ -3,9 +3,8 @@ use Rattle.std.proofs.Common.{◌≡◌, ◌≢◌, ℕ, zero, suc, ◌==◌, �
 use Rattle.std.specs.Char.{is_ascii_digit, char_set_contains}
 use Rattle.std.proofs.Math.Utf8.{scalars}
 use Rattle.std.proofs.lemmas.Bool.Decides.{nat_tests}
-use Rattle.std.proofs.lemmas.Str.{chars-encodes}
+use Rattle.std.proofs.lemmas.Str.{chars-encodes, char_from_byte}
 use Rattle.std.proofs.lemmas.List.{take-append-drop}
-use Rattle.std.proofs.Math.Seq.{take-append_seam}
 use Rattle.unicode_ident.proofs.Computing.{unicode_ident}
 use Rattle.mbe_tt.specs.declared.span.Edition.{Edition}
 use Rattle.mbe_tt.specs.declared.span.Edition.TheVariants.{Edition2015, Edition2018, Edition2021, Edition2024}
@@ -15,6 +14,7 @@ use Rattle.mbe_tt.specs.declared.tt.IdentIsRaw.{IdentIsRaw}
 use Rattle.mbe_tt.specs.declared.tt.IdentIsRaw.TheVariants.{Yes, No}
 use Rattle.mbe_tt.specs.declared.tt.LitKind.TheVariants as kinds
 use Rattle.mbe_tt.specs.Trees.Editions.{at_least_2021}
+use Rattle.mbe_rust_text.specs.Comments.{begins_with_slash}
 use Rattle.mbe_text.specs.declared.dialect.Dialect.TheVariants.{Rust}
 use Rattle.mbe_text.specs.declared.wrong.Wrong.TheVariants as wrong
 use Rattle.mbe_text.specs.Blanks.{begins_comment}
@@ -31,7 +31,7 @@ use Rattle.mbe_text_laws.specs.Gaps.{is_punct}
 use Rattle.mbe_text_laws.specs.Rust.{is_start, begins_word, IsWord, may_be, may_be_lifetime}
 use Rattle.mbe_text_laws.proofs.EndLemmas.{r_is_start}
 use Rattle.mbe_text_laws.proofs.StepLemmas.{bytes_front}
-use Rattle.mbe_text_laws.proofs.QuoteLemmas.{same_char, left_of, shape_of, b_is_start, c_is_start}
+use Rattle.mbe_text_laws.proofs.QuoteLemmas.{same_char, front_of, left_of, shape_of, b_is_start, c_is_start}
 use Rattle.mbe_text_laws.proofs.FollowLemmas.{is_side}
 use Rattle.mbe_text_laws.proofs.PartLemmas.{word_run}
 use Rattle.mbe_text_laws.proofs.RawLemmas.{marked}
@@ -49,13 +49,14 @@ abbrev pub begins_side : List ℕ → Bool
 begins_side [] = false
 begins_side (c ∷ cs) = is_side c
 
--- a doc comment's text
-pub record IsDocText (text from : List ℕ) : Type 0 where
+-- A doc comment's text. `////` and `/**/` begin none.
+pub record IsDocText (text : List ℕ) (inner : Bool) (from : List ℕ) : Type 0 where
   pub marks : begins_doc from ≡ true
   pub cs : List ℕ
   pub bytes : text ≡ encode_utf8_all cs
   pub right : scalars cs ≡ true
   pub no_return : from_return cs ≡ None
+  pub slash : inner ≡ false → begins_with_slash text ≡ false
 
 -- a punct, which begins neither a comment nor a guard
 pub record LexedPunct (e : Edition) (c : ℕ) (sp : Spacing) (from rest : List ℕ) : Type 0 where
@@ -70,7 +71,7 @@ Lexed e (identifier name r) from rest = IsWord name × (may_be r name ≡ true)
 Lexed e (literal_of text suffix n kind) from rest = LexedLiteral e text suffix n kind from rest
 Lexed e (punct_of c sp) from rest = LexedPunct e c sp from rest
 Lexed e (lifetime_of name r) from rest = LexedLifetime e name r from
-Lexed e (doc_of text inner) from rest = IsDocText text from
+Lexed e (doc_of text inner) from rest = IsDocText text inner from
 Lexed e (opening k) from rest = (k ≢ Invisible) × (begins_side from ≡ true)
 Lexed e (closing k) from rest = (k ≢ Invisible) × (begins_side from ≡ true)
 
@@ -522,27 +523,49 @@ c_cut e (d ∷ ds) rest shape u h =
 
 -- ---- doc comments
 
-front_is : (own end : List ℕ) → front (own ++ end) end ≡ own
-front_is own end =
-    let n : length (own ++ end) - length end ≡ length own = omega (arith, length-append own end) in
-    ap (λ (k : ℕ). take k (own ++ end)) n ∙ take-append_seam own end
+-- `/` is one byte
+slash_byte : (c : ℕ) (cs bytes : List ℕ) → bytes ≡ encode_utf8_all (c ∷ cs) → (c == 47) ≡ false
+    → begins_with_slash bytes ≡ false
+slash_byte c cs [] i n = refl
+slash_byte c cs (b ∷ bytes) i n = by (b == 47) refl
+  where
+    by : (is : Bool) → (b == 47) ≡ is → (b == 47) ≡ false
+    by false e = e
+    by true e =
+        let is47 = same_char b 47 e in
+        let same : c ≡ b =
+        char_from_byte (b ∷ bytes) (encode_utf8_all cs) c i (omega (arith, is47)) (omega arith) in
+        absurd (let z : true ≡ false = sym e ∙ (ap (λ (x : ℕ). x == 47) (sym same) ∙ n) in cc)
+
+own_slash : (own end body : List ℕ) → body ≡ own ++ end → begins_with_slash body ≡ false
+    → begins_with_slash (encode_utf8_all own) ≡ false
+own_slash [] end body i n = refl
+own_slash (c ∷ own) end body i n =
+    slash_byte c own (encode_utf8_all (c ∷ own)) refl (sym (ap begins_with_slash i) ∙ n)
+
+doc_slash : (c : ℕ) (cs : List ℕ) → begins_doc (c ∷ cs) ≡ true → is_inner (c ∷ cs) ≡ false
+    → begins_with_slash (drop 3 (c ∷ cs)) ≡ false
+doc_slash c [] d n = refl
+doc_slash c (b ∷ []) d n = refl
+doc_slash c (b ∷ (m ∷ [])) d n = refl
+doc_slash c (b ∷ (m ∷ (x ∷ xs))) d n = grind (arith, nat_tests, d, n)
 
 doc_cut_at : (e : Edition) (before body end after rest : List ℕ) (shape : Shape) (inner : Bool) (o : Option (List ℕ))
-    → begins_doc (before ++ body) ≡ true
+    → begins_doc (before ++ body) ≡ true → (inner ≡ false → begins_with_slash body ≡ false)
     → Tail body end → from_return (front body end) ≡ o → Tail end after → 0 < length before
     → scalars (before ++ body) ≡ true → doc_until inner body end after ≡ Ok (shape, rest)
     → Step e (before ++ body) rest shape
-doc_cut_at e before body end after rest shape inner (Some at) m d f r some u h =
+doc_cut_at e before body end after rest shape inner (Some at) m slash d f r some u h =
     absurd (let w : doc_until inner body end after ≡ Err (within end (wrong.BareReturn, at)) = rw (doc_until, f) refl in
     let z : Err (within end (wrong.BareReturn, at)) ≡ Ok (shape, rest) = sym w ∙ h in cc)
-doc_cut_at e before body end after rest shape inner None m d f r some u h =
+doc_cut_at e before body end after rest shape inner None m slash d f r some u h =
     let w : doc_until inner body end after ≡ Ok (doc_of (bytes_before body end) inner, after) =
     rw (doc_until, f) refl in
     let made : Token = Ok (doc_of (bytes_before body end) inner, after) in
     let k : made ≡ Ok (shape, rest) = sym w ∙ h in
     let text : bytes_before body end ≡ encode_utf8_all d.own =
     ap (λ (x : List ℕ). bytes_before x end) d.is ∙ bytes_front d.own end in
-    let cut : front body end ≡ d.own = ap (λ (x : List ℕ). front x end) d.is ∙ front_is d.own end in
+    let cut : front body end ≡ d.own = ap (λ (x : List ℕ). front x end) d.is ∙ front_of d.own end in
     let left : end ≡ r.own ++ rest = r.is ∙ ap (λ (x : List ℕ). r.own ++ x) (ap left_of k) in
     let own : List ℕ = before ++ (d.own ++ r.own) in
     let is : before ++ body ≡ own ++ rest =
@@ -557,6 +580,7 @@ doc_cut_at e before body end after rest shape inner None m d f r some u h =
       bytes = text;
       right = (scalars_parts d.own end (ap scalars (sym d.is) ∙ (scalars_parts before body u).1)).0;
       no_return = ap from_return (sym cut) ∙ f;
+      slash = λ outer. ap begins_with_slash text ∙ own_slash d.own end body d.is (slash outer);
     })
 
 comment_tail : (cs end : List ℕ) (taken : Bool) (depth : ℕ) → from_comment_end taken depth cs ≡ Some end → Tail cs end
@@ -593,7 +617,8 @@ block_cut e c cs rest shape (Some end) d f u h =
     let whole = take-append-drop 3 (c ∷ cs) in
     subst (λ (x : List ℕ). Step e x rest shape) whole
     (doc_cut_at e (take 3 (c ∷ cs)) (drop 3 (c ∷ cs)) end (drop 2 end) rest shape (is_inner (c ∷ cs))
-    (from_return (front (drop 3 (c ∷ cs)) end)) (ap begins_doc whole ∙ d) (comment_tail (drop 3 (c ∷ cs)) end false 0 f)
+    (from_return (front (drop 3 (c ∷ cs)) end)) (ap begins_doc whole ∙ d) (doc_slash c cs d)
+    (comment_tail (drop 3 (c ∷ cs)) end false 0 f)
     refl (drop_tail 2 end) (omega arith) (ap scalars whole ∙ u)
     (sym w ∙ h))
 
@@ -607,7 +632,7 @@ line_cut k e c cs rest shape d u h =
     subst (λ (x : List ℕ). Step e x rest shape) whole
     (doc_cut_at e (take 3 (c ∷ cs)) (drop 3 (c ∷ cs)) end end rest shape (is_inner (c ∷ cs))
     (from_return (front (drop 3 (c ∷ cs)) end)) (ap begins_doc whole ∙ d)
-    (past_tail k (drop 3 (c ∷ cs))) refl (here end) (omega arith) (ap scalars whole ∙ u) h)
+    (doc_slash c cs d) (past_tail k (drop 3 (c ∷ cs))) refl (here end) (omega arith) (ap scalars whole ∙ u) h)
 
 doc_cut : (e : Edition) (c : ℕ) (cs rest : List ℕ) (shape : Shape) → begins_doc (c ∷ cs) ≡ true
     → scalars (c ∷ cs) ≡ true → doc (c ∷ cs) ≡ Ok (shape, rest) → Step e (c ∷ cs) rest shape

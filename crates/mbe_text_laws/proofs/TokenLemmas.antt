@@ -181,11 +181,11 @@ past_same : (a b : List ℕ) → (let x : PastIs = Ok a in x) ≡ Ok b → a ≡
 past_same a b h = cc
 
 -- nothing is passed
-record Here (e : Edition) (total : ℕ) (cs : List ℕ) (t : Taken) : Type 0 where
-  from : t.from ≡ cs
-  read : read_shape (Rust e) total cs ≡ Ok (t.shape, t.rest)
+pub record Here (e : Edition) (total : ℕ) (cs : List ℕ) (t : Taken) : Type 0 where
+  pub from : t.from ≡ cs
+  pub read : read_shape (Rust e) total cs ≡ Ok (t.shape, t.rest)
 
-here_of : (e : Edition) (total : ℕ) (cs : List ℕ) (t : Taken) → past_blanks (Rust e) total (length cs) cs ≡ Ok cs
+pub here_of : (e : Edition) (total : ℕ) (cs : List ℕ) (t : Taken) → past_blanks (Rust e) total (length cs) cs ≡ Ok cs
     → Next e total cs t → Here e total cs t
 here_of e total cs t p n =
     let same : t.from ≡ cs = past_same t.from cs (sym n.past ∙ p) in
@@ -206,7 +206,7 @@ none_here e total c cs p h = by (read_shape (Rust e) total (c ∷ cs)) refl
 
 -- ---- a punct comes next
 
-punct_past : (e : Edition) (total c : ℕ) (cs : List ℕ) → is_punct c ≡ true → begins_comment (c ∷ cs) ≡ false
+pub punct_past : (e : Edition) (total c : ℕ) (cs : List ℕ) → is_punct c ≡ true → begins_comment (c ∷ cs) ≡ false
     → past_blanks (Rust e) total (length (c ∷ cs)) (c ∷ cs) ≡ Ok (c ∷ cs)
 punct_past e total c cs p n = no_comment e total c cs (punct_no_letter c p).space n (no_doc c cs n)
 

@@ -1,5 +1,6 @@
 -- What the lexer makes of a text is Rust's, and so it comes back where it is written.
-use Rattle.std.specs.Prelude.{◌≡◌, ⊤, ℕ, List, [], ◌∷◌, None, Ok, chars}
+use Rattle.std.specs.Prelude.{◌≡◌, ⊤, ℕ, true, List, [], ◌∷◌, None, Ok, chars}
+use Rattle.std.specs.List.{list_any}
 use Rattle.std.specs.Str.{IsUtf8}
 use Rattle.mbe_tt.specs.declared.span.Edition.{Edition}
 use Rattle.mbe_tt.specs.declared.tt.LitKind.{LitKind}
@@ -8,6 +9,7 @@ use Rattle.mbe_tt.specs.Trees.Leaf.{literal, punct, ident}
 use Rattle.mbe_tt.specs.Trees.Literals.{hash_text}
 use Rattle.mbe_tt.specs.Trees.Top.{Top}
 use Rattle.mbe_tt.specs.Trees.Tree.{FlatToken, token, opening, closing, flat}
+use Rattle.mbe_rust_text.specs.Comments.{is_line_end}
 use Rattle.mbe_text.specs.declared.dialect.Dialect.TheVariants.{Rust}
 use Rattle.mbe_text.specs.Division.{trees_of}
 use Rattle.mbe_text.specs.Extents.{from_raw_end}
@@ -20,10 +22,11 @@ use Rattle.mbe_text_laws.specs.Rust.{IsRust}
 abbrev pub most_hashes : ℕ
 most_hashes = 255
 
--- No `"` of a raw string's text is followed by so many `#`. A raw string of the text that is lexed has none; the text
--- of a doc comment, which is lexed as a raw string, may.
+-- Where its text has a line end, no `"` in it is followed by so many `#`. A raw string of a text that is lexed has none
+-- of these. A doc comment of several lines, which is lexed as a raw string, may.
 abbrev pub FitsRawString : LitKind → List ℕ → Type 0
-FitsRawString (StrRaw n) text = from_raw_end (hash_text most_hashes) (chars text) ≡ None
+FitsRawString (StrRaw n) text =
+    list_any is_line_end text ≡ true → from_raw_end (hash_text most_hashes) (chars text) ≡ None
 FitsRawString Byte text = ⊤
 FitsRawString Char text = ⊤
 FitsRawString Integer text = ⊤
