@@ -185,7 +185,7 @@ pub record Comes (e : Edition) (file total n : ℕ) (levels : Levels) (cs : List
   pub read : levels_of (Rust e) file total n levels cs ≡ Ok levels_at_end
   pub same : bare_levels levels_at_end ≡ want
 
-one_step : (d : Dialect) (file total n : ℕ) (levels new : Levels) (cs : List ℕ) (t : Taken)
+pub one_step : (d : Dialect) (file total n : ℕ) (levels new : Levels) (cs : List ℕ) (t : Taken)
     → next_token d total cs ≡ Ok (Some t)
     → after_item (item_taken file total t) levels ≡ Some new → levels_of d file total
     (suc n) levels cs ≡ levels_of d file total n new t.rest

@@ -57,7 +57,7 @@ block_ends : (o : Option (List ℕ)) (f : List ℕ → Result (List ℕ) LexFaul
 block_ends None f fault left h = absurd (cc)
 block_ends (Some rest) f fault left h = (rest, refl, h)
 
-both_false : (a b : Bool) → a ≡ false → b ≡ false → (a || b) ≡ false
+pub both_false : (a b : Bool) → a ≡ false → b ≡ false → (a || b) ≡ false
 both_false true b h k = absurd (cc)
 both_false false b h k = k
 

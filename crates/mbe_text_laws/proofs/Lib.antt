@@ -1,3 +1,4 @@
+pub mod AfterLemmas
 pub mod BackLemmas
 pub mod BareLemmas
 pub mod BlankTailLemmas
@@ -8,7 +9,10 @@ pub mod DocTextLemmas
 pub mod EndLemmas
 pub mod FollowLemmas
 pub mod GapLemmas
+pub mod GroupLemmas
+pub mod HiddenLemmas
 pub mod LexedLemmas
+pub mod LineLemmas
 pub mod LiteralLemmas
 pub mod NextLemmas
 pub mod NumberLemmas
@@ -17,6 +21,7 @@ pub mod PartLemmas
 pub mod QuoteLemmas
 pub mod RawLemmas
 pub mod ReadLemmas
+pub mod RustLemmas
 pub mod ShapeLemmas
 pub mod StepLemmas
 pub mod TextLemmas

@@ -202,7 +202,7 @@ pub one_byte : (c : ℕ) (cs : List ℕ) → c < 128 → encode_utf8_all cs ≡ 
 one_byte c cs small h =
     ap (λ (x : List ℕ). x ++ encode_utf8_all cs) (encode_ascii c small) ∙ ap (λ (x : List ℕ). c ∷ x) h
 
-some_token : (a b : Token) → (let x : Option Token = Some a in x) ≡ Some b → a ≡ b
+pub some_token : (a b : Token) → (let x : Option Token = Some a in x) ≡ Some b → a ≡ b
 some_token a b h = cc
 
 -- A string, from its quote on. What kind of quotes it has is last, since that type is the lexer's own.

@@ -32,10 +32,6 @@ pub and_both : (a b : Bool) → (a && b) ≡ true → (a ≡ true) × (b ≡ tru
 and_both true b h = (refl, h)
 and_both false b h = absurd (cc)
 
-and_of : (a b : Bool) → a ≡ true → b ≡ true → (a && b) ≡ true
-and_of true b h k = k
-and_of false b h k = absurd (cc)
-
 pub raw_later : (hs cs : List ℕ) (c : ℕ) → (c == 34 && begins_with hs cs) ≡ false
     → from_raw_end hs (c ∷ cs) ≡ from_raw_end hs cs
 raw_later hs cs c h = rw (from_raw_end, h) refl

@@ -35,7 +35,7 @@ use Rattle.mbe_text_laws.proofs.QuoteLemmas.{same_char, front_of, left_of, shape
 use Rattle.mbe_text_laws.proofs.FollowLemmas.{is_side}
 use Rattle.mbe_text_laws.proofs.PartLemmas.{word_run}
 use Rattle.mbe_text_laws.proofs.RawLemmas.{marked}
-use Rattle.mbe_text_laws.proofs.LiteralLemmas.{scalars_parts, LexedLiteral, LexedAs, lexed_string, lexed_char, lexed_quote, lexed_raw, raw_opened, Opened, lexed_number, one_byte}
+use Rattle.mbe_text_laws.proofs.LiteralLemmas.{some_token, scalars_parts, LexedLiteral, LexedAs, lexed_string, lexed_char, lexed_quote, lexed_raw, raw_opened, Opened, lexed_number, one_byte}
 
 -- ---- tokens
 
@@ -164,11 +164,11 @@ name_cut e before c cs rest shape r s q u l m i left =
     (sym i ∙ ap (λ (x : List ℕ). lifetime_of x r) w.name)
     (record { word = w.word; may = ap (may_be r) (sym w.name) ∙ m; new = l; tick = q })
 
-and_left : (a b : Bool) → (a && b) ≡ true → a ≡ true
+pub and_left : (a b : Bool) → (a && b) ≡ true → a ≡ true
 and_left true b h = refl
 and_left false b h = absurd (cc)
 
-and_right : (a b : Bool) → (a && b) ≡ true → b ≡ true
+pub and_right : (a b : Bool) → (a && b) ≡ true → b ≡ true
 and_right true b h = h
 and_right false b h = absurd (cc)
 
@@ -270,9 +270,6 @@ lifetime_cut e c (x ∷ (y ∷ ys)) rest shape s u h =
     (ap (λ (t : List ℕ). lifetime e (39 ∷ t)) (sym same) ∙ h)))
 
 -- ---- chars, strings
-
-some_token : (a b : Token) → (let x : Option Token = Some a in x) ≡ Some b → a ≡ b
-some_token a b h = cc
 
 tick_reads : (e : Edition) (y : List ℕ) → read_rust e (39 ∷ y) ≡ Some (read_quote e (39 ∷ y))
 unfolding unicode_ident
