@@ -145,22 +145,22 @@ doc_are_read e file a b false false text from ts i d fits r =
     punct_read e (record { char = 35; spacing = Alone; span = span }) (brackets_of span text ts) false
     (brackets_read e span text false from ts d (fits ends) r)
 
-doc_fit : (span : Span) (inner : Bool) (text : List ℕ) (ts : List FlatToken)
-    → FitRawStrings (tokens_of span (doc_of text inner) ++ ts)
+doc_fit : (file a b : ℕ) (inner : Bool) (text : List ℕ) (ts : List FlatToken)
+    → FitRawStrings (tokens_of (bytes_of file a b) (doc_of text inner) ++ ts)
     → list_any is_line_end text ≡ true → from_raw_end (hash_text most_hashes) (chars text) ≡ None
-doc_fit span true text ts f = f.0
-doc_fit span false text ts f = f.0
+doc_fit file a b true text ts f = f.1.1.1.0 (setting_is file a b text)
+doc_fit file a b false text ts f = f.1.1.0 (setting_is file a b text)
 
 later_fit : (span : Span) (shape : Shape) (ts : List FlatToken) → FitRawStrings (tokens_of span shape ++ ts)
     → FitRawStrings ts
-later_fit span (identifier name r) ts f = f
+later_fit span (identifier name r) ts f = f.1
 later_fit span (literal_of text suffix n kind) ts f = f.1
-later_fit span (punct_of c sp) ts f = f
-later_fit span (lifetime_of name r) ts f = f
-later_fit span (doc_of text true) ts f = f.1
-later_fit span (doc_of text false) ts f = f.1
-later_fit span (opening k) ts f = f
-later_fit span (closing k) ts f = f
+later_fit span (punct_of c sp) ts f = f.1
+later_fit span (lifetime_of name r) ts f = f.1.1
+later_fit span (doc_of text true) ts f = f.1.1.1.1.1.1.1
+later_fit span (doc_of text false) ts f = f.1.1.1.1.1.1
+later_fit span (opening k) ts f = f.1
+later_fit span (closing k) ts f = f.1
 
 -- a joint punct is before another one
 record JointNext (cs : List ℕ) : Type 0 where
@@ -220,7 +220,7 @@ shape_read e file a b from rest (lifetime_of name r) ts joint l later n fit =
 shape_read e file a b from rest (doc_of text inner) ts true l later n fit = absurd (n refl l.marks)
 shape_read e file a b from rest (doc_of text inner) ts false l later n fit =
     doc_are_read e file a b inner (is_line inner text) text from ts refl l
-    (doc_fit (bytes_of file a b) inner text ts fit)
+    (doc_fit file a b inner text ts fit)
     (plainly e rest ts later)
 shape_read e file a b from rest (opening k) ts joint l later n fit = plainly e rest ts later
 shape_read e file a b from rest (closing k) ts joint l later n fit = plainly e rest ts later
