@@ -1,9 +1,11 @@
 -- What is written for trees of Rust is read as these trees.
-use Rattle.std.proofs.Common.{◌≡◌, ℕ, zero, suc, ◌==◌, ◌<◌, ◌≤◌, not, ◌&&◌, ◌||◌, if◌then◌else◌, Bool, true, false, List, [], ◌∷◌, ◌++◌, length, refl, sym, ap, ◌∙◌, arith, codes, Option, Some, None, Ok, IsUtf8, chars, encode_utf8, subst, append-nil, length-append}
+use Rattle.std.proofs.Common.{◌≡◌, ◌≢◌, ℕ, zero, suc, ◌==◌, ◌<◌, ◌≤◌, not, ◌&&◌, ◌||◌, if◌then◌else◌, Bool, true, false, List, [], ◌∷◌, ◌++◌, length, refl, sym, ap, ◌∙◌, arith, codes, Option, Some, None, Ok, IsUtf8, chars, encode_utf8, subst, append-nil, length-append}
+use Rattle.std.specs.List.{list_any}
+use Rattle.std.specs.Prelude.{map}
 use Rattle.std.proofs.lemmas.Bool.Decides.{nat_tests}
 use Rattle.std.proofs.lemmas.Str.{chars-append, chars-nil, IsUtf8-append}
 use Rattle.mbe_tt.specs.Buffers.Building.{Levels, put, closed, kind_inside}
-use Rattle.mbe_tt.specs.Trees.Leaf.{Leaf, Ident, Literal, literal, punct, ident}
+use Rattle.mbe_tt.specs.Trees.Leaf.{Leaf, Ident, Literal, literal, punct, ident, is_text}
 use Rattle.mbe_tt.specs.Trees.Literals.{raw_prefix, literal_output}
 use Rattle.mbe_tt.specs.Trees.Tree.{Forest, none, leaf, group, one_leaf, FlatToken, token, opening, closing, flat, is_same_kind}
 use Rattle.mbe_tt.specs.Trees.Top.{no_span}
@@ -18,8 +20,9 @@ use Rattle.mbe_tt.specs.declared.tt.IdentIsRaw.TheVariants.{Yes, No}
 use Rattle.mbe_tt.specs.declared.tt.DelimiterKind.{DelimiterKind}
 use Rattle.mbe_tt.specs.declared.tt.DelimiterKind.TheVariants.{Parenthesis, Brace, Bracket, Invisible}
 use Rattle.mbe_rust_text.specs.Comments.{Comment, is_line}
-use Rattle.mbe_rust_text.specs.Gaps.{is_one_of, is_joint, is_prefix}
-use Rattle.mbe_rust_text.specs.Writing.{State, start, word, a_literal, a_punct, a_comment, comment_marks, comment_text, name_text}
+use Rattle.mbe_rust_text.specs.Gaps.{is_one_of, is_joint, is_prefix, is_colon, keywords, last_punct, may_precede_comment}
+use Rattle.mbe_rust_text.specs.Writing.{State, start, word, a_literal, a_punct, a_comment, opened, comment_marks, comment_text, name_text}
+use Rattle.mbe_rust_text.specs.Writing as writing
 use Rattle.mbe_text.specs.declared.dialect.Dialect.{Dialect}
 use Rattle.mbe_text.specs.declared.dialect.Dialect.TheVariants.{Rust}
 use Rattle.mbe_text.specs.Division.{Taken, next_token, item_taken, after_item, levels_of, levels_at_end, trees_of, is_inside, span_of_taken}
@@ -29,10 +32,10 @@ use Rattle.mbe_text.specs.Shapes as shape
 use Rattle.mbe_text.specs.Tokens.{opening_text, closing_text, lifetime_trees, doc_trees, doc_group, most_guards, whole, bytes_of}
 use Rattle.mbe_text.specs.Trivia.{after_head}
 use Rattle.mbe_text_laws.specs.Back.{TreesComeBack, bare, bare_leaf, bare_delimiter}
-use Rattle.mbe_text_laws.specs.Rust.{is_start, begins_literal, may_be_lifetime, IsLifetime, AreRust, IsIdent, IsSign, IsPunct, next_place}
+use Rattle.mbe_text_laws.specs.Rust.{is_start, begins_literal, may_be_lifetime, more_tokens, punct_flat, comment_after, skipped, joint_after, IsLifetime, AreRust, AreRead, IsIdent, IsSign, IsPunct, next_place}
 use Rattle.mbe_text_laws.proofs.EndLemmas.{punct_small, begins_gap, mark_not_start, start_not_hash}
 use Rattle.mbe_text_laws.proofs.StepLemmas.{taken}
-use Rattle.mbe_text_laws.proofs.CommentLemmas.{comment_next, comment_case, more_tokens, no_comment_at, IsSetting}
+use Rattle.mbe_text_laws.proofs.CommentLemmas.{comment_next, comment_case, no_comment_at, IsSetting}
 use Rattle.mbe_text_laws.proofs.DocLemmas.{comment_utf8, comment_chars, comment_reads, raw_text_utf8, line_gap}
 use Rattle.mbe_text_laws.proofs.TextLemmas.{spelled, after, ahead, left, count, next_written, token_or_comment, reasons, the_gap, gap_of, gap_chars, gap_is_blank, text_of_is, word_text, ascii_utf8}
 use Rattle.mbe_text_laws.proofs.FollowLemmas.{letters, is_side, sign_small, follows, fronted, word_front, ends_alone, alone_ends, alone_like, is_sign, punct_is, opening_is, closing_is, word_like, word_ends}
@@ -54,7 +57,7 @@ ident_utf8 i h = subst (λ (x : List ℕ). IsUtf8 (raw_prefix i.is_raw ++ x)) (s
 
 utf8_of : (e : Edition) (t : FlatToken) (ts : List FlatToken) → AreRust e (t ∷ ts) → IsUtf8 (spelled t)
 utf8_of e (token (ident i)) ts h = ident_utf8 i h.0
-utf8_of e (token (literal l)) ts h = h.0.0.utf8
+utf8_of e (token (literal l)) ts h = h.0.0.0
 utf8_of e (token (punct p)) ts h = (is_sign e p ts h.0).utf8
 utf8_of e (opening d) ts h = (opening_is d.kind h.0).is.utf8
 utf8_of e (closing d) ts h = (closing_is d.kind h.0).is.utf8
@@ -70,9 +73,9 @@ text_utf8 : (e : Edition) (p : Punct) (ts : List FlatToken) (s : State) (c : Com
 text_utf8 e p ts s c h m =
     comment_case (λ us x. AreRust e us → IsUtf8 x.text) p ts s c
     (λ d n v k i q l end us is line r. raw_text_utf8 l
-    (most_guards 0 l.text_and_suffix) is.no_suffix is.raw r.1.1.1.0.0.utf8)
+    (most_guards 0 l.text_and_suffix) is.no_suffix is.raw r.1.1.1.0.0.0)
     (λ o d n v m w k i q l end us is line r. raw_text_utf8 l
-    (most_guards 0 l.text_and_suffix) is.no_suffix is.raw r.1.1.1.1.0.0.utf8)
+    (most_guards 0 l.text_and_suffix) is.no_suffix is.raw r.1.1.1.1.0.0.0)
     m h
 
 written_utf8 : (e : Edition) (t : FlatToken) (ts : List FlatToken) (s : State) → AreRust e (t ∷ ts)
@@ -182,7 +185,7 @@ pub record Comes (e : Edition) (file total n : ℕ) (levels : Levels) (cs : List
   pub read : levels_of (Rust e) file total n levels cs ≡ Ok levels_at_end
   pub same : bare_levels levels_at_end ≡ want
 
-one_step : (d : Dialect) (file total n : ℕ) (levels new : Levels) (cs : List ℕ) (t : Taken)
+pub one_step : (d : Dialect) (file total n : ℕ) (levels new : Levels) (cs : List ℕ) (t : Taken)
     → next_token d total cs ≡ Ok (Some t)
     → after_item (item_taken file total t) levels ≡ Some new → levels_of d file total
     (suc n) levels cs ≡ levels_of d file total n new t.rest
@@ -289,10 +292,59 @@ is_no_tick : (e : Edition) (p : Punct) (ts : List FlatToken) (b : Bool) → name
 is_no_tick e p ts true h s = absurd (no_lifetime e p.spacing ts h s)
 is_no_tick e p ts false h s = s
 
+-- ---- whether a comment may be next
+
+word_may_of : (s : State) (i : Ident) (b : Bool) → list_any (is_text (name_text i.sym)) (map codes keywords) ≡ b
+    → may_precede_comment (word s i).last ≡ true
+word_may_of s i true e = rw e refl
+word_may_of s i false e = rw e refl
+
+word_may : (s : State) (i : Ident) → may_precede_comment (word s i).last ≡ true
+word_may s i = word_may_of s i (list_any (is_text (name_text i.sym)) (map codes keywords)) refl
+
+alone_may : (c : ℕ) (colon semicolon colons : Bool) → (c == 59) ≡ semicolon → (c == 58 && colon) ≡ colons
+    → may_precede_comment (last_punct Alone c colon) ≡ true
+alone_may c colon true colons e f = rw e refl
+alone_may c colon false true e f = rw (e, f) refl
+alone_may c colon false false e f = rw (e, f) refl
+
+punct_may : (sp : Spacing) (c : ℕ) (colon : Bool) → may_precede_comment (last_punct sp c colon) ≡ not (is_joint sp)
+punct_may Joint c colon = refl
+punct_may Alone c colon = alone_may c colon (c == 59) (c == 58 && colon) refl refl
+
+opened_may : (k : DelimiterKind) (s : State) (place : Span) → k ≢ Invisible
+    → may_precede_comment (opened s k place).last ≡ true
+opened_may Parenthesis s place h = refl
+opened_may Brace s place h = refl
+opened_may Bracket s place h = refl
+opened_may Invisible s place h = absurd (h refl)
+
+closed_may : (k : DelimiterKind) (s : State) (place : Span) → k ≢ Invisible
+    → may_precede_comment (writing.closed s k place).last ≡ true
+closed_may Parenthesis s place h = refl
+closed_may Brace s place h = refl
+closed_may Bracket s place h = refl
+closed_may Invisible s place h = absurd (h refl)
+
+-- it is the same comment, then
+same_next : (may joint : Bool) (o : Option Comment) → may ≡ not joint
+    → (if may then o else None) ≡ (if joint then None else o)
+same_next may true o h = ap (λ (b : Bool). if b then o else None) h
+same_next may false o h = ap (λ (b : Bool). if b then o else None) h
+
+read_after_punct : (e : Edition) (p : Punct) (ts : List FlatToken) (s : State) (joint : Bool) (o : Option Comment)
+    → may_precede_comment s.last ≡ not joint → comment_next p ts s ≡ o → AreRead e 0 joint (token (punct p) ∷ ts)
+    → AreRead e (skipped o) (joint_after o p) ts
+read_after_punct e p ts s joint o may m k =
+    let same : comment_after joint p ts ≡ o =
+    sym (same_next (may_precede_comment s.last) joint (punct_flat p ts) may) ∙ m in
+    subst (λ (x : Option Comment). AreRead e (skipped x) (joint_after x p) ts) same k
+
 -- so many steps make these tokens
 abbrev Come : Edition → ℕ → ℕ → ℕ → Type 0
 Come e file total n =
-    (ts : List FlatToken) (s : State) (levels want : Levels) → AreRust e ts → Fit ts want → bare_levels levels ≡ want
+    (ts : List FlatToken) (s : State) (levels want : Levels) (joint : Bool) → AreRust e ts → AreRead e 0 joint ts
+    → may_precede_comment s.last ≡ not joint → Fit ts want → bare_levels levels ≡ want
     → count 0 ts s ≤ n → Comes e file total n levels (ahead 0 ts s) (made ts want)
 
 -- the same of tokens that begin with a punct
@@ -306,42 +358,47 @@ ComesAt e file total n p ts s levels want =
 no_name_comes : (e : Edition) (file total n : ℕ) (go : Come e file total n) (p : Punct) (ts : List FlatToken)
     (s : State)
     (levels want : Levels)
-    → AreRust e (token (punct p) ∷ ts) → Fit (token (punct p) ∷ ts) want → bare_levels levels ≡ want
+    → AreRust e (token (punct p) ∷ ts) → AreRead e 0 (is_joint p.spacing) ts → Fit (token (punct p) ∷ ts) want
+    → bare_levels levels ≡ want
     → comment_next p ts s ≡ None → count 0 ts (after (token (punct p)) ts s) ≤ n → names ts ≡ false
     → ComesAt e file total n p ts s levels want
-no_name_comes e file total n go p ts s levels want h f same plain le unnamed =
+no_name_comes e file total n go p ts s levels want h k f same plain le unnamed =
     sign_comes e file total n p.char p.spacing p.span ts s levels want (is_no_tick e p ts
     (p.char == 39) unnamed h.0) h.1 same plain
-    (λ new q. go ts (a_punct s p (next_place ts)) new (step (token (punct p)) want) h.1 f q le)
+    (λ new q. go ts (a_punct s p (next_place ts)) new (step (token (punct p)) want) (is_joint p.spacing) h.1 k
+    (punct_may p.spacing p.char (is_colon s.last)) f q le)
 
 sign_or_lifetime : (e : Edition) (file total n : ℕ) (go : Come e file total n) (p : Punct) (ts : List FlatToken)
     (s : State)
     (levels want : Levels)
-    → AreRust e (token (punct p) ∷ ts) → Fit (token (punct p) ∷ ts) want → bare_levels levels ≡ want
+    → AreRust e (token (punct p) ∷ ts) → AreRead e 0 (is_joint p.spacing) ts → Fit (token (punct p) ∷ ts) want
+    → bare_levels levels ≡ want
     → comment_next p ts s ≡ None → count 0 ts (after (token (punct p)) ts s) ≤ n
     → ComesAt e file total n p ts s levels want
-sign_or_lifetime e file total n go p [] s levels want h f same plain le =
-    no_name_comes e file total n go p [] s levels want h f same plain le refl
-sign_or_lifetime e file total n go p (token (literal l) ∷ ts) s levels want h f same plain le =
-    no_name_comes e file total n go p (token (literal l) ∷ ts) s levels want h f same plain le refl
-sign_or_lifetime e file total n go p (token (punct o) ∷ ts) s levels want h f same plain le =
-    no_name_comes e file total n go p (token (punct o) ∷ ts) s levels want h f same plain le refl
-sign_or_lifetime e file total n go p (opening d ∷ ts) s levels want h f same plain le =
-    no_name_comes e file total n go p (opening d ∷ ts) s levels want h f same plain le refl
-sign_or_lifetime e file total n go p (closing d ∷ ts) s levels want h f same plain le =
-    no_name_comes e file total n go p (closing d ∷ ts) s levels want h f same plain le refl
-sign_or_lifetime e file total n go p (token (ident i) ∷ ts) s levels want h f same plain le = by (p.char == 39) refl h.0
+sign_or_lifetime e file total n go p [] s levels want h k f same plain le =
+    no_name_comes e file total n go p [] s levels want h k f same plain le refl
+sign_or_lifetime e file total n go p (token (literal l) ∷ ts) s levels want h k f same plain le =
+    no_name_comes e file total n go p (token (literal l) ∷ ts) s levels want h k f same plain le refl
+sign_or_lifetime e file total n go p (token (punct o) ∷ ts) s levels want h k f same plain le =
+    no_name_comes e file total n go p (token (punct o) ∷ ts) s levels want h k f same plain le refl
+sign_or_lifetime e file total n go p (opening d ∷ ts) s levels want h k f same plain le =
+    no_name_comes e file total n go p (opening d ∷ ts) s levels want h k f same plain le refl
+sign_or_lifetime e file total n go p (closing d ∷ ts) s levels want h k f same plain le =
+    no_name_comes e file total n go p (closing d ∷ ts) s levels want h k f same plain le refl
+sign_or_lifetime e file total n go p (token (ident i) ∷ ts) s levels want h k f same plain le =
+    by (p.char == 39) refl h.0
   where
     by : (b : Bool) → (p.char == 39) ≡ b → IsSign b e p (token (ident i) ∷ ts)
         → ComesAt e file total n p (token (ident i) ∷ ts) s levels want
     by true t l =
         lifetime_comes e file total n p.char p.spacing p.span i ts s levels want t l h.1.0 h.1.1 same
         (λ new q. go ts (word (a_punct s p (Some i.span)) i) new (step (token (ident i)) (step (token
-        (punct p)) want)) h.1.1 f q
+        (punct p)) want)) false h.1.1 k (word_may (a_punct s p (Some i.span)) i) f q
         (omega (arith, le)))
     by false t l =
         sign_comes e file total n p.char p.spacing p.span (token (ident i) ∷ ts) s levels want l h.1 same plain
-        (λ new q. go (token (ident i) ∷ ts) (a_punct s p (Some i.span)) new (step (token (punct p)) want) h.1 f q le)
+        (λ new q. go (token (ident i) ∷ ts) (a_punct s p (Some i.span)) new (step (token (punct p)) want)
+        (is_joint p.spacing) h.1 k (punct_may p.spacing p.char (is_colon s.last)) f q le)
 
 -- ---- a comment
 
@@ -349,6 +406,7 @@ sign_or_lifetime e file total n go p (token (ident i) ∷ ts) s levels want h f 
 record CommentMakes (e : Edition) (ts : List FlatToken) (c : Comment) (levels want : Levels) : Type 0 where
   pub rest : List FlatToken
   pub rust : AreRust e rest
+  pub are_read : AreRead e 0 false rest
   pub utf8 : IsUtf8 c.text
   pub line : is_line c.is_inner c.text ≡ true
   pub new : Levels
@@ -373,17 +431,19 @@ bare_group_is k i q l b is =
     rw (b, is.doc, is.plain, is.equals, is.alone, is.no_suffix, is.raw) refl
 
 outer_makes : (e : Edition) (p : Punct) (ts : List FlatToken) (s : State) (c : Comment) (want : Levels)
-    → AreRust e ts → Fit (token (punct p) ∷ ts) want → comment_next p ts s ≡ Some c
+    → AreRust e ts → AreRead e (more_tokens c.is_inner) false ts → Fit (token (punct p) ∷ ts) want
+    → comment_next p ts s ≡ Some c
     → CommentMakes e ts c (made (token (punct p) ∷ ts) want) want
-outer_makes e p ts s c want r f m =
-    comment_case (λ us x. AreRust e us → Fit (token (punct p) ∷ us) want
+outer_makes e p ts s c want r a f m =
+    comment_case (λ us x. AreRust e us → AreRead e (more_tokens x.is_inner) false us → Fit (token (punct p) ∷ us) want
     → CommentMakes e us x (made (token (punct p) ∷ us) want) want) p ts s c
-    (λ d hash alone k i q l end us is line rust fit.
+    (λ d hash alone k i q l end us is line rust are fit.
     let own : Forest = leaf (punct p) (group d (leaf (ident i) (leaf (punct q) (leaf
     (literal l) none))) none) in record {
       rest = us;
       rust = rust.1.1.1.1.1;
-      utf8 = raw_text_utf8 l (most_guards 0 l.text_and_suffix) is.no_suffix is.raw rust.1.1.1.0.0.utf8;
+      are_read = are;
+      utf8 = raw_text_utf8 l (most_guards 0 l.text_and_suffix) is.no_suffix is.raw rust.1.1.1.0.0.0;
       line = line;
       new = made (flat own) want;
       fit = fit.1;
@@ -393,12 +453,13 @@ outer_makes e p ts s c want r f m =
       ahead_is = λ t. refl;
       count_is = λ t. refl;
     })
-    (λ o d hash joint bang alone k i q l end us is line rust fit.
+    (λ o d hash joint bang alone k i q l end us is line rust are fit.
     let own : Forest = leaf (punct p) (leaf (punct o) (group d (leaf (ident i) (leaf (punct q) (leaf
     (literal l) none))) none)) in record {
       rest = us;
       rust = rust.1.1.1.1.1.1;
-      utf8 = raw_text_utf8 l (most_guards 0 l.text_and_suffix) is.no_suffix is.raw rust.1.1.1.1.0.0.utf8;
+      are_read = are;
+      utf8 = raw_text_utf8 l (most_guards 0 l.text_and_suffix) is.no_suffix is.raw rust.1.1.1.1.0.0.0;
       line = line;
       new = made (flat own) want;
       fit = fit.1;
@@ -409,7 +470,7 @@ outer_makes e p ts s c want r f m =
       ahead_is = λ t. refl;
       count_is = λ t. refl;
     })
-    m r f
+    m r a f
 
 bare_doc : (b : Bool) (span : Span) (text : List ℕ) → bare (doc_trees span text b) ≡ bare (doc_trees no_span text b)
 bare_doc true span text = refl
@@ -433,11 +494,12 @@ gap_comes e file total n depth levels want cs c = record {
 comment_comes : (e : Edition) (file total n : ℕ) (go : Come e file total n) (p : Punct) (ts : List FlatToken)
     (s : State)
     (levels want : Levels) (c : Comment)
-    → AreRust e ts → Fit (token (punct p) ∷ ts) want → bare_levels levels ≡ want
+    → AreRust e ts → AreRead e (more_tokens c.is_inner) false ts → Fit (token (punct p) ∷ ts) want
+    → bare_levels levels ≡ want
     → comment_next p ts s ≡ Some c → count (more_tokens c.is_inner) ts (a_comment s c) ≤ n
     → ComesAt e file total n p ts s levels want
-comment_comes e file total n go p ts s levels want c r f same m le =
-    let k = outer_makes e p ts s c want r f m in
+comment_comes e file total n go p ts s levels want c r a f same m le =
+    let k = outer_makes e p ts s c want r a f m in
     let state = a_comment s c in
     let more = ahead (more_tokens c.is_inner) ts state in
     let rest : List ℕ = line_gap s.depth ++ more in
@@ -450,7 +512,7 @@ comment_comes e file total n go p ts s levels want c r f same m le =
     bare_put trees levels ∙ (ap (λ (x : Levels). put (bare trees) x) same
     ∙ (ap (λ (x : Forest). put x want) (bare_doc c.is_inner span c.text) ∙ sym k.new_is)) in
     let few : count 0 k.rest state ≤ n = subst (λ (x : ℕ). x ≤ n) (k.count_is state) le in
-    let later = go k.rest state (put trees levels) k.new k.rust k.fit new_is few in
+    let later = go k.rest state (put trees levels) k.new false k.rust k.are_read refl k.fit new_is few in
     let here : Comes e file total n (put trees levels) more (made (token (punct p) ∷ ts) want) =
     subst (λ (x : List ℕ). Comes e file total n (put trees levels) x (made (token (punct p) ∷ ts) want)) (sym
     (k.ahead_is state))
@@ -460,10 +522,11 @@ comment_comes e file total n go p ts s levels want c r f same m le =
     (gap_comes e file total n s.depth (put trees levels) (made (token (punct p) ∷ ts) want) more here)
 
 punct_comes : (e : Edition) (file total n : ℕ) (go : Come e file total n) (p : Punct) (ts : List FlatToken) (s : State)
-    (levels want : Levels)
-    → AreRust e (token (punct p) ∷ ts) → Fit (token (punct p) ∷ ts) want → bare_levels levels ≡ want
+    (levels want : Levels) (joint : Bool)
+    → AreRust e (token (punct p) ∷ ts) → AreRead e 0 joint (token (punct p) ∷ ts)
+    → may_precede_comment s.last ≡ not joint → Fit (token (punct p) ∷ ts) want → bare_levels levels ≡ want
     → count 0 (token (punct p) ∷ ts) s ≤ suc n → ComesAt e file total n p ts s levels want
-punct_comes e file total n go p ts s levels want h f same le = by (comment_next p ts s) refl
+punct_comes e file total n go p ts s levels want joint h k may f same le = by (comment_next p ts s) refl
   where
     few : (o : Option Comment) → comment_next p ts s ≡ o
         → count (token_or_comment o (token (punct p)) ts s).more ts (token_or_comment o (token
@@ -475,31 +538,35 @@ punct_comes e file total n go p ts s levels want h f same le = by (comment_next 
         (token_or_comment x (token (punct p)) ts s).state) ≤ suc n) m le in omega (arith, k)
 
     by : (o : Option Comment) → comment_next p ts s ≡ o → ComesAt e file total n p ts s levels want
-    by None m = sign_or_lifetime e file total n go p ts s levels want h f same m (few None m)
-    by (Some c) m = comment_comes e file total n go p ts s levels want c h.1 f same m (few (Some c) m)
+    by None m =
+        sign_or_lifetime e file total n go p ts s levels want h (read_after_punct e p ts s joint None may m k) f same m
+        (few None m)
+    by (Some c) m =
+        comment_comes e file total n go p ts s levels want c h.1 (read_after_punct e p ts s joint (Some c) may m k) f
+        same m (few (Some c) m)
 
 come : (e : Edition) (file total n : ℕ) → Come e file total n
-come e file total n [] s levels want h f same le = record {
+come e file total n [] s levels want joint h k may f same le = record {
   levels_at_end = levels;
   read = at_end e file total n
       levels;
   same = same;
 }
-come e file total zero (t ∷ ts) s levels want h f same le = absurd (omega (arith, le))
-come e file total (suc n) (token (ident i) ∷ ts) s levels want h f same le =
+come e file total zero (t ∷ ts) s levels want joint h k may f same le = absurd (omega (arith, le))
+come e file total (suc n) (token (ident i) ∷ ts) s levels want joint h k may f same le =
     let rest = ahead 0 ts (word s i) in
     let r = reads_ident e total i ts s h.0 h.1 in
     let span = span_of_taken file total (taken (identifier i.sym i.is_raw) r.from rest) in
     let one : Forest = one_leaf (ident (record { sym = i.sym; is_raw = i.is_raw; span = span })) in
     comes_on e file total n levels (put one levels) (ahead 0 (token (ident i) ∷ ts) s) rest
     (identifier i.sym i.is_raw) (made (token (ident i) ∷ ts) want) r refl
-    (come e file total n ts (word s i) (put one levels) (step (token (ident i)) want) h.1 f
+    (come e file total n ts (word s i) (put one levels) (step (token (ident i)) want) false h.1 k (word_may s i) f
     (bare_put one levels ∙ ap (put (one_leaf (bare_leaf (ident i)))) same) (omega (arith, le)))
-come e file total (suc n) (token (literal l) ∷ ts) s levels want h f same le =
+come e file total (suc n) (token (literal l) ∷ ts) s levels want joint h k may f same le =
     let rest = ahead 0 ts (a_literal s l) in
-    let b = literal_before e l s ts h.0.0 h.0.1 h.1 in
+    let b = literal_before e l s ts k.0 h.0.1 h.1 in
     let shape = literal_of b.text b.suffix l.suffix_len l.kind in
-    let r = read_after e total (token (literal l)) ts s shape rest (literal_reads e total l rest h.0.0 b) in
+    let r = read_after e total (token (literal l)) ts s shape rest (literal_reads e total l rest k.0 b) in
     let span = span_of_taken file total (taken shape r.from rest) in
     let read : Literal = record {
       text_and_suffix = b.text ++ b.suffix;
@@ -512,19 +579,20 @@ come e file total (suc n) (token (literal l) ∷ ts) s levels want h f same le =
     ap (λ (x : List ℕ). bare_leaf (literal (record l { text_and_suffix = x }))) b.parts in
     comes_on e file total n levels (put one levels) (ahead 0 (token (literal l) ∷ ts) s) rest shape (made (token
     (literal l) ∷ ts) want) r refl
-    (come e file total n ts (a_literal s l) (put one levels) (step (token (literal l)) want) h.1 f
+    (come e file total n ts (a_literal s l) (put one levels) (step (token (literal l)) want) false h.1 k.1 refl f
     (bare_put one levels ∙ (ap (λ (x : Leaf). put (one_leaf x) (bare_levels levels)) is
     ∙ ap (put (one_leaf (bare_leaf (literal l)))) same)) (omega (arith, le)))
-come e file total (suc n) (opening d ∷ ts) s levels want h f same le =
+come e file total (suc n) (opening d ∷ ts) s levels want joint h k may f same le =
     let rest = ahead 0 ts (after (opening d) ts s) in
     let r = read_after e total (opening d) ts s (shape.opening d.kind) rest (opening_reads e total d.kind rest h.0) in
     let span = span_of_taken file total (taken (shape.opening d.kind) r.from rest) in
     let new : Levels = (record { opening = span; close = span; kind = d.kind }, none) ∷ levels in
     comes_on e file total n levels new (ahead 0 (opening d ∷ ts) s) rest (shape.opening d.kind) (made
     (opening d ∷ ts) want) r refl
-    (come e file total n ts (after (opening d) ts s) new (step (opening d) want) h.1 f
+    (come e file total n ts (after (opening d) ts s) new (step (opening d) want) false h.1 k
+    (opened_may d.kind s d.opening h.0) f
     (ap (λ (x : Levels). (bare_delimiter d, none) ∷ x) same) (omega (arith, le)))
-come e file total (suc n) (closing d ∷ ts) s levels want h f same le =
+come e file total (suc n) (closing d ∷ ts) s levels want joint h k may f same le =
     let rest = ahead 0 ts (after (closing d) ts s) in
     let r = read_after e total (closing d) ts s (shape.closing d.kind) rest (closing_reads e total d.kind rest h.0) in
     let span = span_of_taken file total (taken (shape.closing d.kind) r.from rest) in
@@ -532,10 +600,13 @@ come e file total (suc n) (closing d ∷ ts) s levels want h f same le =
     let inside : kind_inside levels ≡ Some d.kind = sym (bare_kind levels) ∙ (ap kind_inside same ∙ f.0) in
     comes_on e file total n levels new (ahead 0 (closing d ∷ ts) s) rest (shape.closing d.kind) (made
     (closing d ∷ ts) want) r (closes d.kind span levels inside)
-    (come e file total n ts (after (closing d) ts s) new (step (closing d) want) h.1 f.1
+    (come e file total n ts (after (closing d) ts s) new (step (closing d) want) false h.1 k
+    (closed_may d.kind s d.close h.0) f.1
     (bare_closed span levels ∙ ap (closed no_span) same) (omega (arith, le)))
-come e file total (suc n) (token (punct p) ∷ ts) s levels want h f same le =
-    punct_comes e file total n (λ us t new all. come e file total n us t new all) p ts s levels want h f same le
+come e file total (suc n) (token (punct p) ∷ ts) s levels want joint h k may f same le =
+    punct_comes e file total n (λ us t new all flag. come e file total n us t new all flag) p ts s levels want joint h k
+    may
+    f same le
 
 -- ---- a whole text
 
@@ -559,7 +630,7 @@ word_some i h =
 
 some_of : (e : Edition) (t : FlatToken) (ts : List FlatToken) → AreRust e (t ∷ ts) → 0 < length (spelled t)
 some_of e (token (ident i)) ts h = word_some i h.0
-some_of e (token (literal l)) ts h = literal_some (literal_output l) (chars (literal_output l)) refl h.0.0.front
+some_of e (token (literal l)) ts h = literal_some (literal_output l) (chars (literal_output l)) refl h.0.0.1
 some_of e (token (punct p)) ts h = nonempty (encode_utf8 p.char) p.char [] (is_sign e p ts h.0).one
 some_of e (opening d) ts h = let o = opening_is d.kind h.0 in nonempty (opening_text d.kind) o.char [] o.is.one
 some_of e (closing d) ts h = let o = closing_is d.kind h.0 in nonempty (closing_text d.kind) o.char [] o.is.one
@@ -649,7 +720,7 @@ no_head e (token (ident i) ∷ ts) depth h =
 no_head e (token (literal l) ∷ ts) depth h =
     follows has_no_head (token (literal l)) ts (start depth) gap_no_head
     (λ k. literal_no_head (chars (literal_output l)) (ahead 0 ts (after (token (literal l)) ts
-    (start depth))) h.0.0.front)
+    (start depth))) h.0.0.1)
 no_head e (token (punct p) ∷ ts) depth h =
     follows has_no_head (token (punct p)) ts (start depth) gap_no_head (by (comment_next p ts (start depth)) refl)
   where
@@ -713,10 +784,11 @@ trees_come_back e file depth f h =
       none,
     ) [] tt in
     let fit : Fit ts want = subst (λ (x : List FlatToken). Fit x want) (append-nil ts) fits in
-    let c = come e file total total ts (start depth) began want h fit refl (as_long e 0 ts (start depth) h) in
-    let shown : chars text ≡ ahead 0 ts (start depth) = chars_left e 0 ts (start depth) h in
+    let c = come e file total total ts (start depth) began want false h.0 h.1 refl fit refl
+    (as_long e 0 ts (start depth) h.0) in
+    let shown : chars text ≡ ahead 0 ts (start depth) = chars_left e 0 ts (start depth) h.0 in
     let begun : after_head (Rust e) total (chars text) ≡ ahead 0 ts (start depth) =
-    ap (after_head (Rust e) total) shown ∙ head_gone e total (ahead 0 ts (start depth)) (no_head e ts depth h) in
+    ap (after_head (Rust e) total) shown ∙ head_gone e total (ahead 0 ts (start depth)) (no_head e ts depth h.0) in
     let read : levels_at_end (Rust e) file text ≡ Ok c.levels_at_end =
     ap (λ (x : List ℕ). levels_of (Rust e) file total total began x) begun ∙ c.read in
     let all : made ts want ≡ put (bare f) want = ap (λ (x : List FlatToken). made x want) (sym (append-nil ts))

@@ -1,5 +1,5 @@
 -- A char or a byte that is read by itself is read before whatever doesn't go on with its suffix.
-use Rattle.std.proofs.Common.{◌≡◌, ℕ, ◌==◌, not, ◌&&◌, ◌||◌, if◌then◌else◌, Bool, true, false, List, [], ◌∷◌, ◌++◌, drop, refl, sym, ap, ◌∙◌, arith, codes, Option, Some, None, Ok, Err, append_assoc, encode_utf8_all, chars}
+use Rattle.std.proofs.Common.{◌≡◌, ℕ, ◌⊎◌, inl, inr, ◌==◌, not, ◌&&◌, ◌||◌, if◌then◌else◌, Bool, true, false, List, [], ◌∷◌, ◌++◌, drop, refl, sym, ap, ◌∙◌, arith, codes, Option, Some, None, Ok, Err, encode_utf8_all, chars}
 use Rattle.std.specs.Char.{char_set_contains, is_ascii_digit}
 use Rattle.unicode_ident.proofs.Computing.{unicode_ident}
 use Rattle.mbe_tt.specs.Trees.Leaf.{Literal}
@@ -19,7 +19,7 @@ use Rattle.mbe_text.specs.Words.{past_word}
 use Rattle.mbe_text_laws.specs.Back.{CharsAreRead, is_char}
 use Rattle.mbe_text_laws.specs.Rust.{is_start, continues_word, begins_literal, IsReadBefore}
 use Rattle.mbe_text_laws.proofs.StepLemmas.{bytes_front}
-use Rattle.mbe_text_laws.proofs.QuoteLemmas.{Found, found_more, front_of, literal_on, token_of, Extends, extends, one_char, two_chars, letter_begins, b_is_start, ended, dot_ended}
+use Rattle.mbe_text_laws.proofs.QuoteLemmas.{Found, found_more, same_char, Parts, parts_on, front_of, token_of, Extends, extends, one_char, two_chars, letter_begins, b_is_start, ended, dot_ended}
 
 -- ---- the quote that ends a char
 
@@ -31,18 +31,27 @@ no_more : (taken : Bool) → from_later_quote taken [] ≡ None
 no_more true = refl
 no_more false = refl
 
+stops_same : (c quote : ℕ) (own m more : List ℕ) → stops c (own ++ (quote ∷ m)) ≡ stops c (own ++ (quote ∷ more))
+stops_same c quote [] m more = refl
+stops_same c quote (o ∷ os) m more = refl
+
+later_step : (c : ℕ) (cs : List ℕ) → (c == 39) ≡ false → stops c cs ≡ false
+    → from_later_quote false (c ∷ cs) ≡ from_later_quote (c == 92) cs
+later_step c cs e s = rw (from_later_quote, e, s) refl
+
 quote_at : (b stop : Bool) (c : ℕ) (cs end : List ℕ) → (c == 39) ≡ b → stops c cs ≡ stop
-    → ((taken : Bool) → from_later_quote taken cs ≡ Some end → Found (from_later_quote taken) cs end)
-    → from_later_quote false (c ∷ cs) ≡ Some end → Found (from_later_quote false) (c ∷ cs) end
-quote_at true stop c cs end e s go h = record {
-  own = [];
-  quote = c;
-  more = cs;
-  ends = let w : from_later_quote false (c ∷ cs) ≡ Some (c ∷ cs) = rw (from_later_quote, e) refl in
-      let z : Some (c ∷ cs) ≡ Some end = sym w ∙ h in cc;
-  is = refl;
-  on = λ rest. rw (from_later_quote, e) refl;
-}
+    → ((taken : Bool) → from_later_quote taken cs ≡ Some end → Found 39 (from_later_quote taken) cs end)
+    → from_later_quote false (c ∷ cs) ≡ Some end → Found 39 (from_later_quote false) (c ∷ cs) end
+quote_at true stop c cs end e s go h =
+    let w : from_later_quote false (c ∷ cs) ≡ Some (c ∷ cs) = rw (from_later_quote, e) refl in
+    let z : c ∷ cs ≡ end = let y : Some (c ∷ cs) ≡ Some end = sym w ∙ h in cc in
+    let is : c ∷ cs ≡ 39 ∷ cs = ap (λ (x : ℕ). x ∷ cs) (same_char c 39 e) in record {
+      own = [];
+      more = cs;
+      ends = sym z ∙ is;
+      is = is;
+      at = λ m. refl;
+    }
 quote_at false true c cs end e s go h =
     absurd (let w : from_later_quote false (c ∷ cs) ≡ None = rw (from_later_quote, e, s) refl in
     let z : None ≡ Some end = sym w ∙ h in cc)
@@ -51,41 +60,67 @@ quote_at false false c [] end e s go h =
     (from_later_quote, e, s) refl in
     let z : None ≡ Some end = sym (w ∙ no_more (c == 92)) ∙ h in cc)
 quote_at false false c (d ∷ ds) end e s go h =
-    let w : from_later_quote false (c ∷ (d ∷ ds)) ≡ from_later_quote (c == 92) (d ∷ ds) =
-    rw (from_later_quote, e, s) refl in
-    found_more (from_later_quote false) (from_later_quote (c == 92)) c (d ∷ ds) end
-    (λ rest. rw (from_later_quote, e, s) refl) (go (c == 92) (sym w ∙ h))
+    let f = go (c == 92) (sym (later_step c (d ∷ ds) e s) ∙ h) in
+    found_more 39 (from_later_quote false) (from_later_quote (c == 92)) c (d ∷ ds) end f
+    (λ m. later_step c (f.own ++ (39 ∷ m)) e (stops_same c 39 f.own m f.more ∙ (ap (stops c) (sym f.is) ∙ s)))
 
 later_found : (cs end : List ℕ) (taken : Bool) → from_later_quote taken cs ≡ Some end
-    → Found (from_later_quote taken) cs end
+    → Found 39 (from_later_quote taken) cs end
 later_found [] end true h = absurd (cc)
 later_found [] end false h = absurd (cc)
 later_found (c ∷ cs) end true h =
-    found_more (from_later_quote true) (from_later_quote false) c cs end (λ rest. refl) (later_found cs end false h)
+    found_more 39 (from_later_quote true) (from_later_quote false) c cs end (later_found cs end false h) (λ m. refl)
 later_found (c ∷ cs) end false h = quote_at (c == 39) (stops c cs) c cs end refl refl (later_found cs end) h
 
-char_found : (c d : ℕ) (ds end : List ℕ) (b : Bool) → (not (c == 92) && (d == 39 && true)) ≡ b
-    → from_char_end (c ∷ (d ∷ ds)) ≡ Some end → Found from_char_end (c ∷ (d ∷ ds)) end
-char_found c d ds end true e h = record {
-  own = c ∷ [];
-  quote = d;
-  more = ds;
-  ends = let w : from_char_end (c ∷ (d ∷ ds)) ≡ Some (d ∷ ds) = rw (from_char_end, e) refl in
-      let z : Some (d ∷ ds) ≡ Some end = sym w ∙ h in cc;
-  is = refl;
-  on = λ rest. rw (from_char_end, e) refl;
-}
+-- a char of one character ends there
+abbrev closes : List ℕ → Bool
+closes [] = false
+closes (c ∷ cs) = not (c == 92) && begins_with (codes "'") cs
+
+first_same : (c quote : ℕ) (own m more : List ℕ)
+    → begins_with (c ∷ []) (own ++ (quote ∷ m)) ≡ begins_with (c ∷ []) (own ++ (quote ∷ more))
+first_same c quote [] m more = refl
+first_same c quote (o ∷ os) m more = refl
+
+-- where a longer one ends, or one of no character
+later_end : (own more cs end : List ℕ) → end ≡ 39 ∷ more → cs ≡ own ++ (39 ∷ more)
+    → ((m : List ℕ) → from_later_quote false (own ++ (39 ∷ m)) ≡ Some (39 ∷ m)) → closes cs ≡ false
+    → (end ≡ cs) ⊎ Found 39 from_char_end cs end
+later_end [] more cs end e i a n = inl (e ∙ sym i)
+later_end (o ∷ os) more cs end e i a n = inr (record {
+  own = o ∷ os;
+  more = more;
+  ends = e;
+  is = i;
+  at = λ m. let no : closes (o ∷ (os ++ (39 ∷ m))) ≡ false =
+      ap (λ (b : Bool). not (o == 92) && b) (first_same 39 39 os m more) ∙ (ap closes (sym i) ∙ n) in
+      let w : from_char_end (o ∷ (os ++ (39 ∷ m))) ≡ from_later_quote false (o ∷ (os ++ (39 ∷ m))) =
+      rw (from_char_end, no) refl in w ∙ a m;
+})
+
+char_found : (c d : ℕ) (ds end : List ℕ) (b : Bool) → closes (c ∷ (d ∷ ds)) ≡ b
+    → from_char_end (c ∷ (d ∷ ds)) ≡ Some end
+    → (end ≡ c ∷ (d ∷ ds)) ⊎ Found 39 from_char_end (c ∷ (d ∷ ds)) end
+char_found c d ds end true e h =
+    let w : from_char_end (c ∷ (d ∷ ds)) ≡ Some (d ∷ ds) = rw (from_char_end, e) refl in
+    let z : d ∷ ds ≡ end = let y : Some (d ∷ ds) ≡ Some end = sym w ∙ h in cc in
+    let is39 : d ≡ 39 = same_char d 39 (last_of (not (c == 92)) (d == 39) e) in
+    let plain : closes (c ∷ (39 ∷ [])) ≡ true = ap (λ (x : ℕ). closes (c ∷ (x ∷ []))) (sym is39) ∙ e in inr (record {
+      own = c ∷ [];
+      more = ds;
+      ends = sym z ∙ ap (λ (x : ℕ). x ∷ ds) is39;
+      is = ap (λ (x : ℕ). c ∷ (x ∷ ds)) is39;
+      at = λ m. rw (from_char_end, plain) refl;
+    })
+  where
+    last_of : (a b : Bool) → (a && (b && true)) ≡ true → b ≡ true
+    last_of true true k = refl
+    last_of true false k = absurd (cc)
+    last_of false b k = absurd (cc)
 char_found c d ds end false e h =
     let w : from_char_end (c ∷ (d ∷ ds)) ≡ from_later_quote false (c ∷ (d ∷ ds)) = rw (from_char_end, e) refl in
-    let f = later_found (c ∷ (d ∷ ds)) end false (sym w ∙ h) in record {
-      own = f.own;
-      quote = f.quote;
-      more = f.more;
-      ends = f.ends;
-      is = f.is;
-      on = λ rest. let v : from_char_end (c ∷ (d ∷ (ds ++ rest))) ≡ from_later_quote false (c ∷ (d ∷ (ds ++ rest))) =
-          rw (from_char_end, e) refl in v ∙ f.on rest;
-    }
+    let f = later_found (c ∷ (d ∷ ds)) end false (sym w ∙ h) in
+    later_end f.own f.more (c ∷ (d ∷ ds)) end f.ends f.is f.at e
 
 -- ---- the char
 
@@ -120,34 +155,54 @@ unended : (kind : LitKind) (q : _) (from : List ℕ) (c : ℕ) (cs : List ℕ) �
     → char kind q from (c ∷ cs) ≡ Err (open_char q, c ∷ cs)
 unended kind q from c cs e = rw (char, e) refl
 
-char_at : (kind : LitKind) (q : _) (from other : List ℕ) (x c d : ℕ) (ds rest : List ℕ) (shape : Shape)
+-- where the quote is the first character, there is none
+no_char : (kind : LitKind) (q : _) (from : List ℕ) (c : ℕ) (cs : List ℕ) (r : Shape × List ℕ)
+    → char_until kind q from (c ∷ cs) (c ∷ cs) ≡ Ok r → ⊥
+no_char kind q from c cs r h =
+    let fault : Token = Err (within (c ∷ cs) (wrong.EmptyChar, [])) in
+    let w : char_until kind q from (c ∷ cs) (c ∷ cs) ≡ fault = until_is kind q from [] c cs in
+    let z : fault ≡ Ok r = sym w ∙ h in absurd (cc)
+
+char_parts_at : (kind : LitKind) (q : _) (from : List ℕ) (x c d : ℕ) (ds : List ℕ) (r : Shape × List ℕ)
     (o : Option (List ℕ)) → from_char_end (c ∷ (d ∷ ds)) ≡ o
-    → char kind q from (x ∷ (c ∷ (d ∷ ds))) ≡ Ok (shape, []) → continues_word rest ≡ false
-    → char kind q other (x ∷ (c ∷ (d ∷ (ds ++ rest)))) ≡ Ok (shape, rest)
-char_at kind q from other x c d ds rest shape None e h k =
-    absurd (let z : Err (open_char q, x ∷ (c ∷ (d ∷ ds))) ≡ Ok (shape, []) =
+    → char kind q from (x ∷ (c ∷ (d ∷ ds))) ≡ Ok r
+    → Parts (λ other y. char kind q other (x ∷ y)) (39 ∷ []) kind (c ∷ (d ∷ ds)) r
+char_parts_at kind q from x c d ds r None e h =
+    absurd (let z : Err (open_char q, x ∷ (c ∷ (d ∷ ds))) ≡ Ok r =
     sym (unended kind q from x (c ∷ (d ∷ ds)) e) ∙ h in cc)
-char_at kind q from other x c d ds rest shape (Some end) e h k =
-    let cs : List ℕ = c ∷ (d ∷ ds) in
-    let f = char_found c d ds end (not (c == 92) && (d == 39 && true)) refl e in
-    let before : char kind q from (x ∷ cs) ≡ char_until kind q from cs end = rw (char, e) refl in
-    let ends : char_until kind q from cs end
-    ≡ char_until kind q from (f.own ++ (f.quote ∷ f.more)) (f.quote ∷ f.more) =
-    ap (char_until kind q from cs) f.ends
-    ∙ ap (λ (y : List ℕ). char_until kind q from y (f.quote ∷ f.more)) f.is in
-    let was : one_checked (check_char q f.own) (f.quote ∷ f.more) from (literal kind (encode_utf8_all f.own) f.more)
-    ≡ Ok (shape, []) = sym (before ∙ (ends ∙ until_is kind q from f.own f.quote f.more)) ∙ h in
-    let is = one_is (check_char q f.own) (f.quote ∷ f.more) from (literal kind (encode_utf8_all f.own) f.more)
-    (shape, []) was in
-    let on : from_char_end (cs ++ rest) ≡ Some (f.quote ∷ (f.more ++ rest)) = f.on rest in
-    let after : char kind q other (x ∷ (cs ++ rest))
-    ≡ char_until kind q other (cs ++ rest) (f.quote ∷ (f.more ++ rest)) = rw (char, on) refl in
-    let whole : cs ++ rest ≡ f.own ++ (f.quote ∷ (f.more ++ rest)) =
-    ap (λ (y : List ℕ). y ++ rest) f.is ∙ append_assoc f.own (f.quote ∷ f.more) rest in
-    after ∙ (ap (λ (y : List ℕ). char_until kind q other y (f.quote ∷ (f.more ++ rest))) whole
-    ∙ (until_is kind q other f.own f.quote (f.more ++ rest)
-    ∙ (is.1 (f.quote ∷ (f.more ++ rest)) other (literal kind (encode_utf8_all f.own) (f.more ++ rest))
-    ∙ literal_on kind (encode_utf8_all f.own) f.more rest shape is.0 k)))
+char_parts_at kind q from x c d ds r (Some end) e h =
+    by (char_found c d ds end (closes (c ∷ (d ∷ ds))) refl e)
+  where
+    cs : List ℕ
+    cs = c ∷ (d ∷ ds)
+
+    before : char kind q from (x ∷ (c ∷ (d ∷ ds))) ≡ char_until kind q from (c ∷ (d ∷ ds)) end
+    before = rw (char, e) refl
+
+    by : (end ≡ c ∷ (d ∷ ds)) ⊎ Found 39 from_char_end (c ∷ (d ∷ ds)) end
+        → Parts (λ other y. char kind q other (x ∷ y)) (39 ∷ []) kind (c ∷ (d ∷ ds)) r
+    by (inl all) =
+        absurd (no_char kind q from c (d ∷ ds) r
+        (sym (before ∙ ap (char_until kind q from (c ∷ (d ∷ ds))) all) ∙ h))
+    by (inr f) =
+        let ends : char_until kind q from (c ∷ (d ∷ ds)) end
+        ≡ char_until kind q from (f.own ++ (39 ∷ f.more)) (39 ∷ f.more) =
+        ap (char_until kind q from (c ∷ (d ∷ ds))) f.ends
+        ∙ ap (λ (y : List ℕ). char_until kind q from y (39 ∷ f.more)) f.is in
+        let was : one_checked (check_char q f.own) (39 ∷ f.more) from (literal kind (encode_utf8_all f.own) f.more)
+        ≡ Ok r = sym (before ∙ (ends ∙ until_is kind q from f.own 39 f.more)) ∙ h in
+        let is = one_is (check_char q f.own) (39 ∷ f.more) from (literal kind (encode_utf8_all f.own) f.more) r was in
+        record {
+          body = f.own;
+          more = f.more;
+          is = f.is;
+          at = λ other m. let on = f.at m in
+              let after : char kind q other (x ∷ (f.own ++ (39 ∷ m)))
+              ≡ char_until kind q other (f.own ++ (39 ∷ m)) (39 ∷ m) = rw (char, on) refl in
+              after ∙ (until_is kind q other f.own 39 m
+              ∙ is.1 (39 ∷ m) other (literal kind (encode_utf8_all f.own) m));
+          was = is.0;
+        }
 
 -- `''` is no char
 and_no : (b : Bool) → (b && false) ≡ false
@@ -167,7 +222,7 @@ single_end c end false false e s h =
     (from_later_quote, e, s) refl in
     let z : None ≡ Some end = sym (w ∙ no_more (c == 92)) ∙ h in cc)
 
-single_at : (kind : LitKind) (q : _) (from : List ℕ) (x c : ℕ) (r : Shape × List ℕ) (o : Option (List ℕ))
+pub single_at : (kind : LitKind) (q : _) (from : List ℕ) (x c : ℕ) (r : Shape × List ℕ) (o : Option (List ℕ))
     → from_char_end (c ∷ []) ≡ o → char kind q from (x ∷ (c ∷ [])) ≡ Ok r → ⊥
 single_at kind q from x c r None e h =
     let fault : Token = Err (open_char q, x ∷ (c ∷ [])) in
@@ -182,14 +237,19 @@ single_at kind q from x c r (Some end) e h =
     let fault : Token = Err (wrong.EmptyChar, c ∷ []) in
     let z : fault ≡ Ok r = sym (before ∙ (ap (char_until kind q from (c ∷ [])) is ∙ fails)) ∙ h in absurd (cc)
 
+pub char_parts : (kind : LitKind) (q : _) (from : List ℕ) (x : ℕ) (cs : List ℕ) (r : Shape × List ℕ)
+    → char kind q from (x ∷ cs) ≡ Ok r → Parts (λ other y. char kind q other (x ∷ y)) (39 ∷ []) kind cs r
+char_parts kind q from x [] r h = absurd (cc)
+char_parts kind q from x (c ∷ []) r h = absurd (single_at kind q from x c r (from_char_end (c ∷ [])) refl h)
+char_parts kind q from x (c ∷ (d ∷ ds)) r h =
+    char_parts_at kind q from x c d ds r (from_char_end (c ∷ (d ∷ ds))) refl h
+
 char_on : (kind : LitKind) (q : _) (from other : List ℕ) (x : ℕ) (cs rest : List ℕ) (shape : Shape)
     → char kind q from (x ∷ cs) ≡ Ok (shape, []) → continues_word rest ≡ false
     → char kind q other (x ∷ (cs ++ rest)) ≡ Ok (shape, rest)
-char_on kind q from other x [] rest shape h k = absurd (cc)
-char_on kind q from other x (c ∷ []) rest shape h k =
-    absurd (single_at kind q from x c (shape, []) (from_char_end (c ∷ [])) refl h)
-char_on kind q from other x (c ∷ (d ∷ ds)) rest shape h k =
-    char_at kind q from other x c d ds rest shape (from_char_end (c ∷ (d ∷ ds))) refl h k
+char_on kind q from other x cs rest shape h k =
+    parts_on (λ o y. char kind q o (x ∷ y)) (39 ∷ []) kind cs rest shape
+    (char_parts kind q from x cs (shape, []) h) other k
 
 -- ---- what a char begins with
 

@@ -16,37 +16,16 @@ use Rattle.mbe_tt.specs.declared.tt.LitKind.TheVariants.{StrRaw}
 use Rattle.mbe_tt.specs.Trees.Leaf.{Ident, Literal, literal, punct, ident}
 use Rattle.mbe_tt.specs.Trees.Tree.{Forest, none, leaf, group, FlatToken, token, opening, closing, flat, flat_len}
 use Rattle.mbe_rust_text.specs.Gaps.{is_joint, may_precede_comment}
-use Rattle.mbe_rust_text.specs.Comments.{Comment, is_line, is_plain, is_raw_string, is_setting, comment_set, comment_inside, is_bracket, in_brackets, after_hash, after_punct, more_trees}
+use Rattle.mbe_rust_text.specs.Comments.{Comment, is_line, is_plain, is_raw_string, is_setting, comment_inside, is_bracket, in_brackets, after_hash, after_punct, more_trees}
 use Rattle.mbe_rust_text.specs.Writing.{State, next_comment}
 use Rattle.mbe_text.specs.Tokens.{most_guards}
-use Rattle.mbe_text_laws.specs.Rust.{next_place}
+use Rattle.mbe_text_laws.specs.Rust.{next_place, set_flat, brackets_flat, hash_flat, punct_flat, more_tokens}
 
 -- ---- a comment at the front of flat tokens
-
-abbrev pub set_flat : Bool → List FlatToken → Option Comment
-set_flat b (token (ident i) ∷ (token (punct q) ∷ (token (literal l) ∷ (closing e ∷ ts)))) = comment_set b i q l
-set_flat b _ = None
-
-abbrev pub brackets_flat : Bool → List FlatToken → Option Comment
-brackets_flat b (opening d ∷ ts) = if is_bracket d.kind then set_flat b ts else None
-brackets_flat b _ = None
-
-abbrev pub hash_flat : List FlatToken → Option Comment
-hash_flat (token (punct q) ∷ ts) = if q.char == 33 && not (is_joint q.spacing) then brackets_flat true ts else None
-hash_flat _ = None
-
-abbrev pub punct_flat : Punct → List FlatToken → Option Comment
-punct_flat p ts = if not (p.char == 35) then None else if is_joint p.spacing then hash_flat ts else brackets_flat
-    false ts
 
 -- the comment that begins with this punct, after what was written
 abbrev pub comment_next : Punct → List FlatToken → State → Option Comment
 comment_next p ts s = if may_precede_comment s.last then punct_flat p ts else None
-
--- how many tokens it is, after the first
-abbrev pub more_tokens : Bool → ℕ
-more_tokens false = 5
-more_tokens true = 6
 
 -- ---- it is the comment at the front of trees
 

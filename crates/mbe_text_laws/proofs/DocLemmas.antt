@@ -191,7 +191,7 @@ after_hashes : (n : ℕ) (bytes : List ℕ) → IsUtf8 (replicate n 35 ++ bytes)
 after_hashes zero bytes u = u
 after_hashes (suc n) bytes u = after_hashes n bytes (after_one 35 (replicate n 35 ++ bytes) (omega arith) u)
 
-hashes_utf8 : (n : ℕ) → IsUtf8 (replicate n 35)
+pub hashes_utf8 : (n : ℕ) → IsUtf8 (replicate n 35)
 hashes_utf8 zero = IsUtf8-nil
 hashes_utf8 (suc n) = IsUtf8-append (35 ∷ []) (replicate n 35) (ascii_utf8 35 (omega arith)) (hashes_utf8 n)
 
@@ -213,7 +213,7 @@ raw_utf8_of n text u =
     (hashes_utf8 n)) in
     before_utf8 text (close ++ []) three end
 
-raw_written : (l : Literal) (n : ℕ) → l.suffix_len ≡ 0 → l.kind ≡ StrRaw n
+pub raw_written : (l : Literal) (n : ℕ) → l.suffix_len ≡ 0 → l.kind ≡ StrRaw n
     → marks.literal_output l ≡ marks.opening (StrRaw n) ++ (l.text_and_suffix ++ (marks.closing (StrRaw n) ++ []))
 raw_written l n s k =
     ap (λ (x : List ℕ). marks.literal_output (record l { text_and_suffix = x })) (sym (append-nil l.text_and_suffix))

@@ -22,9 +22,9 @@ use Rattle.mbe_tt.specs.declared.span.Span.{Span}
 use Rattle.mbe_text.specs.Characters.{begins_with}
 use Rattle.mbe_text.specs.Tokens.{opening_text, closing_text}
 use Rattle.mbe_text_laws.specs.Gaps.{before, is_punct}
-use Rattle.mbe_text_laws.specs.Rust.{next_place, AreRust, IsWord, IsIdent, IsSign, IsPunct, is_start, begins_word, begins_literal}
+use Rattle.mbe_text_laws.specs.Rust.{next_place, more_tokens, AreRust, IsWord, IsIdent, IsSign, IsPunct, is_start, begins_word, begins_literal}
 use Rattle.mbe_text_laws.proofs.EndLemmas.{begins_gap, ends_word, ends_punct, gap_ends_word, punct_not_continue, punct_not_start, punct_small, r_is_start, is_not, quotes_not_start}
-use Rattle.mbe_text_laws.proofs.CommentLemmas.{comment_next, more_tokens}
+use Rattle.mbe_text_laws.proofs.CommentLemmas.{comment_next}
 use Rattle.mbe_text_laws.proofs.TextLemmas.{after, ahead, next_written, token_or_comment, the_gap, gap_of, ascii_utf8, ascii_chars, word_text}
 
 -- ---- what a token begins with
@@ -361,7 +361,7 @@ alone_ends e c (token (ident i) ∷ ts) s w h =
 alone_ends e c (token (literal l) ∷ ts) s w h =
     follows (ends_alone c) (token (literal l)) ts s (gap_ends_alone c) (λ k.
     alone_before_literal c (c == 35) s (chars (literal_output l)) (ahead 0 ts (after (token (literal l)) ts s))
-    (is_beside s.place l.span) refl w h.0.0.front k)
+    (is_beside s.place l.span) refl w h.0.0.1 k)
 alone_ends e c (token (punct p) ∷ ts) s w h =
     follows_punct (ends_alone c) p ts s (gap_ends_alone c) w.begun (λ k.
     alone_before_punct e c s p ts (ahead 0 ts (after (token (punct p)) ts s)) (is_same_place s.place p.span)

@@ -46,10 +46,10 @@ letter_continues d h =
 
 -- A number's base is written as that of a text that begins with it: `0b`, `0o`, `0x`, or nothing.
 
-abbrev has_ten : List ℕ → Bool
+abbrev pub has_ten : List ℕ → Bool
 has_ten cs = has_digit (base_of []).0 cs
 
-abbrev past_ten : List ℕ → List ℕ
+abbrev pub past_ten : List ℕ → List ℕ
 past_ten cs = past (digit_of (base_of []).0) cs
 
 abbrev begins_exponent : List ℕ → Bool
@@ -134,12 +134,12 @@ past_if : (b : Bool) (k : _) (d : ℕ) (ds rest : List ℕ) → past k (ds ++ re
 past_if true k d ds rest h = h
 past_if false k d ds rest h = refl
 
-past_on : (k : _) (ds rest : List ℕ) → begins k rest ≡ false → past k (ds ++ rest) ≡ past k ds ++ rest
+pub past_on : (k : _) (ds rest : List ℕ) → begins k rest ≡ false → past k (ds ++ rest) ≡ past k ds ++ rest
 past_on k [] [] h = refl
 past_on k [] (c ∷ cs) h = rw h refl
 past_on k (d ∷ ds) rest h = past_if (has k d) k d ds rest (past_on k ds rest h)
 
-has_digit_on : (base : _) (ds rest : List ℕ) → has_digit base rest ≡ false
+pub has_digit_on : (base : _) (ds rest : List ℕ) → has_digit base rest ≡ false
     → has_digit base (ds ++ rest) ≡ has_digit base ds
 has_digit_on base [] rest h = h
 has_digit_on base (d ∷ ds) rest h =
@@ -166,7 +166,7 @@ abbrev more : List ℕ → Option (List ℕ) → Option (List ℕ)
 more rest None = None
 more rest (Some cs) = Some (cs ++ rest)
 
-abbrev Passed : Type 0
+abbrev pub Passed : Type 0
 Passed = Result (Option (List ℕ)) At
 
 ok_same : (x y : Option (List ℕ)) → (let a : Passed = Ok x in a) ≡ Ok y → x ≡ y
@@ -177,11 +177,11 @@ to_more : (x y : Option (List ℕ)) (rest : List ℕ) (p : Passed) → p ≡ Ok 
     → p ≡ Ok (more rest y)
 to_more x y rest p h k = h ∙ ap (λ (z : Option (List ℕ)). Ok (more rest z)) (ok_same x y k)
 
-no_exponent : (other rest : List ℕ) → begins_exponent rest ≡ false → past_exponent other rest ≡ Ok None
+pub no_exponent : (other rest : List ℕ) → begins_exponent rest ≡ false → past_exponent other rest ≡ Ok None
 no_exponent other [] h = refl
 no_exponent other (c ∷ cs) h = rw (past_exponent, h) refl
 
-abbrev past_sign : List ℕ → List ℕ
+abbrev pub past_sign : List ℕ → List ℕ
 past_sign [] = []
 past_sign (d ∷ ds) = unwrap_or (if char_set_contains (codes "+-") d then Some ds else None) (d ∷ ds)
 
@@ -191,7 +191,7 @@ sign_if : (b : Bool) (d : ℕ) (ds rest : List ℕ)
 sign_if true d ds rest = refl
 sign_if false d ds rest = refl
 
-abbrev signed : Bool → List ℕ → List ℕ → Passed
+abbrev pub signed : Bool → List ℕ → List ℕ → Passed
 signed b from digits = if b then Ok (Some (past_ten digits)) else Err (wrong.Exponent, from)
 
 signed_on : (from other digits rest : List ℕ) (o : Option (List ℕ)) (b : Bool) → has_ten digits ≡ b → Ends rest
@@ -253,7 +253,7 @@ NoFraction rest = (from : List ℕ) → past_fraction from rest ≡ Ok None
 abbrev IsPoint : List ℕ → Type 0
 IsPoint rest = (from : List ℕ) → past_fraction from (46 ∷ rest) ≡ Ok (Some rest)
 
-no_point : (from : List ℕ) (c : ℕ) (cs : List ℕ) → (c == 46) ≡ false
+pub no_point : (from : List ℕ) (c : ℕ) (cs : List ℕ) → (c == 46) ≡ false
     → past_fraction from (c ∷ cs) ≡ past_exponent from (c ∷ cs)
 no_point from c cs h = rw h refl
 
@@ -342,7 +342,7 @@ float_on base cs end rest shape true e k h =
     ∙ literal_on kinds.Float (bytes_before cs end) end rest shape (sym was ∙ h) k)
 
 -- a number whose fraction and exponent are passed
-abbrev finish : Token → (List ℕ → Token) → Passed → Token
+abbrev pub finish : Token → (List ℕ → Token) → Passed → Token
 finish integer float (Err at) = Err at
 finish integer float (Ok None) = integer
 finish integer float (Ok (Some end)) = float end
@@ -355,7 +355,7 @@ finish_on base cs digits r rest shape None n k h =
     integer_on base cs digits r rest shape (large_digit base digits) refl n k h
 finish_on base cs digits r rest shape (Some end) n k h = float_on base cs end rest shape (is_ten base) refl k h
 
-number_is : (base : _) (cs : List ℕ) (d : ℕ) (ds : List ℕ) (f : Passed) → has_digit base (d ∷ ds) ≡ true
+pub number_is : (base : _) (cs : List ℕ) (d : ℕ) (ds : List ℕ) (f : Passed) → has_digit base (d ∷ ds) ≡ true
     → past_fraction cs (past (digit_of base) ds) ≡ f
     → number_of base cs (d ∷ ds)
     ≡ finish (integer base cs (d ∷ ds) (past (digit_of base) ds)) (float base cs) f
@@ -379,7 +379,7 @@ last_past k [] h = absurd (cc)
 last_past k (d ∷ ds) h = last_if (has k d) k d ds refl (last_past k ds) h
 
 -- an integer without a suffix
-abbrev is_bare : Shape → Bool
+abbrev pub is_bare : Shape → Bool
 is_bare (literal_of text suffix n kind) = is_bare_integer kind n
 is_bare (identifier name raw) = false
 is_bare (punct_of c sp) = false
@@ -455,7 +455,7 @@ and_no false = refl
 number_same : (a b : _) (cs xs ys : List ℕ) → a ≡ b → xs ≡ ys → number_of a cs xs ≡ number_of b cs ys
 number_same a b cs xs ys e f = ap (λ k. number_of k cs xs) e ∙ ap (number_of b cs) f
 
-number_one : (c : ℕ) → number (c ∷ []) ≡ number_of (base_of []).0 (c ∷ []) (c ∷ [])
+pub number_one : (c : ℕ) → number (c ∷ []) ≡ number_of (base_of []).0 (c ∷ []) (c ∷ [])
 number_one c =
     number_same (base_of (c ∷ [])).0 (base_of []).0 (c ∷ []) (base_of (c ∷ [])).1 (c ∷ [])
     (rw (base_of, and_no (c == 48)) refl) (rw (base_of, and_no (c == 48)) refl)
@@ -466,34 +466,34 @@ number_before_one c rest n =
     number_same (base_of (c ∷ rest)).0 (base_of []).0 (c ∷ rest) (base_of (c ∷ rest)).1 (c ∷ rest)
     (rw (base_of, n.b, n.o, n.x, and_no (c == 48)) refl) (rw (base_of, n.b, n.o, n.x, and_no (c == 48)) refl)
 
-abbrev is_two : ℕ → ℕ → Bool
+abbrev pub is_two : ℕ → ℕ → Bool
 is_two c d = c == 48 && (d == 98 && true)
 
-abbrev is_eight : ℕ → ℕ → Bool
+abbrev pub is_eight : ℕ → ℕ → Bool
 is_eight c d = c == 48 && (d == 111 && true)
 
-abbrev is_sixteen : ℕ → ℕ → Bool
+abbrev pub is_sixteen : ℕ → ℕ → Bool
 is_sixteen c d = c == 48 && (d == 120 && true)
 
-in_two : (c d : ℕ) (ds : List ℕ) → is_two c d ≡ true
+pub in_two : (c d : ℕ) (ds : List ℕ) → is_two c d ≡ true
     → number (c ∷ (d ∷ ds)) ≡ number_of (base_of (codes "0b")).0 (c ∷ (d ∷ ds)) ds
 in_two c d ds i =
     number_same (base_of (c ∷ (d ∷ ds))).0 (base_of (codes "0b")).0 (c ∷ (d ∷ ds)) (base_of (c ∷ (d ∷ ds))).1 ds
     (rw (base_of, i) refl) (rw (base_of, i) refl)
 
-in_eight : (c d : ℕ) (ds : List ℕ) → is_two c d ≡ false → is_eight c d ≡ true
+pub in_eight : (c d : ℕ) (ds : List ℕ) → is_two c d ≡ false → is_eight c d ≡ true
     → number (c ∷ (d ∷ ds)) ≡ number_of (base_of (codes "0o")).0 (c ∷ (d ∷ ds)) ds
 in_eight c d ds i j =
     number_same (base_of (c ∷ (d ∷ ds))).0 (base_of (codes "0o")).0 (c ∷ (d ∷ ds)) (base_of (c ∷ (d ∷ ds))).1 ds
     (rw (base_of, i, j) refl) (rw (base_of, i, j) refl)
 
-in_sixteen : (c d : ℕ) (ds : List ℕ) → is_two c d ≡ false → is_eight c d ≡ false → is_sixteen c d ≡ true
+pub in_sixteen : (c d : ℕ) (ds : List ℕ) → is_two c d ≡ false → is_eight c d ≡ false → is_sixteen c d ≡ true
     → number (c ∷ (d ∷ ds)) ≡ number_of (base_of (codes "0x")).0 (c ∷ (d ∷ ds)) ds
 in_sixteen c d ds i j l =
     number_same (base_of (c ∷ (d ∷ ds))).0 (base_of (codes "0x")).0 (c ∷ (d ∷ ds)) (base_of (c ∷ (d ∷ ds))).1 ds
     (rw (base_of, i, j, l) refl) (rw (base_of, i, j, l) refl)
 
-in_ten : (c d : ℕ) (ds : List ℕ) → is_two c d ≡ false → is_eight c d ≡ false → is_sixteen c d ≡ false
+pub in_ten : (c d : ℕ) (ds : List ℕ) → is_two c d ≡ false → is_eight c d ≡ false → is_sixteen c d ≡ false
     → number (c ∷ (d ∷ ds)) ≡ number_of (base_of []).0 (c ∷ (d ∷ ds)) (c ∷ (d ∷ ds))
 in_ten c d ds i j l =
     number_same (base_of (c ∷ (d ∷ ds))).0 (base_of []).0 (c ∷ (d ∷ ds)) (base_of (c ∷ (d ∷ ds))).1 (c ∷ (d ∷ ds))
@@ -536,7 +536,7 @@ digit_not_start c h =
     let small : c < 128 = grind (arith, nat_tests, h) in
     let a = is_xid_start-ascii c small in grind (arith, nat_tests, a, h)
 
-digit_read : (e : Edition) (c : ℕ) (cs : List ℕ) → is_ascii_digit c ≡ true
+pub digit_read : (e : Edition) (c : ℕ) (cs : List ℕ) → is_ascii_digit c ≡ true
     → read_rust e (c ∷ cs) ≡ Some (number (c ∷ cs))
 digit_read e c cs h =
     let r : (c == 114) ≡ false = grind (arith, nat_tests, h) in

@@ -53,16 +53,16 @@ suffix_on [] (c ∷ cs) p h = rw (not_start_of c (is_start c) refl h) refl
 suffix_on (d ∷ ds) rest p h = suffix_of d ds rest (is_start d) refl p h
 
 -- a token where neither is wrong
-abbrev pick : Bool → Bool → At → Token → At → Token
+abbrev pub pick : Bool → Bool → At → Token → At → Token
 pick low fits x t y = if low then Err x else if fits then t else Err y
 
-picked : (low fits : Bool) (x y : At) (t : Token) (r : Shape × List ℕ) → pick low fits x t y ≡ Ok r
+pub picked : (low fits : Bool) (x y : At) (t : Token) (r : Shape × List ℕ) → pick low fits x t y ≡ Ok r
     → (low ≡ false) × (fits ≡ true) × (t ≡ Ok r)
 picked true fits x y t r h = absurd (cc)
 picked false true x y t r h = (refl, refl, h)
 picked false false x y t r h = absurd (cc)
 
-abbrev left_of : Token → List ℕ
+abbrev pub left_of : Token → List ℕ
 left_of (Ok r) = r.1
 left_of (Err at) = []
 
@@ -86,44 +86,74 @@ literal_on kind text ds rest shape h k =
     (append-nil ds)) ∙ bytes_front ds [])) in
     rw (literal, left, same, s.0, s.1) (ap (λ (x : Shape). Ok (x, rest)) shaped)
 
+-- ---- what is between quotes
+
+-- A text between quotes, whose second quote is that end, is the same literal before each suffix.
+pub record Parts (read : List ℕ → List ℕ → Token) (end : List ℕ) (kind : LitKind) (cs : List ℕ)
+    (r : Shape × List ℕ) : Type 0 where
+  pub body : List ℕ
+  pub more : List ℕ
+  pub is : cs ≡ body ++ (end ++ more)
+  pub at : (from m : List ℕ) → read from (body ++ (end ++ m)) ≡ literal kind (encode_utf8_all body) m
+  pub was : literal kind (encode_utf8_all body) more ≡ Ok r
+
+pub parts_on : (read : List ℕ → List ℕ → Token) (end : List ℕ) (kind : LitKind) (cs rest : List ℕ) (shape : Shape)
+    → Parts read end kind cs (shape, []) → (from : List ℕ) → continues_word rest ≡ false
+    → read from (cs ++ rest) ≡ Ok (shape, rest)
+parts_on read end kind cs rest shape p from k =
+    let whole : cs ++ rest ≡ p.body ++ (end ++ (p.more ++ rest)) =
+    ap (λ (x : List ℕ). x ++ rest) p.is ∙ (append_assoc p.body (end ++ p.more) rest
+    ∙ ap (λ (x : List ℕ). p.body ++ x) (append_assoc end p.more rest)) in
+    ap (read from) whole
+    ∙ (p.at from (p.more ++ rest) ∙ literal_on kind (encode_utf8_all p.body) p.more rest shape p.was k)
+
 -- ---- strings
 
--- the quote that ends a string is found in whatever follows it too
-pub record Found (find : List ℕ → Option (List ℕ)) (cs end : List ℕ) : Type 0 where
+-- The quote that ends a text is found before whatever follows it.
+pub record Found (quote : ℕ) (find : List ℕ → Option (List ℕ)) (cs end : List ℕ) : Type 0 where
   pub own : List ℕ
-  pub quote : ℕ
   pub more : List ℕ
   pub ends : end ≡ quote ∷ more
   pub is : cs ≡ own ++ (quote ∷ more)
-  pub on : (rest : List ℕ) → find (cs ++ rest) ≡ Some (quote ∷ (more ++ rest))
+  pub at : (m : List ℕ) → find (own ++ (quote ∷ m)) ≡ Some (quote ∷ m)
 
-pub found_more : (find later : List ℕ → Option (List ℕ)) (c : ℕ) (cs end : List ℕ) → ((rest : List ℕ)
-    → find (c ∷ (cs ++ rest)) ≡ later (cs ++ rest))
-    → Found later cs end → Found find (c ∷ cs) end
-found_more find later c cs end same f = record {
+pub found_more : (quote : ℕ) (find later : List ℕ → Option (List ℕ)) (c : ℕ) (cs end : List ℕ)
+    → (f : Found quote later cs end)
+    → ((m : List ℕ) → find (c ∷ (f.own ++ (quote ∷ m))) ≡ later (f.own ++ (quote ∷ m)))
+    → Found quote find (c ∷ cs) end
+found_more quote find later c cs end f same = record {
   own = c ∷ f.own;
-  quote = f.quote;
   more = f.more;
   ends = f.ends;
   is = ap (λ (x : List ℕ). c ∷ x) f.is;
-  on = λ rest. same rest ∙ f.on rest;
+  at = λ m. same m ∙ f.at m;
 }
+
+pub same_char : (c d : ℕ) → (c == d) ≡ true → c ≡ d
+same_char c d h = grind (arith, nat_tests, h)
 
 abbrev takes : ℕ → List ℕ → Bool
 takes c cs = c == 92 && (begins_with (codes "\\") cs || begins_with (codes "\"") cs)
 
+takes_same : (c quote : ℕ) (own m more : List ℕ) → takes c (own ++ (quote ∷ m)) ≡ takes c (own ++ (quote ∷ more))
+takes_same c quote [] m more = refl
+takes_same c quote (o ∷ os) m more = refl
+
 string_found_at : (b : Bool) (c : ℕ) (cs end : List ℕ) → (c == 34) ≡ b
-    → ((taken : Bool) → from_string_end taken cs ≡ Some end → Found (from_string_end taken) cs end)
-    → from_string_end false (c ∷ cs) ≡ Some end → Found (from_string_end false) (c ∷ cs) end
-string_found_at true c cs end e go h = record {
-  own = [];
-  quote = c;
-  more = cs;
-  ends = let z : Some (c ∷ cs) ≡ Some end = sym (ap (λ (b : Bool). if b then Some (c ∷ cs) else from_string_end
-      (takes c cs) cs) e) ∙ h in cc;
-  is = refl;
-  on = λ rest. rw e refl;
-}
+    → ((taken : Bool) → from_string_end taken cs ≡ Some end → Found 34 (from_string_end taken) cs end)
+    → from_string_end false (c ∷ cs) ≡ Some end → Found 34 (from_string_end false) (c ∷ cs) end
+string_found_at true c cs end e go h =
+    let is34 = same_char c 34 e in
+    let w : from_string_end false (c ∷ cs) ≡ Some (c ∷ cs) =
+    ap (λ (b : Bool). if b then Some (c ∷ cs) else from_string_end (takes c cs) cs) e in
+    let z : c ∷ cs ≡ end = let y : Some (c ∷ cs) ≡ Some end = sym w ∙ h in cc in
+    let is : c ∷ cs ≡ 34 ∷ cs = ap (λ (x : ℕ). x ∷ cs) is34 in record {
+      own = [];
+      more = cs;
+      ends = sym z ∙ is;
+      is = is;
+      at = λ m. refl;
+    }
 string_found_at false c [] end e go h =
     absurd (let z : None ≡ Some end = sym (ap (λ (b : Bool). if b then Some (c ∷ []) else from_string_end
     (takes c []) []) e ∙ no_more (takes c [])) ∙ h in cc)
@@ -132,16 +162,19 @@ string_found_at false c [] end e go h =
     no_more true = refl
     no_more false = refl
 string_found_at false c (d ∷ ds) end e go h =
-    found_more (from_string_end false) (from_string_end (takes c (d ∷ ds))) c (d ∷ ds) end (λ rest. rw e refl)
-    (go (takes c (d ∷ ds)) (sym (ap (λ (b : Bool). if b then Some (c ∷ (d ∷ ds)) else from_string_end (takes c
-    (d ∷ ds)) (d ∷ ds)) e) ∙ h))
+    let f = go (takes c (d ∷ ds)) (sym (ap (λ (b : Bool). if b then Some (c ∷ (d ∷ ds)) else from_string_end (takes c
+    (d ∷ ds)) (d ∷ ds)) e) ∙ h) in
+    found_more 34 (from_string_end false) (from_string_end (takes c (d ∷ ds))) c (d ∷ ds) end f
+    (λ m. let xs : List ℕ = f.own ++ (34 ∷ m) in
+    ap (λ (b : Bool). if b then Some (c ∷ xs) else from_string_end (takes c xs) xs) e
+    ∙ ap (λ (t : Bool). from_string_end t xs) (takes_same c 34 f.own m f.more ∙ ap (takes c) (sym f.is)))
 
 string_found : (cs end : List ℕ) (taken : Bool) → from_string_end taken cs ≡ Some end
-    → Found (from_string_end taken) cs end
+    → Found 34 (from_string_end taken) cs end
 string_found [] end true h = absurd (cc)
 string_found [] end false h = absurd (cc)
-string_found (c ∷ cs) end true h = found_more (from_string_end true) (from_string_end false) c cs end (λ rest. refl)
-    (string_found cs end false h)
+string_found (c ∷ cs) end true h =
+    found_more 34 (from_string_end true) (from_string_end false) c cs end (string_found cs end false h) (λ m. refl)
 string_found (c ∷ cs) end false h = string_found_at (c == 34) c cs end refl (string_found cs end) h
 
 -- what a check finds is the same, and then the literal
@@ -181,36 +214,37 @@ unended : (kind : LitKind) (q : _) (c : ℕ) (cs : List ℕ) → from_string_end
     → string kind q (c ∷ cs) ≡ Err (wrong.OpenString, c ∷ cs)
 unended kind q c cs e = rw (string, e) refl
 
-string_at : (kind : LitKind) (q : _) (c : ℕ) (cs rest : List ℕ) (shape : Shape) (o : Option (List ℕ))
-    → from_string_end false cs ≡ o
-    → string kind q (c ∷ cs) ≡ Ok (shape, []) → continues_word rest ≡ false
-    → string kind q (c ∷ (cs ++ rest)) ≡ Ok (shape, rest)
-string_at kind q c cs rest shape None e h k = absurd (let z : Err (wrong.OpenString, c ∷ cs) ≡ Ok (shape, []) = sym
-    (unended kind q c cs e) ∙ h in cc)
-string_at kind q c cs rest shape (Some end) e h k =
+pub string_parts : (kind : LitKind) (q : _) (c : ℕ) (cs : List ℕ) (r : Shape × List ℕ) (o : Option (List ℕ))
+    → from_string_end false cs ≡ o → string kind q (c ∷ cs) ≡ Ok r
+    → Parts (λ from y. string kind q (c ∷ y)) (34 ∷ []) kind cs r
+string_parts kind q c cs r None e h =
+    absurd (let z : Err (wrong.OpenString, c ∷ cs) ≡ Ok r = sym (unended kind q c cs e) ∙ h in cc)
+string_parts kind q c cs r (Some end) e h =
     let f = string_found cs end false e in
     let before : string kind q (c ∷ cs) ≡ string_until kind q cs end = rw (string, e) refl in
-    let ends : string_until kind q cs end ≡ string_until kind q (f.own ++ (f.quote ∷ f.more)) (f.quote ∷ f.more) =
-    ap (string_until kind q cs) f.ends ∙ ap (λ (x : List ℕ). string_until kind q x (f.quote ∷ f.more)) f.is in
-    let was : checked (check_string q 0 f.own) (f.quote ∷ f.more) (literal kind (encode_utf8_all f.own) f.more) ≡ Ok
-    (shape, []) =
-    sym (before ∙ (ends ∙ until_is kind q f.own f.quote f.more)) ∙ h in
-    let is = checked_is (check_string q 0 f.own) (f.quote ∷ f.more) (literal kind (encode_utf8_all f.own) f.more)
-    (shape, []) was in
-    let on : from_string_end false (cs ++ rest) ≡ Some (f.quote ∷ (f.more ++ rest)) = f.on rest in
-    let after : string kind q (c ∷ (cs ++ rest)) ≡ string_until kind q (cs ++ rest) (f.quote ∷
-    (f.more ++ rest)) = rw (string, on) refl in
-    let whole : cs ++ rest ≡ f.own ++ (f.quote ∷ (f.more ++ rest)) =
-    ap (λ (x : List ℕ). x ++ rest) f.is ∙ append_assoc f.own (f.quote ∷ f.more) rest in
-    after ∙ (ap (λ (x : List ℕ). string_until kind q x (f.quote ∷ (f.more ++ rest))) whole
-    ∙ (until_is kind q f.own f.quote (f.more ++ rest)
-    ∙ (is.1 (f.quote ∷ (f.more ++ rest)) (literal kind (encode_utf8_all f.own) (f.more ++ rest))
-    ∙ literal_on kind (encode_utf8_all f.own) f.more rest shape is.0 k)))
+    let ends : string_until kind q cs end ≡ string_until kind q (f.own ++ (34 ∷ f.more)) (34 ∷ f.more) =
+    ap (string_until kind q cs) f.ends ∙ ap (λ (x : List ℕ). string_until kind q x (34 ∷ f.more)) f.is in
+    let was : checked (check_string q 0 f.own) (34 ∷ f.more) (literal kind (encode_utf8_all f.own) f.more) ≡ Ok r =
+    sym (before ∙ (ends ∙ until_is kind q f.own 34 f.more)) ∙ h in
+    let is = checked_is (check_string q 0 f.own) (34 ∷ f.more) (literal kind (encode_utf8_all f.own) f.more) r was in
+    record {
+      body = f.own;
+      more = f.more;
+      is = f.is;
+      at = λ from m. let on = f.at m in
+          let after : string kind q (c ∷ (f.own ++ (34 ∷ m)))
+          ≡ string_until kind q (f.own ++ (34 ∷ m)) (34 ∷ m) = rw (string, on) refl in
+          after ∙ (until_is kind q f.own 34 m
+          ∙ is.1 (34 ∷ m) (literal kind (encode_utf8_all f.own) m));
+      was = is.0;
+    }
 
 pub string_on : (kind : LitKind) (q : _) (c : ℕ) (cs rest : List ℕ) (shape : Shape)
     → string kind q (c ∷ cs) ≡ Ok (shape, [])
     → continues_word rest ≡ false → string kind q (c ∷ (cs ++ rest)) ≡ Ok (shape, rest)
-string_on kind q c cs rest shape h k = string_at kind q c cs rest shape (from_string_end false cs) refl h k
+string_on kind q c cs rest shape h k =
+    parts_on (λ from y. string kind q (c ∷ y)) (34 ∷ []) kind cs rest shape
+    (string_parts kind q c cs (shape, []) (from_string_end false cs) refl h) [] k
 
 -- ---- what a string begins with
 

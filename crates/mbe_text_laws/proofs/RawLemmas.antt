@@ -1,8 +1,7 @@
 -- A raw string that is read by itself is read before whatever doesn't go on with its suffix.
-use Rattle.std.proofs.Common.{◌≡◌, ℕ, zero, suc, ◌==◌, ◌+◌, ◌≤◌, ◌&&◌, if◌then◌else◌, Bool, true, false, List, [], ◌∷◌, ◌++◌, length, drop, refl, sym, ap, ◌∙◌, arith, codes, Option, Some, None, Ok, Err, append_assoc, encode_utf8_all, chars}
+use Rattle.std.proofs.Common.{◌≡◌, ℕ, zero, suc, ◌==◌, ◌+◌, ◌&&◌, if◌then◌else◌, Bool, true, false, List, [], ◌∷◌, ◌++◌, length, drop, refl, sym, ap, ◌∙◌, arith, codes, Option, Some, None, Ok, Err, append_assoc, encode_utf8_all, chars}
 use Rattle.std.specs.Prelude.{nat_le, replicate}
-use Rattle.std.proofs.lemmas.Bool.Decides.{nat_tests}
-use Rattle.std.proofs.lemmas.List.{drop-append-le}
+use Rattle.std.proofs.Math.Seq.{drop-append_seam}
 use Rattle.std.proofs.lemmas.Str.{encode_ascii}
 use Rattle.unicode_ident.proofs.Computing.{unicode_ident}
 use Rattle.mbe_tt.specs.Trees.Leaf.{Literal}
@@ -21,107 +20,78 @@ use Rattle.mbe_text_laws.specs.Back.{RawStringsAreRead, is_raw}
 use Rattle.mbe_text_laws.specs.Rust.{continues_word, IsReadBefore}
 use Rattle.mbe_text_laws.proofs.EndLemmas.{r_is_start}
 use Rattle.mbe_text_laws.proofs.StepLemmas.{bytes_front}
-use Rattle.mbe_text_laws.proofs.QuoteLemmas.{front_of, literal_on, token_of, checked, checked_is, is_identifier, Extends, extends, one_char, two_chars, letter_begins, b_is_start, c_is_start, ended, dot_ended}
+use Rattle.mbe_text_laws.proofs.QuoteLemmas.{same_char, Parts, parts_on, front_of, token_of, checked, checked_is, is_identifier, Extends, extends, one_char, two_chars, letter_begins, b_is_start, c_is_start, ended, dot_ended}
 
 -- so many `#`
-abbrev marked : ℕ → List ℕ
+abbrev pub marked : ℕ → List ℕ
 marked n = replicate n 35
 
 -- ---- the quote that ends a raw string
 
-and_both : (a b : Bool) → (a && b) ≡ true → (a ≡ true) × (b ≡ true)
+pub and_both : (a b : Bool) → (a && b) ≡ true → (a ≡ true) × (b ≡ true)
 and_both true b h = (refl, h)
 and_both false b h = absurd (cc)
 
-and_of : (a b : Bool) → a ≡ true → b ≡ true → (a && b) ≡ true
-and_of true b h k = k
-and_of false b h k = absurd (cc)
-
-begins_more : (hs xs rest : List ℕ) → begins_with hs xs ≡ true → begins_with hs (xs ++ rest) ≡ true
-begins_more [] xs rest h = refl
-begins_more (d ∷ hs) [] rest h = absurd (cc)
-begins_more (d ∷ hs) (c ∷ xs) rest h =
-    let two = and_both (c == d) (begins_with hs xs) h in
-    and_of (c == d) (begins_with hs (xs ++ rest)) two.0 (begins_more hs xs rest two.1)
-
-begins_length : (hs xs : List ℕ) → begins_with hs xs ≡ true → length hs ≤ length xs
-begins_length [] xs h = omega arith
-begins_length (d ∷ hs) [] h = absurd (cc)
-begins_length (d ∷ hs) (c ∷ xs) h =
-    let k = begins_length hs xs (and_both (c == d) (begins_with hs xs) h).1 in omega (arith, k)
-
-no_quote : (c : ℕ) → (c == 35) ≡ true → (c == 34) ≡ false
-no_quote c h = grind (arith, nat_tests, h)
-
-raw_later : (hs cs : List ℕ) (c : ℕ) → (c == 34 && begins_with hs cs) ≡ false
+pub raw_later : (hs cs : List ℕ) (c : ℕ) → (c == 34 && begins_with hs cs) ≡ false
     → from_raw_end hs (c ∷ cs) ≡ from_raw_end hs cs
 raw_later hs cs c h = rw (from_raw_end, h) refl
 
-true_and : (a b : Bool) → a ≡ true → (a && b) ≡ false → b ≡ false
-true_and true b h k = k
-true_and false b h k = absurd (cc)
+-- so many `#` that a text begins with
+marks_of : (n : ℕ) (xs : List ℕ) → begins_with (marked n) xs ≡ true → (more : List ℕ) × (xs ≡ marked n ++ more)
+marks_of zero xs h = (xs, refl)
+marks_of (suc n) [] h = absurd (cc)
+marks_of (suc n) (c ∷ xs) h =
+    let two = and_both (c == 35) (begins_with (marked n) xs) h in
+    let m = marks_of n xs two.1 in
+    (m.0, ap (λ (x : ℕ). x ∷ xs) (same_char c 35 two.0) ∙ ap (λ (x : List ℕ). 35 ∷ x) m.1)
 
--- before the quote that ends it no text begins with so many `#` where more follows it, and not by itself
-no_earlier : (m n : ℕ) (cs end rest : List ℕ) → from_raw_end (marked n) cs ≡ Some end
-    → begins_with (marked m) cs ≡ false → begins_with (marked m) (cs ++ rest) ≡ false
-no_earlier zero n cs end rest h b = absurd (cc)
-no_earlier (suc m) n [] end rest h b = absurd (cc)
-no_earlier (suc m) n (c ∷ cs) end rest h b = by (c == 35) refl (no_earlier m n cs end rest)
-  where
-    by : (is : Bool) → (c == 35) ≡ is
-        → (from_raw_end (marked n) cs ≡ Some end → begins_with (marked m) cs ≡ false
-        → begins_with (marked m) (cs ++ rest) ≡ false)
-        → (c == 35 && begins_with (marked m) (cs ++ rest)) ≡ false
-    by false e go = ap (λ (x : Bool). x && begins_with (marked m) (cs ++ rest)) e
-    by true e go =
-        let none : (c == 34 && begins_with (marked n) cs) ≡ false =
-        ap (λ (x : Bool). x && begins_with (marked n) cs) (no_quote c e) in
-        ap (λ (x : Bool). x && begins_with (marked m) (cs ++ rest)) e
-        ∙ go (sym (raw_later (marked n) cs c none) ∙ h) (true_and (c == 35) (begins_with (marked m) cs) e b)
+begins_marked : (n : ℕ) (m : List ℕ) → begins_with (marked n) (marked n ++ m) ≡ true
+begins_marked zero m = refl
+begins_marked (suc n) m = begins_marked n m
 
-record RawFound (hs cs end : List ℕ) : Type 0 where
+-- what follows a quote has no part in the `#` before it
+pub marks_same : (n : ℕ) (own m more : List ℕ)
+    → begins_with (marked n) (own ++ (34 ∷ m)) ≡ begins_with (marked n) (own ++ (34 ∷ more))
+marks_same zero own m more = refl
+marks_same (suc n) [] m more = refl
+marks_same (suc n) (o ∷ os) m more = ap (λ (b : Bool). o == 35 && b) (marks_same n os m more)
+
+-- the quote that ends a raw string, and its `#`, are found before whatever follows them
+record RawFound (n : ℕ) (cs end : List ℕ) : Type 0 where
   own : List ℕ
-  quote : ℕ
   more : List ℕ
-  ends : end ≡ quote ∷ more
-  is : cs ≡ own ++ (quote ∷ more)
-  marks : begins_with hs more ≡ true
-  on : (rest : List ℕ) → from_raw_end hs (cs ++ rest) ≡ Some (quote ∷ (more ++ rest))
-
-still_no : (a b x : Bool) → (a && b) ≡ false → (b ≡ false → x ≡ false) → (a && x) ≡ false
-still_no true b x h go = go h
-still_no false b x h go = refl
+  ends : end ≡ 34 ∷ (marked n ++ more)
+  is : cs ≡ own ++ (34 ∷ (marked n ++ more))
+  at : (m : List ℕ) → from_raw_end (marked n) (own ++ (34 ∷ (marked n ++ m))) ≡ Some (34 ∷ (marked n ++ m))
 
 raw_found_at : (b : Bool) (n c : ℕ) (cs end : List ℕ) → (c == 34 && begins_with (marked n) cs) ≡ b
-    → (from_raw_end (marked n) cs ≡ Some end → RawFound (marked n) cs end)
-    → from_raw_end (marked n) (c ∷ cs) ≡ Some end → RawFound (marked n) (c ∷ cs) end
+    → (from_raw_end (marked n) cs ≡ Some end → RawFound n cs end)
+    → from_raw_end (marked n) (c ∷ cs) ≡ Some end → RawFound n (c ∷ cs) end
 raw_found_at true n c cs end e go h =
-    let two = and_both (c == 34) (begins_with (marked n) cs) e in record {
+    let two = and_both (c == 34) (begins_with (marked n) cs) e in
+    let after = marks_of n cs two.1 in
+    let w : from_raw_end (marked n) (c ∷ cs) ≡ Some (c ∷ cs) = rw (from_raw_end, e) refl in
+    let z : c ∷ cs ≡ end = let y : Some (c ∷ cs) ≡ Some end = sym w ∙ h in cc in
+    let is : c ∷ cs ≡ 34 ∷ (marked n ++ after.0) =
+    ap (λ (x : ℕ). x ∷ cs) (same_char c 34 two.0) ∙ ap (λ (x : List ℕ). 34 ∷ x) after.1 in record {
       own = [];
-      quote = c;
-      more = cs;
-      ends = let w : from_raw_end (marked n) (c ∷ cs) ≡ Some (c ∷ cs) = rw (from_raw_end, e) refl in
-          let z : Some (c ∷ cs) ≡ Some end = sym w ∙ h in cc;
-      is = refl;
-      marks = two.1;
-      on = λ rest. let k = and_of (c == 34) (begins_with (marked n) (cs ++ rest)) two.0
-          (begins_more (marked n) cs rest two.1) in rw (from_raw_end, k) refl;
+      more = after.0;
+      ends = sym z ∙ is;
+      is = is;
+      at = λ m. let k = begins_marked n m in rw (from_raw_end, k) refl;
     }
 raw_found_at false n c cs end e go h =
-    let later = sym (raw_later (marked n) cs c e) ∙ h in
-    let f = go later in record {
+    let f = go (sym (raw_later (marked n) cs c e) ∙ h) in record {
       own = c ∷ f.own;
-      quote = f.quote;
       more = f.more;
       ends = f.ends;
       is = ap (λ (x : List ℕ). c ∷ x) f.is;
-      marks = f.marks;
-      on = λ rest. raw_later (marked n) (cs ++ rest) c
-          (still_no (c == 34) (begins_with (marked n) cs) (begins_with (marked n) (cs ++ rest)) e
-          (λ no. no_earlier n n cs end rest later no)) ∙ f.on rest;
+      at = λ m. raw_later (marked n) (f.own ++ (34 ∷ (marked n ++ m))) c
+          (ap (λ (b : Bool). c == 34 && b) (marks_same n f.own (marked n ++ m) (marked n ++ f.more)
+          ∙ ap (begins_with (marked n)) (sym f.is)) ∙ e) ∙ f.at m;
     }
 
-raw_found : (n : ℕ) (cs end : List ℕ) → from_raw_end (marked n) cs ≡ Some end → RawFound (marked n) cs end
+raw_found : (n : ℕ) (cs end : List ℕ) → from_raw_end (marked n) cs ≡ Some end → RawFound n cs end
 raw_found n [] end h = absurd (cc)
 raw_found n (c ∷ cs) end h =
     raw_found_at (c == 34 && begins_with (marked n) cs) n c cs end refl (raw_found n cs end) h
@@ -133,7 +103,7 @@ until_of : (q : _) (n : ℕ) (body end : List ℕ) (x : Checked) → check_raw q
 until_of q n body end (Ok u) e = rw (raw_until, e) refl
 until_of q n body end (Err at) e = rw (raw_until, e) refl
 
-until_is : (q : _) (n : ℕ) (own : List ℕ) (c : ℕ) (more : List ℕ)
+pub until_is : (q : _) (n : ℕ) (own : List ℕ) (c : ℕ) (more : List ℕ)
     → raw_until q n (own ++ (c ∷ more)) (c ∷ more)
     ≡ checked (check_raw q own) (c ∷ more) (literal (raw_kind q n) (encode_utf8_all own) (drop (n + 1) (c ∷ more)))
 until_is q n own c more =
@@ -141,42 +111,52 @@ until_is q n own c more =
     ∙ ap (λ (x : List ℕ). checked (check_raw q own) (c ∷ more) (literal (raw_kind q n) x (drop (n + 1) (c ∷ more))))
     (bytes_front own (c ∷ more))
 
-body_at : (q : _) (from other : List ℕ) (n : ℕ) (cs rest : List ℕ) (shape : Shape) (o : Option (List ℕ)) (b : Bool)
+pub past_end : (n : ℕ) (m : List ℕ) → drop (length (marked n) + 1) (34 ∷ (marked n ++ m)) ≡ m
+past_end n m =
+    let k : length (marked n) + 1 ≡ suc (length (marked n)) = omega arith in
+    ap (λ (j : ℕ). drop j (34 ∷ (marked n ++ m))) k ∙ drop-append_seam (marked n) m
+
+pub body_parts : (q : _) (from : List ℕ) (n : ℕ) (cs : List ℕ) (r : Shape × List ℕ) (o : Option (List ℕ)) (b : Bool)
     → from_raw_end (marked n) cs ≡ o → nat_le (length (marked n)) 255 ≡ b
-    → raw_body q from (marked n) cs ≡ Ok (shape, []) → continues_word rest ≡ false
-    → raw_body q other (marked n) (cs ++ rest) ≡ Ok (shape, rest)
-body_at q from other n cs rest shape None b e le h k =
+    → raw_body q from (marked n) cs ≡ Ok r
+    → Parts (λ other y. raw_body q other (marked n) y) (34 ∷ marked n) (raw_kind q (length (marked n))) cs r
+body_parts q from n cs r None b e le h =
     absurd (let w : raw_body q from (marked n) cs ≡ Err (wrong.OpenRawString, from) = rw (raw_body, e) refl in
-    let z : Err (wrong.OpenRawString, from) ≡ Ok (shape, []) = sym w ∙ h in cc)
-body_at q from other n cs rest shape (Some end) false e le h k =
+    let z : Err (wrong.OpenRawString, from) ≡ Ok r = sym w ∙ h in cc)
+body_parts q from n cs r (Some end) false e le h =
     absurd (let w : raw_body q from (marked n) cs ≡ Err (wrong.RawStringHashes, from) = rw (raw_body, e, le) refl in
-    let z : Err (wrong.RawStringHashes, from) ≡ Ok (shape, []) = sym w ∙ h in cc)
-body_at q from other n cs rest shape (Some end) true e le h k =
+    let z : Err (wrong.RawStringHashes, from) ≡ Ok r = sym w ∙ h in cc)
+body_parts q from n cs r (Some end) true e le h =
     let m : ℕ = length (marked n) in
     let f = raw_found n cs end e in
     let kind = raw_kind q m in
-    let left : List ℕ = drop (m + 1) (f.quote ∷ f.more) in
+    let tail : List ℕ = marked n ++ f.more in
     let before : raw_body q from (marked n) cs ≡ raw_until q m cs end = rw (raw_body, e, le) refl in
-    let ends : raw_until q m cs end ≡ raw_until q m (f.own ++ (f.quote ∷ f.more)) (f.quote ∷ f.more) =
-    ap (raw_until q m cs) f.ends ∙ ap (λ (y : List ℕ). raw_until q m y (f.quote ∷ f.more)) f.is in
-    let was : checked (check_raw q f.own) (f.quote ∷ f.more) (literal kind (encode_utf8_all f.own) left)
-    ≡ Ok (shape, []) = sym (before ∙ (ends ∙ until_is q m f.own f.quote f.more)) ∙ h in
-    let is = checked_is (check_raw q f.own) (f.quote ∷ f.more) (literal kind (encode_utf8_all f.own) left)
-    (shape, []) was in
-    let on : from_raw_end (marked n) (cs ++ rest) ≡ Some (f.quote ∷ (f.more ++ rest)) = f.on rest in
-    let after : raw_body q other (marked n) (cs ++ rest) ≡ raw_until q m (cs ++ rest) (f.quote ∷ (f.more ++ rest)) =
-    rw (raw_body, on, le) refl in
-    let whole : cs ++ rest ≡ f.own ++ (f.quote ∷ (f.more ++ rest)) =
-    ap (λ (y : List ℕ). y ++ rest) f.is ∙ append_assoc f.own (f.quote ∷ f.more) rest in
-    let long = begins_length (marked n) f.more f.marks in
-    let dropped : drop (m + 1) (f.quote ∷ (f.more ++ rest)) ≡ left ++ rest =
-    drop-append-le (m + 1) (f.quote ∷ f.more) rest (omega (arith, long)) in
-    after ∙ (ap (λ (y : List ℕ). raw_until q m y (f.quote ∷ (f.more ++ rest))) whole
-    ∙ (until_is q m f.own f.quote (f.more ++ rest)
-    ∙ (is.1 (f.quote ∷ (f.more ++ rest)) (literal kind (encode_utf8_all f.own) (drop (m + 1) (f.quote ∷
-    (f.more ++ rest))))
-    ∙ (ap (λ (y : List ℕ). literal kind (encode_utf8_all f.own) y) dropped
-    ∙ literal_on kind (encode_utf8_all f.own) left rest shape is.0 k))))
+    let ends : raw_until q m cs end ≡ raw_until q m (f.own ++ (34 ∷ tail)) (34 ∷ tail) =
+    ap (raw_until q m cs) f.ends ∙ ap (λ (y : List ℕ). raw_until q m y (34 ∷ tail)) f.is in
+    let was : checked (check_raw q f.own) (34 ∷ tail) (literal kind (encode_utf8_all f.own) (drop (m + 1) (34 ∷ tail)))
+    ≡ Ok r = sym (before ∙ (ends ∙ until_is q m f.own 34 tail)) ∙ h in
+    let is = checked_is (check_raw q f.own) (34 ∷ tail)
+    (literal kind (encode_utf8_all f.own) (drop (m + 1) (34 ∷ tail))) r was in record {
+      body = f.own;
+      more = f.more;
+      is = f.is;
+      at = λ other y. let on = f.at y in
+          let after : raw_body q other (marked n) (f.own ++ (34 ∷ (marked n ++ y)))
+          ≡ raw_until q m (f.own ++ (34 ∷ (marked n ++ y))) (34 ∷ (marked n ++ y)) = rw (raw_body, on, le) refl in
+          after ∙ (until_is q m f.own 34 (marked n ++ y)
+          ∙ (is.1 (34 ∷ (marked n ++ y)) (literal kind (encode_utf8_all f.own) (drop (m + 1) (34 ∷ (marked n ++ y))))
+          ∙ ap (literal kind (encode_utf8_all f.own)) (past_end n y)));
+      was = sym (ap (literal kind (encode_utf8_all f.own)) (past_end n f.more)) ∙ is.0;
+    }
+
+body_on : (q : _) (from other : List ℕ) (n : ℕ) (cs rest : List ℕ) (shape : Shape)
+    → raw_body q from (marked n) cs ≡ Ok (shape, []) → continues_word rest ≡ false
+    → raw_body q other (marked n) (cs ++ rest) ≡ Ok (shape, rest)
+body_on q from other n cs rest shape h k =
+    parts_on (λ o y. raw_body q o (marked n) y) (34 ∷ marked n) (raw_kind q (length (marked n))) cs rest shape
+    (body_parts q from n cs (shape, []) (from_raw_end (marked n) cs) (nat_le (length (marked n)) 255) refl refl h)
+    other k
 
 -- ---- from its first `#` on
 
@@ -185,14 +165,14 @@ past_marks : (k : _) (n : ℕ) (cs : List ℕ) → has k 35 ≡ true → has k 3
 past_marks k zero cs h o = rw (past, o) refl
 past_marks k (suc n) cs h o = rw (past, h) (past_marks k n cs h o)
 
-marks_are : (n : ℕ) → encode_utf8_all (marked n) ≡ marked n
+pub marks_are : (n : ℕ) → encode_utf8_all (marked n) ≡ marked n
 marks_are zero = refl
 marks_are (suc n) =
     ap (λ (x : List ℕ). x ++ encode_utf8_all (marked n)) (encode_ascii 35 (omega arith))
     ∙ ap (λ (x : List ℕ). 35 ∷ x) (marks_are n)
 
 -- a raw string, where that passes its `#`
-abbrev raw_from : List ℕ → (List ℕ → List ℕ → Token) → List ℕ → List ℕ → Token
+abbrev pub raw_from : List ℕ → (List ℕ → List ℕ → Token) → List ℕ → List ℕ → Token
 raw_from from body cs quote =
     if begins_with (codes "\"") quote then body (bytes_before cs quote) (drop 1 quote) else Err
     (wrong.RawStringStart, from)
@@ -209,7 +189,7 @@ string_of : (k q : _) (from : List ℕ) (n : ℕ) (cs : List ℕ) → has k 35 �
 string_of k q from n cs h o = raw_is from (raw_body q from) n cs (past k (marked n ++ (34 ∷ cs)))
     (past_marks k n cs h o)
 
-string_is : (q : _) (from : List ℕ) (n : ℕ) (cs : List ℕ)
+pub string_is : (q : _) (from : List ℕ) (n : ℕ) (cs : List ℕ)
     → raw_string q from (marked n ++ (34 ∷ cs)) ≡ raw_body q from (marked n) cs
 string_is q from n cs = search string_of
 
@@ -218,7 +198,7 @@ raw_some : (q : _) (from other : List ℕ) (n : ℕ) (cs rest : List ℕ) (shape
     → Some (raw_string q other (marked n ++ (34 ∷ (cs ++ rest)))) ≡ Some (Ok (shape, rest))
 raw_some q from other n cs rest shape h k =
     ap Some (string_is q other n (cs ++ rest)
-    ∙ body_at q from other n cs rest shape (from_raw_end (marked n) cs) (nat_le (length (marked n)) 255) refl refl
+    ∙ body_on q from other n cs rest shape
     (sym (string_is q from n cs) ∙ ap (token_of (Ok (shape, []))) h) k)
 
 raw_none : (cs rest : List ℕ) (shape : Shape) (from other : List ℕ) (q : _)
@@ -300,7 +280,7 @@ c_case Edition2024 (suc n) cs rest text suffix len kind h k =
 
 -- ---- literals
 
-marked_chars : (n : ℕ) (b : List ℕ) → chars ((marked n ++ (34 ∷ [])) ++ b) ≡ marked n ++ (34 ∷ chars b)
+pub marked_chars : (n : ℕ) (b : List ℕ) → chars ((marked n ++ (34 ∷ [])) ++ b) ≡ marked n ++ (34 ∷ chars b)
 marked_chars zero b = one_char 34 b (omega arith)
 marked_chars (suc n) b =
     one_char 35 ((marked n ++ (34 ∷ [])) ++ b) (omega arith) ∙ ap (λ (x : List ℕ). 35 ∷ x) (marked_chars n b)

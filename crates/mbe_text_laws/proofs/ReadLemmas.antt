@@ -141,7 +141,7 @@ pub record NoLetter (c : ℕ) : Type 0 where
   pub quotes : (c == 34) ≡ false
   pub tick : (c == 39) ≡ false
 
-punct_no_letter : (c : ℕ) → is_punct c ≡ true → NoLetter c
+pub punct_no_letter : (c : ℕ) → is_punct c ≡ true → NoLetter c
 punct_no_letter c h = record {
   space = grind (arith, nat_tests, h);
   r = grind (arith, nat_tests, h);
@@ -164,7 +164,7 @@ punct_no_side c h = (
   grind (arith, nat_tests, h),
 )
 
-punct_sign : (total c : ℕ) (sp : Spacing) (rest : List ℕ) → is_punct c ≡ true → spacing_before rest ≡ sp
+pub punct_sign : (total c : ℕ) (sp : Spacing) (rest : List ℕ) → is_punct c ≡ true → spacing_before rest ≡ sp
     → read_sign total (c ∷ rest) ≡ Ok (punct_of c sp, rest)
 punct_sign total c sp rest h e =
     let n = punct_no_side c h in rw (read_sign, side, n.0, n.1, n.2, n.3, n.4, n.5, h) (ap (λ (x : Spacing). Ok

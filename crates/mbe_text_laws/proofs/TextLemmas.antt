@@ -16,10 +16,10 @@ use Rattle.mbe_rust_text.specs.Writing.{State, a_leaf, opened, closed, name_text
 use Rattle.mbe_text.specs.declared.dialect.Dialect.{Dialect}
 use Rattle.mbe_text.specs.Division.{next_token}
 use Rattle.mbe_text.specs.Tokens.{opening_text, closing_text}
-use Rattle.mbe_text_laws.specs.Rust.{IsWord, next_place, is_start, begins_word}
+use Rattle.mbe_text_laws.specs.Rust.{IsWord, next_place, more_tokens, is_start, begins_word}
 use Rattle.mbe_text_laws.specs.Gaps.{before}
 use Rattle.mbe_rust_text.proofs.WalkLemmas.{leaf_written, comment_written}
-use Rattle.mbe_text_laws.proofs.CommentLemmas.{comment_next, more_tokens, flat_count, comment_same, comment_count}
+use Rattle.mbe_text_laws.proofs.CommentLemmas.{comment_next, flat_count, comment_same, comment_count}
 use Rattle.mbe_text_laws.proofs.GapLemmas.{gaps_are_blank, gaps_are_in_bytes}
 use Rattle.mbe_text_laws.proofs.EndLemmas.{start_not_dollar}
 

@@ -1,3 +1,4 @@
 pub mod Back
 pub mod Gaps
+pub mod Lexed
 pub mod Rust

@@ -1,5 +1,5 @@
 -- Which tokens and trees are Rust's in an edition: those of which the text that is written can be read again.
-use Rattle.std.specs.Prelude.{◌≡◌, ◌≢◌, ◌⊎◌, ⊤, ℕ, ◌==◌, Bool, true, false, not, ◌&&◌, ◌||◌, Option, Some, None, List, [], ◌∷◌, ◌++◌, chars, codes, drop, Ok}
+use Rattle.std.specs.Prelude.{◌≡◌, ◌≢◌, ◌⊎◌, ⊤, ℕ, zero, suc, if◌then◌else◌, ◌==◌, Bool, true, false, not, ◌&&◌, ◌||◌, Option, Some, None, List, [], ◌∷◌, ◌++◌, chars, codes, drop, Ok}
 use Rattle.std.specs.Str.{IsUtf8}
 use Rattle.std.specs.Char.{is_ascii_digit}
 use Rattle.unicode_ident.specs.Ident.{is_xid_start, is_xid_continue}
@@ -15,7 +15,8 @@ use Rattle.mbe_tt.specs.Trees.Editions.{at_least_2021, at_least_2024}
 use Rattle.mbe_tt.specs.Trees.Leaf.{Leaf, Ident, Literal, literal, punct, ident, span_of}
 use Rattle.mbe_tt.specs.Trees.Literals.{literal_output}
 use Rattle.mbe_tt.specs.Trees.Tree.{Forest, FlatToken, token, opening, closing, flat}
-use Rattle.mbe_rust_text.specs.Gaps.{are_beside, is_same_place, is_before}
+use Rattle.mbe_rust_text.specs.Comments.{Comment, comment_set, is_bracket}
+use Rattle.mbe_rust_text.specs.Gaps.{are_beside, is_same_place, is_before, is_joint}
 use Rattle.mbe_text.specs.Characters.{begins_with, apostrophe, low_line, slash, star, number_sign}
 use Rattle.mbe_text.specs.Rust.{may_be_raw, read_rust}
 use Rattle.mbe_text.specs.Shapes.{literal_of}
@@ -82,6 +83,10 @@ pub record IsLiteral (edition : Edition) (l : Literal) : Type 0 where
   pub utf8 : IsUtf8 (literal_output l)
   pub front : begins_literal (chars (literal_output l)) ≡ true
   pub whole : (rest : List ℕ) → ends_literal rest ≡ true → IsReadBefore edition l rest
+
+-- how a literal is spelled
+abbrev pub IsSpelled : Literal → Type 0
+IsSpelled l = IsUtf8 (literal_output l) × (begins_literal (chars (literal_output l)) ≡ true)
 
 -- one that may be right before any `.`, as `1.0` may and `1` may not
 abbrev pub MayPrecedeDots : Edition → Literal → Type 0
@@ -154,7 +159,7 @@ IsPunct edition p ts = IsSign (p.char == apostrophe) edition p ts
 -- a leaf before these tokens
 abbrev pub IsLeaf : Edition → Leaf → List FlatToken → Type 0
 IsLeaf edition (ident i) ts = IsIdent i
-IsLeaf edition (literal l) ts = IsLiteral edition l × IsBeforeDot edition l ts
+IsLeaf edition (literal l) ts = IsSpelled l × IsBeforeDot edition l ts
 IsLeaf edition (punct p) ts = IsPunct edition p ts
 
 abbrev pub AreRust : Edition → List FlatToken → Type 0
@@ -163,7 +168,58 @@ AreRust edition (token l ∷ ts) = IsLeaf edition l ts × AreRust edition ts
 AreRust edition (opening d ∷ ts) = (d.kind ≢ Invisible) × AreRust edition ts
 AreRust edition (closing d ∷ ts) = (d.kind ≢ Invisible) × AreRust edition ts
 
+-- ---- doc comments
+
+-- the doc comment of one line that is `doc = r".."`
+abbrev pub set_flat : Bool → List FlatToken → Option Comment
+set_flat is_inner (token (ident i) ∷ (token (punct q) ∷ (token (literal l) ∷ (closing d ∷ ts)))) =
+    comment_set is_inner i q l
+set_flat is_inner _ = None
+
+abbrev pub brackets_flat : Bool → List FlatToken → Option Comment
+brackets_flat is_inner (opening d ∷ ts) = if is_bracket d.kind then set_flat is_inner ts else None
+brackets_flat is_inner _ = None
+
+abbrev pub hash_flat : List FlatToken → Option Comment
+hash_flat (token (punct q) ∷ ts) = if q.char == 33 && not (is_joint q.spacing) then brackets_flat true ts else None
+hash_flat _ = None
+
+-- the one that begins with this punct
+abbrev pub punct_flat : Punct → List FlatToken → Option Comment
+punct_flat p ts =
+    if not (p.char == 35) then None else if is_joint p.spacing then hash_flat ts else brackets_flat false ts
+
+-- how many tokens it is, after the first
+abbrev pub more_tokens : Bool → ℕ
+more_tokens false = 5
+more_tokens true = 6
+
+-- it is written as a comment, unless a joint punct is before it
+abbrev pub comment_after : Bool → Punct → List FlatToken → Option Comment
+comment_after joint p ts = if joint then None else punct_flat p ts
+
+-- how many tokens after that punct are a comment, and whether a joint punct is before those after them
+abbrev pub skipped : Option Comment → ℕ
+skipped None = 0
+skipped (Some c) = more_tokens c.is_inner
+
+abbrev pub joint_after : Option Comment → Punct → Bool
+joint_after None p = is_joint p.spacing
+joint_after (Some c) p = false
+
+-- Each literal is read whole, but for the text of a doc comment that is written as one. So many of the tokens are a
+-- comment's; the flag says whether a joint punct is before them.
+abbrev pub AreRead : Edition → ℕ → Bool → List FlatToken → Type 0
+AreRead edition n joint [] = ⊤
+AreRead edition (suc n) joint (t ∷ ts) = AreRead edition n false ts
+AreRead edition zero joint (token (ident i) ∷ ts) = AreRead edition 0 false ts
+AreRead edition zero joint (token (literal l) ∷ ts) = IsLiteral edition l × AreRead edition 0 false ts
+AreRead edition zero joint (token (punct p) ∷ ts) =
+    AreRead edition (skipped (comment_after joint p ts)) (joint_after (comment_after joint p ts) p) ts
+AreRead edition zero joint (opening d ∷ ts) = AreRead edition 0 false ts
+AreRead edition zero joint (closing d ∷ ts) = AreRead edition 0 false ts
+
 -- ---- trees
 
 abbrev pub IsRust : Edition → Forest → Type 0
-IsRust edition f = AreRust edition (flat f)
+IsRust edition f = AreRust edition (flat f) × AreRead edition 0 false (flat f)

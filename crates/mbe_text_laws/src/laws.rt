@@ -7,6 +7,7 @@ ghost use Rattle.mbe_text_laws.specs.Back.{
   StringsAreRead,
   TreesComeBack,
 };
+ghost use Rattle.mbe_text_laws.specs.Lexed.{LexedAreRust, TextComesBack};
 
 /// What a writer puts between two tokens is no part of a token, and hides none: the next token of a text with a gap before it is the next
 /// token of that text.
@@ -57,4 +58,17 @@ pub fn chars_are_read()
 /// `.` itself; any `.` may, where it has a fraction, an exponent or a suffix too.
 pub fn numbers_are_read()
     ensures { NumbersAreRead }
+{}
+
+/// The trees that the lexer makes of a text are Rust's, by `IsRust`, in each edition. One text is
+/// left out: that of a doc comment of several lines in which 255 `#` or more follow a `"`. It is
+/// lexed as an attribute with a raw string, which can't be written so.
+pub fn lexed_are_rust()
+    ensures { LexedAreRust }
+{}
+
+/// What is written for the trees of a text is read as these trees, without spans, in each edition
+/// and whatever the indentation; with the same exception.
+pub fn text_comes_back()
+    ensures { TextComesBack }
 {}
