@@ -1,8 +1,7 @@
-use Rattle.std.proofs.Common.{◌∙◌, ◌-◌, Some, ap, sym, arith}
-use Rattle.mbe_tt.specs.Views.Element.{element_tree}
+use Rattle.std.proofs.Common.{◌∙◌, ◌-◌, ap, sym, arith}
 use Rattle.mbe_tt.specs.Views.View.{trees}
-use Rattle.mbe_lints.specs.Written.{written_among, written_in, written_seen}
-use Rattle.mbe_lints.proofs.WrittenLemmas.{too_deep, deeper, not_there, in_first, in_rest}
+use Rattle.mbe_lints.specs.Written.{written_among, written_in}
+use Rattle.mbe_lints.proofs.WrittenLemmas.{too_deep, deeper}
 use Rattle.mbe_lints.proofs.written.+written.Goals as goal
 
 pub written_in-returns-then-levels-eq0 : goal.written_in-returns-then-levels-eq0
