@@ -54,22 +54,35 @@ both false y s t = absurd s
 abbrev pub word : Val → ℕ → Val → Val
 word p n h = vstruct (vcons p (vcons (vint w64 n) (vcons h vnil)))
 
-pub word_good : (p : Val) (n : ℕ) (h : Val) → T (has_ty ty_ptr p) × WT p → n < 2 ^ 64 → T (has_ty (layout heap.the_row) h) × WT h
+-- a machine value is a pointer, and the handle of the allocator
+abbrev pub IsPointer : Val → Type 0
+IsPointer p = T (has_ty ty_ptr p) × WT p
+
+abbrev pub IsHeap : Val → Type 0
+IsHeap h = T (has_ty (layout heap.the_row) h) × WT h
+
+pub word_good : (p : Val) (n : ℕ) (h : Val) → IsPointer p → n < 2 ^ 64 → IsHeap h
     → T (has_ty (layout Mac) (word p n h)) × WT (word p n h)
-word_good p n h p_is fits h_is =
-    (both (has_ty ty_ptr p) (has_ty (layout heap.the_row) h) p_is.0 h_is.0, (p_is.1, (record { fits = fits }, (h_is.1, tt))))
+word_good p n h p_is fits h_is = (
+  both (has_ty ty_ptr p) (has_ty (layout heap.the_row) h) p_is.0 h_is.0,
+  (p_is.1, (record { fits = fits }, (h_is.1, tt))),
+)
 
 -- a constant that is written with a proof of its bound
-pub big : {M : Type 1} {𝓤 : Ura M} {𝓛 : Logic 𝓤} {K : Type 0} {Γ : List (Item 𝓤)} {E : Env 𝓤 𝓛.H} {n : ℕ} → Fits w64 n → Opd K 𝓛 Γ E (int_big w64 n) (vint w64 n)
-big {𝓤 = 𝓤} {n = n} fits = record { go = λ Kt h. via 𝓤 (Kt (vint w64 n)) h (guard_i 𝓤 (Fits w64 n) (Kt (vint w64 n)) fits) }
+pub big : {M : Type 1} {𝓤 : Ura M} {𝓛 : Logic 𝓤} {K : Type 0} {Γ : List (Item 𝓤)} {E : Env 𝓤 𝓛.H} {n : ℕ}
+    → Fits w64 n → Opd K 𝓛 Γ E (int_big w64 n) (vint w64 n)
+big {𝓤 = 𝓤} {n = n} fits = record {
+  go = λ Kt h. via 𝓤 (Kt (vint w64 n)) h (guard_i 𝓤 (Fits w64 n) (Kt (vint w64 n)) fits);
+}
 
 module _ {M : Type 1} {𝓤 : Ura M} {𝓛 : Logic 𝓤} {K : Type 0} {Γ : List (Item 𝓤)} {G : Goal 𝓤 𝓛.H} where
   pub handle_out : K → (d : Mac.Denot) (vs : List Val)
-      → ((h : Val) → vs ≡ word (ptr_val d.at) d.state h ∷ [] → d.state < 2 ^ 64 → T (has_ty (layout heap.the_row) h) × WT h
+      → ((h : Val) → vs ≡ word (ptr_val d.at) d.state h ∷ [] → d.state < 2 ^ 64 → IsHeap h
       → Seq K 𝓛 (‵ (handle_owns d.alloc d.at d.state d.held) ∷ ‵ ((heap.the_row).own_val d.alloc (h ∷ [])) ∷ Γ) G)
       → Seq K 𝓛 (‵ (Mac.own_val d vs) ∷ Γ) G
   handle_out t d vs k =
-      fsplit t $ fpick t (λ vss. fsplit t $ feq_l t (λ ev. fsplit t $ feq_l t (λ ep. fsplit t $ fsplit t $ feq_l t (λ en. flt_l t (λ fits. fsplit t $
+      fsplit t $ fpick t (λ vss. fsplit t $ feq_l t (λ ev. fsplit t $ feq_l t (λ ep. fsplit t $ fsplit t $
+      feq_l t (λ en. flt_l t (λ fits. fsplit t $
       handle_tells E.al t d.alloc vss.1.1.0 (λ h eh good. move t (1 ∷ []) $ drop t $ move t (1 ∷ []) $
       k h (ev ∙ (λ j. vstruct (of_list (ep j ++ (en j ++ (eh j ++ [])))) ∷ [])) fits good))))))
 
@@ -81,7 +94,8 @@ module _ {M : Type 1} {𝓤 : Ura M} {𝓛 : Logic 𝓤} {K : Type 0} {Γ : List
       nothing t $ move t (2 ∷ 0 ∷ []) $ fjoin t $
       flt_i t d.state (2 ^ 64) fits $ feq_i t (List Val) (n ∷ []) (n ∷ []) refl $ fjoin t $ fjoin t $
       feq_i t (List Val) (p ∷ []) (p ∷ []) refl $ fjoin t $ feq_i t (List Val) (w ∷ []) (w ∷ []) refl $ fjoin t $
-      fpack t (Valss (fields handle.the_type)) (within (shape handle.the_type) (to handle.the_type d) (w ∷ [])) (p ∷ [], (n ∷ [], (h ∷ [], tt))) $
+      fpack t (Valss (fields handle.the_type)) (within (shape handle.the_type) (to handle.the_type d) (w ∷ []))
+      (p ∷ [], (n ∷ [], (h ∷ [], tt))) $
       fjoin t $ s)
 
   pub by_held : K → (alloc : Global) (at : Ptr) (state : ℕ) (held : Option HeldMacro)
@@ -91,7 +105,9 @@ module _ {M : Type 1} {𝓤 : Ura M} {𝓛 : Logic 𝓤} {K : Type 0} {Γ : List
       → Seq K 𝓛 (‵ (handle_owns alloc at state held) ∷ Γ) G
   by_held t alloc at state None none one = fpick t (λ other. drop t $ none refl other)
   by_held t alloc at state (Some m) none one = fsplit t $ fpick t (λ marked. drop t $
-      in_a_block t at (λ p. box_owns (ghosts.dealloc_token alloc) macro_row p m) (fst∗ 𝓤 (never 𝓤) (sem 𝓛 (ghosts.dealloc_token alloc (bare (lone macro_row.mir)) null_ptr))) (λ b o is. one b o m refl is marked))
+      in_a_block t at (λ p. box_owns (ghosts.dealloc_token alloc) macro_row p m)
+      (fst∗ 𝓤 (never 𝓤) (sem 𝓛 (ghosts.dealloc_token alloc (bare (lone macro_row.mir)) null_ptr)))
+      (λ b o is. one b o m refl is marked))
 
 -- a test that fails
 pub not_not : (b : Bool) → T (not (not b)) → T b
@@ -99,7 +115,7 @@ not_not true t = tt
 not_not false t = absurd t
 
 -- a pointer is one by its value
-pub ptr_good : (p : Ptr) → T (has_ty ty_ptr (ptr_val p)) × WT (ptr_val p)
+pub ptr_good : (p : Ptr) → IsPointer (ptr_val p)
 ptr_good (block_ptr b o) = (tt, tt)
 ptr_good null_ptr = (tt, record { fits = lit< tt })
 

@@ -9,7 +9,7 @@ use Rattle.mbe_replies.specs.Answers.{Answer, empty, status_number}
 use Rattle.mbe_replies.specs.Calls.{Source}
 use Rattle.mbe_replies.specs.Kept.{AnswersCall, IsKept, rule_count}
 use Rattle.mbe_c.specs.declared.Reply.{Reply}
-use Rattle.mbe_c.specs.Copies.{Buffers, done, reply_to, Gives, GivesFailure}
+use Rattle.mbe_c.specs.Copies.{Buffers, done, Gives, GivesFailure}
 use Rattle.mbe_c.specs.Each.{IsNoExpansion}
 use Rattle.mbe_c.specs.Held.{HeldMacro}
 

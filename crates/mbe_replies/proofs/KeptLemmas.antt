@@ -1,10 +1,11 @@
 -- A macro that is kept, and its answers to calls.
-use Rattle.std.proofs.Common.{◌≡◌, inl, inr, ⊤, ℕ, List, Result, Ok, Err, None, IsOk, ap, subst, sym, refl, ◌∙◌, not-le_of_lt}
-use Rattle.mbe_rules_text.specs.declared.fault.RuleFault.TheVariants as rule_faults
-use Rattle.mbe_rules_text.specs.Text.{Table, read_text}
+use Rattle.std.proofs.Common.{◌≡◌, inr, ℕ, List, Result, Ok, Err, None, ap, subst, sym, ◌∙◌, not-le_of_lt}
+use Rattle.std.specs.Prelude.{⊤}
+use Rattle.mbe_rules_text.specs.Text.{read_text}
 use Rattle.mbe_rules_text.specs.Views.{rules_seen}
+use Rattle.mbe_replies.specs.declared.answer.Part.{Part}
 use Rattle.mbe_replies.specs.declared.answer.Part.TheVariants as parts
-use Rattle.mbe_replies.specs.declared.answer.Status.TheVariants.{Number}
+use Rattle.mbe_replies.specs.declared.answer.Status.TheVariants.{Number, OutOfMemory}
 use Rattle.mbe_replies.specs.declared.asked.GrammarKind.{GrammarKind}
 use Rattle.mbe_replies.specs.declared.asked.GrammarKind.TheVariants as grammars
 use Rattle.mbe_replies.specs.declared.calls.Request.{Request}
@@ -35,8 +36,8 @@ text_read s text (fragments.Text rules) (e, is_text, read) asked =
     record { is_text = is_text; table = rules_seen rules; read = read }
 
 -- of another text that is the same, they are the same
-same_text : {A : Type 0} (s : Settings) (text kept : List ℕ) (f : Fragments A) → (s.grammar ≡ grammars.Text → kept ≡ text)
-    → AreFragments s kept f → AreFragments s text f
+same_text : {A : Type 0} (s : Settings) (text kept : List ℕ) (f : Fragments A)
+    → (s.grammar ≡ grammars.Text → kept ≡ text) → AreFragments s kept f → AreFragments s text f
 same_text s text kept fragments.Sample same e = e
 same_text s text kept (fragments.Rust table) same h = h
 same_text s text kept (fragments.Text rules) same (e, is_text, read) = (
@@ -49,11 +50,14 @@ no_text-only_memory : (text : List ℕ) (a : Answer) → IsText text → IsNoTex
 no_text-only_memory text a is (too_long long e) = not-le_of_lt is.short long
 no_text-only_memory text a is (not_utf8 invalid e) = invalid is.utf8
 
+abbrev WasRead : {T E : Type 0} → Result T E → Type 0
+WasRead (Ok x) = ⊤
+WasRead (Err e) = ⊥
+
 -- a text that is a grammar's fails to be one only where memory runs out
 only_memory : (text : List ℕ) (a : Answer) → IsGrammarText text → IsNoGrammar text a → IsOutOfMemory a
 only_memory text a is (no_text_of_grammar h) = absurd (no_text-only_memory text a is.is_text h)
-only_memory text a is (fault_in_grammar place reason read e) = absurd
-    (subst (λ (r : Result Table _). IsOk r) (sym is.read ∙ read) tt)
+only_memory text a is (fault_in_grammar place reason read e) = absurd (subst WasRead (sym is.read ∙ read) tt)
 only_memory text a is (no_memory_for_grammar e) = e
 
 -- ---- reading
@@ -72,8 +76,11 @@ kept_of r text definition m kept (asked, (trees, defined, (are, read))) same_ask
 
 -- a macro isn't kept where memory runs out
 pub unread_of : {A : Type 0} (r : Request) (text : List ℕ) (definition : Source) (m : ReadMacro A) (a : Answer)
-    → IsMacro r text definition m → IsOutOfMemory a → IsUnread r text definition a
-unread_of r text definition m a (asked, is) none = no_trees_to_read m.asked asked (no_memory_for_trees none)
+    (part : Part)
+    → IsMacro r text definition m → a ≡ empty OutOfMemory part → IsUnread r text definition a
+unread_of r text definition m a part (asked, is) none =
+    let none_there : IsOutOfMemory a = none ∙ ap (empty OutOfMemory) (sym (ap (λ (x : Answer). x.part) none)) in
+    no_trees_to_read m.asked asked (no_memory_for_trees none_there)
 
 -- ---- calls
 
@@ -103,11 +110,14 @@ pub answers_read : {A : Type 0} (m : KeptMacro A) (c : Call) (s : Settings) (f :
 answers_read m c s f argument a at are answers r text definition is =
     let same = ap (λ (x : Settings). x.grammar) at.others in
     let there = same_text s text m.grammar.items f (λ e. is.kept (sym same ∙ e)) are in
-    answers (asked_as r c) text definition (asked_at_call r m.asked c s is.asked at, (
-      is.trees,
-      rw at.others is.defined,
-      (there, rw at.others is.read),
-    ))
+    answers (asked_as r c) text definition (
+      asked_at_call r m.asked c s is.asked at,
+      (
+        is.trees,
+        rw at.others is.defined,
+        (there, rw at.others is.read),
+      ),
+    )
 
 -- where none is read, though there was one
 pub answers_unread : {A : Type 0} (m : KeptMacro A) (c : Call) (s : Settings) (argument : Source) (a : Answer)

@@ -47,8 +47,10 @@ into_block_spec 𝓤 𝓛 𝓜 𝓡 wired =
     -- it has none: [its allocator; nothing; nothing]
     (λ is other. keep ! [] $ use0 𝓛 (‵ ((option.the_row Blk).own_val None (live 0 vnil ∷ []))) (none_of 𝓛 Blk) $
     let w : Val = word (ptr_val d.at) d.state h in
-    suffices ! (Run (w ∷ [])) (subst (λ (us : List Val). ent 𝓤 (Run (w ∷ [])) (Run us)) (sym (λ i. ws i ++ [])) (id⊢ 𝓤 (Run (w ∷ [])))) $
-    enter ! 𝓣.C 𝓣.Λ fn (w ∷ []) Post $ alloc_all ! (λ l. pass_all ! refl (word_good (ptr_val d.at) d.state h (ptr_good d.at) fits good, tt) $
+    suffices ! (Run (w ∷ [])) (subst (λ (us : List Val). ent 𝓤 (Run (w ∷ [])) (Run us)) (sym (λ i. ws i ++ []))
+    (id⊢ 𝓤 (Run (w ∷ [])))) $
+    enter ! 𝓣.C 𝓣.Λ fn (w ∷ []) Post $
+    alloc_all ! (λ l. pass_all ! refl (word_good (ptr_val d.at) d.state h (ptr_good d.at) fits good, tt) $
     sets ! (of_opd ! (get_in ! (fld ! refl (stop !)) (sub ! 0 refl (whole !)))) refl (ptr_good d.at) $
     sets ! (of_opd ! (get_in ! (fld ! refl (stop !)) (sub ! 1 refl (whole !)))) refl (tt, record { fits = fits }) $
     sets ! (of_opd ! (get_in ! (fld ! refl (stop !)) (sub ! 2 refl (whole !)))) refl good $
@@ -61,14 +63,19 @@ into_block_spec 𝓤 𝓛 𝓜 𝓡 wired =
     (λ same. absurd (other (eqb→eq d.state has_one (not_not _ same))))))
     -- it has one: [the block; the handle's allocator]
     (λ b o m is at marked.
-    let w : Val = word (vptr b o) has_one h in let v : D E = record { ptr = block_ptr b o; alloc = d.alloc; value = m } in
-    let made : Val = block_word E h b o in let block : Blk.Denot = record { ptr = block_ptr b o; alloc = d.alloc; value = m } in
+    let w : Val = word (vptr b o) has_one h in let v : D E = record { ptr = block_ptr b o; alloc = d.alloc; value = m }
+    in
+    let made : Val = block_word E h b o in let block : Blk.Denot = record
+    { ptr = block_ptr b o; alloc = d.alloc; value = m } in
     let some : Val = live 1 (vcons made vnil) in let typed = box_typed E h b o good in
-    let found = ws ∙ ap (λ (p : Ptr). word (ptr_val p) d.state h ∷ []) at ∙ ap (λ (n : ℕ). word (vptr b o) n h ∷ []) marked in
+    let found = ws ∙ ap (λ (p : Ptr). word (ptr_val p) d.state h ∷ []) at ∙ ap (λ (n : ℕ). word (vptr b o) n h ∷ [])
+    marked in
     fsplit ! $ box_in E ! v b o m refl refl $ use1 𝓛 (‵ (Blk.own_val block (made ∷ []))) (id⊢ 𝓤 _) $
     use1 𝓛 (‵ ((option.the_row Blk).own_val (Some block) (some ∷ []))) (Some-of 𝓛 Blk block made) $ keep ! (0 ∷ []) $
-    suffices ! (Run (w ∷ [])) (subst (λ (us : List Val). ent 𝓤 (Run (w ∷ [])) (Run us)) (sym (λ i. found i ++ [])) (id⊢ 𝓤 (Run (w ∷ [])))) $
-    enter ! 𝓣.C 𝓣.Λ fn (w ∷ []) Post $ alloc_all ! (λ l. pass_all ! refl (word_good (vptr b o) has_one h (tt, tt) (lit< tt) good, tt) $
+    suffices ! (Run (w ∷ [])) (subst (λ (us : List Val). ent 𝓤 (Run (w ∷ [])) (Run us)) (sym (λ i. found i ++ []))
+    (id⊢ 𝓤 (Run (w ∷ [])))) $
+    enter ! 𝓣.C 𝓣.Λ fn (w ∷ []) Post $
+    alloc_all ! (λ l. pass_all ! refl (word_good (vptr b o) has_one h (tt, tt) (lit< tt) good, tt) $
     sets ! (of_opd ! (get_in ! (fld ! refl (stop !)) (sub ! 0 refl (whole !)))) refl (tt, tt) $
     sets ! (of_opd ! (get_in ! (fld ! refl (stop !)) (sub ! 1 refl (whole !)))) refl (tt, record { fits = lit< tt }) $
     sets ! (of_opd ! (get_in ! (fld ! refl (stop !)) (sub ! 2 refl (whole !)))) refl good $
@@ -77,7 +84,8 @@ into_block_spec 𝓤 𝓛 𝓜 𝓡 wired =
     exec ! 𝓣.C 𝓣.Λ (env code.Mir.locals l) code.Mir.t-6 (at_ret _ Post) $
     sets ! (of_opd ! (get ! refl)) refl (tt, tt) $
     sets ! (agg ! (and_then ! (get ! refl) (and_then ! (get ! refl) (no_more !)))) refl typed $
-    sets ! (agg ! (and_then ! (lit ! tt) (and_then ! (get ! refl) (no_more !)))) refl (and_tt _ typed.0, (record { fits = lit< tt }, (typed.1, tt))) $
+    sets ! (agg ! (and_then ! (lit ! tt) (and_then ! (get ! refl) (no_more !)))) refl
+    (and_tt _ typed.0, (record { fits = lit< tt }, (typed.1, tt))) $
     returns ! (look_at ! 0 refl) $ free_all ! refl $
     suffices ! _ (ends_at 𝓛 f.ended stayed c z some (Some block) (tt, tt) (tt, tt)) $ says ! (sym is) $
     nothing ! $ nothing ! $ fjoin ! $ join ! $ nothing ! $ join ! $ done !)))))

@@ -40,13 +40,16 @@ of_block_spec 𝓤 𝓛 𝓜 𝓡 wired =
     box_out E ! v z.0.4.0 (λ b o h e ws fits.
     let w : Val = block_word E h b o in
     let d : Mac.Denot = record { at = block_ptr b o; state = has_one; alloc = v.alloc; held = Some v.value } in
-    fjoin ! $ nothing ! $ fpack ! (has_one ≡ has_one) (λ _. ftrue) refl $ fjoin ! $ handle_in ! d h (lit< tt) $ keep ! (0 ∷ []) $
-    suffices ! (Run (w ∷ [])) (subst (λ (us : List Val). ent 𝓤 (Run (w ∷ [])) (Run us)) (sym (λ i. ws i ++ [])) (id⊢ 𝓤 (Run (w ∷ [])))) $
+    fjoin ! $ nothing ! $ fpack ! (has_one ≡ has_one) (λ _. ftrue) refl $ fjoin ! $ handle_in ! d h (lit< tt) $
+    keep ! (0 ∷ []) $
+    suffices ! (Run (w ∷ [])) (subst (λ (us : List Val). ent 𝓤 (Run (w ∷ [])) (Run us)) (sym (λ i. ws i ++ []))
+    (id⊢ 𝓤 (Run (w ∷ [])))) $
     enter ! 𝓣.C 𝓣.Λ fn (w ∷ []) Post $ alloc_all ! (λ l. pass_all ! refl (box_typed E h b o fits, tt) $
     sets ! (of_opd ! (get_in ! (fld ! refl (stop !)) (sub ! 0 refl (whole !)))) refl (tt, tt) $
     sets ! (of_opd ! (get_in ! (fld ! refl (stop !)) (sub ! 1 refl (whole !)))) refl fits $
     sets ! (of_opd ! (get ! refl)) refl (tt, tt) $
-    sets ! (agg ! (and_then ! (get ! refl) (and_then ! (big (record { fits = lit< tt })) (and_then ! (get ! refl) (no_more !))))) refl
+    sets ! (agg ! (and_then ! (get ! refl)
+    (and_then ! (big (record { fits = lit< tt })) (and_then ! (get ! refl) (no_more !))))) refl
     (word_good (vptr b o) has_one h (tt, tt) (lit< tt) fits) $
     returns ! (look_at ! 0 refl) $ free_all ! refl $
     suffices ! _ (ends_at 𝓛 f.ended stayed c z (word (vptr b o) has_one h) d (tt, tt) (tt, tt)) $ says ! refl $

@@ -5,7 +5,8 @@ use Rattle.mbe_replies.proofs.read_macro.InUse.expand_trees.Goals as goal
 
 pub returns-in-Sample : goal.returns-in-Sample
 returns-in-Sample g c =
-    by_sample (in_use c.args.self.now) c.args.call_site c.args.argument.now (answer_of c.expand_by.result) c.in-Sample.is
+    by_sample (in_use c.args.self.now) c.args.call_site c.args.argument.now (answer_of c.expand_by.result)
+    c.in-Sample.is
     c.expand_by.ensures
 
 pub returns-in-Rust : goal.returns-in-Rust
