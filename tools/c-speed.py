@@ -5,7 +5,8 @@
 
 It times TIMES calls of `mbe_expand` in one program (cc -O2), and TIMES runs of MBEX on the files, from which it takes as many runs of MBEX on an
 empty definition and argument. It prints both times of a call, and their ratio. With `--instructions` it counts them by callgrind, which repeats whatever
-else the machine does: of TIMES calls after the first, of one run of MBEX, and of each argument more of `mbe_expand_each`.
+else the machine does: of TIMES calls after the first, of one run of MBEX, of each argument more of `mbe_expand_each`, and of each call more of
+`mbe_macro_expand`.
 """
 import os
 import re
@@ -37,6 +38,13 @@ int main(int n, char **words) {
     d.text = read_file(words[1], &d.text_len);
     a.text = read_file(words[2], &a.text_len);
     request.call_site.end = (uint32_t)a.text_len;
+    if (n > 4 && words[4][0] == 'k') {
+        mbe_macro kept = {0};
+        mbe_call call = {MBE_FN_LIKE, MBE_LINES, 0, request.call_site};
+        if (mbe_macro_read(&request, NULL, 0, d, &kept, NULL, 0, &reply) != MBE_DONE) return 1;
+        for (long i = 0; i < times; i++) if (mbe_macro_expand(&kept, &call, a, out, &reply) > MBE_FAULTED) return 1;
+        return mbe_macro_free(&kept) != MBE_DONE;
+    }
     if (n > 4) {
         mbe_piece *pieces = calloc((size_t)times, sizeof *pieces);
         mbe_reply *replies = calloc((size_t)times, sizeof *replies);
@@ -69,11 +77,14 @@ def per_call(call, files, times, *each):
 
 
 def count(call, program, files, empty, times):
-    """Instructions beyond those of an empty call, by `mbe_expand` and by mbex; those of the empty call; of one argument more of `mbe_expand_each`."""
+    """Instructions beyond those of an empty call, by `mbe_expand` and by mbex; those of the empty call; of one argument more of `mbe_expand_each`,
+    and of one call more of `mbe_macro_expand`."""
     nothing, called, each = per_call(call, empty, times), per_call(call, files, times), per_call(call, files, times, "each")
+    kept = per_call(call, files, times, "kept")
     ran = instructions(program, *files) - instructions(program, *empty)
     print(f"instructions: mbe_expand {called - nothing:.0f} more than the {nothing:.0f} of an empty call, mbex {ran}, ratio {(called - nothing) / ran:.3f}; "
-          f"an argument of mbe_expand_each {each:.0f}, ratio to a call {each / called:.3f}")
+          f"an argument of mbe_expand_each {each:.0f}, ratio to a call {each / called:.3f}; "
+          f"a call of mbe_macro_expand {kept:.0f}, ratio to that argument {kept / each:.3f}")
 
 
 def main():

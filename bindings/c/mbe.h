@@ -1,9 +1,9 @@
 /* The macro expander `mbe` for C99 and C++.
  *
- * Each call takes what it reads as a pointer and a length, and writes into memory of the caller. It keeps nothing: there are no
- * handles and nothing is to be freed. A definition is kept by the caller, as its text or as flat tokens (`mbe_convert` lexes it once),
- * and is read in each call; `mbe_expand_each` reads it once for many arguments. A call may run on any thread, and any number at once, as long as no two write the same memory; it is
- * not to be made from a signal handler. It takes memory from `malloc`, and frees it before it returns.
+ * Each call takes what it reads as a pointer and a length, and writes into memory of the caller. It reads a definition anew, and keeps
+ * nothing; but `mbe_expand_each` reads it once for many arguments, and `mbe_macro_read` once for many calls: an `mbe_macro` keeps it until
+ * `mbe_macro_free`, on one thread. A call may run on any thread, and any number at once, as long as no two write the same memory; it is
+ * not to be made from a signal handler. It takes memory from `malloc`, and frees it before it returns, but for what an `mbe_macro` keeps.
  *
  * No call fails on any bytes: what is wrong comes back as a status, with the part at fault, the place and a message. A pointer may be
  * null where its length is 0; elsewhere a null pointer is MBE_NULL_POINTER. What a call writes is not to overlap anything else of the
@@ -23,7 +23,7 @@ extern "C" {
 #endif
 
 /* The version of this interface, which `mbe_version` returns where the library fits this file. */
-#define MBE_VERSION 2u
+#define MBE_VERSION 3u
 
 /* How a call ended. */
 typedef enum mbe_status {
@@ -38,7 +38,9 @@ typedef enum mbe_status {
     MBE_NO_GRAMMAR = 8,     /* the text of a grammar is not one (place: the line, column, message) */
     MBE_OUT_OF_MEMORY = 9,
     MBE_NO_ROOM = 10,       /* a buffer is too small; the reply says what is needed */
-    MBE_NULL_POINTER = 11   /* a pointer is null, and its length is not 0; or the request or the reply is null */
+    MBE_NULL_POINTER = 11,  /* a pointer is null, and its length is not 0; or the request, the call, the macro or the reply is null */
+    MBE_NO_MACRO = 12,      /* an `mbe_macro` has no macro: none was read into it, or it was freed */
+    MBE_HAS_MACRO = 13      /* an `mbe_macro` that a macro is to be read into has one; free it first */
 } mbe_status;
 
 /* Which part of a call is at fault. */
@@ -119,6 +121,15 @@ typedef struct mbe_input { const char *text; size_t text_len; const mbe_token *t
  * its call. Pieces may overlap; flat tokens of a piece are one group, whose texts are in the text of the piece. */
 typedef struct mbe_piece { size_t offset, len, token_offset, token_len; mbe_span call_site; } mbe_piece;
 
+/* A macro that was read, and is kept until `mbe_macro_free`. It begins with zeros, as by `mbe_macro it = {0, 0};`, and no field is the
+ * caller's to read or write. It has a macro or none, and each call says so by name: one into which none was read, and one that was freed,
+ * be it twice, is MBE_NO_MACRO. It may be moved, as by an assignment; of the two only one is to be used then, which nothing checks. Nor is
+ * it checked that one which didn't begin with zeros has none. All calls that name it are made on the thread that read it. */
+typedef struct mbe_macro { void *at; uint64_t state; } mbe_macro;
+
+/* What is asked of an `mbe_macro` in one call; the rest is as in the request that it was read for. */
+typedef struct mbe_call { uint32_t style, form, argument_is_flat; mbe_span call_site; } mbe_call;
+
 /* Memory of the caller for an answer. */
 typedef struct mbe_output {
     mbe_token *tokens; size_t token_room;
@@ -148,6 +159,13 @@ uint32_t mbe_c_convert(const mbe_request *request, const char *input, size_t inp
 uint32_t mbe_c_define(const mbe_request *request, const char *definition, size_t definition_len,
     const mbe_token *definition_tokens, size_t definition_token_len, char *message, size_t message_room, mbe_reply *reply);
 uint32_t mbe_c_grammar(const char *grammar, size_t grammar_len, char *message, size_t message_room, mbe_reply *reply);
+uint32_t mbe_c_macro_read(const mbe_request *request, const char *grammar, size_t grammar_len, const char *definition,
+    size_t definition_len, const mbe_token *definition_tokens, size_t definition_token_len, mbe_macro *macro, char *message,
+    size_t message_room, mbe_reply *reply);
+uint32_t mbe_c_macro_expand(mbe_macro *macro, const mbe_call *call, const char *argument, size_t argument_len,
+    const mbe_token *argument_tokens, size_t argument_token_len, mbe_token *tokens, size_t token_room, char *text, size_t text_room,
+    char *message, size_t message_room, mbe_reply *reply);
+uint32_t mbe_c_macro_free(mbe_macro *macro);
 
 /* ---- null pointers */
 
@@ -220,6 +238,37 @@ static inline mbe_status mbe_explain(const mbe_request *request, const char *gra
         (const char *)mbe_or_empty(argument.text, &empty), argument.text_len,
         (const mbe_token *)mbe_or_empty(argument.tokens, &empty), argument.token_len,
         (mbe_verdict *)mbe_or_empty(verdicts, &empty), verdict_room, (char *)mbe_or_empty(message, &empty), message_room, reply);
+}
+
+/* Reads a definition, and `grammar` where the request's is MBE_GRAMMAR_TEXT, into a macro that has none. The status is MBE_DONE, and
+ * `reply->place` the number of its rules; or it is what `mbe_expand` says of that definition, or MBE_HAS_MACRO, and the macro stays as it
+ * is. The request's style, form, argument_is_flat and call_site are of no use here, but a number of the first two that stands for nothing
+ * is MBE_BAD_NUMBER. What the pointers point to is not needed once the call returns. */
+static inline mbe_status mbe_macro_read(const mbe_request *request, const char *grammar, size_t grammar_len, mbe_input definition,
+    mbe_macro *macro, char *message, size_t message_room, mbe_reply *reply) {
+    static mbe_token empty;
+    if (!request || !macro || !reply || mbe_is_null(grammar, grammar_len) || mbe_null_input(&definition)
+        || mbe_is_null(message, message_room)) return MBE_NULL_POINTER;
+    return (mbe_status)mbe_c_macro_read(request, (const char *)mbe_or_empty(grammar, &empty), grammar_len,
+        (const char *)mbe_or_empty(definition.text, &empty), definition.text_len,
+        (const mbe_token *)mbe_or_empty(definition.tokens, &empty), definition.token_len, macro,
+        (char *)mbe_or_empty(message, &empty), message_room, reply);
+}
+
+/* Expands the argument by the macro, which it keeps: the answer is what `mbe_expand` answers to the definition and the request that
+ * it was read for, with what the call asks. The rules aren't read again; the text of a grammar is. MBE_NO_MACRO where it has none. */
+static inline mbe_status mbe_macro_expand(mbe_macro *macro, const mbe_call *call, mbe_input argument, mbe_output out, mbe_reply *reply) {
+    static mbe_token empty;
+    if (!macro || !call || !reply || mbe_null_input(&argument) || mbe_null_output(&out)) return MBE_NULL_POINTER;
+    return (mbe_status)mbe_c_macro_expand(macro, call, (const char *)mbe_or_empty(argument.text, &empty), argument.text_len,
+        (const mbe_token *)mbe_or_empty(argument.tokens, &empty), argument.token_len,
+        (mbe_token *)mbe_or_empty(out.tokens, &empty), out.token_room, (char *)mbe_or_empty(out.text, &empty), out.text_room,
+        (char *)mbe_or_empty(out.message, &empty), out.message_room, reply);
+}
+
+/* Frees what the macro keeps: MBE_DONE, or MBE_NO_MACRO where it has none. Then it has none, and another may be read into it. */
+static inline mbe_status mbe_macro_free(mbe_macro *macro) {
+    return macro ? (mbe_status)mbe_c_macro_free(macro) : MBE_NULL_POINTER;
 }
 
 /* The trees of an input in another form: a text to flat tokens, or either to lines or to Rust text. The input is as an argument:

@@ -3,6 +3,7 @@ from __future__ import annotations
 
 import ctypes
 import itertools
+import weakref
 from dataclasses import dataclass
 from typing import Optional, Sequence, Union
 
@@ -42,22 +43,25 @@ def convert(given: Input, form: str = "tokens", edition: int = 2024, dialect: st
 
 
 class Macro:
-    """A definition: the rules of a `macro_rules!`, lexed once and kept as flat tokens, of which each call reads its rules, and
-    `expand_each` once for many. `grammar` is `sample`, `rust`, or the text of one. Without `check` a call is the first to read it."""
+    """A definition: the rules of a `macro_rules!`, which are read once for all calls of `expand`; `explain` and `expand_each` read them
+    again, from the flat tokens that they were lexed to. `grammar` is `sample`, `rust`, or the text of one. Without `check` the first
+    `expand` reads them. A macro is used on the thread that made it."""
 
     def __init__(self, definition: Input, edition: int = 2024, dialect: str = "sample", grammar: str = "sample",
                  check: bool = True) -> None:
         self._grammar, named = (b"", grammar) if grammar in c.GRAMMARS else (grammar.encode(), "text")
         is_flat, self._definition = c.given(definition)
         self._request = dict(edition=edition, dialect=c.DIALECTS[dialect], grammar=c.GRAMMARS.get(named, 2), definition_is_flat=is_flat)
-        self.rules: Optional[int] = None
+        self._read, self.rules = c.Macro(), None
+        weakref.finalize(self, c.LIB.mbe_c_macro_free, ctypes.byref(self._read))
         if check:
-            if named == "text":
-                check_grammar(grammar)
-            asked = [ctypes.byref(c.Request(**self._request)), *self._definition]
-            self.rules = c.answer(c.LIB.mbe_c_define, asked, [])[0].place
+            self._read_rules()
             lexed = definition if is_flat else convert(definition, "tokens", edition, dialect, 0)
             self._request["definition_is_flat"], self._definition = c.given(lexed)
+
+    def _read_rules(self) -> None:
+        asked = [ctypes.byref(c.Request(**self._request)), *c.text_parts(self._grammar), *self._definition, ctypes.byref(self._read)]
+        self.rules = c.answer(c.LIB.mbe_c_macro_read, asked, [])[0].place
 
     def _asked(self, argument: Input, **more: object) -> list[object]:
         is_flat, parts = c.given(argument)
@@ -66,8 +70,12 @@ class Macro:
 
     def expand(self, argument: Input, form: str = "tokens", call_site: Span = Span(), style: str = "fn") -> Expansion:
         """Expands a call of that style at that span."""
-        asked = self._asked(argument, form=c.FORMS[form], call_site=call_site, style=c.STYLES[style])
-        reply, (tokens, text, message) = c.answer(c.LIB.mbe_c_expand, asked, [Token, c.CHAR])
+        if self.rules is None:
+            self._read_rules()
+        is_flat, parts = c.given(argument)
+        call = c.Call(c.STYLES[style], c.FORMS[form], is_flat, call_site)
+        asked = [ctypes.byref(self._read), ctypes.byref(call), *parts]
+        reply, (tokens, text, message) = c.answer(c.LIB.mbe_c_macro_expand, asked, [Token, c.CHAR])
         return _answer(reply, tokens[:reply.tokens], text.raw[:reply.text], message)
 
     def expand_each(self, arguments: Sequence[Union[str, bytes]], form: str = "tokens", call_sites: Sequence[Span] = (),

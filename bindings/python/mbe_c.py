@@ -12,7 +12,7 @@ from typing import Callable, Iterator, Sequence, Union
 LIB = ctypes.CDLL(os.environ.get("MBE_LIB", "libmbe_c.so"))
 U32, SIZE, CHAR = ctypes.c_uint32, ctypes.c_size_t, ctypes.c_char
 STATUSES = ["done", "faulted", "refused", "bad number", "not UTF-8", "too long", "no tokens", "no trees", "no grammar",
-            "out of memory", "no room"]
+            "out of memory", "no room", "null pointer", "no macro", "has a macro"]
 PARTS = ["", "definition", "argument", "grammar"]
 FORMS = {"tokens": 0, "lines": 1, "rust": 2}
 DIALECTS = {"sample": 0, "rust": 1}
@@ -46,6 +46,16 @@ class Request(ctypes.Structure):
     """What is asked."""
     _fields_ = [*((name, U32) for name in ("edition", "dialect", "grammar", "style", "form", "definition_is_flat",
                                            "argument_is_flat")), ("call_site", Span)]
+
+
+class Call(ctypes.Structure):
+    """What is asked of a macro in one call."""
+    _fields_ = [*((name, U32) for name in ("style", "form", "argument_is_flat")), ("call_site", Span)]
+
+
+class Macro(ctypes.Structure):
+    """A macro that was read, or none, until `mbe_c_macro_free`."""
+    _fields_ = [("at", ctypes.c_void_p), ("state", ctypes.c_uint64)]
 
 
 class Reply(ctypes.Structure):

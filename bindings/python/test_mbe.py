@@ -1,7 +1,9 @@
 """The calls from Python: a line for each that fails, and `N passed, M failed`."""
+import ctypes
 import sys
 
 import mbe
+import mbe_c as c
 
 ROWS = [
     ("($x:ident) => {$x $x}", "a", b"a a", 0),
@@ -54,6 +56,15 @@ check([(token.span.file, token.span.start, token.span.end) for token, _ in found
 wrong = error(mbe.Macro, "() => {", dialect="rust")
 check((wrong.status, wrong.part), ("no tokens", "definition"))
 twice = mbe.Macro("($x:ident) => {$x $x}; ($x:literal) => {$x}")
+check([twice.expand(text, form="rust").trees.text for text in ("a", "1", "b")] * 2, [b"a a", b"1", b"b b"] * 2)
+check([error(twice.expand, ")").status, twice.expand("+").fault[0], twice.expand("c", form="rust").rule], ["no tokens", "expected ident", 0])
+late = mbe.Macro("(a) => {b}; attr() (c) => {d}", check=False)
+check([late.rules, late.expand("c", form="rust", style="attr").trees.text, late.rules], [None, b"d", 2])
+check(error(mbe.Macro("($x) => {}", check=False).expand, "a").status, "refused")
+for it in (c.Macro(), late._read):
+    freed = [c.LIB.mbe_c_macro_free(ctypes.byref(it)) for _ in range(2)]
+    check(freed, [c.STATUSES.index("no macro") if it is not late._read else 0, c.STATUSES.index("no macro")])
+check(error(late.expand, "a").status, "no macro")
 sites = [mbe.Span(file=n, start=n) for n in range(5)]
 found = twice.expand_each(["a", b"1u8", "+", ")", "b"], form="rust", call_sites=sites)
 check([it.trees.text for it in found[:2]], [b"a a", b"1u8"])

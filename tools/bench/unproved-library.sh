@@ -41,7 +41,8 @@ exports=$(sed -n 's/^pub extern "C" fn \(mbe_c_[a-z_]*\).*/\1/p' src/main.rt)
 python3 - src/main.rt >"$work/main" <<'P'
 import re
 import sys
-DEFAULTS = {"Global": "rt.alloc()", "&Request": "&Request::default()", "&mut Reply": "&mut Reply::default()"}
+DEFAULTS = {"Global": "rt.alloc()", "&Request": "&Request::default()", "&Call": "&Call::default()",
+            "&mut Macro": "&mut Macro::none(rt.alloc())", "&mut Reply": "&mut Reply::default()"}
 text = open(sys.argv[1]).read()
 print("\nfn main(rt: HostRuntime) {")
 for name, words in re.findall(r'pub extern "C" fn (\w+)\(([^)]*)\)', text):

@@ -134,6 +134,119 @@ static void each_as_alone(void) {
     check(tokens[0].span.file == 9 && tokens[0].span.start == 3, "the first site");
 }
 
+/* A macro that is read once is expanded as by `mbe_expand`, in each form and with each style, and from text and from tokens. */
+static void kept_as_alone(void) {
+    static const char *const definition = "($x:ident) => {$x $x}; attr() ($($x:tt)*) => {[$($x);*]}; ($e:expr) => {$e + 1}";
+    static const char *const arguments[] = {"a", "b + 2", "", "1u8", ")", "\xff", "r#fn"};
+    static mbe_token lexed[64], alone[256];
+    static char lexed_text[64], alone_text[4096], alone_message[256];
+    mbe_macro macro = {NULL, 0};
+    mbe_request request = asked(MBE_TOKENS);
+    mbe_output out = {lexed, 64, lexed_text, sizeof lexed_text, NULL, 0};
+    mbe_output one = {alone, 256, alone_text, sizeof alone_text, alone_message, sizeof alone_message};
+    check(mbe_convert(&request, words("a (b 1u8)"), out, &reply) == MBE_DONE, "an argument to tokens");
+    mbe_input flat = {lexed_text, reply.text, lexed, reply.tokens};
+    check(mbe_macro_read(&request, NULL, 0, words(definition), &macro, message, sizeof message, &reply) == MBE_DONE && reply.place == 3
+        && reply.message == 0, "a macro is read");
+    for (size_t i = 0; i < 3 * 4 * (1 + sizeof arguments / sizeof *arguments); i++) {
+        size_t which = i / 12;
+        mbe_input argument = which ? words(arguments[which - 1]) : flat;
+        mbe_call call = {(uint32_t)(i % 3), (uint32_t)(i / 3 % 4), !which, {9, 1, 2, (uint32_t)i, 4}};
+        mbe_reply its;
+        request.style = call.style;
+        request.form = call.form;
+        request.argument_is_flat = call.argument_is_flat;
+        request.call_site = call.call_site;
+        mbe_status status = mbe_expand(&request, NULL, 0, words(definition), argument, one, &its);
+        check(mbe_macro_expand(&macro, &call, argument, room(), &reply) == status && memcmp(&its, &reply, sizeof its) == 0, "a reply as alone");
+        check(memcmp(alone, tokens, its.tokens * sizeof *alone) == 0 && memcmp(alone_text, text, its.text) == 0
+            && memcmp(alone_message, message, its.message) == 0, "an answer as alone");
+    }
+    check(mbe_macro_free(&macro) == MBE_DONE, "it is freed");
+}
+
+/* A macro that wasn't read, one that was freed, and one into which another is read, are refused by name. */
+static void kept_macros(void) {
+    mbe_request request = asked(MBE_RUST);
+    mbe_call call = {MBE_FN_LIKE, MBE_RUST, 0, {0, 0, 0, 0, 0}}, unknown = {3, MBE_RUST, 0, {0, 0, 0, 0, 0}};
+    mbe_macro macro = {NULL, 0}, moved, many[3] = {{NULL, 0}, {NULL, 0}, {NULL, 0}};
+    check(mbe_macro_expand(&macro, &call, words("a"), room(), &reply) == MBE_NO_MACRO && reply.status == MBE_NO_MACRO && reply.text == 0,
+        "one that was never read");
+    check(mbe_macro_free(&macro) == MBE_NO_MACRO, "one that was never read is freed");
+    check(mbe_macro_read(&request, NULL, 0, words("($x) => {}"), &macro, message, sizeof message, &reply) == MBE_REFUSED
+        && message_is("missing fragment specifier") && reply.part == MBE_DEFINITION, "a refused definition is not read");
+    check(mbe_macro_read(&request, NULL, 0, words("\xff"), &macro, NULL, 0, &reply) == MBE_NOT_UTF8 && reply.part == MBE_DEFINITION,
+        "a definition to be read that is not UTF-8");
+    check(mbe_macro_read(&request, NULL, 0, words("() => {)"), &macro, NULL, 0, &reply) == MBE_NO_TOKENS, "one that is not lexed");
+    request.edition = 1;
+    check(mbe_macro_read(&request, NULL, 0, words(""), &macro, NULL, 0, &reply) == MBE_BAD_NUMBER, "one of no edition");
+    check(macro.state == 0 && mbe_macro_free(&macro) == MBE_NO_MACRO, "nothing was read");
+    request = asked(MBE_RUST);
+    char rules[] = "($x:ident) => {$x $x}; (+) => {}";
+    check(mbe_macro_read(&request, NULL, 0, words(rules), &macro, message, sizeof message, &reply) == MBE_DONE && reply.place == 2, "two rules are read");
+    memset(rules, 'z', sizeof rules - 1);
+    check(mbe_macro_expand(&macro, &call, words("a"), room(), &reply) == MBE_DONE && text_is("a a") && reply.rule == 0, "its first expansion");
+    check(mbe_macro_expand(&macro, &call, words("1"), room(), &reply) == MBE_FAULTED && message_is("expected ident"), "a fault");
+    check(mbe_macro_expand(&macro, &call, words(")"), room(), &reply) == MBE_NO_TOKENS && reply.part == MBE_ARGUMENT, "an argument that is not lexed");
+    check(mbe_macro_expand(&macro, &unknown, words("a"), room(), &reply) == MBE_BAD_NUMBER, "a style that is none");
+    mbe_output little = {NULL, 0, text, 2, NULL, 0};
+    text[0] = 9;
+    check(mbe_macro_expand(&macro, &call, words("b"), little, &reply) == MBE_NO_ROOM && reply.text == 3 && text[0] == 9, "one byte too few for one");
+    check(mbe_macro_read(&request, NULL, 0, words("() => {}"), &macro, message, sizeof message, &reply) == MBE_HAS_MACRO, "another is not read into it");
+    moved = macro;
+    check(mbe_macro_expand(&moved, &call, words("c"), room(), &reply) == MBE_DONE && text_is("c c"), "its second expansion, after a move");
+    check(mbe_macro_free(&moved) == MBE_DONE && mbe_macro_free(&moved) == MBE_NO_MACRO, "freed twice");
+    check(mbe_macro_expand(&moved, &call, words("a"), room(), &reply) == MBE_NO_MACRO, "expanded after it is freed");
+    check(mbe_macro_read(&request, NULL, 0, words("() => {x}"), &moved, NULL, 0, &reply) == MBE_DONE
+        && mbe_macro_expand(&moved, &call, words(""), room(), &reply) == MBE_DONE && text_is("x") && mbe_macro_free(&moved) == MBE_DONE, "read again");
+    for (int i = 0; i < 3; i++) {
+        char definition[] = "() => {a}";
+        definition[7] = (char)('a' + i);
+        check(mbe_macro_read(&request, NULL, 0, words(definition), &many[i], NULL, 0, &reply) == MBE_DONE, "one of several");
+    }
+    for (int i = 2; i >= 0; i--) {
+        char wanted[] = {(char)('a' + i), 0};
+        check(mbe_macro_expand(&many[i], &call, words(""), room(), &reply) == MBE_DONE && text_is(wanted) && mbe_macro_free(&many[i]) == MBE_DONE,
+            "each of several");
+    }
+    mbe_input one = {NULL, 1, NULL, 0};
+    mbe_output bad = {NULL, 1, NULL, 0, NULL, 0};
+    check(mbe_macro_read(NULL, NULL, 0, words(""), &macro, NULL, 0, &reply) == MBE_NULL_POINTER
+        && mbe_macro_read(&request, NULL, 1, words(""), &macro, NULL, 0, &reply) == MBE_NULL_POINTER
+        && mbe_macro_read(&request, NULL, 0, one, &macro, NULL, 0, &reply) == MBE_NULL_POINTER
+        && mbe_macro_read(&request, NULL, 0, words(""), NULL, NULL, 0, &reply) == MBE_NULL_POINTER
+        && mbe_macro_read(&request, NULL, 0, words(""), &macro, NULL, 1, &reply) == MBE_NULL_POINTER
+        && mbe_macro_read(&request, NULL, 0, words(""), &macro, NULL, 0, NULL) == MBE_NULL_POINTER, "null pointers to read");
+    check(mbe_macro_expand(NULL, &call, words(""), room(), &reply) == MBE_NULL_POINTER
+        && mbe_macro_expand(&moved, NULL, words(""), room(), &reply) == MBE_NULL_POINTER
+        && mbe_macro_expand(&moved, &call, one, room(), &reply) == MBE_NULL_POINTER
+        && mbe_macro_expand(&moved, &call, words(""), bad, &reply) == MBE_NULL_POINTER
+        && mbe_macro_expand(&moved, &call, words(""), room(), NULL) == MBE_NULL_POINTER, "null pointers to expand");
+    check(mbe_macro_free(NULL) == MBE_NULL_POINTER, "a null macro to free");
+}
+
+/* A macro keeps the text of its grammar, or Rust's. */
+static void kept_grammars(void) {
+    char sums[] = "expr = operand ('+' operand!)*\noperand = NAME";
+    mbe_request request = asked(MBE_RUST);
+    mbe_call call = {MBE_FN_LIKE, MBE_RUST, 0, {0, 0, 0, 0, 0}};
+    mbe_macro by_text = {NULL, 0}, of_rust = {NULL, 0};
+    request.grammar = MBE_GRAMMAR_TEXT;
+    check(mbe_macro_read(&request, "expr = ", 7, words("() => {}"), &by_text, NULL, 0, &reply) == MBE_NO_GRAMMAR && reply.part == MBE_GRAMMAR,
+        "no grammar to be kept");
+    check(mbe_macro_read(&request, sums, strlen(sums), words("($e:expr) => {sum}"), &by_text, NULL, 0, &reply) == MBE_DONE, "a grammar is kept");
+    memset(sums, 0, sizeof sums);
+    request.grammar = MBE_GRAMMAR_RUST;
+    request.dialect = MBE_DIALECT_RUST;
+    check(mbe_macro_read(&request, NULL, 0, words("($t:ty) => {$t}"), &of_rust, NULL, 0, &reply) == MBE_DONE, "whole Rust is read");
+    for (int i = 0; i < 2; i++) {
+        check(mbe_macro_expand(&by_text, &call, words("a + b"), room(), &reply) == MBE_DONE && text_is("sum"), "a sum by a grammar");
+        check(mbe_macro_expand(&by_text, &call, words("a +"), room(), &reply) == MBE_FAULTED, "no sum by a grammar");
+        check(mbe_macro_expand(&of_rust, &call, words("Vec<&'a str>"), room(), &reply) == MBE_DONE && text_is("Vec<&'a str>"), "a type of Rust");
+    }
+    check(mbe_macro_free(&by_text) == MBE_DONE && mbe_macro_free(&of_rust) == MBE_DONE, "both are freed");
+}
+
 /* Where no macro is read nothing is written, but why. */
 static void unread_macros(void) {
     mbe_request request = asked(MBE_RUST);
@@ -326,6 +439,14 @@ static void nonsense(void) {
         pieces[0].token_len = bytes[6] % 8u;
         known &= mbe_expand_each(&request, (const char *)bytes, bytes[2], round % 3 ? words("($($x:tt)*) => {$($x)*}") : input, input, pieces, 4,
             replies, room(), &reply) <= MBE_NO_ROOM;
+        mbe_macro macro = {NULL, 0};
+        mbe_call call;
+        memcpy(&call, bytes + 512, sizeof call);
+        if (round % 3) { call.style %= 3; call.form %= 3; call.argument_is_flat %= 2; }
+        known &= mbe_macro_read(&request, (const char *)bytes, bytes[2], round % 3 ? words("($($x:tt)*) => {$($x)*}") : input, &macro, message,
+            sizeof message, &reply) <= MBE_NO_ROOM;
+        mbe_status status = mbe_macro_expand(&macro, &call, input, room(), &reply);
+        known &= (status <= MBE_NO_ROOM && mbe_macro_free(&macro) == MBE_DONE) || status == MBE_NO_MACRO;
     }
     check(known, "bytes of no meaning");
 }
@@ -335,6 +456,9 @@ int main(void) {
     expansions();
     many_arguments();
     each_as_alone();
+    kept_as_alone();
+    kept_macros();
+    kept_grammars();
     unread_macros();
     faults();
     nulls();

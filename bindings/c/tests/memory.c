@@ -62,8 +62,21 @@ static mbe_status expand_each(void) {
     return status;
 }
 
+/* A macro is read, and expanded twice; what it keeps is freed, if it is read. */
+static mbe_status kept(void) {
+    mbe_macro macro = {NULL, 0};
+    mbe_call call = {MBE_FN_LIKE, MBE_TOKENS, 0, {0, 0, 0, 0, 0}};
+    mbe_status status = mbe_macro_read(&request, SUMS, strlen(SUMS), words(RULES), &macro, message, sizeof message, &reply);
+    if (status != MBE_DONE) return mbe_macro_free(&macro) == MBE_NO_MACRO ? status : MBE_HAS_MACRO;
+    mbe_status first = mbe_macro_expand(&macro, &call, words("1 + 2"), room(), &reply);
+    mbe_status second = mbe_macro_expand(&macro, &call, words("a, b"), room(), &reply);
+    if (mbe_macro_free(&macro) != MBE_DONE) return MBE_NO_MACRO;
+    return first == MBE_OUT_OF_MEMORY ? first : second;
+}
+
 static const struct { const char *name; mbe_status (*call)(void); mbe_status status; } calls[] = {
     {"mbe_expand", expand, MBE_DONE}, {"mbe_expand_each", expand_each, MBE_DONE}, {"mbe_explain", explain, MBE_DONE},
+    {"mbe_macro_expand", kept, MBE_DONE},
     {"mbe_convert", convert, MBE_DONE}, {"mbe_define", define, MBE_DONE}, {"mbe_grammar", grammar, MBE_DONE},
     {"a text that is not lexed", unlexed, MBE_NO_TOKENS},
 };

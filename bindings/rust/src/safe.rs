@@ -1,6 +1,7 @@
 //! The safe layer: a definition that is kept, calls of it, and iterators over what they answer.
 
-use mbe_sys::{self as sys, Buffers, Bytes, Reply, Request, Span, Token};
+use mbe_sys::{self as sys, Buffers, Bytes, Call, Reply, Request, Span, Token};
+use std::cell::RefCell;
 use std::fmt;
 
 /// An edition of Rust.
@@ -162,7 +163,7 @@ fn message_of(reply: Reply, out: &Buffers) -> String {
     String::from_utf8_lossy(out.message.get(..reply.message).unwrap_or(&[])).into_owned()
 }
 
-// Calls until the answer has room: a second call knows how much is needed.
+// Calls until the answer has room: a second call knows how much is needed. None that leaves something is called again.
 fn with_room(out: &mut Buffers, mut call: impl FnMut(&mut Buffers) -> Reply) -> Reply {
     loop {
         let reply = call(out);
@@ -232,28 +233,27 @@ fn lexed_definition(text: Input<'_>, edition: Edition, dialect: Dialect) -> Resu
     Ok(trees)
 }
 
-/// A definition that is one, by `Macro::new`, lexed once and kept as flat tokens, and what it is called with. Each call reads its
-/// rules from these tokens; `expand_each` reads them once.
-#[derive(Clone, Debug)]
-pub struct Macro<'a> { definition: Trees, request: Request, grammar: &'a str, rules: usize }
+/// A definition that is one, and is read once, by `Macro::new`: `expand` uses what was read. `explain` and `expand_each` read the rules
+/// again in each call, from the flat tokens that the definition was lexed to. It stays on its thread; what it holds is freed with it.
+#[derive(Debug)]
+pub struct Macro<'a> { read: RefCell<sys::Macro>, definition: Trees, request: Request, grammar: &'a str, rules: usize }
 
 impl<'a> Macro<'a> {
-    /// Lexes and checks a definition: the rules of a `macro_rules!`, without its name and braces.
+    /// Reads a definition: the rules of a `macro_rules!`, without its name and braces.
     pub fn new(definition: Input<'_>, edition: Edition, dialect: Dialect, grammar: Grammar<'a>) -> Result<Macro<'a>, Error> {
         let (number, grammar) = match grammar { Grammar::Sample => (0, ""), Grammar::Rust => (1, ""), Grammar::Text(text) => (2, text) };
         let mut request = Request { edition: year(edition), dialect: u32::from(dialect == Dialect::Rust), grammar: number, ..Request::default() };
-        if number == 2 { check_grammar(grammar)?; }
         let (given, is_flat) = bytes(definition);
         request.definition_is_flat = is_flat;
-        let mut out = buffers();
-        let reply = with_room(&mut out, |out| sys::define(&request, given, out));
+        let (mut out, mut read) = (buffers(), sys::Macro::default());
+        let reply = with_room(&mut out, |out| read.read(&request, grammar.as_bytes(), given, out));
         if reply.status != 0 { return Err(error_of(reply, &out)); }
         let definition = match definition {
             Input::Flat(trees) => trees.clone(),
             Input::Text(_) => lexed_definition(definition, edition, dialect)?,
         };
         request.definition_is_flat = 1;
-        Ok(Macro { definition, request, grammar, rules: reply.place })
+        Ok(Macro { read: RefCell::new(read), definition, request, grammar, rules: reply.place })
     }
 
     /// The number of its rules.
@@ -264,9 +264,9 @@ impl<'a> Macro<'a> {
     /// Expands a call `name!(argument)` at that span.
     pub fn expand(&self, argument: Input<'_>, form: Form, call_site: Span) -> Result<Expansion, Error> {
         let (argument, is_flat) = bytes(argument);
-        let request = Request { form: form_number(form), argument_is_flat: is_flat, call_site, ..self.request };
+        let call = Call { style: 0, form: form_number(form), argument_is_flat: is_flat, call_site };
         let mut out = buffers();
-        let reply = with_room(&mut out, |out| sys::expand(&request, self.grammar.as_bytes(), self.definition(), argument, out));
+        let reply = with_room(&mut out, |out| self.read.borrow_mut().expand(&call, argument, out));
         let message = message_of(reply, &out);
         expansion_of(reply, trees_of(reply, out), message)
     }

@@ -18,7 +18,7 @@ fn sample(definition: &str) -> Macro<'static> {
 
 #[test]
 fn rows() {
-    assert_eq!(version(), 2);
+    assert_eq!(version(), 3);
     for (definition, argument, expansion, rule) in ROWS {
         let found = sample(definition).expand(Input::Text(argument.as_bytes()), Form::Rust, Span::default()).expect(definition);
         assert_eq!(String::from_utf8_lossy(&found.trees.text), *expansion);
@@ -69,6 +69,24 @@ fn definitions_are_lexed_once() {
     assert_eq!((unlexed.status, unlexed.part), (Status::NoTokens, Part::Definition));
     let empty = Macro::new(Input::Flat(&Trees::default()), Edition::E2024, Dialect::Sample, Grammar::Sample).unwrap_err();
     assert_eq!((empty.status, empty.part), (Status::NoTrees, Part::Definition));
+}
+
+#[test]
+fn rules_are_read_once() {
+    let mut rules = String::from("($x:ident) => {$x $x}; ($x:literal) => {$x}");
+    let twice = Macro::new(Input::Text(rules.as_bytes()), Edition::E2024, Dialect::Sample, Grammar::Sample).expect("a definition");
+    rules.clear();
+    let found = |text: &'static str| twice.expand(Input::Text(text.as_bytes()), Form::Rust, Span::default());
+    for _ in 0..3 {
+        assert_eq!(found("a").expect("an expansion").trees.text, b"a a");
+        assert_eq!(found("1").expect("an expansion").rule, Some(1));
+        assert_eq!(found("+").expect("an expansion").fault.expect("a fault").message, "expected ident");
+        assert_eq!(found(")").unwrap_err().status, Status::NoTokens);
+    }
+    let macros: Vec<_> = ["a", "b", "c"].map(|it| sample(&format!("() => {{{it}}}"))).into_iter().collect();
+    for (it, of) in ["a", "b", "c"].iter().zip(&macros) {
+        assert_eq!(of.expand(Input::Text(b""), Form::Rust, Span::default()).expect("an expansion").trees.text, it.as_bytes());
+    }
 }
 
 #[test]

@@ -1,2 +1,3 @@
 mod EachLemmas
 mod GivingLemmas
+mod HandleSteps

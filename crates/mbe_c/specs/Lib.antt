@@ -1,2 +1,4 @@
 pub mod Copies
 pub mod Each
+pub mod Handles
+pub mod Held

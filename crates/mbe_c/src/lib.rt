@@ -1,21 +1,29 @@
 // The expander for C, and for all that calls C: each export calls a function of `mbe_replies`, and copies its answer into memory of
-// the caller. No call keeps anything: what it allocates is freed when it returns. `bindings/c/mbe.h` declares them.
+// the caller. What a call allocates is freed when it returns, but for the macro that `mbe_c_macro_read` leaves in a handle.
+// `bindings/c/mbe.h` declares them.
 #![tactic(auto)]
 
-ghost use Rattle.std.specs.Prelude.{◌≡◌, ◌-◌, ◌^◌, length, min, nat_le};
+ghost use Rattle.std.specs.Prelude.{◌≡◌, ◌-◌, ◌^◌, length, min, nat_le, None};
 ghost use Rattle.mbe_replies.specs.Answers.{answer_of};
 ghost use Rattle.mbe_replies.specs.Calls.{argument_of, definition_of};
 ghost use Rattle.mbe_c.specs.Copies as spec;
 ghost use Rattle.mbe_c.specs.Each.{answers_seen, GivesAll, GivesExpansions};
+ghost use Rattle.mbe_c.specs.Handles.{argument_of_call, freed, GivesAnswer, GivesMacro};
 
+mod block;
 mod each;
+mod handle;
+mod macros;
 
 use crate::each::{Answers, Piece, expand_each};
+use crate::handle::Macro;
+use crate::macros::read_macro;
 use mbe_flat::token::{FlatSpan, FlatToken, flat_span};
 use mbe_replies::answer::{Answer, Part, Status};
 use mbe_replies::calls::{
     FlatVerdict, Input, Request, check_grammar, convert, define, expand, explain,
 };
+use mbe_replies::kept::Call;
 use std::alloc::{Allocator, Global};
 
 /// What is said of an answer, in numbers.
@@ -47,9 +55,9 @@ pub struct Reply {
 /// The number of this interface, which changes with each struct and export.
 #[unsafe(no_mangle)]
 pub extern "C" fn mbe_c_version() -> u32
-    ensures { result ≡ 2 }
+    ensures { result ≡ 3 }
 {
-    2
+    3
 }
 
 // Copies the bytes to the front, if there is room for them all; else nothing.
@@ -412,5 +420,94 @@ pub extern "C" fn mbe_c_grammar(
             *reply = reply_of(&Answer::empty(alloc, Status::Done, Part::None));
             reply.status
         }
+    }
+}
+
+/// Reads a definition into a handle that has no macro (`mbe_replies::kept`). `reply.place` is the number of its rules. Where none is read,
+/// or the handle has one, `reply` says why, and the handle stays as it is.
+#[unsafe(no_mangle)]
+pub extern "C" fn mbe_c_macro_read(
+    alloc: Global,
+    request: &Request,
+    grammar: &[u8],
+    definition: &[u8],
+    definition_tokens: &[FlatToken],
+    handle: &mut Macro,
+    message: &mut [u8],
+    reply: &mut Reply,
+) -> u32
+    ensures result { result ≡ reply.new.status }
+    ensures reads { GivesMacro request.now grammar.now
+        (definition_of request.now definition.now definition_tokens.now)
+        handle.old.held handle.new.held message.old message.new reply.new }
+{
+    let definition = Input {
+        text: definition,
+        tokens: definition_tokens,
+        is_flat: request.definition_is_flat,
+        part: Part::Definition,
+        file: 0,
+    };
+    if let Some(held) = handle.take(alloc) {
+        handle.put(held);
+        let answer = Answer::empty(alloc, Status::HasMacro, Part::None);
+        return give(&answer, &mut [], &mut [], message, reply);
+    }
+    match read_macro(alloc, request, grammar, definition) {
+        Err(answer) => give(&answer, &mut [], &mut [], message, reply),
+        Ok(read) => {
+            *reply = reply_of(&Answer::empty(alloc, Status::Done, Part::None));
+            reply.place = read.count();
+            handle.put(read);
+            reply.status
+        }
+    }
+}
+
+/// Expands an argument by the macro that a handle has (`mbe_replies::kept`), which it keeps.
+#[unsafe(no_mangle)]
+pub extern "C" fn mbe_c_macro_expand(
+    alloc: Global,
+    handle: &mut Macro,
+    call: &Call,
+    argument: &[u8],
+    argument_tokens: &[FlatToken],
+    tokens: &mut [FlatToken],
+    text: &mut [u8],
+    message: &mut [u8],
+    reply: &mut Reply,
+) -> u32
+    ensures result { result ≡ reply.new.status }
+    ensures same { handle.new.held ≡ handle.old.held }
+    ensures expands { GivesAnswer handle.old.held call.now
+        (argument_of_call call.now argument.now argument_tokens.now)
+        (record { tokens = tokens.old; text = text.old; message = message.old })
+        (record { tokens = tokens.new; text = text.new; message = message.new }) reply.new }
+{
+    let argument = Input {
+        text: argument,
+        tokens: argument_tokens,
+        is_flat: call.argument_is_flat,
+        part: Part::Argument,
+        file: 1,
+    };
+    let Some(held) = handle.take(alloc) else {
+        let answer = Answer::empty(alloc, Status::NoMacro, Part::None);
+        return give(&answer, tokens, text, message, reply);
+    };
+    let answer = held.expand(alloc, call, argument);
+    handle.put(held);
+    give(&answer, tokens, text, message, reply)
+}
+
+/// Frees the macro that a handle has, and leaves none; a handle that has none stays so.
+#[unsafe(no_mangle)]
+pub extern "C" fn mbe_c_macro_free(alloc: Global, handle: &mut Macro) -> u32
+    ensures result { result ≡ freed handle.old.held }
+    ensures none { handle.new.held ≡ None }
+{
+    match handle.take(alloc) {
+        Some(_held) => Status::Done.number(),
+        None => Status::NoMacro.number(),
     }
 }

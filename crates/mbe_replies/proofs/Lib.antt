@@ -1,4 +1,5 @@
 pub mod BareLemmas
 mod CallLemmas
+mod KeptLemmas
 mod ReadLemmas
 mod VerdictLemmas

@@ -34,7 +34,7 @@ use Rattle.mbe_replies.proofs.CallLemmas.{expands_both, table_read}
 pub shown_of : {X E A : Type 0} (see : X → Answer) (r : Result X E) (g : Grammar) (m : ReadMacro A) (argument : Top)
     (site : Span) (tree : Top)
     (rule : Option ℕ) (err : Option ExpandError)
-    → IsAnswer g IsItself (macro_of m.rules).rules m.asked.style argument site (top_group tree) rule err
+    → IsAnswer g IsItself (macro_of m.read.rules).rules m.asked.style argument site (top_group tree) rule err
     → IfOk r (λ x. see x ≡ expansion_shown m.asked.form tree rule err)
     → IfOk r (λ x. IsExpansionOf g m argument site (see x))
 shown_of see (Ok x) g m argument site tree rule err is shown = (tree, rule, err, is, shown)
@@ -94,7 +94,7 @@ expands_trees m site text g definition argument a named is (inl (tree, rule, err
     tree = tree;
     rule = rule;
     err = err;
-    expands = record { rules = (macro_of m.rules).rules; read = is.1; answers = answers };
+    expands = record { rules = (macro_of m.read.rules).rules; read = is.1; answers = answers };
     shown = shown;
   },
 )

@@ -19,7 +19,7 @@ use Rattle.mbe_flat.specs.declared.reading.Wrong.{Wrong}
 use Rattle.mbe_flat.specs.declared.reading.Wrong.TheVariants as wrong
 use Rattle.mbe_replies.specs.declared.answer.Answer as given
 use Rattle.mbe_replies.specs.declared.answer.Status.{Status}
-use Rattle.mbe_replies.specs.declared.answer.Status.TheVariants.{Done, Faulted, Refused, Number, Utf8, TooLong, NoTokens, NoTrees, NoGrammar, OutOfMemory, NoRoom}
+use Rattle.mbe_replies.specs.declared.answer.Status.TheVariants.{Done, Faulted, Refused, Number, Utf8, TooLong, NoTokens, NoTrees, NoGrammar, OutOfMemory, NoRoom, NoMacro, HasMacro}
 use Rattle.mbe_replies.specs.declared.answer.Part.{Part}
 use Rattle.mbe_replies.specs.declared.answer.Part.TheVariants as parts
 use Rattle.mbe_replies.specs.declared.expanding.Unread.{Unread}
@@ -37,6 +37,8 @@ status_number NoTrees = 7
 status_number NoGrammar = 8
 status_number OutOfMemory = 9
 status_number NoRoom = 10
+status_number NoMacro = 12
+status_number HasMacro = 13
 
 abbrev pub part_number : Part → ℕ
 part_number parts.None = 0

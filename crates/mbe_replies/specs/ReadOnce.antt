@@ -17,6 +17,7 @@ use Rattle.mbe_replies.specs.declared.calls.Request.{Request}
 use Rattle.mbe_replies.specs.declared.calls.Settings.{Settings}
 use Rattle.mbe_replies.specs.declared.read_macro.Fragments.{Fragments}
 use Rattle.mbe_replies.specs.declared.read_macro.Fragments.TheVariants as fragments
+use Rattle.mbe_replies.specs.declared.read_macro.InUse.{InUse}
 use Rattle.mbe_replies.specs.declared.read_macro.ReadMacro.{ReadMacro}
 use Rattle.mbe_replies.specs.Answers.{Answer, empty}
 use Rattle.mbe_replies.specs.Calls.{AreSettings, AreTreesOf, HasNoTrees, IsNoResult, IsRustTable, IsText, IsUnknown, Expands, ExpandsTrees, Source, expansion_shown}
@@ -34,7 +35,7 @@ AreFragments s text (fragments.Text rules) =
 -- a macro was read of these trees, and the grammar that it asks for of that text
 abbrev pub IsMacroOf : {A : Type 0} → List ℕ → Top → ReadMacro A → Type 0
 IsMacroOf text definition m = AreFragments m.asked text m.fragments
-    × IsReadAs (IsEdition m.asked.edition) definition.1 (record { rules = (macro_of m.rules).rules; err = None })
+    × IsReadAs (IsEdition m.asked.edition) definition.1 (record { rules = (macro_of m.read.rules).rules; err = None })
 
 -- a macro was read for that request, of that definition and that text of a grammar
 abbrev pub IsMacro : {A : Type 0} → Request → List ℕ → Source → ReadMacro A → Type 0
@@ -51,6 +52,10 @@ pub data IsUnread (r : Request) (text : List ℕ) (definition : Source) (a : Ans
 
 -- ---- what it makes of arguments
 
+-- a macro with what a call asks of it
+abbrev pub in_use : {A : Type 0} → InUse A → ReadMacro A
+in_use u = record { asked = u.asked; fragments = u.fragments.now; read = u.read.now }
+
 -- what was asked, of a call at another place
 abbrev pub at_site : Settings → Span → Settings
 at_site s site = record s { call_site = site }
@@ -61,7 +66,7 @@ asked_at r site = record r { call_site = site }
 -- the answer shows what the macro makes of an argument by that grammar, in a call at that span
 abbrev pub IsExpansionOf : {A : Type 0} → Grammar → ReadMacro A → Top → Span → Answer → Type 0
 IsExpansionOf g m argument site a = (tree : Top) × (rule : Option ℕ) × (err : Option ExpandError)
-    × IsAnswer g IsItself (macro_of m.rules).rules m.asked.style argument site (top_group tree) rule err
+    × IsAnswer g IsItself (macro_of m.read.rules).rules m.asked.style argument site (top_group tree) rule err
     × (a ≡ expansion_shown m.asked.form tree rule err)
 
 -- the answer is that to a call with each text and each definition of trees that the macro may have been read of

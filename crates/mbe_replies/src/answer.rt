@@ -39,11 +39,15 @@ pub enum Status {
     OutOfMemory,
     /// A buffer of the caller is too small; what was needed is in the reply.
     NoRoom,
+    /// A handle has no macro: none was read, or it was freed.
+    NoMacro,
+    /// A handle that a macro is to be read for has one.
+    HasMacro,
 }
 
 impl Status {
     /// The status in C: 0 `Done`, 1 `Faulted`, 2 `Refused`, 3 `Number`, 4 `Utf8`, 5 `TooLong`, 6 `NoTokens`, 7 `NoTrees`, 8
-    /// `NoGrammar`, 9 `OutOfMemory`, 10 `NoRoom`.
+    /// `NoGrammar`, 9 `OutOfMemory`, 10 `NoRoom`, 12 `NoMacro`, 13 `HasMacro`; 11 is the header's, of null pointers.
     pub fn number(self) -> u32
         ensures { result ≡ spec.status_number self }
     {
@@ -59,6 +63,8 @@ impl Status {
             Status::NoGrammar => 8,
             Status::OutOfMemory => 9,
             Status::NoRoom => 10,
+            Status::NoMacro => 12,
+            Status::HasMacro => 13,
         }
     }
 }

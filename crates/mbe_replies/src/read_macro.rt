@@ -33,8 +33,8 @@ pub enum Fragments<'t, A: Allocator> {
 impl<'t, A: Allocator + Copy> Fragments<'t, A> {
     ghost use Rattle.mbe_replies.specs.ReadOnce.{AreFragments};
 
-    // Reads the grammar that is asked for, from the text where it is to be one.
-    fn read(alloc: A, asked: Settings, text: &'t [u8]) -> Result<Fragments<'t, A>, Answer<A>>
+    /// Reads the grammar that is asked for, from the text where it is to be one.
+    pub fn read(alloc: A, asked: Settings, text: &'t [u8]) -> Result<Fragments<'t, A>, Answer<A>>
         ensures read { IfOk result (AreFragments asked text.now) }
         ensures asked { IfErr result (λ _. asked.grammar ≡ grammars.Text) }
         ensures fails { IfErr result (λ a. IsNoGrammar text.now (answer_of a)) }
@@ -50,13 +50,91 @@ impl<'t, A: Allocator + Copy> Fragments<'t, A> {
     }
 }
 
+/// Rules that were read without an error.
+#[derive(Drop)]
+pub struct Faultless<A: Allocator> {
+    pub rules: DeclarativeMacro<A>,
+    ghost faultless: { (macro_of rules).err ≡ None },
+}
+
 /// A definition that was read, without an error, with what is asked of it and the grammar of its fragments.
 #[derive(Drop)]
 pub struct ReadMacro<'t, A: Allocator> {
     pub asked: Settings,
     pub fragments: Fragments<'t, A>,
-    pub rules: DeclarativeMacro<A>,
-    ghost faultless: { (macro_of rules).err ≡ None },
+    pub read: Faultless<A>,
+}
+
+/// A macro that was read, while it expands: what a call asks of it, and what it borrows.
+#[derive(Drop)]
+pub struct InUse<'m, 't, A: Allocator> {
+    pub asked: Settings,
+    pub fragments: &'m Fragments<'t, A>,
+    pub read: &'m Faultless<A>,
+}
+
+impl<A: Allocator + Copy> InUse<'_, '_, A> {
+    ghost use Rattle.mbe_replies.specs.ReadOnce as spec;
+
+    // What it makes of an argument by that grammar.
+    fn expansion<G: FragmentGrammar>(
+        &self,
+        alloc: A,
+        grammar: &G,
+        argument: &TopSubtree<A>,
+        call_site: Span,
+    ) -> Result<Answer<A>, AllocError>
+        ensures { IfOk result (λ a. spec.IsExpansionOf (G.grammar grammar.now)
+            (spec.in_use self.now) argument.now call_site (answer_of a)) }
+    {
+        let Settings { style, form, .. } = self.asked;
+        let rules = &self.read.rules;
+        let expansion = expansion_by(alloc, grammar, rules, argument, style, call_site)?;
+        expansion_shown(alloc, form, &expansion)
+    }
+
+    // The same, or that there is no memory.
+    fn expand_by<G: FragmentGrammar>(
+        &self,
+        alloc: A,
+        grammar: &G,
+        argument: &TopSubtree<A>,
+        call_site: Span,
+    ) -> Answer<A>
+        ensures { IsOr (spec.IsExpansionOf (G.grammar grammar.now) (spec.in_use self.now)
+            argument.now call_site) (answer_of result) }
+    {
+        match self.expansion(alloc, grammar, argument, call_site) {
+            Ok(answer) => answer,
+            Err(_) => Answer::empty(alloc, Status::OutOfMemory, Part::None),
+        }
+    }
+
+    /// Expands an argument of trees, in a call at that span.
+    pub fn expand_trees(&self, alloc: A, argument: &TopSubtree<A>, call_site: Span) -> Answer<A>
+        ensures { spec.AnswersTreesBy (spec.in_use self.now) argument.now call_site
+            (answer_of result) }
+    {
+        match self.fragments {
+            Fragments::Sample => self.expand_by(alloc, &SampleGrammar, argument, call_site),
+            Fragments::Rust(table) => self.expand_by(alloc, table, argument, call_site),
+            Fragments::Text(rules) => {
+                let table = rules.table(self.asked.edition, &[]);
+                self.expand_by(alloc, &table, argument, call_site)
+            }
+        }
+    }
+
+    /// Expands an argument, in a call at that span.
+    pub fn expand(&self, alloc: A, argument: Input<'_>, call_site: FlatSpan) -> Answer<A>
+        ensures { spec.AnswersBy (spec.in_use self.now) (source_of argument.entry) call_site
+            (answer_of result) }
+    {
+        match trees(alloc, self.asked.dialect, argument) {
+            Ok(argument) => self.expand_trees(alloc, &argument, span_of(call_site)),
+            Err(answer) => answer,
+        }
+    }
 }
 
 impl<'t, A: Allocator + Copy> ReadMacro<'t, A> {
@@ -82,57 +160,9 @@ impl<'t, A: Allocator + Copy> ReadMacro<'t, A> {
             Ok(rules) => Ok(ReadMacro {
                 asked,
                 fragments,
-                rules,
+                read: Faultless { rules },
             }),
             Err(error) => Err(Answer::unread(alloc, &error)),
-        }
-    }
-
-    // What it makes of an argument by that grammar.
-    fn expansion<G: FragmentGrammar>(
-        &self,
-        alloc: A,
-        grammar: &G,
-        argument: &TopSubtree<A>,
-        call_site: Span,
-    ) -> Result<Answer<A>, AllocError>
-        ensures { IfOk result (λ a. spec.IsExpansionOf (G.grammar grammar.now) self.now
-            argument.now call_site (answer_of a)) }
-    {
-        let Settings { style, form, .. } = self.asked;
-        let rules = &self.rules;
-        let expansion = expansion_by(alloc, grammar, rules, argument, style, call_site)?;
-        expansion_shown(alloc, form, &expansion)
-    }
-
-    // The same, or that there is no memory.
-    fn expand_by<G: FragmentGrammar>(
-        &self,
-        alloc: A,
-        grammar: &G,
-        argument: &TopSubtree<A>,
-        call_site: Span,
-    ) -> Answer<A>
-        ensures { IsOr (spec.IsExpansionOf (G.grammar grammar.now) self.now argument.now call_site)
-            (answer_of result) }
-    {
-        match self.expansion(alloc, grammar, argument, call_site) {
-            Ok(answer) => answer,
-            Err(_) => Answer::empty(alloc, Status::OutOfMemory, Part::None),
-        }
-    }
-
-    /// Expands an argument of trees, in a call at that span.
-    pub fn expand_trees(&self, alloc: A, argument: &TopSubtree<A>, call_site: Span) -> Answer<A>
-        ensures { spec.AnswersTreesBy self.now argument.now call_site (answer_of result) }
-    {
-        match &self.fragments {
-            Fragments::Sample => self.expand_by(alloc, &SampleGrammar, argument, call_site),
-            Fragments::Rust(table) => self.expand_by(alloc, table, argument, call_site),
-            Fragments::Text(rules) => {
-                let table = rules.table(self.asked.edition, &[]);
-                self.expand_by(alloc, &table, argument, call_site)
-            }
         }
     }
 
@@ -158,14 +188,29 @@ impl<'t, A: Allocator + Copy> ReadMacro<'t, A> {
         }
     }
 
+    // The macro, to be used as it was asked for.
+    fn in_use(&self) -> InUse<'_, 't, A>
+        ensures { spec.in_use result ≡ self.now }
+    {
+        InUse {
+            asked: self.asked,
+            fragments: &self.fragments,
+            read: &self.read,
+        }
+    }
+
+    /// Expands an argument of trees, in a call at that span.
+    pub fn expand_trees(&self, alloc: A, argument: &TopSubtree<A>, call_site: Span) -> Answer<A>
+        ensures { spec.AnswersTreesBy self.now argument.now call_site (answer_of result) }
+    {
+        self.in_use().expand_trees(alloc, argument, call_site)
+    }
+
     /// Expands an argument, in a call at that span: the answer is that of `calls::expand` to the request that the definition was read
     /// for, with this call site.
     pub fn expand(&self, alloc: A, argument: Input<'_>, call_site: FlatSpan) -> Answer<A>
         ensures { spec.AnswersBy self.now (source_of argument.entry) call_site (answer_of result) }
     {
-        match trees(alloc, self.asked.dialect, argument) {
-            Ok(argument) => self.expand_trees(alloc, &argument, span_of(call_site)),
-            Err(answer) => answer,
-        }
+        self.in_use().expand(alloc, argument, call_site)
     }
 }

@@ -1,7 +1,7 @@
 //! What `bindings/c/mbe.h` declares, and a safe call for each export: the only file with `unsafe`. `mbe_rs` is what programs use.
 #![warn(missing_docs)]
 
-use std::os::raw::c_char;
+use std::os::raw::{c_char, c_void};
 
 /// Where a token is: `mbe_span`.
 #[repr(C)]
@@ -115,6 +115,28 @@ pub struct Piece {
     pub call_site: Span,
 }
 
+/// What is asked of a macro in one call: `mbe_call`, which explains the numbers.
+#[repr(C)]
+#[derive(Clone, Copy, Debug, Default)]
+pub struct Call {
+    /// How the macro is called.
+    pub style: u32,
+    /// What is written of trees.
+    pub form: u32,
+    /// 1 where the argument is flat tokens.
+    pub argument_is_flat: u32,
+    /// Where the call is.
+    pub call_site: Span,
+}
+
+/// A macro that was read, until it is dropped: `mbe_macro`. It stays on its thread.
+#[repr(C)]
+#[derive(Debug)]
+pub struct Macro {
+    at: *mut c_void,
+    state: u64,
+}
+
 extern "C" {
     fn mbe_c_version() -> u32;
     fn mbe_c_expand(
@@ -175,6 +197,26 @@ extern "C" {
         message: *mut c_char, message_room: usize,
         reply: *mut Reply,
     ) -> u32;
+    fn mbe_c_macro_read(
+        request: *const Request,
+        grammar: *const c_char, grammar_len: usize,
+        definition: *const c_char, definition_len: usize,
+        definition_tokens: *const Token, definition_token_len: usize,
+        it: *mut Macro,
+        message: *mut c_char, message_room: usize,
+        reply: *mut Reply,
+    ) -> u32;
+    fn mbe_c_macro_expand(
+        it: *mut Macro,
+        call: *const Call,
+        argument: *const c_char, argument_len: usize,
+        argument_tokens: *const Token, argument_token_len: usize,
+        tokens: *mut Token, token_room: usize,
+        text: *mut c_char, text_room: usize,
+        message: *mut c_char, message_room: usize,
+        reply: *mut Reply,
+    ) -> u32;
+    fn mbe_c_macro_free(it: *mut Macro) -> u32;
 }
 
 /// Memory for an answer.
@@ -201,7 +243,8 @@ pub struct Bytes<'a> {
 
 // SAFETY, of each call after this: the declarations above are those of `mbe.h`; each pointer with its length is that of one slice, which is
 // borrowed for the call; what is written is borrowed mutably, so overlaps nothing; a slice's pointer is never null, and all of its
-// elements are numbers.
+// elements are numbers. A `Macro` begins with zeros, no one else writes its fields, it is never copied, and it stays on its thread, since a
+// struct with a raw pointer does.
 
 /// The version of the interface.
 pub fn version() -> u32 {
@@ -314,4 +357,58 @@ pub fn grammar(text: &[u8], out: &mut Buffers) -> Reply {
         )
     };
     reply
+}
+
+impl Default for Macro {
+    fn default() -> Macro {
+        Macro { at: std::ptr::null_mut(), state: 0 }
+    }
+}
+
+impl Macro {
+    /// `mbe_macro_read`.
+    pub fn read(&mut self, request: &Request, grammar: &[u8], definition: Bytes, out: &mut Buffers) -> Reply {
+        let mut reply = Reply::default();
+        unsafe {
+            mbe_c_macro_read(
+                request,
+                grammar.as_ptr().cast(), grammar.len(),
+                definition.text.as_ptr().cast(), definition.text.len(),
+                definition.tokens.as_ptr(), definition.tokens.len(),
+                self,
+                out.message.as_mut_ptr().cast(), out.message.len(),
+                &mut reply,
+            )
+        };
+        reply
+    }
+
+    /// `mbe_macro_expand`.
+    pub fn expand(&mut self, call: &Call, argument: Bytes, out: &mut Buffers) -> Reply {
+        let mut reply = Reply::default();
+        unsafe {
+            mbe_c_macro_expand(
+                self,
+                call,
+                argument.text.as_ptr().cast(), argument.text.len(),
+                argument.tokens.as_ptr(), argument.tokens.len(),
+                out.tokens.as_mut_ptr(), out.tokens.len(),
+                out.text.as_mut_ptr().cast(), out.text.len(),
+                out.message.as_mut_ptr().cast(), out.message.len(),
+                &mut reply,
+            )
+        };
+        reply
+    }
+
+    /// `mbe_macro_free`: 0, or 12 where it has none. A drop does it too.
+    pub fn free(&mut self) -> u32 {
+        unsafe { mbe_c_macro_free(self) }
+    }
+}
+
+impl Drop for Macro {
+    fn drop(&mut self) {
+        self.free();
+    }
 }

@@ -1,14 +1,10 @@
+use Rattle.std.proofs.Common.{subst}
 use Rattle.mbe_replies.specs.Answers.{answer_of}
 use Rattle.mbe_replies.specs.Calls.{source_of}
-use Rattle.mbe_replies.proofs.ReadLemmas.{expands_argument, expands_nothing}
+use Rattle.mbe_replies.specs.ReadOnce.{AnswersBy}
 use Rattle.mbe_replies.proofs.read_macro.ReadMacro.expand.Goals as goal
 
-pub returns-in-Ok : goal.returns-in-Ok
-returns-in-Ok g c =
-    expands_argument c.args.self.now (source_of c.args.argument) c.args.call_site c.span_of.result c.in-Ok.argument
-    (answer_of c.expand_trees.result) c.span_of.ensures c.in-Ok.ensures.trees c.expand_trees.ensures
-
-pub returns-in-Err : goal.returns-in-Err
-returns-in-Err g c =
-    expands_nothing c.args.self.now (source_of c.args.argument) c.args.call_site (answer_of c.in-Err.answer)
-    c.in-Err.ensures.fails
+pub returns : goal.returns
+returns g c =
+    subst (λ m. AnswersBy m (source_of c.args.argument) c.args.call_site (answer_of c.expand.result))
+    c.in_use.ensures c.expand.ensures

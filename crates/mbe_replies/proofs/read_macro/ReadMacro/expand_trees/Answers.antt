@@ -1,22 +1,9 @@
+use Rattle.std.proofs.Common.{subst}
 use Rattle.mbe_replies.specs.Answers.{answer_of}
-use Rattle.mbe_replies.proofs.ReadLemmas.{by_rust, by_sample, by_text}
+use Rattle.mbe_replies.specs.ReadOnce.{AnswersTreesBy}
 use Rattle.mbe_replies.proofs.read_macro.ReadMacro.expand_trees.Goals as goal
 
-pub returns-in-Sample : goal.returns-in-Sample
-returns-in-Sample g c =
-    by_sample c.args.self.now c.args.call_site c.args.argument.now (answer_of c.expand_by.result) c.in-Sample.is
-    c.expand_by.ensures
-
-pub returns-in-Rust : goal.returns-in-Rust
-returns-in-Rust g c =
-    by_rust c.args.self.now c.in-Rust.table c.args.call_site c.args.argument.now
-    (answer_of c.expand_by-in-Rust.result) c.in-Rust.is
-    c.expand_by-in-Rust.ensures
-
-pub returns-in-Text : goal.returns-in-Text
-returns-in-Text g c =
-    let t = c.table-table in
-    by_text c.args.self.now c.in-Text.rules t.result c.args.call_site c.args.argument.now
-    (answer_of c.expand_by-in-Text.result)
-    c.in-Text.is t.ensures.nodes t.ensures.keywords t.ensures.starts t.ensures.edition t.ensures.editions
-    c.expand_by-in-Text.ensures
+pub returns : goal.returns
+returns g c =
+    subst (λ m. AnswersTreesBy m c.args.argument.now c.args.call_site (answer_of c.expand_trees.result))
+    c.in_use.ensures c.expand_trees.ensures
