@@ -1,4 +1,5 @@
--- Which tokens and trees are Rust's in an edition: those of which the text that is written can be read again.
+-- Which tokens and trees are Rust's in an edition: those of which the text that is written can be read again, among
+-- them all that the lexer makes.
 use Rattle.std.specs.Prelude.{◌≡◌, ◌≢◌, ◌⊎◌, ⊤, ℕ, zero, suc, if◌then◌else◌, ◌==◌, Bool, true, false, not, ◌&&◌, ◌||◌, Option, Some, None, List, [], ◌∷◌, ◌++◌, chars, codes, drop, Ok}
 use Rattle.std.specs.Str.{IsUtf8}
 use Rattle.std.specs.Char.{is_ascii_digit}
@@ -124,7 +125,7 @@ abbrev pub make_another : Edition → ℕ → ℕ → Bool
 make_another edition c d =
     (c == slash && (d == slash || d == star)) || (at_least_2024 edition && (c == number_sign && d == number_sign))
 
--- two tokens stand side by side in one file, or have one place
+-- two tokens are side by side in one file, or have one place
 abbrev pub are_together : Span → Span → Bool
 are_together one other = is_same_place (Some one) other || are_beside one other
 
@@ -207,8 +208,8 @@ abbrev pub joint_after : Option Comment → Punct → Bool
 joint_after None p = is_joint p.spacing
 joint_after (Some c) p = false
 
--- Each literal is read whole, but for the text of a doc comment that is written as one. So many of the tokens are a
--- comment's; the flag says whether a joint punct is before them.
+-- Each literal is read whole, but for the text of a doc comment that is written as one. The first so many tokens are
+-- such a comment's; the flag says whether a joint punct is right before the tokens.
 abbrev pub AreRead : Edition → ℕ → Bool → List FlatToken → Type 0
 AreRead edition n joint [] = ⊤
 AreRead edition (suc n) joint (t ∷ ts) = AreRead edition n false ts

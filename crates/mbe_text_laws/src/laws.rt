@@ -9,8 +9,8 @@ ghost use Rattle.mbe_text_laws.specs.Back.{
 };
 ghost use Rattle.mbe_text_laws.specs.Lexed.{LexedAreRust, TextComesBack};
 
-/// What a writer puts between two tokens is no part of a token, and hides none: the next token of a text with a gap before it is the next
-/// token of that text.
+/// What a writer puts between two tokens is no part of a token, and hides none: the next token of
+/// a text with a gap before it is the next token of that text.
 pub fn gaps_are_blank()
     ensures { GapsAreBlank }
 {}
