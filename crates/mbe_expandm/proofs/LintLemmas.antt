@@ -1,11 +1,14 @@
 -- What is said of definitions with the editions of one answer is said with those of another answer that allows them.
-use Rattle.std.proofs.Common.{◌≡◌, List, [], ◌∷◌, Option, Some, None, Result, Ok, Err}
+use Rattle.std.proofs.Common.{◌≡◌, List, [], ◌∷◌, Some, None, Result, Ok, Err, subst}
 use Rattle.std.specs.Prelude.{OnOk}
 use Rattle.mbe_tt.specs.declared.span.Edition.{Edition}
 use Rattle.mbe_tt.specs.declared.span.SyntaxContext.{SyntaxContext}
+use Rattle.mbe_tt.specs.Trees.Tree.{Forest}
 use Rattle.mbe_semantics.specs.Expansion.Macro.{Macro}
 use Rattle.mbe_calls.specs.Fronts.{Form, Rules, Body, Arguments, Defined}
 use Rattle.mbe_expanding.proofs.EditionLemmas.{read_as, read_as_macro}
+use Rattle.mbe_expanding.specs.Scopes.{IsEdition}
+use Rattle.mbe_lints.specs.Definitions.{definitions}
 use Rattle.mbe_lints.specs.Lint.{Lint}
 use Rattle.mbe_lints.specs.Lints.{IsReadIn, IsLinted, AreLinted}
 
@@ -24,6 +27,11 @@ module _ {A B : SyntaxContext → Edition → Type 0} (more : (c : SyntaxContext
   all_linted (d ∷ ds) before after h =
       (h.0, linted d before h.0 h.1, all_linted ds h.0 after h.2)
 
-pub linted_by : {X R : Type 0} (r : Result X R) {P Q : Type 0} → (P → Q) → OnOk r P → OnOk r Q
-linted_by (Ok x) more h = more h
-linted_by (Err e) more h = h
+pub tree_linted : {X R : Type 0} {A : SyntaxContext → Edition → Type 0} (r : Result X R) (edition : Edition)
+    (f g : Forest) (before after : List Lint) → ((c : SyntaxContext) (e : Edition) → A c e → e ≡ edition) → f ≡ g
+    → OnOk r (AreLinted A (definitions 1001 f) before after)
+    → OnOk r (AreLinted (IsEdition edition) (definitions 1001 g) before after)
+tree_linted {A = A} (Ok x) edition f g before after only same h =
+    subst (λ k. AreLinted (IsEdition edition) (definitions 1001 k) before after) same
+    (all_linted {A = A} {B = IsEdition edition} only (definitions 1001 f) before after h)
+tree_linted (Err e) edition f g before after only same h = h

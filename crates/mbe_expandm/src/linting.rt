@@ -1,6 +1,9 @@
 // What is said of the definitions of files, without a call.
 ghost use Rattle.std.specs.Prelude.{◌≡◌, IfOk, OnOk, length, map};
+ghost use Rattle.mbe_expanding.specs.Scopes.{IsEdition};
+ghost use Rattle.mbe_lints.specs.Definitions.{definitions};
 ghost use Rattle.mbe_lints.specs.Lint.{lint_seen};
+ghost use Rattle.mbe_lints.specs.Lints.{AreLinted};
 ghost use Rattle.mbe_expandm.specs.Linted.{AreTextsLinted, FileLinted, FilesLinted, lint_status};
 ghost use Rattle.mbe_expandm.specs.ShownFiles.{source_of, text_of};
 ghost use Rattle.mbe_expandm.specs.ShownOptions.{conditions_of};
@@ -14,6 +17,7 @@ use mbe_lints::lint::Lint;
 use mbe_lints::linting::push_lints;
 use mbe_rust::fragments::rust_rules;
 use mbe_tt::span::Edition;
+use mbe_tt::tt::TopSubtree;
 use std::alloc::{AllocError, Global};
 
 /// Files with their trees, what is to be reported of the files, and then what of their definitions.
@@ -22,6 +26,19 @@ pub struct Linted<'f> {
     pub files: Vec<SourceFile<'f>>,
     pub notes: Vec<Note>,
     pub lints: Vec<Lint>,
+}
+
+// Adds what is said of the definitions among these trees.
+fn push_tree(
+    alloc: Global,
+    edition: Edition,
+    lints: &mut Vec<Lint>,
+    tree: &TopSubtree,
+) -> Result<(), AllocError>
+    ensures { OnOk result (AreLinted (IsEdition edition) (definitions 1001 tree.now.1)
+        (map lint_seen lints.old.items) (map lint_seen lints.new.items)) }
+{
+    push_lints(alloc, |_context| edition, lints, tree.iter().remaining())
 }
 
 // Adds what is said of the definitions of a file.
@@ -35,7 +52,7 @@ fn push_file(
         (map lint_seen lints.old.items) (map lint_seen lints.new.items)) }
 {
     match &file.tree {
-        Some(tree) => push_lints(alloc, |_context| edition, lints, tree.iter().remaining()),
+        Some(tree) => push_tree(alloc, edition, lints, tree),
         None => Ok(()),
     }
 }
