@@ -37,21 +37,33 @@ fn is_level(word: &str) -> bool {
     matches!(word, "error" | "warning" | "note" | "help")
 }
 
-// The messages, each with its line and column and its level, but for the list of specifiers.
+fn is_message(line: &str) -> bool {
+    match line.split_once(": ") {
+        Some((level, _)) => is_level(level),
+        None => false,
+    }
+}
+
+// Whether it is the list of specifiers.
+fn is_list(message: &str) -> bool {
+    match message.strip_prefix("help: ") {
+        Some(text) => text == VALID,
+        None => false,
+    }
+}
+
+// The messages, each with its line and column, but for the list of specifiers.
 fn messages_of(alloc: Global, reports: &str) -> Result<String, AllocError> {
     let mut said = String::new(alloc);
-    let mut last = ("", "");
+    let mut last = String::new(alloc);
     for line in reports.lines() {
-        if let Some((level, message)) = line.split_once(": ")
-            && is_level(level)
+        if is_message(line) {
+            last = String::from_str(alloc, line)?;
+        } else if let Some(place) = line.strip_prefix(" --> a.rs:")
+            && !is_list(last.as_str())
         {
-            last = (level, message);
-        } else if let Some(place) = line.strip_prefix(" --> a.rs:") {
-            let (level, message) = last;
-            if message != VALID {
-                let both = format!(in alloc; "{place} {level}: {message}; ")?;
-                said.push_str(both.as_str())?;
-            }
+            let both = format!(in alloc; "{place} {last}; ")?;
+            said.push_str(both.as_str())?;
         }
     }
     Ok(said)
