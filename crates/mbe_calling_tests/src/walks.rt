@@ -9,7 +9,7 @@ use std::alloc::{AllocError, Allocator, Global};
 pub fn assignment<'a, A: Allocator>(
     iter: &mut TtIter<'a, A>,
 ) -> Option<(&'a Ident<A>, TokenTreesView<'a, A>)> {
-    let mut ahead = iter.remaining().iter();
+    let mut ahead = iter.fork();
     let name = ahead.expect_ident().ok()?;
     ahead.expect_char('=').ok()?;
     let value = ahead.next_as_view()?;
@@ -37,7 +37,7 @@ pub fn expect_each<A: Allocator>(iter: &mut TtIter<'_, A>) -> Result<(usize, usi
 /// Where the next tree begins and where the one after it does; nothing is consumed.
 pub fn next_spans<A: Allocator>(iter: &TtIter<'_, A>) -> Option<(Span, Span)> {
     let first = iter.peek()?.first_span();
-    let mut ahead = iter.remaining().iter();
+    let mut ahead = iter.fork();
     let _first = ahead.next();
     Some((first, ahead.next_span()?))
 }
@@ -151,7 +151,7 @@ mod tests {
     }
 
     fn consumes_the_leaf(iter: &mut TtIter<'_>) -> bool {
-        is_literal_next(iter.remaining().iter())
+        is_literal_next(iter.fork())
             && matches!(next_leaf(iter), Some(view) if view.len() == 1)
             && iter.remaining().len() == 1
     }

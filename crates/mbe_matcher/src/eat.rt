@@ -167,7 +167,7 @@ pub(crate) fn eat_signed_literal<'a, A: Allocator>(
 fn eat_tree<'a, A: Allocator>(src: &mut TtIter<'a, A>) -> Option<TokenTreesView<'a, A>>
     ensures { IsTaken result (tree_front src.old) src.new }
 {
-    let mut ahead = src.remaining().iter();
+    let mut ahead = src.fork();
     if ahead.expect_char('\'').is_ok() {
         return eat_lifetime(src);
     }

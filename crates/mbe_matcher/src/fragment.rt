@@ -41,7 +41,7 @@ pub fn expect_fragment<'t, A: Allocator + Copy, G: FragmentGrammar>(
     ensures unmoved { OnErr result (tt_iter.new ≡ tt_iter.old) }
 {
     let span = tt_iter.next_span().unwrap_or(delim_span.close);
-    let mut ahead = tt_iter.remaining().iter();
+    let mut ahead = tt_iter.fork();
     let counted = eat_front(grammar, entry_point, &mut ahead)?;
     let err = if counted.is_good {
         None

@@ -16,14 +16,6 @@ use mbe_tt::symbol::Symbol;
 use mbe_tt::tt::{DelimiterKind, Ident, Leaf, Literal, Punct, TtIter};
 use std::alloc::Allocator;
 
-// An iterator at the same place.
-#[inline(always)]
-pub(crate) fn fork<'a, A: Allocator>(src: &TtIter<'a, A>) -> TtIter<'a, A>
-    ensures { result ≡ src.now }
-{
-    src.remaining().iter()
-}
-
 // The flat tokens from `before` to `after`, if they were consumed.
 #[inline(always)]
 fn width_to<A: Allocator>(
@@ -64,7 +56,7 @@ pub(crate) fn token_width<A: Allocator>(op: &Op<A>, src: &TtIter<'_, A>) -> Opti
 fn literal_width<A: Allocator>(literal: &Literal<A>, src: &TtIter<'_, A>) -> Option<usize>
     ensures { result ≡ length_of (literal_text_front literal.now.text_and_suffix src.now) }
 {
-    let mut ahead = fork(src);
+    let mut ahead = src.fork();
     let passed = eat_literal(literal, &mut ahead);
     width_to(passed, src, &ahead)
 }
@@ -74,7 +66,7 @@ fn literal_width<A: Allocator>(literal: &Literal<A>, src: &TtIter<'_, A>) -> Opt
 fn ident_width<A: Allocator>(ident: &Ident<A>, src: &TtIter<'_, A>) -> Option<usize>
     ensures { result ≡ length_of (ident_text_front ident.now.sym src.now) }
 {
-    let mut ahead = fork(src);
+    let mut ahead = src.fork();
     let passed = eat_ident(ident, &mut ahead);
     width_to(passed, src, &ahead)
 }
@@ -84,7 +76,7 @@ fn ident_width<A: Allocator>(ident: &Ident<A>, src: &TtIter<'_, A>) -> Option<us
 fn puncts_width<A: Allocator>(puncts: &[Punct], src: &TtIter<'_, A>) -> Option<usize>
     ensures { result ≡ length_of (puncts_front (chars_of puncts.now) src.now) }
 {
-    let mut ahead = fork(src);
+    let mut ahead = src.fork();
     let passed = eat_puncts(puncts, &mut ahead);
     width_to(passed, src, &ahead)
 }
@@ -94,7 +86,7 @@ fn puncts_width<A: Allocator>(puncts: &[Punct], src: &TtIter<'_, A>) -> Option<u
 fn separator_width<A: Allocator>(separator: &Separator<A>, src: &TtIter<'_, A>) -> Option<usize>
     ensures { result ≡ length_of (separator_front (separator_seen separator.now) src.now) }
 {
-    let mut ahead = fork(src);
+    let mut ahead = src.fork();
     let passed = eat_separator(separator, &mut ahead);
     width_to(passed, src, &ahead)
 }
@@ -149,7 +141,7 @@ fn eat_lifetime_of<A: Allocator>(ident: &Ident<A>, src: &mut TtIter<'_, A>) -> b
 pub(crate) fn opens<A: Allocator>(kind: DelimiterKind, src: &TtIter<'_, A>) -> bool
     ensures { result ≡ is_opening kind src.now }
 {
-    let mut ahead = fork(src);
+    let mut ahead = src.fork();
     match ahead.expect_subtree() {
         Ok((subtree, _)) => subtree.delimiter.kind == kind,
         Err(()) => false,

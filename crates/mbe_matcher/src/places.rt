@@ -92,7 +92,7 @@ pub(crate) fn after_step<'a, A: Allocator>(
     let Some(beyond) = &step.beyond else {
         return source.passed(step.width);
     };
-    Ok(source.jumped(step.width, beyond.remaining().iter()))
+    Ok(source.jumped(step.width, beyond.fork()))
 }
 
 // The positions after their steps, in the same order: the stack at the next place.

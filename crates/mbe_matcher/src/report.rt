@@ -126,7 +126,7 @@ fn variable_error<A: Allocator + Copy, G: FragmentGrammar>(
         let error = noted(alloc, ExpandErrorKind::BindingError(text), here, around)?;
         return Ok(Some(error));
     };
-    let mut ahead = here.remaining().iter();
+    let mut ahead = here.fork();
     Ok(expect_fragment(alloc, grammar, &mut ahead, entry, around)?.err)
 }
 
@@ -196,7 +196,7 @@ pub(crate) fn bind_failing<'a, A: Allocator + Copy, G: FragmentGrammar>(
     let Some(entry) = entry_of(kind) else {
         return log.push_missing(handle, name, kind);
     };
-    let mut ahead = here.remaining().iter();
+    let mut ahead = here.fork();
     let counted = eat_front(grammar, entry, &mut ahead)?;
     if counted.whole.iter().is_empty() {
         return log.push_missing(handle, name, kind);

@@ -40,7 +40,7 @@ impl<'a, A: Allocator> Source<'a, A> {
     pub(crate) fn here(&self) -> TtIter<'a, A>
         ensures { result ≡ rest_at (trees self.now.whole) self.now.place }
     {
-        self.here.remaining().iter()
+        self.here.fork()
     }
 
     // How many trees are left of the innermost group.

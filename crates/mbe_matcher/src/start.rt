@@ -16,7 +16,7 @@ ghost use Rattle.mbe_matcher.specs.Failures.{Reports};
 ghost use Rattle.mbe_matcher.specs.Reports.{IsReportIn};
 
 use crate::eat::{eat_any_ident, eat_lifetime, eat_signed_literal};
-use crate::fronts::{fork, opens, token_width};
+use crate::fronts::{opens, token_width};
 use crate::places::{Reached, Stop, follow};
 use crate::report::{Report, failing};
 use crate::source::Source;
@@ -34,7 +34,7 @@ use std::alloc::{AllocError, Allocator};
 fn takes_nothing<A: Allocator>(kind: MetaVarKind, here: &TtIter<'_, A>) -> bool
     ensures { result ≡ true → (g : Grammar) → takes g (Some kind) here.now ≡ None }
 {
-    let mut ahead = fork(here);
+    let mut ahead = here.fork();
     match kind {
         MetaVarKind::Ident => eat_any_ident(&mut ahead).is_none(),
         MetaVarKind::Lifetime => eat_lifetime(&mut ahead).is_none(),

@@ -99,6 +99,16 @@ impl<'a, A: Allocator> TtIter<'a, A> {
         }
     }
 
+    /// An iterator at the same place, to look ahead with. It takes no memory, and can't fail, as `clone` could.
+    #[inline(always)]
+    pub fn fork(&self) -> TtIter<'a, A>
+        ensures { result ≡ self.now }
+    {
+        TtIter {
+            entries: self.entries,
+        }
+    }
+
     /// The next tree, which is consumed; `None` at the end.
     pub fn next(&mut self) -> Option<TtElement<'a, A>>
         ensures value { option_map element_tree result ≡ first self.old }

@@ -6,4 +6,4 @@ use Rattle.mbe_matcher.proofs.source.Source.here.Goals as goal
 pub returns : goal.returns
 returns g c =
     let s = c.args.self.now in
-    c.iter.ensures ∙ c.remaining.ensures ∙ here_is (trees s.whole) s.place s.here _ s.placed s.within
+    c.fork.ensures ∙ here_is (trees s.whole) s.place s.here _ s.placed s.within
