@@ -2,6 +2,7 @@
 use Rattle.std.specs.Prelude.{ℕ, Bool, true, false, ◌&&◌, ◌==◌, List, Option, Some, None}
 use Rattle.std.specs.Str.{bytes_eq}
 use Rattle.mbe_tt.specs.Trees.Glue.{chars_of}
+use Rattle.mbe_tt.specs.declared.tt.Delimiter.{Delimiter}
 use Rattle.mbe_tt.specs.declared.tt.DelimiterKind.{DelimiterKind}
 use Rattle.mbe_tt.specs.declared.tt.DelimiterKind.TheVariants.{Parenthesis, Brace, Bracket, Invisible}
 use Rattle.mbe_semantics.specs.declared.kinds.ExprKind.TheVariants as exprs
@@ -41,6 +42,9 @@ delimiter_number Brace = 1
 delimiter_number Bracket = 2
 delimiter_number Invisible = 3
 
+abbrev pub opens_alike : Delimiter → Delimiter → Bool
+opens_alike d e = delimiter_number d.kind == delimiter_number e.kind
+
 -- tokens are read by their texts
 abbrev pub is_like_token : Token → Token → Bool
 is_like_token (literal l) (literal m) = bytes_eq l.text_and_suffix m.text_and_suffix
@@ -67,7 +71,7 @@ goes_round_alike s k t l = is_like_between s t && (repeat_number k == repeat_num
 abbrev mutual
   pub is_like : Op → Op → Bool
   is_like (token t) (token u) = is_like_token t u
-  is_like (group d body) (group e other) = (delimiter_number d.kind == delimiter_number e.kind) && are_alike body other
+  is_like (group d body) (group e other) = opens_alike d e && are_alike body other
   is_like (variable name kind span) (variable other_name other_kind other_span) =
       kind_number kind == kind_number other_kind
   is_like (repetition body s k) (repetition other t l) = goes_round_alike s k t l && are_alike body other

@@ -6,7 +6,7 @@ ghost use Rattle.mbe_linting.specs.Alike as spec;
 use mbe_ops::held::Between;
 use mbe_ops::ops::{Op, Separator, same_chars};
 use mbe_semantics::kinds::{ExprKind, MetaVarKind, RepeatKind};
-use mbe_tt::tt::DelimiterKind;
+use mbe_tt::tt::{Delimiter, DelimiterKind};
 use std::alloc::Allocator;
 
 fn kind_number(kind: Option<MetaVarKind>) -> u8
@@ -51,6 +51,12 @@ fn delimiter_number(kind: DelimiterKind) -> u8
         DelimiterKind::Bracket => 2,
         DelimiterKind::Invisible => 3,
     }
+}
+
+fn opens_alike(one: &Delimiter, other: &Delimiter) -> bool
+    ensures { result ≡ spec.opens_alike one.now other.now }
+{
+    delimiter_number(one.kind) == delimiter_number(other.kind)
 }
 
 fn is_like_separator<A: Allocator>(one: &Separator<A>, other: &Separator<A>) -> bool
@@ -120,10 +126,7 @@ fn is_like<A: Allocator>(one: &Op<A>, other: &Op<A>) -> bool
                 tokens: ts,
                 delimiter: d,
             },
-        ) => {
-            delimiter_number(delimiter.kind) == delimiter_number(d.kind)
-                && are_alike(&tokens.0, &ts.0)
-        }
+        ) => opens_alike(delimiter, d) && are_alike(&tokens.0, &ts.0),
         (Op::Literal(one), Op::Literal(two)) => {
             one.text_and_suffix.as_str() == two.text_and_suffix.as_str()
         }
@@ -138,9 +141,9 @@ fn is_like<A: Allocator>(one: &Op<A>, other: &Op<A>) -> bool
 pub fn are_alike<A: Allocator>(one: &[Op<A>], other: &[Op<A>]) -> bool
     ensures { result ≡ spec.are_alike (ops_of one.now) (ops_of other.now) }
 {
-    match (one, other) {
-        ([], []) => true,
-        ([first, rest @ ..], [front, more @ ..]) => is_like(first, front) && are_alike(rest, more),
+    match (one.split_first(), other.split_first()) {
+        (Some((op, ops)), Some((p, ps))) => is_like(op, p) && are_alike(ops, ps),
+        (None, None) => true,
         _ => false,
     }
 }

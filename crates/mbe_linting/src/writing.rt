@@ -13,10 +13,10 @@ use std::alloc::{AllocError, Allocator};
 fn are_once(bound: &[Bound<'_>]) -> bool
     ensures { result ≡ spec.are_once (map bound_seen bound.now) }
 {
-    match bound {
-        [] => true,
-        [first, rest @ ..] => first_of_name(first.name, rest).is_none() && are_once(rest),
-    }
+    let Some((first, rest)) = bound.split_first() else {
+        return true;
+    };
+    first_of_name(first.name, rest).is_none() && are_once(rest)
 }
 
 fn is_one(depth: usize, bound: Option<Bound<'_>>) -> bool
@@ -68,12 +68,10 @@ fn has_rounds_op<A: Allocator>(bound: &[Bound<'_>], depth: usize, op: &Op<A>) ->
 fn has_rounds<A: Allocator>(bound: &[Bound<'_>], depth: usize, ops: &[Op<A>]) -> bool
     ensures { result ≡ spec.has_rounds (map bound_seen bound.now) depth (ops_of ops.now) }
 {
-    match ops {
-        [] => false,
-        [first, rest @ ..] => {
-            has_rounds_op(bound, depth, first) || has_rounds(bound, depth, rest)
-        }
-    }
+    let Some((op, rest)) = ops.split_first() else {
+        return false;
+    };
+    has_rounds_op(bound, depth, op) || has_rounds(bound, depth, rest)
 }
 
 // Whether the rounds of a repetition are those of a variable in it, and may be none.
@@ -126,15 +124,13 @@ fn is_sure<A: Allocator>(
     ensures { IfOk result (λ sure. sure
         ≡ spec.is_sure (map bound_seen bound.now) depth (ops_of ops.now)) }
 {
-    match ops {
-        [] => Ok(true),
-        [first, rest @ ..] => {
-            if !is_sure_op(bound, depth, first)? {
-                return Ok(false);
-            }
-            is_sure(bound, depth, rest)
-        }
+    let Some((op, rest)) = ops.split_first() else {
+        return Ok(true);
+    };
+    if !is_sure_op(bound, depth, op)? {
+        return Ok(false);
     }
+    is_sure(bound, depth, rest)
 }
 
 /// Whether a template writes the variables of its pattern without a fault, whatever they took: each as one fragment, and each
