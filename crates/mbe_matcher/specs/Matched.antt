@@ -62,7 +62,7 @@ AreSettledAt g source pattern spots log state settled =
 
 -- ---- what a match returns
 
--- what it says to those outside
+-- the verdict, as callers name it
 abbrev pub verdict_seen : verdicts.Verdict → Verdict
 verdict_seen verdicts.TheVariants.OneReading = one_reading
 verdict_seen verdicts.TheVariants.ManyReadings = many_readings

@@ -1,5 +1,5 @@
-// The positions of a pattern at the places of an argument, where they stop, and the fronts of fragments. A layer of `mbe`: use that
-// crate.
+// The positions of a pattern at the places of an argument, where they stop, and the fronts of
+// fragments. A layer of `mbe`: use that crate.
 #![tactic(auto)]
 
 pub mod counts;

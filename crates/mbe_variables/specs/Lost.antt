@@ -1,4 +1,4 @@
--- What is wrong with a name in the rounds that it is in, or with a number of rounds, and in which words it is reported (as in
+-- What is wrong with a name in the rounds that it is in, or with a number of rounds, in the words of reports (as in
 -- rust-analyzer).
 use Rattle.std.specs.Prelude.{zero, nat_lt, if◌then◌else◌, [], ◌∷◌, Option, Some, None, option_map, codes}
 use Rattle.std.specs.Option.{option_or}

@@ -291,11 +291,7 @@ fn shortest_of_elements<A: Allocator>(
 }
 
 /// How many rounds the body has under the path.
-pub fn rounds_of<A: Allocator>(
-    bindings: &Bindings<'_, A>,
-    path: &[Level],
-    body: &[Op<A>],
-) -> Extent
+pub fn rounds_of<A: Allocator>(bindings: &Bindings<'_, A>, path: &[Level], body: &[Op<A>]) -> Extent
     ensures { extent_seen result ≡ rounds_of (bound_by bindings.now) path.now (ops_of body.now) }
 {
     match shortest(bindings, path, body) {

@@ -1,5 +1,5 @@
-// Where the variables of a template lead in the rounds that they are in, how many rounds a repetition has by them, and how what they took is
-// written. A layer of `mbe`: use that crate.
+// Where the variables of a template lead, how many rounds a repetition has by them, and how what
+// they took is written. A layer of `mbe`: use that crate.
 #![tactic(auto)]
 
 pub mod fault;
