@@ -14,7 +14,8 @@ use Rattle.mbe_semantics.specs.Expansion.Error.{ExpandErrorKind, ExpandError}
 use Rattle.mbe_semantics.specs.Writing.Rounds.{Path, member, follow, followed, Extent, finite, endless, kept_rounds, level, value_total}
 use Rattle.mbe_semantics.specs.Writing.Concat.{text_of_value, text_of_element, joined_text, are_identifier_chars, if_identifier, concat_text}
 use Rattle.mbe_semantics.specs.Writing.Substitution.{is_simple, is_counted, variable_faults, expression_faults, extent_faults, any_below, any_round, op_faults, faults, total_of}
-use Rattle.mbe_transcriber.specs.Faults.{at, lost_in, lost, lost_kind, plural, simple_fault, number_fault, count_fault, bound_fault, first_of, first_below, first_round, extent_fault, text_fault, or_none, joined, identifier_fault, variable_fault, needed_fault, element_fault, expression_fault, op_fault, first_fault}
+use Rattle.mbe_transcriber.specs.Faults.{number_fault, count_fault, bound_fault, first_of, first_below, first_round, text_fault, or_none, joined, identifier_fault, variable_fault, needed_fault, element_fault, expression_fault, op_fault, first_fault}
+use Rattle.mbe_variables.specs.Lost.{at, lost_in, lost, lost_kind, plural, simple_fault, extent_fault}
 
 -- ---- there is one
 

@@ -20,7 +20,8 @@ use Rattle.mbe_semantics.specs.Writing.Rounds.{Path, Extent, finite, endless, ke
 use Rattle.mbe_semantics.specs.Writing.Concat.{concat_text}
 use Rattle.mbe_semantics.specs.Writing.Written.{path_trees, needs_parentheses, in_parentheses, IsParenthesized, IsWrittenAs}
 use Rattle.mbe_semantics.specs.Writing.Substitution.{is_simple, variable_faults, expression_faults, extent_faults, any_below, any_round, op_faults, faults, rawness, separator_trees, unbound_variable, integer, index_of, rounds_in, total_of, AreRounds, AreKeptRounds, AreMarkedPuncts, IsMarked, IsVariable, IsConcat, IsExpression, Writes, Substitutes, IsSubstitution}
-use Rattle.mbe_transcriber.specs.Faults.{bound_fault, count_fault, simple_fault, variable_fault, extent_fault, joined}
+use Rattle.mbe_transcriber.specs.Faults.{bound_fault, count_fault, variable_fault, joined}
+use Rattle.mbe_variables.specs.Lost.{simple_fault, extent_fault}
 use Rattle.mbe_transcriber.specs.Beside.{unless, parting, name_left, AreRoundsLeft, AreAllRoundsLeft, LeavesExpression, Leaves, LeaveAll, IsWhatIsLeft}
 use Rattle.mbe.specs.OneAnswer.{HasSomeSpan}
 use Rattle.mbe.proofs.FaultsAgree.{variable_some}
