@@ -100,17 +100,15 @@ fn push_values<A: Allocator + Copy>(
     ensures { OnOk result (string_bytes text.new
         ≡ string_bytes text.old ++ spec.values_text room (values_seen rounds.now)) }
 {
-    match rounds {
-        [] => Ok(()),
-        [first, rest @ ..] => {
-            if room == 0 {
-                return text.push('…');
-            }
-            push_value(alloc, text, first)?;
-            text.push_str(between(rest))?;
-            push_values(alloc, text, rest, room - 1)
-        }
+    let Some((first, rest)) = rounds.split_first() else {
+        return Ok(());
+    };
+    if room == 0 {
+        return text.push('…');
     }
+    push_value(alloc, text, first)?;
+    text.push_str(between(rest))?;
+    push_values(alloc, text, rest, room - 1)
 }
 
 fn between<A: Allocator>(rounds: &[Binding<'_, A>]) -> &'static str
