@@ -25,14 +25,14 @@ ClashesThere g rules argument index v pair =
     (r : Rule) × (slice_get rules index ≡ Some r) × ClashThere g r.reads argument v pair
 
 -- what a rule binds: the environment of its only reading where it fits, and else none
-abbrev pub Binds : Grammar → Rule → Forest → Option Environment → Type 0
-Binds g r argument None = (is : Items) → Fits g r.reads argument is → ⊥
-Binds g r argument (Some env) = (is : Items) × Fits g r.reads argument is × (env ≡ environment_of is)
+abbrev pub RuleBinds : Grammar → Rule → Forest → Option Environment → Type 0
+RuleBinds g r argument None = (is : Items) → Fits g r.reads argument is → ⊥
+RuleBinds g r argument (Some env) = (is : Items) × Fits g r.reads argument is × (env ≡ environment_of is)
 
 -- what the rule with this index binds
 abbrev pub BindsThere : Grammar → List Rule → Forest → ℕ → Option Environment → Type 0
 BindsThere g rules argument index bound =
-    (r : Rule) × (slice_get rules index ≡ Some r) × Binds g r argument bound
+    (r : Rule) × (slice_get rules index ≡ Some r) × RuleBinds g r argument bound
 
 -- the pattern of the rule with this index
 abbrev pub HasPattern : List Rule → ℕ → Ops → Type 0

@@ -11,12 +11,16 @@ columns c = if c == 10 then 1 else unwrap_or (char_width false c) 0
 abbrev pub in_line : ℕ → List ℕ
 in_line c = if c == 10 then codes " " else encode_utf8 c
 
+-- a space after a line feed
+abbrev pub is_indent : Bool → ℕ → Bool
+is_indent at_start c = at_start && (c == 32)
+
 -- The characters that so many columns have room for, and `…` if there are more. The spaces after a line feed are left
 -- out.
 abbrev pub excerpt_in : ℕ → Bool → List ℕ → List ℕ
 excerpt_in room at_start [] = []
 excerpt_in room at_start (c ∷ cs) =
-    if at_start && (c == 32) then excerpt_in room true cs
+    if is_indent at_start c then excerpt_in room true cs
     else if nat_lt room (columns c) then encode_utf8 8230
     else in_line c ++ excerpt_in (room - columns c) (c == 10) cs
 

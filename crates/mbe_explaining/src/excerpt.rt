@@ -18,6 +18,12 @@ fn columns(char: char) -> usize
     }
 }
 
+fn is_indent(at_start: bool, char: char) -> bool
+    ensures { result ≡ spec.is_indent at_start char }
+{
+    at_start && char == ' '
+}
+
 fn push_in_line<A: Allocator>(text: &mut String<A>, char: char) -> Result<(), AllocError>
     ensures { OnOk result (string_bytes text.new ≡ string_bytes text.old ++ spec.in_line char) }
 {
@@ -36,7 +42,7 @@ pub fn excerpt<A: Allocator>(alloc: A, text: &str) -> Result<String<A>, AllocErr
     let mut room = COLUMNS;
     let mut at_start = false;
     for char in text.chars() {
-        if at_start && char == ' ' {
+        if is_indent(at_start, char) {
             continue;
         }
         let columns = columns(char);

@@ -22,8 +22,8 @@ impl<A: Allocator> DeclarativeMacro<A> {
         requires rule { rule < length (macro_of self.now).rules }
         ensures { HasPattern (macro_of self.now).rules rule (template_of result.now) }
     {
-        let rule = &self.rules[rule];
-        &rule.lhs
+        let found = &self.rules[rule];
+        &found.lhs
     }
 }
 

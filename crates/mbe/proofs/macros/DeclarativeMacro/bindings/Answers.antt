@@ -1,27 +1,17 @@
-use Rattle.std.proofs.Common.{◌≡◌, ◌⊎◌, ◌<◌, ◌∙◌, ℕ, ap, sym, subst, inl, inr, []}
+use Rattle.std.proofs.Common.{◌≡◌, ◌<◌, ◌∙◌, ap, subst, inl, inr, []}
 use Rattle.mbe_tt.specs.Views.View.{trees}
-use Rattle.mbe_semantics.specs.Readings.Verdict.{IsVerdict, one_reading, many_readings, ambiguous, stuck}
+use Rattle.mbe_semantics.specs.Readings.Verdict.{IsVerdict, one_reading}
 use Rattle.mbe_semantics.specs.Bindings.Account.{run}
 use Rattle.mbe_semantics.specs.Bindings.Environment.{environment_of}
 use Rattle.mbe_laws.proofs.Bindings.CommandLemmas.{commands_bind_alike}
 use Rattle.mbe_log.specs.BindingViews.{bound_by}
-use Rattle.mbe_ops.specs.Views.{template_of}
 use Rattle.mbe_parser.specs.RuleViews.{rule_of}
 use Rattle.mbe_matcher.specs.Matched.{verdict_seen, Binds}
-use Rattle.mbe_matcher.specs.declared.matching.Verdict.{Verdict}
-use Rattle.mbe_matcher.specs.declared.matching.Verdict.TheVariants.{ManyReadings, Ambiguous, Stuck}
 use Rattle.mbe.specs.MacroViews.{macro_of}
+use Rattle.mbe.proofs.BindsLemmas.{none_if_many, none_if_ambiguous, none_if_stuck}
 use Rattle.mbe.proofs.ChoiceLemmas.{seen_at, length_seen}
 use Rattle.mbe.proofs.ClosestLemmas.{all_checked}
-use Rattle.mbe.proofs.TriedLemmas.{fits_alone}
 use Rattle.mbe.proofs.macros.DeclarativeMacro.bindings.Goals as goal
-
--- each other verdict is not that of one reading
-not_one : (v : Verdict) → (v ≡ ManyReadings) ⊎ (((p : ℕ) × (v ≡ Ambiguous p)) ⊎ ((p : ℕ) × (v ≡ Stuck p)))
-    → verdict_seen v ≡ one_reading → ⊥
-not_one v (inl e) one = let other : many_readings ≡ one_reading = sym (ap verdict_seen e) ∙ one in cc
-not_one v (inr (inl (p, e))) one = let other : ambiguous p ≡ one_reading = sym (ap verdict_seen e) ∙ one in cc
-not_one v (inr (inr (p, e))) one = let other : stuck p ≡ one_reading = sym (ap verdict_seen e) ∙ one in cc
 
 pub match_argument-requires : goal.match_argument-requires
 match_argument-requires g c =
@@ -38,14 +28,14 @@ returns-in-OneReading g c =
     let here = seen_at rule_of items c.args.rule c.index-rule.result.now within c.index-rule.ensures in
     let h = g.G.FragmentGrammar.grammar c.args.grammar.now in
     let r = rule_of c.index-rule.result.now in
-    let m = c.in_ok-matched.ensures in
     let same : trees c.remaining-argument.result ≡ c.args.tt.now.1 = c.remaining-argument.ensures ∙ c.iter.ensures in
+    let one : verdict_seen c.in_ok-matched.matched.verdict ≡ one_reading = ap verdict_seen c.in-OneReading.is in
     let binds = subst (λ f. Binds h r.reads f c.match_argument.new.log c.in_ok-matched.matched.bindings) same
-    (m.binds (ap verdict_seen c.in-OneReading.is)) in
+    (c.in_ok-matched.ensures.binds one) in
     let bound : bound_by c.in_ok-build-in-OneReading.field-0 ≡ environment_of binds.0 =
     c.in_ok-build-in-OneReading.ensures binds.2.0 binds.2.1 ∙ ap (λ cs. run cs []) binds.2.2
     ∙ commands_bind_alike h r.reads c.args.tt.now.1 binds.0 binds.1.1.0 in
-    record { binds = (r, here, (binds.0, binds.1, bound)) }
+    record { binds = (r, here, binds.0, binds.1, bound) }
 
 pub returns : goal.returns
 returns g c =
@@ -56,7 +46,16 @@ returns g c =
     let r = rule_of c.index-rule.result.now in
     let v = verdict_seen c.in_ok-matched.matched.verdict in
     let same : trees c.remaining-argument.result ≡ c.args.tt.now.1 = c.remaining-argument.ensures ∙ c.iter.ensures in
-    let right = subst (λ f. IsVerdict h (template_of c.index-rule.result.now.lhs) f v) same
-    c.in_ok-matched.ensures.verdict in
-    record { binds = (r, here, λ is f. not_one c.in_ok-matched.matched.verdict c.in-ManyReadings.is
-    (fits_alone h r c.args.tt.now.1 v right is f)) }
+    let right = subst (λ f. IsVerdict h r.reads f v) same c.in_ok-matched.ensures.verdict in
+    let f = c.args.tt.now.1 in
+    record {
+      binds = (
+        r,
+        here,
+        elim c.in-ManyReadings.is [
+          | inl w ↦ none_if_many h r f v right (ap verdict_seen w)
+          | inr (inl w) ↦ none_if_ambiguous h r f v right w.0 (ap verdict_seen w.1)
+          | inr (inr w) ↦ none_if_stuck h r f v right w.0 (ap verdict_seen w.1)
+        ],
+      );
+    }
