@@ -35,7 +35,7 @@ returns-in-OneReading g c =
     let bound : bound_by c.in_ok-build-in-OneReading.field-0 ≡ environment_of binds.0 =
     c.in_ok-build-in-OneReading.ensures binds.2.0 binds.2.1 ∙ ap (λ cs. run cs []) binds.2.2
     ∙ commands_bind_alike h r.reads c.args.tt.now.1 binds.0 binds.1.1.0 in
-    record { binds = (r, here, binds.0, binds.1, bound) }
+    record { binds = (r, here, (binds.0, binds.1, bound)) }
 
 pub returns : goal.returns
 returns g c =
