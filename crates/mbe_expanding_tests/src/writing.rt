@@ -65,15 +65,34 @@ static ROWS: [(&str, &str); 32] = [
     ("a'b", "a 'b"),
 ];
 
-// Doc comments of one line stay; one of several lines, and an attribute that somebody wrote, are attributes.
-static COMMENTS: [(&str, &str); 14] = [
+// Doc comments stay, those of several lines as blocks; an attribute that somebody wrote is one, and a block's text that is of one line is
+// written in one.
+static COMMENTS: [(&str, &str); 32] = [
     ("/// a", "/// a\n"),
     ("///\nb", "///\nb"),
     ("/// a\nb", "/// a\nb"),
     ("//! a\n//!/b\nc", "//! a\n//!/b\nc"),
     ("/// a \"# b\nc", "/// a \"# b\nc"),
     ("/** a */ b", "/// a \nb"),
-    ("/** a\nb */ c", "#[doc = r\" a\nb \"] c"),
+    ("/** a\nb */ c", "/** a\nb */\nc"),
+    ("/*! a\nb */ c", "/*! a\nb */\nc"),
+    ("/*!\n*/", "/*!\n*/\n"),
+    ("/** a\n * b\n */\nc", "/** a\n * b\n */\nc"),
+    ("/**\n* a */ b", "/**\n* a */\nb"),
+    ("/*!*\n a */ b", "/*!*\n a */\nb"),
+    ("/*!/\n a */ b", "/*!/\n a */\nb"),
+    ("/** a\n**/ b", "/** a\n**/\nb"),
+    ("/** /* a\n*/ b */ c", "/** /* a\n*/ b */\nc"),
+    ("/** /*/ a\n*/*/ c", "/** /*/ a\n*/*/\nc"),
+    ("/** // a\n/**/ */ b", "/** // a\n/**/ */\nb"),
+    ("/** é\n\u{1F600}\u{2028} */ b", "/** é\n\u{1F600}\u{2028} */\nb"),
+    ("/** a\"# b\n\"### */ c", "/** a\"# b\n\"### */\nc"),
+    ("a; { /** b\nc */ d }", "a;\n{\n    /** b\nc */\n    d\n}"),
+    ("m! { (/** a\nb */ c) }", "m! {\n    (\n    /** a\nb */\n    c)\n}"),
+    ("+/** a\nb */ c", "+\n/** a\nb */\nc"),
+    ("#[doc = r\" a\nb \"] c", "#[doc = r\" a\nb \"] c"),
+    ("/** a\nb */~/// c\n~d", "/** a\nb */\n/// c\nd"),
+    ("/*! a\nb *//** c\n*/", "/*! a\nb */\n/** c\n*/\n"),
     ("#[doc = r\" a\"] b", "#[doc = r\" a\"] b"),
     ("a; /// b\nc", "a;\n/// b\nc"),
     ("{ /// a\nb }", "{\n    /// a\n    b\n}"),
