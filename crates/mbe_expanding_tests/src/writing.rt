@@ -157,6 +157,25 @@ fn comments_are_comments(rt: HostRuntime) -> Result<(), Fail> {
     )
 }
 
+// How many `#` follow a `"`; no raw string holds so many as the last two.
+static HASHES: [usize; 5] = [0, 1, 254, 255, 300];
+
+// What is written is the text that was lexed.
+#[test]
+fn a_comment_has_any_text(rt: HostRuntime) -> Result<(), Fail> {
+    for count in HASHES {
+        let hashes = "#".repeat(rt.alloc(), count)?;
+        let hashes = hashes.as_str();
+        let text = format!(in rt.alloc(); "/*! \"{hashes}\n*/\n/** a \"{hashes}\n */\n/// \"{hashes}\nb")?;
+        let mut writer = Writer::new(rt.alloc(), 0);
+        let dialect = Dialect::Rust(Edition::Edition2021);
+        write(&rt, rt.alloc(), &mut writer, dialect, 0, text.as_str())?;
+        let written = writer.into_text();
+        assert_eq!(rt; written.as_str(), text.as_str(), "{count}");
+    }
+    Ok(())
+}
+
 #[test]
 fn dots_stay(rt: HostRuntime) -> Result<(), Fail> {
     are_written(&rt, rt.alloc(), Dialect::Rust(Edition::Edition2021), &DOTS)
