@@ -42,6 +42,12 @@ abbrev pub begins_with_mark : List ℕ → Bool
 begins_with_mark [] = false
 begins_with_mark (byte ∷ bytes) = byte == star || byte == slash
 
+abbrev pub opens_comment : ℕ → ℕ → Bool
+opens_comment last c = last == slash && c == star
+
+abbrev pub closes_comment : ℕ → ℕ → Bool
+closes_comment last c = last == star && c == slash
+
 -- A block comment ends right after these characters, where so many comments inside it are open before them: each of
 -- these ends there, and no more do. `last` is the character before, unless a mark ends with it. None is a carriage
 -- return.
@@ -49,8 +55,8 @@ abbrev pub is_closed : ℕ → ℕ → List ℕ → Bool
 is_closed last depth [] = depth == 0 && not (last == slash)
 is_closed last depth (c ∷ cs) =
     if c == 13 then false
-    else if last == slash && c == star then is_closed 0 (suc depth) cs
-    else if last == star && c == slash then not (depth == 0) && is_closed 0 (depth - 1) cs
+    else if opens_comment last c then is_closed 0 (suc depth) cs
+    else if closes_comment last c then not (depth == 0) && is_closed 0 (depth - 1) cs
     else is_closed c depth cs
 
 -- The comment ends after the text. `/***` and `/**/` begin no doc comment.

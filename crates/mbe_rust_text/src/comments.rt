@@ -63,6 +63,18 @@ fn begins_with_mark(text: &[u8]) -> bool
     }
 }
 
+fn opens_comment(last: char, char: char) -> bool
+    ensures { result ≡ spec.opens_comment last char }
+{
+    last == '/' && char == '*'
+}
+
+fn closes_comment(last: char, char: char) -> bool
+    ensures { result ≡ spec.closes_comment last char }
+{
+    last == '*' && char == '/'
+}
+
 // Whether a block comment with this text ends right after it: each comment inside it ends in it, and no more end there. It has no
 // carriage return.
 fn is_closed(text: &str) -> bool
@@ -75,10 +87,10 @@ fn is_closed(text: &str) -> bool
         if char == '\r' {
             return false;
         }
-        if last == '/' && char == '*' {
+        if opens_comment(last, char) {
             depth = depth.saturating_add(1);
             last = '\0';
-        } else if last == '*' && char == '/' {
+        } else if closes_comment(last, char) {
             if depth == 0 {
                 return false;
             }

@@ -139,9 +139,39 @@ closed_no_return last depth [] h = refl
 closed_no_return last depth (c ∷ cs) h =
     let t = closed_then (c == 13) last depth c cs refl h in
     let k = later_closed (last == 47 && c == 42) (last == 42 && c == 47) depth c cs t.1 in
-    rw (no_carriage c t.0) (closed_no_return k.0 k.1.0 cs k.1.1)
+    rw (no_carriage c t.0) (closed_no_return k.0 k.1 cs k.2)
 
 -- ---- the text of a comment that ends is closed
+
+abbrev Found : List ℕ → List ℕ → Type 0
+Found cs end = (let x : Option (List ℕ) = Some cs in x) ≡ Some end
+
+same_length : (cs end : List ℕ) → Found cs end → length cs ≡ length end
+same_length cs end h = ap (λ (x : List ℕ). length x) (same h)
+  where
+    same : Found cs end → cs ≡ end
+    same h = cc
+
+short_by : (c : ℕ) (cs end : List ℕ) (depth : ℕ) (opens closes none : Bool) → begins_with (codes "/*") (c ∷ cs) ≡ opens
+    → begins_with (codes "*/") (c ∷ cs) ≡ closes → (depth == 0) ≡ none
+    → from_comment_end false depth (c ∷ cs) ≡ Some end
+    → ((taken : Bool) (n : ℕ) → from_comment_end taken n cs ≡ Some end → length end ≤ length cs)
+    → length end ≤ length (c ∷ cs)
+short_by c cs end depth true closes none o l z h go =
+    let w : from_comment_end false depth (c ∷ cs) ≡ from_comment_end true (depth + 1) cs =
+    rw (from_comment_end, o) refl in
+    let k = go true (depth + 1) (sym w ∙ h) in omega (arith, k)
+short_by c cs end depth false false none o l z h go =
+    let w : from_comment_end false depth (c ∷ cs) ≡ from_comment_end false depth cs =
+    rw (from_comment_end, o, l) refl in
+    let k = go false depth (sym w ∙ h) in omega (arith, k)
+short_by c cs end depth false true true o l z h go =
+    let w : from_comment_end false depth (c ∷ cs) ≡ Some (c ∷ cs) = rw (from_comment_end, o, l, z) refl in
+    let k = same_length (c ∷ cs) end (sym w ∙ h) in omega (arith, k)
+short_by c cs end depth false true false o l z h go =
+    let w : from_comment_end false depth (c ∷ cs) ≡ from_comment_end true (depth - 1) cs =
+    rw (from_comment_end, o, l, z) refl in
+    let k = go true (depth - 1) (sym w ∙ h) in omega (arith, k)
 
 -- what is left is no longer
 left_short : (cs end : List ℕ) (taken : Bool) (depth : ℕ) → from_comment_end taken depth cs ≡ Some end
@@ -150,37 +180,8 @@ left_short [] end true depth h = absurd (cc)
 left_short [] end false depth h = absurd (cc)
 left_short (c ∷ cs) end true depth h = omega (arith, left_short cs end false depth h)
 left_short (c ∷ cs) end false depth h =
-    by (begins_with (codes "/*") (c ∷ cs)) (begins_with (codes "*/") (c ∷ cs)) (depth == 0) refl refl refl
-  where
-    some_list : (a b : List ℕ) → (let x : Option (List ℕ) = Some a in x) ≡ Some b → a ≡ b
-    some_list a b h = cc
-
-    by : (opens closes none : Bool) → begins_with (codes "/*") (c ∷ cs) ≡ opens
-        → begins_with (codes "*/") (c ∷ cs) ≡ closes → (depth == 0) ≡ none → length end ≤ length (c ∷ cs)
-    by true closes none o l z =
-        let w : from_comment_end false depth (c ∷ cs) ≡ from_comment_end true (depth + 1) cs =
-        rw (from_comment_end, o) refl in
-        let k = left_short cs end true (depth + 1) (sym w ∙ h) in omega (arith, k)
-    by false false none o l z =
-        let w : from_comment_end false depth (c ∷ cs) ≡ from_comment_end false depth cs =
-        rw (from_comment_end, o, l) refl in
-        let k = left_short cs end false depth (sym w ∙ h) in omega (arith, k)
-    by false true true o l z =
-        let w : from_comment_end false depth (c ∷ cs) ≡ Some (c ∷ cs) = rw (from_comment_end, o, l, z) refl in
-        let k = ap (λ (x : List ℕ). length x) (some_list (c ∷ cs) end (sym w ∙ h)) in omega (arith, k)
-    by false true false o l z =
-        let w : from_comment_end false depth (c ∷ cs) ≡ from_comment_end true (depth - 1) cs =
-        rw (from_comment_end, o, l, z) refl in
-        let k = left_short cs end true (depth - 1) (sym w ∙ h) in omega (arith, k)
-
-abbrev Found : List ℕ → List ℕ → Type 0
-Found cs end = (let x : Option (List ℕ) = Some cs in x) ≡ Some end
-
-found_long : (cs end : List ℕ) → Found cs end → length cs ≤ length end
-found_long cs end h = let k : length cs ≡ length end = ap (λ (x : List ℕ). length x) (same h) in omega (arith, k)
-  where
-    same : Found cs end → cs ≡ end
-    same h = cc
+    short_by c cs end depth (begins_with (codes "/*") (c ∷ cs)) (begins_with (codes "*/") (c ∷ cs)) (depth == 0)
+    refl refl refl h (λ taken n k. left_short cs end taken n k)
 
 -- the end of a comment is the one of its own marks
 at_end : (c : ℕ) (cs : List ℕ) (depth : ℕ) (opens closes none : Bool) → begins_with (codes "/*") (c ∷ cs) ≡ opens
@@ -216,7 +217,7 @@ nothing_open last depth e es false true none o l z h = absurd (by none z)
     by true z =
         let w : Found (last ∷ (e ∷ es)) (e ∷ es) =
         sym (ap (λ (b : Bool). if b then Some (last ∷ (e ∷ es)) else from_comment_end false (depth - 1) es) z) ∙ h in
-        let k = found_long (last ∷ (e ∷ es)) (e ∷ es) w in omega (arith, k)
+        let k = same_length (last ∷ (e ∷ es)) (e ∷ es) w in omega (arith, k)
     by false z =
         let w : from_comment_end false (depth - 1) es ≡ Some (e ∷ es) =
         sym (ap (λ (b : Bool). if b then Some (last ∷ (e ∷ es)) else from_comment_end false (depth - 1) es) z) ∙ h in
@@ -257,7 +258,7 @@ closes_on false true true last depth d cs end z h go =
     absurd (let w : Found (last ∷ (d ∷ (cs ++ end))) end =
     sym (ap (λ (b : Bool). if b then Some (last ∷ (d ∷ (cs ++ end))) else from_comment_end false (depth - 1)
     (cs ++ end)) z) ∙ h in
-    let k = found_long (last ∷ (d ∷ (cs ++ end))) end w in omega (arith, k, length-append cs end))
+    let k = same_length (last ∷ (d ∷ (cs ++ end))) end w in omega (arith, k, length-append cs end))
 closes_on false true false last depth d cs end z h go =
     let w : from_comment_end false (depth - 1) (cs ++ end) ≡ Some end =
     sym (ap (λ (b : Bool). if b then Some (last ∷ (d ∷ (cs ++ end))) else from_comment_end false (depth - 1)
@@ -292,16 +293,20 @@ text_closed own end r h = closed_from own end 0 0 r h
 
 -- ---- line ends
 
-any_at : (p : ℕ → Bool) (xs : List ℕ) → list_any p xs ≡ true
-    → (i : ℕ) × (i < length xs) × (p (get_or xs i 0) ≡ true)
-any_at p [] h = absurd (cc)
-any_at p (x ∷ xs) h = by (p x) refl
-  where
-    by : (b : Bool) → p x ≡ b → (i : ℕ) × (i < length (x ∷ xs)) × (p (get_or (x ∷ xs) i 0) ≡ true)
-    by true e = (0, omega arith, e)
-    by false e =
-        let k = any_at p xs (sym (ap (λ (b : Bool). b || list_any p xs) e) ∙ h) in
-        (suc k.0, omega (arith, k.1.0), k.1.1)
+record PassesAt (p : ℕ → Bool) (xs : List ℕ) : Type 0 where
+  index : ℕ
+  within : index < length xs
+  passes : p (get_or xs index 0) ≡ true
+
+any_at : (p : ℕ → Bool) (x : ℕ) (xs : List ℕ) (b : Bool) → p x ≡ b → (b || list_any p xs) ≡ true
+    → (list_any p xs ≡ true → PassesAt p xs) → PassesAt p (x ∷ xs)
+any_at p x xs true e h go = record { index = 0; within = omega arith; passes = e }
+any_at p x xs false e h go =
+    let k = go h in record { index = suc k.index; within = omega (arith, k.within); passes = k.passes }
+
+any_passes : (p : ℕ → Bool) (xs : List ℕ) → list_any p xs ≡ true → PassesAt p xs
+any_passes p [] h = absurd (cc)
+any_passes p (x ∷ xs) h = any_at p x xs (p x) refl h (λ k. any_passes p xs k)
 
 neither : (a b : Bool) → (a || b) ≡ false → (a ≡ false) × (b ≡ false)
 neither true b h = absurd (cc)
@@ -321,10 +326,10 @@ no_byte_ends cs h = by (has_line_end (encode_utf8_all cs)) refl
     by : (b : Bool) → has_line_end (encode_utf8_all cs) ≡ b → has_line_end (encode_utf8_all cs) ≡ false
     by false e = e
     by true e = absurd (
-        let k = any_at is_line_end (encode_utf8_all cs) e in
-        let no = NoCharPasses-byte is_line_end (encode_utf8_all cs) k.0 (cs, refl, none_pass cs h) k.1.0
-        (end_small (get_or (encode_utf8_all cs) k.0 0) k.1.1) in
-        let z : true ≡ false = sym k.1.1 ∙ no in cc)
+        let k = any_passes is_line_end (encode_utf8_all cs) e in
+        let no = NoCharPasses-byte is_line_end (encode_utf8_all cs) k.index (cs, refl, none_pass cs h) k.within
+        (end_small (get_or (encode_utf8_all cs) k.index 0) k.passes) in
+        let z : true ≡ false = sym k.passes ∙ no in cc)
 
 -- what is passed up to a line's end
 feed_of : (c : ℕ) → has InLine c ≡ true → (c == 10) ≡ false
@@ -333,24 +338,26 @@ feed_of c h = grind (arith, nat_tests, h)
 neither_end : (c : ℕ) (cs : List ℕ) → (c == 10) ≡ false → (c == 13) ≡ false → has_line_end (c ∷ cs) ≡ has_line_end cs
 neither_end c cs feed return = rw (feed, return) refl
 
+line_on : (d c : ℕ) (cs own : List ℕ) (b : Bool) → has InLine d ≡ b → d ∷ cs ≡ (c ∷ own) ++ past InLine (d ∷ cs)
+    → from_return (c ∷ own) ≡ None → (cs ≡ own ++ past InLine cs → from_return own ≡ None → has_line_end own ≡ false)
+    → has_line_end (c ∷ own) ≡ false
+line_on d c cs own false e h r go = absurd (
+    let w : past InLine (d ∷ cs) ≡ d ∷ cs = rw (past, e) refl in
+    let k = ap (λ (x : List ℕ). length x) (h ∙ ap (λ (x : List ℕ). (c ∷ own) ++ x) w) in
+    omega (arith, k, length-append own (d ∷ cs)))
+line_on d c cs own true e h r go =
+    let w : past InLine (d ∷ cs) ≡ past InLine cs = rw (past, e) refl in
+    let all : d ∷ cs ≡ c ∷ (own ++ past InLine cs) = h ∙ ap (λ (x : List ℕ). (c ∷ own) ++ x) w in
+    let first : d ≡ c = cc in
+    let more : cs ≡ own ++ past InLine cs = cc in
+    let t = no_return_at c own (char_set_contains (codes "\r") c) refl r in
+    neither_end c own (ap (λ (x : ℕ). x == 10) (sym first) ∙ feed_of d e) (no_thirteen c t.0) ∙ go more t.1
+
 pub line_has_none : (cs own : List ℕ) → cs ≡ own ++ past InLine cs → from_return own ≡ None → has_line_end own ≡ false
 line_has_none cs [] h r = refl
 line_has_none [] (c ∷ own) h r = absurd (cc)
-line_has_none (d ∷ cs) (c ∷ own) h r = by (has InLine d) refl
-  where
-    by : (b : Bool) → has InLine d ≡ b → has_line_end (c ∷ own) ≡ false
-    by false e = absurd (
-        let w : past InLine (d ∷ cs) ≡ d ∷ cs = rw (past, e) refl in
-        let k = ap (λ (x : List ℕ). length x) (h ∙ ap (λ (x : List ℕ). (c ∷ own) ++ x) w) in
-        omega (arith, k, length-append own (d ∷ cs)))
-    by true e =
-        let w : past InLine (d ∷ cs) ≡ past InLine cs = rw (past, e) refl in
-        let all : d ∷ cs ≡ c ∷ (own ++ past InLine cs) = h ∙ ap (λ (x : List ℕ). (c ∷ own) ++ x) w in
-        let first : d ≡ c = cc in
-        let more : cs ≡ own ++ past InLine cs = cc in
-        let t = no_return_at c own (char_set_contains (codes "\r") c) refl r in
-        neither_end c own (ap (λ (x : ℕ). x == 10) (sym first) ∙ feed_of d e) (no_thirteen c t.0)
-        ∙ line_has_none cs own more t.1
+line_has_none (d ∷ cs) (c ∷ own) h r =
+    line_on d c cs own (has InLine d) refl h r (λ more n. line_has_none cs own more n)
 
 -- ---- its first byte
 
