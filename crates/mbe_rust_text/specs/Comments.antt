@@ -38,8 +38,9 @@ is_line is_inner text = not (has_line_end text) && (is_inner || not (begins_with
 
 -- ---- block comments
 
+-- the text and the `*/` after it begin with a `*` or a `/`
 abbrev pub begins_with_mark : List ℕ → Bool
-begins_with_mark [] = false
+begins_with_mark [] = true
 begins_with_mark (byte ∷ bytes) = byte == star || byte == slash
 
 abbrev pub opens_comment : ℕ → ℕ → Bool

@@ -54,12 +54,13 @@ fn is_block(is_inner: bool, text: &str) -> bool
     (is_inner || !begins_with_mark(text.as_bytes())) && is_closed(text)
 }
 
+// Whether the text and the `*/` after it begin with a `*` or a `/`.
 fn begins_with_mark(text: &[u8]) -> bool
     ensures { result ≡ spec.begins_with_mark text.now }
 {
     match text.first() {
         Some(byte) => *byte == b'*' || *byte == b'/',
-        None => false,
+        None => true,
     }
 }
 

@@ -7,7 +7,6 @@ use Rattle.std.proofs.Math.Utf8.{scalars}
 use Rattle.std.proofs.lemmas.Bool.Decides.{nat_tests}
 use Rattle.std.proofs.lemmas.Str.{NoCharPasses-byte, char_from_byte, chars-encodes, encode_ascii}
 use Rattle.mbe_rust_text.specs.Comments.{has_line_end, is_line_end, begins_with_slash, begins_with_mark, is_closed, is_block, is_comment}
-use Rattle.mbe_text.specs.declared.characters.Class.TheVariants.{InLine}
 use Rattle.mbe_text.specs.Characters.{begins_with, has, past}
 use Rattle.mbe_text.specs.Extents.{from_comment_end}
 use Rattle.mbe_text.specs.Rust.{from_return}
@@ -332,43 +331,50 @@ no_byte_ends cs h = by (has_line_end (encode_utf8_all cs)) refl
         let z : true ≡ false = sym k.passes ∙ no in cc)
 
 -- what is passed up to a line's end
-feed_of : (c : ℕ) → has InLine c ≡ true → (c == 10) ≡ false
+pub feed_of : (c : ℕ) → not (char_set_contains (codes "\n") c) ≡ true → (c == 10) ≡ false
 feed_of c h = grind (arith, nat_tests, h)
 
 neither_end : (c : ℕ) (cs : List ℕ) → (c == 10) ≡ false → (c == 13) ≡ false → has_line_end (c ∷ cs) ≡ has_line_end cs
 neither_end c cs feed return = rw (feed, return) refl
 
-line_on : (d c : ℕ) (cs own : List ℕ) (b : Bool) → has InLine d ≡ b → d ∷ cs ≡ (c ∷ own) ++ past InLine (d ∷ cs)
-    → from_return (c ∷ own) ≡ None → (cs ≡ own ++ past InLine cs → from_return own ≡ None → has_line_end own ≡ false)
-    → has_line_end (c ∷ own) ≡ false
-line_on d c cs own false e h r go = absurd (
-    let w : past InLine (d ∷ cs) ≡ d ∷ cs = rw (past, e) refl in
-    let k = ap (λ (x : List ℕ). length x) (h ∙ ap (λ (x : List ℕ). (c ∷ own) ++ x) w) in
-    omega (arith, k, length-append own (d ∷ cs)))
-line_on d c cs own true e h r go =
-    let w : past InLine (d ∷ cs) ≡ past InLine cs = rw (past, e) refl in
-    let all : d ∷ cs ≡ c ∷ (own ++ past InLine cs) = h ∙ ap (λ (x : List ℕ). (c ∷ own) ++ x) w in
+line_on : (k : _) (d c : ℕ) (cs own : List ℕ) (b : Bool) → ((c : ℕ) → has k c ≡ true → (c == 10) ≡ false)
+    → has k d ≡ b
+    → d ∷ cs ≡ (c ∷ own) ++ past k (d ∷ cs) → from_return (c ∷ own) ≡ None
+    → (cs ≡ own ++ past k cs → from_return own ≡ None → has_line_end own ≡ false) → has_line_end (c ∷ own) ≡ false
+line_on k d c cs own false n e h r go = absurd (
+    let w : past k (d ∷ cs) ≡ d ∷ cs = rw (past, e) refl in
+    let l = ap (λ (x : List ℕ). length x) (h ∙ ap (λ (x : List ℕ). (c ∷ own) ++ x) w) in
+    omega (arith, l, length-append own (d ∷ cs)))
+line_on k d c cs own true n e h r go =
+    let w : past k (d ∷ cs) ≡ past k cs = rw (past, e) refl in
+    let all : d ∷ cs ≡ c ∷ (own ++ past k cs) = h ∙ ap (λ (x : List ℕ). (c ∷ own) ++ x) w in
     let first : d ≡ c = cc in
-    let more : cs ≡ own ++ past InLine cs = cc in
+    let more : cs ≡ own ++ past k cs = cc in
     let t = no_return_at c own (char_set_contains (codes "\r") c) refl r in
-    neither_end c own (ap (λ (x : ℕ). x == 10) (sym first) ∙ feed_of d e) (no_thirteen c t.0) ∙ go more t.1
+    neither_end c own (ap (λ (x : ℕ). x == 10) (sym first) ∙ n d e) (no_thirteen c t.0) ∙ go more t.1
 
-pub line_has_none : (cs own : List ℕ) → cs ≡ own ++ past InLine cs → from_return own ≡ None → has_line_end own ≡ false
-line_has_none cs [] h r = refl
-line_has_none [] (c ∷ own) h r = absurd (cc)
-line_has_none (d ∷ cs) (c ∷ own) h r =
-    line_on d c cs own (has InLine d) refl h r (λ more n. line_has_none cs own more n)
+pub line_has_none : (k : _) (cs own : List ℕ) → ((c : ℕ) → has k c ≡ true → (c == 10) ≡ false)
+    → cs ≡ own ++ past k cs → from_return own ≡ None → has_line_end own ≡ false
+line_has_none k cs [] n h r = refl
+line_has_none k [] (c ∷ own) n h r = absurd (cc)
+line_has_none k (d ∷ cs) (c ∷ own) n h r =
+    line_on k d c cs own (has k d) n refl h r (λ more s. line_has_none k cs own n more s)
 
 -- ---- its first byte
 
 is_mark_small : (b : ℕ) → (b == 42 || b == 47) ≡ true → b < 128
 is_mark_small b h = grind (arith, nat_tests, h)
 
+-- what is after a comment's first marks begins with one
+abbrev pub mark_is_first : List ℕ → Bool
+mark_is_first [] = false
+mark_is_first (c ∷ cs) = c == 42 || c == 47
+
 -- `*` and `/` are one byte
 mark_byte : (c : ℕ) (cs bytes : List ℕ) → bytes ≡ encode_utf8_all (c ∷ cs) → (c == 42 || c == 47) ≡ false
-    → begins_with_mark bytes ≡ false
-mark_byte c cs [] i n = refl
-mark_byte c cs (b ∷ bytes) i n = by (b == 42 || b == 47) refl
+    → has_line_end bytes ≡ true → begins_with_mark bytes ≡ false
+mark_byte c cs [] i n several = absurd (cc)
+mark_byte c cs (b ∷ bytes) i n several = by (b == 42 || b == 47) refl
   where
     by : (is : Bool) → (b == 42 || b == 47) ≡ is → (b == 42 || b == 47) ≡ false
     by false e = e
@@ -377,14 +383,15 @@ mark_byte c cs (b ∷ bytes) i n = by (b == 42 || b == 47) refl
         char_from_byte (b ∷ bytes) (encode_utf8_all cs) c i (is_mark_small b e) (omega arith) in
         let z : true ≡ false = sym e ∙ (ap (λ (x : ℕ). x == 42 || x == 47) (sym same) ∙ n) in cc)
 
-pub own_mark : (own end body : List ℕ) → body ≡ own ++ end → begins_with_mark body ≡ false
-    → begins_with_mark (encode_utf8_all own) ≡ false
-own_mark [] end body i n = refl
-own_mark (c ∷ own) end body i n =
-    mark_byte c own (encode_utf8_all (c ∷ own)) refl (sym (ap begins_with_mark i) ∙ n)
+-- where lines end in it
+pub own_mark : (own end body : List ℕ) → has_line_end (encode_utf8_all own) ≡ true → body ≡ own ++ end
+    → mark_is_first body ≡ false → begins_with_mark (encode_utf8_all own) ≡ false
+own_mark [] end body several i n = absurd (cc)
+own_mark (c ∷ own) end body several i n =
+    mark_byte c own (encode_utf8_all (c ∷ own)) refl (sym (ap mark_is_first i) ∙ n) several
 
 pub mark_is_byte : (cs : List ℕ) → begins_with_mark (encode_utf8_all cs) ≡ false → begins_with_mark cs ≡ false
-mark_is_byte [] h = refl
+mark_is_byte [] h = absurd (cc)
 mark_is_byte (c ∷ cs) h = by (c == 42 || c == 47) refl
   where
     by : (b : Bool) → (c == 42 || c == 47) ≡ b → (c == 42 || c == 47) ≡ false

@@ -117,7 +117,7 @@ begins_block is_inner cs = is_inner || not (begins_with_mark cs)
 is_a_block : (b : Bool) (cs tail : List ℕ) → begins_block b cs ≡ true
     → begins_doc (47 ∷ (42 ∷ (block_mark b ∷ (cs ++ (42 ∷ (47 ∷ tail)))))) ≡ true
 is_a_block true cs tail h = refl
-is_a_block false [] tail h = refl
+is_a_block false [] tail h = absurd (cc)
 is_a_block false (c ∷ cs) tail h = grind (arith, nat_tests, h)
 
 text_until : (b : Bool) (cs end rest : List ℕ) → from_return cs ≡ None

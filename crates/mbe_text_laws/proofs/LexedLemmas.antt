@@ -22,7 +22,7 @@ use Rattle.mbe_text_laws.proofs.BackLemmas.{one_step, trees_come_back}
 use Rattle.mbe_text_laws.proofs.BlankTailLemmas.{tail_shorter, head_tail}
 use Rattle.mbe_text_laws.proofs.TokenLemmas.{hidden_all, tokens_of, Tokens, last, more, next_cut, next_tail, next_shorter, Fits, fits_tail}
 use Rattle.mbe_text_laws.proofs.GroupLemmas.{flat_levels, grows}
-use Rattle.mbe_text_laws.proofs.HiddenLemmas.{shown, hidden_fit, shown_read}
+use Rattle.mbe_text_laws.proofs.HiddenLemmas.{shown, shown_read}
 use Rattle.mbe_text_laws.proofs.LineLemmas.{literals_are_read}
 use Rattle.mbe_text_laws.proofs.RustLemmas.{are_rust}
 

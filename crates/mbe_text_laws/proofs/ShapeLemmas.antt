@@ -14,12 +14,11 @@ use Rattle.mbe_tt.specs.declared.tt.IdentIsRaw.{IdentIsRaw}
 use Rattle.mbe_tt.specs.declared.tt.IdentIsRaw.TheVariants.{Yes, No}
 use Rattle.mbe_tt.specs.declared.tt.LitKind.TheVariants as kinds
 use Rattle.mbe_tt.specs.Trees.Editions.{at_least_2021}
-use Rattle.mbe_rust_text.specs.Comments.{has_line_end, begins_with_slash, begins_with_mark}
-use Rattle.mbe_text.specs.declared.characters.Class.TheVariants.{InLine}
+use Rattle.mbe_rust_text.specs.Comments.{has_line_end, begins_with_slash}
 use Rattle.mbe_text.specs.declared.dialect.Dialect.TheVariants.{Rust}
 use Rattle.mbe_text.specs.declared.wrong.Wrong.TheVariants as wrong
 use Rattle.mbe_text.specs.Blanks.{begins_comment}
-use Rattle.mbe_text.specs.Characters.{past, begins_with, bytes_before}
+use Rattle.mbe_text.specs.Characters.{has, past, begins_with, bytes_before}
 use Rattle.mbe_text.specs.Dialect.{read_shape, or_sign}
 use Rattle.mbe_text.specs.Extents.{front, from_comment_end}
 use Rattle.mbe_text.specs.Rust.{Token, within, is_inner, read_rust, read_r, read_b, read_c, read_quote, plain_identifier, raw_identifier, begins_reserved, begins_raw_string, raw_string, may_be_raw, char, begins_lifetime, lifetime, plain_lifetime, raw_lifetime, is_guard, begins_doc, doc, block_doc, doc_until, from_return}
@@ -30,7 +29,7 @@ use Rattle.mbe_text.specs.Words.{past_word}
 use Rattle.mbe_text.proofs.TailLemmas.{Tail, here, one, past_tail}
 use Rattle.mbe_text_laws.specs.Gaps.{is_punct}
 use Rattle.mbe_text_laws.specs.Rust.{is_start, begins_word, IsWord, may_be, may_be_lifetime}
-use Rattle.mbe_text_laws.proofs.BlockLemmas.{no_byte_ends, line_has_none, own_mark, comment_is, block_is}
+use Rattle.mbe_text_laws.proofs.BlockLemmas.{mark_is_first, feed_of, no_byte_ends, line_has_none, own_mark, comment_is, block_is}
 use Rattle.mbe_text_laws.proofs.CommentLemmas.{may_be_comment}
 use Rattle.mbe_text_laws.proofs.EndLemmas.{r_is_start}
 use Rattle.mbe_text_laws.proofs.StepLemmas.{bytes_front}
@@ -612,27 +611,28 @@ drop_tail (suc n) (c ∷ cs) = one c cs (drop n cs) (drop_tail n cs)
 
 -- nor a `*` where it is of several lines
 doc_mark : (c : ℕ) (cs : List ℕ) → begins_doc (c ∷ cs) ≡ true → begins_with (codes "//") (c ∷ cs) ≡ false
-    → is_inner (c ∷ cs) ≡ false → begins_with_mark (drop 3 (c ∷ cs)) ≡ false
+    → is_inner (c ∷ cs) ≡ false → mark_is_first (drop 3 (c ∷ cs)) ≡ false
 doc_mark c [] d b n = refl
 doc_mark c (x ∷ []) d b n = refl
 doc_mark c (x ∷ (m ∷ [])) d b n = refl
 doc_mark c (x ∷ (m ∷ (y ∷ ys))) d b n = grind (arith, nat_tests, d, b, n)
 
 block_may : (inner : Bool) (body end : List ℕ) → (inner ≡ false → begins_with_slash body ≡ false)
-    → (inner ≡ false → begins_with_mark body ≡ false) → from_comment_end false 0 body ≡ Some end
+    → (inner ≡ false → mark_is_first body ≡ false) → from_comment_end false 0 body ≡ Some end
     → MayBe inner body end
 block_may inner body end slash mark f own is right return =
     comment_is inner (has_line_end (encode_utf8_all own)) (encode_utf8_all own) refl
     (λ outer. own_slash own end body is (slash outer))
-    (λ several. block_is inner own end (λ outer. own_mark own end body is (mark outer)) right return
+    (λ several. block_is inner own end (λ outer. own_mark own end body several is (mark outer)) right return
     (ap (from_comment_end false 0) (sym is) ∙ f))
 
-line_may : (inner : Bool) (body : List ℕ) → (inner ≡ false → begins_with_slash body ≡ false)
-    → MayBe inner body (past InLine body)
-line_may inner body slash own is right return =
-    let none = no_byte_ends own (line_has_none body own is return) in
+line_may : (k : _) (inner : Bool) (body : List ℕ) → ((c : ℕ) → has k c ≡ true → (c == 10) ≡ false)
+    → (inner ≡ false → begins_with_slash body ≡ false)
+    → MayBe inner body (past k body)
+line_may k inner body feed slash own is right return =
+    let none = no_byte_ends own (line_has_none k body own feed is return) in
     comment_is inner (has_line_end (encode_utf8_all own)) (encode_utf8_all own) refl
-    (λ outer. own_slash own (past InLine body) body is (slash outer))
+    (λ outer. own_slash own (past k body) body is (slash outer))
     (λ several. absurd (let z : true ≡ false = sym several ∙ none in cc))
 
 block_cut : (e : Edition) (c : ℕ) (cs rest : List ℕ) (shape : Shape) (o : Option (List ℕ))
@@ -654,24 +654,24 @@ block_cut e c cs rest shape (Some end) d b f u h =
     refl (drop_tail 2 end) (omega arith) (ap scalars whole ∙ u)
     (sym w ∙ h))
 
-line_cut : (e : Edition) (c : ℕ) (cs rest : List ℕ) (shape : Shape) → begins_doc (c ∷ cs) ≡ true
-    → scalars (c ∷ cs) ≡ true
-    → doc_until (is_inner (c ∷ cs)) (drop 3 (c ∷ cs)) (past InLine (drop 3 (c ∷ cs))) (past InLine (drop 3 (c ∷ cs)))
+line_cut : (k : _) (e : Edition) (c : ℕ) (cs rest : List ℕ) (shape : Shape) → begins_doc (c ∷ cs) ≡ true
+    → ((d : ℕ) → has k d ≡ true → (d == 10) ≡ false) → scalars (c ∷ cs) ≡ true
+    → doc_until (is_inner (c ∷ cs)) (drop 3 (c ∷ cs)) (past k (drop 3 (c ∷ cs))) (past k (drop 3 (c ∷ cs)))
     ≡ Ok (shape, rest) → Step e (c ∷ cs) rest shape
-line_cut e c cs rest shape d u h =
+line_cut k e c cs rest shape d feed u h =
     let whole = take-append-drop 3 (c ∷ cs) in
-    let end : List ℕ = past InLine (drop 3 (c ∷ cs)) in
+    let end : List ℕ = past k (drop 3 (c ∷ cs)) in
     subst (λ (x : List ℕ). Step e x rest shape) whole
     (doc_cut_at e (take 3 (c ∷ cs)) (drop 3 (c ∷ cs)) end end rest shape (is_inner (c ∷ cs))
     (from_return (front (drop 3 (c ∷ cs)) end)) (ap begins_doc whole ∙ d)
-    (line_may (is_inner (c ∷ cs)) (drop 3 (c ∷ cs)) (doc_slash c cs d))
-    (past_tail InLine (drop 3 (c ∷ cs))) refl (here end) (omega arith) (ap scalars whole ∙ u) h)
+    (line_may k (is_inner (c ∷ cs)) (drop 3 (c ∷ cs)) feed (doc_slash c cs d))
+    (past_tail k (drop 3 (c ∷ cs))) refl (here end) (omega arith) (ap scalars whole ∙ u) h)
 
 doc_cut : (e : Edition) (c : ℕ) (cs rest : List ℕ) (shape : Shape) → begins_doc (c ∷ cs) ≡ true
     → scalars (c ∷ cs) ≡ true → doc (c ∷ cs) ≡ Ok (shape, rest) → Step e (c ∷ cs) rest shape
 doc_cut e c cs rest shape d u h =
     if_ok (Step e (c ∷ cs) rest shape) (begins_with (codes "//") (c ∷ cs)) _ _ _ h
-    (λ b k. line_cut e c cs rest shape d u k)
+    (λ b k. search (line_cut, d, feed_of, u, k))
     (λ b k. block_cut e c cs rest shape (from_comment_end false 0 (drop 3 (c ∷ cs))) d b refl u k)
 
 -- ---- the table
