@@ -1,5 +1,5 @@
 -- Where a block doc comment ends: its text is one that is closed.
-use Rattle.std.proofs.Common.{◌≡◌, ℕ, zero, suc, ◌==◌, ◌+◌, ◌-◌, ◌<◌, ◌≤◌, not, ◌&&◌, ◌||◌, if◌then◌else◌, Bool, true, false, List, [], ◌∷◌, ◌++◌, length, get_or, refl, sym, ap, ◌∙◌, arith, codes, Option, Some, None, length-append, chars, encode_utf8_all}
+use Rattle.std.proofs.Common.{◌≡◌, ℕ, suc, ◌==◌, ◌+◌, ◌-◌, ◌<◌, ◌≤◌, not, ◌&&◌, ◌||◌, if◌then◌else◌, Bool, true, false, List, [], ◌∷◌, ◌++◌, length, get_or, refl, sym, ap, ◌∙◌, arith, codes, Option, Some, None, length-append, chars, encode_utf8_all}
 use Rattle.std.specs.Char.{char_set_contains}
 use Rattle.std.specs.List.{list_any}
 use Rattle.std.specs.Str.{NonePass}

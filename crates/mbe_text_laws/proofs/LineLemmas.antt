@@ -1,5 +1,5 @@
 -- Each literal that the lexer makes is read whole, or is a doc comment's.
-use Rattle.std.proofs.Common.{◌≡◌, ℕ, ◌==◌, ◌+◌, not, ◌&&◌, ◌||◌, if◌then◌else◌, Bool, true, false, List, [], ◌∷◌, ◌++◌, refl, sym, ap, ◌∙◌, codes, Option, Some, None, chars, subst}
+use Rattle.std.proofs.Common.{◌≡◌, ℕ, ◌==◌, ◌+◌, not, ◌&&◌, if◌then◌else◌, Bool, true, false, List, [], ◌∷◌, ◌++◌, refl, sym, ap, ◌∙◌, codes, Option, Some, None, subst}
 use Rattle.mbe_tt.specs.Trees.Leaf.{Literal, literal, punct, ident}
 use Rattle.mbe_tt.specs.Trees.Tree.{Forest, none, leaf, group, append, one_leaf, FlatToken, token, flat, is_same_kind}
 use Rattle.mbe_tt.specs.Trees.Tree as tree
@@ -17,7 +17,7 @@ use Rattle.mbe_rust_text.specs.Gaps.{is_joint}
 use Rattle.mbe_rust_text.specs.Writing.{start}
 use Rattle.mbe_text.specs.Blanks.{begins_comment}
 use Rattle.mbe_text.specs.Characters.{offset}
-use Rattle.mbe_text.specs.Division.{Taken, span_of_taken}
+use Rattle.mbe_text.specs.Division.{Taken}
 use Rattle.mbe_text.specs.Rust.{begins_doc}
 use Rattle.mbe_text.specs.Shapes.{Shape, identifier, literal_of, punct_of, lifetime_of, doc_of, opening, closing}
 use Rattle.mbe_text.specs.Signs.{spacing_before}

@@ -1,5 +1,5 @@
 -- Each token that the lexer makes is one of Rust.
-use Rattle.std.proofs.Common.{◌≡◌, ℕ, ◌&&◌, Bool, true, false, List, [], ◌∷◌, ◌++◌, refl, sym, ap, ◌∙◌, arith, codes, None, encode_utf8_all, chars}
+use Rattle.std.proofs.Common.{◌≡◌, ℕ, ◌&&◌, Bool, true, false, List, [], ◌∷◌, ◌++◌, refl, sym, ap, ◌∙◌, arith, codes, encode_utf8_all, chars}
 use Rattle.unicode_ident.proofs.Computing.{unicode_ident}
 use Rattle.std.proofs.lemmas.Str.{chars-encodes}
 use Rattle.mbe_tt.specs.Trees.Editions.{at_least_2024}
@@ -17,7 +17,7 @@ use Rattle.mbe_text.specs.Characters.{offset}
 use Rattle.mbe_text.specs.Shapes.{Shape, identifier, literal_of, punct_of, lifetime_of, doc_of, opening, closing}
 use Rattle.mbe_text.specs.Tokens.{bytes_of, punct_leaf, ident_leaf, raw_string_leaf, most_guards}
 use Rattle.mbe_text.specs.Words.{past_word}
-use Rattle.mbe_text_laws.specs.Rust.{is_start, begins_word, are_together, IsWord, IsLiteral, AreRust}
+use Rattle.mbe_text_laws.specs.Rust.{is_start, begins_word, are_together, IsWord, AreRust}
 use Rattle.mbe_text_laws.proofs.DocTextLemmas.{doc_literal, doc_spelled}
 use Rattle.mbe_text_laws.proofs.LiteralLemmas.{the_literal, one_byte}
 use Rattle.mbe_text_laws.proofs.ShapeLemmas.{Lexed, IsDocText}
