@@ -85,10 +85,16 @@ static COMMENTS: [(&str, &str); 32] = [
     ("/** /* a\n*/ b */ c", "/** /* a\n*/ b */\nc"),
     ("/** /*/ a\n*/*/ c", "/** /*/ a\n*/*/\nc"),
     ("/** // a\n/**/ */ b", "/** // a\n/**/ */\nb"),
-    ("/** é\n\u{1F600}\u{2028} */ b", "/** é\n\u{1F600}\u{2028} */\nb"),
+    (
+        "/** é\n\u{1F600}\u{2028} */ b",
+        "/** é\n\u{1F600}\u{2028} */\nb",
+    ),
     ("/** a\"# b\n\"### */ c", "/** a\"# b\n\"### */\nc"),
     ("a; { /** b\nc */ d }", "a;\n{\n    /** b\nc */\n    d\n}"),
-    ("m! { (/** a\nb */ c) }", "m! {\n    (\n    /** a\nb */\n    c)\n}"),
+    (
+        "m! { (/** a\nb */ c) }",
+        "m! {\n    (\n    /** a\nb */\n    c)\n}",
+    ),
     ("+/** a\nb */ c", "+\n/** a\nb */\nc"),
     ("#[doc = r\" a\nb \"] c", "#[doc = r\" a\nb \"] c"),
     ("/** a\nb */~/// c\n~d", "/** a\nb */\n/// c\nd"),
@@ -166,7 +172,9 @@ fn a_comment_has_any_text(rt: HostRuntime) -> Result<(), Fail> {
     for count in HASHES {
         let hashes = "#".repeat(rt.alloc(), count)?;
         let hashes = hashes.as_str();
-        let text = format!(in rt.alloc(); "/*! \"{hashes}\n*/\n/** a \"{hashes}\n */\n/// \"{hashes}\nb")?;
+        let text = format!(in rt.alloc();
+            "/*! \"{hashes}\n*/\n/** a \"{hashes}\n */\n/// \"{hashes}\nb"
+        )?;
         let mut writer = Writer::new(rt.alloc(), 0);
         let dialect = Dialect::Rust(Edition::Edition2021);
         write(&rt, rt.alloc(), &mut writer, dialect, 0, text.as_str())?;

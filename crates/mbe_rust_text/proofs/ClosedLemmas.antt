@@ -1,5 +1,5 @@
 -- One character more of a block comment's text.
-use Rattle.std.proofs.Common.{◌≡◌, ℕ, suc, ◌==◌, ◌+◌, ◌-◌, ◌<◌, ◌≤◌, not, ◌&&◌, min, Bool, true, false, List, [], ◌∷◌, ◌++◌, length, drop, get_or, refl, sym, ap, ◌∙◌, arith, chars, encode_utf8_all, IsUtf8}
+use Rattle.std.proofs.Common.{◌≡◌, ℕ, suc, ◌==◌, ◌+◌, ◌-◌, ◌<◌, ◌≤◌, not, ◌&&◌, Bool, true, false, List, [], ◌∷◌, ◌++◌, length, drop, get_or, refl, sym, ap, ◌∙◌, arith, chars, IsUtf8}
 use Rattle.std.proofs.lemmas.Bool.Decides.{nat_tests}
 use Rattle.std.proofs.lemmas.List.{at_drop_more, at_drop_all, length_push}
 use Rattle.std.proofs.lemmas.Str.{encodes-chars, length-le-encodes}
@@ -14,7 +14,8 @@ step last depth n c cs h =
 
 -- as many are yielded
 pub pushed : (last depth : ℕ) (cs yielded : List ℕ) (c : ℕ)
-    → is_closed last depth (drop (length (yielded ++ (c ∷ []))) cs) ≡ is_closed last depth (drop (length yielded + 1) cs)
+    → is_closed last depth (drop (length (yielded ++ (c ∷ []))) cs)
+    ≡ is_closed last depth (drop (length yielded + 1) cs)
 pushed last depth cs yielded c = ap (λ (k : ℕ). is_closed last depth (drop k cs)) (length_push yielded c)
 
 is_not : (c d : ℕ) → (c ≡ d → ⊥) → (c == d) ≡ false

@@ -199,7 +199,8 @@ impl<A: Allocator + Copy> Writer<A> {
     {
         let gap = between(!self.last.is_line_start(), false, false);
         self.space(gap)?;
-        self.text.push_str(comment_marks(comment.is_inner, comment.is_block))?;
+        self.text
+            .push_str(comment_marks(comment.is_inner, comment.is_block))?;
         self.text.push_str(comment.text)?;
         self.text.push_str(comment_end(comment.is_block))?;
         self.space(Gap::Line)?;

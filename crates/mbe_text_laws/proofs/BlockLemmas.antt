@@ -55,9 +55,11 @@ closed_then : (return : Bool) (c depth d : ℕ) (cs : List ℕ) → (d == 13) �
 closed_then true c depth d cs r h =
     absurd (let w : is_closed c depth (d ∷ cs) ≡ false = rw (is_closed, r) refl in
     let z : false ≡ true = sym w ∙ h in cc)
-closed_then false c depth d cs r h =
-    (refl, let w : is_closed c depth (d ∷ cs) ≡ closed_on (c == 47 && d == 42) (c == 42 && d == 47) depth d cs =
-    rw (is_closed, r) refl in sym w ∙ h)
+closed_then false c depth d cs r h = (
+  refl,
+  let w : is_closed c depth (d ∷ cs) ≡ closed_on (c == 47 && d == 42) (c == 42 && d == 47) depth d cs =
+      rw (is_closed, r) refl in sym w ∙ h,
+)
 
 -- ---- a comment with a closed text ends after it
 

@@ -1,4 +1,4 @@
-use Rattle.std.proofs.Common.{rules, arith, ◌≡◌, ◌∙◌, chars, drop, ℕ, ◌+◌, ◌-◌, ◌<◌, ◌≤◌, suc, length, sym, ap}
+use Rattle.std.proofs.Common.{rules, arith, ◌≡◌, ◌∙◌, chars, drop, ℕ, ◌+◌, ◌-◌, ◌<◌, suc, length, sym, ap}
 use Rattle.std.proofs.lemmas.Iterator.{YieldsList-from_chars}
 use Rattle.std.proofs.lemmas.Iterator.Consumers.{YieldsList-turn, YieldsList-end}
 use Rattle.std.proofs.lemmas.List.{length_push}
