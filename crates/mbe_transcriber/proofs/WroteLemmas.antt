@@ -24,7 +24,7 @@ use Rattle.mbe_semantics.specs.Writing.Concat.{concat_text}
 use Rattle.mbe_semantics.specs.Writing.Substitution.{IsSubstitution, separator_trees, integer, rawness, index_of, rounds_in, total_of, is_simple, is_counted, variable_faults, extent_faults, op_faults, faults, any_below, any_round, AreKeptRounds, Substitutes}
 use Rattle.mbe_transcriber.specs.Writing.{AreMarked, IsMarkedLiteral, IsMarkedIdent, Wrote, IsNumber, IsVariableWritten, IsConcatWritten, IsWritten, AreWritten, AreRoundsWritten, IsParted}
 use Rattle.mbe_variables.specs.Fragments.{Appends}
-use Rattle.mbe_variables.proofs.PutLemmas.{put-none, put_both}
+use Rattle.mbe_variables.proofs.PutLemmas.{appended, put-none, put_both}
 
 -- ---- Booleans
 
