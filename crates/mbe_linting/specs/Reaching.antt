@@ -35,8 +35,8 @@ fits_as_well earlier later =
     (style_number earlier.style == style_number later.style)
     && (takes_all earlier.reads || are_alike earlier.reads later.reads)
 
--- A call that the later rule fits is expanded by the earlier one, or by one before that. Where a substitution faults the
--- search goes on; so the earlier rule's mustn't.
+-- A call that the later rule fits is expanded by the earlier one, or by one before that. Where a substitution faults
+-- the search goes on; so the earlier rule's mustn't.
 abbrev pub covers : Rule → Rule → Bool
 covers earlier later = fits_as_well earlier later && writes_surely earlier.reads earlier.writes
 
