@@ -1,5 +1,5 @@
 -- How many ops there are, at any depth: a measure. And what ops with a body come to.
-use Rattle.std.proofs.Common.{ℕ, zero, suc, ◌≡◌, ◌+◌, ◌<◌, ◌&&◌, Bool, true, Option, List, ◌∷◌, ap, sym, ◌∙◌, arith}
+use Rattle.std.proofs.Common.{ℕ, suc, ◌≡◌, ◌+◌, ◌<◌, ◌&&◌, Bool, true, Option, List, ◌∷◌, ap, sym, ◌∙◌, arith}
 use Rattle.mbe_tt.specs.declared.tt.Delimiter.{Delimiter}
 use Rattle.mbe_semantics.specs.declared.kinds.RepeatKind.{RepeatKind}
 use Rattle.mbe_semantics.specs.Syntax.Op.{Separator, Op, Ops, no_ops, op, group, repetition}
