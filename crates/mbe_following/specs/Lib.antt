@@ -1,0 +1,3 @@
+pub mod Fronts
+pub mod Following
+pub mod Shown
