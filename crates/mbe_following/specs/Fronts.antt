@@ -13,7 +13,6 @@ use Rattle.mbe_tt.specs.declared.tt.IdentIsRaw.TheVariants.{No, Yes}
 use Rattle.mbe_tt.specs.declared.tt.LitKind.{LitKind}
 use Rattle.mbe_tt.specs.declared.tt.LitKind.TheVariants as k
 use Rattle.mbe_tt.specs.declared.tt.Punct.{Punct}
-use Rattle.mbe_cfg.specs.Fronts.{after_char, group_at}
 
 -- ---- modules
 
@@ -84,6 +83,20 @@ leaf_text (literal l) = plain_text l
 leaf_text (punct p) = None
 leaf_text (ident i) = None
 
+-- the trees after a punct of that char
+abbrev pub after_char : ℕ → Forest → Option Forest
+after_char char f = option_and_then (λ p. if p.char == char then Some (rest_of f) else None) (front_punct f)
+
+abbrev pub of_brackets : DelimiterKind → Forest → Option Forest
+of_brackets Bracket content = Some content
+of_brackets Brace content = None
+of_brackets Parenthesis content = None
+of_brackets Invisible content = None
+
+-- what the brackets at the front hold
+abbrev pub bracketed : Forest → Option Forest
+bracketed f = option_and_then (λ g. of_brackets g.0.kind g.1) (front_group f)
+
 -- the text after a `=`
 abbrev pub value : Forest → Option (List ℕ)
 value f = option_and_then leaf_text (option_and_then front_literal (after_char 61 f))
@@ -94,7 +107,7 @@ path_in f = option_and_then (λ i. if is_text i.sym (codes "path") then value (r
 
 -- the text of the `#[path = ".."]` at the front, if one is there
 abbrev pub path_at : Forest → Option (List ℕ)
-path_at f = option_and_then (λ g. path_in g.inside) (option_and_then (group_at Bracket) (after_char 35 f))
+path_at f = option_and_then path_in (option_and_then bracketed (after_char 35 f))
 
 -- a `;`, or braces, after which no attribute counts that precedes them
 abbrev pub ends_item : Tree → Bool

@@ -6,7 +6,6 @@ ghost use Rattle.mbe_tt.specs.Views.View.{trees};
 ghost use Rattle.mbe_following.specs.Fronts as spec;
 ghost use Rattle.mbe_following.specs.Shown.{module_shown};
 
-use mbe_cfg::fronts::{after_char, group_at};
 use mbe_tt::span::Span;
 use mbe_tt::tt::{
     Delimiter, DelimiterKind, Ident, IdentIsRaw, Leaf, LitKind, Literal, TokenTreesView, TtElement,
@@ -176,6 +175,34 @@ fn leaf_text<'t, A: Allocator>(leaf: &'t Leaf<A>) -> Option<&'t str>
     }
 }
 
+// What follows a punct of that char.
+fn after_char<'t, A: Allocator>(
+    tokens: TokenTreesView<'t, A>,
+    char: char,
+) -> Option<TokenTreesView<'t, A>>
+    ensures { option_map trees result ≡ spec.after_char char (trees tokens.entry) }
+{
+    let mut iter = tokens.iter();
+    let punct = iter.expect_single_punct().ok()?;
+    if punct.char == char {
+        Some(iter.remaining())
+    } else {
+        None
+    }
+}
+
+// What the brackets at the front hold.
+fn bracketed<'t, A: Allocator>(tokens: TokenTreesView<'t, A>) -> Option<TokenTreesView<'t, A>>
+    ensures { option_map trees result ≡ spec.bracketed (trees tokens.entry) }
+{
+    let mut iter = tokens.iter();
+    let (group, content) = iter.expect_subtree().ok()?;
+    match group.delimiter.kind {
+        DelimiterKind::Bracket => Some(content.remaining()),
+        DelimiterKind::Brace | DelimiterKind::Parenthesis | DelimiterKind::Invisible => None,
+    }
+}
+
 // The text after the `=` at the front.
 fn value<'t, A: Allocator>(tokens: TokenTreesView<'t, A>) -> Option<&'t str>
     ensures { option_map (λ t. t.now) result ≡ spec.value (trees tokens.entry) }
@@ -201,8 +228,7 @@ fn path_in<'t, A: Allocator>(content: TokenTreesView<'t, A>) -> Option<&'t str>
 fn path_at<'t, A: Allocator>(tokens: TokenTreesView<'t, A>) -> Option<&'t str>
     ensures { option_map (λ t. t.now) result ≡ spec.path_at (trees tokens.entry) }
 {
-    let brackets = group_at(DelimiterKind::Bracket, after_char(tokens, '#')?)?;
-    path_in(brackets.inside)
+    path_in(bracketed(after_char(tokens, '#')?)?)
 }
 
 // Whether no attribute counts after a tree that precedes it.

@@ -1,5 +1,5 @@
 // Which file that was read holds a module.
-ghost use Rattle.std.specs.Prelude.{◌≡◌, IfOk, map, option_map};
+ghost use Rattle.std.specs.Prelude.{◌≡◌, ◌==◌, IfOk, map, option_map};
 ghost use Rattle.std.specs.List.{list_any, slice_get};
 ghost use Rattle.std.specs.String.{string_bytes};
 ghost use Rattle.mbe_modules.specs.Shown.{candidates_shown, place_shown};
