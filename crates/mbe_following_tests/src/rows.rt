@@ -150,7 +150,7 @@ fn followed(
     let Some(Some(root)) = trees.first() else {
         return Err(Fail::from("no root"));
     };
-    let place = Place::in_file(alloc, paths[0], None)?;
+    let place = Place::in_file(alloc, paths.first().copied().unwrap_or(""), None)?;
     let mut unfound = Vec::new(alloc);
     let tree = follow(alloc, files.as_slice(), &mut unfound, 0, &place, root)?;
     Ok((written(alloc, &tree)?, said(alloc, unfound.as_slice())?))
