@@ -170,22 +170,20 @@ fn last_name(name: &str) -> &str {
     name.rsplit_once('/').map_or(name, |(_, last)| last)
 }
 
-// Where the file of that number is written, from a folder on: under its own name without the folders that it is in; that of a module
-// where it is from the folder of the named file on. An error's text if it isn't below that.
+// Where a file is written, from a folder on: one that the words name under its own name without the folders that it is in; one of a
+// module where it is from the folder of the named file on. An error's text if it isn't below that.
 fn target(
     alloc: Global,
-    reached: &Reached,
-    number: usize,
+    path: &str,
+    root: Option<&str>,
 ) -> Result<Result<String, String>, AllocError> {
-    let root = reached.roots[number];
-    let (path, from) = (&reached.texts[number].name, &reached.texts[root].name);
-    if root == number {
-        return Ok(Ok(String::from_str(alloc, last_name(path.as_str()))?));
-    }
-    match relative(alloc, folder_of(from.as_str()), path.as_str())? {
+    let Some(root) = root else {
+        return Ok(Ok(String::from_str(alloc, last_name(path))?));
+    };
+    match relative(alloc, folder_of(root), path)? {
         Some(target) => Ok(Ok(target)),
         None => Ok(Err(format!(in alloc;
-            "`{path}`, of a module, isn't below the folder of `{from}`"
+            "`{path}`, of a module, isn't below the folder of `{root}`"
         )?)),
     }
 }
@@ -198,7 +196,8 @@ fn targets(
 ) -> Result<Result<Vec<String>, String>, AllocError> {
     let mut found: Vec<String> = Vec::new(alloc);
     for number in 0..reached.texts.len() {
-        match target(alloc, reached, number)? {
+        let (path, root) = reached.path(number).unwrap_or(("", None));
+        match target(alloc, path, root)? {
             Err(message) => return Ok(Err(message)),
             Ok(target) => {
                 if found.iter().any(|other| other.as_str() == target.as_str()) {

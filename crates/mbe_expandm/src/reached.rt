@@ -19,8 +19,8 @@ const MOST: usize = 65_536;
 #[derive(Drop)]
 pub struct Reached {
     pub texts: Vec<Named>,
-    /// Of each, which of those that the words name it was reached from.
-    pub roots: Vec<usize>,
+    // Of each, which of those that the words name it was reached from.
+    roots: Vec<usize>,
     // Of each, where its modules are looked for, if they are.
     places: Vec<Option<Place>>,
 }
@@ -113,6 +113,16 @@ impl Reached {
             }
             _ => Ok(Vec::new(alloc)),
         }
+    }
+
+    /// The path of the file of that number, and for a module's file that of the file that the words name it was reached from.
+    pub fn path(&self, number: usize) -> Option<(&str, Option<&str>)> {
+        let path = self.texts.get(number)?.name.as_str();
+        let root = self.roots.get(number).copied()?;
+        if root == number {
+            return Some((path, None));
+        }
+        Some((path, Some(self.texts.get(root)?.name.as_str())))
     }
 
     /// Adds the files of modules, as far as they can be read, and of their modules in turn.
