@@ -36,8 +36,8 @@ CrateParts e levels None s parts t = (parts ≡ []) × (t ≡ s)
 CrateParts e levels (Some tree) s parts t = PartsOfFile e levels tree.1 s parts t × All (IsOfCall e tree.1) parts
 
 -- those of the crates whose roots are the first so many files, one crate after another
-pub data CratesParts (e : Setting) (levels : ℕ) (follows : Bool) (files : List Source) (s : State) : ℕ → List Part → State
-    → Type 0 where
+pub data CratesParts (e : Setting) (levels : ℕ) (follows : Bool) (files : List Source) (s : State)
+    : ℕ → List Part → State → Type 0 where
   no_crate : CratesParts e levels follows files s 0 [] s
   one_crate : (n : ℕ) (parts more : List Part) (t u : State) → CratesParts e levels follows files s n parts t
       → CrateParts e levels (crate_at follows files n) t more u

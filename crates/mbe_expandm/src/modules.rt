@@ -50,7 +50,9 @@ fn message(alloc: Global, unfound: &Unfound) -> Result<Option<String>, AllocErro
     let message = match unfound.wrong {
         Wrong::Missing => format!(in alloc; "file not found for module `{name}`: {files}")?,
         Wrong::Both => format!(in alloc; "two files are found for module `{name}`: {files}")?,
-        Wrong::Circular => format!(in alloc; "circular modules: `{name}` is in its own file {files}")?,
+        Wrong::Circular => format!(in alloc;
+            "circular modules: `{name}` is in its own file {files}"
+        )?,
         Wrong::NoRust => return Ok(None),
     };
     Ok(Some(message))

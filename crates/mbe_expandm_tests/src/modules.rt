@@ -127,7 +127,10 @@ fn become_by(
         all.push_str(text.as_str())?;
         all.push('|')?;
     }
-    let notes = session.notes.len().saturating_add(session.expander.notes.len());
+    let notes = session
+        .notes
+        .len()
+        .saturating_add(session.expander.notes.len());
     Ok((all, notes))
 }
 

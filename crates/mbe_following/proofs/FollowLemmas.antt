@@ -1,22 +1,17 @@
 -- What is left to be written, as trees are followed one front after another.
-use Rattle.std.proofs.Common.{ℕ, suc, ◌-◌, ◌≡◌, ◌<◌, List, [], ◌∷◌, ◌++◌, length, Some, None, refl, ap, sym, subst, ◌∙◌, append_assoc, append-nil, arith}
-use Rattle.std.specs.Prelude.{Option, Result, Ok, Err, IfOk, OnOk}
-use Rattle.mbe_tt.specs.Buffers.Building.{Levels, put}
+use Rattle.std.proofs.Common.{ℕ, suc, ◌-◌, ◌≡◌, ◌<◌, List, [], ◌∷◌, ◌++◌, length, None, refl, ap, sym, ◌∙◌, append_assoc, append-nil, arith}
+use Rattle.std.specs.Prelude.{Option, Result, Ok, Err, OnOk}
+use Rattle.mbe_tt.specs.Buffers.Building.{Levels, put, closed}
 use Rattle.mbe_tt.specs.Trees.Leaf.{ident}
-use Rattle.mbe_tt.specs.Trees.Tree.{Forest, Tree, none, leaf, group, append, first, flat_len, one_leaf}
-use Rattle.mbe_tt.specs.declared.span.Span.{Span}
+use Rattle.mbe_tt.specs.Trees.Tree.{Forest, Tree, none, leaf, group, append, flat_len, one_leaf}
 use Rattle.mbe_tt.specs.declared.tt.Delimiter.{Delimiter}
 use Rattle.mbe_tt.proofs.Buffers.Built.{length-put}
 use Rattle.mbe_tt.proofs.Buffers.Grown.{put-none}
 use Rattle.mbe_following.specs.Following as spec
 use Rattle.mbe_following.specs.Following.{At, Followed, Step, Unfound, unchanged, whole, step, before, steps, followed, alone}
-use Rattle.mbe_following.specs.Fronts.{Body, Module, Outside, module_of}
-use Rattle.mbe_following.specs.Shown.{left_shown}
-use Rattle.mbe_following.specs.Steps.{IsStep}
-use Rattle.mbe_following.specs.Taking.{File, Taken, taken}
-use Rattle.mbe_following.specs.declared.following.Left.{Left}
-use Rattle.mbe_following.specs.declared.taking.Wrong.{Wrong}
-use Rattle.mbe_modules.specs.Places.{candidates}
+use Rattle.mbe_following.specs.Fronts.{Module}
+use Rattle.mbe_following.specs.Steps.{Writes}
+use Rattle.mbe_following.specs.Taking.{File}
 
 pub one_more : (n : ℕ) → 0 < n → n ≡ suc (n - 1)
 one_more n h = omega (arith, h)
@@ -66,7 +61,8 @@ steps_more within files at most l some =
 
 -- one front on
 pub front_on : (within : At → Forest → Followed) (files : List File) (at : At) (all : ℕ) (f : Forest) (old : Levels)
-    (noted : List Unfound) (most : ℕ) (left after : spec.Left) (now next : Levels) (found more : List Unfound) → 0 < most
+    (noted : List Unfound) (most : ℕ) (left after : spec.Left) (now next : Levels) (found more : List Unfound)
+    → 0 < most
     → Going within files at all f old noted most left now found
     → next ≡ put (step within files at left).kept now → more ≡ found ++ (step within files at left).unfound
     → after ≡ (step within files at left).left
@@ -116,52 +112,6 @@ pub followed_none : (files : List File) (levels : ℕ) (at : At) (f : Forest) �
     → unchanged f ≡ followed files levels at f
 followed_none files levels at f e = followed_zero files at f ∙ ap (λ n. followed files n at f) (sym e)
 
--- ---- one front
-
-pub kept_as_is : {A E : Type 0} (r : Result (Left A) E) (within : At → Forest → Followed) (files : List File) (at : At)
-    (l : spec.Left) (old new : Levels) (noted : List Unfound) → module_of l.rest ≡ None
-    → OnOk r (new ≡ put (alone (first l.rest)) old) → IfOk r (λ x. left_shown x ≡ spec.after_first l (first l.rest))
-    → IfOk r (IsStep (step within files at l) old noted new noted)
-kept_as_is (Ok x) within files at l old new noted e k p = record {
-  kept = k ∙ ap (λ m. put (spec.step_by within files at l m).kept old) (sym e);
-  unfound = sym (append-nil noted) ∙ ap (λ m. noted ++ (spec.step_by within files at l m).unfound) (sym e);
-  is_left = p ∙ ap (λ m. (spec.step_by within files at l m).left) (sym e);
-}
-kept_as_is (Err x) within files at l old new noted e k p = tt
-
-pub kept_unfound : {A E : Type 0} (r : Result (Left A) E) (within : At → Forest → Followed) (files : List File)
-    (at : At) (l : spec.Left) (m : Module) (s : Span) (old new : Levels) (noted more : List Unfound) (wrong : Wrong)
-    → taken files at.around m.name.sym (candidates at.place m.name.sym l.path) ≡ Err wrong
-    → more ≡ noted ++ spec.unfound_of m.name (candidates at.place m.name.sym l.path) wrong ∷ []
-    → OnOk r (new ≡ put (alone (first l.rest)) old) → IfOk r (λ x. left_shown x ≡ spec.after_first l (first l.rest))
-    → IfOk r (IsStep (spec.body_step within files at l m (Outside s)) old noted new more)
-kept_unfound (Ok x) within files at l m s old new noted more wrong e n k p =
-    let by = spec.outside_step within at l m s (candidates at.place m.name.sym l.path) in
-    record {
-      kept = k ∙ ap (λ t. put (by t).kept old) (sym e);
-      unfound = n ∙ ap (λ t. noted ++ (by t).unfound) (sym e);
-      is_left = p ∙ ap (λ t. (by t).left) (sym e);
-    }
-kept_unfound (Err x) within files at l m s old new noted more wrong e n k p = tt
-
--- the same step of another name
-pub same_step : {A E : Type 0} (r : Result (Left A) E) (one other : Step) (old new : Levels) (noted more : List Unfound)
-    → one ≡ other → IfOk r (IsStep one old noted new more) → IfOk r (IsStep other old noted new more)
-same_step r one other old new noted more e h = subst (λ x. IfOk r (IsStep x old noted new more)) e h
-
-pub in_file : (within : At → Forest → Followed) (files : List File) (at : At) (l : spec.Left) (m : Module) (s : Span)
-    (t : Taken) → taken files at.around m.name.sym (candidates at.place m.name.sym l.path) ≡ Ok t
-    → spec.in_braces m (spec.braces s) (within (spec.in_taken at.around t) t.trees)
-    ≡ spec.body_step within files at l m (Outside s)
-in_file within files at l m s t e =
-    ap (spec.outside_step within at l m s (candidates at.place m.name.sym l.path)) (sym e)
-
-pub at_module : (within : At → Forest → Followed) (files : List File) (at : At) (l : spec.Left) (m : Module)
-    (body : Body) → module_of l.rest ≡ Some m → m.body ≡ body
-    → spec.body_step within files at l m body ≡ step within files at l
-at_module within files at l m body is b =
-    ap (spec.body_step within files at l m) (sym b) ∙ ap (spec.step_by within files at l) (sym is)
-
 -- ---- groups
 
 -- a module is written once its words and its group are
@@ -171,3 +121,45 @@ pub module_put : (m : Module) (d : Delimiter) (content : Forest) (old : Levels)
 module_put m d content old =
     put_put (one_leaf (ident m.name)) (group d content none) (put (one_leaf (ident m.word)) old)
     ∙ put_put (one_leaf (ident m.word)) (leaf (ident m.name) (group d content none)) old
+
+-- a group is open in the whole
+pub one_open : (a b c e n : Levels) (f g h : Forest) (d : Delimiter) → 0 < length a → b ≡ put f a → c ≡ put g b
+    → e ≡ (d, none) ∷ c → n ≡ put h e → 1 < length n
+one_open a b c e n f g h d some hb hc he hn =
+    omega (arith, some, ap length hb, length-put a f, ap length hc, length-put b g, ap length he, ap length hn,
+    length-put e h)
+
+abbrev pub not_closed : Delimiter → Delimiter
+not_closed d = record { opening = d.opening; close = d.opening; kind = d.kind }
+
+-- a module is written once its words, and its group with that content, are
+pub module_written : (m : Module) (d : Delimiter) (content : Forest) (old b c e n z : Levels)
+    → b ≡ put (one_leaf (ident m.word)) old → c ≡ put (one_leaf (ident m.name)) b → e ≡ (not_closed d, none) ∷ c
+    → n ≡ put content e → z ≡ closed d.close n → z ≡ put (spec.module_with m d content) old
+module_written m d content old b c e n z hb hc he hn hz =
+    hz ∙ ap (closed d.close) (hn ∙ ap (put content) he)
+    ∙ ap (put (group d content none)) (hc ∙ ap (put (one_leaf (ident m.name))) hb) ∙ module_put m d content old
+
+-- ---- what is written in all
+
+-- trees that are too deep
+pub all_kept : {T E : Type 0} (r : Result T E) (files : List File) (levels : ℕ) (at : At) (f : Forest)
+    (old new : Levels) (noted : List Unfound) → levels ≡ 0 → OnOk r (new ≡ put f old)
+    → OnOk r (Writes (followed files levels at f) old noted new noted)
+all_kept (Ok x) files levels at f old new noted e k = record {
+  kept = k ∙ ap (λ y. put y.kept old) (followed_none files levels at f e);
+  unfound = sym (append-nil noted) ∙ ap (λ y. noted ++ y.unfound) (followed_none files levels at f e);
+}
+all_kept (Err x) files levels at f old new noted e k = tt
+
+-- trees none of which is left
+pub all_written : (files : List File) (levels : ℕ) (at : At) (f : Forest) (old : Levels) (noted : List Unfound)
+    (most : ℕ) (left : spec.Left) (now : Levels) (found : List Unfound) → most ≡ 0
+    → Going (followed files levels) files at (flat_len f) f old noted most left now found
+    → Writes (followed files (suc levels) at f) old noted now found
+all_written files levels at f old noted most left now found e h = record {
+  kept = ended (followed files levels) files at (flat_len f) f old noted most left now found e h
+      ∙ ap (λ y. put y.kept old) (followed_suc files levels at f);
+  unfound = ended_unfound (followed files levels) files at (flat_len f) f old noted most left now found e h
+      ∙ ap (λ y. noted ++ y.unfound) (followed_suc files levels at f);
+}

@@ -1,9 +1,9 @@
 -- Modules at the front of trees, and the `#[path = ".."]` before them.
-use Rattle.std.specs.Prelude.{ℕ, Bool, true, false, not, ◌==◌, ◌&&◌, nat_lt, if◌then◌else◌, codes, List, Option, Some, None, option_map, option_and_then}
+use Rattle.std.specs.Prelude.{ℕ, Bool, true, false, ◌==◌, nat_lt, if◌then◌else◌, codes, List, Option, Some, None, option_and_then}
 use Rattle.std.specs.List.{list_any}
 use Rattle.std.specs.Option.{option_or}
 use Rattle.mbe_tt.specs.Trees.Leaf.{Leaf, Ident, Literal, literal, punct, ident, is_text}
-use Rattle.mbe_tt.specs.Trees.Tree.{Forest, none, leaf, group, first, rest_of, Tree, Leaf_tree, Group_tree, front_punct, front_ident, front_group, front_literal}
+use Rattle.mbe_tt.specs.Trees.Tree.{Forest, rest_of, Tree, Leaf_tree, Group_tree, front_punct, front_ident, front_group, front_literal}
 use Rattle.mbe_tt.specs.declared.span.Span.{Span}
 use Rattle.mbe_tt.specs.declared.tt.Delimiter.{Delimiter}
 use Rattle.mbe_tt.specs.declared.tt.DelimiterKind.{DelimiterKind}
@@ -12,7 +12,6 @@ use Rattle.mbe_tt.specs.declared.tt.IdentIsRaw.{IdentIsRaw}
 use Rattle.mbe_tt.specs.declared.tt.IdentIsRaw.TheVariants.{No, Yes}
 use Rattle.mbe_tt.specs.declared.tt.LitKind.{LitKind}
 use Rattle.mbe_tt.specs.declared.tt.LitKind.TheVariants as k
-use Rattle.mbe_tt.specs.declared.tt.Punct.{Punct}
 
 -- ---- modules
 

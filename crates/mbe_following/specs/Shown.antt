@@ -1,5 +1,5 @@
 -- What the code's values show, whatever memory holds them.
-use Rattle.std.specs.Prelude.{ℕ, List, Option, option_map, Result, Ok, Err}
+use Rattle.std.specs.Prelude.{option_map, Result, Ok, Err}
 use Rattle.std.specs.String.{string_bytes}
 use Rattle.mbe_tt.specs.Views.Shown.{ident_of}
 use Rattle.mbe_tt.specs.Views.View.{trees}

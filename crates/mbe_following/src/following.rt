@@ -231,9 +231,7 @@ fn follow_front<'t, A: Allocator + Copy>(
             alloc, files, unfound, builder, at, left, module, semicolon, levels,
         ),
         Body::Braces(delimiter, content) => {
-            let place = at
-                .place
-                .inside(alloc, module.name.sym.as_str(), left.path)?;
+            let place = at.place.inside(alloc, module.name.sym.as_str(), left.path)?;
             let around = at.around;
             let at = At {
                 place: &place,

@@ -73,10 +73,7 @@ fn is_one_of(number: usize, numbers: &[usize]) -> bool
 }
 
 // The trees of the file of that number.
-fn trees_at<'f, A: Allocator>(
-    files: &[File<'f, A>],
-    number: usize,
-) -> Option<TokenTreesView<'f, A>>
+fn trees_at<'f, A: Allocator>(files: &[File<'f, A>], number: usize) -> Option<TokenTreesView<'f, A>>
     ensures { option_map trees result ≡ spec.trees_at (map file_shown files.now) number }
 {
     let file = files.get(number)?;

@@ -15,10 +15,26 @@ use std::test::Fail;
 // the modules in them without their files.
 static ROWS: [(&str, &str, &str); 24] = [
     ("src/lib.rs: fn f() {}", "fn f() {}", ""),
-    ("src/lib.rs: mod a;|src/a.rs: fn f() {}", "mod a { fn f() {} }", ""),
-    ("src/lib.rs: mod a;|src/a/mod.rs: fn f() {}", "mod a { fn f() {} }", ""),
-    ("lib.rs: mod a;|a.rs: #![b] fn f() {}", "mod a { #![b] fn f() {} }", ""),
-    ("/lib.rs: mod a;|/a.rs: fn f() {}", "mod a { fn f() {} }", ""),
+    (
+        "src/lib.rs: mod a;|src/a.rs: fn f() {}",
+        "mod a { fn f() {} }",
+        "",
+    ),
+    (
+        "src/lib.rs: mod a;|src/a/mod.rs: fn f() {}",
+        "mod a { fn f() {} }",
+        "",
+    ),
+    (
+        "lib.rs: mod a;|a.rs: #![b] fn f() {}",
+        "mod a { #![b] fn f() {} }",
+        "",
+    ),
+    (
+        "/lib.rs: mod a;|/a.rs: fn f() {}",
+        "mod a { fn f() {} }",
+        "",
+    ),
     ("src/lib.rs: mod a; m!();", "mod a; m!();", "a missing "),
     (
         "src/lib.rs: mod a;|src/a.rs: b|src/a/mod.rs: c",
@@ -85,7 +101,11 @@ static ROWS: [(&str, &str, &str); 24] = [
         "#[path = \"x.rs\"] mod a { c } #[path = \"x.rs\"] mod b { c }",
         "",
     ),
-    ("src/lib.rs: mod a; b|src/a.rs: \"", "mod a; b", "a no Rust "),
+    (
+        "src/lib.rs: mod a; b|src/a.rs: \"",
+        "mod a; b",
+        "a no Rust ",
+    ),
     (
         "src/lib.rs: macro_rules! m { () => { mod a; } } m! { mod a; } fn f() { mod a; }|src/a.rs: b",
         "macro_rules! m { () => { mod a; } } m! { mod a; } fn f() { mod a; }",
@@ -101,7 +121,11 @@ static ROWS: [(&str, &str, &str); 24] = [
         "/// Says.\nmod a { //! More.\nfn f() {} }",
         "",
     ),
-    ("src/lib.rs: mod a; mod b { mod c; }", "mod a; mod b { mod c; }", "a missing c missing "),
+    (
+        "src/lib.rs: mod a; mod b { mod c; }",
+        "mod a; mod b { mod c; }",
+        "a missing c missing ",
+    ),
 ];
 
 // The trees of each file, if it is Rust.
