@@ -45,7 +45,8 @@ fn file_of<'s>(file: &'s SourceFile<'s>) -> File<'s>
 
 // The files as such that a module may be in.
 fn files_of<'s>(alloc: Global, files: &'s [SourceFile<'s>]) -> Result<Vec<File<'s>>, AllocError>
-    ensures { IfOk result (λ v. map file_shown v.items ≡ map file_of (map source_of files.now)) }
+    ensures { IfOk result (λ v. map file_shown v.items
+        ≡ map (λ f. file_of (source_of f)) files.now) }
 {
     let mut found = Vec::new(alloc);
     for file in files {
