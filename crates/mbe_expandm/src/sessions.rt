@@ -57,7 +57,7 @@ pub fn sources<'f>(
     texts: &'f [Named],
     notes: &mut Vec<Note>,
 ) -> Result<Vec<SourceFile<'f>>, AllocError>
-    ensures texts { IfOk result (λ v. map source_text (map source_of v.items)
+    ensures texts { IfOk result (λ v. map (λ f. source_text (source_of f)) v.items
         ≡ map text_of texts.now) }
     ensures read { IfOk result (λ v. AreSources reading.now (map source_of v.items)) }
 {
