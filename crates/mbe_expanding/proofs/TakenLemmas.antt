@@ -45,7 +45,7 @@ module _ {A : Type 0} where
       let gap = between (values_seen rest) in
       let more = values_text (room - 1) (values_seen rest) in
       let opened : values_text room (values_seen all) ≡ one ++ (gap ++ more) =
-          ap (λ l. values_text room (values_seen l)) e
-          ∙ ap (λ b. if b then encode_utf8 8230 else one ++ (gap ++ more)) f in
+      ap (λ l. values_text room (values_seen l)) e
+      ∙ ap (λ b. if b then encode_utf8 8230 else one ++ (gap ++ more)) f in
       hw ∙ (ap (λ x. x ++ more) (hv ∙ ap (λ x. x ++ gap) hu)
       ∙ (append_assoc (t ++ one) gap more ∙ (append_assoc t one (gap ++ more) ∙ ap (λ x. t ++ x) (sym opened))))

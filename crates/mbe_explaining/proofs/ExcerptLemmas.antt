@@ -18,7 +18,7 @@ module _ (room : ℕ) (at_start : Bool) (cs : List ℕ) (n c : ℕ) (here : (n <
   opened =
       at_drop_more (excerpt_in room at_start) cs n c here.0
       ∙ ap (λ x. if is_indent at_start x then excerpt_in room true rest else shown (nat_lt room (columns x)) x)
-          (sym here.1)
+      (sym here.1)
 
   pub passed_over : is_indent at_start c ≡ true → excerpt_in room at_start (drop n cs) ≡ excerpt_in room true rest
   passed_over t = opened

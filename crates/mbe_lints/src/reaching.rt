@@ -76,15 +76,13 @@ fn number_of(index: usize) -> usize
 fn unreached_text<A: Allocator>(alloc: A, earlier: usize) -> Result<String<A>, AllocError>
     ensures { IfOk result (λ text. string_bytes text ≡ spec.unreached_text earlier) }
 {
-    format!(in alloc; "no call reaches this rule: rule {earlier} takes every argument that it takes")
+    format!(in alloc;
+        "no call reaches this rule: rule {earlier} takes every argument that it takes"
+    )
 }
 
 #[tactic(auto, unfolding(crate::specs::Reaching::earlier_text))]
-fn earlier_text<A: Allocator>(
-    alloc: A,
-    earlier: usize,
-    name: &str,
-) -> Result<String<A>, AllocError>
+fn earlier_text<A: Allocator>(alloc: A, earlier: usize, name: &str) -> Result<String<A>, AllocError>
     ensures { IfOk result (λ text. string_bytes text ≡ spec.earlier_text earlier name.now) }
 {
     format!(in alloc; "rule {earlier} of `{name}!`")

@@ -31,15 +31,15 @@ loop-index-preserved g c =
     let rs = (macro_of c.in-Some.rules.now).rules in
     let items = c.loop-index.all.items in
     let rule : RuleSaid _ =
-        record { said = c.in_ok-what_rule_says.field-0; taken = c.in_ok-what_rule_takes.field-0 } in
+    record { said = c.in_ok-what_rule_says.field-0; taken = c.in_ok-what_rule_takes.field-0 } in
     let say = FirstSay h rs c.args.argument.now in
     let pushed = c.in_ok-push.ensures.items in
     let number = length-map items rule_seen ∙ c.loop-index.invariant.1 in
     let says =
-        subst (λ n. Says h rs c.args.argument.now n (rule_seen rule).said) (sym number) c.in_ok-what_rule_says.ensures.says in
+    subst (λ n. Says h rs c.args.argument.now n (rule_seen rule).said) (sym number) c.in_ok-what_rule_says.ensures.says in
     let takes =
-        subst (λ n. Takes h rs c.args.argument.now.1 n (rule_seen rule).taken) (sym number)
-        c.in_ok-what_rule_takes.ensures.takes in
+    subst (λ n. Takes h rs c.args.argument.now.1 n (rule_seen rule).taken) (sym number)
+    c.in_ok-what_rule_takes.ensures.takes in
     let more = one_more (map rule_seen items) (rule_seen rule) c.loop-index.invariant.0 says takes in
     let seen = ap (map rule_seen) pushed ∙ map-append rule_seen items (rule ∷ []) in
     (subst say (sym seen) more, ap length pushed ∙ length_push items rule ∙ ap (λ n. n + 1) c.loop-index.invariant.1)
