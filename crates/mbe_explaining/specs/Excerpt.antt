@@ -20,7 +20,7 @@ is_indent at_start c = at_start && (c == 32)
 abbrev pub excerpt_in : ℕ → Bool → List ℕ → List ℕ
 excerpt_in room at_start [] = []
 excerpt_in room at_start (c ∷ cs) =
-    if is_indent at_start c then excerpt_in room true cs
+    if is_indent at_start c then excerpt_in room at_start cs
     else if nat_lt room (columns c) then encode_utf8 8230
     else in_line c ++ excerpt_in (room - columns c) (c == 10) cs
 
