@@ -158,39 +158,74 @@ fn said(alloc: Global, unfound: &[Unfound]) -> Result<String, AllocError> {
     Ok(text)
 }
 
-// What the root's trees become, and what is said of modules.
-fn followed(
-    alloc: Global,
-    paths: &[&str],
-    trees: &[Option<TopSubtree>],
-) -> Result<(String, String), Fail> {
-    let mut files = Vec::new(alloc);
-    for (path, tree) in paths.iter().zip(trees.iter()) {
-        files.push(File {
-            path: *path,
-            trees: tree.as_ref().map(|tree| tree.iter().remaining()),
-        })?;
+// A file of a crate.
+#[derive(Drop)]
+struct Read {
+    path: String,
+    tree: Option<TopSubtree>,
+}
+
+fn read(alloc: Global, file: &str, number: usize) -> Result<Read, Fail> {
+    let (path, text) = file.split_once(": ").unwrap_or((file, ""));
+    Ok(Read {
+        path: String::from_str(alloc, path)?,
+        tree: lexed(alloc, text, number)?,
+    })
+}
+
+// The file of that number, or one that no module is in.
+fn file_at<'f>(files: &'f [Read], number: usize) -> File<'f> {
+    match files.get(number) {
+        Some(
+            Read {
+                path,
+                tree: Some(tree),
+            },
+        ) => File {
+            path: path.as_str(),
+            trees: Some(tree.iter().remaining()),
+        },
+        Some(Read { path, tree: None }) => File {
+            path: path.as_str(),
+            trees: None,
+        },
+        None => File {
+            path: "",
+            trees: None,
+        },
     }
-    let Some(Some(root)) = trees.first() else {
+}
+
+// What the trees of the first file become, and what is said of modules.
+fn followed(alloc: Global, read: &[Read]) -> Result<(String, String), Fail> {
+    let Some(
+        Read {
+            path,
+            tree: Some(root),
+        },
+    ) = read.first()
+    else {
         return Err(Fail::from("no root"));
     };
-    let place = Place::in_file(alloc, paths.first().copied().unwrap_or(""), None)?;
+    let files = [
+        file_at(read, 0),
+        file_at(read, 1),
+        file_at(read, 2),
+        file_at(read, 3),
+    ];
+    let place = Place::in_file(alloc, path.as_str(), None)?;
     let mut unfound = Vec::new(alloc);
-    let tree = follow(alloc, files.as_slice(), &mut unfound, 0, &place, root)?;
+    let tree = follow(alloc, &files, &mut unfound, 0, &place, root)?;
     Ok((written(alloc, &tree)?, said(alloc, unfound.as_slice())?))
 }
 
-// What the crate's root becomes, and what is said of its modules.
+// What a crate's root becomes, and what is said of its modules.
 fn crate_of(alloc: Global, row: &str) -> Result<(String, String), Fail> {
-    let mut paths = Vec::new(alloc);
-    let mut trees = Vec::new(alloc);
+    let mut files = Vec::new(alloc);
     for file in row.split('|') {
-        let (path, text) = file.split_once(": ").unwrap_or((file, ""));
-        let number = paths.len();
-        paths.push(path)?;
-        trees.push(lexed(alloc, text, number)?)?;
+        files.push(read(alloc, file, files.len())?)?;
     }
-    followed(alloc, paths.as_slice(), trees.as_slice())
+    followed(alloc, files.as_slice())
 }
 
 #[test]
