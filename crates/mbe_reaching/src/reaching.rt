@@ -2,7 +2,7 @@
 ghost use Rattle.std.specs.Prelude.{◌≡◌, ◌++◌, IfOk, OnOk};
 ghost use Rattle.mbe_ops.specs.Views.{op_of, ops_of};
 ghost use Rattle.mbe_parser.specs.RuleViews.{rule_of, rules_seen};
-ghost use Rattle.mbe_linting.specs.Reaching as spec;
+ghost use Rattle.mbe_reaching.specs.Reaching as spec;
 
 use crate::alike::are_alike;
 use crate::writing::writes_surely;

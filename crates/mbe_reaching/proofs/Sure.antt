@@ -3,7 +3,7 @@ use Rattle.std.proofs.Common.{ℕ, ◌≡◌, ◌+◌, ◌&&◌, Bool, true, fal
 use Rattle.mbe_semantics.specs.declared.kinds.RepeatKind.{RepeatKind}
 use Rattle.mbe_semantics.specs.Syntax.Op.{Separator, Op, Ops, op, repetition}
 use Rattle.mbe_linting.specs.Variables.{Bound, bound_in}
-use Rattle.mbe_linting.specs.Writing.{are_once, goes_round, is_sure_op, is_sure, writes_surely}
+use Rattle.mbe_reaching.specs.Writing.{are_once, goes_round, is_sure_op, is_sure, writes_surely}
 
 -- the first op is sure, so all are if the others are
 pub sure_first : (bound : List Bound) (depth : ℕ) (o : Op) (all rest : Ops) (first : Bool) → all ≡ op o rest

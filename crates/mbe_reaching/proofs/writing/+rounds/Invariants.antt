@@ -1,6 +1,6 @@
 use Rattle.mbe_ops.specs.Views.{op_of, ops_of}
-use Rattle.mbe_linting.proofs.Sizes.{op_size, ops_size}
-use Rattle.mbe_linting.proofs.writing.+rounds.Given as goal
+use Rattle.mbe_reaching.proofs.Sizes.{op_size, ops_size}
+use Rattle.mbe_reaching.proofs.writing.+rounds.Given as goal
 
 abbrev pub decreases-has_rounds_op : goal.decreases-has_rounds_op
 decreases-has_rounds_op g l = op_size (op_of l.op.now)

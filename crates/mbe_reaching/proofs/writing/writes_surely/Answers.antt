@@ -2,8 +2,8 @@ use Rattle.std.proofs.Common.{◌≡◌, ◌∙◌, ap, map, true, rules}
 use Rattle.std.proofs.lemmas.Result.{IfOk-weaker}
 use Rattle.mbe_ops.specs.Views.{ops_of, template_of}
 use Rattle.mbe_linting.specs.Variables.{bound_seen}
-use Rattle.mbe_linting.proofs.Sure.{sure_of}
-use Rattle.mbe_linting.proofs.writing.writes_surely.Goals as goal
+use Rattle.mbe_reaching.proofs.Sure.{sure_of}
+use Rattle.mbe_reaching.proofs.writing.writes_surely.Goals as goal
 
 pub returns : goal.returns
 returns g c =

@@ -4,8 +4,8 @@ use Rattle.std.proofs.lemmas.Result.{IfOk-weaker}
 use Rattle.mbe_ops.specs.Views.{op_of, ops_of, separator_seen}
 use Rattle.mbe_ops.proofs.OpViews.{view-subtree, view-open_repeat}
 use Rattle.mbe_linting.specs.Variables.{bound_seen}
-use Rattle.mbe_linting.proofs.Sure.{sure_first, sure_round, unsure_round}
-use Rattle.mbe_linting.proofs.writing.+sure.Goals as goal
+use Rattle.mbe_reaching.proofs.Sure.{sure_first, sure_round, unsure_round}
+use Rattle.mbe_reaching.proofs.writing.+sure.Goals as goal
 
 pub is_sure-returns : goal.is_sure-returns
 is_sure-returns g t c =

@@ -1,5 +1,5 @@
 use Rattle.mbe_ops.proofs.OpViews.{view-subtree, view-repeat}
-use Rattle.mbe_linting.proofs.writing.+rounds.Goals as goal
+use Rattle.mbe_reaching.proofs.writing.+rounds.Goals as goal
 
 pub has_rounds_op-returns-in-Subtree : goal.has_rounds_op-returns-in-Subtree
 has_rounds_op-returns-in-Subtree g t c =

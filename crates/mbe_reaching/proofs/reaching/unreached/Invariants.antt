@@ -1,7 +1,7 @@
 use Rattle.std.proofs.Common.{◌≡◌, ◌++◌, map, drop, take, []}
 use Rattle.mbe_parser.specs.RuleViews.{rule_of}
-use Rattle.mbe_linting.specs.Reaching as spec
-use Rattle.mbe_linting.proofs.reaching.unreached.Given as goal
+use Rattle.mbe_reaching.specs.Reaching as spec
+use Rattle.mbe_reaching.proofs.reaching.unreached.Given as goal
 
 abbrev pub invariant-loop-index : goal.invariant-loop-index
 invariant-loop-index g l =

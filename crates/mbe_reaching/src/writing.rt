@@ -2,10 +2,10 @@
 ghost use Rattle.std.specs.Prelude.{◌≡◌, map, option_map, IfOk};
 ghost use Rattle.mbe_ops.specs.Views.{op_of, ops_of, template_of};
 ghost use Rattle.mbe_linting.specs.Variables.{bound_seen};
-ghost use Rattle.mbe_linting.specs.Writing as spec;
+ghost use Rattle.mbe_reaching.specs.Writing as spec;
 
-use crate::findings::first_of_name;
-use crate::variables::{Bound, bound_in, one_deeper};
+use mbe_linting::findings::first_of_name;
+use mbe_linting::variables::{Bound, bound_in, one_deeper};
 use mbe_ops::ops::{MetaTemplate, Op};
 use mbe_semantics::kinds::RepeatKind;
 use std::alloc::{AllocError, Allocator};

@@ -1,6 +1,6 @@
 use Rattle.mbe_ops.specs.Views.{op_of, ops_of}
-use Rattle.mbe_linting.proofs.Sizes.{op_size, ops_size}
-use Rattle.mbe_linting.proofs.alike.+alike.Given as goal
+use Rattle.mbe_reaching.proofs.Sizes.{op_size, ops_size}
+use Rattle.mbe_reaching.proofs.alike.+alike.Given as goal
 
 abbrev pub decreases-is_like : goal.decreases-is_like
 decreases-is_like g l = op_size (op_of l.one.now)

@@ -1,7 +1,7 @@
 // Patterns that read alike: they differ at most in the names of their variables and in where they are written.
 ghost use Rattle.std.specs.Prelude.{◌≡◌, option_map};
 ghost use Rattle.mbe_ops.specs.Views.{op_of, ops_of, separator_seen};
-ghost use Rattle.mbe_linting.specs.Alike as spec;
+ghost use Rattle.mbe_reaching.specs.Alike as spec;
 
 use mbe_ops::held::Between;
 use mbe_ops::ops::{Op, Separator, same_chars};

@@ -1,6 +1,6 @@
 use Rattle.mbe_ops.specs.Views.{op_of, ops_of}
-use Rattle.mbe_linting.proofs.Sizes.{op_size, ops_size}
-use Rattle.mbe_linting.proofs.writing.+sure.Given as goal
+use Rattle.mbe_reaching.proofs.Sizes.{op_size, ops_size}
+use Rattle.mbe_reaching.proofs.writing.+sure.Given as goal
 
 abbrev pub decreases-is_sure_op : goal.decreases-is_sure_op
 decreases-is_sure_op g l = op_size (op_of l.op.now)

@@ -6,8 +6,8 @@ use Rattle.mbe_semantics.specs.declared.macro_call_style.MacroCallStyle.{MacroCa
 use Rattle.mbe_semantics.specs.declared.macro_call_style.MacroCallStyle.TheVariants.{FnLike, Attr, Derive}
 use Rattle.mbe_semantics.specs.Syntax.Op.{Ops, Op, no_ops, op, variable, repetition}
 use Rattle.mbe_semantics.specs.Syntax.Definition.{Rule}
-use Rattle.mbe_linting.specs.Alike.{are_alike}
-use Rattle.mbe_linting.specs.Writing.{writes_surely}
+use Rattle.mbe_reaching.specs.Alike.{are_alike}
+use Rattle.mbe_reaching.specs.Writing.{writes_surely}
 
 abbrev pub style_number : MacroCallStyle → ℕ
 style_number FnLike = 0

@@ -5,7 +5,7 @@ use Rattle.mbe_semantics.specs.declared.kinds.RepeatKind.{RepeatKind}
 use Rattle.mbe_semantics.specs.Syntax.Op.{Separator, Op, Ops, no_ops, op, group, repetition}
 use Rattle.mbe_ops.specs.declared.ops.Op as code
 use Rattle.mbe_ops.specs.Views.{op_of, ops_of}
-use Rattle.mbe_linting.specs.Alike.{opens_alike, goes_round_alike, is_like, are_alike}
+use Rattle.mbe_reaching.specs.Alike.{opens_alike, goes_round_alike, is_like, are_alike}
 
 abbrev mutual
   pub op_size : Op → ℕ
