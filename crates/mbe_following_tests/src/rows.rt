@@ -165,7 +165,7 @@ struct Read {
     tree: Option<TopSubtree>,
 }
 
-fn read(alloc: Global, file: &str, number: usize) -> Result<Read, Fail> {
+fn file_of(alloc: Global, file: &str, number: usize) -> Result<Read, Fail> {
     let (path, text) = file.split_once(": ").unwrap_or((file, ""));
     Ok(Read {
         path: String::from_str(alloc, path)?,
@@ -223,7 +223,7 @@ fn followed(alloc: Global, read: &[Read]) -> Result<(String, String), Fail> {
 fn crate_of(alloc: Global, row: &str) -> Result<(String, String), Fail> {
     let mut files = Vec::new(alloc);
     for file in row.split('|') {
-        files.push(read(alloc, file, files.len())?)?;
+        files.push(file_of(alloc, file, files.len())?)?;
     }
     followed(alloc, files.as_slice())
 }
