@@ -1,8 +1,9 @@
 -- A text with some of its parts replaced.
 use Rattle.std.specs.Prelude.{◌≡◌, ℕ, Bool, ◌&&◌, ◌||◌, not, if◌then◌else◌, nat_le, List, [], ◌∷◌, ◌++◌, length, drop, slice_index, slice_range}
 
--- what replaces the bytes from `start` up to `end`
+-- what replaces the bytes of a file from `start` up to `end`, which is the one of that number where there are several
 pub record Part : Type 0 where
+  pub file : ℕ
   pub start : ℕ
   pub end : ℕ
   pub text : List ℕ

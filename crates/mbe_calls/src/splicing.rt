@@ -7,9 +7,11 @@ ghost use Rattle.mbe_calls.specs.Replacements.{part_of};
 
 use std::alloc::{AllocError, Allocator, Global};
 
-/// What replaces the bytes from `start` up to `end`.
+/// What replaces the bytes of a file from `start` up to `end`.
 #[derive(Drop)]
 pub struct Replacement<A: Allocator = Global> {
+    /// The file's number, as in spans.
+    pub file: u32,
     pub start: usize,
     pub end: usize,
     pub text: String<A>,

@@ -80,6 +80,7 @@ pub record IsPartOf (e : Setting) (levels depth : ℕ) (c : Call) (tree : Forest
   pub indentation : ℕ
   pub written : part.text ≡ text_of indentation out
   pub leaves : IsLeft c.rest left
+  pub in_file : part.file ≡ c.start.file
   pub starts : part.start ≡ c.start.start
   pub ends : part.end ≡ (last_span c left).end
 

@@ -8,6 +8,7 @@ fn spliced(alloc: Global, parts: &[(usize, usize, &str)]) -> Result<String, Allo
     let mut replacements = Vec::new(alloc);
     for (start, end, text) in parts {
         replacements.push(Replacement {
+            file: 0,
             start: *start,
             end: *end,
             text: String::from_str(alloc, text)?,

@@ -51,6 +51,7 @@ ended_as (feed ∷ feeds) text = with_returns text
 -- a part of the plain text as a part of the text
 abbrev pub placed_part : List ℕ → Part → Part
 placed_part returned part = record {
+  file = part.file;
   start = place_in_text returned part.start;
   end = place_in_text returned part.end;
   text = ended_as returned part.text;

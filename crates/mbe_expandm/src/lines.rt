@@ -118,6 +118,7 @@ impl<A: Allocator + Copy> Lines<A> {
             ≡ placed_part self.now.returns.items (part_of replacement.now)) }
     {
         Ok(Replacement {
+            file: replacement.file,
             start: self.place(replacement.start),
             end: self.place(replacement.end),
             text: self.ended(alloc, replacement.text.as_str())?,

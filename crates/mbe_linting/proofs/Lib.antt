@@ -1,3 +1,1 @@
 pub mod Loops
-pub mod Sizes
-pub mod Sure

@@ -1,7 +1,8 @@
 -- Paths of files and folders, with `/` between their parts.
 use Rattle.std.specs.Prelude.{ℕ, Bool, false, not, ◌==◌, ◌-◌, if◌then◌else◌}
-use Rattle.std.specs.Prelude.{List, ◌++◌, length, codes, Option, Some, None}
+use Rattle.std.specs.Prelude.{List, [], ◌++◌, length, codes, Option, Some, None, unwrap_or}
 use Rattle.std.specs.List.{slice_get}
+use Rattle.std.specs.Path.{path_parent}
 
 abbrev pub is_slash : Option ℕ → Bool
 is_slash None = false
@@ -25,3 +26,7 @@ with_slash folder = if ends_open folder then folder ++ codes "/" else folder
 -- a path that is relative to a folder; an absolute path stays as it is
 abbrev pub join : List ℕ → List ℕ → List ℕ
 join folder path = if is_absolute path then path else with_slash folder ++ path
+
+-- the folder of a file: nothing, where its path has but one part
+abbrev pub folder_of : List ℕ → List ℕ
+folder_of path = unwrap_or (path_parent path) []

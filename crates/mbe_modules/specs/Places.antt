@@ -1,6 +1,6 @@
 -- Where the files of modules are looked for, as the Reference says it.
 use Rattle.std.specs.Prelude.{ℕ, List, ◌++◌, codes, Option, Some, None}
-use Rattle.mbe_modules.specs.Paths.{join}
+use Rattle.mbe_modules.specs.Paths.{join, folder_of}
 
 -- A file's folder with the names of the inline modules from there on; and the file's own name, where its modules are in
 -- a folder of that name: not in a crate's root, a `mod.rs` or a file that `#[path]` names, nor once an inline module
@@ -44,3 +44,7 @@ candidates p name (Some path) = Given (join p.folder path)
 -- the place in the file `name.rs`
 abbrev pub of_file : Place → List ℕ → Place
 of_file p name = record { folder = own_folder p; own = Some name }
+
+-- the place in a file of that path, whose modules are in a folder of that name in its folder, if one is given
+abbrev pub in_file : List ℕ → Option (List ℕ) → Place
+in_file path own = record { folder = folder_of path; own = own }

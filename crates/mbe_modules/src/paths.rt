@@ -1,9 +1,10 @@
 // Paths of files and folders, with `/` between their parts.
 ghost use Rattle.std.specs.Prelude.{◌≡◌, IfOk};
 ghost use Rattle.std.specs.String.{string_bytes};
-ghost use Rattle.mbe_modules.specs.Paths.{join, is_absolute, ends_open};
+ghost use Rattle.mbe_modules.specs.Paths.{join, is_absolute, ends_open, folder_of};
 
 use std::alloc::{AllocError, Allocator};
+use std::path::Path;
 
 // Whether a path begins at the root.
 fn is_absolute(path: &str) -> bool
@@ -38,4 +39,14 @@ pub fn join<A: Allocator>(alloc: A, folder: &str, path: &str) -> Result<String<A
     }
     joined.push_str(path)?;
     Ok(joined)
+}
+
+/// The folder of a file: nothing, where its path has but one part.
+pub fn folder_of(path: &str) -> &str
+    ensures { result.now ≡ folder_of path.now }
+{
+    match Path::new(path).parent() {
+        Some(folder) => folder.as_str(),
+        None => "",
+    }
 }

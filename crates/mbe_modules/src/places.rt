@@ -4,7 +4,7 @@ ghost use Rattle.std.specs.String.{string_bytes};
 ghost use Rattle.mbe_modules.specs.Places as spec;
 ghost use Rattle.mbe_modules.specs.Shown.{place_shown, candidates_shown};
 
-use crate::paths::join;
+use crate::paths::{folder_of, join};
 use std::alloc::{AllocError, Allocator, Global};
 
 /// Where the modules of a file, or of an inline module in it, are looked for, as the Reference says it.
@@ -97,6 +97,22 @@ impl<A: Allocator + Copy> Place<A> {
         Ok(Place {
             folder: self.own_folder(alloc)?,
             own: Some(String::from_str(alloc, name)?),
+        })
+    }
+
+    /// The place of the modules in the file of that path, which are in a folder of that name in its folder, if one is given; in
+    /// its folder else, as those of a crate's root. `AllocError` if out of memory.
+    pub fn in_file(alloc: A, path: &str, own: Option<&str>) -> Result<Place<A>, AllocError>
+        ensures { IfOk result (λ p. place_shown p
+            ≡ spec.in_file path.now (option_map (λ t. t.now) own.entry)) }
+    {
+        let own = match own {
+            Some(own) => Some(String::from_str(alloc, own)?),
+            None => None,
+        };
+        Ok(Place {
+            folder: String::from_str(alloc, folder_of(path))?,
+            own,
         })
     }
 }

@@ -94,6 +94,27 @@ fn files_in_files(rt: HostRuntime) -> Result<(), Fail> {
     Ok(())
 }
 
+// A file that modules are in, the file's own name or nothing, and the candidates of `mod a;` in it.
+static FILES: [(&str, &str, &str); 6] = [
+    ("src/lib.rs", "", "src/a.rs src/a/mod.rs"),
+    ("src/b.rs", "b", "src/b/a.rs src/b/a/mod.rs"),
+    ("src/b/mod.rs", "", "src/b/a.rs src/b/a/mod.rs"),
+    ("lib.rs", "", "a.rs a/mod.rs"),
+    ("/lib.rs", "", "/a.rs /a/mod.rs"),
+    ("../b.rs", "b", "../b/a.rs ../b/a/mod.rs"),
+];
+
+#[test]
+fn files_have_modules(rt: HostRuntime) -> Result<(), Fail> {
+    let alloc = rt.alloc();
+    for (path, own, want) in &FILES {
+        let own = if own.is_empty() { None } else { Some(*own) };
+        let got = shown(alloc, &Place::in_file(alloc, *path, own)?, "a")?;
+        assert_eq!(rt; got.as_str(), *want, "{path}");
+    }
+    Ok(())
+}
+
 #[test]
 fn one_of_two_is_taken(rt: HostRuntime) -> Result<(), Fail> {
     assert_eq!(rt; chosen(true, false), Choice::Beside);

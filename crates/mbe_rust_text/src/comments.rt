@@ -1,6 +1,6 @@
 // Doc comments among trees: the attributes `#[doc = r".."]` and `#![doc = r".."]` that the lexer makes of `/// ..` and `//! ..`, and of
 // `/** .. */` and `/*! .. */`.
-ghost use Rattle.std.specs.Prelude.{◌≡◌, chars, option_map};
+ghost use Rattle.std.specs.Prelude.{◌≡◌, chars, false, option_map};
 ghost use Rattle.mbe_tt.specs.Trees.Tree.{rest_of, skip};
 ghost use Rattle.mbe_tt.specs.Views.Shown.{ident_of, literal_of};
 ghost use Rattle.mbe_tt.specs.Views.View.{trees};
@@ -25,11 +25,12 @@ pub(crate) struct Comment<'t> {
     pub(crate) text: &'t str,
 }
 
-// Whether no line ends in the text, and it would be a doc comment's: `////` is none.
+// Whether a text in which no line ends would be a doc comment's: `////` is none.
 fn is_line(is_inner: bool, text: &[u8]) -> bool
+    requires { spec.has_line_end text.now ≡ false }
     ensures { result ≡ spec.is_line is_inner text.now }
 {
-    !has_line_end(text) && (is_inner || !begins_with_slash(text))
+    is_inner || !begins_with_slash(text)
 }
 
 fn has_line_end(text: &[u8]) -> bool
@@ -104,7 +105,9 @@ fn is_closed(text: &str) -> bool
     depth == 0 && last != '/'
 }
 
+// Whether the text would be a doc comment's, of several lines or of one.
 fn is_comment(is_inner: bool, block: bool, text: &str) -> bool
+    requires { block ≡ spec.has_line_end text.now }
     ensures { result ≡ spec.is_comment is_inner block text.now }
 {
     if block {

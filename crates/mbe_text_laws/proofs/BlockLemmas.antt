@@ -66,9 +66,6 @@ closed_then false c depth d cs r h = (
 not_zero : (n : ℕ) → not (n == 0) ≡ true → (n == 0) ≡ false
 not_zero n h = grind (arith, nat_tests, h)
 
-is_zero : (n : ℕ) → (n == 0) ≡ true → n ≡ 0
-is_zero n h = grind (arith, nat_tests, h)
-
 more_is : (n : ℕ) → suc n ≡ n + 1
 more_is n = omega arith
 

@@ -35,14 +35,15 @@ impl<A: Allocator + Copy> Expander<'_, A> {
             → string_bytes s ≡ text.now) }
         ensures setting { OnOk result (setting_of self.new ≡ setting_of self.old) }
     {
-        let replacements = self.replacements(text, tokens)?;
+        let replacements = self.replacements(&[text], tokens)?;
         splice(self.alloc, text, replacements.as_slice())
     }
 
-    /// What replaces the calls of a file's trees, in the order of its text.
+    /// What replaces the calls of a file's trees, in the order of its text. Where spans of the trees are in other files too, these
+    /// are all their texts, by their numbers.
     pub fn replacements(
         &mut self,
-        text: &str,
+        texts: &[&str],
         tokens: TokenTreesView<'_, A>,
     ) -> Result<Vec<Replacement<A>, A>, AllocError>
         ensures parts { IfOk result (λ r. PartsOfFile (setting_of self.old) LEVELS
@@ -56,7 +57,7 @@ impl<A: Allocator + Copy> Expander<'_, A> {
     {
         let mut replacements = Vec::new(self.alloc);
         let mark = self.scope.enter();
-        self.replace_in(&mut replacements, text, tokens, Before::Statement, LEVELS)?;
+        self.replace_in(&mut replacements, texts, tokens, Before::Statement, LEVELS)?;
         self.scope.leave(mark);
         Ok(replacements)
     }
@@ -124,7 +125,7 @@ impl<A: Allocator + Copy> Expander<'_, A> {
     fn replace_in(
         &mut self,
         replacements: &mut Vec<Replacement<A>, A>,
-        text: &str,
+        texts: &[&str],
         tokens: TokenTreesView<'_, A>,
         last: Before,
         levels: u32,
@@ -149,12 +150,12 @@ impl<A: Allocator + Copy> Expander<'_, A> {
                     last = Before::Statement;
                 }
                 Front::Call(call) => {
-                    rest = self.replace_call(replacements, text, call, last, levels)?;
+                    rest = self.replace_call(replacements, texts, call, last, levels)?;
                     last = left_by_call(call, rest);
                 }
                 Front::Tree(tree, after) => {
                     is_used |= attribute_at(rest) == Some("macro_use");
-                    self.replace_tree(replacements, text, tree, is_used, levels)?;
+                    self.replace_tree(replacements, texts, tree, is_used, levels)?;
                     last = left_by(rest, last);
                     is_used &= last != Before::Statement;
                     rest = after;
@@ -168,7 +169,7 @@ impl<A: Allocator + Copy> Expander<'_, A> {
     fn replace_tree(
         &mut self,
         replacements: &mut Vec<Replacement<A>, A>,
-        text: &str,
+        texts: &[&str],
         tree: TtElement<'_, A>,
         is_used: bool,
         levels: u32,
@@ -185,7 +186,7 @@ impl<A: Allocator + Copy> Expander<'_, A> {
         };
         let mark = self.scope.enter();
         let last = begins_in(group.delimiter.kind);
-        self.replace_inside(replacements, text, inside.remaining(), last, levels)?;
+        self.replace_inside(replacements, texts, inside.remaining(), last, levels)?;
         if !is_used {
             self.leave(group.delimiter.kind, mark);
         }
@@ -197,7 +198,7 @@ impl<A: Allocator + Copy> Expander<'_, A> {
     fn replace_inside(
         &mut self,
         replacements: &mut Vec<Replacement<A>, A>,
-        text: &str,
+        texts: &[&str],
         tokens: TokenTreesView<'_, A>,
         last: Before,
         levels: u32,
@@ -211,7 +212,7 @@ impl<A: Allocator + Copy> Expander<'_, A> {
         if levels == 0 {
             return Ok(());
         }
-        self.replace_in(replacements, text, tokens, last, levels - 1)
+        self.replace_in(replacements, texts, tokens, last, levels - 1)
     }
 
     // Keeps what replaces a call, and returns what is left after that.
@@ -219,7 +220,7 @@ impl<A: Allocator + Copy> Expander<'_, A> {
     fn replace_call<'t>(
         &mut self,
         replacements: &mut Vec<Replacement<A>, A>,
-        text: &str,
+        texts: &[&str],
         call: Call<'t, A>,
         last: Before,
         levels: u32,
@@ -236,7 +237,7 @@ impl<A: Allocator + Copy> Expander<'_, A> {
         match self.expansion(call, depth, levels)? {
             Some(tree) => {
                 let (replacement, rest) = self.replacement(
-                    text,
+                    texts,
                     &tree,
                     call,
                     last,
@@ -247,7 +248,7 @@ impl<A: Allocator + Copy> Expander<'_, A> {
                 Ok(rest)
             }
             None => {
-                self.replace_argument(replacements, text, call, levels)?;
+                self.replace_argument(replacements, texts, call, levels)?;
                 Ok(call.rest)
             }
         }
@@ -258,7 +259,7 @@ impl<A: Allocator + Copy> Expander<'_, A> {
     fn replace_argument(
         &mut self,
         replacements: &mut Vec<Replacement<A>, A>,
-        text: &str,
+        texts: &[&str],
         call: Call<'_, A>,
         levels: u32,
     ) -> Result<(), AllocError>
@@ -273,13 +274,13 @@ impl<A: Allocator + Copy> Expander<'_, A> {
         if !is_standard(call.name.sym.as_str()) {
             return Ok(());
         }
-        self.replace_inside(replacements, text, call.argument, Before::Other, levels)
+        self.replace_inside(replacements, texts, call.argument, Before::Other, levels)
     }
 
     // An expansion as text in place of its call, and what is left after that.
     fn replacement<'t>(
         &mut self,
-        text: &str,
+        texts: &[&str],
         tree: &TopSubtree<A>,
         call: Call<'t, A>,
         last: Before,
@@ -296,12 +297,14 @@ impl<A: Allocator + Copy> Expander<'_, A> {
         let rest = self.write_expansion(&mut builder, tree, call, last, depth, levels)?;
         let written = builder.build();
         let start = call.start.start as usize;
+        let around = text_in(texts, call.start.file);
         let text = text_of(
             self.alloc,
             written.iter().remaining(),
-            indentation(text, start),
+            indentation(around, start),
         )?;
         let replacement = Replacement {
+            file: call.start.file,
             start,
             end: end_of(call, rest),
             text,
@@ -321,6 +324,11 @@ fn end_of<A: Allocator>(call: Call<'_, A>, rest: TokenTreesView<'_, A>) -> usize
         close
     };
     last.end as usize
+}
+
+// The text of that number.
+fn text_in<'t>(texts: &[&'t str], file: u32) -> &'t str {
+    texts.get(file as usize).copied().unwrap_or("")
 }
 
 // How many times four spaces the line begins with that this byte is in.

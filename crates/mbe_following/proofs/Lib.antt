@@ -1,0 +1,2 @@
+mod BelowLemmas
+mod FollowLemmas

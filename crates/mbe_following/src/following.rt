@@ -1,0 +1,327 @@
+// The trees of a crate: each `mod name;` with the trees of the file that holds the module.
+//
+// Trees are gone through from the front. Of groups, only the braces of modules are looked into.
+ghost use Rattle.std.specs.Prelude.{◌≡◌, ◌<◌, ◌++◌, IfOk, OnOk, length, map, suc};
+ghost use Rattle.mbe_modules.specs.Shown.{candidates_shown, place_shown};
+ghost use Rattle.mbe_tt.specs.Buffers.Building.{put};
+ghost use Rattle.mbe_tt.specs.Views.Shown.{ident_of};
+ghost use Rattle.mbe_tt.specs.Views.View.{trees};
+ghost use Rattle.mbe_tt.specs.Trees.Tree.{first};
+ghost use Rattle.mbe_following.specs.Following as spec;
+ghost use Rattle.mbe_following.specs.Fronts.{Outside};
+ghost use Rattle.mbe_following.specs.Shown.{at_shown, file_shown, left_shown};
+ghost use Rattle.mbe_following.specs.Shown.{module_shown, taken_of, unfound_shown};
+ghost use Rattle.mbe_following.specs.Steps.{IsStep, Writes};
+
+use crate::fronts::{Body, Module, module_of, path_after};
+use crate::taking::{File, Taken, Wrong, take};
+use mbe_modules::places::{Candidates, Place};
+use mbe_tt::span::Span;
+use mbe_tt::tt::{
+    Delimiter, DelimiterKind, Ident, Leaf, TokenTreesView, TopSubtree, TopSubtreeBuilder,
+};
+use std::alloc::{AllocError, Allocator, Global};
+
+/// How many modules may be in one another. What is deeper stays as it is.
+pub const LEVELS: u32 = 1000;
+
+/// A module without its file.
+#[derive(Drop)]
+pub struct Unfound<A: Allocator = Global> {
+    /// Where its name is.
+    pub at: Span,
+    pub name: String<A>,
+    /// The files that may hold it.
+    pub candidates: Candidates<A>,
+    /// Why none of them does.
+    pub wrong: Wrong,
+}
+
+// Where trees are: the place of the modules in them, and the numbers of the files around them.
+#[derive(Drop)]
+#[derive_where(Clone, Copy)]
+struct At<'p, A: Allocator = Global> {
+    place: &'p Place<A>,
+    around: &'p [usize],
+}
+
+// What is left after a front, and the `#[path]` that precedes that.
+#[derive(Drop)]
+#[derive_where(Clone, Copy)]
+struct Left<'t, A: Allocator = Global> {
+    rest: TokenTreesView<'t, A>,
+    path: Option<&'t str>,
+}
+
+// Braces in place of a `;`.
+fn braces(semicolon: Span) -> Delimiter
+    ensures { result ≡ spec.braces semicolon }
+{
+    Delimiter {
+        opening: semicolon,
+        close: semicolon,
+        kind: DelimiterKind::Brace,
+    }
+}
+
+// What is said of a module of that name that has no file.
+fn unfound_of<A: Allocator + Copy>(
+    alloc: A,
+    name: &Ident<A>,
+    candidates: Candidates<A>,
+    wrong: Wrong,
+) -> Result<Unfound<A>, AllocError>
+    ensures { IfOk result (λ u. unfound_shown u
+        ≡ spec.unfound_of (ident_of name.now) (candidates_shown candidates) wrong) }
+{
+    Ok(Unfound {
+        at: name.span,
+        name: String::from_str(alloc, name.sym.as_str())?,
+        candidates,
+        wrong,
+    })
+}
+
+// Writes the first tree as it is, if there is one, and returns what is left.
+fn copy_tree<'t, A: Allocator>(
+    builder: &mut TopSubtreeBuilder<A>,
+    left: Left<'t, A>,
+) -> Result<Left<'t, A>, AllocError>
+    ensures kept { OnOk result (builder.new
+        ≡ put (spec.alone (first (left_shown left.entry).rest)) builder.old) }
+    ensures left { IfOk result (λ l. left_shown l
+        ≡ spec.after_first (left_shown left.entry) (first (left_shown left.entry).rest)) }
+{
+    let mut iter = left.rest.iter();
+    let Some(tree) = iter.peek() else {
+        return Ok(left);
+    };
+    let path = path_after(left.path, left.rest, &tree);
+    if let Some(view) = iter.next_as_view() {
+        builder.extend_with_tt(view)?;
+    }
+    Ok(Left {
+        rest: iter.remaining(),
+        path,
+    })
+}
+
+// Writes a module with its content, which is these trees followed, and returns what is left.
+#[cycle(following)]
+fn follow_module<'t, A: Allocator + Copy>(
+    alloc: A,
+    files: &[File<'_, A>],
+    unfound: &mut Vec<Unfound<A>, A>,
+    builder: &mut TopSubtreeBuilder<A>,
+    at: At<'_, A>,
+    module: Module<'t, A>,
+    delimiter: Delimiter,
+    content: TokenTreesView<'_, A>,
+    levels: u32,
+) -> Result<Left<'t, A>, AllocError>
+    requires some { 0 < length builder.old }
+    ensures { IfOk result (IsStep (spec.in_braces (module_shown module.entry) delimiter
+        (spec.followed (map file_shown files.now) levels (at_shown at.entry)
+        (trees content.entry))) builder.old (map unfound_shown unfound.old.items)
+        builder.new (map unfound_shown unfound.new.items)) }
+{
+    builder.push(Leaf::Ident(module.word.clone()?))?;
+    builder.push(Leaf::Ident(module.name.clone()?))?;
+    builder.open(delimiter.kind, delimiter.opening)?;
+    follow_inside(alloc, files, unfound, builder, at, content, levels)?;
+    builder.close(delimiter.close);
+    Ok(Left {
+        rest: module.rest,
+        path: None,
+    })
+}
+
+// Writes a module with the trees of its file, followed, and returns what is left.
+#[cycle(following)]
+fn follow_file<'t, A: Allocator + Copy>(
+    alloc: A,
+    files: &[File<'_, A>],
+    unfound: &mut Vec<Unfound<A>, A>,
+    builder: &mut TopSubtreeBuilder<A>,
+    around: &[usize],
+    module: Module<'t, A>,
+    semicolon: Span,
+    taken: &Taken<'_, A>,
+    levels: u32,
+) -> Result<Left<'t, A>, AllocError>
+    requires some { 0 < length builder.old }
+    ensures { IfOk result (IsStep (spec.in_braces (module_shown module.entry)
+        (spec.braces semicolon) (spec.followed (map file_shown files.now) levels
+        (spec.in_taken around.now (taken_of taken.now)) (taken_of taken.now).trees))
+        builder.old (map unfound_shown unfound.old.items)
+        builder.new (map unfound_shown unfound.new.items)) }
+{
+    let mut numbers = Vec::new(alloc);
+    numbers.extend_from_slice(around)?;
+    numbers.push(taken.number)?;
+    let at = At {
+        place: &taken.place,
+        around: numbers.as_slice(),
+    };
+    let (delimiter, trees) = (braces(semicolon), taken.trees);
+    follow_module(
+        alloc, files, unfound, builder, at, module, delimiter, trees, levels,
+    )
+}
+
+// Writes what a module becomes whose content is in a file, and returns what is left.
+#[cycle(following)]
+fn follow_outside<'t, A: Allocator + Copy>(
+    alloc: A,
+    files: &[File<'_, A>],
+    unfound: &mut Vec<Unfound<A>, A>,
+    builder: &mut TopSubtreeBuilder<A>,
+    at: At<'_, A>,
+    left: Left<'t, A>,
+    module: Module<'t, A>,
+    semicolon: Span,
+    levels: u32,
+) -> Result<Left<'t, A>, AllocError>
+    requires some { 0 < length builder.old }
+    ensures { IfOk result (IsStep (spec.body_step
+        (spec.followed (map file_shown files.now) levels) (map file_shown files.now)
+        (at_shown at.entry) (left_shown left.entry) (module_shown module.entry)
+        (Outside semicolon)) builder.old (map unfound_shown unfound.old.items)
+        builder.new (map unfound_shown unfound.new.items)) }
+{
+    let name = module.name.sym.as_str();
+    let candidates = at.place.candidates(alloc, name, left.path)?;
+    match take(alloc, files, at.around, name, &candidates)? {
+        Ok(found) => {
+            let around = at.around;
+            follow_file(
+                alloc, files, unfound, builder, around, module, semicolon, &found, levels,
+            )
+        }
+        Err(wrong) => {
+            unfound.push(unfound_of(alloc, module.name, candidates, wrong)?)?;
+            copy_tree(builder, left)
+        }
+    }
+}
+
+// Writes what the front becomes, and returns what is left.
+#[cycle(following)]
+fn follow_front<'t, A: Allocator + Copy>(
+    alloc: A,
+    files: &[File<'_, A>],
+    unfound: &mut Vec<Unfound<A>, A>,
+    builder: &mut TopSubtreeBuilder<A>,
+    at: At<'_, A>,
+    left: Left<'t, A>,
+    levels: u32,
+) -> Result<Left<'t, A>, AllocError>
+    requires some { 0 < length builder.old }
+    ensures { IfOk result (IsStep (spec.step
+        (spec.followed (map file_shown files.now) levels) (map file_shown files.now)
+        (at_shown at.entry) (left_shown left.entry))
+        builder.old (map unfound_shown unfound.old.items)
+        builder.new (map unfound_shown unfound.new.items)) }
+{
+    let Some(module) = module_of(left.rest) else {
+        return copy_tree(builder, left);
+    };
+    match module.body {
+        Body::Outside(semicolon) => follow_outside(
+            alloc, files, unfound, builder, at, left, module, semicolon, levels,
+        ),
+        Body::Braces(delimiter, content) => {
+            let place = at.place.inside(alloc, module.name.sym.as_str(), left.path)?;
+            let around = at.around;
+            let at = At {
+                place: &place,
+                around,
+            };
+            follow_module(
+                alloc, files, unfound, builder, at, module, delimiter, content, levels,
+            )
+        }
+    }
+}
+
+// Writes what these trees become; they stay as they are, if that is too deep.
+#[cycle(following)]
+fn follow_inside<A: Allocator + Copy>(
+    alloc: A,
+    files: &[File<'_, A>],
+    unfound: &mut Vec<Unfound<A>, A>,
+    builder: &mut TopSubtreeBuilder<A>,
+    at: At<'_, A>,
+    tokens: TokenTreesView<'_, A>,
+    levels: u32,
+) -> Result<(), AllocError>
+    requires some { 0 < length builder.old }
+    ensures { OnOk result (Writes
+        (spec.followed (map file_shown files.now) levels (at_shown at.entry) (trees tokens.entry))
+        builder.old (map unfound_shown unfound.old.items)
+        builder.new (map unfound_shown unfound.new.items)) }
+{
+    if levels == 0 {
+        return builder.extend_with_tt(tokens);
+    }
+    follow_trees(alloc, files, unfound, builder, at, tokens, levels - 1)
+}
+
+// Writes what trees become in which so many modules may be in one another.
+#[cycle(following)]
+fn follow_trees<A: Allocator + Copy>(
+    alloc: A,
+    files: &[File<'_, A>],
+    unfound: &mut Vec<Unfound<A>, A>,
+    builder: &mut TopSubtreeBuilder<A>,
+    at: At<'_, A>,
+    tokens: TokenTreesView<'_, A>,
+    levels: u32,
+) -> Result<(), AllocError>
+    requires some { 0 < length builder.old }
+    ensures { OnOk result (Writes
+        (spec.followed (map file_shown files.now) (suc levels) (at_shown at.entry)
+        (trees tokens.entry))
+        builder.old (map unfound_shown unfound.old.items)
+        builder.new (map unfound_shown unfound.new.items)) }
+{
+    let mut left = Left {
+        rest: tokens,
+        path: None,
+    };
+    let mut most = tokens.flat_len();
+    'fronts: while most > 0 {
+        most -= 1;
+        left = follow_front(alloc, files, unfound, builder, at, left, levels)?;
+    }
+    Ok(())
+}
+
+/// The trees of a crate: those of its root with each `mod name;` as `mod name { .. }`, with the trees of the one file that may
+/// hold the module and was read. The root is the file of that number, and its modules are looked for at that place. Where a
+/// module has no such file, `mod name;` stays, and comes at the end of `unfound`. `AllocError` if out of memory: then some
+/// of these may be there.
+pub fn follow<A: Allocator + Copy>(
+    alloc: A,
+    files: &[File<'_, A>],
+    unfound: &mut Vec<Unfound<A>, A>,
+    number: usize,
+    place: &Place<A>,
+    tree: &TopSubtree<A>,
+) -> Result<TopSubtree<A>, AllocError>
+    ensures tree { IfOk result (λ t. t ≡ spec.crate_tree (map file_shown files.now) number
+        (place_shown place.now) tree.now) }
+    ensures unfound { OnOk result (map unfound_shown unfound.new.items
+        ≡ map unfound_shown unfound.old.items
+        ++ spec.unfound_in (map file_shown files.now) number (place_shown place.now) tree.now) }
+{
+    let around = [number];
+    let at = At {
+        place,
+        around: &around,
+    };
+    let mut builder = TopSubtreeBuilder::new(alloc, tree.top_subtree().delimiter)?;
+    let (of, tokens) = (&mut builder, tree.iter().remaining());
+    follow_trees(alloc, files, unfound, of, at, tokens, LEVELS)?;
+    Ok(builder.build())
+}

@@ -1,0 +1,261 @@
+// Modules at the front of trees, and the `#[path = ".."]` before them.
+ghost use Rattle.std.specs.Prelude.{◌≡◌, option_map};
+ghost use Rattle.mbe_tt.specs.Views.Element.{element_tree};
+ghost use Rattle.mbe_tt.specs.Views.Shown.{ident_of, leaf_of, literal_of};
+ghost use Rattle.mbe_tt.specs.Views.View.{trees};
+ghost use Rattle.mbe_following.specs.Fronts as spec;
+ghost use Rattle.mbe_following.specs.Shown.{module_shown};
+
+use mbe_tt::span::Span;
+use mbe_tt::tt::{
+    Delimiter, DelimiterKind, Ident, IdentIsRaw, Leaf, LitKind, Literal, TokenTreesView, TtElement,
+};
+use std::alloc::{Allocator, Global};
+
+/// The content of a module.
+#[derive(Drop)]
+#[derive_where(Clone, Copy)]
+pub enum Body<'t, A: Allocator = Global> {
+    /// It is in a file, as a `;` there says.
+    Outside(Span),
+    Braces(Delimiter, TokenTreesView<'t, A>),
+}
+
+/// `mod name` with its content.
+#[derive(Drop)]
+#[derive_where(Clone, Copy)]
+pub struct Module<'t, A: Allocator = Global> {
+    /// `mod`
+    pub word: &'t Ident<A>,
+    pub name: &'t Ident<A>,
+    pub body: Body<'t, A>,
+    /// What follows the module.
+    pub rest: TokenTreesView<'t, A>,
+}
+
+// Whether an identifier is the word `mod`.
+fn is_word(is_raw: IdentIsRaw, name: &str) -> bool
+    ensures { result ≡ spec.is_word is_raw name.now }
+{
+    match is_raw {
+        IdentIsRaw::Yes => false,
+        IdentIsRaw::No => name == "mod",
+    }
+}
+
+// The module of that name that is in a file, where a `;` is at the front.
+fn outside<'t, A: Allocator>(
+    word: &'t Ident<A>,
+    name: &'t Ident<A>,
+    tokens: TokenTreesView<'t, A>,
+) -> Option<Module<'t, A>>
+    ensures { option_map module_shown result
+        ≡ spec.outside (ident_of word.now) (ident_of name.now) (trees tokens.entry) }
+{
+    let mut iter = tokens.iter();
+    let punct = iter.expect_single_punct().ok()?;
+    if punct.char != ';' {
+        return None;
+    }
+    Some(Module {
+        word,
+        name,
+        body: Body::Outside(punct.span),
+        rest: iter.remaining(),
+    })
+}
+
+fn is_brace(kind: DelimiterKind) -> bool
+    ensures { result ≡ spec.is_brace kind }
+{
+    match kind {
+        DelimiterKind::Brace => true,
+        DelimiterKind::Bracket | DelimiterKind::Parenthesis | DelimiterKind::Invisible => false,
+    }
+}
+
+// The module of that name whose content is in the braces at the front.
+fn inside<'t, A: Allocator>(
+    word: &'t Ident<A>,
+    name: &'t Ident<A>,
+    tokens: TokenTreesView<'t, A>,
+) -> Option<Module<'t, A>>
+    ensures { option_map module_shown result
+        ≡ spec.inside (ident_of word.now) (ident_of name.now) (trees tokens.entry) }
+{
+    let mut iter = tokens.iter();
+    let (group, content) = iter.expect_subtree().ok()?;
+    if !is_brace(group.delimiter.kind) {
+        return None;
+    }
+    Some(Module {
+        word,
+        name,
+        body: Body::Braces(group.delimiter, content.remaining()),
+        rest: iter.remaining(),
+    })
+}
+
+// The module of that name, by what is at the front.
+fn module_with<'t, A: Allocator>(
+    word: &'t Ident<A>,
+    name: &'t Ident<A>,
+    tokens: TokenTreesView<'t, A>,
+) -> Option<Module<'t, A>>
+    ensures { option_map module_shown result
+        ≡ spec.module_with (ident_of word.now) (ident_of name.now) (trees tokens.entry) }
+{
+    match outside(word, name, tokens) {
+        Some(module) => Some(module),
+        None => inside(word, name, tokens),
+    }
+}
+
+// The module whose name is at the front.
+fn named<'t, A: Allocator>(
+    word: &'t Ident<A>,
+    tokens: TokenTreesView<'t, A>,
+) -> Option<Module<'t, A>>
+    ensures { option_map module_shown result
+        ≡ spec.named (ident_of word.now) (trees tokens.entry) }
+{
+    let mut iter = tokens.iter();
+    let name = iter.expect_ident().ok()?;
+    module_with(word, name, iter.remaining())
+}
+
+/// The module at the front, if one is there.
+pub fn module_of<'t, A: Allocator>(tokens: TokenTreesView<'t, A>) -> Option<Module<'t, A>>
+    ensures { option_map module_shown result ≡ spec.module_of (trees tokens.entry) }
+{
+    let mut iter = tokens.iter();
+    let word = iter.expect_ident().ok()?;
+    if is_word(word.is_raw, word.sym.as_str()) {
+        named(word, iter.remaining())
+    } else {
+        None
+    }
+}
+
+// Whether the text has a backslash.
+fn has_escape(text: &str) -> bool
+    ensures { result ≡ spec.has_escape text.now }
+{
+    text.as_bytes().iter().any(|b| *b == 92)
+}
+
+// The text of a literal of that kind as it is written, where it is a string that means that.
+fn text_of_kind(text: &str, kind: LitKind) -> Option<&str>
+    ensures { option_map (λ t. t.now) result ≡ spec.text_of_kind text.now kind }
+{
+    match kind {
+        LitKind::Str if has_escape(text) => None,
+        LitKind::Str => Some(text),
+        LitKind::StrRaw(_) => Some(text),
+        _ => None,
+    }
+}
+
+// The text of a string as it is written, where that is what it means.
+fn plain_text<'t, A: Allocator>(literal: &'t Literal<A>) -> Option<&'t str>
+    ensures { option_map (λ t. t.now) result ≡ spec.plain_text (literal_of literal.now) }
+{
+    if literal.suffix_len > 0 {
+        return None;
+    }
+    text_of_kind(literal.text_and_suffix.as_str(), literal.kind)
+}
+
+fn leaf_text<'t, A: Allocator>(leaf: &'t Leaf<A>) -> Option<&'t str>
+    ensures { option_map (λ t. t.now) result ≡ spec.leaf_text (leaf_of leaf.now) }
+{
+    match leaf {
+        Leaf::Literal(literal) => plain_text(literal),
+        Leaf::Punct(_) | Leaf::Ident(_) => None,
+    }
+}
+
+// What follows a punct of that char.
+fn after_char<'t, A: Allocator>(
+    tokens: TokenTreesView<'t, A>,
+    char: char,
+) -> Option<TokenTreesView<'t, A>>
+    ensures { option_map trees result ≡ spec.after_char char (trees tokens.entry) }
+{
+    let mut iter = tokens.iter();
+    let punct = iter.expect_single_punct().ok()?;
+    if punct.char == char {
+        Some(iter.remaining())
+    } else {
+        None
+    }
+}
+
+// What the brackets at the front hold.
+fn bracketed<'t, A: Allocator>(tokens: TokenTreesView<'t, A>) -> Option<TokenTreesView<'t, A>>
+    ensures { option_map trees result ≡ spec.bracketed (trees tokens.entry) }
+{
+    let mut iter = tokens.iter();
+    let (group, content) = iter.expect_subtree().ok()?;
+    match group.delimiter.kind {
+        DelimiterKind::Bracket => Some(content.remaining()),
+        DelimiterKind::Brace | DelimiterKind::Parenthesis | DelimiterKind::Invisible => None,
+    }
+}
+
+// The text after the `=` at the front.
+fn value<'t, A: Allocator>(tokens: TokenTreesView<'t, A>) -> Option<&'t str>
+    ensures { option_map (λ t. t.now) result ≡ spec.value (trees tokens.entry) }
+{
+    let mut iter = after_char(tokens, '=')?.iter();
+    leaf_text(iter.expect_literal().ok()?)
+}
+
+// The text of `path = ".."` in the brackets of an attribute.
+fn path_in<'t, A: Allocator>(content: TokenTreesView<'t, A>) -> Option<&'t str>
+    ensures { option_map (λ t. t.now) result ≡ spec.path_in (trees content.entry) }
+{
+    let mut iter = content.iter();
+    let name = iter.expect_ident().ok()?;
+    if name.sym.as_str() == "path" {
+        value(iter.remaining())
+    } else {
+        None
+    }
+}
+
+// The text of the `#[path = ".."]` at the front, if one is there.
+fn path_at<'t, A: Allocator>(tokens: TokenTreesView<'t, A>) -> Option<&'t str>
+    ensures { option_map (λ t. t.now) result ≡ spec.path_at (trees tokens.entry) }
+{
+    path_in(bracketed(after_char(tokens, '#')?)?)
+}
+
+// Whether no attribute counts after a tree that precedes it.
+fn ends_item<A: Allocator>(tree: &TtElement<'_, A>) -> bool
+    ensures { result ≡ spec.ends_item (element_tree tree.now) }
+{
+    match tree {
+        TtElement::Leaf(Leaf::Punct(punct)) => punct.char == ';',
+        TtElement::Leaf(Leaf::Literal(_) | Leaf::Ident(_)) => false,
+        TtElement::Subtree(group, _) => is_brace(group.delimiter.kind),
+    }
+}
+
+/// The text of the first `#[path = ".."]` before an item, after one tree more, which is the first of these.
+pub fn path_after<'t, A: Allocator>(
+    path: Option<&'t str>,
+    tokens: TokenTreesView<'t, A>,
+    tree: &TtElement<'_, A>,
+) -> Option<&'t str>
+    ensures { option_map (λ t. t.now) result ≡ spec.path_after
+        (option_map (λ t. t.now) path.entry) (trees tokens.entry) (element_tree tree.now) }
+{
+    if ends_item(tree) {
+        return None;
+    }
+    match path {
+        Some(path) => Some(path),
+        None => path_at(tokens),
+    }
+}
