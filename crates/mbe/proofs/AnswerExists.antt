@@ -1,5 +1,5 @@
 -- A call of checked rules has an answer: the rules are tried one after the other, as the program does.
-use Rattle.std.specs.Prelude.{◌≡◌, ◌≢◌, ◌<◌, ◌≤◌, ◌+◌, ◌-◌, ◌^◌, ◌⊎◌, ℕ, zero, suc, Bool, true, false, min, List, [], ◌∷◌, length, take, slice_get, Contains, Option, Some, None, is_some, IfSome, refl}
+use Rattle.std.specs.Prelude.{◌≡◌, ◌≢◌, ◌<◌, ◌≤◌, ◌+◌, ◌-◌, ◌^◌, ◌⊎◌, ℕ, zero, suc, Bool, true, false, min, List, [], ◌∷◌, length, take, slice_get, Option, Some, None, is_some, IfSome, refl}
 use Rattle.std.proofs.Common.{ap, sym, subst, ◌∙◌, arith, inl, inr}
 use Rattle.std.proofs.lemmas.Bool.{cases_lt, cases_Bool, true≢false}
 use Rattle.std.proofs.lemmas.Option.{none-some}
@@ -13,10 +13,9 @@ use Rattle.mbe_semantics.specs.Syntax.Definition.{Rule}
 use Rattle.mbe_semantics.specs.Syntax.Nullable.{Checked}
 use Rattle.mbe_semantics.specs.Readings.Item.{Items}
 use Rattle.mbe_semantics.specs.Readings.Input.{input_of}
-use Rattle.mbe_semantics.specs.Readings.Reading.{start}
 use Rattle.mbe_semantics.specs.Readings.Ambiguity.{Fits}
 use Rattle.mbe_semantics.specs.Readings.Verdict.{Verdict, one_reading, many_readings, ambiguous, stuck, IsVerdict, stop_of, unmatched}
-use Rattle.mbe_semantics.specs.Matching.Outline.{Outline, erase}
+use Rattle.mbe_semantics.specs.Matching.Outline.{Outline}
 use Rattle.mbe_semantics.specs.Bindings.Account.{Commands, run}
 use Rattle.mbe_semantics.specs.Bindings.Environment.{Environment, environment_of, binding_total}
 use Rattle.mbe_semantics.specs.Writing.Substitution.{faults}
@@ -25,7 +24,7 @@ use Rattle.mbe_semantics.specs.Expansion.Expansion.{Applies, FirstThatApplies}
 use Rattle.mbe_semantics.specs.Expansion.Macro.{arm_of, empty_tree}
 use Rattle.mbe_semantics.specs.Expansion.Recovery.{IsStyledAt, HasStyle}
 use Rattle.mbe_laws.proofs.Matching.RunLemmas.{has_one_verdict}
-use Rattle.mbe_matcher.specs.Failures.{Notes, no_notes, AreNotes, Reports}
+use Rattle.mbe_matcher.specs.Failures.{Notes, Reports}
 use Rattle.mbe_semantics.specs.Matching.Dots.{dots}
 use Rattle.mbe_semantics.specs.Matching.Settled.{first_width}
 use Rattle.mbe_matcher.specs.TwoEnds.{EndsFollow, follow_start, follow_next, first_moves, AreKeptNotes}
@@ -33,7 +32,7 @@ use Rattle.mbe_matcher.proofs.KeptEnds.{kept_pass}
 use Rattle.mbe_matcher.proofs.StopPlaces.{goes_on}
 use Rattle.mbe_transcriber.specs.Faults.{first_fault}
 use Rattle.mbe.specs.declared.expander.Nearness.{Nearness}
-use Rattle.mbe.specs.Recovering.{spans_of, IsUnfit, IsFaulty, FailsWith, ComesNear, IsNearest}
+use Rattle.mbe.specs.Recovering.{spans_of, IsUnfit, IsFaulty, FailsWith}
 use Rattle.mbe.specs.Choice.{AreChecked, is_nearer, IsNearness}
 use Rattle.mbe.specs.OneAnswer.{IsAnswer, HasSomeSpan, HasAnswer}
 use Rattle.mbe.proofs.ChoiceLemmas.{NoneApplies, first_at, none_contained, none_more, contains_first}

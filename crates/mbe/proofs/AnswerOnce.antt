@@ -1,8 +1,8 @@
 -- A call has one answer: of the rules that apply the first, and else the closest, with one error and one tree.
-use Rattle.std.specs.Prelude.{◌≡◌, ◌≢◌, ◌<◌, ◌≤◌, ◌⊎◌, ◌-◌, ◌^◌, ◌==◌, ℕ, zero, suc, Bool, true, false, min, List, [], ◌∷◌, slice_get, Contains, Option, Some, None, refl}
+use Rattle.std.specs.Prelude.{◌≡◌, ◌≢◌, ◌⊎◌, ◌-◌, ◌^◌, ◌==◌, ℕ, zero, suc, Bool, true, false, min, List, [], ◌∷◌, slice_get, Contains, Option, Some, None, refl}
 use Rattle.std.proofs.Common.{ap, sym, subst, ◌∙◌, arith, inl, inr}
 use Rattle.std.proofs.lemmas.Bool.{true≢false}
-use Rattle.std.proofs.lemmas.Option.{none-some, same_Some}
+use Rattle.std.proofs.lemmas.Option.{same_Some}
 use Rattle.mbe_tt.specs.declared.span.Span.{Span}
 use Rattle.mbe_tt.specs.Trees.Tree.{Forest, flat_len}
 use Rattle.mbe_tt.specs.Trees.Top.{Top}
@@ -17,7 +17,7 @@ use Rattle.mbe_semantics.specs.Bindings.Environment.{Environment, environment_of
 use Rattle.mbe_semantics.specs.Expansion.Error.{ExpandError}
 use Rattle.mbe_semantics.specs.Expansion.Expansion.{Applies, IsExpansion}
 use Rattle.mbe_semantics.specs.Expansion.Macro.{arm_of}
-use Rattle.mbe_semantics.specs.Expansion.Recovery.{HasStyle, IsStyledAt, GoesBefore}
+use Rattle.mbe_semantics.specs.Expansion.Recovery.{HasStyle, GoesBefore}
 use Rattle.mbe_semantics.specs.Laws.Laws.{HasOneAnswer}
 use Rattle.mbe_semantics.proofs.InputLemmas.{lawful_inputs}
 use Rattle.mbe_laws.proofs.Matching.RunLemmas.{one_verdict}
@@ -26,7 +26,7 @@ use Rattle.mbe_matcher.specs.Failures.{Notes, AreNotes, Reports, error_of_notes,
 use Rattle.mbe_transcriber.specs.Faults.{first_fault}
 use Rattle.mbe_transcriber.specs.Beside.{IsWhatIsLeft}
 use Rattle.mbe.specs.Recovering.{spans_of, IsUnfit, IsFaulty, FailsWith, ComesNear, IsNearest, IsRecovered, IsRecovery}
-use Rattle.mbe.specs.OneAnswer.{IsAnswer, OneAnswer}
+use Rattle.mbe.specs.OneAnswer.{OneAnswer}
 use Rattle.mbe.proofs.ChoiceLemmas.{contains_first}
 use Rattle.mbe.proofs.TriedLemmas.{fits_alone}
 use Rattle.mbe.proofs.NotesOnce.{notes_once}

@@ -1,5 +1,5 @@
 -- The closest of the rules that were tried so far.
-use Rattle.std.specs.Prelude.{◌≡◌, ◌<◌, ◌≤◌, ◌+◌, ◌-◌, ◌^◌, ◌⊎◌, ℕ, zero, suc, Bool, true, false, ◌||◌, ◌&&◌, nat_lt, nat_eq, if◌then◌else◌, min, List, [], ◌∷◌, slice_get, slice_index_or, length, Contains, Option, Some, None, option_map, Result, Ok, Err, IfOk, IfSome, IsTrue, refl}
+use Rattle.std.specs.Prelude.{◌≡◌, ◌<◌, ◌≤◌, ◌+◌, ◌⊎◌, ℕ, zero, suc, true, false, ◌&&◌, nat_lt, nat_eq, if◌then◌else◌, List, [], ◌∷◌, slice_get, slice_index_or, length, Contains, Option, Some, None, option_map, Result, Ok, Err, IfOk, IfSome, refl}
 use Rattle.std.specs.List.{list_any}
 use Rattle.std.proofs.Common.{ap, sym, subst, ◌∙◌, arith, inl, inr}
 use Rattle.std.proofs.lemmas.Bool.{cases_lt, cases_Bool, ltb-true, ltb-false, eqb-true, eqb-false, eq-eqb, ne_eqb, or_parts, and_cases, and_parts, or_cases}
@@ -10,10 +10,6 @@ use Rattle.mbe_tt.specs.Fragments.Grammar.{Grammar}
 use Rattle.mbe_semantics.specs.declared.macro_call_style.MacroCallStyle.{MacroCallStyle}
 use Rattle.mbe_semantics.specs.Syntax.Definition.{Rule}
 use Rattle.mbe_semantics.specs.Syntax.Nullable.{Checked, is_refused}
-use Rattle.mbe_semantics.specs.Readings.Item.{Items}
-use Rattle.mbe_semantics.specs.Readings.Ambiguity.{Fits}
-use Rattle.mbe_semantics.specs.Readings.Verdict.{Verdict, IsVerdict, unmatched}
-use Rattle.mbe_semantics.specs.Bindings.Environment.{environment_of, binding_total}
 use Rattle.mbe_semantics.specs.Expansion.Macro.{Macro, TellsRefusal, IsChecked}
 use Rattle.mbe_semantics.specs.Expansion.Recovery.{HasStyle, IsStyledAt, GoesBefore, IsClosest}
 use Rattle.mbe_parser.specs.RuleViews.{rule_of}

@@ -1,7 +1,7 @@
 -- A template faults exactly where it has a first fault.
-use Rattle.std.specs.Prelude.{◌≡◌, ◌⊎◌, ◌<◌, ◌≤◌, ◌^◌, ◌||◌, ◌==◌, ◌++◌, ℕ, zero, suc, Bool, true, false, not, nat_lt, nat_le, if◌then◌else◌, List, [], ◌∷◌, chars, Option, Some, None, is_some, is_none, option_map, option_and_then, refl}
+use Rattle.std.specs.Prelude.{◌≡◌, ◌⊎◌, ◌<◌, ◌≤◌, ◌^◌, ◌||◌, ◌++◌, ℕ, zero, suc, Bool, true, false, not, nat_lt, nat_le, if◌then◌else◌, List, [], ◌∷◌, chars, Option, Some, None, is_some, is_none, option_map, option_and_then, refl}
 use Rattle.std.specs.Option.{option_or}
-use Rattle.std.proofs.Common.{ap, sym, subst, ◌∙◌, arith, inl, inr}
+use Rattle.std.proofs.Common.{ap, sym, ◌∙◌, arith, inl, inr}
 use Rattle.std.proofs.lemmas.Bool.{true≢false, ne_eqb}
 use Rattle.std.proofs.lemmas.Bool.Decides.{leb_tells}
 use Rattle.mbe_tt.specs.declared.span.Span.{Span}
@@ -12,9 +12,10 @@ use Rattle.mbe_semantics.specs.Syntax.Op.{Name, Element, ident_element, literal_
 use Rattle.mbe_semantics.specs.Bindings.Environment.{Value, fragment, list, empty, missing, Environment, value_of}
 use Rattle.mbe_semantics.specs.Expansion.Error.{ExpandErrorKind, ExpandError}
 use Rattle.mbe_semantics.specs.Writing.Rounds.{Path, member, follow, followed, Extent, finite, endless, kept_rounds, level, value_total}
-use Rattle.mbe_semantics.specs.Writing.Concat.{text_of_value, text_of_element, joined_text, are_identifier_chars, if_identifier, concat_text}
-use Rattle.mbe_semantics.specs.Writing.Substitution.{is_simple, is_counted, variable_faults, expression_faults, extent_faults, any_below, any_round, op_faults, faults, total_of}
-use Rattle.mbe_transcriber.specs.Faults.{at, lost_in, lost, lost_kind, plural, simple_fault, number_fault, count_fault, bound_fault, first_of, first_below, first_round, extent_fault, text_fault, or_none, joined, identifier_fault, variable_fault, needed_fault, element_fault, expression_fault, op_fault, first_fault}
+use Rattle.mbe_semantics.specs.Writing.Concat.{text_of_value, text_of_element, joined_text, are_identifier_chars, if_identifier}
+use Rattle.mbe_semantics.specs.Writing.Substitution.{is_simple, is_counted, expression_faults, extent_faults, any_below, any_round, op_faults, faults, total_of}
+use Rattle.mbe_transcriber.specs.Faults.{number_fault, count_fault, bound_fault, first_of, first_below, first_round, text_fault, or_none, joined, identifier_fault, variable_fault, needed_fault, element_fault, expression_fault, op_fault, first_fault}
+use Rattle.mbe_variables.specs.Lost.{at, lost_in, lost, lost_kind, plural, simple_fault, extent_fault}
 
 -- ---- there is one
 

@@ -1,5 +1,5 @@
 -- With a marker that returns one span for each, what a template leaves beside a fault is one tree.
-use Rattle.std.specs.Prelude.{◌≡◌, ℕ, zero, suc, Bool, List, [], Option, Some, None}
+use Rattle.std.specs.Prelude.{◌≡◌, ℕ, zero, suc, Bool, [], Option, Some, None}
 use Rattle.std.proofs.Common.{ap, sym, ◌∙◌}
 use Rattle.mbe_tt.specs.declared.span.Span.{Span}
 use Rattle.mbe_tt.specs.declared.tt.DelimiterKind.TheVariants.{Invisible}
@@ -12,7 +12,8 @@ use Rattle.mbe_semantics.specs.Writing.Rounds.{Path, Extent, finite, endless, ke
 use Rattle.mbe_semantics.specs.Writing.Substitution.{faults, separator_trees, integer, total_of, IsVariable}
 use Rattle.mbe_semantics.specs.Laws.Laws.{HasOneAnswer}
 use Rattle.mbe_laws.proofs.Expansion.ExpansionLemmas.{token_same, variable_same, concat_same, expression_same}
-use Rattle.mbe_transcriber.specs.Faults.{bound_fault, count_fault, variable_fault, extent_fault, joined}
+use Rattle.mbe_transcriber.specs.Faults.{bound_fault, count_fault, variable_fault, joined}
+use Rattle.mbe_variables.specs.Lost.{extent_fault}
 use Rattle.mbe_transcriber.specs.Beside.{unless, parting, name_left, AreRoundsLeft, AreAllRoundsLeft, LeavesExpression, Leaves, LeaveAll, IsWhatIsLeft}
 
 unless_same : {F : Type 0} (o : Option F) (P : Forest → Type 0) (out other : Forest)

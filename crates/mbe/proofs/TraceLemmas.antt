@@ -1,12 +1,11 @@
 -- From a result that `expand` may give to what is written in it.
-use Rattle.std.specs.Prelude.{ℕ, Option, None, refl}
+use Rattle.std.specs.Prelude.{ℕ, refl}
 use Rattle.mbe_tt.specs.declared.span.Span.{Span}
 use Rattle.mbe_tt.specs.Trees.Tree.{Forest}
 use Rattle.mbe_tt.specs.Fragments.Grammar.{Grammar}
 use Rattle.mbe_semantics.specs.declared.macro_call_style.MacroCallStyle.{MacroCallStyle}
-use Rattle.mbe_semantics.specs.Syntax.Definition.{Rule}
 use Rattle.mbe_semantics.specs.Bindings.Environment.{environment_of}
-use Rattle.mbe_semantics.specs.Expansion.Expansion.{Applies, FirstThatApplies, IsExpansion}
+use Rattle.mbe_semantics.specs.Expansion.Expansion.{IsExpansion}
 use Rattle.mbe_laws.proofs.Writing.SpanLemmas.{spans_have_sources, written_in_place}
 use Rattle.mbe_laws.proofs.Writing.LawLemmas.{writes_all_rounds}
 use Rattle.mbe.specs.Traced.{Traced, AnswersAreTraced}

@@ -1,7 +1,7 @@
 -- With a marker that returns a span for each, a template without a fault writes some tree, and every template leaves
 -- one.
-use Rattle.std.specs.Prelude.{◌≡◌, ◌<◌, ◌||◌, ℕ, zero, suc, Bool, true, false, not, is_some, is_none, if◌then◌else◌, List, [], ◌∷◌, Option, Some, None, option_and_then, refl}
-use Rattle.std.proofs.Common.{ap, sym, ◌∙◌, arith}
+use Rattle.std.specs.Prelude.{◌≡◌, ℕ, zero, suc, Bool, true, false, not, is_some, is_none, if◌then◌else◌, List, [], ◌∷◌, Option, Some, None, refl}
+use Rattle.std.proofs.Common.{ap, sym, ◌∙◌}
 use Rattle.std.proofs.lemmas.Bool.{true≢false, or_parts}
 use Rattle.mbe_tt.specs.declared.span.Span.{Span}
 use Rattle.mbe_tt.specs.declared.tt.Punct.{Punct}
@@ -19,8 +19,9 @@ use Rattle.mbe_semantics.specs.Bindings.Environment.{Value, fragment, list, empt
 use Rattle.mbe_semantics.specs.Writing.Rounds.{Path, Extent, finite, endless, kept, rounds_of, kept_rounds, followed, level, level_at}
 use Rattle.mbe_semantics.specs.Writing.Concat.{concat_text}
 use Rattle.mbe_semantics.specs.Writing.Written.{path_trees, needs_parentheses, in_parentheses, IsParenthesized, IsWrittenAs}
-use Rattle.mbe_semantics.specs.Writing.Substitution.{is_simple, variable_faults, expression_faults, extent_faults, any_below, any_round, op_faults, faults, rawness, separator_trees, unbound_variable, integer, index_of, rounds_in, total_of, AreRounds, AreKeptRounds, AreMarkedPuncts, IsMarked, IsVariable, IsConcat, IsExpression, Writes, Substitutes, IsSubstitution}
-use Rattle.mbe_transcriber.specs.Faults.{bound_fault, count_fault, simple_fault, variable_fault, extent_fault, joined}
+use Rattle.mbe_semantics.specs.Writing.Substitution.{is_simple, expression_faults, extent_faults, any_below, any_round, op_faults, faults, rawness, separator_trees, unbound_variable, integer, index_of, rounds_in, total_of, AreRounds, AreKeptRounds, AreMarkedPuncts, IsMarked, IsVariable, IsConcat, IsExpression, Writes, Substitutes, IsSubstitution}
+use Rattle.mbe_transcriber.specs.Faults.{bound_fault, count_fault, variable_fault, joined}
+use Rattle.mbe_variables.specs.Lost.{extent_fault}
 use Rattle.mbe_transcriber.specs.Beside.{unless, parting, name_left, AreRoundsLeft, AreAllRoundsLeft, LeavesExpression, Leaves, LeaveAll, IsWhatIsLeft}
 use Rattle.mbe.specs.OneAnswer.{HasSomeSpan}
 use Rattle.mbe.proofs.FaultsAgree.{variable_some}

@@ -1,5 +1,5 @@
 -- What the verdict on a rule's pattern and its substitution say of the rule.
-use Rattle.std.specs.Prelude.{◌≡◌, ◌≢◌, ◌⊎◌, ◌-◌, ◌^◌, ℕ, Bool, true, false, min, [], Option, Some, None}
+use Rattle.std.specs.Prelude.{◌≡◌, ◌≢◌, ◌⊎◌, ◌-◌, ◌^◌, ℕ, true, false, min, [], Option, Some, None}
 use Rattle.std.proofs.Common.{ap, sym, subst, ◌∙◌, refl, inl, inr}
 use Rattle.std.proofs.lemmas.Bool.{true≢false}
 use Rattle.mbe_tt.specs.declared.span.Span.{Span}
@@ -18,7 +18,6 @@ use Rattle.mbe_semantics.specs.Bindings.Environment.{Environment, environment_of
 use Rattle.mbe_semantics.specs.Writing.Substitution.{faults, IsSubstitution}
 use Rattle.mbe_semantics.specs.Expansion.Error.{ExpandError}
 use Rattle.mbe_semantics.specs.Expansion.Expansion.{Applies}
-use Rattle.mbe_transcriber.specs.Faults.{first_fault}
 use Rattle.mbe_matcher.specs.Failures.{Reports}
 use Rattle.mbe_matcher.specs.Fronts.{begins_otherwise, failing_first}
 use Rattle.mbe_matcher.proofs.Starts.{otherwise_stuck, otherwise_fails, otherwise_reports}

@@ -1,5 +1,5 @@
 -- What the choice of a rule goes by: words of private code.
-use Rattle.std.specs.Prelude.{◌≡◌, ◌^◌, ◌-◌, ℕ, Bool, true, ◌||◌, ◌&&◌, nat_lt, nat_eq, if◌then◌else◌, List, slice_get, Contains, Option, Some, None}
+use Rattle.std.specs.Prelude.{◌≡◌, ℕ, Bool, true, ◌||◌, ◌&&◌, nat_lt, nat_eq, if◌then◌else◌, List, slice_get, Contains, Option, Some, None}
 use Rattle.mbe_tt.specs.declared.span.Span.{Span}
 use Rattle.mbe_tt.specs.Trees.Top.{Top, top_group}
 use Rattle.mbe_tt.specs.Fragments.Grammar.{Grammar}

@@ -2,11 +2,12 @@
 ghost use Rattle.std.specs.Prelude.{◌≡◌, ◌<◌, false, length, map, option_map, IfOk, IfErr};
 ghost use Rattle.mbe_tt.specs.Trees.Top.{top_group};
 ghost use Rattle.mbe_errors.specs.ErrorViews.{errors_of};
+ghost use Rattle.mbe_log.specs.BindingViews.{bound_by};
 ghost use Rattle.mbe_matcher.specs.Matched.{verdict_seen};
 ghost use Rattle.mbe_matcher.specs.Wanted.{wanted_seen, pair_seen};
 ghost use Rattle.mbe_semantics.specs.Expansion.Macro.{IsChecked, Expands};
 ghost use Rattle.mbe_semantics.specs.Laws.Marking.{MayMark};
-ghost use Rattle.mbe.specs.Explaining.{Explains, WantsThere, ClashesThere};
+ghost use Rattle.mbe.specs.Explaining.{BindsThere, Explains, WantsThere, ClashesThere};
 ghost use Rattle.mbe.specs.MacroViews.{macro_of};
 ghost use Rattle.mbe.specs.Recovering.{Recovers};
 ghost use Rattle.mbe.specs.Refused.{is_refused};
@@ -14,6 +15,7 @@ ghost use Rattle.mbe.specs.Refused.{is_refused};
 use crate::macros::DeclarativeMacro;
 use mbe_errors::error::ParseError;
 use mbe_errors::value_result::{ExpandResult, MatchedArmIndex};
+use mbe_log::bindings::Bindings;
 use mbe_matcher::matching::Verdict;
 use mbe_matcher::wanting::Wants;
 use mbe_semantics::macro_call_style::MacroCallStyle;
@@ -128,5 +130,21 @@ impl<A: Allocator + Copy> CheckedMacro<A> {
             (option_map pair_seen w.clash)) }
     {
         self.defined.wants(alloc, grammar, tt, rule)
+    }
+
+    /// What the rule with this index binds where it fits an argument, as `DeclarativeMacro::bindings` returns it. `rule` is
+    /// less than the number of rules.
+    pub fn bindings<'a, G: FragmentGrammar>(
+        &'a self,
+        alloc: A,
+        grammar: &G,
+        tt: &'a TopSubtree<A>,
+        rule: usize,
+    ) -> Result<Option<Bindings<'a, A>>, AllocError>
+        requires rule { rule < length (checked_of self.now).rules }
+        ensures binds { IfOk result (λ b. BindsThere (G.grammar grammar.now)
+            (checked_of self.now).rules tt.now.1 rule (option_map bound_by b)) }
+    {
+        self.defined.bindings(alloc, grammar, tt, rule)
     }
 }

@@ -13,6 +13,7 @@ ghost use Rattle.mbe_tt.specs.Trees.Top.{top_group};
 ghost use Rattle.mbe_semantics.specs.Laws.Marking.{MayMark, MayAsk};
 
 mod equality;
+mod taking;
 mod wanting;
 
 use crate::expander::expand_rules;

@@ -11,4 +11,5 @@ pub mod ItemLemmas
 pub mod MarkLemmas
 pub mod ReplaceLemmas
 pub mod StepLemmas
+pub mod TakenLemmas
 pub mod WriteLemmas

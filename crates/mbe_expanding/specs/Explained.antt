@@ -11,14 +11,16 @@ use Rattle.mbe_semantics.specs.Readings.Verdict.{stop_of}
 use Rattle.mbe_calls.specs.Fronts.{Call}
 use Rattle.mbe_matcher.specs.Wanted.{Wanted}
 use Rattle.mbe.specs.Explaining.{Explains, WantsThere, ClashesThere}
-use Rattle.mbe_explaining.specs.Saying.{Part, Said, part_of, pair_of, named_parts, message_text}
+use Rattle.mbe_explaining.specs.Saying.{Part, Said, part_of, pair_of, said_seen, named_parts, message_text}
 use Rattle.mbe_explaining.specs.SpanAt.{span_at}
 use Rattle.mbe_expanding.specs.Calls.{Setting, State, named}
+use Rattle.mbe_expanding.specs.declared.explaining.RuleSaid as code
 use Rattle.mbe_expanding.specs.declared.notes.Level.{Level}
 use Rattle.mbe_expanding.specs.declared.notes.Level.TheVariants as level
 use Rattle.mbe_expanding.specs.declared.notes.Note as declared
 use Rattle.mbe_expanding.specs.declared.settings.Explain.{Explain}
 use Rattle.mbe_expanding.specs.declared.settings.Explain.TheVariants as explain
+use Rattle.mbe_expanding.specs.Taking.{Taken, Takes, taken_seen}
 
 -- ---- what a rule says
 
@@ -36,14 +38,23 @@ pub record Says (g : Grammar) (rules : List Rule) (argument : Delimiter × Fores
   pub parts : said.wanted ≡ map part_of wants
   pub two : said.clash ≡ option_map pair_of pair
 
+-- what a rule says, and what its variables took if it fits
+pub record RuleSaid : Type 0 where
+  pub said : Said
+  pub taken : List Taken
+
+abbrev pub rule_seen : {A : Type 0} → code.RuleSaid A → RuleSaid
+rule_seen r = record { said = said_seen r.said; taken = map taken_seen r.taken.items }
+
 -- rules say so, from the first one on
-pub data FirstSay (g : Grammar) (rules : List Rule) (argument : Delimiter × Forest) : List Said → Type 0 where
+pub data FirstSay (g : Grammar) (rules : List Rule) (argument : Delimiter × Forest) : List RuleSaid → Type 0 where
   no_rule : FirstSay g rules argument []
-  one_more : (saids : List Said) (said : Said) → FirstSay g rules argument saids
-      → Says g rules argument (length saids) said → FirstSay g rules argument (saids ++ said ∷ [])
+  one_more : (before : List RuleSaid) (rule : RuleSaid) → FirstSay g rules argument before
+      → Says g rules argument (length before) rule.said → Takes g rules argument.1 (length before) rule.taken
+      → FirstSay g rules argument (before ++ rule ∷ [])
 
 -- all rules of the macro that a call names say so, where it has no fault
-abbrev pub RulesSay : Setting → Call → State → Delimiter × Forest → List Said → Type 0
+abbrev pub RulesSay : Setting → Call → State → Delimiter × Forest → List RuleSaid → Type 0
 RulesSay e c s argument saids =
     IfSome (named s c) (λ m. m.err ≡ None → FirstSay e.grammar m.rules argument saids × (length saids ≡ length m.rules))
 
@@ -74,16 +85,30 @@ abbrev pub part_notes : List ℕ → List Part → List Note
 part_notes rule [] = []
 part_notes rule (p ∷ ps) = part_note rule p.text p.place ++ part_notes rule ps
 
+-- what a variable took, at its place in the rule
+abbrev pub taken_note : List ℕ → List ℕ → List ℕ → Option Span → List Note
+taken_note rule variable text None = []
+taken_note rule variable text (Some place) =
+    note_at place (variable ++ (codes " in " ++ (rule ++ (codes " took " ++ text)))) ∷ []
+
+abbrev pub taken_notes : List ℕ → List Taken → List Note
+taken_notes rule [] = []
+taken_notes rule (t ∷ ts) = taken_note rule t.variable.text t.text t.variable.place ++ taken_notes rule ts
+
 -- what a rule says, and where the parts of it are that this names
-abbrev pub rule_notes : List ℕ → Said → List Note
-rule_notes rule said = note_at said.place (message_text rule said) ∷ part_notes rule (named_parts said)
+abbrev pub said_notes : List ℕ → Said → List Note
+said_notes rule said = note_at said.place (message_text rule said) ∷ part_notes rule (named_parts said)
+
+-- and what its variables took
+abbrev pub rule_notes : List ℕ → RuleSaid → List Note
+rule_notes rule r = said_notes rule r.said ++ taken_notes rule r.taken
 
 -- a number of 64 bits more by one, up to the last
 abbrev pub next_number : ℕ → ℕ
 next_number n = min (n + 1) (2 ^ 64 - 1)
 
 -- those of rules, the first of which has that number
-abbrev pub rules_notes : List ℕ → ℕ → List Said → List Note
+abbrev pub rules_notes : List ℕ → ℕ → List RuleSaid → List Note
 rules_notes name number [] = []
 rules_notes name number (s ∷ ss) = rule_notes (rule_name number name) s ++ rules_notes name (next_number number) ss
 
@@ -99,4 +124,4 @@ asks_for (explain.At file start end) call is_expanded =
 abbrev pub NotesRules : Setting → Call → State → Delimiter × Forest → Bool → List Note → List Note → Type 0
 NotesRules e c s argument false before after = after ≡ before
 NotesRules e c s argument true before after =
-    (saids : List Said) × RulesSay e c s argument saids × (after ≡ before ++ rules_notes c.name.sym 1 saids)
+    (saids : List RuleSaid) × RulesSay e c s argument saids × (after ≡ before ++ rules_notes c.name.sym 1 saids)

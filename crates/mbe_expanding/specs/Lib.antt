@@ -6,3 +6,4 @@ pub mod Fitting
 pub mod Replacing
 pub mod Scopes
 pub mod Shown
+pub mod Taking

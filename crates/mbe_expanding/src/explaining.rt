@@ -1,4 +1,4 @@
-// What the rules of a macro say of a call: where each stops, and what it wants there.
+// What the rules of a macro say of a call: where each stops, and what it wants there, or what its variables took.
 ghost use Rattle.std.specs.Prelude.{◌≡◌, ◌++◌, ◌<◌, IfOk, OnOk, length, map};
 ghost use Rattle.std.specs.String.{string_bytes};
 ghost use Rattle.mbe_semantics.specs.Expansion.Macro.{IsChecked};
@@ -6,18 +6,29 @@ ghost use Rattle.mbe.specs.MacroViews.{macro_of};
 ghost use Rattle.mbe_calls.specs.Shown.{call_shown};
 ghost use Rattle.mbe_explaining.specs.Saying.{part_seen, said_seen};
 ghost use Rattle.mbe_expanding.specs.Explained as spec;
-ghost use Rattle.mbe_expanding.specs.Explained.{NotesRules, RulesSay, Says, asks_for, note_seen};
+ghost use Rattle.mbe_expanding.specs.Explained.{NotesRules, RulesSay, Says, asks_for};
+ghost use Rattle.mbe_expanding.specs.Explained.{note_seen, rule_seen};
 ghost use Rattle.mbe_expanding.specs.Shown.{setting_of, state_of};
+ghost use Rattle.mbe_expanding.specs.Taking.{taken_seen};
 
 use crate::expander::Expander;
 use crate::notes::{Level, Note};
+use crate::taking::{Taken, what_rule_takes};
 use mbe::DeclarativeMacro;
 use mbe_calls::calls::Call;
 use mbe_explaining::saying::{Said, message, named, says};
 use mbe_explaining::texts::Part;
 use mbe_tt::grammar::FragmentGrammar;
 use mbe_tt::tt::TopSubtree;
-use std::alloc::{AllocError, Allocator};
+use std::alloc::{AllocError, Allocator, Global};
+
+/// What a rule says of a call. Clauses see it by `rule_seen`.
+#[derive(Drop)]
+pub struct RuleSaid<A: Allocator = Global> {
+    pub said: Said<A>,
+    /// What its variables took, if it fits.
+    pub taken: Vec<Taken<A>, A>,
+}
 
 /// What the rule with this index says of an argument: its verdict, where that is, all that it wants there, and of an ambiguity two
 /// parts that clash. `AllocError` if out of memory.
@@ -86,15 +97,58 @@ fn note_parts<A: Allocator + Copy>(
     }
 }
 
+// Notes what a variable of a rule took.
+fn note_taken<A: Allocator + Copy>(
+    alloc: A,
+    notes: &mut Vec<Note<A>, A>,
+    rule: &str,
+    taken: &Taken<A>,
+) -> Result<(), AllocError>
+    ensures { OnOk result (let taken = taken_seen taken.now in map note_seen notes.new.items
+        ≡ map note_seen notes.old.items
+        ++ spec.taken_note rule.now taken.variable.text taken.text taken.variable.place) }
+{
+    let Some(span) = taken.variable.span else {
+        return Ok(());
+    };
+    let variable = taken.variable.text.as_str();
+    let text = taken.text.as_str();
+    notes.push(Note {
+        level: Level::Note,
+        span,
+        message: format!(in alloc; "{variable} in {rule} took {text}")?,
+    })?;
+    Ok(())
+}
+
+// Notes what the variables of a rule took.
+fn note_all_taken<A: Allocator + Copy>(
+    alloc: A,
+    notes: &mut Vec<Note<A>, A>,
+    rule: &str,
+    taken: &[Taken<A>],
+) -> Result<(), AllocError>
+    ensures { OnOk result (map note_seen notes.new.items ≡ map note_seen notes.old.items
+        ++ spec.taken_notes rule.now (map taken_seen taken.now)) }
+{
+    match taken {
+        [] => Ok(()),
+        [first, rest @ ..] => {
+            note_taken(alloc, notes, rule, first)?;
+            note_all_taken(alloc, notes, rule, rest)
+        }
+    }
+}
+
 // Notes what a rule says, and where the parts of it are that this names.
-fn note_rule<A: Allocator + Copy>(
+fn note_said<A: Allocator + Copy>(
     alloc: A,
     notes: &mut Vec<Note<A>, A>,
     rule: &str,
     said: &Said<A>,
 ) -> Result<(), AllocError>
     ensures { OnOk result (map note_seen notes.new.items
-        ≡ map note_seen notes.old.items ++ spec.rule_notes rule.now (said_seen said.now)) }
+        ≡ map note_seen notes.old.items ++ spec.said_notes rule.now (said_seen said.now)) }
 {
     notes.push(Note {
         level: Level::Note,
@@ -105,16 +159,30 @@ fn note_rule<A: Allocator + Copy>(
     note_parts(alloc, notes, rule, parts.as_slice())
 }
 
+// Notes that, and what the rule's variables took.
+fn note_rule<A: Allocator + Copy>(
+    alloc: A,
+    notes: &mut Vec<Note<A>, A>,
+    rule: &str,
+    says: &RuleSaid<A>,
+) -> Result<(), AllocError>
+    ensures { OnOk result (map note_seen notes.new.items
+        ≡ map note_seen notes.old.items ++ spec.rule_notes rule.now (rule_seen says.now)) }
+{
+    note_said(alloc, notes, rule, &says.said)?;
+    note_all_taken(alloc, notes, rule, says.taken.as_slice())
+}
+
 // Notes what rules say, the first of which has that number.
 fn note_rules<A: Allocator + Copy>(
     alloc: A,
     notes: &mut Vec<Note<A>, A>,
     name: &str,
     number: usize,
-    saids: &[Said<A>],
+    saids: &[RuleSaid<A>],
 ) -> Result<(), AllocError>
     ensures { OnOk result (map note_seen notes.new.items ≡ map note_seen notes.old.items
-        ++ spec.rules_notes name.now number (map said_seen saids.now)) }
+        ++ spec.rules_notes name.now number (map rule_seen saids.now)) }
 {
     match saids {
         [] => Ok(()),
@@ -155,9 +223,9 @@ impl<'g, A: Allocator + Copy> Expander<'g, A> {
         &self,
         call: Call<'_, A>,
         argument: &TopSubtree<A>,
-    ) -> Result<Vec<Said<A>, A>, AllocError>
+    ) -> Result<Vec<RuleSaid<A>, A>, AllocError>
         ensures { IfOk result (λ v. RulesSay (setting_of self.now) (call_shown call.entry)
-            (state_of self.now) argument.now (map said_seen v.items)) }
+            (state_of self.now) argument.now (map rule_seen v.items)) }
     {
         let mut all = Vec::new(self.alloc);
         let Some(rules) = self.rules(call) else {
@@ -167,7 +235,10 @@ impl<'g, A: Allocator + Copy> Expander<'g, A> {
             return Ok(all);
         }
         for index in 0..rules.num_rules() {
-            all.push(what_rule_says(self.alloc, &self.grammar, rules, argument, index)?)?;
+            all.push(RuleSaid {
+                said: what_rule_says(self.alloc, &self.grammar, rules, argument, index)?,
+                taken: what_rule_takes(self.alloc, &self.grammar, rules, argument, index)?,
+            })?;
         }
         Ok(all)
     }

@@ -9,3 +9,4 @@ pub mod notes;
 mod origins;
 pub mod scope;
 pub mod settings;
+pub mod taking;

@@ -65,15 +65,40 @@ static ROWS: [(&str, &str); 32] = [
     ("a'b", "a 'b"),
 ];
 
-// Doc comments of one line stay; one of several lines, and an attribute that somebody wrote, are attributes.
-static COMMENTS: [(&str, &str); 14] = [
+// Doc comments stay, those of several lines as blocks; an attribute that somebody wrote is one, and a block's text that is of one line is
+// written in one.
+static COMMENTS: [(&str, &str); 32] = [
     ("/// a", "/// a\n"),
     ("///\nb", "///\nb"),
     ("/// a\nb", "/// a\nb"),
     ("//! a\n//!/b\nc", "//! a\n//!/b\nc"),
     ("/// a \"# b\nc", "/// a \"# b\nc"),
     ("/** a */ b", "/// a \nb"),
-    ("/** a\nb */ c", "#[doc = r\" a\nb \"] c"),
+    ("/** a\nb */ c", "/** a\nb */\nc"),
+    ("/*! a\nb */ c", "/*! a\nb */\nc"),
+    ("/*!\n*/", "/*!\n*/\n"),
+    ("/** a\n * b\n */\nc", "/** a\n * b\n */\nc"),
+    ("/**\n* a */ b", "/**\n* a */\nb"),
+    ("/*!*\n a */ b", "/*!*\n a */\nb"),
+    ("/*!/\n a */ b", "/*!/\n a */\nb"),
+    ("/** a\n**/ b", "/** a\n**/\nb"),
+    ("/** /* a\n*/ b */ c", "/** /* a\n*/ b */\nc"),
+    ("/** /*/ a\n*/*/ c", "/** /*/ a\n*/*/\nc"),
+    ("/** // a\n/**/ */ b", "/** // a\n/**/ */\nb"),
+    (
+        "/** é\n\u{1F600}\u{2028} */ b",
+        "/** é\n\u{1F600}\u{2028} */\nb",
+    ),
+    ("/** a\"# b\n\"### */ c", "/** a\"# b\n\"### */\nc"),
+    ("a; { /** b\nc */ d }", "a;\n{\n    /** b\nc */\n    d\n}"),
+    (
+        "m! { (/** a\nb */ c) }",
+        "m! {\n    (\n    /** a\nb */\n    c)\n}",
+    ),
+    ("+/** a\nb */ c", "+\n/** a\nb */\nc"),
+    ("#[doc = r\" a\nb \"] c", "#[doc = r\" a\nb \"] c"),
+    ("/** a\nb */~/// c\n~d", "/** a\nb */\n/// c\nd"),
+    ("/*! a\nb *//** c\n*/", "/*! a\nb */\n/** c\n*/\n"),
     ("#[doc = r\" a\"] b", "#[doc = r\" a\"] b"),
     ("a; /// b\nc", "a;\n/// b\nc"),
     ("{ /// a\nb }", "{\n    /// a\n    b\n}"),
@@ -136,6 +161,27 @@ fn comments_are_comments(rt: HostRuntime) -> Result<(), Fail> {
         Dialect::Rust(Edition::Edition2021),
         &COMMENTS,
     )
+}
+
+// How many `#` follow a `"`; no raw string holds so many as the last two.
+static HASHES: [usize; 5] = [0, 1, 254, 255, 300];
+
+// What is written is the text that was lexed.
+#[test]
+fn a_comment_has_any_text(rt: HostRuntime) -> Result<(), Fail> {
+    for count in HASHES {
+        let hashes = "#".repeat(rt.alloc(), count)?;
+        let hashes = hashes.as_str();
+        let text = format!(in rt.alloc();
+            "/*! \"{hashes}\n*/\n/** a \"{hashes}\n */\n/// \"{hashes}\nb"
+        )?;
+        let mut writer = Writer::new(rt.alloc(), 0);
+        let dialect = Dialect::Rust(Edition::Edition2021);
+        write(&rt, rt.alloc(), &mut writer, dialect, 0, text.as_str())?;
+        let written = writer.into_text();
+        assert_eq!(rt; written.as_str(), text.as_str(), "{count}");
+    }
+    Ok(())
 }
 
 #[test]

@@ -1,5 +1,5 @@
 // What is reported of calls beside errors: what rules say of them, steps, and where tokens are from. Where each rule stops, what it
-// wants there, and where each token is from was worked out by hand.
+// wants there, what its variables took, and where each token is from was worked out by hand.
 use crate::conditions::plainly;
 use mbe_expanding::expander::Expander;
 use mbe_expanding::settings::Settings;
@@ -81,7 +81,7 @@ fn notes_of(alloc: Global, text: &str) -> Result<String, AllocError> {
 }
 
 // A definition, a call of it in the next line, and what its rules say: each note with its line and column.
-static ROWS: [(&str, &str, &str); 11] = [
+static ROWS: [(&str, &str, &str); 18] = [
     (
         "m { ($($x:expr),*) => {} }",
         "m!(1, 2,);",
@@ -142,6 +142,48 @@ static ROWS: [(&str, &str, &str); 11] = [
         "m!(1 c);",
         "2:6 rule 1 of `m!` is ambiguous here: it goes on by `$x:ident` in two ways; \
             1:32 `$x:ident` in rule 1 of `m!`; ",
+    ),
+    (
+        "m { ($a:ident $($x:expr),* ; $([$($y:ident)*])*) => {} }",
+        "m!(k 1, 2 + 3; [a b] [] [c]);",
+        "2:28 rule 1 of `m!` fits; 1:20 `$a:ident` in rule 1 of `m!` took `k`; \
+            1:31 `$x:expr` in rule 1 of `m!` took `1`, `2 + 3` (2 rounds); \
+            1:49 `$y:ident` in rule 1 of `m!` took (`a`, `b`), nothing, (`c`) (3 rounds); ",
+    ),
+    (
+        "m { ($v:vis fn $($x:ty),* ; $($y:ty);*) => {} }",
+        "m!(fn ; u8);",
+        "2:11 rule 1 of `m!` fits; 1:20 `$v:vis` in rule 1 of `m!` took nothing; \
+            1:32 `$x:ty` in rule 1 of `m!` took nothing; 1:45 `$y:ty` in rule 1 of `m!` took `u8` (1 round); ",
+    ),
+    (
+        "m { ($b:block) => {} }",
+        "m!({ let a = 1; a });",
+        "2:20 rule 1 of `m!` fits; 1:20 `$b:block` in rule 1 of `m!` took `{ let a = 1; a }`; ",
+    ),
+    (
+        "m { ($($t:tt)*) => {} }",
+        "m!(a b c d e f g h i j k l m n o p q r);",
+        "2:39 rule 1 of `m!` fits; 1:22 `$t:tt` in rule 1 of `m!` took \
+            `a`, `b`, `c`, `d`, `e`, `f`, `g`, `h`, `i`, `j`, `k`, `l`, `m`, `n`, `o`, `p`, \u{2026} (18 rounds); ",
+    ),
+    (
+        "m { ($e:expr) => {} }",
+        "m!(\"123456789 123456789 123456789 123456789 123456789 123456789 \");",
+        "2:66 rule 1 of `m!` fits; 1:20 `$e:expr` in rule 1 of `m!` took \
+            `\"123456789 123456789 123456789 123456789 123456789 123456789\u{2026}`; ",
+    ),
+    (
+        "m { ($e:expr) => {} }",
+        "m!(\"123456789 123456789 123456789 123456789 123456789 12345678\");",
+        "2:64 rule 1 of `m!` fits; 1:20 `$e:expr` in rule 1 of `m!` took \
+            `\"123456789 123456789 123456789 123456789 123456789 12345678\"`; ",
+    ),
+    (
+        "m { ($e:expr) => {} }",
+        "m!(\"123456789 123456789 123456789 123456789 123456789 1234567\u{6f22}\u{6f22}\");",
+        "2:65 rule 1 of `m!` fits; 1:20 `$e:expr` in rule 1 of `m!` took \
+            `\"123456789 123456789 123456789 123456789 123456789 1234567\u{6f22}\u{2026}`; ",
     ),
 ];
 
@@ -272,7 +314,8 @@ note: `=` in rule 2 of `pair!`
 
 static SECOND: &str = "\
 2:36 rule 1 of `pair!` doesn't go on here: it wants `=>`; 1:31 `=>` in rule 1 of `pair!`; \
-2:43 rule 2 of `pair!` fits; ";
+2:43 rule 2 of `pair!` fits; 1:52 `$k:ident` in rule 2 of `pair!` took `b`; \
+1:63 `$v:expr` in rule 2 of `pair!` took `2 + 3`; ";
 
 fn at(line: usize, column: Option<usize>) -> Asked {
     Asked::Explained(Some(Position { line, column }))

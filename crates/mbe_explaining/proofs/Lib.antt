@@ -1,1 +1,2 @@
 pub mod SpanLemmas
+pub mod ExcerptLemmas

@@ -1,2 +1,3 @@
+pub mod Excerpt
 pub mod Saying
 pub mod SpanAt

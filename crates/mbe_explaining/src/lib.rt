@@ -1,6 +1,7 @@
 // Why a rule doesn't fit a call: where a position of an argument is, and what a pattern wants there, as text.
 #![tactic(auto)]
 
+pub mod excerpt;
 pub mod places;
 pub mod saying;
 pub mod texts;

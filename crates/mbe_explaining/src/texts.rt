@@ -74,7 +74,8 @@ fn puncts_quoted<A: Allocator + Copy>(alloc: A, puncts: &[Punct]) -> Result<Stri
     format!(in alloc; "`{chars}`")
 }
 
-fn variable_text<A: Allocator>(
+/// A variable of a pattern, as `$x:expr`, in backquotes; `?` is the specifier where it is unknown. `AllocError` if out of memory.
+pub fn variable_text<A: Allocator>(
     alloc: A,
     name: &str,
     kind: Option<MetaVarKind>,

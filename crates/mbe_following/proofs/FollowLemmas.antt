@@ -126,8 +126,17 @@ module_put m d content old =
 pub one_open : (a b c e n : Levels) (f g h : Forest) (d : Delimiter) → 0 < length a → b ≡ put f a → c ≡ put g b
     → e ≡ (d, none) ∷ c → n ≡ put h e → 1 < length n
 one_open a b c e n f g h d some hb hc he hn =
-    omega (arith, some, ap length hb, length-put a f, ap length hc, length-put b g, ap length he, ap length hn,
-    length-put e h)
+    omega (
+      arith,
+      some,
+      ap length hb,
+      length-put a f,
+      ap length hc,
+      length-put b g,
+      ap length he,
+      ap length hn,
+      length-put e h,
+    )
 
 abbrev pub not_closed : Delimiter → Delimiter
 not_closed d = record { opening = d.opening; close = d.opening; kind = d.kind }

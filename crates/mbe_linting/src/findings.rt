@@ -28,7 +28,7 @@ pub enum Finding<'a, A: Allocator = Global> {
 }
 
 // The first variable of that name.
-fn first_of_name<'a>(name: &str, bound: &[Bound<'a>]) -> Option<Bound<'a>>
+pub fn first_of_name<'a>(name: &str, bound: &[Bound<'a>]) -> Option<Bound<'a>>
     ensures { option_map bound_seen result ≡ spec.first_of_name name.now (map bound_seen bound.now) }
 {
     for one in bound {

@@ -31,7 +31,7 @@ pub struct Used<'a> {
     pub place: Option<Span>,
 }
 
-fn one_deeper(depth: usize) -> Result<usize, AllocError>
+pub fn one_deeper(depth: usize) -> Result<usize, AllocError>
     ensures { IfOk result (λ deeper. deeper ≡ depth + 1) }
 {
     depth.checked_add(1).ok_or(AllocError)

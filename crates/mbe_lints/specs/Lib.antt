@@ -2,6 +2,7 @@ pub mod Definitions
 pub mod Lint
 pub mod Lints
 pub mod Nearest
+pub mod Reaching
 pub mod Read
 pub mod Shown
 pub mod Wording

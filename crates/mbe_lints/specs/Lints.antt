@@ -10,7 +10,9 @@ use Rattle.mbe_semantics.specs.Expansion.Macro.{Macro}
 use Rattle.mbe_semantics.specs.Expansion.ReadAs.{IsReadAs, IsReadAsMacro}
 use Rattle.mbe_calls.specs.Fronts.{Form, Rules, Body, Arguments, Defined}
 use Rattle.mbe_linting.specs.Findings.{findings}
+use Rattle.mbe_reaching.specs.Reaching.{unreached}
 use Rattle.mbe_lints.specs.Lint.{Lint, error_at}
+use Rattle.mbe_lints.specs.Reaching.{unreached_lints}
 use Rattle.mbe_lints.specs.Wording.{findings_lints}
 
 -- why it is refused, if it is
@@ -24,9 +26,11 @@ abbrev pub rules_lints : Defined → List Rule → List Lint
 rules_lints d [] = []
 rules_lints d (r ∷ rs) = findings_lints d (findings r.reads r.writes) ++ rules_lints d rs
 
--- of a definition that is read so, that it is refused, and then what is found of the rules that were read
+-- of a definition that is read so, that it is refused, then what is found of the rules that were read, and which of them
+-- no call reaches
 abbrev pub macro_lints : Defined → Macro → List Lint
-macro_lints d m = refusal_lints d.name m.err ++ rules_lints d m.rules
+macro_lints d m =
+    refusal_lints d.name m.err ++ (rules_lints d m.rules ++ unreached_lints d (unreached m.rules))
 
 module _ (HasEdition : SyntaxContext → Edition → Type 0) where
   -- what a definition is read as: its rules up to the first fault, and that fault

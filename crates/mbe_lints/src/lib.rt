@@ -5,6 +5,7 @@ pub mod definitions;
 pub mod lint;
 pub mod linting;
 pub mod nearest;
+pub mod reaching;
 pub mod reading;
 pub mod shown;
 pub mod wording;

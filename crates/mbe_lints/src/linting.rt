@@ -16,12 +16,14 @@ ghost use Rattle.mbe_lints.specs.Read.{macro_read};
 
 use crate::definitions::definitions;
 use crate::lint::{Lint, push};
+use crate::reaching::push_all_unreached;
 use crate::reading::{ReadMacro, read};
 use crate::wording::push_finding;
 use mbe_calls::calls::Defined;
 use mbe_diagnostics::diagnostic::Level;
 use mbe_errors::error::ParseError;
 use mbe_linting::findings::{Finding, findings};
+use mbe_reaching::reaching::unreached;
 use mbe_parser::rules::Rule;
 use mbe_tt::span::{Edition, SyntaxContext};
 use mbe_tt::tt::{Ident, TokenTreesView};
@@ -88,7 +90,9 @@ fn push_macro<A: Allocator + Copy>(
         ++ macro_lints (defined_shown defined.entry) (macro_read read.now)) }
 {
     push_refusal(alloc, lints, defined.name, read.err.as_ref())?;
-    push_rules(alloc, lints, defined, read.rules.as_slice())
+    push_rules(alloc, lints, defined, read.rules.as_slice())?;
+    let beyond = unreached(alloc, read.rules.as_slice())?;
+    push_all_unreached(alloc, lints, defined, beyond.as_slice())
 }
 
 // Adds what is said of a definition.
@@ -127,9 +131,9 @@ fn push_definitions<A: Allocator + Copy, E: Copy + Fn(SyntaxContext) -> Edition>
 }
 
 /// Adds what is said of the definitions among these trees, in the order of the text: of each that it is refused and why, at its name,
-/// and then what is found of each of its rules up to the first fault, in the order of `mbe_linting::findings`. `ctx_edition` returns
-/// the edition of a context; it decides what `pat` and `expr` mean. `AllocError` if out of memory, or if groups and repetitions of a
-/// rule are too deep in one another.
+/// then what is found of each of its rules up to the first fault, in the order of `mbe_linting::findings`, and then which of these
+/// rules no call reaches, by `mbe_reaching::reaching`. `ctx_edition` returns the edition of a context; it decides what `pat` and
+/// `expr` mean. `AllocError` if out of memory, or if groups and repetitions of a rule are too deep in one another.
 pub fn push_lints<A: Allocator + Copy, E: Copy + Fn(SyntaxContext) -> Edition>(
     alloc: A,
     ctx_edition: E,

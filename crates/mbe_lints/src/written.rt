@@ -32,7 +32,7 @@ fn begins_at<A: Allocator>(place: Span, name: &Ident<A>) -> bool
 }
 
 // From where one span starts to where another ends.
-fn up_to(start: Span, end: Span) -> Span
+pub(crate) fn up_to(start: Span, end: Span) -> Span
     ensures { result ≡ spec.up_to start end }
 {
     Span {

@@ -17,14 +17,16 @@ use Rattle.mbe_semantics.specs.Matching.Settled.{after_of, first_width}
 use Rattle.mbe_matcher.specs.declared.ends.Failed.{Failed}
 use Rattle.mbe_matcher.specs.declared.ends.Visit as declared
 use Rattle.mbe_matcher.specs.declared.ends.Visit.TheVariants as variants
-use Rattle.mbe_matcher.specs.declared.position.Outer.{Outer}
-use Rattle.mbe_matcher.specs.declared.position.Position.{Position}
-use Rattle.mbe_matcher.specs.declared.position.Waiting.{Waiting}
+use Rattle.mbe_places.specs.declared.position.Outer.{Outer}
+use Rattle.mbe_places.specs.declared.position.Position.{Position}
+use Rattle.mbe_places.specs.declared.position.Waiting.{Waiting}
 use Rattle.mbe_matcher.specs.declared.report.Report.{Report}
-use Rattle.mbe_matcher.specs.Positions.{Each, IsLeft, Shows, LeadsTo, Holds, Keeps}
+use Rattle.mbe_matcher.specs.Positions.{Each, Shows, LeadsTo, Holds, Keeps}
+use Rattle.mbe_places.specs.After.{IsLeft}
 use Rattle.mbe_matcher.specs.Failures.{Misfit, Notes, no_notes, misfit, noted_with, AreNotes}
 use Rattle.mbe_matcher.specs.Reports.{IsReportOf}
-use Rattle.mbe_matcher.specs.Matched.{IsAtStart, position_after}
+use Rattle.mbe_matcher.specs.Matched.{IsAtStart}
+use Rattle.mbe_places.specs.Stops.{position_after}
 use Rattle.mbe_matcher.specs.TwoEnds.{enter, only_first, kept_first, kept_back, first_moves, back_moves, kept_noted, EndsFollow, follow_start, follow_next}
 use Rattle.mbe_matcher.specs.EndsMatched.{IsHere, VisitShows, IsFirstStack, IsLastStack, AreFirsts, AreLasts, FirstFails, visit_after}
 use Rattle.mbe_matcher.proofs.Keeping.{each_weaker, each_append, leads_keep, holds_keep}

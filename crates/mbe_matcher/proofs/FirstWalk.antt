@@ -13,10 +13,10 @@ use Rattle.mbe_semantics.specs.Matching.Dots.{dots, outline_number}
 use Rattle.mbe_semantics.specs.Matching.Outline.{Outline, idle_of, next_of, finished_of}
 use Rattle.mbe_bounds.specs.Bounded.TwoEach.{times}
 use Rattle.mbe_ops.specs.Views.{ops_of}
-use Rattle.mbe_matcher.specs.declared.position.Outer.{Outer}
-use Rattle.mbe_matcher.specs.declared.position.Position.{Position}
-use Rattle.mbe_matcher.specs.declared.position.Steps.{Steps}
-use Rattle.mbe_matcher.specs.declared.position.Waiting.{Waiting}
+use Rattle.mbe_places.specs.declared.position.Outer.{Outer}
+use Rattle.mbe_places.specs.declared.position.Position.{Position}
+use Rattle.mbe_places.specs.declared.position.Steps.{Steps}
+use Rattle.mbe_places.specs.declared.position.Waiting.{Waiting}
 use Rattle.mbe_matcher.specs.declared.report.Report.{Report}
 use Rattle.mbe_matcher.specs.Positions.{Each, Shows, IsPosition, LeadsTo, Holds, AreSteps}
 use Rattle.mbe_matcher.specs.Failures.{Misfit, Notes, misfit, misfit_unless, ops_left, bound_by}

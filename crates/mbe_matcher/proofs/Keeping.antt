@@ -7,9 +7,9 @@ use Rattle.mbe_semantics.specs.Bindings.Account.{Commands, Log, Handle}
 use Rattle.mbe_semantics.specs.Matching.Outline.{Edge, Outline, outline, Advance, advance}
 use Rattle.mbe_log.specs.Shared.{IsKept}
 use Rattle.mbe_log.proofs.ClientLemmas.{kept-on}
-use Rattle.mbe_matcher.specs.declared.position.Position.{Position}
-use Rattle.mbe_matcher.specs.declared.position.Outer.{Outer}
-use Rattle.mbe_matcher.specs.declared.position.Waiting.{Waiting}
+use Rattle.mbe_places.specs.declared.position.Position.{Position}
+use Rattle.mbe_places.specs.declared.position.Outer.{Outer}
+use Rattle.mbe_places.specs.declared.position.Waiting.{Waiting}
 use Rattle.mbe_matcher.specs.Positions.{Each, Both, Grows, AreEdges, none_open, group_open, repetition_open, Shows, LeadsTo, Holds, Keeps}
 
 -- ---- lists

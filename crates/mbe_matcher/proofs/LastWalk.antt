@@ -18,10 +18,10 @@ use Rattle.mbe_matcher.specs.declared.ends.Failed.{Failed}
 use Rattle.mbe_matcher.specs.declared.ends.Left.{Left}
 use Rattle.mbe_matcher.specs.declared.ends.Visit as declared
 use Rattle.mbe_matcher.specs.declared.ends.Visit.TheVariants as variants
-use Rattle.mbe_matcher.specs.declared.position.Outer.{Outer}
-use Rattle.mbe_matcher.specs.declared.position.Position.{Position}
-use Rattle.mbe_matcher.specs.declared.position.Steps.{Steps}
-use Rattle.mbe_matcher.specs.declared.position.Waiting.{Waiting}
+use Rattle.mbe_places.specs.declared.position.Outer.{Outer}
+use Rattle.mbe_places.specs.declared.position.Position.{Position}
+use Rattle.mbe_places.specs.declared.position.Steps.{Steps}
+use Rattle.mbe_places.specs.declared.position.Waiting.{Waiting}
 use Rattle.mbe_matcher.specs.declared.report.Report.{Report}
 use Rattle.mbe_matcher.specs.Positions.{Each, Both, Shows, IsPosition, LeadsTo, Holds, AreSteps, Keeps}
 use Rattle.mbe_matcher.specs.Failures.{Misfit, Notes, has_step, misfit, misfit_unless, ops_left, bound_by}

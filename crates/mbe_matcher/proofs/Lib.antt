@@ -1,11 +1,8 @@
-pub mod WholeFronts
 pub mod Keeping
-pub mod Sources
 pub mod FrontLemmas
 pub mod Widths
 pub mod SkipLemmas
 pub mod StepLemmas
-pub mod Counting
 pub mod Whole
 pub mod Settling
 pub mod MatchEnds

@@ -13,10 +13,10 @@ use Rattle.mbe_semantics.specs.Matching.Outline.{Outline, Advance, advance, idle
 use Rattle.mbe_bounds.specs.Bounded.TwoEach.{times}
 use Rattle.mbe_bounds.specs.Loop.Kept.{kept}
 use Rattle.mbe_bounds.proofs.Loop.TurnedLoop.{KeepsTo, turned_keeps, turned_done, turned_number, turned_drop, turned_take}
-use Rattle.mbe_matcher.specs.declared.position.Outer.{Outer}
-use Rattle.mbe_matcher.specs.declared.position.Position.{Position}
-use Rattle.mbe_matcher.specs.declared.position.Steps.{Steps}
-use Rattle.mbe_matcher.specs.declared.position.Waiting.{Waiting}
+use Rattle.mbe_places.specs.declared.position.Outer.{Outer}
+use Rattle.mbe_places.specs.declared.position.Position.{Position}
+use Rattle.mbe_places.specs.declared.position.Steps.{Steps}
+use Rattle.mbe_places.specs.declared.position.Waiting.{Waiting}
 use Rattle.mbe_matcher.specs.declared.wanting.Step.{Step}
 use Rattle.mbe_matcher.specs.declared.wanting.Wanted as code
 use Rattle.mbe_matcher.specs.declared.wanting.Way.{Way}

@@ -16,15 +16,17 @@ use Rattle.mbe_semantics.specs.Matching.Settled.{clash_with, clash, after_of, fi
 use Rattle.mbe_bounds.specs.Loop.Kept.{kept_moves, kept_ends}
 use Rattle.mbe_bounds.proofs.Loop.TurnedPlaces.{ComesTo, turned_start, turned_clash, turned_none, turned_end, turned_binds, turned_next}
 use Rattle.mbe_log.proofs.ClientLemmas.{has_entries}
-use Rattle.mbe_matcher.specs.declared.places.Stop.{Stop}
-use Rattle.mbe_matcher.specs.declared.places.Stop.TheVariants as variants
-use Rattle.mbe_matcher.specs.declared.position.Outer.{Outer}
-use Rattle.mbe_matcher.specs.declared.position.Position.{Position}
-use Rattle.mbe_matcher.specs.declared.position.Waiting.{Waiting}
-use Rattle.mbe_matcher.specs.Positions.{Each, IsLeft, Shows, LeadsTo, Holds}
+use Rattle.mbe_places.specs.declared.stops.Stop.{Stop}
+use Rattle.mbe_places.specs.declared.stops.Stop.TheVariants as variants
+use Rattle.mbe_places.specs.declared.position.Outer.{Outer}
+use Rattle.mbe_places.specs.declared.position.Position.{Position}
+use Rattle.mbe_places.specs.declared.position.Waiting.{Waiting}
+use Rattle.mbe_matcher.specs.Positions.{Each, Shows, LeadsTo, Holds}
+use Rattle.mbe_places.specs.After.{IsLeft}
 use Rattle.mbe_matcher.specs.Failures.{no_notes}
 use Rattle.mbe_matcher.proofs.Whole.{WholeWith, whole_first}
-use Rattle.mbe_matcher.specs.Matched.{IsStack, IsAtStart, AreSettled, clashes_with, is_clash, width_first, position_after, ends_as, stuck_at, stop_at, verdict_in, reading_in, Binds}
+use Rattle.mbe_matcher.specs.Matched.{IsStack, IsAtStart, AreSettled, Binds}
+use Rattle.mbe_places.specs.Stops.{clashes_with, is_clash, width_first, position_after, ends_as, stuck_at, stop_at, verdict_in, reading_in}
 
 -- ---- the positions that go on
 

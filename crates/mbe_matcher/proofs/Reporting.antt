@@ -13,9 +13,9 @@ use Rattle.mbe_log.proofs.ClientLemmas as client
 use Rattle.mbe_matcher.specs.declared.report.Report.{Report}
 use Rattle.mbe_matcher.specs.declared.report.Last.{Last}
 use Rattle.mbe_matcher.specs.declared.report.Misfit as kept
-use Rattle.mbe_matcher.specs.declared.position.Outer.{Outer}
-use Rattle.mbe_matcher.specs.declared.position.Position.{Position}
-use Rattle.mbe_matcher.specs.declared.position.Steps.{Steps}
+use Rattle.mbe_places.specs.declared.position.Outer.{Outer}
+use Rattle.mbe_places.specs.declared.position.Position.{Position}
+use Rattle.mbe_places.specs.declared.position.Steps.{Steps}
 use Rattle.mbe_matcher.specs.Positions.{Each, Both, Shows, LeadsTo, Holds, AreStepsNow}
 use Rattle.mbe_matcher.specs.Failures.{Misfit, Source, failed, ended, Notes, is_any, has_step, or_first, last_of, source_of, noted_with, is_noted, misfit_unless, ops_left, bound_by}
 use Rattle.mbe_matcher.specs.Reports.{IsLast, IsReport, IsMisfit, IsSource, IsReportOf}

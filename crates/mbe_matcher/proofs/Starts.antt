@@ -26,12 +26,13 @@ use Rattle.mbe_semantics.proofs.InputLemmas.{lawful_input}
 use Rattle.mbe_bounds.specs.Loop.Kept.{kept, kept_moves, kept_ends}
 use Rattle.mbe_bounds.proofs.Loop.TurnedLoop.{KeepsTo, turned_keeps, turned_done, turned_take}
 use Rattle.mbe_bounds.proofs.Loop.TurnedPlaces.{ComesTo, turned_start}
-use Rattle.mbe_matcher.specs.declared.position.Outer.{Outer}
+use Rattle.mbe_places.specs.declared.position.Outer.{Outer}
 use Rattle.mbe_matcher.specs.Fronts.{IsUnlike, BeginsUnlike, is_other, begins_otherwise, failing_first}
 use Rattle.mbe_matcher.specs.Positions.{Each, LeadsTo, Holds}
-use Rattle.mbe_matcher.specs.declared.places.Stop.{Stop}
-use Rattle.mbe_matcher.specs.declared.places.Stop.TheVariants as variants
-use Rattle.mbe_matcher.specs.Matched.{AreSettled, verdict_in, reading_in}
+use Rattle.mbe_places.specs.declared.stops.Stop.{Stop}
+use Rattle.mbe_places.specs.declared.stops.Stop.TheVariants as variants
+use Rattle.mbe_matcher.specs.Matched.{AreSettled}
+use Rattle.mbe_places.specs.Stops.{verdict_in, reading_in}
 use Rattle.mbe_matcher.specs.Failures.{Misfit, Notes, no_notes, noted_at, noted_with, misfit, misfit_unless, has_step, is_any, AreNotes, stop_kind, Reports}
 use Rattle.mbe_matcher.proofs.MatchEnds.{right_stop}
 use Rattle.mbe_matcher.proofs.Whole.{WholeWith, whole_first, whole_sound, whole_notes, FillsAll, fills_first, fills_more, fills_whole}

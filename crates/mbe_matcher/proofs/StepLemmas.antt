@@ -28,12 +28,13 @@ use Rattle.mbe_log.proofs.ClientLemmas as client
 use Rattle.mbe_ops.specs.declared.ops.Op as code
 use Rattle.mbe_ops.specs.declared.ops.Separator as between
 use Rattle.mbe_ops.specs.Views.{IsTaken, op_of, ops_of, separator_seen}
-use Rattle.mbe_matcher.specs.declared.position.Position.{Position}
-use Rattle.mbe_matcher.specs.declared.position.Outer.{Outer}
-use Rattle.mbe_matcher.specs.declared.position.Rounds.{Rounds}
-use Rattle.mbe_matcher.specs.declared.position.Steps.{Steps}
+use Rattle.mbe_places.specs.declared.position.Position.{Position}
+use Rattle.mbe_places.specs.declared.position.Outer.{Outer}
+use Rattle.mbe_places.specs.declared.position.Rounds.{Rounds}
+use Rattle.mbe_places.specs.declared.position.Steps.{Steps}
 use Rattle.mbe_matcher.specs.Fronts.{op_width, if_again}
-use Rattle.mbe_matcher.specs.Positions.{Each, Both, AreRounds, edge_in, AreEdges, none_open, group_open, repetition_open, Outlined, Shows, IsPosition, IsLeft, LeadsTo, Holds, idle_in, AreStepsNow, Keeps, AreSteps, IsPlain, over_steps, IsSkip}
+use Rattle.mbe_matcher.specs.Positions.{Each, Both, AreRounds, edge_in, AreEdges, none_open, group_open, repetition_open, Outlined, Shows, IsPosition, LeadsTo, Holds, idle_in, AreStepsNow, Keeps, AreSteps, IsPlain, over_steps, IsSkip}
+use Rattle.mbe_places.specs.After.{IsLeft}
 use Rattle.mbe_matcher.specs.Rewriting.{IsRewritten}
 use Rattle.mbe_matcher.proofs.Keeping.{kept_not, grows_not, each_weaker, shows_keep, edges_keep}
 

@@ -32,11 +32,12 @@ use Rattle.mbe_bounds.proofs.Run.Moves.{same-clash}
 use Rattle.mbe_bounds.proofs.Run.BoundedRun.{two_each-is, holds_two_each}
 use Rattle.mbe_bounds.proofs.Loop.BoundedPlaces.{erase_held, clash_is}
 use Rattle.mbe_bounds.proofs.Loop.TurnedPlaces.{ComesTo}
-use Rattle.mbe_matcher.specs.declared.position.Outer.{Outer}
-use Rattle.mbe_matcher.specs.declared.position.Waiting.{Waiting}
+use Rattle.mbe_places.specs.declared.position.Outer.{Outer}
+use Rattle.mbe_places.specs.declared.position.Waiting.{Waiting}
 use Rattle.mbe_matcher.specs.declared.wanting.Step.{Step}
 use Rattle.mbe_matcher.specs.declared.wanting.Way.{Way}
-use Rattle.mbe_matcher.specs.Matched.{AreSettled, is_clash, ends_as, stuck_at, stop_at}
+use Rattle.mbe_matcher.specs.Matched.{AreSettled}
+use Rattle.mbe_places.specs.Stops.{is_clash, ends_as, stuck_at, stop_at}
 use Rattle.mbe_matcher.specs.Wanted.{Wanted, closing, separating, reading, before_round, wanted, IsWanted, AreClashing, WayOn, step_of_move, way_of, clashes, both, clash_with, clash_if, first_clash, outline_wants, step_of_advance, outline_way, way_seen, next_in, AreWays, AreWanted, ClashThere}
 use Rattle.mbe_matcher.proofs.MatchEnds.{same_clash}
 

@@ -14,10 +14,10 @@ use Rattle.mbe_semantics.specs.Matching.Dots.{dots}
 use Rattle.mbe_semantics.specs.Matching.Outline.{Outline, erase, idle_of, next_of, finished_of}
 use Rattle.mbe_ops.specs.Views.{ops_of}
 use Rattle.mbe_matcher.specs.declared.met.Met.{Met}
-use Rattle.mbe_matcher.specs.declared.position.Outer.{Outer}
-use Rattle.mbe_matcher.specs.declared.position.Position.{Position}
-use Rattle.mbe_matcher.specs.declared.position.Waiting.{Waiting}
-use Rattle.mbe_matcher.specs.declared.source.Source.{Source}
+use Rattle.mbe_places.specs.declared.position.Outer.{Outer}
+use Rattle.mbe_places.specs.declared.position.Position.{Position}
+use Rattle.mbe_places.specs.declared.position.Waiting.{Waiting}
+use Rattle.mbe_places.specs.declared.source.Source.{Source}
 use Rattle.mbe_matcher.specs.declared.ends.Failed.{Failed}
 use Rattle.mbe_matcher.specs.declared.ends.Firsts.{Firsts}
 use Rattle.mbe_matcher.specs.declared.ends.Lasts.{Lasts}

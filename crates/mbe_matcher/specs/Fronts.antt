@@ -2,7 +2,7 @@
 use Rattle.std.specs.Prelude.{◌≡◌, ℕ, Bool, true, false, ◌&&◌, not, is_some, List, Option, Some, None}
 use Rattle.std.specs.Str.{bytes_eq}
 use Rattle.mbe_tt.specs.Trees.Leaf.{Leaf, ident, literal, punct}
-use Rattle.mbe_tt.specs.Trees.Tree.{Forest, flat_len, append, Cut}
+use Rattle.mbe_tt.specs.Trees.Tree.{Forest, Cut}
 use Rattle.mbe_semantics.specs.Syntax.Op.{Op, token, group, variable, repetition, expression, Ops, no_ops, op}
 use Rattle.mbe_semantics.specs.Readings.Fit.{token_front}
 use Rattle.mbe_semantics.specs.Readings.Input.{length_of, is_opening}
@@ -13,10 +13,6 @@ use Rattle.mbe_semantics.specs.Expansion.Error.{ExpandError}
 use Rattle.mbe_semantics.specs.Expansion.Failing.{failing}
 use Rattle.mbe_semantics.specs.declared.kinds.RepeatKind.{RepeatKind}
 use Rattle.mbe_semantics.specs.declared.kinds.RepeatKind.TheVariants.{ZeroOrMore, OneOrMore, ZeroOrOne}
-
--- after whole trees of so many flat tokens the others are left
-abbrev pub IsAfter : Forest → ℕ → Forest → Type 0
-IsAfter all width beyond = (front : Forest) × (append front beyond ≡ all) × (flat_len front ≡ width)
 
 -- the leaf has this text, as a separator that is a literal looks at it
 abbrev pub has_text : Leaf → List ℕ → Bool

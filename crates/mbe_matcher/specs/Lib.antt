@@ -4,7 +4,6 @@ pub mod Positions
 pub mod Matched
 pub mod Failures
 pub mod Reports
-pub mod Counts
 pub mod States
 pub mod TwoEnds
 pub mod Met

@@ -13,13 +13,13 @@ use Rattle.mbe_semantics.specs.Matching.Dots.{dots, edges_after}
 use Rattle.mbe_semantics.specs.Matching.Outline.{Edge, gate, edge, Outline, outline, Advance, advance, skipped, idle_of, next_of, finished_of}
 use Rattle.mbe_log.specs.Shared.{IsKept}
 use Rattle.mbe_ops.specs.Views.{ops_of, separator_seen}
-use Rattle.mbe_matcher.specs.declared.source.Source.{Source}
-use Rattle.mbe_matcher.specs.declared.position.Position.{Position}
-use Rattle.mbe_matcher.specs.declared.position.Outer.{Outer}
-use Rattle.mbe_matcher.specs.declared.position.Rounds.{Rounds}
-use Rattle.mbe_matcher.specs.declared.position.Waiting.{Waiting}
-use Rattle.mbe_matcher.specs.declared.position.Steps.{Steps}
-use Rattle.mbe_matcher.specs.Fronts.{IsAfter}
+use Rattle.mbe_places.specs.declared.source.Source.{Source}
+use Rattle.mbe_places.specs.declared.position.Position.{Position}
+use Rattle.mbe_places.specs.declared.position.Outer.{Outer}
+use Rattle.mbe_places.specs.declared.position.Rounds.{Rounds}
+use Rattle.mbe_places.specs.declared.position.Waiting.{Waiting}
+use Rattle.mbe_places.specs.declared.position.Steps.{Steps}
+use Rattle.mbe_places.specs.After.{IsLeft}
 
 -- ---- lists, member by member
 
@@ -42,11 +42,6 @@ abbrev pub Grows : {X : Type 0} → List X → List X → Type 0
 Grows {X} old new = (more : List X) × (new ≡ old ++ more)
 
 -- ---- positions
-
--- what is left after a fragment of this width
-abbrev pub IsLeft : Forest → ℕ → Option Forest → Type 0
-IsLeft here width None = Unit {0}
-IsLeft here width (Some beyond) = IsAfter here width beyond
 
 -- an open repetition, with the place where its round began and the account outside
 abbrev pub edge_in : {A : Type 0} → Rounds A → Ops → ℕ → Account → Edge

@@ -17,7 +17,7 @@ use Rattle.mbe_semantics.specs.Matching.Lists.{In}
 use Rattle.mbe_semantics.specs.Matching.Outline.{Outline, erase}
 use Rattle.mbe_bounds.specs.Loop.Kept.{kept as kept_at}
 use Rattle.mbe_ops.specs.Views.{op_of}
-use Rattle.mbe_matcher.specs.declared.source.Source.{Source as Argument}
+use Rattle.mbe_places.specs.declared.source.Source.{Source as Argument}
 use Rattle.mbe_matcher.specs.declared.places.Reached.{Reached}
 use Rattle.mbe_matcher.specs.declared.settle.Settled.{Settled}
 use Rattle.mbe_matcher.specs.declared.settle.State.{State}
@@ -25,7 +25,8 @@ use Rattle.mbe_matcher.specs.declared.report.Misfit as kept
 use Rattle.mbe_matcher.specs.declared.report.Report.{Report}
 use Rattle.mbe_matcher.specs.declared.report.Last.{Last}
 use Rattle.mbe_matcher.specs.Positions.{Both, Holds}
-use Rattle.mbe_matcher.specs.Matched.{AreSettledAt, verdict_in}
+use Rattle.mbe_matcher.specs.Matched.{AreSettledAt}
+use Rattle.mbe_places.specs.Stops.{verdict_in}
 use Rattle.mbe_matcher.specs.Failures.{Misfit, Source, failed, ended, Notes, is_any, or_first, source_of, noted_at, AreNotes, Reports}
 
 -- what is to be reported of the bindings is in the log

@@ -20,8 +20,8 @@ use Rattle.mbe_matcher.specs.declared.wanting.Step.{Step}
 use Rattle.mbe_matcher.specs.declared.wanting.Way as declared
 use Rattle.mbe_matcher.specs.declared.wanting.Wanted as code
 use Rattle.mbe_matcher.specs.declared.wanting.Wanted.TheVariants as variants
-use Rattle.mbe_matcher.specs.declared.position.Outer.{Outer}
-use Rattle.mbe_matcher.specs.declared.position.Position.{Position}
+use Rattle.mbe_places.specs.declared.position.Outer.{Outer}
+use Rattle.mbe_places.specs.declared.position.Position.{Position}
 use Rattle.mbe_matcher.specs.Matched.{IsStack}
 use Rattle.mbe_semantics.specs.Bindings.Account.{Log}
 use Rattle.mbe_semantics.specs.Matching.Dots.{dots}

@@ -8,8 +8,8 @@ ghost use Rattle.mbe_matcher.specs.Fronts.{HasPassed};
 ghost use Rattle.mbe_semantics.specs.Fragments.Takes.{takes, ident_front, lifetime_front, literal_front, tree_front, begins_refused, is_refused_word};
 ghost use Rattle.mbe_ops.specs.Views.{IsTaken};
 
-use crate::fragment::eat_front;
 use mbe_ops::ops::same_chars;
+use mbe_places::fragment::eat_front;
 use mbe_semantics::kinds::{ExprKind, MetaVarKind};
 use mbe_tt::grammar::{FragmentGrammar, PrefixEntryPoint};
 use mbe_tt::tt::{

@@ -12,12 +12,12 @@ ghost use Rattle.mbe_matcher.specs.Rewriting.{IsRewritten};
 ghost use Rattle.mbe_matcher.specs.Failures.{is_noted};
 
 use crate::eat::begins_refused;
-use crate::fragment::{eat_front, expect_fragment};
-use crate::source::Source;
 use mbe_errors::error::{ExpandError, ExpandErrorKind};
 use mbe_log::fragment::of_kind;
 use mbe_log::log::{BindingLog, Handle, again};
 use mbe_ops::ops::Op;
+use mbe_places::fragment::{eat_front, expect_fragment};
+use mbe_places::source::Source;
 use mbe_semantics::kinds::MetaVarKind;
 use mbe_tt::grammar::{FragmentGrammar, PrefixEntryPoint};
 use mbe_tt::span::DelimSpan;

@@ -1,19 +1,19 @@
 // All steps at one place over no flat token.
 ghost use Rattle.std.specs.Prelude.{◌≡◌, ◌+◌, ◌++◌, ◌≤◌, [], false, length, option_to_list, IfOk, OnOk};
 ghost use Rattle.mbe_semantics.specs.Bindings.Account.{Log};
-ghost use Rattle.mbe_matcher.specs.Counts.{AreBlankFrom};
+ghost use Rattle.mbe_places.specs.Counts.{AreBlankFrom};
 ghost use Rattle.mbe_matcher.specs.States.{KeepsState};
 ghost use Rattle.mbe_matcher.specs.Matched.{IsStackAt, dots_in};
 ghost use Rattle.mbe_matcher.specs.Reports.{IsReportOf, Settles};
 ghost use Rattle.mbe_matcher.specs.Failures.{no_notes};
 ghost use Rattle.mbe_tt.specs.Trees.Tree.{Forest};
 
-use crate::counts::Counts;
-use crate::position::{Outer, Todo, Waiting};
 use crate::report::Report;
-use crate::source::Source;
 use crate::steps::steps;
 use mbe_log::log::{BindingLog, Handle, again};
+use mbe_places::counts::Counts;
+use mbe_places::position::{Outer, Todo, Waiting};
+use mbe_places::source::Source;
 use mbe_tt::grammar::FragmentGrammar;
 use smallvec::SmallVec;
 use std::alloc::{AllocError, Allocator, Global};

@@ -10,12 +10,12 @@ ghost use Rattle.mbe_matcher.specs.Positions.{IsPosition, IsPlain, GivesSteps, G
 
 use crate::eat::eat_fragment;
 use crate::fronts::{between_width, opens, token_width};
-use crate::position::{Outer, Position, Rounds, Steps, Waiting};
 use crate::skipping::{dots_of, skip_names};
-use crate::source::Source;
 use mbe_log::fragment::of_kind;
 use mbe_log::log::{BindingLog, again, emptied};
 use mbe_ops::ops::{Op, Separator};
+use mbe_places::position::{Outer, Position, Rounds, Steps, Waiting};
+use mbe_places::source::Source;
 use mbe_semantics::kinds::{MetaVarKind, RepeatKind};
 use mbe_tt::grammar::FragmentGrammar;
 use mbe_tt::symbol::Symbol;

@@ -18,7 +18,8 @@ use Rattle.mbe_semantics.specs.Expansion.Error.{ExpandError}
 use Rattle.mbe_semantics.specs.Expansion.Expansion.{IsExpansion}
 use Rattle.mbe_semantics.specs.Expansion.Macro.{Expands}
 use Rattle.mbe_tt.specs.Trees.Top.{Top}
-use Rattle.mbe_transcriber.specs.Faults.{variable_fault, extent_fault, joined}
+use Rattle.mbe_transcriber.specs.Faults.{variable_fault, joined}
+use Rattle.mbe_variables.specs.Lost.{extent_fault}
 use Rattle.mbe_transcriber.specs.Beside.{unless, name_left, AreRoundsLeft, AreAllRoundsLeft, LeavesExpression, Leaves, LeaveAll, IsWhatIsLeft}
 use Rattle.mbe.specs.Recovering.{Recovers}
 use Rattle.mbe.specs.OneAnswer.{IsAnswer}

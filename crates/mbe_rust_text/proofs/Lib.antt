@@ -1,2 +1,3 @@
+pub mod ClosedLemmas
 pub mod IndentLemmas
 pub mod WalkLemmas

@@ -1,6 +1,6 @@
 -- Doc comments among trees: the attributes `#[doc = r".."]` and `#![doc = r".."]` that the lexer makes of `/// ..` and
--- `//! ..`.
-use Rattle.std.specs.Prelude.{ℕ, ◌==◌, Bool, true, false, not, ◌&&◌, ◌||◌, if◌then◌else◌, codes, List, [], ◌∷◌, Option, Some, None, option_and_then}
+-- `//! ..`, and of `/** .. */` and `/*! .. */`.
+use Rattle.std.specs.Prelude.{ℕ, suc, ◌-◌, ◌==◌, Bool, true, false, not, ◌&&◌, ◌||◌, if◌then◌else◌, codes, chars, List, [], ◌∷◌, Option, Some, None, option_and_then}
 use Rattle.std.specs.List.{list_any}
 use Rattle.mbe_tt.specs.declared.tt.Punct.{Punct}
 use Rattle.mbe_tt.specs.declared.tt.DelimiterKind.{DelimiterKind}
@@ -11,16 +11,22 @@ use Rattle.mbe_tt.specs.declared.tt.LitKind.{LitKind}
 use Rattle.mbe_tt.specs.declared.tt.LitKind.TheVariants.{Byte, Char, Integer, Float, Str, StrRaw, ByteStr, ByteStrRaw, CStr, CStrRaw, Err}
 use Rattle.mbe_tt.specs.Trees.Leaf.{Ident, Literal, literal, punct, ident, is_text}
 use Rattle.mbe_tt.specs.Trees.Tree.{Forest, none, leaf, group, rest_of, any_ident, front_punct, front_group}
+use Rattle.mbe_text.specs.Characters.{slash, star}
 use Rattle.mbe_text.specs.Tokens.{most_guards}
 use Rattle.mbe_rust_text.specs.Gaps.{is_joint, is_same_place}
 
--- a doc comment of one line: whether it is of what is around it, and its text after `///` or `//!`
+-- a doc comment: whether it is of what is around it, whether it is `/** .. */` or `/*! .. */`, and its text between the
+-- marks
 pub record Comment : Type 0 where
   pub is_inner : Bool
+  pub is_block : Bool
   pub text : List ℕ
 
 abbrev pub is_line_end : ℕ → Bool
 is_line_end byte = byte == 10 || byte == 13
+
+abbrev pub has_line_end : List ℕ → Bool
+has_line_end text = list_any is_line_end text
 
 abbrev pub begins_with_slash : List ℕ → Bool
 begins_with_slash [] = false
@@ -28,7 +34,40 @@ begins_with_slash (byte ∷ bytes) = byte == 47
 
 -- No line ends in the text. `////` is no doc comment.
 abbrev pub is_line : Bool → List ℕ → Bool
-is_line is_inner text = not (list_any is_line_end text) && (is_inner || not (begins_with_slash text))
+is_line is_inner text = not (has_line_end text) && (is_inner || not (begins_with_slash text))
+
+-- ---- block comments
+
+-- the text and the `*/` after it begin with a `*` or a `/`
+abbrev pub begins_with_mark : List ℕ → Bool
+begins_with_mark [] = true
+begins_with_mark (byte ∷ bytes) = byte == star || byte == slash
+
+abbrev pub opens_comment : ℕ → ℕ → Bool
+opens_comment last c = last == slash && c == star
+
+abbrev pub closes_comment : ℕ → ℕ → Bool
+closes_comment last c = last == star && c == slash
+
+-- A block comment ends right after these characters, where so many comments inside it are open before them: each of
+-- these ends there, and no more do. `last` is the character before, unless a mark ends with it. None is a carriage
+-- return.
+abbrev pub is_closed : ℕ → ℕ → List ℕ → Bool
+is_closed last depth [] = depth == 0 && not (last == slash)
+is_closed last depth (c ∷ cs) =
+    if c == 13 then false
+    else if opens_comment last c then is_closed 0 (suc depth) cs
+    else if closes_comment last c then not (depth == 0) && is_closed 0 (depth - 1) cs
+    else is_closed c depth cs
+
+-- The comment ends after the text. `/***` and `/**/` begin no doc comment.
+abbrev pub is_block : Bool → List ℕ → Bool
+is_block is_inner text = (is_inner || not (begins_with_mark text)) && is_closed 0 0 (chars text)
+
+-- one of one line, or of several
+abbrev pub is_comment : Bool → Bool → List ℕ → Bool
+is_comment is_inner false text = is_line is_inner text
+is_comment is_inner true text = is_block is_inner text
 
 -- ---- `doc = r".."`
 
@@ -61,8 +100,9 @@ is_setting name equals l =
 -- the comment that these tokens set, if they are one's
 abbrev pub comment_set : Bool → Ident → Punct → Literal → Option Comment
 comment_set is_inner name equals l =
-    if is_setting name equals l && is_line is_inner l.text_and_suffix
-    then Some (record { is_inner = is_inner; text = l.text_and_suffix })
+    let is_block = has_line_end l.text_and_suffix in
+    if is_setting name equals l && is_comment is_inner is_block l.text_and_suffix
+    then Some (record { is_inner = is_inner; is_block = is_block; text = l.text_and_suffix })
     else None
 
 -- the literal, where there is exactly that tree

@@ -9,4 +9,4 @@ abbrev pub state_of : {A : Type 0} → Writer A → State
 state_of w = record { text = string_bytes w.text; last = w.last; place = w.place; depth = w.depth }
 
 abbrev pub comment_shown : Comment → spec.Comment
-comment_shown c = record { is_inner = c.is_inner; text = c.text.now }
+comment_shown c = record { is_inner = c.is_inner; is_block = c.is_block; text = c.text.now }

@@ -102,13 +102,21 @@ closed s Invisible place = s
 abbrev pub comment_gap : State → Gap
 comment_gap s = gap (not (is_line_start s.last)) false false
 
-abbrev pub comment_marks : Bool → List ℕ
-comment_marks false = codes "///"
-comment_marks true = codes "//!"
+-- of an inner one, and of a block
+abbrev pub comment_marks : Bool → Bool → List ℕ
+comment_marks false false = codes "///"
+comment_marks true false = codes "//!"
+comment_marks false true = codes "/**"
+comment_marks true true = codes "/*!"
 
--- on a line of its own
+abbrev pub comment_end : Bool → List ℕ
+comment_end false = []
+comment_end true = codes "*/"
+
+-- on lines of its own
 abbrev pub comment_text : Comment → ℕ → List ℕ
-comment_text c depth = comment_marks c.is_inner ++ (c.text ++ gap_text gaps.Line depth)
+comment_text c depth =
+    comment_marks c.is_inner c.is_block ++ (c.text ++ (comment_end c.is_block ++ gap_text gaps.Line depth))
 
 abbrev pub a_comment : State → Comment → State
 a_comment s c = record {

@@ -1,6 +1,6 @@
-// Doc comments among trees: the attributes `#[doc = r".."]` and `#![doc = r".."]` that the lexer makes of `/// ..` and `//! ..`.
-ghost use Rattle.std.specs.Prelude.{◌≡◌, option_map};
-ghost use Rattle.std.specs.List.{list_any};
+// Doc comments among trees: the attributes `#[doc = r".."]` and `#![doc = r".."]` that the lexer makes of `/// ..` and `//! ..`, and of
+// `/** .. */` and `/*! .. */`.
+ghost use Rattle.std.specs.Prelude.{◌≡◌, chars, false, option_map};
 ghost use Rattle.mbe_tt.specs.Trees.Tree.{rest_of, skip};
 ghost use Rattle.mbe_tt.specs.Views.Shown.{ident_of, literal_of};
 ghost use Rattle.mbe_tt.specs.Views.View.{trees};
@@ -14,24 +14,27 @@ use mbe_tt::tt::{
 };
 use std::alloc::Allocator;
 
-// A doc comment of one line.
+// A doc comment.
 #[derive(Clone, Copy, Drop)]
 pub(crate) struct Comment<'t> {
     // Whether it is of what is around it, and not of what follows.
     pub(crate) is_inner: bool,
-    // After the `///` or `//!`.
+    // Whether it is `/** .. */` or `/*! .. */`.
+    pub(crate) is_block: bool,
+    // Between its marks.
     pub(crate) text: &'t str,
 }
 
-// Whether no line ends in the text, and it would be a doc comment's: `////` is none.
+// Whether a text in which no line ends would be a doc comment's: `////` is none.
 fn is_line(is_inner: bool, text: &[u8]) -> bool
+    requires { spec.has_line_end text.now ≡ false }
     ensures { result ≡ spec.is_line is_inner text.now }
 {
-    !has_line_end(text) && (is_inner || !begins_with_slash(text))
+    is_inner || !begins_with_slash(text)
 }
 
 fn has_line_end(text: &[u8]) -> bool
-    ensures { result ≡ list_any spec.is_line_end text.now }
+    ensures { result ≡ spec.has_line_end text.now }
 {
     text.iter().any(|byte| *byte == b'\n' || *byte == b'\r')
 }
@@ -42,6 +45,75 @@ fn begins_with_slash(text: &[u8]) -> bool
     match text.first() {
         Some(byte) => *byte == b'/',
         None => false,
+    }
+}
+
+// Whether the text would be a block doc comment's: `/***` and `/**/` begin none.
+fn is_block(is_inner: bool, text: &str) -> bool
+    ensures { result ≡ spec.is_block is_inner text.now }
+{
+    (is_inner || !begins_with_mark(text.as_bytes())) && is_closed(text)
+}
+
+// Whether the text and the `*/` after it begin with a `*` or a `/`.
+fn begins_with_mark(text: &[u8]) -> bool
+    ensures { result ≡ spec.begins_with_mark text.now }
+{
+    match text.first() {
+        Some(byte) => *byte == b'*' || *byte == b'/',
+        None => true,
+    }
+}
+
+fn opens_comment(last: char, char: char) -> bool
+    ensures { result ≡ spec.opens_comment last char }
+{
+    last == '/' && char == '*'
+}
+
+fn closes_comment(last: char, char: char) -> bool
+    ensures { result ≡ spec.closes_comment last char }
+{
+    last == '*' && char == '/'
+}
+
+// Whether a block comment with this text ends right after it: each comment inside it ends in it, and no more end there. It has no
+// carriage return.
+fn is_closed(text: &str) -> bool
+    ensures { result ≡ spec.is_closed 0 0 (chars text.now) }
+{
+    // How many comments inside it are open, and the character before, unless a mark ends with that.
+    let mut depth = 0usize;
+    let mut last = '\0';
+    for char in text.chars() {
+        if char == '\r' {
+            return false;
+        }
+        if opens_comment(last, char) {
+            depth = depth.saturating_add(1);
+            last = '\0';
+        } else if closes_comment(last, char) {
+            if depth == 0 {
+                return false;
+            }
+            depth -= 1;
+            last = '\0';
+        } else {
+            last = char;
+        }
+    }
+    depth == 0 && last != '/'
+}
+
+// Whether the text would be a doc comment's, of several lines or of one.
+fn is_comment(is_inner: bool, block: bool, text: &str) -> bool
+    requires { block ≡ spec.has_line_end text.now }
+    ensures { result ≡ spec.is_comment is_inner block text.now }
+{
+    if block {
+        is_block(is_inner, text)
+    } else {
+        is_line(is_inner, text.as_bytes())
     }
 }
 
@@ -89,8 +161,13 @@ fn comment_set<'t, A: Allocator>(
         ≡ spec.comment_set is_inner (ident_of name.now) equals.now (literal_of literal.now) }
 {
     let text = literal.text_and_suffix.as_str();
-    if is_setting(name, equals, literal) && is_line(is_inner, text.as_bytes()) {
-        Some(Comment { is_inner, text })
+    let is_block = has_line_end(text.as_bytes());
+    if is_setting(name, equals, literal) && is_comment(is_inner, is_block, text) {
+        Some(Comment {
+            is_inner,
+            is_block,
+            text,
+        })
     } else {
         None
     }

@@ -1,8 +1,7 @@
 // Trees as Rust text, a line for each statement, with four spaces for each brace around it.
 //
 // Tokens that stand side by side in one file do so here, unless they would run together. Any other two are kept apart by a space, where
-// they would run together or where people write one; puncts that are taken together stay together. Doc comments of one line are written
-// as such.
+// they would run together or where people write one; puncts that are taken together stay together. Doc comments are written as such.
 ghost use Rattle.std.specs.Prelude.{◌≡◌, ◌++◌, option_map, OnOk, Some};
 ghost use Rattle.std.specs.String.{string_bytes};
 ghost use Rattle.mbe_tt.specs.Views.Shown.{ident_of, literal_of, leaf_of};
@@ -193,15 +192,17 @@ impl<A: Allocator + Copy> Writer<A> {
         }
     }
 
-    // Writes a doc comment, on a line of its own.
+    // Writes a doc comment, on lines of its own.
     fn comment(&mut self, comment: Comment<'_>) -> Result<(), AllocError>
         ensures { OnOk result (state_of self.new
             ≡ spec.a_comment (state_of self.old) (comment_shown comment.entry)) }
     {
         let gap = between(!self.last.is_line_start(), false, false);
         self.space(gap)?;
-        self.text.push_str(comment_marks(comment.is_inner))?;
+        self.text
+            .push_str(comment_marks(comment.is_inner, comment.is_block))?;
         self.text.push_str(comment.text)?;
+        self.text.push_str(comment_end(comment.is_block))?;
         self.space(Gap::Line)?;
         self.last = Last::Start;
         self.place = None;
@@ -221,7 +222,8 @@ impl<A: Allocator + Copy> Writer<A> {
         }
     }
 
-    /// Writes the trees. What the lexer makes of a doc comment of one line is written as that.
+    /// Writes the trees. What the lexer makes of a doc comment is written as one: `/// ..` or `//! ..` where it is of one line, else
+    /// `/** .. */` or `/*! .. */`.
     pub fn trees(&mut self, tokens: TokenTreesView<'_, A>) -> Result<(), AllocError>
         ensures { OnOk result (state_of self.new
             ≡ spec.written (trees tokens.entry) (state_of self.old)) }
@@ -254,10 +256,21 @@ impl<A: Allocator + Copy> Writer<A> {
     }
 }
 
-fn comment_marks(is_inner: bool) -> &'static str
-    ensures { result.now ≡ spec.comment_marks is_inner }
+fn comment_marks(is_inner: bool, is_block: bool) -> &'static str
+    ensures { result.now ≡ spec.comment_marks is_inner is_block }
 {
-    if is_inner { "//!" } else { "///" }
+    match (is_inner, is_block) {
+        (false, false) => "///",
+        (true, false) => "//!",
+        (false, true) => "/**",
+        (true, true) => "/*!",
+    }
+}
+
+fn comment_end(is_block: bool) -> &'static str
+    ensures { result.now ≡ spec.comment_end is_block }
+{
+    if is_block { "*/" } else { "" }
 }
 
 // `$crate` is written as `crate`.

@@ -4,7 +4,7 @@ ghost use Rattle.mbe_tt.specs.Views.View.{trees};
 ghost use Rattle.mbe_stripping.specs.Extents as spec;
 
 use mbe_cfg::fronts::{after_char, after_next_comma, group_at, is_empty};
-use mbe_matcher::fragment::eat_front;
+use mbe_places::fragment::eat_front;
 use mbe_tt::grammar::{FragmentGrammar, PrefixEntryPoint};
 use mbe_tt::tt::{DelimiterKind, TokenTreesView};
 use std::alloc::{AllocError, Allocator};

@@ -19,9 +19,9 @@ use Rattle.mbe_tt.specs.declared.tt.IdentIsRaw.{IdentIsRaw}
 use Rattle.mbe_tt.specs.declared.tt.IdentIsRaw.TheVariants.{Yes, No}
 use Rattle.mbe_tt.specs.declared.tt.DelimiterKind.{DelimiterKind}
 use Rattle.mbe_tt.specs.declared.tt.DelimiterKind.TheVariants.{Parenthesis, Brace, Bracket, Invisible}
-use Rattle.mbe_rust_text.specs.Comments.{Comment, is_line}
+use Rattle.mbe_rust_text.specs.Comments.{Comment, is_comment}
 use Rattle.mbe_rust_text.specs.Gaps.{is_one_of, is_joint, is_prefix, is_colon, keywords, last_punct, may_precede_comment}
-use Rattle.mbe_rust_text.specs.Writing.{State, start, word, a_literal, a_punct, a_comment, opened, comment_marks, comment_text, name_text}
+use Rattle.mbe_rust_text.specs.Writing.{State, start, word, a_literal, a_punct, a_comment, opened, comment_end, comment_marks, comment_text, name_text}
 use Rattle.mbe_rust_text.specs.Writing as writing
 use Rattle.mbe_text.specs.declared.dialect.Dialect.{Dialect}
 use Rattle.mbe_text.specs.declared.dialect.Dialect.TheVariants.{Rust}
@@ -72,9 +72,9 @@ text_utf8 : (e : Edition) (p : Punct) (ts : List FlatToken) (s : State) (c : Com
     → comment_next p ts s ≡ Some c → IsUtf8 c.text
 text_utf8 e p ts s c h m =
     comment_case (λ us x. AreRust e us → IsUtf8 x.text) p ts s c
-    (λ d n v k i q l end us is line r. raw_text_utf8 l
+    (λ d n v k i q l end us is written r. raw_text_utf8 l
     (most_guards 0 l.text_and_suffix) is.no_suffix is.raw r.1.1.1.0.0.0)
-    (λ o d n v m w k i q l end us is line r. raw_text_utf8 l
+    (λ o d n v m w k i q l end us is written r. raw_text_utf8 l
     (most_guards 0 l.text_and_suffix) is.no_suffix is.raw r.1.1.1.1.0.0.0)
     m h
 
@@ -408,7 +408,7 @@ record CommentMakes (e : Edition) (ts : List FlatToken) (c : Comment) (levels wa
   pub rust : AreRust e rest
   pub are_read : AreRead e 0 false rest
   pub utf8 : IsUtf8 c.text
-  pub line : is_line c.is_inner c.text ≡ true
+  pub written : is_comment c.is_inner c.is_block c.text ≡ true
   pub new : Levels
   pub fit : Fit rest new
   pub made_is : levels ≡ made rest new
@@ -437,14 +437,14 @@ outer_makes : (e : Edition) (p : Punct) (ts : List FlatToken) (s : State) (c : C
 outer_makes e p ts s c want r a f m =
     comment_case (λ us x. AreRust e us → AreRead e (more_tokens x.is_inner) false us → Fit (token (punct p) ∷ us) want
     → CommentMakes e us x (made (token (punct p) ∷ us) want) want) p ts s c
-    (λ d hash alone k i q l end us is line rust are fit.
+    (λ d hash alone k i q l end us is written rust are fit.
     let own : Forest = leaf (punct p) (group d (leaf (ident i) (leaf (punct q) (leaf
     (literal l) none))) none) in record {
       rest = us;
       rust = rust.1.1.1.1.1;
       are_read = are;
       utf8 = raw_text_utf8 l (most_guards 0 l.text_and_suffix) is.no_suffix is.raw rust.1.1.1.0.0.0;
-      line = line;
+      written = written;
       new = made (flat own) want;
       fit = fit.1;
       made_is = refl;
@@ -453,14 +453,14 @@ outer_makes e p ts s c want r a f m =
       ahead_is = λ t. refl;
       count_is = λ t. refl;
     })
-    (λ o d hash joint bang alone k i q l end us is line rust are fit.
+    (λ o d hash joint bang alone k i q l end us is written rust are fit.
     let own : Forest = leaf (punct p) (leaf (punct o) (group d (leaf (ident i) (leaf (punct q) (leaf
     (literal l) none))) none)) in record {
       rest = us;
       rust = rust.1.1.1.1.1.1;
       are_read = are;
       utf8 = raw_text_utf8 l (most_guards 0 l.text_and_suffix) is.no_suffix is.raw rust.1.1.1.1.0.0.0;
-      line = line;
+      written = written;
       new = made (flat own) want;
       fit = fit.1;
       made_is = refl;
@@ -505,7 +505,7 @@ comment_comes e file total n go p ts s levels want c r a f same m le =
     let rest : List ℕ = line_gap s.depth ++ more in
     let shape = doc_of c.text c.is_inner in
     let read = read_after e total (token (punct p)) ts s shape rest (rw m
-    (comment_reads e total c s.depth more k.utf8 k.line)) in
+    (comment_reads e total c s.depth more k.utf8 k.written)) in
     let span = span_of_taken file total (taken shape read.from rest) in
     let trees : Forest = doc_trees span c.text c.is_inner in
     let new_is : bare_levels (put trees levels) ≡ k.new =
@@ -636,10 +636,13 @@ some_of e (opening d) ts h = let o = opening_is d.kind h.0 in nonempty (opening_
 some_of e (closing d) ts h = let o = closing_is d.kind h.0 in nonempty (closing_text d.kind) o.char [] o.is.one
 
 comment_some : (c : Comment) (depth : ℕ) → 0 < length (comment_text c depth)
-comment_some c depth = elim c.is_inner as (λ b. 0 < length (comment_marks b ++ (c.text ++ line_gap depth))) [
-  | true ↦ omega arith
-  | false ↦ omega arith
-]
+comment_some c depth = by c.is_inner c.is_block (c.text ++ (comment_end c.is_block ++ line_gap depth))
+  where
+    by : (inner block : Bool) (rest : List ℕ) → 0 < length (comment_marks inner block ++ rest)
+    by true true rest = omega arith
+    by true false rest = omega arith
+    by false true rest = omega arith
+    by false false rest = omega arith
 
 written_some : (e : Edition) (t : FlatToken) (ts : List FlatToken) (s : State) → AreRust e (t ∷ ts)
     → 0 < length (next_written t ts s).text

@@ -16,7 +16,7 @@ use Rattle.mbe_tt.specs.declared.tt.LitKind.TheVariants.{StrRaw}
 use Rattle.mbe_tt.specs.Trees.Leaf.{Ident, Literal, literal, punct, ident}
 use Rattle.mbe_tt.specs.Trees.Tree.{Forest, none, leaf, group, FlatToken, token, opening, closing, flat, flat_len}
 use Rattle.mbe_rust_text.specs.Gaps.{is_joint, may_precede_comment}
-use Rattle.mbe_rust_text.specs.Comments.{Comment, is_line, is_plain, is_raw_string, is_setting, comment_inside, is_bracket, in_brackets, after_hash, after_punct, more_trees}
+use Rattle.mbe_rust_text.specs.Comments.{Comment, has_line_end, is_comment, is_plain, is_raw_string, is_setting, comment_inside, is_bracket, in_brackets, after_hash, after_punct, more_trees}
 use Rattle.mbe_rust_text.specs.Writing.{State, next_comment}
 use Rattle.mbe_text.specs.Tokens.{most_guards}
 use Rattle.mbe_text_laws.specs.Rust.{next_place, set_flat, brackets_flat, hash_flat, punct_flat, more_tokens}
@@ -152,20 +152,24 @@ setting_is i q l h =
     }
 
 abbrev pub set_of : Bool → Literal → Comment
-set_of b l = record { is_inner = b; text = l.text_and_suffix }
+set_of b l = record { is_inner = b; is_block = has_line_end l.text_and_suffix; text = l.text_and_suffix }
+
+-- it may be written as one
+abbrev pub may_be_comment : Bool → List ℕ → Bool
+may_be_comment b text = is_comment b (has_line_end text) text
 
 -- what holds of a comment's tokens
 abbrev pub Setting : (List FlatToken → Comment → Type 0) → Bool → Type 0
 Setting P b =
     (i : Ident) (q : Punct) (l : Literal) (e : Delimiter) (ts : List FlatToken) → IsSetting i q l
-    → is_line b l.text_and_suffix ≡ true
+    → may_be_comment b l.text_and_suffix ≡ true
     → P (token (ident i) ∷ (token (punct q) ∷ (token (literal l) ∷ (closing e ∷ ts)))) (set_of b l)
 
 set_case : (P : List FlatToken → Comment → Type 0) (b : Bool) (ts : List FlatToken) (c : Comment) → Setting P b
     → set_flat b ts ≡ Some c → P ts c
 set_case P b (token (ident i) ∷ (token (punct q) ∷ (token (literal l) ∷ (closing e ∷ ts)))) c k h =
-    let t = if_some (is_setting i q l && is_line b l.text_and_suffix) (Some (set_of b l)) c h in
-    let u = both (is_setting i q l) (is_line b l.text_and_suffix) t.0 in
+    let t = if_some (is_setting i q l && may_be_comment b l.text_and_suffix) (Some (set_of b l)) c h in
+    let u = both (is_setting i q l) (may_be_comment b l.text_and_suffix) t.0 in
     let is = some_same (set_of b l) c t.1 in
     subst (λ x. P (token (ident i) ∷ (token (punct q) ∷ (token (literal l) ∷ (closing e ∷ ts)))) x) is
     (k i q l e ts (setting_is i q l u.0) u.1)
@@ -234,7 +238,7 @@ flat_count (suc n) (group d inside rest) = suc (flat_len inside + suc (flat_coun
 
 inside_len : (b : Bool) (f : Forest) (c : Comment) → comment_inside b f ≡ Some c → (flat_len f ≡ 3) × (c.is_inner ≡ b)
 inside_len b (leaf (ident i) (leaf (punct q) (leaf (literal l) none))) c h =
-    let t = if_some (is_setting i q l && is_line b l.text_and_suffix) (Some (set_of b l)) c h in
+    let t = if_some (is_setting i q l && may_be_comment b l.text_and_suffix) (Some (set_of b l)) c h in
     let same = some_same (set_of b l) c t.1 in (omega arith, sym (ap (λ (x : Comment). x.is_inner) same))
 inside_len b f c h = absurd (cc)
 

@@ -1,5 +1,5 @@
--- A doc comment of one line is read.
-use Rattle.std.proofs.Common.{◌≡◌, ℕ, zero, suc, ◌==◌, ◌<◌, not, ◌&&◌, ◌||◌, Bool, true, false, List, [], ◌∷◌, ◌++◌, length, refl, sym, ap, ◌∙◌, arith, Option, Some, Ok, IsUtf8, IsAscii, chars, encode_utf8, encode_utf8_all, subst, append_assoc, append-nil}
+-- A doc comment is read.
+use Rattle.std.proofs.Common.{◌≡◌, ℕ, zero, suc, ◌==◌, ◌<◌, not, ◌&&◌, ◌||◌, Bool, true, false, List, [], ◌∷◌, ◌++◌, length, refl, sym, ap, ◌∙◌, arith, Option, Some, None, Ok, IsUtf8, IsAscii, chars, encode_utf8, encode_utf8_all, subst, append_assoc, append-nil}
 use Rattle.std.specs.Prelude.{replicate}
 use Rattle.std.specs.List.{list_any}
 use Rattle.std.proofs.lemmas.Bool.Decides.{nat_tests}
@@ -13,20 +13,22 @@ use Rattle.mbe_tt.specs.declared.tt.LitKind.TheVariants.{StrRaw}
 use Rattle.mbe_tt.specs.Trees.Editions.{at_least_2024}
 use Rattle.mbe_tt.specs.Trees.Leaf.{Literal}
 use Rattle.mbe_tt.specs.Trees.Literals as marks
-use Rattle.mbe_rust_text.specs.Comments.{Comment, is_line, is_line_end, begins_with_slash}
+use Rattle.mbe_rust_text.specs.Comments.{Comment, is_comment, is_closed, is_line_end, begins_with_mark, begins_with_slash}
 use Rattle.mbe_rust_text.specs.Gaps.{indent}
-use Rattle.mbe_rust_text.specs.Writing.{comment_marks, comment_text}
+use Rattle.mbe_rust_text.specs.Writing.{comment_end, comment_marks, comment_text}
 use Rattle.mbe_text.specs.declared.dialect.Dialect.TheVariants.{Rust}
 use Rattle.mbe_text.specs.Dialect.{or_sign}
-use Rattle.mbe_text.specs.Rust.{Token, read_rust, is_guard, begins_doc}
+use Rattle.mbe_text.specs.Rust.{Token, read_rust, is_guard, begins_doc, block_doc, doc_until, from_return}
 use Rattle.mbe_text.specs.Shapes.{doc_of}
 use Rattle.mbe_text.specs.Trivia.{past_blanks}
 use Rattle.mbe_text.proofs.LineDocs.{last_mark, line_doc_is}
 use Rattle.mbe_text.proofs.Reading.{literal_written}
 use Rattle.mbe_text_laws.specs.Gaps.{before}
 use Rattle.mbe_text_laws.specs.Rust.{is_start}
+use Rattle.mbe_text_laws.proofs.BlockLemmas.{closed_no_return, ends_after, mark_is_byte}
 use Rattle.mbe_text_laws.proofs.GapLemmas.{nothing_is_ascii, one_more, gap_is_ascii}
-use Rattle.mbe_text_laws.proofs.StepLemmas.{read_here, or_right}
+use Rattle.mbe_text_laws.proofs.QuoteLemmas.{front_of}
+use Rattle.mbe_text_laws.proofs.StepLemmas.{bytes_front, read_here, or_right}
 use Rattle.mbe_text_laws.proofs.ReadLemmas.{Reads, reads_same}
 use Rattle.mbe_text_laws.proofs.TextLemmas.{ascii_utf8}
 
@@ -101,19 +103,85 @@ doc_reads e total b cs tail h k =
           (ap (λ (o : Option Token). or_sign total (47 ∷ all) o) (doc_read e b cs tail h k));
     }
 
+-- ---- one of several lines
+
+-- the third character of its mark
+abbrev block_mark : Bool → ℕ
+block_mark false = 42
+block_mark true = 33
+
+-- after the marks of such a comment
+abbrev begins_block : Bool → List ℕ → Bool
+begins_block is_inner cs = is_inner || not (begins_with_mark cs)
+
+is_a_block : (b : Bool) (cs tail : List ℕ) → begins_block b cs ≡ true
+    → begins_doc (47 ∷ (42 ∷ (block_mark b ∷ (cs ++ (42 ∷ (47 ∷ tail)))))) ≡ true
+is_a_block true cs tail h = refl
+is_a_block false [] tail h = absurd (cc)
+is_a_block false (c ∷ cs) tail h = grind (arith, nat_tests, h)
+
+text_until : (b : Bool) (cs end rest : List ℕ) → from_return cs ≡ None
+    → doc_until b (cs ++ end) end rest ≡ Ok (doc_of (encode_utf8_all cs) b, rest)
+text_until b cs end rest h = rw (doc_until, front_of cs end, h, bytes_front cs end) refl
+
+block_of : (b : Bool) (cs tail : List ℕ) → is_closed 0 0 cs ≡ true
+    → block_doc (47 ∷ (42 ∷ (block_mark b ∷ (cs ++ (42 ∷ (47 ∷ tail))))))
+    ≡ doc_until b (cs ++ (42 ∷ (47 ∷ tail))) (42 ∷ (47 ∷ tail)) tail
+block_of true cs tail h = let e = ends_after cs tail h in rw (block_doc, e) refl
+block_of false cs tail h = let e = ends_after cs tail h in rw (block_doc, e) refl
+
+block_read : (e : Edition) (b : Bool) (cs tail : List ℕ) → begins_block b cs ≡ true → is_closed 0 0 cs ≡ true
+    → read_rust e (47 ∷ (42 ∷ (block_mark b ∷ (cs ++ (42 ∷ (47 ∷ tail))))))
+    ≡ Some (Ok (doc_of (encode_utf8_all cs) b, tail))
+block_read e b cs tail h k =
+    let all : List ℕ = 42 ∷ (block_mark b ∷ (cs ++ (42 ∷ (47 ∷ tail)))) in
+    let guard = no_guard e all in
+    let is = is_a_block b cs tail h in
+    rw (slash_not_start, guard, is) (ap (λ (t : Token). Some t) (block_of b cs tail k
+    ∙ text_until b cs (42 ∷ (47 ∷ tail)) tail (closed_no_return 0 0 cs k)))
+
+block_reads : (e : Edition) (total : ℕ) (b : Bool) (cs tail : List ℕ) → begins_block b cs ≡ true
+    → is_closed 0 0 cs ≡ true
+    → Reads e total (47 ∷ (42 ∷ (block_mark b ∷ (cs ++ (42 ∷ (47 ∷ tail)))))) (doc_of (encode_utf8_all cs) b) tail
+block_reads e total b cs tail h k =
+    let all : List ℕ = 42 ∷ (block_mark b ∷ (cs ++ (42 ∷ (47 ∷ tail)))) in record {
+      from = 47 ∷ all;
+      is = read_here e total 47 all tail (doc_of (encode_utf8_all cs) b)
+          (not_blank e total all (is_a_block b cs tail h))
+          (ap (λ (o : Option Token). or_sign total (47 ∷ all) o) (block_read e b cs tail h k));
+    }
+
 -- ---- bytes
 
-marks_are_ascii : (b : Bool) → IsAscii (comment_marks b)
-marks_are_ascii true =
-    one_more 47 (47 ∷ (33 ∷ [])) (omega arith) (one_more 47 (33 ∷ []) (omega arith) (one_more 33 []
-    (omega arith) nothing_is_ascii))
-marks_are_ascii false =
-    one_more 47 (47 ∷ (47 ∷ [])) (omega arith) (one_more 47 (47 ∷ []) (omega arith) (one_more 47 []
-    (omega arith) nothing_is_ascii))
+-- the second and the third character of a mark
+abbrev second_mark : Bool → ℕ
+second_mark false = 47
+second_mark true = 42
 
-marks_are : (b : Bool) → chars (comment_marks b) ≡ 47 ∷ (47 ∷ (last_mark b ∷ []))
-marks_are true = chars-IsAscii (comment_marks true) (marks_are_ascii true)
-marks_are false = chars-IsAscii (comment_marks false) (marks_are_ascii false)
+abbrev third_mark : Bool → Bool → ℕ
+third_mark is_inner false = last_mark is_inner
+third_mark is_inner true = block_mark is_inner
+
+three_ascii : (b c : ℕ) → b < 128 → c < 128 → IsAscii (47 ∷ (b ∷ (c ∷ [])))
+three_ascii b c h k =
+    one_more 47 (b ∷ (c ∷ [])) (omega arith) (one_more b (c ∷ []) h (one_more c [] k nothing_is_ascii))
+
+marks_are_ascii : (inner block : Bool) → IsAscii (comment_marks inner block)
+marks_are_ascii true false = three_ascii 47 33 (omega arith) (omega arith)
+marks_are_ascii false false = three_ascii 47 47 (omega arith) (omega arith)
+marks_are_ascii true true = three_ascii 42 33 (omega arith) (omega arith)
+marks_are_ascii false true = three_ascii 42 42 (omega arith) (omega arith)
+
+marks_are : (inner block : Bool)
+    → chars (comment_marks inner block) ≡ 47 ∷ (second_mark block ∷ (third_mark inner block ∷ []))
+marks_are true false = chars-IsAscii (comment_marks true false) (marks_are_ascii true false)
+marks_are false false = chars-IsAscii (comment_marks false false) (marks_are_ascii false false)
+marks_are true true = chars-IsAscii (comment_marks true true) (marks_are_ascii true true)
+marks_are false true = chars-IsAscii (comment_marks false true) (marks_are_ascii false true)
+
+end_is_ascii : (block : Bool) → IsAscii (comment_end block)
+end_is_ascii false = nothing_is_ascii
+end_is_ascii true = one_more 42 (47 ∷ []) (omega arith) (one_more 47 [] (omega arith) nothing_is_ascii)
 
 abbrev pub line_gap : ℕ → List ℕ
 line_gap depth = before true false false depth
@@ -121,24 +189,44 @@ line_gap depth = before true false false depth
 line_is_ascii : (depth : ℕ) → IsAscii (line_gap depth)
 line_is_ascii depth = gap_is_ascii depth true false false
 
+-- what follows a comment's text
+abbrev after_text : Bool → ℕ → List ℕ
+after_text block depth = comment_end block ++ line_gap depth
+
+after_utf8 : (block : Bool) (depth : ℕ) → IsUtf8 (after_text block depth)
+after_utf8 block depth =
+    IsUtf8-append (comment_end block) (line_gap depth) (IsUtf8-from_ascii (comment_end block) (end_is_ascii block))
+    (IsUtf8-from_ascii (line_gap depth) (line_is_ascii depth))
+
+after_chars : (block : Bool) (depth : ℕ) → chars (after_text block depth) ≡ after_text block depth
+after_chars block depth =
+    chars-append (comment_end block) (line_gap depth) (IsUtf8-from_ascii (comment_end block) (end_is_ascii block))
+    ∙ (ap (λ (x : List ℕ). x ++ chars (line_gap depth)) (chars-IsAscii (comment_end block) (end_is_ascii block))
+    ∙ ap (λ (x : List ℕ). comment_end block ++ x) (chars-IsAscii (line_gap depth) (line_is_ascii depth)))
+
 pub comment_utf8 : (c : Comment) (depth : ℕ) → IsUtf8 c.text → IsUtf8 (comment_text c depth)
 comment_utf8 c depth h =
-    IsUtf8-append (comment_marks c.is_inner) (c.text ++ line_gap depth)
-    (IsUtf8-from_ascii (comment_marks c.is_inner) (marks_are_ascii c.is_inner))
-    (IsUtf8-append c.text (line_gap depth) h (IsUtf8-from_ascii (line_gap depth) (line_is_ascii depth)))
+    IsUtf8-append (comment_marks c.is_inner c.is_block) (c.text ++ after_text c.is_block depth)
+    (IsUtf8-from_ascii (comment_marks c.is_inner c.is_block) (marks_are_ascii c.is_inner c.is_block))
+    (IsUtf8-append c.text (after_text c.is_block depth) h (after_utf8 c.is_block depth))
 
 pub comment_chars : (c : Comment) (depth : ℕ) (rest : List ℕ) → IsUtf8 c.text
     → chars (comment_text c depth) ++ rest
-    ≡ 47 ∷ (47 ∷ (last_mark c.is_inner ∷ (chars c.text ++ (line_gap depth ++ rest))))
+    ≡ 47 ∷ (second_mark c.is_block ∷ (third_mark c.is_inner c.is_block ∷ (chars c.text
+    ++ (comment_end c.is_block ++ (line_gap depth ++ rest)))))
 comment_chars c depth rest h =
-    let body : List ℕ = c.text ++ line_gap depth in
-    ap (λ (x : List ℕ). x ++ rest)
-    (chars-append (comment_marks c.is_inner) body (IsUtf8-from_ascii (comment_marks c.is_inner)
-    (marks_are_ascii c.is_inner))
-    ∙ (ap (λ (x : List ℕ). x ++ chars body) (marks_are c.is_inner)
-    ∙ ap (λ (x : List ℕ). 47 ∷ (47 ∷ (last_mark c.is_inner ∷ x))) (chars-append c.text (line_gap depth) h
-    ∙ ap (λ (x : List ℕ). chars c.text ++ x) (chars-IsAscii (line_gap depth) (line_is_ascii depth)))))
-    ∙ ap (λ (x : List ℕ). 47 ∷ (47 ∷ (last_mark c.is_inner ∷ x))) (append_assoc (chars c.text) (line_gap depth) rest)
+    let marks : List ℕ = comment_marks c.is_inner c.is_block in
+    let end : List ℕ = after_text c.is_block depth in
+    let second : ℕ = second_mark c.is_block in
+    let third : ℕ = third_mark c.is_inner c.is_block in
+    let shown : chars (comment_text c depth) ≡ 47 ∷ (second ∷ (third ∷ (chars c.text ++ end))) =
+    chars-append marks (c.text ++ end) (IsUtf8-from_ascii marks (marks_are_ascii c.is_inner c.is_block))
+    ∙ (ap (λ (x : List ℕ). x ++ chars (c.text ++ end)) (marks_are c.is_inner c.is_block)
+    ∙ ap (λ (x : List ℕ). 47 ∷ (second ∷ (third ∷ x))) (chars-append c.text end h
+    ∙ ap (λ (x : List ℕ). chars c.text ++ x) (after_chars c.is_block depth))) in
+    ap (λ (x : List ℕ). x ++ rest) shown
+    ∙ ap (λ (x : List ℕ). 47 ∷ (second ∷ (third ∷ x))) (append_assoc (chars c.text) end rest
+    ∙ ap (λ (x : List ℕ). chars c.text ++ x) (append_assoc (comment_end c.is_block) (line_gap depth) rest))
 
 -- a `/` is one byte
 slash_is_byte : (cs : List ℕ) → begins_with_slash (encode_utf8_all cs) ≡ false → begins_with_slash cs ≡ false
@@ -162,24 +250,47 @@ and_left : (x y : Bool) → (not x && y) ≡ true → (x ≡ false) × (y ≡ tr
 and_left true y h = absurd (cc)
 and_left false y h = (refl, h)
 
+both : (x y : Bool) → (x && y) ≡ true → (x ≡ true) × (y ≡ true)
+both true y h = (refl, h)
+both false y h = absurd (cc)
+
+-- the characters of a comment's text
+abbrev IsRead : Edition → ℕ → Bool → Bool → List ℕ → ℕ → List ℕ → Type 0
+IsRead e total inner block cs depth rest =
+    Reads e total (47 ∷ (second_mark block ∷ (third_mark inner block ∷ (cs ++ (comment_end block ++ (line_gap
+    depth ++ rest)))))) (doc_of (encode_utf8_all cs) inner) (line_gap depth ++ rest)
+
+text_reads : (e : Edition) (total : ℕ) (inner block : Bool) (text cs : List ℕ) (depth : ℕ) (rest : List ℕ)
+    → encode_utf8_all cs ≡ text → chars text ≡ cs → is_comment inner block text ≡ true
+    → IsRead e total inner block cs depth rest
+text_reads e total inner false text cs depth rest same shown h =
+    let two = and_left _ _ h in
+    let no : ends cs ≡ false = no_end cs (ap ends same ∙ two.0) in
+    let right : begins_right inner cs ≡ true =
+    or_not inner (begins_with_slash text) (begins_with_slash cs)
+    (λ f. slash_is_byte cs (ap begins_with_slash same ∙ f)) two.1 in
+    doc_reads e total inner cs (indent depth ++ rest) right no
+text_reads e total inner true text cs depth rest same shown h =
+    let two = both _ _ h in
+    let right : begins_block inner cs ≡ true =
+    or_not inner (begins_with_mark text) (begins_with_mark cs)
+    (λ f. mark_is_byte cs (ap begins_with_mark same ∙ f)) two.0 in
+    block_reads e total inner cs (line_gap depth ++ rest) right
+    (ap (λ (x : List ℕ). is_closed 0 0 x) (sym shown) ∙ two.1)
+
 -- a comment that is written is read, up to its line's end
 pub comment_reads : (e : Edition) (total : ℕ) (c : Comment) (depth : ℕ) (rest : List ℕ) → IsUtf8 c.text
-    → is_line c.is_inner c.text ≡ true
+    → is_comment c.is_inner c.is_block c.text ≡ true
     → Reads e total (chars (comment_text c depth) ++ rest) (doc_of c.text c.is_inner) (line_gap depth ++ rest)
 comment_reads e total c depth rest u h =
     let cs = chars c.text in
     let same : encode_utf8_all cs ≡ c.text = encodes-chars c.text u in
-    let two = and_left _ _ h in
-    let no : ends cs ≡ false = no_end cs (ap ends same ∙ two.0) in
-    let right : begins_right c.is_inner cs ≡ true =
-    or_not c.is_inner (begins_with_slash c.text) (begins_with_slash cs)
-    (λ f. slash_is_byte cs (ap begins_with_slash same ∙ f)) two.1 in
     subst (λ (x : List ℕ). Reads e total (chars (comment_text c depth) ++ rest) (doc_of x c.is_inner)
     (line_gap depth ++ rest)) same
-    (reads_same e total (chars (comment_text c depth) ++ rest) (47 ∷ (47 ∷ (last_mark c.is_inner ∷ (cs ++
-    (line_gap depth ++ rest)))))
+    (reads_same e total (chars (comment_text c depth) ++ rest) (47 ∷ (second_mark c.is_block ∷ (third_mark
+    c.is_inner c.is_block ∷ (cs ++ (comment_end c.is_block ++ (line_gap depth ++ rest))))))
     (line_gap depth ++ rest) (doc_of (encode_utf8_all cs) c.is_inner) (comment_chars c depth rest u)
-    (doc_reads e total c.is_inner cs (indent depth ++ rest) right no))
+    (text_reads e total c.is_inner c.is_block c.text cs depth rest same refl h))
 
 -- ---- the text of a raw string
 

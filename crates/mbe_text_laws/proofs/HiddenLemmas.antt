@@ -10,7 +10,6 @@ use Rattle.mbe_tt.specs.declared.tt.Spacing.{Spacing}
 use Rattle.mbe_tt.specs.declared.tt.Spacing.TheVariants.{Alone, Joint}
 use Rattle.mbe_rust_text.specs.Comments.{Comment, is_bracket}
 use Rattle.mbe_rust_text.specs.Gaps.{are_beside, is_before, is_joint}
-use Rattle.mbe_text_laws.specs.Lexed.{FitsRawString, FitRawStrings}
 use Rattle.mbe_text_laws.specs.Rust.{next_place, goes_on, IsBeforeDot, IsJoined, HasSpacing, IsLifetime, IsSign, AreRust, MayHaveFields, MayPrecedeDots, AreRead, set_flat, brackets_flat, hash_flat, comment_after, skipped, joint_after}
 use Rattle.mbe_text_laws.proofs.TokenLemmas.{hidden, hidden_all}
 
@@ -88,27 +87,6 @@ shown e (token (literal l) ∷ ts) h = ((h.0.0, shown_dot e l ts h.0.1), shown e
 shown e (token (punct p) ∷ ts) h = (shown_sign (p.char == 39) e p ts h.0, shown e ts h.1)
 shown e (tree.opening d ∷ ts) h = (h.0, shown e ts h.1)
 shown e (tree.closing d ∷ ts) h = (h.0, shown e ts h.1)
-
-hidden_fits : (t : FlatToken) (ts : List FlatToken) → FitsRawString t ts → FitsRawString (hidden t) (hidden_all ts)
-hidden_fits (token (literal l)) ts h = tt
-hidden_fits (token (punct p)) ts h = tt
-hidden_fits (tree.opening d) ts h = tt
-hidden_fits (tree.closing d) ts h = tt
-hidden_fits (token (ident i)) [] h = tt
-hidden_fits (token (ident i)) (token (literal l) ∷ ts) h = tt
-hidden_fits (token (ident i)) (token (ident j) ∷ ts) h = tt
-hidden_fits (token (ident i)) (tree.opening d ∷ ts) h = tt
-hidden_fits (token (ident i)) (tree.closing d ∷ ts) h = tt
-hidden_fits (token (ident i)) (token (punct q) ∷ []) h = tt
-hidden_fits (token (ident i)) (token (punct q) ∷ (token (punct p) ∷ ts)) h = tt
-hidden_fits (token (ident i)) (token (punct q) ∷ (token (ident j) ∷ ts)) h = tt
-hidden_fits (token (ident i)) (token (punct q) ∷ (tree.opening d ∷ ts)) h = tt
-hidden_fits (token (ident i)) (token (punct q) ∷ (tree.closing d ∷ ts)) h = tt
-hidden_fits (token (ident i)) (token (punct q) ∷ (token (literal l) ∷ ts)) h = h
-
-pub hidden_fit : (ts : List FlatToken) → FitRawStrings ts → FitRawStrings (hidden_all ts)
-hidden_fit [] h = tt
-hidden_fit (t ∷ ts) h = (hidden_fits t ts h.0, hidden_fit ts h.1)
 
 hidden_set : (b : Bool) (ts : List FlatToken) → set_flat b (hidden_all ts) ≡ set_flat b ts
 hidden_set b [] = refl

@@ -16,13 +16,13 @@ use Rattle.mbe_text.specs.Division.{Taken, next_token, span_of_taken, item_taken
 use Rattle.mbe_text.specs.Faults.{fault_at}
 use Rattle.mbe_text.specs.Tokens.{bytes_of, ended}
 use Rattle.mbe_text.specs.Trivia.{after_head}
-use Rattle.mbe_text_laws.specs.Lexed.{FitRawStrings, LexedAreRust, TextComesBack}
+use Rattle.mbe_text_laws.specs.Lexed.{LexedAreRust, TextComesBack}
 use Rattle.mbe_text_laws.specs.Rust.{AreRust, AreRead}
 use Rattle.mbe_text_laws.proofs.BackLemmas.{one_step, trees_come_back}
 use Rattle.mbe_text_laws.proofs.BlankTailLemmas.{tail_shorter, head_tail}
 use Rattle.mbe_text_laws.proofs.TokenLemmas.{hidden_all, tokens_of, Tokens, last, more, next_cut, next_tail, next_shorter, Fits, fits_tail}
 use Rattle.mbe_text_laws.proofs.GroupLemmas.{flat_levels, grows}
-use Rattle.mbe_text_laws.proofs.HiddenLemmas.{shown, hidden_fit, shown_read}
+use Rattle.mbe_text_laws.proofs.HiddenLemmas.{shown, shown_read}
 use Rattle.mbe_text_laws.proofs.LineLemmas.{literals_are_read}
 use Rattle.mbe_text_laws.proofs.RustLemmas.{are_rust}
 
@@ -142,7 +142,7 @@ trees_levels e file text top (Ok levels) k h =
     (levels, k, closed_flat e end fault levels top (sym w ∙ h))
 
 pub lexed_are_rust : LexedAreRust
-lexed_are_rust e file text top u h fit =
+lexed_are_rust e file text top u h =
     let total : ℕ = length text in
     let all : List ℕ = chars text in
     let cs : List ℕ = after_head (Rust e) total all in
@@ -157,13 +157,12 @@ lexed_are_rust e file text top u h fit =
     (record { opening = bytes_of file 0 total; close = bytes_of file 0 total; kind = Invisible }, none) in
     let m = makes e file total total began [] l.0 cs
     (omega (arith, same, length-le-encodes all, tail_shorter all cs t)) f.right l.1 in
-    let flat_is : hidden_all (flat top.1) ≡ m.ts = ap hidden_all l.2 ∙ m.flat_is in
-    let fits : FitRawStrings m.ts = subst FitRawStrings flat_is (hidden_fit (flat top.1) fit) in (
+    let flat_is : hidden_all (flat top.1) ≡ m.ts = ap hidden_all l.2 ∙ m.flat_is in (
       shown e (flat top.1) (subst (AreRust e) (sym flat_is) (are_rust e file total cs m.ts m.tokens f)),
       shown_read e 0 false (flat top.1) (subst (AreRead e 0 false) (sym flat_is)
-          (literals_are_read e file total cs m.ts m.tokens f fits)),
+          (literals_are_read e file total cs m.ts m.tokens f)),
     )
 
 pub text_comes_back : TextComesBack
-text_comes_back e file other depth text top u h fit =
-    trees_come_back e other depth top.1 (lexed_are_rust e file text top u h fit)
+text_comes_back e file other depth text top u h =
+    trees_come_back e other depth top.1 (lexed_are_rust e file text top u h)

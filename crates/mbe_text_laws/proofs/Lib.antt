@@ -2,6 +2,7 @@ pub mod AfterLemmas
 pub mod BackLemmas
 pub mod BareLemmas
 pub mod BlankTailLemmas
+pub mod BlockLemmas
 pub mod CharLemmas
 pub mod CommentLemmas
 pub mod DocLemmas

@@ -1,10 +1,8 @@
--- Each literal that the lexer makes is read whole, or is a doc comment's of one line.
-use Rattle.std.proofs.Common.{◌≡◌, ℕ, ◌==◌, ◌+◌, not, ◌&&◌, ◌||◌, if◌then◌else◌, Bool, true, false, List, [], ◌∷◌, ◌++◌, refl, sym, ap, ◌∙◌, codes, Option, Some, None, chars, subst}
-use Rattle.std.specs.List.{list_any}
+-- Each literal that the lexer makes is read whole, or is a doc comment's.
+use Rattle.std.proofs.Common.{◌≡◌, ℕ, ◌==◌, ◌+◌, not, ◌&&◌, if◌then◌else◌, Bool, true, false, List, [], ◌∷◌, ◌++◌, refl, sym, ap, ◌∙◌, codes, Option, Some, None, subst}
 use Rattle.mbe_tt.specs.Trees.Leaf.{Literal, literal, punct, ident}
 use Rattle.mbe_tt.specs.Trees.Tree.{Forest, none, leaf, group, append, one_leaf, FlatToken, token, flat, is_same_kind}
 use Rattle.mbe_tt.specs.Trees.Tree as tree
-use Rattle.mbe_tt.specs.Trees.Literals.{hash_text}
 use Rattle.mbe_tt.specs.Trees.Top.{no_span}
 use Rattle.mbe_tt.specs.declared.span.Edition.{Edition}
 use Rattle.mbe_tt.specs.declared.span.Span.{Span}
@@ -14,26 +12,24 @@ use Rattle.mbe_tt.specs.declared.tt.IdentIsRaw.TheVariants.{No}
 use Rattle.mbe_tt.specs.declared.tt.Punct.{Punct}
 use Rattle.mbe_tt.specs.declared.tt.Spacing.{Spacing}
 use Rattle.mbe_tt.specs.declared.tt.Spacing.TheVariants.{Alone, Joint}
-use Rattle.mbe_rust_text.specs.Comments.{Comment, comment_set, is_line, is_line_end, is_setting, begins_with_slash}
+use Rattle.mbe_rust_text.specs.Comments.{Comment, comment_set, is_setting}
 use Rattle.mbe_rust_text.specs.Gaps.{is_joint}
 use Rattle.mbe_rust_text.specs.Writing.{start}
 use Rattle.mbe_text.specs.Blanks.{begins_comment}
 use Rattle.mbe_text.specs.Characters.{offset}
-use Rattle.mbe_text.specs.Division.{Taken, span_of_taken}
-use Rattle.mbe_text.specs.Extents.{from_raw_end}
+use Rattle.mbe_text.specs.Division.{Taken}
 use Rattle.mbe_text.specs.Rust.{begins_doc}
 use Rattle.mbe_text.specs.Shapes.{Shape, identifier, literal_of, punct_of, lifetime_of, doc_of, opening, closing}
 use Rattle.mbe_text.specs.Signs.{spacing_before}
 use Rattle.mbe_text.specs.Tokens.{bytes_of, punct_leaf, ident_leaf, most_guards}
 use Rattle.mbe_text_laws.specs.Gaps.{is_punct}
-use Rattle.mbe_text_laws.specs.Lexed.{most_hashes, FitRawStrings}
 use Rattle.mbe_text_laws.specs.Rust.{AreRead, punct_flat, more_tokens, comment_after, skipped, joint_after}
-use Rattle.mbe_text_laws.proofs.CommentLemmas.{comment_case}
+use Rattle.mbe_text_laws.proofs.CommentLemmas.{comment_case, may_be_comment, set_of}
 use Rattle.mbe_text_laws.proofs.StepLemmas.{no_doc}
-use Rattle.mbe_text_laws.proofs.ShapeLemmas.{Lexed, IsDocText}
+use Rattle.mbe_text_laws.proofs.ShapeLemmas.{Lexed}
 use Rattle.mbe_text_laws.proofs.TokenLemmas.{tokens_of, Tokens, last, more, Next, here_of, punct_past, next_cut, next_tail, Fits, fits_tail}
 use Rattle.mbe_text_laws.proofs.AfterLemmas.{self}
-use Rattle.mbe_text_laws.proofs.RustLemmas.{doc_leaf, doc_literal_is}
+use Rattle.mbe_text_laws.proofs.RustLemmas.{doc_leaf}
 
 no_hash : (joint : Bool) (p : Punct) (ts : List FlatToken) → (p.char == 35) ≡ false → comment_after joint p ts ≡ None
 no_hash true p ts h = refl
@@ -88,21 +84,15 @@ setting_is : (file a b : ℕ) (text : List ℕ)
     (record { char = 61; spacing = Alone; span = bytes_of file a b }) (doc_leaf (bytes_of file a b) text) ≡ true
 setting_is file a b text = rw (self (most_guards 0 text), self file, self a, self b) refl
 
--- a doc comment of one line is written as it was
-one_line : (file a b : ℕ) (inner : Bool) (text : List ℕ) → is_line inner text ≡ true
+-- a doc comment is written as one
+is_set : (file a b : ℕ) (inner : Bool) (text : List ℕ) → may_be_comment inner text ≡ true
     → comment_set inner (record { sym = codes "doc"; is_raw = No; span = bytes_of file a b })
     (record { char = 61; spacing = Alone; span = bytes_of file a b }) (doc_leaf (bytes_of file a b) text)
-    ≡ Some (record { is_inner = inner; text = text })
-one_line file a b inner text line =
-    let c : Comment = record { is_inner = inner; text = text } in
-    ap (λ (x : Bool). if x && is_line inner text then Some c else None) (setting_is file a b text)
-    ∙ ap (λ (x : Bool). if x then Some c else None) line
-
-line_ends : (inner ended slash : Bool) → (inner ≡ false → slash ≡ false) → (not ended && (inner || not slash)) ≡ false
-    → ended ≡ true
-line_ends inner true slash s h = refl
-line_ends true false slash s h = absurd (cc)
-line_ends false false slash s h = absurd (let n = s refl in let z : true ≡ false = ap not (sym n) ∙ h in cc)
+    ≡ Some (set_of inner (doc_leaf (bytes_of file a b) text))
+is_set file a b inner text may =
+    let c : Comment = set_of inner (doc_leaf (bytes_of file a b) text) in
+    ap (λ (x : Bool). if x && may_be_comment inner text then Some c else None) (setting_is file a b text)
+    ∙ ap (λ (x : Bool). if x then Some c else None) may
 
 -- the group of a doc comment, and what follows it
 abbrev brackets_of : Span → List ℕ → List FlatToken → List FlatToken
@@ -115,52 +105,18 @@ brackets_of span text ts =
       kind = Bracket;
     }) ∷ ts))))
 
-brackets_read : (e : Edition) (span : Span) (text : List ℕ) (inner : Bool) (from : List ℕ) (ts : List FlatToken)
-    → IsDocText text inner from → from_raw_end (hash_text most_hashes) (chars text) ≡ None → AreRead e 0 false ts
-    → AreRead e 0 false (brackets_of span text ts)
-brackets_read e span text inner from ts d fits r = (doc_literal_is e span text inner from d fits, r)
-
-doc_are_read : (e : Edition) (file a b : ℕ) (inner line : Bool) (text from : List ℕ) (ts : List FlatToken)
-    → is_line inner text ≡ line → IsDocText text inner from
-    → (list_any is_line_end text ≡ true → from_raw_end (hash_text most_hashes) (chars text) ≡ None)
-    → AreRead e 0 false ts → AreRead e 0 false (tokens_of (bytes_of file a b) (doc_of text inner) ++ ts)
-doc_are_read e file a b true true text from ts i d fits r =
+doc_are_read : (e : Edition) (file a b : ℕ) (inner : Bool) (text : List ℕ) (ts : List FlatToken)
+    → may_be_comment inner text ≡ true → AreRead e 0 false ts
+    → AreRead e 0 false (tokens_of (bytes_of file a b) (doc_of text inner) ++ ts)
+doc_are_read e file a b true text ts may r =
     let span = bytes_of file a b in
     comment_read e (record { char = 35; spacing = Joint; span = span })
-    (token (punct_leaf span 33 Alone) ∷ brackets_of span text ts) (record { is_inner = true; text = text })
-    (one_line file a b true text i) r
-doc_are_read e file a b false true text from ts i d fits r =
+    (token (punct_leaf span 33 Alone) ∷ brackets_of span text ts) (set_of true (doc_leaf span text))
+    (is_set file a b true text may) r
+doc_are_read e file a b false text ts may r =
     let span = bytes_of file a b in
     comment_read e (record { char = 35; spacing = Alone; span = span }) (brackets_of span text ts)
-    (record { is_inner = false; text = text }) (one_line file a b false text i) r
-doc_are_read e file a b true false text from ts i d fits r =
-    let span = bytes_of file a b in
-    let ends = line_ends true (list_any is_line_end text) (begins_with_slash text) d.slash i in
-    punct_read e (record { char = 35; spacing = Joint; span = span })
-    (token (punct_leaf span 33 Alone) ∷ brackets_of span text ts) false
-    (brackets_read e span text true from ts d (fits ends) r)
-doc_are_read e file a b false false text from ts i d fits r =
-    let span = bytes_of file a b in
-    let ends = line_ends false (list_any is_line_end text) (begins_with_slash text) d.slash i in
-    punct_read e (record { char = 35; spacing = Alone; span = span }) (brackets_of span text ts) false
-    (brackets_read e span text false from ts d (fits ends) r)
-
-doc_fit : (file a b : ℕ) (inner : Bool) (text : List ℕ) (ts : List FlatToken)
-    → FitRawStrings (tokens_of (bytes_of file a b) (doc_of text inner) ++ ts)
-    → list_any is_line_end text ≡ true → from_raw_end (hash_text most_hashes) (chars text) ≡ None
-doc_fit file a b true text ts f = f.1.1.1.0 (setting_is file a b text)
-doc_fit file a b false text ts f = f.1.1.0 (setting_is file a b text)
-
-later_fit : (span : Span) (shape : Shape) (ts : List FlatToken) → FitRawStrings (tokens_of span shape ++ ts)
-    → FitRawStrings ts
-later_fit span (identifier name r) ts f = f.1
-later_fit span (literal_of text suffix n kind) ts f = f.1
-later_fit span (punct_of c sp) ts f = f.1
-later_fit span (lifetime_of name r) ts f = f.1.1
-later_fit span (doc_of text true) ts f = f.1.1.1.1.1.1.1
-later_fit span (doc_of text false) ts f = f.1.1.1.1.1.1
-later_fit span (opening k) ts f = f.1
-later_fit span (closing k) ts f = f.1
+    (set_of false (doc_leaf span text)) (is_set file a b false text may) r
 
 -- a joint punct is before another one
 record JointNext (cs : List ℕ) : Type 0 where
@@ -205,36 +161,33 @@ plainly e rest ts later = later false (λ z. absurd (cc))
 
 shape_read : (e : Edition) (file a b : ℕ) (from rest : List ℕ) (shape : Shape) (ts : List FlatToken) (joint : Bool)
     → Lexed e shape from rest → LaterRead e rest ts → (joint ≡ true → begins_doc from ≡ true → ⊥)
-    → FitRawStrings (tokens_of (bytes_of file a b) shape ++ ts)
     → AreRead e 0 joint (tokens_of (bytes_of file a b) shape ++ ts)
-shape_read e file a b from rest (identifier name r) ts joint l later n fit = plainly e rest ts later
-shape_read e file a b from rest (literal_of text suffix m kind) ts joint l later n fit =
+shape_read e file a b from rest (identifier name r) ts joint l later n = plainly e rest ts later
+shape_read e file a b from rest (literal_of text suffix m kind) ts joint l later n =
     (l.right (bytes_of file a b), plainly e rest ts later)
-shape_read e file a b from rest (punct_of c sp) ts joint l later n fit =
+shape_read e file a b from rest (punct_of c sp) ts joint l later n =
     punct_read e (record { char = c; spacing = sp; span = bytes_of file a b }) ts joint
     (later (is_joint sp) (joint_next sp rest l.spacing))
-shape_read e file a b from rest (lifetime_of name r) ts joint l later n fit =
+shape_read e file a b from rest (lifetime_of name r) ts joint l later n =
     let span = bytes_of file a b in
     punct_read e (record { char = 39; spacing = Joint; span = record span { end = span.start + 1 } })
     (token (ident_leaf (record span { start = span.start + 1 }) name r) ∷ ts) joint (plainly e rest ts later)
-shape_read e file a b from rest (doc_of text inner) ts true l later n fit = absurd (n refl l.marks)
-shape_read e file a b from rest (doc_of text inner) ts false l later n fit =
-    doc_are_read e file a b inner (is_line inner text) text from ts refl l
-    (doc_fit file a b inner text ts fit)
-    (plainly e rest ts later)
-shape_read e file a b from rest (opening k) ts joint l later n fit = plainly e rest ts later
-shape_read e file a b from rest (closing k) ts joint l later n fit = plainly e rest ts later
+shape_read e file a b from rest (doc_of text inner) ts true l later n = absurd (n refl l.marks)
+shape_read e file a b from rest (doc_of text inner) ts false l later n =
+    doc_are_read e file a b inner text ts l.written (plainly e rest ts later)
+shape_read e file a b from rest (opening k) ts joint l later n = plainly e rest ts later
+shape_read e file a b from rest (closing k) ts joint l later n = plainly e rest ts later
 
 are_read : (e : Edition) (file total : ℕ) (cs : List ℕ) (ts : List FlatToken) → Tokens e file total cs ts
-    → Fits total cs → FitRawStrings ts → LaterRead e cs ts
-are_read e file total _ _ (last cs n) f fit joint j = tt
-are_read e file total _ _ (more cs t us n tokens) f fit joint j =
+    → Fits total cs → LaterRead e cs ts
+are_read e file total _ _ (last cs n) f joint j = tt
+are_read e file total _ _ (more cs t us n tokens) f joint j =
     let x = next_cut e total cs t f.right n in
     let rest = fits_tail total cs t.rest (next_tail e total cs t x) f in
     shape_read e file (offset total t.from) (offset total t.rest) t.from t.rest t.shape us joint x.step.lexed
-    (are_read e file total t.rest us tokens rest (later_fit (span_of_taken file total t) t.shape us fit))
-    (λ is d. no_doc_next e total cs t (j is) x d) fit
+    (are_read e file total t.rest us tokens rest)
+    (λ is d. no_doc_next e total cs t (j is) x d)
 
 pub literals_are_read : (e : Edition) (file total : ℕ) (cs : List ℕ) (ts : List FlatToken) → Tokens e file total cs ts
-    → Fits total cs → FitRawStrings ts → AreRead e 0 false ts
-literals_are_read e file total cs ts tokens f fit = plainly e cs ts (are_read e file total cs ts tokens f fit)
+    → Fits total cs → AreRead e 0 false ts
+literals_are_read e file total cs ts tokens f = plainly e cs ts (are_read e file total cs ts tokens f)

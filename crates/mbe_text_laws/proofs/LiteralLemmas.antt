@@ -20,9 +20,8 @@ use Rattle.mbe_text_laws.specs.Back.{is_string, is_char, is_raw, is_bare_integer
 use Rattle.mbe_text_laws.specs.Rust.{begins_number, begins_field, IsLiteral, IsReadBefore, MayHaveFields, MayPrecedeDots}
 use Rattle.mbe_text_laws.proofs.QuoteLemmas.{same_char, string_parts, strings_are_read}
 use Rattle.mbe_text_laws.proofs.CharLemmas.{single_at, char_parts, chars_are_read}
-use Rattle.mbe_text_laws.proofs.RawLemmas.{marked, marks_are, raw_from, string_is, body_parts, raw_strings_are_read}
+use Rattle.mbe_text_laws.proofs.RawLemmas.{marked, marks_are, raw_from, string_is, body_parts, raw_strings_are_read, length_marked}
 use Rattle.mbe_text_laws.proofs.NumberLemmas.{is_bare, digit_read, numbers_are_read}
-use Rattle.mbe_text_laws.proofs.DocTextLemmas.{length_marked}
 use Rattle.mbe_text_laws.proofs.PartLemmas.{Own, parts_cut}
 use Rattle.mbe_text_laws.proofs.NumberPartLemmas.{number_cut}
 

@@ -26,6 +26,10 @@ use Rattle.mbe_text_laws.proofs.QuoteLemmas.{same_char, Parts, parts_on, front_o
 abbrev pub marked : ℕ → List ℕ
 marked n = replicate n 35
 
+pub length_marked : (n : ℕ) → length (marked n) ≡ n
+length_marked zero = refl
+length_marked (suc n) = omega (arith, length_marked n)
+
 -- ---- the quote that ends a raw string
 
 pub and_both : (a b : Bool) → (a && b) ≡ true → (a ≡ true) × (b ≡ true)

@@ -1,12 +1,11 @@
 -- Each token that the lexer makes is one of Rust.
-use Rattle.std.proofs.Common.{◌≡◌, ℕ, ◌&&◌, Bool, true, false, List, [], ◌∷◌, ◌++◌, refl, sym, ap, ◌∙◌, arith, codes, None, encode_utf8_all, chars}
+use Rattle.std.proofs.Common.{◌≡◌, ℕ, ◌&&◌, Bool, true, false, List, [], ◌∷◌, ◌++◌, refl, sym, ap, ◌∙◌, arith, codes, encode_utf8_all, chars}
 use Rattle.unicode_ident.proofs.Computing.{unicode_ident}
 use Rattle.std.proofs.lemmas.Str.{chars-encodes}
 use Rattle.mbe_tt.specs.Trees.Editions.{at_least_2024}
 use Rattle.mbe_tt.specs.Trees.Leaf.{Literal}
 use Rattle.mbe_tt.specs.Trees.Tree.{Forest, none, leaf, group, append, one_leaf, FlatToken, token, flat, is_same_kind}
 use Rattle.mbe_tt.specs.Trees.Tree as tree
-use Rattle.mbe_tt.specs.Trees.Literals.{hash_text}
 use Rattle.mbe_tt.specs.Trees.Top.{no_span}
 use Rattle.mbe_tt.specs.declared.span.Edition.{Edition}
 use Rattle.mbe_tt.specs.declared.span.Span.{Span}
@@ -15,15 +14,12 @@ use Rattle.mbe_tt.specs.declared.tt.IdentIsRaw.TheVariants.{No}
 use Rattle.mbe_tt.specs.declared.tt.LitKind.TheVariants.{StrRaw}
 use Rattle.mbe_tt.specs.declared.tt.Spacing.TheVariants.{Alone}
 use Rattle.mbe_text.specs.Characters.{offset}
-use Rattle.mbe_text.specs.Extents.{from_raw_end}
 use Rattle.mbe_text.specs.Shapes.{Shape, identifier, literal_of, punct_of, lifetime_of, doc_of, opening, closing}
 use Rattle.mbe_text.specs.Tokens.{bytes_of, punct_leaf, ident_leaf, raw_string_leaf, most_guards}
 use Rattle.mbe_text.specs.Words.{past_word}
-use Rattle.mbe_text_laws.specs.Lexed.{most_hashes}
-use Rattle.mbe_text_laws.specs.Rust.{is_start, begins_word, are_together, IsWord, IsLiteral, AreRust}
-use Rattle.mbe_text_laws.proofs.DocTextLemmas.{doc_literal, doc_spelled, doc_read}
+use Rattle.mbe_text_laws.specs.Rust.{is_start, begins_word, are_together, IsWord, AreRust}
+use Rattle.mbe_text_laws.proofs.DocTextLemmas.{doc_literal, doc_spelled}
 use Rattle.mbe_text_laws.proofs.LiteralLemmas.{the_literal, one_byte}
-use Rattle.mbe_text_laws.proofs.RawLemmas.{raw_strings_are_read}
 use Rattle.mbe_text_laws.proofs.ShapeLemmas.{Lexed, IsDocText}
 use Rattle.mbe_text_laws.proofs.TokenLemmas.{tokens_of, Tokens, last, more, next_cut, next_tail, Fits, fits_tail}
 use Rattle.mbe_text_laws.proofs.AfterLemmas.{before_dot, punct_is, self}
@@ -63,17 +59,6 @@ doc_leaf span text =
 doc_parts : (span : Span) (text : List ℕ) (inner : Bool) (from : List ℕ) (d : IsDocText text inner from)
     → doc_literal d.cs (doc_leaf span text)
 doc_parts span text inner from d = (d.bytes, refl, ap (λ (x : List ℕ). StrRaw (most_guards 0 x)) d.bytes)
-
-pub doc_literal_is : (e : Edition) (span : Span) (text : List ℕ) (inner : Bool) (from : List ℕ)
-    → IsDocText text inner from → from_raw_end (hash_text most_hashes) (chars text) ≡ None
-    → IsLiteral e (doc_leaf span text)
-doc_literal_is e span text inner from d fits =
-    let l = doc_leaf span text in
-    let parts = doc_parts span text inner from d in
-    let shown : chars text ≡ d.cs = ap chars d.bytes ∙ chars-encodes d.cs d.right in
-    let before = doc_read e l d.cs 255 refl parts d.right d.no_return
-    (ap (from_raw_end (hash_text most_hashes)) (sym shown) ∙ fits) in
-    (raw_strings_are_read e l refl (doc_spelled l d.cs parts d.right).0 before).0
 
 -- the group of a doc comment
 doc_setting_is : (e : Edition) (span : Span) (text : List ℕ) (inner : Bool) (from : List ℕ) (ts : List FlatToken)

@@ -14,11 +14,11 @@ use Rattle.mbe_tt.specs.declared.tt.IdentIsRaw.{IdentIsRaw}
 use Rattle.mbe_tt.specs.declared.tt.IdentIsRaw.TheVariants.{Yes, No}
 use Rattle.mbe_tt.specs.declared.tt.LitKind.TheVariants as kinds
 use Rattle.mbe_tt.specs.Trees.Editions.{at_least_2021}
-use Rattle.mbe_rust_text.specs.Comments.{begins_with_slash}
+use Rattle.mbe_rust_text.specs.Comments.{has_line_end, begins_with_slash}
 use Rattle.mbe_text.specs.declared.dialect.Dialect.TheVariants.{Rust}
 use Rattle.mbe_text.specs.declared.wrong.Wrong.TheVariants as wrong
 use Rattle.mbe_text.specs.Blanks.{begins_comment}
-use Rattle.mbe_text.specs.Characters.{past, begins_with, bytes_before}
+use Rattle.mbe_text.specs.Characters.{has, past, begins_with, bytes_before}
 use Rattle.mbe_text.specs.Dialect.{read_shape, or_sign}
 use Rattle.mbe_text.specs.Extents.{front, from_comment_end}
 use Rattle.mbe_text.specs.Rust.{Token, within, is_inner, read_rust, read_r, read_b, read_c, read_quote, plain_identifier, raw_identifier, begins_reserved, begins_raw_string, raw_string, may_be_raw, char, begins_lifetime, lifetime, plain_lifetime, raw_lifetime, is_guard, begins_doc, doc, block_doc, doc_until, from_return}
@@ -29,6 +29,8 @@ use Rattle.mbe_text.specs.Words.{past_word}
 use Rattle.mbe_text.proofs.TailLemmas.{Tail, here, one, past_tail}
 use Rattle.mbe_text_laws.specs.Gaps.{is_punct}
 use Rattle.mbe_text_laws.specs.Rust.{is_start, begins_word, IsWord, may_be, may_be_lifetime}
+use Rattle.mbe_text_laws.proofs.BlockLemmas.{mark_is_first, feed_of, no_byte_ends, line_has_none, own_mark, comment_is, block_is}
+use Rattle.mbe_text_laws.proofs.CommentLemmas.{may_be_comment}
 use Rattle.mbe_text_laws.proofs.EndLemmas.{r_is_start}
 use Rattle.mbe_text_laws.proofs.StepLemmas.{bytes_front}
 use Rattle.mbe_text_laws.proofs.QuoteLemmas.{same_char, front_of, left_of, shape_of, b_is_start, c_is_start}
@@ -49,14 +51,13 @@ abbrev pub begins_side : List ℕ → Bool
 begins_side [] = false
 begins_side (c ∷ cs) = is_side c
 
--- A doc comment's text. `////` and `/**/` begin none.
+-- A doc comment's text, which is written as one.
 pub record IsDocText (text : List ℕ) (inner : Bool) (from : List ℕ) : Type 0 where
   pub marks : begins_doc from ≡ true
   pub cs : List ℕ
   pub bytes : text ≡ encode_utf8_all cs
   pub right : scalars cs ≡ true
-  pub no_return : from_return cs ≡ None
-  pub slash : inner ≡ false → begins_with_slash text ≡ false
+  pub written : may_be_comment inner text ≡ true
 
 -- a punct, which begins neither a comment nor a guard
 pub record LexedPunct (e : Edition) (c : ℕ) (sp : Spacing) (from rest : List ℕ) : Type 0 where
@@ -547,15 +548,21 @@ doc_slash c (b ∷ []) d n = refl
 doc_slash c (b ∷ (m ∷ [])) d n = refl
 doc_slash c (b ∷ (m ∷ (x ∷ xs))) d n = grind (arith, nat_tests, d, n)
 
+-- what may be before such an end is the text of a doc comment
+abbrev MayBe : Bool → List ℕ → List ℕ → Type 0
+MayBe inner body end =
+    (own : List ℕ) → body ≡ own ++ end → scalars own ≡ true → from_return own ≡ None
+    → may_be_comment inner (encode_utf8_all own) ≡ true
+
 doc_cut_at : (e : Edition) (before body end after rest : List ℕ) (shape : Shape) (inner : Bool) (o : Option (List ℕ))
-    → begins_doc (before ++ body) ≡ true → (inner ≡ false → begins_with_slash body ≡ false)
+    → begins_doc (before ++ body) ≡ true → MayBe inner body end
     → Tail body end → from_return (front body end) ≡ o → Tail end after → 0 < length before
     → scalars (before ++ body) ≡ true → doc_until inner body end after ≡ Ok (shape, rest)
     → Step e (before ++ body) rest shape
-doc_cut_at e before body end after rest shape inner (Some at) m slash d f r some u h =
+doc_cut_at e before body end after rest shape inner (Some at) m may d f r some u h =
     absurd (let w : doc_until inner body end after ≡ Err (within end (wrong.BareReturn, at)) = rw (doc_until, f) refl in
     let z : Err (within end (wrong.BareReturn, at)) ≡ Ok (shape, rest) = sym w ∙ h in cc)
-doc_cut_at e before body end after rest shape inner None m slash d f r some u h =
+doc_cut_at e before body end after rest shape inner None m may d f r some u h =
     let w : doc_until inner body end after ≡ Ok (doc_of (bytes_before body end) inner, after) =
     rw (doc_until, f) refl in
     let made : Token = Ok (doc_of (bytes_before body end) inner, after) in
@@ -564,6 +571,7 @@ doc_cut_at e before body end after rest shape inner None m slash d f r some u h 
     ap (λ (x : List ℕ). bytes_before x end) d.is ∙ bytes_front d.own end in
     let cut : front body end ≡ d.own = ap (λ (x : List ℕ). front x end) d.is ∙ front_of d.own end in
     let left : end ≡ r.own ++ rest = r.is ∙ ap (λ (x : List ℕ). r.own ++ x) (ap left_of k) in
+    let right = (scalars_parts d.own end (ap scalars (sym d.is) ∙ (scalars_parts before body u).1)).0 in
     let own : List ℕ = before ++ (d.own ++ r.own) in
     let is : before ++ body ≡ own ++ rest =
     ap (λ (x : List ℕ). before ++ x) (d.is ∙ (ap (λ (x : List ℕ). d.own ++ x) left
@@ -575,9 +583,8 @@ doc_cut_at e before body end after rest shape inner None m slash d f r some u h 
       marks = m;
       cs = d.own;
       bytes = text;
-      right = (scalars_parts d.own end (ap scalars (sym d.is) ∙ (scalars_parts before body u).1)).0;
-      no_return = ap from_return (sym cut) ∙ f;
-      slash = λ outer. ap begins_with_slash text ∙ own_slash d.own end body d.is (slash outer);
+      right = right;
+      written = ap (may_be_comment inner) text ∙ may d.own d.is right (ap from_return (sym cut) ∙ f);
     })
 
 comment_tail : (cs end : List ℕ) (taken : Bool) (depth : ℕ) → from_comment_end taken depth cs ≡ Some end → Tail cs end
@@ -602,41 +609,70 @@ drop_tail zero cs = here cs
 drop_tail (suc n) [] = here []
 drop_tail (suc n) (c ∷ cs) = one c cs (drop n cs) (drop_tail n cs)
 
+-- nor a `*` where it is of several lines
+doc_mark : (c : ℕ) (cs : List ℕ) → begins_doc (c ∷ cs) ≡ true → begins_with (codes "//") (c ∷ cs) ≡ false
+    → is_inner (c ∷ cs) ≡ false → mark_is_first (drop 3 (c ∷ cs)) ≡ false
+doc_mark c [] d b n = refl
+doc_mark c (x ∷ []) d b n = refl
+doc_mark c (x ∷ (m ∷ [])) d b n = refl
+doc_mark c (x ∷ (m ∷ (y ∷ ys))) d b n = grind (arith, nat_tests, d, b, n)
+
+block_may : (inner : Bool) (body end : List ℕ) → (inner ≡ false → begins_with_slash body ≡ false)
+    → (inner ≡ false → mark_is_first body ≡ false) → from_comment_end false 0 body ≡ Some end
+    → MayBe inner body end
+block_may inner body end slash mark f own is right return =
+    comment_is inner (has_line_end (encode_utf8_all own)) (encode_utf8_all own) refl
+    (λ outer. own_slash own end body is (slash outer))
+    (λ several. block_is inner own end (λ outer. own_mark own end body several is (mark outer)) right return
+    (ap (from_comment_end false 0) (sym is) ∙ f))
+
+line_may : (k : _) (inner : Bool) (body : List ℕ) → ((c : ℕ) → has k c ≡ true → (c == 10) ≡ false)
+    → (inner ≡ false → begins_with_slash body ≡ false)
+    → MayBe inner body (past k body)
+line_may k inner body feed slash own is right return =
+    let none = no_byte_ends own (line_has_none k body own feed is return) in
+    comment_is inner (has_line_end (encode_utf8_all own)) (encode_utf8_all own) refl
+    (λ outer. own_slash own (past k body) body is (slash outer))
+    (λ several. absurd (let z : true ≡ false = sym several ∙ none in cc))
+
 block_cut : (e : Edition) (c : ℕ) (cs rest : List ℕ) (shape : Shape) (o : Option (List ℕ))
-    → begins_doc (c ∷ cs) ≡ true → from_comment_end false 0 (drop 3 (c ∷ cs)) ≡ o → scalars (c ∷ cs) ≡ true
+    → begins_doc (c ∷ cs) ≡ true → begins_with (codes "//") (c ∷ cs) ≡ false
+    → from_comment_end false 0 (drop 3 (c ∷ cs)) ≡ o → scalars (c ∷ cs) ≡ true
     → block_doc (c ∷ cs) ≡ Ok (shape, rest) → Step e (c ∷ cs) rest shape
-block_cut e c cs rest shape None d f u h =
+block_cut e c cs rest shape None d b f u h =
     absurd (let w : block_doc (c ∷ cs) ≡ Err (wrong.OpenComment, c ∷ cs) = rw (block_doc, f) refl in
     let z : Err (wrong.OpenComment, c ∷ cs) ≡ Ok (shape, rest) = sym w ∙ h in cc)
-block_cut e c cs rest shape (Some end) d f u h =
+block_cut e c cs rest shape (Some end) d b f u h =
     let w : block_doc (c ∷ cs) ≡ doc_until (is_inner (c ∷ cs)) (drop 3 (c ∷ cs)) end (drop 2 end) =
     rw (block_doc, f) refl in
     let whole = take-append-drop 3 (c ∷ cs) in
     subst (λ (x : List ℕ). Step e x rest shape) whole
     (doc_cut_at e (take 3 (c ∷ cs)) (drop 3 (c ∷ cs)) end (drop 2 end) rest shape (is_inner (c ∷ cs))
-    (from_return (front (drop 3 (c ∷ cs)) end)) (ap begins_doc whole ∙ d) (doc_slash c cs d)
+    (from_return (front (drop 3 (c ∷ cs)) end)) (ap begins_doc whole ∙ d)
+    (block_may (is_inner (c ∷ cs)) (drop 3 (c ∷ cs)) end (doc_slash c cs d) (doc_mark c cs d b) f)
     (comment_tail (drop 3 (c ∷ cs)) end false 0 f)
     refl (drop_tail 2 end) (omega arith) (ap scalars whole ∙ u)
     (sym w ∙ h))
 
 line_cut : (k : _) (e : Edition) (c : ℕ) (cs rest : List ℕ) (shape : Shape) → begins_doc (c ∷ cs) ≡ true
-    → scalars (c ∷ cs) ≡ true
+    → ((d : ℕ) → has k d ≡ true → (d == 10) ≡ false) → scalars (c ∷ cs) ≡ true
     → doc_until (is_inner (c ∷ cs)) (drop 3 (c ∷ cs)) (past k (drop 3 (c ∷ cs))) (past k (drop 3 (c ∷ cs)))
     ≡ Ok (shape, rest) → Step e (c ∷ cs) rest shape
-line_cut k e c cs rest shape d u h =
+line_cut k e c cs rest shape d feed u h =
     let whole = take-append-drop 3 (c ∷ cs) in
     let end : List ℕ = past k (drop 3 (c ∷ cs)) in
     subst (λ (x : List ℕ). Step e x rest shape) whole
     (doc_cut_at e (take 3 (c ∷ cs)) (drop 3 (c ∷ cs)) end end rest shape (is_inner (c ∷ cs))
     (from_return (front (drop 3 (c ∷ cs)) end)) (ap begins_doc whole ∙ d)
-    (doc_slash c cs d) (past_tail k (drop 3 (c ∷ cs))) refl (here end) (omega arith) (ap scalars whole ∙ u) h)
+    (line_may k (is_inner (c ∷ cs)) (drop 3 (c ∷ cs)) feed (doc_slash c cs d))
+    (past_tail k (drop 3 (c ∷ cs))) refl (here end) (omega arith) (ap scalars whole ∙ u) h)
 
 doc_cut : (e : Edition) (c : ℕ) (cs rest : List ℕ) (shape : Shape) → begins_doc (c ∷ cs) ≡ true
     → scalars (c ∷ cs) ≡ true → doc (c ∷ cs) ≡ Ok (shape, rest) → Step e (c ∷ cs) rest shape
 doc_cut e c cs rest shape d u h =
     if_ok (Step e (c ∷ cs) rest shape) (begins_with (codes "//") (c ∷ cs)) _ _ _ h
-    (λ b k. search (line_cut, d, u, k))
-    (λ b k. block_cut e c cs rest shape (from_comment_end false 0 (drop 3 (c ∷ cs))) d refl u k)
+    (λ b k. search (line_cut, d, feed_of, u, k))
+    (λ b k. block_cut e c cs rest shape (from_comment_end false 0 (drop 3 (c ∷ cs))) d b refl u k)
 
 -- ---- the table
 

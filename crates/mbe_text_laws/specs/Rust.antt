@@ -171,7 +171,7 @@ AreRust edition (closing d ∷ ts) = (d.kind ≢ Invisible) × AreRust edition t
 
 -- ---- doc comments
 
--- the doc comment of one line that is `doc = r".."`
+-- the doc comment that is `doc = r".."`
 abbrev pub set_flat : Bool → List FlatToken → Option Comment
 set_flat is_inner (token (ident i) ∷ (token (punct q) ∷ (token (literal l) ∷ (closing d ∷ ts)))) =
     comment_set is_inner i q l

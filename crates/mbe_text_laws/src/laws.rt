@@ -60,15 +60,13 @@ pub fn numbers_are_read()
     ensures { NumbersAreRead }
 {}
 
-/// The trees that the lexer makes of a text are Rust's, by `IsRust`, in each edition. One text is
-/// left out: that of a doc comment of several lines in which 255 `#` or more follow a `"`. It is
-/// lexed as an attribute with a raw string, which can't be written so.
+/// The trees that the lexer makes of a text are Rust's, by `IsRust`, in each edition.
 pub fn lexed_are_rust()
     ensures { LexedAreRust }
 {}
 
 /// What is written for the trees of a text is read as these trees, without spans, in each edition
-/// and whatever the indentation; with the same exception.
+/// and whatever the indentation.
 pub fn text_comes_back()
     ensures { TextComesBack }
 {}

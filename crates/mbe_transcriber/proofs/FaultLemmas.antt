@@ -8,7 +8,8 @@ use Rattle.mbe_semantics.specs.Syntax.Op.{Separator, Op, Ops, op, repetition}
 use Rattle.mbe_semantics.specs.Bindings.Environment.{Environment}
 use Rattle.mbe_semantics.specs.Expansion.Error.{ExpandErrorKind, ExpandError}
 use Rattle.mbe_semantics.specs.Writing.Rounds.{Path, kept_rounds, finite, level}
-use Rattle.mbe_transcriber.specs.Faults.{at, first_below, first_round, extent_fault, op_fault, first_fault}
+use Rattle.mbe_transcriber.specs.Faults.{first_below, first_round, op_fault, first_fault}
+use Rattle.mbe_variables.specs.Lost.{at, extent_fault}
 
 or_over : {X : Type 0} (a b c : Option X) → option_or (option_or a b) c ≡ option_or a (option_or b c)
 or_over None b c = refl

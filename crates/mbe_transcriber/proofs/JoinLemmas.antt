@@ -13,7 +13,8 @@ use Rattle.mbe_semantics.specs.Syntax.Op.{Element}
 use Rattle.mbe_semantics.specs.Bindings.Environment.{Environment}
 use Rattle.mbe_semantics.specs.Writing.Rounds.{Path}
 use Rattle.mbe_semantics.specs.Writing.Concat.{joined_text, concat_text, if_identifier, are_identifier_chars}
-use Rattle.mbe_transcriber.specs.Writing.{Appends, Wrote, IsConcatWritten, IsJoined}
+use Rattle.mbe_transcriber.specs.Writing.{Wrote, IsConcatWritten, IsJoined}
+use Rattle.mbe_variables.specs.Fragments.{Appends}
 use Rattle.mbe_transcriber.proofs.WroteLemmas.{appends_groups}
 
 module _ (env : Environment) (path : Path) where

@@ -20,10 +20,12 @@ use Rattle.mbe_semantics.specs.Bindings.Environment.{Environment}
 use Rattle.mbe_semantics.specs.Expansion.Error.{ExpandErrorKind, ExpandError}
 use Rattle.mbe_semantics.specs.Writing.Rounds.{Path, level, kept_rounds, finite, Extent}
 use Rattle.mbe_semantics.specs.Writing.Substitution.{separator_trees, faults, op_faults}
-use Rattle.mbe_transcriber.specs.Writing.{Appends, Wrote, IsWritten, IsConcatWritten, IsParted}
-use Rattle.mbe_transcriber.specs.Faults.{at, extent_fault, op_fault, joined}
+use Rattle.mbe_transcriber.specs.Writing.{Wrote, IsWritten, IsConcatWritten, IsParted}
+use Rattle.mbe_variables.specs.Fragments.{Appends}
+use Rattle.mbe_transcriber.specs.Faults.{op_fault, joined}
+use Rattle.mbe_variables.specs.Lost.{at, extent_fault}
 use Rattle.mbe_transcriber.specs.Beside.{unless, parting, name_left, AreAllRoundsLeft, LeaveAll, IsLeft, AreLeft, AreRoundsBegun, IsWhatIsLeft}
-use Rattle.mbe_transcriber.proofs.WritingLemmas.{put-none, put_both}
+use Rattle.mbe_variables.proofs.PutLemmas.{put-none, put_both}
 
 -- ---- a part that may fault
 

@@ -1,41 +1,16 @@
--- What leaf after leaf and punct after punct is put into a builder.
-use Rattle.std.specs.Prelude.{◌≡◌, ◌<◌, ◌≤◌, ◌+◌, ℕ, List, [], ◌∷◌, length, Result, Ok, Err, OnOk, refl}
+-- What punct after punct is put into a builder.
+use Rattle.std.specs.Prelude.{◌≡◌, ◌<◌, ◌≤◌, ◌+◌, ℕ, List, [], length, refl}
 use Rattle.std.proofs.Common.{ap, sym, ◌∙◌, get_or, drop}
 use Rattle.std.proofs.lemmas.List.{drop_more, drop_all}
 use Rattle.mbe_tt.specs.declared.span.Span.{Span}
 use Rattle.mbe_tt.specs.declared.tt.Punct.{Punct}
-use Rattle.mbe_tt.specs.declared.tt.Delimiter.{Delimiter}
-use Rattle.mbe_tt.specs.Trees.Leaf.{Leaf, punct}
-use Rattle.mbe_tt.specs.Trees.Tree.{Forest, none, leaf, append, one_leaf}
-use Rattle.mbe_tt.specs.Views.Entries.{append-none}
+use Rattle.mbe_tt.specs.Trees.Leaf.{punct}
+use Rattle.mbe_tt.specs.Trees.Tree.{none, leaf, one_leaf}
 use Rattle.mbe_tt.specs.Buffers.Building.{Levels, put}
-use Rattle.mbe_tt.proofs.Places.PlaceLemmas.{append-assoc}
+use Rattle.mbe_variables.proofs.PutLemmas.{put-none, put-put, put_both}
 use Rattle.mbe_semantics.specs.Writing.Substitution.{punct_trees}
-use Rattle.mbe_transcriber.specs.Writing.{Appends, AreMarked}
-
--- ---- a builder's trees
-
-pub put-none : (b : Levels) → b ≡ put none b
-put-none [] = refl
-put-none (g ∷ outer) = ap (λ (f : Forest). let x : Delimiter × Forest = (g.0, f) in x ∷ outer) (sym (append-none g.1))
-
-pub put-put : (f h : Forest) (b : Levels) → put h (put f b) ≡ put (append f h) b
-put-put f h [] = refl
-put-put f h (g ∷ outer) = ap (λ (k : Forest). let x : Delimiter × Forest = (g.0, k) in x ∷ outer)
-    (sym (append-assoc g.1 f h))
-
-pub put_both : (f h : Forest) (old mid new : Levels) → mid ≡ put f old → new ≡ put h mid → new ≡ put (append f h) old
-put_both f h old mid new a b = b ∙ (ap (put h) a ∙ put-put f h old)
-
--- ---- variables
-
-pub two_leaves : {T E : Type 0} (r : Result T E) (a b x y : Leaf) (old mid new : Levels) → a ≡ x → b ≡ y
-    → mid ≡ put (one_leaf a) old
-    → OnOk r (new ≡ put (one_leaf b) mid) → OnOk r (new ≡ put (leaf x (leaf y none)) old)
-two_leaves (Err e) a b x y old mid new p q m h = tt
-two_leaves (Ok v) a b x y old mid new p q m h =
-    put_both (one_leaf a) (one_leaf b) old mid new m h ∙ ap (λ l. put (leaf l (leaf b none)) old) p
-    ∙ ap (λ l. put (leaf x (leaf l none)) old) q
+use Rattle.mbe_transcriber.specs.Writing.{AreMarked}
+use Rattle.mbe_variables.specs.Fragments.{Appends}
 
 -- ---- puncts of a separator
 

@@ -22,8 +22,9 @@ use Rattle.mbe_semantics.specs.Bindings.Environment.{Environment}
 use Rattle.mbe_semantics.specs.Writing.Rounds.{Path, followed, level, level_at, kept_rounds, finite}
 use Rattle.mbe_semantics.specs.Writing.Concat.{concat_text}
 use Rattle.mbe_semantics.specs.Writing.Substitution.{IsSubstitution, separator_trees, integer, rawness, index_of, rounds_in, total_of, is_simple, is_counted, variable_faults, extent_faults, op_faults, faults, any_below, any_round, AreKeptRounds, Substitutes}
-use Rattle.mbe_transcriber.specs.Writing.{Appends, AreMarked, IsMarkedLiteral, IsMarkedIdent, Wrote, IsNumber, IsVariableWritten, IsConcatWritten, IsWritten, AreWritten, AreRoundsWritten, IsParted}
-use Rattle.mbe_transcriber.proofs.WritingLemmas.{put-none, put_both}
+use Rattle.mbe_transcriber.specs.Writing.{AreMarked, IsMarkedLiteral, IsMarkedIdent, Wrote, IsNumber, IsVariableWritten, IsConcatWritten, IsWritten, AreWritten, AreRoundsWritten, IsParted}
+use Rattle.mbe_variables.specs.Fragments.{Appends}
+use Rattle.mbe_variables.proofs.PutLemmas.{appended, put-none, put_both}
 
 -- ---- Booleans
 
@@ -47,10 +48,6 @@ or_end false = refl
 
 pub groups_kept : (f : Forest) (old new : Levels) → new ≡ put f old → length new ≡ length old
 groups_kept f old new e = ap length e ∙ length-put old f
-
-pub appended : (P : Forest → Type 0) (f : Forest) (old new : Levels) → P f → new ≡ put f old → Appends P old new
-unfolding Appends
-appended P f old new p e = (f, p, e)
 
 pub appends_groups : (P : Forest → Type 0) (old new : Levels) → Appends P old new → length new ≡ length old
 unfolding Appends

@@ -12,7 +12,8 @@ use Rattle.mbe_semantics.specs.Bindings.Environment.{Environment, value_of}
 use Rattle.mbe_semantics.specs.Writing.Rounds.{Path, followed, Extent, finite, endless, kept_rounds, level}
 use Rattle.mbe_semantics.specs.Writing.Concat.{are_identifier_chars}
 use Rattle.mbe_semantics.specs.Writing.Substitution.{faults, separator_trees, integer, total_of, IsMarked, IsVariable, IsConcat, IsExpression}
-use Rattle.mbe_transcriber.specs.Faults.{bound_fault, count_fault, variable_fault, extent_fault, joined}
+use Rattle.mbe_transcriber.specs.Faults.{bound_fault, count_fault, variable_fault, joined}
+use Rattle.mbe_variables.specs.Lost.{extent_fault}
 
 -- what faults writes nothing
 abbrev pub unless : {F : Type 0} → Option F → (Forest → Type 0) → Forest → Type 0

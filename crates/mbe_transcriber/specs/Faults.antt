@@ -11,42 +11,9 @@ use Rattle.mbe_semantics.specs.Expansion.Error.{ExpandErrorKind, binding_error, 
 use Rattle.mbe_semantics.specs.Writing.Rounds.{Path, member, follow, Extent, finite, endless, kept_rounds, level}
 use Rattle.mbe_semantics.specs.Writing.Concat.{text_of_element, are_identifier_chars}
 use Rattle.mbe_semantics.specs.Writing.Substitution.{total_of}
-use Rattle.mbe_transcriber.specs.declared.transcriber.following.Lost.{Lost}
-use Rattle.mbe_transcriber.specs.declared.transcriber.following.Lost.TheVariants as lost_by
-use Rattle.mbe_transcriber.specs.FaultViews.{about_binding}
-
--- an error with that span
-abbrev pub at : Span → ExpandErrorKind → ExpandError
-at s k = record { span = s; kind = k }
+use Rattle.mbe_variables.specs.Lost.{at, lost, lost_kind, simple_fault, extent_fault}
 
 -- ---- names
-
--- of a list that is too short, and else of its value in the round
-abbrev pub lost_in : (Value → Option Lost) → Option Value → Option Lost
-lost_in inner None = Some lost_by.NoValue
-lost_in inner (Some v) = inner v
-
--- why a path leads to nothing: a repetition was skipped, or a list has no value for its round
-abbrev pub lost : Path → Value → Option Lost
-lost [] v = None
-lost (l ∷ path) (fragment x) = None
-lost (l ∷ path) (missing kind) = None
-lost (l ∷ path) empty = Some lost_by.Empty
-lost (l ∷ path) (list vs) = lost_in (lost path) (member vs l.index)
-
-abbrev pub lost_kind : Name → Lost → ExpandErrorKind
-lost_kind name lost_by.Empty = about_binding (codes "could not find empty") name
-lost_kind name lost_by.NoValue = about_binding (codes "could not find nested") name
-
--- of what a path leads to, where that is no single value
-abbrev pub plural : Name → Option Value → Option ExpandErrorKind
-plural name (Some (list vs)) = Some (about_binding (codes "expected simple binding, found nested") name)
-plural name (Some empty) = Some (about_binding (codes "expected simple binding, found empty") name)
-plural name _ = None
-
--- of a value that has to be a single one in the rounds of the path
-abbrev pub simple_fault : Name → Path → Value → Option ExpandErrorKind
-simple_fault name path v = option_or (option_map (lost_kind name) (lost path v)) (plural name (follow path v))
 
 -- a number that 64 bits don't hold
 abbrev pub number_fault : ℕ → Option ExpandErrorKind
@@ -78,13 +45,6 @@ first_below f (suc n) = option_or (first_below f n) (f n)
 abbrev pub first_round : {B : Type 0} → (ℕ → ℕ → Option B) → Extent → Option B
 first_round f endless = None
 first_round f (finite n) = first_below (λ i. f i n) n
-
--- too many rounds, or none where one has to be
-abbrev pub extent_fault : RepeatKind → Extent → Option ExpandErrorKind
-extent_fault ZeroOrOne e = None
-extent_fault repeat endless = Some limit_exceeded
-extent_fault OneOrMore (finite zero) = Some unexpected_token
-extent_fault repeat (finite n) = if nat_lt n 65536 then None else Some limit_exceeded
 
 -- ---- identifiers that are joined
 

@@ -4,17 +4,13 @@ use Rattle.mbe_tt.specs.declared.span.Span.{Span}
 use Rattle.mbe_tt.specs.declared.tt.Punct.{Punct}
 use Rattle.mbe_tt.specs.Trees.Leaf.{Literal, Ident, literal, ident}
 use Rattle.mbe_tt.specs.Fragments.Grammar.{Grammar}
-use Rattle.mbe_tt.specs.Trees.Tree.{Forest, alone, one_leaf, strip_invisible}
+use Rattle.mbe_tt.specs.Trees.Tree.{Forest, one_leaf}
 use Rattle.mbe_tt.specs.Buffers.Building.{Levels, put}
 use Rattle.mbe_semantics.specs.Syntax.Op.{Name, Separator, Op, Ops}
-use Rattle.mbe_semantics.specs.Readings.Item.{Style, stripped}
 use Rattle.mbe_semantics.specs.Bindings.Environment.{Environment, value_of}
+use Rattle.mbe_variables.specs.Fragments.{Appends}
 use Rattle.mbe_semantics.specs.Writing.Rounds.{Path, followed, level}
 use Rattle.mbe_semantics.specs.Writing.Substitution.{AreMarkedPuncts, Writes, Substitutes, AreRounds, IsVariable, IsConcat, separator_trees, integer}
-
--- such trees come at the end of the innermost open group
-unfoldable pub Appends : (Forest → Type 0) → Levels → Levels → Type 0
-Appends P old new = (made : Forest) × P made × (new ≡ put made old)
 
 -- What a call that writes did: whether it met a fault, and, where there is none to meet, what it wrote. The groups that
 -- were
@@ -37,11 +33,6 @@ IsNumber n span out = out ≡ integer n span
 abbrev pub IsJoined : List ℕ → Bool → Option (List ℕ) → Type 0
 IsJoined text fault None = fault ≡ true
 IsJoined text fault (Some joined) = (fault ≡ false) × (text ≡ joined)
-
--- a fragment that is written as it is, or without an invisible group around it
-abbrev pub plain_fragment : Style → Forest → Forest
-plain_fragment stripped f = alone (strip_invisible f)
-plain_fragment _ f = alone f
 
 -- `Marks s t`: the marker may return t for s
 module _ (Marks : Span → Span → Type 0) where

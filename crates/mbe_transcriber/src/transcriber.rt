@@ -16,24 +16,18 @@ ghost use Rattle.mbe_semantics.specs.Writing.Substitution.{variable_faults, sepa
 ghost use Rattle.mbe_semantics.specs.Writing.Substitution.{integer, punct_trees};
 ghost use Rattle.mbe_ops.specs.Views.{op_of, ops_of, template_of, separator_seen};
 ghost use Rattle.mbe_log.specs.BindingViews.{bound_by};
-ghost use Rattle.mbe_transcriber.specs.Writing.{Appends, AreMarked, IsMarkedLiteral, IsMarkedIdent};
+ghost use Rattle.mbe_transcriber.specs.Writing.{AreMarked, IsMarkedLiteral, IsMarkedIdent};
+ghost use Rattle.mbe_variables.specs.Fragments.{Appends};
 ghost use Rattle.mbe_transcriber.specs.Writing.{IsWritten, AreWritten, IsVariableWritten, IsParted};
 ghost use Rattle.mbe_transcriber.specs.Writing.{Wrote};
 ghost use Rattle.mbe_transcriber.specs.Beside.{IsLeft, AreLeft, IsWhatIsLeft};
-ghost use Rattle.mbe_transcriber.specs.FaultViews.{error_of_fault};
-ghost use Rattle.mbe_transcriber.specs.Faults.{at, variable_fault, op_fault, first_fault};
+ghost use Rattle.mbe_variables.specs.FaultViews.{error_of_fault};
+ghost use Rattle.mbe_transcriber.specs.Faults.{variable_fault, op_fault, first_fault};
+ghost use Rattle.mbe_variables.specs.Lost.{at};
 
 mod expressions;
-mod fault;
-mod following;
-mod fragments;
 
 use crate::transcriber::expressions::{find_ignored, write_concat, write_count, write_number};
-use crate::transcriber::fault::WritingFault;
-use crate::transcriber::following::{
-    Simple, index_at, kept_rounds, rounds_at, rounds_of, simple_at,
-};
-use crate::transcriber::fragments::{write_default, write_fragment, write_unbound};
 use mbe_errors::value_result::{ExpandResult, ValueResult};
 use mbe_log::bindings::Bindings;
 use mbe_ops::ops::{MetaTemplate, Op, Separator};
@@ -43,6 +37,9 @@ use mbe_tt::grammar::FragmentGrammar;
 use mbe_tt::span::Span;
 use mbe_tt::symbol::Symbol;
 use mbe_tt::tt::{Delimiter, Ident, Leaf, Literal, Punct, TopSubtree, TopSubtreeBuilder};
+use mbe_variables::fault::WritingFault;
+use mbe_variables::following::{Simple, index_at, kept_rounds, rounds_at, rounds_of, simple_at};
+use mbe_variables::fragments::{mark, write_default, write_fragment, write_unbound};
 use std::alloc::{AllocError, Allocator};
 
 /// What a template is written with.
@@ -94,14 +91,6 @@ pub fn transcribe<A: Allocator + Copy, G: FragmentGrammar, M: Fn(Span) -> Span +
         value: builder.build(),
         err,
     })
-}
-
-// What the marker returns.
-fn mark<M: Fn(Span) -> Span + Copy>(span: Span, marker: M) -> Span
-    requires { MayMark (M.pre marker) }
-    ensures { M.post marker span result }
-{
-    marker(span)
 }
 
 // Writes the ops one after the other, and returns the first fault.

@@ -10,7 +10,7 @@ ghost use Rattle.mbe_semantics.specs.Writing.Concat as spec;
 ghost use Rattle.mbe_semantics.specs.Writing.Concat.{concat_text, are_identifier_chars};
 ghost use Rattle.mbe_semantics.specs.Writing.Concat.{text_of_element, text_of_value, text_of_tree};
 ghost use Rattle.mbe_semantics.specs.Writing.Concat.{text_in_style};
-ghost use Rattle.mbe_transcriber.specs.Counting.{simple_value};
+ghost use Rattle.mbe_variables.specs.Counting.{simple_value};
 ghost use Rattle.mbe_semantics.specs.Laws.Marking.{MayMark};
 ghost use Rattle.mbe_semantics.specs.Bindings.Missing.{default_trees, no_span};
 ghost use Rattle.mbe_semantics.specs.Writing.Rounds.{followed};
@@ -18,19 +18,19 @@ ghost use Rattle.mbe_semantics.specs.Writing.Substitution.{integer, total_of, is
 ghost use Rattle.mbe_semantics.specs.Writing.Substitution.{is_counted};
 ghost use Rattle.mbe_log.specs.BindingViews.{bound_by, fragment_seen};
 ghost use Rattle.mbe_ops.specs.Views.{element_seen, elements_seen};
-ghost use Rattle.mbe_transcriber.specs.Writing.{Appends, Wrote, IsNumber, IsConcatWritten};
+ghost use Rattle.mbe_transcriber.specs.Writing.{Wrote, IsNumber, IsConcatWritten};
+ghost use Rattle.mbe_variables.specs.Fragments.{Appends};
 ghost use Rattle.mbe_transcriber.specs.Writing.{IsJoined};
 ghost use Rattle.std.specs.Result.{result_err};
 ghost use Rattle.mbe_semantics.specs.Syntax.Op as Expression;
 ghost use Rattle.mbe_semantics.specs.Bindings.Environment.{value_of};
 ghost use Rattle.mbe_transcriber.specs.Beside.{name_left};
-ghost use Rattle.mbe_transcriber.specs.FaultViews.{kind_of_fault, error_of_fault};
-ghost use Rattle.mbe_transcriber.specs.Faults.{at, bound_fault, count_fault, needed_fault};
+ghost use Rattle.mbe_variables.specs.FaultViews.{kind_of_fault, error_of_fault};
+ghost use Rattle.mbe_transcriber.specs.Faults.{bound_fault, count_fault, needed_fault};
+ghost use Rattle.mbe_variables.specs.Lost.{at};
 ghost use Rattle.mbe_transcriber.specs.Faults.{element_fault, expression_fault, first_of, joined};
 
-use crate::transcriber::fault::{FaultKind, WritingFault};
-use crate::transcriber::following::{Lost, Simple, follow, simple_at, value_total};
-use crate::transcriber::{ExpandCtx, mark};
+use crate::transcriber::ExpandCtx;
 use mbe_log::bindings::Bindings;
 use mbe_log::fragment::{Fragment, TokensOrigin};
 use mbe_ops::ops::ConcatMetaVarExprElem;
@@ -42,6 +42,9 @@ use mbe_tt::symbol::Symbol;
 use mbe_tt::tt::{
     Ident, IdentIsRaw, Leaf, LitKind, Literal, TokenTreesView, TopSubtreeBuilder, TtElement,
 };
+use mbe_variables::fault::{FaultKind, WritingFault};
+use mbe_variables::following::{Lost, Simple, follow, simple_at, value_total};
+use mbe_variables::fragments::mark;
 use std::alloc::{AllocError, Allocator};
 use unicode_ident::{is_xid_continue, is_xid_start};
 

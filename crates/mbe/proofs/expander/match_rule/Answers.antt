@@ -2,8 +2,6 @@ use Rattle.std.proofs.Common.{◌≡◌, ◌≢◌, ◌∙◌, ap, sym, subst, r
 use Rattle.std.proofs.lemmas.Bool.{true≢false}
 use Rattle.mbe_tt.specs.Trees.Top.{top_group}
 use Rattle.mbe_tt.specs.Views.View.{trees}
-use Rattle.mbe_tt.specs.declared.span.Span.{Span}
-use Rattle.mbe_tt.specs.declared.span.DelimSpan.{DelimSpan}
 use Rattle.mbe_semantics.specs.Readings.Verdict.{IsVerdict, unmatched, one_reading}
 use Rattle.mbe_semantics.specs.Bindings.Account.{run}
 use Rattle.mbe_semantics.specs.Bindings.Environment.{environment_of}
@@ -13,10 +11,9 @@ use Rattle.mbe_ops.specs.Views.{template_of}
 use Rattle.mbe_log.specs.BindingViews.{bound_by}
 use Rattle.mbe_errors.specs.ErrorViews.{error_of, errors_of}
 use Rattle.mbe_matcher.specs.Matched.{verdict_seen, Binds}
-use Rattle.mbe_matcher.specs.Reports.{IsReported}
 use Rattle.mbe_transcriber.specs.Faults.{first_fault}
 use Rattle.mbe_parser.specs.RuleViews.{rule_of}
-use Rattle.mbe.specs.Recovering.{spans_of, IsFaulty}
+use Rattle.mbe.specs.Recovering.{IsFaulty}
 use Rattle.mbe.proofs.TriedLemmas.{unfit_of, unfit, faulty, applied}
 use Rattle.mbe.proofs.expander.match_rule.Goals as goal
 

@@ -1,6 +1,6 @@
 use Rattle.std.proofs.Common.{◌++◌, ◌∷◌, ◌∙◌, [], ◌<◌, map, reverse, length, sym, ap, append_assoc, append-nil, arith}
 use Rattle.std.proofs.lemmas.List.{reverse-append}
-use Rattle.mbe_matcher.specs.Matched.{position_after}
+use Rattle.mbe_places.specs.Stops.{position_after}
 use Rattle.mbe_matcher.proofs.Settling.{popped_all}
 use Rattle.mbe_matcher.proofs.ends.come_first.Goals as goal
 

@@ -1,6 +1,6 @@
 use Rattle.std.proofs.Common.{◌≡◌, ◌++◌, List, map, reverse, length}
-use Rattle.mbe_matcher.specs.declared.position.Waiting.{Waiting}
-use Rattle.mbe_matcher.specs.Matched.{position_after}
+use Rattle.mbe_places.specs.declared.position.Waiting.{Waiting}
+use Rattle.mbe_places.specs.Stops.{position_after}
 use Rattle.mbe_matcher.proofs.ends.come_first.Given as goal
 
 abbrev pub invariant-loop-step : goal.invariant-loop-step

@@ -1,5 +1,5 @@
 use Rattle.std.proofs.Common.{◌≡◌, ◌++◌, List, map, reverse, length}
-use Rattle.mbe_matcher.specs.declared.position.Waiting.{Waiting}
+use Rattle.mbe_places.specs.declared.position.Waiting.{Waiting}
 use Rattle.mbe_matcher.specs.EndsMatched.{visit_after}
 use Rattle.mbe_matcher.proofs.ends.come_last.Given as goal
 

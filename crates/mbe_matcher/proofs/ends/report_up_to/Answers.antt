@@ -9,11 +9,11 @@ use Rattle.mbe_log.proofs.ClientLemmas.{kept-on}
 use Rattle.mbe_ops.specs.Views.{ops_of, template_of}
 use Rattle.mbe_matcher.specs.declared.ends.Visit.TheVariants.{Enter}
 use Rattle.mbe_matcher.specs.declared.met.Met.{Met}
-use Rattle.mbe_matcher.specs.declared.position.Waiting.{Waiting}
+use Rattle.mbe_places.specs.declared.position.Waiting.{Waiting}
 use Rattle.mbe_matcher.specs.Met.{AreUnmetFrom}
-use Rattle.mbe_matcher.specs.Positions.{IsLeft}
+use Rattle.mbe_places.specs.After.{IsLeft}
 use Rattle.mbe_matcher.specs.Reports.{IsFullReport}
-use Rattle.mbe_matcher.specs.Matched.{position_after}
+use Rattle.mbe_places.specs.Stops.{position_after}
 use Rattle.mbe_matcher.specs.TwoEnds.{kept_noted}
 use Rattle.mbe_matcher.specs.EndsMatched.{visit_after, FirstFails}
 use Rattle.mbe_matcher.proofs.EndsPass.{PassAt, pass_begins, first_stack, last_stack, noted_at_stop, goes, pass_notes, pass_goes}

@@ -2,7 +2,7 @@ use Rattle.std.proofs.Common.{◌∙◌, ◌==◌, refl, sym, ap}
 use Rattle.mbe_semantics.specs.Readings.Verdict.{stop_of}
 use Rattle.mbe_log.proofs.ClientLemmas.{kept-on}
 use Rattle.mbe_matcher.specs.Failures.{error_of_notes, commands_of_notes}
-use Rattle.mbe_matcher.specs.Matched.{verdict_in}
+use Rattle.mbe_places.specs.Stops.{verdict_in}
 use Rattle.mbe_matcher.proofs.matching.failed.Goals as goal
 
 pub returns-clause-kept : goal.returns-clause-kept

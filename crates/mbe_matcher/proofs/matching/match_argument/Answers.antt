@@ -7,7 +7,8 @@ use Rattle.mbe_semantics.specs.Bindings.Account.{HasEntriesOf}
 use Rattle.mbe_errors.specs.ErrorViews.{errors_of}
 use Rattle.mbe_log.proofs.ClientLemmas.{kept-on}
 use Rattle.mbe_ops.specs.Views.{template_of}
-use Rattle.mbe_matcher.specs.Matched.{verdict_in, verdict_seen, reading_in, Binds}
+use Rattle.mbe_matcher.specs.Matched.{verdict_seen, Binds}
+use Rattle.mbe_places.specs.Stops.{verdict_in, reading_in}
 use Rattle.mbe_matcher.specs.Reports.{IsReported}
 use Rattle.mbe_matcher.proofs.MatchEnds.{no_reading, both_ok, stop_has_entries}
 use Rattle.mbe_matcher.proofs.Reporting.{report_entries}

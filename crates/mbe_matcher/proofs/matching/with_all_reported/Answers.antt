@@ -1,7 +1,7 @@
 use Rattle.std.proofs.Common.{sym, subst}
 use Rattle.mbe_tt.specs.Views.View.{trees}
 use Rattle.mbe_ops.specs.Views.{template_of}
-use Rattle.mbe_matcher.specs.Matched.{verdict_in}
+use Rattle.mbe_places.specs.Stops.{verdict_in}
 use Rattle.mbe_matcher.specs.Reports.{IsFullReport}
 use Rattle.mbe_matcher.proofs.matching.with_all_reported.Goals as goal
 

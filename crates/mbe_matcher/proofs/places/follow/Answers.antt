@@ -14,11 +14,13 @@ use Rattle.mbe_log.proofs.ClientLemmas.{kept-on}
 use Rattle.mbe_bounds.specs.Loop.Kept.{kept, kept_moves}
 use Rattle.mbe_bounds.proofs.Loop.TurnedPlaces.{ComesTo}
 use Rattle.mbe_matcher.specs.declared.places.Reached.{Reached}
-use Rattle.mbe_matcher.specs.declared.position.Waiting.{Waiting}
-use Rattle.mbe_matcher.specs.Positions.{Each, Shows, IsLeft}
+use Rattle.mbe_places.specs.declared.position.Waiting.{Waiting}
+use Rattle.mbe_matcher.specs.Positions.{Each, Shows}
+use Rattle.mbe_places.specs.After.{IsLeft}
 use Rattle.mbe_matcher.specs.Failures.{no_notes, noted_at, AreNotes}
 use Rattle.mbe_matcher.specs.Reports.{IsReportOf, IsReportIn}
-use Rattle.mbe_matcher.specs.Matched.{position_after, stop_at, verdict_in, reading_in, Binds}
+use Rattle.mbe_matcher.specs.Matched.{Binds}
+use Rattle.mbe_places.specs.Stops.{position_after, stop_at, verdict_in, reading_in}
 use Rattle.mbe_matcher.proofs.MatchEnds.{right_stop, stop_place, binds_stop, next, come_first, stack_of, shown_after}
 use Rattle.mbe_matcher.proofs.Whole.{WholeWith, whole_sound, whole_notes, whole_after}
 use Rattle.mbe_matcher.proofs.places.follow.Goals as goal

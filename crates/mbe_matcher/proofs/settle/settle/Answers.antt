@@ -6,9 +6,9 @@ use Rattle.mbe_semantics.specs.Readings.Input.{input_of}
 use Rattle.mbe_semantics.proofs.InputLemmas.{lawful_input}
 use Rattle.mbe_bounds.specs.Bounded.TwoEach.{cons_if}
 use Rattle.mbe_bounds.specs.Loop.Kept.{kept}
-use Rattle.mbe_matcher.specs.declared.counts.Counts.{Counts}
-use Rattle.mbe_matcher.specs.Counts.{AreCounted, vacancies}
-use Rattle.mbe_matcher.proofs.Counting.{vacancies_most}
+use Rattle.mbe_places.specs.declared.counts.Counts.{Counts}
+use Rattle.mbe_places.specs.Counts.{AreCounted, vacancies}
+use Rattle.mbe_places.proofs.Counting.{vacancies_most}
 use Rattle.mbe_matcher.proofs.Keeping.{keeps_not, keeps_on}
 use Rattle.mbe_matcher.proofs.Settling.{walked_start, popped_shown, popped_number, walked_drop, walked_take, walked_end, walked_done, report_start, report_drop, report_take, fills_begin, fills_next, fills_done, steps_few, few_on, stack_falls, popped_all}
 use Rattle.std.specs.List.{filter_map}

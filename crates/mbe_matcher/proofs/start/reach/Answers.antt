@@ -5,7 +5,8 @@ use Rattle.mbe_tt.specs.Views.View.{trees}
 use Rattle.mbe_semantics.specs.Readings.Verdict.{IsVerdict, stuck, unmatched}
 use Rattle.mbe_ops.specs.Views.{ops_of, template_of}
 use Rattle.mbe_matcher.specs.Fronts.{BeginsUnlike}
-use Rattle.mbe_matcher.specs.Matched.{verdict_in, reading_in, Binds}
+use Rattle.mbe_matcher.specs.Matched.{Binds}
+use Rattle.mbe_places.specs.Stops.{verdict_in, reading_in}
 use Rattle.mbe_matcher.proofs.MatchEnds.{both_ok}
 use Rattle.mbe_matcher.proofs.Starts.{begins_stuck, stuck_reads_nothing}
 use Rattle.mbe_matcher.proofs.start.reach.Goals as goal

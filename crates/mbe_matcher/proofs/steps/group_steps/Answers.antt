@@ -2,7 +2,7 @@ use Rattle.std.proofs.Common.{None, Some, ◌-◌, ◌≡◌, ◌∙◌, length,
 use Rattle.mbe_tt.specs.Views.View.{trees}
 use Rattle.mbe_semantics.specs.Readings.Input.{input_of}
 use Rattle.mbe_ops.specs.Views.{ops_of}
-use Rattle.mbe_matcher.specs.declared.position.Position.{Position}
+use Rattle.mbe_places.specs.declared.position.Position.{Position}
 use Rattle.mbe_matcher.specs.Positions.{AreSteps, over_steps}
 use Rattle.mbe_matcher.proofs.Keeping.{keeps_not, keeps_more}
 use Rattle.mbe_matcher.proofs.StepLemmas.{as_outline, none_steps, group_none, group_over, group_entered}

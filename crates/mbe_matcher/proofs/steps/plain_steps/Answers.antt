@@ -2,7 +2,7 @@ use Rattle.std.proofs.Common.{None, ◌-◌}
 use Rattle.mbe_tt.specs.Views.View.{trees}
 use Rattle.mbe_semantics.specs.Readings.Input.{input_of}
 use Rattle.mbe_ops.specs.Views.{op_of, ops_of}
-use Rattle.mbe_matcher.specs.declared.position.Position.{Position}
+use Rattle.mbe_places.specs.declared.position.Position.{Position}
 use Rattle.mbe_matcher.specs.Positions.{AreStepsNow, over_steps}
 use Rattle.mbe_matcher.proofs.StepLemmas.{as_outline, none_steps, plain_none, plain_over, plain_past}
 use Rattle.mbe_matcher.proofs.steps.plain_steps.Goals as goal

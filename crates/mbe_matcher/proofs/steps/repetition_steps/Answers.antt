@@ -1,6 +1,6 @@
 use Rattle.std.proofs.Common.{◌≡◌, ◌-◌, None, Some, length, refl, arith}
-use Rattle.mbe_matcher.specs.declared.position.Position.{Position}
-use Rattle.mbe_matcher.specs.declared.position.Steps.{Steps}
+use Rattle.mbe_places.specs.declared.position.Position.{Position}
+use Rattle.mbe_places.specs.declared.position.Steps.{Steps}
 use Rattle.mbe_matcher.specs.Positions.{AreSteps}
 use Rattle.mbe_matcher.proofs.StepLemmas.{as_outline, repetition_entered}
 use Rattle.mbe_matcher.proofs.steps.repetition_steps.Goals as goal

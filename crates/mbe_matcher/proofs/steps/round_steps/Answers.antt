@@ -2,8 +2,8 @@ use Rattle.std.proofs.Common.{◌-◌, None, Some}
 use Rattle.mbe_tt.specs.Views.View.{trees}
 use Rattle.mbe_semantics.specs.Syntax.Op.{no_ops}
 use Rattle.mbe_semantics.specs.Readings.Input.{input_of}
-use Rattle.mbe_matcher.specs.declared.position.Position.{Position}
-use Rattle.mbe_matcher.specs.declared.position.Steps.{Steps}
+use Rattle.mbe_places.specs.declared.position.Position.{Position}
+use Rattle.mbe_places.specs.declared.position.Steps.{Steps}
 use Rattle.mbe_matcher.specs.Positions.{AreSteps, over_steps}
 use Rattle.mbe_log.proofs.ClientLemmas.{has_entries}
 use Rattle.mbe_matcher.proofs.StepLemmas.{as_outline, in_rounds, round_done, round_more}

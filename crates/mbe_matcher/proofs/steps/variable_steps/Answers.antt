@@ -5,7 +5,7 @@ use Rattle.mbe_semantics.specs.Readings.Input.{input_of}
 use Rattle.mbe_semantics.specs.Readings.Item.{Fragment, style_of}
 use Rattle.mbe_semantics.proofs.FrontLemmas.{takes_cut}
 use Rattle.mbe_ops.specs.Views.{ops_of}
-use Rattle.mbe_matcher.specs.declared.position.Position.{Position}
+use Rattle.mbe_places.specs.declared.position.Position.{Position}
 use Rattle.mbe_matcher.specs.Positions.{AreSteps, over_steps}
 use Rattle.mbe_matcher.proofs.Keeping.{keeps_not, kept_only}
 use Rattle.mbe_matcher.proofs.StepLemmas.{as_outline, none_steps, not_taken, taken_is, variable_none, variable_over, variable_past}

@@ -3,8 +3,8 @@ use Rattle.mbe_tt.specs.Views.View.{trees}
 use Rattle.mbe_semantics.specs.Readings.Input.{input_of}
 use Rattle.mbe_bounds.specs.Bounded.TwoEach.{cons_if}
 use Rattle.mbe_bounds.specs.Loop.Kept.{kept}
-use Rattle.mbe_matcher.specs.declared.counts.Counts.{Counts}
-use Rattle.mbe_matcher.specs.Counts.{AreCounted, vacancies}
+use Rattle.mbe_places.specs.declared.counts.Counts.{Counts}
+use Rattle.mbe_places.specs.Counts.{AreCounted, vacancies}
 use Rattle.mbe_matcher.specs.Positions.{IsPosition, Shows}
 use Rattle.mbe_matcher.proofs.Keeping.{keeps_not, keeps_on}
 use Rattle.mbe_matcher.proofs.Settling.{stack_falls, popped_all}

@@ -12,9 +12,10 @@ use Rattle.mbe_semantics.proofs.InputLemmas.{lawful_input}
 use Rattle.mbe_ops.specs.Views.{ops_of, template_of}
 use Rattle.mbe_bounds.specs.Loop.Kept.{kept_moves}
 use Rattle.mbe_bounds.proofs.Loop.TurnedPlaces.{ComesTo}
-use Rattle.mbe_matcher.specs.declared.position.Waiting.{Waiting}
-use Rattle.mbe_matcher.specs.Positions.{Each, Shows, IsLeft}
-use Rattle.mbe_matcher.specs.Matched.{position_after, stop_at, verdict_in}
+use Rattle.mbe_places.specs.declared.position.Waiting.{Waiting}
+use Rattle.mbe_matcher.specs.Positions.{Each, Shows}
+use Rattle.mbe_places.specs.After.{IsLeft}
+use Rattle.mbe_places.specs.Stops.{position_after, stop_at, verdict_in}
 use Rattle.mbe_matcher.proofs.MatchEnds.{right_stop, stop_place, next, come_first, stack_of, shown_after}
 use Rattle.mbe_matcher.specs.Wanted.{AreWays}
 use Rattle.mbe_matcher.proofs.Looking.{stack_kept}

@@ -8,7 +8,7 @@ use Rattle.mbe_semantics.specs.Readings.Input.{input_of}
 use Rattle.mbe_semantics.specs.Syntax.Nullable.{Checked}
 use Rattle.mbe_ops.specs.Views.{template_of}
 use Rattle.mbe_bounds.proofs.Loop.TurnedPlaces.{ComesTo}
-use Rattle.mbe_matcher.specs.Counts.{AreBlankFrom}
+use Rattle.mbe_places.specs.Counts.{AreBlankFrom}
 use Rattle.mbe_matcher.specs.Positions.{Each, Shows}
 use Rattle.mbe_matcher.proofs.wanting.reach_ways.Given as goal
 

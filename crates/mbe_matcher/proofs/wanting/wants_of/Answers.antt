@@ -2,7 +2,7 @@ use Rattle.std.proofs.Common.{◌≡◌, ◌∙◌, map, option_map, sym, ap, su
 use Rattle.mbe_tt.specs.Views.View.{trees}
 use Rattle.mbe_semantics.specs.Readings.Verdict.{IsVerdict}
 use Rattle.mbe_ops.specs.Views.{template_of}
-use Rattle.mbe_matcher.specs.Matched.{verdict_in}
+use Rattle.mbe_places.specs.Stops.{verdict_in}
 use Rattle.mbe_matcher.specs.Wanted.{AreWanted, ClashThere, wanted_seen, pair_seen, way_seen, next_in, first_clash}
 use Rattle.mbe_matcher.proofs.WantedLemmas.{are_wanted, clash_there}
 use Rattle.mbe_matcher.proofs.wanting.wants_of.Goals as goal

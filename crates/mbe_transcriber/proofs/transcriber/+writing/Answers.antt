@@ -6,10 +6,10 @@ use Rattle.mbe_ops.specs.Views.{op_of, ops_of, separator_seen, elements_seen}
 use Rattle.mbe_log.specs.BindingViews.{bound_by}
 use Rattle.mbe_ops.proofs.EqualityLemmas.{op_no_heavier}
 use Rattle.mbe_ops.proofs.OpViews.{view-repeat, view-var, view-subtree, view-literal, view-punct, view-ident, view-index, view-len, view-count, view-concat, view-ignore}
-use Rattle.mbe_transcriber.proofs.FollowLemmas.{ops_split, ops_over}
-use Rattle.mbe_transcriber.proofs.FollowLemmas.{seen_copied}
-use Rattle.mbe_transcriber.specs.FaultViews.{error_of_fault}
-use Rattle.mbe_transcriber.specs.Faults.{extent_fault}
+use Rattle.mbe_variables.proofs.FollowLemmas.{ops_split, ops_over}
+use Rattle.mbe_variables.proofs.FollowLemmas.{seen_copied}
+use Rattle.mbe_variables.specs.FaultViews.{error_of_fault}
+use Rattle.mbe_variables.specs.Lost.{extent_fault}
 use Rattle.mbe_transcriber.proofs.FaultLemmas as firsts
 use Rattle.mbe_transcriber.proofs.LeftLemmas as lefts
 use Rattle.mbe_transcriber.proofs.WroteLemmas as lemmas

@@ -5,7 +5,7 @@ use Rattle.mbe_ops.proofs.EqualityLemmas.{op_weight, ops_weight}
 use Rattle.mbe_log.specs.BindingViews.{bound_by}
 use Rattle.std.specs.Option.{option_or}
 use Rattle.mbe_semantics.specs.Writing.Rounds.{level}
-use Rattle.mbe_transcriber.specs.FaultViews.{error_of_fault}
+use Rattle.mbe_variables.specs.FaultViews.{error_of_fault}
 use Rattle.mbe_transcriber.specs.Faults.{first_below, first_fault}
 use Rattle.mbe_transcriber.proofs.LeftLemmas.{GoesOn, Begun}
 use Rattle.mbe_transcriber.proofs.WroteLemmas.{Sofar, Rounded}

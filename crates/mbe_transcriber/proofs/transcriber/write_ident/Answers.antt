@@ -1,6 +1,6 @@
 use Rattle.std.proofs.Common.{◌≡◌, ap, rules}
 use Rattle.mbe_tt.specs.Views.Shown.{ident_of}
-use Rattle.mbe_transcriber.proofs.VariableLemmas.{if_ok}
+use Rattle.mbe_variables.proofs.FragmentLemmas.{if_ok}
 use Rattle.mbe_transcriber.proofs.WroteLemmas.{ident_written}
 use Rattle.mbe_transcriber.proofs.transcriber.write_ident.Goals as goal
 

@@ -1,6 +1,7 @@
 use Rattle.std.proofs.Common.{◌≡◌, length, drop}
 use Rattle.mbe_tt.specs.Buffers.Building.{Levels}
-use Rattle.mbe_transcriber.specs.Writing.{Appends, AreMarked}
+use Rattle.mbe_transcriber.specs.Writing.{AreMarked}
+use Rattle.mbe_variables.specs.Fragments.{Appends}
 use Rattle.mbe_transcriber.proofs.transcriber.write_puncts.Given as goal
 
 abbrev pub invariant-loop-punct : goal.invariant-loop-punct

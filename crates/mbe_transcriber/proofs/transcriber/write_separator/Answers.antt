@@ -3,7 +3,7 @@ use Rattle.std.specs.Prelude.{option_map}
 use Rattle.mbe_tt.specs.Buffers.Building.{put}
 use Rattle.mbe_semantics.specs.Writing.Substitution.{separator_trees}
 use Rattle.mbe_ops.specs.Views.{separator_seen}
-use Rattle.mbe_transcriber.proofs.WritingLemmas.{put-none}
+use Rattle.mbe_variables.proofs.PutLemmas.{put-none}
 use Rattle.mbe_transcriber.proofs.transcriber.write_separator.Goals as goal
 
 pub returns-in-None : goal.returns-in-None

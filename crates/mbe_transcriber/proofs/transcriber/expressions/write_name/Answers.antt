@@ -1,6 +1,6 @@
 use Rattle.std.proofs.Common.{◌≡◌, ◌∙◌, ap, sym}
 use Rattle.mbe_semantics.specs.Writing.Substitution.{rawness}
-use Rattle.mbe_transcriber.proofs.VariableLemmas.{if_ok}
+use Rattle.mbe_variables.proofs.FragmentLemmas.{if_ok}
 use Rattle.mbe_transcriber.proofs.WroteLemmas.{name_written}
 use Rattle.mbe_transcriber.proofs.transcriber.expressions.write_name.Goals as goal
 use Rattle.mbe_transcriber.proofs.transcriber.expressions.write_name.Goals.{then-is_keyword, else-is_keyword}

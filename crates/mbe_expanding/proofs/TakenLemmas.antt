@@ -1,0 +1,51 @@
+-- What the variables of a rule took, step by step.
+use Rattle.std.proofs.Common.{ℕ, suc, ◌≡◌, ◌+◌, ◌-◌, ◌<◌, ◌++◌, Bool, false, Vec, List, ◌∷◌, map, ap, sym, ◌∙◌, append_assoc, arith}
+use Rattle.std.specs.Prelude.{◌==◌, if◌then◌else◌}
+use Rattle.std.specs.Char.{encode_utf8}
+use Rattle.mbe_semantics.specs.Bindings.Environment.{Value, fragment, list, empty, missing, Values, no_values, value}
+use Rattle.mbe_log.specs.declared.bindings.Binding.{Binding, Nested}
+use Rattle.mbe_log.specs.BindingViews.{value_seen, values_seen}
+use Rattle.mbe_log.proofs.BindingLemmas.{seen-nested}
+use Rattle.mbe_expanding.specs.Taking.{between, value_text, values_text}
+
+-- how many values there are, at any depth: a measure
+abbrev mutual
+  pub value_size : Value → ℕ
+  value_size (list vs) = suc (values_size vs)
+  value_size _ = 0
+
+  pub values_size : Values → ℕ
+  values_size no_values = 0
+  values_size (value v vs) = suc (value_size v + values_size vs)
+
+module _ {A : Type 0} where
+  -- a round, and those after it, are less than all
+  pub round_smaller : (all rest : List (Binding A)) (x : Binding A) → all ≡ x ∷ rest
+      → value_size (value_seen x) < values_size (values_seen all)
+  round_smaller all rest x e = let same = ap (λ l. values_size (values_seen l)) e in omega arith
+
+  pub rounds_smaller : (all rest : List (Binding A)) (x : Binding A) → all ≡ x ∷ rest
+      → values_size (values_seen rest) < values_size (values_seen all)
+  rounds_smaller all rest x e = let same = ap (λ l. values_size (values_seen l)) e in omega arith
+
+  -- rounds are less than what they are the rounds of
+  pub nested_smaller : (b : Binding A) (rounds : Vec (Binding A) A) (held : List (Binding A)) → b ≡ Nested rounds
+      → held ≡ rounds.items → values_size (values_seen held) < value_size (value_seen b)
+  nested_smaller b rounds held e h =
+      let one = ap value_size (ap value_seen e ∙ seen-nested rounds) in
+      let two = ap (λ l. values_size (values_seen l)) h in
+      omega arith
+
+  -- a round more is written
+  pub one_round : (room : ℕ) (all rest : List (Binding A)) (x : Binding A) (t u v w : List ℕ) → all ≡ x ∷ rest
+      → (room == 0) ≡ false → u ≡ t ++ value_text (value_seen x) → v ≡ u ++ between (values_seen rest)
+      → w ≡ v ++ values_text (room - 1) (values_seen rest) → w ≡ t ++ values_text room (values_seen all)
+  one_round room all rest x t u v w e f hu hv hw =
+      let one = value_text (value_seen x) in
+      let gap = between (values_seen rest) in
+      let more = values_text (room - 1) (values_seen rest) in
+      let opened : values_text room (values_seen all) ≡ one ++ (gap ++ more) =
+      ap (λ l. values_text room (values_seen l)) e
+      ∙ ap (λ b. if b then encode_utf8 8230 else one ++ (gap ++ more)) f in
+      hw ∙ (ap (λ x. x ++ more) (hv ∙ ap (λ x. x ++ gap) hu)
+      ∙ (append_assoc (t ++ one) gap more ∙ (append_assoc t one (gap ++ more) ∙ ap (λ x. t ++ x) (sym opened))))

@@ -1,0 +1,3 @@
+pub mod Counting
+pub mod Sources
+pub mod WholeFronts

@@ -1,0 +1,54 @@
+-- How many ops there are, at any depth: a measure. And what ops with a body come to.
+use Rattle.std.proofs.Common.{ℕ, zero, suc, ◌≡◌, ◌+◌, ◌<◌, ◌&&◌, Bool, true, Option, List, ◌∷◌, ap, sym, ◌∙◌, arith}
+use Rattle.mbe_tt.specs.declared.tt.Delimiter.{Delimiter}
+use Rattle.mbe_semantics.specs.declared.kinds.RepeatKind.{RepeatKind}
+use Rattle.mbe_semantics.specs.Syntax.Op.{Separator, Op, Ops, no_ops, op, group, repetition}
+use Rattle.mbe_ops.specs.declared.ops.Op as code
+use Rattle.mbe_ops.specs.Views.{op_of, ops_of}
+use Rattle.mbe_reaching.specs.Alike.{opens_alike, goes_round_alike, is_like, are_alike}
+
+abbrev mutual
+  pub op_size : Op → ℕ
+  op_size (group d body) = suc (ops_size body)
+  op_size (repetition body s k) = suc (ops_size body)
+  op_size _ = 0
+
+  pub ops_size : Ops → ℕ
+  ops_size no_ops = 0
+  ops_size (op o os) = suc (op_size o + ops_size os)
+
+-- the first op, and the ops after it, are fewer than all
+pub first_smaller : {A : Type 0} (all rest : List (code.Op A)) (x : code.Op A) → all ≡ x ∷ rest
+    → op_size (op_of x) < ops_size (ops_of all)
+first_smaller all rest x e = let same = ap (λ l. ops_size (ops_of l)) e in omega arith
+
+pub rest_smaller : {A : Type 0} (all rest : List (code.Op A)) (x : code.Op A) → all ≡ x ∷ rest
+    → ops_size (ops_of rest) < ops_size (ops_of all)
+rest_smaller all rest x e = let same = ap (λ l. ops_size (ops_of l)) e in omega arith
+
+-- a body has fewer ops than what it is the body of
+pub group_smaller : (o : Op) (d : Delimiter) (body held : Ops) → o ≡ group d body → held ≡ body
+    → ops_size held < op_size o
+group_smaller o d body held ho hb = let one = ap op_size ho in let two = ap ops_size hb in omega arith
+
+pub repetition_smaller : (o : Op) (body held : Ops) (s : Option Separator) (k : RepeatKind) → o ≡ repetition body s k
+    → held ≡ body → ops_size held < op_size o
+repetition_smaller o body held s k ho hb = let one = ap op_size ho in let two = ap ops_size hb in omega arith
+
+-- ---- what is alike
+
+pub groups_alike : (o p : Op) (d e : Delimiter) (body other held holds : Ops) (opens inside : Bool)
+    → o ≡ group d body → p ≡ group e other → held ≡ body → holds ≡ other → opens ≡ opens_alike d e → opens ≡ true
+    → inside ≡ are_alike held holds → inside ≡ is_like o p
+groups_alike o p d e body other held holds opens inside ho hp hb hc he ht ha =
+    ha ∙ (ap (λ x. are_alike x holds) hb ∙ (ap (are_alike body) hc
+    ∙ (ap (λ x. x && are_alike body other) (sym (sym he ∙ ht))
+    ∙ (ap (λ x. is_like x (group e other)) (sym ho) ∙ ap (is_like o) (sym hp)))))
+
+pub repetitions_alike : (o p : Op) (body other held holds : Ops) (s t : Option Separator) (k l : RepeatKind)
+    (round inside : Bool) → o ≡ repetition body s k → p ≡ repetition other t l → held ≡ body → holds ≡ other
+    → round ≡ goes_round_alike s k t l → round ≡ true → inside ≡ are_alike held holds → inside ≡ is_like o p
+repetitions_alike o p body other held holds s t k l round inside ho hp hb hc he ht ha =
+    ha ∙ (ap (λ x. are_alike x holds) hb ∙ (ap (are_alike body) hc
+    ∙ (ap (λ x. x && are_alike body other) (sym (sym he ∙ ht))
+    ∙ (ap (λ x. is_like x (repetition other t l)) (sym ho) ∙ ap (is_like o) (sym hp)))))

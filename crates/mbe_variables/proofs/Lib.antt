@@ -1,0 +1,4 @@
+pub mod FollowLemmas
+pub mod FragmentLemmas
+pub mod PathLemmas
+pub mod PutLemmas

@@ -1,0 +1,4 @@
+pub mod Counting
+pub mod FaultViews
+pub mod Fragments
+pub mod Lost
