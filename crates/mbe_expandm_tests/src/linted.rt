@@ -16,8 +16,8 @@ const VALID: &str =
 
 // What is reported of a file.
 fn reported(alloc: Global, text: &str, form: Form) -> Result<(String, u8), Fail> {
-    let texts: [Named; 1] = [Named {
-        name: String::from_str(alloc, "a.rs")?,
+    let texts: [Named<'_>; 1] = [Named {
+        name: "a.rs",
         text: String::from_str(alloc, text)?,
     }];
     let mut words = Vec::new(alloc);
@@ -238,9 +238,8 @@ static UNREACHED: [(&str, &str); 15] = [
 fn unreached_of(alloc: Global, messages: &str) -> Result<String, AllocError> {
     let mut found = String::new(alloc);
     for message in messages.split("; ") {
-        if let Some((place, rest)) = message.split_once(
-            " warning: no call reaches this rule: rule ",
-        )
+        if let Some((place, rest)) = message.split_once(" warning: no call reaches this rule: ")
+            && let Some(rest) = rest.strip_prefix("rule ")
             && let Some((number, _)) = rest.split_once(" takes every argument that it takes")
         {
             let both = format!(in alloc; "{place} by {number}; ")?;
@@ -255,10 +254,8 @@ fn rules_beyond_reach_are_found(rt: HostRuntime) -> Result<(), Fail> {
     for (text, want) in &UNREACHED {
         let (reports, _) = reported(rt.alloc(), text, Form::Text)?;
         let messages = messages_of(rt.alloc(), reports.as_str())?;
-        assert_eq!(rt;
-            unreached_of(rt.alloc(), messages.as_str())?.as_str(),
-            *want
-        );
+        let found = unreached_of(rt.alloc(), messages.as_str())?;
+        assert_eq!(rt; found.as_str(), *want);
     }
     Ok(())
 }

@@ -6,6 +6,7 @@ use Rattle.mbe_semantics.specs.Syntax.Op.{Separator, Op, Ops, no_ops, op, group,
 use Rattle.mbe_ops.specs.declared.ops.Op as code
 use Rattle.mbe_ops.specs.Views.{op_of, ops_of}
 use Rattle.mbe_reaching.specs.Alike.{opens_alike, goes_round_alike, is_like, are_alike}
+use Rattle.mbe_reaching.specs.Reaching.{only_op, is_some_tree, is_list, are_trees}
 
 abbrev mutual
   pub op_size : Op → ℕ
@@ -52,3 +53,12 @@ repetitions_alike o p body other held holds s t k l round inside ho hp hb hc he 
     ha ∙ (ap (λ x. are_alike x holds) hb ∙ (ap (are_alike body) hc
     ∙ (ap (λ x. x && are_alike body other) (sym (sym he ∙ ht))
     ∙ (ap (λ x. is_like x (repetition other t l)) (sym ho) ∙ ap (is_like o) (sym hp)))))
+
+-- ---- any trees
+
+pub trees_seen : (o : Op) (body held : Ops) (s : Option Separator) (k : RepeatKind) (list inside : Bool) (only : Option Op)
+    → o ≡ repetition body s k → held ≡ body → list ≡ is_list s k → list ≡ true → only ≡ only_op held
+    → inside ≡ is_some_tree only → inside ≡ are_trees o
+trees_seen o body held s k list inside only ho hb hl ht hn ha =
+    ha ∙ (ap is_some_tree (hn ∙ ap only_op hb)
+    ∙ (ap (λ x. x && is_some_tree (only_op body)) (sym (sym hl ∙ ht)) ∙ ap are_trees (sym ho)))

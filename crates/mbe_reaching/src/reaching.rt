@@ -1,11 +1,12 @@
 // Rules that no call reaches, as an earlier one takes every argument that they take.
-ghost use Rattle.std.specs.Prelude.{◌≡◌, ◌++◌, IfOk, OnOk};
-ghost use Rattle.mbe_ops.specs.Views.{op_of, ops_of};
+ghost use Rattle.std.specs.Prelude.{◌≡◌, ◌++◌, IfOk, OnOk, option_map};
+ghost use Rattle.mbe_ops.specs.Views.{op_of, ops_of, separator_seen};
 ghost use Rattle.mbe_parser.specs.RuleViews.{rule_of, rules_seen};
 ghost use Rattle.mbe_reaching.specs.Reaching as spec;
 
 use crate::alike::are_alike;
 use crate::writing::writes_surely;
+use mbe_ops::held::Between;
 use mbe_ops::ops::Op;
 use mbe_parser::rules::Rule;
 use mbe_semantics::kinds::{MetaVarKind, RepeatKind};
@@ -22,38 +23,87 @@ fn style_number(style: MacroCallStyle) -> u8
     }
 }
 
-// `$t:tt` and nothing else.
-#[tactic(auto, using(mbe_ops::proofs::OpViews::views))]
-fn is_any_tree<A: Allocator>(body: &[Op<A>]) -> bool
-    ensures { result ≡ spec.is_any_tree (ops_of body.now) }
+fn is_tt(kind: Option<MetaVarKind>) -> bool
+    ensures { result ≡ spec.is_tt kind }
 {
-    match body {
-        [Op::Var { kind, .. }] => matches!(kind, Some(MetaVarKind::Tt)),
+    match kind {
+        Some(MetaVarKind::Tt) => true,
         _ => false,
     }
 }
 
-// A repetition of any trees.
+// `$t:tt`.
 #[tactic(auto, using(mbe_ops::proofs::OpViews::views))]
-fn is_any_trees<A: Allocator>(op: &Op<A>) -> bool
-    ensures { result ≡ spec.is_any_trees (op_of op.now) }
+fn is_tree<A: Allocator>(op: &Op<A>) -> bool
+    ensures { result ≡ spec.is_tree (op_of op.now) }
+{
+    match op {
+        Op::Var { kind, .. } => is_tt(*kind),
+        Op::Subtree { .. } | Op::Repeat { .. } => false,
+        Op::Literal(_) | Op::Punct(_) | Op::Ident(_) => false,
+        Op::Ignore { .. }
+        | Op::Index { .. }
+        | Op::Len { .. }
+        | Op::Count { .. }
+        | Op::Concat { .. } => false,
+    }
+}
+
+fn only_op<A: Allocator>(ops: &[Op<A>]) -> Option<&Op<A>>
+    ensures { option_map (λ o. op_of o.now) result ≡ spec.only_op (ops_of ops.now) }
+{
+    let (op, rest) = ops.split_first()?;
+    match rest.split_first() {
+        None => Some(op),
+        Some(_) => None,
+    }
+}
+
+fn is_some_tree<A: Allocator>(op: Option<&Op<A>>) -> bool
+    ensures { result ≡ spec.is_some_tree (option_map (λ o. op_of o.now) op.entry) }
+{
+    match op {
+        None => false,
+        Some(op) => is_tree(op),
+    }
+}
+
+fn is_list<A: Allocator>(separator: &Between<A>, kind: RepeatKind) -> bool
+    ensures { result ≡ spec.is_list (option_map separator_seen separator.now) kind }
+{
+    match (separator.as_ref(), kind) {
+        (None, RepeatKind::ZeroOrMore) => true,
+        _ => false,
+    }
+}
+
+// `$($t:tt)*`.
+#[tactic(auto, using(mbe_ops::proofs::OpViews::views))]
+fn are_trees<A: Allocator>(op: &Op<A>) -> bool
+    ensures { result ≡ spec.are_trees (op_of op.now) }
 {
     match op {
         Op::Repeat {
             tokens,
-            kind: RepeatKind::ZeroOrMore,
+            kind,
             separator,
-        } => separator.as_ref().is_none() && is_any_tree(&tokens.0),
-        _ => false,
+        } => is_list(separator, *kind) && is_some_tree(only_op(&tokens.0)),
+        Op::Var { .. } | Op::Subtree { .. } => false,
+        Op::Literal(_) | Op::Punct(_) | Op::Ident(_) => false,
+        Op::Ignore { .. }
+        | Op::Index { .. }
+        | Op::Len { .. }
+        | Op::Count { .. }
+        | Op::Concat { .. } => false,
     }
 }
 
 fn takes_all<A: Allocator>(pattern: &[Op<A>]) -> bool
     ensures { result ≡ spec.takes_all (ops_of pattern.now) }
 {
-    match pattern {
-        [only] => is_any_trees(only),
-        _ => false,
+    match only_op(pattern) {
+        None => false,
+        Some(op) => are_trees(op),
     }
 }
 

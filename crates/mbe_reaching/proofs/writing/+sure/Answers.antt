@@ -21,8 +21,8 @@ is_sure_op-returns-then-not-goes_round g t c =
     let seen = ap op_of here.is ∙ view-open_repeat here.tokens here.kind here.separator in
     let fails : c.goes_round.result ≡ false = search rules in
     unsure_round (map bound_seen c.args.bound.now) c.args.depth _ (ops_of here.tokens.0.items) _
-    (option_map separator_seen here.separator) here.kind c.goes_round.result seen (ap ops_of c.deref-in-Repeat.ensures.value)
-    c.goes_round.ensures fails
+    (option_map separator_seen here.separator) here.kind c.goes_round.result seen
+    (ap ops_of c.deref-in-Repeat.ensures.value) c.goes_round.ensures fails
 
 pub is_sure_op-returns-in-Subtree : goal.is_sure_op-returns-in-Subtree
 is_sure_op-returns-in-Subtree g t c =

@@ -36,7 +36,8 @@ loop-index-preserved g c =
     let pushed = c.in_ok-push.ensures.items in
     let number = length-map items rule_seen ∙ c.loop-index.invariant.1 in
     let says =
-    subst (λ n. Says h rs c.args.argument.now n (rule_seen rule).said) (sym number) c.in_ok-what_rule_says.ensures.says in
+    subst (λ n. Says h rs c.args.argument.now n (rule_seen rule).said) (sym number)
+    c.in_ok-what_rule_says.ensures.says in
     let takes =
     subst (λ n. Takes h rs c.args.argument.now.1 n (rule_seen rule).taken) (sym number)
     c.in_ok-what_rule_takes.ensures.takes in
