@@ -33,13 +33,15 @@ pub fn is_followed(follows: bool, name: &str) -> bool
 fn file_of<'s>(file: &'s SourceFile<'s>) -> File<'s>
     ensures { file_shown result ≡ file_of (source_of file.now) }
 {
-    let trees = match &file.tree {
-        Some(tree) => Some(tree.iter().remaining()),
-        None => None,
-    };
-    File {
-        path: file.name,
-        trees,
+    match &file.tree {
+        Some(tree) => File {
+            path: file.name,
+            trees: Some(tree.iter().remaining()),
+        },
+        None => File {
+            path: file.name,
+            trees: None,
+        },
     }
 }
 
