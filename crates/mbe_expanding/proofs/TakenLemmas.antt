@@ -1,15 +1,18 @@
 -- What the variables of a rule took, step by step.
-use Rattle.std.proofs.Common.{ℕ, suc, ◌≡◌, ◌+◌, ◌-◌, ◌<◌, ◌++◌, Bool, false, Vec, List, [], ◌∷◌, refl, ap, sym, ◌∙◌, append_assoc, arith}
-use Rattle.std.specs.Prelude.{◌==◌, if◌then◌else◌, codes}
-use Rattle.std.specs.Char.{encode_utf8}
-use Rattle.std.proofs.lemmas.Bool.Decides.{nat_tests}
-use Rattle.mbe_tt.specs.Trees.Tree.{none}
-use Rattle.mbe_semantics.specs.Bindings.Environment.{Value, list, Values, no_values, value}
+use Rattle.std.proofs.Common.{ℕ, suc, ◌≡◌, ◌+◌, ◌<◌, Vec, Some, None, List, [], ◌∷◌, length, map, refl, ap, ◌∙◌, arith}
+use Rattle.mbe_tt.specs.Trees.Tree.{Forest, none}
+use Rattle.mbe_tt.specs.Fragments.Grammar.{Grammar}
+use Rattle.mbe_semantics.specs.Syntax.Op.{Ops}
+use Rattle.mbe_semantics.specs.Syntax.Definition.{Rule}
+use Rattle.mbe_semantics.specs.Bindings.Environment.{Environment, Value, list, Values, no_values, value}
+use Rattle.mbe_semantics.specs.Writing.Rounds.{value_count}
 use Rattle.mbe_log.specs.declared.bindings.Binding.{Binding, Nested}
 use Rattle.mbe_log.specs.BindingViews.{value_seen, values_seen}
 use Rattle.mbe_log.proofs.BindingLemmas.{seen-nested}
+use Rattle.mbe.specs.Explaining.{BindsThere, HasPattern}
+use Rattle.mbe_linting.specs.Variables.{bound_in}
 use Rattle.mbe_rust_text.specs.Writing.{text_of, written_after}
-use Rattle.mbe_expanding.specs.Taking.{between, value_text, values_text}
+use Rattle.mbe_expanding.specs.Taking.{Taken, Takes, taken_of}
 
 -- no tokens have no text
 pub nothing_written : text_of 0 none ≡ []
@@ -44,32 +47,18 @@ module _ {A : Type 0} where
       let two = ap (λ l. values_size (values_seen l)) h in
       omega arith
 
-  positive : (room : ℕ) → 0 < room → (room == 0) ≡ false
-  positive room h = grind (arith, nat_tests)
+  pub count_seen : (rounds : List (Binding A)) → value_count (values_seen rounds) ≡ length rounds
+  count_seen [] = refl
+  count_seen (x ∷ rounds) = let rest = count_seen rounds in omega arith
 
-  -- a round more is written
-  pub one_round : (room : ℕ) (all rest : List (Binding A)) (x : Binding A) (t u v w : List ℕ) → all ≡ x ∷ rest
-      → 0 < room → u ≡ t ++ value_text (value_seen x) → v ≡ u ++ between (values_seen rest)
-      → w ≡ v ++ values_text (room - 1) (values_seen rest) → w ≡ t ++ values_text room (values_seen all)
-  one_round room all rest x t u v w e p hu hv hw =
-      let one = value_text (value_seen x) in
-      let gap = between (values_seen rest) in
-      let more = values_text (room - 1) (values_seen rest) in
-      let opened : values_text room (values_seen all) ≡ one ++ (gap ++ more) =
-      ap (λ l. values_text room (values_seen l)) e
-      ∙ ap (λ b. if b then encode_utf8 8230 else one ++ (gap ++ more)) (positive room p) in
-      hw ∙ (ap (λ x. x ++ more) (hv ∙ ap (λ x. x ++ gap) hu)
-      ∙ (append_assoc (t ++ one) gap more ∙ (append_assoc t one (gap ++ more) ∙ ap (λ x. t ++ x) (sym opened))))
+-- ---- what a rule's variables took
 
-  -- rounds of a repetition in another one are in parentheses
-  pub nested_text : (b : Binding A) (rounds : Vec (Binding A) A) (held : List (Binding A)) (t u v w : List ℕ)
-      → b ≡ Nested rounds → held ≡ rounds.items → u ≡ t ++ codes "(" → v ≡ u ++ values_text 16 (values_seen held)
-      → w ≡ v ++ codes ")" → w ≡ t ++ value_text (value_seen b)
-  nested_text b rounds held t u v w e h hu hv hw =
-      let inside = values_text 16 (values_seen held) in
-      let seen : value_text (value_seen b) ≡ codes "(" ++ (inside ++ codes ")") =
-      ap value_text (ap value_seen e ∙ seen-nested rounds)
-      ∙ ap (λ l. codes "(" ++ (values_text 16 (values_seen l) ++ codes ")")) (sym h) in
-      hw ∙ (ap (λ x. x ++ codes ")") (hv ∙ ap (λ x. x ++ inside) hu)
-      ∙ (append_assoc (t ++ codes "(") inside (codes ")")
-      ∙ (append_assoc t (codes "(") (inside ++ codes ")") ∙ ap (λ x. t ++ x) (sym seen))))
+pub none_taken : (g : Grammar) (rules : List Rule) (argument : Forest) (index : ℕ) (taken : List Taken)
+    → BindsThere g rules argument index None → taken ≡ [] → Takes g rules argument index taken
+none_taken g rules argument index taken b e = (None, b.0.reads, b, (b.0, b.1, refl), e)
+
+pub some_taken : (g : Grammar) (rules : List Rule) (argument : Forest) (index : ℕ) (taken : List Taken)
+    (env : Environment) (pattern : Ops) → BindsThere g rules argument index (Some env)
+    → HasPattern rules index pattern → taken ≡ map (taken_of env) (bound_in 0 pattern)
+    → Takes g rules argument index taken
+some_taken g rules argument index taken env pattern b p e = (Some env, pattern, b, p, e)

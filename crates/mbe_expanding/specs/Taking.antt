@@ -51,9 +51,13 @@ abbrev mutual
 abbrev pub rounds_text : ℕ → List ℕ
 rounds_text n = if n == 1 then codes " (1 round)" else codes " (" ++ (decimal n ++ codes " rounds)")
 
+-- the rounds, and how many there were
+abbrev pub list_text : Values → List ℕ
+list_text vs = values_text 16 vs ++ rounds_text (value_count vs)
+
 -- what a variable took; of one in a repetition, in each round
 abbrev pub bound_text : Value → List ℕ
-bound_text (list vs) = values_text 16 vs ++ rounds_text (value_count vs)
+bound_text (list vs) = list_text vs
 bound_text v = value_text v
 
 abbrev pub taken_text : Option Value → List ℕ

@@ -129,6 +129,31 @@ fn rounds_text<A: Allocator>(alloc: A, rounds: usize) -> Result<String<A>, Alloc
     }
 }
 
+#[tactic(auto, using(crate::proofs::TakenLemmas::count_seen))]
+fn list_text<A: Allocator + Copy>(
+    alloc: A,
+    rounds: &[Binding<'_, A>],
+) -> Result<String<A>, AllocError>
+    ensures { IfOk result (λ text. string_bytes text ≡ spec.list_text (values_seen rounds.now)) }
+{
+    let mut text = String::new(alloc);
+    push_values(alloc, &mut text, rounds, ROUNDS)?;
+    let count = rounds_text(alloc, rounds.len())?;
+    text.push_str(count.as_str())?;
+    Ok(text)
+}
+
+fn value_text<A: Allocator + Copy>(
+    alloc: A,
+    binding: &Binding<'_, A>,
+) -> Result<String<A>, AllocError>
+    ensures { IfOk result (λ text. string_bytes text ≡ spec.value_text (value_seen binding.now)) }
+{
+    let mut text = String::new(alloc);
+    push_value(alloc, &mut text, binding)?;
+    Ok(text)
+}
+
 #[tactic(auto, using(mbe_log::proofs::BindingLemmas::seen))]
 fn bound_text<A: Allocator + Copy>(
     alloc: A,
@@ -136,17 +161,12 @@ fn bound_text<A: Allocator + Copy>(
 ) -> Result<String<A>, AllocError>
     ensures { IfOk result (λ text. string_bytes text ≡ spec.bound_text (value_seen binding.now)) }
 {
-    let mut text = String::new(alloc);
     match binding {
-        Binding::Nested(rounds) => {
-            push_values(alloc, &mut text, rounds, ROUNDS)?;
-            text.push_str(rounds_text(alloc, rounds.len())?.as_str())?;
-        }
-        Binding::Fragment(_) | Binding::Empty | Binding::Missing(_) => {
-            push_value(alloc, &mut text, binding)?;
-        }
+        Binding::Nested(rounds) => list_text(alloc, rounds),
+        Binding::Fragment(_) => value_text(alloc, binding),
+        Binding::Empty => value_text(alloc, binding),
+        Binding::Missing(_) => value_text(alloc, binding),
     }
-    Ok(text)
 }
 
 fn taken_text<A: Allocator + Copy>(

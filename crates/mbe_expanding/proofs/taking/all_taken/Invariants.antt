@@ -8,5 +8,5 @@ use Rattle.mbe_expanding.proofs.taking.all_taken.Given as goal
 abbrev pub invariant-loop-variable : goal.invariant-loop-variable
 invariant-loop-variable g l =
     map taken_seen l.all.items
-    ++ map (taken_of (bound_by l.bindings)) (map bound_seen (drop l.variable-index l.bound.items))
+    ++ map (taken_of (bound_by l.bindings)) (map bound_seen (drop l.variable-index l.variable-items))
     ≡ map (taken_of (bound_by l.bindings)) (bound_in 0 (template_of l.pattern))
