@@ -326,9 +326,12 @@ fn end_of<A: Allocator>(call: Call<'_, A>, rest: TokenTreesView<'_, A>) -> usize
     last.end as usize
 }
 
-// The text of that number.
+// The text of that number, or the only one.
 fn text_in<'t>(texts: &[&'t str], file: u32) -> &'t str {
-    texts.get(file as usize).copied().unwrap_or("")
+    match texts {
+        [one] => *one,
+        _ => texts.get(file as usize).copied().unwrap_or(""),
+    }
 }
 
 // How many times four spaces the line begins with that this byte is in.
