@@ -111,8 +111,9 @@ def judged(folder, rows):
     for edition in ("2015", "2018", "2021", "2024"):
         # What a macro parses is of the macro's edition.
         subprocess.run(["rustc", "--edition", edition, "--crate-type", "proc-macro", "-O", f"{HERE}/judge.rs", "-o", judge], check=True)
+        lines = {number: line for line, number in enumerate((n for n, row in enumerate(rows) if row[1] == edition), 1)}
         with open(f"{folder}/use.rs", "w", encoding="utf-8") as it:
-            it.writelines(f"judge::judge! {{ \"{folder}/{number}.judge\" }}\n" for number, row in enumerate(rows) if row[1] == edition)
+            it.writelines(f"judge::judge! {{ \"{folder}/{number}.judge\" }}\n" for number in lines)
             it.write("fn main() {}\n")
         words = ["rustc", "--edition", edition, "--extern", f"judge={judge}", "--emit=metadata", "-o", f"{folder}/o", "--error-format=short", "-Awarnings"]
         run = subprocess.run(words + [f"{folder}/use.rs"], capture_output=True, cwd=folder)
@@ -121,7 +122,8 @@ def judged(folder, rows):
             number = int(os.path.basename(name).removesuffix(".judge"))
             with open(f"{name}.rustc", encoding="utf-8", newline="") as it:
                 seen[number] = it.read()
-            if re.search(r"^\S*use\.rs:\d+:\d+: error", said, re.M):
+            # What rustc reports at its end, of any text, follows the last one.
+            if re.search(rf"^\S*use\.rs:{lines[number]}:\d+: error", said, re.M):
                 seen[number] = "fault\n" + said.split("\n")[0]
     return seen
 

@@ -1,13 +1,20 @@
 -- What the variables of a rule took, step by step.
-use Rattle.std.proofs.Common.{ℕ, suc, ◌≡◌, ◌+◌, ◌-◌, ◌<◌, ◌++◌, Bool, false, Vec, List, ◌∷◌, map, ap, sym, ◌∙◌, append_assoc, arith}
+use Rattle.std.proofs.Common.{ℕ, suc, ◌≡◌, ◌+◌, ◌-◌, ◌<◌, ◌++◌, Bool, false, Vec, List, [], ◌∷◌, refl, ap, sym, ◌∙◌, append_assoc, arith}
 use Rattle.std.specs.Prelude.{◌==◌, if◌then◌else◌, codes}
 use Rattle.std.specs.Char.{encode_utf8}
 use Rattle.std.proofs.lemmas.Bool.Decides.{nat_tests}
-use Rattle.mbe_semantics.specs.Bindings.Environment.{Value, fragment, list, empty, missing, Values, no_values, value}
+use Rattle.mbe_tt.specs.Trees.Tree.{none}
+use Rattle.mbe_semantics.specs.Bindings.Environment.{Value, list, Values, no_values, value}
 use Rattle.mbe_log.specs.declared.bindings.Binding.{Binding, Nested}
 use Rattle.mbe_log.specs.BindingViews.{value_seen, values_seen}
 use Rattle.mbe_log.proofs.BindingLemmas.{seen-nested}
+use Rattle.mbe_rust_text.specs.Writing.{text_of, written_after}
 use Rattle.mbe_expanding.specs.Taking.{between, value_text, values_text}
+
+-- no tokens have no text
+pub nothing_written : text_of 0 none ≡ []
+unfolding written_after
+nothing_written = refl
 
 -- how many values there are, at any depth: a measure
 abbrev mutual

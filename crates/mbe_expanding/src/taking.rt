@@ -114,9 +114,9 @@ fn push_values<A: Allocator + Copy>(
 fn between<A: Allocator>(rounds: &[Binding<'_, A>]) -> &'static str
     ensures { result.now ≡ spec.between (values_seen rounds.now) }
 {
-    match rounds {
-        [] => "",
-        [..] => ", ",
+    match rounds.split_first() {
+        None => "",
+        Some(_) => ", ",
     }
 }
 

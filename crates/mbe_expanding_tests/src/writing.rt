@@ -2,8 +2,14 @@
 use mbe_rust_text::writing::Writer;
 use mbe_text::dialect::Dialect;
 use mbe_text::lexer::{lex, lex_as};
+use mbe_text::scanner::file_span;
 use mbe_tt::span::Edition;
-use std::alloc::Global;
+use mbe_tt::symbol::Symbol;
+use mbe_tt::tt::{
+    Delimiter, DelimiterKind, Ident, IdentIsRaw, Leaf, LitKind, Literal, Punct, Spacing,
+    TopSubtree, TopSubtreeBuilder,
+};
+use std::alloc::{AllocError, Global};
 use std::process::Abort;
 use std::test::Fail;
 
@@ -180,6 +186,63 @@ fn a_comment_has_any_text(rt: HostRuntime) -> Result<(), Fail> {
         write(&rt, rt.alloc(), &mut writer, dialect, 0, text.as_str())?;
         let written = writer.into_text();
         assert_eq!(rt; written.as_str(), text.as_str(), "{count}");
+    }
+    Ok(())
+}
+
+// Texts of which the lexer makes no doc comment of several lines, but for the first two.
+static TEXTS: [(&str, &str); 10] = [
+    ("a\n", "/**a\n*/\n"),
+    ("a\n*", "/**a\n**/\n"),
+    ("a\n*/", "#[doc = r\"a\n*/\"]"),
+    ("a\n/*", "#[doc = r\"a\n/*\"]"),
+    ("/**/*/\n", "#[doc = r\"/**/*/\n\"]"),
+    ("a */ /*\n", "#[doc = r\"a */ /*\n\"]"),
+    ("a\n/", "#[doc = r\"a\n/\"]"),
+    ("*\n", "#[doc = r\"*\n\"]"),
+    ("/\n", "#[doc = r\"/\n\"]"),
+    ("a\r\n", "#[doc = r\"a\r\n\"]"),
+];
+
+// Trees as the lexer makes them of a doc comment, with one place.
+fn doc_of(alloc: Global, text: &str) -> Result<TopSubtree, AllocError> {
+    let span = file_span(0, 0, 9);
+    let spacing = Spacing::Alone;
+    let mut builder = TopSubtreeBuilder::new(alloc, Delimiter::invisible_spanned(span))?;
+    builder.push(Leaf::Punct(Punct {
+        char: '#',
+        spacing,
+        span,
+    }))?;
+    builder.open(DelimiterKind::Bracket, span)?;
+    builder.push(Leaf::Ident(Ident {
+        sym: Symbol::intern(alloc, "doc")?,
+        is_raw: IdentIsRaw::No,
+        span,
+    }))?;
+    builder.push(Leaf::Punct(Punct {
+        char: '=',
+        spacing,
+        span,
+    }))?;
+    builder.push(Leaf::Literal(Literal {
+        text_and_suffix: Symbol::intern(alloc, text)?,
+        suffix_len: 0,
+        kind: LitKind::StrRaw(0),
+        span,
+    }))?;
+    builder.close(span);
+    Ok(builder.build())
+}
+
+#[test]
+fn a_text_of_no_comment_is_an_attribute(rt: HostRuntime) -> Result<(), Fail> {
+    for (text, want) in &TEXTS {
+        let tree = doc_of(rt.alloc(), text)?;
+        let mut writer = Writer::new(rt.alloc(), 0);
+        writer.trees(tree.iter().remaining())?;
+        let written = writer.into_text();
+        assert_eq!(rt; written.as_str(), *want, "{text:.99}");
     }
     Ok(())
 }

@@ -178,23 +178,59 @@ static ROWS: [(&str, &str); 23] = [
 
 // A definition of `m!`, and which of its rules no call reaches, each with its place and the earlier rule that takes what it takes.
 static UNREACHED: [(&str, &str); 15] = [
-    ("macro_rules! m { (a $x:ty) => { $x }; (a $y:ty) => { $y } }", "1:39 by 1; "),
-    ("macro_rules! m { (a) => { 1 };\n (b) => { 2 };\n (a) => { 3 };\n (b) => { 4 } }", "3:2 by 1; 4:2 by 2; "),
-    ("macro_rules! m { (a) => {}; (a) => {}; (a) => {} }", "1:29 by 1; 1:40 by 1; "),
+    (
+        "macro_rules! m { (a $x:ty) => { $x }; (a $y:ty) => { $y } }",
+        "1:39 by 1; ",
+    ),
+    (
+        "macro_rules! m { (a) => { 1 };\n (b) => { 2 };\n (a) => { 3 };\n (b) => { 4 } }",
+        "3:2 by 1; 4:2 by 2; ",
+    ),
+    (
+        "macro_rules! m { (a) => {}; (a) => {}; (a) => {} }",
+        "1:29 by 1; 1:40 by 1; ",
+    ),
     // Each fits what the other doesn't.
-    ("macro_rules! m { ($x:ty) => { $x }; ($x:expr) => { $x } }", ""),
-    ("macro_rules! m { ($($x:ident),*) => { $($x)* }; ($($x:ident);*) => { $($x)* } }", ""),
-    ("macro_rules! m { ($($x:ident)*) => { $($x)* }; ($($x:ident)+) => { $($x)+ } }", ""),
+    (
+        "macro_rules! m { ($x:ty) => { $x }; ($x:expr) => { $x } }",
+        "",
+    ),
+    (
+        "macro_rules! m { ($($x:ident),*) => { $($x)* }; ($($x:ident);*) => { $($x)* } }",
+        "",
+    ),
+    (
+        "macro_rules! m { ($($x:ident)*) => { $($x)* }; ($($x:ident)+) => { $($x)+ } }",
+        "",
+    ),
     ("macro_rules! m { ((a)) => {}; ([a]) => {} }", ""),
     ("macro_rules! m { (+ =) => {}; (+=) => {} }", ""),
     // `$($t:tt)*` takes everything, and `$($t:tt)+` not.
-    ("macro_rules! m { ($($t:tt)*) => { $($t)* }; (a [b $x:expr]) => { $x } }", "1:45 by 1; "),
-    ("macro_rules! m { ($($t:tt)+) => { $($t)* }; (a) => {} }", ""),
-    ("macro_rules! m { ($($t:tt),*) => { $($t)* }; (a) => {} }", ""),
+    (
+        "macro_rules! m { ($($t:tt)*) => { $($t)* }; (a [b $x:expr]) => { $x } }",
+        "1:45 by 1; ",
+    ),
+    (
+        "macro_rules! m { ($($t:tt)+) => { $($t)* }; (a) => {} }",
+        "",
+    ),
+    (
+        "macro_rules! m { ($($t:tt),*) => { $($t)* }; (a) => {} }",
+        "",
+    ),
     // Where the earlier rule's substitution faults, the search goes on.
-    ("macro_rules! m { ($($x:ident)*) => { $($x)+ }; ($($_y:ident)*) => {} }", ""),
-    ("macro_rules! m { ($($x:ident)* ; $($y:ident)*) => { $($x $y)* }; ($($a:ident)* ; $($b:ident)*) => { $($a)* $($b)* } }", "1:66 by 1; "),
-    ("macro_rules! m { ($($x:ident)*) => { $x }; ($($y:ident)*) => { $($y)* } }", ""),
+    (
+        "macro_rules! m { ($($x:ident)*) => { $($x)+ }; ($($_y:ident)*) => {} }",
+        "",
+    ),
+    (
+        "macro_rules! m { ($($x:ident)* ; $($y:ident)*) => { $($x $y)* }; ($($a:ident)* ; $($b:ident)*) => { $($a)* $($b)* } }",
+        "1:66 by 1; ",
+    ),
+    (
+        "macro_rules! m { ($($x:ident)*) => { $x }; ($($y:ident)*) => { $($y)* } }",
+        "",
+    ),
     ("macro_rules! m { attr() (a) => {}; (a) => {} }", ""),
 ];
 
@@ -202,7 +238,8 @@ static UNREACHED: [(&str, &str); 15] = [
 fn unreached_of(alloc: Global, messages: &str) -> Result<String, AllocError> {
     let mut found = String::new(alloc);
     for message in messages.split("; ") {
-        if let Some((place, rest)) = message.split_once(" warning: no call reaches this rule: rule ")
+        if let Some((place, rest)) = message.split_once(" warning: no call reaches this rule: ")
+            && let Some(rest) = rest.strip_prefix("rule ")
             && let Some((number, _)) = rest.split_once(" takes every argument that it takes")
         {
             let both = format!(in alloc; "{place} by {number}; ")?;
@@ -217,7 +254,8 @@ fn rules_beyond_reach_are_found(rt: HostRuntime) -> Result<(), Fail> {
     for (text, want) in &UNREACHED {
         let (reports, _) = reported(rt.alloc(), text, Form::Text)?;
         let messages = messages_of(rt.alloc(), reports.as_str())?;
-        assert_eq!(rt; unreached_of(rt.alloc(), messages.as_str())?.as_str(), *want);
+        let found = unreached_of(rt.alloc(), messages.as_str())?;
+        assert_eq!(rt; found.as_str(), *want);
     }
     Ok(())
 }

@@ -1,5 +1,5 @@
 -- Patterns that read alike: they differ at most in the names of their variables and in where they are written.
-use Rattle.std.specs.Prelude.{ℕ, Bool, true, false, ◌&&◌, ◌==◌, List, Option, Some, None}
+use Rattle.std.specs.Prelude.{ℕ, Bool, true, false, ◌&&◌, ◌==◌, Option, Some, None}
 use Rattle.std.specs.Str.{bytes_eq}
 use Rattle.mbe_tt.specs.Trees.Glue.{chars_of}
 use Rattle.mbe_tt.specs.declared.tt.Delimiter.{Delimiter}
