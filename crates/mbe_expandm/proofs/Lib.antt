@@ -1,4 +1,3 @@
-mod CrateLemmas
 mod FeedLemmas
 mod LintLemmas
 mod PlaceLemmas

@@ -12,8 +12,6 @@ mod explained;
 #[cfg(test)]
 mod linted;
 #[cfg(test)]
-mod modules;
-#[cfg(test)]
 mod places;
 #[cfg(test)]
 mod programs;
