@@ -1,0 +1,4 @@
+pub mod Kinds
+pub mod Ahead
+pub mod Sites
+pub mod Roles
