@@ -2,3 +2,8 @@ pub mod Kinds
 pub mod Ahead
 pub mod Sites
 pub mod Roles
+pub mod Steps
+pub mod Mentions
+pub mod Naming
+pub mod Renaming
+pub mod Shown

@@ -3,4 +3,8 @@
 
 mod ahead;
 mod kinds;
+mod mentions;
+mod naming;
+pub mod renaming;
 mod sites;
+mod walking;
