@@ -1,1 +1,3 @@
+pub mod FreshLemmas
 pub mod WalkLemmas
+pub mod WrittenLemmas

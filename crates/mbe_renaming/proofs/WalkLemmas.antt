@@ -6,6 +6,7 @@ use Rattle.mbe_tt.specs.Trees.Tree.{Forest, none, leaf, group, Leaf_tree, Group_
 use Rattle.mbe_tt.specs.declared.span.Span.{Span}
 use Rattle.mbe_tt.specs.declared.tt.Delimiter.{Delimiter}
 use Rattle.mbe_renaming.specs.declared.sites.Site.{Site}
+use Rattle.mbe_renaming.specs.Roles.{group_role}
 use Rattle.mbe_renaming.specs.Sites.{after_leaf, after_group, inside_group}
 use Rattle.mbe_renaming.specs.Steps.{Step, token, opening, closing, leaf_role, steps}
 
@@ -32,7 +33,7 @@ leaf_step (leaf m rest) l s h =
 leaf_step (group d inside rest) l s h = absurd (cc)
 
 group_step : (f inside : Forest) (d : Delimiter) (s : Site) → Some (Group_tree d inside) ≡ first f
-    → steps s f ≡ opening d.kind d.opening ∷ (steps (inside_group s d.kind inside) inside
+    → steps s f ≡ opening d.kind d.opening (group_role s d.kind) ∷ (steps (inside_group s d.kind inside) inside
     ++ closing d.close ∷ steps (after_group s d.kind (rest_of f)) (rest_of f))
 unfolding steps
 group_step none inside d s h = absurd (cc)
@@ -40,9 +41,9 @@ group_step (leaf m rest) inside d s h = absurd (cc)
 group_step (group e content rest) inside d s h =
     let same_delimiter : e ≡ d = cc in
     let same_content : content ≡ inside = cc in
-    ap (λ (x : Delimiter). opening x.kind x.opening ∷ (steps (inside_group s x.kind content) content
+    ap (λ (x : Delimiter). opening x.kind x.opening (group_role s x.kind) ∷ (steps (inside_group s x.kind content) content
     ++ closing x.close ∷ steps (after_group s x.kind rest) rest)) same_delimiter
-    ∙ ap (λ (x : Forest). opening d.kind d.opening ∷ (steps (inside_group s d.kind x) x
+    ∙ ap (λ (x : Forest). opening d.kind d.opening (group_role s d.kind) ∷ (steps (inside_group s d.kind x) x
     ++ closing d.close ∷ steps (after_group s d.kind rest) rest)) same_content
 
 end_step : (f : Forest) (s : Site) → None ≡ first f → steps s f ≡ []
@@ -90,12 +91,12 @@ leaf_on found more all s next f after items l r h m n w =
 
 pub group_on : (found more all : List Step) (s here next : Site) (f after inside : Forest) (items deeper : List Around)
     (d : Delimiter) → after ≡ rest_of f → Some (Group_tree d inside) ≡ first f
-    → more ≡ found ++ (opening d.kind d.opening ∷ []) → here ≡ after_group s d.kind after
+    → more ≡ found ++ (opening d.kind d.opening (group_role s d.kind) ∷ []) → here ≡ after_group s d.kind after
     → deeper ≡ items ++ ((d.close, here, after) ∷ [])
     → next ≡ inside_group s d.kind inside → Left found s f items all → Left more next inside deeper all
 group_on found more all s here next f after inside items deeper d r h m a i n w =
     let around = steps_around (reverse items) in
-    let open = opening d.kind d.opening in
+    let begin = opening d.kind d.opening (group_role s d.kind) in
     let content = steps (inside_group s d.kind inside) inside in
     let deep : steps_around (reverse deeper) ≡ closing d.close ∷ (steps here after ++ around) =
     ap (λ k. steps_around (reverse k)) i ∙ ap steps_around (reverse-append items ((d.close, here, after) ∷ []))
@@ -104,10 +105,10 @@ group_on found more all s here next f after inside items deeper d r h m a i n w 
     ap (λ t. steps t after) a ∙ ap (λ (x : Forest). steps (after_group s d.kind x) x) r in
     record {
       same = ap (λ t. more ++ (steps t inside ++ steps_around (reverse deeper))) n
-          ∙ one_more found more open (content ++ steps_around (reverse deeper)) m
-          ∙ ap (λ k. found ++ (open ∷ (content ++ k))) deep
-          ∙ ap (λ k. found ++ (open ∷ (content ++ (closing d.close ∷ (k ++ around))))) rest
-          ∙ ap (λ k. found ++ (open ∷ k)) (sym (append_assoc content
+          ∙ one_more found more begin (content ++ steps_around (reverse deeper)) m
+          ∙ ap (λ k. found ++ (begin ∷ (content ++ k))) deep
+          ∙ ap (λ k. found ++ (begin ∷ (content ++ (closing d.close ∷ (k ++ around))))) rest
+          ∙ ap (λ k. found ++ (begin ∷ k)) (sym (append_assoc content
           (closing d.close ∷ steps (after_group s d.kind (rest_of f)) (rest_of f)) around))
           ∙ ap (λ k. found ++ (k ++ around)) (sym (group_step f inside d s h)) ∙ w.same;
     }

@@ -6,4 +6,5 @@ pub mod Steps
 pub mod Mentions
 pub mod Naming
 pub mod Renaming
+pub mod Laws
 pub mod Shown

@@ -1,11 +1,13 @@
 -- Which locals and labels get names of their own, and which.
-use Rattle.std.specs.Prelude.{ℕ, zero, suc, ◌-◌, ◌^◌, Bool, true, false, not, ◌==◌, ◌&&◌, ◌||◌, if◌then◌else◌, codes, decimal, List, [], ◌∷◌, ◌++◌, Option, Some, None}
+use Rattle.std.specs.Prelude.{ℕ, zero, suc, ◌+◌, ◌-◌, ◌^◌, Bool, true, false, not, ◌==◌, ◌&&◌, ◌||◌, if◌then◌else◌, codes, decimal, List, [], ◌∷◌, ◌++◌, Option, Some, None}
 use Rattle.std.specs.Str.{bytes_eq}
 use Rattle.mbe_tt.specs.Trees.Leaf.{Leaf, literal, punct, ident}
 use Rattle.mbe_tt.specs.declared.span.Span.{Span}
 use Rattle.mbe_renaming.specs.declared.naming.Doubt.{Doubt}
+use Rattle.mbe_renaming.specs.declared.naming.Progress.{Progress}
+use Rattle.mbe_renaming.specs.declared.naming.Progress.TheVariants as progress
 use Rattle.mbe_renaming.specs.declared.sites.Role.{Role}
-use Rattle.mbe_renaming.specs.declared.sites.Role.TheVariants.{Used, Bound, Unsure, Label, Jump, Text}
+use Rattle.mbe_renaming.specs.declared.sites.Role.TheVariants.{Used, Bound, Late, Unsure, Label, Jump, Text, Begin, End}
 use Rattle.mbe_renaming.specs.Mentions.{is_mentioned}
 use Rattle.mbe_renaming.specs.Steps.{Step, token, opening, closing}
 
@@ -27,6 +29,7 @@ is_text_role _ = false
 abbrev pub is_local : Role → Bool
 is_local Used = true
 is_local Bound = true
+is_local Late = true
 is_local Unsure = true
 is_local _ = false
 
@@ -41,19 +44,28 @@ is_same_sort r q = is_local r && is_local q || is_label r && is_label q
 
 abbrev pub binds_role : Role → Bool
 binds_role Bound = true
+binds_role Late = true
 binds_role Label = true
 binds_role _ = false
 
 -- ---- words
 
+abbrev pub is_end : Role → Bool
+is_end End = true
+is_end _ = false
+
+-- the end of a value
+abbrev pub end_words : Span → Role → List Word
+end_words span r = if is_end r then word [] span r ∷ [] else []
+
 abbrev pub leaf_words : Leaf → Role → List Word
 leaf_words (ident i) r = word i.sym i.span r ∷ []
 leaf_words (literal l) r = if is_text_role r then word l.text_and_suffix l.span r ∷ [] else []
-leaf_words (punct p) r = []
+leaf_words (punct p) r = end_words p.span r
 
 abbrev pub step_words : Step → List Word
 step_words (token l r) = leaf_words l r
-step_words (opening k span) = []
+step_words (opening k span r) = end_words span r
 step_words (closing span) = []
 
 -- the words and strings of steps
@@ -112,39 +124,73 @@ is_shared ws names w = has_other ws w || is_text_among names w.text
 
 -- ---- what can't be decided
 
+abbrev pub is_bound : Progress → Bool
+is_bound progress.Bound = true
+is_bound _ = false
+
 -- A word that may be a field too; or a use before the name is bound, which is of something else.
-abbrev pub is_doubtful : Bool → Role → Bool
-is_doubtful seen Unsure = true
-is_doubtful seen Used = not seen
-is_doubtful seen Jump = not seen
-is_doubtful seen _ = false
+abbrev pub is_doubtful : Progress → Role → Bool
+is_doubtful p Unsure = true
+is_doubtful p Used = not (is_bound p)
+is_doubtful p Jump = not (is_bound p)
+is_doubtful p _ = false
 
 -- a string of the local's context may name it
 abbrev pub mentions : Word → Word → Bool
 mentions w v =
     is_text_role v.role && (is_local w.role && (context w == context v && is_mentioned w.text v.text))
 
-abbrev pub is_doubt : Word → Bool → Word → Bool
-is_doubt w seen v = is_same w v && is_doubtful seen v.role || mentions w v
+abbrev pub is_doubt : Word → Progress → Word → Bool
+is_doubt w p v = is_same w v && is_doubtful p v.role || mentions w v
 
-abbrev pub is_bound_by : Word → Word → Bool
-is_bound_by w v = is_same w v && binds_role v.role
+-- one `let` or `for` more in the value
+abbrev pub deeper : ℕ → Progress
+deeper n = if n == 4294967295 then progress.Later n else progress.Later (n + 1)
 
-abbrev pub doubt_at : Word → Bool → Word → List Doubt
-doubt_at w seen v = if is_doubt w seen v then record { bound = w.span; place = v.span } ∷ [] else []
+abbrev pub ended : ℕ → Progress
+ended n = if n == 0 then progress.Bound else progress.Later (n - 1)
 
--- the places where it isn't decided whether they are that local, which is bound already if `seen` says so
-abbrev pub doubts : Word → Bool → List Word → List Doubt
-doubts w seen [] = []
-doubts w seen (v ∷ vs) = doubt_at w seen v ++ doubts w (seen || is_bound_by w v) vs
+abbrev pub or_bound : ℕ → Bool → Progress
+or_bound n same = if same then progress.Bound else progress.Later n
+
+-- after a word of that role, in the value whose pattern binds the local
+abbrev pub later : ℕ → Bool → Role → Progress
+later n same Begin = deeper n
+later n same End = ended n
+later n same Bound = or_bound n same
+later n same Label = or_bound n same
+later n same _ = progress.Later n
+
+abbrev pub bound_by : Role → Progress
+bound_by Bound = progress.Bound
+bound_by Label = progress.Bound
+bound_by Late = progress.Later 0
+bound_by _ = progress.Unbound
+
+abbrev pub unbound : Bool → Role → Progress
+unbound same r = if not same then progress.Unbound else bound_by r
+
+-- whether the local is bound after that word
+abbrev pub after_word : Word → Progress → Word → Progress
+after_word w progress.Unbound v = unbound (is_same w v) v.role
+after_word w (progress.Later n) v = later n (is_same w v) v.role
+after_word w progress.Bound v = progress.Bound
+
+abbrev pub doubt_at : Word → Progress → Word → List Doubt
+doubt_at w p v = if is_doubt w p v then record { bound = w.span; place = v.span } ∷ [] else []
+
+-- the places where it isn't decided whether they are that local
+abbrev pub doubts : Word → Progress → List Word → List Doubt
+doubts w p [] = []
+doubts w p (v ∷ vs) = doubt_at w p v ++ doubts w (after_word w p v) vs
 
 -- there is such a place
-abbrev pub is_doubted : Word → Bool → List Word → Bool
-is_doubted w seen [] = false
-is_doubted w seen (v ∷ vs) = is_doubt w seen v || is_doubted w (seen || is_bound_by w v) vs
+abbrev pub is_doubted : Word → Progress → List Word → Bool
+is_doubted w p [] = false
+is_doubted w p (v ∷ vs) = is_doubt w p v || is_doubted w (after_word w p v) vs
 
 abbrev pub doubts_of : List Word → List (List ℕ) → Word → List Doubt
-doubts_of ws names w = if is_shared ws names w then doubts w false ws else []
+doubts_of ws names w = if is_shared ws names w then doubts w progress.Unbound ws else []
 
 abbrev pub undecided_of : List Word → List (List ℕ) → List Word → List Doubt
 undecided_of ws names [] = []
@@ -192,7 +238,7 @@ fresh ws names given text = first_free (is_taken ws names given) text (2 ^ 64 - 
 
 -- a local is renamed if its name is shared, and if each place where it may be is decided
 abbrev pub is_renamed : List Word → List (List ℕ) → Word → Bool
-is_renamed ws names w = is_shared ws names w && not (is_doubted w false ws)
+is_renamed ws names w = is_shared ws names w && not (is_doubted w progress.Unbound ws)
 
 abbrev pub with_name : List Word → List (List ℕ) → List Naming → Word → List Naming
 with_name ws names given w =

@@ -55,9 +55,9 @@ closed_inside span b = if nat_lt 1 (length b) then closed span b else b
 
 abbrev pub step_written : List Naming → Step → Levels → Levels
 step_written given (token l r) b = put (one_leaf (renamed_leaf given l r)) b
-step_written given (opening k span) b = (record { opening = span; close = span; kind = k }, none) ∷ b
+step_written given (opening k span r) b = (record { opening = span; close = span; kind = k }, none) ∷ b
 step_written given (closing span) b = closed_inside span b
 
-unfoldable pub written : List Naming → List Step → Levels → Levels
+abbrev pub written : List Naming → List Step → Levels → Levels
 written given [] b = b
 written given (x ∷ xs) b = written given xs (step_written given x b)

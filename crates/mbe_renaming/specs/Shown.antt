@@ -8,7 +8,7 @@ use Rattle.mbe_renaming.specs.Steps.{Step, token, opening, closing}
 
 abbrev pub step_of : {A : Type 0} → code.Step A → Step
 step_of (code.TheVariants.Leaf l r) = token (leaf_of l.now) r
-step_of (code.TheVariants.Open k span) = opening k span
+step_of (code.TheVariants.Open k span r) = opening k span r
 step_of (code.TheVariants.Close span) = closing span
 
 abbrev pub word_of : code_word.Word → Word

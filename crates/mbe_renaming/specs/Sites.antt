@@ -1,6 +1,6 @@
 -- What is known of a place among tokens by those that were passed: the last one, what the group holds, and which part of
 -- a statement or of a closure goes on.
-use Rattle.std.specs.Prelude.{Bool, true, false, not, ◌&&◌, if◌then◌else◌, Option}
+use Rattle.std.specs.Prelude.{Bool, true, false, not, ◌&&◌, ◌||◌, if◌then◌else◌, Option}
 use Rattle.mbe_tt.specs.Trees.Leaf.{Leaf, Ident, literal, punct, ident}
 use Rattle.mbe_tt.specs.Trees.Tree.{Forest}
 use Rattle.mbe_tt.specs.declared.tt.DelimiterKind.{DelimiterKind}
@@ -21,7 +21,15 @@ use Rattle.mbe_renaming.specs.Ahead.{front_sign, is_colon, is_equals, has_in, be
 
 -- where trees begin: items, statements or an expression
 abbrev pub start : Site
-start = record { before = before.Start; region = region.Code; part = part.Whole; is_head = false }
+start = record {
+  before = before.Start;
+  region = region.Code;
+  part = part.Whole;
+  is_head = false;
+  in_let = false;
+  in_head_let = false;
+  is_late = false;
+}
 
 abbrev pub is_dots : Before → Bool
 is_dots before.Dots = true
@@ -60,28 +68,31 @@ is_arm _ _ = false
 -- ---- after a word
 
 abbrev pub after_keyword : Site → Before → Bool → Site
-after_keyword s b head = record { before = b; region = s.region; part = s.part; is_head = head }
+after_keyword s b head = record s { before = b; is_head = head }
 
 abbrev pub after_in : Site → Part → Site
-after_in s part.ForPattern = record { before = before.Word; region = s.region; part = part.Whole; is_head = true }
+after_in s part.ForPattern = record s { before = before.Word; part = part.Whole; is_head = true }
 after_in s _ = after_keyword s before.Word s.is_head
 
--- a pattern begins, if it is one
-abbrev pub with_pattern : Site → Part → Bool → Site
-with_pattern s p is_one =
-    record { before = before.Word; region = s.region; part = if is_one then p else s.part; is_head = s.is_head }
+-- a pattern begins, if it is one, and then its value: that of a statement, or that of an `if`, a `while` or a `for`
+abbrev pub with_pattern : Site → Part → Bool → Bool → Site
+with_pattern s p is_one is_statement = record s {
+  before = before.Word;
+  part = if is_one then p else s.part;
+  in_let = s.in_let || is_one && is_statement;
+  in_head_let = s.in_head_let || is_one && not is_statement;
+}
 
 abbrev pub after_if : Site → Site
-after_if s = record {
+after_if s = record s {
   before = before.Word;
   region = if is_arm s.part s.region then region.Guard else s.region;
-  part = s.part;
   is_head = true;
 }
 
 abbrev pub after_sort : Site → Sort → Forest → Site
-after_sort s sort.Let rest = with_pattern s part.LetPattern (is_open s)
-after_sort s sort.For rest = with_pattern s part.ForPattern (is_open s && has_in rest)
+after_sort s sort.Let rest = with_pattern s part.LetPattern (is_open s) (not s.is_head)
+after_sort s sort.For rest = with_pattern s part.ForPattern (is_open s && has_in rest) false
 after_sort s sort.In rest = after_in s s.part
 after_sort s sort.If rest = after_if s
 after_sort s sort.Head rest = after_keyword s before.Word true
@@ -208,6 +219,10 @@ abbrev pub ends_arrow : Before → Sign → Bool
 ends_arrow before.Equals sign.Angle = true
 ends_arrow _ _ = false
 
+abbrev pub is_semicolon : Sign → Bool
+is_semicolon sign.Semicolon = true
+is_semicolon _ = false
+
 abbrev pub is_comma : Sign → Bool
 is_comma sign.Comma = true
 is_comma _ = false
@@ -255,6 +270,9 @@ after_punct s sg rest = record {
   region = region_after s s.part sg rest;
   part = part_after s s.part sg (front_sign rest);
   is_head = head_after s sg;
+  in_let = s.in_let && not (is_semicolon sg);
+  in_head_let = s.in_head_let && not (is_semicolon sg);
+  is_late = s.is_late;
 }
 
 -- after a leaf that is before these trees
@@ -311,6 +329,13 @@ group_after s _ k inside = part_group s s.part k inside
 abbrev pub region_inside : Site → Before → DelimiterKind → Forest → Region
 region_inside s b k inside = if is_opaque s.region then region.Opaque else group_after s b k inside
 
+-- what a pattern in a group there binds is bound only after a value
+abbrev pub late_inside : Site → Part → Bool
+late_inside s part.LetPattern = true
+late_inside s part.ForPattern = true
+late_inside s part.Whole = s.is_late
+late_inside s _ = false
+
 -- at the beginning of a group
 abbrev pub inside_group : Site → DelimiterKind → Forest → Site
 inside_group s k inside = record {
@@ -318,6 +343,9 @@ inside_group s k inside = record {
   region = region_inside s s.before k inside;
   part = part.Whole;
   is_head = false;
+  in_let = false;
+  in_head_let = false;
+  is_late = late_inside s s.part;
 }
 
 abbrev pub after_brackets : Before → Before
@@ -327,6 +355,10 @@ after_brackets _ = before.Operand
 abbrev pub is_brace : DelimiterKind → Bool
 is_brace kind.Brace = true
 is_brace _ = false
+
+-- braces there are those of statements and expressions
+abbrev pub is_body : Site → DelimiterKind → Bool
+is_body s k = is_brace k && is_open s
 
 -- braces there may be the whole of what follows an arm's `=>`
 abbrev pub may_end_arm : Region → Before → DelimiterKind → Bool
@@ -343,5 +375,8 @@ after_group s k rest = record {
   before = after_brackets s.before;
   region = region_after_group s k rest;
   part = s.part;
-  is_head = s.is_head && not (is_brace k && is_open s);
+  is_head = s.is_head && not (is_body s k);
+  in_let = s.in_let;
+  in_head_let = s.in_head_let && not (s.is_head && is_body s k);
+  is_late = s.is_late;
 }

@@ -11,13 +11,14 @@ use Rattle.mbe_renaming.specs.declared.sites.Region.TheVariants as region
 use Rattle.mbe_renaming.specs.declared.sites.Role.{Role}
 use Rattle.mbe_renaming.specs.declared.sites.Role.TheVariants.{Other, Text}
 use Rattle.mbe_renaming.specs.declared.sites.Site.{Site}
-use Rattle.mbe_renaming.specs.Roles.{role_of}
+use Rattle.mbe_renaming.specs.Kinds.{sign_of}
+use Rattle.mbe_renaming.specs.Roles.{role_of, punct_role, group_role}
 use Rattle.mbe_renaming.specs.Sites.{after_leaf, after_group, inside_group}
 
 -- a leaf with what it may be, an opening, or a closing
 pub data Step : Type 0 where
   token : Leaf → Role → Step
-  opening : DelimiterKind → Span → Step
+  opening : DelimiterKind → Span → Role → Step
   closing : Span → Step
 
 abbrev pub text_role : Region → Role
@@ -34,12 +35,12 @@ literal_role r _ = Other
 abbrev pub leaf_role : Site → Leaf → Forest → Role
 leaf_role s (ident i) rest = role_of s i rest
 leaf_role s (literal l) rest = literal_role s.region l.kind
-leaf_role s (punct p) rest = Other
+leaf_role s (punct p) rest = punct_role s (sign_of p.char)
 
 -- the steps of these trees, from that site on
 unfoldable pub steps : Site → Forest → List Step
 steps s none = []
 steps s (leaf l rest) = token l (leaf_role s l rest) ∷ steps (after_leaf s l rest) rest
 steps s (group d inside rest) =
-    opening d.kind d.opening ∷ (steps (inside_group s d.kind inside) inside
+    opening d.kind d.opening (group_role s d.kind) ∷ (steps (inside_group s d.kind inside) inside
     ++ closing d.close ∷ steps (after_group s d.kind rest) rest)

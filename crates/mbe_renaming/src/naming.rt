@@ -1,8 +1,9 @@
 // Which locals and labels get names of their own, and which.
-ghost use Rattle.std.specs.Prelude.{◌≡◌, ◌++◌, IfOk, OnOk, map, option_map};
+ghost use Rattle.std.specs.Prelude.{◌≡◌, ◌++◌, [], IfOk, OnOk, map, option_map};
 ghost use Rattle.mbe_tt.specs.Views.Shown.{leaf_of};
 ghost use Rattle.mbe_renaming.specs.Shown.{step_of, word_of, naming_of};
 ghost use Rattle.mbe_renaming.specs.Naming as spec;
+ghost use Rattle.mbe_renaming.specs.declared.naming.Progress.TheVariants.{Unbound};
 
 use crate::mentions::is_mentioned;
 use crate::sites::Role;
@@ -35,6 +36,15 @@ pub struct Doubt {
     pub place: Span,
 }
 
+// Whether a local is bound.
+#[derive(Clone, Copy, Drop)]
+enum Progress {
+    Unbound,
+    // When the value ends whose pattern binds it. So many `let`s and `for`s have begun in that value, and not ended.
+    Later(u32),
+    Bound,
+}
+
 // ---- roles
 
 fn is_text_role(role: Role) -> bool
@@ -43,10 +53,19 @@ fn is_text_role(role: Role) -> bool
     matches!(role, Role::Text)
 }
 
+fn is_end(role: Role) -> bool
+    ensures { result ≡ spec.is_end role }
+{
+    matches!(role, Role::End)
+}
+
 fn is_local(role: Role) -> bool
     ensures { result ≡ spec.is_local role }
 {
-    matches!(role, Role::Used | Role::Bound | Role::Unsure)
+    matches!(
+        role,
+        Role::Used | Role::Bound | Role::Late | Role::Unsure
+    )
 }
 
 fn is_label(role: Role) -> bool
@@ -64,20 +83,96 @@ fn is_same_sort(one: Role, two: Role) -> bool
 fn binds_role(role: Role) -> bool
     ensures { result ≡ spec.binds_role role }
 {
-    matches!(role, Role::Bound | Role::Label)
+    matches!(role, Role::Bound | Role::Late | Role::Label)
 }
 
-fn is_doubtful(seen: bool, role: Role) -> bool
-    ensures { result ≡ spec.is_doubtful seen role }
+fn is_bound(progress: Progress) -> bool
+    ensures { result ≡ spec.is_bound progress }
+{
+    matches!(progress, Progress::Bound)
+}
+
+fn is_doubtful(progress: Progress, role: Role) -> bool
+    ensures { result ≡ spec.is_doubtful progress role }
 {
     match role {
         Role::Unsure => true,
-        Role::Used | Role::Jump => !seen,
+        Role::Used | Role::Jump => !is_bound(progress),
         _ => false,
     }
 }
 
+// One `let` or `for` more in the value.
+fn deeper(lets: u32) -> Progress
+    ensures { result ≡ spec.deeper lets }
+{
+    if lets == u32::MAX {
+        Progress::Later(lets)
+    } else {
+        Progress::Later(lets + 1)
+    }
+}
+
+fn ended(lets: u32) -> Progress
+    ensures { result ≡ spec.ended lets }
+{
+    if lets == 0 {
+        Progress::Bound
+    } else {
+        Progress::Later(lets - 1)
+    }
+}
+
+// A word with that role, in the value whose pattern binds the local.
+fn later(lets: u32, is_same: bool, role: Role) -> Progress
+    ensures { result ≡ spec.later lets is_same role }
+{
+    match role {
+        Role::Begin => deeper(lets),
+        Role::End => ended(lets),
+        Role::Bound | Role::Label => {
+            if is_same {
+                Progress::Bound
+            } else {
+                Progress::Later(lets)
+            }
+        }
+        _ => Progress::Later(lets),
+    }
+}
+
+fn unbound(is_same: bool, role: Role) -> Progress
+    ensures { result ≡ spec.unbound is_same role }
+{
+    if !is_same {
+        return Progress::Unbound;
+    }
+    match role {
+        Role::Bound | Role::Label => Progress::Bound,
+        Role::Late => Progress::Later(0),
+        _ => Progress::Unbound,
+    }
+}
+
 // ---- words
+
+fn push_end<A: Allocator>(
+    found: &mut Vec<Word<'_>, A>,
+    span: Span,
+    role: Role,
+) -> Result<(), AllocError>
+    ensures { OnOk result (map word_of found.new.items
+        ≡ map word_of found.old.items ++ spec.end_words span role) }
+{
+    if is_end(role) {
+        found.push(Word {
+            text: "",
+            span,
+            role,
+        })?;
+    }
+    Ok(())
+}
 
 fn push_leaf<'t, A: Allocator>(
     found: &mut Vec<Word<'t>, A>,
@@ -104,7 +199,7 @@ fn push_leaf<'t, A: Allocator>(
                 })?;
             }
         }
-        Leaf::Punct(_) => {}
+        Leaf::Punct(punct) => push_end(found, punct.span, role)?,
     }
     Ok(())
 }
@@ -118,7 +213,8 @@ fn push_step<'t, A: Allocator>(
 {
     match step {
         Step::Leaf(leaf, role) => push_leaf(found, leaf, role),
-        Step::Open(_, _) | Step::Close(_) => Ok(()),
+        Step::Open(_, span, role) => push_end(found, span, role),
+        Step::Close(_) => Ok(()),
     }
 }
 
@@ -242,28 +338,32 @@ fn mentions(local: Word<'_>, word: Word<'_>) -> bool
         && is_mentioned(local.text.as_bytes(), word.text.as_bytes())
 }
 
-fn is_doubt(local: Word<'_>, seen: bool, word: Word<'_>) -> bool
-    ensures { result ≡ spec.is_doubt (word_of local.entry) seen (word_of word.entry) }
+fn is_doubt(local: Word<'_>, progress: Progress, word: Word<'_>) -> bool
+    ensures { result ≡ spec.is_doubt (word_of local.entry) progress (word_of word.entry) }
 {
-    is_same(local, word) && is_doubtful(seen, word.role) || mentions(local, word)
+    is_same(local, word) && is_doubtful(progress, word.role) || mentions(local, word)
 }
 
-fn is_bound_by(local: Word<'_>, word: Word<'_>) -> bool
-    ensures { result ≡ spec.is_bound_by (word_of local.entry) (word_of word.entry) }
+fn after_word(local: Word<'_>, progress: Progress, word: Word<'_>) -> Progress
+    ensures { result ≡ spec.after_word (word_of local.entry) progress (word_of word.entry) }
 {
-    is_same(local, word) && binds_role(word.role)
+    match progress {
+        Progress::Unbound => unbound(is_same(local, word), word.role),
+        Progress::Later(lets) => later(lets, is_same(local, word), word.role),
+        Progress::Bound => Progress::Bound,
+    }
 }
 
 fn push_doubt<A: Allocator>(
     found: &mut Vec<Doubt, A>,
     local: Word<'_>,
-    seen: bool,
+    progress: Progress,
     word: Word<'_>,
 ) -> Result<(), AllocError>
     ensures { OnOk result (found.new.items
-        ≡ found.old.items ++ spec.doubt_at (word_of local.entry) seen (word_of word.entry)) }
+        ≡ found.old.items ++ spec.doubt_at (word_of local.entry) progress (word_of word.entry)) }
 {
-    if is_doubt(local, seen, word) {
+    if is_doubt(local, progress, word) {
         found.push(Doubt {
             bound: local.span,
             place: word.span,
@@ -278,25 +378,25 @@ fn push_doubts<A: Allocator>(
     words: &[Word<'_>],
 ) -> Result<(), AllocError>
     ensures { OnOk result (found.new.items
-        ≡ found.old.items ++ spec.doubts (word_of local.entry) false (map word_of words.now)) }
+        ≡ found.old.items ++ spec.doubts (word_of local.entry) Unbound (map word_of words.now)) }
 {
-    let mut seen = false;
+    let mut progress = Progress::Unbound;
     for word in words {
-        push_doubt(found, local, seen, *word)?;
-        seen = seen || is_bound_by(local, *word);
+        push_doubt(found, local, progress, *word)?;
+        progress = after_word(local, progress, *word);
     }
     Ok(())
 }
 
 fn is_doubted(local: Word<'_>, words: &[Word<'_>]) -> bool
-    ensures { result ≡ spec.is_doubted (word_of local.entry) false (map word_of words.now) }
+    ensures { result ≡ spec.is_doubted (word_of local.entry) Unbound (map word_of words.now) }
 {
-    let mut seen = false;
+    let mut progress = Progress::Unbound;
     for word in words {
-        if is_doubt(local, seen, *word) {
+        if is_doubt(local, progress, *word) {
             return true;
         }
-        seen = seen || is_bound_by(local, *word);
+        progress = after_word(local, progress, *word);
     }
     false
 }

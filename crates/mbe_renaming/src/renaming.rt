@@ -79,7 +79,7 @@ fn write_step<A: Allocator>(
 {
     match step {
         Step::Leaf(leaf, role) => builder.push(renamed_leaf(given, leaf, role)?),
-        Step::Open(kind, span) => builder.open(kind, span),
+        Step::Open(kind, span, _) => builder.open(kind, span),
         Step::Close(span) => {
             close(builder, span);
             Ok(())

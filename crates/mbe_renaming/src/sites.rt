@@ -107,6 +107,11 @@ pub(crate) struct Site {
     pub(crate) part: Part,
     // Whether the next braces are a block: they follow an `if`, a `while`, an `fn` and so on.
     pub(crate) is_head: bool,
+    // Whether the value of a `let` statement goes on, or that of an `if let`, a `while let` or a `for`.
+    pub(crate) in_let: bool,
+    pub(crate) in_head_let: bool,
+    // Whether what the group binds is bound only after such a value.
+    pub(crate) is_late: bool,
 }
 
 /// What a word may be.
@@ -118,6 +123,8 @@ pub enum Role {
     Used,
     /// A local that is bound here.
     Bound,
+    /// A local that is bound after the value whose pattern this is.
+    Late,
     /// It may be a local, and also the name of a field or of an argument.
     Unsure,
     /// A label before its loop or block.
@@ -126,6 +133,10 @@ pub enum Role {
     Jump,
     /// The text of a string, which may name locals in braces.
     Text,
+    /// A `let` or a `for`, before a pattern.
+    Begin,
+    /// The end of the value that belongs to a `let` or a `for`.
+    End,
 }
 
 // ---- what a name is
@@ -136,15 +147,22 @@ fn is_dots(before: Before) -> bool
     matches!(before, Before::Dots)
 }
 
+fn binding_role(is_late: bool) -> Role
+    ensures { result ≡ roles.binding_role is_late }
+{
+    if is_late { Role::Late } else { Role::Bound }
+}
+
 fn pattern_role<A: Allocator>(
     before: Before,
+    is_late: bool,
     ident: &Ident<A>,
     rest: TokenTreesView<'_, A>,
 ) -> Role
-    ensures { result ≡ roles.pattern_role before (ident_of ident.now) (trees rest.entry) }
+    ensures { result ≡ roles.pattern_role before is_late (ident_of ident.now) (trees rest.entry) }
 {
     if is_low(ident.sym.as_str()) && binds_before(rest) && !is_dots(before) {
-        Role::Bound
+        binding_role(is_late)
     } else {
         Role::Used
     }
@@ -199,12 +217,11 @@ fn code_role<A: Allocator>(rest: TokenTreesView<'_, A>) -> Role
 }
 
 fn region_role<A: Allocator>(site: Site, ident: &Ident<A>, rest: TokenTreesView<'_, A>) -> Role
-    ensures { result
-        ≡ roles.region_role site.before site.region (ident_of ident.now) (trees rest.entry) }
+    ensures { result ≡ roles.region_role site site.region (ident_of ident.now) (trees rest.entry) }
 {
     match site.region {
         Region::Arm | Region::Pattern | Region::FieldPattern => {
-            pattern_role(site.before, ident, rest)
+            pattern_role(site.before, site.is_late, ident, rest)
         }
         Region::FieldPatterns => field_pattern_role(rest),
         Region::Fields => field_role(site.before, rest),
@@ -218,9 +235,8 @@ fn part_role<A: Allocator>(site: Site, ident: &Ident<A>, rest: TokenTreesView<'_
     ensures { result ≡ roles.part_role site (ident_of ident.now) (trees rest.entry) }
 {
     match site.part {
-        Part::LetPattern | Part::ForPattern | Part::Parameters => {
-            pattern_role(site.before, ident, rest)
-        }
+        Part::LetPattern | Part::ForPattern => pattern_role(site.before, true, ident, rest),
+        Part::Parameters => pattern_role(site.before, false, ident, rest),
         Part::LetType | Part::ParameterType => Role::Other,
         Part::Whole => region_role(site, ident, rest),
     }
@@ -276,8 +292,39 @@ pub(crate) fn role_of<A: Allocator>(
     }
     match sort_of(ident) {
         Sort::Name => name_role(site, ident, rest),
+        Sort::Let => begin_role(is_open(site)),
+        Sort::For => begin_role(is_open(site) && has_in(rest)),
         _ => Role::Other,
     }
+}
+
+fn begin_role(is_one: bool) -> Role
+    ensures { result ≡ roles.begin_role is_one }
+{
+    if is_one { Role::Begin } else { Role::Other }
+}
+
+fn end_role(is_one: bool) -> Role
+    ensures { result ≡ roles.end_role is_one }
+{
+    if is_one { Role::End } else { Role::Other }
+}
+
+/// What a punct is: a `;` may end the value of a `let`.
+pub(crate) fn punct_role(site: Site, sign: Sign) -> Role
+    ensures { result ≡ roles.punct_role site sign }
+{
+    match sign {
+        Sign::Semicolon => end_role(site.in_let),
+        _ => Role::Other,
+    }
+}
+
+/// What the opening of a group is: braces may end the value of an `if let`, a `while let` or a `for`.
+pub(crate) fn group_role(site: Site, kind: DelimiterKind) -> Role
+    ensures { result ≡ roles.group_role site kind }
+{
+    end_role(site.in_head_let && site.is_head && is_body(site, kind))
 }
 
 // ---- the site after a word
@@ -316,9 +363,9 @@ fn after_in(site: Site) -> Site
     match site.part {
         Part::ForPattern => Site {
             before: Before::Word,
-            region: site.region,
             part: Part::Whole,
             is_head: true,
+            ..site
         },
         _ => after_keyword(site, Before::Word, site.is_head),
     }
@@ -329,21 +376,21 @@ fn after_keyword(site: Site, before: Before, is_head: bool) -> Site
 {
     Site {
         before,
-        region: site.region,
-        part: site.part,
         is_head,
+        ..site
     }
 }
 
 // A pattern begins, if it is one.
-fn with_pattern(site: Site, part: Part, is_one: bool) -> Site
-    ensures { result ≡ spec.with_pattern site part is_one }
+fn with_pattern(site: Site, part: Part, is_one: bool, is_statement: bool) -> Site
+    ensures { result ≡ spec.with_pattern site part is_one is_statement }
 {
     Site {
         before: Before::Word,
-        region: site.region,
         part: if is_one { part } else { site.part },
-        is_head: site.is_head,
+        in_let: site.in_let || is_one && is_statement,
+        in_head_let: site.in_head_let || is_one && !is_statement,
+        ..site
     }
 }
 
@@ -357,8 +404,8 @@ fn after_if(site: Site) -> Site
         } else {
             site.region
         },
-        part: site.part,
         is_head: true,
+        ..site
     }
 }
 
@@ -366,8 +413,8 @@ fn after_sort<A: Allocator>(site: Site, sort: Sort, rest: TokenTreesView<'_, A>)
     ensures { result ≡ spec.after_sort site sort (trees rest.entry) }
 {
     match sort {
-        Sort::Let => with_pattern(site, Part::LetPattern, is_open(site)),
-        Sort::For => with_pattern(site, Part::ForPattern, is_open(site) && has_in(rest)),
+        Sort::Let => with_pattern(site, Part::LetPattern, is_open(site), !site.is_head),
+        Sort::For => with_pattern(site, Part::ForPattern, is_open(site) && has_in(rest), false),
         Sort::In => after_in(site),
         Sort::If => after_if(site),
         Sort::Head | Sort::Loop => after_keyword(site, Before::Word, true),
@@ -604,6 +651,12 @@ fn ends_arrow(before: Before, sign: Sign) -> bool
     }
 }
 
+fn is_semicolon(sign: Sign) -> bool
+    ensures { result ≡ spec.is_semicolon sign }
+{
+    matches!(sign, Sign::Semicolon)
+}
+
 fn is_comma(sign: Sign) -> bool
     ensures { result ≡ spec.is_comma sign }
 {
@@ -710,6 +763,9 @@ fn after_punct<A: Allocator>(site: Site, sign: Sign, rest: TokenTreesView<'_, A>
         region: region_after(site, sign, rest),
         part: part_after(site, sign, next),
         is_head: head_after(site, sign),
+        in_let: site.in_let && !is_semicolon(sign),
+        in_head_let: site.in_head_let && !is_semicolon(sign),
+        is_late: site.is_late,
     }
 }
 
@@ -821,6 +877,17 @@ fn region_inside<A: Allocator>(
     }
 }
 
+// Whether what a pattern in a group there binds is bound only after a value.
+fn late_inside(site: Site) -> bool
+    ensures { result ≡ spec.late_inside site site.part }
+{
+    match site.part {
+        Part::LetPattern | Part::ForPattern => true,
+        Part::Whole => site.is_late,
+        _ => false,
+    }
+}
+
 /// The site at the beginning of a group, where the site before it is known.
 pub(crate) fn inside_group<A: Allocator>(
     site: Site,
@@ -834,6 +901,9 @@ pub(crate) fn inside_group<A: Allocator>(
         region: region_inside(site, kind, inside),
         part: Part::Whole,
         is_head: false,
+        in_let: false,
+        in_head_let: false,
+        is_late: late_inside(site),
     }
 }
 
@@ -844,6 +914,13 @@ fn after_brackets(before: Before) -> Before
         Before::Hash => Before::Mark,
         _ => Before::Operand,
     }
+}
+
+// Whether braces there are those of statements and expressions.
+fn is_body(site: Site, kind: DelimiterKind) -> bool
+    ensures { result ≡ spec.is_body site kind }
+{
+    is_brace(kind) && is_open(site)
 }
 
 fn is_brace(kind: DelimiterKind) -> bool
@@ -888,6 +965,9 @@ pub(crate) fn after_group<A: Allocator>(
         before: after_brackets(site.before),
         region: region_after_group(site, kind, rest),
         part: site.part,
-        is_head: site.is_head && !(is_brace(kind) && is_open(site)),
+        is_head: site.is_head && !is_body(site, kind),
+        in_let: site.in_let,
+        in_head_let: site.in_head_let && !(site.is_head && is_body(site, kind)),
+        is_late: site.is_late,
     }
 }

@@ -7,8 +7,10 @@ ghost use Rattle.mbe_renaming.specs.Shown.{step_of};
 ghost use Rattle.mbe_renaming.specs.Steps as spec;
 
 use crate::sites::{
-    Before, Part, Region, Role, Site, after_group, after_leaf, inside_group, role_of,
+    Before, Part, Region, Role, Site, after_group, after_leaf, group_role, inside_group, punct_role,
+    role_of,
 };
+use crate::kinds::sign_of;
 use mbe_tt::span::Span;
 use mbe_tt::tt::{DelimiterKind, Leaf, LitKind, TokenTreesView, TtElement};
 use std::alloc::{AllocError, Allocator};
@@ -18,7 +20,7 @@ use std::alloc::{AllocError, Allocator};
 #[derive_where(Clone, Copy)]
 pub(crate) enum Step<'t, A: Allocator> {
     Leaf(&'t Leaf<A>, Role),
-    Open(DelimiterKind, Span),
+    Open(DelimiterKind, Span, Role),
     Close(Span),
 }
 
@@ -30,6 +32,9 @@ fn start() -> Site
         region: Region::Code,
         part: Part::Whole,
         is_head: false,
+        in_let: false,
+        in_head_let: false,
+        is_late: false,
     }
 }
 
@@ -52,7 +57,7 @@ fn leaf_role<A: Allocator>(site: Site, leaf: &Leaf<A>, rest: TokenTreesView<'_, 
     match leaf {
         Leaf::Ident(ident) => role_of(site, ident, rest),
         Leaf::Literal(literal) => literal_role(site.region, literal.kind),
-        Leaf::Punct(_) => Role::Other,
+        Leaf::Punct(punct) => punct_role(site, sign_of(punct.char)),
     }
 }
 
@@ -77,7 +82,8 @@ pub(crate) fn steps_of<'t, A: Allocator + Copy>(
             Some(TtElement::Subtree(group, inside)) => {
                 let delimiter = group.delimiter;
                 let after = after_group(site, delimiter.kind, iter.remaining());
-                found.push(Step::Open(delimiter.kind, delimiter.opening))?;
+                let role = group_role(site, delimiter.kind);
+                found.push(Step::Open(delimiter.kind, delimiter.opening, role))?;
                 around.push((delimiter.close, after, iter))?;
                 site = inside_group(site, delimiter.kind, inside.remaining());
                 iter = inside;
