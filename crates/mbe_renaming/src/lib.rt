@@ -3,6 +3,7 @@
 
 mod ahead;
 mod kinds;
+pub mod laws;
 mod mentions;
 mod naming;
 pub mod renaming;

@@ -6,12 +6,16 @@ ghost use Rattle.mbe_renaming.specs.Mentions as spec;
 fn after_prefix<'t>(prefix: &[u8], text: &'t [u8]) -> Option<&'t [u8]>
     ensures { option_map (λ t. t.now) result ≡ spec.after_prefix prefix.now text.now }
 {
+    let mut left = prefix;
     let mut rest = text;
-    for byte in prefix {
-        let (first, more) = rest.split_first()?;
+    'bytes: while let Some((byte, others)) = left.split_first() {
+        let Some((first, more)) = rest.split_first() else {
+            return None;
+        };
         if *first != *byte {
             return None;
         }
+        left = others;
         rest = more;
     }
     Some(rest)

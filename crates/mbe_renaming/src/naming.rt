@@ -477,6 +477,16 @@ fn numbered<A: Allocator + Copy>(alloc: A, text: &str, number: u64) -> Result<Sy
 }
 
 // The first of `a_1`, `a_2` and so on that isn't taken.
+#[tactic(
+    auto,
+    using(
+        crate::proofs::FreshLemmas::begins,
+        crate::proofs::FreshLemmas::tried,
+        crate::proofs::FreshLemmas::found,
+        crate::proofs::FreshLemmas::all_tried
+    ),
+    unfolding(crate::specs::Naming::fresh)
+)]
 fn fresh<A: Allocator + Copy>(
     alloc: A,
     words: &[Word<'_>],
@@ -487,13 +497,16 @@ fn fresh<A: Allocator + Copy>(
     ensures { IfOk result (λ s. s ≡ spec.fresh (map word_of words.now) names.now
         (map naming_of given.now) text.now) }
 {
-    for number in 1..u64::MAX {
+    let mut number = 1u64;
+    'numbers: while number < u64::MAX {
         let name = numbered(alloc, text, number)?;
-        if !is_taken(words, names, given, name.as_str()) {
+        if is_taken(words, names, given, name.as_str()) {
+            number += 1;
+        } else {
             return Ok(name);
         }
     }
-    numbered(alloc, text, u64::MAX)
+    numbered(alloc, text, number)
 }
 
 fn is_renamed<A: Allocator>(words: &[Word<'_>], names: &[Symbol<A>], local: Word<'_>) -> bool

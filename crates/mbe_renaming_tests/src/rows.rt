@@ -12,7 +12,7 @@ use std::process::Abort;
 use std::test::Fail;
 
 // A text, what it becomes, and how many places aren't decided. Around the text is the name `outside`.
-static ROWS: [(&str, &str, usize); 43] = [
+static ROWS: [(&str, &str, usize); 51] = [
     // A `let` of a template beside the caller's name.
     ("{ let a = 1; a__0 + a }", "{ let a_1 = 1; a + a_1 }", 0),
     // No other token has the name.
@@ -205,6 +205,45 @@ static ROWS: [(&str, &str, usize); 43] = [
         "{ f(a); let a = 1; a + a__0 }",
         "{ f(a); let a = 1; a + a }",
         1,
+    ),
+    // So is one in the value whose pattern binds it.
+    (
+        "{ let min = min(1, 2); min + min__0 }",
+        "{ let min = min(1, 2); min + min }",
+        1,
+    ),
+    (
+        "if let Some(a) = a { a + a__0 }",
+        "if let Some(a) = a { a + a }",
+        1,
+    ),
+    ("for a in a { f(a, a__0) }", "for a in a { f(a, a) }", 1),
+    (
+        "{ let (a, b) = (b, a__0); a + b + b__0 }",
+        "{ let (a_1, b) = (b, a); a_1 + b + b }",
+        1,
+    ),
+    (
+        "{ let a = { b(); a }; a + a__0 }",
+        "{ let a = { b(); a }; a + a }",
+        1,
+    ),
+    // But not where the name was bound before.
+    (
+        "{ let a = 1; let a = a + 1; a + a__0 }",
+        "{ let a_1 = 1; let a_1 = a_1 + 1; a_1 + a }",
+        0,
+    ),
+    // The arms of a value bind at once.
+    (
+        "{ let x = match v__0 { Some(v) => v, None => x__0 }; x + v__0 }",
+        "{ let x_1 = match v { Some(v_1) => v_1, None => x }; x_1 + v }",
+        0,
+    ),
+    (
+        "{ let a = { let b = 1; b }; a + a__0 + b__0 }",
+        "{ let a_1 = { let b_1 = 1; b_1 }; a_1 + a + b }",
+        0,
     ),
     // A parameter of a function isn't looked for.
     (

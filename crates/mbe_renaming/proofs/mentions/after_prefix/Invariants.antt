@@ -1,7 +1,9 @@
-use Rattle.std.proofs.Common.{◌≡◌, drop}
+use Rattle.std.proofs.Common.{◌≡◌, length}
 use Rattle.mbe_renaming.specs.Mentions as spec
 use Rattle.mbe_renaming.proofs.mentions.after_prefix.Given as goal
 
-abbrev pub invariant-loop-byte : goal.invariant-loop-byte
-invariant-loop-byte l =
-    spec.after_prefix (drop l.byte-index l.prefix) l.rest ≡ spec.after_prefix l.prefix l.initial.rest
+abbrev pub invariant-bytes : goal.invariant-bytes
+invariant-bytes l = spec.after_prefix l.left l.rest ≡ spec.after_prefix l.initial.left l.initial.rest
+
+abbrev pub decreases-bytes : goal.decreases-bytes
+decreases-bytes l = length l.left
