@@ -7,7 +7,7 @@ use Rattle.mbe_tt.specs.declared.span.Span.{Span}
 use Rattle.mbe_tt.specs.declared.tt.Delimiter.{Delimiter}
 use Rattle.mbe_renaming.specs.declared.sites.Site.{Site}
 use Rattle.mbe_renaming.specs.Roles.{group_role}
-use Rattle.mbe_renaming.specs.Sites.{after_leaf, after_group, inside_group}
+use Rattle.mbe_renaming.specs.Sites.{start, after_leaf, after_group, inside_group}
 use Rattle.mbe_renaming.specs.Steps.{Step, token, opening, closing, leaf_role, steps}
 
 -- a group around: where it closes, the site after it, and the trees after it
@@ -65,10 +65,12 @@ around_nil = refl
 pub record Left (found : List Step) (s : Site) (f : Forest) (items : List Around) (all : List Step) : Type 0 where
   pub same : found ++ (steps s f ++ steps_around (reverse items)) ≡ all
 
-pub begins : (items : List Around) (s : Site) (f g : Forest) → items ≡ [] → f ≡ g → Left [] s f items (steps s g)
-begins items s f g i e = record {
-  same = ap (λ k. steps s f ++ steps_around (reverse k)) i ∙ ap (λ k. steps s f ++ k) around_nil
-      ∙ append-nil (steps s f) ∙ ap (steps s) e;
+pub begun : (found : List Step) (items : List Around) (s : Site) (f g : Forest) → found ≡ [] → items ≡ [] → s ≡ start
+    → f ≡ g → Left found s f items (steps start g)
+begun found items s f g e i t h = record {
+  same = ap (λ k. k ++ (steps s f ++ steps_around (reverse items))) e
+      ∙ ap (λ k. steps s f ++ steps_around (reverse k)) i ∙ ap (λ k. steps s f ++ k) around_nil
+      ∙ append-nil (steps s f) ∙ ap (λ k. steps k f) t ∙ ap (steps start) h;
 }
 
 -- one step found, of those that were to be found
@@ -76,10 +78,10 @@ one_more : (found more : List Step) (x : Step) (others : List Step) → more ≡
     → more ++ others ≡ found ++ (x ∷ others)
 one_more found more x others e = ap (λ k. k ++ others) e ∙ append_assoc found (x ∷ []) others
 
-pub leaf_on : (found more all : List Step) (s next : Site) (f after : Forest) (items : List Around) (l : Leaf)
+leaf_seen : (found more all : List Step) (s next : Site) (f after : Forest) (items : List Around) (l : Leaf)
     → after ≡ rest_of f → Some (Leaf_tree l) ≡ first f → more ≡ found ++ (token l (leaf_role s l after) ∷ [])
     → next ≡ after_leaf s l after → Left found s f items all → Left more next after items all
-leaf_on found more all s next f after items l r h m n w =
+leaf_seen found more all s next f after items l r h m n w =
     let around = steps_around (reverse items) in
     let is = leaf_step f l s h in
     record {
@@ -89,12 +91,20 @@ leaf_on found more all s next f after items l r h m n w =
           ∙ ap (λ k. found ++ (k ++ around)) (sym is) ∙ w.same;
     }
 
-pub group_on : (found more all : List Step) (s here next : Site) (f after inside : Forest) (items deeper : List Around)
+pub leaf_on : (found more all : List Step) (s next : Site) (f after view : Forest) (items : List Around) (l : Leaf)
+    → after ≡ rest_of f → view ≡ after → Some (Leaf_tree l) ≡ first f
+    → more ≡ found ++ (token l (leaf_role s l view) ∷ []) → next ≡ after_leaf s l view → Left found s f items all
+    → Left more next after items all
+leaf_on found more all s next f after view items l r v h m n w =
+    leaf_seen found more all s next f after items l r h (m ∙ ap (λ x. found ++ (token l (leaf_role s l x) ∷ [])) v)
+    (n ∙ ap (after_leaf s l) v) w
+
+group_seen : (found more all : List Step) (s here next : Site) (f after inside : Forest) (items deeper : List Around)
     (d : Delimiter) → after ≡ rest_of f → Some (Group_tree d inside) ≡ first f
     → more ≡ found ++ (opening d.kind d.opening (group_role s d.kind) ∷ []) → here ≡ after_group s d.kind after
     → deeper ≡ items ++ ((d.close, here, after) ∷ [])
     → next ≡ inside_group s d.kind inside → Left found s f items all → Left more next inside deeper all
-group_on found more all s here next f after inside items deeper d r h m a i n w =
+group_seen found more all s here next f after inside items deeper d r h m a i n w =
     let around = steps_around (reverse items) in
     let begin = opening d.kind d.opening (group_role s d.kind) in
     let content = steps (inside_group s d.kind inside) inside in
@@ -112,6 +122,15 @@ group_on found more all s here next f after inside items deeper d r h m a i n w 
           (closing d.close ∷ steps (after_group s d.kind (rest_of f)) (rest_of f)) around))
           ∙ ap (λ k. found ++ (k ++ around)) (sym (group_step f inside d s h)) ∙ w.same;
     }
+
+pub group_on : (found more all : List Step) (s here next : Site) (f after view inside content : Forest)
+    (items deeper : List Around) (d : Delimiter) → after ≡ rest_of f → view ≡ after → content ≡ inside
+    → Some (Group_tree d inside) ≡ first f → more ≡ found ++ (opening d.kind d.opening (group_role s d.kind) ∷ [])
+    → here ≡ after_group s d.kind view → deeper ≡ items ++ ((d.close, here, after) ∷ [])
+    → next ≡ inside_group s d.kind content → Left found s f items all → Left more next inside deeper all
+group_on found more all s here next f after view inside content items deeper d r v k h m a i n w =
+    group_seen found more all s here next f after inside items deeper d r h m (a ∙ ap (after_group s d.kind) v) i
+    (n ∙ ap (inside_group s d.kind) k) w
 
 pub pop_on : (found more all : List Step) (s here : Site) (f rest : Forest) (items fewer : List Around) (close : Span)
     → None ≡ first f → more ≡ found ++ (closing close ∷ []) → items ≡ fewer ++ ((close, here, rest) ∷ [])

@@ -1,17 +1,19 @@
 -- The steps of trees, written one after another, are the trees with their new names.
 use Rattle.std.proofs.Common.{◌≡◌, ℕ, ◌+◌, ◌<◌, List, [], ◌∷◌, ◌++◌, length, true, refl, ap, sym, ◌∙◌, append_assoc, append-nil, arith}
-use Rattle.std.specs.Prelude.{nat_lt}
+use Rattle.std.specs.Prelude.{nat_lt, if◌then◌else◌}
 use Rattle.std.proofs.lemmas.Bool.{lt-ltb}
 use Rattle.mbe_tt.proofs.Buffers.Built.{length-put}
 use Rattle.mbe_tt.proofs.Buffers.Grown.{put-none}
 use Rattle.mbe_tt.specs.Buffers.Building.{Levels, put, closed}
+use Rattle.mbe_tt.specs.Trees.Top.{Top}
 use Rattle.mbe_tt.specs.Trees.Tree.{Forest, Tree, Leaf_tree, Group_tree, none, leaf, group, tree, append, one_leaf}
 use Rattle.mbe_tt.specs.declared.span.Span.{Span}
 use Rattle.mbe_tt.specs.declared.tt.Delimiter.{Delimiter}
 use Rattle.mbe_renaming.specs.declared.sites.Site.{Site}
-use Rattle.mbe_renaming.specs.Naming.{Naming}
-use Rattle.mbe_renaming.specs.Renaming.{renamed_leaf, renamed, closed_inside, written}
-use Rattle.mbe_renaming.specs.Sites.{after_leaf, after_group, inside_group}
+use Rattle.mbe_renaming.specs.declared.naming.Doubt.{Doubt}
+use Rattle.mbe_renaming.specs.Naming.{Word, words, locals, Naming, names_from, undecided_of, undecided}
+use Rattle.mbe_renaming.specs.Renaming.{renamed_leaf, renamed, closed_inside, written, words_in, namings_in, renamed_trees, renamed_tree}
+use Rattle.mbe_renaming.specs.Sites.{start, after_leaf, after_group, inside_group}
 use Rattle.mbe_renaming.specs.Steps.{Step, token, opening, closing, leaf_role, steps}
 
 after_one : (f : Forest) (t : Tree) (h : Forest) → append (append f (tree t none)) h ≡ append f (tree t h)
@@ -29,9 +31,9 @@ closes : (d : Delimiter) (inside : Forest) (b : Levels) → 0 < length b
     → closed_inside d.close ((record { opening = d.opening; close = d.opening; kind = d.kind }, inside) ∷ b)
     ≡ put (group d inside none) b
 closes d inside b h =
-    let more : 1 < length ((record { opening = d.opening; close = d.opening; kind = d.kind }, inside) ∷ b) =
-    omega (arith, h) in
-    rw (lt-ltb 1 (length ((record { opening = d.opening; close = d.opening; kind = d.kind }, inside) ∷ b)) more) refl
+    let x : Delimiter × Forest = (record { opening = d.opening; close = d.opening; kind = d.kind }, inside) in
+    let more : 1 < length (x ∷ b) = omega (arith, h) in
+    ap (λ y. if y then closed d.close (x ∷ b) else (x ∷ b)) (lt-ltb 1 (length (x ∷ b)) more)
 
 put_some : (f : Forest) (b : Levels) → 0 < length b → 0 < length (put f b)
 put_some f b h = let l = length-put b f in omega (arith, h, l)
@@ -65,3 +67,40 @@ all_written given f s d =
     let b : Levels = (d, none) ∷ [] in
     let some : 0 < length b = omega arith in
     ap (λ k. written given k b) (sym (append-nil (steps s f))) ∙ steps_written given f s b [] some
+
+-- ---- what the call puts together
+
+given_is : (names : List (List ℕ)) (f : Forest) (xs : List Step) (ws ls : List Word) (given : List Naming)
+    → xs ≡ steps start f → ws ≡ words xs → ls ≡ locals ws → given ≡ names_from ws names [] ls
+    → given ≡ namings_in names f
+given_is names f xs ws ls given x w l g =
+    let all : ws ≡ words_in f = w ∙ ap words x in
+    g ∙ ap (λ k. names_from ws names [] k) l ∙ ap (λ k. names_from k names [] (locals k)) all
+
+pub opened_written : (given : List Naming) (f : Forest) (xs : List Step) (d : Delimiter) (old now : Levels)
+    → xs ≡ steps start f → old ≡ (d, none) ∷ [] → now ≡ written given xs old
+    → now ≡ (d, renamed given start f) ∷ []
+opened_written given f xs d old now x o n =
+    n ∙ ap (λ k. written given k old) x ∙ ap (written given (steps start f)) o ∙ all_written given f start d
+
+-- the tree is that of the definition
+pub tree_is : (names : List (List ℕ)) (t : Top) (d : Delimiter) (made : Top) (xs : List Step) (ws ls : List Word)
+    (given : List Naming) → xs ≡ steps start t.1 → ws ≡ words xs → ls ≡ locals ws
+    → given ≡ names_from ws names [] ls → d ≡ t.0 → made ≡ (d, renamed given start t.1)
+    → made ≡ renamed_tree names t
+tree_is names t d made xs ws ls given x w l g s m =
+    m ∙ ap (λ (k : List Naming). let r : Top = (d, renamed k start t.1) in r) (given_is names t.1 xs ws ls given x w l g)
+    ∙ ap (λ (k : Delimiter). let r : Top = (k, renamed_trees names t.1) in r) s
+
+pub places_are : (names : List (List ℕ)) (f : Forest) (xs : List Step) (ws ls : List Word) (places : List Doubt)
+    → xs ≡ steps start f → ws ≡ words xs → ls ≡ locals ws → places ≡ undecided_of ws names ls
+    → places ≡ undecided (words_in f) names
+places_are names f xs ws ls places x w l p =
+    let all : ws ≡ words_in f = w ∙ ap words x in
+    p ∙ ap (undecided_of ws names) l ∙ ap (λ k. undecided_of k names (locals k)) all
+
+pub one_open : (now : Levels) (x : Delimiter × Forest) → now ≡ x ∷ [] → length now ≡ 1
+one_open now x e = ap length e
+
+pub built : (now : Levels) (t x : Delimiter × Forest) → now ≡ t ∷ [] → now ≡ x ∷ [] → t ≡ x
+built now t x e h = let s : t ∷ [] ≡ x ∷ [] = sym e ∙ h in cc

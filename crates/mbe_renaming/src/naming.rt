@@ -477,16 +477,6 @@ fn numbered<A: Allocator + Copy>(alloc: A, text: &str, number: u64) -> Result<Sy
 }
 
 // The first of `a_1`, `a_2` and so on that isn't taken.
-#[tactic(
-    auto,
-    using(
-        crate::proofs::FreshLemmas::begins,
-        crate::proofs::FreshLemmas::tried,
-        crate::proofs::FreshLemmas::found,
-        crate::proofs::FreshLemmas::all_tried
-    ),
-    unfolding(crate::specs::Naming::fresh)
-)]
 fn fresh<A: Allocator + Copy>(
     alloc: A,
     words: &[Word<'_>],
@@ -506,7 +496,8 @@ fn fresh<A: Allocator + Copy>(
             return Ok(name);
         }
     }
-    numbered(alloc, text, number)
+    let last = numbered(alloc, text, number)?;
+    Ok(last)
 }
 
 fn is_renamed<A: Allocator>(words: &[Word<'_>], names: &[Symbol<A>], local: Word<'_>) -> bool

@@ -1,8 +1,9 @@
 // The trees of an expansion with its locals renamed, where hygiene keeps them apart from others of their names.
-ghost use Rattle.std.specs.Prelude.{◌≡◌, ◌<◌, IfOk, OnOk, length, map};
-ghost use Rattle.mbe_tt.specs.Buffers.Building.{put};
+ghost use Rattle.std.specs.Prelude.{◌≡◌, IfOk, OnOk, map};
+ghost use Rattle.mbe_tt.specs.Trees.Tree.{Forest};
 ghost use Rattle.mbe_tt.specs.Views.Shown.{leaf_of};
-ghost use Rattle.mbe_tt.specs.Views.View.{trees};
+ghost use Rattle.mbe_renaming.specs.Sites.{start};
+ghost use Rattle.mbe_renaming.specs.Steps.{steps as steps_from};
 ghost use Rattle.mbe_renaming.specs.Shown.{step_of, naming_of};
 ghost use Rattle.mbe_renaming.specs.Renaming as spec;
 
@@ -12,7 +13,7 @@ use crate::sites::Role;
 use crate::walking::{Step, steps_of};
 use mbe_tt::span::Span;
 use mbe_tt::symbol::Symbol;
-use mbe_tt::tt::{Ident, Leaf, TokenTreesView, TopSubtree, TopSubtreeBuilder};
+use mbe_tt::tt::{Delimiter, Ident, Leaf, TopSubtree, TopSubtreeBuilder};
 use std::alloc::{AllocError, Allocator, Global};
 
 /// What renaming makes of trees.
@@ -101,6 +102,22 @@ fn write<A: Allocator>(
     Ok(())
 }
 
+// The tree of steps, with new names. They must be those of some trees.
+fn written_tree<A: Allocator + Copy>(
+    alloc: A,
+    delimiter: Delimiter,
+    given: &[Naming<'_, A>],
+    steps: &[Step<'_, A>],
+) -> Result<TopSubtree<A>, AllocError>
+    requires { (f : Forest) × (map step_of steps.now ≡ steps_from start f) }
+    ensures { (f : Forest) → map step_of steps.now ≡ steps_from start f → IfOk result
+        (λ t. t ≡ (delimiter, spec.renamed (map naming_of given.now) start f)) }
+{
+    let mut builder = TopSubtreeBuilder::new(alloc, delimiter)?;
+    write(&mut builder, given, steps)?;
+    Ok(builder.build())
+}
+
 /// The trees with the locals and labels renamed that a step binds, a token of another context than 0, where another token of the
 /// trees has the same name and another context, or one of `names` is that name. Each gets the first of `a_1`, `a_2` and so on that
 /// the trees and `names` don't have. What isn't surely bound isn't renamed; and a local isn't that may be named where that can't be
@@ -119,10 +136,10 @@ pub fn rename<A: Allocator + Copy>(
     let bound = locals(alloc, words.as_slice())?;
     let given = namings(alloc, words.as_slice(), names, bound.as_slice())?;
     let places = undecided(alloc, words.as_slice(), names, bound.as_slice())?;
-    let mut builder = TopSubtreeBuilder::new(alloc, tree.top_subtree().delimiter)?;
-    write(&mut builder, given.as_slice(), steps.as_slice())?;
+    let delimiter = tree.top_subtree().delimiter;
+    let made = written_tree(alloc, delimiter, given.as_slice(), steps.as_slice())?;
     Ok(Renamed {
-        tree: builder.build(),
+        tree: made,
         undecided: places,
     })
 }

@@ -1,9 +1,11 @@
 // Trees as steps, one after another: leaves with what they may be, openings and closings.
-ghost use Rattle.std.specs.Prelude.{◌≡◌, ◌<◌, IfOk, OnOk, length, map};
+ghost use Rattle.std.specs.Prelude.{◌≡◌, ◌++◌, ◌∷◌, [], IfOk, OnOk, map};
 ghost use Rattle.mbe_tt.specs.Views.Shown.{leaf_of};
 ghost use Rattle.mbe_tt.specs.Views.View.{trees};
 ghost use Rattle.mbe_renaming.specs.Sites.{start};
 ghost use Rattle.mbe_renaming.specs.Shown.{step_of};
+ghost use Rattle.mbe_renaming.specs.Roles.{group_role};
+ghost use Rattle.mbe_renaming.specs.Steps.{token, opening, closing};
 ghost use Rattle.mbe_renaming.specs.Steps as spec;
 
 use crate::sites::{
@@ -12,7 +14,7 @@ use crate::sites::{
 };
 use crate::kinds::sign_of;
 use mbe_tt::span::Span;
-use mbe_tt::tt::{DelimiterKind, Leaf, LitKind, TokenTreesView, TtElement};
+use mbe_tt::tt::{Delimiter, DelimiterKind, Leaf, LitKind, TokenTreesView, TtElement};
 use std::alloc::{AllocError, Allocator};
 
 /// A leaf with what it may be, an opening, or a closing.
@@ -61,6 +63,44 @@ fn leaf_role<A: Allocator>(site: Site, leaf: &Leaf<A>, rest: TokenTreesView<'_, 
     }
 }
 
+fn add_leaf<'t, A: Allocator>(
+    found: &mut Vec<Step<'t, A>, A>,
+    site: Site,
+    leaf: &'t Leaf<A>,
+    rest: TokenTreesView<'_, A>,
+) -> Result<(), AllocError>
+    ensures { OnOk result (map step_of found.new.items ≡ map step_of found.old.items
+        ++ (token (leaf_of leaf.now) (spec.leaf_role site (leaf_of leaf.now) (trees rest.entry))
+        ∷ [])) }
+{
+    found.push(Step::Leaf(leaf, leaf_role(site, leaf, rest)))?;
+    Ok(())
+}
+
+fn add_opening<A: Allocator>(
+    found: &mut Vec<Step<'_, A>, A>,
+    site: Site,
+    delimiter: Delimiter,
+) -> Result<(), AllocError>
+    ensures { OnOk result (map step_of found.new.items ≡ map step_of found.old.items
+        ++ (opening delimiter.kind delimiter.opening (group_role site delimiter.kind) ∷ [])) }
+{
+    let role = group_role(site, delimiter.kind);
+    found.push(Step::Open(delimiter.kind, delimiter.opening, role))?;
+    Ok(())
+}
+
+fn add_closing<A: Allocator>(
+    found: &mut Vec<Step<'_, A>, A>,
+    close: Span,
+) -> Result<(), AllocError>
+    ensures { OnOk result (map step_of found.new.items
+        ≡ map step_of found.old.items ++ (closing close ∷ [])) }
+{
+    found.push(Step::Close(close))?;
+    Ok(())
+}
+
 /// The steps of these trees.
 pub(crate) fn steps_of<'t, A: Allocator + Copy>(
     alloc: A,
@@ -76,14 +116,13 @@ pub(crate) fn steps_of<'t, A: Allocator + Copy>(
         match iter.next() {
             Some(TtElement::Leaf(leaf)) => {
                 let rest = iter.remaining();
-                found.push(Step::Leaf(leaf, leaf_role(site, leaf, rest)))?;
+                add_leaf(&mut found, site, leaf, rest)?;
                 site = after_leaf(site, leaf, rest);
             }
             Some(TtElement::Subtree(group, inside)) => {
                 let delimiter = group.delimiter;
                 let after = after_group(site, delimiter.kind, iter.remaining());
-                let role = group_role(site, delimiter.kind);
-                found.push(Step::Open(delimiter.kind, delimiter.opening, role))?;
+                add_opening(&mut found, site, delimiter)?;
                 around.push((delimiter.close, after, iter))?;
                 site = inside_group(site, delimiter.kind, inside.remaining());
                 iter = inside;
@@ -91,7 +130,7 @@ pub(crate) fn steps_of<'t, A: Allocator + Copy>(
             None => match around.pop() {
                 None => return Ok(found),
                 Some((close, after, rest)) => {
-                    found.push(Step::Close(close))?;
+                    add_closing(&mut found, close)?;
                     site = after;
                     iter = rest;
                 }
