@@ -132,12 +132,16 @@ pub fn rename<A: Allocator + Copy>(
         ≡ spec.undecided_in names.now tree.now) }
 {
     let steps = steps_of(alloc, tree.iter().remaining())?;
-    let words = words_of(alloc, steps.as_slice())?;
-    let bound = locals(alloc, words.as_slice())?;
-    let given = namings(alloc, words.as_slice(), names, bound.as_slice())?;
-    let places = undecided(alloc, words.as_slice(), names, bound.as_slice())?;
+    let all_steps = steps.as_slice();
+    let words = words_of(alloc, all_steps)?;
+    let all_words = words.as_slice();
+    let bound = locals(alloc, all_words)?;
+    let all_bound = bound.as_slice();
+    let given = namings(alloc, all_words, names, all_bound)?;
+    let all_given = given.as_slice();
+    let places = undecided(alloc, all_words, names, all_bound)?;
     let delimiter = tree.top_subtree().delimiter;
-    let made = written_tree(alloc, delimiter, given.as_slice(), steps.as_slice())?;
+    let made = written_tree(alloc, delimiter, all_given, all_steps)?;
     Ok(Renamed {
         tree: made,
         undecided: places,
