@@ -1,20 +1,21 @@
 -- The trees of crates, and their parts.
 use Rattle.std.proofs.Common.{◌≡◌, ◌<◌, ◌+◌, ℕ, Bool, true, false, List, [], ◌∷◌, ◌++◌, length, map, take, get_or, Option, Some, None, Result, Ok, Err, refl, ap, sym, ◌∙◌, subst, append-nil, arith}
-use Rattle.std.specs.Prelude.{IfOk, IfSome, option_map, if◌then◌else◌}
-use Rattle.std.specs.List.{All}
+use Rattle.std.specs.Prelude.{IfOk, IfSome, OnOk, is_none, is_ok, option_and_then, option_map, if◌then◌else◌}
+use Rattle.std.specs.List.{All, slice_get}
+use Rattle.std.proofs.lemmas.Option.{IfSome_then, slice_get-map}
 use Rattle.std.proofs.lemmas.List.{length-map, length-take, map-append}
 use Rattle.std.proofs.lemmas.List.Elements.{filter-append}
 use Rattle.mbe_calls.specs.Splicing.{Part}
 use Rattle.mbe_tt.specs.Trees.Top.{Top}
 use Rattle.mbe_expanding.specs.Calls.{Setting, State}
-use Rattle.mbe_expanding.specs.Replacing.{IsOfCall, NoneCalled, PartsOfFile}
+use Rattle.mbe_expanding.specs.Replacing.{Adds, IsOfCall, NoneCalled, PartsOfFile}
 use Rattle.mbe_expanding.specs.Scopes.{Definition}
 use Rattle.mbe_following.specs.Following.{crate_tree}
 use Rattle.mbe_modules.specs.Places.{in_file}
 use Rattle.mbe_expandm.specs.declared.places.Position.{Position}
 use Rattle.mbe_expandm.specs.Crates.{crate_at, crate_of, file_of, is_followed}
 use Rattle.mbe_expandm.specs.Expansions as spec
-use Rattle.mbe_expandm.specs.Expansions.{CrateParts, CratesParts, FileBecomes, FilesBecome, RootBecomes, is_in, parts_in}
+use Rattle.mbe_expandm.specs.Expansions.{CrateParts, CratesParts, FileBecomes, FilesBecome, RootBecomes, TextBecomes, TreeBecomes, is_in, parts_in}
 use Rattle.mbe_expandm.specs.Sources.{Source}
 use Rattle.mbe_expandm.proofs.SessionLemmas.{map_taken}
 
@@ -41,6 +42,17 @@ whole_tree follows files n root tree whole e t w =
     then crate_tree (map file_of files) n (in_file root.path None) t else t)) e
     ∙ ap (λ b. Some (if b then crate_tree (map file_of files) n (in_file root.path None) tree else tree)) t
     ∙ ap Some (sym w)
+
+pub tree_there : {X : Type 0} (see : X → Source) (follows : Bool) (files : List X) (n : ℕ) (file : X)
+    → slice_get files n ≡ Some file
+    → crate_at follows (map see files) n ≡ crate_of follows (map see files) n (see file)
+tree_there see follows files n file is =
+    ap (option_and_then (crate_of follows (map see files) n)) (slice_get-map see files n ∙ ap (option_map see) is)
+
+pub no_tree_there : {X : Type 0} (see : X → Source) (follows : Bool) (files : List X) (n : ℕ)
+    → slice_get files n ≡ None → crate_at follows (map see files) n ≡ None
+no_tree_there see follows files n is =
+    ap (option_and_then (crate_of follows (map see files) n)) (slice_get-map see files n ∙ ap (option_map see) is)
 
 -- ---- its parts
 
@@ -70,6 +82,18 @@ some_unknown see r c tree ds is h =
         → IfOk r (λ v. see v ≡ [])
     swapped see (Ok v) h p = h p
     swapped see (Err x) h p = tt
+
+pub adds_none : (change : List Part → State → Type 0) (before : List Part) (t : State) → change [] t
+    → Adds change before before t
+adds_none change before t none = ([], none, sym (append-nil before))
+
+pub adds_these : {X T E : Type 0} (see : X → Part) (r : Result T E) (change : List Part → State → Type 0)
+    (before more after : List X) (t : State) → change (map see more) t
+    → after ≡ (if is_ok r then before ++ more else before)
+    → OnOk r (Adds change (map see before) (map see after) t)
+adds_these see (Ok x) change before more after t these is =
+    (map see more, these, ap (map see) is ∙ map-append see before more)
+adds_these see (Err x) change before more after t these is = tt
 
 -- ---- crates, one after another
 
@@ -115,6 +139,37 @@ none_in see n items item i found h is before there =
     ∙ ap (λ b. parts_in n (map see (take i items)) ++ (if b then see item ∷ [] else [])) (sym there)
     ∙ sym (parts_more see n items item i h is)
 
+-- ---- a file
+
+has_none : (t : Option Top) → is_none t ≡ true → t ≡ None
+has_none None h = refl
+has_none (Some t) h = cc
+
+pub not_rust : {X E : Type 0} (see : X → List ℕ) (r : Result X E) (call : Option Position) (parts : List Part) (n : ℕ)
+    (file : Source) → is_none file.tree ≡ true → IfOk r (λ x. see x ≡ file.text)
+    → IfOk r (λ x. FileBecomes call parts n file (see x))
+not_rust see r call parts n file is h =
+    subst (λ t. IfOk r (λ x. TreeBecomes call t file.text (parts_in n parts) (see x))) (sym (has_none file.tree is)) h
+
+tree_becomes : {X E : Type 0} (see : X → List ℕ) (r : Result X E) (call : Option Position) (t : Option Top)
+    (text : List ℕ) (parts : List Part) → is_none t ≡ false → IfOk r (λ x. TextBecomes call text parts (see x))
+    → IfOk r (λ x. TreeBecomes call t text parts (see x))
+tree_becomes see r call None text parts is h = cc
+tree_becomes see r call (Some t) text parts is h = h
+
+pub text_becomes : {X E : Type 0} (see : X → List ℕ) (r : Result X E) (call asked : Option Position)
+    (found parts : List Part) (n : ℕ) (file : Source) → is_none file.tree ≡ false → asked ≡ call
+    → found ≡ parts_in n parts → IfOk r (λ x. TextBecomes call file.text found (see x))
+    → IfOk r (λ x. FileBecomes asked parts n file (see x))
+text_becomes see r call asked found parts n file is same are h =
+    tree_becomes see r asked file.tree file.text (parts_in n parts) is
+    (subst (λ c. IfOk r (λ x. TextBecomes c file.text (parts_in n parts) (see x))) (sym same)
+    (subst (λ ps. IfOk r (λ x. TextBecomes call file.text ps (see x))) are h))
+
+as_it_was : (t : Option Top) (text out : List ℕ) → TreeBecomes None t text [] out → out ≡ text
+as_it_was None text out h = h
+as_it_was (Some t) text out h = h
+
 -- ---- files, one after another
 
 pub one_more_becomes : {X Y : Type 0} (see : X → Source) (text : Y → List ℕ) (call : Option Position)
@@ -147,3 +202,31 @@ pub root_becomes : {X E : Type 0} (see : X → List ℕ) (r : Result X E) (e : S
 root_becomes see (Ok x) e levels call follows files n root s t parts of_crate h =
     record { parts = parts; of_crate = of_crate; becomes = h }
 root_becomes see (Err x) e levels call follows files n root s t parts of_crate h = tt
+
+-- without parts it is its text
+pub root_unknown : {X E : Type 0} (see : X → List ℕ) (r : Result X E) (c : Option Top) (ds : List Definition)
+    (call : Option Position) (parts : List Part) (n : ℕ) (root : Source)
+    → IfSome c (λ tree. NoneCalled ds tree.1 → parts ≡ []) → IfOk r (λ x. FileBecomes call parts n root (see x))
+    → IfSome c (λ tree. call ≡ None → NoneCalled ds tree.1 → IfOk r (λ x. see x ≡ root.text))
+root_unknown see r c ds call parts n root none becomes =
+    IfSome_then c none (λ (tree : Top) no_parts whole unknown. same see r call parts n root becomes whole (no_parts unknown))
+  where
+    same : {X E : Type 0} (see : X → List ℕ) (r : Result X E) (call : Option Position) (parts : List Part) (n : ℕ)
+        (root : Source) → IfOk r (λ x. FileBecomes call parts n root (see x)) → call ≡ None → parts ≡ []
+        → IfOk r (λ x. see x ≡ root.text)
+    same see (Ok x) call parts n root h whole none =
+        as_it_was root.tree root.text (see x) (subst (λ ps. FileBecomes None ps n root (see x)) none
+        (subst (λ k. FileBecomes k parts n root (see x)) whole h))
+    same see (Err x) call parts n root h whole none = tt
+
+pub root_there : {X : Type 0} (see : X → Source) (files : List X) (n m : ℕ) (file : X) (P : ℕ → Source → Type 0)
+    → slice_get files n ≡ Some file → n ≡ m → P n (see file) → IfSome (slice_get (map see files) m) (P m)
+root_there see files n m file P is same h =
+    subst (λ k. IfSome (slice_get (map see files) k) (P k)) same
+    (subst (λ o. IfSome o (P n)) (sym (slice_get-map see files n ∙ ap (option_map see) is)) h)
+
+pub no_root_there : {X : Type 0} (see : X → Source) (files : List X) (n m : ℕ) (P : Source → Type 0)
+    → slice_get files n ≡ None → n ≡ m → IfSome (slice_get (map see files) m) P
+no_root_there see files n m P is same =
+    subst (λ k. IfSome (slice_get (map see files) k) P) same
+    (subst (λ o. IfSome o P) (sym (slice_get-map see files n ∙ ap (option_map see) is)) tt)

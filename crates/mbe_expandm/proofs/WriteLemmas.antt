@@ -1,10 +1,13 @@
 -- Files read one after another, and what a writer took.
-use Rattle.std.proofs.Common.{◌≡◌, ◌<◌, ℕ, zero, suc, List, [], ◌∷◌, length, map, take, Option, Result, Ok, Err, inr, refl, ap, ◌∙◌, sym, subst, arith, ◌+◌}
-use Rattle.std.specs.Prelude.{get_or}
+use Rattle.std.proofs.Common.{◌≡◌, ◌<◌, ℕ, zero, suc, List, [], ◌∷◌, length, map, take, Option, None, Result, Ok, Err, inr, refl, ap, ◌∙◌, sym, subst, arith, ◌+◌}
+use Rattle.std.specs.Prelude.{IfSome, get_or}
+use Rattle.std.proofs.lemmas.Option.{IfSome_then}
 use Rattle.mbe_tt.specs.declared.span.Edition.{Edition}
 use Rattle.mbe_tt.specs.Trees.Top.{Top}
 use Rattle.mbe_text.specs.Writing.{Writes}
-use Rattle.mbe_expanding.specs.Scopes.{Scope}
+use Rattle.mbe_expanding.specs.Replacing.{NoneCalled}
+use Rattle.mbe_expanding.specs.Scopes.{Definition, Scope}
+use Rattle.mbe_expandm.specs.declared.places.Position.{Position}
 use Rattle.mbe_expandm.specs.Expansions.{DefinesFile, DefinesFiles, WritesOne}
 
 -- ---- definitions
@@ -37,3 +40,12 @@ pub wrote : {T E : Type 0} (a b : Option (List ℕ)) (r : Result T E) (Is : List
     → Is bytes
     → written ≡ bytes → Writes a b r written → WritesOne a b r Is
 wrote a b r Is bytes written is h w = inr (bytes, is, subst (Writes a b r) h w)
+
+-- the text itself, where no known macro is called
+pub wrote_unknown : {T E : Type 0} (a b : Option (List ℕ)) (r : Result T E) (c : Option Top) (ds : List Definition)
+    (call : Option Position) (bytes written text : List ℕ)
+    → IfSome c (λ tree. call ≡ None → NoneCalled ds tree.1 → bytes ≡ text) → written ≡ bytes → Writes a b r written
+    → IfSome c (λ tree. call ≡ None → NoneCalled ds tree.1 → WritesOne a b r (λ s. s ≡ text))
+wrote_unknown a b r c ds call bytes written text h is w =
+    IfSome_then c h (λ (tree : Top) same whole unknown.
+    wrote a b r (λ s. s ≡ text) bytes written (same whole unknown) is w)

@@ -30,7 +30,7 @@ pub fn is_followed(follows: bool, name: &str) -> bool
 }
 
 // The file as one that a module may be in.
-fn file_of<'s>(file: &'s SourceFile<'s>) -> File<'s>
+fn file_of<'s>(file: &'s SourceFile<'_>) -> File<'s>
     ensures { file_shown result ≡ file_of (source_of file.now) }
 {
     match &file.tree {
@@ -46,7 +46,7 @@ fn file_of<'s>(file: &'s SourceFile<'s>) -> File<'s>
 }
 
 // The files as such that a module may be in.
-fn files_of<'s>(alloc: Global, files: &'s [SourceFile<'s>]) -> Result<Vec<File<'s>>, AllocError>
+fn files_of<'s>(alloc: Global, files: &'s [SourceFile<'_>]) -> Result<Vec<File<'s>>, AllocError>
     ensures { IfOk result (λ v. map file_shown v.items
         ≡ map (λ f. file_of (source_of f)) files.now) }
 {
@@ -58,10 +58,10 @@ fn files_of<'s>(alloc: Global, files: &'s [SourceFile<'s>]) -> Result<Vec<File<'
 }
 
 // The tree of the crate whose root is the file of that number and that name. A note says of each module without its file why.
-fn crate_tree<'s>(
+fn crate_tree(
     alloc: Global,
     notes: &mut Vec<Note>,
-    files: &'s [SourceFile<'s>],
+    files: &[SourceFile<'_>],
     number: usize,
     name: &str,
     tree: &TopSubtree,
@@ -78,7 +78,7 @@ fn crate_tree<'s>(
 }
 
 // The texts that spans of the files are in.
-fn texts_of<'s>(alloc: Global, files: &'s [SourceFile<'s>]) -> Result<Vec<&'s str>, AllocError> {
+fn texts_of<'s>(alloc: Global, files: &'s [SourceFile<'_>]) -> Result<Vec<&'s str>, AllocError> {
     let mut texts = Vec::new(alloc);
     for file in files {
         texts.push(file.lines.text.as_str())?;
