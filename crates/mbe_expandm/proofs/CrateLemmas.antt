@@ -1,8 +1,8 @@
 -- The trees of crates, and their parts.
-use Rattle.std.proofs.Common.{◌≡◌, ◌<◌, ◌+◌, ℕ, Bool, true, false, List, [], ◌∷◌, ◌++◌, length, map, take, get_or, Option, Some, None, Result, Ok, Err, refl, ap, sym, ◌∙◌, subst, append-nil, arith}
-use Rattle.std.specs.Prelude.{IfOk, IfSome, OnOk, is_none, is_ok, option_and_then, option_map, if◌then◌else◌}
+use Rattle.std.proofs.Common.{◌≡◌, ◌<◌, ◌≤◌, ◌+◌, ℕ, Bool, true, false, List, [], ◌∷◌, ◌++◌, length, map, take, get_or, Option, Some, None, Result, Ok, Err, refl, ap, sym, ◌∙◌, subst, append-nil, arith}
+use Rattle.std.specs.Prelude.{IfOk, IfSome, OnOk, is_ok, is_some, not, option_and_then, option_map, if◌then◌else◌}
 use Rattle.std.specs.List.{All, slice_get}
-use Rattle.std.proofs.lemmas.Option.{IfSome_then, slice_get-map}
+use Rattle.std.proofs.lemmas.Option.{IfSome_then, slice_get-map, slice_get_past, slice_get_read}
 use Rattle.std.proofs.lemmas.List.{length-map, length-take, map-append}
 use Rattle.std.proofs.lemmas.List.Elements.{filter-append}
 use Rattle.mbe_calls.specs.Splicing.{Part}
@@ -19,12 +19,25 @@ use Rattle.mbe_expandm.specs.Expansions.{CrateParts, CratesParts, FileBecomes, F
 use Rattle.mbe_expandm.specs.Sources.{Source}
 use Rattle.mbe_expandm.proofs.SessionLemmas.{map_taken}
 
+none_is : {X : Type 0} (o : Option X) → ((x : X) → o ≡ Some x → ⊥) → o ≡ None
+none_is None h = refl
+none_is (Some x) h = absurd (h x refl)
+
+seen_there : {X : Type 0} (see : X → Source) (files : List X) (n : ℕ) (file : X) → n < length files
+    → file ≡ get_or files n file → slice_get (map see files) n ≡ Some (see file)
+seen_there see files n file h is =
+    slice_get-map see files n ∙ ap (option_map see) (slice_get_read files (length files) n file refl h is)
+
+none_there : {X : Type 0} (see : X → Source) (files : List X) (n : ℕ) → length files ≤ n
+    → slice_get (map see files) n ≡ None
+none_there see files n h = slice_get-map see files n ∙ ap (option_map see) (slice_get_past files n h)
+
 -- ---- the tree of a crate
 
-pub no_tree : (follows : Bool) (files : List Source) (n : ℕ) (root : Source) → root.tree ≡ None
-    → crate_of follows files n root ≡ None
-no_tree follows files n root e = ap (option_map (λ tree. if is_followed follows root.path
-    then crate_tree (map file_of files) n (in_file root.path None) tree else tree)) e
+pub no_tree : (follows : Bool) (files : List Source) (n : ℕ) (root : Source)
+    → ((tree : Top) → root.tree ≡ Some tree → ⊥) → crate_of follows files n root ≡ None
+no_tree follows files n root h = ap (option_map (λ tree. if is_followed follows root.path
+    then crate_tree (map file_of files) n (in_file root.path None) tree else tree)) (none_is root.tree h)
 
 pub own_tree : (follows : Bool) (files : List Source) (n : ℕ) (root : Source) (tree : Top) → root.tree ≡ Some tree
     → is_followed follows root.path ≡ false → crate_of follows files n root ≡ Some tree
@@ -44,15 +57,15 @@ whole_tree follows files n root tree whole e t w =
     ∙ ap Some (sym w)
 
 pub tree_there : {X : Type 0} (see : X → Source) (follows : Bool) (files : List X) (n : ℕ) (file : X)
-    → slice_get files n ≡ Some file
+    → n < length files → file ≡ get_or files n file
     → crate_at follows (map see files) n ≡ crate_of follows (map see files) n (see file)
-tree_there see follows files n file is =
-    ap (option_and_then (crate_of follows (map see files) n)) (slice_get-map see files n ∙ ap (option_map see) is)
+tree_there see follows files n file h is =
+    ap (option_and_then (crate_of follows (map see files) n)) (seen_there see files n file h is)
 
 pub no_tree_there : {X : Type 0} (see : X → Source) (follows : Bool) (files : List X) (n : ℕ)
-    → slice_get files n ≡ None → crate_at follows (map see files) n ≡ None
-no_tree_there see follows files n is =
-    ap (option_and_then (crate_of follows (map see files) n)) (slice_get-map see files n ∙ ap (option_map see) is)
+    → length files ≤ n → crate_at follows (map see files) n ≡ None
+no_tree_there see follows files n h =
+    ap (option_and_then (crate_of follows (map see files) n)) (none_there see files n h)
 
 -- ---- its parts
 
@@ -141,28 +154,30 @@ none_in see n items item i found h is before there =
 
 -- ---- a file
 
-has_none : (t : Option Top) → is_none t ≡ true → t ≡ None
-has_none None h = refl
-has_none (Some t) h = cc
-
 pub not_rust : {X E : Type 0} (see : X → List ℕ) (r : Result X E) (call : Option Position) (parts : List Part) (n : ℕ)
-    (file : Source) → is_none file.tree ≡ true → IfOk r (λ x. see x ≡ file.text)
+    (file : Source) (none : Bool) → is_some file.tree ≡ not none → none ≡ true → IfOk r (λ x. see x ≡ file.text)
     → IfOk r (λ x. FileBecomes call parts n file (see x))
-not_rust see r call parts n file is h =
-    subst (λ t. IfOk r (λ x. TreeBecomes call t file.text (parts_in n parts) (see x))) (sym (has_none file.tree is)) h
+not_rust see r call parts n file none is yes h =
+    as_text see r call file.tree file.text (parts_in n parts) (is ∙ ap not yes) h
+  where
+    as_text : {X E : Type 0} (see : X → List ℕ) (r : Result X E) (call : Option Position) (t : Option Top)
+        (text : List ℕ) (parts : List Part) → is_some t ≡ false → IfOk r (λ x. see x ≡ text)
+        → IfOk r (λ x. TreeBecomes call t text parts (see x))
+    as_text see r call None text parts is h = h
+    as_text see r call (Some t) text parts is h = cc
 
 tree_becomes : {X E : Type 0} (see : X → List ℕ) (r : Result X E) (call : Option Position) (t : Option Top)
-    (text : List ℕ) (parts : List Part) → is_none t ≡ false → IfOk r (λ x. TextBecomes call text parts (see x))
+    (text : List ℕ) (parts : List Part) → is_some t ≡ true → IfOk r (λ x. TextBecomes call text parts (see x))
     → IfOk r (λ x. TreeBecomes call t text parts (see x))
 tree_becomes see r call None text parts is h = cc
 tree_becomes see r call (Some t) text parts is h = h
 
 pub text_becomes : {X E : Type 0} (see : X → List ℕ) (r : Result X E) (call asked : Option Position)
-    (found parts : List Part) (n : ℕ) (file : Source) → is_none file.tree ≡ false → asked ≡ call
-    → found ≡ parts_in n parts → IfOk r (λ x. TextBecomes call file.text found (see x))
+    (found parts : List Part) (n : ℕ) (file : Source) (none : Bool) → is_some file.tree ≡ not none → none ≡ false
+    → asked ≡ call → found ≡ parts_in n parts → IfOk r (λ x. TextBecomes call file.text found (see x))
     → IfOk r (λ x. FileBecomes asked parts n file (see x))
-text_becomes see r call asked found parts n file is same are h =
-    tree_becomes see r asked file.tree file.text (parts_in n parts) is
+text_becomes see r call asked found parts n file none is some same are h =
+    tree_becomes see r asked file.tree file.text (parts_in n parts) (is ∙ ap not some)
     (subst (λ c. IfOk r (λ x. TextBecomes c file.text (parts_in n parts) (see x))) (sym same)
     (subst (λ ps. IfOk r (λ x. TextBecomes call file.text ps (see x))) are h))
 
@@ -220,13 +235,14 @@ root_unknown see r c ds call parts n root none becomes =
     same see (Err x) call parts n root h whole none = tt
 
 pub root_there : {X : Type 0} (see : X → Source) (files : List X) (n m : ℕ) (file : X) (P : ℕ → Source → Type 0)
-    → slice_get files n ≡ Some file → n ≡ m → P n (see file) → IfSome (slice_get (map see files) m) (P m)
-root_there see files n m file P is same h =
+    → n < length files → file ≡ get_or files n file → n ≡ m → P n (see file)
+    → IfSome (slice_get (map see files) m) (P m)
+root_there see files n m file P within is same h =
     subst (λ k. IfSome (slice_get (map see files) k) (P k)) same
-    (subst (λ o. IfSome o (P n)) (sym (slice_get-map see files n ∙ ap (option_map see) is)) h)
+    (subst (λ o. IfSome o (P n)) (sym (seen_there see files n file within is)) h)
 
 pub no_root_there : {X : Type 0} (see : X → Source) (files : List X) (n m : ℕ) (P : Source → Type 0)
-    → slice_get files n ≡ None → n ≡ m → IfSome (slice_get (map see files) m) P
-no_root_there see files n m P is same =
+    → length files ≤ n → n ≡ m → IfSome (slice_get (map see files) m) P
+no_root_there see files n m P h same =
     subst (λ k. IfSome (slice_get (map see files) k) P) same
-    (subst (λ o. IfSome o P) (sym (slice_get-map see files n ∙ ap (option_map see) is)) tt)
+    (subst (λ o. IfSome o P) (sym (none_there see files n h)) tt)

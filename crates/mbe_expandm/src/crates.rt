@@ -150,11 +150,13 @@ fn add_crate(
         (map part_of parts.old.items) (map part_of parts.new.items) (state_of expander.new)) }
     ensures setting { OnOk result (setting_of expander.new ≡ setting_of expander.old) }
 {
-    let Some(root) = files.get(number) else {
-        return Ok(());
-    };
-    let mut more = crate_parts(alloc, follows, notes, expander, files, number, root)?;
-    parts.append(&mut more)
+    match files.get(number) {
+        Some(root) => {
+            let mut more = crate_parts(alloc, follows, notes, expander, files, number, root)?;
+            parts.append(&mut more)
+        }
+        None => Ok(()),
+    }
 }
 
 /// What replaces the calls in the crates whose roots are the first so many files, one crate after another.

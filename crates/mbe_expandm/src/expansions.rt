@@ -183,6 +183,13 @@ fn copied(alloc: Global, part: &Replacement) -> Result<Replacement, AllocError>
     })
 }
 
+// Whether a part is in the file of that number.
+fn is_in(number: usize, part: &Replacement) -> bool
+    ensures { result ≡ spec.is_in number (part_of part.now) }
+{
+    part.file as usize == number
+}
+
 // The parts in the file of that number.
 fn parts_in(
     alloc: Global,
@@ -194,7 +201,7 @@ fn parts_in(
 {
     let mut found = Vec::new(alloc);
     for part in parts {
-        if part.file as usize == number {
+        if is_in(number, part) {
             found.push(copied(alloc, part)?)?;
         }
     }
