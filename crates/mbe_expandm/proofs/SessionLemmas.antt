@@ -114,15 +114,25 @@ printed_by edition c depth fuel call follows given texts files e s t before afte
       )
     ]
 
+-- Of values that are the same, as a call of `write_last` has them.
 pub printed : {T E : Type 0} (edition : Edition) (c : Conditions) (depth : Option ℕ) (fuel : ℕ)
-    (call : Option Position) (follows : Bool) (given : ℕ) (texts : List Text) (files : List Source)
+    (call asked : Option Position) (follows followed : Bool) (given n : ℕ) (texts : List Text) (files seen : List Source)
     (e : Setting) (s t : State) (before after : Option (List ℕ)) (r : Result T E)
     → IsBegun edition c depth fuel texts files e s → 0 < given → given ≤ length texts
-    → IfSome (slice_get files (given - 1)) (λ root. WritesOne before after r
-    (λ out. RootBecomes e 1000 call follows files (given - 1) root s out t))
+    → asked ≡ call → followed ≡ follows → n ≡ given → seen ≡ files
+    → IfSome (slice_get seen (n - 1)) (λ root. WritesOne before after r
+    (λ out. RootBecomes e 1000 asked followed seen (n - 1) root s out t))
     → WritesOne before after r (IsPrinted edition c depth fuel call follows given texts)
-printed edition c depth fuel call follows given texts files e s t before after r begun some few last =
+printed edition c depth fuel call asked follows followed given n texts files seen e s t before after r begun some few
+    same_call same_follows same_number same_files last =
     let within : given - 1 < length files =
     omega (arith, some, few, ap length begun.texts_are, length-map files source_text) in
+    let Last : Option Position → Bool → List Source → ℕ → Type 0 = λ k f fs m.
+    IfSome (slice_get fs (m - 1)) (λ root. WritesOne before after r
+    (λ out. RootBecomes e 1000 k f fs (m - 1) root s out t)) in
     printed_by edition c depth fuel call follows given texts files e s t before after r (slice_get files (given - 1))
-    begun within refl last
+    begun within refl
+    (subst (λ m. Last call follows files m) same_number
+    (subst (λ fs. Last call follows fs n) same_files
+    (subst (λ f. Last call f seen n) same_follows
+    (subst (λ k. Last k followed seen n) same_call last))))

@@ -1,4 +1,4 @@
-use Rattle.std.proofs.Common.{ap, map, subst}
+use Rattle.std.proofs.Common.{◌≡◌, arith, length, map, subst}
 use Rattle.std.specs.String.{string_bytes}
 use Rattle.mbe_calls.specs.Replacements.{part_of}
 use Rattle.mbe_expanding.specs.Shown.{setting_of, state_of}
@@ -9,20 +9,26 @@ use Rattle.mbe_expandm.proofs.sessions.write.Goals as goal
 pub returns : goal.returns
 returns c =
     let session = c.in_ok-session.session in
+    let e = setting_of session.expander in
+    let s = state_of session.expander in
+    let t = state_of c.crates_parts.new.expander in
+    let options = c.args.options.now in
     let parts = map part_of c.in_ok-parts.parts.items in
     let texts = map string_bytes c.in_ok-written.written.items in
+    let n : c.len-given.result ≡ length options.names.items =
+    omega (arith, c.len-given.ensures, options.names.ok.0) in
     record {
       files = sources_of session;
-      setting = setting_of session.expander;
-      start = state_of session.expander;
-      end = state_of c.crates_parts.new.expander;
+      setting = e;
+      start = s;
+      end = t;
       begins = c.in_ok-session.ensures;
       parts = parts;
-      of_crates = subst (λ fs. CratesParts (setting_of session.expander) 1000 c.args.options.now.follows
-          (map source_of fs) (state_of session.expander) c.len.result parts (state_of c.crates_parts.new.expander))
-          c.deref.ensures.value c.in_ok-parts.ensures;
-      become = subst (λ ps. FilesBecome c.args.options.now.call (map part_of ps) (sources_of session) texts)
+      of_crates = subst (λ n. CratesParts e 1000 options.follows (sources_of session) s n parts t) n
+          (subst (λ fs. CratesParts e 1000 options.follows (map source_of fs) s c.len-given.result parts t)
+          c.deref.ensures.value c.in_ok-parts.ensures);
+      become = subst (λ ps. FilesBecome options.call (map part_of ps) (sources_of session) texts)
           c.as_slice.ensures.value
-          (subst (λ fs. FilesBecome c.args.options.now.call (map part_of c.as_slice.result.now) (map source_of fs) texts)
+          (subst (λ fs. FilesBecome options.call (map part_of c.as_slice.result.now) (map source_of fs) texts)
           c.deref-2.ensures.value c.in_ok-written.ensures);
     }
