@@ -19,7 +19,7 @@ use Rattle.mbe_expandm.specs.Expansions.{CrateParts, CratesParts, FileBecomes, F
 use Rattle.mbe_expandm.specs.Sources.{Source}
 use Rattle.mbe_expandm.proofs.SessionLemmas.{map_taken}
 
-none_is : {X : Type 0} (o : Option X) → ((x : X) → o ≡ Some x → ⊥) → o ≡ None
+pub none_is : {X : Type 0} (o : Option X) → ((x : X) → o ≡ Some x → ⊥) → o ≡ None
 none_is None h = refl
 none_is (Some x) h = absurd (h x refl)
 

@@ -28,10 +28,11 @@ pub fn modules_in(
     let mut symbols = SymbolTable::new(alloc);
     let mut notes = Vec::new(alloc);
     let file = source_file(alloc, &mut symbols, &mut notes, reading, "", text, 0)?;
+    let Some(tree) = &file.tree else {
+        return Ok(Vec::new(alloc));
+    };
     let mut unfound = Vec::new(alloc);
-    if let Some(tree) = &file.tree {
-        let _tree = follow(alloc, &[], &mut unfound, 0, place, tree)?;
-    }
+    let _tree = follow(alloc, &[], &mut unfound, 0, place, tree)?;
     Ok(unfound)
 }
 
