@@ -111,8 +111,8 @@ adds_these see (Err x) change before more after t these is = tt
 -- ---- crates, one after another
 
 pub one_more_crate : {X : Type 0} (see : X → Part) (e d : Setting) (levels : ℕ) (follows : Bool) (files : List Source)
-    (n : ℕ) (s t u : State) (found more : List X) (new : List Part) → CratesParts e levels follows files s n (map see found) t
-    → e ≡ d → CrateParts d levels (crate_at follows files n) t new u → map see more ≡ map see found ++ new
+    (n : ℕ) (s t u : State) (found more : List X) (new : List Part)
+    → CratesParts e levels follows files s n (map see found) t → e ≡ d → CrateParts d levels (crate_at follows files n) t new u → map see more ≡ map see found ++ new
     → CratesParts e levels follows files s (n + 1) (map see more) u
 one_more_crate see e d levels follows files n s t u found more new before same one is =
     subst (λ xs. CratesParts e levels follows files s (n + 1) xs u) (sym is)
@@ -224,7 +224,8 @@ pub root_unknown : {X E : Type 0} (see : X → List ℕ) (r : Result X E) (c : O
     → IfSome c (λ tree. NoneCalled ds tree.1 → parts ≡ []) → IfOk r (λ x. FileBecomes call parts n root (see x))
     → IfSome c (λ tree. call ≡ None → NoneCalled ds tree.1 → IfOk r (λ x. see x ≡ root.text))
 root_unknown see r c ds call parts n root none becomes =
-    IfSome_then c none (λ (tree : Top) no_parts whole unknown. same see r call parts n root becomes whole (no_parts unknown))
+    IfSome_then c none (λ (tree : Top) empty whole unknown.
+    same see r call parts n root becomes whole (empty unknown))
   where
     same : {X E : Type 0} (see : X → List ℕ) (r : Result X E) (call : Option Position) (parts : List Part) (n : ℕ)
         (root : Source) → IfOk r (λ x. FileBecomes call parts n root (see x)) → call ≡ None → parts ≡ []
