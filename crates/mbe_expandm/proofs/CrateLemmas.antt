@@ -112,7 +112,8 @@ adds_these see (Err x) change before more after t these is = tt
 
 pub one_more_crate : {X : Type 0} (see : X → Part) (e d : Setting) (levels : ℕ) (follows : Bool) (files : List Source)
     (n : ℕ) (s t u : State) (found more : List X) (new : List Part)
-    → CratesParts e levels follows files s n (map see found) t → e ≡ d → CrateParts d levels (crate_at follows files n) t new u → map see more ≡ map see found ++ new
+    → CratesParts e levels follows files s n (map see found) t → e ≡ d
+    → CrateParts d levels (crate_at follows files n) t new u → map see more ≡ map see found ++ new
     → CratesParts e levels follows files s (n + 1) (map see more) u
 one_more_crate see e d levels follows files n s t u found more new before same one is =
     subst (λ xs. CratesParts e levels follows files s (n + 1) xs u) (sym is)

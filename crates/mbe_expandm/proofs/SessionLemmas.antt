@@ -116,7 +116,8 @@ printed_by edition c depth fuel call follows given texts files e s t before afte
 
 -- Of values that are the same, as a call of `write_last` has them.
 pub printed : {T E : Type 0} (edition : Edition) (c : Conditions) (depth : Option ℕ) (fuel : ℕ)
-    (call asked : Option Position) (follows followed : Bool) (given n : ℕ) (texts : List Text) (files seen : List Source)
+    (call asked : Option Position) (follows followed : Bool) (given n : ℕ) (texts : List Text)
+    (files seen : List Source)
     (e : Setting) (s t : State) (before after : Option (List ℕ)) (r : Result T E)
     → IsBegun edition c depth fuel texts files e s → 0 < given → given ≤ length texts
     → asked ≡ call → followed ≡ follows → n ≡ given → seen ≡ files
