@@ -3,6 +3,7 @@ pub mod BlankLemmas
 pub mod BlanksFirst
 pub mod CharacterLemmas
 pub mod DivisionLemmas
+pub mod DocLemmas
 pub mod Fronts
 pub mod LineDocs
 pub mod Lines

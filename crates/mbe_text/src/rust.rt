@@ -637,11 +637,14 @@ pub(crate) fn begins_doc(text: &str) -> bool
         || begins_with(text, "/*!")
 }
 
-// From the first carriage return on.
+// From the first carriage return on. Few texts have one, which their bytes show soonest.
 fn from_return(text: &str) -> Option<&str>
     ensures exact { maybe_seen result ≡ spec.from_return (chars text.now) }
     ensures end { IfSome result (λ at. IsEnd text.now at.now) }
 {
+    if !text.as_bytes().contains(&b'\r') {
+        return None;
+    }
     let mut rest = text;
     'chars: loop {
         let (char, after) = split_first(rest)?;
