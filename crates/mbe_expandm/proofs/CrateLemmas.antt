@@ -158,8 +158,8 @@ none_in see n items item i found h is before there =
 pub not_rust : {X E : Type 0} (see : X → List ℕ) (r : Result X E) (call : Option Position) (parts : List Part) (n : ℕ)
     (file : Source) (none : Bool) → is_some file.tree ≡ not none → none ≡ true → IfOk r (λ x. see x ≡ file.text)
     → IfOk r (λ x. FileBecomes call parts n file (see x))
-not_rust see r call parts n file none is yes h =
-    as_text see r call file.tree file.text (parts_in n parts) (is ∙ ap not yes) h
+not_rust see r call parts n file none is holds h =
+    as_text see r call file.tree file.text (parts_in n parts) (is ∙ ap not holds) h
   where
     as_text : {X E : Type 0} (see : X → List ℕ) (r : Result X E) (call : Option Position) (t : Option Top)
         (text : List ℕ) (parts : List Part) → is_some t ≡ false → IfOk r (λ x. see x ≡ text)

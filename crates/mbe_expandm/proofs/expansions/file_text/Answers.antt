@@ -19,8 +19,8 @@ returns-in-None c =
     c.if-is_none.false c.in-None.is (ap (map part_of) c.as_slice.ensures.value ∙ c.in_ok-parts.ensures)
     c.whole_text.ensures
 
-pub returns-in-Some : goal.returns-in-Some
-returns-in-Some c =
+pub returns : goal.returns
+returns c =
     text_becomes string_bytes c.texts_at.result (Some c.in-Some.position) c.args.call
     (map part_of c.as_slice-in-Some.result.now) (map part_of c.args.parts.now) c.args.number
     (source_of c.args.file.now) c.is_none.result c.is_none.ensures c.if-is_none.false c.in-Some.is

@@ -1,9 +1,9 @@
-use Rattle.std.proofs.Common.{map}
+use Rattle.std.proofs.Common.{map, refl}
 use Rattle.std.specs.String.{string_bytes}
 use Rattle.mbe_expanding.specs.Shown.{setting_of, state_of}
 use Rattle.mbe_expandm.specs.Expansions.{RootBecomes}
 use Rattle.mbe_expandm.specs.ShownFiles.{source_of}
-use Rattle.mbe_expandm.proofs.WriteLemmas.{wrote, wrote_unknown}
+use Rattle.mbe_expandm.proofs.WriteLemmas.{nothing_unknown, wrote, wrote_unknown}
 use Rattle.mbe_expandm.proofs.expansions.write_root.Goals as goal
 
 pub returns-clause-becomes : goal.returns-clause-becomes
@@ -18,3 +18,8 @@ returns-clause-unknown g c =
     wrote_unknown _ _ c.write_whole.result _ (state_of c.args.expander.now).scope.definitions c.args.asked.call
     (string_bytes c.in_ok-text.text) c.as_bytes.result.now c.args.root.now.text.now c.in_ok-text.ensures.unknown
     c.as_bytes.ensures.value c.write_whole.ensures
+
+pub returns-in_err-text-clause-unknown : goal.returns-in_err-text-clause-unknown
+returns-in_err-text-clause-unknown g c =
+    nothing_unknown _ _ _ _ (state_of c.args.expander.now).scope.definitions c.args.asked.call
+    c.args.root.now.text.now tt refl
