@@ -19,6 +19,10 @@ use Rattle.mbe_expandm.specs.Expansions.{CrateParts, CratesParts, FileBecomes, F
 use Rattle.mbe_expandm.specs.Sources.{Source}
 use Rattle.mbe_expandm.proofs.SessionLemmas.{map_taken}
 
+pub always : {X : Type 0} (o : Option X) (P : X → Type 0) → ((x : X) → P x) → IfSome o P
+always None P h = tt
+always (Some x) P h = h x
+
 pub none_is : {X : Type 0} (o : Option X) → ((x : X) → o ≡ Some x → ⊥) → o ≡ None
 none_is None h = refl
 none_is (Some x) h = absurd (h x refl)
@@ -79,11 +83,6 @@ pub some_parts : {X E : Type 0} (see : X → List Part) (r : Result X E) (c : Op
 some_parts see (Ok v) c tree e levels s t is of_file each =
     subst (λ x. CrateParts e levels x s (see v) t) (sym is) (of_file, each)
 some_parts see (Err x) c tree e levels s t is of_file each = tt
-
-pub none_unknown : {X E : Type 0} (see : X → List Part) (r : Result X E) (c : Option Top) (ds : List Definition)
-    → c ≡ None → IfSome c (λ tree. NoneCalled ds tree.1 → IfOk r (λ v. see v ≡ []))
-none_unknown see r c ds is =
-    subst (λ x. IfSome x (λ (tree : Top). NoneCalled ds tree.1 → IfOk r (λ v. see v ≡ []))) (sym is) tt
 
 pub some_unknown : {X E : Type 0} (see : X → List Part) (r : Result X E) (c : Option Top) (tree : Top)
     (ds : List Definition) → c ≡ Some tree → IfOk r (λ v. NoneCalled ds tree.1 → see v ≡ [])

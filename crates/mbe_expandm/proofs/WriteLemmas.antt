@@ -1,6 +1,6 @@
 -- Files read one after another, and what a writer took.
-use Rattle.std.proofs.Common.{◌≡◌, ◌<◌, ℕ, zero, suc, List, [], ◌∷◌, length, map, take, Option, Some, None, Result, Ok, Err, inl, inr, refl, ap, ◌∙◌, sym, subst, arith, ◌+◌}
-use Rattle.std.specs.Prelude.{IfSome, IsErr, get_or}
+use Rattle.std.proofs.Common.{◌≡◌, ◌<◌, ℕ, zero, suc, List, [], ◌∷◌, length, map, take, Option, None, Result, Ok, Err, inr, refl, ap, ◌∙◌, sym, subst, arith, ◌+◌}
+use Rattle.std.specs.Prelude.{IfSome, get_or}
 use Rattle.std.proofs.lemmas.Option.{IfSome_then}
 use Rattle.mbe_tt.specs.declared.span.Edition.{Edition}
 use Rattle.mbe_tt.specs.Trees.Top.{Top}
@@ -49,10 +49,3 @@ pub wrote_unknown : {T E : Type 0} (a b : Option (List ℕ)) (r : Result T E) (c
 wrote_unknown a b r c ds call bytes written text h is w =
     IfSome_then c h (λ (tree : Top) same whole unknown.
     wrote a b r (λ s. s ≡ text) bytes written (same whole unknown) is w)
-
--- nothing, where there is no memory, whatever its kind is
-pub nothing_unknown : {T E : Type 0} (a b : Option (List ℕ)) (r : Result T E) (c : Option Top) (ds : List Definition)
-    (call : Option Position) (text : List ℕ) → IsErr r → b ≡ a
-    → IfSome c (λ tree. call ≡ None → NoneCalled ds tree.1 → WritesOne a b r (λ s. s ≡ text))
-nothing_unknown a b r None ds call text failed same = tt
-nothing_unknown a b r (Some tree) ds call text failed same = λ whole unknown. inl (failed, same)

@@ -7,18 +7,18 @@ use Rattle.mbe_expandm.specs.ShownFiles.{source_of}
 use Rattle.mbe_expandm.proofs.CrateLemmas.{adds_none, adds_these, no_parts, no_tree_there, tree_there}
 use Rattle.mbe_expandm.proofs.crates.add_crate.Goals as goal
 
-pub returns-in-Some-clause-adds : goal.returns-in-Some-clause-adds
-returns-in-Some-clause-adds c =
+pub returns-in_ok-more-in-Some-clause-adds : goal.returns-in_ok-more-in-Some-clause-adds
+returns-in_ok-more-in-Some-clause-adds c =
     let e = setting_of c.args.expander.now in
     let files = map source_of c.args.files.now in
-    let more = map part_of c.in_ok-more.more.items in
+    let more = map part_of c.in_ok-more-in-Some.more.items in
     adds_these part_of c.append.result
     (CrateParts e 1000 (crate_at c.args.follows files c.args.number) (state_of c.args.expander.now))
-    c.args.parts.now.items c.in_ok-more.more.items c.append.new.self.items (state_of c.crate_parts.new.expander)
+    c.args.parts.now.items c.in_ok-more-in-Some.more.items c.append.new.self.items (state_of c.crate_parts.new.expander)
     (subst (λ tree. CrateParts e 1000 tree (state_of c.args.expander.now) more
     (state_of c.crate_parts.new.expander))
     (sym (tree_there source_of c.args.follows c.args.files.now c.args.number c.in-Some.root.now
-    c.in-Some.ensures.lookup.3.0 c.in-Some.ensures.lookup.1)) c.in_ok-more.ensures.parts)
+    c.in-Some.ensures.lookup.3.0 c.in-Some.ensures.lookup.1)) c.in_ok-more-in-Some.ensures.parts)
     c.append.ensures.items
 
 pub returns-in-None-clause-adds : goal.returns-in-None-clause-adds

@@ -1,9 +1,13 @@
-use Rattle.std.proofs.Common.{map, refl}
+use Rattle.std.proofs.Common.{◌≡◌, ℕ, Err, None, inl, map, refl}
 use Rattle.std.specs.String.{string_bytes}
+use Rattle.mbe_tt.specs.Trees.Top.{Top}
+use Rattle.mbe_expanding.specs.Replacing.{NoneCalled}
 use Rattle.mbe_expanding.specs.Shown.{setting_of, state_of}
-use Rattle.mbe_expandm.specs.Expansions.{RootBecomes}
+use Rattle.mbe_expandm.specs.Crates.{crate_of}
+use Rattle.mbe_expandm.specs.Expansions.{RootBecomes, WritesOne}
 use Rattle.mbe_expandm.specs.ShownFiles.{source_of}
-use Rattle.mbe_expandm.proofs.WriteLemmas.{nothing_unknown, wrote, wrote_unknown}
+use Rattle.mbe_expandm.proofs.CrateLemmas.{always}
+use Rattle.mbe_expandm.proofs.WriteLemmas.{wrote, wrote_unknown}
 use Rattle.mbe_expandm.proofs.expansions.write_root.Goals as goal
 
 pub returns-clause-becomes : goal.returns-clause-becomes
@@ -21,5 +25,9 @@ returns-clause-unknown g c =
 
 pub returns-in_err-text-clause-unknown : goal.returns-in_err-text-clause-unknown
 returns-in_err-text-clause-unknown g c =
-    nothing_unknown _ _ _ _ (state_of c.args.expander.now).scope.definitions c.args.asked.call
-    c.args.root.now.text.now tt refl
+    let held = g.W.Write.contents c.args.out.now in
+    let Unknown : Top → Type 0 = λ tree. c.args.asked.call ≡ None
+    → NoneCalled (state_of c.args.expander.now).scope.definitions tree.1
+    → WritesOne {T = ℕ} {E = ℕ} held held (Err 0) (λ s. s ≡ c.args.root.now.text.now) in
+    always (crate_of c.args.asked.follows (map source_of c.args.files.now) c.args.number (source_of c.args.root.now))
+    Unknown (λ tree whole unknown. inl (refl, refl))

@@ -18,8 +18,8 @@ pub returns : goal.returns
 returns c = (
   c.in_ok-file.file.tree,
   c.in_ok-file.ensures.trees,
-  c.in_ok-tree.ensures.unfound
-      ∙ ap (λ us. map unfound_shown us ++ unfound_in [] 0 (place_shown c.args.place.now) c.in-Some.tree.now)
+  c.in_ok-_tree.ensures.unfound
+      ∙ ap (λ us. map unfound_shown us ++ unfound_in [] 0 (place_shown c.args.place.now) c.in-Some.tree)
       c.new-unfound.ensures.items
       ∙ sym (ap (modules_of (place_shown c.args.place.now)) c.in-Some.is),
 )
