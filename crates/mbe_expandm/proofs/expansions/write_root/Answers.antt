@@ -1,4 +1,4 @@
-use Rattle.std.proofs.Common.{◌≡◌, ℕ, Err, None, inl, map, refl}
+use Rattle.std.proofs.Common.{◌≡◌, None, inl, map, refl}
 use Rattle.std.specs.String.{string_bytes}
 use Rattle.mbe_tt.specs.Trees.Top.{Top}
 use Rattle.mbe_expanding.specs.Replacing.{NoneCalled}
@@ -28,6 +28,6 @@ returns-in_err-text-clause-unknown g c =
     let held = g.W.Write.contents c.args.out.now in
     let Unknown : Top → Type 0 = λ tree. c.args.asked.call ≡ None
     → NoneCalled (state_of c.args.expander.now).scope.definitions tree.1
-    → WritesOne {T = ℕ} {E = ℕ} held held (Err 0) (λ s. s ≡ c.args.root.now.text.now) in
+    → WritesOne held held c.from_residual.result (λ s. s ≡ c.args.root.now.text.now) in
     always (crate_of c.args.asked.follows (map source_of c.args.files.now) c.args.number (source_of c.args.root.now))
-    Unknown (λ tree whole unknown. inl (refl, refl))
+    Unknown (λ tree whole unknown. inl (c.from_residual.ensures.0, refl))
