@@ -1,5 +1,5 @@
 -- Files read one after another, and what a writer took.
-use Rattle.std.proofs.Common.{◌≡◌, ◌<◌, ℕ, zero, suc, List, [], ◌∷◌, length, map, take, Option, None, Result, Ok, Err, inr, refl, ap, ◌∙◌, sym, subst, arith, ◌+◌}
+use Rattle.std.proofs.Common.{◌≡◌, ◌<◌, ℕ, zero, suc, List, [], ◌∷◌, length, map, take, Option, None, Result, inr, refl, sym, subst, arith, ◌+◌}
 use Rattle.std.specs.Prelude.{IfSome, get_or}
 use Rattle.std.proofs.lemmas.Option.{IfSome_then}
 use Rattle.mbe_tt.specs.declared.span.Edition.{Edition}

@@ -1,4 +1,3 @@
-use Rattle.std.proofs.Common.{ap, map}
 use Rattle.mbe_following.specs.Shown.{file_shown}
 use Rattle.mbe_expandm.specs.Crates.{file_of}
 use Rattle.mbe_expandm.specs.ShownFiles.{source_of}

@@ -14,8 +14,8 @@ loop-number-init c = (
 
 pub loop-number-preserved : goal.loop-number-preserved
 loop-number-preserved c = (
-  one_more_text (λ f. source_text (source_of f)) text_of c.loop-number.files.items c.push.new.self.items c.in_ok-file.file
-      c.args.texts.now
+  one_more_text (λ f. source_text (source_of f)) text_of c.loop-number.files.items c.push.new.self.items
+      c.in_ok-file.file c.args.texts.now
       c.index-texts-number.result c.loop-number.number c.loop-number-test.true c.index-texts-number.is
       c.in_ok-push.ensures.items
       c.loop-number.invariant.0
