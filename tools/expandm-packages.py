@@ -38,7 +38,7 @@ def main(program, folders):
     for path in files(folders):
         with open(path, "rb") as it:
             text = it.read()
-        status, out, said = expanded(program, ["--trace", path])
+        status, out, said = expanded(program, ["--trace", "--no-modules", path])
         if status not in (0, 1):
             print(f"{path}: status {status}")
         elif status == 0 and b"macro" not in text and out != text:

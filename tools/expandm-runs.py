@@ -52,7 +52,7 @@ def expanded(folder, year, names, program):
     if program:
         found, said = {}, ""
         for name in names:
-            ran = subprocess.run([program, "--edition", year, os.path.join(folder, name)], capture_output=True)
+            ran = subprocess.run([program, "--no-modules", "--edition", year, os.path.join(folder, name)], capture_output=True)
             found[name] = ran.stdout.decode(errors="replace")
             said += ran.stderr.decode(errors="replace")
         return found, said

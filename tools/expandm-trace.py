@@ -92,7 +92,7 @@ STEP = re.compile(r"^[^\n]*?:(\d+):(\d+): note: to `(.*?)`\n *\d+ \| [^\n]*\n +\
 
 def expanded(program, path, year):
     """What expandm makes of each call of the file, by the line and column of the name that is called."""
-    words = [program, "--once", "--trace", "--edition", year, path]
+    words = [program, "--once", "--trace", "--no-modules", "--edition", year, path]
     try:
         ran = subprocess.run(words, capture_output=True, timeout=120)
     except subprocess.TimeoutExpired:

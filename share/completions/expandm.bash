@@ -13,7 +13,7 @@ _expandm() {
     case $word in
     -*)
         mapfile -t COMPREPLY < <(compgen -W \
-            '--once --depth --fuel --call --write --edition --cfg --features --target --test --trace --origin --explain --lint --json --help --version' -- "$word")
+            '--once --depth --fuel --call --write --no-modules --edition --cfg --features --target --test --trace --origin --explain --lint --json --help --version' -- "$word")
         ;;
     *) mapfile -t COMPREPLY < <(compgen -f -X '!*.rs' -- "$word"; compgen -d -- "$word") ;;
     esac

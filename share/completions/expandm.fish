@@ -4,6 +4,7 @@ complete -c expandm -l depth -x -d 'expand calls that are so deep in others at m
 complete -c expandm -l fuel -x -d 'expand so many calls at most'
 complete -c expandm -l call -x -d 'print only what the call there becomes'
 complete -c expandm -l write -x -a '(__fish_complete_directories)' -d 'write each file into a directory'
+complete -c expandm -l no-modules -d 'read no file of a module'
 complete -c expandm -l edition -x -a '2015 2018 2021 2024' -d 'the edition of the files'
 complete -c expandm -l cfg -x -d 'set an option that cfg asks for'
 complete -c expandm -l features -x -d 'set these features'

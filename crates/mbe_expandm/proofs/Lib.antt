@@ -1,3 +1,4 @@
+mod CrateLemmas
 mod FeedLemmas
 mod LintLemmas
 mod PlaceLemmas

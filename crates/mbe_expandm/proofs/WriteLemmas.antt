@@ -1,17 +1,14 @@
 -- Files read one after another, and what a writer took.
-use Rattle.std.proofs.Common.{◌≡◌, ◌<◌, ℕ, zero, suc, List, [], ◌∷◌, length, map, take, Option, Result, Ok, Err, inr, refl, ap, ◌∙◌, sym, subst, arith, ◌+◌}
-use Rattle.std.specs.Prelude.{get_or, IfOk}
-use Rattle.std.specs.List.{All}
+use Rattle.std.proofs.Common.{◌≡◌, ◌<◌, ℕ, zero, suc, List, [], ◌∷◌, length, map, take, Option, None, Result, inr, refl, sym, subst, arith, ◌+◌}
+use Rattle.std.specs.Prelude.{IfSome, get_or}
+use Rattle.std.proofs.lemmas.Option.{IfSome_then}
 use Rattle.mbe_tt.specs.declared.span.Edition.{Edition}
 use Rattle.mbe_tt.specs.Trees.Top.{Top}
-use Rattle.mbe_tt.specs.Trees.Tree.{Forest}
 use Rattle.mbe_text.specs.Writing.{Writes}
-use Rattle.mbe_calls.specs.Splicing.{Part, spliced}
-use Rattle.mbe_expanding.specs.Calls.{Setting, State}
-use Rattle.mbe_expanding.specs.Replacing.{IsOfCall, PartsOfFile}
-use Rattle.mbe_expandm.specs.Returns.{placed_part, returns}
-use Rattle.mbe_expanding.specs.Scopes.{Scope}
-use Rattle.mbe_expandm.specs.Expansions.{DefinesFile, DefinesFiles, IsFileExpanded, WritesOne}
+use Rattle.mbe_expanding.specs.Replacing.{NoneCalled}
+use Rattle.mbe_expanding.specs.Scopes.{Definition, Scope}
+use Rattle.mbe_expandm.specs.declared.places.Position.{Position}
+use Rattle.mbe_expandm.specs.Expansions.{DefinesFile, DefinesFiles, WritesOne}
 
 -- ---- definitions
 
@@ -37,20 +34,18 @@ one_more see e d levels files i item s t u h is before same o =
     (one_more_file see e levels files i item s t u h is before
     (subst (λ x. DefinesFile x levels (see item) t u) (sym same) o))
 
--- ---- texts
-
-pub file_expanded : {X E : Type 0} (see : X → List ℕ) (r : Result X E) (e : Setting) (levels : ℕ) (trees : Forest)
-    (s t : State) (text : List ℕ)
-    (parts placed : List Part) → PartsOfFile e levels trees s parts t → All (IsOfCall e trees) parts
-    → placed ≡ map (placed_part (returns text)) parts → IfOk r (λ x. see x ≡ spliced text placed)
-    → IfOk r (λ x. IsFileExpanded e levels trees s text (see x) t)
-file_expanded see (Ok x) e levels trees s t text parts placed of_file each same is =
-    record { parts = parts; of_file = of_file; each = each; is = is ∙ ap (spliced text) same }
-file_expanded see (Err x) e levels trees s t text parts placed of_file each same is = is
-
 -- ---- what is written
 
 pub wrote : {T E : Type 0} (a b : Option (List ℕ)) (r : Result T E) (Is : List ℕ → Type 0) (bytes written : List ℕ)
     → Is bytes
     → written ≡ bytes → Writes a b r written → WritesOne a b r Is
 wrote a b r Is bytes written is h w = inr (bytes, is, subst (Writes a b r) h w)
+
+-- the text itself, where no known macro is called
+pub wrote_unknown : {T E : Type 0} (a b : Option (List ℕ)) (r : Result T E) (c : Option Top) (ds : List Definition)
+    (call : Option Position) (bytes written text : List ℕ)
+    → IfSome c (λ tree. call ≡ None → NoneCalled ds tree.1 → bytes ≡ text) → written ≡ bytes → Writes a b r written
+    → IfSome c (λ tree. call ≡ None → NoneCalled ds tree.1 → WritesOne a b r (λ s. s ≡ text))
+wrote_unknown a b r c ds call bytes written text h is w =
+    IfSome_then c h (λ (tree : Top) same whole unknown.
+    wrote a b r (λ s. s ≡ text) bytes written (same whole unknown) is w)

@@ -1,9 +1,8 @@
 -- What a file becomes, and what is written of it.
-use Rattle.std.specs.Prelude.{◌≡◌, ◌⊎◌, ◌==◌, ◌&&◌, ℕ, Bool, true, false, List, [], ◌∷◌, ◌++◌, length, map, min, Option, Some, None, Result, IsErr}
+use Rattle.std.specs.Prelude.{◌≡◌, ◌⊎◌, ◌==◌, ◌&&◌, ◌+◌, ℕ, Bool, true, false, List, [], ◌∷◌, ◌++◌, length, map, filter, min, Option, Some, None, Result, IsErr}
 use Rattle.std.specs.List.{All}
 use Rattle.mbe_tt.specs.declared.span.Edition.{Edition}
 use Rattle.mbe_tt.specs.Trees.Top.{Top}
-use Rattle.mbe_tt.specs.Trees.Tree.{Forest}
 use Rattle.mbe_calls.specs.Splicing.{Part, spliced}
 use Rattle.mbe_text.specs.Writing.{Writes}
 use Rattle.mbe_expanding.specs.Calls.{Setting, State}
@@ -11,6 +10,7 @@ use Rattle.mbe_expanding.specs.Defining.{Defines}
 use Rattle.mbe_expanding.specs.Replacing.{IsOfCall, PartsOfFile}
 use Rattle.mbe_expanding.specs.Scopes.{Scope}
 use Rattle.mbe_expandm.specs.declared.places.Position.{Position}
+use Rattle.mbe_expandm.specs.Crates.{crate_at, crate_of}
 use Rattle.mbe_expandm.specs.Places.{IsPlace}
 use Rattle.mbe_expandm.specs.Returns.{placed_part, plain, returns}
 use Rattle.mbe_expandm.specs.Sources.{Source}
@@ -28,15 +28,27 @@ DefinesFiles edition levels [] s u = u ≡ s
 DefinesFiles edition levels (file ∷ files) s u =
     (t : Scope) × DefinesFile edition levels file s t × DefinesFiles edition levels files t u
 
--- ---- texts
+-- ---- parts
 
--- The text of a file with the parts replaced that are calls of known macros. Parts are places in its plain text.
-pub record IsFileExpanded (e : Setting) (levels : ℕ) (trees : Forest) (s : State) (text out : List ℕ)
-    (t : State) : Type 0 where
-  pub parts : List Part
-  pub of_file : PartsOfFile e levels trees s parts t
-  pub each : All (IsOfCall e trees) parts
-  pub is : out ≡ spliced text (map (placed_part (returns text)) parts)
+-- The parts of the calls in a crate's trees; there are none, where its root isn't Rust. Each is of a call.
+abbrev pub CrateParts : Setting → ℕ → Option Top → State → List Part → State → Type 0
+CrateParts e levels None s parts t = (parts ≡ []) × (t ≡ s)
+CrateParts e levels (Some tree) s parts t = PartsOfFile e levels tree.1 s parts t × All (IsOfCall e tree.1) parts
+
+-- those of the crates whose roots are the first so many files, one crate after another
+pub data CratesParts (e : Setting) (levels : ℕ) (follows : Bool) (files : List Source) (s : State)
+    : ℕ → List Part → State → Type 0 where
+  no_crate : CratesParts e levels follows files s 0 [] s
+  one_crate : (n : ℕ) (parts more : List Part) (t u : State) → CratesParts e levels follows files s n parts t
+      → CrateParts e levels (crate_at follows files n) t more u
+      → CratesParts e levels follows files s (n + 1) (parts ++ more) u
+
+abbrev pub is_in : ℕ → Part → Bool
+is_in number part = part.file == number
+
+-- those in the file of that number
+abbrev pub parts_in : ℕ → List Part → List Part
+parts_in number parts = filter (is_in number) parts
 
 -- ---- the calls at one position
 
@@ -63,39 +75,35 @@ pub data TextsThere (position : Position) (text : List ℕ) : List Part → List
   one_elsewhere : (parts : List Part) (part : Part) (out : List ℕ) → TextsThere position text parts out
       → IsThere position text part.start false → TextsThere position text (parts ++ part ∷ []) out
 
--- what the calls of a file that begin there become
-pub record IsCallExpanded (e : Setting) (levels : ℕ) (position : Position) (trees : Forest) (s : State)
-    (text out : List ℕ) (t : State) : Type 0 where
-  pub parts : List Part
-  pub of_file : PartsOfFile e levels trees s parts t
-  pub there : TextsThere position (plain text) parts out
-
 -- ---- files
 
--- what is asked for: the whole text, or what the calls at a position become
-abbrev pub TextBecomes : Setting → ℕ → Option Position → Forest → State → List ℕ → List ℕ → State → Type 0
-TextBecomes e levels None trees s text out t = IsFileExpanded e levels trees s text out t
-TextBecomes e levels (Some position) trees s text out t = IsCallExpanded e levels position trees s text out t
+-- What a file's text becomes by its parts, which are places in its plain text; or what the calls at a position become.
+abbrev pub TextBecomes : Option Position → List ℕ → List Part → List ℕ → Type 0
+TextBecomes None text parts out = out ≡ spliced text (map (placed_part (returns text)) parts)
+TextBecomes (Some position) text parts out = TextsThere position (plain text) parts out
 
 -- a file that isn't Rust stays as it is
-abbrev pub TreeBecomes : Setting → ℕ → Option Position → Option Top → State → List ℕ → List ℕ → State → Type 0
-TreeBecomes e levels call None s text out t = (out ≡ text) × (t ≡ s)
-TreeBecomes e levels call (Some tree) s text out t = TextBecomes e levels call tree.1 s text out t
+abbrev pub TreeBecomes : Option Position → Option Top → List ℕ → List Part → List ℕ → Type 0
+TreeBecomes call None text parts out = out ≡ text
+TreeBecomes call (Some tree) text parts out = TextBecomes call text parts out
 
-abbrev pub FileBecomes : Setting → ℕ → Option Position → Source → State → List ℕ → State → Type 0
-FileBecomes e levels call file s out t = TreeBecomes e levels call file.tree s file.text out t
+-- what the file of that number becomes, by the parts of the crates that it is in
+abbrev pub FileBecomes : Option Position → List Part → ℕ → Source → List ℕ → Type 0
+FileBecomes call parts number file out = TreeBecomes call file.tree file.text (parts_in number parts) out
 
 -- one file after another
-pub data FilesBecome (e : Setting) (levels : ℕ) (call : Option Position) (s : State) : List Source → List (List ℕ)
-    → State → Type 0 where
-  no_file : FilesBecome e levels call s [] [] s
-  one_more : (files : List Source) (outs : List (List ℕ)) (file : Source) (out : List ℕ) (t u : State)
-      → FilesBecome e levels call s files outs t
-      → FileBecomes e levels call file t out u → FilesBecome e levels call s (files ++ file ∷ []) (outs ++ out ∷ []) u
+pub data FilesBecome (call : Option Position) (parts : List Part) : List Source → List (List ℕ) → Type 0 where
+  no_file : FilesBecome call parts [] []
+  one_more : (files : List Source) (outs : List (List ℕ)) (file : Source) (out : List ℕ)
+      → FilesBecome call parts files outs → FileBecomes call parts (length files) file out
+      → FilesBecome call parts (files ++ file ∷ []) (outs ++ out ∷ [])
 
--- the last file, where there is one
-abbrev pub IfLast : List Source → (Source → Type 0) → Type 0
-IfLast files Holds = (before : List Source) → (last : Source) → files ≡ before ++ last ∷ [] → Holds last
+-- What the root of a crate becomes, by the parts of that crate.
+pub record RootBecomes (e : Setting) (levels : ℕ) (call : Option Position) (follows : Bool) (files : List Source)
+    (number : ℕ) (file : Source) (s : State) (out : List ℕ) (t : State) : Type 0 where
+  pub parts : List Part
+  pub of_crate : CrateParts e levels (crate_of follows files number file) s parts t
+  pub becomes : FileBecomes call parts number file out
 
 -- ---- what is written
 

@@ -1,6 +1,8 @@
 pub mod Places
 pub mod Returns
 pub mod Sources
+pub mod Crates
+pub mod Modules
 pub mod Conditions
 pub mod ShownOptions
 pub mod Expansions

@@ -1,5 +1,5 @@
 -- Definitions of files that are reported on.
-use Rattle.std.specs.Prelude.{◌≡◌, ◌+◌, ℕ, Bool, true, false, if◌then◌else◌, ◌==◌, ◌&&◌, List, [], ◌∷◌, length, map, Option, Some, None}
+use Rattle.std.specs.Prelude.{◌≡◌, ℕ, if◌then◌else◌, ◌==◌, ◌&&◌, List, [], ◌∷◌, map, Option, Some, None}
 use Rattle.mbe_tt.specs.declared.span.Edition.{Edition}
 use Rattle.mbe_tt.specs.Trees.Top.{Top}
 use Rattle.mbe_expanding.specs.Scopes.{IsEdition}
@@ -10,7 +10,7 @@ use Rattle.mbe_rules.specs.declared.table.RuleTable.{RuleTable}
 use Rattle.mbe_cfg.specs.declared.settings.Settings.{Settings}
 use Rattle.mbe_expandm.specs.Conditions.{Conditions, IsUnder}
 use Rattle.mbe_expandm.specs.Runs.{IsRustTable}
-use Rattle.mbe_expandm.specs.Sources.{Source, AreSources}
+use Rattle.mbe_expandm.specs.Sources.{Source, Text, AreSources, source_text}
 
 -- the definitions of a file; one that isn't Rust has none
 abbrev pub FileLinted : Edition → Option Top → List Lint → List Lint → Type 0
@@ -24,9 +24,9 @@ FilesLinted edition (file ∷ files) before after =
     (mid : List Lint) × FileLinted edition file before mid × FilesLinted edition files mid after
 
 -- what is said of the definitions of files with these texts, but for those that a `cfg` leaves out
-pub record AreTextsLinted (edition : Edition) (c : Conditions) (texts : List (List ℕ)) (files : List Source)
+pub record AreTextsLinted (edition : Edition) (c : Conditions) (texts : List Text) (files : List Source)
     (lints : List Lint) : Type 0 where
-  pub texts_are : map (λ f. f.text) files ≡ texts
+  pub texts_are : map source_text files ≡ texts
   pub table : RuleTable
   pub is_rust : IsRustTable edition table
   pub conditions : Settings

@@ -1,17 +1,19 @@
 -- Runs, from the texts of files to what is written of them.
-use Rattle.std.specs.Prelude.{◌≡◌, ℕ, List, [], ◌∷◌, ◌++◌, map, Option, unwrap_or}
+use Rattle.std.specs.Prelude.{◌≡◌, ◌-◌, ℕ, Bool, List, [], map, Option, Some, unwrap_or}
+use Rattle.std.specs.List.{slice_get}
 use Rattle.std.specs.Option.{option_or}
 use Rattle.mbe_tt.specs.declared.span.Edition.{Edition}
 use Rattle.mbe_rules.specs.Lawful.{grammar_of}
 use Rattle.mbe_rules.specs.declared.table.RuleTable.{RuleTable}
 use Rattle.mbe_rust.specs.Keywords.{rows, rust_keywords}
 use Rattle.mbe_rust.specs.Starts.{rust_starts}
+use Rattle.mbe_calls.specs.Splicing.{Part}
 use Rattle.mbe_expanding.specs.Calls.{Setting, State}
 use Rattle.mbe_cfg.specs.declared.settings.Settings.{Settings}
 use Rattle.mbe_expandm.specs.declared.places.Position.{Position}
 use Rattle.mbe_expandm.specs.Conditions.{Conditions, IsUnder}
-use Rattle.mbe_expandm.specs.Expansions.{DefinesFiles, FileBecomes, FilesBecome}
-use Rattle.mbe_expandm.specs.Sources.{Source, AreSources}
+use Rattle.mbe_expandm.specs.Expansions.{CratesParts, DefinesFiles, FilesBecome, RootBecomes}
+use Rattle.mbe_expandm.specs.Sources.{Source, Text, AreSources, source_text}
 
 -- how many groups and calls may be in one another
 abbrev pub LEVELS : ℕ
@@ -25,9 +27,9 @@ pub record IsRustTable (edition : Edition) (table : RuleTable) : Type 0 where
 
 -- Where a run begins: the files are read, their definitions are known, in the files' order, and no call is expanded
 -- yet. The limit of depth is that of the words, or that of the files, or 128.
-pub record IsBegun (edition : Edition) (c : Conditions) (depth : Option ℕ) (fuel : ℕ) (texts : List (List ℕ))
+pub record IsBegun (edition : Edition) (c : Conditions) (depth : Option ℕ) (fuel : ℕ) (texts : List Text)
     (files : List Source) (e : Setting) (s : State) : Type 0 where
-  pub texts_are : map (λ f. f.text) files ≡ texts
+  pub texts_are : map source_text files ≡ texts
   pub table : RuleTable
   pub is_rust : IsRustTable edition table
   pub conditions : Settings
@@ -40,23 +42,27 @@ pub record IsBegun (edition : Edition) (c : Conditions) (depth : Option ℕ) (fu
   pub defines : DefinesFiles edition 1001 (map (λ f. f.tree) files) (record { definitions = []; visible = [] }) s.scope
   pub fuel_is : s.fuel ≡ fuel
 
--- what is printed of files: what the last of them becomes
+-- What is printed of files, of which so many are given, and the others are those of their modules: what the last one
+-- that is given becomes.
 pub record IsPrinted (edition : Edition) (c : Conditions) (depth : Option ℕ) (fuel : ℕ) (call : Option Position)
-    (texts : List (List ℕ)) (out : List ℕ) : Type 0 where
-  pub before : List Source
-  pub last : Source
-  pub setting : Setting
-  pub start : State
-  pub end : State
-  pub begins : IsBegun edition c depth fuel texts (before ++ last ∷ []) setting start
-  pub becomes : FileBecomes setting 1000 call last start out end
-
--- what is written of them: what each becomes
-pub record AreWritten (edition : Edition) (c : Conditions) (depth : Option ℕ) (fuel : ℕ) (call : Option Position)
-    (texts outs : List (List ℕ)) : Type 0 where
+    (follows : Bool) (given : ℕ) (texts : List Text) (out : List ℕ) : Type 0 where
   pub files : List Source
   pub setting : Setting
   pub start : State
   pub end : State
   pub begins : IsBegun edition c depth fuel texts files setting start
-  pub become : FilesBecome setting 1000 call start files outs end
+  pub root : Source
+  pub is_last : slice_get files (given - 1) ≡ Some root
+  pub becomes : RootBecomes setting 1000 call follows files (given - 1) root start out end
+
+-- what is written of them: what each becomes, by the parts of the crates whose roots are given
+pub record AreWritten (edition : Edition) (c : Conditions) (depth : Option ℕ) (fuel : ℕ) (call : Option Position)
+    (follows : Bool) (given : ℕ) (texts : List Text) (outs : List (List ℕ)) : Type 0 where
+  pub files : List Source
+  pub setting : Setting
+  pub start : State
+  pub end : State
+  pub begins : IsBegun edition c depth fuel texts files setting start
+  pub parts : List Part
+  pub of_crates : CratesParts setting 1000 follows files start given parts end
+  pub become : FilesBecome call parts files outs

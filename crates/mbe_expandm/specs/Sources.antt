@@ -9,10 +9,19 @@ use Rattle.mbe_stripping.specs.Stripping.{tree_without}
 use Rattle.mbe_expandm.specs.declared.reading.Reading.{Reading}
 use Rattle.mbe_expandm.specs.Returns.{plain}
 
--- a file: its text, and those of its trees that are compiled, if it is Rust
+-- a file as it is read
+pub record Text : Type 0 where
+  pub path : List ℕ
+  pub text : List ℕ
+
+-- a file: its path, its text, and those of its trees that are compiled, if it is Rust
 pub record Source : Type 0 where
+  pub path : List ℕ
   pub text : List ℕ
   pub tree : Option Top
+
+abbrev pub source_text : Source → Text
+source_text s = record { path = s.path; text = s.text }
 
 -- no trees are read of a text that isn't Rust, or that spans can't number
 abbrev pub IsNoRust : Edition → ℕ → List ℕ → Type 0

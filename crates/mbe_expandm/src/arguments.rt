@@ -28,6 +28,7 @@ options:
                     `#![recursion_limit = \"N\"]` says)
   --fuel N          expand N calls at most (100000)
   --call LINE[:COL] print only what the call there becomes
+  --no-modules      read no file of a `mod name;`
   --write DIR       write each file into DIR
   --edition YEAR    2015, 2018, 2021 (unless another is given) or 2024
   --cfg NAME, --cfg NAME=\"VALUE\"
@@ -73,6 +74,8 @@ pub struct Options<'w, A: Allocator = Global> {
     /// Whether reports are in JSON.
     pub is_json: bool,
     pub names: Vec<&'w str, A>,
+    /// Whether the files of modules are read, too.
+    pub follows: bool,
     pub call: Option<Position>,
     pub write: Option<&'w str>,
 }
@@ -184,6 +187,7 @@ impl<'w, A: Allocator + Copy> Options<'w, A> {
             is_lint: false,
             is_json: false,
             names: Vec::new(alloc),
+            follows: true,
             call: None,
             write: None,
         }
@@ -270,6 +274,7 @@ impl<'w, A: Allocator + Copy> Options<'w, A> {
             "--lint" => self.is_lint = true,
             "--json" => self.is_json = true,
             "--test" => self.is_test = true,
+            "--no-modules" => self.follows = false,
             _ => return None,
         }
         Some(())

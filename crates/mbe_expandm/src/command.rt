@@ -4,9 +4,13 @@ use crate::files::SourceFile;
 use crate::linting::lint;
 use crate::messages::message;
 use crate::places::NOWHERE;
+use crate::reached::{Reached, file_text};
 use crate::saying::{Form, add_lints, add_reports, error_text, form_of};
 use crate::sessions::{DONE, Named, Session, WRONG, print, write};
+use crate::targets::relative;
 use mbe_expanding::notes::Note;
+use mbe_modules::paths::folder_of;
+use std::alloc::{AllocError, Global};
 use std::io::{self, Read};
 use std::rt::{Env, Files};
 use std::{env, fs};
@@ -79,15 +83,35 @@ fn say_error<R: Eprint + AllocGlobal>(rt: &R, form: Option<Form>, message: &str)
 
 // The text of the file of that name, if it is shorter than 2^32 bytes.
 fn text_of<R: Files + Input + AllocGlobal>(rt: &R, name: &str) -> io::Result<String> {
-    let text = if name == "-" {
-        io::read_to_string(rt.alloc(), rt.reader().take(1 << 32))?
-    } else {
-        io::read_to_string(rt.alloc(), fs::open(rt, name)?.take(1 << 32))?
-    };
+    if name != "-" {
+        return file_text(rt, name);
+    }
+    let text = io::read_to_string(rt.alloc(), rt.reader().take(1 << 32))?;
     if text.len() > u32::MAX as usize {
         return Err(io::Error::from(io::ErrorKind::FileTooLarge));
     }
     Ok(text)
+}
+
+// The files that the words name, and those of their modules; nothing, if one that is named can't be read.
+fn reached<R: Files + Input + Eprint + AllocGlobal>(
+    rt: &R,
+    options: &Options<'_>,
+    form: Option<Form>,
+) -> io::Result<Option<Reached>> {
+    let mut reached = Reached::new(rt.alloc());
+    for name in &options.names {
+        match text_of(rt, *name) {
+            Ok(text) => reached.add_root(rt.alloc(), options, *name, text)?,
+            Err(error) => {
+                let message = format!(in rt.alloc(); "couldn't read `{name}`: {error}")?;
+                say_error(rt, form, message.as_str())?;
+                return Ok(None);
+            }
+        }
+    }
+    reached.follow(rt, options)?;
+    Ok(Some(reached))
 }
 
 fn run_files<R: Files + Input + Print + Eprint + AllocGlobal>(
@@ -95,28 +119,21 @@ fn run_files<R: Files + Input + Print + Eprint + AllocGlobal>(
     options: &Options<'_>,
     form: Option<Form>,
 ) -> io::Result<u8> {
-    let mut texts = Vec::new(rt.alloc());
-    for name in &options.names {
-        match text_of(rt, *name) {
-            Ok(text) => texts.push(Named { name: *name, text })?,
-            Err(error) => {
-                let message = format!(in rt.alloc(); "couldn't read `{name}`: {error}")?;
-                say_error(rt, form, message.as_str())?;
-                return Ok(WRONG);
-            }
-        }
-    }
+    let Some(reached) = reached(rt, options, form)? else {
+        return Ok(WRONG);
+    };
+    let texts = reached.texts.as_slice();
     if options.is_lint {
-        return lint_files(rt, options, form, texts.as_slice());
+        return lint_files(rt, options, form, texts);
     }
     match options.write {
         None => {
             let out = &mut io::writer(rt);
-            let (session, written) = print(rt.alloc(), options, texts.as_slice(), out)?;
+            let (session, written) = print(rt.alloc(), options, texts, out)?;
             written?;
             ended(rt, form, &session, true)
         }
-        Some(folder) => write_files(rt, options, form, texts.as_slice(), folder),
+        Some(folder) => write_files(rt, options, form, &reached, folder),
     }
 }
 
@@ -137,7 +154,7 @@ fn lint_files<R: Eprint + AllocGlobal>(
     rt: &R,
     options: &Options<'_>,
     form: Option<Form>,
-    texts: &[Named<'_>],
+    texts: &[Named],
 ) -> io::Result<u8> {
     let linted = lint(rt.alloc(), options, texts)?;
     report(rt, form, &linted.files, &linted.notes)?;
@@ -153,39 +170,81 @@ fn last_name(name: &str) -> &str {
     name.rsplit_once('/').map_or(name, |(_, last)| last)
 }
 
-// A name that two of the files have without their folders.
-fn shared_name<'t>(texts: &'t [Named<'_>]) -> Option<&'t str> {
-    for (at, named) in texts.iter().enumerate() {
-        let name = last_name(named.name);
-        if texts[..at]
-            .iter()
-            .any(|other| last_name(other.name) == name)
-        {
-            return Some(name);
-        }
+// Where a file is written, from a folder on: one that the words name under its own name without the folders that it is in; one of a
+// module where it is from the folder of the named file on. An error's text if it isn't below that.
+fn target(
+    alloc: Global,
+    path: &str,
+    root: Option<&str>,
+) -> Result<Result<String, String>, AllocError> {
+    let Some(root) = root else {
+        return Ok(Ok(String::from_str(alloc, last_name(path))?));
+    };
+    match relative(alloc, folder_of(root), path)? {
+        Some(target) => Ok(Ok(target)),
+        None => Ok(Err(format!(in alloc;
+            "`{path}`, of a module, isn't below the folder of `{root}`"
+        )?)),
     }
-    None
 }
 
-// Writes what each of the files becomes into that folder, under the name that the file has without the folders it is in.
+// Where the files are written, from that folder on; an error's text if one has no place, or two have the same.
+fn targets(
+    alloc: Global,
+    reached: &Reached,
+    folder: &str,
+) -> Result<Result<Vec<String>, String>, AllocError> {
+    let mut found: Vec<String> = Vec::new(alloc);
+    for number in 0..reached.texts.len() {
+        let (path, root) = reached.path(number).unwrap_or(("", None));
+        match target(alloc, path, root)? {
+            Err(message) => return Ok(Err(message)),
+            Ok(target) => {
+                if found.iter().any(|other| other.as_str() == target.as_str()) {
+                    return Ok(Err(format!(in alloc;
+                        "two files would be written as `{folder}/{target}`"
+                    )?));
+                }
+                found.push(target)?;
+            }
+        }
+    }
+    Ok(Ok(found))
+}
+
+// Writes a text there, in that folder. What folders there are on the way to it is made.
+fn write_text<R: Files + AllocGlobal>(
+    rt: &R,
+    folder: &str,
+    target: &str,
+    text: &str,
+) -> io::Result<()> {
+    let path = format!(in rt.alloc(); "{folder}/{target}")?;
+    if target.contains('/') {
+        fs::create_dir_all(rt, folder_of(path.as_str()))?;
+    }
+    fs::write(rt, path.as_str(), text)
+}
+
+// Writes what each of the files becomes into that folder.
 fn write_files<R: Files + Eprint + AllocGlobal>(
     rt: &R,
     options: &Options<'_>,
     form: Option<Form>,
-    texts: &[Named<'_>],
+    reached: &Reached,
     folder: &str,
 ) -> io::Result<u8> {
-    if let Some(name) = shared_name(texts) {
-        let message = format!(in rt.alloc(); "two files would be written as `{folder}/{name}`")?;
-        say_error(rt, form, message.as_str())?;
-        return Ok(WRONG);
-    }
-    let (session, written) = write(rt.alloc(), options, texts)?;
-    for (file, text) in session.files.iter().zip(written.iter()) {
-        let name = last_name(file.name);
-        let path = format!(in rt.alloc(); "{folder}/{name}")?;
-        if let Err(error) = fs::write(rt, path.as_str(), text.as_str()) {
-            let message = format!(in rt.alloc(); "couldn't write `{path}`: {error}")?;
+    let targets = match targets(rt.alloc(), reached, folder)? {
+        Ok(targets) => targets,
+        Err(message) => {
+            say_error(rt, form, message.as_str())?;
+            return Ok(WRONG);
+        }
+    };
+    let (session, written) = write(rt.alloc(), options, reached.texts.as_slice())?;
+    for (target, text) in targets.iter().zip(written.iter()) {
+        if let Err(error) = write_text(rt, folder, target.as_str(), text.as_str()) {
+            let message = format!(in rt.alloc(); "couldn't write `{folder}/{target}`: {error}")?;
             say_error(rt, form, message.as_str())?;
             return ended(rt, form, &session, false);
         }

@@ -1,23 +1,38 @@
 // What files become.
-ghost use Rattle.std.specs.Prelude.{◌≡◌, None, IfOk, IfSome, OnOk, map, suc};
+ghost use Rattle.std.specs.Prelude.{◌≡◌, ◌-◌, None, IfOk, IfSome, OnOk, map, suc};
+ghost use Rattle.std.specs.List.{slice_get};
 ghost use Rattle.std.specs.String.{string_bytes};
 ghost use Rattle.mbe_expanding.specs.Replacing.{NoneCalled};
 ghost use Rattle.mbe_expanding.specs.Shown.{setting_of, state_of};
 ghost use Rattle.mbe_calls.specs.Replacements.{part_of};
-ghost use Rattle.mbe_expandm.specs.Expansions.{DefinesFile, DefinesFiles, FileBecomes, FilesBecome, IfLast};
-ghost use Rattle.mbe_expandm.specs.Expansions.{IsCallExpanded, IsFileExpanded, TextsThere, WritesOne};
+ghost use Rattle.mbe_calls.specs.Splicing.{spliced};
+ghost use Rattle.mbe_expandm.specs.Crates.{crate_of};
+ghost use Rattle.mbe_expandm.specs.Expansions as spec;
+ghost use Rattle.mbe_expandm.specs.Expansions.{DefinesFile, DefinesFiles, FileBecomes, FilesBecome};
+ghost use Rattle.mbe_expandm.specs.Expansions.{RootBecomes, TextsThere, WritesOne};
+ghost use Rattle.mbe_expandm.specs.Returns.{placed_part, returns};
 ghost use Rattle.mbe_expandm.specs.ShownFiles.{source_of};
 
+use crate::crates::crate_parts;
 use crate::files::SourceFile;
 use crate::lines::Lines;
 use crate::places::Position;
 use mbe_calls::splicing::{Replacement, splice};
 use mbe_expanding::expander::{Expander, LEVELS};
+use mbe_expanding::notes::Note;
 use mbe_text::output::write_whole;
-use mbe_tt::tt::TopSubtree;
 use std::alloc::{AllocError, Global};
 use std::io;
 use std::io::Write;
+
+/// What is asked for of files.
+#[derive(Clone, Copy, Debug, Drop)]
+pub struct Wanted {
+    /// What the calls there become, in place of the whole text.
+    pub call: Option<Position>,
+    /// Whether modules are followed.
+    pub follows: bool,
+}
 
 // Has the expander know the definitions of a file.
 fn define_file(expander: &mut Expander<'_>, file: &SourceFile<'_>) -> Result<(), AllocError>
@@ -45,123 +60,165 @@ pub fn define_files(expander: &mut Expander<'_>, files: &[SourceFile<'_>]) -> Re
     Ok(())
 }
 
-/// Writes a file's text with its calls expanded, or only what the calls at that position become. Nothing is written if memory
-/// runs out. If a write fails, what was written is a prefix.
-pub fn write_expanded<W: Write>(
+/// Writes what the root of a crate becomes, the file of that number: its text with its calls expanded, or only what the calls at
+/// that position become. Nothing is written if memory runs out. If a write fails, what was written is a prefix.
+pub fn write_root<W: Write>(
     alloc: Global,
-    call: Option<Position>,
+    asked: Wanted,
+    notes: &mut Vec<Note>,
     expander: &mut Expander<'_>,
-    file: &SourceFile<'_>,
+    files: &[SourceFile<'_>],
+    number: usize,
+    root: &SourceFile<'_>,
     out: &mut W,
 ) -> io::Result<()>
     ensures becomes { WritesOne (W.contents out.old) (W.contents out.new) result (λ s.
-        FileBecomes (setting_of expander.old) LEVELS call (source_of file.now)
+        RootBecomes (setting_of expander.old) LEVELS asked.call asked.follows
+        (map source_of files.now) number (source_of root.now)
         (state_of expander.old) s (state_of expander.new)) }
-    ensures unknown { IfSome file.now.tree (λ tree. call ≡ None
+    ensures unknown { IfSome (crate_of asked.follows (map source_of files.now) number
+        (source_of root.now)) (λ tree. asked.call ≡ None
         → NoneCalled (state_of expander.old).scope.definitions tree.1
         → WritesOne (W.contents out.old) (W.contents out.new) result
-        (λ s. s ≡ file.now.text.now)) }
+        (λ s. s ≡ root.now.text.now)) }
 {
-    let text = expanded(alloc, call, expander, file)?;
+    let text = root_text(alloc, asked, notes, expander, files, number, root)?;
     write_whole(text.as_bytes(), out)
 }
 
-/// Writes what the last of the files becomes, as `write_expanded` does; without files it writes nothing.
+/// Writes what the last of the first so many files becomes, as `write_root` does; without files it writes nothing.
 pub fn write_last<W: Write>(
     alloc: Global,
-    call: Option<Position>,
+    asked: Wanted,
+    notes: &mut Vec<Note>,
     expander: &mut Expander<'_>,
     files: &[SourceFile<'_>],
+    given: usize,
     out: &mut W,
 ) -> io::Result<()>
-    ensures { IfLast (map source_of files.now) (λ file.
+    ensures { IfSome (slice_get (map source_of files.now) (given - 1)) (λ root.
         WritesOne (W.contents out.old) (W.contents out.new) result (λ s.
-        FileBecomes (setting_of expander.old) LEVELS call file (state_of expander.old) s
-        (state_of expander.new))) }
+        RootBecomes (setting_of expander.old) LEVELS asked.call asked.follows
+        (map source_of files.now) (given - 1) root
+        (state_of expander.old) s (state_of expander.new))) }
 {
-    match files.last() {
-        Some(file) => write_expanded(alloc, call, expander, file, out),
+    let number = given.saturating_sub(1);
+    match files.get(number) {
+        Some(root) => write_root(alloc, asked, notes, expander, files, number, root, out),
         None => Ok(()),
     }
 }
 
-/// A file's text with its calls expanded, or only what the calls at that position become. A text that isn't Rust stays as it is.
-pub fn expanded(
+/// What the root of a crate becomes, the file of that number: its text with its calls expanded, or only what the calls at that
+/// position become. A text that isn't Rust stays as it is.
+pub fn root_text(
     alloc: Global,
-    call: Option<Position>,
-    expander: &mut Expander<'_>,
-    file: &SourceFile<'_>,
-) -> Result<String, AllocError>
-    ensures becomes { IfOk result (λ s. FileBecomes (setting_of expander.old) LEVELS call
-        (source_of file.now) (state_of expander.old) (string_bytes s) (state_of expander.new)) }
-    ensures unknown { IfSome file.now.tree (λ tree. call ≡ None
-        → NoneCalled (state_of expander.old).scope.definitions tree.1
-        → IfOk result (λ s. string_bytes s ≡ file.now.text.now)) }
-    ensures setting { OnOk result (setting_of expander.new ≡ setting_of expander.old) }
-{
-    let Some(tree) = &file.tree else {
-        return String::from_str(alloc, file.text);
-    };
-    match call {
-        None => whole_text(alloc, expander, file, tree),
-        Some(position) => calls_at(alloc, position, expander, file, tree),
-    }
-}
-
-/// What each of the files becomes, in their order.
-pub fn all_expanded(
-    alloc: Global,
-    call: Option<Position>,
+    asked: Wanted,
+    notes: &mut Vec<Note>,
     expander: &mut Expander<'_>,
     files: &[SourceFile<'_>],
+    number: usize,
+    root: &SourceFile<'_>,
+) -> Result<String, AllocError>
+    ensures becomes { IfOk result (λ s. RootBecomes (setting_of expander.old) LEVELS asked.call
+        asked.follows (map source_of files.now) number (source_of root.now)
+        (state_of expander.old) (string_bytes s) (state_of expander.new)) }
+    ensures unknown { IfSome (crate_of asked.follows (map source_of files.now) number
+        (source_of root.now)) (λ tree. asked.call ≡ None
+        → NoneCalled (state_of expander.old).scope.definitions tree.1
+        → IfOk result (λ s. string_bytes s ≡ root.now.text.now)) }
+    ensures setting { OnOk result (setting_of expander.new ≡ setting_of expander.old) }
+{
+    let parts = crate_parts(alloc, asked.follows, notes, expander, files, number, root)?;
+    file_text(alloc, asked.call, parts.as_slice(), number, root)
+}
+
+/// What the files become by these parts, in their order.
+pub fn file_texts(
+    alloc: Global,
+    call: Option<Position>,
+    parts: &[Replacement],
+    files: &[SourceFile<'_>],
 ) -> Result<Vec<String>, AllocError>
-    ensures { IfOk result (λ v. FilesBecome (setting_of expander.old) LEVELS call
-        (state_of expander.old) (map source_of files.now) (map string_bytes v.items)
-        (state_of expander.new)) }
+    ensures { IfOk result (λ v. FilesBecome call (map part_of parts.now)
+        (map source_of files.now) (map string_bytes v.items)) }
 {
     let mut texts = Vec::new(alloc);
-    for file in files {
-        texts.push(expanded(alloc, call, expander, file)?)?;
+    for (number, file) in files.iter().enumerate() {
+        texts.push(file_text(alloc, call, parts, number, file)?)?;
     }
     Ok(texts)
 }
 
-// The text of a file of these trees with their calls expanded.
-fn whole_text(
+// What the file of that number becomes by these parts. A text that isn't Rust stays as it is.
+fn file_text(
     alloc: Global,
-    expander: &mut Expander<'_>,
+    call: Option<Position>,
+    parts: &[Replacement],
+    number: usize,
     file: &SourceFile<'_>,
-    tree: &TopSubtree,
 ) -> Result<String, AllocError>
-    ensures whole { IfOk result (λ s.
-        IsFileExpanded (setting_of expander.old) LEVELS tree.now.1 (state_of expander.old)
-        file.now.text.now (string_bytes s) (state_of expander.new)) }
-    ensures unknown { NoneCalled (state_of expander.old).scope.definitions tree.now.1
-        → IfOk result (λ s. string_bytes s ≡ file.now.text.now) }
-    ensures setting { OnOk result (setting_of expander.new ≡ setting_of expander.old) }
+    ensures { IfOk result (λ s. FileBecomes call (map part_of parts.now) number
+        (source_of file.now) (string_bytes s)) }
 {
-    let text = file.lines.text.as_str();
-    let replacements = expander.replacements(&[text], tree.iter().remaining())?;
-    let placed = file.lines.placed(alloc, replacements.as_slice())?;
-    splice(alloc, file.text, placed.as_slice())
+    if file.tree.is_none() {
+        return String::from_str(alloc, file.text);
+    }
+    let parts = parts_in(alloc, number, parts)?;
+    match call {
+        None => whole_text(alloc, file, parts.as_slice()),
+        Some(position) => texts_at(alloc, position, &file.lines, parts.as_slice()),
+    }
 }
 
-// What the calls at that position in a file of these trees become.
-fn calls_at(
-    alloc: Global,
-    position: Position,
-    expander: &mut Expander<'_>,
-    file: &SourceFile<'_>,
-    tree: &TopSubtree,
-) -> Result<String, AllocError>
-    ensures there { IfOk result (λ s.
-        IsCallExpanded (setting_of expander.old) LEVELS position tree.now.1
-        (state_of expander.old) file.now.text.now (string_bytes s) (state_of expander.new)) }
-    ensures setting { OnOk result (setting_of expander.new ≡ setting_of expander.old) }
+// The same part once more.
+fn copied(alloc: Global, part: &Replacement) -> Result<Replacement, AllocError>
+    ensures { IfOk result (λ r. part_of r ≡ part_of part.now) }
 {
-    let text = file.lines.text.as_str();
-    let replacements = expander.replacements(&[text], tree.iter().remaining())?;
-    texts_at(alloc, position, &file.lines, replacements.as_slice())
+    Ok(Replacement {
+        file: part.file,
+        start: part.start,
+        end: part.end,
+        text: String::from_str(alloc, part.text.as_str())?,
+    })
+}
+
+// Whether a part is in the file of that number.
+fn is_in(number: usize, part: &Replacement) -> bool
+    ensures { result ≡ spec.is_in number (part_of part.now) }
+{
+    part.file as usize == number
+}
+
+// The parts in the file of that number.
+fn parts_in(
+    alloc: Global,
+    number: usize,
+    parts: &[Replacement],
+) -> Result<Vec<Replacement>, AllocError>
+    ensures { IfOk result (λ v. map part_of v.items
+        ≡ spec.parts_in number (map part_of parts.now)) }
+{
+    let mut found = Vec::new(alloc);
+    for part in parts {
+        if is_in(number, part) {
+            found.push(copied(alloc, part)?)?;
+        }
+    }
+    Ok(found)
+}
+
+// The text of a file with these parts replaced.
+fn whole_text(
+    alloc: Global,
+    file: &SourceFile<'_>,
+    parts: &[Replacement],
+) -> Result<String, AllocError>
+    ensures { IfOk result (λ s. string_bytes s ≡ spliced file.now.text.now
+        (map (placed_part (returns file.now.text.now)) (map part_of parts.now))) }
+{
+    let placed = file.lines.placed(alloc, parts)?;
+    splice(alloc, file.text, placed.as_slice())
 }
 
 // The texts of the replacements that begin at that position, each with a line feed after it.

@@ -132,6 +132,7 @@ pub fn source_file<'f>(
     text: &'f str,
     file: u32,
 ) -> Result<SourceFile<'f>, AllocError>
+    ensures name { IfOk result (λ f. f.name.now ≡ name.now) }
     ensures text { IfOk result (λ f. f.text.now ≡ text.now) }
     ensures trees { IfOk result (λ f. IsTreeOf reading.now file (plain text.now) f.tree) }
 {

@@ -3,13 +3,17 @@
 
 pub mod arguments;
 pub mod command;
+pub mod crates;
 pub mod expansions;
 pub mod files;
 pub mod limits;
 pub mod lines;
 pub mod linting;
 pub mod messages;
+pub mod modules;
 pub mod places;
+pub mod reached;
 pub mod reading;
 pub mod saying;
 pub mod sessions;
+pub mod targets;

@@ -78,10 +78,10 @@ pub fn push_files(
 
 /// Reads files, and finds what is to be said of their definitions, but for those that a `cfg` leaves out. They are read as those of
 /// the edition that the words ask for. `AllocError` if out of memory, or of numbers for files.
-pub fn lint<'f, 'w>(
+pub fn lint<'f>(
     alloc: Global,
     options: &Options<'_>,
-    texts: &'f [Named<'w>],
+    texts: &'f [Named],
 ) -> Result<Linted<'f>, AllocError>
     ensures { IfOk result (λ l. AreTextsLinted options.now.edition (conditions_of options.now)
         (map text_of texts.now) (map source_of l.files.items) (map lint_seen l.lints.items)) }

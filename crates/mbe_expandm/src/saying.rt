@@ -61,14 +61,20 @@ pub fn error_text(alloc: Global, form: Option<Form>, message: &str) -> Result<St
     }
 }
 
-/// Which calls of the last file are explained: those that begin at a position; without one, those that no rule expands.
-pub fn explained(asked: Option<Option<Position>>, files: &[SourceFile<'_>]) -> Explain {
-    match (asked, files.last()) {
+/// Which calls of the last of the first so many files are explained: those that begin at a position; without one, those of all
+/// files that no rule expands.
+pub fn explained(
+    asked: Option<Option<Position>>,
+    files: &[SourceFile<'_>],
+    given: usize,
+) -> Explain {
+    let number = given.saturating_sub(1);
+    match (asked, files.get(number)) {
         (Some(None), _) => Explain::Failed,
         (Some(Some(position)), Some(file)) => {
             let (start, end) = position.bytes_in(file.lines.text.as_str());
             Explain::At {
-                file: u32::try_from(files.len() - 1).unwrap_or(u32::MAX),
+                file: u32::try_from(number).unwrap_or(u32::MAX),
                 start: u32::try_from(start).unwrap_or(u32::MAX),
                 end: u32::try_from(end).unwrap_or(u32::MAX),
             }

@@ -1,5 +1,5 @@
 // Runs on texts: files are read, the expander learns their definitions, and what files become is written.
-ghost use Rattle.std.specs.Prelude.{◌≡◌, ◌<◌, ◌||◌, IfOk, OnErr, length, map};
+ghost use Rattle.std.specs.Prelude.{◌≡◌, ◌<◌, ◌≤◌, ◌||◌, IfOk, OnErr, length, map};
 ghost use Rattle.std.specs.List.{list_any};
 ghost use Rattle.std.specs.String.{string_bytes};
 ghost use Rattle.mbe_expanding.specs.Shown.{setting_of, state_of};
@@ -7,11 +7,12 @@ ghost use Rattle.mbe_expandm.specs.Expansions.{WritesOne};
 ghost use Rattle.mbe_expandm.specs.Runs.{AreWritten, IsBegun, IsPrinted};
 ghost use Rattle.mbe_expandm.specs.ShownFiles.{source_of, sources_of, text_of};
 ghost use Rattle.mbe_expandm.specs.ShownOptions.{conditions_of};
-ghost use Rattle.mbe_expandm.specs.Sources.{AreSources};
+ghost use Rattle.mbe_expandm.specs.Sources.{AreSources, source_text};
 ghost use Rattle.mbe_expandm.specs.Statuses.{is_error, status_of};
 
 use crate::arguments::Options;
-use crate::expansions::{all_expanded, define_files, write_last};
+use crate::crates::crates_parts;
+use crate::expansions::{Wanted, define_files, file_texts, write_last};
 use crate::files::{SourceFile, source_file};
 use crate::limits::recursion_limit;
 use crate::reading::Reading;
@@ -35,8 +36,8 @@ pub const WRONG: u8 = 2;
 
 /// A file's name and its text.
 #[derive(Drop)]
-pub struct Named<'w> {
-    pub name: &'w str,
+pub struct Named {
+    pub name: String,
     pub text: String,
 }
 
@@ -50,13 +51,14 @@ pub struct Session<'f> {
 
 /// The files with their trees. A note says of each that isn't Rust where it isn't, and why. `AllocError` if out of memory, or of
 /// numbers for files.
-pub fn sources<'f, 'w>(
+pub fn sources<'f>(
     alloc: Global,
     reading: &Reading<'_>,
-    texts: &'f [Named<'w>],
+    texts: &'f [Named],
     notes: &mut Vec<Note>,
 ) -> Result<Vec<SourceFile<'f>>, AllocError>
-    ensures texts { IfOk result (λ v. map (λ f. f.text.now) v.items ≡ map text_of texts.now) }
+    ensures texts { IfOk result (λ v. map (λ f. source_text (source_of f)) v.items
+        ≡ map text_of texts.now) }
     ensures read { IfOk result (λ v. AreSources reading.now (map source_of v.items)) }
 {
     let mut symbols = SymbolTable::new(alloc);
@@ -65,7 +67,7 @@ pub fn sources<'f, 'w>(
         let Ok(at) = u32::try_from(number) else {
             return Err(AllocError);
         };
-        let (name, text) = (named.name, named.text.as_str());
+        let (name, text) = (named.name.as_str(), named.text.as_str());
         let file = source_file(alloc, &mut symbols, notes, reading, name, text, at)?;
         files.push(file)?;
     }
@@ -93,10 +95,10 @@ fn has_errors(notes: &[Note]) -> bool
 
 impl<'f> Session<'f> {
     /// Reads the files and their definitions. `AllocError` if out of memory, or of numbers for files.
-    pub fn begin<'w>(
+    pub fn begin(
         alloc: Global,
         options: &Options<'_>,
-        texts: &'f [Named<'w>],
+        texts: &'f [Named],
     ) -> Result<Session<'f>, AllocError>
         ensures { IfOk result (λ s. IsBegun options.now.edition
             (conditions_of options.now) options.now.depth options.now.fuel
@@ -110,7 +112,7 @@ impl<'f> Session<'f> {
             grammar,
         };
         let files = sources(alloc, &reading, texts, &mut notes)?;
-        let explain = explained(options.explain, files.as_slice());
+        let explain = explained(options.explain, files.as_slice(), options.names.len());
         let settings = options.settings(limit_of(&files), explain);
         let mut expander = Expander::new(alloc, grammar, settings);
         define_files(&mut expander, &files)?;
@@ -134,38 +136,55 @@ impl<'f> Session<'f> {
     }
 }
 
-/// Reads files, writes what the last of them becomes, and returns how that ended. Where memory runs out before, nothing is
-/// written.
-pub fn print<'f, 'w, W: Write>(
+// What the words ask for of files.
+fn wanted(options: &Options<'_>) -> Wanted
+    ensures { result ≡ record { call = options.now.call; follows = options.now.follows } }
+{
+    Wanted {
+        call: options.call,
+        follows: options.follows,
+    }
+}
+
+/// Reads files, of which those that the words name come first, and then those of their modules; writes what the last that is named
+/// becomes, and returns how that ended. Where memory runs out before, nothing is written.
+pub fn print<'f, W: Write>(
     alloc: Global,
     options: &Options<'_>,
-    texts: &'f [Named<'w>],
+    texts: &'f [Named],
     out: &mut W,
 ) -> Result<(Session<'f>, io::Result<()>), AllocError>
     ensures nothing { OnErr result (W.contents out.new ≡ W.contents out.old) }
-    ensures printed { IfOk result (λ r. 0 < length texts.now
+    ensures printed { IfOk result (λ r. 0 < length options.now.names.items
+        → length options.now.names.items ≤ length texts.now
         → WritesOne (W.contents out.old) (W.contents out.new) r.1
         (IsPrinted options.now.edition (conditions_of options.now) options.now.depth
-        options.now.fuel options.now.call (map text_of texts.now))) }
+        options.now.fuel options.now.call options.now.follows
+        (length options.now.names.items) (map text_of texts.now))) }
 {
     let mut session = Session::begin(alloc, options, texts)?;
-    let of = &mut session;
-    let written = write_last(alloc, options.call, &mut of.expander, &of.files, out);
+    let asked = wanted(options);
+    let (of, given) = (&mut session, options.names.len());
+    let (notes, expander) = (&mut of.notes, &mut of.expander);
+    let written = write_last(alloc, asked, notes, expander, &of.files, given, out);
     Ok((session, written))
 }
 
-/// What each of the files becomes, in their order.
-pub fn write<'f, 'w>(
+/// What each of the files becomes, in their order: of those that the words name, which come first, and of those of their modules.
+pub fn write<'f>(
     alloc: Global,
     options: &Options<'_>,
-    texts: &'f [Named<'w>],
+    texts: &'f [Named],
 ) -> Result<(Session<'f>, Vec<String>), AllocError>
     ensures { IfOk result (λ r. AreWritten options.now.edition (conditions_of options.now)
-        options.now.depth options.now.fuel options.now.call (map text_of texts.now)
+        options.now.depth options.now.fuel options.now.call options.now.follows
+        (length options.now.names.items) (map text_of texts.now)
         (map string_bytes r.1.items)) }
 {
     let mut session = Session::begin(alloc, options, texts)?;
-    let of = &mut session;
-    let written = all_expanded(alloc, options.call, &mut of.expander, &of.files)?;
+    let (of, given) = (&mut session, options.names.len());
+    let (notes, expander) = (&mut of.notes, &mut of.expander);
+    let parts = crates_parts(alloc, options.follows, notes, expander, &of.files, given)?;
+    let written = file_texts(alloc, options.call, parts.as_slice(), &of.files)?;
     Ok((session, written))
 }

@@ -122,8 +122,8 @@ fn becomes(alloc: Global, words: &[String], text: String) -> Result<(String, u8)
     let Asked::Run(options) = read_words(alloc, words)? else {
         return Err(Fail::from("no run"));
     };
-    let name = "a.rs";
-    let texts: [Named<'_>; 1] = [Named { name, text }];
+    let name = String::from_str(alloc, "a.rs")?;
+    let texts: [Named; 1] = [Named { name, text }];
     let (session, mut written) = write(alloc, &options, &texts)?;
     match written.pop() {
         Some(text) => Ok((text, session.status(true))),

@@ -3,7 +3,7 @@
 use crate::conditions::plainly;
 use mbe_expanding::expander::Expander;
 use mbe_expanding::settings::Settings;
-use mbe_expandm::expansions::{define_files, expanded};
+use mbe_expandm::expansions::{Wanted, define_files, root_text};
 use mbe_expandm::files::{SourceFile, source_file};
 use mbe_expandm::places::Position;
 use mbe_expandm::saying::{Form, add_reports, explained};
@@ -47,11 +47,16 @@ fn reported(alloc: Global, text: &str, form: Form, asked: Asked) -> Result<Strin
         fuel: 100,
         is_traced: matches!(asked, Asked::Steps),
         is_origin_noted: matches!(asked, Asked::Origins),
-        explain: explained(position, &files),
+        explain: explained(position, &files, 1),
     };
     let mut expander = Expander::new(alloc, rust_rules(edition, &[]), settings);
     define_files(&mut expander, &files)?;
-    let _text = expanded(alloc, None, &mut expander, &files[0])?;
+    let asked = Wanted {
+        call: None,
+        follows: false,
+    };
+    let of = &mut expander;
+    let _text = root_text(alloc, asked, &mut notes, of, &files, 0, &files[0])?;
     let mut reports = String::new(alloc);
     add_reports(alloc, form, &files, &notes, &mut reports)?;
     add_reports(alloc, form, &files, &expander.notes, &mut reports)?;

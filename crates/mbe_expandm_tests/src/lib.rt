@@ -12,6 +12,8 @@ mod explained;
 #[cfg(test)]
 mod linted;
 #[cfg(test)]
+mod modules;
+#[cfg(test)]
 mod places;
 #[cfg(test)]
 mod programs;

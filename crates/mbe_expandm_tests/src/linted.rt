@@ -16,8 +16,8 @@ const VALID: &str =
 
 // What is reported of a file.
 fn reported(alloc: Global, text: &str, form: Form) -> Result<(String, u8), Fail> {
-    let texts: [Named<'_>; 1] = [Named {
-        name: "a.rs",
+    let texts: [Named; 1] = [Named {
+        name: String::from_str(alloc, "a.rs")?,
         text: String::from_str(alloc, text)?,
     }];
     let mut words = Vec::new(alloc);

@@ -3,8 +3,8 @@ use crate::conditions::plainly;
 use mbe_expanding::expander::Expander;
 use mbe_expanding::notes::Note;
 use mbe_expanding::settings::{Explain, Settings};
-use mbe_expandm::expansions;
-use mbe_expandm::files::source_file;
+use mbe_expandm::expansions::{Wanted, root_text};
+use mbe_expandm::files::{SourceFile, source_file};
 use mbe_rust::fragments::rust_rules;
 use mbe_text::symbols::SymbolTable;
 use mbe_tt::span::Edition;
@@ -38,7 +38,13 @@ fn run(alloc: Global, text: &str, depth: u32) -> Result<(String, Vec<Note>), All
     if let Some(tree) = &file.tree {
         expander.define(tree.iter().remaining())?;
     }
-    let text = expansions::expanded(alloc, None, &mut expander, &file)?;
+    let files: [SourceFile<'_>; 1] = [file];
+    let asked = Wanted {
+        call: None,
+        follows: false,
+    };
+    let of = &mut expander;
+    let text = root_text(alloc, asked, &mut notes, of, &files, 0, &files[0])?;
     for note in expander.notes {
         notes.push(note)?;
     }

@@ -19,7 +19,7 @@ fn asked(alloc: Global, text: &str) -> Result<&'static str, AllocError> {
     })
 }
 
-static ROWS: [(&str, &str); 38] = [
+static ROWS: [(&str, &str); 39] = [
     ("", "no file"),
     ("a.rs", "run"),
     ("-", "run"),
@@ -36,6 +36,7 @@ static ROWS: [(&str, &str); 38] = [
     ("--edition 2019 a.rs", "wrong"),
     ("--write out a.rs", "run"),
     ("--write", "missing"),
+    ("--no-modules a.rs", "run"),
     ("--trace", "no file"),
     ("--often a.rs", "wrong"),
     ("--origin a.rs", "run"),

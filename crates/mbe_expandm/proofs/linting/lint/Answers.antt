@@ -3,6 +3,7 @@ use Rattle.std.proofs.lemmas.Simd.{map-map}
 use Rattle.mbe_lints.specs.Lint.{lint_seen}
 use Rattle.mbe_expandm.specs.Linted.{FilesLinted}
 use Rattle.mbe_expandm.specs.ShownFiles.{source_of}
+use Rattle.mbe_expandm.specs.Sources.{source_text}
 use Rattle.mbe_expandm.proofs.linting.lint.Goals as goal
 
 pub returns : goal.returns
@@ -13,7 +14,7 @@ returns c =
     let trees : map (λ f. f.tree) c.as_slice.result.now ≡ map (λ f. f.tree) (map source_of files) =
     ap (map (λ f. f.tree)) c.as_slice.ensures.value ∙ sym (map-map (λ f. f.tree) source_of files) in
     record {
-      texts_are = map-map (λ f. f.text) source_of files ∙ c.in_ok-files.ensures.texts;
+      texts_are = map-map source_text source_of files ∙ c.in_ok-files.ensures.texts;
       table = c.rust_rules-grammar.result;
       is_rust = record {
         keywords = c.rust_rules-grammar.ensures.keywords;

@@ -3,6 +3,7 @@ use Rattle.std.proofs.lemmas.Simd.{map-map}
 use Rattle.mbe_expanding.specs.Shown.{setting_of, state_of}
 use Rattle.mbe_expandm.specs.Expansions.{DefinesFiles}
 use Rattle.mbe_expandm.specs.ShownFiles.{source_of}
+use Rattle.mbe_expandm.specs.Sources.{source_text}
 use Rattle.mbe_expandm.proofs.sessions.Session.begin.Goals as goal
 
 pub returns : goal.returns
@@ -16,7 +17,7 @@ returns c =
     ap (map (λ f. f.tree)) c.deref-2.ensures.value ∙ sym (map-map (λ f. f.tree) source_of files) in
     let scope = ap (λ s. s.scope) c.new-expander.ensures.state in
     record {
-      texts_are = map-map (λ f. f.text) source_of files ∙ c.in_ok-files.ensures.texts;
+      texts_are = map-map source_text source_of files ∙ c.in_ok-files.ensures.texts;
       conditions = c.conditions.result;
       is_under = c.conditions.ensures;
       are_read = c.in_ok-files.ensures.read;

@@ -1,0 +1,180 @@
+// The parts of a crate's files that are replaced.
+ghost use Rattle.std.specs.Prelude.{◌≡◌, [], None, IfOk, IfSome, OnOk, map};
+ghost use Rattle.std.specs.List.{All};
+ghost use Rattle.mbe_calls.specs.Replacements.{part_of};
+ghost use Rattle.mbe_expanding.specs.Replacing.{Adds, IsOfCall, NoneCalled, PartsOfFile};
+ghost use Rattle.mbe_expanding.specs.Shown.{setting_of, state_of};
+ghost use Rattle.mbe_expandm.specs.Crates.{crate_at, crate_of, file_of, is_followed};
+ghost use Rattle.mbe_expandm.specs.Expansions.{CrateParts, CratesParts};
+ghost use Rattle.mbe_expandm.specs.ShownFiles.{source_of};
+ghost use Rattle.mbe_following.specs.Following.{crate_tree};
+ghost use Rattle.mbe_following.specs.Shown.{file_shown};
+ghost use Rattle.mbe_modules.specs.Places as places;
+
+use crate::files::SourceFile;
+use crate::modules::note_unfound;
+use mbe_calls::splicing::Replacement;
+use mbe_expanding::expander::{Expander, LEVELS};
+use mbe_expanding::notes::Note;
+use mbe_following::following::follow;
+use mbe_following::taking::File;
+use mbe_modules::places::Place;
+use mbe_tt::tt::TopSubtree;
+use std::alloc::{AllocError, Global};
+
+/// Whether the modules of a file of that name are followed, where it is said whether they are: not from standard input.
+pub fn is_followed(follows: bool, name: &str) -> bool
+    ensures { result ≡ is_followed follows name.now }
+{
+    follows && name != "-"
+}
+
+// The file as one that a module may be in.
+fn file_of<'s>(file: &'s SourceFile<'_>) -> File<'s>
+    ensures { file_shown result ≡ file_of (source_of file.now) }
+{
+    match &file.tree {
+        Some(tree) => File {
+            path: file.name,
+            trees: Some(tree.iter().remaining()),
+        },
+        None => File {
+            path: file.name,
+            trees: None,
+        },
+    }
+}
+
+// The files as such that a module may be in.
+fn files_of<'s>(alloc: Global, files: &'s [SourceFile<'_>]) -> Result<Vec<File<'s>>, AllocError>
+    ensures { IfOk result (λ v. map file_shown v.items
+        ≡ map (λ f. file_of (source_of f)) files.now) }
+{
+    let mut found = Vec::new(alloc);
+    for file in files {
+        found.push(file_of(file))?;
+    }
+    Ok(found)
+}
+
+// The tree of the crate whose root is the file of that number and that name. A note says of each module without its file why.
+fn crate_tree(
+    alloc: Global,
+    notes: &mut Vec<Note>,
+    files: &[SourceFile<'_>],
+    number: usize,
+    name: &str,
+    tree: &TopSubtree,
+) -> Result<TopSubtree, AllocError>
+    ensures { IfOk result (λ t. t ≡ crate_tree (map file_of (map source_of files.now)) number
+        (places.in_file name.now None) tree.now) }
+{
+    let found = files_of(alloc, files)?;
+    let place = Place::in_file(alloc, name, None)?;
+    let mut unfound = Vec::new(alloc);
+    let tree = follow(alloc, found.as_slice(), &mut unfound, number, &place, tree)?;
+    note_unfound(alloc, notes, unfound.as_slice())?;
+    Ok(tree)
+}
+
+// The texts that spans of the files are in.
+fn texts_of<'s>(alloc: Global, files: &'s [SourceFile<'_>]) -> Result<Vec<&'s str>, AllocError> {
+    let mut texts = Vec::new(alloc);
+    for file in files {
+        texts.push(file.lines.text.as_str())?;
+    }
+    Ok(texts)
+}
+
+// What replaces the calls in these trees, of those files.
+fn parts_of(
+    alloc: Global,
+    expander: &mut Expander<'_>,
+    files: &[SourceFile<'_>],
+    tree: &TopSubtree,
+) -> Result<Vec<Replacement>, AllocError>
+    ensures parts { IfOk result (λ v. PartsOfFile (setting_of expander.old) LEVELS tree.now.1
+        (state_of expander.old) (map part_of v.items) (state_of expander.new)) }
+    ensures each { IfOk result (λ v.
+        All (IsOfCall (setting_of expander.old) tree.now.1) (map part_of v.items)) }
+    ensures unknown { IfOk result (λ v.
+        NoneCalled (state_of expander.old).scope.definitions tree.now.1
+        → map part_of v.items ≡ []) }
+    ensures setting { OnOk result (setting_of expander.new ≡ setting_of expander.old) }
+{
+    let texts = texts_of(alloc, files)?;
+    expander.replacements(texts.as_slice(), tree.iter().remaining())
+}
+
+/// What replaces the calls in the crate whose root is that file, of that number; nothing, if it isn't Rust. A note says of each
+/// module without its file why.
+pub fn crate_parts(
+    alloc: Global,
+    follows: bool,
+    notes: &mut Vec<Note>,
+    expander: &mut Expander<'_>,
+    files: &[SourceFile<'_>],
+    number: usize,
+    root: &SourceFile<'_>,
+) -> Result<Vec<Replacement>, AllocError>
+    ensures parts { IfOk result (λ v. CrateParts (setting_of expander.old) LEVELS
+        (crate_of follows (map source_of files.now) number (source_of root.now))
+        (state_of expander.old) (map part_of v.items) (state_of expander.new)) }
+    ensures unknown { IfSome (crate_of follows (map source_of files.now) number
+        (source_of root.now)) (λ tree. NoneCalled (state_of expander.old).scope.definitions tree.1
+        → IfOk result (λ v. map part_of v.items ≡ [])) }
+    ensures setting { OnOk result (setting_of expander.new ≡ setting_of expander.old) }
+{
+    let Some(tree) = &root.tree else {
+        return Ok(Vec::new(alloc));
+    };
+    if !is_followed(follows, root.name) {
+        return parts_of(alloc, expander, files, tree);
+    }
+    let tree = crate_tree(alloc, notes, files, number, root.name, tree)?;
+    parts_of(alloc, expander, files, &tree)
+}
+
+// Adds what replaces the calls in the crate whose root is the file of that number, if there is one.
+fn add_crate(
+    alloc: Global,
+    follows: bool,
+    notes: &mut Vec<Note>,
+    expander: &mut Expander<'_>,
+    files: &[SourceFile<'_>],
+    number: usize,
+    parts: &mut Vec<Replacement>,
+) -> Result<(), AllocError>
+    ensures adds { OnOk result (Adds (CrateParts (setting_of expander.old) LEVELS
+        (crate_at follows (map source_of files.now) number) (state_of expander.old))
+        (map part_of parts.old.items) (map part_of parts.new.items) (state_of expander.new)) }
+    ensures setting { OnOk result (setting_of expander.new ≡ setting_of expander.old) }
+{
+    match files.get(number) {
+        Some(root) => {
+            let mut more = crate_parts(alloc, follows, notes, expander, files, number, root)?;
+            parts.append(&mut more)
+        }
+        None => Ok(()),
+    }
+}
+
+/// What replaces the calls in the crates whose roots are the first so many files, one crate after another.
+pub fn crates_parts(
+    alloc: Global,
+    follows: bool,
+    notes: &mut Vec<Note>,
+    expander: &mut Expander<'_>,
+    files: &[SourceFile<'_>],
+    given: usize,
+) -> Result<Vec<Replacement>, AllocError>
+    ensures { IfOk result (λ v. CratesParts (setting_of expander.old) LEVELS follows
+        (map source_of files.now) (state_of expander.old) given (map part_of v.items)
+        (state_of expander.new)) }
+{
+    let mut parts = Vec::new(alloc);
+    for number in 0..given {
+        add_crate(alloc, follows, notes, expander, files, number, &mut parts)?;
+    }
+    Ok(parts)
+}

@@ -1,0 +1,78 @@
+// The modules of files whose content is in other files.
+ghost use Rattle.std.specs.Prelude.{IfOk, map};
+ghost use Rattle.mbe_expandm.specs.Modules.{AreModules};
+ghost use Rattle.mbe_expandm.specs.Returns.{plain};
+ghost use Rattle.mbe_following.specs.Shown.{unfound_shown};
+ghost use Rattle.mbe_modules.specs.Shown.{place_shown};
+
+use crate::files::source_file;
+use crate::reading::Reading;
+use mbe_expanding::notes::{Level, Note};
+use mbe_following::following::{Unfound, follow};
+use mbe_following::taking::Wrong;
+use mbe_modules::places::{Candidates, Place};
+use mbe_text::symbols::SymbolTable;
+use std::alloc::{AllocError, Global};
+
+/// The modules of a text whose content is in other files, where its modules are looked for at that place. `AllocError` if out of
+/// memory.
+pub fn modules_in(
+    alloc: Global,
+    reading: &Reading<'_>,
+    place: &Place,
+    text: &str,
+) -> Result<Vec<Unfound>, AllocError>
+    ensures { IfOk result (λ v. AreModules reading.now (place_shown place.now) (plain text.now)
+        (map unfound_shown v.items)) }
+{
+    let mut symbols = SymbolTable::new(alloc);
+    let mut notes = Vec::new(alloc);
+    let file = source_file(alloc, &mut symbols, &mut notes, reading, "", text, 0)?;
+    let Some(tree) = &file.tree else {
+        return Ok(Vec::new(alloc));
+    };
+    let mut unfound = Vec::new(alloc);
+    let _tree = follow(alloc, &[], &mut unfound, 0, place, tree)?;
+    Ok(unfound)
+}
+
+// The files that may hold a module, in words.
+fn candidates_text(alloc: Global, candidates: &Candidates) -> Result<String, AllocError> {
+    match candidates {
+        Candidates::Given(path) => format!(in alloc; "`{path}`"),
+        Candidates::Usual(beside, nested) => format!(in alloc; "`{beside}` or `{nested}`"),
+    }
+}
+
+// Why a module has no file, unless a note says it of the file.
+fn message(alloc: Global, unfound: &Unfound) -> Result<Option<String>, AllocError> {
+    let name = unfound.name.as_str();
+    let files = candidates_text(alloc, &unfound.candidates)?;
+    let message = match unfound.wrong {
+        Wrong::Missing => format!(in alloc; "file not found for module `{name}`: {files}")?,
+        Wrong::Both => format!(in alloc; "two files are found for module `{name}`: {files}")?,
+        Wrong::Circular => format!(in alloc;
+            "circular modules: `{name}` is in its own file {files}"
+        )?,
+        Wrong::NoRust => return Ok(None),
+    };
+    Ok(Some(message))
+}
+
+/// Notes of each module without its file why.
+pub fn note_unfound(
+    alloc: Global,
+    notes: &mut Vec<Note>,
+    unfound: &[Unfound],
+) -> Result<(), AllocError> {
+    for module in unfound {
+        if let Some(message) = message(alloc, module)? {
+            notes.push(Note {
+                level: Level::Note,
+                span: module.at,
+                message,
+            })?;
+        }
+    }
+    Ok(())
+}

@@ -1,0 +1,142 @@
+#!/usr/bin/env python3
+"""Expands small crates whose modules are in files, and asks rustc whether what comes out compiles and does the same. From the top of the repository:
+
+    python3 tools/expandm-modules.py [--keep FOLDER] [--program EXPANDM]
+
+Each crate is expanded from its main.rs by `--write`, compiled before and after, and run both times. Its macros are called x1, x2 ..; no call of them may be
+left, but for those that the crate says. Prints each crate that differs, with the reason, and then the numbers. FOLDER keeps the crates. It takes that
+EXPANDM, or one built by `rt try`, without proof.
+"""
+import os
+import re
+import subprocess
+import sys
+import tempfile
+
+TOP = os.path.dirname(os.path.dirname(os.path.abspath(__file__)))
+
+M1 = "macro_rules! x1 { () => { 1 } }\n"
+
+# By name: the files of a crate, each of which begins with `// PATH`, and how many calls of its macros stay.
+CRATES = {
+    "beside": ("// main.rs\nmod a;\nfn main() { println!(\"{}\", a::f()); }\n// a.rs\nmacro_rules! x1 { ($e:expr) => { $e * 2 } }\npub fn f() -> u8 { x1!(2 + 1) }", 0),
+    "nested": ("// main.rs\nmod a;\nfn main() { println!(\"{}\", a::f()); }\n// a/mod.rs\nmacro_rules! x1 { () => { 3 } }\npub fn f() -> u8 { x1!() }", 0),
+    "before": (f"// main.rs\n{M1}mod a;\nfn main() {{ println!(\"{{}}\", a::f() + x1!()); }}\n// a.rs\npub fn f() -> u8 {{ x1!() + 1 }}", 0),
+    "macro_use": (f"// main.rs\n#[macro_use]\nmod a;\nmod b;\nfn main() {{ println!(\"{{}}\", b::f() + x1!()); }}\n// a.rs\n{M1}\n// b.rs\npub fn f() -> u8 {{ x1!() + 1 }}", 0),
+    "macro_use_deep": (f"// main.rs\n#[macro_use]\nmod a;\nfn main() {{ println!(\"{{}}\", x1!()); }}\n// a.rs\n#[macro_use]\nmod b;\npub fn f() {{ let _ = x1!(); }}\n// a/b.rs\n{M1}", 0),
+    "shadowed": (f"// main.rs\n{M1}mod a;\nfn main() {{ println!(\"{{}} {{}}\", a::f(), x1!()); }}\n// a.rs\nmacro_rules! x1 {{ () => {{ 2 }} }}\npub fn f() -> u8 {{ x1!() }}", 0),
+    "redefined": (f"// main.rs\n{M1}mod a;\nmacro_rules! x1 {{ () => {{ 2 }} }}\nmod b;\nfn main() {{ println!(\"{{}} {{}}\", a::f(), b::f()); }}\n// a.rs\npub fn f() -> u8 {{ x1!() }}\n// b.rs\npub fn f() -> u8 {{ x1!() }}", 0),
+    "exported": (f"// main.rs\nmod a;\nmod b;\nfn main() {{ println!(\"{{}} {{}}\", crate::x1!(), b::f()); }}\n// a.rs\n#[macro_export]\n{M1}\n// b.rs\nuse crate::x1;\npub fn f() -> u8 {{ x1!() }}", 0),
+    "used": (f"// main.rs\nmod b;\nmod a;\nfn main() {{ println!(\"{{}} {{}}\", a::x1!(), b::f()); }}\n// a.rs\n{M1}pub(crate) use x1;\n// b.rs\nuse crate::a::x1;\npub fn f() -> u8 {{ x1!() }}", 0),
+    "dollar_crate": ("// main.rs\n#[macro_use]\nmod a;\nmod b;\nfn main() { println!(\"{}\", b::f()); }\n// a.rs\npub fn g() -> u8 { 5 }\nmacro_rules! x1 { () => { $crate::a::g() } }\n// b.rs\npub fn f() -> u8 { x1!() }", 0),
+    "path": (f"// main.rs\n{M1}#[path = \"x/y.rs\"]\nmod a;\nfn main() {{ println!(\"{{}}\", a::c::f()); }}\n// x/y.rs\npub mod c;\n// x/c.rs\npub fn f() -> u8 {{ x1!() }}", 0),
+    "inline": (f"// main.rs\n{M1}mod a {{ pub mod b; }}\nmod c;\nfn main() {{ println!(\"{{}} {{}}\", a::b::f(), c::d::e::f()); }}\n// a/b.rs\npub fn f() -> u8 {{ x1!() }}\n// c.rs\npub mod d {{ pub mod e; }}\n// c/d/e.rs\npub fn f() -> u8 {{ x1!() + 1 }}", 0),
+    "inline_path": (f"// main.rs\n{M1}#[path = \"w\"] mod a {{ pub mod b; #[path = \"v.rs\"] pub mod d; }}\nfn main() {{ println!(\"{{}} {{}}\", a::b::f(), a::d::f()); }}\n// w/b.rs\npub fn f() -> u8 {{ x1!() }}\n// w/v.rs\npub fn f() -> u8 {{ x1!() + 1 }}", 0),
+    "cfg": (f"// main.rs\n{M1}#[cfg(unix)] mod a;\n#[cfg(windows)] #[path = \"w.rs\"] mod a;\nfn main() {{ println!(\"{{}}\", a::f()); }}\n// a.rs\npub fn f() -> u8 {{ x1!() }}\n// w.rs\npub fn f() -> u8 {{ x1!() + 1 }}", 0),
+    "cfg_off": ("// main.rs\n#[cfg(windows)] #[macro_use] mod a;\n#[cfg(not(windows))] #[macro_use] mod b;\nfn main() { println!(\"{}\", x1!()); }\n// a.rs\nmacro_rules! x1 { () => { 7 } }\n// b.rs\nmacro_rules! x1 { () => { 8 } }", 0),
+    "inner_cfg": (f"// main.rs\n{M1}mod a;\nmod b;\nfn main() {{ println!(\"{{}}\", b::f()); }}\n// a.rs\n#![cfg(windows)]\npub fn f() -> u8 {{ x1!() }}\n// b.rs\n#![allow(dead_code)]\npub fn f() -> u8 {{ x1!() }}\n", 1),
+    "defines": ("// main.rs\n#[macro_use]\nmod a;\nx1!(x2, 4);\nmod b;\nfn main() { println!(\"{}\", b::f()); }\n// a.rs\nmacro_rules! x1 { ($n:ident, $e:expr) => { macro_rules! $n { () => { $e } } } }\n// b.rs\npub fn f() -> u8 { x2!() }", 0),
+    "items": ("// main.rs\n#[macro_use]\nmod a;\nmod b;\nfn main() { println!(\"{} {}\", b::one(), b::two()); }\n// a.rs\nmacro_rules! x1 { ($($n:ident $e:expr),*) => { $(pub fn $n() -> u8 { x2!($e) })* } }\nmacro_rules! x2 { ($e:expr) => { $e + 1 } }\n// b.rs\nx1! { one 1, two 2 }", 0),
+    "raw": (f"// main.rs\n{M1}mod r#fn;\nfn main() {{ println!(\"{{}}\", r#fn::f()); }}\n// fn.rs\npub fn f() -> u8 {{ x1!() }}", 0),
+    "twice": ("// main.rs\n#[macro_use] mod m;\n#[path = \"c.rs\"] mod a;\n#[path = \"c.rs\"] mod b;\nfn main() { println!(\"{} {}\", a::f(), b::f()); }\n// m.rs\nmacro_rules! x1 { ($e:expr) => { $e - 1 } }\n// c.rs\npub fn f() -> u8 { x1!(9) }", 0),
+    "returns": (f"// main.rs\n{M1}mod a;\r\nfn main() {{ println!(\"{{}}\", a::f()); }}\r\n// a.rs\npub fn f() -> u8 {{\r\n    x1!() // x1!()\r\n}}\r\n", 1),
+    "standard": ("// main.rs\n#[macro_use] mod a;\nmod b;\nfn main() { println!(\"{} {:?}\", x1!(), b::f()); }\n// a.rs\nmacro_rules! x1 { () => { 6u8 } }\n// b.rs\npub fn f() -> Vec<u8> { vec![x1!(), x1!()] }", 0),
+    "doc": (f"// main.rs\n//! A crate.\n{M1}/// Says.\nmod a;\nfn main() {{ println!(\"{{}}\", a::f()); }}\n// a.rs\n//! Says more.\n\n/// One.\npub fn f() -> u8 {{ x1!() }}", 0),
+}
+
+
+def files_of(text):
+    parts = re.split(r"^// (\S+\.rs)\n", text, flags=re.M)
+    return list(zip(parts[1::2], parts[2::2]))
+
+
+def write(folder, text):
+    for path, content in files_of(text):
+        os.makedirs(os.path.dirname(f"{folder}/{path}"), exist_ok=True)
+        with open(f"{folder}/{path}", "w", newline="") as it:
+            it.write(content)
+
+
+def outcome(folder):
+    """What the program prints, or why there is none."""
+    made = subprocess.run(["rustc", "--edition", "2021", "-Awarnings", "-o", f"{folder}/program", f"{folder}/main.rs"], capture_output=True, text=True)
+    if made.returncode:
+        return None, made.stderr
+    ran = subprocess.run([f"{folder}/program"], capture_output=True, text=True)
+    return (ran.returncode, ran.stdout), ran.stderr
+
+
+def expand_all(work, program):
+    """Expands each crate, and returns what was said of all."""
+    said = ""
+    words = {name: ["--write", f"{work}/after/{name}", f"{work}/before/{name}/main.rs"] for name in CRATES}
+    for name in CRATES:
+        os.makedirs(f"{work}/after/{name}", exist_ok=True)
+    if program:
+        for name in CRATES:
+            said += subprocess.run([program, *words[name]], capture_output=True, text=True).stderr
+        return said
+    os.makedirs(f"{work}/cases", exist_ok=True)
+    for name in CRATES:
+        with open(f"{work}/cases/{name}", "w") as it:
+            it.write("")
+        with open(f"{work}/cases/{name}.args", "w") as it:
+            it.write("\n".join(words[name]) + "\n")
+    return subprocess.run(["rt", "try", "--cases", f"{work}/cases"], capture_output=True, text=True, cwd=f"{TOP}/crates/expandm").stderr
+
+
+def calls_left(folder):
+    count = 0
+    for base, _, names in os.walk(folder):
+        for name in names:
+            if name.endswith(".rs"):
+                with open(f"{base}/{name}") as it:
+                    count += len(re.findall(r"\bx\d!\s*[({[]", it.read()))
+    return count
+
+
+def inside_definitions(text):
+    """Calls that are in the rules of definitions stay there."""
+    return sum(len(re.findall(r"\bx\d!\s*[({[]", line)) for line in text.splitlines() if "macro_rules!" in line)
+
+
+def wrong(work, name):
+    text, stays = CRATES[name]
+    before, why = outcome(f"{work}/before/{name}")
+    if before is None:
+        return f"rustc refuses the crate: {why}"
+    missing = [path for path, _ in files_of(text) if not os.path.exists(f"{work}/after/{name}/{path}")]
+    expected = ["w.rs"] if name == "cfg" else ["a.rs"] if name == "cfg_off" else []
+    if missing != expected:
+        return f"not written: {missing}"
+    for path in missing:
+        with open(f"{work}/after/{name}/{path}", "w") as it:
+            it.write("")
+    after, why = outcome(f"{work}/after/{name}")
+    if after != before:
+        return f"{before} becomes {after}: {why}"
+    left = calls_left(f"{work}/after/{name}") - inside_definitions(text)
+    return None if left == stays else f"{left} calls are left"
+
+
+def main(keep, program):
+    work = os.path.abspath(keep) if keep else tempfile.mkdtemp()
+    for name, (text, _) in CRATES.items():
+        write(f"{work}/before/{name}", text)
+    said = expand_all(work, program)
+    differs = 0
+    for name in CRATES:
+        why = wrong(work, name)
+        if why:
+            differs += 1
+            print(f"{name}: {why}")
+    if differs:
+        print(said, file=sys.stderr)
+    print(f"{len(CRATES)} crates, {differs} differ")
+    sys.exit(differs > 0)
+
+
+if __name__ == "__main__":
+    words = sys.argv[1:]
+    options = dict(zip(words[::2], words[1::2]))
+    main(options.get("--keep"), options.get("--program"))
