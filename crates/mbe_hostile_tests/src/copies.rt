@@ -1,9 +1,8 @@
 // Copies of errors, of macros and of results while each request for memory is refused in turn.
-use crate::reading::{lexed, parsed};
+use crate::reading::defined;
 use crate::requests::{Ended, Work, refusals};
 use mbe::{ExpandErrorKind, ParseError, ValueResult};
 use std::alloc::{AllocError, Allocator, Global};
-use std::test::Fail;
 
 /// An error that is copied, with the text that it holds.
 #[derive(Clone, Copy)]
@@ -36,6 +35,34 @@ fn copied_kind<A: Allocator + Copy>(
     }
 }
 
+impl Copied {
+    // How the error with the one text is copied; that with the other is equal to it.
+    fn copied<A: Allocator + Copy>(self, alloc: A, one: String<A>, two: String<A>) -> Ended {
+        match self {
+            Copied::Unexpected(_) => copied_fault(
+                alloc,
+                &ParseError::UnexpectedToken(one),
+                &ParseError::UnexpectedToken(two),
+            ),
+            Copied::Expected(_) => copied_fault(
+                alloc,
+                &ParseError::Expected(one),
+                &ParseError::Expected(two),
+            ),
+            Copied::Binding(_) => copied_kind(
+                alloc,
+                &ExpandErrorKind::BindingError(one),
+                &ExpandErrorKind::BindingError(two),
+            ),
+            Copied::Unresolved(_) => copied_kind(
+                alloc,
+                &ExpandErrorKind::UnresolvedBinding(one),
+                &ExpandErrorKind::UnresolvedBinding(two),
+            ),
+        }
+    }
+}
+
 impl Work for Copied {
     fn ended<A: Allocator + Copy>(&self, _global: Global, alloc: A) -> Result<Ended, AllocError> {
         let (Copied::Unexpected(text)
@@ -44,27 +71,7 @@ impl Work for Copied {
         | Copied::Unresolved(text)) = *self;
         let one = String::from_str(alloc, text)?;
         let two = String::from_str(alloc, text)?;
-        Ok(match self {
-            Copied::Unexpected(_) => {
-                let (one, two) = (
-                    ParseError::UnexpectedToken(one),
-                    ParseError::UnexpectedToken(two),
-                );
-                copied_fault(alloc, &one, &two)
-            }
-            Copied::Expected(_) => {
-                let (one, two) = (ParseError::Expected(one), ParseError::Expected(two));
-                copied_fault(alloc, &one, &two)
-            }
-            Copied::Binding(_) => {
-                let one = ExpandErrorKind::BindingError(one);
-                copied_kind(alloc, &one, &ExpandErrorKind::BindingError(two))
-            }
-            Copied::Unresolved(_) => {
-                let one = ExpandErrorKind::UnresolvedBinding(one);
-                copied_kind(alloc, &one, &ExpandErrorKind::UnresolvedBinding(two))
-            }
-        })
+        Ok(self.copied(alloc, one, two))
     }
 }
 
@@ -76,11 +83,10 @@ static ERRORS: [Copied; 4] = [
 ];
 
 #[test]
-fn errors_are_copied_or_refused(rt: HostRuntime) -> Result<(), Fail> {
+fn errors_are_copied_or_refused(rt: HostRuntime) {
     for (row, work) in ERRORS.iter().enumerate() {
         assert!(rt; refusals(rt.alloc(), work).unwrap_or(0) > 0, "row {row}");
     }
-    Ok(())
 }
 
 /// A macro that is copied, of this definition.
@@ -89,9 +95,8 @@ struct Rules(&'static str);
 
 impl Work for Rules {
     fn ended<A: Allocator + Copy>(&self, _global: Global, alloc: A) -> Result<Ended, AllocError> {
-        let definition = lexed(alloc, 0, self.0)?;
-        let rules = parsed(alloc, &definition)?;
-        let before = parsed(alloc, &definition)?;
+        let rules = defined(alloc, self.0)?;
+        let before = defined(alloc, self.0)?;
         let copy = rules.try_clone(alloc);
         let is_unchanged = rules == before;
         Ok(match copy {
@@ -108,10 +113,9 @@ const EVERY_FORM: &str =
     ${concat(a, $a, 1)} $$ $crate $}; () => {}; x";
 
 #[test]
-fn macros_are_copied_or_refused(rt: HostRuntime) -> Result<(), Fail> {
+fn macros_are_copied_or_refused(rt: HostRuntime) {
     let count = refusals(rt.alloc(), &Rules(EVERY_FORM)).unwrap_or(0);
     assert!(rt; count > 10, "only {count} requests");
-    Ok(())
 }
 
 /// A number whose clones ask for memory.
@@ -143,28 +147,37 @@ enum Copying {
     Whole,
 }
 
+fn is_whole<A: Allocator + Copy>(value: u32, err: Option<Costly<A>>) -> bool {
+    match err {
+        Some(err) => value == 3 && err.number == 4,
+        None => false,
+    }
+}
+
 impl Work for Copying {
     fn ended<A: Allocator + Copy>(&self, _global: Global, alloc: A) -> Result<Ended, AllocError> {
         let result = ValueResult::new(3u32, Costly { alloc, number: 4 });
         let copied = match self {
-            Copying::Lent => result.as_ref().map(|lent| (*lent.value, lent.err)),
-            Copying::Whole => result.try_clone().map(|copy| (copy.value, copy.err)),
+            Copying::Lent => match result.as_ref() {
+                Ok(lent) => Some(is_whole(*lent.value, lent.err)),
+                Err(AllocError) => None,
+            },
+            Copying::Whole => match result.try_clone() {
+                Ok(copy) => Some(is_whole(copy.value, copy.err)),
+                Err(AllocError) => None,
+            },
         };
-        let is_unchanged = result.value == 3 && result.err.is_some_and(|err| err.number == 4);
+        let is_unchanged = is_whole(result.value, result.err);
         Ok(match copied {
-            Ok((value, err)) => {
-                let is_equal = value == 3 && err.is_some_and(|err| err.number == 4);
-                Ended::answered(is_equal && is_unchanged)
-            }
-            Err(AllocError) => Ended::refused(is_unchanged),
+            Some(is_equal) => Ended::answered(is_equal && is_unchanged),
+            None => Ended::refused(is_unchanged),
         })
     }
 }
 
 #[test]
-fn results_are_copied_or_refused(rt: HostRuntime) -> Result<(), Fail> {
+fn results_are_copied_or_refused(rt: HostRuntime) {
     for (row, work) in [Copying::Lent, Copying::Whole].iter().enumerate() {
         assert!(rt; refusals(rt.alloc(), work) == Some(1), "row {row}");
     }
-    Ok(())
 }

@@ -2,19 +2,18 @@
 ghost use Rattle.mbe.specs.Macro.{IsChecked};
 ghost use Rattle.mbe.specs.MacroViews.{macro_of};
 
-use crate::reading::{lexed, parsed, printed};
+use crate::reading::{defined, lexed, printed};
 use crate::requests::{Ended, Work, refusals};
-use crate::rows::{ROWS, Row};
+use crate::rows::{Row, rows};
 use mbe::{
-    DeclarativeMacro, ExpandResult, MacroCallStyle, MatchedArmIndex, ParseError, Verdict,
-    expect_fragment,
+    DeclarativeMacro, ExpandError, ExpandResult, MacroCallStyle, MatchedArmIndex, ParseError,
+    Verdict, expect_fragment,
 };
 use mbe_grammar::SampleGrammar;
 use mbe_tt::grammar::PrefixEntryPoint;
 use mbe_tt::span::DelimSpan;
 use mbe_tt::tt::TopSubtree;
 use std::alloc::{AllocError, Allocator, Global};
-use std::test::Fail;
 
 type Expansion<A> = ExpandResult<(TopSubtree<A>, MatchedArmIndex), A>;
 
@@ -46,14 +45,27 @@ fn is_shown<A: Allocator>(
 ) -> Result<bool, AllocError> {
     let mut shown = String::new(global);
     if let Some(error) = &expansion.err {
-        let span = error.inner.0;
-        let (file, start, end) = (span.file, span.start, span.end);
-        shown = format!(in global; "error: {error} at {file}@{start}..{end}\n")?;
+        push_error(&mut shown, error)?;
     }
     let (tree, arm) = &expansion.value;
-    let tree = printed(global, tree)?;
-    let shown = format!(in global; "{shown}arm {}\n{tree}", arm.unwrap_or(u32::MAX))?;
+    writeln!(shown, "arm {}", arm.unwrap_or(u32::MAX))?;
+    push_printed(global, &mut shown, tree)?;
     Ok(shown.as_str() == want)
+}
+
+fn push_error<A: Allocator>(shown: &mut String, error: &ExpandError<A>) -> Result<(), AllocError> {
+    let span = error.inner.0;
+    let (file, start, end) = (span.file, span.start, span.end);
+    writeln!(shown, "error: {error} at {file}@{start}..{end}")
+}
+
+fn push_printed<A: Allocator>(
+    global: Global,
+    shown: &mut String,
+    tree: &TopSubtree<A>,
+) -> Result<(), AllocError> {
+    let tree = printed(global, tree)?;
+    shown.push_str(tree.as_str())
 }
 
 /// The expansion of a row. The macro and the argument equal copies made before, and expand once more as the row says.
@@ -63,27 +75,50 @@ struct Expanding(&'static Row);
 impl Work for Expanding {
     fn ended<A: Allocator + Copy>(&self, global: Global, alloc: A) -> Result<Ended, AllocError> {
         let (definition, argument, _status, want) = *self.0;
-        let rules = parsed(alloc, &lexed(alloc, 0, definition)?)?;
+        let rules = defined(alloc, definition)?;
         let argument = lexed(alloc, 1, argument)?;
-        let before = (rules.try_clone(alloc)?, argument.try_clone()?);
-        let first = expanded(alloc, &rules, &argument);
-        let is_unchanged = rules == before.0 && argument == before.1;
-        let again = expanded(alloc, &rules, &argument)?;
-        let is_right = is_unchanged && is_shown(global, &again, want)?;
-        Ok(match first {
-            Ok(first) => Ended::answered(is_right && is_shown(global, &first, want)?),
-            Err(AllocError) => Ended::refused(is_right),
-        })
+        let (first, is_unchanged) = first_expanded(alloc, &rules, &argument)?;
+        let is_right = is_unchanged && expands(global, alloc, &rules, &argument, want)?;
+        match first {
+            Ok(first) => Ok(Ended::answered(is_right && is_shown(global, &first, want)?)),
+            Err(AllocError) => Ok(Ended::refused(is_right)),
+        }
     }
 }
 
+// The expansion, and whether the macro and the argument equal copies made before.
+fn first_expanded<A: Allocator + Copy>(
+    alloc: A,
+    rules: &DeclarativeMacro<A>,
+    argument: &TopSubtree<A>,
+) -> Result<(Result<Expansion<A>, AllocError>, bool), AllocError> {
+    let rules_before = rules.try_clone(alloc)?;
+    let argument_before = argument.try_clone()?;
+    let first = expanded(alloc, rules, argument);
+    Ok((
+        first,
+        *rules == rules_before && *argument == argument_before,
+    ))
+}
+
+// Whether that is the expansion.
+fn expands<A: Allocator + Copy>(
+    global: Global,
+    alloc: A,
+    rules: &DeclarativeMacro<A>,
+    argument: &TopSubtree<A>,
+    want: &str,
+) -> Result<bool, AllocError> {
+    let expansion = expanded(alloc, rules, argument)?;
+    is_shown(global, &expansion, want)
+}
+
 #[test]
-fn each_request_of_an_expansion_refused(rt: HostRuntime) -> Result<(), Fail> {
-    for row in &ROWS {
+fn each_request_of_an_expansion_refused(rt: HostRuntime) {
+    for row in rows() {
         let count = refusals(rt.alloc(), &Expanding(row));
         assert!(rt; count.unwrap_or(0) > 3, "{}", row.0);
     }
-    Ok(())
 }
 
 /// A fragment that the grammar refuses. The iterator is where it was, and is asked once more.
@@ -96,22 +131,24 @@ impl Work for Fragment {
         let mut iter = argument.iter();
         let entry = PrefixEntryPoint::Expr;
         let around = DelimSpan::from_single(argument.top_subtree().delimiter.opening);
-        let first = expect_fragment(alloc, &SampleGrammar, &mut iter, entry, around);
-        if let Ok(first) = first {
-            let left = iter.remaining().len();
-            let is_so = first.err.is_some() && first.value.len() == 0 && left == 3;
-            return Ok(Ended::answered(is_so));
+        match expect_fragment(alloc, &SampleGrammar, &mut iter, entry, around) {
+            Ok(first) => {
+                let left = iter.remaining().len();
+                let is_so = first.err.is_some() && first.value.len() == 0 && left == 3;
+                Ok(Ended::answered(is_so))
+            }
+            Err(AllocError) => {
+                let is_unmoved = iter.remaining() == argument.iter().remaining();
+                let again = expect_fragment(alloc, &SampleGrammar, &mut iter, entry, around)?;
+                Ok(Ended::refused(is_unmoved && again.err.is_some()))
+            }
         }
-        let is_unmoved = iter.remaining() == argument.iter().remaining();
-        let again = expect_fragment(alloc, &SampleGrammar, &mut iter, entry, around)?;
-        Ok(Ended::refused(is_unmoved && again.err.is_some()))
     }
 }
 
 #[test]
-fn each_request_of_a_fragment_refused(rt: HostRuntime) -> Result<(), Fail> {
+fn each_request_of_a_fragment_refused(rt: HostRuntime) {
     assert!(rt; refusals(rt.alloc(), &Fragment).unwrap_or(0) > 1);
-    Ok(())
 }
 
 // The verdict of each rule on the argument, in order.
@@ -140,17 +177,27 @@ struct Explaining {
 
 impl Work for Explaining {
     fn ended<A: Allocator + Copy>(&self, _global: Global, alloc: A) -> Result<Ended, AllocError> {
-        let rules = parsed(alloc, &lexed(alloc, 0, self.definition)?)?;
+        let rules = defined(alloc, self.definition)?;
         let argument = lexed(alloc, 1, self.argument)?;
         let before = rules.try_clone(alloc)?;
-        let first = explained(alloc, &rules, &argument);
-        let again = explained(alloc, &rules, &argument)?;
-        let is_right = rules == before && again.as_slice() == self.verdicts;
+        let first = explains(alloc, &rules, &argument, self.verdicts);
+        let is_right = explains(alloc, &rules, &argument, self.verdicts)? && rules == before;
         Ok(match first {
-            Ok(first) => Ended::answered(is_right && first.as_slice() == self.verdicts),
+            Ok(is_so) => Ended::answered(is_right && is_so),
             Err(AllocError) => Ended::refused(is_right),
         })
     }
+}
+
+// Whether those are the verdicts.
+fn explains<A: Allocator + Copy>(
+    alloc: A,
+    rules: &DeclarativeMacro<A>,
+    argument: &TopSubtree<A>,
+    want: &[Verdict],
+) -> Result<bool, AllocError> {
+    let verdicts = explained(alloc, rules, argument)?;
+    Ok(verdicts.as_slice() == want)
 }
 
 // The first rule is ambiguous, the second fits. Each list of positions of a match is a request.
@@ -161,7 +208,6 @@ static EXPLAINED: Explaining = Explaining {
 };
 
 #[test]
-fn each_request_of_verdicts_refused(rt: HostRuntime) -> Result<(), Fail> {
+fn each_request_of_verdicts_refused(rt: HostRuntime) {
     assert!(rt; refusals(rt.alloc(), &EXPLAINED).unwrap_or(0) > 2);
-    Ok(())
 }

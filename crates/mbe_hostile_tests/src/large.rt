@@ -1,6 +1,7 @@
 // Definitions and arguments of thousands of tokens, with the memory that they take.
 use crate::rows::ran;
-use std::alloc::Global;
+use crate::texts::push_many;
+use std::alloc::{AllocError, Global};
 use std::test::Fail;
 use std::time::{Duration, Instant};
 
@@ -11,60 +12,107 @@ fn prints(alloc: Global, (def, arg): (&str, &str), (status, want): (u8, &str)) -
     outcome.status() == status && out.as_slice() == want.as_bytes()
 }
 
+// What is printed first: the rule, and the group around what is written, of an argument of so many bytes.
+fn push_front(want: &mut String, end: usize) -> Result<(), AllocError> {
+    writeln!(want, "arm 0\nSUBTREE $$ 1@0..{end} 1@0..{end}")
+}
+
+// A line that ends with the place of that byte of the argument.
+fn push_line(want: &mut String, line: &str, start: usize) -> Result<(), AllocError> {
+    writeln!(want, "{line} 1@{start}..{}", start.saturating_add(1))
+}
+
 // So many times `a = 1 + 2;`, which is six tokens.
 const STATEMENTS: usize = 850;
 
+// What is printed of a statement, and which of its bytes each line is of.
+static STATEMENT: [(&str, usize); 4] = [
+    ("  IDENT   a", 0),
+    (
+        "  PUNCH   : [alone] 0@34..35\n  SUBTREE () 0@37..38 0@37..38\n    LITERAL Integer 1",
+        4,
+    ),
+    ("    PUNCH   + [alone]", 6),
+    ("    LITERAL Integer 2", 8),
+];
+
 // What is printed of the statement that begins at that byte.
-fn statement(alloc: Global, start: usize) -> Result<String, Fail> {
-    let at = |place: usize| start.saturating_add(place);
-    let word = format!(in alloc; "  IDENT   a 1@{start}..{}\n", at(1))?;
-    let one = format!(in alloc; "    LITERAL Integer 1 1@{}..{}\n", at(4), at(5))?;
-    let plus = format!(in alloc; "    PUNCH   + [alone] 1@{}..{}\n", at(6), at(7))?;
-    let two = format!(in alloc; "    LITERAL Integer 2 1@{}..{}\n", at(8), at(9))?;
-    let around = "  SUBTREE () 0@37..38 0@37..38\n";
-    Ok(format!(in alloc; "{word}  PUNCH   : [alone] 0@34..35\n{around}{one}{plus}{two}")?)
+fn push_statement(want: &mut String, start: usize) -> Result<(), AllocError> {
+    for (line, place) in &STATEMENT {
+        push_line(want, line, start.saturating_add(*place))?;
+    }
+    Ok(())
+}
+
+fn push_statements(want: &mut String, end: usize) -> Result<(), AllocError> {
+    push_front(want, end)?;
+    for number in 0..STATEMENTS {
+        push_statement(want, number.saturating_mul(10))?;
+    }
+    writeln!(want, "  LITERAL Integer {STATEMENTS} 1@0..{end}")
+}
+
+fn are_statements(alloc: Global) -> bool {
+    let definition = "($($k:ident = $e:expr;)*) => {$($k: $e)* ${count($k)}}";
+    let Ok(argument) = "a = 1 + 2;".repeat(alloc, STATEMENTS) else {
+        return false;
+    };
+    let mut want = String::new(alloc);
+    push_statements(&mut want, argument.len()).is_ok()
+        && prints(alloc, (definition, argument.as_str()), (0, want.as_str()))
 }
 
 // 5,100 tokens of an argument, each of which is lexed, matched, bound, written and printed.
 #[test]
-fn an_argument_of_five_thousand_tokens(rt: HostRuntime) -> Result<(), Fail> {
-    let alloc = rt.alloc();
-    let definition = "($($k:ident = $e:expr;)*) => {$($k: $e)* ${count($k)}}";
-    let argument = "a = 1 + 2;".repeat(alloc, STATEMENTS)?;
-    let end = argument.len();
-    let mut want = format!(in alloc; "arm 0\nSUBTREE $$ 1@0..{end} 1@0..{end}\n")?;
-    for number in 0..STATEMENTS {
-        want.push_str(statement(alloc, number.saturating_mul(10))?.as_str())?;
-    }
-    let count = format!(in alloc; "  LITERAL Integer {STATEMENTS} 1@0..{end}\n")?;
-    want.push_str(count.as_str())?;
-    let texts = (definition, argument.as_str());
-    assert!(rt; prints(alloc, texts, (0, want.as_str())));
-    Ok(())
+fn an_argument_of_five_thousand_tokens(rt: HostRuntime) {
+    assert!(rt; are_statements(rt.alloc()));
 }
 
 const NAMES: usize = 1_250;
 
+// So many names, each with that after it.
+fn push_names(text: &mut String, after: &str) -> Result<(), AllocError> {
+    for number in 0..NAMES {
+        write!(text, "$x{number}{after}")?;
+    }
+    Ok(())
+}
+
+fn push_definition(text: &mut String) -> Result<(), AllocError> {
+    text.push_str("(")?;
+    push_names(text, ":ident ")?;
+    text.push_str(") => {")?;
+    push_names(text, " ")?;
+    text.push_str("}")
+}
+
+fn push_words(want: &mut String, end: usize) -> Result<(), AllocError> {
+    push_front(want, end)?;
+    for number in 0..NAMES {
+        push_line(want, "  IDENT   a", number.saturating_mul(2))?;
+    }
+    Ok(())
+}
+
+fn are_names(alloc: Global) -> bool {
+    let Ok(argument) = "a ".repeat(alloc, NAMES) else {
+        return false;
+    };
+    let mut definition = String::new(alloc);
+    let mut want = String::new(alloc);
+    push_definition(&mut definition).is_ok()
+        && push_words(&mut want, argument.len()).is_ok()
+        && prints(
+            alloc,
+            (definition.as_str(), argument.as_str()),
+            (0, want.as_str()),
+        )
+}
+
 // 5,000 tokens of a pattern that binds 1,250 names, and a template that writes them.
 #[test]
-fn a_definition_of_five_thousand_tokens(rt: HostRuntime) -> Result<(), Fail> {
-    let alloc = rt.alloc();
-    let mut pattern = String::new(alloc);
-    let mut template = String::new(alloc);
-    let end = NAMES.saturating_mul(2);
-    let mut want = format!(in alloc; "arm 0\nSUBTREE $$ 1@0..{end} 1@0..{end}\n")?;
-    for number in 0..NAMES {
-        pattern.push_str(format!(in alloc; "$x{number}:ident ")?.as_str())?;
-        template.push_str(format!(in alloc; "$x{number} ")?.as_str())?;
-        let start = number.saturating_mul(2);
-        let line = format!(in alloc; "  IDENT   a 1@{start}..{}\n", start.saturating_add(1))?;
-        want.push_str(line.as_str())?;
-    }
-    let definition = format!(in alloc; "({pattern}) => {{{template}}}")?;
-    let argument = "a ".repeat(alloc, NAMES)?;
-    let texts = (definition.as_str(), argument.as_str());
-    assert!(rt; prints(alloc, texts, (0, want.as_str())));
-    Ok(())
+fn a_definition_of_five_thousand_tokens(rt: HostRuntime) {
+    assert!(rt; are_names(rt.alloc()));
 }
 
 // Each pattern is a single fragment, which takes a million links and what follows them.
@@ -76,31 +124,47 @@ static CHAINS: [(&str, &str, &str); 5] = [
     ("($e:expr) => {}", "break ", ""),
 ];
 
+fn is_one_fragment(alloc: Global, &(definition, link, tail): &(&str, &str, &str)) -> bool {
+    let Ok(mut argument) = link.repeat(alloc, 1_000_000) else {
+        return false;
+    };
+    let mut want = String::new(alloc);
+    argument.push_str(tail).is_ok()
+        && push_front(&mut want, argument.len()).is_ok()
+        && prints(alloc, (definition, argument.as_str()), (0, want.as_str()))
+}
+
 #[test]
-fn long_chains_are_one_fragment(rt: HostRuntime) -> Result<(), Fail> {
-    let alloc = rt.alloc();
-    for &(definition, link, tail) in &CHAINS {
-        let links = link.repeat(alloc, 1_000_000)?;
-        let argument = format!(in alloc; "{links}{tail}")?;
-        let end = argument.len();
-        let want = format!(in alloc; "arm 0\nSUBTREE $$ 1@0..{end} 1@0..{end}\n")?;
-        let texts = (definition, argument.as_str());
-        assert!(rt; prints(alloc, texts, (0, want.as_str())), "{link}");
+fn long_chains_are_one_fragment(rt: HostRuntime) {
+    for chain in &CHAINS {
+        assert!(rt; is_one_fragment(rt.alloc(), chain), "{}", chain.1);
     }
-    Ok(())
+}
+
+fn push_level(text: &mut String) -> Result<(), AllocError> {
+    text.push_str("$(")?;
+    push_many(text, "$v:vis ", 100)
+}
+
+fn push_levels(text: &mut String) -> Result<(), AllocError> {
+    text.push_str("(")?;
+    for _level in 0..256 {
+        push_level(text)?;
+    }
+    push_many(text, ")*", 256)?;
+    text.push_str(") => {}")
+}
+
+fn is_refused(alloc: Global) -> bool {
+    let mut definition = String::new(alloc);
+    push_levels(&mut definition).is_ok() && prints(alloc, (definition.as_str(), ""), (2, ""))
 }
 
 // A check that looked at each body twice from the repetition around it would never end.
 #[test]
 fn nested_repetitions_that_can_be_empty_are_refused_at_once(rt: HostRuntime) -> Result<(), Fail> {
-    let alloc = rt.alloc();
-    let body = "$v:vis ".repeat(alloc, 100)?;
-    let level = format!(in alloc; "$({body}")?;
-    let openings = level.as_str().repeat(alloc, 256)?;
-    let closings = ")*".repeat(alloc, 256)?;
-    let definition = format!(in alloc; "({openings}{closings}) => {{}}")?;
     let start = Instant::now(&rt)?;
-    assert!(rt; prints(alloc, (definition.as_str(), ""), (2, "")));
+    assert!(rt; is_refused(rt.alloc()));
     let time = start.elapsed(&rt)?;
     assert!(rt; time < Duration::from_secs(6), "{time:?}");
     Ok(())

@@ -21,6 +21,8 @@ mod requests;
 #[cfg(test)]
 mod rows;
 #[cfg(test)]
+mod texts;
+#[cfg(test)]
 mod trees;
 #[cfg(test)]
 mod writers;

@@ -68,6 +68,15 @@ impl<'a> Machine<'a> {
         (self.out.into_inner(), self.err.into_inner())
     }
 
+    // The word of that number; the first is the program's name.
+    fn word(&self, number: usize) -> Option<&'a str> {
+        if number == 0 {
+            Some("mbex")
+        } else {
+            self.words.split_whitespace().nth(number - 1)
+        }
+    }
+
     // Adds the bytes to what was written.
     fn append(&self, to: &Cell<Vec<u8>>, bytes: &[u8]) -> io::Result<()> {
         let mut all = to.replace(Vec::new(self.alloc));
@@ -88,8 +97,9 @@ impl Alloc for Machine<'_> {
 
 impl Env for Machine<'_> {
     fn arg(&self, i: usize, buf: &mut [u8]) -> Result<usize, FillError> {
-        let all = format!(in self.alloc; "mbex {}", self.words).map_err(|_| FillError::NotPresent)?;
-        let word = all.split_whitespace().nth(i).ok_or(FillError::NotPresent)?;
+        let Some(word) = self.word(i) else {
+            return Err(FillError::NotPresent);
+        };
         let bytes = if word == "?" {
             b"\xff"
         } else {

@@ -1,13 +1,12 @@
 // Definitions that are read while each request for memory is refused in turn.
 use crate::requests::{Ended, Work, refusals};
-use crate::rows::ROWS;
+use crate::rows::{Row, rows};
 use mbe::{DeclarativeMacro, MacroCallStyle};
 use mbe_text::lexer::{LexError, lex};
 use mbe_text::printing::print_tree;
 use mbe_tt::span::Edition;
 use mbe_tt::tt::TopSubtree;
 use std::alloc::{AllocError, Allocator, Global};
-use std::test::Fail;
 
 /// The token trees of a text without fault.
 pub fn lexed<A: Allocator + Copy>(
@@ -39,6 +38,14 @@ pub fn parsed<A: Allocator + Copy>(
     definition: &TopSubtree<A>,
 ) -> Result<DeclarativeMacro<A>, AllocError> {
     DeclarativeMacro::parse_macro_rules(alloc, definition, |_context| Edition::Edition2024)
+}
+
+/// The same of a text, which is file 0.
+pub fn defined<A: Allocator + Copy>(
+    alloc: A,
+    definition: &str,
+) -> Result<DeclarativeMacro<A>, AllocError> {
+    parsed(alloc, &lexed(alloc, 0, definition)?)
 }
 
 /// What is read, and by which call.
@@ -78,9 +85,7 @@ impl Work for Reading {
         let (args, body) = self.texts();
         let args = lexed(alloc, 0, args)?;
         let body = lexed(alloc, 0, body)?;
-        let before = (args.try_clone()?, body.try_clone()?);
-        let first = self.read(alloc, &args, &body);
-        let is_unchanged = args == before.0 && body == before.1;
+        let (first, is_unchanged) = first_read(alloc, *self, &args, &body)?;
         let again = self.read(alloc, &args, &body)?;
         let is_read = is_unchanged && again.num_rules() > 0;
         Ok(match first {
@@ -88,6 +93,19 @@ impl Work for Reading {
             Err(AllocError) => Ended::refused(is_read),
         })
     }
+}
+
+// What is read, and whether the trees equal copies made before.
+fn first_read<A: Allocator + Copy>(
+    alloc: A,
+    reading: Reading,
+    args: &TopSubtree<A>,
+    body: &TopSubtree<A>,
+) -> Result<(Result<DeclarativeMacro<A>, AllocError>, bool), AllocError> {
+    let args_before = args.try_clone()?;
+    let body_before = body.try_clone()?;
+    let first = reading.read(alloc, args, body);
+    Ok((first, *args == args_before && *body == body_before))
 }
 
 // Every form of pattern and of template; then with a second rule and a fault.
@@ -109,19 +127,22 @@ static READINGS: [(Reading, u64); 4] = [
     (Reading::Body(EVERY_FORM_AND_A_FAULT), 2),
 ];
 
+fn is_refused(alloc: Global, (work, at_least): &(Reading, u64)) -> bool {
+    refusals(alloc, work).unwrap_or(0) >= *at_least
+}
+
+// Both readings of a row's definition.
+fn are_refused(alloc: Global, &(definition, ..): &Row) -> bool {
+    is_refused(alloc, &(Reading::Rules(definition), 2))
+        && is_refused(alloc, &(Reading::Body(definition), 2))
+}
+
 #[test]
-fn each_request_of_reading_refused(rt: HostRuntime) -> Result<(), Fail> {
-    for &(definition, ..) in &ROWS {
-        let rules = refusals(rt.alloc(), &Reading::Rules(definition));
-        let body = refusals(rt.alloc(), &Reading::Body(definition));
-        assert!(rt;
-            rules.unwrap_or(0) > 1 && body.unwrap_or(0) > 1,
-            "{definition}"
-        );
+fn each_request_of_reading_refused(rt: HostRuntime) {
+    for row in rows() {
+        assert!(rt; are_refused(rt.alloc(), row), "{}", row.0);
     }
-    for (row, (work, at_least)) in READINGS.iter().enumerate() {
-        let count = refusals(rt.alloc(), work);
-        assert!(rt; count.unwrap_or(0) >= *at_least, "row {row}");
+    for (row, reading) in READINGS.iter().enumerate() {
+        assert!(rt; is_refused(rt.alloc(), reading), "row {row}");
     }
-    Ok(())
 }

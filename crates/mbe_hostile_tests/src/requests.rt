@@ -3,7 +3,7 @@ use refusing::Refusing;
 use std::alloc::{AllocError, Allocator, Global};
 
 /// How a call ended.
-#[derive(Clone, Copy, PartialEq, Eq)]
+#[derive(Clone, Copy)]
 pub enum Ended {
     /// Out of memory, and what it was called on is as it was before.
     OutOfMemory,
@@ -43,17 +43,12 @@ pub fn refusals<W: Work>(alloc: Global, work: &W) -> Option<u64> {
         let refusing = Refusing::new(alloc, number);
         let ended = work.ended(alloc, &refusing);
         if !refusing.has_refused() {
-            return if ended == Ok(Ended::Answered) {
-                Some(count)
-            } else {
-                None
-            };
+            return matches!(ended, Ok(Ended::Answered)).then_some(count);
         }
-        if ended == Ok(Ended::Wrong) {
-            return None;
-        }
-        if ended == Ok(Ended::OutOfMemory) {
-            count = count.saturating_add(1);
+        match ended {
+            Ok(Ended::Wrong) => return None,
+            Ok(Ended::OutOfMemory) => count = count.saturating_add(1),
+            Ok(Ended::Answered) | Err(AllocError) => {}
         }
     }
     None

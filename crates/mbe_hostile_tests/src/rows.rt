@@ -12,7 +12,7 @@ const LIST: &str = "\n($($e:expr),* $(,)?) => {\n    $($e);* ;\n};\n";
 const SIGNS: &str =
     "\n(-1) => {-1};\n(- 2) => {- 2};\n(- 3.0) => {- 3.0};\n(@$lit:literal) => {$lit}\n";
 
-pub static ROWS: [Row; 9] = [
+static ROWS: [Row; 9] = [
     (
         "($($x:ident),*) => {$($x);*}",
         "a, b",
@@ -113,6 +113,11 @@ SUBTREE $$ 1@0..6 1@0..6
 ",
     ),
 ];
+
+/// All rows. A table is part of the proof of each function that names it, so only this one does.
+pub fn rows() -> &'static [Row] {
+    &ROWS
+}
 
 /// The run of texts shorter than 2^32 bytes, all of edition 2024.
 pub fn ran<A: Allocator + Copy, W: Write>(

@@ -1,6 +1,7 @@
 // The calls of `mbe_tt` that take memory, and what their builders hold where it is refused.
 use crate::reading::{lexed, printed};
 use crate::requests::{Ended, Work, refusals};
+use crate::texts::push_many;
 use mbe_text::scanner::file_span;
 use mbe_tt::span::{DelimSpan, Span};
 use mbe_tt::symbol::Symbol;
@@ -9,7 +10,6 @@ use mbe_tt::tt::{
     TopSubtreeBuilder,
 };
 use std::alloc::{AllocError, Allocator, Global};
-use std::test::Fail;
 
 fn whole() -> Span {
     file_span(1, 0, 9)
@@ -83,23 +83,43 @@ fn write<A: Allocator + Copy>(
     }
 }
 
+// What the call did with a builder that holds so many words, and what the builder holds after it.
+fn written<A: Allocator + Copy>(
+    alloc: A,
+    call: Call,
+    count: usize,
+) -> Result<(Result<(), AllocError>, TopSubtree<A>), AllocError> {
+    let source = lexed(alloc, 2, "+;")?;
+    let leaves = words(alloc, 3)?;
+    let mut builder = held(alloc, count)?;
+    let Some(front) = source.iter().next_as_view() else {
+        return Err(AllocError);
+    };
+    let written = write(&mut builder, call, leaves, front);
+    Ok((written, finish(builder)))
+}
+
+// Whether so many words and those lines are printed of the tree.
+fn is_printed<A: Allocator>(
+    global: Global,
+    tree: &TopSubtree<A>,
+    count: usize,
+    adds: &str,
+) -> Result<bool, AllocError> {
+    let mut want = String::from_str(global, "SUBTREE $$ 1@0..9 1@0..9\n")?;
+    push_many(&mut want, "  IDENT   x 1@0..1\n", count)?;
+    want.push_str(adds)?;
+    let shown = printed(global, tree)?;
+    Ok(shown == want)
+}
+
 impl Work for Writing {
     fn ended<A: Allocator + Copy>(&self, global: Global, alloc: A) -> Result<Ended, AllocError> {
-        let source = lexed(alloc, 2, "+;")?;
-        let Some(front) = source.iter().next_as_view() else {
-            return Ok(Ended::Wrong);
-        };
-        let leaves = words(alloc, 3)?;
-        let mut builder = held(alloc, self.count)?;
-        let written = write(&mut builder, self.call, leaves, front);
-        let before = "  IDENT   x 1@0..1\n".repeat(global, self.count)?;
-        let shown = printed(global, &finish(builder))?;
-        let adds = if written.is_ok() { self.adds } else { "" };
-        let want = format!(in global; "SUBTREE $$ 1@0..9 1@0..9\n{before}{adds}")?;
-        Ok(match written {
-            Ok(()) => Ended::answered(shown == want),
-            Err(AllocError) => Ended::refused(shown == want),
-        })
+        let (written, tree) = written(alloc, self.call, self.count)?;
+        match written {
+            Ok(()) => Ok(Ended::answered(is_printed(global, &tree, self.count, self.adds)?)),
+            Err(AllocError) => Ok(Ended::refused(is_printed(global, &tree, self.count, "")?)),
+        }
     }
 }
 
@@ -129,11 +149,10 @@ fn refused(alloc: Global, (call, adds): (Call, &'static str)) -> Option<u64> {
 }
 
 #[test]
-fn a_refused_builder_holds_what_it_held(rt: HostRuntime) -> Result<(), Fail> {
+fn a_refused_builder_holds_what_it_held(rt: HostRuntime) {
     for (row, &call) in CALLS.iter().enumerate() {
         assert!(rt; refused(rt.alloc(), call).unwrap_or(0) > 0, "row {row}");
     }
-    Ok(())
 }
 
 /// A call that makes a value of its own.
@@ -155,37 +174,48 @@ fn make_copy<A: Allocator + Copy>(alloc: A) -> Result<Ended, AllocError> {
     }
 }
 
+fn make_symbol<A: Allocator + Copy>(alloc: A) -> Ended {
+    match Symbol::intern(alloc, "text") {
+        Ok(symbol) => Ended::answered(symbol.as_str() == "text"),
+        Err(AllocError) => Ended::OutOfMemory,
+    }
+}
+
+// A group with nothing in it is printed of the tree.
+fn is_empty<A: Allocator>(global: Global, tree: &TopSubtree<A>) -> Result<Ended, AllocError> {
+    Ok(Ended::answered(is_printed(global, tree, 0, "")?))
+}
+
+fn make_empty<A: Allocator + Copy>(global: Global, alloc: A) -> Result<Ended, AllocError> {
+    match TopSubtree::empty(alloc, DelimSpan::from_single(whole())) {
+        Ok(tree) => is_empty(global, &tree),
+        Err(AllocError) => Ok(Ended::OutOfMemory),
+    }
+}
+
+fn make_builder<A: Allocator + Copy>(global: Global, alloc: A) -> Result<Ended, AllocError> {
+    match TopSubtreeBuilder::new(alloc, Delimiter::invisible_spanned(whole())) {
+        Ok(builder) => is_empty(global, &finish(builder)),
+        Err(AllocError) => Ok(Ended::OutOfMemory),
+    }
+}
+
 impl Work for Making {
     fn ended<A: Allocator + Copy>(&self, global: Global, alloc: A) -> Result<Ended, AllocError> {
-        let made = match self {
-            Making::Symbol => {
-                return Ok(match Symbol::intern(alloc, "text") {
-                    Ok(symbol) => Ended::answered(symbol.as_str() == "text"),
-                    Err(AllocError) => Ended::OutOfMemory,
-                });
-            }
-            Making::Copy => return make_copy(alloc),
-            Making::Empty => TopSubtree::empty(alloc, DelimSpan::from_single(whole())),
-            Making::Builder => {
-                TopSubtreeBuilder::new(alloc, Delimiter::invisible_spanned(whole())).map(finish)
-            }
-        };
-        Ok(match made {
-            Ok(tree) => {
-                let shown = printed(global, &tree)?;
-                Ended::answered(shown.as_str() == "SUBTREE $$ 1@0..9 1@0..9\n")
-            }
-            Err(AllocError) => Ended::OutOfMemory,
-        })
+        match self {
+            Making::Symbol => Ok(make_symbol(alloc)),
+            Making::Copy => make_copy(alloc),
+            Making::Empty => make_empty(global, alloc),
+            Making::Builder => make_builder(global, alloc),
+        }
     }
 }
 
 static MAKINGS: [Making; 4] = [Making::Symbol, Making::Empty, Making::Builder, Making::Copy];
 
 #[test]
-fn values_are_made_or_refused(rt: HostRuntime) -> Result<(), Fail> {
+fn values_are_made_or_refused(rt: HostRuntime) {
     for (row, work) in MAKINGS.iter().enumerate() {
         assert!(rt; refusals(rt.alloc(), work).unwrap_or(0) > 0, "row {row}");
     }
-    Ok(())
 }

@@ -1,9 +1,8 @@
 // Writers that fail at each of their calls, take a little at a time, take nothing more, or hold back what isn't flushed.
-use crate::rows::{ROWS, Row, ran};
+use crate::rows::{Row, ran, rows};
 use std::alloc::{AllocError, Global};
 use std::io;
 use std::io::Write;
-use std::test::Fail;
 
 /// A writer that fails at one of its calls, counted from 1. Each write takes three bytes at most. What was written comes
 /// through once it is flushed.
@@ -56,17 +55,17 @@ fn is_broken(
     number: u64,
 ) -> Result<Option<bool>, AllocError> {
     let mut out = Slow::new(alloc, number);
-    let outcome = ran(alloc, (def, arg), &mut out);
+    let found = ran(alloc, (def, arg), &mut out).status();
     let is_flushed = out.held.is_empty();
     out.written.extend_from_slice(out.held.as_slice())?;
     let written = out.written.as_slice();
     let is_broken = out.left == 0;
     let is_so = if is_broken {
-        outcome.status() == 3 && want.as_bytes().starts_with(written)
+        found == 3 && want.as_bytes().starts_with(written)
     } else {
-        outcome.status() == status && is_flushed && written == want.as_bytes()
+        found == status && is_flushed && written == want.as_bytes()
     };
-    Ok(if is_so { Some(is_broken) } else { None })
+    Ok(is_so.then_some(is_broken))
 }
 
 // The first call of the writer that a run doesn't make. Nothing where a failed one isn't reported.
@@ -82,14 +81,19 @@ fn first_unfailed(alloc: Global, row: &Row) -> Result<Option<u64>, AllocError> {
 }
 
 // The last call that fails is a flush, after at least one write for every three bytes.
-#[test]
-fn a_writer_that_fails_is_reported(rt: HostRuntime) -> Result<(), Fail> {
-    for row in &ROWS {
-        let writes = row.3.len() / 3;
-        let number = first_unfailed(rt.alloc(), row)?.unwrap_or(0);
-        assert!(rt; number > (writes as u64).saturating_add(1), "{}", row.0);
+fn are_reported(alloc: Global, row: &Row) -> bool {
+    let writes = row.3.len() / 3;
+    match first_unfailed(alloc, row) {
+        Ok(number) => number.unwrap_or(0) > (writes as u64).saturating_add(1),
+        Err(AllocError) => false,
     }
-    Ok(())
+}
+
+#[test]
+fn a_writer_that_fails_is_reported(rt: HostRuntime) {
+    for row in rows() {
+        assert!(rt; are_reported(rt.alloc(), row), "{}", row.0);
+    }
 }
 
 /// A writer that has room for so many bytes, and takes none after them.
@@ -122,11 +126,19 @@ fn is_full(alloc: Global, &(def, arg, _, want): &Row, room: usize) -> bool {
     outcome.status() == 3 && out.room == 0 && want.as_bytes().starts_with(out.written.as_slice())
 }
 
+// The first number of bytes for which there is room and that isn't so.
+fn first_unreported(alloc: Global, row: &Row) -> Option<usize> {
+    for room in 0..row.3.len() {
+        if !is_full(alloc, row, room) {
+            return Some(room);
+        }
+    }
+    None
+}
+
 #[test]
 fn a_writer_that_takes_no_byte_is_reported(rt: HostRuntime) {
-    for row in &ROWS {
-        for room in 0..row.3.len() {
-            assert!(rt; is_full(rt.alloc(), row, room), "{} {room}", row.0);
-        }
+    for row in rows() {
+        assert!(rt; first_unreported(rt.alloc(), row).is_none(), "{}", row.0);
     }
 }

@@ -4,7 +4,6 @@ use crate::reports::SIGNS;
 use crate::rows::LIST;
 use crate::runs::{first_unwritten, prints};
 use mbe_tt::span::Edition;
-use std::test::Fail;
 
 /// A definition and an argument, and the lines.
 type Lint = ((&'static str, &'static str), &'static str);
@@ -65,7 +64,7 @@ static LINTS: [Lint; 14] = [
 
 // Each request of a run is refused once, and each write fails once.
 #[test]
-fn lints_are_printed(rt: HostRuntime) -> Result<(), Fail> {
+fn lints_are_printed(rt: HostRuntime) {
     for &(texts, want) in &LINTS {
         let is_so = prints(rt.alloc(), texts, (Edition::Edition2024, true), (want, 0));
         assert!(rt; is_so, "{}", texts.0);
@@ -77,7 +76,6 @@ fn lints_are_printed(rt: HostRuntime) -> Result<(), Fail> {
             texts.0
         );
     }
-    Ok(())
 }
 
 // Texts that come to no verdicts, and the status.
@@ -89,7 +87,7 @@ static FAILURES: [(&str, &str, u8); 4] = [
 ];
 
 #[test]
-fn what_is_refused_has_no_lines(rt: HostRuntime) -> Result<(), Fail> {
+fn what_is_refused_has_no_lines(rt: HostRuntime) {
     for &(def, arg, status) in &FAILURES {
         let how = (Edition::Edition2024, true);
         assert!(rt;
@@ -97,5 +95,4 @@ fn what_is_refused_has_no_lines(rt: HostRuntime) -> Result<(), Fail> {
             "{def} on {arg}"
         );
     }
-    Ok(())
 }

@@ -1,8 +1,9 @@
 // Worked rows: a definition, an argument, and all that is printed of them.
 use crate::runs::prints;
 use mbe_tt::span::Edition;
-use std::alloc::Global;
-use std::test::Fail;
+use std::alloc::{AllocError, Global};
+use std::fmt::Debug;
+use std::process::Abort;
 
 /// A definition and an argument, the error with its place, if there is one, the arm, and the trees of the expansion.
 pub type Row = (
@@ -12,12 +13,17 @@ pub type Row = (
     &'static str,
 );
 
+/// No row is otherwise. A failure shows the first that is.
+pub fn none<T: Debug + Drop>(rt: &impl Abort, wrong: Result<Option<T>, AllocError>) {
+    assert!(rt; matches!(wrong, Ok(None)), "{wrong:?}");
+}
+
 /// What is printed, and the status.
 pub fn printed(
     alloc: Global,
     argument: &str,
     (error, arm, trees): (&str, u32, &str),
-) -> Result<(String, u8), Fail> {
+) -> Result<(String, u8), AllocError> {
     let end = argument.len();
     let rest = format!(in alloc; "arm {arm}\nSUBTREE $$ 1@0..{end} 1@0..{end}\n{trees}")?;
     if error.is_empty() {
@@ -32,7 +38,7 @@ pub fn is_row(
     edition: Edition,
     texts: (&str, &str),
     want: (&str, u32, &str),
-) -> Result<bool, Fail> {
+) -> Result<bool, AllocError> {
     let (want, status) = printed(alloc, texts.1, want)?;
     Ok(prints(alloc, texts, (edition, false), (want.as_str(), status)))
 }
@@ -42,7 +48,7 @@ pub fn first_wrong(
     alloc: Global,
     edition: Edition,
     rows: &[Row],
-) -> Result<Option<(&'static str, &'static str)>, Fail> {
+) -> Result<Option<(&'static str, &'static str)>, AllocError> {
     for &(texts, error, arm, trees) in rows {
         if !is_row(alloc, edition, texts, (error, arm, trees))? {
             return Ok(Some(texts));
@@ -55,7 +61,7 @@ pub const LIST: &str = "\n($($e:expr),* $(,)?) => {\n    $($e);* ;\n};\n";
 
 pub const OLD_LIST: &str = "\n($($e:expr_2021),* $(,)?) => {\n    $($e);* ;\n};\n";
 
-pub static WORKED: [Row; 13] = [
+static WORKED: [Row; 13] = [
     (
         ("($($x:ident),*) => {$($x);*}", "a, b"),
         "",
@@ -206,6 +212,10 @@ pub static WORKED: [Row; 13] = [
     (("($x:foo) => {}; ($($t:tt)*) => {}", "a"), "", 1, ""),
 ];
 
+pub fn worked() -> &'static [Row] {
+    &WORKED
+}
+
 static LENGTHS: [Row; 6] = [
     (
         ("($($x:ident)*) => {$(${index()} ${len()} $x)*}", "a b"),
@@ -268,6 +278,10 @@ static LENGTHS: [Row; 6] = [
         "  LITERAL Integer 0 1@0..0\n",
     ),
 ];
+
+pub fn lengths() -> &'static [Row] {
+    &LENGTHS
+}
 
 static ROUNDS: [Row; 14] = [
     (
@@ -376,6 +390,10 @@ static ROUNDS: [Row; 14] = [
     ),
 ];
 
+pub fn rounds() -> &'static [Row] {
+    &ROUNDS
+}
+
 // A name that comes twice: the last binding, and rounds after rounds.
 static REPEATED_NAMES: [Row; 6] = [
     (
@@ -427,8 +445,12 @@ static REPEATED_NAMES: [Row; 6] = [
     ),
 ];
 
+pub fn repeated_names() -> &'static [Row] {
+    &REPEATED_NAMES
+}
+
 // The closest rule is recovered: the match ends without an only reading, or its substitution faults.
-pub static RECOVERED: [Row; 10] = [
+static RECOVERED: [Row; 10] = [
     (
         ("($($v:vis),*) => {}", ""),
         "unexpected token in input at 1@0..0",
@@ -485,6 +507,10 @@ pub static RECOVERED: [Row; 10] = [
         "  IDENT   a 0@21..27\n",
     ),
 ];
+
+pub fn recovered() -> &'static [Row] {
+    &RECOVERED
+}
 
 // The rule with fewest trees left is recovered, then the one with most bindings, then the first.
 static CLOSEST: [Row; 9] = [
@@ -550,6 +576,10 @@ static CLOSEST: [Row; 9] = [
     ),
 ];
 
+pub fn closest() -> &'static [Row] {
+    &CLOSEST
+}
+
 static STOPS: [Row; 10] = [
     // Where no position fails, the first at the pattern's end is reported.
     (
@@ -601,6 +631,10 @@ static STOPS: [Row; 10] = [
 ",
     ),
 ];
+
+pub fn stops() -> &'static [Row] {
+    &STOPS
+}
 
 static FAULTS: [Row; 12] = [
     // What comes before and after a repetition past its limit is kept.
@@ -691,20 +725,31 @@ static FAULTS: [Row; 12] = [
     ),
 ];
 
-#[test]
-fn rows_are_written_and_recovered(rt: HostRuntime) -> Result<(), Fail> {
-    let tables: [&[Row]; 8] = [
-        &WORKED,
-        &LENGTHS,
-        &ROUNDS,
-        &REPEATED_NAMES,
-        &RECOVERED,
-        &CLOSEST,
-        &STOPS,
-        &FAULTS,
-    ];
-    for rows in tables {
-        assert_eq!(rt; first_wrong(rt.alloc(), Edition::Edition2024, rows)?, None);
+pub fn faults() -> &'static [Row] {
+    &FAULTS
+}
+
+// A table is part of the proof of each function that names it, so each has one of its own.
+fn table(number: usize) -> &'static [Row] {
+    match number {
+        0 => worked(),
+        1 => lengths(),
+        2 => rounds(),
+        3 => repeated_names(),
+        4 => recovered(),
+        5 => closest(),
+        6 => stops(),
+        7 => faults(),
+        _ => &[],
     }
-    Ok(())
+}
+
+#[test]
+fn rows_are_written_and_recovered(rt: HostRuntime) {
+    for number in 0..8usize {
+        none(
+            &rt,
+            first_wrong(rt.alloc(), Edition::Edition2024, table(number)),
+        );
+    }
 }

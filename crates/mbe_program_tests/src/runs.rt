@@ -116,7 +116,7 @@ SUBTREE $$ 1@0..2 1@0..2
 ];
 
 #[test]
-fn expansions_are_printed(rt: HostRuntime) -> Result<(), Fail> {
+fn expansions_are_printed(rt: HostRuntime) {
     for &(texts, want) in &EXPANDED {
         assert!(rt;
             prints(rt.alloc(), texts, EXPANDING, (want, 0)),
@@ -124,7 +124,6 @@ fn expansions_are_printed(rt: HostRuntime) -> Result<(), Fail> {
             texts.0
         );
     }
-    Ok(())
 }
 
 // Definitions without a rule of the style of the call.
@@ -135,7 +134,7 @@ static NO_RULES: [&str; 3] = [
 ];
 
 #[test]
-fn no_rule_is_of_the_style(rt: HostRuntime) -> Result<(), Fail> {
+fn no_rule_is_of_the_style(rt: HostRuntime) {
     let want =
         "error: no rule matches input tokens at 1@0..1\narm none\nSUBTREE $$ 1@0..1 1@0..1\n";
     for &def in &NO_RULES {
@@ -144,7 +143,6 @@ fn no_rule_is_of_the_style(rt: HostRuntime) -> Result<(), Fail> {
             "{def}"
         );
     }
-    Ok(())
 }
 
 const NAMES: Options<'static> = Options {
@@ -198,28 +196,40 @@ fn ends_with(
 }
 
 #[test]
-fn failures_have_a_status_and_a_line(rt: HostRuntime) -> Result<(), Fail> {
+fn failures_have_a_status_and_a_line(rt: HostRuntime) {
     for row in &FAILURES {
-        assert!(rt; ends_with(rt.alloc(), row)?, "{} on {}", row.0, row.1);
+        assert!(rt;
+            ends_with(rt.alloc(), row).unwrap_or(false),
+            "{} on {}",
+            row.0,
+            row.1
+        );
     }
-    Ok(())
+}
+
+// Whether the status of a report is 3, with that line.
+fn has_line(alloc: Global, report: Report<'_, Global>, line: &str) -> Result<bool, AllocError> {
+    let is_so = report.status() == 3;
+    Ok(says(alloc, Some(report), line)? && is_so)
+}
+
+fn ends_in(
+    alloc: Global,
+    outcome: Outcome<Global>,
+    status: u8,
+    line: &str,
+) -> Result<bool, AllocError> {
+    Ok(says(alloc, outcome.report(&NAMES), line)? && outcome.status() == status)
 }
 
 #[test]
-fn other_failures_have_a_line(rt: HostRuntime) -> Result<(), Fail> {
+fn other_failures_have_a_line(rt: HostRuntime) {
     let usage = "usage: mbex [--lint] DEF-FILE ARG-FILE [EDITION]";
-    assert!(rt; Report::<Global>::Usage.status() == 3);
-    assert!(rt; says(rt.alloc(), Some(Report::Usage), usage)?);
     let unread = Report::CannotRead("a.b");
-    assert!(rt; unread.status() == 3);
-    assert!(rt; says(rt.alloc(), Some(unread), "cannot read a.b")?);
-    let unwritten = Outcome::<Global>::CannotWrite;
-    assert!(rt; unwritten.status() == 3);
-    assert!(rt; says(rt.alloc(), unwritten.report(&NAMES), "cannot write")?);
-    let out_of_memory = Outcome::<Global>::OutOfMemory;
-    assert!(rt; out_of_memory.status() == 5);
-    assert!(rt; says(rt.alloc(), out_of_memory.report(&NAMES), "out of memory")?);
-    Ok(())
+    assert!(rt; has_line(rt.alloc(), Report::Usage, usage).unwrap_or(false));
+    assert!(rt; has_line(rt.alloc(), unread, "cannot read a.b").unwrap_or(false));
+    assert!(rt; ends_in(rt.alloc(), Outcome::CannotWrite, 3, "cannot write").unwrap_or(false));
+    assert!(rt; ends_in(rt.alloc(), Outcome::OutOfMemory, 5, "out of memory").unwrap_or(false));
 }
 
 static WORDS: [(&str, Option<(bool, Edition)>); 15] = [
@@ -240,7 +250,7 @@ static WORDS: [(&str, Option<(bool, Edition)>); 15] = [
     ("--lint d a 2018 x", None),
 ];
 
-fn words_of(alloc: Global, text: &str) -> Result<Vec<String>, Fail> {
+fn words_of(alloc: Global, text: &str) -> Result<Vec<String>, AllocError> {
     let mut words = Vec::new(alloc);
     for word in text.split_whitespace() {
         words.push(String::from_str(alloc, word)?)?;
@@ -248,19 +258,28 @@ fn words_of(alloc: Global, text: &str) -> Result<Vec<String>, Fail> {
     Ok(words)
 }
 
-#[test]
-fn words_name_files_and_an_edition(rt: HostRuntime) -> Result<(), Fail> {
-    for (text, edition) in &WORDS {
-        let words = words_of(rt.alloc(), text)?;
-        let want = edition.map(|(lint, edition)| Options {
+fn are_named(alloc: Global, text: &str, want: Option<(bool, Edition)>) -> Result<bool, AllocError> {
+    let words = words_of(alloc, text)?;
+    let want = match want {
+        Some((lint, edition)) => Some(Options {
             lint,
             def: "d",
             arg: "a",
             edition,
-        });
-        assert!(rt; options(words.as_slice()) == want, "{text}");
+        }),
+        None => None,
+    };
+    Ok(options(words.as_slice()) == want)
+}
+
+#[test]
+fn words_name_files_and_an_edition(rt: HostRuntime) {
+    for (text, want) in &WORDS {
+        assert!(rt;
+            are_named(rt.alloc(), text, *want).unwrap_or(false),
+            "{text}"
+        );
     }
-    Ok(())
 }
 
 // The words, and the status. The running program's own file isn't UTF-8.
@@ -334,10 +353,9 @@ pub fn first_unwritten(alloc: Global, texts: (&str, &str), lint: bool, want: &st
 
 // One for each of the six lines, and the flush.
 #[test]
-fn a_failed_write_is_reported(rt: HostRuntime) -> Result<(), Fail> {
+fn a_failed_write_is_reported(rt: HostRuntime) {
     let number = first_unwritten(rt.alloc(), PAIR, false, PAIR_OUTPUT);
     assert!(rt; number.unwrap_or(0) > 7, "{number:?}");
-    Ok(())
 }
 
 /// Whether a run of any texts ends as runs do.
@@ -371,7 +389,7 @@ fn first_endless(alloc: Global, (def, arg): (&str, &str)) -> Option<usize> {
 }
 
 #[test]
-fn every_prefix_of_a_text_ends(rt: HostRuntime) -> Result<(), Fail> {
+fn every_prefix_of_a_text_ends(rt: HostRuntime) {
     for texts in [
         PAIR,
         STRUCT,
@@ -379,5 +397,4 @@ fn every_prefix_of_a_text_ends(rt: HostRuntime) -> Result<(), Fail> {
     ] {
         assert_eq!(rt; first_endless(rt.alloc(), texts), None);
     }
-    Ok(())
 }

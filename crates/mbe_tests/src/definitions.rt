@@ -1,10 +1,9 @@
 // Faults of definitions: how many rules are kept, and the error.
-use crate::runs::defined;
+use crate::runs::{defined, none};
 use crate::trees::lexed;
 use mbe::{DeclarativeMacro, ParseError};
 use mbe_tt::span::Edition;
 use std::alloc::{AllocError, Global};
-use std::test::Fail;
 
 /// The error of a definition.
 #[derive(Clone, Copy)]
@@ -115,7 +114,8 @@ const EVERY_FORM: &str =
     $(i)* $(k)and* $crate) => {$a $j [c] 1 + $($d $e);* $($g)? ${ignore($a)} ${index()} ${len(1)} ${count($d)} ${count($e, 1)} \
     ${concat(a, $a, 1)} $$ $crate $}";
 
-pub static READ: [Row; 80] = [
+// Of a long table the proof costs much more than of its parts, so there are several.
+static FIRST: [Row; 20] = [
     (EVERY_FORM, 1, Reported::Nothing),
     // Rules have their parts.
     ("", 0, Reported::Nothing),
@@ -137,6 +137,9 @@ pub static READ: [Row; 80] = [
     ("() > {}", 0, EQUALS),
     ("() =", 0, GREATER),
     ("() = {}", 0, GREATER),
+];
+
+static SECOND: [Row; 20] = [
     ("() == {}", 0, GREATER),
     ("($(a) => {}", 0, EQUALS),
     // Variables of a pattern have a specifier.
@@ -159,6 +162,9 @@ pub static READ: [Row; 80] = [
     ("($[a]) => {}", 0, REPETITION),
     ("() => {$[a]}", 0, REPETITION),
     ("($$) => {}", 0, DOLLARS),
+];
+
+static THIRD: [Row; 20] = [
     ("([$$]) => {}", 0, DOLLARS),
     ("(${len()}) => {}", 0, EXPRESSION),
     ("(a {${}}) => {}", 0, EXPRESSION),
@@ -181,6 +187,9 @@ pub static READ: [Row; 80] = [
     ("($x", 0, EQUALS),
     ("($x:", 0, EQUALS),
     ("($x:i", 0, EQUALS),
+];
+
+static FOURTH: [Row; 20] = [
     ("($x:id", 0, EQUALS),
     ("($x:ide", 0, EQUALS),
     ("($x:iden", 0, EQUALS),
@@ -203,6 +212,22 @@ pub static READ: [Row; 80] = [
     ("() => {};;", 1, SUBTREE),
     ("() => {};; ($x) => {}", 1, SUBTREE),
 ];
+
+pub fn first() -> &'static [Row] {
+    &FIRST
+}
+
+pub fn second() -> &'static [Row] {
+    &SECOND
+}
+
+pub fn third() -> &'static [Row] {
+    &THIRD
+}
+
+pub fn fourth() -> &'static [Row] {
+    &FOURTH
+}
 
 static EDITIONS: [Edition; 4] = [
     Edition::Edition2015,
@@ -243,16 +268,19 @@ fn first_refused(alloc: Global, edition: Edition) -> Result<Option<&'static str>
 }
 
 #[test]
-fn specifiers_have_no_fault_in_any_edition(rt: HostRuntime) -> Result<(), Fail> {
+fn specifiers_have_no_fault_in_any_edition(rt: HostRuntime) {
     for &edition in &EDITIONS {
-        assert_eq!(rt; first_refused(rt.alloc(), edition)?, None, "{edition:?}");
+        none(&rt, first_refused(rt.alloc(), edition));
     }
-    Ok(())
 }
 
-pub static UNKNOWN: [Texts; 1] = [(
+static UNKNOWN: [Texts; 1] = [(
     "() => {}; ($x:",
     ") => {}",
     &["Path", "tys", "expr2021", "expr_2024", "ident_", "tts"],
     (2, Reported::Nothing),
 )];
+
+pub fn unknown() -> &'static [Texts] {
+    &UNKNOWN
+}

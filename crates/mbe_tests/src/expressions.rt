@@ -9,12 +9,11 @@ use crate::trees::built;
 use mbe_tt::tt::DelimiterKind;
 use mbe_tt::tt::DelimiterKind::{Brace, Invisible, Parenthesis};
 use std::alloc::{AllocError, Global};
-use std::test::Fail;
 
 const INVALID: Reported = Reported::Unexpected("invalid metavariable expression");
 
 // Expressions of each form, and then invalid expressions, depths and elements.
-pub static TEXTS: [Texts; 4] = [
+static TEXTS: [Texts; 4] = [
     (
         "($x:ident) => { ${",
         "} }",
@@ -121,6 +120,10 @@ pub static TEXTS: [Texts; 4] = [
     ),
 ];
 
+pub fn texts() -> &'static [Texts] {
+    &TEXTS
+}
+
 // A call in an expression: its word, the kind of the group around its argument, the argument, and whether it is read.
 type Call = (Lexeme<'static>, DelimiterKind, Lexeme<'static>, bool);
 
@@ -174,14 +177,16 @@ fn is_call_read(
 }
 
 #[test]
-fn depths_by_their_text(rt: HostRuntime) -> Result<(), Fail> {
+fn depths_by_their_text(rt: HostRuntime) {
     for (row, call) in CALLS.iter().enumerate() {
-        assert!(rt; is_call_read(rt.alloc(), call)?, "row {row}");
+        assert!(rt;
+            is_call_read(rt.alloc(), call).unwrap_or(false),
+            "row {row}"
+        );
     }
-    Ok(())
 }
 
-pub static READ: [Row; 13] = [
+static READ: [Row; 13] = [
     // Faults in reading order.
     ("() => {a [${len()}] ${index(0)} $x}", 1, Reported::Nothing),
     ("() => {${len()}}; () => {${len(x)}}; () => {}", 1, INVALID),
@@ -198,3 +203,7 @@ pub static READ: [Row; 13] = [
     ("([a ${concat(a)}]) => {}", 0, EXPRESSION),
     ("(${len()}) => {${}}", 0, EXPRESSION),
 ];
+
+pub fn read() -> &'static [Row] {
+    &READ
+}

@@ -1,15 +1,13 @@
 // Whole expansions: the first run, a struct with a map, and contexts that a marker sets.
 use crate::grammar::NOTHING;
-use crate::runs::{Row, Want, assert_checked, defined, whole};
+use crate::runs::{Row, Want, defined, whole};
 use crate::tokens::Lexeme::{Alone, Close, Joint, Number, Open, Word};
 use crate::tokens::Token;
 use crate::trees::{built_in_contexts, lexed};
-use mbe::MacroCallStyle;
+use mbe::{MacroCallStyle, ParseError};
 use mbe_tt::span::{Span, SyntaxContext};
 use mbe_tt::tt::DelimiterKind::{Brace, Bracket, Parenthesis};
-use std::alloc::Global;
-use std::process::Abort;
-use std::test::Fail;
+use std::alloc::{AllocError, Global};
 
 const PAIR: &str = "($x:ident = $t:tt;) => { pair ($t) $x }";
 
@@ -29,7 +27,7 @@ const PAIR_MADE: Want = Some((
 
 const TWO_RULES: &str = "(a) => {A}; (b) => {B}";
 
-pub static EXPANDED: [Row; 6] = [
+static EXPANDED: [Row; 6] = [
     (PAIR, PAIR_ARGUMENT, PAIR_MADE),
     (
         "\n( struct $ident:ident ) => {\n    struct $ident {\n        map: ::std::collections::HashSet<()>,\n    }\n};\n",
@@ -75,6 +73,10 @@ pub static EXPANDED: [Row; 6] = [
     ),
 ];
 
+pub fn expanded() -> &'static [Row] {
+    &EXPANDED
+}
+
 // A definition, an argument, and the tokens that are made of it, each with the number of its context.
 type Marked = (&'static str, &'static str, &'static [(Token<'static>, u32)]);
 
@@ -109,13 +111,11 @@ static MARKED: [Marked; 2] = [
 ];
 
 // Whether that is made where the marker sets the context 7 in each span.
-fn is_marked(
-    rt: &impl Abort,
-    alloc: Global,
-    &(definition, argument, want): &Marked,
-) -> Result<bool, Fail> {
+fn is_marked(alloc: Global, &(definition, argument, want): &Marked) -> Result<bool, AllocError> {
     let rules = defined(alloc, definition)?;
-    assert_checked(rt, &rules);
+    if matches!(rules.err(), Some(ParseError::RepetitionEmptyTokenTree)) {
+        return Err(AllocError);
+    }
     let argument = lexed(alloc, 1, argument)?;
     let call_site = whole(&argument);
     let marker = |span: Span| Span {
@@ -130,9 +130,8 @@ fn is_marked(
 }
 
 #[test]
-fn what_a_template_writes_itself_is_marked(rt: HostRuntime) -> Result<(), Fail> {
+fn what_a_template_writes_itself_is_marked(rt: HostRuntime) {
     for row in &MARKED {
-        assert!(rt; is_marked(&rt, rt.alloc(), row)?, "{}", row.0);
+        assert!(rt; is_marked(rt.alloc(), row).unwrap_or(false), "{}", row.0);
     }
-    Ok(())
 }

@@ -320,12 +320,14 @@ static COUNTED: [(usize, bool, Row); 34] = [
 ];
 
 #[test]
-fn fronts_by_their_count(rt: HostRuntime) -> Result<(), Fail> {
+fn fronts_by_their_count(rt: HostRuntime) {
     for (number, &(count, fault, row)) in COUNTED.iter().enumerate() {
         let grammar = Counting { count, fault };
-        assert!(rt; is_front(rt.alloc(), &grammar, &row)?, "row {number}");
+        assert!(rt;
+            is_front(rt.alloc(), &grammar, &row).unwrap_or(false),
+            "row {number}"
+        );
     }
-    Ok(())
 }
 
 static NUMBERED: [Row; 10] = [
@@ -342,11 +344,14 @@ static NUMBERED: [Row; 10] = [
 ];
 
 #[test]
-fn each_entry_point_is_asked_by_itself(rt: HostRuntime) -> Result<(), Fail> {
+fn each_entry_point_is_asked_by_itself(rt: HostRuntime) {
     for row in &NUMBERED {
-        assert!(rt; is_front(rt.alloc(), &Numbered, row)?, "{}", row.1);
+        assert!(rt;
+            is_front(rt.alloc(), &Numbered, row).unwrap_or(false),
+            "{}",
+            row.1
+        );
     }
-    Ok(())
 }
 
 #[test]

@@ -1,14 +1,12 @@
 // On which spans a marker is called: those of what the template writes itself, once for each time that it is written.
 use crate::grammar::NOTHING;
-use crate::runs::{assert_checked, defined};
+use crate::runs::defined;
 use crate::tokens::at;
 use crate::trees::lexed;
-use mbe::MacroCallStyle;
+use mbe::{MacroCallStyle, ParseError};
 use mbe_tt::span::Span;
-use std::alloc::Global;
+use std::alloc::{AllocError, Global};
 use std::cell::Cell;
-use std::process::Abort;
-use std::test::Fail;
 
 // A definition, an argument, whether there is an error, and how often the marker is called.
 type Row = (&'static str, &'static str, bool, u32);
@@ -32,14 +30,11 @@ static ROWS: [Row; 8] = [
 ];
 
 // How often a marker was called on spans of the definition, and of others.
-fn calls(
-    rt: &impl Abort,
-    alloc: Global,
-    definition: &str,
-    argument: &str,
-) -> Result<(bool, u32, u32), Fail> {
+fn calls(alloc: Global, definition: &str, argument: &str) -> Result<(bool, u32, u32), AllocError> {
     let rules = defined(alloc, definition)?;
-    assert_checked(rt, &rules);
+    if matches!(rules.err(), Some(ParseError::RepetitionEmptyTokenTree)) {
+        return Err(AllocError);
+    }
     let argument = lexed(alloc, 1, argument)?;
     let own = Cell::new(0u32);
     let others = Cell::new(0u32);
@@ -54,11 +49,13 @@ fn calls(
     Ok((expansion.err.is_some(), own.get(), others.get()))
 }
 
+fn is_called(alloc: Global, &(definition, argument, fails, count): &Row) -> bool {
+    matches!(calls(alloc, definition, argument), Ok(found) if found == (fails, count, 0))
+}
+
 #[test]
-fn a_marker_is_called_on_the_spans_of_the_template(rt: HostRuntime) -> Result<(), Fail> {
-    for &(definition, argument, fails, count) in &ROWS {
-        let found = calls(&rt, rt.alloc(), definition, argument)?;
-        assert!(rt; found == (fails, count, 0), "{definition} on {argument}");
+fn a_marker_is_called_on_the_spans_of_the_template(rt: HostRuntime) {
+    for row in &ROWS {
+        assert!(rt; is_called(rt.alloc(), row), "{} on {}", row.0, row.1);
     }
-    Ok(())
 }

@@ -6,11 +6,10 @@ use crate::trees::Trees;
 use crate::trees::Trees::{Of, Tokens};
 use mbe_tt::tt::DelimiterKind::{Bracket, Invisible, Parenthesis};
 use std::alloc::{AllocError, Global};
-use std::test::Fail;
 
 const EMPTY: Want = Some((0, &[]));
 
-pub static LEAVES: [Row; 8] = [
+static LEAVES: [Row; 8] = [
     ("(1) => {}", "2", None),
     ("(1) => {}", "a", None),
     ("(foo) => {}", "fo", None),
@@ -21,10 +20,14 @@ pub static LEAVES: [Row; 8] = [
     ("(_) => {}", "_", Some((0, &[]))),
 ];
 
+pub fn leaves() -> &'static [Row] {
+    &LEAVES
+}
+
 // A sign and a float are two tokens.
 const SIGNED: &str = "(- 3.0) => {- 3.0}";
 
-pub static SIGNS: [Row; 7] = [
+static SIGNS: [Row; 7] = [
     (
         SIGNED,
         "-3.0",
@@ -42,9 +45,13 @@ pub static SIGNS: [Row; 7] = [
     (SIGNED, "--3.0", None),
 ];
 
+pub fn signs() -> &'static [Row] {
+    &SIGNS
+}
+
 const GROUP: &str = "([a]) => {A}";
 
-pub static GROUPS: [Row; 9] = [
+static GROUPS: [Row; 9] = [
     (GROUP, "[a]", Some((0, &[(Word("A"), 0, 10, 11)]))),
     (GROUP, "(a)", None),
     (GROUP, "{a}", None),
@@ -56,7 +63,11 @@ pub static GROUPS: [Row; 9] = [
     (GROUP, "[a] [a]", None),
 ];
 
-pub static NOT_WHOLE: [Row; 12] = [
+pub fn groups() -> &'static [Row] {
+    &GROUPS
+}
+
+static NOT_WHOLE: [Row; 12] = [
     ("() => {}", "a", None),
     ("() => {}", "()", None),
     ("(a) => {}", "a b", None),
@@ -71,8 +82,12 @@ pub static NOT_WHOLE: [Row; 12] = [
     ("($x:tt $y:tt) => {}", "a", None),
 ];
 
+pub fn not_whole() -> &'static [Row] {
+    &NOT_WHOLE
+}
+
 // Puncts fit where they are together.
-pub static PUNCTS: [Row; 11] = [
+static PUNCTS: [Row; 11] = [
     ("(->) => {}", "->", Some((0, &[]))),
     ("(- >) => {}", "- >", Some((0, &[]))),
     ("(..=) => {}", "..=", Some((0, &[]))),
@@ -86,10 +101,14 @@ pub static PUNCTS: [Row; 11] = [
     ("(-) => {}", "->", None),
 ];
 
+pub fn puncts() -> &'static [Row] {
+    &PUNCTS
+}
+
 const TT: &str = "($t:tt) => {$t}";
 
 // Puncts that are together are one tree.
-pub static GLUED: [Row; 6] = [
+static GLUED: [Row; 6] = [
     (
         TT,
         "->",
@@ -128,7 +147,11 @@ pub static GLUED: [Row; 6] = [
     ),
 ];
 
-pub static LIFETIMES: [Row; 8] = [
+pub fn glued() -> &'static [Row] {
+    &GLUED
+}
+
+static LIFETIMES: [Row; 8] = [
     (
         TT,
         "'a",
@@ -147,7 +170,11 @@ pub static LIFETIMES: [Row; 8] = [
     ("($t:tt $u:tt) => {}", "'a", None),
 ];
 
-pub static ONE_TREE: [Row; 2] = [
+pub fn lifetimes() -> &'static [Row] {
+    &LIFETIMES
+}
+
+static ONE_TREE: [Row; 2] = [
     (TT, "_", Some((0, &[(Word("_"), 1, 0, 1)]))),
     (
         TT,
@@ -167,10 +194,14 @@ pub static ONE_TREE: [Row; 2] = [
     ),
 ];
 
+pub fn one_tree() -> &'static [Row] {
+    &ONE_TREE
+}
+
 const IDENT: &str = "($x:ident) => {$x}";
 
 // An unknown specifier fits nothing.
-pub static IDENTS: [Row; 10] = [
+static IDENTS: [Row; 10] = [
     (IDENT, "__", Some((0, &[(Word("__"), 1, 0, 2)]))),
     (IDENT, "_", None),
     (IDENT, "1", None),
@@ -183,6 +214,10 @@ pub static IDENTS: [Row; 10] = [
     ("($x:foo) => {}", "(a)", None),
 ];
 
+pub fn idents() -> &'static [Row] {
+    &IDENTS
+}
+
 // A word in an invisible group.
 const GROUPED: Trees = Tokens(
     10,
@@ -193,7 +228,7 @@ const GROUPED: Trees = Tokens(
     ],
 );
 
-pub static OF_TREES: [TreesRow; 10] = [
+static OF_TREES: [TreesRow; 10] = [
     // Leaves fit by their texts.
     (
         Of("(1) => {}"),
@@ -248,6 +283,10 @@ pub static OF_TREES: [TreesRow; 10] = [
     ),
 ];
 
+pub fn of_trees() -> &'static [TreesRow] {
+    &OF_TREES
+}
+
 // So many groups in one another, with a word in the innermost one.
 fn nested(alloc: Global, depth: usize) -> Result<String, AllocError> {
     let openings = "(".repeat(alloc, depth)?;
@@ -255,14 +294,21 @@ fn nested(alloc: Global, depth: usize) -> Result<String, AllocError> {
     format!(in alloc; "{openings}a{closings}")
 }
 
+// Whether a pattern of 101 groups makes that of an argument of so many.
+fn is_nested(alloc: Global, depth: usize, want: Want) -> Result<bool, AllocError> {
+    let mut definition = nested(alloc, 101)?;
+    definition.push_str(" => {}")?;
+    let argument = nested(alloc, depth)?;
+    makes_of_texts(
+        alloc,
+        &NOTHING,
+        (definition.as_str(), argument.as_str()),
+        want,
+    )
+}
+
 #[test]
-fn a_hundred_groups_in_one_another(rt: HostRuntime) -> Result<(), Fail> {
-    let pattern = nested(rt.alloc(), 101)?;
-    let definition = format!(in rt.alloc(); "{pattern} => {{}}")?;
-    for (depth, want) in [(100usize, EMPTY), (101, None)] {
-        let argument = nested(rt.alloc(), depth)?;
-        let texts = (definition.as_str(), argument.as_str());
-        assert!(rt; makes_of_texts(rt.alloc(), &NOTHING, texts, want)?);
-    }
-    Ok(())
+fn a_hundred_groups_in_one_another(rt: HostRuntime) {
+    assert!(rt; is_nested(rt.alloc(), 100, EMPTY).unwrap_or(false));
+    assert!(rt; is_nested(rt.alloc(), 101, None).unwrap_or(false));
 }

@@ -4,8 +4,7 @@ use crate::runs::{Recovered, defined, is_recovered, made, whole};
 use crate::tokens::Lexeme::{Close, Open, Word};
 use crate::trees::lexed;
 use mbe_tt::tt::DelimiterKind::{Bracket, Parenthesis};
-use std::alloc::Global;
-use std::test::Fail;
+use std::alloc::{AllocError, Global};
 
 // How many flat tokens the grammar takes and whether it faults, a definition, an argument, and what is recovered.
 type Row = ((usize, bool), &'static str, &'static str, Recovered);
@@ -105,17 +104,16 @@ static RECOVERED: [Row; 7] = [
 fn recovers(
     alloc: Global,
     &((count, fault), definition, argument, want): &Row,
-) -> Result<bool, Fail> {
+) -> Result<bool, AllocError> {
     let rules = defined(alloc, definition)?;
     let argument = lexed(alloc, 1, argument)?;
     let expansion = made(alloc, &Counting { count, fault }, &rules, &argument)?;
-    Ok(is_recovered(alloc, &expansion, whole(&argument), want)?)
+    is_recovered(alloc, &expansion, whole(&argument), want)
 }
 
 #[test]
-fn what_is_recovered(rt: HostRuntime) -> Result<(), Fail> {
+fn what_is_recovered(rt: HostRuntime) {
     for row in &RECOVERED {
-        assert!(rt; recovers(rt.alloc(), row)?, "{}", row.1);
+        assert!(rt; recovers(rt.alloc(), row).unwrap_or(false), "{}", row.1);
     }
-    Ok(())
 }

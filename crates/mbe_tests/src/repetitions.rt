@@ -2,8 +2,8 @@
 use crate::definitions::{
     DOLLARS, EXPRESSION, IDENT, MISSING_SPECIFIER, REPETITION, Reported, Row, Texts, is_text_read,
 };
+use crate::runs::none;
 use std::alloc::{AllocError, Global};
-use std::test::Fail;
 
 static SUFFIXES: [&str; 26] = [
     "*", "+", "?", ",*", ",+", ";?", "=>*", ";;*", ";;;*", "..=+", "-,-?", "' *", "$*", "b*",
@@ -22,9 +22,8 @@ fn first_refused_suffix(alloc: Global) -> Result<Option<&'static str>, AllocErro
 }
 
 #[test]
-fn suffixes_of_repetitions(rt: HostRuntime) -> Result<(), Fail> {
-    assert_eq!(rt; first_refused_suffix(rt.alloc())?, None);
-    Ok(())
+fn suffixes_of_repetitions(rt: HostRuntime) {
+    none(&rt, first_refused_suffix(rt.alloc()));
 }
 
 const INVALID_SUFFIXES: &[&str] = &[
@@ -34,7 +33,7 @@ const INVALID_SUFFIXES: &[&str] = &[
 ];
 
 // Invalid suffixes in a pattern, and in a template; and bodies.
-pub static TEXTS: [Texts; 3] = [
+static TEXTS: [Texts; 3] = [
     (
         "() => {}; ($(a)",
         ") => {}",
@@ -62,7 +61,11 @@ pub static TEXTS: [Texts; 3] = [
     ),
 ];
 
-pub static READ: [Row; 20] = [
+pub fn texts() -> &'static [Texts] {
+    &TEXTS
+}
+
+static READ: [Row; 20] = [
     // A repetition that is refused keeps the rules before it.
     ("($(a)) => {}", 0, Reported::InvalidRepeat),
     ("($($x)) => {}", 0, Reported::InvalidRepeat),
@@ -94,3 +97,7 @@ pub static READ: [Row; 20] = [
     ("() => {$(a $1)* $[a]}", 0, IDENT),
     ("($(a)) => {$[a]}", 0, Reported::InvalidRepeat),
 ];
+
+pub fn read() -> &'static [Row] {
+    &READ
+}

@@ -34,7 +34,7 @@ const INVISIBLE: Trees = Tokens(
     ],
 );
 
-pub static OF_ONE: [TreesRow; 2] = [
+static OF_ONE: [TreesRow; 2] = [
     (
         INVISIBLE,
         Tokens(3, GROUPED),
@@ -43,15 +43,23 @@ pub static OF_ONE: [TreesRow; 2] = [
     (INVISIBLE, Of("a"), None),
 ];
 
+pub fn of_one() -> &'static [TreesRow] {
+    &OF_ONE
+}
+
 // The statement is written as it is, in a round of its own.
-pub static OF_THREE: [TreesRow; 1] = [(
+static OF_THREE: [TreesRow; 1] = [(
     Of("($($s:stmt);*) => {$($s);*}"),
     Tokens(3, GROUPED),
     Some((0, GROUPED)),
 )];
 
+pub fn of_three() -> &'static [TreesRow] {
+    &OF_THREE
+}
+
 // An expression of words is put in parentheses.
-pub static OF_NINE: [TreesRow; 1] = [(
+static OF_NINE: [TreesRow; 1] = [(
     Of("($e:expr) => {$e}"),
     Of("a b"),
     Some((
@@ -64,3 +72,7 @@ pub static OF_NINE: [TreesRow; 1] = [(
         ],
     )),
 )];
+
+pub fn of_nine() -> &'static [TreesRow] {
+    &OF_NINE
+}

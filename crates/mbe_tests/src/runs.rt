@@ -13,9 +13,9 @@ use mbe_tt::grammar::FragmentGrammar;
 use mbe_tt::span::{DelimSpan, Edition, Span};
 use mbe_tt::tt::TopSubtree;
 use std::alloc::{AllocError, Allocator, Global};
+use std::fmt::Debug;
 use std::process::Abort;
 use std::rc::Rc;
-use std::test::Fail;
 
 pub type Expansion<A> = ExpandResult<(TopSubtree<A>, MatchedArmIndex), A>;
 
@@ -47,6 +47,11 @@ pub fn whole<A: Allocator>(argument: &TopSubtree<A>) -> Span {
     argument.top_subtree().delimiter.opening
 }
 
+/// No row is otherwise. A failure shows the first that is.
+pub fn none<T: Debug + Drop>(rt: &impl Abort, wrong: Result<Option<T>, AllocError>) {
+    assert!(rt; matches!(wrong, Ok(None)), "{wrong:?}");
+}
+
 /// No pattern was refused, as `expand` asks.
 pub fn assert_checked<A: Allocator>(rt: &impl Abort, rules: &DeclarativeMacro<A>)
     ensures { IsChecked (macro_of rules.now) }
@@ -75,12 +80,12 @@ pub fn made<G: FragmentGrammar>(
     grammar: &G,
     rules: &DeclarativeMacro,
     argument: &TopSubtree,
-) -> Result<Expansion<Global>, Fail> {
+) -> Result<Expansion<Global>, AllocError> {
     if rules.err().is_some() {
-        return Err(Fail::from("the definition has a fault"));
+        return Err(AllocError);
     }
     let style = MacroCallStyle::FnLike;
-    Ok(expanded(alloc, grammar, rules, argument, style)?)
+    expanded(alloc, grammar, rules, argument, style)
 }
 
 /// Whether that is the expansion of a call from there.
@@ -107,9 +112,9 @@ pub fn makes<G: FragmentGrammar>(
     rules: &DeclarativeMacro,
     argument: &TopSubtree,
     want: Want,
-) -> Result<bool, Fail> {
+) -> Result<bool, AllocError> {
     let expansion = made(alloc, grammar, rules, argument)?;
-    Ok(is_made(alloc, &expansion, whole(argument), want)?)
+    is_made(alloc, &expansion, whole(argument), want)
 }
 
 /// Whether a definition makes that of an argument, which is file 1.
@@ -118,7 +123,7 @@ pub fn makes_of_texts<G: FragmentGrammar>(
     grammar: &G,
     (definition, argument): (&str, &str),
     want: Want,
-) -> Result<bool, Fail> {
+) -> Result<bool, AllocError> {
     let rules = defined(alloc, definition)?;
     let argument = lexed(alloc, 1, argument)?;
     makes(alloc, grammar, &rules, &argument, want)
@@ -129,7 +134,7 @@ pub fn first_wrong<G: FragmentGrammar>(
     alloc: Global,
     grammar: &G,
     rows: &[Row],
-) -> Result<Option<(&'static str, &'static str)>, Fail> {
+) -> Result<Option<(&'static str, &'static str)>, AllocError> {
     for &(definition, argument, want) in rows {
         if !makes_of_texts(alloc, grammar, (definition, argument), want)? {
             return Ok(Some((definition, argument)));
@@ -142,7 +147,7 @@ fn makes_of_trees<G: FragmentGrammar>(
     alloc: Global,
     grammar: &G,
     &(definition, argument, want): &TreesRow,
-) -> Result<bool, Fail> {
+) -> Result<bool, AllocError> {
     let rules = parsed(alloc, &definition.read(alloc, 0)?)?;
     let argument = argument.read(alloc, 1)?;
     makes(alloc, grammar, &rules, &argument, want)
@@ -153,7 +158,7 @@ pub fn first_wrong_trees<G: FragmentGrammar>(
     alloc: Global,
     grammar: &G,
     rows: &[TreesRow],
-) -> Result<Option<usize>, Fail> {
+) -> Result<Option<usize>, AllocError> {
     for (number, row) in rows.iter().enumerate() {
         if !makes_of_trees(alloc, grammar, row)? {
             return Ok(Some(number));

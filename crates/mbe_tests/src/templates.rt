@@ -5,7 +5,7 @@ use crate::trees::Trees::{Of, Tokens};
 use mbe_tt::tt::DelimiterKind::{Brace, Bracket, Parenthesis};
 
 // Unbound names are written back, and the last binding of a name is written.
-pub static NAMES: [Row; 4] = [
+static NAMES: [Row; 4] = [
     (
         "\n() => { { }\n",
         "",
@@ -28,8 +28,12 @@ pub static NAMES: [Row; 4] = [
     ),
 ];
 
+pub fn names() -> &'static [Row] {
+    &NAMES
+}
+
 // Two dollars write the second, and the last dollar is a punct.
-pub static DOLLARS: [Row; 12] = [
+static DOLLARS: [Row; 12] = [
     (
         "() => {$crate}",
         "",
@@ -68,8 +72,12 @@ pub static DOLLARS: [Row; 12] = [
     ),
 ];
 
+pub fn dollars() -> &'static [Row] {
+    &DOLLARS
+}
+
 // Metavariable expressions are written, and rounds without an end are a fault.
-pub static EXPRESSIONS: [Row; 6] = [
+static EXPRESSIONS: [Row; 6] = [
     (
         "($true:tt $false:ident) => {$false $true}",
         "+ b",
@@ -94,8 +102,12 @@ pub static EXPRESSIONS: [Row; 6] = [
     ("($x:ident) => {$($x)*}", "a", None),
 ];
 
+pub fn expressions() -> &'static [Row] {
+    &EXPRESSIONS
+}
+
 // Groups that are open at the end are closed there.
-pub static OF_TREES: [TreesRow; 5] = [
+static OF_TREES: [TreesRow; 5] = [
     // `() => {$r#y}`
     (
         Tokens(
@@ -189,3 +201,7 @@ pub static OF_TREES: [TreesRow; 5] = [
         )),
     ),
 ];
+
+pub fn of_trees() -> &'static [TreesRow] {
+    &OF_TREES
+}

@@ -1,19 +1,32 @@
 // Each rule of the lexer: texts with their tokens and bytes, and texts that aren't lexed with the byte at fault.
+use crate::each::{Row, each, holds, none};
+use crate::pairs;
 use mbe_text::lexer::{LexError, lex};
 use mbe_text::printing::print_tree;
-use mbe_tt::tt::{DelimiterKind, Leaf, LitKind, Spacing, Subtree, TopSubtree, TtElement};
-use std::alloc::Global;
-use std::process::Abort;
-use std::test::Fail;
+use mbe_tt::span::Span;
+use mbe_tt::tt::{DelimiterKind, Leaf, LitKind, Literal, Spacing, Subtree, TopSubtree, TtElement};
+use std::alloc::{AllocError, Global};
 
-// The trees of a text that isn't long.
-pub(crate) fn trees(rt: &impl Abort, alloc: Global, text: &str) -> Result<TopSubtree, LexError> {
-    assert!(rt; text.len() < 1_000_000);
-    lex(alloc, text, 0)
+/// The trees of a text that isn't long.
+pub(crate) fn trees(alloc: Global, text: &str) -> Result<TopSubtree, LexError> {
+    if text.len() < 1_000_000 {
+        lex(alloc, text, 0)
+    } else {
+        Err(LexError::OutOfMemory)
+    }
+}
+
+/// Whether that is printed of a text's trees.
+fn is_printed(alloc: Global, text: &str, want: &str) -> bool {
+    let Ok(tree) = trees(alloc, text) else {
+        return false;
+    };
+    let mut out = Vec::new(alloc);
+    print_tree(&tree, &mut out).is_ok() && out.as_slice() == want.as_bytes()
 }
 
 #[test]
-fn printed_tokens(rt: HostRuntime) -> Result<(), Fail> {
+fn printed_tokens(rt: HostRuntime) {
     let text = "r#é 0xFFu8 \"a\\\"\"b2 ['c' 1.5 += {";
     let want = "SUBTREE $$ 0@0..33 0@0..33
   IDENT   r#é 0@0..4
@@ -26,14 +39,7 @@ fn printed_tokens(rt: HostRuntime) -> Result<(), Fail> {
     PUNCH   = [alone] 0@30..31
     SUBTREE {} 0@32..33 0@33..33
 ";
-    let Ok(tree) = trees(&rt, rt.alloc(), text) else {
-        return Err(Fail::from("not lexed"));
-    };
-    let mut out = Vec::new(rt.alloc());
-    print_tree(&tree, &mut out)?;
-    let output = String::from_utf8(out)?;
-    assert_eq!(rt; output.as_str(), want);
-    Ok(())
+    holds(&rt, is_printed(rt.alloc(), text, want));
 }
 
 fn kind_name(kind: LitKind) -> &'static str {
@@ -46,90 +52,90 @@ fn kind_name(kind: LitKind) -> &'static str {
     }
 }
 
-// A leaf and its bytes; `|` is before the suffix of a literal.
-fn push_leaf(leaf: &Leaf, line: &mut String) -> Result<(), Fail> {
-    match leaf {
-        Leaf::Ident(ident) => write!(line, "{ident}")?,
-        Leaf::Punct(punct) => {
-            let spacing = match punct.spacing {
-                Spacing::Alone => "alone",
-                Spacing::Joint => "joint",
-            };
-            let char = punct.char;
-            write!(line, "{char} {spacing}")?;
-        }
-        Leaf::Literal(literal) => {
-            let kind = kind_name(literal.kind);
-            let (text, suffix) = literal.text_and_suffix();
-            write!(line, "{kind} {text}")?;
-            if !suffix.is_empty() {
-                write!(line, "|{suffix}")?;
-            }
-        }
+// A literal's kind and its text, with `|` before the suffix.
+fn push_literal(literal: &Literal, line: &mut String) -> Result<(), AllocError> {
+    let kind = kind_name(literal.kind);
+    let (text, suffix) = literal.text_and_suffix();
+    let mark = if suffix.is_empty() { "" } else { "|" };
+    write!(line, "{kind} {text}{mark}{suffix}")
+}
+
+fn push_punct(char: char, spacing: Spacing, line: &mut String) -> Result<(), AllocError> {
+    match spacing {
+        Spacing::Alone => write!(line, "{char} alone"),
+        Spacing::Joint => write!(line, "{char} joint"),
     }
-    let span = leaf.span();
-    let (start, end) = (span.start, span.end);
-    write!(line, " {start}..{end}")?;
-    Ok(())
+}
+
+fn push_text(leaf: &Leaf, line: &mut String) -> Result<(), AllocError> {
+    match leaf {
+        Leaf::Ident(ident) => write!(line, "{ident}"),
+        Leaf::Punct(punct) => push_punct(punct.char, punct.spacing, line),
+        Leaf::Literal(literal) => push_literal(literal, line),
+    }
+}
+
+fn push_span(span: Span, line: &mut String) -> Result<(), AllocError> {
+    write!(line, " {}..{}", span.start, span.end)
+}
+
+// A leaf and its bytes.
+fn push_leaf(leaf: &Leaf, line: &mut String) -> Result<(), AllocError> {
+    push_text(leaf, line)?;
+    push_span(leaf.span(), line)
 }
 
 // The opening of a group, the bytes of that and of its closing.
-fn push_opening(subtree: &Subtree, line: &mut String) -> Result<(), Fail> {
+fn push_opening(subtree: &Subtree, line: &mut String) -> Result<(), AllocError> {
     let sign = match subtree.delimiter.kind {
-        DelimiterKind::Parenthesis => '(',
-        DelimiterKind::Bracket => '[',
-        DelimiterKind::Brace => '{',
-        DelimiterKind::Invisible => '$',
+        DelimiterKind::Parenthesis => "(",
+        DelimiterKind::Bracket => "[",
+        DelimiterKind::Brace => "{",
+        DelimiterKind::Invisible => "$",
     };
-    let (opening, close) = (subtree.delimiter.opening, subtree.delimiter.close);
-    let (start, end) = (opening.start, opening.end);
-    write!(line, "{sign} {start}..{end}")?;
-    let (start, end) = (close.start, close.end);
-    write!(line, " {start}..{end}")?;
-    Ok(())
+    line.push_str(sign)?;
+    push_span(subtree.delimiter.opening, line)?;
+    push_span(subtree.delimiter.close, line)
 }
 
-// The flat tokens of a text in one line.
-fn tokens(rt: &impl Abort, alloc: Global, text: &str) -> Result<String, Fail> {
-    let Ok(tree) = trees(rt, alloc, text) else {
-        return Err(Fail::from("not lexed"));
-    };
-    let mut line = String::new(alloc);
+// The flat tokens of trees in one line.
+fn push_tokens(tree: &TopSubtree, line: &mut String) -> Result<(), AllocError> {
     let view = tree.iter().remaining();
     let mut cursor = view.cursor();
+    let mut before = "";
     for _ in 0..view.flat_len() {
-        if !line.is_empty() {
-            line.push_str(", ")?;
-        }
+        line.push_str(before)?;
+        before = ", ";
         match cursor.token_tree() {
-            Some(TtElement::Leaf(leaf)) => push_leaf(leaf, &mut line)?,
-            Some(TtElement::Subtree(subtree, _inside)) => push_opening(subtree, &mut line)?,
-            None => line.push_str("end")?,
-        }
+            Some(TtElement::Leaf(leaf)) => push_leaf(leaf, line),
+            Some(TtElement::Subtree(subtree, _inside)) => push_opening(subtree, line),
+            None => line.push_str("end"),
+        }?;
         cursor.bump_or_end();
     }
-    Ok(line)
+    Ok(())
 }
 
 // Whether the text has these tokens.
-fn assert_tokens(rt: &impl Abort, alloc: Global, text: &str, want: &str) -> Result<(), Fail> {
-    let line = tokens(rt, alloc, text)?;
-    assert_eq!(rt; line.as_str(), want, "{text}");
-    Ok(())
+fn has_tokens(alloc: Global, text: &str, want: &str) -> bool {
+    let Ok(tree) = trees(alloc, text) else {
+        return false;
+    };
+    let mut line = String::new(alloc);
+    push_tokens(&tree, &mut line).is_ok() && line.as_str() == want
 }
 
 // Whether the text is at fault at this byte.
-fn assert_fault(rt: &impl Abort, alloc: Global, text: &str, want: u32) -> Result<(), Fail> {
-    match trees(rt, alloc, text) {
-        Err(LexError::Fault(fault)) => assert_eq!(rt; fault.offset, want, "{text}"),
-        _ => return Err(Fail::from("lexed")),
+fn is_at_fault(alloc: Global, text: &str, want: u32) -> bool {
+    match trees(alloc, text) {
+        Err(LexError::Fault(fault)) => fault.offset == want,
+        _ => false,
     }
-    Ok(())
 }
 
 // Texts with their tokens: a literal is its kind and its text, with `|` before a suffix, a punct its char and its spacing.
 // After each are its bytes, and after an opening those of the closing too.
-static TOKENS: [(&str, &str); 97] = [
+static TOKENS: &str = pairs![
     // White space and comments are passed over, block comments nest, and one without an end is at fault where it begins.
     (" \t\r\n", ""),
     ("a//b\nc", "a 0..1, c 5..6"),
@@ -253,119 +259,173 @@ static TOKENS: [(&str, &str); 97] = [
     (";+;", "; joint 0..1, + joint 1..2, ; alone 2..3"),
 ];
 
-// Texts that aren't lexed, with the byte at fault.
-static FAULTS: [(&str, u32); 52] = [
+// A text that isn't lexed, with the byte at fault.
+struct Faulty(&'static str, u32);
+
+impl Row for Faulty {
+    fn is_so(&self, alloc: Global) -> bool {
+        is_at_fault(alloc, self.0, self.1)
+    }
+}
+
+static FAULTS: [Faulty; 52] = [
     // White space and comments are passed over, block comments nest, and one without an end is at fault where it begins.
-    ("a /* b", 2),
-    ("a /* /* */", 2),
-    ("/*/", 0),
-    ("/**", 0),
-    ("/*//*/a", 0),
-    ("a\u{b}b", 1),
-    ("a\u{c}b", 1),
-    ("a\u{85}b", 1),
-    ("a\u{a0}b", 1),
-    ("a\u{2028}b", 1),
-    ("\u{feff}a", 0),
+    Faulty("a /* b", 2),
+    Faulty("a /* /* */", 2),
+    Faulty("/*/", 0),
+    Faulty("/**", 0),
+    Faulty("/*//*/a", 0),
+    Faulty("a\u{b}b", 1),
+    Faulty("a\u{c}b", 1),
+    Faulty("a\u{85}b", 1),
+    Faulty("a\u{a0}b", 1),
+    Faulty("a\u{2028}b", 1),
+    Faulty("\u{feff}a", 0),
     // Identifiers are as long as they can be. One that would begin a prefixed string or a byte literal is a fault.
-    ("a\"b\"", 0),
-    ("x r#a\"b\"", 2),
-    ("1 r\"a\"", 2),
-    ("r#\"a\"#", 0),
-    ("x br##\"a\"##", 2),
-    ("cr#\"", 0),
-    ("b'a'", 0),
-    ("x b'", 2),
-    ("u8\"\"", 0),
-    ("ⓐ", 0),
+    Faulty("a\"b\"", 0),
+    Faulty("x r#a\"b\"", 2),
+    Faulty("1 r\"a\"", 2),
+    Faulty("r#\"a\"#", 0),
+    Faulty("x br##\"a\"##", 2),
+    Faulty("cr#\"", 0),
+    Faulty("b'a'", 0),
+    Faulty("x b'", 2),
+    Faulty("u8\"\"", 0),
+    Faulty("ⓐ", 0),
     // A string ends at the next quote that no `\` takes with it.
-    ("\"abc", 0),
-    ("a \"b\\\"", 2),
-    ("\"\\", 0),
-    ("a\n\"", 2),
+    Faulty("\"abc", 0),
+    Faulty("a \"b\\\"", 2),
+    Faulty("\"\\", 0),
+    Faulty("a\n\"", 2),
     // After a `'`: a char where one is before the next `'`, else a lifetime.
-    ("'", 0),
-    ("''", 0),
-    ("'''", 0),
-    ("'\n'", 0),
-    ("'\\", 0),
-    ("'\\'", 0),
-    ("a '1", 2),
-    ("'//'", 0),
-    ("' a", 0),
-    ("'a\"b\"", 1),
-    ("'ab'", 3),
-    ("'e\u{301}'", 4),
+    Faulty("'", 0),
+    Faulty("''", 0),
+    Faulty("'''", 0),
+    Faulty("'\n'", 0),
+    Faulty("'\\", 0),
+    Faulty("'\\'", 0),
+    Faulty("a '1", 2),
+    Faulty("'//'", 0),
+    Faulty("' a", 0),
+    Faulty("'a\"b\"", 1),
+    Faulty("'ab'", 3),
+    Faulty("'e\u{301}'", 4),
     // Integers in four bases.
-    ("٣", 0),
-    ("1٣", 1),
+    Faulty("٣", 0),
+    Faulty("1٣", 1),
     // An identifier directly after a literal is its suffix.
-    ("1u8\"a\"", 1),
-    ("'a'b'c'", 3),
+    Faulty("1u8\"a\"", 1),
+    Faulty("'a'b'c'", 3),
     // A closing fits the open group; groups that are open at the end are closed there.
-    (")", 0),
-    ("(]", 1),
-    ("{ ( }", 4),
-    ("é }", 3),
-    ("(a))", 3),
-    (") `", 0),
-    ("` )", 0),
+    Faulty(")", 0),
+    Faulty("(]", 1),
+    Faulty("{ ( }", 4),
+    Faulty("é }", 3),
+    Faulty("(a))", 3),
+    Faulty(") `", 0),
+    Faulty("` )", 0),
     // A punct is joint where the next token begins directly after it and is a punct; any other character is a fault.
-    ("a `", 2),
-    ("\\", 0),
-    ("a\u{0}", 1),
-    ("€", 0),
+    Faulty("a `", 2),
+    Faulty("\\", 0),
+    Faulty("a\u{0}", 1),
+    Faulty("€", 0),
 ];
 
-#[test]
-fn texts_have_their_tokens(rt: HostRuntime) -> Result<(), Fail> {
-    for (text, want) in &TOKENS {
-        assert_tokens(&rt, rt.alloc(), text, want)?;
+// The first of the pairs that isn't so, or how many there are where there are others than 97.
+fn first_unlike(alloc: Global) -> Option<usize> {
+    let mut count = 0usize;
+    for pair in TOKENS.split_terminator('\u{2}') {
+        match pair.split_once('\u{1}') {
+            Some((text, want)) if has_tokens(alloc, text, want) => {}
+            _ => return Some(count),
+        }
+        count = count.saturating_add(1);
     }
-    Ok(())
+    (count != 97).then_some(count)
 }
 
 #[test]
-fn texts_are_at_fault(rt: HostRuntime) -> Result<(), Fail> {
-    for (text, want) in &FAULTS {
-        assert_fault(&rt, rt.alloc(), text, *want)?;
-    }
-    Ok(())
+fn texts_have_their_tokens(rt: HostRuntime) {
+    none(&rt, first_unlike(rt.alloc()));
 }
+
+#[test]
+fn texts_are_at_fault(rt: HostRuntime) {
+    each(&rt, rt.alloc(), &FAULTS);
+}
+
+// A literal and its length, its kind and its text.
+struct Suffixed(&'static str, u32, &'static str, &'static str);
+
+fn is_lexed(alloc: Global, &Suffixed(literal, _, kind, text): &Suffixed, suffix: &str) -> bool {
+    let end = literal.len().saturating_add(suffix.len());
+    let Ok(source) = format!(in alloc; "{literal}{suffix}") else {
+        return false;
+    };
+    match format!(in alloc; "{kind} {text}|{suffix} 0..{end}") {
+        Ok(want) => has_tokens(alloc, source.as_str(), want.as_str()),
+        Err(AllocError) => false,
+    }
+}
+
+fn is_too_long(alloc: Global, &Suffixed(literal, len, ..): &Suffixed, suffix: &str) -> bool {
+    match format!(in alloc; "{literal}{suffix}b") {
+        Ok(source) => is_at_fault(alloc, source.as_str(), len),
+        Err(AllocError) => false,
+    }
+}
+
+// The literal is lexed with the longest suffix, and isn't with one byte more.
+impl Row for Suffixed {
+    fn is_so(&self, alloc: Global) -> bool {
+        match "a".repeat(alloc, 255) {
+            Ok(longest) => {
+                let suffix = longest.as_str();
+                is_lexed(alloc, self, suffix) && is_too_long(alloc, self, suffix)
+            }
+            Err(AllocError) => false,
+        }
+    }
+}
+
+static SUFFIXED: [Suffixed; 4] = [
+    Suffixed("1", 1, "Integer", "1"),
+    Suffixed("1.5", 3, "Float", "1.5"),
+    Suffixed("'b'", 3, "Char", "b"),
+    Suffixed("\"b\"", 3, "Str", "b"),
+];
 
 // A suffix has at most 255 bytes, after each kind of literal.
 #[test]
-fn longest_suffix(rt: HostRuntime) -> Result<(), Fail> {
-    let longest = "a".repeat(rt.alloc(), 255)?;
-    let suffix = longest.as_str();
-    for (literal, kind, text) in [
-        ("1", "Integer", "1"),
-        ("1.5", "Float", "1.5"),
-        ("'b'", "Char", "b"),
-        ("\"b\"", "Str", "b"),
-    ] {
-        let source = format!(in rt.alloc(); "{literal}{suffix}")?;
-        let end = source.len();
-        let want = format!(in rt.alloc(); "{kind} {text}|{suffix} 0..{end}")?;
-        assert_tokens(&rt, rt.alloc(), source.as_str(), want.as_str())?;
-        let start = literal.len() as u32;
-        let source = format!(in rt.alloc(); "{literal}{suffix}b")?;
-        assert_fault(&rt, rt.alloc(), source.as_str(), start)?;
+fn longest_suffix(rt: HostRuntime) {
+    each(&rt, rt.alloc(), &SUFFIXED);
+}
+
+const PUNCTS: &str = "=<>!&|~@.,;:#$?+-*/%^";
+
+// The tokens of all puncts side by side.
+fn push_puncts(line: &mut String) -> Result<(), AllocError> {
+    for (start, char) in PUNCTS.chars().enumerate() {
+        let (spacing, after) = if char == '^' {
+            ("alone", "")
+        } else {
+            ("joint", ", ")
+        };
+        write!(
+            line,
+            "{char} {spacing} {start}..{}{after}",
+            start.saturating_add(1)
+        )?;
     }
     Ok(())
 }
 
+fn are_puncts(alloc: Global) -> bool {
+    let mut want = String::new(alloc);
+    push_puncts(&mut want).is_ok() && has_tokens(alloc, PUNCTS, want.as_str())
+}
+
 #[test]
-fn each_punct_is_one(rt: HostRuntime) -> Result<(), Fail> {
-    let text = "=<>!&|~@.,;:#$?+-*/%^";
-    let mut want = String::new(rt.alloc());
-    for (start, char) in text.chars().enumerate() {
-        let end = start.saturating_add(1);
-        if char == '^' {
-            write!(want, "{char} alone {start}..{end}")?;
-        } else {
-            write!(want, "{char} joint {start}..{end}, ")?;
-        }
-    }
-    assert_tokens(&rt, rt.alloc(), text, want.as_str())
+fn each_punct_is_one(rt: HostRuntime) {
+    holds(&rt, are_puncts(rt.alloc()));
 }

@@ -2,6 +2,8 @@
 #![tactic(auto)]
 
 #[cfg(test)]
+mod each;
+#[cfg(test)]
 mod lexing;
 #[cfg(test)]
 mod printing;

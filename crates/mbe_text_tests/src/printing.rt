@@ -1,11 +1,11 @@
 // The lines of trees, to a writer that takes few bytes at once, or fails.
+use crate::each::{Row, each, holds};
 use crate::lexing::trees;
 use mbe_text::printing::print_tree;
-use std::alloc::Global;
+use mbe_tt::tt::TopSubtree;
+use std::alloc::{AllocError, Global};
 use std::io;
 use std::io::Write;
-use std::process::Abort;
-use std::test::Fail;
 
 // Every other call is interrupted. The others take at most seven bytes, and fail once there is no room.
 #[derive(Drop)]
@@ -36,54 +36,48 @@ impl Write for Slow {
 }
 
 // Whether a writer with that room is given the bytes that have room, and fails where the others have none.
-fn assert_written(
-    rt: &impl Abort,
-    alloc: Global,
-    text: &str,
-    want: &str,
-    room: usize,
-) -> Result<(), Fail> {
-    let Ok(tree) = trees(rt, alloc, text) else {
-        return Err(Fail::from("not lexed"));
-    };
+fn is_written(alloc: Global, tree: &TopSubtree, want: &[u8], room: usize) -> bool {
     let mut out = Slow {
         written: Vec::new(alloc),
         room,
         is_interrupted: false,
     };
-    let result = print_tree(&tree, &mut out);
-    let len = want.len().min(room);
-    assert!(rt;
-        out.written.as_slice() == &want.as_bytes()[..len],
-        "{text} in {room}"
-    );
-    match result {
-        Ok(()) => assert!(rt; want.len() <= room, "{text} in {room}"),
-        Err(error) => {
-            assert!(rt; room < want.len(), "{text} in {room}");
-            assert!(rt;
-                error.kind() == io::ErrorKind::StorageFull,
-                "{text} in {room}"
-            );
-        }
-    }
-    Ok(())
+    let is_whole = match print_tree(tree, &mut out) {
+        Ok(()) => true,
+        Err(error) if error.kind() == io::ErrorKind::StorageFull => false,
+        Err(_) => return false,
+    };
+    is_whole == (want.len() <= room) && out.written.as_slice() == &want[..want.len().min(room)]
 }
 
 // The room of the writers: none, about that of a line that is written at once, and enough.
 static ROOMS: [usize; 11] = [0, 1, 2, 40, 127, 128, 129, 255, 256, 300, 100_000];
 
-fn assert_printed(rt: &impl Abort, alloc: Global, text: &str, want: &str) -> Result<(), Fail> {
+fn is_printed(alloc: Global, text: &str, want: &str) -> bool {
+    let Ok(tree) = trees(alloc, text) else {
+        return false;
+    };
     for room in &ROOMS {
-        assert_written(rt, alloc, text, want, *room)?;
+        if !is_written(alloc, &tree, want.as_bytes(), *room) {
+            return false;
+        }
     }
-    Ok(())
+    true
+}
+
+// A text with its lines.
+struct Lines(&'static str, &'static str);
+
+impl Row for Lines {
+    fn is_so(&self, alloc: Global) -> bool {
+        is_printed(alloc, self.0, self.1)
+    }
 }
 
 // Texts with their lines. Lines of 127, 128 and 129 bytes are among them, and an identifier and a string of more.
-static PRINTED: [(&str, &str); 6] = [
-    ("", "SUBTREE $$ 0@0..0 0@0..0\n"),
-    (
+static PRINTED: [Lines; 6] = [
+    Lines("", "SUBTREE $$ 0@0..0 0@0..0\n"),
+    Lines(
         "'a(é)",
         "SUBTREE $$ 0@0..6 0@0..6
   PUNCH   ' [joint] 0@0..1
@@ -92,25 +86,25 @@ static PRINTED: [(&str, &str); 6] = [
     IDENT   é 0@3..5
 ",
     ),
-    (
+    Lines(
         "abcdefghijklmnopqrstuvwxyzabcdefghijklmnopqrstuvwxyzabcdefghijklmnopqrstuvwxyzabcdefghijklmnopqrstuvwxyzabc",
         "SUBTREE $$ 0@0..107 0@0..107
   IDENT   abcdefghijklmnopqrstuvwxyzabcdefghijklmnopqrstuvwxyzabcdefghijklmnopqrstuvwxyzabcdefghijklmnopqrstuvwxyzabc 0@0..107
 ",
     ),
-    (
+    Lines(
         "abcdefghijklmnopqrstuvwxyzabcdefghijklmnopqrstuvwxyzabcdefghijklmnopqrstuvwxyzabcdefghijklmnopqrstuvwxyzabcd",
         "SUBTREE $$ 0@0..108 0@0..108
   IDENT   abcdefghijklmnopqrstuvwxyzabcdefghijklmnopqrstuvwxyzabcdefghijklmnopqrstuvwxyzabcdefghijklmnopqrstuvwxyzabcd 0@0..108
 ",
     ),
-    (
+    Lines(
         "abcdefghijklmnopqrstuvwxyzabcdefghijklmnopqrstuvwxyzabcdefghijklmnopqrstuvwxyzabcdefghijklmnopqrstuvwxyzabcde",
         "SUBTREE $$ 0@0..109 0@0..109
   IDENT   abcdefghijklmnopqrstuvwxyzabcdefghijklmnopqrstuvwxyzabcdefghijklmnopqrstuvwxyzabcdefghijklmnopqrstuvwxyzabcde 0@0..109
 ",
     ),
-    (
+    Lines(
         "\"abcdefghijklmnopqrstuvwxyz abcdefghijklmnopqrstuvwxyz abcdefghijklmnopqrstuvwxyz abcdefghijklmnopqrstuvwxyz abcdefghijklmnopqrstuvwxyz\"u8",
         "SUBTREE $$ 0@0..138 0@0..138
   LITERAL Str abcdefghijklmnopqrstuvwxyz abcdefghijklmnopqrstuvwxyz abcdefghijklmnopqrstuvwxyz abcdefghijklmnopqrstuvwxyz abcdefghijklmnopqrstuvwxyzu8 0@0..138
@@ -119,22 +113,32 @@ static PRINTED: [(&str, &str); 6] = [
 ];
 
 #[test]
-fn trees_have_their_lines(rt: HostRuntime) -> Result<(), Fail> {
-    for (text, want) in &PRINTED {
-        assert_printed(&rt, rt.alloc(), text, want)?;
+fn trees_have_their_lines(rt: HostRuntime) {
+    each(&rt, rt.alloc(), &PRINTED);
+}
+
+// The lines of seventy groups, each in the one before.
+fn push_groups(want: &mut String) -> Result<(), AllocError> {
+    want.push_str("SUBTREE $$ 0@0..70 0@0..70\n")?;
+    for start in 0..70usize {
+        for _around in 0..=start {
+            want.push_str("  ")?;
+        }
+        writeln!(want, "SUBTREE [] 0@{start}..{} 0@70..70", start + 1)?;
     }
     Ok(())
 }
 
+fn is_indented(alloc: Global) -> bool {
+    let Ok(text) = "[".repeat(alloc, 70) else {
+        return false;
+    };
+    let mut want = String::new(alloc);
+    push_groups(&mut want).is_ok() && is_printed(alloc, text.as_str(), want.as_str())
+}
+
 // Two spaces for each group around, of which seventy are more than a line has at once.
 #[test]
-fn groups_are_indented(rt: HostRuntime) -> Result<(), Fail> {
-    let text = "[".repeat(rt.alloc(), 70)?;
-    let mut want = String::from_str(rt.alloc(), "SUBTREE $$ 0@0..70 0@0..70\n")?;
-    for start in 0..70usize {
-        let end = start + 1;
-        let spaces = "  ".repeat(rt.alloc(), end)?;
-        writeln!(want, "{spaces}SUBTREE [] 0@{start}..{end} 0@70..70")?;
-    }
-    assert_printed(&rt, rt.alloc(), text.as_str(), want.as_str())
+fn groups_are_indented(rt: HostRuntime) {
+    holds(&rt, is_indented(rt.alloc()));
 }

@@ -1,110 +1,155 @@
 // The table of symbols: texts that it has and has not, many of them, and requests for memory that are refused.
+use crate::each::holds;
 use crate::lexing::trees;
 use mbe_text::lexer::{LexError, lex_in};
 use mbe_text::symbols::SymbolTable;
 use mbe_tt::tt::TopSubtree;
 use refusing::Refusing;
 use std::alloc::{AllocError, Allocator, Global};
-use std::process::Abort;
-use std::test::Fail;
 
 // So many texts that the slots are made anew several times.
 const COUNT: usize = 300;
 
-// Whether the table has for each of so many texts the symbol of that text.
-fn assert_texts(
-    rt: &impl Abort,
-    alloc: Global,
-    table: &mut SymbolTable,
-    count: usize,
-) -> Result<(), Fail> {
-    for number in 0..count {
-        let text = format!(in alloc; "name{number}")?;
-        let symbol = table.intern(text.as_str())?;
-        assert_eq!(rt; symbol.as_str(), text.as_str());
+// Whether the table's symbol of a text has that text. Nothing where memory is refused.
+fn found<A: Allocator + Copy>(table: &mut SymbolTable<A>, text: &str) -> Option<bool> {
+    match table.intern(text) {
+        Ok(symbol) => Some(symbol.as_str() == text),
+        Err(AllocError) => None,
     }
-    Ok(())
+}
+
+fn has<A: Allocator + Copy>(table: &mut SymbolTable<A>, text: &str) -> bool {
+    found(table, text).unwrap_or(false)
+}
+
+// Whether the table has for each of so many texts the symbol of that text.
+fn has_all(alloc: Global, table: &mut SymbolTable) -> bool {
+    for number in 0..COUNT {
+        match format!(in alloc; "name{number}") {
+            Ok(text) if has(table, text.as_str()) => {}
+            _ => return false,
+        }
+    }
+    true
+}
+
+fn are_apart(alloc: Global) -> bool {
+    let mut table = SymbolTable::new(alloc);
+    has(&mut table, "")
+        && has_all(alloc, &mut table)
+        && has_all(alloc, &mut table)
+        && has(&mut table, "")
 }
 
 #[test]
-fn each_text_has_a_symbol_of_its_own(rt: HostRuntime) -> Result<(), Fail> {
-    let mut table = SymbolTable::new(rt.alloc());
-    assert_eq!(rt; table.intern("")?.as_str(), "");
-    assert_texts(&rt, rt.alloc(), &mut table, COUNT)?;
-    assert_texts(&rt, rt.alloc(), &mut table, COUNT)?;
-    assert_eq!(rt; table.intern("")?.as_str(), "");
-    Ok(())
+fn each_text_has_a_symbol_of_its_own(rt: HostRuntime) {
+    holds(&rt, are_apart(rt.alloc()));
 }
 
 // The trees of a text that isn't long, by the table.
-fn trees_by(rt: &impl Abort, table: &mut SymbolTable, text: &str) -> Result<TopSubtree, LexError> {
-    assert!(rt; text.len() < 1_000_000);
-    lex_in(table, text, 0)
-}
-
-#[test]
-fn one_table_for_many_texts(rt: HostRuntime) -> Result<(), Fail> {
-    let mut table = SymbolTable::new(rt.alloc());
-    for text in ["a b a 1u8 1u8", "b (a) \"a\" 1u8", "", "a b a 1u8 1u8"] {
-        let (Ok(one), Ok(other)) = (
-            trees(&rt, rt.alloc(), text),
-            trees_by(&rt, &mut table, text),
-        ) else {
-            return Err(Fail::from("not lexed"));
-        };
-        assert!(rt; one == other);
+fn trees_by(table: &mut SymbolTable, text: &str) -> Result<TopSubtree, LexError> {
+    if text.len() < 1_000_000 {
+        lex_in(table, text, 0)
+    } else {
+        Err(LexError::OutOfMemory)
     }
-    Ok(())
 }
 
-// The first refused request lies after those of the first text: the same text again takes none, another one does.
-#[test]
-fn a_text_that_the_table_has_takes_no_memory(rt: HostRuntime) -> Result<(), Fail> {
-    for number in 1..100 {
-        let alloc = Refusing::new(rt.alloc(), number);
-        let mut table = SymbolTable::new(&alloc);
-        if table.intern("a").is_err() {
-            continue;
-        }
-        assert!(rt; table.intern("a").is_ok());
-        assert!(rt; !alloc.has_refused());
-        assert!(rt; table.intern("b").is_err());
-        assert!(rt; alloc.has_refused());
-        return Ok(());
+// Whether the text has the same trees by the table.
+fn is_same(alloc: Global, table: &mut SymbolTable, text: &str) -> bool {
+    match trees(alloc, text) {
+        Ok(one) => matches!(trees_by(table, text), Ok(other) if other == one),
+        Err(_) => false,
     }
-    Err(Fail::from("it goes on"))
 }
 
-// Asks for so many texts, each until there is memory, and says whether each symbol has its text.
-fn are_right<A: Allocator + Copy>(alloc: A, names: &[String]) -> bool {
+static TEXTS: [&str; 4] = ["a b a 1u8 1u8", "b (a) \"a\" 1u8", "", "a b a 1u8 1u8"];
+
+fn are_same(alloc: Global) -> bool {
     let mut table = SymbolTable::new(alloc);
-    for name in names {
-        let symbol = match table.intern(name.as_str()) {
-            Ok(symbol) => Ok(symbol),
-            Err(AllocError) => table.intern(name.as_str()),
-        };
-        if !symbol.is_ok_and(|symbol| symbol.as_str() == name.as_str()) {
+    for text in &TEXTS {
+        if !is_same(alloc, &mut table, text) {
             return false;
         }
     }
     true
 }
 
-// Each request is refused in turn, those for more slots among them, and the table is used on.
 #[test]
-fn a_refusal_leaves_the_table_right(rt: HostRuntime) -> Result<(), Fail> {
-    let mut names = Vec::new(rt.alloc());
-    for number in 0..70 {
-        names.push(format!(in rt.alloc(); "name{number}")?)?;
-    }
-    for number in 1..1_000 {
-        let alloc = Refusing::new(rt.alloc(), number);
-        assert!(rt; are_right(&alloc, &names), "at {number}");
-        if !alloc.has_refused() {
-            // Two requests for each symbol at least.
-            assert!(rt; number > 140, "only {number} requests");
-            return Ok(());
+fn one_table_for_many_texts(rt: HostRuntime) {
+    holds(&rt, are_same(rt.alloc()));
+}
+
+// Whether memory is there for the first text. Then the same text takes none, and another one does.
+fn takes_none(alloc: &Refusing<Global>) -> Option<bool> {
+    let mut table = SymbolTable::new(alloc);
+    let is_so = found(&mut table, "a")?;
+    let is_free = is_so && has(&mut table, "a") && !alloc.has_refused();
+    Some(is_free && found(&mut table, "b").is_none() && alloc.has_refused())
+}
+
+// The first refused request that lies after those of the first text.
+fn is_kept(global: Global) -> bool {
+    for number in 1..100 {
+        if let Some(is_so) = takes_none(&Refusing::new(global, number)) {
+            return is_so;
         }
     }
-    Err(Fail::from("it goes on"))
+    false
+}
+
+#[test]
+fn a_text_that_the_table_has_takes_no_memory(rt: HostRuntime) {
+    holds(&rt, is_kept(rt.alloc()));
+}
+
+// Asks for so many texts, each until there is memory, and says whether each symbol has its text.
+fn are_right<A: Allocator + Copy>(alloc: A, names: &[String]) -> bool {
+    let mut table = SymbolTable::new(alloc);
+    for name in names {
+        let is_so = match found(&mut table, name.as_str()) {
+            Some(is_so) => is_so,
+            None => has(&mut table, name.as_str()),
+        };
+        if !is_so {
+            return false;
+        }
+    }
+    true
+}
+
+fn names(alloc: Global) -> Result<Vec<String>, AllocError> {
+    let mut names = Vec::new(alloc);
+    for number in 0..70 {
+        names.push(format!(in alloc; "name{number}")?)?;
+    }
+    Ok(names)
+}
+
+// The first request that there isn't, where the table is right whichever of those before it is refused.
+fn requests(global: Global, names: &[String]) -> Option<u64> {
+    for number in 1..1_000 {
+        let alloc = Refusing::new(global, number);
+        if !are_right(&alloc, names) {
+            return None;
+        }
+        if !alloc.has_refused() {
+            return Some(number);
+        }
+    }
+    None
+}
+
+// Two requests for each symbol at least.
+fn stays_right(alloc: Global) -> bool {
+    match names(alloc) {
+        Ok(names) => requests(alloc, names.as_slice()).unwrap_or(0) > 140,
+        Err(AllocError) => false,
+    }
+}
+
+// Each request is refused in turn, those for more slots among them, and the table is used on.
+#[test]
+fn a_refusal_leaves_the_table_right(rt: HostRuntime) {
+    holds(&rt, stays_right(rt.alloc()));
 }
