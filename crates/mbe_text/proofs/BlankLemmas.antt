@@ -61,11 +61,11 @@ pub record Counts (dialect : Dialect) (total : ℕ) (from cs : List ℕ) : Type 
   pub fits : length cs ≤ suc n
   pub same : past_blanks dialect total (length from) from ≡ past_blanks dialect total (suc n) cs
 
-same_both_ways : {A : Type 0} (b : Bool) (x : A) → (if b then x else x) ≡ x
+pub same_both_ways : {A : Type 0} (b : Bool) (x : A) → (if b then x else x) ≡ x
 same_both_ways true x = refl
 same_both_ways false x = refl
 
-blanks_end : (dialect : Dialect) (total n : ℕ) → past_blanks dialect total n [] ≡ Ok []
+pub blanks_end : (dialect : Dialect) (total n : ℕ) → past_blanks dialect total n [] ≡ Ok []
 blanks_end dialect total zero = refl
 blanks_end dialect total (suc n) = same_both_ways (is_doc dialect []) (Ok [])
 
@@ -87,7 +87,7 @@ counts dialect total from (c ∷ cs) p =
           ∙ ap (λ (k : ℕ). past_blanks dialect total k (c ∷ cs)) e;
     }
 
-past_shorter : (k : Class) (cs : List ℕ) → length (past k cs) ≤ length cs
+pub past_shorter : (k : Class) (cs : List ℕ) → length (past k cs) ≤ length cs
 past_shorter k [] = omega arith
 past_shorter k (c ∷ cs) = elim (has k c) as (λ b. length (if b then past k cs else c ∷ cs) ≤ length (c ∷ cs)) [
   | true ↦ omega (arith, past_shorter k cs)
@@ -101,7 +101,7 @@ one_of_three true b x y z rest n f g h e = f e
 one_of_three false true x y z rest n f g h e = g e
 one_of_three false false x y z rest n f g h e = h e
 
-comments_shorter : (depth : ℕ) (cs rest : List ℕ) → past_comments depth cs ≡ Some rest → length rest ≤ length cs
+pub comments_shorter : (depth : ℕ) (cs rest : List ℕ) → past_comments depth cs ≡ Some rest → length rest ≤ length cs
 comments_shorter zero cs rest e = let same : cs ≡ rest = cc in omega (arith, ap (λ (l : List ℕ). length l) same)
 comments_shorter (suc depth) [] rest e = cc
 comments_shorter (suc depth) (c ∷ []) rest e = cc

@@ -1,12 +1,18 @@
 -- What is left of a text, in characters and in bytes.
 use Rattle.std.proofs.Common.{◌≡◌, ℕ, ◌<◌, ◌≤◌, ◌-◌, Bool, true, false, List, [], ◌∷◌, ◌++◌, length, take, drop, refl, sym, ap, ◌∙◌, arith, subst, MatchBool, MatchOption, Option, Some, None, IfSome, Bor, chars, encode_utf8_all, IsUtf8, IsAscii, IsTrue, encode_utf8, length-append, get_or, suc, zero}
 use Rattle.std.specs.Str.Pattern.{HasPrefixMatch, FindsTextPrefix, StripsPrefix}
-use Rattle.std.proofs.lemmas.Str.{chars-append, encodes-chars, encodes-append, length-encode, len_utf8_bounds, chars-IsAscii, IsUtf8-take, IsCharBoundary-from_drop}
+use Rattle.std.proofs.lemmas.Str.{chars-nil, encode_ascii, chars_past_char, IsUtf8-drop, IsCharBoundary-before_ascii, IsCharBoundary-after_ascii, chars-append, encodes-chars, encodes-append, length-encode, len_utf8_bounds, chars-IsAscii, IsUtf8-take, IsCharBoundary-from_drop}
 use Rattle.std.proofs.lemmas.Bool.{false≢true}
 use Rattle.std.proofs.lemmas.Bool.Decides.{nat_tests}
 use Rattle.std.proofs.Math.Seq.{take-append_seam, drop-append_seam}
+use Rattle.std.proofs.Common.{nat_lt, nat_le, ◌&&◌, ◌||◌, ◌==◌, ◌+◌}
+use Rattle.std.specs.Char.{is_ascii_alphabetic, is_ascii_alphanumeric}
+use Rattle.std.proofs.lemmas.List.{at_drop_all, at_drop_more, take-append-drop}
+use Rattle.unicode_ident.specs.Ident.{is_xid_start, is_xid_continue}
+use Rattle.unicode_ident.proofs.IdentLemmas.{is_xid_start-ascii, is_xid_continue-ascii}
 use Rattle.mbe_text.specs.declared.characters.Class.{Class}
-use Rattle.mbe_text.specs.Characters.{begins_with, has, past, are_ascii, bytes_before}
+use Rattle.mbe_text.specs.declared.characters.Class.TheVariants.{IdentStart}
+use Rattle.mbe_text.specs.Characters.{begins, begins_with, has, past, are_ascii, bytes_before}
 use Rattle.mbe_text.specs.Ends.{IsEnd, IsRest}
 use Rattle.mbe_text.proofs.Reading.{rest_after}
 
@@ -147,3 +153,104 @@ stripped (Some x) n s small un us h = front_and n s x.now small un (stripped_who
 pub drop_two : (cs mid rest : List ℕ) → mid ≡ drop 1 cs → rest ≡ drop 1 mid → rest ≡ drop 2 cs
 drop_two [] mid rest e f = rw (f, e) refl
 drop_two (c ∷ cs) mid rest e f = rw (f, e) refl
+
+-- ---- ASCII
+
+is_small : (c : ℕ) (r : Bool) → r ≡ nat_lt c 128 → r ≡ true → c < 128
+is_small c r i t = let e : nat_lt c 128 ≡ true = sym i ∙ t in grind (arith, nat_tests)
+
+pub letter_starts : (c : ℕ) (r a : Bool) → r ≡ nat_lt c 128 → r ≡ true → a ≡ is_ascii_alphabetic c → a ≡ true
+    → a ≡ has IdentStart c
+letter_starts c r a i t e h =
+    let x : is_xid_start c ≡ true = is_xid_start-ascii c (is_small c r i t) ∙ (sym e ∙ h) in
+    h ∙ sym (ap (λ (b : Bool). b || (c == 95)) x)
+
+pub other_starts : (c : ℕ) (r a : Bool) → r ≡ nat_lt c 128 → r ≡ true → a ≡ is_ascii_alphabetic c → a ≡ false
+    → (c == 95) ≡ has IdentStart c
+other_starts c r a i t e h =
+    let x : is_xid_start c ≡ false = is_xid_start-ascii c (is_small c r i t) ∙ (sym e ∙ h) in
+    sym (ap (λ (b : Bool). b || (c == 95)) x)
+
+pub letter_continues : (c : ℕ) (r a : Bool) → r ≡ nat_lt c 128 → r ≡ true → a ≡ is_ascii_alphanumeric c → a ≡ true
+    → a ≡ is_xid_continue c
+letter_continues c r a i t e h =
+    h ∙ sym (is_xid_continue-ascii c (is_small c r i t) ∙ ap (λ (b : Bool). b || (c == 95)) (sym e ∙ h))
+
+pub other_continues : (c : ℕ) (r a : Bool) → r ≡ nat_lt c 128 → r ≡ true → a ≡ is_ascii_alphanumeric c → a ≡ false
+    → (c == 95) ≡ is_xid_continue c
+other_continues c r a i t e h =
+    sym (is_xid_continue-ascii c (is_small c r i t) ∙ ap (λ (b : Bool). b || (c == 95)) (sym e ∙ h))
+
+-- a byte of ASCII is a character
+ascii_first : (text : List ℕ) (i : ℕ) → IsUtf8 text → i < length text → get_or text i 0 < 128
+    → chars (drop i text) ≡ get_or text i 0 ∷ chars (drop (i + 1) text)
+ascii_first text i u l s =
+    let cut : IsUtf8 (drop i text) = IsUtf8-drop text i u (IsCharBoundary-before_ascii text i l s) in
+    let e : drop i text ≡ encode_utf8 (get_or text i 0) ++ drop (i + 1) text =
+    at_drop_more (λ (k : List ℕ). k) text i 0 l
+    ∙ ap (λ (k : List ℕ). k ++ drop (i + 1) text) (sym (encode_ascii (get_or text i 0) s)) in
+    chars_past_char (drop i text) (drop (i + 1) text) (get_or text i 0) cut e
+
+both_true : (a b : Bool) → (a && b) ≡ true → (a ≡ true) × (b ≡ true)
+both_true true b h = (refl, h)
+both_true false b h = cc
+
+-- one such byte more
+pub counts_more : (k : Class) (text : List ℕ) (n b : ℕ) (r : Bool) → IsUtf8 text → n < length text
+    → b ≡ get_or text n 0 → r ≡ (nat_lt b 128 && has k b) → r ≡ true
+    → past k (chars (drop n text)) ≡ past k (chars text)
+    → IsUtf8 (drop (n + 1) text) × (past k (chars (drop (n + 1) text)) ≡ past k (chars text))
+counts_more k text n b r u l e i t p =
+    let w : (nat_lt b 128 ≡ true) × (has k b ≡ true) = both_true (nat_lt b 128) (has k b) (sym i ∙ t) in
+    let low : nat_lt b 128 ≡ true = w.0 in
+    let small : b < 128 = grind (arith, nat_tests) in
+    let s : get_or text n 0 < 128 = omega (arith, e, small) in
+    let h : has k (get_or text n 0) ≡ true = ap (has k) (sym e) ∙ w.1 in (
+      IsUtf8-drop text (n + 1) u (IsCharBoundary-after_ascii text n u l s),
+      past_such k (get_or text n 0) (chars (drop (n + 1) text)) (chars (drop n text)) h (ascii_first text n u l s) ∙ p,
+    )
+
+-- a byte of ASCII that isn't such a character
+pub stops_there : (k : Class) (text : List ℕ) (n b : ℕ) (r : Bool) → IsUtf8 text → n < length text
+    → b ≡ get_or text n 0 → r ≡ (nat_lt b 128 && has k b) → r ≡ false → get_or text n 0 < 128
+    → begins k (chars (drop n text)) ≡ false
+stops_there k text n b r u l e i t s =
+    let small : b < 128 = omega (arith, e, s) in
+    let low : nat_lt b 128 ≡ true = grind (arith, nat_tests) in
+    ap (begins k) (ascii_first text n u l s)
+    ∙ (ap (has k) (sym e) ∙ (sym (ap (λ (x : Bool). x && has k b) low) ∙ (sym i ∙ t)))
+
+-- no byte is left
+pub stops_at_end : (k : Class) (text : List ℕ) (n : ℕ) → length text ≤ n → begins k (chars (drop n text)) ≡ false
+stops_at_end k text n h = at_drop_all (λ (l : List ℕ). begins k (chars l)) text n h ∙ ap (begins k) chars-nil
+
+-- nothing is passed
+past_none : (k : Class) (cs : List ℕ) → begins k cs ≡ false → past k cs ≡ cs
+past_none k [] h = refl
+past_none k (c ∷ cs) h = rw h refl
+
+pub past_near : (k : Class) (text rest : List ℕ) (n : ℕ) (r : Bool) → rest ≡ drop n text
+    → r ≡ nat_le 128 (get_or text n 0) → r ≡ false → past k (chars (drop n text)) ≡ past k (chars text)
+    → (get_or text n 0 < 128 → begins k (chars (drop n text)) ≡ false) → chars rest ≡ past k (chars text)
+past_near k text rest n r e i t p s =
+    let far : nat_le 128 (get_or text n 0) ≡ false = sym i ∙ t in
+    let near : get_or text n 0 < 128 = grind (arith, nat_tests) in
+    ap chars e ∙ (sym (past_none k (chars (drop n text)) (s near)) ∙ p)
+
+pub past_far : (k : Class) (text rest got : List ℕ) (n : ℕ) → rest ≡ drop n text
+    → past k (chars (drop n text)) ≡ past k (chars text) → chars got ≡ past k (chars rest)
+    → chars got ≡ past k (chars text)
+past_far k text rest got n e p g = g ∙ (ap (λ (l : List ℕ). past k (chars l)) e ∙ p)
+
+pub end_of_drop : (text rest : List ℕ) (n : ℕ) → rest ≡ drop n text → IsEnd text rest
+end_of_drop text rest n e =
+    end_of text (take n text) rest (sym (take-append-drop n text) ∙ ap (λ (l : List ℕ). take n text ++ l) (sym e))
+
+-- ---- one character of a front
+
+and_true : (b : Bool) → (b && true) ≡ b
+and_true true = refl
+and_true false = refl
+
+pub not_first : (c d : ℕ) (cs : List ℕ) → begins_with (d ∷ []) (c ∷ cs) ≡ false → (c == d) ≡ false
+not_first c d cs h = sym (and_true (c == d)) ∙ h

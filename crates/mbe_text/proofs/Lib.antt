@@ -1,7 +1,10 @@
 pub mod Attributes
 pub mod BlankLemmas
+pub mod BlanksFirst
 pub mod CharacterLemmas
 pub mod DivisionLemmas
+pub mod DocLemmas
+pub mod Fronts
 pub mod LineDocs
 pub mod Lines
 pub mod LiteralLemmas

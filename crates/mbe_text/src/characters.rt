@@ -1,7 +1,8 @@
 // The characters of a text: kinds of them, and what is left of a text after some.
-ghost use Rattle.std.specs.Prelude.{◌≡◌, ◌++◌, [], ◌∷◌, ◌+◌, ◌<◌, ◌≤◌, length, chars, encode_utf8, MatchOption, IfSome, IsTrue, true, false, drop, Some, None};
+ghost use Rattle.std.specs.Prelude.{◌≡◌, ◌++◌, [], ◌∷◌, ◌+◌, ◌<◌, ◌≤◌, length, chars, encode_utf8, MatchOption, IfSome, IsTrue, true, false, drop, Some, None, nat_le, nat_lt, ◌&&◌, slice_index};
+ghost use Rattle.std.specs.Str.{IsUtf8};
 ghost use Rattle.mbe_text.specs.Characters as spec;
-ghost use Rattle.mbe_text.specs.declared.characters.Class.TheVariants.{Punct, Space};
+ghost use Rattle.mbe_text.specs.declared.characters.Class.TheVariants.{IdentContinue, IdentStart, Punct, Space};
 ghost use Rattle.mbe_text.specs.Ends.{IsEnd, IsRest};
 
 use unicode_ident::{is_xid_continue, is_xid_start};
@@ -37,8 +38,8 @@ impl Class {
             Class::Blank => matches!(char, ' ' | '\t' | '\r' | '\n'),
             Class::Space => is_space(char),
             Class::InLine => char != '\n',
-            Class::IdentStart => is_xid_start(char) || char == '_',
-            Class::IdentContinue => is_xid_continue(char),
+            Class::IdentStart => is_start(char),
+            Class::IdentContinue => is_continue(char),
             Class::Decimal => char.is_ascii_digit(),
             Class::Digit => char.is_ascii_digit() || char == '_',
             Class::HexDigit => char.is_ascii_hexdigit() || char == '_',
@@ -50,6 +51,31 @@ impl Class {
     }
 }
 
+// Whether an identifier may begin with the character. ASCII, which nearly all of them are, needs no table.
+#[inline(always)]
+fn is_start(char: char) -> bool
+    ensures { result ≡ spec.has IdentStart char }
+{
+    if char.is_ascii() {
+        char.is_ascii_alphabetic() || char == '_'
+    } else {
+        is_xid_start(char)
+    }
+}
+
+// Whether an identifier may go on with it.
+#[inline(always)]
+fn is_continue(char: char) -> bool
+    ensures { result ≡ spec.has IdentContinue char }
+{
+    if char.is_ascii() {
+        char.is_ascii_alphanumeric() || char == '_'
+    } else {
+        is_xid_continue(char)
+    }
+}
+
+#[inline(always)]
 fn is_space(char: char) -> bool
     ensures { result ≡ spec.has Space char }
 {
@@ -137,9 +163,63 @@ pub(crate) fn past_one(text: &str, class: Class) -> Option<&str>
     }
 }
 
-// What is left after all characters of this kind that come first.
+// Whether the byte is an ASCII character of this kind.
+#[inline(always)]
+fn is_ascii_of(byte: u8, class: Class) -> bool
+    ensures { result ≡ (nat_lt byte 128 && spec.has class byte) }
+{
+    byte.is_ascii() && class.has(byte as char)
+}
+
+// How many of the first bytes are ASCII characters of this kind.
+#[inline(always)]
+fn ascii_count(text: &str, class: Class) -> usize
+    ensures within { result ≤ length text.now }
+    ensures utf8 { IsUtf8 (drop result text.now) }
+    ensures exact { spec.past class (chars (drop result text.now))
+        ≡ spec.past class (chars text.now) }
+    ensures stops { slice_index text.now result < 128
+        → spec.begins class (chars (drop result text.now)) ≡ false }
+{
+    let mut count = 0;
+    'bytes: for byte in text.as_bytes() {
+        if !is_ascii_of(*byte, class) {
+            return count;
+        }
+        count += 1;
+    }
+    count
+}
+
+// What is left after all characters of this kind that come first. Those of ASCII are passed byte by byte.
 #[inline(always)]
 pub(crate) fn past(text: &str, class: Class) -> &str
+    ensures exact { chars result.now ≡ spec.past class (chars text.now) }
+    ensures end { IsEnd text.now result.now }
+{
+    let count = ascii_count(text, class);
+    let rest = &text[count..];
+    if is_far(text, count) {
+        past_each(rest, class)
+    } else {
+        rest
+    }
+}
+
+// Whether a byte that isn't of ASCII is there.
+#[inline(always)]
+fn is_far(text: &str, at: usize) -> bool
+    ensures { result ≡ nat_le 128 (slice_index text.now at) }
+{
+    match text.as_bytes().get(at) {
+        Some(byte) => !byte.is_ascii(),
+        None => false,
+    }
+}
+
+// The same, where the first of them isn't of ASCII.
+#[inline(never)]
+fn past_each(text: &str, class: Class) -> &str
     ensures exact { chars result.now ≡ spec.past class (chars text.now) }
     ensures end { IsEnd text.now result.now }
 {
@@ -149,6 +229,18 @@ pub(crate) fn past(text: &str, class: Class) -> &str
             Some((char, after)) if class.has(char) => rest = after,
             _ => return rest,
         }
+    }
+}
+
+// Whether this character comes first.
+#[inline(always)]
+pub(crate) fn is_at(text: &str, char: char) -> bool
+    ensures exact { result ≡ spec.begins_with (char ∷ []) (chars text.now) }
+    ensures some { IsTrue result → 0 < length text.now }
+{
+    match split_first(text) {
+        Some((first, _)) => first == char,
+        None => false,
     }
 }
 

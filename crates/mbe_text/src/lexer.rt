@@ -221,6 +221,9 @@ fn punct<A: Allocator>(char: char, spacing: Spacing, span: Span) -> Leaf<A>
 pub fn hashes_around(text: &str) -> u8
     ensures { result ≡ most_guards 0 text.now }
 {
+    if !text.as_bytes().contains(&b'"') {
+        return 0;
+    }
     let mut most = 0u8;
     let mut guards = 0u8;
     'bytes: for byte in text.as_bytes() {

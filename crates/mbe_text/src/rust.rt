@@ -23,7 +23,9 @@ ghost use Rattle.mbe_text.specs.Rust.{
   passed_left,
 };
 
-use crate::characters::{Class, begins, begins_with, past, past_front, past_one, split_first};
+use crate::characters::{
+    Class, begins, begins_with, is_at, past, past_front, past_one, split_first,
+};
 use crate::escapes::{
     Quoted, char_end, check_char, check_raw, check_string, front, past_word, raw_end, string_end,
     tail,
@@ -102,7 +104,7 @@ fn raw_identifier<'t>(text: &'t str, following: &'t str) -> Read<'t>
 fn begins_reserved(rest: &str) -> bool
     ensures { result ≡ spec.begins_reserved (chars rest.now) }
 {
-    begins_with(rest, "#") || begins_with(rest, "\"") || begins_with(rest, "'")
+    is_at(rest, '#') || is_at(rest, '"') || is_at(rest, '\'')
 }
 
 // An identifier without a `r#`. Since 2021 it is no prefix of what no literal has.
@@ -626,17 +628,23 @@ pub(crate) fn begins_doc(text: &str) -> bool
     ensures exact { result ≡ spec.begins_doc (chars text.now) }
     ensures some { IsTrue result → 0 < length text.now }
 {
+    if !is_at(text, '/') {
+        return false;
+    }
     (begins_with(text, "///") && !begins_with(text, "////"))
         || begins_with(text, "//!")
         || (begins_with(text, "/**") && !(begins_with(text, "/***") || begins_with(text, "/**/")))
         || begins_with(text, "/*!")
 }
 
-// From the first carriage return on.
+// From the first carriage return on. Few texts have one, which their bytes show soonest.
 fn from_return(text: &str) -> Option<&str>
     ensures exact { maybe_seen result ≡ spec.from_return (chars text.now) }
     ensures end { IfSome result (λ at. IsEnd text.now at.now) }
 {
+    if !text.as_bytes().contains(&b'\r') {
+        return None;
+    }
     let mut rest = text;
     'chars: loop {
         let (char, after) = split_first(rest)?;
@@ -712,19 +720,19 @@ pub(crate) fn read_rust(edition: Edition, text: &str) -> Option<Read<'_>>
     ensures end { IfSome result (λ read. IsEnd text.now (read_stop read)) }
     ensures past { IfSome result (λ read. length (read_left read) < length text.now) }
 {
-    if begins_with(text, "r") {
+    if is_at(text, 'r') {
         Some(read_r(edition, text))
-    } else if begins_with(text, "b") {
+    } else if is_at(text, 'b') {
         Some(read_b(edition, text))
-    } else if begins_with(text, "c") {
+    } else if is_at(text, 'c') {
         Some(read_c(edition, text))
     } else if begins(text, Class::IdentStart) {
         Some(identifier(edition, text))
     } else if begins(text, Class::Decimal) {
         Some(number(text))
-    } else if begins_with(text, "\"") {
+    } else if is_at(text, '"') {
         Some(string(LitKind::Str, Quoted::Str, text))
-    } else if begins_with(text, "'") {
+    } else if is_at(text, '\'') {
         Some(read_quote(edition, text))
     } else if is_guard(edition, text) {
         Some(Err(guarded(text)))

@@ -22,7 +22,7 @@ ghost use Rattle.mbe_text.specs.declared.characters.Class.TheVariants.{InLine};
 ghost use Rattle.mbe_text.specs.Tokens.{bytes_of, token_item, item_text, lexeme_text};
 
 use crate::characters::{
-    Class, before, begins, begins_with, offset, past, past_front, past_one, split_first,
+    Class, before, begins, begins_with, is_at, offset, past, past_front, past_one, split_first,
 };
 use crate::dialect::Dialect;
 use crate::rust::{begins_doc, read_rust};
@@ -231,7 +231,36 @@ impl<'t> Scanner<'t> {
     }
 
     // Passes white space and comments.
+    #[inline(always)]
     fn trivia(&mut self) -> Result<(), LexFault>
+        ensures on { GoesOn self.old self.new }
+        ensures exact { PassesBlanks self.old.dialect self.old.total (chars self.old.rest.now)
+            result (chars self.new.rest.now) }
+        ensures within { IfErr result (λ fault. fault.offset ≤ self.old.total) }
+    {
+        self.blanks();
+        if is_at(self.rest, '/') {
+            return self.comments();
+        }
+        Ok(())
+    }
+
+    // Passes white space.
+    #[inline(always)]
+    fn blanks(&mut self)
+        ensures on { GoesOn self.old self.new }
+        ensures exact { chars self.new.rest.now
+            ≡ characters.past (blank self.old.dialect) (chars self.old.rest.now) }
+    {
+        match self.dialect {
+            Dialect::Sample => self.pass(Class::Blank),
+            Dialect::Rust(_) => self.pass(Class::Space),
+        }
+    }
+
+    // Passes comments, and white space before, between and after them.
+    #[inline(never)]
+    fn comments(&mut self) -> Result<(), LexFault>
         ensures on { GoesOn self.old self.new }
         ensures exact { PassesBlanks self.old.dialect self.old.total (chars self.old.rest.now)
             result (chars self.new.rest.now) }
@@ -332,6 +361,9 @@ impl<'t> Scanner<'t> {
             → (text : List ℕ) × (self.now.rest.now ≡ 114 ∷ (35 ∷ text)) }
         ensures exact { result ≡ words.begins_raw (chars self.now.rest.now) }
     {
+        if !is_at(self.rest, 'r') {
+            return false;
+        }
         match past_front(self.rest, "r#") {
             Some(name) => begins(name, Class::IdentStart),
             None => false,

@@ -1,17 +1,30 @@
-use Rattle.std.proofs.Common.{sym, ◌∙◌}
-use Rattle.std.proofs.lemmas.Str.{IsUtf8-past_char}
-use Rattle.mbe_text.proofs.CharacterLemmas.{shorter, end_after, past_such}
+use Rattle.std.proofs.lemmas.Str.{IsCharBoundary-from_drop}
+use Rattle.mbe_text.proofs.CharacterLemmas.{past_far, past_near, end_of_drop}
+use Rattle.mbe_text.proofs.TailLemmas.{end_on}
 use Rattle.mbe_text.proofs.characters.past.Goals as goal
 
-pub chars-smaller : goal.chars-smaller
-chars-smaller c = shorter c.chars.rest.now c.in-Some.after.now c.in-Some.char c.in-Some.ensures.bytes
+pub range_from-rest-requires : goal.range_from-rest-requires
+range_from-rest-requires c _ =
+    IsCharBoundary-from_drop c.args.text.now c.ascii_count-count.result c.ascii_count-count.ensures.within
+    c.ascii_count-count.ensures.utf8
 
-pub chars-preserved : goal.chars-preserved
-chars-preserved c =
-    let next = c.in-Some.ensures in
-    record {
-      utf8 = IsUtf8-past_char c.chars.rest.now c.in-Some.after.now c.in-Some.char c.chars.invariant.utf8 next.bytes;
-      exact = past_such c.args.class c.in-Some.char _ _ (sym c.if-has.ensures) next.chars ∙ c.chars.invariant.exact;
-      end = end_after c.args.text.now c.chars.rest.now c.in-Some.after.now c.in-Some.char c.chars.invariant.end
-          next.bytes;
-    }
+pub returns-then-is_far-clause-exact : goal.returns-then-is_far-clause-exact
+returns-then-is_far-clause-exact c =
+    past_far c.args.class c.args.text.now c.range_from-rest.result.now c.past_each.result.now c.ascii_count-count.result
+    c.range_from-rest.ensures.value c.ascii_count-count.ensures.exact c.past_each.ensures.exact
+
+pub returns-then-is_far-clause-end : goal.returns-then-is_far-clause-end
+returns-then-is_far-clause-end c =
+    end_on c.args.text.now c.range_from-rest.result.now c.past_each.result.now
+    (end_of_drop c.args.text.now c.range_from-rest.result.now c.ascii_count-count.result
+    c.range_from-rest.ensures.value) c.past_each.ensures.end
+
+pub returns-else-is_far-clause-exact : goal.returns-else-is_far-clause-exact
+returns-else-is_far-clause-exact c =
+    past_near c.args.class c.args.text.now c.range_from-rest.result.now c.ascii_count-count.result c.is_far.result
+    c.range_from-rest.ensures.value c.is_far.ensures c.if-is_far.false c.ascii_count-count.ensures.exact
+    c.ascii_count-count.ensures.stops
+
+pub returns-else-is_far-clause-end : goal.returns-else-is_far-clause-end
+returns-else-is_far-clause-end c =
+    end_of_drop c.args.text.now c.range_from-rest.result.now c.ascii_count-count.result c.range_from-rest.ensures.value

@@ -1,6 +1,9 @@
 use Rattle.std.proofs.Common.{◌≡◌, ℕ, ◌+◌, ◌<◌, max, List, length, drop, get_or, sym, ap, ◌∙◌, arith}
 use Rattle.std.proofs.lemmas.List.{at_drop_all, at_drop_more}
 use Rattle.mbe_text.specs.Tokens.{guards_after, most_guards}
+use Rattle.std.proofs.Common.{◌==◌}
+use Rattle.std.specs.List.{list_any}
+use Rattle.mbe_text.proofs.DocLemmas.{no_quotes}
 use Rattle.mbe_text.proofs.lexer.hashes_around.Goals as goal
 
 greater : (most most' now here left total : ℕ) → most' ≡ max most now → here ≡ max now left → max most here ≡ total
@@ -31,3 +34,8 @@ returns c =
     (omega (arith, ap (λ (l : List ℕ). length l) same)) in
     let all = c.bytes.invariant in
     omega (arith, none, all)
+
+pub returns-then-not-contains : goal.returns-then-not-contains
+returns-then-not-contains c =
+    sym (no_quotes c.args.text.now (ap (λ (l : List ℕ). list_any (λ (y : ℕ). y == 34) l) (sym c.as_bytes.ensures.value)
+    ∙ (sym c.contains.ensures.value ∙ c.if-not-contains.true)))

@@ -1,67 +1,17 @@
-use Rattle.std.proofs.Common.{sym, ap, ◌∙◌, rules, chars, ℕ, Err}
-use Rattle.std.proofs.lemmas.Result.{err_from_is_err_and}
-use Rattle.mbe_text.specs.Faults.{fault_at}
-use Rattle.mbe_text.specs.declared.wrong.Wrong.TheVariants as wrong
-use Rattle.mbe_text.proofs.BlankLemmas.{blank_there, doc_there, passes_end, passes_blank, passes_other, passes_doc, passes_line, passes_block, passes_last, passes_fault}
+use Rattle.std.proofs.Common.{sym, ◌∙◌, chars}
+use Rattle.mbe_text.proofs.BlanksFirst.{passes_after, passes_only}
 use Rattle.mbe_text.proofs.scanner.Scanner.trivia.Goals as goal
 
-pub returns-in_default-clause-exact : goal.returns-in_default-clause-exact
-returns-in_default-clause-exact c = passes_end _ _ _ _ c.parts.invariant.exact c.in_default.ensures.chars
+pub returns-then-is_at-clause-exact : goal.returns-then-is_at-clause-exact
+returns-then-is_at-clause-exact c =
+    let old = c.args.self.now in
+    let mid = c.blanks.new.self in
+    passes_after old.dialect mid.dialect old.total mid.total (chars old.rest.now) (chars mid.rest.now)
+    (chars c.comments.new.self.rest.now) c.comments.result c.blanks.ensures.on.4 c.blanks.ensures.on.1
+    c.blanks.ensures.exact c.comments.ensures.exact
 
-pub parts-preserved-then-is_blank : goal.parts-preserved-then-is_blank
-parts-preserved-then-is_blank c = record {
-  on = search rules;
-  exact = passes_blank _ _ _ _ _ _ c.parts.invariant.exact c.in-Some.ensures.chars
-      (blank_there _ _ _ _ _ c.parts.invariant.on.4 c.is_blank.ensures c.if-is_blank.true);
-}
-
-pub returns-then-char-ne47-clause-exact : goal.returns-then-char-ne47-clause-exact
-returns-then-char-ne47-clause-exact c =
-    passes_other _ _ _ _ _ _ c.parts.invariant.exact c.in-Some.ensures.chars
-    (blank_there _ _ _ _ _ c.parts.invariant.on.4 c.is_blank.ensures c.if-is_blank.false) (search rules)
-
-pub returns-then-is_at_doc-clause-exact : goal.returns-then-is_at_doc-clause-exact
-returns-then-is_at_doc-clause-exact c =
-    passes_doc _ _ _ _ _ _ c.parts.invariant.exact c.in-Some.ensures.chars
-    (blank_there _ _ _ _ _ c.parts.invariant.on.4 c.is_blank.ensures c.if-is_blank.false)
-    (doc_there _ _ _ _ _ c.parts.invariant.on.4 c.is_at_doc.ensures c.if-is_at_doc.true)
-
-pub parts-preserved-then-begins_with : goal.parts-preserved-then-begins_with
-parts-preserved-then-begins_with c = record {
-  on = search rules;
-  exact = passes_line _ _ _ _ _ _ c.parts.invariant.exact c.in-Some.ensures.chars _
-      (blank_there _ _ _ _ _ c.parts.invariant.on.4 c.is_blank.ensures c.if-is_blank.false)
-      (doc_there _ _ _ _ _ c.parts.invariant.on.4 c.is_at_doc.ensures c.if-is_at_doc.false) (search rules)
-      (sym c.begins_with.ensures.exact ∙ c.if-begins_with.true) c.line_comment.ensures.exact;
-}
-
-pub parts-preserved : goal.parts-preserved
-parts-preserved c = record {
-  on = search rules;
-  exact = passes_block _ _ _ _ _ _ c.parts.invariant.exact c.in-Some.ensures.chars _
-      (blank_there _ _ _ _ _ c.parts.invariant.on.4 c.is_blank.ensures c.if-is_blank.false)
-      (doc_there _ _ _ _ _ c.parts.invariant.on.4 c.is_at_doc.ensures c.if-is_at_doc.false) (search rules)
-      (sym c.begins_with.ensures.exact ∙ c.if-begins_with.false)
-      (sym c.begins_with-else-begins_with.ensures.exact ∙ c.if-begins_with-2.true)
-      c.in_ok-block_comment.ensures.exact;
-}
-
-pub returns-in_err-block_comment-clause-exact : goal.returns-in_err-block_comment-clause-exact
-returns-in_err-block_comment-clause-exact c =
-    let p = err_from_is_err_and c.from_residual.result c.from_residual.ensures.1 in
-    let fault = c.in_err-block_comment.ensures.exact in
-    rw (p.1, p.2) (passes_fault _ _ _ _ _ _ c.parts.invariant.exact c.in-Some.ensures.chars
-    (blank_there _ _ _ _ _ c.parts.invariant.on.4 c.is_blank.ensures c.if-is_blank.false)
-    (doc_there _ _ _ _ _ c.parts.invariant.on.4 c.is_at_doc.ensures c.if-is_at_doc.false) (search rules)
-    (sym c.begins_with.ensures.exact ∙ c.if-begins_with.false)
-    (sym c.begins_with-else-begins_with.ensures.exact ∙ c.if-begins_with-2.true) fault.0
-    ∙ ap Err (ap (λ (n : ℕ). fault_at wrong.OpenComment n (chars c.parts.self.rest.now)) (sym c.parts.invariant.on.1)
-    ∙ sym fault.1))
-
-pub returns-else-begins_with-2-clause-exact : goal.returns-else-begins_with-2-clause-exact
-returns-else-begins_with-2-clause-exact c =
-    passes_last _ _ _ _ _ _ c.parts.invariant.exact c.in-Some.ensures.chars
-    (blank_there _ _ _ _ _ c.parts.invariant.on.4 c.is_blank.ensures c.if-is_blank.false)
-    (doc_there _ _ _ _ _ c.parts.invariant.on.4 c.is_at_doc.ensures c.if-is_at_doc.false) (search rules)
-    (sym c.begins_with.ensures.exact ∙ c.if-begins_with.false)
-    (sym c.begins_with-else-begins_with.ensures.exact ∙ c.if-begins_with-2.false)
+pub returns-clause-exact : goal.returns-clause-exact
+returns-clause-exact c =
+    let old = c.args.self.now in
+    passes_only old.dialect old.total (chars old.rest.now) (chars c.blanks.new.self.rest.now) c.blanks.ensures.exact
+    (sym c.is_at.ensures.exact ∙ c.if-is_at.false)

@@ -3,7 +3,7 @@ use denote.Text.{Utf8}
 use denote.Shadow.{shadow}
 use Rattle.mbe_text.specs.Characters as spec
 use Rattle.mbe_text.specs.Ends.{IsEnd}
-use Rattle.mbe_text.proofs.characters.past.Given as goal
+use Rattle.mbe_text.proofs.characters.past_each.Given as goal
 
 abbrev pub invariant-chars : goal.invariant-chars
 invariant-chars l = record {

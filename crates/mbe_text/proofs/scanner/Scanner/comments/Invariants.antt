@@ -1,7 +1,7 @@
 use Rattle.std.proofs.Common.{chars, length}
 use Rattle.mbe_text.specs.Scanning.{GoesOn}
 use Rattle.mbe_text.proofs.BlankLemmas.{Passes}
-use Rattle.mbe_text.proofs.scanner.Scanner.trivia.Given as goal
+use Rattle.mbe_text.proofs.scanner.Scanner.comments.Given as goal
 
 abbrev pub invariant-parts : goal.invariant-parts
 invariant-parts l = record {
