@@ -1,6 +1,6 @@
 -- The trees of crates, and their parts.
 use Rattle.std.proofs.Common.{◌≡◌, ◌<◌, ◌≤◌, ◌+◌, ℕ, Bool, true, false, List, [], ◌∷◌, ◌++◌, length, map, take, get_or, Option, Some, None, Result, Ok, Err, refl, ap, sym, ◌∙◌, subst, append-nil, arith}
-use Rattle.std.specs.Prelude.{IfOk, IfSome, OnOk, is_ok, is_some, not, option_and_then, option_map, if◌then◌else◌}
+use Rattle.std.specs.Prelude.{IfNone, IfOk, IfSome, OnOk, is_ok, is_some, not, option_and_then, option_map, if◌then◌else◌}
 use Rattle.std.specs.List.{All, slice_get}
 use Rattle.std.proofs.lemmas.Option.{IfSome_then, slice_get-map, slice_get_past, slice_get_read}
 use Rattle.std.proofs.lemmas.List.{length-map, length-take, map-append}
@@ -22,6 +22,10 @@ use Rattle.mbe_expandm.proofs.SessionLemmas.{map_taken}
 pub always : {X : Type 0} (o : Option X) (P : X → Type 0) → ((x : X) → P x) → IfSome o P
 always None P h = tt
 always (Some x) P h = h x
+
+pub nothing_anyway : {X : Type 0} (o : Option X) (P : Type 0) → P → IfNone o P
+nothing_anyway None P p = p
+nothing_anyway (Some x) P p = tt
 
 pub none_is : {X : Type 0} (o : Option X) → ((x : X) → o ≡ Some x → ⊥) → o ≡ None
 none_is None h = refl
@@ -247,3 +251,9 @@ pub no_root_there : {X : Type 0} (see : X → Source) (files : List X) (n m : �
 no_root_there see files n m P h same =
     subst (λ k. IfSome (slice_get (map see files) k) P) same
     (subst (λ o. IfSome o P) (sym (none_there see files n h)) tt)
+
+pub not_none_there : {X : Type 0} (see : X → Source) (files : List X) (n m : ℕ) (file : X) (P : Type 0)
+    → n < length files → file ≡ get_or files n file → n ≡ m → IfNone (slice_get (map see files) m) P
+not_none_there see files n m file P within is same =
+    subst (λ k. IfNone (slice_get (map see files) k) P) same
+    (subst (λ o. IfNone o P) (sym (seen_there see files n file within is)) tt)

@@ -1,5 +1,5 @@
 // What files become.
-ghost use Rattle.std.specs.Prelude.{◌≡◌, ◌-◌, None, IfOk, IfSome, OnOk, map, suc};
+ghost use Rattle.std.specs.Prelude.{◌≡◌, ◌-◌, None, IfNone, IfOk, IfSome, OnOk, map, suc};
 ghost use Rattle.std.specs.List.{slice_get};
 ghost use Rattle.std.specs.String.{string_bytes};
 ghost use Rattle.mbe_expanding.specs.Replacing.{NoneCalled};
@@ -96,11 +96,13 @@ pub fn write_last<W: Write>(
     given: usize,
     out: &mut W,
 ) -> io::Result<()>
-    ensures { IfSome (slice_get (map source_of files.now) (given - 1)) (λ root.
+    ensures becomes { IfSome (slice_get (map source_of files.now) (given - 1)) (λ root.
         WritesOne (W.contents out.old) (W.contents out.new) result (λ s.
         RootBecomes (setting_of expander.old) LEVELS asked.call asked.follows
         (map source_of files.now) (given - 1) root
         (state_of expander.old) s (state_of expander.new))) }
+    ensures nothing { IfNone (slice_get (map source_of files.now) (given - 1))
+        (W.contents out.new ≡ W.contents out.old) }
 {
     let number = given.saturating_sub(1);
     match files.get(number) {

@@ -1,12 +1,13 @@
-use Rattle.std.proofs.Common.{map}
+use Rattle.std.proofs.Common.{◌≡◌, ◌-◌, map, refl}
+use Rattle.std.specs.List.{slice_get}
 use Rattle.mbe_expanding.specs.Shown.{setting_of, state_of}
 use Rattle.mbe_expandm.specs.Expansions.{RootBecomes, WritesOne}
 use Rattle.mbe_expandm.specs.ShownFiles.{source_of}
-use Rattle.mbe_expandm.proofs.CrateLemmas.{no_root_there, root_there}
+use Rattle.mbe_expandm.proofs.CrateLemmas.{no_root_there, not_none_there, nothing_anyway, root_there}
 use Rattle.mbe_expandm.proofs.expansions.write_last.Goals as goal
 
-pub returns-in-Some : goal.returns-in-Some
-returns-in-Some g c =
+pub returns-in-Some-clause-becomes : goal.returns-in-Some-clause-becomes
+returns-in-Some-clause-becomes g c =
     let files = map source_of c.args.files.now in
     let contents = g.W.Write.contents in
     root_there source_of c.args.files.now c.saturating_sub-number.result _ c.in-Some.root.now
@@ -16,7 +17,17 @@ returns-in-Some g c =
     c.in-Some.ensures.lookup.3.0 c.in-Some.ensures.lookup.1 c.saturating_sub-number.ensures
     c.write_root.ensures.becomes
 
-pub returns-in-None : goal.returns-in-None
-returns-in-None g c =
+pub returns-in-Some-clause-nothing : goal.returns-in-Some-clause-nothing
+returns-in-Some-clause-nothing g c =
+    not_none_there source_of c.args.files.now c.saturating_sub-number.result _ c.in-Some.root.now _
+    c.in-Some.ensures.lookup.3.0 c.in-Some.ensures.lookup.1 c.saturating_sub-number.ensures
+
+pub returns-in-None-clause-nothing : goal.returns-in-None-clause-nothing
+returns-in-None-clause-nothing g c =
+    let held = g.W.Write.contents c.args.out.now in
+    nothing_anyway (slice_get (map source_of c.args.files.now) (c.args.given - 1)) (held ≡ held) refl
+
+pub returns-in-None-clause-becomes : goal.returns-in-None-clause-becomes
+returns-in-None-clause-becomes g c =
     no_root_there source_of c.args.files.now c.saturating_sub-number.result _ _ c.in-None.ensures.lookup.3
     c.saturating_sub-number.ensures

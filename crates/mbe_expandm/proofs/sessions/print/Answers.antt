@@ -17,4 +17,4 @@ returns-clause-printed g c some few =
     c.write_last-written.result c.in_ok-session.ensures some
     (subst (λ n. length c.args.options.now.names.items ≤ n) (sym (length-map c.args.texts.now text_of)) few)
     (ap (λ w. w.call) c.wanted-asked.ensures) (ap (λ w. w.follows) c.wanted-asked.ensures) n
-    (ap (map source_of) c.deref.ensures.value) c.write_last-written.ensures
+    (ap (map source_of) c.deref.ensures.value) c.write_last-written.ensures.becomes
