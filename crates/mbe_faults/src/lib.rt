@@ -1,0 +1,6 @@
+// Where a definition is refused.
+#![tactic(auto)]
+
+pub mod front;
+pub mod suffix;
+pub mod templates;
