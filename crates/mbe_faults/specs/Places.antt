@@ -100,3 +100,9 @@ module _ (HasEdition : SyntaxContext → Edition → Type 0) where
         → AreParts HasEdition o r → after_separator separators o.back ≡ Some rest
         → RulesFaultAt separators missing fault rest rule n
         → RulesFaultAt separators missing fault f (suc rule) (passed f rest + n)
+
+  -- the first fault of the one rule of a `macro` with arguments: in the arguments, or, where they are read, in the body
+  abbrev pub OneRuleFaultAt : Forest → Forest → Fault → Mode → ℕ → Type 0
+  OneRuleFaultAt arguments body fault pattern n = TemplateFaultAt pattern fault arguments n
+  OneRuleFaultAt arguments body fault template n =
+      (reads : Ops) × Template HasEdition pattern arguments reads × TemplateFaultAt template fault body n

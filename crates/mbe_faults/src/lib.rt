@@ -2,5 +2,6 @@
 #![tactic(auto)]
 
 pub mod front;
+pub mod rules;
 pub mod suffix;
 pub mod templates;

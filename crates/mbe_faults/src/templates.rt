@@ -1,5 +1,5 @@
 // The first fault of a pattern or a template, and its place.
-ghost use Rattle.std.specs.Prelude.{◌≡◌, ◌≤◌, IfOk, IfErr, IfSome, IfNone};
+ghost use Rattle.std.specs.Prelude.{◌≡◌, ◌≤◌, ◌<◌, ◌+◌, ◌^◌, IfOk, IfErr, IfSome, IfNone};
 ghost use Rattle.mbe_tt.specs.Trees.Tree.{flat_len};
 ghost use Rattle.mbe_errors.specs.ErrorViews.{fault_of};
 ghost use Rattle.mbe_semantics.specs.Syntax.Template.{Fault, Template, TemplateFault};
@@ -22,6 +22,20 @@ pub struct Found {
     pub fault: SyntaxFault,
     /// The number of flat tokens before the token that can't be read.
     pub place: usize,
+}
+
+impl Found {
+    // The same, in trees that have so many flat tokens before these.
+    pub(crate) fn moved(self, before: usize) -> Found
+        requires { before + self.place < 2 ^ 64 }
+        ensures fault { result.fault ≡ self.fault }
+        ensures place { result.place ≡ before + self.place }
+    {
+        Found {
+            fault: self.fault,
+            place: before + self.place,
+        }
+    }
 }
 
 /// The ops of a pattern or a template; or its first fault and the place of it, in these trees. `AllocError` if out of memory, and beyond
@@ -77,14 +91,12 @@ fn first_fault<A: Allocator + Copy, E: Copy + Fn(SyntaxContext) -> Edition>(
             Front::Whole => {}
             Front::Group(inside) => {
                 if let Err(found) = read_part(alloc, edition, inside, mode)? {
-                    let place = place + (1 + found.place);
-                    return Ok(Some(Found { place, ..found }));
+                    return Ok(Some(found.moved(1).moved(place)));
                 }
             }
             Front::Repetition(body) => {
                 if let Err(found) = read_part(alloc, edition, body, mode)? {
-                    let place = place + (2 + found.place);
-                    return Ok(Some(Found { place, ..found }));
+                    return Ok(Some(found.moved(2).moved(place)));
                 }
             }
         }
