@@ -72,33 +72,33 @@ module _ (HasEdition : SyntaxContext → Edition → Type 0) (mode : Mode) where
   moved : (f mid left : Forest) → mid ≡ left → Passes f mid → Passes f left
   moved f mid left e p = subst (λ (g : Forest). Passes f g) e p
 
-  whole_step : {A : Type 0} (f left : Forest) (h : Result Head Fault) → head mode f ≡ h
+  whole_step : (A : Type 0) (f left : Forest) (h : Result Head Fault) → head mode f ≡ h
       → Shows {A = A} h code.TheVariants.Whole left → Passes f left
-  whole_step f left (Ok (one o rest)) e s = moved f rest left s (record {
+  whole_step A f left (Ok (one o rest)) e s = moved f rest left s (record {
     at = λ fault n w. places.after_token f rest o n e w;
     others = λ fault w. subst (Told fault) e (told fault w);
   })
-  whole_step f left (Ok (typed name span specifier rest)) e s = moved f rest left s (record {
+  whole_step A f left (Ok (typed name span specifier rest)) e s = moved f rest left s (record {
     at = λ fault n w. places.after_variable f rest name span specifier n e w;
     others = λ fault w. subst (Told fault) e (told fault w);
   })
-  whole_step f left (Ok ended) e s = absurd s
-  whole_step f left (Ok (opens_group d inside rest)) e s = absurd s
-  whole_step f left (Ok (opens_repetition sep repeat inside rest)) e s = absurd s
-  whole_step f left (Err fault) e s = absurd s
+  whole_step A f left (Ok ended) e s = absurd s
+  whole_step A f left (Ok (opens_group d inside rest)) e s = absurd s
+  whole_step A f left (Ok (opens_repetition sep repeat inside rest)) e s = absurd s
+  whole_step A f left (Err fault) e s = absurd s
 
-  pub past_whole : {A : Type 0} (f left : Forest) → Shows {A = A} (head mode f) code.TheVariants.Whole left
+  pub past_whole : (A : Type 0) (f left : Forest) → Shows {A = A} (head mode f) code.TheVariants.Whole left
       → Passes f left
-  past_whole f left s = whole_step f left (head mode f) refl s
+  past_whole A f left s = whole_step A f left (head mode f) refl s
 
   -- of two, the one that can be
   other : {P Q : Type 0} → (P → ⊥) → P ⊎ Q → Q
   other n (inl p) = absurd (n p)
   other n (inr q) = q
 
-  group_step : {A : Type 0} (f g left : Forest) (body : Ops) (h : Result Head Fault) → head mode f ≡ h
+  group_step : (A : Type 0) (f g left : Forest) (body : Ops) (h : Result Head Fault) → head mode f ≡ h
       → Shows {A = A} h (code.TheVariants.Group g) left → Template HasEdition mode g body → Passes f left
-  group_step f g left body (Ok (opens_group d inside rest)) e s t =
+  group_step A f g left body (Ok (opens_group d inside rest)) e s t =
       let b : Template HasEdition mode inside body =
       subst (λ (x : Forest). Template HasEdition mode x body) (sym s.0) t in
       moved f rest left s.1 (record {
@@ -106,19 +106,19 @@ module _ (HasEdition : SyntaxContext → Edition → Type 0) (mode : Mode) where
         others = λ fault w. other (ops_or_fault HasEdition mode inside body fault b)
             (subst (Told fault) e (told fault w));
       })
-  group_step f g left body (Ok (one o rest)) e s t = absurd s
-  group_step f g left body (Ok (typed name span specifier rest)) e s t = absurd s
-  group_step f g left body (Ok ended) e s t = absurd s
-  group_step f g left body (Ok (opens_repetition sep repeat inside rest)) e s t = absurd s
-  group_step f g left body (Err fault) e s t = absurd s
+  group_step A f g left body (Ok (one o rest)) e s t = absurd s
+  group_step A f g left body (Ok (typed name span specifier rest)) e s t = absurd s
+  group_step A f g left body (Ok ended) e s t = absurd s
+  group_step A f g left body (Ok (opens_repetition sep repeat inside rest)) e s t = absurd s
+  group_step A f g left body (Err fault) e s t = absurd s
 
-  pub past_group : {A : Type 0} (f g left : Forest) (body : Ops)
+  pub past_group : (A : Type 0) (f g left : Forest) (body : Ops)
       → Shows {A = A} (head mode f) (code.TheVariants.Group g) left → Template HasEdition mode g body → Passes f left
-  past_group f g left body s t = group_step f g left body (head mode f) refl s t
+  past_group A f g left body s t = group_step A f g left body (head mode f) refl s t
 
-  repetition_step : {A : Type 0} (f g left : Forest) (body : Ops) (h : Result Head Fault) → head mode f ≡ h
+  repetition_step : (A : Type 0) (f g left : Forest) (body : Ops) (h : Result Head Fault) → head mode f ≡ h
       → Shows {A = A} h (code.TheVariants.Repetition g) left → Template HasEdition mode g body → Passes f left
-  repetition_step f g left body (Ok (opens_repetition sep repeat inside rest)) e s t =
+  repetition_step A f g left body (Ok (opens_repetition sep repeat inside rest)) e s t =
       let b : Template HasEdition mode inside body =
       subst (λ (x : Forest). Template HasEdition mode x body) (sym s.0) t in
       moved f rest left s.1 (record {
@@ -126,82 +126,82 @@ module _ (HasEdition : SyntaxContext → Edition → Type 0) (mode : Mode) where
         others = λ fault w. other (ops_or_fault HasEdition mode inside body fault b)
             (subst (Told fault) e (told fault w));
       })
-  repetition_step f g left body (Ok (one o rest)) e s t = absurd s
-  repetition_step f g left body (Ok (typed name span specifier rest)) e s t = absurd s
-  repetition_step f g left body (Ok ended) e s t = absurd s
-  repetition_step f g left body (Ok (opens_group d inside rest)) e s t = absurd s
-  repetition_step f g left body (Err fault) e s t = absurd s
+  repetition_step A f g left body (Ok (one o rest)) e s t = absurd s
+  repetition_step A f g left body (Ok (typed name span specifier rest)) e s t = absurd s
+  repetition_step A f g left body (Ok ended) e s t = absurd s
+  repetition_step A f g left body (Ok (opens_group d inside rest)) e s t = absurd s
+  repetition_step A f g left body (Err fault) e s t = absurd s
 
-  pub past_repetition : {A : Type 0} (f g left : Forest) (body : Ops)
+  pub past_repetition : (A : Type 0) (f g left : Forest) (body : Ops)
       → Shows {A = A} (head mode f) (code.TheVariants.Repetition g) left → Template HasEdition mode g body
       → Passes f left
-  past_repetition f g left body s t = repetition_step f g left body (head mode f) refl s t
+  past_repetition A f g left body s t = repetition_step A f g left body (head mode f) refl s t
 
   -- ---- a fault at the front, or inside it
 
-  refused_step : {A : Type 0} (f left : Forest) (found : reported.SyntaxFault) (h : Result Head Fault)
+  refused_step : (A : Type 0) (f left : Forest) (found : reported.SyntaxFault) (h : Result Head Fault)
       → head mode f ≡ h → Shows {A = A} h (code.TheVariants.Refused found) left
       → TemplateFaultAt HasEdition mode (fault_of found) f 0
-  refused_step f left found (Err fault) e s =
+  refused_step A f left found (Err fault) e s =
       places.here f (e ∙ ap (λ (x : Fault). let r : Result Head Fault = Err x in r) s)
-  refused_step f left found (Ok (one o rest)) e s = absurd s
-  refused_step f left found (Ok (typed name span specifier rest)) e s = absurd s
-  refused_step f left found (Ok ended) e s = absurd s
-  refused_step f left found (Ok (opens_group d inside rest)) e s = absurd s
-  refused_step f left found (Ok (opens_repetition sep repeat inside rest)) e s = absurd s
+  refused_step A f left found (Ok (one o rest)) e s = absurd s
+  refused_step A f left found (Ok (typed name span specifier rest)) e s = absurd s
+  refused_step A f left found (Ok ended) e s = absurd s
+  refused_step A f left found (Ok (opens_group d inside rest)) e s = absurd s
+  refused_step A f left found (Ok (opens_repetition sep repeat inside rest)) e s = absurd s
 
-  pub at_refused : {A : Type 0} (f left : Forest) (found : reported.SyntaxFault)
+  pub at_refused : (A : Type 0) (f left : Forest) (found : reported.SyntaxFault)
       → Shows {A = A} (head mode f) (code.TheVariants.Refused found) left
       → TemplateFaultAt HasEdition mode (fault_of found) f 0
-  at_refused f left found s = refused_step f left found (head mode f) refl s
+  at_refused A f left found s = refused_step A f left found (head mode f) refl s
 
-  inside_step : {A : Type 0} (f g left : Forest) (fault : Fault) (n : ℕ) (h : Result Head Fault) → head mode f ≡ h
+  inside_step : (A : Type 0) (f g left : Forest) (fault : Fault) (n : ℕ) (h : Result Head Fault) → head mode f ≡ h
       → Shows {A = A} h (code.TheVariants.Group g) left → TemplateFaultAt HasEdition mode fault g n
       → TemplateFaultAt HasEdition mode fault f (1 + n)
-  inside_step f g left fault n (Ok (opens_group d inside rest)) e s w =
+  inside_step A f g left fault n (Ok (opens_group d inside rest)) e s w =
       places.in_group f inside rest d n e
       (subst (λ (x : Forest). TemplateFaultAt HasEdition mode fault x n) (sym s.0) w)
-  inside_step f g left fault n (Ok (one o rest)) e s w = absurd s
-  inside_step f g left fault n (Ok (typed name span specifier rest)) e s w = absurd s
-  inside_step f g left fault n (Ok ended) e s w = absurd s
-  inside_step f g left fault n (Ok (opens_repetition sep repeat inside rest)) e s w = absurd s
-  inside_step f g left fault n (Err x) e s w = absurd s
+  inside_step A f g left fault n (Ok (one o rest)) e s w = absurd s
+  inside_step A f g left fault n (Ok (typed name span specifier rest)) e s w = absurd s
+  inside_step A f g left fault n (Ok ended) e s w = absurd s
+  inside_step A f g left fault n (Ok (opens_repetition sep repeat inside rest)) e s w = absurd s
+  inside_step A f g left fault n (Err x) e s w = absurd s
 
-  pub inside_group : {A : Type 0} (f g left : Forest) (fault : Fault) (n : ℕ)
+  pub inside_group : (A : Type 0) (f g left : Forest) (fault : Fault) (n : ℕ)
       → Shows {A = A} (head mode f) (code.TheVariants.Group g) left → TemplateFaultAt HasEdition mode fault g n
       → TemplateFaultAt HasEdition mode fault f (1 + n)
-  inside_group f g left fault n s w = inside_step f g left fault n (head mode f) refl s w
+  inside_group A f g left fault n s w = inside_step A f g left fault n (head mode f) refl s w
 
-  body_step : {A : Type 0} (f g left : Forest) (fault : Fault) (n : ℕ) (h : Result Head Fault) → head mode f ≡ h
+  body_step : (A : Type 0) (f g left : Forest) (fault : Fault) (n : ℕ) (h : Result Head Fault) → head mode f ≡ h
       → Shows {A = A} h (code.TheVariants.Repetition g) left → TemplateFaultAt HasEdition mode fault g n
       → TemplateFaultAt HasEdition mode fault f (2 + n)
-  body_step f g left fault n (Ok (opens_repetition sep repeat inside rest)) e s w =
+  body_step A f g left fault n (Ok (opens_repetition sep repeat inside rest)) e s w =
       places.in_repetition f inside rest sep repeat n e
       (subst (λ (x : Forest). TemplateFaultAt HasEdition mode fault x n) (sym s.0) w)
-  body_step f g left fault n (Ok (one o rest)) e s w = absurd s
-  body_step f g left fault n (Ok (typed name span specifier rest)) e s w = absurd s
-  body_step f g left fault n (Ok ended) e s w = absurd s
-  body_step f g left fault n (Ok (opens_group d inside rest)) e s w = absurd s
-  body_step f g left fault n (Err x) e s w = absurd s
+  body_step A f g left fault n (Ok (one o rest)) e s w = absurd s
+  body_step A f g left fault n (Ok (typed name span specifier rest)) e s w = absurd s
+  body_step A f g left fault n (Ok ended) e s w = absurd s
+  body_step A f g left fault n (Ok (opens_group d inside rest)) e s w = absurd s
+  body_step A f g left fault n (Err x) e s w = absurd s
 
-  pub inside_repetition : {A : Type 0} (f g left : Forest) (fault : Fault) (n : ℕ)
+  pub inside_repetition : (A : Type 0) (f g left : Forest) (fault : Fault) (n : ℕ)
       → Shows {A = A} (head mode f) (code.TheVariants.Repetition g) left → TemplateFaultAt HasEdition mode fault g n
       → TemplateFaultAt HasEdition mode fault f (2 + n)
-  inside_repetition f g left fault n s w = body_step f g left fault n (head mode f) refl s w
+  inside_repetition A f g left fault n s w = body_step A f g left fault n (head mode f) refl s w
 
   -- nothing is at the front
-  ended_step : {A : Type 0} (f left : Forest) (h : Result Head Fault) → head mode f ≡ h
+  ended_step : (A : Type 0) (f left : Forest) (h : Result Head Fault) → head mode f ≡ h
       → Shows {A = A} h code.TheVariants.Ended left → (fault : Fault) → TemplateFault HasEdition mode fault f → ⊥
-  ended_step f left (Ok ended) e s fault w = subst (Told fault) e (told fault w)
-  ended_step f left (Ok (one o rest)) e s fault w = absurd s
-  ended_step f left (Ok (typed name span specifier rest)) e s fault w = absurd s
-  ended_step f left (Ok (opens_group d inside rest)) e s fault w = absurd s
-  ended_step f left (Ok (opens_repetition sep repeat inside rest)) e s fault w = absurd s
-  ended_step f left (Err x) e s fault w = absurd s
+  ended_step A f left (Ok ended) e s fault w = subst (Told fault) e (told fault w)
+  ended_step A f left (Ok (one o rest)) e s fault w = absurd s
+  ended_step A f left (Ok (typed name span specifier rest)) e s fault w = absurd s
+  ended_step A f left (Ok (opens_group d inside rest)) e s fault w = absurd s
+  ended_step A f left (Ok (opens_repetition sep repeat inside rest)) e s fault w = absurd s
+  ended_step A f left (Err x) e s fault w = absurd s
 
-  pub at_end : {A : Type 0} (f left : Forest) → Shows {A = A} (head mode f) code.TheVariants.Ended left
+  pub at_end : (A : Type 0) (f left : Forest) → Shows {A = A} (head mode f) code.TheVariants.Ended left
       → (fault : Fault) → TemplateFault HasEdition mode fault f → ⊥
-  at_end f left s = ended_step f left (head mode f) refl s
+  at_end A f left s = ended_step A f left (head mode f) refl s
 
   -- ---- from the trees that are left to all
 
@@ -232,3 +232,8 @@ module _ (HasEdition : SyntaxContext → Edition → Type 0) (mode : Mode) where
         others = λ fault w. p.others fault (s.others fault w);
         shorter = omega arith;
       }
+
+  -- a fault at the same place
+  pub placed : (fault : Fault) (f : Forest) (n m : ℕ) → n ≡ m → TemplateFaultAt HasEdition mode fault f n
+      → TemplateFaultAt HasEdition mode fault f m
+  placed fault f n m e w = subst (λ (k : ℕ). TemplateFaultAt HasEdition mode fault f k) e w

@@ -3,9 +3,9 @@ ghost use Rattle.std.specs.Prelude.{◌≡◌, ◌<◌, ◌≤◌, ◌+◌, opti
 ghost use Rattle.mbe_tt.specs.Trees.Tree.{flat_len, rest_of};
 ghost use Rattle.mbe_errors.specs.ErrorViews.{fault_of};
 ghost use Rattle.mbe_semantics.specs.declared.macro_call_style.MacroCallStyle.{MacroCallStyle as SpecStyle};
-ghost use Rattle.mbe_semantics.specs.Syntax.Definition.{rule_trees_at, pattern_at, Rules};
+ghost use Rattle.mbe_semantics.specs.Syntax.Definition.{rule_trees_at, pattern_at};
 ghost use Rattle.mbe_semantics.specs.Laws.Marking.{MayAsk};
-ghost use Rattle.mbe_parser.specs.Reader.{mode_of, is_word, IsStyled, AreRuleTrees, ReadsRule, IsOneRule};
+ghost use Rattle.mbe_parser.specs.Reader.{mode_of, is_word, IsStyled, AreRuleTrees, ReadsRule, AreRules, IsOneRule};
 ghost use Rattle.mbe_parser.specs.RuleViews.{rule_of, rules_seen};
 ghost use Rattle.mbe_faults.specs.Places.{RuleFaultAt, RulesFaultAt, OneRuleFaultAt, stop_at_pattern, stop_in_rule};
 ghost use Rattle.mbe_faults.specs.RuleTrees.{IsRule};
@@ -49,8 +49,8 @@ pub fn read_rules<A: Allocator + Copy, E: Copy + Fn(SyntaxContext) -> Edition>(
     missing: SyntaxFault,
 ) -> Result<(Vec<Rule<A>, A>, Option<RulesFault>), AllocError>
     requires { MayAsk (E.pre edition) }
-    ensures rules { IfOk result (λ r. Rules (E.post edition) separators.now (fault_of missing)
-        src.entry (rules_seen r.0.items) (option_map (λ x. fault_of x.fault) r.1)) }
+    ensures rules { IfOk result (λ r. AreRules (E.post edition) separators.now (fault_of missing)
+        src.entry (rules_seen r.0.items) (option_map (λ x. x.fault) r.1)) }
     ensures place { IfOk result (λ r. IfSome r.1 (λ x. RulesFaultAt (E.post edition)
         separators.now (fault_of missing) (fault_of x.fault) src.entry x.rule x.place)) }
 {

@@ -89,16 +89,14 @@ fn first_fault<A: Allocator + Copy, E: Copy + Fn(SyntaxContext) -> Edition>(
             Front::Ended => return Ok(None),
             Front::Refused(fault) => return Ok(Some(Found { fault, place })),
             Front::Whole => {}
-            Front::Group(inside) => {
-                if let Err(found) = read_part(alloc, edition, inside, mode)? {
-                    return Ok(Some(found.moved(1).moved(place)));
-                }
-            }
-            Front::Repetition(body) => {
-                if let Err(found) = read_part(alloc, edition, body, mode)? {
-                    return Ok(Some(found.moved(2).moved(place)));
-                }
-            }
+            Front::Group(inside) => match read_part(alloc, edition, inside, mode)? {
+                Ok(_read) => {}
+                Err(found) => return Ok(Some(found.moved(1).moved(place))),
+            },
+            Front::Repetition(body) => match read_part(alloc, edition, body, mode)? {
+                Ok(_read) => {}
+                Err(found) => return Ok(Some(found.moved(2).moved(place))),
+            },
         }
     }
 }
