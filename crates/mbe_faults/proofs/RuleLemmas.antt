@@ -1,6 +1,6 @@
 -- Where the trees of a rule are refused, and where the parts of a rule are.
 use Rattle.std.specs.Prelude.{◌≡◌, ◌≢◌, ◌≤◌, ◌<◌, ◌+◌, ◌-◌, ◌||◌, ◌==◌, ℕ, suc, Bool, true, false, if◌then◌else◌, List, [], ◌∷◌, ◌++◌, length, codes, Option, Some, None, refl}
-use Rattle.std.proofs.Common.{ap, sym, ◌∙◌, subst, arith}
+use Rattle.std.proofs.Common.{ap, sym, ◌∙◌, subst, arith, length-append}
 use Rattle.std.proofs.lemmas.Option.{none-some, same_Some}
 use Rattle.std.proofs.lemmas.Bool.{eq-eqb, ne_eqb}
 use Rattle.mbe_tt.specs.declared.span.SyntaxContext.{SyntaxContext}
@@ -11,6 +11,8 @@ use Rattle.mbe_tt.specs.Trees.Tree.{Forest, none, leaf, group, flat_len, rest_of
 use Rattle.mbe_semantics.specs.Syntax.Template.{Fault}
 use Rattle.mbe_semantics.specs.Syntax.Definition.{Rule, RuleTrees, rule_trees_at, AreParts, after_separator}
 use Rattle.mbe_parser.specs.Reader.{is_word, ReadsRule}
+use Rattle.mbe_parser.specs.declared.rules.Rule as code
+use Rattle.mbe_parser.specs.RuleViews.{rule_of, rules_seen}
 use Rattle.mbe_parser.proofs.RuleReading.{IsSeparated, following-some, following-none}
 use Rattle.mbe_faults.specs.Places.{begins_with, is_group, wanting, stop_at_pattern, stop_at_style, stop_in_rule, RuleFaultAt, RulesFaultAt, in_rule, unseparated, separated}
 
@@ -144,12 +146,17 @@ module _ (HasEdition : SyntaxContext → Edition → Type 0) (separators : List 
     shorter = omega arith;
   }
 
-  place_is : {fault : Fault} {f : Forest} (rule k n m : ℕ) → rule ≡ k → n ≡ m
+  -- a fault after as many rules, at the same place
+  pub same_rules_place : (fault : Fault) (f : Forest) (rule k n m : ℕ) → rule ≡ k → n ≡ m
       → RulesFaultAt HasEdition separators missing fault f rule n
       → RulesFaultAt HasEdition separators missing fault f k m
-  place_is {fault} {f} rule k n m e p w =
+  same_rules_place fault f rule k n m e p w =
       subst (λ (i : ℕ). RulesFaultAt HasEdition separators missing fault f i m) e
       (subst (λ (i : ℕ). RulesFaultAt HasEdition separators missing fault f rule i) p w)
+
+  -- the same number of rules
+  pub so_far-counted : (whole left : Forest) (n m : ℕ) → n ≡ m → SoFar n whole left → SoFar m whole left
+  so_far-counted whole left n m e s = subst (λ (k : ℕ). SoFar k whole left) e s
 
   module _ (rules : ℕ) (whole left : Forest) (s : SoFar rules whole left) where
     -- one rule more, with a separator after it
@@ -165,7 +172,7 @@ module _ (HasEdition : SyntaxContext → Edition → Type 0) (separators : List 
           at = λ fault rule n w.
               let k : rules + suc rule ≡ (rules + 1) + rule = omega arith in
               let p : passed whole left + (passed left rest + n) ≡ passed whole rest + n = omega arith in
-              place_is _ _ _ _ k p (s.at fault (suc rule) (passed left rest + n)
+              same_rules_place fault whole _ _ _ _ k p (s.at fault (suc rule) (passed left rest + n)
               (separated left rest reads.rule_trees r rule n reads.at reads.parts back w));
           shorter = omega arith;
         }
@@ -175,7 +182,7 @@ module _ (HasEdition : SyntaxContext → Edition → Type 0) (separators : List 
         → RulesFaultAt HasEdition separators missing fault whole rules (passed whole left + n)
     at_rule fault n some w =
         let k : rules + 0 ≡ rules = omega arith in
-        place_is _ _ _ _ k refl (s.at fault 0 n (in_rule left n some w))
+        same_rules_place fault whole _ _ _ _ k refl (s.at fault 0 n (in_rule left n some w))
 
     -- nothing separates the next rule from what is after it
     pub at_stray : (r : Rule) (following : Forest) → ReadsRule HasEdition left r following
@@ -186,6 +193,20 @@ module _ (HasEdition : SyntaxContext → Edition → Type 0) (separators : List 
         let same : flat_len reads.rule_trees.back ≡ flat_len following = ap flat_len reads.following in
         let p : passed whole left + passed left reads.rule_trees.back ≡ passed whole following =
         omega (arith, same) in
-        place_is _ _ _ _ refl p (s.at missing 1 (passed left reads.rule_trees.back)
+        same_rules_place missing whole _ _ _ _ refl p (s.at missing 1 (passed left reads.rule_trees.back)
         (unseparated left reads.rule_trees r reads.at reads.parts
         (ap (after_separator separators) reads.following ∙ following-none separators following some n) refl))
+
+-- a fault at the same place
+pub rule_placed : (HasEdition : SyntaxContext → Edition → Type 0) (fault : Fault) (f : Forest) (n m : ℕ) → n ≡ m
+    → RuleFaultAt HasEdition fault f n → RuleFaultAt HasEdition fault f m
+rule_placed HasEdition fault f n m e w = subst (λ (k : ℕ). RuleFaultAt HasEdition fault f k) e w
+
+-- one more at the end
+pub length-push : {A : Type 0} (before : List A) (x : A) → length (before ++ x ∷ []) ≡ length before + 1
+length-push before x = length-append before (x ∷ [])
+
+-- the only rule that was pushed
+pub one_pushed : {A : Type 0} (before after : List (code.Rule A)) (r : code.Rule A) → before ≡ []
+    → after ≡ before ++ r ∷ [] → rules_seen after ≡ rule_of r ∷ []
+one_pushed before after r n e = ap rules_seen e ∙ ap (λ xs. rules_seen (xs ++ r ∷ [])) n
