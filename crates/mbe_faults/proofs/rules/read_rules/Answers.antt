@@ -6,6 +6,7 @@ use Rattle.mbe_parser.proofs.RuleReading.{IsSeparated, at_fault, at_end, one_mor
 use Rattle.mbe_faults.proofs.PlaceLaws.{rule_fault_is}
 use Rattle.mbe_faults.proofs.RuleLemmas.{at_rule, at_stray, so_far-step, so_far-counted, same_rules_place, length-push}
 use Rattle.mbe_ops.proofs.Fragments.{rest_no_longer}
+use Rattle.mbe_tt.proofs.Places.CutLemmas.{no_true}
 use Rattle.mbe_faults.proofs.rules.read_rules.Goals as goal
 
 pub returns-in-Err-clause-rules : goal.returns-in-Err-clause-rules
@@ -64,7 +65,8 @@ pub returns-in_default-clause-rules : goal.returns-in_default-clause-rules
 returns-in_default-clause-rules g c =
     let reads = rw c.in-Ok.is at c.in_ok-rule.ensures.rule in
     let some_left : c.expect_any_char.new.self ≡ none → ⊥ = search rules in
-    let none_in_front : IsSeparated c.args.separators.now c.read_rule.new.src → ⊥ = search rules in
+    let none_in_front : IsSeparated c.args.separators.now c.read_rule.new.src → ⊥ =
+    λ h. no_true (c.in_default.ensures.value.1 h) in
     rw (c.faulty-fault-in_default.ensures.fault, c.in_ok-push-in-Ok.ensures.items, rules-push)
     (stray_rule _ c.args.separators.now (fault_of c.args.missing) (rules_seen c.rules.rules.items)
     (rule_of c.in-Ok.rule) c.args.src c.rules.src c.read_rule.new.src c.rules.invariant.continues reads
@@ -75,7 +77,8 @@ returns-in_default-clause-place g c =
     let reads = rw c.in-Ok.is at c.in_ok-rule.ensures.rule in
     let shorter = rw c.in-Ok.is at c.in_ok-rule.ensures.shorter in
     let some_left : c.expect_any_char.new.self ≡ none → ⊥ = search rules in
-    let none_in_front : IsSeparated c.args.separators.now c.read_rule.new.src → ⊥ = search rules in
+    let none_in_front : IsSeparated c.args.separators.now c.read_rule.new.src → ⊥ =
+    λ h. no_true (c.in_default.ensures.value.1 h) in
     let n : length c.push.new.self.items ≡ c.faulty-fault-in_default.result.rule = search rules in
     let k : length c.rules.rules.items + 1 ≡ length c.push.new.self.items =
     sym (ap length c.in_ok-push-in-Ok.ensures.items ∙ length-push c.rules.rules.items c.in-Ok.rule) in
