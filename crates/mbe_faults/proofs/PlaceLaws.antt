@@ -57,9 +57,12 @@ module _ (HasEdition : SyntaxContext → Edition → Type 0) where
   pub rules_fault : (separators : List ℕ) (missing fault : Fault) {f : Forest} {rule n : ℕ}
       → RulesFaultAt HasEdition separators missing fault f rule n → IsFaultOf separators missing fault f rule
   rules_fault separators missing fault (in_rule f n some w) = rule_fault separators missing fault f some w
-  rules_fault separators missing fault (unseparated f o r e a b m) =
-      (r ∷ [], subst (λ (x : Fault). Rules HasEdition separators missing f (r ∷ []) (Some x)) m
-      (rules.unseparated f o r e a b), refl)
+  rules_fault separators missing fault (unseparated f o r e a b m) = (
+    r ∷ [],
+    subst (λ (x : Fault). Rules HasEdition separators missing f (r ∷ []) (Some x)) m
+        (rules.unseparated f o r e a b),
+    refl,
+  )
   rules_fault separators missing fault (separated f rest o r rule n e a b w) =
       let t = rules_fault separators missing fault w in
       (r ∷ t.0, rules.separated f rest o r t.0 (Some fault) e a b t.1, ap suc t.2)

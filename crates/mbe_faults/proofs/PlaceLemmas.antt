@@ -205,8 +205,8 @@ module _ (HasEdition : SyntaxContext → Edition → Type 0) (mode : Mode) where
 
   -- ---- from the trees that are left to all
 
-  -- Each fault of the trees that are left is one of all, at the place after those that were passed; and each of all is one of
-  -- these.
+  -- Each fault of the trees that are left is one of all, at the place after those that were passed; and each of all is
+  -- one of these.
   pub record SoFar (whole left : Forest) : Type 0 where
     pub at : (fault : Fault) (n : ℕ) → TemplateFaultAt HasEdition mode fault left n
         → TemplateFaultAt HasEdition mode fault whole (passed whole left + n)

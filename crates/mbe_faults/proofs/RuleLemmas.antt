@@ -70,7 +70,8 @@ pub group_len : (f inside : Forest) (d : Delimiter) → front_group f ≡ Some (
 group_len none inside d e = absurd (none-some (d, inside) e)
 group_len (leaf l rest) inside d e = absurd (none-some (d, inside) e)
 group_len (group k body rest) inside d e =
-    ap (λ (g : Forest). 2 + flat_len g + flat_len rest) (ap (λ (x : Delimiter × Forest). x.1) (same_Some (k, body) (d, inside) e))
+    ap (λ (g : Forest). 2 + flat_len g + flat_len rest)
+    (ap (λ (x : Delimiter × Forest). x.1) (same_Some (k, body) (d, inside) e))
 
 pub char_len : (f : Forest) (c : ℕ) → front_char f ≡ Some c → flat_len f ≡ 1 + flat_len (rest_of f)
 char_len none c e = absurd (none-some c e)

@@ -28,7 +28,8 @@ is_group _ = false
 abbrev pub wanting : (Forest → Bool) → (Forest → Forest) → Forest → Forest
 wanting is_there others f = if is_there f then others (rest_of f) else f
 
--- the trees that are left where a rule is refused before its pattern and its template are read: a group, `=`, `>`, a group
+-- the trees that are left where a rule is refused before its pattern and its template are read: a group, `=`, `>` and
+-- a group are wanted
 abbrev pub stop_at_greater : Forest → Forest
 stop_at_greater = wanting (begins_with 62) (λ f. f)
 
@@ -48,7 +49,8 @@ stop_at_style f =
 abbrev pub stop_in_rule : Forest → Forest
 stop_in_rule f = stop_at_style (if is_word (codes "unsafe") f then rest_of f else f)
 
--- the number of flat tokens before the content of a rule's template, which its closing and the trees after the rule follow
+-- the number of flat tokens before the content of a rule's template, which its closing and the trees after the rule
+-- follow
 abbrev pub template_place : Forest → RuleTrees → ℕ
 template_place f o = passed f o.back - (flat_len o.writes + 1)
 
@@ -77,9 +79,10 @@ module _ (HasEdition : SyntaxContext → Edition → Type 0) where
     following_group : (f inside rest : Forest) (d : Delimiter) (body : Ops) (n : ℕ) →
         head mode f ≡ Ok (opens_group d inside rest) → Template HasEdition mode inside body →
         TemplateFaultAt mode fault rest n → TemplateFaultAt mode fault f (passed f rest + n)
-    after_repetition : (f inside rest : Forest) (separator : Option Separator) (repeat : RepeatKind) (body : Ops) (n : ℕ)
-        → head mode f ≡ Ok (opens_repetition separator repeat inside rest) → Template HasEdition mode inside body →
-        TemplateFaultAt mode fault rest n → TemplateFaultAt mode fault f (passed f rest + n)
+    after_repetition : (f inside rest : Forest) (separator : Option Separator) (repeat : RepeatKind) (body : Ops)
+        (n : ℕ) → head mode f ≡ Ok (opens_repetition separator repeat inside rest) →
+        Template HasEdition mode inside body → TemplateFaultAt mode fault rest n
+        → TemplateFaultAt mode fault f (passed f rest + n)
 
   -- the first fault of the rule in front, and its place
   pub data RuleFaultAt (fault : Fault) (f : Forest) : ℕ → Type 0 where

@@ -12,6 +12,7 @@ abbrev pub rule_of_parts : MacroCallStyle × Forest × Forest → Forest → Rul
 rule_of_parts g left = record { style = g.0; reads = g.1; writes = g.2; back = left }
 
 -- the trees of one rule, and these are the trees after it; or the fault
-abbrev pub IsRule : Result (MacroCallStyle × Forest × Forest) reported.SyntaxFault → Result RuleTrees Fault → Forest → Type 0
+abbrev pub IsRule : Result (MacroCallStyle × Forest × Forest) reported.SyntaxFault → Result RuleTrees Fault → Forest
+    → Type 0
 IsRule (Ok g) r left = r ≡ Ok (rule_of_parts g left)
 IsRule (Err f) r left = r ≡ Err (fault_of f)

@@ -34,7 +34,12 @@ static FAULTS: [Row; 29] = [
     ("(a $x:) => {}", SyntaxFault::MissingSpecifier, 0, 2),
     ("(a [b $x]) => {}", SyntaxFault::MissingSpecifier, 0, 4),
     ("($(a $b)*) => {}", SyntaxFault::MissingSpecifier, 0, 4),
-    ("($(a),* $(b $c)+) => {}", SyntaxFault::MissingSpecifier, 0, 10),
+    (
+        "($(a),* $(b $c)+) => {}",
+        SyntaxFault::MissingSpecifier,
+        0,
+        10,
+    ),
     ("(..= 1 $x) => {}", SyntaxFault::MissingSpecifier, 0, 5),
     ("($x:tt (a) $y) => {}", SyntaxFault::MissingSpecifier, 0, 8),
     ("($(a) b) => {}", SyntaxFault::InvalidRepeat, 0, 1),
@@ -97,9 +102,7 @@ fn faults_are_placed(rt: HostRuntime) -> Result<(), LexError> {
         let found = fault(rt.alloc(), text, &[';'], SyntaxFault::ExpectedSemicolon)?;
         let is_wanted = match found {
             None => false,
-            Some(found) => {
-                found.fault == *want && found.rule == *rule && found.place == *place
-            }
+            Some(found) => { found.fault == *want && found.rule == *rule && found.place == *place }
         };
         assert!(rt; is_wanted, "{text}");
     }
@@ -109,7 +112,12 @@ fn faults_are_placed(rt: HostRuntime) -> Result<(), LexError> {
 #[test]
 fn a_fault_between_rules_depends_on_the_separators(rt: HostRuntime) -> Result<(), LexError> {
     let text = "() => {}, () => {} a";
-    let found = fault(rt.alloc(), text, &[';', ','], SyntaxFault::ExpectedSeparator)?;
+    let found = fault(
+        rt.alloc(),
+        text,
+        &[';', ','],
+        SyntaxFault::ExpectedSeparator,
+    )?;
     let want = RulesFault {
         fault: SyntaxFault::ExpectedSeparator,
         rule: 2,
@@ -130,17 +138,25 @@ fn what_is_read_has_no_fault(rt: HostRuntime) -> Result<(), LexError> {
 
 // The arguments and the body of a `macro`; the fault, where it is, and the number of flat tokens before it there.
 static PARTS: [(&str, &str, SyntaxFault, Mode, usize); 3] = [
-    ("$x:tt, $y", "$x", SyntaxFault::MissingSpecifier, Mode::Pattern, 5),
-    ("$x:tt", "a {$x $-}", SyntaxFault::ExpectedIdent, Mode::Template, 4),
+    (
+        "$x:tt, $y",
+        "$x",
+        SyntaxFault::MissingSpecifier,
+        Mode::Pattern,
+        5,
+    ),
+    (
+        "$x:tt",
+        "a {$x $-}",
+        SyntaxFault::ExpectedIdent,
+        Mode::Template,
+        4,
+    ),
     ("$$", "${x}", SyntaxFault::DollarInPattern, Mode::Pattern, 0),
 ];
 
 // The fault of a `macro` with these arguments and this body, in edition 2024.
-fn part_fault(
-    alloc: Global,
-    arguments: &str,
-    body: &str,
-) -> Result<Option<PartFault>, LexError> {
+fn part_fault(alloc: Global, arguments: &str, body: &str) -> Result<Option<PartFault>, LexError> {
     let arguments = trees(alloc, arguments)?;
     let body = trees(alloc, body)?;
     let edition = |_context| Edition::Edition2024;

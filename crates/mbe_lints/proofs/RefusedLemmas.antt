@@ -58,7 +58,7 @@ module _ (HasEdition : SyntaxContext → Edition → Type 0) (close : Span) (rul
 
     pub fault_in_body : (rule n : ℕ) → IsSpot rs spot (Some (rules_spot close rules rule n))
         → RulesFaultAt HasEdition (59 ∷ 44 ∷ []) (fault_of reported.TheVariants.ExpectedSeparator) (fault_of x) rules
-            rule n
+        rule n
         → RefusedAt HasEdition close rules m Body spot
     fault_in_body rule n s w =
         chosen (refuses rs) m Body spot (Some (rules_spot close rules rule n)) (Some (fault_of x))

@@ -22,8 +22,8 @@ part_spot pattern_close arguments close body pattern n = record { rule = 0; span
 part_spot pattern_close arguments close body template n = record { rule = 0; span = span_at close body n }
 
 module _ (HasEdition : SyntaxContext → Edition → Type 0) where
-  -- The first token that can't be read of a definition that is read so, whose rules close there. There is none where it isn't
-  -- refused, and where it is for a pattern that was read.
+  -- The first token that can't be read of a definition that is read so, whose rules close there. There is none where it
+  -- isn't refused, and where it is for a pattern that was read.
   pub data RefusedAt (close : Span) (rules : Forest) (m : Macro) : Form → Option Spot → Type 0 where
     not_refused : (form : Form) → m.err ≡ None → RefusedAt close rules m form None
     once_read : (form : Form) → m.err ≡ Some empty_repetition → RefusedAt close rules m form None
@@ -32,7 +32,7 @@ module _ (HasEdition : SyntaxContext → Edition → Type 0) where
         → RefusedAt close rules m Rules (Some (rules_spot close rules rule n))
     in_body : (fault : Fault) (rule n : ℕ) → m.err ≡ Some fault
         → RulesFaultAt HasEdition (59 ∷ 44 ∷ []) (expected (codes "expected `;` or `,` to delimit rules")) fault rules
-            rule n
+        rule n
         → RefusedAt close rules m Body (Some (rules_spot close rules rule n))
     in_part : (k : Delimiter) (arguments : Forest) (fault : Fault) (part : Mode) (n : ℕ) → m.err ≡ Some fault
         → OneRuleFaultAt HasEdition arguments rules fault part n

@@ -37,11 +37,7 @@ pub struct ReadMacro<A: Allocator = Global> {
 }
 
 // Where the first fault of rules is.
-fn rules_spot<A: Allocator>(
-    rules: TokenTreesView<'_, A>,
-    close: Span,
-    found: RulesFault,
-) -> Spot
+fn rules_spot<A: Allocator>(rules: TokenTreesView<'_, A>, close: Span, found: RulesFault) -> Spot
     ensures { result ≡ rules_spot close (trees rules.entry) found.rule found.place }
 {
     Spot {

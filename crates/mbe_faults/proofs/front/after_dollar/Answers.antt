@@ -25,7 +25,8 @@ returns-in-Brace-clause-front g c =
     (leaf (punct c.args.dollar) (group c.in-Subtree.subtree.now.delimiter c.in-Subtree.inside none))
     (c.requires.saved ∙ ap (leaf (punct c.args.dollar)) at) in
     braces_front c.expression.result (mode_of c.args.mode) c.args.dollar c.in-Subtree.subtree.now.delimiter
-    c.in-Subtree.inside c.args.src.now c.next.new.self _ c.requires.dollar c.in-Brace.is op at c.expression.ensures.front
+    c.in-Subtree.inside c.args.src.now c.next.new.self _ c.requires.dollar c.in-Brace.is op at
+    c.expression.ensures.front
 
 pub returns-in-Leaf-clause-front : goal.returns-in-Leaf-clause-front
 returns-in-Leaf-clause-front g c =

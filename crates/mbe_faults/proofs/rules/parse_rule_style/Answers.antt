@@ -72,10 +72,11 @@ returns-in_default-clause-stop g c =
           c.eat_word.ensures.rest w.if-eat_word.true
           ∙ sym (λ i. wanting is_group stop_at_pattern (w.src-is i))
       | else-eat_word+then-eat_word-2 w ↦
-          stop.after_derive c.eat_word.result w.eat_word-else-eat_word.result c.eat_word-unsafe.new.src c.eat_word.new.src
-          w.eat_word-else-eat_word.new.src
+          stop.after_derive c.eat_word.result w.eat_word-else-eat_word.result c.eat_word-unsafe.new.src
+          c.eat_word.new.src w.eat_word-else-eat_word.new.src
           c.eat_word.ensures.value c.eat_word.ensures.rest w.if-eat_word.false w.eat_word-else-eat_word.ensures.value
-          w.eat_word-else-eat_word.ensures.rest w.if-eat_word-2.true ∙ sym (λ i. wanting is_group stop_at_pattern (w.src-is i))
+          w.eat_word-else-eat_word.ensures.rest w.if-eat_word-2.true
+          ∙ sym (λ i. wanting is_group stop_at_pattern (w.src-is i))
     ] in
     stop.after_unsafe c.eat_word-unsafe.result c.args.src.now c.eat_word-unsafe.new.src c.eat_word-unsafe.ensures.value
     c.eat_word-unsafe.ensures.rest
@@ -91,10 +92,11 @@ returns-clause-stop g c =
           c.eat_word.ensures.rest w.if-eat_word.true
           ∙ sym (λ i. wanting is_group stop_at_pattern (w.src-is i))
       | else-eat_word+then-eat_word-2 w ↦
-          stop.after_derive c.eat_word.result w.eat_word-else-eat_word.result c.eat_word-unsafe.new.src c.eat_word.new.src
-          w.eat_word-else-eat_word.new.src
+          stop.after_derive c.eat_word.result w.eat_word-else-eat_word.result c.eat_word-unsafe.new.src
+          c.eat_word.new.src w.eat_word-else-eat_word.new.src
           c.eat_word.ensures.value c.eat_word.ensures.rest w.if-eat_word.false w.eat_word-else-eat_word.ensures.value
-          w.eat_word-else-eat_word.ensures.rest w.if-eat_word-2.true ∙ sym (λ i. wanting is_group stop_at_pattern (w.src-is i))
+          w.eat_word-else-eat_word.ensures.rest w.if-eat_word-2.true
+          ∙ sym (λ i. wanting is_group stop_at_pattern (w.src-is i))
     ] in
     stop.after_unsafe c.eat_word-unsafe.result c.args.src.now c.eat_word-unsafe.new.src c.eat_word-unsafe.ensures.value
     c.eat_word-unsafe.ensures.rest

@@ -10,8 +10,14 @@ use Rattle.mbe_faults.proofs.rules.read_rule.Goals as goal
 pub returns-in-Err-clause-fault : goal.returns-in-Err-clause-fault
 returns-in-Err-clause-fault g c =
     let e : passed c.args.src.now (stop_in_rule c.args.src.now) ≡ c.flat_len-whole.result - c.flat_len.result =
-    omega (arith, ap flat_len c.in-Err.ensures.stop, c.flat_len-whole.ensures, ap flat_len c.remaining.ensures,
-    c.flat_len.ensures, ap flat_len c.remaining-in-Err.ensures) in
+    omega (
+      arith,
+      ap flat_len c.in-Err.ensures.stop,
+      c.flat_len-whole.ensures,
+      ap flat_len c.remaining.ensures,
+      c.flat_len.ensures,
+      ap flat_len c.remaining-in-Err.ensures,
+    ) in
     rule_placed _ (fault_of c.in-Err.fault) c.args.src.now _ _ e (in_trees c.in-Err.ensures.trees)
 
 pub returns-in-Err-2-clause-fault : goal.returns-in-Err-2-clause-fault
@@ -20,9 +26,18 @@ returns-in-Err-2-clause-fault g c =
     let o = rule_of_parts c.in-Ok.parts c.rule_trees.new.src in
     let w = rw c.in-Err-2.is at c.in_ok-ops.ensures.fault in
     let e : pattern_place f o + c.in-Err-2.found.place ≡ c.moved.result.place =
-    omega (arith, c.moved.ensures.place, c.flat_len-whole.ensures, ap flat_len c.remaining.ensures,
-    c.flat_len-2.ensures, ap flat_len c.remaining-2.ensures, c.flat_len-3.ensures, ap flat_len c.remaining-3.ensures,
-    c.flat_len-4.ensures, ap flat_len c.remaining-4.ensures) in
+    omega (
+      arith,
+      c.moved.ensures.place,
+      c.flat_len-whole.ensures,
+      ap flat_len c.remaining.ensures,
+      c.flat_len-2.ensures,
+      ap flat_len c.remaining-2.ensures,
+      c.flat_len-3.ensures,
+      ap flat_len c.remaining-3.ensures,
+      c.flat_len-4.ensures,
+      ap flat_len c.remaining-4.ensures,
+    ) in
     rw c.moved.ensures.fault (rule_placed _ (fault_of c.in-Err-2.found.fault) f _ _ e
     (in_pattern o c.in-Err-2.found.place c.in-Ok.ensures.trees w))
 
@@ -33,15 +48,31 @@ returns-in-Err-3-clause-fault g c =
     let reads = rw c.in-Ok-2.is at c.in_ok-ops.ensures.ops in
     let w = rw c.in-Err-3.is at c.in_ok-rhs.ensures.fault in
     let e : template_place f o + c.in-Err-3.found.place ≡ c.moved-in-Err-3.result.place =
-    omega (arith, c.moved-in-Err-3.ensures.place, c.flat_len-whole.ensures, ap flat_len c.remaining.ensures,
-    c.flat_len-2.ensures, ap flat_len c.remaining-2.ensures, c.flat_len-3.ensures,
-    ap flat_len c.remaining-3.ensures) in
+    omega (
+      arith,
+      c.moved-in-Err-3.ensures.place,
+      c.flat_len-whole.ensures,
+      ap flat_len c.remaining.ensures,
+      c.flat_len-2.ensures,
+      ap flat_len c.remaining-2.ensures,
+      c.flat_len-3.ensures,
+      ap flat_len c.remaining-3.ensures,
+    ) in
     rw c.moved-in-Err-3.ensures.fault (rule_placed _ (fault_of c.in-Err-3.found.fault) f _ _ e
     (in_template o (template_of c.in-Ok-2.ops) c.in-Err-3.found.place c.in-Ok.ensures.trees reads w))
 
 pub returns-in-Err-3-clause-within : goal.returns-in-Err-3-clause-within
 returns-in-Err-3-clause-within g c =
     let within = rw c.in-Err-3.is at c.in_ok-rhs.ensures.within in
-    omega (arith, within, c.in-Ok.ensures.room, c.moved-in-Err-3.ensures.place, c.flat_len-whole.ensures,
-    ap flat_len c.remaining.ensures, c.flat_len-2.ensures, ap flat_len c.remaining-2.ensures, c.flat_len-3.ensures,
-    ap flat_len c.remaining-3.ensures)
+    omega (
+      arith,
+      within,
+      c.in-Ok.ensures.room,
+      c.moved-in-Err-3.ensures.place,
+      c.flat_len-whole.ensures,
+      ap flat_len c.remaining.ensures,
+      c.flat_len-2.ensures,
+      ap flat_len c.remaining-2.ensures,
+      c.flat_len-3.ensures,
+      ap flat_len c.remaining-3.ensures,
+    )

@@ -23,8 +23,13 @@ returns-in-Err-clause-place g c =
     let w = rw c.in-Err.is at c.in_ok-rule.ensures.fault in
     let k : length c.rules.rules.items ≡ c.faulty-fault.result.rule = search rules in
     let e : passed c.args.src c.rules.src + c.in-Err.found.place ≡ c.faulty-fault.result.place =
-    omega (arith, c.faulty-fault.ensures.place, c.rules.invariant.whole, c.flat_len.ensures,
-    ap flat_len c.remaining-in-rules.ensures) in
+    omega (
+      arith,
+      c.faulty-fault.ensures.place,
+      c.rules.invariant.whole,
+      c.flat_len.ensures,
+      ap flat_len c.remaining-in-rules.ensures,
+    ) in
     rw c.faulty-fault.ensures.fault
     (same_rules_place _ c.args.separators.now (fault_of c.args.missing) (fault_of c.in-Err.found.fault) c.args.src
     _ _ _ _ k e
@@ -47,8 +52,12 @@ rules-preserved g c =
           _ _ k (so_far-step _ c.args.separators.now (fault_of c.args.missing) (length c.rules.rules.items) c.args.src
           c.rules.src c.rules.invariant.so_far (rule_of c.in-Ok.rule) c.read_rule.new.src c.expect_any_char.new.self
           reads (c.in-Ok-expect_any_char.ensures.value.0 refl) c.in-Ok-expect_any_char.ensures.rest
-          (omega (arith, shorter, ap flat_len c.in-Ok-expect_any_char.ensures.rest,
-          rest_no_longer c.read_rule.new.src)));
+          (omega (
+            arith,
+            shorter,
+            ap flat_len c.in-Ok-expect_any_char.ensures.rest,
+            rest_no_longer c.read_rule.new.src,
+          )));
       whole = c.rules.invariant.whole;
     }
 
@@ -83,8 +92,14 @@ returns-in_default-clause-place g c =
     let k : length c.rules.rules.items + 1 ≡ length c.push.new.self.items =
     sym (ap length c.in_ok-push-in-Ok.ensures.items ∙ length-push c.rules.rules.items c.in-Ok.rule) in
     let e : passed c.args.src c.read_rule.new.src ≡ c.faulty-fault-in_default.result.place =
-    omega (arith, c.faulty-fault-in_default.ensures.place, c.rules.invariant.whole, c.flat_len-in_default.ensures,
-    ap flat_len c.remaining-in_default.ensures, ap flat_len c.in_default.ensures.rest) in
+    omega (
+      arith,
+      c.faulty-fault-in_default.ensures.place,
+      c.rules.invariant.whole,
+      c.flat_len-in_default.ensures,
+      ap flat_len c.remaining-in_default.ensures,
+      ap flat_len c.in_default.ensures.rest,
+    ) in
     rw c.faulty-fault-in_default.ensures.fault
     (same_rules_place _ c.args.separators.now (fault_of c.args.missing) (fault_of c.args.missing) c.args.src
     _ _ _ _ (k ∙ n) e

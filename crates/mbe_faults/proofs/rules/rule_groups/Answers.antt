@@ -11,9 +11,17 @@ returns-clause-shorter g c =
     let greater = char_len c.expect_char.new.self 62 (c.in-Ok-expect_char-2.ensures.value.0 refl) in
     let template = group_len c.expect_char-2.new.self c.in-Ok-expect_subtree.template
     c.in-Ok-expect_subtree._subtree.now.delimiter (sym c.in-Ok-expect_subtree.ensures.value) in
-    omega (arith, pattern, equals, greater, template, ap flat_len c.in-Ok.ensures.rest,
-    ap flat_len c.in-Ok-expect_char.ensures.rest, ap flat_len c.in-Ok-expect_char-2.ensures.rest,
-    ap flat_len c.in-Ok-expect_subtree.ensures.rest)
+    omega (
+      arith,
+      pattern,
+      equals,
+      greater,
+      template,
+      ap flat_len c.in-Ok.ensures.rest,
+      ap flat_len c.in-Ok-expect_char.ensures.rest,
+      ap flat_len c.in-Ok-expect_char-2.ensures.rest,
+      ap flat_len c.in-Ok-expect_subtree.ensures.rest,
+    )
 
 pub returns-clause-room : goal.returns-clause-room
 returns-clause-room g c =
@@ -23,6 +31,14 @@ returns-clause-room g c =
     let greater = char_len c.expect_char.new.self 62 (c.in-Ok-expect_char-2.ensures.value.0 refl) in
     let template = group_len c.expect_char-2.new.self c.in-Ok-expect_subtree.template
     c.in-Ok-expect_subtree._subtree.now.delimiter (sym c.in-Ok-expect_subtree.ensures.value) in
-    omega (arith, pattern, equals, greater, template, ap flat_len c.in-Ok.ensures.rest,
-    ap flat_len c.in-Ok-expect_char.ensures.rest, ap flat_len c.in-Ok-expect_char-2.ensures.rest,
-    ap flat_len c.in-Ok-expect_subtree.ensures.rest)
+    omega (
+      arith,
+      pattern,
+      equals,
+      greater,
+      template,
+      ap flat_len c.in-Ok.ensures.rest,
+      ap flat_len c.in-Ok-expect_char.ensures.rest,
+      ap flat_len c.in-Ok-expect_char-2.ensures.rest,
+      ap flat_len c.in-Ok-expect_subtree.ensures.rest,
+    )

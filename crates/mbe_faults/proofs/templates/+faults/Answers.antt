@@ -47,8 +47,14 @@ first_fault-returns-in-Err-clause-fault g t c =
     let s = rw c.in-Group.is at c.in_ok-eat_front.ensures.front in
     let w = rw c.in-Err.is at c.in_ok-_read-in-Group.ensures.fault in
     let e : passed c.args.src c.trees.src + (1 + c.in-Err.found.place) ≡ c.moved-in-Err.result.place =
-    omega (arith, c.moved-in-Err.ensures.place, c.moved.ensures.place, c.trees.invariant.whole, c.flat_len.ensures,
-    ap flat_len c.remaining-in-trees.ensures) in
+    omega (
+      arith,
+      c.moved-in-Err.ensures.place,
+      c.moved.ensures.place,
+      c.trees.invariant.whole,
+      c.flat_len.ensures,
+      ap flat_len c.remaining-in-trees.ensures,
+    ) in
     rw (c.moved-in-Err.ensures.fault, c.moved.ensures.fault)
     (placed _ (mode_of c.args.mode) (fault_of c.in-Err.found.fault) c.args.src _ _ e
     (c.trees.invariant.so_far.at _ _ (inside_group _ (mode_of c.args.mode) _ c.trees.src c.in-Group.inside
@@ -71,8 +77,14 @@ first_fault-returns-in-Err-2-clause-fault g t c =
     let s = rw c.in-Repetition.is at c.in_ok-eat_front.ensures.front in
     let w = rw c.in-Err-2.is at c.in_ok-_read-in-Repetition.ensures.fault in
     let e : passed c.args.src c.trees.src + (2 + c.in-Err-2.found.place) ≡ c.moved-in-Err-2-2.result.place =
-    omega (arith, c.moved-in-Err-2-2.ensures.place, c.moved-in-Err-2.ensures.place, c.trees.invariant.whole,
-    c.flat_len.ensures, ap flat_len c.remaining-in-trees.ensures) in
+    omega (
+      arith,
+      c.moved-in-Err-2-2.ensures.place,
+      c.moved-in-Err-2.ensures.place,
+      c.trees.invariant.whole,
+      c.flat_len.ensures,
+      ap flat_len c.remaining-in-trees.ensures,
+    ) in
     rw (c.moved-in-Err-2-2.ensures.fault, c.moved-in-Err-2.ensures.fault)
     (placed _ (mode_of c.args.mode) (fault_of c.in-Err-2.found.fault) c.args.src _ _ e
     (c.trees.invariant.so_far.at _ _ (inside_repetition _ (mode_of c.args.mode) _ c.trees.src c.in-Repetition.body

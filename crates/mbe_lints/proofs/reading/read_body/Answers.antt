@@ -22,15 +22,16 @@ returns-in_default-clause-spot g c =
 
 pub returns-clause-read : goal.returns-clause-read
 returns-clause-read g c =
-    IfOk-weaker c.with_fault-in-Some.result _ _
+    IfOk-weaker c.with_fault-2.result _ _
     (λ m e. read_as_body _ c.iter.result (trees c.args.body) (rules_seen c.in_ok-rules.rules.items)
     (Some c.in-Some.found.fault) (macro_read m) c.iter.ensures (rw c.in-Some.is at c.in_ok-rules.ensures.rules) e)
-    c.with_fault-in-Some.ensures.read
+    c.with_fault-2.ensures.read
 
 pub returns-clause-spot : goal.returns-clause-spot
 returns-clause-spot g c =
     let w = rw (c.in-Some.is, c.iter.ensures) at c.in_ok-rules.ensures.place in
-    told c.with_fault-in-Some.result _ _ _
-    (λ m e s. fault_in_body _ c.args.close (trees c.args.body) (rules_seen c.in_ok-rules.rules.items) c.in-Some.found.fault
-    (macro_read m) m.spot e c.in-Some.found.rule c.in-Some.found.place (rw c.rules_spot-spot.ensures at s) w)
-    c.with_fault-in-Some.ensures.read c.with_fault-in-Some.ensures.spot
+    told c.with_fault-2.result _ _ _
+    (λ m e s. fault_in_body _ c.args.close (trees c.args.body) (rules_seen c.in_ok-rules.rules.items)
+    c.in-Some.found.fault (macro_read m) m.spot e c.in-Some.found.rule c.in-Some.found.place
+    (rw c.rules_spot-spot.ensures at s) w)
+    c.with_fault-2.ensures.read c.with_fault-2.ensures.spot

@@ -25,16 +25,16 @@ returns-in_default-clause-spot g c =
 
 pub returns-clause-read : goal.returns-clause-read
 returns-clause-read g c =
-    IfOk-weaker c.with_fault-in-Some.result _ _
+    IfOk-weaker c.with_fault-2.result _ _
     (λ m e. read_as_one _ c.iter.result c.iter-2.result (trees c.args.pattern) (trees c.args.body)
     (rules_seen c.in_ok-rules.rules.items) (Some c.in-Some.found.fault) (macro_read m) c.iter.ensures c.iter-2.ensures
-    (rw c.in-Some.is at c.in_ok-rules.ensures.rule) e) c.with_fault-in-Some.ensures.read
+    (rw c.in-Some.is at c.in_ok-rules.ensures.rule) e) c.with_fault-2.ensures.read
 
 pub returns-clause-spot : goal.returns-clause-spot
 returns-clause-spot g c =
     let w = rw (c.in-Some.is, c.iter.ensures, c.iter-2.ensures) at c.in_ok-rules.ensures.place in
-    told c.with_fault-in-Some.result _ _ _
+    told c.with_fault-2.result _ _ _
     (λ m e s. fault_in_part _ c.args.close (trees c.args.body) (rules_seen c.in_ok-rules.rules.items)
     c.in-Some.found.fault (macro_read m) m.spot e c.args.pattern_group.now.delimiter (trees c.args.pattern)
     (mode_of c.in-Some.found.part) c.in-Some.found.place (rw c.part_spot-spot.ensures at s) w)
-    c.with_fault-in-Some.ensures.read c.with_fault-in-Some.ensures.spot
+    c.with_fault-2.ensures.read c.with_fault-2.ensures.spot
