@@ -1,5 +1,5 @@
 -- What the first trees say of the front.
-use Rattle.std.specs.Prelude.{◌≡◌, ◌≤◌, ◌+◌, ℕ, length, Option, Some, None, Result, Ok, Err, IfOk, refl}
+use Rattle.std.specs.Prelude.{◌≡◌, ◌+◌, length, Option, Some, None, Result, Ok, Err, IfOk, refl}
 use Rattle.std.proofs.Common.{ap, sym, ◌∙◌, subst, arith}
 use Rattle.mbe_tt.specs.declared.span.SyntaxContext.{SyntaxContext}
 use Rattle.mbe_tt.specs.declared.span.Edition.{Edition}
@@ -11,7 +11,6 @@ use Rattle.mbe_tt.specs.Trees.Tree.{Forest, none, leaf, group, flat_len, skip}
 use Rattle.mbe_tt.specs.Trees.Glue.{glue}
 use Rattle.mbe_ops.proofs.Fragments.{back-skip}
 use Rattle.mbe_semantics.specs.Syntax.Op.{Ops, Expression}
-use Rattle.mbe_semantics.specs.Syntax.Template as grammar
 use Rattle.mbe_semantics.specs.Syntax.Template.{Mode, template, Fault, Head, head, after_dollar, group_after_dollar, expression_at, expression_of, puncts_at, Template, TemplateFault}
 use Rattle.mbe_errors.specs.declared.error.SyntaxFault as reported
 use Rattle.mbe_parser.proofs.ReaderLemmas.{dollar_head}

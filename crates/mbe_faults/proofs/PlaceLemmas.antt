@@ -1,9 +1,8 @@
 -- Steps of the search for a fault: what the front says of the faults of all trees and of those after it.
-use Rattle.std.specs.Prelude.{◌≡◌, ◌≤◌, ◌+◌, ◌-◌, ℕ, Option, Some, None, Result, Ok, Err, refl}
+use Rattle.std.specs.Prelude.{◌≡◌, ◌≤◌, ◌+◌, ℕ, Result, Ok, Err, refl}
 use Rattle.std.proofs.Common.{ap, sym, ◌∙◌, subst, arith, ◌⊎◌, inl, inr}
 use Rattle.mbe_tt.specs.declared.span.SyntaxContext.{SyntaxContext}
 use Rattle.mbe_tt.specs.declared.span.Edition.{Edition}
-use Rattle.mbe_tt.specs.declared.tt.Delimiter.{Delimiter}
 use Rattle.mbe_tt.specs.Trees.Tree.{Forest, none, flat_len, passed}
 use Rattle.mbe_semantics.specs.Syntax.Op.{Op, Ops}
 use Rattle.mbe_semantics.specs.Syntax.Template.{Mode, Fault, Head, ended, one, typed, opens_group, opens_repetition, head, Template, nothing, token, variable, grouped, repeated, TemplateFault, here, in_group, in_repetition, after_token, after_variable, following_group, after_repetition}

@@ -1,14 +1,14 @@
 -- Where a definition is refused: the number of flat tokens before the first of those that can't be read.
-use Rattle.std.specs.Prelude.{◌≡◌, ◌≢◌, ◌==◌, ◌+◌, ◌-◌, ◌||◌, ℕ, suc, Bool, true, false, if◌then◌else◌, List, [], ◌∷◌, codes, Option, Some, None, Result, Ok, Err}
+use Rattle.std.specs.Prelude.{◌≡◌, ◌≢◌, ◌==◌, ◌+◌, ◌-◌, ◌||◌, ℕ, suc, Bool, true, false, if◌then◌else◌, List, codes, Option, Some, None, Ok, Err}
 use Rattle.mbe_tt.specs.declared.span.SyntaxContext.{SyntaxContext}
 use Rattle.mbe_tt.specs.declared.span.Edition.{Edition}
 use Rattle.mbe_tt.specs.declared.span.Span.{Span}
 use Rattle.mbe_tt.specs.declared.tt.Delimiter.{Delimiter}
-use Rattle.mbe_tt.specs.Trees.Leaf.{Ident, ident, punct}
+use Rattle.mbe_tt.specs.Trees.Leaf.{Ident, punct}
 use Rattle.mbe_tt.specs.Trees.Tree.{Forest, none, leaf, group, flat_len, rest_of, passed}
 use Rattle.mbe_semantics.specs.declared.kinds.RepeatKind.{RepeatKind}
 use Rattle.mbe_semantics.specs.Syntax.Op.{Name, Op, Ops, Separator}
-use Rattle.mbe_semantics.specs.Syntax.Template.{Mode, pattern, template, Fault, ended, one, typed, opens_group, opens_repetition, head, Template}
+use Rattle.mbe_semantics.specs.Syntax.Template.{Mode, pattern, template, Fault, one, typed, opens_group, opens_repetition, head, Template}
 use Rattle.mbe_semantics.specs.Syntax.Definition.{Rule, RuleTrees, rule_trees_at, AreParts, after_separator}
 use Rattle.mbe_parser.specs.Reader.{is_word}
 

@@ -1,6 +1,6 @@
 -- Where a definition that was read is refused.
-use Rattle.std.specs.Prelude.{◌≡◌, Bool, true, false, if◌then◌else◌, [], ◌∷◌, List, ℕ, codes, Option, Some, None, option_map, Result, Ok, Err, IfOk, refl}
-use Rattle.std.proofs.Common.{ap, sym, ◌∙◌, subst}
+use Rattle.std.specs.Prelude.{◌≡◌, Bool, true, false, if◌then◌else◌, [], ◌∷◌, List, ℕ, Option, Some, None, Result, Ok, Err, IfOk}
+use Rattle.std.proofs.Common.{ap, sym, subst}
 use Rattle.std.specs.List.{list_any}
 use Rattle.mbe_tt.specs.declared.span.Edition.{Edition}
 use Rattle.mbe_tt.specs.declared.span.Span.{Span}

@@ -1,4 +1,4 @@
-use Rattle.std.proofs.Common.{◌≡◌, Some, sym, ◌∙◌, ap, refl, rules}
+use Rattle.std.proofs.Common.{◌≡◌, Some, ◌∙◌, ap, rules}
 use Rattle.mbe_tt.specs.Trees.Leaf.{punct}
 use Rattle.mbe_tt.specs.Trees.Tree.{Leaf_tree, Group_tree, none, leaf, group, first}
 use Rattle.mbe_tt.specs.Views.Shown.{leaf_of}

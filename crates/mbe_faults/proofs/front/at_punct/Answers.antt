@@ -1,4 +1,4 @@
-use Rattle.std.proofs.Common.{◌≡◌, ap, sym, ◌∙◌, rules, arith}
+use Rattle.std.proofs.Common.{◌≡◌, ap, sym, rules, arith}
 use Rattle.mbe_tt.specs.Trees.Tree.{flat_len}
 use Rattle.mbe_ops.proofs.Fragments.{first_tree, puncts_longer}
 use Rattle.mbe_parser.specs.Reader.{mode_of}

@@ -1,4 +1,4 @@
-use Rattle.std.proofs.Common.{◌≡◌, ◌≤◌, ◌+◌, ◌-◌, ap, arith}
+use Rattle.std.proofs.Common.{◌≡◌, ◌+◌, ◌-◌, ap, arith}
 use Rattle.mbe_tt.specs.Trees.Tree.{flat_len, passed}
 use Rattle.mbe_errors.specs.ErrorViews.{fault_of}
 use Rattle.mbe_ops.specs.Views.{template_of}

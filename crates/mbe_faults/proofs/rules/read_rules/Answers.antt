@@ -1,4 +1,4 @@
-use Rattle.std.proofs.Common.{◌≡◌, ◌+◌, ◌-◌, ◌∙◌, ap, sym, refl, length, rules, arith}
+use Rattle.std.proofs.Common.{◌≡◌, ◌+◌, ◌∙◌, ap, sym, refl, length, rules, arith}
 use Rattle.mbe_tt.specs.Trees.Tree.{none, flat_len, passed}
 use Rattle.mbe_errors.specs.ErrorViews.{fault_of}
 use Rattle.mbe_parser.specs.RuleViews.{rule_of, rules_seen}
