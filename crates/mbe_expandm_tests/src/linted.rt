@@ -70,7 +70,7 @@ fn messages_of(alloc: Global, reports: &str) -> Result<String, AllocError> {
 }
 
 // A file, and what is said of its definitions.
-static ROWS: [(&str, &str); 23] = [
+static ROWS: [(&str, &str); 26] = [
     ("", ""),
     (
         "#[cfg(windows)] macro_rules! m { ($x:ident $x:ident) => { $x } }",
@@ -143,7 +143,19 @@ static ROWS: [(&str, &str); 23] = [
     ),
     (
         "macro_rules! m {\n    (a $x) => {};\n}",
-        "1:14 error: macro `m`: missing fragment specifier; ",
+        "2:8 error: macro `m`, rule 1: missing fragment specifier; ",
+    ),
+    (
+        "macro_rules! m { () => {} () => {} }",
+        "1:27 error: macro `m`, rule 2: expected `;`; ",
+    ),
+    (
+        "macro m($x:tt) { $x $- }",
+        "1:21 error: macro `m`, rule 1: expected ident; ",
+    ),
+    (
+        "macro_rules! m { () => }",
+        "1:24 error: macro `m`, rule 1: expected subtree; ",
     ),
     (
         "macro_rules! m { ($x:ident) => {}; ($(a)? b) => {}; ($()*) => {} }",

@@ -3,6 +3,7 @@ pub mod Lint
 pub mod Lints
 pub mod Nearest
 pub mod Reaching
+pub mod Refused
 pub mod Read
 pub mod Shown
 pub mod Wording

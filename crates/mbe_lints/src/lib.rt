@@ -8,5 +8,6 @@ pub mod nearest;
 pub mod reaching;
 pub mod reading;
 pub mod shown;
+pub mod spot;
 pub mod wording;
 pub mod written;

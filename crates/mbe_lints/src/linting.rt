@@ -16,12 +16,11 @@ ghost use Rattle.mbe_lints.specs.Read.{macro_read};
 
 use crate::definitions::definitions;
 use crate::lint::{Lint, push};
-use crate::reaching::push_all_unreached;
+use crate::reaching::{number_of, push_all_unreached};
 use crate::reading::{ReadMacro, read};
 use crate::wording::push_finding;
 use mbe_calls::calls::Defined;
 use mbe_diagnostics::diagnostic::Level;
-use mbe_errors::error::ParseError;
 use mbe_linting::findings::{Finding, findings};
 use mbe_parser::rules::Rule;
 use mbe_reaching::reaching::unreached;
@@ -34,18 +33,23 @@ fn push_refusal<A: Allocator + Copy>(
     alloc: A,
     lints: &mut Vec<Lint<A>, A>,
     name: &Ident<A>,
-    err: Option<&ParseError<A>>,
+    read: &ReadMacro<A>,
 ) -> Result<(), AllocError>
     ensures { OnOk result (map lint_seen lints.new.items ≡ map lint_seen lints.old.items
-        ++ spec.refusal_lints (ident_of name.now)
-        (option_map (λ e. parse_error_of e.now) err.entry)) }
+        ++ spec.refusal_lints (ident_of name.now) (option_map parse_error_of read.now.err)
+        read.now.spot) }
 {
-    let Some(error) = err else {
+    let Some(error) = read.err.as_ref() else {
         return Ok(());
     };
     let word = name.sym.as_str();
-    let message = format!(in alloc; "macro `{word}`: {error}")?;
-    push(lints, Level::Error, name.span, message)
+    let Some(spot) = read.spot else {
+        let message = format!(in alloc; "macro `{word}`: {error}")?;
+        return push(lints, Level::Error, name.span, message);
+    };
+    let number = number_of(spot.rule);
+    let message = format!(in alloc; "macro `{word}`, rule {number}: {error}")?;
+    push(lints, Level::Error, spot.span, message)
 }
 
 fn push_findings<A: Allocator + Copy>(
@@ -87,9 +91,9 @@ fn push_macro<A: Allocator + Copy>(
     read: &ReadMacro<A>,
 ) -> Result<(), AllocError>
     ensures { OnOk result (map lint_seen lints.new.items ≡ map lint_seen lints.old.items
-        ++ macro_lints (defined_shown defined.entry) (macro_read read.now)) }
+        ++ macro_lints (defined_shown defined.entry) (macro_read read.now) read.now.spot) }
 {
-    push_refusal(alloc, lints, defined.name, read.err.as_ref())?;
+    push_refusal(alloc, lints, defined.name, read)?;
     push_rules(alloc, lints, defined, read.rules.as_slice())?;
     let beyond = unreached(alloc, read.rules.as_slice())?;
     push_all_unreached(alloc, lints, defined, beyond.as_slice())
@@ -130,7 +134,8 @@ fn push_definitions<A: Allocator + Copy, E: Copy + Fn(SyntaxContext) -> Edition>
     }
 }
 
-/// Adds what is said of the definitions among these trees, in the order of the text: of each that it is refused and why, at its name,
+/// Adds what is said of the definitions among these trees, in the order of the text: of each that it is refused and why, at the token
+/// that can't be read, or at its name where that is for a pattern that was read,
 /// then what is found of each of its rules up to the first fault, in the order of `mbe_linting::findings`, and then which of these
 /// rules no call reaches, by `mbe_reaching::reaching`. `ctx_edition` returns the edition of a context; it decides what `pat` and
 /// `expr` mean. `AllocError` if out of memory, or if groups and repetitions of a rule are too deep in one another.

@@ -66,7 +66,7 @@ fn place_in<A: Allocator>(defined: Defined<'_, A>, number: usize) -> Span
     rule_place(defined.rules, number, defined.name.span)
 }
 
-fn number_of(index: usize) -> usize
+pub(crate) fn number_of(index: usize) -> usize
     ensures { result ≡ spec.number_of index }
 {
     index.saturating_add(1)

@@ -1,28 +1,67 @@
 // The rules of definitions.
-ghost use Rattle.std.specs.Prelude.{◌≡◌, option_map, IfOk, None, Some};
+ghost use Rattle.std.specs.Prelude.{◌≡◌, option_map, IfOk, None, Some, if◌then◌else◌};
+ghost use Rattle.std.specs.List.{list_any};
 ghost use Rattle.mbe_tt.specs.Views.View.{trees};
+ghost use Rattle.mbe_parser.specs.Reader.{mode_of};
 ghost use Rattle.mbe_errors.specs.ErrorViews.{fault_of};
 ghost use Rattle.mbe_parser.specs.RuleViews.{rules_seen};
 ghost use Rattle.mbe_semantics.specs.Syntax.Definition.{with_refusal};
+ghost use Rattle.mbe_semantics.specs.Syntax.Nullable.{is_refused};
 ghost use Rattle.mbe_semantics.specs.Expansion.ReadAs.{IsReadAs, IsReadAsMacro};
+ghost use Rattle.mbe_calls.specs.Fronts as fronts;
 ghost use Rattle.mbe_calls.specs.Shown.{defined_shown, form_shown};
 ghost use Rattle.mbe_semantics.specs.Laws.Marking.{MayAsk};
 ghost use Rattle.mbe_lints.specs.Lints.{IsReadIn};
 ghost use Rattle.mbe_lints.specs.Read.{macro_read};
+ghost use Rattle.mbe_lints.specs.Refused.{RefusedAt, rules_spot, part_spot};
 
+use crate::spot::Spot;
 use mbe_calls::calls::{Defined, Form};
 use mbe_errors::error::{ParseError, SyntaxFault};
-use mbe_parser::rules::{Rule, parse_one_rule, parse_rules};
+use mbe_explaining::places::span_at;
+use mbe_faults::rules::{PartFault, RulesFault, read_one_rule, read_rules as faulty_rules};
+use mbe_parser::parser::Mode;
+use mbe_parser::rules::Rule;
 use mbe_parser::validate::refuses_some;
-use mbe_tt::span::{Edition, SyntaxContext};
-use mbe_tt::tt::TokenTreesView;
+use mbe_tt::span::{Edition, Span, SyntaxContext};
+use mbe_tt::tt::{Subtree, TokenTreesView};
 use std::alloc::{AllocError, Allocator, Global};
 
-/// The rules of a definition up to the first fault, and that fault. Clauses see it by `macro_read`.
+/// The rules of a definition up to the first fault, that fault, and where it is. Clauses see the first two by `macro_read`.
 #[derive(Drop)]
 pub struct ReadMacro<A: Allocator = Global> {
     pub rules: Vec<Rule<A>, A>,
     pub err: Option<ParseError<A>>,
+    /// The token that can't be read. `None` without an error, and where that is of a repetition, which can be read.
+    pub spot: Option<Spot>,
+}
+
+// Where the first fault of rules is.
+fn rules_spot<A: Allocator>(rules: TokenTreesView<'_, A>, close: Span, found: RulesFault) -> Spot
+    ensures { result ≡ rules_spot close (trees rules.entry) found.rule found.place }
+{
+    Spot {
+        rule: found.rule,
+        span: span_at(rules, close, found.place),
+    }
+}
+
+// Where the fault of a definition with a pattern is.
+fn part_spot<A: Allocator>(
+    pattern: TokenTreesView<'_, A>,
+    pattern_close: Span,
+    body: TokenTreesView<'_, A>,
+    close: Span,
+    found: PartFault,
+) -> Spot
+    ensures { result ≡ part_spot pattern_close (trees pattern.entry) close (trees body.entry)
+        (mode_of found.part) found.place }
+{
+    let span = match found.part {
+        Mode::Pattern => span_at(pattern, pattern_close, found.place),
+        Mode::Template => span_at(body, close, found.place),
+    };
+    Spot { rule: 0, span }
 }
 
 // The error that a pattern is refused goes before any other fault.
@@ -30,68 +69,96 @@ fn with_fault<A: Allocator + Copy>(
     alloc: A,
     rules: Vec<Rule<A>, A>,
     fault: Option<SyntaxFault>,
+    spot: Option<Spot>,
 ) -> Result<ReadMacro<A>, AllocError>
-    ensures { IfOk result (λ m. macro_read m ≡ record {
+    ensures read { IfOk result (λ m. macro_read m ≡ record {
       rules = rules_seen rules.items;
       err = with_refusal (rules_seen rules.items) (option_map fault_of fault);
     }) }
+    ensures spot { IfOk result (λ m. m.spot
+        ≡ (if list_any (λ r. is_refused r.reads) (rules_seen rules.items) then None else spot)) }
 {
     if refuses_some(&rules) {
         return Ok(ReadMacro {
             rules,
             err: Some(ParseError::RepetitionEmptyTokenTree),
+            spot: None,
         });
     }
     let err = match fault {
         None => None,
         Some(fault) => Some(ParseError::of_fault(alloc, fault)?),
     };
-    Ok(ReadMacro { rules, err })
+    Ok(ReadMacro { rules, err, spot })
 }
 
-// The rules of a `macro_rules!` definition.
+// The rules of a `macro_rules!` definition, whose group closes there.
 fn read_rules<A: Allocator + Copy, E: Copy + Fn(SyntaxContext) -> Edition>(
     alloc: A,
     ctx_edition: E,
     body: TokenTreesView<'_, A>,
+    close: Span,
 ) -> Result<ReadMacro<A>, AllocError>
     requires { MayAsk (E.pre ctx_edition) }
-    ensures { IfOk result (λ m. IsReadAs (E.post ctx_edition) (trees body.entry) (macro_read m)) }
+    ensures read { IfOk result (λ m. IsReadAs (E.post ctx_edition) (trees body.entry)
+        (macro_read m)) }
+    ensures spot { IfOk result (λ m. RefusedAt (E.post ctx_edition) close (trees body.entry)
+        (macro_read m) fronts.Rules m.spot) }
 {
     let missing = SyntaxFault::ExpectedSemicolon;
-    let (rules, fault) = parse_rules(alloc, ctx_edition, body.iter(), &[';'], missing)?;
-    with_fault(alloc, rules, fault)
+    let (rules, found) = faulty_rules(alloc, ctx_edition, body.iter(), &[';'], missing)?;
+    let Some(found) = found else {
+        return with_fault(alloc, rules, None, None);
+    };
+    let spot = rules_spot(body, close, found);
+    with_fault(alloc, rules, Some(found.fault), Some(spot))
 }
 
-// The rules of a `macro` definition.
+// The rules of a `macro` definition, whose group closes there.
 fn read_body<A: Allocator + Copy, E: Copy + Fn(SyntaxContext) -> Edition>(
     alloc: A,
     ctx_edition: E,
     body: TokenTreesView<'_, A>,
+    close: Span,
 ) -> Result<ReadMacro<A>, AllocError>
     requires { MayAsk (E.pre ctx_edition) }
-    ensures { IfOk result (λ m. IsReadAsMacro (E.post ctx_edition) None (trees body.entry)
+    ensures read { IfOk result (λ m. IsReadAsMacro (E.post ctx_edition) None (trees body.entry)
         (macro_read m)) }
+    ensures spot { IfOk result (λ m. RefusedAt (E.post ctx_edition) close (trees body.entry)
+        (macro_read m) fronts.Body m.spot) }
 {
     let missing = SyntaxFault::ExpectedSeparator;
-    let separators = &[';', ','];
-    let (rules, fault) = parse_rules(alloc, ctx_edition, body.iter(), separators, missing)?;
-    with_fault(alloc, rules, fault)
+    let (rules, found) = faulty_rules(alloc, ctx_edition, body.iter(), &[';', ','], missing)?;
+    let Some(found) = found else {
+        return with_fault(alloc, rules, None, None);
+    };
+    let spot = rules_spot(body, close, found);
+    with_fault(alloc, rules, Some(found.fault), Some(spot))
 }
 
-// The one rule of a `macro` definition with a pattern.
+// The one rule of a `macro` definition with a pattern, whose groups close there.
 fn read_one<A: Allocator + Copy, E: Copy + Fn(SyntaxContext) -> Edition>(
     alloc: A,
     ctx_edition: E,
     pattern: TokenTreesView<'_, A>,
+    pattern_group: &Subtree,
     body: TokenTreesView<'_, A>,
+    close: Span,
 ) -> Result<ReadMacro<A>, AllocError>
     requires { MayAsk (E.pre ctx_edition) }
-    ensures { IfOk result (λ m. IsReadAsMacro (E.post ctx_edition) (Some (trees pattern.entry))
-        (trees body.entry) (macro_read m)) }
+    ensures read { IfOk result (λ m. IsReadAsMacro (E.post ctx_edition)
+        (Some (trees pattern.entry)) (trees body.entry) (macro_read m)) }
+    ensures spot { IfOk result (λ m. RefusedAt (E.post ctx_edition) close (trees body.entry)
+        (macro_read m) (fronts.Arguments pattern_group.now.delimiter (trees pattern.entry))
+        m.spot) }
 {
-    let (rules, fault) = parse_one_rule(alloc, ctx_edition, pattern.iter(), body.iter())?;
-    with_fault(alloc, rules, fault)
+    let (rules, found) = read_one_rule(alloc, ctx_edition, pattern.iter(), body.iter())?;
+    let Some(found) = found else {
+        return with_fault(alloc, rules, None, None);
+    };
+    let pattern_close = pattern_group.delimiter.close;
+    let spot = part_spot(pattern, pattern_close, body, close, found);
+    with_fault(alloc, rules, Some(found.fault), Some(spot))
 }
 
 /// Reads a definition, as `mbe` does. `ctx_edition` returns the edition of a context; it decides what `pat` and `expr` mean.
@@ -102,12 +169,19 @@ pub fn read<A: Allocator + Copy, E: Copy + Fn(SyntaxContext) -> Edition>(
     defined: Defined<'_, A>,
 ) -> Result<ReadMacro<A>, AllocError>
     requires { MayAsk (E.pre ctx_edition) }
-    ensures { IfOk result (λ m. IsReadIn (E.post ctx_edition) (form_shown defined.entry.form)
+    ensures read { IfOk result (λ m. IsReadIn (E.post ctx_edition) (form_shown defined.entry.form)
         (defined_shown defined.entry) (macro_read m)) }
+    ensures spot { IfOk result (λ m. RefusedAt (E.post ctx_edition)
+        (defined_shown defined.entry).delimiter.close (defined_shown defined.entry).rules
+        (macro_read m) (form_shown defined.entry.form) m.spot) }
 {
+    let rules = defined.rules;
+    let close = defined.group.delimiter.close;
     match defined.form {
-        Form::Rules => read_rules(alloc, ctx_edition, defined.rules),
-        Form::Body => read_body(alloc, ctx_edition, defined.rules),
-        Form::Arguments(_, pattern) => read_one(alloc, ctx_edition, pattern, defined.rules),
+        Form::Rules => read_rules(alloc, ctx_edition, rules, close),
+        Form::Body => read_body(alloc, ctx_edition, rules, close),
+        Form::Arguments(group, pattern) => {
+            read_one(alloc, ctx_edition, pattern, group, rules, close)
+        }
     }
 }

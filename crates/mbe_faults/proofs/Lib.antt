@@ -1,0 +1,4 @@
+pub mod FrontLemmas
+pub mod PlaceLemmas
+pub mod PlaceLaws
+pub mod RuleLemmas

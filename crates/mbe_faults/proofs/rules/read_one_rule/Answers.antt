@@ -1,0 +1,35 @@
+use Rattle.std.proofs.Common.{◌≡◌, [], ap, refl}
+use Rattle.mbe_semantics.specs.declared.macro_call_style.MacroCallStyle.TheVariants.{FnLike}
+use Rattle.mbe_semantics.specs.Syntax.Template.{pattern, template}
+use Rattle.mbe_semantics.specs.Syntax.Definition.{in_pattern, in_template}
+use Rattle.mbe_errors.specs.ErrorViews.{fault_of}
+use Rattle.mbe_ops.specs.Views.{template_of}
+use Rattle.mbe_parser.specs.RuleViews.{rules_seen}
+use Rattle.mbe_faults.proofs.PlaceLaws.{template_fault}
+use Rattle.mbe_faults.proofs.RuleLemmas.{one_pushed}
+use Rattle.mbe_faults.proofs.rules.read_one_rule.Goals as goal
+
+pub returns-in-Err-clause-rule : goal.returns-in-Err-clause-rule
+returns-in-Err-clause-rule g c =
+    let w = rw c.in-Err.is at c.in_ok-ops.ensures.fault in
+    rw c.within.ensures.fault
+    (ap rules_seen c.new-rules.ensures.items, in_pattern (template_fault _ pattern (fault_of c.in-Err.found.fault) w))
+
+pub returns-in_ok-push-in-Ok-2-clause-rule : goal.returns-in_ok-push-in-Ok-2-clause-rule
+returns-in_ok-push-in-Ok-2-clause-rule g c =
+    let none_before : c.new-rules.result.items ≡ [] = c.new-rules.ensures.items in
+    let reads = rw c.in-Ok.is at c.in_ok-ops.ensures.ops in
+    let writes = rw c.in-Ok-2.is at c.in_ok-rhs.ensures.ops in (
+      record { style = FnLike; reads = template_of c.in-Ok.ops; writes = template_of c.in-Ok-2.rhs },
+      one_pushed _ _ _ none_before c.in_ok-push-in-Ok-2.ensures.items,
+      record { style = refl; reads = reads; writes = writes },
+    )
+
+pub returns-in-Err-2-clause-rule : goal.returns-in-Err-2-clause-rule
+returns-in-Err-2-clause-rule g c =
+    let reads = rw c.in-Ok.is at c.in_ok-ops.ensures.ops in
+    let w = rw c.in-Err-2.is at c.in_ok-rhs.ensures.fault in
+    rw c.within-in-Err-2.ensures.fault (
+      ap rules_seen c.new-rules.ensures.items,
+      in_template (template_of c.in-Ok.ops) reads (template_fault _ template (fault_of c.in-Err-2.found.fault) w),
+    )

@@ -1,0 +1,78 @@
+use Rattle.std.proofs.Common.{◌≡◌, ◌+◌, ◌-◌, ap, arith}
+use Rattle.mbe_tt.specs.Trees.Tree.{flat_len, passed}
+use Rattle.mbe_errors.specs.ErrorViews.{fault_of}
+use Rattle.mbe_ops.specs.Views.{template_of}
+use Rattle.mbe_faults.specs.Places.{in_trees, in_pattern, in_template, stop_in_rule, pattern_place, template_place}
+use Rattle.mbe_faults.specs.RuleTrees.{rule_of_parts}
+use Rattle.mbe_faults.proofs.RuleLemmas.{rule_placed}
+use Rattle.mbe_faults.proofs.rules.read_rule.Goals as goal
+
+pub returns-in-Err-clause-fault : goal.returns-in-Err-clause-fault
+returns-in-Err-clause-fault g c =
+    let e : passed c.args.src.now (stop_in_rule c.args.src.now) ≡ c.flat_len-whole.result - c.flat_len.result =
+    omega (
+      arith,
+      ap flat_len c.in-Err.ensures.stop,
+      c.flat_len-whole.ensures,
+      ap flat_len c.remaining.ensures,
+      c.flat_len.ensures,
+      ap flat_len c.remaining-in-Err.ensures,
+    ) in
+    rule_placed _ (fault_of c.in-Err.fault) c.args.src.now _ _ e (in_trees c.in-Err.ensures.trees)
+
+pub returns-in-Err-2-clause-fault : goal.returns-in-Err-2-clause-fault
+returns-in-Err-2-clause-fault g c =
+    let f = c.args.src.now in
+    let o = rule_of_parts c.in-Ok.parts c.rule_trees.new.src in
+    let w = rw c.in-Err-2.is at c.in_ok-ops.ensures.fault in
+    let e : pattern_place f o + c.in-Err-2.found.place ≡ c.moved.result.place =
+    omega (
+      arith,
+      c.moved.ensures.place,
+      c.flat_len-whole.ensures,
+      ap flat_len c.remaining.ensures,
+      c.flat_len-2.ensures,
+      ap flat_len c.remaining-2.ensures,
+      c.flat_len-3.ensures,
+      ap flat_len c.remaining-3.ensures,
+      c.flat_len-4.ensures,
+      ap flat_len c.remaining-4.ensures,
+    ) in
+    rw c.moved.ensures.fault (rule_placed _ (fault_of c.in-Err-2.found.fault) f _ _ e
+    (in_pattern o c.in-Err-2.found.place c.in-Ok.ensures.trees w))
+
+pub returns-in-Err-3-clause-fault : goal.returns-in-Err-3-clause-fault
+returns-in-Err-3-clause-fault g c =
+    let f = c.args.src.now in
+    let o = rule_of_parts c.in-Ok.parts c.rule_trees.new.src in
+    let reads = rw c.in-Ok-2.is at c.in_ok-ops.ensures.ops in
+    let w = rw c.in-Err-3.is at c.in_ok-rhs.ensures.fault in
+    let e : template_place f o + c.in-Err-3.found.place ≡ c.moved-in-Err-3.result.place =
+    omega (
+      arith,
+      c.moved-in-Err-3.ensures.place,
+      c.flat_len-whole.ensures,
+      ap flat_len c.remaining.ensures,
+      c.flat_len-2.ensures,
+      ap flat_len c.remaining-2.ensures,
+      c.flat_len-3.ensures,
+      ap flat_len c.remaining-3.ensures,
+    ) in
+    rw c.moved-in-Err-3.ensures.fault (rule_placed _ (fault_of c.in-Err-3.found.fault) f _ _ e
+    (in_template o (template_of c.in-Ok-2.ops) c.in-Err-3.found.place c.in-Ok.ensures.trees reads w))
+
+pub returns-in-Err-3-clause-within : goal.returns-in-Err-3-clause-within
+returns-in-Err-3-clause-within g c =
+    let within = rw c.in-Err-3.is at c.in_ok-rhs.ensures.within in
+    omega (
+      arith,
+      within,
+      c.in-Ok.ensures.room,
+      c.moved-in-Err-3.ensures.place,
+      c.flat_len-whole.ensures,
+      ap flat_len c.remaining.ensures,
+      c.flat_len-2.ensures,
+      ap flat_len c.remaining-2.ensures,
+      c.flat_len-3.ensures,
+      ap flat_len c.remaining-3.ensures,
+    )

@@ -1,0 +1,19 @@
+use Rattle.std.proofs.Common.{◌≡◌, length}
+use Rattle.mbe_tt.specs.Trees.Tree.{flat_len}
+use Rattle.mbe_errors.specs.ErrorViews.{fault_of}
+use Rattle.mbe_parser.specs.RuleViews.{rules_seen}
+use Rattle.mbe_parser.proofs.RuleReading.{Continues}
+use Rattle.mbe_faults.proofs.RuleLemmas.{SoFar}
+use Rattle.mbe_faults.proofs.rules.read_rules.Given as goal
+
+abbrev pub invariant-rules : goal.invariant-rules
+invariant-rules g l = record {
+  continues : Continues (λ ctx e. g.E.Fn.post l.edition (ctx, tt) e) l.separators (fault_of l.missing)
+      (rules_seen l.rules.items) l.fn.src l.src;
+  so_far : SoFar (λ ctx e. g.E.Fn.post l.edition (ctx, tt) e) l.separators (fault_of l.missing)
+      (length l.rules.items) l.fn.src l.src;
+  whole : l.whole ≡ flat_len l.fn.src;
+}
+
+abbrev pub decreases-rules : goal.decreases-rules
+decreases-rules g l = flat_len l.src

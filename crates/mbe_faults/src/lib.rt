@@ -1,0 +1,7 @@
+// Where a definition is refused.
+#![tactic(auto)]
+
+pub mod front;
+pub mod rules;
+pub mod suffix;
+pub mod templates;

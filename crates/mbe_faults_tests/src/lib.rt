@@ -1,0 +1,5 @@
+// Tests of the places where definitions are refused.
+#![tactic(auto)]
+
+#[cfg(test)]
+mod places;
