@@ -5,3 +5,4 @@ pub mod Nodes
 pub mod Right
 pub mod Spotting
 pub mod Marking
+pub mod Whole

@@ -1,13 +1,14 @@
 -- The steps and edges of a match, as members of its lists.
-use Rattle.std.proofs.Common.{ℕ, zero, suc, ◌+◌, ◌-◌, ◌*◌, ◌≡◌, ◌⊎◌, ◌<◌, ◌≤◌, inl, inr, Bool, true, false, if◌then◌else◌, Option, Some, None, option_map, option_to_list, List, [], ◌∷◌, ◌++◌, map, length, refl, sym, ◌∙◌, ap, subst, arith, length-append}
+use Rattle.std.proofs.Common.{ℕ, zero, suc, ◌+◌, ◌-◌, ◌*◌, ◌≡◌, ◌⊎◌, ◌<◌, ◌≤◌, inl, inr, Bool, true, false, if◌then◌else◌, Option, Some, None, option_map, option_to_list, List, [], ◌∷◌, ◌++◌, map, length, reverse, refl, sym, ◌∙◌, ap, subst, arith, length-append}
 use Rattle.std.proofs.Math.Nat.{mul-le-mul_right}
+use Rattle.std.proofs.lemmas.List.{reverse-append, reverse-reverse}
 use Rattle.mbe_semantics.specs.Readings.Input.{Input}
 use Rattle.mbe_semantics.specs.Matching.Lists.{In}
 use Rattle.mbe_laws.proofs.Matching.Forest.{in_left, in_right, in_either}
 use Rattle.mbe_parting.specs.declared.edges.Edge.{Edge}
 use Rattle.mbe_parting.specs.declared.edges.Step.{Step}
 use Rattle.mbe_parting.specs.Spots.{Spot, Way, listed, ways}
-use Rattle.mbe_parting.specs.Graph.{node, target, step_at, steps_there, steps_before, edge, edges_of, edges_in, flipped, is_live, parts, first_parting}
+use Rattle.mbe_parting.specs.Graph.{node, target, step_at, steps_there, steps_before, edge, edges_of, edges_in, turned, flipped, is_live, parts, first_parting}
 use Rattle.mbe_parting.proofs.Beginnings.{in-map, from-map}
 use Rattle.mbe_parting.proofs.Tails.{IsSpot}
 
@@ -165,22 +166,21 @@ in-edges (r ∷ ss) s t (inl e) m =
     ]))
 in-edges (r ∷ ss) s t (inr h) m = in_right (edge s.source t) (edges_of r) (edges_in ss) (in-edges ss s t h m)
 
+in_reverse : (e : Edge) (es : List Edge) → In e es → In e (reverse es)
+in_reverse e [] h = h
+in_reverse e (x ∷ es) (inl f) = subst (λ l. In e l) (sym (reverse-append (x ∷ []) es))
+    (in_right e (reverse es) (x ∷ []) (inl f))
+in_reverse e (x ∷ es) (inr m) = subst (λ l. In e l) (sym (reverse-append (x ∷ []) es))
+    (in_left e (reverse es) (x ∷ []) (in_reverse e es m))
+
 pub from-flipped : (es : List Edge) (e : Edge) → In e (flipped es) → In (edge e.target e.source) es
-from-flipped [] e h = absurd h
-from-flipped (x ∷ es) e h =
-    elim (in_either e (flipped es) (edge x.target x.source ∷ []) h) [ inl a ↦ inr (from-flipped es e a) | inr b ↦ inl (last b) ]
-  where
-    last : In e (edge x.target x.source ∷ []) → edge e.target e.source ≡ x
-    last (inl f) = ap (λ (v : Edge). edge v.target v.source) f
-    last (inr f) = absurd f
+from-flipped es e h =
+    let r : (x : Edge) × In x (reverse es) × (e ≡ turned x) = from-map turned e (reverse es) h in
+    let m : In r.0 es = subst (λ l. In r.0 l) (reverse-reverse es) (in_reverse r.0 (reverse es) r.1) in
+    subst (λ (v : Edge). In v es) (sym (ap turned r.2)) m
 
 pub in-flipped : (es : List Edge) (e : Edge) → In e es → In (edge e.target e.source) (flipped es)
-in-flipped [] e h = absurd h
-in-flipped (x ∷ es) e (inl f) =
-    in_right (edge e.target e.source) (flipped es) (edge x.target x.source ∷ [])
-    (inl (ap (λ (v : Edge). edge v.target v.source) f))
-in-flipped (x ∷ es) e (inr h) =
-    in_left (edge e.target e.source) (flipped es) (edge x.target x.source ∷ []) (in-flipped es e h)
+in-flipped es e h = in-map turned e (reverse es) (in_reverse e es h)
 
 -- ---- the first step that parts
 
@@ -229,6 +229,7 @@ sorted_append (x ∷ xs) ys a b c = (first, sorted_append xs ys a.1 b (λ u v m 
     first r h = elim (in_either r xs ys h) [ inl m ↦ a.0 r m | inr n ↦ c x r (inl refl) n ]
 
 there_at : (i : Input) (size q : ℕ) (ss : List Spot) (s : Step) → In s (steps_there i size q ss) → s.place ≡ q
+unfolding step_at
 there_at i size q [] s h = absurd h
 there_at i size q (r ∷ ss) s (inl e) = ap (λ (v : Step). v.place) e
 there_at i size q (r ∷ ss) s (inr h) = there_at i size q ss s h
@@ -242,6 +243,7 @@ sorted_there i size q (r ∷ ss) = (
 
 place_below : (i : Input) (size : ℕ) (all : List Spot) (len : ℕ) (s : Step) → In s (steps_before i size all len)
     → s.place < len
+unfolding step_at
 place_below i size all len s h =
     let a : IsStep i size all len s = from-steps i size all len s h in
     let e : s.place ≡ a.q = ap (λ (v : Step). v.place) a.is in

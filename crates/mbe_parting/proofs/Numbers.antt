@@ -103,6 +103,7 @@ round_alike i q m (Some s) k b rest js rs up is e =
 -- The steps of a beginning are those of its dot.
 pub steps-ways : (i : Input) (q : ℕ) (x : Beginning)
     → map named (steps i q x) ≡ map (reached q) (listed (ways i q (spot_of x) (number_of x - 1)))
+unfolding ways
 steps-ways i q (dot no_ops is []) = refl
 steps-ways i q (dot no_ops is (inside d b rest js ∷ up)) = when_alike q _ (i.closes_at q) _ (omega arith)
 steps-ways i q (dot no_ops is (within b s k rest js rs ∷ up)) =
@@ -166,6 +167,7 @@ apart_past ZeroOrOne n m a b l g e f =
 pub ways-apart : (i : Input) (q : ℕ) (x : Beginning) (a b : Way)
     → ◌≡◌ {A = Option Way × Option Way} (ways i q (spot_of x) (number_of x - 1)) (Some a, Some b)
     → a.0 ≡ b.0 → ⊥
+unfolding ways
 ways-apart i q (dot no_ops is []) a b e f = second_none _ a b e
 ways-apart i q (dot no_ops is (inside d o rest js ∷ up)) a b e f = second_none _ a b e
 ways-apart i q (dot no_ops is (within o s k rest js rs ∷ up)) a b e f =

@@ -68,10 +68,10 @@ all_true false b c d e f = cc
 
 module _ (i : Input) (pat : Ops) (len size : ℕ) (ends : (x : Beginning) → Begins i pat x → place x ≤ len)
     (size_is : size ≡ dots pat) where
-  all : List Spot
+  unfoldable pub all : List Spot
   all = spots pat ending
 
-  pub ss : List Step
+  unfoldable pub ss : List Step
   ss = steps_before i size all (len + 1)
 
   node_of : Beginning → ℕ
@@ -102,7 +102,7 @@ module _ (i : Input) (pat : Ops) (len size : ℕ) (ends : (x : Beginning) → Be
 
   -- a step of the node of a beginning is its own
   is_here : (x : Beginning) (s : Step) → Begins i pat x → In s ss → s.source ≡ node_of x → s ≡ here x
-  unfolding here ss all node_of
+  unfolding here ss all node_of step_at
   is_here x s b h e =
       let a : IsStep i size (spots pat ending) (len + 1) s = from-steps i size (spots pat ending) (len + 1) s h in
       let source : node size a.q a.n ≡ node size (place x) (number_of x) = sym (ap (λ (v : Step). v.source) a.is) ∙ e in
@@ -124,7 +124,7 @@ module _ (i : Input) (pat : Ops) (len size : ℕ) (ends : (x : Beginning) → Be
   -- a step of a beginning is an edge
   edge_of : (x : Beginning) (s : ℕ × Beginning) → Begins i pat x → In s (steps i (place x) x)
       → In (edge (node_of x) (node_after size s)) (edges_in ss)
-  unfolding here node_of
+  unfolding here node_of step_at
   edge_of x s b h =
       let w : (w : Way) × In w (listed (ways i (place x) (spot_of x) (number_of x - 1)))
       × (named s ≡ reached (place x) w) = way_of i (place x) x s h in
@@ -140,7 +140,7 @@ module _ (i : Input) (pat : Ops) (len size : ℕ) (ends : (x : Beginning) → Be
   -- and an edge from its node is a step
   step_of : (x : Beginning) (e : Edge) → Begins i pat x → In e (edges_in ss) → e.source ≡ node_of x
       → (s : ℕ × Beginning) × In s (steps i (place x) x) × (e.target ≡ node_after size s)
-  unfolding here
+  unfolding here step_at
   step_of x e b h f =
       let a : IsEdge ss e = from-edges ss e h in
       let same : a.step ≡ here x = is_here x a.step b a.one_of (sym a.source ∙ f) in
@@ -184,7 +184,7 @@ module _ (i : Input) (pat : Ops) (len size : ℕ) (ends : (x : Beginning) → Be
 
   -- ---- what leads to the end
 
-  pub last : ℕ
+  unfoldable pub last : ℕ
   last = node size len 1
 
   only_live : (n : ℕ) → Path (flipped (edges_in ss)) last n → (x : Beginning) → Begins i pat x → n ≡ node_of x
@@ -267,7 +267,7 @@ module _ (i : Input) (pat : Ops) (len size : ℕ) (ends : (x : Beginning) → Be
 
     from_here : (x : Beginning) → Begins i pat x → is_live lives (here x).one ≡ true → is_live lives (here x).other ≡ true
         → PartAt i pat len (place x)
-    unfolding here
+    unfolding here step_at
     from_here x b = go (ways i (place x) (spot_of x) (number_of x - 1)) refl
       where
         go : (o : Option Way × Option Way)
@@ -279,7 +279,7 @@ module _ (i : Input) (pat : Ops) (len size : ℕ) (ends : (x : Beginning) → Be
         go (Some a, None) e m n = let k : false ≡ true = n in cc
 
     part_there : (s : Step) → In s ss → parts reaches lives s ≡ true → PartAt i pat len s.place
-    unfolding here
+    unfolding here step_at
     part_there s h e =
         let f : (is_marked reaches s.source ≡ true) × ((is_live lives s.one && is_live lives s.other) ≡ true) =
         both_true (is_marked reaches s.source) (is_live lives s.one && is_live lives s.other) e in
@@ -328,7 +328,7 @@ module _ (i : Input) (pat : Ops) (len size : ℕ) (ends : (x : Beginning) → Be
     live_two q (s ∷ []) o a b e h (inr k) d m n = absurd k
 
     step_there : (p : ℕ) → PartAt i pat len p → (s : Step) × In s ss × (parts reaches lives s ≡ true) × (s.place ≡ p)
-    unfolding here node_of
+    unfolding here node_of step_at
     step_there p t =
         let x = t.before in
         let at : place t.before ≡ p = t.here.1 in

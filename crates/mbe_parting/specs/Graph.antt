@@ -1,5 +1,5 @@
 -- The nodes of a match are dots at places, and its edges are the steps.
-use Rattle.std.specs.Prelude.{ℕ, zero, suc, ◌+◌, ◌-◌, ◌*◌, ◌≡◌, ◌<◌, Bool, true, false, ◌&&◌, if◌then◌else◌, Option, Some, None, option_map, option_to_list, List, [], ◌∷◌, ◌++◌, map, length, slice_index_or}
+use Rattle.std.specs.Prelude.{ℕ, zero, suc, ◌+◌, ◌-◌, ◌*◌, ◌≡◌, ◌<◌, Bool, true, false, ◌&&◌, if◌then◌else◌, Option, Some, None, option_map, option_to_list, List, [], ◌∷◌, ◌++◌, map, length, reverse, slice_index_or}
 use Rattle.mbe_semantics.specs.Readings.Input.{Input}
 use Rattle.mbe_semantics.specs.Matching.Lists.{In}
 use Rattle.mbe_parting.specs.declared.edges.Edge.{Edge}
@@ -50,7 +50,7 @@ abbrev pub target : ℕ → ℕ → Way → ℕ
 target size q w = node size (q + w.1) w.0
 
 -- the steps of the dot n, where this is, at place q
-abbrev pub step_at : Input → ℕ → ℕ → ℕ → Spot → Step
+unfoldable pub step_at : Input → ℕ → ℕ → ℕ → Spot → Step
 step_at i size q n s = record {
   place = q;
   source = node size q n;
@@ -80,10 +80,13 @@ abbrev pub edges_in : List Step → List Edge
 edges_in [] = []
 edges_in (s ∷ ss) = edges_of s ++ edges_in ss
 
--- the other way round, and the last first
+-- the other way round
+abbrev pub turned : Edge → Edge
+turned e = edge e.target e.source
+
+-- all of them, the last first
 abbrev pub flipped : List Edge → List Edge
-flipped [] = []
-flipped (e ∷ es) = flipped es ++ (edge e.target e.source ∷ [])
+flipped es = map turned (reverse es)
 
 -- ---- where two part
 

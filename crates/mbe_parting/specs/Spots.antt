@@ -95,7 +95,7 @@ op_ways i q (repetition b s k) m n = (Some (n, 0), past k (Some (n - m, 0)))
 op_ways i q (expression e) m n = (None, None)
 
 -- The steps at place q from a dot where this is and after which so many dots follow.
-abbrev pub ways : Input → ℕ → Spot → ℕ → Option Way × Option Way
+unfoldable pub ways : Input → ℕ → Spot → ℕ → Option Way × Option Way
 ways i q ending n = (None, None)
 ways i q closing n = (over_one n (i.closes_at q), None)
 ways i q (round_end s k m) n = round_ways i q s k m n

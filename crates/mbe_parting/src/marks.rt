@@ -1,6 +1,6 @@
 // Which nodes edges lead to.
 ghost use Rattle.std.specs.Prelude.{◌≡◌, ℕ, ◌<◌, true, false, map, length, option_to_list, IfOk, OnOk, ◌++◌};
-ghost use Rattle.mbe_parting.specs.Graph.{is_marked, AreFrom, AreClosed, AreReached, unmarked, edge, edges_of, edges_in, flipped, is_live, parts, first_parting};
+ghost use Rattle.mbe_parting.specs.Graph.{is_marked, AreFrom, AreClosed, AreReached, unmarked, edge, edges_of, edges_in, turned, flipped, is_live, parts, first_parting};
 
 use crate::edges::{Edge, Step};
 use std::alloc::{AllocError, Allocator};
@@ -92,21 +92,24 @@ fn push_edge<A: Allocator + Copy>(
     Ok(())
 }
 
-// The edges the other way round, the last first.
+// The edge the other way round.
+fn turned(edge: Edge) -> Edge
+    ensures { result ≡ turned edge }
+{
+    Edge {
+        source: edge.target,
+        target: edge.source,
+    }
+}
+
+// All of them, the last first.
 pub(crate) fn flipped<A: Allocator + Copy>(
     alloc: A,
     edges: &[Edge],
 ) -> Result<Vec<Edge, A>, AllocError>
     ensures { IfOk result (λ back. back.items ≡ flipped edges.now) }
 {
-    let mut back = Vec::new(alloc);
-    for edge in edges.iter().rev() {
-        back.push(Edge {
-            source: edge.target,
-            target: edge.source,
-        })?;
-    }
-    Ok(back)
+    edges.iter().rev().map(|edge| turned(*edge)).collect(alloc)
 }
 
 fn is_live(live: &[bool], node: Option<usize>) -> bool

@@ -160,6 +160,7 @@ fn op_ways<'a, A: Allocator, G: FragmentGrammar>(
 }
 
 // From the dot after which so many follow.
+#[tactic(auto, unfolding(crate::specs::Spots::ways))]
 fn ways<'a, A: Allocator, G: FragmentGrammar>(
     grammar: &G,
     source: &Source<'a, A>,
@@ -202,6 +203,7 @@ fn target(size: usize, place: usize, way: Option<Way>) -> Result<Option<usize>, 
 }
 
 // The steps of a dot there, of so many dots.
+#[tactic(auto, unfolding(crate::specs::Graph::step_at))]
 pub(crate) fn step_at<'a, A: Allocator, G: FragmentGrammar>(
     grammar: &G,
     source: &Source<'a, A>,
