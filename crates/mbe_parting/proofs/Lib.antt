@@ -6,3 +6,5 @@ pub mod Right
 pub mod Spotting
 pub mod Marking
 pub mod Whole
+pub mod Placing
+pub mod Rounding

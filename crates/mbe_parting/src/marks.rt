@@ -25,7 +25,6 @@ fn leads_on(edge: &Edge, marks: &[bool]) -> bool
 }
 
 // Goes along each edge once. Whether there was a node to mark.
-#[tactic(none)]
 fn sweep(edges: &[Edge], marks: &mut [bool]) -> bool
     ensures size { length marks.new ≡ length marks.old }
     ensures kept { (n : ℕ) → is_marked marks.old n ≡ true → is_marked marks.new n ≡ true }
@@ -46,7 +45,6 @@ fn sweep(edges: &[Edge], marks: &mut [bool]) -> bool
 }
 
 // Marks the nodes to which edges lead from the start, among so many.
-#[tactic(none)]
 pub(crate) fn reached_from<A: Allocator + Copy>(
     alloc: A,
     edges: &[Edge],

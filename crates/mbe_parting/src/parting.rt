@@ -23,7 +23,6 @@ use mbe_tt::tt::TokenTreesView;
 use std::alloc::{AllocError, Allocator};
 
 // The steps of all dots at the source's place, at the end of others.
-#[tactic(none)]
 fn push_steps<'a, A: Allocator + Copy, G: FragmentGrammar>(
     grammar: &G,
     source: &Source<'a, A>,
@@ -43,7 +42,6 @@ fn push_steps<'a, A: Allocator + Copy, G: FragmentGrammar>(
 }
 
 // The steps of all dots at all places.
-#[tactic(none)]
 fn all_steps<'a, A: Allocator + Copy, G: FragmentGrammar>(
     alloc: A,
     grammar: &G,
@@ -70,7 +68,6 @@ fn all_steps<'a, A: Allocator + Copy, G: FragmentGrammar>(
 /// argument's. `None` if there are no two readings. `AllocError` if out of memory.
 ///
 /// It looks at each dot of the pattern at each place, so it takes longer than a match: use it to explain one.
-#[tactic(none)]
 pub fn first_parting<'a, A: Allocator + Copy, G: FragmentGrammar>(
     alloc: A,
     grammar: &G,
