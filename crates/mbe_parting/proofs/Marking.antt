@@ -68,7 +68,7 @@ drop-none (x ∷ xs) zero l = absurd (omega arith)
 drop-none (x ∷ xs) (suc k) l = drop-none xs k (omega arith)
 
 pub edge-next : (es : List Edge) (k : ℕ) (d : Edge) → k < length es → drop k es ≡ get_or es k d ∷ drop (k + 1) es
-edge-next es k d l = drop-cons es k d ∙ ap (λ v. get_or es k d ∷ drop v es) (let e : suc k ≡ k + 1 = omega arith in e)
+edge-next es k d l = drop-cons es k d l ∙ ap (λ v. get_or es k d ∷ drop v es) (let e : suc k ≡ k + 1 = omega arith in e)
 
 pub edge-in : (es : List Edge) (k : ℕ) (d : Edge) → k < length es → In (get_or es k d) es
 edge-in es k d l = in-drop es k (get_or es k d) (subst (λ v. In (get_or es k d) v) (sym (edge-next es k d l)) (inl refl))

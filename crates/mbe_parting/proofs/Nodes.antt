@@ -235,6 +235,7 @@ there_at i size q (r ∷ ss) s (inl e) = ap (λ (v : Step). v.place) e
 there_at i size q (r ∷ ss) s (inr h) = there_at i size q ss s h
 
 sorted_there : (i : Input) (size q : ℕ) (ss : List Spot) → Sorted (steps_there i size q ss)
+unfolding step_at
 sorted_there i size q [] = tt
 sorted_there i size q (r ∷ ss) = (
   (λ s h. let e : s.place ≡ q = there_at i size q ss s h in omega arith),

@@ -54,7 +54,7 @@ step-on i size q n sps p x old new whole s l is a b d e =
     let same : length (map spot_seen (drop (p + 1) sps)) ≡ length (drop (p + 1) sps) =
     length-map (drop (p + 1) sps) spot_seen in
     step-more i size q n old new whole s (map spot_seen (drop p sps)) (map spot_seen (drop (p + 1) sps)) (spot_seen x) a b
-    (ap (map spot_seen) (drop-cons sps p x ∙ ap (λ v. v ∷ drop (suc p) sps) (sym is) ∙ ap (λ k. x ∷ drop k sps) next))
+    (ap (map spot_seen) (drop-cons sps p x l ∙ ap (λ v. v ∷ drop (suc p) sps) (sym is) ∙ ap (λ k. x ∷ drop k sps) next))
     d (omega arith)
 
 pub steps-end : {A : Type 0} (i : Input) (size q : ℕ) (sps : List (declared.Spot A)) (p : ℕ) (old whole : List Step) →
