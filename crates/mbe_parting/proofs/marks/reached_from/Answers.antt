@@ -8,7 +8,7 @@ use Rattle.mbe_parting.proofs.marks.reached_from.Goals as goal
 pub sweeps-init : goal.sweeps-init
 sweeps-init g c =
     let items : c.in_ok-marks.marks.items ≡ replicate c.args.count false =
-    c.in_ok-marks.ensures.items_if_clones_equal (λ x y h. search rules) in
+    c.in_ok-marks.ensures.items_if_clones_equal (λ y h. search rules) in
     let size : length c.in_ok-marks.marks.items ≡ c.args.count = ap length items ∙ length-replicate c.args.count false in
     let within = c.requires in
     record {

@@ -1,5 +1,4 @@
-use Rattle.std.proofs.Common.{◌≡◌, false, true, map, length, ap, sym, subst, ◌∙◌, arith}
-use Rattle.std.specs.Prelude.{IsTrue}
+use Rattle.std.proofs.Common.{◌≡◌, false, true, map, length, ap, sym, ◌∙◌, arith}
 use Rattle.mbe_tt.specs.Trees.Tree.{flat_len}
 use Rattle.mbe_tt.specs.Views.View.{trees}
 use Rattle.mbe_parting.specs.Code.{spot_seen}
@@ -17,7 +16,7 @@ passed-requires g c =
     let s = c.loop-source.source in
     let within = s.within in
     let before : s.place ≡ flat_len (trees s.whole) → ⊥ =
-    λ e. subst IsTrue c.if-is_at_end.false (c.is_at_end.ensures.1 e) in
+    λ e. let k : false ≡ true = sym c.if-is_at_end.false ∙ c.is_at_end.ensures.1 e in cc in
     omega (arith, within, before)
 
 pub loop-source-smaller : goal.loop-source-smaller
@@ -27,7 +26,7 @@ loop-source-smaller g c =
     let same = ap (λ x. flat_len (trees x)) c.in_ok-source.ensures.whole in
     let within = s.within in
     let before : s.place ≡ flat_len (trees s.whole) → ⊥ =
-    λ e. subst IsTrue c.if-is_at_end.false (c.is_at_end.ensures.1 e) in
+    λ e. let k : false ≡ true = sym c.if-is_at_end.false ∙ c.is_at_end.ensures.1 e in cc in
     omega (arith, at, same, within, before)
 
 pub loop-source-preserved : goal.loop-source-preserved
@@ -45,7 +44,7 @@ pub returns-then-is_at_end : goal.returns-then-is_at_end
 returns-then-is_at_end g c =
     let inv = c.loop-source.invariant in
     let at : c.loop-source.source.place ≡ flat_len (trees c.loop-source.source.whole) =
-    c.is_at_end.ensures.0 (subst IsTrue (sym c.if-is_at_end.true) tt) in
+    c.is_at_end.ensures.0 c.if-is_at_end.true in
     let same = ap (λ x. flat_len (trees x)) inv.whole in
     steps-next (g.G.FragmentGrammar.grammar c.args.grammar.now) (trees c.loop-source.source.whole)
     (trees c.args.argument) (length c.args.spots.now) c.loop-source.source.place _

@@ -15,7 +15,9 @@ pub reached_from-requires-2 : goal.reached_from-requires-2
 reached_from-requires-2 g c =
     let some : 0 < length c.in_ok-spots.spots.items =
     spots-some c.in_ok-spots.spots.items (template_of c.args.pattern.now) c.in_ok-spots.ensures in
-    let size : c.len-size.result ≡ length c.in_ok-spots.spots.items = c.len-size.ensures in
+    let size : c.len-size.result ≡ length c.in_ok-spots.spots.items =
+    c.len-size.ensures ∙ (let e : c.in_ok-spots.spots.len ≡ length c.in_ok-spots.spots.items =
+    omega (arith, c.in_ok-spots.spots.ok.0) in e) in
     let last : c.in_ok-last.last ≡ node c.len-size.result c.flat_len-length.result 1 =
     subst (λ r. IfSome r (λ n. n ≡ node c.len-size.result c.flat_len-length.result 1)) c.in_ok-last.ensures.ok_part
     c.node.ensures in
@@ -31,7 +33,9 @@ returns g c =
     let pat = template_of c.args.pattern.now in
     let arg = trees c.args.argument in
     let sps = c.deref.result.now in
-    let size : c.len-size.result ≡ length c.deref.result.now = c.len-size.ensures ∙ ap length (sym c.deref.ensures.value) in
+    let size : c.len-size.result ≡ length c.deref.result.now =
+    c.len-size.ensures ∙ (let e : c.in_ok-spots.spots.len ≡ length c.in_ok-spots.spots.items =
+    omega (arith, c.in_ok-spots.spots.ok.0) in e) ∙ ap length (sym c.deref.ensures.value) in
     let len : c.flat_len-length.result ≡ flat_len (trees c.args.argument) = c.flat_len-length.ensures in
     let last : c.in_ok-last.last ≡ node c.len-size.result c.flat_len-length.result 1 =
     subst (λ r. IfSome r (λ n. n ≡ node c.len-size.result c.flat_len-length.result 1)) c.in_ok-last.ensures.ok_part

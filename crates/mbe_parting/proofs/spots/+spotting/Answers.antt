@@ -108,31 +108,135 @@ push_op-returns-in-Repeat g t c =
     c.push_spots-in-Repeat.ensures
 
 pub push_op-returns-in-Var : goal.push_op-returns-in-Var
-push_op-returns-in-Var g t c = ?
+push_op-returns-in-Var g t c =
+    let count : c.in_ok-dots.dots ≡ op_dots (op_of c.args.op.now) =
+    subst (λ r. IfSome r (λ n. n ≡ op_dots (op_of c.args.op.now))) c.in_ok-dots.ensures.ok_part c.op_dots_of.ensures in
+    let flat : IsFlat (op_of c.args.op.now) =
+    elim c.in-Var.is [
+      | inl w ↦ subst IsFlat (sym (ap op_of w.3 ∙ view-var _ w.0 w.1 w.2)) refl
+      | inr (inl w) ↦ subst IsFlat (sym (ap op_of w.1 ∙ view-literal w.0)) refl
+      | inr (inr (inl w)) ↦ subst IsFlat (sym (ap op_of w.1 ∙ view-ident w.0)) refl
+      | inr (inr (inr w)) ↦ subst IsFlat (sym (ap op_of w.1 ∙ view-punct _ w.0)) refl
+    ] in
+    pushed-one c.args.all.now.items c.push.new.self.items _ (before (op_of c.args.op.now) (op_dots (op_of c.args.op.now)))
+    (spots_of_op (op_of c.args.op.now)) c.in_ok-push.ensures.items (ap (before (op_of c.args.op.now)) count) flat
 
 pub push_op-returns-in-Var-2 : goal.push_op-returns-in-Var-2
-push_op-returns-in-Var-2 g t c = ?
+push_op-returns-in-Var-2 g t c =
+    let count : c.in_ok-dots.dots ≡ op_dots (op_of c.args.op.now) =
+    subst (λ r. IfSome r (λ n. n ≡ op_dots (op_of c.args.op.now))) c.in_ok-dots.ensures.ok_part c.op_dots_of.ensures in
+    let flat : IsFlat (op_of c.args.op.now) =
+    elim c.in-Var.is [
+      | inl w ↦ subst IsFlat (sym (ap op_of w.3 ∙ view-var _ w.0 w.1 w.2)) refl
+      | inr (inl w) ↦ subst IsFlat (sym (ap op_of w.1 ∙ view-literal w.0)) refl
+      | inr (inr (inl w)) ↦ subst IsFlat (sym (ap op_of w.1 ∙ view-ident w.0)) refl
+      | inr (inr (inr w)) ↦ subst IsFlat (sym (ap op_of w.1 ∙ view-punct _ w.0)) refl
+    ] in
+    pushed-one c.args.all.now.items c.push.new.self.items _ (before (op_of c.args.op.now) (op_dots (op_of c.args.op.now)))
+    (spots_of_op (op_of c.args.op.now)) c.in_ok-push.ensures.items (ap (before (op_of c.args.op.now)) count) flat
 
 pub push_op-returns-in-Var-3 : goal.push_op-returns-in-Var-3
-push_op-returns-in-Var-3 g t c = ?
+push_op-returns-in-Var-3 g t c =
+    let count : c.in_ok-dots.dots ≡ op_dots (op_of c.args.op.now) =
+    subst (λ r. IfSome r (λ n. n ≡ op_dots (op_of c.args.op.now))) c.in_ok-dots.ensures.ok_part c.op_dots_of.ensures in
+    let flat : IsFlat (op_of c.args.op.now) =
+    elim c.in-Var.is [
+      | inl w ↦ subst IsFlat (sym (ap op_of w.3 ∙ view-var _ w.0 w.1 w.2)) refl
+      | inr (inl w) ↦ subst IsFlat (sym (ap op_of w.1 ∙ view-literal w.0)) refl
+      | inr (inr (inl w)) ↦ subst IsFlat (sym (ap op_of w.1 ∙ view-ident w.0)) refl
+      | inr (inr (inr w)) ↦ subst IsFlat (sym (ap op_of w.1 ∙ view-punct _ w.0)) refl
+    ] in
+    pushed-one c.args.all.now.items c.push.new.self.items _ (before (op_of c.args.op.now) (op_dots (op_of c.args.op.now)))
+    (spots_of_op (op_of c.args.op.now)) c.in_ok-push.ensures.items (ap (before (op_of c.args.op.now)) count) flat
 
 pub push_op-returns-in-Var-4 : goal.push_op-returns-in-Var-4
-push_op-returns-in-Var-4 g t c = ?
+push_op-returns-in-Var-4 g t c =
+    let count : c.in_ok-dots.dots ≡ op_dots (op_of c.args.op.now) =
+    subst (λ r. IfSome r (λ n. n ≡ op_dots (op_of c.args.op.now))) c.in_ok-dots.ensures.ok_part c.op_dots_of.ensures in
+    let flat : IsFlat (op_of c.args.op.now) =
+    elim c.in-Var.is [
+      | inl w ↦ subst IsFlat (sym (ap op_of w.3 ∙ view-var _ w.0 w.1 w.2)) refl
+      | inr (inl w) ↦ subst IsFlat (sym (ap op_of w.1 ∙ view-literal w.0)) refl
+      | inr (inr (inl w)) ↦ subst IsFlat (sym (ap op_of w.1 ∙ view-ident w.0)) refl
+      | inr (inr (inr w)) ↦ subst IsFlat (sym (ap op_of w.1 ∙ view-punct _ w.0)) refl
+    ] in
+    pushed-one c.args.all.now.items c.push.new.self.items _ (before (op_of c.args.op.now) (op_dots (op_of c.args.op.now)))
+    (spots_of_op (op_of c.args.op.now)) c.in_ok-push.ensures.items (ap (before (op_of c.args.op.now)) count) flat
 
 pub push_op-returns-in-Ignore : goal.push_op-returns-in-Ignore
-push_op-returns-in-Ignore g t c = ?
+push_op-returns-in-Ignore g t c =
+    let count : c.in_ok-dots.dots ≡ op_dots (op_of c.args.op.now) =
+    subst (λ r. IfSome r (λ n. n ≡ op_dots (op_of c.args.op.now))) c.in_ok-dots.ensures.ok_part c.op_dots_of.ensures in
+    let flat : IsFlat (op_of c.args.op.now) =
+    elim c.in-Ignore.is [
+      | inl w ↦ subst IsFlat (sym (ap op_of w.2 ∙ view-ignore _ w.0 w.1)) refl
+      | inr (inl w) ↦ subst IsFlat (sym (ap op_of w.1 ∙ view-index _ w.0)) refl
+      | inr (inr (inl w)) ↦ subst IsFlat (sym (ap op_of w.1 ∙ view-len _ w.0)) refl
+      | inr (inr (inr (inl w))) ↦ subst IsFlat (sym (ap op_of w.2 ∙ view-count _ w.0 w.1)) refl
+      | inr (inr (inr (inr w))) ↦ subst IsFlat (sym (ap op_of w.2 ∙ view-concat w.0 w.1)) refl
+    ] in
+    pushed-one c.args.all.now.items c.push.new.self.items _ (before (op_of c.args.op.now) (op_dots (op_of c.args.op.now)))
+    (spots_of_op (op_of c.args.op.now)) c.in_ok-push.ensures.items (ap (before (op_of c.args.op.now)) count) flat
 
 pub push_op-returns-in-Ignore-2 : goal.push_op-returns-in-Ignore-2
-push_op-returns-in-Ignore-2 g t c = ?
+push_op-returns-in-Ignore-2 g t c =
+    let count : c.in_ok-dots.dots ≡ op_dots (op_of c.args.op.now) =
+    subst (λ r. IfSome r (λ n. n ≡ op_dots (op_of c.args.op.now))) c.in_ok-dots.ensures.ok_part c.op_dots_of.ensures in
+    let flat : IsFlat (op_of c.args.op.now) =
+    elim c.in-Ignore.is [
+      | inl w ↦ subst IsFlat (sym (ap op_of w.2 ∙ view-ignore _ w.0 w.1)) refl
+      | inr (inl w) ↦ subst IsFlat (sym (ap op_of w.1 ∙ view-index _ w.0)) refl
+      | inr (inr (inl w)) ↦ subst IsFlat (sym (ap op_of w.1 ∙ view-len _ w.0)) refl
+      | inr (inr (inr (inl w))) ↦ subst IsFlat (sym (ap op_of w.2 ∙ view-count _ w.0 w.1)) refl
+      | inr (inr (inr (inr w))) ↦ subst IsFlat (sym (ap op_of w.2 ∙ view-concat w.0 w.1)) refl
+    ] in
+    pushed-one c.args.all.now.items c.push.new.self.items _ (before (op_of c.args.op.now) (op_dots (op_of c.args.op.now)))
+    (spots_of_op (op_of c.args.op.now)) c.in_ok-push.ensures.items (ap (before (op_of c.args.op.now)) count) flat
 
 pub push_op-returns-in-Ignore-3 : goal.push_op-returns-in-Ignore-3
-push_op-returns-in-Ignore-3 g t c = ?
+push_op-returns-in-Ignore-3 g t c =
+    let count : c.in_ok-dots.dots ≡ op_dots (op_of c.args.op.now) =
+    subst (λ r. IfSome r (λ n. n ≡ op_dots (op_of c.args.op.now))) c.in_ok-dots.ensures.ok_part c.op_dots_of.ensures in
+    let flat : IsFlat (op_of c.args.op.now) =
+    elim c.in-Ignore.is [
+      | inl w ↦ subst IsFlat (sym (ap op_of w.2 ∙ view-ignore _ w.0 w.1)) refl
+      | inr (inl w) ↦ subst IsFlat (sym (ap op_of w.1 ∙ view-index _ w.0)) refl
+      | inr (inr (inl w)) ↦ subst IsFlat (sym (ap op_of w.1 ∙ view-len _ w.0)) refl
+      | inr (inr (inr (inl w))) ↦ subst IsFlat (sym (ap op_of w.2 ∙ view-count _ w.0 w.1)) refl
+      | inr (inr (inr (inr w))) ↦ subst IsFlat (sym (ap op_of w.2 ∙ view-concat w.0 w.1)) refl
+    ] in
+    pushed-one c.args.all.now.items c.push.new.self.items _ (before (op_of c.args.op.now) (op_dots (op_of c.args.op.now)))
+    (spots_of_op (op_of c.args.op.now)) c.in_ok-push.ensures.items (ap (before (op_of c.args.op.now)) count) flat
 
 pub push_op-returns-in-Ignore-4 : goal.push_op-returns-in-Ignore-4
-push_op-returns-in-Ignore-4 g t c = ?
+push_op-returns-in-Ignore-4 g t c =
+    let count : c.in_ok-dots.dots ≡ op_dots (op_of c.args.op.now) =
+    subst (λ r. IfSome r (λ n. n ≡ op_dots (op_of c.args.op.now))) c.in_ok-dots.ensures.ok_part c.op_dots_of.ensures in
+    let flat : IsFlat (op_of c.args.op.now) =
+    elim c.in-Ignore.is [
+      | inl w ↦ subst IsFlat (sym (ap op_of w.2 ∙ view-ignore _ w.0 w.1)) refl
+      | inr (inl w) ↦ subst IsFlat (sym (ap op_of w.1 ∙ view-index _ w.0)) refl
+      | inr (inr (inl w)) ↦ subst IsFlat (sym (ap op_of w.1 ∙ view-len _ w.0)) refl
+      | inr (inr (inr (inl w))) ↦ subst IsFlat (sym (ap op_of w.2 ∙ view-count _ w.0 w.1)) refl
+      | inr (inr (inr (inr w))) ↦ subst IsFlat (sym (ap op_of w.2 ∙ view-concat w.0 w.1)) refl
+    ] in
+    pushed-one c.args.all.now.items c.push.new.self.items _ (before (op_of c.args.op.now) (op_dots (op_of c.args.op.now)))
+    (spots_of_op (op_of c.args.op.now)) c.in_ok-push.ensures.items (ap (before (op_of c.args.op.now)) count) flat
 
 pub push_op-returns-in-Ignore-5 : goal.push_op-returns-in-Ignore-5
-push_op-returns-in-Ignore-5 g t c = ?
+push_op-returns-in-Ignore-5 g t c =
+    let count : c.in_ok-dots.dots ≡ op_dots (op_of c.args.op.now) =
+    subst (λ r. IfSome r (λ n. n ≡ op_dots (op_of c.args.op.now))) c.in_ok-dots.ensures.ok_part c.op_dots_of.ensures in
+    let flat : IsFlat (op_of c.args.op.now) =
+    elim c.in-Ignore.is [
+      | inl w ↦ subst IsFlat (sym (ap op_of w.2 ∙ view-ignore _ w.0 w.1)) refl
+      | inr (inl w) ↦ subst IsFlat (sym (ap op_of w.1 ∙ view-index _ w.0)) refl
+      | inr (inr (inl w)) ↦ subst IsFlat (sym (ap op_of w.1 ∙ view-len _ w.0)) refl
+      | inr (inr (inr (inl w))) ↦ subst IsFlat (sym (ap op_of w.2 ∙ view-count _ w.0 w.1)) refl
+      | inr (inr (inr (inr w))) ↦ subst IsFlat (sym (ap op_of w.2 ∙ view-concat w.0 w.1)) refl
+    ] in
+    pushed-one c.args.all.now.items c.push.new.self.items _ (before (op_of c.args.op.now) (op_dots (op_of c.args.op.now)))
+    (spots_of_op (op_of c.args.op.now)) c.in_ok-push.ensures.items (ap (before (op_of c.args.op.now)) count) flat
 
 pub push_spots-returns : goal.push_spots-returns
 push_spots-returns g t c =
