@@ -1,5 +1,5 @@
 -- Where beginnings lead: to readings, and apart.
-use Rattle.std.proofs.Common.{ℕ, zero, suc, ◌+◌, ◌-◌, ◌≡◌, ◌⊎◌, ◌<◌, inl, inr, Option, Some, None, List, [], ◌∷◌, ◌++◌, map, refl, sym, ◌∙◌, ap, subst, arith}
+use Rattle.std.proofs.Common.{ℕ, zero, suc, ◌-◌, ◌≡◌, ◌⊎◌, ◌<◌, inl, inr, Option, Some, None, List, [], ◌∷◌, map, refl, sym, ◌∙◌, ap, subst, arith}
 use Rattle.mbe_semantics.specs.Syntax.Op.{Ops, no_ops}
 use Rattle.mbe_semantics.specs.Readings.Item.{Items}
 use Rattle.mbe_semantics.specs.Readings.Input.{Input}
@@ -152,21 +152,21 @@ apart i pat len is js d (suc n) (suc m) q x h a b =
       | inl e ↦ apart i pat len is js d n m a.0.0 a.0.1 (step-sound i pat q x a.0 h a.1) a.2
           (subst (λ (v : ℕ × Beginning). Leads m i len js v.0 v.1) (sym e) b.2)
       | inr f ↦ (
-          q,
-          record {
-            before = x;
-            here = h;
-            one = a.0;
-            other = b.0;
-            one_next = a.1;
-            other_next = b.1;
-            differ = f;
-            reading = is;
-            another = js;
-            one_is = (n, a.2);
-            other_is = (m, b.2);
-          },
-        )
+        q,
+        record {
+          before = x;
+          here = h;
+          one = a.0;
+          other = b.0;
+          one_next = a.1;
+          other_next = b.1;
+          differ = f;
+          reading = is;
+          another = js;
+          one_is = (n, a.2);
+          other_is = (m, b.2);
+        },
+      )
     ]
 
 pub readings-part : ReadingsPart

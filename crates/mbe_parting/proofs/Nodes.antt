@@ -1,5 +1,5 @@
 -- The steps and edges of a match, as members of its lists.
-use Rattle.std.proofs.Common.{ℕ, zero, suc, ◌+◌, ◌-◌, ◌*◌, ◌≡◌, ◌⊎◌, ◌<◌, ◌≤◌, inl, inr, Bool, true, false, if◌then◌else◌, Option, Some, None, option_map, option_to_list, List, [], ◌∷◌, ◌++◌, map, length, reverse, refl, sym, ◌∙◌, ap, subst, arith, length-append}
+use Rattle.std.proofs.Common.{ℕ, zero, suc, ◌+◌, ◌*◌, ◌≡◌, ◌⊎◌, ◌<◌, ◌≤◌, inl, inr, Bool, true, false, if◌then◌else◌, Option, Some, None, option_to_list, List, [], ◌∷◌, ◌++◌, map, length, reverse, refl, sym, ◌∙◌, ap, subst, arith}
 use Rattle.std.proofs.Math.Nat.{mul-le-mul_right}
 use Rattle.std.proofs.lemmas.List.{reverse-append, reverse-reverse}
 use Rattle.mbe_semantics.specs.Readings.Input.{Input}
@@ -7,8 +7,8 @@ use Rattle.mbe_semantics.specs.Matching.Lists.{In}
 use Rattle.mbe_laws.proofs.Matching.Forest.{in_left, in_right, in_either}
 use Rattle.mbe_parting.specs.declared.edges.Edge.{Edge}
 use Rattle.mbe_parting.specs.declared.edges.Step.{Step}
-use Rattle.mbe_parting.specs.Spots.{Spot, Way, listed, ways}
-use Rattle.mbe_parting.specs.Graph.{node, target, step_at, steps_there, steps_before, edge, edges_of, edges_in, turned, flipped, is_live, parts, first_parting}
+use Rattle.mbe_parting.specs.Spots.{Spot}
+use Rattle.mbe_parting.specs.Graph.{node, step_at, steps_there, steps_before, edge, edges_of, edges_in, turned, flipped, parts, first_parting}
 use Rattle.mbe_parting.proofs.Beginnings.{in-map, from-map}
 use Rattle.mbe_parting.proofs.Tails.{IsSpot}
 

@@ -5,13 +5,13 @@ use Rattle.mbe_tt.specs.Trees.Tree.{flat_len}
 use Rattle.mbe_semantics.specs.declared.kinds.RepeatKind.{RepeatKind}
 use Rattle.mbe_semantics.specs.declared.kinds.RepeatKind.TheVariants.{ZeroOrMore, OneOrMore, ZeroOrOne}
 use Rattle.mbe_semantics.specs.Syntax.Op.{Name, Separator, token, group, variable, repetition, expression, Ops, no_ops, op, names_of}
-use Rattle.mbe_semantics.specs.Readings.Item.{Fragment, Item, matched, bound, grouped, skipped, rounds, Items, no_items, item, Rounds, no_rounds, round, item_width}
+use Rattle.mbe_semantics.specs.Readings.Item.{Fragment, matched, bound, skipped, rounds, Items, no_items, item, Rounds, no_rounds, round}
 use Rattle.mbe_semantics.specs.Readings.Input.{Input}
 use Rattle.mbe_semantics.specs.Readings.Reading.{Frame, inside, within, Beginning, dot}
-use Rattle.mbe_semantics.specs.Readings.Steps.{matched_by, bound_as, skip_of, again_of, if_none, empty_of, idle, Move, move, if_some, over_of, when, round_move, separator_move, next}
+use Rattle.mbe_semantics.specs.Readings.Steps.{matched_by, bound_as, skip_of, again_of, if_none, empty_of, idle, Move, move, if_some, over_of, when, round_move, next}
 use Rattle.mbe_semantics.specs.Matching.Dots.{dots, dots_after, number_of}
 use Rattle.mbe_parting.specs.Parting.{moved, steps}
-use Rattle.mbe_parting.specs.Spots.{spot_of, Way, listed, over, over_one, over_fragment, again, past, round_ways, op_ways, ways}
+use Rattle.mbe_parting.specs.Spots.{spot_of, Way, listed, over, over_one, over_fragment, again, past, round_ways, ways}
 
 -- the number of the dot that a step leads to, and its place
 abbrev pub named : ℕ × Beginning → ℕ × ℕ

@@ -1,12 +1,11 @@
 -- The first step that parts is where two readings part first.
-use Rattle.std.proofs.Common.{ℕ, zero, suc, ◌+◌, ◌-◌, ◌*◌, ◌≡◌, ◌⊎◌, ◌<◌, ◌≤◌, inl, inr, Bool, true, false, ◌&&◌, Option, Some, None, option_map, option_to_list, List, [], ◌∷◌, ◌++◌, map, length, refl, sym, ◌∙◌, ap, subst, arith, length-append}
+use Rattle.std.proofs.Common.{ℕ, zero, suc, ◌+◌, ◌-◌, ◌≡◌, ◌<◌, ◌≤◌, inl, inr, Bool, true, false, ◌&&◌, Option, Some, None, option_map, option_to_list, List, [], ◌∷◌, ◌++◌, map, length, refl, sym, ◌∙◌, ap, subst, arith, length-append}
 use Rattle.mbe_semantics.specs.Syntax.Op.{Ops, no_ops, op}
 use Rattle.mbe_semantics.specs.Readings.Item.{Items}
 use Rattle.mbe_semantics.specs.Readings.Input.{Input}
 use Rattle.mbe_semantics.specs.Readings.Reading.{inside, within, Beginning, dot, place, start, Begins, At}
 use Rattle.mbe_semantics.specs.Matching.Dots.{dots, number_of}
 use Rattle.mbe_semantics.specs.Matching.Lists.{In}
-use Rattle.mbe_laws.proofs.Matching.Forest.{in_left, in_right}
 use Rattle.mbe_bounds.proofs.Dots.Dots.{number-within}
 use Rattle.mbe_parting.specs.declared.edges.Edge.{Edge}
 use Rattle.mbe_parting.specs.declared.edges.Step.{Step}
@@ -341,10 +340,13 @@ module _ (i : Input) (pat : Ops) (len size : ℕ) (ends : (x : Beginning) → Be
         (ways i (place t.before) (spot_of t.before) (number_of t.before - 1)) t.one t.other
         (steps-ways i (place t.before) t.before) one other t.differ
         (live_after t.before t.one t.here.0 one t.reading t.one_is)
-        (live_after t.before t.other t.here.0 other t.another t.other_is) in
-        (here t.before, here_in t.before t.here.0,
-        all_true (is_marked reaches (node_of t.before)) (is_live lives (here t.before).one)
-        (is_live lives (here t.before).other) (all_reached reaches r t.before t.here.0) two.0 two.1, at)
+        (live_after t.before t.other t.here.0 other t.another t.other_is) in (
+          here t.before,
+          here_in t.before t.here.0,
+          all_true (is_marked reaches (node_of t.before)) (is_live lives (here t.before).one)
+              (is_live lives (here t.before).other) (all_reached reaches r t.before t.here.0) two.0 two.1,
+          at,
+        )
       where
         live_after : (x : Beginning) (s : ℕ × Beginning) → Begins i pat x → In s (steps i (place x) x) → (is : Items)
             → IsBeginningOf i len is s.0 s.1 → is_marked lives (node_after size s) ≡ true

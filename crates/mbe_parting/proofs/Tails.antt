@@ -1,5 +1,5 @@
 -- What is at the dot of a beginning is at the dot of its number in the pattern.
-use Rattle.std.proofs.Common.{ℕ, suc, ◌+◌, ◌≡◌, List, [], ◌∷◌, ◌++◌, length, refl, sym, ◌∙◌, ap, subst, arith, append_assoc, append-nil, length-append}
+use Rattle.std.proofs.Common.{ℕ, ◌+◌, ◌≡◌, List, [], ◌∷◌, ◌++◌, length, refl, sym, ◌∙◌, ap, arith, append_assoc, append-nil, length-append}
 use Rattle.mbe_semantics.specs.Syntax.Op.{Op, token, group, variable, repetition, expression, Ops, no_ops, op}
 use Rattle.mbe_semantics.specs.Readings.Item.{Items, no_items, item}
 use Rattle.mbe_semantics.specs.Readings.Input.{Input}

@@ -9,7 +9,7 @@ use Rattle.mbe_parting.specs.declared.edges.Edge.{Edge}
 use Rattle.mbe_parting.specs.declared.edges.Step.{Step}
 use Rattle.mbe_parting.specs.declared.spot.Spot as declared
 use Rattle.mbe_parting.specs.Parting.{IsPartingOf}
-use Rattle.mbe_parting.specs.Spots.{Spot, ending, spots}
+use Rattle.mbe_parting.specs.Spots.{ending, spots}
 use Rattle.mbe_parting.specs.Code.{spot_seen}
 use Rattle.mbe_parting.specs.Graph.{AreReached, node, steps_before, edges_in, flipped, first_parting}
 use Rattle.mbe_parting.proofs.Numbers.{some-dots}

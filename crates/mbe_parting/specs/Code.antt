@@ -1,5 +1,5 @@
 -- What the program's values stand for.
-use Rattle.std.specs.Prelude.{ℕ, List, Option, Some, None, option_map}
+use Rattle.std.specs.Prelude.{Option, option_map}
 use Rattle.mbe_ops.specs.Views.{op_of, separator_seen}
 use Rattle.mbe_parting.specs.declared.spot.Spot as declared
 use Rattle.mbe_parting.specs.declared.spot.Spot.TheVariants as code

@@ -19,9 +19,7 @@ fn leads_on(edge: &Edge, marks: &[bool]) -> bool
     ensures not { result ≡ false → is_marked marks.now edge.now.source ≡ true
         → edge.now.target < length marks.now → is_marked marks.now edge.now.target ≡ true }
 {
-    is_marked(marks, edge.source)
-        && edge.target < marks.len()
-        && !is_marked(marks, edge.target)
+    is_marked(marks, edge.source) && edge.target < marks.len() && !is_marked(marks, edge.target)
 }
 
 // Goes along each edge once. Whether there was a node to mark.

@@ -16,7 +16,10 @@ pub(crate) enum Spot<'a, A: Allocator = Global> {
         dots: usize,
     },
     // An op, in which there are so many dots.
-    Before { op: &'a Op<A>, dots: usize },
+    Before {
+        op: &'a Op<A>,
+        dots: usize,
+    },
 }
 
 // A step to the dot of this number, over so many flat tokens.

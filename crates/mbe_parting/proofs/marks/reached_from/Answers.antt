@@ -1,7 +1,7 @@
 use Rattle.std.proofs.Common.{◌≡◌, ◌<◌, ◌++◌, true, false, length, take, drop, sym, ◌∙◌, ap, subst, arith, rules}
 use Rattle.std.proofs.Math.ListN.{replicate}
 use Rattle.std.proofs.lemmas.List.{length-replicate}
-use Rattle.mbe_parting.specs.Graph.{is_marked, AreFrom, AreClosed, AreReached, unmarked}
+use Rattle.mbe_parting.specs.Graph.{is_marked, AreFrom, AreReached, unmarked}
 use Rattle.mbe_parting.proofs.Marking.{written-back, start-alone, start-marked, set-length}
 use Rattle.mbe_parting.proofs.marks.reached_from.Goals as goal
 

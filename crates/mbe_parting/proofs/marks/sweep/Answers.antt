@@ -1,10 +1,9 @@
-use Rattle.std.proofs.Common.{◌≡◌, ◌+◌, ◌<◌, ℕ, false, true, length, get_or, drop, refl, ◌∙◌, arith}
+use Rattle.std.proofs.Common.{◌≡◌, ◌+◌, ◌<◌, false, true, get_or, drop, refl, ◌∙◌, arith}
 use Rattle.mbe_parting.specs.declared.edges.Edge.{Edge}
-use Rattle.mbe_parting.specs.Graph.{is_marked, unmarked}
+use Rattle.mbe_parting.specs.Graph.{unmarked}
 use Rattle.std.proofs.Math.ListN.{set}
 use Rattle.mbe_parting.proofs.Marking.{unmarked-set, marked-kept, from-set, closed-more, closed-none, set-length, drop-none, edge-next, edge-in}
 use Rattle.mbe_parting.proofs.marks.sweep.Goals as goal
-
 
 pub loop-edge-init : goal.loop-edge-init
 loop-edge-init c = record {

@@ -1,6 +1,6 @@
 use Rattle.std.proofs.Common.{◌≡◌, ◌∷◌, ◌++◌, map, option_map, inl, inr, ap, sym, subst, refl, ◌∙◌, arith}
 use Rattle.std.specs.Prelude.{None, OnOk, IfSome}
-use Rattle.mbe_semantics.specs.Matching.Dots.{op_dots, dots}
+use Rattle.mbe_semantics.specs.Matching.Dots.{op_dots}
 use Rattle.mbe_semantics.specs.Syntax.Op.{group, repetition, no_ops}
 use Rattle.mbe_ops.specs.Views.{op_of, ops_of, separator_seen}
 use Rattle.mbe_ops.specs.Walk.{stops_left, ops_in}
