@@ -1,0 +1,4 @@
+pub mod Parting
+pub mod Spots
+pub mod Graph
+pub mod Code

@@ -1,0 +1,12 @@
+// Where two readings of an argument part. A layer of `mbe`: use that crate.
+#![tactic(auto)]
+
+mod eat;
+mod edges;
+mod fronts;
+pub mod laws;
+mod marks;
+pub mod parting;
+mod spot;
+mod spots;
+mod ways;
