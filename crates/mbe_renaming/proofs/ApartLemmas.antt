@@ -6,9 +6,9 @@ use Rattle.std.proofs.lemmas.Bool.{eqb-true}
 use Rattle.std.proofs.lemmas.Fmt.{decimal_injective}
 use Rattle.std.proofs.lemmas.List.{append_cancel_left}
 use Rattle.mbe_renaming.specs.Laws.{IsIn, IsDecided, OneNameEach, NoNameAround}
-use Rattle.mbe_renaming.specs.Naming.{Word, context, is_text_role, is_same_sort, is_same, is_binding, is_among, with_local, locals_from, locals, is_written, is_other, has_other, is_text_among, is_shared, is_doubted, Naming, naming, is_word, is_given, is_taken, numbered, first_free, fresh, is_renamed, with_name, names_from, namings, name_in, or_own, new_name}
+use Rattle.mbe_renaming.specs.Naming.{Word, context, is_aside, is_same_sort, is_same, is_binding, is_among, with_local, locals_from, locals, is_written, is_other, has_other, is_text_among, is_shared, is_doubted, Naming, naming, is_word, is_given, is_taken, numbered, first_free, fresh, is_renamed, with_name, names_from, namings, name_in, or_own, new_name}
 use Rattle.mbe_renaming.specs.Renaming.{words_in, namings_in}
-use Rattle.mbe_renaming.proofs.SameLemmas.{true_or_false, both, and_left, and_right, or_cases, or_left, or_right, neither_left, neither_right, neither, same_text, text_same, not_same, same_other_way, not_text, not_text_either, Same, same_from, same_to, same_congr, same_sym, same_trans, name_same, new_name_same, here_named, later_named}
+use Rattle.mbe_renaming.proofs.SameLemmas.{true_or_false, both, and_left, and_right, or_cases, or_left, or_right, neither_left, neither_right, neither, same_text, text_same, not_same, same_other_way, not_aside, not_aside_either, Same, same_from, same_to, same_congr, same_sym, same_trans, name_same, new_name_same, here_named, later_named}
 
 -- ---- a new name that isn't taken
 
@@ -48,7 +48,7 @@ unfolding word_texts
 word_among [] t e = cc
 word_among (w ∷ ws) t e = elim (or_cases (is_written w t) (is_word ws t) e) [
   inl h ↦ or_left (bytes_eq w.text t) (is_text_among (word_texts ws) t)
-  (and_right (not (is_text_role w.role)) (bytes_eq w.text t) h)
+  (and_right (not (is_aside w.role)) (bytes_eq w.text t) h)
   | inr h ↦ or_right (bytes_eq w.text t) (is_text_among (word_texts ws) t) (word_among ws t h)
 ]
 
@@ -369,7 +369,7 @@ all_named ws names (w ∷ more) given b v h r s = elim h [
 
 -- ---- words of the trees
 
-written_in : (ws : List Word) (w : Word) → IsIn w ws → is_text_role w.role ≡ false → is_word ws w.text ≡ true
+written_in : (ws : List Word) (w : Word) → IsIn w ws → is_aside w.role ≡ false → is_word ws w.text ≡ true
 written_in [] w h t = absurd h
 written_in (v ∷ vs) w h t = elim h [
   inl e ↦
@@ -393,7 +393,7 @@ among_in (x ∷ xs) t h = elim h [
 ]
 
 -- a word of that text that isn't of another context is of the same
-no_other : (w b : Word) → is_other w b ≡ false → is_text_role w.role ≡ false → w.text ≡ b.text → context w ≡ context b
+no_other : (w b : Word) → is_other w b ≡ false → is_aside w.role ≡ false → w.text ≡ b.text → context w ≡ context b
 no_other w b n t e =
     let written : is_written w b.text ≡ true = rw t (text_same w.text b.text e) in
     let apart : not (context w == context b) ≡ false =
@@ -422,13 +422,13 @@ own_is given v e = ap (or_own v.text) e
 
 -- a new name is no word of the trees
 new_and_own : (ws : List Word) (names : List (List ℕ)) (given : List Naming) (v w : Word) (x : List ℕ)
-    → Fine ws names given → name_in given v ≡ Some x → IsIn w ws → is_text_role w.role ≡ false → x ≡ w.text → ⊥
+    → Fine ws names given → name_in given v ≡ Some x → IsIn w ws → is_aside w.role ≡ false → x ≡ w.text → ⊥
 new_and_own ws names given v w x h e iw t same =
     both (is_word ws x) true (ap (is_word ws) same ∙ written_in ws w iw t) (free_name ws names given v x h e).0
 
 -- neither has a new name
 both_own : (names : List (List ℕ)) (ws : List Word) (b v w : Word) → IsDecided names ws b → is_same b v ≡ true
-    → is_same_sort v.role w.role ≡ true → IsIn w ws → is_text_role w.role ≡ false
+    → is_same_sort v.role w.role ≡ true → IsIn w ws → is_aside w.role ≡ false
     → name_in (namings ws names) v ≡ None → v.text ≡ w.text → Same v w
 both_own names ws b v w d s sort iw t nv e =
     let bv = same_from b v s in
@@ -438,7 +438,7 @@ both_own names ws b v w d s sort iw t nv e =
 
 one_name : (names : List (List ℕ)) (ws : List Word) (b v w : Word) → IsDecided names ws b
     → Fine ws names (namings ws names) → IsIn v ws → IsIn w ws → is_same b v ≡ true
-    → is_same_sort v.role w.role ≡ true → is_text_role v.role ≡ false → is_text_role w.role ≡ false
+    → is_same_sort v.role w.role ≡ true → is_aside v.role ≡ false → is_aside w.role ≡ false
     → new_name (namings ws names) v ≡ new_name (namings ws names) w → Same v w
 one_name names ws b v w d fine iv iw s sort tv t_w e =
     let given = namings ws names in
@@ -459,15 +459,15 @@ one_name names ws b v w d fine iv iw s sort tv t_w e =
     ]
 
 pub one_name_each : OneNameEach
-one_name_each names f b v w d small iv iw s sort =
-    let ws = words_in f in
+one_name_each names ns f b v w d small iv iw s sort =
+    let ws = words_in ns f in
     let fine = namings_fine ws names small in
-    (λ e. same_to v w (one_name names ws b v w d fine iv iw s sort (not_text v.role w.role sort)
-    (not_text_either v.role w.role sort) e), λ e. new_name_same (namings ws names) v w (same_from v w e))
+    (λ e. same_to v w (one_name names ws b v w d fine iv iw s sort (not_aside v.role w.role sort)
+    (not_aside_either v.role w.role sort) e), λ e. new_name_same (namings ws names) v w (same_from v w e))
 
 pub no_name_around : NoNameAround
-no_name_around names f b v d small s h =
-    let ws = words_in f in
+no_name_around names ns f b v d small s h =
+    let ws = words_in ns f in
     let given = namings ws names in
     let fine = namings_fine ws names small in
     let around = among_in names (new_name given v) h in

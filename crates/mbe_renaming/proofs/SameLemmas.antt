@@ -5,8 +5,8 @@ use Rattle.std.specs.Str.{bytes_eq}
 use Rattle.std.proofs.lemmas.Bool.{eqb-true, eq-eqb}
 use Rattle.std.proofs.lemmas.Slice.Eq.{bytes_eq-Decides}
 use Rattle.mbe_renaming.specs.declared.sites.Role.{Role}
-use Rattle.mbe_renaming.specs.declared.sites.Role.TheVariants.{Other, Used, Bound, Late, Unsure, Label, Jump, Text, Begin, End}
-use Rattle.mbe_renaming.specs.Naming.{Word, context, is_local, is_label, is_text_role, is_same_sort, is_same, Naming, name_in, or_own, new_name}
+use Rattle.mbe_renaming.specs.declared.sites.Role.TheVariants.{Other, Used, Bound, Late, Short, Unsure, Label, Jump, Text, Inner, InnerLabel, Begin, End}
+use Rattle.mbe_renaming.specs.Naming.{Word, context, is_local, is_label, is_aside, is_same_sort, is_same, Naming, name_in, or_own, new_name}
 
 -- ---- tests
 
@@ -83,10 +83,13 @@ no_label Other e = refl
 no_label Used e = refl
 no_label Bound e = refl
 no_label Late e = refl
+no_label Short e = refl
 no_label Unsure e = refl
 no_label Label e = absurd (both true true refl (sym e))
 no_label Jump e = absurd (both true true refl (sym e))
 no_label Text e = refl
+no_label Inner e = refl
+no_label InnerLabel e = refl
 no_label Begin e = refl
 no_label End e = refl
 
@@ -107,20 +110,23 @@ sort_sym r q e =
     ∙ ap (λ x. is_local r && is_local q || x && is_label r) (sym c.1)
     ∙ ap (λ x. is_local r && is_local q || is_label r && x) c.1 ∙ e
 
-pub not_text : (r q : Role) → is_same_sort r q ≡ true → is_text_role r ≡ false
-not_text Other q e = refl
-not_text Used q e = refl
-not_text Bound q e = refl
-not_text Late q e = refl
-not_text Unsure q e = refl
-not_text Label q e = refl
-not_text Jump q e = refl
-not_text Begin q e = refl
-not_text End q e = refl
-not_text Text q e = absurd (both true true refl (sym e))
+pub not_aside : (r q : Role) → is_same_sort r q ≡ true → is_aside r ≡ false
+not_aside Other q e = refl
+not_aside Used q e = refl
+not_aside Bound q e = refl
+not_aside Late q e = refl
+not_aside Short q e = refl
+not_aside Unsure q e = refl
+not_aside Label q e = refl
+not_aside Jump q e = refl
+not_aside Begin q e = refl
+not_aside End q e = refl
+not_aside Text q e = absurd (both true true refl (sym e))
+not_aside Inner q e = absurd (both true true refl (sym e))
+not_aside InnerLabel q e = absurd (both true true refl (sym e))
 
-pub not_text_either : (r q : Role) → is_same_sort r q ≡ true → is_text_role q ≡ false
-not_text_either r q e = not_text q r (sort_sym r q e)
+pub not_aside_either : (r q : Role) → is_same_sort r q ≡ true → is_aside q ≡ false
+not_aside_either r q e = not_aside q r (sort_sym r q e)
 
 -- ---- words
 

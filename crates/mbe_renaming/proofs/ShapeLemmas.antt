@@ -27,7 +27,7 @@ shape_kept given (group d inside rest) s =
     ∙ ap (group d (without_words inside)) (shape_kept given rest (after_group s d.kind rest))
 
 pub keeps_shapes : KeepsShapes
-keeps_shapes names f = shape_kept (namings_in names f) f start
+keeps_shapes names ns f = shape_kept (namings_in names ns f) f start
 
 leaf_named : (given : List Naming) (l : Leaf) (r : Role) → leaf_texts (renamed_leaf given l r) ≡ step_texts given (token l r)
 leaf_named given (ident i) r = refl
@@ -57,4 +57,4 @@ each_named given (group d inside rest) s =
     (closing d.close ∷ steps (after_group s d.kind rest) rest))
 
 pub renames_each : RenamesEach
-renames_each names f = each_named (namings_in names f) f start
+renames_each names ns f = each_named (namings_in names ns f) f start

@@ -4,14 +4,15 @@ use Rattle.std.specs.Str.{bytes_eq}
 use Rattle.mbe_tt.specs.Trees.Leaf.{Leaf, literal, punct, ident}
 use Rattle.mbe_tt.specs.declared.span.Span.{Span}
 use Rattle.mbe_renaming.specs.declared.naming.Doubt.{Doubt}
+use Rattle.mbe_renaming.specs.declared.naming.Nesting.{Nesting}
 use Rattle.mbe_renaming.specs.declared.naming.Progress.{Progress}
 use Rattle.mbe_renaming.specs.declared.naming.Progress.TheVariants as progress
 use Rattle.mbe_renaming.specs.declared.sites.Role.{Role}
-use Rattle.mbe_renaming.specs.declared.sites.Role.TheVariants.{Used, Bound, Late, Unsure, Label, Jump, Text, Begin, End}
+use Rattle.mbe_renaming.specs.declared.sites.Role.TheVariants.{Other, Used, Bound, Late, Short, Unsure, Label, Jump, Text, Inner, InnerLabel, Begin, End}
 use Rattle.mbe_renaming.specs.Mentions.{is_mentioned}
 use Rattle.mbe_renaming.specs.Steps.{Step, token, opening, closing}
 
--- a word of the trees, or the text of a string
+-- a word of the trees, or what else tells of locals: the text of a string, the end of a value
 pub record Word : Type 0 where
   pub text : List ℕ
   pub span : Span
@@ -30,6 +31,7 @@ abbrev pub is_local : Role → Bool
 is_local Used = true
 is_local Bound = true
 is_local Late = true
+is_local Short = true
 is_local Unsure = true
 is_local _ = false
 
@@ -38,6 +40,13 @@ is_label Label = true
 is_label Jump = true
 is_label _ = false
 
+-- no word of the context's own
+abbrev pub is_aside : Role → Bool
+is_aside Text = true
+is_aside Inner = true
+is_aside InnerLabel = true
+is_aside _ = false
+
 -- both are locals, or both are labels
 abbrev pub is_same_sort : Role → Role → Bool
 is_same_sort r q = is_local r && is_local q || is_label r && is_label q
@@ -45,8 +54,32 @@ is_same_sort r q = is_local r && is_local q || is_label r && is_label q
 abbrev pub binds_role : Role → Bool
 binds_role Bound = true
 binds_role Late = true
+binds_role Short = true
 binds_role Label = true
 binds_role _ = false
+
+-- ---- inner steps
+
+-- what a word may be to the step that wrote its macro
+abbrev pub inner_role : Role → Role
+inner_role Used = Inner
+inner_role Unsure = Inner
+inner_role Jump = InnerLabel
+inner_role Text = Text
+inner_role _ = Other
+
+abbrev pub inner_word : Word → Nesting → List Word
+inner_word w n =
+    if n.inner.0 == (w.span.ctx).0 && is_aside (inner_role w.role)
+    then word w.text (record w.span { ctx = n.outer }) (inner_role w.role) ∷ [] else []
+
+-- that word again, to each step that it may know locals of
+abbrev pub inner_words : List Nesting → Word → List Word
+inner_words [] w = []
+inner_words (n ∷ ns) w = inner_word w n ++ inner_words ns w
+
+abbrev pub with_inner : List Nesting → Word → List Word
+with_inner ns w = w ∷ inner_words ns w
 
 -- ---- words
 
@@ -58,20 +91,20 @@ is_end _ = false
 abbrev pub end_words : Span → Role → List Word
 end_words span r = if is_end r then word [] span r ∷ [] else []
 
-abbrev pub leaf_words : Leaf → Role → List Word
-leaf_words (ident i) r = word i.sym i.span r ∷ []
-leaf_words (literal l) r = if is_text_role r then word l.text_and_suffix l.span r ∷ [] else []
-leaf_words (punct p) r = end_words p.span r
+abbrev pub leaf_words : List Nesting → Leaf → Role → List Word
+leaf_words ns (ident i) r = with_inner ns (word i.sym i.span r)
+leaf_words ns (literal l) r = if is_text_role r then with_inner ns (word l.text_and_suffix l.span r) else []
+leaf_words ns (punct p) r = end_words p.span r
 
-abbrev pub step_words : Step → List Word
-step_words (token l r) = leaf_words l r
-step_words (opening k span r) = end_words span r
-step_words (closing span) = []
+abbrev pub step_words : List Nesting → Step → List Word
+step_words ns (token l r) = leaf_words ns l r
+step_words ns (opening k span r) = end_words span r
+step_words ns (closing span) = []
 
 -- the words and strings of steps
-abbrev pub words : List Step → List Word
-words [] = []
-words (x ∷ xs) = step_words x ++ words xs
+abbrev pub words : List Nesting → List Step → List Word
+words ns [] = []
+words ns (x ∷ xs) = step_words ns x ++ words ns xs
 
 -- a word's context: which step it is of
 abbrev pub context : Word → ℕ
@@ -104,7 +137,7 @@ locals ws = locals_from [] ws
 
 -- a word of the other's text
 abbrev pub is_written : Word → List ℕ → Bool
-is_written v text = not (is_text_role v.role) && bytes_eq v.text text
+is_written v text = not (is_aside v.role) && bytes_eq v.text text
 
 -- that word has the other's name and another context
 abbrev pub is_other : Word → Word → Bool
@@ -128,9 +161,10 @@ abbrev pub is_bound : Progress → Bool
 is_bound progress.Bound = true
 is_bound _ = false
 
--- A word that may be a field too; or a use before the name is bound, which is of something else.
+-- A word that may be a field too, or is one; or a use before the name is bound, which is of something else.
 abbrev pub is_doubtful : Progress → Role → Bool
 is_doubtful p Unsure = true
+is_doubtful p Short = true
 is_doubtful p Used = not (is_bound p)
 is_doubtful p Jump = not (is_bound p)
 is_doubtful p _ = false
@@ -140,8 +174,17 @@ abbrev pub mentions : Word → Word → Bool
 mentions w v =
     is_text_role v.role && (is_local w.role && (context w == context v && is_mentioned w.text v.text))
 
+abbrev pub is_inner : Role → Role → Bool
+is_inner Inner r = is_local r
+is_inner InnerLabel r = is_label r
+is_inner _ r = false
+
+-- a word of an inner step may be the local
+abbrev pub may_be : Word → Word → Bool
+may_be w v = is_inner v.role w.role && (context w == context v && bytes_eq w.text v.text)
+
 abbrev pub is_doubt : Word → Progress → Word → Bool
-is_doubt w p v = is_same w v && is_doubtful p v.role || mentions w v
+is_doubt w p v = is_same w v && is_doubtful p v.role || (mentions w v || may_be w v)
 
 -- one `let` or `for` more in the value
 abbrev pub deeper : ℕ → Progress
@@ -158,11 +201,13 @@ abbrev pub later : ℕ → Bool → Role → Progress
 later n same Begin = deeper n
 later n same End = ended n
 later n same Bound = or_bound n same
+later n same Short = or_bound n same
 later n same Label = or_bound n same
 later n same _ = progress.Later n
 
 abbrev pub bound_by : Role → Progress
 bound_by Bound = progress.Bound
+bound_by Short = progress.Bound
 bound_by Label = progress.Bound
 bound_by Late = progress.Later 0
 bound_by _ = progress.Unbound

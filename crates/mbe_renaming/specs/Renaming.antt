@@ -6,6 +6,7 @@ use Rattle.mbe_tt.specs.Trees.Top.{Top}
 use Rattle.mbe_tt.specs.Trees.Tree.{Forest, none, leaf, group, one_leaf}
 use Rattle.mbe_tt.specs.declared.span.Span.{Span}
 use Rattle.mbe_renaming.specs.declared.naming.Doubt.{Doubt}
+use Rattle.mbe_renaming.specs.declared.naming.Nesting.{Nesting}
 use Rattle.mbe_renaming.specs.declared.sites.Role.{Role}
 use Rattle.mbe_renaming.specs.declared.sites.Site.{Site}
 use Rattle.mbe_renaming.specs.Naming.{Word, word, words, Naming, namings, new_name, undecided}
@@ -30,22 +31,22 @@ renamed given s (group d inside rest) =
     group d (renamed given (inside_group s d.kind inside) inside) (renamed given (after_group s d.kind rest) rest)
 
 -- the words and strings of trees
-abbrev pub words_in : Forest → List Word
-words_in f = words (steps start f)
+abbrev pub words_in : List Nesting → Forest → List Word
+words_in ns f = words ns (steps start f)
 
 -- what is renamed in trees that are among these names
-abbrev pub namings_in : List (List ℕ) → Forest → List Naming
-namings_in names f = namings (words_in f) names
+abbrev pub namings_in : List (List ℕ) → List Nesting → Forest → List Naming
+namings_in names ns f = namings (words_in ns f) names
 
-abbrev pub renamed_trees : List (List ℕ) → Forest → Forest
-renamed_trees names f = renamed (namings_in names f) start f
+abbrev pub renamed_trees : List (List ℕ) → List Nesting → Forest → Forest
+renamed_trees names ns f = renamed (namings_in names ns f) start f
 
-abbrev pub renamed_tree : List (List ℕ) → Top → Top
-renamed_tree names t = (t.0, renamed_trees names t.1)
+abbrev pub renamed_tree : List (List ℕ) → List Nesting → Top → Top
+renamed_tree names ns t = (t.0, renamed_trees names ns t.1)
 
 -- the places that keep locals from being renamed
-abbrev pub undecided_in : List (List ℕ) → Top → List Doubt
-undecided_in names t = undecided (words_in t.1) names
+abbrev pub undecided_in : List (List ℕ) → List Nesting → Top → List Doubt
+undecided_in names ns t = undecided (words_in ns t.1) names
 
 -- ---- steps, as they are written
 

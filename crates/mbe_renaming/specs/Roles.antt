@@ -16,7 +16,7 @@ use Rattle.mbe_renaming.specs.declared.sites.Part.{Part}
 use Rattle.mbe_renaming.specs.declared.sites.Part.TheVariants as part
 use Rattle.mbe_renaming.specs.declared.sites.Site.{Site}
 use Rattle.mbe_renaming.specs.declared.sites.Role.{Role}
-use Rattle.mbe_renaming.specs.declared.sites.Role.TheVariants.{Other, Used, Bound, Late, Unsure, Label, Jump, Begin, End}
+use Rattle.mbe_renaming.specs.declared.sites.Role.TheVariants.{Other, Used, Bound, Late, Short, Unsure, Label, Jump, Begin, End}
 use Rattle.mbe_renaming.specs.Kinds.{sort_of}
 use Rattle.mbe_renaming.specs.Ahead.{path_follows, bang_follows, colon_follows, equals_follows, comma_or_end_follows, binds_before, is_low, is_label, has_in}
 use Rattle.mbe_renaming.specs.Sites.{is_dots, begins_field, is_opaque, is_open, is_body}
@@ -35,8 +35,9 @@ abbrev pub field_role : Before → Forest → Role
 field_role b rest =
     if colon_follows rest then Other else (if begins_field b && comma_or_end_follows rest then Unsure else Used)
 
+-- a field's name before its `:`; or alone, when it binds a local of that name
 abbrev pub field_pattern_role : Forest → Role
-field_pattern_role rest = if colon_follows rest then Other else Unsure
+field_pattern_role rest = if colon_follows rest then Other else Short
 
 -- a macro may take `name: ..` and `name = ..` for its own names
 abbrev pub argument_role : Forest → Role

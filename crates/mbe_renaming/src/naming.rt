@@ -1,6 +1,7 @@
 // Which locals and labels get names of their own, and which.
 ghost use Rattle.std.specs.Prelude.{◌≡◌, ◌++◌, [], IfOk, OnOk, map, option_map};
-ghost use Rattle.mbe_tt.specs.Views.Shown.{leaf_of};
+ghost use Rattle.mbe_tt.specs.Trees.Leaf as tree;
+ghost use Rattle.mbe_tt.specs.Views.Shown.{leaf_of, literal_of};
 ghost use Rattle.mbe_renaming.specs.Shown.{step_of, word_of, naming_of};
 ghost use Rattle.mbe_renaming.specs.Naming as spec;
 ghost use Rattle.mbe_renaming.specs.declared.naming.Progress.TheVariants.{Unbound};
@@ -8,12 +9,12 @@ ghost use Rattle.mbe_renaming.specs.declared.naming.Progress.TheVariants.{Unboun
 use crate::mentions::is_mentioned;
 use crate::sites::Role;
 use crate::walking::Step;
-use mbe_tt::span::Span;
+use mbe_tt::span::{Span, SyntaxContext};
 use mbe_tt::symbol::Symbol;
-use mbe_tt::tt::Leaf;
+use mbe_tt::tt::{Leaf, Literal};
 use std::alloc::{AllocError, Allocator};
 
-/// A word of the trees, or the text of a string.
+/// A word of the trees, or what else tells of locals: the text of a string, the end of a value.
 #[derive(Clone, Copy, Drop)]
 pub(crate) struct Word<'t> {
     pub(crate) text: &'t str,
@@ -28,12 +29,19 @@ pub(crate) struct Naming<'t, A: Allocator> {
     pub(crate) name: Symbol<A>,
 }
 
-/// A local or a label that keeps its name, though another token has that: whether the word at `place` is that local can't be
-/// decided. `bound` is where it is bound first.
+/// A local or a label that keeps its name, though another token has that: whether what is at `place` is that local can't be
+/// decided, or it is a field's name too. `bound` is where it is bound first, and both have the context of the local.
 #[derive(Clone, Copy, Debug, Drop, PartialEq, Eq)]
 pub struct Doubt {
     pub bound: Span,
     pub place: Span,
+}
+
+/// The macro of the steps of `inner` was written by a step of `outer`, so that a word of `inner` may be a local of `outer`.
+#[derive(Clone, Copy, Debug, Drop, PartialEq, Eq)]
+pub struct Nesting {
+    pub inner: SyntaxContext,
+    pub outer: SyntaxContext,
 }
 
 // Whether a local is bound.
@@ -53,6 +61,12 @@ fn is_text_role(role: Role) -> bool
     matches!(role, Role::Text)
 }
 
+fn is_aside(role: Role) -> bool
+    ensures { result ≡ spec.is_aside role }
+{
+    matches!(role, Role::Text | Role::Inner | Role::InnerLabel)
+}
+
 fn is_end(role: Role) -> bool
     ensures { result ≡ spec.is_end role }
 {
@@ -64,7 +78,7 @@ fn is_local(role: Role) -> bool
 {
     matches!(
         role,
-        Role::Used | Role::Bound | Role::Late | Role::Unsure
+        Role::Used | Role::Bound | Role::Late | Role::Short | Role::Unsure
     )
 }
 
@@ -83,7 +97,10 @@ fn is_same_sort(one: Role, two: Role) -> bool
 fn binds_role(role: Role) -> bool
     ensures { result ≡ spec.binds_role role }
 {
-    matches!(role, Role::Bound | Role::Late | Role::Label)
+    matches!(
+        role,
+        Role::Bound | Role::Late | Role::Short | Role::Label
+    )
 }
 
 fn is_bound(progress: Progress) -> bool
@@ -96,7 +113,7 @@ fn is_doubtful(progress: Progress, role: Role) -> bool
     ensures { result ≡ spec.is_doubtful progress role }
 {
     match role {
-        Role::Unsure => true,
+        Role::Unsure | Role::Short => true,
         Role::Used | Role::Jump => !is_bound(progress),
         _ => false,
     }
@@ -130,7 +147,7 @@ fn later(lets: u32, is_same: bool, role: Role) -> Progress
     match role {
         Role::Begin => deeper(lets),
         Role::End => ended(lets),
-        Role::Bound | Role::Label => {
+        Role::Bound | Role::Short | Role::Label => {
             if is_same {
                 Progress::Bound
             } else {
@@ -148,10 +165,61 @@ fn unbound(is_same: bool, role: Role) -> Progress
         return Progress::Unbound;
     }
     match role {
-        Role::Bound | Role::Label => Progress::Bound,
+        Role::Bound | Role::Short | Role::Label => Progress::Bound,
         Role::Late => Progress::Later(0),
         _ => Progress::Unbound,
     }
+}
+
+// ---- inner steps
+
+fn inner_role(role: Role) -> Role
+    ensures { result ≡ spec.inner_role role }
+{
+    match role {
+        Role::Used | Role::Unsure => Role::Inner,
+        Role::Jump => Role::InnerLabel,
+        Role::Text => Role::Text,
+        _ => Role::Other,
+    }
+}
+
+fn push_inner<'t, A: Allocator>(
+    found: &mut Vec<Word<'t>, A>,
+    word: Word<'t>,
+    nesting: Nesting,
+) -> Result<(), AllocError>
+    ensures { OnOk result (map word_of found.new.items
+        ≡ map word_of found.old.items ++ spec.inner_word (word_of word.entry) nesting) }
+{
+    let role = inner_role(word.role);
+    if nesting.inner.0 == word.span.ctx.0 && is_aside(role) {
+        found.push(Word {
+            text: word.text,
+            span: Span {
+                ctx: nesting.outer,
+                ..word.span
+            },
+            role,
+        })?;
+    }
+    Ok(())
+}
+
+// A word, and that word again to each step that it may know locals of.
+fn push_word<'t, A: Allocator>(
+    found: &mut Vec<Word<'t>, A>,
+    nestings: &[Nesting],
+    word: Word<'t>,
+) -> Result<(), AllocError>
+    ensures { OnOk result (map word_of found.new.items
+        ≡ map word_of found.old.items ++ spec.with_inner nestings.now (word_of word.entry)) }
+{
+    found.push(word)?;
+    for nesting in nestings {
+        push_inner(found, word, *nesting)?;
+    }
+    Ok(())
 }
 
 // ---- words
@@ -174,45 +242,60 @@ fn push_end<A: Allocator>(
     Ok(())
 }
 
+// The text of a string, if it is one that may name locals.
+fn push_text<'t, A: Allocator>(
+    found: &mut Vec<Word<'t>, A>,
+    nestings: &[Nesting],
+    literal: &'t Literal<A>,
+    role: Role,
+) -> Result<(), AllocError>
+    ensures { OnOk result (map word_of found.new.items ≡ map word_of found.old.items
+        ++ spec.leaf_words nestings.now (tree.literal (literal_of literal.now)) role) }
+{
+    if !is_text_role(role) {
+        return Ok(());
+    }
+    let word = Word {
+        text: literal.text_and_suffix.as_str(),
+        span: literal.span,
+        role,
+    };
+    push_word(found, nestings, word)
+}
+
 fn push_leaf<'t, A: Allocator>(
     found: &mut Vec<Word<'t>, A>,
+    nestings: &[Nesting],
     leaf: &'t Leaf<A>,
     role: Role,
 ) -> Result<(), AllocError>
-    ensures { OnOk result (map word_of found.new.items
-        ≡ map word_of found.old.items ++ spec.leaf_words (leaf_of leaf.now) role) }
+    ensures { OnOk result (map word_of found.new.items ≡ map word_of found.old.items
+        ++ spec.leaf_words nestings.now (leaf_of leaf.now) role) }
 {
     match leaf {
         Leaf::Ident(ident) => {
-            found.push(Word {
+            let word = Word {
                 text: ident.sym.as_str(),
                 span: ident.span,
                 role,
-            })?;
+            };
+            push_word(found, nestings, word)
         }
-        Leaf::Literal(literal) => {
-            if is_text_role(role) {
-                found.push(Word {
-                    text: literal.text_and_suffix.as_str(),
-                    span: literal.span,
-                    role,
-                })?;
-            }
-        }
-        Leaf::Punct(punct) => push_end(found, punct.span, role)?,
+        Leaf::Literal(literal) => push_text(found, nestings, literal, role),
+        Leaf::Punct(punct) => push_end(found, punct.span, role),
     }
-    Ok(())
 }
 
 fn push_step<'t, A: Allocator>(
     found: &mut Vec<Word<'t>, A>,
+    nestings: &[Nesting],
     step: Step<'t, A>,
 ) -> Result<(), AllocError>
     ensures { OnOk result (map word_of found.new.items
-        ≡ map word_of found.old.items ++ spec.step_words (step_of step.entry)) }
+        ≡ map word_of found.old.items ++ spec.step_words nestings.now (step_of step.entry)) }
 {
     match step {
-        Step::Leaf(leaf, role) => push_leaf(found, leaf, role),
+        Step::Leaf(leaf, role) => push_leaf(found, nestings, leaf, role),
         Step::Open(_, span, role) => push_end(found, span, role),
         Step::Close(_) => Ok(()),
     }
@@ -221,13 +304,15 @@ fn push_step<'t, A: Allocator>(
 /// The words and strings of steps.
 pub(crate) fn words_of<'t, A: Allocator + Copy>(
     alloc: A,
+    nestings: &[Nesting],
     steps: &[Step<'t, A>],
 ) -> Result<Vec<Word<'t>, A>, AllocError>
-    ensures { IfOk result (λ v. map word_of v.items ≡ spec.words (map step_of steps.now)) }
+    ensures { IfOk result (λ v. map word_of v.items
+        ≡ spec.words nestings.now (map step_of steps.now)) }
 {
     let mut found = Vec::new(alloc);
     for step in steps {
-        push_step(&mut found, *step)?;
+        push_step(&mut found, nestings, *step)?;
     }
     Ok(found)
 }
@@ -290,7 +375,7 @@ pub(crate) fn locals<'t, A: Allocator + Copy>(
 fn is_written(word: Word<'_>, text: &str) -> bool
     ensures { result ≡ spec.is_written (word_of word.entry) text.now }
 {
-    !is_text_role(word.role) && word.text == text
+    !is_aside(word.role) && word.text == text
 }
 
 fn is_other(one: Word<'_>, word: Word<'_>) -> bool
@@ -338,10 +423,31 @@ fn mentions(local: Word<'_>, word: Word<'_>) -> bool
         && is_mentioned(local.text.as_bytes(), word.text.as_bytes())
 }
 
+fn is_inner(role: Role, local: Role) -> bool
+    ensures { result ≡ spec.is_inner role local }
+{
+    match role {
+        Role::Inner => is_local(local),
+        Role::InnerLabel => is_label(local),
+        _ => false,
+    }
+}
+
+// Whether a word of an inner step may be the local.
+fn may_be(local: Word<'_>, word: Word<'_>) -> bool
+    ensures { result ≡ spec.may_be (word_of local.entry) (word_of word.entry) }
+{
+    is_inner(word.role, local.role)
+        && local.span.ctx.0 == word.span.ctx.0
+        && local.text == word.text
+}
+
 fn is_doubt(local: Word<'_>, progress: Progress, word: Word<'_>) -> bool
     ensures { result ≡ spec.is_doubt (word_of local.entry) progress (word_of word.entry) }
 {
-    is_same(local, word) && is_doubtful(progress, word.role) || mentions(local, word)
+    is_same(local, word) && is_doubtful(progress, word.role)
+        || mentions(local, word)
+        || may_be(local, word)
 }
 
 fn after_word(local: Word<'_>, progress: Progress, word: Word<'_>) -> Progress

@@ -7,7 +7,7 @@ ghost use Rattle.mbe_renaming.specs.Shown.{step_of, naming_of};
 ghost use Rattle.mbe_renaming.specs.Renaming as spec;
 
 use crate::naming::{Naming, Word, locals, name_in, namings, undecided, words_of};
-pub use crate::naming::Doubt;
+pub use crate::naming::{Doubt, Nesting};
 use crate::sites::Role;
 use crate::walking::{Step, steps_of};
 use mbe_tt::span::Span;
@@ -103,19 +103,24 @@ fn write<A: Allocator>(
 
 /// The trees with the locals and labels renamed that a step binds, a token of another context than 0, where another token of the
 /// trees has the same name and another context, or one of `names` is that name. Each gets the first of `a_1`, `a_2` and so on that
-/// the trees and `names` don't have. What isn't surely bound isn't renamed; and a local isn't that may be named where that can't be
-/// decided: `undecided` lists these places. `AllocError` if out of memory.
+/// the trees and `names` don't have. `nestings` has each two contexts of which one's macro was written by a step of the other.
+///
+/// A local is the same wherever its name and its context are: where its block ends isn't looked at. What isn't surely bound isn't
+/// renamed, as a parameter of a function; and a local isn't that may be named where that can't be decided: `undecided` lists these
+/// places. `AllocError` if out of memory.
 pub fn rename<A: Allocator + Copy>(
     alloc: A,
     tree: &TopSubtree<A>,
     names: &[Symbol<A>],
+    nestings: &[Nesting],
 ) -> Result<Renamed<A>, AllocError>
-    ensures tree { IfOk result (λ r. r.tree ≡ spec.renamed_tree names.now tree.now) }
+    ensures tree { IfOk result (λ r. r.tree
+        ≡ spec.renamed_tree names.now nestings.now tree.now) }
     ensures undecided { IfOk result (λ r. r.undecided.items
-        ≡ spec.undecided_in names.now tree.now) }
+        ≡ spec.undecided_in names.now nestings.now tree.now) }
 {
     let steps = steps_of(alloc, tree.iter().remaining())?;
-    let words = words_of(alloc, steps.as_slice())?;
+    let words = words_of(alloc, nestings, steps.as_slice())?;
     let bound = locals(alloc, words.as_slice())?;
     let given = namings(alloc, words.as_slice(), names, bound.as_slice())?;
     let places = undecided(alloc, words.as_slice(), names, bound.as_slice())?;

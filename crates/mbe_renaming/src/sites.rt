@@ -125,6 +125,8 @@ pub enum Role {
     Bound,
     /// A local that is bound after the value whose pattern this is.
     Late,
+    /// A local that is bound here, and the name of its field too.
+    Short,
     /// It may be a local, and also the name of a field or of an argument.
     Unsure,
     /// A label before its loop or block.
@@ -133,6 +135,10 @@ pub enum Role {
     Jump,
     /// The text of a string, which may name locals in braces.
     Text,
+    /// A word of another context that may be a local of this one.
+    Inner,
+    /// The same of a label.
+    InnerLabel,
     /// A `let` or a `for`, before a pattern.
     Begin,
     /// The end of the value that belongs to a `let` or a `for`.
@@ -192,7 +198,7 @@ fn field_pattern_role<A: Allocator>(rest: TokenTreesView<'_, A>) -> Role
     if colon_follows(rest) {
         Role::Other
     } else {
-        Role::Unsure
+        Role::Short
     }
 }
 

@@ -1,6 +1,7 @@
 // What renaming makes of texts. A word's context is the number after its `__`, as in `a__0`, and 1 where it has none: context 0 is the
-// caller's text, and 1 and 2 are two steps. What is expected is what rustc's hygiene says that the names mean.
-use mbe_renaming::renaming::{Renamed, rename};
+// caller's text, 1 and 2 are two steps, and 3 is one whose macro step 1 wrote. What is expected is what rustc's hygiene says that the
+// names mean.
+use mbe_renaming::renaming::{Nesting, Renamed, rename};
 use mbe_rust_text::writing::Writer;
 use mbe_text::dialect::Dialect;
 use mbe_text::lexer::lex_as;
@@ -12,7 +13,7 @@ use std::process::Abort;
 use std::test::Fail;
 
 // A text, what it becomes, and how many places aren't decided. Around the text is the name `outside`.
-static ROWS: [(&str, &str, usize); 51] = [
+static ROWS: [(&str, &str, usize); 57] = [
     // A `let` of a template beside the caller's name.
     ("{ let a = 1; a__0 + a }", "{ let a_1 = 1; a + a_1 }", 0),
     // No other token has the name.
@@ -188,7 +189,12 @@ static ROWS: [(&str, &str, usize); 51] = [
     (
         "{ let S { a, .. } = s__0; a + a__0 }",
         "{ let S { a, .. } = s; a + a }",
-        0,
+        1,
+    ),
+    (
+        "match s__0 { S { a, b: c } => a + a__0 + c + c__0 }",
+        "match s { S { a, b: c_1 } => a + a + c_1 + c }",
+        1,
     ),
     (
         "{ let a = 1; println!(\"{a}\"); a__0 }",
@@ -259,6 +265,25 @@ static ROWS: [(&str, &str, usize); 51] = [
         "{ let a = 1; m!(a: 2); a }",
         1,
     ),
+    // A macro that a step wrote may name its locals and labels.
+    ("{ let a = 1; a__3 + a }", "{ let a = 1; a + a }", 1),
+    (
+        "'a: loop { break 'a__3; }",
+        "'a: loop { break 'a; }",
+        1,
+    ),
+    // It may also bind its own.
+    (
+        "{ let a = 1; { let b__3 = 2; a + b + b__3 } }",
+        "{ let a = 1; { let b_1 = 2; a + b + b_1 } }",
+        0,
+    ),
+    // Another step's are never its own.
+    (
+        "{ let a = 1; a__2 + a }",
+        "{ let a_1 = 1; a + a_1 }",
+        0,
+    ),
     // A place where nothing is bound.
     ("a + a__0", "a + a", 0),
 ];
@@ -285,6 +310,7 @@ fn unmarked(text: &str) -> (&str, u32) {
     match text.split_once("__") {
         Some((name, "0")) => (name, 0),
         Some((name, "2")) => (name, 2),
+        Some((name, "3")) => (name, 3),
         _ => (text, 1),
     }
 }
@@ -357,7 +383,11 @@ fn written(alloc: Global, tree: &TopSubtree) -> Result<String, AllocError> {
 fn renamed(alloc: Global, text: &str) -> Result<Renamed, Fail> {
     let tree = with_contexts(alloc, &lexed(alloc, text)?)?;
     let names = [Symbol::intern(alloc, "outside")?];
-    Ok(rename(alloc, &tree, &names)?)
+    let nestings = [Nesting {
+        inner: SyntaxContext(3),
+        outer: SyntaxContext(1),
+    }];
+    Ok(rename(alloc, &tree, &names, &nestings)?)
 }
 
 #[test]

@@ -5,5 +5,5 @@ use Rattle.mbe_renaming.proofs.naming.words_of.Given as goal
 
 abbrev pub invariant-loop-step : goal.invariant-loop-step
 invariant-loop-step g l =
-    map word_of l.found.items ++ spec.words (map step_of (drop l.step-index l.steps))
-    ≡ spec.words (map step_of l.steps)
+    map word_of l.found.items ++ spec.words l.nestings (map step_of (drop l.step-index l.steps))
+    ≡ spec.words l.nestings (map step_of l.steps)
