@@ -10,7 +10,8 @@ use Rattle.mbe_renaming.specs.Renaming.{renamed_leaf, renamed, namings_in}
 use Rattle.mbe_renaming.specs.Sites.{start, after_leaf, after_group, inside_group}
 use Rattle.mbe_renaming.specs.Steps.{Step, token, opening, closing, leaf_role, steps}
 
-leaf_kept : (given : List Naming) (l : Leaf) (r : Role) → leaf_without_word (renamed_leaf given l r) ≡ leaf_without_word l
+leaf_kept : (given : List Naming) (l : Leaf) (r : Role)
+    → leaf_without_word (renamed_leaf given l r) ≡ leaf_without_word l
 leaf_kept given (ident i) r = refl
 leaf_kept given (literal l) r = refl
 leaf_kept given (punct p) r = refl
@@ -29,7 +30,8 @@ shape_kept given (group d inside rest) s =
 pub keeps_shapes : KeepsShapes
 keeps_shapes names ns f = shape_kept (namings_in names ns f) f start
 
-leaf_named : (given : List Naming) (l : Leaf) (r : Role) → leaf_texts (renamed_leaf given l r) ≡ step_texts given (token l r)
+leaf_named : (given : List Naming) (l : Leaf) (r : Role)
+    → leaf_texts (renamed_leaf given l r) ≡ step_texts given (token l r)
 leaf_named given (ident i) r = refl
 leaf_named given (literal l) r = refl
 leaf_named given (punct p) r = refl

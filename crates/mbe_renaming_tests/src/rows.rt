@@ -13,7 +13,7 @@ use std::process::Abort;
 use std::test::Fail;
 
 // A text, what it becomes, and how many places aren't decided. Around the text is the name `outside`.
-static ROWS: [(&str, &str, usize); 57] = [
+static ROWS: [(&str, &str, usize); 56] = [
     // A `let` of a template beside the caller's name.
     ("{ let a = 1; a__0 + a }", "{ let a_1 = 1; a + a_1 }", 0),
     // No other token has the name.
