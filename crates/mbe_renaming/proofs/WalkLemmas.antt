@@ -1,6 +1,6 @@
 -- One tree more of a walk: the steps that are still to be found, and how many tokens that is.
 use Rattle.std.proofs.Common.{◌≡◌, ℕ, ◌+◌, ◌<◌, List, [], ◌∷◌, ◌++◌, map, reverse, Some, None, refl, ap, sym, ◌∙◌, append_assoc, append-nil, arith}
-use Rattle.std.proofs.lemmas.List.{reverse-append}
+use Rattle.std.proofs.lemmas.List.{map-append, reverse-append}
 use Rattle.mbe_tt.specs.Trees.Leaf.{Leaf}
 use Rattle.mbe_tt.specs.Trees.Tree.{Forest, none, leaf, group, Leaf_tree, Group_tree, first, rest_of, flat_len}
 use Rattle.mbe_tt.specs.declared.span.Span.{Span}
@@ -41,7 +41,8 @@ group_step (leaf m rest) inside d s h = absurd (cc)
 group_step (group e content rest) inside d s h =
     let same_delimiter : e ≡ d = cc in
     let same_content : content ≡ inside = cc in
-    ap (λ (x : Delimiter). opening x.kind x.opening (group_role s x.kind) ∷ (steps (inside_group s x.kind content) content
+    ap (λ (x : Delimiter). opening x.kind x.opening (group_role s x.kind)
+    ∷ (steps (inside_group s x.kind content) content
     ++ closing x.close ∷ steps (after_group s x.kind rest) rest)) same_delimiter
     ∙ ap (λ (x : Forest). opening d.kind d.opening (group_role s d.kind) ∷ (steps (inside_group s d.kind x) x
     ++ closing d.close ∷ steps (after_group s d.kind rest) rest)) same_content
@@ -65,11 +66,19 @@ around_nil = refl
 pub record Left (found : List Step) (s : Site) (f : Forest) (items : List Around) (all : List Step) : Type 0 where
   pub same : found ++ (steps s f ++ steps_around (reverse items)) ≡ all
 
-pub begins : (items : List Around) (s : Site) (f g : Forest) → items ≡ [] → f ≡ g → Left [] s f items (steps s g)
-begins items s f g i e = record {
-  same = ap (λ k. steps s f ++ steps_around (reverse k)) i ∙ ap (λ k. steps s f ++ k) around_nil
-      ∙ append-nil (steps s f) ∙ ap (steps s) e;
+pub begins : (found : List Step) (items : List Around) (s t : Site) (f g : Forest) → found ≡ [] → items ≡ [] → s ≡ t
+    → f ≡ g → Left found s f items (steps t g)
+begins found items s t f g n i w e = record {
+  same = ap (λ k. k ++ (steps s f ++ steps_around (reverse items))) n
+      ∙ ap (λ k. steps s f ++ steps_around (reverse k)) i ∙ ap (λ k. steps s f ++ k) around_nil
+      ∙ append-nil (steps s f) ∙ ap (λ (x : Site). steps x f) w ∙ ap (steps t) e;
 }
+
+-- one item pushed, as the definitions show it
+pub one_shown : {X : Type 0} (show : X → Step) (xs ys : List X) (x : X) (t : Step) → ys ≡ xs ++ (x ∷ []) → show x ≡ t
+    → map show ys ≡ map show xs ++ (t ∷ [])
+one_shown show xs ys x t e w =
+    ap (map show) e ∙ map-append show xs (x ∷ []) ∙ ap (λ k. map show xs ++ (k ∷ [])) w
 
 -- one step found, of those that were to be found
 one_more : (found more : List Step) (x : Step) (others : List Step) → more ≡ found ++ (x ∷ [])
