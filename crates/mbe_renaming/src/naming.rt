@@ -585,12 +585,7 @@ fn numbered<A: Allocator + Copy>(alloc: A, text: &str, number: u64) -> Result<Sy
 // The first of `a_1`, `a_2` and so on that isn't taken.
 #[tactic(
     auto,
-    using(
-        crate::proofs::FreshLemmas::begins,
-        crate::proofs::FreshLemmas::tried,
-        crate::proofs::FreshLemmas::found,
-        crate::proofs::FreshLemmas::all_tried
-    ),
+    using(crate::proofs::FreshLemmas::begins),
     unfolding(crate::specs::Naming::fresh)
 )]
 fn fresh<A: Allocator + Copy>(

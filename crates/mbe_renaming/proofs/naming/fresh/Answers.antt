@@ -1,4 +1,5 @@
 use Rattle.std.proofs.Common.{ap, sym, ◌∙◌, map}
+use Rattle.std.proofs.lemmas.Result.{IfOk-weaker}
 use Rattle.mbe_renaming.specs.Naming.{is_taken}
 use Rattle.mbe_renaming.specs.Shown.{word_of, naming_of}
 use Rattle.mbe_renaming.proofs.FreshLemmas.{tried, found, all_tried}
@@ -17,4 +18,7 @@ returns-else-is_taken g c =
     (ap taken (sym c.as_str.ensures) ∙ (sym c.is_taken.ensures ∙ c.if-is_taken.false)) c.numbers.invariant
 
 pub returns : goal.returns
-returns g c = ?
+returns g c =
+    let taken = is_taken (map word_of c.args.words.now) c.args.names.now (map naming_of c.args.given.now) in
+    let last = all_tried taken c.args.text.now _ c.numbers.number c.numbers-test.false c.numbers.invariant in
+    IfOk-weaker c.numbered-2.result _ _ (λ s e. e ∙ last) c.numbered-2.ensures
