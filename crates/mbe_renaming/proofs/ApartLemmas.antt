@@ -34,7 +34,7 @@ length-given_texts (n ∷ ns) = ap suc (length-given_texts ns)
 among_left : (xs ys : List (List ℕ)) (t : List ℕ) → is_text_among xs t ≡ true → is_text_among (xs ++ ys) t ≡ true
 among_left [] ys t e = cc
 among_left (x ∷ xs) ys t e = elim (or_cases (bytes_eq x t) (is_text_among xs t) e) [
-  inl h ↦ or_left (bytes_eq x t) (is_text_among (xs ++ ys) t) h
+  | inl h ↦ or_left (bytes_eq x t) (is_text_among (xs ++ ys) t) h
   | inr h ↦ or_right (bytes_eq x t) (is_text_among (xs ++ ys) t) (among_left xs ys t h)
 ]
 
@@ -47,8 +47,8 @@ word_among : (ws : List Word) (t : List ℕ) → is_word ws t ≡ true → is_te
 unfolding word_texts
 word_among [] t e = cc
 word_among (w ∷ ws) t e = elim (or_cases (is_written w t) (is_word ws t) e) [
-  inl h ↦ or_left (bytes_eq w.text t) (is_text_among (word_texts ws) t)
-  (and_right (not (is_aside w.role)) (bytes_eq w.text t) h)
+  | inl h ↦ or_left (bytes_eq w.text t) (is_text_among (word_texts ws) t)
+      (and_right (not (is_aside w.role)) (bytes_eq w.text t) h)
   | inr h ↦ or_right (bytes_eq w.text t) (is_text_among (word_texts ws) t) (word_among ws t h)
 ]
 
@@ -56,7 +56,7 @@ given_among : (ns : List Naming) (t : List ℕ) → is_given ns t ≡ true → i
 unfolding given_texts
 given_among [] t e = e
 given_among (n ∷ ns) t e = elim (or_cases (bytes_eq n.name t) (is_given ns t) e) [
-  inl h ↦ or_left (bytes_eq n.name t) (is_text_among (given_texts ns) t) h
+  | inl h ↦ or_left (bytes_eq n.name t) (is_text_among (given_texts ns) t) h
   | inr h ↦ or_right (bytes_eq n.name t) (is_text_among (given_texts ns) t) (given_among ns t h)
 ]
 
@@ -68,12 +68,12 @@ taken_among : (ws : List Word) (names : List (List ℕ)) (given : List Naming) (
 unfolding taken_texts
 taken_among ws names given t e =
     elim (or_cases (is_word ws t) (is_text_among names t || is_given given t) e) [
-      inl h ↦ among_left (word_texts ws) (names ++ given_texts given) t (word_among ws t h)
+      | inl h ↦ among_left (word_texts ws) (names ++ given_texts given) t (word_among ws t h)
       | inr h ↦ among_right (word_texts ws) (names ++ given_texts given) t
-      (elim (or_cases (is_text_among names t) (is_given given t) h) [
-        inl i ↦ among_left names (given_texts given) t i
-        | inr i ↦ among_right names (given_texts given) t (given_among given t i)
-      ])
+          (elim (or_cases (is_text_among names t) (is_given given t) h) [
+            | inl i ↦ among_left names (given_texts given) t i
+            | inr i ↦ among_right names (given_texts given) t (given_among given t i)
+          ])
     ]
 
 length-taken_texts : (ws : List Word) (names : List (List ℕ)) (given : List Naming)
@@ -96,12 +96,12 @@ length-without : (t : List ℕ) (xs : List (List ℕ)) → is_text_among xs t �
 unfolding without
 length-without t [] e = cc
 length-without t (x ∷ xs) e = elim (true_or_false (bytes_eq x t)) [
-  inl h ↦ let same = ap (λ b. length (if b then xs else x ∷ without t xs)) h in omega (arith, same)
+  | inl h ↦ let same = ap (λ b. length (if b then xs else x ∷ without t xs)) h in omega (arith, same)
   | inr h ↦
-  let same = ap (λ b. length (if b then xs else x ∷ without t xs)) h in
-  let later : is_text_among xs t ≡ true = sym (ap (λ b. b || is_text_among xs t) h) ∙ e in
-  let more = length-without t xs later in
-  omega (arith, same, more)
+      let same = ap (λ b. length (if b then xs else x ∷ without t xs)) h in
+      let later : is_text_among xs t ≡ true = sym (ap (λ b. b || is_text_among xs t) h) ∙ e in
+      let more = length-without t xs later in
+      omega (arith, same, more)
 ]
 
 among_without : (t u : List ℕ) (xs : List (List ℕ)) → bytes_eq t u ≡ false → is_text_among xs u ≡ true
@@ -109,16 +109,16 @@ among_without : (t u : List ℕ) (xs : List (List ℕ)) → bytes_eq t u ≡ fal
 unfolding without
 among_without t u [] n e = e
 among_without t u (x ∷ xs) n e = elim (true_or_false (bytes_eq x t)) [
-  inl h ↦
-  let other : bytes_eq x u ≡ false = ap (λ y. bytes_eq y u) (same_text x t h) ∙ n in
-  ap (λ b. is_text_among (if b then xs else x ∷ without t xs) u) h
-  ∙ (sym (ap (λ b. b || is_text_among xs u) other) ∙ e)
+  | inl h ↦
+      let other : bytes_eq x u ≡ false = ap (λ y. bytes_eq y u) (same_text x t h) ∙ n in
+      ap (λ b. is_text_among (if b then xs else x ∷ without t xs) u) h
+      ∙ (sym (ap (λ b. b || is_text_among xs u) other) ∙ e)
   | inr h ↦
-  ap (λ b. is_text_among (if b then xs else x ∷ without t xs) u) h
-  ∙ elim (or_cases (bytes_eq x u) (is_text_among xs u) e) [
-    inl i ↦ or_left (bytes_eq x u) (is_text_among (without t xs) u) i
-    | inr i ↦ or_right (bytes_eq x u) (is_text_among (without t xs) u) (among_without t u xs n i)
-  ]
+      ap (λ b. is_text_among (if b then xs else x ∷ without t xs) u) h
+      ∙ elim (or_cases (bytes_eq x u) (is_text_among xs u) e) [
+        | inl i ↦ or_left (bytes_eq x u) (is_text_among (without t xs) u) i
+        | inr i ↦ or_right (bytes_eq x u) (is_text_among (without t xs) u) (among_without t u xs n i)
+      ]
 ]
 
 -- other numbers make other names
@@ -156,20 +156,20 @@ pub first_is_free : (taken : List ℕ → Bool) (text : List ℕ) (k n : ℕ) (x
     → taken (first_free taken text k n) ≡ false
 first_is_free taken text zero n xs few small h =
     ap taken (last_step taken text n) ∙ elim (true_or_false (taken (numbered text n))) [
-      inl e ↦ absurd (both (is_text_among xs (numbered text n)) true
-      (h n (omega arith) (omega (arith, small)) e) (nothing_among xs (numbered text n) few))
+      | inl e ↦ absurd (both (is_text_among xs (numbered text n)) true
+          (h n (omega arith) (omega (arith, small)) e) (nothing_among xs (numbered text n) few))
       | inr e ↦ e
     ]
 first_is_free taken text (suc k) n xs few small h = elim (true_or_false (taken (numbered text n))) [
-  inr e ↦ ap taken (free_step taken text k n e) ∙ e
+  | inr e ↦ ap taken (free_step taken text k n e) ∙ e
   | inl e ↦
-  let here : is_text_among xs (numbered text n) ≡ true = h n (omega arith) (omega (arith, small)) e in
-  let fewer = length-without (numbered text n) xs here in
-  ap taken (taken_step taken text k n e)
-  ∙ first_is_free taken text k (suc n) (without (numbered text n) xs) (omega (arith, few, fewer)) (omega (arith, small))
-  (λ m least most t. among_without (numbered text n) (numbered text m) xs
-  (other_number text n m (omega (arith, small)) most (omega (arith, least)))
-  (h m (omega (arith, least)) most t))
+      let here : is_text_among xs (numbered text n) ≡ true = h n (omega arith) (omega (arith, small)) e in
+      let fewer = length-without (numbered text n) xs here in
+      ap taken (taken_step taken text k n e)
+      ∙ first_is_free taken text k (suc n) (without (numbered text n) xs) (omega (arith, few, fewer)) (omega (arith, small))
+      (λ m least most t. among_without (numbered text n) (numbered text m) xs
+      (other_number text n m (omega (arith, small)) most (omega (arith, least)))
+      (h m (omega (arith, least)) most t))
 ]
 
 fresh_is_free : (ws : List Word) (names : List (List ℕ)) (given : List Naming) (text : List ℕ)
@@ -202,9 +202,12 @@ fine_more : (ws : List Word) (names : List (List ℕ)) (given : List Naming) (w 
     → Fine ws names (given ++ (naming w name ∷ []))
 fine_more ws names [] w name h a b c = (a, b, refl, tt)
 fine_more ws names (n ∷ ns) w name h a b c =
-    let apart = neither_left (bytes_eq n.name name) (is_given ns name) c in
-    (h.0, h.1, not_given_more ns w name n.name h.2 (same_other_way n.name name apart),
-    fine_more ws names ns w name h.3 a b (neither_right (bytes_eq n.name name) (is_given ns name) c))
+    let apart = neither_left (bytes_eq n.name name) (is_given ns name) c in (
+      h.0,
+      h.1,
+      not_given_more ns w name n.name h.2 (same_other_way n.name name apart),
+      fine_more ws names ns w name h.3 a b (neither_right (bytes_eq n.name name) (is_given ns name) c),
+    )
 
 with_fine : (ws : List Word) (names : List (List ℕ)) (given : List Naming) (w : Word)
     → length ws + (length names + length given) < 2 ^ 63 → Fine ws names given
@@ -214,10 +217,10 @@ with_fine ws names given w small h =
     let free = fresh_is_free ws names given w.text small in
     let others = neither_right (is_word ws name) (is_text_among names name || is_given given name) free in
     elim (is_renamed ws names w) as (λ b. Fine ws names (if b then given ++ (naming w name ∷ []) else given)) [
-      true ↦ fine_more ws names given w name h
-      (neither_left (is_word ws name) (is_text_among names name || is_given given name) free)
-      (neither_left (is_text_among names name) (is_given given name) others)
-      (neither_right (is_text_among names name) (is_given given name) others)
+      | true ↦ fine_more ws names given w name h
+          (neither_left (is_word ws name) (is_text_among names name || is_given given name) free)
+          (neither_left (is_text_among names name) (is_given given name) others)
+          (neither_right (is_text_among names name) (is_given given name) others)
       | false ↦ h
     ]
 
@@ -228,7 +231,7 @@ with_length ws names given w =
     let more = length-append given (naming w name ∷ []) in
     elim (is_renamed ws names w)
     as (λ b. length (if b then given ++ (naming w name ∷ []) else given) ≤ length given + 1) [
-      true ↦ omega (arith, more)
+      | true ↦ omega (arith, more)
       | false ↦ omega arith
     ]
 
@@ -246,7 +249,7 @@ with_local_length found w =
     let more = length-append found (w ∷ []) in
     elim (is_binding w && not (is_among found w))
     as (λ b. length (if b then found ++ (w ∷ []) else found) ≤ length found + 1) [
-      true ↦ omega (arith, more)
+      | true ↦ omega (arith, more)
       | false ↦ omega arith
     ]
 
@@ -275,8 +278,8 @@ some_or_none (Some x) = inl (x, refl)
 given_name : (given : List Naming) (v : Word) (x : List ℕ) → name_in given v ≡ Some x → is_given given x ≡ true
 given_name [] v x e = cc
 given_name (n ∷ ns) v x e = elim (true_or_false (is_same n.local v)) [
-  inl h ↦ or_left (bytes_eq n.name x) (is_given ns x)
-  (text_same n.name x (same_some n.name x (sym (here_named n ns v h) ∙ e)))
+  | inl h ↦ or_left (bytes_eq n.name x) (is_given ns x)
+      (text_same n.name x (same_some n.name x (sym (here_named n ns v h) ∙ e)))
   | inr h ↦ or_right (bytes_eq n.name x) (is_given ns x) (given_name ns v x (sym (later_named n ns v h) ∙ e))
 ]
 
@@ -284,9 +287,9 @@ free_name : (ws : List Word) (names : List (List ℕ)) (given : List Naming) (v 
     → Fine ws names given → name_in given v ≡ Some x → (is_word ws x ≡ false) × (is_text_among names x ≡ false)
 free_name ws names [] v x h e = cc
 free_name ws names (n ∷ ns) v x h e = elim (true_or_false (is_same n.local v)) [
-  inl i ↦
-  let same = same_some n.name x (sym (here_named n ns v i) ∙ e) in
-  (sym (ap (is_word ws) same) ∙ h.0, sym (ap (is_text_among names) same) ∙ h.1)
+  | inl i ↦
+      let same = same_some n.name x (sym (here_named n ns v i) ∙ e) in
+      (sym (ap (is_word ws) same) ∙ h.0, sym (ap (is_text_among names) same) ∙ h.1)
   | inr i ↦ free_name ws names ns v x h.3 (sym (later_named n ns v i) ∙ e)
 ]
 
@@ -304,12 +307,12 @@ one_local : (ws : List Word) (names : List (List ℕ)) (given : List Naming) (v 
 one_local ws names [] v w x h ev ew = cc
 one_local ws names (n ∷ ns) v w x h ev ew =
     elim (true_or_false (is_same n.local v)) [
-      inl hv ↦ elim (true_or_false (is_same n.local w)) [
-        inl hw ↦ same_trans v n.local w (same_sym n.local v (same_from n.local v hv)) (same_from n.local w hw)
+      | inl hv ↦ elim (true_or_false (is_same n.local w)) [
+        | inl hw ↦ same_trans v n.local w (same_sym n.local v (same_from n.local v hv)) (same_from n.local w hw)
         | inr hw ↦ absurd (first_apart n ns v w x h.2 hv hw ev ew)
       ]
       | inr hv ↦ elim (true_or_false (is_same n.local w)) [
-        inl hw ↦ absurd (first_apart n ns w v x h.2 hw hv ew ev)
+        | inl hw ↦ absurd (first_apart n ns w v x h.2 hw hv ew ev)
         | inr hw ↦ one_local ws names ns v w x h.3 (sym (later_named n ns v hv) ∙ ev) (sym (later_named n ns w hw) ∙ ew)
       ]
     ]
@@ -320,7 +323,7 @@ stays_named : (given more : List Naming) (v : Word) (x : List ℕ) → name_in g
     → name_in (given ++ more) v ≡ Some x
 stays_named [] more v x e = cc
 stays_named (n ∷ ns) more v x e = elim (true_or_false (is_same n.local v)) [
-  inl h ↦ here_named n (ns ++ more) v h ∙ (sym (here_named n ns v h) ∙ e)
+  | inl h ↦ here_named n (ns ++ more) v h ∙ (sym (here_named n ns v h) ∙ e)
   | inr h ↦ later_named n (ns ++ more) v h ∙ stays_named ns more v x (sym (later_named n ns v h) ∙ e)
 ]
 
@@ -330,7 +333,7 @@ with_stays ws names given w v x e =
     let name = fresh ws names given w.text in
     elim (is_renamed ws names w)
     as (λ b. name_in (if b then given ++ (naming w name ∷ []) else given) v ≡ Some x) [
-      true ↦ stays_named given (naming w name ∷ []) v x e
+      | true ↦ stays_named given (naming w name ∷ []) v x e
       | false ↦ e
     ]
 
@@ -344,10 +347,10 @@ last_named : (given : List Naming) (w v : Word) (name : List ℕ) → is_same w 
     → (x : List ℕ) × (name_in (given ++ (naming w name ∷ [])) v ≡ Some x)
 last_named [] w v name h = (name, here_named (naming w name) [] v h)
 last_named (n ∷ ns) w v name h = elim (true_or_false (is_same n.local v)) [
-  inl i ↦ (n.name, here_named n (ns ++ (naming w name ∷ [])) v i)
+  | inl i ↦ (n.name, here_named n (ns ++ (naming w name ∷ [])) v i)
   | inr i ↦
-  let later = last_named ns w v name h in
-  (later.0, later_named n (ns ++ (naming w name ∷ [])) v i ∙ later.1)
+      let later = last_named ns w v name h in
+      (later.0, later_named n (ns ++ (naming w name ∷ [])) v i ∙ later.1)
 ]
 
 all_named : (ws : List Word) (names : List (List ℕ)) (more : List Word) (given : List Naming) (b v : Word)
@@ -355,15 +358,17 @@ all_named : (ws : List Word) (names : List (List ℕ)) (more : List Word) (given
     → (x : List ℕ) × (name_in (names_from ws names given more) v ≡ Some x)
 all_named ws names [] given b v h r s = absurd h
 all_named ws names (w ∷ more) given b v h r s = elim h [
-  inl e ↦
-  let name = fresh ws names given w.text in
-  let renamed : is_renamed ws names w ≡ true = sym (ap (is_renamed ws names) e) ∙ r in
-  let same : is_same w v ≡ true = sym (ap (λ y. is_same y v) e) ∙ s in
-  let grown : with_name ws names given w ≡ given ++ (naming w name ∷ []) =
-  ap (λ y. if y then given ++ (naming w name ∷ []) else given) renamed in
-  let last = last_named given w v name same in
-  (last.0, names_stay ws names more (with_name ws names given w) v last.0
-  (ap (λ g. name_in g v) grown ∙ last.1))
+  | inl e ↦
+      let name = fresh ws names given w.text in
+      let renamed : is_renamed ws names w ≡ true = sym (ap (is_renamed ws names) e) ∙ r in
+      let same : is_same w v ≡ true = sym (ap (λ y. is_same y v) e) ∙ s in
+      let grown : with_name ws names given w ≡ given ++ (naming w name ∷ []) =
+      ap (λ y. if y then given ++ (naming w name ∷ []) else given) renamed in
+      let last = last_named given w v name same in (
+        last.0,
+        names_stay ws names more (with_name ws names given w) v last.0
+            (ap (λ g. name_in g v) grown ∙ last.1),
+      )
   | inr later ↦ all_named ws names more (with_name ws names given w) b v later r s
 ]
 
@@ -372,23 +377,23 @@ all_named ws names (w ∷ more) given b v h r s = elim h [
 written_in : (ws : List Word) (w : Word) → IsIn w ws → is_aside w.role ≡ false → is_word ws w.text ≡ true
 written_in [] w h t = absurd h
 written_in (v ∷ vs) w h t = elim h [
-  inl e ↦
-  let here : is_written w w.text ≡ true = rw t (text_same w.text w.text refl) in
-  or_left (is_written v w.text) (is_word vs w.text) (sym (ap (λ y. is_written y w.text) e) ∙ here)
+  | inl e ↦
+      let here : is_written w w.text ≡ true = rw t (text_same w.text w.text refl) in
+      or_left (is_written v w.text) (is_word vs w.text) (sym (ap (λ y. is_written y w.text) e) ∙ here)
   | inr later ↦ or_right (is_written v w.text) (is_word vs w.text) (written_in vs w later t)
 ]
 
 other_in : (ws : List Word) (w b : Word) → IsIn w ws → has_other ws b ≡ false → is_other w b ≡ false
 other_in [] w b h n = absurd h
 other_in (v ∷ vs) w b h n = elim h [
-  inl e ↦ ap (λ y. is_other y b) e ∙ neither_left (is_other v b) (has_other vs b) n
+  | inl e ↦ ap (λ y. is_other y b) e ∙ neither_left (is_other v b) (has_other vs b) n
   | inr later ↦ other_in vs w b later (neither_right (is_other v b) (has_other vs b) n)
 ]
 
 among_in : (xs : List (List ℕ)) (t : List ℕ) → IsIn t xs → is_text_among xs t ≡ true
 among_in [] t h = absurd h
 among_in (x ∷ xs) t h = elim h [
-  inl e ↦ or_left (bytes_eq x t) (is_text_among xs t) (text_same x t (sym e))
+  | inl e ↦ or_left (bytes_eq x t) (is_text_among xs t) (text_same x t (sym e))
   | inr later ↦ or_right (bytes_eq x t) (is_text_among xs t) (among_in xs t later)
 ]
 
@@ -399,7 +404,7 @@ no_other w b n t e =
     let apart : not (context w == context b) ≡ false =
     sym (ap (λ y. y && not (context w == context b)) written) ∙ n in
     eqb-true (context w) (context b) (elim (true_or_false (context w == context b)) [
-      inl y ↦ y
+      | inl y ↦ y
       | inr y ↦ absurd (both (not (context w == context b)) true (ap not y) apart)
     ])
 
@@ -407,10 +412,10 @@ no_other w b n t e =
 not_shared : (names : List (List ℕ)) (ws : List Word) (b v : Word) → IsDecided names ws b → is_same b v ≡ true
     → name_in (namings ws names) v ≡ None → is_shared ws names b ≡ false
 not_shared names ws b v d s e = elim (true_or_false (is_shared ws names b)) [
-  inl shared ↦
-  let renamed : is_renamed ws names b ≡ true = rw (shared, d.decided shared) refl in
-  let named = all_named ws names (locals ws) [] b v d.bound renamed s in
-  absurd (let f : Some named.0 ≡ None = sym named.1 ∙ e in cc)
+  | inl shared ↦
+      let renamed : is_renamed ws names b ≡ true = rw (shared, d.decided shared) refl in
+      let named = all_named ws names (locals ws) [] b v d.bound renamed s in
+      absurd (let f : Some named.0 ≡ None = sym named.1 ∙ e in cc)
   | inr alone ↦ alone
 ]
 
@@ -443,27 +448,29 @@ one_name : (names : List (List ℕ)) (ws : List Word) (b v w : Word) → IsDecid
 one_name names ws b v w d fine iv iw s sort tv t_w e =
     let given = namings ws names in
     elim (some_or_none (name_in given v)) [
-      inl x ↦ elim (some_or_none (name_in given w)) [
-        inl y ↦
-        let same : x.0 ≡ y.0 = sym (named_is given v x.0 x.1) ∙ (e ∙ named_is given w y.0 y.1) in
-        one_local ws names given v w x.0 fine x.1 (y.1 ∙ ap Some (sym same))
+      | inl x ↦ elim (some_or_none (name_in given w)) [
+        | inl y ↦
+            let same : x.0 ≡ y.0 = sym (named_is given v x.0 x.1) ∙ (e ∙ named_is given w y.0 y.1) in
+            one_local ws names given v w x.0 fine x.1 (y.1 ∙ ap Some (sym same))
         | inr nw ↦ absurd (new_and_own ws names given v w x.0 fine x.1 iw t_w
-        (sym (named_is given v x.0 x.1) ∙ (e ∙ own_is given w nw)))
+            (sym (named_is given v x.0 x.1) ∙ (e ∙ own_is given w nw)))
       ]
       | inr nv ↦ elim (some_or_none (name_in given w)) [
-        inl y ↦ absurd (new_and_own ws names given w v y.0 fine y.1 iv tv
-        (sym (named_is given w y.0 y.1) ∙ (sym e ∙ own_is given v nv)))
+        | inl y ↦ absurd (new_and_own ws names given w v y.0 fine y.1 iv tv
+            (sym (named_is given w y.0 y.1) ∙ (sym e ∙ own_is given v nv)))
         | inr nw ↦ both_own names ws b v w d s sort iw t_w nv
-        (sym (own_is given v nv) ∙ (e ∙ own_is given w nw))
+            (sym (own_is given v nv) ∙ (e ∙ own_is given w nw))
       ]
     ]
 
 pub one_name_each : OneNameEach
 one_name_each names ns f b v w d small iv iw s sort =
     let ws = words_in ns f in
-    let fine = namings_fine ws names small in
-    (λ e. same_to v w (one_name names ws b v w d fine iv iw s sort (not_aside v.role w.role sort)
-    (not_aside_either v.role w.role sort) e), λ e. new_name_same (namings ws names) v w (same_from v w e))
+    let fine = namings_fine ws names small in (
+      λ e. same_to v w (one_name names ws b v w d fine iv iw s sort (not_aside v.role w.role sort)
+          (not_aside_either v.role w.role sort) e),
+      λ e. new_name_same (namings ws names) v w (same_from v w e),
+    )
 
 pub no_name_around : NoNameAround
 no_name_around names ns f b v d small s h =
@@ -472,12 +479,12 @@ no_name_around names ns f b v d small s h =
     let fine = namings_fine ws names small in
     let around = among_in names (new_name given v) h in
     elim (some_or_none (name_in given v)) [
-      inl x ↦ both (is_text_among names x.0) true
-      (sym (ap (is_text_among names) (named_is given v x.0 x.1)) ∙ around)
-      (free_name ws names given v x.0 fine x.1).1
+      | inl x ↦ both (is_text_among names x.0) true
+          (sym (ap (is_text_among names) (named_is given v x.0 x.1)) ∙ around)
+          (free_name ws names given v x.0 fine x.1).1
       | inr nv ↦
-      let bv = same_from b v s in
-      let alone = neither_right (has_other ws b) (is_text_among names b.text) (not_shared names ws b v d s nv) in
-      both (is_text_among names b.text) true
-      (sym (ap (is_text_among names) (own_is given v nv ∙ sym bv.text)) ∙ around) alone
+          let bv = same_from b v s in
+          let alone = neither_right (has_other ws b) (is_text_among names b.text) (not_shared names ws b v d s nv) in
+          both (is_text_among names b.text) true
+          (sym (ap (is_text_among names) (own_is given v nv ∙ sym bv.text)) ∙ around) alone
     ]

@@ -57,7 +57,7 @@ text_same a b e = (bytes_eq-Decides a b).1 e
 
 pub not_same : (a b : List ℕ) → (a ≡ b → ⊥) → bytes_eq a b ≡ false
 not_same a b n = elim (true_or_false (bytes_eq a b)) [
-  inl e ↦ absurd (n (same_text a b e))
+  | inl e ↦ absurd (n (same_text a b e))
   | inr e ↦ e
 ]
 

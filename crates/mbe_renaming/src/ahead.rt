@@ -213,10 +213,7 @@ fn punct_shows_arm<A: Allocator>(sign: Sign, rest: TokenTreesView<'_, A>) -> Opt
     }
 }
 
-fn shows_arm<A: Allocator>(
-    tree: &TtElement<'_, A>,
-    rest: TokenTreesView<'_, A>,
-) -> Option<bool>
+fn shows_arm<A: Allocator>(tree: &TtElement<'_, A>, rest: TokenTreesView<'_, A>) -> Option<bool>
     ensures { result ≡ spec.shows_arm (element_tree tree.now) (trees rest.entry) }
 {
     match tree {

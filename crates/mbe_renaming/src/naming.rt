@@ -97,10 +97,7 @@ fn is_same_sort(one: Role, two: Role) -> bool
 fn binds_role(role: Role) -> bool
     ensures { result ≡ spec.binds_role role }
 {
-    matches!(
-        role,
-        Role::Bound | Role::Late | Role::Short | Role::Label
-    )
+    matches!(role, Role::Bound | Role::Late | Role::Short | Role::Label)
 }
 
 fn is_bound(progress: Progress) -> bool
@@ -321,9 +318,7 @@ pub(crate) fn words_of<'t, A: Allocator + Copy>(
 fn is_same(one: Word<'_>, two: Word<'_>) -> bool
     ensures { result ≡ spec.is_same (word_of one.entry) (word_of two.entry) }
 {
-    is_same_sort(one.role, two.role)
-        && one.span.ctx.0 == two.span.ctx.0
-        && one.text == two.text
+    is_same_sort(one.role, two.role) && one.span.ctx.0 == two.span.ctx.0 && one.text == two.text
 }
 
 fn is_binding(word: Word<'_>) -> bool
@@ -583,11 +578,7 @@ fn numbered<A: Allocator + Copy>(alloc: A, text: &str, number: u64) -> Result<Sy
 }
 
 // The first of `a_1`, `a_2` and so on that isn't taken.
-#[tactic(
-    auto,
-    using(crate::proofs::FreshLemmas::begins),
-    unfolding(crate::specs::Naming::fresh)
-)]
+#[tactic(auto, using(crate::proofs::FreshLemmas::begins), unfolding(crate::specs::Naming::fresh))]
 fn fresh<A: Allocator + Copy>(
     alloc: A,
     words: &[Word<'_>],

@@ -552,12 +552,7 @@ fn begins_closure(before: Before) -> bool
 {
     matches!(
         before,
-        Before::Start
-            | Before::Word
-            | Before::Equals
-            | Before::Arrow
-            | Before::Mark
-            | Before::Sign
+        Before::Start | Before::Word | Before::Equals | Before::Arrow | Before::Mark | Before::Sign
     )
 }
 
@@ -732,9 +727,7 @@ fn whole_region<A: Allocator>(site: Site, sign: Sign, rest: TokenTreesView<'_, A
             Region::FieldPatterns,
             Region::FieldPattern,
         ),
-        Region::FieldPattern => {
-            value_region(sign, Region::FieldPatterns, Region::FieldPattern)
-        }
+        Region::FieldPattern => { value_region(sign, Region::FieldPatterns, Region::FieldPattern) }
         Region::Code => Region::Code,
         Region::Arguments => Region::Arguments,
         Region::Opaque => Region::Opaque,

@@ -267,11 +267,7 @@ static ROWS: [(&str, &str, usize); 56] = [
     ),
     // A macro that a step wrote may name its locals and labels.
     ("{ let a = 1; a__3 + a }", "{ let a = 1; a + a }", 1),
-    (
-        "'a: loop { break 'a__3; }",
-        "'a: loop { break 'a; }",
-        1,
-    ),
+    ("'a: loop { break 'a__3; }", "'a: loop { break 'a; }", 1),
     // It may also bind its own.
     (
         "{ let a = 1; { let b__3 = 2; a + b + b__3 } }",
@@ -279,11 +275,7 @@ static ROWS: [(&str, &str, usize); 56] = [
         0,
     ),
     // Another step's are never its own.
-    (
-        "{ let a = 1; a__2 + a }",
-        "{ let a_1 = 1; a + a_1 }",
-        0,
-    ),
+    ("{ let a = 1; a__2 + a }", "{ let a_1 = 1; a + a_1 }", 0),
     // A place where nothing is bound.
     ("a + a__0", "a + a", 0),
 ];
