@@ -6,9 +6,9 @@ use Rattle.std.proofs.lemmas.Bool.{eqb-true}
 use Rattle.std.proofs.lemmas.Fmt.{decimal_injective}
 use Rattle.std.proofs.lemmas.List.{append_cancel_left}
 use Rattle.mbe_renaming.specs.Laws.{IsIn, IsDecided, OneNameEach, NoNameAround}
-use Rattle.mbe_renaming.specs.Naming.{Word, context, is_aside, is_same_sort, is_same, is_binding, is_among, with_local, locals_from, locals, is_written, is_other, has_other, is_text_among, is_shared, is_doubted, Naming, naming, is_word, is_given, is_taken, numbered, first_free, fresh, is_renamed, with_name, names_from, namings, name_in, or_own, new_name}
-use Rattle.mbe_renaming.specs.Renaming.{words_in, namings_in}
-use Rattle.mbe_renaming.proofs.SameLemmas.{true_or_false, both, and_left, and_right, or_cases, or_left, or_right, neither_left, neither_right, neither, same_text, text_same, not_same, same_other_way, not_aside, not_aside_either, Same, same_from, same_to, same_congr, same_sym, same_trans, name_same, new_name_same, here_named, later_named}
+use Rattle.mbe_renaming.specs.Naming.{Word, context, is_aside, is_same_sort, is_same, is_binding, is_among, with_local, locals_from, locals, is_written, is_other, has_other, is_text_among, is_shared, Naming, naming, is_word, is_given, is_taken, numbered, first_free, fresh, is_renamed, with_name, names_from, namings, name_in, or_own, new_name}
+use Rattle.mbe_renaming.specs.Renaming.{words_in}
+use Rattle.mbe_renaming.proofs.SameLemmas.{true_or_false, both, and_right, or_cases, or_left, or_right, neither_left, neither_right, neither, same_text, text_same, not_same, same_other_way, not_aside, not_aside_either, Same, same_from, same_to, same_sym, same_trans, new_name_same, here_named, later_named}
 
 -- ---- a new name that isn't taken
 
@@ -166,7 +166,8 @@ first_is_free taken text (suc k) n xs few small h = elim (true_or_false (taken (
       let here : is_text_among xs (numbered text n) ≡ true = h n (omega arith) (omega (arith, small)) e in
       let fewer = length-without (numbered text n) xs here in
       ap taken (taken_step taken text k n e)
-      ∙ first_is_free taken text k (suc n) (without (numbered text n) xs) (omega (arith, few, fewer)) (omega (arith, small))
+      ∙ first_is_free taken text k (suc n) (without (numbered text n) xs) (omega (arith, few, fewer))
+      (omega (arith, small))
       (λ m least most t. among_without (numbered text n) (numbered text m) xs
       (other_number text n m (omega (arith, small)) most (omega (arith, least)))
       (h m (omega (arith, least)) most t))

@@ -1,5 +1,5 @@
 -- The first name that isn't taken: one number more.
-use Rattle.std.proofs.Common.{◌≡◌, ℕ, zero, suc, ◌+◌, ◌-◌, ◌<◌, ◌≤◌, ◌^◌, Bool, true, false, List, refl, ap, sym, ◌∙◌, arith}
+use Rattle.std.proofs.Common.{◌≡◌, ℕ, suc, ◌+◌, ◌-◌, ◌<◌, ◌≤◌, ◌^◌, Bool, true, false, List, refl, ap, sym, ◌∙◌, arith}
 use Rattle.mbe_renaming.specs.Naming.{numbered, first_free}
 
 taken_step : (taken : List ℕ → Bool) (text : List ℕ) (k n : ℕ) → taken (numbered text n) ≡ true

@@ -8,7 +8,7 @@ use Rattle.mbe_renaming.specs.Laws.{leaf_without_word, without_words, KeepsShape
 use Rattle.mbe_renaming.specs.Naming.{Naming}
 use Rattle.mbe_renaming.specs.Renaming.{renamed_leaf, renamed, namings_in}
 use Rattle.mbe_renaming.specs.Sites.{start, after_leaf, after_group, inside_group}
-use Rattle.mbe_renaming.specs.Steps.{Step, token, opening, closing, leaf_role, steps}
+use Rattle.mbe_renaming.specs.Steps.{Step, token, closing, leaf_role, steps}
 
 leaf_kept : (given : List Naming) (l : Leaf) (r : Role)
     → leaf_without_word (renamed_leaf given l r) ≡ leaf_without_word l

@@ -1,5 +1,5 @@
 -- One tree more of a walk: the steps that are still to be found, and how many tokens that is.
-use Rattle.std.proofs.Common.{◌≡◌, ℕ, ◌+◌, ◌<◌, List, [], ◌∷◌, ◌++◌, map, reverse, Some, None, refl, ap, sym, ◌∙◌, append_assoc, append-nil, arith}
+use Rattle.std.proofs.Common.{◌≡◌, ℕ, ◌+◌, List, [], ◌∷◌, ◌++◌, map, reverse, Some, None, refl, ap, sym, ◌∙◌, append_assoc, append-nil}
 use Rattle.std.proofs.lemmas.List.{map-append, reverse-append}
 use Rattle.mbe_tt.specs.Trees.Leaf.{Leaf}
 use Rattle.mbe_tt.specs.Trees.Tree.{Forest, none, leaf, group, Leaf_tree, Group_tree, first, rest_of, flat_len}
@@ -142,35 +142,3 @@ all_done found all s f items h i w =
     ∙ ap (λ k. found ++ k) (sym (ap (λ k. k ++ steps_around (reverse items)) (end_step f s h)
     ∙ ap (λ k. steps_around (reverse k)) i ∙ around_nil))
     ∙ w.same
-
--- ---- how much is left
-
-pub fewer_after_leaf : (f after : Forest) (l : Leaf) (items : List Around) → after ≡ rest_of f
-    → Some (Leaf_tree l) ≡ first f
-    → flat_len after + tokens_around (reverse items) < flat_len f + tokens_around (reverse items)
-fewer_after_leaf none after l items r h = absurd (cc)
-fewer_after_leaf (leaf m rest) after l items r h = let e = ap flat_len r in omega arith
-fewer_after_leaf (group d inside rest) after l items r h = absurd (cc)
-
-pub fewer_in_group : (f after inside : Forest) (d : Delimiter) (here : Site) (items deeper : List Around)
-    → after ≡ rest_of f → Some (Group_tree d inside) ≡ first f → deeper ≡ items ++ ((d.close, here, after) ∷ [])
-    → flat_len inside + tokens_around (reverse deeper) < flat_len f + tokens_around (reverse items)
-fewer_in_group none after inside d here items deeper r h i = absurd (cc)
-fewer_in_group (leaf m rest) after inside d here items deeper r h i = absurd (cc)
-fewer_in_group (group e content rest) after inside d here items deeper r h i =
-    let same_content : content ≡ inside = cc in
-    let k = ap flat_len same_content in
-    let x = ap flat_len r in
-    let y : tokens_around (reverse deeper) ≡ 1 + flat_len after + tokens_around (reverse items) =
-    ap (λ z. tokens_around (reverse z)) i
-    ∙ ap tokens_around (reverse-append items ((d.close, here, after) ∷ [])) in
-    omega arith
-
-pub fewer_after_group : (f rest : Forest) (here : Site) (items fewer : List Around) (close : Span)
-    → None ≡ first f → items ≡ fewer ++ ((close, here, rest) ∷ [])
-    → flat_len rest + tokens_around (reverse fewer) < flat_len f + tokens_around (reverse items)
-fewer_after_group f rest here items fewer close h i =
-    let y : tokens_around (reverse items) ≡ 1 + flat_len rest + tokens_around (reverse fewer) =
-    ap (λ z. tokens_around (reverse z)) i
-    ∙ ap tokens_around (reverse-append fewer ((close, here, rest) ∷ [])) in
-    omega arith

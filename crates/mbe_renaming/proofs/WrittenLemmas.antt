@@ -1,13 +1,11 @@
 -- The steps of trees, written one after another, are the trees with their new names.
-use Rattle.std.proofs.Common.{◌≡◌, ℕ, ◌+◌, ◌<◌, List, [], ◌∷◌, ◌++◌, length, true, refl, ap, sym, ◌∙◌, append_assoc, append-nil, arith}
-use Rattle.std.specs.Prelude.{nat_lt}
+use Rattle.std.proofs.Common.{◌≡◌, ℕ, ◌<◌, List, [], ◌∷◌, ◌++◌, length, refl, ap, sym, ◌∙◌, append_assoc, append-nil, arith}
 use Rattle.std.proofs.lemmas.Bool.{lt-ltb}
 use Rattle.mbe_tt.proofs.Buffers.Built.{length-put}
 use Rattle.mbe_tt.proofs.Buffers.Grown.{put-none}
-use Rattle.mbe_tt.specs.Buffers.Building.{Levels, put, closed}
+use Rattle.mbe_tt.specs.Buffers.Building.{Levels, put}
 use Rattle.mbe_tt.specs.Trees.Top.{Top}
 use Rattle.mbe_tt.specs.Trees.Tree.{Forest, Tree, Leaf_tree, Group_tree, none, leaf, group, tree, append, one_leaf}
-use Rattle.mbe_tt.specs.declared.span.Span.{Span}
 use Rattle.mbe_tt.specs.declared.tt.Delimiter.{Delimiter}
 use Rattle.mbe_renaming.specs.declared.sites.Site.{Site}
 use Rattle.mbe_renaming.specs.declared.naming.Doubt.{Doubt}
@@ -15,7 +13,7 @@ use Rattle.mbe_renaming.specs.declared.naming.Nesting.{Nesting}
 use Rattle.mbe_renaming.specs.Naming.{Word, Naming, words, locals, names_from, namings, undecided_of, undecided}
 use Rattle.mbe_renaming.specs.Renaming.{renamed_leaf, renamed, closed_inside, written, words_in, namings_in, renamed_tree, undecided_in}
 use Rattle.mbe_renaming.specs.Sites.{start, after_leaf, after_group, inside_group}
-use Rattle.mbe_renaming.specs.Steps.{Step, token, opening, closing, leaf_role, steps}
+use Rattle.mbe_renaming.specs.Steps.{Step, closing, leaf_role, steps}
 
 after_one : (f : Forest) (t : Tree) (h : Forest) → append (append f (tree t none)) h ≡ append f (tree t h)
 after_one none (Leaf_tree l) h = refl

@@ -14,14 +14,14 @@ use Rattle.mbe_renaming.specs.declared.kinds.Sort.TheVariants as sort
 
 abbrev pub rarer_sign : ℕ → Sign
 rarer_sign c =
-    if c == 39 then sign.Quote else (if c == 36 then sign.Dollar else (if c == 35 then sign.Hash else (if c == 33
-    then sign.Bang else (if c == 63 then sign.Question else (if c == 64 then sign.At else sign.Other)))))
+    if c == 39 then sign.Quote else (if c == 36 then sign.Dollar else (if c == 35 then sign.Hash else (
+    if c == 33 then sign.Bang else (if c == 63 then sign.Question else (if c == 64 then sign.At else sign.Other)))))
 
 abbrev pub sign_of : ℕ → Sign
 sign_of c =
-    if c == 46 then sign.Dot else (if c == 58 then sign.Colon else (if c == 61 then sign.Equals else (if c == 62
-    then sign.Angle else (if c == 44 then sign.Comma else (if c == 59 then sign.Semicolon else (if c == 124
-    then sign.Bar else rarer_sign c))))))
+    if c == 46 then sign.Dot else (if c == 58 then sign.Colon else (if c == 61 then sign.Equals else (
+    if c == 62 then sign.Angle else (if c == 44 then sign.Comma else (if c == 59 then sign.Semicolon else (
+    if c == 124 then sign.Bar else rarer_sign c))))))
 
 -- ---- words
 
@@ -62,15 +62,15 @@ is_one_of texts text = list_any (is_text text) (map codes texts)
 
 abbrev pub rarer_sort : List ℕ → Sort
 rarer_sort text =
-    if is_one_of headers text then sort.Header else (if is_one_of items text then sort.Item else (if is_one_of jumps text
-    then sort.Jump else (if is_one_of keywords text then sort.Keyword else (if is_one_of values text then sort.Value
-    else sort.Name))))
+    if is_one_of headers text then sort.Header else (if is_one_of items text then sort.Item else (
+    if is_one_of jumps text then sort.Jump else (if is_one_of keywords text then sort.Keyword else (
+    if is_one_of values text then sort.Value else sort.Name))))
 
 abbrev pub sort_of_text : List ℕ → Sort
 sort_of_text text =
-    if is_text text (codes "let") then sort.Let else (if is_text text (codes "for") then sort.For else (if
-    is_text text (codes "in") then sort.In else (if is_text text (codes "if") then sort.If else (if is_one_of heads text
-    then sort.Head else (if is_one_of loops text then sort.Loop else rarer_sort text)))))
+    if is_text text (codes "let") then sort.Let else (if is_text text (codes "for") then sort.For else (
+    if is_text text (codes "in") then sort.In else (if is_text text (codes "if") then sort.If else (
+    if is_one_of heads text then sort.Head else (if is_one_of loops text then sort.Loop else rarer_sort text)))))
 
 abbrev pub sort_by : IdentIsRaw → List ℕ → Sort
 sort_by raw.Yes text = sort.Name

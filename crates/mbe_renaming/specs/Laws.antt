@@ -1,10 +1,10 @@
 -- What renaming keeps, and what it keeps apart.
-use Rattle.std.specs.Prelude.{◌≡◌, ◌↔◌, ℕ, ◌+◌, ◌*◌, ◌^◌, ◌<◌, ◌⊎◌, Bool, true, false, List, [], ◌∷◌, ◌++◌, length}
+use Rattle.std.specs.Prelude.{◌≡◌, ◌↔◌, ℕ, ◌+◌, ◌*◌, ◌^◌, ◌<◌, ◌⊎◌, true, false, List, [], ◌∷◌, ◌++◌, length}
 use Rattle.mbe_tt.specs.Trees.Leaf.{Leaf, literal, punct, ident}
 use Rattle.mbe_tt.specs.Trees.Tree.{Forest, none, leaf, group}
 use Rattle.mbe_renaming.specs.declared.naming.Nesting.{Nesting}
 use Rattle.mbe_renaming.specs.declared.naming.Progress.TheVariants.{Unbound}
-use Rattle.mbe_renaming.specs.Naming.{Word, Naming, is_same, is_same_sort, is_shared, is_doubted, is_among, locals, new_name}
+use Rattle.mbe_renaming.specs.Naming.{Word, Naming, is_same, is_same_sort, is_shared, is_doubted, locals, new_name}
 use Rattle.mbe_renaming.specs.Renaming.{new_name_of, words_in, namings_in, renamed_trees}
 use Rattle.mbe_renaming.specs.Sites.{start}
 use Rattle.mbe_renaming.specs.Steps.{Step, token, opening, closing, steps}

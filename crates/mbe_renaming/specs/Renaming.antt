@@ -1,7 +1,7 @@
 -- Trees with their locals renamed.
-use Rattle.std.specs.Prelude.{ℕ, Bool, nat_lt, if◌then◌else◌, List, [], ◌∷◌, length}
+use Rattle.std.specs.Prelude.{ℕ, nat_lt, if◌then◌else◌, List, [], ◌∷◌, length}
 use Rattle.mbe_tt.specs.Buffers.Building.{Levels, put, closed}
-use Rattle.mbe_tt.specs.Trees.Leaf.{Leaf, Ident, literal, punct, ident}
+use Rattle.mbe_tt.specs.Trees.Leaf.{Leaf, literal, punct, ident}
 use Rattle.mbe_tt.specs.Trees.Top.{Top}
 use Rattle.mbe_tt.specs.Trees.Tree.{Forest, none, leaf, group, one_leaf}
 use Rattle.mbe_tt.specs.declared.span.Span.{Span}

@@ -1,5 +1,5 @@
--- What is known of a place among tokens by those that were passed: the last one, what the group holds, and which part of
--- a statement or of a closure goes on.
+-- What is known of a place among tokens by those that were passed: the last one, what the group holds, and which part
+-- of a statement or of a closure goes on.
 use Rattle.std.specs.Prelude.{Bool, true, false, not, ◌&&◌, ◌||◌, if◌then◌else◌, Option}
 use Rattle.mbe_tt.specs.Trees.Leaf.{Leaf, Ident, literal, punct, ident}
 use Rattle.mbe_tt.specs.Trees.Tree.{Forest}

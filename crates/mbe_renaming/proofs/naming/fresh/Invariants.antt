@@ -1,4 +1,4 @@
-use Rattle.std.proofs.Common.{◌≡◌, ◌-◌, ◌≤◌, map}
+use Rattle.std.proofs.Common.{◌-◌, map}
 use Rattle.mbe_renaming.specs.Shown.{word_of, naming_of}
 use Rattle.mbe_renaming.specs.Naming as spec
 use Rattle.mbe_renaming.proofs.FreshLemmas.{Trying}

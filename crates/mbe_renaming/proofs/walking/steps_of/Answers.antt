@@ -3,7 +3,7 @@ use Rattle.mbe_tt.specs.Views.Shown.{leaf_of}
 use Rattle.mbe_renaming.specs.declared.walking.Step.TheVariants as code
 use Rattle.mbe_renaming.specs.Shown.{step_of}
 use Rattle.mbe_renaming.specs.Sites.{after_leaf, after_group, inside_group}
-use Rattle.mbe_renaming.specs.Steps.{token, opening, closing, leaf_role}
+use Rattle.mbe_renaming.specs.Steps.{token, opening, leaf_role}
 use Rattle.mbe_renaming.proofs.WalkLemmas.{begins, one_shown, leaf_on, group_on, pop_on, all_done}
 use Rattle.mbe_renaming.proofs.walking.steps_of.Goals as goal
 
