@@ -1,0 +1,6 @@
+pub mod ApartLemmas
+pub mod FreshLemmas
+pub mod SameLemmas
+pub mod ShapeLemmas
+pub mod WalkLemmas
+pub mod WrittenLemmas

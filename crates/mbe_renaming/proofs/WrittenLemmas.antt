@@ -1,0 +1,102 @@
+-- The steps of trees, written one after another, are the trees with their new names.
+use Rattle.std.proofs.Common.{◌≡◌, ℕ, ◌<◌, List, [], ◌∷◌, ◌++◌, length, refl, ap, sym, ◌∙◌, append_assoc, append-nil, arith}
+use Rattle.std.proofs.lemmas.Bool.{lt-ltb}
+use Rattle.mbe_tt.proofs.Buffers.Built.{length-put}
+use Rattle.mbe_tt.proofs.Buffers.Grown.{put-none}
+use Rattle.mbe_tt.specs.Buffers.Building.{Levels, put}
+use Rattle.mbe_tt.specs.Trees.Top.{Top}
+use Rattle.mbe_tt.specs.Trees.Tree.{Forest, Tree, Leaf_tree, Group_tree, none, leaf, group, tree, append, one_leaf}
+use Rattle.mbe_tt.specs.declared.tt.Delimiter.{Delimiter}
+use Rattle.mbe_renaming.specs.declared.sites.Site.{Site}
+use Rattle.mbe_renaming.specs.declared.naming.Doubt.{Doubt}
+use Rattle.mbe_renaming.specs.declared.naming.Nesting.{Nesting}
+use Rattle.mbe_renaming.specs.Naming.{Word, Naming, words, locals, names_from, namings, undecided_of, undecided}
+use Rattle.mbe_renaming.specs.Renaming.{renamed_leaf, renamed, closed_inside, written, words_in, namings_in, renamed_tree, undecided_in}
+use Rattle.mbe_renaming.specs.Sites.{start, after_leaf, after_group, inside_group}
+use Rattle.mbe_renaming.specs.Steps.{Step, closing, leaf_role, steps}
+
+after_one : (f : Forest) (t : Tree) (h : Forest) → append (append f (tree t none)) h ≡ append f (tree t h)
+after_one none (Leaf_tree l) h = refl
+after_one none (Group_tree d inside) h = refl
+after_one (leaf k rest) t h = ap (leaf k) (after_one rest t h)
+after_one (group d inside rest) t h = ap (group d inside) (after_one rest t h)
+
+put_one : (t : Tree) (h : Forest) (b : Levels) → put h (put (tree t none) b) ≡ put (tree t h) b
+put_one t h [] = refl
+put_one t h (g ∷ outer) = ap (λ (k : Forest). let x : Delimiter × Forest = (g.0, k) in x ∷ outer) (after_one g.1 t h)
+
+-- a group that is opened among others is closed
+closes : (d : Delimiter) (inside : Forest) (b : Levels) → 0 < length b
+    → closed_inside d.close ((record { opening = d.opening; close = d.opening; kind = d.kind }, inside) ∷ b)
+    ≡ put (group d inside none) b
+closes d inside b h =
+    let more : 1 < length ((record { opening = d.opening; close = d.opening; kind = d.kind }, inside) ∷ b) =
+    omega (arith, h) in
+    rw (lt-ltb 1 (length ((record { opening = d.opening; close = d.opening; kind = d.kind }, inside) ∷ b)) more) refl
+
+put_some : (f : Forest) (b : Levels) → 0 < length b → 0 < length (put f b)
+put_some f b h = let l = length-put b f in omega (arith, h, l)
+
+pub steps_written : (given : List Naming) (f : Forest) (s : Site) (b : Levels) (more : List Step) → 0 < length b
+    → written given (steps s f ++ more) b ≡ written given more (put (renamed given s f) b)
+unfolding steps renamed
+steps_written given none s b more h = ap (written given more) (put-none b)
+steps_written given (leaf l rest) s b more h =
+    let l2 = renamed_leaf given l (leaf_role s l rest) in
+    let s2 = after_leaf s l rest in
+    steps_written given rest s2 (put (one_leaf l2) b) more (put_some (one_leaf l2) b h)
+    ∙ ap (written given more) (put_one (Leaf_tree l2) (renamed given s2 rest) b)
+steps_written given (group d inside rest) s b more h =
+    let si = inside_group s d.kind inside in
+    let sa = after_group s d.kind rest in
+    let x : Delimiter × Forest = (record { opening = d.opening; close = d.opening; kind = d.kind }, none) in
+    let content = renamed given si inside in
+    let others = steps sa rest in
+    let deep : 0 < length (x ∷ b) = omega (arith, h) in
+    ap (λ k. written given k (x ∷ b)) (append_assoc (steps si inside) (closing d.close ∷ others) more)
+    ∙ steps_written given inside si (x ∷ b) (closing d.close ∷ (others ++ more)) deep
+    ∙ ap (written given (others ++ more)) (closes d content b h)
+    ∙ steps_written given rest sa (put (group d content none) b) more (put_some (group d content none) b h)
+    ∙ ap (written given more) (put_one (Group_tree d content) (renamed given sa rest) b)
+
+-- all of them, in a builder that has the whole open alone
+pub all_written : (given : List Naming) (f : Forest) (s : Site) (d : Delimiter)
+    → written given (steps s f) ((d, none) ∷ []) ≡ (d, renamed given s f) ∷ []
+all_written given f s d =
+    let b : Levels = (d, none) ∷ [] in
+    let some : 0 < length b = omega arith in
+    ap (λ k. written given k b) (sym (append-nil (steps s f))) ∙ steps_written given f s b [] some
+
+-- ---- one call after another
+
+words_found : (ns : List Nesting) (f : Forest) (xs : List Step) (ws : List Word) → xs ≡ steps start f → ws ≡ words ns xs
+    → ws ≡ words_in ns f
+words_found ns f xs ws x w = w ∙ ap (words ns) x
+
+-- what is renamed
+pub all_given : (names : List (List ℕ)) (ns : List Nesting) (f : Forest) (xs : List Step) (ws bound : List Word)
+    (given : List Naming) → xs ≡ steps start f → ws ≡ words ns xs → bound ≡ locals ws
+    → given ≡ names_from ws names [] bound → given ≡ namings_in names ns f
+all_given names ns f xs ws bound given x w b g =
+    g ∙ ap (names_from ws names []) b ∙ ap (λ k. namings k names) (words_found ns f xs ws x w)
+
+-- what isn't decided
+pub all_undecided : (names : List (List ℕ)) (ns : List Nesting) (t : Top) (xs : List Step) (ws bound : List Word)
+    (places : List Doubt) → xs ≡ steps start t.1 → ws ≡ words ns xs → bound ≡ locals ws
+    → places ≡ undecided_of ws names bound → places ≡ undecided_in names ns t
+all_undecided names ns t xs ws bound places x w b p =
+    p ∙ ap (undecided_of ws names) b ∙ ap (λ k. undecided k names) (words_found ns t.1 xs ws x w)
+
+-- what a builder holds that had the whole open alone
+pub whole_written : (given : List Naming) (f : Forest) (xs : List Step) (d : Delimiter) (b after : Levels)
+    → xs ≡ steps start f → b ≡ (d, none) ∷ [] → after ≡ written given xs b → after ≡ (d, renamed given start f) ∷ []
+whole_written given f xs d b after x e w =
+    w ∙ ap (λ k. written given k b) x ∙ ap (written given (steps start f)) e ∙ all_written given f start d
+
+-- the only tree that is built
+pub built : (names : List (List ℕ)) (ns : List Nesting) (t r : Top) (given : List Naming) (after : Levels)
+    → given ≡ namings_in names ns t.1 → after ≡ (t.0, renamed given start t.1) ∷ [] → after ≡ r ∷ []
+    → r ≡ renamed_tree names ns t
+built names ns t r given after g w b =
+    let same : r ≡ (t.0, renamed given start t.1) = cc in
+    same ∙ ap (λ (k : List Naming). let x : Top = (t.0, renamed k start t.1) in x) g

@@ -1,0 +1,10 @@
+pub mod Kinds
+pub mod Ahead
+pub mod Sites
+pub mod Roles
+pub mod Steps
+pub mod Mentions
+pub mod Naming
+pub mod Renaming
+pub mod Laws
+pub mod Shown

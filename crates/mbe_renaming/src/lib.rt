@@ -1,0 +1,11 @@
+// Hygiene as renaming: the locals and labels that a step of an expansion binds get names of their own where other tokens have theirs.
+#![tactic(auto)]
+
+mod ahead;
+mod kinds;
+pub mod laws;
+mod mentions;
+mod naming;
+pub mod renaming;
+mod sites;
+mod walking;

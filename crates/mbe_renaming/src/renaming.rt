@@ -1,0 +1,133 @@
+// The trees of an expansion with its locals renamed, where hygiene keeps them apart from others of their names.
+ghost use Rattle.std.specs.Prelude.{◌≡◌, ◌<◌, IfOk, OnOk, length, map};
+ghost use Rattle.mbe_tt.specs.Buffers.Building.{put};
+ghost use Rattle.mbe_tt.specs.Views.Shown.{leaf_of};
+ghost use Rattle.mbe_tt.specs.Views.View.{trees};
+ghost use Rattle.mbe_renaming.specs.Shown.{step_of, naming_of};
+ghost use Rattle.mbe_renaming.specs.Renaming as spec;
+
+use crate::naming::{Naming, Word, locals, name_in, namings, undecided, words_of};
+pub use crate::naming::{Doubt, Nesting};
+use crate::sites::Role;
+use crate::walking::{Step, steps_of};
+use mbe_tt::span::Span;
+use mbe_tt::symbol::Symbol;
+use mbe_tt::tt::{Ident, Leaf, TokenTreesView, TopSubtree, TopSubtreeBuilder};
+use std::alloc::{AllocError, Allocator, Global};
+
+/// What renaming makes of trees.
+#[derive(Drop)]
+pub struct Renamed<A: Allocator = Global> {
+    pub tree: TopSubtree<A>,
+    /// The places that kept locals from being renamed.
+    pub undecided: Vec<Doubt, A>,
+}
+
+fn new_name<A: Allocator>(
+    given: &[Naming<'_, A>],
+    ident: &Ident<A>,
+    role: Role,
+) -> Result<Symbol<A>, AllocError>
+    ensures { IfOk result (λ s. s ≡ spec.new_name_of (map naming_of given.now) ident.now.sym
+        ident.now.span role) }
+{
+    let word = Word {
+        text: ident.sym.as_str(),
+        span: ident.span,
+        role,
+    };
+    match name_in(given, word) {
+        Some(name) => name.clone(),
+        None => ident.sym.clone(),
+    }
+}
+
+fn renamed_leaf<A: Allocator>(
+    given: &[Naming<'_, A>],
+    leaf: &Leaf<A>,
+    role: Role,
+) -> Result<Leaf<A>, AllocError>
+    ensures { IfOk result (λ l. leaf_of l
+        ≡ spec.renamed_leaf (map naming_of given.now) (leaf_of leaf.now) role) }
+{
+    match leaf {
+        Leaf::Ident(ident) => Ok(Leaf::Ident(Ident {
+            sym: new_name(given, ident, role)?,
+            is_raw: ident.is_raw,
+            span: ident.span,
+        })),
+        Leaf::Literal(_) | Leaf::Punct(_) => leaf.clone(),
+    }
+}
+
+// Closes the innermost group, if it isn't the outermost one.
+fn close<A: Allocator>(builder: &mut TopSubtreeBuilder<A>, span: Span)
+    ensures { builder.new ≡ spec.closed_inside span builder.old }
+{
+    if builder.open_kind().is_some() {
+        builder.close(span);
+    }
+}
+
+fn write_step<A: Allocator>(
+    builder: &mut TopSubtreeBuilder<A>,
+    given: &[Naming<'_, A>],
+    step: Step<'_, A>,
+) -> Result<(), AllocError>
+    ensures { OnOk result (builder.new
+        ≡ spec.step_written (map naming_of given.now) (step_of step.entry) builder.old) }
+{
+    match step {
+        Step::Leaf(leaf, role) => builder.push(renamed_leaf(given, leaf, role)?),
+        Step::Open(kind, span, _) => builder.open(kind, span),
+        Step::Close(span) => {
+            close(builder, span);
+            Ok(())
+        }
+    }
+}
+
+fn write<A: Allocator>(
+    builder: &mut TopSubtreeBuilder<A>,
+    given: &[Naming<'_, A>],
+    steps: &[Step<'_, A>],
+) -> Result<(), AllocError>
+    ensures { OnOk result (builder.new
+        ≡ spec.written (map naming_of given.now) (map step_of steps.now) builder.old) }
+{
+    for step in steps {
+        write_step(builder, given, *step)?;
+    }
+    Ok(())
+}
+
+/// The trees with the locals and labels renamed that a step binds, a token of another context than 0, where another token of the
+/// trees has the same name and another context, or one of `names` is that name. Each gets the first of `a_1`, `a_2` and so on that
+/// the trees and `names` don't have. `nestings` has each two contexts of which one's macro was written by a step of the other.
+///
+/// A local is the same wherever its name and its context are: where its block ends isn't looked at. What isn't surely bound isn't
+/// renamed, as a parameter of a function; and a local isn't that may be named where that can't be decided: `undecided` lists these
+/// places. `AllocError` if out of memory.
+pub fn rename<A: Allocator + Copy>(
+    alloc: A,
+    tree: &TopSubtree<A>,
+    names: &[Symbol<A>],
+    nestings: &[Nesting],
+) -> Result<Renamed<A>, AllocError>
+    ensures tree { IfOk result (λ r. r.tree
+        ≡ spec.renamed_tree names.now nestings.now tree.now) }
+    ensures undecided { IfOk result (λ r. r.undecided.items
+        ≡ spec.undecided_in names.now nestings.now tree.now) }
+{
+    let steps = steps_of(alloc, tree.iter().remaining())?;
+    let words = words_of(alloc, nestings, steps.as_slice())?;
+    let bound = locals(alloc, words.as_slice())?;
+    let given = namings(alloc, words.as_slice(), names, bound.as_slice())?;
+    let places = undecided(alloc, words.as_slice(), names, bound.as_slice())?;
+    let mut builder = TopSubtreeBuilder::new(alloc, tree.top_subtree().delimiter)?;
+    write(&mut builder, given.as_slice(), steps.as_slice())?;
+    Ok(Renamed {
+        tree: builder.build(),
+        undecided: places,
+    })
+}
