@@ -1,14 +1,18 @@
 // Each form of the sample grammar, what isn't one, and the operators, by the rules of `specs/SampleGrammar`.
-use crate::fragments::trees;
-use mbe_grammar::SampleGrammar;
-use mbe_tt::grammar::{FragmentGrammar, Front, PrefixEntryPoint};
-use std::alloc::Global;
-use std::process::Abort;
-use std::test::Fail;
+use crate::fragments::{front, none, trees};
+use mbe_tt::grammar::{Front, PrefixEntryPoint};
+use std::alloc::{AllocError, Global};
+
+// Texts as one text: of a table the proof costs much more. Each ends in 2.
+macro_rules! texts {
+    ($($text:literal),* $(,)?) => {
+        concat!($($text, "\u{2}"),*)
+    };
+}
 
 // In these texts what is taken ends before `§`, which is no part of them. A text without it is at fault.
 
-static PATHS: [&str; 28] = [
+const PATHS: &str = texts![
     "a§ b",
     "a::b::c§",
     "::a§",
@@ -39,12 +43,12 @@ static PATHS: [&str; 28] = [
     "r#fn::a§",
 ];
 
-static NO_PATHS: [&str; 22] = [
+const NO_PATHS: &str = texts![
     "", "::", "a::", "a::1", "a:: ::b", "::1", "a::(b)", "a::_", "_", "_::a", "<a>", "1", "'a",
     "(a)", "{a}", "+", "a<", "a<b", "a::<b", "a<b<c>", "a<b ->", "a<b => c",
 ];
 
-static TYPES: [&str; 52] = [
+const TYPES: &str = texts![
     "_§ a",
     "!§ a",
     "()§",
@@ -99,7 +103,7 @@ static TYPES: [&str; 52] = [
     "Self::A§",
 ];
 
-static NO_TYPES: [&str; 28] = [
+const NO_TYPES: &str = texts![
     "",
     "{a}",
     "&",
@@ -130,9 +134,9 @@ static NO_TYPES: [&str; 28] = [
     "-> a",
 ];
 
-static BLOCKS: [&str; 5] = ["{}§", "{a}§ b", "{a}§ {b}", "{ {} }§", "{ ; }§ ;"];
+const BLOCKS: &str = texts!["{}§", "{a}§ b", "{a}§ {b}", "{ {} }§", "{ ; }§ ;"];
 
-static NO_BLOCKS: [&str; 10] = [
+const NO_BLOCKS: &str = texts![
     "",
     "()",
     "[a]",
@@ -145,7 +149,7 @@ static NO_BLOCKS: [&str; 10] = [
     ";",
 ];
 
-static ATTRIBUTES: [&str; 24] = [
+const ATTRIBUTES: &str = texts![
     "a§",
     "a§ b",
     "a::b§",
@@ -172,7 +176,7 @@ static ATTRIBUTES: [&str; 24] = [
     "a§; b",
 ];
 
-static NO_ATTRIBUTES: [&str; 12] = [
+const NO_ATTRIBUTES: &str = texts![
     "",
     "(a)",
     "[a]",
@@ -187,7 +191,7 @@ static NO_ATTRIBUTES: [&str; 12] = [
     "a<b",
 ];
 
-static PATTERNS: [&str; 51] = [
+const PATTERNS: &str = texts![
     "_§ a",
     "1§",
     "1.5§",
@@ -241,12 +245,12 @@ static PATTERNS: [&str; 51] = [
     "const {}§",
 ];
 
-static NO_PATTERNS: [&str; 24] = [
+const NO_PATTERNS: &str = texts![
     "", "|", "| a", "-", "- a", "- -1", "-(1)", "..", "..1", "!", "! a", "&", "&&", "&mut",
     "& 'a b", "{a}", "'a", "*a", "+", "a::", "a::1", "::", "<a>::b", "a<b",
 ];
 
-static ALTERNATIVES: [&str; 18] = [
+const ALTERNATIVES: &str = texts![
     "a§",
     "| a§",
     "a | b§ c",
@@ -267,7 +271,7 @@ static ALTERNATIVES: [&str; 18] = [
     "a | 1§..2",
 ];
 
-static NO_ALTERNATIVES: [&str; 10] = [
+const NO_ALTERNATIVES: &str = texts![
     "",
     "|",
     "a |",
@@ -280,7 +284,7 @@ static NO_ALTERNATIVES: [&str; 10] = [
     "|| a",
 ];
 
-static EXPRESSIONS: [&str; 172] = [
+const EXPRESSIONS: &str = texts![
     "1§",
     "1.5§",
     "\"a\"§",
@@ -455,7 +459,7 @@ static EXPRESSIONS: [&str; 172] = [
     "a < b§ {}",
 ];
 
-static NO_EXPRESSIONS: [&str; 64] = [
+const NO_EXPRESSIONS: &str = texts![
     "",
     "+",
     "+ a",
@@ -522,7 +526,7 @@ static NO_EXPRESSIONS: [&str; 64] = [
     "a + b::",
 ];
 
-static STATEMENTS: [&str; 77] = [
+const STATEMENTS: &str = texts![
     "let a§;",
     "let a = 1§;",
     "let a: b§;",
@@ -602,7 +606,7 @@ static STATEMENTS: [&str; 77] = [
     "a! {}§ b",
 ];
 
-static NO_STATEMENTS: [&str; 27] = [
+const NO_STATEMENTS: &str = texts![
     "",
     ";",
     "let",
@@ -632,7 +636,7 @@ static NO_STATEMENTS: [&str; 27] = [
     "pub use a",
 ];
 
-static ITEMS: [&str; 46] = [
+const ITEMS: &str = texts![
     "use a;§",
     "use a::{b, c};§ d",
     "use a;§ ;",
@@ -681,7 +685,7 @@ static ITEMS: [&str; 46] = [
     "pub(crate) trait A {}§",
 ];
 
-static NO_ITEMS: [&str; 35] = [
+const NO_ITEMS: &str = texts![
     "",
     ";",
     "a",
@@ -719,7 +723,7 @@ static NO_ITEMS: [&str; 35] = [
     "crate fn a() {}",
 ];
 
-static VISIBILITIES: [&str; 29] = [
+const VISIBILITIES: &str = texts![
     "§",
     "pub§",
     "pub§ a",
@@ -752,112 +756,108 @@ static VISIBILITIES: [&str; 29] = [
 ];
 
 // What is between two operands. No operand may be missing after it.
-static OPERATORS: [&str; 29] = [
+const OPERATORS: &str = texts![
     "+", "-", "*", "/", "%", "^", "&", "|", "&&", "||", "==", "!=", "<", ">", "<=", ">=", "<<",
     ">>", "=", "+=", "-=", "*=", "/=", "%=", "^=", "&=", "|=", "<<=", ">>=",
 ];
 
 // What ends an expression before it.
-static NO_OPERATORS: [&str; 15] = [
+const NO_OPERATORS: &str = texts![
     "=>", "->", "<-", "..", "..=", "...", ":", ";", ",", "!", "@", "#", "$", "as", "~",
 ];
 
-// How many flat tokens of the text are to be taken.
-fn wanted(rt: &impl Abort, alloc: Global, text: &str) -> Result<Front, Fail> {
+// The front that is to be taken of a text.
+fn wanted(alloc: Global, text: &str) -> Result<Front, AllocError> {
     let Some((taken, _)) = text.split_once("§") else {
         return Ok(Front {
             count: 0,
             fault: true,
         });
     };
-    let tree = trees(rt, alloc, taken)?;
+    let tree = trees(alloc, taken)?;
     Ok(Front {
         count: tree.iter().remaining().flat_len(),
         fault: false,
     })
 }
 
-fn is_taken(
-    rt: &impl Abort,
-    alloc: Global,
-    entry: PrefixEntryPoint,
-    text: &str,
-) -> Result<bool, Fail> {
+fn is_taken(alloc: Global, entry: PrefixEntryPoint, text: &str) -> Result<bool, AllocError> {
     let whole = text.replace(alloc, "§", "")?;
-    let tree = trees(rt, alloc, whole.as_str())?;
-    let front = SampleGrammar.parse(entry, tree.iter().remaining())?;
-    Ok(front == wanted(rt, alloc, text)?)
+    Ok(front(alloc, entry, whole.as_str())? == wanted(alloc, text)?)
 }
+
+// An entry point, and so many texts.
+type Forms = (PrefixEntryPoint, usize, &'static str);
+
+static FORMS: [Forms; 19] = [
+    (PrefixEntryPoint::Path, 28, PATHS),
+    (PrefixEntryPoint::Path, 22, NO_PATHS),
+    (PrefixEntryPoint::Ty, 52, TYPES),
+    (PrefixEntryPoint::Ty, 28, NO_TYPES),
+    (PrefixEntryPoint::Block, 5, BLOCKS),
+    (PrefixEntryPoint::Block, 10, NO_BLOCKS),
+    (PrefixEntryPoint::MetaItem, 24, ATTRIBUTES),
+    (PrefixEntryPoint::MetaItem, 12, NO_ATTRIBUTES),
+    (PrefixEntryPoint::Pat, 51, PATTERNS),
+    (PrefixEntryPoint::Pat, 24, NO_PATTERNS),
+    (PrefixEntryPoint::PatTop, 18, ALTERNATIVES),
+    (PrefixEntryPoint::PatTop, 10, NO_ALTERNATIVES),
+    (PrefixEntryPoint::Expr, 172, EXPRESSIONS),
+    (PrefixEntryPoint::Expr, 64, NO_EXPRESSIONS),
+    (PrefixEntryPoint::Stmt, 77, STATEMENTS),
+    (PrefixEntryPoint::Stmt, 27, NO_STATEMENTS),
+    (PrefixEntryPoint::Item, 46, ITEMS),
+    (PrefixEntryPoint::Item, 35, NO_ITEMS),
+    (PrefixEntryPoint::Vis, 29, VISIBILITIES),
+];
 
 // The first text of which something else is taken.
-fn first_mistaken(
-    rt: &impl Abort,
-    alloc: Global,
-    entry: PrefixEntryPoint,
-    texts: &[&'static str],
-) -> Result<Option<&'static str>, Fail> {
-    for text in texts {
-        if !is_taken(rt, alloc, entry, text)? {
-            return Ok(Some(text));
+fn first_mistaken(alloc: Global, &(entry, count, texts): &Forms) -> Option<&'static str> {
+    let mut number = 0usize;
+    for text in texts.split_terminator('\u{2}') {
+        if !is_taken(alloc, entry, text).unwrap_or(false) {
+            return Some(text);
         }
+        number = number.saturating_add(1);
     }
-    Ok(None)
+    (number != count).then_some("another number of texts")
 }
 
 #[test]
-fn each_form_is_taken(rt: HostRuntime) -> Result<(), Fail> {
-    let tables: [(PrefixEntryPoint, &[&str]); 19] = [
-        (PrefixEntryPoint::Path, &PATHS),
-        (PrefixEntryPoint::Path, &NO_PATHS),
-        (PrefixEntryPoint::Ty, &TYPES),
-        (PrefixEntryPoint::Ty, &NO_TYPES),
-        (PrefixEntryPoint::Block, &BLOCKS),
-        (PrefixEntryPoint::Block, &NO_BLOCKS),
-        (PrefixEntryPoint::MetaItem, &ATTRIBUTES),
-        (PrefixEntryPoint::MetaItem, &NO_ATTRIBUTES),
-        (PrefixEntryPoint::Pat, &PATTERNS),
-        (PrefixEntryPoint::Pat, &NO_PATTERNS),
-        (PrefixEntryPoint::PatTop, &ALTERNATIVES),
-        (PrefixEntryPoint::PatTop, &NO_ALTERNATIVES),
-        (PrefixEntryPoint::Expr, &EXPRESSIONS),
-        (PrefixEntryPoint::Expr, &NO_EXPRESSIONS),
-        (PrefixEntryPoint::Stmt, &STATEMENTS),
-        (PrefixEntryPoint::Stmt, &NO_STATEMENTS),
-        (PrefixEntryPoint::Item, &ITEMS),
-        (PrefixEntryPoint::Item, &NO_ITEMS),
-        (PrefixEntryPoint::Vis, &VISIBILITIES),
-    ];
-    for (entry, texts) in tables {
-        assert_eq!(rt; first_mistaken(&rt, rt.alloc(), entry, texts)?, None);
+fn each_form_is_taken(rt: HostRuntime) {
+    for forms in &FORMS {
+        none(&rt, first_mistaken(rt.alloc(), forms));
     }
-    Ok(())
 }
 
-// The first that isn't taken so between two operands, and with none after it. In the forms it is `+`.
+// Whether an expression is taken so with the operator, which is `+` in the text.
+fn is_joined(alloc: Global, text: &str, operator: &str) -> Result<bool, AllocError> {
+    let text = text.replace(alloc, "+", operator)?;
+    is_taken(alloc, PrefixEntryPoint::Expr, text.as_str())
+}
+
+// The first of so many that isn't taken so between two operands, and with none after it.
 fn first_unlike(
-    rt: &impl Abort,
     alloc: Global,
-    operators: &[&'static str],
+    (count, operators): (usize, &'static str),
     (both, one): (&str, &str),
-) -> Result<Option<&'static str>, Fail> {
-    let entry = PrefixEntryPoint::Expr;
-    for operator in operators {
-        let both = both.replace(alloc, "+", operator)?;
-        let one = one.replace(alloc, "+", operator)?;
-        if !is_taken(rt, alloc, entry, both.as_str())?
-            || !is_taken(rt, alloc, entry, one.as_str())?
+) -> Option<&'static str> {
+    let mut number = 0usize;
+    for operator in operators.split_terminator('\u{2}') {
+        if !is_joined(alloc, both, operator).unwrap_or(false)
+            || !is_joined(alloc, one, operator).unwrap_or(false)
         {
-            return Ok(Some(operator));
+            return Some(operator);
         }
+        number = number.saturating_add(1);
     }
-    Ok(None)
+    (number != count).then_some("another number of operators")
 }
 
 #[test]
-fn operators_join_two_operands(rt: HostRuntime) -> Result<(), Fail> {
+fn operators_join_two_operands(rt: HostRuntime) {
     let joined = ("a + b§ c", "a +");
-    assert_eq!(rt; first_unlike(&rt, rt.alloc(), &OPERATORS, joined)?, None);
+    none(&rt, first_unlike(rt.alloc(), (29, OPERATORS), joined));
     let apart = ("a§ + b c", "a§ +");
-    assert_eq!(rt; first_unlike(&rt, rt.alloc(), &NO_OPERATORS, apart)?, None);
-    Ok(())
+    none(&rt, first_unlike(rt.alloc(), (15, NO_OPERATORS), apart));
 }

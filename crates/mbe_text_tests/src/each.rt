@@ -14,18 +14,20 @@ macro_rules! pairs {
 pub trait Row {
     /// Whether it is as it says.
     fn is_so(&self, alloc: Global) -> bool;
+    /// Its text.
+    fn text(&self) -> &'static str;
 }
 
-/// Each row is as it says. A failure shows the row's number.
+/// Each row is as it says. A failure shows the row's text.
 pub fn each<T: Row>(rt: &impl Abort, alloc: Global, rows: &[T]) {
-    for (number, row) in rows.iter().enumerate() {
-        assert!(rt; row.is_so(alloc), "row {number}");
+    for row in rows {
+        assert!(rt; row.is_so(alloc), "{:?}", row.text());
     }
 }
 
-/// No row is otherwise.
-pub fn none(rt: &impl Abort, wrong: Option<usize>) {
-    assert!(rt; wrong.is_none(), "row {wrong:?}");
+/// No row is otherwise. A failure shows the text of the first that is.
+pub fn none(rt: &impl Abort, wrong: Option<&'static str>) {
+    assert!(rt; wrong.is_none(), "{wrong:?}");
 }
 
 /// Something is so.

@@ -266,6 +266,10 @@ impl Row for Faulty {
     fn is_so(&self, alloc: Global) -> bool {
         is_at_fault(alloc, self.0, self.1)
     }
+
+    fn text(&self) -> &'static str {
+        self.0
+    }
 }
 
 static FAULTS: [Faulty; 52] = [
@@ -331,17 +335,17 @@ static FAULTS: [Faulty; 52] = [
     Faulty("€", 0),
 ];
 
-// The first of the pairs that isn't so, or how many there are where there are others than 97.
-fn first_unlike(alloc: Global) -> Option<usize> {
+// The first of the pairs that isn't so. There are 97.
+fn first_unlike(alloc: Global) -> Option<&'static str> {
     let mut count = 0usize;
     for pair in TOKENS.split_terminator('\u{2}') {
         match pair.split_once('\u{1}') {
             Some((text, want)) if has_tokens(alloc, text, want) => {}
-            _ => return Some(count),
+            _ => return Some(pair),
         }
         count = count.saturating_add(1);
     }
-    (count != 97).then_some(count)
+    (count != 97).then_some("another number of pairs")
 }
 
 #[test]
@@ -385,6 +389,10 @@ impl Row for Suffixed {
             }
             Err(AllocError) => false,
         }
+    }
+
+    fn text(&self) -> &'static str {
+        self.0
     }
 }
 

@@ -72,6 +72,10 @@ impl Row for Lines {
     fn is_so(&self, alloc: Global) -> bool {
         is_printed(alloc, self.0, self.1)
     }
+
+    fn text(&self) -> &'static str {
+        self.0
+    }
 }
 
 // Texts with their lines. Lines of 127, 128 and 129 bytes are among them, and an identifier and a string of more.

@@ -77,6 +77,10 @@ impl Row for Text {
             Err(AllocError) => false,
         }
     }
+
+    fn text(&self) -> &'static str {
+        self.1
+    }
 }
 
 static ROWS: &[Text] = &[
@@ -267,12 +271,12 @@ fn is_rustc(alloc: Global, edition: Edition, text: &str, want: &str) -> bool {
 }
 
 // The first text that isn't so. Each text comes before what rustc makes of it.
-fn first_wrong(alloc: Global, edition: Edition, texts: &[&str]) -> Option<usize> {
-    for (number, pair) in texts.chunks(2).enumerate() {
+fn first_wrong(alloc: Global, edition: Edition, texts: &[&'static str]) -> Option<&'static str> {
+    for pair in texts.chunks(2) {
         if let [text, want] = pair
             && !is_rustc(alloc, edition, text, want)
         {
-            return Some(number);
+            return Some(text);
         }
     }
     None
