@@ -1,7 +1,9 @@
 mod CrateLemmas
 mod FeedLemmas
 mod LintLemmas
+mod PlaceEditions
 mod PlaceLemmas
+mod RefusedEditions
 mod ReturnLemmas
 mod SessionLemmas
 mod WriteLemmas

@@ -11,6 +11,7 @@ use Rattle.mbe_expanding.specs.Scopes.{IsEdition}
 use Rattle.mbe_lints.specs.Definitions.{definitions}
 use Rattle.mbe_lints.specs.Lint.{Lint}
 use Rattle.mbe_lints.specs.Lints.{IsReadIn, IsLinted, AreLinted}
+use Rattle.mbe_expandm.proofs.RefusedEditions.{refused_read}
 
 module _ {A B : SyntaxContext → Edition → Type 0} (more : (c : SyntaxContext) (e : Edition) → A c e → B c e) where
   read_in : (form : Form) (d : Defined) (m : Macro) → IsReadIn A form d m → IsReadIn B form d m
@@ -19,7 +20,13 @@ module _ {A B : SyntaxContext → Edition → Type 0} (more : (c : SyntaxContext
   read_in (Arguments k pattern) d m h = read_as_macro more (Some pattern) d.rules m h
 
   linted : (d : Defined) (before after : List Lint) → IsLinted A d before after → IsLinted B d before after
-  linted d before after h = record { rules = h.rules; read = read_in d.form d h.rules h.read; are = h.are }
+  linted d before after h = record {
+    rules = h.rules;
+    read = read_in d.form d h.rules h.read;
+    spot = h.spot;
+    refused = refused_read more h.refused;
+    are = h.are;
+  }
 
   pub all_linted : (ds : List Defined) (before after : List Lint) → AreLinted A ds before after
       → AreLinted B ds before after
