@@ -49,6 +49,7 @@ pub fn has_style(defined: &DeclarativeMacro, style: MacroCallStyle) -> bool {
 
 mod tests {
     use super::{describe, has_style, missing, read_macro};
+    use crate::expansions::tests::{holds, none};
     use bitflags::Flags;
     use mbe::{DeclarativeMacro, MacroCallStyle};
     use std::alloc::Global;
@@ -72,12 +73,19 @@ mod tests {
         Ok(kept == count && styles.bits() == bits && text.as_str() == fault)
     }
 
-    #[test]
-    fn definitions_are_described(rt: HostRuntime) -> anyhow::Result<()> {
+    // The first rules that are described otherwise.
+    fn first_other(alloc: Global) -> Option<&'static str> {
         for row in &DESCRIBED {
-            assert!(rt; is_described(rt.alloc(), row)?, "{}", row.0);
+            if !is_described(alloc, row).unwrap_or(false) {
+                return Some(row.0);
+            }
         }
-        Ok(())
+        None
+    }
+
+    #[test]
+    fn definitions_are_described(rt: HostRuntime) {
+        none(&rt, first_other(rt.alloc()));
     }
 
     // Whether a copy is equal, and a macro whose definition wasn't found isn't.
@@ -92,10 +100,13 @@ mod tests {
             && !has_style(defined, MacroCallStyle::Attr)
     }
 
+    fn is_read(alloc: Global) -> anyhow::Result<bool> {
+        let defined = read_macro(alloc, "$x:ident", "$x")?;
+        Ok(is_without_fault(&defined) && is_copied(alloc, &defined)?)
+    }
+
     #[test]
-    fn a_macro_is_copied(rt: HostRuntime) -> anyhow::Result<()> {
-        let defined = read_macro(rt.alloc(), "$x:ident", "$x")?;
-        assert!(rt; is_without_fault(&defined) && is_copied(rt.alloc(), &defined)?);
-        Ok(())
+    fn a_macro_is_copied(rt: HostRuntime) {
+        holds(&rt, is_read(rt.alloc()).unwrap_or(false));
     }
 }

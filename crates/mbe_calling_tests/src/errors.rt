@@ -1,5 +1,6 @@
 // The examples of docs/MACROS.md: errors of calls, each with its place.
-use crate::expansions::tests::is_expanded;
+use crate::expansions::tests::{is_expanded, none};
+use std::alloc::Global;
 
 // Rules, an argument, and the error with its span.
 static ERRORS: [(&str, &str, &str); 11] = [
@@ -32,11 +33,18 @@ static ERRORS: [(&str, &str, &str); 11] = [
     ),
 ];
 
-#[test]
-fn calls_have_these_errors(rt: HostRuntime) -> anyhow::Result<()> {
+// The first rules whose call has another error.
+fn first_other(alloc: Global) -> Option<&'static str> {
     for &(rules, argument, want) in &ERRORS {
         let row = (rules, argument, 0, want, "");
-        assert!(rt; is_expanded(&rt, rt.alloc(), &row)?, "{rules}");
+        if !is_expanded(alloc, &row).unwrap_or(false) {
+            return Some(rules);
+        }
     }
-    Ok(())
+    None
+}
+
+#[test]
+fn calls_have_these_errors(rt: HostRuntime) {
+    none(&rt, first_other(rt.alloc()));
 }

@@ -30,12 +30,14 @@ pub fn count_requests(alloc: Global) -> Result<u64, AllocError> {
 
 mod tests {
     use super::count_requests;
-    use std::alloc::AllocError;
+    use crate::expansions::tests::holds;
 
     // The two buffers, the rules, the two lists of ops, the symbols of the texts and the expansion's buffer at least.
     #[test]
-    fn each_request_is_refused_in_turn(rt: HostRuntime) -> Result<(), AllocError> {
-        assert!(rt; count_requests(rt.alloc())? > 8);
-        Ok(())
+    fn each_request_is_refused_in_turn(rt: HostRuntime) {
+        holds(
+            &rt,
+            matches!(count_requests(rt.alloc()), Ok(count) if count > 8),
+        );
     }
 }

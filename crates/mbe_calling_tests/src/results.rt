@@ -42,7 +42,7 @@ pub fn leading_type<'a>(
 mod tests {
     use super::{leading_type, or_nothing, paired, summary, too_deep};
     use crate::expansions::Expansion;
-    use crate::expansions::tests::expansion_of;
+    use crate::expansions::tests::{expansion_of, holds};
     use mbe::{ExpandErrorKind, ValueResult};
     use mbe_text::lexer::{LexError, lex};
     use mbe_tt::span::{DelimSpan, Span};
@@ -55,13 +55,16 @@ mod tests {
         counts.value == (3, 7) && matches!(counts.err, Some(span) if span.start == 2)
     }
 
+    fn is_call_changed(alloc: Global) -> bool {
+        match expansion_of(alloc, "(a b) => {x y z}", "a c") {
+            Ok(Some(expansion)) => is_changed(expansion),
+            Ok(None) | Err(_) => false,
+        }
+    }
+
     #[test]
-    fn results_are_changed(rt: HostRuntime) -> anyhow::Result<()> {
-        let Some(expansion) = expansion_of(&rt, rt.alloc(), "(a b) => {x y z}", "a c")? else {
-            anyhow::bail!("a pattern was refused");
-        };
-        assert!(rt; is_changed(expansion));
-        Ok(())
+    fn results_are_changed(rt: HostRuntime) {
+        holds(&rt, is_call_changed(rt.alloc()));
     }
 
     // Whether that error has its text, and is of no other kind.
@@ -73,13 +76,12 @@ mod tests {
     }
 
     #[test]
-    fn results_are_made(rt: HostRuntime) -> Result<(), AllocError> {
+    fn results_are_made(rt: HostRuntime) {
         let span = Span::default();
-        assert!(rt; or_nothing(Ok(3)) == ValueResult::ok(3));
-        assert!(rt; or_nothing(Err(span)) == ValueResult::only_err(span));
-        assert!(rt; ValueResult::new(3, span).result() == Err(span));
-        assert!(rt; is_too_deep(rt.alloc(), span)?);
-        Ok(())
+        holds(&rt, or_nothing(Ok(3)) == ValueResult::ok(3));
+        holds(&rt, or_nothing(Err(span)) == ValueResult::only_err(span));
+        holds(&rt, ValueResult::new(3, span).result() == Err(span));
+        holds(&rt, is_too_deep(rt.alloc(), span).unwrap_or(false));
     }
 
     // How many trees the type has that comes first; none if there is no type.
@@ -88,12 +90,16 @@ mod tests {
         Ok(found.err.is_none().then_some(found.value.len()))
     }
 
-    #[test]
-    fn a_type_is_found(rt: HostRuntime) -> Result<(), LexError> {
-        let tree = lex(rt.alloc(), "Vec<u8> = 1", 1)?;
+    // Whether a type of four trees comes first, and then none.
+    fn is_type_found(alloc: Global) -> Result<bool, LexError> {
+        let tree = lex(alloc, "Vec<u8> = 1", 1)?;
         let mut iter = tree.iter();
-        assert!(rt; type_len(rt.alloc(), &mut iter)? == Some(4));
-        assert!(rt; type_len(rt.alloc(), &mut iter)?.is_none());
-        Ok(())
+        let first = type_len(alloc, &mut iter)?;
+        Ok(first == Some(4) && type_len(alloc, &mut iter)?.is_none())
+    }
+
+    #[test]
+    fn a_type_is_found(rt: HostRuntime) {
+        holds(&rt, is_type_found(rt.alloc()).unwrap_or(false));
     }
 }

@@ -59,6 +59,7 @@ pub fn bound_in<'a>(
 
 mod tests {
     use super::{bound_in, failed, head, is_done, outside_bits, sides, takes_more, written};
+    use crate::expansions::tests::holds;
     use mbe::{BindingLog, Handle};
     use mbe_text::lexer::{LexError, lex};
     use mbe_tt::span::Edition;
@@ -75,26 +76,32 @@ mod tests {
         Ok(is_only && written(alloc, ident)?.as_str() == word)
     }
 
-    #[test]
-    fn small_values_are_read(rt: HostRuntime) -> Result<(), LexError> {
-        assert!(rt; takes_more(Edition::Edition2021) == (true, false));
-        assert!(rt; outside_bits() == 6 && failed(1)? == 0);
-        let tree = lex(rt.alloc(), "r#a", 7)?;
+    fn is_raw_word(alloc: Global) -> Result<bool, LexError> {
+        let tree = lex(alloc, "r#a", 7)?;
         let is_at = sides(&tree).opening == head(7, 3);
-        assert!(rt; is_at && is_one_word(rt.alloc(), tree.iter(), "r#a")?);
-        Ok(())
+        Ok(is_at && is_one_word(alloc, tree.iter(), "r#a")?)
+    }
+
+    #[test]
+    fn small_values_are_read(rt: HostRuntime) {
+        holds(&rt, takes_more(Edition::Edition2021) == (true, false));
+        holds(&rt, outside_bits() == 6 && failed(1) == Ok(0));
+        holds(&rt, is_raw_word(rt.alloc()).unwrap_or(false));
     }
 
     fn is_bound(log: &BindingLog<'_>, handle: &Handle) -> Result<bool, AllocError> {
         Ok(bound_in(log, handle)?.is_some())
     }
 
-    #[test]
-    fn a_handle_is_of_its_log(rt: HostRuntime) -> Result<(), AllocError> {
-        let mut log = BindingLog::new(rt.alloc());
+    fn is_bound_in_one(alloc: Global) -> Result<bool, AllocError> {
+        let mut log = BindingLog::new(alloc);
         let handle = log.alloc()?;
-        let other = BindingLog::new(rt.alloc());
-        assert!(rt; is_bound(&log, &handle)? && !is_bound(&other, &handle)?);
-        Ok(())
+        let other = BindingLog::new(alloc);
+        Ok(is_bound(&log, &handle)? && !is_bound(&other, &handle)?)
+    }
+
+    #[test]
+    fn a_handle_is_of_its_log(rt: HostRuntime) {
+        holds(&rt, is_bound_in_one(rt.alloc()).unwrap_or(false));
     }
 }

@@ -52,14 +52,13 @@ pub fn sum_of(alloc: Global, text: &str) -> Result<Option<usize>, LexError>
 
 mod tests {
     use super::sum_of;
-    use mbe_text::lexer::LexError;
+    use crate::expansions::tests::holds;
 
     #[test]
-    fn sums_are_taken(rt: HostRuntime) -> Result<(), LexError> {
-        assert!(rt; sum_of(rt.alloc(), "a + b c")? == Some(3));
-        assert!(rt; sum_of(rt.alloc(), "a c")? == Some(1));
-        assert!(rt; sum_of(rt.alloc(), "a + ;")?.is_none());
-        assert!(rt; sum_of(rt.alloc(), "let")?.is_none());
-        Ok(())
+    fn sums_are_taken(rt: HostRuntime) {
+        holds(&rt, sum_of(rt.alloc(), "a + b c") == Ok(Some(3)));
+        holds(&rt, sum_of(rt.alloc(), "a c") == Ok(Some(1)));
+        holds(&rt, sum_of(rt.alloc(), "a + ;") == Ok(None));
+        holds(&rt, sum_of(rt.alloc(), "let") == Ok(None));
     }
 }

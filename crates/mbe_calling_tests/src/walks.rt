@@ -18,17 +18,27 @@ pub fn assignment<'a, A: Allocator>(
     Some((name, value))
 }
 
-/// Each `expect_` call on a tree that it fits: `a _ 1 b + - $ , ! <<= ()`. What the last two return is counted.
-pub fn expect_each<A: Allocator>(iter: &mut TtIter<'_, A>) -> Result<(usize, usize), ()> {
+/// Each `expect_` call for a word or a literal, on a tree that it fits: `a _ 1 b`.
+pub fn expect_words<A: Allocator>(iter: &mut TtIter<'_, A>) -> Result<(), ()> {
     iter.expect_ident()?;
     iter.expect_ident_or_underscore()?;
     iter.expect_literal()?;
     iter.expect_leaf()?;
+    Ok(())
+}
+
+/// Each `expect_` call for one punct: `+ - $ , !`.
+pub fn expect_puncts<A: Allocator>(iter: &mut TtIter<'_, A>) -> Result<(), ()> {
     iter.expect_char('+')?;
     iter.expect_any_char(&['-', '*'])?;
     iter.expect_dollar()?;
     iter.expect_comma()?;
     iter.expect_single_punct()?;
+    Ok(())
+}
+
+/// An operator and a group, as `<<= (x y)`: how many puncts and how many trees they are.
+pub fn expect_several<A: Allocator>(iter: &mut TtIter<'_, A>) -> Result<(usize, usize), ()> {
     let operator = iter.expect_glued_punct()?;
     let (_group, content) = iter.expect_subtree()?;
     Ok((operator.len(), content.remaining().len()))
@@ -98,9 +108,10 @@ pub fn only_group<'a, A: Allocator>(trees: TokenTreesView<'a, A>) -> Option<Subt
 
 mod tests {
     use super::{
-        assignment, count_leaves, expect_each, names, next_leaf, next_spans, only_group, suffix,
-        view_of_next,
+        assignment, count_leaves, expect_puncts, expect_several, expect_words, names, next_leaf,
+        next_spans, only_group, suffix, view_of_next,
     };
+    use crate::expansions::tests::holds;
     use mbe_text::lexer::{LexError, lex};
     use mbe_tt::tt::{DelimiterKind, Leaf, TopSubtree, TtIter};
     use std::alloc::{AllocError, Global};
@@ -118,22 +129,32 @@ mod tests {
         }
     }
 
+    fn is_assignment_read(alloc: Global) -> Result<bool, LexError> {
+        let tree = lex(alloc, "a = (1); b 2", 0)?;
+        Ok(reads_one_assignment(tree.iter()))
+    }
+
     #[test]
-    fn assignments_are_read(rt: HostRuntime) -> Result<(), LexError> {
-        let tree = lex(rt.alloc(), "a = (1); b 2", 0)?;
-        assert!(rt; reads_one_assignment(tree.iter()));
-        Ok(())
+    fn assignments_are_read(rt: HostRuntime) {
+        holds(&rt, is_assignment_read(rt.alloc()).unwrap_or(false));
     }
 
     fn expects_each_once(mut iter: TtIter<'_>) -> bool {
-        expect_each(&mut iter) == Ok((3, 2)) && iter.is_empty() && expect_each(&mut iter).is_err()
+        expect_words(&mut iter).is_ok()
+            && expect_puncts(&mut iter).is_ok()
+            && expect_several(&mut iter) == Ok((3, 2))
+            && iter.is_empty()
+            && expect_words(&mut iter).is_err()
+    }
+
+    fn is_each_expected(alloc: Global) -> Result<bool, LexError> {
+        let tree = lex(alloc, "a _ 1 b + - $ , ! <<= (x y)", 0)?;
+        Ok(expects_each_once(tree.iter()))
     }
 
     #[test]
-    fn each_tree_is_expected(rt: HostRuntime) -> Result<(), LexError> {
-        let tree = lex(rt.alloc(), "a _ 1 b + - $ , ! <<= (x y)", 0)?;
-        assert!(rt; expects_each_once(tree.iter()));
-        Ok(())
+    fn each_tree_is_expected(rt: HostRuntime) {
+        holds(&rt, is_each_expected(rt.alloc()).unwrap_or(false));
     }
 
     // The group comes first, then the literal, and neither call consumes what isn't for it.
@@ -156,23 +177,29 @@ mod tests {
             && iter.remaining().len() == 1
     }
 
-    #[test]
-    fn trees_are_consumed(rt: HostRuntime) -> Result<(), LexError> {
-        let tree = lex(rt.alloc(), "(a) 1u8 [", 0)?;
+    fn are_consumed(alloc: Global) -> Result<bool, LexError> {
+        let tree = lex(alloc, "(a) 1u8 [", 0)?;
         let mut iter = tree.iter();
-        assert!(rt; consumes_the_group(&mut iter) && consumes_the_leaf(&mut iter));
-        Ok(())
+        Ok(consumes_the_group(&mut iter) && consumes_the_leaf(&mut iter))
+    }
+
+    #[test]
+    fn trees_are_consumed(rt: HostRuntime) {
+        holds(&rt, are_consumed(rt.alloc()).unwrap_or(false));
     }
 
     fn are_names(alloc: Global, tree: &TopSubtree, want: &[&str]) -> Result<bool, AllocError> {
         Ok(names(alloc, tree)?.as_slice() == want)
     }
 
+    fn are_counted(alloc: Global) -> Result<bool, LexError> {
+        let tree = lex(alloc, "a (b + c) d", 0)?;
+        Ok(are_names(alloc, &tree, &["a", "d"])? && count_leaves(tree.view()) == 5)
+    }
+
     #[test]
-    fn names_and_leaves_are_counted(rt: HostRuntime) -> Result<(), LexError> {
-        let tree = lex(rt.alloc(), "a (b + c) d", 0)?;
-        assert!(rt; are_names(rt.alloc(), &tree, &["a", "d"])? && count_leaves(tree.view()) == 5);
-        Ok(())
+    fn names_and_leaves_are_counted(rt: HostRuntime) {
+        holds(&rt, are_counted(rt.alloc()).unwrap_or(false));
     }
 
     fn is_bracket_of_two(tree: &TopSubtree) -> bool {
@@ -185,10 +212,13 @@ mod tests {
         }
     }
 
+    fn is_looked_into(alloc: Global) -> Result<bool, LexError> {
+        let tree = lex(alloc, "[a b]", 0)?;
+        Ok(is_bracket_of_two(&tree))
+    }
+
     #[test]
-    fn a_group_is_looked_into(rt: HostRuntime) -> Result<(), LexError> {
-        let tree = lex(rt.alloc(), "[a b]", 0)?;
-        assert!(rt; is_bracket_of_two(&tree));
-        Ok(())
+    fn a_group_is_looked_into(rt: HostRuntime) {
+        holds(&rt, is_looked_into(rt.alloc()).unwrap_or(false));
     }
 }

@@ -77,6 +77,7 @@ pub fn build_nothing<A: Allocator>(alloc: A, span: Span) -> Result<TopSubtree<A>
 
 mod tests {
     use super::{build_both_or_none, build_call, build_group, build_nothing, word};
+    use crate::expansions::tests::holds;
     use mbe_text::lexer::lex;
     use mbe_text::printing::print_tree;
     use mbe_tt::span::Span;
@@ -116,13 +117,15 @@ mod tests {
         is_printed(alloc, &both, BOTH)
     }
 
-    #[test]
-    fn trees_are_built(rt: HostRuntime) -> anyhow::Result<()> {
-        let argument = lex(rt.alloc(), "1 ++", 1)?;
+    fn are_built(alloc: Global) -> anyhow::Result<bool> {
+        let argument = lex(alloc, "1 ++", 1)?;
         let content = argument.iter().remaining();
-        assert!(rt; is_call_built(rt.alloc(), content)?);
-        assert!(rt; are_both_built(rt.alloc(), content)?);
-        Ok(())
+        Ok(is_call_built(alloc, content)? && are_both_built(alloc, content)?)
+    }
+
+    #[test]
+    fn trees_are_built(rt: HostRuntime) {
+        holds(&rt, are_built(rt.alloc()).unwrap_or(false));
     }
 
     const GROUP: &str = "SUBTREE $$ 0@0..0 0@0..0
@@ -143,11 +146,14 @@ mod tests {
         Ok(group.try_clone()? == *group && nothing.iter().is_empty() && nothing != *group)
     }
 
+    fn is_group_built(alloc: Global) -> anyhow::Result<bool> {
+        let more = lex(alloc, "1", 1)?;
+        let group = group_of_a_word(alloc, &more)?;
+        Ok(is_printed(alloc, &group, GROUP)? && is_copied(alloc, &group)?)
+    }
+
     #[test]
-    fn groups_are_built(rt: HostRuntime) -> anyhow::Result<()> {
-        let more = lex(rt.alloc(), "1", 1)?;
-        let group = group_of_a_word(rt.alloc(), &more)?;
-        assert!(rt; is_printed(rt.alloc(), &group, GROUP)? && is_copied(rt.alloc(), &group)?);
-        Ok(())
+    fn groups_are_built(rt: HostRuntime) {
+        holds(&rt, is_group_built(rt.alloc()).unwrap_or(false));
     }
 }

@@ -1,35 +1,16 @@
 // What texts with `#[cfg]` become, by the words of a run.
-use mbe_cfg::settings::Settings;
-use mbe_cfg::targets::Target;
-use mbe_expandm::arguments::{Asked, read_words};
-use mbe_expandm::reading::Reading;
-use mbe_expandm::sessions::{Named, write};
-use mbe_rust::fragments::rust_rules;
-use mbe_tt::span::Edition;
+use crate::runs::{none, one_text, words_of_one, written};
+use mbe_expandm::sessions::Session;
 use std::alloc::{AllocError, Global};
-use std::process::Abort;
-use std::test::Fail;
-
-// Texts are read as they are where the words say nothing.
-pub(crate) fn plainly(edition: Edition) -> Reading<'static> {
-    Reading {
-        edition,
-        conditions: Settings {
-            target: Target::X86_64Linux.options(),
-            given: &[],
-            features: &[],
-            test: false,
-        },
-        grammar: rust_rules(edition, &[]),
-    }
-}
 
 // What is before each text.
 const M: &str = "#[cfg(a)] macro_rules! m { () => { 1 }; }\n\
     #[cfg(not(a))] macro_rules! m { () => { 2 }; }\n";
 
 // Words, a text, what it becomes, and the status.
-static ROWS: [(&str, &str, &str, u8); 16] = [
+type Row = (&'static str, &'static str, &'static str, u8);
+
+static ROWS: [Row; 16] = [
     ("", "x = m!();", "x = 2;", 0),
     ("--cfg a", "x = m!();", "x = 1;", 0),
     ("--cfg a=\"b\"", "x = m!();", "x = 2;", 0),
@@ -108,39 +89,41 @@ static ROWS: [(&str, &str, &str, u8); 16] = [
     ("", "#[cfg(a b)] m!();", "#[cfg(a b)] 2;", 1),
 ];
 
-fn words_of(alloc: Global, text: &str) -> Result<Vec<String>, AllocError> {
-    let mut words = Vec::new(alloc);
-    for word in text.split_whitespace() {
-        words.push(String::from_str(alloc, word)?)?;
-    }
-    words.push(String::from_str(alloc, "a.rs")?)?;
-    Ok(words)
+fn rows() -> &'static [Row] {
+    &ROWS
 }
 
-// What a text becomes in a run on these words, and the status.
-fn becomes(alloc: Global, words: &[String], text: String) -> Result<(String, u8), Fail> {
-    let Asked::Run(options) = read_words(alloc, words)? else {
-        return Err(Fail::from("no run"));
-    };
-    let name = String::from_str(alloc, "a.rs")?;
-    let texts: [Named; 1] = [Named { name, text }];
-    let (session, mut written) = write(alloc, &options, &texts)?;
-    match written.pop() {
-        Some(text) => Ok((text, session.status(true))),
-        None => Err(Fail::from("nothing is written")),
+fn is_last(of: &Session<'_>, written: &[String], (want, status): (&str, u8)) -> bool {
+    match written.last() {
+        Some(text) => text.as_str() == want && of.status(true) == status,
+        None => false,
     }
+}
+
+// Whether a text becomes that in a run on these words, with that status.
+fn becomes(alloc: Global, words: &str, text: &str, want: (&str, u8)) -> Result<bool, AllocError> {
+    let texts = one_text(alloc, text)?;
+    let words = words_of_one(alloc, words)?;
+    let (session, texts) = written(alloc, &words, &texts)?;
+    Ok(is_last(&session, &texts, want))
+}
+
+fn is_decided(alloc: Global, &(words, text, want, status): &Row) -> Result<bool, AllocError> {
+    let whole = format!(in alloc; "{M}{text}")?;
+    let want = format!(in alloc; "{M}{want}")?;
+    becomes(alloc, words, whole.as_str(), (want.as_str(), status))
+}
+
+fn first_other(alloc: Global, rows: &[Row]) -> Result<Option<&'static str>, AllocError> {
+    for row in rows {
+        if !is_decided(alloc, row)? {
+            return Ok(Some(row.1));
+        }
+    }
+    Ok(None)
 }
 
 #[test]
-fn conditions_decide(rt: HostRuntime) -> Result<(), Fail> {
-    let alloc = rt.alloc();
-    for (words, text, want, status) in &ROWS {
-        let words = words_of(alloc, *words)?;
-        let whole = format!(in alloc; "{M}{text}")?;
-        let want = format!(in alloc; "{M}{want}")?;
-        let (got, found) = becomes(alloc, words.as_slice(), whole)?;
-        assert_eq!(rt; got.as_str(), want.as_str());
-        assert_eq!(rt; found, *status);
-    }
-    Ok(())
+fn conditions_decide(rt: HostRuntime) {
+    none(&rt, first_other(rt.alloc(), rows()));
 }

@@ -1,87 +1,14 @@
 // What is reported of calls beside errors: what rules say of them, steps, and where tokens are from. Where each rule stops, what it
 // wants there, what its variables took, and where each token is from was worked out by hand.
-use crate::conditions::plainly;
-use mbe_expanding::expander::Expander;
-use mbe_expanding::settings::Settings;
-use mbe_expandm::expansions::{Wanted, define_files, root_text};
-use mbe_expandm::files::{SourceFile, source_file};
-use mbe_expandm::places::Position;
-use mbe_expandm::saying::{Form, add_reports, explained};
-use mbe_rust::fragments::rust_rules;
-use mbe_text::symbols::SymbolTable;
-use mbe_tt::span::Edition;
+use crate::reports::{notes_of, number_at, text_at};
+use crate::runs::{holds, none, reported};
+use crate::texts::{Row, defined};
+use mbe_expandm::saying::Form;
 use serde_json::Value;
 use std::alloc::{AllocError, Global};
-use std::test::Fail;
-
-// What is asked for beside errors: the calls that begin at a position are explained; without one, those that no rule expands.
-#[derive(Clone, Copy)]
-enum Asked {
-    Explained(Option<Position>),
-    Steps,
-    Origins,
-}
-
-// What is reported of a file.
-fn reported(alloc: Global, text: &str, form: Form, asked: Asked) -> Result<String, AllocError> {
-    let edition = Edition::Edition2021;
-    let mut symbols = SymbolTable::new(alloc);
-    let mut notes = Vec::new(alloc);
-    let file = source_file(
-        alloc,
-        &mut symbols,
-        &mut notes,
-        &plainly(edition),
-        "a.rs",
-        text,
-        0,
-    )?;
-    let files: [SourceFile<'_>; 1] = [file];
-    let position = match asked {
-        Asked::Explained(position) => Some(position),
-        Asked::Steps | Asked::Origins => None,
-    };
-    let settings = Settings {
-        edition,
-        depth: 9,
-        fuel: 100,
-        is_traced: matches!(asked, Asked::Steps),
-        is_origin_noted: matches!(asked, Asked::Origins),
-        explain: explained(position, &files, 1),
-    };
-    let mut expander = Expander::new(alloc, rust_rules(edition, &[]), settings);
-    define_files(&mut expander, &files)?;
-    let asked = Wanted {
-        call: None,
-        follows: false,
-    };
-    let of = &mut expander;
-    let _text = root_text(alloc, asked, &mut notes, of, &files, 0, &files[0])?;
-    let mut reports = String::new(alloc);
-    add_reports(alloc, form, &files, &notes, &mut reports)?;
-    add_reports(alloc, form, &files, &expander.notes, &mut reports)?;
-    Ok(reports)
-}
-
-// The notes among the reports, each with its line and column.
-fn notes_of(alloc: Global, text: &str) -> Result<String, AllocError> {
-    let mut said = String::new(alloc);
-    let mut message = None;
-    for line in text.lines() {
-        if let Some(note) = line.strip_prefix("note: ") {
-            message = Some(note);
-        } else if let Some(place) = line.strip_prefix(" --> a.rs:")
-            && let Some(note) = message.take()
-        {
-            let both = format!(in alloc; "{place} {note}; ")?;
-            said.push_str(both.as_str())?;
-        }
-    }
-    Ok(said)
-}
 
 // A definition, a call of it in the next line, and what its rules say: each note with its line and column.
-static ROWS: [(&str, &str, &str); 18] = [
+static ROWS: [Row; 18] = [
     (
         "m { ($($x:expr),*) => {} }",
         "m!(1, 2,);",
@@ -187,19 +114,39 @@ static ROWS: [(&str, &str, &str); 18] = [
     ),
 ];
 
-#[test]
-fn rules_say_what_they_want(rt: HostRuntime) -> Result<(), Fail> {
-    for (rules, call, want) in &ROWS {
-        let text = format!(in rt.alloc(); "macro_rules! {rules}\n{call}")?;
-        let reports = reported(rt.alloc(), text.as_str(), Form::Text, at(2, Some(1)))?;
-        assert_eq!(rt; notes_of(rt.alloc(), reports.as_str())?.as_str(), *want);
+fn rows() -> &'static [Row] {
+    &ROWS
+}
+
+// The notes on a definition and a call of it, by these words.
+fn notes_on(alloc: Global, words: &str, (rules, call): (&str, &str)) -> Result<String, AllocError> {
+    let text = defined(alloc, rules, call)?;
+    let reports = reported(alloc, words, text.as_str(), Form::Text)?;
+    notes_of(alloc, reports.as_str())
+}
+
+fn is_said(alloc: Global, &(rules, call, want): &Row) -> Result<bool, AllocError> {
+    let notes = notes_on(alloc, "--explain 2:1", (rules, call))?;
+    Ok(notes.as_str() == want)
+}
+
+fn first_unsaid(alloc: Global, rows: &[Row]) -> Result<Option<&'static str>, AllocError> {
+    for row in rows {
+        if !is_said(alloc, row)? {
+            return Ok(Some(row.0));
+        }
     }
-    Ok(())
+    Ok(None)
+}
+
+#[test]
+fn rules_say_what_they_want(rt: HostRuntime) {
+    none(&rt, first_unsaid(rt.alloc(), rows()));
 }
 
 // A definition, a call of it in the next line, and where each token of each expansion is from, in the order of the steps; a group is
 // where it opens. An expression with operators is in parentheses, which are where its variable is.
-static ORIGINS: [(&str, &str, &str); 4] = [
+static ORIGINS: [Row; 4] = [
     (
         "m { ($x:ident) => { fn $x() {} } }",
         "m!(a);",
@@ -218,31 +165,47 @@ static ORIGINS: [(&str, &str, &str); 4] = [
     ("m { ($($x:ident)*) => { $(struct $x;)* } }", "m!();", ""),
 ];
 
+fn origins() -> &'static [Row] {
+    &ORIGINS
+}
+
 // A note is `PLACE MESSAGE`; of one on a token, the place and the token.
+fn push_token(note: &str, found: &mut String) -> Result<(), AllocError> {
+    match note.split_once(" in the expansion of `m!`") {
+        Some((token, _)) => write!(found, "{token}; "),
+        None => Ok(()),
+    }
+}
+
 fn tokens_of(alloc: Global, notes: &str) -> Result<String, AllocError> {
     let mut found = String::new(alloc);
     for note in notes.split("; ") {
-        if let Some((token, _)) = note.split_once(" in the expansion of `m!`") {
-            let both = format!(in alloc; "{token}; ")?;
-            found.push_str(both.as_str())?;
-        }
+        push_token(note, &mut found)?;
     }
     Ok(found)
 }
 
-#[test]
-fn tokens_say_where_they_are_from(rt: HostRuntime) -> Result<(), Fail> {
-    for (rules, call, want) in &ORIGINS {
-        let text = format!(in rt.alloc(); "macro_rules! {rules}\n{call}")?;
-        let reports = reported(rt.alloc(), text.as_str(), Form::Text, Asked::Origins)?;
-        let notes = notes_of(rt.alloc(), reports.as_str())?;
-        assert_eq!(rt; tokens_of(rt.alloc(), notes.as_str())?.as_str(), *want);
+fn are_from(alloc: Global, &(rules, call, want): &Row) -> Result<bool, AllocError> {
+    let notes = notes_on(alloc, "--origin", (rules, call))?;
+    Ok(tokens_of(alloc, notes.as_str())?.as_str() == want)
+}
+
+fn first_elsewhere(alloc: Global, rows: &[Row]) -> Result<Option<&'static str>, AllocError> {
+    for row in rows {
+        if !are_from(alloc, row)? {
+            return Ok(Some(row.0));
+        }
     }
-    Ok(())
+    Ok(None)
+}
+
+#[test]
+fn tokens_say_where_they_are_from(rt: HostRuntime) {
+    none(&rt, first_elsewhere(rt.alloc(), origins()));
 }
 
 // A definition, a call of it in the next line, and what rustc 1.95 notes of it under `trace_macros`, but for line breaks, each at its call.
-static STEPS: [(&str, &str, &str); 3] = [
+static STEPS: [Row; 3] = [
     (
         "m { ($x:ident) => { fn $x() {} } }",
         "m!(a);",
@@ -261,21 +224,37 @@ static STEPS: [(&str, &str, &str); 3] = [
     ),
 ];
 
+fn steps() -> &'static [Row] {
+    &STEPS
+}
+
 // How tokens are spaced is no matter of theirs.
 fn without_spaces(alloc: Global, text: &str) -> Result<String, AllocError> {
     text.replace(alloc, " ", "")
 }
 
-#[test]
-fn steps_are_in_the_words_of_rustc(rt: HostRuntime) -> Result<(), Fail> {
-    for (rules, call, want) in &STEPS {
-        let text = format!(in rt.alloc(); "macro_rules! {rules}\n{call}")?;
-        let reports = reported(rt.alloc(), text.as_str(), Form::Text, Asked::Steps)?;
-        let notes = notes_of(rt.alloc(), reports.as_str())?;
-        let found = without_spaces(rt.alloc(), notes.as_str())?;
-        assert_eq!(rt; found.as_str(), without_spaces(rt.alloc(), want)?.as_str());
+fn are_equal_but_for_spaces(alloc: Global, one: &str, other: &str) -> Result<bool, AllocError> {
+    let one = without_spaces(alloc, one)?;
+    Ok(without_spaces(alloc, other)?.as_str() == one.as_str())
+}
+
+fn are_steps(alloc: Global, &(rules, call, want): &Row) -> Result<bool, AllocError> {
+    let notes = notes_on(alloc, "--trace", (rules, call))?;
+    are_equal_but_for_spaces(alloc, notes.as_str(), want)
+}
+
+fn first_in_other_words(alloc: Global, rows: &[Row]) -> Result<Option<&'static str>, AllocError> {
+    for row in rows {
+        if !are_steps(alloc, row)? {
+            return Ok(Some(row.0));
+        }
     }
-    Ok(())
+    Ok(None)
+}
+
+#[test]
+fn steps_are_in_the_words_of_rustc(rt: HostRuntime) {
+    none(&rt, first_in_other_words(rt.alloc(), steps()));
 }
 
 // The example of docs/EXPANDM.md.
@@ -317,19 +296,22 @@ static SECOND: &str = "\
 2:43 rule 2 of `pair!` fits; 1:52 `$k:ident` in rule 2 of `pair!` took `b`; \
 1:63 `$v:expr` in rule 2 of `pair!` took `2 + 3`; ";
 
-fn at(line: usize, column: Option<usize>) -> Asked {
-    Asked::Explained(Some(Position { line, column }))
+// Whether that is reported of a text by these words.
+fn is_reported(alloc: Global, words: &str, text: &str, want: &str) -> Result<bool, AllocError> {
+    Ok(reported(alloc, words, text, Form::Text)?.as_str() == want)
+}
+
+// Whether these are the notes on the example by these words.
+fn has_notes(alloc: Global, words: &str, want: &str) -> Result<bool, AllocError> {
+    let reports = reported(alloc, words, PAIR, Form::Text)?;
+    Ok(notes_of(alloc, reports.as_str())?.as_str() == want)
 }
 
 #[test]
-fn the_documented_call_is_explained(rt: HostRuntime) -> Result<(), Fail> {
-    let first = reported(rt.alloc(), PAIR, Form::Text, at(2, Some(13)))?;
-    assert_eq!(rt; first.as_str(), FIRST);
-    let none = reported(rt.alloc(), PAIR, Form::Text, at(3, None))?;
-    assert_eq!(rt; notes_of(rt.alloc(), none.as_str())?.as_str(), "");
-    let second = reported(rt.alloc(), PAIR, Form::Text, at(2, Some(28)))?;
-    assert_eq!(rt; notes_of(rt.alloc(), second.as_str())?.as_str(), SECOND);
-    Ok(())
+fn the_documented_call_is_explained(rt: HostRuntime) {
+    holds(&rt, is_reported(rt.alloc(), "--explain 2:13", PAIR, FIRST));
+    holds(&rt, has_notes(rt.alloc(), "--explain 3", ""));
+    holds(&rt, has_notes(rt.alloc(), "--explain 2:28", SECOND));
 }
 
 // Wide characters take two columns, tabs four.
@@ -342,43 +324,15 @@ error: unexpected token in input in the call of `m!`
 ";
 
 #[test]
-fn carets_are_below_the_token(rt: HostRuntime) -> Result<(), Fail> {
+fn carets_are_below_the_token(rt: HostRuntime) {
     let text = "macro_rules! m { (a) => {} }\n\tx(\"\u{6f22}\", m!(b));";
-    let reports = reported(rt.alloc(), text, Form::Text, at(9, None))?;
-    assert_eq!(rt; reports.as_str(), WIDE);
-    Ok(())
-}
-
-fn text_at<'v>(value: &'v Value, path: &str) -> &'v str {
-    value
-        .pointer(path)
-        .and_then(Value::as_str)
-        .unwrap_or("none")
-}
-
-fn number_at(value: &Value, path: &str) -> u64 {
-    value.pointer(path).and_then(Value::as_u64).unwrap_or(999)
-}
-
-// Whether an object says that, at that line, that column, and from that byte to that one.
-fn says(
-    alloc: Global,
-    object: &str,
-    message: &str,
-    place: (u64, u64, u64, u64),
-) -> Result<bool, Fail> {
-    let value = Value::from_str(alloc, object)?;
-    let found = (
-        number_at(&value, "/spans/0/line_start"),
-        number_at(&value, "/spans/0/column_start"),
-        number_at(&value, "/spans/0/byte_start"),
-        number_at(&value, "/spans/0/byte_end"),
-    );
-    Ok(text_at(&value, "/message") == message && found == place)
+    holds(&rt, is_reported(rt.alloc(), "--explain 9", text, WIDE));
 }
 
 // A file whose lines end with carriage returns, too: bytes are those of the file as it is.
-static OBJECTS: [(&str, (u64, u64, u64, u64)); 3] = [
+type Object = (&'static str, (u64, u64, u64, u64));
+
+static OBJECTS: [Object; 3] = [
     (
         "unexpected token in input in the call of `m!`",
         (2, 4, 33, 34),
@@ -390,14 +344,41 @@ static OBJECTS: [(&str, (u64, u64, u64, u64)); 3] = [
     ("`a` in rule 1 of `m!`", (1, 19, 18, 19)),
 ];
 
-#[test]
-fn reports_are_objects(rt: HostRuntime) -> Result<(), Fail> {
-    let text = "macro_rules! m { (a) => {} }\r\nm!(b);";
-    let reports = reported(rt.alloc(), text, Form::Json, at(2, None))?;
-    let mut objects = reports.as_str().lines();
-    for (message, place) in &OBJECTS {
-        assert!(rt; says(rt.alloc(), objects.next().unwrap_or(""), message, *place)?);
+// The lines and columns of an object's place, and its bytes.
+fn place_in(object: &Value) -> (u64, u64, u64, u64) {
+    (
+        number_at(object, "/spans/0/line_start"),
+        number_at(object, "/spans/0/column_start"),
+        number_at(object, "/spans/0/byte_start"),
+        number_at(object, "/spans/0/byte_end"),
+    )
+}
+
+// Whether an object says that, at that line, that column, and from that byte to that one.
+fn says(alloc: Global, object: &str, &(message, place): &Object) -> bool {
+    match Value::from_str(alloc, object) {
+        Ok(value) => text_at(&value, "/message") == message && place_in(&value) == place,
+        Err(_) => false,
     }
-    assert!(rt; objects.next().is_none());
-    Ok(())
+}
+
+fn are_objects(alloc: Global, reports: &str) -> bool {
+    let mut objects = reports.lines();
+    for object in &OBJECTS {
+        if !says(alloc, objects.next().unwrap_or(""), object) {
+            return false;
+        }
+    }
+    objects.next().is_none()
+}
+
+fn is_in_json(alloc: Global) -> Result<bool, AllocError> {
+    let text = "macro_rules! m { (a) => {} }\r\nm!(b);";
+    let reports = reported(alloc, "--explain 2", text, Form::Json)?;
+    Ok(are_objects(alloc, reports.as_str()))
+}
+
+#[test]
+fn reports_are_objects(rt: HostRuntime) {
+    holds(&rt, is_in_json(rt.alloc()));
 }

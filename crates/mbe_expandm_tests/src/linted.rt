@@ -1,6 +1,8 @@
 // What is said of definitions alone. Where a row's messages are errors, rustc 1.95 reports them with these words at these places, but
 // for its `is followed by`; the specifiers that are similar are those that it names for fields of these names. The rest was worked
 // out by hand.
+use crate::reports::{messages_of, text_at};
+use crate::runs::{holds, none, one_text, words_of_one};
 use mbe_expandm::arguments::{Asked, read_words};
 use mbe_expandm::linting::{Linted, lint};
 use mbe_expandm::saying::{Form, add_lints};
@@ -8,69 +10,36 @@ use mbe_expandm::sessions::Named;
 use mbe_lints::nearest::nearest;
 use serde_json::Value;
 use std::alloc::{AllocError, Global};
-use std::test::Fail;
 
-const VALID: &str =
-    "valid fragment specifiers are `ident`, `block`, `stmt`, `expr`, `pat`, `ty`, `lifetime`, `literal`, \
-    `path`, `meta`, `tt`, `item` and `vis`, along with `expr_2021` and `pat_param` for edition compatibility";
-
-// What is reported of a file.
-fn reported(alloc: Global, text: &str, form: Form) -> Result<(String, u8), Fail> {
-    let texts: [Named; 1] = [Named {
-        name: String::from_str(alloc, "a.rs")?,
-        text: String::from_str(alloc, text)?,
-    }];
-    let mut words = Vec::new(alloc);
-    for word in ["--edition", "2021", "--lint", "a.rs"] {
-        words.push(String::from_str(alloc, word)?)?;
+fn linted<'f>(
+    alloc: Global,
+    words: &[String],
+    texts: &'f [Named],
+) -> Result<Linted<'f>, AllocError> {
+    match read_words(alloc, words)? {
+        Asked::Run(options) => lint(alloc, &options, texts),
+        _ => Err(AllocError),
     }
-    let Asked::Run(options) = read_words(alloc, &words)? else {
-        return Err(Fail::from("no run"));
-    };
-    let linted: Linted<'_> = lint(alloc, &options, &texts)?;
+}
+
+fn reports_of(alloc: Global, form: Form, of: &Linted<'_>) -> Result<(String, u8), AllocError> {
     let mut reports = String::new(alloc);
-    add_lints(alloc, form, &linted.files, &linted.lints, &mut reports)?;
-    Ok((reports, linted.status()))
+    add_lints(alloc, form, &of.files, &of.lints, &mut reports)?;
+    Ok((reports, of.status()))
 }
 
-fn is_level(word: &str) -> bool {
-    matches!(word, "error" | "warning" | "note" | "help")
-}
-
-fn is_message(line: &str) -> bool {
-    match line.split_once(": ") {
-        Some((level, _)) => is_level(level),
-        None => false,
-    }
-}
-
-// Whether it is the list of specifiers.
-fn is_list(message: &str) -> bool {
-    match message.strip_prefix("help: ") {
-        Some(text) => text == VALID,
-        None => false,
-    }
-}
-
-// The messages, each with its line and column, but for the list of specifiers.
-fn messages_of(alloc: Global, reports: &str) -> Result<String, AllocError> {
-    let mut said = String::new(alloc);
-    let mut last = String::new(alloc);
-    for line in reports.lines() {
-        if is_message(line) {
-            last = String::from_str(alloc, line)?;
-        } else if let Some(place) = line.strip_prefix(" --> a.rs:")
-            && !is_list(last.as_str())
-        {
-            let both = format!(in alloc; "{place} {last}; ")?;
-            said.push_str(both.as_str())?;
-        }
-    }
-    Ok(said)
+// What is reported of a file, and the status.
+fn reported(alloc: Global, text: &str, form: Form) -> Result<(String, u8), AllocError> {
+    let texts = one_text(alloc, text)?;
+    let words = words_of_one(alloc, "--edition 2021 --lint")?;
+    let linted = linted(alloc, &words, &texts)?;
+    reports_of(alloc, form, &linted)
 }
 
 // A file, and what is said of its definitions.
-static ROWS: [(&str, &str); 26] = [
+type Row = (&'static str, &'static str);
+
+static FIRST: [Row; 15] = [
     ("", ""),
     (
         "#[cfg(windows)] macro_rules! m { ($x:ident $x:ident) => { $x } }",
@@ -131,6 +100,13 @@ static ROWS: [(&str, &str); 26] = [
         "1:26 error: `$v:vis` may be followed by `+`, which is not allowed for `vis` fragments; \
             1:19 note: allowed there are: `,`, an ident or a type; ",
     ),
+];
+
+fn first() -> &'static [Row] {
+    &FIRST
+}
+
+static SECOND: [Row; 11] = [
     (
         "macro_rules! m { ($($x:ident)*) => { $x } }",
         "1:38 error: variable `x` is still repeating at this depth; \
@@ -188,8 +164,38 @@ static ROWS: [(&str, &str); 26] = [
     ),
 ];
 
+fn second() -> &'static [Row] {
+    &SECOND
+}
+
+// The messages on a file, and the status.
+fn messages_on(alloc: Global, text: &str) -> Result<(String, u8), AllocError> {
+    let (reports, status) = reported(alloc, text, Form::Text)?;
+    Ok((messages_of(alloc, reports.as_str())?, status))
+}
+
+fn is_reported_on(alloc: Global, &(text, want): &Row) -> Result<bool, AllocError> {
+    let (messages, status) = messages_on(alloc, text)?;
+    Ok(messages.as_str() == want && (status == 0) == want.is_empty())
+}
+
+fn first_other(alloc: Global, rows: &[Row]) -> Result<Option<&'static str>, AllocError> {
+    for row in rows {
+        if !is_reported_on(alloc, row)? {
+            return Ok(Some(row.0));
+        }
+    }
+    Ok(None)
+}
+
+#[test]
+fn definitions_are_reported_on(rt: HostRuntime) {
+    none(&rt, first_other(rt.alloc(), first()));
+    none(&rt, first_other(rt.alloc(), second()));
+}
+
 // A definition of `m!`, and which of its rules no call reaches, each with its place and the earlier rule that takes what it takes.
-static UNREACHED: [(&str, &str); 15] = [
+static UNREACHED: [Row; 15] = [
     (
         "macro_rules! m { (a $x:ty) => { $x }; (a $y:ty) => { $y } }",
         "1:39 by 1; ",
@@ -246,93 +252,79 @@ static UNREACHED: [(&str, &str); 15] = [
     ("macro_rules! m { attr() (a) => {}; (a) => {} }", ""),
 ];
 
+fn unreached() -> &'static [Row] {
+    &UNREACHED
+}
+
+// Of a message that no call reaches a rule, where the rule is, and the number of the earlier one.
+fn earlier(message: &str) -> Option<(&str, &str)> {
+    let (place, rest) = message.split_once(" warning: no call reaches this rule: rule ")?;
+    let (number, _) = rest.split_once(" takes every argument that it takes")?;
+    Some((place, number))
+}
+
+fn push_unreached(message: &str, found: &mut String) -> Result<(), AllocError> {
+    match earlier(message) {
+        Some((place, number)) => write!(found, "{place} by {number}; "),
+        None => Ok(()),
+    }
+}
+
 // Of the messages, each rule that no call reaches.
 fn unreached_of(alloc: Global, messages: &str) -> Result<String, AllocError> {
     let mut found = String::new(alloc);
     for message in messages.split("; ") {
-        if let Some((place, rest)) = message.split_once(" warning: no call reaches this rule: ")
-            && let Some(rest) = rest.strip_prefix("rule ")
-            && let Some((number, _)) = rest.split_once(" takes every argument that it takes")
-        {
-            let both = format!(in alloc; "{place} by {number}; ")?;
-            found.push_str(both.as_str())?;
-        }
+        push_unreached(message, &mut found)?;
     }
     Ok(found)
 }
 
-#[test]
-fn rules_beyond_reach_are_found(rt: HostRuntime) -> Result<(), Fail> {
-    for (text, want) in &UNREACHED {
-        let (reports, _) = reported(rt.alloc(), text, Form::Text)?;
-        let messages = messages_of(rt.alloc(), reports.as_str())?;
-        let found = unreached_of(rt.alloc(), messages.as_str())?;
-        assert_eq!(rt; found.as_str(), *want);
+fn is_unreached(alloc: Global, &(text, want): &Row) -> Result<bool, AllocError> {
+    let (messages, _) = messages_on(alloc, text)?;
+    Ok(unreached_of(alloc, messages.as_str())?.as_str() == want)
+}
+
+fn first_reached(alloc: Global, rows: &[Row]) -> Result<Option<&'static str>, AllocError> {
+    for row in rows {
+        if !is_unreached(alloc, row)? {
+            return Ok(Some(row.0));
+        }
     }
-    Ok(())
+    Ok(None)
 }
 
 #[test]
-fn definitions_are_reported_on(rt: HostRuntime) -> Result<(), Fail> {
-    for (text, want) in &ROWS {
-        let (reports, status) = reported(rt.alloc(), text, Form::Text)?;
-        assert_eq!(rt; messages_of(rt.alloc(), reports.as_str())?.as_str(), *want);
-        assert_eq!(rt; status == 0, want.is_empty());
-    }
-    Ok(())
+fn rules_beyond_reach_are_found(rt: HostRuntime) {
+    none(&rt, first_reached(rt.alloc(), unreached()));
 }
 
-// An unknown specifier, and the field that rustc 1.95 names for it where a struct has the specifiers as its fields, in its order.
-static SIMILAR: [(&str, &str); 40] = [
-    ("exp", "expr"),
-    ("ide", ""),
-    ("tokentree", ""),
-    ("t", "ty"),
-    ("type", ""),
-    ("pat_", "pat"),
-    ("pattern", ""),
-    ("itm", "item"),
-    ("vs", "vis"),
-    ("viz", "vis"),
-    ("lit", ""),
-    ("lifetme", "lifetime"),
-    ("lifetimes", "lifetime"),
-    ("blok", "block"),
-    ("EXPR", "expr"),
-    ("Ident", "ident"),
-    ("literl", "literal"),
-    ("pathh", "path"),
-    ("met", "meta"),
-    ("stm", "stmt"),
-    ("expr_20", "expr_2021"),
-    ("pat_parm", "pat_param"),
-    ("x", ""),
-    ("ti", "ty"),
-    ("expression", ""),
-    ("tts", "tt"),
-    ("identifier", ""),
-    ("tpe", ""),
-    ("epxr", "expr"),
-    ("idnet", "ident"),
-    ("vsi", "vis"),
-    ("expr2021", "expr_2021"),
-    ("patparam", "pat_param"),
-    ("statement", ""),
-    ("atem", "item"),
-    ("TT", "tt"),
-    ("expr_2024", "expr_2021"),
-    ("pa", "pat"),
-    ("visibility", ""),
-    ("paht", "pat"),
-];
+// An unknown specifier, and the field that rustc 1.95 names for it, if it does, where a struct has the specifiers as its fields, in its
+// order; of a table the proof costs much more than of a text.
+const SIMILAR: &str = "\
+exp expr, ide, tokentree, t ty, type, pat_ pat, pattern, itm item, vs vis, viz vis, lit, \
+lifetme lifetime, lifetimes lifetime, blok block, EXPR expr, Ident ident, literl literal, \
+pathh path, met meta, stm stmt, expr_20 expr_2021, pat_parm pat_param, x, ti ty, \
+expression, tts tt, identifier, tpe, epxr expr, idnet ident, vsi vis, expr2021 expr_2021, \
+patparam pat_param, statement, atem item, TT tt, expr_2024 expr_2021, pa pat, visibility, \
+paht pat";
+
+fn is_similar(alloc: Global, name: &str, want: &str) -> Result<bool, AllocError> {
+    Ok(nearest(alloc, name)?.unwrap_or("") == want)
+}
+
+fn first_unsimilar(alloc: Global) -> Result<Option<&'static str>, AllocError> {
+    for row in SIMILAR.split(", ") {
+        let (name, want) = row.split_once(' ').unwrap_or((row, ""));
+        if !is_similar(alloc, name, want)? {
+            return Ok(Some(row));
+        }
+    }
+    Ok(None)
+}
 
 #[test]
-fn similar_specifiers_are_those_of_rustc(rt: HostRuntime) -> Result<(), Fail> {
-    for (name, want) in &SIMILAR {
-        let found = nearest(rt.alloc(), name)?;
-        assert_eq!(rt; found.unwrap_or(""), *want, "{name}");
-    }
-    Ok(())
+fn similar_specifiers_are_those_of_rustc(rt: HostRuntime) {
+    none(&rt, first_unsimilar(rt.alloc()));
 }
 
 // The example of docs/EXPANDM.md.
@@ -378,26 +370,42 @@ note: bound at depth 1, and used at depth 0
   |                        ^^^^^^
 ";
 
+fn is_documented(alloc: Global) -> Result<bool, AllocError> {
+    let (reports, status) = reported(alloc, DOCUMENTED, Form::Text)?;
+    Ok(reports.as_str() == REPORTED && status == 1)
+}
+
 #[test]
-fn the_documented_definition_is_reported_on(rt: HostRuntime) -> Result<(), Fail> {
-    let (reports, status) = reported(rt.alloc(), DOCUMENTED, Form::Text)?;
-    assert_eq!(rt; reports.as_str(), REPORTED);
-    assert_eq!(rt; status, 1);
-    Ok(())
+fn the_documented_definition_is_reported_on(rt: HostRuntime) {
+    holds(&rt, is_documented(rt.alloc()));
 }
 
 // The levels of the objects of the same reports.
 static LEVELS: [&str; 7] = ["error", "help", "help", "warning", "help", "error", "note"];
 
-#[test]
-fn reports_of_definitions_are_objects(rt: HostRuntime) -> Result<(), Fail> {
-    let (reports, _) = reported(rt.alloc(), DOCUMENTED, Form::Json)?;
-    let mut objects = reports.as_str().lines();
-    for level in &LEVELS {
-        let object = Value::from_str(rt.alloc(), objects.next().unwrap_or(""))?;
-        let found = object.pointer("/level").and_then(Value::as_str);
-        assert_eq!(rt; found.unwrap_or("none"), *level);
+fn has_level(alloc: Global, object: &str, level: &str) -> bool {
+    match Value::from_str(alloc, object) {
+        Ok(value) => text_at(&value, "/level") == level,
+        Err(_) => false,
     }
-    assert!(rt; objects.next().is_none());
-    Ok(())
+}
+
+fn have_levels(alloc: Global, reports: &str) -> bool {
+    let mut objects = reports.lines();
+    for level in LEVELS {
+        if !has_level(alloc, objects.next().unwrap_or(""), level) {
+            return false;
+        }
+    }
+    objects.next().is_none()
+}
+
+fn is_in_json(alloc: Global) -> Result<bool, AllocError> {
+    let (reports, _) = reported(alloc, DOCUMENTED, Form::Json)?;
+    Ok(have_levels(alloc, reports.as_str()))
+}
+
+#[test]
+fn reports_of_definitions_are_objects(rt: HostRuntime) {
+    holds(&rt, is_in_json(rt.alloc()));
 }

@@ -1,14 +1,13 @@
 // What the files of crates become whose modules are in files.
-use mbe_expandm::arguments::{Asked, Options, read_words};
-use mbe_expandm::sessions::{Named, write};
+use crate::runs::{none, notes_len, texts_of, words_of, written};
 use mbe_expandm::targets::relative;
 use std::alloc::{AllocError, Global};
-use std::process::Abort;
-use std::test::Fail;
 
 // Words, of which the last is a crate's root; files, that one first, each `PATH: TEXT` and a `|` after it; what they become, a `|` after
 // each; and how many notes there are.
-static ROWS: [(&str, &str, &str, usize); 14] = [
+type Row = (&'static str, &'static str, &'static str, usize);
+
+static ROWS: [Row; 14] = [
     (
         "src/lib.rs",
         "src/lib.rs: macro_rules! m { () => { 1 } } mod a; x = m!();|src/a.rs: y = m!();",
@@ -95,63 +94,46 @@ static ROWS: [(&str, &str, &str, usize); 14] = [
     ),
 ];
 
-fn words_of(alloc: Global, text: &str) -> Result<Vec<String>, AllocError> {
-    let mut words = Vec::new(alloc);
-    for word in text.split_whitespace() {
-        words.push(String::from_str(alloc, word)?)?;
-    }
-    Ok(words)
+fn rows() -> &'static [Row] {
+    &ROWS
 }
 
-fn texts_of(alloc: Global, row: &str) -> Result<Vec<Named>, AllocError> {
-    let mut texts = Vec::new(alloc);
-    for file in row.split('|') {
-        let (name, text) = file.split_once(": ").unwrap_or((file, ""));
-        texts.push(Named {
-            name: String::from_str(alloc, name)?,
-            text: String::from_str(alloc, text)?,
-        })?;
-    }
-    Ok(texts)
-}
-
-// What the files become, and how many notes there are.
-fn become_by(
-    alloc: Global,
-    options: &Options<'_>,
-    texts: &[Named],
-) -> Result<(String, usize), AllocError> {
-    let (session, written) = write(alloc, options, texts)?;
+// The texts, with a `|` after each.
+fn joined(alloc: Global, texts: &[String]) -> Result<String, AllocError> {
     let mut all = String::new(alloc);
-    for text in &written {
+    for text in texts {
         all.push_str(text.as_str())?;
         all.push('|')?;
     }
-    let notes = session
-        .notes
-        .len()
-        .saturating_add(session.expander.notes.len());
-    Ok((all, notes))
+    Ok(all)
+}
+
+fn is_crate(alloc: Global, &(words, row, want, notes): &Row) -> Result<bool, AllocError> {
+    let words = words_of(alloc, words)?;
+    let texts = texts_of(alloc, row)?;
+    let (session, texts) = written(alloc, &words, &texts)?;
+    let is_counted = notes_len(&session) == notes;
+    Ok(joined(alloc, &texts)?.as_str() == want && is_counted)
+}
+
+fn first_other(alloc: Global, rows: &[Row]) -> Result<Option<&'static str>, AllocError> {
+    for row in rows {
+        if !is_crate(alloc, row)? {
+            return Ok(Some(row.1));
+        }
+    }
+    Ok(None)
 }
 
 #[test]
-fn crates_are_expanded(rt: HostRuntime) -> Result<(), Fail> {
-    let alloc = rt.alloc();
-    for (words, row, want, notes) in &ROWS {
-        let words = words_of(alloc, *words)?;
-        let texts = texts_of(alloc, *row)?;
-        let Asked::Run(options) = read_words(alloc, words.as_slice())? else {
-            return Err(Fail::from("no run"));
-        };
-        let (got, said) = become_by(alloc, &options, texts.as_slice())?;
-        assert_eq!(rt; got.as_str(), *want, "{row}");
-        assert_eq!(rt; said, *notes, "{row}");
-    }
-    Ok(())
+fn crates_are_expanded(rt: HostRuntime) {
+    none(&rt, first_other(rt.alloc(), rows()));
 }
 
 // A folder, the path of a file, and the path from the folder on; `none` if the file isn't below it.
-static TARGETS: [(&str, &str, &str); 12] = [
+type Target = (&'static str, &'static str, &'static str);
+
+static TARGETS: [Target; 12] = [
     ("src", "src/a.rs", "a.rs"),
     ("src", "src/a/b/mod.rs", "a/b/mod.rs"),
     ("", "a/b.rs", "a/b.rs"),
@@ -166,15 +148,27 @@ static TARGETS: [(&str, &str, &str); 12] = [
     ("", "/b.rs", "none"),
 ];
 
-#[test]
-fn files_are_written_below_a_folder(rt: HostRuntime) -> Result<(), Fail> {
-    for (folder, path, want) in &TARGETS {
-        let found = relative(rt.alloc(), *folder, *path)?;
-        let found = match &found {
-            Some(target) => target.as_str(),
-            None => "none",
-        };
-        assert_eq!(rt; found, *want, "{folder} {path}");
+fn targets() -> &'static [Target] {
+    &TARGETS
+}
+
+fn is_target(alloc: Global, &(folder, path, want): &Target) -> Result<bool, AllocError> {
+    match relative(alloc, folder, path)? {
+        Some(target) => Ok(target.as_str() == want),
+        None => Ok(want == "none"),
     }
-    Ok(())
+}
+
+fn first_elsewhere(alloc: Global, rows: &[Target]) -> Result<Option<&'static str>, AllocError> {
+    for row in rows {
+        if !is_target(alloc, row)? {
+            return Ok(Some(row.1));
+        }
+    }
+    Ok(None)
+}
+
+#[test]
+fn files_are_written_below_a_folder(rt: HostRuntime) {
+    none(&rt, first_elsewhere(rt.alloc(), targets()));
 }

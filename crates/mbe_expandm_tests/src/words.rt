@@ -1,70 +1,80 @@
 // What the words ask for.
+use crate::runs::{none, words_of};
 use mbe_expandm::arguments::{Asked, read_words};
 use std::alloc::{AllocError, Global};
-use std::test::Fail;
 
-// What these words ask for, by its name.
-fn asked(alloc: Global, text: &str) -> Result<&'static str, AllocError> {
-    let mut words = Vec::new(alloc);
-    for word in text.split_whitespace() {
-        words.push(String::from_str(alloc, word)?)?;
-    }
-    Ok(match read_words(alloc, words.as_slice())? {
+fn name(asked: &Asked<'_>) -> &'static str {
+    match asked {
         Asked::Run(_) => "run",
         Asked::Help => "help",
         Asked::Version => "version",
         Asked::Wrong(_) => "wrong",
         Asked::Missing(_) => "missing",
         Asked::NoFile => "no file",
-    })
+    }
 }
 
-static ROWS: [(&str, &str); 39] = [
-    ("", "no file"),
-    ("a.rs", "run"),
-    ("-", "run"),
-    ("--once a.rs b.rs", "run"),
-    ("a.rs --depth 3 --fuel 0", "run"),
-    ("--depth", "missing"),
-    ("a.rs --depth -1", "wrong"),
-    ("a.rs --depth 4294967296", "wrong"),
-    ("--call 3 a.rs", "run"),
-    ("--call 3:7 a.rs", "run"),
-    ("--call 3: a.rs", "wrong"),
-    ("--call x a.rs", "wrong"),
-    ("--edition 2018 a.rs", "run"),
-    ("--edition 2019 a.rs", "wrong"),
-    ("--write out a.rs", "run"),
-    ("--write", "missing"),
-    ("--no-modules a.rs", "run"),
-    ("--trace", "no file"),
-    ("--often a.rs", "wrong"),
-    ("--origin a.rs", "run"),
-    ("--json a.rs", "run"),
-    ("--cfg a a.rs", "run"),
-    ("--cfg a=\"b\" a.rs", "run"),
-    ("--cfg a=b a.rs", "wrong"),
-    ("--cfg =\"b\" a.rs", "wrong"),
-    ("--cfg", "missing"),
-    ("--features a,b a.rs", "run"),
-    ("--features", "missing"),
-    ("--target wasm32-unknown-unknown a.rs", "run"),
-    ("--target wasm32 a.rs", "wrong"),
-    ("--test a.rs", "run"),
-    ("--lint a.rs", "run"),
-    ("--lint --json", "no file"),
-    ("--explain a.rs", "run"),
-    ("--explain 3:7 a.rs", "run"),
-    ("--explain 3", "no file"),
-    ("--explain --once", "no file"),
-    ("a.rs --help", "help"),
-    ("--version", "version"),
-];
+// Whether these words ask for that.
+fn ask_for(alloc: Global, words: &str, want: &str) -> Result<bool, AllocError> {
+    let words = words_of(alloc, words)?;
+    let asked = read_words(alloc, &words)?;
+    Ok(name(&asked) == want)
+}
+
+// What is asked for, and the words that ask for it; of a table the proof costs much more than of a text.
+const ROWS: &str = "\
+no file:
+run: a.rs
+run: -
+run: --once a.rs b.rs
+run: a.rs --depth 3 --fuel 0
+missing: --depth
+wrong: a.rs --depth -1
+wrong: a.rs --depth 4294967296
+run: --call 3 a.rs
+run: --call 3:7 a.rs
+wrong: --call 3: a.rs
+wrong: --call x a.rs
+run: --edition 2018 a.rs
+wrong: --edition 2019 a.rs
+run: --write out a.rs
+missing: --write
+run: --no-modules a.rs
+no file: --trace
+wrong: --often a.rs
+run: --origin a.rs
+run: --json a.rs
+run: --cfg a a.rs
+run: --cfg a=\"b\" a.rs
+wrong: --cfg a=b a.rs
+wrong: --cfg =\"b\" a.rs
+missing: --cfg
+run: --features a,b a.rs
+missing: --features
+run: --target wasm32-unknown-unknown a.rs
+wrong: --target wasm32 a.rs
+run: --test a.rs
+run: --lint a.rs
+no file: --lint --json
+run: --explain a.rs
+run: --explain 3:7 a.rs
+no file: --explain 3
+no file: --explain --once
+help: a.rs --help
+version: --version
+";
+
+fn first_other(alloc: Global) -> Result<Option<&'static str>, AllocError> {
+    for row in ROWS.lines() {
+        let (want, words) = row.split_once(':').unwrap_or((row, ""));
+        if !ask_for(alloc, words, want)? {
+            return Ok(Some(row));
+        }
+    }
+    Ok(None)
+}
 
 #[test]
-fn words_are_read(rt: HostRuntime) -> Result<(), Fail> {
-    for (words, want) in &ROWS {
-        assert_eq!(rt; asked(rt.alloc(), words)?, *want);
-    }
-    Ok(())
+fn words_are_read(rt: HostRuntime) {
+    none(&rt, first_other(rt.alloc()));
 }
