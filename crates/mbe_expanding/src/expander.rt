@@ -25,9 +25,11 @@ use crate::settings::Settings;
 use mbe::{DeclarativeMacro, ExpandError, MacroCallStyle, ValueResult};
 use mbe_calls::calls::{Call, Defined};
 use mbe_calls::parting::parted_buffer;
+use mbe_renaming::renaming::{Doubt, Nesting};
 use mbe_rules::table::RuleTable;
 use mbe_rust_text::writing::Writer;
-use mbe_tt::span::Span;
+use mbe_tt::span::{Span, SyntaxContext};
+use mbe_tt::symbol::Symbol;
 use mbe_tt::tt::{TokenTreesView, TopSubtree};
 use std::alloc::{AllocError, Allocator, Global};
 
@@ -44,6 +46,11 @@ pub struct Expander<'g, A: Allocator + Copy = Global> {
     // How many calls may still be expanded.
     fuel: u32,
     pub notes: Vec<Note<A>, A>,
+    // The next context of a step's tokens, which contexts' macros were written by steps of which, and the words of the file outside
+    // its definitions.
+    pub(crate) next_context: u32,
+    pub(crate) nestings: Vec<Nesting, A>,
+    pub(crate) names: Vec<Symbol<A>, A>,
 }
 
 impl<'g, A: Allocator + Copy> Expander<'g, A> {
@@ -66,6 +73,9 @@ impl<'g, A: Allocator + Copy> Expander<'g, A> {
             scope: Scope::new(alloc, settings.edition),
             fuel: settings.fuel,
             notes: Vec::new(alloc),
+            next_context: 1,
+            nestings: Vec::new(alloc),
+            names: Vec::new(alloc),
         }
     }
 
@@ -169,12 +179,20 @@ impl<'g, A: Allocator + Copy> Expander<'g, A> {
         if rules.err().is_some() {
             return Ok(None);
         }
+        let name = call.name.sym.as_str();
+        let contexts = self.scope.contexts(name, call.is_path).unwrap_or(&[]);
+        let own = copied(self.alloc, contexts)?;
+        let base = self.next_context;
+        let marker = move |span: Span| Span {
+            ctx: context_in(contexts, base, span.ctx),
+            ..span
+        };
         let argument = parted_buffer(self.alloc, call.group.delimiter, call.argument)?;
         let ValueResult { value, err } = rules.expand(
             self.alloc,
             &self.grammar,
             &argument,
-            |span| span,
+            marker,
             MacroCallStyle::FnLike,
             call.name.span,
         )?;
@@ -184,11 +202,62 @@ impl<'g, A: Allocator + Copy> Expander<'g, A> {
             return Ok(None);
         }
         let (tree, _rule) = value;
+        self.add_contexts(own.as_slice())?;
         self.note_step(call, &tree)?;
         self.note_origins(call, &tree)?;
-        self.note_captures(call, &tree)?;
         self.explain(call, &argument, true)?;
         Ok(Some(tree))
+    }
+
+    // Those that the tokens of one more step have, whose macro has these contexts.
+    fn add_contexts(&mut self, contexts: &[u32]) -> Result<(), AllocError> {
+        for context in contexts {
+            let inner = SyntaxContext(self.next_context);
+            self.next_context = self.next_context.saturating_add(1);
+            if *context != 0 {
+                self.add_nestings(inner, *context)?;
+            }
+        }
+        Ok(())
+    }
+
+    fn add_nestings(&mut self, inner: SyntaxContext, context: u32) -> Result<(), AllocError> {
+        let outer = SyntaxContext(context);
+        let known = self.nestings.len();
+        self.nestings.push(Nesting { inner, outer })?;
+        for at in 0..known {
+            if let Some(one) = self.nestings.get(at).copied()
+                && one.inner.0 == context
+            {
+                self.nestings.push(Nesting {
+                    inner,
+                    outer: one.outer,
+                })?;
+            }
+        }
+        Ok(())
+    }
+
+    // Notes where it can't be told what a name is.
+    pub(crate) fn note_doubts(
+        &mut self,
+        texts: &[&str],
+        doubts: &[Doubt],
+    ) -> Result<(), AllocError> {
+        for doubt in doubts {
+            let text = match texts {
+                [one] => *one,
+                _ => texts.get(doubt.bound.file as usize).copied().unwrap_or(""),
+            };
+            let name = text
+                .get(doubt.bound.start as usize..doubt.bound.end as usize)
+                .unwrap_or("");
+            let message = format!(in self.alloc;
+                "hygiene: `{name}` keeps its name, which is another's too: whether this is what the macro binds isn't decided"
+            )?;
+            self.note(Level::Note, doubt.place, message)?;
+        }
+        Ok(())
     }
 
     // Notes why a call has no expansion.
@@ -217,6 +286,20 @@ impl<'g, A: Allocator + Copy> Expander<'g, A> {
         let text = text_of(self.alloc, tree.iter().remaining(), 0)?;
         let message = format!(in self.alloc; "to `{text}`")?;
         self.note(Level::Note, call.name.span, message)
+    }
+}
+
+fn copied<A: Allocator + Copy>(alloc: A, numbers: &[u32]) -> Result<Vec<u32, A>, AllocError> {
+    let mut copy = Vec::new(alloc);
+    copy.extend_from_slice(numbers)?;
+    Ok(copy)
+}
+
+// The context of a template's token in a step whose contexts are numbered from `base`.
+fn context_in(contexts: &[u32], base: u32, context: SyntaxContext) -> SyntaxContext {
+    match contexts.iter().position(|c| *c == context.0) {
+        Some(at) => SyntaxContext(base.saturating_add(at as u32)),
+        None => context,
     }
 }
 

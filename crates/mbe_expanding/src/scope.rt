@@ -12,7 +12,9 @@ ghost use Rattle.mbe_expanding.specs.Shown.{definition_of, scope_of};
 use mbe::DeclarativeMacro;
 use mbe_calls::calls::{Defined, Form};
 use mbe_tt::span::{Edition, Span};
-use mbe_tt::tt::{Delimiter, TokenTreesView, TopSubtree, TopSubtreeBuilder};
+use mbe_tt::tt::{
+    Delimiter, Leaf, TokenTreesView, TopSubtree, TopSubtreeBuilder, TtElement,
+};
 use std::alloc::{AllocError, Allocator, Global};
 
 /// A macro that a file or an expansion defines.
@@ -20,6 +22,8 @@ use std::alloc::{AllocError, Allocator, Global};
 pub struct Definition<A: Allocator = Global> {
     name: String<A>,
     rules: DeclarativeMacro<A>,
+    // The contexts of its tokens, each once.
+    contexts: Vec<u32, A>,
     // Whether it is found by a path, and from other files.
     is_wide: bool,
     // Where its name is.
@@ -144,6 +148,7 @@ impl<A: Allocator + Copy> Scope<A> {
         self.definitions.push(Definition {
             name,
             rules,
+            contexts: contexts_of(self.alloc, defined.rules)?,
             is_wide,
             place: defined.name.span,
         })?;
@@ -270,6 +275,12 @@ impl<A: Allocator + Copy> Scope<A> {
         }
     }
 
+    /// The contexts of the tokens of the macro that a call names.
+    pub fn contexts<'s>(&'s self, name: &str, is_path: bool) -> Option<&'s [u32]> {
+        let number = self.lookup(name, is_path)?;
+        Some(self.definition(number)?.contexts.as_slice())
+    }
+
     /// What the macro that a call names says.
     pub fn find<'s>(&'s self, name: &str, is_path: bool) -> Option<&'s DeclarativeMacro<A>>
         ensures { option_map (λ m. macro_of m.now) result
@@ -278,4 +289,35 @@ impl<A: Allocator + Copy> Scope<A> {
         let number = self.lookup(name, is_path)?;
         Some(&self.definition(number)?.rules)
     }
+}
+
+// The contexts of the tokens of trees, each once.
+fn contexts_of<A: Allocator + Copy>(
+    alloc: A,
+    tokens: TokenTreesView<'_, A>,
+) -> Result<Vec<u32, A>, AllocError> {
+    let mut found = Vec::new(alloc);
+    let mut cursor = tokens.cursor();
+    for _ in 0..tokens.flat_len() {
+        if let Some(TtElement::Leaf(leaf)) = cursor.token_tree() {
+            add_once(&mut found, context_of(leaf))?;
+        }
+        cursor.bump_or_end();
+    }
+    Ok(found)
+}
+
+fn context_of<A: Allocator>(leaf: &Leaf<A>) -> u32 {
+    match leaf {
+        Leaf::Ident(ident) => ident.span.ctx.0,
+        Leaf::Punct(punct) => punct.span.ctx.0,
+        Leaf::Literal(literal) => literal.span.ctx.0,
+    }
+}
+
+fn add_once<A: Allocator>(found: &mut Vec<u32, A>, number: u32) -> Result<(), AllocError> {
+    if !found.as_slice().contains(&number) {
+        found.push(number)?;
+    }
+    Ok(())
 }

@@ -17,7 +17,9 @@ use crate::expander::{Expander, LEVELS, text_of};
 use crate::fits::{Before, begins_in, left_by, left_by_call};
 use mbe_calls::calls::{Call, Defined, Front, attribute_at, front_of, is_standard};
 use mbe_calls::splicing::{Replacement, splice};
-use mbe_tt::tt::{Delimiter, TokenTreesView, TopSubtree, TopSubtreeBuilder, TtElement};
+use mbe_renaming::renaming::rename;
+use mbe_tt::symbol::Symbol;
+use mbe_tt::tt::{Delimiter, Leaf, TokenTreesView, TopSubtree, TopSubtreeBuilder, TtElement};
 use std::alloc::{AllocError, Allocator};
 
 impl<A: Allocator + Copy> Expander<'_, A> {
@@ -56,6 +58,9 @@ impl<A: Allocator + Copy> Expander<'_, A> {
         ensures setting { OnOk result (setting_of self.new ≡ setting_of self.old) }
     {
         let mut replacements = Vec::new(self.alloc);
+        let mut names = Vec::new(self.alloc);
+        add_names(self.alloc, &mut names, tokens, LEVELS)?;
+        self.names = names;
         let mark = self.scope.enter();
         self.replace_in(&mut replacements, texts, tokens, Before::Statement, LEVELS)?;
         self.scope.leave(mark);
@@ -296,11 +301,18 @@ impl<A: Allocator + Copy> Expander<'_, A> {
         let mut builder = TopSubtreeBuilder::new(self.alloc, around)?;
         let rest = self.write_expansion(&mut builder, tree, call, last, depth, levels)?;
         let written = builder.build();
+        let names = if has_let(written.iter().remaining()) {
+            self.names.as_slice()
+        } else {
+            &[]
+        };
+        let renamed = rename(self.alloc, &written, names, self.nestings.as_slice())?;
+        self.note_doubts(texts, renamed.undecided.as_slice())?;
         let start = call.start.start as usize;
         let around = text_in(texts, call.start.file);
         let text = text_of(
             self.alloc,
-            written.iter().remaining(),
+            renamed.tree.iter().remaining(),
             indentation(around, start),
         )?;
         let replacement = Replacement {
@@ -345,4 +357,64 @@ fn indentation(text: &str, at: usize) -> usize {
         .len()
         .saturating_sub(line.trim_start_matches(' ').len());
     spaces / 4
+}
+
+// Whether a statement at the front or later is a `let`, so that its locals may be seen after the trees.
+fn has_let<A: Allocator>(tokens: TokenTreesView<'_, A>) -> bool {
+    let mut iter = tokens.iter();
+    'trees: while let Some(tree) = iter.next() {
+        if let TtElement::Leaf(Leaf::Ident(ident)) = tree
+            && ident.sym.as_str() == "let"
+        {
+            return true;
+        }
+    }
+    false
+}
+
+// The words of trees that are in no definition, each once.
+#[cycle(add_names)]
+fn add_names<A: Allocator + Copy>(
+    alloc: A,
+    names: &mut Vec<Symbol<A>, A>,
+    tokens: TokenTreesView<'_, A>,
+    levels: u32,
+) -> Result<(), AllocError> {
+    if levels == 0 {
+        return Ok(());
+    }
+    let mut rest = tokens;
+    'trees: loop {
+        match front_of(rest) {
+            Front::End => return Ok(()),
+            Front::Definition(defined) => rest = defined.rest,
+            Front::Call(call) => {
+                add_names(alloc, names, call.argument, levels - 1)?;
+                rest = call.rest;
+            }
+            Front::Tree(TtElement::Leaf(leaf), after) => {
+                add_name(alloc, names, leaf)?;
+                rest = after;
+            }
+            Front::Tree(TtElement::Subtree(_, inside), after) => {
+                add_names(alloc, names, inside.remaining(), levels - 1)?;
+                rest = after;
+            }
+        }
+    }
+}
+
+fn add_name<A: Allocator + Copy>(
+    alloc: A,
+    names: &mut Vec<Symbol<A>, A>,
+    leaf: &Leaf<A>,
+) -> Result<(), AllocError> {
+    let Leaf::Ident(ident) = leaf else {
+        return Ok(());
+    };
+    let text = ident.sym.as_str();
+    if !names.iter().any(|name| name.as_str() == text) {
+        names.push(Symbol::intern(alloc, text)?)?;
+    }
+    Ok(())
 }
