@@ -8,6 +8,7 @@ ghost use Rattle.mbe_tt.specs.Views.Element.{element_tree};
 ghost use Rattle.mbe_tt.specs.Views.Shown.{ident_of, leaf_of};
 ghost use Rattle.mbe_tt.specs.Views.View.{trees};
 ghost use Rattle.mbe_renaming.specs.Ahead as ahead;
+ghost use Rattle.mbe_renaming.specs.Kinds.{sort_of};
 ghost use Rattle.mbe_renaming.specs.Sites as spec;
 ghost use Rattle.mbe_renaming.specs.Roles as roles;
 
@@ -71,8 +72,10 @@ pub(crate) enum Region {
     Code,
     // What a macro is called with.
     Arguments,
-    // An attribute, or the rules of a macro.
+    // An attribute.
     Opaque,
+    // The rules of a macro.
+    Rules,
     // The arms of a `match`: a pattern, what follows its `if`, what follows its `=>`.
     Arm,
     Guard,
@@ -135,7 +138,7 @@ pub enum Role {
     Jump,
     /// The text of a string, which may name locals in braces.
     Text,
-    /// A word of another context that may be a local of this one.
+    /// A word of the rules of a macro, or of a step of such a macro, that may be a local.
     Inner,
     /// The same of a label.
     InnerLabel,
@@ -233,6 +236,7 @@ fn region_role<A: Allocator>(site: Site, ident: &Ident<A>, rest: TokenTreesView<
         Region::Fields => field_role(site.before, rest),
         Region::Arguments => argument_role(rest),
         Region::Code | Region::Guard | Region::Body | Region::Value => code_role(rest),
+        Region::Rules => Role::Used,
         Region::Opaque => Role::Other,
     }
 }
@@ -279,12 +283,6 @@ fn name_role<A: Allocator>(site: Site, ident: &Ident<A>, rest: TokenTreesView<'_
     }
 }
 
-fn is_opaque(region: Region) -> bool
-    ensures { result ≡ spec.is_opaque region }
-{
-    matches!(region, Region::Opaque)
-}
-
 /// What a word is, at that site and before these trees.
 pub(crate) fn role_of<A: Allocator>(
     site: Site,
@@ -293,13 +291,33 @@ pub(crate) fn role_of<A: Allocator>(
 ) -> Role
     ensures { result ≡ roles.role_of site (ident_of ident.now) (trees rest.entry) }
 {
-    if is_opaque(site.region) {
-        return Role::Other;
+    match site.region {
+        Region::Opaque => Role::Other,
+        Region::Rules => inner_role(role_by(site, ident, rest)),
+        _ => role_by(site, ident, rest),
     }
+}
+
+fn role_by<A: Allocator>(site: Site, ident: &Ident<A>, rest: TokenTreesView<'_, A>) -> Role
+    ensures { result ≡ roles.role_by site (sort_of (ident_of ident.now)) (ident_of ident.now)
+        (trees rest.entry) }
+{
     match sort_of(ident) {
         Sort::Name => name_role(site, ident, rest),
         Sort::Let => begin_role(is_open(site)),
         Sort::For => begin_role(is_open(site) && has_in(rest)),
+        _ => Role::Other,
+    }
+}
+
+/// What a word of a macro's rules may be, or a word of a step of that macro, to the step that wrote the macro.
+pub(crate) fn inner_role(role: Role) -> Role
+    ensures { result ≡ roles.inner_role role }
+{
+    match role {
+        Role::Used | Role::Unsure | Role::Inner => Role::Inner,
+        Role::Jump | Role::InnerLabel => Role::InnerLabel,
+        Role::Text => Role::Text,
         _ => Role::Other,
     }
 }
@@ -731,6 +749,7 @@ fn whole_region<A: Allocator>(site: Site, sign: Sign, rest: TokenTreesView<'_, A
         Region::Code => Region::Code,
         Region::Arguments => Region::Arguments,
         Region::Opaque => Region::Opaque,
+        Region::Rules => Region::Rules,
         Region::Pattern => Region::Pattern,
     }
 }
@@ -841,6 +860,7 @@ fn whole_group<A: Allocator>(
             pattern_group(kind)
         }
         Region::Opaque => Region::Opaque,
+        Region::Rules => Region::Rules,
         _ => code_group(site, kind, inside),
     }
 }
@@ -864,13 +884,25 @@ fn region_inside<A: Allocator>(
     kind: DelimiterKind,
     inside: TokenTreesView<'_, A>,
 ) -> Region
-    ensures { result ≡ spec.region_inside site site.before kind (trees inside.entry) }
+    ensures { result ≡ spec.region_inside site site.region kind (trees inside.entry) }
 {
-    if is_opaque(site.region) {
-        return Region::Opaque;
+    match site.region {
+        Region::Opaque => Region::Opaque,
+        Region::Rules => Region::Rules,
+        _ => group_after(site, kind, inside),
     }
+}
+
+fn group_after<A: Allocator>(
+    site: Site,
+    kind: DelimiterKind,
+    inside: TokenTreesView<'_, A>,
+) -> Region
+    ensures { result ≡ spec.group_after site site.before kind (trees inside.entry) }
+{
     match site.before {
-        Before::Hash | Before::Named => Region::Opaque,
+        Before::Hash => Region::Opaque,
+        Before::Named => Region::Rules,
         Before::Bang => Region::Arguments,
         _ => part_group(site, kind, inside),
     }

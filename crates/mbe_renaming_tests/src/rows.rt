@@ -13,7 +13,7 @@ use std::process::Abort;
 use std::test::Fail;
 
 // A text, what it becomes, and how many places aren't decided. Around the text is the name `outside`.
-static ROWS: [(&str, &str, usize); 56] = [
+static ROWS: [(&str, &str, usize); 58] = [
     // A `let` of a template beside the caller's name.
     ("{ let a = 1; a__0 + a }", "{ let a_1 = 1; a + a_1 }", 0),
     // No other token has the name.
@@ -140,7 +140,7 @@ static ROWS: [(&str, &str, usize); 56] = [
         "{ let a_1 = 1; fn a() {} a_1 + a }",
         0,
     ),
-    // Attributes, and rules of macros.
+    // Attributes, and rules of macros, which may name locals.
     (
         "{ #[a] let a = 1; a + a__0 }",
         "{ #[a] let a_1 = 1; a_1 + a }",
@@ -148,8 +148,18 @@ static ROWS: [(&str, &str, usize); 56] = [
     ),
     (
         "{ macro_rules! m { ($a:expr) => { a } } let a = 1; a + a__0 }",
-        "{ macro_rules! m { ($a:expr) => { a } } let a_1 = 1; a_1 + a }",
+        "{ macro_rules! m { ($a:expr) => { a } } let a = 1; a + a }",
+        1,
+    ),
+    (
+        "{ let a = 1; macro_rules! m { ($a:expr) => { $a + b.a } } a + a__0 }",
+        "{ let a_1 = 1; macro_rules! m { ($a:expr) => { $a + b.a } } a_1 + a }",
         0,
+    ),
+    (
+        "'a: loop { macro_rules! m { () => { break 'a } } 'a__0: loop {} }",
+        "'a: loop { macro_rules! m { () => { break 'a } } 'a: loop {} }",
+        1,
     ),
     // What a macro is called with.
     (
