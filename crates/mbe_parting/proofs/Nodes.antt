@@ -144,7 +144,11 @@ edge_of_step s e h =
 
 pub from-edges : (ss : List Step) (e : Edge) → In e (edges_in ss) → IsEdge ss e
 from-edges [] e h = absurd h
-from-edges (s ∷ ss) e h = elim (in_either e (edges_of s) (edges_in ss) h) [ inl a ↦ this (edge_of_step s e a) | inr b ↦ later (from-edges ss e b) ]
+from-edges (s ∷ ss) e h = elim (in_either e (edges_of s) (edges_in ss) h) [
+  | inl a ↦ this (edge_of_step s e a)
+  | inr b
+      ↦ later (from-edges ss e b)
+]
   where
     this : (e.source ≡ s.source) × In e.target (option_to_list s.one ++ option_to_list s.other) → IsEdge (s ∷ ss) e
     this r = record { step = s; one_of = inl refl; source = r.0; target = r.1 }

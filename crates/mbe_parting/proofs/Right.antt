@@ -97,7 +97,8 @@ module _ (i : Input) (pat : Ops) (len size : ℕ) (ends : (x : Beginning) → Be
   unfolding here ss all
   here_in x b =
       let l : place x ≤ len = ends x b in
-      in-steps i size (spots pat ending) (len + 1) (place x) (number_of x) (spot_of x) (spot-there i pat x b) (omega arith)
+      in-steps i size (spots pat ending) (len + 1) (place x) (number_of x) (spot_of x) (spot-there i pat x b) (omega
+      arith)
 
   -- a step of the node of a beginning is its own
   is_here : (x : Beginning) (s : Step) → Begins i pat x → In s ss → s.source ≡ node_of x → s ≡ here x
@@ -264,7 +265,8 @@ module _ (i : Input) (pat : Ops) (len size : ℕ) (ends : (x : Beginning) → Be
           other_is = v.1;
         }
 
-    from_here : (x : Beginning) → Begins i pat x → is_live lives (here x).one ≡ true → is_live lives (here x).other ≡ true
+    from_here : (x : Beginning) → Begins i pat x → is_live lives (here x).one ≡ true
+        → is_live lives (here x).other ≡ true
         → PartAt i pat len (place x)
     unfolding here step_at
     from_here x b = go (ways i (place x) (spot_of x) (number_of x - 1)) refl

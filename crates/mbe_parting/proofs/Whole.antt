@@ -28,7 +28,8 @@ spots-some sps pat e =
     let b : length sps ≡ dots pat = spots-size sps pat e in
     omega arith
 
-pub parting-found : {A : Type 0} (i : Input) (pat : Ops) (len : ℕ) → ((x : Beginning) → Begins i pat x → place x ≤ len) →
+pub parting-found : {A : Type 0} (i : Input) (pat : Ops) (len : ℕ) → ((x : Beginning) → Begins i pat x
+    → place x ≤ len) →
     (sps : List (declared.Spot A)) → map spot_seen sps ≡ spots pat ending →
     (xs : List Step) → xs ≡ steps_before i (length sps) (map spot_seen sps) (len + 1) →
     (es back : List Edge) → es ≡ edges_in xs → back ≡ flipped es →

@@ -56,5 +56,6 @@ IsParting g pattern argument p = IsPartingOf (input_of g argument) pattern (flat
 
 -- two different readings part somewhere
 abbrev pub ReadingsPart : Type 0
-ReadingsPart = (i : Input) (pattern : Ops) (len : ℕ) (is js : Items) → Reading i pattern len is → Reading i pattern len js
+ReadingsPart = (i : Input) (pattern : Ops) (len : ℕ) (is js : Items) → Reading i pattern len is
+    → Reading i pattern len js
     → (is ≡ js → ⊥) → (p : ℕ) × PartAt i pattern len p
