@@ -1,7 +1,9 @@
 // The tests of what is around an expansion: calls and definitions at the front of trees, texts with parts replaced, trees as Rust
-// text, what `cfg` holds, what is left out by it, the files of modules, and new names for locals.
+// text, what `cfg` holds, what is left out by it, the files of modules, new names for locals, and messages on parts of files.
 #![tactic(auto)]
 
+#[cfg(test)]
+mod carets;
 #[cfg(test)]
 mod cfg;
 #[cfg(test)]
@@ -10,6 +12,8 @@ mod following;
 mod fronts;
 #[cfg(test)]
 mod modules;
+#[cfg(test)]
+mod objects;
 #[cfg(test)]
 mod renaming;
 #[cfg(test)]

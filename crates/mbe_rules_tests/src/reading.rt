@@ -7,6 +7,7 @@ use mbe_tt::grammar::{FragmentGrammar, PrefixEntryPoint};
 use mbe_tt::span::Edition;
 use mbe_tt::tt::DelimiterKind;
 use std::alloc::{AllocError, Global};
+use std::test::Fail;
 use test_rows::{Fields, Rows as Tested, each, holds, none, rows};
 
 // Texts, and their nodes: first those of the rules' names.
@@ -193,8 +194,12 @@ impl Tested for Faults {
 }
 
 // What a program writes of a file that is no grammar.
+fn message(alloc: Global, file: &str, fault: RuleFault<'_>) -> Result<String, AllocError> {
+    format!(in alloc; "{file}:{fault}")
+}
+
 fn is_shown(alloc: Global, fault: RuleFault<'_>, want: &str) -> Result<bool, AllocError> {
-    let message = format!(in alloc; "grammar.txt:{fault}")?;
+    let message = message(alloc, "grammar.txt", fault)?;
     Ok(message.as_str().strip_prefix("grammar.txt:") == Some(want))
 }
 
@@ -243,12 +248,11 @@ fn has_keywords(alloc: Global, rules: &Rules<'_>) -> Result<bool, AllocError> {
 }
 
 #[test]
-fn a_grammar_of_sums(rt: HostRuntime) {
-    match Rules::read(rt.alloc(), SUMS) {
-        Ok(rules) => {
-            none(&rt, first_wrong(rt.alloc(), &rules));
-            holds(&rt, has_keywords(rt.alloc(), &rules));
-        }
-        Err(_) => none(&rt, Some("no grammar")),
-    }
+fn a_grammar_of_sums(rt: HostRuntime) -> Result<(), Fail> {
+    let Ok(rules) = Rules::read(rt.alloc(), SUMS) else {
+        return Err(Fail::from("no grammar"));
+    };
+    none(&rt, first_wrong(rt.alloc(), &rules));
+    holds(&rt, has_keywords(rt.alloc(), &rules));
+    Ok(())
 }

@@ -1,7 +1,8 @@
 // Tables of tests, each as one text, and one loop for all of them.
 #![tactic(auto)]
 
-use std::alloc::{AllocError, Global};
+use refusing::Refusing;
+use std::alloc::{AllocError, Allocator, Global};
 use std::process::Abort;
 
 /// Rows as one text: of a `static` table a proof sees each text by itself, and costs much more. A field ends in 1, a row in 2.
@@ -21,13 +22,19 @@ pub trait Rows {
     fn is_so(&self, alloc: Global, fields: Fields) -> Result<bool, AllocError>;
 }
 
-/// The fields of a row.
+// The first field, and the rest of a row.
+fn cut(row: &'static str) -> (&'static str, &'static str) {
+    row.split_once('\u{1}').unwrap_or((row, ""))
+}
+
 fn fields(row: &'static str) -> Fields {
-    let mut fields = [""; 6];
-    for (place, field) in fields.iter_mut().zip(row.split_terminator('\u{1}')) {
-        *place = field;
-    }
-    fields
+    let (first, row) = cut(row);
+    let (second, row) = cut(row);
+    let (third, row) = cut(row);
+    let (fourth, row) = cut(row);
+    let (fifth, row) = cut(row);
+    let (sixth, _) = cut(row);
+    [first, second, third, fourth, fifth, sixth]
 }
 
 // The first row that isn't so, or that there is another number of them.
@@ -52,6 +59,70 @@ pub fn each<T: Rows>(rt: &impl Abort, alloc: Global, test: &T, rows: &'static st
     none(rt, first_wrong(alloc, test, rows, count));
 }
 
+/// What is tested of each row of a table, with any allocator.
+pub trait AnyRows {
+    /// Whether a row with these fields is as it says.
+    fn is_so<A: Allocator + Copy>(&self, alloc: A, fields: Fields) -> Result<bool, AllocError>;
+}
+
+#[derive(Clone, Copy)]
+struct OfAny<'t, T>(&'t T);
+
+impl<T: AnyRows> Rows for OfAny<'_, T> {
+    fn is_so(&self, alloc: Global, fields: Fields) -> Result<bool, AllocError> {
+        self.0.is_so(alloc, fields)
+    }
+}
+
+/// The same as `each`.
+pub fn each_of_any<T: AnyRows + Copy>(
+    rt: &impl Abort,
+    alloc: Global,
+    test: &T,
+    rows: &'static str,
+    count: usize,
+) {
+    each(rt, alloc, &OfAny(test), rows, count);
+}
+
+#[derive(Clone, Copy)]
+struct Refused<'t, T>(&'t T, u64);
+
+impl<T: AnyRows> Rows for Refused<'_, T> {
+    fn is_so(&self, alloc: Global, fields: Fields) -> Result<bool, AllocError> {
+        Ok(is_refused(alloc, self.0, fields, self.1))
+    }
+}
+
+// Whether a row is out of memory where one request of it is refused, whichever that is, and else as it says, after so many requests
+// at least.
+fn is_refused<T: AnyRows>(alloc: Global, test: &T, fields: Fields, least: u64) -> bool {
+    for request in 1..10_000u64 {
+        let alloc = Refusing::new(alloc, request);
+        match test.is_so(&alloc, fields) {
+            Ok(is_so) => return is_so && !alloc.has_refused() && request > least,
+            Err(AllocError) => {
+                if !alloc.has_refused() {
+                    return false;
+                }
+            }
+        }
+    }
+    false
+}
+
+/// There are so many rows. Each request of one for memory is refused in turn, which leaves it out of memory; after so many at least none
+/// is refused, and the row is as it says.
+pub fn each_refused<T: AnyRows + Copy>(
+    rt: &impl Abort,
+    alloc: Global,
+    test: &T,
+    rows: (&'static str, usize),
+    least: u64,
+) {
+    each(rt, alloc, &Refused(test, least), rows.0, rows.1);
+}
+
 /// No row is otherwise. A failure shows the first that is.
 pub fn none(rt: &impl Abort, wrong: Option<&'static str>) {
     assert!(rt; wrong.is_none(), "{wrong:?}");
@@ -65,6 +136,12 @@ pub fn holds(rt: &impl Abort, is_so: Result<bool, AllocError>) {
 /// The number of a field.
 pub fn number(field: &str) -> usize {
     field.parse::<usize>().unwrap_or(usize::MAX)
+}
+
+/// The first field of the row of that number, counted from 0.
+pub fn nth(rows: &'static str, number: u64) -> &'static str {
+    let row = rows.split_terminator('\u{2}').nth(number as usize);
+    fields(row.unwrap_or(""))[0]
 }
 
 // What begins with a text to be repeated, after its number and a space, and a `»`.
