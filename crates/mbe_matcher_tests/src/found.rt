@@ -90,7 +90,7 @@ fn push_lines(alloc: Global, rule: &Rule, lines: &mut String) -> Result<(), Allo
 }
 
 // What is found of a text's rules, each followed by a semicolon. Places are byte offsets.
-fn found(alloc: Global, text: &str) -> Result<String, AllocError> {
+fn findings_of(alloc: Global, text: &str) -> Result<String, AllocError> {
     let definition = trees_of(alloc, 0, text)?;
     let edition = |_context| Edition::Edition2024;
     let missing = SyntaxFault::ExpectedSemicolon;
@@ -108,6 +108,6 @@ pub struct Found;
 
 impl Rows for Found {
     fn is_so(&self, alloc: Global, [text, want, ..]: Fields) -> Result<bool, AllocError> {
-        Ok(found(alloc, text)?.as_str() == want)
+        Ok(findings_of(alloc, text)?.as_str() == want)
     }
 }

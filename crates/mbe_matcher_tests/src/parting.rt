@@ -80,5 +80,5 @@ fn one_reading_parts_nowhere(rt: HostRuntime) {
 
 #[test]
 fn each_request_of_a_parting_refused(rt: HostRuntime) {
-    each_refused(&rt, rt.alloc(), &Partings, (DEAD_ENDS, 3), 0);
+    each_refused(&rt, rt.alloc(), &Partings, (DEAD_ENDS, 3), (0, true));
 }

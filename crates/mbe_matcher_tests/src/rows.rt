@@ -121,6 +121,6 @@ const REFUSED_BINDINGS: &str = rows![
 
 #[test]
 fn each_request_for_memory_refused(rt: HostRuntime) {
-    each_refused(&rt, rt.alloc(), &Stops, (REFUSED, 3), 10);
-    each_refused(&rt, rt.alloc(), &Binds, (REFUSED_BINDINGS, 2), 10);
+    each_refused(&rt, rt.alloc(), &Stops, (REFUSED, 3), (10, false));
+    each_refused(&rt, rt.alloc(), &Binds, (REFUSED_BINDINGS, 2), (10, false));
 }

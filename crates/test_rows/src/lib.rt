@@ -27,7 +27,8 @@ fn cut(row: &'static str) -> (&'static str, &'static str) {
     row.split_once('\u{1}').unwrap_or((row, ""))
 }
 
-fn fields(row: &'static str) -> Fields {
+/// The fields of a row.
+pub fn fields(row: &'static str) -> Fields {
     let (first, row) = cut(row);
     let (second, row) = cut(row);
     let (third, row) = cut(row);
@@ -86,41 +87,53 @@ pub fn each_of_any<T: AnyRows + Copy>(
 }
 
 #[derive(Clone, Copy)]
-struct Refused<'t, T>(&'t T, u64);
+struct Refused<'t, T> {
+    test: &'t T,
+    least: u64,
+    may_answer: bool,
+}
 
 impl<T: AnyRows> Rows for Refused<'_, T> {
     fn is_so(&self, alloc: Global, fields: Fields) -> Result<bool, AllocError> {
-        Ok(is_refused(alloc, self.0, fields, self.1))
-    }
-}
-
-// Whether a row is out of memory where one request of it is refused, whichever that is, and else as it says, after so many requests
-// at least.
-fn is_refused<T: AnyRows>(alloc: Global, test: &T, fields: Fields, least: u64) -> bool {
-    for request in 1..10_000u64 {
-        let alloc = Refusing::new(alloc, request);
-        match test.is_so(&alloc, fields) {
-            Ok(is_so) => return is_so && !alloc.has_refused() && request > least,
-            Err(AllocError) => {
-                if !alloc.has_refused() {
-                    return false;
-                }
+        for request in 1..10_000u64 {
+            match self.ends(alloc, fields, request) {
+                None => return Ok(false),
+                Some(true) => return Ok(request > self.least),
+                Some(false) => {}
             }
         }
+        Ok(false)
     }
-    false
 }
 
-/// There are so many rows. Each request of one for memory is refused in turn, which leaves it out of memory; after so many at least none
-/// is refused, and the row is as it says.
+impl<T: AnyRows> Refused<'_, T> {
+    // Whether no request was refused, and the row is as it says. Where the one of that number was, the row is out of memory, or may be
+    // as it says; nothing where neither is so.
+    fn ends(&self, alloc: Global, fields: Fields, request: u64) -> Option<bool> {
+        let alloc = Refusing::new(alloc, request);
+        let is_so = match self.test.is_so(&alloc, fields) {
+            Ok(is_so) => is_so && (self.may_answer || !alloc.has_refused()),
+            Err(AllocError) => alloc.has_refused(),
+        };
+        is_so.then_some(!alloc.has_refused())
+    }
+}
+
+/// There are so many rows. Each request of one for memory is refused in turn, which leaves it out of memory, or, if it may answer then,
+/// as it says; after so many at least none is refused, and the row is as it says.
 pub fn each_refused<T: AnyRows + Copy>(
     rt: &impl Abort,
     alloc: Global,
     test: &T,
     rows: (&'static str, usize),
-    least: u64,
+    (least, may_answer): (u64, bool),
 ) {
-    each(rt, alloc, &Refused(test, least), rows.0, rows.1);
+    let refused = Refused {
+        test,
+        least,
+        may_answer,
+    };
+    each(rt, alloc, &refused, rows.0, rows.1);
 }
 
 /// No row is otherwise. A failure shows the first that is.
